@@ -8,26 +8,26 @@ use lib.Dec.{leb}
 use lib.ListN.{length, get_or}
 use borrow.Author.Tests.{leb-false}
 use Rattle.words.proofs.lists.Tests.{no_both}
-use Rattle.results.specs.Results.{Results, result_of, withResult}
+use Rattle.results.specs.Results.{Results, result_of, with_result}
 use Rattle.text.specs.frames.Answer.{success}
 use Rattle.text.specs.frames.Frame.{contents}
 use Rattle.image.specs.Image.{Image, Label, Row, no_row}
 use Rattle.image.specs.inner.Sound.{SoundImage}
-use Rattle.image.specs.Layout.{tickKind}
+use Rattle.image.specs.Layout.{tick_kind}
 use Rattle.walk.proofs.FactsHold.{facts}
 use Rattle.translator.specs.Entry.{translate}
 use Rattle.translator.proofs.SoundTable.{table-sound}
 use Rattle.translator.proofs.Translated.{translated-fine, translated-few}
-use Rattle.rows.specs.Rows.{isCandidate, Choice, row, noChoice, bestRow, Found, leads}
+use Rattle.rows.specs.Rows.{is_candidate, Choice, row, no_choice, best_row, Found, lead_of}
 use Rattle.rows.specs.Choices.{Best}
 use Rattle.rows.proofs.BestRows.{best-is}
 use Rattle.state.specs.declared.State.{State}
-use Rattle.state.specs.State.{label_at, placeAt, number_at, serverAt, Sized}
+use Rattle.state.specs.State.{label_at, place_at, number_at, server_at, Sized}
 use Rattle.state.specs.Changes.{with_bits}
-use Rattle.fitness.specs.Fitness.{is_call, unfit}
+use Rattle.fitness.specs.Fitness.{is_call, is_unfit}
 use Rattle.fitness.proofs.Fitness.{Fits, unfits}
-use Rattle.ticks.specs.Tick.{calledBit, choice, MachineTick, moved, dropping, popped, tickBy, tick, top_of}
-use Rattle.ticks.proofs.Leads.{Sort, homeSort, returnSort, numberedSort, sort, call-kind, carry-told}
+use Rattle.ticks.specs.Tick.{called_bit, choice, MachineTick, moved_tick, popped_state, popped_tick, tick_by, tick, top_of}
+use Rattle.ticks.proofs.Leads.{Sort, home_sort, return_sort, numbered_sort, sort, call-kind, carry-told}
 use Rattle.agreement.proofs.OnlyRow.{Only, image, read, image-is, only-translated}
 
 -- which of the rows a label takes by a word and a bit
@@ -36,51 +36,51 @@ Rule = ℕ → ℕ → ℕ → List Row → Choice
 
 -- a row that matches, or none where no row does
 abbrev pub Matching : ℕ → ℕ → ℕ → List Row → Choice → Type 0
-Matching l w b rs noChoice = (j : ℕ) → j < length rs → isCandidate l w b (get_or rs j no_row) ≡ false
-Matching l w b rs (row k r) = (k < length rs) × (get_or rs k no_row ≡ r) × (isCandidate l w b r ≡ true)
+Matching l w b rs no_choice = (j : ℕ) → j < length rs → is_candidate l w b (get_or rs j no_row) ≡ false
+Matching l w b rs (row k r) = (k < length rs) × (get_or rs k no_row ≡ r) × (is_candidate l w b r ≡ true)
 
 abbrev pub TakesMatching : Rule → Type 0
 TakesMatching f = (l w b : ℕ) (rs : List Row) → Matching l w b rs (f l w b rs)
 
-only-taken : (l w b : ℕ) (rs : List Row) → Only l w b rs → (x : Choice) → Matching l w b rs x → x ≡ bestRow l w b 0 rs
+only-taken : (l w b : ℕ) (rs : List Row) → Only l w b rs → (x : Choice) → Matching l w b rs x → x ≡ best_row l w b 0 rs
 only-taken l w b rs o x m = go x m ∙ sym o.taken
   where
     best : Best l w b rs o.number o.one
     best = best-is l w b rs o.number o.one o.taken
 
     go : (x : Choice) → Matching l w b rs x → x ≡ row o.number o.one
-    go noChoice m = no_both (isCandidate l w b (get_or rs o.number no_row))
-        (ap (isCandidate l w b) best.is ∙ best.matches) (m o.number best.inside)
+    go no_choice m = no_both (is_candidate l w b (get_or rs o.number no_row))
+        (ap (is_candidate l w b) best.is ∙ best.matches) (m o.number best.inside)
     go (row k r) m =
-        let same : k ≡ o.number = o.only k m.0 (ap (isCandidate l w b) m.1 ∙ m.2) in
+        let same : k ≡ o.number = o.only k m.0 (ap (is_candidate l w b) m.1 ∙ m.2) in
         ap₂ row same (sym m.1 ∙ ap (λ (j : ℕ). get_or rs j no_row) same ∙ best.is)
 
 -- ---- the machine's tick, but for the rule
 abbrev row_by : Rule → Image → Results → ℕ → ℕ → Found
-row_by f i b l w = leads (f l w (calledBit i b l) i.rows)
+row_by f i b l w = lead_of (f l w (called_bit i b l) i.rows)
 
-abbrev poppedBy : Rule → Image → State → ℕ → ℕ → Results → Bool → MachineTick
-poppedBy f i s w m b true = popped i s w m b true
-poppedBy f i s w m b false = moved m 3 (dropping s b) (s.depth - 2) (row_by f i b (placeAt s (s.depth - 2)) w)
+abbrev popped_tick_by : Rule → Image → State → ℕ → ℕ → Results → Bool → MachineTick
+popped_tick_by f i s w m b true = popped_tick i s w m b true
+popped_tick_by f i s w m b false = moved_tick m 3 (popped_state s b) (s.depth - 2) (row_by f i b (place_at s (s.depth - 2)) w)
 
-abbrev kindBy : Rule → Image → State → ℕ → ℕ → Label → Results → ℕ → MachineTick
-kindBy f i s w l x b zero = moved x.mask 0 (with_bits s b) (s.depth - 1) (row_by f i b l w)
-kindBy f i s w l x b (suc zero) = tickBy i s w l x b (tickKind 1)
-kindBy f i s w l x b (suc (suc zero)) = tickBy i s w l x b (tickKind 2)
-kindBy f i s w l x b (suc (suc (suc zero))) = poppedBy f i s w x.mask b (leb s.depth 1)
-kindBy f i s w l x b (suc (suc (suc (suc n)))) = tickBy i s w l x b (tickKind 4)
+abbrev tick_by_kind : Rule → Image → State → ℕ → ℕ → Label → Results → ℕ → MachineTick
+tick_by_kind f i s w l x b zero = moved_tick x.mask 0 (with_bits s b) (s.depth - 1) (row_by f i b l w)
+tick_by_kind f i s w l x b (suc zero) = tick_by i s w l x b (tick_kind 1)
+tick_by_kind f i s w l x b (suc (suc zero)) = tick_by i s w l x b (tick_kind 2)
+tick_by_kind f i s w l x b (suc (suc (suc zero))) = popped_tick_by f i s w x.mask b (leb s.depth 1)
+tick_by_kind f i s w l x b (suc (suc (suc (suc n)))) = tick_by i s w l x b (tick_kind 4)
 
-abbrev pub tickWith : Rule → Image → State → ℕ → MachineTick
-tickWith f i s w = let l = top_of s in let x = label_at i l in
-    kindBy f i s w l x (withResult x.result (number_at s (s.depth - 1)) s.bits) x.kind
+abbrev pub tick_with : Rule → Image → State → ℕ → MachineTick
+tick_with f i s w = let l = top_of s in let x = label_at i l in
+    tick_by_kind f i s w l x (with_result x.result (number_at s (s.depth - 1)) s.bits) x.kind
 
 -- where the rule takes the machine's row, for the label at the top or beneath a return, it makes the machine's tick
 module _ (f : Rule) (i : Image) (s : State) (w : ℕ) where
   abbrev Same : ℕ → Type 0
-  Same l = (b : Results) → f l w (calledBit i b l) i.rows ≡ choice i b l w
+  Same l = (b : Results) → f l w (called_bit i b l) i.rows ≡ choice i b l w
 
-  same-tick : ((label_at i (top_of s)).kind ≡ 0 → Same (top_of s)) → (1 < s.depth → Same (placeAt s (s.depth - 2)))
-      → tickWith f i s w ≡ tick i s w
+  same-tick : ((label_at i (top_of s)).kind ≡ 0 → Same (top_of s)) → (1 < s.depth → Same (place_at s (s.depth - 2)))
+      → tick_with f i s w ≡ tick i s w
   unfolding tick
   same-tick top beneath = go x.kind refl
     where
@@ -88,32 +88,33 @@ module _ (f : Rule) (i : Image) (s : State) (w : ℕ) where
       x = label_at i (top_of s)
 
       b : Results
-      b = withResult x.result (number_at s (s.depth - 1)) s.bits
+      b = with_result x.result (number_at s (s.depth - 1)) s.bits
 
-      back : (t : Bool) → leb s.depth 1 ≡ t → poppedBy f i s w x.mask b t ≡ popped i s w x.mask b t
+      back : (t : Bool) → leb s.depth 1 ≡ t → popped_tick_by f i s w x.mask b t ≡ popped_tick i s w x.mask b t
       back true e = refl
-      back false e = ap (λ (c : Choice). moved x.mask 3 (dropping s b) (s.depth - 2) (leads c)) (beneath (leb-false s.depth 1 e) b)
+      back false e =
+          ap (λ (c : Choice). moved_tick x.mask 3 (popped_state s b) (s.depth - 2) (lead_of c)) (beneath (leb-false s.depth 1 e) b)
 
-      go : (k : ℕ) → x.kind ≡ k → kindBy f i s w (top_of s) x b k ≡ tickBy i s w (top_of s) x b (tickKind k)
-      go zero e = ap (λ (c : Choice). moved x.mask 0 (with_bits s b) (s.depth - 1) (leads c)) (top e b)
+      go : (k : ℕ) → x.kind ≡ k → tick_by_kind f i s w (top_of s) x b k ≡ tick_by i s w (top_of s) x b (tick_kind k)
+      go zero e = ap (λ (c : Choice). moved_tick x.mask 0 (with_bits s b) (s.depth - 1) (lead_of c)) (top e b)
       go (suc zero) e = refl
       go (suc (suc zero)) e = refl
       go (suc (suc (suc zero))) e = back (leb s.depth 1) refl
       go (suc (suc (suc (suc n)))) e = refl
 
 -- by the machine's own rule it is the machine's tick, on any image
-pub own-rule : (i : Image) (s : State) (w : ℕ) → tickWith (λ l w b rs. bestRow l w b 0 rs) i s w ≡ tick i s w
-own-rule i s w = same-tick (λ l w b rs. bestRow l w b 0 rs) i s w (λ e b. refl) (λ h b. refl)
+pub own-rule : (i : Image) (s : State) (w : ℕ) → tick_with (λ l w b rs. best_row l w b 0 rs) i s w ≡ tick i s w
+own-rule i s w = same-tick (λ l w b rs. best_row l w b 0 rs) i s w (λ e b. refl) (λ h b. refl)
 
 -- ---- on the image that the translator wrote
 module _ (text out : List ℕ) (n : ℕ) (done : (translate text out).reply ≡ success n) (f : Rule) (takes : TakesMatching f) where
   abbrev i : Image
   i = image text out n done
 
-  pub any-rule : (l : ℕ) → 2 ≤ l → l < length i.labels → (w : ℕ) (b : Results) → f l w (calledBit i b l) i.rows ≡ choice i b l w
+  pub any-rule : (l : ℕ) → 2 ≤ l → l < length i.labels → (w : ℕ) (b : Results) → f l w (called_bit i b l) i.rows ≡ choice i b l w
   any-rule l low high w b =
-      only-taken l w (calledBit i b l) i.rows (only-translated text out n done l low high w (result_of (label_at i l).called b))
-      (f l w (calledBit i b l) i.rows) (takes l w (calledBit i b l) i.rows)
+      only-taken l w (called_bit i b l) i.rows (only-translated text out n done l low high w (result_of (label_at i l).called b))
+      (f l w (called_bit i b l) i.rows) (takes l w (called_bit i b l) i.rows)
 
   sound : SoundImage i
   sound = subst SoundImage (sym (image-is text out n done))
@@ -124,19 +125,19 @@ module _ (text out : List ℕ) (n : ℕ) (done : (translate text out).reply ≡ 
   numbered l h k = go (sort i sound l h)
     where
       go : Sort i sound l → 2 ≤ l
-      go (homeSort z q o) = absurd (omega arith)
-      go (returnSort z q o) = absurd (omega arith)
-      go (numberedSort z q) = z
+      go (home_sort z q o) = absurd (omega arith)
+      go (return_sort z q o) = absurd (omega arith)
+      go (numbered_sort z q) = z
 
   -- every tick, of every state that fits
-  pub any-tick : (s : State) → Sized s → unfit i s ≡ false → (w : ℕ) → tickWith f i s w ≡ tick i s w
+  pub any-tick : (s : State) → Sized s → is_unfit i s ≡ false → (w : ℕ) → tick_with f i s w ≡ tick i s w
   any-tick s sized fit w =
       let g : Fits i s = unfits i s sized fit in
       same-tick f i s w
       (λ e. let h = g.labels (s.depth - 1) (omega (arith, g.some)) in any-rule (top_of s) (numbered (top_of s) h (omega arith)) h w)
-      (λ deep. let m : ℕ = placeAt s (s.depth - 2) in
+      (λ deep. let m : ℕ = place_at s (s.depth - 2) in
       let h = g.labels (s.depth - 2) (omega arith) in
       let kept : is_call (label_at i m) ≡ true =
-      (carry-told i sound m (number_at s (s.depth - 2 + 1)) (serverAt s (s.depth - 2 + 1)) (placeAt s (s.depth - 2 + 1))
+      (carry-told i sound m (number_at s (s.depth - 2 + 1)) (server_at s (s.depth - 2 + 1)) (place_at s (s.depth - 2 + 1))
       (g.carries (s.depth - 2) (omega arith))).0 in
       any-rule m (numbered m h (call-kind i sound m kept).1) h w)

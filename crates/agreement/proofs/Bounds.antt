@@ -7,42 +7,42 @@ use lib.ListN.{length}
 use native.Mathlib.Omega.{arith}
 use Rattle.charts.specs.Chart.{Chart}
 use Rattle.walk.specs.Walk.{Signal, Tick}
-use Rattle.walk.proofs.Trace.{WalkPosition, tickAt, move, trace, positionReached}
-use Rattle.agreement.specs.Agreement.{isFullCall, bound}
+use Rattle.walk.proofs.Trace.{WalkPosition, tick_at, move, trace, position_reached}
+use Rattle.agreement.specs.Agreement.{is_full_call, bound}
 
 module _ (n : ℕ) (t : Tick) (ts : List Tick) where
-  pub bound-stop : isFullCall n t ≡ true → bound n (t ∷ ts) ≡ 0
+  pub bound-stop : is_full_call n t ≡ true → bound n (t ∷ ts) ≡ 0
   unfolding bound
   bound-stop e = rw (e, bound)
 
-  pub bound-go : isFullCall n t ≡ false → bound n (t ∷ ts) ≡ suc (bound n ts)
+  pub bound-go : is_full_call n t ≡ false → bound n (t ∷ ts) ≡ suc (bound n ts)
   unfolding bound
   bound-go e = rw (e, bound)
 
 pub bound-le : (n : ℕ) (ts : List Tick) → bound n ts ≤ length ts
 unfolding bound
 bound-le n [] = omega arith
-bound-le n (t ∷ ts) = go (bound-le n ts) (isFullCall n t) refl
+bound-le n (t ∷ ts) = go (bound-le n ts) (is_full_call n t) refl
   where
-    go : bound n ts ≤ length ts → (r : Bool) → isFullCall n t ≡ r → bound n (t ∷ ts) ≤ suc (length ts)
+    go : bound n ts ≤ length ts → (r : Bool) → is_full_call n t ≡ r → bound n (t ∷ ts) ≤ suc (length ts)
     go ih true e = omega (arith, bound-stop n t ts e)
     go ih false e = omega (arith, bound-go n t ts e)
 
 -- of joined ticks: the bound of the first ones, or all of them and that of the rest
 pub bound-full : (n : ℕ) (ts us : List Tick) → bound n ts ≡ length ts → bound n (ts ++ us) ≡ length ts + bound n us
 bound-full n [] us h = omega arith
-bound-full n (t ∷ ts) us h = go (bound-full n ts us) (isFullCall n t) refl
+bound-full n (t ∷ ts) us h = go (bound-full n ts us) (is_full_call n t) refl
   where
-    go : (bound n ts ≡ length ts → bound n (ts ++ us) ≡ length ts + bound n us) → (r : Bool) → isFullCall n t ≡ r
+    go : (bound n ts ≡ length ts → bound n (ts ++ us) ≡ length ts + bound n us) → (r : Bool) → is_full_call n t ≡ r
         → bound n (t ∷ (ts ++ us)) ≡ suc (length ts) + bound n us
     go ih true e = absurd (omega (arith, bound-stop n t ts e))
     go ih false e = let q : bound n ts ≡ length ts = omega (arith, bound-go n t ts e) in omega (arith, bound-go n t (ts ++ us) e, ih q)
 
 pub bound-part : (n : ℕ) (ts us : List Tick) → bound n ts < length ts → bound n (ts ++ us) ≡ bound n ts
 bound-part n [] us h = absurd (omega arith)
-bound-part n (t ∷ ts) us h = go (bound-part n ts us) (isFullCall n t) refl
+bound-part n (t ∷ ts) us h = go (bound-part n ts us) (is_full_call n t) refl
   where
-    go : (bound n ts < length ts → bound n (ts ++ us) ≡ bound n ts) → (r : Bool) → isFullCall n t ≡ r
+    go : (bound n ts < length ts → bound n (ts ++ us) ≡ bound n ts) → (r : Bool) → is_full_call n t ≡ r
         → bound n (t ∷ (ts ++ us)) ≡ bound n (t ∷ ts)
     go ih true e = bound-stop n t (ts ++ us) e ∙ sym (bound-stop n t ts e)
     go ih false e = let q : bound n ts < length ts = omega (arith, bound-go n t ts e) in
@@ -51,42 +51,42 @@ bound-part n (t ∷ ts) us h = go (bound-part n ts us) (isFullCall n t) refl
 -- the position after the words, or the first one on the way that calls at a full stack
 unfoldable pub stand : Chart → ℕ → List Signal → WalkPosition → WalkPosition
 stand c n [] x = x
-stand c n (w ∷ ws) x = elim (isFullCall n (tickAt n c x)) [ true ↦ x | false ↦ stand c n ws (move n c w x) ]
+stand c n (w ∷ ws) x = elim (is_full_call n (tick_at n c x)) [ true ↦ x | false ↦ stand c n ws (move n c w x) ]
 
 module _ (c : Chart) (n : ℕ) where
   module _ (w : Signal) (ws : List Signal) (x : WalkPosition) where
-    pub stand-stop : isFullCall n (tickAt n c x) ≡ true → stand c n (w ∷ ws) x ≡ x
+    pub stand-stop : is_full_call n (tick_at n c x) ≡ true → stand c n (w ∷ ws) x ≡ x
     unfolding stand
     stand-stop e = rw (e, stand)
 
-    pub stand-go : isFullCall n (tickAt n c x) ≡ false → stand c n (w ∷ ws) x ≡ stand c n ws (move n c w x)
+    pub stand-go : is_full_call n (tick_at n c x) ≡ false → stand c n (w ∷ ws) x ≡ stand c n ws (move n c w x)
     unfolding stand
     stand-go e = rw (e, stand)
 
-  pub stand-full : (ws : List Signal) (x : WalkPosition) → bound n (trace n c ws x) ≡ length ws → stand c n ws x ≡ positionReached n c ws x
-  unfolding trace positionReached stand
+  pub stand-full : (ws : List Signal) (x : WalkPosition) → bound n (trace n c ws x) ≡ length ws → stand c n ws x ≡ position_reached n c ws x
+  unfolding trace position_reached stand
   stand-full [] x h = refl
-  stand-full (w ∷ ws) x h = go (stand-full ws (move n c w x)) (isFullCall n (tickAt n c x)) refl
+  stand-full (w ∷ ws) x h = go (stand-full ws (move n c w x)) (is_full_call n (tick_at n c x)) refl
     where
-      go : (bound n (trace n c ws (move n c w x)) ≡ length ws → stand c n ws (move n c w x) ≡ positionReached n c ws (move n c w x))
-          → (r : Bool) → isFullCall n (tickAt n c x) ≡ r → stand c n (w ∷ ws) x ≡ positionReached n c ws (move n c w x)
-      go ih true e = absurd (omega (arith, bound-stop n (tickAt n c x) (trace n c ws (move n c w x)) e))
-      go ih false e = stand-go w ws x e ∙ ih (omega (arith, bound-go n (tickAt n c x) (trace n c ws (move n c w x)) e))
+      go : (bound n (trace n c ws (move n c w x)) ≡ length ws → stand c n ws (move n c w x) ≡ position_reached n c ws (move n c w x))
+          → (r : Bool) → is_full_call n (tick_at n c x) ≡ r → stand c n (w ∷ ws) x ≡ position_reached n c ws (move n c w x)
+      go ih true e = absurd (omega (arith, bound-stop n (tick_at n c x) (trace n c ws (move n c w x)) e))
+      go ih false e = stand-go w ws x e ∙ ih (omega (arith, bound-go n (tick_at n c x) (trace n c ws (move n c w x)) e))
 
   pub stand-part : (ws : List Signal) (x : WalkPosition) → bound n (trace n c ws x) < length ws
-      → isFullCall n (tickAt n c (stand c n ws x)) ≡ true
+      → is_full_call n (tick_at n c (stand c n ws x)) ≡ true
   unfolding trace
   stand-part [] x h = absurd (omega arith)
-  stand-part (w ∷ ws) x h = go (stand-part ws (move n c w x)) (isFullCall n (tickAt n c x)) refl
+  stand-part (w ∷ ws) x h = go (stand-part ws (move n c w x)) (is_full_call n (tick_at n c x)) refl
     where
-      go : (bound n (trace n c ws (move n c w x)) < length ws → isFullCall n (tickAt n c (stand c n ws (move n c w x))) ≡ true)
-          → (r : Bool) → isFullCall n (tickAt n c x) ≡ r → isFullCall n (tickAt n c (stand c n (w ∷ ws) x)) ≡ true
-      go ih true e = ap (λ (y : WalkPosition). isFullCall n (tickAt n c y)) (stand-stop w ws x e) ∙ e
-      go ih false e = ap (λ (y : WalkPosition). isFullCall n (tickAt n c y)) (stand-go w ws x e)
-          ∙ ih (omega (arith, bound-go n (tickAt n c x) (trace n c ws (move n c w x)) e))
+      go : (bound n (trace n c ws (move n c w x)) < length ws → is_full_call n (tick_at n c (stand c n ws (move n c w x))) ≡ true)
+          → (r : Bool) → is_full_call n (tick_at n c x) ≡ r → is_full_call n (tick_at n c (stand c n (w ∷ ws) x)) ≡ true
+      go ih true e = ap (λ (y : WalkPosition). is_full_call n (tick_at n c y)) (stand-stop w ws x e) ∙ e
+      go ih false e = ap (λ (y : WalkPosition). is_full_call n (tick_at n c y)) (stand-go w ws x e)
+          ∙ ih (omega (arith, bound-go n (tick_at n c x) (trace n c ws (move n c w x)) e))
 
   -- from there on no tick is made
-  pub bound-here : (ws : List Signal) (x : WalkPosition) → isFullCall n (tickAt n c x) ≡ true → bound n (trace n c ws x) ≡ 0
+  pub bound-here : (ws : List Signal) (x : WalkPosition) → is_full_call n (tick_at n c x) ≡ true → bound n (trace n c ws x) ≡ 0
   unfolding trace bound
   bound-here [] x e = refl
-  bound-here (w ∷ ws) x e = bound-stop n (tickAt n c x) (trace n c ws (move n c w x)) e
+  bound-here (w ∷ ws) x e = bound-stop n (tick_at n c x) (trace n c ws (move n c w x)) e

@@ -5,10 +5,10 @@ use mathlib.Core.List.{List, map}
 use Rattle.text.specs.digits.Digit.{capital}
 use Rattle.text.specs.frames.Verdict.{Verdict}
 use Rattle.text.proofs.frames.Capitals.{capitals-alike}
-use Rattle.image.specs.Check.{imageVerdict}
+use Rattle.image.specs.Check.{image_verdict}
 use Rattle.state.specs.declared.State.{State}
-use Rattle.runs.specs.TickOutcome.{TickOutcome, imageTick}
-use Rattle.spindles.specs.Spindles.{stateAt, headVerdict, spunOn, spin}
+use Rattle.runs.specs.TickOutcome.{TickOutcome, image_tick}
+use Rattle.spindles.specs.Spindles.{state_at, head_verdict, outcome_spun_on, spin}
 use Rattle.charts.proofs.Alike as chart
 use Rattle.image.proofs.Alike as image
 use Rattle.tables.proofs.Alike as table
@@ -24,11 +24,12 @@ use Rattle.fillings.proofs.Alike as filling
 use Rattle.agreement.specs.Capitals.{AsInCapitals}
 
 -- a call of a spindle by what the image check tries and the tick
-spins-alike : (t u : List ℕ) → imageVerdict t ≡ imageVerdict u → ((s : State) (w : ℕ) → imageTick t s w ≡ imageTick u s w)
+spins-alike : (t u : List ℕ) → image_verdict t ≡ image_verdict u → ((s : State) (w : ℕ) → image_tick t s w ≡ image_tick u s w)
     → (states : List State) (taken k w : ℕ) → spin t states taken k w ≡ spin u states taken k w
 unfolding spin
 spins-alike t u e f states taken k w =
-    ap₂ (λ (v : Verdict) (x : TickOutcome). spunOn (headVerdict v states taken k) states taken k (λ _. x)) e (f (stateAt states k) w)
+    ap₂ (λ (v : Verdict) (x : TickOutcome). outcome_spun_on (head_verdict v states taken k) states taken k (λ _. x)) e
+    (f (state_at states k) w)
 
 pub as-in-capitals : (t : List ℕ) → AsInCapitals t
 as-in-capitals t = record {

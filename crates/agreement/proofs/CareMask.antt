@@ -8,16 +8,16 @@ use lib.Dec.{eqb}
 use lib.ListN.{take}
 use Rattle.results.specs.Results.{result_of}
 use Rattle.text.specs.frames.Answer.{success}
-use Rattle.image.specs.Image.{Image, Row, nthRow}
+use Rattle.image.specs.Image.{Image, Row, nth_row}
 use Rattle.translator.specs.Entry.{translate}
-use Rattle.rows.specs.Rows.{isCandidate, row}
+use Rattle.rows.specs.Rows.{is_candidate, row}
 use Rattle.rows.specs.Choices.{Best}
 use Rattle.rows.proofs.BestRows.{best-is}
 use Rattle.state.specs.declared.State.{State}
 use Rattle.state.specs.State.{label_at}
-use Rattle.ticks.specs.Tick.{calledBit}
+use Rattle.ticks.specs.Tick.{called_bit}
 use Rattle.cause.specs.Cause.{Cause}
-use Rattle.cause.specs.Laws.{takenRow, Explains}
+use Rattle.cause.specs.Laws.{taken_row, Explains}
 use Rattle.cause.proofs.Leaves.{Goes}
 use Rattle.cause.proofs.Explained.{TakenApart, given, taken_is, goes}
 use Rattle.cause.proofs.Explained as explained
@@ -25,7 +25,7 @@ use Rattle.agreement.proofs.OnlyRow.{Only, image, only-translated}
 
 pub care-decides : (text out : List ℕ) (n : ℕ) (done : (translate text out).reply ≡ success n) (s : State) (w : ℕ) (c : Cause)
     → Explains (take n (translate text out).buffer) s w c → let i = image text out n done in
-    (v : ℕ) → bit_and v (nthRow i c.row).care ≡ bit_and w (nthRow i c.row).care → takenRow i s v ≡ row c.row (nthRow i c.row)
+    (v : ℕ) → bit_and v (nth_row i c.row).care ≡ bit_and w (nth_row i c.row).care → taken_row i s v ≡ row c.row (nth_row i c.row)
 care-decides text out n done s w c x v a =
     let i : Image = image text out n done in
     let sound = explained.image x.fitting in
@@ -33,14 +33,14 @@ care-decides text out n done s w c x v a =
     let g : TakenApart i s w c = given i s w c x.because in
     let o : Goes i s g.from = goes i sound s fits w c x.because in
     let l : ℕ = g.from in
-    let b : ℕ = calledBit i s.bits l in
+    let b : ℕ = called_bit i s.bits l in
     let best : Best l w b i.rows c.row g.one = best-is l w b i.rows c.row g.one g.chosen in
     let same : bit_and v g.one.care ≡ bit_and w g.one.care =
     subst (λ (r : Row). bit_and v r.care ≡ bit_and w r.care) best.is a in
-    let match : isCandidate l v b g.one ≡ true =
+    let match : is_candidate l v b g.one ≡ true =
     ap (λ (m : ℕ). eqb g.one.from l && (eqb m g.one.values && (eqb g.one.bit 2 || eqb g.one.bit b))) same ∙ best.matches in
     let only : Only l v b i.rows = only-translated text out n done l o.low o.high v (result_of (label_at i l).called s.bits) in
-    let number : c.row ≡ only.number = only.only c.row best.inside (ap (isCandidate l v b) best.is ∙ match) in
-    let is : only.one ≡ nthRow i c.row =
-    sym (best-is l v b i.rows only.number only.one only.taken).is ∙ ap (nthRow i) (sym number) in
+    let number : c.row ≡ only.number = only.only c.row best.inside (ap (is_candidate l v b) best.is ∙ match) in
+    let is : only.one ≡ nth_row i c.row =
+    sym (best-is l v b i.rows only.number only.one only.taken).is ∙ ap (nth_row i) (sym number) in
     taken_is i sound s fits w c x.because v ∙ only.taken ∙ ap₂ row (sym number) is

@@ -8,129 +8,130 @@ use lib.ListN.{length, take, replicate}
 use native.Mathlib.Omega.{arith}
 use Rattle.words.specs.lists.Pick.{pick}
 use Rattle.words.specs.lists.Sequences.{over}
-use Rattle.results.specs.Results.{noResults}
-use Rattle.bindings.specs.Binding.{Binding, ownBinding, rebound, badRebinding}
+use Rattle.results.specs.Results.{no_results}
+use Rattle.bindings.specs.Binding.{Binding, own_binding, rebound_binding, is_bad_rebinding}
 use Rattle.text.specs.frames.Frame.{contents}
 use Rattle.text.specs.frames.Verdict.{fine, refused, next, when}
-use Rattle.text.specs.frames.Answer.{Reply, success, refusal, replied}
+use Rattle.text.specs.frames.Answer.{Reply, success, refusal, counted_reply}
 use Rattle.charts.specs.Chart.{Chart, handler, end}
 use Rattle.walk.specs.Walk.{Signal, signals, Tick, walk}
 use Rattle.walk.proofs.Facts.{Facts}
-use Rattle.walk.proofs.Trace.{WalkPosition, trace, positionAtHome, Serves, home-good}
+use Rattle.walk.proofs.Trace.{WalkPosition, trace, position_at_home, Serves, home-good}
 use Rattle.walk.proofs.Recursion.{walk-trace}
 use Rattle.image.specs.Image.{Image}
-use Rattle.image.specs.Decode.{decoded}
-use Rattle.image.specs.Check.{imageVerdict}
+use Rattle.image.specs.Decode.{decoded_image}
+use Rattle.image.specs.Check.{image_verdict}
 use Rattle.image.specs.inner.Sound.{SoundImage}
 use Rattle.image.proofs.Accepted.{image-sound}
 use Rattle.translator.specs.Table.{table}
 use Rattle.translator.proofs.LabelLaws.{length-entries}
 use Rattle.state.specs.declared.State.{State}
-use Rattle.state.specs.State.{bottomAlone, fresh, noState, StateOutcome, freshState}
-use Rattle.runs.specs.Run.{MachineRun, ticks, RunOutcome, noRoom, runOn, run}
-use Rattle.rebinding.specs.Rebind.{rebindOn, rebind}
+use Rattle.state.specs.State.{bottom_alone, fresh, no_state, StateOutcome, fresh_state}
+use Rattle.runs.specs.Run.{MachineRun, ticks, RunOutcome, has_no_room, run_on, run}
+use Rattle.rebinding.specs.Rebind.{rebind_on, rebind}
 use Rattle.state.proofs.Sizes.{size-good}
 use Rattle.fitness.proofs.Fitness.{Fits, fits, fits-serves}
 use Rattle.ticks.proofs.Keeps.{fresh-fits}
 use Rattle.runs.proofs.Keeps.{ticks-keep}
 use Rattle.rebinding.proofs.Keeps.{rebinding-fits}
-use Rattle.agreement.specs.Agreement.{RunInput, outputOf, CallInput, toRun, toRebind, CallOutput, byRun, byRebinding}
-use Rattle.agreement.specs.Agreement.{callOutputs, short, barredRebinding, joinedWords, bound}
-use Rattle.agreement.specs.Agreement.{refusedShort, expectedOutputs}
+use Rattle.agreement.specs.Agreement.{RunInput, output_of, CallInput, to_run, to_rebind, CallOutput, by_run, by_rebinding}
+use Rattle.agreement.specs.Agreement.{call_outputs, is_short, is_barred_rebinding, joined_words, bound}
+use Rattle.agreement.specs.Agreement.{output_refused_short, expected_outputs}
 use Rattle.agreement.proofs.TableFacts.{TableFacts}
 use Rattle.agreement.proofs.StopLabels.{label-home}
-use Rattle.agreement.proofs.Places.{below, holding, stateOfPosition}
+use Rattle.agreement.proofs.Places.{below, holding, state_of_position}
 use Rattle.agreement.proofs.Bounds.{stand}
-use Rattle.agreement.proofs.Ticks.{ranFrom, StandsWell, stand-stands, ticks-are}
+use Rattle.agreement.proofs.Ticks.{run_from_position, StandsWell, stand-stands, ticks-are}
 use Rattle.agreement.proofs.Joins.{joined-short, joined-long, Due, joins}
 use Rattle.agreement.proofs.Images.{run-image, rebind-image}
 use Rattle.agreement.proofs.Expected.{all_short}
 
 -- ---- one run on an image that is accepted and decodes to i, from a state that fits
-module _ (text : List ℕ) (i : Image) (passes : imageVerdict text ≡ fine) (decodes : decoded (contents text) ≡ i) where
+module _ (text : List ℕ) (i : Image) (passes : image_verdict text ≡ fine) (decodes : decoded_image (contents text) ≡ i) where
   pub run_is : (s : State) (ws ms ks : List ℕ) → Fits i s
-      → run text s ws ms ks ≡ runOn (when 16 (noRoom ws ms ks)) (λ _. ticks i s ws) s ms ks
+      → run text s ws ms ks ≡ run_on (when 16 (has_no_room ws ms ks)) (λ _. ticks i s ws) s ms ks
   run_is s ws ms ks f =
       run-image text i passes decodes s ws ms ks
-      ∙ ap (λ (t : Bool). runOn (next (when 15 t) λ _. when 16 (noRoom ws ms ks)) (λ _. ticks i s ws) s ms ks) (fits i s f)
+      ∙ ap (λ (t : Bool). run_on (next (when 15 t) λ _. when 16 (has_no_room ws ms ks)) (λ _. ticks i s ws) s ms ks) (fits i s f)
 
-  chain-short : (s : State) (a : RunInput) (rest : List CallInput) → Fits i s → short a ≡ true
-      → callOutputs run rebind text s (toRun a ∷ rest) ≡ byRun (refusedShort a) ∷ callOutputs run rebind text s rest
-  unfolding callOutputs
-  chain-short s a rest f e = ap (λ (r : RunOutcome). byRun (outputOf r) ∷ callOutputs run rebind text r.state rest)
+  chain-short : (s : State) (a : RunInput) (rest : List CallInput) → Fits i s → is_short a ≡ true
+      → call_outputs run rebind text s (to_run a ∷ rest) ≡ by_run (output_refused_short a) ∷ call_outputs run rebind text s rest
+  unfolding call_outputs
+  chain-short s a rest f e = ap (λ (r : RunOutcome). by_run (output_of r) ∷ call_outputs run rebind text r.state rest)
       (run_is s a.words a.masks a.codes f
-      ∙ ap (λ (t : Bool). runOn (when 16 t) (λ _. ticks i s a.words) s a.masks a.codes) e)
+      ∙ ap (λ (t : Bool). run_on (when 16 t) (λ _. ticks i s a.words) s a.masks a.codes) e)
 
-  chain-long : (s : State) (a : RunInput) (rest : List CallInput) → Fits i s → short a ≡ false → {r : MachineRun} → ticks i s a.words ≡ r
-      → callOutputs run rebind text s (toRun a ∷ rest) ≡ byRun (outputOf (runOn fine (λ _. r) s a.masks a.codes)) ∷ callOutputs
+  chain-long : (s : State) (a : RunInput) (rest : List CallInput) → Fits i s → is_short a ≡ false → {r : MachineRun} → ticks i s a.words ≡ r
+      → call_outputs run rebind text s (to_run a ∷ rest) ≡ by_run (output_of (run_on fine (λ _. r) s a.masks a.codes)) ∷ call_outputs
       run rebind text r.state rest
-  unfolding callOutputs
+  unfolding call_outputs
   chain-long s a rest f e q =
-      ap (λ (r : RunOutcome). byRun (outputOf r) ∷ callOutputs run rebind text r.state rest)
+      ap (λ (r : RunOutcome). by_run (output_of r) ∷ call_outputs run rebind text r.state rest)
       (run_is s a.words a.masks a.codes f
-      ∙ ap (λ (t : Bool). runOn (when 16 t) (λ _. ticks i s a.words) s a.masks a.codes) e)
-      ∙ ap (λ (r : MachineRun). byRun (outputOf (runOn fine (λ _. r) s a.masks a.codes)) ∷ callOutputs
+      ∙ ap (λ (t : Bool). run_on (when 16 t) (λ _. ticks i s a.words) s a.masks a.codes) e)
+      ∙ ap (λ (r : MachineRun). by_run (output_of (run_on fine (λ _. r) s a.masks a.codes)) ∷ call_outputs
       run rebind text r.state rest) q
 
   -- ---- one rebinding, which 22 refuses where t is true
-  pub rebind-is : (s : State) (h k : ℕ) → Fits i s → {t : Bool} → badRebinding (length i.entries) i.handler h k ≡ t
-      → rebind text s h k ≡ rebindOn (when 22 t) s h k
+  pub rebind-is : (s : State) (h k : ℕ) → Fits i s → {t : Bool} → is_bad_rebinding (length i.entries) i.handler h k ≡ t
+      → rebind text s h k ≡ rebind_on (when 22 t) s h k
   rebind-is s h k f e =
-      rebind-image text i passes decodes s h k ∙ ap₂ (λ (t u : Bool). rebindOn (next (when 15 t) λ _. when 22 u) s h k) (fits i s f) e
+      rebind-image text i passes decodes s h k ∙ ap₂ (λ (t u : Bool). rebind_on (next (when 15 t) λ _. when 22 u) s h k) (fits i s f) e
 
   chain-rebinds : (s : State) (h k : ℕ) (rest : List CallInput) → Fits i s → {t : Bool}
-      → badRebinding (length i.entries) i.handler h k ≡ t
-      → callOutputs run rebind text s (toRebind h k ∷ rest)
-      ≡ (let r = rebindOn (when 22 t) s h k in byRebinding r.reply ∷ callOutputs run rebind text r.state rest)
-  unfolding callOutputs
+      → is_bad_rebinding (length i.entries) i.handler h k ≡ t
+      → call_outputs run rebind text s (to_rebind h k ∷ rest)
+      ≡ (let r = rebind_on (when 22 t) s h k in by_rebinding r.reply ∷ call_outputs run rebind text r.state rest)
+  unfolding call_outputs
   chain-rebinds s h k rest f e =
-      ap (λ (r : StateOutcome). byRebinding r.reply ∷ callOutputs run rebind text r.state rest) (rebind-is s h k f e)
+      ap (λ (r : StateOutcome). by_rebinding r.reply ∷ call_outputs run rebind text r.state rest) (rebind-is s h k f e)
 
-replied-by : (t : Bool) (k : ℕ) → replied (pick t (refused 17 0) fine) k ≡ pick t (refusal 17 0 k) (success k)
+replied-by : (t : Bool) (k : ℕ) → counted_reply (pick t (refused 17 0) fine) k ≡ pick t (refusal 17 0 k) (success k)
 replied-by true k = refl
 replied-by false k = refl
 
 -- the fresh state is that of the position where the walk begins
-pub fresh-is : (n : ℕ) → 1 ≤ n → n ≤ 32 → (freshState n).state ≡ fresh n
-unfolding freshState
+pub fresh-is : (n : ℕ) → 1 ≤ n → n ≤ 32 → (fresh_state n).state ≡ fresh n
+unfolding fresh_state
 fresh-is n l h =
-    ap (λ (t : Bool). (pick {A = StateOutcome} t (record { reply = refusal 14 0 0; state = noState })
+    ap (λ (t : Bool). (pick {A = StateOutcome} t (record { reply = refusal 14 0 0; state = no_state })
     (record { reply = success 0; state = fresh n })).state)
     (size-good n l h)
 
-pub home-is : (c : Chart) → Facts c → (n : ℕ) → fresh n ≡ stateOfPosition c n ownBinding (positionAtHome c noResults)
+pub home-is : (c : Chart) → Facts c → (n : ℕ) → fresh n ≡ state_of_position c n own_binding (position_at_home c no_results)
 unfolding below
 home-is c facts n = let e = facts.ends 1 (omega arith) facts.first in
-    ap (λ (k : ℕ). holding n 1 ownBinding noResults (k ∷ replicate 31 0) (bottomAlone 1) (bottomAlone 1))
+    ap (λ (k : ℕ). holding n 1 own_binding no_results (k ∷ replicate 31 0) (bottom_alone 1) (bottom_alone 1))
     (sym (label-home c (end c 1) e.1 e.2))
 
-module _ (c : Chart) (facts : Facts c) (tableFacts : TableFacts c) (text : List ℕ) (passes : imageVerdict text ≡ fine)
-    (decodes : decoded (contents text) ≡ table c) (n : ℕ) (n≤ : n ≤ 32) where
+module _ (c : Chart) (facts : Facts c) (table_facts : TableFacts c) (text : List ℕ) (passes : image_verdict text ≡ fine)
+    (decodes : decoded_image (contents text) ≡ table c) (n : ℕ) (n≤ : n ≤ 32) where
   pub sound : SoundImage (table c)
   sound = subst SoundImage decodes (image-sound text passes)
 
   -- the table has the chart's schemes and its handler
-  pub serves : (s : Binding) (x : WalkPosition) → Fits (table c) (stateOfPosition c n s x) → Serves c s
+  pub serves : (s : Binding) (x : WalkPosition) → Fits (table c) (state_of_position c n s x) → Serves c s
   serves s x f h low high = let l =
-      fits-serves (table c) sound.most (stateOfPosition c n s x) f h low (omega (arith, length-entries c)) in
+      fits-serves (table c) sound.most (state_of_position c n s x) f h low (omega (arith, length-entries c)) in
       (l.0, omega (arith, l.1, length-entries c))
 
-  pub same-bar : (h k : ℕ) → badRebinding (length (table c).entries) (table c).handler h k ≡ barredRebinding c h k
+  pub same-bar : (h k : ℕ) → is_bad_rebinding (length (table c).entries) (table c).handler h k ≡ is_barred_rebinding c h k
   unfolding table
-  same-bar h k = ap (λ (m : ℕ). badRebinding m (handler c) h k) (length-entries c)
+  same-bar h k = ap (λ (m : ℕ). is_bad_rebinding m (handler c) h k) (length-entries c)
 
   abbrev ChainIs : List CallInput → Type 0
-  ChainIs given = (s : Binding) (x : WalkPosition) → StandsWell c n x → Fits (table c) (stateOfPosition c n s x)
-      → callOutputs run rebind text (stateOfPosition c n s x) given ≡ Due c n s x given
+  ChainIs given = (s : Binding) (x : WalkPosition) → StandsWell c n x → Fits (table c) (state_of_position c n s x)
+      → call_outputs run rebind text (state_of_position c n s x) given ≡ Due c n s x given
 
-  after_run : (a : RunInput) (rest : List CallInput) → ChainIs rest → ChainIs (toRun a ∷ rest)
-  after_run a rest ih s x z f = go (short a) refl
+  after_run : (a : RunInput) (rest : List CallInput) → ChainIs rest → ChainIs (to_run a ∷ rest)
+  after_run a rest ih s x z f = go (is_short a) refl
     where
-      go : (t : Bool) → short a ≡ t → callOutputs run rebind text (stateOfPosition c n s x) (toRun a ∷ rest) ≡ Due c n s x (toRun a ∷ rest)
-      go true e = chain-short text (table c) passes decodes (stateOfPosition c n s x) a rest f e
-          ∙ ap (λ (l : List CallOutput). byRun (refusedShort a) ∷ l) (ih s x z f)
+      go : (t : Bool) → is_short a ≡ t → call_outputs run rebind text (state_of_position c n s x) (to_run a ∷ rest)
+          ≡ Due c n s x (to_run a ∷ rest)
+      go true e = chain-short text (table c) passes decodes (state_of_position c n s x) a rest f e
+          ∙ ap (λ (l : List CallOutput). by_run (output_refused_short a) ∷ l) (ih s x z f)
           ∙ sym (all_short c _ _ 0 a rest e)
-          ∙ sym (ap (λ (js : List Signal). let ts = trace n c js x in expectedOutputs c (bound n ts) ts 0 (toRun a ∷ rest))
+          ∙ sym (ap (λ (js : List Signal). let ts = trace n c js x in expected_outputs c (bound n ts) ts 0 (to_run a ∷ rest))
           (joined-short c s a rest e))
       go false e =
           let ws : List Signal = signals s a.words in
@@ -138,12 +139,12 @@ module _ (c : Chart) (facts : Facts c) (tableFacts : TableFacts c) (text : List 
           let b : ℕ = bound n ts in
           let y : WalkPosition = stand c n ws x in
           let served : Serves c s = serves s x f in
-          let made : ticks (table c) (stateOfPosition c n s x) a.words ≡ ranFrom c n s a.words x =
-          ticks-are c n s facts served n≤ tableFacts a.words x z in
-          let kept : Fits (table c) (stateOfPosition c n s y) =
-          subst (λ (r : MachineRun). Fits (table c) r.state) made (ticks-keep (table c) sound a.words (stateOfPosition c n s x) f) in
-          chain-long text (table c) passes decodes (stateOfPosition c n s x) a rest f e made
-          ∙ ap₂ (λ (r : Reply) (l : List CallOutput). byRun (record {
+          let made : ticks (table c) (state_of_position c n s x) a.words ≡ run_from_position c n s a.words x =
+          ticks-are c n s facts served n≤ table_facts a.words x z in
+          let kept : Fits (table c) (state_of_position c n s y) =
+          subst (λ (r : MachineRun). Fits (table c) r.state) made (ticks-keep (table c) sound a.words (state_of_position c n s x) f) in
+          chain-long text (table c) passes decodes (state_of_position c n s x) a rest f e made
+          ∙ ap₂ (λ (r : Reply) (l : List CallOutput). by_run (record {
             reply = r;
             masks = over (map (λ (t : Tick). t.mask) (take b ts)) a.masks;
             codes = over (map (λ (t : Tick). t.code) (take b ts)) a.codes;
@@ -151,44 +152,44 @@ module _ (c : Chart) (facts : Facts c) (tableFacts : TableFacts c) (text : List 
           (replied-by (ltb b (length a.words)) (length (map (λ (t : Tick). t.code) (take b ts))))
           (ih s y (stand-stands c n s facts served a.words x z) kept)
           ∙ joins c n s a rest x e
-          ∙ sym (ap (λ (js : List Signal). let us = trace n c js x in expectedOutputs c (bound n us) us 0 (toRun a ∷ rest))
+          ∙ sym (ap (λ (js : List Signal). let us = trace n c js x in expected_outputs c (bound n us) us 0 (to_run a ∷ rest))
           (joined-long c s a rest e))
 
-  after-rebinding : (h k : ℕ) (rest : List CallInput) → ChainIs rest → ChainIs (toRebind h k ∷ rest)
-  unfolding joinedWords expectedOutputs
-  after-rebinding h k rest ih s x z f = go (barredRebinding c h k) refl
+  after-rebinding : (h k : ℕ) (rest : List CallInput) → ChainIs rest → ChainIs (to_rebind h k ∷ rest)
+  unfolding joined_words expected_outputs
+  after-rebinding h k rest ih s x z f = go (is_barred_rebinding c h k) refl
     where
       -- what is due, with the binding that the rebinding leaves
-      due : (t : Bool) → barredRebinding c h k ≡ t
-          → byRebinding (pick t (refusal 22 0 0) (success 0)) ∷ Due c n (pick t s (rebound h k s))
-          x rest ≡ Due c n s x (toRebind h k ∷ rest)
-      due t e = sym (ap (λ (r : Bool). let ts = trace n c (joinedWords c (pick r s (rebound h k s)) rest) x in
-          byRebinding (pick r (refusal 22 0 0) (success 0)) ∷ expectedOutputs c (bound n ts) ts 0 rest) e)
+      due : (t : Bool) → is_barred_rebinding c h k ≡ t
+          → by_rebinding (pick t (refusal 22 0 0) (success 0)) ∷ Due c n (pick t s (rebound_binding h k s))
+          x rest ≡ Due c n s x (to_rebind h k ∷ rest)
+      due t e = sym (ap (λ (r : Bool). let ts = trace n c (joined_words c (pick r s (rebound_binding h k s)) rest) x in
+          by_rebinding (pick r (refusal 22 0 0) (success 0)) ∷ expected_outputs c (bound n ts) ts 0 rest) e)
 
-      go : (t : Bool) → barredRebinding c h k ≡ t
-          → callOutputs run rebind text (stateOfPosition c n s x) (toRebind h k ∷ rest) ≡ Due c n s x (toRebind h k ∷ rest)
+      go : (t : Bool) → is_barred_rebinding c h k ≡ t
+          → call_outputs run rebind text (state_of_position c n s x) (to_rebind h k ∷ rest) ≡ Due c n s x (to_rebind h k ∷ rest)
       go true e =
-          chain-rebinds text (table c) passes decodes (stateOfPosition c n s x) h k rest f (same-bar h k ∙ e)
-          ∙ ap (λ (l : List CallOutput). byRebinding (refusal 22 0 0) ∷ l) (ih s x z f)
+          chain-rebinds text (table c) passes decodes (state_of_position c n s x) h k rest f (same-bar h k ∙ e)
+          ∙ ap (λ (l : List CallOutput). by_rebinding (refusal 22 0 0) ∷ l) (ih s x z f)
           ∙ due true e
       go false e =
-          chain-rebinds text (table c) passes decodes (stateOfPosition c n s x) h k rest f (same-bar h k ∙ e)
-          ∙ ap (λ (l : List CallOutput). byRebinding (success 0) ∷ l)
-          (ih (rebound h k s) x z (rebinding-fits (table c) sound.most (stateOfPosition c n s x) h k f (same-bar h k ∙ e)))
+          chain-rebinds text (table c) passes decodes (state_of_position c n s x) h k rest f (same-bar h k ∙ e)
+          ∙ ap (λ (l : List CallOutput). by_rebinding (success 0) ∷ l)
+          (ih (rebound_binding h k s) x z (rebinding-fits (table c) sound.most (state_of_position c n s x) h k f (same-bar h k ∙ e)))
           ∙ due false e
 
   chain-is : (given : List CallInput) → ChainIs given
-  unfolding callOutputs joinedWords expectedOutputs
+  unfolding call_outputs joined_words expected_outputs
   chain-is [] s x z f = refl
-  chain-is (toRun a ∷ rest) s x z f = after_run a rest (chain-is rest) s x z f
-  chain-is (toRebind h k ∷ rest) s x z f = after-rebinding h k rest (chain-is rest) s x z f
+  chain-is (to_run a ∷ rest) s x z f = after_run a rest (chain-is rest) s x z f
+  chain-is (to_rebind h k ∷ rest) s x z f = after-rebinding h k rest (chain-is rest) s x z f
 
   pub calls-agree : 1 ≤ n → (given : List CallInput)
-      → let ts = walk n c (joinedWords c ownBinding given) in
-      callOutputs run rebind text (freshState n).state given ≡ expectedOutputs c (bound n ts) ts 0 given
+      → let ts = walk n c (joined_words c own_binding given) in
+      call_outputs run rebind text (fresh_state n).state given ≡ expected_outputs c (bound n ts) ts 0 given
   calls-agree l given =
-      let at_home : fresh n ≡ stateOfPosition c n ownBinding (positionAtHome c noResults) = home-is c facts n in
-      ap (λ (s : State). callOutputs run rebind text s given) (fresh-is n l n≤ ∙ at_home)
-      ∙ chain-is given ownBinding (positionAtHome c noResults) (record { low = l; good = home-good c facts noResults })
+      let at_home : fresh n ≡ state_of_position c n own_binding (position_at_home c no_results) = home-is c facts n in
+      ap (λ (s : State). call_outputs run rebind text s given) (fresh-is n l n≤ ∙ at_home)
+      ∙ chain-is given own_binding (position_at_home c no_results) (record { low = l; good = home-good c facts no_results })
       (subst (Fits (table c)) at_home (fresh-fits (table c) sound n l n≤))
-      ∙ sym (ap (λ (ts : List Tick). expectedOutputs c (bound n ts) ts 0 given) (walk-trace n c (joinedWords c ownBinding given)))
+      ∙ sym (ap (λ (ts : List Tick). expected_outputs c (bound n ts) ts 0 given) (walk-trace n c (joined_words c own_binding given)))

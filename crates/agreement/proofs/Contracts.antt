@@ -7,7 +7,7 @@ use borrow.Fn.World.{ArgsD, ResD}
 use mathlib.Core.Path.{◌≡◌}
 use Rattle.text.specs.frames.Answer.{reply, GivesBuffer}
 use Rattle.translator.specs.Entry.{translate}
-use Rattle.places.specs.Entry.{placesNeeded}
+use Rattle.places.specs.Entry.{places_needed}
 use Rattle.translator.specs.contracts.translating.translate as translating-translate
 use Rattle.translator.proofs.translating.translate.Reads as translating-translate-reads
 use Rattle.tables.specs.Prepare.{prepare}
@@ -16,13 +16,13 @@ use Rattle.tables.proofs.preparing.prepare.Reads as tables-prepare-reads
 use Rattle.minimising.specs.Entry.{minimise}
 use Rattle.minimising.specs.contracts.minimise as minimising-minimise
 use Rattle.minimising.proofs.minimise.Reads as minimising-minimise-reads
-use Rattle.little_charts.specs.Little.{littleChart}
+use Rattle.little_charts.specs.Little.{little_chart}
 use Rattle.little_fetch.specs.contracts.fetching.little_chart as fetching-little-chart
 use Rattle.little_fetch.proofs.fetching.little_chart.Reads as fetching-little-chart-reads
-use Rattle.state.specs.State.{freshState, GivesState}
+use Rattle.state.specs.State.{fresh_state, GivesState}
 use Rattle.runs.specs.Run.{run, GivesRun}
-use Rattle.runs.specs.TickOutcome.{imageTick, GivesTick}
-use Rattle.runs.specs.machine.Live.{liveRun, liveTick}
+use Rattle.runs.specs.TickOutcome.{image_tick, GivesTick}
+use Rattle.runs.specs.machine.Live.{live_run, live_tick}
 use Rattle.state.specs.contracts.State.fresh as state-fresh
 use Rattle.state.proofs.State.fresh.Reads as state-fresh-reads
 use Rattle.runs.specs.contracts.state_runs.run as machine-run
@@ -33,27 +33,27 @@ use Rattle.runs.specs.contracts.state_runs.live_run as machine-live-run
 use Rattle.runs.proofs.state_runs.live_run.Reads as machine-live-run-reads
 use Rattle.runs.specs.contracts.state_runs.live_tick as machine-live-tick
 use Rattle.runs.proofs.state_runs.live_tick.Reads as machine-live-tick-reads
-use Rattle.prices.specs.priced_runs.PricedRun.{pricedRun, GivesPricedRun}
+use Rattle.prices.specs.priced_runs.PricedRun.{priced_run, GivesPricedRun}
 use Rattle.prices.specs.contracts.priced_states.priced_run as priced-run
 use Rattle.prices.proofs.priced_states.priced_run.Reads as priced-run-reads
-use Rattle.rebinding.specs.Rebind.{rebind, liveRebind}
+use Rattle.rebinding.specs.Rebind.{rebind, live_rebind}
 use Rattle.rebinding.specs.contracts.rebind as rebinding-rebind
 use Rattle.rebinding.proofs.rebind.Reads as rebinding-rebind-reads
 use Rattle.rebinding.specs.contracts.live_rebind as rebinding-live-rebind
 use Rattle.rebinding.proofs.live_rebind.Reads as rebinding-live-rebind-reads
-use Rattle.fillings.specs.Counts.{countFillings}
+use Rattle.fillings.specs.Counts.{count_fillings}
 use Rattle.fillings.specs.counting.CountingContracts.{GivesFillings}
 use Rattle.fillings.specs.contracts.counting.count_fillings as counting-count-fillings
 use Rattle.fillings.proofs.counting.count_fillings.Reads as counting-count-fillings-reads
 use Rattle.state.specs.Bytes.{state_of}
 use Rattle.fairleadow.specs.telling.AnswersForC.{GivesReplyC}
 use Rattle.fairleadow.specs.telling.AnswersForC.{GivesBufferC}
-use Rattle.fairleadow.specs.runs_for_c.Calls.{GivesStateC, runFor, GivesRunC}
-use Rattle.fairleadow.specs.prices_for_c.Calls.{pricedRunFor}
+use Rattle.fairleadow.specs.runs_for_c.Calls.{GivesStateC, run_for, GivesRunC}
+use Rattle.fairleadow.specs.prices_for_c.Calls.{priced_run_for}
 use Rattle.fairleadow.specs.prices_for_c.Calls.{GivesPricedRunC}
-use Rattle.fairleadow.specs.runs_for_c.Calls.{tickFor, GivesTickC}
-use Rattle.fairleadow.specs.rebinding_for_c.Calls.{rebindFor, GivesRebindingC}
-use Rattle.fairleadow.specs.spindles_for_c.Calls.{spinFor, liveSpinFor, GivesSpinC}
+use Rattle.fairleadow.specs.runs_for_c.Calls.{tick_for, GivesTickC}
+use Rattle.fairleadow.specs.rebinding_for_c.Calls.{rebind_for, GivesRebindingC}
+use Rattle.fairleadow.specs.spindles_for_c.Calls.{spin_for, live_spin_for, GivesSpinC}
 use Rattle.fairleadow.specs.fillings_for_c.Calls.{GivesFillingsC}
 use Rattle.fairleadow.specs.contracts.translating_for_c.fairleadow_translate as c-translate
 use Rattle.fairleadow.proofs.translating_for_c.fairleadow_translate.Reads as c-translate-reads
@@ -99,7 +99,7 @@ translate-lends κs a r s e = e
 
 pub places-answered : (κs : Lfts 1) (a : ArgsD places-needed.signature κs)
     (r : ResD places-needed.signature κs) (s : AtExit places-needed.ended κs)
-    → places-needed-reads.Learnt κs a r s → reply r ≡ placesNeeded a.0.now
+    → places-needed-reads.Learnt κs a r s → reply r ≡ places_needed a.0.now
 places-answered κs a r s e = e
 
 pub prepare-lends : (κs : Lfts 2) (a : ArgsD tables-prepare.signature κs) (r : ResD tables-prepare.signature κs)
@@ -114,11 +114,11 @@ minimise-lends κs a r s e = e
 
 pub little-chart-lends : (κs : Lfts 1) (a : ArgsD fetching-little-chart.signature κs) (r : ResD fetching-little-chart.signature κs)
     (s : AtExit fetching-little-chart.ended κs)
-    → fetching-little-chart-reads.Learnt κs a r s → GivesBuffer (littleChart a.0 a.1.0 a.1.1.0.now) r s.1.1.0.now
+    → fetching-little-chart-reads.Learnt κs a r s → GivesBuffer (little_chart a.0 a.1.0 a.1.1.0.now) r s.1.1.0.now
 little-chart-lends κs a r s e = e
 
 pub fresh-makes : (κs : Lfts 0) (a : ArgsD state-fresh.signature κs) (r : ResD state-fresh.signature κs) (s : AtExit state-fresh.ended κs)
-    → state-fresh-reads.Learnt κs a r s → GivesState (freshState a.0) r
+    → state-fresh-reads.Learnt κs a r s → GivesState (fresh_state a.0) r
 fresh-makes κs a r s e = e
 
 pub run-runs : (κs : Lfts 4) (a : ArgsD machine-run.signature κs) (r : ResD machine-run.signature κs) (s : AtExit machine-run.ended κs)
@@ -130,26 +130,26 @@ run-runs κs a r s e = e
 pub priced-run-prices : (κs : Lfts 5) (a : ArgsD priced-run.signature κs)
     (r : ResD priced-run.signature κs) (s : AtExit priced-run.ended κs)
     → priced-run-reads.Learnt κs a r s
-    → GivesPricedRun (pricedRun a.0.now a.1.0 a.1.1.0.now a.1.1.1.0.now
+    → GivesPricedRun (priced_run a.0.now a.1.0 a.1.1.0.now a.1.1.1.0.now
     a.1.1.1.1.0.now a.1.1.1.1.1.0.now)
     r s.1.1.1.1.0.now s.1.1.1.1.1.0.now
 priced-run-prices κs a r s e = e
 
 pub tick-advances : (κs : Lfts 1) (a : ArgsD machine-tick.signature κs)
     (r : ResD machine-tick.signature κs) (s : AtExit machine-tick.ended κs)
-    → machine-tick-reads.Learnt κs a r s → GivesTick (imageTick a.0.now a.1.0 a.1.1.0) r.report r.state
+    → machine-tick-reads.Learnt κs a r s → GivesTick (image_tick a.0.now a.1.0 a.1.1.0) r.report r.state
 tick-advances κs a r s e = e
 
 pub live-run-runs : (κs : Lfts 4) (a : ArgsD machine-live-run.signature κs) (r : ResD machine-live-run.signature κs)
     (s : AtExit machine-live-run.ended κs)
     → machine-live-run-reads.Learnt κs a r s
-    → GivesRun (liveRun a.0.now a.1.0 a.1.1.0.now a.1.1.1.0.now a.1.1.1.1.0.now)
+    → GivesRun (live_run a.0.now a.1.0 a.1.1.0.now a.1.1.1.0.now a.1.1.1.1.0.now)
     r s.1.1.1.0.now s.1.1.1.1.0.now
 live-run-runs κs a r s e = e
 
 pub live-tick-advances : (κs : Lfts 1) (a : ArgsD machine-live-tick.signature κs) (r : ResD machine-live-tick.signature κs)
     (s : AtExit machine-live-tick.ended κs)
-    → machine-live-tick-reads.Learnt κs a r s → GivesTick (liveTick a.0.now a.1.0 a.1.1.0) r.report r.state
+    → machine-live-tick-reads.Learnt κs a r s → GivesTick (live_tick a.0.now a.1.0 a.1.1.0) r.report r.state
 live-tick-advances κs a r s e = e
 
 pub rebind-makes : (κs : Lfts 1) (a : ArgsD rebinding-rebind.signature κs) (r : ResD rebinding-rebind.signature κs)
@@ -159,12 +159,12 @@ rebind-makes κs a r s e = e
 
 pub live-rebind-makes : (κs : Lfts 1) (a : ArgsD rebinding-live-rebind.signature κs) (r : ResD rebinding-live-rebind.signature κs)
     (s : AtExit rebinding-live-rebind.ended κs)
-    → rebinding-live-rebind-reads.Learnt κs a r s → GivesState (liveRebind a.0.now a.1.0 a.1.1.0 a.1.1.1.0) r
+    → rebinding-live-rebind-reads.Learnt κs a r s → GivesState (live_rebind a.0.now a.1.0 a.1.1.0 a.1.1.1.0) r
 live-rebind-makes κs a r s e = e
 
 pub count-fillings-tells : (κs : Lfts 1) (a : ArgsD counting-count-fillings.signature κs) (r : ResD counting-count-fillings.signature κs)
     (s : AtExit counting-count-fillings.ended κs)
-    → counting-count-fillings-reads.Learnt κs a r s → GivesFillings (countFillings a.0.now a.1.0 a.1.1.0 a.1.1.1.0) r
+    → counting-count-fillings-reads.Learnt κs a r s → GivesFillings (count_fillings a.0.now a.1.0 a.1.1.0 a.1.1.1.0) r
 count-fillings-tells κs a r s e = e
 
 -- ---- for C: translate, fresh, run, priced_run and tick, then prepare, minimise,
@@ -176,12 +176,12 @@ pub translate-lends-c : (κs : Lfts 4) (a : ArgsD c-translate.signature κs)
 translate-lends-c κs a r s e = e
 
 pub fresh-makes-c : (κs : Lfts 3) (a : ArgsD c-fresh.signature κs) (r : ResD c-fresh.signature κs) (s : AtExit c-fresh.ended κs)
-    → c-fresh-reads.Learnt κs a r s → GivesStateC (freshState a.0) r s.1.1.0.now s.1.1.1.0.now s.1.0.now
+    → c-fresh-reads.Learnt κs a r s → GivesStateC (fresh_state a.0) r s.1.1.0.now s.1.1.1.0.now s.1.0.now
 fresh-makes-c κs a r s e = e
 
 pub run-runs-c : (κs : Lfts 7) (a : ArgsD c-run.signature κs) (r : ResD c-run.signature κs) (s : AtExit c-run.ended κs)
     → c-run-reads.Learnt κs a r s
-    → GivesRunC (runFor a.0.now a.1.0.now a.1.1.0.now a.1.1.1.0.now a.1.1.1.1.0.now) a.1.0.now
+    → GivesRunC (run_for a.0.now a.1.0.now a.1.1.0.now a.1.1.1.0.now a.1.1.1.1.0.now) a.1.0.now
     r s.1.1.1.1.1.0.now s.1.1.1.1.1.1.0.now s.1.0.now s.1.1.1.0.now s.1.1.1.1.0.now
 run-runs-c κs a r s e = e
 
@@ -189,7 +189,7 @@ pub priced-run-prices-c : (κs : Lfts 9) (a : ArgsD c-priced-run.signature κs) 
     (s : AtExit c-priced-run.ended κs)
     → c-priced-run-reads.Learnt κs a r s
     → GivesPricedRunC
-    (pricedRunFor a.0.now a.1.0.now a.1.1.0.now a.1.1.1.0.now a.1.1.1.1.0.now a.1.1.1.1.1.0.now)
+    (priced_run_for a.0.now a.1.0.now a.1.1.0.now a.1.1.1.0.now a.1.1.1.1.0.now a.1.1.1.1.1.0.now)
     a.1.1.1.0.now a.1.0.now
     r s.1.1.1.1.1.1.1.0.now s.1.1.1.1.1.1.1.1.0.now s.1.0.now s.1.1.1.1.0.now s.1.1.1.1.1.0.now
     s.1.1.1.1.1.1.0.now
@@ -197,12 +197,12 @@ priced-run-prices-c κs a r s e = e
 
 pub tick-advances-c : (κs : Lfts 6) (a : ArgsD c-tick.signature κs) (r : ResD c-tick.signature κs) (s : AtExit c-tick.ended κs)
     → c-tick-reads.Learnt κs a r s
-    → GivesTickC (tickFor a.0.now a.1.0.now a.1.1.0) a.1.0.now a.1.1.1.0.now a.1.1.1.1.0.now
+    → GivesTickC (tick_for a.0.now a.1.0.now a.1.1.0) a.1.0.now a.1.1.1.0.now a.1.1.1.1.0.now
     r s.1.1.1.1.1.0.now s.1.1.1.1.1.1.0.now s.1.0.now s.1.1.1.0.now s.1.1.1.1.0.now
 tick-advances-c κs a r s e = e
 
 pub places-answered-c : (κs : Lfts 3) (a : ArgsD c-places.signature κs) (r : ResD c-places.signature κs) (s : AtExit c-places.ended κs)
-    → c-places-reads.Learnt κs a r s → GivesReplyC (placesNeeded a.0.now) r s.1.0.now s.1.1.0.now
+    → c-places-reads.Learnt κs a r s → GivesReplyC (places_needed a.0.now) r s.1.0.now s.1.1.0.now
 places-answered-c κs a r s e = e
 
 pub prepare-lends-c : (κs : Lfts 4) (a : ArgsD c-prepare.signature κs) (r : ResD c-prepare.signature κs) (s : AtExit c-prepare.ended κs)
@@ -218,38 +218,38 @@ minimise-lends-c κs a r s e = e
 pub little-chart-lends-c : (κs : Lfts 3) (a : ArgsD c-little-chart.signature κs)
     (r : ResD c-little-chart.signature κs) (s : AtExit c-little-chart.ended κs)
     → c-little-chart-reads.Learnt κs a r s
-    → GivesBufferC (littleChart a.0 a.1.0 a.1.1.0.now) r s.1.1.1.0.now s.1.1.1.1.0.now s.1.1.0.now
+    → GivesBufferC (little_chart a.0 a.1.0 a.1.1.0.now) r s.1.1.1.0.now s.1.1.1.1.0.now s.1.1.0.now
 little-chart-lends-c κs a r s e = e
 
 pub live-run-runs-c : (κs : Lfts 7) (a : ArgsD c-live-run.signature κs) (r : ResD c-live-run.signature κs) (s : AtExit c-live-run.ended κs)
     → c-live-run-reads.Learnt κs a r s
-    → GivesRunC (liveRun a.0.now (state_of a.1.0.now) a.1.1.0.now a.1.1.1.0.now a.1.1.1.1.0.now) a.1.0.now
+    → GivesRunC (live_run a.0.now (state_of a.1.0.now) a.1.1.0.now a.1.1.1.0.now a.1.1.1.1.0.now) a.1.0.now
     r s.1.1.1.1.1.0.now s.1.1.1.1.1.1.0.now s.1.0.now s.1.1.1.0.now s.1.1.1.1.0.now
 live-run-runs-c κs a r s e = e
 
 pub live-tick-advances-c : (κs : Lfts 6) (a : ArgsD c-live-tick.signature κs)
     (r : ResD c-live-tick.signature κs) (s : AtExit c-live-tick.ended κs)
     → c-live-tick-reads.Learnt κs a r s
-    → GivesTickC (liveTick a.0.now (state_of a.1.0.now) a.1.1.0) a.1.0.now a.1.1.1.0.now a.1.1.1.1.0.now
+    → GivesTickC (live_tick a.0.now (state_of a.1.0.now) a.1.1.0) a.1.0.now a.1.1.1.0.now a.1.1.1.1.0.now
     r s.1.1.1.1.1.0.now s.1.1.1.1.1.1.0.now s.1.0.now s.1.1.1.0.now s.1.1.1.1.0.now
 live-tick-advances-c κs a r s e = e
 
 pub rebind-rebinds-c : (κs : Lfts 4) (a : ArgsD c-rebind.signature κs) (r : ResD c-rebind.signature κs) (s : AtExit c-rebind.ended κs)
     → c-rebind-reads.Learnt κs a r s
-    → GivesRebindingC (rebindFor a.0.now a.1.0.now a.1.1.0 a.1.1.1.0) a.1.0.now
+    → GivesRebindingC (rebind_for a.0.now a.1.0.now a.1.1.0 a.1.1.1.0) a.1.0.now
     r s.1.1.1.1.0.now s.1.1.1.1.1.0.now s.1.0.now
 rebind-rebinds-c κs a r s e = e
 
 pub live-rebind-rebinds-c : (κs : Lfts 4) (a : ArgsD c-live-rebind.signature κs) (r : ResD c-live-rebind.signature κs)
     (s : AtExit c-live-rebind.ended κs)
     → c-live-rebind-reads.Learnt κs a r s
-    → GivesRebindingC (liveRebind a.0.now (state_of a.1.0.now) a.1.1.0 a.1.1.1.0) a.1.0.now
+    → GivesRebindingC (live_rebind a.0.now (state_of a.1.0.now) a.1.1.0 a.1.1.1.0) a.1.0.now
     r s.1.1.1.1.0.now s.1.1.1.1.1.0.now s.1.0.now
 live-rebind-rebinds-c κs a r s e = e
 
 pub spin-spins-c : (κs : Lfts 7) (a : ArgsD c-spin.signature κs) (r : ResD c-spin.signature κs) (s : AtExit c-spin.ended κs)
     → c-spin-reads.Learnt κs a r s
-    → GivesSpinC (spinFor a.1.1.1.0.now a.0.now a.1.0.now a.1.1.0 a.1.1.1.1.0) a.0.now a.1.1.0
+    → GivesSpinC (spin_for a.1.1.1.0.now a.0.now a.1.0.now a.1.1.0 a.1.1.1.1.0) a.0.now a.1.1.0
     a.1.1.1.1.1.0.now a.1.1.1.1.1.1.0.now r s.1.1.1.1.1.1.1.0.now s.1.1.1.1.1.1.1.1.0.now
     s.0.now s.1.0.now s.1.1.1.1.1.0.now s.1.1.1.1.1.1.0.now
 spin-spins-c κs a r s e = e
@@ -257,7 +257,7 @@ spin-spins-c κs a r s e = e
 pub live-spin-spins-c : (κs : Lfts 7) (a : ArgsD c-live-spin.signature κs)
     (r : ResD c-live-spin.signature κs) (s : AtExit c-live-spin.ended κs)
     → c-live-spin-reads.Learnt κs a r s
-    → GivesSpinC (liveSpinFor a.1.1.1.0.now a.0.now a.1.0.now a.1.1.0 a.1.1.1.1.0) a.0.now a.1.1.0
+    → GivesSpinC (live_spin_for a.1.1.1.0.now a.0.now a.1.0.now a.1.1.0 a.1.1.1.1.0) a.0.now a.1.1.0
     a.1.1.1.1.1.0.now a.1.1.1.1.1.1.0.now r s.1.1.1.1.1.1.1.0.now s.1.1.1.1.1.1.1.1.0.now
     s.0.now s.1.0.now s.1.1.1.1.1.0.now s.1.1.1.1.1.1.0.now
 live-spin-spins-c κs a r s e = e
@@ -265,6 +265,6 @@ live-spin-spins-c κs a r s e = e
 pub count-fillings-tells-c : (κs : Lfts 6) (a : ArgsD c-count-fillings.signature κs) (r : ResD c-count-fillings.signature κs)
     (s : AtExit c-count-fillings.ended κs)
     → c-count-fillings-reads.Learnt κs a r s
-    → GivesFillingsC (countFillings a.0.now a.1.0 a.1.1.0 a.1.1.1.0) r s.1.1.1.1.1.1.1.0.now
+    → GivesFillingsC (count_fillings a.0.now a.1.0 a.1.1.0 a.1.1.1.0) r s.1.1.1.1.1.1.1.0.now
     s.1.1.1.1.1.1.1.1.0.now s.1.1.1.1.0.now s.1.1.1.1.1.0.now s.1.1.1.1.1.1.0.now
 count-fillings-tells-c κs a r s e = e

@@ -6,14 +6,14 @@ use lib.ListN.{take}
 use Rattle.text.specs.frames.Answer.{success}
 use Rattle.translator.specs.Entry.{translate}
 use Rattle.state.specs.declared.State.{State}
-use Rattle.state.specs.State.{freshState}
+use Rattle.state.specs.State.{fresh_state}
 use Rattle.state.specs.Bytes.{state_of}
 use Rattle.runs.specs.Run.{run}
 use Rattle.rebinding.specs.Rebind.{rebind}
 use Rattle.fairleadow.specs.telling.AnswersForC.{GivesBufferC}
 use Rattle.state.proofs.ResultBytes.{fresh-held}
-use Rattle.agreement.specs.Agreement.{CallInput, callOutputs, Agreement}
-use Rattle.agreement.specs.ForC.{CallOutputC, callOutputC, CallsInTurnC, none, more, DeliveredC}
+use Rattle.agreement.specs.Agreement.{CallInput, call_outputs, Agreement}
+use Rattle.agreement.specs.ForC.{CallOutputC, call_output_c, CallsInTurnC, none, more, DeliveredC}
 use Rattle.agreement.proofs.Numbers.{translate-success}
 use Rattle.agreement.proofs.Demand.{theorem}
 use Rattle.agreement.proofs.OneCall.{chain_more}
@@ -27,21 +27,21 @@ returned-0 text before after at n c =
 
 -- after each call the bytes hold the state that the same call on states hands back
 pub calls-chain : (image bytes : List ℕ) (given : List CallInput) (handed : List CallOutputC) → CallsInTurnC image bytes given handed
-    → handed ≡ map callOutputC (callOutputs run rebind image (state_of bytes) given)
-unfolding callOutputs
+    → handed ≡ map call_output_c (call_outputs run rebind image (state_of bytes) given)
+unfolding call_outputs
 calls-chain image bytes [] [] none = refl
 calls-chain image bytes [] (d ∷ handed) x = elim x [ ]
 calls-chain image bytes (g ∷ rest) [] x = elim x [ ]
 calls-chain image bytes (g ∷ rest) (d ∷ handed) (more {after = after} c cs) =
     let like : LikeC image bytes g d after = call-like image bytes c in
     ap₂ (λ (x : CallOutputC) (l : List CallOutputC). x ∷ l) like.handed-is
-    (calls-chain image after rest handed cs ∙ ap (λ (s : State). map callOutputC (callOutputs run rebind image s rest)) like.state-is)
-    ∙ sym (ap (map callOutputC) (chain_more image (state_of bytes) g rest))
+    (calls-chain image after rest handed cs ∙ ap (λ (s : State). map call_output_c (call_outputs run rebind image s rest)) like.state-is)
+    ∙ sym (ap (map call_output_c) (chain_more image (state_of bytes) g rest))
 
 pub delivered-c : DeliveredC
 unfolding DeliveredC Agreement
 delivered-c text before after at n c size low high returned at' made bytes m given handed cs =
     calls-chain (take n after) bytes given handed cs
-    ∙ ap (λ (s : State). map callOutputC (callOutputs run rebind (take n after) s given)) (ap state_of m.bytes ∙ fresh-held size)
-    ∙ ap (λ (b : List ℕ). map callOutputC (callOutputs run rebind (take n b) (freshState size).state given)) c.written
-    ∙ ap (map callOutputC) (theorem text before n (returned-0 text before after at n c) size low high given)
+    ∙ ap (λ (s : State). map call_output_c (call_outputs run rebind (take n after) s given)) (ap state_of m.bytes ∙ fresh-held size)
+    ∙ ap (λ (b : List ℕ). map call_output_c (call_outputs run rebind (take n b) (fresh_state size).state given)) c.written
+    ∙ ap (map call_output_c) (theorem text before n (returned-0 text before after at n c) size low high given)

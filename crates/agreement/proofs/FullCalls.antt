@@ -11,12 +11,12 @@ use Rattle.words.specs.lists.Pick.{pick}
 use Rattle.text.specs.frames.Frame.{size}
 use Rattle.charts.specs.Chart.{Chart, argument, handler}
 use Rattle.walk.specs.Stops.{Stop, stop_at}
-use Rattle.walk.specs.Walk.{drops}
+use Rattle.walk.specs.Walk.{is_dropping}
 use Rattle.walk.proofs.Facts.{Facts}
 use Rattle.walk.proofs.Views.{View, a-plain, a_call, a-function, a-home, a_back, a-begin, a-condition}
-use Rattle.walk.proofs.Trace.{Open, WalkPosition, stopTick, tickAt, Good, view_of}
-use Rattle.walk.proofs.Drops.{isCallStop}
-use Rattle.agreement.specs.Agreement.{isFullCall}
+use Rattle.walk.proofs.Trace.{Open, WalkPosition, stop_tick, tick_at, Good, view_of}
+use Rattle.walk.proofs.Drops.{is_call_stop}
+use Rattle.agreement.specs.Agreement.{is_full_call}
 
 -- a code k of a call, where the handler is first (f), there is none (z), as many are open as places (e)
 made : (k : ℕ) → 16 < k → (k ≡ 96 → ⊥) → (f z e : Bool)
@@ -34,7 +34,7 @@ made k l other f z e = go f z e
 
 module _ (c : Chart) (facts : Facts c) (n : ℕ) where
   full_by : (x : Open) (o : ℕ) (f : Bool) → x.node < size c → {s : Stop} → View c x.node s
-      → isFullCall n (stopTick (drops n c f o) o x s) ≡ (isCallStop s && ((f || eqb (handler c) 0) && eqb o n))
+      → is_full_call n (stop_tick (is_dropping n c f o) o x s) ≡ (is_call_stop s && ((f || eqb (handler c) 0) && eqb o n))
   full_by x o f l (a-plain e a) = refl
   full_by x o f l (a_call e a) =
       let h = facts.calls x.node l e a in
@@ -48,6 +48,6 @@ module _ (c : Chart) (facts : Facts c) (n : ℕ) where
   full_by x o f l (a-condition e) = refl
 
   pub full-exactly : (x : WalkPosition) → Good c x
-      → isFullCall n (tickAt n c x) ≡ (isCallStop (stop_at c x.now.node)
+      → is_full_call n (tick_at n c x) ≡ (is_call_stop (stop_at c x.now.node)
       && ((x.first || eqb (handler c) 0) && eqb (suc (length x.callers)) n))
   full-exactly x g = full_by x.now (suc (length x.callers)) x.first g.top.inside (view_of c facts x g)

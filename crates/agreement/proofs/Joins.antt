@@ -12,41 +12,41 @@ use Rattle.words.specs.lists.Pick.{pick}
 use Rattle.bindings.specs.Binding.{Binding}
 use Rattle.charts.specs.Chart.{Chart}
 use Rattle.walk.specs.Walk.{Signal, signals, Tick}
-use Rattle.walk.proofs.Trace.{WalkPosition, trace, positionReached, trace-length, trace-append}
-use Rattle.agreement.specs.Agreement.{RunInput, RunOutput, CallInput, toRun, CallOutput, byRun, short}
-use Rattle.agreement.specs.Agreement.{joinedWords, bound, expected, expectedOutputs}
+use Rattle.walk.proofs.Trace.{WalkPosition, trace, position_reached, trace-length, trace-append}
+use Rattle.agreement.specs.Agreement.{RunInput, RunOutput, CallInput, to_run, CallOutput, by_run, is_short}
+use Rattle.agreement.specs.Agreement.{joined_words, bound, expected_output, expected_outputs}
 use Rattle.agreement.proofs.Bounds.{bound-le, bound-full, bound-part, stand, stand-full, stand-part, bound-here}
-use Rattle.agreement.proofs.Expected.{toldBy, all-long, shift, halted}
+use Rattle.agreement.proofs.Expected.{output_told_by, all-long, shift, halted}
 
 module _ (c : Chart) (s : Binding) (a : RunInput) (rest : List CallInput) where
-  pub joined-short : short a ≡ true → joinedWords c s (toRun a ∷ rest) ≡ joinedWords c s rest
-  unfolding joinedWords
-  joined-short e = ap (λ (t : Bool). pick t [] (signals s a.words) ++ joinedWords c s rest) e
+  pub joined-short : is_short a ≡ true → joined_words c s (to_run a ∷ rest) ≡ joined_words c s rest
+  unfolding joined_words
+  joined-short e = ap (λ (t : Bool). pick t [] (signals s a.words) ++ joined_words c s rest) e
 
-  pub joined-long : short a ≡ false → joinedWords c s (toRun a ∷ rest) ≡ signals s a.words ++ joinedWords c s rest
-  unfolding joinedWords
-  joined-long e = ap (λ (t : Bool). pick t [] (signals s a.words) ++ joinedWords c s rest) e
+  pub joined-long : is_short a ≡ false → joined_words c s (to_run a ∷ rest) ≡ signals s a.words ++ joined_words c s rest
+  unfolding joined_words
+  joined-long e = ap (λ (t : Bool). pick t [] (signals s a.words) ++ joined_words c s rest) e
 
 -- ---- the first run, which makes the ticks up to the bound b of its own
-abbrev pub firstTold : ℕ → List Tick → RunInput → RunOutput
-firstTold b ts a = toldBy (ltb b (length a.words)) (length (map (λ (t : Tick). t.code) (take b ts))) (take b ts) a
+abbrev pub first_told : ℕ → List Tick → RunInput → RunOutput
+first_told b ts a = output_told_by (ltb b (length a.words)) (length (map (λ (t : Tick). t.code) (take b ts))) (take b ts) a
 
 -- with B the bound of all ticks
 first : (b B : ℕ) (ts us : List Tick) (a : RunInput) → b ≤ length ts → min (length a.words) B ≡ b
     → (ltb B (0 + length a.words) && ltb 0 (length a.words)) ≡ ltb b (length a.words)
-    → firstTold b ts a ≡ expected B (ts ++ us) 0 a
+    → first_told b ts a ≡ expected_output B (ts ++ us) 0 a
 first b B ts us a l e q =
     let m : ℕ = length a.words in
     let d : b ≡ min (0 + m) B - min 0 B = omega arith in
-    ap (λ (k : ℕ). toldBy (ltb b m) k (take b ts) a) (length-map (take b ts) (λ (t : Tick). t.code) ∙ length-take-le b ts l)
-    ∙ ap (λ (t : Bool). toldBy t b (take b ts) a) (sym q)
-    ∙ ap (λ (l₁ : List Tick). toldBy (ltb B (0 + m) && ltb 0 m) b l₁ a) (sym (take-append-le b ts us l))
-    ∙ ap (λ (k : ℕ). toldBy (ltb B (0 + m) && ltb 0 m) k (take k (ts ++ us)) a) d
+    ap (λ (k : ℕ). output_told_by (ltb b m) k (take b ts) a) (length-map (take b ts) (λ (t : Tick). t.code) ∙ length-take-le b ts l)
+    ∙ ap (λ (t : Bool). output_told_by t b (take b ts) a) (sym q)
+    ∙ ap (λ (l₁ : List Tick). output_told_by (ltb B (0 + m) && ltb 0 m) b l₁ a) (sym (take-append-le b ts us l))
+    ∙ ap (λ (k : ℕ). output_told_by (ltb B (0 + m) && ltb 0 m) k (take k (ts ++ us)) a) d
 
 module _ (c : Chart) (n : ℕ) (s : Binding) where
   -- what the trace of the joined words from x on lets expect, with binding s before the first call
   abbrev pub Due : WalkPosition → List CallInput → List CallOutput
-  Due x given = let ts = trace n c (joinedWords c s given) x in expectedOutputs c (bound n ts) ts 0 given
+  Due x given = let ts = trace n c (joined_words c s given) x in expected_outputs c (bound n ts) ts 0 given
 
   module _ (a : RunInput) (rest : List CallInput) (x : WalkPosition) where
     abbrev ws : List Signal
@@ -56,8 +56,8 @@ module _ (c : Chart) (n : ℕ) (s : Binding) where
     mine = trace n c ws x
 
     abbrev Joins : Type 0
-    Joins = byRun (firstTold (bound n mine) mine a) ∷ Due (stand c n ws x) rest
-        ≡ (let ts = trace n c (ws ++ joinedWords c s rest) x in expectedOutputs c (bound n ts) ts 0 (toRun a ∷ rest))
+    Joins = by_run (first_told (bound n mine) mine a) ∷ Due (stand c n ws x) rest
+        ≡ (let ts = trace n c (ws ++ joined_words c s rest) x in expected_outputs c (bound n ts) ts 0 (to_run a ∷ rest))
 
     ws-length : length ws ≡ length a.words
     ws-length = length-map a.words (λ w. record { word = w; binding = s })
@@ -66,42 +66,43 @@ module _ (c : Chart) (n : ℕ) (s : Binding) where
     mine-length = trace-length n c ws x ∙ ws-length
 
     -- the bound is not in this run
-    joins-full : bound n mine ≡ length a.words → short a ≡ false → Joins
+    joins-full : bound n mine ≡ length a.words → is_short a ≡ false → Joins
     joins-full h e =
         let m : ℕ = length a.words in
-        let us : List Tick = trace n c (joinedWords c s rest) (stand c n ws x) in
+        let us : List Tick = trace n c (joined_words c s rest) (stand c n ws x) in
         let B : ℕ = length mine + bound n us in
         let l : length mine ≡ m = mine-length in
         let z : length mine + 0 ≡ 0 + m = omega arith in
-        ap₂ (λ (t : RunOutput) (ts : List CallOutput). byRun t ∷ ts)
+        ap₂ (λ (t : RunOutput) (ts : List CallOutput). by_run t ∷ ts)
         (first (bound n mine) B mine us a (bound-le n mine) (omega arith)
         (ap (λ (t : Bool). t && ltb 0 m) (le-ltb B (0 + m) (omega arith)) ∙ sym (le-ltb (bound n mine) m (omega arith))))
-        (sym (shift mine (bound n us) us c 0 rest) ∙ ap (λ (p : ℕ). expectedOutputs c B (mine ++ us) p rest) z)
+        (sym (shift mine (bound n us) us c 0 rest) ∙ ap (λ (p : ℕ). expected_outputs c B (mine ++ us) p rest) z)
         ∙ sym (all-long c B (mine ++ us) 0 a rest e)
-        ∙ sym (ap (λ (k : ℕ). expectedOutputs c k (mine ++ us) 0 (toRun a ∷ rest)) (bound-full n mine us (h ∙ sym l)))
-        ∙ sym (ap (λ (ts : List Tick). expectedOutputs c (bound n ts) ts 0 (toRun a ∷ rest))
-        (trace-append n c ws (joinedWords c s rest) x
-        ∙ ap (λ (y : WalkPosition). mine ++ trace n c (joinedWords c s rest) y) (sym (stand-full c n ws x (h ∙ sym ws-length)))))
+        ∙ sym (ap (λ (k : ℕ). expected_outputs c k (mine ++ us) 0 (to_run a ∷ rest)) (bound-full n mine us (h ∙ sym l)))
+        ∙ sym (ap (λ (ts : List Tick). expected_outputs c (bound n ts) ts 0 (to_run a ∷ rest))
+        (trace-append n c ws (joined_words c s rest) x
+        ∙ ap (λ (y : WalkPosition). mine ++ trace n c (joined_words c s rest) y) (sym (stand-full c n ws x (h ∙ sym ws-length)))))
 
     -- the bound is in this run, and no later one makes a tick
-    joins_part : bound n mine < length a.words → short a ≡ false → Joins
+    joins_part : bound n mine < length a.words → is_short a ≡ false → Joins
     joins_part h e =
         let m : ℕ = length a.words in
-        let us : List Tick = trace n c (joinedWords c s rest) (positionReached n c ws x) in
-        let vs : List Tick = trace n c (joinedWords c s rest) (stand c n ws x) in
+        let us : List Tick = trace n c (joined_words c s rest) (position_reached n c ws x) in
+        let vs : List Tick = trace n c (joined_words c s rest) (stand c n ws x) in
         let b : ℕ = bound n mine in
         let l : length mine ≡ m = mine-length in
         let k : length ws ≡ m = ws-length in
-        let z : bound n vs ≡ 0 = bound-here c n (joinedWords c s rest) (stand c n ws x) (stand-part c n ws x (omega arith)) in
-        ap₂ (λ (t : RunOutput) (ts : List CallOutput). byRun t ∷ ts)
+        let z : bound n vs ≡ 0 = bound-here c n (joined_words c s rest) (stand c n ws x) (stand-part c n ws x (omega arith)) in
+        ap₂ (λ (t : RunOutput) (ts : List CallOutput). by_run t ∷ ts)
         (first b b mine us a (bound-le n mine) (omega arith)
         (ap₂ (λ (t u : Bool). t && u) (lt-ltb b (0 + m) (omega arith)) (lt-ltb 0 m (omega arith)) ∙ sym (lt-ltb b m h)))
         (halted c (bound n vs) vs 0 b (mine ++ us) (0 + m) rest (omega arith) (omega arith))
         ∙ sym (all-long c b (mine ++ us) 0 a rest e)
-        ∙ sym (ap (λ (k : ℕ). expectedOutputs c k (mine ++ us) 0 (toRun a ∷ rest)) (bound-part n mine us (omega arith)))
-        ∙ sym (ap (λ (ts : List Tick). expectedOutputs c (bound n ts) ts 0 (toRun a ∷ rest)) (trace-append n c ws (joinedWords c s rest) x))
+        ∙ sym (ap (λ (k : ℕ). expected_outputs c k (mine ++ us) 0 (to_run a ∷ rest)) (bound-part n mine us (omega arith)))
+        ∙ sym (ap (λ (ts : List Tick). expected_outputs c (bound n ts) ts 0 (to_run a ∷ rest))
+        (trace-append n c ws (joined_words c s rest) x))
 
-    pub joins : short a ≡ false → Joins
+    pub joins : is_short a ≡ false → Joins
     joins e = go (ltb (bound n mine) (length a.words)) refl
       where
         go : (t : Bool) → ltb (bound n mine) (length a.words) ≡ t → Joins

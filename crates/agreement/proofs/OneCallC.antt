@@ -11,64 +11,65 @@ use Rattle.words.specs.lists.Pick.{pick}
 use Rattle.words.proofs.lists.Tests.{no-pick}
 use Rattle.text.specs.frames.Frame.{contents}
 use Rattle.text.specs.frames.Verdict.{Verdict, fine, refused, next}
-use Rattle.text.specs.frames.Answer.{refusal, success, replyNumber}
+use Rattle.text.specs.frames.Answer.{refusal, success, reply_number}
 use Rattle.text.proofs.frames.Refuses.{RefusesWith, next-refuses, when-refuses}
-use Rattle.image.specs.Decode.{decoded}
-use Rattle.image.specs.Check.{imageVerdict}
+use Rattle.image.specs.Decode.{decoded_image}
+use Rattle.image.specs.Check.{image_verdict}
 use Rattle.state.specs.declared.State.{State}
 use Rattle.state.specs.State.{StateOutcome}
-use Rattle.state.specs.Bytes.{state_of, bytesOf}
-use Rattle.fitness.specs.Fitness.{unfit}
+use Rattle.state.specs.Bytes.{state_of, bytes_of}
+use Rattle.fitness.specs.Fitness.{is_unfit}
 use Rattle.ticks.specs.Tick as machine
-use Rattle.runs.specs.Run.{RunOutcome, runVerdict, run}
-use Rattle.runs.specs.TickOutcome.{TickOutcome, imageTick}
-use Rattle.runs.specs.InPlace.{bytesAfter, ifTicked}
+use Rattle.runs.specs.Run.{RunOutcome, run_verdict, run}
+use Rattle.runs.specs.TickOutcome.{TickOutcome, image_tick}
+use Rattle.runs.specs.InPlace.{bytes_after, if_ticked}
 use Rattle.ticks.proofs.Normal.{Normal, tick-normal}
 use Rattle.runs.proofs.machine.Held.{run-held, tick-held}
 use Rattle.runs.proofs.machine.OneTick as one
 use Rattle.runs.proofs.machine.Live.{PreparedTable, live-run-is, live-tick-is}
-use Rattle.rebinding.specs.Rebind.{rebindVerdict, rebind}
+use Rattle.rebinding.specs.Rebind.{rebind_verdict, rebind}
 use Rattle.rebinding.proofs.Held.{rebinding-held}
-use Rattle.fairleadow.specs.runs_for_c.Calls.{GivesRunC, tickFor, GivesTickC}
-use Rattle.fairleadow.specs.rebinding_for_c.Calls.{rebindFor, GivesRebindingC}
-use Rattle.agreement.specs.Agreement.{RunInput, outputOf, CallInput, toRun, toRebind}
+use Rattle.fairleadow.specs.runs_for_c.Calls.{GivesRunC, tick_for, GivesTickC}
+use Rattle.fairleadow.specs.rebinding_for_c.Calls.{rebind_for, GivesRebindingC}
+use Rattle.agreement.specs.Agreement.{RunInput, output_of, CallInput, to_run, to_rebind}
 use Rattle.agreement.specs.Calls.{one_word}
-use Rattle.agreement.specs.ForC.{RunOutputC, runOutputC, CallOutputC, byRunC, byRebindingC}
-use Rattle.agreement.specs.ForC.{callOutputC, outputOfTickC, TableOfC, prepared}
-use Rattle.agreement.specs.ForC.{CallC, runCall, runCallLive, tickCall, tickCallLive, rebindCall, rebindCallLive}
+use Rattle.agreement.specs.ForC.{RunOutputC, run_output_c, CallOutputC, by_run_c, by_rebinding_c}
+use Rattle.agreement.specs.ForC.{call_output_c, output_of_tick_c, TableOfC, prepared}
+use Rattle.agreement.specs.ForC.{CallC, run_call, run_call_live, tick_call, tick_call_live, rebind_call, rebind_call_live}
 use Rattle.agreement.proofs.Numbers.{Positive, image-positive, prepare-success}
-use Rattle.agreement.proofs.OneCall.{prepared-rebind-is, prepared-holds, runAsked, handedFor, stateAfter}
+use Rattle.agreement.proofs.OneCall.{prepared-rebind-is, prepared-holds, run_asked, handed_output, state_after}
 
 -- ---- a run of one word where the places for its mask and its code held m₀ and k₀: a refused tick leaves them
-abbrev ranOver : ℕ → ℕ → TickOutcome → RunOutcome
-ranOver m₀ k₀ x =
-    record { reply = x.reply; state = x.state; masks = ifTicked x x.mask m₀ ∷ []; codes = ifTicked x x.code k₀ ∷ [] }
+abbrev run_over : ℕ → ℕ → TickOutcome → RunOutcome
+run_over m₀ k₀ x =
+    record { reply = x.reply; state = x.state; masks = if_ticked x x.mask m₀ ∷ []; codes = if_ticked x x.code k₀ ∷ [] }
 
 module _ (s : State) (m₀ k₀ : ℕ) where
   none_made : (n i : ℕ) → (n ≡ 0 → ⊥) → ◌≡◌ {A = RunOutcome} (record { reply = refusal n i 0; state = s; masks = m₀ ∷ []; codes = k₀ ∷ [] })
-      (ranOver m₀ k₀ (record { reply = refusal n i 0; mask = 0; code = 0; state = s }))
+      (run_over m₀ k₀ (record { reply = refusal n i 0; mask = 0; code = 0; state = s }))
   none_made n i h =
       ap₂ (λ (m k : ℕ). record { reply = refusal n i 0; state = s; masks = m ∷ []; codes = k ∷ [] })
       (sym (no-pick (eqb n 0) 0 m₀ (ne_eqb n 0 h))) (sym (no-pick (eqb n 0) 0 k₀ (ne_eqb n 0 h)))
 
   over_by : (v : Verdict) (d : machine.MachineTick) → RefusesWith Positive v → Normal s d
-      → one.runOfWord s m₀ k₀ v d ≡ ranOver m₀ k₀ (one.advanceBy s v d)
+      → one.run_of_word s m₀ k₀ v d ≡ run_over m₀ k₀ (one.advance_by s v d)
   over_by (refused n i) d v_high d-high = none_made n i (λ e. omega arith)
   over_by fine (machine.stopped n) v_high d-high = none_made n 0 (λ e. omega arith)
   over_by fine (machine.finished m k s') v_high d-high = refl
 
-  run-over : (t : List ℕ) (w : ℕ) → run t s (w ∷ []) (m₀ ∷ []) (k₀ ∷ []) ≡ ranOver m₀ k₀ (imageTick t s w)
+  run-over : (t : List ℕ) (w : ℕ) → run t s (w ∷ []) (m₀ ∷ []) (k₀ ∷ []) ≡ run_over m₀ k₀ (image_tick t s w)
   run-over t w =
-      let i = decoded (contents t) in
+      let i = decoded_image (contents t) in
       one.run-one t s w m₀ k₀
-      ∙ over_by (one.triedBefore16 t s) (machine.tick i s w)
-      (next-refuses Positive (imageVerdict t) _ (image-positive t) (when-refuses Positive 15 (unfit i s) (omega arith))) (tick-normal i s w)
-      ∙ sym (ap (ranOver m₀ k₀) (one.advance-by t s w))
+      ∙ over_by (one.verdict_before_16 t s) (machine.tick i s w)
+      (next-refuses Positive (image_verdict t) _ (image-positive t) (when-refuses Positive 15 (is_unfit i s) (omega arith)))
+      (tick-normal i s w)
+      ∙ sym (ap (run_over m₀ k₀) (one.advance-by t s w))
 
 -- ---- one call
 pub record LikeC (image bytes : List ℕ) (g : CallInput) (d : CallOutputC) (after : List ℕ) : Type 0 where
-  pub handed-is : d ≡ callOutputC (handedFor image (state_of bytes) g)
-  pub state-is : state_of after ≡ stateAfter image (state_of bytes) g
+  pub handed-is : d ≡ call_output_c (handed_output image (state_of bytes) g)
+  pub state-is : state_of after ≡ state_after image (state_of bytes) g
 
 -- a call of fairleadow_prepare that returned 0 succeeded with the count that it wrote
 pub table-prepared : (image : List ℕ) {table : List ℕ} → TableOfC image table → PreparedTable image table
@@ -78,27 +79,28 @@ table-prepared image (prepared before after at n c k h) =
 
 module _ (image bytes : List ℕ) where
   -- after a run, a tick and a rebinding the bytes hold the state that it hands back
-  ran-holds : (a : RunInput) → state_of (bytesAfter bytes (runAsked image (state_of bytes) a)) ≡ (runAsked image (state_of bytes) a).state
+  ran-holds : (a : RunInput) → state_of (bytes_after bytes (run_asked image (state_of bytes) a))
+      ≡ (run_asked image (state_of bytes) a).state
   unfolding run
   ran-holds a = let ws : List ℕ = a.words in let ms : List ℕ = a.masks in let ks : List ℕ = a.codes in
-      run-held bytes (decoded (contents image)) ws ms ks (runVerdict image (state_of bytes) ws ms ks)
+      run-held bytes (decoded_image (contents image)) ws ms ks (run_verdict image (state_of bytes) ws ms ks)
 
-  ticked-holds : (w : ℕ) → let x = tickFor image bytes w in state_of (ifTicked x (bytesOf x.state) bytes) ≡ x.state
-  unfolding imageTick run
-  ticked-holds w = tick-held bytes (decoded (contents image)) w (runVerdict image (state_of bytes) (w ∷ []) (0 ∷ []) (0 ∷ []))
+  ticked-holds : (w : ℕ) → let x = tick_for image bytes w in state_of (if_ticked x (bytes_of x.state) bytes) ≡ x.state
+  unfolding image_tick run
+  ticked-holds w = tick-held bytes (decoded_image (contents image)) w (run_verdict image (state_of bytes) (w ∷ []) (0 ∷ []) (0 ∷ []))
 
-  rebound-holds : (h k : ℕ) → let x = rebindFor image bytes h k in
-      state_of (pick (eqb (replyNumber x.reply) 0) (bytesOf x.state) bytes) ≡ x.state
+  rebound-holds : (h k : ℕ) → let x = rebind_for image bytes h k in
+      state_of (pick (eqb (reply_number x.reply) 0) (bytes_of x.state) bytes) ≡ x.state
   unfolding rebind
-  rebound-holds h k = rebinding-held bytes h k (next (imageVerdict image) λ _. rebindVerdict (decoded (contents image)) (state_of bytes) h k)
+  rebound-holds h k = rebinding-held bytes h k (next (image_verdict image) λ _. rebind_verdict (decoded_image (contents image)) (state_of bytes) h k)
 
-  run-like : (a : RunInput) {x : RunOutcome} {t : RunOutputC} {after : List ℕ} → x ≡ runAsked image (state_of bytes) a
-      → GivesRunC x bytes t.number t.index t.count after t.masks t.codes → LikeC image bytes (toRun a) (byRunC t) after
+  run-like : (a : RunInput) {x : RunOutcome} {t : RunOutputC} {after : List ℕ} → x ≡ run_asked image (state_of bytes) a
+      → GivesRunC x bytes t.number t.index t.count after t.masks t.codes → LikeC image bytes (to_run a) (by_run_c t) after
   run-like a {x} {t} {after} e d =
-      let c : GivesRunC (runAsked image (state_of bytes) a) bytes t.number t.index t.count after t.masks t.codes =
+      let c : GivesRunC (run_asked image (state_of bytes) a) bytes t.number t.index t.count after t.masks t.codes =
       subst (λ (y : RunOutcome). GivesRunC y bytes t.number t.index t.count after t.masks t.codes) e d in
       record {
-        handed-is = λ j. byRunC (record {
+        handed-is = λ j. by_run_c (record {
           number = c.told.number_is j;
           index = c.told.index_is j;
           count = c.told.count-is j;
@@ -108,16 +110,16 @@ module _ (image bytes : List ℕ) where
         state-is = ap state_of c.bytes ∙ ran-holds a;
       }
 
-  tick-like : (w : ℕ) {x : TickOutcome} {m₀ k₀ returned at made m k : ℕ} {after : List ℕ} → x ≡ tickFor image bytes w
+  tick-like : (w : ℕ) {x : TickOutcome} {m₀ k₀ returned at made m k : ℕ} {after : List ℕ} → x ≡ tick_for image bytes w
       → GivesTickC x bytes m₀ k₀ returned at made after m k
-      → LikeC image bytes (one_word w m₀ k₀) (outputOfTickC returned at made m k) after
+      → LikeC image bytes (one_word w m₀ k₀) (output_of_tick_c returned at made m k) after
   tick-like w {x} {m₀} {k₀} {returned} {at} {made} {m} {k} {after} e d =
-      let c : GivesTickC (tickFor image bytes w) bytes m₀ k₀ returned at made after m k =
+      let c : GivesTickC (tick_for image bytes w) bytes m₀ k₀ returned at made after m k =
       subst (λ (y : TickOutcome). GivesTickC y bytes m₀ k₀ returned at made after m k) e d in
-      let one-run : RunOutcome = ranOver m₀ k₀ (tickFor image bytes w) in
+      let one-run : RunOutcome = run_over m₀ k₀ (tick_for image bytes w) in
       let same : run image (state_of bytes) (w ∷ []) (m₀ ∷ []) (k₀ ∷ []) ≡ one-run = run-over (state_of bytes) m₀ k₀ image w in
-      let made-is : outputOfTickC returned at made m k ≡ byRunC (runOutputC (outputOf one-run)) =
-      λ j. byRunC (record {
+      let made-is : output_of_tick_c returned at made m k ≡ by_run_c (run_output_c (output_of one-run)) =
+      λ j. by_run_c (record {
         number = c.told.number_is j;
         index = c.told.index_is j;
         count = c.told.count-is j;
@@ -125,24 +127,24 @@ module _ (image bytes : List ℕ) where
         codes = c.code j ∷ [];
       }) in
       record {
-        handed-is = made-is ∙ sym (ap (λ (y : RunOutcome). byRunC (runOutputC (outputOf y))) same);
+        handed-is = made-is ∙ sym (ap (λ (y : RunOutcome). by_run_c (run_output_c (output_of y))) same);
         state-is = ap state_of c.bytes ∙ ticked-holds w ∙ sym (ap (λ (y : RunOutcome). y.state) same);
       }
 
-  rebinding-like : (h k : ℕ) {x : StateOutcome} {returned at made : ℕ} {after : List ℕ} → x ≡ rebindFor image bytes h k
-      → GivesRebindingC x bytes returned at made after → LikeC image bytes (toRebind h k) (byRebindingC returned at made) after
+  rebinding-like : (h k : ℕ) {x : StateOutcome} {returned at made : ℕ} {after : List ℕ} → x ≡ rebind_for image bytes h k
+      → GivesRebindingC x bytes returned at made after → LikeC image bytes (to_rebind h k) (by_rebinding_c returned at made) after
   rebinding-like h k {x} {returned} {at} {made} {after} e d =
-      let c : GivesRebindingC (rebindFor image bytes h k) bytes returned at made after =
+      let c : GivesRebindingC (rebind_for image bytes h k) bytes returned at made after =
       subst (λ (y : StateOutcome). GivesRebindingC y bytes returned at made after) e d in
       record {
-        handed-is = λ j. byRebindingC (c.told.number_is j) (c.told.index_is j) (c.told.count-is j);
+        handed-is = λ j. by_rebinding_c (c.told.number_is j) (c.told.index_is j) (c.told.count-is j);
         state-is = ap state_of c.bytes ∙ rebound-holds h k;
       }
 
   pub call-like : {g : CallInput} {d : CallOutputC} {after : List ℕ} → CallC image bytes g d after → LikeC image bytes g d after
-  call-like (runCall {a = a} c) = run-like a refl c
-  call-like (runCallLive {a = a} t c) = run-like a (live-run-is (table-prepared image t) (state_of bytes) a.words a.masks a.codes) c
-  call-like (tickCall {w = w} c) = tick-like w refl c
-  call-like (tickCallLive {w = w} t c) = tick-like w (live-tick-is (table-prepared image t) (state_of bytes) w) c
-  call-like (rebindCall {h = h} {k = k} c) = rebinding-like h k refl c
-  call-like (rebindCallLive {h = h} {k = k} t c) = rebinding-like h k (prepared-rebind-is (table-prepared image t) (state_of bytes) h k) c
+  call-like (run_call {a = a} c) = run-like a refl c
+  call-like (run_call_live {a = a} t c) = run-like a (live-run-is (table-prepared image t) (state_of bytes) a.words a.masks a.codes) c
+  call-like (tick_call {w = w} c) = tick-like w refl c
+  call-like (tick_call_live {w = w} t c) = tick-like w (live-tick-is (table-prepared image t) (state_of bytes) w) c
+  call-like (rebind_call {h = h} {k = k} c) = rebinding-like h k refl c
+  call-like (rebind_call_live {h = h} {k = k} t c) = rebinding-like h k (prepared-rebind-is (table-prepared image t) (state_of bytes) h k) c

@@ -10,19 +10,19 @@ use Rattle.text.specs.frames.Frame.{size, contents}
 use Rattle.text.specs.frames.Verdict.{fine}
 use Rattle.text.specs.frames.Answer.{success}
 use Rattle.charts.specs.Chart.{Chart}
-use Rattle.charts.specs.Entry.{readVerdict}
+use Rattle.charts.specs.Entry.{read_verdict}
 use Rattle.charts.proofs.Accepted.{SoundChart, accepted}
 use Rattle.walk.proofs.FactsHold.{facts}
 use Rattle.image.specs.Image.{Image, Row, no_row}
-use Rattle.image.specs.Decode.{decoded}
-use Rattle.chart_rows.specs.chart_labels.Labels.{numbered, label}
+use Rattle.image.specs.Decode.{decoded_image}
+use Rattle.chart_rows.specs.chart_labels.Labels.{is_numbered, label}
 use Rattle.chart_rows.specs.Rows.{rows}
 use Rattle.translator.specs.Table.{table}
 use Rattle.translator.specs.Entry.{translate}
 use Rattle.translator.proofs.LabelLaws.{Bearer, bearer, rows_are}
-use Rattle.translator.proofs.RowLaws.{onwardStop, one-row, same_row}
+use Rattle.translator.proofs.RowLaws.{onward_stop, one-row, same_row}
 use Rattle.translator.proofs.Translated.{translated-read, translated-fine, translated-image}
-use Rattle.rows.specs.Rows.{isCandidate, Choice, row, noChoice, bestRow, found, missing, leads}
+use Rattle.rows.specs.Rows.{is_candidate, Choice, row, no_choice, best_row, found, missing, lead_of}
 use Rattle.rows.specs.Choices.{Best}
 use Rattle.rows.proofs.BestRows.{best-is}
 use Rattle.agreement.proofs.TableFactsHold.{best-only}
@@ -32,19 +32,19 @@ use Rattle.agreement.proofs.Images.{translated-decoded}
 pub record Only (l w b : ℕ) (rs : List Row) : Type 0 where
   pub number : ℕ
   pub one : Row
-  pub taken : bestRow l w b 0 rs ≡ row number one
-  pub only : (j : ℕ) → j < length rs → isCandidate l w b (get_or rs j no_row) ≡ true → j ≡ number
+  pub taken : best_row l w b 0 rs ≡ row number one
+  pub only : (j : ℕ) → j < length rs → is_candidate l w b (get_or rs j no_row) ≡ true → j ≡ number
 
 pub only_row : (c : Chart) → SoundChart c → (v w : ℕ) (b : Bool) → v < size c
-    → numbered c v ≡ true → Only (label c v) w (pick b 1 0) (rows c)
-only_row c a v w b l e = go (bestRow (label c v) w (pick b 1 0) 0 (rows c)) refl
+    → is_numbered c v ≡ true → Only (label c v) w (pick b 1 0) (rows c)
+only_row c a v w b l e = go (best_row (label c v) w (pick b 1 0) 0 (rows c)) refl
   where
-    leading : leads (bestRow (label c v) w (pick b 1 0) 0 (rows c)) ≡ found (label c (onwardStop c w b v))
-    leading = best-only (label c v) w (pick b 1 0) 0 (label c (onwardStop c w b v)) (rows c) (one-row c a v w b l e)
+    leading : lead_of (best_row (label c v) w (pick b 1 0) 0 (rows c)) ≡ found (label c (onward_stop c w b v))
+    leading = best-only (label c v) w (pick b 1 0) 0 (label c (onward_stop c w b v)) (rows c) (one-row c a v w b l e)
 
-    go : (x : Choice) → bestRow (label c v) w (pick b 1 0) 0 (rows c) ≡ x → Only (label c v) w (pick b 1 0) (rows c)
-    go noChoice q =
-        absurd (let p : missing ≡ found (label c (onwardStop c w b v)) = sym (ap leads q)
+    go : (x : Choice) → best_row (label c v) w (pick b 1 0) 0 (rows c) ≡ x → Only (label c v) w (pick b 1 0) (rows c)
+    go no_choice q =
+        absurd (let p : missing ≡ found (label c (onward_stop c w b v)) = sym (ap lead_of q)
         ∙ leading in let z : ◌≡◌ {A = ℕ} 0 1 = cc in omega arith)
     go (row k r) q =
         let best : Best (label c v) w (pick b 1 0) (rows c) k r = best-is (label c v) w (pick b 1 0) (rows c) k r q in
@@ -53,20 +53,20 @@ only_row c a v w b l e = go (bestRow (label c v) w (pick b 1 0) 0 (rows c)) refl
           one = r;
           taken = q;
           only = λ j h o. same_row c a v w b l e j k h best.inside o
-              (ap (isCandidate (label c v) w (pick b 1 0)) best.is ∙ best.matches);
+              (ap (is_candidate (label c v) w (pick b 1 0)) best.is ∙ best.matches);
         }
 
 -- ---- the image that the translator wrote
 module _ (text out : List ℕ) (n : ℕ) (done : (translate text out).reply ≡ success n) where
   abbrev pub image : Image
-  image = decoded (contents (take n (translate text out).buffer))
+  image = decoded_image (contents (take n (translate text out).buffer))
 
-  pub read : readVerdict text ≡ fine
+  pub read : read_verdict text ≡ fine
   read = translated-read text (translated-fine text out n done)
 
   pub image-is : image ≡ table (contents text)
   image-is =
-      ap (λ (t : List ℕ). decoded (contents t)) (translated-image text out n done)
+      ap (λ (t : List ℕ). decoded_image (contents t)) (translated-image text out n done)
       ∙ translated-decoded text (translated-fine text out n done) (facts text read)
 
   -- each of its labels from 2 up

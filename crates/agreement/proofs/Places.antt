@@ -18,37 +18,37 @@ below f [] ls = ls
 below f (k ∷ ks) ls = below f ks (f k ∷ ls)
 
 -- 31 places are left for callers and zeros
-abbrev pub zerosOver : List Open → List ℕ
-zerosOver ks = replicate (31 - length ks) 0
+abbrev pub zeros_over : List Open → List ℕ
+zeros_over ks = replicate (31 - length ks) 0
 
 abbrev pub stacked : (Open → ℕ) → Open → List Open → List ℕ
-stacked f x ks = below f ks (f x ∷ zerosOver ks)
+stacked f x ks = below f ks (f x ∷ zeros_over ks)
 
 -- ---- the three cases of f
 abbrev pub labelled : Chart → Open → ℕ
 labelled c x = label c x.node
 
-abbrev pub openNumber : Open → ℕ
-openNumber x = x.number
+abbrev pub open_number : Open → ℕ
+open_number x = x.number
 
-abbrev pub serverOf : Open → ℕ
-serverOf x = x.server
+abbrev pub open_server : Open → ℕ
+open_server x = x.server
 
 -- with n places of which o are in use: binding, result bits, labels, numbers and servers
 abbrev pub holding : ℕ → ℕ → Binding → Results → List ℕ → List ℕ → List ℕ → State
 holding n o s b ls hs ks = record { size = n; depth = o; places = ls; bits = b; serving = s; numbers = hs; servers = ks }
 
-abbrev pub stateOfPosition : Chart → ℕ → Binding → WalkPosition → State
-stateOfPosition c n s x = let here = x.now in let ks = x.callers in
-    holding n (suc (length ks)) s x.results (stacked (labelled c) here ks) (stacked openNumber here ks) (stacked serverOf here ks)
+abbrev pub state_of_position : Chart → ℕ → Binding → WalkPosition → State
+state_of_position c n s x = let here = x.now in let ks = x.callers in
+    holding n (suc (length ks)) s x.results (stacked (labelled c) here ks) (stacked open_number here ks) (stacked open_server here ks)
 
 -- the scheme at the bottom
-abbrev pub bottomOf : Open → List Open → Open
-bottomOf x [] = x
-bottomOf x (k ∷ ks) = bottomOf k ks
+abbrev pub bottom_of : Open → List Open → Open
+bottom_of x [] = x
+bottom_of x (k ∷ ks) = bottom_of k ks
 
 module _ (f : Open → ℕ) where
-  pub get-bottom : (x : Open) (ks : List Open) (ls : List ℕ) → get_or (below f ks (f x ∷ ls)) 0 0 ≡ f (bottomOf x ks)
+  pub get-bottom : (x : Open) (ks : List Open) (ls : List ℕ) → get_or (below f ks (f x ∷ ls)) 0 0 ≡ f (bottom_of x ks)
   unfolding below
   get-bottom x [] ls = refl
   get-bottom x (k ∷ ks) ls = get-bottom k ks (f x ∷ ls)
@@ -79,22 +79,22 @@ module _ (f : Open → ℕ) where
   zeros k h = let e : 31 - k ≡ suc (31 - suc k) = omega arith in ap (λ (m : ℕ). replicate m 0) e
 
   pub set-push : (x : Open) (ks : List Open) (l : ℕ) → length ks < 31
-      → set (stacked f x ks) (suc (length ks)) l ≡ below f (x ∷ ks) (l ∷ zerosOver (x ∷ ks))
+      → set (stacked f x ks) (suc (length ks)) l ≡ below f (x ∷ ks) (l ∷ zeros_over (x ∷ ks))
   unfolding below
   set-push x ks l h =
       ap (λ (zs : List ℕ). set (below f ks (f x ∷ zs)) (suc (length ks)) l) (zeros (length ks) h)
-      ∙ ap (λ (j : ℕ). set (below f ks (f x ∷ 0 ∷ zerosOver (x ∷ ks))) j l) (omega arith)
-      ∙ below_set ks (f x ∷ 0 ∷ zerosOver (x ∷ ks)) 1 l
+      ∙ ap (λ (j : ℕ). set (below f ks (f x ∷ 0 ∷ zeros_over (x ∷ ks))) j l) (omega arith)
+      ∙ below_set ks (f x ∷ 0 ∷ zeros_over (x ∷ ks)) 1 l
 
   pub set-off : (k : Open) (ks : List Open) (l : ℕ) → length ks < 31
-      → set (below f (k ∷ ks) (l ∷ zerosOver (k ∷ ks))) (suc (suc (length ks)) - 1) 0 ≡ stacked f k ks
+      → set (below f (k ∷ ks) (l ∷ zeros_over (k ∷ ks))) (suc (suc (length ks)) - 1) 0 ≡ stacked f k ks
   unfolding below
-  set-off k ks l h = set-top (k ∷ ks) l (zerosOver (k ∷ ks)) 0 ∙ ap (λ (zs : List ℕ). below f ks (f k ∷ zs)) (sym (zeros (length ks) h))
+  set-off k ks l h = set-top (k ∷ ks) l (zeros_over (k ∷ ks)) 0 ∙ ap (λ (zs : List ℕ). below f ks (f k ∷ zs)) (sym (zeros (length ks) h))
 
   pub set-drop : (k : Open) (ks : List Open) (l m : ℕ) → length ks < 31
-      → set (set (below f (k ∷ ks) (l ∷ zerosOver (k ∷ ks))) (suc (suc (length ks)) - 1) 0) (suc (suc (length ks)) - 2) m
-      ≡ below f ks (m ∷ zerosOver ks)
+      → set (set (below f (k ∷ ks) (l ∷ zeros_over (k ∷ ks))) (suc (suc (length ks)) - 1) 0) (suc (suc (length ks)) - 2) m
+      ≡ below f ks (m ∷ zeros_over ks)
   set-drop k ks l m h =
       ap (λ (ps : List ℕ). set ps (suc (suc (length ks)) - 2) m) (set-off k ks l h)
       ∙ ap (λ (j : ℕ). set (stacked f k ks) j m) (omega arith)
-      ∙ below_set ks (f k ∷ zerosOver ks) 0 m
+      ∙ below_set ks (f k ∷ zeros_over ks) 0 m

@@ -5,28 +5,29 @@ use mathlib.Core.Path.{◌≡◌, refl, sym, ap, ◌∙◌}
 use mathlib.Core.List.{List, [], ◌∷◌, ◌++◌, map, map-append}
 use lib.ListN.{length, take}
 use Rattle.words.specs.lists.Pick.{pick}
-use Rattle.words.specs.lists.Sequences.{concatMap}
-use Rattle.bindings.specs.Binding.{Binding, ownBinding}
+use Rattle.words.specs.lists.Sequences.{concat_map}
+use Rattle.bindings.specs.Binding.{Binding, own_binding}
 use Rattle.text.specs.frames.Frame.{contents}
 use Rattle.text.specs.frames.Verdict.{fine}
 use Rattle.text.specs.frames.Answer.{reply, success, BufferOutcome, GivesBuffer}
 use Rattle.text.specs.declared.frames.Answer.{Answer}
 use Rattle.charts.specs.Chart.{Chart}
-use Rattle.charts.specs.Entry.{readVerdict}
+use Rattle.charts.specs.Entry.{read_verdict}
 use Rattle.walk.specs.Walk.{Signal, signals, Tick, walk}
 use Rattle.walk.proofs.OwnBinding.{own-binding}
 use Rattle.translator.specs.Entry.{translate}
 use Rattle.translator.proofs.Translated.{translated-read, translated-fine}
 use Rattle.state.specs.declared.State.{State}
 use Rattle.state.specs.declared.StateReport.{StateReport}
-use Rattle.state.specs.State.{freshState, GivesState}
+use Rattle.state.specs.State.{fresh_state, GivesState}
 use Rattle.runs.specs.Run.{RunOutcome, run, GivesRun}
 use Rattle.rebinding.specs.Rebind.{rebind}
 use Rattle.fairleadow.specs.telling.AnswersForC.{GivesBufferC}
-use Rattle.fairleadow.specs.runs_for_c.Calls.{GivesStateC, runFor, GivesRunC}
-use Rattle.agreement.specs.Agreement.{Translator, Maker, Runner, Rebinder, RunInput, RunOutput, outputOf, toRun}
-use Rattle.agreement.specs.Agreement.{CallOutput, byRun, byRebinding, callOutputs, short}
-use Rattle.agreement.specs.Agreement.{joinedWords, bound, expected, refusedShort, expectedOutputs, walkOutputs, Agreement, Translates}
+use Rattle.fairleadow.specs.runs_for_c.Calls.{GivesStateC, run_for, GivesRunC}
+use Rattle.agreement.specs.Agreement.{Translator, Maker, Runner, Rebinder, RunInput, RunOutput, output_of, to_run}
+use Rattle.agreement.specs.Agreement.{CallOutput, by_run, by_rebinding, call_outputs, is_short}
+use Rattle.agreement.specs.Agreement.{joined_words, bound, expected_output, output_refused_short, expected_outputs, walk_outputs, Agreement}
+use Rattle.agreement.specs.Agreement.{Translates}
 use Rattle.agreement.specs.Unswapped as unswapped
 use Rattle.agreement.proofs.Expected.{all_short, all-long}
 use Rattle.agreement.specs.Calls as calls
@@ -37,65 +38,65 @@ use Rattle.agreement.proofs.ForC.{returned-0, delivered-c}
 
 -- ---- each part of the statement
 pub chain-alone : (run : Runner) (rebind : Rebinder) (image : List ℕ) (s : State) (asked : List RunInput)
-    → callOutputs run rebind image s (map toRun asked) ≡ map byRun (unswapped.runOutputs run image s asked)
-unfolding callOutputs unswapped.runOutputs
+    → call_outputs run rebind image s (map to_run asked) ≡ map by_run (unswapped.run_outputs run image s asked)
+unfolding call_outputs unswapped.run_outputs
 chain-alone run rebind image s [] = refl
 chain-alone run rebind image s (a ∷ rest) =
     let r : RunOutcome = run image s a.words a.masks a.codes in
-    ap (λ (l : List CallOutput). byRun (outputOf r) ∷ l) (chain-alone run rebind image r.state rest)
+    ap (λ (l : List CallOutput). by_run (output_of r) ∷ l) (chain-alone run rebind image r.state rest)
 
 pub joined-alone : (c : Chart) (s : Binding) (asked : List RunInput)
-    → joinedWords c s (map toRun asked) ≡ signals s (unswapped.joinedRunWords asked)
-unfolding joinedWords concatMap
+    → joined_words c s (map to_run asked) ≡ signals s (unswapped.joined_run_words asked)
+unfolding joined_words concat_map
 joined-alone c s [] = refl
-joined-alone c s (a ∷ rest) = go (short a) (joined-alone c s rest)
+joined-alone c s (a ∷ rest) = go (is_short a) (joined-alone c s rest)
   where
-    go : (t : Bool) → joinedWords c s (map toRun rest) ≡ signals s (unswapped.joinedRunWords rest)
-        → pick t [] (signals s a.words) ++ joinedWords c s (map toRun rest) ≡ signals s
-        (pick t [] a.words ++ unswapped.joinedRunWords rest)
+    go : (t : Bool) → joined_words c s (map to_run rest) ≡ signals s (unswapped.joined_run_words rest)
+        → pick t [] (signals s a.words) ++ joined_words c s (map to_run rest) ≡ signals s
+        (pick t [] a.words ++ unswapped.joined_run_words rest)
     go true ih = ih
-    go false ih = ap (λ (l : List Signal). signals s a.words ++ l) ih ∙ sym (map-append _ a.words (unswapped.joinedRunWords rest))
+    go false ih = ap (λ (l : List Signal). signals s a.words ++ l) ih ∙ sym (map-append _ a.words (unswapped.joined_run_words rest))
 
 pub expected-alone : (c : Chart) (b : ℕ) (ts : List Tick) (p : ℕ) (asked : List RunInput)
-    → expectedOutputs c b ts p (map toRun asked) ≡ map byRun (unswapped.expectedRuns b ts p asked)
-unfolding expectedOutputs unswapped.expectedRuns
+    → expected_outputs c b ts p (map to_run asked) ≡ map by_run (unswapped.expected_runs b ts p asked)
+unfolding expected_outputs unswapped.expected_runs
 expected-alone c b ts p [] = refl
-expected-alone c b ts p (a ∷ rest) = go (expected-alone c b ts p rest) (expected-alone c b ts (p + length a.words) rest) (short a) refl
+expected-alone c b ts p (a ∷ rest) = go (expected-alone c b ts p rest) (expected-alone c b ts (p + length a.words) rest) (is_short a) refl
   where
-    go : expectedOutputs c b ts p (map toRun rest) ≡ map byRun (unswapped.expectedRuns b ts p rest)
-        → expectedOutputs c b ts (p + length a.words) (map toRun rest) ≡ map byRun
-        (unswapped.expectedRuns b ts (p + length a.words) rest)
-        → (t : Bool) → short a ≡ t → expectedOutputs c b ts p (toRun a ∷ map toRun rest) ≡ map
-        byRun (unswapped.expectedRuns b ts p (a ∷ rest))
+    go : expected_outputs c b ts p (map to_run rest) ≡ map by_run (unswapped.expected_runs b ts p rest)
+        → expected_outputs c b ts (p + length a.words) (map to_run rest) ≡ map by_run
+        (unswapped.expected_runs b ts (p + length a.words) rest)
+        → (t : Bool) → is_short a ≡ t → expected_outputs c b ts p (to_run a ∷ map to_run rest) ≡ map
+        by_run (unswapped.expected_runs b ts p (a ∷ rest))
     go here on true e =
-        all_short c b ts p a (map toRun rest) e ∙ ap (λ (l : List CallOutput). byRun (refusedShort a) ∷ l) here
-        ∙ rw (e, unswapped.expectedRuns)
+        all_short c b ts p a (map to_run rest) e ∙ ap (λ (l : List CallOutput). by_run (output_refused_short a) ∷ l) here
+        ∙ rw (e, unswapped.expected_runs)
     go here on false e =
-        all-long c b ts p a (map toRun rest) e ∙ ap (λ (l : List CallOutput). byRun (expected b ts p a) ∷ l) on
-        ∙ rw (e, unswapped.expectedRuns)
+        all-long c b ts p a (map to_run rest) e ∙ ap (λ (l : List CallOutput). by_run (expected_output b ts p a) ∷ l) on
+        ∙ rw (e, unswapped.expected_runs)
 
 -- of every accepted chart
-pub walked-alone : (text : List ℕ) → readVerdict text ≡ fine → (size : ℕ) (asked : List RunInput)
-    → walkOutputs size (contents text) (map toRun asked) ≡ map byRun (unswapped.walkRuns size (contents text) asked)
+pub walked-alone : (text : List ℕ) → read_verdict text ≡ fine → (size : ℕ) (asked : List RunInput)
+    → walk_outputs size (contents text) (map to_run asked) ≡ map by_run (unswapped.walk_runs size (contents text) asked)
 walked-alone text read size asked =
     let c : Chart = contents text in
-    ap (λ (ts : List Tick). expectedOutputs c (bound size ts) ts 0 (map toRun asked))
-    (ap (walk size c) (joined-alone c ownBinding asked) ∙ own-binding text read size (unswapped.joinedRunWords asked))
+    ap (λ (ts : List Tick). expected_outputs c (bound size ts) ts 0 (map to_run asked))
+    (ap (walk size c) (joined-alone c own_binding asked) ∙ own-binding text read size (unswapped.joined_run_words asked))
     ∙ expected-alone c _ _ 0 asked
 
 -- ---- the statement itself
 -- what runs handed back, and lists of it that are equal as what calls hand back
-abbrev ofRun : CallOutput → List RunOutput
-ofRun (byRun t) = t ∷ []
-ofRun (byRebinding r) = []
+abbrev outputs_of_run : CallOutput → List RunOutput
+outputs_of_run (by_run t) = t ∷ []
+outputs_of_run (by_rebinding r) = []
 
-told_back : (ts : List RunOutput) → concatMap ofRun (map byRun ts) ≡ ts
-unfolding concatMap
+told_back : (ts : List RunOutput) → concat_map outputs_of_run (map by_run ts) ≡ ts
+unfolding concat_map
 told_back [] = refl
 told_back (t ∷ ts) = ap (λ (l : List RunOutput). t ∷ l) (told_back ts)
 
-pub same-told : (ts us : List RunOutput) → map byRun ts ≡ map byRun us → ts ≡ us
-same-told ts us e = sym (told_back ts) ∙ ap (concatMap ofRun) e ∙ told_back us
+pub same-told : (ts us : List RunOutput) → map by_run ts ≡ map by_run us → ts ≡ us
+same-told ts us e = sym (told_back ts) ∙ ap (concat_map outputs_of_run) e ∙ told_back us
 
 pub agreement-alone : (translator : Translator) (fresh : Maker) (run : Runner) (rebind : Rebinder) → Translates translator
     → Agreement translator fresh run rebind → unswapped.RunAgreement translator fresh run
@@ -104,23 +105,23 @@ agreement-alone translator fresh run rebind translates agrees text out n done si
     let image : List ℕ = take n (translator text out).buffer in
     let s : State = (fresh size).state in
     let made : (translate text out).reply ≡ success n = sym (ap (λ (x : BufferOutcome). x.reply) (translates text out)) ∙ done in
-    same-told (unswapped.runOutputs run image s asked) (unswapped.walkRuns size (contents text) asked)
-    (sym (chain-alone run rebind image s asked) ∙ agrees text out n done size some most (map toRun asked)
+    same-told (unswapped.run_outputs run image s asked) (unswapped.walk_runs size (contents text) asked)
+    (sym (chain-alone run rebind image s asked) ∙ agrees text out n done size some most (map to_run asked)
     ∙ walked-alone text (translated-read text (translated-fine text out n made)) size asked)
 
-pub runs-alone : unswapped.RunAgreement translate freshState run
-runs-alone = agreement-alone translate freshState run rebind (λ text out. refl) theorem
+pub runs-alone : unswapped.RunAgreement translate fresh_state run
+runs-alone = agreement-alone translate fresh_state run rebind (λ text out. refl) theorem
 
 -- ---- over the functions
 -- any mixture of calls that run and tick, on the image's text or on a table of it
 pub delivered-alone :
     (text before after : List ℕ) (answer : Answer) → GivesBuffer (translate text before) answer after → (n : ℕ) → reply answer ≡ success n
-    → (size : ℕ) → 1 ≤ size → size ≤ 32 → (made : StateReport) → GivesState (freshState size) made
-    → (asked : List RunInput) (handed : List CallOutput) → calls.CallsInTurn (take n after) made.state (map toRun asked) handed
-    → handed ≡ map byRun (unswapped.walkRuns size (contents text) asked)
+    → (size : ℕ) → 1 ≤ size → size ≤ 32 → (made : StateReport) → GivesState (fresh_state size) made
+    → (asked : List RunInput) (handed : List CallOutput) → calls.CallsInTurn (take n after) made.state (map to_run asked) handed
+    → handed ≡ map by_run (unswapped.walk_runs size (contents text) asked)
 unfolding calls.Delivered
 delivered-alone text before after answer l n e size low high made m asked handed cs =
-    delivered text before after answer l n e size low high made m (map toRun asked) handed cs
+    delivered text before after answer l n e size low high made m (map to_run asked) handed cs
     ∙ walked-alone text (translated-read text (translated-fine text before n (sym l.answered ∙ e))) size asked
 
 -- calls of run in a row, each given the state that the one before returned
@@ -132,64 +133,65 @@ pub data RunCalls (image : List ℕ) : State → List RunInput → List RunOutpu
 
 -- are among the lists of calls: no call of prepare is asked for
 pub runs-are-calls : {image : List ℕ} {s : State} {asked : List RunInput} {tolds : List RunOutput} → RunCalls image s asked tolds
-    → calls.CallsInTurn image s (map toRun asked) (map byRun tolds)
+    → calls.CallsInTurn image s (map to_run asked) (map by_run tolds)
 runs-are-calls none = calls.none
-runs-are-calls (more ran masks codes r rs) = calls.more (calls.runCall r) (runs-are-calls rs)
+runs-are-calls (more ran masks codes r rs) = calls.more (calls.run_call r) (runs-are-calls rs)
 
 pub runs-delivered :
     (text before after : List ℕ) (answer : Answer) → GivesBuffer (translate text before) answer after → (n : ℕ) → reply answer ≡ success n
-    → (size : ℕ) → 1 ≤ size → size ≤ 32 → (made : StateReport) → GivesState (freshState size) made
+    → (size : ℕ) → 1 ≤ size → size ≤ 32 → (made : StateReport) → GivesState (fresh_state size) made
     → (asked : List RunInput) (tolds : List RunOutput) → RunCalls (take n after) made.state asked tolds
-    → tolds ≡ unswapped.walkRuns size (contents text) asked
+    → tolds ≡ unswapped.walk_runs size (contents text) asked
 runs-delivered text before after answer l n e size low high made m asked tolds rs =
-    same-told tolds (unswapped.walkRuns size (contents text) asked)
-    (delivered-alone text before after answer l n e size low high made m asked (map byRun tolds) (runs-are-calls rs))
+    same-told tolds (unswapped.walk_runs size (contents text) asked)
+    (delivered-alone text before after answer l n e size low high made m asked (map by_run tolds) (runs-are-calls rs))
 
 -- ---- the same for C
-handed-told : (ts : List RunOutput) → map c.callOutputC (map byRun ts) ≡ map c.byRunC (map c.runOutputC ts)
+handed-told : (ts : List RunOutput) → map c.call_output_c (map by_run ts) ≡ map c.by_run_c (map c.run_output_c ts)
 handed-told [] = refl
-handed-told (t ∷ ts) = ap (λ (l : List c.CallOutputC). c.byRunC (c.runOutputC t) ∷ l) (handed-told ts)
+handed-told (t ∷ ts) = ap (λ (l : List c.CallOutputC). c.by_run_c (c.run_output_c t) ∷ l) (handed-told ts)
 
 pub delivered-alone-c :
     (text before after : List ℕ) (at n : ℕ) → GivesBufferC (translate text before) 0 at n after
-    → (size : ℕ) → 1 ≤ size → size ≤ 32 → (returned at made : ℕ) (bytes : List ℕ) → GivesStateC (freshState size) returned at made bytes
-    → (asked : List RunInput) (handed : List c.CallOutputC) → c.CallsInTurnC (take n after) bytes (map toRun asked) handed
-    → handed ≡ map c.byRunC (map c.runOutputC (unswapped.walkRuns size (contents text) asked))
+    → (size : ℕ) → 1 ≤ size → size ≤ 32 → (returned at made : ℕ) (bytes : List ℕ) → GivesStateC (fresh_state size) returned at made bytes
+    → (asked : List RunInput) (handed : List c.CallOutputC) → c.CallsInTurnC (take n after) bytes (map to_run asked) handed
+    → handed ≡ map c.by_run_c (map c.run_output_c (unswapped.walk_runs size (contents text) asked))
 unfolding c.DeliveredC
 delivered-alone-c text before after at n l size low high returned at' made bytes m asked handed cs =
-    delivered-c text before after at n l size low high returned at' made bytes m (map toRun asked) handed cs
-    ∙ ap (map c.callOutputC)
+    delivered-c text before after at n l size low high returned at' made bytes m (map to_run asked) handed cs
+    ∙ ap (map c.call_output_c)
     (walked-alone text (translated-read text (translated-fine text before n (returned-0 text before after at n l))) size asked)
-    ∙ handed-told (unswapped.walkRuns size (contents text) asked)
+    ∙ handed-told (unswapped.walk_runs size (contents text) asked)
 
 pub data RunCallsC (image : List ℕ) : List ℕ → List RunInput → List c.RunOutputC → Type 0 where
   none : {bytes : List ℕ} → RunCallsC image bytes [] []
   more : {bytes : List ℕ} {a : RunInput} {rest : List RunInput} {t : c.RunOutputC} {tolds : List c.RunOutputC} (after : List ℕ)
-      → GivesRunC (runFor image bytes a.words a.masks a.codes) bytes t.number t.index t.count after t.masks t.codes
+      → GivesRunC (run_for image bytes a.words a.masks a.codes) bytes t.number t.index t.count after t.masks t.codes
       → RunCallsC image after rest tolds
       → RunCallsC image bytes (a ∷ rest) (t ∷ tolds)
 
 pub runs-are-calls-c : {image bytes : List ℕ} {asked : List RunInput} {tolds : List c.RunOutputC} → RunCallsC image bytes asked tolds
-    → c.CallsInTurnC image bytes (map toRun asked) (map c.byRunC tolds)
+    → c.CallsInTurnC image bytes (map to_run asked) (map c.by_run_c tolds)
 runs-are-calls-c none = c.none
-runs-are-calls-c (more after r rs) = c.more (c.runCall r) (runs-are-calls-c rs)
+runs-are-calls-c (more after r rs) = c.more (c.run_call r) (runs-are-calls-c rs)
 
-abbrev ofRunC : c.CallOutputC → List c.RunOutputC
-ofRunC (c.byRunC t) = t ∷ []
-ofRunC (c.byRebindingC number index count) = []
+abbrev outputs_of_run_c : c.CallOutputC → List c.RunOutputC
+outputs_of_run_c (c.by_run_c t) = t ∷ []
+outputs_of_run_c (c.by_rebinding_c number index count) = []
 
-told-back-c : (ts : List c.RunOutputC) → concatMap ofRunC (map c.byRunC ts) ≡ ts
-unfolding concatMap
+told-back-c : (ts : List c.RunOutputC) → concat_map outputs_of_run_c (map c.by_run_c ts) ≡ ts
+unfolding concat_map
 told-back-c [] = refl
 told-back-c (t ∷ ts) = ap (λ (l : List c.RunOutputC). t ∷ l) (told-back-c ts)
 
 pub runs-delivered-c :
     (text before after : List ℕ) (at n : ℕ) → GivesBufferC (translate text before) 0 at n after
-    → (size : ℕ) → 1 ≤ size → size ≤ 32 → (returned at made : ℕ) (bytes : List ℕ) → GivesStateC (freshState size) returned at made bytes
+    → (size : ℕ) → 1 ≤ size → size ≤ 32 → (returned at made : ℕ) (bytes : List ℕ) → GivesStateC (fresh_state size) returned at made bytes
     → (asked : List RunInput) (tolds : List c.RunOutputC) → RunCallsC (take n after) bytes asked tolds
-    → tolds ≡ map c.runOutputC (unswapped.walkRuns size (contents text) asked)
+    → tolds ≡ map c.run_output_c (unswapped.walk_runs size (contents text) asked)
 runs-delivered-c text before after at n l size low high returned at' made bytes m asked tolds rs =
     sym (told-back-c tolds)
-    ∙ ap (concatMap ofRunC) (delivered-alone-c text before after at n l size low high returned at' made bytes m asked (map c.byRunC tolds)
+    ∙ ap (concat_map outputs_of_run_c) (delivered-alone-c text before after at n l size low high returned at' made bytes m asked
+    (map c.by_run_c tolds)
     (runs-are-calls-c rs))
-    ∙ told-back-c (map c.runOutputC (unswapped.walkRuns size (contents text) asked))
+    ∙ told-back-c (map c.run_output_c (unswapped.walk_runs size (contents text) asked))

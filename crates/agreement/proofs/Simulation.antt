@@ -11,45 +11,46 @@ use borrow.Author.Tests.{eqb-true, eqb-false, eq-eqb, ne_eqb, le-leb, lt-leb, le
 use Rattle.words.specs.lists.Pick.{pick}
 use Rattle.words.proofs.lists.Tests.{and_no, and_r, and-true, or_true_r, or-none, yes-pick, no-pick}
 use Rattle.text.specs.frames.Frame.{size}
-use Rattle.results.specs.Results.{Results, result_of, withResult, cleared}
-use Rattle.bindings.specs.Binding.{Binding, served}
+use Rattle.results.specs.Results.{Results, result_of, with_result, cleared_results}
+use Rattle.bindings.specs.Binding.{Binding, server_of}
 use Rattle.charts.specs.Chart.{Chart, kind, scheme, argument, next0, mask, handler, schemes, end}
-use Rattle.walk.specs.Stops.{start, byArc, by_word, Stop}
-use Rattle.walk.specs.Walk.{Tick, drops, bottom}
+use Rattle.walk.specs.Stops.{start, by_arc, by_word, Stop}
+use Rattle.walk.specs.Walk.{Tick, is_dropping, bottom}
 use Rattle.walk.proofs.Facts.{StopOf, Facts}
 use Rattle.walk.proofs.Views.{View, a-plain, a_call, a-function, a-home, a_back, a-begin, a-condition, stop-call, stop-function}
-use Rattle.walk.proofs.Trace.{Open, moved_to, WalkPosition, at, tickOf, stopTick, resumedBy, resumed}
-use Rattle.walk.proofs.Trace.{positionReturned, positionCalled, movedBy, tickAt, move}
+use Rattle.walk.proofs.Trace.{Open, moved_to, WalkPosition, at, tick_of, stop_tick, node_resumed, resumed}
+use Rattle.walk.proofs.Trace.{position_returned, position_called, position_moved, tick_at, move}
 use Rattle.walk.proofs.Trace.{Serves, Caller, Under, Good, drop-handler, view_of}
-use Rattle.image.specs.Layout.{tickKind}
+use Rattle.image.specs.Layout.{tick_kind}
 use Rattle.image.specs.Image.{Image, Label}
-use Rattle.chart_rows.specs.chart_labels.Labels.{numbered, label}
+use Rattle.chart_rows.specs.chart_labels.Labels.{is_numbered, label}
 use Rattle.chart_rows.proofs.chart_labels.LabelKinds.{label-owner}
 use Rattle.chart_rows.specs.Rows.{rows}
 use Rattle.translator.specs.Table.{table}
 use Rattle.state.specs.declared.State.{State}
-use Rattle.state.specs.State.{bottomAlone, label_at, placeAt, number_at}
+use Rattle.state.specs.State.{bottom_alone, label_at, place_at, number_at}
 use Rattle.state.specs.Changes.{with_bits}
-use Rattle.fitness.specs.Fitness.{ofHandler}
-use Rattle.ticks.specs.Tick.{rowLeads, MachineTick, finished, stopped, moved, dropping, keepsFull, pushed, popped, tickBy, tick}
-use Rattle.rows.specs.Rows.{bestRow, Found, found, leads}
-use Rattle.agreement.specs.Agreement.{isFullCall}
+use Rattle.fitness.specs.Fitness.{is_of_handler}
+use Rattle.ticks.specs.Tick.{row_leads, MachineTick, finished, stopped, moved_tick, popped_state, is_full_stack_kept, pushed_tick}
+use Rattle.ticks.specs.Tick.{popped_tick, tick_by, tick}
+use Rattle.rows.specs.Rows.{best_row, Found, found, lead_of}
+use Rattle.agreement.specs.Agreement.{is_full_call}
 use Rattle.agreement.proofs.TableFacts.{TableFacts}
-use Rattle.agreement.proofs.StopLabels.{label-home, is-numbered, heldBy, held}
-use Rattle.agreement.proofs.Places.{below, zerosOver, stacked, labelled, openNumber, serverOf, holding, stateOfPosition, bottomOf}
+use Rattle.agreement.proofs.StopLabels.{label-home, is-numbered, label_held_by, held}
+use Rattle.agreement.proofs.Places.{below, zeros_over, stacked, labelled, open_number, open_server, holding, state_of_position, bottom_of}
 use Rattle.agreement.proofs.Places.{get-bottom, get-top, get-under, set-top, set-push, set-off, set-drop}
 
 -- what the machine answers for a tick of the walk that leads to state s
 abbrev pub answer : ℕ → Tick → State → MachineTick
-answer n t s = pick (isFullCall n t) (stopped 17) (finished t.mask t.code s)
+answer n t s = pick (is_full_call n t) (stopped 17) (finished t.mask t.code s)
 
 -- the tick of a label x that is known, in a scheme called by number g
-tick-at : (i : Image) (s : State) (w l g : ℕ) (x : Label) → placeAt s (s.depth - 1) ≡ l → number_at s (s.depth - 1) ≡ g → label_at i l ≡ x
-    → tick i s w ≡ tickBy i s w l x (withResult x.result g s.bits) (tickKind x.kind)
+tick-at : (i : Image) (s : State) (w l g : ℕ) (x : Label) → place_at s (s.depth - 1) ≡ l → number_at s (s.depth - 1) ≡ g → label_at i l ≡ x
+    → tick i s w ≡ tick_by i s w l x (with_result x.result g s.bits) (tick_kind x.kind)
 unfolding tick
 tick-at i s w l g x e h f =
-    ap₂ (λ (k j : ℕ). let y = label_at i k in tickBy i s w k y (withResult y.result j s.bits) (tickKind y.kind)) e h
-    ∙ ap (λ (y : Label). tickBy i s w l y (withResult y.result g s.bits) (tickKind y.kind)) f
+    ap₂ (λ (k j : ℕ). let y = label_at i k in tick_by i s w k y (with_result y.result j s.bits) (tick_kind y.kind)) e h
+    ∙ ap (λ (y : Label). tick_by i s w l y (with_result y.result g s.bits) (tick_kind y.kind)) f
 
 -- the kind of a node that calls, which is no End
 abbrev Calling : ℕ → Type 0
@@ -61,45 +62,46 @@ no_end k (inr e) q = omega arith
 
 module _ (c : Chart) (n : ℕ) (n≤ : n ≤ 32) (serving : Binding) where
   abbrev state : Open → List Open → Results → Bool → State
-  state x ks b f = stateOfPosition c n serving (at x ks b f)
+  state x ks b f = state_of_position c n serving (at x ks b f)
 
   -- ---- what each kind of tick makes of the state of a position
   to-top : (m code u : ℕ) (x : Open) (ks : List Open) (b d : Results) (f : Bool) (r : Found) → r ≡ found (label c u)
-      → let s = state x ks b f in moved m code (with_bits s d) (s.depth - 1) r ≡ finished m code (state (moved_to x u) ks d f)
+      → let s = state x ks b f in moved_tick m code (with_bits s d) (s.depth - 1) r ≡ finished m code (state (moved_to x u) ks d f)
   to-top m code u x ks b d f r e =
       let s = state x ks b f in
-      ap (moved m code (with_bits s d) (s.depth - 1)) e
-      ∙ ap (λ (ls : List ℕ). finished m code (holding n (suc (length ks)) serving d ls (stacked openNumber x ks) (stacked serverOf x ks)))
-      (set-top (labelled c) ks (labelled c x) (zerosOver ks) (label c u))
+      ap (moved_tick m code (with_bits s d) (s.depth - 1)) e
+      ∙ ap (λ (ls : List ℕ). finished m code (holding n (suc (length ks)) serving d ls (stacked open_number x ks)
+      (stacked open_server x ks)))
+      (set-top (labelled c) ks (labelled c x) (zeros_over ks) (label c u))
 
   to-under : (m code u : ℕ) (x k : Open) (ks : List Open) (b d : Results) (f : Bool) (r : Found) → length ks < 31 → r ≡ found (label c u)
-      → let s = state x (k ∷ ks) b f in moved m code (dropping s d) (s.depth - 2) r ≡ finished m code (state (moved_to k u) ks d f)
+      → let s = state x (k ∷ ks) b f in moved_tick m code (popped_state s d) (s.depth - 2) r ≡ finished m code (state (moved_to k u) ks d f)
   to-under m code u x k ks b d f r l e =
       let s = state x (k ∷ ks) b f in
-      let t = dropping s d in
-      let ls : List ℕ = below (labelled c) ks (label c u ∷ zerosOver ks) in
+      let t = popped_state s d in
+      let ls : List ℕ = below (labelled c) ks (label c u ∷ zeros_over ks) in
       let q : suc (suc (length ks)) - 1 ≡ suc (length ks) = omega arith in
-      ap (moved m code t (s.depth - 2)) e
+      ap (moved_tick m code t (s.depth - 2)) e
       ∙ ap (λ (ps : List ℕ). finished m code (holding n t.depth serving d ps t.numbers t.servers))
       (set-drop (labelled c) k ks (labelled c x) (label c u) l)
       ∙ ap₂ (λ (hs gs : List ℕ). finished m code (holding n t.depth serving d ls hs gs))
-      (set-off openNumber k ks x.number l) (set-off serverOf k ks x.server l)
-      ∙ ap (λ (o : ℕ). finished m code (holding n o serving d ls (stacked openNumber k ks) (stacked serverOf k ks))) q
+      (set-off open_number k ks x.number l) (set-off open_server k ks x.server l)
+      ∙ ap (λ (o : ℕ). finished m code (holding n o serving d ls (stacked open_number k ks) (stacked open_server k ks))) q
 
-  module _ (facts : Facts c) (tableFacts : TableFacts c) (serves : Serves c serving) where
+  module _ (facts : Facts c) (table_facts : TableFacts c) (serves : Serves c serving) where
     -- ---- whether a full stack is dropped
     -- the scheme of the bottom, under a node that calls
     bottom-scheme : (g : ℕ) (x : Open) (ks : List Open) → StopOf c x.server x.node → Calling (kind c x.node) → Under c g x ks
-        → let v = (bottomOf x ks).node in (v < size c) × (numbered c v ≡ true) × (scheme c v ≡ g)
+        → let v = (bottom_of x ks).node in (v < size c) × (is_numbered c v ≡ true) × (scheme c v ≡ g)
     bottom-scheme g x [] s call under =
-        (s.inside, is-numbered c x.node tableFacts s (no_end (kind c x.node) call), s.same ∙ under.1)
+        (s.inside, is-numbered c x.node table_facts s (no_end (kind c x.node) call), s.same ∙ under.1)
     bottom-scheme g x (k ∷ ks) s call (caller, under) = bottom-scheme g k ks caller.stop caller.calls under
 
     keeps : (f : Bool) (o l : ℕ) → 2 ≤ l → (label_at (table c) l).owner ≡ bottom c f → (f ≡ true → handler c ≡ 0 → ⊥) → o ≡ n
-        → (eqb (table c).handler 0 || ofHandler (table c) l) ≡ not (drops n c f o)
+        → (eqb (table c).handler 0 || is_of_handler (table c) l) ≡ not (is_dropping n c f o)
     unfolding table
     keeps true o l two own handled e =
-        or_true_r (eqb (handler c) 0) (ofHandler (table c) l)
+        or_true_r (eqb (handler c) 0) (is_of_handler (table c) l)
         (and-true (not (eqb (handler c) 0)) (eqb l 1 || eqb (label_at (table c) l).owner (handler c))
         (ap not (ne_eqb (handler c) 0 (handled refl)))
         (or_true_r (eqb l 1) (eqb (label_at (table c) l).owner (handler c)) (eq-eqb (label_at (table c) l).owner (handler c) own)))
@@ -115,128 +117,128 @@ module _ (c : Chart) (n : ℕ) (n≤ : n ≤ 32) (serving : Binding) where
             ∙ sym (ap not (eq-eqb o n e))
 
     module _ (x : Open) (ks : List Open) (b : Results) (f : Bool) (g : Good c (at x ks b f)) (call : Calling (kind c x.node)) where
-      full-kept : suc (length ks) ≡ n → keepsFull (table c) (state x ks b f) ≡ not (drops n c f (suc (length ks)))
+      full-kept : suc (length ks) ≡ n → is_full_stack_kept (table c) (state x ks b f) ≡ not (is_dropping n c f (suc (length ks)))
       full-kept e =
-          let u : ℕ = (bottomOf x ks).node in
+          let u : ℕ = (bottom_of x ks).node in
           let under = bottom-scheme (bottom c f) x ks g.top call g.under in
-          let holds = tableFacts.numbers u under.0 under.1 in
+          let holds = table_facts.numbers u under.0 under.1 in
           let owned : (label_at (table c) (label c u)).owner ≡ bottom c f =
           ap (λ (y : Label). y.owner) holds.2 ∙ label-owner c u ∙ under.2 in
-          ap (λ (l : ℕ). eqb (table c).handler 0 || ofHandler (table c) l) (get-bottom (labelled c) x ks (zerosOver ks))
+          ap (λ (l : ℕ). eqb (table c).handler 0 || is_of_handler (table c) l) (get-bottom (labelled c) x ks (zeros_over ks))
           ∙ keeps f (suc (length ks)) (label c u) holds.0 owned g.handled e
 
       -- a call of number h: the entry of the scheme that serves it is put above the top; at a full stack the places are dropped, or it is
       -- refused
       module _ (m j h : ℕ) (d : Results) (low : 16 ≤ j + h) (other : j + h ≡ 96 → ⊥) (some : 2 ≤ h) (most : h ≤ schemes c) where
         abbrev made : ℕ → Tick
-        made code = tickOf x.node x.number m code (suc (length ks))
+        made code = tick_of x.node x.number m code (suc (length ks))
 
         abbrev Goal : Bool → Bool → Type 0
-        Goal full t = pushed (table c) (state x ks b f) m (j + h) h (served serving h) d full
-            ≡ answer n (made (pick t 96 (j + h))) (stateOfPosition c n serving (positionCalled c x ks h (served serving h) d f t))
+        Goal full t = pushed_tick (table c) (state x ks b f) m (j + h) h (server_of serving h) d full
+            ≡ answer n (made (pick t 96 (j + h))) (state_of_position c n serving (position_called c x ks h (server_of serving h) d f t))
 
-        at-full : (t : Bool) → drops n c f (suc (length ks)) ≡ t → suc (length ks) ≡ n
-            → keepsFull (table c) (state x ks b f) ≡ not t → Goal true t
+        at-full : (t : Bool) → is_dropping n c f (suc (length ks)) ≡ t → suc (length ks) ≡ n
+            → is_full_stack_kept (table c) (state x ks b f) ≡ not t → Goal true t
         unfolding table below
         at-full true q e k =
             let l = facts.handled (drop-handler n c f (suc (length ks)) q) in
-            no-pick (keepsFull (table c) (state x ks b f)) (stopped 17) _ k
+            no-pick (is_full_stack_kept (table c) (state x ks b f)) (stopped 17) _ k
             ∙ ap (λ (u : ℕ). finished m 96
-            (holding n 1 serving (cleared (handler c) d) (bottomAlone u) (bottomAlone (handler c)) (bottomAlone (handler c))))
-            (tableFacts.entries (handler c) (omega (arith, l)) l.1)
+            (holding n 1 serving (cleared_results (handler c) d) (bottom_alone u) (bottom_alone (handler c)) (bottom_alone (handler c))))
+            (table_facts.entries (handler c) (omega (arith, l)) l.1)
         at-full false q e k =
-            yes-pick (keepsFull (table c) (state x ks b f)) (stopped 17) _ k
-            ∙ sym (yes-pick (isFullCall n (made (j + h))) (stopped 17) _
+            yes-pick (is_full_stack_kept (table c) (state x ks b f)) (stopped 17) _ k
+            ∙ sym (yes-pick (is_full_call n (made (j + h))) (stopped 17) _
             (and-true (leb 16 (j + h) && not (eqb (j + h) 96)) (eqb (suc (length ks)) n)
             (and-true (leb 16 (j + h)) (not (eqb (j + h) 96)) (le-leb 16 (j + h) low) (ap not (ne_eqb (j + h) 96 other)))
             (eq-eqb (suc (length ks)) n e)))
 
-        room : (t : Bool) → drops n c f (suc (length ks)) ≡ t → suc (length ks) < n → Goal false t
+        room : (t : Bool) → is_dropping n c f (suc (length ks)) ≡ t → suc (length ks) < n → Goal false t
         room true q e = absurd (let z : suc (length ks) ≡ n =
             eqb-true (suc (length ks)) n (and_r (not f && not (eqb (handler c) 0)) (eqb (suc (length ks)) n) q) in omega arith)
         room false q e =
-            let k : ℕ = served serving h in
+            let k : ℕ = server_of serving h in
             let l = serves h some most in
             let o : ℕ = suc (length ks) in
-            let gs : List ℕ = set (stacked serverOf x ks) o k in
-            ap₂ (λ (ls hs : List ℕ). finished m (j + h) (holding n (suc o) serving (cleared h d) ls hs gs))
-            (ap (set (stacked (labelled c) x ks) o) (tableFacts.entries k (omega (arith, l)) l.1)
+            let gs : List ℕ = set (stacked open_server x ks) o k in
+            ap₂ (λ (ls hs : List ℕ). finished m (j + h) (holding n (suc o) serving (cleared_results h d) ls hs gs))
+            (ap (set (stacked (labelled c) x ks) o) (table_facts.entries k (omega (arith, l)) l.1)
             ∙ set-push (labelled c) x ks (label c (start c k)) (omega arith))
-            (set-push openNumber x ks h (omega arith))
-            ∙ ap (λ (zs : List ℕ). finished m (j + h) (holding n (suc o) serving (cleared h d)
-            (below (labelled c) (x ∷ ks) (label c (start c k) ∷ zerosOver (x ∷ ks)))
-            (below openNumber (x ∷ ks) (h ∷ zerosOver (x ∷ ks))) zs))
-            (set-push serverOf x ks k (omega arith))
-            ∙ sym (no-pick (isFullCall n (made (j + h))) (stopped 17) _
+            (set-push open_number x ks h (omega arith))
+            ∙ ap (λ (zs : List ℕ). finished m (j + h) (holding n (suc o) serving (cleared_results h d)
+            (below (labelled c) (x ∷ ks) (label c (start c k) ∷ zeros_over (x ∷ ks)))
+            (below open_number (x ∷ ks) (h ∷ zeros_over (x ∷ ks))) zs))
+            (set-push open_server x ks k (omega arith))
+            ∙ sym (no-pick (is_full_call n (made (j + h))) (stopped 17) _
             (and_no (leb 16 (j + h) && not (eqb (j + h) 96)) (eqb (suc (length ks)) n) (ne_eqb (suc (length ks)) n (λ z. omega arith))))
 
-        to-push : length ks < n → Goal (leb n (suc (length ks))) (drops n c f (suc (length ks)))
+        to-push : length ks < n → Goal (leb n (suc (length ks))) (is_dropping n c f (suc (length ks)))
         to-push deep = go (leb n (suc (length ks))) refl
           where
-            go : (t : Bool) → leb n (suc (length ks)) ≡ t → Goal t (drops n c f (suc (length ks)))
+            go : (t : Bool) → leb n (suc (length ks)) ≡ t → Goal t (is_dropping n c f (suc (length ks)))
             go true t =
                 let e : suc (length ks) ≡ n = omega (arith, leb-true n (suc (length ks)) t) in
-                at-full (drops n c f (suc (length ks))) refl e (full-kept e)
-            go false t = room (drops n c f (suc (length ks))) refl (leb-false n (suc (length ks)) t)
+                at-full (is_dropping n c f (suc (length ks))) refl e (full-kept e)
+            go false t = room (is_dropping n c f (suc (length ks))) refl (leb-false n (suc (length ks)) t)
 
     -- the row that a caller takes when its call has ended
     resumed-row : (h : ℕ) (k : Open) (w : ℕ) (b : Results) → Caller c h k
-        → rowLeads (table c) b (labelled c k) w ≡ found (label c (resumed c k.node w b))
+        → row_leads (table c) b (labelled c k) w ≡ found (label c (resumed c k.node w b))
     unfolding table
     resumed-row h k w b caller = go caller.calls
       where
-        go : Calling (kind c k.node) → rowLeads (table c) b (labelled c k) w ≡ found (label c (resumed c k.node w b))
-        go (inl e) = tableFacts.rowPlain k.node w _ caller.stop.inside e
-            ∙ ap (λ (s : Stop). found (label c (resumedBy c k.node w b s)))
+        go : Calling (kind c k.node) → row_leads (table c) b (labelled c k) w ≡ found (label c (resumed c k.node w b))
+        go (inl e) = table_facts.row_plain k.node w _ caller.stop.inside e
+            ∙ ap (λ (s : Stop). found (label c (node_resumed c k.node w b s)))
             (sym (stop-call c k.node e (λ p. omega (arith, caller.called, caller.deep))))
-        go (inr e) = ap (λ (x : Label). leads (bestRow (labelled c k) w (pick (result_of x.called b) 1 0) 0 (rows c)))
-            (held c k.node tableFacts caller.stop (a-function e))
-            ∙ tableFacts.rowFunction k.node w (result_of (argument c k.node) b) caller.stop.inside e
-            ∙ ap (λ (s : Stop). found (label c (resumedBy c k.node w b s))) (sym (stop-function c k.node e))
+        go (inr e) = ap (λ (x : Label). lead_of (best_row (labelled c k) w (pick (result_of x.called b) 1 0) 0 (rows c)))
+            (held c k.node table_facts caller.stop (a-function e))
+            ∙ table_facts.row_function k.node w (result_of (argument c k.node) b) caller.stop.inside e
+            ∙ ap (λ (s : Stop). found (label c (node_resumed c k.node w b s))) (sym (stop-function c k.node e))
 
     tick-back : (x : Open) (ks : List Open) (b : Results) (f : Bool) (w : ℕ) → length ks < n → Good c (at x ks b f)
-        → let s = state x ks b f in popped (table c) s w 0 b (leb s.depth 1) ≡ finished 0 3
-        (stateOfPosition c n serving (positionReturned c ks w b f))
+        → let s = state x ks b f in popped_tick (table c) s w 0 b (leb s.depth 1) ≡ finished 0 3
+        (state_of_position c n serving (position_returned c ks w b f))
     unfolding below
     tick-back x [] b f w low g =
         let e = facts.ends 1 (omega arith) facts.first in
-        ap (λ (l : ℕ). finished 0 3 (holding n 1 serving b (bottomAlone l) (bottomAlone 1) (bottomAlone 1)))
+        ap (λ (l : ℕ). finished 0 3 (holding n 1 serving b (bottom_alone l) (bottom_alone 1) (bottom_alone 1)))
         (sym (label-home c (end c 1) e.1 e.2))
     tick-back x (k ∷ ks) b f w low g =
-        ap (popped (table c) (state x (k ∷ ks) b f) w 0 b) (lt-leb (suc (suc (length ks))) 1 (omega arith))
+        ap (popped_tick (table c) (state x (k ∷ ks) b f) w 0 b) (lt-leb (suc (suc (length ks))) 1 (omega arith))
         ∙ to-under 0 3 (resumed c k.node w b) x k ks b b f _ (omega arith)
-        (ap (λ (l : ℕ). rowLeads (table c) b l w) (get-under (labelled c) k ks (labelled c x) (zerosOver (k ∷ ks)))
+        (ap (λ (l : ℕ). row_leads (table c) b l w) (get-under (labelled c) k ks (labelled c x) (zeros_over (k ∷ ks)))
         ∙ resumed-row x.number k w b g.under.0)
 
     -- with the label that the table holds for the stop
     tick-by : (x : Open) (ks : List Open) (b : Results) (f : Bool) (w : ℕ) → length ks < n
         → Good c (at x ks b f) → {s : Stop} → View c x.node s
-        → let y = heldBy c x.node s in let t = drops n c f (suc (length ks)) in
-        tickBy (table c) (state x ks b f) w (labelled c x) y (withResult y.result x.number b) (tickKind y.kind)
-        ≡ answer n (stopTick t (suc (length ks)) x s)
-        (stateOfPosition c n serving (movedBy c t x ks (record { word = w; binding = serving }) b f s))
+        → let y = label_held_by c x.node s in let t = is_dropping n c f (suc (length ks)) in
+        tick_by (table c) (state x ks b f) w (labelled c x) y (with_result y.result x.number b) (tick_kind y.kind)
+        ≡ answer n (stop_tick t (suc (length ks)) x s)
+        (state_of_position c n serving (position_moved c t x ks (record { word = w; binding = serving }) b f s))
     unfolding table
     tick-by x ks b f w low g (a-plain e a) =
-        to-top (mask c x.node) 0 (byArc c w (next0 c x.node)) x ks b _ f _ (tableFacts.rowPlain x.node w _ g.top.inside e)
+        to-top (mask c x.node) 0 (by_arc c w (next0 c x.node)) x ks b _ f _ (table_facts.row_plain x.node w _ g.top.inside e)
     tick-by x ks b f w low g (a_call e a) = let l = facts.calls x.node g.top.inside e a in
         to-push x ks b f g (inl e) (mask c x.node) 16 (argument c x.node) _ (omega arith)
         (λ q. omega (arith, facts.most)) l.0 l.1 low
     tick-by x ks b f w low g (a-function e) = let l = facts.functions x.node g.top.inside e in
         to-push x ks b f g (inr e) 0 64 (argument c x.node) b (omega arith) (λ q. omega (arith, facts.most)) l.0 l.1 low
     tick-by x ks b f w low g (a-home e s) =
-        to-top 0 4 (start c 1) x ks b b f _ (ap found (tableFacts.entries 1 (omega arith) facts.first))
+        to-top 0 4 (start c 1) x ks b b f _ (ap found (table_facts.entries 1 (omega arith) facts.first))
     tick-by x ks b f w low g (a_back e s) = tick-back x ks b f w low g
     tick-by x ks b f w low g (a-begin e) =
-        to-top 0 0 (by_word c w (next0 c x.node)) x ks b b f _ (tableFacts.rowBegin x.node w _ g.top.inside e g.top.stopping)
+        to-top 0 0 (by_word c w (next0 c x.node)) x ks b b f _ (table_facts.row_begin x.node w _ g.top.inside e g.top.stopping)
     tick-by x ks b f w low g (a-condition e) =
-        to-top 0 0 (by_word c w x.node) x ks b b f _ (tableFacts.rowCondition x.node w _ g.top.inside e g.top.stopping)
+        to-top 0 0 (by_word c w x.node) x ks b b f _ (table_facts.row_condition x.node w _ g.top.inside e g.top.stopping)
 
     pub tick_is : (w : ℕ) (x : WalkPosition) → length x.callers < n → Good c x
         → let y = move n c (record { word = w; binding = serving }) x in
-        tick (table c) (stateOfPosition c n serving x) w ≡ answer n (tickAt n c x) (stateOfPosition c n serving y)
+        tick (table c) (state_of_position c n serving x) w ≡ answer n (tick_at n c x) (state_of_position c n serving y)
     tick_is w x low g = let v = view_of c facts x g in
-        tick-at (table c) (stateOfPosition c n serving x) w (labelled c x.now) x.now.number _
-        (get-top (labelled c) x.callers (labelled c x.now) (zerosOver x.callers))
-        (get-top openNumber x.callers x.now.number (zerosOver x.callers))
-        (held c x.now.node tableFacts g.top v)
+        tick-at (table c) (state_of_position c n serving x) w (labelled c x.now) x.now.number _
+        (get-top (labelled c) x.callers (labelled c x.now) (zeros_over x.callers))
+        (get-top open_number x.callers x.now.number (zeros_over x.callers))
+        (held c x.now.node table_facts g.top v)
         ∙ tick-by x.now x.callers x.results x.first w low g v

@@ -9,28 +9,28 @@ use borrow.Author.Tests.{eqb-true, eqb-false, ne_eqb}
 use Rattle.words.specs.lists.Pick.{pick}
 use Rattle.words.specs.lists.Numbers.{count}
 use Rattle.charts.specs.Chart.{Chart, kind, scheme, argument}
-use Rattle.walk.specs.Stops.{stops, Stop, plain, call, function, test, home, back}
+use Rattle.walk.specs.Stops.{is_stop, Stop, plain, call, function, test, home, back}
 use Rattle.walk.proofs.Facts.{StopOf}
 use Rattle.walk.proofs.Views.{View, a-plain, a_call, a-function, a-home, a_back, a-begin, a-condition}
 use Rattle.image.specs.Image.{Label}
-use Rattle.chart_rows.specs.chart_labels.Labels.{numbered, label, stopLabel, homeLabel, returnLabel}
+use Rattle.chart_rows.specs.chart_labels.Labels.{is_numbered, label, stop_label, home_label, return_label}
 use Rattle.translator.specs.Table.{table}
 use Rattle.state.specs.State.{label_at}
 use Rattle.agreement.proofs.TableFacts.{TableFacts}
 
-abbrev pub heldBy : Chart → ℕ → Stop → Label
-heldBy c v (plain m r u) = record { kind = 0; called = 0; owner = scheme c v; result = r; mask = m }
-heldBy c v (call m r h u) = record { kind = 1; called = h; owner = scheme c v; result = r; mask = m }
-heldBy c v (function h u₀ u₁) = record { kind = 2; called = h; owner = scheme c v; result = 0; mask = 0 }
-heldBy c v (test u) = record { kind = 0; called = 0; owner = scheme c v; result = 0; mask = 0 }
-heldBy c v home = homeLabel
-heldBy c v back = returnLabel
+abbrev pub label_held_by : Chart → ℕ → Stop → Label
+label_held_by c v (plain m r u) = record { kind = 0; called = 0; owner = scheme c v; result = r; mask = m }
+label_held_by c v (call m r h u) = record { kind = 1; called = h; owner = scheme c v; result = r; mask = m }
+label_held_by c v (function h u₀ u₁) = record { kind = 2; called = h; owner = scheme c v; result = 0; mask = 0 }
+label_held_by c v (test u) = record { kind = 0; called = 0; owner = scheme c v; result = 0; mask = 0 }
+label_held_by c v home = home_label
+label_held_by c v back = return_label
 
 module _ (c : Chart) (v : ℕ) where
   -- an End has label 0 in scheme 1 and 1 elsewhere
   label-end : kind c v ≡ 1 → label c v ≡ pick (eqb (scheme c v) 1) 0 1
   unfolding label
-  label-end e = ap (λ (t : Bool). pick t (2 + count (numbered c) 0 v) (pick (eqb (scheme c v) 1) 0 1)) (unnumbered (stops c v))
+  label-end e = ap (λ (t : Bool). pick t (2 + count (is_numbered c) 0 v) (pick (eqb (scheme c v) 1) 0 1)) (unnumbered (is_stop c v))
     where
       unnumbered : (t : Bool) → (t && not (eqb (kind c v) 1)) ≡ false
       unnumbered true = rw e
@@ -43,13 +43,13 @@ module _ (c : Chart) (v : ℕ) where
   label-back e s = label-end e ∙ ap (λ (t : Bool). pick t 0 1) (ne_eqb (scheme c v) 1 s)
 
   module _ (facts : TableFacts c) {h : ℕ} (stop : StopOf c h v) where
-    pub is-numbered : (kind c v ≡ 1 → ⊥) → numbered c v ≡ true
+    pub is-numbered : (kind c v ≡ 1 → ⊥) → is_numbered c v ≡ true
     is-numbered e = rw (stop.stopping, ne_eqb (kind c v) 1 e)
 
-    of_node : (kind c v ≡ 1 → ⊥) → label_at (table c) (label c v) ≡ stopLabel c v
+    of_node : (kind c v ≡ 1 → ⊥) → label_at (table c) (label c v) ≡ stop_label c v
     of_node e = (facts.numbers v stop.inside (is-numbered e)).2
 
-    pub held : {s : Stop} → View c v s → label_at (table c) (label c v) ≡ heldBy c v s
+    pub held : {s : Stop} → View c v s → label_at (table c) (label c v) ≡ label_held_by c v s
     held (a-plain e a) = of_node (λ p. omega arith) ∙ rw (e, a)
     held (a_call e a) = of_node (λ p. omega arith) ∙ rw (e, ne_eqb (argument c v) 0 a)
     held (a-function e) = of_node (λ p. omega arith) ∙ rw e

@@ -10,7 +10,7 @@ use Rattle.words.proofs.lists.Filters.{none_passes}
 use Rattle.text.specs.frames.Frame.{contents}
 use Rattle.text.specs.frames.Verdict.{fine}
 use Rattle.charts.specs.Chart.{Chart}
-use Rattle.charts.specs.Entry.{readVerdict}
+use Rattle.charts.specs.Entry.{read_verdict}
 use Rattle.charts.proofs.Accepted.{SoundChart, accepted}
 use Rattle.walk.proofs.Facts.{Facts}
 use Rattle.walk.proofs.FactsHold.{facts}
@@ -18,34 +18,34 @@ use Rattle.image.specs.Image.{Row, no_row}
 use Rattle.chart_rows.specs.chart_labels.Labels.{entry}
 use Rattle.translator.proofs.LabelLaws.{label-low, label_inside, label-holds, labels_apart, label-home, label-return}
 use Rattle.translator.proofs.LabelLaws.{labels-two, labels-few, entry-holds}
-use Rattle.translator.proofs.Matching.{matchingRow, targets, targets-none, targets-own, targets-other}
+use Rattle.translator.proofs.Matching.{is_matching_row, targets, targets-none, targets-own, targets-other}
 use Rattle.translator.proofs.RowLaws.{row_plain, row-begin, row-condition, row-function}
-use Rattle.rows.specs.Rows.{row, noChoice, better, bestRow, found, leads}
+use Rattle.rows.specs.Rows.{row, no_choice, better_choice, best_row, found, lead_of}
 use Rattle.rows.proofs.ChoiceLaws.{best-own, best-other}
 use Rattle.rows.proofs.BestRows.{best_none}
 use Rattle.agreement.proofs.TableFacts.{TableFacts}
 
 -- no row matches, so none is taken
-none-taken : (l w b k : ℕ) (rs : List Row) → targets l w b rs ≡ [] → bestRow l w b k rs ≡ noChoice
+none-taken : (l w b k : ℕ) (rs : List Row) → targets l w b rs ≡ [] → best_row l w b k rs ≡ no_choice
 unfolding targets
 none-taken l w b k rs e =
     best_none l w b k rs
-    (none_passes (matchingRow l w b) no_row rs
-    (sym (length-map (filter (matchingRow l w b) rs) (λ (r : Row). r.next)) ∙ ap (λ (us : List ℕ). length us) e))
+    (none_passes (is_matching_row l w b) no_row rs
+    (sym (length-map (filter (is_matching_row l w b) rs) (λ (r : Row). r.next)) ∙ ap (λ (us : List ℕ). length us) e))
 
 -- just one row matches, so it is taken
-pub best-only : (l w b k u : ℕ) (rs : List Row) → targets l w b rs ≡ u ∷ [] → leads (bestRow l w b k rs) ≡ found u
+pub best-only : (l w b k u : ℕ) (rs : List Row) → targets l w b rs ≡ u ∷ [] → lead_of (best_row l w b k rs) ≡ found u
 best-only l w b k u [] e = absurd (omega (arith, ap (λ (us : List ℕ). length us) (sym (targets-none l w b) ∙ e)))
-best-only l w b k u (r ∷ rs) e = go (matchingRow l w b r) refl (best-only l w b (suc k) u rs)
+best-only l w b k u (r ∷ rs) e = go (is_matching_row l w b r) refl (best-only l w b (suc k) u rs)
   where
-    go : (t : Bool) → matchingRow l w b r ≡ t → (targets l w b rs ≡ u ∷ [] → leads (bestRow l w b (suc k) rs) ≡ found u)
-        → leads (bestRow l w b k (r ∷ rs)) ≡ found u
+    go : (t : Bool) → is_matching_row l w b r ≡ t → (targets l w b rs ≡ u ∷ [] → lead_of (best_row l w b (suc k) rs) ≡ found u)
+        → lead_of (best_row l w b k (r ∷ rs)) ≡ found u
     go true m ih =
         let p : r.next ∷ targets l w b rs ≡ u ∷ [] = sym (targets-own l w b r rs m) ∙ e in
         let rest : targets l w b rs ≡ [] = ap (λ (us : List ℕ). drop 1 us) p in
-        ap leads (best-own l w b k r rs m ∙ ap (better (row k r)) (none-taken l w b (suc k) rs rest))
+        ap lead_of (best-own l w b k r rs m ∙ ap (better_choice (row k r)) (none-taken l w b (suc k) rs rest))
         ∙ ap found (ap (λ (us : List ℕ). get_or us 0 0) p)
-    go false m ih = ap leads (best-other l w b k r rs m) ∙ ih (sym (targets-other l w b r rs m) ∙ e)
+    go false m ih = ap lead_of (best-other l w b k r rs m) ∙ ih (sym (targets-other l w b r rs m) ∙ e)
 
 pub table-facts-of : (c : Chart) → SoundChart c → Facts c → TableFacts c
 table-facts-of c s f = record {
@@ -55,11 +55,11 @@ table-facts-of c s f = record {
   numbers = λ v l e. (label-low c v e, label_inside c v l e, label-holds c v l e);
   apart = λ u v lu lv a b e. labels_apart c u v a b e;
   entries = λ h l m. entry-holds c (h - 1) (omega arith) ∙ ap (entry c) (omega arith);
-  rowPlain = λ v w b l k. best-only _ w b 0 _ _ (row_plain c s v w b l k);
-  rowBegin = λ v w b l k t. best-only _ w b 0 _ _ (row-begin c s v w b l k t);
-  rowCondition = λ v w b l k t. best-only _ w b 0 _ _ (row-condition c s v w b l k t);
-  rowFunction = λ v w b l k. best-only _ w _ 0 _ _ (row-function c s v w b l k);
+  row_plain = λ v w b l k. best-only _ w b 0 _ _ (row_plain c s v w b l k);
+  row_begin = λ v w b l k t. best-only _ w b 0 _ _ (row-begin c s v w b l k t);
+  row_condition = λ v w b l k t. best-only _ w b 0 _ _ (row-condition c s v w b l k t);
+  row_function = λ v w b l k. best-only _ w _ 0 _ _ (row-function c s v w b l k);
 }
 
-pub table-facts : (t : List ℕ) → readVerdict t ≡ fine → TableFacts (contents t)
+pub table-facts : (t : List ℕ) → read_verdict t ≡ fine → TableFacts (contents t)
 table-facts t e = table-facts-of (contents t) (accepted t e).sound (facts t e)

@@ -18,30 +18,31 @@ use Rattle.walk.specs.Stops.{Stop}
 use Rattle.walk.specs.Walk.{Signal, signals, Tick}
 use Rattle.walk.proofs.Facts.{Facts}
 use Rattle.walk.proofs.Views.{View, a-plain, a_call, a-function, a-home, a_back, a-begin, a-condition}
-use Rattle.walk.proofs.Trace.{Open, WalkPosition, stopTick, positionReturned, positionCalled, movedBy}
-use Rattle.walk.proofs.Trace.{dropsAt, tickAt, move, trace, Serves, Good, view_of, moves}
+use Rattle.walk.proofs.Trace.{Open, WalkPosition, stop_tick, position_returned, position_called, position_moved}
+use Rattle.walk.proofs.Trace.{is_drop_at, tick_at, move, trace, Serves, Good, view_of, moves}
 use Rattle.translator.specs.Table.{table}
 use Rattle.state.specs.declared.State.{State}
 use Rattle.ticks.specs.Tick.{finished, stopped}
 use Rattle.runs.specs.Run.{MachineRun, then, ticks}
-use Rattle.agreement.specs.Agreement.{isFullCall, bound}
+use Rattle.agreement.specs.Agreement.{is_full_call, bound}
 use Rattle.agreement.proofs.TableFacts.{TableFacts}
-use Rattle.agreement.proofs.Places.{stateOfPosition}
+use Rattle.agreement.proofs.Places.{state_of_position}
 use Rattle.agreement.proofs.Simulation.{answer, tick_is}
 use Rattle.agreement.proofs.Bounds.{bound-stop, bound-go, stand, stand-stop, stand-go}
 
 -- what is run with a binding when b of the ticks ts of m words are made, and the walk stands at y
-abbrev pub ranBy : Chart → ℕ → Binding → ℕ → List Tick → WalkPosition → ℕ → MachineRun
-ranBy c n s b ts y m = record {
+abbrev pub run_by_ticks : Chart → ℕ → Binding → ℕ → List Tick → WalkPosition → ℕ → MachineRun
+run_by_ticks c n s b ts y m = record {
   masks = map (λ (t : Tick). t.mask) (take b ts);
   codes = map (λ (t : Tick). t.code) (take b ts);
-  state = stateOfPosition c n s y;
+  state = state_of_position c n s y;
   verdict = pick (ltb b m) (refused 17 0) fine;
 }
 
 -- what is run of all the words, from x on
-abbrev pub ranFrom : Chart → ℕ → Binding → List ℕ → WalkPosition → MachineRun
-ranFrom c n s ws x = let us = signals s ws in ranBy c n s (bound n (trace n c us x)) (trace n c us x) (stand c n us x) (length ws)
+abbrev pub run_from_position : Chart → ℕ → Binding → List ℕ → WalkPosition → MachineRun
+run_from_position c n s ws x =
+    let us = signals s ws in run_by_ticks c n s (bound n (trace n c us x)) (trace n c us x) (stand c n us x) (length ws)
 
 abbrev ran : List ℕ → List ℕ → State → Verdict → MachineRun
 ran ms ks s v = record { masks = ms; codes = ks; state = s; verdict = v }
@@ -53,13 +54,13 @@ pub record StandsWell (c : Chart) (n : ℕ) (x : WalkPosition) : Type 0 where
 
 module _ (c : Chart) (n : ℕ) (s : Binding) where
   -- ---- a tick that is no call at a full stack leaves room for the node's label
-  deep_back : (ks : List Open) (w : ℕ) (b : Results) (f : Bool) → length ks < n → length (positionReturned c ks w b f).callers < n
+  deep_back : (ks : List Open) (w : ℕ) (b : Results) (f : Bool) → length ks < n → length (position_returned c ks w b f).callers < n
   deep_back [] w b f low = low
   deep_back (k ∷ ks) w b f low = omega arith
 
   deep-call : (x : Open) (ks : List Open) (h k code : ℕ) (d : Results) (f : Bool) → length ks < n → 16 ≤ code → (code ≡ 96 → ⊥) → (t : Bool)
       → (leb 16 (pick t 96 code) && not (eqb (pick t 96 code) 96) && eqb (suc (length ks)) n) ≡ false
-      → length (positionCalled c x ks h k d f t).callers < n
+      → length (position_called c x ks h k d f t).callers < n
   deep-call x ks h k code d f low l other true q = omega arith
   deep-call x ks h k code d f low l other false q =
       let e : suc (length ks) ≡ n → ⊥ =
@@ -69,7 +70,7 @@ module _ (c : Chart) (n : ℕ) (s : Binding) where
 
   deep-by : Facts c → (x : Open) (ks : List Open) (b : Results) (f : Bool) (w : Signal)
       → x.node < size c → length ks < n → (t : Bool) → {z : Stop}
-      → View c x.node z → isFullCall n (stopTick t (suc (length ks)) x z) ≡ false → length (movedBy c t x ks w b f z).callers < n
+      → View c x.node z → is_full_call n (stop_tick t (suc (length ks)) x z) ≡ false → length (position_moved c t x ks w b f z).callers < n
   deep-by facts x ks b f w i low t (a-plain e a) q = low
   deep-by facts x ks b f w i low t (a_call e a) q =
       deep-call x ks (argument c x.node) _ (16 + argument c x.node) _ f low (omega arith)
@@ -90,36 +91,38 @@ module _ (c : Chart) (n : ℕ) (s : Binding) where
   next w x = move n c (signal w) x
 
   abbrev state : WalkPosition → State
-  state x = stateOfPosition c n s x
+  state x = state_of_position c n s x
 
   abbrev first : ℕ → List ℕ → WalkPosition → MachineRun
-  first w ws x = then (state x) (λ t. ticks (table c) t ws) (answer n (tickAt n c x) (state (next w x)))
+  first w ws x = then (state x) (λ t. ticks (table c) t ws) (answer n (tick_at n c x) (state (next w x)))
 
-  first_stops : (w : ℕ) (ws : List ℕ) (x : WalkPosition) → isFullCall n (tickAt n c x) ≡ true → first w ws x ≡ ranFrom c n s (w ∷ ws) x
+  first_stops : (w : ℕ) (ws : List ℕ) (x : WalkPosition) → is_full_call n (tick_at n c x) ≡ true
+      → first w ws x ≡ run_from_position c n s (w ∷ ws) x
   unfolding trace
   first_stops w ws x e =
-      let t = tickAt n c x in let y = next w x in let ts = trace n c (signals s ws) y in
+      let t = tick_at n c x in let y = next w x in let ts = trace n c (signals s ws) y in
       ap (λ (r : Bool). then (state x) (λ t. ticks (table c) t ws) (pick r (stopped 17) (finished t.mask t.code (state y)))) e
       ∙ ap (λ (r : Bool). ran [] [] (state x) (pick r (refused 17 0) fine)) (sym (lt-ltb 0 (suc (length ws)) (omega arith)))
-      ∙ ap (λ (y : WalkPosition). ranBy c n s 0 (t ∷ ts) y (suc (length ws))) (sym (stand-stop c n (signal w) (signals s ws) x e))
-      ∙ ap (λ (b : ℕ). ranBy c n s b (t ∷ ts) (stand c n (signal w ∷ signals s ws) x) (suc (length ws))) (sym (bound-stop n t ts e))
+      ∙ ap (λ (y : WalkPosition). run_by_ticks c n s 0 (t ∷ ts) y (suc (length ws))) (sym (stand-stop c n (signal w) (signals s ws) x e))
+      ∙ ap (λ (b : ℕ). run_by_ticks c n s b (t ∷ ts) (stand c n (signal w ∷ signals s ws) x) (suc (length ws))) (sym (bound-stop n t ts e))
 
-  first_goes : (w : ℕ) (ws : List ℕ) (x : WalkPosition) → isFullCall n (tickAt n c x) ≡ false
-      → ticks (table c) (state (next w x)) ws ≡ ranFrom c n s ws (next w x) → first w ws x ≡ ranFrom c n s (w ∷ ws) x
+  first_goes : (w : ℕ) (ws : List ℕ) (x : WalkPosition) → is_full_call n (tick_at n c x) ≡ false
+      → ticks (table c) (state (next w x)) ws ≡ run_from_position c n s ws (next w x) → first w ws x ≡ run_from_position c n s (w ∷ ws) x
   unfolding trace
   first_goes w ws x e ih =
-      let t = tickAt n c x in let y = next w x in let ts = trace n c (signals s ws) y in let b = bound n ts in
+      let t = tick_at n c x in let y = next w x in let ts = trace n c (signals s ws) y in let b = bound n ts in
       ap (λ (r : Bool). then (state x) (λ t. ticks (table c) t ws) (pick r (stopped 17) (finished t.mask t.code (state y)))) e
       ∙ ap (λ (r : MachineRun). ran (t.mask ∷ r.masks) (t.code ∷ r.codes) r.state r.verdict) ih
       ∙ ap (λ (r : Bool). ran (map (λ (u : Tick). u.mask) (take (suc b) (t ∷ ts))) (map (λ (u : Tick). u.code) (take (suc b) (t ∷ ts)))
       (state (stand c n (signals s ws) y)) (pick r (refused 17 0) fine)) (sym (leb-suc-suc (suc b) (length ws)))
-      ∙ ap (λ (y : WalkPosition). ranBy c n s (suc b) (t ∷ ts) y (suc (length ws))) (sym (stand-go c n (signal w) (signals s ws) x e))
-      ∙ ap (λ (k : ℕ). ranBy c n s k (t ∷ ts) (stand c n (signal w ∷ signals s ws) x) (suc (length ws))) (sym (bound-go n t ts e))
+      ∙ ap (λ (y : WalkPosition). run_by_ticks c n s (suc b) (t ∷ ts) y (suc (length ws)))
+      (sym (stand-go c n (signal w) (signals s ws) x e))
+      ∙ ap (λ (k : ℕ). run_by_ticks c n s k (t ∷ ts) (stand c n (signal w ∷ signals s ws) x) (suc (length ws))) (sym (bound-go n t ts e))
 
   module _ (facts : Facts c) (serves : Serves c s) where
-    pub moves-on : (w : ℕ) (x : WalkPosition) → StandsWell c n x → isFullCall n (tickAt n c x) ≡ false → StandsWell c n (next w x)
+    pub moves-on : (w : ℕ) (x : WalkPosition) → StandsWell c n x → is_full_call n (tick_at n c x) ≡ false → StandsWell c n (next w x)
     moves-on w x z e = record {
-      low = deep-by facts x.now x.callers x.results x.first (signal w) z.good.top.inside z.low (dropsAt n c x)
+      low = deep-by facts x.now x.callers x.results x.first (signal w) z.good.top.inside z.low (is_drop_at n c x)
           (view_of c facts x z.good) e;
       good = moves c facts n (signal w) x serves z.good;
     }
@@ -127,23 +130,23 @@ module _ (c : Chart) (n : ℕ) (s : Binding) where
     pub stand-stands : (ws : List ℕ) (x : WalkPosition) → StandsWell c n x → StandsWell c n (stand c n (signals s ws) x)
     unfolding stand
     stand-stands [] x z = z
-    stand-stands (w ∷ ws) x z = go (stand-stands ws (next w x)) (isFullCall n (tickAt n c x)) refl
+    stand-stands (w ∷ ws) x z = go (stand-stands ws (next w x)) (is_full_call n (tick_at n c x)) refl
       where
         go : (StandsWell c n (next w x) → StandsWell c n (stand c n (signals s ws) (next w x)))
-            → (r : Bool) → isFullCall n (tickAt n c x) ≡ r
+            → (r : Bool) → is_full_call n (tick_at n c x) ≡ r
             → StandsWell c n (stand c n (signal w ∷ signals s ws) x)
         go ih true e = subst (StandsWell c n) (sym (stand-stop c n (signal w) (signals s ws) x e)) z
         go ih false e = subst (StandsWell c n) (sym (stand-go c n (signal w) (signals s ws) x e)) (ih (moves-on w x z e))
 
     pub ticks-are : n ≤ 32 → TableFacts c → (ws : List ℕ) (x : WalkPosition) → StandsWell c n x
-        → ticks (table c) (state x) ws ≡ ranFrom c n s ws x
+        → ticks (table c) (state x) ws ≡ run_from_position c n s ws x
     unfolding ticks trace bound stand
-    ticks-are n≤ tableFacts [] x z = refl
-    ticks-are n≤ tableFacts (w ∷ ws) x z =
-        ap (then (state x) (λ t. ticks (table c) t ws)) (tick_is c n n≤ s facts tableFacts serves w x z.low z.good)
-        ∙ go (ticks-are n≤ tableFacts ws (next w x)) (isFullCall n (tickAt n c x)) refl
+    ticks-are n≤ table_facts [] x z = refl
+    ticks-are n≤ table_facts (w ∷ ws) x z =
+        ap (then (state x) (λ t. ticks (table c) t ws)) (tick_is c n n≤ s facts table_facts serves w x z.low z.good)
+        ∙ go (ticks-are n≤ table_facts ws (next w x)) (is_full_call n (tick_at n c x)) refl
       where
-        go : (StandsWell c n (next w x) → ticks (table c) (state (next w x)) ws ≡ ranFrom c n s ws (next w x))
-            → (r : Bool) → isFullCall n (tickAt n c x) ≡ r → first w ws x ≡ ranFrom c n s (w ∷ ws) x
+        go : (StandsWell c n (next w x) → ticks (table c) (state (next w x)) ws ≡ run_from_position c n s ws (next w x))
+            → (r : Bool) → is_full_call n (tick_at n c x) ≡ r → first w ws x ≡ run_from_position c n s (w ∷ ws) x
         go ih true e = first_stops w ws x e
         go ih false e = first_goes w ws x e (ih (moves-on w x z e))

@@ -10,13 +10,13 @@ use Rattle.tables.specs.Prepare.{prepare}
 use Rattle.state.specs.declared.layout.TheConstants.{PLACES}
 use Rattle.state.specs.declared.State.{State}
 use Rattle.state.specs.declared.StateReport.{StateReport}
-use Rattle.state.specs.State.{freshState, GivesState}
+use Rattle.state.specs.State.{fresh_state, GivesState}
 use Rattle.runs.specs.declared.TickReport.{TickReport}
 use Rattle.runs.specs.Run.{run, GivesRun}
-use Rattle.runs.specs.TickOutcome.{imageTick, GivesTick}
-use Rattle.rebinding.specs.Rebind.{rebind, liveRebind}
-use Rattle.runs.specs.machine.Live.{liveRun, liveTick}
-use Rattle.agreement.specs.Agreement.{RunInput, CallInput, toRun, toRebind, CallOutput, byRun, byRebinding, walkOutputs}
+use Rattle.runs.specs.TickOutcome.{image_tick, GivesTick}
+use Rattle.rebinding.specs.Rebind.{rebind, live_rebind}
+use Rattle.runs.specs.machine.Live.{live_run, live_tick}
+use Rattle.agreement.specs.Agreement.{RunInput, CallInput, to_run, to_rebind, CallOutput, by_run, by_rebinding, walk_outputs}
 
 -- a table of the image, as live calls are handed it: prepare succeeded with n bytes, and these are the first n or more of its buffer
 pub data TableOf (image : List ℕ) : List ℕ → Type 0 where
@@ -25,35 +25,35 @@ pub data TableOf (image : List ℕ) : List ℕ → Type 0 where
       → (k : ℕ) → n ≤ k → TableOf image (take k after)
 
 -- what a run and a rebinding hand back beside the state
-abbrev pub outputOfRun : StateReport → List ℕ → List ℕ → CallOutput
-outputOfRun r masks codes = byRun (record { reply = reply r.answer; masks = masks; codes = codes })
+abbrev pub output_of_run : StateReport → List ℕ → List ℕ → CallOutput
+output_of_run r masks codes = by_run (record { reply = reply r.answer; masks = masks; codes = codes })
 
-abbrev pub outputOfRebinding : StateReport → CallOutput
-outputOfRebinding r = byRebinding (reply r.answer)
+abbrev pub output_of_rebinding : StateReport → CallOutput
+output_of_rebinding r = by_rebinding (reply r.answer)
 
 -- a tick counts as a run of one word, with one place for its mask and one for its code, which hold m and k before it; the report of a
 -- refused one says 0 and 0, as if the places had held these
 abbrev pub one_word : ℕ → ℕ → ℕ → CallInput
-one_word w m k = toRun (record { words = w ∷ []; masks = m ∷ []; codes = k ∷ [] })
+one_word w m k = to_run (record { words = w ∷ []; masks = m ∷ []; codes = k ∷ [] })
 
-abbrev pub outputOfTick : TickReport → CallOutput
-outputOfTick r = byRun (record { reply = reply r.answer; masks = r.mask ∷ []; codes = r.code ∷ [] })
+abbrev pub output_of_tick : TickReport → CallOutput
+output_of_tick r = by_run (record { reply = reply r.answer; masks = r.mask ∷ []; codes = r.code ∷ [] })
 
 -- one call that is handed the image, or a table of it, and the state s: what else it is given, what it hands back, and the state after it
 pub data Call (image : List ℕ) (s : State) : CallInput → CallOutput → State → Type 0 where
-  runCall : {a : RunInput} {r : StateReport} {masks codes : List ℕ} → GivesRun (run image s a.words a.masks a.codes) r masks codes
-      → Call image s (toRun a) (outputOfRun r masks codes) r.state
-  runCallLive : {table : List ℕ} {a : RunInput} {r : StateReport} {masks codes : List ℕ} → TableOf image table
-      → GivesRun (liveRun table s a.words a.masks a.codes) r masks codes
-      → Call image s (toRun a) (outputOfRun r masks codes) r.state
-  tickCall : {w : ℕ} {r : TickReport} {after : State} → GivesTick (imageTick image s w) r after
-      → Call image s (one_word w 0 0) (outputOfTick r) after
-  tickCallLive : {table : List ℕ} {w : ℕ} {r : TickReport} {after : State} → TableOf image table
-      → GivesTick (liveTick table s w) r after → Call image s (one_word w 0 0) (outputOfTick r) after
-  rebindCall : {h k : ℕ} {r : StateReport} → GivesState (rebind image s h k) r
-      → Call image s (toRebind h k) (outputOfRebinding r) r.state
-  rebindCallLive : {table : List ℕ} {h k : ℕ} {r : StateReport} → TableOf image table → GivesState (liveRebind table s h k) r
-      → Call image s (toRebind h k) (outputOfRebinding r) r.state
+  run_call : {a : RunInput} {r : StateReport} {masks codes : List ℕ} → GivesRun (run image s a.words a.masks a.codes) r masks codes
+      → Call image s (to_run a) (output_of_run r masks codes) r.state
+  run_call_live : {table : List ℕ} {a : RunInput} {r : StateReport} {masks codes : List ℕ} → TableOf image table
+      → GivesRun (live_run table s a.words a.masks a.codes) r masks codes
+      → Call image s (to_run a) (output_of_run r masks codes) r.state
+  tick_call : {w : ℕ} {r : TickReport} {after : State} → GivesTick (image_tick image s w) r after
+      → Call image s (one_word w 0 0) (output_of_tick r) after
+  tick_call_live : {table : List ℕ} {w : ℕ} {r : TickReport} {after : State} → TableOf image table
+      → GivesTick (live_tick table s w) r after → Call image s (one_word w 0 0) (output_of_tick r) after
+  rebind_call : {h k : ℕ} {r : StateReport} → GivesState (rebind image s h k) r
+      → Call image s (to_rebind h k) (output_of_rebinding r) r.state
+  rebind_call_live : {table : List ℕ} {h k : ℕ} {r : StateReport} → TableOf image table → GivesState (live_rebind table s h k) r
+      → Call image s (to_rebind h k) (output_of_rebinding r) r.state
 
 -- calls in a row, each given the state that the one before handed back
 pub data CallsInTurn (image : List ℕ) : State → List CallInput → List CallOutput → Type 0 where
@@ -65,6 +65,6 @@ pub data CallsInTurn (image : List ℕ) : State → List CallInput → List Call
 unfoldable pub Delivered : Type 0
 Delivered =
     (text before after : List ℕ) (answer : Answer) → GivesBuffer (translate text before) answer after → (n : ℕ) → reply answer ≡ success n
-    → (size : ℕ) → 1 ≤ size → size ≤ PLACES → (made : StateReport) → GivesState (freshState size) made
+    → (size : ℕ) → 1 ≤ size → size ≤ PLACES → (made : StateReport) → GivesState (fresh_state size) made
     → (given : List CallInput) (handed : List CallOutput) → CallsInTurn (take n after) made.state given handed
-    → handed ≡ walkOutputs size (contents text) given
+    → handed ≡ walk_outputs size (contents text) given

@@ -3,18 +3,18 @@
 -- record that the function's `ensures` cites, and is given the bytes that the call before it left.
 use Rattle.std.specs.Prelude.{ℕ, ◌≤◌, ◌≡◌, List, [], ◌∷◌, map, take}
 use Rattle.text.specs.frames.Frame.{contents}
-use Rattle.text.specs.frames.Answer.{replyNumber, replyIndex, replyCount}
+use Rattle.text.specs.frames.Answer.{reply_number, reply_index, reply_count}
 use Rattle.translator.specs.Entry.{translate}
 use Rattle.tables.specs.Prepare.{prepare}
 use Rattle.state.specs.declared.layout.TheConstants.{PLACES}
-use Rattle.state.specs.State.{freshState}
+use Rattle.state.specs.State.{fresh_state}
 use Rattle.state.specs.Bytes.{state_of}
-use Rattle.rebinding.specs.Rebind.{liveRebind}
-use Rattle.runs.specs.machine.Live.{liveRun, liveTick}
+use Rattle.rebinding.specs.Rebind.{live_rebind}
+use Rattle.runs.specs.machine.Live.{live_run, live_tick}
 use Rattle.fairleadow.specs.telling.AnswersForC.{GivesBufferC}
-use Rattle.fairleadow.specs.runs_for_c.Calls.{GivesStateC, runFor, GivesRunC, tickFor, GivesTickC}
-use Rattle.fairleadow.specs.rebinding_for_c.Calls.{rebindFor, GivesRebindingC}
-use Rattle.agreement.specs.Agreement.{RunInput, RunOutput, CallInput, toRun, toRebind, CallOutput, walkOutputs}
+use Rattle.fairleadow.specs.runs_for_c.Calls.{GivesStateC, run_for, GivesRunC, tick_for, GivesTickC}
+use Rattle.fairleadow.specs.rebinding_for_c.Calls.{rebind_for, GivesRebindingC}
+use Rattle.agreement.specs.Agreement.{RunInput, RunOutput, CallInput, to_run, to_rebind, CallOutput, walk_outputs}
 use Rattle.agreement.specs.Agreement as agreed
 use Rattle.agreement.specs.Calls.{one_word}
 
@@ -26,28 +26,28 @@ pub record RunOutputC : Type 0 where
   pub masks : List ℕ
   pub codes : List ℕ
 
-abbrev pub runOutputC : RunOutput → RunOutputC
-runOutputC t =
+abbrev pub run_output_c : RunOutput → RunOutputC
+run_output_c t =
     record {
-      number = replyNumber t.reply;
-      index = replyIndex t.reply;
+      number = reply_number t.reply;
+      index = reply_index t.reply;
       count =
-          replyCount t.reply;
+          reply_count t.reply;
       masks = t.masks;
       codes = t.codes;
     }
 
 pub data CallOutputC : Type 0 where
-  byRunC : RunOutputC → CallOutputC
-  byRebindingC : ℕ → ℕ → ℕ → CallOutputC
+  by_run_c : RunOutputC → CallOutputC
+  by_rebinding_c : ℕ → ℕ → ℕ → CallOutputC
 
-abbrev pub callOutputC : CallOutput → CallOutputC
-callOutputC (agreed.byRun t) = byRunC (runOutputC t)
-callOutputC (agreed.byRebinding r) = byRebindingC (replyNumber r) (replyIndex r) (replyCount r)
+abbrev pub call_output_c : CallOutput → CallOutputC
+call_output_c (agreed.by_run t) = by_run_c (run_output_c t)
+call_output_c (agreed.by_rebinding r) = by_rebinding_c (reply_number r) (reply_index r) (reply_count r)
 
 -- a tick hands back its mask and its code as lists of one
-abbrev pub outputOfTickC : ℕ → ℕ → ℕ → ℕ → ℕ → CallOutputC
-outputOfTickC returned at made m k = byRunC (record { number = returned; index = at; count = made; masks = m ∷ []; codes = k ∷ [] })
+abbrev pub output_of_tick_c : ℕ → ℕ → ℕ → ℕ → ℕ → CallOutputC
+output_of_tick_c returned at made m k = by_run_c (record { number = returned; index = at; count = made; masks = m ∷ []; codes = k ∷ [] })
 
 -- a table of the image, as live calls are handed it:
 -- fairleadow_prepare returned 0 with n bytes, and these are the first n or more of its buffer
@@ -57,23 +57,24 @@ pub data TableOfC (image : List ℕ) : List ℕ → Type 0 where
 
 -- one call that is handed the image, or a table of it, and these bytes: what else it is given, what it hands back, and the bytes after it
 pub data CallC (image bytes : List ℕ) : CallInput → CallOutputC → List ℕ → Type 0 where
-  runCall : {a : RunInput} {t : RunOutputC} {after : List ℕ}
-      → GivesRunC (runFor image bytes a.words a.masks a.codes) bytes t.number t.index t.count after t.masks t.codes
-      → CallC image bytes (toRun a) (byRunC t) after
-  runCallLive : {table : List ℕ} {a : RunInput} {t : RunOutputC} {after : List ℕ} → TableOfC image table
-      → GivesRunC (liveRun table (state_of bytes) a.words a.masks a.codes) bytes
+  run_call : {a : RunInput} {t : RunOutputC} {after : List ℕ}
+      → GivesRunC (run_for image bytes a.words a.masks a.codes) bytes t.number t.index t.count after t.masks t.codes
+      → CallC image bytes (to_run a) (by_run_c t) after
+  run_call_live : {table : List ℕ} {a : RunInput} {t : RunOutputC} {after : List ℕ} → TableOfC image table
+      → GivesRunC (live_run table (state_of bytes) a.words a.masks a.codes) bytes
       t.number t.index t.count after t.masks t.codes
-      → CallC image bytes (toRun a) (byRunC t) after
-  tickCall : {w m₀ k₀ returned at made m k : ℕ} {after : List ℕ} → GivesTickC (tickFor image bytes w) bytes m₀ k₀ returned at made after m k
-      → CallC image bytes (one_word w m₀ k₀) (outputOfTickC returned at made m k) after
-  tickCallLive : {table : List ℕ} {w m₀ k₀ returned at made m k : ℕ} {after : List ℕ} → TableOfC image table
-      → GivesTickC (liveTick table (state_of bytes) w) bytes m₀ k₀ returned at made after m k
-      → CallC image bytes (one_word w m₀ k₀) (outputOfTickC returned at made m k) after
-  rebindCall : {h k returned at made : ℕ} {after : List ℕ} → GivesRebindingC (rebindFor image bytes h k) bytes returned at made after
-      → CallC image bytes (toRebind h k) (byRebindingC returned at made) after
-  rebindCallLive : {table : List ℕ} {h k returned at made : ℕ} {after : List ℕ} → TableOfC image table
-      → GivesRebindingC (liveRebind table (state_of bytes) h k) bytes returned at made after
-      → CallC image bytes (toRebind h k) (byRebindingC returned at made) after
+      → CallC image bytes (to_run a) (by_run_c t) after
+  tick_call : {w m₀ k₀ returned at made m k : ℕ} {after : List ℕ}
+      → GivesTickC (tick_for image bytes w) bytes m₀ k₀ returned at made after m k
+      → CallC image bytes (one_word w m₀ k₀) (output_of_tick_c returned at made m k) after
+  tick_call_live : {table : List ℕ} {w m₀ k₀ returned at made m k : ℕ} {after : List ℕ} → TableOfC image table
+      → GivesTickC (live_tick table (state_of bytes) w) bytes m₀ k₀ returned at made after m k
+      → CallC image bytes (one_word w m₀ k₀) (output_of_tick_c returned at made m k) after
+  rebind_call : {h k returned at made : ℕ} {after : List ℕ} → GivesRebindingC (rebind_for image bytes h k) bytes returned at made after
+      → CallC image bytes (to_rebind h k) (by_rebinding_c returned at made) after
+  rebind_call_live : {table : List ℕ} {h k returned at made : ℕ} {after : List ℕ} → TableOfC image table
+      → GivesRebindingC (live_rebind table (state_of bytes) h k) bytes returned at made after
+      → CallC image bytes (to_rebind h k) (by_rebinding_c returned at made) after
 
 -- calls in a row
 pub data CallsInTurnC (image : List ℕ) : List ℕ → List CallInput → List CallOutputC → Type 0 where
@@ -86,6 +87,7 @@ pub data CallsInTurnC (image : List ℕ) : List ℕ → List CallInput → List 
 unfoldable pub DeliveredC : Type 0
 DeliveredC =
     (text before after : List ℕ) (at n : ℕ) → GivesBufferC (translate text before) 0 at n after
-    → (size : ℕ) → 1 ≤ size → size ≤ PLACES → (returned at made : ℕ) (bytes : List ℕ) → GivesStateC (freshState size) returned at made bytes
+    → (size : ℕ) → 1 ≤ size → size ≤ PLACES → (returned at made : ℕ) (bytes : List ℕ)
+    → GivesStateC (fresh_state size) returned at made bytes
     → (given : List CallInput) (handed : List CallOutputC) → CallsInTurnC (take n after) bytes given handed
-    → handed ≡ map callOutputC (walkOutputs size (contents text) given)
+    → handed ≡ map call_output_c (walk_outputs size (contents text) given)

@@ -2,7 +2,7 @@
 -- Only the laws of runs alone speak of it.
 use Rattle.std.specs.Prelude.{ℕ, ◌+◌, ◌≤◌, true, false, ◌≡◌, List, [], ◌∷◌, length, take}
 use Rattle.words.specs.lists.Pick.{pick}
-use Rattle.words.specs.lists.Sequences.{concatMap}
+use Rattle.words.specs.lists.Sequences.{concat_map}
 use Rattle.text.specs.frames.Frame.{contents}
 use Rattle.text.specs.frames.Answer.{success}
 use Rattle.charts.specs.Chart.{Chart}
@@ -10,29 +10,30 @@ use Rattle.walk.specs.Walk.{Tick}
 use Rattle.walk.specs.Unswapped.{walk}
 use Rattle.state.specs.declared.layout.TheConstants.{PLACES}
 use Rattle.state.specs.declared.State.{State}
-use Rattle.agreement.specs.Agreement.{Translator, Maker, Runner, RunInput, RunOutput, outputOf, short, bound, expected, refusedShort}
+use Rattle.agreement.specs.Agreement.{Translator, Maker, Runner, RunInput, RunOutput, output_of, is_short, bound, expected_output}
+use Rattle.agreement.specs.Agreement.{output_refused_short}
 
 -- each run is given the image, and the state that the one before handed back
-unfoldable pub runOutputs : Runner → List ℕ → State → List RunInput → List RunOutput
-runOutputs run image s [] = []
-runOutputs run image s (a ∷ rest) = let r = run image s a.words a.masks a.codes in
-    outputOf r ∷ runOutputs run image r.state rest
+unfoldable pub run_outputs : Runner → List ℕ → State → List RunInput → List RunOutput
+run_outputs run image s [] = []
+run_outputs run image s (a ∷ rest) = let r = run image s a.words a.masks a.codes in
+    output_of r ∷ run_outputs run image r.state rest
 
-abbrev pub joinedRunWords : List RunInput → List ℕ
-joinedRunWords = concatMap (λ a. pick (short a) [] a.words)
+abbrev pub joined_run_words : List RunInput → List ℕ
+joined_run_words = concat_map (λ a. pick (is_short a) [] a.words)
 
-unfoldable pub expectedRuns : ℕ → List Tick → ℕ → List RunInput → List RunOutput
-expectedRuns b ts p [] = []
-expectedRuns b ts p (a ∷ rest) = elim (short a) [
-  | true ↦ refusedShort a ∷ expectedRuns b ts p rest
-  | false ↦ expected b ts p a ∷ expectedRuns b ts (p + length a.words) rest
+unfoldable pub expected_runs : ℕ → List Tick → ℕ → List RunInput → List RunOutput
+expected_runs b ts p [] = []
+expected_runs b ts p (a ∷ rest) = elim (is_short a) [
+  | true ↦ output_refused_short a ∷ expected_runs b ts p rest
+  | false ↦ expected_output b ts p a ∷ expected_runs b ts (p + length a.words) rest
 ]
 
-abbrev pub walkRuns : ℕ → Chart → List RunInput → List RunOutput
-walkRuns size c asked = let ticks = walk size c (joinedRunWords asked) in expectedRuns (bound size ticks) ticks 0 asked
+abbrev pub walk_runs : ℕ → Chart → List RunInput → List RunOutput
+walk_runs size c asked = let ticks = walk size c (joined_run_words asked) in expected_runs (bound size ticks) ticks 0 asked
 
 unfoldable pub RunAgreement : Translator → Maker → Runner → Type 0
 RunAgreement translator fresh run =
     (text out : List ℕ) (n : ℕ) → (translator text out).reply ≡ success n
     → (size : ℕ) → 1 ≤ size → size ≤ PLACES → (asked : List RunInput)
-    → runOutputs run (take n (translator text out).buffer) (fresh size).state asked ≡ walkRuns size (contents text) asked
+    → run_outputs run (take n (translator text out).buffer) (fresh size).state asked ≡ walk_runs size (contents text) asked

@@ -9,67 +9,67 @@ use Rattle.text.specs.frames.Answer.{refusal, BufferOutcome}
 use Rattle.translator.specs.Entry.{translate}
 use Rattle.state.specs.State.{fresh}
 use Rattle.ticks.specs.Tick.{tick}
-use Rattle.rows.specs.Rows.{bestRow}
-use Rattle.runs.specs.Run.{RunOutcome, ticks, runOn}
-use Rattle.bench.specs.Bench.{BenchSheet, chartP, imageP, benchWords, chartHome, chartSmall, chartMixed, chartCircle}
-use Rattle.bench.specs.Bench.{chartFunction, chartBore, boreWords, chartAgain, freshRun, image_of}
+use Rattle.rows.specs.Rows.{best_row}
+use Rattle.runs.specs.Run.{RunOutcome, ticks, run_on}
+use Rattle.bench.specs.Bench.{BenchSheet, chart_p, image_p, bench_words, chart_home, chart_small, chart_mixed, chart_circle}
+use Rattle.bench.specs.Bench.{chart_function, chart_bore, bore_words, chart_again, fresh_run, image_of}
 use Rattle.bench.proofs.Computing.{framing, translating}
-use Rattle.bench.proofs.Tables.{tableP, of-P, imageHome, of-home, imageFunction, of_function, tableBore}
-use Rattle.bench.proofs.Tables.{imageBore, of-bore, tableAgain, imageAgain, of-again}
+use Rattle.bench.proofs.Tables.{table_p, of-P, image_home, of-home, image_function, of_function, table_bore}
+use Rattle.bench.proofs.Tables.{image_bore, of-bore, table_again, image_again, of-again}
 use Rattle.bench.proofs.Rounds.{blank, fresh-run, home-walk, home-run, function-run}
 
 refused-texts : (out : List ℕ) → (translate [] out ≡ record { reply = refusal 1 0 0; buffer = out })
-    × (translate chartCircle out ≡ record { reply = refusal 8 1 0; buffer = out })
-unfolding translating chartCircle
+    × (translate chart_circle out ≡ record { reply = refusal 8 1 0; buffer = out })
+unfolding translating chart_circle
 refused-texts out = (refl, refl)
 
-small-texts : (out : List ℕ) → (translate chartSmall out ≡ translate chartHome out) × (translate chartMixed out ≡ translate chartP out)
-unfolding translating chartHome chartSmall chartP chartMixed
+small-texts : (out : List ℕ) → (translate chart_small out ≡ translate chart_home out) × (translate chart_mixed out ≡ translate chart_p out)
+unfolding translating chart_home chart_small chart_p chart_mixed
 small-texts out = (refl, refl)
 
 -- ---- chart P, run on its table
 run-P : (size : ℕ) → 1 ≤ size → size ≤ 32 → (ws : List ℕ)
-    → freshRun imageP size ws ≡ runOn fine (λ _. ticks tableP (fresh size) ws) (fresh size) (blank ws) (blank ws)
+    → fresh_run image_p size ws ≡ run_on fine (λ _. ticks table_p (fresh size) ws) (fresh size) (blank ws) (blank ws)
 run-P = fresh-run of-P
 
 -- ---- the images of the other charts
-image-home : image_of 92 chartHome ≡ imageHome
-unfolding framing imageHome
+image-home : image_of 92 chart_home ≡ image_home
+unfolding framing image_home
 image-home = ap (λ (l : BufferOutcome). l.buffer) (of-home.translated (replicate 92 0))
 
-image-function : image_of 276 chartFunction ≡ imageFunction
-unfolding framing imageFunction
+image-function : image_of 276 chart_function ≡ image_function
+unfolding framing image_function
 image-function = ap (λ (l : BufferOutcome). l.buffer) (of_function.translated (replicate 276 0))
 
-on-function : (size : ℕ) (ws : List ℕ) → freshRun (image_of 276 chartFunction) size ws ≡ freshRun imageFunction size ws
-on-function size ws = ap (λ (image : List ℕ). freshRun image size ws) image-function
+on-function : (size : ℕ) (ws : List ℕ) → fresh_run (image_of 276 chart_function) size ws ≡ fresh_run image_function size ws
+on-function size ws = ap (λ (image : List ℕ). fresh_run image size ws) image-function
 
 -- ---- calls that clear
-run-bore : freshRun (image_of 391 chartBore) 2 boreWords ≡ runOn fine (λ _. ticks tableBore (fresh 2) boreWords)
-    (fresh 2) (blank boreWords) (blank boreWords)
-unfolding framing imageBore
+run-bore : fresh_run (image_of 391 chart_bore) 2 bore_words ≡ run_on fine (λ _. ticks table_bore (fresh 2) bore_words)
+    (fresh 2) (blank bore_words) (blank bore_words)
+unfolding framing image_bore
 run-bore =
-    ap (λ (l : BufferOutcome). freshRun l.buffer 2 boreWords) (of-bore.translated (replicate 391 0))
-    ∙ fresh-run of-bore 2 (omega arith) (omega arith) boreWords
+    ap (λ (l : BufferOutcome). fresh_run l.buffer 2 bore_words) (of-bore.translated (replicate 391 0))
+    ∙ fresh-run of-bore 2 (omega arith) (omega arith) bore_words
 
 run-again : (ws : List ℕ)
-    → freshRun (image_of 253 chartAgain) 3 ws ≡ runOn fine (λ _. ticks tableAgain (fresh 3) ws) (fresh 3) (blank ws) (blank ws)
-unfolding framing imageAgain
+    → fresh_run (image_of 253 chart_again) 3 ws ≡ run_on fine (λ _. ticks table_again (fresh 3) ws) (fresh 3) (blank ws) (blank ws)
+unfolding framing image_again
 run-again ws =
-    ap (λ (l : BufferOutcome). freshRun l.buffer 3 ws) (of-again.translated (replicate 253 0))
+    ap (λ (l : BufferOutcome). fresh_run l.buffer 3 ws) (of-again.translated (replicate 253 0))
     ∙ fresh-run of-again 3 (omega arith) (omega arith) ws
 
 pub bench-sheet : BenchSheet
-unfolding ticks tick bestRow tableP benchWords tableBore boreWords tableAgain
+unfolding ticks tick best_row table_p bench_words table_bore bore_words table_again
 bench-sheet = record {
   b1 = of-P.translated;
-  b2 = let e = run-P 3 (omega arith) (omega arith) benchWords in
+  b2 = let e = run-P 3 (omega arith) (omega arith) bench_words in
       (ap (λ (r : RunOutcome). r.reply) e, ap (λ (r : RunOutcome). r.codes) e, ap (λ (r : RunOutcome). r.masks) e);
-  b3 = ap (λ (r : RunOutcome). r.reply) (run-P 2 (omega arith) (omega arith) benchWords);
-  b4 = ap (λ (r : RunOutcome). r.reply) (run-P 1 (omega arith) (omega arith) benchWords);
+  b3 = ap (λ (r : RunOutcome). r.reply) (run-P 2 (omega arith) (omega arith) bench_words);
+  b4 = ap (λ (r : RunOutcome). r.reply) (run-P 1 (omega arith) (omega arith) bench_words);
   b5 = λ size l h. ap (λ (r : RunOutcome). r.reply) (run-P size l h []);
   b6-walk = home-walk;
-  b6-run = λ size l h ws. ap (λ (image : List ℕ). freshRun image size ws) image-home ∙ home-run size l h ws;
+  b6-run = λ size l h ws. ap (λ (image : List ℕ). fresh_run image size ws) image-home ∙ home-run size l h ws;
   b7-empty = λ out. (refused-texts out).0;
   b7-small = λ out. (small-texts out).0;
   b7-mixed = λ out. (small-texts out).1;
@@ -83,6 +83,6 @@ bench-sheet = record {
         run-bore,
     ap (λ (r : RunOutcome). r.masks) run-bore,
   );
-  ownCall = ap (λ (r : RunOutcome). r.state.bits) (run-again (replicate 4 0));
-  fullCall = let e = run-again (replicate 6 0) in (ap (λ (r : RunOutcome). r.reply) e, ap (λ (r : RunOutcome). r.state.bits) e);
+  own_call = ap (λ (r : RunOutcome). r.state.bits) (run-again (replicate 4 0));
+  full_call = let e = run-again (replicate 6 0) in (ap (λ (r : RunOutcome). r.reply) e, ap (λ (r : RunOutcome). r.state.bits) e);
 }

@@ -1,14 +1,14 @@
 -- The cases of a tick's cause hold, computed.
 use mathlib.Core.Path.{refl}
 use lib.Count.{ones, ones_in}
-use Rattle.cause.specs.Cause.{againstAll, leaving, causeOf, explain}
-use Rattle.bench.specs.Bench.{imageP}
-use Rattle.bench.specs.Patched.{imageEqual}
-use Rattle.bench.specs.Causes.{imageAnswers, CauseCases, RowCauses, AnswerCauses}
+use Rattle.cause.specs.Cause.{mask_against_all, leaving, cause_of, explain}
+use Rattle.bench.specs.Bench.{image_p}
+use Rattle.bench.specs.Patched.{image_equal}
+use Rattle.bench.specs.Causes.{image_answers, CauseCases, RowCauses, AnswerCauses}
 use Rattle.bench.proofs.Computing.{running}
 
 pub cause-cases : CauseCases
-unfolding running againstAll leaving causeOf explain imageP
+unfolding running mask_against_all leaving cause_of explain image_p
 cause-cases = record {
   plain-zero = refl;
   plain-one = refl;
@@ -22,11 +22,11 @@ cause-cases = record {
 }
 
 pub row-causes : RowCauses
-unfolding running ones ones_in againstAll leaving causeOf explain imageEqual
+unfolding running ones ones_in mask_against_all leaving cause_of explain image_equal
 row-causes = record { tie = refl; more = refl; lowest = refl }
 
 pub answer-causes : AnswerCauses
-unfolding running ones ones_in againstAll leaving causeOf explain imageEqual imageAnswers
+unfolding running ones ones_in mask_against_all leaving cause_of explain image_equal image_answers
 answer-causes = record {
   either-one = refl;
   either-zero = refl;

@@ -1,14 +1,14 @@
 -- The cases of how often the stack fills hold, computed.
 use mathlib.Core.Path.{refl}
 use Rattle.words.specs.lists.Numbers.{count}
-use Rattle.fillings.specs.Counts.{words_of, meeting, countVerdict, countFillings}
-use Rattle.bench.specs.Bench.{imageP}
-use Rattle.bench.specs.Handler.{imageHandler}
-use Rattle.bench.specs.Fillings.{imageNoRow, FillingCases}
+use Rattle.fillings.specs.Counts.{words_of, count_meeting, count_verdict, count_fillings}
+use Rattle.bench.specs.Bench.{image_p}
+use Rattle.bench.specs.Handler.{image_handler}
+use Rattle.bench.specs.Fillings.{image_no_row, FillingCases}
 use Rattle.bench.proofs.Computing.{running}
 
 pub filling-cases : FillingCases
-unfolding running count words_of meeting countVerdict countFillings imageP imageNoRow imageHandler
+unfolding running count words_of count_meeting count_verdict count_fillings image_p image_no_row image_handler
 filling-cases = record {
   filled = refl;
   lacking = refl;

@@ -6,43 +6,43 @@ use Prim.Native.Nat.{ℕ, ◌≤◌}
 use native.Mathlib.Omega.{arith}
 use Rattle.text.specs.frames.Verdict.{fine}
 use Rattle.state.specs.State.{fresh}
-use Rattle.runs.specs.Run.{RunOutcome, ticks, runOn}
-use Rattle.agreement.proofs.Images.{runImage, run-image}
-use Rattle.bench.specs.Bench.{freshRun}
-use Rattle.bench.specs.Handler.{chartHandler, imageHandler, dropWords, bottomWords}
-use Rattle.bench.specs.Handler.{ordinaryWords, handlerState, replyToWord, HandlerCases}
+use Rattle.runs.specs.Run.{RunOutcome, ticks, run_on}
+use Rattle.agreement.proofs.Images.{run_image, run-image}
+use Rattle.bench.specs.Bench.{fresh_run}
+use Rattle.bench.specs.Handler.{chart_handler, image_handler, drop_words, bottom_words}
+use Rattle.bench.specs.Handler.{ordinary_words, handler_state, reply_to_word, HandlerCases}
 use Rattle.bench.proofs.Computing.{walking, checking, ticking}
-use Rattle.bench.proofs.Tables.{tableHandler, of-handler}
+use Rattle.bench.proofs.Tables.{table_handler, of-handler}
 use Rattle.bench.proofs.Rounds.{blank, fresh-run}
 
 -- ---- runs, on the chart's table
 run-handler : (size : ℕ) → 1 ≤ size → size ≤ 32 → (ws : List ℕ)
-    → freshRun imageHandler size ws ≡ runOn fine (λ _. ticks tableHandler (fresh size) ws) (fresh size) (blank ws) (blank ws)
+    → fresh_run image_handler size ws ≡ run_on fine (λ _. ticks table_handler (fresh size) ws) (fresh size) (blank ws) (blank ws)
 run-handler = fresh-run of-handler
 
-two : (ws : List ℕ) → freshRun imageHandler 2 ws ≡ runOn fine (λ _. ticks tableHandler (fresh 2) ws) (fresh 2) (blank ws) (blank ws)
+two : (ws : List ℕ) → fresh_run image_handler 2 ws ≡ run_on fine (λ _. ticks table_handler (fresh 2) ws) (fresh 2) (blank ws) (blank ws)
 two = run-handler 2 (omega arith) (omega arith)
 
 -- a run of one word, tried on the table too
 tried : (d l h above g : ℕ)
-    → replyToWord d l h above g ≡ (runImage tableHandler (handlerState d l h above g false false) (0 ∷ []) (0 ∷ []) (0 ∷ [])).reply
+    → reply_to_word d l h above g ≡ (run_image table_handler (handler_state d l h above g false false) (0 ∷ []) (0 ∷ []) (0 ∷ [])).reply
 tried d l h above g = ap (λ (r : RunOutcome). r.reply)
-    (run-image imageHandler tableHandler of-handler.passes of-handler.decodes
-    (handlerState d l h above g false false) (0 ∷ []) (0 ∷ []) (0 ∷ []))
+    (run-image image_handler table_handler of-handler.passes of-handler.decodes
+    (handler_state d l h above g false false) (0 ∷ []) (0 ∷ []) (0 ∷ []))
 
 pub handler-cases : HandlerCases
-unfolding walking checking ticking tableHandler chartHandler imageHandler dropWords bottomWords ordinaryWords
+unfolding walking checking ticking table_handler chart_handler image_handler drop_words bottom_words ordinary_words
 handler-cases =
-    let ordinary = two ordinaryWords in
-    let roomy = run-handler 32 (omega arith) (omega arith) dropWords in
-    let narrow = run-handler 1 (omega arith) (omega arith) dropWords in
+    let ordinary = two ordinary_words in
+    let roomy = run-handler 32 (omega arith) (omega arith) drop_words in
+    let narrow = run-handler 1 (omega arith) (omega arith) drop_words in
     record {
       translated = of-handler.translated;
       drop-walk = refl;
       drop-before = ap (λ (r : RunOutcome). r.state) (two _);
-      drop-run = two dropWords;
+      drop-run = two drop_words;
       bottom-walk = refl;
-      bottom-run = two bottomWords;
+      bottom-run = two bottom_words;
       ordinary-before = ap (λ (r : RunOutcome). r.state) (two _);
       ordinary-after = ap (λ (r : RunOutcome). r.state) (two _);
       ordinary-run = (

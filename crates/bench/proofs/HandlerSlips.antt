@@ -9,79 +9,80 @@ use native.Mathlib.Omega.{arith}
 use lib.Dec.{leb, eqb}
 use lib.ListN.{take, set}
 use Rattle.words.specs.lists.Pick.{pick}
-use Rattle.results.specs.Results.{Results, result_of, withResult, cleared}
-use Rattle.text.specs.frames.Answer.{replyNumber}
+use Rattle.results.specs.Results.{Results, result_of, with_result, cleared_results}
+use Rattle.text.specs.frames.Answer.{reply_number}
 use Rattle.image.specs.Image.{Image, Label}
 use Rattle.translator.specs.Entry.{translate}
 use Rattle.state.specs.declared.State.{State}
-use Rattle.state.specs.State.{label_at, entry_at, placeAt, fresh, freshState}
-use Rattle.state.specs.Changes.{withPlaces, withPlace, withOpened, with_bits}
-use Rattle.fitness.specs.Fitness.{is_call, ofHandler}
-use Rattle.ticks.specs.Tick.{rowLeads, MachineTick, finished, stopped, moved, alone, full, tick, top_of}
+use Rattle.state.specs.State.{label_at, entry_at, place_at, fresh, fresh_state}
+use Rattle.state.specs.Changes.{with_places, with_place, with_opened, with_bits}
+use Rattle.fitness.specs.Fitness.{is_call, is_of_handler}
+use Rattle.ticks.specs.Tick.{row_leads, MachineTick, finished, stopped, moved_tick, state_alone, full_tick, tick, top_of}
 use Rattle.ticks.specs.inner.TickContracts.{beneath}
-use Rattle.ticks.specs.Functions.{findsFull, returnTick}
+use Rattle.ticks.specs.Functions.{is_at_full_call, return_tick}
 use Rattle.runs.specs.Run.{RunOutcome, run}
-use Rattle.agreement.specs.Agreement.{Runner, Rebinder, CallInput, CallOutput, callOutputs, Agreement}
-use Rattle.agreement.proofs.Images.{runImage, run-image}
-use Rattle.bench.specs.Handler.{imageHandler, dropWords, bottomWords, ordinaryWords}
+use Rattle.agreement.specs.Agreement.{Runner, Rebinder, CallInput, CallOutput, call_outputs, Agreement}
+use Rattle.agreement.proofs.Images.{run_image, run-image}
+use Rattle.bench.specs.Handler.{image_handler, drop_words, bottom_words, ordinary_words}
 use Rattle.bench.proofs.Computing.{running}
-use Rattle.bench.proofs.Tables.{tableHandler, of-handler}
-use Rattle.bench.proofs.Instances.{aloneInput, runAlone, secondOutput, at_drop, at-bottom, at-ordinary, at_parted}
-use Rattle.bench.proofs.Variants.{StepRule, ticksByRule, run_by, decodedRunBy, by-table, made, chain-made, topNumber, code_at}
+use Rattle.bench.proofs.Tables.{table_handler, of-handler}
+use Rattle.bench.proofs.Instances.{alone_input, run_alone, second_output, at_drop, at-bottom, at-ordinary, at_parted}
+use Rattle.bench.proofs.Variants.{StepRule, ticks_by_rule, run_by, decoded_run_by, by-table, made, chain-made, top_number, code_at}
 
 -- ---- the label at the top, the number that its scheme was called by, and the bits with its result
-abbrev topLabel : Image → State → Label
-topLabel i s = label_at i (top_of s)
+abbrev top_label : Image → State → Label
+top_label i s = label_at i (top_of s)
 
 abbrev written : Image → State → Results
-written i s = withResult (topLabel i s).result (topNumber s) s.bits
+written i s = with_result (top_label i s).result (top_number s) s.bits
 
 -- the machine's tick, but after a drop the state is what f makes of the states before and after it
-abbrev altered : (State → State) → MachineTick → MachineTick
-altered f (finished m code t) = finished m code (pick (eqb code 96) (f t) t)
-altered f (stopped n) = stopped n
+abbrev altered_tick : (State → State) → MachineTick → MachineTick
+altered_tick f (finished m code t) = finished m code (pick (eqb code 96) (f t) t)
+altered_tick f (stopped n) = stopped n
 
-abbrev afterDrop : (Image → State → State → State) → StepRule
-afterDrop f i s w = altered (f i s) (tick i s w)
+abbrev after_drop : (Image → State → State → State) → StepRule
+after_drop f i s w = altered_tick (f i s) (tick i s w)
 
 -- ---- 17 in the place of every drop
-abbrev pub neverDrops : StepRule
-neverDrops i s w = pick (findsFull i s) (stopped 17) (tick i s w)
+abbrev pub never_drops : StepRule
+never_drops i s w = pick (is_at_full_call i s) (stopped 17) (tick i s w)
 
-pub never-drops-fails : (g : Rebinder) → Agreement translate freshState (run_by neverDrops) g → ⊥
-unfolding running ticksByRule tableHandler dropWords
+pub never-drops-fails : (g : Rebinder) → Agreement translate fresh_state (run_by never_drops) g → ⊥
+unfolding running ticks_by_rule table_handler drop_words
 never-drops-fails g claim =
     let z : ◌≡◌ {A = ℕ} 7 96 =
-    ap (code_at 3) (made of-handler neverDrops 2 dropWords (at_drop (run_by neverDrops) g claim)) in
+    ap (code_at 3) (made of-handler never_drops 2 drop_words (at_drop (run_by never_drops) g claim)) in
     omega arith
 
 -- ---- a drop at depth Σ - 1
-abbrev pub dropsEarly : StepRule
-dropsEarly i s w = pick (is_call (topLabel i s) && leb (s.size - 1) s.depth) (full i s (topLabel i s).mask (written i s)) (tick i s w)
+abbrev pub drops_early : StepRule
+drops_early i s w =
+    pick (is_call (top_label i s) && leb (s.size - 1) s.depth) (full_tick i s (top_label i s).mask (written i s)) (tick i s w)
 
-pub drops-early-fails : (g : Rebinder) → Agreement translate freshState (run_by dropsEarly) g → ⊥
-unfolding running ticksByRule tableHandler dropWords
+pub drops-early-fails : (g : Rebinder) → Agreement translate fresh_state (run_by drops_early) g → ⊥
+unfolding running ticks_by_rule table_handler drop_words
 drops-early-fails g claim =
     let z : ◌≡◌ {A = ℕ} 96 66 =
-    ap (code_at 1) (made of-handler dropsEarly 2 dropWords (at_drop (run_by dropsEarly) g claim)) in
+    ap (code_at 1) (made of-handler drops_early 2 drop_words (at_drop (run_by drops_early) g claim)) in
     omega arith
 
 -- ---- a drop though the handler is at the bottom
-abbrev pub dropsAgain : StepRule
-dropsAgain i s w = pick (findsFull i s && ofHandler i (placeAt s 0))
-    (finished (topLabel i s).mask 96 (alone s (entry_at i i.handler) i.handler (cleared i.handler (written i s))))
+abbrev pub drops_again : StepRule
+drops_again i s w = pick (is_at_full_call i s && is_of_handler i (place_at s 0))
+    (finished (top_label i s).mask 96 (state_alone s (entry_at i i.handler) i.handler (cleared_results i.handler (written i s))))
     (tick i s w)
 
-pub drops-again-fails : (g : Rebinder) → Agreement translate freshState (run_by dropsAgain) g → ⊥
-unfolding running ticksByRule tableHandler bottomWords
+pub drops-again-fails : (g : Rebinder) → Agreement translate fresh_state (run_by drops_again) g → ⊥
+unfolding running ticks_by_rule table_handler bottom_words
 drops-again-fails g claim =
     let z : ◌≡◌ {A = ℕ} 96 7 =
-    ap (code_at 7) (made of-handler dropsAgain 2 bottomWords (at-bottom (run_by dropsAgain) g claim)) in
+    ap (code_at 7) (made of-handler drops_again 2 bottom_words (at-bottom (run_by drops_again) g claim)) in
     omega arith
 
 -- ---- a handler that counts zero: with it at the bottom there is a place more
-abbrev resized : ℕ → State → State
-resized n s = record {
+abbrev resized_state : ℕ → State → State
+resized_state n s = record {
   size = n;
   depth = s.depth;
   places = s.places;
@@ -91,76 +92,76 @@ resized n s = record {
   servers = s.servers;
 }
 
-abbrev resizedAfter : ℕ → MachineTick → MachineTick
-resizedAfter n (finished m code t) = finished m code (resized n t)
-resizedAfter n (stopped k) = stopped k
+abbrev tick_resized_after : ℕ → MachineTick → MachineTick
+tick_resized_after n (finished m code t) = finished m code (resized_state n t)
+tick_resized_after n (stopped k) = stopped k
 
-abbrev pub countsZero : StepRule
-countsZero i s w = pick (ofHandler i (placeAt s 0)) (resizedAfter s.size (tick i (resized (suc s.size) s) w)) (tick i s w)
+abbrev pub counts_zero : StepRule
+counts_zero i s w = pick (is_of_handler i (place_at s 0)) (tick_resized_after s.size (tick i (resized_state (suc s.size) s) w)) (tick i s w)
 
-pub counts-zero-fails : (g : Rebinder) → Agreement translate freshState (run_by countsZero) g → ⊥
-unfolding running ticksByRule tableHandler bottomWords
+pub counts-zero-fails : (g : Rebinder) → Agreement translate fresh_state (run_by counts_zero) g → ⊥
+unfolding running ticks_by_rule table_handler bottom_words
 counts-zero-fails g claim =
     let z : ◌≡◌ {A = ℕ} 18 7 =
-    ap (code_at 7) (made of-handler countsZero 2 bottomWords (at-bottom (run_by countsZero) g claim)) in
+    ap (code_at 7) (made of-handler counts_zero 2 bottom_words (at-bottom (run_by counts_zero) g claim)) in
     omega arith
 
 -- ---- a handler's scheme that was called taken for the handler at the bottom
-abbrev pub heedsCalled : StepRule
-heedsCalled i s w = pick (findsFull i s && ofHandler i (top_of s)) (stopped 17) (tick i s w)
+abbrev pub heeds_called : StepRule
+heeds_called i s w = pick (is_at_full_call i s && is_of_handler i (top_of s)) (stopped 17) (tick i s w)
 
-pub heeds-called-fails : (g : Rebinder) → Agreement translate freshState (run_by heedsCalled) g → ⊥
-unfolding running ticksByRule tableHandler ordinaryWords
+pub heeds-called-fails : (g : Rebinder) → Agreement translate fresh_state (run_by heeds_called) g → ⊥
+unfolding running ticks_by_rule table_handler ordinary_words
 heeds-called-fails g claim =
     let z : ◌≡◌ {A = ℕ} 7 96 =
-    ap (code_at 6) (made of-handler heedsCalled 2 ordinaryWords (at-ordinary (run_by heedsCalled) g claim)) in
+    ap (code_at 6) (made of-handler heeds_called 2 ordinary_words (at-ordinary (run_by heeds_called) g claim)) in
     omega arith
 
 -- ---- a handler that returns to what stood beneath the caller: it starts in the caller's place
-abbrev pub keepsBeneath : StepRule
-keepsBeneath = afterDrop (λ i s t. with_bits (withOpened s (s.depth - 1) (entry_at i i.handler) i.handler i.handler) t.bits)
+abbrev pub keeps_beneath : StepRule
+keeps_beneath = after_drop (λ i s t. with_bits (with_opened s (s.depth - 1) (entry_at i i.handler) i.handler i.handler) t.bits)
 
-pub keeps-beneath-fails : (g : Rebinder) → Agreement translate freshState (run_by keepsBeneath) g → ⊥
-unfolding running ticksByRule tableHandler dropWords
+pub keeps-beneath-fails : (g : Rebinder) → Agreement translate fresh_state (run_by keeps_beneath) g → ⊥
+unfolding running ticks_by_rule table_handler drop_words
 keeps-beneath-fails g claim =
     let z : ◌≡◌ {A = ℕ} 19 4 =
-    ap (code_at 6) (made of-handler keepsBeneath 2 dropWords (at_drop (run_by keepsBeneath) g claim)) in
+    ap (code_at 6) (made of-handler keeps_beneath 2 drop_words (at_drop (run_by keeps_beneath) g claim)) in
     omega arith
 
 -- ---- a handler that returns to the dropped caller: a drop keeps the caller's label above the handler, and the return takes its row
-abbrev pub returnsToCaller : StepRule
-returnsToCaller i s w = pick (eqb (topLabel i s).kind 3 && leb s.depth 1 && not (eqb (placeAt s 1) 0))
-    (moved 0 3 (alone s 0 1 s.bits) 0 (rowLeads i s.bits (placeAt s 1) w))
-    (afterDrop (λ i s t. withPlace t 1 (top_of s)) i s w)
+abbrev pub returns_to_caller : StepRule
+returns_to_caller i s w = pick (eqb (top_label i s).kind 3 && leb s.depth 1 && not (eqb (place_at s 1) 0))
+    (moved_tick 0 3 (state_alone s 0 1 s.bits) 0 (row_leads i s.bits (place_at s 1) w))
+    (after_drop (λ i s t. with_place t 1 (top_of s)) i s w)
 
-pub returns-to-caller-fails : (g : Rebinder) → Agreement translate freshState (run_by returnsToCaller) g → ⊥
-unfolding running ticksByRule tableHandler dropWords
+pub returns-to-caller-fails : (g : Rebinder) → Agreement translate fresh_state (run_by returns_to_caller) g → ⊥
+unfolding running ticks_by_rule table_handler drop_words
 returns-to-caller-fails g claim =
     let z : ◌≡◌ {A = ℕ} 3 4 =
-    ap (code_at 6) (made of-handler returnsToCaller 2 dropWords (at_drop (run_by returnsToCaller) g claim)) in
+    ap (code_at 6) (made of-handler returns_to_caller 2 drop_words (at_drop (run_by returns_to_caller) g claim)) in
     omega arith
 
 -- ---- the handler's return at depth 1 takes a row, of which label 1 has none
-abbrev pub takesRow : StepRule
-takesRow i s w = pick (eqb (topLabel i s).kind 3) (returnTick s (beneath i s w)) (tick i s w)
+abbrev pub takes_row : StepRule
+takes_row i s w = pick (eqb (top_label i s).kind 3) (return_tick s (beneath i s w)) (tick i s w)
 
-pub takes-row-fails : (g : Rebinder) → Agreement translate freshState (run_by takesRow) g → ⊥
-unfolding running ticksByRule tableHandler dropWords
+pub takes-row-fails : (g : Rebinder) → Agreement translate fresh_state (run_by takes_row) g → ⊥
+unfolding running ticks_by_rule table_handler drop_words
 takes-row-fails g claim =
     let z : ◌≡◌ {A = ℕ} 7 3 =
-    ap (code_at 5) (made of-handler takesRow 2 dropWords (at_drop (run_by takesRow) g claim)) in
+    ap (code_at 5) (made of-handler takes_row 2 drop_words (at_drop (run_by takes_row) g claim)) in
     omega arith
 
 -- ---- the places above the handler left as they were: the next run gets 15
-abbrev pub leavesPlaces : StepRule
-leavesPlaces = afterDrop (λ i s t. withPlaces t (set s.places 0 (entry_at i i.handler)) t.numbers t.servers)
+abbrev pub leaves_places : StepRule
+leaves_places = after_drop (λ i s t. with_places t (set s.places 0 (entry_at i i.handler)) t.numbers t.servers)
 
-pub leaves-places-fails : (g : Rebinder) → Agreement translate freshState (run_by leavesPlaces) g → ⊥
-unfolding running ticksByRule tableHandler callOutputs
+pub leaves-places-fails : (g : Rebinder) → Agreement translate fresh_state (run_by leaves_places) g → ⊥
+unfolding running ticks_by_rule table_handler call_outputs
 leaves-places-fails g claim =
-    let given : List CallInput = runAlone (0 ∷ 0 ∷ 1 ∷ 0 ∷ []) ∷ runAlone (0 ∷ []) ∷ [] in
-    let handed = sym (chain-made of-handler leavesPlaces g (fresh 2) given) ∙ at_parted (run_by leavesPlaces) g claim in
-    let z : ◌≡◌ {A = ℕ} 15 0 = ap (λ (ds : List CallOutput). replyNumber (secondOutput ds).reply) handed in
+    let given : List CallInput = run_alone (0 ∷ 0 ∷ 1 ∷ 0 ∷ []) ∷ run_alone (0 ∷ []) ∷ [] in
+    let handed = sym (chain-made of-handler leaves_places g (fresh 2) given) ∙ at_parted (run_by leaves_places) g claim in
+    let z : ◌≡◌ {A = ℕ} 15 0 = ap (λ (ds : List CallOutput). reply_number (second_output ds).reply) handed in
     omega arith
 
 -- ---- slips in the result bits
@@ -169,47 +170,47 @@ abbrev pub HandsBack : Runner → Type 0
 HandsBack f = (image : List ℕ) (s : State) (ws ms ks : List ℕ) → (f image s ws ms ks).state ≡ (run image s ws ms ks).state
 
 -- the two states after these words, from a fresh one with two places, by the chart's table
-states-made : (step : StepRule) → HandsBack (run_by step) → (ws : List ℕ) → let a = aloneInput ws in
-    (decodedRunBy tableHandler step imageHandler (fresh 2) ws a.masks a.codes).state ≡ (runImage
-    tableHandler (fresh 2) ws a.masks a.codes).state
+states-made : (step : StepRule) → HandsBack (run_by step) → (ws : List ℕ) → let a = alone_input ws in
+    (decoded_run_by table_handler step image_handler (fresh 2) ws a.masks a.codes).state ≡ (run_image
+    table_handler (fresh 2) ws a.masks a.codes).state
 states-made step claim ws =
-    let a = aloneInput ws in
+    let a = alone_input ws in
     sym (ap (λ (r : RunOutcome). r.state) (by-table of-handler step (fresh 2) ws a.masks a.codes))
-    ∙ claim imageHandler (fresh 2) ws a.masks a.codes
+    ∙ claim image_handler (fresh 2) ws a.masks a.codes
     ∙ ap (λ (r : RunOutcome). r.state)
-    (run-image imageHandler tableHandler of-handler.passes of-handler.decodes (fresh 2) ws a.masks a.codes)
+    (run-image image_handler table_handler of-handler.passes of-handler.decodes (fresh 2) ws a.masks a.codes)
 
 abbrev bit_of : ℕ → State → ℕ
 bit_of h s = pick (result_of h s.bits) 1 0
 
 -- ---- a drop clears the bit of the number called
-abbrev pub clearsCalled : StepRule
-clearsCalled = afterDrop (λ i s t. with_bits t (cleared (topLabel i s).called t.bits))
+abbrev pub clears_called : StepRule
+clears_called = after_drop (λ i s t. with_bits t (cleared_results (top_label i s).called t.bits))
 
-pub clears-called-fails : HandsBack (run_by clearsCalled) → ⊥
-unfolding running ticksByRule tableHandler dropWords
-clears-called-fails claim = let z : ◌≡◌ {A = ℕ} 0 1 = ap (bit_of 2) (states-made clearsCalled claim dropWords) in omega arith
+pub clears-called-fails : HandsBack (run_by clears_called) → ⊥
+unfolding running ticks_by_rule table_handler drop_words
+clears-called-fails claim = let z : ◌≡◌ {A = ℕ} 0 1 = ap (bit_of 2) (states-made clears_called claim drop_words) in omega arith
 
 -- ---- a drop does not clear the bit of the handler
-abbrev pub keepsHandlerBit : StepRule
-keepsHandlerBit = afterDrop (λ i s t. with_bits t (written i s))
+abbrev pub keeps_handler_bit : StepRule
+keeps_handler_bit = after_drop (λ i s t. with_bits t (written i s))
 
-pub keeps-handler-bit-fails : HandsBack (run_by keepsHandlerBit) → ⊥
-unfolding running ticksByRule tableHandler dropWords
-keeps-handler-bit-fails claim = let z : ◌≡◌ {A = ℕ} 1 0 = ap (bit_of 3) (states-made keepsHandlerBit claim dropWords) in omega arith
+pub keeps-handler-bit-fails : HandsBack (run_by keeps_handler_bit) → ⊥
+unfolding running ticks_by_rule table_handler drop_words
+keeps-handler-bit-fails claim = let z : ◌≡◌ {A = ℕ} 1 0 = ap (bit_of 3) (states-made keeps_handler_bit claim drop_words) in omega arith
 
 -- ---- a drop forgets the caller's result
-abbrev pub forgetsResult : StepRule
-forgetsResult = afterDrop (λ i s t. with_bits t (cleared i.handler s.bits))
+abbrev pub forgets_result : StepRule
+forgets_result = after_drop (λ i s t. with_bits t (cleared_results i.handler s.bits))
 
-pub forgets-result-fails : HandsBack (run_by forgetsResult) → ⊥
-unfolding running ticksByRule tableHandler dropWords
-forgets-result-fails claim = let z : ◌≡◌ {A = ℕ} 0 1 = ap (bit_of 2) (states-made forgetsResult claim dropWords) in omega arith
+pub forgets-result-fails : HandsBack (run_by forgets_result) → ⊥
+unfolding running ticks_by_rule table_handler drop_words
+forgets-result-fails claim = let z : ◌≡◌ {A = ℕ} 0 1 = ap (bit_of 2) (states-made forgets_result claim drop_words) in omega arith
 
 -- ---- a drop clears the handler's bit before it writes the caller's result, and the caller is of the handler's scheme
-abbrev pub clearsFirst : StepRule
-clearsFirst = afterDrop (λ i s t. with_bits t (withResult (topLabel i s).result (topNumber s) (cleared i.handler s.bits)))
+abbrev pub clears_first : StepRule
+clears_first = after_drop (λ i s t. with_bits t (with_result (top_label i s).result (top_number s) (cleared_results i.handler s.bits)))
 
-pub clears-first-fails : HandsBack (run_by clearsFirst) → ⊥
-unfolding running ticksByRule tableHandler ordinaryWords
-clears-first-fails claim = let z : ◌≡◌ {A = ℕ} 1 0 = ap (bit_of 3) (states-made clearsFirst claim (take 7 ordinaryWords)) in omega arith
+pub clears-first-fails : HandsBack (run_by clears_first) → ⊥
+unfolding running ticks_by_rule table_handler ordinary_words
+clears-first-fails claim = let z : ◌≡◌ {A = ℕ} 1 0 = ap (bit_of 3) (states-made clears_first claim (take 7 ordinary_words)) in omega arith

@@ -1,11 +1,11 @@
 -- The cases of the listing hold, computed.
 use mathlib.Core.Path.{refl}
 use Rattle.words.specs.lists.Numbers.{tabulate, lowest, count}
-use Rattle.rows.specs.listing.Listing.{firstRows, rowCounts, list}
-use Rattle.bench.specs.Bench.{imageP}
-use Rattle.bench.specs.Listing.{ListingCases, imageRowless}
+use Rattle.rows.specs.listing.Listing.{first_rows, row_counts, list}
+use Rattle.bench.specs.Bench.{image_p}
+use Rattle.bench.specs.Listing.{ListingCases, image_rowless}
 use Rattle.bench.proofs.Computing.{checking}
 
 pub listing-cases : ListingCases
-unfolding checking tabulate lowest count firstRows rowCounts list imageP imageRowless
-listing-cases = record { ofP = refl; gap = refl; shortFirsts = refl; shortCounts = refl; unchecked = refl }
+unfolding checking tabulate lowest count first_rows row_counts list image_p image_rowless
+listing-cases = record { of_p = refl; gap = refl; short_firsts = refl; short_counts = refl; unchecked = refl }

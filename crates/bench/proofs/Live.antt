@@ -1,19 +1,19 @@
 -- The cases of prepared tables and of live ticks hold, computed.
 use mathlib.Core.Path.{◌≡◌, refl, sym, ◌∙◌}
-use Rattle.tables.specs.Prepare.{notedTo, prepare}
-use Rattle.tables.specs.Table.{tableImage}
-use Rattle.runs.specs.machine.Live.{liveVerdict, liveRun, liveTick}
-use Rattle.bench.specs.Bench.{imageP}
-use Rattle.bench.specs.Live.{LiveCases, bytesP}
-use Rattle.bench.proofs.Tables.{tableP, of-P}
+use Rattle.tables.specs.Prepare.{noted_to, prepare}
+use Rattle.tables.specs.Table.{table_image}
+use Rattle.runs.specs.machine.Live.{live_verdict, live_run, live_tick}
+use Rattle.bench.specs.Bench.{image_p}
+use Rattle.bench.specs.Live.{LiveCases, bytes_p}
+use Rattle.bench.proofs.Tables.{table_p, of-P}
 use Rattle.bench.proofs.Computing.{running}
 
-held : tableImage bytesP ≡ tableP
-unfolding running tableImage tableP bytesP
+held : table_image bytes_p ≡ table_p
+unfolding running table_image table_p bytes_p
 held = refl
 
 pub live-cases : LiveCases
-unfolding running notedTo prepare tableImage liveVerdict liveRun liveTick imageP bytesP
+unfolding running noted_to prepare table_image live_verdict live_run live_tick image_p bytes_p
 live-cases = record {
   prepared = refl;
   kept = refl;

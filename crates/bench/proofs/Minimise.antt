@@ -6,46 +6,47 @@ use mathlib.Core.List.{List}
 use lib.Count.{ones, ones_in}
 use lib.ListN.{replicate}
 use Rattle.words.specs.lists.Numbers.{tabulate, lowest, count}
-use Rattle.words.specs.lists.Sequences.{filter, mapFrom}
+use Rattle.words.specs.lists.Sequences.{filter, map_from}
 use Rattle.text.specs.frames.Frame.{contents}
 use Rattle.text.specs.frames.Verdict.{Verdict, fine, next, when}
-use Rattle.text.specs.frames.Answer.{BufferOutcome, bufferOn}
-use Rattle.image.specs.Image.{imageFrames, imageText}
-use Rattle.image.specs.Decode.{decoded}
-use Rattle.image.specs.Check.{imageVerdict}
+use Rattle.text.specs.frames.Answer.{BufferOutcome, buffer_on}
+use Rattle.image.specs.Image.{image_frames, image_text}
+use Rattle.image.specs.Decode.{decoded_image}
+use Rattle.image.specs.Check.{image_verdict}
 use Rattle.image.proofs.Accepted.{image-sound}
-use Rattle.covering.specs.Matched.{uneven}
-use Rattle.covering.specs.inner.Sizes.{overlaps, covered, unevenBySizes}
+use Rattle.covering.specs.Matched.{is_uneven}
+use Rattle.covering.specs.inner.Sizes.{has_overlap, covered_count, is_uneven_by_sizes}
 use Rattle.covering.proofs.Covered.{sizes-decide}
-use Rattle.grouping.specs.Classes.{parted, classes, grouping}
-use Rattle.minimising.specs.group_numbers.Smaller.{joinedLabels, smaller}
-use Rattle.minimising.specs.Entry.{minimiseVerdict, minimise}
-use Rattle.bench.specs.Bench.{imageP}
-use Rattle.bench.specs.Listing.{imageRowless}
-use Rattle.bench.specs.Minimise.{MinimiseCases, imageBranches, imageJoined}
+use Rattle.grouping.specs.Classes.{is_parted, classes, grouping}
+use Rattle.minimising.specs.group_numbers.Smaller.{joined_labels, smaller_image}
+use Rattle.minimising.specs.Entry.{minimise_verdict, minimise}
+use Rattle.bench.specs.Bench.{image_p}
+use Rattle.bench.specs.Listing.{image_rowless}
+use Rattle.bench.specs.Minimise.{MinimiseCases, image_branches, image_joined}
 use Rattle.bench.proofs.Computing.{checking}
 
-abbrev bySizes : List ℕ → List ℕ → BufferOutcome
-bySizes t old =
-    bufferOn (next (imageVerdict t) λ _. when 23 (unevenBySizes (decoded (contents t))))
-    1 (λ _. imageText (smaller (decoded (contents t)))) old
+abbrev by_sizes : List ℕ → List ℕ → BufferOutcome
+by_sizes t old =
+    buffer_on (next (image_verdict t) λ _. when 23 (is_uneven_by_sizes (decoded_image (contents t))))
+    1 (λ _. image_text (smaller_image (decoded_image (contents t)))) old
 
-by-sizes : (t old : List ℕ) → imageVerdict t ≡ fine → minimise t old ≡ bySizes t old
-unfolding minimise minimiseVerdict
+by-sizes : (t old : List ℕ) → image_verdict t ≡ fine → minimise t old ≡ by_sizes t old
+unfolding minimise minimise_verdict
 by-sizes t old e =
-    ap (λ (x : Bool). bufferOn (next (imageVerdict t) λ _. when 23 x) 1 (λ _. imageText (smaller (decoded (contents t)))) old)
-    (sym (sizes-decide (decoded (contents t)) (image-sound t e)))
+    ap (λ (x : Bool). buffer_on (next (image_verdict t) λ _. when 23 x) 1
+    (λ _. image_text (smaller_image (decoded_image (contents t)))) old)
+    (sym (sizes-decide (decoded_image (contents t)) (image-sound t e)))
 
 pub minimise-cases : MinimiseCases
-unfolding checking tabulate lowest count filter mapFrom ones ones_in imageFrames imageText
-    overlaps covered unevenBySizes uneven parted classes grouping
-    joinedLabels minimiseVerdict minimise imageP imageRowless imageBranches imageJoined
+unfolding checking tabulate lowest count filter map_from ones ones_in image_frames image_text
+    has_overlap covered_count is_uneven_by_sizes is_uneven is_parted classes grouping
+    joined_labels minimise_verdict minimise image_p image_rowless image_branches image_joined
 minimise-cases = record {
-  ofP = λ out. by-sizes imageP out refl;
-  branches = λ out. by-sizes imageBranches out refl;
-  again = λ out. by-sizes imageJoined out refl;
+  of_p = λ out. by-sizes image_p out refl;
+  branches = λ out. by-sizes image_branches out refl;
+  again = λ out. by-sizes image_joined out refl;
   twice = λ out. refl;
   missed = λ out. refl;
-  short = by-sizes imageBranches (replicate 344 9) refl;
+  short = by-sizes image_branches (replicate 344 9) refl;
   unchecked = λ out. refl;
 }

@@ -1,14 +1,15 @@
 -- What the two programs print on these charts and images, computed.
 use mathlib.Core.Path.{refl}
-use Rattle.output.specs.printing.Lines.{refusalLine, codeLine}
-use Rattle.output.specs.translate_output.TranslateProgram.{translateOutput}
-use Rattle.output.specs.run_output.RunProgram.{runOutput}
-use Rattle.bench.specs.Bench.{chartP, imageP, chartCircle}
-use Rattle.bench.specs.Outputs.{PrintedCases, chartEndless, chartDropped, chartHeld}
+use Rattle.output.specs.printing.Lines.{refusal_line, code_line}
+use Rattle.output.specs.translate_output.TranslateProgram.{translate_output}
+use Rattle.output.specs.run_output.RunProgram.{run_output}
+use Rattle.bench.specs.Bench.{chart_p, image_p, chart_circle}
+use Rattle.bench.specs.Outputs.{PrintedCases, chart_endless, chart_dropped, chart_held}
 use Rattle.bench.proofs.Computing.{translating, running}
 
 pub printed-cases : PrintedCases
-unfolding translating running refusalLine codeLine translateOutput runOutput chartP imageP chartCircle chartEndless chartDropped chartHeld
+unfolding translating running refusal_line code_line translate_output run_output chart_p image_p chart_circle chart_endless chart_dropped
+    chart_held
 printed-cases = record {
   translate-p = refl;
   translate-empty = refl;

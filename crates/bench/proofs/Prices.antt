@@ -1,21 +1,21 @@
 -- The cases of prices hold, computed.
 use mathlib.Core.Path.{refl}
 use Rattle.words.specs.lists.Numbers.{sum}
-use Rattle.prices.specs.Prices.{tickPrice, hundredths}
-use Rattle.prices.specs.priced_runs.PricedRun.{pricedVerdict, pricedRun}
-use Rattle.bench.specs.Bench.{imageP, benchWords}
-use Rattle.bench.specs.Handler.{imageHandler, dropWords}
+use Rattle.prices.specs.Prices.{tick_price, hundredths}
+use Rattle.prices.specs.priced_runs.PricedRun.{priced_verdict, priced_run}
+use Rattle.bench.specs.Bench.{image_p, bench_words}
+use Rattle.bench.specs.Handler.{image_handler, drop_words}
 use Rattle.bench.specs.Prices.{PriceCases}
 use Rattle.bench.proofs.Computing.{running}
 
 pub price-cases : PriceCases
-unfolding running sum tickPrice hundredths pricedVerdict pricedRun imageP benchWords imageHandler dropWords
+unfolding running sum tick_price hundredths priced_verdict priced_run image_p bench_words image_handler drop_words
 price-cases = record {
   half = refl;
-  lessThanHalf = refl;
+  less_than_half = refl;
   together = refl;
   once = refl;
-  highestBit = refl;
+  highest_bit = refl;
   nothing = refl;
   whole = refl;
   full = refl;

@@ -1,11 +1,11 @@
 -- Every case of a refusal holds, computed.
 use mathlib.Core.Path.{refl}
-use Rattle.bench.specs.Bench.{chartP, imageP, benchWords, chartFunction}
+use Rattle.bench.specs.Bench.{chart_p, image_p, bench_words, chart_function}
 use Rattle.bench.specs.RefusalCases.{RefusalCases}
 use Rattle.bench.proofs.Computing.{translating, counting, running}
 
 pub refusal-cases : RefusalCases
-unfolding translating counting running chartP imageP benchWords chartFunction
+unfolding translating counting running chart_p image_p bench_words chart_function
 refusal-cases = record {
   r1-short = refl;
   r1-records = refl;

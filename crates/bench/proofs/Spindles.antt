@@ -1,15 +1,15 @@
 -- The cases of four spindles hold, computed.
 use mathlib.Core.Path.{refl}
-use Rattle.runs.specs.TickOutcome.{imageTick}
-use Rattle.runs.specs.machine.Live.{liveVerdict, liveRun, liveTick}
-use Rattle.spindles.specs.Spindles.{depths, spin, liveSpin}
-use Rattle.bench.specs.Bench.{imageP}
-use Rattle.bench.specs.Handler.{imageHandler}
+use Rattle.runs.specs.TickOutcome.{image_tick}
+use Rattle.runs.specs.machine.Live.{live_verdict, live_run, live_tick}
+use Rattle.spindles.specs.Spindles.{depths, spin, live_spin}
+use Rattle.bench.specs.Bench.{image_p}
+use Rattle.bench.specs.Handler.{image_handler}
 use Rattle.bench.specs.Spindles.{SpindleCases}
 use Rattle.bench.proofs.Computing.{running}
 
 pub spindle-cases : SpindleCases
-unfolding running imageTick liveVerdict liveRun liveTick depths spin liveSpin imageP imageHandler
+unfolding running image_tick live_verdict live_run live_tick depths spin live_spin image_p image_handler
 spindle-cases = record {
   no-spindle = refl;
   no-image = refl;

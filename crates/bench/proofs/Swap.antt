@@ -7,46 +7,46 @@ use Rattle.text.specs.frames.Frame.{contents}
 use Rattle.text.specs.frames.Answer.{success, refusal}
 use Rattle.walk.specs.Walk.{Tick}
 use Rattle.state.specs.declared.State.{State}
-use Rattle.state.specs.State.{fresh, freshState}
-use Rattle.state.specs.Bytes.{bytesOf}
+use Rattle.state.specs.State.{fresh, fresh_state}
+use Rattle.state.specs.Bytes.{bytes_of}
 use Rattle.runs.specs.Run.{RunOutcome}
 use Rattle.rebinding.specs.Rebind.{rebind}
-use Rattle.agreement.specs.Agreement.{CallInput, toRebind, CallOutput, byRebinding, callOutputs}
-use Rattle.agreement.specs.Agreement.{joinedWords, bound, expectedOutputs, walkOutputs}
-use Rattle.agreement.proofs.Images.{rebindImage, runImage, run-image}
-use Rattle.bench.specs.Swap.{chartSwap, imageSwap, inputWord, run_of, hands, rebindingDone, swapOutputs, walk_of}
-use Rattle.bench.specs.Swap.{acrossBlocks, acrossDrop, acrossFull, blocksTicks, dropTicks, fullTicks}
+use Rattle.agreement.specs.Agreement.{CallInput, to_rebind, CallOutput, by_rebinding, call_outputs}
+use Rattle.agreement.specs.Agreement.{joined_words, bound, expected_outputs, walk_outputs}
+use Rattle.agreement.proofs.Images.{rebind_image, run_image, run-image}
+use Rattle.bench.specs.Swap.{chart_swap, image_swap, input_word, run_of, output_handed, rebinding_done, swap_outputs, walk_of}
+use Rattle.bench.specs.Swap.{calls_across_blocks, calls_across_drop, calls_across_full, blocks_ticks, drop_ticks, full_ticks}
 use Rattle.bench.specs.Swap.{ByteCases, SwapCases, RebindingCases, FitnessCases, WalkedCases}
 use Rattle.bench.proofs.Computing.{walking, ticking}
-use Rattle.bench.proofs.Tables.{tableSwap, of-swap, held}
+use Rattle.bench.proofs.Tables.{table_swap, of-swap, held}
 use Rattle.bench.proofs.Rebindings.{rebind-image, chain-image}
 
-on-table : (n : ℕ) (s : State) → run_of n s ≡ runImage tableSwap s (replicate n 0) (replicate n 7) (replicate n 7)
-on-table n s = run-image imageSwap tableSwap of-swap.passes of-swap.decodes s (replicate n 0) (replicate n 7) (replicate n 7)
+on-table : (n : ℕ) (s : State) → run_of n s ≡ run_image table_swap s (replicate n 0) (replicate n 7) (replicate n 7)
+on-table n s = run-image image_swap table_swap of-swap.passes of-swap.decodes s (replicate n 0) (replicate n 7) (replicate n 7)
 
-state : (n : ℕ) (s : State) → (run_of n s).state ≡ (runImage tableSwap s (replicate n 0) (replicate n 7) (replicate n 7)).state
+state : (n : ℕ) (s : State) → (run_of n s).state ≡ (run_image table_swap s (replicate n 0) (replicate n 7) (replicate n 7)).state
 state n s = ap (λ (r : RunOutcome). r.state) (on-table n s)
 
-reply : (s : State) → (run_of 1 s).reply ≡ (runImage tableSwap s (replicate 1 0) (replicate 1 7) (replicate 1 7)).reply
+reply : (s : State) → (run_of 1 s).reply ≡ (run_image table_swap s (replicate 1 0) (replicate 1 7) (replicate 1 7)).reply
 reply s = ap (λ (r : RunOutcome). r.reply) (on-table 1 s)
 
-rebound : (s : State) (h k : ℕ) → rebind imageSwap s h k ≡ rebindImage tableSwap s h k
+rebound : (s : State) (h k : ℕ) → rebind image_swap s h k ≡ rebind_image table_swap s h k
 rebound = rebind-image (held of-swap)
 
 listed : (n : ℕ) (given : List CallInput)
-    → swapOutputs n given ≡ callOutputs (λ t. runImage tableSwap) (λ t. rebindImage tableSwap) imageSwap (fresh n) given
+    → swap_outputs n given ≡ call_outputs (λ t. run_image table_swap) (λ t. rebind_image table_swap) image_swap (fresh n) given
 listed n = chain-image (held of-swap) (fresh n)
 
 pub byte-cases : ByteCases
-unfolding freshState bytesOf
+unfolding fresh_state bytes_of
 byte-cases = record { new = refl; zeros = refl }
 
 pub swap-cases : SwapCases
-unfolding callOutputs ticking tableSwap
+unfolding call_outputs ticking table_swap
 swap-cases = record {
   translated = of-swap.translated;
-  between = listed 2 (inputWord 7 ∷ toRebind 2 3 ∷ inputWord 8 ∷ []);
-  within = listed 2 (inputWord 2 ∷ toRebind 2 3 ∷ inputWord 6 ∷ []);
+  between = listed 2 (input_word 7 ∷ to_rebind 2 3 ∷ input_word 8 ∷ []);
+  within = listed 2 (input_word 2 ∷ to_rebind 2 3 ∷ input_word 6 ∷ []);
   opened = state 2 _;
   swapped = rebound _ 2 3;
   served = state 2 _;
@@ -57,12 +57,12 @@ swap-cases = record {
   reads-zero = state 1 _;
   drops = state 1 _;
   returns = state 1 _;
-  handled = listed 2 (toRebind 2 4 ∷ inputWord 8 ∷ []);
-  stays-full = listed 1 (inputWord 3 ∷ toRebind 3 2 ∷ inputWord 1 ∷ []);
+  handled = listed 2 (to_rebind 2 4 ∷ input_word 8 ∷ []);
+  stays-full = listed 1 (input_word 3 ∷ to_rebind 3 2 ∷ input_word 1 ∷ []);
 }
 
 pub rebinding-cases : RebindingCases
-unfolding ticking tableSwap
+unfolding ticking table_swap
 rebinding-cases = record {
   number-0 = rebound _ 0 2;
   number-1 = rebound _ 1 2;
@@ -81,7 +81,7 @@ rebinding-cases = record {
 }
 
 pub fitness-cases : FitnessCases
-unfolding ticking tableSwap
+unfolding ticking table_swap
 fitness-cases = record {
   fits-own = reply _;
   fits-other = reply _;
@@ -115,39 +115,39 @@ fitness-cases = record {
 -- ---- the walk, and lists of calls by its ticks
 -- Both sides are computed to the outputs that stand here: to compare two computations with each other takes far longer.
 by-walk : (n : ℕ) (given : List CallInput) (ts : List Tick) (outputs : List CallOutput) → walk_of n given ≡ ts
-    → callOutputs (λ t. runImage tableSwap) (λ t. rebindImage tableSwap) imageSwap (fresh n) given ≡ outputs
-    → expectedOutputs (contents chartSwap) (bound n ts) ts 0 given ≡ outputs
-    → swapOutputs n given ≡ walkOutputs n (contents chartSwap) given
+    → call_outputs (λ t. run_image table_swap) (λ t. rebind_image table_swap) image_swap (fresh n) given ≡ outputs
+    → expected_outputs (contents chart_swap) (bound n ts) ts 0 given ≡ outputs
+    → swap_outputs n given ≡ walk_outputs n (contents chart_swap) given
 by-walk n given ts outputs e made wanted =
-    listed n given ∙ made ∙ sym (ap (λ (us : List Tick). expectedOutputs (contents chartSwap) (bound n us) us 0 given) e ∙ wanted)
+    listed n given ∙ made ∙ sym (ap (λ (us : List Tick). expected_outputs (contents chart_swap) (bound n us) us 0 given) e ∙ wanted)
 
-abbrev rebindingRefused : CallOutput
-rebindingRefused = byRebinding (refusal 22 0 0)
+abbrev rebinding_refused : CallOutput
+rebinding_refused = by_rebinding (refusal 22 0 0)
 
-abbrev blocksOutputs : List CallOutput
-blocksOutputs =
-    hands (success 7) (0 ∷ 1 ∷ 4 ∷ 0 ∷ 0 ∷ 4 ∷ 0 ∷ []) (4 ∷ 18 ∷ 0 ∷ 3 ∷ 66 ∷ 0 ∷ 3 ∷ []) ∷ rebindingRefused ∷ rebindingDone
-    ∷ hands (success 2) (0 ∷ 1 ∷ []) (4 ∷ 18 ∷ []) ∷ hands (refusal 16 0 0) [] (7 ∷ []) ∷ rebindingRefused ∷ rebindingDone
-    ∷ hands (success 8) (8 ∷ 0 ∷ 0 ∷ 4 ∷ 0 ∷ 0 ∷ 1 ∷ 4 ∷ []) (0 ∷ 3 ∷ 66 ∷ 0 ∷ 3 ∷ 4 ∷ 18 ∷ 0 ∷ []) ∷ []
+abbrev blocks_outputs : List CallOutput
+blocks_outputs =
+    output_handed (success 7) (0 ∷ 1 ∷ 4 ∷ 0 ∷ 0 ∷ 4 ∷ 0 ∷ []) (4 ∷ 18 ∷ 0 ∷ 3 ∷ 66 ∷ 0 ∷ 3 ∷ []) ∷ rebinding_refused ∷ rebinding_done
+    ∷ output_handed (success 2) (0 ∷ 1 ∷ []) (4 ∷ 18 ∷ []) ∷ output_handed (refusal 16 0 0) [] (7 ∷ []) ∷ rebinding_refused ∷ rebinding_done
+    ∷ output_handed (success 8) (8 ∷ 0 ∷ 0 ∷ 4 ∷ 0 ∷ 0 ∷ 1 ∷ 4 ∷ []) (0 ∷ 3 ∷ 66 ∷ 0 ∷ 3 ∷ 4 ∷ 18 ∷ 0 ∷ []) ∷ []
 
-abbrev dropOutputs : List CallOutput
-dropOutputs =
-    rebindingDone ∷ hands (success 3) (0 ∷ 1 ∷ 16 ∷ []) (4 ∷ 18 ∷ 96 ∷ []) ∷ rebindingRefused ∷ rebindingDone
-    ∷ hands (success 5) (16 ∷ 4 ∷ 0 ∷ 0 ∷ 0 ∷ []) (19 ∷ 0 ∷ 3 ∷ 3 ∷ 4 ∷ []) ∷ rebindingDone
-    ∷ hands (success 4) (1 ∷ 8 ∷ 0 ∷ 0 ∷ []) (18 ∷ 0 ∷ 3 ∷ 66 ∷ []) ∷ []
+abbrev drop_outputs : List CallOutput
+drop_outputs =
+    rebinding_done ∷ output_handed (success 3) (0 ∷ 1 ∷ 16 ∷ []) (4 ∷ 18 ∷ 96 ∷ []) ∷ rebinding_refused ∷ rebinding_done
+    ∷ output_handed (success 5) (16 ∷ 4 ∷ 0 ∷ 0 ∷ 0 ∷ []) (19 ∷ 0 ∷ 3 ∷ 3 ∷ 4 ∷ []) ∷ rebinding_done
+    ∷ output_handed (success 4) (1 ∷ 8 ∷ 0 ∷ 0 ∷ []) (18 ∷ 0 ∷ 3 ∷ 66 ∷ []) ∷ []
 
-abbrev fullOutputs : List CallOutput
-fullOutputs =
-    hands (refusal 17 0 2) (0 ∷ 1 ∷ 7 ∷ []) (4 ∷ 96 ∷ 7 ∷ []) ∷ rebindingRefused ∷ rebindingDone
-    ∷ hands (refusal 17 0 0) (7 ∷ []) (7 ∷ []) ∷ []
+abbrev full_outputs : List CallOutput
+full_outputs =
+    output_handed (refusal 17 0 2) (0 ∷ 1 ∷ 7 ∷ []) (4 ∷ 96 ∷ 7 ∷ []) ∷ rebinding_refused ∷ rebinding_done
+    ∷ output_handed (refusal 17 0 0) (7 ∷ []) (7 ∷ []) ∷ []
 
 pub walked-cases : WalkedCases
-unfolding walking callOutputs joinedWords bound expectedOutputs ticking tableSwap chartSwap
+unfolding walking call_outputs joined_words bound expected_outputs ticking table_swap chart_swap
 walked-cases = record {
   blocks-walk = refl;
   drop-walk = refl;
   full-walk = refl;
-  blocks = by-walk 2 acrossBlocks blocksTicks blocksOutputs refl refl refl;
-  dropped = by-walk 2 acrossDrop dropTicks dropOutputs refl refl refl;
-  full = by-walk 1 acrossFull fullTicks fullOutputs refl refl refl;
+  blocks = by-walk 2 calls_across_blocks blocks_ticks blocks_outputs refl refl refl;
+  dropped = by-walk 2 calls_across_drop drop_ticks drop_outputs refl refl refl;
+  full = by-walk 1 calls_across_full full_ticks full_outputs refl refl refl;
 }

@@ -9,32 +9,32 @@ use lib.ListN.{length, get_or, set, replicate}
 use Rattle.words.specs.lists.Pick.{pick}
 use Rattle.words.specs.lists.Numbers.{range}
 use Rattle.words.specs.lists.Sequences.{some}
-use Rattle.results.specs.Results.{result_of, withResult, cleared}
-use Rattle.bindings.specs.Binding.{served, rebound}
+use Rattle.results.specs.Results.{result_of, with_result, cleared_results}
+use Rattle.bindings.specs.Binding.{server_of, rebound_binding}
 use Rattle.text.specs.frames.Frame.{contents}
-use Rattle.text.specs.frames.Answer.{success, replyNumber}
-use Rattle.image.specs.Layout.{tickKind}
+use Rattle.text.specs.frames.Answer.{success, reply_number}
+use Rattle.image.specs.Layout.{tick_kind}
 use Rattle.image.specs.Image.{Image}
-use Rattle.image.specs.Decode.{decoded}
+use Rattle.image.specs.Decode.{decoded_image}
 use Rattle.translator.specs.Entry.{translate}
 use Rattle.state.specs.declared.State.{State}
-use Rattle.state.specs.State.{label_at, entry_at, placeAt, number_at, serverAt, fresh, StateOutcome, freshState}
-use Rattle.state.specs.Changes.{withPlaces, withServing}
+use Rattle.state.specs.State.{label_at, entry_at, place_at, number_at, server_at, fresh, StateOutcome, fresh_state}
+use Rattle.state.specs.Changes.{with_places, with_serving}
 use Rattle.fitness.specs.Fitness.{is_call}
-use Rattle.rows.specs.Rows.{bestRow, leads}
-use Rattle.ticks.specs.Tick.{MachineTick, finished, stopped, opening, tickBy, tick, top_of}
-use Rattle.ticks.specs.Functions.{returnTick}
+use Rattle.rows.specs.Rows.{best_row, lead_of}
+use Rattle.ticks.specs.Tick.{MachineTick, finished, stopped, opened_state, tick_by, tick, top_of}
+use Rattle.ticks.specs.Functions.{return_tick}
 use Rattle.runs.specs.Run.{run}
 use Rattle.rebinding.specs.Rebind.{rebinding, rebind}
-use Rattle.agreement.specs.Agreement.{Runner, Rebinder, RunOutput, outputOf, CallInput, toRebind, callOutputs, Agreement}
-use Rattle.agreement.proofs.Images.{runImage, rebindImage, run-image}
-use Rattle.bench.specs.Swap.{imageSwap}
+use Rattle.agreement.specs.Agreement.{Runner, Rebinder, RunOutput, output_of, CallInput, to_rebind, call_outputs, Agreement}
+use Rattle.agreement.proofs.Images.{run_image, rebind_image, run-image}
+use Rattle.bench.specs.Swap.{image_swap}
 use Rattle.bench.proofs.Computing.{ticking}
-use Rattle.bench.proofs.Tables.{TranslatesTo, held, tableSwap, of-swap, tableInner, of_inner}
-use Rattle.bench.proofs.Instances.{runAlone, secondOutput, third, at_own, at-served, at-answer}
+use Rattle.bench.proofs.Tables.{TranslatesTo, held, table_swap, of-swap, table_inner, of_inner}
+use Rattle.bench.proofs.Instances.{run_alone, second_output, third, at_own, at-served, at-answer}
 use Rattle.bench.proofs.Instances.{at-within, at-barred, at-handler, at_inner}
-use Rattle.bench.proofs.Rebindings.{Swapper, rebind-image, rebindBy, rebind-by, chain-alike}
-use Rattle.bench.proofs.Variants.{StepRule, ticksByRule, run_by, decodedRunBy, by-table, code_at, maskAt}
+use Rattle.bench.proofs.Rebindings.{Swapper, rebind-image, rebind_by, rebind-by, chain-alike}
+use Rattle.bench.proofs.Variants.{StepRule, ticks_by_rule, run_by, decoded_run_by, by-table, code_at, mask_at}
 
 abbrev word3 : List ℕ
 word3 = replicate 3 0
@@ -42,180 +42,181 @@ word3 = replicate 3 0
 -- ---- a rebinding that does not count before the next return: a run with no return hands back what it does without the rebinding
 abbrev pub ActsLater : Runner → Rebinder → Type 0
 ActsLater f g = (image : List ℕ) (s : State) (h k : ℕ) (ws ms ks : List ℕ) → some (eqb 3) (f image s ws ms ks).codes ≡ false
-    → outputOf (f image (g image s h k).state ws ms ks) ≡ outputOf (f image s ws ms ks)
+    → output_of (f image (g image s h k).state ws ms ks) ≡ output_of (f image s ws ms ks)
 
-pub acts-later-fails : (f : Runner) (g : Rebinder) → ActsLater f g → Agreement translate freshState f g → ⊥
-unfolding callOutputs some
+pub acts-later-fails : (f : Runner) (g : Rebinder) → ActsLater f g → Agreement translate fresh_state f g → ⊥
+unfolding call_outputs some
 acts-later-fails f g late claim =
     let own = at_own f g claim in
     let lent : List ℕ = replicate 3 7 in
     let quiet = ap (λ (t : RunOutput). some (eqb 3) t.codes) own in
-    let z : ◌≡◌ {A = ℕ} 8 4 = sym (ap (maskAt 2) (at-served f g claim))
-    ∙ ap (maskAt 2) (late imageSwap (fresh 2) 2 3 word3 lent lent quiet ∙ own) in
+    let z : ◌≡◌ {A = ℕ} 8 4 = sym (ap (mask_at 2) (at-served f g claim))
+    ∙ ap (mask_at 2) (late image_swap (fresh 2) 2 3 word3 lent lent quiet ∙ own) in
     omega arith
 
 -- ---- a rebinding that changes nothing, whatever it answers
 abbrev pub KeepsBinding : Rebinder → Type 0
 KeepsBinding g = (image : List ℕ) (s : State) (h k : ℕ) → (g image s h k).state ≡ s
 
-pub keeps-binding-fails : (f : Runner) (g : Rebinder) → KeepsBinding g → Agreement translate freshState f g → ⊥
+pub keeps-binding-fails : (f : Runner) (g : Rebinder) → KeepsBinding g → Agreement translate fresh_state f g → ⊥
 keeps-binding-fails f g idle =
-    acts-later-fails f g (λ image s h k ws ms ks quiet. ap (λ (t : State). outputOf (f image t ws ms ks)) (idle image s h k))
+    acts-later-fails f g (λ image s h k ws ms ks quiet. ap (λ (t : State). output_of (f image t ws ms ks)) (idle image s h k))
 
 -- ---- the handler is rebound like any other
 abbrev pub RebindsHandler : Rebinder → Type 0
-RebindsHandler g = (image : List ℕ) (s : State) (k : ℕ) → let i = decoded (contents image) in
+RebindsHandler g = (image : List ℕ) (s : State) (k : ℕ) → let i = decoded_image (contents image) in
     2 ≤ k → k ≤ length i.entries → (g image s i.handler k).reply ≡ success 0
 
-pub rebinds-handler-fails : (f : Runner) (g : Rebinder) → RebindsHandler g → Agreement translate freshState f g → ⊥
-unfolding tableSwap
+pub rebinds-handler-fails : (f : Runner) (g : Rebinder) → RebindsHandler g → Agreement translate fresh_state f g → ⊥
+unfolding table_swap
 rebinds-handler-fails f g idle claim =
     let i = of-swap.decodes in
-    let few : length (decoded (contents imageSwap)).entries ≡ 4 = ap (λ (j : Image). length j.entries) i in
-    let z : ◌≡◌ {A = ℕ} 22 0 = sym (ap replyNumber (at-handler f g claim))
-    ∙ sym (ap (λ (j : Image). replyNumber (g imageSwap (fresh 2) j.handler 2).reply) i)
-    ∙ ap replyNumber (idle imageSwap (fresh 2) 2 (omega arith) (omega arith)) in
+    let few : length (decoded_image (contents image_swap)).entries ≡ 4 = ap (λ (j : Image). length j.entries) i in
+    let z : ◌≡◌ {A = ℕ} 22 0 = sym (ap reply_number (at-handler f g claim))
+    ∙ sym (ap (λ (j : Image). reply_number (g image_swap (fresh 2) j.handler 2).reply) i)
+    ∙ ap reply_number (idle image_swap (fresh 2) 2 (omega arith) (omega arith)) in
     omega arith
 
 -- ---- what the definition's run hands back with another rebinding,
 -- another run with the definition's rebinding, and both, by a chart's table
 module _ {chart image : List ℕ} {i : Image} (known : TranslatesTo chart image i) where
   with-rebinding : (f : Swapper) (s : State) (given : List CallInput)
-      → callOutputs run (rebindBy f) image s given ≡ callOutputs (λ t. runImage i) (λ t. f i) image s given
-  with-rebinding f = chain-alike image run (λ t. runImage i) (rebindBy f) (λ t. f i)
+      → call_outputs run (rebind_by f) image s given ≡ call_outputs (λ t. run_image i) (λ t. f i) image s given
+  with-rebinding f = chain-alike image run (λ t. run_image i) (rebind_by f) (λ t. f i)
       (run-image image i known.passes known.decodes) (rebind-by (held known) f)
 
   with-run : (step : StepRule) (s : State) (given : List CallInput)
-      → callOutputs (run_by step) rebind image s given ≡ callOutputs (decodedRunBy i step) (λ t. rebindImage i) image s given
-  with-run step = chain-alike image (run_by step) (decodedRunBy i step) rebind (λ t. rebindImage i)
+      → call_outputs (run_by step) rebind image s given ≡ call_outputs (decoded_run_by i step) (λ t. rebind_image i) image s given
+  with-run step = chain-alike image (run_by step) (decoded_run_by i step) rebind (λ t. rebind_image i)
       (by-table known step) (rebind-image (held known))
 
   with-both : (step : StepRule) (f : Swapper) (s : State) (given : List CallInput)
-      → callOutputs (run_by step) (rebindBy f) image s given ≡ callOutputs (decodedRunBy i step) (λ t. f i) image s given
-  with-both step f = chain-alike image (run_by step) (decodedRunBy i step) (rebindBy f)
+      → call_outputs (run_by step) (rebind_by f) image s given ≡ call_outputs (decoded_run_by i step) (λ t. f i) image s given
+  with-both step f = chain-alike image (run_by step) (decoded_run_by i step) (rebind_by f)
       (λ t. f i) (by-table known step) (rebind-by (held known) f)
 
 -- ---- one that acts later: it is noted where number 1 stands, which nothing calls, and counts from the next return on
-abbrev whereDone : StateOutcome → State → State → State
-whereDone r t s = pick (eqb (replyNumber r.reply) 0) t s
+abbrev state_where_done : StateOutcome → State → State → State
+state_where_done r t s = pick (eqb (reply_number r.reply) 0) t s
 
 abbrev pub notes : Swapper
-notes i s h k = let r = rebindImage i s h k in
-    record { reply = r.reply; state = whereDone r (withServing s (set s.serving 0 (32 * h + k))) s }
+notes i s h k = let r = rebind_image i s h k in
+    record { reply = r.reply; state = state_where_done r (with_serving s (set s.serving 0 (32 * h + k))) s }
 
-abbrev counted : State → State
-counted s = let n = get_or s.serving 0 0 in pick (ltb n 32) s (withServing s (rebound (n / 32) (n % 32) (set s.serving 0 1)))
+abbrev counted_state : State → State
+counted_state s = let n = get_or s.serving 0 0 in pick (ltb n 32) s (with_serving s (rebound_binding (n / 32) (n % 32) (set s.serving 0 1)))
 
 abbrev later : MachineTick → MachineTick
-later (finished m code t) = finished m code (pick (eqb code 3) (counted t) t)
+later (finished m code t) = finished m code (pick (eqb code 3) (counted_state t) t)
 later (stopped n) = stopped n
 
-abbrev pub countsAtReturn : StepRule
-countsAtReturn i s w = later (tick i s w)
+abbrev pub counts_at_return : StepRule
+counts_at_return i s w = later (tick i s w)
 
-pub counts-at-return-fails : Agreement translate freshState (run_by countsAtReturn) (rebindBy notes) → ⊥
-unfolding callOutputs ticking ticksByRule tableSwap
+pub counts-at-return-fails : Agreement translate fresh_state (run_by counts_at_return) (rebind_by notes) → ⊥
+unfolding call_outputs ticking ticks_by_rule table_swap
 counts-at-return-fails claim =
-    let given : List CallInput = toRebind 2 3 ∷ runAlone word3 ∷ [] in
+    let given : List CallInput = to_rebind 2 3 ∷ run_alone word3 ∷ [] in
     let z : ◌≡◌ {A = ℕ} 4 8 =
-    ap (maskAt 2) (sym (ap secondOutput (with-both of-swap countsAtReturn notes (fresh 2) given))
-    ∙ at-served (run_by countsAtReturn) (rebindBy notes) claim) in
+    ap (mask_at 2) (sym (ap second_output (with-both of-swap counts_at_return notes (fresh 2) given))
+    ∙ at-served (run_by counts_at_return) (rebind_by notes) claim) in
     omega arith
 
 -- ---- the open schemes that number h called are swapped too: each starts anew as scheme k
-abbrev reopened : Image → ℕ → ℕ → State → State
-reopened i h k s = withPlaces s
-    (map (λ j. pick (eqb (number_at s j) h) (entry_at i k) (placeAt s j)) (range 0 32))
+abbrev reopened_state : Image → ℕ → ℕ → State → State
+reopened_state i h k s = with_places s
+    (map (λ j. pick (eqb (number_at s j) h) (entry_at i k) (place_at s j)) (range 0 32))
     s.numbers
-    (map (λ j. pick (eqb (number_at s j) h) k (serverAt s j)) (range 0 32))
+    (map (λ j. pick (eqb (number_at s j) h) k (server_at s j)) (range 0 32))
 
-abbrev pub swapsOpen : Swapper
-swapsOpen i s h k = let r = rebindImage i s h k in
-    record { reply = r.reply; state = whereDone r (reopened i h k r.state) s }
+abbrev pub swaps_open : Swapper
+swaps_open i s h k = let r = rebind_image i s h k in
+    record { reply = r.reply; state = state_where_done r (reopened_state i h k r.state) s }
 
-pub swaps-open-fails : Agreement translate freshState run (rebindBy swapsOpen) → ⊥
-unfolding callOutputs ticking tableSwap
+pub swaps-open-fails : Agreement translate fresh_state run (rebind_by swaps_open) → ⊥
+unfolding call_outputs ticking table_swap
 swaps-open-fails claim =
-    let given : List CallInput = runAlone (0 ∷ 0 ∷ []) ∷ toRebind 2 3 ∷ runAlone (0 ∷ []) ∷ [] in
+    let given : List CallInput = run_alone (0 ∷ 0 ∷ []) ∷ to_rebind 2 3 ∷ run_alone (0 ∷ []) ∷ [] in
     let z : ◌≡◌ {A = ℕ} 8 4 =
-    ap (maskAt 0) (sym (ap third (with-rebinding of-swap swapsOpen (fresh 2) given)) ∙ at-within run (rebindBy swapsOpen) claim) in
+    ap (mask_at 0) (sym (ap third (with-rebinding of-swap swaps_open (fresh 2) given)) ∙ at-within run (rebind_by swaps_open) claim) in
     omega arith
 
 -- ---- a rebinding that is refused with 22 binds all the same
-abbrev pub bindsRefused : Swapper
-bindsRefused i s h k = record { reply = (rebindImage i s h k).reply; state = rebinding h k s }
+abbrev pub binds_refused : Swapper
+binds_refused i s h k = record { reply = (rebind_image i s h k).reply; state = rebinding h k s }
 
-pub binds-refused-fails : Agreement translate freshState run (rebindBy bindsRefused) → ⊥
-unfolding callOutputs ticking tableSwap
+pub binds-refused-fails : Agreement translate fresh_state run (rebind_by binds_refused) → ⊥
+unfolding call_outputs ticking table_swap
 binds-refused-fails claim =
-    let given : List CallInput = toRebind 2 1 ∷ runAlone (0 ∷ []) ∷ [] in
+    let given : List CallInput = to_rebind 2 1 ∷ run_alone (0 ∷ []) ∷ [] in
     let z : ◌≡◌ {A = ℕ} 15 0 =
-    ap (λ (t : RunOutput). replyNumber t.reply) (sym (ap secondOutput (with-rebinding of-swap bindsRefused (fresh 2) given))
-    ∙ at-barred run (rebindBy bindsRefused) claim) in
+    ap (λ (t : RunOutput). reply_number t.reply) (sym (ap second_output (with-rebinding of-swap binds_refused (fresh 2) given))
+    ∙ at-barred run (rebind_by binds_refused) claim) in
     omega arith
 
 -- ---- results written to the bit of the scheme that serves
-abbrev topServer : State → ℕ
-topServer s = serverAt s (s.depth - 1)
+abbrev top_server : State → ℕ
+top_server s = server_at s (s.depth - 1)
 
-abbrev pub writesByServer : StepRule
-writesByServer i s w = let x = label_at i (top_of s) in
-    tickBy i s w (top_of s) x (withResult x.result (topServer s) s.bits) (tickKind x.kind)
+abbrev pub writes_by_server : StepRule
+writes_by_server i s w = let x = label_at i (top_of s) in
+    tick_by i s w (top_of s) x (with_result x.result (top_server s) s.bits) (tick_kind x.kind)
 
-pub writes-by-server-fails : Agreement translate freshState (run_by writesByServer) rebind → ⊥
-unfolding callOutputs ticking ticksByRule tableSwap
+pub writes-by-server-fails : Agreement translate fresh_state (run_by writes_by_server) rebind → ⊥
+unfolding call_outputs ticking ticks_by_rule table_swap
 writes-by-server-fails claim =
-    let given : List CallInput = toRebind 2 3 ∷ runAlone (replicate 8 0) ∷ [] in
+    let given : List CallInput = to_rebind 2 3 ∷ run_alone (replicate 8 0) ∷ [] in
     let z : ◌≡◌ {A = ℕ} 0 2 =
-    ap (maskAt 7) (sym (ap secondOutput (with-run of-swap writesByServer (fresh 2) given))
-    ∙ at-answer (run_by writesByServer) rebind claim) in
+    ap (mask_at 7) (sym (ap second_output (with-run of-swap writes_by_server (fresh 2) given))
+    ∙ at-answer (run_by writes_by_server) rebind claim) in
     omega arith
 
 -- ---- results read at the bit of the scheme that served
-abbrev pub readsByServer : StepRule
-readsByServer i s w = pick (eqb (label_at i (top_of s)).kind 3)
-    (returnTick s (leads (bestRow (placeAt s (s.depth - 2)) w (pick (result_of (topServer s) s.bits) 1 0) 0 i.rows)))
+abbrev pub reads_by_server : StepRule
+reads_by_server i s w = pick (eqb (label_at i (top_of s)).kind 3)
+    (return_tick s (lead_of (best_row (place_at s (s.depth - 2)) w (pick (result_of (top_server s) s.bits) 1 0) 0 i.rows)))
     (tick i s w)
 
-pub reads-by-server-fails : Agreement translate freshState (run_by readsByServer) rebind → ⊥
-unfolding callOutputs ticking ticksByRule tableSwap
+pub reads-by-server-fails : Agreement translate fresh_state (run_by reads_by_server) rebind → ⊥
+unfolding call_outputs ticking ticks_by_rule table_swap
 reads-by-server-fails claim =
-    let given : List CallInput = toRebind 2 3 ∷ runAlone (replicate 8 0) ∷ [] in
+    let given : List CallInput = to_rebind 2 3 ∷ run_alone (replicate 8 0) ∷ [] in
     let z : ◌≡◌ {A = ℕ} 0 2 =
-    ap (maskAt 7) (sym (ap secondOutput (with-run of-swap readsByServer (fresh 2) given)) ∙ at-answer (run_by readsByServer) rebind claim) in
+    ap (mask_at 7) (sym (ap second_output (with-run of-swap reads_by_server (fresh 2) given)) ∙ at-answer (run_by reads_by_server) rebind claim) in
     omega arith
 
 -- ---- results kept by the scheme that serves throughout: written, cleared and read at its bit
-abbrev pub keptByServer : StepRule
-keptByServer i s w =
+abbrev pub kept_by_server : StepRule
+kept_by_server i s w =
     let x = label_at i (top_of s) in
-    let b = withResult x.result (topServer s) s.bits in
-    let k = served s.serving x.called in
+    let b = with_result x.result (top_server s) s.bits in
+    let k = server_of s.serving x.called in
     pick (is_call x && ltb s.depth s.size)
-    (finished x.mask (pick (eqb x.kind 1) 16 64 + x.called) (opening s (entry_at i k) x.called k (cleared k b)))
-    (pick (eqb x.kind 3) (readsByServer i s w) (writesByServer i s w))
+    (finished x.mask (pick (eqb x.kind 1) 16 64 + x.called) (opened_state s (entry_at i k) x.called k (cleared_results k b)))
+    (pick (eqb x.kind 3) (reads_by_server i s w) (writes_by_server i s w))
 
-pub kept-by-server-fails : Agreement translate freshState (run_by keptByServer) rebind → ⊥
-unfolding callOutputs ticking ticksByRule tableInner
+pub kept-by-server-fails : Agreement translate fresh_state (run_by kept_by_server) rebind → ⊥
+unfolding call_outputs ticking ticks_by_rule table_inner
 kept-by-server-fails claim =
-    let given : List CallInput = runAlone (0 ∷ 0 ∷ []) ∷ toRebind 2 3 ∷ runAlone (replicate 5 0) ∷ [] in
+    let given : List CallInput = run_alone (0 ∷ 0 ∷ []) ∷ to_rebind 2 3 ∷ run_alone (replicate 5 0) ∷ [] in
     let z : ◌≡◌ {A = ℕ} 4 0 =
-    ap (code_at 4) (sym (ap third (with-run of_inner keptByServer (fresh 3) given)) ∙ at_inner (run_by keptByServer) rebind claim) in
+    ap (code_at 4) (sym (ap third (with-run of_inner kept_by_server (fresh 3) given)) ∙ at_inner (run_by kept_by_server) rebind claim) in
     omega arith
 
 -- ---- codes that show the scheme that serves
-abbrev shown : ℕ → ℕ → MachineTick → MachineTick
-shown h k (finished m code t) = finished m (pick (eqb code 96) code (code - h + k)) t
-shown h k (stopped n) = stopped n
+abbrev shown_tick : ℕ → ℕ → MachineTick → MachineTick
+shown_tick h k (finished m code t) = finished m (pick (eqb code 96) code (code - h + k)) t
+shown_tick h k (stopped n) = stopped n
 
-abbrev pub showsServer : StepRule
-showsServer i s w = let x = label_at i (top_of s) in
-    pick (is_call x) (shown x.called (served s.serving x.called) (tick i s w)) (tick i s w)
+abbrev pub shows_server : StepRule
+shows_server i s w = let x = label_at i (top_of s) in
+    pick (is_call x) (shown_tick x.called (server_of s.serving x.called) (tick i s w)) (tick i s w)
 
-pub shows-server-fails : Agreement translate freshState (run_by showsServer) rebind → ⊥
-unfolding callOutputs ticking ticksByRule tableSwap
+pub shows-server-fails : Agreement translate fresh_state (run_by shows_server) rebind → ⊥
+unfolding call_outputs ticking ticks_by_rule table_swap
 shows-server-fails claim =
-    let given : List CallInput = toRebind 2 3 ∷ runAlone word3 ∷ [] in
+    let given : List CallInput = to_rebind 2 3 ∷ run_alone word3 ∷ [] in
     let z : ◌≡◌ {A = ℕ} 19 18 =
-    ap (code_at 1) (sym (ap secondOutput (with-run of-swap showsServer (fresh 2) given)) ∙ at-served (run_by showsServer) rebind claim) in
+    ap (code_at 1) (sym (ap second_output (with-run of-swap shows_server (fresh 2) given))
+    ∙ at-served (run_by shows_server) rebind claim) in
     omega arith

@@ -6,60 +6,61 @@ use lib.ListN.{get_or}
 use Rattle.text.specs.frames.Verdict.{Verdict, fine, next}
 use Rattle.text.specs.frames.Frame.{contents}
 use Rattle.image.specs.Image.{Image}
-use Rattle.image.specs.Decode.{decoded}
+use Rattle.image.specs.Decode.{decoded_image}
 use Rattle.state.specs.declared.State.{State}
 use Rattle.state.specs.State.{number_at, fresh}
 use Rattle.ticks.specs.Tick.{MachineTick}
-use Rattle.runs.specs.Run.{MachineRun, then, runVerdict, runOn}
-use Rattle.agreement.specs.Agreement.{Runner, Rebinder, RunOutput, outputOf, CallInput, callOutputs}
-use Rattle.agreement.proofs.Images.{stateVerdict}
+use Rattle.runs.specs.Run.{MachineRun, then, run_verdict, run_on}
+use Rattle.agreement.specs.Agreement.{Runner, Rebinder, RunOutput, output_of, CallInput, call_outputs}
+use Rattle.agreement.proofs.Images.{state_verdict}
 use Rattle.bench.proofs.Tables.{Holds, held, TranslatesTo}
-use Rattle.bench.proofs.Instances.{aloneInput, oneRunOutput}
+use Rattle.bench.proofs.Instances.{alone_input, one_run_output}
 use Rattle.bench.proofs.Rebindings.{chain-alike}
 
 abbrev pub StepRule : Type 0
 StepRule = Image → State → ℕ → MachineTick
 
-unfoldable pub ticksByRule : StepRule → Image → State → List ℕ → MachineRun
-ticksByRule step i s [] = record { masks = []; codes = []; state = s; verdict = fine }
-ticksByRule step i s (w ∷ ws) = then s (λ t. ticksByRule step i t ws) (step i s w)
+unfoldable pub ticks_by_rule : StepRule → Image → State → List ℕ → MachineRun
+ticks_by_rule step i s [] = record { masks = []; codes = []; state = s; verdict = fine }
+ticks_by_rule step i s (w ∷ ws) = then s (λ t. ticks_by_rule step i t ws) (step i s w)
 
 -- a run as the definition has it, but for the tick
 abbrev pub run_by : StepRule → Runner
 run_by step text s words masks codes =
-    runOn (runVerdict text s words masks codes) (λ _. ticksByRule step (decoded (contents text)) s words) s masks codes
+    run_on (run_verdict text s words masks codes) (λ _. ticks_by_rule step (decoded_image (contents text)) s words) s masks codes
 
 -- the same with the image given as a table; on an image that holds it, it is that run
-abbrev pub decodedRunBy : Image → StepRule → Runner
-decodedRunBy i step text s words masks codes = runOn (stateVerdict i s words masks codes) (λ _. ticksByRule step i s words) s masks codes
+abbrev pub decoded_run_by : Image → StepRule → Runner
+decoded_run_by i step text s words masks codes =
+    run_on (state_verdict i s words masks codes) (λ _. ticks_by_rule step i s words) s masks codes
 
 pub by-image : {image : List ℕ} {i : Image} → Holds image i → (step : StepRule) (s : State) (words masks codes : List ℕ)
-    → run_by step image s words masks codes ≡ decodedRunBy i step image s words masks codes
-unfolding runVerdict
+    → run_by step image s words masks codes ≡ decoded_run_by i step image s words masks codes
+unfolding run_verdict
 by-image known step s words masks codes =
-    ap₂ (λ (v : Verdict) (j : Image). runOn (next v λ _. stateVerdict j s words masks codes)
-    (λ _. ticksByRule step j s words) s masks codes)
+    ap₂ (λ (v : Verdict) (j : Image). run_on (next v λ _. state_verdict j s words masks codes)
+    (λ _. ticks_by_rule step j s words) s masks codes)
     known.passes known.decodes
 
 module _ {chart image : List ℕ} {i : Image} (known : TranslatesTo chart image i) (step : StepRule) where
   pub by-table : (s : State) (words masks codes : List ℕ)
-      → run_by step image s words masks codes ≡ decodedRunBy i step image s words masks codes
+      → run_by step image s words masks codes ≡ decoded_run_by i step image s words masks codes
   by-table = by-image (held known) step
 
-  pub made : (size : ℕ) (ws : List ℕ) {t : RunOutput} → oneRunOutput (run_by step) image size ws ≡ t
-      → oneRunOutput (decodedRunBy i step) image size ws ≡ t
-  made size ws e = sym (ap outputOf (by-table (fresh size) ws (aloneInput ws).masks (aloneInput ws).codes)) ∙ e
+  pub made : (size : ℕ) (ws : List ℕ) {t : RunOutput} → one_run_output (run_by step) image size ws ≡ t
+      → one_run_output (decoded_run_by i step) image size ws ≡ t
+  made size ws e = sym (ap output_of (by-table (fresh size) ws (alone_input ws).masks (alone_input ws).codes)) ∙ e
 
   pub chain-made : (rebind : Rebinder) (s : State) (given : List CallInput)
-      → callOutputs (run_by step) rebind image s given ≡ callOutputs (decodedRunBy i step) rebind image s given
-  chain-made rebind = chain-alike image (run_by step) (decodedRunBy i step) rebind rebind by-table (λ s h k. refl)
+      → call_outputs (run_by step) rebind image s given ≡ call_outputs (decoded_run_by i step) rebind image s given
+  chain-made rebind = chain-alike image (run_by step) (decoded_run_by i step) rebind rebind by-table (λ s h k. refl)
 
 -- the number that the scheme at the top was called by
-abbrev pub topNumber : State → ℕ
-topNumber s = number_at s (s.depth - 1)
+abbrev pub top_number : State → ℕ
+top_number s = number_at s (s.depth - 1)
 
 abbrev pub code_at : ℕ → RunOutput → ℕ
 code_at k t = get_or t.codes k 0
 
-abbrev pub maskAt : ℕ → RunOutput → ℕ
-maskAt k t = get_or t.masks k 0
+abbrev pub mask_at : ℕ → RunOutput → ℕ
+mask_at k t = get_or t.masks k 0

@@ -4,14 +4,14 @@ use Rattle.std.specs.Prelude.{ℕ, ◌-◌, ◌%◌, ◌≤◌, true, false, ◌
 use Prim.Native.Char.{code}
 use Prim.Native.String.{String, [] as none, ◌∷◌ as more}
 use Rattle.text.specs.frames.Verdict.{fine}
-use Rattle.text.specs.frames.Answer.{success, refusal, bufferOn}
+use Rattle.text.specs.frames.Answer.{success, refusal, buffer_on}
 use Rattle.words.specs.lists.Numbers.{range}
-use Rattle.words.specs.lists.Sequences.{concatMap}
+use Rattle.words.specs.lists.Sequences.{concat_map}
 use Rattle.text.specs.frames.Frame.{contents}
-use Rattle.results.specs.Results.{noResults}
+use Rattle.results.specs.Results.{no_results}
 use Rattle.walk.specs.Walk.{Signal, Tick, walk}
 use Rattle.translator.specs.Entry.{translate}
-use Rattle.state.specs.State.{fresh, freshState}
+use Rattle.state.specs.State.{fresh, fresh_state}
 use Rattle.runs.specs.Run.{RunOutcome, run}
 
 unfoldable pub characters : String → List ℕ
@@ -20,60 +20,60 @@ characters (more c s) = code c ∷ characters s
 
 -- a text by its lines
 abbrev pub lines : List String → List ℕ
-lines = concatMap (λ s. characters s ++ (10 ∷ []))
+lines = concat_map (λ s. characters s ++ (10 ∷ []))
 
-unfoldable pub chartP : List ℕ
-chartP = lines (
+unfoldable pub chart_p : List ℕ
+chart_p = lines (
     "00010001000000000000FE" ∷ "02010202000000000001F8" ∷ "01010000000000000000FE" ∷ "00020004000000000000FA"
     ∷ "03020005060000000000F0" ∷ "01020000000000000000FD" ∷ "02020205000000000002F3" ∷ [])
 
-unfoldable pub imageP : List ℕ
-imageP = lines (
+unfoldable pub image_p : List ℕ
+image_p = lines (
     "0F020400040000000000E7" ∷ "10010200000000000000ED" ∷ "10020300000000000000EB" ∷ "11000400010000000000EA"
     ∷ "11010300000000000000EB" ∷ "11020102010000000001E8" ∷ "11030000020000000000EA" ∷ "11040102020000000002E4"
     ∷ "12020000000002000000EA" ∷ "12030001000002010000E7" ∷ "12030001000102040000E3" ∷ "12040000000002010000E7" ∷ [])
 
-unfoldable pub benchWords : List ℕ
-benchWords = 0 ∷ 0 ∷ 1 ∷ 0 ∷ 0 ∷ 0 ∷ 0 ∷ 0 ∷ []
+unfoldable pub bench_words : List ℕ
+bench_words = 0 ∷ 0 ∷ 1 ∷ 0 ∷ 0 ∷ 0 ∷ 0 ∷ 0 ∷ []
 
 -- Begin to End alone
-unfoldable pub chartHome : List ℕ
-chartHome = lines ("00010001000000000000FE" ∷ "01010000000000000000FE" ∷ [])
+unfoldable pub chart_home : List ℕ
+chart_home = lines ("00010001000000000000FE" ∷ "01010000000000000000FE" ∷ [])
 
 -- the same with the first sum in small letters
-unfoldable pub chartSmall : List ℕ
-chartSmall = lines ("00010001000000000000fe" ∷ "01010000000000000000FE" ∷ [])
+unfoldable pub chart_small : List ℕ
+chart_small = lines ("00010001000000000000fe" ∷ "01010000000000000000FE" ∷ [])
 
 -- chart P with letters of both sizes
-unfoldable pub chartMixed : List ℕ
-chartMixed = lines (
+unfoldable pub chart_mixed : List ℕ
+chart_mixed = lines (
     "00010001000000000000fE" ∷ "02010202000000000001f8" ∷ "01010000000000000000Fe" ∷ "00020004000000000000fa"
     ∷ "03020005060000000000F0" ∷ "01020000000000000000Fd" ∷ "02020205000000000002f3" ∷ [])
 
 -- Begin, a condition with both arcs to itself, End
-unfoldable pub chartCircle : List ℕ
-chartCircle = lines ("00010001000000000000FE" ∷ "03010001010000000000FA" ∷ "01010000000000000000FE" ∷ [])
+unfoldable pub chart_circle : List ℕ
+chart_circle = lines ("00010001000000000000FE" ∷ "03010001010000000000FA" ∷ "01010000000000000000FE" ∷ [])
 
 -- Begin, function 2 (on 0 End, on 1 mask 1 and then End); scheme 2: one operation that writes 1
-unfoldable pub chartFunction : List ℕ
-chartFunction = lines (
+unfoldable pub chart_function : List ℕ
+chart_function = lines (
     "00010001000000000000FE" ∷ "04010203020000000000F4" ∷ "02010003000000000001F9" ∷ "01010000000000000000FE"
     ∷ "00020005000000000000F9" ∷ "02020006000200000000F4" ∷ "01020000000000000000FD" ∷ [])
 
 -- the bore test: function 2, on 1 mask 1, on 0 mask 2; scheme 2 writes 1 where condition 0 is set, and writes nothing otherwise
-unfoldable pub chartBore : List ℕ
-chartBore = lines (
+unfoldable pub chart_bore : List ℕ
+chart_bore = lines (
     "00010001000000000000FE" ∷ "04010202030000000000F4" ∷ "02010004000000000002F7" ∷ "02010004000000000001F8"
     ∷ "01010000000000000000FE" ∷ "00020006000000000000F8" ∷ "03020008070000000000EC" ∷ "02020008000200000000F2"
     ∷ "01020000000000000000FD" ∷ [])
 
 -- two blocks of it: a bore is found in the first alone
-unfoldable pub boreWords : List ℕ
-boreWords = 0 ∷ 0 ∷ 1 ∷ 0 ∷ 0 ∷ 0 ∷ 0 ∷ 0 ∷ 0 ∷ 0 ∷ 0 ∷ 0 ∷ []
+unfoldable pub bore_words : List ℕ
+bore_words = 0 ∷ 0 ∷ 1 ∷ 0 ∷ 0 ∷ 0 ∷ 0 ∷ 0 ∷ 0 ∷ 0 ∷ 0 ∷ 0 ∷ []
 
 -- an operation that calls scheme 2; scheme 2: an operation that writes 1, and then one that writes 1 and calls scheme 2
-unfoldable pub chartAgain : List ℕ
-chartAgain = lines (
+unfoldable pub chart_again : List ℕ
+chart_again = lines (
     "00010001000000000000FE" ∷ "02010202000000000000F9" ∷ "01010000000000000000FE" ∷ "00020004000000000000FA"
     ∷ "02020005000200000000F5" ∷ "02020206000200000000F2" ∷ "01020000000000000000FD" ∷ [])
 
@@ -82,33 +82,33 @@ abbrev pub image_of : ℕ → List ℕ → List ℕ
 image_of n text = (translate text (replicate n 0)).buffer
 
 -- a run on an image from a fresh state, with room for just its words
-abbrev pub freshRun : List ℕ → ℕ → List ℕ → RunOutcome
-freshRun image size words = run image (freshState size).state words (replicate (length words) 0) (replicate (length words) 0)
+abbrev pub fresh_run : List ℕ → ℕ → List ℕ → RunOutcome
+fresh_run image size words = run image (fresh_state size).state words (replicate (length words) 0) (replicate (length words) 0)
 
 -- a tick of the walk by its node, the number of its scheme, mask, code and open schemes
-abbrev pub tickOf : ℕ → ℕ → ℕ → ℕ → ℕ → Tick
-tickOf v g m k o = record { node = v; number = g; mask = m; code = k; opened = o }
+abbrev pub tick_of : ℕ → ℕ → ℕ → ℕ → ℕ → Tick
+tick_of v g m k o = record { node = v; number = g; mask = m; code = k; opened = o }
 
 -- what stands beside 32 places of which d are in use: the first d of xs, and 0 above them
 abbrev pub beside : ℕ → List ℕ → List ℕ
 beside d xs = take d xs ++ replicate (32 - d) 0
 
 -- the first n of xs repeated without end
-abbrev pub repeated : List ℕ → ℕ → List ℕ
-repeated xs n = map (λ k. get_or xs (k % length xs) 0) (range 0 n)
+abbrev pub repeated_list : List ℕ → ℕ → List ℕ
+repeated_list xs n = map (λ k. get_or xs (k % length xs) 0) (range 0 n)
 
 pub record BenchSheet : Type 0 where
   -- chart P gives its image, whatever buffer is lent
-  pub b1 : (out : List ℕ) → translate chartP out ≡ bufferOn fine 1 (λ _. imageP) out
-  pub b2 : ((freshRun imageP 3 benchWords).reply ≡ success 8)
-      × ((freshRun imageP 3 benchWords).codes ≡ 4 ∷ 18 ∷ 0 ∷ 18 ∷ 0 ∷ 3 ∷ 3 ∷ 4 ∷ [])
-      × ((freshRun imageP 3 benchWords).masks ≡ 0 ∷ 1 ∷ 0 ∷ 2 ∷ 0 ∷ 0 ∷ 0 ∷ 0 ∷ [])
-  pub b3 : (freshRun imageP 2 benchWords).reply ≡ refusal 17 0 3
-  pub b4 : (freshRun imageP 1 benchWords).reply ≡ refusal 17 0 1
-  pub b5 : (size : ℕ) → 1 ≤ size → size ≤ 32 → (freshRun imageP size []).reply ≡ success 0
+  pub b1 : (out : List ℕ) → translate chart_p out ≡ buffer_on fine 1 (λ _. image_p) out
+  pub b2 : ((fresh_run image_p 3 bench_words).reply ≡ success 8)
+      × ((fresh_run image_p 3 bench_words).codes ≡ 4 ∷ 18 ∷ 0 ∷ 18 ∷ 0 ∷ 3 ∷ 3 ∷ 4 ∷ [])
+      × ((fresh_run image_p 3 bench_words).masks ≡ 0 ∷ 1 ∷ 0 ∷ 2 ∷ 0 ∷ 0 ∷ 0 ∷ 0 ∷ [])
+  pub b3 : (fresh_run image_p 2 bench_words).reply ≡ refusal 17 0 3
+  pub b4 : (fresh_run image_p 1 bench_words).reply ≡ refusal 17 0 1
+  pub b5 : (size : ℕ) → 1 ≤ size → size ≤ 32 → (fresh_run image_p size []).reply ≡ success 0
   -- every tick of the walk and of the machine is a home tick, whatever the words and the stack size, and whatever serves
-  pub b6-walk : (n : ℕ) (ws : List Signal) → walk n (contents chartHome) ws ≡ map (λ w. tickOf 1 1 0 4 1) ws
-  pub b6-run : (size : ℕ) → 1 ≤ size → size ≤ 32 → (ws : List ℕ) → freshRun (image_of 92 chartHome) size ws ≡ record {
+  pub b6-walk : (n : ℕ) (ws : List Signal) → walk n (contents chart_home) ws ≡ map (λ w. tick_of 1 1 0 4 1) ws
+  pub b6-run : (size : ℕ) → 1 ≤ size → size ≤ 32 → (ws : List ℕ) → fresh_run (image_of 92 chart_home) size ws ≡ record {
     reply = success (length ws);
     state = fresh size;
     masks = map (λ w. 0) ws;
@@ -116,22 +116,22 @@ pub record BenchSheet : Type 0 where
   }
   pub b7-empty : (out : List ℕ) → translate [] out ≡ record { reply = refusal 1 0 0; buffer = out }
   -- small letters are read, each letter by itself, so that B7's second half no longer holds
-  pub b7-small : (out : List ℕ) → translate chartSmall out ≡ translate chartHome out
-  pub b7-mixed : (out : List ℕ) → translate chartMixed out ≡ translate chartP out
-  pub b8 : (out : List ℕ) → translate chartCircle out ≡ record { reply = refusal 8 1 0; buffer = out }
-  pub b10 : (freshRun (image_of 276 chartFunction) 2 (replicate 6 0)).codes ≡ 4 ∷ 66 ∷ 0 ∷ 3 ∷ 0 ∷ 4 ∷ []
+  pub b7-small : (out : List ℕ) → translate chart_small out ≡ translate chart_home out
+  pub b7-mixed : (out : List ℕ) → translate chart_mixed out ≡ translate chart_p out
+  pub b8 : (out : List ℕ) → translate chart_circle out ≡ record { reply = refusal 8 1 0; buffer = out }
+  pub b10 : (fresh_run (image_of 276 chart_function) 2 (replicate 6 0)).codes ≡ 4 ∷ 66 ∷ 0 ∷ 3 ∷ 0 ∷ 4 ∷ []
   -- no word matters to it, so the five ticks come again and again
-  pub b10-always : (size : ℕ) → 2 ≤ size → size ≤ 32 → (ws : List ℕ) → let r = freshRun (image_of 276 chartFunction) size ws in
+  pub b10-always : (size : ℕ) → 2 ≤ size → size ≤ 32 → (ws : List ℕ) → let r = fresh_run (image_of 276 chart_function) size ws in
       (r.reply ≡ success (length ws))
-      × (r.codes ≡ repeated (4 ∷ 66 ∷ 0 ∷ 3 ∷ 0 ∷ []) (length ws))
-      × (r.masks ≡ repeated (0 ∷ 0 ∷ 0 ∷ 0 ∷ 1 ∷ []) (length ws))
+      × (r.codes ≡ repeated_list (4 ∷ 66 ∷ 0 ∷ 3 ∷ 0 ∷ []) (length ws))
+      × (r.masks ≡ repeated_list (0 ∷ 0 ∷ 0 ∷ 0 ∷ 1 ∷ []) (length ws))
   -- mask 1 in the first block and mask 2 in the second: no yes is left over
-  pub bore : let r = freshRun (image_of 391 chartBore) 2 boreWords in
+  pub bore : let r = fresh_run (image_of 391 chart_bore) 2 bore_words in
       (r.reply ≡ success 12)
       × (r.codes ≡ 4 ∷ 66 ∷ 0 ∷ 0 ∷ 3 ∷ 0 ∷ 4 ∷ 66 ∷ 0 ∷ 3 ∷ 0 ∷ 4 ∷ [])
       × (r.masks ≡ 0 ∷ 0 ∷ 0 ∷ 0 ∷ 0 ∷ 1 ∷ 0 ∷ 0 ∷ 0 ∷ 0 ∷ 2 ∷ 0 ∷ [])
   -- the fourth tick writes 1 to the bit of scheme 2 and calls scheme 2, which leaves a 0
-  pub ownCall : (freshRun (image_of 253 chartAgain) 3 (replicate 4 0)).state.bits ≡ noResults
+  pub own_call : (fresh_run (image_of 253 chart_again) 3 (replicate 4 0)).state.bits ≡ no_results
   -- the sixth would do so again, but gets 17 and leaves the 1 that the fifth wrote
-  pub fullCall : let r = freshRun (image_of 253 chartAgain) 3 (replicate 6 0) in
+  pub full_call : let r = fresh_run (image_of 253 chart_again) 3 (replicate 6 0) in
       (r.reply ≡ refusal 17 0 5) × (r.state.bits ≡ false ∷ true ∷ replicate 14 false)

@@ -2,19 +2,19 @@
 use Rattle.std.specs.Prelude.{ℕ, ◌≡◌, List, [], ◌∷◌, map, get_or, replicate}
 use Rattle.text.specs.frames.Frame.{text_of}
 use Rattle.text.specs.frames.Verdict.{fine}
-use Rattle.text.specs.frames.Answer.{bufferOn}
-use Rattle.little_charts.specs.Little.{littleCharts, littleText, littleChart}
+use Rattle.text.specs.frames.Answer.{buffer_on}
+use Rattle.little_charts.specs.Little.{little_charts, little_text, little_chart}
 use Rattle.bench.specs.Bench.{lines}
-use Rattle.bench.specs.Minimise.{keptSmaller}
+use Rattle.bench.specs.Minimise.{kept_smaller}
 
-unfoldable pub textsTwo : List (List ℕ)
-textsTwo =
+unfoldable pub texts_two : List (List ℕ)
+texts_two =
     lines ("00010001000000000000FE" ∷ "01010000000000000000FE" ∷ [])
     ∷ lines ("01010000000000000000FE" ∷ "00010000000000000000FF" ∷ [])
     ∷ []
 
-unfoldable pub textsThree : List (List ℕ)
-textsThree =
+unfoldable pub texts_three : List (List ℕ)
+texts_three =
     lines ("00010001000000000000FE" ∷ "02010002000000000000FB" ∷ "01010000000000000000FE" ∷ [])
     ∷ lines ("00010001000000000000FE" ∷ "02010002000000000001FA" ∷ "01010000000000000000FE" ∷ [])
     ∷ lines ("00010001000000000000FE" ∷ "03010002020000000000F8" ∷ "01010000000000000000FE" ∷ [])
@@ -36,31 +36,31 @@ textsThree =
     ∷ []
 
 -- numbers 0, 324 and 647 of four frames
-unfoldable pub firstFour : List ℕ
-firstFour = lines ("00010001000000000000FE" ∷ "02010002000000000000FB" ∷ "02010003000000000000FA" ∷ "01010000000000000000FE" ∷ [])
+unfoldable pub first_four : List ℕ
+first_four = lines ("00010001000000000000FE" ∷ "02010002000000000000FB" ∷ "02010003000000000000FA" ∷ "01010000000000000000FE" ∷ [])
 
-unfoldable pub middleFour : List ℕ
-middleFour = lines ("02010000000000000000FD" ∷ "00010002000000000000FD" ∷ "03010000030000000000F9" ∷ "01010000000000000000FE" ∷ [])
+unfoldable pub middle_four : List ℕ
+middle_four = lines ("02010000000000000000FD" ∷ "00010002000000000000FD" ∷ "03010000030000000000F9" ∷ "01010000000000000000FE" ∷ [])
 
-unfoldable pub lastFour : List ℕ
-lastFour = lines ("03010003030000000000F6" ∷ "03010003000000000000F9" ∷ "00010001000000000000FE" ∷ "01010000000000000000FE" ∷ [])
+unfoldable pub last_four : List ℕ
+last_four = lines ("03010003030000000000F6" ∷ "03010003000000000000F9" ∷ "00010001000000000000FE" ∷ "01010000000000000000FE" ∷ [])
 
 pub record LittleCases : Type 0 where
-  pub two : map text_of (littleCharts 2) ≡ textsTwo
-  pub three : map text_of (littleCharts 3) ≡ textsThree
-  pub four : (littleText 4 0 ≡ firstFour) × (littleText 4 324 ≡ middleFour) × (littleText 4 647 ≡ lastFour)
+  pub two : map text_of (little_charts 2) ≡ texts_two
+  pub three : map text_of (little_charts 3) ≡ texts_three
+  pub four : (little_text 4 0 ≡ first_four) × (little_text 4 324 ≡ middle_four) × (little_text 4 647 ≡ last_four)
   -- the last of each frame count is written
-  pub lastTwo : (out : List ℕ) → littleChart 2 1 out ≡ bufferOn fine 1 (λ _. get_or textsTwo 1 []) out
-  pub lastThree : (out : List ℕ) → littleChart 3 17 out ≡ bufferOn fine 1 (λ _. get_or textsThree 17 []) out
-  pub lastOfFour : (out : List ℕ) → littleChart 4 647 out ≡ bufferOn fine 1 (λ _. lastFour) out
+  pub last_two : (out : List ℕ) → little_chart 2 1 out ≡ buffer_on fine 1 (λ _. get_or texts_two 1 []) out
+  pub last_three : (out : List ℕ) → little_chart 3 17 out ≡ buffer_on fine 1 (λ _. get_or texts_three 17 []) out
+  pub last_of_four : (out : List ℕ) → little_chart 4 647 out ≡ buffer_on fine 1 (λ _. last_four) out
   -- and the next number is past it
-  pub pastTwo : (out : List ℕ) → littleChart 2 2 out ≡ keptSmaller 24 out
-  pub pastThree : (out : List ℕ) → littleChart 3 18 out ≡ keptSmaller 24 out
-  pub pastFour : (out : List ℕ) → littleChart 4 648 out ≡ keptSmaller 24 out
+  pub past_two : (out : List ℕ) → little_chart 2 2 out ≡ kept_smaller 24 out
+  pub past_three : (out : List ℕ) → little_chart 3 18 out ≡ kept_smaller 24 out
+  pub past_four : (out : List ℕ) → little_chart 4 648 out ≡ kept_smaller 24 out
   -- frame counts outside 2 to 4
-  pub none : (out : List ℕ) → littleChart 0 0 out ≡ keptSmaller 24 out
-  pub one : (out : List ℕ) → littleChart 1 0 out ≡ keptSmaller 24 out
-  pub five : (out : List ℕ) → littleChart 5 0 out ≡ keptSmaller 24 out
+  pub none : (out : List ℕ) → little_chart 0 0 out ≡ kept_smaller 24 out
+  pub one : (out : List ℕ) → little_chart 1 0 out ≡ kept_smaller 24 out
+  pub five : (out : List ℕ) → little_chart 5 0 out ≡ kept_smaller 24 out
   -- 16 follows, one character short
-  pub short : littleChart 2 0 (replicate 45 9) ≡ keptSmaller 16 (replicate 45 9)
-  pub pastFirst : littleChart 2 2 [] ≡ keptSmaller 24 []
+  pub short : little_chart 2 0 (replicate 45 9) ≡ kept_smaller 16 (replicate 45 9)
+  pub past_first : little_chart 2 2 [] ≡ kept_smaller 24 []

@@ -4,14 +4,15 @@ use mathlib.Core.Path.{◌≡◌, ap₂}
 use mathlib.Core.List.{List}
 use Rattle.text.specs.frames.Verdict.{Verdict, next, when}
 use Rattle.text.proofs.frames.Capitals.{ReadAlike}
-use Rattle.image.specs.Decode.{decoded}
+use Rattle.image.specs.Decode.{decoded_image}
 use Rattle.image.proofs.Alike.{image-verdict}
 use Rattle.state.specs.declared.State.{State}
-use Rattle.fitness.specs.Fitness.{unfit}
-use Rattle.cause.specs.Cause.{causeOn, causeOf, explain}
+use Rattle.fitness.specs.Fitness.{is_unfit}
+use Rattle.cause.specs.Cause.{cause_on, cause_of, explain}
 
 pub explains : (t u : List ℕ) → ReadAlike t u → (s : State) (word : ℕ) → explain t s word ≡ explain u s word
 unfolding explain
 explains t u A s word =
-    ap₂ (λ (v : Verdict) (c : List ℕ). causeOn (next v λ _. when 15 (unfit (decoded c) s)) (λ _. causeOf (decoded c) s word))
+    ap₂ (λ (v : Verdict) (c : List ℕ). cause_on (next v λ _. when 15 (is_unfit (decoded_image c) s))
+    (λ _. cause_of (decoded_image c) s word))
     (image-verdict t u A) A.contents

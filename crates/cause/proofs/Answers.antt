@@ -8,17 +8,17 @@ use Rattle.text.specs.frames.Frame.{contents}
 use Rattle.text.specs.frames.Verdict.{Verdict, fine, refused, next, when}
 use Rattle.text.specs.frames.Answer.{success}
 use Rattle.text.proofs.frames.Chains.{no-success}
-use Rattle.image.specs.Decode.{decoded}
-use Rattle.image.specs.Check.{imageVerdict}
+use Rattle.image.specs.Decode.{decoded_image}
+use Rattle.image.specs.Check.{image_verdict}
 use Rattle.state.specs.declared.State.{State}
 use Rattle.state.specs.State.{Sized}
-use Rattle.fitness.specs.Fitness.{unfit}
-use Rattle.cause.specs.Cause.{Caused, because, unexplained, CauseOutcome, causeOn, causeOf, explain}
+use Rattle.fitness.specs.Fitness.{is_unfit}
+use Rattle.cause.specs.Cause.{Caused, because, unexplained, CauseOutcome, cause_on, cause_of, explain}
 use Rattle.cause.specs.Laws.{Explains}
 
 -- the image check's verdict, whether the state is unfit, and the cause found
 abbrev answer : Verdict → Bool → Caused → CauseOutcome
-answer v u x = causeOn (next v λ _. when 15 u) (λ _. x)
+answer v u x = cause_on (next v λ _. when 15 u) (λ _. x)
 
 record Succeeded (v : Verdict) (u : Bool) (x : Caused) (n : ℕ) : Type 0 where
   passes : v ≡ fine
@@ -34,9 +34,9 @@ succeeded fine false (because c) n e = record { passes = refl; fits = refl; told
 
 module _ (t : List ℕ) (s : State) (w n : ℕ) where
   succeeds : (explain t s w).reply ≡ success n
-      → Succeeded (imageVerdict t) (unfit (decoded (contents t)) s) (causeOf (decoded (contents t)) s w) n
+      → Succeeded (image_verdict t) (is_unfit (decoded_image (contents t)) s) (cause_of (decoded_image (contents t)) s w) n
   unfolding explain
-  succeeds e = succeeded (imageVerdict t) (unfit (decoded (contents t)) s) (causeOf (decoded (contents t)) s w) n e
+  succeeds e = succeeded (image_verdict t) (is_unfit (decoded_image (contents t)) s) (cause_of (decoded_image (contents t)) s w) n e
 
   pub answered : Sized s → (explain t s w).reply ≡ success n → Explains t s w (explain t s w).cause
   unfolding explain

@@ -13,18 +13,18 @@ use Rattle.words.specs.lists.Pick.{pick}
 use Rattle.words.specs.lists.Numbers.{lowest}
 use Rattle.words.proofs.lists.Searches.{lowest-below}
 use Rattle.words.proofs.lists.Tests.{split}
-use Rattle.words.specs.bits.Word.{bit, agrees}
+use Rattle.words.specs.bits.Word.{bit, is_agreeing}
 use Rattle.text.specs.frames.Frame.{field, pair_at}
-use Rattle.cause.specs.Cause.{differs}
-use Rattle.cause.specs.inner.CauseContracts.{RowAsked, lets, againstIn, againstFrom}
+use Rattle.cause.specs.Cause.{is_differing}
+use Rattle.cause.specs.inner.CauseContracts.{RowAsked, is_let_through, mask_against_in, mask_against_from}
 use Rattle.cause.proofs.Masks.{low-differs}
 
 -- ---- one condition
 module _ (w care values i : ℕ) (c : ℕ) (is : c ≡ bit care i) where
-  pub differs-free : (c ≡ 1 → ⊥) → false ≡ differs w care values i
+  pub differs-free : (c ≡ 1 → ⊥) → false ≡ is_differing w care values i
   differs-free h = sym (ap (λ (t : Bool). t && not (eqb (bit w i) (bit values i))) (ne_eqb (bit care i) 1 (λ e. h (is ∙ e))))
 
-  pub differs-by : c ≡ 1 → (u v : ℕ) → u ≡ bit w i → v ≡ bit values i → not (eqb u v) ≡ differs w care values i
+  pub differs-by : c ≡ 1 → (u v : ℕ) → u ≡ bit w i → v ≡ bit values i → not (eqb u v) ≡ is_differing w care values i
   differs-by h u v e f =
       ap₂ (λ (m n : ℕ). not (eqb m n)) e f
       ∙ sym (ap (λ (t : Bool). t && not (eqb (bit w i) (bit values i))) (eq-eqb (bit care i) 1 (sym is ∙ h)))
@@ -32,7 +32,7 @@ module _ (w care values i : ℕ) (c : ℕ) (is : c ≡ bit care i) where
 -- ---- the search, from the highest condition down: low is the lowest of those passed
 module _ (w care values : ℕ) where
   abbrev p : ℕ → Bool
-  p = differs w care values
+  p = is_differing w care values
 
   pub record PassedCondition (low i : ℕ) : Type 0 where
     pub inside : i ≤ 16
@@ -57,35 +57,35 @@ module _ (b : List ℕ) (f w bit : ℕ) (x : RowAsked b f) (bytes : (k : ℕ) �
   values = pair_at b f 4
 
   abbrev low : ℕ
-  low = 2 ^ lowest (differs w care values) 0 16
+  low = 2 ^ lowest (is_differing w care values) 0 16
 
-  module _ (t : Bool) (only : ℕ) (is : only ≡ field b f 6) (e : t ≡ lets only bit) where
-    let-is : t ≡ lets (field b f 6) bit
-    let-is = e ∙ ap (λ (n : ℕ). lets n bit) is
+  module _ (t : Bool) (only : ℕ) (is : only ≡ field b f 6) (e : t ≡ is_let_through only bit) where
+    let-is : t ≡ is_let_through (field b f 6) bit
+    let-is = e ∙ ap (λ (n : ℕ). is_let_through n bit) is
 
-    pub against-shut : t ≡ false → 0 ≡ againstIn b w bit f
-    against-shut h = sym (ap (λ (u : Bool). pick (u && not (agrees w care values)) low 0) (sym let-is ∙ h))
+    pub against-shut : t ≡ false → 0 ≡ mask_against_in b w bit f
+    against-shut h = sym (ap (λ (u : Bool). pick (u && not (is_agreeing w care values)) low 0) (sym let-is ∙ h))
 
     module _ (h : t ≡ true) (c v : ℕ) (p : c ≡ care) (q : v ≡ values) where
-      agrees-is : agrees w c v ≡ agrees w care values
-      agrees-is = ap₂ (agrees w) p q
+      agrees-is : is_agreeing w c v ≡ is_agreeing w care values
+      agrees-is = ap₂ (is_agreeing w) p q
 
-      by_word : (u : Bool) → agrees w c v ≡ u → againstIn b w bit f ≡ pick (not u) low 0
+      by_word : (u : Bool) → is_agreeing w c v ≡ u → mask_against_in b w bit f ≡ pick (not u) low 0
       by_word u z = ap₂ (λ (m n : Bool). pick (m && not n) low 0) (sym let-is ∙ h) (sym agrees-is ∙ z)
 
-      pub against-match : bit_and w c ≡ v → 0 ≡ againstIn b w bit f
+      pub against-match : bit_and w c ≡ v → 0 ≡ mask_against_in b w bit f
       against-match z = sym (by_word true (eq-eqb (bit_and w c) v z))
 
-      module _ (z : bit_and w c ≡ v → ⊥) (i : ℕ) (g : i ≡ lowest (differs w c v) 0 16) where
-        low-is : i ≡ lowest (differs w care values) 0 16
-        low-is = g ∙ ap₂ (λ (m n : ℕ). lowest (differs w m n) 0 16) p q
+      module _ (z : bit_and w c ≡ v → ⊥) (i : ℕ) (g : i ≡ lowest (is_differing w c v) 0 16) where
+        low-is : i ≡ lowest (is_differing w care values) 0 16
+        low-is = g ∙ ap₂ (λ (m n : ℕ). lowest (is_differing w m n) 0 16) p q
 
         pub low-condition : i < 16
         low-condition =
             let small : (k : ℕ) → pair_at b f k < 65536 = λ k. omega (arith, bytes (10 * f + k), bytes (10 * f + (k + 1))) in
             omega (arith, low-is, low-differs w care values (small 2) (small 4) x.kept (sym agrees-is ∙ ne_eqb (bit_and w c) v z))
 
-        pub against-low : (r : ℕ) → r ≡ bit_or 0 (2 ^ i) → r ≡ againstIn b w bit f
+        pub against-low : (r : ℕ) → r ≡ bit_or 0 (2 ^ i) → r ≡ mask_against_in b w bit f
         against-low r y = y ∙ or_zero_l (2 ^ i) ∙ ap (λ (n : ℕ). 2 ^ n) low-is ∙ sym (by_word false (ne_eqb (bit_and w c) v z))
 
 -- ---- the loop over rows, from the last one down: those passed stand in the mask
@@ -93,34 +93,35 @@ module _ (b : List ℕ) (w bit first end : ℕ) where
   pub record JoinedMask (mask f : ℕ) : Type 0 where
     pub inside : f ≤ end
     pub reached : min first end ≤ f
-    pub joined : mask ≡ againstFrom b w bit f (end - f)
+    pub joined : mask ≡ mask_against_from b w bit f (end - f)
 
   pub joined-none : JoinedMask 0 end
-  unfolding againstFrom
+  unfolding mask_against_from
   joined-none = record {
     inside = omega arith;
     reached = omega arith;
-    joined = ap (againstFrom b w bit end) (let z : 0 ≡ end - end = omega arith in z);
+    joined = ap (mask_against_from b w bit end) (let z : 0 ≡ end - end = omega arith in z);
   }
 
-  pub joined-more : (mask f r : ℕ) → JoinedMask mask f → first < f → r ≡ againstIn b w bit (f - 1) → JoinedMask (bit_or r mask) (f - 1)
-  unfolding againstFrom
+  pub joined-more : (mask f r : ℕ) → JoinedMask mask f → first < f → r ≡ mask_against_in b w bit (f - 1)
+      → JoinedMask (bit_or r mask) (f - 1)
+  unfolding mask_against_from
   joined-more mask f r x h e = record {
     inside = omega (arith, x.inside);
     reached = omega arith;
     joined =
-        ap₂ bit_or e (x.joined ∙ ap (λ (n : ℕ). againstFrom b w bit n (end - f)) (let z : f ≡ suc (f - 1) = omega arith in z))
-        ∙ ap (againstFrom b w bit (f - 1)) (let z : suc (end - f) ≡ end - (f - 1) = omega (arith, x.inside) in z);
+        ap₂ bit_or e (x.joined ∙ ap (λ (n : ℕ). mask_against_from b w bit n (end - f)) (let z : f ≡ suc (f - 1) = omega arith in z))
+        ∙ ap (mask_against_from b w bit (f - 1)) (let z : suc (end - f) ≡ end - (f - 1) = omega (arith, x.inside) in z);
   }
 
   -- frames past the end
-  over-end : (f : ℕ) → end ≤ f → againstFrom b w bit f (end - f) ≡ 0
-  unfolding againstFrom
-  over-end f h = ap (againstFrom b w bit f) (let z : end - f ≡ 0 = omega arith in z)
+  over-end : (f : ℕ) → end ≤ f → mask_against_from b w bit f (end - f) ≡ 0
+  unfolding mask_against_from
+  over-end f h = ap (mask_against_from b w bit f) (let z : end - f ≡ 0 = omega arith in z)
 
-  pub joined-all : (mask f : ℕ) → JoinedMask mask f → f ≤ first → mask ≡ againstFrom b w bit first (end - first)
+  pub joined-all : (mask f : ℕ) → JoinedMask mask f → f ≤ first → mask ≡ mask_against_from b w bit first (end - first)
   joined-all mask f x h = x.joined ∙ go (split end first)
     where
-      go : (end < first) ⊎ (first ≤ end) → againstFrom b w bit f (end - f) ≡ againstFrom b w bit first (end - first)
+      go : (end < first) ⊎ (first ≤ end) → mask_against_from b w bit f (end - f) ≡ mask_against_from b w bit first (end - first)
       go (inl g) = over-end f (omega (arith, x.reached)) ∙ sym (over-end first (omega arith))
-      go (inr g) = ap (λ (n : ℕ). againstFrom b w bit n (end - n)) (let z : f ≡ first = omega (arith, x.reached) in z)
+      go (inr g) = ap (λ (n : ℕ). mask_against_from b w bit n (end - n)) (let z : f ≡ first = omega (arith, x.reached) in z)

@@ -10,19 +10,19 @@ use lib.Dec.{eqb}
 use Rattle.words.specs.lists.Pick.{pick}
 use Rattle.words.specs.bits.Word.{bit}
 use Rattle.text.specs.frames.Frame.{contents}
-use Rattle.image.specs.Image.{Image, Row, nthRow}
-use Rattle.image.specs.Decode.{decoded}
+use Rattle.image.specs.Image.{Image, Row, nth_row}
+use Rattle.image.specs.Decode.{decoded_image}
 use Rattle.image.specs.inner.Sound.{SoundImage}
 use Rattle.image.proofs.Accepted.{image-sound}
-use Rattle.rows.specs.Rows.{Choice, row, noChoice, found, leads}
+use Rattle.rows.specs.Rows.{Choice, row, no_choice, found, lead_of}
 use Rattle.rows.proofs.BestRows.{best-is}
 use Rattle.state.specs.declared.State.{State}
 use Rattle.state.specs.State.{label_at}
 use Rattle.fitness.proofs.Fitness.{Fits, unfits}
-use Rattle.ticks.specs.Tick.{calledBit, choice, MachineTick, stopped, tick}
-use Rattle.cause.specs.Cause.{againstAll, Leaving, leavesLabel, nothing, leaving, Cause, Caused}
-use Rattle.cause.specs.Cause.{because, unexplained, causeBy, causeAt, causeOf}
-use Rattle.cause.specs.Laws.{Fitting, takenFrom, takenRow, SameRow, SameTick, Arrives}
+use Rattle.ticks.specs.Tick.{called_bit, choice, MachineTick, stopped, tick}
+use Rattle.cause.specs.Cause.{mask_against_all, Leaving, leaves_label, nothing, leaving, Cause, Caused}
+use Rattle.cause.specs.Cause.{because, unexplained, cause_by, cause_at, cause_of}
+use Rattle.cause.specs.Laws.{Fitting, taken_row_from, taken_row, SameRow, SameTick, Arrives}
 use Rattle.cause.specs.Laws.{RowTaken, CareNeeded, RefusedCause, RefusedExactly}
 use Rattle.cause.proofs.Masks.{mask-decides, care-tells}
 use Rattle.cause.proofs.Leaves.{Goes, Leaves, by, stays, leaves, rowless-stays}
@@ -30,7 +30,7 @@ use Rattle.cause.proofs.Leaves.{Goes, Leaves, by, stays, leaves, rowless-stays}
 no-cause : {A : Type 0} (n : ℕ) (c : Cause) (x : Caused) → x ≡ unexplained n → x ≡ because c → A
 no-cause n c x p q = absurd (let z : ◌≡◌ {A = ℕ} 0 1 = cc in omega arith)
 
-no_label : {A : Type 0} (l : ℕ) (x : Leaving) → x ≡ nothing → x ≡ leavesLabel l → A
+no_label : {A : Type 0} (l : ℕ) (x : Leaving) → x ≡ nothing → x ≡ leaves_label l → A
 no_label l x p q = absurd (let z : ◌≡◌ {A = ℕ} 0 1 = cc in omega arith)
 
 cause-same : (c d : Cause) → because c ≡ because d → c ≡ d
@@ -39,68 +39,68 @@ cause-same c d e = cc
 number_same : (m n : ℕ) → unexplained m ≡ unexplained n → m ≡ n
 number_same m n e = cc
 
-label_same : (l m : ℕ) → leavesLabel l ≡ leavesLabel m → l ≡ m
+label_same : (l m : ℕ) → leaves_label l ≡ leaves_label m → l ≡ m
 label_same l m e = cc
 
 -- ---- a cause that is told, taken apart
 pub record TakenApart (i : Image) (s : State) (w : ℕ) (c : Cause) : Type 0 where
   pub from : ℕ
-  pub left : leaving i s ≡ leavesLabel from
+  pub left : leaving i s ≡ leaves_label from
   pub one : Row
   pub chosen : choice i s.bits from w ≡ row c.row one
-  pub masked : c.mask ≡ bit_or one.care (againstAll from w (calledBit i s.bits from) i.rows)
+  pub masked : c.mask ≡ bit_or one.care (mask_against_all from w (called_bit i s.bits from) i.rows)
 
 module _ (i : Image) (s : State) (w : ℕ) where
-  cause-left : (l : ℕ) → leaving i s ≡ leavesLabel l
-      → causeOf i s w ≡ causeBy i.rows (label_at i l).kind l w (calledBit i s.bits l) (choice i s.bits l w)
-  unfolding causeOf
-  cause-left l e = ap (causeAt i s.bits w) e
+  cause-left : (l : ℕ) → leaving i s ≡ leaves_label l
+      → cause_of i s w ≡ cause_by i.rows (label_at i l).kind l w (called_bit i s.bits l) (choice i s.bits l w)
+  unfolding cause_of
+  cause-left l e = ap (cause_at i s.bits w) e
 
-  cause-none : leaving i s ≡ nothing → causeOf i s w ≡ unexplained 21
-  unfolding causeOf
-  cause-none e = ap (causeAt i s.bits w) e
+  cause-none : leaving i s ≡ nothing → cause_of i s w ≡ unexplained 21
+  unfolding cause_of
+  cause-none e = ap (cause_at i s.bits w) e
 
-  module _ (l : ℕ) (left : leaving i s ≡ leavesLabel l) where
+  module _ (l : ℕ) (left : leaving i s ≡ leaves_label l) where
     abbrev told : Choice → Caused
-    told = causeBy i.rows (label_at i l).kind l w (calledBit i s.bits l)
+    told = cause_by i.rows (label_at i l).kind l w (called_bit i s.bits l)
 
-    cause-row : (k : ℕ) (r : Row) → choice i s.bits l w ≡ row k r → causeOf i s w ≡ told (row k r)
+    cause-row : (k : ℕ) (r : Row) → choice i s.bits l w ≡ row k r → cause_of i s w ≡ told (row k r)
     cause-row k r e = cause-left l left ∙ ap told e
 
-    cause-unmatched : choice i s.bits l w ≡ noChoice → causeOf i s w ≡ unexplained 18
+    cause-unmatched : choice i s.bits l w ≡ no_choice → cause_of i s w ≡ unexplained 18
     cause-unmatched e = cause-left l left ∙ ap told e
 
-  pub given : (c : Cause) → causeOf i s w ≡ because c → TakenApart i s w c
+  pub given : (c : Cause) → cause_of i s w ≡ because c → TakenApart i s w c
   given c e = go (leaving i s) refl
     where
       go : (x : Leaving) → leaving i s ≡ x → TakenApart i s w c
-      go nothing q = no-cause 21 c (causeOf i s w) (cause-none q) e
-      go (leavesLabel l) q = at (choice i s.bits l w) refl
+      go nothing q = no-cause 21 c (cause_of i s w) (cause-none q) e
+      go (leaves_label l) q = at (choice i s.bits l w) refl
         where
           at : (x : Choice) → choice i s.bits l w ≡ x → TakenApart i s w c
-          at noChoice p = no-cause 18 c (causeOf i s w) (cause-unmatched l q p) e
+          at no_choice p = no-cause 18 c (cause_of i s w) (cause-unmatched l q p) e
           at (row k r) p =
               let d : Cause = record {
                 row = k;
-                mask = bit_or r.care (againstAll l w (calledBit i s.bits l) i.rows);
-                bit = pick (eqb (label_at i l).kind 2) (calledBit i s.bits l) 2;
+                mask = bit_or r.care (mask_against_all l w (called_bit i s.bits l) i.rows);
+                bit = pick (eqb (label_at i l).kind 2) (called_bit i s.bits l) 2;
               } in
               let same : d ≡ c = cause-same d c (sym (cause-row l q k r p) ∙ e) in
               subst (TakenApart i s w) same (record { from = l; left = q; one = r; chosen = p; masked = refl })
 
 -- ---- the row and the tick
-module _ (i : Image) (sound : SoundImage i) (s : State) (f : Fits i s) (w : ℕ) (c : Cause) (e : causeOf i s w ≡ because c) where
+module _ (i : Image) (sound : SoundImage i) (s : State) (f : Fits i s) (w : ℕ) (c : Cause) (e : cause_of i s w ≡ because c) where
   abbrev pub g : TakenApart i s w c
   g = given i s w c e
 
   abbrev b : ℕ
-  b = calledBit i s.bits g.from
+  b = called_bit i s.bits g.from
 
-  pub row_is : nthRow i c.row ≡ g.one
+  pub row_is : nth_row i c.row ≡ g.one
   row_is = (best-is g.from w b i.rows c.row g.one g.chosen).is
 
-  pub taken_is : (v : ℕ) → takenRow i s v ≡ choice i s.bits g.from v
-  taken_is v = ap (takenFrom i s v) g.left
+  pub taken_is : (v : ℕ) → taken_row i s v ≡ choice i s.bits g.from v
+  taken_is v = ap (taken_row_from i s v) g.left
 
   pub goes : Goes i s g.from
   goes = at (leaves i sound s f)
@@ -114,21 +114,21 @@ module _ (i : Image) (sound : SoundImage i) (s : State) (f : Fits i s) (w : ℕ)
     chosen-too = mask-decides i sound g.from w b c.row g.one g.chosen v
         (subst (λ (m : ℕ). bit_and v m ≡ bit_and w m) g.masked a)
 
-    row_same : takenRow i s v ≡ row c.row (nthRow i c.row)
+    row_same : taken_row i s v ≡ row c.row (nth_row i c.row)
     row_same = taken_is v ∙ chosen-too ∙ ap (row c.row) (sym row_is)
 
     tick-same : tick i s v ≡ tick i s w
-    tick-same = goes.ticks v ∙ ap (λ (x : Choice). goes.go (leads x)) (chosen-too ∙ sym g.chosen) ∙ sym (goes.ticks w)
+    tick-same = goes.ticks v ∙ ap (λ (x : Choice). goes.go (lead_of x)) (chosen-too ∙ sym g.chosen) ∙ sym (goes.ticks w)
 
-  arrived : Arrives (tick i s w) (nthRow i c.row).next
+  arrived : Arrives (tick i s w) (nth_row i c.row).next
   arrived =
-      subst (λ (x : MachineTick). Arrives x (nthRow i c.row).next)
-      (sym (goes.ticks w ∙ ap (λ (x : Choice). goes.go (leads x)) g.chosen))
+      subst (λ (x : MachineTick). Arrives x (nth_row i c.row).next)
+      (sym (goes.ticks w ∙ ap (λ (x : Choice). goes.go (lead_of x)) g.chosen))
       (subst (λ (u : ℕ). Arrives (goes.go (found g.one.next)) u)
       (sym (ap (λ (r : Row). r.next) row_is)) (goes.arrives g.one.next))
 
-  needed : (j : ℕ) → bit (nthRow i c.row).care j ≡ 1 → (v : ℕ) → (bit v j ≡ bit w j → ⊥)
-      → (r : Row) → takenRow i s v ≡ row c.row r → ⊥
+  needed : (j : ℕ) → bit (nth_row i c.row).care j ≡ 1 → (v : ℕ) → (bit v j ≡ bit w j → ⊥)
+      → (r : Row) → taken_row i s v ≡ row c.row r → ⊥
   needed j o v d r z =
       let chosen : choice i s.bits g.from v ≡ row c.row r = sym (taken_is v) ∙ z in
       let same : r ≡ g.one = sym (best-is g.from v b i.rows c.row r chosen).is ∙ row_is in
@@ -140,31 +140,31 @@ module _ (i : Image) (sound : SoundImage i) (s : State) (f : Fits i s) (w : ℕ)
   refusals : RefusedCause i s w
   refusals = go (leaves i sound s f)
     where
-      with_row : (l : ℕ) → leaving i s ≡ leavesLabel l → Goes i s l → (k : ℕ) (r : Row)
+      with_row : (l : ℕ) → leaving i s ≡ leaves_label l → Goes i s l → (k : ℕ) (r : Row)
           → choice i s.bits l w ≡ row k r → RefusedCause i s w
       with_row l q o k r p =
           let x : Cause = record {
             row = k;
-            mask = bit_or r.care (againstAll l w (calledBit i s.bits l) i.rows);
-            bit = pick (eqb (label_at i l).kind 2) (calledBit i s.bits l) 2;
+            mask = bit_or r.care (mask_against_all l w (called_bit i s.bits l) i.rows);
+            bit = pick (eqb (label_at i l).kind 2) (called_bit i s.bits l) 2;
           } in
-          let told : causeOf i s w ≡ because x = cause-row i s w l q k r p in
-          let at : tick i s w ≡ o.go (found r.next) = o.ticks w ∙ ap (λ (y : Choice). o.go (leads y)) p in
+          let told : cause_of i s w ≡ because x = cause-row i s w l q k r p in
+          let at : tick i s w ≡ o.go (found r.next) = o.ticks w ∙ ap (λ (y : Choice). o.go (lead_of y)) p in
           record {
-            rowless = ((λ z. no-cause 21 x (causeOf i s w) z told), (λ y. no_label l (leaving i s) (rowless-stays i sound s f y) q));
-            unread = λ z v. no-cause 21 x (causeOf i s w) z told;
+            rowless = ((λ z. no-cause 21 x (cause_of i s w) z told), (λ y. no_label l (leaving i s) (rowless-stays i sound s f y) q));
+            unread = λ z v. no-cause 21 x (cause_of i s w) z told;
             unmatched = (
-              (λ z. no-cause 18 x (causeOf i s w) z told),
+              (λ z. no-cause 18 x (cause_of i s w) z told),
               (λ z. absurd (subst (λ (y : MachineTick). Arrives y r.next) (sym at ∙ z) (o.arrives r.next))),
             );
-            only = λ n z. no-cause n x (causeOf i s w) z told;
+            only = λ n z. no-cause n x (cause_of i s w) z told;
           }
 
-      without : (l : ℕ) → leaving i s ≡ leavesLabel l → Goes i s l → choice i s.bits l w ≡ noChoice → RefusedCause i s w
+      without : (l : ℕ) → leaving i s ≡ leaves_label l → Goes i s l → choice i s.bits l w ≡ no_choice → RefusedCause i s w
       without l q o p =
-          let told : causeOf i s w ≡ unexplained 18 = cause-unmatched i s w l q p in
-          let stop : tick i s w ≡ stopped 18 = o.ticks w ∙ ap (λ (y : Choice). o.go (leads y)) p ∙ o.stops in
-          let never : causeOf i s w ≡ unexplained 21
+          let told : cause_of i s w ≡ unexplained 18 = cause-unmatched i s w l q p in
+          let stop : tick i s w ≡ stopped 18 = o.ticks w ∙ ap (λ (y : Choice). o.go (lead_of y)) p ∙ o.stops in
+          let never : cause_of i s w ≡ unexplained 21
           → ⊥ = λ z. let y : ◌≡◌ {A = ℕ} 18 21 = number_same 18 21 (sym told ∙ z) in omega arith in
           record {
             rowless = ((λ z. absurd (never z)), (λ y. no_label l (leaving i s) (rowless-stays i sound s f y) q));
@@ -178,9 +178,9 @@ module _ (i : Image) (sound : SoundImage i) (s : State) (f : Fits i s) (w : ℕ)
         where
           at : (x : Choice) → choice i s.bits l w ≡ x → RefusedCause i s w
           at (row k r) p = with_row l q o k r p
-          at noChoice p = without l q o p
+          at no_choice p = without l q o p
       go (stays q o) =
-          let told : causeOf i s w ≡ unexplained 21 = cause-none i s w q in
+          let told : cause_of i s w ≡ unexplained 21 = cause-none i s w q in
           record {
             rowless = ((λ z. o.rowless), (λ z. told));
             unread = λ z v. o.same v w;
@@ -193,28 +193,28 @@ module _ (i : Image) (sound : SoundImage i) (s : State) (f : Fits i s) (w : ℕ)
 
 -- ---- the laws
 module _ {text : List ℕ} {s : State} (y : Fitting text s) where
-  pub image : SoundImage (decoded (contents text))
+  pub image : SoundImage (decoded_image (contents text))
   image = image-sound text y.accepted
 
-  pub state : Fits (decoded (contents text)) s
-  state = unfits (decoded (contents text)) s y.sized y.fits
+  pub state : Fits (decoded_image (contents text)) s
+  state = unfits (decoded_image (contents text)) s y.sized y.fits
 
 pub same_row : SameRow
 unfolding SameRow
-same_row text s w c x v a = row_same (decoded (contents text)) (image x.fitting) s (state x.fitting) w c x.because v a
+same_row text s w c x v a = row_same (decoded_image (contents text)) (image x.fitting) s (state x.fitting) w c x.because v a
 
 pub same-tick : SameTick
 unfolding SameTick
-same-tick text s w c x v a = tick-same (decoded (contents text)) (image x.fitting) s (state x.fitting) w c x.because v a
+same-tick text s w c x v a = tick-same (decoded_image (contents text)) (image x.fitting) s (state x.fitting) w c x.because v a
 
 pub row-taken : RowTaken
 unfolding RowTaken
-row-taken text s w c x = arrived (decoded (contents text)) (image x.fitting) s (state x.fitting) w c x.because
+row-taken text s w c x = arrived (decoded_image (contents text)) (image x.fitting) s (state x.fitting) w c x.because
 
 pub care-needed : CareNeeded
 unfolding CareNeeded
-care-needed text s w c x = needed (decoded (contents text)) (image x.fitting) s (state x.fitting) w c x.because
+care-needed text s w c x = needed (decoded_image (contents text)) (image x.fitting) s (state x.fitting) w c x.because
 
 pub refuses : RefusedExactly
 unfolding RefusedExactly
-refuses text s w y = refusals (decoded (contents text)) (image y) s (state y) w
+refuses text s w y = refusals (decoded_image (contents text)) (image y) s (state y) w

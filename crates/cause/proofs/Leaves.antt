@@ -11,29 +11,29 @@ use lib.Seq.{get_or-set_same}
 use borrow.Author.Tests.{le-leb, leb-true, leb-false, eqb-true, eq-eqb}
 use Rattle.words.specs.lists.Pick.{pick}
 use Rattle.words.proofs.lists.Tests.{or_cases, or-true-l, or_true_r}
-use Rattle.results.specs.Results.{Results, withResult, cleared}
-use Rattle.bindings.specs.Binding.{served}
-use Rattle.image.specs.Image.{Image, Label, returnLabel, nthRow}
+use Rattle.results.specs.Results.{Results, with_result, cleared_results}
+use Rattle.bindings.specs.Binding.{server_of}
+use Rattle.image.specs.Image.{Image, Label, return_label, nth_row}
 use Rattle.image.specs.inner.Sound.{SoundImage}
-use Rattle.image.specs.Layout.{tickKind}
-use Rattle.rows.specs.Rows.{Choice, Found, found, missing, leads}
+use Rattle.image.specs.Layout.{tick_kind}
+use Rattle.rows.specs.Rows.{Choice, Found, found, missing, lead_of}
 use Rattle.rows.proofs.ChoiceLaws.{any-bit}
 use Rattle.state.specs.declared.State.{State}
-use Rattle.state.specs.State.{label_at, entry_at, placeAt, number_at, serverAt}
+use Rattle.state.specs.State.{label_at, entry_at, place_at, number_at, server_at}
 use Rattle.state.specs.Changes.{with_bits}
-use Rattle.fitness.specs.Fitness.{is_call, ofHandler}
+use Rattle.fitness.specs.Fitness.{is_call, is_of_handler}
 use Rattle.fitness.proofs.Fitness.{Fits}
-use Rattle.ticks.specs.Tick.{calledBit, choice, MachineTick, finished, stopped, moved, dropping, alone, pushed, popped, tickBy, tick, top_of}
-use Rattle.ticks.proofs.Leads.{Sort, homeSort, returnSort, numberedSort, sort, call-kind, kind-high, carry-told}
-use Rattle.cause.specs.Cause.{leavesLabel, nothing, leavingBy, leaving}
-use Rattle.cause.specs.Laws.{Arrives, Rowless, atHomeLabel, atCallLabel, atLastReturn}
+use Rattle.ticks.specs.Tick.{called_bit, choice, MachineTick, finished, stopped, moved_tick, popped_state, state_alone, pushed_tick, popped_tick, tick_by, tick, top_of}
+use Rattle.ticks.proofs.Leads.{Sort, home_sort, return_sort, numbered_sort, sort, call-kind, kind-high, carry-told}
+use Rattle.cause.specs.Cause.{leaves_label, nothing, leaving_by, leaving}
+use Rattle.cause.specs.Laws.{Arrives, Rowless, at_home_label, at_call_label, at_last_return}
 
 -- a tick that takes a row of label l, one of 2 to M, goes by that row's next label alone, and has it on top then
 pub record Goes (i : Image) (s : State) (l : ℕ) : Type 0 where
   pub low : 2 ≤ l
   pub high : l < length i.labels
   pub go : Found → MachineTick
-  pub ticks : (w : ℕ) → tick i s w ≡ go (leads (choice i s.bits l w))
+  pub ticks : (w : ℕ) → tick i s w ≡ go (lead_of (choice i s.bits l w))
   pub arrives : (u : ℕ) → Arrives (go (found u)) u
   pub stops : go missing ≡ stopped 18
 
@@ -44,7 +44,7 @@ pub record StaysPut (i : Image) (s : State) : Type 0 where
   pub never : (w : ℕ) → tick i s w ≡ stopped 18 → ⊥
 
 pub data Leaves (i : Image) (s : State) : Type 0 where
-  by : (l : ℕ) → leaving i s ≡ leavesLabel l → Goes i s l → Leaves i s
+  by : (l : ℕ) → leaving i s ≡ leaves_label l → Goes i s l → Leaves i s
   stays : leaving i s ≡ nothing → StaysPut i s → Leaves i s
 
 -- a tick that is finished or gets another number
@@ -61,15 +61,15 @@ module _ (i : Image) (sound : SoundImage i) (s : State) (f : Fits i s) where
   x = label_at i (top_of s)
 
   abbrev bits : Results
-  bits = withResult x.result (number_at s (s.depth - 1)) s.bits
+  bits = with_result x.result (number_at s (s.depth - 1)) s.bits
 
-  tick-by : (w k : ℕ) → x.kind ≡ k → tick i s w ≡ tickBy i s w (top_of s) x bits (tickKind k)
+  tick-by : (w k : ℕ) → x.kind ≡ k → tick i s w ≡ tick_by i s w (top_of s) x bits (tick_kind k)
   unfolding tick
-  tick-by w k e = ap (λ (n : ℕ). tickBy i s w (top_of s) x bits (tickKind n)) e
+  tick-by w k e = ap (λ (n : ℕ). tick_by i s w (top_of s) x bits (tick_kind n)) e
 
-  leaving-by : (k : ℕ) → x.kind ≡ k → leaving i s ≡ leavingBy s (tickKind k)
+  leaving-by : (k : ℕ) → x.kind ≡ k → leaving i s ≡ leaving_by s (tick_kind k)
   unfolding leaving
-  leaving-by k e = ap (λ (n : ℕ). leavingBy s (tickKind n)) e
+  leaving-by k e = ap (λ (n : ℕ). leaving_by s (tick_kind n)) e
 
   top-low : top_of s < length i.labels
   top-low = f.labels (s.depth - 1) (omega (arith, f.some))
@@ -77,19 +77,19 @@ module _ (i : Image) (sound : SoundImage i) (s : State) (f : Fits i s) where
   top-sort : Sort i sound (top_of s)
   top-sort = sort i sound (top_of s) top-low
 
-  under_low : 1 < s.depth → placeAt s (s.depth - 2) < length i.labels
+  under_low : 1 < s.depth → place_at s (s.depth - 2) < length i.labels
   under_low h = f.labels (s.depth - 2) (omega arith)
 
   -- ---- a plain tick: no row of its label asks for a bit, so that the result written first changes nothing
   bit-free : (b : Results) → x.kind ≡ 0 → (w : ℕ) → choice i b (top_of s) w ≡ choice i s.bits (top_of s) w
-  bit-free b e w = any-bit (top_of s) w (calledBit i b (top_of s)) (calledBit i s.bits (top_of s)) 0 i.rows each
+  bit-free b e w = any-bit (top_of s) w (called_bit i b (top_of s)) (called_bit i s.bits (top_of s)) 0 i.rows each
     where
-      each : (j : ℕ) → j < length i.rows → (nthRow i j).from ≡ top_of s → (nthRow i j).bit ≡ 2
-      each j h q = go (dec_lt (nthRow i j).bit 2)
+      each : (j : ℕ) → j < length i.rows → (nth_row i j).from ≡ top_of s → (nth_row i j).bit ≡ 2
+      each j h q = go (dec_lt (nth_row i j).bit 2)
         where
-          go : Dec ((nthRow i j).bit < 2) → (nthRow i j).bit ≡ 2
+          go : Dec ((nth_row i j).bit < 2) → (nth_row i j).bit ≡ 2
           go (yes m) =
-              let k : (label_at i (nthRow i j).from).kind ≡ 2 = (sound.each j h).function m in
+              let k : (label_at i (nth_row i j).from).kind ≡ 2 = (sound.each j h).function m in
               absurd (omega (arith, ap (λ (l : ℕ). (label_at i l).kind) q))
           go (no m) = omega (arith, (sound.each j h).bits)
 
@@ -97,36 +97,36 @@ module _ (i : Image) (sound : SoundImage i) (s : State) (f : Fits i s) where
   plain e = record {
     low = kind-high i sound (top_of s) top-low (omega arith);
     high = top-low;
-    go = moved x.mask 0 (with_bits s bits) (s.depth - 1);
+    go = moved_tick x.mask 0 (with_bits s bits) (s.depth - 1);
     ticks = λ w. tick-by w 0 e
-        ∙ ap (λ (c : Choice). moved x.mask 0 (with_bits s bits) (s.depth - 1) (leads c)) (bit-free bits e w);
+        ∙ ap (λ (c : Choice). moved_tick x.mask 0 (with_bits s bits) (s.depth - 1) (lead_of c)) (bit-free bits e w);
     arrives = λ u. get_or-set_same s.places (s.depth - 1) u 0 (omega (arith, f.whole.places, f.some, f.most, f.small));
     stops = refl;
   }
 
   -- ---- a return
-  return-is : x.kind ≡ 3 → (top_of s ≡ 1) × (x ≡ returnLabel)
+  return-is : x.kind ≡ 3 → (top_of s ≡ 1) × (x ≡ return_label)
   return-is e = go top-sort
     where
-      go : Sort i sound (top_of s) → (top_of s ≡ 1) × (x ≡ returnLabel)
-      go (homeSort z q o) = absurd (omega arith)
-      go (returnSort z q o) = (z, ap (label_at i) z ∙ sound.back)
-      go (numberedSort z q) = absurd (omega arith)
+      go : Sort i sound (top_of s) → (top_of s ≡ 1) × (x ≡ return_label)
+      go (home_sort z q o) = absurd (omega arith)
+      go (return_sort z q o) = (z, ap (label_at i) z ∙ sound.back)
+      go (numbered_sort z q) = absurd (omega arith)
 
-  returns : x.kind ≡ 3 → (w : ℕ) → tick i s w ≡ popped i s w 0 s.bits (leb s.depth 1)
+  returns : x.kind ≡ 3 → (w : ℕ) → tick i s w ≡ popped_tick i s w 0 s.bits (leb s.depth 1)
   unfolding tick
   returns e w =
-      ap (λ (y : Label). tickBy i s w (top_of s) y (withResult y.result (number_at s (s.depth - 1)) s.bits) (tickKind y.kind))
+      ap (λ (y : Label). tick_by i s w (top_of s) y (with_result y.result (number_at s (s.depth - 1)) s.bits) (tick_kind y.kind))
       (return-is e).1
 
-  back : x.kind ≡ 3 → leb s.depth 1 ≡ false → Goes i s (placeAt s (s.depth - 2))
+  back : x.kind ≡ 3 → leb s.depth 1 ≡ false → Goes i s (place_at s (s.depth - 2))
   back e t = let two : 1 < s.depth = leb-false s.depth 1 t in record {
-    low = kind-high i sound (placeAt s (s.depth - 2)) (under_low two) (call-kind i sound (placeAt s (s.depth - 2))
-        (carry-told i sound _ (number_at s (s.depth - 2 + 1)) (serverAt s (s.depth - 2 + 1)) (placeAt s (s.depth - 2 + 1))
+    low = kind-high i sound (place_at s (s.depth - 2)) (under_low two) (call-kind i sound (place_at s (s.depth - 2))
+        (carry-told i sound _ (number_at s (s.depth - 2 + 1)) (server_at s (s.depth - 2 + 1)) (place_at s (s.depth - 2 + 1))
         (f.carries (s.depth - 2) (omega arith))).0).1;
     high = under_low two;
-    go = moved 0 3 (dropping s s.bits) (s.depth - 2);
-    ticks = λ w. returns e w ∙ ap (popped i s w 0 s.bits) t;
+    go = moved_tick 0 3 (popped_state s s.bits) (s.depth - 2);
+    ticks = λ w. returns e w ∙ ap (popped_tick i s w 0 s.bits) t;
     arrives = λ u.
         ap (λ (n : ℕ). get_or (set (set s.places (s.depth - 1) 0) (s.depth - 2) u) n 0)
         (let z : s.depth - 1 - 1 ≡ s.depth - 2 = omega arith in z)
@@ -135,55 +135,55 @@ module _ (i : Image) (sound : SoundImage i) (s : State) (f : Fits i s) where
     stops = refl;
   }
 
-  last-tick : x.kind ≡ 3 → leb s.depth 1 ≡ true → (w : ℕ) → tick i s w ≡ popped i s 0 0 s.bits true
-  last-tick e t w = returns e w ∙ ap (popped i s w 0 s.bits) t
+  last-tick : x.kind ≡ 3 → leb s.depth 1 ≡ true → (w : ℕ) → tick i s w ≡ popped_tick i s 0 0 s.bits true
+  last-tick e t w = returns e w ∙ ap (popped_tick i s w 0 s.bits) t
 
   ends : x.kind ≡ 3 → leb s.depth 1 ≡ true → StaysPut i s
   ends e t = record {
-    rowless = atLastReturn (return-is e).0 (let one : s.depth ≤ 1 = leb-true s.depth 1 t in omega (arith, f.some));
+    rowless = at_last_return (return-is e).0 (let one : s.depth ≤ 1 = leb-true s.depth 1 t in omega (arith, f.some));
     same = λ v w. last-tick e t v ∙ sym (last-tick e t w);
-    never = λ w q. other-never (popped i s 0 0 s.bits true) tt (sym (last-tick e t w) ∙ q);
+    never = λ w q. other-never (popped_tick i s 0 0 s.bits true) tt (sym (last-tick e t w) ∙ q);
   }
 
   -- ---- a call, and home
   full-other : (m : ℕ) (t : Bool) → Other (pick t (stopped 17)
-      (finished m 96 (alone s (entry_at i i.handler) i.handler (cleared i.handler bits))))
+      (finished m 96 (state_alone s (entry_at i i.handler) i.handler (cleared_results i.handler bits))))
   full-other m true = λ e. omega arith
   full-other m false = tt
 
-  pushed-other : (m code h k : ℕ) (t : Bool) → Other (pushed i s m code h k bits t)
-  pushed-other m code h k true = full-other m (eqb i.handler 0 || ofHandler i (placeAt s 0))
+  pushed-other : (m code h k : ℕ) (t : Bool) → Other (pushed_tick i s m code h k bits t)
+  pushed-other m code h k true = full-other m (eqb i.handler 0 || is_of_handler i (place_at s 0))
   pushed-other m code h k false = tt
 
   calls : (code : ℕ) → is_call x ≡ true
-      → ((w : ℕ) → tick i s w ≡ pushed i s x.mask code x.called (served s.serving x.called) bits (leb s.size s.depth))
+      → ((w : ℕ) → tick i s w ≡ pushed_tick i s x.mask code x.called (server_of s.serving x.called) bits (leb s.size s.depth))
       → StaysPut i s
   calls code e go = record {
-    rowless = atCallLabel e;
+    rowless = at_call_label e;
     same = λ v w. go v ∙ sym (go w);
-    never = λ w q. other-never _ (pushed-other x.mask code x.called (served s.serving x.called) (leb s.size s.depth))
+    never = λ w q. other-never _ (pushed-other x.mask code x.called (server_of s.serving x.called) (leb s.size s.depth))
         (sym (go w) ∙ q);
   }
 
   starts : (k : ℕ) → x.kind ≡ suc (suc (suc (suc k))) → StaysPut i s
   starts k e = record {
-    rowless = atHomeLabel (at top-sort);
+    rowless = at_home_label (at top-sort);
     same = λ v w. tick-by v (suc (suc (suc (suc k)))) e ∙ sym (tick-by w (suc (suc (suc (suc k)))) e);
     never = λ w q. other-never _ tt (sym (tick-by w (suc (suc (suc (suc k)))) e) ∙ q);
   }
     where
       at : Sort i sound (top_of s) → top_of s ≡ 0
-      at (homeSort z q o) = z
-      at (returnSort z q o) = absurd (omega arith)
-      at (numberedSort z q) = absurd (omega arith)
+      at (home_sort z q o) = z
+      at (return_sort z q o) = absurd (omega arith)
+      at (numbered_sort z q) = absurd (omega arith)
 
   pub leaves : Leaves i s
   leaves = go x.kind refl
     where
       beneath : x.kind ≡ 3 → (t : Bool) → leb s.depth 1 ≡ t → Leaves i s
-      beneath e true t = stays (leaving-by 3 e ∙ ap (λ (b : Bool). pick b nothing (leavesLabel (placeAt s (s.depth - 2)))) t) (ends e t)
+      beneath e true t = stays (leaving-by 3 e ∙ ap (λ (b : Bool). pick b nothing (leaves_label (place_at s (s.depth - 2)))) t) (ends e t)
       beneath e false t =
-          by (placeAt s (s.depth - 2)) (leaving-by 3 e ∙ ap (λ (b : Bool). pick b nothing (leavesLabel (placeAt s (s.depth - 2)))) t)
+          by (place_at s (s.depth - 2)) (leaving-by 3 e ∙ ap (λ (b : Bool). pick b nothing (leaves_label (place_at s (s.depth - 2)))) t)
           (back e t)
 
       go : (k : ℕ) → x.kind ≡ k → Leaves i s
@@ -198,12 +198,12 @@ module _ (i : Image) (sound : SoundImage i) (s : State) (f : Fits i s) where
       go (suc (suc (suc (suc k)))) e = stays (leaving-by (suc (suc (suc (suc k)))) e) (starts k e)
 
   pub rowless-stays : Rowless i s → leaving i s ≡ nothing
-  rowless-stays (atHomeLabel e) = leaving-by 4 (ap (λ (l : ℕ). (label_at i l).kind) e ∙ ap (λ (y : Label). y.kind) sound.home)
-  rowless-stays (atCallLabel e) = go (or_cases (eqb x.kind 1) (eqb x.kind 2) e)
+  rowless-stays (at_home_label e) = leaving-by 4 (ap (λ (l : ℕ). (label_at i l).kind) e ∙ ap (λ (y : Label). y.kind) sound.home)
+  rowless-stays (at_call_label e) = go (or_cases (eqb x.kind 1) (eqb x.kind 2) e)
     where
       go : (eqb x.kind 1 ≡ true) ⊎ (eqb x.kind 2 ≡ true) → leaving i s ≡ nothing
       go (inl p) = leaving-by 1 (eqb-true x.kind 1 p)
       go (inr p) = leaving-by 2 (eqb-true x.kind 2 p)
-  rowless-stays (atLastReturn e d) =
+  rowless-stays (at_last_return e d) =
       leaving-by 3 (ap (λ (l : ℕ). (label_at i l).kind) e ∙ ap (λ (y : Label). y.kind) sound.back)
-      ∙ ap (λ (b : Bool). pick b nothing (leavesLabel (placeAt s (s.depth - 2)))) (le-leb s.depth 1 (omega arith))
+      ∙ ap (λ (b : Bool). pick b nothing (leaves_label (place_at s (s.depth - 2)))) (le-leb s.depth 1 (omega arith))

@@ -17,14 +17,14 @@ use Rattle.words.specs.lists.Pick.{pick}
 use Rattle.words.specs.lists.Numbers.{lowest}
 use Rattle.words.proofs.lists.Tests.{no_both, split, cases, and_l, and_r, and-true, and_no, not-true, not-false, and-false}
 use Rattle.words.proofs.lists.Searches.{lowest-hit, lowest-past}
-use Rattle.words.specs.bits.Word.{bit, agrees}
+use Rattle.words.specs.bits.Word.{bit, is_agreeing}
 use Rattle.words.proofs.bits.BitLaws.{bit-and, bit-or, same_bits, bit-pow-same, bit-cases, Mask, agree-match, clash-match}
 use Rattle.words.proofs.bits.MaskLaws.{within-lacks}
-use Rattle.image.specs.Image.{Image, Row, no_row, nthRow}
+use Rattle.image.specs.Image.{Image, Row, no_row, nth_row}
 use Rattle.image.specs.inner.Sound.{SoundRow, SoundImage}
-use Rattle.rows.specs.Rows.{matches, isCandidate, row, bestRow}
+use Rattle.rows.specs.Rows.{is_match, is_candidate, row, best_row}
 use Rattle.rows.specs.Choices.{Best}
-use Rattle.cause.specs.Cause.{differs, contradicted, against, againstAll}
+use Rattle.cause.specs.Cause.{is_differing, is_contradicted, mask_against, mask_against_all}
 use Rattle.rows.proofs.BestRows.{best-is, is-best}
 
 -- ---- words that agree on a mask
@@ -50,12 +50,12 @@ high-none : (c j : ℕ) → c < 2 ^ 16 → 16 ≤ j → bit c j ≡ 0
 high-none c j h m = ap (λ (x : ℕ). x % 2) (div-eq_of_lt (omega (arith, pow_mono {i = 16} {j = j} m)))
 
 -- a care mask and values that the word does not match have a contradicting condition, and the lowest is one
-pub low-differs : (w care values : ℕ) → care < 65536 → values < 65536 → bit_and values care ≡ values → agrees w care values ≡ false
-    → lowest (differs w care values) 0 16 < 16
+pub low-differs : (w care values : ℕ) → care < 65536 → values < 65536 → bit_and values care ≡ values → is_agreeing w care values ≡ false
+    → lowest (is_differing w care values) 0 16 < 16
 low-differs w care values small tiny kept e = go (split (lowest p 0 16) 16)
   where
     p : ℕ → Bool
-    p = differs w care values
+    p = is_differing w care values
 
     mask : Mask care values
     mask = record { small = small; low = tiny; within = λ j z. within-lacks j values care kept (λ o. omega arith) }
@@ -72,22 +72,22 @@ low-differs w care values small tiny kept e = go (split (lowest p 0 16) 16)
 
     go : (lowest p 0 16 < 16) ⊎ (16 ≤ lowest p 0 16) → lowest p 0 16 < 16
     go (inl h) = h
-    go (inr h) = no_both (agrees w care values)
+    go (inr h) = no_both (is_agreeing w care values)
         (eq-eqb (bit_and w care) values (agree-match w care values mask (record { agrees = each h }))) e
 
 module _ (i : Image) (w : ℕ) (r : Row) (s : SoundRow i r) where
-  lowest-contradicts : agrees w r.care r.values ≡ false
-      → differs w r.care r.values (lowest (differs w r.care r.values) 0 16) ≡ true
-  lowest-contradicts e = lowest-hit (differs w r.care r.values) 0 16
+  lowest-contradicts : is_agreeing w r.care r.values ≡ false
+      → is_differing w r.care r.values (lowest (is_differing w r.care r.values) 0 16) ≡ true
+  lowest-contradicts e = lowest-hit (is_differing w r.care r.values) 0 16
       (omega (arith, low-differs w r.care r.values s.cares s.small s.within e))
 
   -- a word with the same value there does not match it either
-  still : agrees w r.care r.values ≡ false → (v : ℕ)
-      → bit v (lowest (differs w r.care r.values) 0 16) ≡ bit w (lowest (differs w r.care r.values) 0 16)
-      → agrees v r.care r.values ≡ false
+  still : is_agreeing w r.care r.values ≡ false → (v : ℕ)
+      → bit v (lowest (is_differing w r.care r.values) 0 16) ≡ bit w (lowest (is_differing w r.care r.values) 0 16)
+      → is_agreeing v r.care r.values ≡ false
   still e v q =
-      let j : ℕ = lowest (differs w r.care r.values) 0 16 in
-      let t : differs w r.care r.values j ≡ true = lowest-contradicts e in
+      let j : ℕ = lowest (is_differing w r.care r.values) 0 16 in
+      let t : is_differing w r.care r.values j ≡ true = lowest-contradicts e in
       let o : bit r.care j ≡ 1 = eqb-true (bit r.care j) 1
       (and_l (eqb (bit r.care j) 1) (not (eqb (bit w j) (bit r.values j))) t) in
       let d : bit w j ≡ bit r.values j → ⊥ =
@@ -98,50 +98,50 @@ module _ (i : Image) (w : ℕ) (r : Row) (s : SoundRow i r) where
 
 -- ---- all rows
 has-against : (l w b j : ℕ) (rs : List Row) (k : ℕ) → k < length rs
-    → bit (against l w b (get_or rs k no_row)) j ≡ 1 → bit (againstAll l w b rs) j ≡ 1
-unfolding againstAll
+    → bit (mask_against l w b (get_or rs k no_row)) j ≡ 1 → bit (mask_against_all l w b rs) j ≡ 1
+unfolding mask_against_all
 has-against l w b j [] k h o = absurd (omega arith)
 has-against l w b j (r ∷ rs) k h o = go k h o (has-against l w b j rs)
   where
-    whole : bit (againstAll l w b (r ∷ rs)) j ≡ max (bit (against l w b r) j) (bit (againstAll l w b rs) j)
-    whole = bit-or (against l w b r) (againstAll l w b rs) j
+    whole : bit (mask_against_all l w b (r ∷ rs)) j ≡ max (bit (mask_against l w b r) j) (bit (mask_against_all l w b rs) j)
+    whole = bit-or (mask_against l w b r) (mask_against_all l w b rs) j
 
-    go : (k : ℕ) → k < length (r ∷ rs) → bit (against l w b (get_or (r ∷ rs) k no_row)) j ≡ 1
-        → ((k : ℕ) → k < length rs → bit (against l w b (get_or rs k no_row)) j ≡ 1 → bit (againstAll l w b rs) j ≡ 1)
-        → bit (againstAll l w b (r ∷ rs)) j ≡ 1
+    go : (k : ℕ) → k < length (r ∷ rs) → bit (mask_against l w b (get_or (r ∷ rs) k no_row)) j ≡ 1
+        → ((k : ℕ) → k < length rs → bit (mask_against l w b (get_or rs k no_row)) j ≡ 1 → bit (mask_against_all l w b rs) j ≡ 1)
+        → bit (mask_against_all l w b (r ∷ rs)) j ≡ 1
     go zero h o ih = omega (arith, whole, o)
     go (suc k) h o ih = omega (arith, whole, ih k (omega arith) o)
 
 module _ (i : Image) (sound : SoundImage i) (l w b : ℕ) where
-  module _ (v m : ℕ) (e : bit_and v m ≡ bit_and w m) (part : (j : ℕ) → bit (againstAll l w b i.rows) j ≡ 1 → bit m j ≡ 1) where
+  module _ (v m : ℕ) (e : bit_and v m ≡ bit_and w m) (part : (j : ℕ) → bit (mask_against_all l w b i.rows) j ≡ 1 → bit m j ≡ 1) where
     -- what w does not match, v does not match
-    kept_out : (k : ℕ) → k < length i.rows → isCandidate l w b (nthRow i k) ≡ false → isCandidate l v b (nthRow i k) ≡ false
-    kept_out k h q = go (cases (eqb r.from l)) (cases (eqb r.bit 2 || eqb r.bit b)) (cases (agrees w r.care r.values))
+    kept_out : (k : ℕ) → k < length i.rows → is_candidate l w b (nth_row i k) ≡ false → is_candidate l v b (nth_row i k) ≡ false
+    kept_out k h q = go (cases (eqb r.from l)) (cases (eqb r.bit 2 || eqb r.bit b)) (cases (is_agreeing w r.care r.values))
       where
         r : Row
-        r = nthRow i k
+        r = nth_row i k
 
         x : ℕ
-        x = lowest (differs w r.care r.values) 0 16
+        x = lowest (is_differing w r.care r.values) 0 16
 
         go : (eqb r.from l ≡ true) ⊎ (eqb r.from l ≡ false)
             → ((eqb r.bit 2 || eqb r.bit b) ≡ true) ⊎ ((eqb r.bit 2 || eqb r.bit b) ≡ false)
-            → (agrees w r.care r.values ≡ true) ⊎ (agrees w r.care r.values ≡ false) → isCandidate l v b r ≡ false
-        go (inr f) y z = ap (λ (t : Bool). t && matches v b r) f
+            → (is_agreeing w r.care r.values ≡ true) ⊎ (is_agreeing w r.care r.values ≡ false) → is_candidate l v b r ≡ false
+        go (inr f) y z = ap (λ (t : Bool). t && is_match v b r) f
         go (inl f) (inr y) z =
-            and_no (eqb r.from l) (matches v b r) (and_no (agrees v r.care r.values) (eqb r.bit 2 || eqb r.bit b) y)
+            and_no (eqb r.from l) (is_match v b r) (and_no (is_agreeing v r.care r.values) (eqb r.bit 2 || eqb r.bit b) y)
         go (inl f) (inl y) (inl z) =
-            no_both (isCandidate l w b r)
-            (and-true (eqb r.from l) (matches w b r) f
-            (and-true (agrees w r.care r.values) (eqb r.bit 2 || eqb r.bit b) z y)) q
+            no_both (is_candidate l w b r)
+            (and-true (eqb r.from l) (is_match w b r) f
+            (and-true (is_agreeing w r.care r.values) (eqb r.bit 2 || eqb r.bit b) z y)) q
         go (inl f) (inl y) (inr z) =
-            let out : contradicted l w b r ≡ true =
-            and-true (eqb r.from l) ((eqb r.bit 2 || eqb r.bit b) && not (agrees w r.care r.values)) f
-            (and-true (eqb r.bit 2 || eqb r.bit b) (not (agrees w r.care r.values)) y (ap not z)) in
-            let one : bit (against l w b r) x ≡ 1 = ap (λ (t : Bool). bit (pick t (2 ^ x) 0) x) out ∙ bit-pow-same x in
+            let out : is_contradicted l w b r ≡ true =
+            and-true (eqb r.from l) ((eqb r.bit 2 || eqb r.bit b) && not (is_agreeing w r.care r.values)) f
+            (and-true (eqb r.bit 2 || eqb r.bit b) (not (is_agreeing w r.care r.values)) y (ap not z)) in
+            let one : bit (mask_against l w b r) x ≡ 1 = ap (λ (t : Bool). bit (pick t (2 ^ x) 0) x) out ∙ bit-pow-same x in
             let same : bit v x ≡ bit w x = agree-bit v w m x e (part x (has-against l w b x i.rows k h one)) in
-            let no-match : agrees v r.care r.values ≡ false = still i w r (sound.each k h) z v same in
-            and_no (eqb r.from l) (matches v b r) (ap (λ (t : Bool). t && (eqb r.bit 2 || eqb r.bit b)) no-match)
+            let no-match : is_agreeing v r.care r.values ≡ false = still i w r (sound.each k h) z v same in
+            and_no (eqb r.from l) (is_match v b r) (ap (λ (t : Bool). t && (eqb r.bit 2 || eqb r.bit b)) no-match)
 
     same-best : (k : ℕ) (r : Row) → ((j : ℕ) → bit r.care j ≡ 1 → bit m j ≡ 1) → Best l w b i.rows k r → Best l v b i.rows k r
     same-best k r cares best = record {
@@ -152,39 +152,40 @@ module _ (i : Image) (sound : SoundImage i) (l w b : ℕ) where
       last = λ j g h o. best.last j g h (before j h o);
     }
       where
-        before : (j : ℕ) → j < length i.rows → isCandidate l v b (nthRow i j) ≡ true → isCandidate l w b (nthRow i j) ≡ true
-        before j h o = go (cases (isCandidate l w b (nthRow i j)))
+        before : (j : ℕ) → j < length i.rows → is_candidate l v b (nth_row i j) ≡ true → is_candidate l w b (nth_row i j) ≡ true
+        before j h o = go (cases (is_candidate l w b (nth_row i j)))
           where
-            go : (isCandidate l w b (nthRow i j) ≡ true) ⊎ (isCandidate l w b (nthRow i j) ≡ false) → isCandidate l w b (nthRow i j) ≡ true
+            go : (is_candidate l w b (nth_row i j) ≡ true) ⊎ (is_candidate l w b (nth_row i j) ≡ false)
+                → is_candidate l w b (nth_row i j) ≡ true
             go (inl y) = y
-            go (inr y) = no_both (isCandidate l v b (nthRow i j)) o (kept_out j h y)
+            go (inr y) = no_both (is_candidate l v b (nth_row i j)) o (kept_out j h y)
 
         small : r.care < 2 ^ 16
         small = subst (λ (x : Row). x.care < 65536) best.is (sound.each k best.inside).cares
 
-        matching : isCandidate l v b r ≡ true
+        matching : is_candidate l v b r ≡ true
         matching =
             ap (λ (x : ℕ). eqb r.from l && (eqb x r.values && (eqb r.bit 2 || eqb r.bit b)))
             (agree-part v w m r.care small cares e)
             ∙ best.matches
 
   -- the mask of a cause decides the row
-  pub mask-decides : (k : ℕ) (r : Row) → bestRow l w b 0 i.rows ≡ row k r → (v : ℕ)
-      → let m = bit_or r.care (againstAll l w b i.rows) in
-      bit_and v m ≡ bit_and w m → bestRow l v b 0 i.rows ≡ row k r
+  pub mask-decides : (k : ℕ) (r : Row) → best_row l w b 0 i.rows ≡ row k r → (v : ℕ)
+      → let m = bit_or r.care (mask_against_all l w b i.rows) in
+      bit_and v m ≡ bit_and w m → best_row l v b 0 i.rows ≡ row k r
   mask-decides k r q v e =
-      let m : ℕ = bit_or r.care (againstAll l w b i.rows) in
-      let joined : (j : ℕ) → bit m j ≡ max (bit r.care j) (bit (againstAll l w b i.rows) j) =
-      bit-or r.care (againstAll l w b i.rows) in
+      let m : ℕ = bit_or r.care (mask_against_all l w b i.rows) in
+      let joined : (j : ℕ) → bit m j ≡ max (bit r.care j) (bit (mask_against_all l w b i.rows) j) =
+      bit-or r.care (mask_against_all l w b i.rows) in
       is-best l v b i.rows k r (same-best v m e (λ j o. omega (arith, joined j)) k r
       (λ j o. omega (arith, joined j)) (best-is l w b i.rows k r q))
 
 -- and no condition of the row's care mask can be left out: a word with another value there takes another row, or none
-pub care-tells : (i : Image) (l w b k : ℕ) (r : Row) → bestRow l w b 0 i.rows ≡ row k r → (v j : ℕ) → bit r.care j ≡ 1
-    → (bit v j ≡ bit w j → ⊥) → bestRow l v b 0 i.rows ≡ row k r → ⊥
+pub care-tells : (i : Image) (l w b k : ℕ) (r : Row) → best_row l w b 0 i.rows ≡ row k r → (v j : ℕ) → bit r.care j ≡ 1
+    → (bit v j ≡ bit w j → ⊥) → best_row l v b 0 i.rows ≡ row k r → ⊥
 care-tells i l w b k r q v j o d z =
-    let match : (u : ℕ) → bestRow l u b 0 i.rows ≡ row k r → bit_and u r.care ≡ r.values = λ u y.
-    let t : isCandidate l u b r ≡ true = (best-is l u b i.rows k r y).matches in
+    let match : (u : ℕ) → best_row l u b 0 i.rows ≡ row k r → bit_and u r.care ≡ r.values = λ u y.
+    let t : is_candidate l u b r ≡ true = (best-is l u b i.rows k r y).matches in
     eqb-true (bit_and u r.care) r.values
-    (and_l (agrees u r.care r.values) (eqb r.bit 2 || eqb r.bit b) (and_r (eqb r.from l) (matches u b r) t)) in
+    (and_l (is_agreeing u r.care r.values) (eqb r.bit 2 || eqb r.bit b) (and_r (eqb r.from l) (is_match u b r) t)) in
     d (agree-bit v w r.care j (match v z ∙ sym (match w q)) o)

@@ -3,56 +3,56 @@ use Rattle.std.specs.Prelude.{ℕ, ◌-◌, ◌^◌, Bool, ◌&&◌, ◌||◌, n
 use Rattle.std.specs.Int.Bits.{bit_or}
 use Rattle.words.specs.lists.Pick.{pick}
 use Rattle.words.specs.lists.Numbers.{lowest}
-use Rattle.words.specs.bits.Word.{bit, agrees}
+use Rattle.words.specs.bits.Word.{bit, is_agreeing}
 use Rattle.results.specs.Results.{Results}
 use Rattle.text.specs.declared.frames.refusals.TheConstants.{UNFIT, NO_ROW, ROWLESS}
 use Rattle.text.specs.frames.Frame.{contents}
 use Rattle.text.specs.frames.Verdict.{Verdict, fine, refused, next, when}
 use Rattle.text.specs.frames.Answer.{Reply, success, refusal, reply}
-use Rattle.image.specs.Layout.{TickKind, plain, operationCall, functionCall, return, home, tickKind}
+use Rattle.image.specs.Layout.{TickKind, plain, operation_call, function_call, return, home, tick_kind}
 use Rattle.image.specs.declared.layout.TheConstants.{NO_BIT, FUNCTION_CALL}
 use Rattle.image.specs.Image.{Image, Row}
-use Rattle.image.specs.Decode.{decoded}
-use Rattle.image.specs.Check.{imageVerdict}
-use Rattle.rows.specs.Rows.{Choice, row, noChoice}
+use Rattle.image.specs.Decode.{decoded_image}
+use Rattle.image.specs.Check.{image_verdict}
+use Rattle.rows.specs.Rows.{Choice, row, no_choice}
 use Rattle.state.specs.declared.State.{State}
-use Rattle.state.specs.State.{label_at, placeAt}
-use Rattle.fitness.specs.Fitness.{unfit}
-use Rattle.ticks.specs.Tick.{calledBit, choice}
+use Rattle.state.specs.State.{label_at, place_at}
+use Rattle.fitness.specs.Fitness.{is_unfit}
+use Rattle.ticks.specs.Tick.{called_bit, choice}
 use Rattle.cause.specs.declared.CauseReport as declared
 
 -- condition i is in the care mask and has another value in the word
-abbrev pub differs : ℕ → ℕ → ℕ → ℕ → Bool
-differs w care values i = eqb (bit care i) 1 && not (eqb (bit w i) (bit values i))
+abbrev pub is_differing : ℕ → ℕ → ℕ → ℕ → Bool
+is_differing w care values i = eqb (bit care i) 1 && not (eqb (bit w i) (bit values i))
 
 -- a row of label l that the bit lets through and the word contradicts
-abbrev pub contradicted : ℕ → ℕ → ℕ → Row → Bool
-contradicted l w b r = eqb r.from l && ((eqb r.bit NO_BIT || eqb r.bit b) && not (agrees w r.care r.values))
+abbrev pub is_contradicted : ℕ → ℕ → ℕ → Row → Bool
+is_contradicted l w b r = eqb r.from l && ((eqb r.bit NO_BIT || eqb r.bit b) && not (is_agreeing w r.care r.values))
 
 -- the lowest contradicting condition of such a row, as a mask; those of all rows, joined:
 -- the row taken and a matching row that loses add none
-abbrev pub against : ℕ → ℕ → ℕ → Row → ℕ
-against l w b r = pick (contradicted l w b r) (2 ^ lowest (differs w r.care r.values) 0 16) 0
+abbrev pub mask_against : ℕ → ℕ → ℕ → Row → ℕ
+mask_against l w b r = pick (is_contradicted l w b r) (2 ^ lowest (is_differing w r.care r.values) 0 16) 0
 
-unfoldable pub againstAll : ℕ → ℕ → ℕ → List Row → ℕ
-againstAll l w b [] = 0
-againstAll l w b (r ∷ rs) = bit_or (against l w b r) (againstAll l w b rs)
+unfoldable pub mask_against_all : ℕ → ℕ → ℕ → List Row → ℕ
+mask_against_all l w b [] = 0
+mask_against_all l w b (r ∷ rs) = bit_or (mask_against l w b r) (mask_against_all l w b rs)
 
 -- the label whose row a tick takes: the top of a plain tick, the one beneath on a return; none at home, at a call, and on a return at
 -- depth 1
 pub data Leaving : Type 0 where
-  leavesLabel : ℕ → Leaving
+  leaves_label : ℕ → Leaving
   nothing : Leaving
 
-abbrev pub leavingBy : State → TickKind → Leaving
-leavingBy s plain = leavesLabel (placeAt s (s.depth - 1))
-leavingBy s operationCall = nothing
-leavingBy s functionCall = nothing
-leavingBy s return = pick (leb s.depth 1) nothing (leavesLabel (placeAt s (s.depth - 2)))
-leavingBy s home = nothing
+abbrev pub leaving_by : State → TickKind → Leaving
+leaving_by s plain = leaves_label (place_at s (s.depth - 1))
+leaving_by s operation_call = nothing
+leaving_by s function_call = nothing
+leaving_by s return = pick (leb s.depth 1) nothing (leaves_label (place_at s (s.depth - 2)))
+leaving_by s home = nothing
 
 unfoldable pub leaving : Image → State → Leaving
-leaving i s = leavingBy s (tickKind (label_at i (placeAt s (s.depth - 1))).kind)
+leaving i s = leaving_by s (tick_kind (label_at i (place_at s (s.depth - 1))).kind)
 
 -- the row's number among those of the image, the mask of conditions, and the result bit, 2 where none decides
 pub record Cause : Type 0 where
@@ -66,40 +66,41 @@ pub data Caused : Type 0 where
   unexplained : ℕ → Caused
 
 -- of the row chosen among those of label l, whose tick kind is given, with the bit of the number that it calls
-abbrev pub causeBy : List Row → ℕ → ℕ → ℕ → ℕ → Choice → Caused
-causeBy rs kind l w b (row k r) = because (record {
+abbrev pub cause_by : List Row → ℕ → ℕ → ℕ → ℕ → Choice → Caused
+cause_by rs kind l w b (row k r) = because (record {
   row = k;
-  mask = bit_or r.care (againstAll l w b rs);
+  mask = bit_or r.care (mask_against_all l w b rs);
   bit = pick (eqb kind FUNCTION_CALL) b NO_BIT;
 })
-causeBy rs kind l w b noChoice = unexplained NO_ROW
+cause_by rs kind l w b no_choice = unexplained NO_ROW
 
-abbrev pub causeAt : Image → Results → ℕ → Leaving → Caused
-causeAt i b w (leavesLabel l) = causeBy i.rows (label_at i l).kind l w (calledBit i b l) (choice i b l w)
-causeAt i b w nothing = unexplained ROWLESS
+abbrev pub cause_at : Image → Results → ℕ → Leaving → Caused
+cause_at i b w (leaves_label l) = cause_by i.rows (label_at i l).kind l w (called_bit i b l) (choice i b l w)
+cause_at i b w nothing = unexplained ROWLESS
 
-unfoldable pub causeOf : Image → State → ℕ → Caused
-causeOf i s w = causeAt i s.bits w (leaving i s)
+unfoldable pub cause_of : Image → State → ℕ → Caused
+cause_of i s w = cause_at i s.bits w (leaving i s)
 
 -- what the entry point answers: what the image check tries, 15, 21 and 18; a refusal reports 0 and nothing else
 pub record CauseOutcome : Type 0 where
   pub reply : Reply
   pub cause : Cause
 
-abbrev pub noCause : Cause
-noCause = record { row = 0; mask = 0; bit = 0 }
+abbrev pub no_cause : Cause
+no_cause = record { row = 0; mask = 0; bit = 0 }
 
-abbrev pub causeOutcome : Caused → CauseOutcome
-causeOutcome (because c) = record { reply = success 0; cause = c }
-causeOutcome (unexplained n) = record { reply = refusal n 0 0; cause = noCause }
+abbrev pub cause_outcome : Caused → CauseOutcome
+cause_outcome (because c) = record { reply = success 0; cause = c }
+cause_outcome (unexplained n) = record { reply = refusal n 0 0; cause = no_cause }
 
-abbrev pub causeOn : Verdict → (Unit {0} → Caused) → CauseOutcome
-causeOn (refused k n) go = record { reply = refusal k n 0; cause = noCause }
-causeOn fine go = causeOutcome (go tt)
+abbrev pub cause_on : Verdict → (Unit {0} → Caused) → CauseOutcome
+cause_on (refused k n) go = record { reply = refusal k n 0; cause = no_cause }
+cause_on fine go = cause_outcome (go tt)
 
 unfoldable pub explain : List ℕ → State → ℕ → CauseOutcome
 explain t s w =
-    causeOn (next (imageVerdict t) λ _. when UNFIT (unfit (decoded (contents t)) s)) (λ _. causeOf (decoded (contents t)) s w)
+    cause_on (next (image_verdict t) λ _. when UNFIT (is_unfit (decoded_image (contents t)) s))
+    (λ _. cause_of (decoded_image (contents t)) s w)
 
 pub record GivesCause (x : CauseOutcome) (r : declared.CauseReport) : Type 0 where
   pub answered : reply r.answer ≡ x.reply

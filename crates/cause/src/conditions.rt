@@ -1,8 +1,8 @@
 // The conditions that keep the other rows of a label from matching.
 ghost use Rattle.std.specs.Prelude.{◌≡◌, ◌-◌, ◌<◌};
 ghost use Rattle.words.specs.lists.Numbers.{lowest};
-ghost use Rattle.cause.specs.Cause.{differs};
-ghost use Rattle.cause.specs.inner.CauseContracts.{RowAsked, RowsAsked, lets, againstIn, againstFrom};
+ghost use Rattle.cause.specs.Cause.{is_differing};
+ghost use Rattle.cause.specs.inner.CauseContracts.{RowAsked, RowsAsked, is_let_through, mask_against_in, mask_against_from};
 
 use image::layout::*;
 use image::{byte, pair};
@@ -11,7 +11,7 @@ use words::bits::{bit, with_bit};
 // Whether condition i is in the care mask and has another value in the word.
 fn differs(word: u16, care: u16, values: u16, i: u8) -> bool
     requires { i < 16 }
-    ensures { result ≡ differs word care values i }
+    ensures { result ≡ is_differing word care values i }
 {
     if bit(care, i) != 1 {
         return false;
@@ -21,7 +21,7 @@ fn differs(word: u16, care: u16, values: u16, i: u8) -> bool
 
 // The lowest such condition, or 16.
 fn lowest_differing(word: u16, care: u16, values: u16) -> u8
-    ensures { result ≡ lowest (differs word care values) 0 16 }
+    ensures { result ≡ lowest (is_differing word care values) 0 16 }
 {
     let mut low: u8 = 16;
     let mut i: u8 = 16;
@@ -36,7 +36,7 @@ fn lowest_differing(word: u16, care: u16, values: u16) -> u8
 
 // Whether the bit lets a row through that asks for this one; bit 2 says that no bit decides.
 fn lets_through(only: u8, bit: u8) -> bool
-    ensures { result ≡ lets only bit }
+    ensures { result ≡ is_let_through only bit }
 {
     if bit == NO_BIT {
         return true;
@@ -50,7 +50,7 @@ fn lets_through(only: u8, bit: u8) -> bool
 // The lowest condition that contradicts the row in frame f, as a mask; a row that the bit shuts out or that matches adds none.
 fn against_row(table: &[u8], f: usize, word: u16, bit: u8) -> u16
     requires { RowAsked table.now f }
-    ensures { result ≡ againstIn table.now word bit f }
+    ensures { result ≡ mask_against_in table.now word bit f }
 {
     if !lets_through(byte(table, f, FUNCTION_BIT), bit) {
         return 0;
@@ -66,7 +66,7 @@ fn against_row(table: &[u8], f: usize, word: u16, bit: u8) -> u16
 // Those of the rows in the frames from first up to end, joined, the last row first.
 pub fn against_rows(table: &[u8], first: usize, end: usize, word: u16, bit: u8) -> u16
     requires { RowsAsked table.now first end }
-    ensures { result ≡ againstFrom table.now word bit first (end - first) }
+    ensures { result ≡ mask_against_from table.now word bit first (end - first) }
 {
     let mut mask: u16 = 0;
     let mut f = end;

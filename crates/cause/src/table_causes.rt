@@ -1,11 +1,11 @@
 // A cause on a prepared table: the label whose row a tick takes, the row, the conditions that decide it and the bit.
 ghost use Rattle.std.specs.Prelude.{◌≡◌, ◌-◌};
-ghost use Rattle.tables.specs.Table.{tableImage};
+ghost use Rattle.tables.specs.Table.{table_image};
 ghost use Rattle.tables.specs.inner.Asked.{Whole};
-ghost use Rattle.state.specs.State.{placeAt};
+ghost use Rattle.state.specs.State.{place_at};
 ghost use Rattle.state.specs.Bytes.{state_of};
-ghost use Rattle.cause.specs.Cause.{leavesLabel, leaving, causeAt, causeOutcome, GivesCause};
-ghost use Rattle.cause.specs.table_causes.inner.TableCauses.{Ordered, OrderedLabel, leavingNumber, tableCause};
+ghost use Rattle.cause.specs.Cause.{leaves_label, leaving, cause_at, cause_outcome, GivesCause};
+ghost use Rattle.cause.specs.table_causes.inner.TableCauses.{Ordered, OrderedLabel, leaving_number, table_cause};
 
 use crate::{CauseReport, against_rows};
 use fitness::fitting::is_unfit;
@@ -36,7 +36,7 @@ pub fn untold(answer: Answer) -> CauseReport
 
 // The label n places below that depth, whatever the state: the lowest place where there are fewer, and 0 past the highest.
 fn place_below(bytes: &[u8; STATE_BYTES], depth: u8, n: u8) -> u8
-    ensures { result ≡ placeAt (state_of bytes.now) (depth - n) }
+    ensures { result ≡ place_at (state_of bytes.now) (depth - n) }
 {
     if depth < n {
         return place_of(bytes, 0);
@@ -51,7 +51,7 @@ fn place_below(bytes: &[u8; STATE_BYTES], depth: u8, n: u8) -> u8
 // The label whose row a tick takes, whatever the state: the top of a plain tick, the one beneath on a return, and 0 where it takes none.
 fn leaving_label(table: &[u8], bytes: &[u8; STATE_BYTES]) -> u8
     requires { Whole table.now }
-    ensures { result ≡ leavingNumber (leaving (tableImage table.now) (state_of bytes.now)) }
+    ensures { result ≡ leaving_number (leaving (table_image table.now) (state_of bytes.now)) }
 {
     let depth = depth_of(bytes);
     let top = place_below(bytes, depth, 1);
@@ -72,8 +72,8 @@ fn leaving_label(table: &[u8], bytes: &[u8; STATE_BYTES]) -> u8
 // The row that label l takes, the conditions that decide it and the bit; 18 where no row matches.
 fn cause_at(table: &[u8], bytes: &[u8; STATE_BYTES], l: u8, word: u16) -> CauseReport
     requires { OrderedLabel table.now l }
-    ensures { GivesCause (causeOutcome
-        (causeAt (tableImage table.now) (state_of bytes.now).bits word (leavesLabel l))) result }
+    ensures { GivesCause (cause_outcome
+        (cause_at (table_image table.now) (state_of bytes.now).bits word (leaves_label l))) result }
 {
     let schemes = scheme_count(table);
     let read = label_read(table, schemes, l as usize);
@@ -100,7 +100,7 @@ fn cause_at(table: &[u8], bytes: &[u8; STATE_BYTES], l: u8, word: u16) -> CauseR
 // A cause on a prepared table: 15, then 21, then 18.
 pub fn cause_table(table: &[u8], bytes: &[u8; STATE_BYTES], word: u16) -> CauseReport
     requires { Ordered table.now }
-    ensures { GivesCause (tableCause table.now (state_of bytes.now) word) result }
+    ensures { GivesCause (table_cause table.now (state_of bytes.now) word) result }
 {
     let unfit = is_unfit(table, bytes);
     let l = leaving_label(table, bytes);

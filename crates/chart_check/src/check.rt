@@ -2,8 +2,8 @@
 ghost use Rattle.std.specs.Prelude.{◌≡◌, ◌*◌, ◌≤◌, length};
 ghost use Rattle.text.specs.declared.frames.sizes.TheConstants.{NODES};
 ghost use Rattle.text.specs.frames.Frame.{size};
-ghost use Rattle.text.specs.frames.Answer.{reply, judged};
-ghost use Rattle.charts.specs.Check.{chartVerdict};
+ghost use Rattle.text.specs.frames.Answer.{reply, verdict_reply};
+ghost use Rattle.charts.specs.Check.{chart_verdict};
 
 use crate::chart_arcs::lowest_arc_and_call;
 use crate::chart_counts::check_fields;
@@ -15,7 +15,7 @@ use text::frames::{Answer, refused};
 
 pub fn check_chart(records: &[u8]) -> Answer
     requires { (length records.now ≡ RECORD * size records.now) × (size records.now ≤ NODES) }
-    ensures { reply result ≡ judged (chartVerdict records.now) 0 }
+    ensures { reply result ≡ verdict_reply (chart_verdict records.now) 0 }
 {
     let n = records.len() / RECORD;
     let tried = check_fields(records);

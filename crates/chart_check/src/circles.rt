@@ -1,9 +1,9 @@
 // Refusal 8: a circle of conditions.
 ghost use Rattle.std.specs.Prelude.{◌≡◌, ◌<◌, length};
 ghost use Rattle.words.specs.lists.Numbers.{lowest};
-ghost use Rattle.words.specs.graph.Reach.{marked, joinedFrom};
+ghost use Rattle.words.specs.graph.Reach.{is_marked, nodes_joined_from};
 ghost use Rattle.text.specs.frames.Frame.{size};
-ghost use Rattle.charts.specs.Check.{arcs, conditionArcs, onCircle};
+ghost use Rattle.charts.specs.Check.{arcs, condition_arcs, is_on_circle};
 ghost use Rattle.chart_check.specs.node_marks.inner.MarkContracts.{NodeRoom, Blank};
 ghost use Rattle.chart_check.specs.finishing.inner.FinishContracts.{DepthFirst};
 
@@ -17,8 +17,8 @@ use text::frames::sizes::{NODES, RECORD};
 fn leads_back(records: &[u8], v: usize, marks: &mut [bool], list: &mut [u8]) -> bool
     requires v_bound { v < size records.now }
     requires blank { Blank records.now marks.old list.old }
-    ensures { (marks.new ≡ joinedFrom (size records.now) (conditionArcs records.now)
-        (arcs records.now v)) × (result ≡ marked marks.new v) }
+    ensures { (marks.new ≡ nodes_joined_from (size records.now) (condition_arcs records.now)
+        (arcs records.now v)) × (result ≡ is_marked marks.new v) }
 {
     let count = follow(records, false, v, marks, list, 0);
     join(records, true, marks, list, count);
@@ -29,7 +29,7 @@ fn leads_back(records: &[u8], v: usize, marks: &mut [bool], list: &mut [u8]) -> 
 fn on_circle(records: &[u8], v: usize, list: &mut [u8]) -> bool
     requires v_bound { v < size records.now }
     requires node_room { NodeRoom records.now list.old }
-    ensures { result ≡ onCircle records.now v }
+    ensures { result ≡ is_on_circle records.now v }
 {
     if field(records, v, KIND) != CONDITION {
         return false;
@@ -42,7 +42,7 @@ fn on_circle(records: &[u8], v: usize, list: &mut [u8]) -> bool
 // The lowest node on a circle, or the number of nodes. A finished node is on none, so only the others are tried.
 fn search_circle(records: &[u8], unfinished: &[bool], list: &mut [u8]) -> usize
     requires { DepthFirst records.now unfinished.now list.old }
-    ensures { result ≡ lowest (onCircle records.now) 0 (size records.now) }
+    ensures { result ≡ lowest (is_on_circle records.now) 0 (size records.now) }
 {
     let n = records.len() / RECORD;
     let mut v: usize = 0;
@@ -62,7 +62,7 @@ fn search_circle(records: &[u8], unfinished: &[bool], list: &mut [u8]) -> usize
 pub fn lowest_circle(records: &[u8], unfinished: &mut [bool], list: &mut [u8]) -> usize
     requires unfinished_len { length unfinished.old ≡ size records.now }
     requires node_room { NodeRoom records.now list.old }
-    ensures { result ≡ lowest (onCircle records.now) 0 (size records.now) }
+    ensures { result ≡ lowest (is_on_circle records.now) 0 (size records.now) }
 {
     mark_kind(records, CONDITION, unfinished);
     finish_all(records, unfinished, list);

@@ -1,7 +1,7 @@
 // Conditions on no circle, by a depth-first search: one is finished once no arc of it leads to an unfinished one.
 ghost use Rattle.std.specs.Prelude.{◌≡◌, ◌<◌};
 ghost use Rattle.text.specs.frames.Frame.{size};
-ghost use Rattle.charts.specs.inner.Finished.{nextUnfinished, Finished};
+ghost use Rattle.charts.specs.inner.Finished.{next_unfinished, Finished};
 ghost use Rattle.chart_check.specs.finishing.inner.FinishContracts.{DepthFirst};
 
 use charts::field;
@@ -11,7 +11,7 @@ use text::frames::sizes::RECORD;
 // An unfinished next node of condition v, or the number of nodes.
 fn next_unfinished(records: &[u8], unfinished: &[bool], v: usize) -> usize
     requires { v < size records.now }
-    ensures { result ≡ nextUnfinished records.now unfinished.now v }
+    ensures { result ≡ next_unfinished records.now unfinished.now v }
 {
     let next0 = field(records, v, NEXT0) as usize;
     if words::graph::is_marked(unfinished, next0) {

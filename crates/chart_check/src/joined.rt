@@ -1,13 +1,13 @@
 // Refusal 9, nodes that no arcs join from the Begin of their scheme; 8 and 9 in turn.
 ghost use Rattle.std.specs.Prelude.{◌≡◌, not, length};
 ghost use Rattle.words.specs.lists.Numbers.{lowest};
-ghost use Rattle.words.specs.graph.Reach.{marked, reach};
+ghost use Rattle.words.specs.graph.Reach.{is_marked, reach};
 ghost use Rattle.text.specs.frames.Frame.{size};
-ghost use Rattle.text.specs.frames.Answer.{reply, judged};
-ghost use Rattle.charts.specs.Check.{arcs, cutOff};
-ghost use Rattle.charts.specs.inner.Marks.{kindMarks};
+ghost use Rattle.text.specs.frames.Answer.{reply, verdict_reply};
+ghost use Rattle.charts.specs.Check.{arcs, is_cut_off};
+ghost use Rattle.charts.specs.inner.Marks.{kind_marks};
 ghost use Rattle.chart_check.specs.node_marks.inner.MarkContracts.{NodeRoom};
-ghost use Rattle.chart_check.specs.inner.CheckContracts.{Passed4To6, joinedVerdict};
+ghost use Rattle.chart_check.specs.inner.CheckContracts.{Passed4To6, joined_verdict};
 
 use crate::circles::lowest_circle;
 use crate::node_marks::{join, mark_kind, sweep};
@@ -22,8 +22,8 @@ fn lowest_apart(records: &[u8], marks: &mut [bool], list: &mut [u8]) -> usize
     requires marks_len { length marks.old ≡ size records.now }
     requires node_room { NodeRoom records.now list.old }
     ensures { (marks.new ≡ reach (size records.now) (arcs records.now) (size records.now)
-        (kindMarks records.now BEGIN))
-        × (result ≡ lowest (λ v. not (marked marks.new v)) 0 (size records.now)) }
+        (kind_marks records.now BEGIN))
+        × (result ≡ lowest (λ v. not (is_marked marks.new v)) 0 (size records.now)) }
 {
     mark_kind(records, BEGIN, marks);
     sweep(records, marks);
@@ -42,7 +42,7 @@ fn lowest_apart(records: &[u8], marks: &mut [bool], list: &mut [u8]) -> usize
 fn lowest_cut_off(records: &[u8], marks: &mut [bool], list: &mut [u8]) -> usize
     requires marks_len { (length marks.old ≡ size records.now) × Passed4To6 records.now }
     requires node_room { NodeRoom records.now list.old }
-    ensures { result ≡ lowest (cutOff records.now) 0 (size records.now) }
+    ensures { result ≡ lowest (is_cut_off records.now) 0 (size records.now) }
 {
     lowest_apart(records, marks, list)
 }
@@ -51,7 +51,7 @@ fn lowest_cut_off(records: &[u8], marks: &mut [bool], list: &mut [u8]) -> usize
 fn try_joined(records: &[u8], marks: &mut [bool], list: &mut [u8]) -> Answer
     requires marks_len { (length marks.old ≡ size records.now) × Passed4To6 records.now }
     requires node_room { NodeRoom records.now list.old }
-    ensures { reply result ≡ judged (joinedVerdict records.now) 0 }
+    ensures { reply result ≡ verdict_reply (joined_verdict records.now) 0 }
 {
     let n = records.len() / RECORD;
     let circle = lowest_circle(records, marks, list);
@@ -68,7 +68,7 @@ fn try_joined(records: &[u8], marks: &mut [bool], list: &mut [u8]) -> Answer
 // The same, with room for 256 nodes.
 pub fn check_joined(records: &[u8]) -> Answer
     requires { Passed4To6 records.now }
-    ensures { reply result ≡ judged (joinedVerdict records.now) 0 }
+    ensures { reply result ≡ verdict_reply (joined_verdict records.now) 0 }
 {
     let n = records.len() / RECORD;
     let mut marks = [false; NODES];

@@ -1,12 +1,12 @@
 // Marks on the nodes of a chart, spread over all arcs or over the arcs of conditions alone.
 ghost use Rattle.std.specs.Prelude.{◌≡◌, ◌+◌, ◌*◌, ◌≤◌, ◌<◌, true, length, set};
 ghost use Rattle.words.specs.lists.Pick.{pick};
-ghost use Rattle.words.specs.graph.Reach.{marked, reach};
-ghost use Rattle.words.specs.graph.inner.Listed.{many, markAll, listing, enlistAll};
+ghost use Rattle.words.specs.graph.Reach.{is_marked, reach};
+ghost use Rattle.words.specs.graph.inner.Listed.{many, mark_all, listing, enlist_all};
 ghost use Rattle.text.specs.frames.Frame.{size};
 ghost use Rattle.charts.specs.Check.{arcs};
-ghost use Rattle.charts.specs.inner.Marks.{arcsBy, kindMarks};
-ghost use Rattle.chart_check.specs.node_marks.inner.MarkContracts.{sweptTo, ListedRoom};
+ghost use Rattle.charts.specs.inner.Marks.{arcs_by, kind_marks};
+ghost use Rattle.chart_check.specs.node_marks.inner.MarkContracts.{marks_swept_to, ListedRoom};
 
 use charts::field;
 use charts::layout::*;
@@ -15,7 +15,7 @@ use text::frames::sizes::RECORD;
 // How many arcs of node v count.
 fn arc_count(records: &[u8], conditions: bool, v: usize) -> usize
     requires { RECORD * v + RECORD ≤ length records.now }
-    ensures { result ≡ length (arcsBy records.now conditions v) }
+    ensures { result ≡ length (arcs_by records.now conditions v) }
 {
     let kind = field(records, v, KIND);
     if conditions {
@@ -41,8 +41,8 @@ pub fn follow(
 ) -> usize
     requires v_bound { v < size records.now }
     requires listed_room { ListedRoom records.now marks.old list.old count }
-    ensures { listing marks.new list.new result ≡ enlistAll (listing marks.old list.old count)
-        (arcsBy records.now conditions v) }
+    ensures { listing marks.new list.new result ≡ enlist_all (listing marks.old list.old count)
+        (arcs_by records.now conditions v) }
 {
     let arcs = arc_count(records, conditions, v);
     if arcs == 0 {
@@ -64,7 +64,7 @@ pub fn join(
     count: usize,
 ) -> usize
     requires { ListedRoom records.now marks.old list.old count }
-    ensures { (marks.new ≡ reach (size records.now) (arcsBy records.now conditions)
+    ensures { (marks.new ≡ reach (size records.now) (arcs_by records.now conditions)
         (size records.now) marks.old) × (result ≡ many marks.new) }
 {
     let mut end = count;
@@ -88,7 +88,7 @@ fn mark(marks: &mut [bool], u: usize)
 // The nodes that the arcs of node v lead to are marked.
 fn mark_next(records: &[u8], v: usize, marks: &mut [bool])
     requires { v < size records.now }
-    ensures { marks.new ≡ markAll (arcs records.now v) marks.old }
+    ensures { marks.new ≡ mark_all (arcs records.now v) marks.old }
 {
     let arcs = arc_count(records, false, v);
     if arcs == 0 {
@@ -104,8 +104,8 @@ fn mark_next(records: &[u8], v: usize, marks: &mut [bool])
 // The same where node v is marked itself.
 fn mark_on(records: &[u8], v: usize, marks: &mut [bool])
     requires { (v < size records.now) × (length marks.old ≡ size records.now) }
-    ensures { marks.new ≡ pick (marked marks.old v)
-        (markAll (arcs records.now v) marks.old) marks.old }
+    ensures { marks.new ≡ pick (is_marked marks.old v)
+        (mark_all (arcs records.now v) marks.old) marks.old }
 {
     if !marks[v] {
         return;
@@ -119,7 +119,7 @@ fn mark_on(records: &[u8], v: usize, marks: &mut [bool])
 // known.
 pub fn sweep(records: &[u8], marks: &mut [bool])
     requires { length marks.old ≡ size records.now }
-    ensures { marks.new ≡ sweptTo records.now (size records.now) marks.old }
+    ensures { marks.new ≡ marks_swept_to records.now (size records.now) marks.old }
 {
     let n = records.len() / RECORD;
     for v in 0..n {
@@ -130,7 +130,7 @@ pub fn sweep(records: &[u8], marks: &mut [bool])
 // The nodes of a kind are marked, and no others.
 pub fn mark_kind(records: &[u8], kind: u8, marks: &mut [bool])
     requires { length marks.old ≡ size records.now }
-    ensures { marks.new ≡ kindMarks records.now kind }
+    ensures { marks.new ≡ kind_marks records.now kind }
 {
     let n = records.len() / RECORD;
     for v in 0..n {

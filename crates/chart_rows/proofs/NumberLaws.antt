@@ -14,102 +14,102 @@ use borrow.Author.Tests.{eqb-true, eq-eqb, ne_eqb}
 use Rattle.words.proofs.lists.Tests.{no_both, and_l, and-true, yes-pick, no-pick, cases, and_no}
 use Rattle.words.specs.bits.Word.{bit}
 use Rattle.text.specs.frames.Frame.{size, field}
-use Rattle.charts.specs.Chart.{Chart, kind, argument, is, taken}
-use Rattle.walk.specs.Stops.{stops}
+use Rattle.charts.specs.Chart.{Chart, kind, argument, is, arc_taken}
+use Rattle.walk.specs.Stops.{is_stop}
 use Rattle.walk.proofs.Follow.{goes_on, takes-0, takes-1}
-use Rattle.chart_rows.specs.chart_labels.Labels.{numbered, label}
+use Rattle.chart_rows.specs.chart_labels.Labels.{is_numbered, label}
 use Rattle.chart_rows.specs.chart_labels.inner.ChartContracts.{Ready, Charted, OfKind}
 use Rattle.chart_rows.proofs.chart_labels.ReadyLaws.{ready-facts}
 use Rattle.chart_rows.proofs.chart_labels.LabelSteps.{own-label, no-own-label}
-use Rattle.chart_rows.specs.inner.NodeRows.{testedNumber, known}
+use Rattle.chart_rows.specs.inner.NodeRows.{tested_number, is_known}
 use Rattle.chart_rows.specs.inner.PathContracts.{Noted, Entered}
 
 -- ---- the number of a node
 module _ (c : Chart) (v : ℕ) where
-  pub number-none : (is c 3 v && not (stops c v)) ≡ false → 16 ≡ testedNumber c v
-  number-none e = sym (no-pick (is c 3 v && not (stops c v)) (argument c v) 16 e)
+  pub number-none : (is c 3 v && not (is_stop c v)) ≡ false → 16 ≡ tested_number c v
+  number-none e = sym (no-pick (is c 3 v && not (is_stop c v)) (argument c v) 16 e)
 
-  pub number-other : (kind c v ≡ 3 → ⊥) → 16 ≡ testedNumber c v
-  number-other n = number-none (ap (λ x. x && not (stops c v)) (ne_eqb (kind c v) 3 n))
+  pub number-other : (kind c v ≡ 3 → ⊥) → 16 ≡ tested_number c v
+  number-other n = number-none (ap (λ x. x && not (is_stop c v)) (ne_eqb (kind c v) 3 n))
 
-  pub number-stop : stops c v ≡ true → 16 ≡ testedNumber c v
-  number-stop s = number-none (and_no (is c 3 v) (not (stops c v)) (ap not s))
+  pub number-stop : is_stop c v ≡ true → 16 ≡ tested_number c v
+  number-stop s = number-none (and_no (is c 3 v) (not (is_stop c v)) (ap not s))
 
-  pub number-goes : kind c v ≡ 3 → stops c v ≡ false → testedNumber c v ≡ argument c v
-  number-goes k s = yes-pick (is c 3 v && not (stops c v)) (argument c v) 16
-      (and-true (is c 3 v) (not (stops c v)) (eq-eqb (kind c v) 3 k) (ap not s))
+  pub number-goes : kind c v ≡ 3 → is_stop c v ≡ false → tested_number c v ≡ argument c v
+  number-goes k s = yes-pick (is c 3 v && not (is_stop c v)) (argument c v) 16
+      (and-true (is c 3 v) (not (is_stop c v)) (eq-eqb (kind c v) 3 k) (ap not s))
 
-  pub low-condition : (i : ℕ) → i ≡ testedNumber c v → i ≤ 15 → kind c v ≡ 3
+  pub low-condition : (i : ℕ) → i ≡ tested_number c v → i ≤ 15 → kind c v ≡ 3
   low-condition i e h = ⊎_elim
-      (λ (g : (is c 3 v && not (stops c v)) ≡ true). eqb-true (kind c v) 3 (and_l (is c 3 v) (not (stops c v)) g))
-      (λ (g : (is c 3 v && not (stops c v)) ≡ false). absurd (omega (arith, number-none g))) (cases (is c 3 v && not (stops c v)))
+      (λ (g : (is c 3 v && not (is_stop c v)) ≡ true). eqb-true (kind c v) 3 (and_l (is c 3 v) (not (is_stop c v)) g))
+      (λ (g : (is c 3 v && not (is_stop c v)) ≡ false). absurd (omega (arith, number-none g))) (cases (is c 3 v && not (is_stop c v)))
 
 -- a condition stops where it has a label of its own
 module _ (c : Chart) (v own : ℕ) (e : own ≡ label c v) where
-  pub own-stops : 2 ≤ own → stops c v ≡ true
-  own-stops h = and_l (stops c v) (not (is c 1 v)) (own-label c v (omega arith))
+  pub own-stops : 2 ≤ own → is_stop c v ≡ true
+  own-stops h = and_l (is_stop c v) (not (is c 1 v)) (own-label c v (omega arith))
 
-  pub none-goes : kind c v ≡ 3 → own < 2 → stops c v ≡ false
+  pub none-goes : kind c v ≡ 3 → own < 2 → is_stop c v ≡ false
   none-goes k h = ⊎_elim
-      (λ (s : stops c v ≡ true). no_both (numbered c v)
-      (and-true (stops c v) (not (is c 1 v)) s (ap not (ne_eqb (kind c v) 1 (λ q. omega arith)))) (no-own-label c v (omega arith)))
-      (λ (s : stops c v ≡ false). s) (cases (stops c v))
+      (λ (s : is_stop c v ≡ true). no_both (is_numbered c v)
+      (and-true (is_stop c v) (not (is c 1 v)) s (ap not (ne_eqb (kind c v) 1 (λ q. omega arith)))) (no-own-label c v (omega arith)))
+      (λ (s : is_stop c v ≡ false). s) (cases (is_stop c v))
 
 -- ---- at a node that a path comes to
 pub small-number : {c : Chart} {v i : ℕ} → OfKind c 3 v → i ≡ argument c v → i < 16
 small-number {c} {v} node e = omega (arith, (ready-facts node.ready).conditions v node.inside node.kind)
 
-module _ (c : Chart) (ready : Ready c) (v i : ℕ) (t : Entered c v) (e : i ≡ testedNumber c v) where
-  goes_small : stops c v ≡ false → (i ≡ argument c v) × (i < 16)
+module _ (c : Chart) (ready : Ready c) (v i : ℕ) (t : Entered c v) (e : i ≡ tested_number c v) where
+  goes_small : is_stop c v ≡ false → (i ≡ argument c v) × (i < 16)
   goes_small s =
-      let k : kind c v ≡ 3 = goes_on c v t.noBegin s in
+      let k : kind c v ≡ 3 = goes_on c v t.no_begin s in
       let q : i ≡ argument c v = e ∙ number-goes c v k s in
       (q, small-number (record { ready = ready; inside = t.inside; kind = k }) q)
 
   pub number-most : i ≤ 16
-  number-most = ⊎_elim (λ (s : stops c v ≡ true). omega (arith, number-stop c v s))
-      (λ (s : stops c v ≡ false). omega (arith, (goes_small s).1)) (cases (stops c v))
+  number-most = ⊎_elim (λ (s : is_stop c v ≡ true). omega (arith, number-stop c v s))
+      (λ (s : is_stop c v ≡ false). omega (arith, (goes_small s).1)) (cases (is_stop c v))
 
-  pub high-stops : 15 < i → stops c v ≡ true
-  high-stops h = ⊎_elim (λ (s : stops c v ≡ true). s)
-      (λ (s : stops c v ≡ false). absurd (omega (arith, (goes_small s).1))) (cases (stops c v))
+  pub high-stops : 15 < i → is_stop c v ≡ true
+  high-stops h = ⊎_elim (λ (s : is_stop c v ≡ true). s)
+      (λ (s : is_stop c v ≡ false). absurd (omega (arith, (goes_small s).1))) (cases (is_stop c v))
 
-  pub low_goes : i ≤ 15 → stops c v ≡ false
-  low_goes h = ⊎_elim (λ (s : stops c v ≡ true). absurd (omega (arith, number-stop c v s)))
-      (λ (s : stops c v ≡ false). s) (cases (stops c v))
+  pub low_goes : i ≤ 15 → is_stop c v ≡ false
+  low_goes h = ⊎_elim (λ (s : is_stop c v ≡ true). absurd (omega (arith, number-stop c v s)))
+      (λ (s : is_stop c v ≡ false). s) (cases (is_stop c v))
 
   pub low-number : i ≤ 15 → i ≡ argument c v
   low-number h = (goes_small (low_goes h)).0
 
   -- the bit of a mask tells whether the condition was met before: at a stop it is bit 16, which a word has not
   module _ (care b : ℕ) (small : care < 65536) (eb : b ≡ bit care i) where
-    pub bit-known : b ≡ 1 → known c care v ≡ true
+    pub bit-known : b ≡ 1 → is_known c care v ≡ true
     bit-known o = ⊎_elim
-        (λ (s : stops c v ≡ true).
+        (λ (s : is_stop c v ≡ true).
         let z : i ≡ 16 = e ∙ sym (number-stop c v s) in
         let w : bit care i ≡ bit care 16 = ap (bit care) z in
         absurd (omega arith))
-        (λ (s : stops c v ≡ false).
-        and-true (not (stops c v)) (eqb (bit care (argument c v)) 1) (ap not s)
+        (λ (s : is_stop c v ≡ false).
+        and-true (not (is_stop c v)) (eqb (bit care (argument c v)) 1) (ap not s)
         (eq-eqb (bit care (argument c v)) 1 (ap (bit care) (sym (goes_small s).0) ∙ sym eb ∙ o)))
-        (cases (stops c v))
+        (cases (is_stop c v))
 
-    pub bit-unknown : (b ≡ 1 → ⊥) → known c care v ≡ false
+    pub bit-unknown : (b ≡ 1 → ⊥) → is_known c care v ≡ false
     bit-unknown n = ⊎_elim
-        (λ (s : stops c v ≡ true). ap (λ x. not x && eqb (bit care (argument c v)) 1) s)
-        (λ (s : stops c v ≡ false).
+        (λ (s : is_stop c v ≡ true). ap (λ x. not x && eqb (bit care (argument c v)) 1) s)
+        (λ (s : is_stop c v ≡ false).
         ap (λ x. not x && eqb (bit care (argument c v)) 1) s
         ∙ ne_eqb (bit care (argument c v)) 1 (λ q. n (eb ∙ ap (bit care) (goes_small s).0 ∙ q)))
-        (cases (stops c v))
+        (cases (is_stop c v))
 
   -- the arc of a condition by the bit of the values
-  pub side-taken : stops c v ≡ false → (values b r : ℕ) → b ≡ bit values i → r ≡ field c v (3 + b) → r ≡ taken c values v
+  pub side-taken : is_stop c v ≡ false → (values b r : ℕ) → b ≡ bit values i → r ≡ field c v (3 + b) → r ≡ arc_taken c values v
   side-taken s values b r eb er = go (ℕ_discrete b 0)
     where
       same : b ≡ bit values (argument c v)
       same = eb ∙ ap (bit values) (goes_small s).0
 
-      go : Dec (b ≡ 0) → r ≡ taken c values v
+      go : Dec (b ≡ 0) → r ≡ arc_taken c values v
       go (yes z) = er ∙ ap (λ (k : ℕ). field c v (3 + k)) z ∙ sym (takes-0 c values v (sym same ∙ z))
       go (no n) =
           let o : b ≡ 1 = omega (arith, eb) in
@@ -120,13 +120,13 @@ pub record Numbering (c : Chart) (old notes : List ℕ) (v : ℕ) : Type 0 where
   pub within : v ≤ size c
   pub size : length notes ≡ length old
   pub chart : Charted c notes
-  pub numbers : (u : ℕ) → u < v → get_or notes (256 + u) 0 ≡ testedNumber c u
+  pub numbers : (u : ℕ) → u < v → get_or notes (256 + u) 0 ≡ tested_number c u
 
 pub numbering_start : (c : Chart) (notes : List ℕ) → Charted c notes → Numbering c notes notes 0
 numbering_start c notes chart = record { within = omega arith; size = refl; chart = chart; numbers = λ u l. absurd (omega arith) }
 
 module _ (c : Chart) (old notes : List ℕ) (v : ℕ) (long : 512 ≤ length old) (t : Numbering c old notes v) where
-  pub numbering-on : v < size c → (x : ℕ) → x ≡ testedNumber c v → Numbering c old (set notes (256 + v) x) (v + 1)
+  pub numbering-on : v < size c → (x : ℕ) → x ≡ tested_number c v → Numbering c old (set notes (256 + v) x) (v + 1)
   numbering-on l x e =
       let few : size c ≤ 256 = t.chart.ready.few in record {
         within = omega arith;
@@ -141,10 +141,10 @@ module _ (c : Chart) (old notes : List ℕ) (v : ℕ) (long : 512 ≤ length old
         numbers = λ u g. go u g (ℕ_discrete u v);
       }
     where
-      go : (u : ℕ) → u < v + 1 → Dec (u ≡ v) → get_or (set notes (256 + v) x) (256 + u) 0 ≡ testedNumber c u
+      go : (u : ℕ) → u < v + 1 → Dec (u ≡ v) → get_or (set notes (256 + v) x) (256 + u) 0 ≡ tested_number c u
       go u g (yes q) =
           ap (λ (k : ℕ). get_or (set notes (256 + v) x) (256 + k) 0) q
-          ∙ get_or-set_same notes (256 + v) x 0 (omega (arith, t.size, t.chart.ready.few)) ∙ e ∙ ap (testedNumber c) (sym q)
+          ∙ get_or-set_same notes (256 + v) x 0 (omega (arith, t.size, t.chart.ready.few)) ∙ e ∙ ap (tested_number c) (sym q)
       go u g (no n) =
           get_or-set_other notes (256 + v) (256 + u) x 0 (λ q. n (omega arith)) ∙ t.numbers u (let d : u ≡ v → ⊥ = n in omega arith)
 

@@ -16,15 +16,15 @@ use Rattle.words.proofs.bits.MaskLaws.{more-within-0, more-within-1, within-lack
 use Rattle.text.specs.frames.Frame.{size}
 use Rattle.charts.specs.Chart.{Chart, kind, argument, next0, next1}
 use Rattle.charts.proofs.Rank.{rank, rank-falls0, rank-falls1}
-use Rattle.walk.specs.Stops.{stops}
+use Rattle.walk.specs.Stops.{is_stop}
 use Rattle.image.specs.Image.{Row}
 use Rattle.walk.proofs.Follow.{goes_on}
 use Rattle.chart_rows.specs.chart_labels.inner.ChartContracts.{Ready}
 use Rattle.chart_rows.specs.inner.PathContracts.{Entered}
-use Rattle.chart_rows.specs.inner.NodeRows.{pathsFrom}
+use Rattle.chart_rows.specs.inner.NodeRows.{paths_from}
 use Rattle.chart_rows.proofs.chart_labels.ReadyLaws.{ready-sound}
 use Rattle.chart_rows.proofs.NumberLaws.{small-number}
-use Rattle.chart_rows.proofs.PathSteps.{pathRow, entered0, entered1, at-stop, at_new}
+use Rattle.chart_rows.proofs.PathSteps.{path_row, entered0, entered1, at-stop, at_new}
 use Rattle.chart_rows.proofs.Settled.{Settled}
 
 -- a new condition: where its two sides go on, with which mask and values
@@ -36,24 +36,24 @@ pub record Fork (c : Chart) (care values v tested valued w0 w1 : ℕ) : Type 0 w
   pub within0 : bit_and values tested ≡ values
   pub within1 : bit_and valued tested ≡ valued
   pub all : (l f : ℕ)
-      → pathsFrom (size c) c l f care values v ≡ pathsFrom (size c) c l f tested values w0 ++ pathsFrom (size c) c l f tested valued w1
+      → paths_from (size c) c l f care values v ≡ paths_from (size c) c l f tested values w0 ++ paths_from (size c) c l f tested valued w1
 
 -- ---- the paths from a node that is a stop
-pub stop-paths : (c : Chart) → Ready c → (care values v u : ℕ) → Settled c care values v u → stops c u ≡ true → (l f : ℕ)
-    → pathsFrom (size c) c l f care values v ≡ pathRow c l f care values u ∷ []
+pub stop-paths : (c : Chart) → Ready c → (care values v u : ℕ) → Settled c care values v u → is_stop c u ≡ true → (l f : ℕ)
+    → paths_from (size c) c l f care values v ≡ path_row c l f care values u ∷ []
 stop-paths c ready care values v u st s l f = st.same l f ∙ at-stop c ready l f care values u st.entered s
 
 -- ---- the paths from a condition that is new
 pub record New (c : Chart) (care values v u i : ℕ) : Type 0 where
   pub ready : Ready c
   pub settled : Settled c care values v u
-  pub goes : stops c u ≡ false
+  pub goes : is_stop c u ≡ false
   pub within : bit_and values care ≡ values
   pub number : i ≡ argument c u
 
 module _ (c : Chart) (care values v u i : ℕ) (new : New c care values v u i) where
   condition : kind c u ≡ 3
-  condition = goes_on c u new.settled.entered.noBegin new.goes
+  condition = goes_on c u new.settled.entered.no_begin new.goes
 
   pub new-small : i < 16
   new-small = small-number (record { ready = new.ready; inside = new.settled.entered.inside; kind = condition }) new.number
@@ -61,7 +61,7 @@ module _ (c : Chart) (care values v u i : ℕ) (new : New c care values v u i) w
   untested : bit care (argument c u) ≡ 1 → ⊥
   untested =
       eqb-false (bit care (argument c u)) 1
-      (and-false (not (stops c u)) (eqb (bit care (argument c u)) 1) new.settled.fresh (ap not new.goes))
+      (and-false (not (is_stop c u)) (eqb (bit care (argument c u)) 1) new.settled.fresh (ap not new.goes))
 
   lacks-care : bit care i ≡ 0
   lacks-care = let n : bit care i ≡ 1 → ⊥ = λ q. untested (ap (bit care) (sym new.number) ∙ q) in omega arith
@@ -86,7 +86,8 @@ module _ (c : Chart) (care values v u i : ℕ) (new : New c care values v u i) w
 
     module _ (w0 w1 : ℕ) (e0 : w0 ≡ next0 c u) (e1 : w1 ≡ next1 c u) where
       fork-paths : (l f : ℕ)
-          → pathsFrom (size c) c l f care values v ≡ pathsFrom (size c) c l f tested values w0 ++ pathsFrom (size c) c l f tested valued w1
+          → paths_from (size c) c l f care values v ≡ paths_from (size c) c l f tested values w0
+          ++ paths_from (size c) c l f tested valued w1
       fork-paths l f =
           let t : care + 2 ^ argument c u ≡ tested = ap (λ (j : ℕ). care + 2 ^ j) (sym new.number) ∙ sym tested-is in
           let x : values + 2 ^ argument c u ≡ valued = ap (λ (j : ℕ). values + 2 ^ j) (sym new.number) ∙ sym valued-is in
@@ -109,7 +110,7 @@ module _ (c : Chart) (care values v u i : ℕ) (new : New c care values v u i) w
 -- ---- how many paths there are, counted up to a limit
 module _ (c : Chart) (care values v most : ℕ) where
   abbrev P : ℕ → ℕ → ℕ → ℕ → ℕ → List Row
-  P a b u l f = pathsFrom (size c) c l f a b u
+  P a b u l f = paths_from (size c) c l f a b u
 
   pub count_none : most ≡ 0 → (l f : ℕ) → 0 ≡ min most (length (P care values v l f))
   count_none z l f = omega arith

@@ -11,19 +11,19 @@ use lib.ListN.{length, get_or, length-append}
 use borrow.Author.Tests.{eqb-false}
 use Rattle.words.specs.lists.Pick.{pick}
 use Rattle.words.specs.lists.Numbers.{range}
-use Rattle.words.specs.lists.Sequences.{concatMap, filter}
+use Rattle.words.specs.lists.Sequences.{concat_map, filter}
 use Rattle.words.proofs.lists.Tests.{and_r, not-true, yes-pick, no-pick}
 use Rattle.words.proofs.lists.Ranges.{filter-yes, filter-no}
 use Rattle.words.proofs.lists.Joins.{concat-cons, concat-range-snoc}
 use Rattle.words.proofs.bits.BitLaws.{add-is-or, bit-none}
 use Rattle.text.specs.frames.Frame.{size}
 use Rattle.charts.specs.Chart.{Chart, kind, argument, next0, next1, is}
-use Rattle.walk.specs.Stops.{stops}
+use Rattle.walk.specs.Stops.{is_stop}
 use Rattle.image.specs.Image.{Row}
-use Rattle.chart_rows.specs.chart_labels.Labels.{numbered, label}
+use Rattle.chart_rows.specs.chart_labels.Labels.{is_numbered, label}
 use Rattle.chart_rows.specs.Rows.{rows_of, rows}
 use Rattle.chart_rows.specs.inner.PathContracts.{NotedAt, Entered, SidesAt}
-use Rattle.chart_rows.specs.inner.NodeRows.{pathsFrom, sides, nodeRows}
+use Rattle.chart_rows.specs.inner.NodeRows.{paths_from, sides, node_rows}
 use Rattle.chart_rows.proofs.chart_labels.ReadyLaws.{ready-facts}
 use Rattle.chart_rows.proofs.chart_labels.LabelSteps.{own-label, no-own-label}
 use Rattle.chart_rows.proofs.RowKinds.{function-rows, condition-rows, plain_rows}
@@ -38,20 +38,20 @@ module _ {c : Chart} {notes : List ℕ} {care values v : ℕ} (s : SidesAt c not
   side-entered1 e = subst (Entered c) (sym e) (entered1 c s.noted.chart.ready v s.inside s.two)
 
 pub count-sides : (c : Chart) (v care values most w0 w1 low high : ℕ) → w0 ≡ next0 c v → w1 ≡ next1 c v
-    → ((l f : ℕ) → low ≡ min most (length (pathsFrom (size c) c l f care 0 w0)))
-    → ((l f : ℕ) → high ≡ min (most - low) (length (pathsFrom (size c) c l f care values w1)))
+    → ((l f : ℕ) → low ≡ min most (length (paths_from (size c) c l f care 0 w0)))
+    → ((l f : ℕ) → high ≡ min (most - low) (length (paths_from (size c) c l f care values w1)))
     → (l f g : ℕ) → low + high ≡ min most (length (sides c l f g care values v))
 count-sides c v care values most w0 w1 low high e0 e1 a b l f g =
-    let p : pathsFrom (size c) c l f care 0 w0 ≡ pathsFrom (size c) c l f care 0 (next0 c v) = ap (pathsFrom (size c) c l f care 0) e0 in
-    let q : pathsFrom (size c) c l g care values w1 ≡ pathsFrom (size c) c l g care values (next1 c v) =
-    ap (pathsFrom (size c) c l g care values) e1 in
+    let p : paths_from (size c) c l f care 0 w0 ≡ paths_from (size c) c l f care 0 (next0 c v) = ap (paths_from (size c) c l f care 0) e0 in
+    let q : paths_from (size c) c l g care values w1 ≡ paths_from (size c) c l g care values (next1 c v) =
+    ap (paths_from (size c) c l g care values) e1 in
     omega (
       arith,
       a l f,
       b l g,
       ap (λ (rs : List Row). length rs) p,
       ap (λ (rs : List Row). length rs) q,
-      length-append (pathsFrom (size c) c l f care 0 (next0 c v)) (pathsFrom (size c) c l g care values (next1 c v)),
+      length-append (paths_from (size c) c l f care 0 (next0 c v)) (paths_from (size c) c l g care values (next1 c v)),
     )
 
 -- ---- the rows of one node, by its kind
@@ -62,99 +62,99 @@ module _ (c : Chart) (v k : ℕ) (ek : k ≡ kind c v) where
   pub rows-condition : k ≡ 3 → rows_of c v ≡ sides c (label c v) 2 2 (2 ^ argument c v) (2 ^ argument c v) v
   rows-condition e = condition-rows c v (sym ek ∙ e)
 
-  pub rows_other : k < 3 → rows_of c v ≡ pathsFrom (size c) c (label c v) 2 0 0 (next0 c v)
+  pub rows_other : k < 3 → rows_of c v ≡ paths_from (size c) c (label c v) 2 0 0 (next0 c v)
   rows_other h = plain_rows c v (λ q. omega arith) (λ q. omega arith)
 
 -- the mask of a stopping condition's own test
 pub own-mask : (c : Chart) (v i own : ℕ) → i ≡ argument c v → own ≡ bit_or 0 (2 ^ i) → own ≡ 2 ^ argument c v
 own-mask c v i own e m = m ∙ sym (add-is-or 0 i (bit-none i)) ∙ zero-add (2 ^ i) ∙ ap (λ (j : ℕ). 2 ^ j) e
 
-module _ (c : Chart) (v k most r : ℕ) (ek : k ≡ kind c v) (own : nodeRows c v ≡ rows_of c v) where
-  counted : (rs : List Row) → rows_of c v ≡ rs → r ≡ min most (length rs) → r ≡ min most (length (nodeRows c v))
+module _ (c : Chart) (v k most r : ℕ) (ek : k ≡ kind c v) (own : node_rows c v ≡ rows_of c v) where
+  counted : (rs : List Row) → rows_of c v ≡ rs → r ≡ min most (length rs) → r ≡ min most (length (node_rows c v))
   counted rs e q = q ∙ ap (λ (x : List Row). min most (length x)) (sym (own ∙ e))
 
-  pub count-function : k ≡ 4 → ((l f g : ℕ) → r ≡ min most (length (sides c l f g 0 0 v))) → r ≡ min most (length (nodeRows c v))
+  pub count-function : k ≡ 4 → ((l f g : ℕ) → r ≡ min most (length (sides c l f g 0 0 v))) → r ≡ min most (length (node_rows c v))
   count-function e q = counted (sides c (label c v) 0 1 0 0 v) (rows-function c v k ek e) (q (label c v) 0 1)
 
   pub count-condition : k ≡ 3 → (mask : ℕ) → mask ≡ 2 ^ argument c v
-      → ((l f g : ℕ) → r ≡ min most (length (sides c l f g mask mask v))) → r ≡ min most (length (nodeRows c v))
+      → ((l f g : ℕ) → r ≡ min most (length (sides c l f g mask mask v))) → r ≡ min most (length (node_rows c v))
   count-condition e mask m q =
       counted (sides c (label c v) 2 2 mask mask v)
       (rows-condition c v k ek e ∙ ap (λ (o : ℕ). sides c (label c v) 2 2 o o v) (sym m)) (q (label c v) 2 2)
 
   pub count-other : k < 3 → (w : ℕ) → w ≡ next0 c v
-      → ((l f : ℕ) → r ≡ min most (length (pathsFrom (size c) c l f 0 0 w))) → r ≡ min most (length (nodeRows c v))
+      → ((l f : ℕ) → r ≡ min most (length (paths_from (size c) c l f 0 0 w))) → r ≡ min most (length (node_rows c v))
   count-other h w e q =
-      counted (pathsFrom (size c) c (label c v) 2 0 0 w)
-      (rows_other c v k ek h ∙ ap (pathsFrom (size c) c (label c v) 2 0 0) (sym e)) (q (label c v) 2)
+      counted (paths_from (size c) c (label c v) 2 0 0 w)
+      (rows_other c v k ek h ∙ ap (paths_from (size c) c (label c v) 2 0 0) (sym e)) (q (label c v) 2)
 
 -- ---- a node without a label of its own, and one with it
 module _ {c : Chart} {notes : List ℕ} {v : ℕ} (node : NotedAt c notes v) where
   read : get_or notes v 0 ≡ label c v
   read = node.noted.chart.labelled.at v node.inside
 
-  own-number : 2 ≤ get_or notes v 0 → numbered c v ≡ true
+  own-number : 2 ≤ get_or notes v 0 → is_numbered c v ≡ true
   own-number h = own-label c v (omega (arith, read))
 
-  pub no_rows : get_or notes v 0 < 2 → nodeRows c v ≡ []
-  no_rows h = no-pick (numbered c v) (rows_of c v) [] (no-own-label c v (omega (arith, read)))
+  pub no_rows : get_or notes v 0 < 2 → node_rows c v ≡ []
+  no_rows h = no-pick (is_numbered c v) (rows_of c v) [] (no-own-label c v (omega (arith, read)))
 
-  pub own-rows : 2 ≤ get_or notes v 0 → nodeRows c v ≡ rows_of c v
-  own-rows h = yes-pick (numbered c v) (rows_of c v) [] (own-number h)
+  pub own-rows : 2 ≤ get_or notes v 0 → node_rows c v ≡ rows_of c v
+  own-rows h = yes-pick (is_numbered c v) (rows_of c v) [] (own-number h)
 
   pub other-entered : 2 ≤ get_or notes v 0 → {w : ℕ} → w ≡ next0 c v → Entered c w
   other-entered h e =
       subst (Entered c) (sym e) (entered0 c node.noted.chart.ready v node.inside
-      (eqb-false (kind c v) 1 (not-true (is c 1 v) (and_r (stops c v) (not (is c 1 v)) (own-number h)))))
+      (eqb-false (kind c v) 1 (not-true (is c 1 v) (and_r (is_stop c v) (not (is c 1 v)) (own-number h)))))
 
   -- the kind after a condition's is a function's
   pub function-kind : {k : ℕ} → k ≡ kind c v → 3 ≤ k → (k ≡ 3 → ⊥) → k ≡ 4
   function-kind e h n = omega (arith, (ready-facts node.noted.chart.ready).kinds v node.inside)
 
-pub count-nothing : (c : Chart) (v most : ℕ) → nodeRows c v ≡ [] → 0 ≡ min most (length (nodeRows c v))
+pub count-nothing : (c : Chart) (v most : ℕ) → node_rows c v ≡ [] → 0 ≡ min most (length (node_rows c v))
 count-nothing c v most e = omega (arith, ap (λ (rs : List Row). length rs) e)
 
 -- ---- the rows of the nodes below v
-abbrev pub rowsBelow : Chart → ℕ → List Row
-rowsBelow c v = concatMap (nodeRows c) (range 0 v)
+abbrev pub rows_below : Chart → ℕ → List Row
+rows_below c v = concat_map (node_rows c) (range 0 v)
 
-pub below_more : (c : Chart) (v : ℕ) → rowsBelow c (v + 1) ≡ rowsBelow c v ++ nodeRows c v
-below_more c v = ap (rowsBelow c) (add-one v) ∙ concat-range-snoc (nodeRows c) 0 v
-    ∙ ap (λ (k : ℕ). rowsBelow c v ++ nodeRows c k) (zero-add v)
+pub below_more : (c : Chart) (v : ℕ) → rows_below c (v + 1) ≡ rows_below c v ++ node_rows c v
+below_more c v = ap (rows_below c) (add-one v) ∙ concat-range-snoc (node_rows c) 0 v
+    ∙ ap (λ (k : ℕ). rows_below c v ++ node_rows c k) (zero-add v)
 
 -- the nodes without a label add nothing
 picked : {A : Type 0} (p : ℕ → Bool) (f : ℕ → List A) (i n : ℕ)
-    → concatMap (λ v. pick (p v) (f v) []) (range i n) ≡ concatMap f (filter p (range i n))
-picked p f i zero = unfold concatMap filter in refl
+    → concat_map (λ v. pick (p v) (f v) []) (range i n) ≡ concat_map f (filter p (range i n))
+picked p f i zero = unfold concat_map filter in refl
 picked {A} p f i (suc n) = go (p i) refl (picked p f (suc i) n)
   where
-    go : (b : Bool) → p i ≡ b → concatMap (λ v. pick (p v) (f v) []) (range (suc i) n) ≡ concatMap f (filter p (range (suc i) n))
-        → concatMap (λ v. pick (p v) (f v) []) (range i (suc n)) ≡ concatMap f (filter p (range i (suc n)))
+    go : (b : Bool) → p i ≡ b → concat_map (λ v. pick (p v) (f v) []) (range (suc i) n) ≡ concat_map f (filter p (range (suc i) n))
+        → concat_map (λ v. pick (p v) (f v) []) (range i (suc n)) ≡ concat_map f (filter p (range i (suc n)))
     go true e ih =
         concat-cons (λ v. pick (p v) (f v) []) i (range (suc i) n) ∙ ap₂ (λ (x y : List A). x ++ y) (yes-pick (p i) (f i) [] e) ih
-        ∙ sym (ap (concatMap f) (filter-yes p i (range (suc i) n) e) ∙ concat-cons f i (filter p (range (suc i) n)))
+        ∙ sym (ap (concat_map f) (filter-yes p i (range (suc i) n) e) ∙ concat-cons f i (filter p (range (suc i) n)))
     go false e ih =
         concat-cons (λ v. pick (p v) (f v) []) i (range (suc i) n) ∙ ap₂ (λ (x y : List A). x ++ y) (no-pick (p i) (f i) [] e) ih
-        ∙ sym (ap (concatMap f) (filter-no p i (range (suc i) n) e))
+        ∙ sym (ap (concat_map f) (filter-no p i (range (suc i) n) e))
 
-pub below_all : (c : Chart) (v : ℕ) → v ≡ size c → rowsBelow c v ≡ rows c
+pub below_all : (c : Chart) (v : ℕ) → v ≡ size c → rows_below c v ≡ rows c
 unfolding rows
-below_all c v e = ap (rowsBelow c) e ∙ picked (numbered c) (rows_of c) 0 (size c)
+below_all c v e = ap (rows_below c) e ∙ picked (is_numbered c) (rows_of c) 0 (size c)
 
 pub record CountingRows (c : Chart) (most total v : ℕ) : Type 0 where
   pub within : v ≤ size c
   pub limited : total ≤ most
-  pub counted : total ≡ min most (length (rowsBelow c v))
+  pub counted : total ≡ min most (length (rows_below c v))
 
 pub counting-start : (c : Chart) (most : ℕ) → CountingRows c most 0 0
-counting-start c most = record { within = omega arith; limited = omega arith; counted = unfold concatMap in omega arith }
+counting-start c most = record { within = omega arith; limited = omega arith; counted = unfold concat_map in omega arith }
 
 pub counting-on : (c : Chart) (most total v more : ℕ) → CountingRows c most total v → v < size c
-    → more ≡ min (most - total) (length (nodeRows c v)) → CountingRows c most (total + more) (v + 1)
+    → more ≡ min (most - total) (length (node_rows c v)) → CountingRows c most (total + more) (v + 1)
 counting-on c most total v more t l e = record {
   within = omega arith;
   limited = omega (arith, t.limited);
-  counted = omega (arith, t.counted, ap (λ (rs : List Row). length rs) (below_more c v) ∙ length-append (rowsBelow c v) (nodeRows c v));
+  counted = omega (arith, t.counted, ap (λ (rs : List Row). length rs) (below_more c v) ∙ length-append (rows_below c v) (node_rows c v));
 }
 
 pub counting-done : (c : Chart) (most total v n : ℕ) → CountingRows c most total v → n ≡ size c → n ≤ v → total ≡ min most (length (rows c))

@@ -9,65 +9,66 @@ use borrow.Author.Tests.{eqb-true}
 use Rattle.words.proofs.lists.Tests.{and_l, and_r, not-true}
 use Rattle.words.specs.bits.Word.{bit}
 use Rattle.text.specs.frames.Frame.{size}
-use Rattle.charts.specs.Chart.{Chart, kind, argument, taken}
+use Rattle.charts.specs.Chart.{Chart, kind, argument, arc_taken}
 use Rattle.charts.proofs.Rank.{rank, rank-le, rank-some}
-use Rattle.walk.specs.Stops.{stops}
+use Rattle.walk.specs.Stops.{is_stop}
 use Rattle.walk.proofs.Follow.{goes_on, taken-falls}
 use Rattle.chart_rows.proofs.chart_labels.ReadyLaws.{ready-sound}
 use Rattle.chart_rows.specs.chart_labels.inner.ChartContracts.{Ready}
 use Rattle.chart_rows.specs.inner.PathContracts.{Entered}
-use Rattle.chart_rows.specs.inner.NodeRows.{pathsFrom, known, settledNode}
+use Rattle.chart_rows.specs.inner.NodeRows.{paths_from, is_known, settled_node}
 use Rattle.chart_rows.proofs.PathSteps.{entered-taken, at-known}
 
 module _ (c : Chart) (care values v : ℕ) where
-  settled-known : (n : ℕ) → known c care v ≡ true → settledNode (suc n) c care values v ≡ settledNode n c care values (taken c values v)
-  unfolding settledNode
-  settled-known n k = rw (settledNode, k)
+  settled-known : (n : ℕ) → is_known c care v ≡ true → settled_node (suc n) c care values v
+      ≡ settled_node n c care values (arc_taken c values v)
+  unfolding settled_node
+  settled-known n k = rw (settled_node, k)
 
-  settled_here : (n : ℕ) → known c care v ≡ false → settledNode n c care values v ≡ v
-  unfolding settledNode
+  settled_here : (n : ℕ) → is_known c care v ≡ false → settled_node n c care values v ≡ v
+  unfolding settled_node
   settled_here zero k = refl
-  settled_here (suc n) k = rw (settledNode, k)
+  settled_here (suc n) k = rw (settled_node, k)
 
 -- a condition that was met before is passed along an arc, to a node of lower rank
-module _ (c : Chart) (care v : ℕ) (t : Entered c v) (k : known c care v ≡ true) where
-  pub known-goes : stops c v ≡ false
-  known-goes = not-true (stops c v) (and_l (not (stops c v)) (eqb (bit care (argument c v)) 1) k)
+module _ (c : Chart) (care v : ℕ) (t : Entered c v) (k : is_known c care v ≡ true) where
+  pub known-goes : is_stop c v ≡ false
+  known-goes = not-true (is_stop c v) (and_l (not (is_stop c v)) (eqb (bit care (argument c v)) 1) k)
 
   known-condition : kind c v ≡ 3
-  known-condition = goes_on c v t.noBegin known-goes
+  known-condition = goes_on c v t.no_begin known-goes
 
   module _ (ready : Ready c) (values : ℕ) where
-    pub known-falls : (w : ℕ) → w ≡ taken c values v → rank c w < rank c v
+    pub known-falls : (w : ℕ) → w ≡ arc_taken c values v → rank c w < rank c v
     known-falls w e = omega (arith, ap (rank c) e, taken-falls c (ready-sound ready) values v t.inside known-condition)
 
-    known-entered : (w : ℕ) → w ≡ taken c values v → Entered c w
+    known-entered : (w : ℕ) → w ≡ arc_taken c values v → Entered c w
     known-entered w e = subst (Entered c) (sym e) (entered-taken c ready values v t.inside known-condition)
 
-    known-paths : (l f : ℕ) → pathsFrom (size c) c l f care values v ≡ pathsFrom (size c) c l f care values (taken c values v)
+    known-paths : (l f : ℕ) → paths_from (size c) c l f care values v ≡ paths_from (size c) c l f care values (arc_taken c values v)
     known-paths l f =
         at-known c ready l f care values v t known-goes
-        (eqb-true (bit care (argument c v)) 1 (and_r (not (stops c v)) (eqb (bit care (argument c v)) 1) k))
+        (eqb-true (bit care (argument c v)) 1 (and_r (not (is_stop c v)) (eqb (bit care (argument c v)) 1) k))
 
 -- ---- what holds of the node: it is a stop or a new condition, and the paths on from it are the same
 pub record Settled (c : Chart) (care values v u : ℕ) : Type 0 where
   pub entered : Entered c u
   pub lower : rank c u ≤ rank c v
-  pub same : (l f : ℕ) → pathsFrom (size c) c l f care values v ≡ pathsFrom (size c) c l f care values u
-  pub fresh : known c care u ≡ false
+  pub same : (l f : ℕ) → paths_from (size c) c l f care values v ≡ paths_from (size c) c l f care values u
+  pub fresh : is_known c care u ≡ false
 
 module _ (c : Chart) (ready : Ready c) (care values : ℕ) where
-  settles : (n v : ℕ) → Entered c v → rank c v ≤ n → Settled c care values v (settledNode n c care values v)
+  settles : (n v : ℕ) → Entered c v → rank c v ≤ n → Settled c care values v (settled_node n c care values v)
   settles zero v t h = absurd (omega (arith, rank-some c v t.inside))
-  settles (suc n) v t h = go (known c care v) refl (settles n (taken c values v))
+  settles (suc n) v t h = go (is_known c care v) refl (settles n (arc_taken c values v))
     where
-      go : (b : Bool) → known c care v ≡ b
-          → (Entered c (taken c values v) → rank c (taken c values v) ≤ n
-          → Settled c care values (taken c values v) (settledNode n c care values (taken c values v)))
-          → Settled c care values v (settledNode (suc n) c care values v)
+      go : (b : Bool) → is_known c care v ≡ b
+          → (Entered c (arc_taken c values v) → rank c (arc_taken c values v) ≤ n
+          → Settled c care values (arc_taken c values v) (settled_node n c care values (arc_taken c values v)))
+          → Settled c care values v (settled_node (suc n) c care values v)
       go true k ih =
-          let down = known-falls c care v t k ready values (taken c values v) refl in
-          let s = ih (known-entered c care v t k ready values (taken c values v) refl) (omega arith) in
+          let down = known-falls c care v t k ready values (arc_taken c values v) refl in
+          let s = ih (known-entered c care v t k ready values (arc_taken c values v) refl) (omega arith) in
           subst (Settled c care values v) (sym (settled-known c care values v n k)) (record {
             entered = s.entered;
             lower = omega (arith, s.lower, down);
@@ -82,7 +83,7 @@ module _ (c : Chart) (ready : Ready c) (care values : ℕ) where
             fresh = k;
           })
 
-  pub is-settled : (v u : ℕ) → Entered c v → u ≡ settledNode (size c) c care values v → Settled c care values v u
+  pub is-settled : (v u : ℕ) → Entered c v → u ≡ settled_node (size c) c care values v → Settled c care values v u
   is-settled v u t e = subst (Settled c care values v) (sym e) (settles (size c) v t (rank-le c v))
 
 -- ---- the loop: from node u, with n conditions still to pass at most, the path goes on where it does from node v
@@ -90,23 +91,23 @@ pub record Passing (c : Chart) (care values v u : ℕ) : Type 0 where
   pub entered : Entered c u
   pub n : ℕ
   pub enough : rank c u ≤ n
-  pub same : settledNode n c care values u ≡ settledNode (size c) c care values v
+  pub same : settled_node n c care values u ≡ settled_node (size c) c care values v
 
 pub passing-start : (c : Chart) (care values v : ℕ) → Entered c v → Passing c care values v v
 passing-start c care values v t = record { entered = t; n = size c; enough = rank-le c v; same = refl }
 
 module _ (c : Chart) (care values v u : ℕ) (p : Passing c care values v u) where
-  pub passing-on : Ready c → known c care u ≡ true → (w : ℕ) → w ≡ taken c values u → Passing c care values v w
+  pub passing-on : Ready c → is_known c care u ≡ true → (w : ℕ) → w ≡ arc_taken c values u → Passing c care values v w
   passing-on ready k w e = go p.n p.enough p.same
     where
-      go : (n : ℕ) → rank c u ≤ n → settledNode n c care values u ≡ settledNode (size c) c care values v → Passing c care values v w
+      go : (n : ℕ) → rank c u ≤ n → settled_node n c care values u ≡ settled_node (size c) c care values v → Passing c care values v w
       go zero h q = absurd (omega (arith, rank-some c u p.entered.inside))
       go (suc n) h q = record {
         entered = known-entered c care u p.entered k ready values w e;
         n = n;
         enough = omega (arith, known-falls c care u p.entered k ready values w e);
-        same = ap (settledNode n c care values) e ∙ sym (settled-known c care values u n k) ∙ q;
+        same = ap (settled_node n c care values) e ∙ sym (settled-known c care values u n k) ∙ q;
       }
 
-  pub passing-done : known c care u ≡ false → u ≡ settledNode (size c) c care values v
+  pub passing-done : is_known c care u ≡ false → u ≡ settled_node (size c) c care values v
   passing-done k = sym (settled_here c care values u p.n k) ∙ p.same

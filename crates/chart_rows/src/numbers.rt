@@ -2,10 +2,10 @@
 ghost use Rattle.std.specs.Prelude.{◌≡◌, ◌*◌, ◌≤◌, length};
 ghost use Rattle.words.specs.lists.Numbers.{count};
 ghost use Rattle.text.specs.frames.Frame.{size};
-ghost use Rattle.chart_rows.specs.chart_labels.Labels.{numbered, label};
+ghost use Rattle.chart_rows.specs.chart_labels.Labels.{is_numbered, label};
 ghost use Rattle.chart_rows.specs.chart_labels.inner.ChartContracts.{Ready, Charted, Inner};
 ghost use Rattle.chart_rows.specs.inner.PathContracts.{Noted};
-ghost use Rattle.chart_rows.specs.inner.NodeRows.{testedNumber};
+ghost use Rattle.chart_rows.specs.inner.NodeRows.{tested_number};
 
 use crate::chart_labels::label_nodes;
 use charts::field;
@@ -16,7 +16,7 @@ use text::frames::sizes::{NODES, RECORD};
 fn number_of(records: &[u8], v: usize, own: u8) -> u8
     requires inner { Inner records.now v }
     requires own_value { own ≡ label records.now v }
-    ensures { result ≡ testedNumber records.now v }
+    ensures { result ≡ tested_number records.now v }
 {
     if field(records, v, KIND) != CONDITION {
         return 16;
@@ -44,7 +44,7 @@ fn number_nodes(records: &[u8], notes: &mut [u8])
 pub fn note_nodes(records: &[u8], notes: &mut [u8]) -> usize
     requires ready { Ready records.now }
     requires in_bounds { 2 * NODES ≤ length notes.old }
-    ensures { (result ≡ count (numbered records.now) 0 (size records.now))
+    ensures { (result ≡ count (is_numbered records.now) 0 (size records.now))
         × Noted records.now notes.new }
 {
     let own = label_nodes(records, notes);

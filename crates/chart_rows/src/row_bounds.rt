@@ -2,7 +2,7 @@
 ghost use Rattle.std.specs.Prelude.{ℕ, ◌^◌, ◌≤◌, length};
 ghost use Rattle.chart_rows.specs.Rows.{rows};
 ghost use Rattle.chart_rows.specs.inner.PathContracts.{Noted, NotedAt, Entered, FewPaths, Masked};
-ghost use Rattle.chart_rows.specs.inner.NodeRows.{untested, nodeRows};
+ghost use Rattle.chart_rows.specs.inner.NodeRows.{untested_count, node_rows};
 
 use charts::field;
 use charts::layout::*;
@@ -54,7 +54,7 @@ fn mask_downward(records: &[u8], notes: &[u8], masks: &mut [u16])
 // How many values the numbers of a mask have together: no fewer than those of them that a path has not tested. Most masks have none, and
 // to count bits takes long where the processor has no instruction for it.
 fn value_count(mask: u16) -> usize
-    ensures { ((care : ℕ) → 2 ^ untested mask care ≤ result) × (result ≤ 65536) }
+    ensures { ((care : ℕ) → 2 ^ untested_count mask care ≤ result) × (result ≤ 65536) }
 {
     if mask == 0 {
         return 1;
@@ -66,7 +66,7 @@ fn value_count(mask: u16) -> usize
 fn bound_node(records: &[u8], notes: &[u8], masks: &[u16], v: usize) -> usize
     requires noted_at { NotedAt records.now notes.now v }
     requires masked { Masked records.now masks.now }
-    ensures { (length (nodeRows records.now v) ≤ result) × (result ≤ 131072) }
+    ensures { (length (node_rows records.now v) ≤ result) × (result ≤ 131072) }
 {
     if notes[v] < 2 {
         return 0;

@@ -2,7 +2,7 @@
 ghost use Rattle.std.specs.Prelude.{◌≡◌, ℕ, min, length};
 ghost use Rattle.chart_rows.specs.Rows.{rows};
 ghost use Rattle.chart_rows.specs.inner.PathContracts.{Noted, NotedAt, SidesAt};
-ghost use Rattle.chart_rows.specs.inner.NodeRows.{sides, nodeRows};
+ghost use Rattle.chart_rows.specs.inner.NodeRows.{sides, node_rows};
 
 use crate::paths::count_paths;
 use charts::field;
@@ -29,7 +29,7 @@ fn count_sides(records: &[u8], notes: &[u8], v: usize, care: u16, values: u16, m
 // How many rows a node has: none where it has no label of its own.
 fn count_node(records: &[u8], notes: &[u8], v: usize, most: usize) -> usize
     requires { NotedAt records.now notes.now v }
-    ensures { result ≡ min most (length (nodeRows records.now v)) }
+    ensures { result ≡ min most (length (node_rows records.now v)) }
 {
     if notes[v] < 2 {
         return 0;

@@ -7,11 +7,11 @@ use native.Mathlib.Omega.{arith}
 use lib.ListN.{length, take}
 use Rattle.words.specs.lists.Sequences.{over, written}
 use Rattle.words.proofs.lists.Written.{written-front}
-use Rattle.text.specs.frames.Frame.{contents, frameCount, size, text_of}
+use Rattle.text.specs.frames.Frame.{contents, frame_count, size, text_of}
 use Rattle.text.specs.frames.Verdict.{Verdict, fine, when}
-use Rattle.text.specs.frames.Check.{badLength, textVerdict}
-use Rattle.text.specs.frames.inner.Read.{readInto}
-use Rattle.text.specs.frames.Answer.{refusal, reply, GivesBuffer, judged}
+use Rattle.text.specs.frames.Check.{is_bad_length, text_verdict}
+use Rattle.text.specs.frames.inner.Read.{read_buffer}
+use Rattle.text.specs.frames.Answer.{refusal, reply, GivesBuffer, verdict_reply}
 use Rattle.text.specs.declared.frames.Answer.{Answer}
 use Rattle.text.specs.declared.frames.Answer.TheVariants.{Done, Refused}
 use Rattle.text.proofs.frames.Chains.{when-holds, when-fails, next-refused, next-on, done-fine, refused-verdict}
@@ -20,25 +20,25 @@ use Rattle.text.proofs.frames.Reading.{read-fine}
 use Rattle.text.proofs.frames.Lent.{lent-refused, lent-short, lent-done, front}
 use Rattle.text.proofs.frames.TextLoops.{length-text}
 use Rattle.charts.specs.Chart.{Chart}
-use Rattle.charts.specs.Check.{chartVerdict}
-use Rattle.charts.specs.Entry.{readVerdict, readChart, writeVerdict, writeChart}
+use Rattle.charts.specs.Check.{chart_verdict}
+use Rattle.charts.specs.Entry.{read_verdict, read_chart, write_verdict, write_chart}
 
 -- a refusal that was answered counts 0
-refused-reply : (a : Answer) (v : Verdict) (n : ℕ) → reply a ≡ judged v n → (k i m : ℕ) → a ≡ Refused k i m → reply a ≡ refusal k i 0
+refused-reply : (a : Answer) (v : Verdict) (n : ℕ) → reply a ≡ verdict_reply v n → (k i m : ℕ) → a ≡ Refused k i m → reply a ≡ refusal k i 0
 refused-reply a v n e k i m q = ap reply q ∙ ap (refusal k i) (refused-verdict a v n e k i m q).1
 
 -- ---- the reader
 -- 1 to 3 find nothing, and the frames are n
 pub record Formed (t : List ℕ) (n : ℕ) : Type 0 where
-  pub passed : textVerdict 5888 t ≡ fine
-  pub frames : n ≡ frameCount t
+  pub passed : text_verdict 5888 t ≡ fine
+  pub frames : n ≡ frame_count t
   pub some : 1 ≤ n
   pub few : n ≤ 256
   pub records : length (contents t) ≡ 10 * n
 
-pub formed : (t : List ℕ) (a : Answer) (n : ℕ) → reply a ≡ judged (textVerdict 5888 t) (frameCount t) → a ≡ Done n → Formed t n
+pub formed : (t : List ℕ) (a : Answer) (n : ℕ) → reply a ≡ verdict_reply (text_verdict 5888 t) (frame_count t) → a ≡ Done n → Formed t n
 formed t a n e d =
-    let p : (textVerdict 5888 t ≡ fine) × (n ≡ frameCount t) = done-fine a (textVerdict 5888 t) (frameCount t) e n d in
+    let p : (text_verdict 5888 t ≡ fine) × (n ≡ frame_count t) = done-fine a (text_verdict 5888 t) (frame_count t) e n d in
     let l : Length 23 5888 (length t) = (text-told 5888 t p.0).length in
     let some : 1 ≤ n = go (length t) n l p.1 in
     record {
@@ -54,7 +54,7 @@ formed t a n e d =
     go (suc m) n l e = omega (arith, l.whole)
 
 -- the part of the table that was read is the chart
-pub formed-chart : (t table zeros : List ℕ) (n : ℕ) → Formed t n → table ≡ readInto 5888 t zeros → take (10 * n) table ≡ contents t
+pub formed-chart : (t table zeros : List ℕ) (n : ℕ) → Formed t n → table ≡ read_buffer 5888 t zeros → take (10 * n) table ≡ contents t
 formed-chart t table zeros n F e = ap (take (10 * n)) (e ∙ read-fine 5888 t zeros F.passed)
     ∙ front (10 * n) (contents t) zeros (sym F.records)
 
@@ -67,48 +67,48 @@ chart-asked t c n F e =
     (omega arith, omega (arith, F.few))
 
 module _ (t out : List ℕ) where
-  pub read-unformed : (a : Answer) → reply a ≡ judged (textVerdict 5888 t) (frameCount t) → (k i m : ℕ) → a ≡ Refused k i m
-      → GivesBuffer (readChart t out) a out
-  unfolding readChart readVerdict
+  pub read-unformed : (a : Answer) → reply a ≡ verdict_reply (text_verdict 5888 t) (frame_count t) → (k i m : ℕ) → a ≡ Refused k i m
+      → GivesBuffer (read_chart t out) a out
+  unfolding read_chart read_verdict
   read-unformed a e k i m q =
-      lent-refused (readVerdict t) 10 (λ _. contents t) out k i
-      (next-refused (textVerdict 5888 t) (λ _. chartVerdict (contents t)) k i
-      (refused-verdict a (textVerdict 5888 t) (frameCount t) e k i m q).0)
-      a (refused-reply a (textVerdict 5888 t) (frameCount t) e k i m q)
+      lent-refused (read_verdict t) 10 (λ _. contents t) out k i
+      (next-refused (text_verdict 5888 t) (λ _. chart_verdict (contents t)) k i
+      (refused-verdict a (text_verdict 5888 t) (frame_count t) e k i m q).0)
+      a (refused-reply a (text_verdict 5888 t) (frame_count t) e k i m q)
 
-  module _ (n : ℕ) (F : Formed t n) (c : Chart) (is : c ≡ contents t) (a : Answer) (e : reply a ≡ judged (chartVerdict c) 0) where
-    rest : readVerdict t ≡ chartVerdict c
-    unfolding readVerdict
-    rest = next-on (textVerdict 5888 t) (λ _. chartVerdict (contents t)) F.passed ∙ ap chartVerdict (sym is)
+  module _ (n : ℕ) (F : Formed t n) (c : Chart) (is : c ≡ contents t) (a : Answer) (e : reply a ≡ verdict_reply (chart_verdict c) 0) where
+    rest : read_verdict t ≡ chart_verdict c
+    unfolding read_verdict
+    rest = next-on (text_verdict 5888 t) (λ _. chart_verdict (contents t)) F.passed ∙ ap chart_verdict (sym is)
 
-    pub read-unsound : (k i m : ℕ) → a ≡ Refused k i m → GivesBuffer (readChart t out) a out
-    unfolding readChart
+    pub read-unsound : (k i m : ℕ) → a ≡ Refused k i m → GivesBuffer (read_chart t out) a out
+    unfolding read_chart
     read-unsound k i m q =
-        lent-refused (readVerdict t) 10 (λ _. contents t) out k i (rest ∙ (refused-verdict a (chartVerdict c) 0 e k i m q).0)
-        a (refused-reply a (chartVerdict c) 0 e k i m q)
+        lent-refused (read_verdict t) 10 (λ _. contents t) out k i (rest ∙ (refused-verdict a (chart_verdict c) 0 e k i m q).0)
+        a (refused-reply a (chart_verdict c) 0 e k i m q)
 
-    pub read_short : (m : ℕ) → a ≡ Done m → length out < 10 * n → (r : Answer) → r ≡ Refused 16 0 0 → GivesBuffer (readChart t out) r out
-    unfolding readChart
+    pub read_short : (m : ℕ) → a ≡ Done m → length out < 10 * n → (r : Answer) → r ≡ Refused 16 0 0 → GivesBuffer (read_chart t out) r out
+    unfolding read_chart
     read_short m q h r is16 =
-        subst (λ (x : Answer). GivesBuffer (readChart t out) x out) (sym is16)
-        (lent-short (readVerdict t) 10 (λ _. contents t) out (rest ∙ (done-fine a (chartVerdict c) 0 e m q).0) (omega (arith, F.records)))
+        subst (λ (x : Answer). GivesBuffer (read_chart t out) x out) (sym is16)
+        (lent-short (read_verdict t) 10 (λ _. contents t) out (rest ∙ (done-fine a (chart_verdict c) 0 e m q).0) (omega (arith, F.records)))
 
     pub read_done : (m : ℕ) → a ≡ Done m → 10 * n ≤ length out → (out' : List ℕ) → out' ≡ written out 0 c
-        → GivesBuffer (readChart t out) (Done n) out'
-    unfolding readChart
+        → GivesBuffer (read_chart t out) (Done n) out'
+    unfolding read_chart
     read_done m q h out' o =
-        lent-done (readVerdict t) 10 (λ _. contents t) out (rest ∙ (done-fine a (chartVerdict c) 0 e m q).0) (omega (arith, F.records))
+        lent-done (read_verdict t) 10 (λ _. contents t) out (rest ∙ (done-fine a (chart_verdict c) 0 e m q).0) (omega (arith, F.records))
         n (omega (arith, F.records)) out' (o ∙ written-front out c ∙ ap (λ (x : List ℕ). over x out) is)
 
 -- ---- the writer
 -- 1 finds nothing
 pub record WholeRecords (c : Chart) : Type 0 where
-  pub passed : badLength 10 2560 (length c) ≡ false
+  pub passed : is_bad_length 10 2560 (length c) ≡ false
   pub records : length c ≡ 10 * size c
   pub some : 1 ≤ size c
   pub few : size c ≤ 256
 
-pub whole : (c : Chart) → badLength 10 2560 (length c) ≡ false → WholeRecords c
+pub whole : (c : Chart) → is_bad_length 10 2560 (length c) ≡ false → WholeRecords c
 whole c e =
     let l : Length 10 2560 (length c) = length-told 10 2560 (length c) e in
     record { passed = e; records = omega (arith, l.whole); some = go (length c) l; few = omega (arith, l.fits) }
@@ -121,34 +121,37 @@ pub whole-asked : (c : Chart) → WholeRecords c → (length c ≡ 10 * size c) 
 whole-asked c w = (w.records, w.few)
 
 module _ (c : Chart) (out : List ℕ) where
-  pub write-unwhole : badLength 10 2560 (length c) ≡ true → (r : Answer) → r ≡ Refused 1 0 0 → GivesBuffer (writeChart c out) r out
-  unfolding writeChart writeVerdict
+  pub write-unwhole : is_bad_length 10 2560 (length c) ≡ true → (r : Answer) → r ≡ Refused 1 0 0 → GivesBuffer (write_chart c out) r out
+  unfolding write_chart write_verdict
   write-unwhole b r is1 =
-      lent-refused (writeVerdict c) 1 (λ _. text_of c) out 1 0
-      (next-refused (when 1 (badLength 10 2560 (length c))) (λ _. chartVerdict c) 1 0 (when-holds 1 (badLength 10 2560 (length c)) b))
+      lent-refused (write_verdict c) 1 (λ _. text_of c) out 1 0
+      (next-refused (when 1 (is_bad_length 10 2560 (length c))) (λ _. chart_verdict c) 1 0
+      (when-holds 1 (is_bad_length 10 2560 (length c)) b))
       r (ap reply is1)
 
-  module _ (w : WholeRecords c) (a : Answer) (e : reply a ≡ judged (chartVerdict c) 0) where
-    on : writeVerdict c ≡ chartVerdict c
-    unfolding writeVerdict
-    on = next-on (when 1 (badLength 10 2560 (length c))) (λ _. chartVerdict c) (when-fails 1 (badLength 10 2560 (length c)) w.passed)
+  module _ (w : WholeRecords c) (a : Answer) (e : reply a ≡ verdict_reply (chart_verdict c) 0) where
+    on : write_verdict c ≡ chart_verdict c
+    unfolding write_verdict
+    on = next-on (when 1 (is_bad_length 10 2560 (length c))) (λ _. chart_verdict c)
+        (when-fails 1 (is_bad_length 10 2560 (length c)) w.passed)
 
-    pub write-unsound : (k i m : ℕ) → a ≡ Refused k i m → GivesBuffer (writeChart c out) a out
-    unfolding writeChart
+    pub write-unsound : (k i m : ℕ) → a ≡ Refused k i m → GivesBuffer (write_chart c out) a out
+    unfolding write_chart
     write-unsound k i m q =
-        lent-refused (writeVerdict c) 1 (λ _. text_of c) out k i (on ∙ (refused-verdict a (chartVerdict c) 0 e k i m q).0)
-        a (refused-reply a (chartVerdict c) 0 e k i m q)
+        lent-refused (write_verdict c) 1 (λ _. text_of c) out k i (on ∙ (refused-verdict a (chart_verdict c) 0 e k i m q).0)
+        a (refused-reply a (chart_verdict c) 0 e k i m q)
 
     pub write-short : (m : ℕ) → a ≡ Done m → length out < 23 * size c → (r : Answer) → r ≡ Refused 16 0 0
-        → GivesBuffer (writeChart c out) r out
-    unfolding writeChart
+        → GivesBuffer (write_chart c out) r out
+    unfolding write_chart
     write-short m q h r is16 =
-        subst (λ (x : Answer). GivesBuffer (writeChart c out) x out) (sym is16)
-        (lent-short (writeVerdict c) 1 (λ _. text_of c) out (on ∙ (done-fine a (chartVerdict c) 0 e m q).0) (omega (arith, length-text c)))
+        subst (λ (x : Answer). GivesBuffer (write_chart c out) x out) (sym is16)
+        (lent-short (write_verdict c) 1 (λ _. text_of c) out (on ∙ (done-fine a (chart_verdict c) 0 e m q).0)
+        (omega (arith, length-text c)))
 
     pub write_done : (m : ℕ) → a ≡ Done m → 23 * size c ≤ length out → (out' : List ℕ) → out' ≡ written out 0 (text_of c)
-        → GivesBuffer (writeChart c out) (Done (23 * size c)) out'
-    unfolding writeChart
+        → GivesBuffer (write_chart c out) (Done (23 * size c)) out'
+    unfolding write_chart
     write_done m q h out' o =
-        lent-done (writeVerdict c) 1 (λ _. text_of c) out (on ∙ (done-fine a (chartVerdict c) 0 e m q).0) (omega (arith, length-text c))
+        lent-done (write_verdict c) 1 (λ _. text_of c) out (on ∙ (done-fine a (chart_verdict c) 0 e m q).0) (omega (arith, length-text c))
         (23 * size c) (omega (arith, length-text c)) out' (o ∙ written-front out (text_of c))

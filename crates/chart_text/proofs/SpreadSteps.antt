@@ -6,11 +6,11 @@ use native.Mathlib.Omega.{arith}
 use lib.ListN.{length, get_or, take, drop, length-take, get_or-append}
 use lib.Seq.{drop-drop, get_or-take}
 use Rattle.words.specs.lists.Numbers.{range}
-use Rattle.words.specs.lists.Sequences.{concatMap, written}
-use Rattle.words.proofs.lists.Ranges.{length-range, map-count, getD-range, getD-map-range}
+use Rattle.words.specs.lists.Sequences.{concat_map, written}
+use Rattle.words.proofs.lists.Ranges.{length-range, map-count, get_or-range, get_or-map-range}
 use Rattle.words.proofs.lists.Joins.{concat-cons, concat-map, concat-places, length-concat-range}
 use Rattle.words.proofs.lists.Written.{written_none, written-drop, written-front, written-before}
-use Rattle.text.specs.frames.Frame.{size, field, tenAt, frameText, text_of}
+use Rattle.text.specs.frames.Frame.{size, field, ten_bytes_at, frame_text, text_of}
 use Rattle.text.proofs.frames.FrameLoops.{length-frame}
 use Rattle.text.proofs.frames.TextLoops.{frame_of, length-text}
 
@@ -24,63 +24,64 @@ written-kept out vs at k h room =
 pub record Spread (out₀ out : List ℕ) (n f : ℕ) : Type 0 where
   pub low : f ≤ n
   pub size : length out ≡ length out₀
-  pub buffer : out ≡ written out₀ (23 * f) (concatMap (frame_of out₀) (range f (n - f)))
+  pub buffer : out ≡ written out₀ (23 * f) (concat_map (frame_of out₀) (range f (n - f)))
 
 pub spread_none : (out : List ℕ) (n : ℕ) → Spread out out n n
-unfolding concatMap
+unfolding concat_map
 spread_none out n =
     let z : 0 ≡ n - n = omega arith in
     record {
       low = omega arith;
       size = refl;
-      buffer = sym (written_none out (23 * n)) ∙ ap (λ (k : ℕ). written out (23 * n) (concatMap (frame_of out) (range n k))) z;
+      buffer = sym (written_none out (23 * n)) ∙ ap (λ (k : ℕ). written out (23 * n) (concat_map (frame_of out) (range n k))) z;
     }
 
 module _ (out₀ out : List ℕ) (n f : ℕ) (s : Spread out₀ out n f) (room : 23 * n ≤ length out₀) where
   -- the text of later frames lies behind the bytes of frame g
-  kept-ten : (g : ℕ) → g < f → tenAt out g ≡ tenAt out₀ g
+  kept-ten : (g : ℕ) → g < f → ten_bytes_at out g ≡ ten_bytes_at out₀ g
   kept-ten g h =
-      map-count (field out g) 0 (tenAt out₀ g) 0 10 refl (λ i l.
+      map-count (field out g) 0 (ten_bytes_at out₀ g) 0 10 refl (λ i l.
       ap (λ (x : List ℕ). get_or x (10 * g + (0 + i)) 0) s.buffer
-      ∙ written-kept out₀ (concatMap (frame_of out₀) (range f (n - f))) (23 * f) (10 * g + (0 + i)) (omega arith) (omega (arith, s.low))
-      ∙ sym (getD-map-range (field out₀ g) 0 0 10 i l))
+      ∙ written-kept out₀ (concat_map (frame_of out₀) (range f (n - f))) (23 * f) (10 * g + (0 + i)) (omega arith) (omega (arith, s.low))
+      ∙ sym (get_or-map-range (field out₀ g) 0 0 10 i l))
 
-  pub spread-turn : (out' : List ℕ) (g : ℕ) → f ≡ g + 1 → length out' ≡ length out → out' ≡ written out (23 * g) (frameText (tenAt out g))
+  pub spread-turn : (out' : List ℕ) (g : ℕ) → f ≡ g + 1 → length out' ≡ length out
+      → out' ≡ written out (23 * g) (frame_text (ten_bytes_at out g))
       → Spread out₀ out' n g
   spread-turn out' g e m w =
-      let later : List ℕ = concatMap (frame_of out₀) (range f (n - f)) in
-      let l : length (frame_of out₀ g) ≡ 23 = length-frame (tenAt out₀ g) refl in
+      let later : List ℕ = concat_map (frame_of out₀) (range f (n - f)) in
+      let l : length (frame_of out₀ g) ≡ 23 = length-frame (ten_bytes_at out₀ g) refl in
       let k : length later ≡ 23 * (n - f) = length-frames f (n - f) in
       let p : 23 * f ≡ 23 * g + length (frame_of out₀ g) = omega arith in
-      let a : concatMap (frame_of out₀) (range g (n - g)) ≡ frame_of out₀ g ++ later =
-      ap (λ (j : ℕ). concatMap (frame_of out₀) (range g j)) (count-more g e)
+      let a : concat_map (frame_of out₀) (range g (n - g)) ≡ frame_of out₀ g ++ later =
+      ap (λ (j : ℕ). concat_map (frame_of out₀) (range g j)) (count-more g e)
       ∙ concat-cons (frame_of out₀) g (range (suc g) (n - f))
-      ∙ ap (λ (j : ℕ). frame_of out₀ g ++ concatMap (frame_of out₀) (range j (n - f))) (omega arith) in
+      ∙ ap (λ (j : ℕ). frame_of out₀ g ++ concat_map (frame_of out₀) (range j (n - f))) (omega arith) in
       record {
         low = omega (arith, s.low);
         size = m ∙ s.size;
         buffer =
-            w ∙ ap (λ (x : List ℕ). written out (23 * g) (frameText x)) (kept-ten g (omega arith))
+            w ∙ ap (λ (x : List ℕ). written out (23 * g) (frame_text x)) (kept-ten g (omega arith))
             ∙ ap (λ (x : List ℕ). written x (23 * g) (frame_of out₀ g)) s.buffer
             ∙ written-before out₀ (23 * g) (frame_of out₀ g) later (23 * f) p (omega (arith, s.low))
             ∙ ap (written out₀ (23 * g)) (sym a);
       }
     where
-      length-frames : (i j : ℕ) → length (concatMap (frame_of out₀) (range i j)) ≡ 23 * j
-      length-frames i j = length-concat-range (frame_of out₀) 23 i j (λ k. length-frame (tenAt out₀ k) refl)
+      length-frames : (i j : ℕ) → length (concat_map (frame_of out₀) (range i j)) ≡ 23 * j
+      length-frames i j = length-concat-range (frame_of out₀) 23 i j (λ k. length-frame (ten_bytes_at out₀ k) refl)
 
       count-more : (g : ℕ) → f ≡ g + 1 → n - g ≡ suc (n - f)
       count-more g e = omega (arith, s.low)
 
-  pub spread-all : f ≤ 0 → out ≡ written out₀ 0 (concatMap (frame_of out₀) (range 0 n))
+  pub spread-all : f ≤ 0 → out ≡ written out₀ 0 (concat_map (frame_of out₀) (range 0 n))
   spread-all h =
       let z : f ≡ 0 = omega arith in
       let p : 23 * f ≡ 0 = omega arith in
       let k : n - f ≡ n = omega arith in
       s.buffer
-      ∙ ap (λ (j : ℕ). written out₀ j (concatMap (frame_of out₀) (range f (n - f)))) p
-      ∙ ap (λ (j : ℕ). written out₀ 0 (concatMap (frame_of out₀) (range j (n - f)))) z
-      ∙ ap (λ (j : ℕ). written out₀ 0 (concatMap (frame_of out₀) (range 0 j))) k
+      ∙ ap (λ (j : ℕ). written out₀ j (concat_map (frame_of out₀) (range f (n - f)))) p
+      ∙ ap (λ (j : ℕ). written out₀ 0 (concat_map (frame_of out₀) (range j (n - f)))) z
+      ∙ ap (λ (j : ℕ). written out₀ 0 (concat_map (frame_of out₀) (range 0 j))) k
 
 -- ---- all frames: the bytes of contents, and then what the loop leaves
 module _ (b out o₁ : List ℕ) (whole : length b ≡ 10 * size b) (room : 23 * size b ≤ length out) (put : o₁ ≡ written out 0 b) where
@@ -88,19 +89,19 @@ module _ (b out o₁ : List ℕ) (whole : length b ≡ 10 * size b) (room : 23 *
   front k h =
       ap (λ (x : List ℕ). get_or x k 0) (put ∙ written-front out b) ∙ get_or-append b (drop (length b) out) 0 k h
 
-  ten-is : (f : ℕ) → f < size b → tenAt o₁ f ≡ tenAt b f
+  ten-is : (f : ℕ) → f < size b → ten_bytes_at o₁ f ≡ ten_bytes_at b f
   ten-is f h =
-      map-count (field o₁ f) 0 (tenAt b f) 0 10 refl (λ i l.
-      front (10 * f + (0 + i)) (omega arith) ∙ sym (getD-map-range (field b f) 0 0 10 i l))
+      map-count (field o₁ f) 0 (ten_bytes_at b f) 0 10 refl (λ i l.
+      front (10 * f + (0 + i)) (omega arith) ∙ sym (get_or-map-range (field b f) 0 0 10 i l))
 
-  text-is : concatMap (frame_of o₁) (range 0 (size b)) ≡ text_of b
+  text-is : concat_map (frame_of o₁) (range 0 (size b)) ≡ text_of b
   unfolding text_of
   text-is =
-      ap (λ (n : ℕ). concatMap (frame_of o₁) (range 0 n)) (sym (length-range 0 (size b)))
+      ap (λ (n : ℕ). concat_map (frame_of o₁) (range 0 n)) (sym (length-range 0 (size b)))
       ∙ concat-places (frame_of o₁) (frame_of b) 0 (range 0 (size b)) 0 (λ i l.
       let inside : i < size b = omega (arith, length-range 0 (size b)) in
-      ap frameText (ten-is (0 + i) (omega arith)) ∙ ap (frame_of b) (sym (getD-range 0 (size b) i 0 inside)))
-      ∙ sym (concat-map frameText (tenAt b) (range 0 (size b)))
+      ap frame_text (ten-is (0 + i) (omega arith)) ∙ ap (frame_of b) (sym (get_or-range 0 (size b) i 0 inside)))
+      ∙ sym (concat-map frame_text (ten_bytes_at b) (range 0 (size b)))
 
   behind : drop (length (text_of b)) o₁ ≡ drop (length (text_of b)) out
   behind =
@@ -111,7 +112,7 @@ module _ (b out o₁ : List ℕ) (whole : length b ≡ 10 * size b) (room : 23 *
       (ap (λ (x : List ℕ). drop (0 + length b) x) put ∙ written-drop out 0 b (omega arith))
       ∙ drop-drop m (0 + length b) out ∙ ap (λ (k : ℕ). drop k out) (sym e)
 
-  pub text-spread : (o₂ : List ℕ) → o₂ ≡ written o₁ 0 (concatMap (frame_of o₁) (range 0 (size b))) → o₂ ≡ written out 0 (text_of b)
+  pub text-spread : (o₂ : List ℕ) → o₂ ≡ written o₁ 0 (concat_map (frame_of o₁) (range 0 (size b))) → o₂ ≡ written out 0 (text_of b)
   text-spread o₂ e =
       e ∙ ap (written o₁ 0) text-is ∙ written-front o₁ (text_of b) ∙ ap (λ (x : List ℕ). text_of b ++ x) behind
       ∙ sym (written-front out (text_of b))

@@ -1,6 +1,6 @@
 // The chart reader and the chart writer. Nothing is written before every refusal is settled.
 ghost use Rattle.text.specs.frames.Answer.{GivesBuffer};
-ghost use Rattle.charts.specs.Entry.{readChart, writeChart};
+ghost use Rattle.charts.specs.Entry.{read_chart, write_chart};
 
 use chart_check::check_chart;
 use text::frames::refusals::{BAD_LENGTH, NO_ROOM};
@@ -10,7 +10,7 @@ use text::reading::read_text;
 
 // A chart's text to its node records, ten bytes each: refusals 1 to 9, 19 after 5, and 16, else the number of records.
 pub fn read_chart(text: &[u8], out: &mut [u8]) -> Answer
-    ensures { GivesBuffer (readChart text.now out.old) result out.new }
+    ensures { GivesBuffer (read_chart text.now out.old) result out.new }
 {
     let mut table = [0u8; RECORDS];
     let form = read_text(text, CHART_TEXT, &mut table);
@@ -32,7 +32,7 @@ pub fn read_chart(text: &[u8], out: &mut [u8]) -> Answer
 
 // Node records to the chart's text: refusals 1, 4 to 9, 19 after 5, and 16, else the number of characters.
 pub fn write_chart(records: &[u8], out: &mut [u8]) -> Answer
-    ensures { GivesBuffer (writeChart records.now out.old) result out.new }
+    ensures { GivesBuffer (write_chart records.now out.old) result out.new }
 {
     if bad_length(RECORD, RECORDS, records.len()) {
         return refused(BAD_LENGTH, 0);

@@ -2,8 +2,8 @@
 // characters.
 ghost use Rattle.std.specs.Prelude.{◌≡◌, ◌+◌, ◌*◌, ◌≤◌, length};
 ghost use Rattle.words.specs.lists.Numbers.{range};
-ghost use Rattle.words.specs.lists.Sequences.{concatMap, written};
-ghost use Rattle.text.specs.frames.Frame.{tenAt, frameText};
+ghost use Rattle.words.specs.lists.Sequences.{concat_map, written};
+ghost use Rattle.text.specs.frames.Frame.{ten_bytes_at, frame_text};
 
 use text::frames::sizes::LINE;
 use text::frames::{put_frame, ten_at};
@@ -11,7 +11,7 @@ use text::frames::{put_frame, ten_at};
 // Frame f as text in its place.
 fn spread_frame(out: &mut [u8], f: usize)
     requires { LINE * f + LINE ≤ length out.old }
-    ensures { out.new ≡ written out.old (LINE * f) (frameText (tenAt out.old f)) }
+    ensures { out.new ≡ written out.old (LINE * f) (frame_text (ten_bytes_at out.old f)) }
 {
     let ten = ten_at(out, f);
     put_frame(out, LINE * f, &ten);
@@ -21,7 +21,7 @@ fn spread_frame(out: &mut [u8], f: usize)
 pub fn spread(out: &mut [u8], n: usize)
     requires { LINE * n ≤ length out.old }
     ensures { out.new ≡ written out.old 0
-        (concatMap (λ f. frameText (tenAt out.old f)) (range 0 n)) }
+        (concat_map (λ f. frame_text (ten_bytes_at out.old f)) (range 0 n)) }
 {
     let mut f = n;
     while 0 < f {

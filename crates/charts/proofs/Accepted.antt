@@ -7,24 +7,25 @@ use native.Mathlib.Omega.{arith}
 use lib.ListN.{length, get_or}
 use Rattle.words.specs.lists.Numbers.{any}
 use Rattle.words.proofs.lists.Searches.{any_false}
-use Rattle.text.specs.frames.Frame.{contents, frameCount, size}
-use Rattle.text.specs.frames.Verdict.{Verdict, fine, next, when, atLowest}
-use Rattle.text.specs.frames.Check.{badLength, textVerdict}
+use Rattle.text.specs.frames.Frame.{contents, frame_count, size}
+use Rattle.text.specs.frames.Verdict.{Verdict, fine, next, when, at_lowest}
+use Rattle.text.specs.frames.Check.{is_bad_length, text_verdict}
 use Rattle.text.proofs.frames.Verdicts.{next-first, next-rest, when-fine, at-lowest-fine}
 use Rattle.text.proofs.frames.Contents.{Length, length-told, Clean, text-told, any-contents-length, contents-bytes}
 use Rattle.charts.specs.Chart.{Chart, schemes}
-use Rattle.charts.specs.Check.{badField, badScheme, badMarks, badArc, badCall, onCircle, cutOff, chartVerdict}
-use Rattle.charts.specs.Entry.{readVerdict, writeVerdict}
+use Rattle.charts.specs.Check.{has_bad_field, is_bad_scheme, has_bad_marks, has_bad_arc, has_bad_call, is_on_circle, is_cut_off}
+use Rattle.charts.specs.Check.{chart_verdict}
+use Rattle.charts.specs.Entry.{read_verdict, write_verdict}
 
 -- refusals 4 to 9 and 19 find nothing
 pub record SoundChart (c : Chart) : Type 0 where
-  pub goodField : (v : ℕ) → v < size c → badField c v ≡ false
-  pub goodScheme : (h : ℕ) → 1 ≤ h → h ≤ schemes c → badScheme c h ≡ false
-  pub goodMarks : badMarks c ≡ false
-  pub goodArc : (v : ℕ) → v < size c → badArc c v ≡ false
-  pub goodCall : (v : ℕ) → v < size c → badCall c v ≡ false
-  pub noCircle : (v : ℕ) → v < size c → onCircle c v ≡ false
-  pub joined : (v : ℕ) → v < size c → cutOff c v ≡ false
+  pub good_field : (v : ℕ) → v < size c → has_bad_field c v ≡ false
+  pub good_scheme : (h : ℕ) → 1 ≤ h → h ≤ schemes c → is_bad_scheme c h ≡ false
+  pub good_marks : has_bad_marks c ≡ false
+  pub good_arc : (v : ℕ) → v < size c → has_bad_arc c v ≡ false
+  pub good_call : (v : ℕ) → v < size c → has_bad_call c v ≡ false
+  pub no_circle : (v : ℕ) → v < size c → is_on_circle c v ≡ false
+  pub joined : (v : ℕ) → v < size c → is_cut_off c v ≡ false
 
 -- besides, the chart is the whole records of 1 to 256 nodes
 pub record Accepted (c : Chart) : Type 0 where
@@ -52,32 +53,33 @@ nexts a b m d e f g q =
       next-rest f (λ _. g) qf,
     )
 
-pub sound : (c : Chart) → chartVerdict c ≡ fine → SoundChart c
-unfolding chartVerdict
+pub sound : (c : Chart) → chart_verdict c ≡ fine → SoundChart c
+unfolding chart_verdict
 sound c e =
-    let q = nexts (atLowest 4 (badField c) (size c)) (when 5 (any (badScheme c) 1 (schemes c))) (when 19 (badMarks c))
-    (atLowest 6 (badArc c) (size c)) (atLowest 7 (badCall c) (size c))
-    (atLowest 8 (onCircle c) (size c)) (atLowest 9 (cutOff c) (size c)) e in
+    let q = nexts (at_lowest 4 (has_bad_field c) (size c)) (when 5 (any (is_bad_scheme c) 1 (schemes c))) (when 19 (has_bad_marks c))
+    (at_lowest 6 (has_bad_arc c) (size c)) (at_lowest 7 (has_bad_call c) (size c))
+    (at_lowest 8 (is_on_circle c) (size c)) (at_lowest 9 (is_cut_off c) (size c)) e in
     record {
-      goodField = at-lowest-fine 4 (badField c) (size c) q.0;
-      goodScheme = λ h l m. any_false (badScheme c) 1 (schemes c) (when-fine 5 (any (badScheme c) 1 (schemes c)) q.1) h l (omega arith);
-      goodMarks = when-fine 19 (badMarks c) q.2;
-      goodArc = at-lowest-fine 6 (badArc c) (size c) q.3;
-      goodCall = at-lowest-fine 7 (badCall c) (size c) q.4;
-      noCircle = at-lowest-fine 8 (onCircle c) (size c) q.5;
-      joined = at-lowest-fine 9 (cutOff c) (size c) q.6;
+      good_field = at-lowest-fine 4 (has_bad_field c) (size c) q.0;
+      good_scheme =
+          λ h l m. any_false (is_bad_scheme c) 1 (schemes c) (when-fine 5 (any (is_bad_scheme c) 1 (schemes c)) q.1) h l (omega arith);
+      good_marks = when-fine 19 (has_bad_marks c) q.2;
+      good_arc = at-lowest-fine 6 (has_bad_arc c) (size c) q.3;
+      good_call = at-lowest-fine 7 (has_bad_call c) (size c) q.4;
+      no_circle = at-lowest-fine 8 (is_on_circle c) (size c) q.5;
+      joined = at-lowest-fine 9 (is_cut_off c) (size c) q.6;
     }
 
 -- ---- by the reader: the chart of an accepted text, whose bytes are bytes
-pub read-text : (t : List ℕ) → readVerdict t ≡ fine → Clean 5888 t
-unfolding readVerdict
-read-text t e = text-told 5888 t (next-first (textVerdict 5888 t) (λ _. chartVerdict (contents t)) e)
+pub read-text : (t : List ℕ) → read_verdict t ≡ fine → Clean 5888 t
+unfolding read_verdict
+read-text t e = text-told 5888 t (next-first (text_verdict 5888 t) (λ _. chart_verdict (contents t)) e)
 
-pub accepted : (t : List ℕ) → readVerdict t ≡ fine → Accepted (contents t)
-unfolding readVerdict
+pub accepted : (t : List ℕ) → read_verdict t ≡ fine → Accepted (contents t)
+unfolding read_verdict
 accepted t e =
     let n : Length 23 5888 (length t) = (read-text t e).length in
-    let s : length (contents t) ≡ 10 * frameCount t = any-contents-length t in
+    let s : length (contents t) ≡ 10 * frame_count t = any-contents-length t in
     let z : length t ≡ 0 → ⊥ = n.some in
     let w : length t % 23 ≡ 0 = n.whole in
     let f : length t ≤ 5888 = n.fits in
@@ -85,19 +87,19 @@ accepted t e =
       whole = omega arith;
       some = omega arith;
       few = omega arith;
-      sound = sound (contents t) (next-rest (textVerdict 5888 t) (λ _. chartVerdict (contents t)) e);
+      sound = sound (contents t) (next-rest (text_verdict 5888 t) (λ _. chart_verdict (contents t)) e);
     }
 
-pub accepted-bytes : (t : List ℕ) → readVerdict t ≡ fine → (k : ℕ) → get_or (contents t) k 0 < 256
+pub accepted-bytes : (t : List ℕ) → read_verdict t ≡ fine → (k : ℕ) → get_or (contents t) k 0 < 256
 accepted-bytes t e = contents-bytes t (read-text t e).forms
 
 -- ---- by the writer
-pub accepted-records : (c : Chart) → writeVerdict c ≡ fine → Accepted c
-unfolding writeVerdict
+pub accepted-records : (c : Chart) → write_verdict c ≡ fine → Accepted c
+unfolding write_verdict
 accepted-records c e =
-    let bad = badLength 10 2560 (length c) in
+    let bad = is_bad_length 10 2560 (length c) in
     let n : Length 10 2560 (length c) =
-    length-told 10 2560 (length c) (when-fine 1 bad (next-first (when 1 bad) (λ _. chartVerdict c) e)) in
+    length-told 10 2560 (length c) (when-fine 1 bad (next-first (when 1 bad) (λ _. chart_verdict c) e)) in
     let z : length c ≡ 0 → ⊥ = n.some in
     let w : length c % 10 ≡ 0 = n.whole in
     let f : length c ≤ 2560 = n.fits in
@@ -105,5 +107,5 @@ accepted-records c e =
       whole = omega arith;
       some = omega arith;
       few = omega arith;
-      sound = sound c (next-rest (when 1 (badLength 10 2560 (length c))) (λ _. chartVerdict c) e);
+      sound = sound c (next-rest (when 1 (is_bad_length 10 2560 (length c))) (λ _. chart_verdict c) e);
     }

@@ -9,79 +9,79 @@ use borrow.Author.Tests.{eqb-true, eq-eqb}
 use Rattle.words.proofs.lists.Tests.{no_both, or_cases, and_l, and_r, and-true, not-false, yes-pick, no-pick, cases}
 use Rattle.words.proofs.lists.Searches.{some-cons}
 use Rattle.words.specs.lists.Sequences.{some}
-use Rattle.words.specs.graph.Reach.{member, marked, joinedFrom}
+use Rattle.words.specs.graph.Reach.{is_member, is_marked, nodes_joined_from}
 use Rattle.words.proofs.graph.Closure.{joined-below}
 use Rattle.words.proofs.graph.Paths.{Arc, Path, PathFrom, joined-path, path-joined}
 use Rattle.text.specs.frames.Frame.{size}
 use Rattle.charts.specs.Chart.{Chart, kind, scheme, is, begin}
-use Rattle.charts.specs.Check.{arcs, conditionArcs, onCircle, cutOff}
+use Rattle.charts.specs.Check.{arcs, condition_arcs, is_on_circle, is_cut_off}
 use Rattle.charts.proofs.Nodes.{member-first}
 
-member-none : (v : ℕ) → member v [] ≡ false
+member-none : (v : ℕ) → is_member v [] ≡ false
 member-none v = unfold some in refl
 
-pub member-only : (v u : ℕ) → member v (u ∷ []) ≡ true → v ≡ u
+pub member-only : (v u : ℕ) → is_member v (u ∷ []) ≡ true → v ≡ u
 member-only v u e =
-    ⊎_elim (λ (t : eqb v u ≡ true). eqb-true v u t) (λ (t : member v [] ≡ true). no_both (member v []) t (member-none v))
-    (or_cases (eqb v u) (member v []) (sym (some-cons (eqb v) u []) ∙ e))
+    ⊎_elim (λ (t : eqb v u ≡ true). eqb-true v u t) (λ (t : is_member v [] ≡ true). no_both (is_member v []) t (member-none v))
+    (or_cases (eqb v u) (is_member v []) (sym (some-cons (eqb v) u []) ∙ e))
 
 -- ---- arcs of conditions are the arcs that leave a condition
 module _ (c : Chart) where
-  pub condition-arcs : (v : ℕ) → is c 3 v ≡ true → conditionArcs c v ≡ arcs c v
+  pub condition-arcs : (v : ℕ) → is c 3 v ≡ true → condition_arcs c v ≡ arcs c v
   condition-arcs v i = yes-pick (is c 3 v) (arcs c v) [] i
 
-  pub no-condition-arcs : (v : ℕ) → is c 3 v ≡ false → conditionArcs c v ≡ []
+  pub no-condition-arcs : (v : ℕ) → is c 3 v ≡ false → condition_arcs c v ≡ []
   no-condition-arcs v i = no-pick (is c 3 v) (arcs c v) [] i
 
-  pub leaves-condition : (v u : ℕ) → member u (conditionArcs c v) ≡ true → is c 3 v ≡ true
+  pub leaves-condition : (v u : ℕ) → is_member u (condition_arcs c v) ≡ true → is c 3 v ≡ true
   leaves-condition v u s =
       ⊎_elim (λ (i : is c 3 v ≡ true). i)
-      (λ (i : is c 3 v ≡ false). no_both (member u (conditionArcs c v)) s (ap (member u) (no-condition-arcs v i) ∙ member-none u))
+      (λ (i : is c 3 v ≡ false). no_both (is_member u (condition_arcs c v)) s (ap (is_member u) (no-condition-arcs v i) ∙ member-none u))
       (cases (is c 3 v))
 
-  pub condition-arc : (v u : ℕ) → kind c v ≡ 3 → Arc (size c) (arcs c) v u → Arc (size c) (conditionArcs c) v u
+  pub condition-arc : (v u : ℕ) → kind c v ≡ 3 → Arc (size c) (arcs c) v u → Arc (size c) (condition_arcs c) v u
   condition-arc v u k a = record {
     start = a.start;
     end = a.end;
     leads =
-        ap (member u) (condition-arcs v (eq-eqb (kind c v) 3 k)) ∙ a.leads;
+        ap (is_member u) (condition-arcs v (eq-eqb (kind c v) 3 k)) ∙ a.leads;
   }
 
-  pub arc-of-condition : (v u : ℕ) → Arc (size c) (conditionArcs c) v u → (kind c v ≡ 3) × Arc (size c) (arcs c) v u
+  pub arc-of-condition : (v u : ℕ) → Arc (size c) (condition_arcs c) v u → (kind c v ≡ 3) × Arc (size c) (arcs c) v u
   arc-of-condition v u a =
       let i : is c 3 v ≡ true = leaves-condition v u a.leads in
-      (eqb-true (kind c v) 3 i, record { start = a.start; end = a.end; leads = ap (member u) (sym (condition-arcs v i)) ∙ a.leads })
+      (eqb-true (kind c v) 3 i, record { start = a.start; end = a.end; leads = ap (is_member u) (sym (condition-arcs v i)) ∙ a.leads })
 
 -- ---- 8: an arc of the condition v, and a path of arcs of conditions from its end back to v
 pub record ConditionCircle (c : Chart) (v : ℕ) : Type 0 where
   pub second : ℕ
-  pub leaves : Arc (size c) (conditionArcs c) v second
-  pub back : Path (size c) (conditionArcs c) second v
+  pub leaves : Arc (size c) (condition_arcs c) v second
+  pub back : Path (size c) (condition_arcs c) second v
 
-pub found-circle : (c : Chart) (v : ℕ) → onCircle c v ≡ true → ConditionCircle c v
+pub found-circle : (c : Chart) (v : ℕ) → is_on_circle c v ≡ true → ConditionCircle c v
 found-circle c v e =
-    let ahead = joinedFrom (size c) (conditionArcs c) (arcs c v) in
-    let i : is c 3 v ≡ true = and_l (is c 3 v) (marked ahead v) e in
-    let m : marked ahead v ≡ true = and_r (is c 3 v) (marked ahead v) e in
-    let p : PathFrom (size c) (conditionArcs c) (arcs c v) v = joined-path (size c) (conditionArcs c) (arcs c v) v m in
+    let ahead = nodes_joined_from (size c) (condition_arcs c) (arcs c v) in
+    let i : is c 3 v ≡ true = and_l (is c 3 v) (is_marked ahead v) e in
+    let m : is_marked ahead v ≡ true = and_r (is c 3 v) (is_marked ahead v) e in
+    let p : PathFrom (size c) (condition_arcs c) (arcs c v) v = joined-path (size c) (condition_arcs c) (arcs c v) v m in
     record {
       second = p.first;
       leaves = record {
-        start = joined-below (size c) (conditionArcs c) (arcs c v) v m;
+        start = joined-below (size c) (condition_arcs c) (arcs c v) v m;
         end = p.inside;
-        leads = ap (member p.first) (condition-arcs c v i) ∙ p.among;
+        leads = ap (is_member p.first) (condition-arcs c v i) ∙ p.among;
       };
       back = p.path;
     }
 
-pub circle-found : (c : Chart) (v : ℕ) → ConditionCircle c v → onCircle c v ≡ true
+pub circle-found : (c : Chart) (v : ℕ) → ConditionCircle c v → is_on_circle c v ≡ true
 circle-found c v k =
     let i : is c 3 v ≡ true = leaves-condition c v k.second k.leaves.leads in
-    and-true (is c 3 v) (marked (joinedFrom (size c) (conditionArcs c) (arcs c v)) v) i
-    (path-joined (size c) (conditionArcs c) (arcs c v) v (record {
+    and-true (is c 3 v) (is_marked (nodes_joined_from (size c) (condition_arcs c) (arcs c v)) v) i
+    (path-joined (size c) (condition_arcs c) (arcs c v) v (record {
       first = k.second;
       inside = k.leaves.end;
-      among = ap (member k.second) (sym (condition-arcs c v i)) ∙ k.leaves.leads;
+      among = ap (is_member k.second) (sym (condition-arcs c v i)) ∙ k.leaves.leads;
       path = k.back;
     }))
 
@@ -90,16 +90,16 @@ pub record JoinedNode (c : Chart) (v : ℕ) : Type 0 where
   pub inside : begin c (scheme c v) < size c
   pub path : Path (size c) (arcs c) (begin c (scheme c v)) v
 
-pub joined-found : (c : Chart) (v : ℕ) → JoinedNode c v → cutOff c v ≡ false
+pub joined-found : (c : Chart) (v : ℕ) → JoinedNode c v → is_cut_off c v ≡ false
 joined-found c v j =
     let b : ℕ = begin c (scheme c v) in
     ap not (path-joined (size c) (arcs c) (b ∷ []) v (record { first = b; inside = j.inside; among = member-first b []; path = j.path }))
 
-pub found-joined : (c : Chart) (v : ℕ) → cutOff c v ≡ false → JoinedNode c v
+pub found-joined : (c : Chart) (v : ℕ) → is_cut_off c v ≡ false → JoinedNode c v
 found-joined c v e =
     let b : ℕ = begin c (scheme c v) in
     let p : PathFrom (size c) (arcs c) (b ∷ []) v =
-    joined-path (size c) (arcs c) (b ∷ []) v (not-false (marked (joinedFrom (size c) (arcs c) (b ∷ [])) v) e) in
+    joined-path (size c) (arcs c) (b ∷ []) v (not-false (is_marked (nodes_joined_from (size c) (arcs c) (b ∷ [])) v) e) in
     let q : p.first ≡ b = member-only p.first b p.among in
     record {
       inside = subst (λ (u : ℕ). u < size c) q p.inside;

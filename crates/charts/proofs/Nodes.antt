@@ -13,12 +13,12 @@ use Rattle.words.specs.lists.Numbers.{lowest, any, count}
 use Rattle.words.proofs.lists.Tests.{no_both, or_l, or_r, or-true-l, or_true_r, and_l, and_r, and-true, not-false, yes-pick}
 use Rattle.words.proofs.lists.Searches.{lowest-hit, highest-ge, highest-le, highest-of, any_false, some-cons, some-both}
 use Rattle.words.proofs.lists.Counts.{count-lowest, count-one}
-use Rattle.words.specs.graph.Reach.{member}
+use Rattle.words.specs.graph.Reach.{is_member}
 use Rattle.text.specs.frames.Frame.{size}
 use Rattle.charts.specs.Chart.{Chart, kind, scheme, argument, next0, next1, result, is, is_of}
-use Rattle.charts.specs.Chart.{marksHandler, handlerAt, handler, schemes, node_of, begin, end}
+use Rattle.charts.specs.Chart.{is_handler_mark, handler_at, handler, schemes, node_of, begin, end}
 use Rattle.charts.specs.Layout.{kind_of}
-use Rattle.charts.specs.Check.{filledFrom, badUse, badField, arcsAs, arcs, badTarget, badCallAs}
+use Rattle.charts.specs.Check.{is_filled_from, has_bad_use, has_bad_field, arcs_as, arcs, is_bad_target, has_bad_call_as}
 use Rattle.charts.proofs.Accepted.{SoundChart}
 
 -- an arc may lead to node u in scheme h
@@ -35,7 +35,7 @@ pub record TheNode (c : Chart) (k h v : ℕ) : Type 0 where
   pub alone : (u : ℕ) → u < size c → kind c u ≡ k → scheme c u ≡ h → u ≡ v
 
 -- ---- fields: 4
-used-kind : (c : Chart) (v k : ℕ) → badUse c v (kind_of k) ≡ false → k ≤ 4
+used-kind : (c : Chart) (v k : ℕ) → has_bad_use c v (kind_of k) ≡ false → k ≤ 4
 used-kind c v zero e = omega arith
 used-kind c v (suc zero) e = omega arith
 used-kind c v (suc (suc zero)) e = omega arith
@@ -43,17 +43,17 @@ used-kind c v (suc (suc (suc zero))) e = omega arith
 used-kind c v (suc (suc (suc (suc zero)))) e = omega arith
 used-kind c v (suc (suc (suc (suc (suc k))))) e = no_both true refl e
 
-module _ (c : Chart) (v : ℕ) (e : badField c v ≡ false) where
-  fields : (eqb (scheme c v) 0 ≡ false) × (ltb 16 (scheme c v) ≡ false) × (badUse c v (kind_of (kind c v)) ≡ false)
-  unfolding badField
+module _ (c : Chart) (v : ℕ) (e : has_bad_field c v ≡ false) where
+  fields : (eqb (scheme c v) 0 ≡ false) × (ltb 16 (scheme c v) ≡ false) × (has_bad_use c v (kind_of (kind c v)) ≡ false)
+  unfolding has_bad_field
   fields =
       let x : Bool = eqb (scheme c v) 0 in
       let y : Bool = ltb 16 (scheme c v) in
-      let z : Bool = badUse c v (kind_of (kind c v)) in
+      let z : Bool = has_bad_use c v (kind_of (kind c v)) in
       (or_l x y (or_l (x || y) z e), or_r x y (or_l (x || y) z e), or_r (x || y) z e)
 
-  use-of : (k : ℕ) → kind c v ≡ k → badUse c v (kind_of k) ≡ false
-  use-of k q = subst (λ (k : ℕ). badUse c v (kind_of k) ≡ false) q fields.2
+  use-of : (k : ℕ) → kind c v ≡ k → has_bad_use c v (kind_of k) ≡ false
+  use-of k q = subst (λ (k : ℕ). has_bad_use c v (kind_of k) ≡ false) q fields.2
 
   pub field-kind : kind c v ≤ 4
   field-kind = used-kind c v (kind c v) fields.2
@@ -62,7 +62,7 @@ module _ (c : Chart) (v : ℕ) (e : badField c v ≡ false) where
   field-scheme = let n : scheme c v ≡ 0 → ⊥ = eqb-false (scheme c v) 0 fields.0 in (omega arith, ltb-false 16 (scheme c v) fields.1)
 
   pub field-condition : kind c v ≡ 3 → argument c v ≤ 15
-  field-condition k = ltb-false 15 (argument c v) (or_l (ltb 15 (argument c v)) (filledFrom c v 5) (use-of 3 k))
+  field-condition k = ltb-false 15 (argument c v) (or_l (ltb 15 (argument c v)) (is_filled_from c v 5) (use-of 3 k))
 
   pub field-result : kind c v ≡ 2 → result c v ≤ 2
   field-result k = ltb-false 2 (result c v) (or_r (not (eqb (next1 c v) 0)) (ltb 2 (result c v)) (use-of 2 k))
@@ -76,7 +76,7 @@ outside k o = (
       (λ (h : k < 3). omega arith) (λ (h : 5 ≤ k). omega arith) o,
 )
 
-pub good-target : (c : Chart) (v u : ℕ) → badTarget c v u ≡ false → Target c (scheme c v) u
+pub good-target : (c : Chart) (v u : ℕ) → is_bad_target c v u ≡ false → Target c (scheme c v) u
 good-target c v u e =
     let x : Bool = leb (size c) u in
     let y : Bool = eqb (scheme c u) (scheme c v) in
@@ -87,15 +87,15 @@ good-target c v u e =
       entered = eqb-false (kind c u) 0 (or_r (x || not y) z e);
     }
 
-pub member-first : (x : ℕ) (xs : List ℕ) → member x (x ∷ xs) ≡ true
-member-first x xs = some-cons (eqb x) x xs ∙ or-true-l (eqb x x) (member x xs) (eq-eqb x x refl)
+pub member-first : (x : ℕ) (xs : List ℕ) → is_member x (x ∷ xs) ≡ true
+member-first x xs = some-cons (eqb x) x xs ∙ or-true-l (eqb x x) (is_member x xs) (eq-eqb x x refl)
 
-pub member-second : (x y : ℕ) (xs : List ℕ) → member y (x ∷ y ∷ xs) ≡ true
-member-second x y xs = some-cons (eqb y) x (y ∷ xs) ∙ or_true_r (eqb y x) (member y (y ∷ xs)) (member-first y xs)
+pub member-second : (x y : ℕ) (xs : List ℕ) → is_member y (x ∷ y ∷ xs) ≡ true
+member-second x y xs = some-cons (eqb y) x (y ∷ xs) ∙ or_true_r (eqb y x) (is_member y (y ∷ xs)) (member-first y xs)
 
 -- the arcs of a node by its kind
-arcs-by : (c : Chart) (v k : ℕ) → kind c v ≡ k → arcs c v ≡ arcsAs c v (kind_of k)
-arcs-by c v k e = ap (λ (k : ℕ). arcsAs c v (kind_of k)) e
+arcs-by : (c : Chart) (v k : ℕ) → kind c v ≡ k → arcs c v ≡ arcs_as c v (kind_of k)
+arcs-by c v k e = ap (λ (k : ℕ). arcs_as c v (kind_of k)) e
 
 pub arcs-end : (c : Chart) (v : ℕ) → kind c v ≡ 1 → arcs c v ≡ []
 arcs-end c v e = arcs-by c v 1 e
@@ -103,7 +103,7 @@ arcs-end c v e = arcs-by c v 1 e
 pub arcs-one : (c : Chart) (v : ℕ) → (kind c v ≡ 1 → ⊥) → (kind c v ≡ 3 → ⊥) → (kind c v ≡ 4 → ⊥) → arcs c v ≡ next0 c v ∷ []
 arcs-one c v = go (kind c v)
   where
-    go : (k : ℕ) → (k ≡ 1 → ⊥) → (k ≡ 3 → ⊥) → (k ≡ 4 → ⊥) → arcsAs c v (kind_of k) ≡ next0 c v ∷ []
+    go : (k : ℕ) → (k ≡ 1 → ⊥) → (k ≡ 3 → ⊥) → (k ≡ 4 → ⊥) → arcs_as c v (kind_of k) ≡ next0 c v ∷ []
     go zero n m k = refl
     go (suc zero) n m k = absurd (n refl)
     go (suc (suc zero)) n m k = refl
@@ -125,34 +125,34 @@ module _ (c : Chart) (v : ℕ) where
       go (yes e) = arcs-condition c v e
       go (no e) = arcs-function c v (omega arith)
 
-  pub in-arcs0 : (kind c v ≡ 1 → ⊥) → kind c v ≤ 4 → member (next0 c v) (arcs c v) ≡ true
+  pub in-arcs0 : (kind c v ≡ 1 → ⊥) → kind c v ≤ 4 → is_member (next0 c v) (arcs c v) ≡ true
   in-arcs0 n m = go (dec_le 3 (kind c v))
     where
-      go : Dec (3 ≤ kind c v) → member (next0 c v) (arcs c v) ≡ true
-      go (yes h) = ap (member (next0 c v)) (two-arcs h m) ∙ member-first (next0 c v) (next1 c v ∷ [])
-      go (no h) = ap (member (next0 c v)) (arcs-one c v n (λ q. omega arith) (λ q. omega arith)) ∙ member-first (next0 c v) []
+      go : Dec (3 ≤ kind c v) → is_member (next0 c v) (arcs c v) ≡ true
+      go (yes h) = ap (is_member (next0 c v)) (two-arcs h m) ∙ member-first (next0 c v) (next1 c v ∷ [])
+      go (no h) = ap (is_member (next0 c v)) (arcs-one c v n (λ q. omega arith) (λ q. omega arith)) ∙ member-first (next0 c v) []
 
-  pub in-arcs1 : 3 ≤ kind c v → kind c v ≤ 4 → member (next1 c v) (arcs c v) ≡ true
-  in-arcs1 n m = ap (member (next1 c v)) (two-arcs n m) ∙ member-second (next0 c v) (next1 c v) []
+  pub in-arcs1 : 3 ≤ kind c v → kind c v ≤ 4 → is_member (next1 c v) (arcs c v) ≡ true
+  in-arcs1 n m = ap (is_member (next1 c v)) (two-arcs n m) ∙ member-second (next0 c v) (next1 c v) []
 
 module _ (c : Chart) (a : SoundChart c) where
   pub kinds : (v : ℕ) → v < size c → kind c v ≤ 4
-  kinds v l = field-kind c v (a.goodField v l)
+  kinds v l = field-kind c v (a.good_field v l)
 
   pub owned : (v : ℕ) → v < size c → (1 ≤ scheme c v) × (scheme c v ≤ schemes c)
-  owned v l = ((field-scheme c v (a.goodField v l)).0, highest-ge (scheme c) 0 (size c) v (omega arith) (omega arith))
+  owned v l = ((field-scheme c v (a.good_field v l)).0, highest-ge (scheme c) 0 (size c) v (omega arith) (omega arith))
 
   pub schemes-most : schemes c ≤ 16
-  schemes-most = highest-le (scheme c) 16 0 (size c) (λ v x y. (field-scheme c v (a.goodField v (omega arith))).1)
+  schemes-most = highest-le (scheme c) 16 0 (size c) (λ v x y. (field-scheme c v (a.good_field v (omega arith))).1)
 
   pub schemes-first : 1 ≤ size c → 1 ≤ schemes c
   schemes-first s = omega (arith, (owned 0 (omega arith)).0, (owned 0 (omega arith)).1)
 
   pub conditions : (v : ℕ) → v < size c → kind c v ≡ 3 → argument c v ≤ 15
-  conditions v l k = field-condition c v (a.goodField v l) k
+  conditions v l k = field-condition c v (a.good_field v l) k
 
   pub results : (v : ℕ) → v < size c → kind c v ≡ 2 → result c v ≤ 2
-  results v l k = field-result c v (a.goodField v l) k
+  results v l k = field-result c v (a.good_field v l) k
 
   -- ---- each scheme has one Begin and one End: 5
   the-node : (k h : ℕ) → count (is_of c k h) 0 (size c) ≡ 1 → TheNode c k h (node_of c k h)
@@ -174,7 +174,7 @@ module _ (c : Chart) (a : SoundChart c) where
   ones h l m =
       let x : ℕ = count (is_of c 0 h) 0 (size c) in
       let y : ℕ = count (is_of c 1 h) 0 (size c) in
-      let t : (eqb x 1 && eqb y 1) ≡ true = not-false (eqb x 1 && eqb y 1) (a.goodScheme h l m) in
+      let t : (eqb x 1 && eqb y 1) ≡ true = not-false (eqb x 1 && eqb y 1) (a.good_scheme h l m) in
       (eqb-true x 1 (and_l (eqb x 1) (eqb y 1) t), eqb-true y 1 (and_r (eqb x 1) (eqb y 1) t))
 
   pub begins : (h : ℕ) → 1 ≤ h → h ≤ schemes c → TheNode c 0 h (begin c h)
@@ -184,29 +184,29 @@ module _ (c : Chart) (a : SoundChart c) where
   ends h l m = the-node 1 h (ones h l m).1
 
   -- ---- the handler: 19
-  marked-deep : (v : ℕ) → v < size c → marksHandler c v ≡ true → 2 ≤ scheme c v
+  marked-deep : (v : ℕ) → v < size c → is_handler_mark c v ≡ true → 2 ≤ scheme c v
   marked-deep v l e =
-      let p : ℕ → Bool = λ u. eqb (handlerAt c u) 1 in
+      let p : ℕ → Bool = λ u. eqb (handler_at c u) 1 in
       let f : p v ≡ false =
-      any_false p 0 (size c) (or_l (any p 0 (size c)) (ltb 1 (count (marksHandler c) 0 (size c))) a.goodMarks)
+      any_false p 0 (size c) (or_l (any p 0 (size c)) (ltb 1 (count (is_handler_mark c) 0 (size c))) a.good_marks)
       v (omega arith) (omega arith) in
-      let n : handlerAt c v ≡ 1 → ⊥ = eqb-false (handlerAt c v) 1 f in
-      omega (arith, owned v l, yes-pick (marksHandler c v) (scheme c v) 0 e)
+      let n : handler_at c v ≡ 1 → ⊥ = eqb-false (handler_at c v) 1 f in
+      omega (arith, owned v l, yes-pick (is_handler_mark c v) (scheme c v) 0 e)
 
   pub handled : (handler c ≡ 0 → ⊥) → (2 ≤ handler c) × (handler c ≤ schemes c)
   unfolding handler
-  handled = highest-of (λ (h : ℕ). (h ≡ 0 → ⊥) → (2 ≤ h) × (h ≤ schemes c)) (handlerAt c) 0 (size c)
-      (λ n. absurd (n refl)) (λ v x y. go v (omega arith) (marksHandler c v) refl)
+  handled = highest-of (λ (h : ℕ). (h ≡ 0 → ⊥) → (2 ≤ h) × (h ≤ schemes c)) (handler_at c) 0 (size c)
+      (λ n. absurd (n refl)) (λ v x y. go v (omega arith) (is_handler_mark c v) refl)
     where
-      go : (v : ℕ) → v < size c → (t : Bool) → marksHandler c v ≡ t
+      go : (v : ℕ) → v < size c → (t : Bool) → is_handler_mark c v ≡ t
           → (pick t (scheme c v) 0 ≡ 0 → ⊥) → (2 ≤ pick t (scheme c v) 0) × (pick t (scheme c v) 0 ≤ schemes c)
       go v l true e n = (marked-deep v l e, (owned v l).1)
       go v l false e n = absurd (n refl)
 
   -- ---- arcs: 6
-  pub arc-end : (v u : ℕ) → v < size c → member u (arcs c v) ≡ true → Target c (scheme c v) u
+  pub arc-end : (v u : ℕ) → v < size c → is_member u (arcs c v) ≡ true → Target c (scheme c v) u
   arc-end v u l s =
-      let r = some-both (badTarget c v) (eqb u) (arcs c v) (a.goodArc v l) s in
+      let r = some-both (is_bad_target c v) (eqb u) (arcs c v) (a.good_arc v l) s in
       subst (λ (x : ℕ). Target c (scheme c v) x) (sym (eqb-true u r.0 r.2)) (good-target c v r.0 r.1)
 
   pub arc0 : (v : ℕ) → v < size c → (kind c v ≡ 1 → ⊥) → Target c (scheme c v) (next0 c v)
@@ -216,8 +216,8 @@ module _ (c : Chart) (a : SoundChart c) where
   arc1 v l n = arc-end v (next1 c v) l (in-arcs1 c v n (kinds v l))
 
   -- ---- calls: 7
-  call-of : (v k : ℕ) → v < size c → kind c v ≡ k → badCallAs c v (kind_of k) ≡ false
-  call-of v k l e = subst (λ (k : ℕ). badCallAs c v (kind_of k) ≡ false) e (a.goodCall v l)
+  call-of : (v k : ℕ) → v < size c → kind c v ≡ k → has_bad_call_as c v (kind_of k) ≡ false
+  call-of v k l e = subst (λ (k : ℕ). has_bad_call_as c v (kind_of k) ≡ false) e (a.good_call v l)
 
   pub calls : (v : ℕ) → v < size c → kind c v ≡ 2 → (argument c v ≡ 0 → ⊥) → (2 ≤ argument c v) × (argument c v ≤ schemes c)
   calls v l k n =

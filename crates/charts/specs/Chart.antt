@@ -3,7 +3,7 @@ use Rattle.std.specs.Prelude.{ℕ, Bool, ◌&&◌, List, eqb}
 use Rattle.words.specs.lists.Pick.{pick}
 use Rattle.words.specs.lists.Numbers.{lowest, highest}
 use Rattle.words.specs.bits.Word.{bit}
-use Rattle.text.specs.frames.Frame.{size, field, quadAt}
+use Rattle.text.specs.frames.Frame.{size, field, quad_at}
 use Rattle.charts.specs.declared.layout.TheConstants.{BEGIN, END, KIND, SCHEME, ARGUMENT, NEXT0, NEXT1, RESULT, MASK}
 
 abbrev pub Chart : Type 0
@@ -27,14 +27,14 @@ abbrev pub next1 : Chart → ℕ → ℕ
 next1 c v = field c v NEXT1
 
 -- the arc of a condition that a word takes: bit i of the word is condition i
-abbrev pub taken : Chart → ℕ → ℕ → ℕ
-taken c w v = pick (eqb (bit w (argument c v)) 0) (next0 c v) (next1 c v)
+abbrev pub arc_taken : Chart → ℕ → ℕ → ℕ
+arc_taken c w v = pick (eqb (bit w (argument c v)) 0) (next0 c v) (next1 c v)
 
 abbrev pub result : Chart → ℕ → ℕ
 result c v = field c v RESULT
 
 abbrev pub mask : Chart → ℕ → ℕ
-mask c v = quadAt c v MASK
+mask c v = quad_at c v MASK
 
 -- node v is of kind k
 abbrev pub is : Chart → ℕ → ℕ → Bool
@@ -49,16 +49,16 @@ abbrev pub is_of : Chart → ℕ → ℕ → ℕ → Bool
 is_of c k h v = is c k v && eqb (scheme c v) h
 
 -- a Begin with byte 2 equal to 1 marks its scheme as the handler, to which a call that finds the stack full drops
-abbrev pub marksHandler : Chart → ℕ → Bool
-marksHandler c v = is c BEGIN v && eqb (argument c v) 1
+abbrev pub is_handler_mark : Chart → ℕ → Bool
+is_handler_mark c v = is c BEGIN v && eqb (argument c v) 1
 
 -- the scheme that node v marks, or 0
-abbrev pub handlerAt : Chart → ℕ → ℕ
-handlerAt c v = pick (marksHandler c v) (scheme c v) 0
+abbrev pub handler_at : Chart → ℕ → ℕ
+handler_at c v = pick (is_handler_mark c v) (scheme c v) 0
 
 -- the handler, 0 where no scheme is marked
 unfoldable pub handler : Chart → ℕ
-handler c = highest (handlerAt c) 0 (size c)
+handler c = highest (handler_at c) 0 (size c)
 
 -- the lowest node of kind k in scheme h: a scheme's Begin and its End
 unfoldable pub node_of : Chart → ℕ → ℕ → ℕ

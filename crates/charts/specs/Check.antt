@@ -3,86 +3,86 @@ use Rattle.std.specs.Prelude.{ℕ, ◌-◌, Bool, true, false, ◌&&◌, ◌||�
 use Rattle.words.specs.lists.Pick.{pick}
 use Rattle.words.specs.lists.Numbers.{any, count}
 use Rattle.words.specs.lists.Sequences.{some}
-use Rattle.words.specs.graph.Reach.{marked, joinedFrom}
+use Rattle.words.specs.graph.Reach.{is_marked, nodes_joined_from}
 use Rattle.text.specs.declared.frames.sizes.TheConstants.{RECORD, SCHEMES}
 use Rattle.text.specs.declared.frames.refusals.TheConstants.{BAD_FIELD, BAD_SCHEME, BAD_ARC, BAD_CALL, CIRCLE, CUT_OFF, BAD_MARKS}
 use Rattle.text.specs.frames.Frame.{size, field}
-use Rattle.text.specs.frames.Verdict.{Verdict, next, when, atLowest}
+use Rattle.text.specs.frames.Verdict.{Verdict, next, when, at_lowest}
 use Rattle.charts.specs.declared.layout.TheConstants.{BEGIN, END, CONDITION, ARGUMENT, NEXT1, RESULT}
 use Rattle.charts.specs.Layout.{Kind, Begin, End, Operation, Condition, Function, Unknown, kind_of}
-use Rattle.charts.specs.Chart.{Chart, kind, scheme, argument, next0, next1, result, is, is_of, marksHandler, handlerAt, schemes, begin}
+use Rattle.charts.specs.Chart.{Chart, kind, scheme, argument, next0, next1, result, is, is_of, is_handler_mark, handler_at, schemes, begin}
 
 -- 4. A byte of i to 9 is not 0.
-abbrev pub filledFrom : Chart → ℕ → ℕ → Bool
-filledFrom c v i = any (λ k. not (eqb (field c v k) 0)) i (RECORD - i)
+abbrev pub is_filled_from : Chart → ℕ → ℕ → Bool
+is_filled_from c v i = any (λ k. not (eqb (field c v k) 0)) i (RECORD - i)
 
 -- By the kind: a byte that it has no use for is not 0, or a Begin's mark, a condition's number or an operation's result is too large.
-abbrev pub badUse : Chart → ℕ → Kind → Bool
-badUse c v Begin = ltb 1 (argument c v) || filledFrom c v NEXT1
-badUse c v End = filledFrom c v ARGUMENT
-badUse c v Operation = not (eqb (next1 c v) 0) || ltb 2 (result c v)
-badUse c v Condition = ltb 15 (argument c v) || filledFrom c v RESULT
-badUse c v Function = filledFrom c v RESULT
-badUse c v Unknown = true
+abbrev pub has_bad_use : Chart → ℕ → Kind → Bool
+has_bad_use c v Begin = ltb 1 (argument c v) || is_filled_from c v NEXT1
+has_bad_use c v End = is_filled_from c v ARGUMENT
+has_bad_use c v Operation = not (eqb (next1 c v) 0) || ltb 2 (result c v)
+has_bad_use c v Condition = ltb 15 (argument c v) || is_filled_from c v RESULT
+has_bad_use c v Function = is_filled_from c v RESULT
+has_bad_use c v Unknown = true
 
-unfoldable pub badField : Chart → ℕ → Bool
-badField c v = eqb (scheme c v) 0 || ltb SCHEMES (scheme c v) || badUse c v (kind_of (kind c v))
+unfoldable pub has_bad_field : Chart → ℕ → Bool
+has_bad_field c v = eqb (scheme c v) 0 || ltb SCHEMES (scheme c v) || has_bad_use c v (kind_of (kind c v))
 
 -- 5. Scheme h has not exactly one Begin and one End.
-abbrev pub badScheme : Chart → ℕ → Bool
-badScheme c h = not (eqb (count (is_of c BEGIN h) 0 (size c)) 1 && eqb (count (is_of c END h) 0 (size c)) 1)
+abbrev pub is_bad_scheme : Chart → ℕ → Bool
+is_bad_scheme c h = not (eqb (count (is_of c BEGIN h) 0 (size c)) 1 && eqb (count (is_of c END h) 0 (size c)) 1)
 
 -- 19. A mark on scheme 1, or a second mark.
-abbrev pub badMarks : Chart → Bool
-badMarks c = any (λ v. eqb (handlerAt c v) 1) 0 (size c) || ltb 1 (count (marksHandler c) 0 (size c))
+abbrev pub has_bad_marks : Chart → Bool
+has_bad_marks c = any (λ v. eqb (handler_at c v) 1) 0 (size c) || ltb 1 (count (is_handler_mark c) 0 (size c))
 
 -- 6. The nodes that the arcs of a node lead to, by its kind; one that is no node, of another scheme or a Begin.
-abbrev pub arcsAs : Chart → ℕ → Kind → List ℕ
-arcsAs c v Begin = next0 c v ∷ []
-arcsAs c v End = []
-arcsAs c v Operation = next0 c v ∷ []
-arcsAs c v Condition = next0 c v ∷ next1 c v ∷ []
-arcsAs c v Function = next0 c v ∷ next1 c v ∷ []
-arcsAs c v Unknown = next0 c v ∷ []
+abbrev pub arcs_as : Chart → ℕ → Kind → List ℕ
+arcs_as c v Begin = next0 c v ∷ []
+arcs_as c v End = []
+arcs_as c v Operation = next0 c v ∷ []
+arcs_as c v Condition = next0 c v ∷ next1 c v ∷ []
+arcs_as c v Function = next0 c v ∷ next1 c v ∷ []
+arcs_as c v Unknown = next0 c v ∷ []
 
 abbrev pub arcs : Chart → ℕ → List ℕ
-arcs c v = arcsAs c v (kind_of (kind c v))
+arcs c v = arcs_as c v (kind_of (kind c v))
 
-abbrev pub badTarget : Chart → ℕ → ℕ → Bool
-badTarget c v u = leb (size c) u || not (eqb (scheme c u) (scheme c v)) || is c BEGIN u
+abbrev pub is_bad_target : Chart → ℕ → ℕ → Bool
+is_bad_target c v u = leb (size c) u || not (eqb (scheme c u) (scheme c v)) || is c BEGIN u
 
-abbrev pub badArc : Chart → ℕ → Bool
-badArc c v = some (badTarget c v) (arcs c v)
+abbrev pub has_bad_arc : Chart → ℕ → Bool
+has_bad_arc c v = some (is_bad_target c v) (arcs c v)
 
 -- 7. By the kind: a call of scheme 1 or of one above H, or of 0 by a function.
-abbrev pub badCallAs : Chart → ℕ → Kind → Bool
-badCallAs c v Begin = false
-badCallAs c v End = false
-badCallAs c v Operation = eqb (argument c v) 1 || ltb (schemes c) (argument c v)
-badCallAs c v Condition = false
-badCallAs c v Function = leb (argument c v) 1 || ltb (schemes c) (argument c v)
-badCallAs c v Unknown = false
+abbrev pub has_bad_call_as : Chart → ℕ → Kind → Bool
+has_bad_call_as c v Begin = false
+has_bad_call_as c v End = false
+has_bad_call_as c v Operation = eqb (argument c v) 1 || ltb (schemes c) (argument c v)
+has_bad_call_as c v Condition = false
+has_bad_call_as c v Function = leb (argument c v) 1 || ltb (schemes c) (argument c v)
+has_bad_call_as c v Unknown = false
 
-abbrev pub badCall : Chart → ℕ → Bool
-badCall c v = badCallAs c v (kind_of (kind c v))
+abbrev pub has_bad_call : Chart → ℕ → Bool
+has_bad_call c v = has_bad_call_as c v (kind_of (kind c v))
 
 -- 8. A condition that arcs of conditions lead back to.
-abbrev pub conditionArcs : Chart → ℕ → List ℕ
-conditionArcs c v = pick (is c CONDITION v) (arcs c v) []
+abbrev pub condition_arcs : Chart → ℕ → List ℕ
+condition_arcs c v = pick (is c CONDITION v) (arcs c v) []
 
-abbrev pub onCircle : Chart → ℕ → Bool
-onCircle c v = is c CONDITION v && marked (joinedFrom (size c) (conditionArcs c) (arcs c v)) v
+abbrev pub is_on_circle : Chart → ℕ → Bool
+is_on_circle c v = is c CONDITION v && is_marked (nodes_joined_from (size c) (condition_arcs c) (arcs c v)) v
 
 -- 9. A node that no arcs join from the Begin of its scheme.
-abbrev pub cutOff : Chart → ℕ → Bool
-cutOff c v = not (marked (joinedFrom (size c) (arcs c) (begin c (scheme c v) ∷ [])) v)
+abbrev pub is_cut_off : Chart → ℕ → Bool
+is_cut_off c v = not (is_marked (nodes_joined_from (size c) (arcs c) (begin c (scheme c v) ∷ [])) v)
 
-unfoldable pub chartVerdict : Chart → Verdict
-chartVerdict c =
-    next (atLowest BAD_FIELD (badField c) (size c)) λ _.
-    next (when BAD_SCHEME (any (badScheme c) 1 (schemes c))) λ _.
-    next (when BAD_MARKS (badMarks c)) λ _.
-    next (atLowest BAD_ARC (badArc c) (size c)) λ _.
-    next (atLowest BAD_CALL (badCall c) (size c)) λ _.
-    next (atLowest CIRCLE (onCircle c) (size c)) λ _.
-    atLowest CUT_OFF (cutOff c) (size c)
+unfoldable pub chart_verdict : Chart → Verdict
+chart_verdict c =
+    next (at_lowest BAD_FIELD (has_bad_field c) (size c)) λ _.
+    next (when BAD_SCHEME (any (is_bad_scheme c) 1 (schemes c))) λ _.
+    next (when BAD_MARKS (has_bad_marks c)) λ _.
+    next (at_lowest BAD_ARC (has_bad_arc c) (size c)) λ _.
+    next (at_lowest BAD_CALL (has_bad_call c) (size c)) λ _.
+    next (at_lowest CIRCLE (is_on_circle c) (size c)) λ _.
+    at_lowest CUT_OFF (is_cut_off c) (size c)

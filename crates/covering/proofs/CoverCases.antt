@@ -11,47 +11,48 @@ use lib.Pow.{pow_mono}
 use borrow.Author.Tests.{eq-eqb, ne_eqb}
 use Rattle.words.specs.lists.Pick.{pick}
 use Rattle.text.specs.frames.Frame.{field, pair_at}
-use Rattle.image.specs.Decode.{rowInFrame}
+use Rattle.image.specs.Decode.{row_in_frame}
 use Rattle.image.specs.Image.{Row}
-use Rattle.covering.specs.Matched.{together}
-use Rattle.covering.specs.inner.CoveringContracts.{rowWith, togetherAny, wordsWith, words_in, unevenRows, isOther}
+use Rattle.covering.specs.Matched.{is_together}
+use Rattle.covering.specs.inner.CoveringContracts.{row_with, has_any_together, words_with, words_in, has_uneven_rows, is_other}
 
 -- ---- meets
 module _ (b : List ℕ) (g care values x p q : ℕ) (e₁ : p ≡ pair_at b g 2) (e₂ : q ≡ pair_at b g 4) where
   abbrev r : Row
-  r = rowWith care values x
+  r = row_with care values x
 
   abbrev y : ℕ
   y = field b g 6
 
   by_values : (t : Bool) → eqb (bit_and values (pair_at b g 2)) (bit_and (pair_at b g 4) care) ≡ t
-      → together r (rowInFrame b g) ≡ (t && (eqb x 2 || eqb y 2 || eqb x y))
+      → is_together r (row_in_frame b g) ≡ (t && (eqb x 2 || eqb y 2 || eqb x y))
   by_values t e = ap (λ (t : Bool). t && (eqb x 2 || eqb y 2 || eqb x y)) e
 
-  pub meets-no : (bit_and values p ≡ bit_and q care → ⊥) → false ≡ together r (rowInFrame b g)
+  pub meets-no : (bit_and values p ≡ bit_and q care → ⊥) → false ≡ is_together r (row_in_frame b g)
   meets-no n = sym (by_values false (ne_eqb (bit_and values (pair_at b g 2)) (bit_and (pair_at b g 4) care)
       (λ z. n (ap (bit_and values) e₁ ∙ z ∙ sym (ap (λ (k : ℕ). bit_and k care) e₂)))))
 
   module _ (z : bit_and values p ≡ bit_and q care) where
-    by_bits : together r (rowInFrame b g) ≡ (eqb x 2 || eqb y 2 || eqb x y)
+    by_bits : is_together r (row_in_frame b g) ≡ (eqb x 2 || eqb y 2 || eqb x y)
     by_bits = by_values true (eq-eqb (bit_and values (pair_at b g 2)) (bit_and (pair_at b g 4) care)
         (sym (ap (bit_and values) e₁) ∙ z ∙ ap (λ (k : ℕ). bit_and k care) e₂))
 
-    pub meets-first : x ≡ 2 → true ≡ together r (rowInFrame b g)
+    pub meets-first : x ≡ 2 → true ≡ is_together r (row_in_frame b g)
     meets-first k = sym (by_bits ∙ ap (λ (t : Bool). t || eqb y 2 || eqb x y) (eq-eqb x 2 k))
 
-    pub meets-second : (x ≡ 2 → ⊥) → (s : ℕ) → s ≡ y → s ≡ 2 → true ≡ together r (rowInFrame b g)
+    pub meets-second : (x ≡ 2 → ⊥) → (s : ℕ) → s ≡ y → s ≡ 2 → true ≡ is_together r (row_in_frame b g)
     meets-second m s e k = sym (by_bits ∙ ap₂ (λ (t u : Bool). t || u || eqb x y) (ne_eqb x 2 m) (eq-eqb y 2 (sym e ∙ k)))
 
-    pub meets-same : (x ≡ 2 → ⊥) → (s : ℕ) → s ≡ y → (s ≡ 2 → ⊥) → eqb x s ≡ together r (rowInFrame b g)
+    pub meets-same : (x ≡ 2 → ⊥) → (s : ℕ) → s ≡ y → (s ≡ 2 → ⊥) → eqb x s ≡ is_together r (row_in_frame b g)
     meets-same m s e k =
         ap (eqb x) e ∙ sym (by_bits ∙ ap₂ (λ (t u : Bool). t || u || eqb x y) (ne_eqb x 2 m) (ne_eqb y 2 (λ z. k (e ∙ z))))
 
 -- ---- are_together, meets_before: the row in frame f, read once
 pub read-row : (b : List ℕ) (f care values x : ℕ) → care ≡ pair_at b f 2 → values ≡ pair_at b f 4 → x ≡ field b f 6 → (s : Row)
-    (t : Bool) → t ≡ together (rowWith care values x) s → t ≡ together (rowInFrame b f) s
+    (t : Bool) → t ≡ is_together (row_with care values x) s → t ≡ is_together (row_in_frame b f) s
 read-row b f care values x e₁ e₂ e₃ s t e =
-    e ∙ ap₂ (λ (c v : ℕ). together (rowWith c v x) s) e₁ e₂ ∙ ap (λ (k : ℕ). together (rowWith (pair_at b f 2) (pair_at b f 4) k) s) e₃
+    e ∙ ap₂ (λ (c v : ℕ). is_together (row_with c v x) s) e₁ e₂ ∙ ap
+    (λ (k : ℕ). is_together (row_with (pair_at b f 2) (pair_at b f 4) k) s) e₃
 
 -- ---- words_of
 shifted : (c k : ℕ) → k ≡ 16 - ones c → (1 * 2 ^ k % 4294967296 ≡ 2 ^ (16 - ones c)) × (1 * 2 ^ k % 4294967296 ≤ 65536)
@@ -64,11 +65,11 @@ module _ (b : List ℕ) (f bit : ℕ) where
   abbrev asked : ℕ → Bool
   asked x = eqb x 2 || eqb x bit
 
-  pub words-off : (x : ℕ) (t : Bool) → x ≡ field b f 6 → t ≡ asked x → t ≡ false → 0 ≡ wordsWith bit (rowInFrame b f)
+  pub words-off : (x : ℕ) (t : Bool) → x ≡ field b f 6 → t ≡ asked x → t ≡ false → 0 ≡ words_with bit (row_in_frame b f)
   words-off x t e h z = sym (ap (λ (u : Bool). pick u (2 ^ (16 - ones (pair_at b f 2))) 0) (ap asked (sym e) ∙ sym h ∙ z))
 
   pub words-on : (x p : ℕ) (t : Bool) → x ≡ field b f 6 → t ≡ asked x → t ≡ true → p ≡ pair_at b f 2
-      → (1 * 2 ^ (16 - ones p) % 4294967296 ≡ wordsWith bit (rowInFrame b f)) × (1 * 2 ^ (16 - ones p) % 4294967296 ≤ 65536)
+      → (1 * 2 ^ (16 - ones p) % 4294967296 ≡ words_with bit (row_in_frame b f)) × (1 * 2 ^ (16 - ones p) % 4294967296 ≤ 65536)
   words-on x p t e h z q = let s = shifted p (16 - ones p) refl in (
     s.0 ∙ ap (λ (y : ℕ). 2 ^ (16 - ones y)) q
         ∙ sym (ap (λ (u : Bool). pick u (2 ^ (16 - ones (pair_at b f 2))) 0) (ap asked (sym e) ∙ sym h ∙ z)),
@@ -80,24 +81,24 @@ few_ones x h = ones-le 16 x h
 
 -- ---- uneven_rows
 module _ (b : List ℕ) (first n x : ℕ) (e : x ≡ words_in b 0 first n) where
-  pub uneven-first : (x ≡ 65536 → ⊥) → true ≡ unevenRows b first n
-  uneven-first h = sym (ap (λ (t : Bool). not t || not (eqb (words_in b 1 first n) 65536) || togetherAny b first n)
+  pub uneven-first : (x ≡ 65536 → ⊥) → true ≡ has_uneven_rows b first n
+  uneven-first h = sym (ap (λ (t : Bool). not t || not (eqb (words_in b 1 first n) 65536) || has_any_together b first n)
       (ne_eqb (words_in b 0 first n) 65536 (λ z. h (e ∙ z))))
 
   module _ (k : x ≡ 65536) (y : ℕ) (e₂ : y ≡ words_in b 1 first n) where
-    both : (t : Bool) → eqb (words_in b 1 first n) 65536 ≡ t → unevenRows b first n ≡ (not t || togetherAny b first n)
-    both t q = ap₂ (λ (u v : Bool). not u || not v || togetherAny b first n) (eq-eqb (words_in b 0 first n) 65536 (sym e ∙ k)) q
+    both : (t : Bool) → eqb (words_in b 1 first n) 65536 ≡ t → has_uneven_rows b first n ≡ (not t || has_any_together b first n)
+    both t q = ap₂ (λ (u v : Bool). not u || not v || has_any_together b first n) (eq-eqb (words_in b 0 first n) 65536 (sym e ∙ k)) q
 
-    pub uneven-second : (y ≡ 65536 → ⊥) → true ≡ unevenRows b first n
+    pub uneven-second : (y ≡ 65536 → ⊥) → true ≡ has_uneven_rows b first n
     uneven-second h = sym (both false (ne_eqb (words_in b 1 first n) 65536 (λ z. h (e₂ ∙ z))))
 
-    pub uneven-pairs : y ≡ 65536 → (t : Bool) → t ≡ togetherAny b first n → t ≡ unevenRows b first n
+    pub uneven-pairs : y ≡ 65536 → (t : Bool) → t ≡ has_any_together b first n → t ≡ has_uneven_rows b first n
     uneven-pairs h t q = q ∙ sym (both true (eq-eqb (words_in b 1 first n) 65536 (sym e₂ ∙ h)))
 
 -- ---- rows_end
 module _ (b : List ℕ) (l f x : ℕ) (e : x ≡ field b f 1) where
-  pub other-yes : (x ≡ l → ⊥) → isOther b l f ≡ true
+  pub other-yes : (x ≡ l → ⊥) → is_other b l f ≡ true
   other-yes n = ap not (ne_eqb (field b f 1) l (λ z. n (e ∙ z)))
 
-  pub other-no : x ≡ l → isOther b l f ≡ false
+  pub other-no : x ≡ l → is_other b l f ≡ false
   other-no z = ap not (eq-eqb (field b f 1) l (sym e ∙ z))

@@ -18,12 +18,12 @@ use Rattle.words.proofs.lists.Ranges.{filter-yes, filter-no}
 use Rattle.words.proofs.lists.Filters.{filter_none, one_passes, few-pass}
 use Rattle.words.proofs.lists.Sums.{sum-suc, sum-none, sum-zero, sum_ones, sum-full, sum-add}
 use Rattle.words.proofs.lists.Joins.{all-places}
-use Rattle.words.specs.bits.Word.{agrees}
-use Rattle.image.specs.Image.{Image, Row, no_row, nthRow}
+use Rattle.words.specs.bits.Word.{is_agreeing}
+use Rattle.image.specs.Image.{Image, Row, no_row, nth_row}
 use Rattle.image.specs.inner.Sound.{SoundRow, SoundImage}
-use Rattle.rows.specs.Rows.{matches, isCandidate}
-use Rattle.covering.specs.Matched.{hits, uneven, together}
-use Rattle.covering.specs.inner.Sizes.{overlap, overlaps, wordsMatched, covered, gaps, unevenBySizes}
+use Rattle.rows.specs.Rows.{is_match, is_candidate}
+use Rattle.covering.specs.Matched.{hits, is_uneven, is_together}
+use Rattle.covering.specs.inner.Sizes.{is_overlap, has_overlap, words_matched, covered_count, has_gap, is_uneven_by_sizes}
 use Rattle.covering.proofs.Together.{Common, common-together, together-common, together-turned}
 use Rattle.covering.proofs.Hits.{even-low, even-of}
 use Rattle.covering.proofs.WordCount.{words_count}
@@ -34,7 +34,7 @@ module _ (l b : ℕ) where
   asks r = eqb r.from l && (eqb r.bit 2 || eqb r.bit b)
 
   abbrev kept : List Row → ℕ → ℕ
-  kept rs w = length (filter (isCandidate l w b) rs)
+  kept rs w = length (filter (is_candidate l w b) rs)
 
   split-own : (x y z : Bool) → (x && (y && z)) ≡ pick (x && z) y false
   split-own true true true = refl
@@ -43,151 +43,152 @@ module _ (l b : ℕ) where
   split-own true false false = refl
   split-own false y z = refl
 
-  row_words : {i : Image} (r : Row) → SoundRow i r → count (λ w. isCandidate l w b r) 0 65536 ≡ wordsMatched l b r
+  row_words : {i : Image} (r : Row) → SoundRow i r → count (λ w. is_candidate l w b r) 0 65536 ≡ words_matched l b r
   row_words r s = go (asks r) refl
     where
-      go : (t : Bool) → asks r ≡ t → count (λ w. isCandidate l w b r) 0 65536 ≡ pick (asks r) (2 ^ (16 - ones r.care)) 0
+      go : (t : Bool) → asks r ≡ t → count (λ w. is_candidate l w b r) 0 65536 ≡ pick (asks r) (2 ^ (16 - ones r.care)) 0
       go true e =
-          count-alike (λ w. agrees w r.care r.values) (λ w. isCandidate l w b r) 0 65536 (λ w m k.
-          split-own (eqb r.from l) (agrees w r.care r.values) (eqb r.bit 2 || eqb r.bit b)
-          ∙ ap (λ (t : Bool). pick t (agrees w r.care r.values) false) e)
+          count-alike (λ w. is_agreeing w r.care r.values) (λ w. is_candidate l w b r) 0 65536 (λ w m k.
+          split-own (eqb r.from l) (is_agreeing w r.care r.values) (eqb r.bit 2 || eqb r.bit b)
+          ∙ ap (λ (t : Bool). pick t (is_agreeing w r.care r.values) false) e)
           ∙ words_count 16 r.care r.values s.cares s.within
           ∙ sym (ap (λ (t : Bool). pick t (2 ^ (16 - ones r.care)) 0) e)
       go false e =
-          count_none (λ w. isCandidate l w b r) 0 65536 (λ w m k.
-          split-own (eqb r.from l) (agrees w r.care r.values) (eqb r.bit 2 || eqb r.bit b)
-          ∙ ap (λ (t : Bool). pick t (agrees w r.care r.values) false) e)
+          count_none (λ w. is_candidate l w b r) 0 65536 (λ w m k.
+          split-own (eqb r.from l) (is_agreeing w r.care r.values) (eqb r.bit 2 || eqb r.bit b)
+          ∙ ap (λ (t : Bool). pick t (is_agreeing w r.care r.values) false) e)
           ∙ sym (ap (λ (t : Bool). pick t (2 ^ (16 - ones r.care)) 0) e)
 
-  kept_more : (r : Row) (rs : List Row) (w : ℕ) → kept (r ∷ rs) w ≡ pick (isCandidate l w b r) 1 0 + kept rs w
-  kept_more r rs w = go (isCandidate l w b r) refl
+  kept_more : (r : Row) (rs : List Row) (w : ℕ) → kept (r ∷ rs) w ≡ pick (is_candidate l w b r) 1 0 + kept rs w
+  kept_more r rs w = go (is_candidate l w b r) refl
     where
-      go : (t : Bool) → isCandidate l w b r ≡ t → kept (r ∷ rs) w ≡ pick (isCandidate l w b r) 1 0 + kept rs w
+      go : (t : Bool) → is_candidate l w b r ≡ t → kept (r ∷ rs) w ≡ pick (is_candidate l w b r) 1 0 + kept rs w
       go true e =
-          ap (λ (xs : List Row). length xs) (filter-yes (isCandidate l w b) r rs e) ∙ omega arith
+          ap (λ (xs : List Row). length xs) (filter-yes (is_candidate l w b) r rs e) ∙ omega arith
           ∙ sym (ap (λ (t : Bool). pick t 1 0 + kept rs w) e)
       go false e =
-          ap (λ (xs : List Row). length xs) (filter-no (isCandidate l w b) r rs e) ∙ omega arith
+          ap (λ (xs : List Row). length xs) (filter-no (is_candidate l w b) r rs e) ∙ omega arith
           ∙ sym (ap (λ (t : Bool). pick t 1 0 + kept rs w) e)
 
   -- word by word, row by row
   all_words : (i : Image) (rs : List Row) → All (SoundRow i) rs
-      → sum (kept rs) 0 65536 ≡ sum (λ k. wordsMatched l b (get_or rs k no_row)) 0 (length rs)
+      → sum (kept rs) 0 65536 ≡ sum (λ k. words_matched l b (get_or rs k no_row)) 0 (length rs)
   all_words i [] a =
-      sum-zero (kept []) 0 65536 (λ w m k. ap (λ (xs : List Row). length xs) (filter_none (isCandidate l w b)))
-      ∙ sym (sum-none (λ k. wordsMatched l b (get_or [] k no_row)) 0)
+      sum-zero (kept []) 0 65536 (λ w m k. ap (λ (xs : List Row). length xs) (filter_none (is_candidate l w b)))
+      ∙ sym (sum-none (λ k. words_matched l b (get_or [] k no_row)) 0)
   all_words i (r ∷ rs) a =
-      sum-add (λ w. isCandidate l w b r) (kept (r ∷ rs)) (kept rs) (kept_more r rs) 0 65536
+      sum-add (λ w. is_candidate l w b r) (kept (r ∷ rs)) (kept rs) (kept_more r rs) 0 65536
       ∙ ap₂ ◌+◌ (row_words {i = i} r a.0) (all_words i rs a.1)
-      ∙ sym (sum-suc (λ k. wordsMatched l b (get_or (r ∷ rs) k no_row)) 0 (length rs)
-      ∙ ap (λ (x : ℕ). wordsMatched l b r + x) (sum-shift (λ k. wordsMatched l b (get_or (r ∷ rs) k no_row)) 0 (length rs)))
+      ∙ sym (sum-suc (λ k. words_matched l b (get_or (r ∷ rs) k no_row)) 0 (length rs)
+      ∙ ap (λ (x : ℕ). words_matched l b r + x) (sum-shift (λ k. words_matched l b (get_or (r ∷ rs) k no_row)) 0 (length rs)))
 
 module _ (i : Image) (S : SoundImage i) where
   pub sound-rows : All (SoundRow i) i.rows
   sound-rows = all-places (SoundRow i) no_row i.rows S.each
 
-  words_are : (l b : ℕ) → sum (λ w. hits i l w b) 0 65536 ≡ covered i l b
-  unfolding covered
+  words_are : (l b : ℕ) → sum (λ w. hits i l w b) 0 65536 ≡ covered_count i l b
+  unfolding covered_count
   words_are l b = all_words l b i i.rows sound-rows
 
   module _ (l : ℕ) where
     -- ---- where every word and bit match one row of label l
     module _ (one : (w b : ℕ) → w < 65536 → b < 2 → hits i l w b ≡ 1) where
       -- no two of its rows can match together
-      pub no-pair : (j k : ℕ) → j < length i.rows → k < length i.rows → (j ≡ k → ⊥) → (nthRow i j).from ≡ l → (nthRow i k).from ≡ l
-          → together (nthRow i j) (nthRow i k) ≡ false
-      no-pair j k hj hk n p q = go (together (nthRow i j) (nthRow i k)) refl
+      pub no-pair : (j k : ℕ) → j < length i.rows → k < length i.rows → (j ≡ k → ⊥) → (nth_row i j).from ≡ l → (nth_row i k).from ≡ l
+          → is_together (nth_row i j) (nth_row i k) ≡ false
+      no-pair j k hj hk n p q = go (is_together (nth_row i j) (nth_row i k)) refl
         where
           r : Row
-          r = nthRow i j
+          r = nth_row i j
 
           s : Row
-          s = nthRow i k
+          s = nth_row i k
 
-          go : (t : Bool) → together (nthRow i j) (nthRow i k) ≡ t → together (nthRow i j) (nthRow i k) ≡ false
+          go : (t : Bool) → is_together (nth_row i j) (nth_row i k) ≡ t → is_together (nth_row i j) (nth_row i k) ≡ false
           go false e = e
           go true e =
               let C : Common r s = together-common r s (S.each j hj) (S.each k hk) e in
               let b : ℕ = pick C.bit 1 0 in
               let few : hits i l C.word b ≡ 1 = one C.word b C.low (bit-low C.bit) in
-              absurd (n (one_passes (isCandidate l C.word b) no_row i.rows (omega arith) j k hj hk
-              (and-true (eqb r.from l) (matches C.word b r) (eq-eqb r.from l p) C.first)
-              (and-true (eqb s.from l) (matches C.word b s) (eq-eqb s.from l q) C.second)))
+              absurd (n (one_passes (is_candidate l C.word b) no_row i.rows (omega arith) j k hj hk
+              (and-true (eqb r.from l) (is_match C.word b r) (eq-eqb r.from l p) C.first)
+              (and-true (eqb s.from l) (is_match C.word b s) (eq-eqb s.from l q) C.second)))
 
-      pub full : (b : ℕ) → b < 2 → covered i l b ≡ 65536
+      pub full : (b : ℕ) → b < 2 → covered_count i l b ≡ 65536
       full b h = sym (words_are l b) ∙ sum_ones (λ w. hits i l w b) 0 65536 (λ w a k. one w b (omega arith) h)
 
     -- ---- where no two rows of label l can match together
-    module _ (apart : (j k : ℕ) → j < length i.rows → k < j → (nthRow i j).from ≡ l → (nthRow i k).from ≡ l
-        → together (nthRow i j) (nthRow i k) ≡ false) where
+    module _ (apart : (j k : ℕ) → j < length i.rows → k < j → (nth_row i j).from ≡ l → (nth_row i k).from ≡ l
+        → is_together (nth_row i j) (nth_row i k) ≡ false) where
       few-hits : (w b : ℕ) → hits i l w b ≤ 1
-      few-hits w b = few-pass (isCandidate l w b) no_row i.rows (λ j k hj hk p q.
-          let r : Row = nthRow i j in
-          let s : Row = nthRow i k in
-          no_both (together r s)
+      few-hits w b = few-pass (is_candidate l w b) no_row i.rows (λ j k hj hk p q.
+          let r : Row = nth_row i j in
+          let s : Row = nth_row i k in
+          no_both (is_together r s)
           (common-together r s w b (S.each j hj).small (S.each k (omega arith)).small
-          (and_r (eqb r.from l) (matches w b r) p) (and_r (eqb s.from l) (matches w b s) q))
-          (apart j k hj hk (eqb-true r.from l (and_l (eqb r.from l) (matches w b r) p))
-          (eqb-true s.from l (and_l (eqb s.from l) (matches w b s) q))))
+          (and_r (eqb r.from l) (is_match w b r) p) (and_r (eqb s.from l) (is_match w b s) q))
+          (apart j k hj hk (eqb-true r.from l (and_l (eqb r.from l) (is_match w b r) p))
+          (eqb-true s.from l (and_l (eqb s.from l) (is_match w b s) q))))
 
       -- and where their sizes sum up to all words
-      one_hit : (b : ℕ) → covered i l b ≡ 65536 → (w : ℕ) → w < 65536 → hits i l w b ≡ 1
+      one_hit : (b : ℕ) → covered_count i l b ≡ 65536 → (w : ℕ) → w < 65536 → hits i l w b ≡ 1
       one_hit b g w h = sum-full (λ w. hits i l w b) 0 65536 (λ w a k. few-hits w b) (words_are l b ∙ g) w (omega arith) (omega arith)
 
-      pub one-hits : covered i l 0 ≡ 65536 → covered i l 1 ≡ 65536 → (w b : ℕ) → w < 65536 → b < 2 → hits i l w b ≡ 1
+      pub one-hits : covered_count i l 0 ≡ 65536 → covered_count i l 1 ≡ 65536 → (w b : ℕ) → w < 65536 → b < 2 → hits i l w b ≡ 1
       one-hits g₀ g₁ w zero hw hb = one_hit 0 g₀ w hw
       one-hits g₀ g₁ w (suc zero) hw hb = one_hit 1 g₁ w hw
       one-hits g₀ g₁ w (suc (suc b)) hw hb = absurd (omega arith)
 
   -- ---- all labels
-  no-overlap : uneven i ≡ false → (j k : ℕ) → j < length i.rows → k < j → overlap (nthRow i k) (nthRow i j) ≡ false
-  no-overlap e j k hj hk = go (eqb (nthRow i k).from (nthRow i j).from) refl
+  no-overlap : is_uneven i ≡ false → (j k : ℕ) → j < length i.rows → k < j → is_overlap (nth_row i k) (nth_row i j) ≡ false
+  no-overlap e j k hj hk = go (eqb (nth_row i k).from (nth_row i j).from) refl
     where
       l : ℕ
-      l = (nthRow i j).from
+      l = (nth_row i j).from
 
-      go : (t : Bool) → eqb (nthRow i k).from (nthRow i j).from ≡ t → (t && together (nthRow i k) (nthRow i j)) ≡ false
+      go : (t : Bool) → eqb (nth_row i k).from (nth_row i j).from ≡ t → (t && is_together (nth_row i k) (nth_row i j)) ≡ false
       go false q = refl
       go true q = no-pair l (λ w b. even-low i e l w b (S.each j hj).low (S.each j hj).high) k j (omega arith) hj (λ z. omega arith)
-          (eqb-true (nthRow i k).from (nthRow i j).from q) refl
+          (eqb-true (nth_row i k).from (nth_row i j).from q) refl
 
-  no_gaps : uneven i ≡ false → (l : ℕ) → 2 ≤ l → l < length i.labels → gaps i l ≡ false
+  no_gaps : is_uneven i ≡ false → (l : ℕ) → 2 ≤ l → l < length i.labels → has_gap i l ≡ false
   no_gaps e l low high =
-      let full : (b : ℕ) → b < 2 → not (eqb (covered i l b) 65536) ≡ false =
-      λ b h. ap not (eq-eqb (covered i l b) 65536 (full l (λ w b. even-low i e l w b low high) b h)) in
-      or-none (not (eqb (covered i l 0) 65536)) (not (eqb (covered i l 1) 65536)) (full 0 (omega arith)) (full 1 (omega arith))
+      let full : (b : ℕ) → b < 2 → not (eqb (covered_count i l b) 65536) ≡ false =
+      λ b h. ap not (eq-eqb (covered_count i l b) 65536 (full l (λ w b. even-low i e l w b low high) b h)) in
+      or-none (not (eqb (covered_count i l 0) 65536)) (not (eqb (covered_count i l 1) 65536)) (full 0 (omega arith)) (full 1 (omega arith))
 
-  sizes-even : uneven i ≡ false → unevenBySizes i ≡ false
-  unfolding unevenBySizes overlaps
-  sizes-even e = or-none (overlaps i) (any (gaps i) 2 (length i.labels - 2))
-      (any_none (λ j. any (λ k. overlap (nthRow i k) (nthRow i j)) 0 j) 0 (length i.rows) (λ j hj.
-      any_none (λ k. overlap (nthRow i k) (nthRow i (0 + j))) 0 (0 + j) (λ k hk. no-overlap e (0 + j) (0 + k) (omega arith) (omega arith))))
-      (any_none (gaps i) 2 (length i.labels - 2) (λ l h. no_gaps e (2 + l) (omega arith) (omega arith)))
+  sizes-even : is_uneven i ≡ false → is_uneven_by_sizes i ≡ false
+  unfolding is_uneven_by_sizes has_overlap
+  sizes-even e = or-none (has_overlap i) (any (has_gap i) 2 (length i.labels - 2))
+      (any_none (λ j. any (λ k. is_overlap (nth_row i k) (nth_row i j)) 0 j) 0 (length i.rows) (λ j hj.
+      any_none (λ k. is_overlap (nth_row i k) (nth_row i (0 + j))) 0 (0 + j)
+      (λ k hk. no-overlap e (0 + j) (0 + k) (omega arith) (omega arith))))
+      (any_none (has_gap i) 2 (length i.labels - 2) (λ l h. no_gaps e (2 + l) (omega arith) (omega arith)))
 
-  even-sizes : unevenBySizes i ≡ false → uneven i ≡ false
-  unfolding unevenBySizes overlaps
+  even-sizes : is_uneven_by_sizes i ≡ false → is_uneven i ≡ false
+  unfolding is_uneven_by_sizes has_overlap
   even-sizes e = even-of i (λ l w b low high hw hb.
-      let x : Bool = overlaps i in
-      let y : Bool = any (gaps i) 2 (length i.labels - 2) in
-      let g : gaps i l ≡ false = any_false (gaps i) 2 (length i.labels - 2) (or_r x y e) l low (omega arith) in
-      let g₀ : Bool = eqb (covered i l 0) 65536 in
-      let g₁ : Bool = eqb (covered i l 1) 65536 in
+      let x : Bool = has_overlap i in
+      let y : Bool = any (has_gap i) 2 (length i.labels - 2) in
+      let g : has_gap i l ≡ false = any_false (has_gap i) 2 (length i.labels - 2) (or_r x y e) l low (omega arith) in
+      let g₀ : Bool = eqb (covered_count i l 0) 65536 in
+      let g₁ : Bool = eqb (covered_count i l 1) 65536 in
       one-hits l (λ j k hj hk p q.
-      let u : any (λ k. overlap (nthRow i k) (nthRow i j)) 0 j ≡ false =
-      any_false (λ j. any (λ k. overlap (nthRow i k) (nthRow i j)) 0 j) 0 (length i.rows) (or_l x y e) j (omega arith) (omega arith) in
-      let v : overlap (nthRow i k) (nthRow i j) ≡ false =
-      any_false (λ k. overlap (nthRow i k) (nthRow i j)) 0 j u k (omega arith) (omega arith) in
-      together-turned (nthRow i k) (nthRow i j) (sym (ap (λ (t : Bool). t && together (nthRow i k) (nthRow i j))
-      (eq-eqb (nthRow i k).from (nthRow i j).from (q ∙ sym p))) ∙ v))
-      (eqb-true (covered i l 0) 65536 (not-false g₀ (or_l (not g₀) (not g₁) g)))
-      (eqb-true (covered i l 1) 65536 (not-false g₁ (or_r (not g₀) (not g₁) g)))
+      let u : any (λ k. is_overlap (nth_row i k) (nth_row i j)) 0 j ≡ false =
+      any_false (λ j. any (λ k. is_overlap (nth_row i k) (nth_row i j)) 0 j) 0 (length i.rows) (or_l x y e) j (omega arith) (omega arith) in
+      let v : is_overlap (nth_row i k) (nth_row i j) ≡ false =
+      any_false (λ k. is_overlap (nth_row i k) (nth_row i j)) 0 j u k (omega arith) (omega arith) in
+      together-turned (nth_row i k) (nth_row i j) (sym (ap (λ (t : Bool). t && is_together (nth_row i k) (nth_row i j))
+      (eq-eqb (nth_row i k).from (nth_row i j).from (q ∙ sym p))) ∙ v))
+      (eqb-true (covered_count i l 0) 65536 (not-false g₀ (or_l (not g₀) (not g₁) g)))
+      (eqb-true (covered_count i l 1) 65536 (not-false g₁ (or_r (not g₀) (not g₁) g)))
       w b hw hb)
 
   -- 23 is decided by the sizes
-  pub sizes-decide : unevenBySizes i ≡ uneven i
-  sizes-decide = go (uneven i) refl (unevenBySizes i) refl
+  pub sizes-decide : is_uneven_by_sizes i ≡ is_uneven i
+  sizes-decide = go (is_uneven i) refl (is_uneven_by_sizes i) refl
     where
-      go : (x : Bool) → uneven i ≡ x → (y : Bool) → unevenBySizes i ≡ y → unevenBySizes i ≡ uneven i
+      go : (x : Bool) → is_uneven i ≡ x → (y : Bool) → is_uneven_by_sizes i ≡ y → is_uneven_by_sizes i ≡ is_uneven i
       go false e y f = sizes-even e ∙ sym e
       go true e true f = f ∙ sym e
-      go true e false f = no_both (uneven i) e (even-sizes f)
+      go true e false f = no_both (is_uneven i) e (even-sizes f)

@@ -6,7 +6,7 @@ use mathlib.Core.List.{List, [], ◌∷◌}
 use lib.Count.{ones, ones_in}
 use Rattle.words.specs.lists.Numbers.{any, sum}
 use Rattle.image.specs.Image.{Image, Label, Row, row}
-use Rattle.covering.specs.inner.Sizes.{overlaps, covered, unevenBySizes}
+use Rattle.covering.specs.inner.Sizes.{has_overlap, covered_count, is_uneven_by_sizes}
 
 abbrev operation : ℕ → Label
 operation m = record { kind = 0; called = 0; owner = 1; result = 0; mask = m }
@@ -22,31 +22,32 @@ given rs = record {
   rows = rs;
 }
 
-even : unevenBySizes (given (row 2 8 0 2 3 ∷ row 2 40 8 2 2 ∷ row 2 40 40 2 0 ∷ row 3 0 0 0 2 ∷ row 3 1 0 1 0 ∷ row 3 1 1 1 2 ∷ [])) ≡ false
-unfolding unevenBySizes overlaps covered any sum ones ones_in
+even : is_uneven_by_sizes (given (row 2 8 0 2 3 ∷ row 2 40 8 2 2 ∷ row 2 40 40 2 0 ∷ row 3 0 0 0 2 ∷ row 3 1 0 1 0 ∷ row 3 1 1 1 2 ∷ []))
+    ≡ false
+unfolding is_uneven_by_sizes has_overlap covered_count any sum ones ones_in
 even = refl
 
 -- a row is missing
-gap : unevenBySizes (given (row 2 8 0 2 3 ∷ row 2 40 8 2 2 ∷ row 3 0 0 2 2 ∷ [])) ≡ true
-unfolding unevenBySizes overlaps covered any sum ones ones_in
+gap : is_uneven_by_sizes (given (row 2 8 0 2 3 ∷ row 2 40 8 2 2 ∷ row 3 0 0 2 2 ∷ [])) ≡ true
+unfolding is_uneven_by_sizes has_overlap covered_count any sum ones ones_in
 gap = refl
 
 -- the sizes sum up, but word 0 matches two rows, and word 3 none
-twice : unevenBySizes (given (row 2 1 0 2 3 ∷ row 2 2 0 2 2 ∷ row 3 0 0 2 2 ∷ [])) ≡ true
-unfolding unevenBySizes overlaps covered any sum ones ones_in
+twice : is_uneven_by_sizes (given (row 2 1 0 2 3 ∷ row 2 2 0 2 2 ∷ row 3 0 0 2 2 ∷ [])) ≡ true
+unfolding is_uneven_by_sizes has_overlap covered_count any sum ones ones_in
 twice = refl
 
 -- bit 1 matches no row of label 3
-bit-left : unevenBySizes (given (row 2 0 0 2 3 ∷ row 3 0 0 0 2 ∷ [])) ≡ true
-unfolding unevenBySizes overlaps covered any sum ones ones_in
+bit-left : is_uneven_by_sizes (given (row 2 0 0 2 3 ∷ row 3 0 0 0 2 ∷ [])) ≡ true
+unfolding is_uneven_by_sizes has_overlap covered_count any sum ones ones_in
 bit-left = refl
 
 -- the last label has no row
-last-left : unevenBySizes (given (row 2 0 0 2 3 ∷ [])) ≡ true
-unfolding unevenBySizes overlaps covered any sum ones ones_in
+last-left : is_uneven_by_sizes (given (row 2 0 0 2 3 ∷ [])) ≡ true
+unfolding is_uneven_by_sizes has_overlap covered_count any sum ones ones_in
 last-left = refl
 
 -- rows of different labels do not count as two
-apart : unevenBySizes (given (row 2 0 0 2 3 ∷ row 3 0 0 2 2 ∷ [])) ≡ false
-unfolding unevenBySizes overlaps covered any sum ones ones_in
+apart : is_uneven_by_sizes (given (row 2 0 0 2 3 ∷ row 3 0 0 2 2 ∷ [])) ≡ false
+unfolding is_uneven_by_sizes has_overlap covered_count any sum ones ones_in
 apart = refl

@@ -16,83 +16,85 @@ use Rattle.words.proofs.lists.Filters.{filter_none, one_passes}
 use Rattle.words.proofs.lists.Joins.{all-places}
 use Rattle.image.specs.Image.{Image, Row, no_row}
 use Rattle.image.specs.inner.Sound.{SoundImage}
-use Rattle.rows.specs.Rows.{isCandidate, row, noChoice, better, bestRow, found, leads}
+use Rattle.rows.specs.Rows.{is_candidate, row, no_choice, better_choice, best_row, found, lead_of}
 use Rattle.rows.proofs.ChoiceLaws.{best-nothing, best-own, best-other}
-use Rattle.covering.specs.Matched.{hits, unevenWord, unevenLabel, uneven}
+use Rattle.covering.specs.Matched.{hits, is_uneven_word, is_uneven_label, is_uneven}
 use Rattle.covering.proofs.Together.{matches-low}
 
 -- ---- the only row that matches
 module _ (l w b : ℕ) where
-  none-own : (rs : List Row) → filter (isCandidate l w b) rs ≡ [] → (k : ℕ) → bestRow l w b k rs ≡ noChoice
+  none-own : (rs : List Row) → filter (is_candidate l w b) rs ≡ [] → (k : ℕ) → best_row l w b k rs ≡ no_choice
   none-own [] e k = best-nothing l w b k
-  none-own (r ∷ rs) e k = go (isCandidate l w b r) refl (none-own rs)
+  none-own (r ∷ rs) e k = go (is_candidate l w b r) refl (none-own rs)
     where
-      go : (t : Bool) → isCandidate l w b r ≡ t → (filter (isCandidate l w b) rs ≡ [] → (k : ℕ) → bestRow l w b k rs ≡ noChoice)
-          → bestRow l w b k (r ∷ rs) ≡ noChoice
+      go : (t : Bool) → is_candidate l w b r ≡ t → (filter (is_candidate l w b) rs ≡ [] → (k : ℕ) → best_row l w b k rs ≡ no_choice)
+          → best_row l w b k (r ∷ rs) ≡ no_choice
       go true q ih =
-          let p : r ∷ filter (isCandidate l w b) rs ≡ [] = sym (filter-yes (isCandidate l w b) r rs q) ∙ e in
+          let p : r ∷ filter (is_candidate l w b) rs ≡ [] = sym (filter-yes (is_candidate l w b) r rs q) ∙ e in
           absurd (let z : ◌≡◌ {A = ℕ} 1 0 = cc in omega arith)
-      go false q ih = best-other l w b k r rs q ∙ ih (sym (filter-no (isCandidate l w b) r rs q) ∙ e) (suc k)
+      go false q ih = best-other l w b k r rs q ∙ ih (sym (filter-no (is_candidate l w b) r rs q) ∙ e) (suc k)
 
   -- it is the one that a label takes; nothing else is used of how a label chooses among its rows
-  pub only_row : (s : Row) (k : ℕ) (rs : List Row) → filter (isCandidate l w b) rs ≡ s ∷ [] → leads (bestRow l w b k rs) ≡ found s.next
-  only_row s k [] e = absurd (let q : [] ≡ s ∷ [] = sym (filter_none (isCandidate l w b))
+  pub only_row : (s : Row) (k : ℕ) (rs : List Row) → filter (is_candidate l w b) rs ≡ s ∷ [] → lead_of (best_row l w b k rs) ≡ found s.next
+  only_row s k [] e = absurd (let q : [] ≡ s ∷ [] = sym (filter_none (is_candidate l w b))
       ∙ e in let z : ◌≡◌ {A = ℕ} 0 1 = cc in omega arith)
-  only_row s k (r ∷ rs) e = go (isCandidate l w b r) refl (only_row s (suc k) rs)
+  only_row s k (r ∷ rs) e = go (is_candidate l w b r) refl (only_row s (suc k) rs)
     where
-      go : (t : Bool) → isCandidate l w b r ≡ t
-          → (filter (isCandidate l w b) rs ≡ s ∷ [] → leads (bestRow l w b (suc k) rs) ≡ found s.next)
-          → leads (bestRow l w b k (r ∷ rs)) ≡ found s.next
+      go : (t : Bool) → is_candidate l w b r ≡ t
+          → (filter (is_candidate l w b) rs ≡ s ∷ [] → lead_of (best_row l w b (suc k) rs) ≡ found s.next)
+          → lead_of (best_row l w b k (r ∷ rs)) ≡ found s.next
       go true q ih =
-          let p : r ∷ filter (isCandidate l w b) rs ≡ s ∷ [] = sym (filter-yes (isCandidate l w b) r rs q) ∙ e in
+          let p : r ∷ filter (is_candidate l w b) rs ≡ s ∷ [] = sym (filter-yes (is_candidate l w b) r rs q) ∙ e in
           let same : r ≡ s = cc in
-          let rest : filter (isCandidate l w b) rs ≡ [] = cc in
-          ap leads (best-own l w b k r rs q ∙ ap (better (row k r)) (none-own rs rest (suc k))) ∙ ap (λ (x : Row). found x.next) same
-      go false q ih = ap leads (best-other l w b k r rs q) ∙ ih (sym (filter-no (isCandidate l w b) r rs q) ∙ e)
+          let rest : filter (is_candidate l w b) rs ≡ [] = cc in
+          ap lead_of (best-own l w b k r rs q ∙ ap (better_choice (row k r)) (none-own rs rest (suc k)))
+          ∙ ap (λ (x : Row). found x.next) same
+      go false q ih = ap lead_of (best-other l w b k r rs q) ∙ ih (sym (filter-no (is_candidate l w b) r rs q) ∙ e)
 
   -- by its number
   pub record Hit (s : Row) (rs : List Row) : Type 0 where
     pub place : ℕ
     pub inside : place < length rs
     pub is : get_or rs place no_row ≡ s
-    pub holding : isCandidate l w b (get_or rs place no_row) ≡ true
+    pub holding : is_candidate l w b (get_or rs place no_row) ≡ true
 
-  pub the-place : (s : Row) (rs : List Row) → filter (isCandidate l w b) rs ≡ s ∷ [] → Hit s rs
-  the-place s [] e = absurd (let q : [] ≡ s ∷ [] = sym (filter_none (isCandidate l w b)) ∙ e in let z : ◌≡◌ {A = ℕ} 0 1 = cc in omega arith)
-  the-place s (r ∷ rs) e = go (isCandidate l w b r) refl (the-place s rs)
+  pub the-place : (s : Row) (rs : List Row) → filter (is_candidate l w b) rs ≡ s ∷ [] → Hit s rs
+  the-place s [] e =
+      absurd (let q : [] ≡ s ∷ [] = sym (filter_none (is_candidate l w b)) ∙ e in let z : ◌≡◌ {A = ℕ} 0 1 = cc in omega arith)
+  the-place s (r ∷ rs) e = go (is_candidate l w b r) refl (the-place s rs)
     where
-      go : (t : Bool) → isCandidate l w b r ≡ t → (filter (isCandidate l w b) rs ≡ s ∷ [] → Hit s rs) → Hit s (r ∷ rs)
+      go : (t : Bool) → is_candidate l w b r ≡ t → (filter (is_candidate l w b) rs ≡ s ∷ [] → Hit s rs) → Hit s (r ∷ rs)
       go true q ih =
-          let p : r ∷ filter (isCandidate l w b) rs ≡ s ∷ [] = sym (filter-yes (isCandidate l w b) r rs q) ∙ e in
+          let p : r ∷ filter (is_candidate l w b) rs ≡ s ∷ [] = sym (filter-yes (is_candidate l w b) r rs q) ∙ e in
           record { place = 0; inside = omega arith; is = cc; holding = q }
       go false q ih =
-          let x : Hit s rs = ih (sym (filter-no (isCandidate l w b) r rs q) ∙ e) in
+          let x : Hit s rs = ih (sym (filter-no (is_candidate l w b) r rs q) ∙ e) in
           record { place = suc x.place; inside = omega (arith, x.inside); is = x.is; holding = x.holding }
 
   -- a row that matches is the only one
-  pub hit-is : (s : Row) (rs : List Row) → filter (isCandidate l w b) rs ≡ s ∷ [] → (j : ℕ)
-      → j < length rs → isCandidate l w b (get_or rs j no_row) ≡ true
+  pub hit-is : (s : Row) (rs : List Row) → filter (is_candidate l w b) rs ≡ s ∷ [] → (j : ℕ)
+      → j < length rs → is_candidate l w b (get_or rs j no_row) ≡ true
       → get_or rs j no_row ≡ s
   hit-is s rs e j h t =
       let x : Hit s rs = the-place s rs e in
-      let few : length (filter (isCandidate l w b) rs) ≤ 1 = omega (arith, ap (λ (xs : List Row). length xs) e) in
-      ap (λ (k : ℕ). get_or rs k no_row) (one_passes (isCandidate l w b) no_row rs few j x.place h x.inside t x.holding) ∙ x.is
+      let few : length (filter (is_candidate l w b) rs) ≤ 1 = omega (arith, ap (λ (xs : List Row). length xs) e) in
+      ap (λ (k : ℕ). get_or rs k no_row) (one_passes (is_candidate l w b) no_row rs few j x.place h x.inside t x.holding) ∙ x.is
 
 -- words above 16 bits are as their low 16 bits
 module _ (l w b : ℕ) where
-  low_alike : (r : Row) → r.care < 65536 → isCandidate l w b r ≡ isCandidate l (w % 65536) b r
+  low_alike : (r : Row) → r.care < 65536 → is_candidate l w b r ≡ is_candidate l (w % 65536) b r
   low_alike r h = ap (λ (t : Bool). eqb r.from l && t) (matches-low w b r h)
 
-  pub low-hits : (rs : List Row) → All (λ r. r.care < 65536) rs → filter (isCandidate l w b) rs ≡ filter (isCandidate l (w % 65536) b) rs
-  low-hits [] a = filter_none (isCandidate l w b) ∙ sym (filter_none (isCandidate l (w % 65536) b))
-  low-hits (r ∷ rs) a = go (isCandidate l w b r) refl (low-hits rs a.1)
+  pub low-hits : (rs : List Row) → All (λ r. r.care < 65536) rs → filter (is_candidate l w b) rs ≡ filter (is_candidate l (w % 65536) b) rs
+  low-hits [] a = filter_none (is_candidate l w b) ∙ sym (filter_none (is_candidate l (w % 65536) b))
+  low-hits (r ∷ rs) a = go (is_candidate l w b r) refl (low-hits rs a.1)
     where
-      go : (t : Bool) → isCandidate l w b r ≡ t → filter (isCandidate l w b) rs ≡ filter (isCandidate l (w % 65536) b) rs
-          → filter (isCandidate l w b) (r ∷ rs) ≡ filter (isCandidate l (w % 65536) b) (r ∷ rs)
-      go true q ih = filter-yes (isCandidate l w b) r rs q ∙ ap (λ (xs : List Row). r ∷ xs) ih
-          ∙ sym (filter-yes (isCandidate l (w % 65536) b) r rs (sym (low_alike r a.0) ∙ q))
-      go false q ih = filter-no (isCandidate l w b) r rs q ∙ ih
-          ∙ sym (filter-no (isCandidate l (w % 65536) b) r rs (sym (low_alike r a.0) ∙ q))
+      go : (t : Bool) → is_candidate l w b r ≡ t → filter (is_candidate l w b) rs ≡ filter (is_candidate l (w % 65536) b) rs
+          → filter (is_candidate l w b) (r ∷ rs) ≡ filter (is_candidate l (w % 65536) b) (r ∷ rs)
+      go true q ih = filter-yes (is_candidate l w b) r rs q ∙ ap (λ (xs : List Row). r ∷ xs) ih
+          ∙ sym (filter-yes (is_candidate l (w % 65536) b) r rs (sym (low_alike r a.0) ∙ q))
+      go false q ih = filter-no (is_candidate l w b) r rs q ∙ ih
+          ∙ sym (filter-no (is_candidate l (w % 65536) b) r rs (sym (low_alike r a.0) ∙ q))
 
 pub all-cares : (i : Image) → SoundImage i → All (λ r. r.care < 65536) i.rows
 all-cares i S = all-places (λ r. r.care < 65536) no_row i.rows (λ k h. (S.each k h).cares)
@@ -102,38 +104,38 @@ abbrev pub OneRow : Image → Type 0
 OneRow i = (l w : ℕ) (b : Bool) → 2 ≤ l → l < length i.labels → hits i l w (pick b 1 0) ≡ 1
 
 module _ (i : Image) where
-  pub label-low : (l : ℕ) → unevenLabel i l ≡ false → (w b : ℕ) → w < 65536 → b < 2 → hits i l w b ≡ 1
+  pub label-low : (l : ℕ) → is_uneven_label i l ≡ false → (w b : ℕ) → w < 65536 → b < 2 → hits i l w b ≡ 1
   label-low l e w b hw hb =
-      let y : unevenWord i l w ≡ false = any_false (unevenWord i l) 0 65536 e w (omega arith) (omega arith) in
+      let y : is_uneven_word i l w ≡ false = any_false (is_uneven_word i l) 0 65536 e w (omega arith) (omega arith) in
       eqb-true (hits i l w b) 1 (not-false (eqb (hits i l w b) 1)
       (any_false (λ b. not (eqb (hits i l w b) 1)) 0 2 y b (omega arith) (omega arith)))
 
-  pub label_of : (l : ℕ) → ((w b : ℕ) → w < 65536 → b < 2 → hits i l w b ≡ 1) → unevenLabel i l ≡ false
+  pub label_of : (l : ℕ) → ((w b : ℕ) → w < 65536 → b < 2 → hits i l w b ≡ 1) → is_uneven_label i l ≡ false
   label_of l h =
-      any_none (unevenWord i l) 0 65536 (λ w hw.
+      any_none (is_uneven_word i l) 0 65536 (λ w hw.
       any_none (λ b. not (eqb (hits i l (0 + w) b) 1)) 0 2 (λ b hb.
       ap not (eq-eqb (hits i l (0 + w) (0 + b)) 1 (h (0 + w) (0 + b) (omega arith) (omega arith)))))
 
-  pub even-low : uneven i ≡ false → (l w b : ℕ) → 2 ≤ l → l < length i.labels → w < 65536 → b < 2 → hits i l w b ≡ 1
-  unfolding uneven
-  even-low e l w b low high = label-low l (any_false (unevenLabel i) 2 (length i.labels - 2) e l low (omega arith)) w b
+  pub even-low : is_uneven i ≡ false → (l w b : ℕ) → 2 ≤ l → l < length i.labels → w < 65536 → b < 2 → hits i l w b ≡ 1
+  unfolding is_uneven
+  even-low e l w b low high = label-low l (any_false (is_uneven_label i) 2 (length i.labels - 2) e l low (omega arith)) w b
 
-  pub even-of : ((l w b : ℕ) → 2 ≤ l → l < length i.labels → w < 65536 → b < 2 → hits i l w b ≡ 1) → uneven i ≡ false
-  unfolding uneven
-  even-of h = any_none (unevenLabel i) 2 (length i.labels - 2) (λ l hl.
+  pub even-of : ((l w b : ℕ) → 2 ≤ l → l < length i.labels → w < 65536 → b < 2 → hits i l w b ≡ 1) → is_uneven i ≡ false
+  unfolding is_uneven
+  even-of h = any_none (is_uneven_label i) 2 (length i.labels - 2) (λ l hl.
       label_of (2 + l) (λ w b. h (2 + l) w b (omega arith) (omega arith)))
 
   -- the row itself
   pub the_row : OneRow i → (l w : ℕ) (b : Bool) → 2 ≤ l → l < length i.labels
-      → (s : Row) × (filter (isCandidate l w (pick b 1 0)) i.rows ≡ s ∷ [])
-  the_row one l w b low high = only (filter (isCandidate l w (pick b 1 0)) i.rows) (one l w b low high)
+      → (s : Row) × (filter (is_candidate l w (pick b 1 0)) i.rows ≡ s ∷ [])
+  the_row one l w b low high = only (filter (is_candidate l w (pick b 1 0)) i.rows) (one l w b low high)
     where
       only : (xs : List Row) → length xs ≡ 1 → (s : Row) × (xs ≡ s ∷ [])
       only [] e = absurd (omega arith)
       only (x ∷ []) e = (x, refl)
       only (x ∷ y ∷ ys) e = absurd (omega arith)
 
-  pub one-row : SoundImage i → uneven i ≡ false → OneRow i
+  pub one-row : SoundImage i → is_uneven i ≡ false → OneRow i
   one-row S e l w b low high =
       ap (λ (xs : List Row). length xs) (low-hits l w (pick b 1 0) i.rows (all-cares i S))
       ∙ even-low e l (w % 65536) (pick b 1 0) low high (omega arith) (bit-low b)

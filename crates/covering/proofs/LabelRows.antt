@@ -14,31 +14,32 @@ use Rattle.words.proofs.lists.Tests.{no_both, or_l, or_r, or-none, not-false}
 use Rattle.words.proofs.lists.Searches.{any_false, any_none}
 use Rattle.words.proofs.lists.Sums.{sum_same, sum-zero, sum-split, sum-move}
 use Rattle.text.specs.frames.Frame.{size, field}
-use Rattle.image.specs.Image.{Image, Row, nthRow}
-use Rattle.image.specs.Decode.{rows_from, decoded, rowInFrame}
+use Rattle.image.specs.Image.{Image, Row, nth_row}
+use Rattle.image.specs.Decode.{rows_from, decoded_image, row_in_frame}
 use Rattle.image.proofs.Accepted.{row_read, rows-count}
 use Rattle.image.proofs.Rising.{row_at, from-read}
-use Rattle.covering.specs.Matched.{hits, unevenLabel, together}
-use Rattle.covering.specs.inner.Sizes.{wordsMatched, covered}
-use Rattle.covering.specs.inner.CoveringContracts.{SoundTable, togetherSome, togetherAny, wordsWith, words_in, unevenRows}
+use Rattle.covering.specs.Matched.{hits, is_uneven_label, is_together}
+use Rattle.covering.specs.inner.Sizes.{words_matched, covered_count}
+use Rattle.covering.specs.inner.CoveringContracts.{SoundTable, is_together_with_some, has_any_together, words_with, words_in}
+use Rattle.covering.specs.inner.CoveringContracts.{has_uneven_rows}
 use Rattle.covering.proofs.Hits.{label-low, label_of}
 use Rattle.covering.proofs.Covered.{no-pair, full, one-hits}
 
-words-own : (l b : ℕ) (r : Row) → r.from ≡ l → wordsMatched l b r ≡ wordsWith b r
+words-own : (l b : ℕ) (r : Row) → r.from ≡ l → words_matched l b r ≡ words_with b r
 words-own l b r e = ap (λ (t : Bool). pick (t && (eqb r.bit 2 || eqb r.bit b)) (2 ^ (16 - ones r.care)) 0) (eq-eqb r.from l e)
 
-words-other : (l b : ℕ) (r : Row) → (r.from ≡ l → ⊥) → wordsMatched l b r ≡ 0
+words-other : (l b : ℕ) (r : Row) → (r.from ≡ l → ⊥) → words_matched l b r ≡ 0
 words-other l b r n = ap (λ (t : Bool). pick (t && (eqb r.bit 2 || eqb r.bit b)) (2 ^ (16 - ones r.care)) 0) (ne_eqb r.from l n)
 
 module _ (b : List ℕ) (T : SoundTable b) where
   abbrev i : Image
-  i = decoded b
+  i = decoded_image b
 
   abbrev a : ℕ
   a = rows_from b
 
   -- ---- rows by their frames
-  row_is : (k : ℕ) → k < length i.rows → rowInFrame b (a + k) ≡ nthRow i k
+  row_is : (k : ℕ) → k < length i.rows → row_in_frame b (a + k) ≡ nth_row i k
   row_is k h = sym (row_read b k (omega (arith, rows-count b)))
 
   inside : (k : ℕ) → k < length i.rows → a + k < size b
@@ -53,65 +54,67 @@ module _ (b : List ℕ) (T : SoundTable b) where
   -- ---- n frames from first on, which hold all rows of label l and no other
   module _ (l first n : ℕ) (low : a ≤ first) (high : first + n ≤ size b) (own : (f : ℕ) → first ≤ f → f < first + n → field b f 1 ≡ l)
       (only : (f : ℕ) → a ≤ f → f < size b → field b f 1 ≡ l → (first ≤ f) × (f < first + n)) where
-    words_are : (bit : ℕ) → covered i l bit ≡ words_in b bit first n
-    unfolding covered
+    words_are : (bit : ℕ) → covered_count i l bit ≡ words_in b bit first n
+    unfolding covered_count
     words_are bit =
-        let g : ℕ → ℕ = λ f. wordsMatched l bit (rowInFrame b f) in
+        let g : ℕ → ℕ = λ f. words_matched l bit (row_in_frame b f) in
         let m : ℕ = first - a in
         let rest : ℕ = size b - (first + n) in
         let other : (f : ℕ) → a ≤ f → f < size b → (first ≤ f → f < first + n → ⊥) → g f ≡ 0 =
-        λ f x y z. words-other l bit (rowInFrame b f) (λ e. let w = only f x y e in z w.0 w.1) in
-        let moved : sum g (a + 0) (length i.rows) ≡ covered i l bit =
-        sum-move g (λ k. wordsMatched l bit (nthRow i k)) a 0 (length i.rows)
-        (λ k x y. ap (wordsMatched l bit) (row_is k (omega arith))) in
+        λ f x y z. words-other l bit (row_in_frame b f) (λ e. let w = only f x y e in z w.0 w.1) in
+        let moved : sum g (a + 0) (length i.rows) ≡ covered_count i l bit =
+        sum-move g (λ k. words_matched l bit (nth_row i k)) a 0 (length i.rows)
+        (λ k x y. ap (words_matched l bit) (row_is k (omega arith))) in
         let parts : sum g (a + 0) (length i.rows) ≡ sum g a (m + (n + rest)) =
         ap₂ (λ (x y : ℕ). sum g x y) (omega arith) (omega (arith, rows-count b, T.all)) in
         let before : sum g a m ≡ 0 = sum-zero g a m (λ f x y. other f x (omega arith) (λ u v. omega arith)) in
         let here : sum g first n ≡ words_in b bit first n =
-        sum_same g (λ f. wordsWith bit (rowInFrame b f)) first n (λ f x y. words-own l bit (rowInFrame b f) (own f x y)) in
+        sum_same g (λ f. words_with bit (row_in_frame b f)) first n (λ f x y. words-own l bit (row_in_frame b f) (own f x y)) in
         let after : sum g (first + n) rest ≡ 0 =
         sum-zero g (first + n) rest (λ f x y. other f (omega arith) (omega arith) (λ u v. omega arith)) in
         let at : sum g (a + m) (n + rest) ≡ sum g first (n + rest) = ap (λ (x : ℕ). sum g x (n + rest)) (omega arith) in
         omega (arith, moved, parts, before, here, after, at, sum-split g a m (n + rest), sum-split g first n rest)
 
-    even-rows : ((w bit : ℕ) → w < 65536 → bit < 2 → hits i l w bit ≡ 1) → unevenRows b first n ≡ false
+    even-rows : ((w bit : ℕ) → w < 65536 → bit < 2 → hits i l w bit ≡ 1) → has_uneven_rows b first n ≡ false
     even-rows one =
         let all : (bit : ℕ) → bit < 2 → not (eqb (words_in b bit first n) 65536) ≡ false =
         λ bit h. ap not (eq-eqb (words_in b bit first n) 65536 (sym (words_are bit) ∙ full i T.image l one bit h)) in
-        or-none (not (eqb (words_in b 0 first n) 65536) || not (eqb (words_in b 1 first n) 65536)) (togetherAny b first n)
+        or-none (not (eqb (words_in b 0 first n) 65536) || not (eqb (words_in b 1 first n) 65536)) (has_any_together b first n)
         (or-none (not (eqb (words_in b 0 first n) 65536)) (not (eqb (words_in b 1 first n) 65536))
         (all 0 (omega arith)) (all 1 (omega arith)))
-        (any_none (λ f. togetherSome b (rowInFrame b f) first (f - first)) first n (λ j hj.
-        any_none (λ g. together (rowInFrame b (first + j)) (rowInFrame b g)) first (first + j - first) (λ k hk.
+        (any_none (λ f. is_together_with_some b (row_in_frame b f) first (f - first)) first n (λ j hj.
+        any_none (λ g. is_together (row_in_frame b (first + j)) (row_in_frame b g)) first (first + j - first) (λ k hk.
         let f : ℕ = first + j in
         let g : ℕ = first + k in
-        ap₂ together (sym (row_at b T.all f (omega arith) (omega arith))) (sym (row_at b T.all g (omega arith) (omega arith)))
+        ap₂ is_together (sym (row_at b T.all f (omega arith) (omega arith))) (sym (row_at b T.all g (omega arith) (omega arith)))
         ∙ no-pair i T.image l one (f - a) (g - a) (number f (omega arith) (omega arith))
         (number g (omega arith) (omega arith)) (λ z. omega arith)
         (from-read b T.all f (omega arith) (omega arith) ∙ own f (omega arith) (omega arith))
         (from-read b T.all g (omega arith) (omega arith) ∙ own g (omega arith) (omega arith)))))
 
-    one_of : unevenRows b first n ≡ false → (w bit : ℕ) → w < 65536 → bit < 2 → hits i l w bit ≡ 1
+    one_of : has_uneven_rows b first n ≡ false → (w bit : ℕ) → w < 65536 → bit < 2 → hits i l w bit ≡ 1
     one_of e =
         let x : Bool = eqb (words_in b 0 first n) 65536 in
         let y : Bool = eqb (words_in b 1 first n) 65536 in
-        let sums : (not x || not y) ≡ false = or_l (not x || not y) (togetherAny b first n) e in
+        let sums : (not x || not y) ≡ false = or_l (not x || not y) (has_any_together b first n) e in
         one-hits i T.image l (λ j k hj hk p q.
         let hk₂ : k < length i.rows = omega arith in
         let u = only (a + j) (omega arith) (inside j hj) (ap (λ (r : Row). r.from) (row_is j hj) ∙ p) in
         let v = only (a + k) (omega arith) (inside k hk₂) (ap (λ (r : Row). r.from) (row_is k hk₂) ∙ q) in
-        ap₂ together (sym (row_is j hj)) (sym (row_is k hk₂))
-        ∙ any_false (λ g. together (rowInFrame b (a + j)) (rowInFrame b g)) first (a + j - first)
-        (any_false (λ f. togetherSome b (rowInFrame b f) first (f - first)) first n (or_r (not x || not y) (togetherAny b first n) e)
+        ap₂ is_together (sym (row_is j hj)) (sym (row_is k hk₂))
+        ∙ any_false (λ g. is_together (row_in_frame b (a + j)) (row_in_frame b g)) first (a + j - first)
+        (any_false (λ f. is_together_with_some b (row_in_frame b f) first (f - first)) first n
+        (or_r (not x || not y) (has_any_together b first n) e)
         (a + j) u.0 u.1)
         (a + k) v.0 (omega (arith, u.0)))
         (words_are 0 ∙ eqb-true (words_in b 0 first n) 65536 (not-false x (or_l (not x) (not y) sums)))
         (words_are 1 ∙ eqb-true (words_in b 1 first n) 65536 (not-false y (or_r (not x) (not y) sums)))
 
-    pub rows-decide : unevenRows b first n ≡ unevenLabel i l
-    rows-decide = go (unevenRows b first n) refl (unevenLabel i l) refl
+    pub rows-decide : has_uneven_rows b first n ≡ is_uneven_label i l
+    rows-decide = go (has_uneven_rows b first n) refl (is_uneven_label i l) refl
       where
-        go : (x : Bool) → unevenRows b first n ≡ x → (y : Bool) → unevenLabel i l ≡ y → unevenRows b first n ≡ unevenLabel i l
+        go : (x : Bool) → has_uneven_rows b first n ≡ x → (y : Bool) → is_uneven_label i l ≡ y
+            → has_uneven_rows b first n ≡ is_uneven_label i l
         go x e false h = even-rows (label-low i l h) ∙ sym h
         go true e true h = e ∙ sym h
-        go false e true h = no_both (unevenLabel i l) h (label_of i l (one_of e))
+        go false e true h = no_both (is_uneven_label i l) h (label_of i l (one_of e))

@@ -13,17 +13,17 @@ use Rattle.words.specs.lists.Numbers.{any, lowest}
 use Rattle.words.proofs.lists.Tests.{no_both, not-false, not-true, split}
 use Rattle.words.proofs.lists.Searches.{any_here, any-on, any-over, lowest-hit, lowest-above, lowest-most, lowest-before}
 use Rattle.text.specs.frames.Frame.{size, field}
-use Rattle.image.specs.Decode.{lastLabel, rowCount, rows_from, decoded}
+use Rattle.image.specs.Decode.{last_label, row_count, rows_from, decoded_image}
 use Rattle.image.proofs.Accepted.{labels-count, rows-count}
 use Rattle.image.proofs.Rising.{rises-on}
-use Rattle.covering.specs.Matched.{unevenLabel, uneven}
-use Rattle.covering.specs.inner.CoveringContracts.{SoundTable, unevenRows, isOther}
+use Rattle.covering.specs.Matched.{is_uneven_label, is_uneven}
+use Rattle.covering.specs.inner.CoveringContracts.{SoundTable, has_uneven_rows, is_other}
 use Rattle.covering.proofs.LabelRows.{from_low, rows-decide}
 
 -- labels below l are tried, and the rows of the others begin at frame first
 pub record Trying (b : List ℕ) (last first l : ℕ) : Type 0 where
   pub table : SoundTable b
-  pub is : last ≡ lastLabel b
+  pub is : last ≡ last_label b
   pub small : last < 256
   pub low : 2 ≤ l
   pub high : l ≤ last + 1
@@ -31,16 +31,16 @@ pub record Trying (b : List ℕ) (last first l : ℕ) : Type 0 where
   pub to : first ≤ size b
   pub before : (f : ℕ) → rows_from b ≤ f → f < first → field b f 1 < l
   pub after : (f : ℕ) → first ≤ f → f < size b → l ≤ field b f 1
-  pub left : any (unevenLabel (decoded b)) l (last + 1 - l) ≡ uneven (decoded b)
+  pub left : any (is_uneven_label (decoded_image b)) l (last + 1 - l) ≡ is_uneven (decoded_image b)
 
 pub some-frames : (b : List ℕ) → SoundTable b → 0 < size b
 some-frames b T = omega (arith, T.all)
 
-pub trying_start : (b : List ℕ) → SoundTable b → (last first : ℕ) → last ≡ lastLabel b → first ≡ rows_from b → Trying b last first 2
-unfolding uneven
+pub trying_start : (b : List ℕ) → SoundTable b → (last first : ℕ) → last ≡ last_label b → first ≡ rows_from b → Trying b last first 2
+unfolding is_uneven
 trying_start b T last first e q =
-    let two : 2 ≤ length (decoded b).labels = T.image.two in
-    let all : size b ≡ rows_from b + rowCount b = T.all in
+    let two : 2 ≤ length (decoded_image b).labels = T.image.two in
+    let all : size b ≡ rows_from b + row_count b = T.all in
     record {
       table = T;
       is = e;
@@ -51,11 +51,11 @@ trying_start b T last first e q =
       to = omega arith;
       before = λ f h g. absurd (omega arith);
       after = λ f h g. from_low b T f (omega arith) g;
-      left = ap (λ (n : ℕ). any (unevenLabel (decoded b)) 2 (n - 2)) (ap (λ (n : ℕ). n + 1) e ∙ sym (labels-count b));
+      left = ap (λ (n : ℕ). any (is_uneven_label (decoded_image b)) 2 (n - 2)) (ap (λ (n : ℕ). n + 1) e ∙ sym (labels-count b));
     }
 
 module _ (b : List ℕ) (last first l : ℕ) (t : Trying b last first l) (h : l ≤ last) (end : ℕ)
-    (e : end ≡ lowest (isOther b l) first (size b - first)) where
+    (e : end ≡ lowest (is_other b l) first (size b - first)) where
   abbrev n : ℕ
   n = end - first
 
@@ -66,26 +66,26 @@ module _ (b : List ℕ) (last first l : ℕ) (t : Trying b last first l) (h : l 
   first-from = t.from
 
   pub end_after : first ≤ end
-  end_after = omega (arith, e, lowest-above (isOther b l) first (size b - first))
+  end_after = omega (arith, e, lowest-above (is_other b l) first (size b - first))
 
   pub end-inside : end ≤ size b
-  end-inside = omega (arith, e, first_to, lowest-most (isOther b l) first (size b - first))
+  end-inside = omega (arith, e, first_to, lowest-most (is_other b l) first (size b - first))
 
   pub end-near : end - first ≤ 1024
   end-near = omega (arith, end-inside, first-from, t.table.all, t.table.image.few, rows-count b)
 
   own : (f : ℕ) → first ≤ f → f < end → field b f 1 ≡ l
   own f p q = eqb-true (field b f 1) l
-      (not-false (eqb (field b f 1) l) (lowest-before (isOther b l) first (size b - first) f p (omega (arith, e))))
+      (not-false (eqb (field b f 1) l) (lowest-before (is_other b l) first (size b - first) f p (omega (arith, e))))
 
   -- the first row behind them is of a label above
   behind : end < size b → l < field b end 1
   behind q =
-      let p : isOther b l end ≡ true =
-      ap (isOther b l) e ∙ lowest-hit (isOther b l) first (size b - first) (omega (arith, e, first_to)) in
+      let p : is_other b l end ≡ true =
+      ap (is_other b l) e ∙ lowest-hit (is_other b l) first (size b - first) (omega (arith, e, first_to)) in
       go p (ℕ_discrete (field b end 1) l)
     where
-      go : isOther b l end ≡ true → Dec (field b end 1 ≡ l) → l < field b end 1
+      go : is_other b l end ≡ true → Dec (field b end 1 ≡ l) → l < field b end 1
       go p (yes z) = no_both (eqb (field b end 1) l) (eq-eqb (field b end 1) l z) (not-true (eqb (field b end 1) l) p)
       go p (no z) = omega (arith, z, t.after end end_after q)
 
@@ -99,7 +99,7 @@ module _ (b : List ℕ) (last first l : ℕ) (t : Trying b last first l) (h : l 
         rises-on b t.table.all t.table.image end (f - end) (omega (arith, end_after, first-from)) (omega arith),
       )
 
-  label_is : unevenRows b first n ≡ unevenLabel (decoded b) l
+  label_is : has_uneven_rows b first n ≡ is_uneven_label (decoded_image b) l
   label_is = rows-decide b t.table l first n first-from (omega (arith, end_after, end-inside))
       (λ f p q. own f p (omega (arith, end_after)))
       (λ f p q z. (front f p z, omega (arith, end_after, back f q z)))
@@ -118,9 +118,9 @@ module _ (b : List ℕ) (last first l : ℕ) (t : Trying b last first l) (h : l 
           go (inl w) = w
           go (inr w) = absurd (omega (arith, z, beyond f w q))
 
-  module _ (u : Bool) (g : u ≡ unevenRows b first (end - first)) where
-    pub trying-hit : u ≡ true → true ≡ uneven (decoded b)
-    trying-hit z = sym (any_here (unevenLabel (decoded b)) (last + 1) l (omega arith) (sym label_is ∙ sym g ∙ z)) ∙ t.left
+  module _ (u : Bool) (g : u ≡ has_uneven_rows b first (end - first)) where
+    pub trying-hit : u ≡ true → true ≡ is_uneven (decoded_image b)
+    trying-hit z = sym (any_here (is_uneven_label (decoded_image b)) (last + 1) l (omega arith) (sym label_is ∙ sym g ∙ z)) ∙ t.left
 
     pub trying-on : u ≡ false → Trying b last end (l + 1)
     trying-on z = record {
@@ -133,12 +133,12 @@ module _ (b : List ℕ) (last first l : ℕ) (t : Trying b last first l) (h : l 
       to = end-inside;
       before = λ f p q. earlier f p q (split f first);
       after = λ f p q. omega (arith, beyond f p q);
-      left = sym (any-on (unevenLabel (decoded b)) (last + 1) l (omega arith) (sym label_is ∙ sym g ∙ z)) ∙ t.left;
+      left = sym (any-on (is_uneven_label (decoded_image b)) (last + 1) l (omega arith) (sym label_is ∙ sym g ∙ z)) ∙ t.left;
     }
       where
         earlier : (f : ℕ) → rows_from b ≤ f → f < end → (f < first) ⊎ (first ≤ f) → field b f 1 < l + 1
         earlier f p q (inl w) = omega (arith, t.before f p w)
         earlier f p q (inr w) = omega (arith, own f w q)
 
-pub trying-over : (b : List ℕ) (last first l : ℕ) → Trying b last first l → last < l → false ≡ uneven (decoded b)
-trying-over b last first l t h = sym (any-over (unevenLabel (decoded b)) (last + 1) l (omega arith)) ∙ t.left
+pub trying-over : (b : List ℕ) (last first l : ℕ) → Trying b last first l → last < l → false ≡ is_uneven (decoded_image b)
+trying-over b last first l t h = sym (any-over (is_uneven_label (decoded_image b)) (last + 1) l (omega arith)) ∙ t.left

@@ -10,12 +10,12 @@ use lib.Dec.{eqb}
 use borrow.Author.Tests.{eqb-true, eq-eqb, ne_eqb}
 use Rattle.words.specs.lists.Pick.{pick}
 use Rattle.words.proofs.lists.Tests.{no_both, and_l, and_r, and-true, or_cases, or-true-l, or_true_r}
-use Rattle.words.specs.bits.Word.{bit, agrees}
+use Rattle.words.specs.bits.Word.{bit, is_agreeing}
 use Rattle.words.proofs.bits.BitLaws.{bit-and, bit-or, same_bits}
 use Rattle.image.specs.Image.{Image, Row}
 use Rattle.image.specs.inner.Sound.{SoundRow}
-use Rattle.rows.specs.Rows.{matches}
-use Rattle.covering.specs.Matched.{together}
+use Rattle.rows.specs.Rows.{is_match}
+use Rattle.covering.specs.Matched.{is_together}
 
 -- ---- words above 16 bits
 pub and_low : (w c : ℕ) → c < 65536 → bit_and w c ≡ bit_and (w % 65536) c
@@ -24,7 +24,7 @@ and_low w c h =
     let f : bit_and w c % 65536 ≡ bit_and w c = omega (arith, and_le_r w c) in
     sym f ∙ and_mod w c 16 ∙ ap (bit_and (w % 65536)) e
 
-pub matches-low : (w b : ℕ) (r : Row) → r.care < 65536 → matches w b r ≡ matches (w % 65536) b r
+pub matches-low : (w b : ℕ) (r : Row) → r.care < 65536 → is_match w b r ≡ is_match (w % 65536) b r
 matches-low w b r h = ap (λ (x : ℕ). eqb x r.values && (eqb r.bit 2 || eqb r.bit b)) (and_low w r.care h)
 
 -- ---- the words
@@ -78,7 +78,7 @@ suiting (suc (suc zero)) (suc (suc (suc g))) hf hg e = absurd (omega arith)
 suiting (suc (suc (suc f))) g hf hg e = absurd (omega arith)
 
 -- ---- in the other order
-pub together-turned : (r s : Row) → together r s ≡ false → together s r ≡ false
+pub together-turned : (r s : Row) → is_together r s ≡ false → is_together s r ≡ false
 together-turned r s e =
     turned (eqb (bit_and r.values s.care) (bit_and s.values r.care)) (eqb r.bit 2) (eqb s.bit 2) (eqb r.bit s.bit)
     (eqb (bit_and s.values r.care) (bit_and r.values s.care)) (eqb s.bit r.bit)
@@ -102,22 +102,22 @@ pub record Common (r s : Row) : Type 0 where
   pub word : ℕ
   pub low : word < 65536
   pub bit : Bool
-  pub first : matches word (pick bit 1 0) r ≡ true
-  pub second : matches word (pick bit 1 0) s ≡ true
+  pub first : is_match word (pick bit 1 0) r ≡ true
+  pub second : is_match word (pick bit 1 0) s ≡ true
 
 module _ (r s : Row) where
-  pub common-together : (w b : ℕ) → r.values < 65536 → s.values < 65536 → matches w b r ≡ true
-      → matches w b s ≡ true → together r s ≡ true
+  pub common-together : (w b : ℕ) → r.values < 65536 → s.values < 65536 → is_match w b r ≡ true
+      → is_match w b s ≡ true → is_together r s ≡ true
   common-together w b hr hs p q =
       and-true (eqb (bit_and r.values s.care) (bit_and s.values r.care))
       (eqb r.bit 2 || eqb s.bit 2 || eqb r.bit s.bit)
       (eq-eqb (bit_and r.values s.care) (bit_and s.values r.care) (both-have w r.care r.values s.care s.values hr hs
-      (eqb-true (bit_and w r.care) r.values (and_l (agrees w r.care r.values) (suits r.bit b) p))
-      (eqb-true (bit_and w s.care) s.values (and_l (agrees w s.care s.values) (suits s.bit b) q))))
-      (bits-suit r.bit s.bit b (and_r (agrees w r.care r.values) (suits r.bit b) p)
-      (and_r (agrees w s.care s.values) (suits s.bit b) q))
+      (eqb-true (bit_and w r.care) r.values (and_l (is_agreeing w r.care r.values) (suits r.bit b) p))
+      (eqb-true (bit_and w s.care) s.values (and_l (is_agreeing w s.care s.values) (suits s.bit b) q))))
+      (bits-suit r.bit s.bit b (and_r (is_agreeing w r.care r.values) (suits r.bit b) p)
+      (and_r (is_agreeing w s.care s.values) (suits s.bit b) q))
 
-  pub together-common : {i : Image} → SoundRow i r → SoundRow i s → together r s ≡ true → Common r s
+  pub together-common : {i : Image} → SoundRow i r → SoundRow i s → is_together r s ≡ true → Common r s
   together-common R S e =
       let x : Bool = eqb (bit_and r.values s.care) (bit_and s.values r.care) in
       let y : Bool = eqb r.bit 2 || eqb s.bit 2 || eqb r.bit s.bit in
@@ -129,10 +129,10 @@ module _ (r s : Row) where
         word = w;
         low = or_lt 16 r.values s.values R.small S.small;
         bit = t.0;
-        first = and-true (agrees w r.care r.values) (suits r.bit (pick t.0 1 0))
+        first = and-true (is_agreeing w r.care r.values) (suits r.bit (pick t.0 1 0))
             (eq-eqb (bit_and w r.care) r.values
             (joined-has r.care r.values s.care s.values R.cares R.small R.within q)) t.1;
-        second = and-true (agrees w s.care s.values) (suits s.bit (pick t.0 1 0))
+        second = and-true (is_agreeing w s.care s.values) (suits s.bit (pick t.0 1 0))
             (eq-eqb (bit_and w s.care) s.values
             (joined-has-too r.care r.values s.care s.values S.cares S.small S.within q)) t.2;
       }

@@ -6,24 +6,24 @@ use Rattle.words.specs.lists.Sequences.{filter}
 use Rattle.text.specs.frames.Sizes.{WORDS}
 use Rattle.image.specs.declared.layout.TheConstants.{NO_BIT}
 use Rattle.image.specs.Image.{Image, Row}
-use Rattle.rows.specs.Rows.{isCandidate}
+use Rattle.rows.specs.Rows.{is_candidate}
 
 -- how many rows of label l match word w and bit b
 abbrev pub hits : Image → ℕ → ℕ → ℕ → ℕ
-hits i l w b = length (filter (isCandidate l w b) i.rows)
+hits i l w b = length (filter (is_candidate l w b) i.rows)
 
 -- with both bits, of which only the rows of a function call's label ask in an accepted image
-abbrev pub unevenWord : Image → ℕ → ℕ → Bool
-unevenWord i l w = any (λ b. not (eqb (hits i l w b) 1)) 0 2
+abbrev pub is_uneven_word : Image → ℕ → ℕ → Bool
+is_uneven_word i l w = any (λ b. not (eqb (hits i l w b) 1)) 0 2
 
-abbrev pub unevenLabel : Image → ℕ → Bool
-unevenLabel i l = any (unevenWord i l) 0 WORDS
+abbrev pub is_uneven_label : Image → ℕ → Bool
+is_uneven_label i l = any (is_uneven_word i l) 0 WORDS
 
-unfoldable pub uneven : Image → Bool
-uneven i = any (unevenLabel i) 2 (length i.labels - 2)
+unfoldable pub is_uneven : Image → Bool
+is_uneven i = any (is_uneven_label i) 2 (length i.labels - 2)
 
 -- some word and bit match both rows: where both care they have the same value
-abbrev pub together : Row → Row → Bool
-together r s =
+abbrev pub is_together : Row → Row → Bool
+is_together r s =
     eqb (bit_and r.values s.care) (bit_and s.values r.care)
     && (eqb r.bit NO_BIT || eqb s.bit NO_BIT || eqb r.bit s.bit)

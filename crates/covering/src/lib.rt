@@ -6,10 +6,10 @@ ghost use Rattle.std.specs.Prelude.{◌≡◌, ◌||◌, ◌-◌, ◌≤◌, ◌
 ghost use Rattle.words.specs.lists.Numbers.{lowest};
 ghost use Rattle.text.specs.declared.frames.sizes.TheConstants.{ROWS};
 ghost use Rattle.text.specs.frames.Frame.{size};
-ghost use Rattle.image.specs.Decode.{decoded, rowInFrame};
-ghost use Rattle.covering.specs.Matched.{together, uneven};
-ghost use Rattle.covering.specs.inner.CoveringContracts.{SoundTable, rowWith, togetherSome, togetherAny};
-ghost use Rattle.covering.specs.inner.CoveringContracts.{wordsWith, words_in, unevenRows, isOther};
+ghost use Rattle.image.specs.Decode.{decoded_image, row_in_frame};
+ghost use Rattle.covering.specs.Matched.{is_together, is_uneven};
+ghost use Rattle.covering.specs.inner.CoveringContracts.{SoundTable, row_with, is_together_with_some, has_any_together};
+ghost use Rattle.covering.specs.inner.CoveringContracts.{words_with, words_in, has_uneven_rows, is_other};
 
 use image::layout::*;
 use image::{byte, pair, rows_from};
@@ -18,7 +18,7 @@ use text::frames::sizes::FRAME;
 // Whether some word and bit match the row in frame g and one with this care mask, these values and this function bit.
 fn meets(table: &[u8], g: usize, care: u16, values: u16, bit: u8) -> bool
     requires { g < size table.now }
-    ensures { result ≡ together (rowWith care values bit) (rowInFrame table.now g) }
+    ensures { result ≡ is_together (row_with care values bit) (row_in_frame table.now g) }
 {
     let mine = values & pair(table, g, CARE);
     let other = pair(table, g, VALUES) & care;
@@ -38,7 +38,7 @@ fn meets(table: &[u8], g: usize, care: u16, values: u16, bit: u8) -> bool
 // Whether some word and bit match the rows in frames f and g.
 pub fn are_together(table: &[u8], f: usize, g: usize) -> bool
     requires { (f < size table.now) × (g < size table.now) }
-    ensures { result ≡ together (rowInFrame table.now f) (rowInFrame table.now g) }
+    ensures { result ≡ is_together (row_in_frame table.now f) (row_in_frame table.now g) }
 {
     let care = pair(table, f, CARE);
     let values = pair(table, f, VALUES);
@@ -49,7 +49,7 @@ pub fn are_together(table: &[u8], f: usize, g: usize) -> bool
 // Whether some word and bit match the row in frame f and one in the frames from first up to it.
 fn meets_before(table: &[u8], first: usize, f: usize) -> bool
     requires { (first ≤ f) × (f < size table.now) }
-    ensures { result ≡ togetherSome table.now (rowInFrame table.now f) first (f - first) }
+    ensures { result ≡ is_together_with_some table.now (row_in_frame table.now f) first (f - first) }
 {
     let care = pair(table, f, CARE);
     let values = pair(table, f, VALUES);
@@ -65,7 +65,7 @@ fn meets_before(table: &[u8], first: usize, f: usize) -> bool
 // Whether some word and bit match two of the rows in frames from first up to end.
 fn any_together(table: &[u8], first: usize, end: usize) -> bool
     requires { (first ≤ end) × (end ≤ size table.now) }
-    ensures { result ≡ togetherAny table.now first (end - first) }
+    ensures { result ≡ has_any_together table.now first (end - first) }
 {
     for f in first..end {
         if meets_before(table, first, f) {
@@ -88,7 +88,7 @@ fn suits(only: u8, bit: u8) -> bool
 // How many words the row in frame f matches with a bit.
 fn words_of(table: &[u8], f: usize, bit: u8) -> u32
     requires { f < size table.now }
-    ensures { (result ≡ wordsWith bit (rowInFrame table.now f)) × (result ≤ 65536) }
+    ensures { (result ≡ words_with bit (row_in_frame table.now f)) × (result ≤ 65536) }
 {
     if !suits(byte(table, f, FUNCTION_BIT), bit) {
         return 0;
@@ -116,7 +116,7 @@ fn words_in(table: &[u8], first: usize, end: usize, bit: u8) -> u32
 fn uneven_rows(table: &[u8], first: usize, end: usize) -> bool
     requires first_le_end { (first ≤ end) × (end ≤ size table.now) }
     requires first_bound { end - first ≤ ROWS }
-    ensures { result ≡ unevenRows table.now first (end - first) }
+    ensures { result ≡ has_uneven_rows table.now first (end - first) }
 {
     if words_in(table, first, end, 0) != 65536 {
         return true;
@@ -130,7 +130,7 @@ fn uneven_rows(table: &[u8], first: usize, end: usize) -> bool
 // The first frame from f on without a row of the label, or the end of the table.
 fn rows_end(table: &[u8], f: usize, label: u8) -> usize
     requires { f ≤ size table.now }
-    ensures { result ≡ lowest (isOther table.now label) f (size table.now - f) }
+    ensures { result ≡ lowest (is_other table.now label) f (size table.now - f) }
 {
     let end = table.len() / FRAME;
     let mut g = f;
@@ -146,7 +146,7 @@ fn rows_end(table: &[u8], f: usize, label: u8) -> usize
 // 23. The rows stand in the order of their labels, so those of a label begin where those of the label before end.
 pub fn is_uneven(table: &[u8]) -> bool
     requires { SoundTable table.now }
-    ensures { result ≡ uneven (decoded table.now) }
+    ensures { result ≡ is_uneven (decoded_image table.now) }
 {
     let last = byte(table, 0, LAST_LABEL) as usize;
     let mut first = rows_from(table);

@@ -6,12 +6,12 @@ use native.Mathlib.Numerals.{add-one}
 use native.Mathlib.Omega.{arith}
 use lib.ListN.{length, get_or, set, drop, length-set, length-drop}
 use lib.Seq.{drop-cons, set_out}
-use Rattle.edits.specs.inner.Patch.{patched}
+use Rattle.edits.specs.inner.Patch.{patched_bytes}
 
 pub record Patching (bytes₀ edits bytes : List ℕ) (i : ℕ) : Type 0 where
   pub inside : i ≤ length edits
   pub size : length bytes ≡ length bytes₀
-  pub left : patched bytes (drop i edits) ≡ patched bytes₀ edits
+  pub left : patched_bytes bytes (drop i edits) ≡ patched_bytes bytes₀ edits
 
 pub patching-none : (bytes edits : List ℕ) → Patching bytes edits bytes 0
 patching-none bytes edits = record { inside = omega arith; size = refl; left = refl }
@@ -21,8 +21,8 @@ drop-two xs i h =
     let next : i + 2 ≡ suc (i + 1) = omega arith in
     rw (next, drop-cons xs i 0 (omega arith)) (ap (λ (ys : List ℕ). get_or xs i 0 ∷ ys) (rw (← add-one i) (drop-cons xs (i + 1) 0 h)))
 
-one_left : (bytes xs : List ℕ) → length xs ≤ 1 → bytes ≡ patched bytes xs
-unfolding patched
+one_left : (bytes xs : List ℕ) → length xs ≤ 1 → bytes ≡ patched_bytes bytes xs
+unfolding patched_bytes
 one_left bytes [] h = refl
 one_left bytes (x ∷ []) h = refl
 one_left bytes (x ∷ y ∷ xs) h = absurd (omega arith)
@@ -30,11 +30,11 @@ one_left bytes (x ∷ y ∷ xs) h = absurd (omega arith)
 module _ (bytes₀ edits bytes : List ℕ) (i : ℕ) (done : Patching bytes₀ edits bytes i) where
   module _ (h : i + 1 < length edits) where
     pub patching-turn : Patching bytes₀ edits (set bytes (get_or edits i 0) (get_or edits (i + 1) 0)) (i + 2)
-    unfolding patched
+    unfolding patched_bytes
     patching-turn = record {
       inside = omega arith;
       size = length-set bytes (get_or edits i 0) (get_or edits (i + 1) 0) ∙ done.size;
-      left = sym (ap (patched bytes) (drop-two edits i h)) ∙ done.left;
+      left = sym (ap (patched_bytes bytes) (drop-two edits i h)) ∙ done.left;
     }
 
     -- an edit past the end
@@ -43,5 +43,5 @@ module _ (bytes₀ edits bytes : List ℕ) (i : ℕ) (done : Patching bytes₀ e
         let same : set bytes (get_or edits i 0) (get_or edits (i + 1) 0) ≡ bytes = set_out bytes (get_or edits i 0) (get_or edits (i + 1) 0) out in
         rw same at patching-turn
 
-  pub patching-end : length edits ≤ i + 1 → bytes ≡ patched bytes₀ edits
+  pub patching-end : length edits ≤ i + 1 → bytes ≡ patched_bytes bytes₀ edits
   patching-end h = one_left bytes (drop i edits) (simp length-drop (omega arith)) ∙ done.left

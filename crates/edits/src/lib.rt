@@ -3,13 +3,13 @@
 #![tactic(auto)]
 
 ghost use Rattle.std.specs.Prelude.{◌≡◌};
-ghost use Rattle.edits.specs.inner.Patch.{patched};
+ghost use Rattle.edits.specs.inner.Patch.{patched_bytes};
 
 use text::frames::Answer;
 
 // Pairs of a place and the byte that is put there.
 pub fn patch(bytes: &mut [u8], edits: &[u8])
-    ensures { bytes.new ≡ patched bytes.old edits.now }
+    ensures { bytes.new ≡ patched_bytes bytes.old edits.now }
 {
     let mut i: usize = 0;
     while i + 1 < edits.len() {

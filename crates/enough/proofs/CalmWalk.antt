@@ -11,23 +11,24 @@ use native.Mathlib.Omega.{arith}
 use borrow.Author.Tests.{ne_eqb}
 use Rattle.words.specs.lists.Sequences.{All}
 use Rattle.words.proofs.lists.Tests.{no_both, and_no}
-use Rattle.results.specs.Results.{Results, noResults}
-use Rattle.bindings.specs.Binding.{ownBinding, served}
+use Rattle.results.specs.Results.{Results, no_results}
+use Rattle.bindings.specs.Binding.{own_binding, server_of}
 use Rattle.charts.specs.Chart.{Chart, kind, argument, handler, schemes}
 use Rattle.walk.specs.Stops.{Stop, stop_at}
-use Rattle.walk.specs.Walk.{Signal, Tick, isDrop, drops, bottom, walk}
+use Rattle.walk.specs.Walk.{Signal, Tick, is_drop, is_dropping, bottom, walk}
 use Rattle.walk.proofs.Facts.{Facts}
 use Rattle.walk.proofs.Views.{View, a-plain, a_call, a-function, a-home, a_back, a-begin, a-condition}
-use Rattle.walk.proofs.Trace.{Open, opens, WalkPosition, at, positionReturned, positionCalled, movedBy, tickAt, move, trace, positionAtHome}
+use Rattle.walk.proofs.Trace.{Open, opens, WalkPosition, at, position_returned, position_called, position_moved, tick_at, move, trace}
+use Rattle.walk.proofs.Trace.{position_at_home}
 use Rattle.walk.proofs.Trace.{Serves, Caller, Under, Good, view_of, moves, home-good}
 use Rattle.walk.proofs.OwnBinding.{served-own, own-serves}
-use Rattle.walk.proofs.Drops.{isCallStop, drop-exactly}
+use Rattle.walk.proofs.Drops.{is_call_stop, drop-exactly}
 use Rattle.walk.proofs.Recursion.{walk-trace}
-use Rattle.places.specs.chains.Calls.{holdsCall, circular, places}
+use Rattle.places.specs.chains.Calls.{has_call, is_circular, places}
 use Rattle.places.specs.chains.Chains.{Calls, Chain, first, on}
 use Rattle.places.proofs.chains.CallLaws.{holds-function, holds-operation}
 use Rattle.places.proofs.chains.Longest.{no_longer}
-use Rattle.agreement.specs.Agreement.{isFullCall, bound}
+use Rattle.agreement.specs.Agreement.{is_full_call, bound}
 use Rattle.agreement.proofs.Bounds.{bound-go}
 use Rattle.agreement.proofs.FullCalls.{full-exactly}
 
@@ -36,7 +37,7 @@ caller-calls : (c : Chart) (h : ℕ) (k : Open) → Caller c h k → Calls c k.s
 caller-calls c h k r =
     record { node = k.node; inside = r.stop.inside; holds = go r.calls; owner = r.stop.same; called = r.called }
   where
-    go : (kind c k.node ≡ 2) ⊎ (kind c k.node ≡ 4) → holdsCall c k.node ≡ true
+    go : (kind c k.node ≡ 2) ⊎ (kind c k.node ≡ 4) → has_call c k.node ≡ true
     go (inl e) = holds-operation c k.node e (λ z. omega (arith, r.called, r.deep))
     go (inr e) = holds-function c k.node e
 
@@ -55,9 +56,9 @@ record Plain (y : WalkPosition) : Type 0 where
   owned : All Own (y.now ∷ y.callers)
 
 abbrev ToldOwn : Signal → Type 0
-ToldOwn w = w.binding ≡ ownBinding
+ToldOwn w = w.binding ≡ own_binding
 
-module _ (c : Chart) (f : Facts c) (calm : circular c ≡ false) (n : ℕ) (enough : places c ≤ n) where
+module _ (c : Chart) (f : Facts c) (calm : is_circular c ≡ false) (n : ℕ) (enough : places c ≤ n) where
   module _ (x : Open) (ks : List Open) (b : Results) (t : Bool) (p : Plain (at x ks b t)) (g : Good c (at x ks b t)) where
     abbrev v : ℕ
     v = x.node
@@ -73,24 +74,25 @@ module _ (c : Chart) (f : Facts c) (calm : circular c ≡ false) (n : ℕ) (enou
     stays : (u : ℕ) (d : Results) → Plain (at (opens u x.number x.server) ks d t)
     stays u d = record { first = p.first; owned = p.owned }
 
-    called-by : (h k : ℕ) (d : Results) (u : Bool) → h ≡ k → u ≡ false → Plain (positionCalled c x ks h k d t u)
+    called-by : (h k : ℕ) (d : Results) (u : Bool) → h ≡ k → u ≡ false → Plain (position_called c x ks h k d t u)
     called-by h k d true e q = no_both true refl q
     called-by h k d false e q = record { first = p.first; owned = (e, p.owned) }
 
     module _ (w : Signal) (told : ToldOwn w) where
       called-plain : (h : ℕ) (d : Results) → (2 ≤ h) × (h ≤ schemes c) → eqb (suc (length ks)) n ≡ false
-          → Plain (positionCalled c x ks h (served w.binding h) d t (drops n c t (suc (length ks))))
-      called-plain h d l q = called-by h (served w.binding h) d (drops n c t (suc (length ks)))
-          (sym (ap (λ s. served s h) told ∙ served-own h (omega arith) (omega (arith, f.most))))
+          → Plain (position_called c x ks h (server_of w.binding h) d t (is_dropping n c t (suc (length ks))))
+      called-plain h d l q = called-by h (server_of w.binding h) d (is_dropping n c t (suc (length ks)))
+          (sym (ap (λ s. server_of s h) told ∙ served-own h (omega arith) (omega (arith, f.most))))
           (and_no (not t && not (eqb (handler c) 0)) (eqb (suc (length ks)) n) q)
 
-      returned-plain : (ks : List Open) → All Own ks → Plain (positionReturned c ks w.word b t)
+      returned-plain : (ks : List Open) → All Own ks → Plain (position_returned c ks w.word b t)
       returned-plain [] own = record { first = refl; owned = (refl, tt) }
       returned-plain (k ∷ ks) own = record { first = p.first; owned = own }
 
       -- a call finds fewer schemes open than places, and the position after it is plain too
       calm-by : {s : Stop} → View c v s
-          → ((isCallStop s && eqb (suc (length ks)) n) ≡ false) × Plain (movedBy c (drops n c t (suc (length ks))) x ks w b t s)
+          → ((is_call_stop s && eqb (suc (length ks)) n) ≡ false) × Plain
+          (position_moved c (is_dropping n c t (suc (length ks))) x ks w b t s)
       calm-by (a-plain k a) = (refl, stays _ _)
       calm-by (a_call k a) =
           let l = f.calls v g.top.inside k a in let q = not_full (inl k) l.0 in (q, called-plain (argument c v) _ l q)
@@ -103,8 +105,8 @@ module _ (c : Chart) (f : Facts c) (calm : circular c ≡ false) (n : ℕ) (enou
 
   -- a tick that gets no 17 and is no drop, and the position after it
   record Calm (t : Tick) (y : WalkPosition) : Type 0 where
-    made : isFullCall n t ≡ false
-    quiet : isDrop t ≡ false
+    made : is_full_call n t ≡ false
+    quiet : is_drop t ≡ false
     kept : Plain y
 
   both : (a p q : Bool) → (a && q) ≡ false → (a && (p && q)) ≡ false
@@ -112,10 +114,10 @@ module _ (c : Chart) (f : Facts c) (calm : circular c ≡ false) (n : ℕ) (enou
   both true false q e = refl
   both false p q e = refl
 
-  calm-at : (x : WalkPosition) → Plain x → Good c x → (w : Signal) → ToldOwn w → Calm (tickAt n c x) (move n c w x)
+  calm-at : (x : WalkPosition) → Plain x → Good c x → (w : Signal) → ToldOwn w → Calm (tick_at n c x) (move n c w x)
   calm-at x p g w told =
       let o : Bool = eqb (suc (length x.callers)) n in
-      let k : Bool = isCallStop (stop_at c x.now.node) in
+      let k : Bool = is_call_stop (stop_at c x.now.node) in
       let r = calm-by x.now x.callers x.results x.first p g w told (view_of c f x g) in
       record {
         made = full-exactly c f n x g ∙ both k (x.first || eqb (handler c) 0) o r.0;
@@ -124,17 +126,17 @@ module _ (c : Chart) (f : Facts c) (calm : circular c ≡ false) (n : ℕ) (enou
       }
 
   calm-trace : (ws : List Signal) (x : WalkPosition) → All ToldOwn ws → Plain x → Good c x
-      → (bound n (trace n c ws x) ≡ length ws) × All (λ (t : Tick). isDrop t ≡ false) (trace n c ws x)
+      → (bound n (trace n c ws x) ≡ length ws) × All (λ (t : Tick). is_drop t ≡ false) (trace n c ws x)
   unfolding trace bound
   calm-trace [] x told p g = (refl, tt)
   calm-trace (w ∷ ws) x told p g =
-      let k : Calm (tickAt n c x) (move n c w x) = calm-at x p g w told.0 in
+      let k : Calm (tick_at n c x) (move n c w x) = calm-at x p g w told.0 in
       let serves : Serves c w.binding = subst (Serves c) (sym told.0) (own-serves c f) in
       let r = calm-trace ws (move n c w x) told.1 k.kept (moves c f n w x serves g) in
-      (bound-go n (tickAt n c x) (trace n c ws (move n c w x)) k.made ∙ ap suc r.0, (k.quiet, r.1))
+      (bound-go n (tick_at n c x) (trace n c ws (move n c w x)) k.made ∙ ap suc r.0, (k.quiet, r.1))
 
-  pub calm_walk : (ws : List Signal) → All (λ (w : Signal). w.binding ≡ ownBinding) ws
-      → (bound n (walk n c ws) ≡ length ws) × All (λ (t : Tick). isDrop t ≡ false) (walk n c ws)
+  pub calm_walk : (ws : List Signal) → All (λ (w : Signal). w.binding ≡ own_binding) ws
+      → (bound n (walk n c ws) ≡ length ws) × All (λ (t : Tick). is_drop t ≡ false) (walk n c ws)
   calm_walk ws told =
-      subst (λ (ts : List Tick). (bound n ts ≡ length ws) × All (λ (t : Tick). isDrop t ≡ false) ts) (sym (walk-trace n c ws))
-      (calm-trace ws (positionAtHome c noResults) told (record { first = refl; owned = (refl, tt) }) (home-good c f noResults))
+      subst (λ (ts : List Tick). (bound n ts ≡ length ws) × All (λ (t : Tick). is_drop t ≡ false) ts) (sym (walk-trace n c ws))
+      (calm-trace ws (position_at_home c no_results) told (record { first = refl; owned = (refl, tt) }) (home-good c f no_results))

@@ -4,39 +4,39 @@ use mathlib.Core.Path.{◌≡◌, refl, sym, ◌∙◌, ap, ap₂, subst}
 use mathlib.Core.List.{List, [], ◌∷◌, map}
 use native.Mathlib.Omega.{arith}
 use Rattle.words.specs.lists.Sequences.{All}
-use Rattle.bindings.specs.Binding.{ownBinding}
+use Rattle.bindings.specs.Binding.{own_binding}
 use Rattle.text.specs.frames.Frame.{contents}
 use Rattle.text.specs.frames.Verdict.{Verdict, fine, refused}
-use Rattle.text.specs.frames.Answer.{Reply, success, replyNumber, replyCount, judged}
+use Rattle.text.specs.frames.Answer.{Reply, success, reply_number, reply_count, verdict_reply}
 use Rattle.text.proofs.frames.Refuses.{RefusesWith, next-refuses, when-refuses}
 use Rattle.charts.specs.Chart.{Chart}
 use Rattle.walk.specs.Walk.{Signal, Tick, walk}
-use Rattle.translator.specs.Entry.{translateVerdict}
-use Rattle.places.specs.chains.Calls.{circular, places}
-use Rattle.places.specs.Entry.{placesVerdict, placesNeeded}
+use Rattle.translator.specs.Entry.{translate_verdict}
+use Rattle.places.specs.chains.Calls.{is_circular, places}
+use Rattle.places.specs.Entry.{places_verdict, places_needed}
 use Rattle.places.proofs.Reported.{needed-is, needed-calm, needed-facts, needed-few}
-use Rattle.agreement.specs.Agreement.{CallInput, CallOutput, byRun, byRebinding, joinedWords, bound, walkOutputs}
+use Rattle.agreement.specs.Agreement.{CallInput, CallOutput, by_run, by_rebinding, joined_words, bound, walk_outputs}
 use Rattle.agreement.specs.Calls.{Delivered}
-use Rattle.agreement.specs.ForC.{CallOutputC, callOutputC, DeliveredC}
+use Rattle.agreement.specs.ForC.{CallOutputC, call_output_c, DeliveredC}
 use Rattle.agreement.proofs.Bounds.{bound-le}
 use Rattle.agreement.proofs.Delivered.{delivered}
 use Rattle.agreement.proofs.ForC.{delivered-c}
 use Rattle.agreement.proofs.Numbers.{Positive, translate-positive}
-use Rattle.enough.specs.Enough.{OwnServed, allMade, replyOf, dropless, AllMade, Enough}
-use Rattle.enough.specs.Enough.{numberOfC, countOfC, droplessC, AllMadeC, EnoughC}
+use Rattle.enough.specs.Enough.{OwnServed, all_made, reply_of, IsDropless, AllMade, Enough}
+use Rattle.enough.specs.Enough.{number_of_c, count_of_c, IsDroplessC, AllMadeC, EnoughC}
 use Rattle.enough.proofs.CalmWalk.{calm_walk}
 use Rattle.enough.proofs.Made.{expected-made}
 
 -- ---- what the agreement expects is then a tick for every word
-module _ (text : List ℕ) (k : ℕ) (needed : placesNeeded text ≡ success k) (size : ℕ) (l : k ≤ size) where
+module _ (text : List ℕ) (k : ℕ) (needed : places_needed text ≡ success k) (size : ℕ) (l : k ≤ size) where
   pub all-expected : (given : List CallInput) → OwnServed (contents text) given
-      → AllMade (contents text) given (walkOutputs size (contents text) given)
+      → AllMade (contents text) given (walk_outputs size (contents text) given)
   all-expected given own =
       let c : Chart = contents text in
-      let ws : List Signal = joinedWords c ownBinding given in
+      let ws : List Signal = joined_words c own_binding given in
       let ts : List Tick = walk size c ws in
       let q = calm_walk c (needed-facts text k needed) (needed-calm text k needed) size (omega (arith, needed-is text k needed)) ws own in
-      expected-made (bound size ts) ts (bound-le size ts) q.1 c given ownBinding 0 (omega (arith, q.0))
+      expected-made (bound size ts) ts (bound-le size ts) q.1 c given own_binding 0 (omega (arith, q.0))
 
   some-place : 1 ≤ size
   some-place = omega (arith, needed-few text k needed)
@@ -44,58 +44,59 @@ module _ (text : List ℕ) (k : ℕ) (needed : placesNeeded text ≡ success k) 
 pub enough : Enough
 unfolding Enough Delivered
 enough text before after answer lends n done told e k needed size l most made m given own handed calls =
-    let known : placesNeeded text ≡ success k = sym e ∙ needed in
+    let known : places_needed text ≡ success k = sym e ∙ needed in
     subst (AllMade (contents text) given)
     (sym (delivered text before after answer lends n done size (some-place text k known size l) most made m given handed calls))
     (all-expected text k known size l given own)
 
 -- ---- for C
 -- success is told by the number 0
-judged-0 : (v : Verdict) → RefusesWith Positive v → (n : ℕ) → replyNumber (judged v n) ≡ 0 → judged v n ≡ success (replyCount (judged v n))
+judged-0 : (v : Verdict) → RefusesWith Positive v → (n : ℕ) → reply_number (verdict_reply v n) ≡ 0
+    → verdict_reply v n ≡ success (reply_count (verdict_reply v n))
 judged-0 fine p n e = refl
 judged-0 (refused k i) p n e = absurd (omega (arith, p))
 
-needed-0 : (text : List ℕ) → replyNumber (placesNeeded text) ≡ 0 → placesNeeded text ≡ success (replyCount (placesNeeded text))
-unfolding placesNeeded placesVerdict
-needed-0 text e = judged-0 (placesVerdict text)
-    (next-refuses Positive (translateVerdict text) _ (translate-positive text)
-    (when-refuses Positive 20 (circular (contents text)) (omega arith)))
+needed-0 : (text : List ℕ) → reply_number (places_needed text) ≡ 0 → places_needed text ≡ success (reply_count (places_needed text))
+unfolding places_needed places_verdict
+needed-0 text e = judged-0 (places_verdict text)
+    (next-refuses Positive (translate_verdict text) _ (translate-positive text)
+    (when-refuses Positive 20 (is_circular (contents text)) (omega arith)))
     (places (contents text)) e
 
 module _ (c : Chart) where
-  made-c : (given : List CallInput) (handed : List CallOutput) → AllMade c given handed → AllMadeC c given (map callOutputC handed)
+  made-c : (given : List CallInput) (handed : List CallOutput) → AllMade c given handed → AllMadeC c given (map call_output_c handed)
   made-c given handed a = record {
-    numbers = by replyNumber numberOfC handed-number handed ∙ ap (map replyNumber) a.replies ∙ through replyNumber given;
-    counts = by replyCount countOfC handed-count handed ∙ ap (map replyCount) a.replies ∙ through replyCount given;
+    numbers = by reply_number number_of_c handed-number handed ∙ ap (map reply_number) a.replies ∙ through reply_number given;
+    counts = by reply_count count_of_c handed-count handed ∙ ap (map reply_count) a.replies ∙ through reply_count given;
     drops = quiet handed a.drops;
   }
     where
-      handed-number : (d : CallOutput) → numberOfC (callOutputC d) ≡ replyNumber (replyOf d)
-      handed-number (byRun t) = refl
-      handed-number (byRebinding r) = refl
+      handed-number : (d : CallOutput) → number_of_c (call_output_c d) ≡ reply_number (reply_of d)
+      handed-number (by_run t) = refl
+      handed-number (by_rebinding r) = refl
 
-      handed-count : (d : CallOutput) → countOfC (callOutputC d) ≡ replyCount (replyOf d)
-      handed-count (byRun t) = refl
-      handed-count (byRebinding r) = refl
+      handed-count : (d : CallOutput) → count_of_c (call_output_c d) ≡ reply_count (reply_of d)
+      handed-count (by_run t) = refl
+      handed-count (by_rebinding r) = refl
 
-      by : (f : Reply → ℕ) (g : CallOutputC → ℕ) → ((d : CallOutput) → g (callOutputC d) ≡ f (replyOf d)) → (ds : List CallOutput)
-          → map g (map callOutputC ds) ≡ map f (map replyOf ds)
+      by : (f : Reply → ℕ) (g : CallOutputC → ℕ) → ((d : CallOutput) → g (call_output_c d) ≡ f (reply_of d)) → (ds : List CallOutput)
+          → map g (map call_output_c ds) ≡ map f (map reply_of ds)
       by f g h [] = refl
       by f g h (d ∷ ds) = ap₂ (λ (x : ℕ) (xs : List ℕ). x ∷ xs) (h d) (by f g h ds)
 
-      through : (f : Reply → ℕ) (rest : List CallInput) → map f (map (allMade c) rest) ≡ map (λ g. f (allMade c g)) rest
+      through : (f : Reply → ℕ) (rest : List CallInput) → map f (map (all_made c) rest) ≡ map (λ g. f (all_made c g)) rest
       through f [] = refl
-      through f (g ∷ rest) = ap (λ (xs : List ℕ). f (allMade c g) ∷ xs) (through f rest)
+      through f (g ∷ rest) = ap (λ (xs : List ℕ). f (all_made c g) ∷ xs) (through f rest)
 
-      quiet : (ds : List CallOutput) → All dropless ds → All droplessC (map callOutputC ds)
+      quiet : (ds : List CallOutput) → All IsDropless ds → All IsDroplessC (map call_output_c ds)
       quiet [] a = tt
-      quiet (byRun t ∷ ds) a = (a.0, quiet ds a.1)
-      quiet (byRebinding r ∷ ds) a = (tt, quiet ds a.1)
+      quiet (by_run t ∷ ds) a = (a.0, quiet ds a.1)
+      quiet (by_rebinding r ∷ ds) a = (tt, quiet ds a.1)
 
 pub enough-c : EnoughC
 unfolding EnoughC DeliveredC
 enough-c text before after at n lends at' k told size l most returned at'' made bytes m given own handed calls =
-    let known : placesNeeded text ≡ success k = needed-0 text (sym told.number_is) ∙ ap success (sym told.count-is) in
+    let known : places_needed text ≡ success k = needed-0 text (sym told.number_is) ∙ ap success (sym told.count-is) in
     subst (AllMadeC (contents text) given)
     (sym (delivered-c text before after at n lends size (some-place text k known size l) most returned at'' made bytes m given handed calls))
     (made-c (contents text) given _ (all-expected text k known size l given own))

@@ -12,16 +12,16 @@ use Rattle.words.specs.lists.Pick.{pick}
 use Rattle.words.proofs.lists.Joins.{all_map, all_of}
 use Rattle.words.specs.lists.Sequences.{All}
 use Rattle.bindings.specs.Binding.{Binding}
-use Rattle.text.specs.frames.Answer.{Reply, success, refusal, replyCount}
+use Rattle.text.specs.frames.Answer.{Reply, success, refusal, reply_count}
 use Rattle.text.proofs.frames.Lent.{front}
 use Rattle.charts.specs.Chart.{Chart}
-use Rattle.walk.specs.Walk.{signals, Tick, isDrop}
-use Rattle.agreement.specs.Agreement.{RunInput, CallInput, toRun, toRebind, CallOutput, byRun, byRebinding}
-use Rattle.agreement.specs.Agreement.{short, joinedWords, bindingAfter, replyTo, refusedShort}
-use Rattle.agreement.specs.Agreement.{expected, expectedOutputs}
+use Rattle.walk.specs.Walk.{signals, Tick, is_drop}
+use Rattle.agreement.specs.Agreement.{RunInput, CallInput, to_run, to_rebind, CallOutput, by_run, by_rebinding}
+use Rattle.agreement.specs.Agreement.{is_short, joined_words, binding_after, reply_to, output_refused_short}
+use Rattle.agreement.specs.Agreement.{expected_output, expected_outputs}
 use Rattle.agreement.proofs.Joins.{joined-short, joined-long}
 use Rattle.agreement.proofs.Expected.{all_short, all-long}
-use Rattle.enough.specs.Enough.{allMade, noDrop, replyOf, dropless, AllMade}
+use Rattle.enough.specs.Enough.{all_made, HasNoDrop, reply_of, IsDropless, AllMade}
 
 module _ {A : Type 0} (P : A → Type 0) where
   all_take : (n : ℕ) (xs : List A) → All P xs → All P (take n xs)
@@ -38,10 +38,10 @@ length-codes : (us : List Tick) → length (map (λ (t : Tick). t.code) us) ≡ 
 length-codes [] = refl
 length-codes (u ∷ us) = ap suc (length-codes us)
 
-module _ (b : ℕ) (ts : List Tick) (long : b ≤ length ts) (quiet : All (λ (t : Tick). isDrop t ≡ false) ts) where
+module _ (b : ℕ) (ts : List Tick) (long : b ≤ length ts) (quiet : All (λ (t : Tick). is_drop t ≡ false) ts) where
   -- ---- one run
   module _ (p : ℕ) (a : RunInput) (l : p + length a.words ≤ b) where
-    reply-made : (expected b ts p a).reply ≡ success (length a.words)
+    reply-made : (expected_output b ts p a).reply ≡ success (length a.words)
     reply-made =
         let m : ℕ = length a.words in
         let e : min (p + m) b - min p b ≡ m = omega arith in
@@ -49,7 +49,7 @@ module _ (b : ℕ) (ts : List Tick) (long : b ≤ length ts) (quiet : All (λ (t
         (le-ltb b (p + m) l)
         ∙ ap success e
 
-    no_drop : noDrop (replyCount (expected b ts p a).reply) (expected b ts p a).codes
+    no_drop : HasNoDrop (reply_count (expected_output b ts p a).reply) (expected_output b ts p a).codes
     no_drop =
         let m : ℕ = length a.words in
         let done : ℕ = min (p + m) b - min p b in
@@ -58,42 +58,44 @@ module _ (b : ℕ) (ts : List Tick) (long : b ≤ length ts) (quiet : All (λ (t
         let e : done ≡ m = omega arith in
         let z : length (drop p ts) ≡ length ts - p = length-drop p ts in
         let n : length mine ≡ done = length-take done (drop p ts) ∙ omega arith in
-        let calm : All (λ (t : Tick). isDrop t ≡ false) mine =
-        all_take (λ (t : Tick). isDrop t ≡ false) done (drop p ts) (all_drop (λ (t : Tick). isDrop t ≡ false) p ts quiet) in
+        let calm : All (λ (t : Tick). is_drop t ≡ false) mine =
+        all_take (λ (t : Tick). is_drop t ≡ false) done (drop p ts) (all_drop (λ (t : Tick). is_drop t ≡ false) p ts quiet) in
         subst (All (λ (code : ℕ). code ≡ 96 → ⊥))
-        (sym (front (replyCount (expected b ts p a).reply) codes a.codes
-        (ap replyCount reply-made ∙ sym e ∙ sym n ∙ sym (length-codes mine))))
+        (sym (front (reply_count (expected_output b ts p a).reply) codes a.codes
+        (ap reply_count reply-made ∙ sym e ∙ sym n ∙ sym (length-codes mine))))
         (all_map (λ (code : ℕ). code ≡ 96 → ⊥) (λ (t : Tick). t.code) mine
-        (all_of (λ (t : Tick). isDrop t ≡ false) (λ (t : Tick). t.code ≡ 96 → ⊥) (λ t q. eqb-false t.code 96 q) mine calm))
+        (all_of (λ (t : Tick). is_drop t ≡ false) (λ (t : Tick). t.code ≡ 96 → ⊥) (λ t q. eqb-false t.code 96 q) mine calm))
 
   -- ---- one call more
   module _ (c : Chart) where
-    more-made : (g : CallInput) (rest : List CallInput) (d : CallOutput) (handed : List CallOutput) → replyOf d ≡ allMade c g → dropless d
+    more-made : (g : CallInput) (rest : List CallInput) (d : CallOutput) (handed : List CallOutput) → reply_of d ≡ all_made c g
+        → IsDropless d
         → AllMade c rest handed → AllMade c (g ∷ rest) (d ∷ handed)
     more-made g rest d handed e q r =
         record { replies = ap₂ (λ (x : Reply) (xs : List Reply). x ∷ xs) e r.replies; drops = (q, r.drops) }
 
-    pub expected-made : (given : List CallInput) (s : Binding) (p : ℕ) → p + length (joinedWords c s given) ≤ b
-        → AllMade c given (expectedOutputs c b ts p given)
-    unfolding expectedOutputs joinedWords
+    pub expected-made : (given : List CallInput) (s : Binding) (p : ℕ) → p + length (joined_words c s given) ≤ b
+        → AllMade c given (expected_outputs c b ts p given)
+    unfolding expected_outputs joined_words
     expected-made [] s p l = record { replies = refl; drops = tt }
-    expected-made (toRebind h k ∷ rest) s p l =
-        more-made (toRebind h k) rest (byRebinding (replyTo c h k)) _ refl tt (expected-made rest (bindingAfter c h k s) p l)
-    expected-made (toRun a ∷ rest) s p l = go (expected-made rest s) (short a) refl
+    expected-made (to_rebind h k ∷ rest) s p l =
+        more-made (to_rebind h k) rest (by_rebinding (reply_to c h k)) _ refl tt (expected-made rest (binding_after c h k s) p l)
+    expected-made (to_run a ∷ rest) s p l = go (expected-made rest s) (is_short a) refl
       where
         made : Bool → Reply
         made t = pick t (refusal 16 0 0) (success (length a.words))
 
-        go : ((q : ℕ) → q + length (joinedWords c s rest) ≤ b → AllMade c rest (expectedOutputs c b ts q rest)) → (t : Bool) → short a ≡ t
-            → AllMade c (toRun a ∷ rest) (expectedOutputs c b ts p (toRun a ∷ rest))
+        go : ((q : ℕ) → q + length (joined_words c s rest) ≤ b → AllMade c rest (expected_outputs c b ts q rest)) → (t : Bool)
+            → is_short a ≡ t
+            → AllMade c (to_run a ∷ rest) (expected_outputs c b ts p (to_run a ∷ rest))
         go ih true e =
-            let j : length (joinedWords c s (toRun a ∷ rest)) ≡ length (joinedWords c s rest) = ap length (joined-short c s a rest e) in
-            subst (AllMade c (toRun a ∷ rest)) (sym (all_short c b ts p a rest e))
-            (more-made (toRun a) rest (byRun (refusedShort a)) _ (sym (ap made e)) tt (ih p (omega arith)))
+            let j : length (joined_words c s (to_run a ∷ rest)) ≡ length (joined_words c s rest) = ap length (joined-short c s a rest e) in
+            subst (AllMade c (to_run a ∷ rest)) (sym (all_short c b ts p a rest e))
+            (more-made (to_run a) rest (by_run (output_refused_short a)) _ (sym (ap made e)) tt (ih p (omega arith)))
         go ih false e =
             let n : length (signals s a.words) ≡ length a.words = length-map a.words _ in
-            let j : length (joinedWords c s (toRun a ∷ rest)) ≡ length (signals s a.words) + length (joinedWords c s rest) =
-            ap length (joined-long c s a rest e) ∙ length-append (signals s a.words) (joinedWords c s rest) in
-            subst (AllMade c (toRun a ∷ rest)) (sym (all-long c b ts p a rest e))
-            (more-made (toRun a) rest (byRun (expected b ts p a)) _ (reply-made p a (omega arith) ∙ sym (ap made e))
+            let j : length (joined_words c s (to_run a ∷ rest)) ≡ length (signals s a.words) + length (joined_words c s rest) =
+            ap length (joined-long c s a rest e) ∙ length-append (signals s a.words) (joined_words c s rest) in
+            subst (AllMade c (to_run a ∷ rest)) (sym (all-long c b ts p a rest e))
+            (more-made (to_run a) rest (by_run (expected_output b ts p a)) _ (reply-made p a (omega arith) ∙ sym (ap made e))
             (no_drop p a (omega arith)) (ih (p + length a.words) (omega arith)))

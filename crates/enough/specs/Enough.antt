@@ -4,83 +4,84 @@
 use Rattle.std.specs.Prelude.{ℕ, ◌≤◌, ◌≡◌, List, map, length, take}
 use Rattle.words.specs.lists.Pick.{pick}
 use Rattle.words.specs.lists.Sequences.{All}
-use Rattle.bindings.specs.Binding.{ownBinding}
+use Rattle.bindings.specs.Binding.{own_binding}
 use Rattle.text.specs.declared.frames.codes.TheConstants.{DROP_CODE}
 use Rattle.text.specs.declared.frames.refusals.TheConstants.{NO_ROOM}
 use Rattle.text.specs.frames.Frame.{contents}
-use Rattle.text.specs.frames.Answer.{Reply, success, refusal, reply, replyNumber, replyCount, GivesBuffer}
+use Rattle.text.specs.frames.Answer.{Reply, success, refusal, reply, reply_number, reply_count, GivesBuffer}
 use Rattle.text.specs.declared.frames.Answer.{Answer}
 use Rattle.charts.specs.Chart.{Chart}
 use Rattle.walk.specs.Walk.{Signal}
 use Rattle.translator.specs.Entry.{translate}
-use Rattle.places.specs.Entry.{placesNeeded}
+use Rattle.places.specs.Entry.{places_needed}
 use Rattle.state.specs.declared.layout.TheConstants.{PLACES}
 use Rattle.state.specs.declared.StateReport.{StateReport}
-use Rattle.state.specs.State.{freshState, GivesState}
+use Rattle.state.specs.State.{fresh_state, GivesState}
 use Rattle.fairleadow.specs.telling.AnswersForC.{GivesReplyC}
 use Rattle.fairleadow.specs.telling.AnswersForC.{GivesBufferC}
 use Rattle.fairleadow.specs.runs_for_c.Calls.{GivesStateC}
-use Rattle.agreement.specs.Agreement.{CallInput, toRun, toRebind, CallOutput, byRun, byRebinding, short, joinedWords, replyTo}
+use Rattle.agreement.specs.Agreement.{CallInput, to_run, to_rebind, CallOutput, by_run, by_rebinding, is_short, joined_words, reply_to}
 use Rattle.agreement.specs.Calls.{CallsInTurn}
 use Rattle.agreement.specs.ForC as for-c
 
 -- every word of the list is told that each number is served by its own scheme
 abbrev pub OwnServed : Chart → List CallInput → Type 0
-OwnServed c given = All (λ (w : Signal). w.binding ≡ ownBinding) (joinedWords c ownBinding given)
+OwnServed c given = All (λ (w : Signal). w.binding ≡ own_binding) (joined_words c own_binding given)
 
 -- a run makes a tick for every word, or gets 16 for want of room; a rebinding is made, or gets 22
-abbrev pub allMade : Chart → CallInput → Reply
-allMade c (toRun a) = pick (short a) (refusal NO_ROOM 0 0) (success (length a.words))
-allMade c (toRebind h k) = replyTo c h k
+abbrev pub all_made : Chart → CallInput → Reply
+all_made c (to_run a) = pick (is_short a) (refusal NO_ROOM 0 0) (success (length a.words))
+all_made c (to_rebind h k) = reply_to c h k
 
 -- no code of a drop among those that were written
-abbrev pub noDrop : ℕ → List ℕ → Type 0
-noDrop n codes = All (λ (code : ℕ). code ≡ DROP_CODE → ⊥) (take n codes)
+abbrev pub HasNoDrop : ℕ → List ℕ → Type 0
+HasNoDrop n codes = All (λ (code : ℕ). code ≡ DROP_CODE → ⊥) (take n codes)
 
-abbrev pub replyOf : CallOutput → Reply
-replyOf (byRun t) = t.reply
-replyOf (byRebinding r) = r
+abbrev pub reply_of : CallOutput → Reply
+reply_of (by_run t) = t.reply
+reply_of (by_rebinding r) = r
 
-abbrev pub dropless : CallOutput → Type 0
-dropless (byRun t) = noDrop (replyCount t.reply) t.codes
-dropless (byRebinding r) = Unit {0}
+abbrev pub IsDropless : CallOutput → Type 0
+IsDropless (by_run t) = HasNoDrop (reply_count t.reply) t.codes
+IsDropless (by_rebinding r) = Unit {0}
 
 pub record AllMade (c : Chart) (given : List CallInput) (handed : List CallOutput) : Type 0 where
-  pub replies : map replyOf handed ≡ map (allMade c) given
-  pub drops : All dropless handed
+  pub replies : map reply_of handed ≡ map (all_made c) given
+  pub drops : All IsDropless handed
 
 -- places_needed answered success with k
 unfoldable pub Enough : Type 0
 Enough =
     (text before after : List ℕ) (answer : Answer) → GivesBuffer (translate text before) answer after → (n : ℕ) → reply answer ≡ success n
-    → (told : Answer) → reply told ≡ placesNeeded text → (k : ℕ) → reply told ≡ success k
-    → (size : ℕ) → k ≤ size → size ≤ PLACES → (made : StateReport) → GivesState (freshState size) made
+    → (told : Answer) → reply told ≡ places_needed text → (k : ℕ) → reply told ≡ success k
+    → (size : ℕ) → k ≤ size → size ≤ PLACES → (made : StateReport) → GivesState (fresh_state size) made
     → (given : List CallInput) → OwnServed (contents text) given
     → (handed : List CallOutput) → CallsInTurn (take n after) made.state given handed → AllMade (contents text) given handed
 
 -- ---- for C
-abbrev pub numberOfC : for-c.CallOutputC → ℕ
-numberOfC (for-c.byRunC t) = t.number
-numberOfC (for-c.byRebindingC n i k) = n
+abbrev pub number_of_c : for-c.CallOutputC → ℕ
+number_of_c (for-c.by_run_c t) = t.number
+number_of_c (for-c.by_rebinding_c n i k) = n
 
-abbrev pub countOfC : for-c.CallOutputC → ℕ
-countOfC (for-c.byRunC t) = t.count
-countOfC (for-c.byRebindingC n i k) = k
+abbrev pub count_of_c : for-c.CallOutputC → ℕ
+count_of_c (for-c.by_run_c t) = t.count
+count_of_c (for-c.by_rebinding_c n i k) = k
 
-abbrev pub droplessC : for-c.CallOutputC → Type 0
-droplessC (for-c.byRunC t) = noDrop t.count t.codes
-droplessC (for-c.byRebindingC n i k) = Unit {0}
+abbrev pub IsDroplessC : for-c.CallOutputC → Type 0
+IsDroplessC (for-c.by_run_c t) = HasNoDrop t.count t.codes
+IsDroplessC (for-c.by_rebinding_c n i k) = Unit {0}
 
 pub record AllMadeC (c : Chart) (given : List CallInput) (handed : List for-c.CallOutputC) : Type 0 where
-  pub numbers : map numberOfC handed ≡ map (λ g. replyNumber (allMade c g)) given
-  pub counts : map countOfC handed ≡ map (λ g. replyCount (allMade c g)) given
-  pub drops : All droplessC handed
+  pub numbers : map number_of_c handed ≡ map (λ g. reply_number (all_made c g)) given
+  pub counts : map count_of_c handed ≡ map (λ g. reply_count (all_made c g)) given
+  pub drops : All IsDroplessC handed
 
 -- fairleadow_places returned 0 with count k
 unfoldable pub EnoughC : Type 0
 EnoughC =
     (text before after : List ℕ) (at n : ℕ) → GivesBufferC (translate text before) 0 at n after
-    → (at k : ℕ) → GivesReplyC (placesNeeded text) 0 at k
-    → (size : ℕ) → k ≤ size → size ≤ PLACES → (returned at made : ℕ) (bytes : List ℕ) → GivesStateC (freshState size) returned at made bytes
+    → (at k : ℕ) → GivesReplyC (places_needed text) 0 at k
+    → (size : ℕ) → k ≤ size → size ≤ PLACES → (returned at made : ℕ) (bytes : List ℕ)
+    → GivesStateC (fresh_state size) returned at made bytes
     → (given : List CallInput) → OwnServed (contents text) given
     → (handed : List for-c.CallOutputC) → for-c.CallsInTurnC (take n after) bytes given handed → AllMadeC (contents text) given handed

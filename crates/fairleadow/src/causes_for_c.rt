@@ -1,5 +1,5 @@
 // The calls from C that tell what made a tick go on, and what a tick code stands for.
-ghost use Rattle.fairleadow.specs.causes_for_c.Calls.{causeFor, GivesCauseC};
+ghost use Rattle.fairleadow.specs.causes_for_c.Calls.{cause_for, GivesCauseC};
 ghost use Rattle.fairleadow.specs.causes_for_c.Meant.{Meant};
 
 use crate::telling::tell;
@@ -21,7 +21,7 @@ pub extern "C" fn fairleadow_cause(
     at: &mut usize,
     made: &mut usize,
 ) -> u8
-    ensures { GivesCauseC (causeFor image.now state.now word) result at.new
+    ensures { GivesCauseC (cause_for image.now state.now word) result at.new
         made.new row.new mask.new bit.new }
 {
     let found = cause_bytes(image, state, word);

@@ -1,7 +1,7 @@
 // The calls from C on charts: read, written, fetched by number, and how many places one needs.
-ghost use Rattle.charts.specs.Entry.{readChart, writeChart};
-ghost use Rattle.little_charts.specs.Little.{littleChart};
-ghost use Rattle.places.specs.Entry.{placesNeeded};
+ghost use Rattle.charts.specs.Entry.{read_chart, write_chart};
+ghost use Rattle.little_charts.specs.Little.{little_chart};
+ghost use Rattle.places.specs.Entry.{places_needed};
 ghost use Rattle.fairleadow.specs.telling.AnswersForC.{GivesReplyC, GivesBufferC};
 
 use crate::telling::tell;
@@ -14,7 +14,7 @@ pub extern "C" fn fairleadow_read_chart(
     at: &mut usize,
     made: &mut usize,
 ) -> u8
-    ensures { GivesBufferC (readChart text.now records.old) result
+    ensures { GivesBufferC (read_chart text.now records.old) result
         at.new made.new records.new }
 {
     let answer: Answer = chart_text::read_chart(text, records);
@@ -28,7 +28,7 @@ pub extern "C" fn fairleadow_write_chart(
     at: &mut usize,
     made: &mut usize,
 ) -> u8
-    ensures { GivesBufferC (writeChart records.now text.old) result
+    ensures { GivesBufferC (write_chart records.now text.old) result
         at.new made.new text.new }
 {
     let answer: Answer = chart_text::write_chart(records, text);
@@ -43,7 +43,7 @@ pub extern "C" fn fairleadow_little_chart(
     at: &mut usize,
     made: &mut usize,
 ) -> u8
-    ensures { GivesBufferC (littleChart frames number text.old) result at.new made.new
+    ensures { GivesBufferC (little_chart frames number text.old) result at.new made.new
         text.new }
 {
     let answer: Answer = little_fetch::fetching::little_chart(frames, number, text);
@@ -52,7 +52,7 @@ pub extern "C" fn fairleadow_little_chart(
 
 #[unsafe(no_mangle)]
 pub extern "C" fn fairleadow_places(chart: &[u8], at: &mut usize, made: &mut usize) -> u8
-    ensures { GivesReplyC (placesNeeded chart.now) result at.new made.new }
+    ensures { GivesReplyC (places_needed chart.now) result at.new made.new }
 {
     let answer: Answer = places::places_needed(chart);
     tell(answer, at, made)

@@ -1,5 +1,5 @@
 // The call from C that counts how often the stack fills.
-ghost use Rattle.fillings.specs.Counts.{countFillings};
+ghost use Rattle.fillings.specs.Counts.{count_fillings};
 ghost use Rattle.fairleadow.specs.fillings_for_c.Calls.{GivesFillingsC};
 
 use crate::telling::tell;
@@ -18,7 +18,7 @@ pub extern "C" fn fairleadow_count_fillings(
     at: &mut usize,
     made: &mut usize,
 ) -> u8
-    ensures { GivesFillingsC (countFillings image.now size ticks conditions) result at.new
+    ensures { GivesFillingsC (count_fillings image.now size ticks conditions) result at.new
         made.new ended.new full.new unmatched.new }
 {
     let counted = fillings::counting::count_fillings(image, size, ticks, conditions);

@@ -1,6 +1,6 @@
 // The calls from C on images: checked, listed and prepared.
-ghost use Rattle.text.specs.frames.Answer.{judged};
-ghost use Rattle.image.specs.Check.{imageVerdict};
+ghost use Rattle.text.specs.frames.Answer.{verdict_reply};
+ghost use Rattle.image.specs.Check.{image_verdict};
 ghost use Rattle.rows.specs.listing.Listing.{list};
 ghost use Rattle.tables.specs.Prepare.{prepare};
 ghost use Rattle.fairleadow.specs.telling.AnswersForC.{GivesReplyC, GivesBufferC};
@@ -10,7 +10,7 @@ use crate::telling::tell;
 
 #[unsafe(no_mangle)]
 pub extern "C" fn fairleadow_check_image(image: &[u8], at: &mut usize, made: &mut usize) -> u8
-    ensures { GivesReplyC (judged (imageVerdict image.now) 0) result at.new made.new }
+    ensures { GivesReplyC (verdict_reply (image_verdict image.now) 0) result at.new made.new }
 {
     let answer = image_check::check_image(image);
     tell(answer, at, made)

@@ -1,5 +1,5 @@
 // The call from C that runs and tells the price.
-ghost use Rattle.fairleadow.specs.prices_for_c.Calls.{pricedRunFor, GivesPricedRunC};
+ghost use Rattle.fairleadow.specs.prices_for_c.Calls.{priced_run_for, GivesPricedRunC};
 
 use crate::telling::tell;
 use prices::priced_runs::priced_run_bytes;
@@ -19,7 +19,7 @@ pub extern "C" fn fairleadow_priced_run(
     made: &mut usize,
 ) -> u8
     ensures { GivesPricedRunC
-        (pricedRunFor image.now state.old prices.now words.now masks.old
+        (priced_run_for image.now state.old prices.now words.now masks.old
         codes.old) words.now state.old result at.new made.new
         state.new masks.new codes.new price.new }
 {

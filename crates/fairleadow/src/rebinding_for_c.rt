@@ -1,5 +1,5 @@
 // The calls from C that have a number served by another scheme, on an image and live on a prepared table.
-ghost use Rattle.fairleadow.specs.rebinding_for_c.Calls.{rebindFor, liveRebindFor, GivesRebindingC};
+ghost use Rattle.fairleadow.specs.rebinding_for_c.Calls.{rebind_for, live_rebind_for, GivesRebindingC};
 
 use crate::telling::tell;
 use rebinding::{live_rebind_bytes, rebind_bytes};
@@ -15,7 +15,7 @@ pub extern "C" fn fairleadow_rebind(
     at: &mut usize,
     made: &mut usize,
 ) -> u8
-    ensures { GivesRebindingC (rebindFor image.now state.old number scheme)
+    ensures { GivesRebindingC (rebind_for image.now state.old number scheme)
         state.old result at.new made.new state.new }
 {
     let answer = rebind_bytes(image, state, number, scheme);
@@ -31,7 +31,7 @@ pub extern "C" fn fairleadow_live_rebind(
     at: &mut usize,
     made: &mut usize,
 ) -> u8
-    ensures { GivesRebindingC (liveRebindFor table.now state.old number scheme)
+    ensures { GivesRebindingC (live_rebind_for table.now state.old number scheme)
         state.old result at.new made.new state.new }
 {
     let answer = live_rebind_bytes(table, state, number, scheme);

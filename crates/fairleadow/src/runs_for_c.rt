@@ -1,6 +1,6 @@
 // The calls from C that make a state, run and tick, on an image and live on a prepared table; a state is 130 bytes.
-ghost use Rattle.state.specs.State.{freshState};
-ghost use Rattle.fairleadow.specs.runs_for_c.Calls.{GivesStateC, runFor, liveRunFor, GivesRunC, tickFor, liveTickFor, GivesTickC};
+ghost use Rattle.state.specs.State.{fresh_state};
+ghost use Rattle.fairleadow.specs.runs_for_c.Calls.{GivesStateC, run_for, live_run_for, GivesRunC, tick_for, live_tick_for, GivesTickC};
 
 use crate::telling::{tell, tell_tick};
 use runs::machine::{State, live_run_bytes, live_tick_bytes, run_bytes, tick_bytes};
@@ -14,7 +14,7 @@ pub extern "C" fn fairleadow_fresh(
     at: &mut usize,
     made: &mut usize,
 ) -> u8
-    ensures { GivesStateC (freshState size) result at.new made.new state.new }
+    ensures { GivesStateC (fresh_state size) result at.new made.new state.new }
 {
     let done = State::fresh(size);
     let answer = done.answer;
@@ -34,7 +34,7 @@ pub extern "C" fn fairleadow_run(
     at: &mut usize,
     made: &mut usize,
 ) -> u8
-    ensures { GivesRunC (runFor image.now state.old words.now masks.old
+    ensures { GivesRunC (run_for image.now state.old words.now masks.old
         codes.old) state.old result at.new made.new
         state.new masks.new codes.new }
 {
@@ -52,7 +52,7 @@ pub extern "C" fn fairleadow_live_run(
     at: &mut usize,
     made: &mut usize,
 ) -> u8
-    ensures { GivesRunC (liveRunFor table.now state.old words.now masks.old
+    ensures { GivesRunC (live_run_for table.now state.old words.now masks.old
         codes.old) state.old result at.new made.new
         state.new masks.new codes.new }
 {
@@ -71,7 +71,7 @@ pub extern "C" fn fairleadow_tick(
     at: &mut usize,
     made: &mut usize,
 ) -> u8
-    ensures { GivesTickC (tickFor image.now state.old word) state.old mask.old
+    ensures { GivesTickC (tick_for image.now state.old word) state.old mask.old
         code.old result at.new made.new state.new mask.new code.new }
 {
     let report = tick_bytes(image, state, word);
@@ -89,7 +89,7 @@ pub extern "C" fn fairleadow_live_tick(
     at: &mut usize,
     made: &mut usize,
 ) -> u8
-    ensures { GivesTickC (liveTickFor table.now state.old word) state.old mask.old
+    ensures { GivesTickC (live_tick_for table.now state.old word) state.old mask.old
         code.old result at.new made.new state.new mask.new code.new }
 {
     let report = live_tick_bytes(table, state, word);

@@ -1,5 +1,5 @@
 // The calls from C on four spindles, whose states are 520 bytes, on an image and live on a prepared table.
-ghost use Rattle.fairleadow.specs.spindles_for_c.Calls.{spinFor, liveSpinFor, GivesSpinC};
+ghost use Rattle.fairleadow.specs.spindles_for_c.Calls.{spin_for, live_spin_for, GivesSpinC};
 
 use crate::telling::tell_tick;
 use runs::TickReport;
@@ -20,7 +20,7 @@ pub extern "C" fn fairleadow_spin(
     at: &mut usize,
     made: &mut usize,
 ) -> u8
-    ensures { GivesSpinC (spinFor image.now states.old taken.old spindle word) states.old
+    ensures { GivesSpinC (spin_for image.now states.old taken.old spindle word) states.old
         spindle mask.old code.old result at.new made.new states.new
         taken.new mask.new code.new }
 {
@@ -48,7 +48,7 @@ pub extern "C" fn fairleadow_live_spin(
     at: &mut usize,
     made: &mut usize,
 ) -> u8
-    ensures { GivesSpinC (liveSpinFor table.now states.old taken.old spindle word)
+    ensures { GivesSpinC (live_spin_for table.now states.old taken.old spindle word)
         states.old spindle mask.old code.old result at.new made.new
         states.new taken.new mask.new code.new }
 {

@@ -8,16 +8,16 @@ use Rattle.words.specs.lists.Numbers.{count}
 use Rattle.text.specs.frames.Frame.{contents}
 use Rattle.text.specs.frames.Answer.{success}
 use Rattle.translator.specs.Entry.{translate}
-use Rattle.fillings.specs.Counts.{words_of, lists, countFillings}
+use Rattle.fillings.specs.Counts.{words_of, lists, count_fillings}
 use Rattle.fillings.specs.Promises.{SumsUp}
 use Rattle.fillings.proofs.Sums.{sums-up}
 use Rattle.fairleadow.specs.fillings_for_c.Calls.{GivesFillingsC}
 use Rattle.agreement.proofs.Numbers.{counts-success}
-use Rattle.fill_walks.specs.Promises.{walksDeep, ByTheWalk}
+use Rattle.fill_walks.specs.Promises.{is_walk_too_deep, ByTheWalk}
 use Rattle.fill_walks.proofs.Deep.{by-the-walk}
 
-module _ (t : List ℕ) (size n k r at made e f u : ℕ) (c : GivesFillingsC (countFillings t size n k) r at made e f u) (z : r ≡ 0) where
-  fine-reply : (countFillings t size n k).reply ≡ success 0
+module _ (t : List ℕ) (size n k r at made e f u : ℕ) (c : GivesFillingsC (count_fillings t size n k) r at made e f u) (z : r ≡ 0) where
+  fine-reply : (count_fillings t size n k).reply ≡ success 0
   fine-reply = counts-success t size n k (sym c.told.number_is ∙ z)
 
   pub sums-up-c : e + f + u ≡ lists n k
@@ -25,8 +25,8 @@ module _ (t : List ℕ) (size n k r at made e f u : ℕ) (c : GivesFillingsC (co
   sums-up-c = (λ j. c.ended j + c.full j + c.unmatched j) ∙ sums-up t size n k fine-reply
 
 pub by-the-walk-c : (text out : List ℕ) (m : ℕ) → (translate text out).reply ≡ success m → (size n k r at made e f u : ℕ)
-    → GivesFillingsC (countFillings (take m (translate text out).buffer) size n k) r at made e f u → r ≡ 0
-    → (u ≡ 0) × (f ≡ count (λ x. walksDeep size (contents text) (words_of n k x)) 0 (lists n k))
+    → GivesFillingsC (count_fillings (take m (translate text out).buffer) size n k) r at made e f u → r ≡ 0
+    → (u ≡ 0) × (f ≡ count (λ x. is_walk_too_deep size (contents text) (words_of n k x)) 0 (lists n k))
 unfolding ByTheWalk
 by-the-walk-c text out m translated size n k r at made e f u c z =
     let image : List ℕ = take m (translate text out).buffer in

@@ -7,70 +7,71 @@ use lib.Dec.{leb, eqb}
 use native.Mathlib.Omega.{arith}
 use Rattle.words.specs.lists.Pick.{pick}
 use Rattle.words.specs.lists.Numbers.{count}
-use Rattle.results.specs.Results.{Results, withResult, cleared}
-use Rattle.bindings.specs.Binding.{served}
+use Rattle.results.specs.Results.{Results, with_result, cleared_results}
+use Rattle.bindings.specs.Binding.{server_of}
 use Rattle.text.specs.frames.Frame.{contents}
 use Rattle.text.specs.frames.Verdict.{Verdict, fine, refused}
 use Rattle.text.specs.frames.Answer.{success}
-use Rattle.image.specs.Layout.{tickKind}
+use Rattle.image.specs.Layout.{tick_kind}
 use Rattle.image.specs.Image.{Image, Label}
-use Rattle.image.specs.Decode.{decoded}
+use Rattle.image.specs.Decode.{decoded_image}
 use Rattle.rows.specs.Rows.{Found, found, missing}
 use Rattle.state.specs.declared.State.{State}
-use Rattle.state.specs.State.{fresh, label_at, entry_at, placeAt, number_at}
+use Rattle.state.specs.State.{fresh, label_at, entry_at, place_at, number_at}
 use Rattle.state.specs.Changes.{with_bits}
-use Rattle.ticks.specs.Tick.{rowLeads, MachineTick, finished, stopped, moved, dropping, alone}
-use Rattle.ticks.specs.Tick.{keepsFull, full, pushed, popped, tickBy, tick}
+use Rattle.ticks.specs.Tick.{row_leads, MachineTick, finished, stopped, moved_tick, popped_state, state_alone}
+use Rattle.ticks.specs.Tick.{is_full_stack_kept, full_tick, pushed_tick, popped_tick, tick_by, tick}
 use Rattle.runs.specs.Run.{then, ticks}
-use Rattle.fillings.specs.Counts.{words_of, lists, number_of, met, meeting, countVerdict, fillingsOn, countFillings}
+use Rattle.fillings.specs.Counts.{words_of, lists, number_of, number_met, count_meeting, count_verdict, fillings_on, count_fillings}
 use Rattle.fillings.specs.Promises.{SumsUp}
 
 -- ---- one tick stops with 17 or 18 only
 pub data EndsBy : ℕ → Type 0 where
-  endsBy0 : EndsBy 0
-  endsBy17 : EndsBy 17
-  endsBy18 : EndsBy 18
+  ends_by_0 : EndsBy 0
+  ends_by_17 : EndsBy 17
+  ends_by_18 : EndsBy 18
 
 abbrev Stops : MachineTick → Type 0
 Stops (finished m code t) = Unit {0}
 Stops (stopped n) = EndsBy n
 
-moved-stops : (m code : ℕ) (t : State) (k : ℕ) (f : Found) → Stops (moved m code t k f)
+moved-stops : (m code : ℕ) (t : State) (k : ℕ) (f : Found) → Stops (moved_tick m code t k f)
 moved-stops m code t k (found l) = tt
-moved-stops m code t k missing = endsBy18
+moved-stops m code t k missing = ends_by_18
 
-full-stops : (i : Image) (s : State) (m : ℕ) (b : Results) → Stops (full i s m b)
-full-stops i s m b = go (keepsFull i s)
+full-stops : (i : Image) (s : State) (m : ℕ) (b : Results) → Stops (full_tick i s m b)
+full-stops i s m b = go (is_full_stack_kept i s)
   where
-    go : (t : Bool) → Stops (pick t (stopped 17) (finished m 96 (alone s (entry_at i i.handler) i.handler (cleared i.handler b))))
-    go true = endsBy17
+    go : (t : Bool) → Stops (pick t (stopped 17) (finished m 96 (state_alone s (entry_at i i.handler) i.handler
+        (cleared_results i.handler b))))
+    go true = ends_by_17
     go false = tt
 
-pushed-stops : (i : Image) (s : State) (m code h k : ℕ) (b : Results) (t : Bool) → Stops (pushed i s m code h k b t)
+pushed-stops : (i : Image) (s : State) (m code h k : ℕ) (b : Results) (t : Bool) → Stops (pushed_tick i s m code h k b t)
 pushed-stops i s m code h k b true = full-stops i s m b
 pushed-stops i s m code h k b false = tt
 
-popped-stops : (i : Image) (s : State) (w m : ℕ) (b : Results) (t : Bool) → Stops (popped i s w m b t)
+popped-stops : (i : Image) (s : State) (w m : ℕ) (b : Results) (t : Bool) → Stops (popped_tick i s w m b t)
 popped-stops i s w m b true = tt
-popped-stops i s w m b false = moved-stops m 3 (dropping s b) (s.depth - 2) (rowLeads i b (placeAt s (s.depth - 2)) w)
+popped-stops i s w m b false = moved-stops m 3 (popped_state s b) (s.depth - 2) (row_leads i b (place_at s (s.depth - 2)) w)
 
-by-stops : (i : Image) (s : State) (w l : ℕ) (x : Label) (b : Results) (k : ℕ) → Stops (tickBy i s w l x b (tickKind k))
-by-stops i s w l x b zero = moved-stops x.mask 0 (with_bits s b) (s.depth - 1) (rowLeads i b l w)
+by-stops : (i : Image) (s : State) (w l : ℕ) (x : Label) (b : Results) (k : ℕ) → Stops (tick_by i s w l x b (tick_kind k))
+by-stops i s w l x b zero = moved-stops x.mask 0 (with_bits s b) (s.depth - 1) (row_leads i b l w)
 by-stops i s w l x b (suc zero) =
-    pushed-stops i s x.mask (16 + x.called) x.called (served s.serving x.called) b (leb s.size s.depth)
+    pushed-stops i s x.mask (16 + x.called) x.called (server_of s.serving x.called) b (leb s.size s.depth)
 by-stops i s w l x b (suc (suc zero)) =
-    pushed-stops i s x.mask (64 + x.called) x.called (served s.serving x.called) b (leb s.size s.depth)
+    pushed-stops i s x.mask (64 + x.called) x.called (server_of s.serving x.called) b (leb s.size s.depth)
 by-stops i s w l x b (suc (suc (suc zero))) = popped-stops i s w x.mask b (leb s.depth 1)
 by-stops i s w l x b (suc (suc (suc (suc n)))) = moved-stops x.mask 4 (with_bits s b) (s.depth - 1) (found (entry_at i 1))
 
 tick-stops : (i : Image) (s : State) (w : ℕ) → Stops (tick i s w)
 unfolding tick
-tick-stops i s w = let l : ℕ = placeAt s (s.depth - 1) in let x : Label = label_at i l in
-    by-stops i s w l x (withResult x.result (number_at s (s.depth - 1)) s.bits) x.kind
+tick-stops i s w = let l : ℕ = place_at s (s.depth - 1) in let x : Label = label_at i l in
+    by-stops i s w l x (with_result x.result (number_at s (s.depth - 1)) s.bits) x.kind
 
 pub ticks-end : (i : Image) (ws : List ℕ) (s : State) → EndsBy (number_of (ticks i s ws).verdict)
 unfolding ticks
-ticks-end i [] s = endsBy0
+ticks-end i [] s = ends_by_0
 ticks-end i (w ∷ ws) s = go (tick i s w) (tick-stops i s w) (ticks-end i ws)
   where
     go : (t : MachineTick) → Stops t → ((u : State) → EndsBy (number_of (ticks i u ws).verdict))
@@ -87,23 +88,23 @@ module _ (f : ℕ → ℕ) (e : (x : ℕ) → EndsBy (f x)) where
   one_each x = go (f x) (e x)
     where
       go : (m : ℕ) → EndsBy m → pick (eqb m 0) 1 0 + pick (eqb m 17) 1 0 + pick (eqb m 18) 1 0 ≡ 1
-      go m endsBy0 = refl
-      go m endsBy17 = refl
-      go m endsBy18 = refl
+      go m ends_by_0 = refl
+      go m ends_by_17 = refl
+      go m ends_by_18 = refl
 
   all_three : (i n : ℕ) → count (λ x. eqb (f x) 0) i n + count (λ x. eqb (f x) 17) i n + count (λ x. eqb (f x) 18) i n ≡ n
   unfolding count
   all_three i zero = refl
   all_three i (suc n) = omega (arith, one_each i, all_three (suc i) n)
 
-pub counted-fine : (i : Image) (size n k : ℕ) (v : Verdict) → (fillingsOn i size n k v).reply ≡ success 0 → v ≡ fine
+pub counted-fine : (i : Image) (size n k : ℕ) (v : Verdict) → (fillings_on i size n k v).reply ≡ success 0 → v ≡ fine
 counted-fine i size n k fine e = refl
 counted-fine i size n k (refused m j) e = absurd (let z : ◌≡◌ {A = ℕ} 0 1 = cc in omega arith)
 
 pub sums-up : SumsUp
-unfolding SumsUp countFillings meeting
+unfolding SumsUp count_fillings count_meeting
 sums-up t size n k e =
-    let i : Image = decoded (contents t) in
-    ap (λ (v : Verdict). let r = fillingsOn i size n k v in r.ended + r.full + r.unmatched)
-    (counted-fine i size n k (countVerdict t size n k) e)
-    ∙ all_three (λ x. met i (fresh size) (words_of n k x)) (λ x. ticks-end i (words_of n k x) (fresh size)) 0 (lists n k)
+    let i : Image = decoded_image (contents t) in
+    ap (λ (v : Verdict). let r = fillings_on i size n k v in r.ended + r.full + r.unmatched)
+    (counted-fine i size n k (count_verdict t size n k) e)
+    ∙ all_three (λ x. number_met i (fresh size) (words_of n k x)) (λ x. ticks-end i (words_of n k x) (fresh size)) 0 (lists n k)

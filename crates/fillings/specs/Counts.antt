@@ -7,10 +7,10 @@ use Rattle.text.specs.frames.Frame.{contents}
 use Rattle.text.specs.frames.Verdict.{Verdict, fine, refused, next, when}
 use Rattle.text.specs.frames.Answer.{Reply, success, refusal}
 use Rattle.image.specs.Image.{Image}
-use Rattle.image.specs.Decode.{decoded}
-use Rattle.image.specs.Check.{imageVerdict}
+use Rattle.image.specs.Decode.{decoded_image}
+use Rattle.image.specs.Check.{image_verdict}
 use Rattle.state.specs.declared.State.{State}
-use Rattle.state.specs.State.{fresh, badSize}
+use Rattle.state.specs.State.{fresh, is_bad_size}
 use Rattle.runs.specs.Run.{ticks}
 
 -- list x of n words: its first word is the lowest k bits of x, the others are those of the bits above
@@ -27,20 +27,20 @@ abbrev pub number_of : Verdict → ℕ
 number_of fine = 0
 number_of (refused n i) = n
 
-abbrev pub met : Image → State → List ℕ → ℕ
-met i s words = number_of (ticks i s words).verdict
+abbrev pub number_met : Image → State → List ℕ → ℕ
+number_met i s words = number_of (ticks i s words).verdict
 
 -- how many lists meet a number
-unfoldable pub meeting : Image → State → ℕ → ℕ → ℕ → ℕ
-meeting i s n k number = count (λ x. eqb (met i s (words_of n k x)) number) 0 (lists n k)
+unfoldable pub count_meeting : Image → State → ℕ → ℕ → ℕ → ℕ
+count_meeting i s n k number = count (λ x. eqb (number_met i s (words_of n k x)) number) 0 (lists n k)
 
 -- 28
-abbrev pub tooManyLists : ℕ → ℕ → Bool
-tooManyLists n k = ltb CONDITIONS (n * k) || ltb CONDITIONS k || ltb WORDS n
+abbrev pub has_too_many_lists : ℕ → ℕ → Bool
+has_too_many_lists n k = ltb CONDITIONS (n * k) || ltb CONDITIONS k || ltb WORDS n
 
 -- what the image check tries, 14 and 28
-unfoldable pub countVerdict : List ℕ → ℕ → ℕ → ℕ → Verdict
-countVerdict t size n k = next (imageVerdict t) λ _. next (when BAD_SIZE (badSize size)) λ _. when MANY_LISTS (tooManyLists n k)
+unfoldable pub count_verdict : List ℕ → ℕ → ℕ → ℕ → Verdict
+count_verdict t size n k = next (image_verdict t) λ _. next (when BAD_SIZE (is_bad_size size)) λ _. when MANY_LISTS (has_too_many_lists n k)
 
 -- lists that run to their end, that meet 17 and that meet 18
 pub record FillingsOutcome : Type 0 where
@@ -49,10 +49,15 @@ pub record FillingsOutcome : Type 0 where
   pub full : ℕ
   pub unmatched : ℕ
 
-abbrev pub fillingsOn : Image → ℕ → ℕ → ℕ → Verdict → FillingsOutcome
-fillingsOn i size n k (refused m j) = record { reply = refusal m j 0; ended = 0; full = 0; unmatched = 0 }
-fillingsOn i size n k fine = let s = fresh size in
-    record { reply = success 0; ended = meeting i s n k 0; full = meeting i s n k FULL; unmatched = meeting i s n k NO_ROW }
+abbrev pub fillings_on : Image → ℕ → ℕ → ℕ → Verdict → FillingsOutcome
+fillings_on i size n k (refused m j) = record { reply = refusal m j 0; ended = 0; full = 0; unmatched = 0 }
+fillings_on i size n k fine = let s = fresh size in
+    record {
+      reply = success 0;
+      ended = count_meeting i s n k 0;
+      full = count_meeting i s n k FULL;
+      unmatched = count_meeting i s n k NO_ROW;
+    }
 
-unfoldable pub countFillings : List ℕ → ℕ → ℕ → ℕ → FillingsOutcome
-countFillings t size n k = fillingsOn (decoded (contents t)) size n k (countVerdict t size n k)
+unfoldable pub count_fillings : List ℕ → ℕ → ℕ → ℕ → FillingsOutcome
+count_fillings t size n k = fillings_on (decoded_image (contents t)) size n k (count_verdict t size n k)

@@ -2,7 +2,7 @@
 use Rattle.std.specs.Prelude.{ℕ, ◌+◌, ◌^◌, ◌<◌, ◌≡◌, List, length}
 use Rattle.words.specs.lists.Sequences.{All}
 use Rattle.text.specs.frames.Answer.{success}
-use Rattle.fillings.specs.Counts.{words_of, lists, countFillings}
+use Rattle.fillings.specs.Counts.{words_of, lists, count_fillings}
 
 -- n words below 2 ^ k
 pub record Words (n k : ℕ) (words : List ℕ) : Type 0 where
@@ -24,5 +24,5 @@ pub record AllLists : Type 0 where
 -- the three counts are all lists
 unfoldable pub SumsUp : Type 0
 SumsUp =
-    (t : List ℕ) (size n k : ℕ) → let r = countFillings t size n k in
+    (t : List ℕ) (size n k : ℕ) → let r = count_fillings t size n k in
     r.reply ≡ success 0 → r.ended + r.full + r.unmatched ≡ lists n k

@@ -1,10 +1,10 @@
 // The entry point to how often the stack fills: all lists of words, counted by how they run from a fresh state.
 ghost use Rattle.std.specs.Prelude.{false, ◌≡◌, ◌*◌, ◌≤◌};
-ghost use Rattle.tables.specs.Table.{tableImage};
+ghost use Rattle.tables.specs.Table.{table_image};
 ghost use Rattle.tables.specs.inner.Asked.{Whole};
-ghost use Rattle.state.specs.State.{fresh, badSize};
+ghost use Rattle.state.specs.State.{fresh, is_bad_size};
 ghost use Rattle.state.specs.Bytes.{state_of};
-ghost use Rattle.fillings.specs.Counts.{tooManyLists, countFillings};
+ghost use Rattle.fillings.specs.Counts.{has_too_many_lists, count_fillings};
 ghost use Rattle.fillings.specs.fill_counts.inner.TallyContracts.{tally_of};
 ghost use Rattle.fillings.specs.counting.CountingContracts.{GivesFillings};
 
@@ -29,7 +29,7 @@ pub struct FillingsReport {
 
 // 28: each bound by itself, so that no product wraps.
 fn too_many(n: usize, k: usize) -> bool
-    ensures { result ≡ tooManyLists n k }
+    ensures { result ≡ has_too_many_lists n k }
 {
     if 16 < k {
         return true;
@@ -41,7 +41,7 @@ fn too_many(n: usize, k: usize) -> bool
 }
 
 fn fresh_bytes(size: usize) -> [u8; STATE_BYTES]
-    requires { badSize size ≡ false }
+    requires { is_bad_size size ≡ false }
     ensures { state_of result ≡ fresh size }
 {
     let made = State::fresh(size);
@@ -51,9 +51,9 @@ fn fresh_bytes(size: usize) -> [u8; STATE_BYTES]
 // Words without conditions are one list, however long it is; else there are at most 16 words.
 fn tally(table: &[u8], size: usize, n: usize, k: usize) -> Tally
     requires whole { Whole table.now }
-    requires size_value { badSize size ≡ false }
+    requires size_value { is_bad_size size ≡ false }
     requires k_bound { n * k ≤ 16 }
-    ensures { result ≡ tally_of (tableImage table.now) (fresh size) n k }
+    ensures { result ≡ tally_of (table_image table.now) (fresh size) n k }
 {
     let bytes = fresh_bytes(size);
     if k == 0 {
@@ -64,7 +64,7 @@ fn tally(table: &[u8], size: usize, n: usize, k: usize) -> Tally
 
 // What the image check tries, then 14 and 28.
 pub fn count_fillings(image: &[u8], size: usize, n: usize, k: usize) -> FillingsReport
-    ensures { GivesFillings (countFillings image.now size n k) result }
+    ensures { GivesFillings (count_fillings image.now size n k) result }
 {
     let mut table = [0u8; TABLE];
     let answer = prepare_table(image, &mut table);

@@ -1,10 +1,10 @@
 // How runs end, in tallies: of lists that all end alike, of two tallies together, and of one list of words on a prepared table.
 ghost use Rattle.std.specs.Prelude.{◌≡◌, ◌^◌, ◌≤◌};
 ghost use Rattle.words.specs.lists.Pick.{pick};
-ghost use Rattle.tables.specs.Table.{tableImage};
+ghost use Rattle.tables.specs.Table.{table_image};
 ghost use Rattle.state.specs.Bytes.{state_of};
 ghost use Rattle.ticks.specs.inner.TickContracts.{TickAsked};
-ghost use Rattle.fillings.specs.fill_counts.inner.TallyContracts.{tally_of, allMeet, added, FewLists};
+ghost use Rattle.fillings.specs.fill_counts.inner.TallyContracts.{tally_of, all_meet, tally_sum, FewLists};
 
 use runs::tick_word;
 use state::layout::STATE_BYTES;
@@ -36,7 +36,7 @@ fn only_if(here: bool, lists: u32) -> u32
 
 // That many lists, all of which meet one number; 0 stands for their end.
 pub fn all_meet(number: u8, lists: u32) -> Tally
-    ensures { result ≡ allMeet number lists }
+    ensures { result ≡ all_meet number lists }
 {
     Tally {
         ended: only_if(number == 0, lists),
@@ -46,8 +46,8 @@ pub fn all_meet(number: u8, lists: u32) -> Tally
 }
 
 pub fn add(a: Tally, b: Tally) -> Tally
-    requires { FewLists (added a b) }
-    ensures { result ≡ added a b }
+    requires { FewLists (tally_sum a b) }
+    ensures { result ≡ tally_sum a b }
 {
     Tally {
         ended: a.ended + b.ended,
@@ -59,7 +59,7 @@ pub fn add(a: Tally, b: Tally) -> Tally
 // Words that all are 0: one list, tick by tick.
 pub fn tally_one(table: &[u8], bytes: [u8; STATE_BYTES], n: usize) -> Tally
     requires { TickAsked table.now (state_of bytes) }
-    ensures { result ≡ tally_of (tableImage table.now) (state_of bytes) n 0 }
+    ensures { result ≡ tally_of (table_image table.now) (state_of bytes) n 0 }
 {
     let mut state = bytes;
     let mut left = n;

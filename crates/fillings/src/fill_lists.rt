@@ -1,6 +1,6 @@
 // How the runs of all lists of words end, counted on a prepared table: lists that share a beginning share its ticks.
 ghost use Rattle.std.specs.Prelude.{◌≡◌, ◌*◌, ◌≤◌};
-ghost use Rattle.tables.specs.Table.{tableImage};
+ghost use Rattle.tables.specs.Table.{table_image};
 ghost use Rattle.state.specs.Bytes.{state_of};
 ghost use Rattle.ticks.specs.inner.TickContracts.{TickAsked};
 ghost use Rattle.fillings.specs.fill_counts.inner.TallyContracts.{tally_of};
@@ -14,7 +14,7 @@ use state::layout::STATE_BYTES;
 pub fn tally_all(table: &[u8], bytes: &[u8; STATE_BYTES], n: usize, k: usize) -> Tally
     requires tick_asked { TickAsked table.now (state_of bytes.now) }
     requires k_bound { n * k ≤ 16 }
-    ensures { result ≡ tally_of (tableImage table.now) (state_of bytes.now) n k }
+    ensures { result ≡ tally_of (table_image table.now) (state_of bytes.now) n k }
 {
     if n == 0 {
         return all_meet(0, 1);

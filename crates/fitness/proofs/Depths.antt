@@ -7,14 +7,14 @@ use lib.Dec.{ltb, eqb}
 use borrow.Author.Tests.{ne_eqb, le-ltb, eqb-false, ltb-false}
 use Rattle.words.proofs.lists.Tests.{or_l, or_r}
 use Rattle.state.specs.declared.State.{State}
-use Rattle.fitness.specs.Fitness.{badDepth}
+use Rattle.fitness.specs.Fitness.{has_bad_depth}
 
 pub record DeepState (s : State) : Type 0 where
   pub some : 1 ≤ s.depth
   pub most : s.depth ≤ s.size
   pub small : s.size ≤ 32
 
-pub deep-told : (s : State) → badDepth s ≡ false → DeepState s
+pub deep-told : (s : State) → has_bad_depth s ≡ false → DeepState s
 deep-told s e =
     let z : Bool = eqb s.size 0 in
     let h : Bool = ltb 32 s.size in
@@ -29,7 +29,7 @@ deep-told s e =
       small = ltb-false 32 s.size (or_r z h e₂);
     }
 
-pub deep-fine : (s : State) → DeepState s → badDepth s ≡ false
+pub deep-fine : (s : State) → DeepState s → has_bad_depth s ≡ false
 deep-fine s y =
     rw (
       ne_eqb s.size 0 (λ p. omega (arith, y.some, y.most)),

@@ -10,27 +10,28 @@ use Rattle.words.specs.lists.Pick.{pick}
 use Rattle.words.specs.lists.Numbers.{any}
 use Rattle.words.proofs.lists.Tests.{or_r, or_l, or-none, and_l, and_r, and-true, and-false, not-false}
 use Rattle.words.proofs.lists.Searches.{any_false, any_none}
-use Rattle.bindings.specs.Binding.{served}
+use Rattle.bindings.specs.Binding.{server_of}
 use Rattle.image.specs.Image.{Image}
 use Rattle.state.specs.declared.State.{State}
-use Rattle.state.specs.State.{placeAt, number_at, serverAt, Sized}
+use Rattle.state.specs.State.{place_at, number_at, server_at, Sized}
 use Rattle.fitness.proofs.Depths.{deep-told, deep-fine}
-use Rattle.fitness.specs.Fitness.{callable, mayCarry, unfitPlace, filledPlace, badBottom, badServed, badDepth, unfit}
+use Rattle.fitness.specs.Fitness.{is_callable, is_able_to_carry, is_unfit_place, is_filled_place, has_bad_bottom, is_badly_served}
+use Rattle.fitness.specs.Fitness.{has_bad_depth, is_unfit}
 
 -- place k may be kept under the one above it
-abbrev pub carry : Image → State → ℕ → Bool
-carry i s k = mayCarry i (placeAt s k) (number_at s (k + 1)) (serverAt s (k + 1)) (placeAt s (k + 1))
+abbrev pub is_carried : Image → State → ℕ → Bool
+is_carried i s k = is_able_to_carry i (place_at s k) (number_at s (k + 1)) (server_at s (k + 1)) (place_at s (k + 1))
 
 pub record Fits (i : Image) (s : State) : Type 0 where
   pub whole : Sized s
   pub small : s.size ≤ 32
   pub some : 1 ≤ s.depth
   pub most : s.depth ≤ s.size
-  pub labels : (k : ℕ) → k < s.depth → placeAt s k < length i.labels
-  pub carries : (k : ℕ) → k + 1 < s.depth → carry i s k ≡ true
-  pub bottom : badBottom i s ≡ false
-  pub above : (k : ℕ) → s.depth ≤ k → k < 32 → filledPlace s k ≡ false
-  pub serves : (h : ℕ) → 2 ≤ h → h < 17 → badServed i s h ≡ false
+  pub labels : (k : ℕ) → k < s.depth → place_at s k < length i.labels
+  pub carries : (k : ℕ) → k + 1 < s.depth → is_carried i s k ≡ true
+  pub bottom : has_bad_bottom i s ≡ false
+  pub above : (k : ℕ) → s.depth ≤ k → k < 32 → is_filled_place s k ≡ false
+  pub serves : (h : ℕ) → 2 ≤ h → h < 17 → is_badly_served i s h ≡ false
 
 -- a chain of tests of which none holds
 none_of : (a b c d e : Bool) → (a || b || c || d || e) ≡ false → (a ≡ false) × (b ≡ false) × (c ≡ false) × (d ≡ false) × (e ≡ false)
@@ -43,82 +44,82 @@ none_of a b c d e p =
 module _ (i : Image) (s : State) where
   -- place k may not carry the one above it
   abbrev strays : ℕ → Bool
-  strays k = ltb (k + 1) s.depth && not (carry i s k)
+  strays k = ltb (k + 1) s.depth && not (is_carried i s k)
 
-  fits-place : Fits i s → (k : ℕ) → k < s.depth → unfitPlace i s k ≡ false
+  fits-place : Fits i s → (k : ℕ) → k < s.depth → is_unfit_place i s k ≡ false
   fits-place f k l =
-      or-none (leb (length i.labels) (placeAt s k)) (strays k)
-      (lt-leb (length i.labels) (placeAt s k) (f.labels k l)) (go (ltb (k + 1) s.depth) refl)
+      or-none (leb (length i.labels) (place_at s k)) (strays k)
+      (lt-leb (length i.labels) (place_at s k) (f.labels k l)) (go (ltb (k + 1) s.depth) refl)
     where
-      go : (t : Bool) → ltb (k + 1) s.depth ≡ t → (t && not (carry i s k)) ≡ false
+      go : (t : Bool) → ltb (k + 1) s.depth ≡ t → (t && not (is_carried i s k)) ≡ false
       go true e = ap not (f.carries k (ltb-true (k + 1) s.depth e))
       go false e = refl
 
-  pub fits : Fits i s → unfit i s ≡ false
-  unfolding unfit
+  pub fits : Fits i s → is_unfit i s ≡ false
+  unfolding is_unfit
   fits f = rw (
     deep-fine s (record { some = f.some; most = f.most; small = f.small }),
-    any_none (unfitPlace i s) 0 s.depth (λ k l. fits-place f (0 + k) (omega arith)),
+    any_none (is_unfit_place i s) 0 s.depth (λ k l. fits-place f (0 + k) (omega arith)),
     f.bottom,
-    any_none (filledPlace s) s.depth (32 - s.depth) (λ k l. f.above (s.depth + k) (omega arith) (omega arith)),
-    any_none (badServed i s) 2 15 (λ k l. f.serves (2 + k) (omega arith) (omega arith)),
+    any_none (is_filled_place s) s.depth (32 - s.depth) (λ k l. f.above (s.depth + k) (omega arith) (omega arith)),
+    any_none (is_badly_served i s) 2 15 (λ k l. f.serves (2 + k) (omega arith) (omega arith)),
   )
 
-  pub unfits : Sized s → unfit i s ≡ false → Fits i s
-  unfolding unfit
+  pub unfits : Sized s → is_unfit i s ≡ false → Fits i s
+  unfolding is_unfit
   unfits w e =
       let none =
-      none_of (badDepth s) (any (unfitPlace i s) 0 s.depth) (badBottom i s)
-      (any (filledPlace s) s.depth (32 - s.depth)) (any (badServed i s) 2 15) e in
+      none_of (has_bad_depth s) (any (is_unfit_place i s) 0 s.depth) (has_bad_bottom i s)
+      (any (is_filled_place s) s.depth (32 - s.depth)) (any (is_badly_served i s) 2 15) e in
       let deep = deep-told s none.0 in
       record {
         whole = w;
         small = deep.small;
         some = deep.some;
         most = deep.most;
-        labels = λ k l. leb-false (length i.labels) (placeAt s k) (place none.1 k l).0;
+        labels = λ k l. leb-false (length i.labels) (place_at s k) (place none.1 k l).0;
         carries = λ k l. not-false _ (and-false (ltb (k + 1) s.depth) _
             (place none.1 k (omega arith)).1 (lt-ltb (k + 1) s.depth l));
         bottom = none.2;
-        above = λ k l m. any_false (filledPlace s) s.depth (32 - s.depth) none.3 k l (omega arith);
-        serves = λ h l m. any_false (badServed i s) 2 15 none.4 h l (omega arith);
+        above = λ k l m. any_false (is_filled_place s) s.depth (32 - s.depth) none.3 k l (omega arith);
+        serves = λ h l m. any_false (is_badly_served i s) 2 15 none.4 h l (omega arith);
       }
     where
-      place : any (unfitPlace i s) 0 s.depth ≡ false → (k : ℕ) → k < s.depth
-          → (leb (length i.labels) (placeAt s k) ≡ false) × (strays k ≡ false)
+      place : any (is_unfit_place i s) 0 s.depth ≡ false → (k : ℕ) → k < s.depth
+          → (leb (length i.labels) (place_at s k) ≡ false) × (strays k ≡ false)
       place q k l =
-          let p : unfitPlace i s k ≡ false = any_false (unfitPlace i s) 0 s.depth q k (omega arith) (omega arith) in
-          (or_l (leb (length i.labels) (placeAt s k)) (strays k) p, or_r (leb (length i.labels) (placeAt s k)) (strays k) p)
+          let p : is_unfit_place i s k ≡ false = any_false (is_unfit_place i s) 0 s.depth q k (omega arith) (omega arith) in
+          (or_l (leb (length i.labels) (place_at s k)) (strays k) p, or_r (leb (length i.labels) (place_at s k)) (strays k) p)
 
 -- ---- who may be called, and who serves
 module _ (i : Image) where
-  pub callable-range : (k : ℕ) → callable i k ≡ true → (2 ≤ k) × (k ≤ length i.entries)
+  pub callable-range : (k : ℕ) → is_callable i k ≡ true → (2 ≤ k) × (k ≤ length i.entries)
   callable-range k e = (
     leb-true 2 k (and_l (leb 2 k) (leb k (length i.entries)) e),
     leb-true k (length i.entries) (and_r (leb 2 k) (leb k (length i.entries)) e),
   )
 
-  pub range-callable : (k : ℕ) → 2 ≤ k → k ≤ length i.entries → callable i k ≡ true
+  pub range-callable : (k : ℕ) → 2 ≤ k → k ≤ length i.entries → is_callable i k ≡ true
   range-callable k a b = and-true (leb 2 k) (leb k (length i.entries)) (le-leb 2 k a) (le-leb k (length i.entries) b)
 
   -- every number of 2 to H is served by a scheme of 2 to H
   pub called-served : length i.entries ≤ 16 → (s : State) → Fits i s → (h : ℕ) → 2 ≤ h → h ≤ length i.entries
-      → callable i (served s.serving h) ≡ true
+      → is_callable i (server_of s.serving h) ≡ true
   called-served few s f h two most =
       go (eqb h i.handler) (ap (λ (p : Bool). by p (eqb h i.handler)) (sym (le-leb h (length i.entries) most)) ∙ good)
     where
       by : Bool → Bool → Bool
-      by p t = not (pick (p && not t) (callable i (served s.serving h)) (eqb (served s.serving h) h))
+      by p t = not (pick (p && not t) (is_callable i (server_of s.serving h)) (eqb (server_of s.serving h) h))
 
       good : by (leb h (length i.entries)) (eqb h i.handler) ≡ false
       good = f.serves h two (omega arith)
 
-      go : (t : Bool) → by true t ≡ false → callable i (served s.serving h) ≡ true
+      go : (t : Bool) → by true t ≡ false → is_callable i (server_of s.serving h) ≡ true
       go true e =
-          let q : served s.serving h ≡ h = eqb-true (served s.serving h) h (not-false _ e) in
-          subst (λ (k : ℕ). callable i k ≡ true) (sym q) (range-callable h two most)
+          let q : server_of s.serving h ≡ h = eqb-true (server_of s.serving h) h (not-false _ e) in
+          subst (λ (k : ℕ). is_callable i k ≡ true) (sym q) (range-callable h two most)
       go false e = not-false _ e
 
   pub fits-serves : length i.entries ≤ 16 → (s : State) → Fits i s → (h : ℕ) → 2 ≤ h → h ≤ length i.entries
-      → (2 ≤ served s.serving h) × (served s.serving h ≤ length i.entries)
-  fits-serves few s f h two most = callable-range (served s.serving h) (called-served few s f h two most)
+      → (2 ≤ server_of s.serving h) × (server_of s.serving h ≤ length i.entries)
+  fits-serves few s f h two most = callable-range (server_of s.serving h) (called-served few s f h two most)

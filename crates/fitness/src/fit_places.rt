@@ -1,13 +1,13 @@
 // Whether the open places of a state fit, from the bottom up.
 ghost use Rattle.std.specs.Prelude.{◌≡◌, ◌||◌};
 ghost use Rattle.words.specs.lists.Numbers.{any};
-ghost use Rattle.image.specs.Decode.{handlerIn};
-ghost use Rattle.tables.specs.Table.{tableImage};
+ghost use Rattle.image.specs.Decode.{handler_in};
+ghost use Rattle.tables.specs.Table.{table_image};
 ghost use Rattle.tables.specs.inner.Asked.{Whole};
-ghost use Rattle.state.specs.State.{number_at, serverAt};
+ghost use Rattle.state.specs.State.{number_at, server_at};
 ghost use Rattle.state.specs.Bytes.{state_of};
-ghost use Rattle.fitness.specs.Fitness.{unfitPlace, badBottom};
-ghost use Rattle.fitness.specs.inner.FitnessContracts.{astrayAtBottom, DeepTable};
+ghost use Rattle.fitness.specs.Fitness.{is_unfit_place, has_bad_bottom};
+ghost use Rattle.fitness.specs.inner.FitnessContracts.{is_astray_at_bottom, DeepTable};
 
 use crate::{calls_none, is_astray, is_first, is_miscalled, is_own};
 use state::layout::STATE_BYTES;
@@ -17,8 +17,8 @@ use tables::{handler_of, label_of, last_label, scheme_count};
 // Whether the bottom is not of scheme 1 or the handler by its own number. The handler is read only where it decides.
 fn is_astray_at_bottom(table: &[u8], bytes: &[u8; STATE_BYTES], owner: u8, l: u8) -> bool
     requires { Whole table.now }
-    ensures { result ≡ astrayAtBottom (handlerIn table.now) owner l (number_at (state_of bytes.now) 0)
-        (serverAt (state_of bytes.now) 0) }
+    ensures { result ≡ is_astray_at_bottom (handler_in table.now) owner l (number_at (state_of bytes.now) 0)
+        (server_at (state_of bytes.now) 0) }
 {
     let number = number_of(bytes, 0);
     let server = server_of(bytes, 0);
@@ -39,8 +39,8 @@ fn is_astray_at_bottom(table: &[u8], bytes: &[u8; STATE_BYTES], owner: u8, l: u8
 // Each label is read once, from the bottom up, with the number that the one below calls.
 pub fn any_unfit(table: &[u8], bytes: &[u8; STATE_BYTES]) -> bool
     requires { DeepTable table.now (state_of bytes.now) }
-    ensures { result ≡ (any (unfitPlace (tableImage table.now) (state_of bytes.now)) 0
-        (state_of bytes.now).depth || badBottom (tableImage table.now) (state_of bytes.now)) }
+    ensures { result ≡ (any (is_unfit_place (table_image table.now) (state_of bytes.now)) 0
+        (state_of bytes.now).depth || has_bad_bottom (table_image table.now) (state_of bytes.now)) }
 {
     let schemes = scheme_count(table);
     let last = last_label(table);

@@ -3,12 +3,12 @@ ghost use Rattle.std.specs.Prelude.{◌≡◌, ◌-◌, ◌≤◌, ◌<◌, leb}
 ghost use Rattle.std.specs.Int.Bits.{bit_or};
 ghost use Rattle.words.specs.lists.Pick.{pick};
 ghost use Rattle.words.specs.lists.Numbers.{any};
-ghost use Rattle.tables.specs.Table.{tableImage};
+ghost use Rattle.tables.specs.Table.{table_image};
 ghost use Rattle.tables.specs.inner.Asked.{Whole};
 ghost use Rattle.state.specs.declared.layout.TheConstants.{PLACES};
-ghost use Rattle.state.specs.State.{placeAt, number_at, serverAt};
+ghost use Rattle.state.specs.State.{place_at, number_at, server_at};
 ghost use Rattle.state.specs.Bytes.{state_of};
-ghost use Rattle.fitness.specs.Fitness.{filledPlace, badServed, badDepth, unfit};
+ghost use Rattle.fitness.specs.Fitness.{is_filled_place, is_badly_served, has_bad_depth, is_unfit};
 
 use crate::fit_places::any_unfit;
 use crate::is_misserved;
@@ -22,8 +22,8 @@ use tables::{handler_of, scheme_count};
 fn place_above(bytes: &[u8; STATE_BYTES], depth: usize, k: usize) -> u8
     requires { k < PLACES }
     ensures { result ≡ pick (leb depth k)
-        (bit_or (bit_or (placeAt (state_of bytes.now) k) (number_at (state_of bytes.now) k))
-        (serverAt (state_of bytes.now) k)) 0 }
+        (bit_or (bit_or (place_at (state_of bytes.now) k) (number_at (state_of bytes.now) k))
+        (server_at (state_of bytes.now) k)) 0 }
 {
     if depth <= k {
         return place_of(bytes, k) | number_of(bytes, k) | server_of(bytes, k);
@@ -34,7 +34,7 @@ fn place_above(bytes: &[u8; STATE_BYTES], depth: usize, k: usize) -> u8
 // Whether some place above the depth is not 0. No place ends the loop, so that it can be unrolled.
 fn any_filled(bytes: &[u8; STATE_BYTES]) -> bool
     requires { (state_of bytes.now).depth ≤ PLACES }
-    ensures { result ≡ any (filledPlace (state_of bytes.now)) (state_of bytes.now).depth
+    ensures { result ≡ any (is_filled_place (state_of bytes.now)) (state_of bytes.now).depth
         (PLACES - (state_of bytes.now).depth) }
 {
     let depth = depth_of(bytes) as usize;
@@ -51,7 +51,7 @@ fn any_filled(bytes: &[u8; STATE_BYTES]) -> bool
 // Whether some number of 2 to 16 is served by a scheme that may not serve it.
 fn any_misserved(table: &[u8], bytes: &[u8; STATE_BYTES]) -> bool
     requires { Whole table.now }
-    ensures { result ≡ any (badServed (tableImage table.now) (state_of bytes.now)) 2 15 }
+    ensures { result ≡ any (is_badly_served (table_image table.now) (state_of bytes.now)) 2 15 }
 {
     let schemes = scheme_count(table);
     let handler = handler_of(table);
@@ -65,7 +65,7 @@ fn any_misserved(table: &[u8], bytes: &[u8; STATE_BYTES]) -> bool
 
 // Whether the stack size is refused, or the depth lies outside 1 to it.
 fn bad_depth(bytes: &[u8; STATE_BYTES]) -> bool
-    ensures { result ≡ badDepth (state_of bytes.now) }
+    ensures { result ≡ has_bad_depth (state_of bytes.now) }
 {
     let size = size_of(bytes);
     let depth = depth_of(bytes);
@@ -81,7 +81,7 @@ fn bad_depth(bytes: &[u8; STATE_BYTES]) -> bool
 // Refusal 15.
 pub fn is_unfit(table: &[u8], bytes: &[u8; STATE_BYTES]) -> bool
     requires { Whole table.now }
-    ensures { result ≡ unfit (tableImage table.now) (state_of bytes.now) }
+    ensures { result ≡ is_unfit (table_image table.now) (state_of bytes.now) }
 {
     if bad_depth(bytes) {
         return true;

@@ -3,7 +3,7 @@
 #![tactic(auto)]
 
 ghost use Rattle.std.specs.Prelude.{◌≡◌, ◌&&◌, ◌||◌, not, eqb};
-ghost use Rattle.fitness.specs.inner.FitnessContracts.{astray, own, miscalled, misserved};
+ghost use Rattle.fitness.specs.inner.FitnessContracts.{is_astray, is_own, is_miscalled, is_misserved};
 
 pub mod fit_places;
 pub mod fitting;
@@ -22,7 +22,7 @@ pub fn calls_none(kind: u8) -> bool
 
 // Whether label l may not stand where one of that scheme is open: it is of another scheme, and no return.
 pub fn is_astray(owner: u8, scheme: u8, l: u8) -> bool
-    ensures { result ≡ astray owner scheme l }
+    ensures { result ≡ is_astray owner scheme l }
 {
     if owner == scheme {
         return false;
@@ -32,7 +32,7 @@ pub fn is_astray(owner: u8, scheme: u8, l: u8) -> bool
 
 // Whether number and server of a place are both that scheme.
 pub fn is_own(number: u8, server: u8, scheme: u8) -> bool
-    ensures { result ≡ own number server scheme }
+    ensures { result ≡ is_own number server scheme }
 {
     if number != scheme {
         return false;
@@ -42,7 +42,7 @@ pub fn is_own(number: u8, server: u8, scheme: u8) -> bool
 
 // Whether a bottom of that owner is of scheme 1, by its own number.
 pub fn is_first(owner: u8, number: u8, server: u8) -> bool
-    ensures { result ≡ (eqb owner 1 && own number server 1) }
+    ensures { result ≡ (eqb owner 1 && is_own number server 1) }
 {
     if owner != 1 {
         return false;
@@ -52,7 +52,7 @@ pub fn is_first(owner: u8, number: u8, server: u8) -> bool
 
 // Whether the number or the server of a place above a call is wrong: the number is not the one called, or the server is not of 2 to H.
 pub fn is_miscalled(schemes: u8, number: u8, called: u8, server: u8) -> bool
-    ensures { result ≡ miscalled schemes number called server }
+    ensures { result ≡ is_miscalled schemes number called server }
 {
     if number != called {
         return true;
@@ -65,7 +65,7 @@ pub fn is_miscalled(schemes: u8, number: u8, called: u8, server: u8) -> bool
 
 // Whether number h may not be served by scheme k, with that many schemes and that handler.
 pub fn is_misserved(schemes: u8, handler: u8, h: u8, k: u8) -> bool
-    ensures { result ≡ misserved schemes handler h k }
+    ensures { result ≡ is_misserved schemes handler h k }
 {
     if schemes < h {
         return k != h;

@@ -12,16 +12,16 @@ use Rattle.words.specs.lists.Numbers.{any, count}
 use Rattle.words.proofs.lists.Tests.{and_l, split, not-true, bit-low}
 use Rattle.words.proofs.lists.Searches.{any_false, any_none}
 use Rattle.words.proofs.lists.Counts.{count-within}
-use Rattle.image.specs.Image.{Image, nthRow}
+use Rattle.image.specs.Image.{Image, nth_row}
 use Rattle.image.specs.inner.Sound.{SoundImage}
 use Rattle.state.specs.State.{label_at}
-use Rattle.rows.specs.Rows.{matches, isCandidate}
-use Rattle.covering.specs.Matched.{uneven}
+use Rattle.rows.specs.Rows.{is_match, is_candidate}
+use Rattle.covering.specs.Matched.{is_uneven}
 use Rattle.covering.proofs.Hits.{OneRow, one-row}
-use Rattle.grouping.specs.Rule.{Grouping, Meets, isLowest, groups}
-use Rattle.grouping.specs.Classes.{class_of, isFirst, staysWith, classes, grouping}
-use Rattle.grouping.proofs.Onward.{same-fields, onwardLabel, onward-inside, low_same, onward-is, the-hit}
-use Rattle.grouping.proofs.Rounds.{holdsSame, first_alike, class_same, stays-made, stays-alike, rounds, group-round, group-leads}
+use Rattle.grouping.specs.Rule.{Grouping, Meets, is_lowest, groups}
+use Rattle.grouping.specs.Classes.{class_of, is_first, is_staying_with, classes, grouping}
+use Rattle.grouping.proofs.Onward.{same-fields, onward_label, onward-inside, low_same, onward-is, the-hit}
+use Rattle.grouping.proofs.Rounds.{has_same_fields_at, first_alike, class_same, stays-made, stays-alike, rounds, group-round, group-leads}
 
 pub bit-of : (b : ℕ) → b < 2 → (t : Bool) × (pick t 1 0 ≡ b)
 bit-of zero h = (false, refl)
@@ -33,12 +33,12 @@ module _ (i : Image) (S : SoundImage i) (one : OneRow i) where
   n = length i.labels
 
   -- a row that matches leads where its label leads
-  row-leads : (l w b j : ℕ) → j < length i.rows → isCandidate l w b (nthRow i j) ≡ true → (t : Bool)
-      → pick t 1 0 ≡ b → (nthRow i j).next ≡ onwardLabel i l w t
+  row-leads : (l w b j : ℕ) → j < length i.rows → is_candidate l w b (nth_row i j) ≡ true → (t : Bool)
+      → pick t 1 0 ≡ b → (nth_row i j).next ≡ onward_label i l w t
   row-leads l w b j h e t q =
-      let f : (nthRow i j).from ≡ l = eqb-true (nthRow i j).from l (and_l (eqb (nthRow i j).from l) (matches w b (nthRow i j)) e) in
+      let f : (nth_row i j).from ≡ l = eqb-true (nth_row i j).from l (and_l (eqb (nth_row i j).from l) (is_match w b (nth_row i j)) e) in
       sym (onward-is i S one l w t (omega (arith, (S.each j h).low)) (omega (arith, (S.each j h).high)) j h
-      (subst (λ (x : ℕ). isCandidate l w x (nthRow i j) ≡ true) (sym q) e))
+      (subst (λ (x : ℕ). is_candidate l w x (nth_row i j) ≡ true) (sym q) e))
 
   -- (i)
   pub grouping-meets : Meets i (class_of (grouping i))
@@ -54,13 +54,13 @@ module _ (i : Image) (S : SoundImage i) (one : OneRow i) where
   -- ---- any grouping that meets the rule
   module _ (g : Grouping) (M : Meets i g) where
     meets-onward : (l m : ℕ) → l < n → m < n → g l ≡ g m → (w : ℕ) (b : Bool) → w < 65536
-        → g (onwardLabel i l w b) ≡ g (onwardLabel i m w b)
+        → g (onward_label i l w b) ≡ g (onward_label i m w b)
     meets-onward l m hl hm e w b hw = go (split l 2) (split m 2)
       where
-        low : l ≡ m → g (onwardLabel i l w b) ≡ g (onwardLabel i m w b)
-        low q = ap (λ (x : ℕ). g (onwardLabel i x w b)) q
+        low : l ≡ m → g (onward_label i l w b) ≡ g (onward_label i m w b)
+        low q = ap (λ (x : ℕ). g (onward_label i x w b)) q
 
-        go : (l < 2) ⊎ (2 ≤ l) → (m < 2) ⊎ (2 ≤ m) → g (onwardLabel i l w b) ≡ g (onwardLabel i m w b)
+        go : (l < 2) ⊎ (2 ≤ l) → (m < 2) ⊎ (2 ≤ m) → g (onward_label i l w b) ≡ g (onward_label i m w b)
         go (inl x) y = low (low_same i S l m hl hm (M.same l m hl hm e) x)
         go (inr x) (inl y) = low (sym (low_same i S m l hm hl (sym (M.same l m hl hm e)) y))
         go (inr x) (inr y) =
@@ -73,11 +73,11 @@ module _ (i : Image) (S : SoundImage i) (one : OneRow i) where
     within-classes : (k l m : ℕ) → l < n → m < n → g l ≡ g m → class_of (classes i k) l ≡ class_of (classes i k) m
     unfolding classes
     within-classes zero l m hl hm e =
-        class_same i (holdsSame i) (first_alike i) l m hl hm (same-fields (label_at i l) (label_at i m) (M.same l m hl hm e))
+        class_same i (has_same_fields_at i) (first_alike i) l m hl hm (same-fields (label_at i l) (label_at i m) (M.same l m hl hm e))
     within-classes (suc k) l m hl hm e =
-        class_same i (staysWith i (classes i k)) (stays-alike i S one (classes i k) (rounds i S one k)) l m hl hm
+        class_same i (is_staying_with i (classes i k)) (stays-alike i S one (classes i k) (rounds i S one k)) l m hl hm
         (stays-made i S one (classes i k) (rounds i S one k) l m (within-classes k l m hl hm e) (λ w b hw.
-        within-classes k (onwardLabel i l w b) (onwardLabel i m w b) (onward-inside i S l w b hl) (onward-inside i S m w b hm)
+        within-classes k (onward_label i l w b) (onward_label i m w b) (onward-inside i S l w b hl) (onward-inside i S m w b hm)
         (meets-onward l m hl hm e w b hw)))
 
     pub within-grouping : (l m : ℕ) → l < n → m < n → g l ≡ g m → class_of (grouping i) l ≡ class_of (grouping i) m
@@ -86,7 +86,7 @@ module _ (i : Image) (S : SoundImage i) (one : OneRow i) where
 
     -- (ii) the lowest member of a group of the coarsest grouping is the lowest of its own group
     pub fewest : groups (class_of (grouping i)) n ≤ groups g n
-    fewest = count-within (isLowest (class_of (grouping i))) (isLowest g) 0 n (λ l a h t.
+    fewest = count-within (is_lowest (class_of (grouping i))) (is_lowest g) 0 n (λ l a h t.
         let p : any (λ k. eqb (class_of (grouping i) k) (class_of (grouping i) l)) 0 l ≡ false =
         not-true (any (λ k. eqb (class_of (grouping i) k) (class_of (grouping i) l)) 0 l) t in
         ap not (any_none (λ k. eqb (g k) (g l)) 0 l (λ k m. ne_eqb (g (0 + k)) (g l) (λ e.
@@ -95,13 +95,13 @@ module _ (i : Image) (S : SoundImage i) (one : OneRow i) where
         (within-grouping (0 + k) l (omega arith) (omega arith) e)))))
 
   -- ---- the groups are counted by the labels that are their own class
-  first-lowest : (l : ℕ) → l < n → isFirst (grouping i) l ≡ true → isLowest (class_of (grouping i)) l ≡ true
+  first-lowest : (l : ℕ) → l < n → is_first (grouping i) l ≡ true → is_lowest (class_of (grouping i)) l ≡ true
   first-lowest l h t = ap not (any_none (λ k. eqb (class_of (grouping i) k) (class_of (grouping i) l)) 0 l (λ k m.
       ne_eqb (class_of (grouping i) (0 + k)) (class_of (grouping i) l) (λ e.
       let x : class_of (grouping i) (0 + k) ≤ 0 + k = (group-round i S one).below (0 + k) (omega arith) in
       omega (arith, eqb-true (class_of (grouping i) l) l t))))
 
-  lowest-first : (l : ℕ) → l < n → isLowest (class_of (grouping i)) l ≡ true → isFirst (grouping i) l ≡ true
+  lowest-first : (l : ℕ) → l < n → is_lowest (class_of (grouping i)) l ≡ true → is_first (grouping i) l ≡ true
   lowest-first l h t = eq-eqb (class_of (grouping i) l) l (go (split (class_of (grouping i) l) l))
     where
       go : (class_of (grouping i) l < l) ⊎ (l ≤ class_of (grouping i) l) → class_of (grouping i) l ≡ l
@@ -112,14 +112,15 @@ module _ (i : Image) (S : SoundImage i) (one : OneRow i) where
           ((group-round i S one).own l h))
       go (inr x) = omega (arith, (group-round i S one).below l h)
 
-  pub groups-counted : groups (class_of (grouping i)) n ≡ count (isFirst (grouping i)) 0 n
-  groups-counted = let x : count (isFirst (grouping i)) 0 n ≤ groups (class_of (grouping i)) n =
-      count-within (isFirst (grouping i)) (isLowest (class_of (grouping i))) 0 n (λ l a h t. first-lowest l (omega arith) t) in
-      let y : groups (class_of (grouping i)) n ≤ count (isFirst (grouping i)) 0 n =
-      count-within (isLowest (class_of (grouping i))) (isFirst (grouping i)) 0 n (λ l a h t. lowest-first l (omega arith) t) in omega arith
+  pub groups-counted : groups (class_of (grouping i)) n ≡ count (is_first (grouping i)) 0 n
+  groups-counted = let x : count (is_first (grouping i)) 0 n ≤ groups (class_of (grouping i)) n =
+      count-within (is_first (grouping i)) (is_lowest (class_of (grouping i))) 0 n (λ l a h t. first-lowest l (omega arith) t) in
+      let y : groups (class_of (grouping i)) n ≤ count (is_first (grouping i)) 0 n =
+      count-within (is_lowest (class_of (grouping i))) (is_first (grouping i)) 0 n (λ l a h t. lowest-first l (omega arith) t) in
+      omega arith
 
 -- ---- both where 23 does not apply
-module _ (i : Image) (S : SoundImage i) (even : uneven i ≡ false) where
+module _ (i : Image) (S : SoundImage i) (even : is_uneven i ≡ false) where
   pub even-meets : Meets i (class_of (grouping i))
   even-meets = grouping-meets i S (one-row i S even)
 

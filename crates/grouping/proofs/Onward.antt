@@ -11,12 +11,12 @@ use Rattle.words.specs.lists.Pick.{pick}
 use Rattle.words.specs.lists.Sequences.{some, filter, All}
 use Rattle.words.proofs.lists.Tests.{no_both, and_l, and_r, and-true, and-false, or_l, or_r, not-false}
 use Rattle.words.proofs.lists.Joins.{all-places, all_filter}
-use Rattle.image.specs.Image.{Image, Label, Row, no_row, nthRow}
+use Rattle.image.specs.Image.{Image, Label, Row, no_row, nth_row}
 use Rattle.image.specs.inner.Sound.{SoundRow, SoundImage}
 use Rattle.state.specs.State.{label_at}
-use Rattle.rows.specs.Rows.{matches, isCandidate, bestRow, found, leads}
-use Rattle.covering.specs.Matched.{together}
-use Rattle.grouping.specs.Classes.{sameFields, class_of, parts, parted}
+use Rattle.rows.specs.Rows.{is_match, is_candidate, best_row, found, lead_of}
+use Rattle.covering.specs.Matched.{is_together}
+use Rattle.grouping.specs.Classes.{has_same_fields, class_of, is_parting, is_parted}
 use Rattle.covering.proofs.Together.{Common, common-together, together-common}
 use Rattle.covering.proofs.Hits.{Hit, OneRow, only_row, the-place, hit-is, the_row}
 
@@ -33,29 +33,29 @@ some-none p d [] h = refl
 some-none p d (x ∷ xs) h = ap₂ ◌||◌ (h 0 (omega arith)) (some-none p d xs (λ j l. h (suc j) (omega arith)))
 
 -- ---- labels that hold the same
-pub same-fields : (x y : Label) → x ≡ y → sameFields x y ≡ true
-same-fields x y e = subst (λ (z : Label). sameFields x z ≡ true) e
+pub same-fields : (x y : Label) → x ≡ y → has_same_fields x y ≡ true
+same-fields x y e = subst (λ (z : Label). has_same_fields x z ≡ true) e
     (ap₂ ◌&&◌ (ap₂ ◌&&◌ (ap₂ ◌&&◌ (ap₂ ◌&&◌ (eq-eqb x.kind x.kind refl) (eq-eqb x.called x.called refl))
     (eq-eqb x.owner x.owner refl)) (eq-eqb x.result x.result refl)) (eq-eqb x.mask x.mask refl))
 
 -- ---- where the rows that match lead; where none does, to the label itself
-abbrev pub leadsTo : ℕ → List Row → ℕ
-leadsTo l [] = l
-leadsTo l (r ∷ rs) = r.next
+abbrev pub label_led_to : ℕ → List Row → ℕ
+label_led_to l [] = l
+label_led_to l (r ∷ rs) = r.next
 
-abbrev pub onwardLabel : Image → ℕ → ℕ → Bool → ℕ
-onwardLabel i l w b = leadsTo l (filter (isCandidate l w (pick b 1 0)) i.rows)
+abbrev pub onward_label : Image → ℕ → ℕ → Bool → ℕ
+onward_label i l w b = label_led_to l (filter (is_candidate l w (pick b 1 0)) i.rows)
 
 module _ (i : Image) (S : SoundImage i) where
   abbrev n : ℕ
   n = length i.labels
 
-  pub onward-inside : (l w : ℕ) (b : Bool) → l < n → onwardLabel i l w b < n
+  pub onward-inside : (l w : ℕ) (b : Bool) → l < n → onward_label i l w b < n
   onward-inside l w b h =
-      go (filter (isCandidate l w (pick b 1 0)) i.rows)
-      (all_filter (SoundRow i) (isCandidate l w (pick b 1 0)) i.rows (all-places (SoundRow i) no_row i.rows S.each))
+      go (filter (is_candidate l w (pick b 1 0)) i.rows)
+      (all_filter (SoundRow i) (is_candidate l w (pick b 1 0)) i.rows (all-places (SoundRow i) no_row i.rows S.each))
     where
-      go : (rs : List Row) → All (λ r. SoundRow i r × (isCandidate l w (pick b 1 0) r ≡ true)) rs → leadsTo l rs < n
+      go : (rs : List Row) → All (λ r. SoundRow i r × (is_candidate l w (pick b 1 0) r ≡ true)) rs → label_led_to l rs < n
       go [] a = h
       go (r ∷ rs) a = a.0.0.leading.inside
 
@@ -80,79 +80,79 @@ module _ (i : Image) (S : SoundImage i) where
 
   module _ (one : OneRow i) where
     -- a row of a label that matches is the one that leads on
-    pub onward-is : (l w : ℕ) (b : Bool) → 2 ≤ l → l < n → (j : ℕ) → j < length i.rows → isCandidate l w (pick b 1 0) (nthRow i j) ≡ true
-        → onwardLabel i l w b ≡ (nthRow i j).next
+    pub onward-is : (l w : ℕ) (b : Bool) → 2 ≤ l → l < n → (j : ℕ) → j < length i.rows → is_candidate l w (pick b 1 0) (nth_row i j) ≡ true
+        → onward_label i l w b ≡ (nth_row i j).next
     onward-is l w b low high j h e = let x = the_row i one l w b low high in
-        ap (leadsTo l) x.1 ∙ ap (λ (r : Row). r.next) (sym (hit-is l w (pick b 1 0) x.0 i.rows x.1 j h e))
+        ap (label_led_to l) x.1 ∙ ap (λ (r : Row). r.next) (sym (hit-is l w (pick b 1 0) x.0 i.rows x.1 j h e))
 
     pub the-hit : (l w : ℕ) (b : Bool) → (low : 2 ≤ l) → (high : l < n) → Hit l w (pick b 1 0) (the_row i one l w b low high).0 i.rows
     the-hit l w b low high = let x = the_row i one l w b low high in the-place l w (pick b 1 0) x.0 i.rows x.1
 
     -- and the machine goes there
     pub best-found : (l w : ℕ) (b : Bool) → 2 ≤ l → l < n → (k : ℕ)
-        → leads (bestRow l w (pick b 1 0) k i.rows) ≡ found (onwardLabel i l w b)
+        → lead_of (best_row l w (pick b 1 0) k i.rows) ≡ found (onward_label i l w b)
     best-found l w b low high k = let x = the_row i one l w b low high in
-        only_row l w (pick b 1 0) x.0 k i.rows x.1 ∙ ap found (sym (ap (leadsTo l) x.1))
+        only_row l w (pick b 1 0) x.0 k i.rows x.1 ∙ ap found (sym (ap (label_led_to l) x.1))
 
     module _ (c : List ℕ) where
-      pub unparted : (l m : ℕ) → 2 ≤ l → l < n → 2 ≤ m → m < n → parted i c l m ≡ false
-          → (w : ℕ) (b : Bool) → class_of c (onwardLabel i l w b) ≡ class_of c (onwardLabel i m w b)
-      unfolding parted
+      pub unparted : (l m : ℕ) → 2 ≤ l → l < n → 2 ≤ m → m < n → is_parted i c l m ≡ false
+          → (w : ℕ) (b : Bool) → class_of c (onward_label i l w b) ≡ class_of c (onward_label i m w b)
+      unfolding is_parted
       unparted l m al hl am hm e w b =
           let x = the-hit l w b al hl in
           let y = the-hit m w b am hm in
-          let r : Row = nthRow i x.place in
-          let s : Row = nthRow i y.place in
-          let p : some (parts c l m r) i.rows ≡ false =
-          some_at (λ r. some (parts c l m r) i.rows) no_row i.rows e x.place x.inside in
-          let q : parts c l m r s ≡ false = some_at (parts c l m r) no_row i.rows p y.place y.inside in
-          let f : eqb r.from l ≡ true = and_l (eqb r.from l) (matches w (pick b 1 0) r) x.holding in
-          let g : eqb s.from m ≡ true = and_l (eqb s.from m) (matches w (pick b 1 0) s) y.holding in
-          let t : together r s ≡ true =
+          let r : Row = nth_row i x.place in
+          let s : Row = nth_row i y.place in
+          let p : some (is_parting c l m r) i.rows ≡ false =
+          some_at (λ r. some (is_parting c l m r) i.rows) no_row i.rows e x.place x.inside in
+          let q : is_parting c l m r s ≡ false = some_at (is_parting c l m r) no_row i.rows p y.place y.inside in
+          let f : eqb r.from l ≡ true = and_l (eqb r.from l) (is_match w (pick b 1 0) r) x.holding in
+          let g : eqb s.from m ≡ true = and_l (eqb s.from m) (is_match w (pick b 1 0) s) y.holding in
+          let t : is_together r s ≡ true =
           common-together r s w (pick b 1 0) (S.each x.place x.inside).small (S.each y.place y.inside).small
-          (and_r (eqb r.from l) (matches w (pick b 1 0) r) x.holding)
-          (and_r (eqb s.from m) (matches w (pick b 1 0) s) y.holding) in
+          (and_r (eqb r.from l) (is_match w (pick b 1 0) r) x.holding)
+          (and_r (eqb s.from m) (is_match w (pick b 1 0) s) y.holding) in
           let z : not (eqb (class_of c r.next) (class_of c s.next)) ≡ false =
-          and-false (eqb r.from l && eqb s.from m && together r s) (not (eqb (class_of c r.next) (class_of c s.next))) q
-          (and-true (eqb r.from l && eqb s.from m) (together r s) (and-true (eqb r.from l) (eqb s.from m) f g) t) in
+          and-false (eqb r.from l && eqb s.from m && is_together r s) (not (eqb (class_of c r.next) (class_of c s.next))) q
+          (and-true (eqb r.from l && eqb s.from m) (is_together r s) (and-true (eqb r.from l) (eqb s.from m) f g) t) in
           ap (class_of c) (onward-is l w b al hl x.place x.inside x.holding)
           ∙ eqb-true (class_of c r.next) (class_of c s.next) (not-false (eqb (class_of c r.next) (class_of c s.next)) z)
           ∙ ap (class_of c) (sym (onward-is m w b am hm y.place y.inside y.holding))
 
       parts-not : (l m j k : ℕ) → j < length i.rows → k < length i.rows
-          → ((w : ℕ) (b : Bool) → w < 65536 → class_of c (onwardLabel i l w b) ≡ class_of c (onwardLabel i m w b))
-          → parts c l m (nthRow i j) (nthRow i k) ≡ false
-      parts-not l m j k hj hk h = go (parts c l m (nthRow i j) (nthRow i k)) refl
+          → ((w : ℕ) (b : Bool) → w < 65536 → class_of c (onward_label i l w b) ≡ class_of c (onward_label i m w b))
+          → is_parting c l m (nth_row i j) (nth_row i k) ≡ false
+      parts-not l m j k hj hk h = go (is_parting c l m (nth_row i j) (nth_row i k)) refl
         where
           r : Row
-          r = nthRow i j
+          r = nth_row i j
 
           s : Row
-          s = nthRow i k
+          s = nth_row i k
 
-          go : (t : Bool) → parts c l m (nthRow i j) (nthRow i k) ≡ t → parts c l m (nthRow i j) (nthRow i k) ≡ false
+          go : (t : Bool) → is_parting c l m (nth_row i j) (nth_row i k) ≡ t → is_parting c l m (nth_row i j) (nth_row i k) ≡ false
           go false e = e
           go true e =
               let x : Bool = eqb r.from l in
               let y : Bool = eqb s.from m in
               let z : Bool = not (eqb (class_of c r.next) (class_of c s.next)) in
-              let e₁ : (x && y && together r s) ≡ true = and_l (x && y && together r s) z e in
-              let e₂ : (x && y) ≡ true = and_l (x && y) (together r s) e₁ in
+              let e₁ : (x && y && is_together r s) ≡ true = and_l (x && y && is_together r s) z e in
+              let e₂ : (x && y) ≡ true = and_l (x && y) (is_together r s) e₁ in
               let f : r.from ≡ l = eqb-true r.from l (and_l x y e₂) in
               let g : s.from ≡ m = eqb-true s.from m (and_r x y e₂) in
-              let C : Common r s = together-common r s (S.each j hj) (S.each k hk) (and_r (x && y) (together r s) e₁) in
-              let p : onwardLabel i l C.word C.bit ≡ r.next =
+              let C : Common r s = together-common r s (S.each j hj) (S.each k hk) (and_r (x && y) (is_together r s) e₁) in
+              let p : onward_label i l C.word C.bit ≡ r.next =
               onward-is l C.word C.bit (omega (arith, (S.each j hj).low)) (omega (arith, (S.each j hj).high)) j hj
-              (and-true x (matches C.word (pick C.bit 1 0) r) (and_l x y e₂) C.first) in
-              let q : onwardLabel i m C.word C.bit ≡ s.next =
+              (and-true x (is_match C.word (pick C.bit 1 0) r) (and_l x y e₂) C.first) in
+              let q : onward_label i m C.word C.bit ≡ s.next =
               onward-is m C.word C.bit (omega (arith, (S.each k hk).low)) (omega (arith, (S.each k hk).high)) k hk
-              (and-true y (matches C.word (pick C.bit 1 0) s) (and_r x y e₂) C.second) in
+              (and-true y (is_match C.word (pick C.bit 1 0) s) (and_r x y e₂) C.second) in
               let same : class_of c r.next ≡ class_of c s.next =
               ap (class_of c) (sym p) ∙ h C.word C.bit C.low ∙ ap (class_of c) q in
-              no_both z (and_r (x && y && together r s) z e) (ap not (eq-eqb (class_of c r.next) (class_of c s.next) same))
+              no_both z (and_r (x && y && is_together r s) z e) (ap not (eq-eqb (class_of c r.next) (class_of c s.next) same))
 
-      pub not-parted : (l m : ℕ) → ((w : ℕ) (b : Bool) → w < 65536 → class_of c (onwardLabel i l w b) ≡ class_of c (onwardLabel i m w b))
-          → parted i c l m ≡ false
-      unfolding parted
-      not-parted l m h = some-none (λ r. some (parts c l m r) i.rows) no_row i.rows (λ j hj.
-          some-none (parts c l m (nthRow i j)) no_row i.rows (λ k hk. parts-not l m j k hj hk h))
+      pub not-parted : (l m : ℕ) → ((w : ℕ) (b : Bool) → w < 65536 → class_of c (onward_label i l w b) ≡ class_of c (onward_label i m w b))
+          → is_parted i c l m ≡ false
+      unfolding is_parted
+      not-parted l m h = some-none (λ r. some (is_parting c l m r) i.rows) no_row i.rows (λ j hj.
+          some-none (is_parting c l m (nth_row i j)) no_row i.rows (λ k hk. parts-not l m j k hj hk h))

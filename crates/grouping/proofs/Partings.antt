@@ -14,24 +14,24 @@ use Rattle.words.proofs.lists.Tests.{or-none}
 use Rattle.words.proofs.lists.Searches.{any-alike}
 use Rattle.text.specs.frames.Frame.{field, pair_at}
 use Rattle.image.specs.Image.{Row}
-use Rattle.image.specs.Decode.{lastLabel, rowInFrame}
-use Rattle.tables.specs.Table.{firstOn, endOn, rowOn, rowsOn, tableImage}
+use Rattle.image.specs.Decode.{last_label, row_in_frame}
+use Rattle.tables.specs.Table.{first_on, end_on, row_on, rows_on, table_image}
 use Rattle.tables.proofs.OwnRows.{own_alone}
-use Rattle.covering.specs.Matched.{together}
-use Rattle.grouping.specs.Classes.{class_of, parts, parted}
-use Rattle.grouping.specs.inner.GroupingContracts.{Even, parts_in, partsAny, partedOn}
+use Rattle.covering.specs.Matched.{is_together}
+use Rattle.grouping.specs.Classes.{class_of, is_parting, is_parted}
+use Rattle.grouping.specs.inner.GroupingContracts.{Even, is_parting_in, is_parting_any, is_parted_on}
 
 -- ---- parts, parts_any
 module _ (b c : List ℕ) (f g : ℕ) where
-  pub parts-not : (class next : ℕ) → class ≡ get_or c (field b f 7) 0 → next ≡ field b g 7 → class ≡ get_or c next 0 → false ≡ parts_in b c f g
+  pub parts-not : (class next : ℕ) → class ≡ get_or c (field b f 7) 0 → next ≡ field b g 7 → class ≡ get_or c next 0 → false ≡ is_parting_in b c f g
   parts-not class next p q e =
-      sym (ap (λ (t : Bool). not t && together (rowInFrame b f) (rowInFrame b g))
+      sym (ap (λ (t : Bool). not t && is_together (row_in_frame b f) (row_in_frame b g))
       (eq-eqb (get_or c (field b f 7) 0) (get_or c (field b g 7) 0) (sym p ∙ e ∙ ap (λ (x : ℕ). get_or c x 0) q)))
 
   pub parts-by : (class next : ℕ) → class ≡ get_or c (field b f 7) 0 → next ≡ field b g 7 → (class ≡ get_or c next 0 → ⊥) → (t : Bool)
-      → t ≡ together (rowInFrame b f) (rowInFrame b g) → t ≡ parts_in b c f g
+      → t ≡ is_together (row_in_frame b f) (row_in_frame b g) → t ≡ is_parting_in b c f g
   parts-by class next p q e t h =
-      h ∙ sym (ap (λ (t : Bool). not t && together (rowInFrame b f) (rowInFrame b g))
+      h ∙ sym (ap (λ (t : Bool). not t && is_together (row_in_frame b f) (row_in_frame b g))
       (ne_eqb (get_or c (field b f 7) 0) (get_or c (field b g 7) 0) (λ z. e (p ∙ z ∙ sym (ap (λ (x : ℕ). get_or c x 0) q)))))
 
 -- ---- lists
@@ -60,24 +60,25 @@ some-never p [] h = refl
 some-never p (x ∷ xs) h = or-none (p x) (some p xs) (h x) (some-never p xs h)
 
 -- ---- a test that passes only rows of label l, over all rows of the table
-module _ (b : List ℕ) (p : Row → Bool) (l : ℕ) (never : (m f : ℕ) → (m ≡ l → ⊥) → p (rowOn b m f) ≡ false) where
-  none_of : (m : ℕ) → (m ≡ l → ⊥) → (f n : ℕ) → some p (map (rowOn b m) (range f n)) ≡ false
+module _ (b : List ℕ) (p : Row → Bool) (l : ℕ) (never : (m f : ℕ) → (m ≡ l → ⊥) → p (row_on b m f) ≡ false) where
+  none_of : (m : ℕ) → (m ≡ l → ⊥) → (f n : ℕ) → some p (map (row_on b m) (range f n)) ≡ false
   unfolding some
   none_of m h f zero = refl
-  none_of m h f (suc n) = or-none (p (rowOn b m f)) (some p (map (rowOn b m) (range (suc f) n))) (never m f h) (none_of m h (suc f) n)
+  none_of m h f (suc n) = or-none (p (row_on b m f)) (some p (map (row_on b m) (range (suc f) n))) (never m f h) (none_of m h (suc f) n)
 
-  pub some-own : 2 ≤ l → l ≤ lastLabel b → some p (tableImage b).rows ≡ any (λ f. p (rowOn b l f)) (firstOn b l) (endOn b l - firstOn b l)
+  pub some-own : 2 ≤ l → l ≤ last_label b → some p (table_image b).rows
+      ≡ any (λ f. p (row_on b l f)) (first_on b l) (end_on b l - first_on b l)
   unfolding some
   some-own u v =
-      own_alone b l (some p) (λ m h rs. some_first p (rowsOn b m) rs (none_of m h (firstOn b m) (endOn b m - firstOn b m)))
+      own_alone b l (some p) (λ m h rs. some_first p (rows_on b m) rs (none_of m h (first_on b m) (end_on b m - first_on b m)))
       (some-last p) u v
-      ∙ some-range p (rowOn b l) (firstOn b l) (endOn b l - firstOn b l)
+      ∙ some-range p (row_on b l) (first_on b l) (end_on b l - first_on b l)
 
 -- ---- are_parted
-module _ (b c : List ℕ) (x : Even b) (l m : ℕ) (al : 2 ≤ l) (hl : l ≤ lastLabel b) (am : 2 ≤ m) (hm : m ≤ lastLabel b) where
+module _ (b c : List ℕ) (x : Even b) (l m : ℕ) (al : 2 ≤ l) (hl : l ≤ last_label b) (am : 2 ≤ m) (hm : m ≤ last_label b) where
   -- one row of each
-  rows-part : (f g : ℕ) → firstOn b l ≤ f → f < endOn b l → firstOn b m ≤ g → g < endOn b m
-      → parts c l m (rowOn b l f) (rowOn b m g) ≡ parts_in b c f g
+  rows-part : (f g : ℕ) → first_on b l ≤ f → f < end_on b l → first_on b m ≤ g → g < end_on b m
+      → is_parting c l m (row_on b l f) (row_on b m g) ≡ is_parting_in b c f g
   rows-part f g u v w z =
       let r : ℕ = field b f 6 in
       let s : ℕ = field b g 6 in
@@ -94,27 +95,28 @@ module _ (b c : List ℕ) (x : Even b) (l m : ℕ) (al : 2 ≤ l) (hl : l ≤ la
       turned false true = refl
       turned false false = refl
 
-  first-only : (r : Row) → (k f : ℕ) → (k ≡ m → ⊥) → parts c l m r (rowOn b k f) ≡ false
+  first-only : (r : Row) → (k f : ℕ) → (k ≡ m → ⊥) → is_parting c l m r (row_on b k f) ≡ false
   first-only r k f h =
-      ap (λ (t : Bool). eqb r.from l && t && together r (rowOn b k f) && not (eqb (class_of c r.next) (class_of c (field b f 7))))
+      ap (λ (t : Bool). eqb r.from l && t && is_together r (row_on b k f) && not (eqb (class_of c r.next) (class_of c (field b f 7))))
       (ne_eqb k m h)
-      ∙ gone (eqb r.from l) (together r (rowOn b k f)) (not (eqb (class_of c r.next) (class_of c (field b f 7))))
+      ∙ gone (eqb r.from l) (is_together r (row_on b k f)) (not (eqb (class_of c r.next) (class_of c (field b f 7))))
     where
       gone : (p q t : Bool) → (p && false && q && t) ≡ false
       gone true q t = refl
       gone false q t = refl
 
-  second-only : (k f : ℕ) → (k ≡ l → ⊥) → some (parts c l m (rowOn b k f)) (tableImage b).rows ≡ false
-  second-only k f h = some-never (parts c l m (rowOn b k f)) (tableImage b).rows (λ r.
-      ap (λ (t : Bool). t && eqb r.from m && together (rowOn b k f) r && not (eqb (class_of c (field b f 7)) (class_of c r.next)))
+  second-only : (k f : ℕ) → (k ≡ l → ⊥) → some (is_parting c l m (row_on b k f)) (table_image b).rows ≡ false
+  second-only k f h = some-never (is_parting c l m (row_on b k f)) (table_image b).rows (λ r.
+      ap (λ (t : Bool). t && eqb r.from m && is_together (row_on b k f) r && not (eqb (class_of c (field b f 7)) (class_of c r.next)))
       (ne_eqb k l h))
 
-  pub parted-is : parted (tableImage b) c l m ≡ partedOn b c l m
-  unfolding parted
+  pub parted-is : is_parted (table_image b) c l m ≡ is_parted_on b c l m
+  unfolding is_parted
   parted-is =
-      some-own b (λ r. some (parts c l m r) (tableImage b).rows) l second-only al hl
-      ∙ any-alike (λ f. some (parts c l m (rowOn b l f)) (tableImage b).rows) (λ f. partsAny b c f (firstOn b m) (endOn b m))
-      (firstOn b l) (endOn b l - firstOn b l) (λ f u v.
-      some-own b (parts c l m (rowOn b l f)) m (first-only (rowOn b l f)) am hm
-      ∙ any-alike (λ g. parts c l m (rowOn b l f) (rowOn b m g)) (parts_in b c f) (firstOn b m) (endOn b m - firstOn b m) (λ g w z.
+      some-own b (λ r. some (is_parting c l m r) (table_image b).rows) l second-only al hl
+      ∙ any-alike (λ f. some (is_parting c l m (row_on b l f)) (table_image b).rows) (λ f. is_parting_any b c f (first_on b m) (end_on b m))
+      (first_on b l) (end_on b l - first_on b l) (λ f u v.
+      some-own b (is_parting c l m (row_on b l f)) m (first-only (row_on b l f)) am hm
+      ∙ any-alike (λ g. is_parting c l m (row_on b l f) (row_on b m g)) (is_parting_in b c f) (first_on b m) (end_on b m - first_on b m)
+      (λ g w z.
       rows-part f g u (omega arith) w (omega arith)))

@@ -16,16 +16,16 @@ use Rattle.words.proofs.lists.Tests.{no_both, and_l, and_r, and-true, not-true, 
 use Rattle.words.proofs.lists.Searches.{lowest-hit, lowest-above, lowest-most, lowest-before, lowest-alike}
 use Rattle.words.proofs.lists.Tabulated.{length-tabulate}
 use Rattle.image.specs.Image.{Image, Row, no_row}
-use Rattle.image.specs.Decode.{lastLabel}
-use Rattle.tables.specs.Table.{tableImage}
+use Rattle.image.specs.Decode.{last_label}
+use Rattle.tables.specs.Table.{table_image}
 use Rattle.tables.proofs.TableReads.{labels-count, label-at}
-use Rattle.covering.specs.Matched.{together}
+use Rattle.covering.specs.Matched.{is_together}
 use Rattle.covering.proofs.Hits.{OneRow, one-row}
-use Rattle.grouping.specs.Classes.{sameFields, class_of, parts, parted, staysWith, classesBy, classes}
-use Rattle.grouping.specs.inner.GroupingContracts.{Even, Classed, holdsSameOn, partedOn, leadsClass, nextClass}
-use Rattle.grouping.proofs.Representatives.{lowestAlike, alike-le, tabulated, lowest-own}
+use Rattle.grouping.specs.Classes.{has_same_fields, class_of, is_parting, is_parted, is_staying_with, classes_by, classes}
+use Rattle.grouping.specs.inner.GroupingContracts.{Even, Classed, has_same_fields_on, is_parted_on, is_class_leader, next_class}
+use Rattle.grouping.proofs.Representatives.{lowest_alike, alike-le, tabulated, lowest-own}
 use Rattle.grouping.proofs.Onward.{low_same}
-use Rattle.grouping.proofs.Rounds.{ClassRound, holdsSame, same_class, rounds, stays-alike}
+use Rattle.grouping.proofs.Rounds.{ClassRound, has_same_fields_at, same_class, rounds, stays-alike}
 use Rattle.grouping.proofs.Partings.{parted-is}
 
 -- ---- the first number that passes, told by what stands before it
@@ -46,24 +46,24 @@ some_same p q d (x ∷ xs) e = ap₂ ◌||◌ (e 0 (omega arith)) (some_same p q
 
 module _ (b : List ℕ) where
   abbrev i : Image
-  i = tableImage b
+  i = table_image b
 
   abbrev n : ℕ
   n = length i.labels
 
   abbrev last : ℕ
-  last = lastLabel b
+  last = last_label b
 
   -- a buffer whose first l places hold what a test gives
   pub record FillingClasses (alike : ℕ → ℕ → Bool) (buffer : List ℕ) (m l : ℕ) : Type 0 where
     pub long : length buffer ≡ 256
     pub small : m < 256
-    pub is : m ≡ lastLabel b
+    pub is : m ≡ last_label b
     pub high : l ≤ m + 1
-    pub each : (k : ℕ) → k < l → get_or buffer k 0 ≡ lowestAlike alike k
+    pub each : (k : ℕ) → k < l → get_or buffer k 0 ≡ lowest_alike alike k
 
   module _ (alike : ℕ → ℕ → Bool) (buffer : List ℕ) (m : ℕ) where
-    pub fill_start : ((k : ℕ) → get_or b k 0 < 256) → length buffer ≡ 256 → m ≡ lastLabel b → FillingClasses alike buffer m 0
+    pub fill_start : ((k : ℕ) → get_or b k 0 < 256) → length buffer ≡ 256 → m ≡ last_label b → FillingClasses alike buffer m 0
     fill_start bytes h e = record {
       long = h;
       small = omega (arith, bytes 2);
@@ -74,10 +74,10 @@ module _ (b : List ℕ) where
     }
 
     module _ (l : ℕ) (t : FillingClasses alike buffer m l) where
-      pub value-small : l ≤ m → (x : ℕ) → x ≡ lowestAlike alike l → x < 256
+      pub value-small : l ≤ m → (x : ℕ) → x ≡ lowest_alike alike l → x < 256
       value-small h x e = omega (arith, alike-le alike l, t.small)
 
-      pub fill_on : l ≤ m → (x : ℕ) → x ≡ lowestAlike alike l → FillingClasses alike (set buffer l x) m (l + 1)
+      pub fill_on : l ≤ m → (x : ℕ) → x ≡ lowest_alike alike l → FillingClasses alike (set buffer l x) m (l + 1)
       fill_on h x e = record {
         long = length-set buffer l x ∙ t.long;
         small = t.small;
@@ -89,31 +89,31 @@ module _ (b : List ℕ) where
           below : (k : ℕ) → k < l + 1 → k ≤ l
           below k z = omega arith
 
-          go : (k : ℕ) → k < l + 1 → (k ≡ l) ⊎ (k < l) → get_or (set buffer l x) k 0 ≡ lowestAlike alike k
+          go : (k : ℕ) → k < l + 1 → (k ≡ l) ⊎ (k < l) → get_or (set buffer l x) k 0 ≡ lowest_alike alike k
           go k z (inl q) =
               ap (λ (j : ℕ). get_or (set buffer l x) j 0) q ∙ get_or-set_same buffer l x 0 (omega (arith, t.long, t.small)) ∙ e
-              ∙ ap (lowestAlike alike) (sym q)
+              ∙ ap (lowest_alike alike) (sym q)
           go k z (inr q) = get_or-set_other buffer l k x 0 (λ y. omega arith) ∙ t.each k q
 
-      pub fill-all : m < l → Classed b (classesBy i alike) buffer
+      pub fill-all : m < l → Classed b (classes_by i alike) buffer
       fill-all h = record {
         long = t.long;
         at = λ k z. t.each k (omega (arith, t.is)) ∙ sym (tabulated alike n k (omega (arith, labels-count b)));
       }
 
   -- ---- first_classes
-  pub same_alike : (l : ℕ) → lowestAlike (holdsSameOn b) l ≡ lowestAlike (holdsSame i) l
-  same_alike l = lowest-alike (λ m. holdsSameOn b m l) (λ m. holdsSame i m l) 0 l (λ m u v.
-      ap₂ sameFields (sym (label-at b m)) (sym (label-at b l)))
+  pub same_alike : (l : ℕ) → lowest_alike (has_same_fields_on b) l ≡ lowest_alike (has_same_fields_at i) l
+  same_alike l = lowest-alike (λ m. has_same_fields_on b m l) (λ m. has_same_fields_at i m l) 0 l (λ m u v.
+      ap₂ has_same_fields (sym (label-at b m)) (sym (label-at b l)))
 
-  pub first-all : (buffer : List ℕ) (m l : ℕ) → FillingClasses (holdsSame i) buffer m l → m < l → Classed b (classes i 0) buffer
+  pub first-all : (buffer : List ℕ) (m l : ℕ) → FillingClasses (has_same_fields_at i) buffer m l → m < l → Classed b (classes i 0) buffer
   unfolding classes
-  first-all buffer m l t h = fill-all (holdsSame i) buffer m l t h
+  first-all buffer m l t h = fill-all (has_same_fields_at i) buffer m l t h
 
   pub classes-long : (k : ℕ) → length (classes i k) ≡ n
   unfolding classes
-  classes-long zero = length-tabulate (lowestAlike (holdsSame i)) n
-  classes-long (suc k) = length-tabulate (lowestAlike (staysWith i (classes i k))) n
+  classes-long zero = length-tabulate (lowest_alike (has_same_fields_at i)) n
+  classes-long (suc k) = length-tabulate (lowest_alike (is_staying_with i (classes i k))) n
 
   module _ (x : Even b) where
     one : OneRow i
@@ -131,7 +131,7 @@ module _ (b : List ℕ) where
       R = rounds i x.sound one k
 
       -- classes of labels from 2 up are from 2 up
-      pub class_low : (l : ℕ) → 2 ≤ l → l ≤ lastLabel b → 2 ≤ get_or buffer l 0
+      pub class_low : (l : ℕ) → 2 ≤ l → l ≤ last_label b → 2 ≤ get_or buffer l 0
       class_low l a z = go (split (get_or buffer l 0) 2)
         where
           hl : l < n
@@ -145,71 +145,71 @@ module _ (b : List ℕ) where
               let e : y ≡ l = low_same i x.sound y l hy hl (R.same y l hy hl (R.own l hl)) (omega (arith, inside l hl)) in
               absurd (omega (arith, inside l hl))
 
-      pub class-below : (l : ℕ) → l ≤ lastLabel b → get_or buffer l 0 ≤ l
+      pub class-below : (l : ℕ) → l ≤ last_label b → get_or buffer l 0 ≤ l
       class-below l z = omega (arith, inside l (omega (arith, labels-count b)), R.below l (omega (arith, labels-count b)))
 
       -- the buffer parts as the classes do
       parts_same : (l m j g : ℕ) → j < length i.rows → g < length i.rows
-          → parts buffer l m (get_or i.rows j no_row) (get_or i.rows g no_row) ≡ parts c l
+          → is_parting buffer l m (get_or i.rows j no_row) (get_or i.rows g no_row) ≡ is_parting c l
           m (get_or i.rows j no_row) (get_or i.rows g no_row)
       parts_same l m j g hj hg =
           let r : Row = get_or i.rows j no_row in
           let s : Row = get_or i.rows g no_row in
-          ap₂ (λ (x y : ℕ). eqb r.from l && eqb s.from m && together r s && not (eqb x y))
+          ap₂ (λ (x y : ℕ). eqb r.from l && eqb s.from m && is_together r s && not (eqb x y))
           (inside r.next (x.sound.each j hj).leading.inside) (inside s.next (x.sound.each g hg).leading.inside)
 
-      parted-same : (m l : ℕ) → parted i buffer m l ≡ parted i c m l
-      unfolding parted
+      parted-same : (m l : ℕ) → is_parted i buffer m l ≡ is_parted i c m l
+      unfolding is_parted
       parted-same m l =
-          some_same (λ r. some (parts buffer m l r) i.rows) (λ r. some (parts c m l r) i.rows) no_row i.rows (λ j hj.
-          some_same (parts buffer m l (get_or i.rows j no_row)) (parts c m l (get_or i.rows j no_row)) no_row i.rows (λ g hg.
+          some_same (λ r. some (is_parting buffer m l r) i.rows) (λ r. some (is_parting c m l r) i.rows) no_row i.rows (λ j hj.
+          some_same (is_parting buffer m l (get_or i.rows j no_row)) (is_parting c m l (get_or i.rows j no_row)) no_row i.rows (λ g hg.
           parts_same m l j g hj hg))
 
       abbrev stays : ℕ → ℕ → Bool
-      stays = staysWith i c
+      stays = is_staying_with i c
 
       -- labels of one class after the round were not parted in it
-      pub unparted-before : (m l : ℕ) → 2 ≤ m → m ≤ lastLabel b → 2 ≤ l → l ≤ lastLabel b
-          → class_of (classes i (suc k)) m ≡ class_of (classes i (suc k)) l → partedOn b buffer m l ≡ false
+      pub unparted-before : (m l : ℕ) → 2 ≤ m → m ≤ last_label b → 2 ≤ l → l ≤ last_label b
+          → class_of (classes i (suc k)) m ≡ class_of (classes i (suc k)) l → is_parted_on b buffer m l ≡ false
       unfolding classes
       unparted-before m l am hm al hl e =
           let t : stays m l ≡ true =
           same_class i stays (stays-alike i x.sound one c R) m l (omega (arith, labels-count b)) (omega (arith, labels-count b)) e in
           sym (parted-is b buffer x m l am hm al hl) ∙ parted-same m l
-          ∙ not-true (parted i c m l) (and_r (eqb (class_of c m) (class_of c l)) (not (parted i c m l)) t)
+          ∙ not-true (is_parted i c m l) (and_r (eqb (class_of c m) (class_of c l)) (not (is_parted i c m l)) t)
 
       -- labels 0 and 1 stay alone
-      pub zero-alone : 0 ≡ lowestAlike stays 0
+      pub zero-alone : 0 ≡ lowest_alike stays 0
       zero-alone = omega (arith, alike-le stays 0)
 
-      pub one-alone : 1 ≡ lowestAlike stays 1
-      one-alone = go (split (lowestAlike stays 1) 1)
+      pub one-alone : 1 ≡ lowest_alike stays 1
+      one-alone = go (split (lowest_alike stays 1) 1)
         where
           two : 2 ≤ n
           two = x.sound.two
 
-          go : (lowestAlike stays 1 < 1) ⊎ (1 ≤ lowestAlike stays 1) → 1 ≡ lowestAlike stays 1
+          go : (lowest_alike stays 1 < 1) ⊎ (1 ≤ lowest_alike stays 1) → 1 ≡ lowest_alike stays 1
           go (inr p) = omega (arith, alike-le stays 1)
           go (inl p) =
-              let z : lowestAlike stays 1 ≡ 0 = omega arith in
+              let z : lowest_alike stays 1 ≡ 0 = omega arith in
               let t : stays 0 1 ≡ true = subst (λ (y : ℕ). stays y 1 ≡ true) z (lowest-hit (λ m. stays m 1) 0 1 (omega arith)) in
               let e : class_of c 0 ≡ class_of c 1 =
-              eqb-true (class_of c 0) (class_of c 1) (and_l (eqb (class_of c 0) (class_of c 1)) (not (parted i c 0 1)) t) in
+              eqb-true (class_of c 0) (class_of c 1) (and_l (eqb (class_of c 0) (class_of c 1)) (not (is_parted i c 0 1)) t) in
               let h₀ : 0 < n = omega (arith, two) in
               let h₁ : 1 < n = omega (arith, two) in
               absurd (omega (arith, low_same i x.sound 0 1 h₀ h₁ (R.same 0 1 h₀ h₁ e) (omega arith)))
 
       -- the lowest of the next class is found among those that are lowest of theirs
-      module _ (next : List ℕ) (l : ℕ) (a : 2 ≤ l) (z : l ≤ lastLabel b)
-          (each : (m : ℕ) → m < l → get_or next m 0 ≡ lowestAlike stays m) where
+      module _ (next : List ℕ) (l : ℕ) (a : 2 ≤ l) (z : l ≤ last_label b)
+          (each : (m : ℕ) → m < l → get_or next m 0 ≡ lowest_alike stays m) where
         hl : l < n
         hl = omega (arith, labels-count b)
 
-        not-parted : (m : ℕ) → 2 ≤ m → m < l → not (partedOn b buffer m l) ≡ not (parted i c m l)
+        not-parted : (m : ℕ) → 2 ≤ m → m < l → not (is_parted_on b buffer m l) ≡ not (is_parted i c m l)
         not-parted m u v = ap not (sym (parted-is b buffer x m l u (omega arith) a z) ∙ parted-same m l)
 
         abbrev y : ℕ
-        y = lowestAlike stays l
+        y = lowest_alike stays l
 
         most : y ≤ l
         most = alike-le stays l
@@ -221,7 +221,7 @@ module _ (b : List ℕ) where
         stay p = lowest-hit (λ m. stays m l) 0 l (omega arith)
 
         same : y < l → class_of c y ≡ class_of c l
-        same p = eqb-true (class_of c y) (class_of c l) (and_l (eqb (class_of c y) (class_of c l)) (not (parted i c y l)) (stay p))
+        same p = eqb-true (class_of c y) (class_of c l) (and_l (eqb (class_of c y) (class_of c l)) (not (is_parted i c y l)) (stay p))
 
         low : get_or buffer l 0 ≤ y
         low = go (split y l)
@@ -230,34 +230,35 @@ module _ (b : List ℕ) where
             go (inl p) = omega (arith, inside l hl, same p, R.below y hy)
             go (inr p) = omega (arith, class-below l z)
 
-        leading : y < l → leadsClass b buffer next l y ≡ true
+        leading : y < l → is_class_leader b buffer next l y ≡ true
         leading p =
-            and-true (eqb (get_or buffer y 0) (get_or buffer l 0) && eqb (get_or next y 0) y) (not (partedOn b buffer y l))
+            and-true (eqb (get_or buffer y 0) (get_or buffer l 0) && eqb (get_or next y 0) y) (not (is_parted_on b buffer y l))
             (and-true (eqb (get_or buffer y 0) (get_or buffer l 0)) (eqb (get_or next y 0) y)
             (eq-eqb (get_or buffer y 0) (get_or buffer l 0) (inside y hy ∙ same p ∙ sym (inside l hl)))
             (eq-eqb (get_or next y 0) y (each y p ∙ lowest-own n stays (stays-alike i x.sound one c R) l hl)))
             (not-parted y (omega (arith, class_low l a z, low)) p
-            ∙ and_r (eqb (class_of c y) (class_of c l)) (not (parted i c y l)) (stay p))
+            ∙ and_r (eqb (class_of c y) (class_of c l)) (not (is_parted i c y l)) (stay p))
 
         -- one below that led a class would stay with l
-        led : (m : ℕ) → get_or buffer l 0 ≤ m → m < l → leadsClass b buffer next l m ≡ true → stays m l ≡ true
+        led : (m : ℕ) → get_or buffer l 0 ≤ m → m < l → is_class_leader b buffer next l m ≡ true → stays m l ≡ true
         led m u p e =
             let s : Bool = eqb (get_or buffer m 0) (get_or buffer l 0) in
             let t : Bool = eqb (get_or next m 0) m in
             let f : get_or buffer m 0 ≡ get_or buffer l 0 =
-            eqb-true (get_or buffer m 0) (get_or buffer l 0) (and_l s t (and_l (s && t) (not (partedOn b buffer m l)) e)) in
-            and-true (eqb (class_of c m) (class_of c l)) (not (parted i c m l))
+            eqb-true (get_or buffer m 0) (get_or buffer l 0) (and_l s t (and_l (s && t) (not (is_parted_on b buffer m l)) e)) in
+            and-true (eqb (class_of c m) (class_of c l)) (not (is_parted i c m l))
             (eq-eqb (class_of c m) (class_of c l) (sym (inside m (omega (arith, hl))) ∙ f ∙ inside l hl))
-            (sym (not-parted m (omega (arith, class_low l a z)) p) ∙ and_r (s && t) (not (partedOn b buffer m l)) e)
+            (sym (not-parted m (omega (arith, class_low l a z)) p) ∙ and_r (s && t) (not (is_parted_on b buffer m l)) e)
 
-        before : (m : ℕ) → get_or buffer l 0 ≤ m → m < y → leadsClass b buffer next l m ≡ false
-        before m u v = go (leadsClass b buffer next l m) refl
+        before : (m : ℕ) → get_or buffer l 0 ≤ m → m < y → is_class_leader b buffer next l m ≡ false
+        before m u v = go (is_class_leader b buffer next l m) refl
           where
-            go : (t : Bool) → leadsClass b buffer next l m ≡ t → leadsClass b buffer next l m ≡ false
+            go : (t : Bool) → is_class_leader b buffer next l m ≡ t → is_class_leader b buffer next l m ≡ false
             go false e = e
             go true e = no_both (stays m l) (led m u (omega (arith, most)) e) (lowest-before (λ m. stays m l) 0 l m (omega arith) v)
 
-        pub next-is : nextClass b buffer next l ≡ lowestAlike stays l
+        pub next-is : next_class b buffer next l ≡ lowest_alike stays l
         next-is =
-            lowest-is (leadsClass b buffer next l) (get_or buffer l 0) (l - get_or buffer l 0) y low (omega (arith, most, class-below l z))
+            lowest-is (is_class_leader b buffer next l) (get_or buffer l 0) (l - get_or buffer l 0) y low
+            (omega (arith, most, class-below l z))
             (λ q. leading (omega (arith, class-below l z))) before

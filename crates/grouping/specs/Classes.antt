@@ -5,10 +5,10 @@ use Rattle.words.specs.lists.Numbers.{tabulate, lowest}
 use Rattle.words.specs.lists.Sequences.{some}
 use Rattle.image.specs.Image.{Image, Label, Row}
 use Rattle.state.specs.State.{label_at}
-use Rattle.covering.specs.Matched.{together}
+use Rattle.covering.specs.Matched.{is_together}
 
-abbrev pub sameFields : Label → Label → Bool
-sameFields x y =
+abbrev pub has_same_fields : Label → Label → Bool
+has_same_fields x y =
     eqb x.kind y.kind && eqb x.called y.called && eqb x.owner y.owner && eqb x.result y.result
     && eqb x.mask y.mask
 
@@ -16,28 +16,28 @@ abbrev pub class_of : List ℕ → ℕ → ℕ
 class_of c l = get_or c l 0
 
 -- the lowest member of its class
-abbrev pub isFirst : List ℕ → ℕ → Bool
-isFirst c l = eqb (class_of c l) l
+abbrev pub is_first : List ℕ → ℕ → Bool
+is_first c l = eqb (class_of c l) l
 
 -- a row of label l and one of label m that match one word and bit lead to different classes
-abbrev pub parts : List ℕ → ℕ → ℕ → Row → Row → Bool
-parts c l m r s = eqb r.from l && eqb s.from m && together r s && not (eqb (class_of c r.next) (class_of c s.next))
+abbrev pub is_parting : List ℕ → ℕ → ℕ → Row → Row → Bool
+is_parting c l m r s = eqb r.from l && eqb s.from m && is_together r s && not (eqb (class_of c r.next) (class_of c s.next))
 
-unfoldable pub parted : Image → List ℕ → ℕ → ℕ → Bool
-parted i c l m = some (λ r. some (parts c l m r) i.rows) i.rows
+unfoldable pub is_parted : Image → List ℕ → ℕ → ℕ → Bool
+is_parted i c l m = some (λ r. some (is_parting c l m r) i.rows) i.rows
 
 -- labels l and m stay in one class
-abbrev pub staysWith : Image → List ℕ → ℕ → ℕ → Bool
-staysWith i c m l = eqb (class_of c m) (class_of c l) && not (parted i c m l)
+abbrev pub is_staying_with : Image → List ℕ → ℕ → ℕ → Bool
+is_staying_with i c m l = eqb (class_of c m) (class_of c l) && not (is_parted i c m l)
 
 -- the lowest label that is alike, which may be the label itself
-abbrev pub classesBy : Image → (ℕ → ℕ → Bool) → List ℕ
-classesBy i alike = tabulate (λ l. lowest (λ m. alike m l) 0 l) (length i.labels)
+abbrev pub classes_by : Image → (ℕ → ℕ → Bool) → List ℕ
+classes_by i alike = tabulate (λ l. lowest (λ m. alike m l) 0 l) (length i.labels)
 
 -- after k rounds
 unfoldable pub classes : Image → ℕ → List ℕ
-classes i zero = classesBy i (λ m l. sameFields (label_at i m) (label_at i l))
-classes i (suc k) = let c = classes i k in classesBy i (staysWith i c)
+classes i zero = classes_by i (λ m l. has_same_fields (label_at i m) (label_at i l))
+classes i (suc k) = let c = classes i k in classes_by i (is_staying_with i c)
 
 -- as many rounds as labels: by then nothing changes
 unfoldable pub grouping : Image → List ℕ

@@ -2,8 +2,8 @@
 use Rattle.std.specs.Prelude.{ℕ, ◌<◌, Bool, true, not, ◌≡◌, eqb, length}
 use Rattle.words.specs.lists.Numbers.{any, count}
 use Rattle.text.specs.frames.Sizes.{WORDS}
-use Rattle.image.specs.Image.{Image, nthRow}
-use Rattle.rows.specs.Rows.{isCandidate}
+use Rattle.image.specs.Image.{Image, nth_row}
+use Rattle.rows.specs.Rows.{is_candidate}
 use Rattle.state.specs.State.{label_at}
 
 -- each label with the number of its group
@@ -15,11 +15,11 @@ pub record Meets (i : Image) (g : Grouping) : Type 0 where
   pub same : (l m : ℕ) → l < length i.labels → m < length i.labels → g l ≡ g m → label_at i l ≡ label_at i m
   pub leads : (l m : ℕ) → l < length i.labels → m < length i.labels → g l ≡ g m
       → (w b : ℕ) → w < WORDS → b < 2 → (j k : ℕ) → j < length i.rows → k < length i.rows
-      → isCandidate l w b (nthRow i j) ≡ true → isCandidate m w b (nthRow i k) ≡ true → g (nthRow i j).next ≡ g (nthRow i k).next
+      → is_candidate l w b (nth_row i j) ≡ true → is_candidate m w b (nth_row i k) ≡ true → g (nth_row i j).next ≡ g (nth_row i k).next
 
 -- a group is counted at its lowest member
-abbrev pub isLowest : Grouping → ℕ → Bool
-isLowest g l = not (any (λ k. eqb (g k) (g l)) 0 l)
+abbrev pub is_lowest : Grouping → ℕ → Bool
+is_lowest g l = not (any (λ k. eqb (g k) (g l)) 0 l)
 
 abbrev pub groups : Grouping → ℕ → ℕ
-groups g n = count (isLowest g) 0 n
+groups g n = count (is_lowest g) 0 n

@@ -1,7 +1,7 @@
 // The rounds of the grouping, over buffers that are lent: classes and marks before each, and an end where nothing changes.
 ghost use Rattle.std.specs.Prelude.{◌≡◌, length, replicate};
 ghost use Rattle.text.specs.declared.frames.sizes.TheConstants.{LABELS};
-ghost use Rattle.tables.specs.Table.{tableImage};
+ghost use Rattle.tables.specs.Table.{table_image};
 ghost use Rattle.grouping.specs.Classes.{grouping};
 ghost use Rattle.grouping.specs.inner.GroupingContracts.{Even, Classed};
 
@@ -24,7 +24,7 @@ pub fn group_in(
     requires even { Even table.now }
     requires classes_len { (length classes.old ≡ LABELS) × (length next.old ≡ LABELS) × (length kept.old ≡ LABELS) }
     requires marks_value { (marks.old ≡ replicate LABELS 1) × (touched.old ≡ replicate LABELS 1) }
-    ensures { Classed table.now (grouping (tableImage table.now)) classes.new }
+    ensures { Classed table.now (grouping (table_image table.now)) classes.new }
 {
     first_classes(table, classes);
     let n = (last_label(table) as usize) + 1;

@@ -2,16 +2,16 @@
 ghost use Rattle.std.specs.Prelude.{◌≡◌, ◌<◌, length};
 ghost use Rattle.words.specs.lists.Numbers.{lowest};
 ghost use Rattle.tables.specs.inner.Asked.{Whole};
-ghost use Rattle.tables.specs.inner.Labels.{asLabel};
+ghost use Rattle.tables.specs.inner.Labels.{as_label};
 ghost use Rattle.text.specs.declared.frames.sizes.TheConstants.{LABELS};
-ghost use Rattle.grouping.specs.Classes.{sameFields};
-ghost use Rattle.grouping.specs.inner.GroupingContracts.{After, holdsSameOn};
+ghost use Rattle.grouping.specs.Classes.{has_same_fields};
+ghost use Rattle.grouping.specs.inner.GroupingContracts.{After, has_same_fields_on};
 
 use tables::{Label, label_of, last_label};
 
 // Whether two labels hold the same.
 fn is_same(x: Label, y: Label) -> bool
-    ensures { result ≡ sameFields (asLabel x) (asLabel y) }
+    ensures { result ≡ has_same_fields (as_label x) (as_label y) }
 {
     if x.kind != y.kind {
         return false;
@@ -32,7 +32,7 @@ fn is_same(x: Label, y: Label) -> bool
 fn lowest_same(table: &[u8], l: usize) -> usize
     requires whole { Whole table.now }
     requires l_bound { l < LABELS }
-    ensures { result ≡ lowest (λ m. holdsSameOn table.now m l) 0 l }
+    ensures { result ≡ lowest (λ m. has_same_fields_on table.now m l) 0 l }
 {
     let label = label_of(table, l as u8);
     let mut m: usize = 0;

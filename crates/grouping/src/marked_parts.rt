@@ -2,12 +2,12 @@
 // so that each time that a label is marked its class is at most half as large as before.
 ghost use Rattle.std.specs.Prelude.{◌≡◌, ◌≤◌, ◌<◌, length};
 ghost use Rattle.text.specs.declared.frames.sizes.TheConstants.{LABELS};
-ghost use Rattle.grouping.specs.marked_parts.inner.Parts.{memberCount, countMembers, largerPart, keepLargest, markOf, markOthers, PartsMarked};
+ghost use Rattle.grouping.specs.marked_parts.inner.Parts.{member_count, count_members, larger_part, keep_largest, mark_of, mark_others, PartsMarked};
 
 // How many labels a class has with label l, up to 255: no class has so many.
 fn member_count(counts: &[u8], class: usize, l: usize) -> u8
     requires { (length counts.now ≡ LABELS) × (class < LABELS) }
-    ensures { result ≡ memberCount counts.now class l }
+    ensures { result ≡ member_count counts.now class l }
 {
     if class == l {
         return 1;
@@ -22,7 +22,7 @@ fn member_count(counts: &[u8], class: usize, l: usize) -> u8
 // How many labels each class has, at its lowest one.
 fn count_members(classes: &[u8], counts: &mut [u8], n: usize)
     requires { (n ≤ LABELS) × (length classes.now ≡ LABELS) × (length counts.old ≡ LABELS) }
-    ensures { counts.new ≡ countMembers classes.now n counts.old }
+    ensures { counts.new ≡ count_members classes.now n counts.old }
 {
     for l in 0..n {
         let class = classes[l] as usize;
@@ -33,7 +33,7 @@ fn count_members(classes: &[u8], counts: &mut [u8], n: usize)
 // Of the part that is kept so far for a former class and the part of label l the one with more labels, or the first.
 fn larger_part(counts: &[u8], kept: &[u8], class: usize, l: usize, part: u8) -> u8
     requires { (length counts.now ≡ LABELS) × (length kept.now ≡ LABELS) × (class < LABELS) }
-    ensures { result ≡ largerPart counts.now kept.now class l part }
+    ensures { result ≡ larger_part counts.now kept.now class l part }
 {
     if class == l {
         return part;
@@ -50,7 +50,7 @@ fn keep_largest(classes: &[u8], next: &[u8], counts: &[u8], kept: &mut [u8], n: 
     requires n_bound { (n ≤ LABELS) × (length classes.now ≡ LABELS) × (length next.now ≡ LABELS) }
     requires counts_len { (length counts.now ≡ LABELS) × (length kept.old ≡ LABELS) }
     ensures { kept.new
-        ≡ keepLargest classes.now next.now counts.now n kept.old }
+        ≡ keep_largest classes.now next.now counts.now n kept.old }
 {
     for l in 0..n {
         let class = classes[l] as usize;
@@ -60,7 +60,7 @@ fn keep_largest(classes: &[u8], next: &[u8], counts: &[u8], kept: &mut [u8], n: 
 
 // A label's mark: 2 where its part is not the one that is kept.
 fn mark_of(part: u8, kept: u8) -> u8
-    ensures { result ≡ markOf part kept }
+    ensures { result ≡ mark_of part kept }
 {
     if part == kept {
         return 0;
@@ -73,7 +73,7 @@ fn mark(classes: &[u8], next: &[u8], kept: &[u8], marks: &mut [u8], n: usize)
     requires n_bound { (n ≤ LABELS) × (length classes.now ≡ LABELS) × (length next.now ≡ LABELS) }
     requires kept_len { (length kept.now ≡ LABELS) × (length marks.old ≡ LABELS) }
     ensures { marks.new
-        ≡ markOthers classes.now next.now kept.now n marks.old }
+        ≡ mark_others classes.now next.now kept.now n marks.old }
 {
     for l in 0..n {
         let class = classes[l] as usize;

@@ -4,7 +4,7 @@ ghost use Rattle.text.specs.declared.frames.sizes.TheConstants.{LABELS};
 ghost use Rattle.text.specs.frames.Frame.{size};
 ghost use Rattle.tables.specs.inner.Asked.{Whole};
 ghost use Rattle.grouping.specs.inner.GroupingContracts.{Even, Refined, OneMore};
-ghost use Rattle.grouping.specs.marking.inner.Touches.{touchIn, touches, RoundMarked};
+ghost use Rattle.grouping.specs.marking.inner.Touches.{touch_in, touches, RoundMarked};
 
 use crate::marked_parts::mark_parts;
 use image::byte;
@@ -15,7 +15,7 @@ use tables::{last_label, scheme_count};
 // 1 where a row in the frames from first up to end leads to a marked label, else 0.
 fn touch_of(table: &[u8], marks: &[u8], first: usize, end: usize) -> u8
     requires { (end ≤ size table.now) × (length marks.now ≡ LABELS) }
-    ensures { result ≡ touchIn table.now marks.now first end }
+    ensures { result ≡ touch_in table.now marks.now first end }
 {
     for f in first..end {
         let next = byte(table, f, NEXT) as usize;

@@ -1,9 +1,9 @@
 // The classes one round later: for each label the lowest one of its next class.
 ghost use Rattle.std.specs.Prelude.{◌≡◌, ◌≤◌, ◌<◌, length, get_or};
 ghost use Rattle.text.specs.declared.frames.sizes.TheConstants.{LABELS};
-ghost use Rattle.image.specs.Decode.{schemeCount};
+ghost use Rattle.image.specs.Decode.{scheme_count};
 ghost use Rattle.grouping.specs.inner.GroupingContracts.{Even, Refined, OneMore, Marks, ClassAsked};
-ghost use Rattle.grouping.specs.inner.GroupingContracts.{leadsClass, nextClass};
+ghost use Rattle.grouping.specs.inner.GroupingContracts.{is_class_leader, next_class};
 
 use crate::parting::are_parted;
 use tables::{last_label, scheme_count};
@@ -20,8 +20,8 @@ fn leads_class(
     l: usize,
 ) -> bool
     requires class_asked { ClassAsked table.now classes.now next.now marks.now touched.now l }
-    requires schemes_value { (schemes ≡ schemeCount table.now) × (2 ≤ m) × (m < l) × (l < LABELS) }
-    ensures { result ≡ leadsClass table.now classes.now next.now l m }
+    requires schemes_value { (schemes ≡ scheme_count table.now) × (2 ≤ m) × (m < l) × (l < LABELS) }
+    ensures { result ≡ is_class_leader table.now classes.now next.now l m }
 {
     if classes[m] != classes[l] {
         return false;
@@ -45,8 +45,8 @@ fn next_class(
     l: usize,
 ) -> usize
     requires class_asked { ClassAsked table.now classes.now next.now marks.now touched.now l }
-    requires schemes_value { (schemes ≡ schemeCount table.now) × (get_or classes.now l 0 ≤ l) × (l < LABELS) }
-    ensures { result ≡ nextClass table.now classes.now next.now l }
+    requires schemes_value { (schemes ≡ scheme_count table.now) × (get_or classes.now l 0 ≤ l) × (l < LABELS) }
+    ensures { result ≡ next_class table.now classes.now next.now l }
 {
     let mut m = classes[l] as usize;
     while m < l {

@@ -3,7 +3,7 @@ ghost use Rattle.std.specs.Prelude.{◌&&◌, ◌≡◌, ◌≤◌, ◌<◌, len
 ghost use Rattle.text.specs.declared.frames.sizes.TheConstants.{LABELS};
 ghost use Rattle.text.specs.frames.Frame.{size, field};
 ghost use Rattle.tables.specs.inner.Labels.{Framed};
-ghost use Rattle.grouping.specs.inner.GroupingContracts.{parts_in, partsAny, isMarked, partedBy, partedOn, Marks};
+ghost use Rattle.grouping.specs.inner.GroupingContracts.{is_parting_in, is_parting_any, has_marked_next, is_parted_by, is_parted_on, Marks};
 
 use covering::are_together;
 use image::byte;
@@ -14,7 +14,7 @@ use rows::{end_of, first_of};
 fn parts(table: &[u8], classes: &[u8], class: u8, f: usize, g: usize) -> bool
     requires f_bound { (f < size table.now) × (g < size table.now) }
     requires classes_len { (length classes.now ≡ LABELS) × (class ≡ get_or classes.now (field table.now f NEXT) 0) }
-    ensures { result ≡ parts_in table.now classes.now f g }
+    ensures { result ≡ is_parting_in table.now classes.now f g }
 {
     let next = byte(table, g, NEXT) as usize;
     if class == classes[next] {
@@ -27,7 +27,7 @@ fn parts(table: &[u8], classes: &[u8], class: u8, f: usize, g: usize) -> bool
 fn parts_any(table: &[u8], classes: &[u8], f: usize, first: usize, end: usize) -> bool
     requires f_bound { (f < size table.now) × (end ≤ size table.now) }
     requires classes_len { length classes.now ≡ LABELS }
-    ensures { result ≡ partsAny table.now classes.now f first end }
+    ensures { result ≡ is_parting_any table.now classes.now f first end }
 {
     let next = byte(table, f, NEXT) as usize;
     let class = classes[next];
@@ -51,8 +51,8 @@ fn parts_marked(
 ) -> bool
     requires f_bound { (f < size table.now) × (end ≤ size table.now) }
     requires classes_len { (length classes.now ≡ LABELS) × (length marks.now ≡ LABELS) }
-    ensures { result ≡ (isMarked table.now marks.now least f
-        && partsAny table.now classes.now f first end) }
+    ensures { result ≡ (has_marked_next table.now marks.now least f
+        && is_parting_any table.now classes.now f first end) }
 {
     let next = byte(table, f, NEXT) as usize;
     if marks[next] < least {
@@ -74,7 +74,7 @@ fn are_parted_by(
 ) -> bool
     requires framed { (Framed table.now schemes m) × (Framed table.now schemes l) × (m < LABELS) × (1 ≤ least) }
     requires classes_len { (length classes.now ≡ LABELS) × (Marks table.now classes.now marks.now touched.now) }
-    ensures { result ≡ partedBy table.now classes.now marks.now least m l }
+    ensures { result ≡ is_parted_by table.now classes.now marks.now least m l }
 {
     if touched[m] == 0 {
         return false;
@@ -103,7 +103,7 @@ pub fn are_parted(
     requires framed { (Framed table.now schemes m) × (Framed table.now schemes l) × (m < LABELS) × (l < LABELS) }
     requires m_value { get_or classes.now m 0 ≡ get_or classes.now l 0 }
     requires classes_len { (length classes.now ≡ LABELS) × (Marks table.now classes.now marks.now touched.now) }
-    ensures { result ≡ partedOn table.now classes.now m l }
+    ensures { result ≡ is_parted_on table.now classes.now m l }
 {
     if are_parted_by(table, schemes, classes, marks, touched, 1, m, l) {
         return true;

@@ -1,6 +1,6 @@
 // The grouping with fewest groups: for each label the lowest one of its class.
 ghost use Rattle.std.specs.Prelude.{◌≡◌, length};
-ghost use Rattle.tables.specs.Table.{tableImage};
+ghost use Rattle.tables.specs.Table.{table_image};
 ghost use Rattle.grouping.specs.Classes.{grouping};
 ghost use Rattle.grouping.specs.inner.GroupingContracts.{Even, Classed};
 
@@ -11,7 +11,7 @@ use text::frames::sizes::LABELS;
 pub fn group(table: &[u8], classes: &mut [u8])
     requires even { Even table.now }
     requires classes_len { length classes.old ≡ LABELS }
-    ensures { Classed table.now (grouping (tableImage table.now)) classes.new }
+    ensures { Classed table.now (grouping (table_image table.now)) classes.new }
 {
     let mut next = [0u8; LABELS];
     let mut marks = [1u8; LABELS];

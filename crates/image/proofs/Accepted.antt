@@ -10,53 +10,54 @@ use lib.Bits.{bit_and}
 use lib.Dec.{leb, ltb, eqb}
 use borrow.Author.Tests.{le-ltb, lt-ltb, eq-eqb, ne_eqb, eqb-true, eqb-false, ltb-false, leb-true}
 use Rattle.words.proofs.lists.Tests.{or_l, or_r, or_cases, and_l, and_r, and-false, not-false, yes-pick, no-pick}
-use Rattle.words.proofs.lists.Ranges.{length-map-range, getD-map-range}
+use Rattle.words.proofs.lists.Ranges.{length-map-range, get_or-map-range}
 use Rattle.text.specs.frames.Frame.{size, field, pair_at, contents}
-use Rattle.text.specs.frames.Verdict.{fine, next, when, atLowest}
-use Rattle.text.specs.frames.Check.{textVerdict}
+use Rattle.text.specs.frames.Verdict.{fine, next, when, at_lowest}
+use Rattle.text.specs.frames.Check.{text_verdict}
 use Rattle.text.proofs.frames.Verdicts.{next-first, next-rest, when-fine, at-lowest-fine}
 use Rattle.text.proofs.frames.Contents.{text-told, contents-bytes}
-use Rattle.image.specs.Image.{Label, Row, no_row, nthRow, homeLabel, returnLabel}
-use Rattle.image.specs.Decode.{schemeCount, lastLabel, rowCount, handlerIn, labels_from, rows_from, entryIn, labelIn, row_in, decoded}
-use Rattle.image.specs.Check.{filled, badHandler, badCounts, badHeader, entryPosition, labelPosition}
-use Rattle.image.specs.Check.{rowPosition, position_of, falls, strayFrame, stray, within}
-use Rattle.image.specs.Check.{isLabel, badEntry, badCalled, badLabel, badBit, badRow}
-use Rattle.image.specs.Check.{badFrame, badContent, tableVerdict, imageVerdict}
-use Rattle.image.specs.inner.Sound.{no_label, nthLabel, end_of, Reaches, SoundLabel, SoundRow, SoundImage}
+use Rattle.image.specs.Image.{Label, Row, no_row, nth_row, home_label, return_label}
+use Rattle.image.specs.Decode.{scheme_count, last_label, row_count, handler_in, labels_from, rows_from, entry_in, label_in, row_in}
+use Rattle.image.specs.Decode.{decoded_image}
+use Rattle.image.specs.Check.{is_filled, has_bad_handler, has_bad_counts, is_bad_header, entry_position, label_position}
+use Rattle.image.specs.Check.{row_position, position_of, is_falling, is_stray_frame, is_stray, is_within}
+use Rattle.image.specs.Check.{is_label, is_bad_entry, has_bad_called, is_bad_label, has_bad_bit, is_bad_row}
+use Rattle.image.specs.Check.{is_bad_frame, has_bad_content, table_verdict, image_verdict}
+use Rattle.image.specs.inner.Sound.{no_label, nth_label, end_of, Reaches, SoundLabel, SoundRow, SoundImage}
 
 -- ---- what the image that contents hold has at each number
 module _ (b : List ℕ) where
-  pub entries-count : length (decoded b).entries ≡ schemeCount b
-  unfolding decoded
-  entries-count = length-map-range (entryIn b) 1 (schemeCount b)
+  pub entries-count : length (decoded_image b).entries ≡ scheme_count b
+  unfolding decoded_image
+  entries-count = length-map-range (entry_in b) 1 (scheme_count b)
 
-  pub labels-count : length (decoded b).labels ≡ lastLabel b + 1
-  unfolding decoded
-  labels-count = length-map-range (labelIn b) 0 (lastLabel b + 1)
+  pub labels-count : length (decoded_image b).labels ≡ last_label b + 1
+  unfolding decoded_image
+  labels-count = length-map-range (label_in b) 0 (last_label b + 1)
 
-  pub rows-count : length (decoded b).rows ≡ rowCount b
-  unfolding decoded
-  rows-count = length-map-range (row_in b) 0 (rowCount b)
+  pub rows-count : length (decoded_image b).rows ≡ row_count b
+  unfolding decoded_image
+  rows-count = length-map-range (row_in b) 0 (row_count b)
 
   -- the entry of scheme h + 1
-  pub entry_read : (h : ℕ) → h < schemeCount b → get_or (decoded b).entries h 0 ≡ entryIn b (suc h)
-  unfolding decoded
-  entry_read h l = getD-map-range (entryIn b) 0 1 (schemeCount b) h l ∙ ap (entryIn b) (omega arith)
+  pub entry_read : (h : ℕ) → h < scheme_count b → get_or (decoded_image b).entries h 0 ≡ entry_in b (suc h)
+  unfolding decoded_image
+  entry_read h l = get_or-map-range (entry_in b) 0 1 (scheme_count b) h l ∙ ap (entry_in b) (omega arith)
 
-  pub label-read : (l : ℕ) → l ≤ lastLabel b → nthLabel (decoded b) l ≡ labelIn b l
-  unfolding decoded
-  label-read l h = getD-map-range (labelIn b) no_label 0 (lastLabel b + 1) l (omega arith) ∙ ap (labelIn b) (omega arith)
+  pub label-read : (l : ℕ) → l ≤ last_label b → nth_label (decoded_image b) l ≡ label_in b l
+  unfolding decoded_image
+  label-read l h = get_or-map-range (label_in b) no_label 0 (last_label b + 1) l (omega arith) ∙ ap (label_in b) (omega arith)
 
-  pub row_read : (k : ℕ) → k < rowCount b → nthRow (decoded b) k ≡ row_in b k
-  unfolding decoded
-  row_read k h = getD-map-range (row_in b) no_row 0 (rowCount b) k h ∙ ap (row_in b) (omega arith)
+  pub row_read : (k : ℕ) → k < row_count b → nth_row (decoded_image b) k ≡ row_in b k
+  unfolding decoded_image
+  row_read k h = get_or-map-range (row_in b) no_row 0 (row_count b) k h ∙ ap (row_in b) (omega arith)
 
   -- ---- the place of each frame
-  pub position-of-entry : (h : ℕ) → 1 ≤ h → h ≤ schemeCount b → position_of b h ≡ entryPosition h
+  pub position-of-entry : (h : ℕ) → 1 ≤ h → h ≤ scheme_count b → position_of b h ≡ entry_position h
   unfolding position_of
   position-of-entry h l m = rw (ne_eqb h 0 (λ z. omega arith), lt-ltb h (labels_from b) (omega arith))
 
-  pub position-of-label : (l : ℕ) → l ≤ lastLabel b → position_of b (labels_from b + l) ≡ labelPosition l
+  pub position-of-label : (l : ℕ) → l ≤ last_label b → position_of b (labels_from b + l) ≡ label_position l
   unfolding position_of
   position-of-label l h =
       rw (
@@ -64,9 +65,9 @@ module _ (b : List ℕ) where
         le-ltb (labels_from b + l) (labels_from b) (omega arith),
         lt-ltb (labels_from b + l) (rows_from b) (omega arith),
       )
-      (ap labelPosition (omega arith))
+      (ap label_position (omega arith))
 
-  pub position-of-row : (k : ℕ) → position_of b (rows_from b + k) ≡ rowPosition k
+  pub position-of-row : (k : ℕ) → position_of b (rows_from b + k) ≡ row_position k
   unfolding position_of
   position-of-row k =
       rw (
@@ -74,22 +75,22 @@ module _ (b : List ℕ) where
         le-ltb (rows_from b + k) (labels_from b) (omega arith),
         le-ltb (rows_from b + k) (rows_from b) (omega arith),
       )
-      (ap rowPosition (omega arith))
+      (ap row_position (omega arith))
 
   -- a label that passes for scheme h is one that h reaches
-  pub within-reaches : (h l : ℕ) → within b h l ≡ true → Reaches (decoded b) h l
+  pub within-reaches : (h l : ℕ) → is_within b h l ≡ true → Reaches (decoded_image b) h l
   within-reaches h l e =
-      let low : l ≤ lastLabel b = leb-true l (lastLabel b)
-      (and_l (leb l (lastLabel b)) (eqb (labelIn b l).owner h || eqb l (end_of h)) e) in
+      let low : l ≤ last_label b = leb-true l (last_label b)
+      (and_l (leb l (last_label b)) (eqb (label_in b l).owner h || eqb l (end_of h)) e) in
       record {
         inside = omega (arith, labels-count);
-        belongs = go low (or_cases (eqb (labelIn b l).owner h) (eqb l (end_of h))
-            (and_r (leb l (lastLabel b)) (eqb (labelIn b l).owner h || eqb l (end_of h)) e));
+        belongs = go low (or_cases (eqb (label_in b l).owner h) (eqb l (end_of h))
+            (and_r (leb l (last_label b)) (eqb (label_in b l).owner h || eqb l (end_of h)) e));
       }
     where
-      go : l ≤ lastLabel b → (eqb (labelIn b l).owner h ≡ true) ⊎ (eqb l (end_of h) ≡ true)
-          → ((nthLabel (decoded b) l).owner ≡ h) ⊎ (l ≡ end_of h)
-      go low (inl p) = inl (ap (λ (x : Label). x.owner) (label-read l low) ∙ eqb-true (labelIn b l).owner h p)
+      go : l ≤ last_label b → (eqb (label_in b l).owner h ≡ true) ⊎ (eqb l (end_of h) ≡ true)
+          → ((nth_label (decoded_image b) l).owner ≡ h) ⊎ (l ≡ end_of h)
+      go low (inl p) = inl (ap (λ (x : Label). x.owner) (label-read l low) ∙ eqb-true (label_in b l).owner h p)
       go low (inr p) = inr (eqb-true l (end_of h) p)
 
 -- ---- labels that hold the same
@@ -112,29 +113,29 @@ fields-same x y e =
     let p₅ : x.mask ≡ y.mask = eqb-true x.mask y.mask (and_r (k && c && o && r) m e) in
     λ j. record { kind = p₁ j; called = p₂ j; owner = p₃ j; result = p₄ j; mask = p₅ j }
 
-called-told : (b : List ℕ) (x : Label) → badCalled b x ≡ false → (x.kind ≡ 0 → ⊥) → (2 ≤ x.called) × (x.called ≤ schemeCount b)
+called-told : (b : List ℕ) (x : Label) → has_bad_called b x ≡ false → (x.kind ≡ 0 → ⊥) → (2 ≤ x.called) × (x.called ≤ scheme_count b)
 called-told b x e n =
-    let t : (ltb x.called 2 || ltb (schemeCount b) x.called) ≡ false =
-    sym (no-pick (eqb x.kind 0) (not (eqb x.called 0)) (ltb x.called 2 || ltb (schemeCount b) x.called)
+    let t : (ltb x.called 2 || ltb (scheme_count b) x.called) ≡ false =
+    sym (no-pick (eqb x.kind 0) (not (eqb x.called 0)) (ltb x.called 2 || ltb (scheme_count b) x.called)
     (ne_eqb x.kind 0 n))
     ∙ e in (
-      ltb-false x.called 2 (or_l (ltb x.called 2) (ltb (schemeCount b) x.called) t),
-      ltb-false (schemeCount b) x.called (or_r (ltb x.called 2) (ltb (schemeCount b) x.called) t),
+      ltb-false x.called 2 (or_l (ltb x.called 2) (ltb (scheme_count b) x.called) t),
+      ltb-false (scheme_count b) x.called (or_r (ltb x.called 2) (ltb (scheme_count b) x.called) t),
     )
 
-plain-told : (b : List ℕ) (x : Label) → badCalled b x ≡ false → x.kind ≡ 0 → x.called ≡ 0
+plain-told : (b : List ℕ) (x : Label) → has_bad_called b x ≡ false → x.kind ≡ 0 → x.called ≡ 0
 plain-told b x e k =
     eqb-true x.called 0 (not-false (eqb x.called 0)
-    (sym (yes-pick (eqb x.kind 0) (not (eqb x.called 0)) (ltb x.called 2 || ltb (schemeCount b) x.called)
+    (sym (yes-pick (eqb x.kind 0) (not (eqb x.called 0)) (ltb x.called 2 || ltb (scheme_count b) x.called)
     (eq-eqb x.kind 0 k)) ∙ e))
 
-label-told : (b : List ℕ) (l : ℕ) (x : Label) → x.mask < 4294967296 → badLabel b (suc (suc l)) x ≡ false → SoundLabel (schemeCount b) x
+label-told : (b : List ℕ) (l : ℕ) (x : Label) → x.mask < 4294967296 → is_bad_label b (suc (suc l)) x ≡ false → SoundLabel (scheme_count b) x
 label-told b l x small e =
     let k : Bool = ltb 2 x.kind in
     let z : Bool = eqb x.owner 0 in
-    let o : Bool = ltb (schemeCount b) x.owner in
+    let o : Bool = ltb (scheme_count b) x.owner in
     let r : Bool = ltb 2 x.result in
-    let c : Bool = badCalled b x in
+    let c : Bool = has_bad_called b x in
     let e₁ : (k || z || o || r) ≡ false = or_l (k || z || o || r) c e in
     let e₂ : (k || z || o) ≡ false = or_l (k || z || o) r e₁ in
     let e₃ : (k || z) ≡ false = or_l (k || z) o e₂ in
@@ -142,7 +143,7 @@ label-told b l x small e =
     record {
       kinds = ltb-false 2 x.kind (or_l k z e₃);
       some = omega (arith, eqb-false x.owner 0 (or_r k z e₃));
-      most = ltb-false (schemeCount b) x.owner (or_r (k || z) o e₂);
+      most = ltb-false (scheme_count b) x.owner (or_r (k || z) o e₂);
       results = ltb-false 2 x.result (or_r (k || z || o) r e₁);
       masks = small;
       plain = plain-told b x called;
@@ -150,21 +151,21 @@ label-told b l x small e =
     }
 
 -- ---- a row
-row_told : (b : List ℕ) (f : ℕ) (r : Row) → r.care < 65536 → r.values < 65536 → badRow b f r ≡ false → SoundRow (decoded b) r
+row_told : (b : List ℕ) (f : ℕ) (r : Row) → r.care < 65536 → r.values < 65536 → is_bad_row b f r ≡ false → SoundRow (decoded_image b) r
 row_told b f r small tiny e =
     let a₁ : Bool = ltb r.from 2 in
-    let a₂ : Bool = ltb (lastLabel b) r.from in
+    let a₂ : Bool = ltb (last_label b) r.from in
     let a₃ : Bool = not (eqb (bit_and r.values r.care) r.values) in
-    let a₄ : Bool = badBit b r in
-    let a₅ : Bool = not (within b (labelIn b r.from).owner r.next) in
-    let a₆ : Bool = filled b f 8 2 in
+    let a₄ : Bool = has_bad_bit b r in
+    let a₅ : Bool = not (is_within b (label_in b r.from).owner r.next) in
+    let a₆ : Bool = is_filled b f 8 2 in
     let e₁ : (a₁ || a₂ || a₃ || a₄ || a₅) ≡ false = or_l (a₁ || a₂ || a₃ || a₄ || a₅) a₆ e in
     let e₂ : (a₁ || a₂ || a₃ || a₄) ≡ false = or_l (a₁ || a₂ || a₃ || a₄) a₅ e₁ in
     let e₃ : (a₁ || a₂ || a₃) ≡ false = or_l (a₁ || a₂ || a₃) a₄ e₂ in
     let e₄ : (a₁ || a₂) ≡ false = or_l (a₁ || a₂) a₃ e₃ in
     let bit : a₄ ≡ false = or_r (a₁ || a₂ || a₃) a₄ e₂ in
-    let last : r.from ≤ lastLabel b = ltb-false (lastLabel b) r.from (or_r a₁ a₂ e₄) in
-    let same : nthLabel (decoded b) r.from ≡ labelIn b r.from = label-read b r.from last in
+    let last : r.from ≤ last_label b = ltb-false (last_label b) r.from (or_r a₁ a₂ e₄) in
+    let same : nth_label (decoded_image b) r.from ≡ label_in b r.from = label-read b r.from last in
     record {
       low = ltb-false r.from 2 (or_l a₁ a₂ e₄);
       high = omega (arith, labels-count b);
@@ -172,123 +173,128 @@ row_told b f r small tiny e =
       small = tiny;
       within = eqb-true (bit_and r.values r.care) r.values
           (not-false (eqb (bit_and r.values r.care) r.values) (or_r (a₁ || a₂) a₃ e₃));
-      bits = ltb-false 2 r.bit (or_l (ltb 2 r.bit) (ltb r.bit 2 && not (eqb (labelIn b r.from).kind 2)) bit);
+      bits = ltb-false 2 r.bit (or_l (ltb 2 r.bit) (ltb r.bit 2 && not (eqb (label_in b r.from).kind 2)) bit);
       function = λ h.
           ap (λ (x : Label). x.kind) same
-          ∙ eqb-true (labelIn b r.from).kind 2 (not-false (eqb (labelIn b r.from).kind 2)
-          (and-false (ltb r.bit 2) (not (eqb (labelIn b r.from).kind 2))
-          (or_r (ltb 2 r.bit) (ltb r.bit 2 && not (eqb (labelIn b r.from).kind 2)) bit) (lt-ltb r.bit 2 h)));
-      leading = subst (λ (h : ℕ). Reaches (decoded b) h r.next) (sym (ap (λ (x : Label). x.owner) same))
-          (within-reaches b (labelIn b r.from).owner r.next
-          (not-false (within b (labelIn b r.from).owner r.next) (or_r (a₁ || a₂ || a₃ || a₄) a₅ e₁)));
+          ∙ eqb-true (label_in b r.from).kind 2 (not-false (eqb (label_in b r.from).kind 2)
+          (and-false (ltb r.bit 2) (not (eqb (label_in b r.from).kind 2))
+          (or_r (ltb 2 r.bit) (ltb r.bit 2 && not (eqb (label_in b r.from).kind 2)) bit) (lt-ltb r.bit 2 h)));
+      leading = subst (λ (h : ℕ). Reaches (decoded_image b) h r.next) (sym (ap (λ (x : Label). x.owner) same))
+          (within-reaches b (label_in b r.from).owner r.next
+          (not-false (is_within b (label_in b r.from).owner r.next) (or_r (a₁ || a₂ || a₃ || a₄) a₅ e₁)));
     }
 
 -- ---- the handler is 0 or a scheme of 2 to H
-pub handler-told : (b : List ℕ) → badHandler b ≡ false → (handlerIn b ≡ 0 → ⊥) → (2 ≤ handlerIn b) × (handlerIn b ≤ schemeCount b)
+pub handler-told : (b : List ℕ) → has_bad_handler b ≡ false → (handler_in b ≡ 0 → ⊥) → (2 ≤ handler_in b) × (handler_in b ≤ scheme_count b)
 handler-told b e n =
-    let low : Bool = ltb (handlerIn b) 2 in
-    let high : Bool = ltb (schemeCount b) (handlerIn b) in
-    let t : (low || high) ≡ false = and-false (not (eqb (handlerIn b) 0)) (low || high) e (ap not (ne_eqb (handlerIn b) 0 n)) in
-    (ltb-false (handlerIn b) 2 (or_l low high t), ltb-false (schemeCount b) (handlerIn b) (or_r low high t))
+    let low : Bool = ltb (handler_in b) 2 in
+    let high : Bool = ltb (scheme_count b) (handler_in b) in
+    let t : (low || high) ≡ false = and-false (not (eqb (handler_in b) 0)) (low || high) e (ap not (ne_eqb (handler_in b) 0 n)) in
+    (ltb-false (handler_in b) 2 (or_l low high t), ltb-false (scheme_count b) (handler_in b) (or_r low high t))
 
 -- ---- the whole table
 pub record CountedTable (b : List ℕ) : Type 0 where
-  pub first : 1 ≤ schemeCount b
-  pub most : schemeCount b ≤ 16
-  pub two : 1 ≤ lastLabel b
-  pub few : rowCount b ≤ 1024
-  pub handler : badHandler b ≡ false
-  pub all : size b ≡ rows_from b + rowCount b
+  pub first : 1 ≤ scheme_count b
+  pub most : scheme_count b ≤ 16
+  pub two : 1 ≤ last_label b
+  pub few : row_count b ≤ 1024
+  pub handler : has_bad_handler b ≡ false
+  pub all : size b ≡ rows_from b + row_count b
 
-module _ (b : List ℕ) (ok : tableVerdict b ≡ fine) where
-  header-good : badHeader b ≡ false
-  unfolding tableVerdict
+module _ (b : List ℕ) (ok : table_verdict b ≡ fine) where
+  header-good : is_bad_header b ≡ false
+  unfolding table_verdict
   header-good =
-      when-fine 11 (badHeader b) (next-first (when 11 (badHeader b))
-      (λ _. next (atLowest 12 (stray b) (size b)) λ _. atLowest 13 (badContent b) (size b)) ok)
+      when-fine 11 (is_bad_header b) (next-first (when 11 (is_bad_header b))
+      (λ _. next (at_lowest 12 (is_stray b) (size b)) λ _. at_lowest 13 (has_bad_content b) (size b)) ok)
 
-  frames-good : (next (atLowest 12 (stray b) (size b)) λ _. atLowest 13 (badContent b) (size b)) ≡ fine
-  unfolding tableVerdict
-  frames-good = next-rest (when 11 (badHeader b)) (λ _. next (atLowest 12 (stray b) (size b)) λ _. atLowest 13 (badContent b) (size b)) ok
+  frames-good : (next (at_lowest 12 (is_stray b) (size b)) λ _. at_lowest 13 (has_bad_content b) (size b)) ≡ fine
+  unfolding table_verdict
+  frames-good = next-rest (when 11 (is_bad_header b)) (λ _. next (at_lowest 12 (is_stray b) (size b)) λ _. at_lowest 13 (has_bad_content b)
+      (size b)) ok
 
-  pub none-stray : (f : ℕ) → f < size b → stray b f ≡ false
-  none-stray = at-lowest-fine 12 (stray b) (size b)
-      (next-first (atLowest 12 (stray b) (size b)) (λ _. atLowest 13 (badContent b) (size b)) frames-good)
+  pub none-stray : (f : ℕ) → f < size b → is_stray b f ≡ false
+  none-stray = at-lowest-fine 12 (is_stray b) (size b)
+      (next-first (at_lowest 12 (is_stray b) (size b)) (λ _. at_lowest 13 (has_bad_content b) (size b)) frames-good)
 
-  pub none-bad : (f : ℕ) → f < size b → badContent b f ≡ false
-  none-bad = at-lowest-fine 13 (badContent b) (size b)
-      (next-rest (atLowest 12 (stray b) (size b)) (λ _. atLowest 13 (badContent b) (size b)) frames-good)
+  pub none-bad : (f : ℕ) → f < size b → has_bad_content b f ≡ false
+  none-bad = at-lowest-fine 13 (has_bad_content b) (size b)
+      (next-rest (at_lowest 12 (is_stray b) (size b)) (λ _. at_lowest 13 (has_bad_content b) (size b)) frames-good)
 
   pub counted : CountedTable b
-  unfolding badHeader
+  unfolding is_bad_header
   counted =
       let k : Bool = not (eqb (field b 0 0) 15) in
-      let n : Bool = not (eqb (size b) (rows_from b + rowCount b)) in
-      let h : Bool = eqb (schemeCount b) 0 in
-      let i : Bool = ltb 16 (schemeCount b) in
-      let m : Bool = eqb (lastLabel b) 0 in
-      let r : Bool = ltb 1024 (rowCount b) in
-      let z : Bool = filled b 0 6 4 in
-      let a : (k || z || badHandler b || badCounts b) ≡ false = or_l (k || z || badHandler b || badCounts b) n header-good in
-      let e : badCounts b ≡ false = or_r (k || z || badHandler b) (badCounts b) a in
+      let n : Bool = not (eqb (size b) (rows_from b + row_count b)) in
+      let h : Bool = eqb (scheme_count b) 0 in
+      let i : Bool = ltb 16 (scheme_count b) in
+      let m : Bool = eqb (last_label b) 0 in
+      let r : Bool = ltb 1024 (row_count b) in
+      let z : Bool = is_filled b 0 6 4 in
+      let a : (k || z || has_bad_handler b || has_bad_counts b) ≡ false =
+      or_l (k || z || has_bad_handler b || has_bad_counts b) n header-good in
+      let e : has_bad_counts b ≡ false = or_r (k || z || has_bad_handler b) (has_bad_counts b) a in
       let e₁ : (h || i || m) ≡ false = or_l (h || i || m) r e in
       let e₂ : (h || i) ≡ false = or_l (h || i) m e₁ in
       record {
-        first = omega (arith, eqb-false (schemeCount b) 0 (or_l h i e₂));
-        most = ltb-false 16 (schemeCount b) (or_r h i e₂);
-        two = omega (arith, eqb-false (lastLabel b) 0 (or_r (h || i) m e₁));
-        few = ltb-false 1024 (rowCount b) (or_r (h || i || m) r e);
-        handler = or_r (k || z) (badHandler b) (or_l (k || z || badHandler b) (badCounts b) a);
-        all = eqb-true (size b) (rows_from b + rowCount b)
-            (not-false (eqb (size b) (rows_from b + rowCount b)) (or_r (k || z || badHandler b || badCounts b) n header-good));
+        first = omega (arith, eqb-false (scheme_count b) 0 (or_l h i e₂));
+        most = ltb-false 16 (scheme_count b) (or_r h i e₂);
+        two = omega (arith, eqb-false (last_label b) 0 (or_r (h || i) m e₁));
+        few = ltb-false 1024 (row_count b) (or_r (h || i || m) r e);
+        handler = or_r (k || z) (has_bad_handler b) (or_l (k || z || has_bad_handler b) (has_bad_counts b) a);
+        all = eqb-true (size b) (rows_from b + row_count b)
+            (not-false (eqb (size b) (rows_from b + row_count b)) (or_r (k || z || has_bad_handler b || has_bad_counts b) n header-good));
       }
 
-  entry-good : (h : ℕ) → 1 ≤ h → h ≤ schemeCount b → Reaches (decoded b) h (entryIn b h)
-  unfolding badContent
+  entry-good : (h : ℕ) → 1 ≤ h → h ≤ scheme_count b → Reaches (decoded_image b) h (entry_in b h)
+  unfolding has_bad_content
   entry-good h l m =
-      let e : badEntry b h ≡ false = sym (ap (badFrame b h) (position-of-entry b h l m)) ∙ none-bad h (omega (arith, counted.all)) in
-      within-reaches b h (entryIn b h) (not-false (within b h (entryIn b h)) (or_r (filled b h 3 7) (not (within b h (entryIn b h))) e))
+      let e : is_bad_entry b h ≡ false =
+      sym (ap (is_bad_frame b h) (position-of-entry b h l m)) ∙ none-bad h (omega (arith, counted.all)) in
+      within-reaches b h (entry_in b h) (not-false (is_within b h (entry_in b h))
+      (or_r (is_filled b h 3 7) (not (is_within b h (entry_in b h))) e))
 
-  label-good : (l : ℕ) → l ≤ lastLabel b → badLabel b l (labelIn b l) ≡ false
-  unfolding badContent
-  label-good l h = sym (ap (badFrame b (labels_from b + l)) (position-of-label b l h))
+  label-good : (l : ℕ) → l ≤ last_label b → is_bad_label b l (label_in b l) ≡ false
+  unfolding has_bad_content
+  label-good l h = sym (ap (is_bad_frame b (labels_from b + l)) (position-of-label b l h))
       ∙ none-bad (labels_from b + l) (omega (arith, counted.all))
 
-  row-good : (k : ℕ) → k < rowCount b → badRow b (rows_from b + k) (row_in b k) ≡ false
-  unfolding badContent
-  row-good k h = sym (ap (badFrame b (rows_from b + k)) (position-of-row b k)) ∙ none-bad (rows_from b + k) (omega (arith, counted.all))
+  row-good : (k : ℕ) → k < row_count b → is_bad_row b (rows_from b + k) (row_in b k) ≡ false
+  unfolding has_bad_content
+  row-good k h = sym (ap (is_bad_frame b (rows_from b + k)) (position-of-row b k)) ∙ none-bad (rows_from b + k) (omega (arith, counted.all))
 
-  row-rises : (k : ℕ) → suc k < rowCount b → (row_in b k).from ≤ (row_in b (suc k)).from
-  unfolding stray
+  row-rises : (k : ℕ) → suc k < row_count b → (row_in b k).from ≤ (row_in b (suc k)).from
+  unfolding is_stray
   row-rises k h =
       let f : ℕ = rows_from b + suc k in
-      let e : (not (eqb (field b f 0) 18) || falls b (suc k)) ≡ false =
-      sym (ap (strayFrame b f) (position-of-row b (suc k))) ∙ none-stray f (omega (arith, counted.all)) in
-      ltb-false (row_in b (suc k)).from (row_in b k).from (or_r (not (eqb (field b f 0) 18)) (falls b (suc k)) e)
+      let e : (not (eqb (field b f 0) 18) || is_falling b (suc k)) ≡ false =
+      sym (ap (is_stray_frame b f) (position-of-row b (suc k))) ∙ none-stray f (omega (arith, counted.all)) in
+      ltb-false (row_in b (suc k)).from (row_in b k).from (or_r (not (eqb (field b f 0) 18)) (is_falling b (suc k)) e)
 
   -- with bytes below 256 the image is sound
   module _ (bytes : (k : ℕ) → get_or b k 0 < 256) where
     pair_small : (f k : ℕ) → pair_at b f k < 65536
     pair_small f k = omega (arith, bytes (10 * f + k), bytes (10 * f + (k + 1)))
 
-    mask-small : (l : ℕ) → (labelIn b l).mask < 4294967296
+    mask-small : (l : ℕ) → (label_in b l).mask < 4294967296
     mask-small l = omega (arith, pair_small (labels_from b + l) 6, pair_small (labels_from b + l) 8)
 
-    other-good : (l : ℕ) → 2 ≤ l → l ≤ lastLabel b → SoundLabel (schemeCount b) (labelIn b l)
+    other-good : (l : ℕ) → 2 ≤ l → l ≤ last_label b → SoundLabel (scheme_count b) (label_in b l)
     other-good zero h m = absurd (omega arith)
     other-good (suc zero) h m = absurd (omega arith)
-    other-good (suc (suc l)) h m = label-told b l (labelIn b (suc (suc l))) (mask-small (suc (suc l))) (label-good (suc (suc l)) m)
+    other-good (suc (suc l)) h m = label-told b l (label_in b (suc (suc l))) (mask-small (suc (suc l))) (label-good (suc (suc l)) m)
 
-    handled : length (decoded b).entries ≡ schemeCount b
-        → ((decoded b).handler ≡ 0 → ⊥) → (2 ≤ (decoded b).handler) × ((decoded b).handler ≤ length (decoded b).entries)
-    unfolding decoded
+    handled : length (decoded_image b).entries ≡ scheme_count b
+        → ((decoded_image b).handler ≡ 0 → ⊥) → (2 ≤ (decoded_image b).handler)
+        × ((decoded_image b).handler ≤ length (decoded_image b).entries)
+    unfolding decoded_image
     handled e n = let r = handler-told b counted.handler n in (r.0, omega arith)
 
-    pub accepted-sound : SoundImage (decoded b)
+    pub accepted-sound : SoundImage (decoded_image b)
     accepted-sound =
-        let n : length (decoded b).entries ≡ schemeCount b = entries-count b in
-        let m : length (decoded b).labels ≡ lastLabel b + 1 = labels-count b in
-        let r : length (decoded b).rows ≡ rowCount b = rows-count b in
+        let n : length (decoded_image b).entries ≡ scheme_count b = entries-count b in
+        let m : length (decoded_image b).labels ≡ last_label b + 1 = labels-count b in
+        let r : length (decoded_image b).rows ≡ row_count b = rows-count b in
         record {
           first = omega (arith, counted.first);
           most = omega (arith, counted.most);
@@ -296,32 +302,32 @@ module _ (b : List ℕ) (ok : tableVerdict b ≡ fine) where
           last = omega (arith, bytes 2);
           few = omega (arith, counted.few);
           handled = handled n;
-          starts = λ h l. subst (λ (e : ℕ). Reaches (decoded b) (suc h) e) (sym (entry_read b h (omega arith)))
+          starts = λ h l. subst (λ (e : ℕ). Reaches (decoded_image b) (suc h) e) (sym (entry_read b h (omega arith)))
               (entry-good (suc h) (omega arith) (omega arith));
           home = label-read b 0 (omega arith)
-              ∙ fields-same (labelIn b 0) homeLabel (not-false (isLabel 4 1 (labelIn b 0)) (label-good 0 (omega arith)));
+              ∙ fields-same (label_in b 0) home_label (not-false (is_label 4 1 (label_in b 0)) (label-good 0 (omega arith)));
           back = label-read b 1 counted.two
-              ∙ fields-same (labelIn b 1) returnLabel (not-false (isLabel 3 0 (labelIn b 1)) (label-good 1 counted.two));
-          others = λ l h k. subst (λ (x : Label). SoundLabel (length (decoded b).entries) x) (sym (label-read b l (omega arith)))
-              (subst (λ (c : ℕ). SoundLabel c (labelIn b l)) (sym n) (other-good l h (omega arith)));
-          each = λ k h. subst (λ (x : Row). SoundRow (decoded b) x) (sym (row_read b k (omega arith)))
+              ∙ fields-same (label_in b 1) return_label (not-false (is_label 3 0 (label_in b 1)) (label-good 1 counted.two));
+          others = λ l h k. subst (λ (x : Label). SoundLabel (length (decoded_image b).entries) x) (sym (label-read b l (omega arith)))
+              (subst (λ (c : ℕ). SoundLabel c (label_in b l)) (sym n) (other-good l h (omega arith)));
+          each = λ k h. subst (λ (x : Row). SoundRow (decoded_image b) x) (sym (row_read b k (omega arith)))
               (row_told b (rows_from b + k) (row_in b k) (pair_small (rows_from b + k) 2)
               (pair_small (rows_from b + k) 4) (row-good k (omega arith)));
           rising = λ k h.
-              let p : (nthRow (decoded b) k).from ≡ (row_in b k).from = ap (λ (x : Row). x.from) (row_read b k (omega arith)) in
-              let q : (nthRow (decoded b) (suc k)).from ≡ (row_in b (suc k)).from =
+              let p : (nth_row (decoded_image b) k).from ≡ (row_in b k).from = ap (λ (x : Row). x.from) (row_read b k (omega arith)) in
+              let q : (nth_row (decoded_image b) (suc k)).from ≡ (row_in b (suc k)).from =
               ap (λ (x : Row). x.from) (row_read b (suc k) (omega arith)) in
               omega (arith, row-rises k (omega arith));
         }
 
 -- ---- by the text
-pub image-bytes : (t : List ℕ) → imageVerdict t ≡ fine → (k : ℕ) → get_or (contents t) k 0 < 256
-unfolding imageVerdict
-image-bytes t e = contents-bytes t (text-told 29831 t (next-first (textVerdict 29831 t) (λ _. tableVerdict (contents t)) e)).forms
+pub image-bytes : (t : List ℕ) → image_verdict t ≡ fine → (k : ℕ) → get_or (contents t) k 0 < 256
+unfolding image_verdict
+image-bytes t e = contents-bytes t (text-told 29831 t (next-first (text_verdict 29831 t) (λ _. table_verdict (contents t)) e)).forms
 
-pub image-table : (t : List ℕ) → imageVerdict t ≡ fine → tableVerdict (contents t) ≡ fine
-unfolding imageVerdict
-image-table t e = next-rest (textVerdict 29831 t) (λ _. tableVerdict (contents t)) e
+pub image-table : (t : List ℕ) → image_verdict t ≡ fine → table_verdict (contents t) ≡ fine
+unfolding image_verdict
+image-table t e = next-rest (text_verdict 29831 t) (λ _. table_verdict (contents t)) e
 
-pub image-sound : (t : List ℕ) → imageVerdict t ≡ fine → SoundImage (decoded (contents t))
+pub image-sound : (t : List ℕ) → image_verdict t ≡ fine → SoundImage (decoded_image (contents t))
 image-sound t e = accepted-sound (contents t) (image-table t e) (image-bytes t e)

@@ -4,8 +4,8 @@ use mathlib.Core.Path.{◌≡◌, ap₂}
 use mathlib.Core.List.{List}
 use Rattle.text.specs.frames.Verdict.{Verdict, next}
 use Rattle.text.proofs.frames.Capitals.{ReadAlike}
-use Rattle.image.specs.Check.{tableVerdict, imageVerdict}
+use Rattle.image.specs.Check.{table_verdict, image_verdict}
 
-pub image-verdict : (t u : List ℕ) → ReadAlike t u → imageVerdict t ≡ imageVerdict u
-unfolding imageVerdict
-image-verdict t u A = ap₂ (λ (v : Verdict) (c : List ℕ). next v λ _. tableVerdict c) (A.verdict 29831) A.contents
+pub image-verdict : (t u : List ℕ) → ReadAlike t u → image_verdict t ≡ image_verdict u
+unfolding image_verdict
+image-verdict t u A = ap₂ (λ (v : Verdict) (c : List ℕ). next v λ _. table_verdict c) (A.verdict 29831) A.contents

@@ -6,8 +6,8 @@ use Prim.Native.Nat.{ℕ, ◌≤◌, ◌<◌}
 use native.Mathlib.Omega.{arith}
 use lib.Dec.{ltb, eqb}
 use borrow.Author.Tests.{eq-eqb, ne_eqb, lt-ltb, le-ltb}
-use Rattle.image.specs.Decode.{schemeCount, lastLabel, rowCount, handlerIn}
-use Rattle.image.specs.Check.{badCounts, badHandler}
+use Rattle.image.specs.Decode.{scheme_count, last_label, row_count, handler_in}
+use Rattle.image.specs.Check.{has_bad_counts, has_bad_handler}
 
 pub unequal : (a b : ℕ) → (a ≡ b → ⊥) → not (eqb a b) ≡ true
 unequal a b h = ap not (ne_eqb a b h)
@@ -16,23 +16,23 @@ pub equal : (a b : ℕ) → a ≡ b → not (eqb a b) ≡ false
 equal a b h = ap not (eq-eqb a b h)
 
 module _ (b : List ℕ) where
-  pub counts-none : schemeCount b ≡ 0 → true ≡ badCounts b
-  counts-none h = simp (eq-eqb (schemeCount b) 0 h)
+  pub counts-none : scheme_count b ≡ 0 → true ≡ has_bad_counts b
+  counts-none h = simp (eq-eqb (scheme_count b) 0 h)
 
-  pub counts-many : 16 < schemeCount b → true ≡ badCounts b
-  counts-many h = simp (ne_eqb (schemeCount b) 0 (λ e. omega arith), lt-ltb 16 (schemeCount b) h)
+  pub counts-many : 16 < scheme_count b → true ≡ has_bad_counts b
+  counts-many h = simp (ne_eqb (scheme_count b) 0 (λ e. omega arith), lt-ltb 16 (scheme_count b) h)
 
-  pub counts-label : (schemeCount b ≡ 0 → ⊥) → schemeCount b ≤ 16 → lastLabel b ≡ 0 → true ≡ badCounts b
-  counts-label n h l = simp (ne_eqb (schemeCount b) 0 n, le-ltb 16 (schemeCount b) h, eq-eqb (lastLabel b) 0 l)
+  pub counts-label : (scheme_count b ≡ 0 → ⊥) → scheme_count b ≤ 16 → last_label b ≡ 0 → true ≡ has_bad_counts b
+  counts-label n h l = simp (ne_eqb (scheme_count b) 0 n, le-ltb 16 (scheme_count b) h, eq-eqb (last_label b) 0 l)
 
-  pub counts-rows : (schemeCount b ≡ 0 → ⊥) → schemeCount b ≤ 16 → (lastLabel b ≡ 0 → ⊥) → ltb 1024 (rowCount b) ≡ badCounts b
-  counts-rows n h l = simp (ne_eqb (schemeCount b) 0 n, le-ltb 16 (schemeCount b) h, ne_eqb (lastLabel b) 0 l)
+  pub counts-rows : (scheme_count b ≡ 0 → ⊥) → scheme_count b ≤ 16 → (last_label b ≡ 0 → ⊥) → ltb 1024 (row_count b) ≡ has_bad_counts b
+  counts-rows n h l = simp (ne_eqb (scheme_count b) 0 n, le-ltb 16 (scheme_count b) h, ne_eqb (last_label b) 0 l)
 
-  pub handler-none : handlerIn b ≡ 0 → false ≡ badHandler b
-  handler-none h = simp (eq-eqb (handlerIn b) 0 h)
+  pub handler-none : handler_in b ≡ 0 → false ≡ has_bad_handler b
+  handler-none h = simp (eq-eqb (handler_in b) 0 h)
 
-  pub handler-first : (handlerIn b ≡ 0 → ⊥) → handlerIn b < 2 → true ≡ badHandler b
-  handler-first n h = simp (ne_eqb (handlerIn b) 0 n, lt-ltb (handlerIn b) 2 h)
+  pub handler-first : (handler_in b ≡ 0 → ⊥) → handler_in b < 2 → true ≡ has_bad_handler b
+  handler-first n h = simp (ne_eqb (handler_in b) 0 n, lt-ltb (handler_in b) 2 h)
 
-  pub handler-other : (handlerIn b ≡ 0 → ⊥) → 2 ≤ handlerIn b → ltb (schemeCount b) (handlerIn b) ≡ badHandler b
-  handler-other n h = simp (ne_eqb (handlerIn b) 0 n, le-ltb (handlerIn b) 2 h)
+  pub handler-other : (handler_in b ≡ 0 → ⊥) → 2 ≤ handler_in b → ltb (scheme_count b) (handler_in b) ≡ has_bad_handler b
+  handler-other n h = simp (ne_eqb (handler_in b) 0 n, le-ltb (handler_in b) 2 h)

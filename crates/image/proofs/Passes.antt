@@ -14,14 +14,15 @@ use Rattle.words.specs.lists.Pick.{pick}
 use Rattle.words.proofs.lists.Tests.{split, or-none, or-true-l, or_true_r}
 use Rattle.words.proofs.lists.Searches.{any_none}
 use Rattle.text.specs.frames.Frame.{size, field, pair, contents}
-use Rattle.text.specs.frames.Verdict.{Verdict, fine, next, when, atLowest}
+use Rattle.text.specs.frames.Verdict.{Verdict, fine, next, when, at_lowest}
 use Rattle.text.proofs.frames.Verdicts.{at_none}
-use Rattle.image.specs.Image.{Image, Label, Row, imageText, nthRow}
-use Rattle.image.specs.Decode.{schemeCount, lastLabel, rowCount, handlerIn, rows_from, labelIn, row_in}
-use Rattle.image.specs.Check.{filled, badHandler, badCounts, badHeader, entryPosition, labelPosition}
-use Rattle.image.specs.Check.{rowPosition, position_of, falls, strayFrame, stray}
-use Rattle.image.specs.Check.{within, badEntry, badCalled, badLabel, badBit, badRow, badFrame, badContent, tableVerdict, imageVerdict}
-use Rattle.image.specs.inner.Sound.{nthLabel, end_of, Reaches, SoundLabel, SoundRow, SoundImage}
+use Rattle.image.specs.Image.{Image, Label, Row, image_text, nth_row}
+use Rattle.image.specs.Decode.{scheme_count, last_label, row_count, handler_in, rows_from, label_in, row_in}
+use Rattle.image.specs.Check.{is_filled, has_bad_handler, has_bad_counts, is_bad_header, entry_position, label_position}
+use Rattle.image.specs.Check.{row_position, position_of, is_falling, is_stray_frame, is_stray}
+use Rattle.image.specs.Check.{is_within, is_bad_entry, has_bad_called, is_bad_label, has_bad_bit, is_bad_row, is_bad_frame, has_bad_content}
+use Rattle.image.specs.Check.{table_verdict, image_verdict}
+use Rattle.image.specs.inner.Sound.{nth_label, end_of, Reaches, SoundLabel, SoundRow, SoundImage}
 use Rattle.image.proofs.Written.{Reads, image-reads, image-text-fine}
 use Rattle.image.proofs.Accepted.{position-of-entry, position-of-label, position-of-row}
 use Rattle.image.proofs.HeaderCases.{equal}
@@ -31,7 +32,7 @@ use Rattle.image.proofs.Decoded.{schemes-is, last-is, rows_is, handler-is, label
 zeros : (xs : List ℕ) (n k : ℕ) → k < n → get_or (xs ++ replicate n 0) (length xs + k) 0 ≡ 0
 zeros xs n k h = get_or-append-add xs (replicate n 0) k 0 ∙ get_or-replicate n k 0 0 h
 
-empty : (b : List ℕ) (f k n : ℕ) → ((j : ℕ) → j < n → field b f (k + j) ≡ 0) → filled b f k n ≡ false
+empty : (b : List ℕ) (f k n : ℕ) → ((j : ℕ) → j < n → field b f (k + j) ≡ 0) → is_filled b f k n ≡ false
 empty b f k n h = any_none (λ j. not (eqb (field b f j) 0)) k n (λ j l. equal (field b f (k + j)) 0 (h j l))
 
 -- a frame is the header, an entry, a label or a row
@@ -47,33 +48,33 @@ frame-cases P e l r p₀ p₁ p₂ p₃ (suc f) h =
     (split f e)
 
 module _ (i : Image) (b : List ℕ) (S : SoundImage i) (R : Reads i b) where
-  abbrev labelFrom : ℕ → ℕ
-  labelFrom l = suc (length i.entries + l)
+  abbrev label_from : ℕ → ℕ
+  label_from l = suc (length i.entries + l)
 
-  abbrev rowFrom : ℕ → ℕ
-  rowFrom k = suc (length i.entries + length i.labels + k)
+  abbrev row_from : ℕ → ℕ
+  row_from k = suc (length i.entries + length i.labels + k)
 
   -- 11
-  counts-fine : badCounts b ≡ false
+  counts-fine : has_bad_counts b ≡ false
   counts-fine =
       ap₂ ◌||◌ (ap₂ ◌||◌ (ap₂ ◌||◌
-      (ne_eqb (schemeCount b) 0 (λ z. omega (arith, schemes-is i b S R, S.first)))
-      (le-ltb 16 (schemeCount b) (omega (arith, schemes-is i b S R, S.most))))
-      (ne_eqb (lastLabel b) 0 (λ z. omega (arith, last-is i b S R, S.two))))
-      (le-ltb 1024 (rowCount b) (omega (arith, rows_is i b S R, S.few)))
+      (ne_eqb (scheme_count b) 0 (λ z. omega (arith, schemes-is i b S R, S.first)))
+      (le-ltb 16 (scheme_count b) (omega (arith, schemes-is i b S R, S.most))))
+      (ne_eqb (last_label b) 0 (λ z. omega (arith, last-is i b S R, S.two))))
+      (le-ltb 1024 (row_count b) (omega (arith, rows_is i b S R, S.few)))
 
-  handler-fine : badHandler b ≡ false
+  handler-fine : has_bad_handler b ≡ false
   handler-fine = go i.handler (handler-is i b S R) S.handled
     where
-      go : (h : ℕ) → handlerIn b ≡ h → ((h ≡ 0 → ⊥) → (2 ≤ h) × (h ≤ length i.entries)) → badHandler b ≡ false
+      go : (h : ℕ) → handler_in b ≡ h → ((h ≡ 0 → ⊥) → (2 ≤ h) × (h ≤ length i.entries)) → has_bad_handler b ≡ false
       go zero e f = rw e
       go (suc h) e f = let r : (2 ≤ suc h) × (suc h ≤ length i.entries) = f (λ z. omega arith) in
-          ap₂ ◌&&◌ (ap not (ne_eqb (handlerIn b) 0 (λ z. omega arith)))
-          (or-none (ltb (handlerIn b) 2) (ltb (schemeCount b) (handlerIn b))
-          (le-ltb (handlerIn b) 2 (omega arith)) (le-ltb (schemeCount b) (handlerIn b) (omega (arith, schemes-is i b S R))))
+          ap₂ ◌&&◌ (ap not (ne_eqb (handler_in b) 0 (λ z. omega arith)))
+          (or-none (ltb (handler_in b) 2) (ltb (scheme_count b) (handler_in b))
+          (le-ltb (handler_in b) 2 (omega arith)) (le-ltb (scheme_count b) (handler_in b) (omega (arith, schemes-is i b S R))))
 
-  header-fine : badHeader b ≡ false
-  unfolding badHeader
+  header-fine : is_bad_header b ≡ false
+  unfolding is_bad_header
   header-fine =
       ap₂ ◌||◌ (ap₂ ◌||◌ (ap₂ ◌||◌ (ap₂ ◌||◌
       (equal (field b 0 0) 15 (R.head 0 (omega arith)))
@@ -81,134 +82,135 @@ module _ (i : Image) (b : List ℕ) (S : SoundImage i) (R : Reads i b) where
       ∙ zeros (15 ∷ length i.entries ∷ (length i.labels - 1) ∷ pair (length i.rows) ++ (i.handler ∷ [])) 4 k h)))
       handler-fine)
       counts-fine)
-      (equal (size b) (rows_from b + rowCount b) (omega (arith, R.count, schemes-is i b S R, last-is i b S R, rows_is i b S R, S.two)))
+      (equal (size b) (rows_from b + row_count b) (omega (arith, R.count, schemes-is i b S R, last-is i b S R, rows_is i b S R, S.two)))
 
   -- the place of each frame
-  position-entry : (h : ℕ) → h < length i.entries → position_of b (suc h) ≡ entryPosition (suc h)
+  position-entry : (h : ℕ) → h < length i.entries → position_of b (suc h) ≡ entry_position (suc h)
   position-entry h l = position-of-entry b (suc h) (omega arith) (omega (arith, schemes-is i b S R))
 
-  position-label : (l : ℕ) → l < length i.labels → position_of b (labelFrom l) ≡ labelPosition l
+  position-label : (l : ℕ) → l < length i.labels → position_of b (label_from l) ≡ label_position l
   position-label l h = ap (position_of b) (omega (arith, schemes-is i b S R)) ∙ position-of-label b l (omega (arith, last-is i b S R))
 
-  position-row : (k : ℕ) → k < length i.rows → position_of b (rowFrom k) ≡ rowPosition k
+  position-row : (k : ℕ) → k < length i.rows → position_of b (row_from k) ≡ row_position k
   position-row k h = ap (position_of b) (omega (arith, schemes-is i b S R, last-is i b S R, S.two)) ∙ position-of-row b k
 
   -- 12
-  rows-rise : (k : ℕ) → k < length i.rows → falls b k ≡ false
+  rows-rise : (k : ℕ) → k < length i.rows → is_falling b k ≡ false
   rows-rise zero h = refl
   rows-rise (suc k) h =
-      let p : (row_in b (suc k)).from ≡ (nthRow i (suc k)).from = ap (λ (r : Row). r.from) (row_is i b S R (suc k) h) in
-      let q : (row_in b k).from ≡ (nthRow i k).from = ap (λ (r : Row). r.from) (row_is i b S R k (omega arith)) in
+      let p : (row_in b (suc k)).from ≡ (nth_row i (suc k)).from = ap (λ (r : Row). r.from) (row_is i b S R (suc k) h) in
+      let q : (row_in b k).from ≡ (nth_row i k).from = ap (λ (r : Row). r.from) (row_is i b S R k (omega arith)) in
       le-ltb (row_in b (suc k)).from (row_in b k).from (omega (arith, p, q, S.rising k h))
 
   numbered : (a x n y : ℕ) → a ≡ x → n ≡ y → not (eqb a x && eqb n y) ≡ false
   numbered a x n y e f = ap not (ap₂ ◌&&◌ (eq-eqb a x e) (eq-eqb n y f))
 
-  stray-none : (f : ℕ) → f < size b → stray b f ≡ false
-  unfolding stray
+  stray-none : (f : ℕ) → f < size b → is_stray b f ≡ false
+  unfolding is_stray
   stray-none f h =
-      frame-cases (λ f. stray b f ≡ false) (length i.entries) (length i.labels) (length i.rows)
+      frame-cases (λ f. is_stray b f ≡ false) (length i.entries) (length i.labels) (length i.rows)
       (unfold position_of in refl)
-      (λ h l. ap (strayFrame b (suc h)) (position-entry h l)
+      (λ h l. ap (is_stray_frame b (suc h)) (position-entry h l)
       ∙ numbered (field b (suc h) 0) 16 (field b (suc h) 1) (suc h) (R.entry h 0 l (omega arith)) (R.entry h 1 l (omega arith)))
-      (λ l h. ap (strayFrame b (labelFrom l)) (position-label l h)
-      ∙ numbered (field b (labelFrom l) 0) 17 (field b (labelFrom l) 1) l (R.label l 0 h (omega arith)) (R.label l 1 h (omega arith)))
-      (λ k h. ap (strayFrame b (rowFrom k)) (position-row k h)
-      ∙ ap₂ ◌||◌ (equal (field b (rowFrom k) 0) 18 (R.row k 0 h (omega arith))) (rows-rise k h))
+      (λ l h. ap (is_stray_frame b (label_from l)) (position-label l h)
+      ∙ numbered (field b (label_from l) 0) 17 (field b (label_from l) 1) l (R.label l 0 h (omega arith)) (R.label l 1 h (omega arith)))
+      (λ k h. ap (is_stray_frame b (row_from k)) (position-row k h)
+      ∙ ap₂ ◌||◌ (equal (field b (row_from k) 0) 18 (R.row k 0 h (omega arith))) (rows-rise k h))
       f (omega (arith, R.count))
 
   -- 13
-  within-true : (h l : ℕ) → Reaches i h l → within b h l ≡ true
-  within-true h l r = ap₂ ◌&&◌ (le-leb l (lastLabel b) (omega (arith, r.inside, last-is i b S R))) (go r.belongs)
+  within-true : (h l : ℕ) → Reaches i h l → is_within b h l ≡ true
+  within-true h l r = ap₂ ◌&&◌ (le-leb l (last_label b) (omega (arith, r.inside, last-is i b S R))) (go r.belongs)
     where
-      go : ((nthLabel i l).owner ≡ h) ⊎ (l ≡ end_of h) → (eqb (labelIn b l).owner h || eqb l (end_of h)) ≡ true
+      go : ((nth_label i l).owner ≡ h) ⊎ (l ≡ end_of h) → (eqb (label_in b l).owner h || eqb l (end_of h)) ≡ true
       go (inl e) =
-          or-true-l (eqb (labelIn b l).owner h) (eqb l (end_of h))
-          (eq-eqb (labelIn b l).owner h (ap (λ (x : Label). x.owner) (label_is i b S R l r.inside) ∙ e))
-      go (inr e) = or_true_r (eqb (labelIn b l).owner h) (eqb l (end_of h)) (eq-eqb l (end_of h) e)
+          or-true-l (eqb (label_in b l).owner h) (eqb l (end_of h))
+          (eq-eqb (label_in b l).owner h (ap (λ (x : Label). x.owner) (label_is i b S R l r.inside) ∙ e))
+      go (inr e) = or_true_r (eqb (label_in b l).owner h) (eqb l (end_of h)) (eq-eqb l (end_of h) e)
 
-  entry-fine : (h : ℕ) → h < length i.entries → badEntry b (suc h) ≡ false
+  entry-fine : (h : ℕ) → h < length i.entries → is_bad_entry b (suc h) ≡ false
   entry-fine h l =
       ap₂ ◌||◌
       (empty b (suc h) 3 7 (λ k m. R.entry h (3 + k) l (omega arith) ∙ zeros (16 ∷ suc h ∷ get_or i.entries h 0 ∷ []) 7 k m))
-      (ap not (ap (within b (suc h)) (R.entry h 2 l (omega arith)) ∙ within-true (suc h) (get_or i.entries h 0) (S.starts h l)))
+      (ap not (ap (is_within b (suc h)) (R.entry h 2 l (omega arith)) ∙ within-true (suc h) (get_or i.entries h 0) (S.starts h l)))
 
-  called-fine : (x : Label) → SoundLabel (length i.entries) x → badCalled b x ≡ false
+  called-fine : (x : Label) → SoundLabel (length i.entries) x → has_bad_called b x ≡ false
   called-fine x L = go x.kind refl
     where
-      go : (k : ℕ) → x.kind ≡ k → pick (eqb k 0) (not (eqb x.called 0)) (ltb x.called 2 || ltb (schemeCount b) x.called) ≡ false
+      go : (k : ℕ) → x.kind ≡ k → pick (eqb k 0) (not (eqb x.called 0)) (ltb x.called 2 || ltb (scheme_count b) x.called) ≡ false
       go zero e = equal x.called 0 (L.plain e)
       go (suc k) e =
           let c : (2 ≤ x.called) × (x.called ≤ length i.entries) = L.calls (λ z. omega arith) in
           rw (ne_eqb (suc k) 0 (λ z. omega arith))
-          (or-none (ltb x.called 2) (ltb (schemeCount b) x.called) (le-ltb x.called 2 c.0)
-          (le-ltb (schemeCount b) x.called (omega (arith, schemes-is i b S R))))
+          (or-none (ltb x.called 2) (ltb (scheme_count b) x.called) (le-ltb x.called 2 c.0)
+          (le-ltb (scheme_count b) x.called (omega (arith, schemes-is i b S R))))
 
-  label-fine : (l : ℕ) → l < length i.labels → badLabel b l (nthLabel i l) ≡ false
-  label-fine zero h = ap (badLabel b 0) S.home
-  label-fine (suc zero) h = ap (badLabel b 1) S.back
+  label-fine : (l : ℕ) → l < length i.labels → is_bad_label b l (nth_label i l) ≡ false
+  label-fine zero h = ap (is_bad_label b 0) S.home
+  label-fine (suc zero) h = ap (is_bad_label b 1) S.back
   label-fine (suc (suc l)) h =
-      let x : Label = nthLabel i (suc (suc l)) in
+      let x : Label = nth_label i (suc (suc l)) in
       let L : SoundLabel (length i.entries) x = S.others (suc (suc l)) (omega arith) h in
       ap₂ ◌||◌ (ap₂ ◌||◌ (ap₂ ◌||◌ (ap₂ ◌||◌
       (le-ltb 2 x.kind L.kinds)
       (ne_eqb x.owner 0 (λ z. omega (arith, L.some))))
-      (le-ltb (schemeCount b) x.owner (omega (arith, schemes-is i b S R, L.most))))
+      (le-ltb (scheme_count b) x.owner (omega (arith, schemes-is i b S R, L.most))))
       (le-ltb 2 x.result L.results))
       (called-fine x L)
 
   -- a row is judged by the label that it leaves
   module _ (r : Row) (s : SoundRow i r) where
-    from_is : labelIn b r.from ≡ nthLabel i r.from
+    from_is : label_in b r.from ≡ nth_label i r.from
     from_is = label_is i b S R r.from s.high
 
-    bit-fine : badBit b r ≡ false
+    bit-fine : has_bad_bit b r ≡ false
     bit-fine =
-        let k : ℕ = (labelIn b r.from).kind in
+        let k : ℕ = (label_in b r.from).kind in
         ap₂ ◌||◌ (le-ltb 2 r.bit s.bits)
         (⊎_elim (λ (h : r.bit < 2). ap₂ ◌&&◌ (lt-ltb r.bit 2 h) (equal k 2 (ap (λ (x : Label). x.kind) from_is ∙ s.function h)))
         (λ (h : 2 ≤ r.bit). ap (λ (t : Bool). t && not (eqb k 2)) (le-ltb r.bit 2 h))
         (split r.bit 2))
 
-    row_fine : (f : ℕ) → filled b f 8 2 ≡ false → badRow b f r ≡ false
+    row_fine : (f : ℕ) → is_filled b f 8 2 ≡ false → is_bad_row b f r ≡ false
     row_fine f z =
         ap₂ ◌||◌ (ap₂ ◌||◌ (ap₂ ◌||◌ (ap₂ ◌||◌ (ap₂ ◌||◌
         (le-ltb r.from 2 s.low)
-        (le-ltb (lastLabel b) r.from (omega (arith, s.high, last-is i b S R))))
+        (le-ltb (last_label b) r.from (omega (arith, s.high, last-is i b S R))))
         (equal (bit_and r.values r.care) r.values s.within))
         bit-fine)
-        (ap not (ap (λ (x : Label). within b x.owner r.next) from_is
-        ∙ within-true (nthLabel i r.from).owner r.next s.leading)))
+        (ap not (ap (λ (x : Label). is_within b x.owner r.next) from_is
+        ∙ within-true (nth_label i r.from).owner r.next s.leading)))
         z
 
-  tail-empty : (k : ℕ) → k < length i.rows → filled b (rowFrom k) 8 2 ≡ false
-  tail-empty k h = empty b (rowFrom k) 8 2 at
+  tail-empty : (k : ℕ) → k < length i.rows → is_filled b (row_from k) 8 2 ≡ false
+  tail-empty k h = empty b (row_from k) 8 2 at
     where
-      at : (j : ℕ) → j < 2 → field b (rowFrom k) (8 + j) ≡ 0
+      at : (j : ℕ) → j < 2 → field b (row_from k) (8 + j) ≡ 0
       at zero l = R.row k 8 h (omega arith)
       at (suc zero) l = R.row k 9 h (omega arith)
       at (suc (suc j)) l = absurd (omega arith)
 
-  content-good : (f : ℕ) → f < size b → badContent b f ≡ false
-  unfolding badContent
+  content-good : (f : ℕ) → f < size b → has_bad_content b f ≡ false
+  unfolding has_bad_content
   content-good f h =
-      frame-cases (λ f. badContent b f ≡ false) (length i.entries) (length i.labels) (length i.rows)
+      frame-cases (λ f. has_bad_content b f ≡ false) (length i.entries) (length i.labels) (length i.rows)
       (unfold position_of in refl)
-      (λ h l. ap (badFrame b (suc h)) (position-entry h l) ∙ entry-fine h l)
-      (λ l h. ap (badFrame b (labelFrom l)) (position-label l h) ∙ ap (badLabel b l) (label_is i b S R l h) ∙ label-fine l h)
-      (λ k h. ap (badFrame b (rowFrom k)) (position-row k h) ∙ ap (badRow b (rowFrom k)) (row_is i b S R k h)
-      ∙ row_fine (nthRow i k) (S.each k h) (rowFrom k) (tail-empty k h))
+      (λ h l. ap (is_bad_frame b (suc h)) (position-entry h l) ∙ entry-fine h l)
+      (λ l h. ap (is_bad_frame b (label_from l)) (position-label l h) ∙ ap (is_bad_label b l) (label_is i b S R l h) ∙ label-fine l h)
+      (λ k h. ap (is_bad_frame b (row_from k)) (position-row k h) ∙ ap (is_bad_row b (row_from k)) (row_is i b S R k h)
+      ∙ row_fine (nth_row i k) (S.each k h) (row_from k) (tail-empty k h))
       f (omega (arith, R.count))
 
-  pub table-fine : tableVerdict b ≡ fine
-  unfolding tableVerdict
+  pub table-fine : table_verdict b ≡ fine
+  unfolding table_verdict
   table-fine =
-      ap (λ (t : Bool). next (when 11 t) λ _. next (atLowest 12 (stray b) (size b)) λ _. atLowest 13 (badContent b) (size b)) header-fine
-      ∙ ap (λ (v : Verdict). next v λ _. atLowest 13 (badContent b) (size b)) (at_none 12 (stray b) (size b) stray-none)
-      ∙ at_none 13 (badContent b) (size b) content-good
+      ap (λ (t : Bool). next (when 11 t) λ _. next (at_lowest 12 (is_stray b) (size b)) λ _. at_lowest 13 (has_bad_content b)
+      (size b)) header-fine
+      ∙ ap (λ (v : Verdict). next v λ _. at_lowest 13 (has_bad_content b) (size b)) (at_none 12 (is_stray b) (size b) stray-none)
+      ∙ at_none 13 (has_bad_content b) (size b) content-good
 
-pub image-fine : (i : Image) → SoundImage i → imageVerdict (imageText i) ≡ fine
-unfolding imageVerdict
+pub image-fine : (i : Image) → SoundImage i → image_verdict (image_text i) ≡ fine
+unfolding image_verdict
 image-fine i S =
-    let b : List ℕ = contents (imageText i) in
-    ap (λ (v : Verdict). next v λ _. tableVerdict b) (image-text-fine i S) ∙ table-fine i b S (image-reads i S)
+    let b : List ℕ = contents (image_text i) in
+    ap (λ (v : Verdict). next v λ _. table_verdict b) (image-text-fine i S) ∙ table-fine i b S (image-reads i S)

@@ -6,8 +6,8 @@ use native.Mathlib.Nat.{add-zero}
 use native.Mathlib.Omega.{arith}
 use lib.ListN.{length, get_or}
 use Rattle.text.specs.frames.Frame.{size, field}
-use Rattle.image.specs.Image.{Row, no_row, nthRow}
-use Rattle.image.specs.Decode.{rowCount, rows_from, rowInFrame, decoded}
+use Rattle.image.specs.Image.{Row, no_row, nth_row}
+use Rattle.image.specs.Decode.{row_count, rows_from, row_in_frame, decoded_image}
 use Rattle.image.specs.inner.Sound.{SoundImage}
 use Rattle.image.proofs.Accepted.{rows-count, row_read}
 
@@ -26,20 +26,20 @@ rising-at m (r ∷ rs) a zero h = second rs a.1 (omega arith)
 rising-at m (r ∷ rs) a (suc k) h = rising-at r.from rs a.1 k (omega arith)
 
 -- ---- rows by their frames
-module _ (b : List ℕ) (all : size b ≡ rows_from b + rowCount b) where
-  pub row_at : (f : ℕ) → rows_from b ≤ f → f < size b → nthRow (decoded b) (f - rows_from b) ≡ rowInFrame b f
+module _ (b : List ℕ) (all : size b ≡ rows_from b + row_count b) where
+  pub row_at : (f : ℕ) → rows_from b ≤ f → f < size b → nth_row (decoded_image b) (f - rows_from b) ≡ row_in_frame b f
   row_at f h g =
-      row_read b (f - rows_from b) (omega arith) ∙ ap (rowInFrame b) (let e : rows_from b + (f - rows_from b) ≡ f = omega arith in e)
+      row_read b (f - rows_from b) (omega arith) ∙ ap (row_in_frame b) (let e : rows_from b + (f - rows_from b) ≡ f = omega arith in e)
 
-  pub from-read : (f : ℕ) → rows_from b ≤ f → f < size b → (nthRow (decoded b) (f - rows_from b)).from ≡ field b f 1
+  pub from-read : (f : ℕ) → rows_from b ≤ f → f < size b → (nth_row (decoded_image b) (f - rows_from b)).from ≡ field b f 1
   from-read f h g = ap (λ (r : Row). r.from) (row_at f h g)
 
   -- 12: labels never fall
-  module _ (sound : SoundImage (decoded b)) where
+  module _ (sound : SoundImage (decoded_image b)) where
     rises : (f : ℕ) → rows_from b ≤ f → suc f < size b → field b f 1 ≤ field b (suc f) 1
     rises f h g =
-        let z : (nthRow (decoded b) (suc f - rows_from b)).from ≡ (nthRow (decoded b) (suc (f - rows_from b))).from =
-        ap (λ (k : ℕ). (nthRow (decoded b) k).from) (omega arith) in
+        let z : (nth_row (decoded_image b) (suc f - rows_from b)).from ≡ (nth_row (decoded_image b) (suc (f - rows_from b))).from =
+        ap (λ (k : ℕ). (nth_row (decoded_image b) k).from) (omega arith) in
         omega (
           arith,
           z,

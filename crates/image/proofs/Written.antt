@@ -5,64 +5,64 @@ use mathlib.Core.List.{List, [], ◌++◌, map}
 use native.Mathlib.Omega.{arith}
 use lib.ListN.{length, get_or, length-append, length-map, get_or-append}
 use lib.Seq.{get_or-append-add}
-use Rattle.words.specs.lists.Sequences.{mapFrom, All}
-use Rattle.words.proofs.lists.Ranges.{get_d_map, length-mapFrom, getD-mapFrom}
+use Rattle.words.specs.lists.Sequences.{map_from, All}
+use Rattle.words.proofs.lists.Ranges.{get_d_map, length-map_from, get_or-map_from}
 use Rattle.words.proofs.lists.Joins.{all_append, all-places}
 use Rattle.text.specs.frames.Frame.{contents, field}
 use Rattle.text.specs.frames.Verdict.{fine}
-use Rattle.text.specs.frames.Check.{textVerdict}
+use Rattle.text.specs.frames.Check.{text_verdict}
 use Rattle.text.proofs.frames.Frames.{Frame, frame-by}
 use Rattle.text.proofs.frames.Texts.{text-fine, contents-length, contents-at}
-use Rattle.image.specs.Image.{Image, Label, headerFrame, entryFrame, labelFrame, rowFrame, imageFrames, imageText, no_row, nthRow}
-use Rattle.image.specs.inner.Sound.{no_label, nthLabel, SoundLabel, SoundRow, SoundImage}
+use Rattle.image.specs.Image.{Image, Label, header_frame, entry_frame, label_frame, row_frame, image_frames, image_text, no_row, nth_row}
+use Rattle.image.specs.inner.Sound.{no_label, nth_label, SoundLabel, SoundRow, SoundImage}
 
 -- ---- the frames by place
 module _ (i : Image) where
   abbrev es : List (List ℕ)
-  es = mapFrom entryFrame 1 i.entries
+  es = map_from entry_frame 1 i.entries
 
   abbrev ls : List (List ℕ)
-  ls = mapFrom labelFrame 0 i.labels
+  ls = map_from label_frame 0 i.labels
 
   abbrev rs : List (List ℕ)
-  rs = map rowFrame i.rows
+  rs = map row_frame i.rows
 
   es-count : length es ≡ length i.entries
-  es-count = length-mapFrom entryFrame 1 i.entries
+  es-count = length-map_from entry_frame 1 i.entries
 
   ls-count : length ls ≡ length i.labels
-  ls-count = length-mapFrom labelFrame 0 i.labels
+  ls-count = length-map_from label_frame 0 i.labels
 
   rs-count : length rs ≡ length i.rows
-  rs-count = length-map i.rows rowFrame
+  rs-count = length-map i.rows row_frame
 
-  abbrev pub frameTotal : ℕ
-  frameTotal = 1 + length i.entries + length i.labels + length i.rows
+  abbrev pub frame_total : ℕ
+  frame_total = 1 + length i.entries + length i.labels + length i.rows
 
-  pub frames-length : length (imageFrames i) ≡ frameTotal
-  unfolding imageFrames
+  pub frames-length : length (image_frames i) ≡ frame_total
+  unfolding image_frames
   frames-length = omega (arith, length-append es (ls ++ rs), length-append ls rs, es-count, ls-count, rs-count)
 
-  pub frame-entry : (h : ℕ) → h < length i.entries → get_or (imageFrames i) (suc h) [] ≡ entryFrame (suc h) (get_or i.entries h 0)
-  unfolding imageFrames
+  pub frame-entry : (h : ℕ) → h < length i.entries → get_or (image_frames i) (suc h) [] ≡ entry_frame (suc h) (get_or i.entries h 0)
+  unfolding image_frames
   frame-entry h l =
       get_or-append es (ls ++ rs) [] h (omega (arith, es-count))
-      ∙ getD-mapFrom entryFrame 1 i.entries 0 [] h l ∙ ap (λ (x : ℕ). entryFrame x (get_or i.entries h 0)) (omega arith)
+      ∙ get_or-map_from entry_frame 1 i.entries 0 [] h l ∙ ap (λ (x : ℕ). entry_frame x (get_or i.entries h 0)) (omega arith)
 
-  pub frame-label : (l : ℕ) → l < length i.labels → get_or (imageFrames i) (suc (length i.entries + l)) [] ≡ labelFrame l (nthLabel i l)
-  unfolding imageFrames
+  pub frame-label : (l : ℕ) → l < length i.labels → get_or (image_frames i) (suc (length i.entries + l)) [] ≡ label_frame l (nth_label i l)
+  unfolding image_frames
   frame-label l h =
       ap (λ (n : ℕ). get_or (es ++ (ls ++ rs)) (n + l) []) (sym es-count)
       ∙ get_or-append-add es (ls ++ rs) l [] ∙ get_or-append ls rs [] l (omega (arith, ls-count))
-      ∙ getD-mapFrom labelFrame 0 i.labels no_label [] l h ∙ ap (λ (x : ℕ). labelFrame x (nthLabel i l)) (omega arith)
+      ∙ get_or-map_from label_frame 0 i.labels no_label [] l h ∙ ap (λ (x : ℕ). label_frame x (nth_label i l)) (omega arith)
 
   pub frame_row : (k : ℕ) → k < length i.rows
-      → get_or (imageFrames i) (suc (length i.entries + length i.labels + k)) [] ≡ rowFrame (nthRow i k)
-  unfolding imageFrames
+      → get_or (image_frames i) (suc (length i.entries + length i.labels + k)) [] ≡ row_frame (nth_row i k)
+  unfolding image_frames
   frame_row k h =
       ap (λ (n : ℕ). get_or (es ++ (ls ++ rs)) n []) (omega (arith, es-count, ls-count))
       ∙ get_or-append-add es (ls ++ rs) (length ls + k) [] ∙ get_or-append-add ls rs k []
-      ∙ get_d_map rowFrame i.rows k no_row [] h
+      ∙ get_d_map row_frame i.rows k no_row [] h
 
 -- ---- ten bytes each
 called-small : (n : ℕ) (x : Label) → n ≤ 16 → SoundLabel n x → x.called < 256
@@ -79,11 +79,11 @@ handler-small i S = go i.handler refl
     go zero e = omega arith
     go (suc h) e = omega (arith, S.handled (λ z. omega arith), S.most)
 
-label_small : (i : Image) → SoundImage i → (l : ℕ) → l < length i.labels → All (λ x. x < 256) (labelFrame l (nthLabel i l))
-label_small i S zero h = subst (λ (x : Label). All (λ y. y < 256) (labelFrame 0 x)) (sym S.home) (omega arith)
-label_small i S (suc zero) h = subst (λ (x : Label). All (λ y. y < 256) (labelFrame 1 x)) (sym S.back) (omega arith)
+label_small : (i : Image) → SoundImage i → (l : ℕ) → l < length i.labels → All (λ x. x < 256) (label_frame l (nth_label i l))
+label_small i S zero h = subst (λ (x : Label). All (λ y. y < 256) (label_frame 0 x)) (sym S.home) (omega arith)
+label_small i S (suc zero) h = subst (λ (x : Label). All (λ y. y < 256) (label_frame 1 x)) (sym S.back) (omega arith)
 label_small i S (suc (suc l)) h =
-    let x : Label = nthLabel i (suc (suc l)) in
+    let x : Label = nth_label i (suc (suc l)) in
     let L : SoundLabel (length i.entries) x = S.others (suc (suc l)) (omega arith) h in
     let c : x.called < 256 = called-small (length i.entries) x S.most L in
     omega (arith, S.last, S.most)
@@ -92,57 +92,57 @@ module _ (i : Image) (S : SoundImage i) where
   entry-frames : All Frame (es i)
   entry-frames = all-places Frame [] (es i) (λ h l.
       let m : h < length i.entries = omega (arith, es-count i) in
-      subst Frame (sym (getD-mapFrom entryFrame 1 i.entries 0 [] h m))
-      (frame-by (entryFrame (1 + h) (get_or i.entries h 0)) refl (omega (arith, (S.starts h m).inside, S.most, S.last))))
+      subst Frame (sym (get_or-map_from entry_frame 1 i.entries 0 [] h m))
+      (frame-by (entry_frame (1 + h) (get_or i.entries h 0)) refl (omega (arith, (S.starts h m).inside, S.most, S.last))))
 
   label-frames : All Frame (ls i)
   label-frames = all-places Frame [] (ls i) (λ l h.
       let m : l < length i.labels = omega (arith, ls-count i) in
-      let e : get_or (ls i) l [] ≡ labelFrame l (nthLabel i l) =
-      getD-mapFrom labelFrame 0 i.labels no_label [] l m ∙ ap (λ (x : ℕ). labelFrame x (nthLabel i l)) (omega arith) in
-      subst Frame (sym e) (frame-by (labelFrame l (nthLabel i l)) refl (label_small i S l m)))
+      let e : get_or (ls i) l [] ≡ label_frame l (nth_label i l) =
+      get_or-map_from label_frame 0 i.labels no_label [] l m ∙ ap (λ (x : ℕ). label_frame x (nth_label i l)) (omega arith) in
+      subst Frame (sym e) (frame-by (label_frame l (nth_label i l)) refl (label_small i S l m)))
 
   row-frames : All Frame (rs i)
   row-frames = all-places Frame [] (rs i) (λ k h.
       let m : k < length i.rows = omega (arith, rs-count i) in
-      let R : SoundRow i (nthRow i k) = S.each k m in
-      subst Frame (sym (get_d_map rowFrame i.rows k no_row [] m))
-      (frame-by (rowFrame (nthRow i k)) refl (omega (arith, R.leading.inside, S.last))))
+      let R : SoundRow i (nth_row i k) = S.each k m in
+      subst Frame (sym (get_d_map row_frame i.rows k no_row [] m))
+      (frame-by (row_frame (nth_row i k)) refl (omega (arith, R.leading.inside, S.last))))
 
-  pub image-frames : All Frame (imageFrames i)
-  unfolding imageFrames
+  pub image-frames : All Frame (image_frames i)
+  unfolding image_frames
   image-frames = (
-    frame-by (headerFrame i) refl (omega (arith, S.most, S.last, S.few, handler-small i S)),
+    frame-by (header_frame i) refl (omega (arith, S.most, S.last, S.few, handler-small i S)),
     all_append Frame (es i) (ls i ++ rs i) entry-frames (all_append Frame (ls i) (rs i) label-frames row-frames),
   )
 
-  pub image-text-fine : textVerdict 29831 (imageText i) ≡ fine
-  unfolding imageText
-  image-text-fine = text-fine (imageFrames i) image-frames 29831 (omega (arith, frames-length i))
+  pub image-text-fine : text_verdict 29831 (image_text i) ≡ fine
+  unfolding image_text
+  image-text-fine = text-fine (image_frames i) image-frames 29831 (omega (arith, frames-length i))
       (omega (arith, frames-length i, S.most, S.last, S.few))
 
 -- ---- b is the contents of the image's text, byte by byte
 pub record Reads (i : Image) (b : List ℕ) : Type 0 where
   pub count : length b ≡ 10 * (1 + length i.entries + length i.labels + length i.rows)
-  pub head : (k : ℕ) → k < 10 → field b 0 k ≡ get_or (headerFrame i) k 0
-  pub entry : (h k : ℕ) → h < length i.entries → k < 10 → field b (suc h) k ≡ get_or (entryFrame (suc h) (get_or i.entries h 0)) k 0
+  pub head : (k : ℕ) → k < 10 → field b 0 k ≡ get_or (header_frame i) k 0
+  pub entry : (h k : ℕ) → h < length i.entries → k < 10 → field b (suc h) k ≡ get_or (entry_frame (suc h) (get_or i.entries h 0)) k 0
   pub label : (l k : ℕ) → l < length i.labels → k < 10
-      → field b (suc (length i.entries + l)) k ≡ get_or (labelFrame l (nthLabel i l)) k 0
+      → field b (suc (length i.entries + l)) k ≡ get_or (label_frame l (nth_label i l)) k 0
   pub row : (j k : ℕ) → j < length i.rows → k < 10
-      → field b (suc (length i.entries + length i.labels + j)) k ≡ get_or (rowFrame (nthRow i j)) k 0
+      → field b (suc (length i.entries + length i.labels + j)) k ≡ get_or (row_frame (nth_row i j)) k 0
 
-pub image-reads : (i : Image) → SoundImage i → Reads i (contents (imageText i))
-unfolding imageText
+pub image-reads : (i : Image) → SoundImage i → Reads i (contents (image_text i))
+unfolding image_text
 image-reads i S =
-    let fs : List (List ℕ) = imageFrames i in
+    let fs : List (List ℕ) = image_frames i in
     let F : All Frame fs = image-frames i S in
-    let n : length fs ≡ frameTotal i = frames-length i in
-    let at : (f k : ℕ) (bs : List ℕ) → f < length fs → k < 10 → get_or fs f [] ≡ bs → field (contents (imageText i)) f k ≡ get_or bs k 0 =
+    let n : length fs ≡ frame_total i = frames-length i in
+    let at : (f k : ℕ) (bs : List ℕ) → f < length fs → k < 10 → get_or fs f [] ≡ bs → field (contents (image_text i)) f k ≡ get_or bs k 0 =
     λ f k bs h l e. contents-at fs F f k h l ∙ ap (λ (bs : List ℕ). get_or bs k 0) e in
     record {
       count = contents-length fs F ∙ ap (λ (m : ℕ). 10 * m) n;
-      head = λ k l. at 0 k (headerFrame i) (omega arith) l (unfold imageFrames in refl);
-      entry = λ h k m l. at (suc h) k (entryFrame (suc h) (get_or i.entries h 0)) (omega arith) l (frame-entry i h m);
-      label = λ h k m l. at (suc (length i.entries + h)) k (labelFrame h (nthLabel i h)) (omega arith) l (frame-label i h m);
-      row = λ j k m l. at (suc (length i.entries + length i.labels + j)) k (rowFrame (nthRow i j)) (omega arith) l (frame_row i j m);
+      head = λ k l. at 0 k (header_frame i) (omega arith) l (unfold image_frames in refl);
+      entry = λ h k m l. at (suc h) k (entry_frame (suc h) (get_or i.entries h 0)) (omega arith) l (frame-entry i h m);
+      label = λ h k m l. at (suc (length i.entries + h)) k (label_frame h (nth_label i h)) (omega arith) l (frame-label i h m);
+      row = λ j k m l. at (suc (length i.entries + length i.labels + j)) k (row_frame (nth_row i j)) (omega arith) l (frame_row i j m);
     }

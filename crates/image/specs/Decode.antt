@@ -1,46 +1,46 @@
 -- The image that the contents of a text hold, ten bytes a frame.
 use Rattle.std.specs.Prelude.{ℕ, ◌+◌, List, map}
 use Rattle.words.specs.lists.Numbers.{range}
-use Rattle.text.specs.frames.Frame.{field, pair_at, quadAt}
+use Rattle.text.specs.frames.Frame.{field, pair_at, quad_at}
 use Rattle.image.specs.declared.layout.TheConstants.{SCHEME_COUNT, LAST_LABEL, ROW_COUNT, HANDLER, ENTRY_LABEL, TICK_KIND, CALLED, OWNER}
 use Rattle.image.specs.declared.layout.TheConstants.{LABEL_RESULT, LABEL_MASK, FROM, CARE, VALUES, FUNCTION_BIT, NEXT}
 use Rattle.image.specs.Image.{Image, Label, Row}
 
 -- H, M, the row count and the handler's scheme of the header
-abbrev pub schemeCount : List ℕ → ℕ
-schemeCount b = field b 0 SCHEME_COUNT
+abbrev pub scheme_count : List ℕ → ℕ
+scheme_count b = field b 0 SCHEME_COUNT
 
-abbrev pub lastLabel : List ℕ → ℕ
-lastLabel b = field b 0 LAST_LABEL
+abbrev pub last_label : List ℕ → ℕ
+last_label b = field b 0 LAST_LABEL
 
-abbrev pub rowCount : List ℕ → ℕ
-rowCount b = pair_at b 0 ROW_COUNT
+abbrev pub row_count : List ℕ → ℕ
+row_count b = pair_at b 0 ROW_COUNT
 
-abbrev pub handlerIn : List ℕ → ℕ
-handlerIn b = field b 0 HANDLER
+abbrev pub handler_in : List ℕ → ℕ
+handler_in b = field b 0 HANDLER
 
 -- the frames of entries start at 1, those of labels and of rows where the ones before end
 abbrev pub labels_from : List ℕ → ℕ
-labels_from b = 1 + schemeCount b
+labels_from b = 1 + scheme_count b
 
 abbrev pub rows_from : List ℕ → ℕ
-rows_from b = 2 + schemeCount b + lastLabel b
+rows_from b = 2 + scheme_count b + last_label b
 
-abbrev pub entryIn : List ℕ → ℕ → ℕ
-entryIn b h = field b h ENTRY_LABEL
+abbrev pub entry_in : List ℕ → ℕ → ℕ
+entry_in b h = field b h ENTRY_LABEL
 
-abbrev pub labelIn : List ℕ → ℕ → Label
-labelIn b l = let f = labels_from b + l in record {
+abbrev pub label_in : List ℕ → ℕ → Label
+label_in b l = let f = labels_from b + l in record {
   kind = field b f TICK_KIND;
   called = field b f CALLED;
   owner = field b f OWNER;
   result = field b f LABEL_RESULT;
-  mask = quadAt b f LABEL_MASK;
+  mask = quad_at b f LABEL_MASK;
 }
 
 -- the row in frame f
-abbrev pub rowInFrame : List ℕ → ℕ → Row
-rowInFrame b f = record {
+abbrev pub row_in_frame : List ℕ → ℕ → Row
+row_in_frame b f = record {
   from = field b f FROM;
   care = pair_at b f CARE;
   values = pair_at b f VALUES;
@@ -49,12 +49,12 @@ rowInFrame b f = record {
 }
 
 abbrev pub row_in : List ℕ → ℕ → Row
-row_in b k = rowInFrame b (rows_from b + k)
+row_in b k = row_in_frame b (rows_from b + k)
 
-unfoldable pub decoded : List ℕ → Image
-decoded b = record {
-  handler = handlerIn b;
-  entries = map (entryIn b) (range 1 (schemeCount b));
-  labels = map (labelIn b) (range 0 (lastLabel b + 1));
-  rows = map (row_in b) (range 0 (rowCount b));
+unfoldable pub decoded_image : List ℕ → Image
+decoded_image b = record {
+  handler = handler_in b;
+  entries = map (entry_in b) (range 1 (scheme_count b));
+  labels = map (label_in b) (range 0 (last_label b + 1));
+  rows = map (row_in b) (range 0 (row_count b));
 }

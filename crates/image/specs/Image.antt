@@ -1,7 +1,7 @@
 -- The image (the paper's word for the table that the machine steps through): the handler, entries, labels and rows, and its frames.
 use Rattle.std.specs.Prelude.{ℕ, ◌-◌, List, [], ◌∷◌, ◌++◌, map, length, get_or, replicate}
-use Rattle.words.specs.lists.Sequences.{mapFrom}
-use Rattle.text.specs.frames.Frame.{pair, quad, framesText}
+use Rattle.words.specs.lists.Sequences.{map_from}
+use Rattle.text.specs.frames.Frame.{pair, quad, frames_text}
 use Rattle.image.specs.declared.layout.TheConstants.{HEADER, ENTRY, LABEL, ROW, PLAIN, RETURN, HOME}
 
 -- kind: the tick kind
@@ -13,19 +13,19 @@ pub record Label : Type 0 where
   pub mask : ℕ
 
 -- by its fields
-abbrev pub labelWith : ℕ → ℕ → ℕ → ℕ → ℕ → Label
-labelWith k g o r m = record { kind = k; called = g; owner = o; result = r; mask = m }
+abbrev pub label_with : ℕ → ℕ → ℕ → ℕ → ℕ → Label
+label_with k g o r m = record { kind = k; called = g; owner = o; result = r; mask = m }
 
 -- what an image has where it has no label
 abbrev pub no_label : Label
 no_label = record { kind = PLAIN; called = 0; owner = 0; result = 0; mask = 0 }
 
 -- labels 0 and 1 of every image
-abbrev pub homeLabel : Label
-homeLabel = record { kind = HOME; called = 0; owner = 1; result = 0; mask = 0 }
+abbrev pub home_label : Label
+home_label = record { kind = HOME; called = 0; owner = 1; result = 0; mask = 0 }
 
-abbrev pub returnLabel : Label
-returnLabel = record { kind = RETURN; called = 0; owner = 0; result = 0; mask = 0 }
+abbrev pub return_label : Label
+return_label = record { kind = RETURN; called = 0; owner = 0; result = 0; mask = 0 }
 
 -- bit: the function bit, or NO_BIT
 pub record Row : Type 0 where
@@ -50,24 +50,24 @@ pub record Image : Type 0 where
   pub labels : List Label
   pub rows : List Row
 
-abbrev pub nthRow : Image → ℕ → Row
-nthRow i k = get_or i.rows k no_row
+abbrev pub nth_row : Image → ℕ → Row
+nth_row i k = get_or i.rows k no_row
 
 -- ---- its frames, ten bytes each
-abbrev pub headerFrame : Image → List ℕ
-headerFrame i = HEADER ∷ length i.entries ∷ (length i.labels - 1) ∷ pair (length i.rows) ++ (i.handler ∷ replicate 4 0)
+abbrev pub header_frame : Image → List ℕ
+header_frame i = HEADER ∷ length i.entries ∷ (length i.labels - 1) ∷ pair (length i.rows) ++ (i.handler ∷ replicate 4 0)
 
-abbrev pub entryFrame : ℕ → ℕ → List ℕ
-entryFrame h l = ENTRY ∷ h ∷ l ∷ replicate 7 0
+abbrev pub entry_frame : ℕ → ℕ → List ℕ
+entry_frame h l = ENTRY ∷ h ∷ l ∷ replicate 7 0
 
-abbrev pub labelFrame : ℕ → Label → List ℕ
-labelFrame l x = LABEL ∷ l ∷ x.kind ∷ x.called ∷ x.owner ∷ x.result ∷ quad x.mask
+abbrev pub label_frame : ℕ → Label → List ℕ
+label_frame l x = LABEL ∷ l ∷ x.kind ∷ x.called ∷ x.owner ∷ x.result ∷ quad x.mask
 
-abbrev pub rowFrame : Row → List ℕ
-rowFrame r = ROW ∷ r.from ∷ pair r.care ++ (pair r.values ++ (r.bit ∷ r.next ∷ 0 ∷ 0 ∷ []))
+abbrev pub row_frame : Row → List ℕ
+row_frame r = ROW ∷ r.from ∷ pair r.care ++ (pair r.values ++ (r.bit ∷ r.next ∷ 0 ∷ 0 ∷ []))
 
-unfoldable pub imageFrames : Image → List (List ℕ)
-imageFrames i = headerFrame i ∷ mapFrom entryFrame 1 i.entries ++ (mapFrom labelFrame 0 i.labels ++ map rowFrame i.rows)
+unfoldable pub image_frames : Image → List (List ℕ)
+image_frames i = header_frame i ∷ map_from entry_frame 1 i.entries ++ (map_from label_frame 0 i.labels ++ map row_frame i.rows)
 
-unfoldable pub imageText : Image → List ℕ
-imageText i = framesText (imageFrames i)
+unfoldable pub image_text : Image → List ℕ
+image_text i = frames_text (image_frames i)

@@ -4,14 +4,14 @@ use Rattle.std.specs.Prelude.{ℕ, zero, suc}
 -- a tick kind by its number; one above 4 counts as home
 pub data TickKind : Type 0 where
   plain : TickKind
-  operationCall : TickKind
-  functionCall : TickKind
+  operation_call : TickKind
+  function_call : TickKind
   return : TickKind
   home : TickKind
 
-abbrev pub tickKind : ℕ → TickKind
-tickKind zero = plain
-tickKind (suc zero) = operationCall
-tickKind (suc (suc zero)) = functionCall
-tickKind (suc (suc (suc zero))) = return
-tickKind (suc (suc (suc (suc k)))) = home
+abbrev pub tick_kind : ℕ → TickKind
+tick_kind zero = plain
+tick_kind (suc zero) = operation_call
+tick_kind (suc (suc zero)) = function_call
+tick_kind (suc (suc (suc zero))) = return
+tick_kind (suc (suc (suc (suc k)))) = home

@@ -1,8 +1,8 @@
 // What stands in a decoded table: bytes, two-byte and four-byte fields, and where labels and rows begin.
 ghost use Rattle.std.specs.Prelude.{◌≡◌, ◌+◌, ◌*◌, ◌-◌, ◌<◌, length};
-ghost use Rattle.text.specs.frames.Frame.{size, field, pair_at, quadAt};
+ghost use Rattle.text.specs.frames.Frame.{size, field, pair_at, quad_at};
 ghost use Rattle.image.specs.Decode.{labels_from, rows_from};
-ghost use Rattle.image.specs.Check.{filled};
+ghost use Rattle.image.specs.Check.{is_filled};
 ghost use Rattle.image.specs.inner.FrameContracts.{BytesAsked};
 
 use crate::layout::{LABEL_MASK, LAST_LABEL, SCHEME_COUNT};
@@ -27,7 +27,7 @@ pub fn pair(table: &[u8], f: usize, k: usize) -> u16
 // Four bytes of frame f from k on, the high one first.
 pub fn quad(table: &[u8], f: usize, k: usize) -> u32
     requires { FRAME * f + k + 3 < length table.now }
-    ensures { result ≡ quadAt table.now f k }
+    ensures { result ≡ quad_at table.now f k }
 {
     (pair(table, f, k) as u32) * 65536 + (pair(table, f, k + 2) as u32)
 }
@@ -59,7 +59,7 @@ pub fn label_byte(table: &[u8], l: usize, k: usize) -> u8
 // The mask of label l.
 pub fn label_mask(table: &[u8], l: usize) -> u32
     requires { labels_from table.now + l < size table.now }
-    ensures { result ≡ quadAt table.now (labels_from table.now + l) LABEL_MASK }
+    ensures { result ≡ quad_at table.now (labels_from table.now + l) LABEL_MASK }
 {
     quad(table, labels_from(table) + l, LABEL_MASK)
 }
@@ -83,7 +83,7 @@ pub fn row_pair(table: &[u8], k: usize, j: usize) -> u16
 // Whether a byte of frame f from k up to end is not 0.
 pub fn filled_to(table: &[u8], f: usize, k: usize, end: usize) -> bool
     requires { BytesAsked table.now f k end }
-    ensures { result ≡ filled table.now f k (end - k) }
+    ensures { result ≡ is_filled table.now f k (end - k) }
 {
     for j in k..end {
         if byte(table, f, j) != 0 {

@@ -9,137 +9,140 @@ use borrow.Author.Tests.{eq-eqb, ne_eqb, lt-ltb, le-ltb, ltb-false}
 use Rattle.words.specs.lists.Pick.{pick}
 use Rattle.words.proofs.lists.Tests.{or-true-l, or_true_r}
 use Rattle.text.specs.frames.Frame.{size, field}
-use Rattle.image.specs.Decode.{rowCount, labels_from, rows_from}
-use Rattle.image.specs.Check.{Position, headerPosition, entryPosition, labelPosition, rowPosition, filled}
-use Rattle.image.specs.Check.{badHandler, badCounts, badHeader, position_of, strayFrame, stray}
+use Rattle.image.specs.Decode.{row_count, labels_from, rows_from}
+use Rattle.image.specs.Check.{Position, header_position, entry_position, label_position, row_position, is_filled}
+use Rattle.image.specs.Check.{has_bad_handler, has_bad_counts, is_bad_header, position_of, is_stray_frame, is_stray}
 use Rattle.image.proofs.HeaderCases.{equal}
-use Rattle.image_check.specs.inner.CheckedFrames.{positionKind}
+use Rattle.image_check.specs.inner.CheckedFrames.{position_kind}
 
 all-false : (x y z u n : Bool) → x ≡ false → y ≡ false → z ≡ false → u ≡ false → n ≡ (x || y || z || u || n)
 all-false x y z u n p q r t = rw (p, q, r, t)
 
 -- ---- 11
 module _ (b : List ℕ) where
-  pub header-kind : (field b 0 0 ≡ 15 → ⊥) → true ≡ badHeader b
-  unfolding badHeader
+  pub header-kind : (field b 0 0 ≡ 15 → ⊥) → true ≡ is_bad_header b
+  unfolding is_bad_header
   header-kind h = simp (ne_eqb (field b 0 0) 15 h)
 
-  pub header-filled : field b 0 0 ≡ 15 → filled b 0 6 4 ≡ true → true ≡ badHeader b
-  unfolding badHeader
+  pub header-filled : field b 0 0 ≡ 15 → is_filled b 0 6 4 ≡ true → true ≡ is_bad_header b
+  unfolding is_bad_header
   header-filled k h = simp (eq-eqb (field b 0 0) 15 k, h)
 
-  pub header-handler : badHandler b ≡ true → true ≡ badHeader b
-  unfolding badHeader
+  pub header-handler : has_bad_handler b ≡ true → true ≡ is_bad_header b
+  unfolding is_bad_header
   header-handler h =
-      sym (or-true-l _ (not (eqb (size b) (rows_from b + rowCount b)))
-      (or-true-l _ (badCounts b) (or_true_r (not (eqb (field b 0 0) 15) || filled b 0 6 4) (badHandler b) h)))
+      sym (or-true-l _ (not (eqb (size b) (rows_from b + row_count b)))
+      (or-true-l _ (has_bad_counts b) (or_true_r (not (eqb (field b 0 0) 15) || is_filled b 0 6 4) (has_bad_handler b) h)))
 
-  pub header-counts : badCounts b ≡ true → true ≡ badHeader b
-  unfolding badHeader
+  pub header-counts : has_bad_counts b ≡ true → true ≡ is_bad_header b
+  unfolding is_bad_header
   header-counts h =
-      sym (or-true-l _ (not (eqb (size b) (rows_from b + rowCount b)))
-      (or_true_r (not (eqb (field b 0 0) 15) || filled b 0 6 4 || badHandler b) (badCounts b) h))
+      sym (or-true-l _ (not (eqb (size b) (rows_from b + row_count b)))
+      (or_true_r (not (eqb (field b 0 0) 15) || is_filled b 0 6 4 || has_bad_handler b) (has_bad_counts b) h))
 
-  pub header-frames : field b 0 0 ≡ 15 → filled b 0 6 4 ≡ false → badHandler b ≡ false → badCounts b ≡ false
-      → not (eqb (size b) (rows_from b + rowCount b)) ≡ badHeader b
-  unfolding badHeader
+  pub header-frames : field b 0 0 ≡ 15 → is_filled b 0 6 4 ≡ false → has_bad_handler b ≡ false → has_bad_counts b ≡ false
+      → not (eqb (size b) (rows_from b + row_count b)) ≡ is_bad_header b
+  unfolding is_bad_header
   header-frames k f h e =
-      all-false (not (eqb (field b 0 0) 15)) (filled b 0 6 4) (badHandler b) (badCounts b) (not (eqb (size b) (rows_from b + rowCount b)))
+      all-false (not (eqb (field b 0 0) 15)) (is_filled b 0 6 4) (has_bad_handler b) (has_bad_counts b)
+      (not (eqb (size b) (rows_from b + row_count b)))
       (equal (field b 0 0) 15 k) f h e
 
 -- ---- a frame by its position
 abbrev placed : Bool → Bool → Bool → List ℕ → ℕ → Position
-placed x y z b f = pick x headerPosition
-    (pick y (entryPosition f) (pick z (labelPosition (f - labels_from b)) (rowPosition (f - rows_from b))))
+placed x y z b f = pick x header_position
+    (pick y (entry_position f) (pick z (label_position (f - labels_from b)) (row_position (f - rows_from b))))
 
 module _ (b : List ℕ) (f : ℕ) where
-  pub kind-header : f ≡ 0 → 15 ≡ positionKind (position_of b f)
+  pub kind-header : f ≡ 0 → 15 ≡ position_kind (position_of b f)
   unfolding position_of
   kind-header h = simp (eq-eqb f 0 h)
 
-  pub kind-entry : (f ≡ 0 → ⊥) → f < labels_from b → 16 ≡ positionKind (position_of b f)
+  pub kind-entry : (f ≡ 0 → ⊥) → f < labels_from b → 16 ≡ position_kind (position_of b f)
   unfolding position_of
   kind-entry n h = simp (ne_eqb f 0 n, lt-ltb f (labels_from b) h)
 
-  pub kind-label : (f ≡ 0 → ⊥) → labels_from b ≤ f → f < rows_from b → 17 ≡ positionKind (position_of b f)
+  pub kind-label : (f ≡ 0 → ⊥) → labels_from b ≤ f → f < rows_from b → 17 ≡ position_kind (position_of b f)
   unfolding position_of
   kind-label n h l = simp (ne_eqb f 0 n, le-ltb f (labels_from b) h, lt-ltb f (rows_from b) l)
 
-  pub kind_row : (f ≡ 0 → ⊥) → rows_from b ≤ f → 18 ≡ positionKind (position_of b f)
+  pub kind_row : (f ≡ 0 → ⊥) → rows_from b ≤ f → 18 ≡ position_kind (position_of b f)
   unfolding position_of
   kind_row n h = simp (ne_eqb f 0 n, le-ltb f (labels_from b) (omega arith), le-ltb f (rows_from b) h)
 
-  placed-entry : (x y z : Bool) → positionKind (placed x y z b f) ≡ 16 → placed x y z b f ≡ entryPosition f
+  placed-entry : (x y z : Bool) → position_kind (placed x y z b f) ≡ 16 → placed x y z b f ≡ entry_position f
   placed-entry true y z e = absurd (omega arith)
   placed-entry false true z e = refl
   placed-entry false false true e = absurd (omega arith)
   placed-entry false false false e = absurd (omega arith)
 
-  placed-label : (x y z : Bool) → positionKind (placed x y z b f) ≡ 17 → (placed x y z b f ≡ labelPosition (f - labels_from b)) × (y ≡ false)
+  placed-label : (x y z : Bool) → position_kind (placed x y z b f) ≡ 17 → (placed x y z b f ≡ label_position (f - labels_from b)) × (y ≡ false)
   placed-label true y z e = absurd (omega arith)
   placed-label false true z e = absurd (omega arith)
   placed-label false false true e = (refl, refl)
   placed-label false false false e = absurd (omega arith)
 
-  placed_row : (x y z : Bool) → positionKind (placed x y z b f) ≡ 18 → (placed x y z b f ≡ rowPosition (f - rows_from b)) × (z ≡ false)
+  placed_row : (x y z : Bool) → position_kind (placed x y z b f) ≡ 18 → (placed x y z b f ≡ row_position (f - rows_from b)) × (z ≡ false)
   placed_row true y z e = absurd (omega arith)
   placed_row false true z e = absurd (omega arith)
   placed_row false false true e = absurd (omega arith)
   placed_row false false false e = (refl, refl)
 
-  placed-header : (x y z : Bool) → (positionKind (placed x y z b f) ≡ 16 → ⊥) → (positionKind (placed x y z b f) ≡ 17 → ⊥)
-      → (positionKind (placed x y z b f) ≡ 18 → ⊥) → placed x y z b f ≡ headerPosition
+  placed-header : (x y z : Bool) → (position_kind (placed x y z b f) ≡ 16 → ⊥) → (position_kind (placed x y z b f) ≡ 17 → ⊥)
+      → (position_kind (placed x y z b f) ≡ 18 → ⊥) → placed x y z b f ≡ header_position
   placed-header true y z p q r = refl
   placed-header false true z p q r = absurd (p refl)
   placed-header false false true p q r = absurd (q refl)
   placed-header false false false p q r = absurd (r refl)
 
-  pub position-entry : positionKind (position_of b f) ≡ 16 → position_of b f ≡ entryPosition f
+  pub position-entry : position_kind (position_of b f) ≡ 16 → position_of b f ≡ entry_position f
   unfolding position_of
   position-entry = placed-entry (eqb f 0) (ltb f (labels_from b)) (ltb f (rows_from b))
 
-  pub position-label : positionKind (position_of b f) ≡ 17 → position_of b f ≡ labelPosition (f - labels_from b)
+  pub position-label : position_kind (position_of b f) ≡ 17 → position_of b f ≡ label_position (f - labels_from b)
   unfolding position_of
   position-label e = (placed-label (eqb f 0) (ltb f (labels_from b)) (ltb f (rows_from b)) e).0
 
-  pub label-above : positionKind (position_of b f) ≡ 17 → labels_from b ≤ f
+  pub label-above : position_kind (position_of b f) ≡ 17 → labels_from b ≤ f
   unfolding position_of
   label-above e = ltb-false f (labels_from b) (placed-label (eqb f 0) (ltb f (labels_from b)) (ltb f (rows_from b)) e).1
 
-  pub position-row : positionKind (position_of b f) ≡ 18 → position_of b f ≡ rowPosition (f - rows_from b)
+  pub position-row : position_kind (position_of b f) ≡ 18 → position_of b f ≡ row_position (f - rows_from b)
   unfolding position_of
   position-row e = (placed_row (eqb f 0) (ltb f (labels_from b)) (ltb f (rows_from b)) e).0
 
-  pub row-above : positionKind (position_of b f) ≡ 18 → rows_from b ≤ f
+  pub row-above : position_kind (position_of b f) ≡ 18 → rows_from b ≤ f
   unfolding position_of
   row-above e = ltb-false f (rows_from b) (placed_row (eqb f 0) (ltb f (labels_from b)) (ltb f (rows_from b)) e).1
 
-  pub position-header : (positionKind (position_of b f) ≡ 16 → ⊥) → (positionKind (position_of b f) ≡ 17 → ⊥)
-      → (positionKind (position_of b f) ≡ 18 → ⊥) → position_of b f ≡ headerPosition
+  pub position-header : (position_kind (position_of b f) ≡ 16 → ⊥) → (position_kind (position_of b f) ≡ 17 → ⊥)
+      → (position_kind (position_of b f) ≡ 18 → ⊥) → position_of b f ≡ header_position
   unfolding position_of
   position-header = placed-header (eqb f 0) (ltb f (labels_from b)) (ltb f (rows_from b))
 
 -- ---- 12
 module _ (b : List ℕ) (f : ℕ) where
-  pub stray-entry : (x : Bool) → positionKind (position_of b f) ≡ 16 → x ≡ strayFrame b f (entryPosition f) → x ≡ stray b f
-  unfolding stray
-  stray-entry x e q = q ∙ sym (ap (strayFrame b f) (position-entry b f e))
+  pub stray-entry : (x : Bool) → position_kind (position_of b f) ≡ 16 → x ≡ is_stray_frame b f (entry_position f) → x ≡ is_stray b f
+  unfolding is_stray
+  stray-entry x e q = q ∙ sym (ap (is_stray_frame b f) (position-entry b f e))
 
-  pub stray-label : (x : Bool) (y : ℕ) → positionKind (position_of b f) ≡ 17 → labels_from b ≤ f → y ≡ labels_from b
-      → x ≡ strayFrame b (labels_from b + (f - y)) (labelPosition (f - y)) → x ≡ stray b f
-  unfolding stray
+  pub stray-label : (x : Bool) (y : ℕ) → position_kind (position_of b f) ≡ 17 → labels_from b ≤ f → y ≡ labels_from b
+      → x ≡ is_stray_frame b (labels_from b + (f - y)) (label_position (f - y)) → x ≡ is_stray b f
+  unfolding is_stray
   stray-label x y e l q r =
-      r ∙ ap (λ (n : ℕ). strayFrame b (labels_from b + (f - n)) (labelPosition (f - n))) q
-      ∙ ap (λ (n : ℕ). strayFrame b n (labelPosition (f - labels_from b))) (omega arith) ∙ sym (ap (strayFrame b f) (position-label b f e))
+      r ∙ ap (λ (n : ℕ). is_stray_frame b (labels_from b + (f - n)) (label_position (f - n))) q
+      ∙ ap (λ (n : ℕ). is_stray_frame b n (label_position (f - labels_from b))) (omega arith)
+      ∙ sym (ap (is_stray_frame b f) (position-label b f e))
 
-  pub stray-row : (x : Bool) (y : ℕ) → positionKind (position_of b f) ≡ 18 → rows_from b ≤ f → y ≡ rows_from b
-      → x ≡ strayFrame b (rows_from b + (f - y)) (rowPosition (f - y)) → x ≡ stray b f
-  unfolding stray
+  pub stray-row : (x : Bool) (y : ℕ) → position_kind (position_of b f) ≡ 18 → rows_from b ≤ f → y ≡ rows_from b
+      → x ≡ is_stray_frame b (rows_from b + (f - y)) (row_position (f - y)) → x ≡ is_stray b f
+  unfolding is_stray
   stray-row x y e l q r =
-      r ∙ ap (λ (n : ℕ). strayFrame b (rows_from b + (f - n)) (rowPosition (f - n))) q
-      ∙ ap (λ (n : ℕ). strayFrame b n (rowPosition (f - rows_from b))) (omega arith) ∙ sym (ap (strayFrame b f) (position-row b f e))
+      r ∙ ap (λ (n : ℕ). is_stray_frame b (rows_from b + (f - n)) (row_position (f - n))) q
+      ∙ ap (λ (n : ℕ). is_stray_frame b n (row_position (f - rows_from b))) (omega arith)
+      ∙ sym (ap (is_stray_frame b f) (position-row b f e))
 
-  pub stray-header : (positionKind (position_of b f) ≡ 16 → ⊥) → (positionKind (position_of b f) ≡ 17 → ⊥)
-      → (positionKind (position_of b f) ≡ 18 → ⊥) → false ≡ stray b f
-  unfolding stray
-  stray-header p q r = sym (ap (strayFrame b f) (position-header b f p q r))
+  pub stray-header : (position_kind (position_of b f) ≡ 16 → ⊥) → (position_kind (position_of b f) ≡ 17 → ⊥)
+      → (position_kind (position_of b f) ≡ 18 → ⊥) → false ≡ is_stray b f
+  unfolding is_stray
+  stray-header p q r = sym (ap (is_stray_frame b f) (position-header b f p q r))

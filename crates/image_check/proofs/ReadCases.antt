@@ -5,26 +5,26 @@ use Prim.Native.Nat.{ℕ, ◌*◌, ◌/◌, ◌≤◌}
 use native.Mathlib.Omega.{arith}
 use lib.ListN.{length, take, drop}
 use lib.Seq.{take_at}
-use Rattle.text.specs.frames.Frame.{size, frameCount, contents}
+use Rattle.text.specs.frames.Frame.{size, frame_count, contents}
 use Rattle.text.specs.frames.Verdict.{fine, refused}
-use Rattle.text.specs.frames.Check.{textVerdict}
-use Rattle.text.specs.frames.inner.Read.{readInto}
-use Rattle.text.specs.frames.Answer.{reply, judged}
+use Rattle.text.specs.frames.Check.{text_verdict}
+use Rattle.text.specs.frames.inner.Read.{read_buffer}
+use Rattle.text.specs.frames.Answer.{reply, verdict_reply}
 use Rattle.text.specs.declared.frames.Answer.{Answer}
 use Rattle.text.specs.declared.frames.Answer.TheVariants.{Done, Refused}
 use Rattle.text.proofs.frames.Contents.{text-told, any-contents-length}
 use Rattle.text.proofs.frames.Reading.{read-fine}
 use Rattle.text.proofs.frames.Chains.{next-refused, next-on, done-fine, refused-verdict}
-use Rattle.image.specs.Check.{tableVerdict, imageVerdict}
+use Rattle.image.specs.Check.{table_verdict, image_verdict}
 
 -- an image's text of m frames that 1 to 3 let pass
 pub record GoodText (t : List ℕ) (m : ℕ) : Type 0 where
-  pub verdict : textVerdict 29831 t ≡ fine
-  pub count : m ≡ frameCount t
+  pub verdict : text_verdict 29831 t ≡ fine
+  pub count : m ≡ frame_count t
   pub some : 1 ≤ m
   pub most : m ≤ 1297
 
-pub good-text : (t : List ℕ) → textVerdict 29831 t ≡ fine → GoodText t (frameCount t)
+pub good-text : (t : List ℕ) → text_verdict 29831 t ≡ fine → GoodText t (frame_count t)
 good-text t v =
     let L = (text-told 29831 t v).length in
     let n : length t ≡ 0 → ⊥ = L.some in
@@ -35,21 +35,21 @@ good-text t v =
     some_or Prim.Native.Nat.zero h = absurd (h refl)
     some_or (Prim.Native.Nat.suc n) h = omega arith
 
-module _ (t : List ℕ) (a : Answer) (gives : reply a ≡ judged (textVerdict 29831 t) (frameCount t)) where
+module _ (t : List ℕ) (a : Answer) (gives : reply a ≡ verdict_reply (text_verdict 29831 t) (frame_count t)) where
   pub read-good : (m : ℕ) → a ≡ Done m → GoodText t m
   read-good m e =
-      let d = done-fine a (textVerdict 29831 t) (frameCount t) gives m e in
+      let d = done-fine a (text_verdict 29831 t) (frame_count t) gives m e in
       let g = good-text t d.0 in
       record { verdict = d.0; count = d.1; some = omega (arith, g.some, d.1); most = omega (arith, g.most, d.1) }
 
-  pub read-refused : (k i m : ℕ) → a ≡ Refused k i m → reply a ≡ judged (imageVerdict t) 0
-  unfolding imageVerdict
+  pub read-refused : (k i m : ℕ) → a ≡ Refused k i m → reply a ≡ verdict_reply (image_verdict t) 0
+  unfolding image_verdict
   read-refused k i m e =
-      let v : textVerdict 29831 t ≡ refused k i = (refused-verdict a (textVerdict 29831 t) (frameCount t) gives k i m e).0 in
-      gives ∙ ap (λ w. judged w (frameCount t)) v
-      ∙ sym (ap (λ w. judged w 0) (next-refused (textVerdict 29831 t) (λ _. tableVerdict (contents t)) k i v))
+      let v : text_verdict 29831 t ≡ refused k i = (refused-verdict a (text_verdict 29831 t) (frame_count t) gives k i m e).0 in
+      gives ∙ ap (λ w. verdict_reply w (frame_count t)) v
+      ∙ sym (ap (λ w. verdict_reply w 0) (next-refused (text_verdict 29831 t) (λ _. table_verdict (contents t)) k i v))
 
-module _ (t old table : List ℕ) (m : ℕ) (g : GoodText t m) (e : table ≡ readInto 29831 t old) where
+module _ (t old table : List ℕ) (m : ℕ) (g : GoodText t m) (e : table ≡ read_buffer 29831 t old) where
   pub contents-count : length (contents t) ≡ 10 * m
   contents-count = any-contents-length t ∙ ap (λ (n : ℕ). 10 * n) (sym g.count)
 
@@ -64,8 +64,9 @@ module _ (t old table : List ℕ) (m : ℕ) (g : GoodText t m) (e : table ≡ re
   pub front_length : 10 * m ≡ length (take (10 * m) table)
   front_length = sym (ap (λ (l : List ℕ). length l) front-contents ∙ contents-count)
 
-  pub read_done : (a : Answer) → reply a ≡ judged (tableVerdict (take (10 * m) table)) 0 → reply a ≡ judged (imageVerdict t) 0
-  unfolding imageVerdict
+  pub read_done : (a : Answer) → reply a ≡ verdict_reply (table_verdict (take (10 * m) table)) 0
+      → reply a ≡ verdict_reply (image_verdict t) 0
+  unfolding image_verdict
   read_done a r =
-      r ∙ ap (λ (l : List ℕ). judged (tableVerdict l) 0) front-contents
-      ∙ sym (ap (λ w. judged w 0) (next-on (textVerdict 29831 t) (λ _. tableVerdict (contents t)) g.verdict))
+      r ∙ ap (λ (l : List ℕ). verdict_reply (table_verdict l) 0) front-contents
+      ∙ sym (ap (λ w. verdict_reply w 0) (next-on (text_verdict 29831 t) (λ _. table_verdict (contents t)) g.verdict))

@@ -1,8 +1,8 @@
 // Refusals 11 to 13 of a decoded table.
 ghost use Rattle.std.specs.Prelude.{◌≡◌, ◌<◌};
 ghost use Rattle.text.specs.frames.Frame.{size};
-ghost use Rattle.text.specs.frames.Answer.{reply, judged};
-ghost use Rattle.image.specs.Check.{tableVerdict};
+ghost use Rattle.text.specs.frames.Answer.{reply, verdict_reply};
+ghost use Rattle.image.specs.Check.{table_verdict};
 
 use crate::image_faults::lowest_fault;
 use crate::positions::{bad_header, lowest_stray};
@@ -13,7 +13,7 @@ use text::frames::{Answer, refused};
 // 11 to 13. A table in which 12 and 13 find no frame is done with one pass; else 12 on any frame goes before 13.
 pub fn check_table(table: &[u8]) -> Answer
     requires { 0 < size table.now }
-    ensures { reply result ≡ judged (tableVerdict table.now) 0 }
+    ensures { reply result ≡ verdict_reply (table_verdict table.now) 0 }
 {
     if bad_header(table) {
         return refused(BAD_HEADER, 0);

@@ -3,7 +3,7 @@ ghost use Rattle.std.specs.Prelude.{◌≡◌, ◌-◌, ◌≤◌};
 ghost use Rattle.words.specs.lists.Numbers.{lowest};
 ghost use Rattle.text.specs.frames.Frame.{size};
 ghost use Rattle.image.specs.Decode.{labels_from, rows_from};
-ghost use Rattle.image_check.specs.image_faults.inner.FaultyFrames.{faulty};
+ghost use Rattle.image_check.specs.image_faults.inner.FaultyFrames.{is_faulty};
 
 use crate::image_fields::{bad_entry, bad_label, bad_row};
 use crate::image_strays::{stray_entry, stray_label, stray_row};
@@ -13,7 +13,7 @@ use text::frames::sizes::FRAME;
 // The lowest entry at fault, or the first label; frames are counted.
 fn lowest_entry(table: &[u8], end: usize) -> usize
     requires { (rows_from table.now ≤ size table.now) × (end ≡ labels_from table.now) }
-    ensures { result ≡ lowest (faulty table.now) 1 (end - 1) }
+    ensures { result ≡ lowest (is_faulty table.now) 1 (end - 1) }
 {
     let mut f: usize = 1;
     while f < end {
@@ -31,7 +31,7 @@ fn lowest_entry(table: &[u8], end: usize) -> usize
 // The lowest label at fault, or the first row.
 fn lowest_label(table: &[u8], first: usize, end: usize) -> usize
     requires { (end ≤ size table.now) × (first ≡ labels_from table.now) × (end ≡ rows_from table.now) }
-    ensures { result ≡ lowest (faulty table.now) first (end - first) }
+    ensures { result ≡ lowest (is_faulty table.now) first (end - first) }
 {
     let mut f = first;
     while f < end {
@@ -49,7 +49,7 @@ fn lowest_label(table: &[u8], first: usize, end: usize) -> usize
 // The lowest row at fault, or the number of frames.
 fn lowest_row(table: &[u8], first: usize, end: usize) -> usize
     requires { (end ≤ size table.now) × (first ≡ rows_from table.now) × (first ≤ end) }
-    ensures { result ≡ lowest (faulty table.now) first (end - first) }
+    ensures { result ≡ lowest (is_faulty table.now) first (end - first) }
 {
     let mut f = first;
     while f < end {
@@ -67,7 +67,7 @@ fn lowest_row(table: &[u8], first: usize, end: usize) -> usize
 // The lowest frame that 12 or 13 refuses, or the number of frames.
 pub fn lowest_fault(table: &[u8]) -> usize
     requires { rows_from table.now ≤ size table.now }
-    ensures { result ≡ lowest (faulty table.now) 0 (size table.now) }
+    ensures { result ≡ lowest (is_faulty table.now) 0 (size table.now) }
 {
     let labels = labels_from(table);
     let entry = lowest_entry(table, labels);

@@ -2,7 +2,7 @@
 ghost use Rattle.std.specs.Prelude.{◌≡◌, ◌+◌, ◌<◌};
 ghost use Rattle.text.specs.frames.Frame.{size};
 ghost use Rattle.image.specs.Decode.{labels_from, rows_from};
-ghost use Rattle.image.specs.Check.{entryPosition, labelPosition, rowPosition, strayFrame};
+ghost use Rattle.image.specs.Check.{entry_position, label_position, row_position, is_stray_frame};
 
 use image::layout::*;
 use image::{byte, label_byte, row_byte};
@@ -10,7 +10,7 @@ use image::{byte, label_byte, row_byte};
 // The frame of scheme h's entry has another kind or number.
 pub fn stray_entry(table: &[u8], h: usize) -> bool
     requires { h < size table.now }
-    ensures { result ≡ strayFrame table.now h (entryPosition h) }
+    ensures { result ≡ is_stray_frame table.now h (entry_position h) }
 {
     if byte(table, h, FRAME_KIND) != ENTRY {
         return true;
@@ -21,7 +21,7 @@ pub fn stray_entry(table: &[u8], h: usize) -> bool
 // The frame of label l has another kind or number.
 pub fn stray_label(table: &[u8], l: usize) -> bool
     requires { labels_from table.now + l < size table.now }
-    ensures { result ≡ strayFrame table.now (labels_from table.now + l) (labelPosition l) }
+    ensures { result ≡ is_stray_frame table.now (labels_from table.now + l) (label_position l) }
 {
     if label_byte(table, l, FRAME_KIND) != LABEL {
         return true;
@@ -32,7 +32,7 @@ pub fn stray_label(table: &[u8], l: usize) -> bool
 // The frame of row k has another kind, or the row leaves a label below that of the row before it.
 pub fn stray_row(table: &[u8], k: usize) -> bool
     requires { rows_from table.now + k < size table.now }
-    ensures { result ≡ strayFrame table.now (rows_from table.now + k) (rowPosition k) }
+    ensures { result ≡ is_stray_frame table.now (rows_from table.now + k) (row_position k) }
 {
     if row_byte(table, k, FRAME_KIND) != ROW {
         return true;

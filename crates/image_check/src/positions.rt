@@ -2,8 +2,8 @@
 ghost use Rattle.std.specs.Prelude.{◌≡◌, ◌<◌, ◌≤◌};
 ghost use Rattle.words.specs.lists.Numbers.{lowest};
 ghost use Rattle.text.specs.frames.Frame.{size};
-ghost use Rattle.image.specs.Check.{badHeader, position_of, stray};
-ghost use Rattle.image_check.specs.inner.CheckedFrames.{positionKind};
+ghost use Rattle.image.specs.Check.{is_bad_header, position_of, is_stray};
+ghost use Rattle.image_check.specs.inner.CheckedFrames.{position_kind};
 
 use crate::image_strays::{stray_entry, stray_label, stray_row};
 use image::layout::*;
@@ -13,7 +13,7 @@ use text::frames::sizes::FRAME;
 // 11
 pub fn bad_header(table: &[u8]) -> bool
     requires { 0 < size table.now }
-    ensures { result ≡ badHeader table.now }
+    ensures { result ≡ is_bad_header table.now }
 {
     if byte(table, 0, FRAME_KIND) != HEADER {
         return true;
@@ -33,7 +33,7 @@ pub fn bad_header(table: &[u8]) -> bool
 // The kind byte of frame f by its position.
 fn kind_at(table: &[u8], f: usize) -> u8
     requires { f < size table.now }
-    ensures { result ≡ positionKind (position_of table.now f) }
+    ensures { result ≡ position_kind (position_of table.now f) }
 {
     if f == 0 {
         return HEADER;
@@ -50,7 +50,7 @@ fn kind_at(table: &[u8], f: usize) -> u8
 // 12, of one frame
 fn stray_at(table: &[u8], f: usize) -> bool
     requires { f < size table.now }
-    ensures { result ≡ stray table.now f }
+    ensures { result ≡ is_stray table.now f }
 {
     let kind = kind_at(table, f);
     match kind {
@@ -64,7 +64,7 @@ fn stray_at(table: &[u8], f: usize) -> bool
 // The lowest of n frames that 12 refuses, or n.
 pub fn lowest_stray(table: &[u8], n: usize) -> usize
     requires { n ≤ size table.now }
-    ensures { result ≡ lowest (stray table.now) 0 n }
+    ensures { result ≡ lowest (is_stray table.now) 0 n }
 {
     let mut f: usize = 0;
     while f < n {

@@ -1,8 +1,8 @@
 // An image's text: read and checked, refusals 1 to 3 and 11 to 13.
 ghost use Rattle.std.specs.Prelude.{◌≡◌, ◌≤◌, length};
-ghost use Rattle.text.specs.frames.Answer.{reply, judged};
-ghost use Rattle.text.specs.frames.inner.Read.{readInto};
-ghost use Rattle.image.specs.Check.{imageVerdict};
+ghost use Rattle.text.specs.frames.Answer.{reply, verdict_reply};
+ghost use Rattle.text.specs.frames.inner.Read.{read_buffer};
+ghost use Rattle.image.specs.Check.{image_verdict};
 
 use crate::check::check_table;
 use text::frames::Answer;
@@ -13,8 +13,8 @@ use text::reading::read_text;
 // No entry point: the caller lends scratch space, as the image check below and a run do.
 pub fn read_image(text: &[u8], table: &mut [u8]) -> Answer
     requires { TABLE ≤ length table.old }
-    ensures result_value { reply result ≡ judged (imageVerdict text.now) 0 }
-    ensures table_after { table.new ≡ readInto IMAGE_TEXT text.now table.old }
+    ensures result_value { reply result ≡ verdict_reply (image_verdict text.now) 0 }
+    ensures table_after { table.new ≡ read_buffer IMAGE_TEXT text.now table.old }
 {
     let answer = read_text(text, IMAGE_TEXT, table);
     let Answer::Done(frames) = answer else {
@@ -26,7 +26,7 @@ pub fn read_image(text: &[u8], table: &mut [u8]) -> Answer
 
 // What the image check tries, and nothing else.
 pub fn check_image(text: &[u8]) -> Answer
-    ensures { reply result ≡ judged (imageVerdict text.now) 0 }
+    ensures { reply result ≡ verdict_reply (image_verdict text.now) 0 }
 {
     let mut table = [0u8; TABLE];
     read_image(text, &mut table)

@@ -8,74 +8,74 @@ use lib.ListN.{length}
 use Rattle.words.proofs.lists.Counts.{count-le}
 use Rattle.text.specs.frames.Frame.{contents}
 use Rattle.text.specs.frames.Verdict.{Verdict, fine}
-use Rattle.text.specs.frames.Answer.{success, BufferOutcome, bufferOn}
+use Rattle.text.specs.frames.Answer.{success, BufferOutcome, buffer_on}
 use Rattle.text.proofs.frames.Contents.{any-contents-length}
 use Rattle.text.proofs.frames.Texts.{text-length}
 use Rattle.text.proofs.frames.Lent.{lent-told, lent_fits}
-use Rattle.image.specs.Image.{Image, imageFrames, imageText}
-use Rattle.image.specs.Decode.{decoded}
-use Rattle.image.specs.Check.{imageVerdict}
+use Rattle.image.specs.Image.{Image, image_frames, image_text}
+use Rattle.image.specs.Decode.{decoded_image}
+use Rattle.image.specs.Check.{image_verdict}
 use Rattle.image.specs.inner.Sound.{SoundImage}
 use Rattle.image.proofs.Accepted.{CountedTable, counted, entries-count, labels-count, rows-count, image-sound, image-table}
 use Rattle.image.proofs.Written.{frames-length, image-frames}
-use Rattle.covering.specs.Matched.{uneven}
+use Rattle.covering.specs.Matched.{is_uneven}
 use Rattle.covering.proofs.Hits.{one-row}
 use Rattle.grouping.specs.Rule.{Grouping, Meets, groups}
-use Rattle.grouping.specs.Classes.{isFirst, grouping}
+use Rattle.grouping.specs.Classes.{is_first, grouping}
 use Rattle.grouping.proofs.Rounds.{ClassRound, group-round}
 use Rattle.grouping.proofs.Coarsest.{groups-counted, even-fewest}
-use Rattle.minimising.specs.group_numbers.Smaller.{smaller}
+use Rattle.minimising.specs.group_numbers.Smaller.{smaller_image}
 use Rattle.minimising.proofs.group_numbers.Numbering as numbered
-use Rattle.minimising.specs.Entry.{minimiseVerdict, minimise}
+use Rattle.minimising.specs.Entry.{minimise_verdict, minimise}
 use Rattle.joined_again.proofs.Again.{smaller-sound, AllowedImage, minimise-allowed}
 
-module _ (i : Image) (S : SoundImage i) (even : uneven i ≡ false) where
+module _ (i : Image) (S : SoundImage i) (even : is_uneven i ≡ false) where
   rounds : ClassRound i (grouping i)
   rounds = group-round i S (one-row i S even)
 
-  pub fewest-labels : (g : Grouping) → Meets i g → length (smaller i).labels ≤ groups g (length i.labels)
+  pub fewest-labels : (g : Grouping) → Meets i g → length (smaller_image i).labels ≤ groups g (length i.labels)
   fewest-labels g m =
       omega (arith, numbered.labels-count i S (grouping i) rounds, groups-counted i S (one-row i S even), even-fewest i S even g m)
 
-  pub text-shorter : length (imageText (smaller i)) ≤ 23 * length (imageFrames i)
-  unfolding imageText
+  pub text-shorter : length (image_text (smaller_image i)) ≤ 23 * length (image_frames i)
+  unfolding image_text
   text-shorter = omega (
     arith,
-    text-length (imageFrames (smaller i)) (image-frames (smaller i) (smaller-sound i S even)),
-    frames-length (smaller i),
+    text-length (image_frames (smaller_image i)) (image-frames (smaller_image i) (smaller-sound i S even)),
+    frames-length (smaller_image i),
     frames-length i,
     numbered.entries-count i S (grouping i) rounds,
     numbered.labels-count i S (grouping i) rounds,
-    count-le (isFirst (grouping i)) 0 (length i.labels),
+    count-le (is_first (grouping i)) 0 (length i.labels),
     numbered.rows-fewer i S (grouping i) rounds,
   )
 
 -- an accepted text has a frame for each part of its image
-frames-all : (t : List ℕ) → imageVerdict t ≡ fine → 23 * length (imageFrames (decoded (contents t))) ≤ length t
+frames-all : (t : List ℕ) → image_verdict t ≡ fine → 23 * length (image_frames (decoded_image (contents t))) ≤ length t
 frames-all t e =
     let b : List ℕ = contents t in
     let c : CountedTable b = counted b (image-table t e) in
-    omega (arith, frames-length (decoded b), entries-count b, labels-count b, rows-count b, c.all, any-contents-length t)
+    omega (arith, frames-length (decoded_image b), entries-count b, labels-count b, rows-count b, c.all, any-contents-length t)
 
 -- where nothing but 16 can refuse it
-module _ (t : List ℕ) (ok : minimiseVerdict t ≡ fine) where
+module _ (t : List ℕ) (ok : minimise_verdict t ≡ fine) where
   abbrev small : List ℕ
-  small = imageText (smaller (decoded (contents t)))
+  small = image_text (smaller_image (decoded_image (contents t)))
 
   pub never-longer : length small ≤ length t
   never-longer =
       let a : AllowedImage t = minimise-allowed t ok in
-      omega (arith, text-shorter (decoded (contents t)) (image-sound t a.accepted) a.even, frames-all t a.accepted)
+      omega (arith, text-shorter (decoded_image (contents t)) (image-sound t a.accepted) a.even, frames-all t a.accepted)
 
   -- room for the given text is enough
   pub room-enough : (room : List ℕ) → length t ≤ length room → (minimise t room).reply ≡ success (length small / 1)
   unfolding minimise
   room-enough room h =
-      ap (λ (v : Verdict). (bufferOn v 1 (λ _. small) room).reply) ok
+      ap (λ (v : Verdict). (buffer_on v 1 (λ _. small) room).reply) ok
       ∙ ap (λ (x : BufferOutcome). x.reply) (lent_fits 1 (λ _. small) room (omega (arith, never-longer)))
 
 pub minimise-shorter : (t room : List ℕ) (m : ℕ) → (minimise t room).reply ≡ success m → m ≤ length t
 unfolding minimise
 minimise-shorter t room m e =
-    let s = lent-told (minimiseVerdict t) 1 (λ _. imageText (smaller (decoded (contents t)))) room m e in
+    let s = lent-told (minimise_verdict t) 1 (λ _. image_text (smaller_image (decoded_image (contents t)))) room m e in
     omega (arith, s.count, never-longer t s.accepted)

@@ -9,29 +9,29 @@ use lib.ListN.{length, take}
 use Rattle.words.specs.lists.Sequences.{over}
 use Rattle.text.specs.frames.Frame.{contents}
 use Rattle.text.specs.frames.Verdict.{Verdict, fine, next, when}
-use Rattle.text.specs.frames.Answer.{success, bufferOn}
+use Rattle.text.specs.frames.Answer.{success, buffer_on}
 use Rattle.text.proofs.frames.Lent.{lent-told, lent_fits, front}
-use Rattle.image.specs.Image.{Image, imageText}
-use Rattle.image.specs.Decode.{decoded}
-use Rattle.image.specs.Check.{imageVerdict}
+use Rattle.image.specs.Image.{Image, image_text}
+use Rattle.image.specs.Decode.{decoded_image}
+use Rattle.image.specs.Check.{image_verdict}
 use Rattle.image.specs.inner.Sound.{SoundImage}
 use Rattle.image.proofs.Accepted.{image-sound}
-use Rattle.covering.specs.Matched.{uneven}
+use Rattle.covering.specs.Matched.{is_uneven}
 use Rattle.grouping.specs.Rule.{Grouping, Meets, groups}
 use Rattle.grouping.specs.Classes.{class_of, grouping}
 use Rattle.grouping.proofs.Coarsest.{even-meets, even-fewest}
-use Rattle.minimising.specs.group_numbers.Smaller.{smaller}
-use Rattle.minimising.specs.Entry.{minimiseVerdict, minimise}
+use Rattle.minimising.specs.group_numbers.Smaller.{smaller_image}
+use Rattle.minimising.specs.Entry.{minimise_verdict, minimise}
 use Rattle.joined_again.proofs.Again.{smaller-even, smaller-again, smaller-passes, smaller-decoded, AllowedImage, minimise-allowed}
 
-module _ (t : List ℕ) (ok : minimiseVerdict t ≡ fine) where
+module _ (t : List ℕ) (ok : minimise_verdict t ≡ fine) where
   abbrev image : Image
-  image = decoded (contents t)
+  image = decoded_image (contents t)
 
   allowed : AllowedImage t
   allowed = minimise-allowed t ok
 
-  sound : SoundImage (decoded (contents t))
+  sound : SoundImage (decoded_image (contents t))
   sound = image-sound t allowed.accepted
 
   pub text-meets : Meets image (class_of (grouping image))
@@ -41,33 +41,33 @@ module _ (t : List ℕ) (ok : minimiseVerdict t ≡ fine) where
       → groups (class_of (grouping image)) (length image.labels) ≤ groups g (length image.labels)
   text-fewest = even-fewest image sound allowed.even
 
-  pub text-passes : imageVerdict (imageText (smaller image)) ≡ fine
+  pub text-passes : image_verdict (image_text (smaller_image image)) ≡ fine
   text-passes = smaller-passes image sound allowed.even
 
 -- ---- given back
-text-again : (i : Image) (S : SoundImage i) (even : uneven i ≡ false) (old : List ℕ) → length (imageText (smaller i)) ≤ length old
-    → minimise (imageText (smaller i)) old ≡ record {
-      reply = success (length (imageText (smaller i)) / 1);
-      buffer = over (imageText (smaller i)) old;
+text-again : (i : Image) (S : SoundImage i) (even : is_uneven i ≡ false) (old : List ℕ) → length (image_text (smaller_image i)) ≤ length old
+    → minimise (image_text (smaller_image i)) old ≡ record {
+      reply = success (length (image_text (smaller_image i)) / 1);
+      buffer = over (image_text (smaller_image i)) old;
     }
-unfolding minimise minimiseVerdict
+unfolding minimise minimise_verdict
 text-again i S even old h =
-    ap (λ (v : Verdict). bufferOn (next v λ _. when 23 (uneven (decoded (contents (imageText (smaller i)))))) 1
-    (λ _. imageText (smaller (decoded (contents (imageText (smaller i)))))) old) (smaller-passes i S even)
-    ∙ ap (λ (j : Image). bufferOn (when 23 (uneven j)) 1 (λ _. imageText (smaller j)) old) (smaller-decoded i S even)
-    ∙ ap₂ (λ (t : Bool) (j : Image). bufferOn (when 23 t) 1 (λ _. imageText j) old) (smaller-even i S even) (smaller-again i S even)
-    ∙ lent_fits 1 (λ _. imageText (smaller i)) old h
+    ap (λ (v : Verdict). buffer_on (next v λ _. when 23 (is_uneven (decoded_image (contents (image_text (smaller_image i)))))) 1
+    (λ _. image_text (smaller_image (decoded_image (contents (image_text (smaller_image i)))))) old) (smaller-passes i S even)
+    ∙ ap (λ (j : Image). buffer_on (when 23 (is_uneven j)) 1 (λ _. image_text (smaller_image j)) old) (smaller-decoded i S even)
+    ∙ ap₂ (λ (t : Bool) (j : Image). buffer_on (when 23 t) 1 (λ _. image_text j) old) (smaller-even i S even) (smaller-again i S even)
+    ∙ lent_fits 1 (λ _. image_text (smaller_image i)) old h
 
 pub minimise-again : (t old : List ℕ) (n : ℕ) → (minimise t old).reply ≡ success n → (again : List ℕ) → n ≤ length again
     → let u = take n (minimise t old).buffer in minimise u again ≡ record { reply = success n; buffer = over u again }
 unfolding minimise
 minimise-again t old n e again h =
-    let x : List ℕ = imageText (smaller (decoded (contents t))) in
-    let s = lent-told (minimiseVerdict t) 1 (λ _. imageText (smaller (decoded (contents t)))) old n e in
+    let x : List ℕ = image_text (smaller_image (decoded_image (contents t))) in
+    let s = lent-told (minimise_verdict t) 1 (λ _. image_text (smaller_image (decoded_image (contents t)))) old n e in
     let a : AllowedImage t = minimise-allowed t s.accepted in
     let m : n ≡ length x = omega (arith, s.count) in
     let u : take n (minimise t old).buffer ≡ x = ap (take n) s.buffer ∙ front n x old m in
     ap (λ (y : List ℕ). minimise y again) u
-    ∙ text-again (decoded (contents t)) (image-sound t a.accepted) a.even again (omega arith)
+    ∙ text-again (decoded_image (contents t)) (image-sound t a.accepted) a.even again (omega arith)
     ∙ ap₂ (λ (k : ℕ) (y : List ℕ). record { reply = success k; buffer = over y again })
     (let q : length x / 1 ≡ n = omega arith in q) (sym u)

@@ -12,19 +12,19 @@ use Rattle.words.proofs.lists.Searches.{any_false, any_none}
 use Rattle.words.proofs.lists.Ranges.{length-map-range, map-count}
 use Rattle.words.proofs.lists.Joins.{all-at, all_of, all_map, all-concat, all_filter, all-range}
 use Rattle.words.specs.lists.Sequences.{All}
-use Rattle.text.specs.frames.Frame.{contents, size, field, tenAt, framesText, frameText, text_of}
+use Rattle.text.specs.frames.Frame.{contents, size, field, ten_bytes_at, frames_text, frame_text, text_of}
 use Rattle.text.specs.frames.Verdict.{Verdict, fine, refused, next}
-use Rattle.text.specs.frames.Check.{textVerdict}
+use Rattle.text.specs.frames.Check.{text_verdict}
 use Rattle.text.proofs.frames.Frames.{Frame, frame-length}
 use Rattle.text.proofs.frames.Texts.{text-count, text-fine, text-contents, contents-length, contents-at}
-use Rattle.text.proofs.frames.Contents.{text-back, any-contents-length, ten-frames, textOf-contents}
+use Rattle.text.proofs.frames.Contents.{text-back, any-contents-length, ten-frames, text_of-contents}
 use Rattle.charts.specs.Chart.{Chart}
-use Rattle.charts.specs.Check.{chartVerdict}
-use Rattle.charts.specs.Entry.{readVerdict}
+use Rattle.charts.specs.Check.{chart_verdict}
+use Rattle.charts.specs.Entry.{read_verdict}
 use Rattle.charts.proofs.Accepted.{Accepted, accepted, accepted-bytes, read-text}
 use Rattle.text.proofs.frames.Verdicts.{next-rest}
-use Rattle.little_charts.specs.Little.{littleNode, nodes, lists_of, chartOf, passes, littleCharts, littleText}
-use Rattle.little_charts.specs.Promises.{before, littleTotal, Wanted, AllWanted, NumberedText, NoneMissing, InOrder, EachOnce}
+use Rattle.little_charts.specs.Little.{is_little_node, nodes, lists_of, chart_of, is_fine, little_charts, little_text}
+use Rattle.little_charts.specs.Promises.{is_before, little_total, Wanted, AllWanted, NumberedText, NoneMissing, InOrder, EachOnce}
 use Rattle.little_charts.proofs.Members.{In, here, in_map, in-concat, in-filter, in_all, all_in, Place, in_place}
 use Rattle.little_charts.proofs.Order.{before_self, Ascends, ascends-at, ascends-filter, ascends-as, ascends-map, lists-up}
 use Rattle.little_charts.proofs.Nodes.{Fine, NodesFine, nodes-fine, record-in}
@@ -53,31 +53,32 @@ made-listed rs (r ∷ fs) a = in-concat (λ q. map (λ gs. q ∷ gs) (lists_of r
 
 -- ---- the text of a list of records
 module _ (fs : List (List ℕ)) (F : All Frame fs) where
-  pub chart-contents : contents (framesText fs) ≡ chartOf fs
+  pub chart-contents : contents (frames_text fs) ≡ chart_of fs
   chart-contents = text-contents fs F
 
-  pub chart-ten : (v : ℕ) → v < length fs → tenAt (chartOf fs) v ≡ get_or fs v []
+  pub chart-ten : (v : ℕ) → v < length fs → ten_bytes_at (chart_of fs) v ≡ get_or fs v []
   chart-ten v l =
       let r : List ℕ = get_or fs v [] in
       let f : Frame r = all-at Frame [] fs F v l in
-      ap (λ (c : Chart). tenAt c v) (sym chart-contents)
-      ∙ map-count (field (contents (framesText fs)) v) 0 r 0 10 (sym f.ten)
-      (λ k m. ap (field (contents (framesText fs)) v) (omega arith) ∙ contents-at fs F v k l (omega (arith, f.ten)))
+      ap (λ (c : Chart). ten_bytes_at c v) (sym chart-contents)
+      ∙ map-count (field (contents (frames_text fs)) v) 0 r 0 10 (sym f.ten)
+      (λ k m. ap (field (contents (frames_text fs)) v) (omega arith) ∙ contents-at fs F v k l (omega (arith, f.ten)))
 
-  pub chart-size : size (chartOf fs) ≡ length fs
+  pub chart-size : size (chart_of fs) ≡ length fs
   chart-size = ap size (sym chart-contents) ∙ omega (arith, contents-length fs F)
 
-  pub chart-text : text_of (chartOf fs) ≡ framesText fs
+  pub chart-text : text_of (chart_of fs) ≡ frames_text fs
   unfolding text_of
-  chart-text = ap framesText (map-count (tenAt (chartOf fs)) [] fs 0 (size (chartOf fs)) chart-size
-      (λ v l. ap (tenAt (chartOf fs)) (omega arith) ∙ chart-ten v l))
+  chart-text = ap frames_text (map-count (ten_bytes_at (chart_of fs)) [] fs 0 (size (chart_of fs)) chart-size
+      (λ v l. ap (ten_bytes_at (chart_of fs)) (omega arith) ∙ chart-ten v l))
 
 -- the records of a chart, joined
-whole : (c : Chart) → ((k : ℕ) → get_or c k 0 < 256) → length c ≡ 10 * size c → chartOf (map (tenAt c) (range 0 (size c))) ≡ c
+whole : (c : Chart) → ((k : ℕ) → get_or c k 0 < 256) → length c ≡ 10 * size c → chart_of (map (ten_bytes_at c) (range 0 (size c))) ≡ c
 unfolding text_of
-whole c bytes e = sym (text-contents (map (tenAt c) (range 0 (size c))) (ten-frames c bytes)) ∙ textOf-contents c bytes (omega arith)
+whole c bytes e =
+    sym (text-contents (map (ten_bytes_at c) (range 0 (size c))) (ten-frames c bytes)) ∙ text_of-contents c bytes (omega arith)
 
-pub passes-fine : (v : Verdict) → passes v ≡ true → v ≡ fine
+pub passes-fine : (v : Verdict) → is_fine v ≡ true → v ≡ fine
 passes-fine fine e = refl
 passes-fine (refused k i) e = no_both false e refl
 
@@ -91,28 +92,28 @@ module _ (n : ℕ) (a : 2 ≤ n) (b : n ≤ 4) where
   pub made-frames : (fs : List (List ℕ)) → MadeOf (nodes n) n fs → All Frame fs
   made-frames fs d = all_of Fine Frame (λ r q. q.frame) fs (made-fine fs d)
 
-  made-text : (fs : List (List ℕ)) → MadeOf (nodes n) n fs → text_of (chartOf fs) ≡ framesText fs
+  made-text : (fs : List (List ℕ)) → MadeOf (nodes n) n fs → text_of (chart_of fs) ≡ frames_text fs
   made-text fs d = chart-text fs (made-frames fs d)
 
   -- ---- in order
-  charts-up : Ascends text_of (littleCharts n)
-  unfolding littleCharts
-  charts-up = ascends-filter text_of (λ c. passes (chartVerdict c)) (map chartOf (lists_of (nodes n) n))
-      (ascends-map chartOf text_of (lists_of (nodes n) n)
-      (ascends-as framesText (λ fs. text_of (chartOf fs)) (lists_of (nodes n) n)
-      (all_of (MadeOf (nodes n) n) (λ fs. framesText fs ≡ text_of (chartOf fs)) (λ fs d. sym (made-text fs d)) (lists_of (nodes n) n)
+  charts-up : Ascends text_of (little_charts n)
+  unfolding little_charts
+  charts-up = ascends-filter text_of (λ c. is_fine (chart_verdict c)) (map chart_of (lists_of (nodes n) n))
+      (ascends-map chart_of text_of (lists_of (nodes n) n)
+      (ascends-as frames_text (λ fs. text_of (chart_of fs)) (lists_of (nodes n) n)
+      (all_of (MadeOf (nodes n) n) (λ fs. frames_text fs ≡ text_of (chart_of fs)) (λ fs d. sym (made-text fs d)) (lists_of (nodes n) n)
       (lists-made (nodes n) n))
-      (lists-up (nodes n) (all_of Fine (λ r. length (frameText r) ≡ 23) (λ r q. frame-length r q.frame) (nodes n) fine-nodes.each)
+      (lists-up (nodes n) (all_of Fine (λ r. length (frame_text r) ≡ 23) (λ r q. frame-length r q.frame) (nodes n) fine-nodes.each)
       fine-nodes.up n)))
 
-  order : (i j : ℕ) → i < j → j < littleTotal n → before (littleText n i) (littleText n j) ≡ true
-  order i j l m = ascends-at text_of [] (littleCharts n) charts-up i j l m
+  order : (i j : ℕ) → i < j → j < little_total n → is_before (little_text n i) (little_text n j) ≡ true
+  order i j l m = ascends-at text_of [] (little_charts n) charts-up i j l m
 
-  apart : (i j : ℕ) → i < j → j < littleTotal n → littleText n i ≡ littleText n j → ⊥
-  apart i j l m e = no_both (before (littleText n i) (littleText n j)) (order i j l m)
-      (ap (λ (t : List ℕ). before t (littleText n j)) e ∙ before_self (littleText n j))
+  apart : (i j : ℕ) → i < j → j < little_total n → little_text n i ≡ little_text n j → ⊥
+  apart i j l m e = no_both (is_before (little_text n i) (little_text n j)) (order i j l m)
+      (ap (λ (t : List ℕ). is_before t (little_text n j)) e ∙ before_self (little_text n j))
 
-  once : (i j : ℕ) → i < littleTotal n → j < littleTotal n → littleText n i ≡ littleText n j → i ≡ j
+  once : (i j : ℕ) → i < little_total n → j < little_total n → little_text n i ≡ little_text n j → i ≡ j
   once i j l m e = go (dec_lt i j) (dec_lt j i)
     where
       go : Dec (i < j) → Dec (j < i) → i ≡ j
@@ -124,67 +125,67 @@ module _ (n : ℕ) (a : 2 ≤ n) (b : n ≤ 4) where
   record Kept (c : Chart) : Type 0 where
     frames : List (List ℕ)
     made : MadeOf (nodes n) n frames
-    is : chartOf frames ≡ c
+    is : chart_of frames ≡ c
 
-  all-kept : All (λ c. Kept c × (passes (chartVerdict c) ≡ true)) (littleCharts n)
-  unfolding littleCharts
-  all-kept = all_filter Kept (λ c. passes (chartVerdict c)) (map chartOf (lists_of (nodes n) n))
-      (all_map Kept chartOf (lists_of (nodes n) n)
-      (all_of (MadeOf (nodes n) n) (λ fs. Kept (chartOf fs)) (λ fs d. record { frames = fs; made = d; is = refl }) (lists_of (nodes n) n)
+  all-kept : All (λ c. Kept c × (is_fine (chart_verdict c) ≡ true)) (little_charts n)
+  unfolding little_charts
+  all-kept = all_filter Kept (λ c. is_fine (chart_verdict c)) (map chart_of (lists_of (nodes n) n))
+      (all_map Kept chart_of (lists_of (nodes n) n)
+      (all_of (MadeOf (nodes n) n) (λ fs. Kept (chart_of fs)) (λ fs d. record { frames = fs; made = d; is = refl }) (lists_of (nodes n) n)
       (lists-made (nodes n) n)))
 
   -- every node is of the form
-  pub made-formed : (fs : List (List ℕ)) → MadeOf (nodes n) n fs → (v : ℕ) → v < n → littleNode (chartOf fs) v ≡ true
+  pub made-formed : (fs : List (List ℕ)) → MadeOf (nodes n) n fs → (v : ℕ) → v < n → is_little_node (chart_of fs) v ≡ true
   made-formed fs d v l =
       let m : v < length fs = omega (arith, d.count) in
-      ap (λ (x : List ℕ). littleNode x 0) (chart-ten fs (made-frames fs d) v m) ∙ (all-at Fine [] fs (made-fine fs d) v m).formed
+      ap (λ (x : List ℕ). is_little_node x 0) (chart-ten fs (made-frames fs d) v m) ∙ (all-at Fine [] fs (made-fine fs d) v m).formed
 
-  wanted-text : (fs : List (List ℕ)) → MadeOf (nodes n) n fs → chartVerdict (chartOf fs) ≡ fine → Wanted n (framesText fs)
-  unfolding readVerdict
+  wanted-text : (fs : List (List ℕ)) → MadeOf (nodes n) n fs → chart_verdict (chart_of fs) ≡ fine → Wanted n (frames_text fs)
+  unfolding read_verdict
   wanted-text fs d v =
       let F : All Frame fs = made-frames fs d in
-      let c : Chart = contents (framesText fs) in
-      let e : c ≡ chartOf fs = chart-contents fs F in
+      let c : Chart = contents (frames_text fs) in
+      let e : c ≡ chart_of fs = chart-contents fs F in
       record {
-        accepted = ap (λ (w : Verdict). next w λ _. chartVerdict c)
-            (text-fine fs F 5888 (omega (arith, d.count)) (omega (arith, d.count))) ∙ ap chartVerdict e ∙ v;
+        accepted = ap (λ (w : Verdict). next w λ _. chart_verdict c)
+            (text-fine fs F 5888 (omega (arith, d.count)) (omega (arith, d.count))) ∙ ap chart_verdict e ∙ v;
         frames = text-count fs F ∙ d.count;
-        formed = ap not (any_none (λ v. not (littleNode c v)) 0 (size c) (λ v l. ap (λ (x : Chart). not (littleNode x (0 + v))) e
+        formed = ap not (any_none (λ v. not (is_little_node c v)) 0 (size c) (λ v l. ap (λ (x : Chart). not (is_little_node x (0 + v))) e
             ∙ ap not (made-formed fs d (0 + v) (omega (arith, contents-length fs F, d.count)))));
       }
 
-  wanted : (k : ℕ) → k < littleTotal n → Wanted n (littleText n k) × (text_of (contents (littleText n k)) ≡ littleText n k)
+  wanted : (k : ℕ) → k < little_total n → Wanted n (little_text n k) × (text_of (contents (little_text n k)) ≡ little_text n k)
   wanted k l =
-      let c : Chart = get_or (littleCharts n) k [] in
-      let q = all-at (λ c. Kept c × (passes (chartVerdict c) ≡ true)) [] (littleCharts n) all-kept k l in
+      let c : Chart = get_or (little_charts n) k [] in
+      let q = all-at (λ c. Kept c × (is_fine (chart_verdict c) ≡ true)) [] (little_charts n) all-kept k l in
       let d : MadeOf (nodes n) n q.0.frames = q.0.made in
-      let e : framesText q.0.frames ≡ text_of c = sym (made-text q.0.frames d) ∙ ap text_of q.0.is in (
-        subst (Wanted n) e (wanted-text q.0.frames d (ap chartVerdict q.0.is ∙ passes-fine (chartVerdict c) q.1)),
+      let e : frames_text q.0.frames ≡ text_of c = sym (made-text q.0.frames d) ∙ ap text_of q.0.is in (
+        subst (Wanted n) e (wanted-text q.0.frames d (ap chart_verdict q.0.is ∙ passes-fine (chart_verdict c) q.1)),
         ap text_of (ap contents (sym e) ∙ chart-contents q.0.frames (made-frames q.0.frames d) ∙ q.0.is),
       )
 
   -- ---- none is missing
   listed : (t : List ℕ) → Wanted n t → NumberedText n t
-  unfolding littleCharts readVerdict
+  unfolding little_charts read_verdict
   listed t w =
       let c : Chart = contents t in
       let A : Accepted c = accepted t w.accepted in
       let s : size c ≡ n = omega (arith, any-contents-length t, w.frames) in
-      let formed : (v : ℕ) → v < size c → littleNode c v ≡ true = λ v l.
-      not-false (littleNode c v)
-      (any_false (λ v. not (littleNode c v)) 0 (size c) (not-true (any (λ v. not (littleNode c v)) 0 (size c)) w.formed) v
+      let formed : (v : ℕ) → v < size c → is_little_node c v ≡ true = λ v l.
+      not-false (is_little_node c v)
+      (any_false (λ v. not (is_little_node c v)) 0 (size c) (not-true (any (λ v. not (is_little_node c v)) 0 (size c)) w.formed) v
       (omega arith) (omega arith)) in
-      let fs : List (List ℕ) = map (tenAt c) (range 0 (size c)) in
-      let each : All (λ r. In r (nodes (size c))) fs = all_map (λ r. In r (nodes (size c))) (tenAt c) (range 0 (size c))
-      (all-range (λ v. In (tenAt c v) (nodes (size c))) 0 (size c) (λ v l. record-in c A.sound formed (0 + v) (omega arith))) in
-      let m : length fs ≡ size c = length-map-range (tenAt c) 0 (size c) in
+      let fs : List (List ℕ) = map (ten_bytes_at c) (range 0 (size c)) in
+      let each : All (λ r. In r (nodes (size c))) fs = all_map (λ r. In r (nodes (size c))) (ten_bytes_at c) (range 0 (size c))
+      (all-range (λ v. In (ten_bytes_at c v) (nodes (size c))) 0 (size c) (λ v l. record-in c A.sound formed (0 + v) (omega arith))) in
+      let m : length fs ≡ size c = length-map-range (ten_bytes_at c) 0 (size c) in
       let i : In fs (lists_of (nodes n) n) = subst (λ (k : ℕ). In fs (lists_of (nodes k) k)) s
       (subst (λ (k : ℕ). In fs (lists_of (nodes (size c)) k)) m (made-listed (nodes (size c)) fs each)) in
-      let is : chartOf fs ≡ c = whole c (accepted-bytes t w.accepted) A.whole in
-      let p : passes (chartVerdict c) ≡ true = ap passes (next-rest (textVerdict 5888 t) (λ _. chartVerdict c) w.accepted) in
-      let j : In c (littleCharts n) = in-filter (λ c. passes (chartVerdict c)) c (map chartOf (lists_of (nodes n) n)) p
-      (subst (λ (x : Chart). In x (map chartOf (lists_of (nodes n) n))) is (in_map chartOf fs (lists_of (nodes n) n) i)) in
-      let r : Place [] c (littleCharts n) = in_place [] c (littleCharts n) j in
+      let is : chart_of fs ≡ c = whole c (accepted-bytes t w.accepted) A.whole in
+      let p : is_fine (chart_verdict c) ≡ true = ap is_fine (next-rest (text_verdict 5888 t) (λ _. chart_verdict c) w.accepted) in
+      let j : In c (little_charts n) = in-filter (λ c. is_fine (chart_verdict c)) c (map chart_of (lists_of (nodes n) n)) p
+      (subst (λ (x : Chart). In x (map chart_of (lists_of (nodes n) n))) is (in_map chart_of fs (lists_of (nodes n) n) i)) in
+      let r : Place [] c (little_charts n) = in_place [] c (little_charts n) j in
       record { number = r.place; low = r.low; text = ap text_of r.holds ∙ text-back 5888 t (read-text t w.accepted) }
 
 pub all_wanted : AllWanted

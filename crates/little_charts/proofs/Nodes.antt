@@ -10,30 +10,30 @@ use lib.Dec.{leb, ltb, eqb}
 use lib.ListN.{length}
 use borrow.Author.Tests.{eqb-true, eq-eqb, leb-true, leb-false}
 use Rattle.words.specs.lists.Numbers.{range}
-use Rattle.words.specs.lists.Sequences.{some, concatMap, All}
+use Rattle.words.specs.lists.Sequences.{some, concat_map, All}
 use Rattle.words.proofs.lists.Tests.{no_both, or_l, or_r, and_l, and_r, not-false, not-true, or_cases}
 use Rattle.words.proofs.lists.Searches.{any_false, highest-le, some-cons}
 use Rattle.words.proofs.lists.Joins.{all_of}
-use Rattle.text.specs.digits.Digit.{charOf}
-use Rattle.text.specs.frames.Frame.{size, field, tenAt, total, frameText}
+use Rattle.text.specs.digits.Digit.{char_of}
+use Rattle.text.specs.frames.Frame.{size, field, ten_bytes_at, total, frame_text}
 use Rattle.text.proofs.frames.Frames.{Frame, frame-by}
 use Rattle.charts.specs.Chart.{Chart, kind, scheme, argument, next0, next1, result, mask, is, schemes}
 use Rattle.charts.specs.Layout.{kind_of}
-use Rattle.charts.specs.Check.{filledFrom, badUse, badField}
+use Rattle.charts.specs.Check.{is_filled_from, has_bad_use, has_bad_field}
 use Rattle.charts.proofs.Accepted.{SoundChart}
 use Rattle.charts.proofs.Nodes.{arc0, arc1, calls}
-use Rattle.little_charts.specs.Little.{littleNode, beginNode, endNode, operationNode, conditionNode, nodes}
-use Rattle.little_charts.specs.Promises.{before}
+use Rattle.little_charts.specs.Little.{is_little_node, begin_node, end_node, operation_node, condition_node, nodes}
+use Rattle.little_charts.specs.Promises.{is_before}
 use Rattle.little_charts.proofs.Members.{In, here, there, in_left, in_right, in_map, in-concat, in-range}
 use Rattle.little_charts.proofs.Order.{Ascends}
 
 -- ---- computed for 2, 3 and 4 frames: ten bytes each, of the form, in order
-abbrev goodRecord : List ℕ → Bool
-goodRecord r = eqb (length r) 10 && not (some (leb 256) r) && littleNode r 0
+abbrev is_good_record : List ℕ → Bool
+is_good_record r = eqb (length r) 10 && not (some (leb 256) r) && is_little_node r 0
 
-unfoldable pub rising : List (List ℕ) → Bool
-rising [] = true
-rising (x ∷ xs) = not (some (λ y. not (before (frameText x) (frameText y))) xs) && rising xs
+unfoldable pub is_rising : List (List ℕ) → Bool
+is_rising [] = true
+is_rising (x ∷ xs) = not (some (λ y. not (is_before (frame_text x) (frame_text y))) xs) && is_rising xs
 
 none-all : {A : Type 0} (p : A → Bool) (xs : List A) → some p xs ≡ false → All (λ x. p x ≡ false) xs
 none-all p [] e = tt
@@ -41,26 +41,26 @@ none-all p (x ∷ xs) e =
     let q : (p x || some p xs) ≡ false = sym (some-cons p x xs) ∙ e in
     (or_l (p x) (some p xs) q, none-all p xs (or_r (p x) (some p xs) q))
 
-rising-up : (xs : List (List ℕ)) → rising xs ≡ true → Ascends frameText xs
-unfolding rising
+rising-up : (xs : List (List ℕ)) → is_rising xs ≡ true → Ascends frame_text xs
+unfolding is_rising
 rising-up [] e = tt
 rising-up (x ∷ xs) e =
-    let bad : List ℕ → Bool = λ y. not (before (frameText x) (frameText y)) in (
-      all_of (λ y. bad y ≡ false) (λ y. before (frameText x) (frameText y) ≡ true)
-          (λ y q. not-false (before (frameText x) (frameText y)) q) xs
-          (none-all bad xs (not-true (some bad xs) (and_l (not (some bad xs)) (rising xs) e))),
-      rising-up xs (and_r (not (some bad xs)) (rising xs) e),
+    let bad : List ℕ → Bool = λ y. not (is_before (frame_text x) (frame_text y)) in (
+      all_of (λ y. bad y ≡ false) (λ y. is_before (frame_text x) (frame_text y) ≡ true)
+          (λ y q. not-false (is_before (frame_text x) (frame_text y)) q) xs
+          (none-all bad xs (not-true (some bad xs) (and_l (not (some bad xs)) (is_rising xs) e))),
+      rising-up xs (and_r (not (some bad xs)) (is_rising xs) e),
     )
 
 pub record Fine (r : List ℕ) : Type 0 where
   pub frame : Frame r
-  pub formed : littleNode r 0 ≡ true
+  pub formed : is_little_node r 0 ≡ true
 
-good-fine : (r : List ℕ) → goodRecord r ≡ true → Fine r
+good-fine : (r : List ℕ) → is_good_record r ≡ true → Fine r
 good-fine r e =
     let a : Bool = eqb (length r) 10 in
     let b : Bool = not (some (leb 256) r) in
-    let d : Bool = littleNode r 0 in
+    let d : Bool = is_little_node r 0 in
     let q : (a && b) ≡ true = and_l (a && b) d e in
     record {
       frame = frame-by r (eqb-true (length r) 10 (and_l a b q))
@@ -71,17 +71,17 @@ good-fine r e =
 
 pub record NodesFine (n : ℕ) : Type 0 where
   pub each : All Fine (nodes n)
-  pub up : Ascends frameText (nodes n)
+  pub up : Ascends frame_text (nodes n)
 
-nodes-by : (n : ℕ) → some (λ r. not (goodRecord r)) (nodes n) ≡ false → rising (nodes n) ≡ true → NodesFine n
+nodes-by : (n : ℕ) → some (λ r. not (is_good_record r)) (nodes n) ≡ false → is_rising (nodes n) ≡ true → NodesFine n
 nodes-by n e q = record {
-  each = all_of (λ r. not (goodRecord r) ≡ false) Fine (λ r z. good-fine r (not-false (goodRecord r) z)) (nodes n)
-      (none-all (λ r. not (goodRecord r)) (nodes n) e);
+  each = all_of (λ r. not (is_good_record r) ≡ false) Fine (λ r z. good-fine r (not-false (is_good_record r) z)) (nodes n)
+      (none-all (λ r. not (is_good_record r)) (nodes n) e);
   up = rising-up (nodes n) q;
 }
 
 pub nodes-fine : (n : ℕ) → 2 ≤ n → n ≤ 4 → NodesFine n
-unfolding some concatMap charOf total frameText before rising nodes
+unfolding some concat_map char_of total frame_text is_before is_rising nodes
 nodes-fine zero a b = absurd (omega arith)
 nodes-fine (suc zero) a b = absurd (omega arith)
 nodes-fine (suc (suc zero)) a b = nodes-by 2 refl refl
@@ -92,34 +92,34 @@ nodes-fine (suc (suc (suc (suc (suc n))))) a b = absurd (omega arith)
 -- ---- the four kinds of records among them
 module _ (n : ℕ) where
   abbrev ops : List (List ℕ)
-  ops = concatMap (λ u. map (operationNode u) (range 0 2)) (range 0 n)
+  ops = concat_map (λ u. map (operation_node u) (range 0 2)) (range 0 n)
 
   abbrev tests : List (List ℕ)
-  tests = concatMap (λ u. map (conditionNode u) (range 0 n)) (range 0 n)
+  tests = concat_map (λ u. map (condition_node u) (range 0 n)) (range 0 n)
 
   abbrev begins : List (List ℕ)
-  begins = map beginNode (range 0 n)
+  begins = map begin_node (range 0 n)
 
-  in-begins : (u : ℕ) → u < n → In (beginNode u) (nodes n)
+  in-begins : (u : ℕ) → u < n → In (begin_node u) (nodes n)
   unfolding nodes
-  in-begins u l = in_left (beginNode u) begins (endNode ∷ ops ++ tests)
-      (in_map beginNode u (range 0 n) (in-range u 0 n (omega arith) (omega arith)))
+  in-begins u l = in_left (begin_node u) begins (end_node ∷ ops ++ tests)
+      (in_map begin_node u (range 0 n) (in-range u 0 n (omega arith) (omega arith)))
 
-  in-ends : In endNode (nodes n)
+  in-ends : In end_node (nodes n)
   unfolding nodes
-  in-ends = in_right endNode begins (endNode ∷ ops ++ tests) here
+  in-ends = in_right end_node begins (end_node ∷ ops ++ tests) here
 
-  in-operations : (u m : ℕ) → u < n → m < 2 → In (operationNode u m) (nodes n)
+  in-operations : (u m : ℕ) → u < n → m < 2 → In (operation_node u m) (nodes n)
   unfolding nodes
-  in-operations u m l k = in_right (operationNode u m) begins (endNode ∷ ops ++ tests) (there (in_left (operationNode u m) ops tests
-      (in-concat (λ u. map (operationNode u) (range 0 2)) u (range 0 n) (operationNode u m) (in-range u 0 n (omega arith) (omega arith))
-      (in_map (operationNode u) m (range 0 2) (in-range m 0 2 (omega arith) (omega arith))))))
+  in-operations u m l k = in_right (operation_node u m) begins (end_node ∷ ops ++ tests) (there (in_left (operation_node u m) ops tests
+      (in-concat (λ u. map (operation_node u) (range 0 2)) u (range 0 n) (operation_node u m) (in-range u 0 n (omega arith) (omega arith))
+      (in_map (operation_node u) m (range 0 2) (in-range m 0 2 (omega arith) (omega arith))))))
 
-  in-conditions : (u w : ℕ) → u < n → w < n → In (conditionNode u w) (nodes n)
+  in-conditions : (u w : ℕ) → u < n → w < n → In (condition_node u w) (nodes n)
   unfolding nodes
-  in-conditions u w l k = in_right (conditionNode u w) begins (endNode ∷ ops ++ tests) (there (in_right (conditionNode u w) ops tests
-      (in-concat (λ u. map (conditionNode u) (range 0 n)) u (range 0 n) (conditionNode u w) (in-range u 0 n (omega arith) (omega arith))
-      (in_map (conditionNode u) w (range 0 n) (in-range w 0 n (omega arith) (omega arith))))))
+  in-conditions u w l k = in_right (condition_node u w) begins (end_node ∷ ops ++ tests) (there (in_right (condition_node u w) ops tests
+      (in-concat (λ u. map (condition_node u) (range 0 n)) u (range 0 n) (condition_node u w) (in-range u 0 n (omega arith) (omega arith))
+      (in_map (condition_node u) w (range 0 n) (in-range w 0 n (omega arith) (omega arith))))))
 
 ten : (a b c d e f g h i j a' b' c' d' e' f' g' h' i' j' : ℕ) → a ≡ a' → b ≡ b' → c ≡ c' → d ≡ d' → e ≡ e' → f ≡ f' → g ≡ g' → h ≡ h'
     → i ≡ i' → j ≡ j'
@@ -127,7 +127,7 @@ ten : (a b c d e f g h i j a' b' c' d' e' f' g' h' i' j' : ℕ) → a ≡ a' →
 ten a b c d e f g h i j a' b' c' d' e' f' g' h' i' j' p q r s t u v w x y = cc
 
 -- ---- a node of an accepted little chart
-module _ (c : Chart) (s : SoundChart c) (formed : (v : ℕ) → v < size c → littleNode c v ≡ true) where
+module _ (c : Chart) (s : SoundChart c) (formed : (v : ℕ) → v < size c → is_little_node c v ≡ true) where
   one-scheme : schemes c ≤ 1
   one-scheme = highest-le (scheme c) 1 0 (size c) (λ v a b. let e : scheme c v ≡ 1 = scheme-one v (omega arith) in omega arith)
     where
@@ -156,17 +156,17 @@ module _ (c : Chart) (s : SoundChart c) (formed : (v : ℕ) → v < size c → l
     implied true d e q = e
     implied false d e q = no_both false q refl
 
-    used : (k : ℕ) → kind c v ≡ k → badUse c v (kind_of k) ≡ false
-    unfolding badField
-    used k q = subst (λ (k : ℕ). badUse c v (kind_of k) ≡ false) q
-        (or_r (eqb (scheme c v) 0 || ltb 16 (scheme c v)) (badUse c v (kind_of (kind c v))) (s.goodField v l))
+    used : (k : ℕ) → kind c v ≡ k → has_bad_use c v (kind_of k) ≡ false
+    unfolding has_bad_field
+    used k q = subst (λ (k : ℕ). has_bad_use c v (kind_of k) ≡ false) q
+        (or_r (eqb (scheme c v) 0 || ltb 16 (scheme c v)) (has_bad_use c v (kind_of (kind c v))) (s.good_field v l))
 
-    zeros : (i : ℕ) → i ≤ 10 → filledFrom c v i ≡ false → (k : ℕ) → i ≤ k → k < 10 → field c v k ≡ 0
+    zeros : (i : ℕ) → i ≤ 10 → is_filled_from c v i ≡ false → (k : ℕ) → i ≤ k → k < 10 → field c v k ≡ 0
     zeros i m e k a b = eqb-true (field c v k) 0
         (not-false (eqb (field c v k) 0) (any_false (λ k. not (eqb (field c v k) 0)) i (10 - i) e k a (omega arith)))
 
     abbrev Here : Type 0
-    Here = In (tenAt c v) (nodes (size c))
+    Here = In (ten_bytes_at c v) (nodes (size c))
 
     no-argument : (kind c v ≡ 2 → ⊥) → argument c v ≡ 0
     no-argument n = go (or_cases (is c 2 v) (eqb (argument c v) 0) parts.2)
@@ -178,7 +178,7 @@ module _ (c : Chart) (s : SoundChart c) (formed : (v : ℕ) → v < size c → l
     as-begin : kind c v ≡ 0 → Here
     as-begin k =
         let u = used 0 k in
-        let z : (j : ℕ) → 4 ≤ j → j < 10 → field c v j ≡ 0 = zeros 4 (omega arith) (or_r (ltb 1 (argument c v)) (filledFrom c v 4) u) in
+        let z : (j : ℕ) → 4 ≤ j → j < 10 → field c v j ≡ 0 = zeros 4 (omega arith) (or_r (ltb 1 (argument c v)) (is_filled_from c v 4) u) in
         let a : argument c v ≡ 0 = no-argument (λ q. omega arith) in
         let t = arc0 c s v l (λ q. omega arith) in
         subst (λ (r : List ℕ). In r (nodes (size c)))
@@ -222,7 +222,7 @@ module _ (c : Chart) (s : SoundChart c) (formed : (v : ℕ) → v < size c → l
     as-condition : kind c v ≡ 3 → Here
     as-condition k =
         let z : (j : ℕ) → 5 ≤ j → j < 10
-        → field c v j ≡ 0 = zeros 5 (omega arith) (or_r (ltb 15 (argument c v)) (filledFrom c v 5) (used 3 k)) in
+        → field c v j ≡ 0 = zeros 5 (omega arith) (or_r (ltb 15 (argument c v)) (is_filled_from c v 5) (used 3 k)) in
         let a : argument c v ≡ 0 = no-argument (λ q. omega arith) in
         let t = arc0 c s v l (λ q. omega arith) in
         let u = arc1 c s v l (omega arith) in
@@ -232,10 +232,10 @@ module _ (c : Chart) (s : SoundChart c) (formed : (v : ℕ) → v < size c → l
         (z 9 (omega arith) (omega arith))))
         (in-conditions (size c) (next0 c v) (next1 c v) t.inside u.inside)
 
-    pub record-in : In (tenAt c v) (nodes (size c))
+    pub record-in : In (ten_bytes_at c v) (nodes (size c))
     record-in = go (kind c v) refl parts.1
       where
-        go : (k : ℕ) → kind c v ≡ k → k ≤ 3 → In (tenAt c v) (nodes (size c))
+        go : (k : ℕ) → kind c v ≡ k → k ≤ 3 → In (ten_bytes_at c v) (nodes (size c))
         go zero e m = as-begin e
         go (suc zero) e m = as-end e
         go (suc (suc zero)) e m = as-operation e

@@ -8,50 +8,52 @@ use native.Mathlib.Omega.{arith}
 use lib.Dec.{ltb, eqb}
 use lib.ListN.{length, get_or}
 use borrow.Author.Tests.{eq-eqb, le-ltb}
-use Rattle.words.specs.lists.Sequences.{filter, concatMap, All}
+use Rattle.words.specs.lists.Sequences.{filter, concat_map, All}
 use Rattle.words.proofs.lists.Tests.{or_cases, or-true-l, or_true_r, or-none, and_l, and_r, and-true, and_no}
 use Rattle.words.proofs.lists.Ranges.{filter-yes, filter-no}
 use Rattle.words.proofs.lists.Joins.{all-at, all-every, all_append, all_map, all_of, all-concat, all_filter, concat-cons}
-use Rattle.text.specs.frames.Frame.{frameText, framesText}
+use Rattle.text.specs.frames.Frame.{frame_text, frames_text}
 use Rattle.little_charts.specs.Little.{lists_of}
-use Rattle.little_charts.specs.Promises.{before}
+use Rattle.little_charts.specs.Promises.{is_before}
 
 -- ---- the order
-pub before_self : (x : List ℕ) → before x x ≡ false
-unfolding before
+pub before_self : (x : List ℕ) → is_before x x ≡ false
+unfolding is_before
 before_self [] = refl
-before_self (a ∷ x) = or-none (ltb a a) (eqb a a && before x x) (le-ltb a a (omega arith)) (and_no (eqb a a) (before x x) (before_self x))
+before_self (a ∷ x) =
+    or-none (ltb a a) (eqb a a && is_before x x) (le-ltb a a (omega arith)) (and_no (eqb a a) (is_before x x) (before_self x))
 
-pub before-after : (x a b : List ℕ) → before a b ≡ true → before (x ++ a) (x ++ b) ≡ true
-unfolding before
+pub before-after : (x a b : List ℕ) → is_before a b ≡ true → is_before (x ++ a) (x ++ b) ≡ true
+unfolding is_before
 before-after [] a b e = e
-before-after (c ∷ x) a b e = or_true_r (ltb c c) (eqb c c && before (x ++ a) (x ++ b))
-    (and-true (eqb c c) (before (x ++ a) (x ++ b)) (eq-eqb c c refl) (before-after x a b e))
+before-after (c ∷ x) a b e = or_true_r (ltb c c) (eqb c c && is_before (x ++ a) (x ++ b))
+    (and-true (eqb c c) (is_before (x ++ a) (x ++ b)) (eq-eqb c c refl) (before-after x a b e))
 
-pub before-front : (x y a b : List ℕ) → length x ≡ length y → before x y ≡ true → before (x ++ a) (y ++ b) ≡ true
-unfolding before
+pub before-front : (x y a b : List ℕ) → length x ≡ length y → is_before x y ≡ true → is_before (x ++ a) (y ++ b) ≡ true
+unfolding is_before
 before-front [] [] a b l e = absurd (let z : ◌≡◌ {A = Bool} false true = e in let w : ◌≡◌ {A = ℕ} 0 1 = cc in omega arith)
 before-front [] (y ∷ ys) a b l e = absurd (omega arith)
 before-front (x ∷ xs) [] a b l e = absurd (omega arith)
-before-front (x ∷ xs) (y ∷ ys) a b l e = go (or_cases (ltb x y) (eqb x y && before xs ys) e) (before-front xs ys a b (omega arith))
+before-front (x ∷ xs) (y ∷ ys) a b l e = go (or_cases (ltb x y) (eqb x y && is_before xs ys) e) (before-front xs ys a b (omega arith))
   where
-    go : (ltb x y ≡ true) ⊎ ((eqb x y && before xs ys) ≡ true) → (before xs ys ≡ true → before (xs ++ a) (ys ++ b) ≡ true)
-        → (ltb x y || (eqb x y && before (xs ++ a) (ys ++ b))) ≡ true
-    go (inl q) ih = or-true-l (ltb x y) (eqb x y && before (xs ++ a) (ys ++ b)) q
-    go (inr q) ih = or_true_r (ltb x y) (eqb x y && before (xs ++ a) (ys ++ b))
-        (and-true (eqb x y) (before (xs ++ a) (ys ++ b)) (and_l (eqb x y) (before xs ys) q) (ih (and_r (eqb x y) (before xs ys) q)))
+    go : (ltb x y ≡ true) ⊎ ((eqb x y && is_before xs ys) ≡ true) → (is_before xs ys ≡ true → is_before (xs ++ a) (ys ++ b) ≡ true)
+        → (ltb x y || (eqb x y && is_before (xs ++ a) (ys ++ b))) ≡ true
+    go (inl q) ih = or-true-l (ltb x y) (eqb x y && is_before (xs ++ a) (ys ++ b)) q
+    go (inr q) ih = or_true_r (ltb x y) (eqb x y && is_before (xs ++ a) (ys ++ b))
+        (and-true (eqb x y) (is_before (xs ++ a) (ys ++ b)) (and_l (eqb x y) (is_before xs ys) q)
+        (ih (and_r (eqb x y) (is_before xs ys) q)))
 
 -- ---- lists that increase by a text of each element
 module _ {A : Type 0} (f : A → List ℕ) where
   abbrev Below : A → A → Type 0
-  Below x y = before (f x) (f y) ≡ true
+  Below x y = is_before (f x) (f y) ≡ true
 
   abbrev pub Ascends : List A → Type 0
   Ascends [] = Unit {0}
   Ascends (x ∷ xs) = All (Below x) xs × Ascends xs
 
   pub ascends-at : (d : A) (xs : List A) → Ascends xs → (i j : ℕ) → i < j → j < length xs
-      → before (f (get_or xs i d)) (f (get_or xs j d)) ≡ true
+      → is_before (f (get_or xs i d)) (f (get_or xs j d)) ≡ true
   ascends-at d [] a i j l m = absurd (omega arith)
   ascends-at d (x ∷ xs) a zero zero l m = absurd (omega arith)
   ascends-at d (x ∷ xs) a zero (suc j) l m = all-at (Below x) d xs a.0 j (omega arith)
@@ -79,63 +81,64 @@ pub ascends-as : {A : Type 0} (f g : A → List ℕ) (xs : List A) → All (λ x
 ascends-as f g [] e a = tt
 ascends-as f g (x ∷ xs) e a = (later xs e.1 a.0, ascends-as f g xs e.1 a.1)
   where
-    later : (ys : List _) → All (λ y. f y ≡ g y) ys → All (λ y. before (f x) (f y) ≡ true) ys → All (λ y. before (g x) (g y) ≡ true) ys
+    later : (ys : List _) → All (λ y. f y ≡ g y) ys → All (λ y. is_before (f x) (f y) ≡ true) ys
+        → All (λ y. is_before (g x) (g y) ≡ true) ys
     later [] q b = tt
     later (y ∷ ys) q b = (rw (← e.0, ← q.0) b.0, later ys q.1 b.1)
 
 pub ascends-map : {A B : Type 0} (f : A → B) (g : B → List ℕ) (xs : List A) → Ascends (λ x. g (f x)) xs → Ascends g (map f xs)
 ascends-map f g [] a = tt
-ascends-map f g (x ∷ xs) a = (all_map (λ y. before (g (f x)) (g y) ≡ true) f xs a.0, ascends-map f g xs a.1)
+ascends-map f g (x ∷ xs) a = (all_map (λ y. is_before (g (f x)) (g y) ≡ true) f xs a.0, ascends-map f g xs a.1)
 
 -- ---- all lists of records
 abbrev Lined : List ℕ → Type 0
-Lined r = length (frameText r) ≡ 23
+Lined r = length (frame_text r) ≡ 23
 
-frames-cons : (r : List ℕ) (fs : List (List ℕ)) → framesText (r ∷ fs) ≡ frameText r ++ framesText fs
-frames-cons r fs = concat-cons frameText r fs
+frames-cons : (r : List ℕ) (fs : List (List ℕ)) → frames_text (r ∷ fs) ≡ frame_text r ++ frames_text fs
+frames-cons r fs = concat-cons frame_text r fs
 
-module _ (rs : List (List ℕ)) (lined : All Lined rs) (up : Ascends frameText rs) where
+module _ (rs : List (List ℕ)) (lined : All Lined rs) (up : Ascends frame_text rs) where
   module _ (m : ℕ) where
     abbrev led : List ℕ → List (List (List ℕ))
     led r = map (λ fs. r ∷ fs) (lists_of rs m)
 
-    led-up : (r : List ℕ) → Ascends framesText (lists_of rs m) → Ascends framesText (led r)
-    led-up r a = ascends-map (λ fs. r ∷ fs) framesText (lists_of rs m) (one (lists_of rs m) a)
+    led-up : (r : List ℕ) → Ascends frames_text (lists_of rs m) → Ascends frames_text (led r)
+    led-up r a = ascends-map (λ fs. r ∷ fs) frames_text (lists_of rs m) (one (lists_of rs m) a)
       where
-        one : (xs : List (List (List ℕ))) → Ascends framesText xs → Ascends (λ fs. framesText (r ∷ fs)) xs
+        one : (xs : List (List (List ℕ))) → Ascends frames_text xs → Ascends (λ fs. frames_text (r ∷ fs)) xs
         one [] b = tt
         one (x ∷ xs) b = (
-          all_of (λ y. before (framesText x) (framesText y) ≡ true) (λ y. before (framesText (r ∷ x)) (framesText (r ∷ y)) ≡ true)
-              (λ y q. rw (frames-cons r x, frames-cons r y) (before-after (frameText r) (framesText x) (framesText y) q)) xs b.0,
+          all_of (λ y. is_before (frames_text x) (frames_text y) ≡ true) (λ y. is_before (frames_text (r ∷ x)) (frames_text (r ∷ y)) ≡ true)
+              (λ y q. rw (frames-cons r x, frames-cons r y) (before-after (frame_text r) (frames_text x) (frames_text y) q)) xs b.0,
           one xs b.1,
         )
 
     -- lists that begin with r come before those that begin with a later record
-    led-before : (r : List ℕ) → Lined r → (qs : List (List ℕ)) → All Lined qs → All (λ q. before (frameText r) (frameText q) ≡ true) qs
-        → All (λ x. All (λ y. before (framesText x) (framesText y) ≡ true) (concatMap led qs)) (led r)
+    led-before : (r : List ℕ) → Lined r → (qs : List (List ℕ)) → All Lined qs → All (λ q. is_before (frame_text r) (frame_text q) ≡ true) qs
+        → All (λ x. All (λ y. is_before (frames_text x) (frames_text y) ≡ true) (concat_map led qs)) (led r)
     led-before r l qs ls bs = all_map _ (λ fs. r ∷ fs) (lists_of rs m)
         (all-every _ (λ fs. all-concat _ led qs (each fs qs ls bs)) (lists_of rs m))
       where
-        each : (fs : List (List ℕ)) (ps : List (List ℕ)) → All Lined ps → All (λ q. before (frameText r) (frameText q) ≡ true) ps
-            → All (λ q. All (λ y. before (framesText (r ∷ fs)) (framesText y) ≡ true) (led q)) ps
+        each : (fs : List (List ℕ)) (ps : List (List ℕ)) → All Lined ps → All (λ q. is_before (frame_text r) (frame_text q) ≡ true) ps
+            → All (λ q. All (λ y. is_before (frames_text (r ∷ fs)) (frames_text y) ≡ true) (led q)) ps
         each fs [] a b = tt
         each fs (q ∷ ps) a b = (
-          all_map (λ y. before (framesText (r ∷ fs)) (framesText y) ≡ true) (λ gs. q ∷ gs) (lists_of rs m)
-              (all-every (λ gs. before (framesText (r ∷ fs)) (framesText (q ∷ gs)) ≡ true)
+          all_map (λ y. is_before (frames_text (r ∷ fs)) (frames_text y) ≡ true) (λ gs. q ∷ gs) (lists_of rs m)
+              (all-every (λ gs. is_before (frames_text (r ∷ fs)) (frames_text (q ∷ gs)) ≡ true)
               (λ gs. rw (frames-cons r fs, frames-cons q gs)
-              (before-front (frameText r) (frameText q) (framesText fs) (framesText gs) (l ∙ sym a.0) b.0))
+              (before-front (frame_text r) (frame_text q) (frames_text fs) (frames_text gs) (l ∙ sym a.0) b.0))
               (lists_of rs m)),
           each fs ps a.1 b.1,
         )
 
-    more-up : Ascends framesText (lists_of rs m) → (qs : List (List ℕ)) → All Lined qs → Ascends frameText qs
-        → Ascends framesText (concatMap led qs)
-    unfolding concatMap
+    more-up : Ascends frames_text (lists_of rs m) → (qs : List (List ℕ)) → All Lined qs → Ascends frame_text qs
+        → Ascends frames_text (concat_map led qs)
+    unfolding concat_map
     more-up a [] l u = tt
-    more-up a (q ∷ qs) l u = ascends-append framesText (led q) (concatMap led qs) (led-up q a) (more-up a qs l.1 u.1)
+    more-up a (q ∷ qs) l u = ascends-append frames_text (led q) (concat_map led qs) (led-up q a) (more-up a qs l.1 u.1)
         (led-before q l.0 qs l.1 u.0)
 
-  pub lists-up : (m : ℕ) → Ascends framesText (lists_of rs m)
+  pub lists-up : (m : ℕ) → Ascends frames_text (lists_of rs m)
   unfolding lists_of
   lists-up zero = (tt, tt)
   lists-up (suc m) = more-up m (lists-up m) rs lined up

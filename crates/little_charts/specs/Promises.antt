@@ -1,43 +1,43 @@
 -- What the list of little charts promises: each is accepted and of the form, none is missing, and their texts increase.
 use Rattle.std.specs.Prelude.{ℕ, ◌≤◌, ◌<◌, Bool, true, false, ◌&&◌, ◌||◌, ◌≡◌, List, [], ◌∷◌, map, ltb, eqb, length}
 use Rattle.text.specs.digits.Digit.{capital}
-use Rattle.text.specs.frames.Frame.{contents, frameCount, text_of}
+use Rattle.text.specs.frames.Frame.{contents, frame_count, text_of}
 use Rattle.text.specs.frames.Verdict.{fine}
-use Rattle.charts.specs.Entry.{readVerdict}
-use Rattle.little_charts.specs.Little.{little, littleCharts, littleText}
+use Rattle.charts.specs.Entry.{read_verdict}
+use Rattle.little_charts.specs.Little.{is_little, little_charts, little_text}
 
 -- the order of texts: by the first character that differs
-unfoldable pub before : List ℕ → List ℕ → Bool
-before [] [] = false
-before [] (y ∷ ys) = true
-before (x ∷ xs) [] = false
-before (x ∷ xs) (y ∷ ys) = ltb x y || (eqb x y && before xs ys)
+unfoldable pub is_before : List ℕ → List ℕ → Bool
+is_before [] [] = false
+is_before [] (y ∷ ys) = true
+is_before (x ∷ xs) [] = false
+is_before (x ∷ xs) (y ∷ ys) = ltb x y || (eqb x y && is_before xs ys)
 
-abbrev pub littleTotal : ℕ → ℕ
-littleTotal n = length (littleCharts n)
+abbrev pub little_total : ℕ → ℕ
+little_total n = length (little_charts n)
 
 -- a text of n frames that the reader accepts, of the form, be its letters small or large
 pub record Wanted (n : ℕ) (t : List ℕ) : Type 0 where
-  pub accepted : readVerdict t ≡ fine
-  pub frames : frameCount t ≡ n
-  pub formed : little (contents t) ≡ true
+  pub accepted : read_verdict t ≡ fine
+  pub frames : frame_count t ≡ n
+  pub formed : is_little (contents t) ≡ true
 
 -- each is such a text, and is what the writer gives for its records
 unfoldable pub AllWanted : Type 0
-AllWanted = (n k : ℕ) → 2 ≤ n → n ≤ 4 → k < littleTotal n
-    → Wanted n (littleText n k) × (text_of (contents (littleText n k)) ≡ littleText n k)
+AllWanted = (n k : ℕ) → 2 ≤ n → n ≤ 4 → k < little_total n
+    → Wanted n (little_text n k) × (text_of (contents (little_text n k)) ≡ little_text n k)
 
 -- the number of a text, which is listed in capitals
 pub record NumberedText (n : ℕ) (t : List ℕ) : Type 0 where
   pub number : ℕ
-  pub low : number < littleTotal n
-  pub text : littleText n number ≡ map capital t
+  pub low : number < little_total n
+  pub text : little_text n number ≡ map capital t
 
 unfoldable pub NoneMissing : Type 0
 NoneMissing = (n : ℕ) (t : List ℕ) → 2 ≤ n → n ≤ 4 → Wanted n t → NumberedText n t
 
 unfoldable pub InOrder : Type 0
-InOrder = (n i j : ℕ) → 2 ≤ n → n ≤ 4 → i < j → j < littleTotal n → before (littleText n i) (littleText n j) ≡ true
+InOrder = (n i j : ℕ) → 2 ≤ n → n ≤ 4 → i < j → j < little_total n → is_before (little_text n i) (little_text n j) ≡ true
 
 unfoldable pub EachOnce : Type 0
-EachOnce = (n i j : ℕ) → 2 ≤ n → n ≤ 4 → i < littleTotal n → j < littleTotal n → littleText n i ≡ littleText n j → i ≡ j
+EachOnce = (n i j : ℕ) → 2 ≤ n → n ≤ 4 → i < little_total n → j < little_total n → little_text n i ≡ little_text n j → i ≡ j

@@ -1,7 +1,7 @@
 // The entry point to the little charts: one of them as text, by its frame count and its number.
 ghost use Rattle.text.specs.frames.Frame.{size};
 ghost use Rattle.text.specs.frames.Answer.{GivesBuffer};
-ghost use Rattle.little_charts.specs.Little.{littleChart};
+ghost use Rattle.little_charts.specs.Little.{little_chart};
 ghost use Rattle.little_fetch.specs.little_seek.inner.SeekContracts.{FewFrames};
 
 use crate::little_seek::seek;
@@ -12,7 +12,7 @@ use text::frames::{Answer, put_text, refused};
 // A number past the last chart is 24, then 16; else the text is written. The records serve the search.
 fn fetch(records: &mut [u8], number: usize, text: &mut [u8]) -> Answer
     requires { FewFrames records.old }
-    ensures { GivesBuffer (littleChart (size records.old) number text.old) result text.new }
+    ensures { GivesBuffer (little_chart (size records.old) number text.old) result text.new }
 {
     let sought = seek(records, 0, number);
     if !sought.found {
@@ -28,7 +28,7 @@ fn fetch(records: &mut [u8], number: usize, text: &mut [u8]) -> Answer
 
 // A frame count outside 2 to 4 is 24 too. Counts characters; a refusal leaves the buffer as it was.
 pub fn little_chart(frames: usize, number: usize, text: &mut [u8]) -> Answer
-    ensures { GivesBuffer (littleChart frames number text.old) result text.new }
+    ensures { GivesBuffer (little_chart frames number text.old) result text.new }
 {
     if frames < 2 {
         return refused(NO_LITTLE_CHART, 0);

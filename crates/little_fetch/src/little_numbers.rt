@@ -1,7 +1,7 @@
 // Node records by number, and the numbers that are tried at a place.
 ghost use Rattle.std.specs.Prelude.{◌≡◌, ◌+◌, ◌*◌, ◌≤◌, ◌<◌, length};
 ghost use Rattle.text.specs.frames.Frame.{size};
-ghost use Rattle.little_charts.specs.little_search.inner.Search.{nodeCount, nodeAt, absent, missingEnds, firstTried, past};
+ghost use Rattle.little_charts.specs.little_search.inner.Search.{node_count, node_at, absent_count, missing_ends, first_tried, past_last};
 
 use crate::little_nodes::has_kind;
 use charts::layout::*;
@@ -9,8 +9,8 @@ use text::frames::sizes::RECORD;
 
 // Record i of those that nodes of a chart of n frames can have.
 pub fn node(n: usize, i: usize) -> [u8; RECORD]
-    requires { (1 ≤ n) × (n ≤ 4) × (i < nodeCount n) }
-    ensures { result ≡ nodeAt n i }
+    requires { (1 ≤ n) × (n ≤ 4) × (i < node_count n) }
+    ensures { result ≡ node_at n i }
 {
     if i < n {
         return [BEGIN, 1, 0, i as u8, 0, 0, 0, 0, 0, 0];
@@ -29,7 +29,7 @@ pub fn node(n: usize, i: usize) -> [u8; RECORD]
 // The first number to try at place v.
 pub fn first_number(records: &[u8], v: usize) -> usize
     requires { RECORD * v ≤ length records.now }
-    ensures { result ≡ firstTried (size records.now) records.now v }
+    ensures { result ≡ first_tried (size records.now) records.now v }
 {
     if has_kind(records, BEGIN, v) {
         return records.len() / RECORD;
@@ -40,7 +40,7 @@ pub fn first_number(records: &[u8], v: usize) -> usize
 // 1 where no node below v is of this kind.
 fn absent(records: &[u8], kind: u8, v: usize) -> usize
     requires { RECORD * v ≤ length records.now }
-    ensures { result ≡ absent records.now kind v }
+    ensures { result ≡ absent_count records.now kind v }
 {
     if has_kind(records, kind, v) {
         return 0;
@@ -51,7 +51,7 @@ fn absent(records: &[u8], kind: u8, v: usize) -> usize
 // How many of Begin and End no node below v is.
 fn missing_count(records: &[u8], v: usize) -> usize
     requires { RECORD * v ≤ length records.now }
-    ensures { result ≡ missingEnds records.now v }
+    ensures { result ≡ missing_ends records.now v }
 {
     let begins = absent(records, BEGIN, v);
     let ends = absent(records, END, v);
@@ -61,7 +61,7 @@ fn missing_count(records: &[u8], v: usize) -> usize
 // The number after the last one.
 pub fn past_number(records: &[u8], v: usize) -> usize
     requires { (RECORD * v ≤ length records.now) × (size records.now ≤ 4) }
-    ensures { result ≡ past (size records.now) records.now v }
+    ensures { result ≡ past_last (size records.now) records.now v }
 {
     let n = records.len() / RECORD;
     let left = n - v;

@@ -1,8 +1,8 @@
 // A little chart sought by its number: node records are tried place by place, and the charts that are found are counted down.
 ghost use Rattle.std.specs.Prelude.{◌≡◌, ◌*◌, ◌-◌, ◌≤◌, ◌<◌, take};
 ghost use Rattle.text.specs.frames.Frame.{size};
-ghost use Rattle.little_charts.specs.little_search.inner.Search.{nodeCount, nodeAt, searched};
-ghost use Rattle.little_fetch.specs.little_seek.inner.SeekContracts.{FewFrames, RecordPlaced, SoughtCount, GivesSought, accepts};
+ghost use Rattle.little_charts.specs.little_search.inner.Search.{node_count, node_at, searched_charts};
+ghost use Rattle.little_fetch.specs.little_seek.inner.SeekContracts.{FewFrames, RecordPlaced, SoughtCount, GivesSought, is_accepted};
 
 use crate::little_nodes::{any_lonely, is_barred};
 use crate::little_numbers::{first_number, node, past_number};
@@ -20,7 +20,7 @@ pub struct Sought {
 // The records are an accepted chart. A node that no other leads to is looked for first, which takes less time.
 fn accepts(records: &[u8]) -> bool
     requires { FewFrames records.now }
-    ensures { result ≡ accepts records.now }
+    ensures { result ≡ is_accepted records.now }
 {
     if any_lonely(records) {
         return false;
@@ -35,7 +35,7 @@ fn accepts(records: &[u8]) -> bool
 // All records stand: the chart is the one sought, or one to pass over, or none.
 fn count_chart(records: &[u8], left: usize) -> Sought
     requires { FewFrames records.now }
-    ensures { SoughtCount (searched (size records.now) 0 records.now) left result }
+    ensures { SoughtCount (searched_charts (size records.now) 0 records.now) left result }
 {
     if !accepts(records) {
         return Sought { found: false, left };
@@ -51,8 +51,8 @@ fn count_chart(records: &[u8], left: usize) -> Sought
 
 // Record i at place v.
 fn place(records: &mut [u8], v: usize, i: usize)
-    requires { (FewFrames records.old) × (v < size records.old) × (i < nodeCount (size records.old)) }
-    ensures { RecordPlaced records.old v (nodeAt (size records.old) i) records.new }
+    requires { (FewFrames records.old) × (v < size records.old) × (i < node_count (size records.old)) }
+    ensures { RecordPlaced records.old v (node_at (size records.old) i) records.new }
 {
     let ten = node(records.len() / RECORD, i);
     put_bytes(records, RECORD * v, &ten);
@@ -61,7 +61,7 @@ fn place(records: &mut [u8], v: usize, i: usize)
 // From place v on all records are tried that may stand there, and the rest after each.
 pub fn seek(records: &mut [u8], v: usize, left: usize) -> Sought
     requires { (FewFrames records.old) × (v ≤ size records.old) }
-    ensures { GivesSought (searched (size records.old) (size records.old - v)
+    ensures { GivesSought (searched_charts (size records.old) (size records.old - v)
         (take (RECORD * v) records.old)) (take (RECORD * v) records.old) left result records.new }
 {
     let n = records.len() / RECORD;

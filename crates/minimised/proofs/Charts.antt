@@ -15,28 +15,28 @@ use Rattle.charts.specs.Chart.{Chart}
 use Rattle.charts.proofs.Accepted.{SoundChart, accepted}
 use Rattle.walk.proofs.Facts.{Facts}
 use Rattle.walk.proofs.FactsHold.{facts}
-use Rattle.image.specs.Image.{Image, Row, imageText}
-use Rattle.image.specs.Decode.{decoded}
+use Rattle.image.specs.Image.{Image, Row, image_text}
+use Rattle.image.specs.Decode.{decoded_image}
 use Rattle.chart_rows.specs.chart_labels.Labels.{label}
 use Rattle.chart_rows.specs.Rows.{rows}
 use Rattle.translator.specs.Table.{table}
-use Rattle.translator.specs.Entry.{translateVerdict, translate}
+use Rattle.translator.specs.Entry.{translate_verdict, translate}
 use Rattle.translator.proofs.LabelLaws.{Bearer, bearer, rows_are}
-use Rattle.translator.proofs.Matching.{targets, matchingRow}
+use Rattle.translator.proofs.Matching.{targets, is_matching_row}
 use Rattle.translator.proofs.RowLaws.{one-row}
 use Rattle.translator.proofs.SoundTable.{table-sound}
 use Rattle.translator.proofs.Translated.{translated-read, translated-few, translated-fine, translated-image}
-use Rattle.rows.specs.Rows.{isCandidate}
-use Rattle.state.specs.State.{freshState}
+use Rattle.rows.specs.Rows.{is_candidate}
+use Rattle.state.specs.State.{fresh_state}
 use Rattle.runs.specs.Run.{run}
 use Rattle.rebinding.specs.Rebind.{rebind}
-use Rattle.agreement.specs.Agreement.{callOutputs, Agreement}
+use Rattle.agreement.specs.Agreement.{call_outputs, Agreement}
 use Rattle.agreement.proofs.Images.{translated-passes, translated-decoded}
 use Rattle.agreement.proofs.Demand.{theorem}
-use Rattle.covering.specs.Matched.{hits, uneven}
+use Rattle.covering.specs.Matched.{hits, is_uneven}
 use Rattle.covering.proofs.Hits.{OneRow, even-of}
-use Rattle.minimising.specs.group_numbers.Smaller.{smaller}
-use Rattle.minimising.specs.Entry.{minimiseVerdict, minimise}
+use Rattle.minimising.specs.group_numbers.Smaller.{smaller_image}
+use Rattle.minimising.specs.Entry.{minimise_verdict, minimise}
 use Rattle.joined_again.proofs.Shorter.{never-longer, room-enough}
 use Rattle.minimised.specs.Demand.{Shrunk, SmallerMade, SmallerAgreement}
 use Rattle.minimised.proofs.Runs.{calls-new}
@@ -47,12 +47,12 @@ module _ (c : Chart) (a : SoundChart c) where
   unfolding targets
   table-one-row l w b low high =
       let x : Bearer c (size c) l = bearer c l low high in
-      ap (λ (rs : List Row). length (filter (isCandidate l w (pick b 1 0)) rs)) (rows_are c)
-      ∙ ap (λ (k : ℕ). length (filter (isCandidate k w (pick b 1 0)) (rows c))) (sym x.is)
-      ∙ sym (length-map (filter (matchingRow (label c x.node) w (pick b 1 0)) (rows c)) (λ (r : Row). r.next))
+      ap (λ (rs : List Row). length (filter (is_candidate l w (pick b 1 0)) rs)) (rows_are c)
+      ∙ ap (λ (k : ℕ). length (filter (is_candidate k w (pick b 1 0)) (rows c))) (sym x.is)
+      ∙ sym (length-map (filter (is_matching_row (label c x.node) w (pick b 1 0)) (rows c)) (λ (r : Row). r.next))
       ∙ ap (λ (us : List ℕ). length us) (one-row c a x.node w b x.inside x.own)
 
-  pub table-even : uneven (table c) ≡ false
+  pub table-even : is_uneven (table c) ≡ false
   table-even = even-of (table c) bits
     where
       bits : (l w b : ℕ) → 2 ≤ l → l < length (table c).labels → w < 65536 → b < 2 → hits (table c) l w b ≡ 1
@@ -61,7 +61,7 @@ module _ (c : Chart) (a : SoundChart c) where
       bits l w (suc (suc b)) low high hw hb = absurd (omega arith)
 
 -- ---- by the text
-module _ (t : List ℕ) (ok : translateVerdict t ≡ fine) where
+module _ (t : List ℕ) (ok : translate_verdict t ≡ fine) where
   abbrev made : Image
   made = table (contents t)
 
@@ -72,38 +72,40 @@ module _ (t : List ℕ) (ok : translateVerdict t ≡ fine) where
   chart-sound = (accepted t (translated-read t ok)).sound
 
   -- nothing but 16 can refuse it
-  pub minimise-fine : minimiseVerdict (imageText made) ≡ fine
-  unfolding minimiseVerdict
+  pub minimise-fine : minimise_verdict (image_text made) ≡ fine
+  unfolding minimise_verdict
   minimise-fine =
-      ap (λ (v : Verdict). next v λ _. when 23 (uneven (decoded (contents (imageText made))))) (translated-passes t ok chart-facts)
-      ∙ ap (λ (i : Image). when 23 (uneven i)) (translated-decoded t ok chart-facts)
+      ap (λ (v : Verdict). next v λ _. when 23 (is_uneven (decoded_image (contents (image_text made)))))
+      (translated-passes t ok chart-facts)
+      ∙ ap (λ (i : Image). when 23 (is_uneven i)) (translated-decoded t ok chart-facts)
       ∙ ap (when 23) (table-even (contents t) chart-sound)
 
 -- what is written where an image is made smaller
 module _ (t room : List ℕ) (m : ℕ) (done : (minimise t room).reply ≡ success m) where
-  minimise-told : Success (minimiseVerdict t) 1 (imageText (smaller (decoded (contents t)))) room m (minimise t room)
+  minimise-told : Success (minimise_verdict t) 1 (image_text (smaller_image (decoded_image (contents t)))) room m (minimise t room)
   unfolding minimise
-  minimise-told = lent-told (minimiseVerdict t) 1 (λ _. imageText (smaller (decoded (contents t)))) room m done
+  minimise-told = lent-told (minimise_verdict t) 1 (λ _. image_text (smaller_image (decoded_image (contents t)))) room m done
 
-  pub minimised-image : take m (minimise t room).buffer ≡ imageText (smaller (decoded (contents t)))
+  pub minimised-image : take m (minimise t room).buffer ≡ image_text (smaller_image (decoded_image (contents t)))
   minimised-image =
-      let s : Success (minimiseVerdict t) 1 (imageText (smaller (decoded (contents t)))) room m (minimise t room) = minimise-told in
-      ap (take m) s.buffer ∙ front m (imageText (smaller (decoded (contents t)))) room (s.count ∙ omega arith)
+      let s : Success (minimise_verdict t) 1 (image_text (smaller_image (decoded_image (contents t)))) room m (minimise t room) =
+      minimise-told in
+      ap (take m) s.buffer ∙ front m (image_text (smaller_image (decoded_image (contents t)))) room (s.count ∙ omega arith)
 
 -- ---- the image that was written
 module _ (text out : List ℕ) (n : ℕ) (done : (translate text out).reply ≡ success n) where
   abbrev written : List ℕ
   written = take n (translate text out).buffer
 
-  written-fine : minimiseVerdict written ≡ fine
+  written-fine : minimise_verdict written ≡ fine
   written-fine =
-      ap minimiseVerdict (translated-image text out n done) ∙ minimise-fine text (translated-fine text out n done)
+      ap minimise_verdict (translated-image text out n done) ∙ minimise-fine text (translated-fine text out n done)
 
   pub written-made : (room : List ℕ) → n ≤ length room → Shrunk (minimise written room) n
   written-made room h =
       let short : length written ≤ n = simp (length-take) (omega arith) in
       record {
-        count = length (imageText (smaller (decoded (contents written)))) / 1;
+        count = length (image_text (smaller_image (decoded_image (contents written)))) / 1;
         done = room-enough written written-fine room (omega arith);
         most = omega (arith, never-longer written written-fine);
       }
@@ -112,21 +114,21 @@ pub smaller-made : SmallerMade translate minimise
 unfolding SmallerMade
 smaller-made text out n done room h = written-made text out n done room h
 
-pub smaller-theorem : SmallerAgreement translate minimise freshState run rebind
+pub smaller-theorem : SmallerAgreement translate minimise fresh_state run rebind
 unfolding SmallerAgreement Agreement
 smaller-theorem text out n done room m shrunk size some most given =
     let c : Chart = contents text in
-    let ok : translateVerdict text ≡ fine = translated-fine text out n done in
-    let im : List ℕ = imageText (table c) in
+    let ok : translate_verdict text ≡ fine = translated-fine text out n done in
+    let im : List ℕ = image_text (table c) in
     let is : take n (translate text out).buffer ≡ im = translated-image text out n done in
     let f : Facts c = chart-facts text ok in
-    let d : decoded (contents im) ≡ table c = translated-decoded text ok f in
-    let small : take m (minimise im room).buffer ≡ imageText (smaller (table c)) =
+    let d : decoded_image (contents im) ≡ table c = translated-decoded text ok f in
+    let small : take m (minimise im room).buffer ≡ image_text (smaller_image (table c)) =
     minimised-image im room m (subst (λ (x : List ℕ). (minimise x room).reply ≡ success m) is shrunk)
-    ∙ ap (λ (i : Image). imageText (smaller i)) d in
-    ap (λ (x : List ℕ). callOutputs run rebind (take m (minimise x room).buffer) (freshState size).state given) is
-    ∙ ap (λ (x : List ℕ). callOutputs run rebind x (freshState size).state given) small
+    ∙ ap (λ (i : Image). image_text (smaller_image i)) d in
+    ap (λ (x : List ℕ). call_outputs run rebind (take m (minimise x room).buffer) (fresh_state size).state given) is
+    ∙ ap (λ (x : List ℕ). call_outputs run rebind x (fresh_state size).state given) small
     ∙ calls-new (table c) (table-sound c f (translated-few text ok)) (table-even c (chart-sound text ok)) im (translated-passes text ok f) d
     size some most given
-    ∙ sym (ap (λ (x : List ℕ). callOutputs run rebind x (freshState size).state given) is)
+    ∙ sym (ap (λ (x : List ℕ). call_outputs run rebind x (fresh_state size).state given) is)
     ∙ theorem text out n done size some most given

@@ -8,13 +8,13 @@ use Rattle.text.specs.frames.Answer.{success}
 use Rattle.translator.specs.Entry.{translate}
 use Rattle.minimising.specs.Entry.{minimise}
 use Rattle.state.specs.declared.State.{State}
-use Rattle.state.specs.State.{freshState}
+use Rattle.state.specs.State.{fresh_state}
 use Rattle.state.specs.Bytes.{state_of}
 use Rattle.state.proofs.ResultBytes.{fresh-held}
 use Rattle.runs.specs.Run.{run}
 use Rattle.rebinding.specs.Rebind.{rebind}
-use Rattle.agreement.specs.Agreement.{CallInput, callOutputs, walkOutputs}
-use Rattle.agreement.specs.ForC.{callOutputC}
+use Rattle.agreement.specs.Agreement.{CallInput, call_outputs, walk_outputs}
+use Rattle.agreement.specs.ForC.{call_output_c}
 use Rattle.agreement.proofs.Delivered.{calls-chain}
 use Rattle.agreement.proofs.ForC.{returned-0}
 use Rattle.agreement.proofs.ForC as c
@@ -28,11 +28,11 @@ module _ (text before after : List ℕ) (n : ℕ) (written : after ≡ (translat
     (done : (translate text before).reply ≡ success n)
     (room : List ℕ) (m : ℕ) (shrunk : (minimise (take n after) room).reply ≡ success m) (size : ℕ) where
   chain-smaller : 1 ≤ size → size ≤ 32 → (given : List CallInput)
-      → callOutputs run rebind (take m (minimise (take n after) room).buffer) (freshState size).state
-      given ≡ walkOutputs size (contents text) given
+      → call_outputs run rebind (take m (minimise (take n after) room).buffer) (fresh_state size).state
+      given ≡ walk_outputs size (contents text) given
   unfolding SmallerAgreement
   chain-smaller low high given =
-      ap (λ (b : List ℕ). callOutputs run rebind (take m (minimise (take n b) room).buffer) (freshState size).state given) written
+      ap (λ (b : List ℕ). call_outputs run rebind (take m (minimise (take n b) room).buffer) (fresh_state size).state given) written
       ∙ smaller-theorem text before n done room m (subst (λ (b : List ℕ). (minimise (take n b) room).reply ≡ success m) written shrunk)
       size low high given
 
@@ -40,15 +40,15 @@ pub smaller-delivered : SmallerDelivered
 unfolding SmallerDelivered
 smaller-delivered text before after answer w n e room smaller told x m f size low high made z given handed cs =
     calls-chain (take m smaller) made.state given handed cs
-    ∙ ap (λ (s : State). callOutputs run rebind (take m smaller) s given) z.state
-    ∙ ap (λ (b : List ℕ). callOutputs run rebind (take m b) (freshState size).state given) x.written
+    ∙ ap (λ (s : State). call_outputs run rebind (take m smaller) s given) z.state
+    ∙ ap (λ (b : List ℕ). call_outputs run rebind (take m b) (fresh_state size).state given) x.written
     ∙ chain-smaller text before after n w.written (sym w.answered ∙ e) room m (sym x.answered ∙ f) size low high given
 
 pub smaller-delivered-c : SmallerDeliveredC
 unfolding SmallerDeliveredC
 smaller-delivered-c text before after at n w room smaller at' m x size low high returned at'' made bytes z given handed cs =
     c.calls-chain (take m smaller) bytes given handed cs
-    ∙ ap (λ (s : State). map callOutputC (callOutputs run rebind (take m smaller) s given)) (ap state_of z.bytes ∙ fresh-held size)
-    ∙ ap (λ (b : List ℕ). map callOutputC (callOutputs run rebind (take m b) (freshState size).state given)) x.written
-    ∙ ap (map callOutputC) (chain-smaller text before after n w.written (returned-0 text before after at n w) room m
+    ∙ ap (λ (s : State). map call_output_c (call_outputs run rebind (take m smaller) s given)) (ap state_of z.bytes ∙ fresh-held size)
+    ∙ ap (λ (b : List ℕ). map call_output_c (call_outputs run rebind (take m b) (fresh_state size).state given)) x.written
+    ∙ ap (map call_output_c) (chain-smaller text before after n w.written (returned-0 text before after at n w) room m
     (minimise-success (take n after) room (sym x.told.number_is) ∙ ap success (sym x.told.count-is)) size low high given)

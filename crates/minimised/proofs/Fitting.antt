@@ -9,22 +9,23 @@ use lib.ListN.{length, length-map}
 use borrow.Author.Tests.{eqb-true}
 use Rattle.words.specs.lists.Pick.{pick}
 use Rattle.words.proofs.lists.Tests.{and_l, not-false}
-use Rattle.bindings.specs.Binding.{served}
+use Rattle.bindings.specs.Binding.{server_of}
 use Rattle.image.specs.Image.{Image, Label}
 use Rattle.image.specs.inner.Sound.{SoundImage}
 use Rattle.state.specs.declared.State.{State}
-use Rattle.state.specs.State.{label_at, placeAt, number_at, serverAt, Sized}
-use Rattle.fitness.specs.Fitness.{is_call, callable, mayCarry, filledPlace, ofHandler, isOwnBottom, badBottom, badServed}
+use Rattle.state.specs.State.{label_at, place_at, number_at, server_at, Sized}
+use Rattle.fitness.specs.Fitness.{is_call, is_callable, is_able_to_carry, is_filled_place, is_of_handler, is_own_bottom, has_bad_bottom}
+use Rattle.fitness.specs.Fitness.{is_badly_served}
 use Rattle.fitness.proofs.Fitness.{Fits}
 use Rattle.grouping.proofs.Rounds.{ClassRound}
-use Rattle.minimising.specs.group_numbers.Smaller.{renumbered, joinedLabels}
+use Rattle.minimising.specs.group_numbers.Smaller.{renumbered_label, joined_labels}
 use Rattle.minimising.proofs.group_numbers.Numbering.{new-zero, new-inside, label-new, entries-count}
-use Rattle.minimised.specs.Renamed.{renamed}
+use Rattle.minimised.specs.Renamed.{renumbered_state}
 use Rattle.minimised.proofs.Renumbered.{same-handler, place-new, one_same}
 
-pub sized_new : (c : List ℕ) (s : State) → Sized s → Sized (renamed c s)
+pub sized_new : (c : List ℕ) (s : State) → Sized s → Sized (renumbered_state c s)
 sized_new c s z = record {
-  places = length-map s.places (renumbered c) ∙ z.places;
+  places = length-map s.places (renumbered_label c) ∙ z.places;
   serving = z.serving;
   numbers = z.numbers;
   servers = z.servers;
@@ -32,13 +33,13 @@ sized_new c s z = record {
 
 module _ (i : Image) (S : SoundImage i) (c : List ℕ) (R : ClassRound i c) where
   abbrev new : ℕ → ℕ
-  new = renumbered c
+  new = renumbered_label c
 
   abbrev small : Image
-  small = joinedLabels i c
+  small = joined_labels i c
 
   -- ---- each test of a state's fitness says the same of the renumbered labels
-  callable-new : (k : ℕ) → callable small k ≡ callable i k
+  callable-new : (k : ℕ) → is_callable small k ≡ is_callable i k
   callable-new k = ap (λ (h : ℕ). leb 2 k && leb k h) (entries-count i S c R)
 
   -- label 1, or one of scheme k
@@ -46,53 +47,57 @@ module _ (i : Image) (S : SoundImage i) (c : List ℕ) (R : ClassRound i c) wher
       → (eqb (new l) 1 || eqb (label_at small (new l)).owner k) ≡ (eqb l 1 || eqb (label_at i l).owner k)
   stands-new l k h = ap₂ (λ (t : Bool) (x : Label). t || eqb x.owner k) (one_same i S c R l h) (label-new i S c R l h)
 
-  carry-new : (l h k a : ℕ) → l < length i.labels → a < length i.labels → mayCarry small (new l) h k (new a) ≡ mayCarry i l h k a
+  carry-new : (l h k a : ℕ) → l < length i.labels → a < length i.labels
+      → is_able_to_carry small (new l) h k (new a) ≡ is_able_to_carry i l h k a
   carry-new l h k a hl ha =
-      ap (λ (x : Label). is_call x && eqb h x.called && callable small k && (eqb (new a) 1 || eqb (label_at small (new a)).owner k))
+      ap (λ (x : Label). is_call x && eqb h x.called && is_callable small k && (eqb (new a) 1 || eqb (label_at small (new a)).owner k))
       (label-new i S c R l hl)
       ∙ ap₂ (λ (t u : Bool). is_call (label_at i l) && eqb h (label_at i l).called && t && u) (callable-new k) (stands-new a k ha)
 
-  pub of-handler-new : (l : ℕ) → l < length i.labels → ofHandler small (new l) ≡ ofHandler i l
+  pub of-handler-new : (l : ℕ) → l < length i.labels → is_of_handler small (new l) ≡ is_of_handler i l
   of-handler-new l h =
       ap (λ (g : ℕ). not (eqb g 0) && (eqb (new l) 1 || eqb (label_at small (new l)).owner g)) (same-handler i S c R)
       ∙ ap (λ (t : Bool). not (eqb i.handler 0) && t) (stands-new l i.handler h)
 
-  served-new : (s : State) (h : ℕ) → badServed small (renamed c s) h ≡ badServed i s h
+  served-new : (s : State) (h : ℕ) → is_badly_served small (renumbered_state c s) h ≡ is_badly_served i s h
   served-new s h =
-      let k : ℕ = served s.serving h in
+      let k : ℕ = server_of s.serving h in
       ap₂ (λ (m g : ℕ). not (pick (leb h m && not (eqb h g)) (leb 2 k && leb k m) (eqb k h))) (entries-count i S c R) (same-handler i S c R)
 
   module _ (s : State) (f : Fits i s) where
-    bottom-new : badBottom small (renamed c s) ≡ badBottom i s
+    bottom-new : has_bad_bottom small (renumbered_state c s) ≡ has_bad_bottom i s
     bottom-new =
-        let l : ℕ = placeAt s 0 in
+        let l : ℕ = place_at s 0 in
         let h : l < length i.labels = f.labels 0 f.some in
-        ap (λ (k : ℕ). not ((eqb (label_at small k).owner 1 && isOwnBottom s 1) || (ofHandler small k && isOwnBottom s small.handler)))
+        ap (λ (k : ℕ). not ((eqb (label_at small k).owner 1 && is_own_bottom s 1)
+        || (is_of_handler small k && is_own_bottom s small.handler)))
         (place-new i S c R s 0)
-        ∙ ap₂ (λ (x : Label) (t : Bool). not ((eqb x.owner 1 && isOwnBottom s 1) || (t && isOwnBottom s small.handler)))
+        ∙ ap₂ (λ (x : Label) (t : Bool). not ((eqb x.owner 1 && is_own_bottom s 1) || (t && is_own_bottom s small.handler)))
         (label-new i S c R l h) (of-handler-new l h)
-        ∙ ap (λ (g : ℕ). not ((eqb (label_at i l).owner 1 && isOwnBottom s 1) || (ofHandler i l && isOwnBottom s g))) (same-handler i S c R)
+        ∙ ap (λ (g : ℕ). not ((eqb (label_at i l).owner 1 && is_own_bottom s 1) || (is_of_handler i l && is_own_bottom s g)))
+        (same-handler i S c R)
 
-    above_new : (k : ℕ) → filledPlace s k ≡ false → filledPlace (renamed c s) k ≡ false
+    above_new : (k : ℕ) → is_filled_place s k ≡ false → is_filled_place (renumbered_state c s) k ≡ false
     above_new k e =
-        let t : Bool = eqb (placeAt s k) 0 && eqb (number_at s k) 0 in
-        let z : placeAt s k ≡ 0 = eqb-true (placeAt s k) 0
-        (and_l (eqb (placeAt s k) 0) (eqb (number_at s k) 0) (and_l t (eqb (serverAt s k) 0) (not-false (t && eqb (serverAt s k) 0) e))) in
-        let same : placeAt (renamed c s) k ≡ placeAt s k = place-new i S c R s k ∙ ap new z ∙ new-zero i S c R ∙ sym z in
-        ap (λ (l : ℕ). not (eqb l 0 && eqb (number_at s k) 0 && eqb (serverAt s k) 0)) same ∙ e
+        let t : Bool = eqb (place_at s k) 0 && eqb (number_at s k) 0 in
+        let z : place_at s k ≡ 0 = eqb-true (place_at s k) 0
+        (and_l (eqb (place_at s k) 0) (eqb (number_at s k) 0) (and_l t (eqb (server_at s k) 0)
+        (not-false (t && eqb (server_at s k) 0) e))) in
+        let same : place_at (renumbered_state c s) k ≡ place_at s k = place-new i S c R s k ∙ ap new z ∙ new-zero i S c R ∙ sym z in
+        ap (λ (l : ℕ). not (eqb l 0 && eqb (number_at s k) 0 && eqb (server_at s k) 0)) same ∙ e
 
-    pub fits-new : Fits small (renamed c s)
+    pub fits-new : Fits small (renumbered_state c s)
     fits-new = record {
       whole = sized_new c s f.whole;
       small = f.small;
       some = f.some;
       most = f.most;
       labels = λ k h. subst (λ (x : ℕ). x < length small.labels) (sym (place-new i S c R s k))
-          (new-inside i S c R (placeAt s k) (f.labels k h));
+          (new-inside i S c R (place_at s k) (f.labels k h));
       carries = λ k h.
-          ap₂ (λ (l a : ℕ). mayCarry small l (number_at s (k + 1)) (serverAt s (k + 1)) a)
+          ap₂ (λ (l a : ℕ). is_able_to_carry small l (number_at s (k + 1)) (server_at s (k + 1)) a)
           (place-new i S c R s k) (place-new i S c R s (k + 1))
-          ∙ carry-new (placeAt s k) (number_at s (k + 1)) (serverAt s (k + 1)) (placeAt s (k + 1))
+          ∙ carry-new (place_at s k) (number_at s (k + 1)) (server_at s (k + 1)) (place_at s (k + 1))
           (f.labels k (omega arith)) (f.labels (k + 1) h)
           ∙ f.carries k h;
       bottom = bottom-new ∙ f.bottom;

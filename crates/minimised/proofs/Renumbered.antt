@@ -11,18 +11,18 @@ use Rattle.words.specs.lists.Pick.{pick}
 use Rattle.results.specs.Results.{Results, result_of}
 use Rattle.image.specs.Image.{Image, Label}
 use Rattle.image.specs.inner.Sound.{SoundImage}
-use Rattle.rows.specs.Rows.{bestRow, Found, found, missing, leads}
+use Rattle.rows.specs.Rows.{best_row, Found, found, missing, lead_of}
 use Rattle.state.specs.declared.State.{State}
-use Rattle.state.specs.State.{noPlaces, bottomAlone, label_at, entry_at, placeAt}
-use Rattle.ticks.specs.Tick.{rowLeads}
+use Rattle.state.specs.State.{no_places, bottom_alone, label_at, entry_at, place_at}
+use Rattle.ticks.specs.Tick.{row_leads}
 use Rattle.covering.proofs.Hits.{OneRow}
 use Rattle.grouping.specs.Classes.{class_of}
-use Rattle.grouping.proofs.Onward.{onwardLabel, best-found}
+use Rattle.grouping.proofs.Onward.{onward_label, best-found}
 use Rattle.grouping.proofs.Rounds.{ClassRound}
-use Rattle.minimising.specs.group_numbers.Smaller.{renumbered, joinedLabels}
+use Rattle.minimising.specs.group_numbers.Smaller.{renumbered_label, joined_labels}
 use Rattle.minimising.proofs.group_numbers.Numbering.{new-zero, new-one, new-high, new-inside, label-new, joined-sound}
 use Rattle.minimising.proofs.group_numbers.Led.{one-new, onward-new}
-use Rattle.minimised.specs.Renamed.{renamed}
+use Rattle.minimised.specs.Renamed.{renumbered_state}
 
 pub map-set : (f : ℕ → ℕ) (xs : List ℕ) (k u : ℕ) → set (map f xs) k (f u) ≡ map f (set xs k u)
 map-set f [] k u = refl
@@ -38,25 +38,25 @@ module _ (i : Image) (S : SoundImage i) (c : List ℕ) (R : ClassRound i c) wher
   n = length i.labels
 
   abbrev new : ℕ → ℕ
-  new = renumbered c
+  new = renumbered_label c
 
-  pub same-handler : (joinedLabels i c).handler ≡ i.handler
-  unfolding joinedLabels
+  pub same-handler : (joined_labels i c).handler ≡ i.handler
+  unfolding joined_labels
   same-handler = refl
 
   -- a number that has no scheme has label 0 for its entry in both
-  pub entry-at : (h : ℕ) → entry_at (joinedLabels i c) h ≡ new (entry_at i h)
-  unfolding joinedLabels
+  pub entry-at : (h : ℕ) → entry_at (joined_labels i c) h ≡ new (entry_at i h)
+  unfolding joined_labels
   entry-at h = ap (λ (d : ℕ). get_or (map new i.entries) (h - 1) d) (sym (new-zero i S c R)) ∙ get_or-map new i.entries (h - 1) 0
 
-  pub place-new : (s : State) (k : ℕ) → placeAt (renamed c s) k ≡ new (placeAt s k)
+  pub place-new : (s : State) (k : ℕ) → place_at (renumbered_state c s) k ≡ new (place_at s k)
   place-new s k = ap (λ (d : ℕ). get_or (map new s.places) k d) (sym (new-zero i S c R)) ∙ get_or-map new s.places k 0
 
-  pub nothing-new : map new noPlaces ≡ noPlaces
+  pub nothing-new : map new no_places ≡ no_places
   nothing-new = map-zeros new (new-zero i S c R) 32
 
-  pub only-new : (l : ℕ) → bottomAlone (new l) ≡ map new (bottomAlone l)
-  only-new l = ap (λ (ps : List ℕ). set ps 0 (new l)) (sym nothing-new) ∙ map-set new noPlaces 0 l
+  pub only-new : (l : ℕ) → bottom_alone (new l) ≡ map new (bottom_alone l)
+  only-new l = ap (λ (ps : List ℕ). set ps 0 (new l)) (sym nothing-new) ∙ map-set new no_places 0 l
 
   -- label 1 alone has number 1
   pub one_same : (l : ℕ) → l < n → eqb (new l) 1 ≡ eqb l 1
@@ -67,28 +67,28 @@ module _ (i : Image) (S : SoundImage i) (c : List ℕ) (R : ClassRound i c) wher
       ∙ sym (ne_eqb (suc (suc l)) 1 (λ q. omega arith))
 
 -- ---- where a label leads
-abbrev pub renamedFound : List ℕ → Found → Found
-renamedFound c (found u) = found (renumbered c u)
-renamedFound c missing = missing
+abbrev pub renamed_found : List ℕ → Found → Found
+renamed_found c (found u) = found (renumbered_label c u)
+renamed_found c missing = missing
 
 -- labels of one group lead to one group
 abbrev pub GroupLeads : Image → List ℕ → Type 0
 GroupLeads i c = (l m : ℕ) → l < length i.labels → m < length i.labels → class_of c l ≡ class_of c m
-    → (w : ℕ) (b : Bool) → class_of c (onwardLabel i l w b) ≡ class_of c (onwardLabel i m w b)
+    → (w : ℕ) (b : Bool) → class_of c (onward_label i l w b) ≡ class_of c (onward_label i m w b)
 
 module _ (i : Image) (S : SoundImage i) (one : OneRow i) (d : Results) (l w : ℕ) (low : 2 ≤ l) (h : l < length i.labels) where
   abbrev bit : Bool
   bit = result_of (label_at i l).called d
 
-  pub row-some : rowLeads i d l w ≡ found (onwardLabel i l w (result_of (label_at i l).called d))
+  pub row-some : row_leads i d l w ≡ found (onward_label i l w (result_of (label_at i l).called d))
   row-some = best-found i S one l w (result_of (label_at i l).called d) low h 0
 
   pub row_new : (c : List ℕ) → ClassRound i c → GroupLeads i c
-      → rowLeads (joinedLabels i c) d (renumbered c l) w ≡ renamedFound c (rowLeads i d l w)
+      → row_leads (joined_labels i c) d (renumbered_label c l) w ≡ renamed_found c (row_leads i d l w)
   row_new c R g =
-      let k : ℕ = renumbered c l in
-      ap (λ (x : Label). leads (bestRow k w (pick (result_of x.called d) 1 0) 0 (joinedLabels i c).rows)) (label-new i S c R l h)
-      ∙ best-found (joinedLabels i c) (joined-sound i S c R) (one-new i S c R one) k w bit
+      let k : ℕ = renumbered_label c l in
+      ap (λ (x : Label). lead_of (best_row k w (pick (result_of x.called d) 1 0) 0 (joined_labels i c).rows)) (label-new i S c R l h)
+      ∙ best-found (joined_labels i c) (joined-sound i S c R) (one-new i S c R one) k w bit
       (new-high i S c R l h low) (new-inside i S c R l h) 0
       ∙ ap found (onward-new i S c R one g l w bit low h)
-      ∙ sym (ap (renamedFound c) row-some)
+      ∙ sym (ap (renamed_found c) row-some)

@@ -8,96 +8,100 @@ use lib.Dec.{leb, eqb}
 use lib.ListN.{length, set}
 use borrow.Author.Tests.{leb-false}
 use Rattle.words.specs.lists.Pick.{pick}
-use Rattle.results.specs.Results.{Results, withResult, cleared}
-use Rattle.bindings.specs.Binding.{served}
-use Rattle.image.specs.Layout.{tickKind}
+use Rattle.results.specs.Results.{Results, with_result, cleared_results}
+use Rattle.bindings.specs.Binding.{server_of}
+use Rattle.image.specs.Layout.{tick_kind}
 use Rattle.image.specs.Image.{Image, Label}
 use Rattle.image.specs.inner.Sound.{SoundImage}
 use Rattle.rows.specs.Rows.{Found, found, missing}
 use Rattle.state.specs.declared.State.{State}
-use Rattle.state.specs.State.{bottomAlone, label_at, entry_at, placeAt, number_at, serverAt}
-use Rattle.state.specs.Changes.{withPlaces, withDepth, with_bits}
-use Rattle.fitness.specs.Fitness.{ofHandler}
+use Rattle.state.specs.State.{bottom_alone, label_at, entry_at, place_at, number_at, server_at}
+use Rattle.state.specs.Changes.{with_places, with_depth, with_bits}
+use Rattle.fitness.specs.Fitness.{is_of_handler}
 use Rattle.fitness.proofs.Fitness.{Fits}
-use Rattle.ticks.specs.Tick.{rowLeads, MachineTick, finished, stopped, moved, dropping, alone}
-use Rattle.ticks.specs.Tick.{opening, keepsFull, full, pushed, popped, tickBy, tick}
+use Rattle.ticks.specs.Tick.{row_leads, MachineTick, finished, stopped, moved_tick, popped_state, state_alone}
+use Rattle.ticks.specs.Tick.{opened_state, is_full_stack_kept, full_tick, pushed_tick, popped_tick, tick_by, tick}
 use Rattle.ticks.proofs.Leads.{call-kind, kind-high, carry-told}
 use Rattle.ticks.proofs.Keeps.{Keeps, tick-keeps}
 use Rattle.runs.specs.Run.{MachineRun, then, ticks}
 use Rattle.covering.proofs.Hits.{OneRow}
 use Rattle.grouping.proofs.Rounds.{ClassRound}
-use Rattle.minimising.specs.group_numbers.Smaller.{renumbered, joinedLabels}
+use Rattle.minimising.specs.group_numbers.Smaller.{renumbered_label, joined_labels}
 use Rattle.minimising.proofs.group_numbers.Numbering.{new-zero, label-new}
-use Rattle.minimised.specs.Renamed.{renamed, renamedTick, renamedMachineRun}
+use Rattle.minimised.specs.Renamed.{renumbered_state, renamed_tick, renamed_machine_run}
 use Rattle.minimised.proofs.Renumbered.{map-set, same-handler, entry-at, place-new, only-new}
-use Rattle.minimised.proofs.Renumbered.{renamedFound, GroupLeads, row-some, row_new}
+use Rattle.minimised.proofs.Renumbered.{renamed_found, GroupLeads, row-some, row_new}
 use Rattle.minimised.proofs.Fitting.{of-handler-new}
 
 -- the tick of a label that is known
-tick-at : (i : Image) (s : State) (w l : ℕ) (x : Label) → placeAt s (s.depth - 1) ≡ l → label_at i l ≡ x
-    → tick i s w ≡ tickBy i s w l x (withResult x.result (number_at s (s.depth - 1)) s.bits) (tickKind x.kind)
+tick-at : (i : Image) (s : State) (w l : ℕ) (x : Label) → place_at s (s.depth - 1) ≡ l → label_at i l ≡ x
+    → tick i s w ≡ tick_by i s w l x (with_result x.result (number_at s (s.depth - 1)) s.bits) (tick_kind x.kind)
 unfolding tick
 tick-at i s w l x e f =
     ap (λ (k : ℕ). let y = label_at i k in
-    tickBy i s w k y (withResult y.result (number_at s (s.depth - 1)) s.bits) (tickKind y.kind)) e
-    ∙ ap (λ (y : Label). tickBy i s w l y (withResult y.result (number_at s (s.depth - 1)) s.bits) (tickKind y.kind)) f
+    tick_by i s w k y (with_result y.result (number_at s (s.depth - 1)) s.bits) (tick_kind y.kind)) e
+    ∙ ap (λ (y : Label). tick_by i s w l y (with_result y.result (number_at s (s.depth - 1)) s.bits) (tick_kind y.kind)) f
 
 module _ (i : Image) (S : SoundImage i) (c : List ℕ) (R : ClassRound i c) where
   abbrev new : ℕ → ℕ
-  new = renumbered c
+  new = renumbered_label c
 
   abbrev small : Image
-  small = joinedLabels i c
+  small = joined_labels i c
 
   -- ---- changes of a state
   moved_new : (m code : ℕ) (t : State) (k : ℕ) (f : Found)
-      → moved m code (renamed c t) k (renamedFound c f) ≡ renamedTick c (moved m code t k f)
+      → moved_tick m code (renumbered_state c t) k (renamed_found c f) ≡ renamed_tick c (moved_tick m code t k f)
   moved_new m code t k (found u) =
-      ap (λ (ps : List ℕ). finished m code (withPlaces t ps t.numbers t.servers)) (map-set new t.places k u)
+      ap (λ (ps : List ℕ). finished m code (with_places t ps t.numbers t.servers)) (map-set new t.places k u)
   moved_new m code t k missing = refl
 
-  dropping-new : (s : State) (b : Results) → dropping (renamed c s) b ≡ renamed c (dropping s b)
+  dropping-new : (s : State) (b : Results) → popped_state (renumbered_state c s) b ≡ renumbered_state c (popped_state s b)
   dropping-new s b =
       let d : ℕ = s.depth - 1 in
-      ap (λ (ps : List ℕ). withDepth (withPlaces (with_bits s b) ps (set s.numbers d 0) (set s.servers d 0)) d)
+      ap (λ (ps : List ℕ). with_depth (with_places (with_bits s b) ps (set s.numbers d 0) (set s.servers d 0)) d)
       (ap (set (map new s.places) d) (sym (new-zero i S c R)) ∙ map-set new s.places d 0)
 
-  alone-new : (s : State) (l h : ℕ) (b : Results) → alone (renamed c s) (new l) h b ≡ renamed c (alone s l h b)
-  alone-new s l h b = ap (λ (ps : List ℕ). withDepth (withPlaces (with_bits s b) ps (bottomAlone h) (bottomAlone h)) 1) (only-new i S c R l)
+  alone-new : (s : State) (l h : ℕ) (b : Results) → state_alone (renumbered_state c s) (new l) h b
+      ≡ renumbered_state c (state_alone s l h b)
+  alone-new s l h b =
+      ap (λ (ps : List ℕ). with_depth (with_places (with_bits s b) ps (bottom_alone h) (bottom_alone h)) 1) (only-new i S c R l)
 
   opening-new : (s : State) (h k : ℕ) (b : Results)
-      → opening (renamed c s) (entry_at small k) h k b ≡ renamed c (opening s (entry_at i k) h k b)
+      → opened_state (renumbered_state c s) (entry_at small k) h k b ≡ renumbered_state c (opened_state s (entry_at i k) h k b)
   opening-new s h k b =
       let d : ℕ = s.depth in
-      ap (λ (ps : List ℕ). withDepth (withPlaces (with_bits s b) ps (set s.numbers d h) (set s.servers d k)) (suc d))
+      ap (λ (ps : List ℕ). with_depth (with_places (with_bits s b) ps (set s.numbers d h) (set s.servers d k)) (suc d))
       (ap (set (map new s.places) d) (entry-at i S c R k) ∙ map-set new s.places d (entry_at i k))
 
   -- ---- a call
-  module _ (s : State) (inside : placeAt s 0 < length i.labels) where
-    keeps-new : keepsFull small (renamed c s) ≡ keepsFull i s
+  module _ (s : State) (inside : place_at s 0 < length i.labels) where
+    keeps-new : is_full_stack_kept small (renumbered_state c s) ≡ is_full_stack_kept i s
     keeps-new =
-        ap₂ (λ (g l : ℕ). eqb g 0 || ofHandler small l) (same-handler i S c R) (place-new i S c R s 0)
-        ∙ ap (λ (t : Bool). eqb i.handler 0 || t) (of-handler-new i S c R (placeAt s 0) inside)
+        ap₂ (λ (g l : ℕ). eqb g 0 || is_of_handler small l) (same-handler i S c R) (place-new i S c R s 0)
+        ∙ ap (λ (t : Bool). eqb i.handler 0 || t) (of-handler-new i S c R (place_at s 0) inside)
 
-    full-new : (m : ℕ) (b : Results) → full small (renamed c s) m b ≡ renamedTick c (full i s m b)
+    full-new : (m : ℕ) (b : Results) → full_tick small (renumbered_state c s) m b ≡ renamed_tick c (full_tick i s m b)
     full-new m b =
-        ap₂ (λ (t : Bool) (g : ℕ). by t (alone (renamed c s) (entry_at small g) g (cleared g b))) keeps-new (same-handler i S c R)
-        ∙ ap (λ (l : ℕ). by (keepsFull i s) (alone (renamed c s) l i.handler (cleared i.handler b))) (entry-at i S c R i.handler)
-        ∙ ap (by (keepsFull i s)) (alone-new s (entry_at i i.handler) i.handler (cleared i.handler b))
-        ∙ go (keepsFull i s) (alone s (entry_at i i.handler) i.handler (cleared i.handler b))
+        ap₂ (λ (t : Bool) (g : ℕ). by t (state_alone (renumbered_state c s) (entry_at small g) g (cleared_results g b))) keeps-new
+        (same-handler i S c R)
+        ∙ ap (λ (l : ℕ). by (is_full_stack_kept i s) (state_alone (renumbered_state c s) l i.handler (cleared_results i.handler b)))
+        (entry-at i S c R i.handler)
+        ∙ ap (by (is_full_stack_kept i s)) (alone-new s (entry_at i i.handler) i.handler (cleared_results i.handler b))
+        ∙ go (is_full_stack_kept i s) (state_alone s (entry_at i i.handler) i.handler (cleared_results i.handler b))
       where
         by : Bool → State → MachineTick
         by t u = pick t (stopped 17) (finished m 96 u)
 
-        go : (t : Bool) (u : State) → pick t (stopped 17) (finished m 96 (renamed c u)) ≡ renamedTick
+        go : (t : Bool) (u : State) → pick t (stopped 17) (finished m 96 (renumbered_state c u)) ≡ renamed_tick
             c (pick t (stopped 17) (finished m 96 u))
         go true u = refl
         go false u = refl
 
     pushed-new : (m code h k : ℕ) (b : Results) (t : Bool)
-        → pushed small (renamed c s) m code h k b t ≡ renamedTick c (pushed i s m code h k b t)
+        → pushed_tick small (renumbered_state c s) m code h k b t ≡ renamed_tick c (pushed_tick i s m code h k b t)
     pushed-new m code h k b true = full-new m b
-    pushed-new m code h k b false = ap (finished m code) (opening-new s h k (cleared h b))
+    pushed-new m code h k b false = ap (finished m code) (opening-new s h k (cleared_results h b))
 
 -- a tick ends with 17 or goes on
 abbrev pub Stops17 : MachineTick → Type 0
@@ -108,10 +112,10 @@ module _ (i : Image) (S : SoundImage i) (one : OneRow i) where
   -- ---- a state that fits: its top, and the label beneath it, which is a call
   module _ (s : State) (f : Fits i s) where
     abbrev top : ℕ
-    top = placeAt s (s.depth - 1)
+    top = place_at s (s.depth - 1)
 
     abbrev under : ℕ
-    under = placeAt s (s.depth - 2)
+    under = place_at s (s.depth - 2)
 
     top-inside : top < length i.labels
     top-inside = f.labels (s.depth - 1) (omega (arith, f.some))
@@ -123,95 +127,100 @@ module _ (i : Image) (S : SoundImage i) (one : OneRow i) where
     under-high e =
         let two : 1 < s.depth = leb-false s.depth 1 e in
         let k : ℕ = s.depth - 2 in
-        let told = carry-told i S under (number_at s (k + 1)) (serverAt s (k + 1)) (placeAt s (k + 1)) (f.carries k (omega arith)) in
+        let told = carry-told i S under (number_at s (k + 1)) (server_at s (k + 1)) (place_at s (k + 1)) (f.carries k (omega arith)) in
         kind-high i S under (under-inside e) (call-kind i S under told.0).1
 
     -- ---- no tick misses a row
-    moved-some : (m code : ℕ) (t : State) (k : ℕ) (g : Found) (u : ℕ) → g ≡ found u → Stops17 (moved m code t k g)
-    moved-some m code t k g u e = subst (λ (x : Found). Stops17 (moved m code t k x)) (sym e) tt
+    moved-some : (m code : ℕ) (t : State) (k : ℕ) (g : Found) (u : ℕ) → g ≡ found u → Stops17 (moved_tick m code t k g)
+    moved-some m code t k g u e = subst (λ (x : Found). Stops17 (moved_tick m code t k x)) (sym e) tt
 
-    pushed-some : (m code h k : ℕ) (b : Results) (t : Bool) → Stops17 (pushed i s m code h k b t)
-    pushed-some m code h k b true = go (keepsFull i s)
+    pushed-some : (m code h k : ℕ) (b : Results) (t : Bool) → Stops17 (pushed_tick i s m code h k b t)
+    pushed-some m code h k b true = go (is_full_stack_kept i s)
       where
         go : (t : Bool) → Stops17 (pick t (stopped 17)
-            (finished m 96 (alone s (entry_at i i.handler) i.handler (cleared i.handler b))))
+            (finished m 96 (state_alone s (entry_at i i.handler) i.handler (cleared_results i.handler b))))
         go true = refl
         go false = tt
     pushed-some m code h k b false = tt
 
-    popped-some : (w m : ℕ) (b : Results) (t : Bool) → leb s.depth 1 ≡ t → Stops17 (popped i s w m b t)
+    popped-some : (w m : ℕ) (b : Results) (t : Bool) → leb s.depth 1 ≡ t → Stops17 (popped_tick i s w m b t)
     popped-some w m b true e = tt
-    popped-some w m b false e = moved-some m 3 (dropping s b) (s.depth - 2) (rowLeads i b under w) _
+    popped-some w m b false e = moved-some m 3 (popped_state s b) (s.depth - 2) (row_leads i b under w) _
         (row-some i S one b under w (under-high e) (under-inside e))
 
-    some-by : (w : ℕ) (b : Results) (k : ℕ) → (label_at i top).kind ≡ k → Stops17 (tickBy i s w top (label_at i top) b (tickKind k))
-    some-by w b zero e = moved-some (label_at i top).mask 0 (with_bits s b) (s.depth - 1) (rowLeads i b top w) _
+    some-by : (w : ℕ) (b : Results) (k : ℕ) → (label_at i top).kind ≡ k → Stops17 (tick_by i s w top (label_at i top) b (tick_kind k))
+    some-by w b zero e = moved-some (label_at i top).mask 0 (with_bits s b) (s.depth - 1) (row_leads i b top w) _
         (row-some i S one b top w (kind-high i S top top-inside (omega arith)) top-inside)
     some-by w b (suc zero) e = let h : ℕ = (label_at i top).called in
-        pushed-some (label_at i top).mask (16 + h) h (served s.serving h) b (leb s.size s.depth)
+        pushed-some (label_at i top).mask (16 + h) h (server_of s.serving h) b (leb s.size s.depth)
     some-by w b (suc (suc zero)) e = let h : ℕ = (label_at i top).called in
-        pushed-some (label_at i top).mask (64 + h) h (served s.serving h) b (leb s.size s.depth)
+        pushed-some (label_at i top).mask (64 + h) h (server_of s.serving h) b (leb s.size s.depth)
     some-by w b (suc (suc (suc zero))) e = popped-some w (label_at i top).mask b (leb s.depth 1) refl
     some-by w b (suc (suc (suc (suc k)))) e = tt
 
     pub never-18 : (w : ℕ) → Stops17 (tick i s w)
     unfolding tick
-    never-18 w = let x : Label = label_at i top in some-by w (withResult x.result (number_at s (s.depth - 1)) s.bits) x.kind refl
+    never-18 w = let x : Label = label_at i top in some-by w (with_result x.result (number_at s (s.depth - 1)) s.bits) x.kind refl
 
   -- ---- one tick
   module _ (c : List ℕ) (R : ClassRound i c) (leads : GroupLeads i c) where
     popped-new : (s : State) → Fits i s → (w m : ℕ) (b : Results) (t : Bool) → leb s.depth 1 ≡ t
-        → popped (joinedLabels i c) (renamed c s) w m b t ≡ renamedTick c (popped i s w m b t)
+        → popped_tick (joined_labels i c) (renumbered_state c s) w m b t ≡ renamed_tick c (popped_tick i s w m b t)
     popped-new s f w m b true e =
-        ap (λ (l : ℕ). finished m 3 (alone (renamed c s) l 1 b)) (sym (new-zero i S c R)) ∙ ap (finished m 3) (alone-new i S c R s 0 1 b)
+        ap (λ (l : ℕ). finished m 3 (state_alone (renumbered_state c s) l 1 b)) (sym (new-zero i S c R))
+        ∙ ap (finished m 3) (alone-new i S c R s 0 1 b)
     popped-new s f w m b false e =
         let k : ℕ = s.depth - 2 in
-        ap₂ (λ (t : State) (l : ℕ). moved m 3 t k (rowLeads (joinedLabels i c) b l w)) (dropping-new i S c R s b) (place-new i S c R s k)
-        ∙ ap (moved m 3 (renamed c (dropping s b)) k) (row_new i S one b (under s f) w (under-high s f e) (under-inside s f e) c R leads)
-        ∙ moved_new i S c R m 3 (dropping s b) k (rowLeads i b (under s f) w)
+        ap₂ (λ (t : State) (l : ℕ). moved_tick m 3 t k (row_leads (joined_labels i c) b l w)) (dropping-new i S c R s b)
+        (place-new i S c R s k)
+        ∙ ap (moved_tick m 3 (renumbered_state c (popped_state s b)) k)
+        (row_new i S one b (under s f) w (under-high s f e) (under-inside s f e) c R leads)
+        ∙ moved_new i S c R m 3 (popped_state s b) k (row_leads i b (under s f) w)
 
     tick-by : (s : State) (f : Fits i s) (w : ℕ) (b : Results) (k : ℕ) → (label_at i (top s f)).kind ≡ k
-        → tickBy (joinedLabels i c) (renamed c s) w (renumbered c (top s f)) (label_at i (top s f)) b (tickKind k)
-        ≡ renamedTick c (tickBy i s w (top s f) (label_at i (top s f)) b (tickKind k))
+        → tick_by (joined_labels i c) (renumbered_state c s) w (renumbered_label c (top s f)) (label_at i (top s f)) b (tick_kind k)
+        ≡ renamed_tick c (tick_by i s w (top s f) (label_at i (top s f)) b (tick_kind k))
     tick-by s f w b zero e =
         let l : ℕ = top s f in
         let k : ℕ = s.depth - 1 in
-        ap (moved (label_at i l).mask 0 (renamed c (with_bits s b)) k)
+        ap (moved_tick (label_at i l).mask 0 (renumbered_state c (with_bits s b)) k)
         (row_new i S one b l w (kind-high i S l (top-inside s f) (omega arith)) (top-inside s f) c R leads)
-        ∙ moved_new i S c R (label_at i l).mask 0 (with_bits s b) k (rowLeads i b l w)
+        ∙ moved_new i S c R (label_at i l).mask 0 (with_bits s b) k (row_leads i b l w)
     tick-by s f w b (suc zero) e = let h : ℕ = (label_at i (top s f)).called in
         pushed-new i S c R s (f.labels 0 f.some) (label_at i (top s f)).mask (16 + h)
-        h (served s.serving h) b (leb s.size s.depth)
+        h (server_of s.serving h) b (leb s.size s.depth)
     tick-by s f w b (suc (suc zero)) e = let h : ℕ = (label_at i (top s f)).called in
         pushed-new i S c R s (f.labels 0 f.some) (label_at i (top s f)).mask (64 + h)
-        h (served s.serving h) b (leb s.size s.depth)
+        h (server_of s.serving h) b (leb s.size s.depth)
     tick-by s f w b (suc (suc (suc zero))) e = popped-new s f w (label_at i (top s f)).mask b (leb s.depth 1) refl
     tick-by s f w b (suc (suc (suc (suc k)))) e =
         let m : ℕ = (label_at i (top s f)).mask in
-        ap (λ (u : ℕ). moved m 4 (renamed c (with_bits s b)) (s.depth - 1) (found u)) (entry-at i S c R 1)
+        ap (λ (u : ℕ). moved_tick m 4 (renumbered_state c (with_bits s b)) (s.depth - 1) (found u)) (entry-at i S c R 1)
         ∙ moved_new i S c R m 4 (with_bits s b) (s.depth - 1) (found (entry_at i 1))
 
-    pub tick-new : (s : State) → Fits i s → (w : ℕ) → tick (joinedLabels i c) (renamed c s) w ≡ renamedTick c (tick i s w)
+    pub tick-new : (s : State) → Fits i s → (w : ℕ) → tick (joined_labels i c) (renumbered_state c s) w ≡ renamed_tick c (tick i s w)
     tick-new s f w =
         let l : ℕ = top s f in
         let x : Label = label_at i l in
-        let b : Results = withResult x.result (number_at s (s.depth - 1)) s.bits in
-        tick-at (joinedLabels i c) (renamed c s) w (renumbered c l) x (place-new i S c R s (s.depth - 1))
+        let b : Results = with_result x.result (number_at s (s.depth - 1)) s.bits in
+        tick-at (joined_labels i c) (renumbered_state c s) w (renumbered_label c l) x (place-new i S c R s (s.depth - 1))
         (label-new i S c R l (top-inside s f))
         ∙ tick-by s f w b x.kind refl
-        ∙ sym (ap (renamedTick c) (tick-at i s w l x refl refl))
+        ∙ sym (ap (renamed_tick c) (tick-at i s w l x refl refl))
 
     -- ---- any number of ticks
-    pub ticks-new : (ws : List ℕ) (s : State) → Fits i s → ticks (joinedLabels i c) (renamed c s) ws ≡ renamedMachineRun c (ticks i s ws)
+    pub ticks-new : (ws : List ℕ) (s : State) → Fits i s → ticks (joined_labels i c) (renumbered_state c s) ws
+        ≡ renamed_machine_run c (ticks i s ws)
     unfolding ticks
     ticks-new [] s f = refl
     ticks-new (w ∷ ws) s f =
-        ap (then (renamed c s) (λ t. ticks (joinedLabels i c) t ws)) (tick-new s f w)
+        ap (then (renumbered_state c s) (λ t. ticks (joined_labels i c) t ws)) (tick-new s f w)
         ∙ go (tick i s w) (tick-keeps i S s f w) (ticks-new ws)
       where
         go : (t : MachineTick) → Keeps i S t
-            → ((u : State) → Fits i u → ticks (joinedLabels i c) (renamed c u) ws ≡ renamedMachineRun c (ticks i u ws))
-            → then (renamed c s) (λ t. ticks (joinedLabels i c) t ws) (renamedTick c t) ≡ renamedMachineRun c (then s (λ u. ticks i u ws) t)
+            → ((u : State) → Fits i u → ticks (joined_labels i c) (renumbered_state c u) ws ≡ renamed_machine_run c (ticks i u ws))
+            → then (renumbered_state c s) (λ t. ticks (joined_labels i c) t ws) (renamed_tick c t)
+            ≡ renamed_machine_run c (then s (λ u. ticks i u ws) t)
         go (finished m k u) q ih =
             ap (λ (r : MachineRun). record { masks = m ∷ r.masks; codes = k ∷ r.codes; state = r.state; verdict = r.verdict }) (ih u q)
         go (stopped k) q ih = refl

@@ -8,25 +8,26 @@ use Rattle.translator.specs.Entry.{translate}
 use Rattle.state.specs.declared.layout.TheConstants.{PLACES}
 use Rattle.minimising.specs.Entry.{minimise}
 use Rattle.state.specs.declared.StateReport.{StateReport}
-use Rattle.state.specs.State.{freshState, GivesState}
+use Rattle.state.specs.State.{fresh_state, GivesState}
 use Rattle.fairleadow.specs.telling.AnswersForC.{GivesBufferC}
 use Rattle.fairleadow.specs.runs_for_c.Calls.{GivesStateC}
-use Rattle.agreement.specs.Agreement.{CallInput, CallOutput, walkOutputs}
+use Rattle.agreement.specs.Agreement.{CallInput, CallOutput, walk_outputs}
 use Rattle.agreement.specs.Calls.{CallsInTurn}
-use Rattle.agreement.specs.ForC.{CallOutputC, callOutputC, CallsInTurnC}
+use Rattle.agreement.specs.ForC.{CallOutputC, call_output_c, CallsInTurnC}
 
 unfoldable pub SmallerDelivered : Type 0
 SmallerDelivered =
     (text before after : List ℕ) (answer : Answer) → GivesBuffer (translate text before) answer after → (n : ℕ) → reply answer ≡ success n
     → (room smaller : List ℕ) (told : Answer) → GivesBuffer (minimise (take n after) room) told smaller → (m : ℕ) → reply told ≡ success m
-    → (size : ℕ) → 1 ≤ size → size ≤ PLACES → (made : StateReport) → GivesState (freshState size) made
+    → (size : ℕ) → 1 ≤ size → size ≤ PLACES → (made : StateReport) → GivesState (fresh_state size) made
     → (given : List CallInput) (handed : List CallOutput) → CallsInTurn (take m smaller) made.state given handed
-    → handed ≡ walkOutputs size (contents text) given
+    → handed ≡ walk_outputs size (contents text) given
 
 unfoldable pub SmallerDeliveredC : Type 0
 SmallerDeliveredC =
     (text before after : List ℕ) (at n : ℕ) → GivesBufferC (translate text before) 0 at n after
     → (room smaller : List ℕ) (at m : ℕ) → GivesBufferC (minimise (take n after) room) 0 at m smaller
-    → (size : ℕ) → 1 ≤ size → size ≤ PLACES → (returned at made : ℕ) (bytes : List ℕ) → GivesStateC (freshState size) returned at made bytes
+    → (size : ℕ) → 1 ≤ size → size ≤ PLACES → (returned at made : ℕ) (bytes : List ℕ)
+    → GivesStateC (fresh_state size) returned at made bytes
     → (given : List CallInput) (handed : List CallOutputC) → CallsInTurnC (take m smaller) bytes given handed
-    → handed ≡ map callOutputC (walkOutputs size (contents text) given)
+    → handed ≡ map call_output_c (walk_outputs size (contents text) given)

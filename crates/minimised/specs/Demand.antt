@@ -3,7 +3,7 @@ use Rattle.std.specs.Prelude.{ℕ, ◌≤◌, ◌≡◌, List, length, take}
 use Rattle.text.specs.frames.Frame.{contents}
 use Rattle.text.specs.frames.Answer.{success, BufferOutcome}
 use Rattle.state.specs.declared.layout.TheConstants.{PLACES}
-use Rattle.agreement.specs.Agreement.{Translator, Maker, Runner, Rebinder, CallInput, callOutputs, walkOutputs}
+use Rattle.agreement.specs.Agreement.{Translator, Maker, Runner, Rebinder, CallInput, call_outputs, walk_outputs}
 
 abbrev pub Minimiser : Type 0
 Minimiser = List ℕ → List ℕ → BufferOutcome
@@ -27,4 +27,4 @@ SmallerAgreement translator minimiser fresh run rebind =
     → let image = take n (translator text out).buffer in
     (room : List ℕ) (m : ℕ) → (minimiser image room).reply ≡ success m
     → (size : ℕ) → 1 ≤ size → size ≤ PLACES → (given : List CallInput)
-    → callOutputs run rebind (take m (minimiser image room).buffer) (fresh size).state given ≡ walkOutputs size (contents text) given
+    → call_outputs run rebind (take m (minimiser image room).buffer) (fresh size).state given ≡ walk_outputs size (contents text) given

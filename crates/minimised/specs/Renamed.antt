@@ -2,25 +2,25 @@
 use Rattle.std.specs.Prelude.{ℕ, List, map}
 use Rattle.state.specs.declared.State.{State}
 use Rattle.state.specs.State.{StateOutcome}
-use Rattle.state.specs.Changes.{withPlaces}
+use Rattle.state.specs.Changes.{with_places}
 use Rattle.ticks.specs.Tick.{MachineTick, finished, stopped}
 use Rattle.runs.specs.Run.{MachineRun, RunOutcome}
-use Rattle.minimising.specs.group_numbers.Smaller.{renumbered}
+use Rattle.minimising.specs.group_numbers.Smaller.{renumbered_label}
 
 -- a state with each label renumbered; label 0, which also stands above the depth, keeps its number
-abbrev pub renamed : List ℕ → State → State
-renamed c s = withPlaces s (map (renumbered c) s.places) s.numbers s.servers
+abbrev pub renumbered_state : List ℕ → State → State
+renumbered_state c s = with_places s (map (renumbered_label c) s.places) s.numbers s.servers
 
 -- the same mask and code, or the same number that stops the tick
-abbrev pub renamedTick : List ℕ → MachineTick → MachineTick
-renamedTick c (finished m k t) = finished m k (renamed c t)
-renamedTick c (stopped n) = stopped n
+abbrev pub renamed_tick : List ℕ → MachineTick → MachineTick
+renamed_tick c (finished m k t) = finished m k (renumbered_state c t)
+renamed_tick c (stopped n) = stopped n
 
-abbrev pub renamedMachineRun : List ℕ → MachineRun → MachineRun
-renamedMachineRun c r = record { masks = r.masks; codes = r.codes; state = renamed c r.state; verdict = r.verdict }
+abbrev pub renamed_machine_run : List ℕ → MachineRun → MachineRun
+renamed_machine_run c r = record { masks = r.masks; codes = r.codes; state = renumbered_state c r.state; verdict = r.verdict }
 
-abbrev pub renamedRun : List ℕ → RunOutcome → RunOutcome
-renamedRun c r = record { reply = r.reply; state = renamed c r.state; masks = r.masks; codes = r.codes }
+abbrev pub renamed_run : List ℕ → RunOutcome → RunOutcome
+renamed_run c r = record { reply = r.reply; state = renumbered_state c r.state; masks = r.masks; codes = r.codes }
 
-abbrev pub renamedState : List ℕ → StateOutcome → StateOutcome
-renamedState c r = record { reply = r.reply; state = renamed c r.state }
+abbrev pub renamed_state_outcome : List ℕ → StateOutcome → StateOutcome
+renamed_state_outcome c r = record { reply = r.reply; state = renumbered_state c r.state }

@@ -3,16 +3,16 @@ use Rattle.std.specs.Prelude.{ℕ, List}
 use Rattle.text.specs.declared.frames.refusals.TheConstants.{UNEVEN}
 use Rattle.text.specs.frames.Frame.{contents}
 use Rattle.text.specs.frames.Verdict.{Verdict, next, when}
-use Rattle.text.specs.frames.Answer.{BufferOutcome, bufferOn}
-use Rattle.image.specs.Image.{imageText}
-use Rattle.image.specs.Decode.{decoded}
-use Rattle.image.specs.Check.{imageVerdict}
-use Rattle.covering.specs.Matched.{uneven}
-use Rattle.minimising.specs.group_numbers.Smaller.{smaller}
+use Rattle.text.specs.frames.Answer.{BufferOutcome, buffer_on}
+use Rattle.image.specs.Image.{image_text}
+use Rattle.image.specs.Decode.{decoded_image}
+use Rattle.image.specs.Check.{image_verdict}
+use Rattle.covering.specs.Matched.{is_uneven}
+use Rattle.minimising.specs.group_numbers.Smaller.{smaller_image}
 
 -- what the image check tries, then 23; 16 follows
-unfoldable pub minimiseVerdict : List ℕ → Verdict
-minimiseVerdict t = next (imageVerdict t) λ _. when UNEVEN (uneven (decoded (contents t)))
+unfoldable pub minimise_verdict : List ℕ → Verdict
+minimise_verdict t = next (image_verdict t) λ _. when UNEVEN (is_uneven (decoded_image (contents t)))
 
 unfoldable pub minimise : List ℕ → List ℕ → BufferOutcome
-minimise t old = bufferOn (minimiseVerdict t) 1 (λ _. imageText (smaller (decoded (contents t)))) old
+minimise t old = buffer_on (minimise_verdict t) 1 (λ _. image_text (smaller_image (decoded_image (contents t)))) old

@@ -2,10 +2,10 @@
 ghost use Rattle.std.specs.Prelude.{◌≡◌, ◌+◌, ◌-◌, ◌≤◌, ◌<◌, length};
 ghost use Rattle.words.specs.lists.Sequences.{written};
 ghost use Rattle.text.specs.declared.frames.sizes.TheConstants.{LINE, LABELS, ROWS};
-ghost use Rattle.text.specs.frames.Frame.{size, frameText};
-ghost use Rattle.image.specs.Image.{entryFrame, labelFrame, rowFrame};
-ghost use Rattle.image.specs.Decode.{labels_from, labelIn, rowInFrame};
-ghost use Rattle.minimising.specs.group_frames.inner.GroupFrames.{headerPiece, ledBy};
+ghost use Rattle.text.specs.frames.Frame.{size, frame_text};
+ghost use Rattle.image.specs.Image.{entry_frame, label_frame, row_frame};
+ghost use Rattle.image.specs.Decode.{labels_from, label_in, row_in_frame};
+ghost use Rattle.minimising.specs.group_frames.inner.GroupFrames.{header_piece, row_numbered_by};
 
 use image::byte;
 use image::layout::*;
@@ -15,7 +15,7 @@ pub fn put_header(out: &mut [u8], schemes: u8, groups: usize, rows: usize, handl
     requires in_bounds { LINE ≤ length out.old }
     requires le_groups { (1 ≤ groups) × (groups ≤ LABELS) }
     requires rows_bound { rows ≤ ROWS }
-    ensures { out.new ≡ written out.old 0 (headerPiece schemes groups rows handler) }
+    ensures { out.new ≡ written out.old 0 (header_piece schemes groups rows handler) }
 {
     let last = (groups - 1) as u8;
     let rows0 = (rows / 256) as u8;
@@ -26,7 +26,7 @@ pub fn put_header(out: &mut [u8], schemes: u8, groups: usize, rows: usize, handl
 
 pub fn put_entry(out: &mut [u8], at: usize, scheme: u8, label: u8)
     requires { at + LINE ≤ length out.old }
-    ensures { out.new ≡ written out.old at (frameText (entryFrame scheme label)) }
+    ensures { out.new ≡ written out.old at (frame_text (entry_frame scheme label)) }
 {
     let bytes = [ENTRY, scheme, label, 0, 0, 0, 0, 0, 0, 0];
     put_frame(out, at, &bytes);
@@ -37,7 +37,7 @@ pub fn put_label(table: &[u8], f: usize, number: u8, out: &mut [u8], at: usize)
     requires table_bound { (labels_from table.now ≤ f) × (f < size table.now) }
     requires at_in_bounds { at + LINE ≤ length out.old }
     ensures { out.new ≡ written out.old at
-        (frameText (labelFrame number (labelIn table.now (f - labels_from table.now)))) }
+        (frame_text (label_frame number (label_in table.now (f - labels_from table.now)))) }
 {
     let kind = byte(table, f, TICK_KIND);
     let called = byte(table, f, CALLED);
@@ -58,7 +58,7 @@ pub fn put_row(table: &[u8], numbers: &[u8], f: usize, out: &mut [u8], at: usize
     requires f_bound { (f < size table.now) × (length numbers.now ≡ LABELS) }
     requires at_in_bounds { at + LINE ≤ length out.old }
     ensures { out.new ≡ written out.old at
-        (frameText (rowFrame (ledBy numbers.now (rowInFrame table.now f)))) }
+        (frame_text (row_frame (row_numbered_by numbers.now (row_in_frame table.now f)))) }
 {
     let from = numbers[byte(table, f, FROM) as usize];
     let next = numbers[byte(table, f, NEXT) as usize];

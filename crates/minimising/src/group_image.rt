@@ -2,7 +2,7 @@
 ghost use Rattle.std.specs.Prelude.{◌≡◌, length};
 ghost use Rattle.text.specs.frames.Verdict.{fine};
 ghost use Rattle.text.specs.frames.Answer.{GivesBuffer};
-ghost use Rattle.minimising.specs.group_image.inner.WriteContracts.{Grouped, smallerOutcome};
+ghost use Rattle.minimising.specs.group_image.inner.WriteContracts.{Grouped, smaller_outcome};
 
 use crate::group_numbers::{count_kept, number_groups};
 use crate::group_text::put_pieces;
@@ -16,7 +16,7 @@ use text::frames::{Answer, refused};
 pub fn write_groups(table: &[u8], classes: &[u8], numbers: &mut [u8], out: &mut [u8]) -> Answer
     requires grouped { Grouped table.now classes.now }
     requires numbers_len { length numbers.old ≡ LABELS }
-    ensures { GivesBuffer (smallerOutcome table.now fine out.old) result out.new }
+    ensures { GivesBuffer (smaller_outcome table.now fine out.old) result out.new }
 {
     let schemes = byte(table, 0, SCHEME_COUNT) as usize;
     let last = byte(table, 0, LAST_LABEL) as usize;

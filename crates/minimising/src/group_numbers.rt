@@ -4,7 +4,7 @@ ghost use Rattle.words.specs.lists.Pick.{pick};
 ghost use Rattle.words.specs.lists.Numbers.{count};
 ghost use Rattle.text.specs.declared.frames.sizes.TheConstants.{LABELS};
 ghost use Rattle.text.specs.frames.Frame.{size, field};
-ghost use Rattle.grouping.specs.Classes.{isFirst};
+ghost use Rattle.grouping.specs.Classes.{is_first};
 ghost use Rattle.minimising.specs.group_numbers.inner.NumberContracts.{LowestOfClass, GroupNumbers};
 
 use image::byte;
@@ -13,7 +13,7 @@ use image::layout::FROM;
 // 1 for a label that is the lowest of its class, else 0.
 fn first_at(classes: &[u8], l: usize) -> usize
     requires { l < length classes.now }
-    ensures { (result ≡ pick (isFirst classes.now l) 1 0) × (result ≤ 1) }
+    ensures { (result ≡ pick (is_first classes.now l) 1 0) × (result ≤ 1) }
 {
     if classes[l] as usize == l {
         return 1;
@@ -25,7 +25,7 @@ fn first_at(classes: &[u8], l: usize) -> usize
 fn number_at(classes: &[u8], numbers: &[u8], l: usize, new: usize) -> u8
     requires classes_len { (length classes.now ≡ LABELS) × (length numbers.now ≡ LABELS) }
     requires l_bound { (l < LABELS) × (new ≤ l) }
-    ensures { result ≡ pick (isFirst classes.now l) new (get_or numbers.now (get_or classes.now l 0) 0) }
+    ensures { result ≡ pick (is_first classes.now l) new (get_or numbers.now (get_or classes.now l 0) 0) }
 {
     let class = classes[l] as usize;
     if class == l {
@@ -53,7 +53,7 @@ pub fn number_groups(classes: &[u8], numbers: &mut [u8], n: usize) -> usize
 pub fn count_kept(table: &[u8], classes: &[u8], first: usize, end: usize) -> usize
     requires first_le_end { (first ≤ end) × (end ≤ size table.now) }
     requires classes_len { length classes.now ≡ LABELS }
-    ensures { (result ≡ count (λ f. isFirst classes.now (field table.now f FROM)) first (end - first))
+    ensures { (result ≡ count (λ f. is_first classes.now (field table.now f FROM)) first (end - first))
         × (result ≤ end - first) }
 {
     let mut total: usize = 0;

@@ -4,7 +4,7 @@ ghost use Rattle.words.specs.lists.Sequences.{written};
 ghost use Rattle.text.specs.declared.frames.sizes.TheConstants.{LABELS, ROWS};
 ghost use Rattle.text.specs.frames.Frame.{size};
 ghost use Rattle.translator.specs.label_text.inner.LabelBytes.{Put};
-ghost use Rattle.minimising.specs.group_pieces.inner.Pieces.{groupsIn, rowsKept, piece, allPieces};
+ghost use Rattle.minimising.specs.group_pieces.inner.Pieces.{groups_in, rows_kept, piece, all_pieces};
 ghost use Rattle.minimising.specs.group_pieces.inner.TextContracts.{NumberedGroups};
 
 use crate::group_frames::{put_entry, put_header};
@@ -47,10 +47,10 @@ pub fn put_pieces(
     out: &mut [u8],
 )
     requires numbered_groups { NumberedGroups table.now classes.now numbers.now }
-    requires groups_value { (groups ≡ groupsIn table.now classes.now) × (rows ≡ rowsKept table.now classes.now) }
+    requires groups_value { (groups ≡ groups_in table.now classes.now) × (rows ≡ rows_kept table.now classes.now) }
     requires le_groups { (1 ≤ groups) × (groups ≤ LABELS) × (rows ≤ ROWS) }
-    requires classes_in_bounds { length (allPieces table.now classes.now) ≤ length out.old }
-    ensures { out.new ≡ written out.old 0 (allPieces table.now classes.now) }
+    requires classes_in_bounds { length (all_pieces table.now classes.now) ≤ length out.old }
+    ensures { out.new ≡ written out.old 0 (all_pieces table.now classes.now) }
 {
     let n = table.len() / FRAME;
     let schemes = byte(table, 0, SCHEME_COUNT);

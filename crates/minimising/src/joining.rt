@@ -2,9 +2,9 @@
 ghost use Rattle.std.specs.Prelude.{◌≡◌, false, length};
 ghost use Rattle.text.specs.frames.Verdict.{fine, when};
 ghost use Rattle.text.specs.frames.Answer.{GivesBuffer};
-ghost use Rattle.image.specs.Decode.{decoded};
-ghost use Rattle.covering.specs.Matched.{uneven};
-ghost use Rattle.minimising.specs.group_image.inner.WriteContracts.{smallerOutcome};
+ghost use Rattle.image.specs.Decode.{decoded_image};
+ghost use Rattle.covering.specs.Matched.{is_uneven};
+ghost use Rattle.minimising.specs.group_image.inner.WriteContracts.{smaller_outcome};
 ghost use Rattle.minimising.specs.joining.inner.JoiningContracts.{ReadableTable};
 
 use crate::group_image::write_groups;
@@ -16,9 +16,9 @@ use text::frames::{Answer, refused};
 
 // The grouping, then what it gives.
 fn minimise_in(table: &[u8], classes: &mut [u8], numbers: &mut [u8], out: &mut [u8]) -> Answer
-    requires readable_table { (ReadableTable table.now) × (uneven (decoded table.now) ≡ false) }
+    requires readable_table { (ReadableTable table.now) × (is_uneven (decoded_image table.now) ≡ false) }
     requires classes_len { (length classes.old ≡ LABELS) × (length numbers.old ≡ LABELS) }
-    ensures { GivesBuffer (smallerOutcome table.now fine out.old) result out.new }
+    ensures { GivesBuffer (smaller_outcome table.now fine out.old) result out.new }
 {
     group(table, classes);
     write_groups(table, classes, numbers, out)
@@ -27,8 +27,8 @@ fn minimise_in(table: &[u8], classes: &mut [u8], numbers: &mut [u8], out: &mut [
 // 23, then 16.
 pub fn minimise_table(table: &[u8], out: &mut [u8]) -> Answer
     requires { ReadableTable table.now }
-    ensures { GivesBuffer (smallerOutcome table.now
-        (when UNEVEN (uneven (decoded table.now))) out.old)
+    ensures { GivesBuffer (smaller_outcome table.now
+        (when UNEVEN (is_uneven (decoded_image table.now))) out.old)
         result out.new }
 {
     if is_uneven(table) {

@@ -1,15 +1,15 @@
 // Lines put into a lent buffer.
 ghost use Rattle.std.specs.Prelude.{◌≡◌, ◌+◌, ◌*◌, ◌≤◌, length};
-ghost use Rattle.words.specs.lists.Sequences.{concatMap, written};
+ghost use Rattle.words.specs.lists.Sequences.{concat_map, written};
 ghost use Rattle.text.specs.declared.frames.sizes.TheConstants.{LINE};
-ghost use Rattle.output.specs.printing.Lines.{codeLine, refusalLine};
+ghost use Rattle.output.specs.printing.Lines.{code_line, refusal_line};
 
 use text::frames::put_bytes;
 
 // A line for each code, from the front on.
 pub fn put_codes(out: &mut [u8], codes: &[u8])
     requires { 3 * length codes.now ≤ length out.old }
-    ensures { out.new ≡ written out.old 0 (concatMap codeLine codes.now) }
+    ensures { out.new ≡ written out.old 0 (concat_map code_line codes.now) }
 {
     for i in 0..codes.len() {
         let line = crate::printing::code_line(codes[i]);
@@ -20,7 +20,7 @@ pub fn put_codes(out: &mut [u8], codes: &[u8])
 // The frame of a refusal, from an offset on.
 pub fn put_refusal(out: &mut [u8], at: usize, number: u8, index: usize)
     requires { at + LINE ≤ length out.old }
-    ensures { out.new ≡ written out.old at (refusalLine number index) }
+    ensures { out.new ≡ written out.old at (refusal_line number index) }
 {
     let line = crate::printing::refusal_line(number, index);
     put_bytes(out, at, &line);

@@ -1,6 +1,6 @@
 // What the programs print: the frame that tells a refusal, and the line of a tick's code.
 ghost use Rattle.std.specs.Prelude.{◌≡◌};
-ghost use Rattle.output.specs.printing.Lines.{codeLine, refusalLine};
+ghost use Rattle.output.specs.printing.Lines.{code_line, refusal_line};
 
 use text::digits::character;
 use text::frames::put_frame;
@@ -8,7 +8,7 @@ use text::frames::sizes::{LINE, LINE_FEED};
 
 // FF, the number and the index as a frame.
 pub fn refusal_line(number: u8, index: usize) -> [u8; LINE]
-    ensures { result ≡ refusalLine number index }
+    ensures { result ≡ refusal_line number index }
 {
     let mut line = [0u8; LINE];
     let bytes = [
@@ -29,7 +29,7 @@ pub fn refusal_line(number: u8, index: usize) -> [u8; LINE]
 
 // Two digits and a line feed.
 pub fn code_line(code: u8) -> [u8; 3]
-    ensures { result ≡ codeLine code }
+    ensures { result ≡ code_line code }
 {
     let high = character(code / 16);
     let low = character(code % 16);

@@ -1,8 +1,8 @@
 // The run program between its input and its output.
 ghost use Rattle.std.specs.Prelude.{◌≡◌, ◌≤◌, length};
-ghost use Rattle.text.specs.frames.Answer.{reply, replyCount};
+ghost use Rattle.text.specs.frames.Answer.{reply, reply_count};
 ghost use Rattle.output.specs.output_lines.Prints.{Prints};
-ghost use Rattle.output.specs.run_output.RunProgram.{programWords, runLines, runOutput};
+ghost use Rattle.output.specs.run_output.RunProgram.{program_words, run_lines, run_output};
 ghost use Rattle.console.specs.Outcome.{PrintsFor};
 
 use crate::output_lines::{put_codes, put_refusal};
@@ -20,7 +20,7 @@ pub const RUN_PRINTS: usize = 64 * 3 + LINE;
 
 // The words 0 to 63.
 fn count_up() -> [u16; 64]
-    ensures { result ≡ programWords }
+    ensures { result ≡ program_words }
 {
     let mut all = [0u16; 64];
     for i in 0..64 {
@@ -31,8 +31,8 @@ fn count_up() -> [u16; 64]
 
 // The codes of the finished ticks, then the refusal if there is one.
 fn put_run(answer: Answer, codes: &[u8], out: &mut [u8; RUN_PRINTS]) -> usize
-    requires { (replyCount (reply answer) ≤ length codes.now) × (length codes.now ≤ 64) }
-    ensures { Prints (runLines (reply answer) codes.now) result out.old out.new }
+    requires { (reply_count (reply answer) ≤ length codes.now) × (length codes.now ≤ 64) }
+    ensures { Prints (run_lines (reply answer) codes.now) result out.old out.new }
 {
     match answer {
         Answer::Done(n) => {
@@ -53,7 +53,7 @@ fn put_run(answer: Answer, codes: &[u8], out: &mut [u8; RUN_PRINTS]) -> usize
 
 // What a run of the words 0 to 63 from a fresh state with 32 places prints; how many characters that is.
 pub fn run_text(input: &[u8], out: &mut [u8; RUN_PRINTS]) -> usize
-    ensures { Prints (runOutput input.now) result out.old out.new }
+    ensures { Prints (run_output input.now) result out.old out.new }
 {
     let all = count_up();
     let mut masks = [0u32; 64];
@@ -67,7 +67,7 @@ pub fn run_text(input: &[u8], out: &mut [u8; RUN_PRINTS]) -> usize
 
 // Reads an image and prints what its run prints.
 pub fn run_image<R: Read, W: Write>(reader: &mut R, writer: &mut W) -> Outcome
-    ensures { PrintsFor runOutput (R.remaining reader.old) (W.contents writer.old) (W.contents writer.new) result }
+    ensures { PrintsFor run_output (R.remaining reader.old) (W.contents writer.old) (W.contents writer.new) result }
 {
     let mut text = [0u8; IMAGE_READ];
     let n = match console::read_input(reader, &mut text) {

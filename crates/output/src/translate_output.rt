@@ -1,6 +1,6 @@
 // The translator's program between its input and its output.
 ghost use Rattle.output.specs.output_lines.Prints.{Prints};
-ghost use Rattle.output.specs.translate_output.TranslateProgram.{translateOutput};
+ghost use Rattle.output.specs.translate_output.TranslateProgram.{translate_output};
 ghost use Rattle.console.specs.Outcome.{PrintsFor};
 
 use crate::output_lines::put_refusal;
@@ -17,7 +17,7 @@ pub const TRANSLATE_PRINTS: usize = IMAGE_TEXT;
 
 // The image of a chart, or the frame that tells why there is none; how many characters that is.
 pub fn translate_text(input: &[u8], out: &mut [u8; TRANSLATE_PRINTS]) -> usize
-    ensures { Prints (translateOutput input.now) result out.old out.new }
+    ensures { Prints (translate_output input.now) result out.old out.new }
 {
     let answer = translator::translating::translate(input, out);
     match answer {
@@ -35,7 +35,7 @@ pub fn translate_text(input: &[u8], out: &mut [u8; TRANSLATE_PRINTS]) -> usize
 
 // Reads a chart and prints its image, or the frame that tells why there is none.
 pub fn translate<R: Read, W: Write>(reader: &mut R, writer: &mut W) -> Outcome
-    ensures { PrintsFor translateOutput (R.remaining reader.old) (W.contents writer.old) (W.contents writer.new) result }
+    ensures { PrintsFor translate_output (R.remaining reader.old) (W.contents writer.old) (W.contents writer.new) result }
 {
     let mut text = [0u8; CHART_READ];
     let n = match console::read_input(reader, &mut text) {

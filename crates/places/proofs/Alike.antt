@@ -3,13 +3,13 @@ use Prim.Native.Nat.{ℕ}
 use mathlib.Core.Path.{◌≡◌, ap₂}
 use mathlib.Core.List.{List}
 use Rattle.text.specs.frames.Verdict.{Verdict, next, when}
-use Rattle.text.specs.frames.Answer.{judged}
+use Rattle.text.specs.frames.Answer.{verdict_reply}
 use Rattle.text.proofs.frames.Capitals.{ReadAlike}
-use Rattle.places.specs.chains.Calls.{circular, places}
+use Rattle.places.specs.chains.Calls.{is_circular, places}
 use Rattle.translator.proofs.Alike.{translate-verdict}
-use Rattle.places.specs.Entry.{placesVerdict, placesNeeded}
+use Rattle.places.specs.Entry.{places_verdict, places_needed}
 
-pub needs : (t u : List ℕ) → ReadAlike t u → placesNeeded t ≡ placesNeeded u
-unfolding placesNeeded placesVerdict
+pub needs : (t u : List ℕ) → ReadAlike t u → places_needed t ≡ places_needed u
+unfolding places_needed places_verdict
 needs t u a =
-    ap₂ (λ (v : Verdict) (c : List ℕ). judged (next v λ _. when 20 (circular c)) (places c)) (translate-verdict t u a) a.contents
+    ap₂ (λ (v : Verdict) (c : List ℕ). verdict_reply (next v λ _. when 20 (is_circular c)) (places c)) (translate-verdict t u a) a.contents

@@ -12,21 +12,21 @@ use Rattle.words.specs.lists.Pick.{pick}
 use Rattle.words.proofs.lists.Tests.{cases, same-ltb}
 use Rattle.text.specs.frames.Frame.{contents}
 use Rattle.text.specs.frames.Verdict.{Verdict, refused, when}
-use Rattle.text.specs.frames.Answer.{success, refusal, reply, judged}
+use Rattle.text.specs.frames.Answer.{success, refusal, reply, verdict_reply}
 use Rattle.text.specs.declared.frames.Answer.{Answer}
 use Rattle.text.specs.declared.frames.Answer.TheVariants.{Refused}
 use Rattle.text.proofs.frames.Chains.{next-refused, next-on}
 use Rattle.charts.specs.Chart.{Chart}
-use Rattle.charts.specs.Entry.{readVerdict, readChart}
+use Rattle.charts.specs.Entry.{read_verdict, read_chart}
 use Rattle.walk.proofs.Facts.{Facts}
 use Rattle.chart_rows.proofs.chart_labels.ReadyLaws.{ready-facts}
 use Rattle.chart_rows.specs.Rows.{rows}
-use Rattle.translator.specs.Entry.{translateVerdict}
+use Rattle.translator.specs.Entry.{translate_verdict}
 use Rattle.translator.proofs.EntrySteps.{read_no, Read, read-ready}
-use Rattle.places.specs.chains.Calls.{circular, places}
-use Rattle.places.specs.chains.inner.Masks.{longestChain}
+use Rattle.places.specs.chains.Calls.{is_circular, places}
+use Rattle.places.specs.chains.inner.Masks.{longest_chain}
 use Rattle.places.proofs.chains.Longest.{places-some}
-use Rattle.places.specs.Entry.{placesVerdict, placesNeeded}
+use Rattle.places.specs.Entry.{places_verdict, places_needed}
 
 -- ---- rows counted up to 1025
 pub more-than-most : (r n : ℕ) → r ≡ min 1025 n → ltb 1024 r ≡ ltb 1024 n
@@ -37,63 +37,64 @@ pub at_most : (bound n : ℕ) → n ≤ bound → bound ≤ 1024 → false ≡ l
 at_most bound n l m = sym (le-ltb 1024 n (omega arith))
 
 -- ---- what the code's number tells
-module _ (c : Chart) (f : Facts c) (n : ℕ) (e : n ≡ longestChain c) where
-  circle-when : (b : Bool) → circular c ≡ b → n ≡ pick b 0 (places c)
+module _ (c : Chart) (f : Facts c) (n : ℕ) (e : n ≡ longest_chain c) where
+  circle-when : (b : Bool) → is_circular c ≡ b → n ≡ pick b 0 (places c)
   circle-when b q = e ∙ ap (λ (b : Bool). pick b 0 (places c)) q
 
-  longest-zero : n ≡ 0 → circular c ≡ true
-  longest-zero z = ⊎_elim (λ q. q) (λ (q : circular c ≡ false). absurd (omega (arith, circle-when false q, places-some c f q)))
-      (cases (circular c))
+  longest-zero : n ≡ 0 → is_circular c ≡ true
+  longest-zero z = ⊎_elim (λ q. q) (λ (q : is_circular c ≡ false). absurd (omega (arith, circle-when false q, places-some c f q)))
+      (cases (is_circular c))
 
-  longest-some : (n ≡ 0 → ⊥) → (circular c ≡ false) × (n ≡ places c)
-  longest-some z = ⊎_elim (λ (q : circular c ≡ true). absurd (z (circle-when true q))) (λ q. (q, circle-when false q)) (cases (circular c))
+  longest-some : (n ≡ 0 → ⊥) → (is_circular c ≡ false) × (n ≡ places c)
+  longest-some z =
+      ⊎_elim (λ (q : is_circular c ≡ true). absurd (z (circle-when true q))) (λ q. (q, circle-when false q)) (cases (is_circular c))
 
 -- ---- the returns
 module _ (t : List ℕ) where
-  refused-by : (k i : ℕ) → placesVerdict t ≡ refused k i → refusal k i 0 ≡ placesNeeded t
-  unfolding placesNeeded
-  refused-by k i e = sym (ap (λ (v : Verdict). judged v (places (contents t))) e)
+  refused-by : (k i : ℕ) → places_verdict t ≡ refused k i → refusal k i 0 ≡ places_needed t
+  unfolding places_needed
+  refused-by k i e = sym (ap (λ (v : Verdict). verdict_reply v (places (contents t))) e)
 
-  refused-before : (k i : ℕ) → translateVerdict t ≡ refused k i → refusal k i 0 ≡ placesNeeded t
-  unfolding placesVerdict
-  refused-before k i e = refused-by k i (next-refused (translateVerdict t) (λ _. when 20 (circular (contents t))) k i e)
+  refused-before : (k i : ℕ) → translate_verdict t ≡ refused k i → refusal k i 0 ≡ places_needed t
+  unfolding places_verdict
+  refused-before k i e = refused-by k i (next-refused (translate_verdict t) (λ _. when 20 (is_circular (contents t))) k i e)
 
   pub needed-unread : (zeros : List ℕ) → 2560 ≤ length zeros → (a : Answer)
-      → reply a ≡ (readChart t zeros).reply → (k i m : ℕ) → a ≡ Refused k i m
-      → reply a ≡ placesNeeded t
-  unfolding translateVerdict
+      → reply a ≡ (read_chart t zeros).reply → (k i m : ℕ) → a ≡ Refused k i m
+      → reply a ≡ places_needed t
+  unfolding translate_verdict
   needed-unread zeros room a e k i m q =
-      let p : (readVerdict t ≡ refused k i) × (m ≡ 0) = read_no t zeros room a e k i m q in
+      let p : (read_verdict t ≡ refused k i) × (m ≡ 0) = read_no t zeros room a e k i m q in
       ap reply q ∙ ap (refusal k i) p.1
-      ∙ refused-before k i (next-refused (readVerdict t) (λ _. when 10 (ltb 1024 (length (rows (contents t))))) k i p.0)
+      ∙ refused-before k i (next-refused (read_verdict t) (λ _. when 10 (ltb 1024 (length (rows (contents t))))) k i p.0)
 
   module _ (held : List ℕ) (n : ℕ) (r : Read t held n) where
-    by_rows : (b : Bool) → b ≡ ltb 1024 (length (rows (take (10 * n) held))) → translateVerdict t ≡ when 10 b
-    unfolding translateVerdict
+    by_rows : (b : Bool) → b ≡ ltb 1024 (length (rows (take (10 * n) held))) → translate_verdict t ≡ when 10 b
+    unfolding translate_verdict
     by_rows b e =
-        next-on (readVerdict t) (λ _. when 10 (ltb 1024 (length (rows (contents t))))) r.accepted
+        next-on (read_verdict t) (λ _. when 10 (ltb 1024 (length (rows (contents t))))) r.accepted
         ∙ ap (when 10) (sym (e ∙ ap (λ (c : Chart). ltb 1024 (length (rows c))) r.chart))
 
-    pub needed-wide : (b : Bool) → b ≡ ltb 1024 (length (rows (take (10 * n) held))) → b ≡ true → refusal 10 0 0 ≡ placesNeeded t
+    pub needed-wide : (b : Bool) → b ≡ ltb 1024 (length (rows (take (10 * n) held))) → b ≡ true → refusal 10 0 0 ≡ places_needed t
     needed-wide b e q = refused-before 10 0 (by_rows b e ∙ ap (when 10) q)
 
     module _ (b : Bool) (e : b ≡ ltb 1024 (length (rows (take (10 * n) held)))) (few : b ≡ false)
-        (k : ℕ) (is : k ≡ longestChain (take (10 * n) held)) where
-      by-calls : placesVerdict t ≡ when 20 (circular (contents t))
-      unfolding placesVerdict
-      by-calls = next-on (translateVerdict t) (λ _. when 20 (circular (contents t))) (by_rows b e ∙ ap (when 10) few)
+        (k : ℕ) (is : k ≡ longest_chain (take (10 * n) held)) where
+      by-calls : places_verdict t ≡ when 20 (is_circular (contents t))
+      unfolding places_verdict
+      by-calls = next-on (translate_verdict t) (λ _. when 20 (is_circular (contents t))) (by_rows b e ∙ ap (when 10) few)
 
       chart-facts : Facts (contents t)
       chart-facts = subst Facts r.chart (ready-facts (read-ready t held n r))
 
-      longest-is : k ≡ longestChain (contents t)
-      longest-is = is ∙ ap longestChain r.chart
+      longest-is : k ≡ longest_chain (contents t)
+      longest-is = is ∙ ap longest_chain r.chart
 
-      pub needed-circle : k ≡ 0 → refusal 20 0 0 ≡ placesNeeded t
+      pub needed-circle : k ≡ 0 → refusal 20 0 0 ≡ places_needed t
       needed-circle z = refused-by 20 0 (by-calls ∙ ap (when 20) (longest-zero (contents t) chart-facts k longest-is z))
 
-      pub needed-done : (k ≡ 0 → ⊥) → success k ≡ placesNeeded t
-      unfolding placesNeeded
+      pub needed-done : (k ≡ 0 → ⊥) → success k ≡ places_needed t
+      unfolding places_needed
       needed-done z =
           let s = longest-some (contents t) chart-facts k longest-is z in
-          ap success s.1 ∙ sym (ap (λ (v : Verdict). judged v (places (contents t))) (by-calls ∙ ap (when 20) s.0))
+          ap success s.1 ∙ sym (ap (λ (v : Verdict). verdict_reply v (places (contents t))) (by-calls ∙ ap (when 20) s.0))

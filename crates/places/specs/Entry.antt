@@ -3,14 +3,14 @@ use Rattle.std.specs.Prelude.{ℕ, List}
 use Rattle.text.specs.declared.frames.refusals.TheConstants.{CALLS_ITSELF}
 use Rattle.text.specs.frames.Frame.{contents}
 use Rattle.text.specs.frames.Verdict.{Verdict, next, when}
-use Rattle.text.specs.frames.Answer.{Reply, judged}
-use Rattle.translator.specs.Entry.{translateVerdict}
-use Rattle.places.specs.chains.Calls.{circular, places}
+use Rattle.text.specs.frames.Answer.{Reply, verdict_reply}
+use Rattle.translator.specs.Entry.{translate_verdict}
+use Rattle.places.specs.chains.Calls.{is_circular, places}
 
 -- 1 to 10, 19 after 5, and 20
-unfoldable pub placesVerdict : List ℕ → Verdict
-placesVerdict t = next (translateVerdict t) λ _. when CALLS_ITSELF (circular (contents t))
+unfoldable pub places_verdict : List ℕ → Verdict
+places_verdict t = next (translate_verdict t) λ _. when CALLS_ITSELF (is_circular (contents t))
 
 -- success counts the places
-unfoldable pub placesNeeded : List ℕ → Reply
-placesNeeded t = judged (placesVerdict t) (places (contents t))
+unfoldable pub places_needed : List ℕ → Reply
+places_needed t = verdict_reply (places_verdict t) (places (contents t))

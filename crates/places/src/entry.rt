@@ -3,7 +3,7 @@ ghost use Rattle.std.specs.Prelude.{◌≡◌, ltb, length};
 ghost use Rattle.text.specs.frames.Answer.{reply};
 ghost use Rattle.chart_rows.specs.chart_labels.inner.ChartContracts.{Ready};
 ghost use Rattle.chart_rows.specs.Rows.{rows};
-ghost use Rattle.places.specs.Entry.{placesNeeded};
+ghost use Rattle.places.specs.Entry.{places_needed};
 
 use crate::chains::longest_chain;
 use chart_rows::row_bounds::bound_rows;
@@ -28,7 +28,7 @@ fn too_many_rows(records: &[u8]) -> bool
 
 // Refusals 1 to 10, with 19 after 5, and 20 where a circle of calls can be reached; else the number of schemes of the longest chain.
 pub fn places_needed(text: &[u8]) -> Answer
-    ensures { reply result ≡ placesNeeded text.now }
+    ensures { reply result ≡ places_needed text.now }
 {
     let mut held = [0u8; RECORDS];
     let read = read_chart(text, &mut held);

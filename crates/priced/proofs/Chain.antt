@@ -6,78 +6,80 @@ use mathlib.Core.List.{List, [], ◌∷◌, map}
 use lib.ListN.{length, take}
 use borrow.Author.Tests.{ltb-true, ltb-false}
 use Rattle.words.specs.lists.Pick.{pick}
-use Rattle.text.specs.frames.Answer.{replyNumber, replyCount}
+use Rattle.text.specs.frames.Answer.{reply_number, reply_count}
 use Rattle.state.specs.declared.State.{State}
 use Rattle.runs.specs.Run.{RunOutcome, run}
 use Rattle.rebinding.specs.Rebind.{rebind}
 use Rattle.prices.specs.Prices.{price}
-use Rattle.prices.specs.priced_runs.PricedRun.{tooManyWords, PricedOutcome, pricedRun}
+use Rattle.prices.specs.priced_runs.PricedRun.{has_too_many_words, PricedOutcome, priced_run}
 use Rattle.prices.proofs.priced_runs.Pricing.{does-all, by-the-masks}
 use Rattle.prices.proofs.priced_runs.EntryCases.{none-state, many-refused}
-use Rattle.agreement.specs.Agreement.{RunInput, outputOf, toRun, toRebind, CallOutput, byRun, byRebinding}
+use Rattle.agreement.specs.Agreement.{RunInput, output_of, to_run, to_rebind, CallOutput, by_run, by_rebinding}
 use Rattle.agreement.specs.Agreement as agreed
-use Rattle.priced.specs.Demand.{PricedInput, unpriced, toPricedRun, PricedOutput, byUnpriced, byPricedRun, pricedOutputs, refusedMany}
-use Rattle.priced.proofs.AsRuns.{noWords, asRun, withPrices, AllSucceed}
+use Rattle.priced.specs.Demand.{PricedInput, unpriced, to_priced_run, PricedOutput, by_unpriced, by_priced_run, priced_outputs}
+use Rattle.priced.specs.Demand.{output_refused_many}
+use Rattle.priced.proofs.AsRuns.{no_words, as_run, with_prices, AllSucceed}
 
 module _ (image : List ℕ) where
   abbrev made : State → List PricedInput → List PricedOutput
-  made s given = pricedOutputs pricedRun run rebind image s given
+  made s given = priced_outputs priced_run run rebind image s given
 
   abbrev plain : State → List PricedInput → List CallOutput
-  plain s given = agreed.callOutputs run rebind image s (map asRun given)
+  plain s given = agreed.call_outputs run rebind image s (map as_run given)
 
   abbrev As : State → List PricedInput → Type 0
-  As s given = AllSucceed given (plain s given) → made s given ≡ withPrices given (plain s given)
+  As s given = AllSucceed given (plain s given) → made s given ≡ with_prices given (plain s given)
 
   module _ (list : List ℕ) (a : RunInput) (rest : List PricedInput) (s : State) (ih : (z : State) → As z rest) where
     abbrev priced : PricedOutcome
-    priced = pricedRun image s list a.words a.masks a.codes
+    priced = priced_run image s list a.words a.masks a.codes
 
     abbrev ran : Bool → RunOutcome
-    ran t = let b = pick t (noWords a) a in run image s b.words b.masks b.codes
+    ran t = let b = pick t (no_words a) a in run image s b.words b.masks b.codes
 
     -- the run in its place, with a price
     abbrev with_run : RunOutcome → PricedOutput
-    with_run r = byPricedRun (outputOf r) (price list (take (replyCount r.reply) r.masks))
+    with_run r = by_priced_run (output_of r) (price list (take (reply_count r.reply) r.masks))
 
     abbrev Goal : Bool → Type 0
-    Goal t = byPricedRun (outputOf priced.run) priced.price ∷ made priced.run.state rest
-        ≡ pick (tooManyWords a.words) (byPricedRun (refusedMany a) 0) (with_run (ran t)) ∷ withPrices rest (plain (ran t).state rest)
+    Goal t = by_priced_run (output_of priced.run) priced.price ∷ made priced.run.state rest
+        ≡ pick (has_too_many_words a.words) (by_priced_run (output_refused_many a) 0) (with_run (ran t)) ∷ with_prices rest
+        (plain (ran t).state rest)
 
     abbrev Holds : Bool → Type 0
-    Holds t = (tooManyWords a.words ≡ true → replyNumber (ran t).reply ≡ 0) × AllSucceed rest (plain (ran t).state rest)
+    Holds t = (has_too_many_words a.words ≡ true → reply_number (ran t).reply ≡ 0) × AllSucceed rest (plain (ran t).state rest)
 
-    priced-many : tooManyWords a.words ≡ true → Holds true → Goal true
+    priced-many : has_too_many_words a.words ≡ true → Holds true → Goal true
     priced-many e f =
         let same : (ran true).state ≡ s = none-state image s a.masks a.codes in
-        ap (λ (x : PricedOutcome). byPricedRun (outputOf x.run) x.price ∷ made x.run.state rest)
+        ap (λ (x : PricedOutcome). by_priced_run (output_of x.run) x.price ∷ made x.run.state rest)
         (many-refused image s list a.words a.masks a.codes (ltb-true 65536 (length a.words) e) (f.0 e))
-        ∙ ap (λ (z : State). byPricedRun (refusedMany a) 0 ∷ made z rest) (sym same)
-        ∙ ap (λ (l : List PricedOutput). byPricedRun (refusedMany a) 0 ∷ l) (ih (ran true).state f.1)
-        ∙ sym (ap (λ (t : Bool). pick t (byPricedRun (refusedMany a) 0) (with_run (ran true)) ∷ withPrices
+        ∙ ap (λ (z : State). by_priced_run (output_refused_many a) 0 ∷ made z rest) (sym same)
+        ∙ ap (λ (l : List PricedOutput). by_priced_run (output_refused_many a) 0 ∷ l) (ih (ran true).state f.1)
+        ∙ sym (ap (λ (t : Bool). pick t (by_priced_run (output_refused_many a) 0) (with_run (ran true)) ∷ with_prices
         rest (plain (ran true).state rest)) e)
 
-    priced-few : tooManyWords a.words ≡ false → Holds false → Goal false
+    priced-few : has_too_many_words a.words ≡ false → Holds false → Goal false
     priced-few e f =
-        ap (λ (p : ℕ). byPricedRun (outputOf priced.run) p ∷ made priced.run.state rest)
+        ap (λ (p : ℕ). by_priced_run (output_of priced.run) p ∷ made priced.run.state rest)
         (by-the-masks image s list a.words a.masks a.codes)
         ∙ ap (λ (r : RunOutcome). with_run r ∷ made r.state rest)
         (does-all image s list a.words a.masks a.codes (ltb-false 65536 (length a.words) e))
         ∙ ap (λ (l : List PricedOutput). with_run (ran false) ∷ l) (ih (ran false).state f.1)
-        ∙ sym (ap (λ (t : Bool). pick t (byPricedRun (refusedMany a) 0) (with_run (ran false)) ∷ withPrices
+        ∙ sym (ap (λ (t : Bool). pick t (by_priced_run (output_refused_many a) 0) (with_run (ran false)) ∷ with_prices
         rest (plain (ran false).state rest)) e)
 
-    priced-as : (t : Bool) → tooManyWords a.words ≡ t → Holds t → Goal t
+    priced-as : (t : Bool) → has_too_many_words a.words ≡ t → Holds t → Goal t
     priced-as true e f = priced-many e f
     priced-as false e f = priced-few e f
 
   pub chain-as : (given : List PricedInput) (s : State) → As s given
-  unfolding pricedOutputs agreed.callOutputs withPrices
+  unfolding priced_outputs agreed.call_outputs with_prices
   chain-as [] s f = refl
-  chain-as (unpriced (toRun a) ∷ rest) s f =
+  chain-as (unpriced (to_run a) ∷ rest) s f =
       let r : RunOutcome = run image s a.words a.masks a.codes in
-      ap (λ (l : List PricedOutput). byUnpriced (byRun (outputOf r)) ∷ l) (chain-as rest r.state f.1)
-  chain-as (unpriced (toRebind h k) ∷ rest) s f =
-      ap (λ (l : List PricedOutput). byUnpriced (byRebinding (rebind image s h k).reply) ∷ l)
+      ap (λ (l : List PricedOutput). by_unpriced (by_run (output_of r)) ∷ l) (chain-as rest r.state f.1)
+  chain-as (unpriced (to_rebind h k) ∷ rest) s f =
+      ap (λ (l : List PricedOutput). by_unpriced (by_rebinding (rebind image s h k).reply) ∷ l)
       (chain-as rest (rebind image s h k).state f.1)
-  chain-as (toPricedRun list a ∷ rest) s f = priced-as list a rest s (chain-as rest) (tooManyWords a.words) refl f
+  chain-as (to_priced_run list a ∷ rest) s f = priced-as list a rest s (chain-as rest) (has_too_many_words a.words) refl f

@@ -5,96 +5,96 @@ use mathlib.Core.Path.{◌≡◌, refl, sym, ◌∙◌, ap, ap₂, subst}
 use mathlib.Core.List.{List, [], ◌∷◌, ◌++◌, map, append-nil}
 use lib.ListN.{length, take}
 use Rattle.words.specs.lists.Pick.{pick}
-use Rattle.bindings.specs.Binding.{ownBinding}
+use Rattle.bindings.specs.Binding.{own_binding}
 use Rattle.text.specs.frames.Frame.{contents}
-use Rattle.text.specs.frames.Answer.{success, replyCount}
+use Rattle.text.specs.frames.Answer.{success, reply_count}
 use Rattle.charts.specs.Chart.{Chart}
 use Rattle.walk.specs.Walk.{Signal, signals, Tick, walk}
 use Rattle.translator.specs.Entry.{translate}
 use Rattle.state.specs.declared.State.{State}
-use Rattle.state.specs.State.{freshState}
+use Rattle.state.specs.State.{fresh_state}
 use Rattle.runs.specs.Run.{run}
 use Rattle.rebinding.specs.Rebind.{rebind}
 use Rattle.prices.specs.Prices.{price}
-use Rattle.prices.specs.priced_runs.PricedRun.{tooManyWords, PricedOutcome, pricedRun}
+use Rattle.prices.specs.priced_runs.PricedRun.{has_too_many_words, PricedOutcome, priced_run}
 use Rattle.prices.proofs.priced_runs.Pricing.{no-price}
-use Rattle.agreement.specs.Agreement.{RunInput, RunOutput, outputOf, CallInput, short, bound, expected, Agreement}
+use Rattle.agreement.specs.Agreement.{RunInput, RunOutput, output_of, CallInput, is_short, bound, expected_output, Agreement}
 use Rattle.agreement.specs.Agreement as agreed
 use Rattle.agreement.proofs.Bounds.{bound-le}
 use Rattle.agreement.proofs.Demand.{theorem}
-use Rattle.priced.specs.Demand.{PricedInput, toPricedRun, PricedOutput, byPricedRun, pricedOutputs}
-use Rattle.priced.specs.Demand.{joinedPricedWords, pricedWalkOutputs, expectedPricedOutputs, PricedAgreement}
-use Rattle.priced.proofs.AsRuns.{asRun, withPrices, AllSucceed, joined_as, expected-as, expected-fine, expected-count}
+use Rattle.priced.specs.Demand.{PricedInput, to_priced_run, PricedOutput, by_priced_run, priced_outputs}
+use Rattle.priced.specs.Demand.{joined_priced_words, priced_walk_outputs, expected_priced_outputs, PricedAgreement}
+use Rattle.priced.proofs.AsRuns.{as_run, with_prices, AllSucceed, joined_as, expected-as, expected-fine, expected-count}
 use Rattle.priced.proofs.AsRuns.{all-many, all-refused, all-priced}
 use Rattle.priced.proofs.Chain.{chain-as}
 
-pub priced-theorem : PricedAgreement translate freshState pricedRun run rebind
+pub priced-theorem : PricedAgreement translate fresh_state priced_run run rebind
 unfolding PricedAgreement Agreement
 priced-theorem text out n done size low high given =
     let c : Chart = contents text in
-    let s : State = (freshState size).state in
+    let s : State = (fresh_state size).state in
     let image : List ℕ = take n (translate text out).buffer in
-    let plain : List CallInput = map asRun given in
-    let ts : List Tick = walk size c (agreed.joinedWords c ownBinding plain) in
+    let plain : List CallInput = map as_run given in
+    let ts : List Tick = walk size c (agreed.joined_words c own_binding plain) in
     let b : ℕ = bound size ts in
-    let e : agreed.callOutputs run rebind image s plain ≡ agreed.walkOutputs size c plain = theorem text out n done size low high plain in
+    let e : agreed.call_outputs run rebind image s plain ≡ agreed.walk_outputs size c plain = theorem text out n done size low high plain in
     chain-as image given s (subst (AllSucceed given) (sym e) (expected-fine c b ts (bound-le size ts) given 0))
-    ∙ ap (withPrices given) e
+    ∙ ap (with_prices given) e
     ∙ sym (expected-as c b ts (bound-le size ts) given 0)
-    ∙ sym (ap (λ (js : List Signal). let us = walk size c js in expectedPricedOutputs c (bound size us) us 0 given)
-    (joined_as c given ownBinding))
+    ∙ sym (ap (λ (js : List Signal). let us = walk size c js in expected_priced_outputs c (bound size us) us 0 given)
+    (joined_as c given own_binding))
 
 -- ---- one priced run
 module _ (size : ℕ) (c : Chart) (list : List ℕ) (a : RunInput) (r : PricedOutcome) where
   abbrev only : List PricedInput
-  only = toPricedRun list a ∷ []
+  only = to_priced_run list a ∷ []
 
   abbrev handed : List PricedOutput
-  handed = byPricedRun (outputOf r.run) r.price ∷ []
+  handed = by_priced_run (output_of r.run) r.price ∷ []
 
-  abbrev masksOf : List Tick → List ℕ
-  masksOf = map (λ (t : Tick). t.mask)
+  abbrev masks_of : List Tick → List ℕ
+  masks_of = map (λ (t : Tick). t.mask)
 
   abbrev Priced : Type 0
-  Priced = r.price ≡ price list (masksOf (take (replyCount r.run.reply) (walk size c (signals ownBinding a.words))))
+  Priced = r.price ≡ price list (masks_of (take (reply_count r.run.reply) (walk size c (signals own_binding a.words))))
 
   -- refused before its first tick
-  none-priced : (t : RunOutput) → replyCount t.reply ≡ 0 → handed ≡ byPricedRun t 0 ∷ [] → Priced
+  none-priced : (t : RunOutput) → reply_count t.reply ≡ 0 → handed ≡ by_priced_run t 0 ∷ [] → Priced
   none-priced t z e =
       let p : r.price ≡ 0 = cc in
-      let q : outputOf r.run ≡ t = cc in
+      let q : output_of r.run ≡ t = cc in
       p ∙ sym (no-price list)
-      ∙ sym (ap (λ (n : ℕ). price list (masksOf (take n (walk size c (signals ownBinding a.words)))))
-      (ap (λ (x : RunOutput). replyCount x.reply) q ∙ z))
+      ∙ sym (ap (λ (n : ℕ). price list (masks_of (take n (walk size c (signals own_binding a.words)))))
+      (ap (λ (x : RunOutput). reply_count x.reply) q ∙ z))
 
-  all_words : tooManyWords a.words ≡ false → short a ≡ false → joinedPricedWords c ownBinding only ≡ signals ownBinding a.words
-  unfolding joinedPricedWords
+  all_words : has_too_many_words a.words ≡ false → is_short a ≡ false → joined_priced_words c own_binding only ≡ signals own_binding a.words
+  unfolding joined_priced_words
   all_words e f =
-      ap₂ (λ (x y : Bool). pick (x || y) [] (signals ownBinding a.words) ++ []) e f ∙ append-nil (signals ownBinding a.words)
+      ap₂ (λ (x y : Bool). pick (x || y) [] (signals own_binding a.words) ++ []) e f ∙ append-nil (signals own_binding a.words)
 
-  ticks-priced : tooManyWords a.words ≡ false → short a ≡ false → handed ≡ pricedWalkOutputs size c only → Priced
-  unfolding expectedPricedOutputs
+  ticks-priced : has_too_many_words a.words ≡ false → is_short a ≡ false → handed ≡ priced_walk_outputs size c only → Priced
+  unfolding expected_priced_outputs
   ticks-priced e f h =
-      let ts : List Tick = walk size c (joinedPricedWords c ownBinding only) in
+      let ts : List Tick = walk size c (joined_priced_words c own_binding only) in
       let b : ℕ = bound size ts in
       let done : ℕ = min (0 + length a.words) b - min 0 b in
-      let g : handed ≡ byPricedRun (expected b ts 0 a) (price list (masksOf (take done ts))) ∷ [] =
+      let g : handed ≡ by_priced_run (expected_output b ts 0 a) (price list (masks_of (take done ts))) ∷ [] =
       h ∙ all-priced c b ts (bound-le size ts) 0 list a [] e f in
-      let p : r.price ≡ price list (masksOf (take done ts)) = cc in
-      let q : outputOf r.run ≡ expected b ts 0 a = cc in
+      let p : r.price ≡ price list (masks_of (take done ts)) = cc in
+      let q : output_of r.run ≡ expected_output b ts 0 a = cc in
       p
-      ∙ ap (λ (js : List Signal). price list (masksOf (take done (walk size c js)))) (all_words e f)
-      ∙ sym (ap (λ (n : ℕ). price list (masksOf (take n (walk size c (signals ownBinding a.words)))))
-      (ap (λ (x : RunOutput). replyCount x.reply) q ∙ expected-count b ts 0 a))
+      ∙ ap (λ (js : List Signal). price list (masks_of (take done (walk size c js)))) (all_words e f)
+      ∙ sym (ap (λ (n : ℕ). price list (masks_of (take n (walk size c (signals own_binding a.words)))))
+      (ap (λ (x : RunOutput). reply_count x.reply) q ∙ expected-count b ts 0 a))
 
-  one-priced : handed ≡ pricedWalkOutputs size c only → Priced
-  unfolding expectedPricedOutputs
-  one-priced h = go (tooManyWords a.words) (short a) refl refl
+  one-priced : handed ≡ priced_walk_outputs size c only → Priced
+  unfolding expected_priced_outputs
+  one-priced h = go (has_too_many_words a.words) (is_short a) refl refl
     where
       ts : List Tick
-      ts = walk size c (joinedPricedWords c ownBinding only)
+      ts = walk size c (joined_priced_words c own_binding only)
 
-      go : (t u : Bool) → tooManyWords a.words ≡ t → short a ≡ u → Priced
+      go : (t u : Bool) → has_too_many_words a.words ≡ t → is_short a ≡ u → Priced
       go true u e f = none-priced _ refl (h ∙ all-many c (bound size ts) ts (bound-le size ts) 0 list a [] e)
       go false true e f = none-priced _ refl (h ∙ all-refused c (bound size ts) ts (bound-le size ts) 0 list a [] e f)
       go false false e f = ticks-priced e f h
@@ -103,11 +103,11 @@ module _ (size : ℕ) (c : Chart) (list : List ℕ) (a : RunInput) (r : PricedOu
 -- the price of the walk's ticks, as many as the answer counts, with no premise about room or length
 pub by-the-walk : (text out : List ℕ) (n : ℕ) → (translate text out).reply ≡ success n
     → (size : ℕ) → 1 ≤ size → size ≤ 32 → (list words masks codes : List ℕ)
-    → let r = pricedRun (take n (translate text out).buffer) (freshState size).state list words masks codes in
+    → let r = priced_run (take n (translate text out).buffer) (fresh_state size).state list words masks codes in
     r.price ≡ price list (map (λ (t : Tick). t.mask)
-    (take (replyCount r.run.reply) (walk size (contents text) (signals ownBinding words))))
-unfolding pricedOutputs PricedAgreement
+    (take (reply_count r.run.reply) (walk size (contents text) (signals own_binding words))))
+unfolding priced_outputs PricedAgreement
 by-the-walk text out n done size low high list words masks codes =
     let a : RunInput = record { words = words; masks = masks; codes = codes } in
-    one-priced size (contents text) list a (pricedRun (take n (translate text out).buffer) (freshState size).state list words masks codes)
-    (priced-theorem text out n done size low high (toPricedRun list a ∷ []))
+    one-priced size (contents text) list a (priced_run (take n (translate text out).buffer) (fresh_state size).state list words masks codes)
+    (priced-theorem text out n done size low high (to_priced_run list a ∷ []))

@@ -4,49 +4,49 @@ use mathlib.Core.Path.{◌≡◌, refl, sym, ◌∙◌, ap, ap₂}
 use mathlib.Core.List.{List, [], ◌∷◌}
 use lib.ListN.{take}
 use Rattle.state.specs.declared.State.{State}
-use Rattle.state.specs.State.{freshState}
+use Rattle.state.specs.State.{fresh_state}
 use Rattle.runs.specs.Run.{run}
 use Rattle.rebinding.specs.Rebind.{rebind}
-use Rattle.prices.specs.priced_runs.PricedRun.{pricedRun}
-use Rattle.agreement.specs.Agreement.{CallInput, toRun, toRebind}
-use Rattle.agreement.proofs.OneCall.{handedFor, stateAfter, Like, call-like}
-use Rattle.priced.specs.Demand.{PricedInput, unpriced, toPricedRun, PricedOutput, byUnpriced}
-use Rattle.priced.specs.Demand.{byPricedRun, pricedOutputs, PricedAgreement}
-use Rattle.priced.specs.Delivered.{PricedCallsInTurn, none, unpricedCall, pricedCall, PricedDelivered}
+use Rattle.prices.specs.priced_runs.PricedRun.{priced_run}
+use Rattle.agreement.specs.Agreement.{CallInput, to_run, to_rebind}
+use Rattle.agreement.proofs.OneCall.{handed_output, state_after, Like, call-like}
+use Rattle.priced.specs.Demand.{PricedInput, unpriced, to_priced_run, PricedOutput, by_unpriced}
+use Rattle.priced.specs.Demand.{by_priced_run, priced_outputs, PricedAgreement}
+use Rattle.priced.specs.Delivered.{PricedCallsInTurn, none, unpriced_call, priced_call, PricedDelivered}
 use Rattle.priced.proofs.Charts.{priced-theorem}
 
-abbrev pub madeOutputs : List ℕ → State → List PricedInput → List PricedOutput
-madeOutputs image s given = pricedOutputs pricedRun run rebind image s given
+abbrev pub made_outputs : List ℕ → State → List PricedInput → List PricedOutput
+made_outputs image s given = priced_outputs priced_run run rebind image s given
 
 pub chain-asked : (image : List ℕ) (s : State) (g : CallInput) (rest : List PricedInput)
-    → madeOutputs image s (unpriced g ∷ rest) ≡ byUnpriced (handedFor image s g) ∷ madeOutputs image (stateAfter image s g) rest
-unfolding pricedOutputs
-chain-asked image s (toRun a) rest = refl
-chain-asked image s (toRebind h k) rest = refl
+    → made_outputs image s (unpriced g ∷ rest) ≡ by_unpriced (handed_output image s g) ∷ made_outputs image (state_after image s g) rest
+unfolding priced_outputs
+chain-asked image s (to_run a) rest = refl
+chain-asked image s (to_rebind h k) rest = refl
 
 pub calls-chain : (image : List ℕ) (s : State) (given : List PricedInput) (handed : List PricedOutput)
     → PricedCallsInTurn image s given handed
-    → handed ≡ madeOutputs image s given
-unfolding pricedOutputs
+    → handed ≡ made_outputs image s given
+unfolding priced_outputs
 calls-chain image s [] [] none = refl
 calls-chain image s [] (d ∷ handed) x = elim x [ ]
 calls-chain image s (unpriced g ∷ rest) [] x = elim x [ ]
-calls-chain image s (unpriced g ∷ rest) (byUnpriced d ∷ handed) (unpricedCall {after = after} c cs) =
+calls-chain image s (unpriced g ∷ rest) (by_unpriced d ∷ handed) (unpriced_call {after = after} c cs) =
     let like : Like image s g d after = call-like image s c in
-    ap₂ (λ (x : PricedOutput) (l : List PricedOutput). x ∷ l) (ap byUnpriced like.handed-is)
-    (calls-chain image after rest handed cs ∙ ap (λ (z : State). madeOutputs image z rest) like.state-is)
+    ap₂ (λ (x : PricedOutput) (l : List PricedOutput). x ∷ l) (ap by_unpriced like.handed-is)
+    (calls-chain image after rest handed cs ∙ ap (λ (z : State). made_outputs image z rest) like.state-is)
     ∙ sym (chain-asked image s g rest)
-calls-chain image s (unpriced g ∷ rest) (byPricedRun _ _ ∷ handed) x = elim x [ ]
-calls-chain image s (toPricedRun list a ∷ rest) [] x = elim x [ ]
-calls-chain image s (toPricedRun list a ∷ rest) (d ∷ handed) (pricedCall {r = r} c cs) =
+calls-chain image s (unpriced g ∷ rest) (by_priced_run _ _ ∷ handed) x = elim x [ ]
+calls-chain image s (to_priced_run list a ∷ rest) [] x = elim x [ ]
+calls-chain image s (to_priced_run list a ∷ rest) (d ∷ handed) (priced_call {r = r} c cs) =
     ap₂ (λ (x : PricedOutput) (l : List PricedOutput). x ∷ l)
-    (λ j. byPricedRun (record { reply = c.answered j; masks = c.masks j; codes = c.codes j }) (c.price j))
-    (calls-chain image r.state rest handed cs ∙ ap (λ (z : State). madeOutputs image z rest) c.state)
+    (λ j. by_priced_run (record { reply = c.answered j; masks = c.masks j; codes = c.codes j }) (c.price j))
+    (calls-chain image r.state rest handed cs ∙ ap (λ (z : State). made_outputs image z rest) c.state)
 
 pub priced-delivered : PricedDelivered
 unfolding PricedDelivered PricedAgreement
 priced-delivered text before after answer c n e size low high m x given handed cs =
     calls-chain (take n after) m.state given handed cs
-    ∙ ap (λ (s : State). madeOutputs (take n after) s given) x.state
-    ∙ ap (λ (b : List ℕ). madeOutputs (take n b) (freshState size).state given) c.written
+    ∙ ap (λ (s : State). made_outputs (take n after) s given) x.state
+    ∙ ap (λ (b : List ℕ). made_outputs (take n b) (fresh_state size).state given) c.written
     ∙ priced-theorem text before n (sym c.answered ∙ e) size low high given

@@ -9,33 +9,33 @@ use Rattle.translator.specs.Entry.{translate}
 use Rattle.state.specs.declared.layout.TheConstants.{PLACES}
 use Rattle.state.specs.declared.State.{State}
 use Rattle.state.specs.declared.StateReport.{StateReport}
-use Rattle.state.specs.State.{freshState, GivesState}
+use Rattle.state.specs.State.{fresh_state, GivesState}
 use Rattle.prices.specs.declared.priced_runs.PricedStateReport.{PricedStateReport}
-use Rattle.prices.specs.priced_runs.PricedRun.{pricedRun, GivesPricedRun}
+use Rattle.prices.specs.priced_runs.PricedRun.{priced_run, GivesPricedRun}
 use Rattle.agreement.specs.Agreement.{RunInput, CallInput, CallOutput}
 use Rattle.agreement.specs.Calls.{Call}
-use Rattle.priced.specs.Demand.{PricedInput, unpriced, toPricedRun, PricedOutput, byUnpriced, byPricedRun, pricedWalkOutputs}
+use Rattle.priced.specs.Demand.{PricedInput, unpriced, to_priced_run, PricedOutput, by_unpriced, by_priced_run, priced_walk_outputs}
 
 -- what a priced run hands back beside the state
-abbrev pub outputOfPricedRun : PricedStateReport → List ℕ → List ℕ → PricedOutput
-outputOfPricedRun r masks codes = byPricedRun (record { reply = reply r.answer; masks = masks; codes = codes }) r.price
+abbrev pub output_of_priced_run : PricedStateReport → List ℕ → List ℕ → PricedOutput
+output_of_priced_run r masks codes = by_priced_run (record { reply = reply r.answer; masks = masks; codes = codes }) r.price
 
 -- calls in a row, each given the state that the one before handed back
 pub data PricedCallsInTurn (image : List ℕ) : State → List PricedInput → List PricedOutput → Type 0 where
   none : {s : State} → PricedCallsInTurn image s [] []
-  unpricedCall : {s after : State} {g : CallInput} {d : CallOutput} {rest : List PricedInput} {handed : List PricedOutput}
+  unpriced_call : {s after : State} {g : CallInput} {d : CallOutput} {rest : List PricedInput} {handed : List PricedOutput}
       → Call image s g d after
-      → PricedCallsInTurn image after rest handed → PricedCallsInTurn image s (unpriced g ∷ rest) (byUnpriced d ∷ handed)
-  pricedCall : {s : State} {list : List ℕ} {a : RunInput} {r : PricedStateReport} {masks codes : List ℕ}
+      → PricedCallsInTurn image after rest handed → PricedCallsInTurn image s (unpriced g ∷ rest) (by_unpriced d ∷ handed)
+  priced_call : {s : State} {list : List ℕ} {a : RunInput} {r : PricedStateReport} {masks codes : List ℕ}
       {rest : List PricedInput} {handed : List PricedOutput}
-      → GivesPricedRun (pricedRun image s list a.words a.masks a.codes) r masks codes
+      → GivesPricedRun (priced_run image s list a.words a.masks a.codes) r masks codes
       → PricedCallsInTurn image r.state rest handed
-      → PricedCallsInTurn image s (toPricedRun list a ∷ rest) (outputOfPricedRun r masks codes ∷ handed)
+      → PricedCallsInTurn image s (to_priced_run list a ∷ rest) (output_of_priced_run r masks codes ∷ handed)
 
 -- where translate succeeded with n characters, whatever the calls handed back is what the walk of the joined words gives, prices with it
 unfoldable pub PricedDelivered : Type 0
 PricedDelivered =
     (text before after : List ℕ) (answer : Answer) → GivesBuffer (translate text before) answer after → (n : ℕ) → reply answer ≡ success n
-    → (size : ℕ) → 1 ≤ size → size ≤ PLACES → (made : StateReport) → GivesState (freshState size) made
+    → (size : ℕ) → 1 ≤ size → size ≤ PLACES → (made : StateReport) → GivesState (fresh_state size) made
     → (given : List PricedInput) (handed : List PricedOutput) → PricedCallsInTurn (take n after) made.state given handed
-    → handed ≡ pricedWalkOutputs size (contents text) given
+    → handed ≡ priced_walk_outputs size (contents text) given

@@ -14,7 +14,7 @@ use Rattle.words.specs.bits.Word.{bit}
 use Rattle.words.proofs.lists.Sums.{sum_same, sum-zero}
 use Rattle.words.proofs.bits.BitLaws.{bit-zero, bit-none}
 use Rattle.words.proofs.bits.MaskLaws.{bit-suc}
-use Rattle.prices.specs.Prices.{tickPrice}
+use Rattle.prices.specs.Prices.{tick_price}
 use Rattle.prices.proofs.Sums.{tick-most}
 
 -- ---- the lowest k bits of n, each at its price
@@ -39,8 +39,8 @@ costs-even g k n m e h =
 costs-odd : (g : ℕ → ℕ) (k n : ℕ) → n % 2 ≡ 1 → costs g (suc k) n ≡ g 0 + costs (λ j. g (suc j)) k (n / 2)
 costs-odd g k n e = costs-step g k n ∙ ap (λ (x : ℕ). x * g 0 + costs (λ j. g (suc j)) k (n / 2)) e ∙ omega (arith, one-mul (g 0))
 
-tick-none : (prices : List ℕ) → tickPrice prices 0 ≡ 0
-unfolding tickPrice
+tick-none : (prices : List ℕ) → tick_price prices 0 ≡ 0
+unfolding tick_price
 tick-none prices =
     sum-zero (λ j. bit 0 j * get_or prices j 0) 0 32
     (λ j a b. ap (λ (x : ℕ). x * get_or prices j 0) (bit-none j) ∙ zero-mul (get_or prices j 0))
@@ -95,7 +95,7 @@ lowest-off g (suc k) n h l = go (n % 2) refl (λ p. lowest-off (λ j. g (suc j))
 
 -- ---- what a loop over the set bits has added, and what is left of the mask
 pub record CountedBits (prices : List ℕ) (mask total rest : ℕ) : Type 0 where
-  pub sum : total + tickPrice prices rest ≡ tickPrice prices mask
+  pub sum : total + tick_price prices rest ≡ tick_price prices mask
   pub low : rest < 2 ^ 32
 
 pub counted_none : (prices : List ℕ) (mask : ℕ) → mask < 2 ^ 32 → CountedBits prices mask 0 mask
@@ -116,12 +116,12 @@ module _ (prices : List ℕ) (mask total rest : ℕ) (inv : CountedBits prices m
     less-falls = omega (arith, and_le_r rest (rest - 1))
 
     pub counted-more : CountedBits prices mask (total + get_or prices j 0) (less rest)
-    unfolding tickPrice
+    unfolding tick_price
     counted-more = record { sum = omega (arith, inv.sum, off.cost); low = omega (arith, inv.low, less-falls) }
 
     -- a part of the whole sum
     pub bit-fits : ((i : ℕ) → get_or prices i 0 ≤ 65535) → total + get_or prices j 0 ≤ 2097120
     bit-fits small = omega (arith, counted-more.sum, tick-most prices small mask)
 
-  pub counted-all : rest ≡ 0 → total ≡ tickPrice prices mask
-  counted-all e = omega (arith, inv.sum, ap (tickPrice prices) e, tick-none prices)
+  pub counted-all : rest ≡ 0 → total ≡ tick_price prices mask
+  counted-all e = omega (arith, inv.sum, ap (tick_price prices) e, tick-none prices)

@@ -9,11 +9,11 @@ use lib.ListN.{length, get_or, take, length-take}
 use lib.Seq.{take_all}
 use Rattle.words.proofs.lists.Sums.{sum-most}
 use Rattle.words.specs.bits.Word.{bit}
-use Rattle.prices.specs.Prices.{tickPrice, hundredths}
+use Rattle.prices.specs.Prices.{tick_price, hundredths}
 
 -- one tick more
 pub hundredths-next : (prices masks : List ℕ) (i : ℕ) → i < length masks
-    → hundredths prices (take (suc i) masks) ≡ hundredths prices (take i masks) + tickPrice prices (get_or masks i 0)
+    → hundredths prices (take (suc i) masks) ≡ hundredths prices (take i masks) + tick_price prices (get_or masks i 0)
 unfolding hundredths
 hundredths-next prices [] i l = absurd (omega arith)
 hundredths-next prices (m ∷ masks) zero l = omega arith
@@ -27,8 +27,8 @@ module _ (prices : List ℕ) (small : (j : ℕ) → get_or prices j 0 ≤ 65535)
       let q : bit m j * get_or prices j 0 ≤ 1 * get_or prices j 0 = mul-le-mul_right (get_or prices j 0) b in
       omega (arith, small j, one-mul (get_or prices j 0))
 
-  pub tick-most : (m : ℕ) → tickPrice prices m ≤ 2097120
-  unfolding tickPrice
+  pub tick-most : (m : ℕ) → tick_price prices m ≤ 2097120
+  unfolding tick_price
   tick-most m = sum-most (λ j. bit m j * get_or prices j 0) 65535 0 32 (λ j a b. one_bit m j)
 
   pub hundredths-most : (masks : List ℕ) → hundredths prices masks ≤ 2097120 * length masks
@@ -46,7 +46,7 @@ unfolding hundredths
 summed-none prices masks = record { sum = refl; inside = omega arith }
 
 module _ (prices masks : List ℕ) (total i : ℕ) (inv : SummedTicks prices masks total i) where
-  pub summed-more : i < length masks → (r : ℕ) → r ≡ tickPrice prices (get_or masks i 0) → SummedTicks prices masks (total + r) (i + 1)
+  pub summed-more : i < length masks → (r : ℕ) → r ≡ tick_price prices (get_or masks i 0) → SummedTicks prices masks (total + r) (i + 1)
   summed-more l r e = record {
     sum = omega (arith, inv.sum, e, hundredths-next prices masks i l, ap (λ (k : ℕ). hundredths prices (take k masks)) (add-one i));
     inside = omega arith;

@@ -4,12 +4,12 @@ use Rattle.words.specs.lists.Numbers.{sum}
 use Rattle.words.specs.bits.Word.{bit}
 
 -- of one tick: the prices of its mask's set bits
-unfoldable pub tickPrice : List ℕ → ℕ → ℕ
-tickPrice prices mask = sum (λ j. bit mask j * get_or prices j 0) 0 32
+unfoldable pub tick_price : List ℕ → ℕ → ℕ
+tick_price prices mask = sum (λ j. bit mask j * get_or prices j 0) 0 32
 
 unfoldable pub hundredths : List ℕ → List ℕ → ℕ
 hundredths prices [] = 0
-hundredths prices (mask ∷ masks) = tickPrice prices mask + hundredths prices masks
+hundredths prices (mask ∷ masks) = tick_price prices mask + hundredths prices masks
 
 -- in cents: divided once, for all ticks together, halves upward
 abbrev pub price : List ℕ → List ℕ → ℕ

@@ -3,7 +3,7 @@
 #![tactic(auto)]
 
 ghost use Rattle.std.specs.Prelude.{◌≡◌, ◌≤◌, length};
-ghost use Rattle.prices.specs.Prices.{tickPrice, hundredths, price};
+ghost use Rattle.prices.specs.Prices.{tick_price, hundredths, price};
 
 pub mod priced_runs;
 pub mod priced_states;
@@ -11,7 +11,7 @@ pub mod priced_states;
 // Of one tick: each turn takes the lowest set bit off the mask, so that a mask of few bits is few turns.
 fn tick_price(prices: &[u16], mask: u32) -> u64
     requires { length prices.now ≡ 32 }
-    ensures { result ≡ tickPrice prices.now mask }
+    ensures { result ≡ tick_price prices.now mask }
 {
     let mut total: u64 = 0;
     let mut rest = mask;

@@ -1,8 +1,8 @@
 // A run with a price: all that a run does, of at most 65,536 words, and what its finished ticks cost by a price list.
 ghost use Rattle.std.specs.Prelude.{◌≡◌};
-ghost use Rattle.text.specs.frames.Answer.{reply, replyCount, judged};
+ghost use Rattle.text.specs.frames.Answer.{reply, reply_count, verdict_reply};
 ghost use Rattle.state.specs.Bytes.{state_of};
-ghost use Rattle.prices.specs.priced_runs.PricedRun.{manyVerdict, pricedRun};
+ghost use Rattle.prices.specs.priced_runs.PricedRun.{many_verdict, priced_run};
 ghost use Rattle.prices.specs.priced_runs.InPlace.{GivesPricedRunOn};
 
 use crate::price_of;
@@ -29,7 +29,7 @@ pub struct PricedStateReport {
 
 // How many ticks were finished.
 fn count_of(answer: Answer) -> usize
-    ensures { result ≡ replyCount (reply answer) }
+    ensures { result ≡ reply_count (reply answer) }
 {
     match answer {
         Answer::Done(count) => count,
@@ -43,7 +43,7 @@ fn count_of(answer: Answer) -> usize
 
 // The answer to more words than are priced: what refuses a run of no words, or 27. It runs on a copy, since a run tidies the bytes.
 fn refuse_many(image: &[u8], bytes: &[u8; STATE_BYTES]) -> Answer
-    ensures { reply result ≡ judged (manyVerdict image.now (state_of bytes.now)) 0 }
+    ensures { reply result ≡ verdict_reply (many_verdict image.now (state_of bytes.now)) 0 }
 {
     let mut copy = *bytes;
     let words = [0u16; 1];
@@ -66,7 +66,7 @@ pub fn priced_run_bytes(
     codes: &mut [u8],
 ) -> PricedReport
     ensures { GivesPricedRunOn
-        (pricedRun image.now (state_of bytes.old) prices.now words.now masks.old
+        (priced_run image.now (state_of bytes.old) prices.now words.now masks.old
         codes.old) words.now bytes.old result bytes.new
         masks.new codes.new }
 {

@@ -1,5 +1,5 @@
 // A run with a price, on a state by value.
-ghost use Rattle.prices.specs.priced_runs.PricedRun.{pricedRun, GivesPricedRun};
+ghost use Rattle.prices.specs.priced_runs.PricedRun.{priced_run, GivesPricedRun};
 
 use crate::priced_runs::{PricedStateReport, priced_run_bytes};
 use state::State;
@@ -16,7 +16,7 @@ pub fn priced_run(
     codes: &mut [u8],
 ) -> PricedStateReport
     ensures { GivesPricedRun
-        (pricedRun image.now state prices.now words.now masks.old codes.old)
+        (priced_run image.now state prices.now words.now masks.old codes.old)
         result masks.new codes.new }
 {
     let mut bytes = bytes_of(state);

@@ -6,17 +6,17 @@ use mathlib.Core.List.{List}
 use lib.Dec.{eqb}
 use Rattle.words.specs.lists.Pick.{pick}
 use Rattle.text.specs.frames.Verdict.{Verdict, fine, refused}
-use Rattle.text.specs.frames.Answer.{replyNumber}
-use Rattle.state.specs.Bytes.{state_of, bytesOf}
+use Rattle.text.specs.frames.Answer.{reply_number}
+use Rattle.state.specs.Bytes.{state_of, bytes_of}
 use Rattle.state.proofs.ResultBytes.{state-back, held-sized, held-bits, held_back}
-use Rattle.rebinding.specs.Rebind.{rebinding, rebindOn}
+use Rattle.rebinding.specs.Rebind.{rebinding, rebind_on}
 use Rattle.rebinding.proofs.Keeps.{rebinding-sized}
 
 pub rebinding-held : (b : List ℕ) (h k : ℕ) (v : Verdict)
-    → let x = rebindOn v (state_of b) h k in state_of (pick (eqb (replyNumber x.reply) 0) (bytesOf x.state) b) ≡ x.state
+    → let x = rebind_on v (state_of b) h k in state_of (pick (eqb (reply_number x.reply) 0) (bytes_of x.state) b) ≡ x.state
 rebinding-held b h k fine = state-back (rebinding h k (state_of b)) (rebinding-sized (state_of b) h k (held-sized b)) (held-bits b)
 rebinding-held b h k (refused n j) = go (eqb n 0)
   where
-    go : (t : Bool) → state_of (pick t (bytesOf (state_of b)) b) ≡ state_of b
+    go : (t : Bool) → state_of (pick t (bytes_of (state_of b)) b) ≡ state_of b
     go true = held_back b
     go false = refl

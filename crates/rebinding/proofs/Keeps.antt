@@ -11,18 +11,18 @@ use lib.Seq.{get_or-set_same, get_or-set_other}
 use borrow.Author.Tests.{ne_eqb, le-leb}
 use Rattle.words.specs.lists.Pick.{pick}
 use Rattle.words.proofs.lists.Tests.{and-true}
-use Rattle.bindings.specs.Binding.{served, badRebinding}
+use Rattle.bindings.specs.Binding.{server_of, is_bad_rebinding}
 use Rattle.text.specs.frames.Frame.{contents}
 use Rattle.text.specs.frames.Verdict.{Verdict, fine, next, when}
 use Rattle.image.specs.Image.{Image}
-use Rattle.image.specs.Decode.{decoded}
-use Rattle.image.specs.Check.{imageVerdict}
+use Rattle.image.specs.Decode.{decoded_image}
+use Rattle.image.specs.Check.{image_verdict}
 use Rattle.image.proofs.Accepted.{image-sound}
 use Rattle.state.specs.declared.State.{State}
 use Rattle.state.specs.State.{Sized}
-use Rattle.fitness.specs.Fitness.{callable, badServed, unfit}
+use Rattle.fitness.specs.Fitness.{is_callable, is_badly_served, is_unfit}
 use Rattle.fitness.proofs.Fitness.{Fits, fits, unfits, range-callable}
-use Rattle.rebinding.specs.Rebind.{rebinding, rebindOn, rebind}
+use Rattle.rebinding.specs.Rebind.{rebinding, rebind_on, rebind}
 use Rattle.rebinding.proofs.rebindable.Refusal.{AllowedRebinding, allowed}
 
 pub rebinding-sized : (s : State) (h k : ℕ) → Sized s → Sized (rebinding h k s)
@@ -39,9 +39,9 @@ module _ (i : Image) (few : length i.entries ≤ 16) (s : State) (h k : ℕ) whe
 
   -- whether the scheme that serves number g may not serve it
   abbrev bad : ℕ → Bool → ℕ → Bool
-  bad g t j = not (pick t (callable i j) (eqb j g))
+  bad g t j = not (pick t (is_callable i j) (eqb j g))
 
-  pub rebinding-fits : Fits i s → badRebinding H i.handler h k ≡ false → Fits i (rebinding h k s)
+  pub rebinding-fits : Fits i s → is_bad_rebinding H i.handler h k ≡ false → Fits i (rebinding h k s)
   rebinding-fits f e = record {
     whole = rebinding-sized s h k f.whole;
     small = f.small;
@@ -57,10 +57,10 @@ module _ (i : Image) (few : length i.entries ≤ 16) (s : State) (h k : ℕ) whe
       may : AllowedRebinding H i.handler h k
       may = allowed H i.handler h k e
 
-      serves : (g : ℕ) → 2 ≤ g → g < 17 → Dec (g ≡ h) → badServed i (rebinding h k s) g ≡ false
+      serves : (g : ℕ) → 2 ≤ g → g < 17 → Dec (g ≡ h) → is_badly_served i (rebinding h k s) g ≡ false
       serves g a b (yes q) =
-          let same : served (set s.serving (h - 1) k) g ≡ k =
-          ap (served (set s.serving (h - 1) k)) q
+          let same : server_of (set s.serving (h - 1) k) g ≡ k =
+          ap (server_of (set s.serving (h - 1) k)) q
           ∙ get_or-set_same s.serving (h - 1) k 0 (omega (arith, f.whole.serving, may.number-low, may.number-high)) in
           let free : (leb g H && not (eqb g i.handler)) ≡ true =
           and-true (leb g H) (not (eqb g i.handler)) (le-leb g H (omega (arith, may.number-high)))
@@ -72,23 +72,23 @@ module _ (i : Image) (few : length i.entries ≤ 16) (s : State) (h k : ℕ) whe
           (get_or-set_other s.serving (h - 1) (g - 1) k 0 (λ p. q (omega (arith, may.number-low))))
           ∙ f.serves g a b
 
-  pub rebinding-unfit : unfit i s ≡ false → Sized s → badRebinding H i.handler h k ≡ false → unfit i (rebinding h k s) ≡ false
+  pub rebinding-unfit : is_unfit i s ≡ false → Sized s → is_bad_rebinding H i.handler h k ≡ false → is_unfit i (rebinding h k s) ≡ false
   rebinding-unfit u z e = fits i (rebinding h k s) (rebinding-fits (unfits i s z u) e)
 
 -- every accepted image, whatever its rows
-module _ (text : List ℕ) (passes : imageVerdict text ≡ fine) (s : State) (h k : ℕ) where
+module _ (text : List ℕ) (passes : image_verdict text ≡ fine) (s : State) (h k : ℕ) where
   abbrev image : Image
-  image = decoded (contents text)
+  image = decoded_image (contents text)
 
   abbrev bars : Bool
-  bars = badRebinding (length image.entries) image.handler h k
+  bars = is_bad_rebinding (length image.entries) image.handler h k
 
-  pub rebind-fits : Sized s → unfit image s ≡ false → unfit image (rebind text s h k).state ≡ false
+  pub rebind-fits : Sized s → is_unfit image s ≡ false → is_unfit image (rebind text s h k).state ≡ false
   unfolding rebind
   rebind-fits z u =
-      ap₂ (λ (v : Verdict) (x : Bool). unfit image (rebindOn (next v λ _. next (when 15 x) λ _. when 22 bars) s h k).state) passes u
+      ap₂ (λ (v : Verdict) (x : Bool). is_unfit image (rebind_on (next v λ _. next (when 15 x) λ _. when 22 bars) s h k).state) passes u
       ∙ go bars refl
     where
-      go : (t : Bool) → bars ≡ t → unfit image (rebindOn (when 22 t) s h k).state ≡ false
+      go : (t : Bool) → bars ≡ t → is_unfit image (rebind_on (when 22 t) s h k).state ≡ false
       go true e = u
       go false e = rebinding-unfit image (image-sound text passes).most s h k u z e

@@ -8,75 +8,76 @@ use lib.Dec.{eqb, ltb}
 use lib.ListN.{length}
 use borrow.Author.Tests.{ne_eqb, ltb-false}
 use Rattle.words.proofs.lists.Tests.{no-pick, or_l, or_r}
-use Rattle.bindings.specs.Binding.{rebound, badRebinding}
+use Rattle.bindings.specs.Binding.{rebound_binding, is_bad_rebinding}
 use Rattle.text.specs.frames.Verdict.{next, when}
 use Rattle.text.specs.frames.Answer.{refusal, reply}
 use Rattle.text.specs.declared.frames.Answer.{Answer}
 use Rattle.text.specs.declared.frames.Answer.TheVariants.{Done, Refused}
-use Rattle.image.specs.Decode.{schemeCount, handlerIn, lastLabel, rowCount}
-use Rattle.tables.specs.Table.{tableImage}
+use Rattle.image.specs.Decode.{scheme_count, handler_in, last_label, row_count}
+use Rattle.tables.specs.Table.{table_image}
 use Rattle.tables.specs.inner.Asked.{Whole}
 use Rattle.tables.proofs.TableReads.{entries-count}
 use Rattle.state.specs.declared.State.{State}
 use Rattle.state.specs.State.{StateOutcome}
-use Rattle.state.specs.Changes.{withServing}
-use Rattle.state.specs.Bytes.{state_of, bytesOf}
-use Rattle.fitness.specs.Fitness.{unfit}
-use Rattle.rebinding.specs.Rebind.{rebindOn, tableRebind, GivesRebindingOn}
+use Rattle.state.specs.Changes.{with_serving}
+use Rattle.state.specs.Bytes.{state_of, bytes_of}
+use Rattle.fitness.specs.Fitness.{is_unfit}
+use Rattle.rebinding.specs.Rebind.{rebind_on, table_rebind, GivesRebindingOn}
 use Rattle.rebinding.proofs.rebindable.Refusal.{AllowedRebinding, allowed}
 
 -- a refusal hands back what it was given
-abbrev pub keptState : ℕ → ℕ → State → StateOutcome
-keptState n j s = record { reply = refusal n j 0; state = s }
+abbrev pub kept_state : ℕ → ℕ → State → StateOutcome
+kept_state n j s = record { reply = refusal n j 0; state = s }
 
-pub kept-rebinds : (x : StateOutcome) (bytes : List ℕ) (n j : ℕ) (s : State) → x ≡ keptState n j s
+pub kept-rebinds : (x : StateOutcome) (bytes : List ℕ) (n j : ℕ) (s : State) → x ≡ kept_state n j s
     → 1 ≤ n → (a : Answer) → reply a ≡ refusal n j 0
     → GivesRebindingOn x bytes a bytes
 kept-rebinds x bytes n j s g l a e =
-    rw g (record { answered = e; bytes = sym (no-pick (eqb n 0) (bytesOf s) bytes (ne_eqb n 0 (λ z. omega arith))) })
+    rw g (record { answered = e; bytes = sym (no-pick (eqb n 0) (bytes_of s) bytes (ne_eqb n 0 (λ z. omega arith))) })
 
 -- ---- on a table: t says whether the state is unfit, u whether the rebinding is refused
-module _ (b before : List ℕ) (h k : ℕ) (t : Bool) (e : t ≡ unfit (tableImage b) (state_of before)) where
+module _ (b before : List ℕ) (h k : ℕ) (t : Bool) (e : t ≡ is_unfit (table_image b) (state_of before)) where
   abbrev s : State
   s = state_of before
 
   abbrev answers : Bool → Bool → StateOutcome
-  answers t u = rebindOn (next (when 15 t) λ _. when 22 u) s h k
+  answers t u = rebind_on (next (when 15 t) λ _. when 22 u) s h k
 
-  pub unfit-rebinds : t ≡ true → (a : Answer) → a ≡ Refused 15 0 0 → GivesRebindingOn (tableRebind b s h k) before a before
-  unfolding tableRebind
+  pub unfit-rebinds : t ≡ true → (a : Answer) → a ≡ Refused 15 0 0 → GivesRebindingOn (table_rebind b s h k) before a before
+  unfolding table_rebind
   unfit-rebinds q a r =
-      kept-rebinds (tableRebind b s h k) before 15 0 s
-      (ap (λ (t : Bool). answers t (badRebinding (length (tableImage b).entries) (tableImage b).handler h k)) (sym e ∙ q))
+      kept-rebinds (table_rebind b s h k) before 15 0 s
+      (ap (λ (t : Bool). answers t (is_bad_rebinding (length (table_image b).entries) (table_image b).handler h k)) (sym e ∙ q))
       (omega arith) a (ap reply r)
 
-  module _ (fit : t ≡ false) (u : Bool) (f : u ≡ badRebinding (schemeCount b) (handlerIn b) h k) where
-    refused-by : badRebinding (length (tableImage b).entries) (tableImage b).handler h k ≡ u
-    unfolding tableImage
-    refused-by = ap (λ (n : ℕ). badRebinding n (handlerIn b) h k) (entries-count b) ∙ sym f
+  module _ (fit : t ≡ false) (u : Bool) (f : u ≡ is_bad_rebinding (scheme_count b) (handler_in b) h k) where
+    refused-by : is_bad_rebinding (length (table_image b).entries) (table_image b).handler h k ≡ u
+    unfolding table_image
+    refused-by = ap (λ (n : ℕ). is_bad_rebinding n (handler_in b) h k) (entries-count b) ∙ sym f
 
-    table_is : tableRebind b s h k ≡ answers false u
-    unfolding tableRebind
+    table_is : table_rebind b s h k ≡ answers false u
+    unfolding table_rebind
     table_is = ap₂ answers (sym e ∙ fit) refused-by
 
-    pub bad-rebinds : u ≡ true → (a : Answer) → a ≡ Refused 22 0 0 → GivesRebindingOn (tableRebind b s h k) before a before
-    bad-rebinds q a r = kept-rebinds (tableRebind b s h k) before 22 0 s (table_is ∙ ap (answers false) q) (omega arith) a (ap reply r)
+    pub bad-rebinds : u ≡ true → (a : Answer) → a ≡ Refused 22 0 0 → GivesRebindingOn (table_rebind b s h k) before a before
+    bad-rebinds q a r = kept-rebinds (table_rebind b s h k) before 22 0 s (table_is ∙ ap (answers false) q) (omega arith) a (ap reply r)
 
-    pub done-rebinds : u ≡ false → (bound after : List ℕ) → state_of bound ≡ withServing s (rebound h k s.serving)
-        → after ≡ bytesOf (state_of bound)
-        → GivesRebindingOn (tableRebind b s h k) before (Done 0) after
-    done-rebinds q bound after x y = rw (table_is ∙ ap (answers false) q) (record { answered = refl; bytes = y ∙ ap bytesOf x })
+    pub done-rebinds : u ≡ false → (bound after : List ℕ) → state_of bound ≡ with_serving s (rebound_binding h k s.serving)
+        → after ≡ bytes_of (state_of bound)
+        → GivesRebindingOn (table_rebind b s h k) before (Done 0) after
+    done-rebinds q bound after x y = rw (table_is ∙ ap (answers false) q) (record { answered = refl; bytes = y ∙ ap bytes_of x })
 
 -- at most 16 schemes, so that both are bytes
-module _ (b : List ℕ) (whole : Whole b) (h k : ℕ) (u : Bool) (f : u ≡ badRebinding (schemeCount b) (handlerIn b) h k) (q : u ≡ false) where
-  schemes-few : schemeCount b ≤ 16
+module _ (b : List ℕ) (whole : Whole b) (h k : ℕ) (u : Bool) (f : u ≡ is_bad_rebinding (scheme_count b) (handler_in b) h k)
+    (q : u ≡ false) where
+  schemes-few : scheme_count b ≤ 16
   schemes-few =
-      let n : Bool = eqb (schemeCount b) 0 || ltb 16 (schemeCount b) in
-      let p : n ≡ false = or_l n (eqb (lastLabel b) 0) (or_l (n || eqb (lastLabel b) 0) (ltb 1024 (rowCount b)) whole.counts) in
-      ltb-false 16 (schemeCount b) (or_r (eqb (schemeCount b) 0) (ltb 16 (schemeCount b)) p)
+      let n : Bool = eqb (scheme_count b) 0 || ltb 16 (scheme_count b) in
+      let p : n ≡ false = or_l n (eqb (last_label b) 0) (or_l (n || eqb (last_label b) 0) (ltb 1024 (row_count b)) whole.counts) in
+      ltb-false 16 (scheme_count b) (or_r (eqb (scheme_count b) 0) (ltb 16 (scheme_count b)) p)
 
-  may : AllowedRebinding (schemeCount b) (handlerIn b) h k
-  may = allowed (schemeCount b) (handlerIn b) h k (sym f ∙ q)
+  may : AllowedRebinding (scheme_count b) (handler_in b) h k
+  may = allowed (scheme_count b) (handler_in b) h k (sym f ∙ q)
 
   pub number-within : (1 ≤ h) × (h ≤ 16)
   number-within = (omega (arith, may.number-low), omega (arith, may.number-high, schemes-few))

@@ -1,7 +1,7 @@
 // Rebindings in the bytes of a state that the caller keeps.
 ghost use Rattle.tables.specs.inner.Asked.{Whole};
 ghost use Rattle.state.specs.Bytes.{state_of};
-ghost use Rattle.rebinding.specs.Rebind.{rebind, tableRebind, liveRebind, GivesRebindingOn};
+ghost use Rattle.rebinding.specs.Rebind.{rebind, table_rebind, live_rebind, GivesRebindingOn};
 
 use crate::rebindable::bad_rebinding;
 use fitness::fitting::is_unfit;
@@ -16,7 +16,7 @@ use text::frames::{Answer, refused};
 // A rebinding on a prepared table: 15, then 22.
 fn rebind_table(table: &[u8], bytes: &mut [u8; STATE_BYTES], number: usize, scheme: usize) -> Answer
     requires { Whole table.now }
-    ensures { GivesRebindingOn (tableRebind table.now (state_of bytes.old) number scheme)
+    ensures { GivesRebindingOn (table_rebind table.now (state_of bytes.old) number scheme)
         bytes.old result bytes.new }
 {
     if is_unfit(table, bytes) {
@@ -56,7 +56,7 @@ pub fn live_rebind_bytes(
     number: usize,
     scheme: usize,
 ) -> Answer
-    ensures { GivesRebindingOn (liveRebind table.now (state_of bytes.old) number scheme)
+    ensures { GivesRebindingOn (live_rebind table.now (state_of bytes.old) number scheme)
         bytes.old result bytes.new }
 {
     if bad_table(table) {

@@ -9,7 +9,7 @@ use lib.Seq.{get_or-set_other}
 use native.Mathlib.Omega.{arith}
 use borrow.Author.Tests.{eqb-true, eqb-false}
 use Rattle.words.specs.lists.Pick.{pick}
-use Rattle.results.specs.Results.{Results, result_of, withResult, cleared}
+use Rattle.results.specs.Results.{Results, result_of, with_result, cleared_results}
 
 -- past the end every bit reads as 0
 set-false : (b : Results) (k : ℕ) → get_or (set b k false) k false ≡ false
@@ -18,24 +18,24 @@ set-false (x ∷ b) zero = refl
 set-false (x ∷ b) (suc k) = set-false b k
 
 -- the bit of the scheme called, and any other
-pub cleared-own : (h : ℕ) (b : Results) → result_of h (cleared h b) ≡ false
+pub cleared-own : (h : ℕ) (b : Results) → result_of h (cleared_results h b) ≡ false
 cleared-own h b = set-false b (h - 1)
 
-pub cleared-keeps : (g h : ℕ) (b : Results) → result_of h b ≡ false → result_of h (cleared g b) ≡ false
+pub cleared-keeps : (g h : ℕ) (b : Results) → result_of h b ≡ false → result_of h (cleared_results g b) ≡ false
 cleared-keeps g h b e = go (eqb (h - 1) (g - 1)) refl
   where
-    go : (t : Bool) → eqb (h - 1) (g - 1) ≡ t → result_of h (cleared g b) ≡ false
+    go : (t : Bool) → eqb (h - 1) (g - 1) ≡ t → result_of h (cleared_results g b) ≡ false
     go true q = let i : h - 1 ≡ g - 1 = eqb-true (h - 1) (g - 1) q in
         ap (λ (k : ℕ). get_or (set b (g - 1) false) k false) i ∙ set-false b (g - 1)
     go false q = get_or-set_other b (g - 1) (h - 1) false false (eqb-false (h - 1) (g - 1) q) ∙ e
 
-pub result-keeps : (r g h : ℕ) (b : Results) → 2 ≤ h → (g ≡ h → r ≡ 2 → ⊥) → result_of h b ≡ false → result_of h (withResult r g b) ≡ false
+pub result-keeps : (r g h : ℕ) (b : Results) → 2 ≤ h → (g ≡ h → r ≡ 2 → ⊥) → result_of h b ≡ false → result_of h (with_result r g b) ≡ false
 result-keeps r g h b l other e = by_result (eqb r 0)
   where
-    byTwo : (t : Bool) → eqb r 2 ≡ t → result_of h (set b (g - 1) t) ≡ false
-    byTwo false q = cleared-keeps g h b e
-    byTwo true q = get_or-set_other b (g - 1) (h - 1) true false (λ i. other (omega arith) (eqb-true r 2 q)) ∙ e
+    by-two : (t : Bool) → eqb r 2 ≡ t → result_of h (set b (g - 1) t) ≡ false
+    by-two false q = cleared-keeps g h b e
+    by-two true q = get_or-set_other b (g - 1) (h - 1) true false (λ i. other (omega arith) (eqb-true r 2 q)) ∙ e
 
     by_result : (t : Bool) → result_of h (pick t b (set b (g - 1) (eqb r 2))) ≡ false
     by_result true = e
-    by_result false = byTwo (eqb r 2) refl
+    by_result false = by-two (eqb r 2) refl

@@ -6,16 +6,16 @@ use Rattle.words.specs.lists.Pick.{pick}
 abbrev pub Results : Type 0
 Results = List Bool
 
-abbrev pub noResults : Results
-noResults = replicate 16 false
+abbrev pub no_results : Results
+no_results = replicate 16 false
 
 abbrev pub result_of : ℕ → Results → Bool
 result_of h b = get_or b (h - 1) false
 
 -- the result r of a tick of a scheme that was called by number h: 0 keeps the bit, 1 writes 0, 2 writes 1
-abbrev pub withResult : ℕ → ℕ → Results → Results
-withResult r h b = pick (eqb r 0) b (set b (h - 1) (eqb r 2))
+abbrev pub with_result : ℕ → ℕ → Results → Results
+with_result r h b = pick (eqb r 0) b (set b (h - 1) (eqb r 2))
 
 -- a call of number h sets its bit to 0
-abbrev pub cleared : ℕ → Results → Results
-cleared h b = set b (h - 1) false
+abbrev pub cleared_results : ℕ → Results → Results
+cleared_results h b = set b (h - 1) false

@@ -6,10 +6,10 @@ use native.Mathlib.Decide.{ℕ_discrete}
 use lib.Bits.{bit_and, and_block, and_lt}
 use lib.Dec.{eqb}
 use borrow.Author.Tests.{eq-eqb, ne_eqb}
-use Rattle.words.specs.bits.Word.{agrees}
-use Rattle.rows.specs.inner.Search.{swap}
+use Rattle.words.specs.bits.Word.{is_agreeing}
+use Rattle.rows.specs.inner.Search.{swapped_word}
 
-pub swap-twice : (w : ℕ) → w < 65536 → swap (swap w) ≡ w
+pub swap-twice : (w : ℕ) → w < 65536 → swapped_word (swapped_word w) ≡ w
 swap-twice w h = omega arith
 
 -- two bytes each, compared byte by byte
@@ -28,7 +28,7 @@ module _ (t x y u v : ℕ) (small : t < 65536) (hx : x < 256) (hy : y < 256) (hu
   abbrev low : ℕ
   low = t % 256
 
-  pub swapped-agrees : eqb (bit_and t (x + y * 256)) (u + v * 256) ≡ agrees (swap t) (x * 256 + y) (u * 256 + v)
+  pub swapped-agrees : eqb (bit_and t (x + y * 256)) (u + v * 256) ≡ is_agreeing (swapped_word t) (x * 256 + y) (u * 256 + v)
   swapped-agrees =
       let e : t ≡ high * 256 + low = omega arith in
       let f : x + y * 256 ≡ y * 256 + x = omega arith in

@@ -5,8 +5,8 @@
 
 ghost use Rattle.std.specs.Prelude.{◌≡◌, ◌<◌};
 ghost use Rattle.text.specs.frames.Frame.{size};
-ghost use Rattle.image.specs.Decode.{schemeCount};
-ghost use Rattle.rows.specs.inner.Search.{swap, matchingFrame, BetterOf, Chosen, Deciding};
+ghost use Rattle.image.specs.Decode.{scheme_count};
+ghost use Rattle.rows.specs.inner.Search.{swapped_word, is_matching_frame, BetterOf, Chosen, Deciding};
 
 pub mod image_rows;
 pub mod listing;
@@ -24,7 +24,7 @@ pub const NO_FRAME: usize = 131072;
 // The two bytes of a word in the other order. A row is compared with its bytes as they stand, which spares swapping those of
 // care mask and values at each row.
 pub fn swap(word: u16) -> u16
-    ensures { result ≡ swap word }
+    ensures { result ≡ swapped_word word }
 {
     (word % 256) * 256 + word / 256
 }
@@ -32,7 +32,7 @@ pub fn swap(word: u16) -> u16
 // Whether the row in frame f matches a word, given with its bytes swapped; bit 2 says that no bit decides.
 pub fn is_matching(table: &[u8], f: usize, swapped: u16, bit: u8) -> bool
     requires { f < size table.now }
-    ensures { result ≡ matchingFrame table.now (swap swapped) bit f }
+    ensures { result ≡ is_matching_frame table.now (swapped_word swapped) bit f }
 {
     if swapped & low_pair(table, f, CARE) != low_pair(table, f, VALUES) {
         return false;
@@ -65,7 +65,7 @@ fn better_frame(table: &[u8], best: usize, f: usize) -> usize
 // The frame of the row that label l takes where several match, row after row.
 pub fn compare_rows(table: &[u8], schemes: u8, l: usize, word: u16, bit: u8) -> usize
     requires deciding { Deciding table.now l bit }
-    requires schemes_value { schemes ≡ schemeCount table.now }
+    requires schemes_value { schemes ≡ scheme_count table.now }
     ensures { Chosen table.now l word bit result }
 {
     let swapped = swap(word);

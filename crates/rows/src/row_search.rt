@@ -2,10 +2,10 @@
 ghost use Rattle.std.specs.Prelude.{◌≡◌, ◌≤◌, ◌<◌, ltb};
 ghost use Rattle.words.specs.lists.Pick.{pick};
 ghost use Rattle.text.specs.frames.Frame.{size, field};
-ghost use Rattle.image.specs.Decode.{schemeCount};
-ghost use Rattle.tables.specs.Table.{tableImage};
-ghost use Rattle.rows.specs.Rows.{bestRow, leads, next_of};
-ghost use Rattle.rows.specs.inner.Search.{swap, matchingFrame, Chosen, Deciding};
+ghost use Rattle.image.specs.Decode.{scheme_count};
+ghost use Rattle.tables.specs.Table.{table_image};
+ghost use Rattle.rows.specs.Rows.{best_row, lead_of, next_of};
+ghost use Rattle.rows.specs.inner.Search.{swapped_word, is_matching_frame, Chosen, Deciding};
 ghost use Rattle.rows.specs.row_search.inner.Skipped.{Skipped};
 
 use crate::{NO_FRAME, compare_rows, end_of, first_of, is_matching, swap};
@@ -15,7 +15,7 @@ use image::layout::*;
 // The frame where its row matches, else none.
 fn one_row(table: &[u8], f: usize, word: u16, bit: u8) -> usize
     requires { f < size table.now }
-    ensures { result ≡ pick (matchingFrame table.now word bit f) f NO_FRAME }
+    ensures { result ≡ pick (is_matching_frame table.now word bit f) f NO_FRAME }
 {
     if is_matching(table, f, swap(word), bit) {
         return f;
@@ -28,7 +28,7 @@ fn one_row(table: &[u8], f: usize, word: u16, bit: u8) -> usize
 fn skip_rows(table: &[u8], from: usize, end: usize, swapped: u16, bit: u8) -> usize
     requires from_bound { from ≤ NO_FRAME }
     requires end_bound { end ≤ size table.now }
-    ensures { Skipped table.now (swap swapped) bit from end result }
+    ensures { Skipped table.now (swapped_word swapped) bit from end result }
 {
     let mut f = from;
     while f + 1 < end {
@@ -47,7 +47,7 @@ fn skip_rows(table: &[u8], from: usize, end: usize, swapped: u16, bit: u8) -> us
 // that calls no function. Rows are compared only where more than one matches, on the image of a chart never.
 pub fn find_row(table: &[u8], schemes: u8, l: usize, word: u16, bit: u8) -> usize
     requires deciding { Deciding table.now l bit }
-    requires schemes_value { schemes ≡ schemeCount table.now }
+    requires schemes_value { schemes ≡ scheme_count table.now }
     ensures { Chosen table.now l word bit result }
 {
     let swapped = swap(word);
@@ -70,7 +70,7 @@ pub fn find_row(table: &[u8], schemes: u8, l: usize, word: u16, bit: u8) -> usiz
 // others. Which of two rows matches is asked by branches: where they are predicted, the next tick need not wait for it.
 fn take_row(table: &[u8], schemes: u8, l: usize, word: u16, bit: u8) -> usize
     requires deciding { Deciding table.now l bit }
-    requires schemes_value { schemes ≡ schemeCount table.now }
+    requires schemes_value { schemes ≡ scheme_count table.now }
     ensures { Chosen table.now l word bit result }
 {
     let first = first_of(table, schemes, l);
@@ -105,8 +105,8 @@ fn next_in(table: &[u8], f: usize) -> u16
 // Where the row that label l takes leads, or NO_LABEL where none matches.
 pub fn next_row(table: &[u8], schemes: u8, l: usize, word: u16, bit: u8) -> u16
     requires deciding { Deciding table.now l bit }
-    requires schemes_value { schemes ≡ schemeCount table.now }
-    ensures { result ≡ next_of (leads (bestRow l word bit 0 (tableImage table.now).rows)) }
+    requires schemes_value { schemes ≡ scheme_count table.now }
+    ensures { result ≡ next_of (lead_of (best_row l word bit 0 (table_image table.now).rows)) }
 {
     let f = take_row(table, schemes, l, word, bit);
     next_in(table, f)
@@ -115,8 +115,8 @@ pub fn next_row(table: &[u8], schemes: u8, l: usize, word: u16, bit: u8) -> u16
 // The same where no bit decides.
 pub fn next_free(table: &[u8], schemes: u8, l: usize, word: u16) -> u16
     requires deciding { Deciding table.now l NO_BIT }
-    requires schemes_value { schemes ≡ schemeCount table.now }
-    ensures { result ≡ next_of (leads (bestRow l word NO_BIT 0 (tableImage table.now).rows)) }
+    requires schemes_value { schemes ≡ scheme_count table.now }
+    ensures { result ≡ next_of (lead_of (best_row l word NO_BIT 0 (table_image table.now).rows)) }
 {
     let f = take_row(table, schemes, l, word, NO_BIT);
     next_in(table, f)

@@ -6,13 +6,13 @@ use mathlib.Core.List.{List, [], ◌∷◌}
 use Rattle.text.specs.frames.Frame.{contents}
 use Rattle.text.specs.frames.Verdict.{fine}
 use Rattle.image.specs.Image.{Image}
-use Rattle.image.specs.Decode.{decoded}
-use Rattle.image.specs.Check.{imageVerdict}
+use Rattle.image.specs.Decode.{decoded_image}
+use Rattle.image.specs.Check.{image_verdict}
 use Rattle.image.specs.inner.Sound.{SoundImage}
 use Rattle.image.proofs.Accepted.{image-sound}
 use Rattle.state.specs.declared.State.{State}
 use Rattle.state.specs.State.{Sized}
-use Rattle.fitness.specs.Fitness.{unfit}
+use Rattle.fitness.specs.Fitness.{is_unfit}
 use Rattle.fitness.proofs.Fitness.{Fits, fits, unfits}
 use Rattle.ticks.specs.Tick.{MachineTick, finished, stopped, tick}
 use Rattle.ticks.proofs.Keeps.{Keeps, tick-keeps}
@@ -30,9 +30,9 @@ module _ (i : Image) (sound : SoundImage i) where
       go (stopped n) q ih = f
 
 -- every accepted image, whatever its rows
-pub ticks-fit : (text : List ℕ) → imageVerdict text ≡ fine → (s : State) → Sized s
-    → unfit (decoded (contents text)) s ≡ false → (ws : List ℕ)
-    → unfit (decoded (contents text)) (ticks (decoded (contents text)) s ws).state ≡ false
+pub ticks-fit : (text : List ℕ) → image_verdict text ≡ fine → (s : State) → Sized s
+    → is_unfit (decoded_image (contents text)) s ≡ false → (ws : List ℕ)
+    → is_unfit (decoded_image (contents text)) (ticks (decoded_image (contents text)) s ws).state ≡ false
 ticks-fit text passes s sized fit ws =
-    let image : Image = decoded (contents text) in
+    let image : Image = decoded_image (contents text) in
     fits image (ticks image s ws).state (ticks-keep image (image-sound text passes) ws s (unfits image s sized fit))

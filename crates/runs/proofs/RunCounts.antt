@@ -6,13 +6,13 @@ use native.Mathlib.Omega.{arith}
 use lib.ListN.{length, drop, length-append}
 use Rattle.text.specs.frames.Frame.{contents}
 use Rattle.text.specs.frames.Verdict.{Verdict, fine, refused}
-use Rattle.text.specs.frames.Answer.{replied, replyCount}
+use Rattle.text.specs.frames.Answer.{counted_reply, reply_count}
 use Rattle.text.proofs.frames.Chains.{replied-count}
 use Rattle.image.specs.Image.{Image}
-use Rattle.image.specs.Decode.{decoded}
+use Rattle.image.specs.Decode.{decoded_image}
 use Rattle.state.specs.declared.State.{State}
 use Rattle.ticks.specs.Tick.{MachineTick, finished, stopped, tick}
-use Rattle.runs.specs.Run.{MachineRun, then, ticks, runOn, runVerdict, run}
+use Rattle.runs.specs.Run.{MachineRun, then, ticks, run_on, run_verdict, run}
 
 -- as many masks as codes
 pub same_count : (i : Image) (ws : List ℕ) (s : State) → length (ticks i s ws).masks ≡ length (ticks i s ws).codes
@@ -38,18 +38,18 @@ ticks-most i (w ∷ ws) s = go (tick i s w) (ticks-most i ws)
 
 -- what is counted is in the buffer, and no more than the words
 pub run-count : (t : List ℕ) (s : State) (ws ms ks : List ℕ)
-    → let r = run t s ws ms ks in (replyCount r.reply ≤ length r.masks) × (replyCount r.reply ≤ length ws)
+    → let r = run t s ws ms ks in (reply_count r.reply ≤ length r.masks) × (reply_count r.reply ≤ length ws)
 unfolding run
 run-count t s ws ms ks =
-    go (runVerdict t s ws ms ks) (ticks i s ws) (same_count i ws s) (ticks-most i ws s)
+    go (run_verdict t s ws ms ks) (ticks i s ws) (same_count i ws s) (ticks-most i ws s)
   where
     i : Image
-    i = decoded (contents t)
+    i = decoded_image (contents t)
 
     go : (v : Verdict) (r : MachineRun) → length r.masks ≡ length r.codes → length r.codes ≤ length ws
-        → let x = runOn v (λ _. r) s ms ks in (replyCount x.reply ≤ length x.masks) × (replyCount x.reply ≤ length ws)
+        → let x = run_on v (λ _. r) s ms ks in (reply_count x.reply ≤ length x.masks) × (reply_count x.reply ≤ length ws)
     go (refused k j) r e l = (omega arith, omega arith)
     go fine r e l =
-        let n : replyCount (replied r.verdict (length r.codes)) ≡ length r.codes =
+        let n : reply_count (counted_reply r.verdict (length r.codes)) ≡ length r.codes =
         replied-count r.verdict (length r.codes) in
         (omega (arith, n, e, length-append r.masks (drop (length r.masks) ms)), omega (arith, n, l))

@@ -11,40 +11,40 @@ use Rattle.words.specs.lists.Sequences.{over, written}
 use Rattle.words.proofs.lists.Written.{written_none, written-snoc, written-front}
 use Rattle.text.specs.frames.Verdict.{Verdict, fine, refused}
 use Rattle.image.specs.Image.{Image}
-use Rattle.tables.specs.Table.{tableImage}
+use Rattle.tables.specs.Table.{table_image}
 use Rattle.state.specs.declared.State.{State}
 use Rattle.state.specs.Bytes.{state_of}
 use Rattle.ticks.specs.declared.TickEnd.{TickEnd}
 use Rattle.ticks.specs.Tick.{top_of, MachineTick, finished, stopped, tick}
 use Rattle.runs.specs.Run.{MachineRun, then, ticks}
-use Rattle.ticks.specs.inner.TickContracts.{TickAsked, afterTick, endOfTick, GivesTickEnd}
-use Rattle.runs.specs.inner.RunContracts.{verdictOf, RunRoom, GivesRunEnd}
+use Rattle.ticks.specs.inner.TickContracts.{TickAsked, state_after_tick, end_of_tick, GivesTickEnd}
+use Rattle.runs.specs.inner.RunContracts.{verdict_of, RunRoom, GivesRunEnd}
 use Rattle.ticks.proofs.Normal.{Normal, tick-normal}
 use Rattle.ticks.proofs.TickCases.{stands_on}
 
 -- ---- a tick by what the function that makes it answers
 module _ (b before : List ℕ) (w : ℕ) (r : TickEnd) (bytes : List ℕ) (q : GivesTickEnd b before w r bytes) where
   abbrev made : MachineTick
-  made = tick (tableImage b) (state_of before) w
+  made = tick (table_image b) (state_of before) w
 
   pub went : r.number ≡ 0 → made ≡ finished r.mask r.code (state_of bytes)
-  went z = go made refl (tick-normal (tableImage b) (state_of before) w)
+  went z = go made refl (tick-normal (table_image b) (state_of before) w)
     where
       go : (x : MachineTick) → made ≡ x → Normal (state_of before) x → made ≡ finished r.mask r.code (state_of bytes)
       go (finished m k t) e n =
-          let step : r ≡ endOfTick (finished m k t) = q.step ∙ ap endOfTick e in
+          let step : r ≡ end_of_tick (finished m k t) = q.step ∙ ap end_of_tick e in
           let p₁ : m ≡ r.mask = sym (ap (λ (y : TickEnd). y.mask) step) in
           let p₂ : k ≡ r.code = sym (ap (λ (y : TickEnd). y.code) step) in
-          let p₃ : t ≡ state_of bytes = sym (q.state ∙ ap (afterTick (state_of before)) e) in
+          let p₃ : t ≡ state_of bytes = sym (q.state ∙ ap (state_after_tick (state_of before)) e) in
           e ∙ (λ j. finished (p₁ j) (p₂ j) (p₃ j))
-      go (stopped k) e n = absurd (omega (arith, sym z ∙ ap (λ (y : TickEnd). y.number) (q.step ∙ ap endOfTick e)))
+      go (stopped k) e n = absurd (omega (arith, sym z ∙ ap (λ (y : TickEnd). y.number) (q.step ∙ ap end_of_tick e)))
 
   pub stood : (r.number ≡ 0 → ⊥) → made ≡ stopped r.number
   stood z = go made refl
     where
       go : (x : MachineTick) → made ≡ x → made ≡ stopped r.number
-      go (finished m k t) e = absurd (z (ap (λ (y : TickEnd). y.number) (q.step ∙ ap endOfTick e)))
-      go (stopped k) e = e ∙ ap stopped (sym (ap (λ (y : TickEnd). y.number) (q.step ∙ ap endOfTick e)))
+      go (finished m k t) e = absurd (z (ap (λ (y : TickEnd). y.number) (q.step ∙ ap end_of_tick e)))
+      go (stopped k) e = e ∙ ap stopped (sym (ap (λ (y : TickEnd). y.number) (q.step ∙ ap end_of_tick e)))
 
 -- ---- ticks over one word more
 module _ (i : Image) (s : State) (w : ℕ) (ws : List ℕ) where
@@ -75,15 +75,15 @@ pub record RunTurn (b bytes₀ ws ms₀ ks₀ bytes ms ks : List ℕ) (l i : ℕ
   pub low : i ≤ length ws
   pub stands : TickAsked b (state_of bytes)
   pub label : l ≡ top_of (state_of bytes)
-  pub pastMasks : List ℕ
-  pub pastCodes : List ℕ
-  pub longMasks : length pastMasks ≡ i
-  pub longCodes : length pastCodes ≡ i
-  pub sizeMasks : length ms ≡ length ms₀
-  pub sizeCodes : length ks ≡ length ks₀
-  pub masks : ms ≡ written ms₀ 0 pastMasks
-  pub codes : ks ≡ written ks₀ 0 pastCodes
-  pub whole : joined pastMasks pastCodes (ticks (tableImage b) (state_of bytes) (drop i ws)) ≡ ticks (tableImage b) (state_of bytes₀) ws
+  pub past_masks : List ℕ
+  pub past_codes : List ℕ
+  pub long_masks : length past_masks ≡ i
+  pub long_codes : length past_codes ≡ i
+  pub size_masks : length ms ≡ length ms₀
+  pub size_codes : length ks ≡ length ks₀
+  pub masks : ms ≡ written ms₀ 0 past_masks
+  pub codes : ks ≡ written ks₀ 0 past_codes
+  pub whole : joined past_masks past_codes (ticks (table_image b) (state_of bytes) (drop i ws)) ≡ ticks (table_image b) (state_of bytes₀) ws
   pub same : i ≡ 0 → bytes ≡ bytes₀
 
 pub turn-start : (b bytes ws ms ks : List ℕ) (l : ℕ) → TickAsked b (state_of bytes) → l ≡ top_of (state_of bytes)
@@ -92,12 +92,12 @@ turn-start b bytes ws ms ks l y e = record {
   low = omega arith;
   stands = y;
   label = e;
-  pastMasks = [];
-  pastCodes = [];
-  longMasks = refl;
-  longCodes = refl;
-  sizeMasks = refl;
-  sizeCodes = refl;
+  past_masks = [];
+  past_codes = [];
+  long_masks = refl;
+  long_codes = refl;
+  size_masks = refl;
+  size_codes = refl;
   masks = sym (written_none ms 0);
   codes = sym (written_none ks 0);
   whole = refl;
@@ -114,7 +114,7 @@ grown old out past i v e n h =
 longer : (past : List ℕ) (i v : ℕ) → length past ≡ i → length (past ++ (v ∷ [])) ≡ i + 1
 longer past i v n = simp length-append (omega (arith, n))
 
-pub number-verdict : (n : ℕ) → (n ≡ 0 → ⊥) → verdictOf n ≡ refused n 0
+pub number-verdict : (n : ℕ) → (n ≡ 0 → ⊥) → verdict_of n ≡ refused n 0
 number-verdict zero h = absurd (h refl)
 number-verdict (suc n) h = refl
 
@@ -127,23 +127,23 @@ module _ {b bytes₀ ws ms₀ ks₀ bytes ms ks : List ℕ} {l i : ℕ} (t : Run
   s₀ = state_of bytes₀
 
   abbrev image : Image
-  image = tableImage b
+  image = table_image b
 
   -- the words that are left, and what they give
   abbrev before : MachineRun → MachineRun
-  before = joined t.pastMasks t.pastCodes
+  before = joined t.past_masks t.past_codes
 
-  ended : (n : ℕ) (u : State) (left : List ℕ) (v : Verdict) → verdictOf n ≡ v → state_of left ≡ u → left ≡ bytes
+  ended : (n : ℕ) (u : State) (left : List ℕ) (v : Verdict) → verdict_of n ≡ v → state_of left ≡ u → left ≡ bytes
       → before (record { masks = []; codes = []; state = u; verdict = v }) ≡ ticks image s₀ ws
       → GivesRunEnd b bytes₀ ws ms₀ ks₀ (record { number = n; count = i }) left ms ks
   ended n u left v p q k all = record {
     verdict = p ∙ ap (λ (x : MachineRun). x.verdict) all;
-    count = sym t.longCodes ∙ ap (λ (l : List ℕ). length l) (sym (append-nil t.pastCodes) ∙ ap (λ (x : MachineRun). x.codes) all);
+    count = sym t.long_codes ∙ ap (λ (l : List ℕ). length l) (sym (append-nil t.past_codes) ∙ ap (λ (x : MachineRun). x.codes) all);
     state = q ∙ ap (λ (x : MachineRun). x.state) all;
-    masks = t.masks ∙ written-front ms₀ t.pastMasks
-        ∙ ap (λ (l : List ℕ). over l ms₀) (sym (append-nil t.pastMasks) ∙ ap (λ (x : MachineRun). x.masks) all);
-    codes = t.codes ∙ written-front ks₀ t.pastCodes
-        ∙ ap (λ (l : List ℕ). over l ks₀) (sym (append-nil t.pastCodes) ∙ ap (λ (x : MachineRun). x.codes) all);
+    masks = t.masks ∙ written-front ms₀ t.past_masks
+        ∙ ap (λ (l : List ℕ). over l ms₀) (sym (append-nil t.past_masks) ∙ ap (λ (x : MachineRun). x.masks) all);
+    codes = t.codes ∙ written-front ks₀ t.past_codes
+        ∙ ap (λ (l : List ℕ). over l ks₀) (sym (append-nil t.past_codes) ∙ ap (λ (x : MachineRun). x.codes) all);
     kept = λ e. k ∙ t.same e;
   }
 
@@ -157,20 +157,20 @@ module _ {b bytes₀ ws ms₀ ks₀ bytes ms ks : List ℕ} {l i : ℕ} (t : Run
           low = omega arith;
           stands = stands_on q t.stands;
           label = top;
-          pastMasks = t.pastMasks ++ (r.mask ∷ []);
-          pastCodes = t.pastCodes ++ (r.code ∷ []);
-          longMasks = longer t.pastMasks i r.mask t.longMasks;
-          longCodes = longer t.pastCodes i r.code t.longCodes;
-          sizeMasks = length-set ms i r.mask ∙ t.sizeMasks;
-          sizeCodes = length-set ks i r.code ∙ t.sizeCodes;
-          masks = grown ms₀ ms t.pastMasks i r.mask t.masks t.longMasks (omega (arith, room.masks));
-          codes = grown ks₀ ks t.pastCodes i r.code t.codes t.longCodes (omega (arith, room.codes));
+          past_masks = t.past_masks ++ (r.mask ∷ []);
+          past_codes = t.past_codes ++ (r.code ∷ []);
+          long_masks = longer t.past_masks i r.mask t.long_masks;
+          long_codes = longer t.past_codes i r.code t.long_codes;
+          size_masks = length-set ms i r.mask ∙ t.size_masks;
+          size_codes = length-set ks i r.code ∙ t.size_codes;
+          masks = grown ms₀ ms t.past_masks i r.mask t.masks t.long_masks (omega (arith, room.masks));
+          codes = grown ks₀ ks t.past_codes i r.code t.codes t.long_codes (omega (arith, room.codes));
           whole =
-              ap (λ (n : ℕ). joined (t.pastMasks ++ (r.mask ∷ [])) (t.pastCodes ++ (r.code ∷ []))
+              ap (λ (n : ℕ). joined (t.past_masks ++ (r.mask ∷ [])) (t.past_codes ++ (r.code ∷ []))
               (ticks image (state_of next) (drop n ws))) (add-one i)
               ∙ (λ j. record {
-                masks = append_snoc t.pastMasks r.mask on.masks j;
-                codes = append_snoc t.pastCodes r.code on.codes j;
+                masks = append_snoc t.past_masks r.mask on.masks j;
+                codes = append_snoc t.past_codes r.code on.codes j;
                 state = on.state;
                 verdict = on.verdict;
               })

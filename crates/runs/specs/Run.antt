@@ -4,13 +4,13 @@ use Rattle.words.specs.lists.Sequences.{over}
 use Rattle.text.specs.declared.frames.refusals.TheConstants.{UNFIT, NO_ROOM}
 use Rattle.text.specs.frames.Frame.{contents}
 use Rattle.text.specs.frames.Verdict.{Verdict, fine, refused, next, when}
-use Rattle.text.specs.frames.Answer.{Reply, refusal, reply, replied}
+use Rattle.text.specs.frames.Answer.{Reply, refusal, reply, counted_reply}
 use Rattle.image.specs.Image.{Image}
-use Rattle.image.specs.Decode.{decoded}
-use Rattle.image.specs.Check.{imageVerdict}
+use Rattle.image.specs.Decode.{decoded_image}
+use Rattle.image.specs.Check.{image_verdict}
 use Rattle.state.specs.declared.State.{State}
 use Rattle.state.specs.declared.StateReport.{StateReport}
-use Rattle.fitness.specs.Fitness.{unfit}
+use Rattle.fitness.specs.Fitness.{is_unfit}
 use Rattle.ticks.specs.Tick.{MachineTick, finished, stopped, tick}
 
 -- the finished ticks, the state after them, and 17 or 18 where that ended the run
@@ -42,24 +42,24 @@ pub record GivesRun (x : RunOutcome) (r : StateReport) (ms ks : List ℕ) : Type
   pub codes : ks ≡ x.codes
 
 -- less room in a buffer than words
-abbrev pub noRoom : List ℕ → List ℕ → List ℕ → Bool
-noRoom words masks codes = ltb (length masks) (length words) || ltb (length codes) (length words)
+abbrev pub has_no_room : List ℕ → List ℕ → List ℕ → Bool
+has_no_room words masks codes = ltb (length masks) (length words) || ltb (length codes) (length words)
 
 -- what the image check tries, then 15 and 16
-unfoldable pub runVerdict : List ℕ → State → List ℕ → List ℕ → List ℕ → Verdict
-runVerdict t s words masks codes =
-    next (imageVerdict t) λ _.
-    next (when UNFIT (unfit (decoded (contents t)) s)) λ _.
-    when NO_ROOM (noRoom words masks codes)
+unfoldable pub run_verdict : List ℕ → State → List ℕ → List ℕ → List ℕ → Verdict
+run_verdict t s words masks codes =
+    next (image_verdict t) λ _.
+    next (when UNFIT (is_unfit (decoded_image (contents t)) s)) λ _.
+    when NO_ROOM (has_no_room words masks codes)
 
-abbrev pub runOn : Verdict → (Unit {0} → MachineRun) → State → List ℕ → List ℕ → RunOutcome
-runOn (refused k i) go s masks codes = record { reply = refusal k i 0; state = s; masks = masks; codes = codes }
-runOn fine go s masks codes = let r = go tt in record {
-  reply = replied r.verdict (length r.codes);
+abbrev pub run_on : Verdict → (Unit {0} → MachineRun) → State → List ℕ → List ℕ → RunOutcome
+run_on (refused k i) go s masks codes = record { reply = refusal k i 0; state = s; masks = masks; codes = codes }
+run_on fine go s masks codes = let r = go tt in record {
+  reply = counted_reply r.verdict (length r.codes);
   state = r.state;
   masks = over r.masks masks;
   codes = over r.codes codes;
 }
 
 unfoldable pub run : List ℕ → State → List ℕ → List ℕ → List ℕ → RunOutcome
-run t s words masks codes = runOn (runVerdict t s words masks codes) (λ _. ticks (decoded (contents t)) s words) s masks codes
+run t s words masks codes = run_on (run_verdict t s words masks codes) (λ _. ticks (decoded_image (contents t)) s words) s masks codes

@@ -13,11 +13,11 @@ pub record TickOutcome : Type 0 where
   pub state : State
 
 -- what a run of one word gives
-abbrev pub tickOutcome : RunOutcome → TickOutcome
-tickOutcome r = record { reply = r.reply; mask = get_or r.masks 0 0; code = get_or r.codes 0 0; state = r.state }
+abbrev pub tick_outcome : RunOutcome → TickOutcome
+tick_outcome r = record { reply = r.reply; mask = get_or r.masks 0 0; code = get_or r.codes 0 0; state = r.state }
 
-unfoldable pub imageTick : List ℕ → State → ℕ → TickOutcome
-imageTick t s w = tickOutcome (run t s (w ∷ []) (0 ∷ []) (0 ∷ []))
+unfoldable pub image_tick : List ℕ → State → ℕ → TickOutcome
+image_tick t s w = tick_outcome (run t s (w ∷ []) (0 ∷ []) (0 ∷ []))
 
 -- what a function that makes one tick promises: its report, and the state after it
 pub record GivesTick (x : TickOutcome) (r : TickReport) (after : State) : Type 0 where

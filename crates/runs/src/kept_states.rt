@@ -1,5 +1,5 @@
 // A tick on a state behind a reference, for a caller that keeps the state.
-ghost use Rattle.runs.specs.TickOutcome.{imageTick, GivesTick};
+ghost use Rattle.runs.specs.TickOutcome.{image_tick, GivesTick};
 
 use crate::TickReport;
 use crate::state_runs::tick_image;
@@ -7,7 +7,7 @@ use state::State;
 
 // One tick on a state that the caller keeps: a refused tick leaves it as it was.
 pub fn tick(state: &mut State, image: &[u8], word: u16) -> TickReport
-    ensures { GivesTick (imageTick image.now state.old word) result state.new }
+    ensures { GivesTick (image_tick image.now state.old word) result state.new }
 {
     let old = *state;
     let done = tick_image(image, old, word);

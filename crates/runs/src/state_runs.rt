@@ -1,7 +1,7 @@
 // Runs and ticks that take a state and hand one back.
 ghost use Rattle.runs.specs.Run.{run, GivesRun};
-ghost use Rattle.runs.specs.TickOutcome.{imageTick, GivesTick};
-ghost use Rattle.runs.specs.machine.Live.{liveRun, liveTick};
+ghost use Rattle.runs.specs.TickOutcome.{image_tick, GivesTick};
+ghost use Rattle.runs.specs.machine.Live.{live_run, live_tick};
 
 use crate::TickReport;
 use crate::machine::{live_run_bytes, live_tick_bytes, run_bytes, tick_bytes};
@@ -37,7 +37,7 @@ pub fn run(
 
 // A run of one word; refused, it hands back mask 0, code 0 and the state as it was.
 pub fn tick_image(image: &[u8], state: State, word: u16) -> TickStateReport
-    ensures { GivesTick (imageTick image.now state word) result.report result.state }
+    ensures { GivesTick (image_tick image.now state word) result.report result.state }
 {
     let mut bytes = bytes_of(state);
     let report = tick_bytes(image, &mut bytes, word);
@@ -56,7 +56,7 @@ pub fn live_run(
     masks: &mut [u32],
     codes: &mut [u8],
 ) -> StateReport
-    ensures { GivesRun (liveRun table.now state words.now masks.old codes.old)
+    ensures { GivesRun (live_run table.now state words.now masks.old codes.old)
         result masks.new codes.new }
 {
     let mut bytes = bytes_of(state);
@@ -70,7 +70,7 @@ pub fn live_run(
 
 // One tick on a prepared table.
 pub fn live_tick(table: &[u8], state: State, word: u16) -> TickStateReport
-    ensures { GivesTick (liveTick table.now state word) result.report result.state }
+    ensures { GivesTick (live_tick table.now state word) result.report result.state }
 {
     let mut bytes = bytes_of(state);
     let report = live_tick_bytes(table, &mut bytes, word);

@@ -2,10 +2,10 @@
 ghost use Rattle.std.specs.Prelude.{◌≡◌, [], ◌∷◌};
 ghost use Rattle.tables.specs.inner.Asked.{Whole};
 ghost use Rattle.state.specs.Bytes.{state_of};
-ghost use Rattle.runs.specs.Run.{noRoom};
-ghost use Rattle.runs.specs.TickOutcome.{tickOutcome};
+ghost use Rattle.runs.specs.Run.{has_no_room};
+ghost use Rattle.runs.specs.TickOutcome.{tick_outcome};
 ghost use Rattle.runs.specs.InPlace.{GivesRunOn, GivesTickOn};
-ghost use Rattle.runs.specs.inner.RunContracts.{tableRun};
+ghost use Rattle.runs.specs.inner.RunContracts.{table_run};
 
 use crate::{TickReport, tick_all, tick_word};
 use fitness::fitting::is_unfit;
@@ -17,7 +17,7 @@ use ticks::TickEnd;
 
 // Whether a buffer has less room than words.
 fn no_room(words: &[u16], masks: &[u32], codes: &[u8]) -> bool
-    ensures { result ≡ noRoom words.now masks.now codes.now }
+    ensures { result ≡ has_no_room words.now masks.now codes.now }
 {
     if masks.len() < words.len() {
         return true;
@@ -34,7 +34,7 @@ pub fn run_table(
     codes: &mut [u8],
 ) -> Answer
     requires { Whole table.now }
-    ensures { GivesRunOn (tableRun table.now (state_of bytes.old) words.now masks.old
+    ensures { GivesRunOn (table_run table.now (state_of bytes.old) words.now masks.old
         codes.old) bytes.old result bytes.new masks.new codes.new }
 {
     if is_unfit(table, bytes) {
@@ -60,7 +60,7 @@ pub fn run_table(
 // One tick: 15, then a tick for one word; a refused one leaves the bytes as they were.
 pub fn tick_table(table: &[u8], bytes: &mut [u8; STATE_BYTES], word: u16) -> TickReport
     requires { Whole table.now }
-    ensures { GivesTickOn (tickOutcome (tableRun table.now (state_of bytes.old) (word ∷ []) (0 ∷ []) (0 ∷ [])))
+    ensures { GivesTickOn (tick_outcome (table_run table.now (state_of bytes.old) (word ∷ []) (0 ∷ []) (0 ∷ [])))
         bytes.old result bytes.new }
 {
     if is_unfit(table, bytes) {

@@ -9,87 +9,87 @@ use lib.ListN.{set, take}
 use borrow.Author.Tests.{ne_eqb}
 use Rattle.words.specs.lists.Pick.{pick}
 use Rattle.words.specs.lists.Sequences.{All}
-use Rattle.bindings.specs.Binding.{ownBinding}
+use Rattle.bindings.specs.Binding.{own_binding}
 use Rattle.text.specs.frames.Frame.{contents}
-use Rattle.text.specs.frames.Answer.{Reply, reply, replyNumber, success, refusal}
+use Rattle.text.specs.frames.Answer.{Reply, reply, reply_number, success, refusal}
 use Rattle.state.specs.declared.State.{State}
-use Rattle.state.specs.State.{fresh, noState, badSize, StateOutcome, freshState}
+use Rattle.state.specs.State.{fresh, no_state, is_bad_size, StateOutcome, fresh_state}
 use Rattle.agreement.specs.Calls.{TableOf}
 use Rattle.agreement.proofs.OneCall.{prepared-rebind-is, table-prepared}
 use Rattle.spindles.specs.declared.SpinReport.{SpinReport}
-use Rattle.spindles.specs.Spindles.{stateAt, depths, SpinOutcome, spin, liveSpin, GivesSpin}
+use Rattle.spindles.specs.Spindles.{state_at, depths, SpinOutcome, spin, live_spin, GivesSpin}
 use Rattle.spindles.proofs.Live.{live-spin-is}
-use Rattle.spindles.specs.spindle_places.Calls.{Head, headAfter}
+use Rattle.spindles.specs.spindle_places.Calls.{Head, head_after}
 use Rattle.spindle_walks.specs.Walks.{HandsImage, FollowsWalk, OwnWalk}
 use Rattle.spindle_walks.proofs.Walks.{own-walks}
 use Rattle.spindle_calls.specs.ObservedCalls.{ObservedCall, call_of}
-use Rattle.spindle_calls.specs.Delivered.{observedTick, SpindleCallOn, spinCall, spinCallLive, rebindCall}
-use Rattle.spindle_calls.specs.Delivered.{rebindCallLive, SpindleCallsInTurn, none, more, FreshOne}
+use Rattle.spindle_calls.specs.Delivered.{observed_tick, SpindleCallOn, spin_call, spin_call_live, rebind_call}
+use Rattle.spindle_calls.specs.Delivered.{rebind_call_live, SpindleCallsInTurn, none, more, FreshOne}
 use Rattle.spindle_calls.specs.Delivered.{PlacesDelivered, OwnWalkDelivered}
 use Rattle.spindle_calls.proofs.Held.{SpinEnds, refuses, finishes, spin-ends}
-use Rattle.spindle_calls.proofs.Row.{Hears, hearsNo, hearsTick, HeardFrom, CallsRow, row-none, row_more, row-counted}
+use Rattle.spindle_calls.proofs.Row.{Hears, hears_no, hears_tick, HeardFrom, CallsRow, row-none, row_more, row-counted}
 
-abbrev headWith : List State → ℕ → Head
-headWith states taken = record { states = states; taken = taken }
+abbrev head_with : List State → ℕ → Head
+head_with states taken = record { states = states; taken = taken }
 
 module _ (states : List State) (taken : ℕ) where
   -- ---- a tick
   hears-by : (k : ℕ) (r : SpinReport) {x : SpinOutcome} → SpinEnds states taken k x → reply r.answer ≡ x.reply → r.mask ≡ x.mask
       → r.code ≡ x.code
-      → Hears (stateAt states k).depth x (observedTick states k r)
-  hears-by k r (refuses n j l) e f g = hearsNo refl refl (ap (λ (a : Reply). eqb (replyNumber a) 0) e ∙ ne_eqb n 0 (λ q. omega arith))
-  hears-by k r (finishes m code t low length-is same) e f g = hearsTick refl (ap replyNumber e) f g refl
+      → Hears (state_at states k).depth x (observed_tick states k r)
+  hears-by k r (refuses n j l) e f g = hears_no refl refl (ap (λ (a : Reply). eqb (reply_number a) 0) e ∙ ne_eqb n 0 (λ q. omega arith))
+  hears-by k r (finishes m code t low length-is same) e f g = hears_tick refl (ap reply_number e) f g refl
 
   tick-heard : (image : List ℕ) (k w : ℕ) (r : SpinReport) (after : List State) → GivesSpin (spin image states taken k w) r after
-      → Hears (stateAt states k).depth (spin image states taken k w) (observedTick states k r)
+      → Hears (state_at states k).depth (spin image states taken k w) (observed_tick states k r)
   tick-heard image k w r after z = hears-by k r (spin-ends image states taken k w) z.answered z.mask z.code
 
   live-as : (image table : List ℕ) → TableOf image table → (k w : ℕ) (r : SpinReport) (after : List State)
-      → GivesSpin (liveSpin table states taken k w) r after → GivesSpin (spin image states taken k w) r after
+      → GivesSpin (live_spin table states taken k w) r after → GivesSpin (spin image states taken k w) r after
   live-as image table t k w r after z =
       subst (λ (x : SpinOutcome). GivesSpin x r after) (live-spin-is (table-prepared image t) states taken k w) z
 
   call-heard : {x : ObservedCall} {after : List State} {recorded : ℕ} → SpindleCallOn states taken x after recorded
-      → HeardFrom (headWith states taken) x
-  call-heard (spinCall {image = image} {k = k} {w = w} {r = r} {after = after} z) = tick-heard image k w r after z
-  call-heard (spinCallLive {image = image} {table = table} {k = k} {w = w} {r = r} {after = after} t z) =
+      → HeardFrom (head_with states taken) x
+  call-heard (spin_call {image = image} {k = k} {w = w} {r = r} {after = after} z) = tick-heard image k w r after z
+  call-heard (spin_call_live {image = image} {table = table} {k = k} {w = w} {r = r} {after = after} t z) =
       tick-heard image k w r after (live-as image table t k w r after z)
-  call-heard (rebindCall z) = tt
-  call-heard (rebindCallLive t z) = tt
+  call-heard (rebind_call z) = tt
+  call-heard (rebind_call_live t z) = tt
 
   -- ---- what a call leaves
   ticked-left : (x : SpinOutcome) (r : SpinReport) (after : List State) → GivesSpin x r after
-      → ◌≡◌ {A = Head} (headWith x.states x.taken) (headWith after r.taken)
-  ticked-left x r after z = ap₂ headWith (sym z.states) (sym z.taken)
+      → ◌≡◌ {A = Head} (head_with x.states x.taken) (head_with after r.taken)
+  ticked-left x r after z = ap₂ head_with (sym z.states) (sym z.taken)
 
   call-left : {x : ObservedCall} {after : List State} {recorded : ℕ} → SpindleCallOn states taken x after recorded
-      → headAfter (headWith states taken) (call_of x) ≡ headWith after recorded
-  call-left (spinCall {image = image} {k = k} {w = w} {r = r} {after = after} z) = ticked-left (spin image states taken k w) r after z
-  call-left (spinCallLive {image = image} {table = table} {k = k} {w = w} {r = r} {after = after} t z) =
+      → head_after (head_with states taken) (call_of x) ≡ head_with after recorded
+  call-left (spin_call {image = image} {k = k} {w = w} {r = r} {after = after} z) = ticked-left (spin image states taken k w) r after z
+  call-left (spin_call_live {image = image} {table = table} {k = k} {w = w} {r = r} {after = after} t z) =
       ticked-left (spin image states taken k w) r after (live-as image table t k w r after z)
-  call-left (rebindCall {k = k} z) = ap (λ (s : State). headWith (set states k s) taken) (sym z.state)
-  call-left (rebindCallLive {image = image} {k = k} {n = n} {g = g} t z) =
-      ap (λ (s : State). headWith (set states k s) taken)
-      (sym (z.state ∙ ap (λ (x : StateOutcome). x.state) (prepared-rebind-is (table-prepared image t) (stateAt states k) n g)))
+  call-left (rebind_call {k = k} z) = ap (λ (s : State). head_with (set states k s) taken) (sym z.state)
+  call-left (rebind_call_live {image = image} {k = k} {n = n} {g = g} t z) =
+      ap (λ (s : State). head_with (set states k s) taken)
+      (sym (z.state ∙ ap (λ (x : StateOutcome). x.state) (prepared-rebind-is (table-prepared image t) (state_at states k) n g)))
 
 -- ---- any number of calls
 pub calls-row : (states : List State) (taken : ℕ) (said : List ObservedCall) (last : List State) (final : ℕ)
     → SpindleCallsInTurn states taken said last final
-    → CallsRow (headWith states taken) said (headWith last final)
-calls-row states taken [] last final none = row-none (headWith states taken)
+    → CallsRow (head_with states taken) said (head_with last final)
+calls-row states taken [] last final none = row-none (head_with states taken)
 calls-row states taken (x ∷ rest) last final (more {after = after} {recorded = recorded} c cs) =
-    row_more (headWith states taken) (headWith after recorded) (headWith last final) x rest (call-heard states taken c)
+    row_more (head_with states taken) (head_with after recorded) (head_with last final) x rest (call-heard states taken c)
     (call-left states taken c) (calls-row after recorded rest last final cs)
 
 -- ---- four fresh states
 fresh-one : (n : ℕ) (s : State) → FreshOne n s → fresh n ≡ s
-unfolding freshState
-fresh-one n s z = sym (z.state ∙ z.makes.state ∙ go (badSize n) (ap replyNumber (sym z.succeeded ∙ z.makes.answered)))
+unfolding fresh_state
+fresh-one n s z = sym (z.state ∙ z.makes.state ∙ go (is_bad_size n) (ap reply_number (sym z.succeeded ∙ z.makes.answered)))
   where
-    freshAs : Bool → StateOutcome
-    freshAs t = pick t (record { reply = refusal 14 0 0; state = noState }) (record { reply = success 0; state = fresh n })
+    fresh_as : Bool → StateOutcome
+    fresh_as t = pick t (record { reply = refusal 14 0 0; state = no_state }) (record { reply = success 0; state = fresh n })
 
-    go : (t : Bool) → 0 ≡ replyNumber (freshAs t).reply → (freshAs t).state ≡ fresh n
+    go : (t : Bool) → 0 ≡ reply_number (fresh_as t).reply → (fresh_as t).state ≡ fresh n
     go true e = absurd (omega arith)
     go false e = refl
 
@@ -97,13 +97,13 @@ fresh-one n s z = sym (z.state ∙ z.makes.state ∙ go (badSize n) (ap replyNum
 pub places-delivered : PlacesDelivered
 unfolding PlacesDelivered
 places-delivered a b c d s₀ s₁ s₂ s₃ f₀ f₁ f₂ f₃ said last final cs =
-    row-counted a b c d (headWith (s₀ ∷ s₁ ∷ s₂ ∷ s₃ ∷ []) 4)
-    (λ i. headWith (fresh-one a s₀ f₀ i ∷ fresh-one b s₁ f₁ i ∷ fresh-one c s₂ f₂ i ∷ fresh-one d s₃ f₃ i ∷ []) 4)
-    said (headWith last final) (calls-row (s₀ ∷ s₁ ∷ s₂ ∷ s₃ ∷ []) 4 said last final cs) (depths last) refl
+    row-counted a b c d (head_with (s₀ ∷ s₁ ∷ s₂ ∷ s₃ ∷ []) 4)
+    (λ i. head_with (fresh-one a s₀ f₀ i ∷ fresh-one b s₁ f₁ i ∷ fresh-one c s₂ f₂ i ∷ fresh-one d s₃ f₃ i ∷ []) 4)
+    said (head_with last final) (calls-row (s₀ ∷ s₁ ∷ s₂ ∷ s₃ ∷ []) 4 said last final cs) (depths last) refl
 
 pub own-walks-delivered : OwnWalkDelivered
 unfolding OwnWalkDelivered OwnWalk
 own-walks-delivered text before after answer c n e size low high k states inside made m at taken said last final cs hands =
-    subst (FollowsWalk size (contents text)) ((calls-row states taken said last final cs).made (contents text) k ownBinding)
-    (own-walks text before n (sym c.answered ∙ e) size low high k (headWith states taken) inside (at ∙ m.state) (map call_of said)
+    subst (FollowsWalk size (contents text)) ((calls-row states taken said last final cs).made (contents text) k own_binding)
+    (own-walks text before n (sym c.answered ∙ e) size low high k (head_with states taken) inside (at ∙ m.state) (map call_of said)
     (subst (λ (b : List ℕ). All (HandsImage k (take n b)) (map call_of said)) c.written hands))

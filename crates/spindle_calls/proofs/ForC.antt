@@ -8,26 +8,26 @@ use lib.Dec.{eqb}
 use lib.ListN.{length, take}
 use Rattle.words.specs.lists.Pick.{pick}
 use Rattle.words.specs.lists.Sequences.{written, All}
-use Rattle.bindings.specs.Binding.{ownBinding}
+use Rattle.bindings.specs.Binding.{own_binding}
 use Rattle.text.specs.frames.Frame.{contents}
-use Rattle.text.specs.frames.Answer.{replyNumber, success, refusal}
+use Rattle.text.specs.frames.Answer.{reply_number, success, refusal}
 use Rattle.state.specs.declared.State.{State}
-use Rattle.state.specs.State.{fresh, noState, badSize, StateOutcome, freshState}
-use Rattle.state.specs.Bytes.{state_of, bytesOf}
+use Rattle.state.specs.State.{fresh, no_state, is_bad_size, StateOutcome, fresh_state}
+use Rattle.state.specs.Bytes.{state_of, bytes_of}
 use Rattle.state.proofs.ResultBytes.{state-back, fresh-sized, fresh-held}
 use Rattle.fairleadow.specs.runs_for_c.Calls.{GivesStateC}
 use Rattle.agreement.proofs.ForC.{returned-0}
 use Rattle.spindles.specs.Spindles.{depths}
 use Rattle.spindles.proofs.InParts.{four-depths}
-use Rattle.spindles.specs.spindle_parts.FourStates.{part_of, statesOf, depthsIn}
+use Rattle.spindles.specs.spindle_parts.FourStates.{part_of, states_of, depths_in}
 use Rattle.spindles.proofs.spindle_parts.States.{count-is, state-is, depths-are}
-use Rattle.spindles.specs.spindle_places.Calls.{newHead}
+use Rattle.spindles.specs.spindle_places.Calls.{new_head}
 use Rattle.spindles.specs.spindle_places.Calls as calls
 use Rattle.spindle_walks.specs.Walks.{HandsImage, FollowsWalk, OwnWalk}
 use Rattle.spindle_walks.proofs.Walks.{own-walks}
 use Rattle.spindle_calls.specs.ObservedCalls.{ObservedCall, call_of}
-use Rattle.spindle_calls.specs.ForC.{SpindleCallC, spinCall, spinCallLive, rebindCall, rebindCallLive}
-use Rattle.spindle_calls.specs.ForC.{SpindleCallsInTurnC, none, more, FourC, fourFresh}
+use Rattle.spindle_calls.specs.ForC.{SpindleCallC, spin_call, spin_call_live, rebind_call, rebind_call_live}
+use Rattle.spindle_calls.specs.ForC.{SpindleCallsInTurnC, none, more, FourC, four_fresh}
 use Rattle.spindle_calls.specs.ForC.{PlacesCountedC, OwnWalkC}
 use Rattle.spindle_calls.proofs.Row.{HeardFrom, CallsRow, row-none, row_more, row-counted}
 use Rattle.spindle_calls.proofs.StateParts.{four_are}
@@ -36,21 +36,21 @@ use Rattle.spindle_calls.proofs.OneCallC.{head_of, SpindleLikeC, tick-like, tick
 -- ---- one call
 pub call-like : (bytes : List ℕ) → length bytes ≡ 520 → (taken : ℕ) {x : ObservedCall} {after : List ℕ} {recorded : ℕ}
     → SpindleCallC bytes taken x after recorded → SpindleLikeC bytes taken x after recorded
-call-like bytes long taken (spinCall z) = tick-like bytes long taken _ _ _ _ _ _ _ _ _ _ _ _ z
-call-like bytes long taken (spinCallLive t z) =
+call-like bytes long taken (spin_call z) = tick-like bytes long taken _ _ _ _ _ _ _ _ _ _ _ _ z
+call-like bytes long taken (spin_call_live t z) =
     tick-like bytes long taken _ _ _ _ _ _ _ _ _ _ _ _ (live-as bytes long taken _ _ t _ _ _ _ _ _ _ _ _ _ _ z)
-call-like bytes long taken (rebindCall {k = k} {n = n} {g = g} l z) = rebinding-like bytes long taken _ k n g _ _ _ _ l z
-call-like bytes long taken (rebindCallLive {k = k} {n = n} {g = g} t l z) =
+call-like bytes long taken (rebind_call {k = k} {n = n} {g = g} l z) = rebinding-like bytes long taken _ k n g _ _ _ _ l z
+call-like bytes long taken (rebind_call_live {k = k} {n = n} {g = g} t l z) =
     rebinding-like bytes long taken _ k n g _ _ _ _ l (live-rebinding-as bytes long taken _ _ t k n g _ _ _ _ z)
 
 -- of a tick what C has is what the call over the states hands back
 call-heard : (bytes : List ℕ) → length bytes ≡ 520 → (taken : ℕ) {x : ObservedCall} {after : List ℕ} {recorded : ℕ}
     → SpindleCallC bytes taken x after recorded → HeardFrom (head_of bytes taken) x
-call-heard bytes long taken (spinCall z) = tick-hears bytes long taken _ _ _ _ _ _ _ _ _ _ _ _ z
-call-heard bytes long taken (spinCallLive t z) =
+call-heard bytes long taken (spin_call z) = tick-hears bytes long taken _ _ _ _ _ _ _ _ _ _ _ _ z
+call-heard bytes long taken (spin_call_live t z) =
     tick-hears bytes long taken _ _ _ _ _ _ _ _ _ _ _ _ (live-as bytes long taken _ _ t _ _ _ _ _ _ _ _ _ _ _ z)
-call-heard bytes long taken (rebindCall l z) = tt
-call-heard bytes long taken (rebindCallLive t l z) = tt
+call-heard bytes long taken (rebind_call l z) = tt
+call-heard bytes long taken (rebind_call_live t l z) = tt
 
 -- ---- any number of calls
 pub record RowC (bytes : List ℕ) (taken : ℕ) (said : List ObservedCall) (last : List ℕ) (final : ℕ) : Type 0 where
@@ -70,33 +70,33 @@ calls-row bytes long taken (x ∷ rest) last final (more {after = after} {record
     }
 
 -- ---- four fresh states
-fresh-made : (n at made : ℕ) (b : List ℕ) → GivesStateC (freshState n) 0 at made b → b ≡ bytesOf (fresh n)
-unfolding freshState
-fresh-made n at made b z = z.bytes ∙ go (badSize n) z.told.number_is
+fresh-made : (n at made : ℕ) (b : List ℕ) → GivesStateC (fresh_state n) 0 at made b → b ≡ bytes_of (fresh n)
+unfolding fresh_state
+fresh-made n at made b z = z.bytes ∙ go (is_bad_size n) z.told.number_is
   where
-    freshAs : Bool → StateOutcome
-    freshAs t = pick t (record { reply = refusal 14 0 0; state = noState }) (record { reply = success 0; state = fresh n })
+    fresh_as : Bool → StateOutcome
+    fresh_as t = pick t (record { reply = refusal 14 0 0; state = no_state }) (record { reply = success 0; state = fresh n })
 
-    go : (t : Bool) → 0 ≡ replyNumber (freshAs t).reply → bytesOf (freshAs t).state ≡ bytesOf (fresh n)
+    go : (t : Bool) → 0 ≡ reply_number (fresh_as t).reply → bytes_of (fresh_as t).state ≡ bytes_of (fresh n)
     go true e = absurd (omega arith)
     go false e = refl
 
 module _ (a b c d : State) where
   abbrev together : List ℕ
-  together = bytesOf a ++ (bytesOf b ++ (bytesOf c ++ bytesOf d))
+  together = bytes_of a ++ (bytes_of b ++ (bytes_of c ++ bytes_of d))
 
   together-long : length together ≡ 520
-  unfolding bytesOf
+  unfolding bytes_of
   together-long = refl
 
-  parts_are : (part_of together 0 ≡ bytesOf a) × (part_of together 1 ≡ bytesOf b) × (part_of together 2 ≡ bytesOf c)
-      × (part_of together 3 ≡ bytesOf d)
-  unfolding bytesOf
+  parts_are : (part_of together 0 ≡ bytes_of a) × (part_of together 1 ≡ bytes_of b) × (part_of together 2 ≡ bytes_of c)
+      × (part_of together 3 ≡ bytes_of d)
+  unfolding bytes_of
   parts_are = (refl, refl, refl, refl)
 
 -- the bytes hold them
-fresh-four : {a b c d : ℕ} (bytes : List ℕ) → FourC a b c d bytes → (length bytes ≡ 520) × (statesOf bytes ≡ (newHead a b c d).states)
-fresh-four {a} {b} {c} {d} _ (fourFresh {x = x} {y = y} {z = z} {u = u} p q r s) = (ap length same ∙ long, ap statesOf same ∙ held)
+fresh-four : {a b c d : ℕ} (bytes : List ℕ) → FourC a b c d bytes → (length bytes ≡ 520) × (states_of bytes ≡ (new_head a b c d).states)
+fresh-four {a} {b} {c} {d} _ (four_fresh {x = x} {y = y} {z = z} {u = u} p q r s) = (ap length same ∙ long, ap states_of same ∙ held)
   where
     whole : List ℕ
     whole = together (fresh a) (fresh b) (fresh c) (fresh d)
@@ -107,10 +107,10 @@ fresh-four {a} {b} {c} {d} _ (fourFresh {x = x} {y = y} {z = z} {u = u} p q r s)
     long : length whole ≡ 520
     long = together-long (fresh a) (fresh b) (fresh c) (fresh d)
 
-    back : (n : ℕ) → state_of (bytesOf (fresh n)) ≡ fresh n
+    back : (n : ℕ) → state_of (bytes_of (fresh n)) ≡ fresh n
     back n = state-back (fresh n) (fresh-sized n) refl
 
-    held : statesOf whole ≡ (newHead a b c d).states
+    held : states_of whole ≡ (new_head a b c d).states
     held =
         let e = parts_are (fresh a) (fresh b) (fresh c) (fresh d) in
         let e₀ : state_of (part_of whole 0) ≡ fresh a = ap state_of e.0 ∙ back a in
@@ -120,9 +120,9 @@ fresh-four {a} {b} {c} {d} _ (fourFresh {x = x} {y = y} {z = z} {u = u} p q r s)
         four_are whole long ∙ (λ i. e₀ i ∷ e₁ i ∷ e₂ i ∷ e₃ i ∷ [])
 
 -- ---- the two theorems
-depths-read : (b : List ℕ) → length b ≡ 520 → depths (statesOf b) ≡ depthsIn b
+depths-read : (b : List ℕ) → length b ≡ 520 → depths (states_of b) ≡ depths_in b
 depths-read b long =
-    four-depths (statesOf b) (count-is b ∙ ap (λ (n : ℕ). pick (eqb n 520) 4 0) long) ∙ depths-are b long
+    four-depths (states_of b) (count-is b ∙ ap (λ (n : ℕ). pick (eqb n 520) 4 0) long) ∙ depths-are b long
 
 pub places-counted-c : PlacesCountedC
 unfolding PlacesCountedC
@@ -130,14 +130,14 @@ places-counted-c a b c d bytes fours said last final cs =
     let f = fresh-four bytes fours in
     let r : RowC bytes 4 said last final = calls-row bytes f.0 4 said last final cs in
     row-counted a b c d (head_of bytes 4) (ap (λ (ss : List State). record { states = ss; taken = 4 }) (sym f.1)) said
-    (head_of last final) r.row (depthsIn last) (depths-read last r.long)
+    (head_of last final) r.row (depths_in last) (depths-read last r.long)
 
 pub own-walks-c : OwnWalkC
 unfolding OwnWalkC OwnWalk
 own-walks-c text before after at n c size low high k named bytes long returned at' made m taken said last final cs hands =
     let r : RowC bytes taken said last final = calls-row bytes long taken said last final cs in
-    let four-states : length (statesOf bytes) ≡ 4 = count-is bytes ∙ ap (λ (l : ℕ). pick (eqb l 520) 4 0) long in
-    subst (FollowsWalk size (contents text)) (r.row.made (contents text) k ownBinding)
+    let four-states : length (states_of bytes) ≡ 4 = count-is bytes ∙ ap (λ (l : ℕ). pick (eqb l 520) 4 0) long in
+    subst (FollowsWalk size (contents text)) (r.row.made (contents text) k own_binding)
     (own-walks text before n (returned-0 text before after at n c) size low high k (head_of bytes taken) (omega (arith, four-states))
     (state-is bytes long k named ∙ ap state_of m.bytes ∙ fresh-held size) (map call_of said)
     (subst (λ (b : List ℕ). All (HandsImage k (take n b)) (map call_of said)) c.written hands))

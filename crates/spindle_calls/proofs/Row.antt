@@ -11,45 +11,45 @@ use Rattle.words.specs.lists.Pick.{pick}
 use Rattle.words.proofs.lists.Tests.{no_both}
 use Rattle.bindings.specs.Binding.{Binding}
 use Rattle.charts.specs.Chart.{Chart}
-use Rattle.agreement.specs.Agreement.{bindingAfter}
-use Rattle.spindles.specs.Spindles.{stateAt, depths, SpinOutcome}
-use Rattle.spindles.specs.spindle_places.Calls.{Head, newHead, headAfter, headAfterAll}
+use Rattle.agreement.specs.Agreement.{binding_after}
+use Rattle.spindles.specs.Spindles.{state_at, depths, SpinOutcome}
+use Rattle.spindles.specs.spindle_places.Calls.{Head, new_head, head_after, head_after_all}
 use Rattle.spindles.specs.spindle_places.Calls as calls
-use Rattle.spindles.specs.spindle_places.PlacesBalance.{placesCalled, placesReturned, placesGivenBack, counts, tally, PlacesBalance, PlacesCounted}
+use Rattle.spindles.specs.spindle_places.PlacesBalance.{places_called, places_returned, places_given_back, counts, tally, PlacesBalance, PlacesCounted}
 use Rattle.spindles.proofs.spindle_places.PlacesBalance.{places-counted}
-use Rattle.spindle_walks.specs.Walks.{FinishedTick, isSuccess, finishedBy}
-use Rattle.spindle_calls.specs.ObservedCalls.{ObservedTick, ObservedCall, observedSpin, observedRebinding, call_of}
-use Rattle.spindle_calls.specs.ObservedCalls.{countsIn, tallyIn, ObservedBalance, finishedIn}
+use Rattle.spindle_walks.specs.Walks.{FinishedTick, is_success, finished_ticks_by}
+use Rattle.spindle_calls.specs.ObservedCalls.{ObservedTick, ObservedCall, observed_spin, observed_rebinding, call_of}
+use Rattle.spindle_calls.specs.ObservedCalls.{counts_in, tally_in, ObservedBalance, finished_ticks_in}
 
 -- ---- one call
 -- a refused call has a number that is not 0 and a code of 0; of a finished one mask, code and the depth before it are known
 pub data Hears (depth : ℕ) (r : SpinOutcome) (y : ObservedTick) : Type 0 where
-  hearsNo : isSuccess r.reply ≡ false → r.code ≡ 0 → eqb y.number 0 ≡ false → Hears depth r y
-  hearsTick : isSuccess r.reply ≡ true → y.number ≡ 0 → y.mask ≡ r.mask → y.code ≡ r.code → y.depth ≡ depth → Hears depth r y
+  hears_no : is_success r.reply ≡ false → r.code ≡ 0 → eqb y.number 0 ≡ false → Hears depth r y
+  hears_tick : is_success r.reply ≡ true → y.number ≡ 0 → y.mask ≡ r.mask → y.code ≡ r.code → y.depth ≡ depth → Hears depth r y
 
 abbrev pub HeardFrom : Head → ObservedCall → Type 0
-HeardFrom h (observedSpin t k w y) = Hears (stateAt h.states k).depth (calls.spinOn h t k w) y
-HeardFrom h (observedRebinding t k n g) = Unit {0}
+HeardFrom h (observed_spin t k w y) = Hears (state_at h.states k).depth (calls.spin_on h t k w) y
+HeardFrom h (observed_rebinding t k n g) = Unit {0}
 
 -- the places that it takes or gives back; a code of 0 counts for none
-call-counts : (f : ℕ → ℕ → ℕ) → ((d : ℕ) → f 0 d ≡ 0) → (h : Head) (x : ObservedCall) → HeardFrom h x → counts f h (call_of x) ≡ countsIn f x
-call-counts f zero h (observedRebinding t k n g) z = refl
-call-counts f zero h (observedSpin t k w y) (hearsNo d c e) =
-    let deep : ℕ = (stateAt h.states k).depth in
+call-counts : (f : ℕ → ℕ → ℕ) → ((d : ℕ) → f 0 d ≡ 0) → (h : Head) (x : ObservedCall) → HeardFrom h x → counts f h (call_of x) ≡ counts_in f x
+call-counts f zero h (observed_rebinding t k n g) z = refl
+call-counts f zero h (observed_spin t k w y) (hears_no d c e) =
+    let deep : ℕ = (state_at h.states k).depth in
     ap (λ (a : ℕ). f a deep) c ∙ zero deep ∙ sym (ap (λ (b : Bool). pick b (f y.code y.depth) 0) e)
-call-counts f zero h (observedSpin t k w y) (hearsTick d n m c e) =
+call-counts f zero h (observed_spin t k w y) (hears_tick d n m c e) =
     ap₂ f (sym c) (sym e) ∙ sym (ap (λ (b : Bool). pick b (f y.code y.depth) 0) (eq-eqb y.number 0 n))
 
 -- the tick that it makes, if any
-heard-done : {d : ℕ} {r : SpinOutcome} {y : ObservedTick} → Hears d r y → isSuccess r.reply ≡ eqb y.number 0
-heard-done {y = y} (hearsNo d c e) = d ∙ sym e
-heard-done {y = y} (hearsTick d n m c e) = d ∙ sym (eq-eqb y.number 0 n)
+heard-done : {d : ℕ} {r : SpinOutcome} {y : ObservedTick} → Hears d r y → is_success r.reply ≡ eqb y.number 0
+heard-done {y = y} (hears_no d c e) = d ∙ sym e
+heard-done {y = y} (hears_tick d n m c e) = d ∙ sym (eq-eqb y.number 0 n)
 
-heard-made : (s : Binding) (w : ℕ) {d : ℕ} {r : SpinOutcome} {y : ObservedTick} → Hears d r y → isSuccess r.reply ≡ true
+heard-made : (s : Binding) (w : ℕ) {d : ℕ} {r : SpinOutcome} {y : ObservedTick} → Hears d r y → is_success r.reply ≡ true
     → ◌≡◌ {A = FinishedTick} (record { signal = record { word = w; binding = s }; mask = r.mask; code = r.code })
     (record { signal = record { word = w; binding = s }; mask = y.mask; code = y.code })
-heard-made s w (hearsNo d c e) q = no_both _ q d
-heard-made s w (hearsTick d n m c e) q =
+heard-made s w (hears_no d c e) q = no_both _ q d
+heard-made s w (hears_tick d n m c e) q =
     ap₂ (λ (a b : ℕ). record { signal = record { word = w; binding = s }; mask = a; code = b }) (sym m) (sym c)
 
 made-same : (a b b' : Bool) (p p' : FinishedTick) (q q' : List FinishedTick) → b ≡ b' → (b ≡ true → p ≡ p') → q ≡ q'
@@ -63,56 +63,56 @@ made-same a b b' p p' q q' e f g = go a b refl ∙ ap (λ (t : Bool). pick (a &&
 
 -- ---- any number of calls
 pub record CallsRow (h : Head) (said : List ObservedCall) (last : Head) : Type 0 where
-  pub left_is : headAfterAll h (map call_of said) ≡ last
-  pub tallies : (f : ℕ → ℕ → ℕ) → ((d : ℕ) → f 0 d ≡ 0) → tally f h (map call_of said) ≡ tallyIn f said
-  pub made : (c : Chart) (k : ℕ) (s : Binding) → finishedBy c k s h (map call_of said) ≡ finishedIn c k s said
+  pub left_is : head_after_all h (map call_of said) ≡ last
+  pub tallies : (f : ℕ → ℕ → ℕ) → ((d : ℕ) → f 0 d ≡ 0) → tally f h (map call_of said) ≡ tally_in f said
+  pub made : (c : Chart) (k : ℕ) (s : Binding) → finished_ticks_by c k s h (map call_of said) ≡ finished_ticks_in c k s said
 
 made_more : (c : Chart) (k : ℕ) (h after : Head) (x : ObservedCall) (rest : List ObservedCall)
-    → HeardFrom h x → headAfter h (call_of x) ≡ after
-    → ((s : Binding) → finishedBy c k s after (map call_of rest) ≡ finishedIn c k s rest)
-    → (s : Binding) → finishedBy c k s h (map call_of (x ∷ rest)) ≡ finishedIn c k s (x ∷ rest)
-unfolding finishedBy finishedIn
-made_more c k h after (observedSpin t j w y) rest z e ih s =
-    made-same (eqb j k) (isSuccess (calls.spinOn h t j w).reply) (eqb y.number 0) _ _ _ _ (heard-done z) (heard-made s w z)
-    (ap (λ (g : Head). finishedBy c k s g (map call_of rest)) e ∙ ih s)
-made_more c k h after (observedRebinding t j n g) rest z e ih s =
-    let u : Binding = pick (eqb j k) (bindingAfter c n g s) s in
-    ap (λ (g : Head). finishedBy c k u g (map call_of rest)) e ∙ ih u
+    → HeardFrom h x → head_after h (call_of x) ≡ after
+    → ((s : Binding) → finished_ticks_by c k s after (map call_of rest) ≡ finished_ticks_in c k s rest)
+    → (s : Binding) → finished_ticks_by c k s h (map call_of (x ∷ rest)) ≡ finished_ticks_in c k s (x ∷ rest)
+unfolding finished_ticks_by finished_ticks_in
+made_more c k h after (observed_spin t j w y) rest z e ih s =
+    made-same (eqb j k) (is_success (calls.spin_on h t j w).reply) (eqb y.number 0) _ _ _ _ (heard-done z) (heard-made s w z)
+    (ap (λ (g : Head). finished_ticks_by c k s g (map call_of rest)) e ∙ ih s)
+made_more c k h after (observed_rebinding t j n g) rest z e ih s =
+    let u : Binding = pick (eqb j k) (binding_after c n g s) s in
+    ap (λ (g : Head). finished_ticks_by c k u g (map call_of rest)) e ∙ ih u
 
 pub row-none : (h : Head) → CallsRow h [] h
-unfolding headAfterAll tally tallyIn finishedBy finishedIn
+unfolding head_after_all tally tally_in finished_ticks_by finished_ticks_in
 row-none h = record { left_is = refl; tallies = λ f zero. refl; made = λ c k s. refl }
 
 pub row_more : (h after last : Head) (x : ObservedCall) (rest : List ObservedCall) → HeardFrom h x
-    → headAfter h (call_of x) ≡ after → CallsRow after rest last
+    → head_after h (call_of x) ≡ after → CallsRow after rest last
     → CallsRow h (x ∷ rest) last
-unfolding headAfterAll tally tallyIn
+unfolding head_after_all tally tally_in
 row_more h after last x rest z e row = record {
-  left_is = ap (λ (g : Head). headAfterAll g (map call_of rest)) e ∙ row.left_is;
+  left_is = ap (λ (g : Head). head_after_all g (map call_of rest)) e ∙ row.left_is;
   tallies = λ f zero. ap₂ (λ (a b : ℕ). a + b) (call-counts f zero h x z)
       (ap (λ (g : Head). tally f g (map call_of rest)) e ∙ row.tallies f zero);
   made = λ c k. made_more c k h after x rest z e (row.made c k);
 }
 
 -- ---- from four fresh states
-pub row-counted : (a b c d : ℕ) (h : Head) → newHead a b c d ≡ h
+pub row-counted : (a b c d : ℕ) (h : Head) → new_head a b c d ≡ h
     → (said : List ObservedCall) (last : Head) → CallsRow h said last → (sum : ℕ)
     → depths last.states ≡ sum
     → ObservedBalance said sum last.taken
 unfolding PlacesCounted
 row-counted a b c d h fresh said last row sum deep =
-    let k : PlacesBalance (newHead a b c d) (map call_of said) = places-counted a b c d (map call_of said) in
-    let own : CallsRow (newHead a b c d) said last = subst (λ (g : Head). CallsRow g said last) (sym fresh) row in
-    let depth : depths (headAfterAll (newHead a b c d) (map call_of said)).states ≡ sum =
+    let k : PlacesBalance (new_head a b c d) (map call_of said) = places-counted a b c d (map call_of said) in
+    let own : CallsRow (new_head a b c d) said last = subst (λ (g : Head). CallsRow g said last) (sym fresh) row in
+    let depth : depths (head_after_all (new_head a b c d) (map call_of said)).states ≡ sum =
     ap (λ (g : Head). depths g.states) own.left_is ∙ deep in
     record {
       sum_is = omega (
         arith,
         k.sum,
         depth,
-        own.tallies placesReturned (λ n. refl),
-        own.tallies placesGivenBack (λ n. refl),
-        own.tallies placesCalled (λ n. refl),
+        own.tallies places_returned (λ n. refl),
+        own.tallies places_given_back (λ n. refl),
+        own.tallies places_called (λ n. refl),
       );
       recorded = sym (ap (λ (g : Head). g.taken) own.left_is) ∙ k.recorded ∙ depth;
       room = subst (λ (n : ℕ). n ≤ 64) depth k.room;

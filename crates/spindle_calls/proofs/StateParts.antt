@@ -15,15 +15,15 @@ use Rattle.words.proofs.lists.Ranges.{map-count}
 use Rattle.words.proofs.lists.Written.{written-length}
 use Rattle.state.specs.declared.State.{State}
 use Rattle.state.specs.Bytes.{state_of}
-use Rattle.spindles.specs.spindle_parts.FourStates.{part_of, statesOf}
+use Rattle.spindles.specs.spindle_parts.FourStates.{part_of, states_of}
 use Rattle.spindles.proofs.spindle_parts.States.{part_length, part-is}
 
-abbrev pub fourStates : List ℕ → List State
-fourStates b = state_of (part_of b 0) ∷ state_of (part_of b 1) ∷ state_of (part_of b 2) ∷ state_of (part_of b 3) ∷ []
+abbrev pub four_states : List ℕ → List State
+four_states b = state_of (part_of b 0) ∷ state_of (part_of b 1) ∷ state_of (part_of b 2) ∷ state_of (part_of b 3) ∷ []
 
-pub four_are : (b : List ℕ) → length b ≡ 520 → statesOf b ≡ fourStates b
-unfolding statesOf
-four_are b long = yes-pick (eqb (length b) 520) (fourStates b) [] (eq-eqb (length b) 520 long)
+pub four_are : (b : List ℕ) → length b ≡ 520 → states_of b ≡ four_states b
+unfolding states_of
+four_are b long = yes-pick (eqb (length b) 520) (four_states b) [] (eq-eqb (length b) 520 long)
 
 -- ---- a byte of a buffer that was written from a place on
 module _ (b p : List ℕ) (at : ℕ) (room : at + length p ≤ length b) where
@@ -87,7 +87,7 @@ module _ (b p : List ℕ) (long : length b ≡ 520) (k : ℕ) (l : k < 4) (size 
               apart (yes e) = absurd (other e)
               apart (no e) = omega arith
 
-  pub put-states : statesOf (written b (130 * k) p) ≡ set (statesOf b) k (state_of p)
+  pub put-states : states_of (written b (130 * k) p) ≡ set (states_of b) k (state_of p)
   put-states =
       four_are (written b (130 * k) p) put-long ∙ go k l refl ∙ sym (ap (λ (ss : List State). set ss k (state_of p)) (four_are b long))
     where
@@ -104,7 +104,7 @@ module _ (b p : List ℕ) (long : length b ≡ 520) (k : ℕ) (l : k < 4) (size 
           → ◌≡◌ {A = List State} (a ∷ b ∷ c ∷ d ∷ []) (a' ∷ b' ∷ c' ∷ d' ∷ [])
       join e f g h = λ i. e i ∷ f i ∷ g i ∷ h i ∷ []
 
-      go : (i : ℕ) → i < 4 → i ≡ k → fourStates b' ≡ set (fourStates b) i (state_of p)
+      go : (i : ℕ) → i < 4 → i ≡ k → four_states b' ≡ set (four_states b) i (state_of p)
       go zero h e = join (own 0 e) (kept 1 (omega arith) (λ q. omega arith)) (kept 2 (omega arith) (λ q. omega arith))
           (kept 3 (omega arith) (λ q. omega arith))
       go (suc zero) h e = join (kept 0 (omega arith) (λ q. omega arith)) (own 1 e) (kept 2 (omega arith) (λ q. omega arith))

@@ -3,44 +3,44 @@
 -- the function's `ensures` cites.
 use Rattle.std.specs.Prelude.{ℕ, ◌≤◌, ◌<◌, ◌≡◌, List, [], ◌∷◌, map, length, set, take}
 use Rattle.words.specs.lists.Sequences.{All}
-use Rattle.bindings.specs.Binding.{ownBinding}
+use Rattle.bindings.specs.Binding.{own_binding}
 use Rattle.text.specs.frames.Frame.{contents}
-use Rattle.text.specs.frames.Answer.{reply, replyNumber, success, GivesBuffer}
+use Rattle.text.specs.frames.Answer.{reply, reply_number, success, GivesBuffer}
 use Rattle.text.specs.declared.frames.Answer.{Answer}
 use Rattle.translator.specs.Entry.{translate}
 use Rattle.state.specs.declared.layout.TheConstants.{PLACES}
 use Rattle.state.specs.declared.State.{State}
 use Rattle.state.specs.declared.StateReport.{StateReport}
-use Rattle.state.specs.State.{freshState, GivesState}
-use Rattle.rebinding.specs.Rebind.{rebind, liveRebind}
+use Rattle.state.specs.State.{fresh_state, GivesState}
+use Rattle.rebinding.specs.Rebind.{rebind, live_rebind}
 use Rattle.agreement.specs.Calls.{TableOf}
 use Rattle.spindles.specs.declared.SpinReport.{SpinReport}
-use Rattle.spindles.specs.Spindles.{stateAt, depths, spin, liveSpin, GivesSpin}
+use Rattle.spindles.specs.Spindles.{state_at, depths, spin, live_spin, GivesSpin}
 use Rattle.spindle_walks.specs.Walks.{HandsImage, FollowsWalk}
-use Rattle.spindle_calls.specs.ObservedCalls.{ObservedTick, ObservedCall, observedSpin, observedRebinding}
-use Rattle.spindle_calls.specs.ObservedCalls.{call_of, ObservedBalance, finishedIn}
+use Rattle.spindle_calls.specs.ObservedCalls.{ObservedTick, ObservedCall, observed_spin, observed_rebinding}
+use Rattle.spindle_calls.specs.ObservedCalls.{call_of, ObservedBalance, finished_ticks_in}
 
-abbrev pub observedTick : List State → ℕ → SpinReport → ObservedTick
-observedTick states k r = record {
-  depth = (stateAt states k).depth;
+abbrev pub observed_tick : List State → ℕ → SpinReport → ObservedTick
+observed_tick states k r = record {
+  depth = (state_at states k).depth;
   number =
-      replyNumber (reply r.answer);
+      reply_number (reply r.answer);
   mask = r.mask;
   code = r.code;
 }
 
 -- one call on these states and this record, and what both are after it; a live one is handed a table that prepare made of the image
 pub data SpindleCallOn (states : List State) (taken : ℕ) : ObservedCall → List State → ℕ → Type 0 where
-  spinCall : {image : List ℕ} {k w : ℕ} {r : SpinReport} {after : List State} → GivesSpin (spin image states taken k w) r after
-      → SpindleCallOn states taken (observedSpin image k w (observedTick states k r)) after r.taken
-  spinCallLive : {image table : List ℕ} {k w : ℕ} {r : SpinReport} {after : List State} → TableOf image table
-      → GivesSpin (liveSpin table states taken k w) r after
-      → SpindleCallOn states taken (observedSpin image k w (observedTick states k r)) after r.taken
-  rebindCall : {image : List ℕ} {k n g : ℕ} {r : StateReport} → GivesState (rebind image (stateAt states k) n g) r
-      → SpindleCallOn states taken (observedRebinding image k n g) (set states k r.state) taken
-  rebindCallLive : {image table : List ℕ} {k n g : ℕ} {r : StateReport} → TableOf image table
-      → GivesState (liveRebind table (stateAt states k) n g) r
-      → SpindleCallOn states taken (observedRebinding image k n g) (set states k r.state) taken
+  spin_call : {image : List ℕ} {k w : ℕ} {r : SpinReport} {after : List State} → GivesSpin (spin image states taken k w) r after
+      → SpindleCallOn states taken (observed_spin image k w (observed_tick states k r)) after r.taken
+  spin_call_live : {image table : List ℕ} {k w : ℕ} {r : SpinReport} {after : List State} → TableOf image table
+      → GivesSpin (live_spin table states taken k w) r after
+      → SpindleCallOn states taken (observed_spin image k w (observed_tick states k r)) after r.taken
+  rebind_call : {image : List ℕ} {k n g : ℕ} {r : StateReport} → GivesState (rebind image (state_at states k) n g) r
+      → SpindleCallOn states taken (observed_rebinding image k n g) (set states k r.state) taken
+  rebind_call_live : {image table : List ℕ} {k n g : ℕ} {r : StateReport} → TableOf image table
+      → GivesState (live_rebind table (state_at states k) n g) r
+      → SpindleCallOn states taken (observed_rebinding image k n g) (set states k r.state) taken
 
 -- calls in a row, and the states and the record after the last of them
 pub data SpindleCallsInTurn : List State → ℕ → List ObservedCall → List State → ℕ → Type 0 where
@@ -52,7 +52,7 @@ pub data SpindleCallsInTurn : List State → ℕ → List ObservedCall → List 
 -- a state that State::fresh made
 pub record FreshOne (n : ℕ) (s : State) : Type 0 where
   pub made : StateReport
-  pub makes : GivesState (freshState n) made
+  pub makes : GivesState (fresh_state n) made
   pub succeeded : reply made.answer ≡ success 0
   pub state : s ≡ made.state
 
@@ -69,7 +69,7 @@ unfoldable pub OwnWalkDelivered : Type 0
 OwnWalkDelivered =
     (text before after : List ℕ) (answer : Answer) → GivesBuffer (translate text before) answer after → (n : ℕ) → reply answer ≡ success n
     → (size : ℕ) → 1 ≤ size → size ≤ PLACES → (k : ℕ) (states : List State) → k < length states
-    → (made : StateReport) → GivesState (freshState size) made → stateAt states k ≡ made.state
+    → (made : StateReport) → GivesState (fresh_state size) made → state_at states k ≡ made.state
     → (taken : ℕ) (said : List ObservedCall) (last : List State) (final : ℕ) → SpindleCallsInTurn states taken said last final
     → All (HandsImage k (take n after)) (map call_of said)
-    → FollowsWalk size (contents text) (finishedIn (contents text) k ownBinding said)
+    → FollowsWalk size (contents text) (finished_ticks_in (contents text) k own_binding said)

@@ -3,17 +3,17 @@
 use Rattle.std.specs.Prelude.{ℕ, ◌≤◌, ◌<◌, Bool, true, false, ◌&&◌, ◌≡◌, List, [], ◌∷◌, map, eqb, length, take}
 use Rattle.words.specs.lists.Pick.{pick}
 use Rattle.words.specs.lists.Sequences.{All}
-use Rattle.bindings.specs.Binding.{Binding, ownBinding}
+use Rattle.bindings.specs.Binding.{Binding, own_binding}
 use Rattle.text.specs.frames.Frame.{contents}
 use Rattle.text.specs.frames.Answer.{Reply, success, refusal}
 use Rattle.charts.specs.Chart.{Chart}
 use Rattle.walk.specs.Walk.{Signal, Tick, walk}
 use Rattle.translator.specs.Entry.{translate}
 use Rattle.state.specs.declared.layout.TheConstants.{PLACES}
-use Rattle.state.specs.State.{freshState}
-use Rattle.agreement.specs.Agreement.{bindingAfter}
-use Rattle.spindles.specs.Spindles.{stateAt}
-use Rattle.spindles.specs.spindle_places.Calls.{Head, SpindleCall, spins, rebinds, spinOn, headAfter}
+use Rattle.state.specs.State.{fresh_state}
+use Rattle.agreement.specs.Agreement.{binding_after}
+use Rattle.spindles.specs.Spindles.{state_at}
+use Rattle.spindles.specs.spindle_places.Calls.{Head, SpindleCall, spins, rebinds, spin_on, head_after}
 
 -- a finished tick, its word and the binding that is told before it
 pub record FinishedTick : Type 0 where
@@ -21,19 +21,20 @@ pub record FinishedTick : Type 0 where
   pub mask : ℕ
   pub code : ℕ
 
-abbrev pub isSuccess : Reply → Bool
-isSuccess (success n) = true
-isSuccess (refusal k i n) = false
+abbrev pub is_success : Reply → Bool
+is_success (success n) = true
+is_success (refusal k i n) = false
 
 -- those of spindle k among a list of calls; its rebindings, less those that 22 refuses, make the binding of s
-unfoldable pub finishedBy : Chart → ℕ → Binding → Head → List SpindleCall → List FinishedTick
-finishedBy c k s h [] = []
-finishedBy c k s h (spins t j w ∷ rest) =
-    let r = spinOn h t j w in
-    let more = finishedBy c k s (headAfter h (spins t j w)) rest in
-    pick (eqb j k && isSuccess r.reply)
+unfoldable pub finished_ticks_by : Chart → ℕ → Binding → Head → List SpindleCall → List FinishedTick
+finished_ticks_by c k s h [] = []
+finished_ticks_by c k s h (spins t j w ∷ rest) =
+    let r = spin_on h t j w in
+    let more = finished_ticks_by c k s (head_after h (spins t j w)) rest in
+    pick (eqb j k && is_success r.reply)
     (record { signal = record { word = w; binding = s }; mask = r.mask; code = r.code } ∷ more) more
-finishedBy c k s h (rebinds t j n g ∷ rest) = finishedBy c k (pick (eqb j k) (bindingAfter c n g s) s) (headAfter h (rebinds t j n g)) rest
+finished_ticks_by c k s h (rebinds t j n g ∷ rest) =
+    finished_ticks_by c k (pick (eqb j k) (binding_after c n g s) s) (head_after h (rebinds t j n g)) rest
 
 -- each call of spindle k is handed the image
 abbrev pub HandsImage : ℕ → List ℕ → SpindleCall → Type 0
@@ -49,6 +50,6 @@ pub record FollowsWalk (n : ℕ) (c : Chart) (made : List FinishedTick) : Type 0
 unfoldable pub OwnWalk : Type 0
 OwnWalk =
     (text out : List ℕ) (n : ℕ) → (translate text out).reply ≡ success n
-    → (size : ℕ) → 1 ≤ size → size ≤ PLACES → (k : ℕ) (h : Head) → k < length h.states → stateAt h.states k ≡ (freshState size).state
+    → (size : ℕ) → 1 ≤ size → size ≤ PLACES → (k : ℕ) (h : Head) → k < length h.states → state_at h.states k ≡ (fresh_state size).state
     → (calls : List SpindleCall) → All (HandsImage k (take n (translate text out).buffer)) calls
-    → FollowsWalk size (contents text) (finishedBy (contents text) k ownBinding h calls)
+    → FollowsWalk size (contents text) (finished_ticks_by (contents text) k own_binding h calls)

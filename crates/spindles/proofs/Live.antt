@@ -5,15 +5,15 @@ use mathlib.Core.Bool.{Bool}
 use mathlib.Core.List.{List}
 use Rattle.text.specs.frames.Verdict.{Verdict, when}
 use Rattle.state.specs.declared.State.{State}
-use Rattle.runs.specs.TickOutcome.{TickOutcome, imageTick}
+use Rattle.runs.specs.TickOutcome.{TickOutcome, image_tick}
 use Rattle.runs.proofs.machine.Live.{PreparedTable, live-tick-is}
-use Rattle.spindles.specs.Spindles.{stateAt, headVerdict, spunOn, spin, liveSpin}
+use Rattle.spindles.specs.Spindles.{state_at, head_verdict, outcome_spun_on, spin, live_spin}
 
 module _ {t b : List ℕ} (p : PreparedTable t b) where
-  pub live-spin-is : (states : List State) (taken k w : ℕ) → liveSpin b states taken k w ≡ spin t states taken k w
-  unfolding liveSpin spin
+  pub live-spin-is : (states : List State) (taken k w : ℕ) → live_spin b states taken k w ≡ spin t states taken k w
+  unfolding live_spin spin
   live-spin-is states taken k w =
-      ap₂ (λ (x : Bool) (a : TickOutcome). spunOn (headVerdict (when 11 x) states taken k) states taken k (λ _. a)) p.header
-      (live-tick-is p (stateAt states k) w)
-      ∙ sym (ap (λ (v : Verdict). spunOn (headVerdict v states taken k) states taken k (λ _. imageTick t (stateAt states k) w))
+      ap₂ (λ (x : Bool) (a : TickOutcome). outcome_spun_on (head_verdict (when 11 x) states taken k) states taken k (λ _. a)) p.header
+      (live-tick-is p (state_at states k) w)
+      ∙ sym (ap (λ (v : Verdict). outcome_spun_on (head_verdict v states taken k) states taken k (λ _. image_tick t (state_at states k) w))
       p.accepted)

@@ -2,11 +2,11 @@
 use Rattle.std.specs.Prelude.{ℕ, suc, ◌≤◌, ◌≡◌, List, length}
 use Rattle.text.specs.declared.frames.refusals.TheConstants.{FULL}
 use Rattle.text.specs.frames.Verdict.{fine}
-use Rattle.text.specs.frames.Answer.{replyNumber, refusal}
-use Rattle.image.specs.Check.{imageVerdict}
+use Rattle.text.specs.frames.Answer.{reply_number, refusal}
+use Rattle.image.specs.Check.{image_verdict}
 use Rattle.state.specs.declared.State.{State}
-use Rattle.runs.specs.TickOutcome.{imageTick}
-use Rattle.spindles.specs.Spindles.{stateAt, depths, headVerdict, SpinOutcome, spin}
+use Rattle.runs.specs.TickOutcome.{image_tick}
+use Rattle.spindles.specs.Spindles.{state_at, depths, head_verdict, SpinOutcome, spin}
 
 -- a call on an image, and one on a table
 abbrev pub Spinner : Type 0
@@ -21,25 +21,25 @@ pub record Unchanged (before : List State) (recorded : ℕ) (r : SpinOutcome) : 
 
 unfoldable pub RefusedLeaves : Spinner → Type 0
 RefusedLeaves f =
-    (t : List ℕ) (states : List State) (taken k w n : ℕ) → replyNumber (f t states taken k w).reply ≡ suc n
+    (t : List ℕ) (states : List State) (taken k w n : ℕ) → reply_number (f t states taken k w).reply ≡ suc n
     → Unchanged states taken (f t states taken k w)
 
 -- where all that is tried before the tick is passed: a call that gets 17 gets it whatever is recorded as taken, and a tick that ends no
 -- deeper than it began, a drop or a return among them, needs no place and goes ahead
 unfoldable pub FullFirst : Type 0
 FullFirst =
-    (t : List ℕ) (states : List State) (taken k w : ℕ) → headVerdict (imageVerdict t) states taken k ≡ fine
-    → (imageTick t (stateAt states k) w).reply ≡ refusal FULL 0 0 → (spin t states taken k w).reply ≡ refusal FULL 0 0
+    (t : List ℕ) (states : List State) (taken k w : ℕ) → head_verdict (image_verdict t) states taken k ≡ fine
+    → (image_tick t (state_at states k) w).reply ≡ refusal FULL 0 0 → (spin t states taken k w).reply ≡ refusal FULL 0 0
 
 unfoldable pub LevelGoes : Type 0
 LevelGoes =
-    (t : List ℕ) (states : List State) (taken k w : ℕ) → headVerdict (imageVerdict t) states taken k ≡ fine
-    → let x = imageTick t (stateAt states k) w in x.state.depth ≤ (stateAt states k).depth → (spin t states taken k w).reply ≡ x.reply
+    (t : List ℕ) (states : List State) (taken k w : ℕ) → head_verdict (image_verdict t) states taken k ≡ fine
+    → let x = image_tick t (state_at states k) w in x.state.depth ≤ (state_at states k).depth → (spin t states taken k w).reply ≡ x.reply
 
 -- the other states are left as they were
 unfoldable pub OthersLeft : Spinner → Type 0
 OthersLeft f =
-    (t : List ℕ) (states : List State) (taken k w j : ℕ) → (j ≡ k → ⊥) → stateAt (f t states taken k w).states j ≡ stateAt states j
+    (t : List ℕ) (states : List State) (taken k w j : ℕ) → (j ≡ k → ⊥) → state_at (f t states taken k w).states j ≡ state_at states j
 
 -- two calls that hand back the same but for the other states
 pub record AlikeSpins (k : ℕ) (r r' : SpinOutcome) : Type 0 where
@@ -47,11 +47,11 @@ pub record AlikeSpins (k : ℕ) (r r' : SpinOutcome) : Type 0 where
   pub mask : r.mask ≡ r'.mask
   pub code : r.code ≡ r'.code
   pub taken : r.taken ≡ r'.taken
-  pub state : stateAt r.states k ≡ stateAt r'.states k
+  pub state : state_at r.states k ≡ state_at r'.states k
 
 -- whatever else differs in the other states, or how their depths share one sum
 unfoldable pub OnlyDepths : Spinner → Type 0
 OnlyDepths f =
     (t : List ℕ) (states states' : List State) (taken k w : ℕ)
-    → length states ≡ length states' → depths states ≡ depths states' → stateAt states k ≡ stateAt states' k
+    → length states ≡ length states' → depths states ≡ depths states' → state_at states k ≡ state_at states' k
     → AlikeSpins k (f t states taken k w) (f t states' taken k w)

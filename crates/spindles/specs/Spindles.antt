@@ -4,32 +4,32 @@ use Rattle.words.specs.lists.Pick.{pick}
 use Rattle.text.specs.declared.frames.refusals.TheConstants.{BAD_HEADER, UNFIT, NO_SPINDLE, NO_PLACE}
 use Rattle.text.specs.frames.Verdict.{Verdict, fine, refused, next, when}
 use Rattle.text.specs.frames.Answer.{Reply, refusal, reply}
-use Rattle.image.specs.Check.{imageVerdict}
-use Rattle.tables.specs.Table.{badTable}
+use Rattle.image.specs.Check.{image_verdict}
+use Rattle.tables.specs.Table.{is_bad_table}
 use Rattle.state.specs.declared.State.{State}
-use Rattle.state.specs.State.{noState}
-use Rattle.runs.specs.TickOutcome.{TickOutcome, imageTick}
-use Rattle.runs.specs.machine.Live.{liveTick}
+use Rattle.state.specs.State.{no_state}
+use Rattle.runs.specs.TickOutcome.{TickOutcome, image_tick}
+use Rattle.runs.specs.machine.Live.{live_tick}
 use Rattle.spindles.specs.declared.layout.TheConstants.{SPINDLES, STORE}
 use Rattle.spindles.specs.declared.SpinReport.{SpinReport}
 
-abbrev pub stateAt : List State → ℕ → State
-stateAt states k = get_or states k noState
+abbrev pub state_at : List State → ℕ → State
+state_at states k = get_or states k no_state
 
 unfoldable pub depths : List State → ℕ
 depths [] = 0
 depths (s ∷ states) = s.depth + depths states
 
 -- 15: not four states, or the places recorded as taken are not their depths, or are more than 64
-abbrev pub badHead : List State → ℕ → Bool
-badHead states taken = not (eqb (length states) SPINDLES) || not (eqb (depths states) taken) || ltb STORE taken
+abbrev pub is_bad_head : List State → ℕ → Bool
+is_bad_head states taken = not (eqb (length states) SPINDLES) || not (eqb (depths states) taken) || ltb STORE taken
 
 -- 25, what the image or the table is refused for, and 15 by the list and the record
-abbrev pub headVerdict : Verdict → List State → ℕ → ℕ → Verdict
-headVerdict v states taken k =
+abbrev pub head_verdict : Verdict → List State → ℕ → ℕ → Verdict
+head_verdict v states taken k =
     next (when NO_SPINDLE (ltb 3 k)) λ _.
     next v λ _.
-    when UNFIT (badHead states taken)
+    when UNFIT (is_bad_head states taken)
 
 -- what a call hands back
 pub record SpinOutcome : Type 0 where
@@ -40,21 +40,21 @@ pub record SpinOutcome : Type 0 where
   pub taken : ℕ
 
 -- a refusal leaves the states and the record as they were
-abbrev pub turnedBack : ℕ → ℕ → List State → ℕ → SpinOutcome
-turnedBack n i states taken = record { reply = refusal n i 0; mask = 0; code = 0; states = states; taken = taken }
+abbrev pub outcome_turned_back : ℕ → ℕ → List State → ℕ → SpinOutcome
+outcome_turned_back n i states taken = record { reply = refusal n i 0; mask = 0; code = 0; states = states; taken = taken }
 
 -- 26, by the depths before and after the tick: it ends deeper than it began, which of all ticks a call alone does, and no place is left;
 -- such a call got no 17, and none gets 18
-abbrev pub noneLeft : ℕ → ℕ → ℕ → Bool
-noneLeft before after taken = ltb before after && leb STORE taken
+abbrev pub is_none_left : ℕ → ℕ → ℕ → Bool
+is_none_left before after taken = ltb before after && leb STORE taken
 
-abbrev pub findsNone : ℕ → State → TickOutcome → Bool
-findsNone taken s x = noneLeft s.depth x.state.depth taken
+abbrev pub has_no_place : ℕ → State → TickOutcome → Bool
+has_no_place taken s x = is_none_left s.depth x.state.depth taken
 
 -- the spindle's own tick; one that is refused hands back the state as it was
-abbrev pub spunBy : List State → ℕ → ℕ → TickOutcome → SpinOutcome
-spunBy states taken k x = let s = stateAt states k in pick (findsNone taken s x)
-    (turnedBack NO_PLACE 0 states taken)
+abbrev pub outcome_spun_by : List State → ℕ → ℕ → TickOutcome → SpinOutcome
+outcome_spun_by states taken k x = let s = state_at states k in pick (has_no_place taken s x)
+    (outcome_turned_back NO_PLACE 0 states taken)
     (record {
       reply = x.reply;
       mask = x.mask;
@@ -63,18 +63,19 @@ spunBy states taken k x = let s = stateAt states k in pick (findsNone taken s x)
       taken = taken + x.state.depth - s.depth;
     })
 
-abbrev pub spunOn : Verdict → List State → ℕ → ℕ → (Unit {0} → TickOutcome) → SpinOutcome
-spunOn (refused n i) states taken k go = turnedBack n i states taken
-spunOn fine states taken k go = spunBy states taken k (go tt)
+abbrev pub outcome_spun_on : Verdict → List State → ℕ → ℕ → (Unit {0} → TickOutcome) → SpinOutcome
+outcome_spun_on (refused n i) states taken k go = outcome_turned_back n i states taken
+outcome_spun_on fine states taken k go = outcome_spun_by states taken k (go tt)
 
 -- the states, the places taken, the spindle's number k, its image t and the word w
 unfoldable pub spin : List ℕ → List State → ℕ → ℕ → ℕ → SpinOutcome
-spin t states taken k w = spunOn (headVerdict (imageVerdict t) states taken k) states taken k (λ _. imageTick t (stateAt states k) w)
+spin t states taken k w =
+    outcome_spun_on (head_verdict (image_verdict t) states taken k) states taken k (λ _. image_tick t (state_at states k) w)
 
 -- the same on a prepared table, whatever its bytes are
-unfoldable pub liveSpin : List ℕ → List State → ℕ → ℕ → ℕ → SpinOutcome
-liveSpin b states taken k w =
-    spunOn (headVerdict (when BAD_HEADER (badTable b)) states taken k) states taken k (λ _. liveTick b (stateAt states k) w)
+unfoldable pub live_spin : List ℕ → List State → ℕ → ℕ → ℕ → SpinOutcome
+live_spin b states taken k w =
+    outcome_spun_on (head_verdict (when BAD_HEADER (is_bad_table b)) states taken k) states taken k (λ _. live_tick b (state_at states k) w)
 
 -- what a function over the list of states promises: its report, and the list after it
 pub record GivesSpin (x : SpinOutcome) (r : SpinReport) (after : List State) : Type 0 where

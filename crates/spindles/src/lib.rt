@@ -14,8 +14,8 @@ pub mod state_turns;
 pub mod turning;
 
 ghost use Rattle.std.specs.Prelude.{◌≡◌};
-ghost use Rattle.spindles.specs.Spindles.{noneLeft};
-ghost use Rattle.spindles.specs.inner.HeadAndTurn.{badSpinCall, badRecord};
+ghost use Rattle.spindles.specs.Spindles.{is_none_left};
+ghost use Rattle.spindles.specs.inner.HeadAndTurn.{is_bad_spin_call, is_bad_record};
 
 use layout::{SPINDLES, STORE};
 use text::frames::Answer;
@@ -31,7 +31,7 @@ pub struct SpinReport {
 
 // Whether there are not four states, or there is no such spindle.
 pub fn bad_call(count: usize, spindle: usize) -> bool
-    ensures { result ≡ badSpinCall count spindle }
+    ensures { result ≡ is_bad_spin_call count spindle }
 {
     if count != SPINDLES {
         return true;
@@ -41,7 +41,7 @@ pub fn bad_call(count: usize, spindle: usize) -> bool
 
 // Whether the depths do not sum to the record, or it is above 64.
 pub fn bad_record(sum: usize, taken: usize) -> bool
-    ensures { result ≡ badRecord sum taken }
+    ensures { result ≡ is_bad_record sum taken }
 {
     if sum != taken {
         return true;
@@ -51,7 +51,7 @@ pub fn bad_record(sum: usize, taken: usize) -> bool
 
 // Whether a tick ended deeper than it began, and no place is left.
 pub fn none_left(before: usize, after: usize, taken: usize) -> bool
-    ensures { result ≡ noneLeft before after taken }
+    ensures { result ≡ is_none_left before after taken }
 {
     if before < after {
         return STORE <= taken;

@@ -1,6 +1,6 @@
 // Four spindles whose states are 520 bytes: one call, live on a prepared table.
-ghost use Rattle.spindles.specs.Spindles.{liveSpin};
-ghost use Rattle.spindles.specs.spindle_parts.FourStates.{statesOf};
+ghost use Rattle.spindles.specs.Spindles.{live_spin};
+ghost use Rattle.spindles.specs.spindle_parts.FourStates.{states_of};
 ghost use Rattle.spindles.specs.spindle_bytes.Bytes.{GivesSpinOn};
 
 use crate::spindle_heads::live_refuse_head;
@@ -18,7 +18,7 @@ pub fn live_spin_bytes(
     table: &[u8],
     word: u16,
 ) -> SpinReport
-    ensures { GivesSpinOn (liveSpin table.now (statesOf states.old) taken spindle word)
+    ensures { GivesSpinOn (live_spin table.now (states_of states.old) taken spindle word)
         states.old spindle result states.new }
 {
     let count = state_count(states);

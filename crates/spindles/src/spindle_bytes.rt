@@ -1,6 +1,6 @@
 // Four spindles whose states are 520 bytes: one call on an image.
 ghost use Rattle.spindles.specs.Spindles.{spin};
-ghost use Rattle.spindles.specs.spindle_parts.FourStates.{statesOf};
+ghost use Rattle.spindles.specs.spindle_parts.FourStates.{states_of};
 ghost use Rattle.spindles.specs.spindle_bytes.Bytes.{GivesSpinOn};
 
 use crate::spindle_heads::refuse_head;
@@ -18,7 +18,7 @@ pub fn spin_bytes(
     image: &[u8],
     word: u16,
 ) -> SpinReport
-    ensures { GivesSpinOn (spin image.now (statesOf states.old) taken spindle word)
+    ensures { GivesSpinOn (spin image.now (states_of states.old) taken spindle word)
         states.old spindle result states.new }
 {
     let count = state_count(states);

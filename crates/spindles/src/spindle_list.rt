@@ -1,5 +1,5 @@
 // Four spindles whose states stand in one list: a call ticks one and leaves the others as they are.
-ghost use Rattle.spindles.specs.Spindles.{spin, liveSpin, GivesSpin};
+ghost use Rattle.spindles.specs.Spindles.{spin, live_spin, GivesSpin};
 
 use crate::spindle_heads::{live_refuse_head, refuse_head};
 use crate::state_turns::{live_turn_state, turn_state};
@@ -37,7 +37,7 @@ pub fn live_spin(
     table: &[u8],
     word: u16,
 ) -> SpinReport
-    ensures { GivesSpin (liveSpin table.now states.old taken spindle word) result states.new }
+    ensures { GivesSpin (live_spin table.now states.old taken spindle word) result states.new }
 {
     if bad_call(states.len(), spindle) {
         return live_refuse_head(table, spindle, taken);

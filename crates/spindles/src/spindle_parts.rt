@@ -1,14 +1,14 @@
 // Four states in 520 bytes: how many there are, their depths, and the bytes of one.
 ghost use Rattle.std.specs.Prelude.{◌≡◌, ◌<◌, length};
-ghost use Rattle.spindles.specs.spindle_parts.FourStates.{part_of, depthsIn};
-ghost use Rattle.spindles.specs.spindle_parts.inner.DepthBytes.{stateCount};
+ghost use Rattle.spindles.specs.spindle_parts.FourStates.{part_of, depths_in};
+ghost use Rattle.spindles.specs.spindle_parts.inner.DepthBytes.{state_count};
 
 use crate::layout::{HEAD_BYTES, SPINDLES};
 use state::layout::STATE_BYTES;
 
 // How many states there are: four, or none where the bytes are not four times 130.
 pub fn state_count(states: &[u8]) -> usize
-    ensures { result ≡ stateCount (length states.now) }
+    ensures { result ≡ state_count (length states.now) }
 {
     if states.len() != HEAD_BYTES {
         return 0;
@@ -19,7 +19,7 @@ pub fn state_count(states: &[u8]) -> usize
 // The depths of four states, which stand in the second byte of each.
 pub fn depth_sum(states: &[u8]) -> usize
     requires { length states.now ≡ HEAD_BYTES }
-    ensures { result ≡ depthsIn states.now }
+    ensures { result ≡ depths_in states.now }
 {
     let a = states[1];
     let b = states[131];

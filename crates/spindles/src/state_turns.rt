@@ -2,10 +2,10 @@
 ghost use Rattle.std.specs.Prelude.{◌≡◌, ◌+◌, ◌≤◌};
 ghost use Rattle.text.specs.declared.frames.refusals.TheConstants.{BAD_HEADER};
 ghost use Rattle.text.specs.frames.Verdict.{when};
-ghost use Rattle.image.specs.Check.{imageVerdict};
-ghost use Rattle.tables.specs.Table.{badTable};
-ghost use Rattle.runs.specs.TickOutcome.{imageTick};
-ghost use Rattle.runs.specs.machine.Live.{liveTick};
+ghost use Rattle.image.specs.Check.{image_verdict};
+ghost use Rattle.tables.specs.Table.{is_bad_table};
+ghost use Rattle.runs.specs.TickOutcome.{image_tick};
+ghost use Rattle.runs.specs.machine.Live.{live_tick};
 ghost use Rattle.spindles.specs.inner.HeadAndTurn.{turn, GivesTurn};
 
 use crate::SpinReport;
@@ -37,8 +37,8 @@ pub fn turn_state(
     word: u16,
 ) -> SpinStateReport
     requires { state.depth ≤ a + b + c + d }
-    ensures { GivesTurn (turn (imageVerdict image.now)
-        state (a + b + c + d) taken (imageTick image.now state word)) result.report result.state }
+    ensures { GivesTurn (turn (image_verdict image.now)
+        state (a + b + c + d) taken (image_tick image.now state word)) result.report result.state }
 {
     let sum = depths_sum(a, b, c, d);
     let mut bytes = bytes_of(state);
@@ -61,8 +61,8 @@ pub fn live_turn_state(
     word: u16,
 ) -> SpinStateReport
     requires { state.depth ≤ a + b + c + d }
-    ensures { GivesTurn (turn (when BAD_HEADER (badTable table.now))
-        state (a + b + c + d) taken (liveTick table.now state word)) result.report result.state }
+    ensures { GivesTurn (turn (when BAD_HEADER (is_bad_table table.now))
+        state (a + b + c + d) taken (live_tick table.now state word)) result.report result.state }
 {
     let sum = depths_sum(a, b, c, d);
     let mut bytes = bytes_of(state);

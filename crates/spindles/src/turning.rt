@@ -3,11 +3,11 @@
 ghost use Rattle.std.specs.Prelude.{◌≤◌};
 ghost use Rattle.text.specs.declared.frames.refusals.TheConstants.{BAD_HEADER};
 ghost use Rattle.text.specs.frames.Verdict.{when};
-ghost use Rattle.image.specs.Check.{imageVerdict};
-ghost use Rattle.tables.specs.Table.{badTable};
+ghost use Rattle.image.specs.Check.{image_verdict};
+ghost use Rattle.tables.specs.Table.{is_bad_table};
 ghost use Rattle.state.specs.Bytes.{state_of};
-ghost use Rattle.runs.specs.TickOutcome.{imageTick};
-ghost use Rattle.runs.specs.machine.Live.{liveTick};
+ghost use Rattle.runs.specs.TickOutcome.{image_tick};
+ghost use Rattle.runs.specs.machine.Live.{live_tick};
 ghost use Rattle.spindles.specs.inner.HeadAndTurn.{turn, GivesTurnOn};
 ghost use Rattle.spindles.specs.turning.inner.TurnContracts.{GivesSettled};
 ghost use Rattle.spindles.specs.declared.layout.TheConstants.{STORE};
@@ -56,8 +56,8 @@ pub fn turn_bytes(
     word: u16,
 ) -> SpinReport
     requires { (state_of bytes.old).depth ≤ sum }
-    ensures { GivesTurnOn (turn (imageVerdict image.now) (state_of bytes.old) sum taken
-        (imageTick image.now (state_of bytes.old) word)) bytes.old result bytes.new }
+    ensures { GivesTurnOn (turn (image_verdict image.now) (state_of bytes.old) sum taken
+        (image_tick image.now (state_of bytes.old) word)) bytes.old result bytes.new }
 {
     if bad_record(sum, taken) {
         return refuse_head(image, 0, taken);
@@ -76,8 +76,8 @@ pub fn live_turn_bytes(
     word: u16,
 ) -> SpinReport
     requires { (state_of bytes.old).depth ≤ sum }
-    ensures { GivesTurnOn (turn (when BAD_HEADER (badTable table.now)) (state_of bytes.old) sum taken
-        (liveTick table.now (state_of bytes.old) word)) bytes.old result bytes.new }
+    ensures { GivesTurnOn (turn (when BAD_HEADER (is_bad_table table.now)) (state_of bytes.old) sum taken
+        (live_tick table.now (state_of bytes.old) word)) bytes.old result bytes.new }
 {
     if bad_record(sum, taken) {
         return live_refuse_head(table, 0, taken);

@@ -11,10 +11,10 @@ use lib.Seq.{get_or-set_same, get_or-set_other, set_out}
 use borrow.Author.Tests.{eq-eqb, ne_eqb}
 use Rattle.words.specs.lists.Pick.{pick}
 use Rattle.results.specs.Results.{result_of}
-use Rattle.bindings.specs.Binding.{served, rebound}
+use Rattle.bindings.specs.Binding.{server_of, rebound_binding}
 use Rattle.state.specs.declared.State.{State}
-use Rattle.state.specs.State.{placeAt, number_at, serverAt}
-use Rattle.state.specs.Changes.{withDepth, withPlace, withPlaces, withOpened, with_bits, withServing, afterResult}
+use Rattle.state.specs.State.{place_at, number_at, server_at}
+use Rattle.state.specs.Changes.{with_depth, with_place, with_places, with_opened, with_bits, with_serving, state_after_result}
 use Rattle.state.specs.Bytes.{state_of}
 use Rattle.state.proofs.RangeParts.{part-read, part-kept, part-set}
 use Rattle.state.proofs.ResultBytes.{held-bits}
@@ -35,7 +35,7 @@ module _ (b : List ℕ) where
   unfolding state_of
   depth-read = refl
 
-  pub place_read : (k : ℕ) → k < 32 → get_or b (2 + k) 0 ≡ placeAt (state_of b) k
+  pub place_read : (k : ℕ) → k < 32 → get_or b (2 + k) 0 ≡ place_at (state_of b) k
   unfolding state_of
   place_read k l = part-read same 0 2 32 b k l
 
@@ -43,7 +43,7 @@ module _ (b : List ℕ) where
   unfolding state_of
   number_read k l = part-read same 0 66 32 b k l
 
-  pub server-read : (k : ℕ) → k < 32 → get_or b (98 + k) 0 ≡ serverAt (state_of b) k
+  pub server-read : (k : ℕ) → k < 32 → get_or b (98 + k) 0 ≡ server_at (state_of b) k
   unfolding state_of
   server-read k l = part-read same 0 98 32 b k l
 
@@ -55,7 +55,7 @@ module _ (b : List ℕ) where
   unfolding state_of
   binding-read k l = part-read same 0 50 16 b k l
 
-  pub serving-read : (h : ℕ) → 1 ≤ h → h ≤ 16 → get_or b (49 + h) 0 ≡ served (state_of b).serving h
+  pub serving-read : (h : ℕ) → 1 ≤ h → h ≤ 16 → get_or b (49 + h) 0 ≡ server_of (state_of b).serving h
   serving-read h l m =
       let e : 49 + h ≡ 50 + (h - 1) = omega arith in
       ap (λ (j : ℕ). get_or b j 0) e ∙ binding-read (h - 1) (omega arith)
@@ -79,14 +79,14 @@ state-same s t size depth places bits serving numbers servers =
     ∙ ap₂ (λ (x : List ℕ) (y : List Bool).
     record { size = t.size; depth = t.depth; places = x; bits = y; serving = s.serving; numbers = s.numbers; servers = s.servers })
     places bits
-    ∙ ap (λ (x : List ℕ). withServing (withPlaces t t.places s.numbers s.servers) x) serving
-    ∙ ap₂ (λ (x y : List ℕ). withPlaces t t.places x y) numbers servers
+    ∙ ap (λ (x : List ℕ). with_serving (with_places t t.places s.numbers s.servers) x) serving
+    ∙ ap₂ (λ (x y : List ℕ). with_places t t.places x y) numbers servers
 
 module _ (b : List ℕ) (whole : length b ≡ 130) where
-  pub depth-set : (d : ℕ) → state_of (set b 1 d) ≡ withDepth (state_of b) d
+  pub depth-set : (d : ℕ) → state_of (set b 1 d) ≡ with_depth (state_of b) d
   unfolding state_of
   depth-set d =
-      state-same (state_of (set b 1 d)) (withDepth (state_of b) d) (get_or-set_other b 1 0 d 0 (λ q. omega arith))
+      state-same (state_of (set b 1 d)) (with_depth (state_of b) d) (get_or-set_other b 1 0 d 0 (λ q. omega arith))
       (get_or-set_same b 1 d 0 (omega arith))
       (part-kept same 0 2 32 b 1 d (λ k h q. omega arith))
       (part-kept truth false 34 16 b 1 d (λ k h q. omega arith))
@@ -98,13 +98,13 @@ module _ (b : List ℕ) (whole : length b ≡ 130) where
   list_set : (j v : ℕ) (ps : List ℕ) (bs : List Bool) (gs hs ks : List ℕ) → 2 ≤ j
       → (state_of (set b j v)).places ≡ ps → (state_of (set b j v)).bits ≡ bs → (state_of (set b j v)).serving ≡ gs
       → (state_of (set b j v)).numbers ≡ hs → (state_of (set b j v)).servers ≡ ks
-      → state_of (set b j v) ≡ withServing (with_bits (withPlaces (state_of b) ps hs ks) bs) gs
+      → state_of (set b j v) ≡ with_serving (with_bits (with_places (state_of b) ps hs ks) bs) gs
   unfolding state_of
   list_set j v ps bs gs hs ks l =
-      state-same (state_of (set b j v)) (withServing (with_bits (withPlaces (state_of b) ps hs ks) bs) gs)
+      state-same (state_of (set b j v)) (with_serving (with_bits (with_places (state_of b) ps hs ks) bs) gs)
       (get_or-set_other b j 0 v 0 (λ q. omega arith)) (get_or-set_other b j 1 v 0 (λ q. omega arith))
 
-  pub place_set : (k l : ℕ) → k < 32 → state_of (set b (2 + k) l) ≡ withPlace (state_of b) k l
+  pub place_set : (k l : ℕ) → k < 32 → state_of (set b (2 + k) l) ≡ with_place (state_of b) k l
   unfolding state_of
   place_set k l low =
       list_set (2 + k) l _ _ _ _ _ (omega arith)
@@ -115,7 +115,7 @@ module _ (b : List ℕ) (whole : length b ≡ 130) where
       (part-kept same 0 98 32 b (2 + k) l (λ i h q. omega arith))
 
   pub number-set : (k h : ℕ) → k < 32
-      → state_of (set b (66 + k) h) ≡ withPlaces (state_of b) (state_of b).places (set (state_of b).numbers k h) (state_of b).servers
+      → state_of (set b (66 + k) h) ≡ with_places (state_of b) (state_of b).places (set (state_of b).numbers k h) (state_of b).servers
   unfolding state_of
   number-set k h low =
       list_set (66 + k) h _ _ _ _ _ (omega arith)
@@ -126,7 +126,7 @@ module _ (b : List ℕ) (whole : length b ≡ 130) where
       (part-kept same 0 98 32 b (66 + k) h (λ i l q. omega arith))
 
   pub server-set : (k g : ℕ) → k < 32
-      → state_of (set b (98 + k) g) ≡ withPlaces (state_of b) (state_of b).places (state_of b).numbers (set (state_of b).servers k g)
+      → state_of (set b (98 + k) g) ≡ with_places (state_of b) (state_of b).places (state_of b).numbers (set (state_of b).servers k g)
   unfolding state_of
   server-set k g low =
       list_set (98 + k) g _ _ _ _ _ (omega arith)
@@ -147,7 +147,7 @@ module _ (b : List ℕ) (whole : length b ≡ 130) where
       (part-kept same 0 66 32 b (34 + k) v (λ i l q. omega arith))
       (part-kept same 0 98 32 b (34 + k) v (λ i l q. omega arith))
 
-  binding-set : (k v : ℕ) → k < 16 → state_of (set b (50 + k) v) ≡ withServing (state_of b) (set (state_of b).serving k v)
+  binding-set : (k v : ℕ) → k < 16 → state_of (set b (50 + k) v) ≡ with_serving (state_of b) (set (state_of b).serving k v)
   unfolding state_of
   binding-set k v low =
       list_set (50 + k) v _ _ _ _ _ (omega arith)
@@ -157,40 +157,42 @@ module _ (b : List ℕ) (whole : length b ≡ 130) where
       (part-kept same 0 66 32 b (50 + k) v (λ i l q. omega arith))
       (part-kept same 0 98 32 b (50 + k) v (λ i l q. omega arith))
 
-  pub serving-set : (h v : ℕ) → 1 ≤ h → h ≤ 16 → state_of (set b (49 + h) v) ≡ withServing (state_of b) (rebound h v (state_of b).serving)
+  pub serving-set : (h v : ℕ) → 1 ≤ h → h ≤ 16 → state_of (set b (49 + h) v)
+      ≡ with_serving (state_of b) (rebound_binding h v (state_of b).serving)
   serving-set h v l m =
       let e : 49 + h ≡ 50 + (h - 1) = omega arith in
       ap (λ (j : ℕ). state_of (set b j v)) e ∙ binding-set (h - 1) v (omega arith)
 
 -- place k with its label, number and server, one after the other
 pub open-set : (b b₁ b₂ b₃ : List ℕ) (k l h g : ℕ) → length b ≡ 130 → length b₁ ≡ 130 → length b₂ ≡ 130 → k < 32
-    → b₁ ≡ set b (2 + k) l → b₂ ≡ set b₁ (66 + k) h → b₃ ≡ set b₂ (98 + k) g → state_of b₃ ≡ withOpened (state_of b) k l h g
+    → b₁ ≡ set b (2 + k) l → b₂ ≡ set b₁ (66 + k) h → b₃ ≡ set b₂ (98 + k) g → state_of b₃ ≡ with_opened (state_of b) k l h g
 open-set b b₁ b₂ b₃ k l h g w w₁ w₂ low e₁ e₂ e₃ =
-    let f₁ : state_of b₁ ≡ withPlace (state_of b) k l = ap state_of e₁ ∙ place_set b w k l low in
-    let f₂ : state_of b₂ ≡ withPlaces (state_of b₁) (state_of b₁).places (set (state_of b₁).numbers k h) (state_of b₁).servers =
+    let f₁ : state_of b₁ ≡ with_place (state_of b) k l = ap state_of e₁ ∙ place_set b w k l low in
+    let f₂ : state_of b₂ ≡ with_places (state_of b₁) (state_of b₁).places (set (state_of b₁).numbers k h) (state_of b₁).servers =
     ap state_of e₂ ∙ number-set b₁ w₁ k h low in
     ap state_of e₃ ∙ server-set b₂ w₂ k g low
-    ∙ ap (λ (s : State). withPlaces s s.places s.numbers (set s.servers k g))
-    (f₂ ∙ ap (λ (s : State). withPlaces s s.places (set s.numbers k h) s.servers) f₁)
+    ∙ ap (λ (s : State). with_places s s.places s.numbers (set s.servers k g))
+    (f₂ ∙ ap (λ (s : State). with_places s s.places (set s.numbers k h) s.servers) f₁)
 
 -- ---- a result of a tick; 0 writes nothing, and a number above 16 has no bit
 byte-back : (t : Bool) → not (eqb (bool_byte t) 0) ≡ t
 byte-back true = refl
 byte-back false = refl
 
-pub result-kept : (s : State) (r h : ℕ) → r ≡ 0 → s ≡ afterResult s r h
+pub result-kept : (s : State) (r h : ℕ) → r ≡ 0 → s ≡ state_after_result s r h
 result-kept s r h e = ap (with_bits s) (rw (eq-eqb r 0 e))
 
 -- k stands for number h's place among the results
 module _ (b : List ℕ) (r h k : ℕ) (place : k ≡ h - 1) where
-  pub result-beyond : 16 ≤ k → state_of b ≡ afterResult (state_of b) r h
+  pub result-beyond : 16 ≤ k → state_of b ≡ state_after_result (state_of b) r h
   result-beyond l = ap (with_bits (state_of b)) (go (eqb r 0))
     where
       go : (t : Bool) → (state_of b).bits ≡ pick t (state_of b).bits (set (state_of b).bits (h - 1) (eqb r 2))
       go true = refl
       go false = sym (set_out (state_of b).bits (h - 1) (eqb r 2) (omega (arith, held-bits b)))
 
-  pub result-set : length b ≡ 130 → (r ≡ 0 → ⊥) → k < 16 → state_of (set b (34 + k) (bool_byte (eqb r 2))) ≡ afterResult (state_of b) r h
+  pub result-set : length b ≡ 130 → (r ≡ 0 → ⊥) → k < 16 → state_of (set b (34 + k) (bool_byte (eqb r 2)))
+      ≡ state_after_result (state_of b) r h
   result-set whole n low =
       byte-set b whole k (bool_byte (eqb r 2)) low
       ∙ ap (with_bits (state_of b)) (ap₂ (λ (j : ℕ) (t : Bool). set (state_of b).bits j t) place (byte-back (eqb r 2)) ∙ rw (ne_eqb r 0 n))

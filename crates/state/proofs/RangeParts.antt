@@ -8,7 +8,7 @@ use native.Mathlib.Omega.{arith}
 use lib.ListN.{length, get_or, set, length-set}
 use lib.Seq.{ext_get_or, get_or-set_same, get_or-set_other}
 use Rattle.words.specs.lists.Numbers.{range}
-use Rattle.words.proofs.lists.Ranges.{length-map-range, getD-map-range}
+use Rattle.words.proofs.lists.Ranges.{length-map-range, get_or-map-range}
 use Rattle.tables.proofs.RangeLaws.{map-alike}
 
 -- a list given by a function of the place, after one place is set
@@ -17,21 +17,21 @@ range-set : {A : Type 0} (d : A) (f g : ℕ → A) (n k : ℕ) (v : A) → k < n
 range-set d f g n k v low here other =
     ext_get_or d (map g (range 0 n)) (set (map f (range 0 n)) k v)
     (length-map-range g 0 n ∙ sym (length-set (map f (range 0 n)) k v ∙ length-map-range f 0 n))
-    (λ j l. let b : j < n = omega (arith, length-map-range g 0 n) in getD-map-range g d 0 n j b
+    (λ j l. let b : j < n = omega (arith, length-map-range g 0 n) in get_or-map-range g d 0 n j b
     ∙ ap g (zero-add j) ∙ sym (go j b (ℕ_discrete j k)))
   where
     go : (j : ℕ) → j < n → Dec (j ≡ k) → get_or (set (map f (range 0 n)) k v) j d ≡ g j
     go j l (yes q) =
         ap (λ (i : ℕ). get_or (set (map f (range 0 n)) k v) i d) q
         ∙ get_or-set_same (map f (range 0 n)) k v d (omega (arith, length-map-range f 0 n)) ∙ sym here ∙ ap g (sym q)
-    go j l (no q) = get_or-set_other (map f (range 0 n)) k j v d q ∙ getD-map-range f d 0 n j l ∙ ap f (zero-add j) ∙ sym (other j l q)
+    go j l (no q) = get_or-set_other (map f (range 0 n)) k j v d q ∙ get_or-map-range f d 0 n j l ∙ ap f (zero-add j) ∙ sym (other j l q)
 
 module _ {A : Type 0} (f : ℕ → A) (d : A) (from n : ℕ) (b : List ℕ) where
   abbrev pub part : List ℕ → List A
   part x = map (λ (k : ℕ). f (get_or x (from + k) 0)) (range 0 n)
 
   pub part-read : (k : ℕ) → k < n → f (get_or b (from + k) 0) ≡ get_or (part b) k d
-  part-read k l = sym (getD-map-range (λ (j : ℕ). f (get_or b (from + j) 0)) d 0 n k l ∙ ap (λ (j : ℕ). f (get_or b (from + j) 0)) (zero-add k))
+  part-read k l = sym (get_or-map-range (λ (j : ℕ). f (get_or b (from + j) 0)) d 0 n k l ∙ ap (λ (j : ℕ). f (get_or b (from + j) 0)) (zero-add k))
 
   -- a byte outside it leaves it
   pub part-kept : (j v : ℕ) → ((k : ℕ) → k < n → (from + k ≡ j) → ⊥) → part (set b j v) ≡ part b

@@ -13,9 +13,9 @@ use Rattle.words.specs.lists.Sequences.{written}
 use Rattle.words.proofs.lists.Ranges.{map-count}
 use Rattle.text.specs.frames.Answer.{success, refusal}
 use Rattle.state.specs.declared.State.{State}
-use Rattle.state.specs.State.{Sized, placeAt, number_at, serverAt, fresh, noState, badSize, StateOutcome, freshState}
-use Rattle.state.specs.Changes.{withPlaces, with_bits, withServing}
-use Rattle.state.specs.Bytes.{resultByte, servingByte, state_of, bytesOf}
+use Rattle.state.specs.State.{Sized, place_at, number_at, server_at, fresh, no_state, is_bad_size, StateOutcome, fresh_state}
+use Rattle.state.specs.Changes.{with_places, with_bits, with_serving}
+use Rattle.state.specs.Bytes.{result_byte, serving_byte, state_of, bytes_of}
 
 -- a cast of a result is its byte
 pub byte-is : (b : Bool) → bool_byte b ≡ pick b 1 0
@@ -31,33 +31,33 @@ read_back : (xs : List ℕ) (n : ℕ) → length xs ≡ n → map (λ (k : ℕ).
 read_back xs n e = map-count (λ (k : ℕ). get_or xs k 0) 0 xs 0 n (sym e) (λ i h. ap (λ (k : ℕ). get_or xs k 0) (zero-add i))
 
 -- a state that was written as bytes is read back as itself
-pub state-back : (s : State) → Sized s → length s.bits ≡ 16 → state_of (bytesOf s) ≡ s
-unfolding state_of bytesOf
+pub state-back : (s : State) → Sized s → length s.bits ≡ 16 → state_of (bytes_of s) ≡ s
+unfolding state_of bytes_of
 state-back s z b =
-    let bits : map (λ (k : ℕ). not (eqb (resultByte s k) 0)) (range 0 16) ≡ s.bits =
-    map-count (λ (k : ℕ). not (eqb (resultByte s k) 0)) false s.bits 0 16 (sym b)
+    let bits : map (λ (k : ℕ). not (eqb (result_byte s k) 0)) (range 0 16) ≡ s.bits =
+    map-count (λ (k : ℕ). not (eqb (result_byte s k) 0)) false s.bits 0 16 (sym b)
     (λ i h. bit-back (get_or s.bits (0 + i) false) ∙ ap (λ (k : ℕ). get_or s.bits k false) (zero-add i)) in
-    ap₂ (λ (x : List Bool) (y : List ℕ). withServing (with_bits (state_of (bytesOf s)) x) y) bits (read_back s.serving 16 z.serving)
-    ∙ ap (λ (x : List ℕ). withPlaces s x (state_of (bytesOf s)).numbers (state_of (bytesOf s)).servers)
+    ap₂ (λ (x : List Bool) (y : List ℕ). with_serving (with_bits (state_of (bytes_of s)) x) y) bits (read_back s.serving 16 z.serving)
+    ∙ ap (λ (x : List ℕ). with_places s x (state_of (bytes_of s)).numbers (state_of (bytes_of s)).servers)
     (read_back s.places 32 z.places)
-    ∙ ap₂ (λ (x y : List ℕ). withPlaces s s.places x y) (read_back s.numbers 32 z.numbers) (read_back s.servers 32 z.servers)
+    ∙ ap₂ (λ (x y : List ℕ). with_places s s.places x y) (read_back s.numbers 32 z.numbers) (read_back s.servers 32 z.servers)
 
 -- the five lists of a state written one after the other, behind its size and depth
 pub bytes-written : (s : State) (b₁ b₂ b₃ b₄ b₅ : List ℕ)
-    → b₁ ≡ written (set (set (replicate 130 0) 0 s.size) 1 s.depth) 2 (map (placeAt s) (range 0 32))
-    → b₂ ≡ written b₁ 34 (map (resultByte s) (range 0 16))
-    → b₃ ≡ written b₂ 50 (map (servingByte s) (range 0 16))
+    → b₁ ≡ written (set (set (replicate 130 0) 0 s.size) 1 s.depth) 2 (map (place_at s) (range 0 32))
+    → b₂ ≡ written b₁ 34 (map (result_byte s) (range 0 16))
+    → b₃ ≡ written b₂ 50 (map (serving_byte s) (range 0 16))
     → b₄ ≡ written b₃ 66 (map (number_at s) (range 0 32))
-    → b₅ ≡ written b₄ 98 (map (serverAt s) (range 0 32)) → b₅ ≡ bytesOf s
-unfolding written bytesOf
+    → b₅ ≡ written b₄ 98 (map (server_at s) (range 0 32)) → b₅ ≡ bytes_of s
+unfolding written bytes_of
 bytes-written s b₁ b₂ b₃ b₄ b₅ e₁ e₂ e₃ e₄ e₅ =
     e₅
-    ∙ ap (λ (b : List ℕ). written b 98 (map (serverAt s) (range 0 32)))
+    ∙ ap (λ (b : List ℕ). written b 98 (map (server_at s) (range 0 32)))
     (e₄
     ∙ ap (λ (b : List ℕ). written b 66 (map (number_at s) (range 0 32)))
     (e₃
-    ∙ ap (λ (b : List ℕ). written b 50 (map (servingByte s) (range 0 16)))
-    (e₂ ∙ ap (λ (b : List ℕ). written b 34 (map (resultByte s) (range 0 16))) e₁)))
+    ∙ ap (λ (b : List ℕ). written b 50 (map (serving_byte s) (range 0 16)))
+    (e₂ ∙ ap (λ (b : List ℕ). written b 34 (map (result_byte s) (range 0 16))) e₁)))
 
 -- the state that any bytes hold has all its places, results and schemes that serve
 pub held-sized : (b : List ℕ) → Sized (state_of b)
@@ -71,20 +71,20 @@ pub held-bits : (b : List ℕ) → length (state_of b).bits ≡ 16
 unfolding state_of
 held-bits b = refl
 
-pub held_back : (b : List ℕ) → state_of (bytesOf (state_of b)) ≡ state_of b
+pub held_back : (b : List ℕ) → state_of (bytes_of (state_of b)) ≡ state_of b
 held_back b = state-back (state_of b) (held-sized b) (held-bits b)
 
 -- a fresh state, refused or not
 pub fresh-sized : (n : ℕ) → Sized (fresh n)
 fresh-sized n = record { places = refl; serving = refl; numbers = refl; servers = refl }
 
-pub fresh-held : (n : ℕ) → state_of (bytesOf (freshState n).state) ≡ (freshState n).state
-unfolding freshState
-fresh-held n = go (badSize n)
+pub fresh-held : (n : ℕ) → state_of (bytes_of (fresh_state n).state) ≡ (fresh_state n).state
+unfolding fresh_state
+fresh-held n = go (is_bad_size n)
   where
     go : (t : Bool)
-        → let x = pick {A = StateOutcome} t (record { reply = refusal 14 0 0; state = noState })
+        → let x = pick {A = StateOutcome} t (record { reply = refusal 14 0 0; state = no_state })
         (record { reply = success 0; state = fresh n }) in
-        state_of (bytesOf x.state) ≡ x.state
-    go true = state-back noState (record { places = refl; serving = refl; numbers = refl; servers = refl }) refl
+        state_of (bytes_of x.state) ≡ x.state
+    go true = state-back no_state (record { places = refl; serving = refl; numbers = refl; servers = refl }) refl
     go false = state-back (fresh n) (fresh-sized n) refl

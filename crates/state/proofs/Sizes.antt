@@ -6,10 +6,10 @@ use native.Mathlib.Omega.{arith}
 use lib.Dec.{eqb, ltb}
 use borrow.Author.Tests.{ltb-false, le-ltb, ne_eqb}
 use Rattle.words.proofs.lists.Tests.{or_r, or-none}
-use Rattle.state.specs.State.{badSize}
+use Rattle.state.specs.State.{is_bad_size}
 
-pub size-most : (n : ℕ) → badSize n ≡ false → n ≤ 32
+pub size-most : (n : ℕ) → is_bad_size n ≡ false → n ≤ 32
 size-most n e = ltb-false 32 n (or_r (eqb n 0) (ltb 32 n) e)
 
-pub size-good : (n : ℕ) → 1 ≤ n → n ≤ 32 → badSize n ≡ false
+pub size-good : (n : ℕ) → 1 ≤ n → n ≤ 32 → is_bad_size n ≡ false
 size-good n h k = or-none (eqb n 0) (ltb 32 n) (ne_eqb n 0 (λ z. omega arith)) (le-ltb 32 n k)

@@ -8,43 +8,43 @@ use Rattle.text.specs.declared.frames.sizes.TheConstants.{SCHEMES}
 use Rattle.state.specs.declared.layout.TheConstants.{PLACES, SIZE, DEPTH, PLACES_FROM, RESULTS_FROM, SERVING_FROM, NUMBERS_FROM}
 use Rattle.state.specs.declared.layout.TheConstants.{SERVERS_FROM}
 use Rattle.state.specs.declared.State.{State}
-use Rattle.state.specs.State.{placeAt, number_at, serverAt}
+use Rattle.state.specs.State.{place_at, number_at, server_at}
 
 abbrev pub place_in : List ℕ → ℕ → ℕ
 place_in b k = get_or b (PLACES_FROM + k) 0
 
 -- a result byte of 0 is false, any other is true
-abbrev pub resultIn : List ℕ → ℕ → Bool
-resultIn b k = not (eqb (get_or b (RESULTS_FROM + k) 0) 0)
+abbrev pub result_in : List ℕ → ℕ → Bool
+result_in b k = not (eqb (get_or b (RESULTS_FROM + k) 0) 0)
 
-abbrev pub servingIn : List ℕ → ℕ → ℕ
-servingIn b k = get_or b (SERVING_FROM + k) 0
+abbrev pub serving_in : List ℕ → ℕ → ℕ
+serving_in b k = get_or b (SERVING_FROM + k) 0
 
 abbrev pub number_in : List ℕ → ℕ → ℕ
 number_in b k = get_or b (NUMBERS_FROM + k) 0
 
-abbrev pub serverIn : List ℕ → ℕ → ℕ
-serverIn b k = get_or b (SERVERS_FROM + k) 0
+abbrev pub server_in : List ℕ → ℕ → ℕ
+server_in b k = get_or b (SERVERS_FROM + k) 0
 
 unfoldable pub state_of : List ℕ → State
 state_of b = record {
   size = get_or b SIZE 0;
   depth = get_or b DEPTH 0;
   places = map (place_in b) (range 0 PLACES);
-  bits = map (resultIn b) (range 0 SCHEMES);
-  serving = map (servingIn b) (range 0 SCHEMES);
+  bits = map (result_in b) (range 0 SCHEMES);
+  serving = map (serving_in b) (range 0 SCHEMES);
   numbers = map (number_in b) (range 0 PLACES);
-  servers = map (serverIn b) (range 0 PLACES);
+  servers = map (server_in b) (range 0 PLACES);
 }
 
 -- the byte of a result, 0 or 1
-abbrev pub resultByte : State → ℕ → ℕ
-resultByte s k = pick (get_or s.bits k false) 1 0
+abbrev pub result_byte : State → ℕ → ℕ
+result_byte s k = pick (get_or s.bits k false) 1 0
 
-abbrev pub servingByte : State → ℕ → ℕ
-servingByte s k = get_or s.serving k 0
+abbrev pub serving_byte : State → ℕ → ℕ
+serving_byte s k = get_or s.serving k 0
 
-unfoldable pub bytesOf : State → List ℕ
-bytesOf s =
-    s.size ∷ s.depth ∷ (map (placeAt s) (range 0 PLACES) ++ map (resultByte s) (range 0 SCHEMES) ++ map (servingByte s) (range 0 SCHEMES)
-    ++ map (number_at s) (range 0 PLACES) ++ map (serverAt s) (range 0 PLACES))
+unfoldable pub bytes_of : State → List ℕ
+bytes_of s =
+    s.size ∷ s.depth ∷ (map (place_at s) (range 0 PLACES) ++ map (result_byte s) (range 0 SCHEMES) ++ map (serving_byte s) (range 0 SCHEMES)
+    ++ map (number_at s) (range 0 PLACES) ++ map (server_at s) (range 0 PLACES))

@@ -1,12 +1,12 @@
 -- A state with some of its parts changed.
 use Rattle.std.specs.Prelude.{ℕ, List, set}
-use Rattle.results.specs.Results.{Results, withResult}
+use Rattle.results.specs.Results.{Results, with_result}
 use Rattle.bindings.specs.Binding.{Binding}
 use Rattle.state.specs.declared.State.{State}
-use Rattle.state.specs.State.{bottomAlone}
+use Rattle.state.specs.State.{bottom_alone}
 
-abbrev pub withDepth : State → ℕ → State
-withDepth s d = record {
+abbrev pub with_depth : State → ℕ → State
+with_depth s d = record {
   size = s.size;
   depth = d;
   places = s.places;
@@ -17,8 +17,8 @@ withDepth s d = record {
 }
 
 -- labels, numbers and servers of the places
-abbrev pub withPlaces : State → List ℕ → List ℕ → List ℕ → State
-withPlaces s ls hs ks = record {
+abbrev pub with_places : State → List ℕ → List ℕ → List ℕ → State
+with_places s ls hs ks = record {
   size = s.size;
   depth = s.depth;
   places = ls;
@@ -28,16 +28,16 @@ withPlaces s ls hs ks = record {
   servers = ks;
 }
 
-abbrev pub withPlace : State → ℕ → ℕ → State
-withPlace s k l = withPlaces s (set s.places k l) s.numbers s.servers
+abbrev pub with_place : State → ℕ → ℕ → State
+with_place s k l = with_places s (set s.places k l) s.numbers s.servers
 
 -- place k holds label l, of a scheme that was called by number h and served by g
-abbrev pub withOpened : State → ℕ → ℕ → ℕ → ℕ → State
-withOpened s k l h g = withPlaces s (set s.places k l) (set s.numbers k h) (set s.servers k g)
+abbrev pub with_opened : State → ℕ → ℕ → ℕ → ℕ → State
+with_opened s k l h g = with_places s (set s.places k l) (set s.numbers k h) (set s.servers k g)
 
 -- one place in use, held by scheme h by its own number at label l
-abbrev pub withAlone : State → ℕ → ℕ → State
-withAlone s l h = withDepth (withPlaces s (bottomAlone l) (bottomAlone h) (bottomAlone h)) 1
+abbrev pub with_alone : State → ℕ → ℕ → State
+with_alone s l h = with_depth (with_places s (bottom_alone l) (bottom_alone h) (bottom_alone h)) 1
 
 abbrev pub with_bits : State → Results → State
 with_bits s b = record {
@@ -50,11 +50,11 @@ with_bits s b = record {
   servers = s.servers;
 }
 
-abbrev pub afterResult : State → ℕ → ℕ → State
-afterResult s r h = with_bits s (withResult r h s.bits)
+abbrev pub state_after_result : State → ℕ → ℕ → State
+state_after_result s r h = with_bits s (with_result r h s.bits)
 
-abbrev pub withServing : State → Binding → State
-withServing s g = record {
+abbrev pub with_serving : State → Binding → State
+with_serving s g = record {
   size = s.size;
   depth = s.depth;
   places = s.places;

@@ -1,8 +1,8 @@
 -- The state, and a fresh one (refusal 14).
 use Rattle.std.specs.Prelude.{ℕ, ◌-◌, Bool, ◌||◌, ◌≡◌, List, ltb, eqb, length, get_or, set, replicate}
 use Rattle.words.specs.lists.Pick.{pick}
-use Rattle.results.specs.Results.{noResults}
-use Rattle.bindings.specs.Binding.{ownBinding}
+use Rattle.results.specs.Results.{no_results}
+use Rattle.bindings.specs.Binding.{own_binding}
 use Rattle.text.specs.declared.frames.sizes.TheConstants.{SCHEMES}
 use Rattle.text.specs.declared.frames.refusals.TheConstants.{BAD_SIZE}
 use Rattle.text.specs.frames.Answer.{Reply, success, refusal, reply}
@@ -11,41 +11,41 @@ use Rattle.state.specs.declared.layout.TheConstants.{PLACES}
 use Rattle.state.specs.declared.State.{State}
 use Rattle.state.specs.declared.StateReport.{StateReport}
 
-abbrev pub noPlaces : List ℕ
-noPlaces = replicate PLACES 0
+abbrev pub no_places : List ℕ
+no_places = replicate PLACES 0
 
 -- the bottom alone is filled
-abbrev pub bottomAlone : ℕ → List ℕ
-bottomAlone l = set noPlaces 0 l
+abbrev pub bottom_alone : ℕ → List ℕ
+bottom_alone l = set no_places 0 l
 
 -- scheme 1 alone is open, by its own number, and each number is served by its own scheme
 abbrev pub fresh : ℕ → State
 fresh n = record {
   size = n;
   depth = 1;
-  places = noPlaces;
-  bits = noResults;
+  places = no_places;
+  bits = no_results;
   serving =
-      ownBinding;
-  numbers = bottomAlone 1;
-  servers = bottomAlone 1;
+      own_binding;
+  numbers = bottom_alone 1;
+  servers = bottom_alone 1;
 }
 
 -- every number 0
-abbrev pub noState : State
-noState = record {
+abbrev pub no_state : State
+no_state = record {
   size = 0;
   depth = 0;
-  places = noPlaces;
-  bits = noResults;
+  places = no_places;
+  bits = no_results;
   serving = replicate SCHEMES 0;
-  numbers = noPlaces;
-  servers = noPlaces;
+  numbers = no_places;
+  servers = no_places;
 }
 
 -- 14, and in a state 15
-abbrev pub badSize : ℕ → Bool
-badSize n = eqb n 0 || ltb PLACES n
+abbrev pub is_bad_size : ℕ → Bool
+is_bad_size n = eqb n 0 || ltb PLACES n
 
 pub record StateOutcome : Type 0 where
   pub reply : Reply
@@ -56,8 +56,9 @@ pub record GivesState (x : StateOutcome) (r : StateReport) : Type 0 where
   pub answered : reply r.answer ≡ x.reply
   pub state : r.state ≡ x.state
 
-unfoldable pub freshState : ℕ → StateOutcome
-freshState n = pick (badSize n) (record { reply = refusal BAD_SIZE 0 0; state = noState }) (record { reply = success 0; state = fresh n })
+unfoldable pub fresh_state : ℕ → StateOutcome
+fresh_state n =
+    pick (is_bad_size n) (record { reply = refusal BAD_SIZE 0 0; state = no_state }) (record { reply = success 0; state = fresh n })
 
 -- ---- what an image has, by number
 abbrev pub label_at : Image → ℕ → Label
@@ -66,15 +67,15 @@ label_at i l = get_or i.labels l no_label
 abbrev pub entry_at : Image → ℕ → ℕ
 entry_at i h = get_or i.entries (h - 1) 0
 
-abbrev pub placeAt : State → ℕ → ℕ
-placeAt s k = get_or s.places k 0
+abbrev pub place_at : State → ℕ → ℕ
+place_at s k = get_or s.places k 0
 
 -- the number that the scheme of a place was called by, and the scheme that served it
 abbrev pub number_at : State → ℕ → ℕ
 number_at s k = get_or s.numbers k 0
 
-abbrev pub serverAt : State → ℕ → ℕ
-serverAt s k = get_or s.servers k 0
+abbrev pub server_at : State → ℕ → ℕ
+server_at s k = get_or s.servers k 0
 
 -- as many of each part that a place or a number is looked up in as the type has
 pub record Sized (s : State) : Type 0 where

@@ -1,7 +1,7 @@
 // A fresh state from a stack size, and refusal 14.
 ghost use Rattle.std.specs.Prelude.{◌≡◌};
-ghost use Rattle.bindings.specs.Binding.{ownBinding};
-ghost use Rattle.state.specs.State.{badSize, freshState, GivesState};
+ghost use Rattle.bindings.specs.Binding.{own_binding};
+ghost use Rattle.state.specs.State.{is_bad_size, fresh_state, GivesState};
 
 use super::{State, StateReport};
 use text::frames::refusals::BAD_SIZE;
@@ -10,7 +10,7 @@ use text::frames::{Answer, refused};
 
 // Whether a stack size lies outside 1 to 32.
 pub fn bad_size(size: usize) -> bool
-    ensures { result ≡ badSize size }
+    ensures { result ≡ is_bad_size size }
 {
     if size == 0 {
         return true;
@@ -20,7 +20,7 @@ pub fn bad_size(size: usize) -> bool
 
 // Each number served by its own scheme.
 fn own_binding() -> [u8; SCHEMES]
-    ensures { result ≡ ownBinding }
+    ensures { result ≡ own_binding }
 {
     [1, 2, 3, 4, 5, 6, 7, 8, 9, 10, 11, 12, 13, 14, 15, 16]
 }
@@ -28,7 +28,7 @@ fn own_binding() -> [u8; SCHEMES]
 impl State {
     // Depth 1 and label 0 of scheme 1; a size outside 1 to 32 is refused with a state of nothing but 0.
     pub fn fresh(size: usize) -> StateReport
-        ensures { GivesState (freshState size) result }
+        ensures { GivesState (fresh_state size) result }
     {
         let places = [0u8; State::PLACES];
         let bits = [false; State::SCHEMES];

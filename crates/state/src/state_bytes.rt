@@ -2,7 +2,7 @@
 ghost use Rattle.std.specs.Prelude.{◌≡◌, map, ◌+◌, ◌≤◌, length, get_or};
 ghost use Rattle.words.specs.lists.Numbers.{range};
 ghost use Rattle.words.specs.lists.Sequences.{written};
-ghost use Rattle.state.specs.Bytes.{servingIn, servingByte, resultIn, resultByte, state_of, bytesOf};
+ghost use Rattle.state.specs.Bytes.{serving_in, serving_byte, result_in, result_byte, state_of, bytes_of};
 
 use crate::State;
 use crate::layout::*;
@@ -21,7 +21,7 @@ fn places_from(bytes: [u8; STATE_BYTES], from: usize) -> [u8; PLACES]
 }
 
 fn results_of(bytes: [u8; STATE_BYTES]) -> [bool; SCHEMES]
-    ensures { result ≡ map (resultIn bytes) (range 0 SCHEMES) }
+    ensures { result ≡ map (result_in bytes) (range 0 SCHEMES) }
 {
     let mut results = [false; SCHEMES];
     for k in 0..SCHEMES {
@@ -31,7 +31,7 @@ fn results_of(bytes: [u8; STATE_BYTES]) -> [bool; SCHEMES]
 }
 
 fn binding_of(bytes: [u8; STATE_BYTES]) -> [u8; SCHEMES]
-    ensures { result ≡ map (servingIn bytes) (range 0 SCHEMES) }
+    ensures { result ≡ map (serving_in bytes) (range 0 SCHEMES) }
 {
     let mut binding = [0u8; SCHEMES];
     for k in 0..SCHEMES {
@@ -72,7 +72,7 @@ fn put_places(out: &mut [u8], from: usize, values: [u8; PLACES])
 
 fn put_results(out: &mut [u8], s: State)
     requires { length out.old ≡ STATE_BYTES }
-    ensures { out.new ≡ written out.old RESULTS_FROM (map (resultByte s) (range 0 SCHEMES)) }
+    ensures { out.new ≡ written out.old RESULTS_FROM (map (result_byte s) (range 0 SCHEMES)) }
 {
     for k in 0..SCHEMES {
         out[RESULTS_FROM + k] = s.bits[k] as u8;
@@ -81,7 +81,7 @@ fn put_results(out: &mut [u8], s: State)
 
 fn put_binding(out: &mut [u8], s: State)
     requires { length out.old ≡ STATE_BYTES }
-    ensures { out.new ≡ written out.old SERVING_FROM (map (servingByte s) (range 0 SCHEMES)) }
+    ensures { out.new ≡ written out.old SERVING_FROM (map (serving_byte s) (range 0 SCHEMES)) }
 {
     for k in 0..SCHEMES {
         out[SERVING_FROM + k] = s.serving[k];
@@ -89,7 +89,7 @@ fn put_binding(out: &mut [u8], s: State)
 }
 
 pub fn bytes_of(s: State) -> [u8; STATE_BYTES]
-    ensures { result ≡ bytesOf s }
+    ensures { result ≡ bytes_of s }
 {
     let places = s.places;
     let numbers = s.numbers;

@@ -1,7 +1,7 @@
 // Size, depth and places of a state that is kept as 130 bytes, read and changed in place.
 ghost use Rattle.std.specs.Prelude.{◌≡◌, ◌<◌};
-ghost use Rattle.state.specs.State.{noPlaces, placeAt, number_at, serverAt};
-ghost use Rattle.state.specs.Changes.{withDepth, withPlace, withOpened, withPlaces, withAlone};
+ghost use Rattle.state.specs.State.{no_places, place_at, number_at, server_at};
+ghost use Rattle.state.specs.Changes.{with_depth, with_place, with_opened, with_places, with_alone};
 ghost use Rattle.state.specs.Bytes.{state_of};
 
 use crate::layout::*;
@@ -20,21 +20,21 @@ pub fn depth_of(bytes: &[u8; STATE_BYTES]) -> u8
 }
 
 pub fn put_depth(bytes: &mut [u8; STATE_BYTES], depth: u8)
-    ensures { state_of bytes.new ≡ withDepth (state_of bytes.old) depth }
+    ensures { state_of bytes.new ≡ with_depth (state_of bytes.old) depth }
 {
     put_byte(bytes, DEPTH, depth);
 }
 
 pub fn place_of(bytes: &[u8; STATE_BYTES], k: usize) -> u8
     requires { k < PLACES }
-    ensures { result ≡ placeAt (state_of bytes.now) k }
+    ensures { result ≡ place_at (state_of bytes.now) k }
 {
     bytes[PLACES_FROM + k]
 }
 
 pub fn put_place(bytes: &mut [u8; STATE_BYTES], k: usize, label: u8)
     requires { k < PLACES }
-    ensures { state_of bytes.new ≡ withPlace (state_of bytes.old) k label }
+    ensures { state_of bytes.new ≡ with_place (state_of bytes.old) k label }
 {
     put_byte(bytes, PLACES_FROM + k, label);
 }
@@ -50,7 +50,7 @@ pub fn number_of(bytes: &[u8; STATE_BYTES], k: usize) -> u8
 // The scheme that served it.
 pub fn server_of(bytes: &[u8; STATE_BYTES], k: usize) -> u8
     requires { k < PLACES }
-    ensures { result ≡ serverAt (state_of bytes.now) k }
+    ensures { result ≡ server_at (state_of bytes.now) k }
 {
     bytes[SERVERS_FROM + k]
 }
@@ -58,7 +58,7 @@ pub fn server_of(bytes: &[u8; STATE_BYTES], k: usize) -> u8
 // Place k with its label, number and server.
 pub fn open_place(bytes: &mut [u8; STATE_BYTES], k: usize, label: u8, number: u8, server: u8)
     requires { k < PLACES }
-    ensures { state_of bytes.new ≡ withOpened (state_of bytes.old) k label number server }
+    ensures { state_of bytes.new ≡ with_opened (state_of bytes.old) k label number server }
 {
     put_byte(bytes, PLACES_FROM + k, label);
     put_byte(bytes, NUMBERS_FROM + k, number);
@@ -67,7 +67,7 @@ pub fn open_place(bytes: &mut [u8; STATE_BYTES], k: usize, label: u8, number: u8
 
 // Every place 0, those above the depth too.
 fn clear_places(bytes: &mut [u8; STATE_BYTES])
-    ensures { state_of bytes.new ≡ withPlaces (state_of bytes.old) noPlaces noPlaces noPlaces }
+    ensures { state_of bytes.new ≡ with_places (state_of bytes.old) no_places no_places no_places }
 {
     for k in 0..State::PLACES {
         open_place(bytes, k, 0, 0, 0);
@@ -76,7 +76,7 @@ fn clear_places(bytes: &mut [u8; STATE_BYTES])
 
 // One scheme open, by its own number, at that label.
 pub fn put_alone(bytes: &mut [u8; STATE_BYTES], label: u8, scheme: u8)
-    ensures { state_of bytes.new ≡ withAlone (state_of bytes.old) label scheme }
+    ensures { state_of bytes.new ≡ with_alone (state_of bytes.old) label scheme }
 {
     clear_places(bytes);
     open_place(bytes, 0, label, scheme, scheme);

@@ -1,9 +1,9 @@
 // The results, and the schemes that serve, of a state that is kept as 130 bytes, read and changed in place.
 ghost use Rattle.std.specs.Prelude.{◌≡◌, ◌-◌, ◌≤◌, length};
 ghost use Rattle.results.specs.Results.{result_of};
-ghost use Rattle.bindings.specs.Binding.{served, rebound};
-ghost use Rattle.state.specs.Changes.{withServing, afterResult};
-ghost use Rattle.state.specs.Bytes.{state_of, bytesOf};
+ghost use Rattle.bindings.specs.Binding.{server_of, rebound_binding};
+ghost use Rattle.state.specs.Changes.{with_serving, state_after_result};
+ghost use Rattle.state.specs.Bytes.{state_of, bytes_of};
 
 use crate::layout::{RESULTS_FROM, SERVING_FROM, STATE_BYTES};
 use crate::put_byte;
@@ -35,7 +35,7 @@ pub fn result_of(bytes: &[u8; STATE_BYTES], h: u8) -> bool
 
 // The result of a tick of a scheme that number h called: 0 keeps its bit, 2 writes 1, any other 0; a number above 16 has no bit.
 pub fn put_result(bytes: &mut [u8; STATE_BYTES], res: u8, h: u8)
-    ensures { state_of bytes.new ≡ afterResult (state_of bytes.old) res h }
+    ensures { state_of bytes.new ≡ state_after_result (state_of bytes.old) res h }
 {
     if res == 0 {
         return;
@@ -51,7 +51,7 @@ pub fn put_result(bytes: &mut [u8; STATE_BYTES], res: u8, h: u8)
 pub fn serving_at(bytes: &[u8; STATE_BYTES], h: u8) -> u8
     requires le_h { 1 ≤ h }
     requires h_bound { h ≤ SCHEMES }
-    ensures { result ≡ served (state_of bytes.now).serving h }
+    ensures { result ≡ server_of (state_of bytes.now).serving h }
 {
     bytes[BEFORE_SERVING + (h as usize)]
 }
@@ -60,8 +60,8 @@ pub fn serving_at(bytes: &[u8; STATE_BYTES], h: u8) -> u8
 pub fn put_serving(bytes: &mut [u8; STATE_BYTES], h: usize, scheme: u8)
     requires le_h { 1 ≤ h }
     requires h_bound { h ≤ SCHEMES }
-    ensures { state_of bytes.new ≡ withServing (state_of bytes.old)
-        (rebound h scheme (state_of bytes.old).serving) }
+    ensures { state_of bytes.new ≡ with_serving (state_of bytes.old)
+        (rebound_binding h scheme (state_of bytes.old).serving) }
 {
     put_byte(bytes, BEFORE_SERVING + h, scheme);
 }
@@ -69,7 +69,7 @@ pub fn put_serving(bytes: &mut [u8; STATE_BYTES], h: usize, scheme: u8)
 // Each result byte as it is written: 0 or 1.
 fn tidy_bytes(bytes: &mut [u8])
     requires { length bytes.old ≡ STATE_BYTES }
-    ensures { bytes.new ≡ bytesOf (state_of bytes.old) }
+    ensures { bytes.new ≡ bytes_of (state_of bytes.old) }
 {
     for k in 0..SCHEMES {
         bytes[RESULTS_FROM + k] = (bytes[RESULTS_FROM + k] != 0) as u8;
@@ -77,7 +77,7 @@ fn tidy_bytes(bytes: &mut [u8])
 }
 
 pub fn tidy_results(bytes: &mut [u8; STATE_BYTES])
-    ensures { bytes.new ≡ bytesOf (state_of bytes.old) }
+    ensures { bytes.new ≡ bytes_of (state_of bytes.old) }
 {
     tidy_bytes(bytes);
 }

@@ -3,11 +3,11 @@ use Prim.Native.Nat.{ℕ}
 use mathlib.Core.Path.{◌≡◌, ap₂}
 use mathlib.Core.List.{List}
 use Rattle.text.specs.frames.Verdict.{Verdict}
-use Rattle.text.specs.frames.Answer.{bufferOn}
+use Rattle.text.specs.frames.Answer.{buffer_on}
 use Rattle.text.proofs.frames.Capitals.{ReadAlike}
 use Rattle.image.proofs.Alike.{image-verdict}
-use Rattle.tables.specs.Prepare.{noted, prepare}
+use Rattle.tables.specs.Prepare.{noted_table, prepare}
 
 pub prepares : (t u : List ℕ) → ReadAlike t u → (out : List ℕ) → prepare t out ≡ prepare u out
 unfolding prepare
-prepares t u A out = ap₂ (λ (v : Verdict) (c : List ℕ). bufferOn v 1 (λ _. noted c) out) (image-verdict t u A) A.contents
+prepares t u A out = ap₂ (λ (v : Verdict) (c : List ℕ). buffer_on v 1 (λ _. noted_table c) out) (image-verdict t u A) A.contents

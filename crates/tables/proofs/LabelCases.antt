@@ -7,73 +7,73 @@ use lib.Dec.{ltb}
 use borrow.Author.Tests.{lt-ltb, le-ltb}
 use Rattle.words.specs.lists.Pick.{pick}
 use Rattle.words.proofs.lists.Tests.{yes-pick, no-pick}
-use Rattle.text.specs.frames.Frame.{field, quadAt}
-use Rattle.image.specs.Image.{Label, homeLabel, returnLabel}
-use Rattle.image.specs.Decode.{schemeCount, lastLabel, labels_from, labelIn}
-use Rattle.tables.specs.Table.{labelOn, tableLabel}
+use Rattle.text.specs.frames.Frame.{field, quad_at}
+use Rattle.image.specs.Image.{Label, home_label, return_label}
+use Rattle.image.specs.Decode.{scheme_count, last_label, labels_from, label_in}
+use Rattle.tables.specs.Table.{label_on, table_label}
 use Rattle.tables.specs.inner.Asked.{entry_of}
 use Rattle.tables.proofs.TableReads.{label-on}
 use Rattle.tables.specs.inner.Labels.{NumberedLabel, Framed}
 
 -- ---- a label of the table
 module _ (b : List ℕ) (l : ℕ) where
-  pub label-home : l ≤ lastLabel b → l ≡ 0 → homeLabel ≡ tableLabel b l
-  label-home h e = sym (label-on b l h ∙ ap (labelOn b) e)
+  pub label-home : l ≤ last_label b → l ≡ 0 → home_label ≡ table_label b l
+  label-home h e = sym (label-on b l h ∙ ap (label_on b) e)
 
-  pub label-return : l ≤ lastLabel b → l ≡ 1 → returnLabel ≡ tableLabel b l
-  label-return h e = sym (label-on b l h ∙ ap (labelOn b) e)
+  pub label-return : l ≤ last_label b → l ≡ 1 → return_label ≡ table_label b l
+  label-return h e = sym (label-on b l h ∙ ap (label_on b) e)
 
 -- ---- a label with fields of its own
 -- its kind and its called scheme, as any table counts them
-abbrev kindOn : List ℕ → ℕ → ℕ
-kindOn b l = let k = (labelIn b l).kind in pick (ltb 2 k) 0 k
+abbrev kind_on : List ℕ → ℕ → ℕ
+kind_on b l = let k = (label_in b l).kind in pick (ltb 2 k) 0 k
 
-abbrev calledOn : List ℕ → ℕ → ℕ
-calledOn b l = let h = (labelIn b l).called in pick (ltb (schemeCount b) h) 0 h
+abbrev called_on : List ℕ → ℕ → ℕ
+called_on b l = let h = (label_in b l).called in pick (ltb (scheme_count b) h) 0 h
 
 abbrev numbered : List ℕ → ℕ → Label
-numbered b l = let x = labelIn b l in
-    record { kind = kindOn b l; called = calledOn b l; owner = x.owner; result = x.result; mask = x.mask }
+numbered b l = let x = label_in b l in
+    record { kind = kind_on b l; called = called_on b l; owner = x.owner; result = x.result; mask = x.mask }
 
-pub on-numbered : (b : List ℕ) (l : ℕ) → 2 ≤ l → labelOn b l ≡ numbered b l
+pub on-numbered : (b : List ℕ) (l : ℕ) → 2 ≤ l → label_on b l ≡ numbered b l
 on-numbered b zero h = absurd (omega arith)
 on-numbered b (suc zero) h = absurd (omega arith)
 on-numbered b (suc (suc l)) h = refl
 
 module _ (b : List ℕ) (l : ℕ) (asked : NumberedLabel b l) where
-  pub label-numbered : tableLabel b l ≡ numbered b l
+  pub label-numbered : table_label b l ≡ numbered b l
   label-numbered = label-on b l asked.high ∙ on-numbered b l asked.low
 
   module _ (k : ℕ) (found : k ≡ field b (labels_from b + l) 2) where
-    pub kind-high : 2 < k → 0 ≡ (tableLabel b l).kind
+    pub kind-high : 2 < k → 0 ≡ (table_label b l).kind
     kind-high h =
         sym (ap (λ (x : Label). x.kind) label-numbered
-        ∙ yes-pick (ltb 2 (labelIn b l).kind) 0 (labelIn b l).kind (lt-ltb 2 (labelIn b l).kind (omega arith)))
+        ∙ yes-pick (ltb 2 (label_in b l).kind) 0 (label_in b l).kind (lt-ltb 2 (label_in b l).kind (omega arith)))
 
-    pub kind-known : k ≤ 2 → k ≡ (tableLabel b l).kind
+    pub kind-known : k ≤ 2 → k ≡ (table_label b l).kind
     kind-known h =
         found ∙ sym (ap (λ (x : Label). x.kind) label-numbered
-        ∙ no-pick (ltb 2 (labelIn b l).kind) 0 (labelIn b l).kind (le-ltb 2 (labelIn b l).kind (omega arith)))
+        ∙ no-pick (ltb 2 (label_in b l).kind) 0 (label_in b l).kind (le-ltb 2 (label_in b l).kind (omega arith)))
 
-  module _ (k n : ℕ) (found : k ≡ field b (labels_from b + l) 3) (schemes : n ≡ schemeCount b) where
-    pub called-high : n < k → 0 ≡ (tableLabel b l).called
+  module _ (k n : ℕ) (found : k ≡ field b (labels_from b + l) 3) (schemes : n ≡ scheme_count b) where
+    pub called-high : n < k → 0 ≡ (table_label b l).called
     called-high h =
         sym (ap (λ (x : Label). x.called) label-numbered
-        ∙ yes-pick (ltb (schemeCount b) (labelIn b l).called) 0 (labelIn b l).called
-        (lt-ltb (schemeCount b) (labelIn b l).called (omega arith)))
+        ∙ yes-pick (ltb (scheme_count b) (label_in b l).called) 0 (label_in b l).called
+        (lt-ltb (scheme_count b) (label_in b l).called (omega arith)))
 
-    pub called-known : k ≤ n → k ≡ (tableLabel b l).called
+    pub called-known : k ≤ n → k ≡ (table_label b l).called
     called-known h =
         found ∙ sym (ap (λ (x : Label). x.called) label-numbered
-        ∙ no-pick (ltb (schemeCount b) (labelIn b l).called) 0 (labelIn b l).called
-        (le-ltb (schemeCount b) (labelIn b l).called (omega arith)))
+        ∙ no-pick (ltb (scheme_count b) (label_in b l).called) 0 (label_in b l).called
+        (le-ltb (scheme_count b) (label_in b l).called (omega arith)))
 
-  pub label-made : (k h o r m : ℕ) → k ≡ (tableLabel b l).kind → h ≡ (tableLabel b l).called → o ≡ field b (labels_from b + l) 4
-      → r ≡ field b (labels_from b + l) 5 → m ≡ (tableLabel b l).mask
-      → record { kind = k; called = h; owner = o; result = r; mask = m } ≡ tableLabel b l
+  pub label-made : (k h o r m : ℕ) → k ≡ (table_label b l).kind → h ≡ (table_label b l).called → o ≡ field b (labels_from b + l) 4
+      → r ≡ field b (labels_from b + l) 5 → m ≡ (table_label b l).mask
+      → record { kind = k; called = h; owner = o; result = r; mask = m } ≡ table_label b l
   label-made k h o r m p₁ p₂ p₃ p₄ p₅ =
-      let q₃ : o ≡ (tableLabel b l).owner = p₃ ∙ sym (ap (λ (x : Label). x.owner) label-numbered) in
-      let q₄ : r ≡ (tableLabel b l).result = p₄ ∙ sym (ap (λ (x : Label). x.result) label-numbered) in
+      let q₃ : o ≡ (table_label b l).owner = p₃ ∙ sym (ap (λ (x : Label). x.owner) label-numbered) in
+      let q₄ : r ≡ (table_label b l).result = p₄ ∙ sym (ap (λ (x : Label). x.result) label-numbered) in
       λ j. record { kind = p₁ j; called = p₂ j; owner = q₃ j; result = q₄ j; mask = p₅ j }
 
 -- ---- with H as the caller has it, n
@@ -84,8 +84,8 @@ module _ (b : List ℕ) (n l : ℕ) (asked : Framed b n l) where
   pub field-framed : (k r : ℕ) → r ≡ field b (n + l + 1) k → r ≡ field b (labels_from b + l) k
   field-framed k r e = e ∙ ap (λ (f : ℕ). field b f k) frame_at
 
-  pub mask-framed : (r : ℕ) → r ≡ quadAt b (n + l + 1) 6 → r ≡ (tableLabel b l).mask
-  mask-framed r e = e ∙ ap (λ (f : ℕ). quadAt b f 6) frame_at ∙ sym (ap (λ (x : Label). x.mask) (label-numbered b l asked.label))
+  pub mask-framed : (r : ℕ) → r ≡ quad_at b (n + l + 1) 6 → r ≡ (table_label b l).mask
+  mask-framed r e = e ∙ ap (λ (f : ℕ). quad_at b f 6) frame_at ∙ sym (ap (λ (x : Label). x.mask) (label-numbered b l asked.label))
 
 -- ---- entries
 module _ (b : List ℕ) (h e : ℕ) where

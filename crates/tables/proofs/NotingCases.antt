@@ -12,33 +12,33 @@ use Rattle.words.specs.lists.Numbers.{lowest}
 use Rattle.words.proofs.lists.Searches.{lowest-above, lowest-inside, lowest-from, lowest-alike}
 use Rattle.text.specs.frames.Frame.{size, field}
 use Rattle.text.specs.frames.Verdict.{fine}
-use Rattle.image.specs.Decode.{schemeCount, lastLabel, rows_from}
-use Rattle.image.specs.Check.{tableVerdict}
+use Rattle.image.specs.Decode.{scheme_count, last_label, rows_from}
+use Rattle.image.specs.Check.{table_verdict}
 use Rattle.image.proofs.Accepted.{counted}
-use Rattle.tables.specs.Prepare.{rowReached, firstFrame, notedTo, noted}
+use Rattle.tables.specs.Prepare.{is_row_reached, first_frame, noted_to, noted_table}
 use Rattle.tables.proofs.Noted.{rows_inside, place, noted-to-length, noted-to-row}
 
 -- a row that leaves no label from l on leaves none from a higher one on
-pub below_more : (b : List ℕ) (l m : ℕ) → l ≤ m → (f : ℕ) → rowReached b l f ≡ false → rowReached b m f ≡ false
+pub below_more : (b : List ℕ) (l m : ℕ) → l ≤ m → (f : ℕ) → is_row_reached b l f ≡ false → is_row_reached b m f ≡ false
 below_more b l m h f e = lt-leb m (field b f 1) (omega (arith, leb-false l (field b f 1) e))
 
 -- after l labels: no row before frame f leaves a label from l on
 pub record Notes (b out : List ℕ) (f l : ℕ) : Type 0 where
-  pub is : out ≡ notedTo b l
-  pub low : l ≤ lastLabel b + 1
+  pub is : out ≡ noted_to b l
+  pub low : l ≤ last_label b + 1
   pub behind : rows_from b ≤ f
   pub inside : f ≤ size b
-  pub rest : (m : ℕ) → l ≤ m → lowest (rowReached b m) f (size b - f) ≡ firstFrame b m
+  pub rest : (m : ℕ) → l ≤ m → lowest (is_row_reached b m) f (size b - f) ≡ first_frame b m
 
-module _ (b : List ℕ) (ok : tableVerdict b ≡ fine) where
+module _ (b : List ℕ) (ok : table_verdict b ≡ fine) where
   pub notes-start : (f : ℕ) → f ≡ rows_from b → Notes b b f 0
-  unfolding notedTo
+  unfolding noted_to
   notes-start f e = record {
     is = refl;
     low = omega arith;
     behind = omega arith;
     inside = omega (arith, rows_inside b ok);
-    rest = λ m _. ap (λ (x : ℕ). lowest (rowReached b m) x (size b - x)) e;
+    rest = λ m _. ap (λ (x : ℕ). lowest (is_row_reached b m) x (size b - x)) e;
   }
 
   module _ {out : List ℕ} {f l : ℕ} (t : Notes b out f l) where
@@ -46,44 +46,44 @@ module _ (b : List ℕ) (ok : tableVerdict b ≡ fine) where
     notes-length = ap (λ (xs : List ℕ). length xs) t.is ∙ noted-to-length b l
 
     -- the two bytes of the label that is next lie within the table
-    pub notes-place : (n at : ℕ) → n ≡ schemeCount b → at ≡ 10 * (1 + n + l) → l ≤ lastLabel b → at + 1 < length out
+    pub notes-place : (n at : ℕ) → n ≡ scheme_count b → at ≡ 10 * (1 + n + l) → l ≤ last_label b → at + 1 < length out
     notes-place n at schemes is h = omega (arith, notes-length, rows_inside b ok)
 
-    module _ {end next : ℕ} (all : end ≡ size b) (e : next ≡ lowest (rowReached out (l + 1)) f (end - f)) where
+    module _ {end next : ℕ} (all : end ≡ size b) (e : next ≡ lowest (is_row_reached out (l + 1)) f (end - f)) where
       -- the rows of the table are still as they were
-      same_rows : next ≡ lowest (rowReached b (l + 1)) f (size b - f)
+      same_rows : next ≡ lowest (is_row_reached b (l + 1)) f (size b - f)
       same_rows =
-          e ∙ ap (λ (n : ℕ). lowest (rowReached out (l + 1)) f (n - f)) all
-          ∙ lowest-alike (rowReached out (l + 1)) (rowReached b (l + 1)) f (size b - f)
+          e ∙ ap (λ (n : ℕ). lowest (is_row_reached out (l + 1)) f (n - f)) all
+          ∙ lowest-alike (is_row_reached out (l + 1)) (is_row_reached b (l + 1)) f (size b - f)
           (λ k h _. ap (λ (x : ℕ). leb (l + 1) x)
           (ap (λ (xs : List ℕ). field xs k 1) t.is ∙ noted-to-row b l k 1 t.low (omega (arith, t.behind)) (omega arith)))
 
       next-inside : next ≤ size b
-      next-inside = omega (arith, same_rows, lowest-inside (rowReached b (l + 1)) f (size b) t.inside)
+      next-inside = omega (arith, same_rows, lowest-inside (is_row_reached b (l + 1)) f (size b) t.inside)
 
       -- a frame's number fits two bytes
-      pub notes-small : lastLabel b < 256 → next < 65536
+      pub notes-small : last_label b < 256 → next < 65536
       notes-small h = omega (arith, (counted b ok).most, (counted b ok).few, (counted b ok).all, next-inside)
 
-      pub notes-turn : (at : ℕ) → at ≡ place b l → l ≤ lastLabel b
+      pub notes-turn : (at : ℕ) → at ≡ place b l → l ≤ last_label b
           → Notes b (set (set out at (next % 256)) (at + 1) (next / 256)) next (l + 1)
-      unfolding notedTo
+      unfolding noted_to
       notes-turn at is h =
-          let q : next ≡ firstFrame b (l + 1) = same_rows ∙ t.rest (l + 1) (omega arith) in
+          let q : next ≡ first_frame b (l + 1) = same_rows ∙ t.rest (l + 1) (omega arith) in
           record {
             is =
                 ap₂ (λ (n v : ℕ). set (set out n (v % 256)) (n + 1) (v / 256)) is q
-                ∙ ap (λ (xs : List ℕ). set (set xs (place b l) (firstFrame b (l + 1) % 256)) (place b l + 1) (firstFrame b (l + 1) / 256))
+                ∙ ap (λ (xs : List ℕ). set (set xs (place b l) (first_frame b (l + 1) % 256)) (place b l + 1) (first_frame b (l + 1) / 256))
                 t.is
-                ∙ ap (notedTo b) (sym (add-one l));
+                ∙ ap (noted_to b) (sym (add-one l));
             low = omega arith;
-            behind = omega (arith, t.behind, same_rows, lowest-above (rowReached b (l + 1)) f (size b - f));
+            behind = omega (arith, t.behind, same_rows, lowest-above (is_row_reached b (l + 1)) f (size b - f));
             inside = next-inside;
             rest = λ m k.
-                ap (λ (x : ℕ). lowest (rowReached b m) x (size b - x)) same_rows
-                ∙ lowest-from (rowReached b (l + 1)) f (size b) t.inside (rowReached b m) (below_more b (l + 1) m (omega arith))
+                ap (λ (x : ℕ). lowest (is_row_reached b m) x (size b - x)) same_rows
+                ∙ lowest-from (is_row_reached b (l + 1)) f (size b) t.inside (is_row_reached b m) (below_more b (l + 1) m (omega arith))
                 ∙ t.rest m (omega arith);
           }
 
-    pub notes-all : lastLabel b < l → out ≡ noted b
-    notes-all h = t.is ∙ ap (notedTo b) (let e : l ≡ lastLabel b + 1 = omega (arith, t.low) in e)
+    pub notes-all : last_label b < l → out ≡ noted_table b
+    notes-all h = t.is ∙ ap (noted_to b) (let e : l ≡ last_label b + 1 = omega (arith, t.low) in e)

@@ -7,11 +7,11 @@ use lib.ListN.{length, take, drop}
 use lib.Seq.{take_at, drop_at}
 use Rattle.words.specs.lists.Sequences.{over, written}
 use Rattle.words.proofs.lists.Written.{written-front}
-use Rattle.text.specs.frames.Frame.{frameCount, contents}
+use Rattle.text.specs.frames.Frame.{frame_count, contents}
 use Rattle.text.specs.frames.Verdict.{Verdict, fine, refused}
-use Rattle.text.specs.frames.Answer.{reply, judged, GivesBuffer}
-use Rattle.text.specs.frames.Check.{textVerdict}
-use Rattle.text.specs.frames.inner.Read.{readInto}
+use Rattle.text.specs.frames.Answer.{reply, verdict_reply, GivesBuffer}
+use Rattle.text.specs.frames.Check.{text_verdict}
+use Rattle.text.specs.frames.inner.Read.{read_buffer}
 use Rattle.text.specs.declared.frames.Answer.{Answer}
 use Rattle.text.specs.declared.frames.Answer.TheVariants.{Done, Refused}
 use Rattle.text.proofs.frames.Verdicts.{next-first}
@@ -19,63 +19,63 @@ use Rattle.text.proofs.frames.Chains.{refused-verdict, judged-fine}
 use Rattle.text.proofs.frames.Contents.{any-contents-length}
 use Rattle.text.proofs.frames.Reading.{read-fine}
 use Rattle.text.proofs.frames.Lent.{lent-refused, lent-short, lent-done}
-use Rattle.image.specs.Check.{tableVerdict, imageVerdict}
+use Rattle.image.specs.Check.{table_verdict, image_verdict}
 use Rattle.image.proofs.Accepted.{image-table}
 use Rattle.image_check.proofs.ReadCases.{good-text, front-contents, front_length}
-use Rattle.tables.specs.Prepare.{noted, prepare}
-use Rattle.tables.specs.inner.Prepares.{preparedInto, GivesPrepared}
+use Rattle.tables.specs.Prepare.{noted_table, prepare}
+use Rattle.tables.specs.inner.Prepares.{prepared_buffer, GivesPrepared}
 use Rattle.tables.proofs.Noted.{noted-length}
 
 -- ---- the image is refused
-module _ (t : List ℕ) (a : Answer) (gives : reply a ≡ judged (imageVerdict t) 0) (k i m : ℕ) (e : a ≡ Refused k i m) where
-  verdict : imageVerdict t ≡ refused k i
-  verdict = (refused-verdict a (imageVerdict t) 0 gives k i m e).0
+module _ (t : List ℕ) (a : Answer) (gives : reply a ≡ verdict_reply (image_verdict t) 0) (k i m : ℕ) (e : a ≡ Refused k i m) where
+  verdict : image_verdict t ≡ refused k i
+  verdict = (refused-verdict a (image_verdict t) 0 gives k i m e).0
 
-  pub table-refused : (old out : List ℕ) → out ≡ readInto 29831 t old → GivesPrepared t old a out
-  unfolding preparedInto
-  table-refused old out left = record { answered = gives; written = left ∙ rw (verdict, preparedInto) }
+  pub table-refused : (old out : List ℕ) → out ≡ read_buffer 29831 t old → GivesPrepared t old a out
+  unfolding prepared_buffer
+  table-refused old out left = record { answered = gives; written = left ∙ rw (verdict, prepared_buffer) }
 
   pub image-refused : (old : List ℕ) → GivesBuffer (prepare t old) a old
   unfolding prepare
-  image-refused old = lent-refused (imageVerdict t) 1 (λ _. noted (contents t)) old k i
-      verdict a (gives ∙ ap (λ (v : Verdict). judged v 0) verdict)
+  image-refused old = lent-refused (image_verdict t) 1 (λ _. noted_table (contents t)) old k i
+      verdict a (gives ∙ ap (λ (v : Verdict). verdict_reply v 0) verdict)
 
 -- ---- it is accepted
-module _ (t : List ℕ) (ok : imageVerdict t ≡ fine) where
+module _ (t : List ℕ) (ok : image_verdict t ≡ fine) where
   -- how many bytes its table has
   abbrev long : ℕ
-  long = 10 * frameCount t
+  long = 10 * frame_count t
 
-  passes : textVerdict 29831 t ≡ fine
-  unfolding imageVerdict
-  passes = next-first (textVerdict 29831 t) (λ _. tableVerdict (contents t)) ok
+  passes : text_verdict 29831 t ≡ fine
+  unfolding image_verdict
+  passes = next-first (text_verdict 29831 t) (λ _. table_verdict (contents t)) ok
 
   pub frames-few : long ≤ 12970
   frames-few = omega (arith, (good-text t passes).most)
 
-  pub prepared-fine : (old : List ℕ) → preparedInto t old ≡ over (noted (contents t)) old
-  unfolding preparedInto
-  prepared-fine old = rw (ok, preparedInto)
+  pub prepared-fine : (old : List ℕ) → prepared_buffer t old ≡ over (noted_table (contents t)) old
+  unfolding prepared_buffer
+  prepared-fine old = rw (ok, prepared_buffer)
 
-  pub prepared-length : length (noted (contents t)) ≡ long
+  pub prepared-length : length (noted_table (contents t)) ≡ long
   prepared-length = noted-length (contents t) ∙ any-contents-length t
 
   -- ---- in place: what was read, then noted
-  module _ (old table : List ℕ) (left : table ≡ readInto 29831 t old) where
+  module _ (old table : List ℕ) (left : table ≡ read_buffer 29831 t old) where
     read-front : take long table ≡ contents t
-    read-front = front-contents t old table (frameCount t) (good-text t passes) left
+    read-front = front-contents t old table (frame_count t) (good-text t passes) left
 
     pub read_length : long ≡ length (take long table)
-    read_length = front_length t old table (frameCount t) (good-text t passes) left
+    read_length = front_length t old table (frame_count t) (good-text t passes) left
 
-    pub read-accepted : tableVerdict (take long table) ≡ fine
-    read-accepted = ap tableVerdict read-front ∙ image-table t ok
+    pub read-accepted : table_verdict (take long table) ≡ fine
+    read-accepted = ap table_verdict read-front ∙ image-table t ok
 
-    pub table-noted : (new : List ℕ) → new ≡ noted (take long table) → GivesPrepared t old (Done 0) (new ++ drop long table)
+    pub table-noted : (new : List ℕ) → new ≡ noted_table (take long table) → GivesPrepared t old (Done 0) (new ++ drop long table)
     table-noted new e = record {
-      answered = judged-fine (imageVerdict t) 0 ok;
+      answered = judged-fine (image_verdict t) 0 ok;
       written =
-          ap₂ (λ (x y : List ℕ). x ++ y) (e ∙ ap noted read-front)
+          ap₂ (λ (x y : List ℕ). x ++ y) (e ∙ ap noted_table read-front)
           (ap (λ (x : List ℕ). drop long x) (left ∙ read-fine 29831 t old passes)
           ∙ drop_at (contents t) (drop (length (contents t)) old) long (any-contents-length t)
           ∙ ap (λ (n : ℕ). drop n old) (sym (noted-length (contents t))))
@@ -83,11 +83,11 @@ module _ (t : List ℕ) (ok : imageVerdict t ≡ fine) where
     }
 
   -- ---- the table at the front of the buffer that it was made in
-  module _ (old made : List ℕ) (is : made ≡ preparedInto t old) where
-    pub made-front : take long made ≡ noted (contents t)
+  module _ (old made : List ℕ) (is : made ≡ prepared_buffer t old) where
+    pub made-front : take long made ≡ noted_table (contents t)
     made-front =
         ap (λ (x : List ℕ). take long x) (is ∙ prepared-fine old)
-        ∙ take_at (noted (contents t)) (drop (length (noted (contents t))) old) long prepared-length
+        ∙ take_at (noted_table (contents t)) (drop (length (noted_table (contents t))) old) long prepared-length
 
     pub made-length : long ≡ length (take long made)
     made-length = sym (ap (λ (x : List ℕ). length x) made-front ∙ prepared-length)
@@ -96,12 +96,12 @@ module _ (t : List ℕ) (ok : imageVerdict t ≡ fine) where
         → GivesBuffer (prepare t given) (Done long) out
     unfolding prepare
     image-done given h out e =
-        lent-done (imageVerdict t) 1 (λ _. noted (contents t)) given ok (omega (arith, prepared-length))
+        lent-done (image_verdict t) 1 (λ _. noted_table (contents t)) given ok (omega (arith, prepared-length))
         long (omega (arith, prepared-length)) out
-        (e ∙ ap (written given 0) made-front ∙ written-front given (noted (contents t)))
+        (e ∙ ap (written given 0) made-front ∙ written-front given (noted_table (contents t)))
 
   pub image-short : (given : List ℕ) → length given < long → (a : Answer) → a ≡ Refused 16 0 0 → GivesBuffer (prepare t given) a given
   unfolding prepare
   image-short given h a e =
       subst (λ (x : Answer). GivesBuffer (prepare t given) x given) (sym e)
-      (lent-short (imageVerdict t) 1 (λ _. noted (contents t)) given ok (omega (arith, prepared-length)))
+      (lent-short (image_verdict t) 1 (λ _. noted_table (contents t)) given ok (omega (arith, prepared-length)))

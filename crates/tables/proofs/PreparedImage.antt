@@ -12,7 +12,7 @@ use lib.Seq.{get_or-take}
 use borrow.Author.Tests.{le-ltb, eq-eqb, ne_eqb}
 use Rattle.words.specs.lists.Pick.{pick}
 use Rattle.words.specs.lists.Numbers.{range}
-use Rattle.words.specs.lists.Sequences.{concatMap}
+use Rattle.words.specs.lists.Sequences.{concat_map}
 use Rattle.words.proofs.lists.Joins.{concat-alike}
 use Rattle.words.proofs.lists.Tests.{or-none, yes-pick, no-pick}
 use Rattle.words.proofs.lists.Ranges.{length-map-range}
@@ -21,14 +21,14 @@ use Rattle.text.specs.frames.Verdict.{fine}
 use Rattle.text.specs.frames.Answer.{success}
 use Rattle.text.proofs.frames.Lent.{Success, lent-told}
 use Rattle.text.proofs.frames.Contents.{any-contents-length}
-use Rattle.image.specs.Image.{Label, Row, nthRow}
-use Rattle.image.specs.Decode.{schemeCount, lastLabel, rowCount, rows_from, entryIn, labelIn, row_in, decoded, rowInFrame}
-use Rattle.image.specs.Check.{badCounts, badHandler, tableVerdict, imageVerdict}
-use Rattle.image.specs.inner.Sound.{SoundLabel, SoundRow, nthLabel}
+use Rattle.image.specs.Image.{Label, Row, nth_row}
+use Rattle.image.specs.Decode.{scheme_count, last_label, row_count, rows_from, entry_in, label_in, row_in, decoded_image, row_in_frame}
+use Rattle.image.specs.Check.{has_bad_counts, has_bad_handler, table_verdict, image_verdict}
+use Rattle.image.specs.inner.Sound.{SoundLabel, SoundRow, nth_label}
 use Rattle.image.proofs.Accepted.{label-read, row_read, labels-count, entries-count, rows-count}
 use Rattle.image.proofs.Accepted.{counted, accepted-sound, image-bytes, image-table}
-use Rattle.tables.specs.Prepare.{firstFrame, noted, prepare}
-use Rattle.tables.specs.Table.{table_end, badTable, labelOn, tableLabel, firstOn, endOn, rowOn, rowsOn, tableImage}
+use Rattle.tables.specs.Prepare.{first_frame, noted_table, prepare}
+use Rattle.tables.specs.Table.{table_end, is_bad_table, label_on, table_label, first_on, end_on, row_on, rows_on, table_image}
 use Rattle.tables.specs.inner.Asked.{Whole}
 use Rattle.tables.proofs.RangeLaws.{map-alike, map-moved, ranges-join}
 use Rattle.tables.proofs.Front.{handler-alike, counts-alike, alike-image, counts_same, bad-handler-same, end_same}
@@ -37,26 +37,26 @@ use Rattle.tables.proofs.Noted.{noted-length, noted-schemes, noted-last, noted-r
 use Rattle.tables.proofs.Noted.{noted-label, noted-late, noted-pair, noted-in}
 use Rattle.tables.proofs.FirstFrames.{first-low, first-inside, first-rises, first-own, first_two, first-last}
 
-module _ (b : List ℕ) (ok : tableVerdict b ≡ fine) where
+module _ (b : List ℕ) (ok : table_verdict b ≡ fine) where
   pub whole-size : table_end b ≡ size b
   whole-size = omega (arith, (counted b ok).all)
 
-  pub accepted-counts : badCounts b ≡ false
+  pub accepted-counts : has_bad_counts b ≡ false
   accepted-counts =
-      or-none (eqb (schemeCount b) 0 || ltb 16 (schemeCount b) || eqb (lastLabel b) 0) (ltb 1024 (rowCount b))
-      (or-none (eqb (schemeCount b) 0 || ltb 16 (schemeCount b)) (eqb (lastLabel b) 0)
-      (or-none (eqb (schemeCount b) 0) (ltb 16 (schemeCount b))
-      (ne_eqb (schemeCount b) 0 (λ z. omega (arith, (counted b ok).first))) (le-ltb 16 (schemeCount b) (counted b ok).most))
-      (ne_eqb (lastLabel b) 0 (λ z. omega (arith, (counted b ok).two))))
-      (le-ltb 1024 (rowCount b) (counted b ok).few)
+      or-none (eqb (scheme_count b) 0 || ltb 16 (scheme_count b) || eqb (last_label b) 0) (ltb 1024 (row_count b))
+      (or-none (eqb (scheme_count b) 0 || ltb 16 (scheme_count b)) (eqb (last_label b) 0)
+      (or-none (eqb (scheme_count b) 0) (ltb 16 (scheme_count b))
+      (ne_eqb (scheme_count b) 0 (λ z. omega (arith, (counted b ok).first))) (le-ltb 16 (scheme_count b) (counted b ok).most))
+      (ne_eqb (last_label b) 0 (λ z. omega (arith, (counted b ok).two))))
+      (le-ltb 1024 (row_count b) (counted b ok).few)
 
-  noted-counts : badCounts (noted b) ≡ badCounts b
-  noted-counts = counts-alike b (noted b) (noted-schemes b) (noted-last b) (noted-rows b)
+  noted-counts : has_bad_counts (noted_table b) ≡ has_bad_counts b
+  noted-counts = counts-alike b (noted_table b) (noted-schemes b) (noted-last b) (noted-rows b)
 
-  noted-handler-good : badHandler (noted b) ≡ false
-  noted-handler-good = handler-alike b (noted b) (noted-handler b) (noted-schemes b) ∙ (counted b ok).handler
+  noted-handler-good : has_bad_handler (noted_table b) ≡ false
+  noted-handler-good = handler-alike b (noted_table b) (noted-handler b) (noted-schemes b) ∙ (counted b ok).handler
 
-  pub noted-whole : length b % 10 ≡ 0 → Whole (noted b)
+  pub noted-whole : length b % 10 ≡ 0 → Whole (noted_table b)
   noted-whole e = record {
     counts = noted-counts ∙ accepted-counts;
     handler = noted-handler-good;
@@ -65,20 +65,20 @@ module _ (b : List ℕ) (ok : tableVerdict b ≡ fine) where
 
   module _ (bytes : (k : ℕ) → get_or b k 0 < 256) where
     -- ---- labels: what the image check lets pass is read as it stands
-    label-sound : (l : ℕ) → l ≤ lastLabel b → labelOn (noted b) l ≡ labelIn b l
+    label-sound : (l : ℕ) → l ≤ last_label b → label_on (noted_table b) l ≡ label_in b l
     label-sound zero h = sym (accepted-sound b ok bytes).home ∙ label-read b 0 h
     label-sound (suc zero) h = sym (accepted-sound b ok bytes).back ∙ label-read b 1 h
     label-sound (suc (suc l)) h =
         let m : ℕ = suc (suc l) in
-        let x : Label = labelIn b m in
-        let same : nthLabel (decoded b) m ≡ x = label-read b m h in
-        let s : SoundLabel (length (decoded b).entries) (nthLabel (decoded b) m) =
+        let x : Label = label_in b m in
+        let same : nth_label (decoded_image b) m ≡ x = label-read b m h in
+        let s : SoundLabel (length (decoded_image b).entries) (nth_label (decoded_image b) m) =
         (accepted-sound b ok bytes).others m (omega arith) (omega (arith, labels-count b)) in
         let k : x.kind ≤ 2 = omega (arith, s.kinds, ap (λ (y : Label). y.kind) same) in
-        let c : x.called ≤ schemeCount b = called-most m s same in
+        let c : x.called ≤ scheme_count b = called-most m s same in
         let e₁ : pick (ltb 2 x.kind) 0 x.kind ≡ x.kind = no-pick (ltb 2 x.kind) 0 x.kind (le-ltb 2 x.kind k) in
-        let e₂ : pick (ltb (schemeCount b) x.called) 0 x.called ≡ x.called =
-        no-pick (ltb (schemeCount b) x.called) 0 x.called (le-ltb (schemeCount b) x.called c) in
+        let e₂ : pick (ltb (scheme_count b) x.called) 0 x.called ≡ x.called =
+        no-pick (ltb (scheme_count b) x.called) 0 x.called (le-ltb (scheme_count b) x.called c) in
         ap₂ (λ (n : ℕ) (y : Label). record {
           kind = pick (ltb 2 y.kind) 0 y.kind;
           called = pick (ltb n y.called) 0 y.called;
@@ -88,28 +88,29 @@ module _ (b : List ℕ) (ok : tableVerdict b ≡ fine) where
         }) (noted-schemes b) (noted-label b m)
         ∙ (λ j. record { kind = e₁ j; called = e₂ j; owner = x.owner; result = x.result; mask = x.mask })
       where
-        called-most : (m : ℕ) → SoundLabel (length (decoded b).entries) (nthLabel (decoded b) m) → nthLabel (decoded b) m ≡ labelIn b m
-            → (labelIn b m).called ≤ schemeCount b
-        called-most m s same = go (ℕ_discrete (nthLabel (decoded b) m).kind 0)
+        called-most : (m : ℕ) → SoundLabel (length (decoded_image b).entries) (nth_label (decoded_image b) m)
+            → nth_label (decoded_image b) m ≡ label_in b m
+            → (label_in b m).called ≤ scheme_count b
+        called-most m s same = go (ℕ_discrete (nth_label (decoded_image b) m).kind 0)
           where
-            e : (nthLabel (decoded b) m).called ≡ (labelIn b m).called
+            e : (nth_label (decoded_image b) m).called ≡ (label_in b m).called
             e = ap (λ (y : Label). y.called) same
 
-            go : Dec ((nthLabel (decoded b) m).kind ≡ 0) → (labelIn b m).called ≤ schemeCount b
+            go : Dec ((nth_label (decoded_image b) m).kind ≡ 0) → (label_in b m).called ≤ scheme_count b
             go (yes z) = omega (arith, s.plain z, e)
             go (no z) = omega (arith, (s.calls z).1, e, entries-count b)
 
     -- ---- rows: between the noted frames of two labels stand the rows of the first
-    pub first-noted : (l : ℕ) → 1 ≤ l → l ≤ lastLabel b → firstOn (noted b) l ≡ firstFrame b l
-    first-noted l g h = noted-in b ok (l - 1) (omega arith) ∙ ap (firstFrame b) (let e : l - 1 + 1 ≡ l = omega arith in e)
+    pub first-noted : (l : ℕ) → 1 ≤ l → l ≤ last_label b → first_on (noted_table b) l ≡ first_frame b l
+    first-noted l g h = noted-in b ok (l - 1) (omega arith) ∙ ap (first_frame b) (let e : l - 1 + 1 ≡ l = omega arith in e)
 
-    pub end-noted : (l : ℕ) → l ≤ lastLabel b → endOn (noted b) l ≡ firstFrame b (l + 1)
+    pub end-noted : (l : ℕ) → l ≤ last_label b → end_on (noted_table b) l ≡ first_frame b (l + 1)
     end-noted l h = omega (arith, noted-in b ok l h, noted-end b, whole-size, first-inside b ok (l + 1))
 
     -- only a row of a function call's label has a function bit other than 2
-    bit-own : (l f : ℕ) → l ≤ lastLabel b → firstFrame b l ≤ f → f < firstFrame b (l + 1)
-        → pick (eqb (tableLabel (noted b) l).kind 2) (field b f 6) 2 ≡ field b f 6
-    bit-own l f m h g = go (ℕ_discrete (tableLabel (noted b) l).kind 2)
+    bit-own : (l f : ℕ) → l ≤ last_label b → first_frame b l ≤ f → f < first_frame b (l + 1)
+        → pick (eqb (table_label (noted_table b) l).kind 2) (field b f 6) 2 ≡ field b f 6
+    bit-own l f m h g = go (ℕ_discrete (table_label (noted_table b) l).kind 2)
       where
         k : ℕ
         k = f - rows_from b
@@ -117,110 +118,113 @@ module _ (b : List ℕ) (ok : tableVerdict b ≡ fine) where
         at : rows_from b + k ≡ f
         at = omega (arith, first-low b ok l)
 
-        few : k < rowCount b
+        few : k < row_count b
         few = omega (arith, first-low b ok l, first-inside b ok (l + 1), (counted b ok).all)
 
-        row : nthRow (decoded b) k ≡ rowInFrame b f
-        row = row_read b k few ∙ ap (rowInFrame b) at
+        row : nth_row (decoded_image b) k ≡ row_in_frame b f
+        row = row_read b k few ∙ ap (row_in_frame b) at
 
-        sound : SoundRow (decoded b) (nthRow (decoded b) k)
+        sound : SoundRow (decoded_image b) (nth_row (decoded_image b) k)
         sound = (accepted-sound b ok bytes).each k (omega (arith, few, rows-count b))
 
-        kind : (nthLabel (decoded b) (nthRow (decoded b) k).from).kind ≡ (tableLabel (noted b) l).kind
+        kind : (nth_label (decoded_image b) (nth_row (decoded_image b) k).from).kind ≡ (table_label (noted_table b) l).kind
         kind =
-            ap (λ (r : Row). (nthLabel (decoded b) r.from).kind) row
+            ap (λ (r : Row). (nth_label (decoded_image b) r.from).kind) row
             ∙ ap (λ (x : Label). x.kind)
-            (ap (nthLabel (decoded b)) (first-own b ok bytes l f h g) ∙ label-read b l m
-            ∙ sym (label-on (noted b) l (omega (arith, noted-last b)) ∙ label-sound l m))
+            (ap (nth_label (decoded_image b)) (first-own b ok bytes l f h g) ∙ label-read b l m
+            ∙ sym (label-on (noted_table b) l (omega (arith, noted-last b)) ∙ label-sound l m))
 
-        two : ((tableLabel (noted b) l).kind ≡ 2 → ⊥) → Dec ((nthRow (decoded b) k).bit < 2) → field b f 6 ≡ 2
+        two : ((table_label (noted_table b) l).kind ≡ 2 → ⊥) → Dec ((nth_row (decoded_image b) k).bit < 2) → field b f 6 ≡ 2
         two n (yes z) = absurd (n (sym kind ∙ sound.function z))
         two n (no z) = omega (arith, sound.bits, ap (λ (r : Row). r.bit) row)
 
-        go : Dec ((tableLabel (noted b) l).kind ≡ 2) → pick (eqb (tableLabel (noted b) l).kind 2) (field b f 6) 2 ≡ field b f 6
-        go (yes e) = yes-pick (eqb (tableLabel (noted b) l).kind 2) (field b f 6) 2 (eq-eqb (tableLabel (noted b) l).kind 2 e)
+        go : Dec ((table_label (noted_table b) l).kind ≡ 2) → pick (eqb (table_label (noted_table b) l).kind 2) (field b f 6) 2
+            ≡ field b f 6
+        go (yes e) = yes-pick (eqb (table_label (noted_table b) l).kind 2) (field b f 6) 2 (eq-eqb (table_label (noted_table b) l).kind 2 e)
         go (no e) =
-            no-pick (eqb (tableLabel (noted b) l).kind 2) (field b f 6) 2 (ne_eqb (tableLabel (noted b) l).kind 2 e)
-            ∙ sym (two e (dec_lt (nthRow (decoded b) k).bit 2))
+            no-pick (eqb (table_label (noted_table b) l).kind 2) (field b f 6) 2 (ne_eqb (table_label (noted_table b) l).kind 2 e)
+            ∙ sym (two e (dec_lt (nth_row (decoded_image b) k).bit 2))
 
-    row-own : (l f : ℕ) → l ≤ lastLabel b → firstFrame b l ≤ f → f < firstFrame b (l + 1) → rowOn (noted b) l f ≡ rowInFrame b f
+    row-own : (l f : ℕ) → l ≤ last_label b → first_frame b l ≤ f → f < first_frame b (l + 1) → row_on (noted_table b) l f ≡ row_in_frame b f
     row-own l f m h g =
         let e₁ : l ≡ field b f 1 = sym (first-own b ok bytes l f h g) in
-        let e₂ : pair_at (noted b) f 2 ≡ pair_at b f 2 = noted-pair b f 2 (omega arith) (omega arith) in
-        let e₄ : pair_at (noted b) f 4 ≡ pair_at b f 4 = noted-pair b f 4 (omega arith) (omega arith) in
-        let e₆ : pick (eqb (tableLabel (noted b) l).kind 2) (field (noted b) f 6) 2 ≡ field b f 6 =
-        ap (λ (n : ℕ). pick (eqb (tableLabel (noted b) l).kind 2) n 2) (noted-late b f 6 (omega arith) (omega arith))
+        let e₂ : pair_at (noted_table b) f 2 ≡ pair_at b f 2 = noted-pair b f 2 (omega arith) (omega arith) in
+        let e₄ : pair_at (noted_table b) f 4 ≡ pair_at b f 4 = noted-pair b f 4 (omega arith) (omega arith) in
+        let e₆ : pick (eqb (table_label (noted_table b) l).kind 2) (field (noted_table b) f 6) 2 ≡ field b f 6 =
+        ap (λ (n : ℕ). pick (eqb (table_label (noted_table b) l).kind 2) n 2) (noted-late b f 6 (omega arith) (omega arith))
         ∙ bit-own l f m h g in
-        let e₇ : field (noted b) f 7 ≡ field b f 7 = noted-late b f 7 (omega arith) (omega arith) in
+        let e₇ : field (noted_table b) f 7 ≡ field b f 7 = noted-late b f 7 (omega arith) (omega arith) in
         λ j. record { from = e₁ j; care = e₂ j; values = e₄ j; bit = e₆ j; next = e₇ j }
 
-    pub rows-own : (l : ℕ) → 1 ≤ l → l ≤ lastLabel b
-        → rowsOn (noted b) l ≡ map (rowInFrame b) (range (firstFrame b l) (firstFrame b (l + 1) - firstFrame b l))
+    pub rows-own : (l : ℕ) → 1 ≤ l → l ≤ last_label b
+        → rows_on (noted_table b) l ≡ map (row_in_frame b) (range (first_frame b l) (first_frame b (l + 1) - first_frame b l))
     rows-own l g h =
-        ap₂ (λ (f e : ℕ). map (rowOn (noted b) l) (range f (e - f))) (first-noted l g h) (end-noted l h)
-        ∙ map-alike (rowOn (noted b) l) (rowInFrame b) (firstFrame b l) (firstFrame b (l + 1) - firstFrame b l)
+        ap₂ (λ (f e : ℕ). map (row_on (noted_table b) l) (range f (e - f))) (first-noted l g h) (end-noted l h)
+        ∙ map-alike (row_on (noted_table b) l) (row_in_frame b) (first_frame b l) (first_frame b (l + 1) - first_frame b l)
         (λ f p q. row-own l f h p (omega (arith, first-rises b ok l)))
 
     -- the rows of n labels from 2 on stand in the frames from the first one of rows on
-    rows-to : (n : ℕ) → n < lastLabel b
-        → concatMap (rowsOn (noted b)) (range 2 n) ≡ map (rowInFrame b) (range (rows_from b) (firstFrame b (2 + n) - rows_from b))
+    rows-to : (n : ℕ) → n < last_label b
+        → concat_map (rows_on (noted_table b)) (range 2 n) ≡ map (row_in_frame b)
+        (range (rows_from b) (first_frame b (2 + n) - rows_from b))
     rows-to n h =
-        concat-alike (rowsOn (noted b)) (λ l. map (rowInFrame b) (range (firstFrame b l) (firstFrame b (l + 1) - firstFrame b l)))
+        concat-alike (rows_on (noted_table b)) (λ l. map (row_in_frame b)
+        (range (first_frame b l) (first_frame b (l + 1) - first_frame b l)))
         2 n (λ l p q. rows-own l (omega arith) (omega arith))
-        ∙ ranges-join (rowInFrame b) (firstFrame b) (first-rises b ok) 2 n
-        ∙ ap (λ (f : ℕ). map (rowInFrame b) (range f (firstFrame b (2 + n) - f))) (first_two b ok bytes)
+        ∙ ranges-join (row_in_frame b) (first_frame b) (first-rises b ok) 2 n
+        ∙ ap (λ (f : ℕ). map (row_in_frame b) (range f (first_frame b (2 + n) - f))) (first_two b ok bytes)
 
-    rows_all : concatMap (rowsOn (noted b)) (range 2 (lastLabel b - 1)) ≡ map (row_in b) (range 0 (rowCount b))
+    rows_all : concat_map (rows_on (noted_table b)) (range 2 (last_label b - 1)) ≡ map (row_in b) (range 0 (row_count b))
     rows_all =
-        rows-to (lastLabel b - 1) (omega (arith, (counted b ok).two))
-        ∙ ap (λ (e : ℕ). map (rowInFrame b) (range (rows_from b) (e - rows_from b)))
-        (ap (firstFrame b) (let e : 2 + (lastLabel b - 1) ≡ lastLabel b + 1 = omega (arith, (counted b ok).two) in e)
+        rows-to (last_label b - 1) (omega (arith, (counted b ok).two))
+        ∙ ap (λ (e : ℕ). map (row_in_frame b) (range (rows_from b) (e - rows_from b)))
+        (ap (first_frame b) (let e : 2 + (last_label b - 1) ≡ last_label b + 1 = omega (arith, (counted b ok).two) in e)
         ∙ first-last b ok bytes)
-        ∙ ap (λ (n : ℕ). map (rowInFrame b) (range (rows_from b) n))
-        (let e : size b - rows_from b ≡ rowCount b = omega (arith, (counted b ok).all) in e)
-        ∙ map-moved (rowInFrame b) (row_in b) (rows_from b) 0 (rowCount b) (λ k. ap (λ (n : ℕ). row_in b n) (sym (zero-add k)))
+        ∙ ap (λ (n : ℕ). map (row_in_frame b) (range (rows_from b) n))
+        (let e : size b - rows_from b ≡ row_count b = omega (arith, (counted b ok).all) in e)
+        ∙ map-moved (row_in_frame b) (row_in b) (rows_from b) 0 (row_count b) (λ k. ap (λ (n : ℕ). row_in b n) (sym (zero-add k)))
 
     -- so that those of label l begin behind those of the labels below it
-    pub prepared-starts : (l : ℕ) → 2 ≤ l → l ≤ lastLabel (noted b)
-        → firstOn (noted b) l ≡ rows_from (noted b) + length (concatMap (rowsOn (noted b)) (range 2 (l - 2)))
+    pub prepared-starts : (l : ℕ) → 2 ≤ l → l ≤ last_label (noted_table b)
+        → first_on (noted_table b) l ≡ rows_from (noted_table b) + length (concat_map (rows_on (noted_table b)) (range 2 (l - 2)))
     prepared-starts l h g =
-        let m : l ≤ lastLabel b = omega (arith, noted-last b) in
-        let few : length (concatMap (rowsOn (noted b)) (range 2 (l - 2))) ≡ firstFrame b (2 + (l - 2)) - rows_from b =
+        let m : l ≤ last_label b = omega (arith, noted-last b) in
+        let few : length (concat_map (rows_on (noted_table b)) (range 2 (l - 2))) ≡ first_frame b (2 + (l - 2)) - rows_from b =
         ap (λ (rs : List Row). length rs) (rows-to (l - 2) (omega arith))
-        ∙ length-map-range (rowInFrame b) (rows_from b) (firstFrame b (2 + (l - 2)) - rows_from b) in
-        let same : firstFrame b (2 + (l - 2)) ≡ firstFrame b l = ap (firstFrame b) (omega arith) in
+        ∙ length-map-range (row_in_frame b) (rows_from b) (first_frame b (2 + (l - 2)) - rows_from b) in
+        let same : first_frame b (2 + (l - 2)) ≡ first_frame b l = ap (first_frame b) (omega arith) in
         omega (arith, first-noted l (omega arith) m, noted-rows-from b, few, same, first-low b ok l)
 
-    pub prepared-image : tableImage (noted b) ≡ decoded b
-    unfolding tableImage decoded
+    pub prepared-image : table_image (noted_table b) ≡ decoded_image b
+    unfolding table_image decoded_image
     prepared-image =
-        let e : map (entryIn (noted b)) (range 1 (schemeCount (noted b))) ≡ map (entryIn b) (range 1 (schemeCount b)) =
-        ap (λ (n : ℕ). map (entryIn (noted b)) (range 1 n)) (noted-schemes b)
-        ∙ map-alike (entryIn (noted b)) (entryIn b) 1 (schemeCount b) (λ h p q. noted-late b h 2 (omega arith) (omega arith)) in
-        let l : map (labelOn (noted b)) (range 0 (lastLabel (noted b) + 1)) ≡ map (labelIn b) (range 0 (lastLabel b + 1)) =
-        ap (λ (n : ℕ). map (labelOn (noted b)) (range 0 (n + 1))) (noted-last b)
-        ∙ map-alike (labelOn (noted b)) (labelIn b) 0 (lastLabel b + 1) (λ k p q. label-sound k (omega arith)) in
-        let r : concatMap (rowsOn (noted b)) (range 2 (lastLabel (noted b) - 1)) ≡ map (row_in b) (range 0 (rowCount b)) =
-        ap (λ (n : ℕ). concatMap (rowsOn (noted b)) (range 2 (n - 1))) (noted-last b) ∙ rows_all in
+        let e : map (entry_in (noted_table b)) (range 1 (scheme_count (noted_table b))) ≡ map (entry_in b) (range 1 (scheme_count b)) =
+        ap (λ (n : ℕ). map (entry_in (noted_table b)) (range 1 n)) (noted-schemes b)
+        ∙ map-alike (entry_in (noted_table b)) (entry_in b) 1 (scheme_count b) (λ h p q. noted-late b h 2 (omega arith) (omega arith)) in
+        let l : map (label_on (noted_table b)) (range 0 (last_label (noted_table b) + 1)) ≡ map (label_in b) (range 0 (last_label b + 1)) =
+        ap (λ (n : ℕ). map (label_on (noted_table b)) (range 0 (n + 1))) (noted-last b)
+        ∙ map-alike (label_on (noted_table b)) (label_in b) 0 (last_label b + 1) (λ k p q. label-sound k (omega arith)) in
+        let r : concat_map (rows_on (noted_table b)) (range 2 (last_label (noted_table b) - 1)) ≡ map (row_in b) (range 0 (row_count b)) =
+        ap (λ (n : ℕ). concat_map (rows_on (noted_table b)) (range 2 (n - 1))) (noted-last b) ∙ rows_all in
         λ j. record { handler = noted-handler b j; entries = e j; labels = l j; rows = r j }
 
 -- ---- over the entry: what it wrote, with anything behind it
 pub record PreparedEntry (t old : List ℕ) (n : ℕ) : Type 0 where
-  pub accepted : imageVerdict t ≡ fine
+  pub accepted : image_verdict t ≡ fine
   pub count : n ≡ length (contents t)
   pub room : n ≤ length old
-  pub good : (m : ℕ) → n ≤ m → badTable (take m (prepare t old).buffer) ≡ false
-  pub image : (m : ℕ) → n ≤ m → tableImage (take m (prepare t old).buffer) ≡ decoded (contents t)
+  pub good : (m : ℕ) → n ≤ m → is_bad_table (take m (prepare t old).buffer) ≡ false
+  pub image : (m : ℕ) → n ≤ m → table_image (take m (prepare t old).buffer) ≡ decoded_image (contents t)
 
 module _ (t old : List ℕ) (n : ℕ) (e : (prepare t old).reply ≡ success n) where
   abbrev b : List ℕ
   b = contents t
 
-  told : Success (imageVerdict t) 1 (noted b) old n (prepare t old)
+  told : Success (image_verdict t) 1 (noted_table b) old n (prepare t old)
   unfolding prepare
-  told = lent-told (imageVerdict t) 1 (λ _. noted b) old n e
+  told = lent-told (image_verdict t) 1 (λ _. noted_table b) old n e
 
-  table-fine : tableVerdict b ≡ fine
+  table-fine : table_verdict b ≡ fine
   table-fine = image-table t told.accepted
 
   count-is : n ≡ length b
@@ -238,27 +242,28 @@ module _ (t old : List ℕ) (n : ℕ) (e : (prepare t old).reply ≡ success n) 
       arith,
       length-take m (prepare t old).buffer,
       ap (λ (xs : List ℕ). length xs) told.buffer,
-      length-append (noted b) (drop (length (noted b)) old),
+      length-append (noted_table b) (drop (length (noted_table b)) old),
       noted-length b,
       count-is,
     )
 
-    same : (k : ℕ) → k < 10 * table_end (noted b) → get_or c k 0 ≡ get_or (noted b) k 0
+    same : (k : ℕ) → k < 10 * table_end (noted_table b) → get_or c k 0 ≡ get_or (noted_table b) k 0
     same k g =
         get_or-take m (prepare t old).buffer k 0 (omega (arith, noted-end b, end_is))
         ∙ ap (λ (xs : List ℕ). get_or xs k 0) told.buffer
-        ∙ get_or-append (noted b) (drop (length (noted b)) old) 0 k (omega (arith, noted-end b, end_is, noted-length b, count-is))
+        ∙ get_or-append (noted_table b) (drop (length (noted_table b)) old) 0 k
+        (omega (arith, noted-end b, end_is, noted-length b, count-is))
 
-    taken-good : badTable c ≡ false
+    taken-good : is_bad_table c ≡ false
     taken-good =
-        or-none (badCounts c || badHandler c) (ltb (size c) (table_end c))
-        (or-none (badCounts c) (badHandler c)
-        (counts_same (noted b) c same ∙ noted-counts b table-fine ∙ accepted-counts b table-fine)
-        (bad-handler-same (noted b) c same ∙ noted-handler-good b table-fine))
-        (le-ltb (size c) (table_end c) (omega (arith, end_same (noted b) c same, noted-end b, end_is, long)))
+        or-none (has_bad_counts c || has_bad_handler c) (ltb (size c) (table_end c))
+        (or-none (has_bad_counts c) (has_bad_handler c)
+        (counts_same (noted_table b) c same ∙ noted-counts b table-fine ∙ accepted-counts b table-fine)
+        (bad-handler-same (noted_table b) c same ∙ noted-handler-good b table-fine))
+        (le-ltb (size c) (table_end c) (omega (arith, end_same (noted_table b) c same, noted-end b, end_is, long)))
 
-    taken-image : tableImage c ≡ decoded b
-    taken-image = alike-image (noted b) c same ∙ prepared-image b table-fine (image-bytes t told.accepted)
+    taken-image : table_image c ≡ decoded_image b
+    taken-image = alike-image (noted_table b) c same ∙ prepared-image b table-fine (image-bytes t told.accepted)
 
   pub prepared : PreparedEntry t old n
   prepared = record {

@@ -5,7 +5,7 @@ use mathlib.Core.List.{List, ◌∷◌, ◌++◌, map}
 use native.Mathlib.Nat.{add-zero}
 use native.Mathlib.Omega.{arith}
 use Rattle.words.specs.lists.Numbers.{range}
-use Rattle.words.specs.lists.Sequences.{concatMap}
+use Rattle.words.specs.lists.Sequences.{concat_map}
 use Rattle.words.proofs.lists.Ranges.{range-append, map-append}
 
 pub map-alike : {A : Type 0} (f g : ℕ → A) (a n : ℕ) → ((k : ℕ) → a ≤ k → k < a + n → f k ≡ g k) → map f (range a n) ≡ map g (range a n)
@@ -39,8 +39,8 @@ module _ {A : Type 0} (g : ℕ → A) (bound : ℕ → ℕ) (up : (l : ℕ) → 
       ∙ ap (λ (i : ℕ). range a (c - a) ++ range i (e - c)) (let z : a + (c - a) ≡ c = omega arith in z)
       ))
 
-  pub ranges-join : (i n : ℕ) → concatMap (λ l. between (bound l) (bound (l + 1))) (range i n) ≡ between (bound i) (bound (i + n))
-  unfolding concatMap
+  pub ranges-join : (i n : ℕ) → concat_map (λ l. between (bound l) (bound (l + 1))) (range i n) ≡ between (bound i) (bound (i + n))
+  unfolding concat_map
   ranges-join i zero =
       let e : bound (i + 0) ≡ bound i = ap bound (add-zero i) in
       let z : bound (i + 0) - bound i ≡ 0 = omega arith in

@@ -3,28 +3,28 @@ use Rattle.std.specs.Prelude.{ℕ, zero, suc, ◌+◌, ◌*◌, ◌-◌, ◌/◌
 use Rattle.words.specs.lists.Numbers.{lowest}
 use Rattle.text.specs.declared.frames.sizes.TheConstants.{FRAME}
 use Rattle.text.specs.frames.Frame.{size, field, contents}
-use Rattle.text.specs.frames.Answer.{BufferOutcome, bufferOn}
+use Rattle.text.specs.frames.Answer.{BufferOutcome, buffer_on}
 use Rattle.image.specs.declared.layout.TheConstants.{FROM}
-use Rattle.image.specs.Decode.{lastLabel, labels_from, rows_from}
-use Rattle.image.specs.Check.{imageVerdict}
+use Rattle.image.specs.Decode.{last_label, labels_from, rows_from}
+use Rattle.image.specs.Check.{image_verdict}
 
 -- the row in frame f leaves label l or one above it; the first such frame, or the end of the table
-abbrev pub rowReached : List ℕ → ℕ → ℕ → Bool
-rowReached b l f = leb l (field b f FROM)
+abbrev pub is_row_reached : List ℕ → ℕ → ℕ → Bool
+is_row_reached b l f = leb l (field b f FROM)
 
-abbrev pub firstFrame : List ℕ → ℕ → ℕ
-firstFrame b l = lowest (rowReached b l) (rows_from b) (size b - rows_from b)
+abbrev pub first_frame : List ℕ → ℕ → ℕ
+first_frame b l = lowest (is_row_reached b l) (rows_from b) (size b - rows_from b)
 
 -- bytes 0 and 1 of a label's frame say only where it stands; in the first n labels they hold the frame at which its rows end instead, low
 -- byte first
-unfoldable pub notedTo : List ℕ → ℕ → List ℕ
-notedTo b zero = b
-notedTo b (suc l) =
-    let at = FRAME * (labels_from b + l) in let end = firstFrame b (l + 1) in set (set (notedTo b l) at (end % 256)) (at + 1) (end / 256)
+unfoldable pub noted_to : List ℕ → ℕ → List ℕ
+noted_to b zero = b
+noted_to b (suc l) =
+    let at = FRAME * (labels_from b + l) in let end = first_frame b (l + 1) in set (set (noted_to b l) at (end % 256)) (at + 1) (end / 256)
 
-abbrev pub noted : List ℕ → List ℕ
-noted b = notedTo b (lastLabel b + 1)
+abbrev pub noted_table : List ℕ → List ℕ
+noted_table b = noted_to b (last_label b + 1)
 
 -- the whole entry: what the image check tries, then 16; counts bytes
 unfoldable pub prepare : List ℕ → List ℕ → BufferOutcome
-prepare t old = bufferOn (imageVerdict t) 1 (λ _. noted (contents t)) old
+prepare t old = buffer_on (image_verdict t) 1 (λ _. noted_table (contents t)) old

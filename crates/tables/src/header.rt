@@ -1,7 +1,7 @@
 // Refusal 11 of a table, which only its header and its length decide.
 ghost use Rattle.std.specs.Prelude.{◌≡◌, ◌*◌, ◌<◌};
 ghost use Rattle.text.specs.frames.Frame.{size};
-ghost use Rattle.tables.specs.Table.{table_end, badTable};
+ghost use Rattle.tables.specs.Table.{table_end, is_bad_table};
 
 use image::layout::ROW_COUNT;
 use image::{bad_counts, bad_handler, pair, rows_from};
@@ -25,7 +25,7 @@ pub fn table_length(table: &[u8]) -> usize
 
 // Refusal 11.
 pub fn bad_table(table: &[u8]) -> bool
-    ensures { result ≡ badTable table.now }
+    ensures { result ≡ is_bad_table table.now }
 {
     if table.len() < FRAME {
         return true;

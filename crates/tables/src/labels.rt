@@ -2,10 +2,10 @@
 ghost use Rattle.std.specs.Prelude.{◌≡◌, ◌+◌, ◌≤◌, ◌<◌};
 ghost use Rattle.text.specs.declared.frames.sizes.TheConstants.{FRAME};
 ghost use Rattle.text.specs.frames.Frame.{field};
-ghost use Rattle.image.specs.Decode.{schemeCount, lastLabel, handlerIn, labels_from};
-ghost use Rattle.tables.specs.Table.{tableLabel};
+ghost use Rattle.image.specs.Decode.{scheme_count, last_label, handler_in, labels_from};
+ghost use Rattle.tables.specs.Table.{table_label};
 ghost use Rattle.tables.specs.inner.Asked.{Whole, entry_of};
-ghost use Rattle.tables.specs.inner.Labels.{asLabel, Framed};
+ghost use Rattle.tables.specs.inner.Labels.{as_label, Framed};
 
 use super::Label;
 use image::layout::*;
@@ -24,7 +24,7 @@ pub fn field_of(table: &[u8], schemes: u8, l: usize, k: usize) -> u8
 // A kind above 2 counts as 0.
 pub fn kind_read(table: &[u8], schemes: u8, l: usize) -> u8
     requires { Framed table.now schemes l }
-    ensures { result ≡ (tableLabel table.now l).kind }
+    ensures { result ≡ (table_label table.now l).kind }
 {
     let kind = field_of(table, schemes, l, TICK_KIND);
     if FUNCTION_CALL < kind {
@@ -36,7 +36,7 @@ pub fn kind_read(table: &[u8], schemes: u8, l: usize) -> u8
 // A scheme above H counts as none.
 fn called_read(table: &[u8], schemes: u8, l: usize) -> u8
     requires { Framed table.now schemes l }
-    ensures { result ≡ (tableLabel table.now l).called }
+    ensures { result ≡ (table_label table.now l).called }
 {
     let called = field_of(table, schemes, l, CALLED);
     if schemes < called {
@@ -47,7 +47,7 @@ fn called_read(table: &[u8], schemes: u8, l: usize) -> u8
 
 fn mask_read(table: &[u8], schemes: u8, l: usize) -> u32
     requires { Framed table.now schemes l }
-    ensures { result ≡ (tableLabel table.now l).mask }
+    ensures { result ≡ (table_label table.now l).mask }
 {
     quad(table, (schemes as usize) + l + 1, LABEL_MASK)
 }
@@ -55,7 +55,7 @@ fn mask_read(table: &[u8], schemes: u8, l: usize) -> u32
 // A label of 2 to M, by its frame.
 pub fn label_read(table: &[u8], schemes: u8, l: usize) -> Label
     requires { Framed table.now schemes l }
-    ensures { asLabel result ≡ tableLabel table.now l }
+    ensures { as_label result ≡ table_label table.now l }
 {
     Label {
         kind: kind_read(table, schemes, l),
@@ -69,7 +69,7 @@ pub fn label_read(table: &[u8], schemes: u8, l: usize) -> Label
 // H, the number of schemes.
 pub fn scheme_count(table: &[u8]) -> u8
     requires { Whole table.now }
-    ensures { result ≡ schemeCount table.now }
+    ensures { result ≡ scheme_count table.now }
 {
     byte(table, 0, SCHEME_COUNT)
 }
@@ -77,7 +77,7 @@ pub fn scheme_count(table: &[u8]) -> u8
 // M, the highest label.
 pub fn last_label(table: &[u8]) -> u8
     requires { Whole table.now }
-    ensures { result ≡ lastLabel table.now }
+    ensures { result ≡ last_label table.now }
 {
     byte(table, 0, LAST_LABEL)
 }
@@ -85,7 +85,7 @@ pub fn last_label(table: &[u8]) -> u8
 // The handler's scheme, 0 for none.
 pub fn handler_of(table: &[u8]) -> u8
     requires { Whole table.now }
-    ensures { result ≡ handlerIn table.now }
+    ensures { result ≡ handler_in table.now }
 {
     byte(table, 0, HANDLER)
 }
@@ -93,7 +93,7 @@ pub fn handler_of(table: &[u8]) -> u8
 // Label l: 0 and 1 are the same in every image, and one above M holds nothing.
 pub fn label_of(table: &[u8], l: u8) -> Label
     requires { Whole table.now }
-    ensures { asLabel result ≡ tableLabel table.now l }
+    ensures { as_label result ≡ table_label table.now l }
 {
     if last_label(table) < l {
         return Label {
@@ -126,7 +126,7 @@ pub fn label_of(table: &[u8], l: u8) -> Label
 // The entry of scheme h of 0 to H; 0 counts as 1.
 pub fn entry_of(table: &[u8], h: u8) -> u8
     requires whole { Whole table.now }
-    requires h_bound { h ≤ schemeCount table.now }
+    requires h_bound { h ≤ scheme_count table.now }
     ensures { result ≡ entry_of table.now h }
 {
     if h == 0 {

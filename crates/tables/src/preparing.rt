@@ -1,12 +1,12 @@
 // An image prepared once for all its ticks: checked, decoded, and where the rows of each label end noted in its frame.
 ghost use Rattle.std.specs.Prelude.{◌≡◌, ◌≤◌, ◌-◌, length};
 ghost use Rattle.text.specs.frames.Answer.{GivesBuffer};
-ghost use Rattle.tables.specs.Prepare.{prepare, rowReached, noted};
+ghost use Rattle.tables.specs.Prepare.{prepare, is_row_reached, noted_table};
 ghost use Rattle.tables.specs.inner.Prepares.{GivesPrepared};
 ghost use Rattle.words.specs.lists.Numbers.{lowest};
 ghost use Rattle.text.specs.frames.Frame.{size};
 ghost use Rattle.text.specs.frames.Verdict.{fine};
-ghost use Rattle.image.specs.Check.{tableVerdict};
+ghost use Rattle.image.specs.Check.{table_verdict};
 
 use image::layout::{FROM, LAST_LABEL, SCHEME_COUNT};
 use image::{byte, rows_from};
@@ -18,7 +18,7 @@ use text::frames::{Answer, put_bytes, refused};
 // The lowest frame from first up to end whose row leaves label l or one above it, or end.
 fn skip_below(table: &[u8], first: usize, end: usize, l: usize) -> usize
     requires { (first ≤ end) × (end ≤ size table.now) }
-    ensures { result ≡ lowest (rowReached table.now l) first (end - first) }
+    ensures { result ≡ lowest (is_row_reached table.now l) first (end - first) }
 {
     let mut f = first;
     while f < end {
@@ -32,8 +32,8 @@ fn skip_below(table: &[u8], first: usize, end: usize, l: usize) -> usize
 
 // Into the frame of each label goes the first frame of rows of a label above it.
 fn note_rows(table: &mut [u8])
-    requires { tableVerdict table.old ≡ fine }
-    ensures { table.new ≡ noted table.old }
+    requires { table_verdict table.old ≡ fine }
+    ensures { table.new ≡ noted_table table.old }
 {
     let end = table.len() / FRAME;
     let labels = 1 + (byte(table, 0, SCHEME_COUNT) as usize);

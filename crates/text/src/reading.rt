@@ -1,10 +1,10 @@
 // A text read in one pass: refusals 1 to 3, and the bytes of its frames, ten of each, into a lent buffer.
 ghost use Rattle.std.specs.Prelude.{◌≡◌, ◌*◌, ◌≤◌, length};
 ghost use Rattle.text.specs.declared.frames.sizes.TheConstants.{FRAME};
-ghost use Rattle.text.specs.frames.Frame.{frameCount};
-ghost use Rattle.text.specs.frames.Check.{textVerdict};
-ghost use Rattle.text.specs.frames.inner.Read.{readInto};
-ghost use Rattle.text.specs.frames.Answer.{reply, judged};
+ghost use Rattle.text.specs.frames.Frame.{frame_count};
+ghost use Rattle.text.specs.frames.Check.{text_verdict};
+ghost use Rattle.text.specs.frames.inner.Read.{read_buffer};
+ghost use Rattle.text.specs.frames.Answer.{reply, verdict_reply};
 ghost use Rattle.text.specs.reading.inner.Reads.{FramesRead};
 
 use crate::frame_reading::read_frame;
@@ -45,8 +45,8 @@ fn read_frames(text: &[u8], n: usize, out: &mut [u8]) -> Lowest
 // No entry point: the caller lends scratch space, which 2 and 3 leave changed.
 pub fn read_text(text: &[u8], most: usize, out: &mut [u8]) -> Answer
     requires { FRAME * most ≤ LINE * length out.old }
-    ensures result_value { reply result ≡ judged (textVerdict most text.now) (frameCount text.now) }
-    ensures out_after { out.new ≡ readInto most text.now out.old }
+    ensures result_value { reply result ≡ verdict_reply (text_verdict most text.now) (frame_count text.now) }
+    ensures out_after { out.new ≡ read_buffer most text.now out.old }
 {
     if bad_length(LINE, most, text.len()) {
         return refused(BAD_LENGTH, 0);

@@ -14,12 +14,12 @@ use Rattle.results.specs.Results.{Results}
 use Rattle.image.specs.Image.{Image}
 use Rattle.image.specs.inner.Sound.{Reaches, SoundImage}
 use Rattle.state.specs.declared.State.{State}
-use Rattle.state.specs.State.{bottomAlone, label_at, placeAt, number_at, serverAt}
-use Rattle.state.specs.Changes.{withPlace, with_bits}
-use Rattle.fitness.specs.Fitness.{mayCarry, filledPlace, isOwnBottom, badBottom}
-use Rattle.fitness.proofs.Fitness.{carry, Fits}
-use Rattle.ticks.specs.Tick.{dropping, alone, opening}
-use Rattle.ticks.proofs.Leads.{carry-leads, bottomBy, bottom-leads}
+use Rattle.state.specs.State.{bottom_alone, label_at, place_at, number_at, server_at}
+use Rattle.state.specs.Changes.{with_place, with_bits}
+use Rattle.fitness.specs.Fitness.{is_able_to_carry, is_filled_place, is_own_bottom, has_bad_bottom}
+use Rattle.fitness.proofs.Fitness.{is_carried, Fits}
+use Rattle.ticks.specs.Tick.{popped_state, state_alone, opened_state}
+use Rattle.ticks.proofs.Leads.{carry-leads, has_bad_bottom_by, bottom-leads}
 
 -- a list of 32 with one element set, at that place and at others
 module _ (xs : List ℕ) (d x : ℕ) where
@@ -32,29 +32,31 @@ module _ (xs : List ℕ) (d x : ℕ) where
   set_other : (k : ℕ) → (k ≡ d → ⊥) → get_or (set xs d x) k 0 ≡ get_or xs k 0
   set_other k ne = get_or-set_other xs d k x 0 ne
 
-pub only_zero : (l k : ℕ) → 1 ≤ k → k < 32 → get_or (bottomAlone l) k 0 ≡ 0
+pub only_zero : (l k : ℕ) → 1 ≤ k → k < 32 → get_or (bottom_alone l) k 0 ≡ 0
 only_zero l zero a b = absurd (omega arith)
 only_zero l (suc k) a b = get_or-replicate 31 k 0 0 (omega arith)
 
 module _ (i : Image) (sound : SoundImage i) where
   -- ---- states that hold the same at some places
   module _ (s t : State) where
-    same-carry : (k : ℕ) → placeAt t k ≡ placeAt s k → number_at t (k + 1) ≡ number_at s (k + 1) → serverAt t (k + 1) ≡ serverAt s (k + 1)
-        → placeAt t (k + 1) ≡ placeAt s (k + 1) → carry i t k ≡ carry i s k
+    same-carry : (k : ℕ) → place_at t k ≡ place_at s k → number_at t (k + 1) ≡ number_at s (k + 1)
+        → server_at t (k + 1) ≡ server_at s (k + 1)
+        → place_at t (k + 1) ≡ place_at s (k + 1) → is_carried i t k ≡ is_carried i s k
     same-carry k a b c d =
-        ap₂ (λ (x y : ℕ). mayCarry i x y (serverAt t (k + 1)) (placeAt t (k + 1))) a b
-        ∙ ap₂ (λ (x y : ℕ). mayCarry i (placeAt s k) (number_at s (k + 1)) x y) c d
+        ap₂ (λ (x y : ℕ). is_able_to_carry i x y (server_at t (k + 1)) (place_at t (k + 1))) a b
+        ∙ ap₂ (λ (x y : ℕ). is_able_to_carry i (place_at s k) (number_at s (k + 1)) x y) c d
 
-    same-bottom : placeAt t 0 ≡ placeAt s 0 → number_at t 0 ≡ number_at s 0 → serverAt t 0 ≡ serverAt s 0 → badBottom i t ≡ badBottom i s
+    same-bottom : place_at t 0 ≡ place_at s 0 → number_at t 0 ≡ number_at s 0 → server_at t 0 ≡ server_at s 0
+        → has_bad_bottom i t ≡ has_bad_bottom i s
     same-bottom a b c =
-        ap (λ (x : ℕ). bottomBy i sound x (isOwnBottom t 1) (isOwnBottom t i.handler)) a
-        ∙ ap₂ (λ (x y : ℕ). bottomBy i sound (placeAt s 0) (eqb x 1 && eqb y 1) (eqb x i.handler && eqb y i.handler)) b c
+        ap (λ (x : ℕ). has_bad_bottom_by i sound x (is_own_bottom t 1) (is_own_bottom t i.handler)) a
+        ∙ ap₂ (λ (x y : ℕ). has_bad_bottom_by i sound (place_at s 0) (eqb x 1 && eqb y 1) (eqb x i.handler && eqb y i.handler)) b c
 
-    same-filled : (k : ℕ) → placeAt t k ≡ placeAt s k → number_at t k ≡ number_at s k
-        → serverAt t k ≡ serverAt s k → filledPlace t k ≡ filledPlace s k
+    same-filled : (k : ℕ) → place_at t k ≡ place_at s k → number_at t k ≡ number_at s k
+        → server_at t k ≡ server_at s k → is_filled_place t k ≡ is_filled_place s k
     same-filled k a b c =
-        ap₂ (λ (x y : ℕ). not (eqb x 0 && eqb y 0 && eqb (serverAt t k) 0)) a b
-        ∙ ap (λ (x : ℕ). not (eqb (placeAt s k) 0 && eqb (number_at s k) 0 && eqb x 0)) c
+        ap₂ (λ (x y : ℕ). not (eqb x 0 && eqb y 0 && eqb (server_at t k) 0)) a b
+        ∙ ap (λ (x : ℕ). not (eqb (place_at s k) 0 && eqb (number_at s k) 0 && eqb x 0)) c
 
   -- bits are free
   pub bits_fit : (s : State) (b : Results) → Fits i s → Fits i (with_bits s b)
@@ -70,8 +72,8 @@ module _ (i : Image) (sound : SoundImage i) where
     serves = f.serves;
   }
 
-  pub replaced-fits : (s : State) (u : ℕ) → Fits i s → (placeAt s (s.depth - 1) ≡ 1 → ⊥)
-      → Reaches i (label_at i (placeAt s (s.depth - 1))).owner u → Fits i (withPlace s (s.depth - 1) u)
+  pub replaced-fits : (s : State) (u : ℕ) → Fits i s → (place_at s (s.depth - 1) ≡ 1 → ⊥)
+      → Reaches i (label_at i (place_at s (s.depth - 1))).owner u → Fits i (with_place s (s.depth - 1) u)
   replaced-fits s u f ne r = record {
     whole = record {
       places = length-set s.places (s.depth - 1) u ∙ f.whole.places;
@@ -90,35 +92,36 @@ module _ (i : Image) (sound : SoundImage i) where
   }
     where
       t : State
-      t = withPlace s (s.depth - 1) u
+      t = with_place s (s.depth - 1) u
 
-      same : (k : ℕ) → k ≡ s.depth - 1 → placeAt t k ≡ u
+      same : (k : ℕ) → k ≡ s.depth - 1 → place_at t k ≡ u
       same = set_at s.places (s.depth - 1) u f.whole.places (omega (arith, f.some, f.most, f.small))
 
-      other : (k : ℕ) → (k ≡ s.depth - 1 → ⊥) → placeAt t k ≡ placeAt s k
+      other : (k : ℕ) → (k ≡ s.depth - 1 → ⊥) → place_at t k ≡ place_at s k
       other = set_other s.places (s.depth - 1) u
 
-      labels : (k : ℕ) → k < s.depth → (k < s.depth - 1) ⊎ (s.depth - 1 ≤ k) → placeAt t k < length i.labels
+      labels : (k : ℕ) → k < s.depth → (k < s.depth - 1) ⊎ (s.depth - 1 ≤ k) → place_at t k < length i.labels
       labels k l (inl p) = subst (λ (x : ℕ). x < length i.labels) (sym (other k (λ q. omega arith))) (f.labels k l)
       labels k l (inr p) = subst (λ (x : ℕ). x < length i.labels) (sym (same k (omega arith))) r.inside
 
-      carries : (k : ℕ) → k + 1 < s.depth → (k + 1 < s.depth - 1) ⊎ (s.depth - 1 ≤ k + 1) → carry i t k ≡ true
+      carries : (k : ℕ) → k + 1 < s.depth → (k + 1 < s.depth - 1) ⊎ (s.depth - 1 ≤ k + 1) → is_carried i t k ≡ true
       carries k l (inl p) = same-carry s t k (other k (λ q. omega arith)) refl refl (other (k + 1) (λ q. omega arith)) ∙ f.carries k l
       carries k l (inr p) = let q : k + 1 ≡ s.depth - 1 = omega arith in
-          ap₂ (λ (x y : ℕ). mayCarry i x (number_at s (k + 1)) (serverAt s (k + 1)) y) (other k (λ z. omega arith)) (same (k + 1) q)
-          ∙ carry-leads i sound (placeAt s k) (number_at s (k + 1)) (serverAt s (k + 1)) (placeAt s (k + 1)) u
-          (λ z. ne (ap (placeAt s) (sym q) ∙ z)) (f.carries k l)
-          (subst (λ (j : ℕ). Reaches i (label_at i (placeAt s j)).owner u) (sym q) r)
+          ap₂ (λ (x y : ℕ). is_able_to_carry i x (number_at s (k + 1)) (server_at s (k + 1)) y) (other k (λ z. omega arith))
+          (same (k + 1) q)
+          ∙ carry-leads i sound (place_at s k) (number_at s (k + 1)) (server_at s (k + 1)) (place_at s (k + 1)) u
+          (λ z. ne (ap (place_at s) (sym q) ∙ z)) (f.carries k l)
+          (subst (λ (j : ℕ). Reaches i (label_at i (place_at s j)).owner u) (sym q) r)
 
-      bottom : (0 < s.depth - 1) ⊎ (s.depth - 1 ≤ 0) → badBottom i t ≡ false
+      bottom : (0 < s.depth - 1) ⊎ (s.depth - 1 ≤ 0) → has_bad_bottom i t ≡ false
       bottom (inl p) = same-bottom s t (other 0 (λ q. omega arith)) refl refl ∙ f.bottom
       bottom (inr p) = let q : s.depth - 1 ≡ 0 = omega arith in
-          ap (λ (x : ℕ). bottomBy i sound x (isOwnBottom s 1) (isOwnBottom s i.handler)) (same 0 (sym q))
-          ∙ bottom-leads i sound (placeAt s (s.depth - 1)) u (isOwnBottom s 1) (isOwnBottom s i.handler) ne
-          (ap (λ (j : ℕ). bottomBy i sound (placeAt s j) (isOwnBottom s 1) (isOwnBottom s i.handler)) q ∙ f.bottom) r
+          ap (λ (x : ℕ). has_bad_bottom_by i sound x (is_own_bottom s 1) (is_own_bottom s i.handler)) (same 0 (sym q))
+          ∙ bottom-leads i sound (place_at s (s.depth - 1)) u (is_own_bottom s 1) (is_own_bottom s i.handler) ne
+          (ap (λ (j : ℕ). has_bad_bottom_by i sound (place_at s j) (is_own_bottom s 1) (is_own_bottom s i.handler)) q ∙ f.bottom) r
 
   pub opening-fits : (s : State) (l h k : ℕ) (b : Results) → Fits i s → s.depth < s.size → l < length i.labels
-      → mayCarry i (placeAt s (s.depth - 1)) h k l ≡ true → Fits i (opening s l h k b)
+      → is_able_to_carry i (place_at s (s.depth - 1)) h k l ≡ true → Fits i (opened_state s l h k b)
   opening-fits s l h k b f room low c = record {
     whole = record {
       places = length-set s.places d l ∙ f.whole.places;
@@ -143,26 +146,26 @@ module _ (i : Image) (sound : SoundImage i) where
       d = s.depth
 
       t : State
-      t = opening s l h k b
+      t = opened_state s l h k b
 
       deep : d < 32
       deep = omega (arith, f.small)
 
-      place : (j : ℕ) → (j ≡ d → ⊥) → placeAt t j ≡ placeAt s j
+      place : (j : ℕ) → (j ≡ d → ⊥) → place_at t j ≡ place_at s j
       place = set_other s.places d l
 
       number : (j : ℕ) → (j ≡ d → ⊥) → number_at t j ≡ number_at s j
       number = set_other s.numbers d h
 
-      server : (j : ℕ) → (j ≡ d → ⊥) → serverAt t j ≡ serverAt s j
+      server : (j : ℕ) → (j ≡ d → ⊥) → server_at t j ≡ server_at s j
       server = set_other s.servers d k
 
-      labels : (j : ℕ) → (j < d) ⊎ (d ≤ j) → j < suc d → placeAt t j < length i.labels
+      labels : (j : ℕ) → (j < d) ⊎ (d ≤ j) → j < suc d → place_at t j < length i.labels
       labels j (inl p) m = subst (λ (x : ℕ). x < length i.labels) (sym (place j (λ q. omega arith))) (f.labels j p)
       labels j (inr p) m = subst (λ (x : ℕ). x < length i.labels)
           (sym (set_at s.places d l f.whole.places deep j (omega arith))) low
 
-      carries : (j : ℕ) → (j + 1 < d) ⊎ (d ≤ j + 1) → j + 1 < suc d → carry i t j ≡ true
+      carries : (j : ℕ) → (j + 1 < d) ⊎ (d ≤ j + 1) → j + 1 < suc d → is_carried i t j ≡ true
       carries j (inl p) m =
           same-carry s t j (place j (λ q. omega arith)) (number (j + 1) (λ q. omega arith)) (server (j + 1) (λ q. omega arith))
           (place (j + 1) (λ q. omega arith))
@@ -170,13 +173,13 @@ module _ (i : Image) (sound : SoundImage i) where
       carries j (inr p) m =
           let q : j + 1 ≡ d = omega arith in
           let z : j ≡ d - 1 = omega arith in
-          ap₂ (λ (x y : ℕ). mayCarry i x y (serverAt t (j + 1)) (placeAt t (j + 1)))
-          (place j (λ e. omega arith) ∙ ap (placeAt s) z) (set_at s.numbers d h f.whole.numbers deep (j + 1) q)
-          ∙ ap₂ (mayCarry i (placeAt s (d - 1)) h) (set_at s.servers d k f.whole.servers deep (j + 1) q)
+          ap₂ (λ (x y : ℕ). is_able_to_carry i x y (server_at t (j + 1)) (place_at t (j + 1)))
+          (place j (λ e. omega arith) ∙ ap (place_at s) z) (set_at s.numbers d h f.whole.numbers deep (j + 1) q)
+          ∙ ap₂ (is_able_to_carry i (place_at s (d - 1)) h) (set_at s.servers d k f.whole.servers deep (j + 1) q)
           (set_at s.places d l f.whole.places deep (j + 1) q)
           ∙ c
 
-  pub dropping-fits : (s : State) (b : Results) → Fits i s → 2 ≤ s.depth → Fits i (dropping s b)
+  pub dropping-fits : (s : State) (b : Results) → Fits i s → 2 ≤ s.depth → Fits i (popped_state s b)
   dropping-fits s b f two = record {
     whole = record {
       places = length-set s.places d 0 ∙ f.whole.places;
@@ -201,36 +204,36 @@ module _ (i : Image) (sound : SoundImage i) where
       d = s.depth - 1
 
       t : State
-      t = dropping s b
+      t = popped_state s b
 
       deep : d < 32
       deep = omega (arith, f.most, f.small)
 
-      place : (k : ℕ) → (k ≡ d → ⊥) → placeAt t k ≡ placeAt s k
+      place : (k : ℕ) → (k ≡ d → ⊥) → place_at t k ≡ place_at s k
       place = set_other s.places d 0
 
       number : (k : ℕ) → (k ≡ d → ⊥) → number_at t k ≡ number_at s k
       number = set_other s.numbers d 0
 
-      server : (k : ℕ) → (k ≡ d → ⊥) → serverAt t k ≡ serverAt s k
+      server : (k : ℕ) → (k ≡ d → ⊥) → server_at t k ≡ server_at s k
       server = set_other s.servers d 0
 
-      zero-at : (k : ℕ) → k < 32 → (k < s.depth) ⊎ (s.depth ≤ k) → d ≤ k → filledPlace t k ≡ false
+      zero-at : (k : ℕ) → k < 32 → (k < s.depth) ⊎ (s.depth ≤ k) → d ≤ k → is_filled_place t k ≡ false
       zero-at k m (inl p) l = let q : k ≡ d = omega arith in
-          ap₂ (λ (x y : ℕ). not (eqb x 0 && eqb y 0 && eqb (serverAt t k) 0))
+          ap₂ (λ (x y : ℕ). not (eqb x 0 && eqb y 0 && eqb (server_at t k) 0))
           (set_at s.places d 0 f.whole.places deep k q) (set_at s.numbers d 0 f.whole.numbers deep k q)
           ∙ ap (λ (x : ℕ). not (eqb x 0)) (set_at s.servers d 0 f.whole.servers deep k q)
       zero-at k m (inr p) l = same-filled s t k (place k (λ q. omega arith)) (number k (λ q. omega arith)) (server k (λ q. omega arith))
           ∙ f.above k p m
 
   pub alone-fits : (s : State) (l h : ℕ) (b : Results) → Fits i s → l < length i.labels
-      → bottomBy i sound l (eqb h 1 && eqb h 1) (eqb h i.handler && eqb h i.handler) ≡ false → Fits i (alone s l h b)
+      → has_bad_bottom_by i sound l (eqb h 1 && eqb h 1) (eqb h i.handler && eqb h i.handler) ≡ false → Fits i (state_alone s l h b)
   alone-fits s l h b f low o = record {
     whole = record { places = refl; serving = f.whole.serving; numbers = refl; servers = refl };
     small = f.small;
     some = omega arith;
     most = omega (arith, f.some, f.most);
-    labels = λ k m. subst (λ (j : ℕ). get_or (bottomAlone l) j 0 < length i.labels) (let z : 0 ≡ k = omega arith in z) low;
+    labels = λ k m. subst (λ (j : ℕ). get_or (bottom_alone l) j 0 < length i.labels) (let z : 0 ≡ k = omega arith in z) low;
     carries = λ k m. absurd (omega arith);
     bottom = o;
     above = λ k a m. ap₂ (λ (x y : ℕ). not (eqb x 0 && eqb y 0 && eqb y 0)) (only_zero l k a m) (only_zero h k a m);

@@ -11,26 +11,26 @@ use native.Mathlib.Omega.{arith}
 use borrow.Author.Tests.{eqb-true, eqb-false, eq-eqb, lt-leb}
 use Rattle.words.specs.lists.Pick.{pick}
 use Rattle.words.proofs.lists.Tests.{no_both, or_l, or_cases, and_l, and_r, and-true, and-false, split}
-use Rattle.results.specs.Results.{Results, result_of, withResult, cleared}
-use Rattle.bindings.specs.Binding.{served}
+use Rattle.results.specs.Results.{Results, result_of, with_result, cleared_results}
+use Rattle.bindings.specs.Binding.{server_of}
 use Rattle.results.proofs.ResultLaws.{cleared-own, cleared-keeps, result-keeps}
 use Rattle.text.specs.frames.Frame.{contents}
-use Rattle.image.specs.Layout.{tickKind}
-use Rattle.image.specs.Image.{Image, Label, no_label, returnLabel}
-use Rattle.image.specs.Decode.{decoded}
+use Rattle.image.specs.Layout.{tick_kind}
+use Rattle.image.specs.Image.{Image, Label, no_label, return_label}
+use Rattle.image.specs.Decode.{decoded_image}
 use Rattle.image.specs.inner.Sound.{SoundImage}
 use Rattle.image.proofs.Accepted.{image-sound}
-use Rattle.rows.specs.Rows.{bestRow, Found, found, missing, leads}
+use Rattle.rows.specs.Rows.{best_row, Found, found, missing, lead_of}
 use Rattle.state.specs.declared.State.{State}
-use Rattle.state.specs.State.{label_at, entry_at, placeAt, number_at}
+use Rattle.state.specs.State.{label_at, entry_at, place_at, number_at}
 use Rattle.state.specs.Changes.{with_bits}
-use Rattle.fitness.specs.Fitness.{is_call, ofHandler}
+use Rattle.fitness.specs.Fitness.{is_call, is_of_handler}
 use Rattle.fitness.proofs.FitCases.{kind-call}
 use Rattle.fitness.proofs.Fitness.{Fits, unfits}
-use Rattle.ticks.specs.Tick.{rowLeads, MachineTick, finished, stopped, moved, alone, dropping}
-use Rattle.ticks.specs.Tick.{keepsFull, pushed, popped, tickBy, tick, top_of}
-use Rattle.ticks.specs.Functions.{findsFull, CallClears, Drop, Drops, machineWritesOne, returnsAt}
-use Rattle.ticks.specs.Functions.{MachineUnwritten, none, more, bindingChanged, returnTick, ZeroRow}
+use Rattle.ticks.specs.Tick.{row_leads, MachineTick, finished, stopped, moved_tick, state_alone, popped_state}
+use Rattle.ticks.specs.Tick.{is_full_stack_kept, pushed_tick, popped_tick, tick_by, tick, top_of}
+use Rattle.ticks.specs.Functions.{is_at_full_call, CallClears, Drop, Drops, is_machine_write_of_one, is_return_at}
+use Rattle.ticks.specs.Functions.{MachineUnwritten, none, more, binding_changed, return_tick, ZeroRow}
 
 -- ---- a finished call
 abbrev Cleared : ℕ → MachineTick → Type 0
@@ -50,19 +50,19 @@ call-clears i s call w m code t e =
     h = x.called
 
     b : Results
-    b = withResult x.result (number_at s (s.depth - 1)) s.bits
+    b = with_result x.result (number_at s (s.depth - 1)) s.bits
 
     drops : (m : ℕ) (r : Bool) → Cleared i.handler (pick r (stopped 17)
-        (finished m 96 (alone s (entry_at i i.handler) i.handler (cleared i.handler b))))
+        (finished m 96 (state_alone s (entry_at i i.handler) i.handler (cleared_results i.handler b))))
     drops m true = tt
     drops m false = cleared-own i.handler b
 
-    pushes : (m code : ℕ) (r : Bool) → Cleared (pick r i.handler h) (pushed i s m code h (served s.serving h) b r)
-    pushes m code true = drops m (keepsFull i s)
+    pushes : (m code : ℕ) (r : Bool) → Cleared (pick r i.handler h) (pushed_tick i s m code h (server_of s.serving h) b r)
+    pushes m code true = drops m (is_full_stack_kept i s)
     pushes m code false = cleared-own h b
 
     go : (eqb x.kind 1 ≡ true) ⊎ (eqb x.kind 2 ≡ true)
-        → Cleared (pick (leb s.size s.depth) i.handler h) (tickBy i s w (top_of s) x b (tickKind x.kind))
+        → Cleared (pick (leb s.size s.depth) i.handler h) (tick_by i s w (top_of s) x b (tick_kind x.kind))
     go (inl p) = rw (eqb-true x.kind 1 p) (pushes x.mask (16 + h) (leb s.size s.depth))
     go (inr p) = rw (eqb-true x.kind 2 p) (pushes x.mask (64 + h) (leb s.size s.depth))
 
@@ -80,10 +80,10 @@ drops i s full w m code t e = subst (Dropped i x s) e
     x = label_at i (top_of s)
 
     b : Results
-    b = withResult x.result (number_at s (s.depth - 1)) s.bits
+    b = with_result x.result (number_at s (s.depth - 1)) s.bits
 
-    dropped : (r : Bool) → keepsFull i s ≡ r → Dropped i x s (pick r (stopped 17)
-        (finished x.mask 96 (alone s (entry_at i i.handler) i.handler (cleared i.handler b))))
+    dropped : (r : Bool) → is_full_stack_kept i s ≡ r → Dropped i x s (pick r (stopped 17)
+        (finished x.mask 96 (state_alone s (entry_at i i.handler) i.handler (cleared_results i.handler b))))
     dropped true q = tt
     dropped false q = record {
       mask = refl;
@@ -94,29 +94,29 @@ drops i s full w m code t e = subst (Dropped i x s) e
       servers = refl;
       serving = refl;
       cleared = cleared-own i.handler b;
-      kept = λ h l other. let z : i.handler ≡ 0 → ⊥ = eqb-false i.handler 0 (or_l (eqb i.handler 0) (ofHandler i (placeAt s 0)) q) in
+      kept = λ h l other. let z : i.handler ≡ 0 → ⊥ = eqb-false i.handler 0 (or_l (eqb i.handler 0) (is_of_handler i (place_at s 0)) q) in
           get_or-set_other b (i.handler - 1) (h - 1) false false (λ k. other (omega arith));
     }
 
-    pushes : (code : ℕ) (r : Bool) → r ≡ true → Dropped i x s (pushed i s x.mask code x.called (served s.serving x.called) b r)
-    pushes code true q = dropped (keepsFull i s) refl
+    pushes : (code : ℕ) (r : Bool) → r ≡ true → Dropped i x s (pushed_tick i s x.mask code x.called (server_of s.serving x.called) b r)
+    pushes code true q = dropped (is_full_stack_kept i s) refl
     pushes code false q = no_both false q refl
 
-    go : (eqb x.kind 1 ≡ true) ⊎ (eqb x.kind 2 ≡ true) → Dropped i x s (tickBy i s w (top_of s) x b (tickKind x.kind))
+    go : (eqb x.kind 1 ≡ true) ⊎ (eqb x.kind 2 ≡ true) → Dropped i x s (tick_by i s w (top_of s) x b (tick_kind x.kind))
     go (inl p) = rw (eqb-true x.kind 1 p)
         (pushes (16 + x.called) (leb s.size s.depth) (and_r (is_call x) (leb s.size s.depth) full))
     go (inr p) = rw (eqb-true x.kind 2 p)
         (pushes (64 + x.called) (leb s.size s.depth) (and_r (is_call x) (leb s.size s.depth) full))
 
 -- a call that does not find the stack full has a place free
-free : (i : Image) (s : State) → findsFull i s ≡ false → is_call (label_at i (top_of s)) ≡ true → leb s.size s.depth ≡ false
+free : (i : Image) (s : State) → is_at_full_call i s ≡ false → is_call (label_at i (top_of s)) ≡ true → leb s.size s.depth ≡ false
 free i s e call = and-false (is_call (label_at i (top_of s))) (leb s.size s.depth) e call
 
 -- ---- label l at place d - 1 under the top, and the bit of number h 0
 module _ (l d h : ℕ) (some : 1 ≤ d) (deep : 2 ≤ h) where
   record Waits (s : State) : Type 0 where
     above : suc d ≤ s.depth
-    label : placeAt s (d - 1) ≡ l
+    label : place_at s (d - 1) ≡ l
     unset : result_of h s.bits ≡ false
 
   abbrev After : MachineTick → Type 0
@@ -124,7 +124,7 @@ module _ (l d h : ℕ) (some : 1 ≤ d) (deep : 2 ≤ h) where
   After (stopped n) = Unit {0}
 
   module _ (i : Image) (s : State) (y : Waits s) where
-    moved-waits : (m code : ℕ) (t : State) (k : ℕ) (f : Found) → (d - 1 ≡ k → ⊥) → Waits t → After (moved m code t k f)
+    moved-waits : (m code : ℕ) (t : State) (k : ℕ) (f : Found) → (d - 1 ≡ k → ⊥) → Waits t → After (moved_tick m code t k f)
     moved-waits m code t k (found u) p z =
         record { above = z.above; label = get_or-set_other t.places k (d - 1) u 0 p ∙ z.label; unset = z.unset }
     moved-waits m code t k missing p z = tt
@@ -133,19 +133,19 @@ module _ (l d h : ℕ) (some : 1 ≤ d) (deep : 2 ≤ h) where
     bits-wait b e = record { above = y.above; label = y.label; unset = e }
 
     pushed_waits : (m code g k : ℕ) (b : Results) → leb s.size s.depth ≡ false → result_of h b ≡ false
-        → After (pushed i s m code g k b (leb s.size s.depth))
+        → After (pushed_tick i s m code g k b (leb s.size s.depth))
     pushed_waits m code g k b room e =
-        subst (λ (t : Bool). After (pushed i s m code g k b t)) (sym room)
+        subst (λ (t : Bool). After (pushed_tick i s m code g k b t)) (sym room)
         (record {
           above = omega (arith, y.above);
           label = get_or-set_other s.places s.depth (d - 1) (entry_at i k) 0 (λ p. omega (arith, y.above)) ∙ y.label;
           unset = cleared-keeps g h b e;
         })
 
-    popped-waits : (w m : ℕ) (b : Results) → (s.depth ≡ suc d → ⊥) → result_of h b ≡ false → After (popped i s w m b (leb s.depth 1))
+    popped-waits : (w m : ℕ) (b : Results) → (s.depth ≡ suc d → ⊥) → result_of h b ≡ false → After (popped_tick i s w m b (leb s.depth 1))
     popped-waits w m b low e =
-        subst (λ (t : Bool). After (popped i s w m b t)) (sym (lt-leb s.depth 1 (omega (arith, y.above))))
-        (moved-waits m 3 (dropping s b) (s.depth - 2) (rowLeads i b (placeAt s (s.depth - 2)) w) (λ p. omega (arith, y.above))
+        subst (λ (t : Bool). After (popped_tick i s w m b t)) (sym (lt-leb s.depth 1 (omega (arith, y.above))))
+        (moved-waits m 3 (popped_state s b) (s.depth - 2) (row_leads i b (place_at s (s.depth - 2)) w) (λ p. omega (arith, y.above))
         (record {
           above = omega (arith, y.above);
           label = get_or-set_other s.places (s.depth - 1) (d - 1) 0 0 (λ p. omega (arith, y.above)) ∙ y.label;
@@ -154,22 +154,23 @@ module _ (l d h : ℕ) (some : 1 ≤ d) (deep : 2 ≤ h) where
 
     -- by the tick kind of the top label; a call has a place free, and a return is not the call's own
     by-waits : (w k : ℕ) (x : Label) (b : Results) → result_of h b ≡ false → (1 ≤ k → k ≤ 2 → leb s.size s.depth ≡ false)
-        → (k ≡ 3 → s.depth ≡ suc d → ⊥) → After (tickBy i s w (top_of s) x b (tickKind k))
+        → (k ≡ 3 → s.depth ≡ suc d → ⊥) → After (tick_by i s w (top_of s) x b (tick_kind k))
     by-waits w zero x b e room own =
-        moved-waits x.mask 0 (with_bits s b) (s.depth - 1) (rowLeads i b (top_of s) w) (λ p. omega (arith, y.above)) (bits-wait b e)
+        moved-waits x.mask 0 (with_bits s b) (s.depth - 1) (row_leads i b (top_of s) w) (λ p. omega (arith, y.above)) (bits-wait b e)
     by-waits w (suc zero) x b e room own =
-        pushed_waits x.mask (16 + x.called) x.called (served s.serving x.called) b (room (omega arith) (omega arith)) e
+        pushed_waits x.mask (16 + x.called) x.called (server_of s.serving x.called) b (room (omega arith) (omega arith)) e
     by-waits w (suc (suc zero)) x b e room own =
-        pushed_waits x.mask (64 + x.called) x.called (served s.serving x.called) b (room (omega arith) (omega arith)) e
+        pushed_waits x.mask (64 + x.called) x.called (server_of s.serving x.called) b (room (omega arith) (omega arith)) e
     by-waits w (suc (suc (suc zero))) x b e room own = popped-waits w x.mask b (own refl) e
     by-waits w (suc (suc (suc (suc k)))) x b e room own =
         moved-waits x.mask 4 (with_bits s b) (s.depth - 1) (found (entry_at i 1)) (λ p. omega (arith, y.above)) (bits-wait b e)
 
-    tick-waits : (w : ℕ) → findsFull i s ≡ false → returnsAt i (suc d) s ≡ false → machineWritesOne i h s ≡ false → After (tick i s w)
+    tick-waits : (w : ℕ) → is_at_full_call i s ≡ false → is_return_at i (suc d) s ≡ false → is_machine_write_of_one i h s ≡ false
+        → After (tick i s w)
     unfolding tick
     tick-waits w room own unwritten =
         let x : Label = label_at i (top_of s) in
-        by-waits w x.kind x (withResult x.result (number_at s (s.depth - 1)) s.bits)
+        by-waits w x.kind x (with_result x.result (number_at s (s.depth - 1)) s.bits)
         (result-keeps x.result (number_at s (s.depth - 1)) h s.bits deep
         (λ p q. no_both _ (and-true _ _ (eq-eqb (number_at s (s.depth - 1)) h p) (eq-eqb x.result 2 q)) unwritten) y.unset)
         (λ low high. free i s room (kind-call x.kind low (omega arith)))
@@ -178,12 +179,12 @@ module _ (l d h : ℕ) (some : 1 ≤ d) (deep : 2 ≤ h) where
   all-wait : (i : Image) {s t : State} → MachineUnwritten i h (suc d) s t → Waits s → Waits t
   all-wait i none y = y
   all-wait i {s = s} (more w e room own unwritten rest) y = all-wait i rest (subst After e (tick-waits i s y w room own unwritten))
-  all-wait i (bindingChanged g rest) y = all-wait i rest (record { above = y.above; label = y.label; unset = y.unset })
+  all-wait i (binding_changed g rest) y = all-wait i rest (record { above = y.above; label = y.label; unset = y.unset })
 
 -- ---- the labels of a sound image
 module _ (i : Image) (sound : SoundImage i) where
   -- only label 1 returns
-  return-is : (l : ℕ) → (label_at i l).kind ≡ 3 → label_at i l ≡ returnLabel
+  return-is : (l : ℕ) → (label_at i l).kind ≡ 3 → label_at i l ≡ return_label
   return-is zero k = absurd (omega (arith, ap (λ (x : Label). x.kind) sound.home))
   return-is (suc zero) k = sound.back
   return-is (suc (suc l)) k = absurd (go (split (suc (suc l)) (length i.labels)))
@@ -209,24 +210,24 @@ module _ (i : Image) (sound : SoundImage i) where
     deep = function-calls (top_of s) (f.labels (s.depth - 1) (omega (arith, f.some))) kinded
 
     -- the call
-    called-waits : (w m code : ℕ) (t : State) → tick i s w ≡ finished m code t → findsFull i s ≡ false
+    called-waits : (w m code : ℕ) (t : State) → tick i s w ≡ finished m code t → is_at_full_call i s ≡ false
         → Waits (top_of s) s.depth h f.some deep t
     unfolding tick
     called-waits w m code t e room =
         subst (After (top_of s) s.depth h f.some deep)
-        (ap (pushed i s x.mask (64 + h) h (served s.serving h) (withResult x.result (number_at s (s.depth - 1)) s.bits))
+        (ap (pushed_tick i s x.mask (64 + h) h (server_of s.serving h) (with_result x.result (number_at s (s.depth - 1)) s.bits))
         (sym (free i s room (rw kinded)))
-        ∙ sym (ap (λ (n : ℕ). tickBy i s w (top_of s) x (withResult x.result (number_at s (s.depth - 1)) s.bits) (tickKind n)) kinded)
+        ∙ sym (ap (λ (n : ℕ). tick_by i s w (top_of s) x (with_result x.result (number_at s (s.depth - 1)) s.bits) (tick_kind n)) kinded)
         ∙ e)
         (record {
           above = omega arith;
-          label = get_or-set_other s.places s.depth (s.depth - 1) (entry_at i (served s.serving h)) 0 (λ p. omega (arith, f.some));
-          unset = cleared-own h (withResult x.result (number_at s (s.depth - 1)) s.bits);
+          label = get_or-set_other s.places s.depth (s.depth - 1) (entry_at i (server_of s.serving h)) 0 (λ p. omega (arith, f.some));
+          unset = cleared-own h (with_result x.result (number_at s (s.depth - 1)) s.bits);
         })
 
     -- its own return
-    own-return : (u : State) → Waits (top_of s) s.depth h f.some deep u → returnsAt i (suc s.depth) u ≡ true
-        → (v : ℕ) → tick i u v ≡ returnTick u (leads (bestRow (top_of s) v 0 0 i.rows))
+    own-return : (u : State) → Waits (top_of s) s.depth h f.some deep u → is_return_at i (suc s.depth) u ≡ true
+        → (v : ℕ) → tick i u v ≡ return_tick u (lead_of (best_row (top_of s) v 0 0 i.rows))
     unfolding tick
     own-return u y own v =
         let z : Label = label_at i (top_of u) in
@@ -234,16 +235,16 @@ module _ (i : Image) (sound : SoundImage i) where
         eqb-true u.depth (suc s.depth) (and_r (eqb z.kind 3) (eqb u.depth (suc s.depth)) own) in
         let k : z.kind ≡ 3 = eqb-true z.kind 3 (and_l (eqb z.kind 3) (eqb u.depth (suc s.depth)) own) in
         let p : u.depth - 2 ≡ s.depth - 1 = omega arith in
-        ap (λ (c : Label). tickBy i u v (top_of u) c (withResult c.result (number_at u (u.depth - 1)) u.bits) (tickKind c.kind))
+        ap (λ (c : Label). tick_by i u v (top_of u) c (with_result c.result (number_at u (u.depth - 1)) u.bits) (tick_kind c.kind))
         (return-is (top_of u) k)
-        ∙ ap (popped i u v 0 u.bits) (lt-leb u.depth 1 (omega (arith, f.some)))
-        ∙ ap (λ (l : ℕ). returnTick u (rowLeads i u.bits l v)) (ap (placeAt u) p ∙ y.label)
-        ∙ ap (λ (t : Bool). returnTick u (leads (bestRow (top_of s) v (pick t 1 0) 0 i.rows))) y.unset
+        ∙ ap (popped_tick i u v 0 u.bits) (lt-leb u.depth 1 (omega (arith, f.some)))
+        ∙ ap (λ (l : ℕ). return_tick u (row_leads i u.bits l v)) (ap (place_at u) p ∙ y.label)
+        ∙ ap (λ (t : Bool). return_tick u (lead_of (best_row (top_of s) v (pick t 1 0) 0 i.rows))) y.unset
 
 pub zero_row : ZeroRow
 unfolding ZeroRow
 zero_row text passes s sized fit kinded w m code t u e room ticks own v =
-    let i : Image = decoded (contents text) in
+    let i : Image = decoded_image (contents text) in
     let sound : SoundImage i = image-sound text passes in
     let f : Fits i s = unfits i s sized fit in
     own-return i sound s f kinded u

@@ -9,26 +9,27 @@ use lib.Seq.{get_or-set_other}
 use native.Mathlib.Omega.{arith}
 use borrow.Author.Tests.{eqb-false, eq-eqb, leb-true, leb-false}
 use Rattle.words.specs.lists.Pick.{pick}
-use Rattle.words.proofs.lists.Ranges.{getD-range}
+use Rattle.words.proofs.lists.Ranges.{get_or-range}
 use Rattle.words.proofs.lists.Tests.{and-true}
-use Rattle.results.specs.Results.{Results, withResult, cleared}
-use Rattle.bindings.specs.Binding.{ownBinding, served}
+use Rattle.results.specs.Results.{Results, with_result, cleared_results}
+use Rattle.bindings.specs.Binding.{own_binding, server_of}
 use Rattle.text.specs.frames.Frame.{contents}
 use Rattle.text.specs.frames.Verdict.{fine}
-use Rattle.image.specs.Layout.{tickKind}
+use Rattle.image.specs.Layout.{tick_kind}
 use Rattle.image.specs.Image.{Image, Label}
-use Rattle.image.specs.Decode.{decoded}
-use Rattle.image.specs.Check.{imageVerdict}
+use Rattle.image.specs.Decode.{decoded_image}
+use Rattle.image.specs.Check.{image_verdict}
 use Rattle.image.specs.inner.Sound.{Reaches, SoundImage}
 use Rattle.image.proofs.Accepted.{image-sound}
 use Rattle.rows.specs.Rows.{Found, found, missing}
 use Rattle.state.specs.declared.State.{State}
-use Rattle.state.specs.State.{fresh, label_at, entry_at, placeAt, number_at, serverAt, Sized}
-use Rattle.state.specs.Changes.{withPlace, with_bits}
-use Rattle.fitness.specs.Fitness.{is_call, callable, ofHandler, badServed, unfit}
+use Rattle.state.specs.State.{fresh, label_at, entry_at, place_at, number_at, server_at, Sized}
+use Rattle.state.specs.Changes.{with_place, with_bits}
+use Rattle.fitness.specs.Fitness.{is_call, is_callable, is_of_handler, is_badly_served, is_unfit}
 use Rattle.fitness.proofs.Fitness.{Fits, fits, unfits, callable-range, range-callable, called-served}
-use Rattle.ticks.specs.Tick.{rowLeads, MachineTick, finished, stopped, moved, dropping, alone, full, pushed, popped, tickBy, tick}
-use Rattle.ticks.proofs.Leads.{Sort, homeSort, returnSort, numberedSort, sort, row-leads}
+use Rattle.ticks.specs.Tick.{row_leads, MachineTick, finished, stopped, moved_tick, popped_state, state_alone, full_tick, pushed_tick}
+use Rattle.ticks.specs.Tick.{popped_tick, tick_by, tick}
+use Rattle.ticks.proofs.Leads.{Sort, home_sort, return_sort, numbered_sort, sort, row-leads}
 use Rattle.ticks.proofs.Leads.{call-kind, called-range, not-return, reaches-over}
 use Rattle.ticks.proofs.Leads.{enters, carry-told, may-carry, home-bottom, handler-bottom}
 use Rattle.ticks.proofs.Changes.{only_zero, bits_fit, replaced-fits, opening-fits, dropping-fits, alone-fits}
@@ -40,7 +41,7 @@ module _ (i : Image) (sound : SoundImage i) where
   Keeps (stopped n) = Unit {0}
 
   moved_keeps : (m code : ℕ) (t : State) (k : ℕ) (r : Found)
-      → ((u : ℕ) → r ≡ found u → Fits i (withPlace t k u)) → Keeps (moved m code t k r)
+      → ((u : ℕ) → r ≡ found u → Fits i (with_place t k u)) → Keeps (moved_tick m code t k r)
   moved_keeps m code t k (found u) h = h u refl
   moved_keeps m code t k missing h = tt
 
@@ -49,94 +50,95 @@ module _ (i : Image) (sound : SoundImage i) where
 
   module _ (s : State) (f : Fits i s) where
     abbrev top : ℕ
-    top = placeAt s (s.depth - 1)
+    top = place_at s (s.depth - 1)
 
     top-low : top < length i.labels
     top-low = f.labels (s.depth - 1) (omega (arith, f.some))
 
-    plain-keeps : (w : ℕ) (b : Results) → (label_at i top).kind ≡ 0 → Keeps (tickBy i s w top (label_at i top) b (tickKind 0))
-    plain-keeps w b e = moved_keeps _ 0 (with_bits s b) _ (rowLeads i b top w)
+    plain-keeps : (w : ℕ) (b : Results) → (label_at i top).kind ≡ 0 → Keeps (tick_by i s w top (label_at i top) b (tick_kind 0))
+    plain-keeps w b e = moved_keeps _ 0 (with_bits s b) _ (row_leads i b top w)
         (λ u q. replaced-fits i sound (with_bits s b) u (bits_fit i sound s b f) (not-return i sound top top-low (λ p. omega arith))
         (row-leads i sound top w _ u q))
 
-    full-keeps : (m : ℕ) (b : Results) → Keeps (full i s m b)
-    full-keeps m b = go (eqb i.handler 0) refl (ofHandler i (placeAt s 0))
+    full-keeps : (m : ℕ) (b : Results) → Keeps (full_tick i s m b)
+    full-keeps m b = go (eqb i.handler 0) refl (is_of_handler i (place_at s 0))
       where
         h : ℕ
         h = i.handler
 
         go : (t : Bool) → eqb i.handler 0 ≡ t → (r : Bool)
-            → Keeps (pick (t || r) (stopped 17) (finished m 96 (alone s (entry_at i i.handler) i.handler (cleared i.handler b))))
+            → Keeps (pick (t || r) (stopped 17) (finished m 96 (state_alone s (entry_at i i.handler) i.handler
+            (cleared_results i.handler b))))
         go true e r = tt
         go false e true = tt
         go false e false =
             let range : (2 ≤ h) × (h ≤ length i.entries) = sound.handled (eqb-false i.handler 0 e) in
             let into : Reaches i h (entry_at i h) = enters i sound h range.0 range.1 in
-            alone-fits i sound s (entry_at i h) h (cleared h b) f into.inside
+            alone-fits i sound s (entry_at i h) h (cleared_results h b) f into.inside
             (handler-bottom i sound (entry_at i h) (eqb h 1 && eqb h 1) (eqb h h && eqb h h) range.0 into (own-true h))
 
     call-keeps : (m code : ℕ) (b : Results) → is_call (label_at i top) ≡ true
-        → Keeps (pushed i s m code (label_at i top).called (served s.serving (label_at i top).called) b (leb s.size s.depth))
+        → Keeps (pushed_tick i s m code (label_at i top).called (server_of s.serving (label_at i top).called) b (leb s.size s.depth))
     call-keeps m code b e = go (leb s.size s.depth) refl
       where
         h : ℕ
         h = (label_at i top).called
 
         k : ℕ
-        k = served s.serving h
+        k = server_of s.serving h
 
         range : (2 ≤ h) × (h ≤ length i.entries)
         range = called-range i sound top top-low (call-kind i sound top e)
 
-        may : callable i k ≡ true
+        may : is_callable i k ≡ true
         may = called-served i sound.most s f h range.0 range.1
 
         into : Reaches i k (entry_at i k)
         into = enters i sound k (callable-range i k may).0 (callable-range i k may).1
 
         go : (t : Bool) → leb s.size s.depth ≡ t
-            → Keeps (pushed i s m code (label_at i top).called (served s.serving (label_at i top).called) b t)
+            → Keeps (pushed_tick i s m code (label_at i top).called (server_of s.serving (label_at i top).called) b t)
         go true q = full-keeps m b
-        go false q = opening-fits i sound s (entry_at i k) h k (cleared h b) f (leb-false s.size s.depth q) into.inside
+        go false q = opening-fits i sound s (entry_at i k) h k (cleared_results h b) f (leb-false s.size s.depth q) into.inside
             (may-carry i sound top h k (entry_at i k) e refl may (reaches-over i sound k (entry_at i k) (callable-range i k may).0 into))
 
-    return-keeps : (m w : ℕ) (b : Results) → Keeps (popped i s w m b (leb s.depth 1))
+    return-keeps : (m w : ℕ) (b : Results) → Keeps (popped_tick i s w m b (leb s.depth 1))
     return-keeps m w b = go (leb s.depth 1) refl
       where
         t : State
-        t = dropping s b
+        t = popped_state s b
 
         under : ℕ
-        under = placeAt s (s.depth - 2)
+        under = place_at s (s.depth - 2)
 
-        back : 2 ≤ s.depth → (u : ℕ) → Reaches i (label_at i (placeAt s (s.depth - 2))).owner u
-            → Fits i (withPlace (dropping s b) (s.depth - 2) u)
+        back : 2 ≤ s.depth → (u : ℕ) → Reaches i (label_at i (place_at s (s.depth - 2))).owner u
+            → Fits i (with_place (popped_state s b) (s.depth - 2) u)
         back two u r =
             let d : s.depth - 1 - 1 ≡ s.depth - 2 = omega arith in
-            let same : placeAt t (s.depth - 1 - 1) ≡ under =
-            ap (placeAt t) d ∙ get_or-set_other s.places (s.depth - 1) (s.depth - 2) 0 0 (λ q. omega arith) in
+            let same : place_at t (s.depth - 1 - 1) ≡ under =
+            ap (place_at t) d ∙ get_or-set_other s.places (s.depth - 1) (s.depth - 2) 0 0 (λ q. omega arith) in
             let told = carry-told i sound under (number_at s (s.depth - 2 + 1))
-            (serverAt s (s.depth - 2 + 1)) (placeAt s (s.depth - 2 + 1))
+            (server_at s (s.depth - 2 + 1)) (place_at s (s.depth - 2 + 1))
             (f.carries (s.depth - 2) (omega arith)) in
             let c = call-kind i sound under told.0 in
-            subst (λ (j : ℕ). Fits i (withPlace (dropping s b) j u)) d
+            subst (λ (j : ℕ). Fits i (with_place (popped_state s b) j u)) d
             (replaced-fits i sound t u (dropping-fits i sound s b f two)
             (λ q. not-return i sound under (f.labels (s.depth - 2) (omega arith)) (λ p. omega arith) (sym same ∙ q))
             (subst (λ (l : ℕ). Reaches i (label_at i l).owner u) (sym same) r))
 
-        go : (t : Bool) → leb s.depth 1 ≡ t → Keeps (popped i s w m b t)
+        go : (t : Bool) → leb s.depth 1 ≡ t → Keeps (popped_tick i s w m b t)
         go true q = alone-fits i sound s 0 1 b f (omega (arith, sound.two)) (home-bottom i sound _)
-        go false q = moved_keeps m 3 (dropping s b) _ (rowLeads i b (placeAt s (s.depth - 2)) w)
-            (λ u p. back (leb-false s.depth 1 q) u (row-leads i sound (placeAt s (s.depth - 2)) w _ u p))
+        go false q = moved_keeps m 3 (popped_state s b) _ (row_leads i b (place_at s (s.depth - 2)) w)
+            (λ u p. back (leb-false s.depth 1 q) u (row-leads i sound (place_at s (s.depth - 2)) w _ u p))
 
-    home-keeps : (b : Results) → 4 ≤ (label_at i top).kind → Fits i (withPlace (with_bits s b) (s.depth - 1) (entry_at i 1))
+    home-keeps : (b : Results) → 4 ≤ (label_at i top).kind → Fits i (with_place (with_bits s b) (s.depth - 1) (entry_at i 1))
     home-keeps b e = go (sort i sound top top-low)
       where
-        go : Sort i sound top → Fits i (withPlace (with_bits s b) (s.depth - 1) (entry_at i 1))
-        go (homeSort z q o) = replaced-fits i sound (with_bits s b) (entry_at i 1) (bits_fit i sound s b f) (λ p. omega arith)
+        go : Sort i sound top → Fits i (with_place (with_bits s b) (s.depth - 1) (entry_at i 1))
+        go (home_sort z q o) = replaced-fits i sound (with_bits s b) (entry_at i 1) (bits_fit i sound s b f) (λ p. omega arith)
             (subst (λ (h : ℕ). Reaches i h (entry_at i 1)) (sym o) (sound.starts 0 sound.first))
-        go (returnSort z q o) = absurd (omega arith)
-        go (numberedSort z q) = absurd (omega arith)
+        go (return_sort z q o) = absurd (omega arith)
+        go (numbered_sort z q) = absurd (omega arith)
 
     pub tick-keeps : (w : ℕ) → Keeps (tick i s w)
     unfolding tick
@@ -146,11 +148,11 @@ module _ (i : Image) (sound : SoundImage i) where
         x = label_at i top
 
         b : Results
-        b = withResult x.result (number_at s (s.depth - 1)) s.bits
+        b = with_result x.result (number_at s (s.depth - 1)) s.bits
 
         go : (k : ℕ) → (label_at i top).kind ≡ k
-            → Keeps (tickBy i s w top (label_at i top) (withResult (label_at i top).result (number_at s (s.depth - 1)) s.bits)
-            (tickKind k))
+            → Keeps (tick_by i s w top (label_at i top) (with_result (label_at i top).result (number_at s (s.depth - 1)) s.bits)
+            (tick_kind k))
         go zero e = plain-keeps w b e
         go (suc zero) e = call-keeps _ _ b (rw e)
         go (suc (suc zero)) e = call-keeps _ _ b (rw e)
@@ -158,13 +160,13 @@ module _ (i : Image) (sound : SoundImage i) where
         go (suc (suc (suc (suc n)))) e = home-keeps b (omega arith)
 
   -- ---- a fresh state
-  own-serves : (n h : ℕ) → 2 ≤ h → h < 17 → badServed i (fresh n) h ≡ false
+  own-serves : (n h : ℕ) → 2 ≤ h → h < 17 → is_badly_served i (fresh n) h ≡ false
   own-serves n h a b =
-      let e : served ownBinding h ≡ h = getD-range 1 16 (h - 1) 0 (omega arith) ∙ omega arith in
-      ap (λ (k : ℕ). not (pick (leb h (length i.entries) && not (eqb h i.handler)) (callable i k) (eqb k h))) e
+      let e : server_of own_binding h ≡ h = get_or-range 1 16 (h - 1) 0 (omega arith) ∙ omega arith in
+      ap (λ (k : ℕ). not (pick (leb h (length i.entries) && not (eqb h i.handler)) (is_callable i k) (eqb k h))) e
       ∙ go (leb h (length i.entries)) refl (eqb h i.handler)
     where
-      go : (p : Bool) → leb h (length i.entries) ≡ p → (q : Bool) → not (pick (p && not q) (callable i h) (eqb h h)) ≡ false
+      go : (p : Bool) → leb h (length i.entries) ≡ p → (q : Bool) → not (pick (p && not q) (is_callable i h) (eqb h h)) ≡ false
       go true e true = ap not (eq-eqb h h refl)
       go true e false = ap not (range-callable i h a (leb-true h (length i.entries) e))
       go false e q = ap not (eq-eqb h h refl)
@@ -182,15 +184,15 @@ module _ (i : Image) (sound : SoundImage i) where
     serves = own-serves n;
   }
     where
-      zero-at : (k : ℕ) → k < 32 → placeAt (fresh n) k ≡ 0
+      zero-at : (k : ℕ) → k < 32 → place_at (fresh n) k ≡ 0
       zero-at k j = get_or-replicate 32 k 0 0 j
 
 -- ---- every accepted image, whatever its rows
-module _ (text : List ℕ) (passes : imageVerdict text ≡ fine) (s : State) (sized : Sized s)
-    (fit : unfit (decoded (contents text)) s ≡ false) where
+module _ (text : List ℕ) (passes : image_verdict text ≡ fine) (s : State) (sized : Sized s)
+    (fit : is_unfit (decoded_image (contents text)) s ≡ false) where
   abbrev image : Image
-  image = decoded (contents text)
+  image = decoded_image (contents text)
 
-  pub tick-fits : (w m code : ℕ) (t : State) → tick image s w ≡ finished m code t → unfit image t ≡ false
+  pub tick-fits : (w m code : ℕ) (t : State) → tick image s w ≡ finished m code t → is_unfit image t ≡ false
   tick-fits w m code t e = fits image t
       (subst (Keeps image (image-sound text passes)) e (tick-keeps image (image-sound text passes) s (unfits image s sized fit) w))

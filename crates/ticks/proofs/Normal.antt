@@ -6,18 +6,18 @@ use native.Mathlib.Omega.{arith}
 use lib.Dec.{leb, eqb}
 use lib.ListN.{length, set, length-set}
 use Rattle.words.specs.lists.Pick.{pick}
-use Rattle.results.specs.Results.{Results, withResult, cleared}
-use Rattle.bindings.specs.Binding.{served}
-use Rattle.image.specs.Layout.{tickKind}
+use Rattle.results.specs.Results.{Results, with_result, cleared_results}
+use Rattle.bindings.specs.Binding.{server_of}
+use Rattle.image.specs.Layout.{tick_kind}
 use Rattle.image.specs.Image.{Image, Label}
 use Rattle.rows.specs.Rows.{Found, found, missing}
 use Rattle.state.specs.declared.State.{State}
-use Rattle.state.specs.State.{label_at, entry_at, placeAt, number_at, Sized}
+use Rattle.state.specs.State.{label_at, entry_at, place_at, number_at, Sized}
 use Rattle.state.specs.Changes.{with_bits}
-use Rattle.ticks.specs.Tick.{rowLeads, MachineTick, finished, stopped, moved, dropping, alone}
-use Rattle.ticks.specs.Tick.{keepsFull, full, pushed, popped, tickBy, tick}
+use Rattle.ticks.specs.Tick.{row_leads, MachineTick, finished, stopped, moved_tick, popped_state, state_alone}
+use Rattle.ticks.specs.Tick.{is_full_stack_kept, full_tick, pushed_tick, popped_tick, tick_by, tick}
 
-length-result : (r h : ℕ) (b : Results) → length (withResult r h b) ≡ length b
+length-result : (r h : ℕ) (b : Results) → length (with_result r h b) ≡ length b
 length-result r h b = go (eqb r 0)
   where
     go : (t : Bool) → length (pick t b (set b (h - 1) (eqb r 2))) ≡ length b
@@ -37,7 +37,7 @@ Normal s (stopped n) = 17 ≤ n
 
 module _ (i : Image) (s : State) where
   -- one label moved in what is already the same
-  moved-normal : (m code : ℕ) (t : State) (k : ℕ) (f : Found) → Same s t → Normal s (moved m code t k f)
+  moved-normal : (m code : ℕ) (t : State) (k : ℕ) (f : Found) → Same s t → Normal s (moved_tick m code t k f)
   moved-normal m code t k (found l) e = record {
     size = e.size;
     serving = e.serving;
@@ -60,7 +60,7 @@ module _ (i : Image) (s : State) where
       sized = λ z. record { places = z.places; serving = z.serving; numbers = z.numbers; servers = z.servers };
     }
 
-    alone-same : (l h : ℕ) → Same s (alone s l h b)
+    alone-same : (l h : ℕ) → Same s (state_alone s l h b)
     alone-same l h = record {
       size = refl;
       serving = refl;
@@ -68,7 +68,7 @@ module _ (i : Image) (s : State) where
       sized = λ z. record { places = refl; serving = z.serving; numbers = refl; servers = refl };
     }
 
-    dropping-same : Same s (dropping s b)
+    dropping-same : Same s (popped_state s b)
     dropping-same = record {
       size = refl;
       serving = refl;
@@ -81,16 +81,16 @@ module _ (i : Image) (s : State) where
       };
     }
 
-  full-normal : (m : ℕ) (b : Results) → length b ≡ length s.bits → Normal s (full i s m b)
-  full-normal m b e = go (keepsFull i s)
+  full-normal : (m : ℕ) (b : Results) → length b ≡ length s.bits → Normal s (full_tick i s m b)
+  full-normal m b e = go (is_full_stack_kept i s)
     where
       go : (t : Bool) → Normal s (pick t (stopped 17)
-          (finished m 96 (alone s (entry_at i i.handler) i.handler (cleared i.handler b))))
+          (finished m 96 (state_alone s (entry_at i i.handler) i.handler (cleared_results i.handler b))))
       go true = omega arith
-      go false = alone-same (cleared i.handler b) (length-set b (i.handler - 1) false ∙ e) (entry_at i i.handler) i.handler
+      go false = alone-same (cleared_results i.handler b) (length-set b (i.handler - 1) false ∙ e) (entry_at i i.handler) i.handler
 
   module _ (b : Results) (e : length b ≡ length s.bits) where
-    pushed-normal : (m code h k : ℕ) (t : Bool) → Normal s (pushed i s m code h k b t)
+    pushed-normal : (m code h k : ℕ) (t : Bool) → Normal s (pushed_tick i s m code h k b t)
     pushed-normal m code h k true = full-normal m b e
     pushed-normal m code h k false = record {
       size = refl;
@@ -104,23 +104,23 @@ module _ (i : Image) (s : State) where
       };
     }
 
-    popped-normal : (w m : ℕ) (t : Bool) → Normal s (popped i s w m b t)
+    popped-normal : (w m : ℕ) (t : Bool) → Normal s (popped_tick i s w m b t)
     popped-normal w m true = alone-same b e 0 1
-    popped-normal w m false = moved-normal m 3 _ (s.depth - 2) (rowLeads i b (placeAt s (s.depth - 2)) w) (dropping-same b e)
+    popped-normal w m false = moved-normal m 3 _ (s.depth - 2) (row_leads i b (place_at s (s.depth - 2)) w) (dropping-same b e)
 
-    by-normal : (w l : ℕ) (x : Label) (k : ℕ) → Normal s (tickBy i s w l x b (tickKind k))
-    by-normal w l x zero = moved-normal x.mask 0 _ (s.depth - 1) (rowLeads i b l w) (bits-same b e)
+    by-normal : (w l : ℕ) (x : Label) (k : ℕ) → Normal s (tick_by i s w l x b (tick_kind k))
+    by-normal w l x zero = moved-normal x.mask 0 _ (s.depth - 1) (row_leads i b l w) (bits-same b e)
     by-normal w l x (suc zero) = pushed-normal x.mask (16 + x.called) x.called
-        (served s.serving x.called) (leb s.size s.depth)
+        (server_of s.serving x.called) (leb s.size s.depth)
     by-normal w l x (suc (suc zero)) =
-        pushed-normal x.mask (64 + x.called) x.called (served s.serving x.called) (leb s.size s.depth)
+        pushed-normal x.mask (64 + x.called) x.called (server_of s.serving x.called) (leb s.size s.depth)
     by-normal w l x (suc (suc (suc zero))) = popped-normal w x.mask (leb s.depth 1)
     by-normal w l x (suc (suc (suc (suc k)))) = moved-normal x.mask 4 _ (s.depth - 1) (found (entry_at i 1)) (bits-same b e)
 
   pub tick-normal : (w : ℕ) → Normal s (tick i s w)
   unfolding tick
   tick-normal w =
-      let l : ℕ = placeAt s (s.depth - 1) in
+      let l : ℕ = place_at s (s.depth - 1) in
       let x : Label = label_at i l in
       let h : ℕ = number_at s (s.depth - 1) in
-      by-normal (withResult x.result h s.bits) (length-result x.result h s.bits) w l x x.kind
+      by-normal (with_result x.result h s.bits) (length-result x.result h s.bits) w l x x.kind

@@ -10,15 +10,15 @@ use Rattle.words.specs.lists.Pick.{pick}
 use Rattle.words.proofs.lists.Tests.{yes-pick, no-pick, bit-low}
 use Rattle.results.specs.Results.{Results, result_of}
 use Rattle.image.specs.Image.{Label}
-use Rattle.tables.specs.Table.{tableLabel}
-use Rattle.tables.specs.inner.Labels.{asLabel, NumberedLabel}
+use Rattle.tables.specs.Table.{table_label}
+use Rattle.tables.specs.inner.Labels.{as_label, NumberedLabel}
 use Rattle.tables.specs.declared.Label as declared
 use Rattle.rows.specs.Rows.{Found, found, missing, next_of}
 use Rattle.rows.specs.inner.Search.{Deciding}
 use Rattle.ticks.specs.inner.TickContracts.{bit_of}
 
 -- ---- the bit that decides among the rows of label l, read as z, where the result of number h is looked at
-module _ (b : List ℕ) (l : ℕ) (z : declared.Label) (read : asLabel z ≡ tableLabel b l) (bs : Results)
+module _ (b : List ℕ) (l : ℕ) (z : declared.Label) (read : as_label z ≡ table_label b l) (bs : Results)
     (h bit : ℕ) (e : bit ≡ bit_of z.kind h bs) where
   pub bit-called : z.kind ≡ 2 → bit ≡ pick (result_of h bs) 1 0
   bit-called k = e ∙ yes-pick (eqb z.kind 2) (pick (result_of h bs) 1 0) 2 (eq-eqb z.kind 2 k)
@@ -29,7 +29,7 @@ module _ (b : List ℕ) (l : ℕ) (z : declared.Label) (read : asLabel z ≡ tab
   pub bit-decides : NumberedLabel b l → Deciding b l bit
   bit-decides g = go (ℕ_discrete z.kind 2)
     where
-      kind : z.kind ≡ (tableLabel b l).kind
+      kind : z.kind ≡ (table_label b l).kind
       kind = ap (λ (x : Label). x.kind) read
 
       go : Dec (z.kind ≡ 2) → Deciding b l bit

@@ -9,47 +9,47 @@ use lib.ListN.{get_or, set}
 use lib.Seq.{get_or-set_same}
 use borrow.Author.Tests.{le-leb, lt-leb, leb-false}
 use Rattle.words.specs.lists.Pick.{pick}
-use Rattle.results.specs.Results.{Results, withResult, cleared}
-use Rattle.bindings.specs.Binding.{served}
-use Rattle.image.specs.Layout.{tickKind}
-use Rattle.image.specs.Image.{Image, Label, no_label, homeLabel, returnLabel}
-use Rattle.image.specs.Decode.{schemeCount, lastLabel}
-use Rattle.tables.specs.Table.{tableLabel, tableImage}
+use Rattle.results.specs.Results.{Results, with_result, cleared_results}
+use Rattle.bindings.specs.Binding.{server_of}
+use Rattle.image.specs.Layout.{tick_kind}
+use Rattle.image.specs.Image.{Image, Label, no_label, home_label, return_label}
+use Rattle.image.specs.Decode.{scheme_count, last_label}
+use Rattle.tables.specs.Table.{table_label, table_image}
 use Rattle.tables.specs.inner.Labels.{NumberedLabel}
 use Rattle.tables.proofs.TableReads.{counts-told, label-on, label-above, label-at, label-values}
-use Rattle.rows.specs.Rows.{Found, found, missing, leads}
+use Rattle.rows.specs.Rows.{Found, found, missing, lead_of}
 use Rattle.rows.specs.inner.Search.{Deciding}
 use Rattle.rows.proofs.TableRows.{row-above}
 use Rattle.ticks.specs.codes.Codes.{code_of}
 use Rattle.state.specs.declared.State.{State}
-use Rattle.state.specs.State.{entry_at, placeAt, number_at}
-use Rattle.state.specs.Changes.{withPlace, with_bits}
+use Rattle.state.specs.State.{entry_at, place_at, number_at}
+use Rattle.state.specs.Changes.{with_place, with_bits}
 use Rattle.state.specs.Bytes.{state_of}
 use Rattle.state.proofs.ResultBytes.{held-places}
 use Rattle.ticks.specs.declared.TickEnd.{TickEnd}
-use Rattle.ticks.specs.Tick.{top_of, rowLeads, MachineTick, finished, stopped, moved, dropping, alone}
-use Rattle.ticks.specs.Tick.{keepsFull, full, pushed, popped, tickBy, tick}
-use Rattle.ticks.specs.inner.TickContracts.{TickAsked, beneath, afterTick, endOfTick, GivesTickEnd}
+use Rattle.ticks.specs.Tick.{top_of, row_leads, MachineTick, finished, stopped, moved_tick, popped_state, state_alone}
+use Rattle.ticks.specs.Tick.{is_full_stack_kept, full_tick, pushed_tick, popped_tick, tick_by, tick}
+use Rattle.ticks.specs.inner.TickContracts.{TickAsked, beneath, state_after_tick, end_of_tick, GivesTickEnd}
 use Rattle.fitness.proofs.Depths.{DeepState, deep-told, deep-fine}
 
 -- ---- what is answered and left, by what the tick is
 module _ (b before : List ℕ) (w : ℕ) where
   abbrev here : MachineTick
-  here = tick (tableImage b) (state_of before) w
+  here = tick (table_image b) (state_of before) w
 
   pub steps-stopped : (n : ℕ) → here ≡ stopped n → GivesTickEnd b before w (record { number = n; mask = 0; code = 0 }) before
-  steps-stopped n e = record { step = sym (ap endOfTick e); state = sym (ap (afterTick (state_of before)) e); kept = λ z. refl }
+  steps-stopped n e = record { step = sym (ap end_of_tick e); state = sym (ap (state_after_tick (state_of before)) e); kept = λ z. refl }
 
   pub steps-ticked : (m k : ℕ) (t : State) (bytes : List ℕ) → here ≡ finished m k t → state_of bytes ≡ t
       → GivesTickEnd b before w (record { number = 0; mask = m; code = k }) bytes
   steps-ticked m k t bytes e q =
-      record { step = sym (ap endOfTick e); state = q ∙ sym (ap (afterTick (state_of before)) e); kept = λ z. absurd (z refl) }
+      record { step = sym (ap end_of_tick e); state = q ∙ sym (ap (state_after_tick (state_of before)) e); kept = λ z. absurd (z refl) }
 
 -- a label that was put in the place of the top is at the top
 pub top-put : (mid bytes : List ℕ) (k n : ℕ) → (state_of bytes).places ≡ set (state_of mid).places k n → (state_of bytes).depth - 1 ≡ k → k < 32
     → n ≡ top_of (state_of bytes)
 top-put mid bytes k n e d h =
-    sym (ap (placeAt (state_of bytes)) d ∙ ap (λ (xs : List ℕ). get_or xs k 0) e
+    sym (ap (place_at (state_of bytes)) d ∙ ap (λ (xs : List ℕ). get_or xs k 0) e
     ∙ get_or-set_same (state_of mid).places k n 0 (omega (arith, held-places mid)))
 
 -- ---- the numbers of a table and a state that a tick may be made on
@@ -63,23 +63,23 @@ module _ {b : List ℕ} {s : State} (y : TickAsked b s) where
   pub size-most : s.size ≤ 32
   size-most = (deep-told s y.depth).small
 
-  pub schemes-some : 1 ≤ schemeCount b
+  pub schemes-some : 1 ≤ scheme_count b
   schemes-some = (counts-told b y.whole.counts).first
 
-  pub called-low : (l : ℕ) → (tableLabel b l).called ≤ schemeCount b
+  pub called-low : (l : ℕ) → (table_label b l).called ≤ scheme_count b
   called-low l = (label-values b l).schemes
 
-  pub called-few : (l : ℕ) → (tableLabel b l).called ≤ 16
+  pub called-few : (l : ℕ) → (table_label b l).called ≤ 16
   called-few l = omega (arith, (label-values b l).schemes, (counts-told b y.whole.counts).most)
 
 -- a label of 2 to M by another number for it, and its kind
 pub numbered-as : {b : List ℕ} {l m : ℕ} → l ≡ m → NumberedLabel b m → NumberedLabel b l
 numbered-as {b = b} e y = subst (NumberedLabel b) (sym e) y
 
-pub kind-low : {b : List ℕ} {l : ℕ} → NumberedLabel b l → (tableLabel b l).kind ≤ 2
-kind-low {b = b} {l = l} y = go (tableLabel b l).kind refl (label-values b l).kinds
+pub kind-low : {b : List ℕ} {l : ℕ} → NumberedLabel b l → (table_label b l).kind ≤ 2
+kind-low {b = b} {l = l} y = go (table_label b l).kind refl (label-values b l).kinds
   where
-    go : (k : ℕ) → (tableLabel b l).kind ≡ k → k ≤ 4 → (tableLabel b l).kind ≤ 2
+    go : (k : ℕ) → (table_label b l).kind ≡ k → k ≤ 4 → (table_label b l).kind ≤ 2
     go zero e h = omega arith
     go (suc zero) e h = omega arith
     go (suc (suc zero)) e h = omega arith
@@ -87,9 +87,9 @@ kind-low {b = b} {l = l} y = go (tableLabel b l).kind refl (label-values b l).ki
     go (suc (suc (suc (suc k)))) e h = absurd (omega (arith, (label-values b l).four (omega arith), y.low))
 
 -- of a plain label no bit decides
-pub plain-decides : {b : List ℕ} {l m : ℕ} → l ≡ m → NumberedLabel b m → (tableLabel b m).kind ≡ 0 → Deciding b l 2
+pub plain-decides : {b : List ℕ} {l m : ℕ} → l ≡ m → NumberedLabel b m → (table_label b m).kind ≡ 0 → Deciding b l 2
 plain-decides {b = b} {l = l} e y k =
-    let z : (tableLabel b l).kind ≡ 0 = ap (λ (j : ℕ). (tableLabel b j).kind) e ∙ k in
+    let z : (table_label b l).kind ≡ 0 = ap (λ (j : ℕ). (table_label b j).kind) e ∙ k in
     record { label = numbered-as e y; none = λ _ n. omega arith; some = λ n. absurd (n refl) }
 
 -- a label that is neither 0 nor 1
@@ -99,26 +99,26 @@ two_up e others = let zero-not = others.0.1 in let one-not = others.1 in omega (
 -- ---- the top of a state
 module _ (b : List ℕ) (s : State) (y : TickAsked b s) where
   abbrev i : Image
-  i = tableImage b
+  i = table_image b
 
   abbrev l : ℕ
   l = top_of s
 
   abbrev x : Label
-  x = tableLabel b l
+  x = table_label b l
 
   deep : DeepState s
   deep = deep-told s y.depth
 
   -- a tick, stopped or not, leaves a depth of 1 to Σ
   abbrev KeptDepth : MachineTick → Type 0
-  KeptDepth x = DeepState (afterTick s x)
+  KeptDepth x = DeepState (state_after_tick s x)
 
-  is-return : l ≡ 1 → x ≡ returnLabel
-  is-return e = ap (tableLabel b) e ∙ label-on b 1 (counts-told b y.whole.counts).two
+  is-return : l ≡ 1 → x ≡ return_label
+  is-return e = ap (table_label b) e ∙ label-on b 1 (counts-told b y.whole.counts).two
 
-  is_home : l ≡ 0 → x ≡ homeLabel
-  is_home e = ap (tableLabel b) e ∙ label-on b 0 (omega arith)
+  is_home : l ≡ 0 → x ≡ home_label
+  is_home e = ap (table_label b) e ∙ label-on b 0 (omega arith)
 
   return-one : x.kind ≡ 3 → l ≡ 1
   return-one k = (label-values b l).three k
@@ -128,78 +128,78 @@ module _ (b : List ℕ) (s : State) (y : TickAsked b s) where
     number = number_at s (s.depth - 1)
 
     abbrev bits : Results
-    bits = withResult x.result number s.bits
+    bits = with_result x.result number s.bits
 
-    tick_is : tick i s w ≡ tickBy i s w l x bits (tickKind x.kind)
+    tick_is : tick i s w ≡ tick_by i s w l x bits (tick_kind x.kind)
     unfolding tick
-    tick_is = ap (λ (z : Label). tickBy i s w l z (withResult z.result number s.bits) (tickKind z.kind)) (label-at b l)
+    tick_is = ap (λ (z : Label). tick_by i s w l z (with_result z.result number s.bits) (tick_kind z.kind)) (label-at b l)
 
     -- the same of a label that is known
-    tick-as : (z : Label) → x ≡ z → tick i s w ≡ tickBy i s w l z (withResult z.result number s.bits) (tickKind z.kind)
-    tick-as z e = tick_is ∙ ap (λ (y : Label). tickBy i s w l y (withResult y.result number s.bits) (tickKind y.kind)) e
+    tick-as : (z : Label) → x ≡ z → tick i s w ≡ tick_by i s w l z (with_result z.result number s.bits) (tick_kind z.kind)
+    tick-as z e = tick_is ∙ ap (λ (y : Label). tick_by i s w l y (with_result y.result number s.bits) (tick_kind y.kind)) e
 
-    pub tick-plain : x.kind ≡ 0 → tick i s w ≡ moved x.mask 0 (with_bits s bits) (s.depth - 1) (rowLeads i bits l w)
-    tick-plain k = tick_is ∙ ap (λ (n : ℕ). tickBy i s w l x bits (tickKind n)) k
+    pub tick-plain : x.kind ≡ 0 → tick i s w ≡ moved_tick x.mask 0 (with_bits s bits) (s.depth - 1) (row_leads i bits l w)
+    tick-plain k = tick_is ∙ ap (λ (n : ℕ). tick_by i s w l x bits (tick_kind n)) k
 
     -- a label above M holds nothing and has no row
-    pub tick-high : lastLabel b < l → tick i s w ≡ stopped 18
+    pub tick-high : last_label b < l → tick i s w ≡ stopped 18
     tick-high h = tick-as no_label (label-above b l h)
-        ∙ ap (moved 0 0 (with_bits s s.bits) (s.depth - 1)) (ap leads (row-above b l w _ h))
+        ∙ ap (moved_tick 0 0 (with_bits s s.bits) (s.depth - 1)) (ap lead_of (row-above b l w _ h))
 
-    tick-return : l ≡ 1 → tick i s w ≡ popped i s w 0 s.bits (leb s.depth 1)
-    tick-return e = tick-as returnLabel (is-return e)
+    tick-return : l ≡ 1 → tick i s w ≡ popped_tick i s w 0 s.bits (leb s.depth 1)
+    tick-return e = tick-as return_label (is-return e)
 
     pub tick-back : l ≡ 1 → 2 ≤ s.depth
-        → tick i s w ≡ moved 0 3 (dropping s s.bits) (s.depth - 2) (beneath i s w)
-    tick-back e two = tick-return e ∙ ap (popped i s w 0 s.bits) (lt-leb s.depth 1 two)
+        → tick i s w ≡ moved_tick 0 3 (popped_state s s.bits) (s.depth - 2) (beneath i s w)
+    tick-back e two = tick-return e ∙ ap (popped_tick i s w 0 s.bits) (lt-leb s.depth 1 two)
 
     -- the handler's own return
-    pub tick-last : l ≡ 1 → s.depth ≤ 1 → tick i s w ≡ finished 0 3 (alone s 0 1 s.bits)
-    tick-last e one = tick-return e ∙ ap (popped i s w 0 s.bits) (le-leb s.depth 1 one)
+    pub tick-last : l ≡ 1 → s.depth ≤ 1 → tick i s w ≡ finished 0 3 (state_alone s 0 1 s.bits)
+    tick-last e one = tick-return e ∙ ap (popped_tick i s w 0 s.bits) (le-leb s.depth 1 one)
 
     by_call : (z : Label) (bs : Results) (k : ℕ) → 1 ≤ k → k ≤ 2
-        → tickBy i s w l z bs (tickKind k)
-        ≡ pushed i s z.mask (code_of (tickKind k) z.called) z.called (served s.serving z.called) bs (leb s.size s.depth)
+        → tick_by i s w l z bs (tick_kind k)
+        ≡ pushed_tick i s z.mask (code_of (tick_kind k) z.called) z.called (server_of s.serving z.called) bs (leb s.size s.depth)
     by_call z bs zero h m = absurd (omega arith)
     by_call z bs (suc zero) h m = refl
     by_call z bs (suc (suc zero)) h m = refl
     by_call z bs (suc (suc (suc k))) h m = absurd (omega arith)
 
     pub tick-call : 1 ≤ x.kind → x.kind ≤ 2
-        → tick i s w ≡ pushed i s x.mask (code_of (tickKind x.kind) x.called) x.called (served s.serving x.called) bits
+        → tick i s w ≡ pushed_tick i s x.mask (code_of (tick_kind x.kind) x.called) x.called (server_of s.serving x.called) bits
         (leb s.size s.depth)
     tick-call h k = tick_is ∙ by_call x bits x.kind h k
 
-    pub tick-full : 1 ≤ x.kind → x.kind ≤ 2 → s.size ≤ s.depth → tick i s w ≡ full i s x.mask bits
-    tick-full h k f = tick-call h k ∙ ap (pushed i s x.mask _ x.called _ bits) (le-leb s.size s.depth f)
+    pub tick-full : 1 ≤ x.kind → x.kind ≤ 2 → s.size ≤ s.depth → tick i s w ≡ full_tick i s x.mask bits
+    tick-full h k f = tick-call h k ∙ ap (pushed_tick i s x.mask _ x.called _ bits) (le-leb s.size s.depth f)
 
     pub tick-home : l ≡ 0
-        → tick i s w ≡ finished 0 4 (withPlace (with_bits s s.bits) (s.depth - 1) (entry_at i 1))
-    tick-home e = tick-as homeLabel (is_home e)
+        → tick i s w ≡ finished 0 4 (with_place (with_bits s s.bits) (s.depth - 1) (entry_at i 1))
+    tick-home e = tick-as home_label (is_home e)
 
     -- ---- every tick leaves a depth of 1 to Σ
-    moved-deep : (m code : ℕ) (t : State) (k : ℕ) (f : Found) → DeepState t → KeptDepth (moved m code t k f)
+    moved-deep : (m code : ℕ) (t : State) (k : ℕ) (f : Found) → DeepState t → KeptDepth (moved_tick m code t k f)
     moved-deep m code t k (found u) h = record { some = h.some; most = h.most; small = h.small }
     moved-deep m code t k missing h = deep
 
-    full-deep : (m : ℕ) (bs : Results) → KeptDepth (full i s m bs)
-    full-deep m bs = go (keepsFull i s)
+    full-deep : (m : ℕ) (bs : Results) → KeptDepth (full_tick i s m bs)
+    full-deep m bs = go (is_full_stack_kept i s)
       where
         go : (t : Bool) → KeptDepth (pick t (stopped 17)
-            (finished m 96 (alone s (entry_at i i.handler) i.handler (cleared i.handler bs))))
+            (finished m 96 (state_alone s (entry_at i i.handler) i.handler (cleared_results i.handler bs))))
         go true = deep
         go false = record { some = omega arith; most = omega (arith, deep.some, deep.most); small = deep.small }
 
-    pushed-deep : (m code h k : ℕ) (bs : Results) (t : Bool) → leb s.size s.depth ≡ t → KeptDepth (pushed i s m code h k bs t)
+    pushed-deep : (m code h k : ℕ) (bs : Results) (t : Bool) → leb s.size s.depth ≡ t → KeptDepth (pushed_tick i s m code h k bs t)
     pushed-deep m code h k bs true e = full-deep m bs
     pushed-deep m code h k bs false e =
         record { some = omega arith; most = omega (arith, leb-false s.size s.depth e); small = deep.small }
 
-    popped-deep : (m : ℕ) (bs : Results) (t : Bool) → leb s.depth 1 ≡ t → KeptDepth (popped i s w m bs t)
+    popped-deep : (m : ℕ) (bs : Results) (t : Bool) → leb s.depth 1 ≡ t → KeptDepth (popped_tick i s w m bs t)
     popped-deep m bs true e = record { some = omega arith; most = omega (arith, deep.some, deep.most); small = deep.small }
     popped-deep m bs false e =
         let two : 1 < s.depth = leb-false s.depth 1 e in
-        moved-deep m 3 (dropping s bs) _ (rowLeads i bs (placeAt s (s.depth - 2)) w)
+        moved-deep m 3 (popped_state s bs) _ (row_leads i bs (place_at s (s.depth - 2)) w)
         (record { some = omega arith; most = omega (arith, deep.most); small = deep.small })
 
     tick-deep : KeptDepth (tick i s w)
@@ -209,7 +209,7 @@ module _ (b : List ℕ) (s : State) (y : TickAsked b s) where
         same = record { some = deep.some; most = deep.most; small = deep.small }
 
         go : (k : ℕ) → x.kind ≡ k → k ≤ 4 → KeptDepth (tick i s w)
-        go zero e h = subst KeptDepth (sym (tick-plain e)) (moved-deep _ _ _ _ (rowLeads i bits l w) same)
+        go zero e h = subst KeptDepth (sym (tick-plain e)) (moved-deep _ _ _ _ (row_leads i bits l w) same)
         go (suc zero) e h = subst KeptDepth (sym (tick-call (omega arith) (omega arith)))
             (pushed-deep _ _ _ _ bits (leb s.size s.depth) refl)
         go (suc (suc zero)) e h = subst KeptDepth (sym (tick-call (omega arith) (omega arith)))

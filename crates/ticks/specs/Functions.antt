@@ -2,31 +2,31 @@
 -- its call and its return: said of the machine's ticks, on any accepted image.
 use Rattle.std.specs.Prelude.{ℕ, suc, ◌-◌, ◌≤◌, Bool, true, false, ◌&&◌, ◌≡◌, List, leb, eqb}
 use Rattle.words.specs.lists.Pick.{pick}
-use Rattle.results.specs.Results.{result_of, withResult}
+use Rattle.results.specs.Results.{result_of, with_result}
 use Rattle.bindings.specs.Binding.{Binding}
 use Rattle.text.specs.declared.frames.codes.TheConstants.{RETURN_CODE, DROP_CODE}
 use Rattle.text.specs.frames.Frame.{contents}
 use Rattle.text.specs.frames.Verdict.{fine}
 use Rattle.image.specs.declared.layout.TheConstants.{FUNCTION_CALL, RETURN}
 use Rattle.image.specs.Image.{Image, Label}
-use Rattle.image.specs.Decode.{decoded}
-use Rattle.image.specs.Check.{imageVerdict}
-use Rattle.rows.specs.Rows.{bestRow, Found, leads}
+use Rattle.image.specs.Decode.{decoded_image}
+use Rattle.image.specs.Check.{image_verdict}
+use Rattle.rows.specs.Rows.{best_row, Found, lead_of}
 use Rattle.state.specs.declared.State.{State}
-use Rattle.state.specs.State.{bottomAlone, label_at, entry_at, number_at, Sized}
-use Rattle.state.specs.Changes.{withServing}
-use Rattle.fitness.specs.Fitness.{is_call, unfit}
-use Rattle.ticks.specs.Tick.{MachineTick, finished, moved, dropping, tick, top_of}
+use Rattle.state.specs.State.{bottom_alone, label_at, entry_at, number_at, Sized}
+use Rattle.state.specs.Changes.{with_serving}
+use Rattle.fitness.specs.Fitness.{is_call, is_unfit}
+use Rattle.ticks.specs.Tick.{MachineTick, finished, moved_tick, popped_state, tick, top_of}
 
 -- the tick on s drops all open schemes or is refused: it is made at a call that finds the stack full
-abbrev pub findsFull : Image → State → Bool
-findsFull i s = is_call (label_at i (top_of s)) && leb s.size s.depth
+abbrev pub is_at_full_call : Image → State → Bool
+is_at_full_call i s = is_call (label_at i (top_of s)) && leb s.size s.depth
 
 -- a call that is made, of an operation or of a function, leaves the bit of the number called 0; one that drops leaves that of the handler 0
 unfoldable pub CallClears : Type 0
 CallClears =
     (i : Image) (s : State) → let x = label_at i (top_of s) in is_call x ≡ true → (w m code : ℕ) (t : State) → tick i s w ≡ finished m code t
-    → result_of (pick (findsFull i s) i.handler x.called) t.bits ≡ false
+    → result_of (pick (is_at_full_call i s) i.handler x.called) t.bits ≡ false
 
 -- a drop emits the caller's mask with code 60 hexadecimal and leaves the handler's entry alone in the places, by its own number; the
 -- handler's bit is then 0, and every other bit, that of the number called too, is as the caller's result left it; who serves stays
@@ -34,47 +34,47 @@ pub record Drop (i : Image) (x : Label) (s : State) (m code : ℕ) (t : State) :
   pub mask : m ≡ x.mask
   pub coded : code ≡ DROP_CODE
   pub alone : t.depth ≡ 1
-  pub places : t.places ≡ bottomAlone (entry_at i i.handler)
-  pub numbers : t.numbers ≡ bottomAlone i.handler
-  pub servers : t.servers ≡ bottomAlone i.handler
+  pub places : t.places ≡ bottom_alone (entry_at i i.handler)
+  pub numbers : t.numbers ≡ bottom_alone i.handler
+  pub servers : t.servers ≡ bottom_alone i.handler
   pub serving : t.serving ≡ s.serving
   pub cleared : result_of i.handler t.bits ≡ false
   pub kept : (h : ℕ) → 1 ≤ h → (h ≡ i.handler → ⊥)
-      → result_of h t.bits ≡ result_of h (withResult x.result (number_at s (s.depth - 1)) s.bits)
+      → result_of h t.bits ≡ result_of h (with_result x.result (number_at s (s.depth - 1)) s.bits)
 
 unfoldable pub Drops : Type 0
 Drops =
-    (i : Image) (s : State) → findsFull i s ≡ true → (w m code : ℕ) (t : State) → tick i s w ≡ finished m code t
+    (i : Image) (s : State) → is_at_full_call i s ≡ true → (w m code : ℕ) (t : State) → tick i s w ≡ finished m code t
     → Drop i (label_at i (top_of s)) s m code t
 
 -- the tick on s writes 1 to the bit of number h: it is made at a label with result 2 of a scheme that h called
-abbrev pub machineWritesOne : Image → ℕ → State → Bool
-machineWritesOne i h s = eqb (number_at s (s.depth - 1)) h && eqb (label_at i (top_of s)).result 2
+abbrev pub is_machine_write_of_one : Image → ℕ → State → Bool
+is_machine_write_of_one i h s = eqb (number_at s (s.depth - 1)) h && eqb (label_at i (top_of s)).result 2
 
 -- the tick on s is a return at depth d
-abbrev pub returnsAt : Image → ℕ → State → Bool
-returnsAt i d s = eqb (label_at i (top_of s)).kind RETURN && eqb s.depth d
+abbrev pub is_return_at : Image → ℕ → State → Bool
+is_return_at i d s = eqb (label_at i (top_of s)).kind RETURN && eqb s.depth d
 
 -- finished ticks, and rebindings between them, lead from one state to another; none is a drop or a return at depth d, and none writes 1
 -- to the bit of number h
 pub data MachineUnwritten (i : Image) (h d : ℕ) : State → State → Type 0 where
   none : {s : State} → MachineUnwritten i h d s s
-  more : (w : ℕ) {s t u : State} {m code : ℕ} → tick i s w ≡ finished m code t → findsFull i s ≡ false → returnsAt i d s ≡ false
-      → machineWritesOne i h s ≡ false → MachineUnwritten i h d t u → MachineUnwritten i h d s u
-  bindingChanged : (g : Binding) {s u : State} → MachineUnwritten i h d (withServing s g) u → MachineUnwritten i h d s u
+  more : (w : ℕ) {s t u : State} {m code : ℕ} → tick i s w ≡ finished m code t → is_at_full_call i s ≡ false → is_return_at i d s ≡ false
+      → is_machine_write_of_one i h s ≡ false → MachineUnwritten i h d t u → MachineUnwritten i h d s u
+  binding_changed : (g : Binding) {s u : State} → MachineUnwritten i h d (with_serving s g) u → MachineUnwritten i h d s u
 
 -- a return: the top is taken off, and the label beneath goes where its row leads, or there is none
-abbrev pub returnTick : State → Found → MachineTick
-returnTick s row = moved 0 RETURN_CODE (dropping s s.bits) (s.depth - 2) row
+abbrev pub return_tick : State → Found → MachineTick
+return_tick s row = moved_tick 0 RETURN_CODE (popped_state s s.bits) (s.depth - 2) row
 
 -- For every accepted image and every state that fits it with a function call's label at the top: after the call that is made, and ticks
 -- that drop nothing and write no 1 to the bit of the number called, with any rebindings between them, the call's own return goes by the
 -- row that the label takes for bit 0.
 unfoldable pub ZeroRow : Type 0
 ZeroRow =
-    (text : List ℕ) → imageVerdict text ≡ fine → (s : State) → Sized s
-    → let i = decoded (contents text) in unfit i s ≡ false
+    (text : List ℕ) → image_verdict text ≡ fine → (s : State) → Sized s
+    → let i = decoded_image (contents text) in is_unfit i s ≡ false
     → let x = label_at i (top_of s) in x.kind ≡ FUNCTION_CALL
-    → (w m code : ℕ) (t u : State) → tick i s w ≡ finished m code t → findsFull i s ≡ false
+    → (w m code : ℕ) (t u : State) → tick i s w ≡ finished m code t → is_at_full_call i s ≡ false
     → MachineUnwritten i x.called (suc s.depth) t u
-    → returnsAt i (suc s.depth) u ≡ true → (v : ℕ) → tick i u v ≡ returnTick u (leads (bestRow (top_of s) v 0 0 i.rows))
+    → is_return_at i (suc s.depth) u ≡ true → (v : ℕ) → tick i u v ≡ return_tick u (lead_of (best_row (top_of s) v 0 0 i.rows))

@@ -1,7 +1,7 @@
 // The tick of a call, in place: there is a free place, or the stack is full.
 ghost use Rattle.std.specs.Prelude.{◌≡◌};
-ghost use Rattle.image.specs.Decode.{schemeCount};
-ghost use Rattle.tables.specs.Table.{tableImage, tableLabel};
+ghost use Rattle.image.specs.Decode.{scheme_count};
+ghost use Rattle.tables.specs.Table.{table_image, table_label};
 ghost use Rattle.tables.specs.inner.Asked.{Whole};
 ghost use Rattle.tables.specs.inner.Labels.{Framed};
 ghost use Rattle.state.specs.State.{entry_at};
@@ -30,8 +30,8 @@ struct Callee {
 // The entry of the scheme that serves, 0 where the table has none of that number.
 fn server_entry(table: &[u8], schemes: u8, server: u8) -> u8
     requires whole { Whole table.now }
-    requires schemes_value { schemes ≡ schemeCount table.now }
-    ensures { result ≡ entry_at (tableImage table.now) server }
+    requires schemes_value { schemes ≡ scheme_count table.now }
+    ensures { result ≡ entry_at (table_image table.now) server }
 {
     if schemes < server {
         return 0;
@@ -43,7 +43,7 @@ fn server_entry(table: &[u8], schemes: u8, server: u8) -> u8
 // is served as number 1 is.
 fn stray_callee(table: &[u8], schemes: u8, bytes: &[u8; STATE_BYTES]) -> Callee
     requires whole { Whole table.now }
-    requires schemes_value { schemes ≡ schemeCount table.now }
+    requires schemes_value { schemes ≡ scheme_count table.now }
     ensures { IsCallee table.now (state_of bytes.now) 0 result }
 {
     let server = serving_at(bytes, 1);
@@ -59,7 +59,7 @@ fn stray_callee(table: &[u8], schemes: u8, bytes: &[u8; STATE_BYTES]) -> Callee
 // label is known as soon as three bytes, one after the other, are read.
 fn callee_of(table: &[u8], schemes: u8, bytes: &[u8; STATE_BYTES], l: usize) -> Callee
     requires { Framed table.now schemes l }
-    ensures { IsCallee table.now (state_of bytes.now) (tableLabel table.now l).called result }
+    ensures { IsCallee table.now (state_of bytes.now) (table_label table.now l).called result }
 {
     let number = field_of(table, schemes, l, CALLED);
     if schemes < number {
@@ -95,7 +95,7 @@ pub fn tick_call(
     word: u16,
 ) -> TickMove
     requires top_calls { TopCalls table.now (state_of bytes.old) }
-    requires schemes_value { schemes ≡ schemeCount table.now }
+    requires schemes_value { schemes ≡ scheme_count table.now }
     requires l_value { l ≡ top_of (state_of bytes.old) }
     ensures { GivesTickMove table.now bytes.old word result bytes.new }
 {

@@ -1,8 +1,8 @@
 // Tick codes: which code a tick has, and what a code stands for.
 ghost use Rattle.std.specs.Prelude.{◌≡◌, ◌≤◌};
 ghost use Rattle.text.specs.declared.frames.sizes.TheConstants.{SCHEMES};
-ghost use Rattle.image.specs.Layout.{tickKind};
-ghost use Rattle.ticks.specs.codes.Codes.{code_of, meaningOf};
+ghost use Rattle.image.specs.Layout.{tick_kind};
+ghost use Rattle.ticks.specs.codes.Codes.{code_of, meaning_of};
 
 use image::layout::*;
 use text::frames::codes::*;
@@ -27,7 +27,7 @@ pub enum Meaning {
 // The code of a tick, by its kind and the number that it calls.
 pub fn code_of(kind: u8, called: u8) -> u8
     requires { called ≤ SCHEMES }
-    ensures { result ≡ code_of (tickKind kind) called }
+    ensures { result ≡ code_of (tick_kind kind) called }
 {
     match kind {
         PLAIN => PLAIN_CODE,
@@ -40,7 +40,7 @@ pub fn code_of(kind: u8, called: u8) -> u8
 
 // Only schemes 2 to 16 can be called.
 pub fn meaning_of(code: u8) -> Meaning
-    ensures { result ≡ meaningOf code }
+    ensures { result ≡ meaning_of code }
 {
     match code {
         PLAIN_CODE => Meaning::Plain,

@@ -1,10 +1,10 @@
 // A call that finds the stack full: it drops all open schemes for the handler, or is refused.
 ghost use Rattle.std.specs.Prelude.{◌≡◌};
-ghost use Rattle.image.specs.Decode.{schemeCount};
-ghost use Rattle.tables.specs.Table.{tableImage};
+ghost use Rattle.image.specs.Decode.{scheme_count};
+ghost use Rattle.tables.specs.Table.{table_image};
 ghost use Rattle.tables.specs.inner.Asked.{Whole};
 ghost use Rattle.state.specs.Bytes.{state_of};
-ghost use Rattle.ticks.specs.Tick.{keepsFull};
+ghost use Rattle.ticks.specs.Tick.{is_full_stack_kept};
 ghost use Rattle.ticks.specs.inner.TickContracts.{TopFull, GivesTickEnd};
 
 use crate::TickEnd;
@@ -18,7 +18,7 @@ use text::frames::refusals::FULL;
 // Whether a full stack is kept: there is no handler, or it is at the bottom.
 fn keeps_full(table: &[u8], bytes: &[u8; STATE_BYTES]) -> bool
     requires { Whole table.now }
-    ensures { result ≡ keepsFull (tableImage table.now) (state_of bytes.now) }
+    ensures { result ≡ is_full_stack_kept (table_image table.now) (state_of bytes.now) }
 {
     let handler = handler_of(table);
     if handler == 0 {
@@ -36,7 +36,7 @@ fn keeps_full(table: &[u8], bytes: &[u8; STATE_BYTES]) -> bool
 // stack that is kept refuses the call.
 pub fn tick_full(table: &[u8], schemes: u8, bytes: &mut [u8; STATE_BYTES], word: u16) -> TickEnd
     requires top_full { TopFull table.now (state_of bytes.old) }
-    requires schemes_value { schemes ≡ schemeCount table.now }
+    requires schemes_value { schemes ≡ scheme_count table.now }
     ensures { GivesTickEnd table.now bytes.old word result bytes.new }
 {
     if keeps_full(table, bytes) {

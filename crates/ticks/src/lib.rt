@@ -6,7 +6,7 @@
 ghost use Rattle.std.specs.Prelude.{◌≡◌};
 ghost use Rattle.state.specs.Bytes.{state_of};
 ghost use Rattle.ticks.specs.Tick.{stopped};
-ghost use Rattle.ticks.specs.inner.TickContracts.{bit_of, endOfTick};
+ghost use Rattle.ticks.specs.inner.TickContracts.{bit_of, end_of_tick};
 
 pub mod calls;
 pub mod codes;
@@ -46,7 +46,7 @@ pub fn bit_of(bytes: &[u8; STATE_BYTES], kind: u8, called: u8) -> u8
 
 // A tick that finds no row to go on by: nothing is done.
 pub fn no_row() -> TickEnd
-    ensures { result ≡ endOfTick (stopped NO_ROW) }
+    ensures { result ≡ end_of_tick (stopped NO_ROW) }
 {
     TickEnd {
         number: NO_ROW,

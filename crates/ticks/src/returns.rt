@@ -1,6 +1,6 @@
 // The tick of a return, in place.
 ghost use Rattle.std.specs.Prelude.{◌≡◌};
-ghost use Rattle.tables.specs.Table.{tableImage};
+ghost use Rattle.tables.specs.Table.{table_image};
 ghost use Rattle.rows.specs.Rows.{next_of};
 ghost use Rattle.state.specs.Bytes.{state_of};
 ghost use Rattle.ticks.specs.inner.TickContracts.{Header, TopReturn, TopBack, beneath, GivesTickMove};
@@ -17,7 +17,7 @@ use text::frames::codes::RETURN_CODE;
 fn next_beneath(table: &[u8], schemes: u8, last: u8, bytes: &[u8; STATE_BYTES], word: u16) -> u16
     requires top_back { TopBack table.now (state_of bytes.now) }
     requires header { Header table.now schemes last }
-    ensures { result ≡ next_of (beneath (tableImage table.now) (state_of bytes.now) word) }
+    ensures { result ≡ next_of (beneath (table_image table.now) (state_of bytes.now) word) }
 {
     let l = place_of(bytes, (depth_of(bytes) as usize) - 2);
     if l < 2 {

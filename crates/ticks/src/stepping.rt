@@ -1,6 +1,6 @@
 // One tick on a prepared table and the bytes of a state, in place, by the label at the top.
 ghost use Rattle.std.specs.Prelude.{◌≡◌};
-ghost use Rattle.image.specs.Decode.{schemeCount};
+ghost use Rattle.image.specs.Decode.{scheme_count};
 ghost use Rattle.state.specs.Bytes.{state_of};
 ghost use Rattle.ticks.specs.Tick.{top_of};
 ghost use Rattle.ticks.specs.inner.TickContracts.{TickAsked, Header, TopNumbered, TopPlain, TopHome, GivesTickMove};
@@ -25,7 +25,7 @@ fn tick_plain(
     word: u16,
 ) -> TickMove
     requires top_plain { TopPlain table.now (state_of bytes.old) }
-    requires schemes_value { schemes ≡ schemeCount table.now }
+    requires schemes_value { schemes ≡ scheme_count table.now }
     requires l_value { l ≡ top_of (state_of bytes.old) }
     ensures { GivesTickMove table.now bytes.old word result bytes.new }
 {

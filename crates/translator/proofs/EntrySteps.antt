@@ -7,63 +7,63 @@ use lib.Dec.{ltb}
 use lib.ListN.{length, take, replicate}
 use Rattle.text.specs.frames.Frame.{contents}
 use Rattle.text.specs.frames.Verdict.{Verdict, fine, refused, when}
-use Rattle.text.specs.frames.Answer.{success, refusal, reply, BufferOutcome, GivesBuffer, bufferOn}
+use Rattle.text.specs.frames.Answer.{success, refusal, reply, BufferOutcome, GivesBuffer, buffer_on}
 use Rattle.text.specs.declared.frames.Answer.{Answer}
 use Rattle.text.specs.declared.frames.Answer.TheVariants.{Done, Refused}
-use Rattle.text.specs.frames.Check.{textVerdict}
+use Rattle.text.specs.frames.Check.{text_verdict}
 use Rattle.text.proofs.frames.Chains.{next-refused, next-on}
 use Rattle.text.proofs.frames.Verdicts.{next-rest}
 use Rattle.text.proofs.frames.Lent.{Success, lent_fits, lent-told, lent-refused, front}
-use Rattle.charts.specs.Check.{chartVerdict}
-use Rattle.charts.specs.Entry.{readVerdict, readChart}
+use Rattle.charts.specs.Check.{chart_verdict}
+use Rattle.charts.specs.Entry.{read_verdict, read_chart}
 use Rattle.charts.proofs.Accepted.{Accepted, accepted, accepted-bytes}
-use Rattle.image.specs.Image.{imageText}
+use Rattle.image.specs.Image.{image_text}
 use Rattle.chart_rows.specs.Rows.{rows}
 use Rattle.translator.specs.Table.{table}
-use Rattle.translator.specs.Entry.{translateVerdict, translate}
+use Rattle.translator.specs.Entry.{translate_verdict, translate}
 use Rattle.chart_rows.specs.chart_labels.inner.ChartContracts.{Ready}
-use Rattle.translator.specs.inner.ImageBytes.{imageOutcome}
+use Rattle.translator.specs.inner.ImageBytes.{image_outcome}
 
 -- a refusal with room for all of it is the verdict's, and counts 0
 lent-no : (v : Verdict) (unit : ℕ) (new : Unit {0} → List ℕ) (old : List ℕ) (k i m : ℕ) → (v ≡ fine → length (new tt) ≤ length old)
-    → (bufferOn v unit new old).reply ≡ refusal k i m → (v ≡ refused k i) × (m ≡ 0)
+    → (buffer_on v unit new old).reply ≡ refusal k i m → (v ≡ refused k i) × (m ≡ 0)
 lent-no (refused k' i') unit new old k i m h e = (cc, cc)
 lent-no fine unit new old k i m h e =
-    absurd (let q : (bufferOn fine unit new old).reply ≡ success (length (new tt) / unit) =
+    absurd (let q : (buffer_on fine unit new old).reply ≡ success (length (new tt) / unit) =
     ap (λ (l : BufferOutcome). l.reply) (lent_fits unit new old (h refl)) in
     let z : ◌≡◌ {A = ℕ} 0 1 = cc in omega arith)
 
-chart-room : (t zeros : List ℕ) → 2560 ≤ length zeros → readVerdict t ≡ fine → length (contents t) ≤ length zeros
+chart-room : (t zeros : List ℕ) → 2560 ≤ length zeros → read_verdict t ≡ fine → length (contents t) ≤ length zeros
 chart-room t zeros h ok = let a : Accepted (contents t) = accepted t ok in omega (arith, a.whole, a.few)
 
-module _ (t zeros : List ℕ) (room : 2560 ≤ length zeros) (a : Answer) (e : reply a ≡ (readChart t zeros).reply) where
+module _ (t zeros : List ℕ) (room : 2560 ≤ length zeros) (a : Answer) (e : reply a ≡ (read_chart t zeros).reply) where
   -- a refusal of the reader is its verdict's, since there is room, and counts 0
-  pub read_no : (k i m : ℕ) → a ≡ Refused k i m → (readVerdict t ≡ refused k i) × (m ≡ 0)
-  unfolding readChart
-  read_no k i m q = lent-no (readVerdict t) 10 (λ _. contents t) zeros k i m (chart-room t zeros room) (sym e ∙ ap reply q)
+  pub read_no : (k i m : ℕ) → a ≡ Refused k i m → (read_verdict t ≡ refused k i) × (m ≡ 0)
+  unfolding read_chart
+  read_no k i m q = lent-no (read_verdict t) 10 (λ _. contents t) zeros k i m (chart-room t zeros room) (sym e ∙ ap reply q)
 
   -- and the translator's
   pub read-refused : (out : List ℕ) (k i m : ℕ) → a ≡ Refused k i m → GivesBuffer (translate t out) a out
-  unfolding translate translateVerdict
+  unfolding translate translate_verdict
   read-refused out k i m q =
-      let p : (readVerdict t ≡ refused k i) × (m ≡ 0) = read_no k i m q in
-      lent-refused (translateVerdict t) 1 (λ _. imageText (table (contents t))) out k i
-      (next-refused (readVerdict t) (λ _. when 10 (ltb 1024 (length (rows (contents t))))) k i p.0)
+      let p : (read_verdict t ≡ refused k i) × (m ≡ 0) = read_no k i m q in
+      lent-refused (translate_verdict t) 1 (λ _. image_text (table (contents t))) out k i
+      (next-refused (read_verdict t) (λ _. when 10 (ltb 1024 (length (rows (contents t))))) k i p.0)
       a (ap reply q ∙ ap (refusal k i) p.1)
 
 -- the chart was accepted and stands at the front of the table
 pub record Read (t held : List ℕ) (n : ℕ) : Type 0 where
-  pub accepted : readVerdict t ≡ fine
+  pub accepted : read_verdict t ≡ fine
   pub few : n ≤ 256
   pub chart : take (10 * n) held ≡ contents t
   pub long : length (contents t) ≡ 10 * n
 
-pub read_told : (t zeros : List ℕ) (a : Answer) (n : ℕ) (held : List ℕ) → reply a ≡ (readChart t zeros).reply → a ≡ Done n
-    → held ≡ (readChart t zeros).buffer → Read t held n
-unfolding readChart
+pub read_told : (t zeros : List ℕ) (a : Answer) (n : ℕ) (held : List ℕ) → reply a ≡ (read_chart t zeros).reply → a ≡ Done n
+    → held ≡ (read_chart t zeros).buffer → Read t held n
+unfolding read_chart
 read_told t zeros a n held e d b =
-    let s : Success (readVerdict t) 10 (contents t) zeros n (readChart t zeros) =
-    lent-told (readVerdict t) 10 (λ _. contents t) zeros n (sym e ∙ ap reply d) in
+    let s : Success (read_verdict t) 10 (contents t) zeros n (read_chart t zeros) =
+    lent-told (read_verdict t) 10 (λ _. contents t) zeros n (sym e ∙ ap reply d) in
     let c : Accepted (contents t) = accepted t s.accepted in
     let l : length (contents t) ≡ 10 * n = omega (arith, c.whole, s.count) in
     record {
@@ -78,7 +78,7 @@ module _ (t held : List ℕ) (n : ℕ) (r : Read t held n) where
   read-long = ap (λ (x : List ℕ). length x) r.chart ∙ r.long
 
   pub read-ready : Ready (take (10 * n) held)
-  unfolding readVerdict
+  unfolding read_verdict
   read-ready =
       let a : Accepted (contents t) = accepted t r.accepted in
       subst Ready (sym r.chart) (record {
@@ -86,17 +86,17 @@ module _ (t held : List ℕ) (n : ℕ) (r : Read t held n) where
         some = a.some;
         few = a.few;
         bytes = accepted-bytes t r.accepted;
-        accepted = next-rest (textVerdict 5888 t) (λ _. chartVerdict (contents t)) r.accepted;
+        accepted = next-rest (text_verdict 5888 t) (λ _. chart_verdict (contents t)) r.accepted;
       })
 
-  same : (out : List ℕ) → imageOutcome (take (10 * n) held) out ≡ translate t out
-  unfolding translate translateVerdict
+  same : (out : List ℕ) → image_outcome (take (10 * n) held) out ≡ translate t out
+  unfolding translate translate_verdict
   same out =
-      ap (λ (c : List ℕ). imageOutcome c out) r.chart
-      ∙ ap (λ v. bufferOn v 1 (λ _. imageText (table (contents t))) out)
-      (sym (next-on (readVerdict t) (λ _. when 10 (ltb 1024 (length (rows (contents t))))) r.accepted))
+      ap (λ (c : List ℕ). image_outcome c out) r.chart
+      ∙ ap (λ v. buffer_on v 1 (λ _. image_text (table (contents t))) out)
+      (sym (next-on (read_verdict t) (λ _. when 10 (ltb 1024 (length (rows (contents t))))) r.accepted))
 
-  pub translated : (out out' : List ℕ) (a : Answer) → GivesBuffer (imageOutcome (take (10 * n) held) out) a out'
+  pub translated : (out out' : List ℕ) (a : Answer) → GivesBuffer (image_outcome (take (10 * n) held) out) a out'
       → GivesBuffer (translate t out) a out'
   translated out out' a lends = subst (λ (x : BufferOutcome). GivesBuffer x a out') (same out) lends
 

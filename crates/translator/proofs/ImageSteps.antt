@@ -12,10 +12,10 @@ use lib.ListN.{length, length-append}
 use borrow.Author.Tests.{lt-ltb, le-ltb}
 use Rattle.words.specs.lists.Pick.{pick}
 use Rattle.words.specs.lists.Numbers.{range, count}
-use Rattle.words.specs.lists.Sequences.{concatMap, filter, mapFrom, written}
+use Rattle.words.specs.lists.Sequences.{concat_map, filter, map_from, written}
 use Rattle.words.proofs.lists.Tests.{yes-pick, no-pick}
 use Rattle.words.proofs.lists.Counts.{count-suc, count-snoc}
-use Rattle.words.proofs.lists.Ranges.{mapFrom-cons, filter-yes, filter-no}
+use Rattle.words.proofs.lists.Ranges.{map_from-cons, filter-yes, filter-no}
 use Rattle.words.proofs.lists.Joins.{concat-cons, concat-map, concat-append, length-concat-range}
 use Rattle.words.proofs.lists.Written.{written-more, written-front, written-before}
 use Rattle.text.specs.frames.Frame.{size}
@@ -25,15 +25,15 @@ use Rattle.text.specs.declared.frames.Answer.TheVariants.{Done, Refused}
 use Rattle.text.proofs.frames.Chains.{when-holds, when-fails}
 use Rattle.text.proofs.frames.Lent.{lent-refused, lent-short, lent-done}
 use Rattle.charts.specs.Chart.{Chart, handler, schemes}
-use Rattle.image.specs.Image.{Row, entryFrame, labelFrame, rowFrame, imageFrames, imageText}
-use Rattle.chart_rows.specs.chart_labels.Labels.{numbered, label, entry, homeLabel, returnLabel, stopLabel, numberedNodes}
+use Rattle.image.specs.Image.{Row, entry_frame, label_frame, row_frame, image_frames, image_text}
+use Rattle.chart_rows.specs.chart_labels.Labels.{is_numbered, label, entry, home_label, return_label, stop_label, numbered_nodes}
 use Rattle.chart_rows.specs.Rows.{rows}
 use Rattle.translator.specs.Table.{table}
-use Rattle.translator.specs.path_text.inner.RowBytes.{rowsBytes}
-use Rattle.translator.specs.row_text.inner.NodeBytes.{nodeRowsBytes}
-use Rattle.translator.specs.inner.ImageBytes.{framesBytes, tableBytes, sizeRefusal, imageOutcome}
-use Rattle.chart_rows.specs.inner.NodeRows.{nodeRows}
-use Rattle.translator.specs.label_text.inner.LabelBytes.{headerBytes, entryBytes, fixedBytes, nodeLabelBytes, up_to, Put}
+use Rattle.translator.specs.path_text.inner.RowBytes.{rows_bytes}
+use Rattle.translator.specs.row_text.inner.NodeBytes.{node_rows_bytes}
+use Rattle.translator.specs.inner.ImageBytes.{frames_bytes, table_bytes, size_refusal, image_outcome}
+use Rattle.chart_rows.specs.inner.NodeRows.{node_rows}
+use Rattle.translator.specs.label_text.inner.LabelBytes.{header_bytes, entry_bytes, fixed_bytes, node_label_bytes, up_to, Put}
 use Rattle.translator.specs.inner.TranslatorContracts.{Sizes}
 use Rattle.translator.proofs.LabelLaws.{length-labels, length-entries}
 use Rattle.translator.proofs.ImageBytes.{bytes-length, image-length}
@@ -43,140 +43,147 @@ use Rattle.translator.proofs.path_text.RowPuts.{rows_append}
 
 -- ---- entries
 entries_from : (c : Chart) (i n : ℕ)
-    → framesBytes (mapFrom entryFrame (suc i) (map (entry c) (range (suc i) n))) ≡ concatMap (entryBytes c) (range i n)
-entries_from c i zero = unfold mapFrom concatMap in refl
+    → frames_bytes (map_from entry_frame (suc i) (map (entry c) (range (suc i) n))) ≡ concat_map (entry_bytes c) (range i n)
+entries_from c i zero = unfold map_from concat_map in refl
 entries_from c i (suc n) =
-    ap framesBytes (mapFrom-cons entryFrame (suc i) (entry c (suc i)) (map (entry c) (range (suc (suc i)) n)))
-    ∙ concat-cons (λ f. f) (entryFrame (suc i) (entry c (suc i))) (mapFrom entryFrame (suc (suc i)) (map (entry c) (range (suc (suc i)) n)))
-    ∙ ap₂ (λ (x y : List ℕ). x ++ y) (ap (λ (k : ℕ). entryFrame k (entry c k)) (sym (add-one i))) (entries_from c (suc i) n)
-    ∙ sym (concat-cons (entryBytes c) i (range (suc i) n))
+    ap frames_bytes (map_from-cons entry_frame (suc i) (entry c (suc i)) (map (entry c) (range (suc (suc i)) n)))
+    ∙ concat-cons (λ f. f) (entry_frame (suc i) (entry c (suc i)))
+    (map_from entry_frame (suc (suc i)) (map (entry c) (range (suc (suc i)) n)))
+    ∙ ap₂ (λ (x y : List ℕ). x ++ y) (ap (λ (k : ℕ). entry_frame k (entry c k)) (sym (add-one i))) (entries_from c (suc i) n)
+    ∙ sym (concat-cons (entry_bytes c) i (range (suc i) n))
 
 -- ---- labels
 module _ (c : Chart) where
   labels_from : (i n : ℕ)
-      → framesBytes (mapFrom labelFrame (2 + count (numbered c) 0 i) (map (stopLabel c) (filter (numbered c) (range i n))))
-      ≡ concatMap (nodeLabelBytes c) (range i n)
-  labels_from i zero = unfold mapFrom concatMap filter in refl
-  labels_from i (suc n) = go (numbered c i) refl (labels_from (suc i) n)
+      → frames_bytes (map_from label_frame (2 + count (is_numbered c) 0 i) (map (stop_label c) (filter (is_numbered c) (range i n))))
+      ≡ concat_map (node_label_bytes c) (range i n)
+  labels_from i zero = unfold map_from concat_map filter in refl
+  labels_from i (suc n) = go (is_numbered c i) refl (labels_from (suc i) n)
     where
-      go : (b : Bool) → numbered c i ≡ b
-          → framesBytes (mapFrom labelFrame (2 + count (numbered c) 0 (suc i)) (map (stopLabel c) (filter (numbered c) (range (suc i) n))))
-          ≡ concatMap (nodeLabelBytes c) (range (suc i) n)
-          → framesBytes (mapFrom labelFrame (2 + count (numbered c) 0 i) (map (stopLabel c) (filter (numbered c) (range i (suc n)))))
-          ≡ concatMap (nodeLabelBytes c) (range i (suc n))
+      go : (b : Bool) → is_numbered c i ≡ b
+          → frames_bytes (map_from label_frame (2 + count (is_numbered c) 0 (suc i))
+          (map (stop_label c) (filter (is_numbered c) (range (suc i) n))))
+          ≡ concat_map (node_label_bytes c) (range (suc i) n)
+          → frames_bytes (map_from label_frame (2 + count (is_numbered c) 0 i)
+          (map (stop_label c) (filter (is_numbered c) (range i (suc n)))))
+          ≡ concat_map (node_label_bytes c) (range i (suc n))
       go true e ih =
-          let p : pick {A = ℕ} (numbered c (0 + i)) 1 0 ≡ 1 =
-          ap (λ (j : ℕ). pick {A = ℕ} (numbered c j) 1 0) (zero-add i) ∙ yes-pick (numbered c i) 1 0 e in
-          let s : suc (2 + count (numbered c) 0 i) ≡ 2 + count (numbered c) 0 (suc i) = omega (arith, count-snoc (numbered c) 0 i, p) in
-          ap (λ (vs : List ℕ). framesBytes (mapFrom labelFrame (2 + count (numbered c) 0 i) (map (stopLabel c) vs)))
-          (filter-yes (numbered c) i (range (suc i) n) e)
-          ∙ ap framesBytes (mapFrom-cons labelFrame (2 + count (numbered c) 0 i) (stopLabel c i)
-          (map (stopLabel c) (filter (numbered c) (range (suc i) n))))
-          ∙ concat-cons (λ f. f) (labelFrame (2 + count (numbered c) 0 i) (stopLabel c i))
-          (mapFrom labelFrame (suc (2 + count (numbered c) 0 i)) (map (stopLabel c) (filter (numbered c) (range (suc i) n))))
+          let p : pick {A = ℕ} (is_numbered c (0 + i)) 1 0 ≡ 1 =
+          ap (λ (j : ℕ). pick {A = ℕ} (is_numbered c j) 1 0) (zero-add i) ∙ yes-pick (is_numbered c i) 1 0 e in
+          let s : suc (2 + count (is_numbered c) 0 i) ≡ 2 + count (is_numbered c) 0 (suc i) =
+          omega (arith, count-snoc (is_numbered c) 0 i, p) in
+          ap (λ (vs : List ℕ). frames_bytes (map_from label_frame (2 + count (is_numbered c) 0 i) (map (stop_label c) vs)))
+          (filter-yes (is_numbered c) i (range (suc i) n) e)
+          ∙ ap frames_bytes (map_from-cons label_frame (2 + count (is_numbered c) 0 i) (stop_label c i)
+          (map (stop_label c) (filter (is_numbered c) (range (suc i) n))))
+          ∙ concat-cons (λ f. f) (label_frame (2 + count (is_numbered c) 0 i) (stop_label c i))
+          (map_from label_frame (suc (2 + count (is_numbered c) 0 i)) (map (stop_label c) (filter (is_numbered c) (range (suc i) n))))
           ∙ ap₂ (λ (x y : List ℕ). x ++ y)
-          (ap (λ (l : ℕ). labelFrame l (stopLabel c i)) (sym (label-own c i e))
-          ∙ sym (yes-pick (numbered c i) (labelFrame (label c i) (stopLabel c i)) [] e))
-          (ap (λ (l : ℕ). framesBytes (mapFrom labelFrame l (map (stopLabel c) (filter (numbered c) (range (suc i) n))))) s ∙ ih)
-          ∙ sym (concat-cons (nodeLabelBytes c) i (range (suc i) n))
+          (ap (λ (l : ℕ). label_frame l (stop_label c i)) (sym (label-own c i e))
+          ∙ sym (yes-pick (is_numbered c i) (label_frame (label c i) (stop_label c i)) [] e))
+          (ap (λ (l : ℕ). frames_bytes (map_from label_frame l (map (stop_label c) (filter (is_numbered c) (range (suc i) n))))) s ∙ ih)
+          ∙ sym (concat-cons (node_label_bytes c) i (range (suc i) n))
       go false e ih =
-          let p : pick {A = ℕ} (numbered c (0 + i)) 1 0 ≡ 0 =
-          ap (λ (j : ℕ). pick {A = ℕ} (numbered c j) 1 0) (zero-add i) ∙ no-pick (numbered c i) 1 0 e in
-          let s : 2 + count (numbered c) 0 i ≡ 2 + count (numbered c) 0 (suc i) = omega (arith, count-snoc (numbered c) 0 i, p) in
-          ap (λ (vs : List ℕ). framesBytes (mapFrom labelFrame (2 + count (numbered c) 0 i) (map (stopLabel c) vs)))
-          (filter-no (numbered c) i (range (suc i) n) e)
-          ∙ ap (λ (l : ℕ). framesBytes (mapFrom labelFrame l (map (stopLabel c) (filter (numbered c) (range (suc i) n))))) s ∙ ih
-          ∙ sym (concat-cons (nodeLabelBytes c) i (range (suc i) n)
-          ∙ ap (λ (x : List ℕ). x ++ concatMap (nodeLabelBytes c) (range (suc i) n))
-          (no-pick (numbered c i) (labelFrame (label c i) (stopLabel c i)) [] e))
+          let p : pick {A = ℕ} (is_numbered c (0 + i)) 1 0 ≡ 0 =
+          ap (λ (j : ℕ). pick {A = ℕ} (is_numbered c j) 1 0) (zero-add i) ∙ no-pick (is_numbered c i) 1 0 e in
+          let s : 2 + count (is_numbered c) 0 i ≡ 2 + count (is_numbered c) 0 (suc i) = omega (arith, count-snoc (is_numbered c) 0 i, p) in
+          ap (λ (vs : List ℕ). frames_bytes (map_from label_frame (2 + count (is_numbered c) 0 i) (map (stop_label c) vs)))
+          (filter-no (is_numbered c) i (range (suc i) n) e)
+          ∙ ap (λ (l : ℕ). frames_bytes (map_from label_frame l (map (stop_label c) (filter (is_numbered c) (range (suc i) n))))) s ∙ ih
+          ∙ sym (concat-cons (node_label_bytes c) i (range (suc i) n)
+          ∙ ap (λ (x : List ℕ). x ++ concat_map (node_label_bytes c) (range (suc i) n))
+          (no-pick (is_numbered c i) (label_frame (label c i) (stop_label c i)) [] e))
 
-  none_before : 2 + count (numbered c) 0 0 ≡ 2
+  none_before : 2 + count (is_numbered c) 0 0 ≡ 2
   unfolding count
   none_before = refl
 
-  labels-joined : framesBytes (mapFrom labelFrame 0 (homeLabel ∷ returnLabel ∷ map (stopLabel c) (numberedNodes c)))
-      ≡ fixedBytes ++ up_to (nodeLabelBytes c) (size c)
+  labels-joined : frames_bytes (map_from label_frame 0 (home_label ∷ return_label ∷ map (stop_label c) (numbered_nodes c)))
+      ≡ fixed_bytes ++ up_to (node_label_bytes c) (size c)
   labels-joined =
-      ap framesBytes (mapFrom-cons labelFrame 0 homeLabel (returnLabel ∷ map (stopLabel c) (numberedNodes c)))
-      ∙ concat-cons (λ f. f) (labelFrame 0 homeLabel) (mapFrom labelFrame 1 (returnLabel ∷ map (stopLabel c) (numberedNodes c)))
-      ∙ ap (λ (x : List ℕ). labelFrame 0 homeLabel ++ x)
-      (ap framesBytes (mapFrom-cons labelFrame 1 returnLabel (map (stopLabel c) (numberedNodes c)))
-      ∙ concat-cons (λ f. f) (labelFrame 1 returnLabel) (mapFrom labelFrame 2 (map (stopLabel c) (numberedNodes c)))
-      ∙ ap (λ (x : List ℕ). labelFrame 1 returnLabel ++ x)
-      (ap (λ (l : ℕ). framesBytes (mapFrom labelFrame l (map (stopLabel c) (numberedNodes c)))) (sym none_before) ∙ labels_from 0 (size c)))
-      ∙ sym (append_assoc (labelFrame 0 homeLabel) (labelFrame 1 returnLabel) (up_to (nodeLabelBytes c) (size c)))
+      ap frames_bytes (map_from-cons label_frame 0 home_label (return_label ∷ map (stop_label c) (numbered_nodes c)))
+      ∙ concat-cons (λ f. f) (label_frame 0 home_label) (map_from label_frame 1 (return_label ∷ map (stop_label c) (numbered_nodes c)))
+      ∙ ap (λ (x : List ℕ). label_frame 0 home_label ++ x)
+      (ap frames_bytes (map_from-cons label_frame 1 return_label (map (stop_label c) (numbered_nodes c)))
+      ∙ concat-cons (λ f. f) (label_frame 1 return_label) (map_from label_frame 2 (map (stop_label c) (numbered_nodes c)))
+      ∙ ap (λ (x : List ℕ). label_frame 1 return_label ++ x)
+      (ap (λ (l : ℕ). frames_bytes (map_from label_frame l (map (stop_label c) (numbered_nodes c)))) (sym none_before)
+      ∙ labels_from 0 (size c)))
+      ∙ sym (append_assoc (label_frame 0 home_label) (label_frame 1 return_label) (up_to (node_label_bytes c) (size c)))
 
   -- ---- rows
-  rows-each : (xs : List ℕ) → rowsBytes (concatMap (nodeRows c) xs) ≡ concatMap (nodeRowsBytes c) xs
-  rows-each [] = unfold concatMap in refl
+  rows-each : (xs : List ℕ) → rows_bytes (concat_map (node_rows c) xs) ≡ concat_map (node_rows_bytes c) xs
+  rows-each [] = unfold concat_map in refl
   rows-each (x ∷ xs) =
-      ap rowsBytes (concat-cons (nodeRows c) x xs) ∙ rows_append (nodeRows c x) (concatMap (nodeRows c) xs)
-      ∙ ap (λ (y : List ℕ). nodeRowsBytes c x ++ y) (rows-each xs) ∙ sym (concat-cons (nodeRowsBytes c) x xs)
+      ap rows_bytes (concat-cons (node_rows c) x xs) ∙ rows_append (node_rows c x) (concat_map (node_rows c) xs)
+      ∙ ap (λ (y : List ℕ). node_rows_bytes c x ++ y) (rows-each xs) ∙ sym (concat-cons (node_rows_bytes c) x xs)
 
-  rows-parted : rowsBytes (rows c) ≡ up_to (nodeRowsBytes c) (size c)
-  rows-parted = ap rowsBytes (sym (below_all c (size c) refl)) ∙ rows-each (range 0 (size c))
+  rows-parted : rows_bytes (rows c) ≡ up_to (node_rows_bytes c) (size c)
+  rows-parted = ap rows_bytes (sym (below_all c (size c) refl)) ∙ rows-each (range 0 (size c))
 
   -- ---- the whole
-  abbrev pub imageParts : ℕ → ℕ → ℕ → List ℕ
-  imageParts highest last n =
-      headerBytes highest last n (handler c)
-      ++ (up_to (entryBytes c) highest ++ (fixedBytes ++ (up_to (nodeLabelBytes c) (size c) ++ up_to (nodeRowsBytes c) (size c))))
+  abbrev pub image_parts : ℕ → ℕ → ℕ → List ℕ
+  image_parts highest last n =
+      header_bytes highest last n (handler c)
+      ++ (up_to (entry_bytes c) highest ++ (fixed_bytes ++ (up_to (node_label_bytes c) (size c) ++ up_to (node_rows_bytes c) (size c))))
 
-  pub image-parts : (highest own n : ℕ) → highest ≡ schemes c → own ≡ count (numbered c) 0 (size c) → n ≡ length (rows c)
-      → tableBytes c ≡ imageParts highest (own + 1) n
-  unfolding imageFrames table
+  pub image-parts : (highest own n : ℕ) → highest ≡ schemes c → own ≡ count (is_numbered c) 0 (size c) → n ≡ length (rows c)
+      → table_bytes c ≡ image_parts highest (own + 1) n
+  unfolding image_frames table
   image-parts highest own n eh eo en =
-      let h : headerBytes (length (table c).entries) (length (table c).labels - 1) (length (table c).rows) (handler c)
-      ≡ headerBytes highest (own + 1) n (handler c) =
-      ap (λ (k : ℕ). headerBytes k (length (table c).labels - 1) (length (table c).rows) (handler c)) (length-entries c ∙ sym eh)
-      ∙ ap₂ (λ (k m : ℕ). headerBytes highest k m (handler c)) (omega (arith, length-labels c)) (sym en) in
+      let h : header_bytes (length (table c).entries) (length (table c).labels - 1) (length (table c).rows) (handler c)
+      ≡ header_bytes highest (own + 1) n (handler c) =
+      ap (λ (k : ℕ). header_bytes k (length (table c).labels - 1) (length (table c).rows) (handler c)) (length-entries c ∙ sym eh)
+      ∙ ap₂ (λ (k m : ℕ). header_bytes highest k m (handler c)) (omega (arith, length-labels c)) (sym en) in
       concat-cons (λ f. f) _ _
       ∙ ap₂ (λ (x y : List ℕ). x ++ y) h
-      (concat-append (λ f. f) (mapFrom entryFrame 1 (map (entry c) (range 1 (schemes c)))) _
-      ∙ ap₂ (λ (x y : List ℕ). x ++ y) (entries_from c 0 (schemes c) ∙ ap (up_to (entryBytes c)) (sym eh))
-      (concat-append (λ f. f) (mapFrom labelFrame 0 (homeLabel ∷ returnLabel ∷ map (stopLabel c) (numberedNodes c))) (map rowFrame (rows c))
-      ∙ ap₂ (λ (x y : List ℕ). x ++ y) labels-joined (concat-map (λ f. f) rowFrame (rows c) ∙ rows-parted)
-      ∙ append_assoc fixedBytes (up_to (nodeLabelBytes c) (size c)) (up_to (nodeRowsBytes c) (size c))))
+      (concat-append (λ f. f) (map_from entry_frame 1 (map (entry c) (range 1 (schemes c)))) _
+      ∙ ap₂ (λ (x y : List ℕ). x ++ y) (entries_from c 0 (schemes c) ∙ ap (up_to (entry_bytes c)) (sym eh))
+      (concat-append (λ f. f) (map_from label_frame 0 (home_label ∷ return_label ∷ map (stop_label c) (numbered_nodes c)))
+      (map row_frame (rows c))
+      ∙ ap₂ (λ (x y : List ℕ). x ++ y) labels-joined (concat-map (λ f. f) row_frame (rows c) ∙ rows-parted)
+      ∙ append_assoc fixed_bytes (up_to (node_label_bytes c) (size c)) (up_to (node_rows_bytes c) (size c))))
 
   -- ---- lengths
-  pub entries-long : (n : ℕ) → length (up_to (entryBytes c) n) ≡ 10 * n
-  entries-long n = length-concat-range (entryBytes c) 10 0 n (λ k. refl)
+  pub entries-long : (n : ℕ) → length (up_to (entry_bytes c) n) ≡ 10 * n
+  entries-long n = length-concat-range (entry_bytes c) 10 0 n (λ k. refl)
 
-  labels_length : (i n : ℕ) → length (concatMap (nodeLabelBytes c) (range i n)) ≡ 10 * count (numbered c) i n
-  labels_length i zero = unfold concatMap count in refl
+  labels_length : (i n : ℕ) → length (concat_map (node_label_bytes c) (range i n)) ≡ 10 * count (is_numbered c) i n
+  labels_length i zero = unfold concat_map count in refl
   labels_length i (suc n) =
-      go (numbered c i) refl (labels_length (suc i) n)
+      go (is_numbered c i) refl (labels_length (suc i) n)
     where
-      go : (b : Bool) → numbered c i ≡ b → length (concatMap (nodeLabelBytes c) (range (suc i) n)) ≡ 10 * count (numbered c) (suc i) n
-          → length (concatMap (nodeLabelBytes c) (range i (suc n))) ≡ 10 * count (numbered c) i (suc n)
+      go : (b : Bool) → is_numbered c i ≡ b → length (concat_map (node_label_bytes c) (range (suc i) n))
+          ≡ 10 * count (is_numbered c) (suc i) n
+          → length (concat_map (node_label_bytes c) (range i (suc n))) ≡ 10 * count (is_numbered c) i (suc n)
       go true e ih =
-          let p : length (nodeLabelBytes c i) ≡ 10 =
-          ap (λ (x : List ℕ). length x) (yes-pick (numbered c i) (labelFrame (label c i) (stopLabel c i)) [] e) in
-          let q : pick {A = ℕ} (numbered c i) 1 0 ≡ 1 = yes-pick (numbered c i) 1 0 e in
-          ap (λ (x : List ℕ). length x) (concat-cons (nodeLabelBytes c) i (range (suc i) n))
-          ∙ length-append (nodeLabelBytes c i) (concatMap (nodeLabelBytes c) (range (suc i) n))
-          ∙ omega (arith, p, q, ih, count-suc (numbered c) i n)
+          let p : length (node_label_bytes c i) ≡ 10 =
+          ap (λ (x : List ℕ). length x) (yes-pick (is_numbered c i) (label_frame (label c i) (stop_label c i)) [] e) in
+          let q : pick {A = ℕ} (is_numbered c i) 1 0 ≡ 1 = yes-pick (is_numbered c i) 1 0 e in
+          ap (λ (x : List ℕ). length x) (concat-cons (node_label_bytes c) i (range (suc i) n))
+          ∙ length-append (node_label_bytes c i) (concat_map (node_label_bytes c) (range (suc i) n))
+          ∙ omega (arith, p, q, ih, count-suc (is_numbered c) i n)
       go false e ih =
-          let p : length (nodeLabelBytes c i) ≡ 0 =
-          ap (λ (x : List ℕ). length x) (no-pick (numbered c i) (labelFrame (label c i) (stopLabel c i)) [] e) in
-          let q : pick {A = ℕ} (numbered c i) 1 0 ≡ 0 = no-pick (numbered c i) 1 0 e in
-          ap (λ (x : List ℕ). length x) (concat-cons (nodeLabelBytes c) i (range (suc i) n))
-          ∙ length-append (nodeLabelBytes c i) (concatMap (nodeLabelBytes c) (range (suc i) n))
-          ∙ omega (arith, p, q, ih, count-suc (numbered c) i n)
+          let p : length (node_label_bytes c i) ≡ 0 =
+          ap (λ (x : List ℕ). length x) (no-pick (is_numbered c i) (label_frame (label c i) (stop_label c i)) [] e) in
+          let q : pick {A = ℕ} (is_numbered c i) 1 0 ≡ 0 = no-pick (is_numbered c i) 1 0 e in
+          ap (λ (x : List ℕ). length x) (concat-cons (node_label_bytes c) i (range (suc i) n))
+          ∙ length-append (node_label_bytes c i) (concat_map (node_label_bytes c) (range (suc i) n))
+          ∙ omega (arith, p, q, ih, count-suc (is_numbered c) i n)
 
-  pub labels-long : length (up_to (nodeLabelBytes c) (size c)) ≡ 10 * count (numbered c) 0 (size c)
+  pub labels-long : length (up_to (node_label_bytes c) (size c)) ≡ 10 * count (is_numbered c) 0 (size c)
   labels-long = labels_length 0 (size c)
 
-  rows-length : (rs : List Row) → length (rowsBytes rs) ≡ 10 * length rs
-  rows-length [] = unfold concatMap in refl
+  rows-length : (rs : List Row) → length (rows_bytes rs) ≡ 10 * length rs
+  rows-length [] = unfold concat_map in refl
   rows-length (r ∷ rs) =
-      ap (λ (x : List ℕ). length x) (concat-cons rowFrame r rs) ∙ length-append (rowFrame r) (rowsBytes rs)
+      ap (λ (x : List ℕ). length x) (concat-cons row_frame r rs) ∙ length-append (row_frame r) (rows_bytes rs)
       ∙ omega (arith, rows-length rs, mul-suc 10 (length rs))
 
-  pub rows_long : length (up_to (nodeRowsBytes c) (size c)) ≡ 10 * length (rows c)
+  pub rows_long : length (up_to (node_rows_bytes c) (size c)) ≡ 10 * length (rows c)
   rows_long = ap (λ (x : List ℕ). length x) (sym rows-parted) ∙ rows-length (rows c)
 
-fixed-long : length fixedBytes ≡ 20
+fixed-long : length fixed_bytes ≡ 20
 fixed-long = refl
 
 -- four parts, each written where the one before ends, and then the one before them all
@@ -197,16 +204,16 @@ chain out o₁ o₂ o₃ o₄ o₅ a b d e f p q r s ep eq er es room e₁ e₂ 
     ∙ ap (λ (x : List ℕ). written out 0 (a ++ x)) g
 
 module _ (c : Chart) (highest own n : ℕ) (s : Sizes c highest own n) where
-  pub bytes-long : length (tableBytes c) ≡ 10 * (3 + highest + own + n)
+  pub bytes-long : length (table_bytes c) ≡ 10 * (3 + highest + own + n)
   bytes-long =
       ap (λ (x : List ℕ). length x) (image-parts c highest own n s.schemed s.owned s.rowed)
-      ∙ length-append (headerBytes highest (own + 1) n (handler c))
-      (up_to (entryBytes c) highest ++ (fixedBytes ++ (up_to (nodeLabelBytes c) (size c) ++ up_to (nodeRowsBytes c) (size c))))
+      ∙ length-append (header_bytes highest (own + 1) n (handler c))
+      (up_to (entry_bytes c) highest ++ (fixed_bytes ++ (up_to (node_label_bytes c) (size c) ++ up_to (node_rows_bytes c) (size c))))
       ∙ omega (
         arith,
-        length-append (up_to (entryBytes c) highest) (fixedBytes ++ (up_to (nodeLabelBytes c) (size c) ++ up_to (nodeRowsBytes c) (size c))),
-        length-append fixedBytes (up_to (nodeLabelBytes c) (size c) ++ up_to (nodeRowsBytes c) (size c)),
-        length-append (up_to (nodeLabelBytes c) (size c)) (up_to (nodeRowsBytes c) (size c)),
+        length-append (up_to (entry_bytes c) highest) (fixed_bytes ++ (up_to (node_label_bytes c) (size c) ++ up_to (node_rows_bytes c) (size c))),
+        length-append fixed_bytes (up_to (node_label_bytes c) (size c) ++ up_to (node_rows_bytes c) (size c)),
+        length-append (up_to (node_label_bytes c) (size c)) (up_to (node_rows_bytes c) (size c)),
         fixed-long,
         entries-long c highest,
         labels-long c,
@@ -215,32 +222,32 @@ module _ (c : Chart) (highest own n : ℕ) (s : Sizes c highest own n) where
         s.rowed,
       )
 
-  pub image-long : length (imageText (table c)) ≡ 23 * (3 + highest + own + n)
+  pub image-long : length (image_text (table c)) ≡ 23 * (3 + highest + own + n)
   image-long = image-length (table c) ∙ omega (arith, bytes-length (table c), bytes-long)
 
   -- the parts, the header last; so many rows as their bytes are frames
-  pub rows-put : (row end : ℕ) → end ≡ row + length (up_to (nodeRowsBytes c) (size c)) → (end - row) / 10 ≡ n
+  pub rows-put : (row end : ℕ) → end ≡ row + length (up_to (node_rows_bytes c) (size c)) → (end - row) / 10 ≡ n
   rows-put row end e = omega (arith, rows_long c, s.rowed)
 
   module _ (out o₁ o₂ o₃ o₄ o₅ : List ℕ) (end m h : ℕ) (room : 23 * (3 + highest + own + n) ≤ length out) (em : m ≡ n)
       (eh : h ≡ handler c) where
-    pub table-put : o₁ ≡ written out 10 (up_to (entryBytes c) highest) → o₂ ≡ written o₁ (10 + 10 * highest) fixedBytes
-        → o₃ ≡ written o₂ (10 + 10 * highest + 20) (up_to (nodeLabelBytes c) (size c))
-        → Put o₃ (10 + 10 * highest + 20 + 10 * own) (up_to (nodeRowsBytes c) (size c)) end o₄
-        → o₅ ≡ written o₄ 0 (headerBytes highest (own + 1) m h) → Put out 0 (tableBytes c) end o₅
+    pub table-put : o₁ ≡ written out 10 (up_to (entry_bytes c) highest) → o₂ ≡ written o₁ (10 + 10 * highest) fixed_bytes
+        → o₃ ≡ written o₂ (10 + 10 * highest + 20) (up_to (node_label_bytes c) (size c))
+        → Put o₃ (10 + 10 * highest + 20 + 10 * own) (up_to (node_rows_bytes c) (size c)) end o₄
+        → o₅ ≡ written o₄ 0 (header_bytes highest (own + 1) m h) → Put out 0 (table_bytes c) end o₅
     table-put e₁ e₂ e₃ put e₅ =
-        let a : length (headerBytes highest (own + 1) n (handler c)) ≡ 10 = refl in
-        let b : length (up_to (entryBytes c) highest) ≡ 10 * highest = entries-long c highest in
-        let d : length (up_to (nodeLabelBytes c) (size c)) ≡ 10 * own = labels-long c ∙ ap (λ (k : ℕ). 10 * k) (sym s.owned) in
-        let e : length (up_to (nodeRowsBytes c) (size c)) ≡ 10 * n = rows_long c ∙ ap (λ (k : ℕ). 10 * k) (sym s.rowed) in
+        let a : length (header_bytes highest (own + 1) n (handler c)) ≡ 10 = refl in
+        let b : length (up_to (entry_bytes c) highest) ≡ 10 * highest = entries-long c highest in
+        let d : length (up_to (node_label_bytes c) (size c)) ≡ 10 * own = labels-long c ∙ ap (λ (k : ℕ). 10 * k) (sym s.owned) in
+        let e : length (up_to (node_rows_bytes c) (size c)) ≡ 10 * n = rows_long c ∙ ap (λ (k : ℕ). 10 * k) (sym s.rowed) in
         record {
           ends = omega (arith, put.ends, bytes-long);
           holds =
-              chain out o₁ o₂ o₃ o₄ o₅ (headerBytes highest (own + 1) n (handler c)) (up_to (entryBytes c) highest) fixedBytes
-              (up_to (nodeLabelBytes c) (size c)) (up_to (nodeRowsBytes c) (size c))
+              chain out o₁ o₂ o₃ o₄ o₅ (header_bytes highest (own + 1) n (handler c)) (up_to (entry_bytes c) highest) fixed_bytes
+              (up_to (node_label_bytes c) (size c)) (up_to (node_rows_bytes c) (size c))
               10 (10 + 10 * highest) (10 + 10 * highest + 20) (10 + 10 * highest + 20 + 10 * own)
               (omega arith) (omega arith) (omega (arith, fixed-long)) (omega arith) (omega (arith, fixed-long)) e₁ e₂ e₃ put.holds
-              (e₅ ∙ ap₂ (λ (k x : ℕ). written o₄ 0 (headerBytes highest (own + 1) k x)) em eh)
+              (e₅ ∙ ap₂ (λ (k x : ℕ). written o₄ 0 (header_bytes highest (own + 1) k x)) em eh)
               ∙ ap (written out 0) (sym (image-parts c highest own n s.schemed s.owned s.rowed));
         }
 
@@ -252,44 +259,44 @@ module _ (c : Chart) (before room : ℕ) where
   abbrev short : Bool
   short = ltb room (23 * (before + length (rows c)))
 
-  pub refusal-rows : 1024 < length (rows c) → 10 ≡ sizeRefusal c before room
+  pub refusal-rows : 1024 < length (rows c) → 10 ≡ size_refusal c before room
   refusal-rows h = sym (yes-pick many 10 (pick short 16 0) (lt-ltb 1024 (length (rows c)) h))
 
   module _ (few : length (rows c) ≤ 1024) where
-    rest : sizeRefusal c before room ≡ pick short 16 0
+    rest : size_refusal c before room ≡ pick short 16 0
     rest = no-pick many 10 (pick short 16 0) (le-ltb 1024 (length (rows c)) few)
 
-    pub refusal-room : room < 23 * (before + length (rows c)) → 16 ≡ sizeRefusal c before room
+    pub refusal-room : room < 23 * (before + length (rows c)) → 16 ≡ size_refusal c before room
     refusal-room h = sym (rest ∙ yes-pick short 16 0 (lt-ltb room (23 * (before + length (rows c))) h))
 
-    pub refusal-none : 23 * (before + length (rows c)) ≤ room → 0 ≡ sizeRefusal c before room
+    pub refusal-none : 23 * (before + length (rows c)) ≤ room → 0 ≡ size_refusal c before room
     refusal-none h = sym (rest ∙ no-pick short 16 0 (le-ltb room (23 * (before + length (rows c))) h))
 
-module _ (c : Chart) (old : List ℕ) (highest own number : ℕ) (eh : highest ≡ schemes c) (eo : own ≡ count (numbered c) 0 (size c))
-    (e : number ≡ sizeRefusal c (3 + highest + own) (length old)) where
+module _ (c : Chart) (old : List ℕ) (highest own number : ℕ) (eh : highest ≡ schemes c) (eo : own ≡ count (is_numbered c) 0 (size c))
+    (e : number ≡ size_refusal c (3 + highest + own) (length old)) where
   sizes : Sizes c highest own (length (rows c))
   sizes = record { schemed = eh; owned = eo; rowed = refl }
 
   allowed : length (rows c) ≤ 1024 → when 10 (ltb 1024 (length (rows c))) ≡ fine
   allowed few = when-fails 10 (ltb 1024 (length (rows c))) (le-ltb 1024 (length (rows c)) few)
 
-  pub image-refused : (number ≡ 0 → ⊥) → GivesBuffer (imageOutcome c old) (Refused number 0 0) old
+  pub image-refused : (number ≡ 0 → ⊥) → GivesBuffer (image_outcome c old) (Refused number 0 0) old
   image-refused n = go (dec_lt 1024 (length (rows c))) (dec_lt (length old) (23 * (3 + highest + own + length (rows c))))
     where
-      same : (k : ℕ) → k ≡ number → GivesBuffer (imageOutcome c old) (Refused k 0 0) old
-          → GivesBuffer (imageOutcome c old) (Refused number 0 0) old
-      same k q l = subst (λ (x : ℕ). GivesBuffer (imageOutcome c old) (Refused x 0 0) old) q l
+      same : (k : ℕ) → k ≡ number → GivesBuffer (image_outcome c old) (Refused k 0 0) old
+          → GivesBuffer (image_outcome c old) (Refused number 0 0) old
+      same k q l = subst (λ (x : ℕ). GivesBuffer (image_outcome c old) (Refused x 0 0) old) q l
 
       go : Dec (1024 < length (rows c)) → Dec (length old < 23 * (3 + highest + own + length (rows c)))
-          → GivesBuffer (imageOutcome c old) (Refused number 0 0) old
+          → GivesBuffer (image_outcome c old) (Refused number 0 0) old
       go (yes h) d =
           same 10 (refusal-rows c (3 + highest + own) (length old) h ∙ sym e)
-          (lent-refused (when 10 (ltb 1024 (length (rows c)))) 1 (λ _. imageText (table c)) old 10 0
+          (lent-refused (when 10 (ltb 1024 (length (rows c)))) 1 (λ _. image_text (table c)) old 10 0
           (when-holds 10 (ltb 1024 (length (rows c))) (lt-ltb 1024 (length (rows c)) h)) (Refused 10 0 0) refl)
       go (no h) (yes d) =
           let few : length (rows c) ≤ 1024 = omega arith in
           same 16 (refusal-room c (3 + highest + own) (length old) few d ∙ sym e)
-          (lent-short (when 10 (ltb 1024 (length (rows c)))) 1 (λ _. imageText (table c)) old (allowed few)
+          (lent-short (when 10 (ltb 1024 (length (rows c)))) 1 (λ _. image_text (table c)) old (allowed few)
           (omega (arith, image-long c highest own (length (rows c)) sizes)))
       go (no h) (no d) = absurd (n (e ∙ sym (refusal-none c (3 + highest + own) (length old) (omega arith) (omega arith))))
 
@@ -308,9 +315,9 @@ module _ (c : Chart) (old : List ℕ) (highest own number : ℕ) (eh : highest �
         go (yes h) = absurd (omega (arith, refusal-room c (3 + highest + own) (length old) image-few h))
         go (no h) = omega arith
 
-    pub image-fits : (out : List ℕ) (n : ℕ) → Put old 0 (imageText (table c)) n out → GivesBuffer (imageOutcome c old) (Done n) out
+    pub image-fits : (out : List ℕ) (n : ℕ) → Put old 0 (image_text (table c)) n out → GivesBuffer (image_outcome c old) (Done n) out
     image-fits out n put =
-        let l : length (imageText (table c)) ≡ 23 * (3 + highest + own + length (rows c)) =
+        let l : length (image_text (table c)) ≡ 23 * (3 + highest + own + length (rows c)) =
         image-long c highest own (length (rows c)) sizes in
-        lent-done (when 10 (ltb 1024 (length (rows c)))) 1 (λ _. imageText (table c)) old (allowed image-few) (omega (arith, image-room))
-        n (omega (arith, put.ends)) out (put.holds ∙ written-front old (imageText (table c)))
+        lent-done (when 10 (ltb 1024 (length (rows c)))) 1 (λ _. image_text (table c)) old (allowed image-few) (omega (arith, image-room))
+        n (omega (arith, put.ends)) out (put.holds ∙ written-front old (image_text (table c)))

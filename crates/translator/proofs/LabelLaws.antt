@@ -13,14 +13,14 @@ use Rattle.words.specs.lists.Pick.{pick}
 use Rattle.words.specs.lists.Numbers.{count}
 use Rattle.words.proofs.lists.Tests.{yes-pick, and_no, split}
 use Rattle.words.proofs.lists.Counts.{count-le, count-below, count-apart, count_yes, count-pass, count-miss2}
-use Rattle.words.proofs.lists.Ranges.{length-map-range, getD-map-range, length-filter, getD-filter}
+use Rattle.words.proofs.lists.Ranges.{length-map-range, get_or-map-range, length-filter, get_or-filter}
 use Rattle.text.specs.frames.Frame.{size}
 use Rattle.charts.specs.Chart.{Chart, kind, scheme, next0, is, schemes, begin, end}
-use Rattle.walk.specs.Stops.{stops}
+use Rattle.walk.specs.Stops.{is_stop}
 use Rattle.walk.proofs.Facts.{Facts}
 use Rattle.walk.proofs.Follow.{stops-begin}
-use Rattle.image.specs.inner.Sound.{no_label, nthLabel}
-use Rattle.chart_rows.specs.chart_labels.Labels.{numbered, numberedNodes, label, entry, homeLabel, returnLabel, stopLabel}
+use Rattle.image.specs.inner.Sound.{no_label, nth_label}
+use Rattle.chart_rows.specs.chart_labels.Labels.{is_numbered, numbered_nodes, label, entry, home_label, return_label, stop_label}
 use Rattle.chart_rows.specs.Rows.{rows}
 use Rattle.translator.specs.Table.{table}
 
@@ -28,62 +28,63 @@ use Rattle.translator.specs.Table.{table}
 pub record Bearer (c : Chart) (n l : ℕ) : Type 0 where
   pub node : ℕ
   pub inside : node < n
-  pub own : numbered c node ≡ true
+  pub own : is_numbered c node ≡ true
   pub is : label c node ≡ l
 
 module _ (c : Chart) where
-  pub label_is : (v : ℕ) → numbered c v ≡ true → label c v ≡ suc (suc (count (numbered c) 0 v))
+  pub label_is : (v : ℕ) → is_numbered c v ≡ true → label c v ≡ suc (suc (count (is_numbered c) 0 v))
   unfolding label
-  label_is v e = yes-pick (numbered c v) (2 + count (numbered c) 0 v) (pick (eqb (scheme c v) 1) 0 1) e ∙ omega arith
+  label_is v e = yes-pick (is_numbered c v) (2 + count (is_numbered c) 0 v) (pick (eqb (scheme c v) 1) 0 1) e ∙ omega arith
 
-  pub length-labels : length (table c).labels ≡ suc (suc (count (numbered c) 0 (size c)))
+  pub length-labels : length (table c).labels ≡ suc (suc (count (is_numbered c) 0 (size c)))
   unfolding table
-  length-labels = ap (λ (n : ℕ). suc (suc n)) (length-map (numberedNodes c) (stopLabel c) ∙ length-filter (numbered c) 0 (size c))
+  length-labels = ap (λ (n : ℕ). suc (suc n)) (length-map (numbered_nodes c) (stop_label c) ∙ length-filter (is_numbered c) 0 (size c))
 
-  pub label-low : (v : ℕ) → numbered c v ≡ true → 2 ≤ label c v
+  pub label-low : (v : ℕ) → is_numbered c v ≡ true → 2 ≤ label c v
   label-low v e = omega (arith, label_is v e)
 
-  pub label_inside : (v : ℕ) → v < size c → numbered c v ≡ true → label c v < length (table c).labels
-  label_inside v l e = omega (arith, label_is v e, length-labels, count-below (numbered c) v (size c) l e)
+  pub label_inside : (v : ℕ) → v < size c → is_numbered c v ≡ true → label c v < length (table c).labels
+  label_inside v l e = omega (arith, label_is v e, length-labels, count-below (is_numbered c) v (size c) l e)
 
-  pub label-holds : (v : ℕ) → v < size c → numbered c v ≡ true → nthLabel (table c) (label c v) ≡ stopLabel c v
-  label-holds v l e = ap (nthLabel (table c)) (label_is v e) ∙ at
+  pub label-holds : (v : ℕ) → v < size c → is_numbered c v ≡ true → nth_label (table c) (label c v) ≡ stop_label c v
+  label-holds v l e = ap (nth_label (table c)) (label_is v e) ∙ at
     where
-      at : nthLabel (table c) (suc (suc (count (numbered c) 0 v))) ≡ stopLabel c v
+      at : nth_label (table c) (suc (suc (count (is_numbered c) 0 v))) ≡ stop_label c v
       at = unfold table in
-          getD-filter (stopLabel c) no_label (numbered c) 0 (size c) v l (ap (numbered c) (zero-add v) ∙ e) ∙ ap (stopLabel c) (zero-add v)
+          get_or-filter (stop_label c) no_label (is_numbered c) 0 (size c) v l (ap (is_numbered c) (zero-add v) ∙ e)
+          ∙ ap (stop_label c) (zero-add v)
 
-  pub labels_apart : (u v : ℕ) → numbered c u ≡ true → numbered c v ≡ true → label c u ≡ label c v → u ≡ v
-  labels_apart u v a b e = count-apart (numbered c) u v a b (omega (arith, label_is u a, label_is v b, e))
+  pub labels_apart : (u v : ℕ) → is_numbered c u ≡ true → is_numbered c v ≡ true → label c u ≡ label c v → u ≡ v
+  labels_apart u v a b e = count-apart (is_numbered c) u v a b (omega (arith, label_is u a, label_is v b, e))
 
   -- from 2 up each label is that of a stop
-  bearer-below : (n k : ℕ) → k < count (numbered c) 0 n → Bearer c n (suc (suc k))
-  bearer-below zero k h = absurd (omega (arith, count-le (numbered c) 0 0))
-  bearer-below (suc n) k h = go (split k (count (numbered c) 0 n)) (numbered c n) refl (bearer-below n k)
+  bearer-below : (n k : ℕ) → k < count (is_numbered c) 0 n → Bearer c n (suc (suc k))
+  bearer-below zero k h = absurd (omega (arith, count-le (is_numbered c) 0 0))
+  bearer-below (suc n) k h = go (split k (count (is_numbered c) 0 n)) (is_numbered c n) refl (bearer-below n k)
     where
-      next : k < count (numbered c) 0 (n + 1)
-      next = omega (arith, h, ap (count (numbered c) 0) (add-one n))
+      next : k < count (is_numbered c) 0 (n + 1)
+      next = omega (arith, h, ap (count (is_numbered c) 0) (add-one n))
 
-      go : (k < count (numbered c) 0 n) ⊎ (count (numbered c) 0 n ≤ k) → (t : Bool) → numbered c n ≡ t
-          → (k < count (numbered c) 0 n → Bearer c n (suc (suc k))) → Bearer c (suc n) (suc (suc k))
+      go : (k < count (is_numbered c) 0 n) ⊎ (count (is_numbered c) 0 n ≤ k) → (t : Bool) → is_numbered c n ≡ t
+          → (k < count (is_numbered c) 0 n → Bearer c n (suc (suc k))) → Bearer c (suc n) (suc (suc k))
       go (inl g) t e ih = let x = ih g in record { node = x.node; inside = omega (arith, x.inside); own = x.own; is = x.is }
       go (inr g) true e ih = record {
         node = n;
         inside = omega arith;
         own = e;
         is = label_is n e
-            ∙ omega (arith, next, count_yes (numbered c) n e);
+            ∙ omega (arith, next, count_yes (is_numbered c) n e);
       }
-      go (inr g) false e ih = absurd (omega (arith, next, count-pass (numbered c) n e))
+      go (inr g) false e ih = absurd (omega (arith, next, count-pass (is_numbered c) n e))
 
   pub bearer : (l : ℕ) → 2 ≤ l → l < length (table c).labels → Bearer c (size c) l
   bearer l low h = subst (Bearer c (size c)) (omega arith) (bearer-below (size c) (l - 2) (omega (arith, length-labels)))
 
-  pub label-home : nthLabel (table c) 0 ≡ homeLabel
+  pub label-home : nth_label (table c) 0 ≡ home_label
   unfolding table
   label-home = refl
 
-  pub label-return : nthLabel (table c) 1 ≡ returnLabel
+  pub label-return : nth_label (table c) 1 ≡ return_label
   unfolding table
   label-return = refl
 
@@ -91,18 +92,18 @@ module _ (c : Chart) where
   labels-two = omega (arith, length-labels)
 
   -- the Begin and the End of scheme 1 have no label of their own, so a byte holds every label
-  first-unnumbered : (v : ℕ) → kind c v ≡ 0 → scheme c v ≡ 1 → numbered c v ≡ false
+  first-unnumbered : (v : ℕ) → kind c v ≡ 0 → scheme c v ≡ 1 → is_numbered c v ≡ false
   first-unnumbered v k s =
       ap (λ x. x && not (is c 1 v)) (stops-begin c v k ∙ ap (λ x. not x && is c 3 (next0 c v)) (eq-eqb (scheme c v) 1 s))
 
-  end-unnumbered : (v : ℕ) → kind c v ≡ 1 → numbered c v ≡ false
-  end-unnumbered v k = and_no (stops c v) (not (is c 1 v)) (ap not (eq-eqb (kind c v) 1 k))
+  end-unnumbered : (v : ℕ) → kind c v ≡ 1 → is_numbered c v ≡ false
+  end-unnumbered v k = and_no (is_stop c v) (not (is c 1 v)) (ap not (eq-eqb (kind c v) 1 k))
 
   pub labels-few : Facts c → length (table c).labels ≤ 256
   labels-few F =
       let b = F.begins 1 (omega arith) F.first in
       let e = F.ends 1 (omega arith) F.first in
-      let m : count (numbered c) 0 (size c) + 2 ≤ size c = count-miss2 (numbered c) (size c) (begin c 1) (end c 1) b.0 e.0
+      let m : count (is_numbered c) 0 (size c) + 2 ≤ size c = count-miss2 (is_numbered c) (size c) (begin c 1) (end c 1) b.0 e.0
       (λ q. omega (arith, ap (kind c) q, b.1, e.1)) (first-unnumbered (begin c 1) b.1 b.2) (end-unnumbered (end c 1) e.1) in
       omega (arith, length-labels, F.few)
 
@@ -113,7 +114,7 @@ module _ (c : Chart) where
 
   pub entry-holds : (h : ℕ) → h < schemes c → get_or (table c).entries h 0 ≡ entry c (suc h)
   unfolding table
-  entry-holds h l = getD-map-range (entry c) 0 1 (schemes c) h l ∙ ap (entry c) (omega arith)
+  entry-holds h l = get_or-map-range (entry c) 0 1 (schemes c) h l ∙ ap (entry c) (omega arith)
 
   pub rows_are : (table c).rows ≡ rows c
   unfolding table

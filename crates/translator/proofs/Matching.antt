@@ -9,51 +9,51 @@ use lib.Bits.{bit_and}
 use lib.Dec.{eqb}
 use borrow.Author.Tests.{eq-eqb, ne_eqb}
 use Rattle.words.specs.lists.Pick.{pick}
-use Rattle.words.specs.lists.Sequences.{filter, concatMap}
+use Rattle.words.specs.lists.Sequences.{filter, concat_map}
 use Rattle.words.proofs.lists.Tests.{and-true, cases}
 use Rattle.words.proofs.lists.Ranges.{filter-yes, filter-no, map-append}
 use Rattle.words.proofs.lists.Joins.{concat-cons}
 use Rattle.words.proofs.lists.Filters.{filter_none, filter-append}
-use Rattle.words.specs.bits.Word.{bit, agrees}
+use Rattle.words.specs.bits.Word.{bit, is_agreeing}
 use Rattle.words.proofs.bits.BitLaws.{bit-cases, Mask, Agree, Clash, agree-match, clash-match, mask-0}
 use Rattle.words.proofs.bits.BitLaws.{mask-1, agree-0, agree-1, clash-0, clash-1, clash-here-0, clash-here-1}
-use Rattle.charts.specs.Chart.{Chart, kind, argument, next0, next1, taken}
+use Rattle.charts.specs.Chart.{Chart, kind, argument, next0, next1, arc_taken}
 use Rattle.charts.proofs.Accepted.{SoundChart}
 use Rattle.charts.proofs.Nodes.{Target, conditions}
 use Rattle.charts.proofs.Rank.{rank, rank-some}
-use Rattle.walk.specs.Stops.{stops, follow}
+use Rattle.walk.specs.Stops.{is_stop, next_stop}
 use Rattle.walk.proofs.Follow.{goes_on, follow-stays, follow-goes, takes-0, takes-1, condition-arc0, condition-arc1, taken-end, taken-falls}
 use Rattle.image.specs.Image.{Row}
 use Rattle.chart_rows.specs.chart_labels.Labels.{label}
 use Rattle.chart_rows.specs.Rows.{paths}
-use Rattle.chart_rows.specs.inner.NodeRows.{pathsFrom}
-use Rattle.chart_rows.proofs.PathSteps.{pathRow, paths-stop, paths-known, paths-new}
+use Rattle.chart_rows.specs.inner.NodeRows.{paths_from}
+use Rattle.chart_rows.proofs.PathSteps.{path_row, paths-stop, paths-known, paths-new}
 
 -- a row of label l that matches word w and bit b
-abbrev pub matchingRow : ℕ → ℕ → ℕ → Row → Bool
-matchingRow l w b r = eqb r.from l && (agrees w r.care r.values && (eqb r.bit 2 || eqb r.bit b))
+abbrev pub is_matching_row : ℕ → ℕ → ℕ → Row → Bool
+is_matching_row l w b r = eqb r.from l && (is_agreeing w r.care r.values && (eqb r.bit 2 || eqb r.bit b))
 
 -- where the rows lead that match, in their order
 unfoldable pub targets : ℕ → ℕ → ℕ → List Row → List ℕ
-targets l w b rs = map (λ (r : Row). r.next) (filter (matchingRow l w b) rs)
+targets l w b rs = map (λ (r : Row). r.next) (filter (is_matching_row l w b) rs)
 
 module _ (l w b : ℕ) where
   pub targets-none : targets l w b [] ≡ []
   unfolding targets
-  targets-none = ap (map (λ (r : Row). r.next)) (filter_none (matchingRow l w b))
+  targets-none = ap (map (λ (r : Row). r.next)) (filter_none (is_matching_row l w b))
 
   pub targets-append : (xs ys : List Row) → targets l w b (xs ++ ys) ≡ targets l w b xs ++ targets l w b ys
   unfolding targets
   targets-append xs ys =
-      ap (map (λ (r : Row). r.next)) (filter-append (matchingRow l w b) xs ys)
-      ∙ map-append (λ (r : Row). r.next) (filter (matchingRow l w b) xs) (filter (matchingRow l w b) ys)
+      ap (map (λ (r : Row). r.next)) (filter-append (is_matching_row l w b) xs ys)
+      ∙ map-append (λ (r : Row). r.next) (filter (is_matching_row l w b) xs) (filter (is_matching_row l w b) ys)
 
   pub targets-concat : {A : Type 0} (f : A → List Row) (xs : List A)
-      → targets l w b (concatMap f xs) ≡ concatMap (λ x. targets l w b (f x)) xs
-  targets-concat f [] = unfold concatMap in targets-none
+      → targets l w b (concat_map f xs) ≡ concat_map (λ x. targets l w b (f x)) xs
+  targets-concat f [] = unfold concat_map in targets-none
   targets-concat f (x ∷ xs) =
       ap (targets l w b) (concat-cons f x xs)
-      ∙ targets-append (f x) (concatMap f xs)
+      ∙ targets-append (f x) (concat_map f xs)
       ∙ ap (λ (ys : List ℕ). targets l w b (f x) ++ ys) (targets-concat f xs)
       ∙ sym (concat-cons (λ x. targets l w b (f x)) x xs)
 
@@ -65,64 +65,64 @@ module _ (l w b : ℕ) where
   in-second xs ys us p q = targets-append xs ys ∙ ap₂ ◌++◌ p q
 
   -- a row in front
-  pub targets-own : (r : Row) (rs : List Row) → matchingRow l w b r ≡ true → targets l w b (r ∷ rs) ≡ r.next ∷ targets l w b rs
+  pub targets-own : (r : Row) (rs : List Row) → is_matching_row l w b r ≡ true → targets l w b (r ∷ rs) ≡ r.next ∷ targets l w b rs
   unfolding targets
-  targets-own r rs e = ap (map (λ (r : Row). r.next)) (filter-yes (matchingRow l w b) r rs e)
+  targets-own r rs e = ap (map (λ (r : Row). r.next)) (filter-yes (is_matching_row l w b) r rs e)
 
-  pub targets-other : (r : Row) (rs : List Row) → matchingRow l w b r ≡ false → targets l w b (r ∷ rs) ≡ targets l w b rs
+  pub targets-other : (r : Row) (rs : List Row) → is_matching_row l w b r ≡ false → targets l w b (r ∷ rs) ≡ targets l w b rs
   unfolding targets
-  targets-other r rs e = ap (map (λ (r : Row). r.next)) (filter-no (matchingRow l w b) r rs e)
+  targets-other r rs e = ap (map (λ (r : Row). r.next)) (filter-no (is_matching_row l w b) r rs e)
 
-  one-yes : (r : Row) → matchingRow l w b r ≡ true → targets l w b (r ∷ []) ≡ r.next ∷ []
+  one-yes : (r : Row) → is_matching_row l w b r ≡ true → targets l w b (r ∷ []) ≡ r.next ∷ []
   one-yes r e = targets-own r [] e ∙ ap (λ us. r.next ∷ us) targets-none
 
-  one-no : (r : Row) → matchingRow l w b r ≡ false → targets l w b (r ∷ []) ≡ []
+  one-no : (r : Row) → is_matching_row l w b r ≡ false → targets l w b (r ∷ []) ≡ []
   one-no r e = targets-other r [] e ∙ targets-none
 
 -- rows of another label, or for the other bit of a function
-pub paths-none : (n : ℕ) (c : Chart) (l m w f b : ℕ) → ((r : Row) → r.from ≡ l → r.bit ≡ f → matchingRow m w b r ≡ false)
-    → (care values v : ℕ) → targets m w b (pathsFrom n c l f care values v) ≡ []
+pub paths-none : (n : ℕ) (c : Chart) (l m w f b : ℕ) → ((r : Row) → r.from ≡ l → r.bit ≡ f → is_matching_row m w b r ≡ false)
+    → (care values v : ℕ) → targets m w b (paths_from n c l f care values v) ≡ []
 paths-none zero c l m w f b q care values v = unfold paths in targets-none m w b
-paths-none (suc n) c l m w f b q care values v = go (cases (stops c v)) (bit-cases care (argument c v)) (paths-none n c l m w f b q)
+paths-none (suc n) c l m w f b q care values v = go (cases (is_stop c v)) (bit-cases care (argument c v)) (paths-none n c l m w f b q)
   where
-    go : (stops c v ≡ true) ⊎ (stops c v ≡ false) → (bit care (argument c v) ≡ 0) ⊎ (bit care (argument c v) ≡ 1)
-        → ((care values v : ℕ) → targets m w b (pathsFrom n c l f care values v) ≡ [])
-        → targets m w b (pathsFrom (suc n) c l f care values v) ≡ []
+    go : (is_stop c v ≡ true) ⊎ (is_stop c v ≡ false) → (bit care (argument c v) ≡ 0) ⊎ (bit care (argument c v) ≡ 1)
+        → ((care values v : ℕ) → targets m w b (paths_from n c l f care values v) ≡ [])
+        → targets m w b (paths_from (suc n) c l f care values v) ≡ []
     go (inl s) x ih =
         ap (targets m w b) (paths-stop n c l f care values v s)
-        ∙ one-no m w b (pathRow c l f care values v) (q (pathRow c l f care values v) refl refl)
-    go (inr s) (inr k) ih = ap (targets m w b) (paths-known n c l f care values v s k) ∙ ih care values (taken c values v)
+        ∙ one-no m w b (path_row c l f care values v) (q (path_row c l f care values v) refl refl)
+    go (inr s) (inr k) ih = ap (targets m w b) (paths-known n c l f care values v s k) ∙ ih care values (arc_taken c values v)
     go (inr s) (inl k) ih =
         let i : ℕ = argument c v in
         ap (targets m w b) (paths-new n c l f care values v s (λ q. omega (arith, k, q)))
-        ∙ in-second m w b (pathsFrom n c l f (care + 2 ^ i) values (next0 c v))
-        (pathsFrom n c l f (care + 2 ^ i) (values + 2 ^ i) (next1 c v)) []
+        ∙ in-second m w b (paths_from n c l f (care + 2 ^ i) values (next0 c v))
+        (paths_from n c l f (care + 2 ^ i) (values + 2 ^ i) (next1 c v)) []
         (ih (care + 2 ^ i) values (next0 c v)) (ih (care + 2 ^ i) (values + 2 ^ i) (next1 c v))
 
 module _ (c : Chart) (a : SoundChart c) (l w f b : ℕ) where
   -- a word that has not the values of the path so far matches none of its rows
   pub paths-miss : (n h care values v : ℕ) → Target c h v → Mask care values → Clash w care values
-      → targets l w b (pathsFrom n c l f care values v) ≡ []
+      → targets l w b (paths_from n c l f care values v) ≡ []
   paths-miss zero h care values v t m k = unfold paths in targets-none l w b
-  paths-miss (suc n) h care values v t m k = go (cases (stops c v)) (bit-cases care (argument c v)) (paths-miss n h)
+  paths-miss (suc n) h care values v t m k = go (cases (is_stop c v)) (bit-cases care (argument c v)) (paths-miss n h)
     where
-      go : (stops c v ≡ true) ⊎ (stops c v ≡ false) → (bit care (argument c v) ≡ 0) ⊎ (bit care (argument c v) ≡ 1)
+      go : (is_stop c v ≡ true) ⊎ (is_stop c v ≡ false) → (bit care (argument c v) ≡ 0) ⊎ (bit care (argument c v) ≡ 1)
           → ((care values v : ℕ) → Target c h v → Mask care values → Clash w care values
-          → targets l w b (pathsFrom n c l f care values v) ≡ [])
-          → targets l w b (pathsFrom (suc n) c l f care values v) ≡ []
+          → targets l w b (paths_from n c l f care values v) ≡ [])
+          → targets l w b (paths_from (suc n) c l f care values v) ≡ []
       go (inl s) x ih =
           let q : eqb (bit_and w care) values ≡ false = ne_eqb (bit_and w care) values (clash-match w care values k) in
-          ap (targets l w b) (paths-stop n c l f care values v s) ∙ one-no l w b (pathRow c l f care values v) (rw (eq-eqb l l refl, q))
+          ap (targets l w b) (paths-stop n c l f care values v s) ∙ one-no l w b (path_row c l f care values v) (rw (eq-eqb l l refl, q))
       go (inr s) (inr o) ih =
           ap (targets l w b) (paths-known n c l f care values v s o)
-          ∙ ih care values (taken c values v) (taken-end c a h values v t (goes_on c v t.entered s)) m k
+          ∙ ih care values (arc_taken c values v) (taken-end c a h values v t (goes_on c v t.entered s)) m k
       go (inr s) (inl z) ih =
           let i : ℕ = argument c v in
           let e : kind c v ≡ 3 = goes_on c v t.entered s in
           let small : i ≤ 15 = conditions c a v t.inside e in
           ap (targets l w b) (paths-new n c l f care values v s (λ q. omega (arith, z, q)))
-          ∙ in-second l w b (pathsFrom n c l f (care + 2 ^ i) values (next0 c v))
-          (pathsFrom n c l f (care + 2 ^ i) (values + 2 ^ i) (next1 c v)) []
+          ∙ in-second l w b (paths_from n c l f (care + 2 ^ i) values (next0 c v))
+          (paths_from n c l f (care + 2 ^ i) (values + 2 ^ i) (next1 c v)) []
           (ih (care + 2 ^ i) values (next0 c v) (condition-arc0 c a h v t e)
           (mask-0 care values i z m small) (clash-0 care values i z m w k))
           (ih (care + 2 ^ i) (values + 2 ^ i) (next1 c v) (condition-arc1 c a h v t e)
@@ -131,41 +131,44 @@ module _ (c : Chart) (a : SoundChart c) (l w f b : ℕ) where
   -- a word that has them matches one row: that of the stop which following the arcs reaches
   pub paths-hit : (eqb f 2 || eqb f b) ≡ true → (n h care values v : ℕ) → Target c h v
       → rank c v ≤ n → Mask care values → Agree w care values
-      → targets l w b (pathsFrom n c l f care values v) ≡ label c (follow n c w v) ∷ []
+      → targets l w b (paths_from n c l f care values v) ≡ label c (next_stop n c w v) ∷ []
   paths-hit suits zero h care values v t r m g = absurd (omega (arith, rank-some c v t.inside))
   paths-hit suits (suc n) h care values v t r m g =
-      go (cases (stops c v)) (bit-cases care (argument c v)) (bit-cases w (argument c v)) (paths-hit suits n h)
+      go (cases (is_stop c v)) (bit-cases care (argument c v)) (bit-cases w (argument c v)) (paths-hit suits n h)
     where
-      on : stops c v ≡ false → (u : ℕ) → taken c w v ≡ u → label c (follow n c w u) ∷ [] ≡ label c (follow (suc n) c w v) ∷ []
-      on s u q = ap (λ (x : ℕ). label c x ∷ []) (ap (follow n c w) (sym q) ∙ sym (follow-goes n c w v s))
+      on : is_stop c v ≡ false → (u : ℕ) → arc_taken c w v ≡ u → label c (next_stop n c w u) ∷ [] ≡ label c (next_stop (suc n) c w v) ∷ []
+      on s u q = ap (λ (x : ℕ). label c x ∷ []) (ap (next_stop n c w) (sym q) ∙ sym (follow-goes n c w v s))
 
-      lower : kind c v ≡ 3 → (u : ℕ) → taken c w v ≡ u → rank c u ≤ n
+      lower : kind c v ≡ 3 → (u : ℕ) → arc_taken c w v ≡ u → rank c u ≤ n
       lower e u q = omega (arith, ap (rank c) q, taken-falls c a w v t.inside e)
 
-      go : (stops c v ≡ true) ⊎ (stops c v ≡ false) → (bit care (argument c v) ≡ 0) ⊎ (bit care (argument c v) ≡ 1)
+      go : (is_stop c v ≡ true) ⊎ (is_stop c v ≡ false) → (bit care (argument c v) ≡ 0) ⊎ (bit care (argument c v) ≡ 1)
           → (bit w (argument c v) ≡ 0) ⊎ (bit w (argument c v) ≡ 1)
           → ((care values v : ℕ) → Target c h v → rank c v ≤ n → Mask care values → Agree w care values
-          → targets l w b (pathsFrom n c l f care values v) ≡ label c (follow n c w v) ∷ [])
-          → targets l w b (pathsFrom (suc n) c l f care values v) ≡ label c (follow (suc n) c w v) ∷ []
+          → targets l w b (paths_from n c l f care values v) ≡ label c (next_stop n c w v) ∷ [])
+          → targets l w b (paths_from (suc n) c l f care values v) ≡ label c (next_stop (suc n) c w v) ∷ []
       go (inl s) x y ih =
-          let z : matchingRow l w b (pathRow c l f care values v) ≡ true =
-          and-true (eqb l l) (agrees w care values && (eqb f 2 || eqb f b)) (eq-eqb l l refl)
-          (and-true (agrees w care values) (eqb f 2 || eqb f b) (eq-eqb (bit_and w care) values (agree-match w care values m g)) suits) in
-          ap (targets l w b) (paths-stop n c l f care values v s) ∙ one-yes l w b (pathRow c l f care values v) z
+          let z : is_matching_row l w b (path_row c l f care values v) ≡ true =
+          and-true (eqb l l) (is_agreeing w care values && (eqb f 2 || eqb f b)) (eq-eqb l l refl)
+          (and-true (is_agreeing w care values) (eqb f 2 || eqb f b) (eq-eqb (bit_and w care) values
+          (agree-match w care values m g)) suits) in
+          ap (targets l w b) (paths-stop n c l f care values v s) ∙ one-yes l w b (path_row c l f care values v) z
           ∙ ap (λ (u : ℕ). label c u ∷ []) (sym (follow-stays n c w v s))
       go (inr s) (inr o) y ih =
           let e : kind c v ≡ 3 = goes_on c v t.entered s in
-          let q : taken c w v ≡ taken c values v = ap (λ (x : ℕ). pick (eqb x 0) (next0 c v) (next1 c v)) (g.agrees (argument c v) o) in
+          let q : arc_taken c w v ≡ arc_taken c values v =
+          ap (λ (x : ℕ). pick (eqb x 0) (next0 c v) (next1 c v)) (g.agrees (argument c v) o) in
           ap (targets l w b) (paths-known n c l f care values v s o)
-          ∙ ih care values (taken c values v) (taken-end c a h values v t e) (lower e (taken c values v) q) m g ∙ on s (taken c values v) q
+          ∙ ih care values (arc_taken c values v) (taken-end c a h values v t e) (lower e (arc_taken c values v) q) m g
+          ∙ on s (arc_taken c values v) q
       go (inr s) (inl z) (inl w0) ih =
           let i : ℕ = argument c v in
           let e : kind c v ≡ 3 = goes_on c v t.entered s in
           let small : i ≤ 15 = conditions c a v t.inside e in
-          let q : taken c w v ≡ next0 c v = takes-0 c w v w0 in
+          let q : arc_taken c w v ≡ next0 c v = takes-0 c w v w0 in
           ap (targets l w b) (paths-new n c l f care values v s (λ q. omega (arith, z, q)))
-          ∙ in-first l w b (pathsFrom n c l f (care + 2 ^ i) values (next0 c v))
-          (pathsFrom n c l f (care + 2 ^ i) (values + 2 ^ i) (next1 c v)) (label c (follow n c w (next0 c v)))
+          ∙ in-first l w b (paths_from n c l f (care + 2 ^ i) values (next0 c v))
+          (paths_from n c l f (care + 2 ^ i) (values + 2 ^ i) (next1 c v)) (label c (next_stop n c w (next0 c v)))
           (ih (care + 2 ^ i) values (next0 c v) (condition-arc0 c a h v t e) (lower e (next0 c v) q)
           (mask-0 care values i z m small) (agree-0 care values i z m w g w0))
           (paths-miss n h (care + 2 ^ i) (values + 2 ^ i) (next1 c v) (condition-arc1 c a h v t e)
@@ -175,10 +178,10 @@ module _ (c : Chart) (a : SoundChart c) (l w f b : ℕ) where
           let i : ℕ = argument c v in
           let e : kind c v ≡ 3 = goes_on c v t.entered s in
           let small : i ≤ 15 = conditions c a v t.inside e in
-          let q : taken c w v ≡ next1 c v = takes-1 c w v w1 in
+          let q : arc_taken c w v ≡ next1 c v = takes-1 c w v w1 in
           ap (targets l w b) (paths-new n c l f care values v s (λ q. omega (arith, z, q)))
-          ∙ in-second l w b (pathsFrom n c l f (care + 2 ^ i) values (next0 c v))
-          (pathsFrom n c l f (care + 2 ^ i) (values + 2 ^ i) (next1 c v)) (label c (follow n c w (next1 c v)) ∷ [])
+          ∙ in-second l w b (paths_from n c l f (care + 2 ^ i) values (next0 c v))
+          (paths_from n c l f (care + 2 ^ i) (values + 2 ^ i) (next1 c v)) (label c (next_stop n c w (next1 c v)) ∷ [])
           (paths-miss n h (care + 2 ^ i) values (next0 c v) (condition-arc0 c a h v t e)
           (mask-0 care values i z m small) (clash-here-0 care values i z m w w1))
           (ih (care + 2 ^ i) (values + 2 ^ i) (next1 c v) (condition-arc1 c a h v t e) (lower e (next1 c v) q)

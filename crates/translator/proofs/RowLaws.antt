@@ -16,7 +16,7 @@ use Rattle.words.specs.lists.Numbers.{range}
 use Rattle.words.specs.lists.Sequences.{filter}
 use Rattle.words.proofs.lists.Tests.{and_l, and_r, not-true, yes-pick, no-pick}
 use Rattle.words.proofs.lists.Filters.{concat-only, one_passes}
-use Rattle.words.specs.bits.Word.{bit, agrees}
+use Rattle.words.specs.bits.Word.{bit, is_agreeing}
 use Rattle.words.proofs.bits.BitLaws.{bit-none, bit-cases, Mask, Agree, Clash, mask-none, agree-none, mask-0}
 use Rattle.words.proofs.bits.BitLaws.{mask-1, agree-0, agree-1, clash-here-0, clash-here-1}
 use Rattle.text.specs.frames.Frame.{size}
@@ -24,71 +24,71 @@ use Rattle.charts.specs.Chart.{Chart, kind, scheme, argument, next0, next1, is}
 use Rattle.charts.proofs.Accepted.{SoundChart}
 use Rattle.charts.proofs.Nodes.{Target, conditions, arc0, arc1}
 use Rattle.charts.proofs.Rank.{rank-le}
-use Rattle.walk.specs.Stops.{stops, byArc, by_word}
+use Rattle.walk.specs.Stops.{is_stop, by_arc, by_word}
 use Rattle.walk.proofs.Follow.{stops-other, stops-condition, stops-begin, follow-condition, takes-0, takes-1}
 use Rattle.image.specs.Image.{Row, no_row}
-use Rattle.chart_rows.specs.chart_labels.Labels.{numbered, label}
+use Rattle.chart_rows.specs.chart_labels.Labels.{is_numbered, label}
 use Rattle.chart_rows.specs.Rows.{rows_of, rows}
 use Rattle.chart_rows.proofs.RowKinds.{function-rows, condition-rows, plain_rows}
-use Rattle.chart_rows.specs.inner.NodeRows.{pathsFrom}
+use Rattle.chart_rows.specs.inner.NodeRows.{paths_from}
 use Rattle.translator.proofs.label_text.LabelPuts.{numbered-stop}
 use Rattle.translator.proofs.LabelLaws.{labels_apart}
-use Rattle.translator.proofs.Matching.{matchingRow, targets, targets-concat, in-first, in-second, paths-none, paths-miss, paths-hit}
+use Rattle.translator.proofs.Matching.{is_matching_row, targets, targets-concat, in-first, in-second, paths-none, paths-miss, paths-hit}
 
 -- rows of another node's label match nothing
 rows_other : (c : Chart) (u m w b : ℕ) → (label c u ≡ m → ⊥) → targets m w b (rows_of c u) ≡ []
 rows_other c u m w b ne = go (ℕ_discrete (kind c u) 4) (ℕ_discrete (kind c u) 3)
   where
-    elsewhere : (r : Row) → r.from ≡ label c u → matchingRow m w b r ≡ false
+    elsewhere : (r : Row) → r.from ≡ label c u → is_matching_row m w b r ≡ false
     elsewhere r e =
-        ap (λ (x : Bool). x && (agrees w r.care r.values && (eqb r.bit 2 || eqb r.bit b)))
+        ap (λ (x : Bool). x && (is_agreeing w r.care r.values && (eqb r.bit 2 || eqb r.bit b)))
         (ne_eqb r.from m (λ q. ne (sym e ∙ q)))
 
-    none : (f care values v : ℕ) → targets m w b (pathsFrom (size c) c (label c u) f care values v) ≡ []
+    none : (f care values v : ℕ) → targets m w b (paths_from (size c) c (label c u) f care values v) ≡ []
     none f = paths-none (size c) c (label c u) m w f b (λ r e x. elsewhere r e)
 
     go : Dec (kind c u ≡ 4) → Dec (kind c u ≡ 3) → targets m w b (rows_of c u) ≡ []
     go (yes k) x =
         ap (targets m w b) (function-rows c u k)
-        ∙ in-second m w b (pathsFrom (size c) c (label c u) 0 0 0 (next0 c u)) (pathsFrom (size c) c (label c u) 1 0 0 (next1 c u)) []
+        ∙ in-second m w b (paths_from (size c) c (label c u) 0 0 0 (next0 c u)) (paths_from (size c) c (label c u) 1 0 0 (next1 c u)) []
         (none 0 0 0 (next0 c u)) (none 1 0 0 (next1 c u))
     go (no n) (yes k) =
         let p : ℕ = 2 ^ argument c u in
         ap (targets m w b) (condition-rows c u k)
-        ∙ in-second m w b (pathsFrom (size c) c (label c u) 2 p 0 (next0 c u)) (pathsFrom (size c) c (label c u) 2 p p (next1 c u)) []
+        ∙ in-second m w b (paths_from (size c) c (label c u) 2 p 0 (next0 c u)) (paths_from (size c) c (label c u) 2 p p (next1 c u)) []
         (none 2 p 0 (next0 c u)) (none 2 p p (next1 c u))
     go (no n) (no k) = ap (targets m w b) (plain_rows c u n k) ∙ none 2 0 0 (next0 c u)
 
 -- so among all rows those of the node itself decide
-pub rows-here : (c : Chart) (v w b : ℕ) → v < size c → numbered c v ≡ true
+pub rows-here : (c : Chart) (v w b : ℕ) → v < size c → is_numbered c v ≡ true
     → targets (label c v) w b (rows c) ≡ targets (label c v) w b (rows_of c v)
 unfolding rows
 rows-here c v w b l e =
-    targets-concat (label c v) w b (rows_of c) (filter (numbered c) (range 0 (size c)))
-    ∙ concat-only (λ u. targets (label c v) w b (rows_of c u)) (numbered c) v 0 (size c) (omega arith) (omega arith) e
+    targets-concat (label c v) w b (rows_of c) (filter (is_numbered c) (range 0 (size c)))
+    ∙ concat-only (λ u. targets (label c v) w b (rows_of c u)) (is_numbered c) v 0 (size c) (omega arith) (omega arith) e
     (λ u x y n ne. rows_other c u (label c v) w b (λ q. ne (labels_apart c u v n e q)))
 
 module _ (c : Chart) (a : SoundChart c) where
   -- all paths from an arc's end, with nothing tested yet
   from-arc : (l w f b : ℕ) → (eqb f 2 || eqb f b) ≡ true → (h u : ℕ) → Target c h u
-      → targets l w b (pathsFrom (size c) c l f 0 0 u) ≡ label c (byArc c w u) ∷ []
+      → targets l w b (paths_from (size c) c l f 0 0 u) ≡ label c (by_arc c w u) ∷ []
   from-arc l w f b suits h u t = paths-hit c a l w f b suits (size c) h 0 0 u t (rank-le c u) mask-none (agree-none w)
 
   -- a stop with one arc: an operation or a Begin
-  row-straight : (v w b : ℕ) → v < size c → numbered c v ≡ true → (kind c v ≡ 4 → ⊥) → (kind c v ≡ 3 → ⊥)
-      → targets (label c v) w b (rows c) ≡ label c (byArc c w (next0 c v)) ∷ []
+  row-straight : (v w b : ℕ) → v < size c → is_numbered c v ≡ true → (kind c v ≡ 4 → ⊥) → (kind c v ≡ 3 → ⊥)
+      → targets (label c v) w b (rows c) ≡ label c (by_arc c w (next0 c v)) ∷ []
   row-straight v w b l e n k =
       rows-here c v w b l e ∙ ap (targets (label c v) w b) (plain_rows c v n k)
       ∙ from-arc (label c v) w 2 b refl (scheme c v) (next0 c v)
-      (arc0 c a v l (eqb-false (kind c v) 1 (not-true (is c 1 v) (and_r (stops c v) (not (is c 1 v)) e))))
+      (arc0 c a v l (eqb-false (kind c v) 1 (not-true (is c 1 v) (and_r (is_stop c v) (not (is c 1 v)) e))))
 
-  pub row_plain : (v w b : ℕ) → v < size c → kind c v ≡ 2 → targets (label c v) w b (rows c) ≡ label c (byArc c w (next0 c v)) ∷ []
+  pub row_plain : (v w b : ℕ) → v < size c → kind c v ≡ 2 → targets (label c v) w b (rows c) ≡ label c (by_arc c w (next0 c v)) ∷ []
   row_plain v w b l k =
       row-straight v w b l (numbered-stop c v (λ e. omega arith) ∙ stops-other c v (λ e. omega arith) (λ e. omega arith))
       (λ e. omega arith) (λ e. omega arith)
 
   -- the node after a stopping Begin is a condition that is no stop
-  pub row-begin : (v w b : ℕ) → v < size c → kind c v ≡ 0 → stops c v ≡ true
+  pub row-begin : (v w b : ℕ) → v < size c → kind c v ≡ 0 → is_stop c v ≡ true
       → targets (label c v) w b (rows c) ≡ label c (by_word c w (next0 c v)) ∷ []
   row-begin v w b l k s =
       let t : Target c (scheme c v) (next0 c v) = arc0 c a v l (λ e. omega arith) in
@@ -96,11 +96,11 @@ module _ (c : Chart) (a : SoundChart c) where
       let one : eqb (scheme c v) 1 ≡ false = not-true (eqb (scheme c v) 1) (and_l (not (eqb (scheme c v) 1)) (is c 3 (next0 c v)) x) in
       let k₃ : kind c (next0 c v) ≡ 3 = eqb-true (kind c (next0 c v)) 3 (and_r (not (eqb (scheme c v) 1)) (is c 3 (next0 c v)) x) in
       let one' : eqb (scheme c (next0 c v)) 1 ≡ false = ap (λ (h : ℕ). eqb h 1) t.same ∙ one in
-      let on : stops c (next0 c v) ≡ false = stops-condition c (next0 c v) k₃ ∙ rw one' in
+      let on : is_stop c (next0 c v) ≡ false = stops-condition c (next0 c v) k₃ ∙ rw one' in
       row-straight v w b l (numbered-stop c v (λ e. omega arith) ∙ s) (λ e. omega arith) (λ e. omega arith)
       ∙ ap (λ (u : ℕ). label c u ∷ []) (follow-condition c a (next0 c v) w t.inside k₃ on)
 
-  pub row-condition : (v w b : ℕ) → v < size c → kind c v ≡ 3 → stops c v ≡ true
+  pub row-condition : (v w b : ℕ) → v < size c → kind c v ≡ 3 → is_stop c v ≡ true
       → targets (label c v) w b (rows c) ≡ label c (by_word c w v) ∷ []
   row-condition v w b l k s =
       rows-here c v w b l (numbered-stop c v (λ e. omega arith) ∙ s) ∙ ap (targets (label c v) w b) (condition-rows c v k)
@@ -128,31 +128,31 @@ module _ (c : Chart) (a : SoundChart c) where
       mask₁ = subst (λ (x : ℕ). Mask x x) two (mask-1 0 0 (argument c v) free mask-none small)
 
       go : (bit w (argument c v) ≡ 0) ⊎ (bit w (argument c v) ≡ 1)
-          → targets (label c v) w b (pathsFrom (size c) c (label c v) 2 (2 ^ argument c v) 0 (next0 c v)
-          ++ pathsFrom (size c) c (label c v) 2 (2 ^ argument c v) (2 ^ argument c v) (next1 c v))
+          → targets (label c v) w b (paths_from (size c) c (label c v) 2 (2 ^ argument c v) 0 (next0 c v)
+          ++ paths_from (size c) c (label c v) 2 (2 ^ argument c v) (2 ^ argument c v) (next1 c v))
           ≡ label c (by_word c w v) ∷ []
       go (inl z) =
-          in-first (label c v) w b (pathsFrom (size c) c (label c v) 2 (2 ^ argument c v) 0 (next0 c v))
-          (pathsFrom (size c) c (label c v) 2 (2 ^ argument c v) (2 ^ argument c v) (next1 c v)) (label c (byArc c w (next0 c v)))
+          in-first (label c v) w b (paths_from (size c) c (label c v) 2 (2 ^ argument c v) 0 (next0 c v))
+          (paths_from (size c) c (label c v) 2 (2 ^ argument c v) (2 ^ argument c v) (next1 c v)) (label c (by_arc c w (next0 c v)))
           (paths-hit c a (label c v) w 2 b refl (size c) (scheme c v) (2 ^ argument c v) 0 (next0 c v) t₀ (rank-le c (next0 c v)) mask₀
           (subst (λ (x : ℕ). Agree w x 0) two (agree-0 0 0 (argument c v) free mask-none w (agree-none w) z)))
           (paths-miss c a (label c v) w 2 b (size c) (scheme c v) (2 ^ argument c v) (2 ^ argument c v) (next1 c v) t₁ mask₁
           (subst (λ (x : ℕ). Clash w x x) two (clash-here-1 0 0 (argument c v) free mask-none w z)))
-          ∙ ap (λ (u : ℕ). label c (byArc c w u) ∷ []) (sym (takes-0 c w v z))
+          ∙ ap (λ (u : ℕ). label c (by_arc c w u) ∷ []) (sym (takes-0 c w v z))
       go (inr o) =
-          in-second (label c v) w b (pathsFrom (size c) c (label c v) 2 (2 ^ argument c v) 0 (next0 c v))
-          (pathsFrom (size c) c (label c v) 2 (2 ^ argument c v) (2 ^ argument c v) (next1 c v))
-          (label c (byArc c w (next1 c v)) ∷ [])
+          in-second (label c v) w b (paths_from (size c) c (label c v) 2 (2 ^ argument c v) 0 (next0 c v))
+          (paths_from (size c) c (label c v) 2 (2 ^ argument c v) (2 ^ argument c v) (next1 c v))
+          (label c (by_arc c w (next1 c v)) ∷ [])
           (paths-miss c a (label c v) w 2 b (size c) (scheme c v) (2 ^ argument c v) 0 (next0 c v) t₀ mask₀
           (subst (λ (x : ℕ). Clash w x 0) two (clash-here-0 0 0 (argument c v) free mask-none w o)))
           (paths-hit c a (label c v) w 2 b refl (size c) (scheme c v) (2 ^ argument c v)
           (2 ^ argument c v) (next1 c v) t₁ (rank-le c (next1 c v)) mask₁
           (subst (λ (x : ℕ). Agree w x x) two (agree-1 0 0 (argument c v) free mask-none w (agree-none w) o)))
-          ∙ ap (λ (u : ℕ). label c (byArc c w u) ∷ []) (sym (takes-1 c w v o))
+          ∙ ap (λ (u : ℕ). label c (by_arc c w u) ∷ []) (sym (takes-1 c w v o))
 
   -- the rows of the other bit match nothing
   pub row-function : (v w : ℕ) (b : Bool) → v < size c → kind c v ≡ 4
-      → targets (label c v) w (pick b 1 0) (rows c) ≡ label c (byArc c w (pick b (next1 c v) (next0 c v))) ∷ []
+      → targets (label c v) w (pick b 1 0) (rows c) ≡ label c (by_arc c w (pick b (next1 c v) (next0 c v))) ∷ []
   row-function v w b l k =
       rows-here c v w (pick b 1 0) l (numbered-stop c v (λ e. omega arith) ∙ stops-other c v (λ e. omega arith) (λ e. omega arith))
       ∙ ap (targets (label c v) w (pick b 1 0)) (function-rows c v k) ∙ go b
@@ -162,62 +162,64 @@ module _ (c : Chart) (a : SoundChart c) where
       none true false = refl
       none false y = refl
 
-      off : (f x : ℕ) → (eqb f 2 || eqb f x) ≡ false → (r : Row) → r.from ≡ label c v → r.bit ≡ f → matchingRow (label c v) w x r ≡ false
+      off : (f x : ℕ) → (eqb f 2 || eqb f x) ≡ false → (r : Row) → r.from ≡ label c v → r.bit ≡ f
+          → is_matching_row (label c v) w x r ≡ false
       off f x q r e g =
-          ap (λ (y : Bool). eqb r.from (label c v) && (agrees w r.care r.values && y)) (ap (λ (y : ℕ). eqb y 2 || eqb y x) g ∙ q)
-          ∙ none (eqb r.from (label c v)) (agrees w r.care r.values)
+          ap (λ (y : Bool). eqb r.from (label c v) && (is_agreeing w r.care r.values && y)) (ap (λ (y : ℕ). eqb y 2 || eqb y x) g ∙ q)
+          ∙ none (eqb r.from (label c v)) (is_agreeing w r.care r.values)
 
       go : (b : Bool) → targets (label c v) w (pick b 1 0)
-          (pathsFrom (size c) c (label c v) 0 0 0 (next0 c v) ++ pathsFrom (size c) c (label c v) 1 0 0 (next1 c v))
-          ≡ label c (byArc c w (pick b (next1 c v) (next0 c v))) ∷ []
+          (paths_from (size c) c (label c v) 0 0 0 (next0 c v) ++ paths_from (size c) c (label c v) 1 0 0 (next1 c v))
+          ≡ label c (by_arc c w (pick b (next1 c v) (next0 c v))) ∷ []
       go false =
-          in-first (label c v) w 0 (pathsFrom (size c) c (label c v) 0 0 0 (next0 c v))
-          (pathsFrom (size c) c (label c v) 1 0 0 (next1 c v)) (label c (byArc c w (next0 c v)))
+          in-first (label c v) w 0 (paths_from (size c) c (label c v) 0 0 0 (next0 c v))
+          (paths_from (size c) c (label c v) 1 0 0 (next1 c v)) (label c (by_arc c w (next0 c v)))
           (from-arc (label c v) w 0 0 refl (scheme c v) (next0 c v) (arc0 c a v l (λ e. omega arith)))
           (paths-none (size c) c (label c v) (label c v) w 1 0 (off 1 0 refl) 0 0 (next1 c v))
       go true =
-          in-second (label c v) w 1 (pathsFrom (size c) c (label c v) 0 0 0 (next0 c v))
-          (pathsFrom (size c) c (label c v) 1 0 0 (next1 c v)) (label c (byArc c w (next1 c v)) ∷ [])
+          in-second (label c v) w 1 (paths_from (size c) c (label c v) 0 0 0 (next0 c v))
+          (paths_from (size c) c (label c v) 1 0 0 (next1 c v)) (label c (by_arc c w (next1 c v)) ∷ [])
           (paths-none (size c) c (label c v) (label c v) w 0 1 (off 0 1 refl) 0 0 (next0 c v))
           (from-arc (label c v) w 1 1 refl (scheme c v) (next1 c v) (arc1 c a v l (omega arith)))
 
 -- ---- all kinds at once
 -- the stop where the walk goes from the numbered stop v, by a word and, from a function, by the bit of the scheme called
-unfoldable pub onwardStop : Chart → ℕ → Bool → ℕ → ℕ
-onwardStop c w b v = pick (is c 4 v) (byArc c w (pick b (next1 c v) (next0 c v))) (pick (is c 3 v) (by_word c w v) (byArc c w (next0 c v)))
+unfoldable pub onward_stop : Chart → ℕ → Bool → ℕ → ℕ
+onward_stop c w b v =
+    pick (is c 4 v) (by_arc c w (pick b (next1 c v) (next0 c v))) (pick (is c 3 v) (by_word c w v) (by_arc c w (next0 c v)))
 
-module _ (c : Chart) (a : SoundChart c) (v w : ℕ) (b : Bool) (l : v < size c) (e : numbered c v ≡ true) where
+module _ (c : Chart) (a : SoundChart c) (v w : ℕ) (b : Bool) (l : v < size c) (e : is_numbered c v ≡ true) where
   -- just one row matches, and this is where it leads
-  pub one-row : targets (label c v) w (pick b 1 0) (rows c) ≡ label c (onwardStop c w b v) ∷ []
-  unfolding onwardStop
+  pub one-row : targets (label c v) w (pick b 1 0) (rows c) ≡ label c (onward_stop c w b v) ∷ []
+  unfolding onward_stop
   one-row = go (ℕ_discrete (kind c v) 4) (ℕ_discrete (kind c v) 3)
     where
-      go : Dec (kind c v ≡ 4) → Dec (kind c v ≡ 3) → targets (label c v) w (pick b 1 0) (rows c) ≡ label c (onwardStop c w b v) ∷ []
+      go : Dec (kind c v ≡ 4) → Dec (kind c v ≡ 3) → targets (label c v) w (pick b 1 0) (rows c) ≡ label c (onward_stop c w b v) ∷ []
       go (yes k) x =
           row-function c a v w b l k
           ∙ ap (λ (u : ℕ). label c u ∷ [])
-          (sym (yes-pick (is c 4 v) (byArc c w (pick b (next1 c v) (next0 c v))) _ (eq-eqb (kind c v) 4 k)))
+          (sym (yes-pick (is c 4 v) (by_arc c w (pick b (next1 c v) (next0 c v))) _ (eq-eqb (kind c v) 4 k)))
       go (no n) (yes k) =
-          row-condition c a v w (pick b 1 0) l k (and_l (stops c v) (not (is c 1 v)) e)
+          row-condition c a v w (pick b 1 0) l k (and_l (is_stop c v) (not (is c 1 v)) e)
           ∙ ap (λ (u : ℕ). label c u ∷ [])
-          (sym (no-pick (is c 4 v) (byArc c w (pick b (next1 c v) (next0 c v)))
-          (pick (is c 3 v) (by_word c w v) (byArc c w (next0 c v))) (ne_eqb (kind c v) 4 n)
-          ∙ yes-pick (is c 3 v) (by_word c w v) (byArc c w (next0 c v)) (eq-eqb (kind c v) 3 k)))
+          (sym (no-pick (is c 4 v) (by_arc c w (pick b (next1 c v) (next0 c v)))
+          (pick (is c 3 v) (by_word c w v) (by_arc c w (next0 c v))) (ne_eqb (kind c v) 4 n)
+          ∙ yes-pick (is c 3 v) (by_word c w v) (by_arc c w (next0 c v)) (eq-eqb (kind c v) 3 k)))
       go (no n) (no k) =
           row-straight c a v w (pick b 1 0) l e n k
           ∙ ap (λ (u : ℕ). label c u ∷ [])
-          (sym (no-pick (is c 4 v) (byArc c w (pick b (next1 c v) (next0 c v)))
-          (pick (is c 3 v) (by_word c w v) (byArc c w (next0 c v))) (ne_eqb (kind c v) 4 n)
-          ∙ no-pick (is c 3 v) (by_word c w v) (byArc c w (next0 c v)) (ne_eqb (kind c v) 3 k)))
+          (sym (no-pick (is c 4 v) (by_arc c w (pick b (next1 c v) (next0 c v)))
+          (pick (is c 3 v) (by_word c w v) (by_arc c w (next0 c v))) (ne_eqb (kind c v) 4 n)
+          ∙ no-pick (is c 3 v) (by_word c w v) (by_arc c w (next0 c v)) (ne_eqb (kind c v) 3 k)))
 
   -- so two rows that match are the same row
   pub same_row : (i j : ℕ) → i < length (rows c) → j < length (rows c)
-      → matchingRow (label c v) w (pick b 1 0) (get_or (rows c) i no_row) ≡ true
-      → matchingRow (label c v) w (pick b 1 0) (get_or (rows c) j no_row) ≡ true → i ≡ j
+      → is_matching_row (label c v) w (pick b 1 0) (get_or (rows c) i no_row) ≡ true
+      → is_matching_row (label c v) w (pick b 1 0) (get_or (rows c) j no_row) ≡ true → i ≡ j
   unfolding targets
-  same_row = one_passes (matchingRow (label c v) w (pick b 1 0)) no_row (rows c)
+  same_row = one_passes (is_matching_row (label c v) w (pick b 1 0)) no_row (rows c)
       (omega (
         arith,
-        sym (length-map (filter (matchingRow (label c v) w (pick b 1 0)) (rows c)) (λ (r : Row). r.next))
+        sym (length-map (filter (is_matching_row (label c v) w (pick b 1 0)) (rows c)) (λ (r : Row). r.next))
             ∙ ap (λ (us : List ℕ). length us) one-row,
       ))

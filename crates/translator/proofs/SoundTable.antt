@@ -16,13 +16,13 @@ use Rattle.charts.specs.Layout.{Function, kind_of}
 use Rattle.charts.specs.Chart.{Chart, kind, scheme, argument, result, mask, schemes}
 use Rattle.walk.specs.Stops.{start}
 use Rattle.walk.proofs.Facts.{Facts, StopOf}
-use Rattle.image.specs.Image.{Row, imageText, no_row}
-use Rattle.image.specs.Decode.{decoded}
-use Rattle.image.specs.Check.{imageVerdict}
-use Rattle.image.specs.inner.Sound.{no_label, nthLabel, Reaches, SoundLabel, SoundRow, SoundImage}
+use Rattle.image.specs.Image.{Row, image_text, no_row}
+use Rattle.image.specs.Decode.{decoded_image}
+use Rattle.image.specs.Check.{image_verdict}
+use Rattle.image.specs.inner.Sound.{no_label, nth_label, Reaches, SoundLabel, SoundRow, SoundImage}
 use Rattle.image.proofs.Decoded.{image-decoded}
 use Rattle.image.proofs.Passes.{image-fine}
-use Rattle.chart_rows.specs.chart_labels.Labels.{numbered, numberedNodes, bareLabel, labelAs, stopLabel}
+use Rattle.chart_rows.specs.chart_labels.Labels.{is_numbered, numbered_nodes, bare_label, label_as, stop_label}
 use Rattle.chart_rows.specs.Rows.{rows}
 use Rattle.translator.specs.Table.{table}
 use Rattle.translator.proofs.LabelLaws.{label-home, label-return, labels-two, labels-few, length-entries, entry-holds, rows_are}
@@ -34,7 +34,7 @@ module _ (c : Chart) (F : Facts c) where
   mask-small v = omega (arith, F.bytes (10 * v + 6), F.bytes (10 * v + 7), F.bytes (10 * v + 8), F.bytes (10 * v + 9))
 
   module _ (v : ℕ) (l : v < size c) where
-    bare-sound : SoundLabel (schemes c) (bareLabel (scheme c v))
+    bare-sound : SoundLabel (schemes c) (bare_label (scheme c v))
     bare-sound = record {
       kinds = omega arith;
       some = (F.owned v l).0;
@@ -67,7 +67,7 @@ module _ (c : Chart) (F : Facts c) where
       calls = λ o. F.calls v l e (eqb-false (argument c v) 0 g);
     }
 
-    function-sound : kind c v ≡ 4 → SoundLabel (schemes c) (labelAs c v Function)
+    function-sound : kind c v ≡ 4 → SoundLabel (schemes c) (label_as c v Function)
     function-sound e = record {
       kinds = omega arith;
       some = (F.owned v l).0;
@@ -78,10 +78,10 @@ module _ (c : Chart) (F : Facts c) where
       calls = λ o. F.functions v l e;
     }
 
-    pub label-sound : SoundLabel (schemes c) (stopLabel c v)
+    pub label-sound : SoundLabel (schemes c) (stop_label c v)
     label-sound = go (kind c v) refl
       where
-        go : (k : ℕ) → kind c v ≡ k → SoundLabel (schemes c) (labelAs c v (kind_of k))
+        go : (k : ℕ) → kind c v ≡ k → SoundLabel (schemes c) (label_as c v (kind_of k))
         go zero e = bare-sound
         go (suc zero) e = bare-sound
         go (suc (suc zero)) e = operation-sound e (eqb (argument c v) 0) refl
@@ -89,21 +89,21 @@ module _ (c : Chart) (F : Facts c) where
         go (suc (suc (suc (suc zero)))) e = function-sound e
         go (suc (suc (suc (suc (suc k))))) e = bare-sound
 
-  label-at : (k : ℕ) → k < length (numberedNodes c) → nthLabel (table c) (suc (suc k)) ≡ stopLabel c (get_or (numberedNodes c) k 0)
+  label-at : (k : ℕ) → k < length (numbered_nodes c) → nth_label (table c) (suc (suc k)) ≡ stop_label c (get_or (numbered_nodes c) k 0)
   unfolding table
-  label-at k l = get_d_map (stopLabel c) (numberedNodes c) k 0 no_label l
+  label-at k l = get_d_map (stop_label c) (numbered_nodes c) k 0 no_label l
 
-  labels-count : length (table c).labels ≡ suc (suc (length (numberedNodes c)))
+  labels-count : length (table c).labels ≡ suc (suc (length (numbered_nodes c)))
   unfolding table
-  labels-count = ap (λ (n : ℕ). suc (suc n)) (length-map (numberedNodes c) (stopLabel c))
+  labels-count = ap (λ (n : ℕ). suc (suc n)) (length-map (numbered_nodes c) (stop_label c))
 
-  others-sound : (l : ℕ) → 2 ≤ l → l < length (table c).labels → SoundLabel (schemes c) (nthLabel (table c) l)
+  others-sound : (l : ℕ) → 2 ≤ l → l < length (table c).labels → SoundLabel (schemes c) (nth_label (table c) l)
   others-sound l h k =
-      let m : l - 2 < length (numberedNodes c) = omega (arith, labels-count) in
-      let v : ℕ = get_or (numberedNodes c) (l - 2) 0 in
-      let e : nthLabel (table c) l ≡ stopLabel c v = ap (nthLabel (table c)) (omega arith) ∙ label-at (l - 2) m in
-      let g : (v < size c) × (numbered c v ≡ true) =
-      all-at (λ v. (v < size c) × (numbered c v ≡ true)) 0 (numberedNodes c) (numbered-nodes c) (l - 2) m in
+      let m : l - 2 < length (numbered_nodes c) = omega (arith, labels-count) in
+      let v : ℕ = get_or (numbered_nodes c) (l - 2) 0 in
+      let e : nth_label (table c) l ≡ stop_label c v = ap (nth_label (table c)) (omega arith) ∙ label-at (l - 2) m in
+      let g : (v < size c) × (is_numbered c v ≡ true) =
+      all-at (λ v. (v < size c) × (is_numbered c v ≡ true)) 0 (numbered_nodes c) (numbered-nodes c) (l - 2) m in
       subst (SoundLabel (schemes c)) (sym e) (label-sound v g.0)
 
   -- ---- the whole table
@@ -127,7 +127,7 @@ module _ (c : Chart) (F : Facts c) where
           (label-reaches c (suc h) (start c (suc h)) s.inside s.same);
       home = label-home c;
       back = label-return c;
-      others = λ l h k. subst (λ (n : ℕ). SoundLabel n (nthLabel (table c) l)) (sym (length-entries c)) (others-sound l h k);
+      others = λ l h k. subst (λ (n : ℕ). SoundLabel n (nth_label (table c) l)) (sym (length-entries c)) (others-sound l h k);
       each = λ k l.
           subst (λ (rs : List Row). SoundRow (table c) (get_or rs k no_row)) (sym (rows_are c))
           (all-at (SoundRow (table c)) no_row (rows c) (rows-sound c F) k (subst (λ (rs : List Row). k < length rs) (rows_are c) l));
@@ -136,8 +136,8 @@ module _ (c : Chart) (F : Facts c) where
           (rows-rising c F k (subst (λ (rs : List Row). suc k < length rs) (rows_are c) l));
     }
 
-    pub table-fine : imageVerdict (imageText (table c)) ≡ fine
+    pub table-fine : image_verdict (image_text (table c)) ≡ fine
     table-fine = image-fine (table c) table-sound
 
-    pub table-decoded : decoded (contents (imageText (table c))) ≡ table c
+    pub table-decoded : decoded_image (contents (image_text (table c))) ≡ table c
     table-decoded = image-decoded (table c) table-sound

@@ -13,41 +13,41 @@ use Rattle.text.specs.declared.frames.Answer.{Answer}
 use Rattle.text.specs.declared.frames.Answer.TheVariants.{Done}
 use Rattle.text.proofs.frames.Verdicts.{next-first, next-rest, when-fine}
 use Rattle.text.proofs.frames.Lent.{Success, lent-told, front}
-use Rattle.charts.specs.Entry.{readVerdict}
-use Rattle.image.specs.Image.{imageText}
+use Rattle.charts.specs.Entry.{read_verdict}
+use Rattle.image.specs.Image.{image_text}
 use Rattle.chart_rows.specs.Rows.{rows}
 use Rattle.translator.specs.Table.{table}
-use Rattle.translator.specs.Entry.{translateVerdict, translate}
+use Rattle.translator.specs.Entry.{translate_verdict, translate}
 
-module _ (t : List ℕ) (ok : translateVerdict t ≡ fine) where
-  pub translated-read : readVerdict t ≡ fine
-  unfolding translateVerdict
-  translated-read = next-first (readVerdict t) (λ _. when 10 (ltb 1024 (length (rows (contents t))))) ok
+module _ (t : List ℕ) (ok : translate_verdict t ≡ fine) where
+  pub translated-read : read_verdict t ≡ fine
+  unfolding translate_verdict
+  translated-read = next-first (read_verdict t) (λ _. when 10 (ltb 1024 (length (rows (contents t))))) ok
 
   pub translated-few : length (rows (contents t)) ≤ 1024
-  unfolding translateVerdict
+  unfolding translate_verdict
   translated-few =
       let n : ℕ = length (rows (contents t)) in
-      ltb-false 1024 n (when-fine 10 (ltb 1024 n) (next-rest (readVerdict t) (λ _. when 10 (ltb 1024 n)) ok))
+      ltb-false 1024 n (when-fine 10 (ltb 1024 n) (next-rest (read_verdict t) (λ _. when 10 (ltb 1024 n)) ok))
 
 -- n characters were written
 module _ (t out : List ℕ) (n : ℕ) (done : (translate t out).reply ≡ success n) where
-  translate-told : Success (translateVerdict t) 1 (imageText (table (contents t))) out n (translate t out)
+  translate-told : Success (translate_verdict t) 1 (image_text (table (contents t))) out n (translate t out)
   unfolding translate
-  translate-told = lent-told (translateVerdict t) 1 (λ _. imageText (table (contents t))) out n done
+  translate-told = lent-told (translate_verdict t) 1 (λ _. image_text (table (contents t))) out n done
 
-  pub translated-fine : translateVerdict t ≡ fine
+  pub translated-fine : translate_verdict t ≡ fine
   translated-fine = translate-told.accepted
 
-  pub translated-image : take n (translate t out).buffer ≡ imageText (table (contents t))
+  pub translated-image : take n (translate t out).buffer ≡ image_text (table (contents t))
   translated-image =
-      let s : Success (translateVerdict t) 1 (imageText (table (contents t))) out n (translate t out) = translate-told in
-      ap (take n) s.buffer ∙ front n (imageText (table (contents t))) out (s.count ∙ omega arith)
+      let s : Success (translate_verdict t) 1 (image_text (table (contents t))) out n (translate t out) = translate-told in
+      ap (take n) s.buffer ∙ front n (image_text (table (contents t))) out (s.count ∙ omega arith)
 
 -- an answer's count is no more than the buffer has
 pub done-room : (t out : List ℕ) (a : Answer) (n : ℕ) → reply a ≡ (translate t out).reply → a ≡ Done n → n ≤ length out
 done-room t out a n e d =
-    let s : Success (translateVerdict t) 1 (imageText (table (contents t))) out n (translate t out) =
+    let s : Success (translate_verdict t) 1 (image_text (table (contents t))) out n (translate t out) =
     translate-told t out n (sym e ∙ ap reply d) in
     omega (arith, s.count, s.fits)
 

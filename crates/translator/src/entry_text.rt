@@ -2,11 +2,11 @@
 ghost use Rattle.std.specs.Prelude.{◌≡◌, ◌+◌, ◌*◌, ◌≤◌, length};
 ghost use Rattle.words.specs.lists.Sequences.{written};
 ghost use Rattle.text.specs.declared.frames.sizes.TheConstants.{ROWS};
-ghost use Rattle.image.specs.Image.{entryFrame};
+ghost use Rattle.image.specs.Image.{entry_frame};
 ghost use Rattle.chart_rows.specs.chart_labels.Labels.{entry};
 ghost use Rattle.chart_rows.specs.chart_labels.inner.ChartContracts.{Begun};
 ghost use Rattle.translator.specs.label_text.inner.LabelContracts.{OfScheme, Schemed};
-ghost use Rattle.translator.specs.label_text.inner.LabelBytes.{headerBytes, entryBytes, up_to};
+ghost use Rattle.translator.specs.label_text.inner.LabelBytes.{header_bytes, entry_bytes, up_to};
 
 use chart_rows::chart_labels::note_begins;
 use charts::field;
@@ -18,7 +18,7 @@ use text::frames::sizes::FRAME;
 pub fn put_header(out: &mut [u8], highest: u8, last: u8, rows: usize, handler: u8)
     requires in_bounds { FRAME ≤ length out.old }
     requires rows_bound { rows ≤ ROWS }
-    ensures { out.new ≡ written out.old 0 (headerBytes highest last rows handler) }
+    ensures { out.new ≡ written out.old 0 (header_bytes highest last rows handler) }
 {
     let rows0 = (rows / 256) as u8;
     let rows1 = (rows % 256) as u8;
@@ -42,7 +42,7 @@ fn entry_of(records: &[u8], labels: &[u8], begins: &[u8], scheme: u8) -> u8
 
 fn put_entry(out: &mut [u8], at: usize, scheme: u8, label: u8)
     requires { at + FRAME ≤ length out.old }
-    ensures { out.new ≡ written out.old at (entryFrame scheme label) }
+    ensures { out.new ≡ written out.old at (entry_frame scheme label) }
 {
     let bytes = [ENTRY, scheme, label, 0, 0, 0, 0, 0, 0, 0];
     put_bytes(out, at, &bytes);
@@ -51,7 +51,7 @@ fn put_entry(out: &mut [u8], at: usize, scheme: u8, label: u8)
 pub fn put_entries(records: &[u8], labels: &[u8], highest: u8, out: &mut [u8], at: usize)
     requires schemed { Schemed records.now labels.now highest }
     requires highest_in_bounds { at + FRAME * highest ≤ length out.old }
-    ensures { out.new ≡ written out.old at (up_to (entryBytes records.now) highest) }
+    ensures { out.new ≡ written out.old at (up_to (entry_bytes records.now) highest) }
 {
     let mut begins = [0u8; 17];
     note_begins(records, &mut begins);

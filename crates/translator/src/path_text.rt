@@ -1,11 +1,11 @@
 // The rows of the paths on from a node, written as frames of ten bytes. Functions return the offset after what they wrote.
 ghost use Rattle.std.specs.Prelude.{◌+◌, ◌≤◌, length};
 ghost use Rattle.text.specs.frames.Frame.{size};
-ghost use Rattle.image.specs.Image.{rowFrame, row};
+ghost use Rattle.image.specs.Image.{row_frame, row};
 ghost use Rattle.chart_rows.specs.inner.PathContracts.{PathAt};
-ghost use Rattle.chart_rows.specs.inner.NodeRows.{pathsFrom};
+ghost use Rattle.chart_rows.specs.inner.NodeRows.{paths_from};
 ghost use Rattle.translator.specs.label_text.inner.LabelBytes.{Put};
-ghost use Rattle.translator.specs.path_text.inner.RowBytes.{rowsBytes};
+ghost use Rattle.translator.specs.path_text.inner.RowBytes.{rows_bytes};
 
 use chart_rows::settle;
 use charts::field;
@@ -18,7 +18,7 @@ use words::bits::with_bit;
 // One row; the offset after it.
 fn put_row(out: &mut [u8], at: usize, from: u8, care: u16, values: u16, bit: u8, next: u8) -> usize
     requires { at + FRAME ≤ length out.old }
-    ensures { Put out.old at (rowFrame (row from care values bit next)) result out.new }
+    ensures { Put out.old at (row_frame (row from care values bit next)) result out.new }
 {
     let care0 = (care / 256) as u8;
     let care1 = (care % 256) as u8;
@@ -43,9 +43,9 @@ fn put_forks(
     at: usize,
 ) -> usize
     requires path_at { PathAt records.now notes.now care values node }
-    requires node_in_bounds { at + length (rowsBytes (pathsFrom (size records.now) records.now from bit care values node)) ≤ length out.old }
+    requires node_in_bounds { at + length (rows_bytes (paths_from (size records.now) records.now from bit care values node)) ≤ length out.old }
     ensures { Put out.old at
-        (rowsBytes (pathsFrom (size records.now) records.now from bit care values node)) result out.new }
+        (rows_bytes (paths_from (size records.now) records.now from bit care values node)) result out.new }
 {
     let mut place = at;
     let mut tested = care;
@@ -84,9 +84,9 @@ pub fn put_paths(
     at: usize,
 ) -> usize
     requires path_at { PathAt records.now notes.now care values node }
-    requires node_in_bounds { at + length (rowsBytes (pathsFrom (size records.now) records.now from bit care values node)) ≤ length out.old }
+    requires node_in_bounds { at + length (rows_bytes (paths_from (size records.now) records.now from bit care values node)) ≤ length out.old }
     ensures { Put out.old at
-        (rowsBytes (pathsFrom (size records.now) records.now from bit care values node)) result out.new }
+        (rows_bytes (paths_from (size records.now) records.now from bit care values node)) result out.new }
 {
     let v = node as usize;
     if notes[NODES + v] > 15 {

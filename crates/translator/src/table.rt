@@ -1,11 +1,11 @@
 // The image of an accepted chart: whether 10 or 16 refuses it, and its table as bytes and as text.
 ghost use Rattle.std.specs.Prelude.{◌≡◌, ◌≤◌};
-ghost use Rattle.image.specs.Image.{imageText};
+ghost use Rattle.image.specs.Image.{image_text};
 ghost use Rattle.chart_rows.specs.inner.PathContracts.{Noted};
 ghost use Rattle.translator.specs.label_text.inner.LabelBytes.{Put};
 ghost use Rattle.translator.specs.Table.{table};
 ghost use Rattle.translator.specs.inner.TranslatorContracts.{ImageRoom};
-ghost use Rattle.translator.specs.inner.ImageBytes.{tableBytes, sizeRefusal};
+ghost use Rattle.translator.specs.inner.ImageBytes.{table_bytes, size_refusal};
 
 use crate::entry_text::{put_entries, put_header};
 use crate::label_text::{put_fixed, put_labels};
@@ -22,7 +22,7 @@ use text::frames::sizes::*;
 pub fn size_refusal(records: &[u8], notes: &[u8], before: usize, room: usize) -> u8
     requires noted { Noted records.now notes.now }
     requires before_bound { before ≤ 1024 }
-    ensures { result ≡ sizeRefusal records.now before room }
+    ensures { result ≡ size_refusal records.now before room }
 {
     let bound = bound_rows(records, notes);
     if bound <= ROWS {
@@ -43,7 +43,7 @@ pub fn size_refusal(records: &[u8], notes: &[u8], before: usize, room: usize) ->
 // The bytes of the image's frames. `own` nodes have a label of their own. The header comes last: it has the number of rows.
 fn put_table(records: &[u8], notes: &[u8], highest: u8, own: usize, out: &mut [u8]) -> usize
     requires { ImageRoom records.now notes.now highest own out.old }
-    ensures { Put out.old 0 (tableBytes records.now) result out.new }
+    ensures { Put out.old 0 (table_bytes records.now) result out.new }
 {
     put_entries(records, notes, highest, out, FRAME);
     let fixed = FRAME + FRAME * (highest as usize);
@@ -60,7 +60,7 @@ fn put_table(records: &[u8], notes: &[u8], highest: u8, own: usize, out: &mut [u
 // The bytes first, and then all of them made into text in one pass, which the compiler makes of many characters at once.
 pub fn put_image(records: &[u8], notes: &[u8], highest: u8, own: usize, out: &mut [u8]) -> usize
     requires { ImageRoom records.now notes.now highest own out.old }
-    ensures { Put out.old 0 (imageText (table records.now)) result out.new }
+    ensures { Put out.old 0 (image_text (table records.now)) result out.new }
 {
     let end = put_table(records, notes, highest, own, out);
     let n = end / FRAME;

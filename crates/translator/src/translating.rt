@@ -4,7 +4,7 @@ ghost use Rattle.text.specs.frames.Answer.{GivesBuffer};
 ghost use Rattle.charts.specs.Chart.{schemes};
 ghost use Rattle.chart_rows.specs.chart_labels.inner.ChartContracts.{Ready};
 ghost use Rattle.translator.specs.Entry.{translate};
-ghost use Rattle.translator.specs.inner.ImageBytes.{imageOutcome};
+ghost use Rattle.translator.specs.inner.ImageBytes.{image_outcome};
 
 use crate::{put_image, size_refusal};
 use chart_check::chart_counts::highest_scheme;
@@ -17,7 +17,7 @@ use text::frames::{Answer, refused};
 fn write_image(records: &[u8], highest: u8, out: &mut [u8]) -> Answer
     requires ready { Ready records.now }
     requires highest_value { highest ≡ schemes records.now }
-    ensures { GivesBuffer (imageOutcome records.now out.old) result out.new }
+    ensures { GivesBuffer (image_outcome records.now out.old) result out.new }
 {
     let mut notes = [0u8; NOTES];
     let own = note_nodes(records, &mut notes);

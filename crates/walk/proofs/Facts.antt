@@ -6,13 +6,13 @@ use lib.ListN.{length, get_or}
 use Rattle.text.specs.frames.Frame.{size}
 use Rattle.charts.specs.Chart.{Chart, kind, scheme, argument, next0, next1, result, handler, schemes, begin, end}
 pub use Rattle.charts.proofs.Nodes.{Target}
-use Rattle.walk.specs.Stops.{stops, start, byArc, by_word}
+use Rattle.walk.specs.Stops.{is_stop, start, by_arc, by_word}
 
 -- node u is a stop of scheme h
 pub record StopOf (c : Chart) (h u : ℕ) : Type 0 where
   pub inside : u < size c
   pub same : scheme c u ≡ h
-  pub stopping : stops c u ≡ true
+  pub stopping : is_stop c u ≡ true
 
 pub record Facts (c : Chart) : Type 0 where
   -- lengths and bytes: refusals 1 to 4
@@ -37,6 +37,6 @@ pub record Facts (c : Chart) : Type 0 where
   pub calls : (v : ℕ) → v < size c → kind c v ≡ 2 → (argument c v ≡ 0 → ⊥) → (2 ≤ argument c v) × (argument c v ≤ schemes c)
   pub functions : (v : ℕ) → v < size c → kind c v ≡ 4 → (2 ≤ argument c v) × (argument c v ≤ schemes c)
   -- no circle of conditions, refusal 8: every way on ends at a stop of the same scheme
-  pub follows : (h v w : ℕ) → Target c h v → StopOf c h (byArc c w v)
+  pub follows : (h v w : ℕ) → Target c h v → StopOf c h (by_arc c w v)
   pub tests : (v w : ℕ) → v < size c → kind c v ≡ 3 → StopOf c (scheme c v) (by_word c w v)
   pub starts : (h : ℕ) → 1 ≤ h → h ≤ schemes c → StopOf c h (start c h)

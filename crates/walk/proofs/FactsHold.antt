@@ -6,7 +6,7 @@ use lib.ListN.{get_or}
 use Rattle.text.specs.frames.Frame.{contents}
 use Rattle.text.specs.frames.Verdict.{fine}
 use Rattle.charts.specs.Chart.{Chart}
-use Rattle.charts.specs.Entry.{readVerdict}
+use Rattle.charts.specs.Entry.{read_verdict}
 use Rattle.charts.proofs.Accepted.{Accepted, SoundChart, accepted, accepted-bytes}
 use Rattle.charts.proofs.Nodes.{kinds, owned, schemes-most, schemes-first, conditions, results, TheNode}
 use Rattle.charts.proofs.Nodes.{begins, ends, handled, arc0, arc1, calls, functions}
@@ -39,5 +39,5 @@ facts-of c a bytes =
       starts = starts c s;
     }
 
-pub facts : (t : List ℕ) → readVerdict t ≡ fine → Facts (contents t)
+pub facts : (t : List ℕ) → read_verdict t ≡ fine → Facts (contents t)
 facts t e = facts-of (contents t) (accepted t e) (accepted-bytes t e)

@@ -14,18 +14,18 @@ use Rattle.words.specs.lists.Pick.{pick}
 use Rattle.words.specs.lists.Sequences.{some}
 use Rattle.words.proofs.lists.Tests.{no_both, or_l, or_r, and_l, and_r, and-true}
 use Rattle.words.proofs.lists.Searches.{some-cons}
-use Rattle.results.specs.Results.{Results, noResults, result_of, withResult, cleared}
+use Rattle.results.specs.Results.{Results, no_results, result_of, with_result, cleared_results}
 use Rattle.results.proofs.ResultLaws.{cleared-own, cleared-keeps, result-keeps}
 use Rattle.text.specs.frames.Frame.{contents, size}
 use Rattle.charts.specs.Chart.{Chart, kind, argument, next0, next1, result}
-use Rattle.walk.specs.Stops.{byArc, Stop, plain, call, function, test, home, back, stop_at}
-use Rattle.walk.specs.Walk.{Signal, Tick, isDrop}
-use Rattle.walk.specs.Functions.{walkWritesOne, returnsTo, WalkUnwritten, ZeroArc}
+use Rattle.walk.specs.Stops.{by_arc, Stop, plain, call, function, test, home, back, stop_at}
+use Rattle.walk.specs.Walk.{Signal, Tick, is_drop}
+use Rattle.walk.specs.Functions.{is_walk_write_of_one, is_return_to, WalkUnwritten, ZeroArc}
 use Rattle.walk.proofs.Facts.{Facts}
 use Rattle.walk.proofs.FactsHold.{facts}
 use Rattle.walk.proofs.Views.{View, a-plain, a_call, a-function, a-home, a_back, a-begin, a-condition, view, stop-function}
-use Rattle.walk.proofs.Trace.{Open, WalkPosition, at, stopCode, stopTick, resumedBy, positionReturned}
-use Rattle.walk.proofs.Trace.{movedBy, dropsAt, tickAt, move, trace, positionAtHome}
+use Rattle.walk.proofs.Trace.{Open, WalkPosition, at, stop_code, stop_tick, node_resumed, position_returned}
+use Rattle.walk.proofs.Trace.{position_moved, is_drop_at, tick_at, move, trace, position_at_home}
 use Rattle.walk.proofs.Recursion.{walk-trace}
 
 -- ---- ticks by their first
@@ -43,7 +43,7 @@ abbrev words_of : List Signal → List ℕ
 words_of ws = map (λ w. w.word) ws
 
 -- only a return has code 3
-is-back : (d : Bool) (s : Stop) → stopCode d s ≡ 3 → s ≡ back
+is-back : (d : Bool) (s : Stop) → stop_code d s ≡ 3 → s ≡ back
 is-back d (plain m r u) e = absurd (omega arith)
 is-back true (call m r h u) e = absurd (omega arith)
 is-back false (call m r h u) e = absurd (omega arith)
@@ -75,27 +75,28 @@ module _ (c : Chart) (y : Open) (h : ℕ) (ks : List Open) (deep : 2 ≤ h) wher
     waits : (u : Open) (above : List Open) (b : Results) (f : Bool) → result_of h b ≡ false → Waits (at u (above ++ (y ∷ ks)) b f)
 
   abbrev own : Tick → Bool
-  own = returnsTo (suc (length ks))
+  own = is_return_to (suc (length ks))
 
   -- a tick that neither drops the open schemes, nor is the own return, nor writes 1 to the bit
   record Passing (t : Tick) : Type 0 where
-    kept : isDrop t ≡ false
+    kept : is_drop t ≡ false
     inside : own t ≡ false
-    unwritten : walkWritesOne c h t ≡ false
+    unwritten : is_walk_write_of_one c h t ≡ false
 
   abbrev AllPassing : List Tick → Type 0
   AllPassing [] = Unit {0}
   AllPassing (t ∷ ts) = Passing t × AllPassing ts
 
-  all-passing : (ts : List Tick) → some isDrop ts ≡ false → some own ts ≡ false → some (walkWritesOne c h) ts ≡ false → AllPassing ts
+  all-passing : (ts : List Tick) → some is_drop ts ≡ false → some own ts ≡ false → some (is_walk_write_of_one c h) ts ≡ false
+      → AllPassing ts
   all-passing [] d r q = tt
   all-passing (t ∷ ts) d r q = (
-    record { kept = none_first isDrop t ts d; inside = none_first own t ts r; unwritten = none_first (walkWritesOne c h) t ts q },
-    all-passing ts (none_rest isDrop t ts d) (none_rest own t ts r) (none_rest (walkWritesOne c h) t ts q),
+    record { kept = none_first is_drop t ts d; inside = none_first own t ts r; unwritten = none_first (is_walk_write_of_one c h) t ts q },
+    all-passing ts (none_rest is_drop t ts d) (none_rest own t ts r) (none_rest (is_walk_write_of_one c h) t ts q),
   )
 
   returned-waits : (js : List Open) (w : ℕ) (b : Results) (f : Bool) → result_of h b ≡ false
-      → eqb (suc (length (js ++ (y ∷ ks)))) (suc (suc (length ks))) ≡ false → Waits (positionReturned c (js ++ (y ∷ ks)) w b f)
+      → eqb (suc (length (js ++ (y ∷ ks)))) (suc (suc (length ks))) ≡ false → Waits (position_returned c (js ++ (y ∷ ks)) w b f)
   returned-waits [] w b f e q = no_both _ (eq-eqb (suc (suc (length ks))) (suc (suc (length ks))) refl) q
   returned-waits (j ∷ js) w b f e q = waits _ js b f e
 
@@ -113,11 +114,11 @@ module _ (c : Chart) (y : Open) (h : ℕ) (ks : List Open) (deep : 2 ≤ h) wher
     written-not k q s r = no_both _
         (and-true _ _ (eq-eqb (kind c v) 2 k) (and-true _ _ (eq-eqb g h s) (eq-eqb (result c v) 2 r))) q
 
-    waits-by : (d : Bool) → {s : Stop} → View c v s → Passing (stopTick d o u s) → Waits (movedBy c d u (js ++ (y ∷ ks)) w b f s)
+    waits-by : (d : Bool) → {s : Stop} → View c v s → Passing (stop_tick d o u s) → Waits (position_moved c d u (js ++ (y ∷ ks)) w b f s)
     waits-by d (a-plain k a) p = waits _ js _ f (result-keeps (result c v) g h b deep (written-not k p.unwritten) e)
     waits-by true (a_call k a) p = no_both true refl p.kept
     waits-by false (a_call k a) p =
-        waits _ (u ∷ js) _ f (cleared-keeps (argument c v) h (withResult (result c v) g b)
+        waits _ (u ∷ js) _ f (cleared-keeps (argument c v) h (with_result (result c v) g b)
         (result-keeps (result c v) g h b deep (written-not k p.unwritten) e))
     waits-by true (a-function k) p = no_both true refl p.kept
     waits-by false (a-function k) p = waits _ (u ∷ js) _ f (cleared-keeps (argument c v) h b e)
@@ -128,45 +129,45 @@ module _ (c : Chart) (y : Open) (h : ℕ) (ks : List Open) (deep : 2 ≤ h) wher
 
   module _ (n : ℕ) (facts : Facts c) (kinded : kind c y.node ≡ 4) (called : argument c y.node ≡ h) where
     -- the call itself, which is no drop
-    called-waits : (w : Signal) (b : Results) (f d : Bool) → eqb (stopCode d (stop_at c y.node)) 96 ≡ false
-        → Waits (movedBy c d y ks w b f (stop_at c y.node))
-    called-waits w b f true q = no_both _ (ap (λ (s : Stop). eqb (stopCode true s) 96) (stop-function c y.node kinded)) q
-    called-waits w b f false q = subst (λ (s : Stop). Waits (movedBy c false y ks w b f s)) (sym (stop-function c y.node kinded))
-        (waits _ [] (cleared (argument c y.node) b) f (ap (λ (k : ℕ). result_of h (cleared k b)) called ∙ cleared-own h b))
+    called-waits : (w : Signal) (b : Results) (f d : Bool) → eqb (stop_code d (stop_at c y.node)) 96 ≡ false
+        → Waits (position_moved c d y ks w b f (stop_at c y.node))
+    called-waits w b f true q = no_both _ (ap (λ (s : Stop). eqb (stop_code true s) 96) (stop-function c y.node kinded)) q
+    called-waits w b f false q = subst (λ (s : Stop). Waits (position_moved c false y ks w b f s)) (sym (stop-function c y.node kinded))
+        (waits _ [] (cleared_results (argument c y.node) b) f (ap (λ (k : ℕ). result_of h (cleared_results k b)) called ∙ cleared-own h b))
 
-    waits-on : (w : Signal) (x : WalkPosition) → Waits x → Passing (tickAt n c x) → Waits (move n c w x)
-    waits-on w x (waits u js b f e) p = waits-by u w js b f e (dropsAt n c x) (view-any c facts u.node) p
+    waits-on : (w : Signal) (x : WalkPosition) → Waits x → Passing (tick_at n c x) → Waits (move n c w x)
+    waits-on w x (waits u js b f e) p = waits-by u w js b f e (is_drop_at n c x) (view-any c facts u.node) p
 
     -- the own return: the function takes its 0 arc
-    own-return : (w : Signal) (x : WalkPosition) → Waits x → own (tickAt n c x) ≡ true
-        → (move n c w x).now.node ≡ byArc c w.word (next0 c y.node)
+    own-return : (w : Signal) (x : WalkPosition) → Waits x → own (tick_at n c x) ≡ true
+        → (move n c w x).now.node ≡ by_arc c w.word (next0 c y.node)
     own-return w x (waits u [] b f e) q =
-        ap (λ (s : Stop). (movedBy c (dropsAt n c x) u (y ∷ ks) w b f s).now.node)
-        (is-back (dropsAt n c x) (stop_at c u.node) (eqb-true _ _ (and_l _ _ q)))
-        ∙ ap (resumedBy c y.node w.word b) (stop-function c y.node kinded)
-        ∙ ap (λ (t : Bool). byArc c w.word (pick t (next1 c y.node) (next0 c y.node))) (ap (λ (k : ℕ). result_of k b) called ∙ e)
+        ap (λ (s : Stop). (position_moved c (is_drop_at n c x) u (y ∷ ks) w b f s).now.node)
+        (is-back (is_drop_at n c x) (stop_at c u.node) (eqb-true _ _ (and_l _ _ q)))
+        ∙ ap (node_resumed c y.node w.word b) (stop-function c y.node kinded)
+        ∙ ap (λ (t : Bool). by_arc c w.word (pick t (next1 c y.node) (next0 c y.node))) (ap (λ (k : ℕ). result_of k b) called ∙ e)
     own-return w x (waits u (j ∷ js) b f e) q =
         let o : ℕ = suc (length (j ∷ (js ++ (y ∷ ks)))) in
         absurd (omega (
           arith,
           eqb-true o (suc (suc (length ks)))
-              (and_r (eqb (stopCode (dropsAt n c x) (stop_at c u.node)) 3) (eqb o (suc (suc (length ks)))) q),
+              (and_r (eqb (stop_code (is_drop_at n c x) (stop_at c u.node)) 3) (eqb o (suc (suc (length ks)))) q),
           length-append js (y ∷ ks),
         ))
 
     goes_on : (between : List Tick) (ws : List Signal) (x : WalkPosition) (last next : Tick) (rest : List Tick) → Waits x
         → trace n c ws x ≡ between ++ (last ∷ (next ∷ rest)) → AllPassing between → own last ≡ true
-        → next.node ≡ byArc c (get_or (words_of ws) (length between) 0) (next0 c y.node)
+        → next.node ≡ by_arc c (get_or (words_of ws) (length between) 0) (next0 c y.node)
     unfolding trace
     goes_on between [] x last next rest k q passing end = some-tick last between (next ∷ rest) q
     goes_on [] (w ∷ []) x last next rest k q passing end =
         let e : [] ≡ next ∷ rest = cc in some-tick next [] rest e
     goes_on [] (w ∷ (z ∷ ws)) x last next rest k q passing end =
-        let e : tickAt n c x ≡ last = cc in
-        let d : next ≡ tickAt n c (move n c w x) = cc in
+        let e : tick_at n c x ≡ last = cc in
+        let d : next ≡ tick_at n c (move n c w x) = cc in
         ap (λ (t : Tick). t.node) d ∙ own-return w x k (ap own e ∙ end)
     goes_on (t ∷ ts) (w ∷ ws) x last next rest k q passing end =
-        let e : t ≡ tickAt n c x = cc in
+        let e : t ≡ tick_at n c x = cc in
         let d : trace n c ws (move n c w x) ≡ ts ++ (last ∷ (next ∷ rest)) = cc in
         goes_on ts ws (move n c w x) last next rest (waits-on w x k (subst Passing e passing.0)) d passing.1 end
 
@@ -174,37 +175,37 @@ module _ (n : ℕ) (c : Chart) (facts : Facts c) where
   -- from the call on
   from-call : (ws : List Signal) (x : WalkPosition) (between rest : List Tick) (first last next : Tick)
       → trace n c ws x ≡ first ∷ (between ++ (last ∷ (next ∷ rest))) → WalkUnwritten c first between last
-      → next.node ≡ byArc c (get_or (words_of ws) (suc (length between)) 0) (next0 c first.node)
+      → next.node ≡ by_arc c (get_or (words_of ws) (suc (length between)) 0) (next0 c first.node)
   unfolding trace
   from-call [] x between rest first last next q u = some-tick first [] _ q
   from-call (w ∷ ws) x between rest first last next q u =
       let y : Open = x.now in let h : ℕ = argument c y.node in let ks : List Open = x.callers in
-      let e : first ≡ tickAt n c x = cc in
+      let e : first ≡ tick_at n c x = cc in
       let d : trace n c ws (move n c w x) ≡ between ++ (last ∷ (next ∷ rest)) = cc in
-      let at_call : WalkUnwritten c (tickAt n c x) between last = subst (λ (t : Tick). WalkUnwritten c t between last) e u in
+      let at_call : WalkUnwritten c (tick_at n c x) between last = subst (λ (t : Tick). WalkUnwritten c t between last) e u in
       let deep : 2 ≤ h = calls-deep c facts y.node at_call.function in
       goes_on c y h ks deep n facts at_call.function refl between ws (move n c w x) last next rest
-      (called-waits c y h ks deep n facts at_call.function refl w x.results x.first (dropsAt n c x) at_call.made) d
+      (called-waits c y h ks deep n facts at_call.function refl w x.results x.first (is_drop_at n c x) at_call.made) d
       (all-passing c y h ks deep between at_call.kept at_call.inside at_call.unwritten) at_call.own
-      ∙ ap (λ (t : Tick). byArc c (get_or (words_of ws) (length between) 0) (next0 c t.node)) (sym e)
+      ∙ ap (λ (t : Tick). by_arc c (get_or (words_of ws) (length between) 0) (next0 c t.node)) (sym e)
 
   from_start : (before : List Tick) (ws : List Signal) (x : WalkPosition) (between rest : List Tick) (first last next : Tick)
       → trace n c ws x ≡ before ++ (first ∷ (between ++ (last ∷ (next ∷ rest)))) → WalkUnwritten c first between last
-      → next.node ≡ byArc c (get_or (words_of ws) (length before + suc (length between)) 0) (next0 c first.node)
+      → next.node ≡ by_arc c (get_or (words_of ws) (length before + suc (length between)) 0) (next0 c first.node)
   unfolding trace
   from_start [] ws x between rest first last next q u =
       let k : suc (length between) ≡ 0 + suc (length between) = omega arith in
-      from-call ws x between rest first last next q u ∙ ap (λ (k : ℕ). byArc c (get_or (words_of ws) k 0) (next0 c first.node)) k
+      from-call ws x between rest first last next q u ∙ ap (λ (k : ℕ). by_arc c (get_or (words_of ws) k 0) (next0 c first.node)) k
   from_start (t ∷ ts) [] x between rest first last next q u = some-tick t [] _ q
   from_start (t ∷ ts) (w ∷ ws) x between rest first last next q u =
       let d : trace n c ws (move n c w x) ≡ ts ++ (first ∷ (between ++ (last ∷ (next ∷ rest)))) = cc in
       let k : suc (length ts + suc (length between)) ≡ suc (length ts) + suc (length between) = omega arith in
       from_start ts ws (move n c w x) between rest first last next d u
-      ∙ ap (λ (k : ℕ). byArc c (get_or (words_of (w ∷ ws)) k 0) (next0 c first.node)) k
+      ∙ ap (λ (k : ℕ). by_arc c (get_or (words_of (w ∷ ws)) k 0) (next0 c first.node)) k
 
 pub zero-arc : ZeroArc
 unfolding ZeroArc
 zero-arc text read places words before between rest first last next q u =
     let c : Chart = contents text in
-    from_start places c (facts text read) before words (positionAtHome c noResults) between
+    from_start places c (facts text read) before words (position_at_home c no_results) between
     rest first last next (sym (walk-trace places c words) ∙ q) u

@@ -6,29 +6,29 @@ use mathlib.Core.Path.{◌≡◌, refl, ap, ◌∙◌, sym, subst}
 use mathlib.Core.List.{List, [], ◌∷◌, ◌++◌}
 use lib.ListN.{length}
 use native.Mathlib.Omega.{arith}
-use Rattle.results.specs.Results.{Results, noResults, result_of, withResult, cleared}
-use Rattle.bindings.specs.Binding.{ownBinding}
+use Rattle.results.specs.Results.{Results, no_results, result_of, with_result, cleared_results}
+use Rattle.bindings.specs.Binding.{own_binding}
 use Rattle.text.specs.frames.Frame.{contents}
 use Rattle.text.specs.frames.Verdict.{fine}
-use Rattle.charts.specs.Entry.{readVerdict}
+use Rattle.charts.specs.Entry.{read_verdict}
 use Rattle.charts.specs.Chart.{Chart, scheme, argument, next0, next1, result, mask, handler, end}
 use Rattle.walk.specs.Stops.{start, Stop, plain, call, function, test, home, back, stop_at}
-use Rattle.walk.specs.Walk.{Signal, signals, OpenScheme, Tick, oneTick, SchemeCall, callByOperation, callByFunction, drops, walk}
-use Rattle.walk.specs.Unswapped.{open_at, Course, spent, ended, after}
-use Rattle.walk.specs.Unswapped.{Performer, resume, performCall, act, perform, carriedOn, walkFrom}
-use Rattle.walk.specs.Unswapped.{walk as unswappedWalk}
+use Rattle.walk.specs.Walk.{Signal, signals, OpenScheme, Tick, one_tick, SchemeCall, call_by_operation, call_by_function, is_dropping, walk}
+use Rattle.walk.specs.Unswapped.{open_at, Course, spent, ended, course_after}
+use Rattle.walk.specs.Unswapped.{Performer, resumed_course, call_course, stop_course, scheme_course, ticks_after_course, walk_from}
+use Rattle.walk.specs.Unswapped.{walk as unswapped_walk}
 use Rattle.walk.specs.Unbounded as unbounded
 use Rattle.walk.proofs.Facts.{StopOf, Facts}
 use Rattle.walk.proofs.FactsHold.{facts}
 use Rattle.walk.proofs.Views.{View, a-plain, a_call, a-function, a-home, a_back, a-begin, a-condition, view}
-use Rattle.walk.proofs.Trace.{WalkPosition, stopTick, movedBy, dropsAt, tickAt, move, trace}
-use Rattle.walk.proofs.Trace.{positionAtHome, home-stop, arc-to, function_to, begin-to}
+use Rattle.walk.proofs.Trace.{WalkPosition, stop_tick, position_moved, is_drop_at, tick_at, move, trace}
+use Rattle.walk.proofs.Trace.{position_at_home, home-stop, arc-to, function_to, begin-to}
 use Rattle.walk.proofs.Recursion.{walk-trace}
 use Rattle.walk.proofs.OwnBinding.{own-binding}
 use Rattle.text.specs.declared.frames.codes.TheConstants.{HOME_CODE, PLAIN_CODE}
 
 -- ---- no call drops, whatever the number of places
-no_drop : (c : Chart) → handler c ≡ 0 → (n : ℕ) (f : Bool) (o : ℕ) → drops n c f o ≡ false
+no_drop : (c : Chart) → handler c ≡ 0 → (n : ℕ) (f : Bool) (o : ℕ) → is_dropping n c f o ≡ false
 no_drop c h n true o = refl
 no_drop c h n false o = rw h refl
 
@@ -38,19 +38,19 @@ any-trace c h n m [] x = refl
 any-trace c h n m (w ∷ ws) x =
     let o : ℕ = suc (length x.callers) in
     let s : Stop = stop_at c x.now.node in
-    let e : dropsAt n c x ≡ dropsAt m c x = no_drop c h n x.first o ∙ sym (no_drop c h m x.first o) in
-    ap (λ (d : Bool). stopTick d o x.now s ∷ trace n c ws (movedBy c d x.now x.callers w x.results x.first s)) e
-    ∙ ap (λ (ts : List Tick). tickAt m c x ∷ ts) (any-trace c h n m ws (move m c w x))
+    let e : is_drop_at n c x ≡ is_drop_at m c x = no_drop c h n x.first o ∙ sym (no_drop c h m x.first o) in
+    ap (λ (d : Bool). stop_tick d o x.now s ∷ trace n c ws (position_moved c d x.now x.callers w x.results x.first s)) e
+    ∙ ap (λ (ts : List Tick). tick_at m c x ∷ ts) (any-trace c h n m ws (move m c w x))
 
 pub any-places : (c : Chart) → handler c ≡ 0 → (n m : ℕ) (ws : List Signal) → walk n c ws ≡ walk m c ws
-any-places c h n m ws = walk-trace n c ws ∙ any-trace c h n m ws (positionAtHome c noResults) ∙ sym (walk-trace m c ws)
+any-places c h n m ws = walk-trace n c ws ∙ any-trace c h n m ws (position_at_home c no_results) ∙ sym (walk-trace m c ws)
 
 -- ---- where no call drops, both perform alike
 abbrev alike : unbounded.Course → Course
 alike (unbounded.spent ts) = spent ts
 alike (unbounded.ended ts w ws b) = ended ts w ws b
 
-alike-after : (ts : List Tick) (r : unbounded.Course) → after ts (alike r) ≡ alike (unbounded.after ts r)
+alike-after : (ts : List Tick) (r : unbounded.Course) → course_after ts (alike r) ≡ alike (unbounded.course_after ts r)
 alike-after ts (unbounded.spent us) = refl
 alike-after ts (unbounded.ended us w ws b) = refl
 
@@ -58,65 +58,66 @@ abbrev Alike : Performer → unbounded.Performer → Type 0
 Alike go free = (x : OpenScheme) (ws : List ℕ) (b : Results) → go x ws b ≡ alike (free x ws b)
 
 module _ (go : Performer) (free : unbounded.Performer) (ih : Alike go free) (c : Chart) where
-  alike-on : (ts : List Tick) (x : OpenScheme) (ws : List ℕ) (b : Results) → after ts (go x ws b) ≡ alike (unbounded.after ts (free x ws b))
-  alike-on ts x ws b = ap (after ts) (ih x ws b) ∙ alike-after ts (free x ws b)
+  alike-on : (ts : List Tick) (x : OpenScheme) (ws : List ℕ) (b : Results)
+      → course_after ts (go x ws b) ≡ alike (unbounded.course_after ts (free x ws b))
+  alike-on ts x ws b = ap (course_after ts) (ih x ws b) ∙ alike-after ts (free x ws b)
 
   alike-resume : (x : OpenScheme) (a : SchemeCall) (r : unbounded.Course)
-      → resume go c x a (alike r) ≡ alike (unbounded.resume free c x a r)
+      → resumed_course go c x a (alike r) ≡ alike (unbounded.resumed_course free c x a r)
   alike-resume x a (unbounded.spent ts) = refl
   alike-resume x a (unbounded.ended ts w ws b) = alike-on ts (open_at c x.opened (a.resumed w b)) ws b
 
   module _ (d : ℕ → Bool) (never : (o : ℕ) → d o ≡ false) where
     alike-call : (x : OpenScheme) (a : SchemeCall) (ws : List ℕ) (b : Results)
-        → performCall go c x a ws b (d x.opened) ≡ alike (unbounded.performCall free c x a ws b)
+        → call_course go c x a ws b (d x.opened) ≡ alike (unbounded.call_course free c x a ws b)
     alike-call x a ws b =
         let y : OpenScheme = open_at c (suc x.opened) (start c a.called) in
-        let e : Results = cleared a.called b in
-        let ts : List Tick = oneTick x a.mask a.code in
-        ap (performCall go c x a ws b) (never x.opened)
-        ∙ ap (after ts) (ap (resume go c x a) (ih y ws e) ∙ alike-resume x a (free y ws e))
-        ∙ alike-after ts (unbounded.resume free c x a (free y ws e))
+        let e : Results = cleared_results a.called b in
+        let ts : List Tick = one_tick x a.mask a.code in
+        ap (call_course go c x a ws b) (never x.opened)
+        ∙ ap (course_after ts) (ap (resumed_course go c x a) (ih y ws e) ∙ alike-resume x a (free y ws e))
+        ∙ alike-after ts (unbounded.resumed_course free c x a (free y ws e))
 
     alike-act : (x : OpenScheme) (w : ℕ) (ws : List ℕ) (b : Results) (s : Stop)
-        → act go c d x w ws b s ≡ alike (unbounded.act free c x w ws b s)
-    alike-act x w ws b (plain m r u) = alike-on (oneTick x m PLAIN_CODE) _ ws _
-    alike-act x w ws b (call m r h u) = alike-call x (callByOperation c m h u) ws _
-    alike-act x w ws b (function h u₀ u₁) = alike-call x (callByFunction c h u₀ u₁) ws b
-    alike-act x w ws b (test u) = alike-on (oneTick x 0 PLAIN_CODE) _ ws b
-    alike-act x w ws b home = alike-on (oneTick x 0 HOME_CODE) _ ws b
+        → stop_course go c d x w ws b s ≡ alike (unbounded.stop_course free c x w ws b s)
+    alike-act x w ws b (plain m r u) = alike-on (one_tick x m PLAIN_CODE) _ ws _
+    alike-act x w ws b (call m r h u) = alike-call x (call_by_operation c m h u) ws _
+    alike-act x w ws b (function h u₀ u₁) = alike-call x (call_by_function c h u₀ u₁) ws b
+    alike-act x w ws b (test u) = alike-on (one_tick x 0 PLAIN_CODE) _ ws b
+    alike-act x w ws b home = alike-on (one_tick x 0 HOME_CODE) _ ws b
     alike-act x w ws b back = refl
 
-alike-perform : (k : ℕ) (c : Chart) (d : ℕ → Bool) → ((o : ℕ) → d o ≡ false) → Alike (perform k c d) (unbounded.perform k c)
-unfolding perform unbounded.perform
+alike-perform : (k : ℕ) (c : Chart) (d : ℕ → Bool) → ((o : ℕ) → d o ≡ false) → Alike (scheme_course k c d) (unbounded.scheme_course k c)
+unfolding scheme_course unbounded.scheme_course
 alike-perform zero c d never x ws b = refl
 alike-perform (suc k) c d never x [] b = refl
 alike-perform (suc k) c d never x (w ∷ ws) b =
-    alike-act (perform k c d) (unbounded.perform k c) (alike-perform k c d never) c d never x w ws b (stop_at c x.node)
+    alike-act (scheme_course k c d) (unbounded.scheme_course k c) (alike-perform k c d never) c d never x w ws b (stop_at c x.node)
 
 -- ---- scheme 1 has no end, as at its End it goes on from home
 data Endless : unbounded.Course → Type 0 where
   endless-spent : (ts : List Tick) → Endless (unbounded.spent ts)
 
-endless-after : (ts : List Tick) (r : unbounded.Course) → Endless r → Endless (unbounded.after ts r)
+endless-after : (ts : List Tick) (r : unbounded.Course) → Endless r → Endless (unbounded.course_after ts r)
 endless-after ts r (endless-spent us) = endless-spent (ts ++ us)
 
 module _ (c : Chart) (facts : Facts c) where
   module _ (go : unbounded.Performer)
       (ih : (x : OpenScheme) (ws : List ℕ) (b : Results) → StopOf c 1 x.node → Endless (go x ws b)) where
     endless-on : (ts : List Tick) (x : OpenScheme) (ws : List ℕ) (b : Results) → StopOf c 1 x.node
-        → Endless (unbounded.after ts (go x ws b))
+        → Endless (unbounded.course_after ts (go x ws b))
     endless-on ts x ws b s = endless-after ts (go x ws b) (ih x ws b s)
 
     endless-resume : (x : OpenScheme) (a : SchemeCall) → ((w : ℕ) (b : Results) → StopOf c 1 (a.resumed w b))
-        → (r : unbounded.Course) → Endless (unbounded.resume go c x a r)
+        → (r : unbounded.Course) → Endless (unbounded.resumed_course go c x a r)
     endless-resume x a s (unbounded.spent ts) = endless-spent ts
     endless-resume x a s (unbounded.ended ts w ws b) = endless-on ts (open_at c x.opened (a.resumed w b)) ws b (s w b)
 
     endless-call : (x : OpenScheme) (a : SchemeCall) (ws : List ℕ) (b : Results) → ((w : ℕ) (b : Results) → StopOf c 1 (a.resumed w b))
-        → Endless (unbounded.performCall go c x a ws b)
+        → Endless (unbounded.call_course go c x a ws b)
     endless-call x a ws b s =
-        let r : unbounded.Course = go (open_at c (suc x.opened) (start c a.called)) ws (cleared a.called b) in
-        endless-after (oneTick x a.mask a.code) (unbounded.resume go c x a r) (endless-resume x a s r)
+        let r : unbounded.Course = go (open_at c (suc x.opened) (start c a.called)) ws (cleared_results a.called b) in
+        endless-after (one_tick x a.mask a.code) (unbounded.resumed_course go c x a r) (endless-resume x a s r)
 
     module _ (x : OpenScheme) (w : ℕ) (ws : List ℕ) (b : Results) (g : StopOf c 1 x.node) where
       abbrev v : ℕ
@@ -125,42 +126,43 @@ module _ (c : Chart) (facts : Facts c) where
       own : (u : ℕ) → StopOf c (scheme c v) u → StopOf c 1 u
       own u = subst (λ (h : ℕ). StopOf c h u) g.same
 
-      endless-act : {s : Stop} → View c v s → Endless (unbounded.act go c x w ws b s)
-      endless-act (a-plain e a) = endless-on (oneTick x (mask c v) PLAIN_CODE) _ ws _ (own _ (arc-to c facts v w g.inside (λ p. omega arith)))
+      endless-act : {s : Stop} → View c v s → Endless (unbounded.stop_course go c x w ws b s)
+      endless-act (a-plain e a) = endless-on (one_tick x (mask c v) PLAIN_CODE) _ ws _ (own _ (arc-to c facts v w g.inside (λ p. omega arith)))
       endless-act (a_call e a) =
-          endless-call x (callByOperation c (mask c v) (argument c v) (next0 c v)) ws (withResult (result c v) x.number b)
+          endless-call x (call_by_operation c (mask c v) (argument c v) (next0 c v)) ws (with_result (result c v) x.number b)
           (λ y z. own _ (arc-to c facts v y g.inside (λ p. omega arith)))
       endless-act (a-function e) =
-          endless-call x (callByFunction c (argument c v) (next0 c v) (next1 c v)) ws b
+          endless-call x (call_by_function c (argument c v) (next0 c v) (next1 c v)) ws b
           (λ y z. own _ (function_to c facts v y (result_of (argument c v) z) g.inside e))
-      endless-act (a-home e s) = endless-on (oneTick x 0 HOME_CODE) _ ws b (facts.starts 1 (omega arith) facts.first)
+      endless-act (a-home e s) = endless-on (one_tick x 0 HOME_CODE) _ ws b (facts.starts 1 (omega arith) facts.first)
       endless-act (a_back e s) = absurd (s g.same)
-      endless-act (a-begin e) = endless-on (oneTick x 0 PLAIN_CODE) _ ws b (own _ (begin-to c facts v w g.inside e g.stopping))
-      endless-act (a-condition e) = endless-on (oneTick x 0 PLAIN_CODE) _ ws b (own _ (facts.tests v w g.inside e))
+      endless-act (a-begin e) = endless-on (one_tick x 0 PLAIN_CODE) _ ws b (own _ (begin-to c facts v w g.inside e g.stopping))
+      endless-act (a-condition e) = endless-on (one_tick x 0 PLAIN_CODE) _ ws b (own _ (facts.tests v w g.inside e))
 
-  endless : (k : ℕ) (x : OpenScheme) (ws : List ℕ) (b : Results) → StopOf c 1 x.node → Endless (unbounded.perform k c x ws b)
-  unfolding unbounded.perform
+  endless : (k : ℕ) (x : OpenScheme) (ws : List ℕ) (b : Results) → StopOf c 1 x.node → Endless (unbounded.scheme_course k c x ws b)
+  unfolding unbounded.scheme_course
   endless zero x ws b g = endless-spent []
   endless (suc k) x [] b g = endless-spent []
   endless (suc k) x (w ∷ ws) b g =
-      endless-act (unbounded.perform k c) (endless k) x w ws b g (view c x.node (facts.kinds x.node g.inside))
+      endless-act (unbounded.scheme_course k c) (endless k) x w ws b g (view c x.node (facts.kinds x.node g.inside))
 
   -- ---- the two walks
   carried-ticks : (go : Bool → ℕ → List ℕ → Results → List Tick) (r : unbounded.Course)
-      → Endless r → carriedOn go c (alike r) ≡ unbounded.ticksOf r
+      → Endless r → ticks_after_course go c (alike r) ≡ unbounded.ticks_of r
   carried-ticks go r (endless-spent ts) = refl
 
-  alike-walks : handler c ≡ 0 → (n : ℕ) (ws : List ℕ) → unswappedWalk n c ws ≡ unbounded.walk c ws
-  unfolding unswappedWalk walkFrom unbounded.walk unbounded.perform
+  alike-walks : handler c ≡ 0 → (n : ℕ) (ws : List ℕ) → unswapped_walk n c ws ≡ unbounded.walk c ws
+  unfolding unswapped_walk walk_from unbounded.walk unbounded.scheme_course
   alike-walks h n [] = refl
   alike-walks h n (w ∷ ws) =
       let k : ℕ = suc (length ws) in
       let x : OpenScheme = open_at c 1 (end c 1) in
-      ap (carriedOn (walkFrom (length ws) n c) c) (alike-perform k c (drops n c false) (no_drop c h n false) x (w ∷ ws) noResults)
-      ∙ carried-ticks (walkFrom (length ws) n c) (unbounded.perform k c x (w ∷ ws) noResults)
-      (endless k x (w ∷ ws) noResults (home-stop c facts))
+      ap (ticks_after_course (walk_from (length ws) n c) c) (alike-perform k c (is_dropping n c false) (no_drop c h n false) x
+      (w ∷ ws) no_results)
+      ∙ carried-ticks (walk_from (length ws) n c) (unbounded.scheme_course k c x (w ∷ ws) no_results)
+      (endless k x (w ∷ ws) no_results (home-stop c facts))
 
 -- ---- of every text that the reader accepts
-pub no-handler : (text : List ℕ) → readVerdict text ≡ fine → let c = contents text in handler c ≡ 0
-    → (n : ℕ) (ws : List ℕ) → walk n c (signals ownBinding ws) ≡ unbounded.walk c ws
+pub no-handler : (text : List ℕ) → read_verdict text ≡ fine → let c = contents text in handler c ≡ 0
+    → (n : ℕ) (ws : List ℕ) → walk n c (signals own_binding ws) ≡ unbounded.walk c ws
 no-handler text ok h n ws = own-binding text ok n ws ∙ alike-walks (contents text) (facts text ok) h n ws

@@ -7,17 +7,17 @@ use lib.ListN.{length}
 use native.Mathlib.Omega.{arith}
 use native.Mathlib.Nat.{le_of_suc-le-suc, not-suc-le-zero}
 use Rattle.words.specs.lists.Pick.{pick}
-use Rattle.results.specs.Results.{Results, noResults, cleared}
-use Rattle.bindings.specs.Binding.{Binding, served}
+use Rattle.results.specs.Results.{Results, no_results, cleared_results}
+use Rattle.bindings.specs.Binding.{Binding, server_of}
 use Rattle.charts.specs.Chart.{Chart, handler, end}
 use Rattle.walk.specs.Stops.{start, Stop, plain, call, function, test, home, back, stop_at}
-use Rattle.walk.specs.Walk.{Signal, OpenScheme, atStop, Tick, oneTick, Course, spent, ended, dropped, after, SchemeCall}
-use Rattle.walk.specs.Walk.{Performer, resume, openedBy, performCall, act, perform, drops}
-use Rattle.walk.specs.Walk.{bottom, carriedOn, walkFrom, walk}
-use Rattle.walk.proofs.Trace.{Open, opens, moved_to, at, tickOf, stopTick, resumedBy, resumed, positionReturned}
-use Rattle.walk.proofs.Trace.{positionHandling, positionCalled, movedBy, trace, positionAtHome}
+use Rattle.walk.specs.Walk.{Signal, OpenScheme, open_at_stop, Tick, one_tick, Course, spent, ended, dropped, course_after, SchemeCall}
+use Rattle.walk.specs.Walk.{Performer, resumed_course, opened_scheme, call_course, stop_course, scheme_course, is_dropping}
+use Rattle.walk.specs.Walk.{bottom, ticks_after_course, walk_from, walk}
+use Rattle.walk.proofs.Trace.{Open, opens, moved_to, at, tick_of, stop_tick, node_resumed, resumed, position_returned}
+use Rattle.walk.proofs.Trace.{position_handling, position_called, position_moved, trace, position_at_home}
 use Rattle.text.specs.declared.frames.codes.TheConstants.{HOME_CODE, PLAIN_CODE}
-use Rattle.walk.specs.Stops.{byArc, by_word}
+use Rattle.walk.specs.Stops.{by_arc, by_word}
 
 -- ---- a scheme that has ended, or was dropped, leaves fewer than n words
 abbrev Shorter : ℕ → Course → Type 0
@@ -30,7 +30,7 @@ shorter-le n m (spent us) l h = tt
 shorter-le n m (ended us w ws b) l h = omega arith
 shorter-le n m (dropped us ws b) l h = omega arith
 
-shorter-after : (n m : ℕ) (ts : List Tick) (r : Course) → n ≤ m → Shorter n r → Shorter m (after ts r)
+shorter-after : (n m : ℕ) (ts : List Tick) (r : Course) → n ≤ m → Shorter n r → Shorter m (course_after ts r)
 shorter-after n m ts (spent us) l h = tt
 shorter-after n m ts (ended us w ws b) l h = omega arith
 shorter-after n m ts (dropped us ws b) l h = omega arith
@@ -39,57 +39,57 @@ abbrev Short : Performer → Type 0
 Short go = (x : OpenScheme) (ws : List Signal) (b : Results) → Shorter (length ws) (go x ws b)
 
 module _ (go : Performer) (ih : Short go) where
-  shorter-resume : (x : OpenScheme) (a : SchemeCall) (m : ℕ) (r : Course) → Shorter m r → Shorter m (resume go x a r)
+  shorter-resume : (x : OpenScheme) (a : SchemeCall) (m : ℕ) (r : Course) → Shorter m r → Shorter m (resumed_course go x a r)
   shorter-resume x a m (spent ts) h = tt
-  shorter-resume x a m (ended ts w ws b) h = let y : OpenScheme = atStop x (a.resumed w b) in
+  shorter-resume x a m (ended ts w ws b) h = let y : OpenScheme = open_at_stop x (a.resumed w b) in
       shorter-after (length ws) m ts (go y ws b) (omega arith) (ih y ws b)
   shorter-resume x a m (dropped ts ws b) h = h
 
-  step : (ts : List Tick) (x : OpenScheme) (ws : List Signal) (b : Results) → Shorter (suc (length ws)) (after ts (go x ws b))
+  step : (ts : List Tick) (x : OpenScheme) (ws : List Signal) (b : Results) → Shorter (suc (length ws)) (course_after ts (go x ws b))
   step ts x ws b = shorter-after (length ws) _ ts (go x ws b) (omega arith) (ih x ws b)
 
   step_in : (c : Chart) (s : Binding) (x : OpenScheme) (a : SchemeCall) (ws : List Signal) (b : Results) (d : Bool)
-      → Shorter (suc (length ws)) (performCall go c s x a ws b d)
+      → Shorter (suc (length ws)) (call_course go c s x a ws b d)
   step_in c s x a ws b false =
-      let y : OpenScheme = openedBy c s x a in
-      let r : Course = go y ws (cleared a.called b) in
-      shorter-after (length ws) _ (oneTick x a.mask a.code) (resume go x a r) (omega arith)
-      (shorter-resume x a (length ws) r (ih y ws (cleared a.called b)))
+      let y : OpenScheme = opened_scheme c s x a in
+      let r : Course = go y ws (cleared_results a.called b) in
+      shorter-after (length ws) _ (one_tick x a.mask a.code) (resumed_course go x a r) (omega arith)
+      (shorter-resume x a (length ws) r (ih y ws (cleared_results a.called b)))
   step_in c s x a ws b true = omega arith
 
   shorter-act : (c : Chart) (d : ℕ → Bool) (x : OpenScheme) (w : Signal) (ws : List Signal) (b : Results) (s : Stop)
-      → Shorter (suc (length ws)) (act go c d x w ws b s)
-  shorter-act c d x w ws b (plain m r u) = step (oneTick x m PLAIN_CODE) _ ws _
+      → Shorter (suc (length ws)) (stop_course go c d x w ws b s)
+  shorter-act c d x w ws b (plain m r u) = step (one_tick x m PLAIN_CODE) _ ws _
   shorter-act c d x w ws b (call m r h u) = step_in c w.binding x _ ws _ (d x.opened)
   shorter-act c d x w ws b (function h u₀ u₁) = step_in c w.binding x _ ws b (d x.opened)
-  shorter-act c d x w ws b (test u) = step (oneTick x 0 PLAIN_CODE) _ ws b
-  shorter-act c d x w ws b home = step (oneTick x 0 HOME_CODE) _ ws b
+  shorter-act c d x w ws b (test u) = step (one_tick x 0 PLAIN_CODE) _ ws b
+  shorter-act c d x w ws b home = step (one_tick x 0 HOME_CODE) _ ws b
   shorter-act c d x w ws b back = omega arith
 
-shorter : (k : ℕ) (c : Chart) (d : ℕ → Bool) → Short (perform k c d)
-unfolding perform
+shorter : (k : ℕ) (c : Chart) (d : ℕ → Bool) → Short (scheme_course k c d)
+unfolding scheme_course
 shorter zero c d x ws b = tt
 shorter (suc k) c d x [] b = tt
-shorter (suc k) c d x (w ∷ ws) b = shorter-act (perform k c d) (shorter k c d) c d x w ws b (stop_at c x.node)
+shorter (suc k) c d x (w ∷ ws) b = shorter-act (scheme_course k c d) (shorter k c d) c d x w ws b (stop_at c x.node)
 
 -- ---- a course, and then the callers: what the trace makes of it
 module _ (n : ℕ) (c : Chart) where
   abbrev onward : List Open → Bool → Course → List Tick
   onward ks f (spent ts) = ts
-  onward ks f (ended ts w ws b) = ts ++ trace n c ws (positionReturned c ks w b f)
-  onward ks f (dropped ts ws b) = ts ++ trace n c ws (positionHandling c b)
+  onward ks f (ended ts w ws b) = ts ++ trace n c ws (position_returned c ks w b f)
+  onward ks f (dropped ts ws b) = ts ++ trace n c ws (position_handling c b)
 
-  onward-after : (ks : List Open) (f : Bool) (ts : List Tick) (r : Course) → onward ks f (after ts r) ≡ ts ++ onward ks f r
+  onward-after : (ks : List Open) (f : Bool) (ts : List Tick) (r : Course) → onward ks f (course_after ts r) ≡ ts ++ onward ks f r
   onward-after ks f ts (spent us) = refl
-  onward-after ks f ts (ended us w ws b) = append_assoc ts us (trace n c ws (positionReturned c ks w b f))
-  onward-after ks f ts (dropped us ws b) = append_assoc ts us (trace n c ws (positionHandling c b))
+  onward-after ks f ts (ended us w ws b) = append_assoc ts us (trace n c ws (position_returned c ks w b f))
+  onward-after ks f ts (dropped us ws b) = append_assoc ts us (trace n c ws (position_handling c b))
 
   -- an open scheme of the trace, with its callers, as the recursion has it
   abbrev above : List Open → Open → OpenScheme
   above ks x = record { node = x.node; number = x.number; opened = suc (length ks) }
 
   abbrev performed : ℕ → Open → List Open → List Signal → Results → Bool → Course
-  performed k x ks ws b f = perform k c (drops n c f) (above ks x) ws b
+  performed k x ks ws b f = scheme_course k c (is_dropping n c f) (above ks x) ws b
 
   abbrev Same : ℕ → Type 0
   Same k = (ws : List Signal) (x : Open) (ks : List Open) (b : Results) (f : Bool) → length ws ≤ k
@@ -98,7 +98,7 @@ module _ (n : ℕ) (c : Chart) where
   module _ (k : ℕ) (ih : Same k) where
     -- the scheme goes on
     same_after : (ts : List Tick) (ws : List Signal) (x : Open) (ks : List Open) (b : Results) (f : Bool) → length ws ≤ k
-        → ts ++ trace n c ws (at x ks b f) ≡ onward ks f (after ts (performed k x ks ws b f))
+        → ts ++ trace n c ws (at x ks b f) ≡ onward ks f (course_after ts (performed k x ks ws b f))
     same_after ts ws x ks b f l = ap (λ (us : List Tick). ts ++ us) (ih ws x ks b f l)
         ∙ sym (onward-after ks f ts (performed k x ks ws b f))
 
@@ -106,9 +106,9 @@ module _ (n : ℕ) (c : Chart) where
     module _ (x : Open) (ks : List Open) (f : Bool) (a : SchemeCall)
         (e : (w : ℕ) (b : Results) → a.resumed w b ≡ resumed c x.node w b) where
       abbrev go : Performer
-      go = perform k c (drops n c f)
+      go = scheme_course k c (is_dropping n c f)
 
-      same-resume : (r : Course) → Shorter (suc k) r → onward (x ∷ ks) f r ≡ onward ks f (resume go (above ks x) a r)
+      same-resume : (r : Course) → Shorter (suc k) r → onward (x ∷ ks) f r ≡ onward ks f (resumed_course go (above ks x) a r)
       same-resume (spent ts) l = refl
       same-resume (ended ts w ws b) l =
           rw (e w b) (same_after ts ws (moved_to x (resumed c x.node w b)) ks b f (le_of_suc-le-suc l))
@@ -116,59 +116,59 @@ module _ (n : ℕ) (c : Chart) where
 
       -- a call: the scheme called, and then the caller; or a drop
       same-call : (s : Binding) (ws : List Signal) (b : Results) → length ws ≤ k → (d : Bool)
-          → tickOf x.node x.number a.mask (pick d 96 a.code) (suc (length ks))
-          ∷ trace n c ws (positionCalled c x ks a.called (served s a.called) b f d)
-          ≡ onward ks f (performCall go c s (above ks x) a ws b d)
+          → tick_of x.node x.number a.mask (pick d 96 a.code) (suc (length ks))
+          ∷ trace n c ws (position_called c x ks a.called (server_of s a.called) b f d)
+          ≡ onward ks f (call_course go c s (above ks x) a ws b d)
       same-call s ws b l true = refl
       same-call s ws b l false =
-          let i : ℕ = served s a.called in
+          let i : ℕ = server_of s a.called in
           let y : Open = opens (start c i) a.called i in
-          let e : Results = cleared a.called b in
+          let e : Results = cleared_results a.called b in
           let r : Course = performed k y (x ∷ ks) ws e f in
-          let ts : List Tick = oneTick (above ks x) a.mask a.code in
+          let ts : List Tick = one_tick (above ks x) a.mask a.code in
           ap (λ (us : List Tick). ts ++ us) (ih ws y (x ∷ ks) e f l
-          ∙ same-resume r (shorter-le (length ws) (suc k) r (omega arith) (shorter k c (drops n c f) (above (x ∷ ks) y) ws e)))
-          ∙ sym (onward-after ks f ts (resume go (above ks x) a r))
+          ∙ same-resume r (shorter-le (length ws) (suc k) r (omega arith) (shorter k c (is_dropping n c f) (above (x ∷ ks) y) ws e)))
+          ∙ sym (onward-after ks f ts (resumed_course go (above ks x) a r))
 
     same-act : (x : Open) (ks : List Open) (w : Signal) (ws : List Signal) (b : Results) (f : Bool) → length ws ≤ k
-        → (s : Stop) → stop_at c x.node ≡ s → let d = drops n c f (suc (length ks)) in
-        stopTick d (suc (length ks)) x s ∷ trace n c ws (movedBy c d x ks w b f s)
-        ≡ onward ks f (act (perform k c (drops n c f)) c (drops n c f) (above ks x) w ws b s)
-    same-act x ks w ws b f l (plain m r u) q = same_after (oneTick (above ks x) m PLAIN_CODE) ws (moved_to x (byArc c w.word u)) ks _ f l
+        → (s : Stop) → stop_at c x.node ≡ s → let d = is_dropping n c f (suc (length ks)) in
+        stop_tick d (suc (length ks)) x s ∷ trace n c ws (position_moved c d x ks w b f s)
+        ≡ onward ks f (stop_course (scheme_course k c (is_dropping n c f)) c (is_dropping n c f) (above ks x) w ws b s)
+    same-act x ks w ws b f l (plain m r u) q = same_after (one_tick (above ks x) m PLAIN_CODE) ws (moved_to x (by_arc c w.word u)) ks _ f l
     same-act x ks w ws b f l (call m r h u) q =
-        same-call x ks f _ (λ y e. sym (ap (resumedBy c x.node y e) q)) w.binding ws _ l (drops n c f (suc (length ks)))
+        same-call x ks f _ (λ y e. sym (ap (node_resumed c x.node y e) q)) w.binding ws _ l (is_dropping n c f (suc (length ks)))
     same-act x ks w ws b f l (function h u₀ u₁) q =
-        same-call x ks f _ (λ y e. sym (ap (resumedBy c x.node y e) q)) w.binding ws b l (drops n c f (suc (length ks)))
-    same-act x ks w ws b f l (test u) q = same_after (oneTick (above ks x) 0 PLAIN_CODE) ws (moved_to x (by_word c w.word u)) ks b f l
-    same-act x ks w ws b f l home q = same_after (oneTick (above ks x) 0 HOME_CODE) ws (moved_to x (start c 1)) ks b f l
+        same-call x ks f _ (λ y e. sym (ap (node_resumed c x.node y e) q)) w.binding ws b l (is_dropping n c f (suc (length ks)))
+    same-act x ks w ws b f l (test u) q = same_after (one_tick (above ks x) 0 PLAIN_CODE) ws (moved_to x (by_word c w.word u)) ks b f l
+    same-act x ks w ws b f l home q = same_after (one_tick (above ks x) 0 HOME_CODE) ws (moved_to x (start c 1)) ks b f l
     same-act x ks w ws b f l back q = refl
 
   same : (k : ℕ) → Same k
-  unfolding perform trace
+  unfolding scheme_course trace
   same zero [] x ks b f l = refl
   same zero (w ∷ ws) x ks b f l = absurd (not-suc-le-zero l)
   same (suc k) [] x ks b f l = refl
   same (suc k) (w ∷ ws) x ks b f l = same-act k (same k) x ks w ws b f (le_of_suc-le-suc l) (stop_at c x.node) refl
 
   -- ---- the first open scheme, and what follows it
-  walk_from : (k : ℕ) (f : Bool) (v : ℕ) (ws : List Signal) (b : Results) → length ws ≤ k
-      → walkFrom k n c f v ws b ≡ trace n c ws (at (opens v (bottom c f) (bottom c f)) [] b f)
-  unfolding walkFrom trace
-  walk_from zero f v [] b l = refl
-  walk_from zero f v (w ∷ ws) b l = absurd (not-suc-le-zero l)
-  walk_from (suc k) f v ws b l =
+  walk-from : (k : ℕ) (f : Bool) (v : ℕ) (ws : List Signal) (b : Results) → length ws ≤ k
+      → walk_from k n c f v ws b ≡ trace n c ws (at (opens v (bottom c f) (bottom c f)) [] b f)
+  unfolding walk_from trace
+  walk-from zero f v [] b l = refl
+  walk-from zero f v (w ∷ ws) b l = absurd (not-suc-le-zero l)
+  walk-from (suc k) f v ws b l =
       let x : Open = opens v (bottom c f) (bottom c f) in
-      go (performed (length ws) x [] ws b f) (shorter (length ws) c (drops n c f) (above [] x) ws b) (walk_from k)
+      go (performed (length ws) x [] ws b f) (shorter (length ws) c (is_dropping n c f) (above [] x) ws b) (walk-from k)
       ∙ sym (same (length ws) ws x [] b f (omega arith))
     where
       go : (r : Course) → Shorter (length ws) r
           → ((f : Bool) (v : ℕ) (ws : List Signal) (b : Results) → length ws ≤ k
-          → walkFrom k n c f v ws b ≡ trace n c ws (at (opens v (bottom c f) (bottom c f)) [] b f))
-          → carriedOn (walkFrom k n c) c r ≡ onward [] f r
+          → walk_from k n c f v ws b ≡ trace n c ws (at (opens v (bottom c f) (bottom c f)) [] b f))
+          → ticks_after_course (walk_from k n c) c r ≡ onward [] f r
       go (spent ts) s ih = refl
       go (ended ts w us d) s ih = ap (λ (xs : List Tick). ts ++ xs) (ih false (end c 1) us d (omega arith))
       go (dropped ts us d) s ih = ap (λ (xs : List Tick). ts ++ xs) (ih true (start c (handler c)) us d (omega arith))
 
-  pub walk-trace : (ws : List Signal) → walk n c ws ≡ trace n c ws (positionAtHome c noResults)
+  pub walk-trace : (ws : List Signal) → walk n c ws ≡ trace n c ws (position_at_home c no_results)
   unfolding walk
-  walk-trace ws = walk_from (length ws) false (end c 1) ws noResults (omega arith)
+  walk-trace ws = walk-from (length ws) false (end c 1) ws no_results (omega arith)

@@ -10,12 +10,12 @@ use borrow.Author.Tests.{eqb-false}
 use native.Mathlib.Omega.{arith}
 use Rattle.words.specs.lists.Pick.{pick}
 use Rattle.words.proofs.lists.Tests.{no_both, and_l, and_r, not-true}
-use Rattle.results.specs.Results.{Results, result_of, withResult, cleared}
-use Rattle.bindings.specs.Binding.{Binding, served}
+use Rattle.results.specs.Results.{Results, result_of, with_result, cleared_results}
+use Rattle.bindings.specs.Binding.{Binding, server_of}
 use Rattle.text.specs.frames.Frame.{size}
 use Rattle.charts.specs.Chart.{Chart, kind, scheme, argument, next0, next1, handler, schemes, end}
-use Rattle.walk.specs.Stops.{stops, start, byArc, by_word, Stop, plain, call, function, test, home, back, stop_at}
-use Rattle.walk.specs.Walk.{Signal, Tick, drops, bottom}
+use Rattle.walk.specs.Stops.{is_stop, start, by_arc, by_word, Stop, plain, call, function, test, home, back, stop_at}
+use Rattle.walk.specs.Walk.{Signal, Tick, is_dropping, bottom}
 use Rattle.walk.proofs.Facts.{Target, StopOf, Facts}
 use Rattle.walk.proofs.Views.{View, a-plain, a_call, a-function, a-home, a_back, a-begin}
 use Rattle.walk.proofs.Views.{a-condition, view, stop-call, stop-function, begin-leads, end-stops}
@@ -44,84 +44,84 @@ abbrev pub at : Open → List Open → Results → Bool → WalkPosition
 at x ks b f = record { now = x; callers = ks; results = b; first = f }
 
 -- mask and code of a stop's tick, where a call drops the open schemes or not
-abbrev pub stopMask : Stop → ℕ
-stopMask (plain m r u) = m
-stopMask (call m r h u) = m
-stopMask (function h u₀ u₁) = 0
-stopMask (test u) = 0
-stopMask home = 0
-stopMask back = 0
+abbrev pub stop_mask : Stop → ℕ
+stop_mask (plain m r u) = m
+stop_mask (call m r h u) = m
+stop_mask (function h u₀ u₁) = 0
+stop_mask (test u) = 0
+stop_mask home = 0
+stop_mask back = 0
 
-abbrev pub stopCode : Bool → Stop → ℕ
-stopCode d (plain m r u) = 0
-stopCode d (call m r h u) = pick d 96 (16 + h)
-stopCode d (function h u₀ u₁) = pick d 96 (64 + h)
-stopCode d (test u) = 0
-stopCode d home = 4
-stopCode d back = 3
+abbrev pub stop_code : Bool → Stop → ℕ
+stop_code d (plain m r u) = 0
+stop_code d (call m r h u) = pick d 96 (16 + h)
+stop_code d (function h u₀ u₁) = pick d 96 (64 + h)
+stop_code d (test u) = 0
+stop_code d home = 4
+stop_code d back = 3
 
-abbrev pub tickOf : ℕ → ℕ → ℕ → ℕ → ℕ → Tick
-tickOf v g m k o = record { node = v; number = g; mask = m; code = k; opened = o }
+abbrev pub tick_of : ℕ → ℕ → ℕ → ℕ → ℕ → Tick
+tick_of v g m k o = record { node = v; number = g; mask = m; code = k; opened = o }
 
 -- the tick of scheme x at a stop that does s, with o schemes open
-abbrev pub stopTick : Bool → ℕ → Open → Stop → Tick
-stopTick d o x s = tickOf x.node x.number (stopMask s) (stopCode d s) o
+abbrev pub stop_tick : Bool → ℕ → Open → Stop → Tick
+stop_tick d o x s = tick_of x.node x.number (stop_mask s) (stop_code d s) o
 
 -- where caller k goes on when its call has ended
-abbrev pub resumedBy : Chart → ℕ → ℕ → Results → Stop → ℕ
-resumedBy c k w b (plain m r u) = k
-resumedBy c k w b (call m r h u) = byArc c w u
-resumedBy c k w b (function h u₀ u₁) = byArc c w (pick (result_of h b) u₁ u₀)
-resumedBy c k w b (test u) = k
-resumedBy c k w b home = k
-resumedBy c k w b back = k
+abbrev pub node_resumed : Chart → ℕ → ℕ → Results → Stop → ℕ
+node_resumed c k w b (plain m r u) = k
+node_resumed c k w b (call m r h u) = by_arc c w u
+node_resumed c k w b (function h u₀ u₁) = by_arc c w (pick (result_of h b) u₁ u₀)
+node_resumed c k w b (test u) = k
+node_resumed c k w b home = k
+node_resumed c k w b back = k
 
 abbrev pub resumed : Chart → ℕ → ℕ → Results → ℕ
-resumed c k w b = resumedBy c k w b (stop_at c k)
+resumed c k w b = node_resumed c k w b (stop_at c k)
 
 -- where a walk begins, and where a drop leads
-abbrev pub positionAtHome : Chart → Results → WalkPosition
-positionAtHome c b = at (opens (end c 1) 1 1) [] b false
+abbrev pub position_at_home : Chart → Results → WalkPosition
+position_at_home c b = at (opens (end c 1) 1 1) [] b false
 
-abbrev pub positionHandling : Chart → Results → WalkPosition
-positionHandling c b = at (opens (start c (handler c)) (handler c) (handler c)) [] b true
+abbrev pub position_handling : Chart → Results → WalkPosition
+position_handling c b = at (opens (start c (handler c)) (handler c) (handler c)) [] b true
 
 -- with no caller left the handler has ended
-abbrev pub positionReturned : Chart → List Open → ℕ → Results → Bool → WalkPosition
-positionReturned c [] w b f = positionAtHome c b
-positionReturned c (k ∷ ks) w b f = at (moved_to k (resumed c k.node w b)) ks b f
+abbrev pub position_returned : Chart → List Open → ℕ → Results → Bool → WalkPosition
+position_returned c [] w b f = position_at_home c b
+position_returned c (k ∷ ks) w b f = at (moved_to k (resumed c k.node w b)) ks b f
 
 -- a call of number h, which scheme k serves
-abbrev pub positionCalled : Chart → Open → List Open → ℕ → ℕ → Results → Bool → Bool → WalkPosition
-positionCalled c x ks h k b f true = positionHandling c (cleared (handler c) b)
-positionCalled c x ks h k b f false = at (opens (start c k) h k) (x ∷ ks) (cleared h b) f
+abbrev pub position_called : Chart → Open → List Open → ℕ → ℕ → Results → Bool → Bool → WalkPosition
+position_called c x ks h k b f true = position_handling c (cleared_results (handler c) b)
+position_called c x ks h k b f false = at (opens (start c k) h k) (x ∷ ks) (cleared_results h b) f
 
-abbrev pub movedBy : Chart → Bool → Open → List Open → Signal → Results → Bool → Stop → WalkPosition
-movedBy c d x ks w b f (plain m r u) = at (moved_to x (byArc c w.word u)) ks (withResult r x.number b) f
-movedBy c d x ks w b f (call m r h u) = positionCalled c x ks h (served w.binding h) (withResult r x.number b) f d
-movedBy c d x ks w b f (function h u₀ u₁) = positionCalled c x ks h (served w.binding h) b f d
-movedBy c d x ks w b f (test u) = at (moved_to x (by_word c w.word u)) ks b f
-movedBy c d x ks w b f home = at (moved_to x (start c 1)) ks b f
-movedBy c d x ks w b f back = positionReturned c ks w.word b f
+abbrev pub position_moved : Chart → Bool → Open → List Open → Signal → Results → Bool → Stop → WalkPosition
+position_moved c d x ks w b f (plain m r u) = at (moved_to x (by_arc c w.word u)) ks (with_result r x.number b) f
+position_moved c d x ks w b f (call m r h u) = position_called c x ks h (server_of w.binding h) (with_result r x.number b) f d
+position_moved c d x ks w b f (function h u₀ u₁) = position_called c x ks h (server_of w.binding h) b f d
+position_moved c d x ks w b f (test u) = at (moved_to x (by_word c w.word u)) ks b f
+position_moved c d x ks w b f home = at (moved_to x (start c 1)) ks b f
+position_moved c d x ks w b f back = position_returned c ks w.word b f
 
 -- with n places: whether a call drops here, the tick that is made at a position, and the position after it
-abbrev pub dropsAt : ℕ → Chart → WalkPosition → Bool
-dropsAt n c x = drops n c x.first (suc (length x.callers))
+abbrev pub is_drop_at : ℕ → Chart → WalkPosition → Bool
+is_drop_at n c x = is_dropping n c x.first (suc (length x.callers))
 
-abbrev pub tickAt : ℕ → Chart → WalkPosition → Tick
-tickAt n c x = stopTick (dropsAt n c x) (suc (length x.callers)) x.now (stop_at c x.now.node)
+abbrev pub tick_at : ℕ → Chart → WalkPosition → Tick
+tick_at n c x = stop_tick (is_drop_at n c x) (suc (length x.callers)) x.now (stop_at c x.now.node)
 
 abbrev pub move : ℕ → Chart → Signal → WalkPosition → WalkPosition
-move n c w x = movedBy c (dropsAt n c x) x.now x.callers w x.results x.first (stop_at c x.now.node)
+move n c w x = position_moved c (is_drop_at n c x) x.now x.callers w x.results x.first (stop_at c x.now.node)
 
 unfoldable pub trace : ℕ → Chart → List Signal → WalkPosition → List Tick
 trace n c [] x = []
-trace n c (w ∷ ws) x = tickAt n c x ∷ trace n c ws (move n c w x)
+trace n c (w ∷ ws) x = tick_at n c x ∷ trace n c ws (move n c w x)
 
 -- ---- positions that a walk can come to
 -- a binding by which numbers of 2 to H are served by schemes of 2 to H
 abbrev pub Serves : Chart → Binding → Type 0
-Serves c s = (h : ℕ) → 2 ≤ h → h ≤ schemes c → (2 ≤ served s h) × (served s h ≤ schemes c)
+Serves c s = (h : ℕ) → 2 ≤ h → h ≤ schemes c → (2 ≤ server_of s h) × (server_of s h ≤ schemes c)
 
 -- scheme k waits for the end of the scheme that it called by number h
 pub record Caller (c : Chart) (h : ℕ) (k : Open) : Type 0 where
@@ -150,15 +150,15 @@ pub home-stop : (c : Chart) → Facts c → StopOf c 1 (end c 1)
 home-stop c facts = let e = facts.ends 1 (omega arith) facts.first in
     record { inside = e.0; same = e.2; stopping = end-stops c (end c 1) e.1 }
 
-pub home-good : (c : Chart) → Facts c → (b : Results) → Good c (positionAtHome c b)
+pub home-good : (c : Chart) → Facts c → (b : Results) → Good c (position_at_home c b)
 home-good c facts b = record { top = home-stop c facts; under = (refl, refl); handled = λ q. no_both false q refl }
 
-pub handling-good : (c : Chart) → Facts c → (b : Results) → (handler c ≡ 0 → ⊥) → Good c (positionHandling c b)
+pub handling-good : (c : Chart) → Facts c → (b : Results) → (handler c ≡ 0 → ⊥) → Good c (position_handling c b)
 handling-good c facts b n = let l = facts.handled n in
     record { top = facts.starts (handler c) (omega (arith, l)) l.1; under = (refl, refl); handled = λ q. n }
 
 -- a drop tells that there is a handler
-pub drop-handler : (n : ℕ) (c : Chart) (f : Bool) (o : ℕ) → drops n c f o ≡ true → handler c ≡ 0 → ⊥
+pub drop-handler : (n : ℕ) (c : Chart) (f : Bool) (o : ℕ) → is_dropping n c f o ≡ true → handler c ≡ 0 → ⊥
 drop-handler n c f o e =
     let p : Bool = not f in
     let q : Bool = not (eqb (handler c) 0) in
@@ -169,14 +169,14 @@ stop-as c e s = record { inside = s.inside; same = s.same ∙ e; stopping = s.st
 
 module _ (c : Chart) (facts : Facts c) where
   -- where a stop's arcs lead in its own scheme
-  pub arc-to : (v w : ℕ) → v < size c → (kind c v ≡ 1 → ⊥) → StopOf c (scheme c v) (byArc c w (next0 c v))
+  pub arc-to : (v w : ℕ) → v < size c → (kind c v ≡ 1 → ⊥) → StopOf c (scheme c v) (by_arc c w (next0 c v))
   arc-to v w l e = facts.follows (scheme c v) (next0 c v) w (facts.arc0 v l e)
 
-  pub function_to : (v w : ℕ) (t : Bool) → v < size c → kind c v ≡ 4 → StopOf c (scheme c v) (byArc c w (pick t (next1 c v) (next0 c v)))
+  pub function_to : (v w : ℕ) (t : Bool) → v < size c → kind c v ≡ 4 → StopOf c (scheme c v) (by_arc c w (pick t (next1 c v) (next0 c v)))
   function_to v w true l e = facts.follows (scheme c v) (next1 c v) w (facts.arc1 v l (omega arith))
   function_to v w false l e = arc-to v w l (λ p. omega arith)
 
-  pub begin-to : (v w : ℕ) → v < size c → kind c v ≡ 0 → stops c v ≡ true → StopOf c (scheme c v) (by_word c w (next0 c v))
+  pub begin-to : (v w : ℕ) → v < size c → kind c v ≡ 0 → is_stop c v ≡ true → StopOf c (scheme c v) (by_word c w (next0 c v))
   begin-to v w l e s =
       let t : Target c (scheme c v) (next0 c v) = facts.arc0 v l (λ p. omega arith) in
       stop-as c t.same (facts.tests (next0 c v) w t.inside (begin-leads c v e s))
@@ -197,20 +197,20 @@ module _ (c : Chart) (facts : Facts c) where
 
     called-good : (d : Results) (s : Binding) → Serves c s → (kind c x.node ≡ 2) ⊎ (kind c x.node ≡ 4)
         → (2 ≤ argument c x.node) × (argument c x.node ≤ schemes c) → (t : Bool) → (t ≡ true → handler c ≡ 0 → ⊥)
-        → Good c (positionCalled c x ks (argument c x.node) (served s (argument c x.node)) d f t)
-    called-good d s serves e l true n = handling-good c facts (cleared (handler c) d) (n refl)
+        → Good c (position_called c x ks (argument c x.node) (server_of s (argument c x.node)) d f t)
+    called-good d s serves e l true n = handling-good c facts (cleared_results (handler c) d) (n refl)
     called-good d s serves e l false n =
         let k = serves (argument c x.node) l.0 l.1 in
         record {
-          top = facts.starts (served s (argument c x.node)) (omega (arith, k)) k.1;
+          top = facts.starts (server_of s (argument c x.node)) (omega (arith, k)) k.1;
           under = (record { stop = g.top; calls = e; called = refl; deep = l.0 }, g.under);
           handled = g.handled;
         }
 
-    returned-good : (w : ℕ) → Good c (positionReturned c ks w b f)
+    returned-good : (w : ℕ) → Good c (position_returned c ks w b f)
     returned-good w = go ks g.under
       where
-        go : (ks : List Open) → Under c (bottom c f) x ks → Good c (positionReturned c ks w b f)
+        go : (ks : List Open) → Under c (bottom c f) x ks → Good c (position_returned c ks w b f)
         go [] u = home-good c facts b
         go (k ∷ ks) u = record {
           top = resumes-to x.number k w b u.0;
@@ -219,7 +219,7 @@ module _ (c : Chart) (facts : Facts c) where
         }
 
     moved-good : (d : Bool) → (d ≡ true → handler c ≡ 0 → ⊥) → (w : Signal) → Serves c w.binding → {s : Stop} → View c x.node s
-        → Good c (movedBy c d x ks w b f s)
+        → Good c (position_moved c d x ks w b f s)
     moved-good d n w serves (a-plain e a) = stays _ _ (arc-to x.node w.word g.top.inside (λ p. omega arith))
     moved-good d n w serves (a_call e a) = called-good _ w.binding serves (inl e) (facts.calls x.node g.top.inside e a) d n
     moved-good d n w serves (a-function e) = called-good b w.binding serves (inr e) (facts.functions x.node g.top.inside e) d n
@@ -232,13 +232,13 @@ module _ (c : Chart) (facts : Facts c) where
   view_of x g = view c x.now.node (facts.kinds x.now.node g.top.inside)
 
   pub moves : (n : ℕ) (w : Signal) (x : WalkPosition) → Serves c w.binding → Good c x → Good c (move n c w x)
-  moves n w x serves g = moved-good x.now x.callers x.results x.first g (dropsAt n c x)
+  moves n w x serves g = moved-good x.now x.callers x.results x.first g (is_drop_at n c x)
       (drop-handler n c x.first (suc (length x.callers))) w serves (view_of x g)
 
 -- ---- the trace of joined words
-unfoldable pub positionReached : ℕ → Chart → List Signal → WalkPosition → WalkPosition
-positionReached n c [] x = x
-positionReached n c (w ∷ ws) x = positionReached n c ws (move n c w x)
+unfoldable pub position_reached : ℕ → Chart → List Signal → WalkPosition → WalkPosition
+position_reached n c [] x = x
+position_reached n c (w ∷ ws) x = position_reached n c ws (move n c w x)
 
 pub trace-length : (n : ℕ) (c : Chart) (ws : List Signal) (x : WalkPosition) → length (trace n c ws x) ≡ length ws
 unfolding trace
@@ -246,7 +246,7 @@ trace-length n c [] x = refl
 trace-length n c (w ∷ ws) x = ap suc (trace-length n c ws (move n c w x))
 
 pub trace-append : (n : ℕ) (c : Chart) (ws us : List Signal) (x : WalkPosition)
-    → trace n c (ws ++ us) x ≡ trace n c ws x ++ trace n c us (positionReached n c ws x)
-unfolding trace positionReached
+    → trace n c (ws ++ us) x ≡ trace n c ws x ++ trace n c us (position_reached n c ws x)
+unfolding trace position_reached
 trace-append n c [] us x = refl
-trace-append n c (w ∷ ws) us x = ap (λ (ts : List Tick). tickAt n c x ∷ ts) (trace-append n c ws us (move n c w x))
+trace-append n c (w ∷ ws) us x = ap (λ (ts : List Tick). tick_at n c x ∷ ts) (trace-append n c ws us (move n c w x))

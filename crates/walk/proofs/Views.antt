@@ -8,7 +8,7 @@ use borrow.Author.Tests.{eqb-true, eqb-false, eq-eqb, ne_eqb}
 use Rattle.words.proofs.lists.Tests.{and_r, yes-pick, no-pick}
 use Rattle.charts.specs.Layout.{kind_of}
 use Rattle.charts.specs.Chart.{Chart, kind, scheme, argument, next0, next1, result, mask, is}
-use Rattle.walk.specs.Stops.{stopsAs, stops, Stop, plain, call, function, test, home, back, stopAs, stop_at}
+use Rattle.walk.specs.Stops.{is_stop_as, is_stop, Stop, plain, call, function, test, home, back, stop_as, stop_at}
 
 -- the seven cases; a test is made by a Begin, of the node after it, or by a condition, of itself
 pub data View (c : Chart) (v : ℕ) : Stop → Type 0 where
@@ -21,9 +21,9 @@ pub data View (c : Chart) (v : ℕ) : Stop → Type 0 where
   a-condition : kind c v ≡ 3 → View c v (test v)
 
 module _ (c : Chart) (v : ℕ) where
-  stop-by : (k : ℕ) → kind c v ≡ k → stop_at c v ≡ stopAs c v (kind_of k)
+  stop-by : (k : ℕ) → kind c v ≡ k → stop_at c v ≡ stop_as c v (kind_of k)
   unfolding stop_at
-  stop-by k e = ap (λ (k : ℕ). stopAs c v (kind_of k)) e
+  stop-by k e = ap (λ (k : ℕ). stop_as c v (kind_of k)) e
 
   stop-plain : kind c v ≡ 2 → argument c v ≡ 0 → stop_at c v ≡ plain (mask c v) (result c v) (next0 c v)
   stop-plain e a = stop-by 2 e ∙ yes-pick (eqb (argument c v) 0) _ _ (eq-eqb (argument c v) 0 a)
@@ -50,29 +50,29 @@ module _ (c : Chart) (v : ℕ) where
   pub view : kind c v ≤ 4 → View c v (stop_at c v)
   view l = go (kind c v) refl l
     where
-      byArgument : kind c v ≡ 2 → (t : Bool) → eqb (argument c v) 0 ≡ t → View c v (stop_at c v)
-      byArgument e true t = rw (stop-plain e (eqb-true (argument c v) 0 t)) (a-plain e (eqb-true (argument c v) 0 t))
-      byArgument e false t = rw (stop-call e (eqb-false (argument c v) 0 t)) (a_call e (eqb-false (argument c v) 0 t))
+      by-argument : kind c v ≡ 2 → (t : Bool) → eqb (argument c v) 0 ≡ t → View c v (stop_at c v)
+      by-argument e true t = rw (stop-plain e (eqb-true (argument c v) 0 t)) (a-plain e (eqb-true (argument c v) 0 t))
+      by-argument e false t = rw (stop-call e (eqb-false (argument c v) 0 t)) (a_call e (eqb-false (argument c v) 0 t))
 
-      byScheme : kind c v ≡ 1 → (t : Bool) → eqb (scheme c v) 1 ≡ t → View c v (stop_at c v)
-      byScheme e true t = rw (stop-home e (eqb-true (scheme c v) 1 t)) (a-home e (eqb-true (scheme c v) 1 t))
-      byScheme e false t = rw (stop-back e (eqb-false (scheme c v) 1 t)) (a_back e (eqb-false (scheme c v) 1 t))
+      by-scheme : kind c v ≡ 1 → (t : Bool) → eqb (scheme c v) 1 ≡ t → View c v (stop_at c v)
+      by-scheme e true t = rw (stop-home e (eqb-true (scheme c v) 1 t)) (a-home e (eqb-true (scheme c v) 1 t))
+      by-scheme e false t = rw (stop-back e (eqb-false (scheme c v) 1 t)) (a_back e (eqb-false (scheme c v) 1 t))
 
       go : (k : ℕ) → kind c v ≡ k → k ≤ 4 → View c v (stop_at c v)
       go zero e l = rw (stop-begin e) (a-begin e)
-      go (suc zero) e l = byScheme e (eqb (scheme c v) 1) refl
-      go (suc (suc zero)) e l = byArgument e (eqb (argument c v) 0) refl
+      go (suc zero) e l = by-scheme e (eqb (scheme c v) 1) refl
+      go (suc (suc zero)) e l = by-argument e (eqb (argument c v) 0) refl
       go (suc (suc (suc zero))) e l = rw (stop-condition e) (a-condition e)
       go (suc (suc (suc (suc zero)))) e l = rw (stop-function e) (a-function e)
       go (suc (suc (suc (suc (suc k))))) e l = absurd (omega arith)
 
   -- a Begin that stops leads to a condition, and an End always stops
-  pub stops-by : (k : ℕ) → kind c v ≡ k → stops c v ≡ stopsAs c v (kind_of k)
-  unfolding stops
-  stops-by k e = ap (λ (k : ℕ). stopsAs c v (kind_of k)) e
+  pub stops-by : (k : ℕ) → kind c v ≡ k → is_stop c v ≡ is_stop_as c v (kind_of k)
+  unfolding is_stop
+  stops-by k e = ap (λ (k : ℕ). is_stop_as c v (kind_of k)) e
 
-  pub begin-leads : kind c v ≡ 0 → stops c v ≡ true → kind c (next0 c v) ≡ 3
+  pub begin-leads : kind c v ≡ 0 → is_stop c v ≡ true → kind c (next0 c v) ≡ 3
   begin-leads e s = eqb-true (kind c (next0 c v)) 3 (and_r (not (eqb (scheme c v) 1)) (is c 3 (next0 c v)) (sym (stops-by 0 e) ∙ s))
 
-  pub end-stops : kind c v ≡ 1 → stops c v ≡ true
+  pub end-stops : kind c v ≡ 1 → is_stop c v ≡ true
   end-stops e = stops-by 1 e

@@ -7,33 +7,34 @@ use Rattle.text.specs.frames.Frame.{contents}
 use Rattle.text.specs.frames.Verdict.{fine}
 use Rattle.charts.specs.declared.layout.TheConstants.{OPERATION, FUNCTION}
 use Rattle.charts.specs.Chart.{Chart, kind, argument, next0, result, is}
-use Rattle.charts.specs.Entry.{readVerdict}
-use Rattle.walk.specs.Stops.{byArc}
-use Rattle.walk.specs.Walk.{Signal, Tick, isDrop, walk}
+use Rattle.charts.specs.Entry.{read_verdict}
+use Rattle.walk.specs.Stops.{by_arc}
+use Rattle.walk.specs.Walk.{Signal, Tick, is_drop, walk}
 
 -- a tick that writes 1 to the bit of number h: an operation with result 2, of a scheme that h called, makes it
-abbrev pub walkWritesOne : Chart → ℕ → Tick → Bool
-walkWritesOne c h t = is c OPERATION t.node && (eqb t.number h && eqb (result c t.node) 2)
+abbrev pub is_walk_write_of_one : Chart → ℕ → Tick → Bool
+is_walk_write_of_one c h t = is c OPERATION t.node && (eqb t.number h && eqb (result c t.node) 2)
 
 -- a return from a scheme whose call found o schemes open
-abbrev pub returnsTo : ℕ → Tick → Bool
-returnsTo o t = eqb t.code RETURN_CODE && eqb t.opened (suc o)
+abbrev pub is_return_to : ℕ → Tick → Bool
+is_return_to o t = eqb t.code RETURN_CODE && eqb t.opened (suc o)
 
 -- a function's call, the first such return after it, which is its own where no drop comes between, and ticks between that write no 1 to the
 -- bit of the number called
 pub record WalkUnwritten (c : Chart) (call : Tick) (between : List Tick) (back : Tick) : Type 0 where
   pub function : kind c call.node ≡ FUNCTION
-  pub made : isDrop call ≡ false
-  pub kept : some isDrop between ≡ false
-  pub inside : some (returnsTo call.opened) between ≡ false
-  pub own : returnsTo call.opened back ≡ true
-  pub unwritten : some (walkWritesOne c (argument c call.node)) between ≡ false
+  pub made : is_drop call ≡ false
+  pub kept : some is_drop between ≡ false
+  pub inside : some (is_return_to call.opened) between ≡ false
+  pub own : is_return_to call.opened back ≡ true
+  pub unwritten : some (is_walk_write_of_one c (argument c call.node)) between ≡ false
 
 -- for every accepted chart, every number of places and all words, whatever bindings are told:
 -- the tick after the return is made where the 0 arc leads by the return's word
 unfoldable pub ZeroArc : Type 0
 ZeroArc =
-    (text : List ℕ) → readVerdict text ≡ fine → (places : ℕ) (words : List Signal) (before between rest : List Tick) (call back next : Tick)
+    (text : List ℕ) → read_verdict text ≡ fine → (places : ℕ) (words : List Signal) (before between rest : List Tick)
+    (call back next : Tick)
     → let c = contents text in
     walk places c words ≡ before ++ (call ∷ (between ++ (back ∷ (next ∷ rest)))) → WalkUnwritten c call between back
-    → next.node ≡ byArc c (get_or (map (λ w. w.word) words) (length before + suc (length between)) 0) (next0 c call.node)
+    → next.node ≡ by_arc c (get_or (map (λ w. w.word) words) (length before + suc (length between)) 0) (next0 c call.node)

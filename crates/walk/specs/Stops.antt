@@ -4,35 +4,35 @@ use Rattle.words.specs.lists.Pick.{pick}
 use Rattle.text.specs.frames.Frame.{size}
 use Rattle.charts.specs.declared.layout.TheConstants.{CONDITION}
 use Rattle.charts.specs.Layout.{Kind, Begin, End, Operation, Condition, Function, Unknown, kind_of}
-use Rattle.charts.specs.Chart.{Chart, kind, scheme, argument, next0, next1, result, mask, is, begin, taken}
+use Rattle.charts.specs.Chart.{Chart, kind, scheme, argument, next0, next1, result, mask, is, begin, arc_taken}
 
 -- by the kind of a node: a condition stops only as the first node of scheme 1; a Begin only before a condition, and not in scheme 1
-abbrev pub stopsAs : Chart → ℕ → Kind → Bool
-stopsAs c v Begin = not (eqb (scheme c v) 1) && is c CONDITION (next0 c v)
-stopsAs c v End = true
-stopsAs c v Operation = true
-stopsAs c v Condition = eqb (scheme c v) 1 && eqb (next0 c (begin c 1)) v
-stopsAs c v Function = true
-stopsAs c v Unknown = true
+abbrev pub is_stop_as : Chart → ℕ → Kind → Bool
+is_stop_as c v Begin = not (eqb (scheme c v) 1) && is c CONDITION (next0 c v)
+is_stop_as c v End = true
+is_stop_as c v Operation = true
+is_stop_as c v Condition = eqb (scheme c v) 1 && eqb (next0 c (begin c 1)) v
+is_stop_as c v Function = true
+is_stop_as c v Unknown = true
 
-unfoldable pub stops : Chart → ℕ → Bool
-stops c v = stopsAs c v (kind_of (kind c v))
+unfoldable pub is_stop : Chart → ℕ → Bool
+is_stop c v = is_stop_as c v (kind_of (kind c v))
 
 -- the stop where performing a scheme starts
 unfoldable pub start : Chart → ℕ → ℕ
-start c h = pick (stops c (begin c h)) (begin c h) (next0 c (begin c h))
+start c h = pick (is_stop c (begin c h)) (begin c h) (next0 c (begin c h))
 
 -- from an arc's end through conditions that take no tick to a stop, in at most n steps
-unfoldable pub follow : ℕ → Chart → ℕ → ℕ → ℕ
-follow zero c w v = v
-follow (suc n) c w v = elim (stops c v) [ true ↦ v | false ↦ follow n c w (taken c w v) ]
+unfoldable pub next_stop : ℕ → Chart → ℕ → ℕ → ℕ
+next_stop zero c w v = v
+next_stop (suc n) c w v = elim (is_stop c v) [ true ↦ v | false ↦ next_stop n c w (arc_taken c w v) ]
 
 -- by a word to the next stop: from an arc's end, and from a condition, whether it is a stop or not
-abbrev pub byArc : Chart → ℕ → ℕ → ℕ
-byArc c w v = follow (size c) c w v
+abbrev pub by_arc : Chart → ℕ → ℕ → ℕ
+by_arc c w v = next_stop (size c) c w v
 
 abbrev pub by_word : Chart → ℕ → ℕ → ℕ
-by_word c w v = byArc c w (taken c w v)
+by_word c w v = by_arc c w (arc_taken c w v)
 
 -- a stop by what it does
 pub data Stop : Type 0 where
@@ -48,14 +48,14 @@ pub data Stop : Type 0 where
   home : Stop
   back : Stop
 
-abbrev pub stopAs : Chart → ℕ → Kind → Stop
-stopAs c v Begin = test (next0 c v)
-stopAs c v End = pick (eqb (scheme c v) 1) home back
-stopAs c v Operation = pick (eqb (argument c v) 0) (plain (mask c v) (result c v) (next0 c v))
+abbrev pub stop_as : Chart → ℕ → Kind → Stop
+stop_as c v Begin = test (next0 c v)
+stop_as c v End = pick (eqb (scheme c v) 1) home back
+stop_as c v Operation = pick (eqb (argument c v) 0) (plain (mask c v) (result c v) (next0 c v))
     (call (mask c v) (result c v) (argument c v) (next0 c v))
-stopAs c v Condition = test v
-stopAs c v Function = function (argument c v) (next0 c v) (next1 c v)
-stopAs c v Unknown = test (next0 c v)
+stop_as c v Condition = test v
+stop_as c v Function = function (argument c v) (next0 c v) (next1 c v)
+stop_as c v Unknown = test (next0 c v)
 
 unfoldable pub stop_at : Chart → ℕ → Stop
-stop_at c v = stopAs c v (kind_of (kind c v))
+stop_at c v = stop_as c v (kind_of (kind c v))

@@ -2,12 +2,12 @@
 -- It knows charts, the number of places and the binding that is told before each word, and nothing of labels, rows or a stack.
 use Rattle.std.specs.Prelude.{ℕ, zero, suc, ◌+◌, Bool, true, false, ◌&&◌, not, List, [], ◌∷◌, ◌++◌, map, eqb, length}
 use Rattle.words.specs.lists.Pick.{pick}
-use Rattle.results.specs.Results.{Results, noResults, result_of, withResult, cleared}
-use Rattle.bindings.specs.Binding.{Binding, served}
+use Rattle.results.specs.Results.{Results, no_results, result_of, with_result, cleared_results}
+use Rattle.bindings.specs.Binding.{Binding, server_of}
 use Rattle.text.specs.declared.frames.codes.TheConstants.{PLAIN_CODE, RETURN_CODE, HOME_CODE, OPERATION_CALL_CODE, FUNCTION_CALL_CODE}
 use Rattle.text.specs.declared.frames.codes.TheConstants.{DROP_CODE}
 use Rattle.charts.specs.Chart.{Chart, handler, end}
-use Rattle.walk.specs.Stops.{start, byArc, by_word, Stop, plain, call, function, test, home, back, stop_at}
+use Rattle.walk.specs.Stops.{start, by_arc, by_word, Stop, plain, call, function, test, home, back, stop_at}
 
 -- a word, and the binding that is told before it
 pub record Signal : Type 0 where
@@ -25,8 +25,8 @@ pub record OpenScheme : Type 0 where
   pub opened : ℕ
 
 -- the same scheme, at stop v
-abbrev pub atStop : OpenScheme → ℕ → OpenScheme
-atStop x v = record { node = v; number = x.number; opened = x.opened }
+abbrev pub open_at_stop : OpenScheme → ℕ → OpenScheme
+open_at_stop x v = record { node = v; number = x.number; opened = x.opened }
 
 -- a tick (the paper's word for one step):
 -- the stop that makes it, the number that its scheme was called by, its mask, its code, and how many schemes were open
@@ -38,12 +38,12 @@ pub record Tick : Type 0 where
   pub opened : ℕ
 
 -- the tick of an open scheme where it stands, with mask m and code k
-abbrev pub oneTick : OpenScheme → ℕ → ℕ → List Tick
-oneTick x m k = record { node = x.node; number = x.number; mask = m; code = k; opened = x.opened } ∷ []
+abbrev pub one_tick : OpenScheme → ℕ → ℕ → List Tick
+one_tick x m k = record { node = x.node; number = x.number; mask = m; code = k; opened = x.opened } ∷ []
 
 -- a call that was not made: all open schemes were dropped, code 60 hexadecimal
-abbrev pub isDrop : Tick → Bool
-isDrop t = eqb t.code DROP_CODE
+abbrev pub is_drop : Tick → Bool
+is_drop t = eqb t.code DROP_CODE
 
 -- performing a scheme: the words ran out after these ticks; or its End was reached:
 -- the ticks, the End's word, the words left, the result bits; or all open schemes were dropped: the ticks, the words left, the result
@@ -53,10 +53,10 @@ pub data Course : Type 0 where
   ended : List Tick → ℕ → List Signal → Results → Course
   dropped : List Tick → List Signal → Results → Course
 
-abbrev pub after : List Tick → Course → Course
-after ts (spent us) = spent (ts ++ us)
-after ts (ended us w ws b) = ended (ts ++ us) w ws b
-after ts (dropped us ws b) = dropped (ts ++ us) ws b
+abbrev pub course_after : List Tick → Course → Course
+course_after ts (spent us) = spent (ts ++ us)
+course_after ts (ended us w ws b) = ended (ts ++ us) w ws b
+course_after ts (dropped us ws b) = dropped (ts ++ us) ws b
 
 -- a call: its mask and its code, the number called, and the stop where the caller goes on, by the word of the End and the result bits
 pub record SchemeCall : Type 0 where
@@ -66,72 +66,74 @@ pub record SchemeCall : Type 0 where
   pub resumed : ℕ → Results → ℕ
 
 -- an operation's call of number h, with mask m and next node u
-abbrev pub callByOperation : Chart → ℕ → ℕ → ℕ → SchemeCall
-callByOperation c m h u = record { mask = m; code = OPERATION_CALL_CODE + h; called = h; resumed = λ w b. byArc c w u }
+abbrev pub call_by_operation : Chart → ℕ → ℕ → ℕ → SchemeCall
+call_by_operation c m h u = record { mask = m; code = OPERATION_CALL_CODE + h; called = h; resumed = λ w b. by_arc c w u }
 
 -- a function's call of number h, with next node u₀ or u₁ by the result bit of h
-abbrev pub callByFunction : Chart → ℕ → ℕ → ℕ → SchemeCall
-callByFunction c h u₀ u₁ =
-    record { mask = 0; code = FUNCTION_CALL_CODE + h; called = h; resumed = λ w b. byArc c w (pick (result_of h b) u₁ u₀) }
+abbrev pub call_by_function : Chart → ℕ → ℕ → ℕ → SchemeCall
+call_by_function c h u₀ u₁ =
+    record { mask = 0; code = FUNCTION_CALL_CODE + h; called = h; resumed = λ w b. by_arc c w (pick (result_of h b) u₁ u₀) }
 
 -- performing an open scheme on from where it stands, by the words and with the result bits
 abbrev pub Performer : Type 0
 Performer = OpenScheme → List Signal → Results → Course
 
 -- after the course of the scheme that call a opened, its caller x goes on; a drop ends the caller too
-abbrev pub resume : Performer → OpenScheme → SchemeCall → Course → Course
-resume go x a (spent ts) = spent ts
-resume go x a (ended ts w ws b) = after ts (go (atStop x (a.resumed w b)) ws b)
-resume go x a (dropped ts ws b) = dropped ts ws b
+abbrev pub resumed_course : Performer → OpenScheme → SchemeCall → Course → Course
+resumed_course go x a (spent ts) = spent ts
+resumed_course go x a (ended ts w ws b) = course_after ts (go (open_at_stop x (a.resumed w b)) ws b)
+resumed_course go x a (dropped ts ws b) = dropped ts ws b
 
 -- the scheme that a call by x opens: the one that serves the number called, at its start
-abbrev pub openedBy : Chart → Binding → OpenScheme → SchemeCall → OpenScheme
-openedBy c s x a = record { node = start c (served s a.called); number = a.called; opened = suc x.opened }
+abbrev pub opened_scheme : Chart → Binding → OpenScheme → SchemeCall → OpenScheme
+opened_scheme c s x a = record { node = start c (server_of s a.called); number = a.called; opened = suc x.opened }
 
 -- call a by x under binding s: it clears the bit of the number called, and the scheme that it opens is performed; or all open schemes are
 -- dropped, and the bit of the handler is cleared
-abbrev pub performCall : Performer → Chart → Binding → OpenScheme → SchemeCall → List Signal → Results → Bool → Course
-performCall go c s x a ws b false =
-    after (oneTick x a.mask a.code) (resume go x a (go (openedBy c s x a) ws (cleared a.called b)))
-performCall go c s x a ws b true = dropped (oneTick x a.mask DROP_CODE) ws (cleared (handler c) b)
+abbrev pub call_course : Performer → Chart → Binding → OpenScheme → SchemeCall → List Signal → Results → Bool → Course
+call_course go c s x a ws b false =
+    course_after (one_tick x a.mask a.code) (resumed_course go x a (go (opened_scheme c s x a) ws (cleared_results a.called b)))
+call_course go c s x a ws b true = dropped (one_tick x a.mask DROP_CODE) ws (cleared_results (handler c) b)
 
 -- what the stop where x stands does by its word w, and what follows it by the words ws, where go performs on; b are the result bits; the
 -- stop's own result is written, to the bit of x's number, before its call; d tells of a number of open schemes whether a call drops them
-abbrev pub act : Performer → Chart → (ℕ → Bool) → OpenScheme → Signal → List Signal → Results → Stop → Course
-act go c d x w ws b (plain m r u) = after (oneTick x m PLAIN_CODE) (go (atStop x (byArc c w.word u)) ws (withResult r x.number b))
-act go c d x w ws b (call m r h u) =
-    performCall go c w.binding x (callByOperation c m h u) ws (withResult r x.number b) (d x.opened)
-act go c d x w ws b (function h u₀ u₁) = performCall go c w.binding x (callByFunction c h u₀ u₁) ws b (d x.opened)
-act go c d x w ws b (test u) = after (oneTick x 0 PLAIN_CODE) (go (atStop x (by_word c w.word u)) ws b)
-act go c d x w ws b home = after (oneTick x 0 HOME_CODE) (go (atStop x (start c 1)) ws b)
-act go c d x w ws b back = ended (oneTick x 0 RETURN_CODE) w.word ws b
+abbrev pub stop_course : Performer → Chart → (ℕ → Bool) → OpenScheme → Signal → List Signal → Results → Stop → Course
+stop_course go c d x w ws b (plain m r u) =
+    course_after (one_tick x m PLAIN_CODE) (go (open_at_stop x (by_arc c w.word u)) ws (with_result r x.number b))
+stop_course go c d x w ws b (call m r h u) =
+    call_course go c w.binding x (call_by_operation c m h u) ws (with_result r x.number b) (d x.opened)
+stop_course go c d x w ws b (function h u₀ u₁) = call_course go c w.binding x (call_by_function c h u₀ u₁) ws b (d x.opened)
+stop_course go c d x w ws b (test u) = course_after (one_tick x 0 PLAIN_CODE) (go (open_at_stop x (by_word c w.word u)) ws b)
+stop_course go c d x w ws b home = course_after (one_tick x 0 HOME_CODE) (go (open_at_stop x (start c 1)) ws b)
+stop_course go c d x w ws b back = ended (one_tick x 0 RETURN_CODE) w.word ws b
 
 -- k is at least the number of words
-unfoldable pub perform : ℕ → Chart → (ℕ → Bool) → Performer
-perform zero c d x ws b = spent []
-perform (suc k) c d x [] b = spent []
-perform (suc k) c d x (w ∷ ws) b = act (perform k c d) c d x w ws b (stop_at c x.node)
+unfoldable pub scheme_course : ℕ → Chart → (ℕ → Bool) → Performer
+scheme_course zero c d x ws b = spent []
+scheme_course (suc k) c d x [] b = spent []
+scheme_course (suc k) c d x (w ∷ ws) b = stop_course (scheme_course k c d) c d x w ws b (stop_at c x.node)
 
 -- with n places a call that finds n schemes open drops them where the chart has a handler, unless the handler is the first of them
-abbrev pub drops : ℕ → Chart → Bool → ℕ → Bool
-drops n c first o = not first && not (eqb (handler c) 0) && eqb o n
+abbrev pub is_dropping : ℕ → Chart → Bool → ℕ → Bool
+is_dropping n c first o = not first && not (eqb (handler c) 0) && eqb o n
 
 -- the first open scheme, the handler where `first` is true and else scheme 1; it goes by its own number
 abbrev pub bottom : Chart → Bool → ℕ
 bottom c first = pick first (handler c) 1
 
 -- what follows the course of the first open scheme: after a drop the handler, which is then the first, and after the handler's End home
-abbrev pub carriedOn : (Bool → ℕ → List Signal → Results → List Tick) → Chart → Course → List Tick
-carriedOn go c (spent ts) = ts
-carriedOn go c (ended ts w ws b) = ts ++ go false (end c 1) ws b
-carriedOn go c (dropped ts ws b) = ts ++ go true (start c (handler c)) ws b
+abbrev pub ticks_after_course : (Bool → ℕ → List Signal → Results → List Tick) → Chart → Course → List Tick
+ticks_after_course go c (spent ts) = ts
+ticks_after_course go c (ended ts w ws b) = ts ++ go false (end c 1) ws b
+ticks_after_course go c (dropped ts ws b) = ts ++ go true (start c (handler c)) ws b
 
 -- with n places, from stop v of the first open scheme on; k is at least the number of words
-unfoldable pub walkFrom : ℕ → ℕ → Chart → Bool → ℕ → List Signal → Results → List Tick
-walkFrom zero n c first v ws b = []
-walkFrom (suc k) n c first v ws b =
-    carriedOn (walkFrom k n c) c (perform (length ws) c (drops n c first) (record { node = v; number = bottom c first; opened = 1 }) ws b)
+unfoldable pub walk_from : ℕ → ℕ → Chart → Bool → ℕ → List Signal → Results → List Tick
+walk_from zero n c first v ws b = []
+walk_from (suc k) n c first v ws b =
+    ticks_after_course (walk_from k n c) c (scheme_course (length ws) c (is_dropping n c first)
+    (record { node = v; number = bottom c first; opened = 1 }) ws b)
 
 -- with n places, from the home tick on, every result bit 0
 unfoldable pub walk : ℕ → Chart → List Signal → List Tick
-walk n c ws = walkFrom (length ws) n c false (end c 1) ws noResults
+walk n c ws = walk_from (length ws) n c false (end c 1) ws no_results

@@ -2,12 +2,12 @@
 ghost use Rattle.std.specs.Prelude.{◌≡◌, not, ◌≤◌, length};
 ghost use Rattle.words.specs.lists.Numbers.{lowest};
 ghost use Rattle.words.specs.lists.Sequences.{over};
-ghost use Rattle.words.specs.graph.Reach.{marked};
-ghost use Rattle.words.specs.graph.inner.Listed.{many, listing, enlist, markedNodes};
+ghost use Rattle.words.specs.graph.Reach.{is_marked};
+ghost use Rattle.words.specs.graph.inner.Listed.{many, listing, enlist, marked_nodes};
 
 // Node u has a mark; a number that is no node has none.
 pub fn is_marked(marks: &[bool], u: usize) -> bool
-    ensures { result ≡ marked marks.now u }
+    ensures { result ≡ is_marked marks.now u }
 {
     if marks.len() <= u {
         return false;
@@ -36,7 +36,7 @@ pub fn enlist(marks: &mut [bool], list: &mut [u8], count: usize, u: u8) -> usize
 // The marked nodes are written to the front of the list, the lowest first, and the rest of it stays; how many they are.
 pub fn list_marked(marks: &[bool], list: &mut [u8]) -> usize
     requires { (length marks.now ≤ length list.old) × (length marks.now ≤ 256) }
-    ensures { (list.new ≡ over (markedNodes marks.now) list.old) × (result ≡ many marks.now) }
+    ensures { (list.new ≡ over (marked_nodes marks.now) list.old) × (result ≡ many marks.now) }
 {
     let n = marks.len();
     let mut count: usize = 0;
@@ -51,7 +51,7 @@ pub fn list_marked(marks: &[bool], list: &mut [u8]) -> usize
 
 // The lowest node without a mark, or the number of nodes.
 pub fn lowest_unmarked(marks: &[bool]) -> usize
-    ensures { result ≡ lowest (λ v. not (marked marks.now v)) 0 (length marks.now) }
+    ensures { result ≡ lowest (λ v. not (is_marked marks.now v)) 0 (length marks.now) }
 {
     let mut u: usize = 0;
     while u < marks.len() {

@@ -5,24 +5,24 @@ use mathlib.Core.List.{List}
 use lib.ListN.{length}
 use Rattle.text.specs.frames.Frame.{contents}
 use Rattle.text.specs.frames.Verdict.{Verdict, fine, refused, next, when}
-use Rattle.text.specs.frames.Answer.{reply, judged}
+use Rattle.text.specs.frames.Answer.{reply, verdict_reply}
 use Rattle.text.specs.declared.frames.Answer.{Answer}
 use Rattle.text.specs.declared.frames.Answer.TheVariants.{Refused}
 use Rattle.text.proofs.frames.Chains.{refused-verdict}
 use Rattle.image.specs.Image.{Image}
-use Rattle.image.specs.Decode.{decoded}
-use Rattle.image.specs.Check.{imageVerdict}
+use Rattle.image.specs.Decode.{decoded_image}
+use Rattle.image.specs.Check.{image_verdict}
 use Rattle.image.specs.inner.Sound.{SoundImage}
 use Rattle.image.proofs.Accepted.{image-sound}
 use Rattle.tables.proofs.Made.{MadeTable}
 use Rattle.state.specs.declared.State.{State}
 use Rattle.state.specs.State.{Sized}
-use Rattle.fitness.specs.Fitness.{unfit}
-use Rattle.state.specs.Bytes.{state_of, bytesOf}
+use Rattle.fitness.specs.Fitness.{is_unfit}
+use Rattle.state.specs.Bytes.{state_of, bytes_of}
 use Rattle.state.proofs.ResultBytes.{state-back}
 use Rattle.cause.specs.declared.CauseReport as given
-use Rattle.cause.specs.Cause.{causeOf, CauseOutcome, causeOn, explain, GivesCause}
-use Rattle.cause.specs.table_causes.inner.TableCauses.{Ordered, tableCause}
+use Rattle.cause.specs.Cause.{cause_of, CauseOutcome, cause_on, explain, GivesCause}
+use Rattle.cause.specs.table_causes.inner.TableCauses.{Ordered, table_cause}
 use Rattle.cause.proofs.table_causes.CauseCases.{untold}
 
 pub image-ordered : (t b : List ℕ) → MadeTable t b → Ordered b
@@ -36,26 +36,26 @@ image-ordered t b made = record {
 module _ (t : List ℕ) (s : State) (w : ℕ) where
   -- by the image check's verdict and by the image that it lets pass
   abbrev explained : Verdict → Image → CauseOutcome
-  explained v i = causeOn (next v λ _. when 15 (unfit i s)) (λ _. causeOf i s w)
+  explained v i = cause_on (next v λ _. when 15 (is_unfit i s)) (λ _. cause_of i s w)
 
-  explain-by : (v : Verdict) → imageVerdict t ≡ v → explain t s w ≡ explained v (decoded (contents t))
+  explain-by : (v : Verdict) → image_verdict t ≡ v → explain t s w ≡ explained v (decoded_image (contents t))
   unfolding explain
-  explain-by v e = ap (λ (u : Verdict). explained u (decoded (contents t))) e
+  explain-by v e = ap (λ (u : Verdict). explained u (decoded_image (contents t))) e
 
-  pub image-untold : (a : Answer) → reply a ≡ judged (imageVerdict t) 0 → (k j m : ℕ)
+  pub image-untold : (a : Answer) → reply a ≡ verdict_reply (image_verdict t) 0 → (k j m : ℕ)
       → a ≡ Refused k j m → (r : given.CauseReport) → r ≡ untold a
       → GivesCause (explain t s w) r
   image-untold a gives k j m e r q =
-      let verdict : imageVerdict t ≡ refused k j = (refused-verdict a (imageVerdict t) 0 gives k j m e).0 in
+      let verdict : image_verdict t ≡ refused k j = (refused-verdict a (image_verdict t) 0 gives k j m e).0 in
       rw (explain-by (refused k j) verdict, q)
-      (record { answered = gives ∙ ap (λ (v : Verdict). judged v 0) verdict; row = refl; mask = refl; bit = refl })
+      (record { answered = gives ∙ ap (λ (v : Verdict). verdict_reply v 0) verdict; row = refl; mask = refl; bit = refl })
 
-  pub image-told : (b : List ℕ) → MadeTable t b → (r : given.CauseReport) → GivesCause (tableCause b s w) r → GivesCause (explain t s w) r
+  pub image-told : (b : List ℕ) → MadeTable t b → (r : given.CauseReport) → GivesCause (table_cause b s w) r → GivesCause (explain t s w) r
   image-told b made r y =
       subst (λ (x : CauseOutcome). GivesCause x r)
       (ap (λ (i : Image). explained fine i) made.holds ∙ sym (explain-by fine made.accepted)) y
 
-pub value-told : (t : List ℕ) (state : State) (w : ℕ) → Sized state → length state.bits ≡ 16 → (bytes : List ℕ) → bytes ≡ bytesOf state
+pub value-told : (t : List ℕ) (state : State) (w : ℕ) → Sized state → length state.bits ≡ 16 → (bytes : List ℕ) → bytes ≡ bytes_of state
     → (r : given.CauseReport) → GivesCause (explain t (state_of bytes) w) r → GivesCause (explain t state w) r
 value-told t state w sized bits bytes e r y =
     subst (λ (s : State). GivesCause (explain t s w) r) (ap state_of e ∙ state-back state sized bits) y

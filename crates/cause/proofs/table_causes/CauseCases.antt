@@ -18,31 +18,31 @@ use Rattle.text.specs.frames.Answer.{reply}
 use Rattle.text.specs.declared.frames.Answer.{Answer}
 use Rattle.text.specs.declared.frames.Answer.TheVariants.{Done, Refused}
 use Rattle.text.proofs.frames.Chains.{when-holds, when-fails}
-use Rattle.image.specs.Layout.{tickKind}
+use Rattle.image.specs.Layout.{tick_kind}
 use Rattle.image.specs.Image.{Image, Label, Row}
 use Rattle.image.specs.Decode.{rows_from}
-use Rattle.tables.specs.Table.{tableLabel, firstOn, endOn, rowOn, rowsOn, tableImage}
-use Rattle.tables.specs.inner.Labels.{asLabel}
+use Rattle.tables.specs.Table.{table_label, first_on, end_on, row_on, rows_on, table_image}
+use Rattle.tables.specs.inner.Labels.{as_label}
 use Rattle.tables.specs.declared.Label as declared
 use Rattle.tables.proofs.TableReads.{labels-count, label-at}
-use Rattle.rows.specs.Rows.{Choice, row, noChoice, bestRow}
+use Rattle.rows.specs.Rows.{Choice, row, no_choice, best_row}
 use Rattle.rows.specs.inner.Search.{Deciding, found_at}
 use Rattle.rows.proofs.ChoiceLaws.{moved_by}
 use Rattle.rows.proofs.BestRows.{best-at, best-is}
-use Rattle.rows.proofs.TableRows.{rowsBefore, found_number, any-row}
+use Rattle.rows.proofs.TableRows.{rows_before, found_number, any-row}
 use Rattle.state.specs.declared.State.{State}
-use Rattle.state.specs.State.{label_at, placeAt}
-use Rattle.fitness.specs.Fitness.{unfit}
+use Rattle.state.specs.State.{label_at, place_at}
+use Rattle.fitness.specs.Fitness.{is_unfit}
 use Rattle.state.specs.Bytes.{state_of}
 use Rattle.state.proofs.ResultBytes.{held-places, held-sized}
 use Rattle.fitness.proofs.Fitness.{unfits}
-use Rattle.ticks.specs.Tick.{calledBit, choice}
+use Rattle.ticks.specs.Tick.{called_bit, choice}
 use Rattle.ticks.specs.inner.TickContracts.{bit_of}
 use Rattle.cause.specs.declared.CauseReport as given
-use Rattle.cause.specs.Cause.{againstAll, Leaving, leavesLabel, nothing, leavingBy, leaving, unexplained, causeBy}
-use Rattle.cause.specs.Cause.{causeAt, causeOf, CauseOutcome, causeOutcome, causeOn, GivesCause}
-use Rattle.cause.specs.inner.CauseContracts.{againstFrom}
-use Rattle.cause.specs.table_causes.inner.TableCauses.{Ordered, OrderedLabel, leavingNumber, tableCause}
+use Rattle.cause.specs.Cause.{mask_against_all, Leaving, leaves_label, nothing, leaving_by, leaving, unexplained, cause_by}
+use Rattle.cause.specs.Cause.{cause_at, cause_of, CauseOutcome, cause_outcome, cause_on, GivesCause}
+use Rattle.cause.specs.inner.CauseContracts.{mask_against_from}
+use Rattle.cause.specs.table_causes.inner.TableCauses.{Ordered, OrderedLabel, leaving_number, table_cause}
 use Rattle.cause.proofs.Leaves.{Leaves, by, stays, leaves}
 use Rattle.cause.proofs.table_causes.TableConditions.{any-conditions, frame-conditions}
 
@@ -50,191 +50,191 @@ use Rattle.cause.proofs.table_causes.TableConditions.{any-conditions, frame-cond
 abbrev pub untold : Answer → given.CauseReport
 untold a = record { answer = a; row = 0; mask = 0; bit = 0 }
 
-pub tells_none : (x : CauseOutcome) (n : ℕ) → x ≡ causeOutcome (unexplained n) → (a : Answer)
+pub tells_none : (x : CauseOutcome) (n : ℕ) → x ≡ cause_outcome (unexplained n) → (a : Answer)
     → a ≡ Refused n 0 0 → (r : given.CauseReport) → r ≡ untold a → GivesCause x r
 tells_none x n e a p r q = rw (e, q) (record { answered = ap reply p; row = refl; mask = refl; bit = refl })
 
 -- ---- places: n below the depth d
 module _ (bytes : List ℕ) (d n : ℕ) where
-  pub place-lowest : (r : ℕ) → r ≡ placeAt (state_of bytes) 0 → d < n → r ≡ placeAt (state_of bytes) (d - n)
-  place-lowest r e h = e ∙ ap (placeAt (state_of bytes)) (let z : 0 ≡ d - n = omega arith in z)
+  pub place-lowest : (r : ℕ) → r ≡ place_at (state_of bytes) 0 → d < n → r ≡ place_at (state_of bytes) (d - n)
+  place-lowest r e h = e ∙ ap (place_at (state_of bytes)) (let z : 0 ≡ d - n = omega arith in z)
 
-  pub place-past : 32 ≤ d - n → 0 ≡ placeAt (state_of bytes) (d - n)
+  pub place-past : 32 ≤ d - n → 0 ≡ place_at (state_of bytes) (d - n)
   place-past h = sym (get_or-eq_default (state_of bytes).places 0 (omega (arith, held-places bytes)))
 
 -- ---- the label that is left: d is the depth, top the label at the top, and z what was read of it
-module _ (b : List ℕ) (s : State) (d top : ℕ) (is : d ≡ s.depth) (at : top ≡ placeAt s (d - 1))
-    (z : declared.Label) (read : asLabel z ≡ tableLabel b top) where
+module _ (b : List ℕ) (s : State) (d top : ℕ) (is : d ≡ s.depth) (at : top ≡ place_at s (d - 1))
+    (z : declared.Label) (read : as_label z ≡ table_label b top) where
   abbrev i : Image
-  i = tableImage b
+  i = table_image b
 
-  top-is : top ≡ placeAt s (s.depth - 1)
-  top-is = at ∙ ap (λ (k : ℕ). placeAt s (k - 1)) is
+  top-is : top ≡ place_at s (s.depth - 1)
+  top-is = at ∙ ap (λ (k : ℕ). place_at s (k - 1)) is
 
-  left_is : leaving i s ≡ leavingBy s (tickKind z.kind)
+  left_is : leaving i s ≡ leaving_by s (tick_kind z.kind)
   unfolding leaving
   left_is =
-      ap (λ (x : Label). leavingBy s (tickKind x.kind)) (label-at b (placeAt s (s.depth - 1)) ∙ sym (read ∙ ap (tableLabel b) top-is))
+      ap (λ (x : Label). leaving_by s (tick_kind x.kind)) (label-at b (place_at s (s.depth - 1)) ∙ sym (read ∙ ap (table_label b) top-is))
 
-  pub left-plain : z.kind ≡ 0 → top ≡ leavingNumber (leaving i s)
-  left-plain k = top-is ∙ sym (ap leavingNumber (left_is ∙ ap (λ (n : ℕ). leavingBy s (tickKind n)) k))
+  pub left-plain : z.kind ≡ 0 → top ≡ leaving_number (leaving i s)
+  left-plain k = top-is ∙ sym (ap leaving_number (left_is ∙ ap (λ (n : ℕ). leaving_by s (tick_kind n)) k))
 
-  pub left_other : (z.kind ≡ 0 → ⊥) → (z.kind ≡ 3 → ⊥) → 0 ≡ leavingNumber (leaving i s)
+  pub left_other : (z.kind ≡ 0 → ⊥) → (z.kind ≡ 3 → ⊥) → 0 ≡ leaving_number (leaving i s)
   left_other m n = go z.kind refl
     where
-      go : (k : ℕ) → z.kind ≡ k → 0 ≡ leavingNumber (leaving i s)
+      go : (k : ℕ) → z.kind ≡ k → 0 ≡ leaving_number (leaving i s)
       go zero e = absurd (m e)
-      go (suc zero) e = sym (ap leavingNumber (left_is ∙ ap (λ (n : ℕ). leavingBy s (tickKind n)) e))
-      go (suc (suc zero)) e = sym (ap leavingNumber (left_is ∙ ap (λ (n : ℕ). leavingBy s (tickKind n)) e))
+      go (suc zero) e = sym (ap leaving_number (left_is ∙ ap (λ (n : ℕ). leaving_by s (tick_kind n)) e))
+      go (suc (suc zero)) e = sym (ap leaving_number (left_is ∙ ap (λ (n : ℕ). leaving_by s (tick_kind n)) e))
       go (suc (suc (suc zero))) e = absurd (n e)
-      go (suc (suc (suc (suc k)))) e = sym (ap leavingNumber (left_is ∙ ap (λ (n : ℕ). leavingBy s (tickKind n)) e))
+      go (suc (suc (suc (suc k)))) e = sym (ap leaving_number (left_is ∙ ap (λ (n : ℕ). leaving_by s (tick_kind n)) e))
 
   module _ (k : z.kind ≡ 3) where
     left_back : (t : Bool) → leb s.depth 1 ≡ t
-        → leavingNumber (leaving i s) ≡ leavingNumber (pick t nothing (leavesLabel (placeAt s (s.depth - 2))))
+        → leaving_number (leaving i s) ≡ leaving_number (pick t nothing (leaves_label (place_at s (s.depth - 2))))
     left_back t e =
-        ap leavingNumber (left_is ∙ ap (λ (n : ℕ). leavingBy s (tickKind n)) k)
-        ∙ ap (λ (u : Bool). leavingNumber (pick u nothing (leavesLabel (placeAt s (s.depth - 2))))) e
+        ap leaving_number (left_is ∙ ap (λ (n : ℕ). leaving_by s (tick_kind n)) k)
+        ∙ ap (λ (u : Bool). leaving_number (pick u nothing (leaves_label (place_at s (s.depth - 2))))) e
 
-    pub left-last : d ≤ 1 → 0 ≡ leavingNumber (leaving i s)
+    pub left-last : d ≤ 1 → 0 ≡ leaving_number (leaving i s)
     left-last h = sym (left_back true (le-leb s.depth 1 (omega arith)))
 
-    pub left-beneath : 1 < d → (r : ℕ) → r ≡ placeAt s (d - 2) → r ≡ leavingNumber (leaving i s)
-    left-beneath h r e = e ∙ ap (λ (n : ℕ). placeAt s (n - 2)) is ∙ sym (left_back false (lt-leb s.depth 1 (omega arith)))
+    pub left-beneath : 1 < d → (r : ℕ) → r ≡ place_at s (d - 2) → r ≡ leaving_number (leaving i s)
+    left-beneath h r e = e ∙ ap (λ (n : ℕ). place_at s (n - 2)) is ∙ sym (left_back false (lt-leb s.depth 1 (omega arith)))
 
 -- ---- the row that label l takes: z is what was read of the label, and bit the one that decides
 unmoved : (m n f : ℕ) (r : Row) (x : Choice) → row (m + f) r ≡ moved_by n x → (k : ℕ) × (x ≡ row k r) × (m + f ≡ n + k)
-unmoved m n f r noChoice e = absurd (let z : ◌≡◌ {A = ℕ} 0 1 = cc in omega arith)
+unmoved m n f r no_choice e = absurd (let z : ◌≡◌ {A = ℕ} 0 1 = cc in omega arith)
 unmoved m n f r (row k q) e = (k, ap (row k) (let z : q ≡ r = cc in z), (let z : m + f ≡ n + k = cc in z))
 
-unmoved-none : (n : ℕ) (x : Choice) → noChoice ≡ moved_by n x → x ≡ noChoice
-unmoved-none n noChoice e = refl
+unmoved-none : (n : ℕ) (x : Choice) → no_choice ≡ moved_by n x → x ≡ no_choice
+unmoved-none n no_choice e = refl
 unmoved-none n (row k q) e = absurd (let z : ◌≡◌ {A = ℕ} 0 1 = cc in omega arith)
 
 -- the row in frame f, by its number k among all rows
 pub record RowNumbers (b : List ℕ) (l w bit f : ℕ) : Type 0 where
   pub least : rows_from b ≤ f
-  pub after : firstOn b l ≤ f
-  pub below : firstOn b l ≡ rows_from b + rowsBefore b l
+  pub after : first_on b l ≤ f
+  pub below : first_on b l ≡ rows_from b + rows_before b l
   pub few : f - rows_from b < 1024
-  pub chosen : bestRow l w bit 0 (tableImage b).rows ≡ row (f - rows_from b) (rowOn b l f)
+  pub chosen : best_row l w bit 0 (table_image b).rows ≡ row (f - rows_from b) (row_on b l f)
 
-module _ (b : List ℕ) (l w : ℕ) (x : OrderedLabel b l) (bs : Results) (z : declared.Label) (read : asLabel z ≡ tableLabel b l) (bit : ℕ)
+module _ (b : List ℕ) (l w : ℕ) (x : OrderedLabel b l) (bs : Results) (z : declared.Label) (read : as_label z ≡ table_label b l) (bit : ℕ)
     (e : bit ≡ bit_of z.kind z.called bs) where
   abbrev img : Image
-  img = tableImage b
+  img = table_image b
 
-  label_is : asLabel z ≡ label_at img l
+  label_is : as_label z ≡ label_at img l
   label_is = read ∙ sym (label-at b l)
 
-  pub bit-told : bit ≡ pick (eqb (label_at img l).kind 2) (calledBit img bs l) 2
+  pub bit-told : bit ≡ pick (eqb (label_at img l).kind 2) (called_bit img bs l) 2
   bit-told = e ∙ ap (λ (y : Label). bit_of y.kind y.called bs) label_is
 
   -- what does not look at the bit of a label that calls no function is the same for the bit called and the one that decides
-  decided : {A : Type 0} (F : ℕ → A) → (((tableLabel b l).kind ≡ 2 → ⊥) → (p q : ℕ) → F p ≡ F q) → F (calledBit img bs l) ≡ F bit
+  decided : {A : Type 0} (F : ℕ → A) → (((table_label b l).kind ≡ 2 → ⊥) → (p q : ℕ) → F p ≡ F q) → F (called_bit img bs l) ≡ F bit
   decided F any = go (ℕ_discrete (label_at img l).kind 2)
     where
-      go : Dec ((label_at img l).kind ≡ 2) → F (calledBit img bs l) ≡ F bit
-      go (yes k) = ap F (sym (bit-told ∙ yes-pick (eqb (label_at img l).kind 2) (calledBit img bs l) 2 (eq-eqb (label_at img l).kind 2 k)))
-      go (no k) = any (λ m. k (ap (λ (y : Label). y.kind) (label-at b l) ∙ m)) (calledBit img bs l) bit
+      go : Dec ((label_at img l).kind ≡ 2) → F (called_bit img bs l) ≡ F bit
+      go (yes k) = ap F (sym (bit-told ∙ yes-pick (eqb (label_at img l).kind 2) (called_bit img bs l) 2 (eq-eqb (label_at img l).kind 2 k)))
+      go (no k) = any (λ m. k (ap (λ (y : Label). y.kind) (label-at b l) ∙ m)) (called_bit img bs l) bit
 
-  choice-is : choice img bs l w ≡ bestRow l w bit 0 img.rows
-  choice-is = decided (λ n. bestRow l w n 0 img.rows) (λ n p q. any-row b l w p q n x.label.low x.label.high)
+  choice-is : choice img bs l w ≡ best_row l w bit 0 img.rows
+  choice-is = decided (λ n. best_row l w n 0 img.rows) (λ n p q. any-row b l w p q n x.label.low x.label.high)
 
-  conditions-are : againstAll l w (calledBit img bs l) img.rows ≡ againstAll l w bit img.rows
-  conditions-are = decided (λ n. againstAll l w n img.rows) (λ n p q. any-conditions b l w n p q x.label.low x.label.high)
+  conditions-are : mask_against_all l w (called_bit img bs l) img.rows ≡ mask_against_all l w bit img.rows
+  conditions-are = decided (λ n. mask_against_all l w n img.rows) (λ n p q. any-conditions b l w n p q x.label.low x.label.high)
 
   abbrev caused : Choice → CauseOutcome
-  caused y = causeOutcome (causeBy img.rows (label_at img l).kind l w (calledBit img bs l) y)
+  caused y = cause_outcome (cause_by img.rows (label_at img l).kind l w (called_bit img bs l) y)
 
-  module _ (f : ℕ) (g : found_at b l f ≡ bestRow l w bit (firstOn b l) (rowsOn b l)) where
-    by_number : moved_by (rowsBefore b l) (found_at b l f) ≡ moved_by (firstOn b l) (bestRow l w bit 0 img.rows)
+  module _ (f : ℕ) (g : found_at b l f ≡ best_row l w bit (first_on b l) (rows_on b l)) where
+    by_number : moved_by (rows_before b l) (found_at b l f) ≡ moved_by (first_on b l) (best_row l w bit 0 img.rows)
     by_number = found_number b l w bit x.label f g
 
     pub none_told : size b ≤ f → (a : Answer) → a ≡ Refused 18 0 0 → (r : given.CauseReport) → r ≡ untold a
-        → GivesCause (causeOutcome (causeAt img bs w (leavesLabel l))) r
+        → GivesCause (cause_outcome (cause_at img bs w (leaves_label l))) r
     none_told h =
-        let found : found_at b l f ≡ noChoice = no-pick (ltb f (size b)) (row f (rowOn b l f)) noChoice (le-ltb f (size b) h) in
-        tells_none (causeOutcome (causeAt img bs w (leavesLabel l))) 18
-        (ap caused (choice-is ∙ unmoved-none (firstOn b l) (bestRow l w bit 0 img.rows)
-        (sym (ap (moved_by (rowsBefore b l)) found) ∙ by_number)))
+        let found : found_at b l f ≡ no_choice = no-pick (ltb f (size b)) (row f (row_on b l f)) no_choice (le-ltb f (size b) h) in
+        tells_none (cause_outcome (cause_at img bs w (leaves_label l))) 18
+        (ap caused (choice-is ∙ unmoved-none (first_on b l) (best_row l w bit 0 img.rows)
+        (sym (ap (moved_by (rows_before b l)) found) ∙ by_number)))
 
     module _ (h : f < size b) where
-      found-is : found_at b l f ≡ row f (rowOn b l f)
-      found-is = yes-pick (ltb f (size b)) (row f (rowOn b l f)) noChoice (lt-ltb f (size b) h)
+      found-is : found_at b l f ≡ row f (row_on b l f)
+      found-is = yes-pick (ltb f (size b)) (row f (row_on b l f)) no_choice (lt-ltb f (size b) h)
 
       pub numbers : RowNumbers b l w bit f
       numbers =
-          let u = unmoved (rowsBefore b l) (firstOn b l) f (rowOn b l f) (bestRow l w bit 0 img.rows)
-          (sym (ap (moved_by (rowsBefore b l)) found-is) ∙ by_number) in
+          let u = unmoved (rows_before b l) (first_on b l) f (row_on b l f) (best_row l w bit 0 img.rows)
+          (sym (ap (moved_by (rows_before b l)) found-is) ∙ by_number) in
           let starts = x.ordered.starts l x.label.low x.label.high in
-          let own = best-at l w bit (firstOn b l) (rowsOn b l) f (rowOn b l f) (sym g ∙ found-is) in
-          let best = best-is l w bit img.rows u.0 (rowOn b l f) u.1 in
+          let own = best-at l w bit (first_on b l) (rows_on b l) f (row_on b l f) (sym g ∙ found-is) in
+          let best = best-is l w bit img.rows u.0 (row_on b l f) u.1 in
           let number : u.0 ≡ f - rows_from b = omega (arith, u.2) in
           record {
             least = omega (arith, u.2);
             after = omega (arith, own.1);
             below = starts;
             few = omega (arith, best.inside, x.ordered.sound.few);
-            chosen = u.1 ∙ ap (λ (k : ℕ). row k (rowOn b l f)) number;
+            chosen = u.1 ∙ ap (λ (k : ℕ). row k (row_on b l f)) number;
           }
 
-      pub row_told : (first end care others from k : ℕ) → first ≡ firstOn b l → end ≡ endOn b l → care ≡ pair_at b f 2
-          → Deciding b l bit → others ≡ againstFrom b w bit first (end - first) → from ≡ rows_from b → k ≡ f - from
-          → GivesCause (causeOutcome (causeAt img bs w (leavesLabel l)))
+      pub row_told : (first end care others from k : ℕ) → first ≡ first_on b l → end ≡ end_on b l → care ≡ pair_at b f 2
+          → Deciding b l bit → others ≡ mask_against_from b w bit first (end - first) → from ≡ rows_from b → k ≡ f - from
+          → GivesCause (cause_outcome (cause_at img bs w (leaves_label l)))
           (record { answer = Done 0; row = k; mask = bit_or care others; bit = bit })
       row_told first end care others from k p q r y o u v =
-          let same : causeOutcome (causeAt img bs w (leavesLabel l)) ≡ caused (row (f - rows_from b) (rowOn b l f)) =
+          let same : cause_outcome (cause_at img bs w (leaves_label l)) ≡ caused (row (f - rows_from b) (row_on b l f)) =
           ap caused (choice-is ∙ numbers.chosen) in
-          let joined : others ≡ againstAll l w (calledBit img bs l) img.rows =
-          o ∙ ap₂ (λ (m n : ℕ). againstFrom b w bit m (n - m)) p q
+          let joined : others ≡ mask_against_all l w (called_bit img bs l) img.rows =
+          o ∙ ap₂ (λ (m n : ℕ). mask_against_from b w bit m (n - m)) p q
           ∙ frame-conditions b l w bit y x.label.low x.label.high ∙ sym conditions-are in
           subst (λ (t : CauseOutcome). GivesCause t (record { answer = Done 0; row = k; mask = bit_or care others; bit = bit })) (sym same)
           (record { answered = refl; row = v ∙ ap (λ (n : ℕ). f - n) u; mask = ap₂ bit_or r joined; bit = bit-told })
 
 -- ---- on the table: t says whether the state is unfit, and l is the label left, 0 for none
-module _ (b bytes : List ℕ) (w : ℕ) (x : Ordered b) (t : Bool) (e : t ≡ unfit (tableImage b) (state_of bytes)) where
+module _ (b bytes : List ℕ) (w : ℕ) (x : Ordered b) (t : Bool) (e : t ≡ is_unfit (table_image b) (state_of bytes)) where
   abbrev s : State
   s = state_of bytes
 
-  pub unfit-told : t ≡ true → (a : Answer) → a ≡ Refused 15 0 0 → (r : given.CauseReport) → r ≡ untold a → GivesCause (tableCause b s w) r
+  pub unfit-told : t ≡ true → (a : Answer) → a ≡ Refused 15 0 0 → (r : given.CauseReport) → r ≡ untold a → GivesCause (table_cause b s w) r
   unfit-told h =
-      tells_none (tableCause b s w) 15
-      (ap (λ (v : Verdict). causeOn v (λ _. causeOf (tableImage b) s w)) (when-holds 15 (unfit (tableImage b) s) (sym e ∙ h)))
+      tells_none (table_cause b s w) 15
+      (ap (λ (v : Verdict). cause_on v (λ _. cause_of (table_image b) s w)) (when-holds 15 (is_unfit (table_image b) s) (sym e ∙ h)))
 
-  module _ (h : t ≡ false) (l : ℕ) (is : l ≡ leavingNumber (leaving (tableImage b) s)) where
-    fit-told : tableCause b s w ≡ causeOutcome (causeAt (tableImage b) s.bits w (leaving (tableImage b) s))
-    unfolding causeOf
-    fit-told = ap (λ (v : Verdict). causeOn v (λ _. causeOf (tableImage b) s w)) (when-fails 15 (unfit (tableImage b) s) (sym e ∙ h))
+  module _ (h : t ≡ false) (l : ℕ) (is : l ≡ leaving_number (leaving (table_image b) s)) where
+    fit-told : table_cause b s w ≡ cause_outcome (cause_at (table_image b) s.bits w (leaving (table_image b) s))
+    unfolding cause_of
+    fit-told = ap (λ (v : Verdict). cause_on v (λ _. cause_of (table_image b) s w)) (when-fails 15 (is_unfit (table_image b) s) (sym e ∙ h))
 
-    view : Leaves (tableImage b) s
-    view = leaves (tableImage b) x.sound s (unfits (tableImage b) s (held-sized bytes) (sym e ∙ h))
+    view : Leaves (table_image b) s
+    view = leaves (table_image b) x.sound s (unfits (table_image b) s (held-sized bytes) (sym e ∙ h))
 
-    pub rowless-told : l ≡ 0 → (a : Answer) → a ≡ Refused 21 0 0 → (r : given.CauseReport) → r ≡ untold a → GivesCause (tableCause b s w) r
-    rowless-told n = tells_none (tableCause b s w) 21
-        (fit-told ∙ ap (λ (y : Leaving). causeOutcome (causeAt (tableImage b) s.bits w y)) (none_left view))
+    pub rowless-told : l ≡ 0 → (a : Answer) → a ≡ Refused 21 0 0 → (r : given.CauseReport) → r ≡ untold a → GivesCause (table_cause b s w) r
+    rowless-told n = tells_none (table_cause b s w) 21
+        (fit-told ∙ ap (λ (y : Leaving). cause_outcome (cause_at (table_image b) s.bits w y)) (none_left view))
       where
-        none_left : Leaves (tableImage b) s → leaving (tableImage b) s ≡ nothing
-        none_left (by m q o) = absurd (omega (arith, o.low, is ∙ ap leavingNumber q))
+        none_left : Leaves (table_image b) s → leaving (table_image b) s ≡ nothing
+        none_left (by m q o) = absurd (omega (arith, o.low, is ∙ ap leaving_number q))
         none_left (stays q o) = q
 
     module _ (n : l ≡ 0 → ⊥) where
-      one_left : Leaves (tableImage b) s → (leaving (tableImage b) s ≡ leavesLabel l) × OrderedLabel b l
+      one_left : Leaves (table_image b) s → (leaving (table_image b) s ≡ leaves_label l) × OrderedLabel b l
       one_left (by m q o) =
-          let same : m ≡ l = sym (is ∙ ap leavingNumber q) in (
-            q ∙ ap leavesLabel same,
+          let same : m ≡ l = sym (is ∙ ap leaving_number q) in (
+            q ∙ ap leaves_label same,
             record {
               ordered = x;
               label = record { whole = x.whole; low = omega (arith, o.low); high = omega (arith, o.high, labels-count b) };
             },
           )
-      one_left (stays q o) = absurd (n (is ∙ ap leavingNumber q))
+      one_left (stays q o) = absurd (n (is ∙ ap leaving_number q))
 
       pub left-placed : OrderedLabel b l
       left-placed = (one_left view).1
 
-      pub left-told : (r : given.CauseReport) → GivesCause (causeOutcome (causeAt (tableImage b) s.bits w (leavesLabel l))) r
-          → GivesCause (tableCause b s w) r
+      pub left-told : (r : given.CauseReport) → GivesCause (cause_outcome (cause_at (table_image b) s.bits w (leaves_label l))) r
+          → GivesCause (table_cause b s w) r
       left-told r y =
           subst (λ (u : CauseOutcome). GivesCause u r)
-          (sym (fit-told ∙ ap (λ (y : Leaving). causeOutcome (causeAt (tableImage b) s.bits w y)) (one_left view).0)) y
+          (sym (fit-told ∙ ap (λ (y : Leaving). cause_outcome (cause_at (table_image b) s.bits w y)) (one_left view).0)) y

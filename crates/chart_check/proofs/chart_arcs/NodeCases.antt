@@ -12,12 +12,12 @@ use Rattle.words.proofs.lists.Tests.{or_no}
 use Rattle.text.specs.frames.Frame.{size}
 use Rattle.charts.specs.Chart.{Chart, kind, scheme, argument, next0, next1, schemes}
 use Rattle.charts.specs.Layout.{kind_of}
-use Rattle.charts.specs.Check.{badTarget, badArc, badCallAs, badCall}
+use Rattle.charts.specs.Check.{is_bad_target, has_bad_arc, has_bad_call_as, has_bad_call}
 use Rattle.charts.proofs.Nodes.{outside, arcs-end, arcs-one, two-arcs}
 
 -- ---- 6
 pub target-inside : (c : Chart) (v u x a b : ℕ) → u < size c → a ≡ scheme c u → b ≡ scheme c v → a ≡ b → x ≡ kind c u
-    → eqb x 0 ≡ badTarget c v u
+    → eqb x 0 ≡ is_bad_target c v u
 target-inside c v u x a b l p q e k = ap (λ y. eqb y 0) k ∙ sym (rw (lt-leb (size c) u l, eq-eqb (scheme c u) (scheme c v) (sym p ∙ e ∙ q)))
 
 some_one : (p : ℕ → Bool) (x : ℕ) → some p (x ∷ []) ≡ p x
@@ -29,42 +29,42 @@ unfolding some
 some-two p x y = ap (λ b. p x || b) (or_no (p y))
 
 module _ (c : Chart) (v k : ℕ) (ek : k ≡ kind c v) where
-  pub end-arc : k ≡ 1 → false ≡ badArc c v
-  end-arc e = sym (ap (some (badTarget c v)) (arcs-end c v (sym ek ∙ e)) ∙ (unfold some in refl))
+  pub end-arc : k ≡ 1 → false ≡ has_bad_arc c v
+  end-arc e = sym (ap (some (is_bad_target c v)) (arcs-end c v (sym ek ∙ e)) ∙ (unfold some in refl))
 
-  pub single-arc : (k ≡ 1 → ⊥) → (k < 3) ⊎ (5 ≤ k) → badTarget c v (next0 c v) ≡ badArc c v
+  pub single-arc : (k ≡ 1 → ⊥) → (k < 3) ⊎ (5 ≤ k) → is_bad_target c v (next0 c v) ≡ has_bad_arc c v
   single-arc n o =
-      sym (ap (some (badTarget c v)) (arcs-one c v (λ q. n (ek ∙ q)) (λ q. (outside k o).0 (ek ∙ q)) (λ q. (outside k o).1 (ek ∙ q)))
-      ∙ some_one (badTarget c v) (next0 c v))
+      sym (ap (some (is_bad_target c v)) (arcs-one c v (λ q. n (ek ∙ q)) (λ q. (outside k o).0 (ek ∙ q)) (λ q. (outside k o).1 (ek ∙ q)))
+      ∙ some_one (is_bad_target c v) (next0 c v))
 
-  pub double-arc : 3 ≤ k → k < 5 → (badTarget c v (next0 c v) || badTarget c v (next1 c v)) ≡ badArc c v
+  pub double-arc : 3 ≤ k → k < 5 → (is_bad_target c v (next0 c v) || is_bad_target c v (next1 c v)) ≡ has_bad_arc c v
   double-arc a b =
-      sym (ap (some (badTarget c v)) (two-arcs c v (omega arith) (omega arith)) ∙ some-two (badTarget c v) (next0 c v) (next1 c v))
+      sym (ap (some (is_bad_target c v)) (two-arcs c v (omega arith) (omega arith)) ∙ some-two (is_bad_target c v) (next0 c v) (next1 c v))
 
-module _ (c : Chart) (v u : ℕ) (r : Bool) (eu : u ≡ next0 c v) (er : r ≡ badTarget c v u) where
-  pub pair-first : r ≡ true → true ≡ (badTarget c v (next0 c v) || badTarget c v (next1 c v))
-  pair-first t = sym (ap (λ b. b || badTarget c v (next1 c v)) (sym (er ∙ ap (badTarget c v) eu) ∙ t))
+module _ (c : Chart) (v u : ℕ) (r : Bool) (eu : u ≡ next0 c v) (er : r ≡ is_bad_target c v u) where
+  pub pair-first : r ≡ true → true ≡ (is_bad_target c v (next0 c v) || is_bad_target c v (next1 c v))
+  pair-first t = sym (ap (λ b. b || is_bad_target c v (next1 c v)) (sym (er ∙ ap (is_bad_target c v) eu) ∙ t))
 
-  pub pair-second : (w : ℕ) (s : Bool) → r ≡ false → w ≡ next1 c v → s ≡ badTarget c v w
-      → s ≡ (badTarget c v (next0 c v) || badTarget c v (next1 c v))
+  pub pair-second : (w : ℕ) (s : Bool) → r ≡ false → w ≡ next1 c v → s ≡ is_bad_target c v w
+      → s ≡ (is_bad_target c v (next0 c v) || is_bad_target c v (next1 c v))
   pair-second w s t ew es =
-      es ∙ ap (badTarget c v) ew ∙ sym (ap (λ b. b || badTarget c v (next1 c v)) (sym (er ∙ ap (badTarget c v) eu) ∙ t))
+      es ∙ ap (is_bad_target c v) ew ∙ sym (ap (λ b. b || is_bad_target c v (next1 c v)) (sym (er ∙ ap (is_bad_target c v) eu) ∙ t))
 
 -- ---- 7
 module _ (c : Chart) (v k a h : ℕ) (ek : k ≡ kind c v) (ea : a ≡ argument c v) (eh : h ≡ schemes c) where
-  call_by : (b : ℕ) → k ≡ b → badCall c v ≡ badCallAs c v (kind_of b)
-  call_by b e = ap (λ (k : ℕ). badCallAs c v (kind_of k)) (sym ek ∙ e)
+  call_by : (b : ℕ) → k ≡ b → has_bad_call c v ≡ has_bad_call_as c v (kind_of b)
+  call_by b e = ap (λ (k : ℕ). has_bad_call_as c v (kind_of k)) (sym ek ∙ e)
 
-  pub operation-call : k ≡ 2 → badCall c v ≡ (eqb a 1 || ltb h a)
+  pub operation-call : k ≡ 2 → has_bad_call c v ≡ (eqb a 1 || ltb h a)
   operation-call e = call_by 2 e ∙ sym (rw (ea, eh))
 
-  pub function-call : k ≡ 4 → badCall c v ≡ (leb a 1 || ltb h a)
+  pub function-call : k ≡ 4 → has_bad_call c v ≡ (leb a 1 || ltb h a)
   function-call e = call_by 4 e ∙ sym (rw (ea, eh))
 
-  pub no_call : (k ≡ 2 → ⊥) → (k ≡ 4 → ⊥) → false ≡ badCall c v
+  pub no_call : (k ≡ 2 → ⊥) → (k ≡ 4 → ⊥) → false ≡ has_bad_call c v
   no_call x y = sym (go (kind c v) (λ q. x (ek ∙ q)) (λ q. y (ek ∙ q)))
     where
-      go : (j : ℕ) → (j ≡ 2 → ⊥) → (j ≡ 4 → ⊥) → badCallAs c v (kind_of j) ≡ false
+      go : (j : ℕ) → (j ≡ 2 → ⊥) → (j ≡ 4 → ⊥) → has_bad_call_as c v (kind_of j) ≡ false
       go zero m n = refl
       go (suc zero) m n = refl
       go (suc (suc zero)) m n = absurd (m refl)

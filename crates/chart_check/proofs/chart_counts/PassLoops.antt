@@ -9,8 +9,8 @@ use Rattle.words.specs.lists.Numbers.{lowest, highest, any}
 use Rattle.words.proofs.lists.Searches.{Searching, searching-first, searching-found, searching-next, searching-over, highest-next}
 use Rattle.text.specs.frames.Frame.{size}
 use Rattle.charts.specs.Chart.{Chart, scheme}
-use Rattle.charts.specs.Check.{badField, badScheme}
-use Rattle.chart_check.specs.chart_counts.inner.Counts.{countsTo, notOne}
+use Rattle.charts.specs.Check.{has_bad_field, is_bad_scheme}
+use Rattle.chart_check.specs.chart_counts.inner.Counts.{counts_to, is_not_one_of_each}
 use Rattle.chart_check.specs.chart_counts.inner.Found.{CountsFound, FieldsFound}
 use Rattle.chart_check.specs.declared.chart_counts.Counted.{Counted}
 use Rattle.charts.proofs.Nodes.{field-scheme}
@@ -18,12 +18,12 @@ use Rattle.chart_check.proofs.chart_counts.SchemeCounts.{counts_start, counts-lo
 
 -- the nodes below v have good fields and are counted
 pub record CountingNodes (c : Chart) (n v h : ℕ) (bs es : List ℕ) : Type 0 where
-  pub search : Searching (badField c) n v (lowest (badField c) 0 n)
+  pub search : Searching (has_bad_field c) n v (lowest (has_bad_field c) 0 n)
   pub all : n ≡ size c
   pub highest : h ≡ highest (scheme c) 0 v
   pub low : h ≤ 16
-  pub begins : bs ≡ countsTo c 0 v
-  pub ends : es ≡ countsTo c 1 v
+  pub begins : bs ≡ counts_to c 0 v
+  pub ends : es ≡ counts_to c 1 v
 
 pub counting-none : (c : Chart) (n : ℕ) (bs es : List ℕ) → n ≡ size c → bs ≡ replicate 17 0
     → es ≡ replicate 17 0 → CountingNodes c n 0 0 bs es
@@ -44,10 +44,10 @@ module _ (c : Chart) (n v h : ℕ) (bs es : List ℕ) (d : CountingNodes c n v h
   pub ends-long : length es ≡ length (replicate {A = ℕ} 17 0)
   ends-long = counts-long c 1 v es d.ends ∙ sym (length-replicate {A = ℕ} 17 0)
 
-  pub counting-turn : (h' s : ℕ) (bs' es' : List ℕ) → v < n → badField c v ≡ false → s ≡ scheme c v → h' ≡ max h s
-      → bs' ≡ countsTo c 0 (v + 1) → es' ≡ countsTo c 1 (v + 1) → CountingNodes c n (v + 1) h' bs' es'
+  pub counting-turn : (h' s : ℕ) (bs' es' : List ℕ) → v < n → has_bad_field c v ≡ false → s ≡ scheme c v → h' ≡ max h s
+      → bs' ≡ counts_to c 0 (v + 1) → es' ≡ counts_to c 1 (v + 1) → CountingNodes c n (v + 1) h' bs' es'
   counting-turn h' s bs' es' l good is e p q = record {
-    search = searching-next (badField c) n v _ d.search l good;
+    search = searching-next (has_bad_field c) n v _ d.search l good;
     all = d.all;
     highest = omega (arith, highest-next (scheme c) v, d.highest);
     low = omega (arith, d.low, (field-scheme c v good).1);
@@ -55,9 +55,9 @@ module _ (c : Chart) (n v h : ℕ) (bs es : List ℕ) (d : CountingNodes c n v h
     ends = q;
   }
 
-  pub counting-stop : v < n → badField c v ≡ true → CountsFound c (record { field = v; highest = h }) bs es
+  pub counting-stop : v < n → has_bad_field c v ≡ true → CountsFound c (record { field = v; highest = h }) bs es
   counting-stop l bad = record {
-    field = searching-found (badField c) n v _ d.search l bad ∙ ap (lowest (badField c) 0) d.all;
+    field = searching-found (has_bad_field c) n v _ d.search l bad ∙ ap (lowest (has_bad_field c) 0) d.all;
     low = d.low;
     highest = λ m. absurd (omega (arith, d.all));
     begins = λ m. absurd (omega (arith, d.all));
@@ -68,19 +68,20 @@ module _ (c : Chart) (n v h : ℕ) (bs es : List ℕ) (d : CountingNodes c n v h
   counting-all l =
       let e : v ≡ size c = omega (arith, d.all, d.search.inside) in
       record {
-        field = searching-over (badField c) n v _ d.search l ∙ ap (lowest (badField c) 0) d.all;
+        field = searching-over (has_bad_field c) n v _ d.search l ∙ ap (lowest (has_bad_field c) 0) d.all;
         low = d.low;
         highest = λ m. d.highest ∙ ap (highest (scheme c) 0) e;
-        begins = λ m. d.begins ∙ ap (countsTo c 0) e;
-        ends = λ m. d.ends ∙ ap (countsTo c 1) e;
+        begins = λ m. d.begins ∙ ap (counts_to c 0) e;
+        ends = λ m. d.ends ∙ ap (counts_to c 1) e;
       }
 
 -- the schemes by the counts
-pub fields-found : (c : Chart) (r : Counted) (bs es : List ℕ) (t : Bool) → CountsFound c r bs es → t ≡ any (notOne bs es) 1 r.highest
+pub fields-found : (c : Chart) (r : Counted) (bs es : List ℕ) (t : Bool) → CountsFound c r bs es
+    → t ≡ any (is_not_one_of_each bs es) 1 r.highest
     → FieldsFound c (record { field = r.field; scheme = t; highest = r.highest })
 fields-found c r bs es t d e = record {
   field = d.field;
   scheme = λ l. e ∙ bad-counts c bs es r.highest (d.begins l) (d.ends l) (omega (arith, d.low))
-      ∙ ap (any (badScheme c) 1) (d.highest l);
+      ∙ ap (any (is_bad_scheme c) 1) (d.highest l);
   highest = d.highest;
 }

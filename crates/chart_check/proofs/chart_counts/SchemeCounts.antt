@@ -14,16 +14,16 @@ use Rattle.words.proofs.lists.Searches.{any-alike}
 use Rattle.words.proofs.lists.Tabulated.{length-tabulate, get_d_tabulate, tabulate-alike, tabulate-set, tabulate-none}
 use Rattle.text.specs.frames.Frame.{size}
 use Rattle.charts.specs.Chart.{Chart, kind, scheme, is, is_of}
-use Rattle.charts.specs.Check.{badScheme}
-use Rattle.chart_check.specs.chart_counts.inner.Counts.{countsTo, notOne}
+use Rattle.charts.specs.Check.{is_bad_scheme}
+use Rattle.chart_check.specs.chart_counts.inner.Counts.{counts_to, is_not_one_of_each}
 
 -- ---- the counts of the first v nodes
 module _ (c : Chart) (k : ℕ) where
-  pub counts_start : (counts : List ℕ) → counts ≡ replicate 17 0 → counts ≡ countsTo c k 0
+  pub counts_start : (counts : List ℕ) → counts ≡ replicate 17 0 → counts ≡ counts_to c k 0
   unfolding count
   counts_start counts e = e ∙ tabulate-none (λ h. count (is_of c k h) 0 0) 17 (λ u. refl)
 
-  module _ (v : ℕ) (counts : List ℕ) (e : counts ≡ countsTo c k v) where
+  module _ (v : ℕ) (counts : List ℕ) (e : counts ≡ counts_to c k v) where
     pub counts-long : length counts ≡ 17
     counts-long = ap (λ (xs : List ℕ). length xs) e ∙ length-tabulate (λ h. count (is_of c k h) 0 v) 17
 
@@ -34,13 +34,13 @@ module _ (c : Chart) (k : ℕ) where
     counts-low h l = omega (arith, counts-at h l, count-le (is_of c k h) 0 v)
 
     -- a node of another kind
-    pub counts-pass : (x : ℕ) → x ≡ kind c v → (x ≡ k → ⊥) → counts ≡ countsTo c k (v + 1)
+    pub counts-pass : (x : ℕ) → x ≡ kind c v → (x ≡ k → ⊥) → counts ≡ counts_to c k (v + 1)
     counts-pass x p n = e ∙ tabulate-alike (λ h. count (is_of c k h) 0 v) (λ h. count (is_of c k h) 0 (v + 1)) 17
         (λ h l. sym (count-pass (is_of c k h) v (ap (λ b. b && eqb (scheme c v) h) (ne_eqb (kind c v) k (λ q. n (p ∙ q))))))
 
     -- one of this kind counts for its scheme alone
     pub counts-more : (x h : ℕ) → x ≡ kind c v → x ≡ k → h ≡ scheme c v → h < 17
-        → set counts h (get_or counts h 0 + 1) ≡ countsTo c k (v + 1)
+        → set counts h (get_or counts h 0 + 1) ≡ counts_to c k (v + 1)
     counts-more x h p q s l =
         ap (λ (xs : List ℕ). set xs h (get_or counts h 0 + 1)) e
         ∙ tabulate-set (λ h. count (is_of c k h) 0 v) (λ h. count (is_of c k h) 0 (v + 1)) 17 h (get_or counts h 0 + 1) l
@@ -51,17 +51,17 @@ module _ (c : Chart) (k : ℕ) where
 
 -- ---- a scheme by its counts
 module _ (begins ends : List ℕ) (h : ℕ) where
-  pub one_each : get_or begins h 0 ≡ 1 → get_or ends h 0 ≡ 1 → notOne begins ends h ≡ false
+  pub one_each : get_or begins h 0 ≡ 1 → get_or ends h 0 ≡ 1 → is_not_one_of_each begins ends h ≡ false
   one_each p q = rw (p, q)
 
-  pub not-begin : (get_or begins h 0 ≡ 1 → ⊥) → notOne begins ends h ≡ true
+  pub not-begin : (get_or begins h 0 ≡ 1 → ⊥) → is_not_one_of_each begins ends h ≡ true
   not-begin n = rw (ne_eqb (get_or begins h 0) 1 n)
 
-  pub not_end : get_or begins h 0 ≡ 1 → (get_or ends h 0 ≡ 1 → ⊥) → notOne begins ends h ≡ true
+  pub not_end : get_or begins h 0 ≡ 1 → (get_or ends h 0 ≡ 1 → ⊥) → is_not_one_of_each begins ends h ≡ true
   not_end p n = rw (p, ne_eqb (get_or ends h 0) 1 n)
 
-pub bad-counts : (c : Chart) (begins ends : List ℕ) (n : ℕ) → begins ≡ countsTo c 0 (size c) → ends ≡ countsTo c 1 (size c) → n < 17
-    → any (notOne begins ends) 1 n ≡ any (badScheme c) 1 n
+pub bad-counts : (c : Chart) (begins ends : List ℕ) (n : ℕ) → begins ≡ counts_to c 0 (size c) → ends ≡ counts_to c 1 (size c) → n < 17
+    → any (is_not_one_of_each begins ends) 1 n ≡ any (is_bad_scheme c) 1 n
 bad-counts c begins ends n e f l =
-    any-alike (notOne begins ends) (badScheme c) 1 n
+    any-alike (is_not_one_of_each begins ends) (is_bad_scheme c) 1 n
     (λ h a b. rw (counts-at c 0 (size c) begins e h (omega arith), counts-at c 1 (size c) ends f h (omega arith)))

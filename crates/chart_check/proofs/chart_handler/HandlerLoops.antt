@@ -12,84 +12,84 @@ use Rattle.words.proofs.lists.Tests.{or-true-l, or_true_r, or-none, yes-pick, no
 use Rattle.words.proofs.lists.Searches.{any_here, any-on, any-over, highest-next}
 use Rattle.words.proofs.lists.Counts.{count_yes, count-pass, count-below}
 use Rattle.text.specs.frames.Frame.{size}
-use Rattle.charts.specs.Chart.{Chart, scheme, marksHandler, handlerAt}
-use Rattle.charts.specs.Check.{badMarks}
+use Rattle.charts.specs.Chart.{Chart, scheme, is_handler_mark, handler_at}
+use Rattle.charts.specs.Check.{has_bad_marks}
 
 -- ---- the scheme: one node more, with a mark or without
-module _ (c : Chart) (v h : ℕ) (e : h ≡ highest (handlerAt c) 0 v) where
-  pub handler-mark : (s h' : ℕ) → marksHandler c v ≡ true → s ≡ scheme c v → h' ≡ max h s → h' ≡ highest (handlerAt c) 0 (v + 1)
-  handler-mark s h' t is m = omega (arith, highest-next (handlerAt c) v, yes-pick (marksHandler c v) (scheme c v) 0 t)
+module _ (c : Chart) (v h : ℕ) (e : h ≡ highest (handler_at c) 0 v) where
+  pub handler-mark : (s h' : ℕ) → is_handler_mark c v ≡ true → s ≡ scheme c v → h' ≡ max h s → h' ≡ highest (handler_at c) 0 (v + 1)
+  handler-mark s h' t is m = omega (arith, highest-next (handler_at c) v, yes-pick (is_handler_mark c v) (scheme c v) 0 t)
 
-  pub handler-pass : marksHandler c v ≡ false → h ≡ highest (handlerAt c) 0 (v + 1)
-  handler-pass t = omega (arith, highest-next (handlerAt c) v, no-pick (marksHandler c v) (scheme c v) 0 t)
+  pub handler-pass : is_handler_mark c v ≡ false → h ≡ highest (handler_at c) 0 (v + 1)
+  handler-pass t = omega (arith, highest-next (handler_at c) v, no-pick (is_handler_mark c v) (scheme c v) 0 t)
 
 -- ---- 19
-abbrev marksFirst : Chart → ℕ → Bool
-marksFirst c v = eqb (handlerAt c v) 1
+abbrev is_mark_on_first : Chart → ℕ → Bool
+is_mark_on_first c v = eqb (handler_at c v) 1
 
 -- none of the nodes below v marks scheme 1, and one of them or none has a mark
 pub record Marking (c : Chart) (n v : ℕ) (marked : Bool) : Type 0 where
   pub inside : v ≤ n
   pub all : n ≡ size c
-  pub left : any (marksFirst c) v (n - v) ≡ any (marksFirst c) 0 n
-  pub one : count (marksHandler c) 0 v ≡ pick marked 1 0
+  pub left : any (is_mark_on_first c) v (n - v) ≡ any (is_mark_on_first c) 0 n
+  pub one : count (is_handler_mark c) 0 v ≡ pick marked 1 0
 
 pub marking-none : (c : Chart) (n : ℕ) → n ≡ size c → Marking c n 0 false
 unfolding count
 marking-none c n e = record {
   inside = omega arith;
   all = e;
-  left = ap (any (marksFirst c) 0) (sub-zero n);
+  left = ap (any (is_mark_on_first c) 0) (sub-zero n);
   one = refl;
 }
 
 module _ (c : Chart) (n v : ℕ) (marked : Bool) (d : Marking c n v marked) where
   abbrev firsts : Bool
-  firsts = any (marksFirst c) 0 (size c)
+  firsts = any (is_mark_on_first c) 0 (size c)
 
   abbrev marks : ℕ
-  marks = count (marksHandler c) 0 (size c)
+  marks = count (is_handler_mark c) 0 (size c)
 
-  left-all : any (marksFirst c) v (n - v) ≡ firsts
-  left-all = d.left ∙ ap (any (marksFirst c) 0) d.all
+  left-all : any (is_mark_on_first c) v (n - v) ≡ firsts
+  left-all = d.left ∙ ap (any (is_mark_on_first c) 0) d.all
 
-  pub marking-all : n ≤ v → false ≡ badMarks c
+  pub marking-all : n ≤ v → false ≡ has_bad_marks c
   marking-all l =
-      let most : count (marksHandler c) 0 v ≤ 1 = omega (arith, d.one, low marked) in
-      let e : count (marksHandler c) 0 v ≡ marks = ap (count (marksHandler c) 0) (omega (arith, d.inside, d.all)) in
-      sym (or-none firsts (ltb 1 marks) (sym left-all ∙ any-over (marksFirst c) n v l) (le-ltb 1 marks (omega arith)))
+      let most : count (is_handler_mark c) 0 v ≤ 1 = omega (arith, d.one, low marked) in
+      let e : count (is_handler_mark c) 0 v ≡ marks = ap (count (is_handler_mark c) 0) (omega (arith, d.inside, d.all)) in
+      sym (or-none firsts (ltb 1 marks) (sym left-all ∙ any-over (is_mark_on_first c) n v l) (le-ltb 1 marks (omega arith)))
     where
       low : (b : Bool) → pick {A = ℕ} b 1 0 ≤ 1
       low true = omega arith
       low false = omega arith
 
   module _ (l : v < n) where
-    pub marking-pass : marksHandler c v ≡ false → Marking c n (v + 1) marked
+    pub marking-pass : is_handler_mark c v ≡ false → Marking c n (v + 1) marked
     marking-pass t = record {
       inside = omega arith;
       all = d.all;
-      left = sym (any-on (marksFirst c) n v l (ap (λ x. eqb x 1) (no-pick (marksHandler c v) (scheme c v) 0 t))) ∙ d.left;
-      one = count-pass (marksHandler c) v t ∙ d.one;
+      left = sym (any-on (is_mark_on_first c) n v l (ap (λ x. eqb x 1) (no-pick (is_handler_mark c v) (scheme c v) 0 t))) ∙ d.left;
+      one = count-pass (is_handler_mark c) v t ∙ d.one;
     }
 
-    module _ (t : marksHandler c v ≡ true) where
-      marked-scheme : handlerAt c v ≡ scheme c v
-      marked-scheme = yes-pick (marksHandler c v) (scheme c v) 0 t
+    module _ (t : is_handler_mark c v ≡ true) where
+      marked-scheme : handler_at c v ≡ scheme c v
+      marked-scheme = yes-pick (is_handler_mark c v) (scheme c v) 0 t
 
-      pub marking-second : marked ≡ true → true ≡ badMarks c
+      pub marking-second : marked ≡ true → true ≡ has_bad_marks c
       marking-second m =
-          let more : count (marksHandler c) 0 v < marks = count-below (marksHandler c) v (size c) (omega (arith, d.all)) t in
+          let more : count (is_handler_mark c) 0 v < marks = count-below (is_handler_mark c) v (size c) (omega (arith, d.all)) t in
           sym (or_true_r firsts (ltb 1 marks) (lt-ltb 1 marks (omega (arith, d.one, yes-pick {A = ℕ} marked 1 0 m))))
 
-      pub marking-first : (s : ℕ) → s ≡ scheme c v → s ≡ 1 → true ≡ badMarks c
+      pub marking-first : (s : ℕ) → s ≡ scheme c v → s ≡ 1 → true ≡ has_bad_marks c
       marking-first s is e =
           sym (or-true-l firsts (ltb 1 marks)
-          (sym left-all ∙ any_here (marksFirst c) n v l (eq-eqb (handlerAt c v) 1 (marked-scheme ∙ sym is ∙ e))))
+          (sym left-all ∙ any_here (is_mark_on_first c) n v l (eq-eqb (handler_at c v) 1 (marked-scheme ∙ sym is ∙ e))))
 
       pub marking-mark : (s : ℕ) → s ≡ scheme c v → marked ≡ false → (s ≡ 1 → ⊥) → Marking c n (v + 1) true
       marking-mark s is m o = record {
         inside = omega arith;
         all = d.all;
-        left = sym (any-on (marksFirst c) n v l (ne_eqb (handlerAt c v) 1 (λ q. o (is ∙ sym marked-scheme ∙ q)))) ∙ d.left;
-        one = count_yes (marksHandler c) v t ∙ omega (arith, d.one, no-pick {A = ℕ} marked 1 0 m);
+        left = sym (any-on (is_mark_on_first c) n v l (ne_eqb (handler_at c v) 1 (λ q. o (is ∙ sym marked-scheme ∙ q)))) ∙ d.left;
+        one = count_yes (is_handler_mark c) v t ∙ omega (arith, d.one, no-pick {A = ℕ} marked 1 0 m);
       }

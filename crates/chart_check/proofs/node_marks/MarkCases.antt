@@ -17,50 +17,50 @@ use Rattle.words.specs.lists.Numbers.{range, lowest}
 use Rattle.words.proofs.lists.Tests.{no_both}
 use Rattle.words.proofs.lists.Searches.{lowest-none}
 use Rattle.words.proofs.lists.Ranges.{length-map-range, map-range-snoc}
-use Rattle.words.specs.graph.Reach.{marked, only, reach, joinedFrom}
-use Rattle.words.specs.graph.inner.Listed.{many, Listing, listing, enlistAll, Listed}
+use Rattle.words.specs.graph.Reach.{is_marked, only_marks, reach, nodes_joined_from}
+use Rattle.words.specs.graph.inner.Listed.{many, Listing, listing, enlist_all, Listed}
 use Rattle.words.proofs.graph.Marking.{full-marked, Joining}
 use Rattle.words.proofs.graph.Lists.{listed-none, list-few, Followed}
 use Rattle.words.proofs.graph.Enlisted.{Enlisted, enlisted-all}
 use Rattle.text.specs.frames.Frame.{size}
 use Rattle.charts.specs.Chart.{Chart, kind, next0, next1, is}
-use Rattle.charts.specs.Check.{arcs, conditionArcs, onCircle}
-use Rattle.charts.specs.inner.Marks.{arcsBy, kindMarks}
+use Rattle.charts.specs.Check.{arcs, condition_arcs, is_on_circle}
+use Rattle.charts.specs.inner.Marks.{arcs_by, kind_marks}
 use Rattle.charts.proofs.Nodes.{outside, arcs-end, arcs-one, arcs-condition, arcs-function, two-arcs}
 use Rattle.charts.proofs.Meaning.{condition-arcs, no-condition-arcs}
-use Rattle.chart_check.specs.node_marks.inner.MarkContracts.{sweptTo, Blank, ListedRoom}
+use Rattle.chart_check.specs.node_marks.inner.MarkContracts.{marks_swept_to, Blank, ListedRoom}
 use Rattle.chart_check.proofs.node_marks.Sweeps.{swept_same}
 
 -- ---- arcs
 module _ (c : Chart) (b : Bool) (v : ℕ) where
-  by-none : b ≡ true → (kind c v ≡ 3 → ⊥) → arcsBy c b v ≡ []
-  by-none t n = ap (λ b. pick b (conditionArcs c v) (arcs c v)) t ∙ no-condition-arcs c v (ne_eqb (kind c v) 3 n)
+  by-none : b ≡ true → (kind c v ≡ 3 → ⊥) → arcs_by c b v ≡ []
+  by-none t n = ap (λ b. pick b (condition_arcs c v) (arcs c v)) t ∙ no-condition-arcs c v (ne_eqb (kind c v) 3 n)
 
-  by_all : (b ≡ true → kind c v ≡ 3) → arcsBy c b v ≡ arcs c v
+  by_all : (b ≡ true → kind c v ≡ 3) → arcs_by c b v ≡ arcs c v
   by_all h = go b refl
     where
-      go : (x : Bool) → b ≡ x → arcsBy c b v ≡ arcs c v
-      go true t = ap (λ b. pick b (conditionArcs c v) (arcs c v)) t ∙ condition-arcs c v (eq-eqb (kind c v) 3 (h t))
-      go false t = ap (λ b. pick b (conditionArcs c v) (arcs c v)) t
+      go : (x : Bool) → b ≡ x → arcs_by c b v ≡ arcs c v
+      go true t = ap (λ b. pick b (condition_arcs c v) (arcs c v)) t ∙ condition-arcs c v (eq-eqb (kind c v) 3 (h t))
+      go false t = ap (λ b. pick b (condition_arcs c v) (arcs c v)) t
 
   module _ (k : ℕ) (e : k ≡ kind c v) where
-    long : (us : List ℕ) → arcsBy c b v ≡ us → length us ≡ length (arcsBy c b v)
+    long : (us : List ℕ) → arcs_by c b v ≡ us → length us ≡ length (arcs_by c b v)
     long us q = sym (ap (λ (xs : List ℕ). length xs) q)
 
-    pub count_none : b ≡ true → (k ≡ 3 → ⊥) → 0 ≡ length (arcsBy c b v)
+    pub count_none : b ≡ true → (k ≡ 3 → ⊥) → 0 ≡ length (arcs_by c b v)
     count_none t n = long [] (by-none t (λ q. n (e ∙ q)))
 
     module _ (h : b ≡ true → k ≡ 3) where
-      all : arcsBy c b v ≡ arcs c v
+      all : arcs_by c b v ≡ arcs c v
       all = by_all (λ t. sym e ∙ h t)
 
-      pub count-end : k ≡ 1 → 0 ≡ length (arcsBy c b v)
+      pub count-end : k ≡ 1 → 0 ≡ length (arcs_by c b v)
       count-end q = long [] (all ∙ arcs-end c v (sym e ∙ q))
 
-      pub count-two : 3 ≤ k → k < 5 → 2 ≡ length (arcsBy c b v)
+      pub count-two : 3 ≤ k → k < 5 → 2 ≡ length (arcs_by c b v)
       count-two l m = long (next0 c v ∷ next1 c v ∷ []) (all ∙ two-arcs c v (omega arith) (omega arith))
 
-      pub count-one : (k ≡ 1 → ⊥) → (k < 3) ⊎ (5 ≤ k) → 1 ≡ length (arcsBy c b v)
+      pub count-one : (k ≡ 1 → ⊥) → (k < 3) ⊎ (5 ≤ k) → 1 ≡ length (arcs_by c b v)
       count-one n o = long (next0 c v ∷ [])
           (all ∙ arcs-one c v (λ q. n (e ∙ q)) (λ q. (outside k o).0 (e ∙ q)) (λ q. (outside k o).1 (e ∙ q)))
 
@@ -68,10 +68,10 @@ module _ (c : Chart) (b : Bool) (v : ℕ) where
 abbrev Shape : Chart → ℕ → List ℕ → Type 0
 Shape c v us = (us ≡ []) ⊎ ((us ≡ next0 c v ∷ []) ⊎ (us ≡ next0 c v ∷ next1 c v ∷ []))
 
-shape : (c : Chart) (b : Bool) (v : ℕ) → Shape c v (arcsBy c b v)
+shape : (c : Chart) (b : Bool) (v : ℕ) → Shape c v (arcs_by c b v)
 shape c b v = go b refl (ℕ_discrete (kind c v) 1) (ℕ_discrete (kind c v) 3) (ℕ_discrete (kind c v) 4)
   where
-    go : (x : Bool) → b ≡ x → Dec (kind c v ≡ 1) → Dec (kind c v ≡ 3) → Dec (kind c v ≡ 4) → Shape c v (arcsBy c b v)
+    go : (x : Bool) → b ≡ x → Dec (kind c v ≡ 1) → Dec (kind c v ≡ 3) → Dec (kind c v ≡ 4) → Shape c v (arcs_by c b v)
     go x t p (yes q) r = inr (inr (by_all c b v (λ z. q) ∙ arcs-condition c v q))
     go true t p (no q) r = inl (by-none c b v t q)
     go false t (yes p) (no q) r = inl (by_all c b v (λ z. no_both b z t) ∙ arcs-end c v p)
@@ -79,47 +79,47 @@ shape c b v = go b refl (ℕ_discrete (kind c v) 1) (ℕ_discrete (kind c v) 3) 
     go false t (no p) (no q) (no r) = inr (inl (by_all c b v (λ z. no_both b z t) ∙ arcs-one c v p q r))
 
 -- the arcs by their number
-module _ (c : Chart) (b : Bool) (v n : ℕ) (e : n ≡ length (arcsBy c b v)) where
-  as_long : (us : List ℕ) → arcsBy c b v ≡ us → n ≡ length us
+module _ (c : Chart) (b : Bool) (v n : ℕ) (e : n ≡ length (arcs_by c b v)) where
+  as_long : (us : List ℕ) → arcs_by c b v ≡ us → n ≡ length us
   as_long us q = e ∙ ap (λ (xs : List ℕ). length xs) q
 
-  no-arc : n ≡ 0 → arcsBy c b v ≡ []
+  no-arc : n ≡ 0 → arcs_by c b v ≡ []
   no-arc z = go (shape c b v)
     where
-      go : Shape c v (arcsBy c b v) → arcsBy c b v ≡ []
+      go : Shape c v (arcs_by c b v) → arcs_by c b v ≡ []
       go (inl q) = q
       go (inr (inl q)) = absurd (omega (arith, as_long (next0 c v ∷ []) q))
       go (inr (inr q)) = absurd (omega (arith, as_long (next0 c v ∷ next1 c v ∷ []) q))
 
-  one-arc : n ≡ 1 → arcsBy c b v ≡ next0 c v ∷ []
+  one-arc : n ≡ 1 → arcs_by c b v ≡ next0 c v ∷ []
   one-arc z = go (shape c b v)
     where
-      go : Shape c v (arcsBy c b v) → arcsBy c b v ≡ next0 c v ∷ []
+      go : Shape c v (arcs_by c b v) → arcs_by c b v ≡ next0 c v ∷ []
       go (inl q) = absurd (omega (arith, as_long [] q))
       go (inr (inl q)) = q
       go (inr (inr q)) = absurd (omega (arith, as_long (next0 c v ∷ next1 c v ∷ []) q))
 
-  both-arcs : (n ≡ 0 → ⊥) → (n ≡ 1 → ⊥) → arcsBy c b v ≡ next0 c v ∷ next1 c v ∷ []
+  both-arcs : (n ≡ 0 → ⊥) → (n ≡ 1 → ⊥) → arcs_by c b v ≡ next0 c v ∷ next1 c v ∷ []
   both-arcs some more = go (shape c b v)
     where
-      go : Shape c v (arcsBy c b v) → arcsBy c b v ≡ next0 c v ∷ next1 c v ∷ []
+      go : Shape c v (arcs_by c b v) → arcs_by c b v ≡ next0 c v ∷ next1 c v ∷ []
       go (inl q) = absurd (some (as_long [] q))
       go (inr (inl q)) = absurd (more (as_long (next0 c v ∷ []) q))
       go (inr (inr q)) = q
 
   -- a step for each node that they lead to, as it is marked or enlisted
   module _ {S : Type 0} (all : List ℕ → S) where
-    pub steps-none : n ≡ 0 → all [] ≡ all (arcsBy c b v)
+    pub steps-none : n ≡ 0 → all [] ≡ all (arcs_by c b v)
     steps-none z = sym (ap all (no-arc z))
 
     module _ (step : S → ℕ → S) (u : ℕ) (one : S) (eu : u ≡ next0 c v) (eo : one ≡ step (all []) u) where
-      pub steps-one : all (u ∷ []) ≡ step (all []) u → n ≡ 1 → one ≡ all (arcsBy c b v)
-      steps-one q z = let p : all (arcsBy c b v) ≡ all (next0 c v ∷ []) = ap all (one-arc z) in cc
+      pub steps-one : all (u ∷ []) ≡ step (all []) u → n ≡ 1 → one ≡ all (arcs_by c b v)
+      steps-one q z = let p : all (arcs_by c b v) ≡ all (next0 c v ∷ []) = ap all (one-arc z) in cc
 
       pub steps-both : (n ≡ 0 → ⊥) → (n ≡ 1 → ⊥) → (w : ℕ) (two : S) → w ≡ next1 c v → two ≡ step one w
-          → all (u ∷ w ∷ []) ≡ step (step (all []) u) w → two ≡ all (arcsBy c b v)
+          → all (u ∷ w ∷ []) ≡ step (step (all []) u) w → two ≡ all (arcs_by c b v)
       steps-both some more w two ew et q =
-          let p : all (arcsBy c b v) ≡ all (next0 c v ∷ next1 c v ∷ []) = ap all (both-arcs some more) in cc
+          let p : all (arcs_by c b v) ≡ all (next0 c v ∷ next1 c v ∷ []) = ap all (both-arcs some more) in cc
 
 -- ---- the marks of a kind, written one after the other over old marks
 module _ (c : Chart) (k : ℕ) (old : List Bool) where
@@ -138,45 +138,48 @@ module _ (c : Chart) (k : ℕ) (old : List Bool) where
       ∙ ap (λ (j : ℕ). map (is c k) (range 0 j) ++ drop j old) (sym (add-one v))
 
   pub kinds-done : (v : ℕ) (ms : List Bool) → v ≡ size c → length old ≡ size c → ms ≡ map (is c k) (range 0 v) ++ drop v old
-      → ms ≡ kindMarks c k
+      → ms ≡ kind_marks c k
   kinds-done v ms q l e =
       e ∙ ap (λ (xs : List Bool). front v ++ xs) (drop_of_length-le old {i = v} (omega arith))
       ∙ append-nil (front v) ∙ ap (λ (j : ℕ). front j) q
 
 -- ---- a condition on a circle
-pub no-circle : (c : Chart) (v : ℕ) → is c 3 v ≡ false → onCircle c v ≡ false
+pub no-circle : (c : Chart) (v : ℕ) → is c 3 v ≡ false → is_on_circle c v ≡ false
 no-circle c v i = rw i
 
 module _ (c : Chart) (v x : ℕ) (p : x ≡ kind c v) where
-  pub circle-other : (x ≡ 3 → ⊥) → false ≡ onCircle c v
+  pub circle-other : (x ≡ 3 → ⊥) → false ≡ is_on_circle c v
   circle-other n = sym (no-circle c v (ne_eqb (kind c v) 3 (λ q. n (p ∙ q))))
 
-  pub circle-back : x ≡ 3 → (ms : List Bool) (r : Bool) → ms ≡ joinedFrom (size c) (conditionArcs c) (arcs c v)
-      → r ≡ marked ms v → r ≡ onCircle c v
+  pub circle-back : x ≡ 3 → (ms : List Bool) (r : Bool) → ms ≡ nodes_joined_from (size c) (condition_arcs c) (arcs c v)
+      → r ≡ is_marked ms v → r ≡ is_on_circle c v
   circle-back q ms r e t =
-      t ∙ ap (λ (xs : List Bool). marked xs v) e
-      ∙ sym (ap (λ b. b && marked (joinedFrom (size c) (conditionArcs c) (arcs c v)) v) (eq-eqb (kind c v) 3 (sym p ∙ q)))
+      t ∙ ap (λ (xs : List Bool). is_marked xs v) e
+      ∙ sym (ap (λ b. b && is_marked (nodes_joined_from (size c) (condition_arcs c) (arcs c v)) v) (eq-eqb (kind c v) 3 (sym p ∙ q)))
 
 -- the marks of the next nodes of v, spread: those of the definition
-pub spread-back : (c : Chart) (v : ℕ) (first joined : List Bool) → first ≡ only (size c) (arcs c v)
-    → joined ≡ reach (size c) (conditionArcs c) (size c) first → joined ≡ joinedFrom (size c) (conditionArcs c) (arcs c v)
-spread-back c v first joined marks spread = spread ∙ ap (λ (xs : List Bool). reach (size c) (conditionArcs c) (size c) xs) marks
+pub spread-back : (c : Chart) (v : ℕ) (first joined : List Bool) → first ≡ only_marks (size c) (arcs c v)
+    → joined ≡ reach (size c) (condition_arcs c) (size c) first → joined ≡ nodes_joined_from (size c) (condition_arcs c) (arcs c v)
+spread-back c v first joined marks spread = spread ∙ ap (λ (xs : List Bool). reach (size c) (condition_arcs c) (size c) xs) marks
 
 -- ---- the marks of all Begins, spread by a sweep and then all the way, and the lowest node without one
-pub spread-apart : (c : Chart) (begins swept joined : List Bool) (r : ℕ) → begins ≡ kindMarks c 0 → swept ≡ sweptTo c (size c) begins
-    → joined ≡ reach (size c) (arcs c) (size c) swept → length joined ≡ size c → r ≡ lowest (λ v. not (marked joined v)) 0 (length joined)
-    → (joined ≡ reach (size c) (arcs c) (size c) (kindMarks c 0)) × (r ≡ lowest (λ v. not (marked joined v)) 0 (size c))
+pub spread-apart : (c : Chart) (begins swept joined : List Bool) (r : ℕ) → begins ≡ kind_marks c 0
+    → swept ≡ marks_swept_to c (size c) begins
+    → joined ≡ reach (size c) (arcs c) (size c) swept → length joined ≡ size c
+    → r ≡ lowest (λ v. not (is_marked joined v)) 0 (length joined)
+    → (joined ≡ reach (size c) (arcs c) (size c) (kind_marks c 0)) × (r ≡ lowest (λ v. not (is_marked joined v)) 0 (size c))
 spread-apart c begins swept joined r first sweep spread long found = (
   spread
       ∙ swept_same c begins swept (ap (λ (xs : List Bool). length xs) first ∙ length-map-range (is c 0) 0 (size c)) sweep
       ∙ ap (λ (xs : List Bool). reach (size c) (arcs c) (size c) xs) first,
-  found ∙ ap (λ (k : ℕ). lowest (λ v. not (marked joined v)) 0 k) long,
+  found ∙ ap (λ (k : ℕ). lowest (λ v. not (is_marked joined v)) 0 k) long,
 )
 
 -- where as many are marked as there are, there is none without
-pub all-marked : (ms : List Bool) → many ms ≡ length ms → length ms ≡ lowest (λ v. not (marked ms v)) 0 (length ms)
+pub all-marked : (ms : List Bool) → many ms ≡ length ms → length ms ≡ lowest (λ v. not (is_marked ms v)) 0 (length ms)
 all-marked ms e =
-    sym (lowest-none (λ v. not (marked ms v)) 0 (length ms) (λ k h. ap not (full-marked ms e (0 + k) (omega arith))) ∙ zero-add (length ms))
+    sym (lowest-none (λ v. not (is_marked ms v)) 0 (length ms) (λ k h. ap not (full-marked ms e (0 + k) (omega arith)))
+    ∙ zero-add (length ms))
 
 -- ---- marks that a table of 256 lends
 pub part_of : {A : Type 0} (m n : ℕ) (a : A) → n ≤ m → take n (replicate m a) ≡ replicate n a
@@ -202,16 +205,16 @@ module _ (c : Chart) (marks : List Bool) (list : List ℕ) (blank : Blank c mark
 
 -- ---- nodes enlisted in what is lent
 pub lent-enlisted : (c : Chart) (marks : List Bool) (list : List ℕ) (k : ℕ) → ListedRoom c marks list k → (us : List ℕ) (t : Listing)
-    → t ≡ enlistAll (listing marks list k) us → Enlisted (listing marks list k) us t
+    → t ≡ enlist_all (listing marks list k) us → Enlisted (listing marks list k) us t
 lent-enlisted c marks list k lent us t e = enlisted-all us (listing marks list k) t (omega (arith, lent.long, lent.room)) lent.listed e
 
 -- ---- a turn of `join`'s loop: the first i of the list are followed
 pub record Turn (c : Chart) (b : Bool) (marks₀ : List Bool) (list₀ : List ℕ) (marks : List Bool) (list : List ℕ) (end i : ℕ) : Type 0 where
   pub inside : i ≤ end
   pub same : length list ≡ length list₀
-  pub joining : Joining (size c) (arcsBy c b) marks₀ marks
+  pub joining : Joining (size c) (arcs_by c b) marks₀ marks
   pub listed : Listed marks list end
-  pub followed : Followed (size c) (arcsBy c b) marks list i
+  pub followed : Followed (size c) (arcs_by c b) marks list i
 
 module _ (c : Chart) (b : Bool) (marks₀ : List Bool) (list₀ : List ℕ) (marks : List Bool) (list : List ℕ) (end i : ℕ) where
   pub turn-few : Turn c b marks₀ list₀ marks list end i → end ≤ size c

@@ -9,55 +9,55 @@ use native.Mathlib.Omega.{arith}
 use lib.ListN.{length}
 use Rattle.words.specs.lists.Pick.{pick}
 use Rattle.words.proofs.lists.Tests.{cases, yes-pick, no-pick}
-use Rattle.words.specs.graph.Reach.{marked, reach}
-use Rattle.words.specs.graph.inner.Listed.{markAll}
+use Rattle.words.specs.graph.Reach.{is_marked, reach}
+use Rattle.words.specs.graph.inner.Listed.{mark_all}
 use Rattle.words.proofs.graph.Lists.{joining-more}
 use Rattle.words.proofs.graph.Marking.{Joining, joining-first, joining-same}
 use Rattle.text.specs.frames.Frame.{size}
 use Rattle.charts.specs.Chart.{Chart}
 use Rattle.charts.specs.Check.{arcs}
-use Rattle.chart_check.specs.node_marks.inner.MarkContracts.{sweptTo}
+use Rattle.chart_check.specs.node_marks.inner.MarkContracts.{marks_swept_to}
 
 -- one node more, followed where it is marked
 swept-more : (c : Chart) (first now out : List Bool) (v : ℕ) → length first ≡ size c → Joining (size c) (arcs c) first now
-    → out ≡ pick (marked now v) (markAll (arcs c v) now) now → Joining (size c) (arcs c) first out
-swept-more c first now out v long on e = go (cases (marked now v))
+    → out ≡ pick (is_marked now v) (mark_all (arcs c v) now) now → Joining (size c) (arcs c) first out
+swept-more c first now out v long on e = go (cases (is_marked now v))
   where
-    go : (marked now v ≡ true) ⊎ (marked now v ≡ false) → Joining (size c) (arcs c) first out
-    go (inl m) = joining-more (size c) (arcs c) first now out v long m (e ∙ yes-pick (marked now v) _ _ m) on
-    go (inr m) = subst (λ (xs : List Bool). Joining (size c) (arcs c) first xs) (sym (e ∙ no-pick (marked now v) _ _ m)) on
+    go : (is_marked now v ≡ true) ⊎ (is_marked now v ≡ false) → Joining (size c) (arcs c) first out
+    go (inl m) = joining-more (size c) (arcs c) first now out v long m (e ∙ yes-pick (is_marked now v) _ _ m) on
+    go (inr m) = subst (λ (xs : List Bool). Joining (size c) (arcs c) first xs) (sym (e ∙ no-pick (is_marked now v) _ _ m)) on
 
 -- ---- the loop: nodes 0 to v - 1 had their turn
 pub record Sweeping (c : Chart) (first now : List Bool) (v : ℕ) : Type 0 where
   pub low : v ≤ size c
   pub long : length now ≡ length first
-  pub is : now ≡ sweptTo c v first
+  pub is : now ≡ marks_swept_to c v first
 
 module _ (c : Chart) (first : List Bool) where
   pub sweeping-none : Sweeping c first first 0
-  unfolding sweptTo
+  unfolding marks_swept_to
   sweeping-none = record { low = omega arith; long = refl; is = refl }
 
   pub sweeping-turn : (now out : List Bool) (v : ℕ) → Sweeping c first now v → v < size c → length out ≡ length now
-      → out ≡ pick (marked now v) (markAll (arcs c v) now) now → Sweeping c first out (v + 1)
-  unfolding sweptTo
+      → out ≡ pick (is_marked now v) (mark_all (arcs c v) now) now → Sweeping c first out (v + 1)
+  unfolding marks_swept_to
   sweeping-turn now out v t h l e = record {
     low = omega arith;
     long = l ∙ t.long;
-    is = e ∙ ap (λ (ms : List Bool). pick (marked ms v) (markAll (arcs c v) ms) ms) t.is
-        ∙ ap (λ (m : ℕ). sweptTo c m first) (sym (add-one v));
+    is = e ∙ ap (λ (ms : List Bool). pick (is_marked ms v) (mark_all (arcs c v) ms) ms) t.is
+        ∙ ap (λ (m : ℕ). marks_swept_to c m first) (sym (add-one v));
   }
 
-  pub sweeping-all : (now : List Bool) (v : ℕ) → Sweeping c first now v → size c ≤ v → now ≡ sweptTo c (size c) first
-  sweeping-all now v t h = let e : v ≡ size c = omega (arith, t.low) in t.is ∙ ap (λ (m : ℕ). sweptTo c m first) e
+  pub sweeping-all : (now : List Bool) (v : ℕ) → Sweeping c first now v → size c ≤ v → now ≡ marks_swept_to c (size c) first
+  sweeping-all now v t h = let e : v ≡ size c = omega (arith, t.low) in t.is ∙ ap (λ (m : ℕ). marks_swept_to c m first) e
 
   -- ---- what arcs join from the marks stays the same
-  swept-joining : length first ≡ size c → (v : ℕ) → Joining (size c) (arcs c) first (sweptTo c v first)
-  unfolding sweptTo
+  swept-joining : length first ≡ size c → (v : ℕ) → Joining (size c) (arcs c) first (marks_swept_to c v first)
+  unfolding marks_swept_to
   swept-joining long zero = joining-first (size c) (arcs c) first long
-  swept-joining long (suc v) = swept-more c first (sweptTo c v first) _ v long (swept-joining long v) refl
+  swept-joining long (suc v) = swept-more c first (marks_swept_to c v first) _ v long (swept-joining long v) refl
 
-  pub swept_same : (out : List Bool) → length first ≡ size c → out ≡ sweptTo c (size c) first
+  pub swept_same : (out : List Bool) → length first ≡ size c → out ≡ marks_swept_to c (size c) first
       → reach (size c) (arcs c) (size c) out ≡ reach (size c) (arcs c) (size c) first
   swept_same out long e = ap (reach (size c) (arcs c) (size c)) e
-      ∙ joining-same (size c) (arcs c) first long (sweptTo c (size c) first) (swept-joining long (size c))
+      ∙ joining-same (size c) (arcs c) first long (marks_swept_to c (size c) first) (swept-joining long (size c))

@@ -4,17 +4,17 @@ use Rattle.words.specs.lists.Numbers.{lowest, any}
 use Rattle.text.specs.declared.frames.sizes.TheConstants.{NODES}
 use Rattle.text.specs.declared.frames.refusals.TheConstants.{CIRCLE, CUT_OFF}
 use Rattle.text.specs.frames.Frame.{size}
-use Rattle.text.specs.frames.Verdict.{Verdict, next, atLowest}
+use Rattle.text.specs.frames.Verdict.{Verdict, next, at_lowest}
 use Rattle.charts.specs.Chart.{Chart, schemes}
-use Rattle.charts.specs.Check.{badField, badScheme, badArc, onCircle, cutOff}
+use Rattle.charts.specs.Check.{has_bad_field, is_bad_scheme, has_bad_arc, is_on_circle, is_cut_off}
 
 -- 8 and 9
-abbrev pub joinedVerdict : Chart → Verdict
-joinedVerdict c = next (atLowest CIRCLE (onCircle c) (size c)) λ _. atLowest CUT_OFF (cutOff c) (size c)
+abbrev pub joined_verdict : Chart → Verdict
+joined_verdict c = next (at_lowest CIRCLE (is_on_circle c) (size c)) λ _. at_lowest CUT_OFF (is_cut_off c) (size c)
 
 -- refusals 4, 5 and 6 find nothing
 pub record Passed4To6 (c : Chart) : Type 0 where
   pub few : size c ≤ NODES
-  pub fields : size c ≤ lowest (badField c) 0 (size c)
-  pub counts : any (badScheme c) 1 (schemes c) ≡ false
-  pub ends : size c ≤ lowest (badArc c) 0 (size c)
+  pub fields : size c ≤ lowest (has_bad_field c) 0 (size c)
+  pub counts : any (is_bad_scheme c) 1 (schemes c) ≡ false
+  pub ends : size c ≤ lowest (has_bad_arc c) 0 (size c)

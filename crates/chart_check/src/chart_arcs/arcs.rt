@@ -1,7 +1,7 @@
 // Refusals 6 and 7: where arcs lead, and which schemes are called.
 ghost use Rattle.std.specs.Prelude.{◌≡◌, ◌||◌, ◌+◌, ◌*◌, ◌≤◌, ◌<◌, length};
 ghost use Rattle.charts.specs.Chart.{next0, next1, schemes};
-ghost use Rattle.charts.specs.Check.{badTarget, badArc, badCall};
+ghost use Rattle.charts.specs.Check.{is_bad_target, has_bad_arc, has_bad_call};
 ghost use Rattle.chart_check.specs.chart_arcs.inner.Found.{LowestFound};
 
 use crate::chart_arcs::LowestFaults;
@@ -12,7 +12,7 @@ use text::frames::sizes::RECORD;
 // An arc of node v to u leads to no node, to another scheme or to a Begin.
 fn bad_target(records: &[u8], v: usize, u: usize) -> bool
     requires { RECORD * v + RECORD ≤ length records.now }
-    ensures { result ≡ badTarget records.now v u }
+    ensures { result ≡ is_bad_target records.now v u }
 {
     if records.len() / RECORD <= u {
         return true;
@@ -26,8 +26,8 @@ fn bad_target(records: &[u8], v: usize, u: usize) -> bool
 // One of the two arcs of node v leads where none may.
 fn bad_pair(records: &[u8], v: usize) -> bool
     requires { RECORD * v + RECORD ≤ length records.now }
-    ensures { result ≡ (badTarget records.now v (next0 records.now v)
-        || badTarget records.now v (next1 records.now v)) }
+    ensures { result ≡ (is_bad_target records.now v (next0 records.now v)
+        || is_bad_target records.now v (next1 records.now v)) }
 {
     if bad_target(records, v, field(records, v, NEXT0) as usize) {
         return true;
@@ -38,7 +38,7 @@ fn bad_pair(records: &[u8], v: usize) -> bool
 // 6: an arc of node v leads where none may. An End has none, a condition and a function have two.
 fn bad_arc(records: &[u8], v: usize) -> bool
     requires { RECORD * v + RECORD ≤ length records.now }
-    ensures { result ≡ badArc records.now v }
+    ensures { result ≡ has_bad_arc records.now v }
 {
     match field(records, v, KIND) {
         END => false,
@@ -51,7 +51,7 @@ fn bad_arc(records: &[u8], v: usize) -> bool
 fn bad_call(records: &[u8], highest: u8, v: usize) -> bool
     requires v_in_bounds { RECORD * v + RECORD ≤ length records.now }
     requires highest_value { highest ≡ schemes records.now }
-    ensures { result ≡ badCall records.now v }
+    ensures { result ≡ has_bad_call records.now v }
 {
     let called = field(records, v, ARGUMENT);
     match field(records, v, KIND) {

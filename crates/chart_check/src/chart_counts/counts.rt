@@ -2,7 +2,7 @@
 ghost use Rattle.std.specs.Prelude.{◌≡◌, ◌+◌, ◌≤◌, replicate};
 ghost use Rattle.text.specs.declared.frames.sizes.TheConstants.{NODES};
 ghost use Rattle.text.specs.frames.Frame.{size};
-ghost use Rattle.chart_check.specs.chart_counts.inner.Counts.{countsTo};
+ghost use Rattle.chart_check.specs.chart_counts.inner.Counts.{counts_to};
 ghost use Rattle.chart_check.specs.chart_counts.inner.Found.{NodeAsked, CountsFound, FieldsFound};
 
 use crate::chart_counts::schemes::any_not_one;
@@ -15,7 +15,7 @@ use text::frames::sizes::RECORD;
 // Node v is counted for its scheme where it is of this kind.
 fn count_node(records: &[u8], v: usize, kind: u8, counts: &mut [u16])
     requires { NodeAsked records.now v kind counts.old }
-    ensures { counts.new ≡ countsTo records.now kind (v + 1) }
+    ensures { counts.new ≡ counts_to records.now kind (v + 1) }
 {
     if field(records, v, KIND) == kind {
         let scheme = field(records, v, SCHEME) as usize;

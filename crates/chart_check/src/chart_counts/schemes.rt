@@ -2,7 +2,7 @@
 ghost use Rattle.std.specs.Prelude.{◌≡◌, ◌<◌, length};
 ghost use Rattle.words.specs.lists.Numbers.{any};
 ghost use Rattle.charts.specs.Chart.{schemes};
-ghost use Rattle.chart_check.specs.chart_counts.inner.Counts.{notOne};
+ghost use Rattle.chart_check.specs.chart_counts.inner.Counts.{is_not_one_of_each};
 
 use charts::field;
 use charts::layout::SCHEME;
@@ -26,7 +26,7 @@ pub fn highest_scheme(records: &[u8]) -> u8
 // By these counts some scheme of 1 to the highest has not exactly one Begin and one End.
 pub fn any_not_one(begins: &[u16], ends: &[u16], highest: u8) -> bool
     requires { (highest < length begins.now) × (highest < length ends.now) }
-    ensures { result ≡ any (notOne begins.now ends.now) 1 highest }
+    ensures { result ≡ any (is_not_one_of_each begins.now ends.now) 1 highest }
 {
     let mut scheme: u8 = 0;
     while scheme < highest {

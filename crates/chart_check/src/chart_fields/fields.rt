@@ -1,7 +1,7 @@
 // Refusal 4: a field of a node outside its values.
 ghost use Rattle.std.specs.Prelude.{◌≡◌, ◌+◌, ◌*◌, ◌≤◌, length};
 ghost use Rattle.charts.specs.Layout.{Begin, Operation, Condition, kind_of};
-ghost use Rattle.charts.specs.Check.{filledFrom, badUse, badField};
+ghost use Rattle.charts.specs.Check.{is_filled_from, has_bad_use, has_bad_field};
 
 use charts::field;
 use charts::layout::*;
@@ -11,7 +11,7 @@ use text::frames::sizes::RECORD;
 fn filled_from(records: &[u8], v: usize, i: usize) -> bool
     requires v_in_bounds { RECORD * v + RECORD ≤ length records.now }
     requires i_bound { i ≤ RECORD }
-    ensures { result ≡ filledFrom records.now v i }
+    ensures { result ≡ is_filled_from records.now v i }
 {
     for k in i..RECORD {
         if field(records, v, k) != 0 {
@@ -24,7 +24,7 @@ fn filled_from(records: &[u8], v: usize, i: usize) -> bool
 // A Begin uses byte 3, and byte 2 for its mark, 0 or 1.
 fn bad_begin(records: &[u8], v: usize) -> bool
     requires { RECORD * v + RECORD ≤ length records.now }
-    ensures { result ≡ badUse records.now v Begin }
+    ensures { result ≡ has_bad_use records.now v Begin }
 {
     if 1 < field(records, v, ARGUMENT) {
         return true;
@@ -35,7 +35,7 @@ fn bad_begin(records: &[u8], v: usize) -> bool
 // An operation has no use for byte 4, and its result is 0 to 2.
 fn bad_operation(records: &[u8], v: usize) -> bool
     requires { RECORD * v + RECORD ≤ length records.now }
-    ensures { result ≡ badUse records.now v Operation }
+    ensures { result ≡ has_bad_use records.now v Operation }
 {
     if field(records, v, NEXT1) != 0 {
         return true;
@@ -46,7 +46,7 @@ fn bad_operation(records: &[u8], v: usize) -> bool
 // A condition's number is 0 to 15, and it uses bytes 3 and 4 besides.
 fn bad_condition(records: &[u8], v: usize) -> bool
     requires { RECORD * v + RECORD ≤ length records.now }
-    ensures { result ≡ badUse records.now v Condition }
+    ensures { result ≡ has_bad_use records.now v Condition }
 {
     if 15 < field(records, v, ARGUMENT) {
         return true;
@@ -57,7 +57,7 @@ fn bad_condition(records: &[u8], v: usize) -> bool
 // By the kind: a field of node v outside its values, or a needless byte that is not 0.
 fn bad_use(records: &[u8], v: usize, kind: u8) -> bool
     requires { RECORD * v + RECORD ≤ length records.now }
-    ensures { result ≡ badUse records.now v (kind_of kind) }
+    ensures { result ≡ has_bad_use records.now v (kind_of kind) }
 {
     match kind {
         BEGIN => bad_begin(records, v),
@@ -72,7 +72,7 @@ fn bad_use(records: &[u8], v: usize, kind: u8) -> bool
 // 4: node v has a field outside its values.
 pub fn bad_field(records: &[u8], v: usize) -> bool
     requires { RECORD * v + RECORD ≤ length records.now }
-    ensures { result ≡ badField records.now v }
+    ensures { result ≡ has_bad_field records.now v }
 {
     let scheme = field(records, v, SCHEME);
     if scheme == 0 {

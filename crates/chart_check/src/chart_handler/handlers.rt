@@ -1,7 +1,7 @@
 // The handler, the scheme that is performed when the stack is full, and refusal 19: a mark on scheme 1 or a second mark.
 ghost use Rattle.std.specs.Prelude.{◌≡◌, ◌+◌, ◌*◌, ◌≤◌, length};
-ghost use Rattle.charts.specs.Chart.{marksHandler, handler};
-ghost use Rattle.charts.specs.Check.{badMarks};
+ghost use Rattle.charts.specs.Chart.{is_handler_mark, handler};
+ghost use Rattle.charts.specs.Check.{has_bad_marks};
 
 use charts::field;
 use charts::layout::*;
@@ -10,7 +10,7 @@ use text::frames::sizes::RECORD;
 // Node v is a Begin with the mark.
 fn marks_handler(records: &[u8], v: usize) -> bool
     requires { RECORD * v + RECORD ≤ length records.now }
-    ensures { result ≡ marksHandler records.now v }
+    ensures { result ≡ is_handler_mark records.now v }
 {
     if field(records, v, KIND) != BEGIN {
         return false;
@@ -37,7 +37,7 @@ pub fn handler_scheme(records: &[u8]) -> u8
 
 // 19: scheme 1 is marked, or a second Begin is.
 pub fn bad_marks(records: &[u8]) -> bool
-    ensures { result ≡ badMarks records.now }
+    ensures { result ≡ has_bad_marks records.now }
 {
     let n = records.len() / RECORD;
     let mut marked = false;

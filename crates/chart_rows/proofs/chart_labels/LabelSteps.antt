@@ -15,75 +15,75 @@ use Rattle.words.specs.lists.Numbers.{range, count}
 use Rattle.words.specs.lists.Sequences.{written, over}
 use Rattle.words.proofs.lists.Tests.{yes-pick, no-pick, cases}
 use Rattle.words.proofs.lists.Counts.{count-snoc, count-below, count-miss2}
-use Rattle.words.proofs.lists.Ranges.{length-map-range, getD-map-range, map-range-snoc}
+use Rattle.words.proofs.lists.Ranges.{length-map-range, get_or-map-range, map-range-snoc}
 use Rattle.words.proofs.lists.Written.{written_none, written-snoc, written-front}
 use Rattle.text.specs.frames.Frame.{size}
 use Rattle.charts.specs.Chart.{Chart, kind, scheme, next0, is, begin, end}
-use Rattle.walk.specs.Stops.{stops}
+use Rattle.walk.specs.Stops.{is_stop}
 use Rattle.walk.proofs.Facts.{Facts}
-use Rattle.chart_rows.specs.chart_labels.Labels.{numbered, label}
+use Rattle.chart_rows.specs.chart_labels.Labels.{is_numbered, label}
 use Rattle.chart_rows.specs.chart_labels.inner.ChartContracts.{Ready, Labelled}
 use Rattle.chart_rows.proofs.chart_labels.ReadyLaws.{ready-facts}
 use Rattle.walk.proofs.Follow.{stops-begin}
 
-pub label-own : (c : Chart) (v : ℕ) → numbered c v ≡ true → label c v ≡ 2 + count (numbered c) 0 v
+pub label-own : (c : Chart) (v : ℕ) → is_numbered c v ≡ true → label c v ≡ 2 + count (is_numbered c) 0 v
 unfolding label
-label-own c v e = yes-pick (numbered c v) (2 + count (numbered c) 0 v) (pick (eqb (scheme c v) 1) 0 1) e
+label-own c v e = yes-pick (is_numbered c v) (2 + count (is_numbered c) 0 v) (pick (eqb (scheme c v) 1) 0 1) e
 
-pub label-shared : (c : Chart) (v : ℕ) → numbered c v ≡ false → label c v ≡ pick (eqb (scheme c v) 1) 0 1
+pub label-shared : (c : Chart) (v : ℕ) → is_numbered c v ≡ false → label c v ≡ pick (eqb (scheme c v) 1) 0 1
 unfolding label
-label-shared c v e = no-pick (numbered c v) (2 + count (numbered c) 0 v) (pick (eqb (scheme c v) 1) 0 1) e
+label-shared c v e = no-pick (is_numbered c v) (2 + count (is_numbered c) 0 v) (pick (eqb (scheme c v) 1) 0 1) e
 
 low : (b : Bool) → pick {A = ℕ} b 0 1 < 2
 low true = omega arith
 low false = omega arith
 
 -- a label of 2 or more is the node's own
-pub own-label : (c : Chart) (v : ℕ) → 2 ≤ label c v → numbered c v ≡ true
-own-label c v l = ⊎_elim (λ (t : numbered c v ≡ true). t)
-    (λ (f : numbered c v ≡ false). absurd (omega (arith, label-shared c v f, low (eqb (scheme c v) 1)))) (cases (numbered c v))
+pub own-label : (c : Chart) (v : ℕ) → 2 ≤ label c v → is_numbered c v ≡ true
+own-label c v l = ⊎_elim (λ (t : is_numbered c v ≡ true). t)
+    (λ (f : is_numbered c v ≡ false). absurd (omega (arith, label-shared c v f, low (eqb (scheme c v) 1)))) (cases (is_numbered c v))
 
-pub no-own-label : (c : Chart) (v : ℕ) → label c v < 2 → numbered c v ≡ false
-no-own-label c v l = ⊎_elim (λ (t : numbered c v ≡ true). absurd (omega (arith, label-own c v t)))
-    (λ (f : numbered c v ≡ false). f) (cases (numbered c v))
+pub no-own-label : (c : Chart) (v : ℕ) → label c v < 2 → is_numbered c v ≡ false
+no-own-label c v l = ⊎_elim (λ (t : is_numbered c v ≡ true). absurd (omega (arith, label-own c v t)))
+    (λ (f : is_numbered c v ≡ false). f) (cases (is_numbered c v))
 
 -- Begin and End of scheme 1 have none of their own
-pub few-numbered : (c : Chart) → Facts c → count (numbered c) 0 (size c) + 2 ≤ size c
+pub few-numbered : (c : Chart) → Facts c → count (is_numbered c) 0 (size c) + 2 ≤ size c
 few-numbered c F =
     let b = F.begins 1 (omega arith) F.first in
     let e = F.ends 1 (omega arith) F.first in
-    count-miss2 (numbered c) (size c) (begin c 1) (end c 1) b.0 e.0
+    count-miss2 (is_numbered c) (size c) (begin c 1) (end c 1) b.0 e.0
     (λ q. omega (arith, ap (kind c) q, b.1, e.1))
     (ap (λ x. x && not (is c 1 (begin c 1)))
     (stops-begin c (begin c 1) b.1
     ∙ ap (λ x. not x && is c 3 (next0 c (begin c 1))) (eq-eqb (scheme c (begin c 1)) 1 b.2)))
     (no_end (end c 1) e.1)
   where
-    no_end : (v : ℕ) → kind c v ≡ 1 → numbered c v ≡ false
-    no_end v k = go (stops c v) (is c 1 v) (eq-eqb (kind c v) 1 k)
+    no_end : (v : ℕ) → kind c v ≡ 1 → is_numbered c v ≡ false
+    no_end v k = go (is_stop c v) (is c 1 v) (eq-eqb (kind c v) 1 k)
       where
         go : (x y : Bool) → y ≡ true → (x && not y) ≡ false
         go true y q = ap not q
         go false y q = refl
 
-pub own-small : (c : Chart) → Ready c → (v own : ℕ) → v < size c → own ≡ count (numbered c) 0 v → numbered c v ≡ true → own + 2 < 256
-own-small c ready v own l e t = omega (arith, count-below (numbered c) v (size c) l t, few-numbered c (ready-facts ready), ready.few)
+pub own-small : (c : Chart) → Ready c → (v own : ℕ) → v < size c → own ≡ count (is_numbered c) 0 v → is_numbered c v ≡ true → own + 2 < 256
+own-small c ready v own l e t = omega (arith, count-below (is_numbered c) v (size c) l t, few-numbered c (ready-facts ready), ready.few)
 
 -- ---- one node's label
 module _ (c : Chart) (v : ℕ) where
-  pub own-done : (own : ℕ) → own ≡ count (numbered c) 0 v → numbered c v ≡ true → own + 2 ≡ label c v
+  pub own-done : (own : ℕ) → own ≡ count (is_numbered c) 0 v → is_numbered c v ≡ true → own + 2 ≡ label c v
   own-done own e t = omega (arith, label-own c v t)
 
-  pub first_done : numbered c v ≡ false → scheme c v ≡ 1 → 0 ≡ label c v
+  pub first_done : is_numbered c v ≡ false → scheme c v ≡ 1 → 0 ≡ label c v
   first_done f e = sym (label-shared c v f ∙ yes-pick (eqb (scheme c v) 1) 0 1 (eq-eqb (scheme c v) 1 e))
 
-  pub other-done : numbered c v ≡ false → (scheme c v ≡ 1 → ⊥) → 1 ≡ label c v
+  pub other-done : is_numbered c v ≡ false → (scheme c v ≡ 1 → ⊥) → 1 ≡ label c v
   other-done f e = sym (label-shared c v f ∙ no-pick (eqb (scheme c v) 1) 0 1 (ne_eqb (scheme c v) 1 e))
 
 -- ---- the labels of the first v nodes
 pub record Labelling (c : Chart) (old labels : List ℕ) (own v : ℕ) : Type 0 where
   pub within : v ≤ size c
-  pub owned : own ≡ count (numbered c) 0 v
+  pub owned : own ≡ count (is_numbered c) 0 v
   pub few : own ≤ v
   pub long : length labels ≡ length old
   pub done : labels ≡ written old 0 (map (label c) (range 0 v))
@@ -109,9 +109,9 @@ module _ (c : Chart) (old labels : List ℕ) (own v : ℕ) (room : size c ≤ le
       ∙ ap (λ (y : ℕ). written old 0 (map (label c) (range 0 v) ++ (y ∷ []))) (e ∙ ap (label c) (sym (zero-add v)))
       ∙ ap (written old 0) (sym (map-range-snoc (label c) 0 v) ∙ ap (λ (k : ℕ). map (label c) (range 0 k)) (sym (add-one v)))
 
-  counted : (b : Bool) → numbered c v ≡ b → count (numbered c) 0 (v + 1) ≡ own + pick b 1 0
-  counted b q = ap (count (numbered c) 0) (add-one v) ∙ count-snoc (numbered c) 0 v
-      ∙ omega (arith, t.owned, ap (λ (y : Bool). pick {A = ℕ} y 1 0) (ap (numbered c) (zero-add v) ∙ q))
+  counted : (b : Bool) → is_numbered c v ≡ b → count (is_numbered c) 0 (v + 1) ≡ own + pick b 1 0
+  counted b q = ap (count (is_numbered c) 0) (add-one v) ∙ count-snoc (is_numbered c) 0 v
+      ∙ omega (arith, t.owned, ap (λ (y : Bool). pick {A = ℕ} y 1 0) (ap (is_numbered c) (zero-add v) ∙ q))
 
   pub labelling-on : (own' : ℕ) → ((2 ≤ x) × (own' ≡ own + 1)) ⊎ ((x < 2) × (own' ≡ own))
       → Labelling c old (set labels v x) own' (v + 1)
@@ -127,10 +127,10 @@ module _ (c : Chart) (old labels : List ℕ) (own v : ℕ) (room : size c ≤ le
   }
 
 pub labelling-done : (c : Chart) (old labels : List ℕ) (own v n : ℕ) → Labelling c old labels own v → n ≡ size c → n ≤ v
-    → (own ≡ count (numbered c) 0 (size c)) × (labels ≡ written old 0 (map (label c) (range 0 (size c))))
+    → (own ≡ count (is_numbered c) 0 (size c)) × (labels ≡ written old 0 (map (label c) (range 0 (size c))))
 labelling-done c old labels own v n t e l =
     let q : v ≡ size c = omega (arith, t.within) in
-    (t.owned ∙ ap (count (numbered c) 0) q, t.done ∙ ap (λ (k : ℕ). written old 0 (map (label c) (range 0 k))) q)
+    (t.owned ∙ ap (count (is_numbered c) 0) q, t.done ∙ ap (λ (k : ℕ). written old 0 (map (label c) (range 0 k))) q)
 
 -- what the functions that read the labels ask
 pub labelled : (c : Chart) (old labels : List ℕ) → size c ≤ length old → labels ≡ written old 0 (map (label c) (range 0 (size c)))
@@ -151,5 +151,5 @@ labelled c old labels room e =
           ap (λ (ls : List ℕ). get_or ls v 0) q
           ∙ lib.ListN.get_or-append (map (label c) (range 0 (size c)))
           (lib.ListN.drop (length (map (label c) (range 0 (size c)))) old) 0 v (omega arith)
-          ∙ getD-map-range (label c) 0 0 (size c) v l ∙ ap (label c) (zero-add v);
+          ∙ get_or-map-range (label c) 0 0 (size c) v l ∙ ap (label c) (zero-add v);
     }

@@ -14,7 +14,7 @@ use Rattle.words.proofs.lists.Searches.{lowest-here, lowest-on, lowest-over, low
 use Rattle.words.proofs.lists.Tests.{and-true, and_no, and_second, and_first}
 use Rattle.text.specs.frames.Frame.{size}
 use Rattle.charts.specs.Chart.{Chart, kind, scheme, next0, is, is_of, begin, node_of}
-use Rattle.walk.specs.Stops.{stops}
+use Rattle.walk.specs.Stops.{is_stop}
 use Rattle.chart_rows.specs.chart_labels.inner.ChartContracts.{Ready, Begun}
 use Rattle.chart_rows.proofs.chart_labels.ReadyLaws.{ready-facts}
 use Rattle.walk.proofs.Follow.{stops-condition}
@@ -108,12 +108,12 @@ module _ (c : Chart) (v next s : ℕ) (e : next ≡ next0 c v) (es : s ≡ schem
       (ap (λ (x : ℕ). not (eqb x 1)) es)
 
 module _ (c : Chart) (v k s first : ℕ) (ek : k ≡ kind c v) (three : k ≡ 3) (es : s ≡ scheme c v) (f : first ≡ next0 c (begin c 1)) where
-  pub condition-second : s ≡ 1 → eqb first v ≡ stops c v
+  pub condition-second : s ≡ 1 → eqb first v ≡ is_stop c v
   condition-second o =
       and_second (eqb (scheme c v) 1) (eqb (next0 c (begin c 1)) v) (eqb first v) (eq-eqb (scheme c v) 1 (sym es ∙ o))
       (ap (λ (x : ℕ). eqb x v) f) ∙ sym (stops-condition c v (sym ek ∙ three))
 
-  pub condition-first : (s ≡ 1 → ⊥) → eqb s 1 ≡ stops c v
+  pub condition-first : (s ≡ 1 → ⊥) → eqb s 1 ≡ is_stop c v
   condition-first o =
       and_first (eqb (scheme c v) 1) (eqb (next0 c (begin c 1)) v) (eqb s 1) (ne_eqb (scheme c v) 1 (λ q. o (es ∙ q)))
       (ap (λ (x : ℕ). eqb x 1) es) ∙ sym (stops-condition c v (sym ek ∙ three))

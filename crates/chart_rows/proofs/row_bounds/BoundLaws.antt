@@ -24,14 +24,14 @@ use Rattle.words.proofs.lists.Tests.{and_l, and_r, and-true, and_no, yes-pick, n
 use Rattle.words.specs.bits.Word.{bit}
 use Rattle.words.proofs.bits.BitLaws.{bit-or, bit-pow-same, bit-add-same, bit-add-other, bit-cases}
 use Rattle.text.specs.frames.Frame.{size}
-use Rattle.charts.specs.Chart.{Chart, kind, argument, next0, next1, taken}
+use Rattle.charts.specs.Chart.{Chart, kind, argument, next0, next1, arc_taken}
 use Rattle.charts.proofs.Rank.{rank, rank-le, rank-some, rank-falls0, rank-falls1}
-use Rattle.walk.specs.Stops.{stops}
+use Rattle.walk.specs.Stops.{is_stop}
 use Rattle.walk.proofs.Follow.{goes_on, taken-by}
 use Rattle.image.specs.Image.{Row}
 use Rattle.chart_rows.specs.chart_labels.inner.ChartContracts.{Ready}
 use Rattle.chart_rows.proofs.chart_labels.ReadyLaws.{ready-sound}
-use Rattle.chart_rows.specs.inner.NodeRows.{pathsFrom, testedNumber, untested}
+use Rattle.chart_rows.specs.inner.NodeRows.{paths_from, tested_number, untested_count}
 use Rattle.chart_rows.specs.inner.PathContracts.{NotedAt, Entered, FewPaths, Masked}
 use Rattle.chart_rows.proofs.PathSteps.{entered0, entered1, at-stop, at-known, at_new}
 use Rattle.chart_rows.proofs.NumberLaws.{small-number, high-stops, low-condition, low_goes, low-number}
@@ -45,13 +45,13 @@ abbrev free : ℕ → ℕ → ℕ → Bool
 free mask care i = eqb (bit mask i) 1 && eqb (bit care i) 0
 
 module _ (m n : ℕ) (w : MaskWithin m n) where
-  pub untested-more : (care : ℕ) → untested m care ≤ untested n care
+  pub untested-more : (care : ℕ) → untested_count m care ≤ untested_count n care
   untested-more care = count-within (free m care) (free n care) 0 16 (λ k a b e.
       and-true (eqb (bit n k) 1) (eqb (bit care k) 0)
       (eq-eqb (bit n k) 1 (w.each k (eqb-true (bit m k) 1 (and_l (eqb (bit m k) 1) (eqb (bit care k) 0) e))))
       (and_r (eqb (bit m k) 1) (eqb (bit care k) 0) e))
 
-  pub untested-less : (care i : ℕ) → i < 16 → bit n i ≡ 1 → bit care i ≡ 0 → untested m (care + 2 ^ i) < untested n care
+  pub untested-less : (care i : ℕ) → i < 16 → bit n i ≡ 1 → bit care i ≡ 0 → untested_count m (care + 2 ^ i) < untested_count n care
   untested-less care i l one z =
       count_less (free m (care + 2 ^ i)) (free n care) 0 16 (λ k a b e. go k e (ℕ_discrete i k)) i (omega arith) (omega arith) here
       (and-true (eqb (bit n i) 1) (eqb (bit care i) 0) (eq-eqb (bit n i) 1 one) (eq-eqb (bit care i) 0 z))
@@ -86,73 +86,79 @@ ones-count (suc k) i m h =
         (λ (z : bit m i ≡ 0). z ∙ sym (no-pick (eqb (bit m i) 1) 1 0 (ne_eqb (bit m i) 1 (λ q. omega arith))))
         (λ (o : bit m i ≡ 1). o ∙ sym (yes-pick (eqb (bit m i) 1) 1 0 (eq-eqb (bit m i) 1 o)))
 
-pub untested-ones : (m care : ℕ) → m < 65536 → untested m care ≤ ones m
+pub untested-ones : (m care : ℕ) → m < 65536 → untested_count m care ≤ ones m
 untested-ones m care h =
     let o : ones m ≡ count (λ j. eqb (bit m j) 1) 0 16 = ap ones (sym (div-one m)) ∙ ones-count 16 0 m h in
-    let w : untested m care ≤ count (λ j. eqb (bit m j) 1) 0 16 =
+    let w : untested_count m care ≤ count (λ j. eqb (bit m j) 1) 0 16 =
     count-within (free m care) (λ j. eqb (bit m j) 1) 0 16 (λ k a b e. and_l (eqb (bit m k) 1) (eqb (bit care k) 0) e) in
     omega arith
 
 -- one value for no bit, and two for each bit
-pub no-values : (m : ℕ) → m ≡ 0 → ((care : ℕ) → 2 ^ untested m care ≤ 1) × (1 ≤ 65536)
+pub no-values : (m : ℕ) → m ≡ 0 → ((care : ℕ) → 2 ^ untested_count m care ≤ 1) × (1 ≤ 65536)
 no-values m e = (
   λ care.
-      let none : untested m care ≤ 0 = omega (arith, untested-ones m care (omega arith), ones-le 0 m (omega arith)) in
-      omega (arith, pow_mono {i = untested m care} {j = 0} none),
+      let none : untested_count m care ≤ 0 = omega (arith, untested-ones m care (omega arith), ones-le 0 m (omega arith)) in
+      omega (arith, pow_mono {i = untested_count m care} {j = 0} none),
   omega arith,
 )
 
 pub count-values : (m : ℕ) → m < 65536
-    → ((care : ℕ) → 2 ^ untested m care ≤ 1 * 2 ^ ones m % 18446744073709551616) × (1 * 2 ^ ones m % 18446744073709551616 ≤ 65536)
+    → ((care : ℕ) → 2 ^ untested_count m care ≤ 1 * 2 ^ ones m % 18446744073709551616) × (1 * 2 ^ ones m % 18446744073709551616 ≤ 65536)
 count-values m h =
     let o : 1 * 2 ^ ones m % 2 ^ 64 ≡ 1 * 2 ^ ones m = shl_exact 1 (ones m) 64 (omega arith) (omega (arith, ones-le 16 m h)) in (
-      λ care. omega (arith, o, pow_mono {i = untested m care} {j = ones m} (untested-ones m care h)),
+      λ care. omega (arith, o, pow_mono {i = untested_count m care} {j = ones m} (untested-ones m care h)),
       omega (arith, o, pow_mono {i = ones m} {j = 16} (ones-le 16 m h)),
     )
 
 -- ---- the paths on from a node
 module _ (c : Chart) (ready : Ready c) where
   abbrev P : ℕ → ℕ → ℕ → ℕ → ℕ → List Row
-  P l f care values v = pathsFrom (size c) c l f care values v
+  P l f care values v = paths_from (size c) c l f care values v
 
-  pub few-stop : (v m : ℕ) → Entered c v → stops c v ≡ true → FewPaths c v m
+  pub few-stop : (v m : ℕ) → Entered c v → is_stop c v ≡ true → FewPaths c v m
   few-stop v m t s = record {
     most = λ l f care values.
-        omega (arith, ap (λ (rs : List Row). length rs) (at-stop c ready l f care values v t s), pow_pos (untested m care));
+        omega (arith, ap (λ (rs : List Row). length rs) (at-stop c ready l f care values v t s), pow_pos (untested_count m care));
   }
 
   -- by the masks behind the two arcs
-  pub few-goes : (v i a b m : ℕ) → Entered c v → stops c v ≡ false → i ≡ argument c v → FewPaths c (next0 c v) a → FewPaths c (next1 c v) b
+  pub few-goes : (v i a b m : ℕ) → Entered c v → is_stop c v ≡ false → i ≡ argument c v → FewPaths c (next0 c v) a
+      → FewPaths c (next1 c v) b
       → bit m i ≡ 1 → MaskWithin a m → MaskWithin b m → FewPaths c v m
   few-goes v i a b m t s e p q one wa wb = record { most = λ l f care values. go l f care values (bit-cases care i) }
     where
       three : kind c v ≡ 3
-      three = goes_on c v t.noBegin s
+      three = goes_on c v t.no_begin s
 
       small : i < 16
       small = small-number (record { ready = ready; inside = t.inside; kind = three }) e
 
-      side : (l f care values w : ℕ) → (x : ℕ) → FewPaths c w x → MaskWithin x m → length (P l f care values w) ≤ 2 ^ untested m care
+      side : (l f care values w : ℕ) → (x : ℕ) → FewPaths c w x → MaskWithin x m → length (P l f care values w) ≤ 2 ^ untested_count m care
       side l f care values w x few within =
-          omega (arith, few.most l f care values, pow_mono {i = untested x care} {j = untested m care} (untested-more x m within care))
+          omega (
+            arith,
+            few.most l f care values,
+            pow_mono {i = untested_count x care} {j = untested_count m care}
+                (untested-more x m within care),
+          )
 
       half : (l f care values w x : ℕ) → FewPaths c w x → MaskWithin x m → bit care i ≡ 0
-          → length (P l f (care + 2 ^ i) values w) * 2 ≤ 2 ^ untested m care
+          → length (P l f (care + 2 ^ i) values w) * 2 ≤ 2 ^ untested_count m care
       half l f care values w x few within z =
-          let less : suc (untested x (care + 2 ^ i)) ≤ untested m care = untested-less x m within care i small one z in
+          let less : suc (untested_count x (care + 2 ^ i)) ≤ untested_count m care = untested-less x m within care i small one z in
           omega (
             arith,
             few.most l f (care + 2 ^ i) values,
-            pow-suc 2 (untested x (care + 2 ^ i)),
-            pow_mono {i = suc (untested x (care + 2 ^ i))} {j = untested m care} less,
+            pow-suc 2 (untested_count x (care + 2 ^ i)),
+            pow_mono {i = suc (untested_count x (care + 2 ^ i))} {j = untested_count m care} less,
           )
 
-      go : (l f care values : ℕ) → (bit care i ≡ 0) ⊎ (bit care i ≡ 1) → length (P l f care values v) ≤ 2 ^ untested m care
+      go : (l f care values : ℕ) → (bit care i ≡ 0) ⊎ (bit care i ≡ 1) → length (P l f care values v) ≤ 2 ^ untested_count m care
       go l f care values (inr o) =
-          let known : P l f care values v ≡ P l f care values (taken c values v) =
+          let known : P l f care values v ≡ P l f care values (arc_taken c values v) =
           at-known c ready l f care values v t s (ap (bit care) (sym e) ∙ o) in
-          let bound : length (P l f care values (taken c values v)) ≤ 2 ^ untested m care =
-          taken-by (λ w. length (P l f care values w) ≤ 2 ^ untested m care) c values v
+          let bound : length (P l f care values (arc_taken c values v)) ≤ 2 ^ untested_count m care =
+          taken-by (λ w. length (P l f care values w) ≤ 2 ^ untested_count m care) c values v
           (side l f care values (next0 c v) a p wa) (side l f care values (next1 c v) b q wb) in
           omega (arith, ap (λ (rs : List Row). length rs) known)
       go l f care values (inl z) =
@@ -182,12 +188,12 @@ module _ (c : Chart) (ready : Ready c) where
 
   few-rank : (n v : ℕ) → Entered c v → rank c v ≤ n → FewPaths c v 65535
   few-rank zero v t h = absurd (omega (arith, rank-some c v t.inside))
-  few-rank (suc n) v t h = go (stops c v) refl (few-rank n)
+  few-rank (suc n) v t h = go (is_stop c v) refl (few-rank n)
     where
-      go : (s : Bool) → stops c v ≡ s → ((v : ℕ) → Entered c v → rank c v ≤ n → FewPaths c v 65535) → FewPaths c v 65535
+      go : (s : Bool) → is_stop c v ≡ s → ((v : ℕ) → Entered c v → rank c v ≤ n → FewPaths c v 65535) → FewPaths c v 65535
       go true s ih = few-stop v 65535 t s
       go false s ih =
-          let three : kind c v ≡ 3 = goes_on c v t.noBegin s in
+          let three : kind c v ≡ 3 = goes_on c v t.no_begin s in
           few-goes v (argument c v) 65535 65535 65535 t s refl
           (ih (next0 c v) (entered0 c ready v t.inside (λ e. omega arith))
           (omega (arith, rank-falls0 c (ready-sound ready) v t.inside three)))
@@ -234,7 +240,7 @@ module _ (c : Chart) (notes masks : List ℕ) (v : ℕ) (node : NotedAt c notes 
   ready : Ready c
   ready = node.noted.chart.ready
 
-  read : get_or notes (256 + v) 0 ≡ testedNumber c v
+  read : get_or notes (256 + v) 0 ≡ tested_number c v
   read = node.noted.numbers v node.inside
 
   pub mask-stop : 15 < get_or notes (256 + v) 0 → Entered c v → FewPaths c v 0
@@ -245,7 +251,7 @@ module _ (c : Chart) (notes masks : List ℕ) (v : ℕ) (node : NotedAt c notes 
     condition = low-condition c v (get_or notes (256 + v) 0) read low
 
     here : Entered c v
-    here = record { inside = node.inside; noBegin = λ q. omega (arith, condition) }
+    here = record { inside = node.inside; no_begin = λ q. omega (arith, condition) }
 
     pub mask-side0 : (w : ℕ) → w ≡ next0 c v → w < length masks
     mask-side0 w e = omega (arith, k.long, (entered0 c ready v node.inside (λ q. omega (arith, condition))).inside)

@@ -5,33 +5,33 @@ use Prim.Native.Nat.{ℕ, ◌+◌, ◌*◌, ◌^◌, ◌≤◌, ◌<◌}
 use native.Mathlib.Decide.{ℕ_discrete}
 use native.Mathlib.Omega.{arith}
 use lib.ListN.{length, get_or, length-append}
-use Rattle.words.specs.lists.Sequences.{concatMap}
+use Rattle.words.specs.lists.Sequences.{concat_map}
 use Rattle.text.specs.frames.Frame.{size}
 use Rattle.charts.specs.Chart.{Chart, kind, argument, next0, next1}
 use Rattle.image.specs.Image.{Row}
 use Rattle.chart_rows.specs.chart_labels.Labels.{label}
 use Rattle.chart_rows.specs.Rows.{rows}
-use Rattle.chart_rows.specs.inner.NodeRows.{pathsFrom, untested, sides, nodeRows}
+use Rattle.chart_rows.specs.inner.NodeRows.{paths_from, untested_count, sides, node_rows}
 use Rattle.chart_rows.specs.inner.PathContracts.{NotedAt, Entered, Masked}
 use Rattle.chart_rows.proofs.PathSteps.{entered1}
 use Rattle.chart_rows.proofs.RowSteps.{rows-function, rows-condition, rows_other, no_rows, own-rows, other-entered, function-kind}
-use Rattle.chart_rows.proofs.RowSteps.{rowsBelow, below_more, below_all}
+use Rattle.chart_rows.proofs.RowSteps.{rows_below, below_more, below_all}
 
 -- ---- the rows of one node
-pub bound-none : {c : Chart} {notes : List ℕ} {v : ℕ} → NotedAt c notes v → get_or notes v 0 < 2 → (length (nodeRows c v) ≤ 0) × (0 ≤ 131072)
+pub bound-none : {c : Chart} {notes : List ℕ} {v : ℕ} → NotedAt c notes v → get_or notes v 0 < 2 → (length (node_rows c v) ≤ 0) × (0 ≤ 131072)
 bound-none node h = (omega (arith, ap (λ (rs : List Row). length rs) (no_rows node h)), omega arith)
 
 -- a bound on the paths that go on along an arc
 pub record Side (masks : List ℕ) (w low : ℕ) : Type 0 where
-  pub most : ((care : ℕ) → 2 ^ untested (get_or masks w 0) care ≤ low) × (low ≤ 65536)
+  pub most : ((care : ℕ) → 2 ^ untested_count (get_or masks w 0) care ≤ low) × (low ≤ 65536)
 
 module _ (c : Chart) (notes masks : List ℕ) (v : ℕ) (node : NotedAt c notes v) (m : Masked c masks) (own : 2 ≤ get_or notes v 0) where
   side-paths : (w u low l f care values : ℕ) → w ≡ u → Entered c w → Side masks w low
-      → length (pathsFrom (size c) c l f care values u) ≤ low
+      → length (paths_from (size c) c l f care values u) ≤ low
   side-paths w u low l f care values e t s =
       omega (
         arith,
-        ap (λ (x : ℕ). length (pathsFrom (size c) c l f care values x)) e,
+        ap (λ (x : ℕ). length (paths_from (size c) c l f care values x)) e,
         (m.few w t).most l f care values,
         s.most.0 care,
       )
@@ -41,7 +41,7 @@ module _ (c : Chart) (notes masks : List ℕ) (v : ℕ) (node : NotedAt c notes 
     bound-inside0 = omega (arith, m.long, (other-entered node own e0).inside)
 
     module _ (k : ℕ) (ek : k ≡ kind c v) (s0 : Side masks w0 low) where
-      pub bound-other : k < 3 → (length (nodeRows c v) ≤ low) × (low ≤ 131072)
+      pub bound-other : k < 3 → (length (node_rows c v) ≤ low) × (low ≤ 131072)
       bound-other h = (
         omega (
           arith,
@@ -63,15 +63,15 @@ module _ (c : Chart) (notes masks : List ℕ) (v : ℕ) (node : NotedAt c notes 
           both l f g care values =
               omega (
                 arith,
-                length-append (pathsFrom (size c) c l f care 0 (next0 c v)) (pathsFrom (size c) c l g care values (next1 c v)),
+                length-append (paths_from (size c) c l f care 0 (next0 c v)) (paths_from (size c) c l g care values (next1 c v)),
                 side-paths w0 (next0 c v) low l f care 0 e0 (other-entered node own e0) s0,
                 side-paths w1 (next1 c v) high l g care values e1 entered-1 s1,
               )
 
-          two-sided : length (nodeRows c v) ≤ low + high
+          two-sided : length (node_rows c v) ≤ low + high
           two-sided = go (ℕ_discrete k 3)
             where
-              go : Dec (k ≡ 3) → length (nodeRows c v) ≤ low + high
+              go : Dec (k ≡ 3) → length (node_rows c v) ≤ low + high
               go (yes three) =
                   omega (
                     arith,
@@ -85,25 +85,25 @@ module _ (c : Chart) (notes masks : List ℕ) (v : ℕ) (node : NotedAt c notes 
                     both (label c v) 0 1 0 0,
                   )
 
-          pub bound-both : (length (nodeRows c v) ≤ low + high) × (low + high ≤ 131072)
+          pub bound-both : (length (node_rows c v) ≤ low + high) × (low + high ≤ 131072)
           bound-both = (two-sided, omega (arith, s0.most.1, s1.most.1))
 
 -- ---- the rows of the nodes below v
 pub record Bounding (c : Chart) (total v : ℕ) : Type 0 where
   pub within : v ≤ size c
   pub limited : total ≤ v * 131072
-  pub bounded : length (rowsBelow c v) ≤ total
+  pub bounded : length (rows_below c v) ≤ total
 
 pub bounding-start : (c : Chart) → Bounding c 0 0
-bounding-start c = record { within = omega arith; limited = omega arith; bounded = unfold concatMap in omega arith }
+bounding-start c = record { within = omega arith; limited = omega arith; bounded = unfold concat_map in omega arith }
 
-pub bounding-on : (c : Chart) (total v more : ℕ) → Bounding c total v → v < size c → (length (nodeRows c v) ≤ more) × (more ≤ 131072)
+pub bounding-on : (c : Chart) (total v more : ℕ) → Bounding c total v → v < size c → (length (node_rows c v) ≤ more) × (more ≤ 131072)
     → Bounding c (total + more) (v + 1)
 bounding-on c total v more t l e = record {
   within = omega arith;
   limited = omega (arith, t.limited, e.1);
   bounded =
-      omega (arith, t.bounded, e.0, ap (λ (rs : List Row). length rs) (below_more c v) ∙ length-append (rowsBelow c v) (nodeRows c v));
+      omega (arith, t.bounded, e.0, ap (λ (rs : List Row). length rs) (below_more c v) ∙ length-append (rows_below c v) (node_rows c v));
 }
 
 pub bounding-done : (c : Chart) (total v n : ℕ) → Bounding c total v → n ≡ size c → n ≤ v → length (rows c) ≤ total

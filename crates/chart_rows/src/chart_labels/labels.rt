@@ -4,7 +4,7 @@ ghost use Rattle.words.specs.lists.Numbers.{range, count};
 ghost use Rattle.words.specs.lists.Sequences.{written};
 ghost use Rattle.text.specs.frames.Frame.{size};
 ghost use Rattle.charts.specs.Chart.{begin, next0};
-ghost use Rattle.chart_rows.specs.chart_labels.Labels.{numbered, label};
+ghost use Rattle.chart_rows.specs.chart_labels.Labels.{is_numbered, label};
 ghost use Rattle.chart_rows.specs.chart_labels.inner.ChartContracts.{Ready, Beside};
 
 use crate::chart_labels::nodes::{begin, is_numbered};
@@ -24,7 +24,7 @@ fn first_node(records: &[u8]) -> u8
 // The label of a node, given how many nodes before it have one of their own.
 fn label_of(records: &[u8], first: u8, own: usize, v: usize) -> u8
     requires beside { Beside records.now first v }
-    requires own_value { own ≡ count (numbered records.now) 0 v }
+    requires own_value { own ≡ count (is_numbered records.now) 0 v }
     ensures { result ≡ label records.now v }
 {
     if is_numbered(records, first, v) {
@@ -40,7 +40,7 @@ fn label_of(records: &[u8], first: u8, own: usize, v: usize) -> u8
 pub fn label_nodes(records: &[u8], labels: &mut [u8]) -> usize
     requires ready { Ready records.now }
     requires records_in_bounds { size records.now ≤ length labels.old }
-    ensures { (result ≡ count (numbered records.now) 0 (size records.now))
+    ensures { (result ≡ count (is_numbered records.now) 0 (size records.now))
         × (labels.new ≡ written labels.old 0
         (map (label records.now) (range 0 (size records.now)))) }
 {

@@ -2,8 +2,8 @@
 ghost use Rattle.std.specs.Prelude.{◌≡◌, ◌+◌, ◌*◌, ◌<◌, ◌&&◌, not, eqb, length};
 ghost use Rattle.text.specs.frames.Frame.{field};
 ghost use Rattle.charts.specs.Chart.{scheme, is, is_of, begin, next0};
-ghost use Rattle.walk.specs.Stops.{stops};
-ghost use Rattle.chart_rows.specs.chart_labels.Labels.{numbered};
+ghost use Rattle.walk.specs.Stops.{is_stop};
+ghost use Rattle.chart_rows.specs.chart_labels.Labels.{is_numbered};
 ghost use Rattle.chart_rows.specs.chart_labels.inner.ChartContracts.{Ready, Begun, Beside};
 
 use charts::field;
@@ -63,7 +63,7 @@ fn begin_stops(records: &[u8], v: usize) -> bool
 // Whether a node takes a tick; `first` is the node that the Begin of scheme 1 leads to.
 fn stops(records: &[u8], first: u8, v: usize) -> bool
     requires { Beside records.now first v }
-    ensures { result ≡ stops records.now v }
+    ensures { result ≡ is_stop records.now v }
 {
     match field(records, v, KIND) {
         BEGIN => begin_stops(records, v),
@@ -75,7 +75,7 @@ fn stops(records: &[u8], first: u8, v: usize) -> bool
 // Whether a node has a label of its own.
 pub fn is_numbered(records: &[u8], first: u8, v: usize) -> bool
     requires { Beside records.now first v }
-    ensures { result ≡ numbered records.now v }
+    ensures { result ≡ is_numbered records.now v }
 {
     stops(records, first, v) && field(records, v, KIND) != END
 }

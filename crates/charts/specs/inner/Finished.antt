@@ -1,21 +1,22 @@
 -- Conditions that a depth-first search has finished, so that they are known to be on no circle; the others are marked as unfinished.
 use Rattle.std.specs.Prelude.{ℕ, ◌<◌, ◌≡◌, Bool, true, false, List, length}
 use Rattle.words.specs.lists.Pick.{pick}
-use Rattle.words.specs.graph.Reach.{member, marked}
+use Rattle.words.specs.graph.Reach.{is_member, is_marked}
 use Rattle.text.specs.frames.Frame.{size}
 use Rattle.charts.specs.Chart.{Chart, next0, next1}
-use Rattle.charts.specs.Check.{conditionArcs, onCircle}
+use Rattle.charts.specs.Check.{condition_arcs, is_on_circle}
 
 -- an unfinished next node of condition v, the one on a 0 first, or the number of nodes
-abbrev pub nextUnfinished : Chart → List Bool → ℕ → ℕ
-nextUnfinished c unfinished v = pick (marked unfinished (next0 c v)) (next0 c v) (pick (marked unfinished (next1 c v)) (next1 c v) (size c))
+abbrev pub next_unfinished : Chart → List Bool → ℕ → ℕ
+next_unfinished c unfinished v =
+    pick (is_marked unfinished (next0 c v)) (next0 c v) (pick (is_marked unfinished (next1 c v)) (next1 c v) (size c))
 
 -- no arc of condition v leads to an unfinished node
 abbrev pub NoneAhead : Chart → List Bool → ℕ → Type 0
-NoneAhead c unfinished v = (u : ℕ) → member u (conditionArcs c v) ≡ true → marked unfinished u ≡ false
+NoneAhead c unfinished v = (u : ℕ) → is_member u (condition_arcs c v) ≡ true → is_marked unfinished u ≡ false
 
 -- no arc of a finished condition leads to an unfinished one, and no finished one is on a circle
 pub record Finished (c : Chart) (unfinished : List Bool) : Type 0 where
   pub long : length unfinished ≡ size c
-  pub ahead : (v : ℕ) → v < size c → marked unfinished v ≡ false → NoneAhead c unfinished v
-  pub off : (v : ℕ) → v < size c → marked unfinished v ≡ false → onCircle c v ≡ false
+  pub ahead : (v : ℕ) → v < size c → is_marked unfinished v ≡ false → NoneAhead c unfinished v
+  pub off : (v : ℕ) → v < size c → is_marked unfinished v ≡ false → is_on_circle c v ≡ false

@@ -4,12 +4,12 @@ use Rattle.words.specs.lists.Pick.{pick}
 use Rattle.words.specs.lists.Numbers.{range}
 use Rattle.text.specs.frames.Frame.{size}
 use Rattle.charts.specs.Chart.{Chart, is}
-use Rattle.charts.specs.Check.{arcs, conditionArcs}
+use Rattle.charts.specs.Check.{arcs, condition_arcs}
 
 -- all arcs, or those of conditions alone
-abbrev pub arcsBy : Chart → Bool → ℕ → List ℕ
-arcsBy c conditions v = pick conditions (conditionArcs c v) (arcs c v)
+abbrev pub arcs_by : Chart → Bool → ℕ → List ℕ
+arcs_by c conditions v = pick conditions (condition_arcs c v) (arcs c v)
 
 -- the nodes of kind k
-abbrev pub kindMarks : Chart → ℕ → List Bool
-kindMarks c k = map (is c k) (range 0 (size c))
+abbrev pub kind_marks : Chart → ℕ → List Bool
+kind_marks c k = map (is c k) (range 0 (size c))

@@ -2,11 +2,11 @@
 use mathlib.Core.Path.{◌≡◌}
 use Prim.Native.Nat.{◌-◌, ◌≤◌}
 use Rattle.words.specs.lists.Numbers.{any}
-use Rattle.image.specs.Decode.{rowInFrame}
-use Rattle.covering.specs.inner.CoveringContracts.{togetherSome, togetherAny}
+use Rattle.image.specs.Decode.{row_in_frame}
+use Rattle.covering.specs.inner.CoveringContracts.{is_together_with_some, has_any_together}
 use Rattle.covering.proofs.any_together.Given as goal
 
 abbrev pub invariant-loop-f : goal.invariant-loop-f
 invariant-loop-f l =
-    ((l.first ≤ l.f) × (l.f ≤ l.end)) × (any (λ k. togetherSome l.table (rowInFrame l.table k) l.first (k - l.first))
-    l.f (l.end - l.f) ≡ togetherAny l.table l.first (l.end - l.first))
+    ((l.first ≤ l.f) × (l.f ≤ l.end)) × (any (λ k. is_together_with_some l.table (row_in_frame l.table k) l.first (k - l.first))
+    l.f (l.end - l.f) ≡ has_any_together l.table l.first (l.end - l.first))

@@ -2,12 +2,12 @@
 use mathlib.Core.Path.{◌≡◌}
 use Prim.Native.Nat.{◌-◌, ◌≤◌}
 use Rattle.words.specs.lists.Numbers.{any}
-use Rattle.image.specs.Decode.{rowInFrame}
-use Rattle.covering.specs.Matched.{together}
-use Rattle.covering.specs.inner.CoveringContracts.{togetherSome}
+use Rattle.image.specs.Decode.{row_in_frame}
+use Rattle.covering.specs.Matched.{is_together}
+use Rattle.covering.specs.inner.CoveringContracts.{is_together_with_some}
 use Rattle.covering.proofs.meets_before.Given as goal
 
 abbrev pub invariant-loop-g : goal.invariant-loop-g
 invariant-loop-g l =
-    (l.g ≤ l.f) × (any (λ k. together (rowInFrame l.table l.f) (rowInFrame l.table k)) l.g (l.f - l.g) ≡ togetherSome
-    l.table (rowInFrame l.table l.f) l.first (l.f - l.first))
+    (l.g ≤ l.f) × (any (λ k. is_together (row_in_frame l.table l.f) (row_in_frame l.table k)) l.g (l.f - l.g) ≡ is_together_with_some
+    l.table (row_in_frame l.table l.f) l.first (l.f - l.first))

@@ -2,12 +2,12 @@
 use mathlib.Core.Path.{◌≡◌}
 use Prim.Native.Nat.{◌-◌, ◌≤◌}
 use Rattle.words.specs.lists.Numbers.{lowest}
-use Rattle.covering.specs.inner.CoveringContracts.{isOther}
+use Rattle.covering.specs.inner.CoveringContracts.{is_other}
 use Rattle.covering.proofs.rows_end.Given as goal
 
 abbrev pub invariant-loop-g : goal.invariant-loop-g
 invariant-loop-g l =
-    (l.g ≤ l.end) × (lowest (isOther l.table l.label) l.g (l.end - l.g) ≡ lowest (isOther l.table l.label) l.f (l.end - l.f))
+    (l.g ≤ l.end) × (lowest (is_other l.table l.label) l.g (l.end - l.g) ≡ lowest (is_other l.table l.label) l.f (l.end - l.f))
 
 abbrev pub decreases-loop-g : goal.decreases-loop-g
 decreases-loop-g l = l.end - l.g

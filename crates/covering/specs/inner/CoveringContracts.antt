@@ -7,38 +7,38 @@ use Rattle.text.specs.frames.Frame.{size, field}
 use Rattle.text.specs.frames.Sizes.{CONDITIONS, WORDS}
 use Rattle.image.specs.declared.layout.TheConstants.{FROM, NO_BIT}
 use Rattle.image.specs.Image.{Row}
-use Rattle.image.specs.Decode.{rowCount, rows_from, rowInFrame, decoded}
+use Rattle.image.specs.Decode.{row_count, rows_from, row_in_frame, decoded_image}
 use Rattle.image.specs.inner.Sound.{SoundImage}
-use Rattle.covering.specs.Matched.{together}
+use Rattle.covering.specs.Matched.{is_together}
 
 -- a table of an accepted image, as it is read or prepared for ticks
 pub record SoundTable (b : List ℕ) : Type 0 where
-  pub image : SoundImage (decoded b)
-  pub all : size b ≡ rows_from b + rowCount b
+  pub image : SoundImage (decoded_image b)
+  pub all : size b ≡ rows_from b + row_count b
 
 -- a row of which only that is told which decides what it matches
-abbrev pub rowWith : ℕ → ℕ → ℕ → Row
-rowWith care values bit = record { from = 0; care = care; values = values; bit = bit; next = 0 }
+abbrev pub row_with : ℕ → ℕ → ℕ → Row
+row_with care values bit = record { from = 0; care = care; values = values; bit = bit; next = 0 }
 
 -- some word and bit match the row and one of the n rows from frame first on
-abbrev pub togetherSome : List ℕ → Row → ℕ → ℕ → Bool
-togetherSome b r first n = any (λ g. together r (rowInFrame b g)) first n
+abbrev pub is_together_with_some : List ℕ → Row → ℕ → ℕ → Bool
+is_together_with_some b r first n = any (λ g. is_together r (row_in_frame b g)) first n
 
 -- some word and bit match two of these rows
-abbrev pub togetherAny : List ℕ → ℕ → ℕ → Bool
-togetherAny b first n = any (λ f. togetherSome b (rowInFrame b f) first (f - first)) first n
+abbrev pub has_any_together : List ℕ → ℕ → ℕ → Bool
+has_any_together b first n = any (λ f. is_together_with_some b (row_in_frame b f) first (f - first)) first n
 
 -- how many words a row matches with bit b, whatever its label
-abbrev pub wordsWith : ℕ → Row → ℕ
-wordsWith b r = pick (eqb r.bit NO_BIT || eqb r.bit b) (2 ^ (CONDITIONS - ones r.care)) 0
+abbrev pub words_with : ℕ → Row → ℕ
+words_with b r = pick (eqb r.bit NO_BIT || eqb r.bit b) (2 ^ (CONDITIONS - ones r.care)) 0
 
 abbrev pub words_in : List ℕ → ℕ → ℕ → ℕ → ℕ
-words_in b bit first n = sum (λ f. wordsWith bit (rowInFrame b f)) first n
+words_in b bit first n = sum (λ f. words_with bit (row_in_frame b f)) first n
 
 -- of the n rows from frame first on, if they are those of one label, some word and bit match none or two
-abbrev pub unevenRows : List ℕ → ℕ → ℕ → Bool
-unevenRows b first n = not (eqb (words_in b 0 first n) WORDS) || not (eqb (words_in b 1 first n) WORDS) || togetherAny b first n
+abbrev pub has_uneven_rows : List ℕ → ℕ → ℕ → Bool
+has_uneven_rows b first n = not (eqb (words_in b 0 first n) WORDS) || not (eqb (words_in b 1 first n) WORDS) || has_any_together b first n
 
 -- frame f holds no row of label l
-abbrev pub isOther : List ℕ → ℕ → ℕ → Bool
-isOther b l f = not (eqb (field b f FROM) l)
+abbrev pub is_other : List ℕ → ℕ → ℕ → Bool
+is_other b l f = not (eqb (field b f FROM) l)

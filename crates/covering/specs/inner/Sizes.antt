@@ -6,25 +6,25 @@ use Rattle.words.specs.lists.Pick.{pick}
 use Rattle.words.specs.lists.Numbers.{any, sum}
 use Rattle.text.specs.frames.Sizes.{CONDITIONS, WORDS}
 use Rattle.image.specs.declared.layout.TheConstants.{NO_BIT}
-use Rattle.image.specs.Image.{Image, Row, nthRow}
-use Rattle.covering.specs.Matched.{together}
+use Rattle.image.specs.Image.{Image, Row, nth_row}
+use Rattle.covering.specs.Matched.{is_together}
 
-abbrev pub overlap : Row → Row → Bool
-overlap r s = eqb r.from s.from && together r s
+abbrev pub is_overlap : Row → Row → Bool
+is_overlap r s = eqb r.from s.from && is_together r s
 
 -- a row overlaps with one before it
-unfoldable pub overlaps : Image → Bool
-overlaps i = any (λ j. any (λ k. overlap (nthRow i k) (nthRow i j)) 0 j) 0 (length i.rows)
+unfoldable pub has_overlap : Image → Bool
+has_overlap i = any (λ j. any (λ k. is_overlap (nth_row i k) (nth_row i j)) 0 j) 0 (length i.rows)
 
 -- how many words a row of label l matches, with bit b
-abbrev pub wordsMatched : ℕ → ℕ → Row → ℕ
-wordsMatched l b r = pick (eqb r.from l && (eqb r.bit NO_BIT || eqb r.bit b)) (2 ^ (CONDITIONS - ones r.care)) 0
+abbrev pub words_matched : ℕ → ℕ → Row → ℕ
+words_matched l b r = pick (eqb r.from l && (eqb r.bit NO_BIT || eqb r.bit b)) (2 ^ (CONDITIONS - ones r.care)) 0
 
-unfoldable pub covered : Image → ℕ → ℕ → ℕ
-covered i l b = sum (λ k. wordsMatched l b (nthRow i k)) 0 (length i.rows)
+unfoldable pub covered_count : Image → ℕ → ℕ → ℕ
+covered_count i l b = sum (λ k. words_matched l b (nth_row i k)) 0 (length i.rows)
 
-abbrev pub gaps : Image → ℕ → Bool
-gaps i l = not (eqb (covered i l 0) WORDS) || not (eqb (covered i l 1) WORDS)
+abbrev pub has_gap : Image → ℕ → Bool
+has_gap i l = not (eqb (covered_count i l 0) WORDS) || not (eqb (covered_count i l 1) WORDS)
 
-unfoldable pub unevenBySizes : Image → Bool
-unevenBySizes i = overlaps i || any (gaps i) 2 (length i.labels - 2)
+unfoldable pub is_uneven_by_sizes : Image → Bool
+is_uneven_by_sizes i = has_overlap i || any (has_gap i) 2 (length i.labels - 2)

@@ -2,7 +2,7 @@
 use Rattle.std.specs.Prelude.{ℕ, List, [], ◌∷◌, set}
 
 -- a place past the end changes nothing, and neither does a place without a byte
-unfoldable pub patched : List ℕ → List ℕ → List ℕ
-patched bytes [] = bytes
-patched bytes (at ∷ []) = bytes
-patched bytes (at ∷ b ∷ rest) = patched (set bytes at b) rest
+unfoldable pub patched_bytes : List ℕ → List ℕ → List ℕ
+patched_bytes bytes [] = bytes
+patched_bytes bytes (at ∷ []) = bytes
+patched_bytes bytes (at ∷ b ∷ rest) = patched_bytes (set bytes at b) rest

@@ -2,8 +2,8 @@
 use Prim.Native.Nat.{ℕ}
 use mathlib.Core.Path.{◌≡◌, sym, ◌∙◌, ap}
 use Rattle.ticks.specs.declared.codes.Meaning.{Meaning}
-use Rattle.ticks.specs.codes.Codes.{meaningOf, tickKindOf, calledOf}
+use Rattle.ticks.specs.codes.Codes.{meaning_of, tick_kind_of, called_of}
 use Rattle.fairleadow.specs.causes_for_c.Meant.{Meant}
 
-pub meant-by : (code : ℕ) (m v : Meaning) → m ≡ meaningOf code → m ≡ v → Meant code (tickKindOf v) (calledOf v)
-meant-by code m v e t = record { kind-is = ap tickKindOf (sym t ∙ e); called_is = ap calledOf (sym t ∙ e) }
+pub meant-by : (code : ℕ) (m v : Meaning) → m ≡ meaning_of code → m ≡ v → Meant code (tick_kind_of v) (called_of v)
+meant-by code m v e t = record { kind-is = ap tick_kind_of (sym t ∙ e); called_is = ap called_of (sym t ∙ e) }

@@ -6,7 +6,7 @@ use lib.Dec.{eqb}
 use borrow.Author.Tests.{eq-eqb, ne_eqb}
 use Rattle.words.specs.lists.Pick.{pick}
 use Rattle.words.proofs.lists.Tests.{yes-pick, no-pick}
-use Rattle.text.specs.frames.Answer.{Reply, replyNumber, reply}
+use Rattle.text.specs.frames.Answer.{Reply, reply_number, reply}
 use Rattle.runs.specs.declared.TickReport.{TickReport}
 use Rattle.fairleadow.specs.telling.AnswersForC.{GivesReplyC, GivesTickReportC}
 
@@ -31,11 +31,11 @@ told-as {n = n} {i = i} {m = m} e t = subst (λ (x : Reply). GivesReplyC x n i m
 -- a report whose answer, mask and code are those of an outcome, over the mask and the code before
 module _ {r : TickReport} {m₀ k₀ n i m mask code : ℕ} (ticked : GivesTickReportC r m₀ k₀ n i m mask code)
     {x : Reply} (answered : reply r.answer ≡ x) where
-  told-test : eqb n 0 ≡ eqb (replyNumber x) 0
-  told-test = ap (λ (k : ℕ). eqb k 0) (ticked.told.number_is ∙ ap replyNumber answered)
+  told-test : eqb n 0 ≡ eqb (reply_number x) 0
+  told-test = ap (λ (k : ℕ). eqb k 0) (ticked.told.number_is ∙ ap reply_number answered)
 
-  pub mask-told : {v : ℕ} → r.mask ≡ v → mask ≡ pick (eqb (replyNumber x) 0) v m₀
-  mask-told e = ticked.mask ∙ ap (λ (t : Bool). pick t r.mask m₀) told-test ∙ ap (λ (v : ℕ). pick (eqb (replyNumber x) 0) v m₀) e
+  pub mask-told : {v : ℕ} → r.mask ≡ v → mask ≡ pick (eqb (reply_number x) 0) v m₀
+  mask-told e = ticked.mask ∙ ap (λ (t : Bool). pick t r.mask m₀) told-test ∙ ap (λ (v : ℕ). pick (eqb (reply_number x) 0) v m₀) e
 
-  pub code-told : {v : ℕ} → r.code ≡ v → code ≡ pick (eqb (replyNumber x) 0) v k₀
-  code-told e = ticked.code ∙ ap (λ (t : Bool). pick t r.code k₀) told-test ∙ ap (λ (v : ℕ). pick (eqb (replyNumber x) 0) v k₀) e
+  pub code-told : {v : ℕ} → r.code ≡ v → code ≡ pick (eqb (reply_number x) 0) v k₀
+  code-told e = ticked.code ∙ ap (λ (t : Bool). pick t r.code k₀) told-test ∙ ap (λ (v : ℕ). pick (eqb (reply_number x) 0) v k₀) e

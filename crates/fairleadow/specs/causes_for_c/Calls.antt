@@ -5,8 +5,8 @@ use Rattle.state.specs.Bytes.{state_of}
 use Rattle.fairleadow.specs.telling.AnswersForC.{GivesReplyC}
 
 -- what made the tick of the state that the bytes hold go on
-abbrev pub causeFor : List ℕ → List ℕ → ℕ → cause.CauseOutcome
-causeFor image state word = cause.explain image (state_of state) word
+abbrev pub cause_for : List ℕ → List ℕ → ℕ → cause.CauseOutcome
+cause_for image state word = cause.explain image (state_of state) word
 
 -- a call that tells it: row, mask and bit are written in every case, each 0 with a refusal
 pub record GivesCauseC (x : cause.CauseOutcome) (returned at made k m b : ℕ) : Type 0 where

@@ -1,14 +1,14 @@
 -- What C is told of an answer and of a tick's report.
 use Rattle.std.specs.Prelude.{ℕ, ◌≡◌, List, eqb}
 use Rattle.words.specs.lists.Pick.{pick}
-use Rattle.text.specs.frames.Answer.{Reply, replyNumber, replyIndex, replyCount, reply, BufferOutcome}
+use Rattle.text.specs.frames.Answer.{Reply, reply_number, reply_index, reply_count, reply, BufferOutcome}
 use Rattle.runs.specs.declared.TickReport.{TickReport}
 
 -- the number returned, and the index and the count written, are those of the reply
 pub record GivesReplyC (x : Reply) (returned at made : ℕ) : Type 0 where
-  pub number_is : returned ≡ replyNumber x
-  pub index_is : at ≡ replyIndex x
-  pub count-is : made ≡ replyCount x
+  pub number_is : returned ≡ reply_number x
+  pub index_is : at ≡ reply_index x
+  pub count-is : made ≡ reply_count x
 
 -- what is written of a tick's report, over the mask and the code before it
 pub record GivesTickReportC (r : TickReport) (m₀ k₀ returned at made m k : ℕ) : Type 0 where

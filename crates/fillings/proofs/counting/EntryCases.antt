@@ -11,36 +11,36 @@ use Rattle.words.specs.lists.Pick.{pick}
 use Rattle.words.proofs.lists.Tests.{or_l, or-none, or-true-l, or_true_r}
 use Rattle.text.specs.frames.Frame.{contents}
 use Rattle.text.specs.frames.Verdict.{Verdict, fine, refused, next, when}
-use Rattle.text.specs.frames.Answer.{success, refusal, reply, judged}
+use Rattle.text.specs.frames.Answer.{success, refusal, reply, verdict_reply}
 use Rattle.text.specs.declared.frames.Answer.{Answer}
 use Rattle.text.specs.declared.frames.Answer.TheVariants.{Done, Refused}
 use Rattle.text.proofs.frames.Chains.{refused-verdict}
 use Rattle.image.specs.Image.{Image}
-use Rattle.image.specs.Decode.{decoded}
-use Rattle.image.specs.Check.{imageVerdict}
-use Rattle.tables.specs.Table.{tableImage}
+use Rattle.image.specs.Decode.{decoded_image}
+use Rattle.image.specs.Check.{image_verdict}
+use Rattle.tables.specs.Table.{table_image}
 use Rattle.tables.specs.inner.Asked.{Whole}
 use Rattle.state.specs.declared.State.{State}
-use Rattle.state.specs.State.{fresh, noState, badSize, StateOutcome, freshState}
-use Rattle.state.specs.Bytes.{state_of, bytesOf}
+use Rattle.state.specs.State.{fresh, no_state, is_bad_size, StateOutcome, fresh_state}
+use Rattle.state.specs.Bytes.{state_of, bytes_of}
 use Rattle.state.proofs.Sizes.{size-most}
 use Rattle.state.proofs.ResultBytes.{state-back, fresh-sized}
 use Rattle.ticks.specs.inner.TickContracts.{TickAsked}
 use Rattle.fitness.proofs.Depths.{deep-fine}
-use Rattle.fillings.specs.Counts.{tooManyLists, countVerdict, countFillings}
+use Rattle.fillings.specs.Counts.{has_too_many_lists, count_verdict, count_fillings}
 use Rattle.fillings.specs.declared.fill_counts.Tally.{Tally}
 use Rattle.fillings.specs.fill_counts.inner.TallyContracts.{tally_of}
 use Rattle.fillings.specs.counting.CountingContracts.{GivesFillings}
 
 -- ---- 28
 module _ (n k : ℕ) where
-  pub many-conditions : 16 < k → true ≡ tooManyLists n k
+  pub many-conditions : 16 < k → true ≡ has_too_many_lists n k
   many-conditions l = sym (or-true-l (ltb 16 (n * k) || ltb 16 k) (ltb 65536 n) (or_true_r (ltb 16 (n * k)) (ltb 16 k) (lt-ltb 16 k l)))
 
-  pub many-words : 65536 < n → true ≡ tooManyLists n k
+  pub many-words : 65536 < n → true ≡ has_too_many_lists n k
   many-words l = sym (or_true_r (ltb 16 (n * k) || ltb 16 k) (ltb 65536 n) (lt-ltb 65536 n l))
 
-  pub few-both : k ≤ 16 → n ≤ 65536 → ltb 16 (n * k) ≡ tooManyLists n k
+  pub few-both : k ≤ 16 → n ≤ 65536 → ltb 16 (n * k) ≡ has_too_many_lists n k
   few-both l h = go (ltb 16 (n * k)) (le-ltb 16 k l) (le-ltb 65536 n h)
     where
       go : (t : Bool) → ltb 16 k ≡ false → ltb 65536 n ≡ false → t ≡ (t || ltb 16 k || ltb 65536 n)
@@ -50,19 +50,19 @@ module _ (n k : ℕ) where
   pub product-few : k ≤ 16 → n ≤ 65536 → n * k ≤ 1048576
   product-few l h = mul-le-mul h l
 
-  pub many-not : tooManyLists n k ≡ false → n * k ≤ 16
+  pub many-not : has_too_many_lists n k ≡ false → n * k ≤ 16
   many-not e = ltb-false 16 (n * k) (or_l (ltb 16 (n * k)) (ltb 16 k) (or_l (ltb 16 (n * k) || ltb 16 k) (ltb 65536 n) e))
 
 -- ---- the fresh state in its bytes
-pub fresh-made : (size : ℕ) → badSize size ≡ false → (s : State) (bytes : List ℕ) → s ≡ (freshState size).state → bytes ≡ bytesOf s
+pub fresh-made : (size : ℕ) → is_bad_size size ≡ false → (s : State) (bytes : List ℕ) → s ≡ (fresh_state size).state → bytes ≡ bytes_of s
     → state_of bytes ≡ fresh size
-unfolding freshState
+unfolding fresh_state
 fresh-made size e s bytes q h =
-    let is : s ≡ fresh size = q ∙ ap (λ (t : Bool). (pick {A = StateOutcome} t (record { reply = refusal 14 0 0; state = noState })
+    let is : s ≡ fresh size = q ∙ ap (λ (t : Bool). (pick {A = StateOutcome} t (record { reply = refusal 14 0 0; state = no_state })
     (record { reply = success 0; state = fresh size })).state) e in
-    ap state_of (h ∙ ap bytesOf is) ∙ state-back (fresh size) (fresh-sized size) refl
+    ap state_of (h ∙ ap bytes_of is) ∙ state-back (fresh size) (fresh-sized size) refl
 
-pub fresh-stands : (b : List ℕ) (size : ℕ) (s : State) → Whole b → badSize size ≡ false → s ≡ fresh size → TickAsked b s
+pub fresh-stands : (b : List ℕ) (size : ℕ) (s : State) → Whole b → is_bad_size size ≡ false → s ≡ fresh size → TickAsked b s
 fresh-stands b size s whole e q =
     let z : size ≡ 0 → ⊥ = eqb-false size 0 (or_l (eqb size 0) (ltb 32 size) e) in
     rw q
@@ -71,44 +71,44 @@ fresh-stands b size s whole e q =
 -- ---- the answers
 module _ (t : List ℕ) (size n k : ℕ) where
   abbrev image : Image
-  image = decoded (contents t)
+  image = decoded_image (contents t)
 
-  pub refused-tells : (a : Answer) (m j : ℕ) → reply a ≡ refusal m j 0 → countVerdict t size n k ≡ refused m j
-      → GivesFillings (countFillings t size n k) (record { answer = a; ended = 0; full = 0; unmatched = 0 })
-  unfolding countFillings
+  pub refused-tells : (a : Answer) (m j : ℕ) → reply a ≡ refusal m j 0 → count_verdict t size n k ≡ refused m j
+      → GivesFillings (count_fillings t size n k) (record { answer = a; ended = 0; full = 0; unmatched = 0 })
+  unfolding count_fillings
   refused-tells a m j e v = rw v (record { answered = e; ended = refl; full = refl; unmatched = refl })
 
-  pub image-tells : (a : Answer) → reply a ≡ judged (imageVerdict t) 0 → (m j i : ℕ) → a ≡ Refused m j i
-      → GivesFillings (countFillings t size n k) (record { answer = a; ended = 0; full = 0; unmatched = 0 })
-  unfolding countVerdict
+  pub image-tells : (a : Answer) → reply a ≡ verdict_reply (image_verdict t) 0 → (m j i : ℕ) → a ≡ Refused m j i
+      → GivesFillings (count_fillings t size n k) (record { answer = a; ended = 0; full = 0; unmatched = 0 })
+  unfolding count_verdict
   image-tells a gives m j i e =
-      let v : imageVerdict t ≡ refused m j = (refused-verdict a (imageVerdict t) 0 gives m j i e).0 in
-      refused-tells a m j (gives ∙ ap (λ (w : Verdict). judged w 0) v)
-      (ap (λ (w : Verdict). next w λ _. next (when 14 (badSize size)) λ _. when 28 (tooManyLists n k)) v)
+      let v : image_verdict t ≡ refused m j = (refused-verdict a (image_verdict t) 0 gives m j i e).0 in
+      refused-tells a m j (gives ∙ ap (λ (w : Verdict). verdict_reply w 0) v)
+      (ap (λ (w : Verdict). next w λ _. next (when 14 (is_bad_size size)) λ _. when 28 (has_too_many_lists n k)) v)
 
-  module _ (ok : imageVerdict t ≡ fine) where
-    verdict-on : countVerdict t size n k ≡ next (when 14 (badSize size)) λ _. when 28 (tooManyLists n k)
-    unfolding countVerdict
-    verdict-on = ap (λ (w : Verdict). next w λ _. next (when 14 (badSize size)) λ _. when 28 (tooManyLists n k)) ok
+  module _ (ok : image_verdict t ≡ fine) where
+    verdict-on : count_verdict t size n k ≡ next (when 14 (is_bad_size size)) λ _. when 28 (has_too_many_lists n k)
+    unfolding count_verdict
+    verdict-on = ap (λ (w : Verdict). next w λ _. next (when 14 (is_bad_size size)) λ _. when 28 (has_too_many_lists n k)) ok
 
-    pub size-tells : (a : Answer) → a ≡ Refused 14 0 0 → badSize size ≡ true
-        → GivesFillings (countFillings t size n k) (record { answer = a; ended = 0; full = 0; unmatched = 0 })
+    pub size-tells : (a : Answer) → a ≡ Refused 14 0 0 → is_bad_size size ≡ true
+        → GivesFillings (count_fillings t size n k) (record { answer = a; ended = 0; full = 0; unmatched = 0 })
     size-tells a e z =
-        refused-tells a 14 0 (ap reply e) (verdict-on ∙ ap (λ (x : Bool). next (when 14 x) λ _. when 28 (tooManyLists n k)) z)
+        refused-tells a 14 0 (ap reply e) (verdict-on ∙ ap (λ (x : Bool). next (when 14 x) λ _. when 28 (has_too_many_lists n k)) z)
 
-    module _ (good : badSize size ≡ false) where
-      verdict-last : (x : Bool) → tooManyLists n k ≡ x → countVerdict t size n k ≡ when 28 x
+    module _ (good : is_bad_size size ≡ false) where
+      verdict-last : (x : Bool) → has_too_many_lists n k ≡ x → count_verdict t size n k ≡ when 28 x
       verdict-last x e = verdict-on ∙ ap₂ (λ (y z : Bool). next (when 14 y) λ _. when 28 z) good e
 
-      pub many-tells : (a : Answer) → a ≡ Refused 28 0 0 → tooManyLists n k ≡ true
-          → GivesFillings (countFillings t size n k) (record { answer = a; ended = 0; full = 0; unmatched = 0 })
+      pub many-tells : (a : Answer) → a ≡ Refused 28 0 0 → has_too_many_lists n k ≡ true
+          → GivesFillings (count_fillings t size n k) (record { answer = a; ended = 0; full = 0; unmatched = 0 })
       many-tells a e z = refused-tells a 28 0 (ap reply e) (verdict-last true z)
 
-      pub all_tell : (b : List ℕ) → tableImage b ≡ image → tooManyLists n k ≡ false
-          → (r : Tally) → r ≡ tally_of (tableImage b) (fresh size) n k
-          → GivesFillings (countFillings t size n k)
+      pub all_tell : (b : List ℕ) → table_image b ≡ image → has_too_many_lists n k ≡ false
+          → (r : Tally) → r ≡ tally_of (table_image b) (fresh size) n k
+          → GivesFillings (count_fillings t size n k)
           (record { answer = Done 0; ended = r.ended; full = r.full; unmatched = r.unmatched })
-      unfolding countFillings
+      unfolding count_fillings
       all_tell b h z r e =
           let is : r ≡ tally_of image (fresh size) n k = e ∙ ap (λ (i : Image). tally_of i (fresh size) n k) h in
           rw (verdict-last false z)

@@ -15,7 +15,7 @@ use Rattle.image.specs.Image.{Image}
 use Rattle.state.specs.declared.State.{State}
 use Rattle.ticks.specs.Tick.{MachineTick, finished, stopped, tick}
 use Rattle.runs.specs.Run.{then, ticks}
-use Rattle.fillings.specs.Counts.{words_of, lists, number_of, met, meeting}
+use Rattle.fillings.specs.Counts.{words_of, lists, number_of, number_met, count_meeting}
 use Rattle.fillings.proofs.Lists.{lists-suc}
 
 -- ---- a * b numbers, by what they leave over b
@@ -47,7 +47,7 @@ by-rest p b (suc a) =
 
 -- ---- how many of the lists that begin alike meet a number
 abbrev pub share : Image → ℕ → ℕ → ℕ → MachineTick → ℕ
-share i n k number (finished m c t) = meeting i t n k number
+share i n k number (finished m c t) = count_meeting i t n k number
 share i n k number (stopped m) = pick (eqb m number) (lists n k) 0
 
 all-or-none : (b : Bool) (m : ℕ) → count (λ q. b) 0 m ≡ pick b m 0
@@ -56,24 +56,24 @@ all-or-none false m = count_none (λ q. false) 0 m (λ k l h. refl)
 
 module _ (i : Image) (s : State) (n k number : ℕ) where
   abbrev meets : List ℕ → Bool
-  meets ws = eqb (met i s ws) number
+  meets ws = eqb (number_met i s ws) number
 
   words_more : (q w : ℕ) → w < 2 ^ k → words_of (suc n) k (q * 2 ^ k + w) ≡ w ∷ words_of n k q
   unfolding words_of
   words_more q w l = ap₂ (λ (a : ℕ) (b : ℕ). a ∷ words_of n k b) (low q k l) (high q k l)
 
   by-tick : (w : ℕ) (x : MachineTick) → tick i s w ≡ x → count (λ q. meets (w ∷ words_of n k q)) 0 (lists n k) ≡ share i n k number x
-  unfolding ticks meeting
+  unfolding ticks count_meeting
   by-tick w (finished m c t) e =
-      count-alike (λ q. eqb (met i t (words_of n k q)) number) (λ q. meets (w ∷ words_of n k q)) 0 (lists n k)
+      count-alike (λ q. eqb (number_met i t (words_of n k q)) number) (λ q. meets (w ∷ words_of n k q)) 0 (lists n k)
       (λ q l h. ap (λ (y : MachineTick). eqb (number_of (then s (λ u. ticks i u (words_of n k q)) y).verdict) number) e)
   by-tick w (stopped m) e =
       count-alike (λ q. eqb m number) (λ q. meets (w ∷ words_of n k q)) 0 (lists n k)
       (λ q l h. ap (λ (y : MachineTick). eqb (number_of (then s (λ u. ticks i u (words_of n k q)) y).verdict) number) e)
       ∙ all-or-none (eqb m number) (lists n k)
 
-  pub meeting-more : meeting i s (suc n) k number ≡ sum (λ w. share i n k number (tick i s w)) 0 (2 ^ k)
-  unfolding meeting
+  pub meeting-more : count_meeting i s (suc n) k number ≡ sum (λ w. share i n k number (tick i s w)) 0 (2 ^ k)
+  unfolding count_meeting
   meeting-more =
       ap (count (λ x. meets (words_of (suc n) k x)) 0) (lists-suc n k ∙ pow-add 2 (n * k) k)
       ∙ by-rest (λ x. meets (words_of (suc n) k x)) (2 ^ k) (lists n k)
@@ -83,6 +83,6 @@ module _ (i : Image) (s : State) (n k number : ℕ) where
       (λ q b h. ap meets (words_more q w (omega arith))) ∙ by-tick w (tick i s w) refl)
 
 -- no word is left: the one list has come to its end
-pub meeting-none : (i : Image) (s : State) (k number : ℕ) → meeting i s 0 k number ≡ pick (eqb 0 number) 1 0
-unfolding meeting words_of ticks
+pub meeting-none : (i : Image) (s : State) (k number : ℕ) → count_meeting i s 0 k number ≡ pick (eqb 0 number) 1 0
+unfolding count_meeting words_of ticks
 meeting-none i s k number = ap (λ (m : ℕ). count (λ x. eqb 0 number) 0 (2 ^ m)) (zero-mul k) ∙ all-or-none (eqb 0 number) 1

@@ -10,7 +10,7 @@ use Rattle.words.proofs.lists.Counts.{count-le}
 use Rattle.words.proofs.lists.Searches.{sum-turn}
 use Rattle.words.proofs.lists.Sums.{sum-none, sum-suc, sum-split}
 use Rattle.image.specs.Image.{Image}
-use Rattle.tables.specs.Table.{tableImage}
+use Rattle.tables.specs.Table.{table_image}
 use Rattle.state.specs.declared.State.{State}
 use Rattle.state.specs.Bytes.{state_of}
 use Rattle.ticks.specs.declared.TickEnd.{TickEnd}
@@ -18,9 +18,9 @@ use Rattle.ticks.specs.Tick.{MachineTick, tick}
 use Rattle.ticks.specs.inner.TickContracts.{TickAsked, GivesTickEnd}
 use Rattle.ticks.proofs.TickCases.{stands_on}
 use Rattle.runs.proofs.TurnCases.{went, stood}
-use Rattle.fillings.specs.Counts.{words_of, lists, met, meeting}
+use Rattle.fillings.specs.Counts.{words_of, lists, number_met, count_meeting}
 use Rattle.fillings.specs.declared.fill_counts.Tally.{Tally}
-use Rattle.fillings.specs.fill_counts.inner.TallyContracts.{tally_of, allMeet, added, FewLists}
+use Rattle.fillings.specs.fill_counts.inner.TallyContracts.{tally_of, all_meet, tally_sum, FewLists}
 use Rattle.fillings.proofs.fill_counts.Shares.{share, meeting-more, meeting-none}
 
 same-tally : {e e' f f' u u' : ℕ} → e ≡ e' → f ≡ f' → u ≡ u'
@@ -31,21 +31,21 @@ same-tally p q r = λ j. record { ended = p j; full = q j; unmatched = r j }
 abbrev pub share_of : Image → ℕ → ℕ → MachineTick → Tally
 share_of i n k x = record { ended = share i n k 0 x; full = share i n k 17 x; unmatched = share i n k 18 x }
 
-pub tally-none : (i : Image) (s : State) (k : ℕ) → allMeet 0 1 ≡ tally_of i s 0 k
+pub tally-none : (i : Image) (s : State) (k : ℕ) → all_meet 0 1 ≡ tally_of i s 0 k
 tally-none i s k = sym (same-tally (meeting-none i s k 0) (meeting-none i s k 17) (meeting-none i s k 18))
 
 module _ (b before : List ℕ) (w : ℕ) (r : TickEnd) (bytes : List ℕ) (q : GivesTickEnd b before w r bytes) (n k : ℕ) where
   abbrev made : MachineTick
-  made = tick (tableImage b) (state_of before) w
+  made = tick (table_image b) (state_of before) w
 
-  pub went-share : r.number ≡ 0 → tally_of (tableImage b) (state_of bytes) n k ≡ share_of (tableImage b) n k made
-  went-share z = sym (ap (share_of (tableImage b) n k) (went b before w r bytes q z))
+  pub went-share : r.number ≡ 0 → tally_of (table_image b) (state_of bytes) n k ≡ share_of (table_image b) n k made
+  went-share z = sym (ap (share_of (table_image b) n k) (went b before w r bytes q z))
 
-  pub stood-share : (r.number ≡ 0 → ⊥) → allMeet r.number (lists n k) ≡ share_of (tableImage b) n k made
-  stood-share z = sym (ap (share_of (tableImage b) n k) (stood b before w r bytes q z))
+  pub stood-share : (r.number ≡ 0 → ⊥) → all_meet r.number (lists n k) ≡ share_of (table_image b) n k made
+  stood-share z = sym (ap (share_of (table_image b) n k) (stood b before w r bytes q z))
 
 -- ---- words that all are 0
-one_word : (i : Image) (s : State) (n number : ℕ) → meeting i s (suc n) 0 number ≡ share i n 0 number (tick i s 0)
+one_word : (i : Image) (s : State) (n number : ℕ) → count_meeting i s (suc n) 0 number ≡ share i n 0 number (tick i s 0)
 one_word i s n number =
     let f : ℕ → ℕ = λ w. share i n 0 number (tick i s w) in
     meeting-more i s n 0 number ∙ sum-suc f 0 0 ∙ ap (λ (m : ℕ). f 0 + m) (sum-none f 1) ∙ add-zero (f 0)
@@ -59,11 +59,11 @@ one_list n = ap (λ (m : ℕ). 2 ^ m) (mul-zero n)
 -- so many words are left
 pub record One (b bytes₀ : List ℕ) (n : ℕ) (bytes : List ℕ) (left : ℕ) : Type 0 where
   pub stands : TickAsked b (state_of bytes)
-  pub same : tally_of (tableImage b) (state_of bytes) left 0 ≡ tally_of (tableImage b) (state_of bytes₀) n 0
+  pub same : tally_of (table_image b) (state_of bytes) left 0 ≡ tally_of (table_image b) (state_of bytes₀) n 0
 
 module _ {b bytes₀ : List ℕ} {n : ℕ} {bytes : List ℕ} {left : ℕ} (y : One b bytes₀ n bytes left) where
   abbrev i : Image
-  i = tableImage b
+  i = table_image b
 
   abbrev all : Tally
   all = tally_of i (state_of bytes₀) n 0
@@ -80,11 +80,11 @@ module _ {b bytes₀ : List ℕ} {n : ℕ} {bytes : List ℕ} {left : ℕ} (y : 
       same = went-share b bytes 0 r next q (left - 1) 0 z ∙ by-share l;
     }
 
-    pub one_stood : (r.number ≡ 0 → ⊥) → (t : Tally) → t ≡ allMeet r.number 1 → t ≡ all
+    pub one_stood : (r.number ≡ 0 → ⊥) → (t : Tally) → t ≡ all_meet r.number 1 → t ≡ all
     one_stood z t e =
-        e ∙ ap (allMeet r.number) (sym (one_list (left - 1))) ∙ stood-share b bytes 0 r next q (left - 1) 0 z ∙ by-share l
+        e ∙ ap (all_meet r.number) (sym (one_list (left - 1))) ∙ stood-share b bytes 0 r next q (left - 1) 0 z ∙ by-share l
 
-  pub one-over : left ≤ 0 → (t : Tally) → t ≡ allMeet 0 1 → t ≡ all
+  pub one-over : left ≤ 0 → (t : Tally) → t ≡ all_meet 0 1 → t ≡ all
   one-over l t e =
       let z : 0 ≡ left = omega arith in
       e ∙ tally-none i (state_of bytes) 0 ∙ ap (λ (m : ℕ). tally_of i (state_of bytes) m 0) z ∙ y.same
@@ -100,7 +100,7 @@ partly i s n k w = record {
   unmatched = sum (sharing i s n k 18) 0 w;
 }
 
-partly_more : (i : Image) (s : State) (n k w : ℕ) → added (partly i s n k w) (share_of i n k (tick i s w)) ≡ partly i s n k (w + 1)
+partly_more : (i : Image) (s : State) (n k w : ℕ) → tally_sum (partly i s n k w) (share_of i n k (tick i s w)) ≡ partly i s n k (w + 1)
 partly_more i s n k w = same-tally
     (sum-turn (sharing i s n k 0) _ w _ refl refl)
     (sum-turn (sharing i s n k 17) _ w _ refl refl)
@@ -113,12 +113,12 @@ lists-few : (n k : ℕ) → n * k ≤ 16 → lists n k ≤ 65536
 lists-few n k l = pow-le-pow_right {n = 2} (omega arith) l
 
 partly-few : (i : Image) (s : State) (n k number w : ℕ) → suc n * k ≤ 16 → w ≤ 2 ^ k → sum (sharing i s n k number) 0 w ≤ 65536
-unfolding meeting
+unfolding count_meeting
 partly-few i s n k number w l h =
     let f : ℕ → ℕ = sharing i s n k number in
     let e : sum f 0 (w + (2 ^ k - w)) ≡ sum f 0 (2 ^ k) = ap (sum f 0) (omega arith) in
-    let m : meeting i s (suc n) k number ≤ lists (suc n) k =
-    count-le (λ x. eqb (met i s (words_of (suc n) k x)) number) 0 (lists (suc n) k) in
+    let m : count_meeting i s (suc n) k number ≤ lists (suc n) k =
+    count-le (λ x. eqb (number_met i s (words_of (suc n) k x)) number) 0 (lists (suc n) k) in
     omega (arith, e, m, sum-split f 0 w (2 ^ k - w), meeting-more i s n k number, lists-few (suc n) k l)
 
 pub left-few : (n k left : ℕ) → n ≡ suc left → n * k ≤ 16 → (left * k ≤ 16) × (k ≤ 16)
@@ -133,23 +133,23 @@ pub record Part (b bytes : List ℕ) (n k left listed words : ℕ) (tally : Tall
   pub stands : TickAsked b (state_of bytes)
   pub whole : n ≡ suc left
   pub few : n * k ≤ 16
-  pub allLists : listed ≡ lists left k
-  pub allWords : words ≡ 2 ^ k
+  pub all_lists : listed ≡ lists left k
+  pub all_words : words ≡ 2 ^ k
   pub low : word ≤ words
-  pub part : tally ≡ partly (tableImage b) (state_of bytes) left k word
+  pub part : tally ≡ partly (table_image b) (state_of bytes) left k word
 
 pub part-first : (b bytes : List ℕ) (n k left listed words : ℕ) (tally : Tally) → TickAsked b (state_of bytes)
-    → n ≡ suc left → n * k ≤ 16 → listed ≡ lists left k → words ≡ 2 ^ k → tally ≡ allMeet 0 0
+    → n ≡ suc left → n * k ≤ 16 → listed ≡ lists left k → words ≡ 2 ^ k → tally ≡ all_meet 0 0
     → Part b bytes n k left listed words tally 0
 part-first b bytes n k left listed words tally y e l u v t =
-    let i : Image = tableImage b in
+    let i : Image = table_image b in
     let s : State = state_of bytes in
     record {
       stands = y;
       whole = e;
       few = l;
-      allLists = u;
-      allWords = v;
+      all_lists = u;
+      all_words = v;
       low = omega arith;
       part = t ∙ sym (same-tally (sum-none (sharing i s left k 0) 0)
           (sum-none (sharing i s left k 17) 0) (sum-none (sharing i s left k 18) 0));
@@ -158,35 +158,35 @@ part-first b bytes n k left listed words tally y e l u v t =
 module _ {b bytes : List ℕ} {n k left listed words : ℕ} {tally : Tally} {word : ℕ}
     (y : Part b bytes n k left listed words tally word) where
   abbrev image : Image
-  image = tableImage b
+  image = table_image b
 
   abbrev s : State
   s = state_of bytes
 
   -- what the lists that begin with this word add
   module _ (l : word < words) (t : Tally) (e : t ≡ share_of image left k (tick image s word)) where
-    sums : added tally t ≡ partly image s left k (word + 1)
-    sums = ap (λ (a : Tally). added a t) y.part ∙ ap (added (partly image s left k word)) e ∙ partly_more image s left k word
+    sums : tally_sum tally t ≡ partly image s left k (word + 1)
+    sums = ap (λ (a : Tally). tally_sum a t) y.part ∙ ap (tally_sum (partly image s left k word)) e ∙ partly_more image s left k word
 
     few-here : (number : ℕ) → sum (sharing image s left k number) 0 (word + 1) ≤ 65536
     few-here number = partly-few image s left k number (word + 1)
-        (subst (λ (m : ℕ). m * k ≤ 16) y.whole y.few) (omega (arith, y.allWords))
+        (subst (λ (m : ℕ). m * k ≤ 16) y.whole y.few) (omega (arith, y.all_words))
 
-    pub part-few : FewLists (added tally t)
+    pub part-few : FewLists (tally_sum tally t)
     part-few = subst FewLists (sym sums) (record { ended = few-here 0; full = few-here 17; unmatched = few-here 18 })
 
-    pub part-on : (t' : Tally) → t' ≡ added tally t → Part b bytes n k left listed words t' (word + 1)
+    pub part-on : (t' : Tally) → t' ≡ tally_sum tally t → Part b bytes n k left listed words t' (word + 1)
     part-on t' q = record {
       stands = y.stands;
       whole = y.whole;
       few = y.few;
-      allLists = y.allLists;
-      allWords = y.allWords;
+      all_lists = y.all_lists;
+      all_words = y.all_words;
       low = omega arith;
       part = q ∙ sums;
     }
 
   pub part-over : words ≤ word → tally ≡ tally_of image s n k
   part-over l =
-      let e : word ≡ 2 ^ k = omega (arith, y.low, y.allWords) in
+      let e : word ≡ 2 ^ k = omega (arith, y.low, y.all_words) in
       y.part ∙ ap (partly image s left k) e ∙ partly-all image s left k ∙ ap (λ (m : ℕ). tally_of image s m k) (sym y.whole)

@@ -12,72 +12,73 @@ use Rattle.words.specs.lists.Numbers.{any}
 use Rattle.words.proofs.lists.Tests.{or-none, or-true-l, or_true_r, and-true, and_no, split}
 use Rattle.words.proofs.lists.Searches.{any-true, any_none}
 use Rattle.image.specs.Image.{Image, Label}
-use Rattle.image.specs.Decode.{schemeCount, lastLabel, handlerIn}
-use Rattle.tables.specs.Table.{tableImage, tableLabel}
-use Rattle.tables.specs.inner.Labels.{asLabel}
+use Rattle.image.specs.Decode.{scheme_count, last_label, handler_in}
+use Rattle.tables.specs.Table.{table_image, table_label}
+use Rattle.tables.specs.inner.Labels.{as_label}
 use Rattle.tables.specs.declared.Label as declared
 use Rattle.tables.proofs.TableReads.{labels-count, entries-count, label-at}
 use Rattle.state.specs.declared.State.{State}
-use Rattle.state.specs.State.{label_at, placeAt, number_at, serverAt}
-use Rattle.fitness.specs.Fitness.{is_call, callable, unfitPlace, badBottom}
-use Rattle.fitness.specs.inner.FitnessContracts.{astray, miscalled, astrayAtBottom}
-use Rattle.fitness.proofs.Fitness.{carry}
+use Rattle.state.specs.State.{label_at, place_at, number_at, server_at}
+use Rattle.fitness.specs.Fitness.{is_call, is_callable, is_unfit_place, has_bad_bottom}
+use Rattle.fitness.specs.inner.FitnessContracts.{is_astray, is_miscalled, is_astray_at_bottom}
+use Rattle.fitness.proofs.Fitness.{is_carried}
 
 module _ (i : Image) (s : State) where
   -- the label at place k
   abbrev pub at_place : ℕ → Label
-  at_place k = label_at i (placeAt s k)
+  at_place k = label_at i (place_at s k)
 
-  abbrev pub wholeTest : Bool
-  wholeTest = any (unfitPlace i s) 0 s.depth || badBottom i s
+  abbrev pub is_whole_unfit : Bool
+  is_whole_unfit = any (is_unfit_place i s) 0 s.depth || has_bad_bottom i s
 
   -- the label at place k is of the scheme that served there, or label 1; the place is one of the number called
   abbrev over : ℕ → Bool
-  over k = eqb (placeAt s k) 1 || eqb (at_place k).owner (serverAt s k)
+  over k = eqb (place_at s k) 1 || eqb (at_place k).owner (server_at s k)
 
   abbrev right : ℕ → ℕ → Bool
-  right called k = eqb (number_at s k) called && callable i (serverAt s k)
+  right called k = eqb (number_at s k) called && is_callable i (server_at s k)
 
   -- ---- one place
-  one-unfit : (k : ℕ) → k < s.depth → unfitPlace i s k ≡ true → wholeTest ≡ true
+  one-unfit : (k : ℕ) → k < s.depth → is_unfit_place i s k ≡ true → is_whole_unfit ≡ true
   one-unfit k h e =
-      or-true-l (any (unfitPlace i s) 0 s.depth) (badBottom i s) (any-true (unfitPlace i s) 0 s.depth k (omega arith) (omega arith) e)
+      or-true-l (any (is_unfit_place i s) 0 s.depth) (has_bad_bottom i s)
+      (any-true (is_unfit_place i s) 0 s.depth k (omega arith) (omega arith) e)
 
   abbrev Inside : ℕ → Type 0
-  Inside k = placeAt s k < length i.labels
+  Inside k = place_at s k < length i.labels
 
-  pub place-high : (k : ℕ) → k < s.depth → length i.labels ≤ placeAt s k → wholeTest ≡ true
-  place-high k h g = one-unfit k h (or-true-l _ _ (le-leb (length i.labels) (placeAt s k) g))
+  pub place-high : (k : ℕ) → k < s.depth → length i.labels ≤ place_at s k → is_whole_unfit ≡ true
+  place-high k h g = one-unfit k h (or-true-l _ _ (le-leb (length i.labels) (place_at s k) g))
 
-  carries : (k : ℕ) → k + 1 < s.depth → (t : Bool) → carry i s k ≡ t
-      → (ltb (k + 1) s.depth && not (carry i s k)) ≡ not t
+  carries : (k : ℕ) → k + 1 < s.depth → (t : Bool) → is_carried i s k ≡ t
+      → (ltb (k + 1) s.depth && not (is_carried i s k)) ≡ not t
   carries k h t e = rw (lt-ltb (k + 1) s.depth h, e)
 
-  place-loose : (k : ℕ) → k + 1 < s.depth → carry i s k ≡ false → wholeTest ≡ true
-  place-loose k h e = one-unfit k (omega arith) (or_true_r (leb (length i.labels) (placeAt s k)) _ (carries k h false e))
+  place-loose : (k : ℕ) → k + 1 < s.depth → is_carried i s k ≡ false → is_whole_unfit ≡ true
+  place-loose k h e = one-unfit k (omega arith) (or_true_r (leb (length i.labels) (place_at s k)) _ (carries k h false e))
 
-  place_kept : (k : ℕ) → k + 1 < s.depth → Inside k → carry i s k ≡ true → unfitPlace i s k ≡ false
-  place_kept k h g e = or-none _ _ (lt-leb (length i.labels) (placeAt s k) g) (carries k h true e)
+  place_kept : (k : ℕ) → k + 1 < s.depth → Inside k → is_carried i s k ≡ true → is_unfit_place i s k ≡ false
+  place_kept k h g e = or-none _ _ (lt-leb (length i.labels) (place_at s k) g) (carries k h true e)
 
-  place-top : (k : ℕ) → s.depth ≤ k + 1 → Inside k → unfitPlace i s k ≡ false
+  place-top : (k : ℕ) → s.depth ≤ k + 1 → Inside k → is_unfit_place i s k ≡ false
   place-top k h g =
-      or-none _ _ (lt-leb (length i.labels) (placeAt s k) g)
-      (ap (λ (t : Bool). t && not (carry i s k)) (le-ltb (k + 1) s.depth h))
+      or-none _ _ (lt-leb (length i.labels) (place_at s k) g)
+      (ap (λ (t : Bool). t && not (is_carried i s k)) (le-ltb (k + 1) s.depth h))
 
   -- a label that is no call is kept under none
-  pub place-idle : (k : ℕ) → k + 1 < s.depth → is_call (at_place k) ≡ false → wholeTest ≡ true
+  pub place-idle : (k : ℕ) → k + 1 < s.depth → is_call (at_place k) ≡ false → is_whole_unfit ≡ true
   place-idle k h e =
       place-loose k h
-      (ap (λ (t : Bool). t && eqb (number_at s (k + 1)) (at_place k).called && callable i (serverAt s (k + 1)) && over (k + 1)) e)
+      (ap (λ (t : Bool). t && eqb (number_at s (k + 1)) (at_place k).called && is_callable i (server_at s (k + 1)) && over (k + 1)) e)
 
-  bottom-bad : badBottom i s ≡ true → wholeTest ≡ true
-  bottom-bad e = or_true_r (any (unfitPlace i s) 0 s.depth) (badBottom i s) e
+  bottom-bad : has_bad_bottom i s ≡ true → is_whole_unfit ≡ true
+  bottom-bad e = or_true_r (any (is_unfit_place i s) 0 s.depth) (has_bad_bottom i s) e
 
   -- ---- what is known once the label at place k was found to belong there, and when the place above a call is reached
   pub record Belongs (k : ℕ) : Type 0 where
     pub held : Inside k
-    pub lower : (j : ℕ) → j < k → unfitPlace i s j ≡ false
-    pub bottom : badBottom i s ≡ false
+    pub lower : (j : ℕ) → j < k → is_unfit_place i s j ≡ false
+    pub bottom : has_bad_bottom i s ≡ false
 
   pub record PassedPlaces (number k : ℕ) : Type 0 where
     pub some : 1 ≤ k
@@ -85,7 +86,7 @@ module _ (i : Image) (s : State) where
     pub call : is_call (at_place (k - 1)) ≡ true
     pub called : (at_place (k - 1)).called ≡ number
 
-  pub belongs-first : Inside 0 → badBottom i s ≡ false → Belongs 0
+  pub belongs-first : Inside 0 → has_bad_bottom i s ≡ false → Belongs 0
   belongs-first g e = record { held = g; lower = λ j l. absurd (omega arith); bottom = e }
 
   module _ (number k : ℕ) (c : PassedPlaces number k) (here : k < s.depth) where
@@ -93,34 +94,34 @@ module _ (i : Image) (s : State) where
     above = omega (arith, c.some)
 
     -- whether the place below carries this one
-    carried : carry i s (k - 1) ≡ (right number k && over k)
+    carried : is_carried i s (k - 1) ≡ (right number k && over k)
     carried =
-        ap₂ (λ (t : Bool) (h : ℕ). t && eqb (number_at s (k - 1 + 1)) h && callable i (serverAt s (k - 1 + 1)) && over (k - 1 + 1))
+        ap₂ (λ (t : Bool) (h : ℕ). t && eqb (number_at s (k - 1 + 1)) h && is_callable i (server_at s (k - 1 + 1)) && over (k - 1 + 1))
         c.call c.called
         ∙ ap (λ (j : ℕ). right number j && over j) above
 
-    pub stray : (right number k && over k) ≡ false → wholeTest ≡ true
+    pub stray : (right number k && over k) ≡ false → is_whole_unfit ≡ true
     stray e = place-loose (k - 1) (omega (arith, c.some)) (carried ∙ e)
 
     pub belongs-above : right number k ≡ true → over k ≡ true → Inside k → Belongs k
     belongs-above r o g = record { held = g; lower = λ j h. low j (split (j + 1) k) h; bottom = c.below.bottom }
       where
-        low : (j : ℕ) → (j + 1 < k) ⊎ (k ≤ j + 1) → j < k → unfitPlace i s j ≡ false
+        low : (j : ℕ) → (j + 1 < k) ⊎ (k ≤ j + 1) → j < k → is_unfit_place i s j ≡ false
         low j (inl a) h = c.below.lower j (omega arith)
         low j (inr a) h =
             let q : k - 1 ≡ j = omega (arith, c.some) in
-            ap (unfitPlace i s) (sym q) ∙ place_kept (k - 1) (omega (arith, c.some)) c.below.held
+            ap (is_unfit_place i s) (sym q) ∙ place_kept (k - 1) (omega (arith, c.some)) c.below.held
             (carried ∙ and-true (right number k) (over k) r o)
 
   module _ (k : ℕ) (y : Belongs k) where
-    pub top-fits : s.depth ≤ k + 1 → wholeTest ≡ false
+    pub top-fits : s.depth ≤ k + 1 → is_whole_unfit ≡ false
     top-fits h =
-        or-none (any (unfitPlace i s) 0 s.depth) (badBottom i s)
-        (any_none (unfitPlace i s) 0 s.depth (λ j b. each (0 + j) (split (0 + j) k) (omega arith))) y.bottom
+        or-none (any (is_unfit_place i s) 0 s.depth) (has_bad_bottom i s)
+        (any_none (is_unfit_place i s) 0 s.depth (λ j b. each (0 + j) (split (0 + j) k) (omega arith))) y.bottom
       where
-        each : (j : ℕ) → (j < k) ⊎ (k ≤ j) → j < s.depth → unfitPlace i s j ≡ false
+        each : (j : ℕ) → (j < k) ⊎ (k ≤ j) → j < s.depth → is_unfit_place i s j ≡ false
         each j (inl a) b = y.lower j a
-        each j (inr a) b = let e : k ≡ j = omega arith in ap (unfitPlace i s) (sym e) ∙ place-top k h y.held
+        each j (inr a) b = let e : k ≡ j = omega arith in ap (is_unfit_place i s) (sym e) ∙ place-top k h y.held
 
     pub passed-next : is_call (at_place k) ≡ true → PassedPlaces (at_place k).called (k + 1)
     passed-next e = record {
@@ -133,7 +134,7 @@ module _ (i : Image) (s : State) where
         back : k ≡ k + 1 - 1
         back = omega arith
 
-  pub passed-all : (number k : ℕ) → PassedPlaces number k → s.depth ≤ k → wholeTest ≡ false
+  pub passed-all : (number k : ℕ) → PassedPlaces number k → s.depth ≤ k → is_whole_unfit ≡ false
   passed-all number k c h = top-fits (k - 1) c.below (omega (arith, c.some))
 
 flip : (x u : Bool) → u ≡ not x → x ≡ not u
@@ -141,49 +142,50 @@ flip true u e = sym (ap not e)
 flip false u e = sym (ap not e)
 
 -- ---- as the code meets it: l was read at place k, and the label l as z
-module _ (b : List ℕ) (s : State) (k l last : ℕ) (place : l ≡ placeAt s k) (most : last ≡ lastLabel b) where
+module _ (b : List ℕ) (s : State) (k l last : ℕ) (place : l ≡ place_at s k) (most : last ≡ last_label b) where
   abbrev image : Image
-  image = tableImage b
+  image = table_image b
 
-  pub pass-high : k < s.depth → last < l → true ≡ wholeTest image s
+  pub pass-high : k < s.depth → last < l → true ≡ is_whole_unfit image s
   pass-high here h = sym (place-high image s k here (omega (arith, labels-count b)))
 
-  module _ (low : l ≤ last) (z : declared.Label) (read : asLabel z ≡ tableLabel b l) where
-    held : placeAt s k < length image.labels
+  module _ (low : l ≤ last) (z : declared.Label) (read : as_label z ≡ table_label b l) where
+    held : place_at s k < length image.labels
     held = omega (arith, labels-count b)
 
-    label_is : at_place image s k ≡ asLabel z
+    label_is : at_place image s k ≡ as_label z
     label_is = ap (label_at image) (sym place) ∙ label-at b l ∙ sym read
 
     owner-is : (at_place image s k).owner ≡ z.owner
     owner-is = ap (λ (x : Label). x.owner) label_is
 
     -- at the bottom
-    module _ (first : k ≡ 0) (t : Bool) (e : t ≡ astrayAtBottom (handlerIn b) z.owner l (number_at s 0) (serverAt s 0)) where
-      bottom-is : badBottom image s ≡ t
-      unfolding tableImage
+    module _ (first : k ≡ 0) (t : Bool) (e : t ≡ is_astray_at_bottom (handler_in b) z.owner l (number_at s 0) (server_at s 0)) where
+      bottom-is : has_bad_bottom image s ≡ t
+      unfolding table_image
       bottom-is =
-          ap (λ (j : ℕ). astrayAtBottom (handlerIn b) (label_at image (placeAt s j)).owner (placeAt s j) (number_at s 0) (serverAt s 0))
+          ap (λ (j : ℕ). is_astray_at_bottom (handler_in b) (label_at image (place_at s j)).owner (place_at s j) (number_at s 0)
+          (server_at s 0))
           (sym first)
-          ∙ ap₂ (λ (o j : ℕ). astrayAtBottom (handlerIn b) o j (number_at s 0) (serverAt s 0)) owner-is (sym place) ∙ sym e
+          ∙ ap₂ (λ (o j : ℕ). is_astray_at_bottom (handler_in b) o j (number_at s 0) (server_at s 0)) owner-is (sym place) ∙ sym e
 
-      pub bottom-stray : t ≡ true → true ≡ wholeTest image s
+      pub bottom-stray : t ≡ true → true ≡ is_whole_unfit image s
       bottom-stray q = sym (bottom-bad image s (bottom-is ∙ q))
 
       pub bottom-belongs : t ≡ false → Belongs image s k
       bottom-belongs q =
           subst (λ (j : ℕ). Belongs image s j) (sym first)
-          (belongs-first image s (subst (λ (j : ℕ). placeAt s j < length image.labels) first held) (bottom-is ∙ q))
+          (belongs-first image s (subst (λ (j : ℕ). place_at s j < length image.labels) first held) (bottom-is ∙ q))
 
     -- whether it is a call
     module _ (y : Belongs image s k) (u : Bool) (f : u ≡ not (eqb z.kind 1 || eqb z.kind 2)) where
       call-is : is_call (at_place image s k) ≡ not u
       call-is = ap is_call label_is ∙ flip (eqb z.kind 1 || eqb z.kind 2) u f
 
-      pub pass-top : (depth : ℕ) → depth ≡ s.depth → u ≡ true → ltb (k + 1) depth ≡ wholeTest image s
+      pub pass-top : (depth : ℕ) → depth ≡ s.depth → u ≡ true → ltb (k + 1) depth ≡ is_whole_unfit image s
       pass-top depth deep q = go (split (k + 1) depth)
         where
-          go : (k + 1 < depth) ⊎ (depth ≤ k + 1) → ltb (k + 1) depth ≡ wholeTest image s
+          go : (k + 1 < depth) ⊎ (depth ≤ k + 1) → ltb (k + 1) depth ≡ is_whole_unfit image s
           go (inl h) = lt-ltb (k + 1) depth h ∙ sym (place-idle image s k (omega arith) (call-is ∙ ap not q))
           go (inr h) = le-ltb (k + 1) depth h ∙ sym (top-fits image s k y (omega arith))
 
@@ -194,25 +196,25 @@ module _ (b : List ℕ) (s : State) (k l last : ℕ) (place : l ≡ placeAt s k)
 
   -- above a call of that number: n and m were read as the place's number and server
   module _ (called : ℕ) (c : PassedPlaces image s called k) (here : k < s.depth) (H n m : ℕ)
-      (schemes : H ≡ schemeCount b) (number : n ≡ number_at s k)
-      (server : m ≡ serverAt s k) (t : Bool) (e : t ≡ miscalled H n called m) where
+      (schemes : H ≡ scheme_count b) (number : n ≡ number_at s k)
+      (server : m ≡ server_at s k) (t : Bool) (e : t ≡ is_miscalled H n called m) where
     right_is : right image s called k ≡ not t
     right_is =
         ap₂ (λ (h j : ℕ). eqb h called && (leb 2 j && leb j (length image.entries))) (sym number) (sym server)
         ∙ ap (λ (h : ℕ). eqb n called && (leb 2 m && leb m h)) (entries-count b ∙ sym schemes)
         ∙ flip (eqb n called && (leb 2 m && leb m H)) t e
 
-    pub pass-miscalled : t ≡ true → true ≡ wholeTest image s
+    pub pass-miscalled : t ≡ true → true ≡ is_whole_unfit image s
     pass-miscalled q = sym (stray image s called k c here (ap (λ (x : Bool). x && over image s k) (right_is ∙ ap not q)))
 
-    module _ (served : t ≡ false) (low : l ≤ last) (z : declared.Label) (read : asLabel z ≡ tableLabel b l) (u : Bool)
-        (f : u ≡ astray z.owner m l) where
+    module _ (served : t ≡ false) (low : l ≤ last) (z : declared.Label) (read : as_label z ≡ table_label b l) (u : Bool)
+        (f : u ≡ is_astray z.owner m l) where
       over-is : over image s k ≡ not u
       over-is =
-          ap₂ (λ (j o : ℕ). eqb j 1 || eqb o (serverAt s k)) (sym place) (owner-is low z read)
+          ap₂ (λ (j o : ℕ). eqb j 1 || eqb o (server_at s k)) (sym place) (owner-is low z read)
           ∙ ap (λ (j : ℕ). eqb l 1 || eqb z.owner j) (sym server) ∙ flip (eqb l 1 || eqb z.owner m) u f
 
-      pub pass-stray : u ≡ true → true ≡ wholeTest image s
+      pub pass-stray : u ≡ true → true ≡ is_whole_unfit image s
       pass-stray q = sym (stray image s called k c here (and_no (right image s called k) (over image s k) (over-is ∙ ap not q)))
 
       pub pass-belongs : u ≡ false → Belongs image s k

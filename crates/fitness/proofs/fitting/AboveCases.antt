@@ -13,8 +13,8 @@ use Rattle.words.specs.lists.Numbers.{any}
 use Rattle.words.proofs.lists.Tests.{and-true, yes-pick, no-pick, split}
 use Rattle.words.proofs.lists.Searches.{any_none, any-true}
 use Rattle.state.specs.declared.State.{State}
-use Rattle.state.specs.State.{placeAt, number_at, serverAt}
-use Rattle.fitness.specs.Fitness.{filledPlace}
+use Rattle.state.specs.State.{place_at, number_at, server_at}
+use Rattle.fitness.specs.Fitness.{is_filled_place}
 
 -- no bit is set in either where none is set in both together
 none_left : (a b : ℕ) → bit_or a b ≡ 0 → a ≡ 0
@@ -42,34 +42,34 @@ none_of a b c = ap not (go (ℕ_discrete (bit_or (bit_or a b) c) 0))
         one (yes x) (yes y) (yes z) = absurd (n (rw (x, y, z)))
 
 -- label, number and server of a place, joined: 0 where all three are
-abbrev pub placeJoined : State → ℕ → ℕ
-placeJoined s k = bit_or (bit_or (placeAt s k) (number_at s k)) (serverAt s k)
+abbrev pub place_joined : State → ℕ → ℕ
+place_joined s k = bit_or (bit_or (place_at s k) (number_at s k)) (server_at s k)
 
 module _ (s : State) where
-  filled_is : (k : ℕ) → filledPlace s k ≡ not (eqb (placeJoined s k) 0)
-  filled_is k = none_of (placeAt s k) (number_at s k) (serverAt s k)
+  filled_is : (k : ℕ) → is_filled_place s k ≡ not (eqb (place_joined s k) 0)
+  filled_is k = none_of (place_at s k) (number_at s k) (server_at s k)
 
   abbrev found : Type 0
-  found = any (filledPlace s) s.depth (32 - s.depth) ≡ true
+  found = any (is_filled_place s) s.depth (32 - s.depth) ≡ true
 
   -- place k, where it lies above the depth
-  above-is : (d k x : ℕ) → d ≡ s.depth → x ≡ pick (leb d k) (placeJoined s k) 0 → s.depth ≤ k → x ≡ placeJoined s k
-  above-is d k x e q h = q ∙ yes-pick (leb d k) (placeJoined s k) 0 (le-leb d k (omega arith))
+  above-is : (d k x : ℕ) → d ≡ s.depth → x ≡ pick (leb d k) (place_joined s k) 0 → s.depth ≤ k → x ≡ place_joined s k
+  above-is d k x e q h = q ∙ yes-pick (leb d k) (place_joined s k) 0 (le-leb d k (omega arith))
 
-  above-not : (d k x : ℕ) → d ≡ s.depth → x ≡ pick (leb d k) (placeJoined s k) 0 → k < s.depth → x ≡ 0
-  above-not d k x e q h = q ∙ no-pick (leb d k) (placeJoined s k) 0 (lt-leb d k (omega arith))
+  above-not : (d k x : ℕ) → d ≡ s.depth → x ≡ pick (leb d k) (place_joined s k) 0 → k < s.depth → x ≡ 0
+  above-not d k x e q h = q ∙ no-pick (leb d k) (place_joined s k) 0 (lt-leb d k (omega arith))
 
   -- after k places, with their bits gathered
   pub record Seen (bits k : ℕ) : Type 0 where
     pub inside : k ≤ 32
-    pub none : bits ≡ 0 → (j : ℕ) → s.depth ≤ j → j < k → placeJoined s j ≡ 0
+    pub none : bits ≡ 0 → (j : ℕ) → s.depth ≤ j → j < k → place_joined s j ≡ 0
     pub some : (bits ≡ 0 → ⊥) → found
 
   pub seen_first : Seen 0 0
   seen_first = record { inside = omega arith; none = λ e j h g. absurd (omega arith); some = λ n. absurd (n refl) }
 
-  module _ (bits k d x : ℕ) (e : d ≡ s.depth) (h : k < 32) (q : x ≡ pick (leb d k) (placeJoined s k) 0) (t : Seen bits k) where
-    here : x ≡ 0 → s.depth ≤ k → placeJoined s k ≡ 0
+  module _ (bits k d x : ℕ) (e : d ≡ s.depth) (h : k < 32) (q : x ≡ pick (leb d k) (place_joined s k) 0) (t : Seen bits k) where
+    here : x ≡ 0 → s.depth ≤ k → place_joined s k ≡ 0
     here z g = sym (above-is d k x e q g) ∙ z
 
     one : (x ≡ 0 → ⊥) → found
@@ -78,8 +78,8 @@ module _ (s : State) where
         go : (k < s.depth) ⊎ (s.depth ≤ k) → found
         go (inl g) = absurd (n (above-not d k x e q g))
         go (inr g) =
-            any-true (filledPlace s) s.depth (32 - s.depth) k g (omega arith)
-            (filled_is k ∙ ap not (ne_eqb (placeJoined s k) 0 (λ z. n (above-is d k x e q g ∙ z))))
+            any-true (is_filled_place s) s.depth (32 - s.depth) k g (omega arith)
+            (filled_is k ∙ ap not (ne_eqb (place_joined s k) 0 (λ z. n (above-is d k x e q g ∙ z))))
 
     pub seen_next : Seen (bit_or bits x) (k + 1)
     seen_next = record {
@@ -88,24 +88,24 @@ module _ (s : State) where
       some = λ n. either n (ℕ_discrete bits 0) (ℕ_discrete x 0);
     }
       where
-        last : bit_or bits x ≡ 0 → (j : ℕ) → s.depth ≤ j → (j < k) ⊎ (k ≤ j) → j < k + 1 → placeJoined s j ≡ 0
+        last : bit_or bits x ≡ 0 → (j : ℕ) → s.depth ≤ j → (j < k) ⊎ (k ≤ j) → j < k + 1 → place_joined s j ≡ 0
         last z j a (inl g) b = t.none (none_left bits x z) j a g
         last z j a (inr g) b =
             let is : k ≡ j = omega arith in
-            ap (placeJoined s) (sym is) ∙ here (none_right bits x z) (omega arith)
+            ap (place_joined s) (sym is) ∙ here (none_right bits x z) (omega arith)
 
         either : (bit_or bits x ≡ 0 → ⊥) → Dec (bits ≡ 0) → Dec (x ≡ 0) → found
         either n (no a) b = t.some a
         either n (yes a) (no b) = one b
         either n (yes a) (yes b) = absurd (n (ap (λ (u : ℕ). bit_or u x) a ∙ ap (bit_or 0) b))
 
-  pub seen_all : (bits k : ℕ) → 32 ≤ k → Seen bits k → not (eqb bits 0) ≡ any (filledPlace s) s.depth (32 - s.depth)
+  pub seen_all : (bits k : ℕ) → 32 ≤ k → Seen bits k → not (eqb bits 0) ≡ any (is_filled_place s) s.depth (32 - s.depth)
   seen_all bits k h t = go (ℕ_discrete bits 0)
     where
-      go : Dec (bits ≡ 0) → not (eqb bits 0) ≡ any (filledPlace s) s.depth (32 - s.depth)
+      go : Dec (bits ≡ 0) → not (eqb bits 0) ≡ any (is_filled_place s) s.depth (32 - s.depth)
       go (yes z) =
           ap not (eq-eqb bits 0 z)
-          ∙ sym (any_none (filledPlace s) s.depth (32 - s.depth)
+          ∙ sym (any_none (is_filled_place s) s.depth (32 - s.depth)
           (λ j g. filled_is (s.depth + j)
-          ∙ ap not (eq-eqb (placeJoined s (s.depth + j)) 0 (t.none z (s.depth + j) (omega arith) (omega arith)))))
+          ∙ ap not (eq-eqb (place_joined s (s.depth + j)) 0 (t.none z (s.depth + j) (omega arith) (omega arith)))))
       go (no n) = ap not (ne_eqb bits 0 n) ∙ sym (t.some n)

@@ -6,38 +6,38 @@ use mathlib.Core.List.{List}
 use native.Mathlib.Omega.{arith}
 use Rattle.words.specs.lists.Numbers.{any}
 use Rattle.words.proofs.lists.Searches.{any_here, any-on, any-over}
-use Rattle.bindings.specs.Binding.{served}
+use Rattle.bindings.specs.Binding.{server_of}
 use Rattle.image.specs.Image.{Image}
-use Rattle.image.specs.Decode.{schemeCount, handlerIn}
-use Rattle.tables.specs.Table.{tableImage}
+use Rattle.image.specs.Decode.{scheme_count, handler_in}
+use Rattle.tables.specs.Table.{table_image}
 use Rattle.tables.proofs.TableReads.{entries-count, handler-at}
 use Rattle.state.specs.declared.State.{State}
-use Rattle.fitness.specs.Fitness.{badServed}
-use Rattle.fitness.specs.inner.FitnessContracts.{misserved}
+use Rattle.fitness.specs.Fitness.{is_badly_served}
+use Rattle.fitness.specs.inner.FitnessContracts.{is_misserved}
 
 -- the numbers from h up hold one that is served amiss where 2 to 16 do
 pub record Left (i : Image) (s : State) (h : ℕ) : Type 0 where
   pub low : 2 ≤ h
-  pub same : any (badServed i s) h (17 - h) ≡ any (badServed i s) 2 15
+  pub same : any (is_badly_served i s) h (17 - h) ≡ any (is_badly_served i s) 2 15
 
 -- n schemes, the handler g and the scheme k that serves number h were read; t is what the test of h answered
-module _ (b : List ℕ) (s : State) (n g h k : ℕ) (schemes : n ≡ schemeCount b)
-    (handler : g ≡ handlerIn b) (serves : k ≡ served s.serving h)
-    (t : Bool) (tested : t ≡ misserved n g h k) where
-  served-is : badServed (tableImage b) s h ≡ t
+module _ (b : List ℕ) (s : State) (n g h k : ℕ) (schemes : n ≡ scheme_count b)
+    (handler : g ≡ handler_in b) (serves : k ≡ server_of s.serving h)
+    (t : Bool) (tested : t ≡ is_misserved n g h k) where
+  served-is : is_badly_served (table_image b) s h ≡ t
   served-is =
-      ap₂ (λ (m f : ℕ). misserved m f h (served s.serving h)) (entries-count b ∙ sym schemes) (handler-at b ∙ sym handler)
-      ∙ ap (misserved n g h) (sym serves) ∙ sym tested
+      ap₂ (λ (m f : ℕ). is_misserved m f h (server_of s.serving h)) (entries-count b ∙ sym schemes) (handler-at b ∙ sym handler)
+      ∙ ap (is_misserved n g h) (sym serves) ∙ sym tested
 
-  module _ (most : h ≤ 16) (left : Left (tableImage b) s h) where
-    pub served-found : t ≡ true → true ≡ any (badServed (tableImage b) s) 2 15
-    served-found e = sym (any_here (badServed (tableImage b) s) 17 h (omega arith) (served-is ∙ e)) ∙ left.same
+  module _ (most : h ≤ 16) (left : Left (table_image b) s h) where
+    pub served-found : t ≡ true → true ≡ any (is_badly_served (table_image b) s) 2 15
+    served-found e = sym (any_here (is_badly_served (table_image b) s) 17 h (omega arith) (served-is ∙ e)) ∙ left.same
 
-    pub served-next : t ≡ false → Left (tableImage b) s (h + 1)
+    pub served-next : t ≡ false → Left (table_image b) s (h + 1)
     served-next e = record {
       low = omega (arith, left.low);
-      same = sym (any-on (badServed (tableImage b) s) 17 h (omega arith) (served-is ∙ e)) ∙ left.same;
+      same = sym (any-on (is_badly_served (table_image b) s) 17 h (omega arith) (served-is ∙ e)) ∙ left.same;
     }
 
-pub served-all : (i : Image) (s : State) (h : ℕ) → 16 < h → Left i s h → false ≡ any (badServed i s) 2 15
-served-all i s h l left = sym (any-over (badServed i s) 17 h (omega arith)) ∙ left.same
+pub served-all : (i : Image) (s : State) (h : ℕ) → 16 < h → Left i s h → false ≡ any (is_badly_served i s) 2 15
+served-all i s h l left = sym (any-over (is_badly_served i s) 17 h (omega arith)) ∙ left.same

@@ -12,22 +12,23 @@ pub record DeepTable (b : List ℕ) (s : State) : Type 0 where
   pub most : s.depth ≤ PLACES
 
 -- label l of that owner may not stand where one of that scheme is open
-abbrev pub astray : ℕ → ℕ → ℕ → Bool
-astray owner scheme l = not (eqb l 1 || eqb owner scheme)
+abbrev pub is_astray : ℕ → ℕ → ℕ → Bool
+is_astray owner scheme l = not (eqb l 1 || eqb owner scheme)
 
 -- number and server of a place are both h
-abbrev pub own : ℕ → ℕ → ℕ → Bool
-own number server h = eqb number h && eqb server h
+abbrev pub is_own : ℕ → ℕ → ℕ → Bool
+is_own number server h = eqb number h && eqb server h
 
 -- with H schemes, number h, which was called as that number, or scheme k, which served it, may not stand
-abbrev pub miscalled : ℕ → ℕ → ℕ → ℕ → Bool
-miscalled H h called k = not (eqb h called && (leb 2 k && leb k H))
+abbrev pub is_miscalled : ℕ → ℕ → ℕ → ℕ → Bool
+is_miscalled H h called k = not (eqb h called && (leb 2 k && leb k H))
 
 -- label l of that owner may not stand at the bottom with that handler, where number and server stand beside it
-abbrev pub astrayAtBottom : ℕ → ℕ → ℕ → ℕ → ℕ → Bool
-astrayAtBottom handler owner l number server =
-    not ((eqb owner 1 && own number server 1) || ((not (eqb handler 0) && (eqb l 1 || eqb owner handler)) && own number server handler))
+abbrev pub is_astray_at_bottom : ℕ → ℕ → ℕ → ℕ → ℕ → Bool
+is_astray_at_bottom handler owner l number server =
+    not ((eqb owner 1 && is_own number server 1) || ((not (eqb handler 0) && (eqb l 1 || eqb owner handler))
+    && is_own number server handler))
 
 -- with H schemes and handler g, scheme k may not serve number h
-abbrev pub misserved : ℕ → ℕ → ℕ → ℕ → Bool
-misserved H g h k = not (pick (leb h H && not (eqb h g)) (leb 2 k && leb k H) (eqb k h))
+abbrev pub is_misserved : ℕ → ℕ → ℕ → ℕ → Bool
+is_misserved H g h k = not (pick (leb h H && not (eqb h g)) (leb 2 k && leb k H) (eqb k h))

@@ -5,11 +5,11 @@ use mathlib.Core.Path.{◌≡◌, ap}
 use mathlib.Core.List.{List}
 use lib.ListN.{get_or}
 use borrow.Author.Tests.{eq-eqb, ne_eqb}
-use Rattle.grouping.specs.inner.GroupingContracts.{classDiffers}
+use Rattle.grouping.specs.inner.GroupingContracts.{has_other_class}
 
 module _ (c d : List ℕ) (l : ℕ) where
-  pub differs-yes : (get_or c l 0 ≡ get_or d l 0 → ⊥) → classDiffers c d l ≡ true
+  pub differs-yes : (get_or c l 0 ≡ get_or d l 0 → ⊥) → has_other_class c d l ≡ true
   differs-yes e = ap not (ne_eqb (get_or c l 0) (get_or d l 0) e)
 
-  pub differs-no : get_or c l 0 ≡ get_or d l 0 → classDiffers c d l ≡ false
+  pub differs-no : get_or c l 0 ≡ get_or d l 0 → has_other_class c d l ≡ false
   differs-no e = ap not (eq-eqb (get_or c l 0) (get_or d l 0) e)

@@ -11,7 +11,7 @@ use borrow.Author.Tests.{eqb-true}
 use Rattle.words.specs.lists.Pick.{pick}
 use Rattle.grouping.specs.inner.GroupingContracts.{KeptClasses}
 use Rattle.grouping.proofs.Marked.{kept-start, kept_on}
-use Rattle.grouping.specs.marked_parts.inner.Parts.{labelled, markOthers, PartsMarked}
+use Rattle.grouping.specs.marked_parts.inner.Parts.{labelled, mark_others, PartsMarked}
 
 -- after labels 0 to l - 1 of n
 pub record Labelling (place : ℕ → ℕ) (value : ℕ → List ℕ → ℕ) (xs₀ : List ℕ) (n : ℕ) (xs : List ℕ) (l : ℕ) : Type 0 where
@@ -50,12 +50,12 @@ module _ (former c kept marks₀ : List ℕ) (h : length marks₀ ≡ 256) where
   kept_of true part k e l = eqb-true part k e
   kept_of false part k e l = absurd (omega arith)
 
-  kept-marks : (n : ℕ) → n ≤ 256 → KeptClasses n former c kept (markOthers former c kept n marks₀)
+  kept-marks : (n : ℕ) → n ≤ 256 → KeptClasses n former c kept (mark_others former c kept n marks₀)
   unfolding labelled
   kept-marks zero l = kept-start former c kept marks₀ h
   kept-marks (suc n) l =
-      subst (λ (m : ℕ). KeptClasses m former c kept (markOthers former c kept (suc n) marks₀)) (add-one n)
-      (kept_on former c kept (markOthers former c kept n marks₀) n _ (kept-marks n (omega arith)) (omega arith)
+      subst (λ (m : ℕ). KeptClasses m former c kept (mark_others former c kept (suc n) marks₀)) (add-one n)
+      (kept_on former c kept (mark_others former c kept n marks₀) n _ (kept-marks n (omega arith)) (omega arith)
       (kept_of (eqb (get_or c n 0) (get_or kept (get_or former n 0) 0)) (get_or c n 0) (get_or kept (get_or former n 0) 0) refl))
 
 -- ---- what mark_parts leaves

@@ -9,36 +9,36 @@ use lib.Seq.{get_or-append-add, length-take-le}
 use Rattle.words.specs.lists.Pick.{pick}
 use Rattle.words.specs.lists.Numbers.{range, any}
 use Rattle.words.specs.lists.Sequences.{written}
-use Rattle.words.proofs.lists.Ranges.{length-map-range, getD-map-range}
+use Rattle.words.proofs.lists.Ranges.{length-map-range, get_or-map-range}
 use Rattle.words.proofs.lists.Written.{written-length}
 use Rattle.words.proofs.lists.Fills.{ValuesFrom, values-none, values-turn, values-all}
-use Rattle.image.specs.Decode.{lastLabel}
-use Rattle.tables.specs.Table.{firstOn, endOn}
-use Rattle.grouping.specs.inner.GroupingContracts.{Even, Refined, OneMore, isMarked, Touched}
+use Rattle.image.specs.Decode.{last_label}
+use Rattle.tables.specs.Table.{first_on, end_on}
+use Rattle.grouping.specs.inner.GroupingContracts.{Even, Refined, OneMore, has_marked_next, Touched}
 use Rattle.grouping.proofs.Marked.{next_marks}
 use Rattle.grouping.specs.marked_parts.inner.Parts.{PartsMarked}
 use Rattle.grouping.proofs.marked_parts.Labelled.{parts-kept, counts-length}
-use Rattle.grouping.specs.marking.inner.Touches.{touchIn, touches, RoundMarked}
+use Rattle.grouping.specs.marking.inner.Touches.{touch_in, touches, RoundMarked}
 
 module _ (b marks old : List ℕ) where
   abbrev note : ℕ → ℕ
-  note k = touchIn b marks (firstOn b (2 + k)) (endOn b (2 + k))
+  note k = touch_in b marks (first_on b (2 + k)) (end_on b (2 + k))
 
   -- labels 2 to l - 1 are noted
   pub record Touching (out : List ℕ) (l : ℕ) : Type 0 where
     pub low : 2 ≤ l
-    pub values : ValuesFrom note old out 2 (lastLabel b - 1) (l - 2)
+    pub values : ValuesFrom note old out 2 (last_label b - 1) (l - 2)
 
   pub touching-start : Touching old 2
-  touching-start = record { low = omega arith; values = values-none note old 2 (lastLabel b - 1) }
+  touching-start = record { low = omega arith; values = values-none note old 2 (last_label b - 1) }
 
-  pub touching-turn : lastLabel b < length old → (out : List ℕ) (l first end v : ℕ) → Touching out l → l ≤ lastLabel b
-      → first ≡ firstOn b l → end ≡ endOn b l → v ≡ touchIn b marks first end → Touching (set out l v) (l + 1)
+  pub touching-turn : last_label b < length old → (out : List ℕ) (l first end v : ℕ) → Touching out l → l ≤ last_label b
+      → first ≡ first_on b l → end ≡ end_on b l → v ≡ touch_in b marks first end → Touching (set out l v) (l + 1)
   touching-turn room out l first end v t h p q e = record {
     low = omega (arith, t.low);
-    values = subst (λ (m : ℕ). ValuesFrom note old (set out m v) 2 (lastLabel b - 1) (l + 1 - 2)) at
-        (subst (λ (k : ℕ). ValuesFrom note old (set out (2 + (l - 2)) v) 2 (lastLabel b - 1) k) more
-        (values-turn note old 2 (lastLabel b - 1) out (l - 2) v (omega (arith, t.low)) t.values (omega (arith, t.low)) is));
+    values = subst (λ (m : ℕ). ValuesFrom note old (set out m v) 2 (last_label b - 1) (l + 1 - 2)) at
+        (subst (λ (k : ℕ). ValuesFrom note old (set out (2 + (l - 2)) v) 2 (last_label b - 1) k) more
+        (values-turn note old 2 (last_label b - 1) out (l - 2) v (omega (arith, t.low)) t.values (omega (arith, t.low)) is));
   }
     where
       at : 2 + (l - 2) ≡ l
@@ -48,40 +48,41 @@ module _ (b marks old : List ℕ) where
       more = omega (arith, t.low)
 
       is : v ≡ note (l - 2)
-      is = e ∙ ap₂ (touchIn b marks) p q ∙ ap (λ (m : ℕ). touchIn b marks (firstOn b m) (endOn b m)) (sym at)
+      is = e ∙ ap₂ (touch_in b marks) p q ∙ ap (λ (m : ℕ). touch_in b marks (first_on b m) (end_on b m)) (sym at)
 
-  pub touching-all : (out : List ℕ) (l : ℕ) → Touching out l → lastLabel b < l → out ≡ touches b marks old
-  touching-all out l t h = values-all note old 2 (lastLabel b - 1) out (l - 2) t.values (omega arith)
+  pub touching-all : (out : List ℕ) (l : ℕ) → Touching out l → last_label b < l → out ≡ touches b marks old
+  touching-all out l t h = values-all note old 2 (last_label b - 1) out (l - 2) t.values (omega arith)
 
   -- ---- what the notes say
-  module _ (long : length old ≡ 256) (few : lastLabel b < 256) (out : List ℕ) (e : out ≡ touches b marks old) where
-    notes-long : length (map note (range 0 (lastLabel b - 1))) ≡ lastLabel b - 1
-    notes-long = length-map-range note 0 (lastLabel b - 1)
+  module _ (long : length old ≡ 256) (few : last_label b < 256) (out : List ℕ) (e : out ≡ touches b marks old) where
+    notes-long : length (map note (range 0 (last_label b - 1))) ≡ last_label b - 1
+    notes-long = length-map-range note 0 (last_label b - 1)
 
-    noted-at : (l : ℕ) → 2 ≤ l → l ≤ lastLabel b → get_or out l 0 ≡ touchIn b marks (firstOn b l) (endOn b l)
+    noted-at : (l : ℕ) → 2 ≤ l → l ≤ last_label b → get_or out l 0 ≡ touch_in b marks (first_on b l) (end_on b l)
     unfolding written
     noted-at l u h =
-        let notes : List ℕ = map note (range 0 (lastLabel b - 1)) in
+        let notes : List ℕ = map note (range 0 (last_label b - 1)) in
         let rest : List ℕ = drop (2 + length notes) old in
         let at : l ≡ length (take 2 old) + (l - 2) = omega (arith, length-take-le 2 old (omega arith)) in
         ap (λ (xs : List ℕ). get_or xs l 0) e ∙ ap (λ (m : ℕ). get_or (take 2 old ++ (notes ++ rest)) m 0) at
         ∙ get_or-append-add (take 2 old) (notes ++ rest) (l - 2) 0 ∙ get_or-append notes rest 0 (l - 2) (omega (arith, notes-long))
-        ∙ getD-map-range note 0 0 (lastLabel b - 1) (l - 2) (omega arith)
-        ∙ ap (λ (m : ℕ). touchIn b marks (firstOn b m) (endOn b m)) (omega arith)
+        ∙ get_or-map-range note 0 0 (last_label b - 1) (l - 2) (omega arith)
+        ∙ ap (λ (m : ℕ). touch_in b marks (first_on b m) (end_on b m)) (omega arith)
 
     none : (t : Bool) → pick {A = ℕ} t 1 0 ≡ 0 → t ≡ false
     none true z = absurd (omega arith)
     none false z = refl
 
-    pub touches-noted : Touched b marks (lastLabel b + 1) out
+    pub touches-noted : Touched b marks (last_label b + 1) out
     touches-noted = record {
-      long = ap length e ∙ written-length old 2 (map note (range 0 (lastLabel b - 1))) (omega (arith, notes-long)) ∙ long;
-      none = λ l u z s. none (any (isMarked b marks 1) (firstOn b l) (endOn b l - firstOn b l)) (sym (noted-at l u (omega arith)) ∙ s);
+      long = ap length e ∙ written-length old 2 (map note (range 0 (last_label b - 1))) (omega (arith, notes-long)) ∙ long;
+      none = λ l u z s. none (any (has_marked_next b marks 1) (first_on b l) (end_on b l - first_on b l))
+          (sym (noted-at l u (omega arith)) ∙ s);
     }
 
 -- ---- the marks after a round
 pub round-marked : (b : List ℕ) → Even b → (classes next : List ℕ) → Refined b classes → OneMore b classes next
-    → (n : ℕ) → n ≡ lastLabel b + 1 → n ≤ 256
+    → (n : ℕ) → n ≡ last_label b + 1 → n ≤ 256
     → {marks₀ touched₀ kept₀ marks counts kept : List ℕ} → length marks₀ ≡ 256 → length touched₀ ≡ 256
     → PartsMarked classes next marks₀ touched₀ kept₀ n marks counts kept → (touched : List ℕ) → touched ≡ touches b marks counts
     → RoundMarked b classes next marks₀ touched₀ kept₀ marks touched kept

@@ -4,11 +4,11 @@ use Rattle.std.specs.Int.Bits.{bit_and}
 use Rattle.words.specs.lists.Pick.{pick}
 use Rattle.text.specs.declared.frames.sizes.TheConstants.{SCHEMES, LABELS, ROWS}
 use Rattle.text.specs.frames.Sizes.{WORDS}
-use Rattle.image.specs.Image.{Image, Label, Row, homeLabel, returnLabel, nthRow}
+use Rattle.image.specs.Image.{Image, Label, Row, home_label, return_label, nth_row}
 pub use Rattle.image.specs.Image.{no_label}
 
-abbrev pub nthLabel : Image → ℕ → Label
-nthLabel i l = get_or i.labels l no_label
+abbrev pub nth_label : Image → ℕ → Label
+nth_label i l = get_or i.labels l no_label
 
 -- the label where scheme h ends
 abbrev pub end_of : ℕ → ℕ
@@ -17,7 +17,7 @@ end_of h = pick (eqb h 1) 0 1
 -- a label that a row or an entry of scheme h may lead to
 pub record Reaches (i : Image) (h l : ℕ) : Type 0 where
   pub inside : l < length i.labels
-  pub belongs : ((nthLabel i l).owner ≡ h) ⊎ (l ≡ end_of h)
+  pub belongs : ((nth_label i l).owner ≡ h) ⊎ (l ≡ end_of h)
 
 -- a label from 2 up, in an image of n schemes
 pub record SoundLabel (n : ℕ) (x : Label) : Type 0 where
@@ -36,8 +36,8 @@ pub record SoundRow (i : Image) (r : Row) : Type 0 where
   pub small : r.values < WORDS
   pub within : bit_and r.values r.care ≡ r.values
   pub bits : r.bit ≤ 2
-  pub function : r.bit < 2 → (nthLabel i r.from).kind ≡ 2
-  pub leading : Reaches i (nthLabel i r.from).owner r.next
+  pub function : r.bit < 2 → (nth_label i r.from).kind ≡ 2
+  pub leading : Reaches i (nth_label i r.from).owner r.next
 
 pub record SoundImage (i : Image) : Type 0 where
   pub first : 1 ≤ length i.entries
@@ -47,8 +47,8 @@ pub record SoundImage (i : Image) : Type 0 where
   pub few : length i.rows ≤ ROWS
   pub handled : (i.handler ≡ 0 → ⊥) → (2 ≤ i.handler) × (i.handler ≤ length i.entries)
   pub starts : (h : ℕ) → h < length i.entries → Reaches i (suc h) (get_or i.entries h 0)
-  pub home : nthLabel i 0 ≡ homeLabel
-  pub back : nthLabel i 1 ≡ returnLabel
-  pub others : (l : ℕ) → 2 ≤ l → l < length i.labels → SoundLabel (length i.entries) (nthLabel i l)
-  pub each : (k : ℕ) → k < length i.rows → SoundRow i (nthRow i k)
-  pub rising : (k : ℕ) → suc k < length i.rows → (nthRow i k).from ≤ (nthRow i (suc k)).from
+  pub home : nth_label i 0 ≡ home_label
+  pub back : nth_label i 1 ≡ return_label
+  pub others : (l : ℕ) → 2 ≤ l → l < length i.labels → SoundLabel (length i.entries) (nth_label i l)
+  pub each : (k : ℕ) → k < length i.rows → SoundRow i (nth_row i k)
+  pub rising : (k : ℕ) → suc k < length i.rows → (nth_row i k).from ≤ (nth_row i (suc k)).from

@@ -8,10 +8,10 @@ use native.Mathlib.Omega.{arith}
 use Rattle.words.specs.lists.Numbers.{lowest}
 use Rattle.words.proofs.lists.Searches.{lowest-on, lowest_start}
 use Rattle.text.specs.frames.Frame.{size}
-use Rattle.image.specs.Decode.{labels_from, rows_from, labelIn, row_in}
-use Rattle.image.specs.Check.{Position, entryPosition, labelPosition, rowPosition, position_of, strayFrame}
-use Rattle.image.specs.Check.{stray, badEntry, badLabel, badRow, badFrame, badContent}
-use Rattle.image_check.specs.image_faults.inner.FaultyFrames.{faulty}
+use Rattle.image.specs.Decode.{labels_from, rows_from, label_in, row_in}
+use Rattle.image.specs.Check.{Position, entry_position, label_position, row_position, position_of, is_stray_frame}
+use Rattle.image.specs.Check.{is_stray, is_bad_entry, is_bad_label, is_bad_row, is_bad_frame, has_bad_content}
+use Rattle.image_check.specs.image_faults.inner.FaultyFrames.{is_faulty}
 use Rattle.image.proofs.Accepted.{position-of-entry, position-of-label, position-of-row}
 
 -- ---- two tests in turn, the first that holds settles it
@@ -27,22 +27,24 @@ module _ (x s t u : Bool) (is : x ≡ s) (both : (s || t) ≡ u) where
     second-tells a e = sym (two ∙ second) ∙ e
 
 -- ---- the two tests of a frame
-at_place : (b : List ℕ) (f : ℕ) (p : Position) → position_of b f ≡ p → (strayFrame b f p || badFrame b f p) ≡ faulty b f
-unfolding stray badContent
-at_place b f p e = sym (ap (λ (p : Position). strayFrame b f p || badFrame b f p) e)
+at_place : (b : List ℕ) (f : ℕ) (p : Position) → position_of b f ≡ p → (is_stray_frame b f p || is_bad_frame b f p) ≡ is_faulty b f
+unfolding is_stray has_bad_content
+at_place b f p e = sym (ap (λ (p : Position). is_stray_frame b f p || is_bad_frame b f p) e)
 
 module _ (b : List ℕ) (f : ℕ) where
-  pub entry-tests : 1 ≤ f → f < labels_from b → (strayFrame b f (entryPosition f) || badEntry b f) ≡ faulty b f
-  entry-tests l m = at_place b f (entryPosition f) (position-of-entry b f l (omega arith))
+  pub entry-tests : 1 ≤ f → f < labels_from b → (is_stray_frame b f (entry_position f) || is_bad_entry b f) ≡ is_faulty b f
+  entry-tests l m = at_place b f (entry_position f) (position-of-entry b f l (omega arith))
 
   pub label-tests : (y : ℕ) → y ≡ labels_from b → y ≤ f → f < rows_from b
-      → (strayFrame b (labels_from b + (f - y)) (labelPosition (f - y)) || badLabel b (f - y) (labelIn b (f - y))) ≡ faulty b f
+      → (is_stray_frame b (labels_from b + (f - y)) (label_position (f - y)) || is_bad_label b (f - y) (label_in b (f - y))) ≡ is_faulty b f
   label-tests y q l m =
-      at_place b (labels_from b + (f - y)) (labelPosition (f - y)) (position-of-label b (f - y) (omega arith)) ∙ ap (faulty b) (omega arith)
+      at_place b (labels_from b + (f - y)) (label_position (f - y)) (position-of-label b (f - y) (omega arith))
+      ∙ ap (is_faulty b) (omega arith)
 
   pub row-tests : (y : ℕ) → y ≡ rows_from b → y ≤ f
-      → (strayFrame b (rows_from b + (f - y)) (rowPosition (f - y)) || badRow b (rows_from b + (f - y)) (row_in b (f - y))) ≡ faulty b f
-  row-tests y q l = at_place b (rows_from b + (f - y)) (rowPosition (f - y)) (position-of-row b (f - y)) ∙ ap (faulty b) (omega arith)
+      → (is_stray_frame b (rows_from b + (f - y)) (row_position (f - y)) || is_bad_row b (rows_from b + (f - y)) (row_in b (f - y)))
+      ≡ is_faulty b f
+  row-tests y q l = at_place b (rows_from b + (f - y)) (row_position (f - y)) (position-of-row b (f - y)) ∙ ap (is_faulty b) (omega arith)
 
 -- ---- the parts together
 next-sum : (k m : ℕ) → suc k + m ≡ suc (k + m)
@@ -83,6 +85,6 @@ module _ (p : ℕ → Bool) (i m n r : ℕ) (low : i ≤ m) (high : m ≤ n) (e 
 
 -- the header is never at fault
 module _ (b : List ℕ) (some : 0 < size b) where
-  pub all-entries : lowest (faulty b) 1 (size b - 1) ≡ lowest (faulty b) 0 (size b)
-  unfolding stray badContent position_of
-  all-entries = sym (lowest-on (faulty b) (size b) 0 some refl) ∙ lowest_start (faulty b) (size b)
+  pub all-entries : lowest (is_faulty b) 1 (size b - 1) ≡ lowest (is_faulty b) 0 (size b)
+  unfolding is_stray has_bad_content position_of
+  all-entries = sym (lowest-on (is_faulty b) (size b) 0 some refl) ∙ lowest_start (is_faulty b) (size b)

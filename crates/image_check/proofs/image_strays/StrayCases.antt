@@ -8,10 +8,10 @@ use lib.Dec.{ltb, eqb}
 use borrow.Author.Tests.{eq-eqb, ne_eqb}
 use Rattle.text.specs.frames.Frame.{field}
 use Rattle.image.specs.Decode.{rows_from}
-use Rattle.image.specs.Check.{falls}
+use Rattle.image.specs.Check.{is_falling}
 
 pub falls-later : (b : List ℕ) (k x y : ℕ) → (k ≡ 0 → ⊥) → x ≡ field b (rows_from b + k) 1
-    → y ≡ field b (rows_from b + (k - 1)) 1 → ltb x y ≡ falls b k
+    → y ≡ field b (rows_from b + (k - 1)) 1 → ltb x y ≡ is_falling b k
 falls-later b zero x y n p q = absurd (n refl)
 falls-later b (suc k) x y n p q =
     rw (p, q) (ap (λ (j : ℕ). ltb (field b (rows_from b + suc k) 1) (field b (rows_from b + j) 1)) (omega arith))
@@ -26,11 +26,11 @@ module _ (x k n m : ℕ) where
 
 -- a row of another kind, the first row, a later one
 module _ (x : ℕ) (b : List ℕ) (k : ℕ) where
-  pub row-kind : (x ≡ 18 → ⊥) → true ≡ (not (eqb x 18) || falls b k)
+  pub row-kind : (x ≡ 18 → ⊥) → true ≡ (not (eqb x 18) || is_falling b k)
   row-kind h = simp (ne_eqb x 18 h)
 
-  pub row_first : x ≡ 18 → k ≡ 0 → false ≡ (not (eqb x 18) || falls b k)
-  row_first h z = sym (ap (λ (j : ℕ). not (eqb x 18) || falls b j) z ∙ simp (eq-eqb x 18 h))
+  pub row_first : x ≡ 18 → k ≡ 0 → false ≡ (not (eqb x 18) || is_falling b k)
+  row_first h z = sym (ap (λ (j : ℕ). not (eqb x 18) || is_falling b j) z ∙ simp (eq-eqb x 18 h))
 
-  pub row-later : (t : Bool) → x ≡ 18 → t ≡ falls b k → t ≡ (not (eqb x 18) || falls b k)
+  pub row-later : (t : Bool) → x ≡ 18 → t ≡ is_falling b k → t ≡ (not (eqb x 18) || is_falling b k)
   row-later t h q = q ∙ sym (simp (eq-eqb x 18 h))

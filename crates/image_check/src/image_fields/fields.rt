@@ -1,9 +1,9 @@
 // Refusal 13: the fields of entries, labels and rows.
 ghost use Rattle.std.specs.Prelude.{◌≡◌, not, ◌+◌, ◌<◌, ◌≤◌};
 ghost use Rattle.text.specs.frames.Frame.{size};
-ghost use Rattle.image.specs.Decode.{labelIn, row_in, lastLabel, labels_from, rows_from};
-ghost use Rattle.image.specs.Check.{within, badEntry, isLabel, badLabel, badBit, badRow};
-ghost use Rattle.image_check.specs.image_fields.inner.FieldTests.{badKind, badTest};
+ghost use Rattle.image.specs.Decode.{label_in, row_in, last_label, labels_from, rows_from};
+ghost use Rattle.image.specs.Check.{is_within, is_bad_entry, is_label, is_bad_label, has_bad_bit, is_bad_row};
+ghost use Rattle.image_check.specs.image_fields.inner.FieldTests.{has_bad_kind, has_bad_test};
 
 use image::layout::*;
 use image::{byte, filled_to, label_byte, label_mask, row_byte, row_pair, rows_from};
@@ -12,7 +12,7 @@ use text::frames::sizes::FRAME;
 // Label l is of the image, and scheme h owns it or ends with it.
 fn is_within(table: &[u8], h: usize, l: usize) -> bool
     requires { rows_from table.now ≤ size table.now }
-    ensures { result ≡ within table.now h l }
+    ensures { result ≡ is_within table.now h l }
 {
     if (byte(table, 0, LAST_LABEL) as usize) < l {
         return false;
@@ -29,7 +29,7 @@ fn is_within(table: &[u8], h: usize, l: usize) -> bool
 // The entry of scheme h.
 pub fn bad_entry(table: &[u8], h: usize) -> bool
     requires { (rows_from table.now ≤ size table.now) × (h < size table.now) }
-    ensures { result ≡ badEntry table.now h }
+    ensures { result ≡ is_bad_entry table.now h }
 {
     if filled_to(table, h, 3, FRAME) {
         return true;
@@ -40,7 +40,7 @@ pub fn bad_entry(table: &[u8], h: usize) -> bool
 // Label l, which no chart can change, is not of this kind and owner, or has a further field.
 fn unlike(table: &[u8], l: usize, kind: u8, owner: u8) -> bool
     requires { labels_from table.now + l < size table.now }
-    ensures { result ≡ not (isLabel kind owner (labelIn table.now l)) }
+    ensures { result ≡ not (is_label kind owner (label_in table.now l)) }
 {
     if label_byte(table, l, TICK_KIND) != kind {
         return true;
@@ -60,7 +60,7 @@ fn unlike(table: &[u8], l: usize, kind: u8, owner: u8) -> bool
 // The tick kind of label l is above 2, or the scheme called does not suit it: kind 0 calls none, 1 and 2 one of 2 to H.
 fn bad_kind(table: &[u8], l: usize) -> bool
     requires { labels_from table.now + l < size table.now }
-    ensures { result ≡ badKind table.now (labelIn table.now l) }
+    ensures { result ≡ has_bad_kind table.now (label_in table.now l) }
 {
     let called = label_byte(table, l, CALLED);
     let kind = label_byte(table, l, TICK_KIND);
@@ -79,7 +79,7 @@ fn bad_kind(table: &[u8], l: usize) -> bool
 // Label l of 2 up.
 fn bad_numbered(table: &[u8], l: usize) -> bool
     requires { (labels_from table.now + l < size table.now) × (2 ≤ l) }
-    ensures { result ≡ badLabel table.now l (labelIn table.now l) }
+    ensures { result ≡ is_bad_label table.now l (label_in table.now l) }
 {
     if bad_kind(table, l) {
         return true;
@@ -97,7 +97,7 @@ fn bad_numbered(table: &[u8], l: usize) -> bool
 // Label l.
 pub fn bad_label(table: &[u8], l: usize) -> bool
     requires { labels_from table.now + l < size table.now }
-    ensures { result ≡ badLabel table.now l (labelIn table.now l) }
+    ensures { result ≡ is_bad_label table.now l (label_in table.now l) }
 {
     match l {
         0 => unlike(table, 0, HOME, 1),
@@ -108,8 +108,8 @@ pub fn bad_label(table: &[u8], l: usize) -> bool
 
 // The function bit of row k.
 fn bad_bit(table: &[u8], k: usize) -> bool
-    requires { (rows_from table.now + k < size table.now) × ((row_in table.now k).from ≤ lastLabel table.now) }
-    ensures { result ≡ badBit table.now (row_in table.now k) }
+    requires { (rows_from table.now + k < size table.now) × ((row_in table.now k).from ≤ last_label table.now) }
+    ensures { result ≡ has_bad_bit table.now (row_in table.now k) }
 {
     let bit = row_byte(table, k, FUNCTION_BIT);
     if NO_BIT < bit {
@@ -125,7 +125,7 @@ fn bad_bit(table: &[u8], k: usize) -> bool
 // Row k leaves a label that is none of 2 to M, or tests values outside its care mask.
 fn bad_test(table: &[u8], k: usize) -> bool
     requires { rows_from table.now + k < size table.now }
-    ensures { result ≡ badTest table.now (row_in table.now k) }
+    ensures { result ≡ has_bad_test table.now (row_in table.now k) }
 {
     let from = row_byte(table, k, FROM);
     if from < 2 {
@@ -141,7 +141,7 @@ fn bad_test(table: &[u8], k: usize) -> bool
 // Row k.
 pub fn bad_row(table: &[u8], k: usize) -> bool
     requires { rows_from table.now + k < size table.now }
-    ensures { result ≡ badRow table.now (rows_from table.now + k) (row_in table.now k) }
+    ensures { result ≡ is_bad_row table.now (rows_from table.now + k) (row_in table.now k) }
 {
     if bad_test(table, k) {
         return true;

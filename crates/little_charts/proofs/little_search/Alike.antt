@@ -9,50 +9,51 @@ use Rattle.words.specs.lists.Numbers.{any}
 use Rattle.words.proofs.lists.Searches.{any-alike}
 use Rattle.text.specs.frames.Frame.{field}
 use Rattle.charts.specs.Chart.{Chart, is}
-use Rattle.little_charts.specs.little_search.inner.Search.{has, arcLeads, clashes, barredNode, missingEnds, firstTried, past}
+use Rattle.little_charts.specs.little_search.inner.Search.{has_kind, has_arc_to, is_clash, is_barred_node, missing_ends, first_tried}
+use Rattle.little_charts.specs.little_search.inner.Search.{past_last}
 
 -- the first v nodes have the same fields
 pub record SameFields (c d : Chart) (v : ℕ) : Type 0 where
   pub same : (u k : ℕ) → u < v → k < 10 → field c u k ≡ field d u k
 
 module _ (c d : Chart) where
-  pub has-alike : (k v : ℕ) → SameFields c d v → has c k v ≡ has d k v
+  pub has-alike : (k v : ℕ) → SameFields c d v → has_kind c k v ≡ has_kind d k v
   has-alike k v a = any-alike (is c k) (is d k) 0 v (λ u x y. ap (λ (z : ℕ). eqb z k) (a.same u 0 (omega arith) (omega arith)))
 
-  leads-alike : (u t v : ℕ) → u < v → SameFields c d v → arcLeads c u t ≡ arcLeads d u t
+  leads-alike : (u t v : ℕ) → u < v → SameFields c d v → has_arc_to c u t ≡ has_arc_to d u t
   leads-alike u t v l a =
       let e : field c u 0 ≡ field d u 0 = a.same u 0 l (omega arith) in
       let f : field c u 3 ≡ field d u 3 = a.same u 3 l (omega arith) in
       let g : field c u 4 ≡ field d u 4 = a.same u 4 l (omega arith) in
       cc
 
-  pub barred-alike : (v : ℕ) → SameFields c d (v + 1) → barredNode c v ≡ barredNode d v
-  unfolding barredNode
+  pub barred-alike : (v : ℕ) → SameFields c d (v + 1) → is_barred_node c v ≡ is_barred_node d v
+  unfolding is_barred_node
   barred-alike v a =
       let e : field c v 0 ≡ field d v 0 = a.same v 0 (omega arith) (omega arith) in
-      let h : has c 1 v ≡ has d 1 v = has-alike 1 v (record { same = λ u k l m. a.same u k (omega arith) m }) in
-      let s : arcLeads c v v ≡ arcLeads d v v = leads-alike v v (v + 1) (omega arith) a in
-      let k : any (clashes c v) 0 (v + 1) ≡ any (clashes d v) 0 (v + 1) = any-alike (clashes c v) (clashes d v) 0 (v + 1) (λ u x y.
+      let h : has_kind c 1 v ≡ has_kind d 1 v = has-alike 1 v (record { same = λ u k l m. a.same u k (omega arith) m }) in
+      let s : has_arc_to c v v ≡ has_arc_to d v v = leads-alike v v (v + 1) (omega arith) a in
+      let k : any (is_clash c v) 0 (v + 1) ≡ any (is_clash d v) 0 (v + 1) = any-alike (is_clash c v) (is_clash d v) 0 (v + 1) (λ u x y.
       let f : field c u 0 ≡ field d u 0 = a.same u 0 (omega arith) (omega arith) in
-      let g : arcLeads c u v ≡ arcLeads d u v = leads-alike u v (v + 1) (omega arith) a in
-      let i : arcLeads c v u ≡ arcLeads d v u = leads-alike v u (v + 1) (omega arith) a in
+      let g : has_arc_to c u v ≡ has_arc_to d u v = leads-alike u v (v + 1) (omega arith) a in
+      let i : has_arc_to c v u ≡ has_arc_to d v u = leads-alike v u (v + 1) (omega arith) a in
       cc) in
       cc
 
-  pub missing-alike : (v : ℕ) → SameFields c d v → missingEnds c v ≡ missingEnds d v
+  pub missing-alike : (v : ℕ) → SameFields c d v → missing_ends c v ≡ missing_ends d v
   missing-alike v a =
-      let b : has c 0 v ≡ has d 0 v = has-alike 0 v a in
-      let e : has c 1 v ≡ has d 1 v = has-alike 1 v a in
+      let b : has_kind c 0 v ≡ has_kind d 0 v = has-alike 0 v a in
+      let e : has_kind c 1 v ≡ has_kind d 1 v = has-alike 1 v a in
       cc
 
-  pub first_alike : (n v : ℕ) → SameFields c d v → firstTried n c v ≡ firstTried n d v
+  pub first_alike : (n v : ℕ) → SameFields c d v → first_tried n c v ≡ first_tried n d v
   first_alike n v a =
-      let b : has c 0 v ≡ has d 0 v = has-alike 0 v a in
-      let e : has c 1 v ≡ has d 1 v = has-alike 1 v a in
+      let b : has_kind c 0 v ≡ has_kind d 0 v = has-alike 0 v a in
+      let e : has_kind c 1 v ≡ has_kind d 1 v = has-alike 1 v a in
       cc
 
-  pub past-alike : (n v : ℕ) → SameFields c d v → past n c v ≡ past n d v
-  past-alike n v a = let m : missingEnds c v ≡ missingEnds d v = missing-alike v a in cc
+  pub past-alike : (n v : ℕ) → SameFields c d v → past_last n c v ≡ past_last n d v
+  past-alike n v a = let m : missing_ends c v ≡ missing_ends d v = missing-alike v a in cc
 
 -- a list's front and the whole
 pub front-alike : (xs ys : List ℕ) (v : ℕ) → 10 * v ≤ length xs → SameFields xs (xs ++ ys) v

@@ -14,15 +14,15 @@ use Rattle.words.specs.lists.Numbers.{any}
 use Rattle.words.proofs.lists.Tests.{no_both, split, or_cases, or-none, or-true-l, or_true_r, and_l, and_r, and-true, not-true}
 use Rattle.words.proofs.lists.Searches.{any_some, any-true, any_false, some-cons}
 use Rattle.words.specs.lists.Sequences.{some}
-use Rattle.words.specs.graph.Reach.{member}
+use Rattle.words.specs.graph.Reach.{is_member}
 use Rattle.words.proofs.graph.Paths.{Arc, Path, here, on}
 use Rattle.text.specs.frames.Frame.{size}
 use Rattle.charts.specs.Chart.{Chart, kind, scheme, next0, next1, is, begin, end}
-use Rattle.charts.specs.Check.{arcs, onCircle}
+use Rattle.charts.specs.Check.{arcs, is_on_circle}
 use Rattle.charts.proofs.Accepted.{SoundChart}
 use Rattle.charts.proofs.Nodes.{TheNode, arc-end, begins, ends, arcs-end, arcs-one, arcs-condition, in-arcs0, in-arcs1, schemes-first}
 use Rattle.charts.proofs.Meaning.{member-only, ConditionCircle, circle-found, condition-arc, found-joined}
-use Rattle.little_charts.specs.little_search.inner.Search.{has, arcLeads, clashes, barredNode, lonely, missingEnds}
+use Rattle.little_charts.specs.little_search.inner.Search.{has_kind, has_arc_to, is_clash, is_barred_node, is_lonely, missing_ends}
 
 some-none : (f : ℕ → Bool) → some f [] ≡ false
 unfolding some
@@ -59,52 +59,53 @@ module _ (c : Chart) (p : Plain c) where
   one_end u v l m e f = the_end.alone u l e (p.one u l) ∙ sym (the_end.alone v m f (p.one v m))
 
   -- an arc by its fields is one of the arcs
-  leads-arc : (u t : ℕ) → u < size c → arcLeads c u t ≡ true → member t (arcs c u) ≡ true
+  leads-arc : (u t : ℕ) → u < size c → has_arc_to c u t ≡ true → is_member t (arcs c u) ≡ true
   leads-arc u t l e =
       let n : kind c u ≡ 1 → ⊥ = λ q. no_both (is c 1 u) (eq-eqb (kind c u) 1 q) (not-true (is c 1 u) (and_l (not (is c 1 u)) _ e)) in
       go n (or_cases (eqb (next0 c u) t) (is c 3 u && eqb (next1 c u) t) (and_r (not (is c 1 u)) _ e))
     where
-      go : (kind c u ≡ 1 → ⊥) → (eqb (next0 c u) t ≡ true) ⊎ ((is c 3 u && eqb (next1 c u) t) ≡ true) → member t (arcs c u) ≡ true
-      go n (inl q) = subst (λ (t : ℕ). member t (arcs c u) ≡ true) (eqb-true (next0 c u) t q) (in-arcs0 c u n (omega (arith, p.kinds u l)))
-      go n (inr q) = subst (λ (t : ℕ). member t (arcs c u) ≡ true) (eqb-true (next1 c u) t (and_r (is c 3 u) (eqb (next1 c u) t) q))
+      go : (kind c u ≡ 1 → ⊥) → (eqb (next0 c u) t ≡ true) ⊎ ((is c 3 u && eqb (next1 c u) t) ≡ true) → is_member t (arcs c u) ≡ true
+      go n (inl q) =
+          subst (λ (t : ℕ). is_member t (arcs c u) ≡ true) (eqb-true (next0 c u) t q) (in-arcs0 c u n (omega (arith, p.kinds u l)))
+      go n (inr q) = subst (λ (t : ℕ). is_member t (arcs c u) ≡ true) (eqb-true (next1 c u) t (and_r (is c 3 u) (eqb (next1 c u) t) q))
           (let k : kind c u ≡ 3 = of-kind 3 u (and_l (is c 3 u) (eqb (next1 c u) t) q) in in-arcs1 c u (omega arith) (omega arith))
 
   -- and the other way round
-  arc-leads : (u t : ℕ) → u < size c → member t (arcs c u) ≡ true → arcLeads c u t ≡ true
+  arc-leads : (u t : ℕ) → u < size c → is_member t (arcs c u) ≡ true → has_arc_to c u t ≡ true
   arc-leads u t l e = go (ℕ_discrete (kind c u) 1) (ℕ_discrete (kind c u) 3)
     where
-      made : (kind c u ≡ 1 → ⊥) → (eqb (next0 c u) t || (is c 3 u && eqb (next1 c u) t)) ≡ true → arcLeads c u t ≡ true
+      made : (kind c u ≡ 1 → ⊥) → (eqb (next0 c u) t || (is c 3 u && eqb (next1 c u) t)) ≡ true → has_arc_to c u t ≡ true
       made n q = and-true (not (is c 1 u)) (eqb (next0 c u) t || (is c 3 u && eqb (next1 c u) t)) (ap not (ne_eqb (kind c u) 1 n)) q
 
-      two : kind c u ≡ 3 → (eqb t (next0 c u) ≡ true) ⊎ (member t (next1 c u ∷ []) ≡ true)
+      two : kind c u ≡ 3 → (eqb t (next0 c u) ≡ true) ⊎ (is_member t (next1 c u ∷ []) ≡ true)
           → (eqb (next0 c u) t || (is c 3 u && eqb (next1 c u) t)) ≡ true
       two k (inl q) = or-true-l (eqb (next0 c u) t) (is c 3 u && eqb (next1 c u) t) (eq-eqb (next0 c u) t (sym (eqb-true t (next0 c u) q)))
       two k (inr q) = or_true_r (eqb (next0 c u) t) (is c 3 u && eqb (next1 c u) t)
           (and-true (is c 3 u) (eqb (next1 c u) t) (eq-eqb (kind c u) 3 k) (eq-eqb (next1 c u) t (sym (member-only t (next1 c u) q))))
 
-      go : Dec (kind c u ≡ 1) → Dec (kind c u ≡ 3) → arcLeads c u t ≡ true
-      go (yes k) d = no_both (member t (arcs c u)) e (ap (member t) (arcs-end c u k) ∙ some-none (eqb t))
-      go (no k) (yes m) = made k (two m (or_cases (eqb t (next0 c u)) (member t (next1 c u ∷ []))
-          (sym (some-cons (eqb t) (next0 c u) (next1 c u ∷ [])) ∙ sym (ap (member t) (arcs-condition c u m)) ∙ e)))
+      go : Dec (kind c u ≡ 1) → Dec (kind c u ≡ 3) → has_arc_to c u t ≡ true
+      go (yes k) d = no_both (is_member t (arcs c u)) e (ap (is_member t) (arcs-end c u k) ∙ some-none (eqb t))
+      go (no k) (yes m) = made k (two m (or_cases (eqb t (next0 c u)) (is_member t (next1 c u ∷ []))
+          (sym (some-cons (eqb t) (next0 c u) (next1 c u ∷ [])) ∙ sym (ap (is_member t) (arcs-condition c u m)) ∙ e)))
       go (no k) (no m) = made k (or-true-l (eqb (next0 c u) t) (is c 3 u && eqb (next1 c u) t) (eq-eqb (next0 c u) t
-          (sym (member-only t (next0 c u) (sym (ap (member t) (arcs-one c u k m (λ q. omega (arith, p.kinds u l)))) ∙ e)))))
+          (sym (member-only t (next0 c u) (sym (ap (is_member t) (arcs-one c u k m (λ q. omega (arith, p.kinds u l)))) ∙ e)))))
 
   -- no arc leads to a Begin, none of a condition to itself
-  not_entered : (u t : ℕ) → u < size c → arcLeads c u t ≡ true → is c 0 t ≡ true → ⊥
+  not_entered : (u t : ℕ) → u < size c → has_arc_to c u t ≡ true → is c 0 t ≡ true → ⊥
   not_entered u t l e b = (arc-end c s u t l (leads-arc u t l e)).entered (of-kind 0 t b)
 
-  no-circle : (v : ℕ) → v < size c → is c 3 v ≡ true → arcLeads c v v ≡ true → ⊥
+  no-circle : (v : ℕ) → v < size c → is c 3 v ≡ true → has_arc_to c v v ≡ true → ⊥
   no-circle v l k e =
       let a : Arc (size c) (arcs c) v v = record { start = l; end = l; leads = leads-arc v v l e } in
       let b : ConditionCircle c v = record { second = v; leaves = condition-arc c v v (of-kind 3 v k) a; back = here } in
-      no_both (onCircle c v) (circle-found c v b) (s.noCircle v l)
+      no_both (is_on_circle c v) (circle-found c v b) (s.no_circle v l)
 
   -- a path to another node ends with an arc from another node
   record Entry (v : ℕ) : Type 0 where
     node : ℕ
     inside : node < size c
     other : node ≡ v → ⊥
-    leads : arcLeads c node v ≡ true
+    leads : has_arc_to c node v ≡ true
 
   last-arc : (u v : ℕ) → (u ≡ v → ⊥) → Path (size c) (arcs c) u v → Entry v
   last-arc u v d here = absurd (d refl)
@@ -114,53 +115,53 @@ module _ (c : Chart) (p : Plain c) where
       go (yes e) ih = subst Entry e (ih (λ f. d (f ∙ e)))
       go (no e) ih = record { node = w; inside = a.start; other = e; leads = arc-leads w v a.start a.leads }
 
-  pub not-lonely : (v : ℕ) → v < size c → lonely c v ≡ false
-  not-lonely v l = refuted (lonely c v) λ e.
-      let others : ℕ → Bool = λ u. not (eqb u v) && arcLeads c u v in
+  pub not-lonely : (v : ℕ) → v < size c → is_lonely c v ≡ false
+  not-lonely v l = refuted (is_lonely c v) λ e.
+      let others : ℕ → Bool = λ u. not (eqb u v) && has_arc_to c u v in
       let b : begin c (scheme c v) ≡ v → ⊥ = λ q. no_both (is c 0 v)
       (eq-eqb (kind c v) 0 (subst (λ (u : ℕ). kind c u ≡ 0) (sym (ap (begin c) (p.one v l)) ∙ q) the-begin.kinded))
       (not-true (is c 0 v) (and_l (not (is c 0 v)) (not (any others 0 (size c))) e)) in
       let x : Entry v = last-arc (begin c (scheme c v)) v b (found-joined c v (s.joined v l)).path in
       no_both (any others 0 (size c))
       (any-true others 0 (size c) x.node (omega arith) (omega (arith, x.inside))
-      (and-true (not (eqb x.node v)) (arcLeads c x.node v) (ap not (ne_eqb x.node v x.other)) x.leads))
+      (and-true (not (eqb x.node v)) (has_arc_to c x.node v) (ap not (ne_eqb x.node v x.other)) x.leads))
       (not-true (any others 0 (size c)) (and_r (not (is c 0 v)) (not (any others 0 (size c))) e))
 
-  pub not-barred : (v : ℕ) → v < size c → barredNode c v ≡ false
-  unfolding barredNode
-  not-barred v l = or-none (is c 1 v && has c 1 v || is c 3 v && arcLeads c v v) (any (clashes c v) 0 (v + 1))
-      (or-none (is c 1 v && has c 1 v) (is c 3 v && arcLeads c v v)
-      (refuted (is c 1 v && has c 1 v)
-      (λ e. second (and_l (is c 1 v) (has c 1 v) e) (any_some (is c 1) 0 v (and_r (is c 1 v) (has c 1 v) e))))
-      (refuted (is c 3 v && arcLeads c v v)
-      (λ e. no-circle v l (and_l (is c 3 v) (arcLeads c v v) e) (and_r (is c 3 v) (arcLeads c v v) e))))
-      (refuted (any (clashes c v) 0 (v + 1)) (λ e. clash (any_some (clashes c v) 0 (v + 1) e)))
+  pub not-barred : (v : ℕ) → v < size c → is_barred_node c v ≡ false
+  unfolding is_barred_node
+  not-barred v l = or-none (is c 1 v && has_kind c 1 v || is c 3 v && has_arc_to c v v) (any (is_clash c v) 0 (v + 1))
+      (or-none (is c 1 v && has_kind c 1 v) (is c 3 v && has_arc_to c v v)
+      (refuted (is c 1 v && has_kind c 1 v)
+      (λ e. second (and_l (is c 1 v) (has_kind c 1 v) e) (any_some (is c 1) 0 v (and_r (is c 1 v) (has_kind c 1 v) e))))
+      (refuted (is c 3 v && has_arc_to c v v)
+      (λ e. no-circle v l (and_l (is c 3 v) (has_arc_to c v v) e) (and_r (is c 3 v) (has_arc_to c v v) e))))
+      (refuted (any (is_clash c v) 0 (v + 1)) (λ e. clash (any_some (is_clash c v) 0 (v + 1) e)))
     where
       second : is c 1 v ≡ true → (k : ℕ) × (0 ≤ k) × (k < 0 + v) × (is c 1 k ≡ true) → ⊥
       second e (k, a, b, f) = let q : v ≡ k = one_end v k l (omega arith) (of-kind 1 v e) (of-kind 1 k f) in omega arith
 
-      clash : (u : ℕ) × (0 ≤ u) × (u < 0 + (v + 1)) × (clashes c v u ≡ true) → ⊥
+      clash : (u : ℕ) × (0 ≤ u) × (u < 0 + (v + 1)) × (is_clash c v u ≡ true) → ⊥
       clash (u, a, b, f) = ⊎_elim
-          (λ e. not_entered u v (omega arith) (and_r (is c 0 v) (arcLeads c u v) e) (and_l (is c 0 v) (arcLeads c u v) e))
-          (λ e. not_entered v u l (and_r (is c 0 u) (arcLeads c v u) e) (and_l (is c 0 u) (arcLeads c v u) e))
-          (or_cases (is c 0 v && arcLeads c u v) (is c 0 u && arcLeads c v u) f)
+          (λ e. not_entered u v (omega arith) (and_r (is c 0 v) (has_arc_to c u v) e) (and_l (is c 0 v) (has_arc_to c u v) e))
+          (λ e. not_entered v u l (and_r (is c 0 u) (has_arc_to c v u) e) (and_l (is c 0 u) (has_arc_to c v u) e))
+          (or_cases (is c 0 v && has_arc_to c u v) (is c 0 u && has_arc_to c v u) f)
 
-  pub no_second : (v : ℕ) → v < size c → has c 0 v ≡ true → kind c v ≡ 0 → ⊥
+  pub no_second : (v : ℕ) → v < size c → has_kind c 0 v ≡ true → kind c v ≡ 0 → ⊥
   no_second v l h e = go (any_some (is c 0) 0 v h)
     where
       go : (k : ℕ) × (0 ≤ k) × (k < 0 + v) × (is c 0 k ≡ true) → ⊥
       go (k, a, b, f) = let q : v ≡ k = one-begin v k l (omega arith) e (of-kind 0 k f) in omega arith
 
   -- a kind that no node below v has stands at v or above
-  above : (k v u : ℕ) → has c k v ≡ false → kind c u ≡ k → v ≤ u
+  above : (k v u : ℕ) → has_kind c k v ≡ false → kind c u ≡ k → v ≤ u
   above k v u h e = ⊎_elim
       (λ (l : u < v). no_both (is c k u) (eq-eqb (kind c u) k e) (any_false (is c k) 0 v h u (omega arith) (omega arith)))
       (λ (l : v ≤ u). l) (split u v)
 
-  pub needed : (v : ℕ) → v < size c → size c - v ≤ missingEnds c v → 2 ≤ kind c v → ⊥
-  needed v l m k = go (has c 0 v) (has c 1 v) refl refl m
+  pub needed : (v : ℕ) → v < size c → size c - v ≤ missing_ends c v → 2 ≤ kind c v → ⊥
+  needed v l m k = go (has_kind c 0 v) (has_kind c 1 v) refl refl m
     where
-      go : (a b : Bool) → has c 0 v ≡ a → has c 1 v ≡ b → size c - v ≤ pick a 0 1 + pick b 0 1 → ⊥
+      go : (a b : Bool) → has_kind c 0 v ≡ a → has_kind c 1 v ≡ b → size c - v ≤ pick a 0 1 + pick b 0 1 → ⊥
       go true true e f h = omega arith
       go true false e f h =
           let x : v ≤ end c 1 = above 1 v (end c 1) f the_end.kinded in

@@ -10,7 +10,7 @@ use lib.Seq.{get_or-append-add}
 use borrow.Author.Tests.{eqb-true, leb-true, lt-ltb, le-ltb, ne_eqb}
 use Rattle.words.specs.lists.Pick.{pick}
 use Rattle.words.specs.lists.Numbers.{range, any}
-use Rattle.words.specs.lists.Sequences.{filter, concatMap, All}
+use Rattle.words.specs.lists.Sequences.{filter, concat_map, All}
 use Rattle.words.proofs.lists.Tests.{no_both, and_l, and_r, yes-pick, no-pick}
 use Rattle.words.proofs.lists.Searches.{any_none}
 use Rattle.words.proofs.lists.Ranges.{filter-yes, filter-no}
@@ -21,23 +21,23 @@ use Rattle.text.specs.frames.Frame.{size}
 use Rattle.text.specs.frames.Verdict.{fine}
 use Rattle.text.proofs.frames.Frames.{Frame}
 use Rattle.charts.specs.Chart.{Chart, kind, scheme}
-use Rattle.charts.specs.Check.{chartVerdict}
+use Rattle.charts.specs.Check.{chart_verdict}
 use Rattle.charts.proofs.Accepted.{sound}
-use Rattle.little_charts.specs.Little.{littleNode, nodes, lists_of, chartOf, passes, littleCharts}
+use Rattle.little_charts.specs.Little.{is_little_node, nodes, lists_of, chart_of, is_fine, little_charts}
 use Rattle.little_charts.proofs.Members.{In, in_map, in-range, in_all}
 use Rattle.little_charts.proofs.Nodes.{Fine, nodes-fine}
 use Rattle.little_charts.proofs.Listing.{MadeOf, lists-made, made-formed, made-frames, chart-size, passes-fine}
-use Rattle.little_charts.specs.little_search.inner.Search.{nodeCount, operationAt, conditionAt, nodeAt, has, barredNode}
-use Rattle.little_charts.specs.little_search.inner.Search.{lonely, missingEnds, firstTried, past, searched}
+use Rattle.little_charts.specs.little_search.inner.Search.{node_count, operation_at, condition_at, node_at, has_kind, is_barred_node}
+use Rattle.little_charts.specs.little_search.inner.Search.{is_lonely, missing_ends, first_tried, past_last, searched_charts}
 use Rattle.little_charts.proofs.little_search.Ruled.{Plain, not-lonely, not-barred, no_second, needed}
 use Rattle.little_charts.proofs.little_search.Alike.{SameFields, front-alike, barred-alike, has-alike, missing-alike}
 
 abbrev ok : Chart → Bool
-ok c = passes (chartVerdict c)
+ok c = is_fine (chart_verdict c)
 
 -- ---- the records by number
-pub nodes-at : (n : ℕ) → 2 ≤ n → n ≤ 4 → nodes n ≡ map (nodeAt n) (range 0 (nodeCount n))
-unfolding nodes nodeAt concatMap
+pub nodes-at : (n : ℕ) → 2 ≤ n → n ≤ 4 → nodes n ≡ map (node_at n) (range 0 (node_count n))
+unfolding nodes node_at concat_map
 nodes-at zero a b = absurd (omega arith)
 nodes-at (suc zero) a b = absurd (omega arith)
 nodes-at (suc (suc zero)) a b = refl
@@ -46,39 +46,39 @@ nodes-at (suc (suc (suc (suc zero)))) a b = refl
 nodes-at (suc (suc (suc (suc (suc n))))) a b = absurd (omega arith)
 
 -- low numbers are Begins, those after the End are neither Begin nor End
-pub low-kind : (n i : ℕ) → i < n → get_or (nodeAt n i) 0 0 ≡ 0
-unfolding nodeAt
+pub low-kind : (n i : ℕ) → i < n → get_or (node_at n i) 0 0 ≡ 0
+unfolding node_at
 low-kind n i l = ap (λ (t : List ℕ). get_or t 0 0) (yes-pick (ltb i n) _ _ (lt-ltb i n l))
 
-pub high-kind : (n i : ℕ) → n + 1 ≤ i → 2 ≤ get_or (nodeAt n i) 0 0
-unfolding nodeAt
+pub high-kind : (n i : ℕ) → n + 1 ≤ i → 2 ≤ get_or (node_at n i) 0 0
+unfolding node_at
 high-kind n i l = subst (λ (t : List ℕ). 2 ≤ get_or t 0 0)
     (sym (no-pick (ltb i n) _ _ (le-ltb i n (omega arith)) ∙ no-pick (eqb i n) _ _ (ne_eqb i n (λ e. omega arith))))
     (go (ltb i (3 * n + 1)))
   where
-    go : (t : Bool) → 2 ≤ get_or (pick t (operationAt (i - (n + 1))) (conditionAt n (i - (3 * n + 1)))) 0 0
+    go : (t : Bool) → 2 ≤ get_or (pick t (operation_at (i - (n + 1))) (condition_at n (i - (3 * n + 1)))) 0 0
     go true = omega arith
     go false = omega arith
 
 -- the first number is no higher than that of the End, the last one no lower
-pub first-low : (n : ℕ) (c : Chart) (v : ℕ) → firstTried n c v ≤ n
-first-low n c v = go (has c 0 v)
+pub first-low : (n : ℕ) (c : Chart) (v : ℕ) → first_tried n c v ≤ n
+first-low n c v = go (has_kind c 0 v)
   where
     go : (t : Bool) → pick t n 0 ≤ n
     go true = omega arith
     go false = omega arith
 
-pub past-within : (n : ℕ) (c : Chart) (v : ℕ) → (n + 1 ≤ past n c v) × (past n c v ≤ nodeCount n)
-past-within n c v = go (leb (n - v) (missingEnds c v))
+pub past-within : (n : ℕ) (c : Chart) (v : ℕ) → (n + 1 ≤ past_last n c v) × (past_last n c v ≤ node_count n)
+past-within n c v = go (leb (n - v) (missing_ends c v))
   where
-    go : (t : Bool) → (n + 1 ≤ pick t (n + 1) (nodeCount n)) × (pick t (n + 1) (nodeCount n) ≤ nodeCount n)
+    go : (t : Bool) → (n + 1 ≤ pick t (n + 1) (node_count n)) × (pick t (n + 1) (node_count n) ≤ node_count n)
     go true = (omega arith, omega arith)
     go false = (omega arith, omega arith)
 
 -- ---- lists of records joined
-pub chart-snoc : (gs : List (List ℕ)) (r : List ℕ) → chartOf (gs ++ (r ∷ [])) ≡ chartOf gs ++ r
-unfolding concatMap
-chart-snoc gs r = concat-append (λ x. x) gs (r ∷ []) ∙ ap (λ (x : List ℕ). chartOf gs ++ x) (append-nil r)
+pub chart-snoc : (gs : List (List ℕ)) (r : List ℕ) → chart_of (gs ++ (r ∷ [])) ≡ chart_of gs ++ r
+unfolding concat_map
+chart-snoc gs r = concat-append (λ x. x) gs (r ∷ []) ∙ ap (λ (x : List ℕ). chart_of gs ++ x) (append-nil r)
 
 made-join : (rs gs fs : List (List ℕ)) (k m : ℕ) → MadeOf rs k gs → MadeOf rs m fs → MadeOf rs (k + m) (gs ++ fs)
 made-join rs gs fs k m d e = record {
@@ -90,9 +90,9 @@ module _ (n : ℕ) (a : 2 ≤ n) (b : n ≤ 4) where
   abbrev rs : List (List ℕ)
   rs = nodes n
 
-  made_plain : (hs : List (List ℕ)) → MadeOf rs n hs → chartVerdict (chartOf hs) ≡ fine → Plain (chartOf hs)
+  made_plain : (hs : List (List ℕ)) → MadeOf rs n hs → chart_verdict (chart_of hs) ≡ fine → Plain (chart_of hs)
   made_plain hs d v =
-      let c : Chart = chartOf hs in
+      let c : Chart = chart_of hs in
       let s : size c ≡ n = chart-size hs (made-frames n a b hs d) ∙ d.count in
       record {
         sound = sound c v;
@@ -101,9 +101,9 @@ module _ (n : ℕ) (a : 2 ≤ n) (b : n ≤ 4) where
         kinds = λ v l. (part v (made-formed n a b hs d v (omega arith))).1;
       }
     where
-      part : (v : ℕ) → littleNode (chartOf hs) v ≡ true → (scheme (chartOf hs) v ≡ 1) × (kind (chartOf hs) v ≤ 3)
+      part : (v : ℕ) → is_little_node (chart_of hs) v ≡ true → (scheme (chart_of hs) v ≡ 1) × (kind (chart_of hs) v ≤ 3)
       part v e =
-          let c : Chart = chartOf hs in
+          let c : Chart = chart_of hs in
           let x : Bool = eqb (scheme c v) 1 in
           let y : Bool = leb (kind c v) 3 in
           let q : (x && y) ≡ true = and_l (x && y) _ (and_l _ _ e) in
@@ -111,41 +111,41 @@ module _ (n : ℕ) (a : 2 ≤ n) (b : n ≤ 4) where
 
   -- the accepted ones among the charts that begin with gs and have m more records
   abbrev Rest : List (List ℕ) → ℕ → List Chart
-  Rest gs m = filter ok (map (λ fs. chartOf (gs ++ fs)) (lists_of rs m))
+  Rest gs m = filter ok (map (λ fs. chart_of (gs ++ fs)) (lists_of rs m))
 
-  rest_more : (gs : List (List ℕ)) (m : ℕ) → Rest gs (suc m) ≡ concatMap (λ r. Rest (gs ++ (r ∷ [])) m) rs
+  rest_more : (gs : List (List ℕ)) (m : ℕ) → Rest gs (suc m) ≡ concat_map (λ r. Rest (gs ++ (r ∷ [])) m) rs
   unfolding lists_of
   rest_more gs m =
-      filter-concat ok (λ fs. chartOf (gs ++ fs)) (λ r. map (λ fs. r ∷ fs) (lists_of rs m)) rs
-      ∙ concat-each (λ r. filter ok (map (λ fs. chartOf (gs ++ fs)) (map (λ fs. r ∷ fs) (lists_of rs m)))) (λ r. Rest (gs ++ (r ∷ [])) m)
-      (λ r. ap (filter ok) (map-map (λ fs. r ∷ fs) (λ fs. chartOf (gs ++ fs)) (lists_of rs m)
-      ∙ map-alike (λ fs. chartOf (gs ++ (r ∷ fs))) (λ fs. chartOf ((gs ++ (r ∷ [])) ++ fs))
-      (λ fs. ap chartOf (sym (append_assoc gs (r ∷ []) fs))) (lists_of rs m))) rs
+      filter-concat ok (λ fs. chart_of (gs ++ fs)) (λ r. map (λ fs. r ∷ fs) (lists_of rs m)) rs
+      ∙ concat-each (λ r. filter ok (map (λ fs. chart_of (gs ++ fs)) (map (λ fs. r ∷ fs) (lists_of rs m)))) (λ r. Rest (gs ++ (r ∷ [])) m)
+      (λ r. ap (filter ok) (map-map (λ fs. r ∷ fs) (λ fs. chart_of (gs ++ fs)) (lists_of rs m)
+      ∙ map-alike (λ fs. chart_of (gs ++ (r ∷ fs))) (λ fs. chart_of ((gs ++ (r ∷ [])) ++ fs))
+      (λ fs. ap chart_of (sym (append_assoc gs (r ∷ []) fs))) (lists_of rs m))) rs
 
   refused_all : (gs : List (List ℕ)) (k m : ℕ) → k + m ≡ n → MadeOf rs k gs
-      → ((fs : List (List ℕ)) → size (chartOf (gs ++ fs)) ≡ n → Plain (chartOf (gs ++ fs)) → ⊥) → Rest gs m ≡ []
-  refused_all gs k m e d f = filter-nothing ok (map (λ fs. chartOf (gs ++ fs)) (lists_of rs m))
-      (all_map (λ c. ok c ≡ false) (λ fs. chartOf (gs ++ fs)) (lists_of rs m)
-      (all_of (MadeOf rs m) (λ fs. ok (chartOf (gs ++ fs)) ≡ false) (λ fs q. go fs q (ok (chartOf (gs ++ fs))) refl) (lists_of rs m)
+      → ((fs : List (List ℕ)) → size (chart_of (gs ++ fs)) ≡ n → Plain (chart_of (gs ++ fs)) → ⊥) → Rest gs m ≡ []
+  refused_all gs k m e d f = filter-nothing ok (map (λ fs. chart_of (gs ++ fs)) (lists_of rs m))
+      (all_map (λ c. ok c ≡ false) (λ fs. chart_of (gs ++ fs)) (lists_of rs m)
+      (all_of (MadeOf rs m) (λ fs. ok (chart_of (gs ++ fs)) ≡ false) (λ fs q. go fs q (ok (chart_of (gs ++ fs))) refl) (lists_of rs m)
       (lists-made rs m)))
     where
-      go : (fs : List (List ℕ)) → MadeOf rs m fs → (t : Bool) → ok (chartOf (gs ++ fs)) ≡ t → ok (chartOf (gs ++ fs)) ≡ false
+      go : (fs : List (List ℕ)) → MadeOf rs m fs → (t : Bool) → ok (chart_of (gs ++ fs)) ≡ t → ok (chart_of (gs ++ fs)) ≡ false
       go fs q true h =
           let x : MadeOf rs n (gs ++ fs) = subst (λ (j : ℕ). MadeOf rs j (gs ++ fs)) e (made-join rs gs fs k m d q) in
           absurd (f fs (chart-size (gs ++ fs) (made-frames n a b (gs ++ fs) x) ∙ x.count)
-          (made_plain (gs ++ fs) x (passes-fine (chartVerdict (chartOf (gs ++ fs))) h)))
+          (made_plain (gs ++ fs) x (passes-fine (chart_verdict (chart_of (gs ++ fs))) h)))
       go fs q false h = h
 
   frames-of : (gs : List (List ℕ)) → All (λ r. In r rs) gs → All Frame gs
   frames-of gs e = all_of (λ r. In r rs) Frame (λ r i. (in_all Fine r rs i (nodes-fine n a b).each).frame) gs e
 
-  chart-long : (gs : List (List ℕ)) → All (λ r. In r rs) gs → length (chartOf gs) ≡ 10 * length gs
+  chart-long : (gs : List (List ℕ)) → All (λ r. In r rs) gs → length (chart_of gs) ≡ 10 * length gs
   chart-long gs e = length-concat (λ r. r) 10 gs (all_of Frame (λ r. length r ≡ 10) (λ r f. f.ten) gs (frames-of gs e))
 
   -- ---- record i at place v, after the records gs, and m more to come
   module _ (gs : List (List ℕ)) (v m : ℕ) (e : v + suc m ≡ n) (d : MadeOf rs v gs) where
     abbrev c : Chart
-    c = chartOf gs
+    c = chart_of gs
 
     c-long : length c ≡ 10 * v
     c-long = chart-long gs d.each ∙ ap (λ (k : ℕ). 10 * k) d.count
@@ -153,16 +153,16 @@ module _ (n : ℕ) (a : 2 ≤ n) (b : n ≤ 4) where
     c-size : size c ≡ v
     c-size = omega (arith, c-long)
 
-    module _ (i : ℕ) (l : i < nodeCount n) where
+    module _ (i : ℕ) (l : i < node_count n) where
       abbrev r : List ℕ
-      r = nodeAt n i
+      r = node_at n i
 
       abbrev more : List (List ℕ)
       more = gs ++ (r ∷ [])
 
       r-in : In r rs
       r-in = subst (In r) (sym (nodes-at n a b))
-          (in_map (nodeAt n) i (range 0 (nodeCount n)) (in-range i 0 (nodeCount n) (omega arith) (omega arith)))
+          (in_map (node_at n) i (range 0 (node_count n)) (in-range i 0 (node_count n) (omega arith) (omega arith)))
 
       more-made : MadeOf rs (v + 1) more
       more-made = made-join rs gs (r ∷ []) v 1 d (record { each = (r-in, tt); count = refl })
@@ -172,18 +172,18 @@ module _ (n : ℕ) (a : 2 ≤ n) (b : n ≤ 4) where
 
       module _ (fs : List (List ℕ)) where
         abbrev whole : Chart
-        whole = chartOf (more ++ fs)
+        whole = chart_of (more ++ fs)
 
-        whole_is : whole ≡ (c ++ r) ++ chartOf fs
-        whole_is = concat-append (λ x. x) more fs ∙ ap (λ (x : Chart). x ++ chartOf fs) (chart-snoc gs r)
+        whole_is : whole ≡ (c ++ r) ++ chart_of fs
+        whole_is = concat-append (λ x. x) more fs ∙ ap (λ (x : Chart). x ++ chart_of fs) (chart-snoc gs r)
 
         more-alike : SameFields (c ++ r) whole (v + 1)
         more-alike = subst (λ (x : Chart). SameFields (c ++ r) x (v + 1)) (sym whole_is)
-            (front-alike (c ++ r) (chartOf fs) (v + 1) (omega (arith, more-long)))
+            (front-alike (c ++ r) (chart_of fs) (v + 1) (omega (arith, more-long)))
 
         first-alikes : SameFields c whole v
-        first-alikes = subst (λ (x : Chart). SameFields c x v) (sym (whole_is ∙ append_assoc c r (chartOf fs)))
-            (front-alike c (r ++ chartOf fs) v (omega (arith, c-long)))
+        first-alikes = subst (λ (x : Chart). SameFields c x v) (sym (whole_is ∙ append_assoc c r (chart_of fs)))
+            (front-alike c (r ++ chart_of fs) v (omega (arith, c-long)))
 
         kind-is : kind whole v ≡ get_or r 0 0
         kind-is = sym (more-alike.same v 0 (omega arith) (omega arith))
@@ -192,81 +192,85 @@ module _ (n : ℕ) (a : 2 ≤ n) (b : n ≤ 4) where
       no_more : ((fs : List (List ℕ)) → size (whole fs) ≡ n → Plain (whole fs) → ⊥) → Rest more m ≡ []
       no_more f = refused_all more (v + 1) m (omega arith) more-made f
 
-      low-empty : i < firstTried n c v → Rest more m ≡ []
-      low-empty h = go (has c 0 v) refl h
+      low-empty : i < first_tried n c v → Rest more m ≡ []
+      low-empty h = go (has_kind c 0 v) refl h
         where
-          go : (t : Bool) → has c 0 v ≡ t → i < pick t n 0 → Rest more m ≡ []
+          go : (t : Bool) → has_kind c 0 v ≡ t → i < pick t n 0 → Rest more m ≡ []
           go true q k = no_more (λ fs s p. no_second (whole fs) p v (omega arith) (sym (has-alike c (whole fs) 0 v (first-alikes fs)) ∙ q)
               (kind-is fs ∙ low-kind n i k))
           go false q k = absurd (omega arith)
 
-      high-empty : past n c v ≤ i → Rest more m ≡ []
-      high-empty h = go (leb (n - v) (missingEnds c v)) refl h
+      high-empty : past_last n c v ≤ i → Rest more m ≡ []
+      high-empty h = go (leb (n - v) (missing_ends c v)) refl h
         where
-          go : (t : Bool) → leb (n - v) (missingEnds c v) ≡ t → pick t (n + 1) (nodeCount n) ≤ i → Rest more m ≡ []
+          go : (t : Bool) → leb (n - v) (missing_ends c v) ≡ t → pick t (n + 1) (node_count n) ≤ i → Rest more m ≡ []
           go true q k = no_more (λ fs s p. needed (whole fs) p v (omega arith)
-              (let x : n - v ≤ missingEnds c v = leb-true (n - v) (missingEnds c v) q in omega
+              (let x : n - v ≤ missing_ends c v = leb-true (n - v) (missing_ends c v) q in omega
               (arith, missing-alike c (whole fs) v (first-alikes fs)))
               (subst (λ (j : ℕ). 2 ≤ j) (sym (kind-is fs)) (high-kind n i k)))
           go false q k = absurd (omega arith)
 
-      barred-empty : barredNode (c ++ r) v ≡ true → Rest more m ≡ []
+      barred-empty : is_barred_node (c ++ r) v ≡ true → Rest more m ≡ []
       barred-empty q = no_more
-          (λ fs s p. no_both (barredNode (c ++ r) v) q
+          (λ fs s p. no_both (is_barred_node (c ++ r) v) q
           (barred-alike (c ++ r) (whole fs) v (more-alike fs) ∙ not-barred (whole fs) p v (omega arith)))
 
     abbrev tried : ℕ → ℕ → List Chart
-    tried w i = let x = c ++ nodeAt n i in elim (barredNode x w) [ true ↦ [] | false ↦ searched n m x ]
+    tried w i = let x = c ++ node_at n i in elim (is_barred_node x w) [ true ↦ [] | false ↦ searched_charts n m x ]
 
     abbrev rest : ℕ → List Chart
-    rest i = Rest (gs ++ (nodeAt n i ∷ [])) m
+    rest i = Rest (gs ++ (node_at n i ∷ [])) m
 
-    tried-rest : ((i : ℕ) → i < nodeCount n → searched n m (chartOf (gs ++ (nodeAt n i ∷ []))) ≡ rest i) → (i : ℕ) → i < nodeCount n
+    tried-rest : ((i : ℕ) → i < node_count n → searched_charts n m (chart_of (gs ++ (node_at n i ∷ []))) ≡ rest i) → (i : ℕ)
+        → i < node_count n
         → tried v i ≡ rest i
-    tried-rest ih i l = go (barredNode (c ++ nodeAt n i) v) refl
+    tried-rest ih i l = go (is_barred_node (c ++ node_at n i) v) refl
       where
-        go : (t : Bool) → barredNode (c ++ nodeAt n i) v ≡ t → elim t [ true ↦ [] | false ↦ searched n m (c ++ nodeAt n i) ] ≡ rest i
+        go : (t : Bool) → is_barred_node (c ++ node_at n i) v ≡ t → elim t [
+          | true ↦ []
+          | false ↦ searched_charts n m (c ++ node_at n i)
+        ] ≡ rest i
         go true q = sym (barred-empty i l q)
-        go false q = ap (searched n m) (sym (chart-snoc gs (nodeAt n i))) ∙ ih i l
+        go false q = ap (searched_charts n m) (sym (chart-snoc gs (node_at n i))) ∙ ih i l
 
-    searched-rest : ((i : ℕ) → i < nodeCount n → searched n m (chartOf (gs ++ (nodeAt n i ∷ []))) ≡ rest i)
-        → searched n (suc m) c ≡ Rest gs (suc m)
-    unfolding searched
+    searched-rest : ((i : ℕ) → i < node_count n → searched_charts n m (chart_of (gs ++ (node_at n i ∷ []))) ≡ rest i)
+        → searched_charts n (suc m) c ≡ Rest gs (suc m)
+    unfolding searched_charts
     searched-rest ih =
-        let low : firstTried n c v ≤ n = first-low n c v in
-        let high : (n + 1 ≤ past n c v) × (past n c v ≤ nodeCount n) = past-within n c v in
-        ap (λ (w : ℕ). concatMap (tried w) (range (firstTried n c w) (past n c w - firstTried n c w))) c-size
-        ∙ concat-alike (tried v) rest (firstTried n c v) (past n c v - firstTried n c v)
+        let low : first_tried n c v ≤ n = first-low n c v in
+        let high : (n + 1 ≤ past_last n c v) × (past_last n c v ≤ node_count n) = past-within n c v in
+        ap (λ (w : ℕ). concat_map (tried w) (range (first_tried n c w) (past_last n c w - first_tried n c w))) c-size
+        ∙ concat-alike (tried v) rest (first_tried n c v) (past_last n c v - first_tried n c v)
         (λ i x y. tried-rest ih i (omega (arith, low, high.0, high.1)))
-        ∙ sym (concat-within rest (firstTried n c v) (past n c v) (nodeCount n) (omega (arith, low, high.0)) high.1
+        ∙ sym (concat-within rest (first_tried n c v) (past_last n c v) (node_count n) (omega (arith, low, high.0)) high.1
         (λ i x. low-empty i (omega (arith, low, high.0, high.1)) x) (λ i x y. high-empty i y x))
-        ∙ sym (concat-map (λ r. Rest (gs ++ (r ∷ [])) m) (nodeAt n) (range 0 (nodeCount n)))
-        ∙ ap (concatMap (λ r. Rest (gs ++ (r ∷ [])) m)) (sym (nodes-at n a b)) ∙ sym (rest_more gs m)
+        ∙ sym (concat-map (λ r. Rest (gs ++ (r ∷ [])) m) (node_at n) (range 0 (node_count n)))
+        ∙ ap (concat_map (λ r. Rest (gs ++ (r ∷ [])) m)) (sym (nodes-at n a b)) ∙ sym (rest_more gs m)
 
-  leaf : (x : Chart) → (ok x ≡ true → any (lonely x) 0 (size x) ≡ false) → searched n 0 x ≡ filter ok (x ∷ [])
-  unfolding searched
-  leaf x f = go (any (lonely x) 0 (size x)) (ok x) refl refl
+  leaf : (x : Chart) → (ok x ≡ true → any (is_lonely x) 0 (size x) ≡ false) → searched_charts n 0 x ≡ filter ok (x ∷ [])
+  unfolding searched_charts
+  leaf x f = go (any (is_lonely x) 0 (size x)) (ok x) refl refl
     where
       by : Bool → Bool → List Chart
       by t s = elim t [ true ↦ [] | false ↦ elim s [ true ↦ x ∷ [] | false ↦ [] ] ]
 
-      go : (t s : Bool) → any (lonely x) 0 (size x) ≡ t → ok x ≡ s → by (any (lonely x) 0 (size x)) (ok x) ≡ filter ok (x ∷ [])
-      go true true p q = no_both (any (lonely x) 0 (size x)) p (f q)
+      go : (t s : Bool) → any (is_lonely x) 0 (size x) ≡ t → ok x ≡ s → by (any (is_lonely x) 0 (size x)) (ok x) ≡ filter ok (x ∷ [])
+      go true true p q = no_both (any (is_lonely x) 0 (size x)) p (f q)
       go true false p q = ap₂ by p q ∙ sym (filter-no ok x [] q ∙ filter_none ok)
       go false true p q = ap₂ by p q ∙ sym (filter-yes ok x [] q ∙ ap (λ (xs : List Chart). x ∷ xs) (filter_none ok))
       go false false p q = ap₂ by p q ∙ sym (filter-no ok x [] q ∙ filter_none ok)
 
-  searched-same : (m v : ℕ) (gs : List (List ℕ)) → v + m ≡ n → MadeOf rs v gs → searched n m (chartOf gs) ≡ Rest gs m
+  searched-same : (m v : ℕ) (gs : List (List ℕ)) → v + m ≡ n → MadeOf rs v gs → searched_charts n m (chart_of gs) ≡ Rest gs m
   unfolding lists_of
   searched-same zero v gs e d =
       let x : MadeOf rs n gs = subst (λ (k : ℕ). MadeOf rs k gs) (omega arith) d in
-      leaf (chartOf gs) (λ q. any_none (lonely (chartOf gs)) 0 (size (chartOf gs))
-      (λ k l. not-lonely (chartOf gs) (made_plain gs x (passes-fine (chartVerdict (chartOf gs)) q)) (0 + k) (omega arith)))
-      ∙ ap (λ (hs : List (List ℕ)). filter ok (chartOf hs ∷ [])) (sym (append-nil gs))
+      leaf (chart_of gs) (λ q. any_none (is_lonely (chart_of gs)) 0 (size (chart_of gs))
+      (λ k l. not-lonely (chart_of gs) (made_plain gs x (passes-fine (chart_verdict (chart_of gs)) q)) (0 + k) (omega arith)))
+      ∙ ap (λ (hs : List (List ℕ)). filter ok (chart_of hs ∷ [])) (sym (append-nil gs))
   searched-same (suc m) v gs e d = searched-rest gs v m e d
-      (λ i l. searched-same m (v + 1) (gs ++ (nodeAt n i ∷ [])) (omega arith) (more-made gs v m e d i l))
+      (λ i l. searched-same m (v + 1) (gs ++ (node_at n i ∷ [])) (omega arith) (more-made gs v m e d i l))
 
 -- the search from no record on finds the list
-pub search-lists : (n : ℕ) → 2 ≤ n → n ≤ 4 → searched n n [] ≡ littleCharts n
-unfolding concatMap littleCharts
+pub search-lists : (n : ℕ) → 2 ≤ n → n ≤ 4 → searched_charts n n [] ≡ little_charts n
+unfolding concat_map little_charts
 search-lists n a b = searched-same n a b n 0 [] (omega arith) (record { each = tt; count = refl })

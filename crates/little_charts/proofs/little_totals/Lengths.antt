@@ -6,23 +6,23 @@ use lib.ListN.{length}
 use Rattle.text.specs.frames.Frame.{contents, text_of}
 use Rattle.text.proofs.frames.Contents.{any-contents-length}
 use Rattle.text.proofs.frames.TextLoops.{length-text}
-use Rattle.little_charts.specs.Little.{littleText}
-use Rattle.little_charts.specs.Promises.{littleTotal, Wanted, AllWanted}
+use Rattle.little_charts.specs.Little.{little_text}
+use Rattle.little_charts.specs.Promises.{little_total, Wanted, AllWanted}
 use Rattle.little_charts.proofs.Listing.{all_wanted}
 
-module _ (n k : ℕ) (low : 2 ≤ n) (high : n ≤ 4) (inside : k < littleTotal n) where
-  unfolded : AllWanted → Wanted n (littleText n k) × (text_of (contents (littleText n k)) ≡ littleText n k)
+module _ (n k : ℕ) (low : 2 ≤ n) (high : n ≤ 4) (inside : k < little_total n) where
+  unfolded : AllWanted → Wanted n (little_text n k) × (text_of (contents (little_text n k)) ≡ little_text n k)
   unfolding AllWanted
   unfolded all = all n k low high inside
 
-  pub text-long : length (littleText n k) ≡ 23 * n
+  pub text-long : length (little_text n k) ≡ 23 * n
   text-long =
       let w = unfolded all_wanted in
-      let c : length (contents (littleText n k)) ≡ 10 * n =
-      any-contents-length (littleText n k) ∙ ap (λ (m : ℕ). 10 * m) w.0.frames in
-      ap length (sym w.1) ∙ length-text (contents (littleText n k)) ∙ omega (arith, c)
+      let c : length (contents (little_text n k)) ≡ 10 * n =
+      any-contents-length (little_text n k) ∙ ap (λ (m : ℕ). 10 * m) w.0.frames in
+      ap length (sym w.1) ∙ length-text (contents (little_text n k)) ∙ omega (arith, c)
 
-pub shorter-first : (m n j k : ℕ) → 2 ≤ m → n ≤ 4 → m < n → j < littleTotal m → k < littleTotal n
-    → length (littleText m j) < length (littleText n k)
+pub shorter-first : (m n j k : ℕ) → 2 ≤ m → n ≤ 4 → m < n → j < little_total m → k < little_total n
+    → length (little_text m j) < length (little_text n k)
 shorter-first m n j k low high less a b =
     omega (arith, text-long m j low (omega arith) a, text-long n k (omega arith) high b)

@@ -19,70 +19,70 @@ use Rattle.text.specs.declared.frames.Answer.TheVariants.{Done, Refused}
 use Rattle.text.proofs.frames.Lent.{lent-refused, lent-short, lent-done}
 use Rattle.text.proofs.frames.TextLoops.{length-text}
 use Rattle.charts.specs.Chart.{Chart}
-use Rattle.little_charts.specs.Little.{littleCharts, littleText, littleVerdict, littleChart}
-use Rattle.little_charts.specs.little_search.inner.Search.{searched}
+use Rattle.little_charts.specs.Little.{little_charts, little_text, little_verdict, little_chart}
+use Rattle.little_charts.specs.little_search.inner.Search.{searched_charts}
 use Rattle.little_charts.proofs.little_search.Same.{search-lists}
 use Rattle.little_fetch.specs.declared.little_seek.Sought.{Sought}
 use Rattle.little_fetch.specs.little_seek.inner.SeekContracts.{FewFrames, GivesSought}
 
 -- ---- a frame count outside 2 to 4
 module _ (n k : ℕ) (old : List ℕ) (a : Answer) (e : a ≡ Refused 24 0 0) where
-  outside : (ltb n 2 || ltb 4 n) ≡ true → GivesBuffer (littleChart n k old) a old
-  unfolding littleChart littleVerdict
-  outside q = lent-refused (littleVerdict n k) 1 (λ _. littleText n k) old 24 0
-      (ap (when 24) (or-true-l (ltb n 2 || ltb 4 n) (leb (length (littleCharts n)) k) q)) a (ap reply e)
+  outside : (ltb n 2 || ltb 4 n) ≡ true → GivesBuffer (little_chart n k old) a old
+  unfolding little_chart little_verdict
+  outside q = lent-refused (little_verdict n k) 1 (λ _. little_text n k) old 24 0
+      (ap (when 24) (or-true-l (ltb n 2 || ltb 4 n) (leb (length (little_charts n)) k) q)) a (ap reply e)
 
-  pub too_few : n < 2 → GivesBuffer (littleChart n k old) a old
+  pub too_few : n < 2 → GivesBuffer (little_chart n k old) a old
   too_few l = outside (or-true-l (ltb n 2) (ltb 4 n) (lt-ltb n 2 l))
 
-  pub too_many : 4 < n → GivesBuffer (littleChart n k old) a old
+  pub too_many : 4 < n → GivesBuffer (little_chart n k old) a old
   too_many l = outside (or_true_r (ltb n 2) (ltb 4 n) (lt-ltb 4 n l))
 
 -- ---- what was sought
 module _ (rs₀ rs : List ℕ) (k : ℕ) (s : Sought) (few : FewFrames rs₀) (long : length rs ≡ length rs₀)
-    (o : GivesSought (searched (size rs₀) (size rs₀ - 0) (take (10 * 0) rs₀)) (take (10 * 0) rs₀) k s rs) where
-  listed : searched (size rs₀) (size rs₀ - 0) (take (10 * 0) rs₀) ≡ littleCharts (size rs₀)
+    (o : GivesSought (searched_charts (size rs₀) (size rs₀ - 0) (take (10 * 0) rs₀)) (take (10 * 0) rs₀) k s rs) where
+  listed : searched_charts (size rs₀) (size rs₀ - 0) (take (10 * 0) rs₀) ≡ little_charts (size rs₀)
   listed =
       let z : size rs₀ - 0 ≡ size rs₀ = omega arith in
-      ap (λ (m : ℕ). searched (size rs₀) m (take (10 * 0) rs₀)) z ∙ search-lists (size rs₀) few.some few.few
+      ap (λ (m : ℕ). searched_charts (size rs₀) m (take (10 * 0) rs₀)) z ∙ search-lists (size rs₀) few.some few.few
 
-  verdict-by : (t : Bool) → leb (length (littleCharts (size rs₀))) k ≡ t → littleVerdict (size rs₀) k ≡ when 24 t
-  unfolding littleVerdict
+  verdict-by : (t : Bool) → leb (length (little_charts (size rs₀))) k ≡ t → little_verdict (size rs₀) k ≡ when 24 t
+  unfolding little_verdict
   verdict-by t e =
       ap₂ (λ (x y : Bool). when 24 (x || y))
       (or-none (ltb (size rs₀) 2) (ltb 4 (size rs₀)) (le-ltb (size rs₀) 2 few.some) (le-ltb 4 (size rs₀) few.few)) e
 
   module _ (old : List ℕ) where
-    pub past-last : s.found ≡ false → (a : Answer) → a ≡ Refused 24 0 0 → GivesBuffer (littleChart (size rs₀) k old) a old
-    unfolding littleChart
+    pub past-last : s.found ≡ false → (a : Answer) → a ≡ Refused 24 0 0 → GivesBuffer (little_chart (size rs₀) k old) a old
+    unfolding little_chart
     past-last f a e =
-        let l : length (littleCharts (size rs₀)) ≤ k = subst (λ (xs : List Chart). length xs ≤ k) listed
-        (ltb-false k (length (searched (size rs₀) (size rs₀ - 0) (take (10 * 0) rs₀))) (sym o.counted.told ∙ f)) in
-        lent-refused (littleVerdict (size rs₀) k) 1 (λ _. littleText (size rs₀) k) old 24 0
-        (verdict-by true (le-leb (length (littleCharts (size rs₀))) k l)) a (ap reply e)
+        let l : length (little_charts (size rs₀)) ≤ k = subst (λ (xs : List Chart). length xs ≤ k) listed
+        (ltb-false k (length (searched_charts (size rs₀) (size rs₀ - 0) (take (10 * 0) rs₀))) (sym o.counted.told ∙ f)) in
+        lent-refused (little_verdict (size rs₀) k) 1 (λ _. little_text (size rs₀) k) old 24 0
+        (verdict-by true (le-leb (length (little_charts (size rs₀))) k l)) a (ap reply e)
 
     module _ (f : s.found ≡ true) (count : ℕ) (c : count ≡ 23 * (length rs / 10)) where
-      low : k < length (searched (size rs₀) (size rs₀ - 0) (take (10 * 0) rs₀))
-      low = ltb-true k (length (searched (size rs₀) (size rs₀ - 0) (take (10 * 0) rs₀))) (sym o.counted.told ∙ f)
+      low : k < length (searched_charts (size rs₀) (size rs₀ - 0) (take (10 * 0) rs₀))
+      low = ltb-true k (length (searched_charts (size rs₀) (size rs₀ - 0) (take (10 * 0) rs₀))) (sym o.counted.told ∙ f)
 
-      accepted : littleVerdict (size rs₀) k ≡ fine
-      accepted = verdict-by false (lt-leb (length (littleCharts (size rs₀))) k (subst (λ (xs : List Chart). k < length xs) listed low))
+      accepted : little_verdict (size rs₀) k ≡ fine
+      accepted = verdict-by false (lt-leb (length (little_charts (size rs₀))) k (subst (λ (xs : List Chart). k < length xs) listed low))
 
-      text-is : text_of rs ≡ littleText (size rs₀) k
+      text-is : text_of rs ≡ little_text (size rs₀) k
       text-is = ap text_of (o.chart low ∙ ap (λ (xs : List Chart). get_or xs k []) listed)
 
-      text-long : count ≡ length (littleText (size rs₀) k)
+      text-long : count ≡ length (little_text (size rs₀) k)
       text-long = c ∙ sym (length-text rs) ∙ ap length text-is
 
-      pub too_short : length old < count → (a : Answer) → a ≡ Refused 16 0 0 → GivesBuffer (littleChart (size rs₀) k old) a old
-      unfolding littleChart
-      too_short l a e = subst (λ (b : Answer). GivesBuffer (littleChart (size rs₀) k old) b old) (sym e)
-          (lent-short (littleVerdict (size rs₀) k) 1 (λ _. littleText (size rs₀) k) old accepted (omega (arith, text-long)))
+      pub too_short : length old < count → (a : Answer) → a ≡ Refused 16 0 0 → GivesBuffer (little_chart (size rs₀) k old) a old
+      unfolding little_chart
+      too_short l a e = subst (λ (b : Answer). GivesBuffer (little_chart (size rs₀) k old) b old) (sym e)
+          (lent-short (little_verdict (size rs₀) k) 1 (λ _. little_text (size rs₀) k) old accepted (omega (arith, text-long)))
 
       pub fetched : count ≤ length old → (out : List ℕ) → out ≡ written old 0 (text_of rs)
-          → GivesBuffer (littleChart (size rs₀) k old) (Done count) out
-      unfolding littleChart
-      fetched l out w = lent-done (littleVerdict (size rs₀) k) 1 (λ _. littleText (size rs₀) k) old accepted
+          → GivesBuffer (little_chart (size rs₀) k old) (Done count) out
+      unfolding little_chart
+      fetched l out w = lent-done (little_verdict (size rs₀) k) 1 (λ _. little_text (size rs₀) k) old accepted
           (omega (arith, text-long)) count
           (omega (arith, text-long)) out (w ∙ written-front old (text_of rs) ∙ ap (λ (xs : List ℕ). over xs old) text-is)
 
@@ -97,8 +97,8 @@ module _ (xs : List ℕ) (n : ℕ) (a : 2 ≤ n) (b : n ≤ 4) (long : length xs
   pub lent-few : FewFrames (take (10 * n) xs)
   lent-few = record { whole = omega (arith, lent-long); some = omega (arith, lent-size); few = omega (arith, lent-size) }
 
-  pub lent-fetched : (k : ℕ) (old out : List ℕ) (r : Answer) → GivesBuffer (littleChart (size (take (10 * n) xs)) k old) r out
-      → GivesBuffer (littleChart n k old) r out
-  lent-fetched k old out r = subst (λ (m : ℕ). GivesBuffer (littleChart m k old) r out
-      → GivesBuffer (littleChart n k old) r out) (sym lent-size)
+  pub lent-fetched : (k : ℕ) (old out : List ℕ) (r : Answer) → GivesBuffer (little_chart (size (take (10 * n) xs)) k old) r out
+      → GivesBuffer (little_chart n k old) r out
+  lent-fetched k old out r = subst (λ (m : ℕ). GivesBuffer (little_chart m k old) r out
+      → GivesBuffer (little_chart n k old) r out) (sym lent-size)
       (λ x. x)

@@ -8,10 +8,10 @@ use lib.Dec.{leb, ltb, eqb}
 use borrow.Author.Tests.{lt-ltb, le-ltb, le-leb, lt-leb, eq-eqb, ne_eqb}
 use Rattle.words.specs.lists.Pick.{pick}
 use Rattle.words.proofs.lists.Tests.{yes-pick, no-pick}
-use Rattle.little_charts.specs.little_search.inner.Search.{nodeCount, nodeAt}
+use Rattle.little_charts.specs.little_search.inner.Search.{node_count, node_at}
 
 -- ---- arcs are small
-pub condition-small : (n i : ℕ) → 1 ≤ n → n ≤ 4 → i < nodeCount n → ((i - (3 * n + 1)) / n < 256) × ((i - (3 * n + 1)) % n < 256)
+pub condition-small : (n i : ℕ) → 1 ≤ n → n ≤ 4 → i < node_count n → ((i - (3 * n + 1)) / n < 256) × ((i - (3 * n + 1)) % n < 256)
 condition-small zero i a b l = absurd (omega arith)
 condition-small (suc zero) i a b l = (omega arith, omega arith)
 condition-small (suc (suc zero)) i a b l = (omega arith, omega arith)
@@ -20,24 +20,24 @@ condition-small (suc (suc (suc (suc zero)))) i a b l = (omega arith, omega arith
 condition-small (suc (suc (suc (suc (suc n))))) i a b l = absurd (omega arith)
 
 module _ (n i : ℕ) where
-  pub at-begin : i < n → ◌≡◌ {A = List ℕ} (0 ∷ 1 ∷ 0 ∷ i ∷ 0 ∷ 0 ∷ 0 ∷ 0 ∷ 0 ∷ 0 ∷ []) (nodeAt n i)
-  unfolding nodeAt
+  pub at-begin : i < n → ◌≡◌ {A = List ℕ} (0 ∷ 1 ∷ 0 ∷ i ∷ 0 ∷ 0 ∷ 0 ∷ 0 ∷ 0 ∷ 0 ∷ []) (node_at n i)
+  unfolding node_at
   at-begin l = sym (yes-pick (ltb i n) _ _ (lt-ltb i n l))
 
-  pub at-end : n ≤ i → i ≡ n → ◌≡◌ {A = List ℕ} (1 ∷ 1 ∷ 0 ∷ 0 ∷ 0 ∷ 0 ∷ 0 ∷ 0 ∷ 0 ∷ 0 ∷ []) (nodeAt n i)
-  unfolding nodeAt
+  pub at-end : n ≤ i → i ≡ n → ◌≡◌ {A = List ℕ} (1 ∷ 1 ∷ 0 ∷ 0 ∷ 0 ∷ 0 ∷ 0 ∷ 0 ∷ 0 ∷ 0 ∷ []) (node_at n i)
+  unfolding node_at
   at-end l e = sym (no-pick (ltb i n) _ _ (le-ltb i n l) ∙ yes-pick (eqb i n) _ _ (eq-eqb i n e))
 
   module _ (l : n ≤ i) (d : i ≡ n → ⊥) where
     pub at-operation : i < 3 * n + 1 → let j = i - (n + 1) in
-        ◌≡◌ {A = List ℕ} (2 ∷ 1 ∷ 0 ∷ j / 2 ∷ 0 ∷ 0 ∷ 0 ∷ 0 ∷ 0 ∷ j % 2 ∷ []) (nodeAt n i)
-    unfolding nodeAt
+        ◌≡◌ {A = List ℕ} (2 ∷ 1 ∷ 0 ∷ j / 2 ∷ 0 ∷ 0 ∷ 0 ∷ 0 ∷ 0 ∷ j % 2 ∷ []) (node_at n i)
+    unfolding node_at
     at-operation m = sym (no-pick (ltb i n) _ _ (le-ltb i n l) ∙ no-pick (eqb i n) _ _ (ne_eqb i n d)
         ∙ yes-pick (ltb i (3 * n + 1)) _ _ (lt-ltb i (3 * n + 1) m))
 
     pub at-condition : 3 * n + 1 ≤ i → let j = i - (3 * n + 1) in
-        ◌≡◌ {A = List ℕ} (3 ∷ 1 ∷ 0 ∷ j / n ∷ j % n ∷ 0 ∷ 0 ∷ 0 ∷ 0 ∷ 0 ∷ []) (nodeAt n i)
-    unfolding nodeAt
+        ◌≡◌ {A = List ℕ} (3 ∷ 1 ∷ 0 ∷ j / n ∷ j % n ∷ 0 ∷ 0 ∷ 0 ∷ 0 ∷ 0 ∷ []) (node_at n i)
+    unfolding node_at
     at-condition m = sym (no-pick (ltb i n) _ _ (le-ltb i n l) ∙ no-pick (eqb i n) _ _ (ne_eqb i n d)
         ∙ no-pick (ltb i (3 * n + 1)) _ _ (le-ltb i (3 * n + 1) m))
 
@@ -63,8 +63,8 @@ square-small (suc (suc (suc (suc zero)))) a = omega arith
 square-small (suc (suc (suc (suc (suc n))))) a = absurd (omega arith)
 
 module _ (n v m k : ℕ) (e : m ≡ k) where
-  pub past-few : n - v ≤ m → n + 1 ≡ pick (leb (n - v) k) (n + 1) (nodeCount n)
-  past-few l = sym (yes-pick (leb (n - v) k) (n + 1) (nodeCount n) (le-leb (n - v) k (omega arith)))
+  pub past-few : n - v ≤ m → n + 1 ≡ pick (leb (n - v) k) (n + 1) (node_count n)
+  past-few l = sym (yes-pick (leb (n - v) k) (n + 1) (node_count n) (le-leb (n - v) k (omega arith)))
 
-  pub past_all : m < n - v → nodeCount n ≡ pick (leb (n - v) k) (n + 1) (nodeCount n)
-  past_all l = sym (no-pick (leb (n - v) k) (n + 1) (nodeCount n) (lt-leb (n - v) k (omega arith)))
+  pub past_all : m < n - v → node_count n ≡ pick (leb (n - v) k) (n + 1) (node_count n)
+  past_all l = sym (no-pick (leb (n - v) k) (n + 1) (node_count n) (lt-leb (n - v) k (omega arith)))

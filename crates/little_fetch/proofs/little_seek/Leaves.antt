@@ -14,34 +14,34 @@ use Rattle.words.specs.lists.Sequences.{written}
 use Rattle.words.proofs.lists.Written.{written-take}
 use Rattle.text.specs.frames.Frame.{size}
 use Rattle.text.specs.frames.Verdict.{Verdict}
-use Rattle.text.specs.frames.Answer.{reply, judged}
+use Rattle.text.specs.frames.Answer.{reply, verdict_reply}
 use Rattle.text.proofs.frames.Chains.{done-fine, refused-verdict}
 use Rattle.text.specs.declared.frames.Answer.{Answer}
 use Rattle.text.specs.declared.frames.Answer.TheVariants.{Done, Refused}
 use Rattle.charts.specs.Chart.{Chart}
-use Rattle.charts.specs.Check.{chartVerdict}
-use Rattle.little_charts.specs.Little.{beginNode, endNode, passes}
-use Rattle.little_charts.specs.little_search.inner.Search.{operationAt, conditionAt, nodeAt, lonely, searched}
+use Rattle.charts.specs.Check.{chart_verdict}
+use Rattle.little_charts.specs.Little.{begin_node, end_node, is_fine}
+use Rattle.little_charts.specs.little_search.inner.Search.{operation_at, condition_at, node_at, is_lonely, searched_charts}
 use Rattle.little_fetch.specs.declared.little_seek.Sought.{Sought}
-use Rattle.little_fetch.specs.little_seek.inner.SeekContracts.{FewFrames, RecordPlaced, SoughtCount, GivesSought, accepts}
+use Rattle.little_fetch.specs.little_seek.inner.SeekContracts.{FewFrames, RecordPlaced, SoughtCount, GivesSought, is_accepted}
 
 -- ---- accepted or not
-pub lonely-out : (c : Chart) (t : Bool) → t ≡ any (lonely c) 0 (size c) → t ≡ true → false ≡ accepts c
-lonely-out c t e q = ap (λ (b : Bool). not b && passes (chartVerdict c)) (sym q ∙ e)
+pub lonely-out : (c : Chart) (t : Bool) → t ≡ any (is_lonely c) 0 (size c) → t ≡ true → false ≡ is_accepted c
+lonely-out c t e q = ap (λ (b : Bool). not b && is_fine (chart_verdict c)) (sym q ∙ e)
 
-module _ (c : Chart) (t : Bool) (e : t ≡ any (lonely c) 0 (size c)) (q : t ≡ false) (a : Answer)
-    (f : reply a ≡ judged (chartVerdict c) 0) where
-  pub refused-out : (k i n : ℕ) → a ≡ Refused k i n → false ≡ accepts c
-  refused-out k i n h = ap₂ (λ (b : Bool) (v : Verdict). not b && passes v) (sym q ∙ e)
-      (sym (refused-verdict a (chartVerdict c) 0 f k i n h).0)
+module _ (c : Chart) (t : Bool) (e : t ≡ any (is_lonely c) 0 (size c)) (q : t ≡ false) (a : Answer)
+    (f : reply a ≡ verdict_reply (chart_verdict c) 0) where
+  pub refused-out : (k i n : ℕ) → a ≡ Refused k i n → false ≡ is_accepted c
+  refused-out k i n h = ap₂ (λ (b : Bool) (v : Verdict). not b && is_fine v) (sym q ∙ e)
+      (sym (refused-verdict a (chart_verdict c) 0 f k i n h).0)
 
-  pub done-in : (k : ℕ) → a ≡ Done k → true ≡ accepts c
-  done-in k h = ap₂ (λ (b : Bool) (v : Verdict). not b && passes v) (sym q ∙ e) (sym (done-fine a (chartVerdict c) 0 f k h).0)
+  pub done-in : (k : ℕ) → a ≡ Done k → true ≡ is_accepted c
+  done-in k h = ap₂ (λ (b : Bool) (v : Verdict). not b && is_fine v) (sym q ∙ e) (sym (done-fine a (chart_verdict c) 0 f k h).0)
 
 -- ---- counted
-searched-leaf : (n : ℕ) (c : Chart) → searched n 0 c ≡ pick (accepts c) (c ∷ []) []
-unfolding searched
-searched-leaf n c = go (any (lonely c) 0 (size c)) (passes (chartVerdict c))
+searched-leaf : (n : ℕ) (c : Chart) → searched_charts n 0 c ≡ pick (is_accepted c) (c ∷ []) []
+unfolding searched_charts
+searched-leaf n c = go (any (is_lonely c) 0 (size c)) (is_fine (chart_verdict c))
   where
     go : (t s : Bool) → ◌≡◌ {A = List Chart} (elim t [ true ↦ [] | false ↦ elim s [ true ↦ c ∷ [] | false ↦ [] ] ])
         (pick (not t && s) (c ∷ []) [])
@@ -50,27 +50,28 @@ searched-leaf n c = go (any (lonely c) 0 (size c)) (passes (chartVerdict c))
     go false true = refl
     go false false = refl
 
-module _ (n : ℕ) (c : Chart) (left : ℕ) (r : Bool) (e : r ≡ accepts c) where
-  found-by : (b : Bool) → r ≡ b → searched n 0 c ≡ pick b (c ∷ []) []
+module _ (n : ℕ) (c : Chart) (left : ℕ) (r : Bool) (e : r ≡ is_accepted c) where
+  found-by : (b : Bool) → r ≡ b → searched_charts n 0 c ≡ pick b (c ∷ []) []
   found-by b q = searched-leaf n c ∙ ap (λ (t : Bool). pick t (c ∷ []) []) (sym e ∙ q)
 
-  pub count_none : r ≡ false → SoughtCount (searched n 0 c) left (record { found = false; left = left })
+  pub count_none : r ≡ false → SoughtCount (searched_charts n 0 c) left (record { found = false; left = left })
   count_none q = subst (λ (xs : List Chart). SoughtCount xs left (record { found = false; left = left })) (sym (found-by false q))
       (record { told = sym (le-ltb left 0 (omega arith)); passed = omega arith })
 
-  pub count-here : r ≡ true → left ≡ 0 → SoughtCount (searched n 0 c) left (record { found = true; left = left })
+  pub count-here : r ≡ true → left ≡ 0 → SoughtCount (searched_charts n 0 c) left (record { found = true; left = left })
   count-here q z = subst (λ (xs : List Chart). SoughtCount xs left (record { found = true; left = left })) (sym (found-by true q))
       (record { told = sym (lt-ltb left 1 (omega arith)); passed = omega arith })
 
-  pub count-on : r ≡ true → (left ≡ 0 → ⊥) → SoughtCount (searched n 0 c) left (record { found = false; left = left - 1 })
+  pub count-on : r ≡ true → (left ≡ 0 → ⊥) → SoughtCount (searched_charts n 0 c) left (record { found = false; left = left - 1 })
   count-on q z = subst (λ (xs : List Chart). SoughtCount xs left (record { found = false; left = left - 1 })) (sym (found-by true q))
       (record { told = sym (le-ltb left 1 (omega arith)); passed = refl })
 
 -- the one that is found is the chart itself
-leaf-chart : (n : ℕ) (c : Chart) (left : ℕ) → left < length (searched n 0 c) → c ≡ get_or (searched n 0 c) left []
-leaf-chart n c left l = go (accepts c) (searched-leaf n c) left l
+leaf-chart : (n : ℕ) (c : Chart) (left : ℕ) → left < length (searched_charts n 0 c) → c ≡ get_or (searched_charts n 0 c) left []
+leaf-chart n c left l = go (is_accepted c) (searched-leaf n c) left l
   where
-    go : (t : Bool) → searched n 0 c ≡ pick t (c ∷ []) [] → (k : ℕ) → k < length (searched n 0 c) → c ≡ get_or (searched n 0 c) k []
+    go : (t : Bool) → searched_charts n 0 c ≡ pick t (c ∷ []) [] → (k : ℕ) → k < length (searched_charts n 0 c)
+        → c ≡ get_or (searched_charts n 0 c) k []
     go true q k h = subst (λ (xs : List Chart). k < length xs → c ≡ get_or xs k []) (sym q) (one k) h
       where
         one : (k : ℕ) → k < 1 → c ≡ get_or (c ∷ []) k []
@@ -78,23 +79,23 @@ leaf-chart n c left l = go (accepts c) (searched-leaf n c) left l
         one (suc k) h = absurd (omega arith)
     go false q k h = absurd (omega (arith, ap length q))
 
-pub leaf-seeks : (rs : List ℕ) (v left : ℕ) (r : Sought) → FewFrames rs → v ≡ size rs → SoughtCount (searched (size rs) 0 rs) left r
-    → GivesSought (searched (size rs) (size rs - v) (take (10 * v) rs)) (take (10 * v) rs) left r rs
+pub leaf-seeks : (rs : List ℕ) (v left : ℕ) (r : Sought) → FewFrames rs → v ≡ size rs → SoughtCount (searched_charts (size rs) 0 rs) left r
+    → GivesSought (searched_charts (size rs) (size rs - v) (take (10 * v) rs)) (take (10 * v) rs) left r rs
 leaf-seeks rs v left r f e c =
     let w : length rs ≡ 10 * size rs = f.whole in
     let t : take (10 * v) rs ≡ rs = take_all (10 * v) rs (omega arith) in
     let z : size rs - v ≡ 0 = omega arith in
-    subst (λ (front : List ℕ). GivesSought (searched (size rs) (size rs - v) front) front left r rs) (sym t)
-    (subst (λ (m : ℕ). GivesSought (searched (size rs) m rs) rs left r rs) (sym z)
+    subst (λ (front : List ℕ). GivesSought (searched_charts (size rs) (size rs - v) front) front left r rs) (sym t)
+    (subst (λ (m : ℕ). GivesSought (searched_charts (size rs) m rs) rs left r rs) (sym z)
     (record { counted = c; chart = leaf-chart (size rs) rs left; kept = λ l. take-length rs }))
 
 -- ---- a record in its place
-pub node-ten : (n i : ℕ) → length (nodeAt n i) ≡ 10
-unfolding nodeAt
+pub node-ten : (n i : ℕ) → length (node_at n i) ≡ 10
+unfolding node_at
 node-ten n i = go (ltb i n) (eqb i n) (ltb i (3 * n + 1))
   where
     go : (s t u : Bool) → length
-        (pick s (beginNode i) (pick t endNode (pick u (operationAt (i - (n + 1))) (conditionAt n (i - (3 * n + 1)))))) ≡ 10
+        (pick s (begin_node i) (pick t end_node (pick u (operation_at (i - (n + 1))) (condition_at n (i - (3 * n + 1)))))) ≡ 10
     go true t u = refl
     go false true u = refl
     go false false true = refl

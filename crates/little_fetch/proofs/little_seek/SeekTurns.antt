@@ -8,11 +8,11 @@ use lib.ListN.{length, get_or, take, drop, length-append, take-append-drop, get_
 use lib.Seq.{length-take-le, take-take, take_at, get_or-append-add}
 use borrow.Author.Tests.{lt-ltb, le-ltb, ltb-true, ltb-false}
 use Rattle.words.specs.lists.Numbers.{range}
-use Rattle.words.specs.lists.Sequences.{concatMap}
+use Rattle.words.specs.lists.Sequences.{concat_map}
 use Rattle.words.proofs.lists.Joins.{concat-range-snoc, concat-split}
 use Rattle.text.specs.frames.Frame.{size}
 use Rattle.charts.specs.Chart.{Chart}
-use Rattle.little_charts.specs.little_search.inner.Search.{nodeCount, nodeAt, barredNode, firstTried, past, searched}
+use Rattle.little_charts.specs.little_search.inner.Search.{node_count, node_at, is_barred_node, first_tried, past_last, searched_charts}
 use Rattle.little_charts.proofs.little_search.Alike.{SameFields, front-alike, barred-alike, first_alike, past-alike}
 use Rattle.little_charts.proofs.little_search.Same.{first-low, past-within}
 use Rattle.little_fetch.specs.declared.little_seek.Sought.{Sought}
@@ -20,14 +20,14 @@ use Rattle.little_fetch.specs.little_seek.inner.SeekContracts.{FewFrames, Record
 
 -- the charts that begin with the records below place v and have record i there
 abbrev pub tried_at : List ℕ → ℕ → ℕ → List Chart
-tried_at rs v i = let x = take (10 * v) rs ++ nodeAt (size rs) i in
-    elim (barredNode x v) [ true ↦ [] | false ↦ searched (size rs) (size rs - (v + 1)) x ]
+tried_at rs v i = let x = take (10 * v) rs ++ node_at (size rs) i in
+    elim (is_barred_node x v) [ true ↦ [] | false ↦ searched_charts (size rs) (size rs - (v + 1)) x ]
 
-abbrev pub doneBefore : List ℕ → ℕ → ℕ → ℕ → List Chart
-doneBefore rs v from i = concatMap (tried_at rs v) (range from (i - from))
+abbrev pub charts_done_before : List ℕ → ℕ → ℕ → ℕ → List Chart
+charts_done_before rs v from i = concat_map (tried_at rs v) (range from (i - from))
 
 abbrev pub all_from : List ℕ → ℕ → List Chart
-all_from rs v = searched (size rs) (size rs - v) (take (10 * v) rs)
+all_from rs v = searched_charts (size rs) (size rs - v) (take (10 * v) rs)
 
 taken-alike : (rs : List ℕ) (v : ℕ) → 10 * v ≤ length rs → SameFields (take (10 * v) rs) rs v
 taken-alike rs v l = subst (λ (x : List ℕ). SameFields (take (10 * v) rs) x v) (take-append-drop (10 * v) rs)
@@ -37,14 +37,14 @@ pub record Seeking (rs₀ : List ℕ) (v left n end from : ℕ) (rs : List ℕ) 
   pub few : FewFrames rs₀
   pub inside : v < size rs₀
   pub count : n ≡ size rs₀
-  pub first : from ≡ firstTried (size rs₀) rs₀ v
-  pub past : end ≡ past (size rs₀) rs₀ v
+  pub first : from ≡ first_tried (size rs₀) rs₀ v
+  pub past : end ≡ past_last (size rs₀) rs₀ v
   pub long : length rs ≡ length rs₀
   pub front : take (10 * v) rs ≡ take (10 * v) rs₀
   pub low : from ≤ i
   pub high : i ≤ end
-  pub passed : length (doneBefore rs₀ v from i) ≤ left
-  pub counted : rest ≡ left - length (doneBefore rs₀ v from i)
+  pub passed : length (charts_done_before rs₀ v from i) ≤ left
+  pub counted : rest ≡ left - length (charts_done_before rs₀ v from i)
 
 module _ (rs : List ℕ) (v : ℕ) (few : FewFrames rs) (inside : v < size rs) where
   room : 10 * v ≤ length rs
@@ -53,32 +53,32 @@ module _ (rs : List ℕ) (v : ℕ) (few : FewFrames rs) (inside : v < size rs) w
   front-size : size (take (10 * v) rs) ≡ v
   front-size = omega (arith, length-take-le (10 * v) rs room)
 
-  pub range-ends : (firstTried (size rs) rs v ≤ past (size rs) rs v) × (past (size rs) rs v ≤ nodeCount (size rs))
+  pub range-ends : (first_tried (size rs) rs v ≤ past_last (size rs) rs v) × (past_last (size rs) rs v ≤ node_count (size rs))
   range-ends = (
     omega (arith, first-low (size rs) rs v, (past-within (size rs) rs v).0),
     (past-within (size rs) rs v).1,
   )
 
-  all-is : all_from rs v ≡ doneBefore rs v (firstTried (size rs) rs v) (past (size rs) rs v)
-  unfolding searched
+  all-is : all_from rs v ≡ charts_done_before rs v (first_tried (size rs) rs v) (past_last (size rs) rs v)
+  unfolding searched_charts
   all-is =
       let n : ℕ = size rs in
       let c : List ℕ = take (10 * v) rs in
       let m : n - v ≡ suc (n - (v + 1)) = omega arith in
       let a : SameFields c rs v = taken-alike rs v room in
-      let g : ℕ → ℕ → ℕ → List Chart = λ w from end. concatMap
-      (λ i. let x = c ++ nodeAt n i in elim (barredNode x w) [ true ↦ [] | false ↦ searched n (n - (v + 1)) x ])
+      let g : ℕ → ℕ → ℕ → List Chart = λ w from end. concat_map
+      (λ i. let x = c ++ node_at n i in elim (is_barred_node x w) [ true ↦ [] | false ↦ searched_charts n (n - (v + 1)) x ])
       (range from (end - from)) in
-      ap (λ (k : ℕ). searched n k c) m
-      ∙ ap (λ (w : ℕ). g w (firstTried n c w) (past n c w)) front-size
+      ap (λ (k : ℕ). searched_charts n k c) m
+      ∙ ap (λ (w : ℕ). g w (first_tried n c w) (past_last n c w)) front-size
       ∙ ap₂ (λ (x y : ℕ). g v x y) (first_alike c rs n v a) (past-alike c rs n v a)
 
-  pub seeking-first : (left n end from : ℕ) → n ≡ size rs → end ≡ past (size rs) rs v → from ≡ firstTried (size rs) rs v
+  pub seeking-first : (left n end from : ℕ) → n ≡ size rs → end ≡ past_last (size rs) rs v → from ≡ first_tried (size rs) rs v
       → Seeking rs v left n end from rs from left
-  unfolding concatMap
+  unfolding concat_map
   seeking-first left n end from e f g =
       let z : from - from ≡ 0 = omega arith in
-      let d : doneBefore rs v from from ≡ [] = ap (λ (k : ℕ). concatMap (tried_at rs v) (range from k)) z in
+      let d : charts_done_before rs v from from ≡ [] = ap (λ (k : ℕ). concat_map (tried_at rs v) (range from k)) z in
       record {
         few = few;
         inside = inside;
@@ -105,7 +105,7 @@ module _ (rs₀ : List ℕ) (v left n end from : ℕ) (rs : List ℕ) (i rest : 
   pub seeking-done : end ≤ i → GivesSought (all_from rs₀ v) (take (10 * v) rs₀) left (record { found = false; left = rest }) rs
   seeking-done h =
       let e : i ≡ end = omega (arith, k.high) in
-      let d : doneBefore rs₀ v from i ≡ all_from rs₀ v = ap₂ (λ (x y : ℕ). doneBefore rs₀ v x y) k.first (e ∙ k.past)
+      let d : charts_done_before rs₀ v from i ≡ all_from rs₀ v = ap₂ (λ (x y : ℕ). charts_done_before rs₀ v x y) k.first (e ∙ k.past)
       ∙ sym (all-is rs₀ v k.few k.inside) in
       let p : length (all_from rs₀ v) ≤ left = omega (arith, ap length d, k.passed) in
       record {
@@ -115,22 +115,22 @@ module _ (rs₀ : List ℕ) (v left n end from : ℕ) (rs : List ℕ) (i rest : 
       }
 
   module _ (l : i < end) where
-    pub number-low : i < nodeCount (size rs)
-    number-low = subst (λ (m : ℕ). i < nodeCount m) (sym same_size) (omega (arith, k.past, (range-ends rs₀ v k.few k.inside).1))
+    pub number-low : i < node_count (size rs)
+    number-low = subst (λ (m : ℕ). i < node_count m) (sym same_size) (omega (arith, k.past, (range-ends rs₀ v k.few k.inside).1))
 
     -- one number more
-    done_next : doneBefore rs₀ v from (i + 1) ≡ doneBefore rs₀ v from i ++ tried_at rs₀ v i
+    done_next : charts_done_before rs₀ v from (i + 1) ≡ charts_done_before rs₀ v from i ++ tried_at rs₀ v i
     done_next =
         let a : i + 1 - from ≡ suc (i - from) = omega (arith, k.low) in
         let b : from + (i - from) ≡ i = omega (arith, k.low) in
-        ap (λ (j : ℕ). concatMap (tried_at rs₀ v) (range from j)) a ∙ concat-range-snoc (tried_at rs₀ v) from (i - from)
-        ∙ ap (λ (j : ℕ). doneBefore rs₀ v from i ++ tried_at rs₀ v j) b
+        ap (λ (j : ℕ). concat_map (tried_at rs₀ v) (range from j)) a ∙ concat-range-snoc (tried_at rs₀ v) from (i - from)
+        ∙ ap (λ (j : ℕ). charts_done_before rs₀ v from i ++ tried_at rs₀ v j) b
 
     seeking-next : (rs' : List ℕ) (rest' : ℕ) → length rs' ≡ length rs → take (10 * v) rs' ≡ take (10 * v) rs₀
         → length (tried_at rs₀ v i) ≤ rest → rest' ≡ rest - length (tried_at rs₀ v i) → Seeking rs₀ v left n end from rs' (i + 1) rest'
     seeking-next rs' rest' m f h e =
-        let d : length (doneBefore rs₀ v from (i + 1)) ≡ length (doneBefore rs₀ v from i) + length (tried_at rs₀ v i) =
-        ap length done_next ∙ length-append (doneBefore rs₀ v from i) (tried_at rs₀ v i) in
+        let d : length (charts_done_before rs₀ v from (i + 1)) ≡ length (charts_done_before rs₀ v from i) + length (tried_at rs₀ v i) =
+        ap length done_next ∙ length-append (charts_done_before rs₀ v from i) (tried_at rs₀ v i) in
         record {
           few = k.few;
           inside = k.inside;
@@ -146,37 +146,37 @@ module _ (rs₀ : List ℕ) (v left n end from : ℕ) (rs : List ℕ) (i rest : 
         }
 
     -- record i in its place
-    module _ (rs' : List ℕ) (p : RecordPlaced rs v (nodeAt (size rs) i) rs') where
+    module _ (rs' : List ℕ) (p : RecordPlaced rs v (node_at (size rs) i) rs') where
       abbrev x : List ℕ
-      x = take (10 * v) rs₀ ++ nodeAt (size rs₀) i
+      x = take (10 * v) rs₀ ++ node_at (size rs₀) i
 
       placed-long : length rs' ≡ length rs₀
       placed-long = p.long ∙ k.long
 
       x-front : take (10 * v + 10) rs' ≡ x
-      x-front = p.front ∙ ap₂ (λ (a : List ℕ) (m : ℕ). a ++ nodeAt m i) k.front same_size
+      x-front = p.front ∙ ap₂ (λ (a : List ℕ) (m : ℕ). a ++ node_at m i) k.front same_size
 
       x-taken : take (10 * (v + 1)) rs' ≡ x
       x-taken = let e : 10 * (v + 1) ≡ 10 * v + 10 = omega arith in ap (λ (j : ℕ). take j rs') e ∙ x-front
 
       pub placed-front : take (10 * v) rs' ≡ take (10 * v) rs₀
       placed-front = sym (take-take (10 * v) (10 * v + 10) rs' (omega arith)) ∙ ap (take (10 * v)) x-front
-          ∙ take_at (take (10 * v) rs₀) (nodeAt (size rs₀) i) (10 * v) (length-take-le (10 * v) rs₀ (room rs₀ v k.few k.inside))
+          ∙ take_at (take (10 * v) rs₀) (node_at (size rs₀) i) (10 * v) (length-take-le (10 * v) rs₀ (room rs₀ v k.few k.inside))
 
       x-alike : SameFields x rs' (v + 1)
       x-alike = subst (λ (y : List ℕ). SameFields y rs' (v + 1)) x-taken
           (taken-alike rs' (v + 1) (omega (arith, placed-long, k.few.whole, k.inside)))
 
-      tried-by : (t : Bool) → t ≡ barredNode rs' v
-          → tried_at rs₀ v i ≡ elim t [ true ↦ [] | false ↦ searched (size rs₀) (size rs₀ - (v + 1)) x ]
-      tried-by t e = ap (λ (b : Bool). elim b [ true ↦ [] | false ↦ searched (size rs₀) (size rs₀ - (v + 1)) x ])
+      tried-by : (t : Bool) → t ≡ is_barred_node rs' v
+          → tried_at rs₀ v i ≡ elim t [ true ↦ [] | false ↦ searched_charts (size rs₀) (size rs₀ - (v + 1)) x ]
+      tried-by t e = ap (λ (b : Bool). elim b [ true ↦ [] | false ↦ searched_charts (size rs₀) (size rs₀ - (v + 1)) x ])
           (barred-alike x rs' v x-alike ∙ sym e)
 
       -- no chart begins so
-      pub seeking-barred : (t : Bool) → t ≡ barredNode rs' v → t ≡ true → Seeking rs₀ v left n end from rs' (i + 1) rest
+      pub seeking-barred : (t : Bool) → t ≡ is_barred_node rs' v → t ≡ true → Seeking rs₀ v left n end from rs' (i + 1) rest
       seeking-barred t e q =
           let z : tried_at rs₀ v i ≡ [] = tried-by t e
-          ∙ ap (λ (b : Bool). elim b [ true ↦ [] | false ↦ searched (size rs₀) (size rs₀ - (v + 1)) x ]) q in
+          ∙ ap (λ (b : Bool). elim b [ true ↦ [] | false ↦ searched_charts (size rs₀) (size rs₀ - (v + 1)) x ]) q in
           seeking-next rs' rest p.long placed-front (omega (arith, ap length z)) (omega (arith, ap length z))
 
       pub placed-few : FewFrames rs'
@@ -192,13 +192,13 @@ module _ (rs₀ : List ℕ) (v left n end from : ℕ) (rs : List ℕ) (i rest : 
       placed-inside = omega (arith, placed-long, k.inside)
 
       -- the search went on from the next place
-      module _ (t : Bool) (e : t ≡ barredNode rs' v) (q : t ≡ false) (s : Sought) (rs'' : List ℕ) (h : length rs'' ≡ length rs')
+      module _ (t : Bool) (e : t ≡ is_barred_node rs' v) (q : t ≡ false) (s : Sought) (rs'' : List ℕ) (h : length rs'' ≡ length rs')
           (o : GivesSought (all_from rs' (v + 1)) (take (10 * (v + 1)) rs') rest s rs'') where
         tried-is : tried_at rs₀ v i ≡ all_from rs' (v + 1)
         tried-is =
             let m : size rs₀ ≡ size rs' = omega (arith, placed-long) in
-            tried-by t e ∙ ap (λ (b : Bool). elim b [ true ↦ [] | false ↦ searched (size rs₀) (size rs₀ - (v + 1)) x ]) q
-            ∙ ap₂ (λ (j : ℕ) (y : List ℕ). searched j (j - (v + 1)) y) m (sym x-taken)
+            tried-by t e ∙ ap (λ (b : Bool). elim b [ true ↦ [] | false ↦ searched_charts (size rs₀) (size rs₀ - (v + 1)) x ]) q
+            ∙ ap₂ (λ (j : ℕ) (y : List ℕ). searched_charts j (j - (v + 1)) y) m (sym x-taken)
 
         pub seeking-on : s.found ≡ false → Seeking rs₀ v left n end from rs'' (i + 1) s.left
         seeking-on f =
@@ -212,34 +212,35 @@ module _ (rs₀ : List ℕ) (v left n end from : ℕ) (rs : List ℕ) (i rest : 
             (omega (arith, ap length tried-is)) (omega (arith, ap length tried-is, o.counted.passed))
 
         later : List Chart
-        later = concatMap (tried_at rs₀ v) (range (i + 1) (end - (i + 1)))
+        later = concat_map (tried_at rs₀ v) (range (i + 1) (end - (i + 1)))
 
-        all_split : all_from rs₀ v ≡ doneBefore rs₀ v from i ++ (tried_at rs₀ v i ++ later)
-        unfolding concatMap later
+        all_split : all_from rs₀ v ≡ charts_done_before rs₀ v from i ++ (tried_at rs₀ v i ++ later)
+        unfolding concat_map later
         all_split =
             let a : end - from ≡ i - from + suc (end - (i + 1)) = omega (arith, k.low) in
             let b : from + (i - from) ≡ i = omega (arith, k.low) in
             let d : suc i ≡ i + 1 = omega arith in
-            all-is rs₀ v k.few k.inside ∙ sym (ap₂ (λ (x y : ℕ). doneBefore rs₀ v x y) k.first k.past)
-            ∙ ap (λ (j : ℕ). concatMap (tried_at rs₀ v) (range from j)) a
+            all-is rs₀ v k.few k.inside ∙ sym (ap₂ (λ (x y : ℕ). charts_done_before rs₀ v x y) k.first k.past)
+            ∙ ap (λ (j : ℕ). concat_map (tried_at rs₀ v) (range from j)) a
             ∙ concat-split (tried_at rs₀ v) from (i - from) (suc (end - (i + 1)))
-            ∙ ap (λ (j : ℕ). doneBefore rs₀ v from i ++ concatMap (tried_at rs₀ v) (range j (suc (end - (i + 1))))) b
-            ∙ ap (λ (j : ℕ). doneBefore rs₀ v from i ++ (tried_at rs₀ v i ++ concatMap (tried_at rs₀ v) (range j (end - (i + 1))))) d
+            ∙ ap (λ (j : ℕ). charts_done_before rs₀ v from i ++ concat_map (tried_at rs₀ v) (range j (suc (end - (i + 1))))) b
+            ∙ ap (λ (j : ℕ). charts_done_before rs₀ v from i ++ (tried_at rs₀ v i
+            ++ concat_map (tried_at rs₀ v) (range j (end - (i + 1))))) d
 
         pub seeking-found : s.found ≡ true → GivesSought (all_from rs₀ v) (take (10 * v) rs₀) left s rs''
         seeking-found f =
             let b : rest < length (all_from rs' (v + 1)) = ltb-true rest (length (all_from rs' (v + 1))) (sym o.counted.told ∙ f) in
             let w : length (tried_at rs₀ v i) ≡ length (all_from rs' (v + 1)) = ap length tried-is in
-            let z : length (all_from rs₀ v) ≡ length (doneBefore rs₀ v from i) + (length (tried_at rs₀ v i) + length later) =
-            ap length all_split ∙ length-append (doneBefore rs₀ v from i) (tried_at rs₀ v i ++ later)
-            ∙ ap (λ (j : ℕ). length (doneBefore rs₀ v from i) + j) (length-append (tried_at rs₀ v i) later) in
+            let z : length (all_from rs₀ v) ≡ length (charts_done_before rs₀ v from i) + (length (tried_at rs₀ v i) + length later) =
+            ap length all_split ∙ length-append (charts_done_before rs₀ v from i) (tried_at rs₀ v i ++ later)
+            ∙ ap (λ (j : ℕ). length (charts_done_before rs₀ v from i) + j) (length-append (tried_at rs₀ v i) later) in
             let m : left < length (all_from rs₀ v) = omega (arith, k.passed, k.counted) in
-            let r : left ≡ length (doneBefore rs₀ v from i) + rest = omega (arith, k.passed, k.counted) in
+            let r : left ≡ length (charts_done_before rs₀ v from i) + rest = omega (arith, k.passed, k.counted) in
             record {
               counted = record { told = f ∙ sym (lt-ltb left (length (all_from rs₀ v)) m); passed = omega (arith, o.counted.passed) };
               chart = λ u. o.chart b ∙ ap (λ (xs : List Chart). get_or xs rest []) (sym tried-is)
                   ∙ sym (get_or-append (tried_at rs₀ v i) later [] rest (omega arith))
-                  ∙ sym (get_or-append-add (doneBefore rs₀ v from i) (tried_at rs₀ v i ++ later) rest [])
+                  ∙ sym (get_or-append-add (charts_done_before rs₀ v from i) (tried_at rs₀ v i ++ later) rest [])
                   ∙ ap₂ (λ (xs : List Chart) (j : ℕ). get_or xs j []) (sym all_split) (sym r);
               kept = λ u. absurd (omega arith);
             }

@@ -2,7 +2,8 @@
 ghost use Rattle.std.specs.Prelude.{◌≡◌, ◌+◌, ◌*◌, ◌≤◌, ◌<◌, length};
 ghost use Rattle.words.specs.lists.Numbers.{any};
 ghost use Rattle.text.specs.frames.Frame.{size};
-ghost use Rattle.little_charts.specs.little_search.inner.Search.{has, arcLeads, enters, clashes, repeats, barredNode, leadsOther, lonely};
+ghost use Rattle.little_charts.specs.little_search.inner.Search.{has_kind, has_arc_to, has_arc_to_begin, is_clash, is_repeat};
+ghost use Rattle.little_charts.specs.little_search.inner.Search.{is_barred_node, is_other_leading_to, is_lonely};
 
 use charts::field;
 use charts::layout::*;
@@ -11,7 +12,7 @@ use text::frames::sizes::RECORD;
 // A node below v is of this kind.
 pub fn has_kind(records: &[u8], kind: u8, v: usize) -> bool
     requires { RECORD * v ≤ length records.now }
-    ensures { result ≡ has records.now kind v }
+    ensures { result ≡ has_kind records.now kind v }
 {
     for u in 0..v {
         if field(records, u, KIND) == kind {
@@ -24,7 +25,7 @@ pub fn has_kind(records: &[u8], kind: u8, v: usize) -> bool
 // An arc of node u leads to t.
 fn leads_to(records: &[u8], u: usize, t: usize) -> bool
     requires { RECORD * u + RECORD ≤ length records.now }
-    ensures { result ≡ arcLeads records.now u t }
+    ensures { result ≡ has_arc_to records.now u t }
 {
     let kind = field(records, u, KIND);
     if kind == END {
@@ -42,7 +43,7 @@ fn leads_to(records: &[u8], u: usize, t: usize) -> bool
 // Node v is a Begin that an arc of node u leads to.
 fn enters_begin(records: &[u8], u: usize, v: usize) -> bool
     requires { (RECORD * u + RECORD ≤ length records.now) × (RECORD * v + RECORD ≤ length records.now) }
-    ensures { result ≡ enters records.now u v }
+    ensures { result ≡ has_arc_to_begin records.now u v }
 {
     if field(records, v, KIND) != BEGIN {
         return false;
@@ -53,7 +54,7 @@ fn enters_begin(records: &[u8], u: usize, v: usize) -> bool
 // Node v clashes with one up to it.
 fn any_clash(records: &[u8], v: usize) -> bool
     requires { RECORD * v + RECORD ≤ length records.now }
-    ensures { result ≡ any (clashes records.now v) 0 (v + 1) }
+    ensures { result ≡ any (is_clash records.now v) 0 (v + 1) }
 {
     let end = v + 1;
     for u in 0..end {
@@ -70,7 +71,7 @@ fn any_clash(records: &[u8], v: usize) -> bool
 // Node v is a second End, or a condition with an arc to itself.
 fn repeats(records: &[u8], v: usize) -> bool
     requires { RECORD * v + RECORD ≤ length records.now }
-    ensures { result ≡ repeats records.now v }
+    ensures { result ≡ is_repeat records.now v }
 {
     match field(records, v, KIND) {
         END => has_kind(records, END, v),
@@ -82,7 +83,7 @@ fn repeats(records: &[u8], v: usize) -> bool
 // No accepted chart has such a node v after such records.
 pub fn is_barred(records: &[u8], v: usize) -> bool
     requires { RECORD * v + RECORD ≤ length records.now }
-    ensures { result ≡ barredNode records.now v }
+    ensures { result ≡ is_barred_node records.now v }
 {
     if repeats(records, v) {
         return true;
@@ -93,7 +94,7 @@ pub fn is_barred(records: &[u8], v: usize) -> bool
 // Node u is another one than v, and an arc of it leads there.
 fn leads_other(records: &[u8], v: usize, u: usize) -> bool
     requires { RECORD * u + RECORD ≤ length records.now }
-    ensures { result ≡ leadsOther records.now v u }
+    ensures { result ≡ is_other_leading_to records.now v u }
 {
     if u == v {
         return false;
@@ -104,7 +105,7 @@ fn leads_other(records: &[u8], v: usize, u: usize) -> bool
 // No arc of another node leads to node v, and it is no Begin.
 fn is_lonely(records: &[u8], v: usize) -> bool
     requires { v < size records.now }
-    ensures { result ≡ lonely records.now v }
+    ensures { result ≡ is_lonely records.now v }
 {
     if field(records, v, KIND) == BEGIN {
         return false;
@@ -120,7 +121,7 @@ fn is_lonely(records: &[u8], v: usize) -> bool
 
 // Some node is such a one.
 pub fn any_lonely(records: &[u8]) -> bool
-    ensures { result ≡ any (lonely records.now) 0 (size records.now) }
+    ensures { result ≡ any (is_lonely records.now) 0 (size records.now) }
 {
     let n = records.len() / RECORD;
     for v in 0..n {

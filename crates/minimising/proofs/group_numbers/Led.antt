@@ -17,127 +17,132 @@ use Rattle.words.proofs.lists.Ranges.{filter-yes, filter-no}
 use Rattle.words.proofs.lists.Filters.{filter_none}
 use Rattle.image.specs.Image.{Image, Row}
 use Rattle.image.specs.inner.Sound.{SoundImage}
-use Rattle.rows.specs.Rows.{matches, isCandidate}
-use Rattle.covering.specs.Matched.{hits, uneven}
+use Rattle.rows.specs.Rows.{is_match, is_candidate}
+use Rattle.covering.specs.Matched.{hits, is_uneven}
 use Rattle.covering.proofs.Hits.{OneRow, the_row, even-of}
-use Rattle.grouping.specs.Classes.{class_of, isFirst}
-use Rattle.grouping.proofs.Onward.{leadsTo, onwardLabel}
+use Rattle.grouping.specs.Classes.{class_of, is_first}
+use Rattle.grouping.proofs.Onward.{label_led_to, onward_label}
 use Rattle.grouping.proofs.Rounds.{ClassRound}
-use Rattle.minimising.specs.group_numbers.Smaller.{renumbered, renumberedRow, joinedLabels}
+use Rattle.minimising.specs.group_numbers.Smaller.{renumbered_label, renumbered_row, joined_labels}
 use Rattle.minimising.proofs.group_numbers.Numbering.{Nth, nth, class-first, class-high, new-first, labels-count}
 
-module _ (c : List ℕ) (l w b : ℕ) (t : isFirst c l ≡ true) where
-  from-same : (k : ℕ) → isFirst c k ≡ true → eqb (renumbered c k) (renumbered c l) ≡ eqb k l
+module _ (c : List ℕ) (l w b : ℕ) (t : is_first c l ≡ true) where
+  from-same : (k : ℕ) → is_first c k ≡ true → eqb (renumbered_label c k) (renumbered_label c l) ≡ eqb k l
   from-same k e = go (ℕ_discrete k l)
     where
-      number : (k : ℕ) → isFirst c k ≡ true → renumbered c k ≡ count (isFirst c) 0 k
-      number k e = ap (λ (x : ℕ). count (isFirst c) 0 x) (eqb-true (class_of c k) k e)
+      number : (k : ℕ) → is_first c k ≡ true → renumbered_label c k ≡ count (is_first c) 0 k
+      number k e = ap (λ (x : ℕ). count (is_first c) 0 x) (eqb-true (class_of c k) k e)
 
-      go : Dec (k ≡ l) → eqb (renumbered c k) (renumbered c l) ≡ eqb k l
-      go (yes q) = eq-eqb (renumbered c k) (renumbered c l) (ap (renumbered c) q) ∙ sym (eq-eqb k l q)
-      go (no q) = ne_eqb (renumbered c k) (renumbered c l) (λ z. q (count-apart (isFirst c) k l e t (sym (number k e) ∙ z ∙ number l t)))
+      go : Dec (k ≡ l) → eqb (renumbered_label c k) (renumbered_label c l) ≡ eqb k l
+      go (yes q) = eq-eqb (renumbered_label c k) (renumbered_label c l) (ap (renumbered_label c) q) ∙ sym (eq-eqb k l q)
+      go (no q) = ne_eqb (renumbered_label c k) (renumbered_label c l)
+          (λ z. q (count-apart (is_first c) k l e t (sym (number k e) ∙ z ∙ number l t)))
           ∙ sym (ne_eqb k l q)
 
   -- the rows that match, renumbered
   pub rows-led : (rs : List Row)
-      → filter (isCandidate (renumbered c l) w b) (map (renumberedRow c) (filter (λ r. isFirst c r.from) rs)) ≡ map
-      (renumberedRow c) (filter (isCandidate l w b) rs)
+      → filter (is_candidate (renumbered_label c l) w b) (map (renumbered_row c) (filter (λ r. is_first c r.from) rs)) ≡ map
+      (renumbered_row c) (filter (is_candidate l w b) rs)
   rows-led [] =
-      ap (λ (rs : List Row). filter (isCandidate (renumbered c l) w b) (map (renumberedRow c) rs)) (filter_none (λ r. isFirst c r.from))
-      ∙ filter_none (isCandidate (renumbered c l) w b) ∙ sym (ap (map (renumberedRow c)) (filter_none (isCandidate l w b)))
-  rows-led (r ∷ rs) = go (isFirst c r.from) refl (isCandidate l w b r) refl (rows-led rs)
+      ap (λ (rs : List Row). filter (is_candidate (renumbered_label c l) w b) (map (renumbered_row c) rs))
+      (filter_none (λ r. is_first c r.from))
+      ∙ filter_none (is_candidate (renumbered_label c l) w b) ∙ sym (ap (map (renumbered_row c)) (filter_none (is_candidate l w b)))
+  rows-led (r ∷ rs) = go (is_first c r.from) refl (is_candidate l w b r) refl (rows-led rs)
     where
       test : Row → Bool
-      test s = isFirst c s.from
+      test s = is_first c s.from
 
-      all : isFirst c r.from ≡ true
-          → filter (isCandidate (renumbered c l) w b) (map (renumberedRow c) (filter test (r ∷ rs)))
-          ≡ filter (isCandidate (renumbered c l) w b) (renumberedRow c r ∷ map (renumberedRow c) (filter test rs))
-      all e = ap (λ (ss : List Row). filter (isCandidate (renumbered c l) w b) (map (renumberedRow c) ss)) (filter-yes test r rs e)
+      all : is_first c r.from ≡ true
+          → filter (is_candidate (renumbered_label c l) w b) (map (renumbered_row c) (filter test (r ∷ rs)))
+          ≡ filter (is_candidate (renumbered_label c l) w b) (renumbered_row c r ∷ map (renumbered_row c) (filter test rs))
+      all e = ap (λ (ss : List Row). filter (is_candidate (renumbered_label c l) w b) (map (renumbered_row c) ss)) (filter-yes test r rs e)
 
-      alike : isFirst c r.from ≡ true → isCandidate (renumbered c l) w b (renumberedRow c r) ≡ isCandidate l w b r
-      alike e = ap (λ (x : Bool). x && matches w b r) (from-same r.from e)
+      alike : is_first c r.from ≡ true → is_candidate (renumbered_label c l) w b (renumbered_row c r) ≡ is_candidate l w b r
+      alike e = ap (λ (x : Bool). x && is_match w b r) (from-same r.from e)
 
-      other : isFirst c r.from ≡ false → isCandidate l w b r ≡ false
-      other e = ap (λ (x : Bool). x && matches w b r) (ne_eqb r.from l (λ q. no_both (isFirst c l) t (ap (isFirst c) (sym q) ∙ e)))
+      other : is_first c r.from ≡ false → is_candidate l w b r ≡ false
+      other e = ap (λ (x : Bool). x && is_match w b r) (ne_eqb r.from l (λ q. no_both (is_first c l) t (ap (is_first c) (sym q) ∙ e)))
 
-      go : (x : Bool) → isFirst c r.from ≡ x → (y : Bool) → isCandidate l w b r ≡ y
-          → filter (isCandidate (renumbered c l) w b) (map (renumberedRow c) (filter test rs)) ≡ map
-          (renumberedRow c) (filter (isCandidate l w b) rs)
-          → filter (isCandidate (renumbered c l) w b) (map (renumberedRow c) (filter test (r ∷ rs))) ≡ map
-          (renumberedRow c) (filter (isCandidate l w b) (r ∷ rs))
+      go : (x : Bool) → is_first c r.from ≡ x → (y : Bool) → is_candidate l w b r ≡ y
+          → filter (is_candidate (renumbered_label c l) w b) (map (renumbered_row c) (filter test rs)) ≡ map
+          (renumbered_row c) (filter (is_candidate l w b) rs)
+          → filter (is_candidate (renumbered_label c l) w b) (map (renumbered_row c) (filter test (r ∷ rs))) ≡ map
+          (renumbered_row c) (filter (is_candidate l w b) (r ∷ rs))
       go true e true f ih =
-          all e ∙ filter-yes (isCandidate (renumbered c l) w b) (renumberedRow c r) (map (renumberedRow c) (filter test rs)) (alike e ∙ f)
-          ∙ ap (λ (ss : List Row). renumberedRow c r ∷ ss) ih ∙ sym (ap (map (renumberedRow c)) (filter-yes (isCandidate l w b) r rs f))
+          all e ∙ filter-yes (is_candidate (renumbered_label c l) w b) (renumbered_row c r) (map (renumbered_row c) (filter test rs))
+          (alike e ∙ f)
+          ∙ ap (λ (ss : List Row). renumbered_row c r ∷ ss) ih ∙ sym (ap (map (renumbered_row c)) (filter-yes (is_candidate l w b) r rs f))
       go true e false f ih =
-          all e ∙ filter-no (isCandidate (renumbered c l) w b) (renumberedRow c r) (map (renumberedRow c) (filter test rs)) (alike e ∙ f)
-          ∙ ih ∙ sym (ap (map (renumberedRow c)) (filter-no (isCandidate l w b) r rs f))
+          all e ∙ filter-no (is_candidate (renumbered_label c l) w b) (renumbered_row c r) (map (renumbered_row c) (filter test rs))
+          (alike e ∙ f)
+          ∙ ih ∙ sym (ap (map (renumbered_row c)) (filter-no (is_candidate l w b) r rs f))
       go false e y f ih =
-          ap (λ (ss : List Row). filter (isCandidate (renumbered c l) w b) (map (renumberedRow c) ss)) (filter-no test r rs e)
-          ∙ ih ∙ sym (ap (map (renumberedRow c)) (filter-no (isCandidate l w b) r rs (other e)))
+          ap (λ (ss : List Row). filter (is_candidate (renumbered_label c l) w b) (map (renumbered_row c) ss)) (filter-no test r rs e)
+          ∙ ih ∙ sym (ap (map (renumbered_row c)) (filter-no (is_candidate l w b) r rs (other e)))
 
 module _ (i : Image) (S : SoundImage i) (c : List ℕ) (R : ClassRound i c) where
   abbrev n : ℕ
   n = length i.labels
 
   abbrev new : ℕ → ℕ
-  new = renumbered c
+  new = renumbered_label c
 
   -- ---- the lowest member of the group with number k
   pub record Member (k : ℕ) : Type 0 where
     pub label : ℕ
     pub inside : label < n
-    pub first : isFirst c label ≡ true
+    pub first : is_first c label ≡ true
     pub number : new label ≡ k
     pub high : 2 ≤ k → 2 ≤ label
 
-  pub member : (k : ℕ) → k < length (joinedLabels i c).labels → Member k
+  pub member : (k : ℕ) → k < length (joined_labels i c).labels → Member k
   member k h =
-      let x : Nth (isFirst c) n k = nth (isFirst c) n k (omega (arith, labels-count i S c R)) in
+      let x : Nth (is_first c) n k = nth (is_first c) n k (omega (arith, labels-count i S c R)) in
       record {
         label = x.member;
         inside = x.inside;
         first = x.passes;
         number = new-first i S c R x.member x.passes ∙ x.number;
-        high = λ low. omega (arith, x.number, count-le (isFirst c) 0 x.member);
+        high = λ low. omega (arith, x.number, count-le (is_first c) 0 x.member);
       }
 
   pub matching-led : (l w b : ℕ) → l < n
-      → filter (isCandidate (new l) w b) (joinedLabels i c).rows ≡ map (renumberedRow c) (filter (isCandidate (class_of c l) w b) i.rows)
-  unfolding joinedLabels
+      → filter (is_candidate (new l) w b) (joined_labels i c).rows
+      ≡ map (renumbered_row c) (filter (is_candidate (class_of c l) w b) i.rows)
+  unfolding joined_labels
   matching-led l w b h =
-      let e : new l ≡ new (class_of c l) = ap (λ (x : ℕ). count (isFirst c) 0 x) (sym (R.own l h)) in
-      ap (λ (x : ℕ). filter (isCandidate x w b) (map (renumberedRow c) (filter (λ r. isFirst c r.from) i.rows))) e
+      let e : new l ≡ new (class_of c l) = ap (λ (x : ℕ). count (is_first c) 0 x) (sym (R.own l h)) in
+      ap (λ (x : ℕ). filter (is_candidate x w b) (map (renumbered_row c) (filter (λ r. is_first c r.from) i.rows))) e
       ∙ rows-led c (class_of c l) w b (class-first i S c R l h) i.rows
 
   module _ (one : OneRow i) where
-    pub one-new : OneRow (joinedLabels i c)
+    pub one-new : OneRow (joined_labels i c)
     one-new k w b low high =
         let x : Member k = member k high in
         let l : ℕ = x.label in
         let e : class_of c l ≡ l = eqb-true (class_of c l) l x.first in
-        ap (λ (j : ℕ). hits (joinedLabels i c) j w (pick b 1 0)) (sym x.number)
+        ap (λ (j : ℕ). hits (joined_labels i c) j w (pick b 1 0)) (sym x.number)
         ∙ ap (λ (rs : List Row). length rs) (matching-led l w (pick b 1 0) x.inside)
-        ∙ length-map (filter (isCandidate (class_of c l) w (pick b 1 0)) i.rows) (renumberedRow c)
+        ∙ length-map (filter (is_candidate (class_of c l) w (pick b 1 0)) i.rows) (renumbered_row c)
         ∙ ap (λ (j : ℕ). hits i j w (pick b 1 0)) e
         ∙ one l w b (x.high low) x.inside
 
-    pub even-new : uneven (joinedLabels i c) ≡ false
-    even-new = even-of (joinedLabels i c) go
+    pub even-new : is_uneven (joined_labels i c) ≡ false
+    even-new = even-of (joined_labels i c) go
       where
-        go : (l w b : ℕ) → 2 ≤ l → l < length (joinedLabels i c).labels → w < 65536 → b < 2 → hits (joinedLabels i c) l w b ≡ 1
+        go : (l w b : ℕ) → 2 ≤ l → l < length (joined_labels i c).labels → w < 65536 → b < 2 → hits (joined_labels i c) l w b ≡ 1
         go l w zero low high hw hb = one-new l w false low high
         go l w (suc zero) low high hw hb = one-new l w true low high
         go l w (suc (suc b)) low high hw hb = absurd (omega arith)
 
     -- a label of the smaller image leads to the group where each member's own row leads
     pub onward-new : ((l m : ℕ) → l < n → m < n → class_of c l ≡ class_of c m → (w : ℕ) (b : Bool)
-        → class_of c (onwardLabel i l w b) ≡ class_of c (onwardLabel i m w b))
-        → (l w : ℕ) (b : Bool) → 2 ≤ l → l < n → onwardLabel (joinedLabels i c) (new l) w b ≡ new (onwardLabel i l w b)
+        → class_of c (onward_label i l w b) ≡ class_of c (onward_label i m w b))
+        → (l w : ℕ) (b : Bool) → 2 ≤ l → l < n → onward_label (joined_labels i c) (new l) w b ≡ new (onward_label i l w b)
     onward-new leads l w b low h =
         let m : ℕ = class_of c l in
         let hm : m < n = omega (arith, R.below l h) in
         let x = the_row i one m w b (class-high i S c R l h low) hm in
-        ap (leadsTo (new l)) (matching-led l w (pick b 1 0) h ∙ ap (map (renumberedRow c)) x.1)
-        ∙ ap new (sym (ap (leadsTo m) x.1))
-        ∙ ap (λ (y : ℕ). count (isFirst c) 0 y) (leads m l hm h (R.own l h) w b)
+        ap (label_led_to (new l)) (matching-led l w (pick b 1 0) h ∙ ap (map (renumbered_row c)) x.1)
+        ∙ ap new (sym (ap (label_led_to m) x.1))
+        ∙ ap (λ (y : ℕ). count (is_first c) 0 y) (leads m l hm h (R.own l h) w b)

@@ -15,23 +15,23 @@ use Rattle.words.specs.lists.Pick.{pick}
 use Rattle.words.specs.lists.Numbers.{count}
 use Rattle.words.proofs.lists.Tests.{yes-pick, no-pick, split}
 use Rattle.words.proofs.lists.Counts.{count-snoc, count-le}
-use Rattle.grouping.specs.Classes.{class_of, isFirst}
-use Rattle.minimising.specs.group_numbers.Smaller.{renumbered}
+use Rattle.grouping.specs.Classes.{class_of, is_first}
+use Rattle.minimising.specs.group_numbers.Smaller.{renumbered_label}
 use Rattle.minimising.specs.group_numbers.inner.NumberContracts.{LowestOfClass, GroupNumbers}
 
 -- ---- first_at, number_at
 module _ (c : List ℕ) (l : ℕ) where
-  pub first_one : get_or c l 0 ≡ l → (◌≡◌ {A = ℕ} 1 (pick (isFirst c l) 1 0)) × (1 ≤ 1)
-  first_one e = (sym (yes-pick (isFirst c l) 1 0 (eq-eqb (get_or c l 0) l e)), omega arith)
+  pub first_one : get_or c l 0 ≡ l → (◌≡◌ {A = ℕ} 1 (pick (is_first c l) 1 0)) × (1 ≤ 1)
+  first_one e = (sym (yes-pick (is_first c l) 1 0 (eq-eqb (get_or c l 0) l e)), omega arith)
 
-  pub first-none : (get_or c l 0 ≡ l → ⊥) → (◌≡◌ {A = ℕ} 0 (pick (isFirst c l) 1 0)) × (0 ≤ 1)
-  first-none e = (sym (no-pick (isFirst c l) 1 0 (ne_eqb (get_or c l 0) l e)), omega arith)
+  pub first-none : (get_or c l 0 ≡ l → ⊥) → (◌≡◌ {A = ℕ} 0 (pick (is_first c l) 1 0)) × (0 ≤ 1)
+  first-none e = (sym (no-pick (is_first c l) 1 0 (ne_eqb (get_or c l 0) l e)), omega arith)
 
-  pub number-new : (x y : ℕ) → get_or c l 0 ≡ l → x ≡ pick (isFirst c l) x y
-  number-new x y e = sym (yes-pick (isFirst c l) x y (eq-eqb (get_or c l 0) l e))
+  pub number-new : (x y : ℕ) → get_or c l 0 ≡ l → x ≡ pick (is_first c l) x y
+  number-new x y e = sym (yes-pick (is_first c l) x y (eq-eqb (get_or c l 0) l e))
 
-  pub number-old : (x y : ℕ) → (get_or c l 0 ≡ l → ⊥) → y ≡ pick (isFirst c l) x y
-  number-old x y e = sym (no-pick (isFirst c l) x y (ne_eqb (get_or c l 0) l e))
+  pub number-old : (x y : ℕ) → (get_or c l 0 ≡ l → ⊥) → y ≡ pick (is_first c l) x y
+  number-old x y e = sym (no-pick (is_first c l) x y (ne_eqb (get_or c l 0) l e))
 
 less-of : (a b : ℕ) → a ≤ b → (a ≡ b → ⊥) → a < b
 less-of a b k ne = go (split a b)
@@ -44,15 +44,15 @@ less-of a b k ne = go (split a b)
 pub record NumberTurn (c numbers : List ℕ) (n groups l : ℕ) : Type 0 where
   pub high : l ≤ n
   pub room : length numbers ≡ 256
-  pub is : groups ≡ count (isFirst c) 0 l
+  pub is : groups ≡ count (is_first c) 0 l
   pub few : groups ≤ l
-  pub at : (k : ℕ) → k < l → get_or numbers k 0 ≡ renumbered c k
+  pub at : (k : ℕ) → k < l → get_or numbers k 0 ≡ renumbered_label c k
 
 pub turn-start : (c numbers : List ℕ) (n : ℕ) → length numbers ≡ 256 → NumberTurn c numbers n 0 0
 turn-start c numbers n e = record {
   high = omega arith;
   room = e;
-  is = sym (let z : count (isFirst c) 0 0 ≡ 0 = omega (arith, count-le (isFirst c) 0 0) in z);
+  is = sym (let z : count (is_first c) 0 0 ≡ 0 = omega (arith, count-le (is_first c) 0 0) in z);
   few = omega arith;
   at = λ k h. absurd (omega arith);
 }
@@ -60,38 +60,38 @@ turn-start c numbers n e = record {
 module _ (c numbers : List ℕ) (n groups l : ℕ) (low : LowestOfClass c n)
     (t : NumberTurn c numbers n groups l) (h : l < n) (small : n ≤ 256) where
   abbrev number : ℕ
-  number = pick (isFirst c l) groups (get_or numbers (get_or c l 0) 0)
+  number = pick (is_first c l) groups (get_or numbers (get_or c l 0) 0)
 
-  number_is : (b : Bool) → isFirst c l ≡ b → number ≡ renumbered c l
+  number_is : (b : Bool) → is_first c l ≡ b → number ≡ renumbered_label c l
   number_is true e =
-      yes-pick (isFirst c l) groups (get_or numbers (get_or c l 0) 0) e ∙ t.is
-      ∙ ap (λ (x : ℕ). count (isFirst c) 0 x) (sym (eqb-true (class_of c l) l e))
+      yes-pick (is_first c l) groups (get_or numbers (get_or c l 0) 0) e ∙ t.is
+      ∙ ap (λ (x : ℕ). count (is_first c) 0 x) (sym (eqb-true (class_of c l) l e))
   number_is false e =
-      no-pick (isFirst c l) groups (get_or numbers (get_or c l 0) 0) e
+      no-pick (is_first c l) groups (get_or numbers (get_or c l 0) 0) e
       ∙ t.at (get_or c l 0) (less-of (get_or c l 0) l (low.below l h) (eqb-false (get_or c l 0) l e))
-      ∙ ap (λ (x : ℕ). count (isFirst c) 0 x) (low.own l h)
+      ∙ ap (λ (x : ℕ). count (is_first c) 0 x) (low.own l h)
 
-  pub turn_on : (v x : ℕ) → v ≡ number → (x ≡ pick (isFirst c l) 1 0) × (x ≤ 1) → NumberTurn c (set numbers l v) n (groups + x) (l + 1)
+  pub turn_on : (v x : ℕ) → v ≡ number → (x ≡ pick (is_first c l) 1 0) × (x ≤ 1) → NumberTurn c (set numbers l v) n (groups + x) (l + 1)
   turn_on v x e w = record {
     high = omega arith;
     room = length-set numbers l v ∙ t.room;
     is = ap₂ ◌+◌ t.is w.0
-        ∙ sym (ap (count (isFirst c) 0) (add-one l) ∙ count-snoc (isFirst c) 0 l
-        ∙ ap (λ (k : ℕ). count (isFirst c) 0 l + pick (isFirst c k) 1 0) (zero-add l));
+        ∙ sym (ap (count (is_first c) 0) (add-one l) ∙ count-snoc (is_first c) 0 l
+        ∙ ap (λ (k : ℕ). count (is_first c) 0 l + pick (is_first c k) 1 0) (zero-add l));
     few = omega (arith, t.few, w.1);
     at = λ k j. go k j (ℕ_discrete k l);
   }
     where
-      go : (k : ℕ) → k < l + 1 → Dec (k ≡ l) → get_or (set numbers l v) k 0 ≡ renumbered c k
+      go : (k : ℕ) → k < l + 1 → Dec (k ≡ l) → get_or (set numbers l v) k 0 ≡ renumbered_label c k
       go k j (yes q) = ap (λ (m : ℕ). get_or (set numbers l v) m 0) q ∙ get_or-set_same numbers l v 0 (omega (arith, t.room)) ∙ e
-          ∙ number_is (isFirst c l) refl ∙ ap (renumbered c) (sym q)
+          ∙ number_is (is_first c l) refl ∙ ap (renumbered_label c) (sym q)
       go k j (no q) = get_or-set_other numbers l k v 0 q ∙ t.at k (less-of k l (omega arith) q)
 
 pub turn-all : (c numbers : List ℕ) (n groups l : ℕ) → NumberTurn c numbers n groups l → n ≤ l → GroupNumbers c numbers n groups
 turn-all c numbers n groups l t h =
     let e : l ≡ n = omega (arith, t.high) in
     record {
-      is = t.is ∙ ap (count (isFirst c) 0) e;
+      is = t.is ∙ ap (count (is_first c) 0) e;
       few = omega (arith, t.few);
       at = λ k j. t.at k (omega arith);
     }

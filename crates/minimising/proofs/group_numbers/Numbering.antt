@@ -14,15 +14,15 @@ use Rattle.words.specs.lists.Numbers.{range, count}
 use Rattle.words.specs.lists.Sequences.{filter, All}
 use Rattle.words.proofs.lists.Tests.{split, yes-pick}
 use Rattle.words.proofs.lists.Counts.{count-snoc, count-le, count-mono, count-below}
-use Rattle.words.proofs.lists.Ranges.{length-filter, getD-filter, get_d_map, filter-yes, filter-no}
+use Rattle.words.proofs.lists.Ranges.{length-filter, get_or-filter, get_d_map, filter-yes, filter-no}
 use Rattle.words.proofs.lists.Filters.{filter_none}
 use Rattle.words.proofs.lists.Joins.{all-at, all-places, all_map, all_of, all_filter}
-use Rattle.image.specs.Image.{Image, Label, Row, no_row, nthRow}
-use Rattle.image.specs.inner.Sound.{no_label, nthLabel, end_of, Reaches, SoundLabel, SoundRow, SoundImage}
+use Rattle.image.specs.Image.{Image, Label, Row, no_row, nth_row}
+use Rattle.image.specs.inner.Sound.{no_label, nth_label, end_of, Reaches, SoundLabel, SoundRow, SoundImage}
 use Rattle.image.proofs.Rising.{Rising, rising-at}
 use Rattle.state.specs.State.{label_at}
-use Rattle.grouping.specs.Classes.{class_of, isFirst}
-use Rattle.minimising.specs.group_numbers.Smaller.{renumbered, renumberedRow, joinedLabels}
+use Rattle.grouping.specs.Classes.{class_of, is_first}
+use Rattle.minimising.specs.group_numbers.Smaller.{renumbered_label, renumbered_row, joined_labels}
 use Rattle.grouping.proofs.Onward.{low_same}
 use Rattle.grouping.proofs.Rounds.{ClassRound}
 
@@ -67,12 +67,12 @@ module _ (i : Image) (S : SoundImage i) (c : List ℕ) (R : ClassRound i c) wher
   n = length i.labels
 
   abbrev new : ℕ → ℕ
-  new = renumbered c
+  new = renumbered_label c
 
   class-inside : (l : ℕ) → l < n → class_of c l < n
   class-inside l h = omega (arith, R.below l h)
 
-  pub class-first : (l : ℕ) → l < n → isFirst c (class_of c l) ≡ true
+  pub class-first : (l : ℕ) → l < n → is_first c (class_of c l) ≡ true
   class-first l h = eq-eqb (class_of c (class_of c l)) (class_of c l) (R.own l h)
 
   pub class-label : (l : ℕ) → l < n → label_at i (class_of c l) ≡ label_at i l
@@ -95,56 +95,56 @@ module _ (i : Image) (S : SoundImage i) (c : List ℕ) (R : ClassRound i c) wher
   class-one : class_of c 1 ≡ 1
   class-one = class_low 1 (omega (arith, S.two)) (omega (arith, R.below 1 (omega (arith, S.two))))
 
-  count-zero : count (isFirst c) 0 0 ≡ 0
-  count-zero = omega (arith, count-le (isFirst c) 0 0)
+  count-zero : count (is_first c) 0 0 ≡ 0
+  count-zero = omega (arith, count-le (is_first c) 0 0)
 
-  next-first : (k : ℕ) → class_of c k ≡ k → count (isFirst c) 0 (suc k) ≡ suc (count (isFirst c) 0 k)
-  next-first k e = count-snoc (isFirst c) 0 k
-      ∙ ap (λ (x : ℕ). count (isFirst c) 0 k + x) (ap (λ (x : ℕ). pick (isFirst c x) 1 0) (zero-add k)
-      ∙ yes-pick (isFirst c k) 1 0 (eq-eqb (class_of c k) k e)) ∙ omega arith
+  next-first : (k : ℕ) → class_of c k ≡ k → count (is_first c) 0 (suc k) ≡ suc (count (is_first c) 0 k)
+  next-first k e = count-snoc (is_first c) 0 k
+      ∙ ap (λ (x : ℕ). count (is_first c) 0 k + x) (ap (λ (x : ℕ). pick (is_first c x) 1 0) (zero-add k)
+      ∙ yes-pick (is_first c k) 1 0 (eq-eqb (class_of c k) k e)) ∙ omega arith
 
   pub new-zero : new 0 ≡ 0
-  new-zero = ap (λ (x : ℕ). count (isFirst c) 0 x) class-zero ∙ count-zero
+  new-zero = ap (λ (x : ℕ). count (is_first c) 0 x) class-zero ∙ count-zero
 
   pub new-one : new 1 ≡ 1
-  new-one = ap (λ (x : ℕ). count (isFirst c) 0 x) class-one ∙ next-first 0 class-zero ∙ ap suc count-zero
+  new-one = ap (λ (x : ℕ). count (is_first c) 0 x) class-one ∙ next-first 0 class-zero ∙ ap suc count-zero
 
-  count-two : count (isFirst c) 0 2 ≡ 2
+  count-two : count (is_first c) 0 2 ≡ 2
   count-two = next-first 1 class-one ∙ ap suc (next-first 0 class-zero) ∙ ap (λ (x : ℕ). suc (suc x)) count-zero
 
-  count-rises : (k l : ℕ) → k ≤ l → count (isFirst c) 0 k ≤ count (isFirst c) 0 l
+  count-rises : (k l : ℕ) → k ≤ l → count (is_first c) 0 k ≤ count (is_first c) 0 l
   count-rises k l h =
-      let e : count (isFirst c) 0 (k + (l - k)) ≡ count (isFirst c) 0 l = ap (λ (x : ℕ). count (isFirst c) 0 x) (omega arith) in
-      omega (arith, count-mono (isFirst c) k (l - k))
+      let e : count (is_first c) 0 (k + (l - k)) ≡ count (is_first c) 0 l = ap (λ (x : ℕ). count (is_first c) 0 x) (omega arith) in
+      omega (arith, count-mono (is_first c) k (l - k))
 
   pub new-high : (l : ℕ) → l < n → 2 ≤ l → 2 ≤ new l
   new-high l h k = omega (arith, count-two, count-rises 2 (class_of c l) (class-high l h k))
 
   -- a label that is the lowest of its group
-  pub new-first : (l : ℕ) → isFirst c l ≡ true → new l ≡ count (isFirst c) 0 l
-  new-first l t = ap (λ (x : ℕ). count (isFirst c) 0 x) (eqb-true (class_of c l) l t)
+  pub new-first : (l : ℕ) → is_first c l ≡ true → new l ≡ count (is_first c) 0 l
+  new-first l t = ap (λ (x : ℕ). count (is_first c) 0 x) (eqb-true (class_of c l) l t)
 
   -- ---- the smaller image by number
-  pub labels-count : length (joinedLabels i c).labels ≡ count (isFirst c) 0 n
-  unfolding joinedLabels
-  labels-count = length-map (filter (isFirst c) (range 0 n)) (label_at i) ∙ length-filter (isFirst c) 0 n
+  pub labels-count : length (joined_labels i c).labels ≡ count (is_first c) 0 n
+  unfolding joined_labels
+  labels-count = length-map (filter (is_first c) (range 0 n)) (label_at i) ∙ length-filter (is_first c) 0 n
 
-  pub entries-count : length (joinedLabels i c).entries ≡ length i.entries
-  unfolding joinedLabels
+  pub entries-count : length (joined_labels i c).entries ≡ length i.entries
+  unfolding joined_labels
   entries-count = length-map i.entries new
 
-  pub new-inside : (l : ℕ) → l < n → new l < length (joinedLabels i c).labels
-  new-inside l h = omega (arith, labels-count, count-below (isFirst c) (class_of c l) n (class-inside l h) (class-first l h))
+  pub new-inside : (l : ℕ) → l < n → new l < length (joined_labels i c).labels
+  new-inside l h = omega (arith, labels-count, count-below (is_first c) (class_of c l) n (class-inside l h) (class-first l h))
 
-  pub label-new : (l : ℕ) → l < n → label_at (joinedLabels i c) (new l) ≡ label_at i l
-  unfolding joinedLabels
+  pub label-new : (l : ℕ) → l < n → label_at (joined_labels i c) (new l) ≡ label_at i l
+  unfolding joined_labels
   label-new l h =
-      getD-filter (label_at i) no_label (isFirst c) 0 n (class_of c l) (class-inside l h)
-      (ap (isFirst c) (zero-add (class_of c l)) ∙ class-first l h)
+      get_or-filter (label_at i) no_label (is_first c) 0 n (class_of c l) (class-inside l h)
+      (ap (is_first c) (zero-add (class_of c l)) ∙ class-first l h)
       ∙ ap (label_at i) (zero-add (class_of c l)) ∙ class-label l h
 
-  pub entry_new : (h : ℕ) → h < length i.entries → get_or (joinedLabels i c).entries h 0 ≡ new (get_or i.entries h 0)
-  unfolding joinedLabels
+  pub entry_new : (h : ℕ) → h < length i.entries → get_or (joined_labels i c).entries h 0 ≡ new (get_or i.entries h 0)
+  unfolding joined_labels
   entry_new h l = get_d_map new i.entries h 0 0 l
 
   -- ---- it is sound
@@ -155,17 +155,17 @@ module _ (i : Image) (S : SoundImage i) (c : List ℕ) (R : ClassRound i c) wher
       go true = new-zero
       go false = new-one
 
-  pub reaches-new : (h l : ℕ) → Reaches i h l → Reaches (joinedLabels i c) h (new l)
+  pub reaches-new : (h l : ℕ) → Reaches i h l → Reaches (joined_labels i c) h (new l)
   reaches-new h l r = record { inside = new-inside l r.inside; belongs = go r.belongs }
     where
-      go : ((nthLabel i l).owner ≡ h) ⊎ (l ≡ end_of h) → ((nthLabel (joinedLabels i c) (new l)).owner ≡ h) ⊎ (new l ≡ end_of h)
+      go : ((nth_label i l).owner ≡ h) ⊎ (l ≡ end_of h) → ((nth_label (joined_labels i c) (new l)).owner ≡ h) ⊎ (new l ≡ end_of h)
       go (inl e) = inl (ap (λ (x : Label). x.owner) (label-new l r.inside) ∙ e)
       go (inr e) = inr (ap new e ∙ end-new h)
 
-  row-sound : (r : Row) → SoundRow i r × (isFirst c r.from ≡ true) → SoundRow (joinedLabels i c) (renumberedRow c r)
+  row-sound : (r : Row) → SoundRow i r × (is_first c r.from ≡ true) → SoundRow (joined_labels i c) (renumbered_row c r)
   row-sound r x =
       let s : SoundRow i r = x.0 in
-      let e : label_at (joinedLabels i c) (new r.from) ≡ label_at i r.from = label-new r.from s.high in
+      let e : label_at (joined_labels i c) (new r.from) ≡ label_at i r.from = label-new r.from s.high in
       record {
         low = new-high r.from s.high s.low;
         high = new-inside r.from s.high;
@@ -174,88 +174,88 @@ module _ (i : Image) (S : SoundImage i) (c : List ℕ) (R : ClassRound i c) wher
         within = s.within;
         bits = s.bits;
         function = λ b. ap (λ (y : Label). y.kind) e ∙ s.function b;
-        leading = subst (λ (h : ℕ). Reaches (joinedLabels i c) h (new r.next)) (sym (ap (λ (y : Label). y.owner) e))
+        leading = subst (λ (h : ℕ). Reaches (joined_labels i c) h (new r.next)) (sym (ap (λ (y : Label). y.owner) e))
             (reaches-new (label_at i r.from).owner r.next s.leading);
       }
 
-  rows-sound : All (SoundRow (joinedLabels i c)) (map (renumberedRow c) (filter (λ r. isFirst c r.from) i.rows))
+  rows-sound : All (SoundRow (joined_labels i c)) (map (renumbered_row c) (filter (λ r. is_first c r.from) i.rows))
   rows-sound =
-      all_map (SoundRow (joinedLabels i c)) (renumberedRow c) (filter (λ r. isFirst c r.from) i.rows)
-      (all_of (λ r. SoundRow i r × (isFirst c r.from ≡ true)) (λ r. SoundRow (joinedLabels i c) (renumberedRow c r)) row-sound
-      (filter (λ r. isFirst c r.from) i.rows)
-      (all_filter (SoundRow i) (λ r. isFirst c r.from) i.rows (all-places (SoundRow i) no_row i.rows S.each)))
+      all_map (SoundRow (joined_labels i c)) (renumbered_row c) (filter (λ r. is_first c r.from) i.rows)
+      (all_of (λ r. SoundRow i r × (is_first c r.from ≡ true)) (λ r. SoundRow (joined_labels i c) (renumbered_row c r)) row-sound
+      (filter (λ r. is_first c r.from) i.rows)
+      (all_filter (SoundRow i) (λ r. is_first c r.from) i.rows (all-places (SoundRow i) no_row i.rows S.each)))
 
-  rising-led : (m k : ℕ) (rs : List Row) → Rising m rs → ((x : ℕ) → m ≤ x → isFirst c x ≡ true → k ≤ new x)
-      → Rising k (map (renumberedRow c) (filter (λ r. isFirst c r.from) rs))
-  rising-led m k [] a h = subst (λ (rs : List Row). Rising k (map (renumberedRow c) rs)) (sym (filter_none (λ r. isFirst c r.from))) tt
-  rising-led m k (r ∷ rs) a h = go (isFirst c r.from) refl (rising-led r.from (new r.from) rs a.1)
+  rising-led : (m k : ℕ) (rs : List Row) → Rising m rs → ((x : ℕ) → m ≤ x → is_first c x ≡ true → k ≤ new x)
+      → Rising k (map (renumbered_row c) (filter (λ r. is_first c r.from) rs))
+  rising-led m k [] a h = subst (λ (rs : List Row). Rising k (map (renumbered_row c) rs)) (sym (filter_none (λ r. is_first c r.from))) tt
+  rising-led m k (r ∷ rs) a h = go (is_first c r.from) refl (rising-led r.from (new r.from) rs a.1)
       (rising-led r.from k rs a.1)
     where
       test : Row → Bool
-      test = λ s. isFirst c s.from
+      test = λ s. is_first c s.from
 
-      go : (t : Bool) → isFirst c r.from ≡ t
-          → (((x : ℕ) → r.from ≤ x → isFirst c x ≡ true → new r.from ≤ new x)
-          → Rising (new r.from) (map (renumberedRow c) (filter (λ s. isFirst c s.from) rs)))
-          → (((x : ℕ) → r.from ≤ x → isFirst c x ≡ true → k ≤ new x)
-          → Rising k (map (renumberedRow c) (filter (λ s. isFirst c s.from) rs)))
-          → Rising k (map (renumberedRow c) (filter (λ s. isFirst c s.from) (r ∷ rs)))
-      go true e ih _ = subst (λ (ss : List Row). Rising k (map (renumberedRow c) ss)) (sym (filter-yes (λ s. isFirst c s.from) r rs e))
+      go : (t : Bool) → is_first c r.from ≡ t
+          → (((x : ℕ) → r.from ≤ x → is_first c x ≡ true → new r.from ≤ new x)
+          → Rising (new r.from) (map (renumbered_row c) (filter (λ s. is_first c s.from) rs)))
+          → (((x : ℕ) → r.from ≤ x → is_first c x ≡ true → k ≤ new x)
+          → Rising k (map (renumbered_row c) (filter (λ s. is_first c s.from) rs)))
+          → Rising k (map (renumbered_row c) (filter (λ s. is_first c s.from) (r ∷ rs)))
+      go true e ih _ = subst (λ (ss : List Row). Rising k (map (renumbered_row c) ss)) (sym (filter-yes (λ s. is_first c s.from) r rs e))
           (h r.from a.0 e, ih (λ x l t. omega (arith, new-first r.from e, new-first x t, count-rises r.from x l)))
-      go false e _ ih = subst (λ (ss : List Row). Rising k (map (renumberedRow c) ss)) (sym (filter-no (λ s. isFirst c s.from) r rs e))
+      go false e _ ih = subst (λ (ss : List Row). Rising k (map (renumbered_row c) ss)) (sym (filter-no (λ s. is_first c s.from) r rs e))
           (ih (λ x l t. h x (omega (arith, a.0)) t))
 
-  rows-rising : (k : ℕ) → suc k < length (joinedLabels i c).rows
-      → (nthRow (joinedLabels i c) k).from ≤ (nthRow (joinedLabels i c) (suc k)).from
-  unfolding joinedLabels
-  rows-rising = rising-at 0 (map (renumberedRow c) (filter (λ r. isFirst c r.from) i.rows))
+  rows-rising : (k : ℕ) → suc k < length (joined_labels i c).rows
+      → (nth_row (joined_labels i c) k).from ≤ (nth_row (joined_labels i c) (suc k)).from
+  unfolding joined_labels
+  rows-rising = rising-at 0 (map (renumbered_row c) (filter (λ r. is_first c r.from) i.rows))
       (rising-led 0 0 i.rows (rising-of 0 i.rows (λ l. omega arith) S.rising) (λ x l t. omega arith))
 
-  pub rows-fewer : length (joinedLabels i c).rows ≤ length i.rows
-  unfolding joinedLabels
+  pub rows-fewer : length (joined_labels i c).rows ≤ length i.rows
+  unfolding joined_labels
   rows-fewer = omega (
     arith,
-    length-map (filter (λ r. isFirst c r.from) i.rows) (renumberedRow c),
-    length-filtered (λ (r : Row). isFirst c r.from) i.rows,
+    length-map (filter (λ r. is_first c r.from) i.rows) (renumbered_row c),
+    length-filtered (λ (r : Row). is_first c r.from) i.rows,
   )
 
-  each-sound : (k : ℕ) → k < length (joinedLabels i c).rows → SoundRow (joinedLabels i c) (nthRow (joinedLabels i c) k)
-  unfolding joinedLabels
-  each-sound k h = all-at (SoundRow (joinedLabels i c)) no_row
-      (map (renumberedRow c) (filter (λ r. isFirst c r.from) i.rows)) rows-sound k h
+  each-sound : (k : ℕ) → k < length (joined_labels i c).rows → SoundRow (joined_labels i c) (nth_row (joined_labels i c) k)
+  unfolding joined_labels
+  each-sound k h = all-at (SoundRow (joined_labels i c)) no_row
+      (map (renumbered_row c) (filter (λ r. is_first c r.from) i.rows)) rows-sound k h
 
   -- a member with at least two groups below it is from 2 up
-  member-high : (m : ℕ) → 2 ≤ count (isFirst c) 0 m → 2 ≤ m
-  member-high m h = omega (arith, count-le (isFirst c) 0 m)
+  member-high : (m : ℕ) → 2 ≤ count (is_first c) 0 m → 2 ≤ m
+  member-high m h = omega (arith, count-le (is_first c) 0 m)
 
-  label-sound : (l : ℕ) → 2 ≤ l → l < length (joinedLabels i c).labels
-      → SoundLabel (length (joinedLabels i c).entries) (nthLabel (joinedLabels i c) l)
+  label-sound : (l : ℕ) → 2 ≤ l → l < length (joined_labels i c).labels
+      → SoundLabel (length (joined_labels i c).entries) (nth_label (joined_labels i c) l)
   label-sound l low high =
-      let x : Nth (isFirst c) n l = nth (isFirst c) n l (omega (arith, labels-count)) in
+      let x : Nth (is_first c) n l = nth (is_first c) n l (omega (arith, labels-count)) in
       let e : new x.member ≡ l = new-first x.member x.passes ∙ x.number in
       let big : 2 ≤ x.member = member-high x.member (omega (arith, x.number)) in
-      subst (λ (k : ℕ). SoundLabel (length (joinedLabels i c).entries) (nthLabel (joinedLabels i c) k)) e
-      (subst (λ (y : Label). SoundLabel (length (joinedLabels i c).entries) y) (sym (label-new x.member x.inside))
+      subst (λ (k : ℕ). SoundLabel (length (joined_labels i c).entries) (nth_label (joined_labels i c) k)) e
+      (subst (λ (y : Label). SoundLabel (length (joined_labels i c).entries) y) (sym (label-new x.member x.inside))
       (subst (λ (k : ℕ). SoundLabel k (label_at i x.member)) (sym entries-count) (S.others x.member big x.inside)))
 
-  handler-new : ((joinedLabels i c).handler ≡ 0 → ⊥) → (2 ≤ (joinedLabels i c).handler)
-      × ((joinedLabels i c).handler ≤ length (joinedLabels i c).entries)
-  unfolding joinedLabels
+  handler-new : ((joined_labels i c).handler ≡ 0 → ⊥) → (2 ≤ (joined_labels i c).handler)
+      × ((joined_labels i c).handler ≤ length (joined_labels i c).entries)
+  unfolding joined_labels
   handler-new z = ((S.handled z).0, omega (arith, (S.handled z).1, entries-count))
 
-  pub joined-sound : SoundImage (joinedLabels i c)
+  pub joined-sound : SoundImage (joined_labels i c)
   joined-sound = record {
     first = omega (arith, entries-count, S.first);
     most = omega (arith, entries-count, S.most);
     two = omega (arith, labels-count, count-two, count-rises 2 n S.two);
-    last = omega (arith, labels-count, count-le (isFirst c) 0 n, S.last);
+    last = omega (arith, labels-count, count-le (is_first c) 0 n, S.last);
     few = omega (arith, rows-fewer, S.few);
     handled = handler-new;
     starts = λ h l. let m : h < length i.entries = omega (arith, entries-count) in
-        subst (λ (x : ℕ). Reaches (joinedLabels i c) (suc h) x) (sym (entry_new h m))
+        subst (λ (x : ℕ). Reaches (joined_labels i c) (suc h) x) (sym (entry_new h m))
         (reaches-new (suc h) (get_or i.entries h 0) (S.starts h m));
-    home = ap (nthLabel (joinedLabels i c)) (sym new-zero) ∙ label-new 0 (omega (arith, S.two)) ∙ S.home;
-    back = ap (nthLabel (joinedLabels i c)) (sym new-one) ∙ label-new 1 (omega (arith, S.two)) ∙ S.back;
+    home = ap (nth_label (joined_labels i c)) (sym new-zero) ∙ label-new 0 (omega (arith, S.two)) ∙ S.home;
+    back = ap (nth_label (joined_labels i c)) (sym new-one) ∙ label-new 1 (omega (arith, S.two)) ∙ S.back;
     others = label-sound;
     each = each-sound;
     rising = rows-rising;

@@ -11,18 +11,18 @@ use lib.ListN.{length, take, length-take}
 use lib.Seq.{take_all}
 use borrow.Author.Tests.{lt-ltb}
 use Rattle.words.proofs.lists.Tests.{or_true_r, split}
-use Rattle.text.specs.frames.Frame.{frameCount}
-use Rattle.text.specs.frames.Verdict.{refused, next, when, atLowest}
-use Rattle.text.specs.frames.Check.{badLength, badForm, badSum, textVerdict}
+use Rattle.text.specs.frames.Frame.{frame_count}
+use Rattle.text.specs.frames.Verdict.{refused, next, when, at_lowest}
+use Rattle.text.specs.frames.Check.{is_bad_length, has_bad_form, has_bad_sum, text_verdict}
 use Rattle.text.proofs.frames.Chains.{when-holds, next-refused}
 
 -- 1 refuses every text that is longer than the most
-pub too_long : (most : ℕ) (t : List ℕ) → most < length t → textVerdict most t ≡ refused 1 0
-unfolding textVerdict
+pub too_long : (most : ℕ) (t : List ℕ) → most < length t → text_verdict most t ≡ refused 1 0
+unfolding text_verdict
 too_long most t h =
-    next-refused (when 1 (badLength 23 most (length t)))
-    (λ _. next (atLowest 2 (badForm t) (frameCount t)) λ _. atLowest 3 (badSum t) (frameCount t)) 1 0
-    (when-holds 1 (badLength 23 most (length t))
+    next-refused (when 1 (is_bad_length 23 most (length t)))
+    (λ _. next (at_lowest 2 (has_bad_form t) (frame_count t)) λ _. at_lowest 3 (has_bad_sum t) (frame_count t)) 1 0
+    (when-holds 1 (is_bad_length 23 most (length t))
     (or_true_r (eqb (length t) 0 || not (eqb (length t % 23) 0)) (ltb most (length t)) (lt-ltb most (length t) h)))
 
 -- a function of texts that is the same for all longer ones needs no more than one character past the most

@@ -2,27 +2,27 @@
 -- 32 places.
 use Rattle.std.specs.Prelude.{ℕ, List, [], ◌++◌, take, replicate}
 use Rattle.words.specs.lists.Numbers.{range}
-use Rattle.words.specs.lists.Sequences.{concatMap}
-use Rattle.text.specs.frames.Answer.{Reply, success, refusal, replyCount}
+use Rattle.words.specs.lists.Sequences.{concat_map}
+use Rattle.text.specs.frames.Answer.{Reply, success, refusal, reply_count}
 use Rattle.state.specs.declared.layout.TheConstants.{PLACES}
-use Rattle.state.specs.State.{freshState}
+use Rattle.state.specs.State.{fresh_state}
 use Rattle.runs.specs.Run.{RunOutcome, run}
-use Rattle.output.specs.printing.Lines.{refusalLine, codeLine}
+use Rattle.output.specs.printing.Lines.{refusal_line, code_line}
 
-abbrev pub programWords : List ℕ
-programWords = range 0 64
+abbrev pub program_words : List ℕ
+program_words = range 0 64
 
-abbrev pub programRun : List ℕ → RunOutcome
-programRun t = run t (freshState PLACES).state programWords (replicate 64 0) (replicate 64 0)
+abbrev pub program_run : List ℕ → RunOutcome
+program_run t = run t (fresh_state PLACES).state program_words (replicate 64 0) (replicate 64 0)
 
 -- the frame FF of a refusal, and nothing after success
-abbrev pub refusalLines : Reply → List ℕ
-refusalLines (success n) = []
-refusalLines (refusal k i n) = refusalLine k i
+abbrev pub refusal_lines : Reply → List ℕ
+refusal_lines (success n) = []
+refusal_lines (refusal k i n) = refusal_line k i
 
 -- a line for each finished tick, its code, and then the refusal
-abbrev pub runLines : Reply → List ℕ → List ℕ
-runLines r codes = concatMap codeLine (take (replyCount r) codes) ++ refusalLines r
+abbrev pub run_lines : Reply → List ℕ → List ℕ
+run_lines r codes = concat_map code_line (take (reply_count r) codes) ++ refusal_lines r
 
-unfoldable pub runOutput : List ℕ → List ℕ
-runOutput t = runLines (programRun t).reply (programRun t).codes
+unfoldable pub run_output : List ℕ → List ℕ
+run_output t = run_lines (program_run t).reply (program_run t).codes

@@ -2,14 +2,14 @@
 use Rattle.std.specs.Prelude.{ℕ, List}
 use Rattle.text.specs.frames.Frame.{contents}
 use Rattle.text.specs.frames.Verdict.{Verdict, fine, refused}
-use Rattle.image.specs.Image.{imageText}
+use Rattle.image.specs.Image.{image_text}
 use Rattle.translator.specs.Table.{table}
-use Rattle.translator.specs.Entry.{translateVerdict}
-use Rattle.output.specs.printing.Lines.{refusalLine}
+use Rattle.translator.specs.Entry.{translate_verdict}
+use Rattle.output.specs.printing.Lines.{refusal_line}
 
-abbrev pub imageOr : Verdict → (Unit {0} → List ℕ) → List ℕ
-imageOr fine image = image tt
-imageOr (refused k i) image = refusalLine k i
+abbrev pub image_or : Verdict → (Unit {0} → List ℕ) → List ℕ
+image_or fine image = image tt
+image_or (refused k i) image = refusal_line k i
 
-unfoldable pub translateOutput : List ℕ → List ℕ
-translateOutput t = imageOr (translateVerdict t) λ _. imageText (table (contents t))
+unfoldable pub translate_output : List ℕ → List ℕ
+translate_output t = image_or (translate_verdict t) λ _. image_text (table (contents t))

@@ -19,13 +19,13 @@ use Rattle.words.proofs.lists.Searches.{any_snoc, lowest-alike, lowest-none, low
 use Rattle.words.proofs.lists.Searches.{searching-first, searching-found, searching-next, searching-over}
 use Rattle.words.proofs.lists.Tabulated.{length-tabulate, get_d_tabulate, tabulate-alike, tabulate-set, tabulate-none}
 use Rattle.words.specs.bits.Word.{bit}
-use Rattle.words.specs.graph.Reach.{marked}
+use Rattle.words.specs.graph.Reach.{is_marked}
 use Rattle.text.specs.frames.Frame.{size}
 use Rattle.charts.specs.Chart.{Chart, kind, scheme, argument}
 use Rattle.walk.proofs.Facts.{Facts}
-use Rattle.places.specs.chains.Calls.{holdsCall, isCallOf, calls, circular, endsOf, noEnd, places}
+use Rattle.places.specs.chains.Calls.{has_call, is_call_of, is_caller, is_circular, ends_of, has_no_end, places}
 use Rattle.places.specs.chains.Chains.{Calls}
-use Rattle.places.specs.chains.inner.Masks.{calledAt, mask_of, callMasks, calledBy, endsBy, longestBy, longestChain}
+use Rattle.places.specs.chains.inner.Masks.{called_at, mask_of, call_masks, called_by, ends_by, longest_by, longest_chain}
 use Rattle.places.proofs.chains.CallLaws.{holds-function, holds-operation, called-range}
 use Rattle.places.proofs.chains.Longest.{ends-suc}
 use Rattle.places.proofs.chains.Circles.{circle-told, circle-long, no-circle-short}
@@ -50,37 +50,37 @@ pick-zero false x e = e
 
 -- ---- the call of a node, by its kind
 module _ (c : Chart) (v k r : ℕ) (ek : k ≡ kind c v) where
-  pub at-operation : k ≡ 2 → r ≡ argument c v → r ≡ calledAt c v
+  pub at-operation : k ≡ 2 → r ≡ argument c v → r ≡ called_at c v
   at-operation e q = q ∙ go (ℕ_discrete (argument c v) 0)
     where
       two : kind c v ≡ 2
       two = sym ek ∙ e
 
-      go : Dec (argument c v ≡ 0) → argument c v ≡ calledAt c v
-      go (yes z) = pick-zero (holdsCall c v) (argument c v) z
+      go : Dec (argument c v ≡ 0) → argument c v ≡ called_at c v
+      go (yes z) = pick-zero (has_call c v) (argument c v) z
       go (no z) = sym (ap (λ (b : Bool). pick b (argument c v) 0) (holds-operation c v two z))
 
-  pub at-function : k ≡ 4 → r ≡ argument c v → r ≡ calledAt c v
+  pub at-function : k ≡ 4 → r ≡ argument c v → r ≡ called_at c v
   at-function e q = q ∙ sym (ap (λ (b : Bool). pick b (argument c v) 0) (holds-function c v (sym ek ∙ e)))
 
-  pub at_other : (k ≡ 2 → ⊥) → (k ≡ 4 → ⊥) → 0 ≡ calledAt c v
+  pub at_other : (k ≡ 2 → ⊥) → (k ≡ 4 → ⊥) → 0 ≡ called_at c v
   at_other n m = sym (ap₂ (λ (a b : Bool). pick (a || (b && not (eqb (argument c v) 0))) (argument c v) 0)
       (ne_eqb (kind c v) 4 (λ z. m (ek ∙ z))) (ne_eqb (kind c v) 2 (λ z. n (ek ∙ z))))
 
-module _ (c : Chart) (v r : ℕ) (e : r ≡ calledAt c v) where
-  pub call-some : (r ≡ 0 → ⊥) → (holdsCall c v ≡ true) × (r ≡ argument c v)
-  call-some n = go (holdsCall c v) refl
+module _ (c : Chart) (v r : ℕ) (e : r ≡ called_at c v) where
+  pub call-some : (r ≡ 0 → ⊥) → (has_call c v ≡ true) × (r ≡ argument c v)
+  call-some n = go (has_call c v) refl
     where
-      go : (b : Bool) → holdsCall c v ≡ b → (holdsCall c v ≡ true) × (r ≡ argument c v)
+      go : (b : Bool) → has_call c v ≡ b → (has_call c v ≡ true) × (r ≡ argument c v)
       go true q = (q, e ∙ ap (λ (b : Bool). pick b (argument c v) 0) q)
       go false q = absurd (n (e ∙ ap (λ (b : Bool). pick b (argument c v) 0) q))
 
-  pub call_none : Facts c → v < size c → r ≡ 0 → holdsCall c v ≡ false
+  pub call_none : Facts c → v < size c → r ≡ 0 → has_call c v ≡ false
   call_none f l z = ⊎_elim
-      (λ (q : holdsCall c v ≡ true).
+      (λ (q : has_call c v ≡ true).
       let k : Calls c (scheme c v) (argument c v) = record { node = v; inside = l; holds = q; owner = refl; called = refl } in
       absurd (omega (arith, called-range c f (scheme c v) (argument c v) k, sym z ∙ e ∙ ap (λ (b : Bool). pick b (argument c v) 0) q)))
-      (λ q. q) (cases (holdsCall c v))
+      (λ q. q) (cases (has_call c v))
 
   pub call-low : Facts c → v < size c → (r ≡ 0 → ⊥) → (scheme c v < 17) × (r < 17)
   call-low f l n =
@@ -91,43 +91,43 @@ module _ (c : Chart) (v r : ℕ) (e : r ≡ calledAt c v) where
 
 -- ---- one node more
 module _ (c : Chart) where
-  pub masks-start : (masks : List ℕ) → masks ≡ replicate 17 0 → masks ≡ callMasks c 0
+  pub masks-start : (masks : List ℕ) → masks ≡ replicate 17 0 → masks ≡ call_masks c 0
   unfolding any
-  masks-start masks e = e ∙ tabulate-none (λ g. mask_of (λ h. any (isCallOf c g h) 0 0) 17) 17 (λ g. unfold mask_of in refl)
+  masks-start masks e = e ∙ tabulate-none (λ g. mask_of (λ h. any (is_call_of c g h) 0 0) 17) 17 (λ g. unfold mask_of in refl)
 
-  module _ (v : ℕ) (masks : List ℕ) (e : masks ≡ callMasks c v) where
+  module _ (v : ℕ) (masks : List ℕ) (e : masks ≡ call_masks c v) where
     pub masks-long : length masks ≡ 17
-    masks-long = ap (λ (xs : List ℕ). length xs) e ∙ length-tabulate (λ g. mask_of (λ h. any (isCallOf c g h) 0 v) 17) 17
+    masks-long = ap (λ (xs : List ℕ). length xs) e ∙ length-tabulate (λ g. mask_of (λ h. any (is_call_of c g h) 0 v) 17) 17
 
-    masks-at : (g : ℕ) → g < 17 → get_or masks g 0 ≡ mask_of (λ h. any (isCallOf c g h) 0 v) 17
-    masks-at g l = ap (λ (xs : List ℕ). get_or xs g 0) e ∙ get_d_tabulate (λ g. mask_of (λ h. any (isCallOf c g h) 0 v) 17) 17 g l
+    masks-at : (g : ℕ) → g < 17 → get_or masks g 0 ≡ mask_of (λ h. any (is_call_of c g h) 0 v) 17
+    masks-at g l = ap (λ (xs : List ℕ). get_or xs g 0) e ∙ get_d_tabulate (λ g. mask_of (λ h. any (is_call_of c g h) 0 v) 17) 17 g l
 
-    no_more : (g h : ℕ) → isCallOf c g h v ≡ false → any (isCallOf c g h) 0 v ≡ any (isCallOf c g h) 0 (v + 1)
-    no_more g h n = or_right (any (isCallOf c g h) 0 v) (isCallOf c g h v) n ∙ sym (any_next (isCallOf c g h) v)
+    no_more : (g h : ℕ) → is_call_of c g h v ≡ false → any (is_call_of c g h) 0 v ≡ any (is_call_of c g h) 0 (v + 1)
+    no_more g h n = or_right (any (is_call_of c g h) 0 v) (is_call_of c g h v) n ∙ sym (any_next (is_call_of c g h) v)
 
     -- a node with no call
-    pub masks-same : holdsCall c v ≡ false → masks ≡ callMasks c (v + 1)
-    masks-same n = e ∙ tabulate-alike (λ g. mask_of (λ h. any (isCallOf c g h) 0 v) 17)
-        (λ g. mask_of (λ h. any (isCallOf c g h) 0 (v + 1)) 17) 17
+    pub masks-same : has_call c v ≡ false → masks ≡ call_masks c (v + 1)
+    masks-same n = e ∙ tabulate-alike (λ g. mask_of (λ h. any (is_call_of c g h) 0 v) 17)
+        (λ g. mask_of (λ h. any (is_call_of c g h) 0 (v + 1)) 17) 17
         (λ g l. mask-alike _ _ 17 (λ h m. no_more g h (ap (λ (b : Bool). b && (eqb (scheme c v) g && eqb (argument c v) h)) n)))
 
     -- a node of scheme g that calls scheme k
-    pub masks-more : (g k : ℕ) → holdsCall c v ≡ true → g ≡ scheme c v → k ≡ argument c v → g < 17 → k < 17
-        → set masks g (bit_or (get_or masks g 0) (2 ^ k)) ≡ callMasks c (v + 1)
+    pub masks-more : (g k : ℕ) → has_call c v ≡ true → g ≡ scheme c v → k ≡ argument c v → g < 17 → k < 17
+        → set masks g (bit_or (get_or masks g 0) (2 ^ k)) ≡ call_masks c (v + 1)
     masks-more g k holds eg ek lg lk =
         ap (λ (xs : List ℕ). set xs g (bit_or (get_or masks g 0) (2 ^ k))) e
-        ∙ tabulate-set (λ g. mask_of (λ h. any (isCallOf c g h) 0 v) 17) (λ g. mask_of (λ h. any (isCallOf c g h) 0 (v + 1)) 17) 17 g
+        ∙ tabulate-set (λ g. mask_of (λ h. any (is_call_of c g h) 0 v) 17) (λ g. mask_of (λ h. any (is_call_of c g h) 0 (v + 1)) 17) 17 g
         (bit_or (get_or masks g 0) (2 ^ k)) lg
         (ap (λ (x : ℕ). bit_or x (2 ^ k)) (masks-at g lg)
-        ∙ mask-more (λ h. any (isCallOf c g h) 0 v) (λ h. any (isCallOf c g h) 0 (v + 1)) 17 k lk
-        (any_next (isCallOf c g k) v ∙ or_true_r (any (isCallOf c g k) 0 v) (isCallOf c g k v) here)
-        (λ h n. no_more g h (and_no (holdsCall c v) (eqb (scheme c v) g && eqb (argument c v) h)
+        ∙ mask-more (λ h. any (is_call_of c g h) 0 v) (λ h. any (is_call_of c g h) 0 (v + 1)) 17 k lk
+        (any_next (is_call_of c g k) v ∙ or_true_r (any (is_call_of c g k) 0 v) (is_call_of c g k v) here)
+        (λ h n. no_more g h (and_no (has_call c v) (eqb (scheme c v) g && eqb (argument c v) h)
         (and_no (eqb (scheme c v) g) (eqb (argument c v) h) (ne_eqb (argument c v) h (λ z. n (ek ∙ z)))))))
-        (λ u n. mask-alike _ _ 17 (λ h m. no_more u h (and_no (holdsCall c v) (eqb (scheme c v) u && eqb (argument c v) h)
+        (λ u n. mask-alike _ _ 17 (λ h m. no_more u h (and_no (has_call c v) (eqb (scheme c v) u && eqb (argument c v) h)
         (ap (λ (b : Bool). b && eqb (argument c v) h) (ne_eqb (scheme c v) u (λ z. n (sym z ∙ sym eg)))))))
       where
-        here : isCallOf c g k v ≡ true
-        here = and-true (holdsCall c v) (eqb (scheme c v) g && eqb (argument c v) k) holds
+        here : is_call_of c g k v ≡ true
+        here = and-true (has_call c v) (eqb (scheme c v) g && eqb (argument c v) k) holds
             (and-true (eqb (scheme c v) g) (eqb (argument c v) k) (eq-eqb (scheme c v) g (sym eg)) (eq-eqb (argument c v) k (sym ek)))
 
 -- ---- one call more
@@ -136,8 +136,8 @@ module _ (p : ℕ → ℕ → Bool) (s : ℕ → Bool) (masks : List ℕ) (are :
   abbrev by : ℕ → ℕ → Bool
   by n h = any (λ g. s g && p g h) 0 n
 
-  called-by : (n : ℕ) → n ≤ 17 → calledBy masks (mask_of s 17) n ≡ mask_of (by n) 17
-  unfolding calledBy
+  called-by : (n : ℕ) → n ≤ 17 → called_by masks (mask_of s 17) n ≡ mask_of (by n) 17
+  unfolding called_by
   called-by zero l = unfold mask_of any in refl
   called-by (suc n) l = go (s n) refl (called-by n (omega arith))
     where
@@ -150,8 +150,8 @@ module _ (p : ℕ → ℕ → Bool) (s : ℕ → Bool) (masks : List ℕ) (are :
       with-one b e h = any_snoc (λ g. s g && p g h) 0 n ∙ ap (λ (k : ℕ). by n h || (s k && p k h)) (omega arith)
           ∙ ap (λ (b : Bool). by n h || (b && p n h)) e
 
-      go : (b : Bool) → s n ≡ b → calledBy masks (mask_of s 17) n ≡ mask_of (by n) 17
-          → bit_or (calledBy masks (mask_of s 17) n) (pick (eqb (bit (mask_of s 17) n) 1) (get_or masks n 0) 0) ≡ mask_of (by (suc n)) 17
+      go : (b : Bool) → s n ≡ b → called_by masks (mask_of s 17) n ≡ mask_of (by n) 17
+          → bit_or (called_by masks (mask_of s 17) n) (pick (eqb (bit (mask_of s 17) n) 1) (get_or masks n 0) 0) ≡ mask_of (by (suc n)) 17
       go true e ih =
           ap₂ bit_or ih (ap (λ (b : Bool). pick b (get_or masks n 0) 0) (bit_is true e) ∙ are n (omega arith)) ∙ mask-or (by n) (p n) 17
           ∙ mask-alike (λ h. by n h || p n h) (by (suc n)) 17 (λ h m. sym (with-one true e h))
@@ -161,91 +161,94 @@ module _ (p : ℕ → ℕ → Bool) (s : ℕ → Bool) (masks : List ℕ) (are :
 
 -- ---- the loops over the masks
 module _ (masks : List ℕ) where
-  pub called-yes : (set g x : ℕ) → x ≡ calledBy masks set g → bit set g ≡ 1 → bit_or x (get_or masks g 0) ≡ calledBy masks set (g + 1)
-  unfolding calledBy
+  pub called-yes : (set g x : ℕ) → x ≡ called_by masks set g → bit set g ≡ 1 → bit_or x (get_or masks g 0) ≡ called_by masks set (g + 1)
+  unfolding called_by
   called-yes set g x e o =
-      ap₂ bit_or e (sym (ap (λ (b : Bool). pick b (get_or masks g 0) 0) (eq-eqb (bit set g) 1 o))) ∙ sym (ap (calledBy masks set) (add-one g))
+      ap₂ bit_or e (sym (ap (λ (b : Bool). pick b (get_or masks g 0) 0) (eq-eqb (bit set g) 1 o))) ∙ sym (ap (called_by masks set) (add-one g))
 
-  pub called-no : (set g x : ℕ) → x ≡ calledBy masks set g → (bit set g ≡ 1 → ⊥) → x ≡ calledBy masks set (g + 1)
-  unfolding calledBy
+  pub called-no : (set g x : ℕ) → x ≡ called_by masks set g → (bit set g ≡ 1 → ⊥) → x ≡ called_by masks set (g + 1)
+  unfolding called_by
   called-no set g x e n =
-      e ∙ sym (or_zero_r (calledBy masks set g))
-      ∙ ap (bit_or (calledBy masks set g)) (sym (ap (λ (b : Bool). pick b (get_or masks g 0) 0) (ne_eqb (bit set g) 1 n)))
-      ∙ sym (ap (calledBy masks set) (add-one g))
+      e ∙ sym (or_zero_r (called_by masks set g))
+      ∙ ap (bit_or (called_by masks set g)) (sym (ap (λ (b : Bool). pick b (get_or masks g 0) 0) (ne_eqb (bit set g) 1 n)))
+      ∙ sym (ap (called_by masks set) (add-one g))
 
   -- chains of k calls end nowhere
-  abbrev pub emptyBy : ℕ → Bool
-  emptyBy k = eqb (endsBy masks k) 0
+  abbrev pub is_empty_by : ℕ → Bool
+  is_empty_by k = eqb (ends_by masks k) 0
 
   -- the chains of fewer than s calls end somewhere, those of s - 1 in these schemes
   pub record MaskRound (ends s : ℕ) : Type 0 where
     pub some : 1 ≤ s
-    pub search : Searching emptyBy 17 s (lowest emptyBy 0 17)
-    pub held : ends ≡ endsBy masks (s - 1)
+    pub search : Searching is_empty_by 17 s (lowest is_empty_by 0 17)
+    pub held : ends ≡ ends_by masks (s - 1)
 
   pub round-first : MaskRound 2 1
-  unfolding endsBy
+  unfolding ends_by
   round-first = record {
     some = omega arith;
     search =
-        searching-next emptyBy 17 0 (lowest emptyBy 0 17) (searching-first emptyBy 17) (omega arith) refl;
+        searching-next is_empty_by 17 0 (lowest is_empty_by 0 17) (searching-first is_empty_by 17) (omega arith) refl;
     held = refl;
   }
 
-  module _ (ends s r : ℕ) (h : MaskRound ends s) (e : r ≡ calledBy masks ends 17) where
-    round-ends : r ≡ endsBy masks s
-    unfolding endsBy
+  module _ (ends s r : ℕ) (h : MaskRound ends s) (e : r ≡ called_by masks ends 17) where
+    round-ends : r ≡ ends_by masks s
+    unfolding ends_by
     round-ends =
-        e ∙ ap (λ (set : ℕ). calledBy masks set 17) h.held ∙ ap (endsBy masks) (let z : suc (s - 1) ≡ s = omega (arith, h.some) in z)
+        e ∙ ap (λ (set : ℕ). called_by masks set 17) h.held ∙ ap (ends_by masks) (let z : suc (s - 1) ≡ s = omega (arith, h.some) in z)
 
-    pub round-found : s < 17 → r ≡ 0 → s ≡ longestBy masks
-    unfolding longestBy
+    pub round-found : s < 17 → r ≡ 0 → s ≡ longest_by masks
+    unfolding longest_by
     round-found l z =
-        let q : s ≡ lowest emptyBy 0 17 = searching-found emptyBy 17 s _ h.search l (eq-eqb (endsBy masks s) 0 (sym round-ends ∙ z)) in
-        q ∙ sym (yes-pick (ltb (lowest emptyBy 0 17) 17) (lowest emptyBy 0 17) 0 (lt-ltb (lowest emptyBy 0 17) 17 (omega arith)))
+        let q : s ≡ lowest is_empty_by 0 17 =
+        searching-found is_empty_by 17 s _ h.search l (eq-eqb (ends_by masks s) 0 (sym round-ends ∙ z)) in
+        q ∙ sym (yes-pick (ltb (lowest is_empty_by 0 17) 17) (lowest is_empty_by 0 17) 0
+        (lt-ltb (lowest is_empty_by 0 17) 17 (omega arith)))
 
     pub round-next : s < 17 → (r ≡ 0 → ⊥) → MaskRound r (s + 1)
     round-next l n = record {
       some = omega arith;
-      search = searching-next emptyBy 17 s _ h.search l (ne_eqb (endsBy masks s) 0 (λ z. n (round-ends ∙ z)));
-      held = round-ends ∙ ap (endsBy masks) (omega arith);
+      search = searching-next is_empty_by 17 s _ h.search l (ne_eqb (ends_by masks s) 0 (λ z. n (round-ends ∙ z)));
+      held = round-ends ∙ ap (ends_by masks) (omega arith);
     }
 
-  pub round-over : (ends s : ℕ) → MaskRound ends s → 17 ≤ s → 0 ≡ longestBy masks
-  unfolding longestBy
+  pub round-over : (ends s : ℕ) → MaskRound ends s → 17 ≤ s → 0 ≡ longest_by masks
+  unfolding longest_by
   round-over ends s h l =
-      let q : s ≡ lowest emptyBy 0 17 = searching-over emptyBy 17 s _ h.search l in
-      sym (no-pick (ltb (lowest emptyBy 0 17) 17) (lowest emptyBy 0 17) 0 (le-ltb (lowest emptyBy 0 17) 17 (omega arith)))
+      let q : s ≡ lowest is_empty_by 0 17 = searching-over is_empty_by 17 s _ h.search l in
+      sym (no-pick (ltb (lowest is_empty_by 0 17) 17) (lowest is_empty_by 0 17) 0 (le-ltb (lowest is_empty_by 0 17) 17 (omega arith)))
 
 -- ---- the rounds
-places-lowest : (c : Chart) → lowest (noEnd c) 0 16 ≡ places c
+places-lowest : (c : Chart) → lowest (has_no_end c) 0 16 ≡ places c
 unfolding places
 places-lowest c = refl
 
-module _ (c : Chart) (masks : List ℕ) (e : masks ≡ callMasks c (size c)) where
-  pub ends_by : (k : ℕ) → endsBy masks k ≡ mask_of (marked (endsOf c k)) 17
-  unfolding endsBy
-  ends_by zero = unfold mask_of endsOf some in refl
-  ends_by (suc k) =
-      ap (λ (set : ℕ). calledBy masks set 17) (ends_by k)
-      ∙ called-by (calls c) (marked (endsOf c k)) masks (λ g l. masks-at c (size c) masks e g l ∙ (unfold calls in refl)) 17 (omega arith)
-      ∙ mask-alike (λ h. any (λ g. marked (endsOf c k) g && calls c g h) 0 17)
-      (marked (endsOf c (suc k))) 17 (λ h l. sym (ends-suc c k h l))
+module _ (c : Chart) (masks : List ℕ) (e : masks ≡ call_masks c (size c)) where
+  pub ends-by : (k : ℕ) → ends_by masks k ≡ mask_of (is_marked (ends_of c k)) 17
+  unfolding ends_by
+  ends-by zero = unfold mask_of ends_of some in refl
+  ends-by (suc k) =
+      ap (λ (set : ℕ). called_by masks set 17) (ends-by k)
+      ∙ called-by (is_caller c) (is_marked (ends_of c k)) masks (λ g l. masks-at c (size c) masks e g l ∙ (unfold is_caller in refl)) 17
+      (omega arith)
+      ∙ mask-alike (λ h. any (λ g. is_marked (ends_of c k) g && is_caller c g h) 0 17)
+      (is_marked (ends_of c (suc k))) 17 (λ h l. sym (ends-suc c k h l))
 
-  none-by : (k : ℕ) → eqb (endsBy masks k) 0 ≡ noEnd c k
-  none-by k = ap (λ (x : ℕ). eqb x 0) (ends_by k) ∙ mask-empty (marked (endsOf c k)) 17
+  none-by : (k : ℕ) → eqb (ends_by masks k) 0 ≡ has_no_end c k
+  none-by k = ap (λ (x : ℕ). eqb x 0) (ends-by k) ∙ mask-empty (is_marked (ends_of c k)) 17
 
-  pub longest-by : Facts c → longestBy masks ≡ longestChain c
-  unfolding longestBy
-  longest-by f = ap (λ (k : ℕ). pick (ltb k 17) k 0) (lowest-alike (λ k. eqb (endsBy masks k) 0) (noEnd c) 0 17 (λ k a b. none-by k))
-      ∙ go (circular c) refl
+  pub longest-by : Facts c → longest_by masks ≡ longest_chain c
+  unfolding longest_by
+  longest-by f = ap (λ (k : ℕ). pick (ltb k 17) k 0) (lowest-alike (λ k. eqb (ends_by masks k) 0) (has_no_end c) 0 17 (λ k a b. none-by k))
+      ∙ go (is_circular c) refl
     where
-      go : (b : Bool) → circular c ≡ b → pick (ltb (lowest (noEnd c) 0 17) 17) (lowest (noEnd c) 0 17) 0 ≡ longestChain c
+      go : (b : Bool) → is_circular c ≡ b → pick (ltb (lowest (has_no_end c) 0 17) 17) (lowest (has_no_end c) 0 17) 0 ≡ longest_chain c
       go true q =
-          let k : lowest (noEnd c) 0 17 ≡ 17 = lowest-none (noEnd c) 0 17 (λ k l. circle-long c f (circle-told c q) (0 + k)) in
+          let k : lowest (has_no_end c) 0 17 ≡ 17 = lowest-none (has_no_end c) 0 17 (λ k l. circle-long c f (circle-told c q) (0 + k)) in
           ap (λ (k : ℕ). pick (ltb k 17) k 0) k ∙ sym (ap (λ (b : Bool). pick b 0 (places c)) q)
       go false q =
-          let k : lowest (noEnd c) 0 17 ≡ lowest (noEnd c) 0 16 = lowest-last (noEnd c) 0 16 (no-circle-short c f q) in
-          ap (λ (b : Bool). pick b (lowest (noEnd c) 0 17) 0)
-          (lt-ltb (lowest (noEnd c) 0 17) 17 (omega (arith, lowest-most (noEnd c) 0 16))) ∙ k
+          let k : lowest (has_no_end c) 0 17 ≡ lowest (has_no_end c) 0 16 = lowest-last (has_no_end c) 0 16 (no-circle-short c f q) in
+          ap (λ (b : Bool). pick b (lowest (has_no_end c) 0 17) 0)
+          (lt-ltb (lowest (has_no_end c) 0 17) 17 (omega (arith, lowest-most (has_no_end c) 0 16))) ∙ k
           ∙ places-lowest c ∙ sym (ap (λ (b : Bool). pick b 0 (places c)) q)

@@ -7,12 +7,12 @@ use mathlib.Core.List.{[], ◌∷◌}
 use native.Mathlib.Omega.{arith}
 use Rattle.words.proofs.lists.Tests.{and_l, and_r, and-true, cases}
 use Rattle.words.proofs.lists.Searches.{any-true, any_some, any_none}
-use Rattle.words.specs.graph.Reach.{marked, joinedFrom}
+use Rattle.words.specs.graph.Reach.{is_marked, nodes_joined_from}
 use Rattle.words.proofs.graph.Closure.{joined-first, joined-closed}
 use Rattle.words.proofs.graph.Paths.{Path, here, on as further, PathFrom, joined-path}
 use Rattle.charts.specs.Chart.{Chart}
 use Rattle.walk.proofs.Facts.{Facts}
-use Rattle.places.specs.chains.Calls.{calls_of, callsItself, circular, endsOf, noEnd}
+use Rattle.places.specs.chains.Calls.{calls_of, is_calling_itself, is_circular, ends_of, has_no_end}
 use Rattle.places.specs.chains.Chains.{Calls, Chain, first, on, Leads, one, more, Circle}
 use Rattle.places.proofs.chains.CallLaws.{calls-member, member-calls, called-range}
 use Rattle.places.proofs.chains.Longest.{one-member, chain-some, chain-reached, chain-few, end-chain, filled, Front, front}
@@ -32,13 +32,13 @@ module _ (c : Chart) where
   path-leads g h s here = one s
   path-leads g h s (further {v} {w} p a) = more (path-leads g h s p) (member-calls c v w a.leads)
 
-  pub circle-told : circular c ≡ true → Circle c
-  unfolding circular
+  pub circle-told : is_circular c ≡ true → Circle c
+  unfolding is_circular
   circle-told e =
-      let r = any_some (callsItself c) 1 16 e in
+      let r = any_some (is_calling_itself c) 1 16 e in
       let h : ℕ = r.0 in
-      let reached : Bool = marked (joinedFrom 17 (calls_of c) (1 ∷ [])) h in
-      let back : Bool = marked (joinedFrom 17 (calls_of c) (calls_of c h)) h in
+      let reached : Bool = is_marked (nodes_joined_from 17 (calls_of c) (1 ∷ [])) h in
+      let back : Bool = is_marked (nodes_joined_from 17 (calls_of c) (calls_of c h)) h in
       let p : PathFrom 17 (calls_of c) (1 ∷ []) h = joined-path 17 (calls_of c) (1 ∷ []) h (and_l reached back r.3) in
       let q : PathFrom 17 (calls_of c) (calls_of c h) h = joined-path 17 (calls_of c) (calls_of c h) h (and_r reached back r.3) in
       let s : ChainTo h = path-chain (subst (λ (g : ℕ). Path 17 (calls_of c) g h) (one-member p.first p.among) p.path) in
@@ -51,7 +51,7 @@ module _ (c : Chart) where
       }
 
   module _ (f : Facts c) where
-    leads-marked : (g h : ℕ) → Leads c g h → marked (joinedFrom 17 (calls_of c) (calls_of c g)) h ≡ true
+    leads-marked : (g h : ℕ) → Leads c g h → is_marked (nodes_joined_from 17 (calls_of c) (calls_of c g)) h ≡ true
     leads-marked g h (one s) = let r = called-range c f g h s in
         joined-first 17 (calls_of c) (calls_of c g) h (omega (arith, r)) (calls-member c g h (omega (arith, r)) s)
     leads-marked g k (more {h} l s) = let r = called-range c f h k s in
@@ -62,13 +62,14 @@ module _ (c : Chart) where
     leads-from g h (one s) = let r = called-range c f g h s in (r.0, r.1)
     leads-from g k (more {h} l s) = leads-from g h l
 
-    pub circle-refused : Circle c → circular c ≡ true
-    unfolding circular
+    pub circle-refused : Circle c → is_circular c ≡ true
+    unfolding is_circular
     circle-refused k =
         let h : ℕ = k.scheme in
         let r = leads-from h h k.back in
-        any-true (callsItself c) 1 16 h r.0 (omega (arith, r))
-        (and-true (marked (joinedFrom 17 (calls_of c) (1 ∷ [])) h) (marked (joinedFrom 17 (calls_of c) (calls_of c h)) h)
+        any-true (is_calling_itself c) 1 16 h r.0 (omega (arith, r))
+        (and-true (is_marked (nodes_joined_from 17 (calls_of c) (1 ∷ [])) h)
+        (is_marked (nodes_joined_from 17 (calls_of c) (calls_of c h)) h)
         (chain-reached c f k.schemes h k.chain) (leads-marked h h k.back))
 
 -- ---- how the code tells: there is a circle exactly where a chain has 17 schemes
@@ -94,14 +95,14 @@ module _ (c : Chart) (f : Facts c) where
       let q : Further r.schemes h = longer h h l r.schemes r.chain in
       record { schemes = q.schemes; beyond = omega (arith, r.beyond, q.beyond); chain = q.chain }
 
-  pub circle-long : Circle c → (k : ℕ) → noEnd c k ≡ false
+  pub circle-long : Circle c → (k : ℕ) → has_no_end c k ≡ false
   circle-long q k =
       let r : Further k q.scheme = rounds q.scheme q.back k q.schemes q.chain in
       let t : Front c f (suc k) = front c f (r.schemes - suc k) (suc k) q.scheme (omega arith)
       (subst (λ (n : ℕ). Chain c n q.scheme) (omega (arith, r.beyond)) r.chain) in
       filled c f k t.end t.chain
 
-  pub no-circle-short : circular c ≡ false → noEnd c 16 ≡ true
-  no-circle-short calm = ap not (any_none (marked (endsOf c 16)) 0 17 (λ h l. ⊎_elim
-      (λ (m : marked (endsOf c 16) (0 + h) ≡ true). absurd (omega (arith, chain-few c f calm 17 (0 + h) (end-chain c 16 (0 + h) m))))
-      (λ m. m) (cases (marked (endsOf c 16) (0 + h)))))
+  pub no-circle-short : is_circular c ≡ false → has_no_end c 16 ≡ true
+  no-circle-short calm = ap not (any_none (is_marked (ends_of c 16)) 0 17 (λ h l. ⊎_elim
+      (λ (m : is_marked (ends_of c 16) (0 + h) ≡ true). absurd (omega (arith, chain-few c f calm 17 (0 + h) (end-chain c 16 (0 + h) m))))
+      (λ m. m) (cases (is_marked (ends_of c 16) (0 + h)))))

@@ -13,22 +13,22 @@ use Rattle.words.specs.lists.Sequences.{some}
 use Rattle.words.proofs.lists.Tests.{no_both, or_cases, or-none, and_l, and_r, and-true, and-false, not-false, cases, split}
 use Rattle.words.proofs.lists.Searches.{any-true, any_some, any_false, lowest-hit, lowest-before}
 use Rattle.words.proofs.lists.Counts.{count-miss}
-use Rattle.words.proofs.lists.Ranges.{length-map-range, getD-map-range}
-use Rattle.words.specs.graph.Reach.{member, marked, joinedFrom}
+use Rattle.words.proofs.lists.Ranges.{length-map-range, get_or-map-range}
+use Rattle.words.specs.graph.Reach.{is_member, is_marked, nodes_joined_from}
 use Rattle.words.proofs.graph.Closure.{marked-below, only-long, only_at, joined-first, joined-closed, joined-least, Closed}
-use Rattle.words.proofs.graph.Rank.{rank, rank-some, rank_falls, afterArcs, with}
+use Rattle.words.proofs.graph.Rank.{rank, rank-some, rank_falls, marks_after_arcs, with}
 use Rattle.charts.specs.Chart.{Chart}
 use Rattle.walk.proofs.Facts.{Facts}
-use Rattle.places.specs.chains.Calls.{calls, calls_of, callsItself, circular, endsOf, noEnd, places}
+use Rattle.places.specs.chains.Calls.{is_caller, calls_of, is_calling_itself, is_circular, ends_of, has_no_end, places}
 use Rattle.places.specs.chains.Chains.{Chain, first, on}
 use Rattle.places.proofs.chains.CallLaws.{calls-true, true-calls, calls-member, member-calls, called-range}
 
-pub one-member : (h : ℕ) → member h (1 ∷ []) ≡ true → h ≡ 1
+pub one-member : (h : ℕ) → is_member h (1 ∷ []) ≡ true → h ≡ 1
 unfolding some
 one-member h m = ⊎_elim (λ (e : eqb h 1 ≡ true). eqb-true h 1 e) (λ (e : false ≡ true). no_both false e refl)
     (or_cases (eqb h 1) false m)
 
-one-is : member 1 (1 ∷ []) ≡ true
+one-is : is_member 1 (1 ∷ []) ≡ true
 unfolding some
 one-is = refl
 
@@ -38,49 +38,51 @@ chain-some c (on k s) = omega arith
 
 -- ---- the marks are the ends of chains
 module _ (c : Chart) where
-  abbrev leadsTo : ℕ → ℕ → ℕ → Bool
-  leadsTo k h g = marked (endsOf c k) g && calls c g h
+  abbrev is_end_calling : ℕ → ℕ → ℕ → Bool
+  is_end_calling k h g = is_marked (ends_of c k) g && is_caller c g h
 
-  pub ends-suc : (k h : ℕ) → h < 17 → marked (endsOf c (suc k)) h ≡ any (leadsTo k h) 0 17
-  unfolding endsOf
-  ends-suc k h l = getD-map-range (λ h. any (leadsTo k h) 0 17) false 0 17 h l ∙ ap (λ (j : ℕ). any (leadsTo k j) 0 17) (zero-add h)
+  pub ends-suc : (k h : ℕ) → h < 17 → is_marked (ends_of c (suc k)) h ≡ any (is_end_calling k h) 0 17
+  unfolding ends_of
+  ends-suc k h l =
+      get_or-map-range (λ h. any (is_end_calling k h) 0 17) false 0 17 h l ∙ ap (λ (j : ℕ). any (is_end_calling k j) 0 17) (zero-add h)
 
-  pub ends-below : (k h : ℕ) → marked (endsOf c k) h ≡ true → h < 17
-  unfolding endsOf
-  ends-below zero h m = marked-below 17 (endsOf c 0) h (only-long 17 (1 ∷ [])) m
-  ends-below (suc k) h m = marked-below 17 (endsOf c (suc k)) h (length-map-range (λ h. any (leadsTo k h) 0 17) 0 17) m
+  pub ends-below : (k h : ℕ) → is_marked (ends_of c k) h ≡ true → h < 17
+  unfolding ends_of
+  ends-below zero h m = marked-below 17 (ends_of c 0) h (only-long 17 (1 ∷ [])) m
+  ends-below (suc k) h m = marked-below 17 (ends_of c (suc k)) h (length-map-range (λ h. any (is_end_calling k h) 0 17) 0 17) m
 
   -- every end that is marked has a chain
-  pub end-chain : (k h : ℕ) → marked (endsOf c k) h ≡ true → Chain c (suc k) h
-  unfolding endsOf
+  pub end-chain : (k h : ℕ) → is_marked (ends_of c k) h ≡ true → Chain c (suc k) h
+  unfolding ends_of
   end-chain zero h m =
       let l : h < 17 = ends-below 0 h m in
       subst (Chain c 1) (sym (one-member h (sym (only_at 17 (1 ∷ []) h l) ∙ m))) first
   end-chain (suc k) h m =
       let l : h < 17 = ends-below (suc k) h m in
-      let r = any_some (leadsTo k h) 0 17 (sym (ends-suc k h l) ∙ m) in
+      let r = any_some (is_end_calling k h) 0 17 (sym (ends-suc k h l) ∙ m) in
       let g : ℕ = r.0 in
-      on (end-chain k g (and_l (marked (endsOf c k) g) (calls c g h) r.3))
-      (true-calls c g h (and_r (marked (endsOf c k) g) (calls c g h) r.3))
+      on (end-chain k g (and_l (is_marked (ends_of c k) g) (is_caller c g h) r.3))
+      (true-calls c g h (and_r (is_marked (ends_of c k) g) (is_caller c g h) r.3))
 
   module _ (f : Facts c) where
     -- and every chain has its end marked
-    pub chain-end : (k h : ℕ) → Chain c (suc k) h → marked (endsOf c k) h ≡ true
-    unfolding endsOf
+    pub chain-end : (k h : ℕ) → Chain c (suc k) h → is_marked (ends_of c k) h ≡ true
+    unfolding ends_of
     chain-end zero h first = only_at 17 (1 ∷ []) 1 (omega arith) ∙ one-is
     chain-end zero h (on s k) = absurd (omega (arith, chain-some c s))
     chain-end (suc k) h (on {m} {g} s call) =
         let r = called-range c f g h call in
         ends-suc k h (omega (arith, r))
-        ∙ any-true (leadsTo k h) 0 17 g (omega arith) (omega (arith, r))
-        (and-true (marked (endsOf c k) g) (calls c g h) (chain-end k g s) (calls-true c g h call))
+        ∙ any-true (is_end_calling k h) 0 17 g (omega arith) (omega (arith, r))
+        (and-true (is_marked (ends_of c k) g) (is_caller c g h) (chain-end k g s) (calls-true c g h call))
 
     chain-inside : (n h : ℕ) → Chain c n h → h < 17
     chain-inside n h first = omega arith
     chain-inside n h (on {m} {g} s call) = let r = called-range c f g h call in omega (arith, r)
 
-    pub filled : (k h : ℕ) → Chain c (suc k) h → noEnd c k ≡ false
-    filled k h s = ap not (any-true (marked (endsOf c k)) 0 17 h (omega arith) (omega (arith, chain-inside (suc k) h s)) (chain-end k h s))
+    pub filled : (k h : ℕ) → Chain c (suc k) h → has_no_end c k ≡ false
+    filled k h s =
+        ap not (any-true (is_marked (ends_of c k)) 0 17 h (omega arith) (omega (arith, chain-inside (suc k) h s)) (chain-end k h s))
 
     -- a chain has a shorter one in front
     pub record Front (n : ℕ) : Type 0 where
@@ -97,7 +99,7 @@ module _ (c : Chart) where
 
     -- ---- no circle: the rank of a scheme falls along a chain, so that no chain has more than 16 schemes
     abbrev reached : ℕ → Bool
-    reached h = marked (joinedFrom 17 (calls_of c) (1 ∷ [])) h
+    reached h = is_marked (nodes_joined_from 17 (calls_of c) (1 ∷ [])) h
 
     pub chain-reached : (n h : ℕ) → Chain c n h → reached h ≡ true
     chain-reached n h first = joined-first 17 (calls_of c) (1 ∷ []) 1 (omega arith) one-is
@@ -116,24 +118,24 @@ module _ (c : Chart) where
     }
 
     -- nobody calls scheme 0
-    unjoined : (h : ℕ) → marked (afterArcs 17 (calls_of c) h) 0 ≡ false
+    unjoined : (h : ℕ) → is_marked (marks_after_arcs 17 (calls_of c) h) 0 ≡ false
     unjoined h = ⊎_elim
-        (λ (e : marked (afterArcs 17 (calls_of c) h) 0 ≡ true). no_both false
+        (λ (e : is_marked (marks_after_arcs 17 (calls_of c) h) 0 ≡ true). no_both false
         (joined-least 17 (calls_of c) (calls_of c h) nonzero never-zero
         (λ g l s. let r = called-range c f h g (member-calls c h g s) in ap not (ne_eqb g 0 (λ q. omega (arith, r)))) 0 e) refl)
-        (λ e. e) (cases (marked (afterArcs 17 (calls_of c) h) 0))
+        (λ e. e) (cases (is_marked (marks_after_arcs 17 (calls_of c) h) 0))
 
     rank_most : rank 17 (calls_of c) 1 ≤ 16
     unfolding rank
     rank_most =
         let l : rank 17 (calls_of c) 1 < 17 = count-miss (with 17 (calls_of c) 1) 17 0 (omega arith)
-        (or-none (eqb 1 0) (marked (afterArcs 17 (calls_of c) 1) 0) refl (unjoined 1)) in omega arith
+        (or-none (eqb 1 0) (is_marked (marks_after_arcs 17 (calls_of c) 1) 0) refl (unjoined 1)) in omega arith
 
-    module _ (calm : circular c ≡ false) where
-      no_return : (h : ℕ) → 1 ≤ h → h ≤ 16 → reached h ≡ true → marked (afterArcs 17 (calls_of c) h) h ≡ false
-      unfolding circular
-      no_return h a b m = and-false (reached h) (marked (afterArcs 17 (calls_of c) h) h)
-          (any_false (callsItself c) 1 16 calm h a (omega arith)) m
+    module _ (calm : is_circular c ≡ false) where
+      no_return : (h : ℕ) → 1 ≤ h → h ≤ 16 → reached h ≡ true → is_marked (marks_after_arcs 17 (calls_of c) h) h ≡ false
+      unfolding is_circular
+      no_return h a b m = and-false (reached h) (is_marked (marks_after_arcs 17 (calls_of c) h) h)
+          (any_false (is_calling_itself c) 1 16 calm h a (omega arith)) m
 
       falls : (n h : ℕ) → Chain c n h → rank 17 (calls_of c) h + n ≤ rank 17 (calls_of c) 1 + 1
       falls n h first = omega arith
@@ -150,29 +152,30 @@ module _ (c : Chart) where
       -- ---- the longest chain
       pub places-some : 1 ≤ places c
       unfolding places
-      places-some = ⊎_elim (λ (l : 0 < lowest (noEnd c) 0 16). l)
-          (λ (l : lowest (noEnd c) 0 16 ≤ 0).
-          let z : lowest (noEnd c) 0 16 ≡ 0 = omega arith in
-          no_both (noEnd c (lowest (noEnd c) 0 16)) (lowest-hit (noEnd c) 0 16 (omega arith)) (ap (noEnd c) z ∙ filled 0 1 first))
-          (split 0 (lowest (noEnd c) 0 16))
+      places-some = ⊎_elim (λ (l : 0 < lowest (has_no_end c) 0 16). l)
+          (λ (l : lowest (has_no_end c) 0 16 ≤ 0).
+          let z : lowest (has_no_end c) 0 16 ≡ 0 = omega arith in
+          no_both (has_no_end c (lowest (has_no_end c) 0 16)) (lowest-hit (has_no_end c) 0 16 (omega arith))
+          (ap (has_no_end c) z ∙ filled 0 1 first))
+          (split 0 (lowest (has_no_end c) 0 16))
 
       pub no_longer : (n h : ℕ) → Chain c n h → n ≤ places c
       unfolding places
       no_longer n h s = ⊎_elim
-          (λ (l : lowest (noEnd c) 0 16 < n).
-          let e : n ≡ suc (lowest (noEnd c) 0 16) + (n - suc (lowest (noEnd c) 0 16)) = omega arith in
-          let t : Front (suc (lowest (noEnd c) 0 16)) =
-          front (n - suc (lowest (noEnd c) 0 16)) (suc (lowest (noEnd c) 0 16)) h (omega arith)
+          (λ (l : lowest (has_no_end c) 0 16 < n).
+          let e : n ≡ suc (lowest (has_no_end c) 0 16) + (n - suc (lowest (has_no_end c) 0 16)) = omega arith in
+          let t : Front (suc (lowest (has_no_end c) 0 16)) =
+          front (n - suc (lowest (has_no_end c) 0 16)) (suc (lowest (has_no_end c) 0 16)) h (omega arith)
           (subst (λ (m : ℕ). Chain c m h) e s) in
-          no_both (noEnd c (lowest (noEnd c) 0 16)) (lowest-hit (noEnd c) 0 16 (omega (arith, chain-few n h s)))
-          (filled (lowest (noEnd c) 0 16) t.end t.chain))
-          (λ l. l) (split (lowest (noEnd c) 0 16) n)
+          no_both (has_no_end c (lowest (has_no_end c) 0 16)) (lowest-hit (has_no_end c) 0 16 (omega (arith, chain-few n h s)))
+          (filled (lowest (has_no_end c) 0 16) t.end t.chain))
+          (λ l. l) (split (lowest (has_no_end c) 0 16) n)
 
       pub as_long : Front (places c)
       unfolding places
       as_long =
           let k : ℕ = places c - 1 in
           let e : suc k ≡ places c = omega (arith, places-some) in
-          let r = any_some (marked (endsOf c k)) 0 17 (not-false (any (marked (endsOf c k)) 0 17)
-          (lowest-before (noEnd c) 0 16 k (omega arith) (omega (arith, places-some)))) in
+          let r = any_some (is_marked (ends_of c k)) 0 17 (not-false (any (is_marked (ends_of c k)) 0 17)
+          (lowest-before (has_no_end c) 0 16 k (omega arith) (omega (arith, places-some)))) in
           record { end = r.0; chain = subst (λ (m : ℕ). Chain c m r.0) e (end-chain k r.0 r.3) }

@@ -5,40 +5,40 @@ use mathlib.Core.Path.{◌≡◌, refl}
 use mathlib.Core.List.{List, [], ◌∷◌}
 use lib.ListN.{replicate}
 use Rattle.words.specs.lists.Numbers.{any, lowest}
-use Rattle.words.specs.lists.Sequences.{some, filter, concatMap}
+use Rattle.words.specs.lists.Sequences.{some, filter, concat_map}
 use Rattle.words.specs.graph.Reach.{reach}
 use Rattle.charts.specs.Chart.{Chart}
-use Rattle.places.specs.chains.Calls.{calls, circular, endsOf, places}
+use Rattle.places.specs.chains.Calls.{is_caller, is_circular, ends_of, places}
 
 -- kind, scheme, scheme called, next nodes
 abbrev node : ℕ → ℕ → ℕ → ℕ → ℕ → List ℕ
 node k h a u₀ u₁ = k ∷ h ∷ a ∷ u₀ ∷ u₁ ∷ replicate 5 0
 
 abbrev chart : List (List ℕ) → Chart
-chart = concatMap (λ r. r)
+chart = concat_map (λ r. r)
 
 -- 1 calls 2 and 3, and a function of 2 calls 3
 pub three-places : let c = chart (
     node 0 1 0 1 0 ∷ node 2 1 2 2 0 ∷ node 2 1 3 3 0 ∷ node 1 1 0 0 0 ∷ node 0 2 0 5 0 ∷ node 4 2 3 6 6 ∷ node 1 2 0 0 0
-    ∷ node 0 3 0 8 0 ∷ node 1 3 0 0 0 ∷ []) in (circular c ≡ false) × (places c ≡ 3)
-unfolding any lowest some filter concatMap reach calls circular endsOf places
+    ∷ node 0 3 0 8 0 ∷ node 1 3 0 0 0 ∷ []) in (is_circular c ≡ false) × (places c ≡ 3)
+unfolding any lowest some filter concat_map reach is_caller is_circular ends_of places
 three-places = (refl, refl)
 
 -- 1 calls 2, and 2 calls itself
-pub itself-circular : circular (chart (
+pub itself-circular : is_circular (chart (
     node 0 1 0 1 0 ∷ node 2 1 2 2 0 ∷ node 1 1 0 0 0 ∷ node 0 2 0 4 0 ∷ node 2 2 2 5 0 ∷ node 1 2 0 0 0 ∷ [])) ≡ true
-unfolding any lowest some filter concatMap reach calls circular endsOf places
+unfolding any lowest some filter concat_map reach is_caller is_circular ends_of places
 itself-circular = refl
 
 -- 1 calls 2, 2 calls 3, and 3 calls 2
-pub around-circular : circular (chart (
+pub around-circular : is_circular (chart (
     node 0 1 0 1 0 ∷ node 2 1 2 2 0 ∷ node 1 1 0 0 0 ∷ node 0 2 0 4 0 ∷ node 2 2 3 5 0 ∷ node 1 2 0 0 0
     ∷ node 0 3 0 7 0 ∷ node 4 3 2 8 8 ∷ node 1 3 0 0 0 ∷ [])) ≡ true
-unfolding any lowest some filter concatMap reach calls circular endsOf places
+unfolding any lowest some filter concat_map reach is_caller is_circular ends_of places
 around-circular = refl
 
 -- 2 calls itself, but nobody calls it
 pub apart-places : let c = chart (node 0 1 0 1 0 ∷ node 1 1 0 0 0 ∷ node 0 2 0 3 0 ∷ node 2 2 2 4 0 ∷ node 1 2 0 0 0 ∷ []) in
-    (circular c ≡ false) × (places c ≡ 1)
-unfolding any lowest some filter concatMap reach calls circular endsOf places
+    (is_circular c ≡ false) × (places c ≡ 1)
+unfolding any lowest some filter concat_map reach is_caller is_circular ends_of places
 apart-places = (refl, refl)

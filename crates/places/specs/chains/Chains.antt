@@ -2,13 +2,13 @@
 use Rattle.std.specs.Prelude.{ℕ, suc, ◌≤◌, ◌<◌, true, ◌≡◌}
 use Rattle.text.specs.frames.Frame.{size}
 use Rattle.charts.specs.Chart.{Chart, scheme, argument}
-use Rattle.places.specs.chains.Calls.{holdsCall}
+use Rattle.places.specs.chains.Calls.{has_call}
 
 -- a node of scheme g holds a call of scheme h
 pub record Calls (c : Chart) (g h : ℕ) : Type 0 where
   pub node : ℕ
   pub inside : node < size c
-  pub holds : holdsCall c node ≡ true
+  pub holds : has_call c node ≡ true
   pub owner : scheme c node ≡ g
   pub called : argument c node ≡ h
 

@@ -2,7 +2,7 @@
 ghost use Rattle.std.specs.Prelude.{◌≡◌, ◌+◌, ◌<◌, replicate};
 ghost use Rattle.text.specs.frames.Frame.{size};
 ghost use Rattle.chart_rows.specs.chart_labels.inner.ChartContracts.{Ready, Inner};
-ghost use Rattle.places.specs.chains.inner.Masks.{calledAt, callMasks, CallsAsked};
+ghost use Rattle.places.specs.chains.inner.Masks.{called_at, call_masks, CallsAsked};
 
 use charts::field;
 use charts::layout::*;
@@ -11,7 +11,7 @@ use text::frames::sizes::RECORD;
 // The scheme that node v calls, 0 where it holds no call.
 fn called_at(records: &[u8], v: usize) -> u8
     requires { Inner records.now v }
-    ensures { result ≡ calledAt records.now v }
+    ensures { result ≡ called_at records.now v }
 {
     match field(records, v, KIND) {
         OPERATION => field(records, v, ARGUMENT),
@@ -23,7 +23,7 @@ fn called_at(records: &[u8], v: usize) -> u8
 // Node v's call is added to those of its scheme.
 fn note_call(records: &[u8], v: usize, masks: &mut [u32])
     requires { CallsAsked records.now v masks.old }
-    ensures { masks.new ≡ callMasks records.now (v + 1) }
+    ensures { masks.new ≡ call_masks records.now (v + 1) }
 {
     let called = called_at(records, v);
     if called != 0 {
@@ -36,7 +36,7 @@ fn note_call(records: &[u8], v: usize, masks: &mut [u32])
 pub fn note_calls(records: &[u8], masks: &mut [u32])
     requires ready { Ready records.now }
     requires masks_value { masks.old ≡ replicate 17 0 }
-    ensures { masks.new ≡ callMasks records.now (size records.now) }
+    ensures { masks.new ≡ call_masks records.now (size records.now) }
 {
     let n = records.len() / RECORD;
     for v in 0..n {

@@ -1,14 +1,14 @@
 // The longest chain of calls, one scheme more in each round; a chain of 17 schemes has one of them twice.
 ghost use Rattle.std.specs.Prelude.{◌≡◌, length};
 ghost use Rattle.chart_rows.specs.chart_labels.inner.ChartContracts.{Ready};
-ghost use Rattle.places.specs.chains.inner.Masks.{calledBy, longestBy, longestChain};
+ghost use Rattle.places.specs.chains.inner.Masks.{called_by, longest_by, longest_chain};
 
 use crate::chains::calls::note_calls;
 
 // The schemes that those of a set call.
 fn called_by(masks: &[u32], set: u32) -> u32
     requires { length masks.now ≡ 17 }
-    ensures { result ≡ calledBy masks.now set 17 }
+    ensures { result ≡ called_by masks.now set 17 }
 {
     let mut called: u32 = 0;
     for g in 0..17 {
@@ -22,7 +22,7 @@ fn called_by(masks: &[u32], set: u32) -> u32
 // By the masks: how many schemes the longest chain from scheme 1 has, or 0 where there are chains of 17.
 fn longest(masks: &[u32]) -> u8
     requires { length masks.now ≡ 17 }
-    ensures { result ≡ longestBy masks.now }
+    ensures { result ≡ longest_by masks.now }
 {
     let mut ends: u32 = 2;
     for schemes in 1..17 {
@@ -37,7 +37,7 @@ fn longest(masks: &[u32]) -> u8
 // How many schemes the longest chain of calls from scheme 1 has, scheme 1 counted; 0 where a circle of calls can be reached.
 pub fn longest_chain(records: &[u8]) -> u8
     requires { Ready records.now }
-    ensures { result ≡ longestChain records.now }
+    ensures { result ≡ longest_chain records.now }
 {
     let mut masks = [0u32; 17];
     note_calls(records, &mut masks);

@@ -6,7 +6,7 @@ use native.Mathlib.Omega.{arith}
 use lib.Dec.{ltb, eqb}
 use borrow.Author.Tests.{ltb-false, eqb-false, lt-ltb, le-ltb}
 use Rattle.words.proofs.lists.Tests.{or_l, or_r, or-none, or-true-l, or_true_r}
-use Rattle.bindings.specs.Binding.{badRebinding}
+use Rattle.bindings.specs.Binding.{is_bad_rebinding}
 
 module _ (H g h k : ℕ) where
   -- number and scheme are of 2 to H, and the number is not the handler's
@@ -23,7 +23,7 @@ module _ (H g h k : ℕ) where
   abbrev ranges : Bool
   ranges = numbers || ltb k 2 || ltb H k
 
-  pub allowed : badRebinding H g h k ≡ false → AllowedRebinding
+  pub allowed : is_bad_rebinding H g h k ≡ false → AllowedRebinding
   allowed e =
       let all : ranges ≡ false = or_l ranges (eqb h g) e in
       let low : (numbers || ltb k 2) ≡ false = or_l (numbers || ltb k 2) (ltb H k) all in
@@ -39,7 +39,7 @@ module _ (H g h k : ℕ) where
   -- ---- one law for each way out; n stands for H as it was read
   module _ (n : ℕ) (schemes : n ≡ H) where
     abbrev bad : Bool
-    bad = badRebinding H g h k
+    bad = is_bad_rebinding H g h k
 
     number-bad : numbers ≡ true → true ≡ bad
     number-bad e = sym (or-true-l ranges (eqb h g) (or-true-l (numbers || ltb k 2) (ltb H k) (or-true-l numbers (ltb k 2) e)))

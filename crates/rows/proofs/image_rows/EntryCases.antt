@@ -6,41 +6,41 @@ use native.Mathlib.Omega.{arith}
 use lib.ListN.{length}
 use Rattle.text.specs.frames.Frame.{contents}
 use Rattle.text.specs.frames.Verdict.{Verdict, fine, refused, next, when}
-use Rattle.text.specs.frames.Answer.{reply, judged}
+use Rattle.text.specs.frames.Answer.{reply, verdict_reply}
 use Rattle.text.specs.declared.frames.Answer.{Answer}
 use Rattle.text.specs.declared.frames.Answer.TheVariants.{Refused}
 use Rattle.text.proofs.frames.Chains.{refused-verdict}
 use Rattle.image.specs.Image.{Image}
-use Rattle.image.specs.Decode.{lastLabel, decoded}
-use Rattle.image.specs.Check.{imageVerdict}
+use Rattle.image.specs.Decode.{last_label, decoded_image}
+use Rattle.image.specs.Check.{image_verdict}
 use Rattle.image.proofs.Accepted.{labels-count, image-table, image-bytes}
 use Rattle.tables.proofs.Made.{MadeTable}
 use Rattle.tables.proofs.Noted.{noted-last}
-use Rattle.rows.specs.listing.Listing.{howMany, ListingOutcome, listingOn, noRoomFor, list, GivesListing}
+use Rattle.rows.specs.listing.Listing.{row_count_of, ListingOutcome, listing_on, has_no_room_for, list, GivesListing}
 use Rattle.rows.specs.listing.Exact.{LooksAt}
-use Rattle.rows.specs.listing.inner.ListingContracts.{Listable, listTable}
+use Rattle.rows.specs.listing.inner.ListingContracts.{Listable, list_table}
 use Rattle.rows.proofs.listing.Laws.{low-none, looks-at}
 
 module _ (t : List ℕ) where
   abbrev i : Image
-  i = decoded (contents t)
+  i = decoded_image (contents t)
 
   -- ---- the image is refused
   module _ (xs ys : List ℕ) where
     abbrev tried : Verdict → ListingOutcome
-    tried v = listingOn (next v λ _. when 16 (noRoomFor (lastLabel (contents t) + 1) xs ys)) (λ _. i) xs ys
+    tried v = listing_on (next v λ _. when 16 (has_no_room_for (last_label (contents t) + 1) xs ys)) (λ _. i) xs ys
 
-    by-verdict : (v : Verdict) → imageVerdict t ≡ v → list t xs ys ≡ tried v
+    by-verdict : (v : Verdict) → image_verdict t ≡ v → list t xs ys ≡ tried v
     unfolding list
     by-verdict v e = ap tried e
 
-    pub image-refused : (a : Answer) → reply a ≡ judged (imageVerdict t) 0 → (k n m : ℕ)
+    pub image-refused : (a : Answer) → reply a ≡ verdict_reply (image_verdict t) 0 → (k n m : ℕ)
         → a ≡ Refused k n m → GivesListing (list t xs ys) a xs ys
     image-refused a gives k n m e =
-        let v : imageVerdict t ≡ refused k n = (refused-verdict a (imageVerdict t) 0 gives k n m e).0 in
+        let v : image_verdict t ≡ refused k n = (refused-verdict a (image_verdict t) 0 gives k n m e).0 in
         let g = by-verdict (refused k n) v in
         record {
-          answered = gives ∙ ap (λ (w : Verdict). judged w 0) v ∙ sym (ap (λ (x : ListingOutcome). x.reply) g);
+          answered = gives ∙ ap (λ (w : Verdict). verdict_reply w 0) v ∙ sym (ap (λ (x : ListingOutcome). x.reply) g);
           firsts = sym (ap (λ (x : ListingOutcome). x.firsts) g);
           counts = sym (ap (λ (x : ListingOutcome). x.counts) g);
         }
@@ -51,20 +51,20 @@ module _ (t : List ℕ) where
     made-listable = record {
       whole = made.whole;
       none = λ l h.
-          ap (λ (x : Image). howMany x l) made.holds
+          ap (λ (x : Image). row_count_of x l) made.holds
           ∙ low-none (contents t) (image-table t made.accepted) (image-bytes t made.accepted) l h;
       some = λ l low high.
           subst (λ (x : Image). LooksAt b x l) (sym made.holds)
           (subst (λ (c : List ℕ). LooksAt c i l) (sym made.is)
           (looks-at (contents t) (image-table t made.accepted) (image-bytes t made.accepted) l low
-          (omega (arith, ap (λ (c : List ℕ). lastLabel c) made.is, noted-last (contents t)))));
+          (omega (arith, ap (λ (c : List ℕ). last_label c) made.is, noted-last (contents t)))));
     }
 
-    pub image-lists : (xs ys : List ℕ) (a : Answer) (us vs : List ℕ) → GivesListing (listTable b xs ys) a us vs
+    pub image-lists : (xs ys : List ℕ) (a : Answer) (us vs : List ℕ) → GivesListing (list_table b xs ys) a us vs
         → GivesListing (list t xs ys) a us vs
-    unfolding listTable
+    unfolding list_table
     image-lists xs ys a us vs x =
         subst (λ (z : ListingOutcome). GivesListing z a us vs)
-        (ap₂ (λ (n : ℕ) (j : Image). listingOn (when 16 (noRoomFor n xs ys)) (λ _. j) xs ys)
+        (ap₂ (λ (n : ℕ) (j : Image). listing_on (when 16 (has_no_room_for n xs ys)) (λ _. j) xs ys)
         (ap (λ (j : Image). length j.labels) made.holds ∙ labels-count (contents t)) made.holds
         ∙ sym (by-verdict xs ys fine made.accepted)) x

@@ -4,13 +4,13 @@ use mathlib.Core.Path.{◌≡◌, ap₂}
 use mathlib.Core.List.{List}
 use Rattle.text.specs.frames.Verdict.{Verdict, next, when}
 use Rattle.text.proofs.frames.Capitals.{ReadAlike}
-use Rattle.image.specs.Decode.{lastLabel, decoded}
+use Rattle.image.specs.Decode.{last_label, decoded_image}
 use Rattle.image.proofs.Alike.{image-verdict}
-use Rattle.rows.specs.listing.Listing.{listingOn, noRoomFor, list}
+use Rattle.rows.specs.listing.Listing.{listing_on, has_no_room_for, list}
 
 pub lists : (t u : List ℕ) → ReadAlike t u → (firsts counts : List ℕ) → list t firsts counts ≡ list u firsts counts
 unfolding list
 lists t u A firsts counts =
-    ap₂ (λ (v : Verdict) (c : List ℕ). listingOn (next v λ _. when 16 (noRoomFor (lastLabel c + 1) firsts counts))
-    (λ _. decoded c) firsts counts)
+    ap₂ (λ (v : Verdict) (c : List ℕ). listing_on (next v λ _. when 16 (has_no_room_for (last_label c + 1) firsts counts))
+    (λ _. decoded_image c) firsts counts)
     (image-verdict t u A) A.contents

@@ -14,9 +14,9 @@ use Rattle.text.specs.frames.Verdict.{Verdict, fine, refused, next, when}
 use Rattle.text.specs.frames.Answer.{success}
 use Rattle.text.proofs.frames.Chains.{no-success}
 use Rattle.image.specs.Image.{Image}
-use Rattle.image.specs.Decode.{lastLabel, decoded}
-use Rattle.image.specs.Check.{imageVerdict}
-use Rattle.rows.specs.listing.Listing.{howMany, first_of, firstRows, rowCounts, ListingOutcome, listingOn, noRoomFor, list}
+use Rattle.image.specs.Decode.{last_label, decoded_image}
+use Rattle.image.specs.Check.{image_verdict}
+use Rattle.rows.specs.listing.Listing.{row_count_of, first_of, first_rows, row_counts, ListingOutcome, listing_on, has_no_room_for, list}
 use Rattle.rows.specs.listing.Exact.{Own, Exactly, Held}
 use Rattle.rows.proofs.listing.Laws.{exactly}
 
@@ -26,17 +26,17 @@ front f n old l h =
 
 -- the image check's verdict, and whether a buffer has too little room
 abbrev answer : Image → List ℕ → List ℕ → Verdict → Bool → ListingOutcome
-answer i xs ys v u = listingOn (next v λ _. when 16 u) (λ _. i) xs ys
+answer i xs ys v u = listing_on (next v λ _. when 16 u) (λ _. i) xs ys
 
 record Succeeded (i : Image) (v : Verdict) (x : ListingOutcome) (n : ℕ) : Type 0 where
   passes : v ≡ fine
   labels : n ≡ length i.labels
   first : (l : ℕ) → l < n → get_or x.firsts l 0 ≡ first_of i l
-  number : (l : ℕ) → l < n → get_or x.counts l 0 ≡ howMany i l
+  number : (l : ℕ) → l < n → get_or x.counts l 0 ≡ row_count_of i l
 
 succeeded : (i : Image) (xs ys : List ℕ) (v : Verdict) (u : Bool) (n : ℕ) → (answer i xs ys v u).reply ≡ success n
     → Succeeded i v (answer i xs ys v u) n
-unfolding firstRows rowCounts
+unfolding first_rows row_counts
 succeeded i xs ys (refused k j) u n e = no-success k j 0 n e
 succeeded i xs ys fine true n e = no-success 16 0 0 n e
 succeeded i xs ys fine false n e =
@@ -46,18 +46,18 @@ succeeded i xs ys fine false n e =
       passes = refl;
       labels = same;
       first = λ l h. front (first_of i) m xs l (omega arith);
-      number = λ l h. front (howMany i) m ys l (omega arith);
+      number = λ l h. front (row_count_of i) m ys l (omega arith);
     }
 
 module _ (t xs ys : List ℕ) (n : ℕ) where
   abbrev i : Image
-  i = decoded (contents t)
+  i = decoded_image (contents t)
 
-  succeeds : (list t xs ys).reply ≡ success n → Succeeded i (imageVerdict t) (list t xs ys) n
+  succeeds : (list t xs ys).reply ≡ success n → Succeeded i (image_verdict t) (list t xs ys) n
   unfolding list
-  succeeds e = succeeded i xs ys (imageVerdict t) (noRoomFor (lastLabel (contents t) + 1) xs ys) n e
+  succeeds e = succeeded i xs ys (image_verdict t) (has_no_room_for (last_label (contents t) + 1) xs ys) n e
 
-  own : imageVerdict t ≡ fine → (l k : ℕ) → Own i l k ↔ ((first_of i l ≤ k) × (k < first_of i l + howMany i l))
+  own : image_verdict t ≡ fine → (l k : ℕ) → Own i l k ↔ ((first_of i l ≤ k) × (k < first_of i l + row_count_of i l))
   unfolding Exactly
   own = exactly t
 

@@ -18,27 +18,28 @@ use Rattle.text.specs.frames.Answer.{reply, success}
 use Rattle.text.specs.declared.frames.Answer.{Answer}
 use Rattle.text.specs.declared.frames.Answer.TheVariants.{Done, Refused}
 use Rattle.image.specs.Image.{Image}
-use Rattle.image.specs.Decode.{lastLabel}
-use Rattle.tables.specs.Table.{tableImage}
+use Rattle.image.specs.Decode.{last_label}
+use Rattle.tables.specs.Table.{table_image}
 use Rattle.tables.proofs.TableReads.{labels-count}
-use Rattle.rows.specs.listing.Listing.{howMany, first_of, firstRows, rowCounts, ListingOutcome, listingOn, noRoomFor, GivesListing}
-use Rattle.rows.specs.listing.inner.ListingContracts.{RowsOf, listTable}
+use Rattle.rows.specs.listing.Listing.{row_count_of, first_of, first_rows, row_counts, ListingOutcome, listing_on, has_no_room_for}
+use Rattle.rows.specs.listing.Listing.{GivesListing}
+use Rattle.rows.specs.listing.inner.ListingContracts.{RowsOf, list_table}
 use Rattle.rows.specs.declared.listing.Rows.{Rows}
 
 -- the first l of n labels stand in both buffers
 pub record FillingRows (i : Image) (n : ℕ) (xs₀ ys₀ xs ys : List ℕ) (l : ℕ) : Type 0 where
   pub first : ValuesFrom (first_of i) xs₀ xs 0 n l
-  pub number : ValuesFrom (howMany i) ys₀ ys 0 n l
+  pub number : ValuesFrom (row_count_of i) ys₀ ys 0 n l
 
 module _ (b xs₀ ys₀ : List ℕ) where
   abbrev i : Image
-  i = tableImage b
+  i = table_image b
 
   abbrev n : ℕ
-  n = lastLabel b + 1
+  n = last_label b + 1
 
   pub filling-start : FillingRows i n xs₀ ys₀ xs₀ ys₀ 0
-  filling-start = record { first = values-none (first_of i) xs₀ 0 n; number = values-none (howMany i) ys₀ 0 n }
+  filling-start = record { first = values-none (first_of i) xs₀ 0 n; number = values-none (row_count_of i) ys₀ 0 n }
 
   pub filling-on : n ≤ length xs₀ → n ≤ length ys₀ → (xs ys : List ℕ) (l : ℕ)
       → FillingRows i n xs₀ ys₀ xs ys l → l < n → (r : Rows) → RowsOf i l r
@@ -46,49 +47,49 @@ module _ (b xs₀ ys₀ : List ℕ) where
   filling-on p q xs ys l t h r w = record {
     first = subst (λ (k : ℕ). ValuesFrom (first_of i) xs₀ (set xs k r.first) 0 n (l + 1)) (zero-add l)
         (values-turn (first_of i) xs₀ 0 n xs l r.first (omega arith) t.first h w.first);
-    number = subst (λ (k : ℕ). ValuesFrom (howMany i) ys₀ (set ys k r.count) 0 n (l + 1)) (zero-add l)
-        (values-turn (howMany i) ys₀ 0 n ys l r.count (omega arith) t.number h w.count);
+    number = subst (λ (k : ℕ). ValuesFrom (row_count_of i) ys₀ (set ys k r.count) 0 n (l + 1)) (zero-add l)
+        (values-turn (row_count_of i) ys₀ 0 n ys l r.count (omega arith) t.number h w.count);
   }
 
   pub filling-all : (xs ys : List ℕ) (l : ℕ) → FillingRows i n xs₀ ys₀ xs ys l → n ≤ l
-      → (xs ≡ over (firstRows i) xs₀) × (ys ≡ over (rowCounts i) ys₀)
-  unfolding firstRows rowCounts tabulate
+      → (xs ≡ over (first_rows i) xs₀) × (ys ≡ over (row_counts i) ys₀)
+  unfolding first_rows row_counts tabulate
   filling-all xs ys l t h = (
     values-all (first_of i) xs₀ 0 n xs l t.first h ∙ written-front xs₀ (map (first_of i) (range 0 n))
         ∙ ap (λ (m : ℕ). over (map (first_of i) (range 0 m)) xs₀) (sym (labels-count b)),
-    values-all (howMany i) ys₀ 0 n ys l t.number h ∙ written-front ys₀ (map (howMany i) (range 0 n))
-        ∙ ap (λ (m : ℕ). over (map (howMany i) (range 0 m)) ys₀) (sym (labels-count b)),
+    values-all (row_count_of i) ys₀ 0 n ys l t.number h ∙ written-front ys₀ (map (row_count_of i) (range 0 n))
+        ∙ ap (λ (m : ℕ). over (map (row_count_of i) (range 0 m)) ys₀) (sym (labels-count b)),
   )
 
 -- ---- 16
-module _ (b xs ys : List ℕ) (n : ℕ) (is : n ≡ lastLabel b + 1) where
+module _ (b xs ys : List ℕ) (n : ℕ) (is : n ≡ last_label b + 1) where
   abbrev image : Image
-  image = tableImage b
+  image = table_image b
 
   count : n ≡ length image.labels
   count = is ∙ sym (labels-count b)
 
-  by-room : (t : Bool) → noRoomFor n xs ys ≡ t → listTable b xs ys ≡ listingOn (when 16 t) (λ _. image) xs ys
-  unfolding listTable
+  by-room : (t : Bool) → has_no_room_for n xs ys ≡ t → list_table b xs ys ≡ listing_on (when 16 t) (λ _. image) xs ys
+  unfolding list_table
   by-room t e =
-      ap (λ (m : ℕ). listingOn (when 16 (noRoomFor m xs ys)) (λ _. image) xs ys) (sym count)
-      ∙ ap (λ (u : Bool). listingOn (when 16 u) (λ _. image) xs ys) e
+      ap (λ (m : ℕ). listing_on (when 16 (has_no_room_for m xs ys)) (λ _. image) xs ys) (sym count)
+      ∙ ap (λ (u : Bool). listing_on (when 16 u) (λ _. image) xs ys) e
 
-  full : noRoomFor n xs ys ≡ true → (a : Answer) → a ≡ Refused 16 0 0 → GivesListing (listTable b xs ys) a xs ys
+  full : has_no_room_for n xs ys ≡ true → (a : Answer) → a ≡ Refused 16 0 0 → GivesListing (list_table b xs ys) a xs ys
   full e a q = let g = by-room true e in record {
     answered = ap reply q ∙ sym (ap (λ (x : ListingOutcome). x.reply) g);
     firsts = sym (ap (λ (x : ListingOutcome). x.firsts) g);
     counts = sym (ap (λ (x : ListingOutcome). x.counts) g);
   }
 
-  pub firsts-short : length xs < n → (a : Answer) → a ≡ Refused 16 0 0 → GivesListing (listTable b xs ys) a xs ys
+  pub firsts-short : length xs < n → (a : Answer) → a ≡ Refused 16 0 0 → GivesListing (list_table b xs ys) a xs ys
   firsts-short h = full (or-true-l (ltb (length xs) n) (ltb (length ys) n) (lt-ltb (length xs) n h))
 
-  pub counts-short : length ys < n → (a : Answer) → a ≡ Refused 16 0 0 → GivesListing (listTable b xs ys) a xs ys
+  pub counts-short : length ys < n → (a : Answer) → a ≡ Refused 16 0 0 → GivesListing (list_table b xs ys) a xs ys
   counts-short h = full (or_true_r (ltb (length xs) n) (ltb (length ys) n) (lt-ltb (length ys) n h))
 
-  pub listed : n ≤ length xs → n ≤ length ys → (xs' ys' : List ℕ) → (xs' ≡ over (firstRows image) xs) × (ys' ≡ over (rowCounts image) ys)
-      → GivesListing (listTable b xs ys) (Done n) xs' ys'
+  pub listed : n ≤ length xs → n ≤ length ys → (xs' ys' : List ℕ) → (xs' ≡ over (first_rows image) xs) × (ys' ≡ over (row_counts image) ys)
+      → GivesListing (list_table b xs ys) (Done n) xs' ys'
   listed p q xs' ys' (x, y) =
       let g = by-room false (or-none (ltb (length xs) n) (ltb (length ys) n) (le-ltb (length xs) n p) (le-ltb (length ys) n q)) in
       record {

@@ -11,114 +11,114 @@ use borrow.Author.Tests.{eq-eqb, ne_eqb, eqb-true}
 use Rattle.words.specs.lists.Numbers.{lowest, range}
 use Rattle.words.proofs.lists.Tests.{no_both, yes-pick, no-pick, split}
 use Rattle.words.proofs.lists.Counts.{count_none}
-use Rattle.words.proofs.lists.Ranges.{length-map-range, getD-map-range}
+use Rattle.words.proofs.lists.Ranges.{length-map-range, get_or-map-range}
 use Rattle.text.specs.frames.Frame.{size, field, contents}
 use Rattle.text.specs.frames.Verdict.{fine}
-use Rattle.image.specs.Image.{Image, Row, nthRow, no_row}
-use Rattle.image.specs.Decode.{lastLabel, rows_from, decoded, rowInFrame}
-use Rattle.image.specs.Check.{tableVerdict}
+use Rattle.image.specs.Image.{Image, Row, nth_row, no_row}
+use Rattle.image.specs.Decode.{last_label, rows_from, decoded_image, row_in_frame}
+use Rattle.image.specs.Check.{table_verdict}
 use Rattle.image.proofs.Accepted.{rows-count, row_read, counted, accepted-sound, image-table, image-bytes}
 use Rattle.image.proofs.Rising.{from-read}
-use Rattle.tables.specs.Prepare.{firstFrame, noted}
-use Rattle.tables.specs.Table.{firstOn, endOn, rowsOn}
+use Rattle.tables.specs.Prepare.{first_frame, noted_table}
+use Rattle.tables.specs.Table.{first_on, end_on, rows_on}
 use Rattle.tables.proofs.Noted.{noted-rows-from}
 use Rattle.tables.proofs.FirstFrames.{first-low, first-inside, first-rises, at_least, below}
 use Rattle.tables.proofs.PreparedImage.{first-noted, end-noted, rows-own}
-use Rattle.rows.specs.listing.Listing.{rowLeaves, howMany, first_of}
+use Rattle.rows.specs.listing.Listing.{is_row_leaving, row_count_of, first_of}
 use Rattle.rows.specs.listing.Exact.{Own, Exactly, EmptyZero, LowZero, LooksAt, ListedFrames}
 use Rattle.rows.proofs.listing.Between.{Between, count-between, lowest-between}
 
 -- ---- any image: without rows 0 and 0
 module _ (i : Image) (l : ℕ) where
-  pub none_first : howMany i l ≡ 0 → first_of i l ≡ 0
-  none_first e = yes-pick (eqb (howMany i l) 0) 0 _ (eq-eqb (howMany i l) 0 e)
+  pub none_first : row_count_of i l ≡ 0 → first_of i l ≡ 0
+  none_first e = yes-pick (eqb (row_count_of i l) 0) 0 _ (eq-eqb (row_count_of i l) 0 e)
 
-  pub some_first : (howMany i l ≡ 0 → ⊥) → first_of i l ≡ lowest (rowLeaves i l) 0 (length i.rows)
-  some_first h = no-pick (eqb (howMany i l) 0) 0 (lowest (rowLeaves i l) 0 (length i.rows)) (ne_eqb (howMany i l) 0 h)
+  pub some_first : (row_count_of i l ≡ 0 → ⊥) → first_of i l ≡ lowest (is_row_leaving i l) 0 (length i.rows)
+  some_first h = no-pick (eqb (row_count_of i l) 0) 0 (lowest (is_row_leaving i l) 0 (length i.rows)) (ne_eqb (row_count_of i l) 0 h)
 
 -- ---- an accepted table
-module _ (b : List ℕ) (ok : tableVerdict b ≡ fine) (bytes : (k : ℕ) → get_or b k 0 < 256) (l : ℕ) where
+module _ (b : List ℕ) (ok : table_verdict b ≡ fine) (bytes : (k : ℕ) → get_or b k 0 < 256) (l : ℕ) where
   abbrev i : Image
-  i = decoded b
+  i = decoded_image b
 
   -- the number of its first row, and the number after that of its last
   abbrev first : ℕ
-  first = firstFrame b l - rows_from b
+  first = first_frame b l - rows_from b
 
   abbrev end : ℕ
-  end = firstFrame b (l + 1) - rows_from b
+  end = first_frame b (l + 1) - rows_from b
 
   rows_all : length i.rows ≡ size b - rows_from b
   rows_all = omega (arith, rows-count b, (counted b ok).all)
 
-  from_is : (k : ℕ) → k < length i.rows → (nthRow i k).from ≡ field b (rows_from b + k) 1
+  from_is : (k : ℕ) → k < length i.rows → (nth_row i k).from ≡ field b (rows_from b + k) 1
   from_is k h =
-      ap (λ (n : ℕ). (nthRow i n).from) (let e : k ≡ rows_from b + k - rows_from b = omega arith in e)
+      ap (λ (n : ℕ). (nth_row i n).from) (let e : k ≡ rows_from b + k - rows_from b = omega arith in e)
       ∙ from-read b (counted b ok).all (rows_from b + k) (omega arith) (omega (arith, rows_all))
 
-  between : Between (rowLeaves i l) (length i.rows) first end
+  between : Between (is_row_leaving i l) (length i.rows) first end
   between = record {
     order = omega (arith, first-rises b ok l);
     most = omega (arith, first-inside b ok (l + 1), rows_all);
     inner = λ k h g.
         let inside : k < length i.rows = omega (arith, first-inside b ok (l + 1), rows_all) in
-        eq-eqb (nthRow i k).from l (omega (
+        eq-eqb (nth_row i k).from l (omega (
           arith,
           from_is k inside,
           at_least b ok bytes l (rows_from b + k) (omega arith) (omega (arith, rows_all)),
           below b ok bytes (l + 1) (rows_from b + k) (omega arith) (omega arith),
         ));
-    outer = λ k h x. ne_eqb (nthRow i k).from l (away k h x);
+    outer = λ k h x. ne_eqb (nth_row i k).from l (away k h x);
   }
     where
-      away : (k : ℕ) → k < length i.rows → (k < first) ⊎ (end ≤ k) → (nthRow i k).from ≡ l → ⊥
+      away : (k : ℕ) → k < length i.rows → (k < first) ⊎ (end ≤ k) → (nth_row i k).from ≡ l → ⊥
       away k h (inl g) q = omega (arith, from_is k h, below b ok bytes l (rows_from b + k) (omega arith) (omega arith))
       away k h (inr g) q = omega (arith, from_is k h, at_least b ok bytes (l + 1) (rows_from b + k) (omega arith) (omega (arith, rows_all)))
 
-  number_is : howMany i l ≡ end - first
-  number_is = count-between (rowLeaves i l) (length i.rows) first end between
+  number_is : row_count_of i l ≡ end - first
+  number_is = count-between (is_row_leaving i l) (length i.rows) first end between
 
-  first-is : (howMany i l ≡ 0 → ⊥) → first_of i l ≡ first
-  first-is h = some_first i l h ∙ lowest-between (rowLeaves i l) (length i.rows) first end between (omega (arith, number_is))
+  first-is : (row_count_of i l ≡ 0 → ⊥) → first_of i l ≡ first
+  first-is h = some_first i l h ∙ lowest-between (is_row_leaving i l) (length i.rows) first end between (omega (arith, number_is))
 
   -- ---- the rows of label l
   own-inside : (k : ℕ) → Own i l k → (first ≤ k) × (k < end)
   own-inside k (h, q) = go (split k first) (split k end)
     where
       go : (k < first) ⊎ (first ≤ k) → (k < end) ⊎ (end ≤ k) → (first ≤ k) × (k < end)
-      go (inl g) x = no_both (rowLeaves i l k) (eq-eqb (nthRow i k).from l q) (between.outer k h (inl g))
+      go (inl g) x = no_both (is_row_leaving i l k) (eq-eqb (nth_row i k).from l q) (between.outer k h (inl g))
       go (inr g) (inl m) = (g, m)
-      go (inr g) (inr m) = no_both (rowLeaves i l k) (eq-eqb (nthRow i k).from l q) (between.outer k h (inr m))
+      go (inr g) (inr m) = no_both (is_row_leaving i l k) (eq-eqb (nth_row i k).from l q) (between.outer k h (inr m))
 
-  pub exactly-own : (k : ℕ) → Own i l k ↔ ((first_of i l ≤ k) × (k < first_of i l + howMany i l))
+  pub exactly-own : (k : ℕ) → Own i l k ↔ ((first_of i l ≤ k) × (k < first_of i l + row_count_of i l))
   exactly-own k = (into, back)
     where
-      into : Own i l k → (first_of i l ≤ k) × (k < first_of i l + howMany i l)
+      into : Own i l k → (first_of i l ≤ k) × (k < first_of i l + row_count_of i l)
       into o =
           let m = own-inside k o in
           let e : first_of i l ≡ first = first-is (λ z. omega (arith, m.0, m.1, number_is)) in
           (omega (arith, m.0), omega (arith, m.1, number_is))
 
-      back : (first_of i l ≤ k) × (k < first_of i l + howMany i l) → Own i l k
-      back (g, m) = go (split 0 (howMany i l))
+      back : (first_of i l ≤ k) × (k < first_of i l + row_count_of i l) → Own i l k
+      back (g, m) = go (split 0 (row_count_of i l))
         where
-          go : (0 < howMany i l) ⊎ (howMany i l ≤ 0) → Own i l k
+          go : (0 < row_count_of i l) ⊎ (row_count_of i l ≤ 0) → Own i l k
           go (inl h) =
               let e : first_of i l ≡ first = first-is (λ z. omega arith) in (
                 omega (arith, number_is, between.most),
-                eqb-true (nthRow i k).from l (between.inner k (omega arith) (omega (arith, number_is))),
+                eqb-true (nth_row i k).from l (between.inner k (omega arith) (omega (arith, number_is))),
               )
           go (inr h) = absurd (omega (arith, none_first i l (omega arith)))
 
   -- ---- by the frames of the prepared table
-  module _ (low : 2 ≤ l) (high : l ≤ lastLabel b) where
-    frames-low : rows_from (noted b) ≤ firstOn (noted b) l
+  module _ (low : 2 ≤ l) (high : l ≤ last_label b) where
+    frames-low : rows_from (noted_table b) ≤ first_on (noted_table b) l
     frames-low = omega (arith, first-noted b ok bytes l (omega arith) high, noted-rows-from b, first-low b ok l)
 
-    frames-first : (howMany i l ≡ 0 → ⊥) → firstOn (noted b) l ≡ rows_from (noted b) + first_of i l
+    frames-first : (row_count_of i l ≡ 0 → ⊥) → first_on (noted_table b) l ≡ rows_from (noted_table b) + first_of i l
     frames-first h = omega (arith, first-noted b ok bytes l (omega arith) high, first-is h, noted-rows-from b, first-low b ok l)
 
-    frames-end : endOn (noted b) l ≡ firstOn (noted b) l + howMany i l
+    frames-end : end_on (noted_table b) l ≡ first_on (noted_table b) l + row_count_of i l
     frames-end =
         omega (
           arith,
@@ -130,28 +130,28 @@ module _ (b : List ℕ) (ok : tableVerdict b ≡ fine) (bytes : (k : ℕ) → ge
           first-rises b ok l,
         )
 
-    frames-rows : rowsOn (noted b) l ≡ take (howMany i l) (drop (first_of i l) i.rows)
+    frames-rows : rows_on (noted_table b) l ≡ take (row_count_of i l) (drop (first_of i l) i.rows)
     frames-rows =
         rows-own b ok bytes l (omega arith) high
         ∙ ext_get_or no_row own listed (omega (arith, own-length, listed-length)) (λ j h. same j (omega (arith, own-length)))
       where
         n : ℕ
-        n = firstFrame b (l + 1) - firstFrame b l
+        n = first_frame b (l + 1) - first_frame b l
 
         own : List Row
-        own = map (rowInFrame b) (range (firstFrame b l) n)
+        own = map (row_in_frame b) (range (first_frame b l) n)
 
         listed : List Row
-        listed = take (howMany i l) (drop (first_of i l) i.rows)
+        listed = take (row_count_of i l) (drop (first_of i l) i.rows)
 
-        count-is : howMany i l ≡ n
+        count-is : row_count_of i l ≡ n
         count-is = omega (arith, number_is, first-low b ok l)
 
         most : end ≤ length i.rows
         most = between.most
 
         own-length : length own ≡ n
-        own-length = length-map-range (rowInFrame b) (firstFrame b l) n
+        own-length = length-map-range (row_in_frame b) (first_frame b l) n
 
         listed-length : length listed ≡ n
         listed-length = go (split 0 n)
@@ -159,32 +159,33 @@ module _ (b : List ℕ) (ok : tableVerdict b ≡ fine) (bytes : (k : ℕ) → ge
             go : (0 < n) ⊎ (n ≤ 0) → length listed ≡ n
             go (inl h) = omega (
               arith,
-              length-take (howMany i l) (drop (first_of i l) i.rows),
+              length-take (row_count_of i l) (drop (first_of i l) i.rows),
               length-drop (first_of i l) i.rows,
               count-is,
               number_is,
               first-is (λ z. omega (arith, count-is)),
               most,
             )
-            go (inr h) = omega (arith, length-take (howMany i l) (drop (first_of i l) i.rows), count-is)
+            go (inr h) = omega (arith, length-take (row_count_of i l) (drop (first_of i l) i.rows), count-is)
 
         same : (j : ℕ) → j < n → get_or own j no_row ≡ get_or listed j no_row
         same j h =
             let e : first_of i l ≡ first = first-is (λ z. omega (arith, count-is)) in
-            getD-map-range (rowInFrame b) no_row (firstFrame b l) n j h
-            ∙ ap (rowInFrame b) (let z : firstFrame b l + j ≡ rows_from b + (first_of i l + j) = omega (arith, first-low b ok l) in z)
+            get_or-map-range (row_in_frame b) no_row (first_frame b l) n j h
+            ∙ ap (row_in_frame b) (let z : first_frame b l + j ≡ rows_from b + (first_of i l + j) = omega (arith, first-low b ok l) in z)
             ∙ sym (row_read b (first_of i l + j) (omega (arith, most, count-is, number_is, rows-count b)))
-            ∙ sym (get_or-take (howMany i l) (drop (first_of i l) i.rows) j no_row (omega (arith, count-is))
+            ∙ sym (get_or-take (row_count_of i l) (drop (first_of i l) i.rows) j no_row (omega (arith, count-is))
             ∙ get_or-drop (first_of i l) i.rows j no_row)
 
-    pub looks-at : LooksAt (noted b) i l
+    pub looks-at : LooksAt (noted_table b) i l
     looks-at = record { low = frames-low; first = frames-first; end = frames-end; rows = frames-rows }
 
 -- ---- of every accepted image
-pub low-none : (b : List ℕ) → tableVerdict b ≡ fine → ((k : ℕ) → get_or b k 0 < 256) → (l : ℕ) → l < 2 → howMany (decoded b) l ≡ 0
+pub low-none : (b : List ℕ) → table_verdict b ≡ fine → ((k : ℕ) → get_or b k 0 < 256) → (l : ℕ) → l < 2
+    → row_count_of (decoded_image b) l ≡ 0
 low-none b ok bytes l h =
-    count_none (rowLeaves (decoded b) l) 0 (length (decoded b).rows)
-    (λ k p q. ne_eqb (nthRow (decoded b) k).from l (λ e. omega (arith, ((accepted-sound b ok bytes).each k (omega arith)).low)))
+    count_none (is_row_leaving (decoded_image b) l) 0 (length (decoded_image b).rows)
+    (λ k p q. ne_eqb (nth_row (decoded_image b) k).from l (λ e. omega (arith, ((accepted-sound b ok bytes).each k (omega arith)).low)))
 
 pub exactly : Exactly
 unfolding Exactly
@@ -193,16 +194,16 @@ exactly t ok l k = exactly-own (contents t) (image-table t ok) (image-bytes t ok
 pub empty-zero : EmptyZero
 unfolding EmptyZero
 empty-zero t l h =
-    let i : Image = decoded (contents t) in
-    let e : howMany i l ≡ 0 = count_none (rowLeaves i l) 0 (length i.rows)
-    (λ k p q. ne_eqb (nthRow i k).from l (λ z. h k (omega arith, z))) in
+    let i : Image = decoded_image (contents t) in
+    let e : row_count_of i l ≡ 0 = count_none (is_row_leaving i l) 0 (length i.rows)
+    (λ k p q. ne_eqb (nth_row i k).from l (λ z. h k (omega arith, z))) in
     (none_first i l e, e)
 
 pub low-zero : LowZero
 unfolding LowZero
 low-zero t ok l h =
-    let e : howMany (decoded (contents t)) l ≡ 0 = low-none (contents t) (image-table t ok) (image-bytes t ok) l h in
-    (none_first (decoded (contents t)) l e, e)
+    let e : row_count_of (decoded_image (contents t)) l ≡ 0 = low-none (contents t) (image-table t ok) (image-bytes t ok) l h in
+    (none_first (decoded_image (contents t)) l e, e)
 
 pub listed-frames : ListedFrames
 unfolding ListedFrames

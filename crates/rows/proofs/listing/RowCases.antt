@@ -7,18 +7,18 @@ use lib.ListN.{get_or}
 use Rattle.text.specs.frames.Frame.{size}
 use Rattle.image.specs.Image.{Image}
 use Rattle.image.specs.Decode.{rows_from}
-use Rattle.tables.specs.Table.{firstOn, endOn, tableImage}
+use Rattle.tables.specs.Table.{first_on, end_on, table_image}
 use Rattle.tables.proofs.TableReads.{counts-told}
-use Rattle.rows.specs.listing.Listing.{howMany}
+use Rattle.rows.specs.listing.Listing.{row_count_of}
 use Rattle.rows.specs.listing.Exact.{LooksAt}
 use Rattle.rows.specs.listing.inner.ListingContracts.{ListingAsked, RowsOf}
 use Rattle.rows.proofs.listing.Laws.{none_first}
 
 module _ (b : List ℕ) (h l : ℕ) (asked : ListingAsked b h l) where
   abbrev i : Image
-  i = tableImage b
+  i = table_image b
 
-  rows-zero : howMany i l ≡ 0 → RowsOf i l (record { first = 0; count = 0 })
+  rows-zero : row_count_of i l ≡ 0 → RowsOf i l (record { first = 0; count = 0 })
   rows-zero e = record { first = sym (none_first i l e); count = sym e }
 
   pub rows-low : l < 2 → RowsOf i l (record { first = 0; count = 0 })
@@ -28,7 +28,7 @@ module _ (b : List ℕ) (h l : ℕ) (asked : ListingAsked b h l) where
     looks : LooksAt b i l
     looks = asked.table.some l low asked.high
 
-    module _ (f e n : ℕ) (p : f ≡ firstOn b l) (q : e ≡ endOn b l) (r : n ≡ rows_from b) where
+    module _ (f e n : ℕ) (p : f ≡ first_on b l) (q : e ≡ end_on b l) (r : n ≡ rows_from b) where
       pub frames-rise : (n ≤ f) × (f ≤ e)
       frames-rise = (omega (arith, looks.low), omega (arith, looks.end))
 
@@ -39,7 +39,7 @@ module _ (b : List ℕ) (h l : ℕ) (asked : ListingAsked b h l) where
           let counts = counts-told b whole.counts in
           (omega (arith, whole.alone), omega (arith, whole.alone, counts.most, counts.few, bytes 2))
 
-      count-is : e - f ≡ howMany i l
+      count-is : e - f ≡ row_count_of i l
       count-is = omega (arith, looks.end)
 
       pub rows_none : e ≤ f → RowsOf i l (record { first = 0; count = 0 })

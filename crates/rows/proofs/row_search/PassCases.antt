@@ -6,27 +6,27 @@ use mathlib.Core.List.{List}
 use native.Mathlib.Decide.{ℕ_discrete}
 use native.Mathlib.Omega.{arith}
 use Rattle.text.specs.frames.Frame.{size}
-use Rattle.tables.specs.Table.{firstOn, endOn}
+use Rattle.tables.specs.Table.{first_on, end_on}
 use Rattle.rows.specs.declared.TheConstants.{NO_FRAME}
-use Rattle.rows.specs.inner.Search.{swap, matchingFrame, found_at, chosenFrame, Chosen, Deciding}
+use Rattle.rows.specs.inner.Search.{swapped_word, is_matching_frame, found_at, chosen_frame, Chosen, Deciding}
 use Rattle.rows.proofs.SearchCases.{Searched, search-start, search-over, search-other, search-own, better-only, frame-named, none_named}
 use Rattle.rows.specs.row_search.inner.Skipped.{Unmatched, Skipped}
 
 -- ---- rows that a search passed over, none of which matches
 module _ (b : List ℕ) (w bit from end f : ℕ) (s : Unmatched b w bit from end f)
-    (t : Bool) (q : t ≡ matchingFrame b w bit f) (n : t ≡ false) where
+    (t : Bool) (q : t ≡ is_matching_frame b w bit f) (n : t ≡ false) where
   pub skip-one : f + 1 ≤ end → Unmatched b w bit from end (f + 1)
   skip-one h = record { on = omega (arith, s.on); within = λ _. h; none = none }
     where
-      none : (k : ℕ) → from ≤ k → k < f + 1 → matchingFrame b w bit k ≡ false
+      none : (k : ℕ) → from ≤ k → k < f + 1 → is_matching_frame b w bit k ≡ false
       none k g m = go (ℕ_discrete k f)
         where
-          go : Dec (k ≡ f) → matchingFrame b w bit k ≡ false
-          go (yes e) = ap (matchingFrame b w bit) e ∙ sym q ∙ n
+          go : Dec (k ≡ f) → is_matching_frame b w bit k ≡ false
+          go (yes e) = ap (is_matching_frame b w bit) e ∙ sym q ∙ n
           go (no e) = s.none k g (omega arith)
 
-pub skip-two : (b : List ℕ) (w bit from end f : ℕ) → Unmatched b w bit from end f → (t v : Bool) → t ≡ matchingFrame b w bit f
-    → v ≡ matchingFrame b w bit (f + 1) → t ≡ false → v ≡ false → f + 1 < end → Unmatched b w bit from end (f + 2)
+pub skip-two : (b : List ℕ) (w bit from end f : ℕ) → Unmatched b w bit from end f → (t v : Bool) → t ≡ is_matching_frame b w bit f
+    → v ≡ is_matching_frame b w bit (f + 1) → t ≡ false → v ≡ false → f + 1 < end → Unmatched b w bit from end (f + 2)
 skip-two b w bit from end f s t v p q n m h =
     subst (Unmatched b w bit from end) (let e : f + 1 + 1 ≡ f + 2 = omega arith in e)
     (skip-one b w bit from end (f + 1) (skip-one b w bit from end f s t p n (omega arith)) v q m (omega arith))
@@ -37,7 +37,7 @@ skip-start b w bit from end = record { on = omega arith; within = λ h. absurd (
 -- ---- one pass that keeps the row that matched: as long as no second one does, it is the best so far
 pub record PassedRows (b : List ℕ) (l w bit first end f found : ℕ) : Type 0 where
   pub table : size b < NO_FRAME
-  pub named : chosenFrame (found_at b l found) ≡ found
+  pub named : chosen_frame (found_at b l found) ≡ found
   pub one : Searched b l w bit first end f found
 
 module _ (b : List ℕ) (l w bit first end : ℕ) where
@@ -48,14 +48,14 @@ module _ (b : List ℕ) (l w bit first end : ℕ) where
     one = search-start b l w bit first end NO_FRAME (omega arith);
   }
 
-  pub pass-over : (f found : ℕ) → PassedRows b l w bit first end f found → end ≤ f → first ≡ firstOn b l → end ≡ endOn b l
+  pub pass-over : (f found : ℕ) → PassedRows b l w bit first end f found → end ≤ f → first ≡ first_on b l → end ≡ end_on b l
       → Chosen b l w bit found
-  pass-over f found s h p q = sym s.named ∙ ap chosenFrame (search-over b l w bit first end f found s.one h p q)
+  pass-over f found s h p q = sym s.named ∙ ap chosen_frame (search-over b l w bit first end f found s.one h p q)
 
-  module _ (d : Deciding b l bit) (swapped : ℕ) (e : swapped ≡ swap w) (small : w < 65536) where
+  module _ (d : Deciding b l bit) (swapped : ℕ) (e : swapped ≡ swapped_word w) (small : w < 65536) where
     -- by the test that was made of frame f
     module _ (f found : ℕ) (s : PassedRows b l w bit first end f found) (h : f < end) (t : Bool)
-        (q : t ≡ matchingFrame b (swap swapped) bit f) where
+        (q : t ≡ is_matching_frame b (swapped_word swapped) bit f) where
       pub pass-other : t ≡ false → PassedRows b l w bit first end (f + 1) found
       pass-other n = record {
         table = s.table;
@@ -73,20 +73,21 @@ module _ (b : List ℕ) (l w bit first end : ℕ) where
 
     -- over n rows that do not match
     pass_on : (found n f r : ℕ) → r ≡ f + n → (f < r → r ≤ end)
-        → ((k : ℕ) → f ≤ k → k < r → matchingFrame b (swap swapped) bit k ≡ false)
+        → ((k : ℕ) → f ≤ k → k < r → is_matching_frame b (swapped_word swapped) bit k ≡ false)
         → PassedRows b l w bit first end f found → PassedRows b l w bit first end r found
     pass_on found zero f r z h none s = subst (λ (x : ℕ). PassedRows b l w bit first end x found) (let y : f ≡ r = omega arith in y) s
     pass_on found (suc n) f r z h none s =
         pass_on found n (f + 1) r (omega arith) (λ _. h (omega arith)) (λ k g m. none k (omega arith) m)
         (pass-other f found s (omega (arith, h (omega arith))) false (sym (none f (omega arith) (omega arith))) refl)
 
-    pub pass-skip : (found f r : ℕ) → Skipped b (swap swapped) bit f end r → PassedRows b l w bit first end f found
+    pub pass-skip : (found f r : ℕ) → Skipped b (swapped_word swapped) bit f end r → PassedRows b l w bit first end f found
         → PassedRows b l w bit first end r found
     pass-skip found f r k s = pass_on found (r - f) f r (omega (arith, k.passed.on)) k.passed.within k.passed.none s
 
     -- a label with two rows, one of which matches
-    module _ (few : size b < NO_FRAME) (p : first ≡ firstOn b l) (q : end ≡ endOn b l) (two : end ≡ first + 2) (within : end ≤ size b)
-        (t v : Bool) (x : t ≡ matchingFrame b (swap swapped) bit first) (y : v ≡ matchingFrame b (swap swapped) bit (first + 1)) where
+    module _ (few : size b < NO_FRAME) (p : first ≡ first_on b l) (q : end ≡ end_on b l) (two : end ≡ first + 2) (within : end ≤ size b)
+        (t v : Bool) (x : t ≡ is_matching_frame b (swapped_word swapped) bit first)
+        (y : v ≡ is_matching_frame b (swapped_word swapped) bit (first + 1)) where
       begun : PassedRows b l w bit first end first NO_FRAME
       begun = pass-start few
 

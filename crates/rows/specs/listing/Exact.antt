@@ -2,51 +2,52 @@
 use Rattle.std.specs.Prelude.{ℕ, ◌+◌, ◌≤◌, ◌<◌, ◌≡◌, ◌↔◌, List, length, get_or, take, drop}
 use Rattle.text.specs.frames.Frame.{contents}
 use Rattle.text.specs.frames.Verdict.{fine}
-use Rattle.image.specs.Image.{Image, nthRow}
-use Rattle.image.specs.Decode.{lastLabel, rows_from, decoded}
-use Rattle.image.specs.Check.{imageVerdict}
-use Rattle.tables.specs.Prepare.{noted}
-use Rattle.tables.specs.Table.{firstOn, endOn, rowsOn}
-use Rattle.rows.specs.listing.Listing.{howMany, first_of}
+use Rattle.image.specs.Image.{Image, nth_row}
+use Rattle.image.specs.Decode.{last_label, rows_from, decoded_image}
+use Rattle.image.specs.Check.{image_verdict}
+use Rattle.tables.specs.Prepare.{noted_table}
+use Rattle.tables.specs.Table.{first_on, end_on, rows_on}
+use Rattle.rows.specs.listing.Listing.{row_count_of, first_of}
 
 -- row k is there and leaves label l
 abbrev pub Own : Image → ℕ → ℕ → Type 0
-Own i l k = (k < length i.rows) × ((nthRow i k).from ≡ l)
+Own i l k = (k < length i.rows) × ((nth_row i k).from ≡ l)
 
 -- the rows of label l are those that the listing names, and no others
 unfoldable pub Exactly : Type 0
 Exactly =
-    (t : List ℕ) → imageVerdict t ≡ fine → (l k : ℕ) → let i = decoded (contents t) in
-    Own i l k ↔ ((first_of i l ≤ k) × (k < first_of i l + howMany i l))
+    (t : List ℕ) → image_verdict t ≡ fine → (l k : ℕ) → let i = decoded_image (contents t) in
+    Own i l k ↔ ((first_of i l ≤ k) × (k < first_of i l + row_count_of i l))
 
 -- a label without rows has 0 and 0
 unfoldable pub EmptyZero : Type 0
 EmptyZero =
-    (t : List ℕ) (l : ℕ) → let i = decoded (contents t) in ((k : ℕ) → Own i l k → ⊥) → (first_of i l ≡ 0) × (howMany i l ≡ 0)
+    (t : List ℕ) (l : ℕ) → let i = decoded_image (contents t) in ((k : ℕ) → Own i l k → ⊥) → (first_of i l ≡ 0) × (row_count_of i l ≡ 0)
 
 -- and so have labels 0 and 1
 unfoldable pub LowZero : Type 0
-LowZero = (t : List ℕ) → imageVerdict t ≡ fine → (l : ℕ) → l < 2 → let i = decoded (contents t) in (first_of i l ≡ 0) × (howMany i l ≡ 0)
+LowZero = (t : List ℕ) → image_verdict t ≡ fine → (l : ℕ) → l < 2 → let i = decoded_image (contents t) in (first_of i l ≡ 0)
+    × (row_count_of i l ≡ 0)
 
 -- the buffers after success with count n:
 -- it is the number of labels, and of each label they hold its first row and how many rows it has, which are its rows and no others
 pub record Held (t firsts counts : List ℕ) (n : ℕ) : Type 0 where
-  pub accepted : imageVerdict t ≡ fine
-  pub labels : n ≡ length (decoded (contents t)).labels
-  pub first : (l : ℕ) → l < n → get_or firsts l 0 ≡ first_of (decoded (contents t)) l
-  pub number : (l : ℕ) → l < n → get_or counts l 0 ≡ howMany (decoded (contents t)) l
+  pub accepted : image_verdict t ≡ fine
+  pub labels : n ≡ length (decoded_image (contents t)).labels
+  pub first : (l : ℕ) → l < n → get_or firsts l 0 ≡ first_of (decoded_image (contents t)) l
+  pub number : (l : ℕ) → l < n → get_or counts l 0 ≡ row_count_of (decoded_image (contents t)) l
   pub exactly : (l k : ℕ) → l < n
-      → Own (decoded (contents t)) l k ↔ ((get_or firsts l 0 ≤ k) × (k < get_or firsts l 0 + get_or counts l 0))
+      → Own (decoded_image (contents t)) l k ↔ ((get_or firsts l 0 ≤ k) × (k < get_or firsts l 0 + get_or counts l 0))
 
 -- on a table that holds image i a tick looks at the frames from the one of label l's first row on, as many as the listing counts, and at
 -- the rows that it names
 pub record LooksAt (b : List ℕ) (i : Image) (l : ℕ) : Type 0 where
-  pub low : rows_from b ≤ firstOn b l
-  pub first : (howMany i l ≡ 0 → ⊥) → firstOn b l ≡ rows_from b + first_of i l
-  pub end : endOn b l ≡ firstOn b l + howMany i l
-  pub rows : rowsOn b l ≡ take (howMany i l) (drop (first_of i l) i.rows)
+  pub low : rows_from b ≤ first_on b l
+  pub first : (row_count_of i l ≡ 0 → ⊥) → first_on b l ≡ rows_from b + first_of i l
+  pub end : end_on b l ≡ first_on b l + row_count_of i l
+  pub rows : rows_on b l ≡ take (row_count_of i l) (drop (first_of i l) i.rows)
 
 unfoldable pub ListedFrames : Type 0
 ListedFrames =
-    (t : List ℕ) → imageVerdict t ≡ fine → (l : ℕ) → 2 ≤ l → l ≤ lastLabel (contents t)
-    → LooksAt (noted (contents t)) (decoded (contents t)) l
+    (t : List ℕ) → image_verdict t ≡ fine → (l : ℕ) → 2 ≤ l → l ≤ last_label (contents t)
+    → LooksAt (noted_table (contents t)) (decoded_image (contents t)) l

@@ -10,33 +10,33 @@ use borrow.Author.Tests.{ne_eqb}
 use Rattle.words.proofs.lists.Tests.{no-pick}
 use Rattle.text.specs.frames.Frame.{contents}
 use Rattle.text.specs.frames.Verdict.{Verdict, fine, refused}
-use Rattle.text.specs.frames.Answer.{refusal, reply, judged}
+use Rattle.text.specs.frames.Answer.{refusal, reply, verdict_reply}
 use Rattle.text.specs.declared.frames.Answer.{Answer}
 use Rattle.text.specs.declared.frames.Answer.TheVariants.{Refused}
 use Rattle.text.proofs.frames.Refuses.{RefusesWith}
 use Rattle.text.proofs.frames.Chains.{refused-verdict}
-use Rattle.image.specs.Decode.{decoded}
-use Rattle.image.specs.Check.{imageVerdict}
+use Rattle.image.specs.Decode.{decoded_image}
+use Rattle.image.specs.Check.{image_verdict}
 use Rattle.image.proofs.Refuses.{Early, early-image}
-use Rattle.tables.specs.Table.{table_end, badTable, tableImage}
+use Rattle.tables.specs.Table.{table_end, is_bad_table, table_image}
 use Rattle.tables.specs.inner.Asked.{front}
 use Rattle.tables.proofs.Made.{MadeTable}
 use Rattle.tables.proofs.Front.{front-image, cut-is}
 use Rattle.state.specs.declared.State.{State}
-use Rattle.state.specs.Bytes.{state_of, bytesOf}
+use Rattle.state.specs.Bytes.{state_of, bytes_of}
 use Rattle.runs.specs.declared.TickReport.{TickReport}
-use Rattle.runs.specs.Run.{RunOutcome, runVerdict, run}
-use Rattle.runs.specs.TickOutcome.{TickOutcome, tickOutcome, imageTick}
-use Rattle.runs.specs.machine.Live.{liveVerdict, liveRun, liveTick}
+use Rattle.runs.specs.Run.{RunOutcome, run_verdict, run}
+use Rattle.runs.specs.TickOutcome.{TickOutcome, tick_outcome, image_tick}
+use Rattle.runs.specs.machine.Live.{live_verdict, live_run, live_tick}
 use Rattle.runs.specs.InPlace.{GivesRunOn, GivesTickOn}
-use Rattle.runs.specs.inner.RunContracts.{tableRun}
-use Rattle.runs.proofs.RunCases.{keptRun, kept-runs}
+use Rattle.runs.specs.inner.RunContracts.{table_run}
+use Rattle.runs.proofs.RunCases.{kept_run, kept-runs}
 
 -- what a tick answers that is refused before it is tried
-abbrev keptAdvance : ℕ → ℕ → State → TickOutcome
-keptAdvance n j s = record { reply = refusal n j 0; mask = 0; code = 0; state = s }
+abbrev kept_advance : ℕ → ℕ → State → TickOutcome
+kept_advance n j s = record { reply = refusal n j 0; mask = 0; code = 0; state = s }
 
-kept-advances : (x : TickOutcome) (bytes : List ℕ) (n j : ℕ) (s : State) → x ≡ keptAdvance n j s
+kept-advances : (x : TickOutcome) (bytes : List ℕ) (n j : ℕ) (s : State) → x ≡ kept_advance n j s
     → 1 ≤ n → (a : Answer) → reply a ≡ refusal n j 0
     → GivesTickOn x bytes (record { answer = a; mask = 0; code = 0 }) bytes
 kept-advances x bytes n j s g l a e =
@@ -45,7 +45,7 @@ kept-advances x bytes n j s g l a e =
       answered = e;
       mask = refl;
       code = refl;
-      bytes = sym (no-pick (eqb n 0) (bytesOf s) bytes (ne_eqb n 0 (λ z. omega arith)));
+      bytes = sym (no-pick (eqb n 0) (bytes_of s) bytes (ne_eqb n 0 (λ z. omega arith)));
     })
 
 -- ---- live
@@ -54,41 +54,42 @@ module _ (b before : List ℕ) where
   s = state_of before
 
   module _ (ws ms ks : List ℕ) where
-    live-bad : badTable b ≡ true → liveRun b s ws ms ks ≡ keptRun 11 0 s ms ks
-    unfolding liveRun liveVerdict
+    live-bad : is_bad_table b ≡ true → live_run b s ws ms ks ≡ kept_run 11 0 s ms ks
+    unfolding live_run live_verdict
     live-bad e = rw e
 
-    live-good : badTable b ≡ false → tableRun (front b) s ws ms ks ≡ liveRun b s ws ms ks
-    unfolding liveRun liveVerdict tableRun
+    live-good : is_bad_table b ≡ false → table_run (front b) s ws ms ks ≡ live_run b s ws ms ks
+    unfolding live_run live_verdict table_run
     live-good e = rw (e, front-image b e)
 
-  module _ (t : Bool) (e : t ≡ badTable b) where
+  module _ (t : Bool) (e : t ≡ is_bad_table b) where
     pub live-refused : (ws ms ks : List ℕ) → t ≡ true → (a : Answer) → a ≡ Refused 11 0 0
-        → GivesRunOn (liveRun b s ws ms ks) before a before ms ks
+        → GivesRunOn (live_run b s ws ms ks) before a before ms ks
     live-refused ws ms ks h a q =
-        kept-runs (liveRun b s ws ms ks) before ms ks 11 0 s (live-bad ws ms ks (sym e ∙ h)) (omega arith) (omega arith) a (ap reply q)
+        kept-runs (live_run b s ws ms ks) before ms ks 11 0 s (live-bad ws ms ks (sym e ∙ h)) (omega arith) (omega arith) a (ap reply q)
 
     pub live-runs : (ws ms ks : List ℕ) (n : ℕ) → n ≡ 10 * table_end b → t ≡ false → (a : Answer) (after us vs : List ℕ)
-        → GivesRunOn (tableRun (take n b) s ws ms ks) before a after us vs → GivesRunOn (liveRun b s ws ms ks) before a after us vs
+        → GivesRunOn (table_run (take n b) s ws ms ks) before a after us vs → GivesRunOn (live_run b s ws ms ks) before a after us vs
     live-runs ws ms ks n q h a after us vs r =
         subst (λ (x : RunOutcome). GivesRunOn x before a after us vs)
-        (ap (λ (c : List ℕ). tableRun c s ws ms ks) (cut-is b n q) ∙ live-good ws ms ks (sym e ∙ h)) r
+        (ap (λ (c : List ℕ). table_run c s ws ms ks) (cut-is b n q) ∙ live-good ws ms ks (sym e ∙ h)) r
 
     module _ (w : ℕ) where
       pub live-stays : t ≡ true → (a : Answer) → a ≡ Refused 11 0 0
-          → GivesTickOn (liveTick b s w) before (record { answer = a; mask = 0; code = 0 }) before
-      unfolding liveTick
+          → GivesTickOn (live_tick b s w) before (record { answer = a; mask = 0; code = 0 }) before
+      unfolding live_tick
       live-stays h a q =
-          kept-advances (liveTick b s w) before 11 0 s (ap tickOutcome (live-bad (w ∷ []) (0 ∷ []) (0 ∷ []) (sym e ∙ h)))
+          kept-advances (live_tick b s w) before 11 0 s (ap tick_outcome (live-bad (w ∷ []) (0 ∷ []) (0 ∷ []) (sym e ∙ h)))
           (omega arith) a (ap reply q)
 
       pub live-advances : (n : ℕ) → n ≡ 10 * table_end b → t ≡ false → (r : TickReport) (after : List ℕ)
-          → GivesTickOn (tickOutcome (tableRun (take n b) s (w ∷ []) (0 ∷ []) (0 ∷ []))) before r after
-          → GivesTickOn (liveTick b s w) before r after
-      unfolding liveTick
+          → GivesTickOn (tick_outcome (table_run (take n b) s (w ∷ []) (0 ∷ []) (0 ∷ []))) before r after
+          → GivesTickOn (live_tick b s w) before r after
+      unfolding live_tick
       live-advances n q h r after x =
-          subst (λ (y : RunOutcome). GivesTickOn (tickOutcome y) before r after)
-          (ap (λ (c : List ℕ). tableRun c s (w ∷ []) (0 ∷ []) (0 ∷ [])) (cut-is b n q) ∙ live-good (w ∷ []) (0 ∷ []) (0 ∷ []) (sym e ∙ h)) x
+          subst (λ (y : RunOutcome). GivesTickOn (tick_outcome y) before r after)
+          (ap (λ (c : List ℕ). table_run c s (w ∷ []) (0 ∷ []) (0 ∷ [])) (cut-is b n q)
+          ∙ live-good (w ∷ []) (0 ∷ []) (0 ∷ []) (sym e ∙ h)) x
 
 -- ---- on an image
 module _ (t before : List ℕ) where
@@ -96,47 +97,47 @@ module _ (t before : List ℕ) where
   state₀ = state_of before
 
   module _ (ws ms ks : List ℕ) where
-    image-kept : (k j : ℕ) → imageVerdict t ≡ refused k j → run t state₀ ws ms ks ≡ keptRun k j state₀ ms ks
-    unfolding run runVerdict
+    image-kept : (k j : ℕ) → image_verdict t ≡ refused k j → run t state₀ ws ms ks ≡ kept_run k j state₀ ms ks
+    unfolding run run_verdict
     image-kept k j e = rw e
 
-    table_is : (b : List ℕ) → imageVerdict t ≡ fine → tableImage b ≡ decoded (contents t)
-        → tableRun b state₀ ws ms ks ≡ run t state₀ ws ms ks
-    unfolding run runVerdict tableRun
+    table_is : (b : List ℕ) → image_verdict t ≡ fine → table_image b ≡ decoded_image (contents t)
+        → table_run b state₀ ws ms ks ≡ run t state₀ ws ms ks
+    unfolding run run_verdict table_run
     table_is b e h = rw (e, h)
 
   -- the image check refuses with no number above 16
-  early : (k j : ℕ) → imageVerdict t ≡ refused k j → Early k
+  early : (k j : ℕ) → image_verdict t ≡ refused k j → Early k
   early k j e = subst (RefusesWith Early) e (early-image t)
 
-  module _ (a : Answer) (gives : reply a ≡ judged (imageVerdict t) 0) (k j m : ℕ) (e : a ≡ Refused k j m) where
-    verdict : imageVerdict t ≡ refused k j
-    verdict = (refused-verdict a (imageVerdict t) 0 gives k j m e).0
+  module _ (a : Answer) (gives : reply a ≡ verdict_reply (image_verdict t) 0) (k j m : ℕ) (e : a ≡ Refused k j m) where
+    verdict : image_verdict t ≡ refused k j
+    verdict = (refused-verdict a (image_verdict t) 0 gives k j m e).0
 
     told : reply a ≡ refusal k j 0
-    told = gives ∙ ap (λ (v : Verdict). judged v 0) verdict
+    told = gives ∙ ap (λ (v : Verdict). verdict_reply v 0) verdict
 
     pub image-refused : (ws ms ks : List ℕ) → GivesRunOn (run t state₀ ws ms ks) before a before ms ks
     image-refused ws ms ks =
         kept-runs (run t state₀ ws ms ks) before ms ks k j state₀ (image-kept ws ms ks k j verdict)
         (early k j verdict).0 (early k j verdict).1 a told
 
-    pub image-stays : (w : ℕ) → GivesTickOn (imageTick t state₀ w) before (record { answer = a; mask = 0; code = 0 }) before
-    unfolding imageTick
+    pub image-stays : (w : ℕ) → GivesTickOn (image_tick t state₀ w) before (record { answer = a; mask = 0; code = 0 }) before
+    unfolding image_tick
     image-stays w =
-        kept-advances (imageTick t state₀ w) before k j state₀ (ap tickOutcome (image-kept (w ∷ []) (0 ∷ []) (0 ∷ []) k j verdict))
+        kept-advances (image_tick t state₀ w) before k j state₀ (ap tick_outcome (image-kept (w ∷ []) (0 ∷ []) (0 ∷ []) k j verdict))
         (early k j verdict).0 a told
 
   module _ (b : List ℕ) (made : MadeTable t b) where
     pub image-runs : (ws ms ks : List ℕ) (a : Answer) (after us vs : List ℕ)
-        → GivesRunOn (tableRun b state₀ ws ms ks) before a after us vs → GivesRunOn (run t state₀ ws ms ks) before a after us vs
+        → GivesRunOn (table_run b state₀ ws ms ks) before a after us vs → GivesRunOn (run t state₀ ws ms ks) before a after us vs
     image-runs ws ms ks a after us vs r =
         subst (λ (x : RunOutcome). GivesRunOn x before a after us vs) (table_is ws ms ks b made.accepted made.holds) r
 
     pub image-advances : (w : ℕ) (r : TickReport) (after : List ℕ)
-        → GivesTickOn (tickOutcome (tableRun b state₀ (w ∷ []) (0 ∷ []) (0 ∷ []))) before r after
-        → GivesTickOn (imageTick t state₀ w) before r after
-    unfolding imageTick
+        → GivesTickOn (tick_outcome (table_run b state₀ (w ∷ []) (0 ∷ []) (0 ∷ []))) before r after
+        → GivesTickOn (image_tick t state₀ w) before r after
+    unfolding image_tick
     image-advances w r after x =
-        subst (λ (y : RunOutcome). GivesTickOn (tickOutcome y) before r after)
+        subst (λ (y : RunOutcome). GivesTickOn (tick_outcome y) before r after)
         (table_is (w ∷ []) (0 ∷ []) (0 ∷ []) b made.accepted made.holds) x

@@ -8,15 +8,15 @@ use lib.ListN.{length}
 use Rattle.words.specs.lists.Pick.{pick}
 use Rattle.words.proofs.lists.Tests.{no-pick}
 use Rattle.text.specs.frames.Verdict.{Verdict, fine, refused}
-use Rattle.text.specs.frames.Answer.{replyNumber, replied}
+use Rattle.text.specs.frames.Answer.{reply_number, counted_reply}
 use Rattle.image.specs.Image.{Image}
 use Rattle.state.specs.declared.State.{State}
-use Rattle.state.specs.Bytes.{state_of, bytesOf}
+use Rattle.state.specs.Bytes.{state_of, bytes_of}
 use Rattle.state.proofs.ResultBytes.{state-back, held-sized, held-bits, held_back}
 use Rattle.ticks.specs.Tick.{MachineTick, finished, stopped, tick}
-use Rattle.runs.specs.Run.{MachineRun, then, ticks, runOn}
-use Rattle.runs.specs.TickOutcome.{TickOutcome, tickOutcome}
-use Rattle.runs.specs.InPlace.{changesNothing, bytesAfter, ifTicked}
+use Rattle.runs.specs.Run.{MachineRun, then, ticks, run_on}
+use Rattle.runs.specs.TickOutcome.{TickOutcome, tick_outcome}
+use Rattle.runs.specs.InPlace.{is_without_change, bytes_after, if_ticked}
 use Rattle.ticks.proofs.Normal.{Same, Normal, tick-normal}
 use Rattle.runs.proofs.Normal.{Late, ticks-same, ticks-late}
 use Rattle.runs.proofs.RunCases.{late-writes}
@@ -26,12 +26,12 @@ module _ (b : List ℕ) where
   s = state_of b
 
   -- the bytes as they were, or those of the state that they hold
-  left : (t : Bool) → state_of (pick t b (bytesOf s)) ≡ s
+  left : (t : Bool) → state_of (pick t b (bytes_of s)) ≡ s
   left true = refl
   left false = held_back b
 
   -- a state whose lists are as long
-  back : (t : State) → Same s t → state_of (bytesOf t) ≡ t
+  back : (t : State) → Same s t → state_of (bytes_of t) ≡ t
   back t same = state-back t (same.sized (held-sized b)) (same.bits ∙ held-bits b)
 
   module _ (i : Image) (ws ms ks : List ℕ) where
@@ -39,37 +39,37 @@ module _ (b : List ℕ) where
     ran = ticks i s ws
 
     ran-held : (v : Verdict) → Late v → (n : ℕ)
-        → state_of (pick (changesNothing (replyNumber (replied v n))) b (bytesOf ran.state)) ≡ ran.state
+        → state_of (pick (is_without_change (reply_number (counted_reply v n))) b (bytes_of ran.state)) ≡ ran.state
     ran-held fine l n = back ran.state (ticks-same i ws s)
     ran-held (refused k j) l n =
-        ap state_of (no-pick (changesNothing k) b (bytesOf ran.state) (late-writes k l)) ∙ back ran.state (ticks-same i ws s)
+        ap state_of (no-pick (is_without_change k) b (bytes_of ran.state) (late-writes k l)) ∙ back ran.state (ticks-same i ws s)
 
-    pub run-held : (v : Verdict) → state_of (bytesAfter b (runOn v (λ _. ran) s ms ks)) ≡ (runOn v (λ _. ran) s ms ks).state
-    unfolding bytesAfter
-    run-held (refused k j) = left (changesNothing k)
+    pub run-held : (v : Verdict) → state_of (bytes_after b (run_on v (λ _. ran) s ms ks)) ≡ (run_on v (λ _. ran) s ms ks).state
+    unfolding bytes_after
+    run-held (refused k j) = left (is_without_change k)
     run-held fine = ran-held ran.verdict (ticks-late i ws s) (length ran.codes)
 
   -- a run of one word that is stopped hands back the state it was given
   module _ (i : Image) (w : ℕ) where
     abbrev one : Verdict → TickOutcome
-    one v = tickOutcome (runOn v (λ _. ticks i s (w ∷ [])) s (0 ∷ []) (0 ∷ []))
+    one v = tick_outcome (run_on v (λ _. ticks i s (w ∷ [])) s (0 ∷ []) (0 ∷ []))
 
-    pub tick-held : (v : Verdict) → state_of (ifTicked (one v) (bytesOf (one v).state) b) ≡ (one v).state
+    pub tick-held : (v : Verdict) → state_of (if_ticked (one v) (bytes_of (one v).state) b) ≡ (one v).state
     unfolding ticks
     tick-held (refused k j) = go (eqb k 0)
       where
-        go : (t : Bool) → state_of (pick t (bytesOf s) b) ≡ s
+        go : (t : Bool) → state_of (pick t (bytes_of s) b) ≡ s
         go true = held_back b
         go false = refl
     tick-held fine = go (tick i s w) (tick-normal i s w)
       where
         abbrev-run : MachineTick → TickOutcome
-        abbrev-run x = tickOutcome (runOn fine (λ _. then s (λ t. ticks i t []) x) s (0 ∷ []) (0 ∷ []))
+        abbrev-run x = tick_outcome (run_on fine (λ _. then s (λ t. ticks i t []) x) s (0 ∷ []) (0 ∷ []))
 
-        go : (x : MachineTick) → Normal s x → state_of (ifTicked (abbrev-run x) (bytesOf (abbrev-run x).state) b) ≡ (abbrev-run x).state
+        go : (x : MachineTick) → Normal s x → state_of (if_ticked (abbrev-run x) (bytes_of (abbrev-run x).state) b) ≡ (abbrev-run x).state
         go (finished m k t) n = back t n
         go (stopped k) n = stay (eqb k 0)
           where
-            stay : (t : Bool) → state_of (pick t (bytesOf s) b) ≡ s
+            stay : (t : Bool) → state_of (pick t (bytes_of s) b) ≡ s
             stay true = held_back b
             stay false = refl

@@ -6,33 +6,33 @@ use mathlib.Core.List.{List, [], ◌∷◌}
 use Rattle.text.specs.frames.Frame.{contents}
 use Rattle.text.specs.frames.Verdict.{Verdict, fine, next, when}
 use Rattle.image.specs.Image.{Image}
-use Rattle.image.specs.Decode.{decoded}
-use Rattle.image.specs.Check.{imageVerdict}
-use Rattle.tables.specs.Table.{badTable, tableImage}
+use Rattle.image.specs.Decode.{decoded_image}
+use Rattle.image.specs.Check.{image_verdict}
+use Rattle.tables.specs.Table.{is_bad_table, table_image}
 use Rattle.state.specs.declared.State.{State}
-use Rattle.fitness.specs.Fitness.{unfit}
-use Rattle.runs.specs.Run.{noRoom, ticks, runOn, run, runVerdict}
-use Rattle.runs.specs.TickOutcome.{tickOutcome, imageTick}
-use Rattle.runs.specs.machine.Live.{liveVerdict, liveRun, liveTick}
+use Rattle.fitness.specs.Fitness.{is_unfit}
+use Rattle.runs.specs.Run.{has_no_room, ticks, run_on, run, run_verdict}
+use Rattle.runs.specs.TickOutcome.{tick_outcome, image_tick}
+use Rattle.runs.specs.machine.Live.{live_verdict, live_run, live_tick}
 
 -- the bytes b hold the image that the text t says, and neither is refused
 pub record PreparedTable (t b : List ℕ) : Type 0 where
-  pub header : badTable b ≡ false
-  pub holds : tableImage b ≡ decoded (contents t)
-  pub accepted : imageVerdict t ≡ fine
+  pub header : is_bad_table b ≡ false
+  pub holds : table_image b ≡ decoded_image (contents t)
+  pub accepted : image_verdict t ≡ fine
 
 -- refusals 15 and 16
 abbrev tried : Image → State → List ℕ → List ℕ → List ℕ → Verdict
-tried i s words masks codes = next (when 15 (unfit i s)) λ _. when 16 (noRoom words masks codes)
+tried i s words masks codes = next (when 15 (is_unfit i s)) λ _. when 16 (has_no_room words masks codes)
 
 module _ {t b : List ℕ} (p : PreparedTable t b) where
-  pub live-run-is : (s : State) (ws ms ks : List ℕ) → liveRun b s ws ms ks ≡ run t s ws ms ks
-  unfolding liveRun liveVerdict run runVerdict
+  pub live-run-is : (s : State) (ws ms ks : List ℕ) → live_run b s ws ms ks ≡ run t s ws ms ks
+  unfolding live_run live_verdict run run_verdict
   live-run-is s ws ms ks =
-      ap₂ (λ (x : Bool) (i : Image). runOn (next (when 11 x) λ _. tried i s ws ms ks) (λ _. ticks i s ws) s ms ks) p.header p.holds
-      ∙ sym (ap (λ (v : Verdict). runOn (next v λ _. tried (decoded (contents t)) s ws ms ks)
-      (λ _. ticks (decoded (contents t)) s ws) s ms ks) p.accepted)
+      ap₂ (λ (x : Bool) (i : Image). run_on (next (when 11 x) λ _. tried i s ws ms ks) (λ _. ticks i s ws) s ms ks) p.header p.holds
+      ∙ sym (ap (λ (v : Verdict). run_on (next v λ _. tried (decoded_image (contents t)) s ws ms ks)
+      (λ _. ticks (decoded_image (contents t)) s ws) s ms ks) p.accepted)
 
-  pub live-tick-is : (s : State) (w : ℕ) → liveTick b s w ≡ imageTick t s w
-  unfolding liveTick imageTick
-  live-tick-is s w = ap tickOutcome (live-run-is s (w ∷ []) (0 ∷ []) (0 ∷ []))
+  pub live-tick-is : (s : State) (w : ℕ) → live_tick b s w ≡ image_tick t s w
+  unfolding live_tick image_tick
+  live-tick-is s w = ap tick_outcome (live-run-is s (w ∷ []) (0 ∷ []) (0 ∷ []))

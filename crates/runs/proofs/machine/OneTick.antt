@@ -6,60 +6,62 @@ use mathlib.Core.List.{List, [], ◌∷◌}
 use Rattle.text.specs.frames.Frame.{contents}
 use Rattle.text.specs.frames.Verdict.{Verdict, fine, refused, next, when}
 use Rattle.text.specs.frames.Answer.{success, refusal}
-use Rattle.image.specs.Decode.{decoded}
-use Rattle.image.specs.Check.{imageVerdict}
+use Rattle.image.specs.Decode.{decoded_image}
+use Rattle.image.specs.Check.{image_verdict}
 use Rattle.state.specs.declared.State.{State}
-use Rattle.fitness.specs.Fitness.{unfit}
+use Rattle.fitness.specs.Fitness.{is_unfit}
 use Rattle.ticks.specs.Tick.{MachineTick, finished, stopped, tick}
-use Rattle.runs.specs.Run.{RunOutcome, run, runVerdict, ticks}
-use Rattle.runs.specs.TickOutcome.{TickOutcome, tickOutcome, imageTick}
+use Rattle.runs.specs.Run.{RunOutcome, run, run_verdict, ticks}
+use Rattle.runs.specs.TickOutcome.{TickOutcome, tick_outcome, image_tick}
 
 -- what a run tries but 16: one word has room in one place
-abbrev pub triedBefore16 : List ℕ → State → Verdict
-triedBefore16 t s = next (imageVerdict t) λ _. when 15 (unfit (decoded (contents t)) s)
+abbrev pub verdict_before_16 : List ℕ → State → Verdict
+verdict_before_16 t s = next (image_verdict t) λ _. when 15 (is_unfit (decoded_image (contents t)) s)
 
 -- a refusal of any number counts 0 and leaves mask 0, code 0 and the state as it was
-abbrev pub advanceBy : State → Verdict → MachineTick → TickOutcome
-advanceBy s (refused k i) d = record { reply = refusal k i 0; mask = 0; code = 0; state = s }
-advanceBy s fine (stopped n) = record { reply = refusal n 0 0; mask = 0; code = 0; state = s }
-advanceBy s fine (finished m k s') = record { reply = success 1; mask = m; code = k; state = s' }
+abbrev pub advance_by : State → Verdict → MachineTick → TickOutcome
+advance_by s (refused k i) d = record { reply = refusal k i 0; mask = 0; code = 0; state = s }
+advance_by s fine (stopped n) = record { reply = refusal n 0 0; mask = 0; code = 0; state = s }
+advance_by s fine (finished m k s') = record { reply = success 1; mask = m; code = k; state = s' }
 
 -- the whole run of one word, with what the one place of each buffer held before it
-abbrev pub runOfWord : State → ℕ → ℕ → Verdict → MachineTick → RunOutcome
-runOfWord s m₀ k₀ (refused n i) d = record { reply = refusal n i 0; state = s; masks = m₀ ∷ []; codes = k₀ ∷ [] }
-runOfWord s m₀ k₀ fine (stopped n) = record { reply = refusal n 0 0; state = s; masks = m₀ ∷ []; codes = k₀ ∷ [] }
-runOfWord s m₀ k₀ fine (finished m k s') = record { reply = success 1; state = s'; masks = m ∷ []; codes = k ∷ [] }
+abbrev pub run_of_word : State → ℕ → ℕ → Verdict → MachineTick → RunOutcome
+run_of_word s m₀ k₀ (refused n i) d = record { reply = refusal n i 0; state = s; masks = m₀ ∷ []; codes = k₀ ∷ [] }
+run_of_word s m₀ k₀ fine (stopped n) = record { reply = refusal n 0 0; state = s; masks = m₀ ∷ []; codes = k₀ ∷ [] }
+run_of_word s m₀ k₀ fine (finished m k s') = record { reply = success 1; state = s'; masks = m ∷ []; codes = k ∷ [] }
 
 pub run-one : (t : List ℕ) (s : State) (w m₀ k₀ : ℕ)
-    → run t s (w ∷ []) (m₀ ∷ []) (k₀ ∷ []) ≡ runOfWord s m₀ k₀ (triedBefore16 t s) (tick (decoded (contents t)) s w)
-unfolding run runVerdict ticks
-run-one t s w m₀ k₀ = go (imageVerdict t) refl (unfit (decoded (contents t)) s) refl (tick (decoded (contents t)) s w) refl
+    → run t s (w ∷ []) (m₀ ∷ []) (k₀ ∷ []) ≡ run_of_word s m₀ k₀ (verdict_before_16 t s) (tick (decoded_image (contents t)) s w)
+unfolding run run_verdict ticks
+run-one t s w m₀ k₀ = go (image_verdict t) refl (is_unfit (decoded_image (contents t)) s) refl (tick (decoded_image (contents t)) s w) refl
   where
-    go : (v : Verdict) → imageVerdict t ≡ v → (b : Bool) → unfit (decoded (contents t)) s ≡ b → (d : MachineTick)
-        → tick (decoded (contents t)) s w ≡ d
-        → run t s (w ∷ []) (m₀ ∷ []) (k₀ ∷ []) ≡ runOfWord s m₀ k₀ (triedBefore16 t s) (tick (decoded (contents t)) s w)
+    go : (v : Verdict) → image_verdict t ≡ v → (b : Bool) → is_unfit (decoded_image (contents t)) s ≡ b → (d : MachineTick)
+        → tick (decoded_image (contents t)) s w ≡ d
+        → run t s (w ∷ []) (m₀ ∷ []) (k₀ ∷ []) ≡ run_of_word s m₀ k₀ (verdict_before_16 t s) (tick (decoded_image (contents t)) s w)
     go (refused k i) e b f d g = simp e
     go fine e true f d g = simp (e, f)
     go fine e false f (stopped n) g = simp (e, f, g)
     go fine e false f (finished m k s') g = simp (e, f, g)
 
-pub advance-by : (t : List ℕ) (s : State) (w : ℕ) → imageTick t s w ≡ advanceBy s (triedBefore16 t s) (tick (decoded (contents t)) s w)
-unfolding imageTick
-advance-by t s w = ap tickOutcome (run-one t s w 0 0) ∙ go (triedBefore16 t s) (tick (decoded (contents t)) s w)
+pub advance-by : (t : List ℕ) (s : State) (w : ℕ) → image_tick t s w
+    ≡ advance_by s (verdict_before_16 t s) (tick (decoded_image (contents t)) s w)
+unfolding image_tick
+advance-by t s w = ap tick_outcome (run-one t s w 0 0) ∙ go (verdict_before_16 t s) (tick (decoded_image (contents t)) s w)
   where
-    go : (v : Verdict) (d : MachineTick) → tickOutcome (runOfWord s 0 0 v d) ≡ advanceBy s v d
+    go : (v : Verdict) (d : MachineTick) → tick_outcome (run_of_word s 0 0 v d) ≡ advance_by s v d
     go (refused k i) d = refl
     go fine (stopped n) = refl
     go fine (finished m k s') = refl
 
 -- a run of one word over 0 and 0 hands back what the tick does
-abbrev pub ranOne : TickOutcome → RunOutcome
-ranOne x = record { reply = x.reply; state = x.state; masks = x.mask ∷ []; codes = x.code ∷ [] }
+abbrev pub run_of_tick : TickOutcome → RunOutcome
+run_of_tick x = record { reply = x.reply; state = x.state; masks = x.mask ∷ []; codes = x.code ∷ [] }
 
-pub run-advance : (t : List ℕ) (s : State) (w : ℕ) → run t s (w ∷ []) (0 ∷ []) (0 ∷ []) ≡ ranOne (imageTick t s w)
-run-advance t s w = run-one t s w 0 0 ∙ go (triedBefore16 t s) (tick (decoded (contents t)) s w) ∙ sym (ap ranOne (advance-by t s w))
+pub run-advance : (t : List ℕ) (s : State) (w : ℕ) → run t s (w ∷ []) (0 ∷ []) (0 ∷ []) ≡ run_of_tick (image_tick t s w)
+run-advance t s w =
+    run-one t s w 0 0 ∙ go (verdict_before_16 t s) (tick (decoded_image (contents t)) s w) ∙ sym (ap run_of_tick (advance-by t s w))
   where
-    go : (v : Verdict) (d : MachineTick) → runOfWord s 0 0 v d ≡ ranOne (advanceBy s v d)
+    go : (v : Verdict) (d : MachineTick) → run_of_word s 0 0 v d ≡ run_of_tick (advance_by s v d)
     go (refused k i) d = refl
     go fine (stopped n) = refl
     go fine (finished m k s') = refl

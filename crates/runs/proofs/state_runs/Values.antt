@@ -7,32 +7,32 @@ use Rattle.text.specs.frames.Frame.{contents}
 use Rattle.text.specs.frames.Verdict.{Verdict}
 use Rattle.text.specs.declared.frames.Answer.{Answer}
 use Rattle.image.specs.Image.{Image}
-use Rattle.image.specs.Decode.{decoded}
-use Rattle.tables.specs.Table.{tableImage}
+use Rattle.image.specs.Decode.{decoded_image}
+use Rattle.tables.specs.Table.{table_image}
 use Rattle.state.specs.declared.State.{State}
 use Rattle.state.specs.State.{Sized}
-use Rattle.state.specs.Bytes.{state_of, bytesOf}
+use Rattle.state.specs.Bytes.{state_of, bytes_of}
 use Rattle.state.proofs.ResultBytes.{state-back}
 use Rattle.runs.specs.declared.TickReport.{TickReport}
-use Rattle.runs.specs.Run.{GivesRun, ticks, runVerdict, runOn, run}
-use Rattle.runs.specs.TickOutcome.{GivesTick, tickOutcome, imageTick}
+use Rattle.runs.specs.Run.{GivesRun, ticks, run_verdict, run_on, run}
+use Rattle.runs.specs.TickOutcome.{GivesTick, tick_outcome, image_tick}
 use Rattle.runs.specs.InPlace.{GivesRunOn, GivesTickOn}
-use Rattle.runs.specs.machine.Live.{liveVerdict, liveRun, liveTick}
+use Rattle.runs.specs.machine.Live.{live_verdict, live_run, live_tick}
 use Rattle.runs.proofs.machine.Held.{run-held, tick-held}
 
 module _ (state : State) (sized : Sized state) (bits : length state.bits ≡ 16) where
-  same : state_of (bytesOf state) ≡ state
+  same : state_of (bytes_of state) ≡ state
   same = state-back state sized bits
 
-  module _ (bytes : List ℕ) (e : bytes ≡ bytesOf state) where
+  module _ (bytes : List ℕ) (e : bytes ≡ bytes_of state) where
     holds : state_of bytes ≡ state
     holds = ap state_of e ∙ same
 
     value-run : (i : Image) (v : State → Verdict) (ws ms ks : List ℕ) (a : Answer) (after us vs : List ℕ) (u : State) → u ≡ state_of after
-        → GivesRunOn (runOn (v (state_of bytes)) (λ _. ticks i (state_of bytes) ws) (state_of bytes) ms ks) bytes a after us vs
-        → GivesRun (runOn (v state) (λ _. ticks i state ws) state ms ks) (record { answer = a; state = u }) us vs
+        → GivesRunOn (run_on (v (state_of bytes)) (λ _. ticks i (state_of bytes) ws) (state_of bytes) ms ks) bytes a after us vs
+        → GivesRun (run_on (v state) (λ _. ticks i state ws) state ms ks) (record { answer = a; state = u }) us vs
     value-run i v ws ms ks a after us vs u q r =
-        subst (λ (s : State). GivesRun (runOn (v s) (λ _. ticks i s ws) s ms ks) (record { answer = a; state = u }) us vs) holds
+        subst (λ (s : State). GivesRun (run_on (v s) (λ _. ticks i s ws) s ms ks) (record { answer = a; state = u }) us vs) holds
         (record {
           answered = r.answered;
           state = q ∙ ap state_of r.bytes ∙ run-held bytes i ws ms ks (v (state_of bytes));
@@ -41,11 +41,12 @@ module _ (state : State) (sized : Sized state) (bits : length state.bits ≡ 16)
         })
 
     value-tick : (i : Image) (v : State → Verdict) (w : ℕ) (r : TickReport) (after : List ℕ) (u : State) → u ≡ state_of after
-        → GivesTickOn (tickOutcome (runOn (v (state_of bytes)) (λ _. ticks i (state_of bytes) (w ∷ [])) (state_of bytes) (0 ∷ []) (0 ∷ [])))
+        → GivesTickOn (tick_outcome (run_on (v (state_of bytes)) (λ _. ticks i (state_of bytes) (w ∷ [])) (state_of bytes) (0 ∷ [])
+        (0 ∷ [])))
         bytes r after
-        → GivesTick (tickOutcome (runOn (v state) (λ _. ticks i state (w ∷ [])) state (0 ∷ []) (0 ∷ []))) r u
+        → GivesTick (tick_outcome (run_on (v state) (λ _. ticks i state (w ∷ [])) state (0 ∷ []) (0 ∷ []))) r u
     value-tick i v w r after u q x =
-        subst (λ (s : State). GivesTick (tickOutcome (runOn (v s) (λ _. ticks i s (w ∷ [])) s (0 ∷ []) (0 ∷ []))) r u) holds
+        subst (λ (s : State). GivesTick (tick_outcome (run_on (v s) (λ _. ticks i s (w ∷ [])) s (0 ∷ []) (0 ∷ []))) r u) holds
         (record {
           answered = x.answered;
           mask = x.mask;
@@ -57,20 +58,20 @@ module _ (state : State) (sized : Sized state) (bits : length state.bits ≡ 16)
         → GivesRunOn (run t (state_of bytes) ws ms ks) bytes a after us vs
         → GivesRun (run t state ws ms ks) (record { answer = a; state = u }) us vs
     unfolding run
-    run_value t ws ms ks = value-run (decoded (contents t)) (λ s. runVerdict t s ws ms ks) ws ms ks
+    run_value t ws ms ks = value-run (decoded_image (contents t)) (λ s. run_verdict t s ws ms ks) ws ms ks
 
     pub live-run-value : (b ws ms ks : List ℕ) (a : Answer) (after us vs : List ℕ) (u : State) → u ≡ state_of after
-        → GivesRunOn (liveRun b (state_of bytes) ws ms ks) bytes a after us vs
-        → GivesRun (liveRun b state ws ms ks) (record { answer = a; state = u }) us vs
-    unfolding liveRun
-    live-run-value b ws ms ks = value-run (tableImage b) (λ s. liveVerdict b s ws ms ks) ws ms ks
+        → GivesRunOn (live_run b (state_of bytes) ws ms ks) bytes a after us vs
+        → GivesRun (live_run b state ws ms ks) (record { answer = a; state = u }) us vs
+    unfolding live_run
+    live-run-value b ws ms ks = value-run (table_image b) (λ s. live_verdict b s ws ms ks) ws ms ks
 
     pub tick-value : (t : List ℕ) (w : ℕ) (r : TickReport) (after : List ℕ) (u : State) → u ≡ state_of after
-        → GivesTickOn (imageTick t (state_of bytes) w) bytes r after → GivesTick (imageTick t state w) r u
-    unfolding imageTick run
-    tick-value t w = value-tick (decoded (contents t)) (λ s. runVerdict t s (w ∷ []) (0 ∷ []) (0 ∷ [])) w
+        → GivesTickOn (image_tick t (state_of bytes) w) bytes r after → GivesTick (image_tick t state w) r u
+    unfolding image_tick run
+    tick-value t w = value-tick (decoded_image (contents t)) (λ s. run_verdict t s (w ∷ []) (0 ∷ []) (0 ∷ [])) w
 
     pub live-tick-value : (b : List ℕ) (w : ℕ) (r : TickReport) (after : List ℕ) (u : State) → u ≡ state_of after
-        → GivesTickOn (liveTick b (state_of bytes) w) bytes r after → GivesTick (liveTick b state w) r u
-    unfolding liveTick liveRun
-    live-tick-value b w = value-tick (tableImage b) (λ s. liveVerdict b s (w ∷ []) (0 ∷ []) (0 ∷ [])) w
+        → GivesTickOn (live_tick b (state_of bytes) w) bytes r after → GivesTick (live_tick b state w) r u
+    unfolding live_tick live_run
+    live-tick-value b w = value-tick (table_image b) (λ s. live_verdict b s (w ∷ []) (0 ∷ []) (0 ∷ [])) w

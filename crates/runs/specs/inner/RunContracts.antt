@@ -3,13 +3,13 @@ use Rattle.std.specs.Prelude.{ℕ, zero, suc, ◌≤◌, ◌≡◌, List, length
 use Rattle.words.specs.lists.Sequences.{over}
 use Rattle.text.specs.declared.frames.refusals.TheConstants.{UNFIT, NO_ROOM}
 use Rattle.text.specs.frames.Verdict.{Verdict, fine, refused, next, when}
-use Rattle.tables.specs.Table.{tableImage}
+use Rattle.tables.specs.Table.{table_image}
 use Rattle.state.specs.declared.State.{State}
 use Rattle.state.specs.Bytes.{state_of}
-use Rattle.fitness.specs.Fitness.{unfit}
+use Rattle.fitness.specs.Fitness.{is_unfit}
 use Rattle.ticks.specs.inner.TickContracts.{TickAsked}
 use Rattle.runs.specs.declared.RunEnd.{RunEnd}
-use Rattle.runs.specs.Run.{RunOutcome, ticks, noRoom, runOn}
+use Rattle.runs.specs.Run.{RunOutcome, ticks, has_no_room, run_on}
 
 -- ---- room for a mask and a code a word, and what the ticks of a run ask
 pub record RunRoom (ws ms ks : List ℕ) : Type 0 where
@@ -21,20 +21,21 @@ pub record RunAsked (b : List ℕ) (s : State) (ws ms ks : List ℕ) : Type 0 wh
   pub room : RunRoom ws ms ks
 
 -- the verdict of a list of ticks by the number that ended it, 0 where every word had its tick
-abbrev pub verdictOf : ℕ → Verdict
-verdictOf zero = fine
-verdictOf (suc n) = refused (suc n) 0
+abbrev pub verdict_of : ℕ → Verdict
+verdict_of zero = fine
+verdict_of (suc n) = refused (suc n) 0
 
 -- what the ticks over the words answer and leave in the bytes and the buffers; where none was finished the bytes are as they were
 pub record GivesRunEnd (b before ws ms₀ ks₀ : List ℕ) (r : RunEnd) (bytes ms ks : List ℕ) : Type 0 where
-  pub verdict : verdictOf r.number ≡ (ticks (tableImage b) (state_of before) ws).verdict
-  pub count : r.count ≡ length (ticks (tableImage b) (state_of before) ws).codes
-  pub state : state_of bytes ≡ (ticks (tableImage b) (state_of before) ws).state
-  pub masks : ms ≡ over (ticks (tableImage b) (state_of before) ws).masks ms₀
-  pub codes : ks ≡ over (ticks (tableImage b) (state_of before) ws).codes ks₀
+  pub verdict : verdict_of r.number ≡ (ticks (table_image b) (state_of before) ws).verdict
+  pub count : r.count ≡ length (ticks (table_image b) (state_of before) ws).codes
+  pub state : state_of bytes ≡ (ticks (table_image b) (state_of before) ws).state
+  pub masks : ms ≡ over (ticks (table_image b) (state_of before) ws).masks ms₀
+  pub codes : ks ≡ over (ticks (table_image b) (state_of before) ws).codes ks₀
   pub kept : r.count ≡ 0 → bytes ≡ before
 
 -- a run on a table whose header holds
-unfoldable pub tableRun : List ℕ → State → List ℕ → List ℕ → List ℕ → RunOutcome
-tableRun b s ws ms ks =
-    runOn (next (when UNFIT (unfit (tableImage b) s)) λ _. when NO_ROOM (noRoom ws ms ks)) (λ _. ticks (tableImage b) s ws) s ms ks
+unfoldable pub table_run : List ℕ → State → List ℕ → List ℕ → List ℕ → RunOutcome
+table_run b s ws ms ks =
+    run_on (next (when UNFIT (is_unfit (table_image b) s)) λ _. when NO_ROOM (has_no_room ws ms ks))
+    (λ _. ticks (table_image b) s ws) s ms ks

@@ -2,21 +2,21 @@
 use Rattle.std.specs.Prelude.{ℕ, List, [], ◌∷◌}
 use Rattle.text.specs.declared.frames.refusals.TheConstants.{BAD_HEADER, UNFIT, NO_ROOM}
 use Rattle.text.specs.frames.Verdict.{Verdict, next, when}
-use Rattle.tables.specs.Table.{badTable, tableImage}
+use Rattle.tables.specs.Table.{is_bad_table, table_image}
 use Rattle.state.specs.declared.State.{State}
-use Rattle.fitness.specs.Fitness.{unfit}
-use Rattle.runs.specs.Run.{RunOutcome, noRoom, ticks, runOn}
-use Rattle.runs.specs.TickOutcome.{TickOutcome, tickOutcome}
+use Rattle.fitness.specs.Fitness.{is_unfit}
+use Rattle.runs.specs.Run.{RunOutcome, has_no_room, ticks, run_on}
+use Rattle.runs.specs.TickOutcome.{TickOutcome, tick_outcome}
 
 -- 11 by the header and the length alone, then 15 and 16 as in any run
-unfoldable pub liveVerdict : List ℕ → State → List ℕ → List ℕ → List ℕ → Verdict
-liveVerdict b s words masks codes =
-    next (when BAD_HEADER (badTable b)) λ _.
-    next (when UNFIT (unfit (tableImage b) s)) λ _.
-    when NO_ROOM (noRoom words masks codes)
+unfoldable pub live_verdict : List ℕ → State → List ℕ → List ℕ → List ℕ → Verdict
+live_verdict b s words masks codes =
+    next (when BAD_HEADER (is_bad_table b)) λ _.
+    next (when UNFIT (is_unfit (table_image b) s)) λ _.
+    when NO_ROOM (has_no_room words masks codes)
 
-unfoldable pub liveRun : List ℕ → State → List ℕ → List ℕ → List ℕ → RunOutcome
-liveRun b s words masks codes = runOn (liveVerdict b s words masks codes) (λ _. ticks (tableImage b) s words) s masks codes
+unfoldable pub live_run : List ℕ → State → List ℕ → List ℕ → List ℕ → RunOutcome
+live_run b s words masks codes = run_on (live_verdict b s words masks codes) (λ _. ticks (table_image b) s words) s masks codes
 
-unfoldable pub liveTick : List ℕ → State → ℕ → TickOutcome
-liveTick b s w = tickOutcome (liveRun b s (w ∷ []) (0 ∷ []) (0 ∷ []))
+unfoldable pub live_tick : List ℕ → State → ℕ → TickOutcome
+live_tick b s w = tick_outcome (live_run b s (w ∷ []) (0 ∷ []) (0 ∷ []))

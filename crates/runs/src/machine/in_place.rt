@@ -1,8 +1,8 @@
 // Runs and ticks on the bytes of a state that the caller keeps: on an image, and live on a prepared table.
 ghost use Rattle.state.specs.Bytes.{state_of};
 ghost use Rattle.runs.specs.Run.{run};
-ghost use Rattle.runs.specs.TickOutcome.{imageTick};
-ghost use Rattle.runs.specs.machine.Live.{liveRun, liveTick};
+ghost use Rattle.runs.specs.TickOutcome.{image_tick};
+ghost use Rattle.runs.specs.machine.Live.{live_run, live_tick};
 ghost use Rattle.runs.specs.InPlace.{GivesRunOn, GivesTickOn};
 
 use super::TickReport;
@@ -36,7 +36,7 @@ pub fn run_bytes(
 
 // One tick: what a run tries but 16.
 pub fn tick_bytes(image: &[u8], bytes: &mut [u8; STATE_BYTES], word: u16) -> TickReport
-    ensures { GivesTickOn (imageTick image.now (state_of bytes.old) word)
+    ensures { GivesTickOn (image_tick image.now (state_of bytes.old) word)
         bytes.old result bytes.new }
 {
     let mut table = [0u8; TABLE];
@@ -60,7 +60,7 @@ pub fn live_run_bytes(
     masks: &mut [u32],
     codes: &mut [u8],
 ) -> Answer
-    ensures { GivesRunOn (liveRun table.now (state_of bytes.old) words.now masks.old
+    ensures { GivesRunOn (live_run table.now (state_of bytes.old) words.now masks.old
         codes.old) bytes.old result bytes.new masks.new codes.new }
 {
     if bad_table(table) {
@@ -72,7 +72,7 @@ pub fn live_run_bytes(
 
 // One tick on a prepared table.
 pub fn live_tick_bytes(table: &[u8], bytes: &mut [u8; STATE_BYTES], word: u16) -> TickReport
-    ensures { GivesTickOn (liveTick table.now (state_of bytes.old) word)
+    ensures { GivesTickOn (live_tick table.now (state_of bytes.old) word)
         bytes.old result bytes.new }
 {
     if bad_table(table) {

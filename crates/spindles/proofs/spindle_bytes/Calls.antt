@@ -12,28 +12,29 @@ use Rattle.words.specs.lists.Pick.{pick}
 use Rattle.words.specs.lists.Sequences.{written}
 use Rattle.words.proofs.lists.Tests.{yes-pick, no-pick}
 use Rattle.text.specs.frames.Verdict.{Verdict, fine, refused, next, when}
-use Rattle.text.specs.frames.Answer.{replyNumber, reply}
+use Rattle.text.specs.frames.Answer.{reply_number, reply}
 use Rattle.text.proofs.frames.Refuses.{next-refuses, when-refuses}
-use Rattle.image.specs.Check.{imageVerdict}
-use Rattle.tables.specs.Table.{badTable}
+use Rattle.image.specs.Check.{image_verdict}
+use Rattle.tables.specs.Table.{is_bad_table}
 use Rattle.state.specs.declared.State.{State}
-use Rattle.state.specs.State.{noState}
-use Rattle.state.specs.Bytes.{state_of, bytesOf}
-use Rattle.runs.specs.TickOutcome.{TickOutcome, imageTick}
-use Rattle.runs.specs.machine.Live.{liveTick}
+use Rattle.state.specs.State.{no_state}
+use Rattle.state.specs.Bytes.{state_of, bytes_of}
+use Rattle.runs.specs.TickOutcome.{TickOutcome, image_tick}
+use Rattle.runs.specs.machine.Live.{live_tick}
 use Rattle.spindles.specs.declared.SpinReport.{SpinReport}
-use Rattle.spindles.specs.Spindles.{stateAt, SpinOutcome, spin, liveSpin}
-use Rattle.spindles.specs.inner.HeadAndTurn.{badSpinCall, refusedHead, GivesRefusedHead, TurnOutcome, turn}
-use Rattle.spindles.specs.inner.HeadAndTurn.{GivesTurnOn, fourDepths, headSpun, turnSpun, in_parts}
+use Rattle.spindles.specs.Spindles.{state_at, SpinOutcome, spin, live_spin}
+use Rattle.spindles.specs.inner.HeadAndTurn.{is_bad_spin_call, refused_head, GivesRefusedHead, TurnOutcome, turn}
+use Rattle.spindles.specs.inner.HeadAndTurn.{GivesTurnOn, four_depths, head_spun, turn_spun, spin_in_parts}
 use Rattle.spindles.proofs.InParts.{call-four, call-named, depth-most, head-refused, spin-parts, live-spin-parts}
 use Rattle.spindles.proofs.turning.Settled.{NumberedVerdict, image-numbered, table-numbered}
-use Rattle.spindles.specs.spindle_parts.FourStates.{part_of, statesOf, depthsIn}
-use Rattle.spindles.specs.spindle_bytes.Bytes.{bytesSpun, GivesSpinOn}
-use Rattle.spindles.specs.spindle_parts.inner.DepthBytes.{stateCount}
+use Rattle.spindles.specs.spindle_parts.FourStates.{part_of, states_of, depths_in}
+use Rattle.spindles.specs.spindle_bytes.Bytes.{bytes_spun, GivesSpinOn}
+use Rattle.spindles.specs.spindle_parts.inner.DepthBytes.{state_count}
 use Rattle.spindles.proofs.spindle_parts.States.{count-is, state-is, part_length, depths-are, part-back}
 
 -- ---- what a call that is no bad one tells of the bytes
-module _ (b : List ℕ) (n k : ℕ) (counted : n ≡ stateCount (length b)) (t : Bool) (tested : t ≡ badSpinCall n k) (good : t ≡ false) where
+module _ (b : List ℕ) (n k : ℕ) (counted : n ≡ state_count (length b)) (t : Bool) (tested : t ≡ is_bad_spin_call n k)
+    (good : t ≡ false) where
   pub bytes-long : length b ≡ 520
   bytes-long = go (eqb (length b) 520) refl (sym counted ∙ call-four n k (sym tested ∙ good))
     where
@@ -44,9 +45,9 @@ module _ (b : List ℕ) (n k : ℕ) (counted : n ≡ stateCount (length b)) (t :
   pub bytes-named : k < 4
   bytes-named = call-named n k (sym tested ∙ good)
 
-  pub turn-deep : (sum : ℕ) (part : List ℕ) → sum ≡ depthsIn b → part ≡ part_of b k → (state_of part).depth ≤ sum
+  pub turn-deep : (sum : ℕ) (part : List ℕ) → sum ≡ depths_in b → part ≡ part_of b k → (state_of part).depth ≤ sum
   turn-deep sum part e f =
-      let m : (stateAt (statesOf b) k).depth ≤ fourDepths (statesOf b) = depth-most (statesOf b) k bytes-named in
+      let m : (state_at (states_of b) k).depth ≤ four_depths (states_of b) = depth-most (states_of b) k bytes-named in
       let d : (state_of part).depth ≡ (state_of (part_of b k)).depth = ap (λ (l : List ℕ). (state_of l).depth) f in
       omega (arith, ap (λ (s : State). s.depth) (state-is b bytes-long k bytes-named), depths-are b bytes-long)
 
@@ -55,60 +56,60 @@ pub part-full : (b : List ℕ) → length b ≡ 520 → (k : ℕ) → k < 4
     → (y : TurnOutcome) (part part' : List ℕ) (r : SpinReport) → part ≡ part_of b k
     → GivesTurnOn y part r part'
     → 130 ≡ length part'
-unfolding bytesOf
-part-full b long k l y part part' r e z = sym (ap length z.bytes ∙ go (eqb (replyNumber y.reply) 0))
+unfolding bytes_of
+part-full b long k l y part part' r e z = sym (ap length z.bytes ∙ go (eqb (reply_number y.reply) 0))
   where
-    go : (t : Bool) → length (pick t (bytesOf y.state) part) ≡ 130
+    go : (t : Bool) → length (pick t (bytes_of y.state) part) ≡ 130
     go true = refl
     go false = ap length e ∙ part_length b long k l
 
 -- ---- a head that is refused
-head-numbered : (v : Verdict) (k : ℕ) → NumberedVerdict v → NumberedVerdict (refusedHead v k)
-unfolding refusedHead
+head-numbered : (v : Verdict) (k : ℕ) → NumberedVerdict v → NumberedVerdict (refused_head v k)
+unfolding refused_head
 head-numbered v k l =
     next-refuses (λ m. 1 ≤ m) (when 25 (ltb 3 k)) (λ _. next v λ _. refused 15 0) (when-refuses (λ m. 1 ≤ m) 25 (ltb 3 k) (omega arith))
     (next-refuses (λ m. 1 ≤ m) v (λ _. refused 15 0) l (omega arith))
 
 module _ (b : List ℕ) (taken k : ℕ) (r : SpinReport) where
   head-spins : (u : Verdict) → NumberedVerdict u → (u ≡ fine → ⊥) → GivesRefusedHead u taken r
-      → GivesSpinOn (headSpun u (statesOf b) taken) b k r b
-  unfolding bytesSpun
+      → GivesSpinOn (head_spun u (states_of b) taken) b k r b
+  unfolding bytes_spun
   head-spins fine l told z = absurd (told refl)
   head-spins (refused n i) l told z = record {
     answered = z.answered;
     mask = z.mask;
     code = z.code;
     taken = z.taken;
-    bytes = sym (no-pick (eqb n 0) (written b (130 * k) (bytesOf (stateAt (statesOf b) k))) b (ne_eqb n 0 (λ m. omega arith)));
+    bytes = sym (no-pick (eqb n 0) (written b (130 * k) (bytes_of (state_at (states_of b) k))) b (ne_eqb n 0 (λ m. omega arith)));
   }
 
   -- with the count of states as it is read
-  module _ (n : ℕ) (counted : n ≡ stateCount (length b)) (t : Bool) (tested : t ≡ badSpinCall n k) where
-    test-is : badSpinCall (length (statesOf b)) k ≡ t
-    test-is = ap (λ (m : ℕ). badSpinCall m k) (count-is b ∙ sym counted) ∙ sym tested
+  module _ (n : ℕ) (counted : n ≡ state_count (length b)) (t : Bool) (tested : t ≡ is_bad_spin_call n k) where
+    test-is : is_bad_spin_call (length (states_of b)) k ≡ t
+    test-is = ap (λ (m : ℕ). is_bad_spin_call m k) (count-is b ∙ sym counted) ∙ sym tested
 
-    head-by : t ≡ true → (v : Verdict) → NumberedVerdict v → (x : TickOutcome) → GivesRefusedHead (refusedHead v k) taken r
-        → GivesSpinOn (in_parts v (statesOf b) taken k x) b k r b
+    head-by : t ≡ true → (v : Verdict) → NumberedVerdict v → (x : TickOutcome) → GivesRefusedHead (refused_head v k) taken r
+        → GivesSpinOn (spin_in_parts v (states_of b) taken k x) b k r b
     head-by bad v l x z =
         subst (λ (y : SpinOutcome). GivesSpinOn y b k r b)
-        (sym (yes-pick (badSpinCall (length (statesOf b)) k) (headSpun (refusedHead v k) (statesOf b) taken)
-        (turnSpun (statesOf b) k (turn v (stateAt (statesOf b) k) (fourDepths (statesOf b)) taken x)) (test-is ∙ bad)))
-        (head-spins (refusedHead v k) (head-numbered v k l) (head-refused v k) z)
+        (sym (yes-pick (is_bad_spin_call (length (states_of b)) k) (head_spun (refused_head v k) (states_of b) taken)
+        (turn_spun (states_of b) k (turn v (state_at (states_of b) k) (four_depths (states_of b)) taken x)) (test-is ∙ bad)))
+        (head-spins (refused_head v k) (head-numbered v k l) (head-refused v k) z)
 
-    pub image-refused : t ≡ true → (image : List ℕ) (w : ℕ) → GivesRefusedHead (refusedHead (imageVerdict image) k) taken r
-        → GivesSpinOn (spin image (statesOf b) taken k w) b k r b
+    pub image-refused : t ≡ true → (image : List ℕ) (w : ℕ) → GivesRefusedHead (refused_head (image_verdict image) k) taken r
+        → GivesSpinOn (spin image (states_of b) taken k w) b k r b
     image-refused bad image w z =
-        subst (λ (y : SpinOutcome). GivesSpinOn y b k r b) (sym (spin-parts image (statesOf b) taken k w))
-        (head-by bad (imageVerdict image) (image-numbered image) (imageTick image (stateAt (statesOf b) k) w) z)
+        subst (λ (y : SpinOutcome). GivesSpinOn y b k r b) (sym (spin-parts image (states_of b) taken k w))
+        (head-by bad (image_verdict image) (image-numbered image) (image_tick image (state_at (states_of b) k) w) z)
 
-    pub table-refused : t ≡ true → (table : List ℕ) (w : ℕ) → GivesRefusedHead (refusedHead (when 11 (badTable table)) k) taken r
-        → GivesSpinOn (liveSpin table (statesOf b) taken k w) b k r b
+    pub table-refused : t ≡ true → (table : List ℕ) (w : ℕ) → GivesRefusedHead (refused_head (when 11 (is_bad_table table)) k) taken r
+        → GivesSpinOn (live_spin table (states_of b) taken k w) b k r b
     table-refused bad table w z =
-        subst (λ (y : SpinOutcome). GivesSpinOn y b k r b) (sym (live-spin-parts table (statesOf b) taken k w))
-        (head-by bad (when 11 (badTable table)) (table-numbered table) (liveTick table (stateAt (statesOf b) k) w) z)
+        subst (λ (y : SpinOutcome). GivesSpinOn y b k r b) (sym (live-spin-parts table (states_of b) taken k w))
+        (head-by bad (when 11 (is_bad_table table)) (table-numbered table) (live_tick table (state_at (states_of b) k) w) z)
 
     -- ---- the turn, put into the bytes
-    module _ (good : t ≡ false) (sum : ℕ) (summed : sum ≡ depthsIn b) (part part' after : List ℕ) (parted : part ≡ part_of b k)
+    module _ (good : t ≡ false) (sum : ℕ) (summed : sum ≡ depths_in b) (part part' after : List ℕ) (parted : part ≡ part_of b k)
         (put : after ≡ written b (130 * k) part') where
       long : length b ≡ 520
       long = bytes-long b n k counted t tested good
@@ -117,51 +118,51 @@ module _ (b : List ℕ) (taken k : ℕ) (r : SpinReport) where
       low = bytes-named b n k counted t tested good
 
       abbrev s : State
-      s = stateAt (statesOf b) k
+      s = state_at (states_of b) k
 
       is_held : state_of part ≡ s
       is_held = ap state_of parted ∙ sym (state-is b long k low)
 
       -- what is written of a turn
-      put-by : (y : TurnOutcome) → part' ≡ pick (eqb (replyNumber y.reply) 0) (bytesOf y.state) part
-          → after ≡ pick (eqb (replyNumber y.reply) 0) (written b (130 * k) (bytesOf y.state)) b
-      put-by y e = put ∙ ap (written b (130 * k)) e ∙ go (eqb (replyNumber y.reply) 0)
+      put-by : (y : TurnOutcome) → part' ≡ pick (eqb (reply_number y.reply) 0) (bytes_of y.state) part
+          → after ≡ pick (eqb (reply_number y.reply) 0) (written b (130 * k) (bytes_of y.state)) b
+      put-by y e = put ∙ ap (written b (130 * k)) e ∙ go (eqb (reply_number y.reply) 0)
         where
-          go : (u : Bool) → written b (130 * k) (pick u (bytesOf y.state) part) ≡ pick u (written b (130 * k) (bytesOf y.state)) b
+          go : (u : Bool) → written b (130 * k) (pick u (bytes_of y.state) part) ≡ pick u (written b (130 * k) (bytes_of y.state)) b
           go true = refl
           go false = ap (written b (130 * k)) parted ∙ part-back b long k low
 
-      turn-spins : (y : TurnOutcome) → GivesTurnOn y part r part' → GivesSpinOn (turnSpun (statesOf b) k y) b k r after
-      unfolding bytesSpun
+      turn-spins : (y : TurnOutcome) → GivesTurnOn y part r part' → GivesSpinOn (turn_spun (states_of b) k y) b k r after
+      unfolding bytes_spun
       turn-spins y z = record {
         answered = z.answered;
         mask = z.mask;
         code = z.code;
         taken = z.taken;
-        bytes = put-by y z.bytes ∙ ap (λ (u : State). pick (eqb (replyNumber y.reply) 0) (written b (130 * k) (bytesOf u)) b)
-            (sym (get_or-set_same (statesOf b) k y.state noState
+        bytes = put-by y z.bytes ∙ ap (λ (u : State). pick (eqb (reply_number y.reply) 0) (written b (130 * k) (bytes_of u)) b)
+            (sym (get_or-set_same (states_of b) k y.state no_state
             (omega (arith, count-is b, counted, call-four n k (sym tested ∙ good), low))));
       }
 
       turn_by : (v : Verdict) (go : State → TickOutcome) → GivesTurnOn (turn v (state_of part) sum taken (go (state_of part))) part r part'
-          → GivesSpinOn (in_parts v (statesOf b) taken k (go s)) b k r after
+          → GivesSpinOn (spin_in_parts v (states_of b) taken k (go s)) b k r after
       turn_by v go z =
           subst (λ (y : SpinOutcome). GivesSpinOn y b k r after)
-          (ap₂ (λ (u : State) (m : ℕ). turnSpun (statesOf b) k (turn v u m taken (go u))) is_held (summed ∙ sym (depths-are b long))
-          ∙ sym (no-pick (badSpinCall (length (statesOf b)) k) (headSpun (refusedHead v k) (statesOf b) taken)
-          (turnSpun (statesOf b) k (turn v s (fourDepths (statesOf b)) taken (go s))) (test-is ∙ good)))
+          (ap₂ (λ (u : State) (m : ℕ). turn_spun (states_of b) k (turn v u m taken (go u))) is_held (summed ∙ sym (depths-are b long))
+          ∙ sym (no-pick (is_bad_spin_call (length (states_of b)) k) (head_spun (refused_head v k) (states_of b) taken)
+          (turn_spun (states_of b) k (turn v s (four_depths (states_of b)) taken (go s))) (test-is ∙ good)))
           (turn-spins (turn v (state_of part) sum taken (go (state_of part))) z)
 
       pub image-spins : (image : List ℕ) (w : ℕ)
-          → GivesTurnOn (turn (imageVerdict image) (state_of part) sum taken (imageTick image (state_of part) w)) part r part'
-          → GivesSpinOn (spin image (statesOf b) taken k w) b k r after
+          → GivesTurnOn (turn (image_verdict image) (state_of part) sum taken (image_tick image (state_of part) w)) part r part'
+          → GivesSpinOn (spin image (states_of b) taken k w) b k r after
       image-spins image w z =
-          subst (λ (y : SpinOutcome). GivesSpinOn y b k r after) (sym (spin-parts image (statesOf b) taken k w))
-          (turn_by (imageVerdict image) (λ u. imageTick image u w) z)
+          subst (λ (y : SpinOutcome). GivesSpinOn y b k r after) (sym (spin-parts image (states_of b) taken k w))
+          (turn_by (image_verdict image) (λ u. image_tick image u w) z)
 
       pub table-spins : (table : List ℕ) (w : ℕ)
-          → GivesTurnOn (turn (when 11 (badTable table)) (state_of part) sum taken (liveTick table (state_of part) w)) part r part'
-          → GivesSpinOn (liveSpin table (statesOf b) taken k w) b k r after
+          → GivesTurnOn (turn (when 11 (is_bad_table table)) (state_of part) sum taken (live_tick table (state_of part) w)) part r part'
+          → GivesSpinOn (live_spin table (states_of b) taken k w) b k r after
       table-spins table w z =
-          subst (λ (y : SpinOutcome). GivesSpinOn y b k r after) (sym (live-spin-parts table (statesOf b) taken k w))
-          (turn_by (when 11 (badTable table)) (λ u. liveTick table u w) z)
+          subst (λ (y : SpinOutcome). GivesSpinOn y b k r after) (sym (live-spin-parts table (states_of b) taken k w))
+          (turn_by (when 11 (is_bad_table table)) (λ u. live_tick table u w) z)

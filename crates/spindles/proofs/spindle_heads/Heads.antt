@@ -7,26 +7,26 @@ use lib.Dec.{ltb, eqb}
 use lib.ListN.{get_or}
 use borrow.Author.Tests.{lt-ltb, le-ltb}
 use Rattle.text.specs.frames.Verdict.{Verdict, fine, refused, next, when}
-use Rattle.text.specs.frames.Answer.{refusal, reply, judged}
+use Rattle.text.specs.frames.Answer.{refusal, reply, verdict_reply}
 use Rattle.text.specs.declared.frames.Answer.{Answer}
 use Rattle.text.specs.declared.frames.Answer.TheVariants.{Refused}
 use Rattle.text.specs.frames.Frame.{contents}
-use Rattle.image.specs.Decode.{decoded}
-use Rattle.image.specs.Check.{imageVerdict}
+use Rattle.image.specs.Decode.{decoded_image}
+use Rattle.image.specs.Check.{image_verdict}
 use Rattle.state.specs.declared.State.{State}
-use Rattle.state.specs.State.{badSize}
+use Rattle.state.specs.State.{is_bad_size}
 use Rattle.state.specs.Bytes.{state_of}
-use Rattle.fitness.specs.Fitness.{badDepth, unfit}
+use Rattle.fitness.specs.Fitness.{has_bad_depth, is_unfit}
 use Rattle.fitness.proofs.FitCases.{unfit-depth}
-use Rattle.runs.specs.Run.{MachineRun, runOn, runVerdict, run}
-use Rattle.runs.specs.TickOutcome.{imageTick}
+use Rattle.runs.specs.Run.{MachineRun, run_on, run_verdict, run}
+use Rattle.runs.specs.TickOutcome.{image_tick}
 use Rattle.spindles.specs.declared.SpinReport.{SpinReport}
-use Rattle.spindles.specs.inner.HeadAndTurn.{refusedHead, GivesRefusedHead}
+use Rattle.spindles.specs.inner.HeadAndTurn.{refused_head, GivesRefusedHead}
 
 refuses : (u : Verdict) (taken n i : ℕ) → u ≡ refused n i → (a : Answer) → reply a ≡ refusal n i 0 → (r : SpinReport)
     → r ≡ record { answer = a; mask = 0; code = 0; taken = taken } → GivesRefusedHead u taken r
 refuses u taken n i e a f r g = record {
-  answered = ap (λ (x : SpinReport). reply x.answer) g ∙ f ∙ sym (ap (λ (v : Verdict). judged v 0) e);
+  answered = ap (λ (x : SpinReport). reply x.answer) g ∙ f ∙ sym (ap (λ (v : Verdict). verdict_reply v 0) e);
   mask = ap (λ (x : SpinReport). x.mask) g;
   code = ap (λ (x : SpinReport). x.code) g;
   taken = ap (λ (x : SpinReport). x.taken) g;
@@ -36,28 +36,29 @@ module _ (v : Verdict) (k taken : ℕ) where
   abbrev Told : Answer → SpinReport → Type 0
   Told a r = r ≡ record { answer = a; mask = 0; code = 0; taken = taken }
 
-  pub no-spindle : 3 < k → (a : Answer) → a ≡ Refused 25 0 0 → (r : SpinReport) → Told a r → GivesRefusedHead (refusedHead v k) taken r
-  unfolding refusedHead
+  pub no-spindle : 3 < k → (a : Answer) → a ≡ Refused 25 0 0 → (r : SpinReport) → Told a r → GivesRefusedHead (refused_head v k) taken r
+  unfolding refused_head
   no-spindle l a e =
-      refuses (refusedHead v k) taken 25 0 (ap (λ (t : Bool). next (when 25 t) λ _. next v λ _. refused 15 0) (lt-ltb 3 k l)) a (ap reply e)
+      refuses (refused_head v k) taken 25 0 (ap (λ (t : Bool). next (when 25 t) λ _. next v λ _. refused 15 0) (lt-ltb 3 k l)) a
+      (ap reply e)
 
   module _ (l : k ≤ 3) where
-    named : refusedHead v k ≡ next v λ _. refused 15 0
-    unfolding refusedHead
+    named : refused_head v k ≡ next v λ _. refused 15 0
+    unfolding refused_head
     named = ap (λ (t : Bool). next (when 25 t) λ _. next v λ _. refused 15 0) (le-ltb 3 k l)
 
     pub bad-image : (n i : ℕ) → v ≡ refused n i → (a : Answer) → reply a ≡ refusal n i 0 → (r : SpinReport) → Told a r
-        → GivesRefusedHead (refusedHead v k) taken r
-    bad-image n i e = refuses (refusedHead v k) taken n i (named ∙ ap (λ (u : Verdict). next u λ _. refused 15 0) e)
+        → GivesRefusedHead (refused_head v k) taken r
+    bad-image n i e = refuses (refused_head v k) taken n i (named ∙ ap (λ (u : Verdict). next u λ _. refused 15 0) e)
 
-    pub bad-list : v ≡ fine → (a : Answer) → a ≡ Refused 15 0 0 → (r : SpinReport) → Told a r → GivesRefusedHead (refusedHead v k) taken r
-    bad-list e a f = refuses (refusedHead v k) taken 15 0 (named ∙ ap (λ (u : Verdict). next u λ _. refused 15 0) e) a (ap reply f)
+    pub bad-list : v ≡ fine → (a : Answer) → a ≡ Refused 15 0 0 → (r : SpinReport) → Told a r → GivesRefusedHead (refused_head v k) taken r
+    bad-list e a f = refuses (refused_head v k) taken 15 0 (named ∙ ap (λ (u : Verdict). next u λ _. refused 15 0) e) a (ap reply f)
 
     -- by what a tick answers that is refused with what the image is, or 15
-    pub tick-refused : (a : Answer) → reply a ≡ judged (next v λ _. refused 15 0) 0 → (r : SpinReport) → Told a r
-        → GivesRefusedHead (refusedHead v k) taken r
+    pub tick-refused : (a : Answer) → reply a ≡ verdict_reply (next v λ _. refused 15 0) 0 → (r : SpinReport) → Told a r
+        → GivesRefusedHead (refused_head v k) taken r
     tick-refused a f r g = record {
-      answered = ap (λ (x : SpinReport). reply x.answer) g ∙ f ∙ sym (ap (λ (u : Verdict). judged u 0) named);
+      answered = ap (λ (x : SpinReport). reply x.answer) g ∙ f ∙ sym (ap (λ (u : Verdict). verdict_reply u 0) named);
       mask = ap (λ (x : SpinReport). x.mask) g;
       code = ap (λ (x : SpinReport). x.code) g;
       taken = ap (λ (x : SpinReport). x.taken) g;
@@ -66,15 +67,16 @@ module _ (v : Verdict) (k taken : ℕ) where
 module _ (s : State) (masks codes : List ℕ) (go : Unit {0} → MachineRun) (last : Verdict) where
   -- a run of a state that does not fit
   ran-unfit : (v : Verdict) (u : Bool) → u ≡ true
-      → (runOn (next v λ _. next (when 15 u) λ _. last) go s masks codes).reply ≡ judged (next v λ _. refused 15 0) 0
+      → (run_on (next v λ _. next (when 15 u) λ _. last) go s masks codes).reply ≡ verdict_reply (next v λ _. refused 15 0) 0
   ran-unfit (refused n i) u e = refl
-  ran-unfit fine u e = ap (λ (b : Bool). (runOn (next (when 15 b) λ _. last) go s masks codes).reply) e
+  ran-unfit fine u e = ap (λ (b : Bool). (run_on (next (when 15 b) λ _. last) go s masks codes).reply) e
 
 -- a state of no places fits no image
 pub no_size : (t b : List ℕ) (w : ℕ) → get_or b 0 0 ≡ 0
-    → (imageTick t (state_of b) w).reply ≡ judged (next (imageVerdict t) λ _. refused 15 0) 0
-unfolding imageTick run runVerdict state_of
+    → (image_tick t (state_of b) w).reply ≡ verdict_reply (next (image_verdict t) λ _. refused 15 0) 0
+unfolding image_tick run run_verdict state_of
 no_size t b w e =
     let s = state_of b in
-    let bad : badDepth s ≡ true = ap (λ (n : ℕ). badSize n || eqb s.depth 0 || ltb n s.depth) e in
-    ran-unfit s (0 ∷ []) (0 ∷ []) _ _ (imageVerdict t) (unfit (decoded (contents t)) s) (sym (unfit-depth (decoded (contents t)) s bad))
+    let bad : has_bad_depth s ≡ true = ap (λ (n : ℕ). is_bad_size n || eqb s.depth 0 || ltb n s.depth) e in
+    ran-unfit s (0 ∷ []) (0 ∷ []) _ _ (image_verdict t) (is_unfit (decoded_image (contents t)) s)
+    (sym (unfit-depth (decoded_image (contents t)) s bad))

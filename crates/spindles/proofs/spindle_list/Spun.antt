@@ -4,35 +4,36 @@ use Rattle.std.proofs.Math.ListN.{set}
 use Rattle.std.proofs.lemmas.List.{get_or_default}
 use Rattle.text.specs.frames.Verdict.{Verdict, fine, refused}
 use Rattle.state.specs.declared.State.{State}
-use Rattle.state.specs.State.{noState}
+use Rattle.state.specs.State.{no_state}
 use Rattle.runs.specs.TickOutcome.{TickOutcome}
 use Rattle.spindles.specs.declared.SpinReport.{SpinReport}
-use Rattle.spindles.specs.Spindles.{stateAt, GivesSpin}
-use Rattle.spindles.specs.inner.HeadAndTurn.{badSpinCall, refusedHead, GivesRefusedHead, turn, GivesTurn, fourDepths, headSpun, in_parts}
+use Rattle.spindles.specs.Spindles.{state_at, GivesSpin}
+use Rattle.spindles.specs.inner.HeadAndTurn.{is_bad_spin_call, refused_head, GivesRefusedHead, turn, GivesTurn, four_depths, head_spun}
+use Rattle.spindles.specs.inner.HeadAndTurn.{spin_in_parts}
 use Rattle.spindles.proofs.InParts.{head-refused, call-four, call-named}
 
 module _ (ys : List State) (taken k : ℕ) (r : SpinReport) where
-  head-spun : (u : Verdict) → (u ≡ fine → ⊥) → GivesRefusedHead u taken r → GivesSpin (headSpun u ys taken) r ys
+  head-spun : (u : Verdict) → (u ≡ fine → ⊥) → GivesRefusedHead u taken r → GivesSpin (head_spun u ys taken) r ys
   head-spun fine told z = absurd (told refl)
   head-spun (refused n i) told z = record { answered = z.answered; mask = z.mask; code = z.code; taken = z.taken; states = refl }
 
   module _ (v : Verdict) where
-    pub bad-spun : (x : TickOutcome) → badSpinCall (length ys) k ≡ true → GivesRefusedHead (refusedHead v k) taken r
-        → GivesSpin (in_parts v ys taken k x) r ys
-    bad-spun x e z = rw e (head-spun (refusedHead v k) (head-refused v k) z)
+    pub bad-spun : (x : TickOutcome) → is_bad_spin_call (length ys) k ≡ true → GivesRefusedHead (refused_head v k) taken r
+        → GivesSpin (spin_in_parts v ys taken k x) r ys
+    bad-spun x e z = rw e (head-spun (refused_head v k) (head-refused v k) z)
 
     -- the code reads a state with a default of its own
-    pub turn-spun : (f : State → TickOutcome) (d s : State) → badSpinCall (length ys) k ≡ false
+    pub turn-spun : (f : State → TickOutcome) (d s : State) → is_bad_spin_call (length ys) k ≡ false
         → GivesTurn
         (turn v (get_or ys k d) ((get_or ys 0 d).depth + (get_or ys 1 d).depth + (get_or ys 2 d).depth + (get_or ys 3 d).depth) taken
         (f (get_or ys k d))) r s
-        → GivesSpin (in_parts v ys taken k (f (stateAt ys k))) r (set ys k s)
+        → GivesSpin (spin_in_parts v ys taken k (f (state_at ys k))) r (set ys k s)
     turn-spun f d s e z =
         let n : length ys ≡ 4 = call-four (length ys) k e in
         let l : k < 4 = call-named (length ys) k e in
-        let at = λ (i : ℕ) (h : i < 4). get_or_default ys i noState d (omega arith) in
+        let at = λ (i : ℕ) (h : i < 4). get_or_default ys i no_state d (omega arith) in
         let deep = λ (i : ℕ) (h : i < 4). ap (λ (u : State). u.depth) (at i h) in
-        let sums : fourDepths ys ≡ (get_or ys 0 d).depth + (get_or ys 1 d).depth + (get_or ys 2 d).depth + (get_or ys 3 d).depth =
+        let sums : four_depths ys ≡ (get_or ys 0 d).depth + (get_or ys 1 d).depth + (get_or ys 2 d).depth + (get_or ys 3 d).depth =
         omega (arith, deep 0 (omega arith), deep 1 (omega arith), deep 2 (omega arith), deep 3 (omega arith)) in
-        let t : GivesTurn (turn v (stateAt ys k) (fourDepths ys) taken (f (stateAt ys k))) r s = rw (at k l, sums) z in
+        let t : GivesTurn (turn v (state_at ys k) (four_depths ys) taken (f (state_at ys k))) r s = rw (at k l, sums) z in
         rw e (record { answered = t.answered; mask = t.mask; code = t.code; taken = t.taken; states = ap (set ys k) t.state })

@@ -15,16 +15,16 @@ use Rattle.words.proofs.lists.Tests.{yes-pick}
 use Rattle.words.proofs.lists.Ranges.{map-count}
 use Rattle.state.specs.declared.State.{State}
 use Rattle.state.specs.Bytes.{state_of}
-use Rattle.spindles.specs.Spindles.{stateAt}
-use Rattle.spindles.specs.inner.HeadAndTurn.{fourDepths}
-use Rattle.spindles.specs.spindle_parts.FourStates.{part_of, statesOf, depthsIn}
-use Rattle.spindles.specs.spindle_parts.inner.DepthBytes.{stateCount}
+use Rattle.spindles.specs.Spindles.{state_at}
+use Rattle.spindles.specs.inner.HeadAndTurn.{four_depths}
+use Rattle.spindles.specs.spindle_parts.FourStates.{part_of, states_of, depths_in}
+use Rattle.spindles.specs.spindle_parts.inner.DepthBytes.{state_count}
 
 abbrev four : List ℕ → List State
 four b = state_of (part_of b 0) ∷ state_of (part_of b 1) ∷ state_of (part_of b 2) ∷ state_of (part_of b 3) ∷ []
 
-pub count-is : (b : List ℕ) → length (statesOf b) ≡ stateCount (length b)
-unfolding statesOf
+pub count-is : (b : List ℕ) → length (states_of b) ≡ state_count (length b)
+unfolding states_of
 count-is b = go (eqb (length b) 520)
   where
     go : (t : Bool) → length (pick t (four b) []) ≡ pick t 4 0
@@ -32,14 +32,14 @@ count-is b = go (eqb (length b) 520)
     go false = refl
 
 module _ (b : List ℕ) (long : length b ≡ 520) where
-  four_are : statesOf b ≡ four b
-  unfolding statesOf
+  four_are : states_of b ≡ four b
+  unfolding states_of
   four_are = yes-pick (eqb (length b) 520) (four b) [] (eq-eqb (length b) 520 long)
 
-  pub state-is : (k : ℕ) → k < 4 → stateAt (statesOf b) k ≡ state_of (part_of b k)
-  state-is k l = ap (λ (ss : List State). stateAt ss k) four_are ∙ go k l
+  pub state-is : (k : ℕ) → k < 4 → state_at (states_of b) k ≡ state_of (part_of b k)
+  state-is k l = ap (λ (ss : List State). state_at ss k) four_are ∙ go k l
     where
-      go : (j : ℕ) → j < 4 → stateAt (four b) j ≡ state_of (part_of b j)
+      go : (j : ℕ) → j < 4 → state_at (four b) j ≡ state_of (part_of b j)
       go zero m = refl
       go (suc zero) m = refl
       go (suc (suc zero)) m = refl
@@ -62,9 +62,9 @@ module _ (b : List ℕ) (long : length b ≡ 520) where
   unfolding state_of
   depth_is k = part_at k 1 (omega arith)
 
-  pub depths-are : fourDepths (statesOf b) ≡ depthsIn b
+  pub depths-are : four_depths (states_of b) ≡ depths_in b
   depths-are =
-      ap fourDepths four_are
+      ap four_depths four_are
       ∙ ap₂ (λ (x y : ℕ). x + y + (state_of (part_of b 2)).depth + (state_of (part_of b 3)).depth) (depth_is 0) (depth_is 1)
       ∙ ap₂ (λ (x y : ℕ). get_or b 1 0 + get_or b 131 0 + x + y) (depth_is 2) (depth_is 3)
 

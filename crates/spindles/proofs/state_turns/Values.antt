@@ -8,34 +8,34 @@ use lib.Dec.{eqb}
 use lib.ListN.{length}
 use Rattle.words.specs.lists.Pick.{pick}
 use Rattle.text.specs.frames.Verdict.{Verdict, fine, refused, next, when}
-use Rattle.text.specs.frames.Answer.{replyNumber}
-use Rattle.image.specs.Check.{imageVerdict}
-use Rattle.tables.specs.Table.{badTable}
+use Rattle.text.specs.frames.Answer.{reply_number}
+use Rattle.image.specs.Check.{image_verdict}
+use Rattle.tables.specs.Table.{is_bad_table}
 use Rattle.state.specs.declared.State.{State}
 use Rattle.state.specs.State.{Sized}
-use Rattle.state.specs.Bytes.{state_of, bytesOf}
+use Rattle.state.specs.Bytes.{state_of, bytes_of}
 use Rattle.state.proofs.ResultBytes.{state-back, held_back}
-use Rattle.runs.specs.TickOutcome.{TickOutcome, imageTick}
-use Rattle.runs.specs.machine.Live.{liveTick}
+use Rattle.runs.specs.TickOutcome.{TickOutcome, image_tick}
+use Rattle.runs.specs.machine.Live.{live_tick}
 use Rattle.spindles.specs.declared.SpinReport.{SpinReport}
-use Rattle.spindles.specs.Spindles.{findsNone}
-use Rattle.spindles.specs.inner.HeadAndTurn.{badRecord, stayed, turnOn, turn, GivesTurn, GivesTurnOn}
+use Rattle.spindles.specs.Spindles.{has_no_place}
+use Rattle.spindles.specs.inner.HeadAndTurn.{is_bad_record, unchanged_turn, turn_on, turn, GivesTurn, GivesTurnOn}
 use Rattle.spindles.proofs.turning.Settled.{Held, image-held, table-held}
 
 -- the bytes are those of the state, and what they then hold is handed back
 module _ (b : List ℕ) (v : Verdict) (sum taken : ℕ) (x : TickOutcome) (held : Held b x) where
-  left : (n : ℕ) → state_of (pick (eqb n 0) (bytesOf (state_of b)) b) ≡ state_of b
+  left : (n : ℕ) → state_of (pick (eqb n 0) (bytes_of (state_of b)) b) ≡ state_of b
   left n = go (eqb n 0)
     where
-      go : (t : Bool) → state_of (pick t (bytesOf (state_of b)) b) ≡ state_of b
+      go : (t : Bool) → state_of (pick t (bytes_of (state_of b)) b) ≡ state_of b
       go true = held_back b
       go false = refl
 
-  turn-held : let y = turn v (state_of b) sum taken x in state_of (pick (eqb (replyNumber y.reply) 0) (bytesOf y.state) b) ≡ y.state
+  turn-held : let y = turn v (state_of b) sum taken x in state_of (pick (eqb (reply_number y.reply) 0) (bytes_of y.state) b) ≡ y.state
   unfolding turn
-  turn-held = go (next v λ _. when 15 (badRecord sum taken))
+  turn-held = go (next v λ _. when 15 (is_bad_record sum taken))
     where
-      by : (t : Bool) → let y = pick t (stayed 26 0 (state_of b) taken)
+      by : (t : Bool) → let y = pick t (unchanged_turn 26 0 (state_of b) taken)
           (record {
             reply = x.reply;
             mask = x.mask;
@@ -44,17 +44,17 @@ module _ (b : List ℕ) (v : Verdict) (sum taken : ℕ) (x : TickOutcome) (held 
                 taken + x.state.depth - (state_of b).depth;
             state = x.state;
           }) in
-          state_of (pick (eqb (replyNumber y.reply) 0) (bytesOf y.state) b) ≡ y.state
+          state_of (pick (eqb (reply_number y.reply) 0) (bytes_of y.state) b) ≡ y.state
       by true = refl
       by false = held
 
       go : (u : Verdict)
-          → let y = turnOn u (state_of b) taken x in state_of (pick (eqb (replyNumber y.reply) 0) (bytesOf y.state) b) ≡ y.state
+          → let y = turn_on u (state_of b) taken x in state_of (pick (eqb (reply_number y.reply) 0) (bytes_of y.state) b) ≡ y.state
       go (refused n i) = left n
-      go fine = by (findsNone taken (state_of b) x)
+      go fine = by (has_no_place taken (state_of b) x)
 
 -- with the sum as the function has it
-module _ (state : State) (sized : Sized state) (bits : length state.bits ≡ 16) (bytes : List ℕ) (e : bytes ≡ bytesOf state)
+module _ (state : State) (sized : Sized state) (bits : length state.bits ≡ 16) (bytes : List ℕ) (e : bytes ≡ bytes_of state)
     (sum depths : ℕ) (summed : sum ≡ depths) where
   holds : state_of bytes ≡ state
   holds = ap state_of e ∙ state-back state sized bits
@@ -78,11 +78,11 @@ module _ (state : State) (sized : Sized state) (bits : length state.bits ≡ 16)
       }))
 
   pub image-value : (t : List ℕ) (taken w : ℕ) (r : SpinReport) (after : List ℕ) (u : State) → u ≡ state_of after
-      → GivesTurnOn (turn (imageVerdict t) (state_of bytes) sum taken (imageTick t (state_of bytes) w)) bytes r after
-      → GivesTurn (turn (imageVerdict t) state depths taken (imageTick t state w)) r u
-  image-value t taken w = value-turn (imageVerdict t) (λ s. imageTick t s w) (image-held t bytes w) taken
+      → GivesTurnOn (turn (image_verdict t) (state_of bytes) sum taken (image_tick t (state_of bytes) w)) bytes r after
+      → GivesTurn (turn (image_verdict t) state depths taken (image_tick t state w)) r u
+  image-value t taken w = value-turn (image_verdict t) (λ s. image_tick t s w) (image-held t bytes w) taken
 
   pub table-value : (b : List ℕ) (taken w : ℕ) (r : SpinReport) (after : List ℕ) (u : State) → u ≡ state_of after
-      → GivesTurnOn (turn (when 11 (badTable b)) (state_of bytes) sum taken (liveTick b (state_of bytes) w)) bytes r after
-      → GivesTurn (turn (when 11 (badTable b)) state depths taken (liveTick b state w)) r u
-  table-value b taken w = value-turn (when 11 (badTable b)) (λ s. liveTick b s w) (table-held b bytes w) taken
+      → GivesTurnOn (turn (when 11 (is_bad_table b)) (state_of bytes) sum taken (live_tick b (state_of bytes) w)) bytes r after
+      → GivesTurn (turn (when 11 (is_bad_table b)) state depths taken (live_tick b state w)) r u
+  table-value b taken w = value-turn (when 11 (is_bad_table b)) (λ s. live_tick b s w) (table-held b bytes w) taken

@@ -3,32 +3,32 @@ use Rattle.std.specs.Prelude.{ℕ, ◌+◌, ◌-◌, Bool, ◌||◌, not, ◌≡
 use Rattle.words.specs.lists.Pick.{pick}
 use Rattle.text.specs.declared.frames.refusals.TheConstants.{UNFIT, NO_SPINDLE, NO_PLACE}
 use Rattle.text.specs.frames.Verdict.{Verdict, fine, refused, next, when}
-use Rattle.text.specs.frames.Answer.{Reply, refusal, replyNumber, reply, judged}
+use Rattle.text.specs.frames.Answer.{Reply, refusal, reply_number, reply, verdict_reply}
 use Rattle.state.specs.declared.State.{State}
-use Rattle.state.specs.Bytes.{bytesOf}
+use Rattle.state.specs.Bytes.{bytes_of}
 use Rattle.runs.specs.TickOutcome.{TickOutcome}
 use Rattle.spindles.specs.declared.layout.TheConstants.{SPINDLES, STORE}
 use Rattle.spindles.specs.declared.SpinReport.{SpinReport}
-use Rattle.spindles.specs.Spindles.{stateAt, SpinOutcome, turnedBack, findsNone}
+use Rattle.spindles.specs.Spindles.{state_at, SpinOutcome, outcome_turned_back, has_no_place}
 
 -- not four states, or no such spindle
-abbrev pub badSpinCall : ℕ → ℕ → Bool
-badSpinCall n k = not (eqb n SPINDLES) || ltb 3 k
+abbrev pub is_bad_spin_call : ℕ → ℕ → Bool
+is_bad_spin_call n k = not (eqb n SPINDLES) || ltb 3 k
 
 -- the depths do not sum to the record, or it is above 64
-abbrev pub badRecord : ℕ → ℕ → Bool
-badRecord sum taken = not (eqb sum taken) || ltb STORE taken
+abbrev pub is_bad_record : ℕ → ℕ → Bool
+is_bad_record sum taken = not (eqb sum taken) || ltb STORE taken
 
 -- what a bad head is refused for: 25, then what the image or the table is, then 15
-unfoldable pub refusedHead : Verdict → ℕ → Verdict
-refusedHead v k =
+unfoldable pub refused_head : Verdict → ℕ → Verdict
+refused_head v k =
     next (when NO_SPINDLE (ltb 3 k)) λ _.
     next v λ _.
     refused UNFIT 0
 
 -- what a function that refuses it promises
 pub record GivesRefusedHead (v : Verdict) (recorded : ℕ) (r : SpinReport) : Type 0 where
-  pub answered : reply r.answer ≡ judged v 0
+  pub answered : reply r.answer ≡ verdict_reply v 0
   pub mask : r.mask ≡ 0
   pub code : r.code ≡ 0
   pub taken : r.taken ≡ recorded
@@ -41,21 +41,21 @@ pub record TurnOutcome : Type 0 where
   pub taken : ℕ
   pub state : State
 
-abbrev pub stayed : ℕ → ℕ → State → ℕ → TurnOutcome
-stayed n i s taken = record { reply = refusal n i 0; mask = 0; code = 0; taken = taken; state = s }
+abbrev pub unchanged_turn : ℕ → ℕ → State → ℕ → TurnOutcome
+unchanged_turn n i s taken = record { reply = refusal n i 0; mask = 0; code = 0; taken = taken; state = s }
 
-abbrev pub turnBy : State → ℕ → TickOutcome → TurnOutcome
-turnBy s taken x = pick (findsNone taken s x)
-    (stayed NO_PLACE 0 s taken)
+abbrev pub turn_by : State → ℕ → TickOutcome → TurnOutcome
+turn_by s taken x = pick (has_no_place taken s x)
+    (unchanged_turn NO_PLACE 0 s taken)
     (record { reply = x.reply; mask = x.mask; code = x.code; taken = taken + x.state.depth - s.depth; state = x.state })
 
-abbrev pub turnOn : Verdict → State → ℕ → TickOutcome → TurnOutcome
-turnOn (refused n i) s taken x = stayed n i s taken
-turnOn fine s taken x = turnBy s taken x
+abbrev pub turn_on : Verdict → State → ℕ → TickOutcome → TurnOutcome
+turn_on (refused n i) s taken x = unchanged_turn n i s taken
+turn_on fine s taken x = turn_by s taken x
 
 -- by the verdict on the image or the table, its state, the sum of the four depths, the record and its tick
 unfoldable pub turn : Verdict → State → ℕ → ℕ → TickOutcome → TurnOutcome
-turn v s sum taken x = turnOn (next v λ _. when UNFIT (badRecord sum taken)) s taken x
+turn v s sum taken x = turn_on (next v λ _. when UNFIT (is_bad_record sum taken)) s taken x
 
 -- what a function promises that makes a turn of a state, and of the bytes of one
 pub record GivesTurn (x : TurnOutcome) (r : SpinReport) (after : State) : Type 0 where
@@ -70,24 +70,24 @@ pub record GivesTurnOn (x : TurnOutcome) (before : List ℕ) (r : SpinReport) (a
   pub mask : r.mask ≡ x.mask
   pub code : r.code ≡ x.code
   pub taken : r.taken ≡ x.taken
-  pub bytes : after ≡ pick (eqb (replyNumber x.reply) 0) (bytesOf x.state) before
+  pub bytes : after ≡ pick (eqb (reply_number x.reply) 0) (bytes_of x.state) before
 
 -- ---- the two parts of a call
-abbrev pub depthAt : List State → ℕ → ℕ
-depthAt states k = (stateAt states k).depth
+abbrev pub depth_at : List State → ℕ → ℕ
+depth_at states k = (state_at states k).depth
 
-abbrev pub fourDepths : List State → ℕ
-fourDepths states = depthAt states 0 + depthAt states 1 + depthAt states 2 + depthAt states 3
+abbrev pub four_depths : List State → ℕ
+four_depths states = depth_at states 0 + depth_at states 1 + depth_at states 2 + depth_at states 3
 
-abbrev pub headSpun : Verdict → List State → ℕ → SpinOutcome
-headSpun fine states taken = turnedBack 0 0 states taken
-headSpun (refused n i) states taken = turnedBack n i states taken
+abbrev pub head_spun : Verdict → List State → ℕ → SpinOutcome
+head_spun fine states taken = outcome_turned_back 0 0 states taken
+head_spun (refused n i) states taken = outcome_turned_back n i states taken
 
 -- the list with the state that the turn left put in
-abbrev pub turnSpun : List State → ℕ → TurnOutcome → SpinOutcome
-turnSpun states k x = record { reply = x.reply; mask = x.mask; code = x.code; states = set states k x.state; taken = x.taken }
+abbrev pub turn_spun : List State → ℕ → TurnOutcome → SpinOutcome
+turn_spun states k x = record { reply = x.reply; mask = x.mask; code = x.code; states = set states k x.state; taken = x.taken }
 
-abbrev pub in_parts : Verdict → List State → ℕ → ℕ → TickOutcome → SpinOutcome
-in_parts v states taken k x = pick (badSpinCall (length states) k)
-    (headSpun (refusedHead v k) states taken)
-    (turnSpun states k (turn v (stateAt states k) (fourDepths states) taken x))
+abbrev pub spin_in_parts : Verdict → List State → ℕ → ℕ → TickOutcome → SpinOutcome
+spin_in_parts v states taken k x = pick (is_bad_spin_call (length states) k)
+    (head_spun (refused_head v k) states taken)
+    (turn_spun states k (turn v (state_at states k) (four_depths states) taken x))

@@ -2,18 +2,18 @@
 use Rattle.std.specs.Prelude.{ℕ, ◌*◌, ◌≡◌, List, eqb}
 use Rattle.words.specs.lists.Pick.{pick}
 use Rattle.words.specs.lists.Sequences.{written}
-use Rattle.text.specs.frames.Answer.{replyNumber, reply}
+use Rattle.text.specs.frames.Answer.{reply_number, reply}
 use Rattle.state.specs.declared.layout.TheConstants.{STATE_BYTES}
-use Rattle.state.specs.Bytes.{bytesOf}
+use Rattle.state.specs.Bytes.{bytes_of}
 use Rattle.spindles.specs.declared.SpinReport.{SpinReport}
-use Rattle.spindles.specs.Spindles.{stateAt, SpinOutcome}
+use Rattle.spindles.specs.Spindles.{state_at, SpinOutcome}
 
 -- a finished tick of spindle k writes the bytes of its state and no others; a refused one leaves all as they were
-abbrev pub ifSpun : {A : Type 0} → SpinOutcome → A → A → A
-ifSpun x new old = pick (eqb (replyNumber x.reply) 0) new old
+abbrev pub if_spun : {A : Type 0} → SpinOutcome → A → A → A
+if_spun x new old = pick (eqb (reply_number x.reply) 0) new old
 
-unfoldable pub bytesSpun : List ℕ → ℕ → SpinOutcome → List ℕ
-bytesSpun before k x = ifSpun x (written before (STATE_BYTES * k) (bytesOf (stateAt x.states k))) before
+unfoldable pub bytes_spun : List ℕ → ℕ → SpinOutcome → List ℕ
+bytes_spun before k x = if_spun x (written before (STATE_BYTES * k) (bytes_of (state_at x.states k))) before
 
 -- what a function over the bytes of four states promises
 pub record GivesSpinOn (x : SpinOutcome) (before : List ℕ) (k : ℕ) (r : SpinReport) (after : List ℕ) : Type 0 where
@@ -21,4 +21,4 @@ pub record GivesSpinOn (x : SpinOutcome) (before : List ℕ) (k : ℕ) (r : Spin
   pub mask : r.mask ≡ x.mask
   pub code : r.code ≡ x.code
   pub taken : r.taken ≡ x.taken
-  pub bytes : after ≡ bytesSpun before k x
+  pub bytes : after ≡ bytes_spun before k x

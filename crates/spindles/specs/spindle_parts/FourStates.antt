@@ -11,10 +11,10 @@ abbrev pub part_of : List ℕ → ℕ → List ℕ
 part_of b k = take STATE_BYTES (drop (STATE_BYTES * k) b)
 
 -- 520 bytes hold four states; any other number of bytes holds no list of four
-unfoldable pub statesOf : List ℕ → List State
-statesOf b = pick (eqb (length b) HEAD_BYTES)
+unfoldable pub states_of : List ℕ → List State
+states_of b = pick (eqb (length b) HEAD_BYTES)
     (state_of (part_of b 0) ∷ state_of (part_of b 1) ∷ state_of (part_of b 2) ∷ state_of (part_of b 3) ∷ []) []
 
 -- the sum of their depths
-abbrev pub depthsIn : List ℕ → ℕ
-depthsIn b = get_or b DEPTH 0 + get_or b (STATE_BYTES + DEPTH) 0 + get_or b (2 * STATE_BYTES + DEPTH) 0 + get_or b (3 * STATE_BYTES + DEPTH) 0
+abbrev pub depths_in : List ℕ → ℕ
+depths_in b = get_or b DEPTH 0 + get_or b (STATE_BYTES + DEPTH) 0 + get_or b (2 * STATE_BYTES + DEPTH) 0 + get_or b (3 * STATE_BYTES + DEPTH) 0

@@ -7,8 +7,8 @@ use borrow.Author.Count.{below_more}
 use lib.ListN.{length, get_or, set, length-set, get_or-replicate}
 use lib.Seq.{ext_get_or, get_or-set_same, get_or-set_other}
 use Rattle.state.specs.declared.State.{State}
-use Rattle.state.specs.State.{noPlaces}
-use Rattle.state.specs.Changes.{withOpened, withPlaces}
+use Rattle.state.specs.State.{no_places}
+use Rattle.state.specs.Changes.{with_opened, with_places}
 use Rattle.state.specs.Bytes.{state_of}
 use Rattle.state.proofs.ResultBytes.{held-sized}
 
@@ -29,15 +29,15 @@ zeros-turn xs k z h =
           (get_or-set_same xs k 0 0 (omega (arith, z.whole)));
     }
 
-zeros-all : (xs : List ℕ) (k : ℕ) → Zeros xs k → 32 ≤ k → xs ≡ noPlaces
+zeros-all : (xs : List ℕ) (k : ℕ) → Zeros xs k → 32 ≤ k → xs ≡ no_places
 zeros-all xs k z h =
-    ext_get_or 0 xs noPlaces z.whole
+    ext_get_or 0 xs no_places z.whole
     (λ j l. let low : j < 32 = omega (arith, z.whole) in z.passed j (omega arith) ∙ sym (get_or-replicate 32 j 0 0 low))
 
 -- s is s₀ but for its places with their numbers and servers, of which the first k are 0
 pub record Cleared (s₀ s : State) (k : ℕ) : Type 0 where
   pub low : k ≤ 32
-  pub same : s ≡ withPlaces s₀ s.places s.numbers s.servers
+  pub same : s ≡ with_places s₀ s.places s.numbers s.servers
   pub places : Zeros s.places k
   pub numbers : Zeros s.numbers k
   pub servers : Zeros s.servers k
@@ -54,19 +54,19 @@ cleared-none b =
     }
 
 module _ (s₀ s : State) (k : ℕ) (y : Cleared s₀ s k) where
-  pub cleared-turn : (t : State) → t ≡ withOpened s k 0 0 0 → k < 32 → Cleared s₀ t (k + 1)
+  pub cleared-turn : (t : State) → t ≡ with_opened s k 0 0 0 → k < 32 → Cleared s₀ t (k + 1)
   cleared-turn t e h =
       subst (λ (u : State). Cleared s₀ u (k + 1)) (sym e)
       (record {
         low = omega arith;
-        same = ap (λ (u : State). withOpened u k 0 0 0) y.same;
+        same = ap (λ (u : State). with_opened u k 0 0 0) y.same;
         places = zeros-turn _ k y.places h;
         numbers = zeros-turn _ k y.numbers h;
         servers = zeros-turn _ k y.servers h;
       })
 
-  pub cleared-all : 32 ≤ k → s ≡ withPlaces s₀ noPlaces noPlaces noPlaces
+  pub cleared-all : 32 ≤ k → s ≡ with_places s₀ no_places no_places no_places
   cleared-all h =
       y.same
-      ∙ ap (λ (x : List ℕ). withPlaces s₀ x s.numbers s.servers) (zeros-all _ k y.places h)
-      ∙ ap₂ (λ (x z : List ℕ). withPlaces s₀ noPlaces x z) (zeros-all _ k y.numbers h) (zeros-all _ k y.servers h)
+      ∙ ap (λ (x : List ℕ). with_places s₀ x s.numbers s.servers) (zeros-all _ k y.places h)
+      ∙ ap₂ (λ (x z : List ℕ). with_places s₀ no_places x z) (zeros-all _ k y.numbers h) (zeros-all _ k y.servers h)

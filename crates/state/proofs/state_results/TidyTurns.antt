@@ -14,7 +14,7 @@ use Rattle.words.specs.lists.Pick.{pick}
 use Rattle.words.specs.lists.Numbers.{range}
 use Rattle.words.proofs.lists.Ranges.{map-count}
 use Rattle.tables.proofs.RangeLaws.{map-alike}
-use Rattle.state.specs.Bytes.{resultByte, state_of, bytesOf}
+use Rattle.state.specs.Bytes.{result_byte, state_of, bytes_of}
 use Rattle.state.proofs.ResultBytes.{byte-is}
 use Rattle.state.proofs.ByteParts.{bit-read}
 
@@ -29,16 +29,16 @@ all-parts b e = sym (map-count (λ i. get_or b i 0) 0 b 0 130 (sym e) (λ i h. a
 
 -- the bytes of the state that b₀ holds, where b differs from b₀ in no other byte than those of the results
 bytes-are : (b₀ b : List ℕ) → length b ≡ 130 → ((j : ℕ) → j < 34 → get_or b j 0 ≡ get_or b₀ j 0) → ((j : ℕ) → 50 ≤ j → get_or b j 0 ≡ get_or b₀ j 0)
-    → ((j : ℕ) → j < 16 → get_or b (34 + j) 0 ≡ resultByte (state_of b₀) j) → b ≡ bytesOf (state_of b₀)
-unfolding bytesOf state_of
+    → ((j : ℕ) → j < 16 → get_or b (34 + j) 0 ≡ result_byte (state_of b₀) j) → b ≡ bytes_of (state_of b₀)
+unfolding bytes_of state_of
 bytes-are b₀ b e low high results =
     all-parts b e
     ∙ ap₂ (λ (x y : ℕ). x ∷ y ∷ (bytes_at b 2 32 ++ bytes_at b 34 16 ++ bytes_at b 50 16 ++ bytes_at b 66 32 ++ bytes_at b 98 32))
     (low 0 (omega arith)) (low 1 (omega arith))
     ∙ ap₂ (λ (x y : List ℕ). get_or b₀ 0 0 ∷ get_or b₀ 1 0 ∷ (x ++ y ++ bytes_at b 50 16 ++ bytes_at b 66 32 ++ bytes_at b 98 32))
     (map-alike (λ (k : ℕ). get_or b (2 + k) 0) (λ (k : ℕ). get_or b₀ (2 + k) 0) 0 32 (λ j from below. low (2 + j) (omega arith)))
-    (map-alike (λ (k : ℕ). get_or b (34 + k) 0) (resultByte (state_of b₀)) 0 16 (λ j from below. results j (omega arith)))
-    ∙ ap₂ (λ (x y : List ℕ). get_or b₀ 0 0 ∷ get_or b₀ 1 0 ∷ (bytes_at b₀ 2 32 ++ map (resultByte (state_of b₀)) (range 0 16) ++ x ++ y))
+    (map-alike (λ (k : ℕ). get_or b (34 + k) 0) (result_byte (state_of b₀)) 0 16 (λ j from below. results j (omega arith)))
+    ∙ ap₂ (λ (x y : List ℕ). get_or b₀ 0 0 ∷ get_or b₀ 1 0 ∷ (bytes_at b₀ 2 32 ++ map (result_byte (state_of b₀)) (range 0 16) ++ x ++ y))
     (map-alike (λ (k : ℕ). get_or b (50 + k) 0) (λ (k : ℕ). get_or b₀ (50 + k) 0) 0 16 (λ j from below. high (50 + j) (omega arith)))
     (ap₂ (λ (x y : List ℕ). x ++ y)
     (map-alike (λ (k : ℕ). get_or b (66 + k) 0) (λ (k : ℕ). get_or b₀ (66 + k) 0) 0 32 (λ j from below. high (66 + j) (omega arith)))
@@ -48,7 +48,7 @@ bytes-are b₀ b e low high results =
 pub record Tidied (b₀ b : List ℕ) (k : ℕ) : Type 0 where
   pub low : k ≤ 16
   pub size : length b ≡ length b₀
-  pub passed : (j : ℕ) → j < k → get_or b (34 + j) 0 ≡ resultByte (state_of b₀) j
+  pub passed : (j : ℕ) → j < k → get_or b (34 + j) 0 ≡ result_byte (state_of b₀) j
   pub before : (j : ℕ) → j < 34 → get_or b j 0 ≡ get_or b₀ j 0
   pub left : (j : ℕ) → 34 + k ≤ j → get_or b j 0 ≡ get_or b₀ j 0
 
@@ -56,7 +56,7 @@ module _ (b₀ : List ℕ) where
   pub tidied-none : Tidied b₀ b₀ 0
   tidied-none = record { low = omega arith; size = refl; passed = λ j h. absurd (omega arith); before = λ j h. refl; left = λ j h. refl }
 
-  byte-tidy : (k : ℕ) → k < 16 → bool_byte (not (eqb (get_or b₀ (34 + k) 0) 0)) ≡ resultByte (state_of b₀) k
+  byte-tidy : (k : ℕ) → k < 16 → bool_byte (not (eqb (get_or b₀ (34 + k) 0) 0)) ≡ result_byte (state_of b₀) k
   byte-tidy k l = byte-is (not (eqb (get_or b₀ (34 + k) 0) 0)) ∙ ap (λ (t : Bool). pick t 1 0) (bit-read b₀ k l)
 
   module _ (whole : length b₀ ≡ 130) (b : List ℕ) (k : ℕ) (t : Tidied b₀ b k) where
@@ -66,7 +66,7 @@ module _ (b₀ : List ℕ) where
         record {
           low = omega arith;
           size = length-set b (34 + k) v ∙ t.size;
-          passed = below_more (λ (j : ℕ). get_or (set b (34 + k) v) (34 + j) 0 ≡ resultByte (state_of b₀) j) k
+          passed = below_more (λ (j : ℕ). get_or (set b (34 + k) v) (34 + j) 0 ≡ result_byte (state_of b₀) j) k
               (λ j h. get_or-set_other b (34 + k) (34 + j) v 0 (λ q. omega arith) ∙ t.passed j h)
               (get_or-set_same b (34 + k) v 0 (omega (arith, t.size))
               ∙ ap (λ (x : ℕ). bool_byte (not (eqb x 0))) (t.left (34 + k) (omega arith)) ∙ byte-tidy k l);
@@ -74,6 +74,6 @@ module _ (b₀ : List ℕ) where
           left = λ j h. get_or-set_other b (34 + k) j v 0 (λ q. omega arith) ∙ t.left j (omega arith);
         }
 
-    pub tidied-all : 16 ≤ k → b ≡ bytesOf (state_of b₀)
+    pub tidied-all : 16 ≤ k → b ≡ bytes_of (state_of b₀)
     tidied-all h =
         bytes-are b₀ b (t.size ∙ whole) t.before (λ j l. t.left j (omega arith)) (λ j l. t.passed j (omega arith))

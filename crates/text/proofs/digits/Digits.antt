@@ -14,13 +14,13 @@ use Rattle.words.specs.lists.Pick.{pick}
 use Rattle.words.specs.lists.Numbers.{range, tabulate}
 use Rattle.words.proofs.lists.Tests.{and_l, and_r, split, cases, no-pick}
 use Rattle.words.proofs.lists.Tabulated.{get_d_tabulate}
-use Rattle.text.specs.digits.Digit.{numeralOf, letterOf, digitOf, charOf, capital}
+use Rattle.text.specs.digits.Digit.{numeral_of, letter_of, digit_of, char_of, capital}
 
 -- what each of the 256 characters gives, computed:
 -- 48 of them nothing, then 0 to 9, 7 nothing, A to F, 26 nothing, a to f, the others nothing
-pub digit-each : tabulate digitOf 256
+pub digit-each : tabulate digit_of 256
     ≡ replicate 48 255 ++ (range 0 10 ++ (replicate 7 255 ++ (range 10 6 ++ (replicate 26 255 ++ (range 10 6 ++ replicate 153 255)))))
-unfolding tabulate digitOf
+unfolding tabulate digit_of
 digit-each = refl
 
 -- functions that give the same of each of the 256
@@ -31,23 +31,23 @@ each f g e c h = sym (get_d_tabulate f 256 c h) ∙ ap (λ (xs : List ℕ). get_
 abbrev masked : ℕ → ℕ
 masked c = let letter = bit_and c 223 in pick (leb 65 letter && leb letter 70) (letter - 55) 255
 
-masked-each : tabulate masked 256 ≡ tabulate letterOf 256
+masked-each : tabulate masked 256 ≡ tabulate letter_of 256
 unfolding tabulate
 masked-each = refl
 
-pub masked-is : (c : ℕ) → c < 256 → masked c ≡ letterOf c
-masked-is = each masked letterOf masked-each
+pub masked-is : (c : ℕ) → c < 256 → masked c ≡ letter_of c
+masked-is = each masked letter_of masked-each
 
 -- what numerals and letters give, joined: no character is both
 abbrev joined : ℕ → ℕ
-joined c = bit_and (numeralOf c) (letterOf c)
+joined c = bit_and (numeral_of c) (letter_of c)
 
-joined-each : tabulate joined 256 ≡ tabulate digitOf 256
-unfolding tabulate digitOf
+joined-each : tabulate joined 256 ≡ tabulate digit_of 256
+unfolding tabulate digit_of
 joined-each = refl
 
-pub joined_is : (c : ℕ) → c < 256 → joined c ≡ digitOf c
-joined_is = each joined digitOf joined-each
+pub joined_is : (c : ℕ) → c < 256 → joined c ≡ digit_of c
+joined_is = each joined digit_of joined-each
 
 -- a test of two bounds
 pub within : (a b c : ℕ) → (leb a c && leb c b) ≡ true → (a ≤ c) × (c ≤ b)
@@ -56,16 +56,16 @@ within a b c h = (leb-true a c (and_l (leb a c) (leb c b) h), leb-true c b (and_
 pub above : (k a b c : ℕ) → (leb a c && leb c b) ≡ true → leb k a ≡ true → k ≤ c
 above k a b c h l = omega (arith, (within a b c h).0, leb-true k a l)
 
-pub digit_low : (c : ℕ) → 48 ≤ c → c ≤ 57 → digitOf c ≡ c - 48
-unfolding digitOf
+pub digit_low : (c : ℕ) → 48 ≤ c → c ≤ 57 → digit_of c ≡ c - 48
+unfolding digit_of
 digit_low c h l = simp (le-leb 48 c h, le-leb c 57 l)
 
-pub digit-high : (c : ℕ) → 65 ≤ c → c ≤ 70 → digitOf c ≡ c - 55
-unfolding digitOf
+pub digit-high : (c : ℕ) → 65 ≤ c → c ≤ 70 → digit_of c ≡ c - 55
+unfolding digit_of
 digit-high c h l = simp (lt-leb c 57 (omega arith), le-leb 48 c (omega arith), le-leb 65 c h, le-leb c 70 l)
 
-pub digit-of-small : (c : ℕ) → 97 ≤ c → c ≤ 102 → digitOf c ≡ c - 87
-unfolding digitOf
+pub digit-of-small : (c : ℕ) → 97 ≤ c → c ≤ 102 → digit_of c ≡ c - 87
+unfolding digit_of
 digit-of-small c h l =
     simp (
       lt-leb c 57 (omega arith),
@@ -95,10 +95,10 @@ pub data Class (c : ℕ) : Type 0 where
   numeral : 48 ≤ c → c ≤ 57 → Class c
   large : 65 ≤ c → c ≤ 70 → Class c
   small : 97 ≤ c → c ≤ 102 → Class c
-  other : digitOf c ≡ 255 → capital c ≡ c → Class c
+  other : digit_of c ≡ 255 → capital c ≡ c → Class c
 
 pub class_of : (c : ℕ) → Class c
-unfolding digitOf capital
+unfolding digit_of capital
 class_of c = go (cases (leb 48 c && leb c 57)) (cases (leb 65 c && leb c 70)) (cases (leb 97 c && leb c 102))
   where
     go : ((leb 48 c && leb c 57) ≡ true) ⊎ ((leb 48 c && leb c 57) ≡ false)
@@ -110,23 +110,23 @@ class_of c = go (cases (leb 48 c && leb c 57)) (cases (leb 65 c && leb c 70)) (c
     go (inr d) (inr e) (inr f) = other (no-pick _ _ _ d ∙ no-pick _ _ _ e ∙ no-pick _ _ _ f) (no-pick _ _ _ f)
 
 -- a character and its capital stand for the same digit
-pub digit-capital : (c : ℕ) → digitOf (capital c) ≡ digitOf c
+pub digit-capital : (c : ℕ) → digit_of (capital c) ≡ digit_of c
 digit-capital c = go (class_of c)
   where
-    go : Class c → digitOf (capital c) ≡ digitOf c
-    go (numeral h l) = ap digitOf (capital-same c (omega arith))
-    go (large h l) = ap digitOf (capital-same c (omega arith))
+    go : Class c → digit_of (capital c) ≡ digit_of c
+    go (numeral h l) = ap digit_of (capital-same c (omega arith))
+    go (large h l) = ap digit_of (capital-same c (omega arith))
     go (small h l) =
         let e : c - 32 - 55 ≡ c - 87 = omega arith in
-        ap digitOf (capital-of-small c h l) ∙ digit-high (c - 32) (omega arith) (omega arith) ∙ e ∙ sym (digit-of-small c h l)
-    go (other d s) = ap digitOf s
+        ap digit_of (capital-of-small c h l) ∙ digit-high (c - 32) (omega arith) (omega arith) ∙ e ∙ sym (digit-of-small c h l)
+    go (other d s) = ap digit_of s
 
-pub char-low : (d : ℕ) → d < 10 → charOf d ≡ 48 + d
-unfolding charOf
+pub char-low : (d : ℕ) → d < 10 → char_of d ≡ 48 + d
+unfolding char_of
 char-low d h = simp (lt-ltb d 10 h)
 
-pub char-high : (d : ℕ) → 10 ≤ d → charOf d ≡ 55 + d
-unfolding charOf
+pub char-high : (d : ℕ) → 10 ≤ d → char_of d ≡ 55 + d
+unfolding char_of
 char-high d h = simp (le-ltb d 10 h)
 
 -- a test as a number, and the character of a digit by it
@@ -134,34 +134,34 @@ pub test-small : (b : Bool) → bool_byte b ≤ 1
 test-small true = omega arith
 test-small false = omega arith
 
-pub char_made : (d : ℕ) → d + 48 + 7 * bool_byte (ltb 9 d) ≡ charOf d
+pub char_made : (d : ℕ) → d + 48 + 7 * bool_byte (ltb 9 d) ≡ char_of d
 char_made d =
     ⊎_elim (λ (l : d < 10). ap (λ (b : Bool). d + 48 + 7 * bool_byte b) (le-ltb 9 d (omega arith)) ∙ omega arith ∙ sym (char-low d l))
     (λ (l : 10 ≤ d). ap (λ (b : Bool). d + 48 + 7 * bool_byte b) (lt-ltb 9 d (omega arith)) ∙ omega arith ∙ sym (char-high d l))
     (split d 10)
 
-pub char-small : (d : ℕ) → d < 16 → charOf d < 128
+pub char-small : (d : ℕ) → d < 16 → char_of d < 128
 char-small d h =
     ⊎_elim (λ (l : d < 10). omega (arith, char-low d l)) (λ (l : 10 ≤ d). omega (arith, char-high d l)) (split d 10)
 
 -- both characters of a byte by one sum: of each of the 256 computed
-abbrev pub bothDigits : ℕ → ℕ
-bothDigits b = b / 16 + b % 16 * 256
+abbrev pub both_digits : ℕ → ℕ
+both_digits b = b / 16 + b % 16 * 256
 
 abbrev pub letters : ℕ → ℕ
-letters b = bit_and ((bothDigits b + 1542) / 16) 257
+letters b = bit_and ((both_digits b + 1542) / 16) 257
 
 pub letters-few : (b : ℕ) → letters b ≤ 257
-letters-few b = and_le_r ((bothDigits b + 1542) / 16) 257
+letters-few b = and_le_r ((both_digits b + 1542) / 16) 257
 
 abbrev summed : ℕ → ℕ
-summed b = bothDigits b + 12336 + 7 * letters b
+summed b = both_digits b + 12336 + 7 * letters b
 
 abbrev pair : ℕ → ℕ
-pair b = charOf (b / 16) + 256 * charOf (b % 16)
+pair b = char_of (b / 16) + 256 * char_of (b % 16)
 
 pair-each : tabulate summed 256 ≡ tabulate pair 256
-unfolding tabulate charOf
+unfolding tabulate char_of
 pair-each = refl
 
 pub pair_made : (b : ℕ) → b < 256 → summed b ≡ pair b
@@ -169,27 +169,27 @@ pair_made = each summed pair pair-each
 
 -- each of the two again
 module _ (b r : ℕ) (small : b < 256) (e : r ≡ pair b) where
-  pub pair-first : r % 256 ≡ charOf (b / 16)
+  pub pair-first : r % 256 ≡ char_of (b / 16)
   pair-first = omega (arith, char-small (b / 16) (omega arith))
 
-  pub pair-second : r / 256 ≡ charOf (b % 16)
+  pub pair-second : r / 256 ≡ char_of (b % 16)
   pair-second = omega (arith, char-small (b / 16) (omega arith))
 
-pub digit_char : (d : ℕ) → d < 16 → digitOf (charOf d) ≡ d
+pub digit_char : (d : ℕ) → d < 16 → digit_of (char_of d) ≡ d
 digit_char d h =
-    ⊎_elim (λ (l : d < 10). ap digitOf (char-low d l) ∙ digit_low (48 + d) (omega arith) (omega arith) ∙ omega arith)
-    (λ (l : 10 ≤ d). ap digitOf (char-high d l) ∙ digit-high (55 + d) (omega arith) (omega arith) ∙ omega arith)
+    ⊎_elim (λ (l : d < 10). ap digit_of (char-low d l) ∙ digit_low (48 + d) (omega arith) (omega arith) ∙ omega arith)
+    (λ (l : 10 ≤ d). ap digit_of (char-high d l) ∙ digit-high (55 + d) (omega arith) (omega arith) ∙ omega arith)
     (split d 10)
 
 -- the character of a character's digit is its capital
-pub char-digit : (c : ℕ) → digitOf c < 16 → charOf (digitOf c) ≡ capital c
+pub char-digit : (c : ℕ) → digit_of c < 16 → char_of (digit_of c) ≡ capital c
 char-digit c h = go (class_of c)
   where
-    go : Class c → charOf (digitOf c) ≡ capital c
+    go : Class c → char_of (digit_of c) ≡ capital c
     go (numeral a b) =
-        ap charOf (digit_low c a b) ∙ char-low (c - 48) (omega arith) ∙ omega (arith, capital-same c (omega arith))
+        ap char_of (digit_low c a b) ∙ char-low (c - 48) (omega arith) ∙ omega (arith, capital-same c (omega arith))
     go (large a b) =
-        ap charOf (digit-high c a b) ∙ char-high (c - 55) (omega arith) ∙ omega (arith, capital-same c (omega arith))
+        ap char_of (digit-high c a b) ∙ char-high (c - 55) (omega arith) ∙ omega (arith, capital-same c (omega arith))
     go (small a b) =
-        ap charOf (digit-of-small c a b) ∙ char-high (c - 87) (omega arith) ∙ omega (arith, capital-of-small c a b)
+        ap char_of (digit-of-small c a b) ∙ char-high (c - 87) (omega arith) ∙ omega (arith, capital-of-small c a b)
     go (other d s) = absurd (omega arith)

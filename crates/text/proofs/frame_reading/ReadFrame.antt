@@ -15,19 +15,19 @@ use lib.Seq.{get_or-set_same, get_or-set_other}
 use Rattle.words.specs.lists.Numbers.{any, sum, range}
 use Rattle.words.specs.lists.Sequences.{written}
 use Rattle.words.proofs.lists.Tests.{cases, split, yes-pick, no-pick, or-true-l, or_true_r, or-none}
-use Rattle.words.proofs.lists.Ranges.{getD-map-range}
+use Rattle.words.proofs.lists.Ranges.{get_or-map-range}
 use Rattle.words.proofs.lists.Searches.{any_some, any-true, any_false, any_none, any_snoc, sum-turn}
 use Rattle.words.proofs.lists.Fills.{ValuesFrom, values-none, values-turn, values-all}
-use Rattle.text.specs.digits.Digit.{digitOf}
+use Rattle.text.specs.digits.Digit.{digit_of}
 use Rattle.text.specs.frames.Frame.{byte_at}
-use Rattle.text.specs.frames.Check.{badForm, badSum}
-use Rattle.text.specs.frame_reading.inner.FrameReads.{storedOf, digitAt, DigitsRead, place_of, value_of}
+use Rattle.text.specs.frames.Check.{has_bad_form, has_bad_sum}
+use Rattle.text.specs.frame_reading.inner.FrameReads.{stored_bytes, digit_at, DigitsRead, place_of, value_of}
 use Rattle.text.specs.declared.frame_reading.FrameDigits.{FrameDigits}
 
 -- ---- its digits
 -- character k from an offset on is no digit
-abbrev pub noDigit : List ℕ → ℕ → ℕ → Bool
-noDigit t from k = leb 16 (digitAt t from k)
+abbrev pub is_no_digit : List ℕ → ℕ → ℕ → Bool
+is_no_digit t from k = leb 16 (digit_at t from k)
 
 -- one test more in each of two searches
 or-both : (a b x y : Bool) → (((a || b) || x) || y) ≡ ((a || x) || (b || y))
@@ -56,9 +56,9 @@ any-whole p = go (cases (any p 0 22))
 pub record Taken (t : List ℕ) (from : ℕ) (digits : List ℕ) (bad : Bool) (i : ℕ) : Type 0 where
   pub low : i ≤ 16
   pub size : length digits ≡ 32
-  pub front : (j : ℕ) → j < i → get_or digits j 0 ≡ digitAt t from j
-  pub back : (j : ℕ) → j < i → get_or digits (16 + j) 0 ≡ digitAt t from (6 + j)
-  pub form : bad ≡ (any (noDigit t from) 0 i || any (noDigit t from) 6 i)
+  pub front : (j : ℕ) → j < i → get_or digits j 0 ≡ digit_at t from j
+  pub back : (j : ℕ) → j < i → get_or digits (16 + j) 0 ≡ digit_at t from (6 + j)
+  pub form : bad ≡ (any (is_no_digit t from) 0 i || any (is_no_digit t from) 6 i)
 
 pub taken_none : (t : List ℕ) (from : ℕ) (digits : List ℕ) → length digits ≡ 32 → Taken t from digits false 0
 unfolding any
@@ -72,20 +72,20 @@ taken_none t from digits e = record {
 }
 
 module _ (t : List ℕ) (from : ℕ) (digits : List ℕ) (bad : Bool) (i : ℕ) (done : Taken t from digits bad i) where
-  pub taken-turn : (x y : ℕ) → i < 16 → x ≡ digitAt t from i → y ≡ digitAt t from (6 + i)
+  pub taken-turn : (x y : ℕ) → i < 16 → x ≡ digit_at t from i → y ≡ digit_at t from (6 + i)
       → Taken t from (set (set digits i x) (16 + i) y) ((bad || leb 16 x) || leb 16 y) (i + 1)
   taken-turn x y h e q =
-      let p : ℕ → Bool = noDigit t from in
+      let p : ℕ → Bool = is_no_digit t from in
       let one : List ℕ = set digits i x in
       let more : (m : ℕ) → any p m (i + 1) ≡ (any p m i || p (m + i)) = λ m. ap (any p m) (add-one i) ∙ any_snoc p m i in
       record {
         low = omega arith;
         size = length-set one (16 + i) y ∙ length-set digits i x ∙ done.size;
-        front = below_more (λ (j : ℕ). get_or (set one (16 + i) y) j 0 ≡ digitAt t from j) i
+        front = below_more (λ (j : ℕ). get_or (set one (16 + i) y) j 0 ≡ digit_at t from j) i
             (λ j l. get_or-set_other one (16 + i) j y 0 (λ r. omega arith)
             ∙ get_or-set_other digits i j x 0 (λ r. omega arith) ∙ done.front j l)
             (get_or-set_other one (16 + i) i y 0 (λ r. omega arith) ∙ get_or-set_same digits i x 0 (omega (arith, done.size)) ∙ e);
-        back = below_more (λ (j : ℕ). get_or (set one (16 + i) y) (16 + j) 0 ≡ digitAt t from (6 + j)) i
+        back = below_more (λ (j : ℕ). get_or (set one (16 + i) y) (16 + j) 0 ≡ digit_at t from (6 + j)) i
             (λ j l. get_or-set_other one (16 + i) (16 + j) y 0 (λ r. omega arith)
             ∙ get_or-set_other digits i (16 + j) x 0 (λ r. omega arith) ∙ done.back j l)
             (get_or-set_same one (16 + i) y 0 (omega (arith, done.size, length-set digits i x)) ∙ q);
@@ -101,7 +101,8 @@ module _ (t : List ℕ) (from : ℕ) (digits : List ℕ) (bad : Bool) (i : ℕ) 
         size = done.size;
         front = λ j l. done.front j (omega arith);
         back = λ j l. done.back j (omega arith);
-        form = done.form ∙ ap (λ (k : ℕ). any (noDigit t from) 0 k || any (noDigit t from) 6 k) all ∙ any-whole (noDigit t from);
+        form =
+            done.form ∙ ap (λ (k : ℕ). any (is_no_digit t from) 0 k || any (is_no_digit t from) 6 k) all ∙ any-whole (is_no_digit t from);
       }
 
 -- ---- its bytes
@@ -120,12 +121,12 @@ value_made digits k i e = ap (λ (j : ℕ). (16 * get_or digits j 0 + get_or dig
 
 -- the value of byte k is made of its own two characters
 module _ (t : List ℕ) (f : ℕ) (r : FrameDigits) (read : DigitsRead t (23 * f) r) where
-  value-is : (k i : ℕ) → place_of k ≡ i → get_or r.digits i 0 ≡ digitAt t (23 * f) (2 * k)
-      → get_or r.digits (i + 1) 0 ≡ digitAt t (23 * f) (2 * k + 1)
+  value-is : (k i : ℕ) → place_of k ≡ i → get_or r.digits i 0 ≡ digit_at t (23 * f) (2 * k)
+      → get_or r.digits (i + 1) 0 ≡ digit_at t (23 * f) (2 * k + 1)
       → value_of r.digits k ≡ stored t f k
   value-is k i p high low =
       sym (value_made r.digits k i (sym p))
-      ∙ ap₂ (λ (a b : ℕ). (16 * a + b) % 256) high (low ∙ ap (λ (j : ℕ). digitOf (get_or t j 0)) (omega arith))
+      ∙ ap₂ (λ (a b : ℕ). (16 * a + b) % 256) high (low ∙ ap (λ (j : ℕ). digit_of (get_or t j 0)) (omega arith))
 
   pub value-stored : (k : ℕ) → k < 11 → value_of r.digits k ≡ stored t f k
   value-stored k h = ⊎_elim low high (split k 8)
@@ -133,22 +134,22 @@ module _ (t : List ℕ) (f : ℕ) (r : FrameDigits) (read : DigitsRead t (23 * f
       low : k < 8 → value_of r.digits k ≡ stored t f k
       low l = value-is k (2 * k) (place-low k l) (read.front (2 * k) (omega arith)) (read.front (2 * k + 1) (omega arith))
 
-      back : (i j : ℕ) → i ≡ 16 + j → j < 16 → get_or r.digits i 0 ≡ digitAt t (23 * f) (6 + j)
+      back : (i j : ℕ) → i ≡ 16 + j → j < 16 → get_or r.digits i 0 ≡ digit_at t (23 * f) (6 + j)
       back i j e g = ap (λ (m : ℕ). get_or r.digits m 0) e ∙ read.back j g
 
       high : 8 ≤ k → value_of r.digits k ≡ stored t f k
       high l =
           value-is k (2 * k + 10) (place-high k l)
-          (back (2 * k + 10) (2 * k - 6) (omega arith) (omega arith) ∙ ap (digitAt t (23 * f)) (omega arith))
-          (back (2 * k + 10 + 1) (2 * k - 5) (omega arith) (omega arith) ∙ ap (digitAt t (23 * f)) (omega arith))
+          (back (2 * k + 10) (2 * k - 6) (omega arith) (omega arith) ∙ ap (digit_at t (23 * f)) (omega arith))
+          (back (2 * k + 10 + 1) (2 * k - 5) (omega arith) (omega arith) ∙ ap (digit_at t (23 * f)) (omega arith))
 
   pub values-at : (values : List ℕ) → values ≡ map (value_of r.digits) (range 0 11) → (k : ℕ) → k < 11 → get_or values k 0 ≡ stored t f k
   values-at values e k h =
-      ap (λ (xs : List ℕ). get_or xs k 0) e ∙ getD-map-range (value_of r.digits) 0 0 11 k h
+      ap (λ (xs : List ℕ). get_or xs k 0) e ∙ get_or-map-range (value_of r.digits) 0 0 11 k h
       ∙ ap (value_of r.digits) (zero-add k) ∙ value-stored k h
 
-  pub form-end : (r.form || not (eqb (get_or t (23 * f + 22) 0) 10)) ≡ badForm t f
-  unfolding badForm
+  pub form-end : (r.form || not (eqb (get_or t (23 * f + 22) 0) 10)) ≡ has_bad_form t f
+  unfolding has_bad_form
   form-end = ap (λ (x : Bool). x || not (eqb (get_or t (23 * f + 22) 0) 10)) read.form
 
 -- k bytes of ten are added and stored
@@ -180,10 +181,10 @@ module _ (t : List ℕ) (f : ℕ) (out₀ out : List ℕ) (total k : ℕ) (done 
     ten : k ≡ 10
     ten = omega (arith, done.values.low)
 
-    pub sum-end : (v : ℕ) → v ≡ stored t f 10 → not (eqb ((total + v) % 256) 0) ≡ badSum t f
-    unfolding badSum
+    pub sum-end : (v : ℕ) → v ≡ stored t f 10 → not (eqb ((total + v) % 256) 0) ≡ has_bad_sum t f
+    unfolding has_bad_sum
     sum-end v e =
         ap (λ (n : ℕ). not (eqb n 0)) (sum_more (byte_at t f) total 10 v (done.added ∙ ap (λ (i : ℕ). sum (byte_at t f) 0 i % 256) ten) e)
 
-    pub stored-end : out ≡ written out₀ (10 * f) (storedOf t f)
+    pub stored-end : out ≡ written out₀ (10 * f) (stored_bytes t f)
     stored-end = values-all (stored t f) out₀ (10 * f) 10 out k done.values h

@@ -9,19 +9,19 @@ use lib.ListN.{length, get_or, length-map}
 use borrow.Author.Tests.{ne_eqb}
 use Rattle.words.specs.lists.Pick.{pick}
 use Rattle.words.specs.lists.Numbers.{range, any, sum}
-use Rattle.words.specs.lists.Sequences.{concatMap, over}
-use Rattle.text.specs.digits.Digit.{digitOf, capital}
+use Rattle.words.specs.lists.Sequences.{concat_map, over}
+use Rattle.text.specs.digits.Digit.{digit_of, capital}
 use Rattle.text.proofs.digits.Digits.{Class, numeral, large, small, other, class_of, capital-same, capital-of-small, capital-at, digit-capital}
 use Rattle.text.specs.frames.Frame.{byte_at, contents}
-use Rattle.text.specs.frames.Verdict.{next, when, atLowest}
-use Rattle.text.specs.frames.Check.{badLength, badForm, badSum, textVerdict}
-use Rattle.text.specs.frames.inner.Read.{readInto}
+use Rattle.text.specs.frames.Verdict.{next, when, at_lowest}
+use Rattle.text.specs.frames.Check.{is_bad_length, has_bad_form, has_bad_sum, text_verdict}
+use Rattle.text.specs.frames.inner.Read.{read_buffer}
 
 -- all that is read of a text
 pub record ReadAlike (t u : List ℕ) : Type 0 where
-  pub verdict : (most : ℕ) → textVerdict most t ≡ textVerdict most u
+  pub verdict : (most : ℕ) → text_verdict most t ≡ text_verdict most u
   pub contents : contents t ≡ contents u
-  pub buffer : (most : ℕ) (old : List ℕ) → readInto most t old ≡ readInto most u old
+  pub buffer : (most : ℕ) (old : List ℕ) → read_buffer most t old ≡ read_buffer most u old
 
 -- a capital is no line feed where the character is none
 feed-capital : (c : ℕ) → eqb (capital c) 10 ≡ eqb c 10
@@ -38,43 +38,44 @@ module _ (t : List ℕ) where
   abbrev capitals : List ℕ
   capitals = map capital t
 
-  digit-same : (i : ℕ) → digitOf (get_or capitals i 0) ≡ digitOf (get_or t i 0)
-  digit-same i = ap digitOf (capital-at t i) ∙ digit-capital (get_or t i 0)
+  digit-same : (i : ℕ) → digit_of (get_or capitals i 0) ≡ digit_of (get_or t i 0)
+  digit-same i = ap digit_of (capital-at t i) ∙ digit-capital (get_or t i 0)
 
   byte-same : (f k : ℕ) → byte_at capitals f k ≡ byte_at t f k
   byte-same f k = ap₂ (λ (x y : ℕ). 16 * x + y) (digit-same (23 * f + 2 * k)) (digit-same (23 * f + 2 * k + 1))
 
-  form-same : (f : ℕ) → badForm capitals f ≡ badForm t f
-  unfolding badForm
+  form-same : (f : ℕ) → has_bad_form capitals f ≡ has_bad_form t f
+  unfolding has_bad_form
   form-same f =
       ap₂ (λ (p : ℕ → Bool) (b : Bool). any p 0 22 || not b) (fun_ext λ k. ap (leb 16) (digit-same (23 * f + k)))
       (ap (λ (c : ℕ). eqb c 10) (capital-at t (23 * f + 22)) ∙ feed-capital (get_or t (23 * f + 22) 0))
 
-  sum_same : (f : ℕ) → badSum capitals f ≡ badSum t f
-  unfolding badSum
+  sum_same : (f : ℕ) → has_bad_sum capitals f ≡ has_bad_sum t f
+  unfolding has_bad_sum
   sum_same f = ap (λ (b : ℕ → ℕ). not (eqb (sum b 0 11 % 256) 0)) (fun_ext (byte-same f))
 
   contents-same : contents capitals ≡ contents t
   unfolding contents
   contents-same =
-      ap₂ (λ (b : ℕ → ℕ → ℕ) (n : ℕ). concatMap (λ f. map (b f) (range 0 10)) (range 0 (n / 23)))
+      ap₂ (λ (b : ℕ → ℕ → ℕ) (n : ℕ). concat_map (λ f. map (b f) (range 0 10)) (range 0 (n / 23)))
       (fun_ext λ f. fun_ext (byte-same f)) (length-map t capital)
 
-  verdict-same : (most : ℕ) → textVerdict most capitals ≡ textVerdict most t
-  unfolding textVerdict
+  verdict-same : (most : ℕ) → text_verdict most capitals ≡ text_verdict most t
+  unfolding text_verdict
   verdict-same most =
       ap₂ (λ (form : ℕ → Bool) (sum : ℕ → Bool).
-      next (when 1 (badLength 23 most (length capitals))) λ _. next
-      (atLowest 2 form (length capitals / 23)) λ _. atLowest 3 sum (length capitals / 23))
+      next (when 1 (is_bad_length 23 most (length capitals))) λ _. next
+      (at_lowest 2 form (length capitals / 23)) λ _. at_lowest 3 sum (length capitals / 23))
       (fun_ext form-same) (fun_ext sum_same)
       ∙ ap (λ (n : ℕ).
-      next (when 1 (badLength 23 most n)) λ _. next (atLowest 2 (badForm t) (n / 23)) λ _. atLowest 3 (badSum t) (n / 23))
+      next (when 1 (is_bad_length 23 most n)) λ _. next (at_lowest 2 (has_bad_form t) (n / 23)) λ _. at_lowest 3 (has_bad_sum t) (n / 23))
       (length-map t capital)
 
-  buffer-same : (most : ℕ) (old : List ℕ) → readInto most capitals old ≡ readInto most t old
-  unfolding readInto
+  buffer-same : (most : ℕ) (old : List ℕ) → read_buffer most capitals old ≡ read_buffer most t old
+  unfolding read_buffer
   buffer-same most old =
-      ap₂ (λ (n : ℕ) (b : List ℕ). pick (badLength 23 most n) old (over (map (λ x. x % 256) b) old)) (length-map t capital) contents-same
+      ap₂ (λ (n : ℕ) (b : List ℕ). pick (is_bad_length 23 most n) old (over (map (λ x. x % 256) b) old))
+      (length-map t capital) contents-same
 
   pub capitals-alike : ReadAlike capitals t
   capitals-alike = record { verdict = verdict-same; contents = contents-same; buffer = buffer-same }

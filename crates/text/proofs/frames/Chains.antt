@@ -7,8 +7,8 @@ use lib.Dec.{ltb}
 use borrow.Author.Tests.{lt-ltb, le-ltb}
 use Rattle.words.specs.lists.Numbers.{lowest}
 use Rattle.words.proofs.lists.Tests.{yes-pick, no-pick}
-use Rattle.text.specs.frames.Verdict.{Verdict, fine, refused, next, when, atLowest}
-use Rattle.text.specs.frames.Answer.{success, refusal, replyCount, reply, replied, judged}
+use Rattle.text.specs.frames.Verdict.{Verdict, fine, refused, next, when, at_lowest}
+use Rattle.text.specs.frames.Answer.{success, refusal, reply_count, reply, counted_reply, verdict_reply}
 use Rattle.text.specs.declared.frames.Answer.{Answer}
 use Rattle.text.specs.declared.frames.Answer.TheVariants.{Done, Refused}
 
@@ -21,11 +21,11 @@ when-fails k b e = ap (when k) e
 
 -- a search that ended at r, before the end or not
 module _ (k : ℕ) (p : ℕ → Bool) (n r : ℕ) (found : r ≡ lowest p 0 n) where
-  pub lowest-refused : r < n → atLowest k p n ≡ refused k r
+  pub lowest-refused : r < n → at_lowest k p n ≡ refused k r
   lowest-refused h =
       yes-pick (ltb (lowest p 0 n) n) (refused k (lowest p 0 n)) fine (lt-ltb (lowest p 0 n) n (omega arith)) ∙ ap (refused k) (sym found)
 
-  pub lowest-fine : n ≤ r → atLowest k p n ≡ fine
+  pub lowest-fine : n ≤ r → at_lowest k p n ≡ fine
   lowest-fine h = no-pick (ltb (lowest p 0 n) n) (refused k (lowest p 0 n)) fine (le-ltb (lowest p 0 n) n (omega arith))
 
 -- ---- the chain
@@ -42,33 +42,33 @@ module _ (v : Verdict) (rest : Unit {0} → Verdict) where
 pub no-success : {A : Type 0} (k i m n : ℕ) → refusal k i m ≡ success n → A
 no-success k i m n e = absurd (let z : ◌≡◌ {A = ℕ} 0 1 = cc in omega arith)
 
-pub replied-count : (v : Verdict) (n : ℕ) → replyCount (replied v n) ≡ n
+pub replied-count : (v : Verdict) (n : ℕ) → reply_count (counted_reply v n) ≡ n
 replied-count fine n = refl
 replied-count (refused k i) n = refl
 
 -- ---- the answer
-pub judged-refused : (v : Verdict) (k i n : ℕ) → v ≡ refused k i → refusal k i 0 ≡ judged v n
-judged-refused v k i n e = sym (ap (λ w. judged w n) e)
+pub judged-refused : (v : Verdict) (k i n : ℕ) → v ≡ refused k i → refusal k i 0 ≡ verdict_reply v n
+judged-refused v k i n e = sym (ap (λ w. verdict_reply w n) e)
 
 -- the same through the function that makes a refusal
-pub refused-judged : (a : Answer) (v : Verdict) (k i n : ℕ) → a ≡ Refused k i 0 → v ≡ refused k i → reply a ≡ judged v n
+pub refused-judged : (a : Answer) (v : Verdict) (k i n : ℕ) → a ≡ Refused k i 0 → v ≡ refused k i → reply a ≡ verdict_reply v n
 refused-judged a v k i n e q = ap reply e ∙ judged-refused v k i n q
 
-pub judged-fine : (v : Verdict) (n : ℕ) → v ≡ fine → success n ≡ judged v n
-judged-fine v n e = sym (ap (λ w. judged w n) e)
+pub judged-fine : (v : Verdict) (n : ℕ) → v ≡ fine → success n ≡ verdict_reply v n
+judged-fine v n e = sym (ap (λ w. verdict_reply w n) e)
 
 -- an answer that is Done, or Refused: what it tells of the verdict
-module _ (a : Answer) (v : Verdict) (n : ℕ) (gives : reply a ≡ judged v n) where
+module _ (a : Answer) (v : Verdict) (n : ℕ) (gives : reply a ≡ verdict_reply v n) where
   pub done-fine : (m : ℕ) → a ≡ Done m → (v ≡ fine) × (m ≡ n)
   done-fine m e = go v (sym (ap reply e) ∙ gives)
     where
-      go : (w : Verdict) → success m ≡ judged w n → (w ≡ fine) × (m ≡ n)
+      go : (w : Verdict) → success m ≡ verdict_reply w n → (w ≡ fine) × (m ≡ n)
       go fine q = (refl, cc)
       go (refused k i) q = absurd (let z : ◌≡◌ {A = ℕ} 0 1 = cc in omega arith)
 
   pub refused-verdict : (k i m : ℕ) → a ≡ Refused k i m → (v ≡ refused k i) × (m ≡ 0)
   refused-verdict k i m e = go v (sym (ap reply e) ∙ gives)
     where
-      go : (w : Verdict) → refusal k i m ≡ judged w n → (w ≡ refused k i) × (m ≡ 0)
+      go : (w : Verdict) → refusal k i m ≡ verdict_reply w n → (w ≡ refused k i) × (m ≡ 0)
       go fine q = absurd (let z : ◌≡◌ {A = ℕ} 0 1 = cc in omega arith)
       go (refused l j) q = (cc, cc)

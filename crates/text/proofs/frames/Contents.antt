@@ -13,15 +13,15 @@ use borrow.Author.Tests.{ltb-false, leb-false, eqb-true, eqb-false}
 use Rattle.words.specs.lists.Numbers.{range, any, sum}
 use Rattle.words.proofs.lists.Tests.{split, or_l, or_r, not-false}
 use Rattle.words.proofs.lists.Searches.{any_false}
-use Rattle.words.proofs.lists.Ranges.{length-map-range, getD-map-range}
+use Rattle.words.proofs.lists.Ranges.{length-map-range, get_or-map-range}
 use Rattle.words.proofs.lists.Joins.{all_map, all-every, length-concat-range, concat-range-at}
 use Rattle.words.specs.lists.Sequences.{All}
-use Rattle.text.specs.digits.Digit.{digitOf, charOf, capital}
+use Rattle.text.specs.digits.Digit.{digit_of, char_of, capital}
 use Rattle.text.proofs.digits.Digits.{capital-same, capital-at, char-digit}
-use Rattle.text.specs.frames.Frame.{frameCount, byte_at, contents, size, field, byteText, total}
-use Rattle.text.specs.frames.Frame.{sumByte, frameText, framesText, tenAt, text_of}
-use Rattle.text.specs.frames.Verdict.{Verdict, fine, next, when, atLowest}
-use Rattle.text.specs.frames.Check.{badLength, badForm, badSum, textVerdict}
+use Rattle.text.specs.frames.Frame.{frame_count, byte_at, contents, size, field, byte_text, total}
+use Rattle.text.specs.frames.Frame.{sum_byte, frame_text, frames_text, ten_bytes_at, text_of}
+use Rattle.text.specs.frames.Verdict.{Verdict, fine, next, when, at_lowest}
+use Rattle.text.specs.frames.Check.{is_bad_length, has_bad_form, has_bad_sum, text_verdict}
 use Rattle.text.proofs.frames.Verdicts.{next-first, next-rest, when-fine, at-lowest-fine}
 use Rattle.text.proofs.frames.Frames.{Frame, eleven, total-snoc, sum-places, frame-char, frame-feed, eleven-at, eleven-last}
 use Rattle.text.proofs.frames.Texts.{text-length, text-here, text-fine, contents-length, contents-at}
@@ -32,7 +32,7 @@ pub record Length (unit most n : ℕ) : Type 0 where
   pub whole : n % unit ≡ 0
   pub fits : n ≤ most
 
-pub length-told : (unit most n : ℕ) → badLength unit most n ≡ false → Length unit most n
+pub length-told : (unit most n : ℕ) → is_bad_length unit most n ≡ false → Length unit most n
 length-told unit most n e =
     let a : Bool = eqb n 0 in
     let b : Bool = not (eqb (n % unit) 0) in
@@ -46,121 +46,121 @@ length-told unit most n e =
 
 -- ---- records to text and back
 module _ (b : List ℕ) (bytes : (k : ℕ) → get_or b k 0 < 256) where
-  pub ten-frame : (f : ℕ) → Frame (tenAt b f)
+  pub ten-frame : (f : ℕ) → Frame (ten_bytes_at b f)
   ten-frame f = record {
     ten = refl;
     bytes = λ k. ⊎_elim (λ (h : k < 10). subst (λ (x : ℕ). x < 256)
-        (sym (getD-map-range (field b f) 0 0 10 k h)) (bytes (10 * f + (0 + k))))
-        (λ (h : 10 ≤ k). subst (λ (x : ℕ). x < 256) (sym (get_or-eq_default (tenAt b f) 0 h)) (omega arith)) (split k 10);
+        (sym (get_or-map-range (field b f) 0 0 10 k h)) (bytes (10 * f + (0 + k))))
+        (λ (h : 10 ≤ k). subst (λ (x : ℕ). x < 256) (sym (get_or-eq_default (ten_bytes_at b f) 0 h)) (omega arith)) (split k 10);
   }
 
   abbrev tens : List (List ℕ)
-  tens = map (tenAt b) (range 0 (size b))
+  tens = map (ten_bytes_at b) (range 0 (size b))
 
   pub ten-frames : All Frame tens
-  ten-frames = all_map Frame (tenAt b) (range 0 (size b)) (all-every (λ f. Frame (tenAt b f)) ten-frame (range 0 (size b)))
+  ten-frames = all_map Frame (ten_bytes_at b) (range 0 (size b)) (all-every (λ f. Frame (ten_bytes_at b f)) ten-frame (range 0 (size b)))
 
   tens-count : length tens ≡ size b
-  tens-count = length-map-range (tenAt b) 0 (size b)
+  tens-count = length-map-range (ten_bytes_at b) 0 (size b)
 
-  tens-at : (f : ℕ) → f < size b → get_or tens f [] ≡ tenAt b f
-  tens-at f h = getD-map-range (tenAt b) [] 0 (size b) f h ∙ ap (tenAt b) (omega arith)
+  tens-at : (f : ℕ) → f < size b → get_or tens f [] ≡ ten_bytes_at b f
+  tens-at f h = get_or-map-range (ten_bytes_at b) [] 0 (size b) f h ∙ ap (ten_bytes_at b) (omega arith)
 
-  pub textOf-length : length (text_of b) ≡ 23 * size b
+  pub text_of-length : length (text_of b) ≡ 23 * size b
   unfolding text_of
-  textOf-length = text-length tens ten-frames ∙ ap (λ (n : ℕ). 23 * n) tens-count
+  text_of-length = text-length tens ten-frames ∙ ap (λ (n : ℕ). 23 * n) tens-count
 
-  pub textOf-fine : (most : ℕ) → 1 ≤ size b → 23 * size b ≤ most → textVerdict most (text_of b) ≡ fine
+  pub text_of-fine : (most : ℕ) → 1 ≤ size b → 23 * size b ≤ most → text_verdict most (text_of b) ≡ fine
   unfolding text_of
-  textOf-fine most some fits = text-fine tens ten-frames most (omega (arith, tens-count)) (omega (arith, tens-count))
+  text_of-fine most some fits = text-fine tens ten-frames most (omega (arith, tens-count)) (omega (arith, tens-count))
 
-  pub textOf-here : (f k : ℕ) → f < size b → k < 23 → get_or (text_of b) (23 * f + k) 0 ≡ get_or (frameText (tenAt b f)) k 0
+  pub text_of-here : (f k : ℕ) → f < size b → k < 23 → get_or (text_of b) (23 * f + k) 0 ≡ get_or (frame_text (ten_bytes_at b f)) k 0
   unfolding text_of
-  textOf-here f k h l =
-      text-here tens ten-frames f (omega (arith, tens-count)) k l ∙ ap (λ (bs : List ℕ). get_or (frameText bs) k 0) (tens-at f h)
+  text_of-here f k h l =
+      text-here tens ten-frames f (omega (arith, tens-count)) k l ∙ ap (λ (bs : List ℕ). get_or (frame_text bs) k 0) (tens-at f h)
 
-  pub textOf-contents : length b % 10 ≡ 0 → contents (text_of b) ≡ b
+  pub text_of-contents : length b % 10 ≡ 0 → contents (text_of b) ≡ b
   unfolding text_of
-  textOf-contents whole =
-      let t : List ℕ = framesText tens in
+  text_of-contents whole =
+      let t : List ℕ = frames_text tens in
       let n : length (contents t) ≡ length b = contents-length tens ten-frames ∙ omega (arith, tens-count) in
       ext_get_or 0 (contents t) b n (λ i h.
       ap (λ (j : ℕ). get_or (contents t) j 0) (omega arith)
       ∙ contents-at tens ten-frames (i / 10) (i % 10) (omega (arith, tens-count)) (omega arith)
       ∙ ap (λ (bs : List ℕ). get_or bs (i % 10) 0) (tens-at (i / 10) (omega arith))
-      ∙ getD-map-range (field b (i / 10)) 0 0 10 (i % 10) (omega arith)
+      ∙ get_or-map-range (field b (i / 10)) 0 0 10 (i % 10) (omega arith)
       ∙ ap (λ (j : ℕ). get_or b j 0) (omega arith))
 
 -- ---- the contents of any text, by place
 module _ (t : List ℕ) where
-  pub any-contents-length : length (contents t) ≡ 10 * frameCount t
+  pub any-contents-length : length (contents t) ≡ 10 * frame_count t
   unfolding contents
-  any-contents-length = length-concat-range (λ f. map (byte_at t f) (range 0 10)) 10 0 (frameCount t) (λ f. refl)
+  any-contents-length = length-concat-range (λ f. map (byte_at t f) (range 0 10)) 10 0 (frame_count t) (λ f. refl)
 
-  pub any-contents-at : (f k : ℕ) → f < frameCount t → k < 10 → field (contents t) f k ≡ byte_at t f k
+  pub any-contents-at : (f k : ℕ) → f < frame_count t → k < 10 → field (contents t) f k ≡ byte_at t f k
   unfolding contents
   any-contents-at f k h l =
-      concat-range-at (λ f. map (byte_at t f) (range 0 10)) 10 0 (frameCount t) 0 (λ f. refl) f k h l
-      ∙ getD-map-range (byte_at t (0 + f)) 0 0 10 k l ∙ ap₂ (byte_at t) (omega arith) (omega arith)
+      concat-range-at (λ f. map (byte_at t f) (range 0 10)) 10 0 (frame_count t) 0 (λ f. refl) f k h l
+      ∙ get_or-map-range (byte_at t (0 + f)) 0 0 10 k l ∙ ap₂ (byte_at t) (omega arith) (omega arith)
 
 -- ---- what acceptance of a text tells
 pub record Clean (most : ℕ) (t : List ℕ) : Type 0 where
   pub length : Length 23 most (length t)
-  pub forms : (f : ℕ) → f < frameCount t → badForm t f ≡ false
-  pub sums : (f : ℕ) → f < frameCount t → badSum t f ≡ false
+  pub forms : (f : ℕ) → f < frame_count t → has_bad_form t f ≡ false
+  pub sums : (f : ℕ) → f < frame_count t → has_bad_sum t f ≡ false
 
-pub text-told : (most : ℕ) (t : List ℕ) → textVerdict most t ≡ fine → Clean most t
-unfolding textVerdict
+pub text-told : (most : ℕ) (t : List ℕ) → text_verdict most t ≡ fine → Clean most t
+unfolding text_verdict
 text-told most t e =
-    let u : Verdict = when 1 (badLength 23 most (length t)) in
-    let v : Verdict = atLowest 2 (badForm t) (frameCount t) in
-    let w : Verdict = atLowest 3 (badSum t) (frameCount t) in
+    let u : Verdict = when 1 (is_bad_length 23 most (length t)) in
+    let v : Verdict = at_lowest 2 (has_bad_form t) (frame_count t) in
+    let w : Verdict = at_lowest 3 (has_bad_sum t) (frame_count t) in
     let r : next v (λ _. w) ≡ fine = next-rest u (λ _. next v λ _. w) e in
     record {
-      length = length-told 23 most (length t) (when-fine 1 (badLength 23 most (length t)) (next-first u (λ _. next v λ _. w) e));
-      forms = at-lowest-fine 2 (badForm t) (frameCount t) (next-first v (λ _. w) r);
-      sums = at-lowest-fine 3 (badSum t) (frameCount t) (next-rest v (λ _. w) r);
+      length = length-told 23 most (length t) (when-fine 1 (is_bad_length 23 most (length t)) (next-first u (λ _. next v λ _. w) e));
+      forms = at-lowest-fine 2 (has_bad_form t) (frame_count t) (next-first v (λ _. w) r);
+      sums = at-lowest-fine 3 (has_bad_sum t) (frame_count t) (next-rest v (λ _. w) r);
     }
 
 -- ---- text to records and back
 -- a frame without a wrong character
-module _ (t : List ℕ) (f : ℕ) (form : badForm t f ≡ false) where
-  pub digit-small : (k : ℕ) → k < 22 → digitOf (get_or t (23 * f + k) 0) < 16
-  unfolding badForm
+module _ (t : List ℕ) (f : ℕ) (form : has_bad_form t f ≡ false) where
+  pub digit-small : (k : ℕ) → k < 22 → digit_of (get_or t (23 * f + k) 0) < 16
+  unfolding has_bad_form
   digit-small k l =
-      let p : ℕ → Bool = λ k. leb 16 (digitOf (get_or t (23 * f + k) 0)) in
-      leb-false 16 (digitOf (get_or t (23 * f + k) 0))
+      let p : ℕ → Bool = λ k. leb 16 (digit_of (get_or t (23 * f + k) 0)) in
+      leb-false 16 (digit_of (get_or t (23 * f + k) 0))
       (any_false p 0 22 (or_l (any p 0 22) (not (eqb (get_or t (23 * f + 22) 0) 10)) form) k (omega arith) (omega arith))
 
   pub feed-is : get_or t (23 * f + 22) 0 ≡ 10
-  unfolding badForm
+  unfolding has_bad_form
   feed-is =
       eqb-true (get_or t (23 * f + 22) 0) 10 (not-false (eqb (get_or t (23 * f + 22) 0) 10)
-      (or_r (any (λ k. leb 16 (digitOf (get_or t (23 * f + k) 0))) 0 22) (not (eqb (get_or t (23 * f + 22) 0) 10)) form))
+      (or_r (any (λ k. leb 16 (digit_of (get_or t (23 * f + k) 0))) 0 22) (not (eqb (get_or t (23 * f + 22) 0) 10)) form))
 
-  high : (k : ℕ) → k < 11 → digitOf (get_or t (23 * f + 2 * k) 0) < 16
+  high : (k : ℕ) → k < 11 → digit_of (get_or t (23 * f + 2 * k) 0) < 16
   high k l = digit-small (2 * k) (omega arith)
 
-  low : (k : ℕ) → k < 11 → digitOf (get_or t (23 * f + 2 * k + 1) 0) < 16
-  low k l = subst (λ (j : ℕ). digitOf (get_or t j 0) < 16) (omega arith) (digit-small (2 * k + 1) (omega arith))
+  low : (k : ℕ) → k < 11 → digit_of (get_or t (23 * f + 2 * k + 1) 0) < 16
+  low k l = subst (λ (j : ℕ). digit_of (get_or t j 0) < 16) (omega arith) (digit-small (2 * k + 1) (omega arith))
 
   pub byte_small : (k : ℕ) → k < 11 → byte_at t f k < 256
   byte_small k l = omega (arith, high k l, low k l)
 
   -- a byte's characters are the text's, in capitals
-  pair-back : (k s : ℕ) → k < 11 → s < 2 → get_or (byteText (byte_at t f k)) s 0 ≡ capital (get_or t (23 * f + (2 * k + s)) 0)
+  pair-back : (k s : ℕ) → k < 11 → s < 2 → get_or (byte_text (byte_at t f k)) s 0 ≡ capital (get_or t (23 * f + (2 * k + s)) 0)
   pair-back k zero l m =
-      let e : byte_at t f k / 16 ≡ digitOf (get_or t (23 * f + 2 * k) 0) = omega (arith, high k l, low k l) in
-      ap charOf e ∙ char-digit (get_or t (23 * f + 2 * k) 0) (high k l) ∙ ap (λ (j : ℕ). capital (get_or t j 0)) (omega arith)
+      let e : byte_at t f k / 16 ≡ digit_of (get_or t (23 * f + 2 * k) 0) = omega (arith, high k l, low k l) in
+      ap char_of e ∙ char-digit (get_or t (23 * f + 2 * k) 0) (high k l) ∙ ap (λ (j : ℕ). capital (get_or t j 0)) (omega arith)
   pair-back k (suc zero) l m =
-      let e : byte_at t f k % 16 ≡ digitOf (get_or t (23 * f + 2 * k + 1) 0) = omega (arith, high k l, low k l) in
-      ap charOf e ∙ char-digit (get_or t (23 * f + 2 * k + 1) 0) (low k l) ∙ ap (λ (j : ℕ). capital (get_or t j 0)) (omega arith)
+      let e : byte_at t f k % 16 ≡ digit_of (get_or t (23 * f + 2 * k + 1) 0) = omega (arith, high k l, low k l) in
+      ap char_of e ∙ char-digit (get_or t (23 * f + 2 * k + 1) 0) (low k l) ∙ ap (λ (j : ℕ). capital (get_or t j 0)) (omega arith)
   pair-back k (suc (suc s)) l m = absurd (omega arith)
 
   -- ten bytes that are the frame's first ten, where the sum is right
-  module _ (good : badSum t f ≡ false) (bs : List ℕ) (F : Frame bs) (same : (k : ℕ) → k < 10 → get_or bs k 0 ≡ byte_at t f k) where
-    sum_back : sumByte bs ≡ byte_at t f 10
-    unfolding badSum
+  module _ (good : has_bad_sum t f ≡ false) (bs : List ℕ) (F : Frame bs) (same : (k : ℕ) → k < 10 → get_or bs k 0 ≡ byte_at t f k) where
+    sum_back : sum_byte bs ≡ byte_at t f 10
+    unfolding has_bad_sum
     sum_back =
         let x : ℕ = byte_at t f 10 in
         let s : ℕ = sum (byte_at t f) 0 11 in
@@ -184,21 +184,21 @@ module _ (t : List ℕ) (f : ℕ) (form : badForm t f ≡ false) where
         ap (λ (i : ℕ). get_or (eleven bs) i 0) j ∙ eleven-last bs F ∙ sum_back ∙ ap (byte_at t f) (sym j))
         (split k 10)
 
-    pub frame_back : (k : ℕ) → k < 23 → get_or (frameText bs) k 0 ≡ capital (get_or t (23 * f + k) 0)
+    pub frame_back : (k : ℕ) → k < 23 → get_or (frame_text bs) k 0 ≡ capital (get_or t (23 * f + k) 0)
     frame_back k l =
         ⊎_elim (λ (m : k < 22).
-        ap (λ (j : ℕ). get_or (frameText bs) j 0) (omega arith) ∙ frame-char bs F (k / 2) (k % 2) (omega arith) (omega arith)
-        ∙ ap (λ (b : ℕ). get_or (byteText b) (k % 2) 0) (eleven-back (k / 2) (omega arith))
+        ap (λ (j : ℕ). get_or (frame_text bs) j 0) (omega arith) ∙ frame-char bs F (k / 2) (k % 2) (omega arith) (omega arith)
+        ∙ ap (λ (b : ℕ). get_or (byte_text b) (k % 2) 0) (eleven-back (k / 2) (omega arith))
         ∙ pair-back (k / 2) (k % 2) (omega arith) (omega arith) ∙ ap (λ (j : ℕ). capital (get_or t j 0)) (omega arith))
         (λ (m : 22 ≤ k).
         let j : k ≡ 22 = omega arith in
-        ap (λ (i : ℕ). get_or (frameText bs) i 0) j ∙ frame-feed bs F ∙ sym (ap capital feed-is ∙ capital-same 10 (omega arith))
+        ap (λ (i : ℕ). get_or (frame_text bs) i 0) j ∙ frame-feed bs F ∙ sym (ap capital feed-is ∙ capital-same 10 (omega arith))
         ∙ ap (λ (i : ℕ). capital (get_or t (23 * f + i) 0)) (sym j))
         (split k 22)
 
-pub contents-bytes : (t : List ℕ) → ((f : ℕ) → f < frameCount t → badForm t f ≡ false) → (k : ℕ) → get_or (contents t) k 0 < 256
+pub contents-bytes : (t : List ℕ) → ((f : ℕ) → f < frame_count t → has_bad_form t f ≡ false) → (k : ℕ) → get_or (contents t) k 0 < 256
 contents-bytes t forms k =
-    let n : length (contents t) ≡ 10 * frameCount t = any-contents-length t in
+    let n : length (contents t) ≡ 10 * frame_count t = any-contents-length t in
     ⊎_elim (λ (h : k < length (contents t)).
     subst (λ (x : ℕ). x < 256)
     (sym (ap (λ (j : ℕ). get_or (contents t) j 0) (omega arith) ∙ any-contents-at t (k / 10) (k % 10) (omega arith) (omega arith)))
@@ -210,22 +210,22 @@ pub text-back : (most : ℕ) (t : List ℕ) → Clean most t → text_of (conten
 text-back most t C =
     let b : List ℕ = contents t in
     let bytes : (k : ℕ) → get_or b k 0 < 256 = contents-bytes t C.forms in
-    let m : size b ≡ frameCount t = omega (arith, any-contents-length t) in
+    let m : size b ≡ frame_count t = omega (arith, any-contents-length t) in
     let w : length t % 23 ≡ 0 = C.length.whole in
-    let n : length (text_of b) ≡ length t = textOf-length b bytes ∙ omega arith in
+    let n : length (text_of b) ≡ length t = text_of-length b bytes ∙ omega arith in
     ext_get_or 0 (text_of b) (map capital t) (n ∙ sym (length-map t capital)) (λ i h.
     ap (λ (j : ℕ). get_or (text_of b) j 0) (omega arith)
-    ∙ textOf-here b bytes (i / 23) (i % 23) (omega (arith, m, n, h)) (omega arith)
+    ∙ text_of-here b bytes (i / 23) (i % 23) (omega (arith, m, n, h)) (omega arith)
     ∙ frame_back t (i / 23) (C.forms (i / 23) (omega (arith, n, h))) (C.sums (i / 23) (omega (arith, n, h)))
-    (tenAt b (i / 23)) (ten-frame b bytes (i / 23)) (λ k l.
-    getD-map-range (field b (i / 23)) 0 0 10 k l ∙ ap (λ (j : ℕ). get_or b j 0) (omega arith)
+    (ten_bytes_at b (i / 23)) (ten-frame b bytes (i / 23)) (λ k l.
+    get_or-map-range (field b (i / 23)) 0 0 10 k l ∙ ap (λ (j : ℕ). get_or b j 0) (omega arith)
     ∙ any-contents-at t (i / 23) k (omega (arith, n, h)) l)
     (i % 23) (omega arith)
     ∙ ap (λ (j : ℕ). capital (get_or t j 0)) (omega arith)
     ∙ sym (capital-at t i))
 
 -- what is written is in capitals
-pub textOf-capitals : (b : List ℕ) → ((k : ℕ) → get_or b k 0 < 256) → 1 ≤ size b → length b % 10 ≡ 0 → map capital (text_of b) ≡ text_of b
-textOf-capitals b bytes some whole =
-    sym (text-back (23 * size b) (text_of b) (text-told (23 * size b) (text_of b) (textOf-fine b bytes (23 * size b) some (omega arith))))
-    ∙ ap text_of (textOf-contents b bytes whole)
+pub text_of-capitals : (b : List ℕ) → ((k : ℕ) → get_or b k 0 < 256) → 1 ≤ size b → length b % 10 ≡ 0 → map capital (text_of b) ≡ text_of b
+text_of-capitals b bytes some whole =
+    sym (text-back (23 * size b) (text_of b) (text-told (23 * size b) (text_of b) (text_of-fine b bytes (23 * size b) some (omega arith))))
+    ∙ ap text_of (text_of-contents b bytes whole)

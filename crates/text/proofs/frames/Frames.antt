@@ -10,22 +10,22 @@ use lib.Seq.{get_or-append-add}
 use lib.Dec.{leb}
 use borrow.Author.Tests.{lt-leb, eq-eqb}
 use Rattle.words.specs.lists.Numbers.{sum}
-use Rattle.words.specs.lists.Sequences.{concatMap, All}
+use Rattle.words.specs.lists.Sequences.{concat_map, All}
 use Rattle.words.proofs.lists.Tests.{split}
 use Rattle.words.proofs.lists.Searches.{any_none}
-use Rattle.words.proofs.lists.Joins.{all-at, all-every, concat-append, length-concat, getD-concat}
-use Rattle.text.specs.digits.Digit.{digitOf}
+use Rattle.words.proofs.lists.Joins.{all-at, all-every, concat-append, length-concat, get_or-concat}
+use Rattle.text.specs.digits.Digit.{digit_of}
 use Rattle.text.proofs.digits.Digits.{digit_char}
-use Rattle.text.specs.frames.Frame.{byte_at, byteText, total, sumByte, frameText}
-use Rattle.text.specs.frames.Check.{badForm, badSum}
+use Rattle.text.specs.frames.Frame.{byte_at, byte_text, total, sum_byte, frame_text}
+use Rattle.text.specs.frames.Check.{has_bad_form, has_bad_sum}
 
 -- the two characters of a byte
-pair-digit : (b t : ℕ) → b < 256 → t < 2 → digitOf (get_or (byteText b) t 0) < 16
+pair-digit : (b t : ℕ) → b < 256 → t < 2 → digit_of (get_or (byte_text b) t 0) < 16
 pair-digit b zero h l = omega (arith, digit_char (b / 16) (omega arith))
 pair-digit b (suc zero) h l = omega (arith, digit_char (b % 16) (omega arith))
 pair-digit b (suc (suc t)) h l = absurd (omega arith)
 
-pair-byte : (b : ℕ) → b < 256 → 16 * digitOf (get_or (byteText b) 0 0) + digitOf (get_or (byteText b) 1 0) ≡ b
+pair-byte : (b : ℕ) → b < 256 → 16 * digit_of (get_or (byte_text b) 0 0) + digit_of (get_or (byte_text b) 1 0) ≡ b
 pair-byte b h = omega (arith, digit_char (b / 16) (omega arith), digit_char (b % 16) (omega arith))
 
 -- ten bytes
@@ -42,7 +42,7 @@ frame-by bs n a = record {
 
 -- with the sum byte
 abbrev pub eleven : List ℕ → List ℕ
-eleven bs = bs ++ (sumByte bs ∷ [])
+eleven bs = bs ++ (sum_byte bs ∷ [])
 
 pub total-snoc : (xs : List ℕ) (b : ℕ) → total (xs ++ (b ∷ [])) ≡ total xs + b
 unfolding total
@@ -55,83 +55,83 @@ sum-places f [] a h = refl
 sum-places f (x ∷ xs) a h =
     ap₂ ◌+◌ (ap f (omega arith) ∙ h 0 (omega arith)) (sum-places f xs (suc a) (λ i l. ap f (omega arith) ∙ h (suc i) (omega arith)))
 
-pub frame-as : (bs : List ℕ) → frameText bs ≡ concatMap byteText (eleven bs) ++ (10 ∷ [])
-unfolding frameText concatMap
+pub frame-as : (bs : List ℕ) → frame_text bs ≡ concat_map byte_text (eleven bs) ++ (10 ∷ [])
+unfolding frame_text concat_map
 frame-as bs =
-    sym (append_assoc (concatMap byteText bs) (byteText (sumByte bs)) (10 ∷ []))
-    ∙ ap (λ (xs : List ℕ). xs ++ (10 ∷ [])) (sym (concat-append byteText bs (sumByte bs ∷ [])))
+    sym (append_assoc (concat_map byte_text bs) (byte_text (sum_byte bs)) (10 ∷ []))
+    ∙ ap (λ (xs : List ℕ). xs ++ (10 ∷ [])) (sym (concat-append byte_text bs (sum_byte bs ∷ [])))
 
-pairs-two : (es : List ℕ) → All (λ x. length (byteText x) ≡ 2) es
-pairs-two es = all-every (λ x. length (byteText x) ≡ 2) (λ x. refl) es
+pairs-two : (es : List ℕ) → All (λ x. length (byte_text x) ≡ 2) es
+pairs-two es = all-every (λ x. length (byte_text x) ≡ 2) (λ x. refl) es
 
-pub sum-small : (bs : List ℕ) → sumByte bs < 256
+pub sum-small : (bs : List ℕ) → sum_byte bs < 256
 sum-small bs = omega arith
 
 module _ (bs : List ℕ) (F : Frame bs) where
   pub eleven-length : length (eleven bs) ≡ 11
-  eleven-length = length-append bs (sumByte bs ∷ []) ∙ omega (arith, F.ten)
+  eleven-length = length-append bs (sum_byte bs ∷ []) ∙ omega (arith, F.ten)
 
-  pairs-length : length (concatMap byteText (eleven bs)) ≡ 22
-  pairs-length = length-concat byteText 2 (eleven bs) (pairs-two (eleven bs)) ∙ omega (arith, eleven-length)
+  pairs-length : length (concat_map byte_text (eleven bs)) ≡ 22
+  pairs-length = length-concat byte_text 2 (eleven bs) (pairs-two (eleven bs)) ∙ omega (arith, eleven-length)
 
-  pub frame-length : length (frameText bs) ≡ 23
-  frame-length = ap length (frame-as bs) ∙ length-append (concatMap byteText (eleven bs)) (10 ∷ []) ∙ omega (arith, pairs-length)
+  pub frame-length : length (frame_text bs) ≡ 23
+  frame-length = ap length (frame-as bs) ∙ length-append (concat_map byte_text (eleven bs)) (10 ∷ []) ∙ omega (arith, pairs-length)
 
   pub eleven-at : (k : ℕ) → k < 10 → get_or (eleven bs) k 0 ≡ get_or bs k 0
-  eleven-at k h = get_or-append bs (sumByte bs ∷ []) 0 k (omega (arith, F.ten))
+  eleven-at k h = get_or-append bs (sum_byte bs ∷ []) 0 k (omega (arith, F.ten))
 
-  pub eleven-last : get_or (eleven bs) 10 0 ≡ sumByte bs
-  eleven-last = ap (λ (k : ℕ). get_or (eleven bs) k 0) (omega (arith, F.ten)) ∙ get_or-append-add bs (sumByte bs ∷ []) 0 0
+  pub eleven-last : get_or (eleven bs) 10 0 ≡ sum_byte bs
+  eleven-last = ap (λ (k : ℕ). get_or (eleven bs) k 0) (omega (arith, F.ten)) ∙ get_or-append-add bs (sum_byte bs ∷ []) 0 0
 
   pub eleven-small : (k : ℕ) → k < 11 → get_or (eleven bs) k 0 < 256
   eleven-small k h =
       ⊎_elim (λ (l : k < 10). omega (arith, eleven-at k l, F.bytes k))
       (λ (l : 10 ≤ k).
-      let e : get_or (eleven bs) k 0 ≡ sumByte bs = ap (λ (j : ℕ). get_or (eleven bs) j 0) (omega arith) ∙ eleven-last in
+      let e : get_or (eleven bs) k 0 ≡ sum_byte bs = ap (λ (j : ℕ). get_or (eleven bs) j 0) (omega arith) ∙ eleven-last in
       omega (arith, e, sum-small bs))
       (split k 10)
 
-  pub frame-char : (k t : ℕ) → k < 11 → t < 2 → get_or (frameText bs) (2 * k + t) 0 ≡ get_or (byteText (get_or (eleven bs) k 0)) t 0
+  pub frame-char : (k t : ℕ) → k < 11 → t < 2 → get_or (frame_text bs) (2 * k + t) 0 ≡ get_or (byte_text (get_or (eleven bs) k 0)) t 0
   frame-char k t h l =
       ap (λ (xs : List ℕ). get_or xs (2 * k + t) 0) (frame-as bs)
-      ∙ get_or-append (concatMap byteText (eleven bs)) (10 ∷ []) 0 (2 * k + t) (omega (arith, pairs-length))
-      ∙ getD-concat byteText 2 0 0 (eleven bs) (pairs-two (eleven bs)) k t (omega (arith, eleven-length)) l
+      ∙ get_or-append (concat_map byte_text (eleven bs)) (10 ∷ []) 0 (2 * k + t) (omega (arith, pairs-length))
+      ∙ get_or-concat byte_text 2 0 0 (eleven bs) (pairs-two (eleven bs)) k t (omega (arith, eleven-length)) l
 
-  pub frame-feed : get_or (frameText bs) 22 0 ≡ 10
+  pub frame-feed : get_or (frame_text bs) 22 0 ≡ 10
   frame-feed =
       ap (λ (xs : List ℕ). get_or xs 22 0) (frame-as bs)
-      ∙ ap (λ (k : ℕ). get_or (concatMap byteText (eleven bs) ++ (10 ∷ [])) k 0) (omega (arith, pairs-length))
-      ∙ get_or-append-add (concatMap byteText (eleven bs)) (10 ∷ []) 0 0
+      ∙ ap (λ (k : ℕ). get_or (concat_map byte_text (eleven bs) ++ (10 ∷ [])) k 0) (omega (arith, pairs-length))
+      ∙ get_or-append-add (concat_map byte_text (eleven bs)) (10 ∷ []) 0 0
 
   -- a text that has this frame at f
-  module _ (t : List ℕ) (f : ℕ) (here : (k : ℕ) → k < 23 → get_or t (23 * f + k) 0 ≡ get_or (frameText bs) k 0) where
-    text-char : (k s : ℕ) → k < 11 → s < 2 → get_or t (23 * f + (2 * k + s)) 0 ≡ get_or (byteText (get_or (eleven bs) k 0)) s 0
+  module _ (t : List ℕ) (f : ℕ) (here : (k : ℕ) → k < 23 → get_or t (23 * f + k) 0 ≡ get_or (frame_text bs) k 0) where
+    text-char : (k s : ℕ) → k < 11 → s < 2 → get_or t (23 * f + (2 * k + s)) 0 ≡ get_or (byte_text (get_or (eleven bs) k 0)) s 0
     text-char k s h l = here (2 * k + s) (omega arith) ∙ frame-char k s h l
 
     pub byte-is : (k : ℕ) → k < 11 → byte_at t f k ≡ get_or (eleven bs) k 0
     byte-is k h =
-        ap₂ (λ (a b : ℕ). 16 * digitOf a + digitOf b)
+        ap₂ (λ (a b : ℕ). 16 * digit_of a + digit_of b)
         (ap (λ (m : ℕ). get_or t m 0) (omega arith) ∙ text-char k 0 h (omega arith))
         (ap (λ (m : ℕ). get_or t m 0) (omega arith) ∙ text-char k 1 h (omega arith))
         ∙ pair-byte (get_or (eleven bs) k 0) (eleven-small k h)
 
-    char-small : (k : ℕ) → k < 22 → digitOf (get_or t (23 * f + k) 0) < 16
+    char-small : (k : ℕ) → k < 22 → digit_of (get_or t (23 * f + k) 0) < 16
     char-small k h =
-        subst (λ (c : ℕ). digitOf c < 16)
+        subst (λ (c : ℕ). digit_of c < 16)
         (sym (ap (λ (m : ℕ). get_or t m 0) (omega arith) ∙ text-char (k / 2) (k % 2) (omega arith) (omega arith)))
         (pair-digit (get_or (eleven bs) (k / 2) 0) (k % 2) (eleven-small (k / 2) (omega arith)) (omega arith))
 
-    pub good-form : badForm t f ≡ false
-    unfolding badForm
+    pub good-form : has_bad_form t f ≡ false
+    unfolding has_bad_form
     good-form =
-        let p : ℕ → Bool = λ k. leb 16 (digitOf (get_or t (23 * f + k) 0)) in
+        let p : ℕ → Bool = λ k. leb 16 (digit_of (get_or t (23 * f + k) 0)) in
         ap₂ ◌||◌
-        (any_none p 0 22 (λ k h. ap p (omega arith) ∙ lt-leb 16 (digitOf (get_or t (23 * f + k) 0)) (char-small k h)))
+        (any_none p 0 22 (λ k h. ap p (omega arith) ∙ lt-leb 16 (digit_of (get_or t (23 * f + k) 0)) (char-small k h)))
         (ap not (eq-eqb (get_or t (23 * f + 22) 0) 10 (here 22 (omega arith) ∙ frame-feed)))
 
-    pub good-sum : badSum t f ≡ false
-    unfolding badSum
+    pub good-sum : has_bad_sum t f ≡ false
+    unfolding has_bad_sum
     good-sum =
         let e : sum (byte_at t f) 0 11 ≡ total (eleven bs) = ap (sum (byte_at t f) 0) (sym eleven-length)
         ∙ sum-places (byte_at t f) (eleven bs) 0 (λ k h. ap (byte_at t f) (omega arith) ∙ byte-is k (omega (arith, eleven-length))) in
-        ap not (eq-eqb (sum (byte_at t f) 0 11 % 256) 0 (omega (arith, e, total-snoc bs (sumByte bs))))
+        ap not (eq-eqb (sum (byte_at t f) 0 11 % 256) 0 (omega (arith, e, total-snoc bs (sum_byte bs))))

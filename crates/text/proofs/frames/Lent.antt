@@ -11,18 +11,18 @@ use borrow.Author.Tests.{lt-ltb, le-ltb, ltb-false}
 use Rattle.words.specs.lists.Pick.{pick}
 use Rattle.words.specs.lists.Sequences.{over}
 use Rattle.text.specs.frames.Verdict.{Verdict, fine, refused}
-use Rattle.text.specs.frames.Answer.{success, refusal, reply, BufferOutcome, GivesBuffer, bufferOn}
+use Rattle.text.specs.frames.Answer.{success, refusal, reply, BufferOutcome, GivesBuffer, buffer_on}
 use Rattle.text.specs.declared.frames.Answer.{Answer}
 use Rattle.text.specs.declared.frames.Answer.TheVariants.{Done, Refused}
 
 -- all of xs stands at the front, counted by units
-abbrev pub filledWith : ℕ → List ℕ → List ℕ → BufferOutcome
-filledWith unit xs old = record { reply = success (length xs / unit); buffer = over xs old }
+abbrev pub buffer_filled_with : ℕ → List ℕ → List ℕ → BufferOutcome
+buffer_filled_with unit xs old = record { reply = success (length xs / unit); buffer = over xs old }
 
 pub lent_fits : (unit : ℕ) (new : Unit {0} → List ℕ) (old : List ℕ) → length (new tt) ≤ length old
-    → bufferOn fine unit new old ≡ filledWith unit (new tt) old
+    → buffer_on fine unit new old ≡ buffer_filled_with unit (new tt) old
 lent_fits unit new old h =
-    ap (λ (b : Bool). pick b (record { reply = refusal 16 0 0; buffer = old }) (filledWith unit (new tt) old))
+    ap (λ (b : Bool). pick b (record { reply = refusal 16 0 0; buffer = old }) (buffer_filled_with unit (new tt) old))
     (le-ltb (length old) (length (new tt)) h)
 
 pub record Success (v : Verdict) (unit : ℕ) (xs old : List ℕ) (n : ℕ) (r : BufferOutcome) : Type 0 where
@@ -31,13 +31,13 @@ pub record Success (v : Verdict) (unit : ℕ) (xs old : List ℕ) (n : ℕ) (r :
   pub count : n ≡ length xs / unit
   pub buffer : r.buffer ≡ over xs old
 
-pub lent-told : (v : Verdict) (unit : ℕ) (new : Unit {0} → List ℕ) (old : List ℕ) (n : ℕ) → (bufferOn v unit new old).reply ≡ success n
-    → Success v unit (new tt) old n (bufferOn v unit new old)
+pub lent-told : (v : Verdict) (unit : ℕ) (new : Unit {0} → List ℕ) (old : List ℕ) (n : ℕ) → (buffer_on v unit new old).reply ≡ success n
+    → Success v unit (new tt) old n (buffer_on v unit new old)
 lent-told (refused k i) unit new old n e = absurd (let z : ◌≡◌ {A = ℕ} 0 1 = cc in omega arith)
 lent-told fine unit new old n e = go (ltb (length old) (length (new tt))) refl e
   where
     made : Bool → BufferOutcome
-    made b = pick b (record { reply = refusal 16 0 0; buffer = old }) (filledWith unit (new tt) old)
+    made b = pick b (record { reply = refusal 16 0 0; buffer = old }) (buffer_filled_with unit (new tt) old)
 
     go : (b : Bool) → ltb (length old) (length (new tt)) ≡ b → (made b).reply ≡ success n → Success fine unit (new tt) old n (made b)
     go true q z = absurd (let y : ◌≡◌ {A = ℕ} 0 1 = cc in omega arith)
@@ -48,24 +48,25 @@ front n xs old e = take_at xs (drop (length xs) old) n (sym e)
 
 -- ---- how an entry point with a lent buffer answers: by a verdict's refusal, for want of room, or with all of it written
 module _ (v : Verdict) (unit : ℕ) (new : Unit {0} → List ℕ) (old : List ℕ) where
-  pub lent-refused : (k i : ℕ) → v ≡ refused k i → (a : Answer) → reply a ≡ refusal k i 0 → GivesBuffer (bufferOn v unit new old) a old
+  pub lent-refused : (k i : ℕ) → v ≡ refused k i → (a : Answer) → reply a ≡ refusal k i 0 → GivesBuffer (buffer_on v unit new old) a old
   lent-refused k i e a q = record {
-    answered = q ∙ sym (ap (λ w. (bufferOn w unit new old).reply) e);
-    written = sym (ap (λ w. (bufferOn w unit new old).buffer) e);
+    answered = q ∙ sym (ap (λ w. (buffer_on w unit new old).reply) e);
+    written = sym (ap (λ w. (buffer_on w unit new old).buffer) e);
   }
 
-  pub lent-short : v ≡ fine → length old < length (new tt) → GivesBuffer (bufferOn v unit new old) (Refused 16 0 0) old
+  pub lent-short : v ≡ fine → length old < length (new tt) → GivesBuffer (buffer_on v unit new old) (Refused 16 0 0) old
   lent-short e h =
-      let q : bufferOn v unit new old ≡ record { reply = refusal 16 0 0; buffer = old } =
-      ap (λ w. bufferOn w unit new old) e
-      ∙ ap (λ (b : Bool). pick b (record { reply = refusal 16 0 0; buffer = old }) (filledWith unit (new tt) old))
+      let q : buffer_on v unit new old ≡ record { reply = refusal 16 0 0; buffer = old } =
+      ap (λ w. buffer_on w unit new old) e
+      ∙ ap (λ (b : Bool). pick b (record { reply = refusal 16 0 0; buffer = old }) (buffer_filled_with unit (new tt) old))
       (lt-ltb (length old) (length (new tt)) h) in
       record { answered = sym (ap (λ (l : BufferOutcome). l.reply) q); written = sym (ap (λ (l : BufferOutcome). l.buffer) q) }
 
   pub lent-done : v ≡ fine → length (new tt) ≤ length old → (n : ℕ) → n ≡ length (new tt) / unit → (out : List ℕ) → out ≡ over (new tt) old
-      → GivesBuffer (bufferOn v unit new old) (Done n) out
+      → GivesBuffer (buffer_on v unit new old) (Done n) out
   lent-done e h n m out o =
-      let q : bufferOn v unit new old ≡ filledWith unit (new tt) old = ap (λ w. bufferOn w unit new old) e ∙ lent_fits unit new old h in
+      let q : buffer_on v unit new old ≡ buffer_filled_with unit (new tt) old =
+      ap (λ w. buffer_on w unit new old) e ∙ lent_fits unit new old h in
       record {
         answered = ap success m ∙ sym (ap (λ (l : BufferOutcome). l.reply) q);
         written = o

@@ -6,9 +6,9 @@ use lib.Dec.{ltb}
 use lib.ListN.{length}
 use Rattle.words.specs.lists.Pick.{pick}
 use Rattle.words.specs.lists.Numbers.{lowest}
-use Rattle.text.specs.frames.Frame.{frameCount}
-use Rattle.text.specs.frames.Verdict.{Verdict, fine, refused, next, when, atLowest}
-use Rattle.text.specs.frames.Check.{badLength, badForm, badSum, textVerdict}
+use Rattle.text.specs.frames.Frame.{frame_count}
+use Rattle.text.specs.frames.Verdict.{Verdict, fine, refused, next, when, at_lowest}
+use Rattle.text.specs.frames.Check.{is_bad_length, has_bad_form, has_bad_sum, text_verdict}
 
 -- a refusal has a number with the property P
 abbrev pub RefusesWith : (ℕ → Type 0) → Verdict → Type 0
@@ -24,16 +24,16 @@ module _ (P : ℕ → Type 0) where
   when-refuses k true h = h
   when-refuses k false h = tt
 
-  pub lowest-refuses : (k : ℕ) (p : ℕ → Bool) (n : ℕ) → P k → RefusesWith P (atLowest k p n)
+  pub lowest-refuses : (k : ℕ) (p : ℕ → Bool) (n : ℕ) → P k → RefusesWith P (at_lowest k p n)
   lowest-refuses k p n h = go (ltb (lowest p 0 n) n)
     where
       go : (b : Bool) → RefusesWith P (pick b (refused k (lowest p 0 n)) fine)
       go true = h
       go false = tt
 
-  pub text-refuses : P 1 → P 2 → P 3 → (most : ℕ) (t : List ℕ) → RefusesWith P (textVerdict most t)
-  unfolding textVerdict
+  pub text-refuses : P 1 → P 2 → P 3 → (most : ℕ) (t : List ℕ) → RefusesWith P (text_verdict most t)
+  unfolding text_verdict
   text-refuses a b c most t =
-      next-refuses (when 1 (badLength 23 most (length t))) _ (when-refuses 1 (badLength 23 most (length t)) a)
-      (next-refuses (atLowest 2 (badForm t) (frameCount t)) _ (lowest-refuses 2 (badForm t) (frameCount t) b)
-      (lowest-refuses 3 (badSum t) (frameCount t) c))
+      next-refuses (when 1 (is_bad_length 23 most (length t))) _ (when-refuses 1 (is_bad_length 23 most (length t)) a)
+      (next-refuses (at_lowest 2 (has_bad_form t) (frame_count t)) _ (lowest-refuses 2 (has_bad_form t) (frame_count t) b)
+      (lowest-refuses 3 (has_bad_sum t) (frame_count t) c))

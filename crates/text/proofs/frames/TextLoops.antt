@@ -5,36 +5,36 @@ use Prim.Native.Nat.{ℕ, ◌+◌, ◌*◌, ◌≤◌, ◌<◌}
 use native.Mathlib.Omega.{arith}
 use lib.ListN.{length}
 use Rattle.words.specs.lists.Numbers.{range}
-use Rattle.words.specs.lists.Sequences.{concatMap, written}
+use Rattle.words.specs.lists.Sequences.{concat_map, written}
 use Rattle.words.proofs.lists.Joins.{concat-map, length-concat-range}
 use Rattle.words.proofs.lists.Ranges.{length-map-range}
 use Rattle.words.proofs.lists.Fills.{Pieces, pieces-turn, pieces-all}
-use Rattle.text.specs.frames.Frame.{size, field, tenAt, frameText, text_of}
+use Rattle.text.specs.frames.Frame.{size, field, ten_bytes_at, frame_text, text_of}
 use Rattle.text.proofs.frames.FrameLoops.{length-frame}
 
 abbrev pub frame_of : List ℕ → ℕ → List ℕ
-frame_of b f = frameText (tenAt b f)
+frame_of b f = frame_text (ten_bytes_at b f)
 
-pub frame-put : (b ten out out' : List ℕ) (at f : ℕ) → ten ≡ tenAt b f
-    → out' ≡ written out at (frameText ten) → out' ≡ written out at (frame_of b f)
-frame-put b ten out out' at f e q = q ∙ ap (λ (xs : List ℕ). written out at (frameText xs)) e
+pub frame-put : (b ten out out' : List ℕ) (at f : ℕ) → ten ≡ ten_bytes_at b f
+    → out' ≡ written out at (frame_text ten) → out' ≡ written out at (frame_of b f)
+frame-put b ten out out' at f e q = q ∙ ap (λ (xs : List ℕ). written out at (frame_text xs)) e
 
 module _ (b out₀ out : List ℕ) (at n f : ℕ) (done : Pieces (frame_of b) 23 out₀ out at n f) where
   pub text-turn : (out' : List ℕ) → at + 23 * n ≤ length out₀ → f < n → length out' ≡ length out
       → out' ≡ written out (at + f * 23) (frame_of b f)
       → Pieces (frame_of b) 23 out₀ out' at n (f + 1)
   text-turn out' room h s e =
-      let long : (k : ℕ) → length (frame_of b k) ≡ 23 = λ k. length-frame (tenAt b k) (length-map-range (field b k) 0 10) in
+      let long : (k : ℕ) → length (frame_of b k) ≡ 23 = λ k. length-frame (ten_bytes_at b k) (length-map-range (field b k) 0 10) in
       pieces-turn (frame_of b) 23 out₀ at n long out out' f (at + f * 23) done h (omega arith) (omega arith) s e
 
   pub text-end : n ≡ size b → n ≤ f → out ≡ written out₀ at (text_of b)
   unfolding text_of
   text-end e h =
       pieces-all (frame_of b) 23 out₀ at n out f done h
-      ∙ ap (written out₀ at) (ap (λ (m : ℕ). concatMap (frame_of b) (range 0 m)) e ∙ sym (concat-map frameText (tenAt b) (range 0 (size b))))
+      ∙ ap (written out₀ at) (ap (λ (m : ℕ). concat_map (frame_of b) (range 0 m)) e ∙ sym (concat-map frame_text (ten_bytes_at b) (range 0 (size b))))
 
 pub length-text : (b : List ℕ) → length (text_of b) ≡ 23 * size b
 unfolding text_of
 length-text b =
-    ap length (concat-map frameText (tenAt b) (range 0 (size b)))
-    ∙ length-concat-range (frame_of b) 23 0 (size b) (λ k. length-frame (tenAt b k) (length-map-range (field b k) 0 10))
+    ap length (concat-map frame_text (ten_bytes_at b) (range 0 (size b)))
+    ∙ length-concat-range (frame_of b) 23 0 (size b) (λ k. length-frame (ten_bytes_at b k) (length-map-range (field b k) 0 10))

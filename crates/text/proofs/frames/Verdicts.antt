@@ -8,7 +8,7 @@ use borrow.Author.Tests.{ltb-false, le-ltb}
 use Rattle.words.specs.lists.Pick.{pick}
 use Rattle.words.specs.lists.Numbers.{lowest}
 use Rattle.words.proofs.lists.Searches.{lowest-past, lowest-none}
-use Rattle.text.specs.frames.Verdict.{Verdict, fine, refused, next, when, atLowest}
+use Rattle.text.specs.frames.Verdict.{Verdict, fine, refused, next, when, at_lowest}
 
 pub next-first : (v : Verdict) (f : Unit {0} → Verdict) → next v f ≡ fine → v ≡ fine
 next-first fine f e = refl
@@ -26,12 +26,12 @@ picked-fine : (n i : ℕ) (b : Bool) → pick b (refused n i) fine ≡ fine → 
 picked-fine n i false e = refl
 picked-fine n i true e = absurd (let z : ◌≡◌ {A = ℕ} 0 1 = cc in omega arith)
 
-pub at-lowest-fine : (n : ℕ) (p : ℕ → Bool) (k : ℕ) → atLowest n p k ≡ fine → (v : ℕ) → v < k → p v ≡ false
+pub at-lowest-fine : (n : ℕ) (p : ℕ → Bool) (k : ℕ) → at_lowest n p k ≡ fine → (v : ℕ) → v < k → p v ≡ false
 at-lowest-fine n p k e v l =
     let h : k ≤ lowest p 0 k = ltb-false (lowest p 0 k) k (picked-fine n (lowest p 0 k) (ltb (lowest p 0 k) k) e) in
     lowest-past p 0 k (omega arith) v (omega arith) (omega arith)
 
-pub at_none : (m : ℕ) (p : ℕ → Bool) (n : ℕ) → ((k : ℕ) → k < n → p k ≡ false) → atLowest m p n ≡ fine
+pub at_none : (m : ℕ) (p : ℕ → Bool) (n : ℕ) → ((k : ℕ) → k < n → p k ≡ false) → at_lowest m p n ≡ fine
 at_none m p n h =
     let e : lowest p 0 n ≡ n = lowest-none p 0 n (λ k l. ap p (omega arith) ∙ h k l) ∙ omega arith in
     ap (λ b. pick b (refused m (lowest p 0 n)) fine) (le-ltb (lowest p 0 n) n (omega arith))

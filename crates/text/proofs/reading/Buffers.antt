@@ -6,37 +6,37 @@ use Prim.Native.Nat.{ℕ, ◌*◌, ◌%◌, ◌≤◌}
 use native.Mathlib.Omega.{arith}
 use lib.ListN.{length}
 use Rattle.words.specs.lists.Numbers.{range}
-use Rattle.words.specs.lists.Sequences.{concatMap, over}
+use Rattle.words.specs.lists.Sequences.{concat_map, over}
 use Rattle.words.proofs.lists.Tests.{yes-pick, no-pick}
 use Rattle.words.proofs.lists.Ranges.{map-append}
-use Rattle.text.specs.frames.Frame.{byte_at, frameCount, contents}
-use Rattle.text.specs.frames.Check.{badLength}
-use Rattle.text.specs.frames.inner.Read.{readInto}
+use Rattle.text.specs.frames.Frame.{byte_at, frame_count, contents}
+use Rattle.text.specs.frames.Check.{is_bad_length}
+use Rattle.text.specs.frames.inner.Read.{read_buffer}
 use Rattle.text.proofs.frames.Contents.{length-told}
-use Rattle.text.specs.frame_reading.inner.FrameReads.{storedOf}
+use Rattle.text.specs.frame_reading.inner.FrameReads.{stored_bytes}
 
-map-concat : (g : ℕ → ℕ) (f : ℕ → List ℕ) (xs : List ℕ) → map g (concatMap f xs) ≡ concatMap (λ x. map g (f x)) xs
-unfolding concatMap
+map-concat : (g : ℕ → ℕ) (f : ℕ → List ℕ) (xs : List ℕ) → map g (concat_map f xs) ≡ concat_map (λ x. map g (f x)) xs
+unfolding concat_map
 map-concat g f [] = refl
-map-concat g f (x ∷ xs) = map-append g (f x) (concatMap f xs) ∙ ap (λ (ys : List ℕ). map g (f x) ++ ys) (map-concat g f xs)
+map-concat g f (x ∷ xs) = map-append g (f x) (concat_map f xs) ∙ ap (λ (ys : List ℕ). map g (f x) ++ ys) (map-concat g f xs)
 
-contents-stored : (t : List ℕ) → concatMap (storedOf t) (range 0 (frameCount t)) ≡ map (λ x. x % 256) (contents t)
+contents-stored : (t : List ℕ) → concat_map (stored_bytes t) (range 0 (frame_count t)) ≡ map (λ x. x % 256) (contents t)
 unfolding contents
-contents-stored t = sym (map-concat (λ x. x % 256) (λ f. map (byte_at t f) (range 0 10)) (range 0 (frameCount t)))
+contents-stored t = sym (map-concat (λ x. x % 256) (λ f. map (byte_at t f) (range 0 10)) (range 0 (frame_count t)))
 
 module _ (most : ℕ) (t old : List ℕ) where
   -- 1 refuses, and nothing is stored
-  pub read_none : badLength 23 most (length t) ≡ true → old ≡ readInto most t old
-  unfolding readInto
-  read_none e = sym (yes-pick (badLength 23 most (length t)) old (over (map (λ x. x % 256) (contents t)) old) e)
+  pub read_none : is_bad_length 23 most (length t) ≡ true → old ≡ read_buffer most t old
+  unfolding read_buffer
+  read_none e = sym (yes-pick (is_bad_length 23 most (length t)) old (over (map (λ x. x % 256) (contents t)) old) e)
 
   -- 1 does not, and all frames are stored; there is room for them
-  module _ (e : badLength 23 most (length t) ≡ false) where
-    pub read-room : 10 * most ≤ 23 * length old → (23 * frameCount t ≤ length t) × (10 * frameCount t ≤ length old)
+  module _ (e : is_bad_length 23 most (length t) ≡ false) where
+    pub read-room : 10 * most ≤ 23 * length old → (23 * frame_count t ≤ length t) × (10 * frame_count t ≤ length old)
     read-room room = (omega arith, omega (arith, (length-told 23 most (length t) e).fits))
 
-    pub read_all : (out : List ℕ) → out ≡ over (concatMap (storedOf t) (range 0 (frameCount t))) old → out ≡ readInto most t old
-    unfolding readInto
+    pub read_all : (out : List ℕ) → out ≡ over (concat_map (stored_bytes t) (range 0 (frame_count t))) old → out ≡ read_buffer most t old
+    unfolding read_buffer
     read_all out q =
         q ∙ ap (λ (xs : List ℕ). over xs old) (contents-stored t)
-        ∙ sym (no-pick (badLength 23 most (length t)) old (over (map (λ x. x % 256) (contents t)) old) e)
+        ∙ sym (no-pick (is_bad_length 23 most (length t)) old (over (map (λ x. x % 256) (contents t)) old) e)

@@ -18,27 +18,27 @@ reply (Done n) = success n
 reply (Refused k i n) = refusal k i n
 
 -- the number that C gets, 0 for success, and the values beside it
-abbrev pub replyNumber : Reply → ℕ
-replyNumber (success n) = 0
-replyNumber (refusal k i n) = k
+abbrev pub reply_number : Reply → ℕ
+reply_number (success n) = 0
+reply_number (refusal k i n) = k
 
-abbrev pub replyIndex : Reply → ℕ
-replyIndex (success n) = 0
-replyIndex (refusal k i n) = i
+abbrev pub reply_index : Reply → ℕ
+reply_index (success n) = 0
+reply_index (refusal k i n) = i
 
-abbrev pub replyCount : Reply → ℕ
-replyCount (success n) = n
-replyCount (refusal k i n) = n
+abbrev pub reply_count : Reply → ℕ
+reply_count (success n) = n
+reply_count (refusal k i n) = n
 
 -- a verdict with the count that goes with it, be it refused or not
-abbrev pub replied : Verdict → ℕ → Reply
-replied fine n = success n
-replied (refused k i) n = refusal k i n
+abbrev pub counted_reply : Verdict → ℕ → Reply
+counted_reply fine n = success n
+counted_reply (refused k i) n = refusal k i n
 
 -- a verdict with the count of success; a refusal that comes before any tick counts 0
-abbrev pub judged : Verdict → ℕ → Reply
-judged fine n = success n
-judged (refused k i) n = refusal k i 0
+abbrev pub verdict_reply : Verdict → ℕ → Reply
+verdict_reply fine n = success n
+verdict_reply (refused k i) n = refusal k i 0
 
 pub record BufferOutcome : Type 0 where
   pub reply : Reply
@@ -50,8 +50,8 @@ pub record GivesBuffer (x : BufferOutcome) (answer : Answer) (after : List ℕ) 
   pub written : after ≡ x.buffer
 
 -- a refusal leaves the buffer as it was; else its front is written, counted by units, or there is no room: 16
-abbrev pub bufferOn : Verdict → ℕ → (Unit {0} → List ℕ) → List ℕ → BufferOutcome
-bufferOn (refused k i) unit new old = record { reply = refusal k i 0; buffer = old }
-bufferOn fine unit new old = let xs = new tt in pick (ltb (length old) (length xs))
+abbrev pub buffer_on : Verdict → ℕ → (Unit {0} → List ℕ) → List ℕ → BufferOutcome
+buffer_on (refused k i) unit new old = record { reply = refusal k i 0; buffer = old }
+buffer_on fine unit new old = let xs = new tt in pick (ltb (length old) (length xs))
     (record { reply = refusal NO_ROOM 0 0; buffer = old })
     (record { reply = success (length xs / unit); buffer = over xs old })

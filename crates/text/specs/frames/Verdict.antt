@@ -18,5 +18,5 @@ when n true = refused n 0
 when n false = fine
 
 -- refused with number n at the lowest of k frames where the test holds
-abbrev pub atLowest : ℕ → (ℕ → Bool) → ℕ → Verdict
-atLowest n p k = let i = lowest p 0 k in pick (ltb i k) (refused n i) fine
+abbrev pub at_lowest : ℕ → (ℕ → Bool) → ℕ → Verdict
+at_lowest n p k = let i = lowest p 0 k in pick (ltb i k) (refused n i) fine

@@ -1,11 +1,11 @@
 // Refusal 1, of a text or of records.
 ghost use Rattle.std.specs.Prelude.{◌≡◌, ◌<◌};
-ghost use Rattle.text.specs.frames.Check.{badLength};
+ghost use Rattle.text.specs.frames.Check.{is_bad_length};
 
 // 1: a length that is 0, no multiple of the unit, or over the most.
 pub fn bad_length(unit: usize, most: usize, n: usize) -> bool
     requires { 0 < unit }
-    ensures { result ≡ badLength unit most n }
+    ensures { result ≡ is_bad_length unit most n }
 {
     if n == 0 {
         return true;

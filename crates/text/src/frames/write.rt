@@ -1,7 +1,7 @@
 // Bytes and frames written into a lent buffer.
 ghost use Rattle.std.specs.Prelude.{◌≡◌, ◌+◌, ◌*◌, ◌≤◌, length};
 ghost use Rattle.words.specs.lists.Sequences.{written};
-ghost use Rattle.text.specs.frames.Frame.{byteText, frameText, tenAt, text_of, size};
+ghost use Rattle.text.specs.frames.Frame.{byte_text, frame_text, ten_bytes_at, text_of, size};
 
 use crate::digits::{character, characters};
 use crate::frames::sizes::*;
@@ -20,7 +20,7 @@ pub fn put_bytes(out: &mut [u8], at: usize, bytes: &[u8])
 // The two characters of a byte, from an offset on.
 fn put_byte(out: &mut [u8], at: usize, b: u8)
     requires { at + 2 ≤ length out.old }
-    ensures { out.new ≡ written out.old at (byteText b) }
+    ensures { out.new ≡ written out.old at (byte_text b) }
 {
     let both = characters(b);
     out[at] = (both % 256) as u8;
@@ -31,7 +31,7 @@ fn put_byte(out: &mut [u8], at: usize, b: u8)
 // eight bytes of a frame at once.
 fn put_sum(out: &mut [u8], at: usize, b: u8)
     requires { at + 2 ≤ length out.old }
-    ensures { out.new ≡ written out.old at (byteText b) }
+    ensures { out.new ≡ written out.old at (byte_text b) }
 {
     out[at] = character(b / 16);
     out[at + 1] = character(b % 16);
@@ -42,7 +42,7 @@ fn put_sum(out: &mut [u8], at: usize, b: u8)
 pub fn put_frame(out: &mut [u8], at: usize, bytes: &[u8])
     requires at_in_bounds { at + LINE ≤ length out.old }
     requires bytes_len { length bytes.now ≡ FRAME }
-    ensures { out.new ≡ written out.old at (frameText bytes.now) }
+    ensures { out.new ≡ written out.old at (frame_text bytes.now) }
 {
     let n = bytes.len();
     let mut sum: u32 = 0;
@@ -58,7 +58,7 @@ pub fn put_frame(out: &mut [u8], at: usize, bytes: &[u8])
 // The ten bytes of frame f of contents.
 pub fn ten_at(bytes: &[u8], f: usize) -> [u8; FRAME]
     requires { FRAME * f + FRAME ≤ length bytes.now }
-    ensures { result ≡ tenAt bytes.now f }
+    ensures { result ≡ ten_bytes_at bytes.now f }
 {
     let mut ten = [0u8; FRAME];
     for k in 0..FRAME {
@@ -71,7 +71,7 @@ pub fn ten_at(bytes: &[u8], f: usize) -> [u8; FRAME]
 fn put_nth(out: &mut [u8], at: usize, bytes: &[u8], f: usize)
     requires at_in_bounds { at + LINE ≤ length out.old }
     requires f_in_bounds { FRAME * f + FRAME ≤ length bytes.now }
-    ensures { out.new ≡ written out.old at (frameText (tenAt bytes.now f)) }
+    ensures { out.new ≡ written out.old at (frame_text (ten_bytes_at bytes.now f)) }
 {
     let ten = ten_at(bytes, f);
     put_frame(out, at, &ten);

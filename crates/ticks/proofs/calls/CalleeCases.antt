@@ -4,9 +4,9 @@ use mathlib.Core.List.{List}
 use Prim.Native.Nat.{ℕ, ◌≤◌, ◌<◌}
 use native.Mathlib.Omega.{arith}
 use lib.ListN.{get_or-eq_default}
-use Rattle.bindings.specs.Binding.{served}
-use Rattle.image.specs.Decode.{schemeCount}
-use Rattle.tables.specs.Table.{tableImage}
+use Rattle.bindings.specs.Binding.{server_of}
+use Rattle.image.specs.Decode.{scheme_count}
+use Rattle.tables.specs.Table.{table_image}
 use Rattle.tables.specs.inner.Asked.{Whole, entry_of}
 use Rattle.tables.proofs.TableReads.{counts-told, entries-count, entry-at}
 use Rattle.state.specs.declared.State.{State}
@@ -16,19 +16,19 @@ use Rattle.ticks.specs.calls.inner.Callees.{IsCallee}
 
 -- ---- the entry of the scheme that serves
 module _ (b : List ℕ) (k : ℕ) where
-  pub server-none : schemeCount b < k → 0 ≡ entry_at (tableImage b) k
-  server-none h = sym (get_or-eq_default (tableImage b).entries 0 (omega (arith, entries-count b)))
+  pub server-none : scheme_count b < k → 0 ≡ entry_at (table_image b) k
+  server-none h = sym (get_or-eq_default (table_image b).entries 0 (omega (arith, entries-count b)))
 
-  pub server-entry : Whole b → k ≤ schemeCount b → (n : ℕ) → n ≡ entry_of b k → n ≡ entry_at (tableImage b) k
+  pub server-entry : Whole b → k ≤ scheme_count b → (n : ℕ) → n ≡ entry_of b k → n ≡ entry_at (table_image b) k
   server-entry y h n e = e ∙ sym (entry-at b y.counts k h)
 
   -- no scheme counts as the first
-  pub first_entry : Whole b → k ≡ 0 → (n : ℕ) → n ≡ entry_of b 1 → n ≡ entry_at (tableImage b) k
-  first_entry y z n e = e ∙ sym (ap (entry_at (tableImage b)) z ∙ entry-at b y.counts 0 (omega arith))
+  pub first_entry : Whole b → k ≡ 0 → (n : ℕ) → n ≡ entry_of b 1 → n ≡ entry_at (table_image b) k
+  first_entry y z n e = e ∙ sym (ap (entry_at (table_image b)) z ∙ entry-at b y.counts 0 (omega arith))
 
 -- ---- the callee
 -- a number of the table is one of 16
-pub number-few : {b : List ℕ} → Whole b → (h : ℕ) → h ≤ schemeCount b → h ≤ 16
+pub number-few : {b : List ℕ} → Whole b → (h : ℕ) → h ≤ scheme_count b → h ≤ 16
 number-few {b = b} y h l = omega (arith, (counts-told b y.counts).most)
 
 module _ (b : List ℕ) (s : State) {h m : ℕ} (same : h ≡ m) where
@@ -36,6 +36,6 @@ module _ (b : List ℕ) (s : State) {h m : ℕ} (same : h ≡ m) where
   callee-as r y = subst (λ (j : ℕ). IsCallee b s j r) same y
 
   -- k is the scheme that serves, e its entry
-  pub callee-read : (k : ℕ) → k ≡ served s.serving h → (e : ℕ) → e ≡ entry_at (tableImage b) k
+  pub callee-read : (k : ℕ) → k ≡ server_of s.serving h → (e : ℕ) → e ≡ entry_at (table_image b) k
       → IsCallee b s m (record { number = h; server = k; entry = e })
-  callee-read k p e q = record { number = same; server = p ∙ ap (served s.serving) same; entry = q }
+  callee-read k p e q = record { number = same; server = p ∙ ap (server_of s.serving) same; entry = q }

@@ -3,12 +3,12 @@ use mathlib.Core.Path.{◌≡◌, refl}
 use Prim.Native.Nat.{ℕ, zero, suc, ◌-◌, ◌≤◌, ◌<◌}
 use native.Mathlib.Omega.{arith}
 use borrow.Author.Tests.{ne_eqb, le-leb, lt-leb}
-use Rattle.image.specs.Layout.{tickKind}
+use Rattle.image.specs.Layout.{tick_kind}
 use Rattle.ticks.specs.declared.codes.Meaning.TheVariants.{OperationCall, FunctionCall, Unknown}
-use Rattle.ticks.specs.codes.Codes.{code_of, meaningOf}
+use Rattle.ticks.specs.codes.Codes.{code_of, meaning_of}
 
 -- the code of every kind from 4 up
-pub code-rest : (k h : ℕ) → (k ≡ 0 → ⊥) → (k ≡ 1 → ⊥) → (k ≡ 2 → ⊥) → (k ≡ 3 → ⊥) → 4 ≡ code_of (tickKind k) h
+pub code-rest : (k h : ℕ) → (k ≡ 0 → ⊥) → (k ≡ 1 → ⊥) → (k ≡ 2 → ⊥) → (k ≡ 3 → ⊥) → 4 ≡ code_of (tick_kind k) h
 code-rest zero h p q r t = absurd (p refl)
 code-rest (suc zero) h p q r t = absurd (q refl)
 code-rest (suc (suc zero)) h p q r t = absurd (r refl)
@@ -17,8 +17,8 @@ code-rest (suc (suc (suc (suc k)))) h p q r t = refl
 
 -- ---- what a code stands for, by the range that it lies in
 module _ (c : ℕ) where
-  pub in-operations : 18 ≤ c → c < 33 → OperationCall (c - 16) ≡ meaningOf c
-  unfolding meaningOf
+  pub in-operations : 18 ≤ c → c < 33 → OperationCall (c - 16) ≡ meaning_of c
+  unfolding meaning_of
   in-operations l h =
       simp (
         ne_eqb c 0 (λ e. omega arith),
@@ -29,8 +29,8 @@ module _ (c : ℕ) where
         le-leb c 32 (omega arith),
       )
 
-  pub in-functions : 66 ≤ c → c < 81 → FunctionCall (c - 64) ≡ meaningOf c
-  unfolding meaningOf
+  pub in-functions : 66 ≤ c → c < 81 → FunctionCall (c - 64) ≡ meaning_of c
+  unfolding meaning_of
   in-functions l h =
       simp (
         ne_eqb c 0 (λ e. omega arith),
@@ -43,12 +43,12 @@ module _ (c : ℕ) where
       )
 
   module _ (p : c ≡ 0 → ⊥) (q : c ≡ 3 → ⊥) (r : c ≡ 4 → ⊥) (t : c ≡ 96 → ⊥) where
-    pub below-calls : c < 18 → Unknown ≡ meaningOf c
-    unfolding meaningOf
+    pub below-calls : c < 18 → Unknown ≡ meaning_of c
+    unfolding meaning_of
     below-calls h = simp (ne_eqb c 0 p, ne_eqb c 3 q, ne_eqb c 4 r, lt-leb 18 c h, lt-leb 66 c (omega arith), ne_eqb c 96 t)
 
-    pub between-calls : 33 ≤ c → c < 66 → Unknown ≡ meaningOf c
-    unfolding meaningOf
+    pub between-calls : 33 ≤ c → c < 66 → Unknown ≡ meaning_of c
+    unfolding meaning_of
     between-calls l h = simp (
       ne_eqb c 0 p,
       ne_eqb c 3 q,
@@ -60,8 +60,8 @@ module _ (c : ℕ) where
       ne_eqb c 96 t,
     )
 
-    pub above-calls : 81 ≤ c → Unknown ≡ meaningOf c
-    unfolding meaningOf
+    pub above-calls : 81 ≤ c → Unknown ≡ meaning_of c
+    unfolding meaning_of
     above-calls h =
         simp (
           ne_eqb c 0 p,

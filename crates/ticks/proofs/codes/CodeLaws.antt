@@ -7,10 +7,10 @@ use lib.Dec.{leb, eqb}
 use borrow.Author.Tests.{eqb-true, leb-true}
 use Rattle.words.specs.lists.Pick.{pick}
 use Rattle.words.proofs.lists.Tests.{and_l}
-use Rattle.image.specs.Layout.{tickKind}
+use Rattle.image.specs.Layout.{tick_kind}
 use Rattle.ticks.specs.declared.codes.Meaning.{Meaning}
 use Rattle.ticks.specs.declared.codes.Meaning.TheVariants.{Plain, OperationCall, FunctionCall, Return, Home, Drop, Unknown}
-use Rattle.ticks.specs.codes.Codes.{code_of, meaningBy, callAbove, meaningOf, tickKindOf, calledOf}
+use Rattle.ticks.specs.codes.Codes.{code_of, meaning_by, is_call_above, meaning_of, tick_kind_of, called_of}
 use Rattle.ticks.proofs.codes.CodeCases.{in-operations, in-functions}
 
 -- a call is of a scheme of 2 to 16
@@ -18,8 +18,8 @@ abbrev pub Called : ℕ → ℕ → Type 0
 Called k h = 1 ≤ k → k ≤ 2 → (2 ≤ h) × (h ≤ 16)
 
 -- the code of a tick stands for the tick, so no two ticks share a code
-pub code-means : (k h : ℕ) → Called k h → meaningOf (code_of (tickKind k) h) ≡ meaningBy (tickKind k) h
-unfolding meaningOf
+pub code-means : (k h : ℕ) → Called k h → meaning_of (code_of (tick_kind k) h) ≡ meaning_by (tick_kind k) h
+unfolding meaning_of
 code-means zero h p = refl
 code-means (suc zero) h p =
     let r = p (omega arith) (omega arith) in
@@ -30,16 +30,16 @@ code-means (suc (suc zero)) h p =
 code-means (suc (suc (suc zero))) h p = refl
 code-means (suc (suc (suc (suc k)))) h p = refl
 
-pub codes-apart : (k h : ℕ) → Called k h → (j g : ℕ) → Called j g → code_of (tickKind k) h ≡ code_of (tickKind j) g
-    → meaningBy (tickKind k) h ≡ meaningBy (tickKind j) g
-codes-apart k h p j g q e = sym (code-means k h p) ∙ ap meaningOf e ∙ code-means j g q
+pub codes-apart : (k h : ℕ) → Called k h → (j g : ℕ) → Called j g → code_of (tick_kind k) h ≡ code_of (tick_kind j) g
+    → meaning_by (tick_kind k) h ≡ meaning_by (tick_kind j) g
+codes-apart k h p j g q e = sym (code-means k h p) ∙ ap meaning_of e ∙ code-means j g q
 
 -- 96 stands for a drop, and no other tick has it
-pub drop-means : meaningOf 96 ≡ Drop
-unfolding meaningOf
+pub drop-means : meaning_of 96 ≡ Drop
+unfolding meaning_of
 drop-means = refl
 
-pub drop-apart : (k h : ℕ) → Called k h → code_of (tickKind k) h ≡ 96 → ⊥
+pub drop-apart : (k h : ℕ) → Called k h → code_of (tick_kind k) h ≡ 96 → ⊥
 drop-apart zero h p e = omega arith
 drop-apart (suc zero) h p e = omega (arith, (p (omega arith) (omega arith)).1)
 drop-apart (suc (suc zero)) h p e = omega (arith, (p (omega arith) (omega arith)).1)
@@ -47,7 +47,7 @@ drop-apart (suc (suc (suc zero))) h p e = omega arith
 drop-apart (suc (suc (suc (suc k)))) h p e = omega arith
 
 -- a tick's kind is read back
-pub kind-back : (k h : ℕ) → k ≤ 4 → tickKindOf (meaningBy (tickKind k) h) ≡ k
+pub kind-back : (k h : ℕ) → k ≤ 4 → tick_kind_of (meaning_by (tick_kind k) h) ≡ k
 kind-back zero h l = refl
 kind-back (suc zero) h l = refl
 kind-back (suc (suc zero)) h l = refl
@@ -57,7 +57,7 @@ kind-back (suc (suc (suc (suc (suc k))))) h l = absurd (omega arith)
 
 -- a code that stands for a tick is that tick's, which is 96 for a drop
 abbrev pub Coded : ℕ → Meaning → Type 0
-Coded c m = pick (eqb (tickKindOf m) 5) 96 (code_of (tickKind (tickKindOf m)) (calledOf m)) ≡ c
+Coded c m = pick (eqb (tick_kind_of m) 5) 96 (code_of (tick_kind (tick_kind_of m)) (called_of m)) ≡ c
 
 module _ (c : ℕ) where
   one_more : (t : Bool) (m rest : Meaning) → (t ≡ true → Coded c m) → ((rest ≡ Unknown → ⊥) → Coded c rest)
@@ -65,18 +65,18 @@ module _ (c : ℕ) where
   one_more true m rest p q n = p refl
   one_more false m rest p q n = q n
 
-  operation-coded : callAbove 16 c ≡ true → Coded c (OperationCall (c - 16))
+  operation-coded : is_call_above 16 c ≡ true → Coded c (OperationCall (c - 16))
   operation-coded e = omega (arith, leb-true 18 c (and_l (leb 18 c) (leb c 32) e))
 
-  function-coded : callAbove 64 c ≡ true → Coded c (FunctionCall (c - 64))
+  function-coded : is_call_above 64 c ≡ true → Coded c (FunctionCall (c - 64))
   function-coded e = omega (arith, leb-true 66 c (and_l (leb 66 c) (leb c 80) e))
 
-  pub meaning-coded : (meaningOf c ≡ Unknown → ⊥) → Coded c (meaningOf c)
-  unfolding meaningOf
+  pub meaning-coded : (meaning_of c ≡ Unknown → ⊥) → Coded c (meaning_of c)
+  unfolding meaning_of
   meaning-coded =
       one_more (eqb c 0) Plain _ (λ e. sym (eqb-true c 0 e))
       (one_more (eqb c 3) Return _ (λ e. sym (eqb-true c 3 e))
       (one_more (eqb c 4) Home _ (λ e. sym (eqb-true c 4 e))
-      (one_more (callAbove 16 c) (OperationCall (c - 16)) _ operation-coded
-      (one_more (callAbove 64 c) (FunctionCall (c - 64)) _ function-coded
+      (one_more (is_call_above 16 c) (OperationCall (c - 16)) _ operation-coded
+      (one_more (is_call_above 64 c) (FunctionCall (c - 64)) _ function-coded
       (one_more (eqb c 96) Drop Unknown (λ e. sym (eqb-true c 96 e)) (λ n. absurd (n refl)))))))

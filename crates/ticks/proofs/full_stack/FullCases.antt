@@ -6,93 +6,96 @@ use mathlib.Core.List.{List}
 use lib.Dec.{eqb}
 use borrow.Author.Tests.{eq-eqb, ne_eqb}
 use Rattle.words.proofs.lists.Tests.{yes-pick, no-pick}
-use Rattle.results.specs.Results.{Results, withResult, cleared}
+use Rattle.results.specs.Results.{Results, with_result, cleared_results}
 use Rattle.image.specs.Image.{Image, Label}
-use Rattle.image.specs.Decode.{handlerIn}
-use Rattle.tables.specs.Table.{tableLabel, tableImage}
+use Rattle.image.specs.Decode.{handler_in}
+use Rattle.tables.specs.Table.{table_label, table_image}
 use Rattle.tables.specs.inner.Asked.{entry_of}
-use Rattle.tables.specs.inner.Labels.{asLabel}
+use Rattle.tables.specs.inner.Labels.{as_label}
 use Rattle.tables.specs.declared.Label as declared
 use Rattle.tables.proofs.TableReads.{handler-at, handler-inside, label-at, entry-at}
 use Rattle.state.specs.declared.State.{State}
-use Rattle.state.specs.State.{entry_at, placeAt, number_at}
-use Rattle.state.specs.Changes.{withAlone, afterResult}
+use Rattle.state.specs.State.{entry_at, place_at, number_at}
+use Rattle.state.specs.Changes.{with_alone, state_after_result}
 use Rattle.state.specs.Bytes.{state_of}
-use Rattle.ticks.specs.Tick.{keepsFull, finished, stopped, alone, top_of}
+use Rattle.ticks.specs.Tick.{is_full_stack_kept, finished, stopped, state_alone, top_of}
 use Rattle.ticks.specs.inner.TickContracts.{TopFull, GivesTickEnd}
 use Rattle.ticks.proofs.TickCases.{steps-stopped, steps-ticked, tick-full}
 
 -- ---- whether the stack is kept: h stands for the handler, l for the label at the bottom, z for what was read of it
-module _ (b : List ℕ) (s : State) (h : ℕ) (is : h ≡ handlerIn b) where
+module _ (b : List ℕ) (s : State) (h : ℕ) (is : h ≡ handler_in b) where
   abbrev keeps : ℕ → ℕ → ℕ → Bool
   keeps g l o = eqb g 0 || (not (eqb g 0) && (eqb l 1 || eqb o g))
 
-  keeps-is : (l o : ℕ) → l ≡ placeAt s 0 → o ≡ (tableLabel b (placeAt s 0)).owner → keeps h l o ≡ keepsFull (tableImage b) s
+  keeps-is : (l o : ℕ) → l ≡ place_at s 0 → o ≡ (table_label b (place_at s 0)).owner → keeps h l o ≡ is_full_stack_kept (table_image b) s
   keeps-is l o p q =
       ap (λ (g : ℕ). keeps g l o) (is ∙ sym (handler-at b))
-      ∙ ap₂ (keeps (tableImage b).handler) p (q ∙ ap (λ (x : Label). x.owner) (sym (label-at b (placeAt s 0))))
+      ∙ ap₂ (keeps (table_image b).handler) p (q ∙ ap (λ (x : Label). x.owner) (sym (label-at b (place_at s 0))))
 
-  pub kept-none : h ≡ 0 → true ≡ keepsFull (tableImage b) s
-  kept-none e = rw (eq-eqb (tableImage b).handler 0 (handler-at b ∙ sym is ∙ e))
+  pub kept-none : h ≡ 0 → true ≡ is_full_stack_kept (table_image b) s
+  kept-none e = rw (eq-eqb (table_image b).handler 0 (handler-at b ∙ sym is ∙ e))
 
-  module _ (some : h ≡ 0 → ⊥) (l : ℕ) (place : l ≡ placeAt s 0) where
+  module _ (some : h ≡ 0 → ⊥) (l : ℕ) (place : l ≡ place_at s 0) where
     abbrev owner : ℕ
-    owner = (tableLabel b (placeAt s 0)).owner
+    owner = (table_label b (place_at s 0)).owner
 
-    pub kept-return : l ≡ 1 → true ≡ keepsFull (tableImage b) s
+    pub kept-return : l ≡ 1 → true ≡ is_full_stack_kept (table_image b) s
     kept-return e = kept ∙ keeps-is l owner place (λ j. owner)
       where
         kept : true ≡ keeps h l owner
         kept = rw (ne_eqb h 0 some, eq-eqb l 1 e)
 
-    pub kept-owner : (l ≡ 1 → ⊥) → (z : declared.Label) → asLabel z ≡ tableLabel b l → eqb z.owner h ≡ keepsFull (tableImage b) s
-    kept-owner n z read = kept ∙ keeps-is l z.owner place (ap (λ (x : Label). x.owner) (read ∙ ap (tableLabel b) place))
+    pub kept-owner : (l ≡ 1 → ⊥) → (z : declared.Label) → as_label z ≡ table_label b l
+        → eqb z.owner h ≡ is_full_stack_kept (table_image b) s
+    kept-owner n z read = kept ∙ keeps-is l z.owner place (ap (λ (x : Label). x.owner) (read ∙ ap (table_label b) place))
       where
         kept : eqb z.owner h ≡ keeps h l z.owner
         kept = rw (ne_eqb h 0 some, ne_eqb l 1 n)
 
 -- ---- what the call answers and leaves, with t for whether the stack is kept
-module _ (b before : List ℕ) (w : ℕ) (y : TopFull b (state_of before)) (t : Bool) (e : t ≡ keepsFull (tableImage b) (state_of before)) where
+module _ (b before : List ℕ) (w : ℕ) (y : TopFull b (state_of before)) (t : Bool)
+    (e : t ≡ is_full_stack_kept (table_image b) (state_of before)) where
   abbrev s : State
   s = state_of before
 
   abbrev i : Image
-  i = tableImage b
+  i = table_image b
 
   abbrev caller : Label
-  caller = tableLabel b (top_of s)
+  caller = table_label b (top_of s)
 
   abbrev bits : Results
-  bits = withResult caller.result (number_at s (s.depth - 1)) s.bits
+  bits = with_result caller.result (number_at s (s.depth - 1)) s.bits
 
   abbrev dropped : State
-  dropped = alone s (entry_at i i.handler) i.handler (cleared i.handler bits)
+  dropped = state_alone s (entry_at i i.handler) i.handler (cleared_results i.handler bits)
 
   pub full-kept : t ≡ true → GivesTickEnd b before w (record { number = 17; mask = 0; code = 0 }) before
   full-kept q =
       steps-stopped b before w 17
       (tick-full b s y.calls.stands w y.calls.low y.calls.high y.full
-      ∙ yes-pick (keepsFull i s) (stopped 17) (finished caller.mask 96 dropped) (sym e ∙ q))
+      ∙ yes-pick (is_full_stack_kept i s) (stopped 17) (finished caller.mask 96 dropped) (sym e ∙ q))
 
   -- l is the top, z what was read of it, k its number, h the handler and n its entry; then the bytes after each write
-  pub full-drops : t ≡ false → (l : ℕ) → l ≡ top_of s → (z : declared.Label) → asLabel z ≡ tableLabel b l
-      → (k : ℕ) → k ≡ number_at s (s.depth - 1) → (h : ℕ) → h ≡ handlerIn b → (n : ℕ) → n ≡ entry_of b h
-      → (first second bytes : List ℕ) → state_of first ≡ afterResult s z.result k → state_of second ≡ afterResult (state_of first) 1 h
-      → state_of bytes ≡ withAlone (state_of second) n h
+  pub full-drops : t ≡ false → (l : ℕ) → l ≡ top_of s → (z : declared.Label) → as_label z ≡ table_label b l
+      → (k : ℕ) → k ≡ number_at s (s.depth - 1) → (h : ℕ) → h ≡ handler_in b → (n : ℕ) → n ≡ entry_of b h
+      → (first second bytes : List ℕ) → state_of first ≡ state_after_result s z.result k
+      → state_of second ≡ state_after_result (state_of first) 1 h
+      → state_of bytes ≡ with_alone (state_of second) n h
       → GivesTickEnd b before w (record { number = 0; mask = z.mask; code = 96 }) bytes
   full-drops q l at z read k called h is n p first second bytes e₁ e₂ e₃ =
-      let same : asLabel z ≡ caller = read ∙ ap (tableLabel b) at in
+      let same : as_label z ≡ caller = read ∙ ap (table_label b) at in
       let r : z.result ≡ caller.result = ap (λ (u : Label). u.result) same in
       let m : z.mask ≡ caller.mask = ap (λ (u : Label). u.mask) same in
       let g : h ≡ i.handler = is ∙ sym (handler-at b) in
       let entry : n ≡ entry_at i i.handler =
-      p ∙ ap (entry_of b) is ∙ sym (entry-at b y.calls.stands.whole.counts (handlerIn b) (handler-inside b y.calls.stands.whole))
+      p ∙ ap (entry_of b) is ∙ sym (entry-at b y.calls.stands.whole.counts (handler_in b) (handler-inside b y.calls.stands.whole))
       ∙ ap (entry_at i) (sym (handler-at b)) in
       let left : state_of bytes ≡ dropped =
-      e₃ ∙ ap₂ (withAlone (state_of second)) entry g
-      ∙ ap (λ (u : State). withAlone u (entry_at i i.handler) i.handler)
-      (e₂ ∙ ap₂ (λ (u : State) (j : ℕ). afterResult u 1 j) (e₁ ∙ ap₂ (afterResult s) r called) g) in
+      e₃ ∙ ap₂ (with_alone (state_of second)) entry g
+      ∙ ap (λ (u : State). with_alone u (entry_at i i.handler) i.handler)
+      (e₂ ∙ ap₂ (λ (u : State) (j : ℕ). state_after_result u 1 j) (e₁ ∙ ap₂ (state_after_result s) r called) g) in
       rw m
       (steps-ticked b before w caller.mask 96 dropped bytes
       (tick-full b s y.calls.stands w y.calls.low y.calls.high y.full
-      ∙ no-pick (keepsFull i s) (stopped 17) (finished caller.mask 96 dropped) (sym e ∙ q)) left)
+      ∙ no-pick (is_full_stack_kept i s) (stopped 17) (finished caller.mask 96 dropped) (sym e ∙ q)) left)

@@ -4,15 +4,15 @@ use mathlib.Core.List.{List}
 use Prim.Native.Nat.{ℕ, ◌-◌, ◌≤◌, ◌<◌}
 use native.Mathlib.Omega.{arith}
 use lib.ListN.{get_or}
-use Rattle.tables.specs.Table.{tableImage}
+use Rattle.tables.specs.Table.{table_image}
 use Rattle.rows.specs.Rows.{Found, missing, next_of}
 use Rattle.rows.proofs.TableRows.{next_small}
 use Rattle.state.specs.declared.State.{State}
-use Rattle.state.specs.Changes.{withDepth, withPlace, withOpened, withAlone}
+use Rattle.state.specs.Changes.{with_depth, with_place, with_opened, with_alone}
 use Rattle.state.specs.Bytes.{state_of}
 use Rattle.ticks.specs.declared.TickEnd.{TickEnd}
-use Rattle.ticks.specs.Tick.{top_of, stopped, moved}
-use Rattle.ticks.specs.inner.TickContracts.{TopReturn, TopBack, beneath, endOfTick, GivesTickMove}
+use Rattle.ticks.specs.Tick.{top_of, stopped, moved_tick}
+use Rattle.ticks.specs.inner.TickContracts.{TopReturn, TopBack, beneath, end_of_tick, GivesTickMove}
 use Rattle.ticks.proofs.TickCases.{steps-stopped, steps-ticked, tick-back, tick-last, top-put}
 use Rattle.ticks.proofs.RowCases.{none_found, one_found}
 
@@ -20,36 +20,36 @@ module _ (b before : List ℕ) (w : ℕ) where
   abbrev s : State
   s = state_of before
 
-  pub last-steps : TopReturn b s → (d : ℕ) → d ≡ s.depth → d < 2 → (bytes : List ℕ) → state_of bytes ≡ withAlone s 0 1
+  pub last-steps : TopReturn b s → (d : ℕ) → d ≡ s.depth → d < 2 → (bytes : List ℕ) → state_of bytes ≡ with_alone s 0 1
       → GivesTickMove b before w (record { step = record { number = 0; mask = 0; code = 3 }; label = 0 }) bytes
   last-steps y d is h bytes e = record {
     steps = steps-ticked b before w 0 3 _ bytes (tick-last b s y.stands w y.label (omega arith)) e;
     label = sym (ap (λ (u : State). top_of u) e);
   }
 
-  module _ (y : TopBack b s) (n : ℕ) (e : n ≡ next_of (beneath (tableImage b) s w)) where
+  module _ (y : TopBack b s) (n : ℕ) (e : n ≡ next_of (beneath (table_image b) s w)) where
     abbrev under : Found
-    under = beneath (tableImage b) s w
+    under = beneath (table_image b) s w
 
-    pub back-stop : ((k : ℕ) → get_or b k 0 < 256) → 256 ≤ n → (r : TickEnd) → r ≡ endOfTick (stopped 18)
+    pub back-stop : ((k : ℕ) → get_or b k 0 < 256) → 256 ≤ n → (r : TickEnd) → r ≡ end_of_tick (stopped 18)
         → GivesTickMove b before w (record { step = r; label = 1 }) before
     back-stop bytes h r q =
         let none : under ≡ missing = none_found n under e (λ u p. next_small b bytes _ w _ u p) h in
         record {
           steps = rw q
               (steps-stopped b before w 18
-              (tick-back b s y.top.stands w y.top.label y.deep ∙ ap (moved 0 3 _ _) none));
+              (tick-back b s y.top.stands w y.top.label y.deep ∙ ap (moved_tick 0 3 _ _) none));
           label = sym y.top.label;
         }
 
     pub back-steps : n < 256 → (d k : ℕ) → d ≡ s.depth - 1 → k ≡ s.depth - 2 → k < 32
-        → (first second bytes : List ℕ) → state_of first ≡ withOpened s d 0 0 0 → state_of second ≡ withPlace (state_of first) k n
-        → state_of bytes ≡ withDepth (state_of second) d
+        → (first second bytes : List ℕ) → state_of first ≡ with_opened s d 0 0 0 → state_of second ≡ with_place (state_of first) k n
+        → state_of bytes ≡ with_depth (state_of second) d
         → GivesTickMove b before w (record { step = record { number = 0; mask = 0; code = 3 }; label = n }) bytes
     back-steps h d k q r low first second bytes e₁ e₂ e₃ = record {
       steps = steps-ticked b before w 0 3 _ bytes
-          (tick-back b s y.top.stands w y.top.label y.deep ∙ ap (moved 0 3 _ _) (one_found n under e h))
-          (e₃ ∙ ap₂ withDepth (e₂ ∙ ap₂ (λ (u : State) (j : ℕ). withPlace u j n) (e₁ ∙ ap (λ (j : ℕ). withOpened s j 0 0 0) q) r) q);
+          (tick-back b s y.top.stands w y.top.label y.deep ∙ ap (moved_tick 0 3 _ _) (one_found n under e h))
+          (e₃ ∙ ap₂ with_depth (e₂ ∙ ap₂ (λ (u : State) (j : ℕ). with_place u j n) (e₁ ∙ ap (λ (j : ℕ). with_opened s j 0 0 0) q) r) q);
       label = top-put first bytes k n (ap (λ (u : State). u.places) e₃ ∙ ap (λ (u : State). u.places) e₂)
           (ap (λ (u : State). u.depth - 1) e₃ ∙ omega (arith, q, r)) low;
     }

@@ -6,7 +6,7 @@ use Rattle.text.specs.declared.frames.sizes.TheConstants.{SCHEMES}
 use Rattle.text.specs.declared.frames.codes.TheConstants.{PLAIN_CODE, RETURN_CODE, HOME_CODE, OPERATION_CALL_CODE, FUNCTION_CALL_CODE}
 use Rattle.text.specs.declared.frames.codes.TheConstants.{DROP_CODE}
 use Rattle.image.specs.declared.layout.TheConstants.{PLAIN, OPERATION_CALL, FUNCTION_CALL, RETURN, HOME}
-use Rattle.image.specs.Layout.{TickKind, plain, operationCall, functionCall, return, home}
+use Rattle.image.specs.Layout.{TickKind, plain, operation_call, function_call, return, home}
 use Rattle.ticks.specs.declared.codes.TheConstants.{DROP, UNKNOWN}
 use Rattle.ticks.specs.declared.codes.Meaning.{Meaning}
 use Rattle.ticks.specs.declared.codes.Meaning.TheVariants.{Plain, OperationCall, FunctionCall, Return, Home, Drop, Unknown}
@@ -14,44 +14,44 @@ use Rattle.ticks.specs.declared.codes.Meaning.TheVariants.{Plain, OperationCall,
 -- ---- a tick by its kind and the number called: its code, and what it is
 abbrev pub code_of : TickKind → ℕ → ℕ
 code_of plain h = PLAIN_CODE
-code_of operationCall h = OPERATION_CALL_CODE + h
-code_of functionCall h = FUNCTION_CALL_CODE + h
+code_of operation_call h = OPERATION_CALL_CODE + h
+code_of function_call h = FUNCTION_CALL_CODE + h
 code_of return h = RETURN_CODE
 code_of home h = HOME_CODE
 
-abbrev pub meaningBy : TickKind → ℕ → Meaning
-meaningBy plain h = Plain
-meaningBy operationCall h = OperationCall h
-meaningBy functionCall h = FunctionCall h
-meaningBy return h = Return
-meaningBy home h = Home
+abbrev pub meaning_by : TickKind → ℕ → Meaning
+meaning_by plain h = Plain
+meaning_by operation_call h = OperationCall h
+meaning_by function_call h = FunctionCall h
+meaning_by return h = Return
+meaning_by home h = Home
 
 -- ---- what a code stands for
 -- base + h for a scheme h that can be called
-abbrev pub callAbove : ℕ → ℕ → Bool
-callAbove base code = leb (base + 2) code && leb code (base + SCHEMES)
+abbrev pub is_call_above : ℕ → ℕ → Bool
+is_call_above base code = leb (base + 2) code && leb code (base + SCHEMES)
 
-unfoldable pub meaningOf : ℕ → Meaning
-meaningOf code =
+unfoldable pub meaning_of : ℕ → Meaning
+meaning_of code =
     pick (eqb code PLAIN_CODE) Plain (pick (eqb code RETURN_CODE) Return (pick (eqb code HOME_CODE) Home
-    (pick (callAbove OPERATION_CALL_CODE code) (OperationCall (code - OPERATION_CALL_CODE))
-    (pick (callAbove FUNCTION_CALL_CODE code) (FunctionCall (code - FUNCTION_CALL_CODE)) (pick (eqb code DROP_CODE) Drop Unknown)))))
+    (pick (is_call_above OPERATION_CALL_CODE code) (OperationCall (code - OPERATION_CALL_CODE))
+    (pick (is_call_above FUNCTION_CALL_CODE code) (FunctionCall (code - FUNCTION_CALL_CODE)) (pick (eqb code DROP_CODE) Drop Unknown)))))
 
 -- its tick kind, 5 for a call that dropped all open schemes, 255 for a code that no tick has, and the number called, 0 for none
-abbrev pub tickKindOf : Meaning → ℕ
-tickKindOf Plain = PLAIN
-tickKindOf (OperationCall h) = OPERATION_CALL
-tickKindOf (FunctionCall h) = FUNCTION_CALL
-tickKindOf Return = RETURN
-tickKindOf Home = HOME
-tickKindOf Drop = DROP
-tickKindOf Unknown = UNKNOWN
+abbrev pub tick_kind_of : Meaning → ℕ
+tick_kind_of Plain = PLAIN
+tick_kind_of (OperationCall h) = OPERATION_CALL
+tick_kind_of (FunctionCall h) = FUNCTION_CALL
+tick_kind_of Return = RETURN
+tick_kind_of Home = HOME
+tick_kind_of Drop = DROP
+tick_kind_of Unknown = UNKNOWN
 
-abbrev pub calledOf : Meaning → ℕ
-calledOf Plain = 0
-calledOf (OperationCall h) = h
-calledOf (FunctionCall h) = h
-calledOf Return = 0
-calledOf Home = 0
-calledOf Drop = 0
-calledOf Unknown = 0
+abbrev pub called_of : Meaning → ℕ
+called_of Plain = 0
+called_of (OperationCall h) = h
+called_of (FunctionCall h) = h
+called_of Return = 0
+called_of Home = 0
+called_of Drop = 0
+called_of Unknown = 0

@@ -4,33 +4,33 @@ use Rattle.words.specs.lists.Pick.{pick}
 use Rattle.results.specs.Results.{Results, result_of}
 use Rattle.image.specs.declared.layout.TheConstants.{NO_BIT, PLAIN, OPERATION_CALL, FUNCTION_CALL}
 use Rattle.image.specs.Image.{Image}
-use Rattle.image.specs.Decode.{schemeCount, lastLabel}
-use Rattle.tables.specs.Table.{tableLabel, tableImage}
+use Rattle.image.specs.Decode.{scheme_count, last_label}
+use Rattle.tables.specs.Table.{table_label, table_image}
 use Rattle.tables.specs.inner.Asked.{Whole}
 use Rattle.tables.specs.inner.Labels.{NumberedLabel}
 use Rattle.rows.specs.Rows.{Found}
 use Rattle.state.specs.declared.State.{State}
-use Rattle.state.specs.State.{placeAt}
+use Rattle.state.specs.State.{place_at}
 use Rattle.state.specs.Bytes.{state_of}
-use Rattle.fitness.specs.Fitness.{badDepth}
+use Rattle.fitness.specs.Fitness.{has_bad_depth}
 use Rattle.ticks.specs.declared.TickEnd.{TickEnd}
-use Rattle.ticks.specs.Tick.{top_of, rowLeads, MachineTick, finished, stopped, tick}
+use Rattle.ticks.specs.Tick.{top_of, row_leads, MachineTick, finished, stopped, tick}
 use Rattle.ticks.specs.declared.TickMove.{TickMove}
 
 -- a table that stands alone, and a depth of 1 to Σ: all that a tick asks
 pub record TickAsked (b : List ℕ) (s : State) : Type 0 where
   pub whole : Whole b
-  pub depth : badDepth s ≡ false
+  pub depth : has_bad_depth s ≡ false
 
 -- H and M as the caller has them
 pub record Header (b : List ℕ) (h m : ℕ) : Type 0 where
-  pub schemes : h ≡ schemeCount b
-  pub last : m ≡ lastLabel b
+  pub schemes : h ≡ scheme_count b
+  pub last : m ≡ last_label b
 
 -- ---- what the function for each sort of label at the top asks
 
-abbrev pub topKind : List ℕ → State → ℕ
-topKind b s = (tableLabel b (top_of s)).kind
+abbrev pub top_kind : List ℕ → State → ℕ
+top_kind b s = (table_label b (top_of s)).kind
 
 pub record TopHome (b : List ℕ) (s : State) : Type 0 where
   pub stands : TickAsked b s
@@ -53,8 +53,8 @@ pub record TopNumbered (b : List ℕ) (s : State) : Type 0 where
 pub record TopCalls (b : List ℕ) (s : State) : Type 0 where
   pub stands : TickAsked b s
   pub label : NumberedLabel b (top_of s)
-  pub low : OPERATION_CALL ≤ topKind b s
-  pub high : topKind b s ≤ FUNCTION_CALL
+  pub low : OPERATION_CALL ≤ top_kind b s
+  pub high : top_kind b s ≤ FUNCTION_CALL
 
 -- a call with no place free
 pub record TopFull (b : List ℕ) (s : State) : Type 0 where
@@ -64,29 +64,29 @@ pub record TopFull (b : List ℕ) (s : State) : Type 0 where
 pub record TopPlain (b : List ℕ) (s : State) : Type 0 where
   pub stands : TickAsked b s
   pub label : NumberedLabel b (top_of s)
-  pub kind : topKind b s ≡ PLAIN
+  pub kind : top_kind b s ≡ PLAIN
 
 -- where the label beneath the top leads
 abbrev pub beneath : Image → State → ℕ → Found
-beneath i s w = rowLeads i s.bits (placeAt s (s.depth - 2)) w
+beneath i s w = row_leads i s.bits (place_at s (s.depth - 2)) w
 
 -- the bit that decides among the rows of a label of that kind, or 2 where none does
 abbrev pub bit_of : ℕ → ℕ → Results → ℕ
 bit_of kind called b = pick (eqb kind FUNCTION_CALL) (pick (result_of called b) 1 0) NO_BIT
 
 -- ---- after a tick of s: the state, and what is answered
-abbrev pub afterTick : State → MachineTick → State
-afterTick s (finished m k t) = t
-afterTick s (stopped n) = s
+abbrev pub state_after_tick : State → MachineTick → State
+state_after_tick s (finished m k t) = t
+state_after_tick s (stopped n) = s
 
-abbrev pub endOfTick : MachineTick → TickEnd
-endOfTick (finished m k t) = record { number = 0; mask = m; code = k }
-endOfTick (stopped n) = record { number = n; mask = 0; code = 0 }
+abbrev pub end_of_tick : MachineTick → TickEnd
+end_of_tick (finished m k t) = record { number = 0; mask = m; code = k }
+end_of_tick (stopped n) = record { number = n; mask = 0; code = 0 }
 
 -- what a tick by the word w answers and leaves in the bytes; one that is stopped leaves them as they were
 pub record GivesTickEnd (b before : List ℕ) (w : ℕ) (r : TickEnd) (bytes : List ℕ) : Type 0 where
-  pub step : r ≡ endOfTick (tick (tableImage b) (state_of before) w)
-  pub state : state_of bytes ≡ afterTick (state_of before) (tick (tableImage b) (state_of before) w)
+  pub step : r ≡ end_of_tick (tick (table_image b) (state_of before) w)
+  pub state : state_of bytes ≡ state_after_tick (state_of before) (tick (table_image b) (state_of before) w)
   pub kept : (r.number ≡ 0 → ⊥) → bytes ≡ before
 
 -- the same, and the label at the top after it

@@ -14,20 +14,20 @@ use Rattle.words.proofs.lists.Written.{written-more}
 use Rattle.words.proofs.lists.Fills.{Pieces, pieces-turn}
 use Rattle.text.specs.frames.Frame.{size, quad}
 use Rattle.charts.specs.Chart.{Chart, kind, scheme, argument, next0, result, mask, begin}
-use Rattle.walk.specs.Stops.{stops, start}
+use Rattle.walk.specs.Stops.{is_stop, start}
 use Rattle.walk.proofs.Facts.{Facts}
-use Rattle.image.specs.Image.{entryFrame, labelFrame}
-use Rattle.chart_rows.specs.chart_labels.Labels.{numbered, label, entry, stopLabel}
+use Rattle.image.specs.Image.{entry_frame, label_frame}
+use Rattle.chart_rows.specs.chart_labels.Labels.{is_numbered, label, entry, stop_label}
 use Rattle.chart_rows.specs.chart_labels.inner.ChartContracts.{Labelled, OfKind, AtNode}
 use Rattle.translator.specs.label_text.inner.LabelContracts.{OfScheme}
-use Rattle.translator.specs.label_text.inner.LabelBytes.{entryBytes, nodeLabelBytes, Put}
+use Rattle.translator.specs.label_text.inner.LabelBytes.{entry_bytes, node_label_bytes, Put}
 use Rattle.chart_rows.proofs.chart_labels.ReadyLaws.{ready-facts}
 use Rattle.chart_rows.proofs.chart_labels.LabelSteps.{own-label, no-own-label}
 use Rattle.chart_rows.proofs.chart_labels.LabelKinds.{label-operation, label-function, label-bare}
 
 -- ---- entries
-pub numbered-stop : (c : Chart) (v : ℕ) → (kind c v ≡ 1 → ⊥) → numbered c v ≡ stops c v
-numbered-stop c v n = ap (λ x. stops c v && not x) (ne_eqb (kind c v) 1 n) ∙ unit (stops c v)
+pub numbered-stop : (c : Chart) (v : ℕ) → (kind c v ≡ 1 → ⊥) → is_numbered c v ≡ is_stop c v
+numbered-stop c v n = ap (λ x. is_stop c v && not x) (ne_eqb (kind c v) 1 n) ∙ unit (is_stop c v)
   where
     unit : (b : Bool) → (b && true) ≡ b
     unit true = refl
@@ -58,11 +58,11 @@ module _ {c : Chart} {labels : List ℕ} {h v : ℕ} (s : OfScheme c labels h) (
   pub entry_next : (w : ℕ) → w ≡ next0 c v → w < length labels
   entry_next w q = omega (arith, ok.long, next-inside)
 
-  starts : (b : Bool) → stops c v ≡ b → start c h ≡ pick b v (next0 c v)
+  starts : (b : Bool) → is_stop c v ≡ b → start c h ≡ pick b v (next0 c v)
   unfolding start
-  starts b q = ap (λ (x : ℕ). pick (stops c x) x (next0 c x)) (sym e) ∙ ap (λ y. pick y v (next0 c v)) q
+  starts b q = ap (λ (x : ℕ). pick (is_stop c x) x (next0 c x)) (sym e) ∙ ap (λ y. pick y v (next0 c v)) q
 
-  stop-by : numbered c v ≡ stops c v
+  stop-by : is_numbered c v ≡ is_stop c v
   stop-by = numbered-stop c v (λ z. omega (arith, begin-kind))
 
   pub entry-own : 2 ≤ get_or labels v 0 → get_or labels v 0 ≡ entry c h
@@ -76,13 +76,13 @@ module _ {c : Chart} {labels : List ℕ} {h v : ℕ} (s : OfScheme c labels h) (
       ap (λ (x : ℕ). get_or labels x 0) q ∙ ok.at (next0 c v) next-inside
       ∙ ap (label c) (sym (starts false (sym stop-by ∙ no-own-label c v (omega arith))))
 
-pub entries-turn : (c : Chart) (out₀ out out' : List ℕ) (at n k place l : ℕ) → Pieces (entryBytes c) 10 out₀ out at n k → k < n
+pub entries-turn : (c : Chart) (out₀ out out' : List ℕ) (at n k place l : ℕ) → Pieces (entry_bytes c) 10 out₀ out at n k → k < n
     → place ≡ at + 10 * k → at + 10 * n ≤ length out₀
-    → length out' ≡ length out → l ≡ entry c (k + 1) → out' ≡ written out place (entryFrame (k + 1) l)
-    → Pieces (entryBytes c) 10 out₀ out' at n (k + 1)
+    → length out' ≡ length out → l ≡ entry c (k + 1) → out' ≡ written out place (entry_frame (k + 1) l)
+    → Pieces (entry_bytes c) 10 out₀ out' at n (k + 1)
 entries-turn c out₀ out out' at n k place l w h p room s m e =
-    pieces-turn (entryBytes c) 10 out₀ at n (λ j. refl) out out' k place w h p (omega arith) s
-    (e ∙ ap (λ (x : ℕ). written out place (entryFrame (k + 1) x)) m)
+    pieces-turn (entry_bytes c) 10 out₀ at n (λ j. refl) out out' k place w h p (omega arith) s
+    (e ∙ ap (λ (x : ℕ). written out place (entry_frame (k + 1) x)) m)
 
 -- ---- labels
 pub fixed-done : (out out₁ out₂ a b : List ℕ) (at : ℕ) → length a ≡ 10 → at + 20 ≤ length out
@@ -98,7 +98,7 @@ module _ (c : Chart) (v l : ℕ) where
   pub operation-bytes : OfKind c 2 v → (t g o r m0 m1 m2 m3 : ℕ) → t ≡ pick (eqb g 0) 0 1 → g ≡ argument c v
       → o ≡ scheme c v → r ≡ result c v
       → m0 ≡ get_or c (10 * v + 6) 0 → m1 ≡ get_or c (10 * v + 7) 0 → m2 ≡ get_or c (10 * v + 8) 0 → m3 ≡ get_or c (10 * v + 9) 0
-      → (17 ∷ l ∷ t ∷ g ∷ o ∷ r ∷ m0 ∷ m1 ∷ m2 ∷ m3 ∷ []) ≡ labelFrame l (stopLabel c v)
+      → (17 ∷ l ∷ t ∷ g ∷ o ∷ r ∷ m0 ∷ m1 ∷ m2 ∷ m3 ∷ []) ≡ label_frame l (stop_label c v)
   operation-bytes node t g o r m0 m1 m2 m3 et eg eo er e0 e1 e2 e3 =
       let B : (j : ℕ) → get_or c j 0 < 256 = node.ready.bytes in
       let q : quad (mask c v) ≡ m0 ∷ m1 ∷ m2 ∷ m3 ∷ [] =
@@ -109,39 +109,39 @@ module _ (c : Chart) (v l : ℕ) where
       ap (λ (xs : List ℕ). 17 ∷ l ∷ t ∷ g ∷ o ∷ r ∷ xs) (sym q)
       ∙ ap₂ (λ (x y : ℕ). 17 ∷ l ∷ x ∷ y ∷ o ∷ r ∷ quad (mask c v)) p eg
       ∙ ap₂ (λ (x y : ℕ). 17 ∷ l ∷ pick (eqb (argument c v) 0) 0 1 ∷ argument c v ∷ x ∷ y ∷ quad (mask c v)) eo er
-      ∙ ap (labelFrame l) (sym (label-operation c v node.kind))
+      ∙ ap (label_frame l) (sym (label-operation c v node.kind))
 
   pub function-bytes : kind c v ≡ 4 → (g o : ℕ) → g ≡ argument c v → o ≡ scheme c v
-      → (17 ∷ l ∷ 2 ∷ g ∷ o ∷ 0 ∷ 0 ∷ 0 ∷ 0 ∷ 0 ∷ []) ≡ labelFrame l (stopLabel c v)
+      → (17 ∷ l ∷ 2 ∷ g ∷ o ∷ 0 ∷ 0 ∷ 0 ∷ 0 ∷ 0 ∷ []) ≡ label_frame l (stop_label c v)
   function-bytes k g o eg eo =
-      ap₂ (λ (x y : ℕ). 17 ∷ l ∷ 2 ∷ x ∷ y ∷ 0 ∷ 0 ∷ 0 ∷ 0 ∷ 0 ∷ []) eg eo ∙ ap (labelFrame l) (sym (label-function c v k))
+      ap₂ (λ (x y : ℕ). 17 ∷ l ∷ 2 ∷ x ∷ y ∷ 0 ∷ 0 ∷ 0 ∷ 0 ∷ 0 ∷ []) eg eo ∙ ap (label_frame l) (sym (label-function c v k))
 
   pub other-bytes : (kind c v ≡ 2 → ⊥) → (kind c v ≡ 4 → ⊥) → (o : ℕ) → o ≡ scheme c v
-      → (17 ∷ l ∷ 0 ∷ 0 ∷ o ∷ 0 ∷ 0 ∷ 0 ∷ 0 ∷ 0 ∷ []) ≡ labelFrame l (stopLabel c v)
-  other-bytes n m o eo = ap (λ (x : ℕ). 17 ∷ l ∷ 0 ∷ 0 ∷ x ∷ 0 ∷ 0 ∷ 0 ∷ 0 ∷ 0 ∷ []) eo ∙ ap (labelFrame l) (sym (label-bare c v n m))
+      → (17 ∷ l ∷ 0 ∷ 0 ∷ o ∷ 0 ∷ 0 ∷ 0 ∷ 0 ∷ 0 ∷ []) ≡ label_frame l (stop_label c v)
+  other-bytes n m o eo = ap (λ (x : ℕ). 17 ∷ l ∷ 0 ∷ 0 ∷ x ∷ 0 ∷ 0 ∷ 0 ∷ 0 ∷ 0 ∷ []) eo ∙ ap (label_frame l) (sym (label-bare c v n m))
 
 module _ {c : Chart} {labels : List ℕ} {v : ℕ} (node : AtNode c labels v) where
   read : get_or labels v 0 ≡ label c v
   read = node.chart.labelled.at v node.inside
 
-  pub label-none : get_or labels v 0 < 2 → nodeLabelBytes c v ≡ []
+  pub label-none : get_or labels v 0 < 2 → node_label_bytes c v ≡ []
   label-none h =
-      no-pick (numbered c v) (labelFrame (label c v) (stopLabel c v)) [] (no-own-label c v (omega (arith, read)))
+      no-pick (is_numbered c v) (label_frame (label c v) (stop_label c v)) [] (no-own-label c v (omega (arith, read)))
 
-  label-one : 2 ≤ get_or labels v 0 → nodeLabelBytes c v ≡ labelFrame (label c v) (stopLabel c v)
+  label-one : 2 ≤ get_or labels v 0 → node_label_bytes c v ≡ label_frame (label c v) (stop_label c v)
   label-one h =
-      yes-pick (numbered c v) (labelFrame (label c v) (stopLabel c v)) [] (own-label c v (omega (arith, read)))
+      yes-pick (is_numbered c v) (label_frame (label c v) (stop_label c v)) [] (own-label c v (omega (arith, read)))
 
-  label-long : 2 ≤ get_or labels v 0 → length (nodeLabelBytes c v) ≡ 10
+  label-long : 2 ≤ get_or labels v 0 → length (node_label_bytes c v) ≡ 10
   label-long h = ap (λ (x : List ℕ). length x) (label-one h)
 
-  pub label-room : 2 ≤ get_or labels v 0 → (at n : ℕ) → at + length (nodeLabelBytes c v) ≤ n → at + 10 ≤ n
+  pub label-room : 2 ≤ get_or labels v 0 → (at n : ℕ) → at + length (node_label_bytes c v) ≤ n → at + 10 ≤ n
   label-room h at n r = omega (arith, label-long h)
 
   pub label-done : 2 ≤ get_or labels v 0 → (out out' : List ℕ) (at : ℕ)
-      → out' ≡ written out at (labelFrame (get_or labels v 0) (stopLabel c v))
-      → Put out at (nodeLabelBytes c v) (at + 10) out'
+      → out' ≡ written out at (label_frame (get_or labels v 0) (stop_label c v))
+      → Put out at (node_label_bytes c v) (at + 10) out'
   label-done h out out' at e = record {
     ends = omega (arith, label-long h);
-    holds = e ∙ ap (λ (x : ℕ). written out at (labelFrame x (stopLabel c v))) read ∙ ap (written out at) (sym (label-one h));
+    holds = e ∙ ap (λ (x : ℕ). written out at (label_frame x (stop_label c v))) read ∙ ap (written out at) (sym (label-one h));
   }

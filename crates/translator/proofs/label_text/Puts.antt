@@ -6,7 +6,7 @@ use native.Mathlib.Nat.{zero-add, add-zero}
 use native.Mathlib.Numerals.{add-one}
 use native.Mathlib.Omega.{arith}
 use lib.ListN.{length, length-append}
-use Rattle.words.specs.lists.Sequences.{concatMap, written}
+use Rattle.words.specs.lists.Sequences.{concat_map, written}
 use Rattle.words.proofs.lists.Joins.{concat-range-snoc}
 use Rattle.words.proofs.lists.Written.{written_none, written-length, written-more}
 use Rattle.translator.specs.label_text.inner.LabelBytes.{up_to, Put}
@@ -67,7 +67,7 @@ module _ (piece : ℕ → List ℕ) where
       omega (arith, up-mono u d, ap (λ (x : List ℕ). length x) (e ∙ up_more (u + d)) ∙ length-append (up_to piece (u + d)) (piece (u + d)))
 
   pub appended-start : (out : List ℕ) (at n : ℕ) → Appended piece out out at at n 0
-  unfolding concatMap
+  unfolding concat_map
   appended-start out at n = record { within = omega arith; size = refl; here = omega arith; buffer = sym (written_none out at) }
 
   module _ (out₀ out : List ℕ) (at place n v : ℕ) (t : Appended piece out₀ out at place n v) where

@@ -6,50 +6,50 @@ use Prim.Native.Nat.{ℕ, ◌+◌, ◌≤◌}
 use native.Mathlib.Omega.{arith}
 use lib.Dec.{eqb}
 use lib.ListN.{length, get_or}
-use Rattle.words.specs.lists.Sequences.{concatMap}
+use Rattle.words.specs.lists.Sequences.{concat_map}
 use Rattle.words.proofs.lists.Joins.{concat-cons, concat-append}
 use Rattle.words.specs.bits.Word.{bit}
 use Rattle.text.specs.frames.Frame.{size}
 use Rattle.charts.specs.Chart.{Chart, argument}
 use Rattle.charts.proofs.Rank.{rank}
-use Rattle.walk.specs.Stops.{stops}
-use Rattle.image.specs.Image.{Row, rowFrame, row}
+use Rattle.walk.specs.Stops.{is_stop}
+use Rattle.image.specs.Image.{Row, row_frame, row}
 use Rattle.chart_rows.specs.chart_labels.Labels.{label}
 use Rattle.chart_rows.specs.inner.PathContracts.{Entered, PathAt}
 use Rattle.chart_rows.specs.chart_labels.inner.ChartContracts.{Charted}
-use Rattle.translator.specs.path_text.inner.RowBytes.{rowsBytes}
-use Rattle.chart_rows.specs.inner.NodeRows.{pathsFrom}
+use Rattle.translator.specs.path_text.inner.RowBytes.{rows_bytes}
+use Rattle.chart_rows.specs.inner.NodeRows.{paths_from}
 use Rattle.translator.specs.label_text.inner.LabelBytes.{Put}
 use Rattle.translator.proofs.label_text.Puts.{Parted, put-length, both_first, both-second, both-done, nothing_put, done-as}
 use Rattle.chart_rows.proofs.Settled.{Settled}
 use Rattle.chart_rows.proofs.PathCases.{Fork, stop-paths}
 
 -- ---- the paths on from a node
-pub rows_append : (a b : List Row) → rowsBytes (a ++ b) ≡ rowsBytes a ++ rowsBytes b
-rows_append a b = concat-append rowFrame a b
+pub rows_append : (a b : List Row) → rows_bytes (a ++ b) ≡ rows_bytes a ++ rows_bytes b
+rows_append a b = concat-append row_frame a b
 
-row-alone : (r : Row) → rowsBytes (r ∷ []) ≡ rowFrame r
-row-alone r = concat-cons rowFrame r [] ∙ (unfold concatMap in append-nil (rowFrame r))
+row-alone : (r : Row) → rows_bytes (r ∷ []) ≡ row_frame r
+row-alone r = concat-cons row_frame r [] ∙ (unfold concat_map in append-nil (row_frame r))
 
 module _ (c : Chart) (labels : List ℕ) (chart : Charted c labels) (care values v u : ℕ) (st : Settled c care values v u)
-    (s : stops c u ≡ true) (l f : ℕ) where
-  leaf-bytes : rowsBytes (pathsFrom (size c) c l f care values v) ≡ rowFrame (row l care values f (label c u))
-  leaf-bytes = ap rowsBytes (stop-paths c chart.ready care values v u st s l f) ∙ row-alone (row l care values f (label c u))
+    (s : is_stop c u ≡ true) (l f : ℕ) where
+  leaf-bytes : rows_bytes (paths_from (size c) c l f care values v) ≡ row_frame (row l care values f (label c u))
+  leaf-bytes = ap rows_bytes (stop-paths c chart.ready care values v u st s l f) ∙ row-alone (row l care values f (label c u))
 
-  leaf-length : length (rowsBytes (pathsFrom (size c) c l f care values v)) ≡ 10
+  leaf-length : length (rows_bytes (paths_from (size c) c l f care values v)) ≡ 10
   leaf-length = ap (λ (x : List ℕ). length x) leaf-bytes
 
-  pub leaf_room : (at n : ℕ) → at + length (rowsBytes (pathsFrom (size c) c l f care values v)) ≤ n → at + 10 ≤ n
+  pub leaf_room : (at n : ℕ) → at + length (rows_bytes (paths_from (size c) c l f care values v)) ≤ n → at + 10 ≤ n
   leaf_room at n h = omega (arith, leaf-length)
 
-  pub leaf-done : (out out' : List ℕ) (at r : ℕ) → Put out at (rowFrame (row l care values f (get_or labels u 0))) r out'
-      → Put out at (rowsBytes (pathsFrom (size c) c l f care values v)) r out'
+  pub leaf-done : (out out' : List ℕ) (at r : ℕ) → Put out at (row_frame (row l care values f (get_or labels u 0))) r out'
+      → Put out at (rows_bytes (paths_from (size c) c l f care values v)) r out'
   leaf-done out out' at r p =
       done-as _ _ out out' at r
-      (leaf-bytes ∙ ap (λ (x : ℕ). rowFrame (row l care values f x)) (sym (chart.labelled.at u st.entered.inside))) p
+      (leaf-bytes ∙ ap (λ (x : ℕ). row_frame (row l care values f x)) (sym (chart.labelled.at u st.entered.inside))) p
 
 -- a path is settled at a stop that it comes to
-pub at-end : (c : Chart) (care values v : ℕ) → Entered c v → stops c v ≡ true → Settled c care values v v
+pub at-end : (c : Chart) (care values v : ℕ) → Entered c v → is_stop c v ≡ true → Settled c care values v v
 at-end c care values v t s = record {
   entered = t;
   lower = omega arith;
@@ -58,10 +58,11 @@ at-end c care values v t s = record {
 }
 
 module _ (c : Chart) (care values v tested valued w0 w1 : ℕ) (k : Fork c care values v tested valued w0 w1) (l f : ℕ) where
-  pub fork-bytes : Parted (rowsBytes (pathsFrom (size c) c l f care values v)) (rowsBytes (pathsFrom (size c) c l f tested values w0))
-      (rowsBytes (pathsFrom (size c) c l f tested valued w1))
+  pub fork-bytes : Parted (rows_bytes (paths_from (size c) c l f care values v)) (rows_bytes (paths_from (size c) c l f tested values w0))
+      (rows_bytes (paths_from (size c) c l f tested valued w1))
   fork-bytes = record {
-    parts = ap rowsBytes (k.all l f) ∙ rows_append (pathsFrom (size c) c l f tested values w0) (pathsFrom (size c) c l f tested valued w1);
+    parts =
+        ap rows_bytes (k.all l f) ∙ rows_append (paths_from (size c) c l f tested values w0) (paths_from (size c) c l f tested valued w1);
   }
 
 -- ---- the loop along 1 sides: of all rows some are put, and the others are those of the paths on from node v
@@ -70,10 +71,10 @@ pub record PutAlong (c : Chart) (notes all out₀ out : List ℕ) (at place l f 
   pub below : rank c v ≤ top
   pub done : List ℕ
   pub put : Put out₀ at done place out
-  pub rest : Parted all done (rowsBytes (pathsFrom (size c) c l f care values v))
+  pub rest : Parted all done (rows_bytes (paths_from (size c) c l f care values v))
 
 pub walked_start : (c : Chart) (notes out : List ℕ) (at l f top care values v : ℕ) → PathAt c notes care values v → rank c v ≡ top
-    → PutAlong c notes (rowsBytes (pathsFrom (size c) c l f care values v)) out out at at l f top care values v
+    → PutAlong c notes (rows_bytes (paths_from (size c) c l f care values v)) out out at at l f top care values v
 walked_start c notes out at l f top care values v p e = record {
   path = p;
   below = omega arith;
@@ -84,22 +85,22 @@ walked_start c notes out at l f top care values v p e = record {
 
 module _ {c : Chart} {notes all out₀ out : List ℕ} {at place l f top care values v : ℕ}
     (w : PutAlong c notes all out₀ out at place l f top care values v) (room : at + length all ≤ length out₀) where
-  pub walked-room : place + length (rowsBytes (pathsFrom (size c) c l f care values v)) ≤ length out
+  pub walked-room : place + length (rows_bytes (paths_from (size c) c l f care values v)) ≤ length out
   walked-room = both-second w.rest room w.put
 
   pub walked-long : length out ≡ length out₀
   walked-long = put-length (both_first w.rest at (length out₀) room) w.put
 
-  pub walked-done : {out' : List ℕ} {r : ℕ} → Put out place (rowsBytes (pathsFrom (size c) c l f care values v)) r out'
+  pub walked-done : {out' : List ℕ} {r : ℕ} → Put out place (rows_bytes (paths_from (size c) c l f care values v)) r out'
       → Put out₀ at all r out'
   walked-done q = both-done w.rest room w.put q
 
   module _ {tested valued w0 w1 : ℕ} (k : Fork c care values v tested valued w0 w1) where
     abbrev low : List ℕ
-    low = rowsBytes (pathsFrom (size c) c l f tested values w0)
+    low = rows_bytes (paths_from (size c) c l f tested values w0)
 
     abbrev high : List ℕ
-    high = rowsBytes (pathsFrom (size c) c l f tested valued w1)
+    high = rows_bytes (paths_from (size c) c l f tested valued w1)
 
     pub low-room : place + length low ≤ length out
     low-room = both_first (fork-bytes c care values v tested valued w0 w1 k l f) place (length out) walked-room

@@ -1,27 +1,27 @@
 -- The image of an accepted chart, as the functions behind the entry point leave it.
 use Rattle.std.specs.Prelude.{ℕ, ◌+◌, ◌*◌, List, ltb, length}
 use Rattle.words.specs.lists.Pick.{pick}
-use Rattle.words.specs.lists.Sequences.{concatMap}
+use Rattle.words.specs.lists.Sequences.{concat_map}
 use Rattle.text.specs.declared.frames.sizes.TheConstants.{LINE, ROWS}
 use Rattle.text.specs.declared.frames.refusals.TheConstants.{MANY_ROWS, NO_ROOM}
 use Rattle.text.specs.frames.Verdict.{when}
-use Rattle.text.specs.frames.Answer.{BufferOutcome, bufferOn}
+use Rattle.text.specs.frames.Answer.{BufferOutcome, buffer_on}
 use Rattle.charts.specs.Chart.{Chart}
-use Rattle.image.specs.Image.{imageFrames, imageText}
+use Rattle.image.specs.Image.{image_frames, image_text}
 use Rattle.chart_rows.specs.Rows.{rows}
 use Rattle.translator.specs.Table.{table}
 
 -- the bytes of frames, and of those of a chart's table
-abbrev pub framesBytes : List (List ℕ) → List ℕ
-framesBytes = concatMap (λ f. f)
+abbrev pub frames_bytes : List (List ℕ) → List ℕ
+frames_bytes = concat_map (λ f. f)
 
-abbrev pub tableBytes : Chart → List ℕ
-tableBytes c = framesBytes (imageFrames (table c))
+abbrev pub table_bytes : Chart → List ℕ
+table_bytes c = frames_bytes (image_frames (table c))
 
 -- the number of the refusal for a chart with so many frames before its rows and room for so many characters, or 0
-abbrev pub sizeRefusal : Chart → ℕ → ℕ → ℕ
-sizeRefusal c before room = pick (ltb ROWS (length (rows c))) MANY_ROWS (pick (ltb room (LINE * (before + length (rows c)))) NO_ROOM 0)
+abbrev pub size_refusal : Chart → ℕ → ℕ → ℕ
+size_refusal c before room = pick (ltb ROWS (length (rows c))) MANY_ROWS (pick (ltb room (LINE * (before + length (rows c)))) NO_ROOM 0)
 
 -- what the functions leave in the buffer and answer: 10 and 16 are still to be tried
-abbrev pub imageOutcome : Chart → List ℕ → BufferOutcome
-imageOutcome c old = bufferOn (when MANY_ROWS (ltb ROWS (length (rows c)))) 1 (λ _. imageText (table c)) old
+abbrev pub image_outcome : Chart → List ℕ → BufferOutcome
+image_outcome c old = buffer_on (when MANY_ROWS (ltb ROWS (length (rows c)))) 1 (λ _. image_text (table c)) old

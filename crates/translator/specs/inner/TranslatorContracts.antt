@@ -4,14 +4,14 @@ use Rattle.words.specs.lists.Numbers.{count}
 use Rattle.text.specs.declared.frames.sizes.TheConstants.{LINE, ROWS}
 use Rattle.text.specs.frames.Frame.{size}
 use Rattle.charts.specs.Chart.{Chart, schemes}
-use Rattle.chart_rows.specs.chart_labels.Labels.{numbered}
+use Rattle.chart_rows.specs.chart_labels.Labels.{is_numbered}
 use Rattle.chart_rows.specs.Rows.{rows}
 use Rattle.chart_rows.specs.inner.PathContracts.{Noted}
 
 -- the numbers of schemes, of nodes with a label of their own, and of rows
 pub record Sizes (c : Chart) (highest own total : ℕ) : Type 0 where
   pub schemed : highest ≡ schemes c
-  pub owned : own ≡ count (numbered c) 0 (size c)
+  pub owned : own ≡ count (is_numbered c) 0 (size c)
   pub rowed : total ≡ length (rows c)
 
 -- a chart with the notes on its nodes and its sizes, and a buffer with room for its image

@@ -3,10 +3,10 @@ ghost use Rattle.std.specs.Prelude.{◌≡◌, ◌+◌, ◌≤◌, eqb, length};
 ghost use Rattle.words.specs.lists.Pick.{pick};
 ghost use Rattle.words.specs.lists.Sequences.{written};
 ghost use Rattle.text.specs.frames.Frame.{size};
-ghost use Rattle.image.specs.Image.{labelFrame};
-ghost use Rattle.chart_rows.specs.chart_labels.Labels.{stopLabel};
+ghost use Rattle.image.specs.Image.{label_frame};
+ghost use Rattle.chart_rows.specs.chart_labels.Labels.{stop_label};
 ghost use Rattle.chart_rows.specs.chart_labels.inner.ChartContracts.{Inner, OfKind, Charted, AtNode};
-ghost use Rattle.translator.specs.label_text.inner.LabelBytes.{fixedBytes, nodeLabelBytes, up_to, Put};
+ghost use Rattle.translator.specs.label_text.inner.LabelBytes.{fixed_bytes, node_label_bytes, up_to, Put};
 
 use charts::field;
 use charts::layout::*;
@@ -24,7 +24,7 @@ const MASK3: usize = MASK + 3;
 // Labels 0 and 1.
 pub fn put_fixed(out: &mut [u8], at: usize)
     requires { at + 20 ≤ length out.old }
-    ensures { out.new ≡ written out.old at fixedBytes }
+    ensures { out.new ≡ written out.old at fixed_bytes }
 {
     let home = [LABEL, 0, HOME, 0, 1, 0, 0, 0, 0, 0];
     put_bytes(out, at, &home);
@@ -36,7 +36,7 @@ pub fn put_fixed(out: &mut [u8], at: usize)
 fn put_operation(records: &[u8], v: usize, label: u8, out: &mut [u8], at: usize)
     requires of_kind { OfKind records.now OPERATION v }
     requires at_in_bounds { at + FRAME ≤ length out.old }
-    ensures { out.new ≡ written out.old at (labelFrame label (stopLabel records.now v)) }
+    ensures { out.new ≡ written out.old at (label_frame label (stop_label records.now v)) }
 {
     let called = field(records, v, ARGUMENT);
     let tick = call_kind(called);
@@ -63,7 +63,7 @@ fn call_kind(called: u8) -> u8
 fn put_label(records: &[u8], v: usize, label: u8, out: &mut [u8], at: usize)
     requires inner { Inner records.now v }
     requires at_in_bounds { at + FRAME ≤ length out.old }
-    ensures { out.new ≡ written out.old at (labelFrame label (stopLabel records.now v)) }
+    ensures { out.new ≡ written out.old at (label_frame label (stop_label records.now v)) }
 {
     let owner = field(records, v, SCHEME);
     match field(records, v, KIND) {
@@ -83,8 +83,8 @@ fn put_label(records: &[u8], v: usize, label: u8, out: &mut [u8], at: usize)
 // The label of a node, where it has one of its own; the offset after it.
 fn put_node_label(records: &[u8], labels: &[u8], v: usize, out: &mut [u8], at: usize) -> usize
     requires at_node { AtNode records.now labels.now v }
-    requires v_in_bounds { at + length (nodeLabelBytes records.now v) ≤ length out.old }
-    ensures { Put out.old at (nodeLabelBytes records.now v) result out.new }
+    requires v_in_bounds { at + length (node_label_bytes records.now v) ≤ length out.old }
+    ensures { Put out.old at (node_label_bytes records.now v) result out.new }
 {
     let label = labels[v];
     if label < 2 {
@@ -97,9 +97,9 @@ fn put_node_label(records: &[u8], labels: &[u8], v: usize, out: &mut [u8], at: u
 // The labels of all nodes that have one of their own.
 pub fn put_labels(records: &[u8], labels: &[u8], out: &mut [u8], at: usize)
     requires charted { Charted records.now labels.now }
-    requires records_in_bounds { at + length (up_to (nodeLabelBytes records.now) (size records.now)) ≤ length out.old }
+    requires records_in_bounds { at + length (up_to (node_label_bytes records.now) (size records.now)) ≤ length out.old }
     ensures { out.new ≡ written out.old at
-        (up_to (nodeLabelBytes records.now) (size records.now)) }
+        (up_to (node_label_bytes records.now) (size records.now)) }
 {
     let n = records.len() / RECORD;
     let mut place = at;

@@ -3,8 +3,8 @@ ghost use Rattle.std.specs.Prelude.{◌+◌, ◌≤◌, length};
 ghost use Rattle.text.specs.frames.Frame.{size};
 ghost use Rattle.chart_rows.specs.chart_labels.Labels.{label};
 ghost use Rattle.chart_rows.specs.inner.PathContracts.{Noted, NotedAt, SidesAt};
-ghost use Rattle.translator.specs.path_text.inner.RowBytes.{rowsBytes};
-ghost use Rattle.translator.specs.row_text.inner.NodeBytes.{nodeRowsBytes};
+ghost use Rattle.translator.specs.path_text.inner.RowBytes.{rows_bytes};
+ghost use Rattle.translator.specs.row_text.inner.NodeBytes.{node_rows_bytes};
 ghost use Rattle.chart_rows.specs.inner.NodeRows.{sides};
 ghost use Rattle.translator.specs.label_text.inner.LabelBytes.{up_to, Put};
 
@@ -28,9 +28,9 @@ fn put_sides(
     at: usize,
 ) -> usize
     requires sides_at { SidesAt records.now notes.now care values v }
-    requires v_in_bounds { at + length (rowsBytes (sides records.now (label records.now v) first second care values v)) ≤ length out.old }
+    requires v_in_bounds { at + length (rows_bytes (sides records.now (label records.now v) first second care values v)) ≤ length out.old }
     ensures { Put out.old at
-        (rowsBytes (sides records.now (label records.now v) first second care values v)) result out.new }
+        (rows_bytes (sides records.now (label records.now v) first second care values v)) result out.new }
 {
     let from = notes[v];
     let next0 = field(records, v, NEXT0);
@@ -42,8 +42,8 @@ fn put_sides(
 // The rows of a node: none where it has no label of its own.
 fn put_node(records: &[u8], notes: &[u8], v: usize, out: &mut [u8], at: usize) -> usize
     requires noted_at { NotedAt records.now notes.now v }
-    requires v_in_bounds { at + length (nodeRowsBytes records.now v) ≤ length out.old }
-    ensures { Put out.old at (nodeRowsBytes records.now v) result out.new }
+    requires v_in_bounds { at + length (node_rows_bytes records.now v) ≤ length out.old }
+    ensures { Put out.old at (node_rows_bytes records.now v) result out.new }
 {
     let from = notes[v];
     if from < 2 {
@@ -72,8 +72,8 @@ fn put_node(records: &[u8], notes: &[u8], v: usize, out: &mut [u8], at: usize) -
 // The rows of all nodes.
 pub fn put_rows(records: &[u8], notes: &[u8], out: &mut [u8], at: usize) -> usize
     requires noted { Noted records.now notes.now }
-    requires records_in_bounds { at + length (up_to (nodeRowsBytes records.now) (size records.now)) ≤ length out.old }
-    ensures { Put out.old at (up_to (nodeRowsBytes records.now) (size records.now))
+    requires records_in_bounds { at + length (up_to (node_rows_bytes records.now) (size records.now)) ≤ length out.old }
+    ensures { Put out.old at (up_to (node_rows_bytes records.now) (size records.now))
         result out.new }
 {
     let n = records.len() / RECORD;

@@ -12,8 +12,8 @@ use lib.Seq.{set_out, set-get_or, get_or-set_same, get_or-set_other}
 use borrow.Author.Tests.{ltb-true, lt-ltb, le-ltb}
 use Rattle.words.proofs.lists.Tests.{no_both, and_l, and_r, and-true, and_no, not-true, cases, split}
 use Rattle.words.proofs.lists.Counts.{count-le}
-use Rattle.words.specs.graph.Reach.{marked, only}
-use Rattle.words.specs.graph.inner.Listed.{many, markAll, Listing, listing, unmarked, enlist, enlistAll, Among, Listed}
+use Rattle.words.specs.graph.Reach.{is_marked, only_marks}
+use Rattle.words.specs.graph.inner.Listed.{many, mark_all, Listing, listing, is_unmarked, enlist, enlist_all, Among, Listed}
 use Rattle.words.proofs.graph.Marking.{set-hit, set-grow, set_back, set-many, all-only}
 use Rattle.words.proofs.graph.Lists.{Longer, longer-same, longer-on, listed-none}
 
@@ -37,35 +37,35 @@ last_or list k x p l m h i b = go (ℕ_discrete i k)
 -- ---- one mark more
 module _ (ms : List Bool) (u : ℕ) where
   -- a node without a mark, and the two other cases
-  pub mark-new : u < length ms → marked ms u ≡ false → unmarked ms u ≡ true
-  mark-new l m = and-true (ltb u (length ms)) (not (marked ms u)) (lt-ltb u (length ms) l) (rw m)
+  pub mark-new : u < length ms → is_marked ms u ≡ false → is_unmarked ms u ≡ true
+  mark-new l m = and-true (ltb u (length ms)) (not (is_marked ms u)) (lt-ltb u (length ms) l) (rw m)
 
-  pub mark-out : length ms ≤ u → unmarked ms u ≡ false
+  pub mark-out : length ms ≤ u → is_unmarked ms u ≡ false
   mark-out l = rw (le-ltb u (length ms) l)
 
-  pub mark-there : marked ms u ≡ true → unmarked ms u ≡ false
-  mark-there m = and_no (ltb u (length ms)) (not (marked ms u)) (rw m)
+  pub mark-there : is_marked ms u ≡ true → is_unmarked ms u ≡ false
+  mark-there m = and_no (ltb u (length ms)) (not (is_marked ms u)) (rw m)
 
-  pub mark-same : unmarked ms u ≡ false → set ms u true ≡ ms
-  mark-same f = go (split u (length ms)) (cases (marked ms u))
+  pub mark-same : is_unmarked ms u ≡ false → set ms u true ≡ ms
+  mark-same f = go (split u (length ms)) (cases (is_marked ms u))
     where
-      go : (u < length ms) ⊎ (length ms ≤ u) → (marked ms u ≡ true) ⊎ (marked ms u ≡ false) → set ms u true ≡ ms
+      go : (u < length ms) ⊎ (length ms ≤ u) → (is_marked ms u ≡ true) ⊎ (is_marked ms u ≡ false) → set ms u true ≡ ms
       go (inr l) m = set_out ms u true l
       go (inl l) (inl m) = ap (λ (b : Bool). set ms u b) (sym m) ∙ set-get_or ms u false
-      go (inl l) (inr m) = no_both (unmarked ms u) (mark-new l m) f
+      go (inl l) (inr m) = no_both (is_unmarked ms u) (mark-new l m) f
 
-  module _ (k : ℕ) (counted : k ≡ many ms) (new : unmarked ms u ≡ true) where
+  module _ (k : ℕ) (counted : k ≡ many ms) (new : is_unmarked ms u ≡ true) where
     below : u < length ms
-    below = ltb-true u (length ms) (and_l (ltb u (length ms)) (not (marked ms u)) new)
+    below = ltb-true u (length ms) (and_l (ltb u (length ms)) (not (is_marked ms u)) new)
 
-    bare : marked ms u ≡ false
-    bare = not-true (marked ms u) (and_r (ltb u (length ms)) (not (marked ms u)) new)
+    bare : is_marked ms u ≡ false
+    bare = not-true (is_marked ms u) (and_r (ltb u (length ms)) (not (is_marked ms u)) new)
 
     pub list_counted : k + 1 ≡ many (set ms u true)
     list_counted = ap (λ (j : ℕ). j + 1) counted ∙ sym (set-many ms u below bare)
 
     pub list-room : k < length ms
-    list-room = omega (arith, list_counted, count-le (marked (set ms u true)) 0 (length (set ms u true)), length-set ms u true)
+    list-room = omega (arith, list_counted, count-le (is_marked (set ms u true)) 0 (length (set ms u true)), length-set ms u true)
 
     module _ (list : List ℕ) (fits : length ms ≤ length list) where
       pub list-new : Listed ms list k → Listed (set ms u true) (set list k u) (k + 1)
@@ -73,10 +73,10 @@ module _ (ms : List Bool) (u : ℕ) where
           let r : k < length list = omega (arith, list-room) in
           record {
             counted = list_counted;
-            are = last_or list k u (marked (set ms u true)) r (set-hit ms u below) (λ i b. set-grow ms u (get_or list i 0) (is.are i b));
+            are = last_or list k u (is_marked (set ms u true)) r (set-hit ms u below) (λ i b. set-grow ms u (get_or list i 0) (is.are i b));
             all = λ v t. ⊎_elim
                 (λ (e : v ≡ u). subst (λ (x : ℕ). Among (set list k u) (k + 1) x) (sym e) (among-last list k u r))
-                (λ (t : marked ms v ≡ true). among-more list k v u (is.all v t))
+                (λ (t : is_marked ms v ≡ true). among-more list k v u (is.all v t))
                 (set_back ms u v t);
           }
 
@@ -85,33 +85,33 @@ module _ (ms : List Bool) (u : ℕ) where
 
 -- ---- what is enlisted
 module _ (s : Listing) (u : ℕ) where
-  pub enlist-new : unmarked s.marks u ≡ true → enlist s u ≡ listing (set s.marks u true) (set s.list s.count u) (s.count + 1)
+  pub enlist-new : is_unmarked s.marks u ≡ true → enlist s u ≡ listing (set s.marks u true) (set s.list s.count u) (s.count + 1)
   unfolding enlist
   enlist-new t = simp t
 
-  pub enlist-same : unmarked s.marks u ≡ false → enlist s u ≡ s
+  pub enlist-same : is_unmarked s.marks u ≡ false → enlist s u ≡ s
   unfolding enlist
   enlist-same t = simp (t, mark-same s.marks u t)
 
   pub enlist-counted : (t : Listing) → t ≡ enlist s u → s.count ≡ many s.marks → t.count ≡ many t.marks
-  enlist-counted t q e = subst (λ (x : Listing). x.count ≡ many x.marks) (sym q) (go (cases (unmarked s.marks u)))
+  enlist-counted t q e = subst (λ (x : Listing). x.count ≡ many x.marks) (sym q) (go (cases (is_unmarked s.marks u)))
     where
-      go : (unmarked s.marks u ≡ true) ⊎ (unmarked s.marks u ≡ false) → (enlist s u).count ≡ many (enlist s u).marks
+      go : (is_unmarked s.marks u ≡ true) ⊎ (is_unmarked s.marks u ≡ false) → (enlist s u).count ≡ many (enlist s u).marks
       go (inl n) = subst (λ (x : Listing). x.count ≡ many x.marks) (sym (enlist-new n)) (list_counted s.marks u s.count e n)
       go (inr n) = subst (λ (x : Listing). x.count ≡ many x.marks) (sym (enlist-same n)) e
 
 -- nodes are enlisted one after the other: they are marked, the list has the marked nodes, and it goes on
 pub record Enlisted (s : Listing) (us : List ℕ) (t : Listing) : Type 0 where
-  pub marks : t.marks ≡ markAll us s.marks
+  pub marks : t.marks ≡ mark_all us s.marks
   pub listed : Listed t.marks t.list t.count
   pub longer : Longer s.list t.list s.count t.count
 
 enlisted-one : (s : Listing) (u : ℕ) → length s.marks ≤ length s.list
     → Listed s.marks s.list s.count → Enlisted s (u ∷ []) (enlist s u)
-unfolding markAll
-enlisted-one s u fits is = go (cases (unmarked s.marks u))
+unfolding mark_all
+enlisted-one s u fits is = go (cases (is_unmarked s.marks u))
   where
-    go : (unmarked s.marks u ≡ true) ⊎ (unmarked s.marks u ≡ false) → Enlisted s (u ∷ []) (enlist s u)
+    go : (is_unmarked s.marks u ≡ true) ⊎ (is_unmarked s.marks u ≡ false) → Enlisted s (u ∷ []) (enlist s u)
     go (inl t) = subst (λ (x : Listing). Enlisted s (u ∷ []) x) (sym (enlist-new s u t)) (record {
       marks = refl;
       listed = list-new s.marks u s.count is.counted t s.list fits is;
@@ -124,34 +124,34 @@ enlisted-one s u fits is = go (cases (unmarked s.marks u))
     })
 
 enlist-fits : (s : Listing) (u : ℕ) → length s.marks ≤ length s.list → length (enlist s u).marks ≤ length (enlist s u).list
-enlist-fits s u fits = go (cases (unmarked s.marks u))
+enlist-fits s u fits = go (cases (is_unmarked s.marks u))
   where
-    go : (unmarked s.marks u ≡ true) ⊎ (unmarked s.marks u ≡ false) → length (enlist s u).marks ≤ length (enlist s u).list
+    go : (is_unmarked s.marks u ≡ true) ⊎ (is_unmarked s.marks u ≡ false) → length (enlist s u).marks ≤ length (enlist s u).list
     go (inl t) = subst (λ (x : Listing). length x.marks ≤ length x.list) (sym (enlist-new s u t)) (simp length-set fits)
     go (inr t) = subst (λ (x : Listing). length x.marks ≤ length x.list) (sym (enlist-same s u t)) fits
 
 enlisted-each : (us : List ℕ) (s : Listing) → length s.marks ≤ length s.list
-    → Listed s.marks s.list s.count → Enlisted s us (enlistAll s us)
-unfolding enlistAll markAll
+    → Listed s.marks s.list s.count → Enlisted s us (enlist_all s us)
+unfolding enlist_all mark_all
 enlisted-each [] s fits is = record { marks = refl; listed = is; longer = longer-same s.list s.count }
 enlisted-each (u ∷ us) s fits is =
     let one : Enlisted s (u ∷ []) (enlist s u) = enlisted-one s u fits is in
-    let rest : Enlisted (enlist s u) us (enlistAll (enlist s u) us) = enlisted-each us (enlist s u) (enlist-fits s u fits) one.listed in
+    let rest : Enlisted (enlist s u) us (enlist_all (enlist s u) us) = enlisted-each us (enlist s u) (enlist-fits s u fits) one.listed in
     record {
-      marks = rest.marks ∙ ap (λ (ms : List Bool). markAll us ms) one.marks;
+      marks = rest.marks ∙ ap (λ (ms : List Bool). mark_all us ms) one.marks;
       listed = rest.listed;
       longer = longer-on _ _ _ _ _ _ one.longer rest.longer;
     }
 
 pub enlisted-all : (us : List ℕ) (s t : Listing) → length s.marks ≤ length s.list
-    → Listed s.marks s.list s.count → t ≡ enlistAll s us → Enlisted s us t
+    → Listed s.marks s.list s.count → t ≡ enlist_all s us → Enlisted s us t
 enlisted-all us s t fits is e = subst (λ (x : Listing). Enlisted s us x) (sym e) (enlisted-each us s fits is)
 
 -- on no marks at all
 pub enlisted-first : (n : ℕ) (us : List ℕ) (ms : List Bool) (list : List ℕ) (t : Listing) → ms ≡ replicate n false → n ≤ length list
-    → t ≡ enlistAll (listing ms list 0) us → (t.marks ≡ only n us) × Listed t.marks t.list t.count
+    → t ≡ enlist_all (listing ms list 0) us → (t.marks ≡ only_marks n us) × Listed t.marks t.list t.count
 enlisted-first n us ms list t e fits q =
     let all : Enlisted (listing (replicate n false) list 0) us t =
     enlisted-all us (listing (replicate n false) list 0) t (omega (arith, length-replicate n false)) (listed-none n list)
-    (q ∙ ap (λ (xs : List Bool). enlistAll (listing xs list 0) us) e) in
+    (q ∙ ap (λ (xs : List Bool). enlist_all (listing xs list 0) us) e) in
     (all.marks ∙ all-only n us, all.listed)

@@ -9,8 +9,8 @@ use native.Mathlib.Omega.{arith}
 use lib.ListN.{length, get_or, replicate, length-replicate, get_or-replicate}
 use Rattle.words.proofs.lists.Tests.{no_both}
 use Rattle.words.proofs.lists.Counts.{count-le, count_none}
-use Rattle.words.specs.graph.Reach.{member, marked}
-use Rattle.words.specs.graph.inner.Listed.{markAll, Among, Listed}
+use Rattle.words.specs.graph.Reach.{is_member, is_marked}
+use Rattle.words.specs.graph.inner.Listed.{mark_all, Among, Listed}
 use Rattle.words.proofs.graph.Closure.{marked-below, Closed, reach-closed}
 use Rattle.words.proofs.graph.Marking.{all-long, all-grow, all-hit, all_back, Joining}
 
@@ -33,11 +33,11 @@ longer-on a b d i j k x y =
 pub listed-none : (n : ℕ) (list : List ℕ) → Listed (replicate n false) list 0
 listed-none n list =
     let long : length (replicate n false) ≡ n = length-replicate n false in
-    let none : (v : ℕ) → v < n → marked (replicate n false) v ≡ false = λ v l. get_or-replicate n v false false l in
+    let none : (v : ℕ) → v < n → is_marked (replicate n false) v ≡ false = λ v l. get_or-replicate n v false false l in
     record {
-      counted = sym (count_none (marked (replicate n false)) 0 (length (replicate n false)) (λ k a b. none k (omega arith)));
+      counted = sym (count_none (is_marked (replicate n false)) 0 (length (replicate n false)) (λ k a b. none k (omega arith)));
       are = λ i l. absurd (omega arith);
-      all = λ v m. no_both (marked (replicate n false) v) m (none v (marked-below n (replicate n false) v long m));
+      all = λ v m. no_both (is_marked (replicate n false) v) m (none v (marked-below n (replicate n false) v long m));
     }
 
 module _ (ms : List Bool) (list : List ℕ) (k : ℕ) (is : Listed ms list k) where
@@ -45,12 +45,12 @@ module _ (ms : List Bool) (list : List ℕ) (k : ℕ) (is : Listed ms list k) wh
   list-node i b = marked-below (length ms) ms (get_or list i 0) refl (is.are i b)
 
   pub list-few : k ≤ length ms
-  list-few = omega (arith, is.counted, count-le (marked ms) 0 (length ms))
+  list-few = omega (arith, is.counted, count-le (is_marked ms) 0 (length ms))
 
 -- ---- a list that is followed
 -- the arcs of the first i nodes lead to marked ones
 pub record Followed (n : ℕ) (arcs : ℕ → List ℕ) (ms : List Bool) (list : List ℕ) (i : ℕ) : Type 0 where
-  pub led : (j : ℕ) → j < i → (v : ℕ) → v < n → member v (arcs (get_or list j 0)) ≡ true → marked ms v ≡ true
+  pub led : (j : ℕ) → j < i → (v : ℕ) → v < n → is_member v (arcs (get_or list j 0)) ≡ true → is_marked ms v ≡ true
 
 module _ (n : ℕ) (arcs : ℕ → List ℕ) where
   pub followed-none : (ms : List Bool) (list : List ℕ) → Followed n arcs ms list 0
@@ -58,37 +58,39 @@ module _ (n : ℕ) (arcs : ℕ → List ℕ) where
 
   -- one node more
   pub followed-more : (ms out : List Bool) (list on : List ℕ) (i k j : ℕ) → length ms ≡ n → i < k
-      → Longer list on k j → out ≡ markAll (arcs (get_or list i 0)) ms
+      → Longer list on k j → out ≡ mark_all (arcs (get_or list i 0)) ms
       → Followed n arcs ms list i → Followed n arcs out on (i + 1)
   followed-more ms out list on i k j e b longer o f = record { led = λ m l v lv s. go m l v lv s (ℕ_discrete m i) }
     where
-      go : (m : ℕ) → m < i + 1 → (v : ℕ) → v < n → member v (arcs (get_or on m 0)) ≡ true → Dec (m ≡ i) → marked out v ≡ true
+      go : (m : ℕ) → m < i + 1 → (v : ℕ) → v < n → is_member v (arcs (get_or on m 0)) ≡ true → Dec (m ≡ i) → is_marked out v ≡ true
       go m l v lv s (yes q) =
-          let t : member v (arcs (get_or list i 0)) ≡ true =
-          ap (λ (x : ℕ). member v (arcs x)) (sym (ap (λ (x : ℕ). get_or on x 0) q ∙ longer.kept i b)) ∙ s in
-          ap (λ (xs : List Bool). marked xs v) o ∙ all-hit (arcs (get_or list i 0)) ms v (omega arith) t
+          let t : is_member v (arcs (get_or list i 0)) ≡ true =
+          ap (λ (x : ℕ). is_member v (arcs x)) (sym (ap (λ (x : ℕ). get_or on x 0) q ∙ longer.kept i b)) ∙ s in
+          ap (λ (xs : List Bool). is_marked xs v) o ∙ all-hit (arcs (get_or list i 0)) ms v (omega arith) t
       go m l v lv s (no q) =
-          let t : member v (arcs (get_or list m 0)) ≡ true = ap (λ (x : ℕ). member v (arcs x)) (sym (longer.kept m (omega arith))) ∙ s in
-          ap (λ (xs : List Bool). marked xs v) o ∙ all-grow (arcs (get_or list i 0)) ms v (f.led m (omega arith) v lv t)
+          let t : is_member v (arcs (get_or list m 0)) ≡ true =
+          ap (λ (x : ℕ). is_member v (arcs x)) (sym (longer.kept m (omega arith))) ∙ s in
+          ap (λ (xs : List Bool). is_marked xs v) o ∙ all-grow (arcs (get_or list i 0)) ms v (f.led m (omega arith) v lv t)
 
-  pub followed-closed : (ms : List Bool) (list : List ℕ) (k : ℕ) → Listed ms list k → Followed n arcs ms list k → Closed n arcs (marked ms)
+  pub followed-closed : (ms : List Bool) (list : List ℕ) (k : ℕ) → Listed ms list k → Followed n arcs ms list k
+      → Closed n arcs (is_marked ms)
   followed-closed ms list k is f = record {
     goes = λ u v lu lv m s.
         let a : Among list k u = is.all u m in
-        f.led a.place a.inside v lv (ap (λ (x : ℕ). member v (arcs x)) a.found ∙ s);
+        f.led a.place a.inside v lv (ap (λ (x : ℕ). is_member v (arcs x)) a.found ∙ s);
   }
 
-  pub joining-more : (first now out : List Bool) (u : ℕ) → length first ≡ n → marked now u ≡ true → out ≡ markAll (arcs u) now
+  pub joining-more : (first now out : List Bool) (u : ℕ) → length first ≡ n → is_marked now u ≡ true → out ≡ mark_all (arcs u) now
       → Joining n arcs first now → Joining n arcs first out
   joining-more first now out u e m o j =
       let l : length now ≡ n = j.long in
-      let long : length (markAll (arcs u) now) ≡ n = all-long (arcs u) now ∙ l in
+      let long : length (mark_all (arcs u) now) ≡ n = all-long (arcs u) now ∙ l in
       subst (λ (xs : List Bool). Joining n arcs first xs) (sym o) (record {
         long = long;
         from = λ v t. all-grow (arcs u) now v (j.from v t);
         within = λ v t. ⊎_elim
-            (λ (s : member v (arcs u) ≡ true). (reach-closed n arcs first e).goes u v (marked-below n now u l m)
-            (marked-below n (markAll (arcs u) now) v long t) (j.within u m) s)
-            (λ (s : marked now v ≡ true). j.within v s)
+            (λ (s : is_member v (arcs u) ≡ true). (reach-closed n arcs first e).goes u v (marked-below n now u l m)
+            (marked-below n (mark_all (arcs u) now) v long t) (j.within u m) s)
+            (λ (s : is_marked now v ≡ true). j.within v s)
             (all_back (arcs u) now v t);
       })

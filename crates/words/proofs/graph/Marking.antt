@@ -14,133 +14,135 @@ use Rattle.words.specs.lists.Numbers.{count}
 use Rattle.words.specs.lists.Sequences.{some}
 use Rattle.words.proofs.lists.Tests.{no_both, or_cases, or-true-l, or_true_r, cases}
 use Rattle.words.proofs.lists.Counts.{count_add, count-miss}
-use Rattle.words.specs.graph.Reach.{member, marked, only, reach}
-use Rattle.words.specs.graph.inner.Listed.{many, markAll}
+use Rattle.words.specs.graph.Reach.{is_member, is_marked, only_marks, reach}
+use Rattle.words.specs.graph.inner.Listed.{many, mark_all}
 use Rattle.words.proofs.graph.Closure.{marked-below, only-long, only_at, Closed, reach-long, reach-grow, reach-least, reach-closed}
 
 -- ---- one mark
 module _ (ms : List Bool) (u : ℕ) where
-  pub set-hit : u < length ms → marked (set ms u true) u ≡ true
+  pub set-hit : u < length ms → is_marked (set ms u true) u ≡ true
   set-hit l = get_or-set_same ms u true false l
 
-  pub set-grow : (v : ℕ) → marked ms v ≡ true → marked (set ms u true) v ≡ true
+  pub set-grow : (v : ℕ) → is_marked ms v ≡ true → is_marked (set ms u true) v ≡ true
   set-grow v m = go (ℕ_discrete v u)
     where
-      go : Dec (v ≡ u) → marked (set ms u true) v ≡ true
-      go (yes e) = subst (λ (k : ℕ). marked (set ms u true) k ≡ true) (sym e)
+      go : Dec (v ≡ u) → is_marked (set ms u true) v ≡ true
+      go (yes e) = subst (λ (k : ℕ). is_marked (set ms u true) k ≡ true) (sym e)
           (set-hit (subst (λ (k : ℕ). k < length ms) e (marked-below (length ms) ms v refl m)))
       go (no e) = get_or-set_other ms u v true false e ∙ m
 
-  pub set_back : (v : ℕ) → marked (set ms u true) v ≡ true → (v ≡ u) ⊎ (marked ms v ≡ true)
+  pub set_back : (v : ℕ) → is_marked (set ms u true) v ≡ true → (v ≡ u) ⊎ (is_marked ms v ≡ true)
   set_back v m = go (ℕ_discrete v u)
     where
-      go : Dec (v ≡ u) → (v ≡ u) ⊎ (marked ms v ≡ true)
+      go : Dec (v ≡ u) → (v ≡ u) ⊎ (is_marked ms v ≡ true)
       go (yes e) = inl e
       go (no e) = inr (sym (get_or-set_other ms u v true false e) ∙ m)
 
-  pub set-many : u < length ms → marked ms u ≡ false → many (set ms u true) ≡ many ms + 1
+  pub set-many : u < length ms → is_marked ms u ≡ false → many (set ms u true) ≡ many ms + 1
   set-many l m =
-      ap (λ (n : ℕ). count (marked (set ms u true)) 0 n) (length-set ms u true)
-      ∙ count_add (marked ms) (marked (set ms u true)) 0 (length ms) u (omega arith) (omega arith)
+      ap (λ (n : ℕ). count (is_marked (set ms u true)) 0 n) (length-set ms u true)
+      ∙ count_add (is_marked ms) (is_marked (set ms u true)) 0 (length ms) u (omega arith) (omega arith)
       m (set-hit l) (λ k n. get_or-set_other ms u k true false n)
 
 -- ---- the nodes of a list
-pub all-long : (us : List ℕ) (ms : List Bool) → length (markAll us ms) ≡ length ms
-unfolding markAll
+pub all-long : (us : List ℕ) (ms : List Bool) → length (mark_all us ms) ≡ length ms
+unfolding mark_all
 all-long [] ms = refl
 all-long (u ∷ us) ms = all-long us (set ms u true) ∙ length-set ms u true
 
-pub all-grow : (us : List ℕ) (ms : List Bool) (v : ℕ) → marked ms v ≡ true → marked (markAll us ms) v ≡ true
-unfolding markAll
+pub all-grow : (us : List ℕ) (ms : List Bool) (v : ℕ) → is_marked ms v ≡ true → is_marked (mark_all us ms) v ≡ true
+unfolding mark_all
 all-grow [] ms v m = m
 all-grow (u ∷ us) ms v m = all-grow us (set ms u true) v (set-grow ms u v m)
 
-some_first : (v u : ℕ) (us : List ℕ) → v ≡ u → member v (u ∷ us) ≡ true
+some_first : (v u : ℕ) (us : List ℕ) → v ≡ u → is_member v (u ∷ us) ≡ true
 unfolding some
-some_first v u us e = or-true-l (eqb v u) (member v us) (eq-eqb v u e)
+some_first v u us e = or-true-l (eqb v u) (is_member v us) (eq-eqb v u e)
 
-some-later : (v u : ℕ) (us : List ℕ) → member v us ≡ true → member v (u ∷ us) ≡ true
+some-later : (v u : ℕ) (us : List ℕ) → is_member v us ≡ true → is_member v (u ∷ us) ≡ true
 unfolding some
-some-later v u us e = or_true_r (eqb v u) (member v us) e
+some-later v u us e = or_true_r (eqb v u) (is_member v us) e
 
-some-cons : (v u : ℕ) (us : List ℕ) → member v (u ∷ us) ≡ true → (v ≡ u) ⊎ (member v us ≡ true)
+some-cons : (v u : ℕ) (us : List ℕ) → is_member v (u ∷ us) ≡ true → (v ≡ u) ⊎ (is_member v us ≡ true)
 unfolding some
-some-cons v u us s = ⊎_elim (λ (e : eqb v u ≡ true). inl (eqb-true v u e)) inr (or_cases (eqb v u) (member v us) s)
+some-cons v u us s = ⊎_elim (λ (e : eqb v u ≡ true). inl (eqb-true v u e)) inr (or_cases (eqb v u) (is_member v us) s)
 
-pub all-hit : (us : List ℕ) (ms : List Bool) (v : ℕ) → v < length ms → member v us ≡ true → marked (markAll us ms) v ≡ true
-unfolding markAll
-all-hit [] ms v l s = no_both (member v []) s (unfold some in refl)
+pub all-hit : (us : List ℕ) (ms : List Bool) (v : ℕ) → v < length ms → is_member v us ≡ true → is_marked (mark_all us ms) v ≡ true
+unfolding mark_all
+all-hit [] ms v l s = no_both (is_member v []) s (unfold some in refl)
 all-hit (u ∷ us) ms v l s = go (some-cons v u us s) (all-hit us (set ms u true) v (omega (arith, length-set ms u true)))
   where
-    go : (v ≡ u) ⊎ (member v us ≡ true) → (member v us ≡ true → marked (markAll us (set ms u true)) v ≡ true)
-        → marked (markAll us (set ms u true)) v ≡ true
-    go (inl e) ih = all-grow us (set ms u true) v (subst (λ (k : ℕ). marked (set ms k true) v ≡ true) e (set-hit ms v l))
+    go : (v ≡ u) ⊎ (is_member v us ≡ true) → (is_member v us ≡ true → is_marked (mark_all us (set ms u true)) v ≡ true)
+        → is_marked (mark_all us (set ms u true)) v ≡ true
+    go (inl e) ih = all-grow us (set ms u true) v (subst (λ (k : ℕ). is_marked (set ms k true) v ≡ true) e (set-hit ms v l))
     go (inr t) ih = ih t
 
-pub all_back : (us : List ℕ) (ms : List Bool) (v : ℕ) → marked (markAll us ms) v ≡ true → (member v us ≡ true) ⊎ (marked ms v ≡ true)
-unfolding markAll
+pub all_back : (us : List ℕ) (ms : List Bool) (v : ℕ) → is_marked (mark_all us ms) v ≡ true
+    → (is_member v us ≡ true) ⊎ (is_marked ms v ≡ true)
+unfolding mark_all
 all_back [] ms v m = inr m
 all_back (u ∷ us) ms v m =
-    ⊎_elim (λ (t : member v us ≡ true). inl (some-later v u us t))
-    (λ (t : marked (set ms u true) v ≡ true). ⊎_elim (λ (e : v ≡ u). inl (some_first v u us e))
-    (λ (x : marked ms v ≡ true). inr x) (set_back ms u v t))
+    ⊎_elim (λ (t : is_member v us ≡ true). inl (some-later v u us t))
+    (λ (t : is_marked (set ms u true) v ≡ true). ⊎_elim (λ (e : v ≡ u). inl (some_first v u us e))
+    (λ (x : is_marked ms v ≡ true). inr x) (set_back ms u v t))
     (all_back us (set ms u true) v m)
 
 -- on no marks at all
-pub all-only : (n : ℕ) (us : List ℕ) → markAll us (replicate n false) ≡ only n us
-all-only n us = ext_get_or false (markAll us (replicate n false)) (only n us) (long ∙ sym (only-long n us))
-    (λ v l. same v (omega (arith, long)) (cases (member v us)))
+pub all-only : (n : ℕ) (us : List ℕ) → mark_all us (replicate n false) ≡ only_marks n us
+all-only n us = ext_get_or false (mark_all us (replicate n false)) (only_marks n us) (long ∙ sym (only-long n us))
+    (λ v l. same v (omega (arith, long)) (cases (is_member v us)))
   where
-    long : length (markAll us (replicate n false)) ≡ n
+    long : length (mark_all us (replicate n false)) ≡ n
     long = all-long us (replicate n false) ∙ length-replicate n false
 
-    same : (v : ℕ) → v < n → (member v us ≡ true) ⊎ (member v us ≡ false) → marked (markAll us (replicate n false)) v ≡ marked (only n us) v
+    same : (v : ℕ) → v < n → (is_member v us ≡ true) ⊎ (is_member v us ≡ false)
+        → is_marked (mark_all us (replicate n false)) v ≡ is_marked (only_marks n us) v
     same v l (inl t) = all-hit us (replicate n false) v (omega (arith, length-replicate n false)) t ∙ sym (only_at n us v l ∙ t)
     same v l (inr t) = ⊎_elim
-        (λ (m : marked (markAll us (replicate n false)) v ≡ true). ⊎_elim (λ (x : member v us ≡ true). no_both (member v us) x t)
-        (λ (x : marked (replicate n false) v ≡ true). no_both (marked (replicate n false) v) x (get_or-replicate n v false false l))
+        (λ (m : is_marked (mark_all us (replicate n false)) v ≡ true). ⊎_elim (λ (x : is_member v us ≡ true). no_both (is_member v us) x t)
+        (λ (x : is_marked (replicate n false) v ≡ true). no_both (is_marked (replicate n false) v) x (get_or-replicate n v false false l))
         (all_back us (replicate n false) v m))
-        (λ (m : marked (markAll us (replicate n false)) v ≡ false). m ∙ sym (only_at n us v l ∙ t))
-        (cases (marked (markAll us (replicate n false)) v))
+        (λ (m : is_marked (mark_all us (replicate n false)) v ≡ false). m ∙ sym (only_at n us v l ∙ t))
+        (cases (is_marked (mark_all us (replicate n false)) v))
 
 -- ---- marks that spread
 -- marks between those at first and all that arcs join from them
 pub record Joining (n : ℕ) (arcs : ℕ → List ℕ) (first now : List Bool) : Type 0 where
   pub long : length now ≡ n
-  pub from : (v : ℕ) → marked first v ≡ true → marked now v ≡ true
-  pub within : (v : ℕ) → marked now v ≡ true → marked (reach n arcs n first) v ≡ true
+  pub from : (v : ℕ) → is_marked first v ≡ true → is_marked now v ≡ true
+  pub within : (v : ℕ) → is_marked now v ≡ true → is_marked (reach n arcs n first) v ≡ true
 
 module _ (n : ℕ) (arcs : ℕ → List ℕ) (first : List Bool) (e : length first ≡ n) where
   pub joining-first : Joining n arcs first first
   joining-first = record { long = e; from = λ v m. m; within = reach-grow n arcs n first e }
 
-  pub joining-done : (now : List Bool) → Joining n arcs first now → Closed n arcs (marked now) → now ≡ reach n arcs n first
+  pub joining-done : (now : List Bool) → Joining n arcs first now → Closed n arcs (is_marked now) → now ≡ reach n arcs n first
   joining-done now j k = ext_get_or false now (reach n arcs n first) (j.long ∙ sym (reach-long n arcs n first e))
-      (λ v l. go v (cases (marked now v)))
+      (λ v l. go v (cases (is_marked now v)))
     where
-      go : (v : ℕ) → (marked now v ≡ true) ⊎ (marked now v ≡ false) → marked now v ≡ marked (reach n arcs n first) v
+      go : (v : ℕ) → (is_marked now v ≡ true) ⊎ (is_marked now v ≡ false) → is_marked now v ≡ is_marked (reach n arcs n first) v
       go v (inl m) = m ∙ sym (j.within v m)
       go v (inr m) = ⊎_elim
-          (λ (x : marked (reach n arcs n first) v ≡ true). no_both (marked now v)
-          (reach-least n arcs (marked now) k n first j.from v x) m)
-          (λ (x : marked (reach n arcs n first) v ≡ false). m ∙ sym x)
-          (cases (marked (reach n arcs n first) v))
+          (λ (x : is_marked (reach n arcs n first) v ≡ true). no_both (is_marked now v)
+          (reach-least n arcs (is_marked now) k n first j.from v x) m)
+          (λ (x : is_marked (reach n arcs n first) v ≡ false). m ∙ sym x)
+          (cases (is_marked (reach n arcs n first) v))
 
   -- marks on the way join what the first ones do
   pub joining-same : (now : List Bool) → Joining n arcs first now → reach n arcs n now ≡ reach n arcs n first
   joining-same now j = joining-done (reach n arcs n now) (record {
     long = reach-long n arcs n now j.long;
     from = λ v m. reach-grow n arcs n now j.long v (j.from v m);
-    within = reach-least n arcs (marked (reach n arcs n first)) (reach-closed n arcs first e) n now j.within;
+    within = reach-least n arcs (is_marked (reach n arcs n first)) (reach-closed n arcs first e) n now j.within;
   }) (reach-closed n arcs now j.long)
 
 -- ---- every node marked
 module _ (ms : List Bool) (full : many ms ≡ length ms) where
-  pub full-marked : (v : ℕ) → v < length ms → marked ms v ≡ true
+  pub full-marked : (v : ℕ) → v < length ms → is_marked ms v ≡ true
   full-marked v l =
-      ⊎_elim (λ (t : marked ms v ≡ true). t)
-      (λ (t : marked ms v ≡ false). absurd (omega (arith, count-miss (marked ms) (length ms) v l t)))
-      (cases (marked ms v))
+      ⊎_elim (λ (t : is_marked ms v ≡ true). t)
+      (λ (t : is_marked ms v ≡ false). absurd (omega (arith, count-miss (is_marked ms) (length ms) v l t)))
+      (cases (is_marked ms v))
 
   pub full-reach : (n : ℕ) (arcs : ℕ → List ℕ) → length ms ≡ n → ms ≡ reach n arcs n ms
   full-reach n arcs e = joining-done n arcs ms e ms (joining-first n arcs ms e)

@@ -4,14 +4,14 @@ use mathlib.Core.Logic.{◌⊎◌, inl, inr}
 use mathlib.Core.Bool.{true}
 use mathlib.Core.List.{List}
 use Prim.Native.Nat.{ℕ, zero, suc, ◌<◌}
-use Rattle.words.specs.graph.Reach.{member, marked, only, reach, joinedFrom}
+use Rattle.words.specs.graph.Reach.{is_member, is_marked, only_marks, reach, nodes_joined_from}
 use Rattle.words.proofs.graph.Closure.{marked-below, only-long, only_at, Before, spread-back, joined-first, joined-closed}
 
 -- an arc from node u to node v, both below n
 pub record Arc (n : ℕ) (arcs : ℕ → List ℕ) (u v : ℕ) : Type 0 where
   pub start : u < n
   pub end : v < n
-  pub leads : member v (arcs u) ≡ true
+  pub leads : is_member v (arcs u) ≡ true
 
 -- a path of arcs from node u: none, or a path and one arc more
 pub data Path (n : ℕ) (arcs : ℕ → List ℕ) (u : ℕ) : ℕ → Type 0 where
@@ -22,31 +22,31 @@ pub data Path (n : ℕ) (arcs : ℕ → List ℕ) (u : ℕ) : ℕ → Type 0 whe
 pub record PathFrom (n : ℕ) (arcs : ℕ → List ℕ) (vs : List ℕ) (v : ℕ) : Type 0 where
   pub first : ℕ
   pub inside : first < n
-  pub among : member first vs ≡ true
+  pub among : is_member first vs ≡ true
   pub path : Path n arcs first v
 
 module _ (n : ℕ) (arcs : ℕ → List ℕ) (vs : List ℕ) where
   longer : {v w : ℕ} → PathFrom n arcs vs v → Arc n arcs v w → PathFrom n arcs vs w
   longer p a = record { first = p.first; inside = p.inside; among = p.among; path = on p.path a }
 
-  rounds-path : (k v : ℕ) → marked (reach n arcs k (only n vs)) v ≡ true → PathFrom n arcs vs v
+  rounds-path : (k v : ℕ) → is_marked (reach n arcs k (only_marks n vs)) v ≡ true → PathFrom n arcs vs v
   unfolding reach
   rounds-path zero v m =
-      let l : v < n = marked-below n (only n vs) v (only-long n vs) m in
+      let l : v < n = marked-below n (only_marks n vs) v (only-long n vs) m in
       record { first = v; inside = l; among = sym (only_at n vs v l) ∙ m; path = here }
-  rounds-path (suc k) v m = go (spread-back n arcs (reach n arcs k (only n vs)) v m) (rounds-path k)
+  rounds-path (suc k) v m = go (spread-back n arcs (reach n arcs k (only_marks n vs)) v m) (rounds-path k)
     where
-      go : (v < n) × ((marked (reach n arcs k (only n vs)) v ≡ true) ⊎ Before n arcs (reach n arcs k (only n vs)) v)
-          → ((u : ℕ) → marked (reach n arcs k (only n vs)) u ≡ true → PathFrom n arcs vs u) → PathFrom n arcs vs v
+      go : (v < n) × ((is_marked (reach n arcs k (only_marks n vs)) v ≡ true) ⊎ Before n arcs (reach n arcs k (only_marks n vs)) v)
+          → ((u : ℕ) → is_marked (reach n arcs k (only_marks n vs)) u ≡ true → PathFrom n arcs vs u) → PathFrom n arcs vs v
       go (l, inl x) ih = ih v x
       go (l, inr x) ih = longer (ih x.node x.was) (record { start = x.inside; end = l; leads = x.leads })
 
-  pub joined-path : (v : ℕ) → marked (joinedFrom n arcs vs) v ≡ true → PathFrom n arcs vs v
+  pub joined-path : (v : ℕ) → is_marked (nodes_joined_from n arcs vs) v ≡ true → PathFrom n arcs vs v
   joined-path = rounds-path n
 
-  along : {u v : ℕ} → Path n arcs u v → marked (joinedFrom n arcs vs) u ≡ true → marked (joinedFrom n arcs vs) v ≡ true
+  along : {u v : ℕ} → Path n arcs u v → is_marked (nodes_joined_from n arcs vs) u ≡ true → is_marked (nodes_joined_from n arcs vs) v ≡ true
   along here m = m
   along (on {v} {w} p a) m = (joined-closed n arcs vs).goes v w a.start a.end (along p m) a.leads
 
-  pub path-joined : (v : ℕ) → PathFrom n arcs vs v → marked (joinedFrom n arcs vs) v ≡ true
+  pub path-joined : (v : ℕ) → PathFrom n arcs vs v → is_marked (nodes_joined_from n arcs vs) v ≡ true
   path-joined v p = along p.path (joined-first n arcs vs p.first p.inside p.among)

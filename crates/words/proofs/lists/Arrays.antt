@@ -7,7 +7,7 @@ use borrow.Author.Count.{below_more}
 use lib.ListN.{length, get_or, set, length-set}
 use lib.Seq.{get_or-set_same, get_or-set_other, ext_get_or}
 use Rattle.words.specs.lists.Numbers.{range}
-use Rattle.words.proofs.lists.Ranges.{length-map-range, getD-map-range}
+use Rattle.words.proofs.lists.Ranges.{length-map-range, get_or-map-range}
 
 -- the first k of n elements are the values of f
 pub record Filled {A : Type 0} (f : ℕ → A) (d : A) (xs : List A) (n k : ℕ) : Type 0 where
@@ -32,4 +32,4 @@ module _ {A : Type 0} (f : ℕ → A) (d : A) (n : ℕ) where
   pub filled-all : (xs : List A) (k : ℕ) → Filled f d xs n k → n ≤ k → xs ≡ map f (range 0 n)
   filled-all xs k w h =
       ext_get_or d xs (map f (range 0 n)) (w.size ∙ sym (length-map-range f 0 n))
-      (λ i g. w.each i (omega arith) ∙ sym (getD-map-range f d 0 n i (omega arith) ∙ ap f (omega arith)))
+      (λ i g. w.each i (omega arith) ∙ sym (get_or-map-range f d 0 n i (omega arith) ∙ ap f (omega arith)))

@@ -5,7 +5,7 @@ use mathlib.Core.Path.{◌≡◌, refl, sym, ◌∙◌, ap, ap₂}
 use mathlib.Core.List.{List, [], ◌∷◌, ◌++◌, map, append-nil}
 use native.Mathlib.Omega.{arith}
 use Rattle.words.specs.lists.Numbers.{range}
-use Rattle.words.specs.lists.Sequences.{filter, concatMap, All}
+use Rattle.words.specs.lists.Sequences.{filter, concat_map, All}
 use Rattle.words.proofs.lists.Ranges.{map-append, filter-yes, filter-no}
 use Rattle.words.proofs.lists.Filters.{filter-append, filter_none}
 use Rattle.words.proofs.lists.Joins.{all-every, concat-split}
@@ -45,31 +45,31 @@ filter-nothing p (x ∷ xs) a = filter-no p x xs a.0 ∙ filter-nothing p xs a.1
 
 -- ---- joined
 pub filter-concat : {A B C : Type 0} (p : C → Bool) (g : B → C) (h : A → List B) (xs : List A)
-    → filter p (map g (concatMap h xs)) ≡ concatMap (λ x. filter p (map g (h x))) xs
-unfolding concatMap
+    → filter p (map g (concat_map h xs)) ≡ concat_map (λ x. filter p (map g (h x))) xs
+unfolding concat_map
 filter-concat p g h [] = filter_none p
 filter-concat p g h (x ∷ xs) =
-    ap (filter p) (map-append g (h x) (concatMap h xs)) ∙ filter-append p (map g (h x)) (map g (concatMap h xs))
+    ap (filter p) (map-append g (h x) (concat_map h xs)) ∙ filter-append p (map g (h x)) (map g (concat_map h xs))
     ∙ ap (λ ys. filter p (map g (h x)) ++ ys) (filter-concat p g h xs)
 
-pub concat-each : {A B : Type 0} (f g : A → List B) → ((x : A) → f x ≡ g x) → (xs : List A) → concatMap f xs ≡ concatMap g xs
-unfolding concatMap
+pub concat-each : {A B : Type 0} (f g : A → List B) → ((x : A) → f x ≡ g x) → (xs : List A) → concat_map f xs ≡ concat_map g xs
+unfolding concat_map
 concat-each f g e [] = refl
 concat-each f g e (x ∷ xs) = ap₂ (λ a b. a ++ b) (e x) (concat-each f g e xs)
 
 module _ {B : Type 0} (f : ℕ → List B) where
-  pub concat-empty : (i n : ℕ) → ((k : ℕ) → i ≤ k → k < i + n → f k ≡ []) → concatMap f (range i n) ≡ []
-  unfolding concatMap
+  pub concat-empty : (i n : ℕ) → ((k : ℕ) → i ≤ k → k < i + n → f k ≡ []) → concat_map f (range i n) ≡ []
+  unfolding concat_map
   concat-empty i zero e = refl
   concat-empty i (suc n) e = ap₂ (λ a b. a ++ b) (e i (omega arith) (omega arith))
       (concat-empty (suc i) n (λ k a b. e k (omega arith) (omega arith)))
 
   -- numbers below a and from b on give nothing
   pub concat-within : (a b n : ℕ) → a ≤ b → b ≤ n → ((k : ℕ) → k < a → f k ≡ []) → ((k : ℕ) → b ≤ k → k < n → f k ≡ [])
-      → concatMap f (range 0 n) ≡ concatMap f (range a (b - a))
+      → concat_map f (range 0 n) ≡ concat_map f (range a (b - a))
   concat-within a b n l m low high =
       let e : n ≡ a + (b - a) + (n - b) = omega arith in
-      let g : ℕ → ℕ → List B = λ i k. concatMap f (range i k) in
+      let g : ℕ → ℕ → List B = λ i k. concat_map f (range i k) in
       ap (g 0) e ∙ concat-split f 0 (a + (b - a)) (n - b)
       ∙ ap₂ (λ x y. x ++ y) (concat-split f 0 a (b - a))
       (concat-empty (0 + (a + (b - a))) (n - b) (λ k x y. high k (omega arith) (omega arith)))

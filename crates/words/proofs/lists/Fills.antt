@@ -6,7 +6,7 @@ use native.Mathlib.Numerals.{add-one}
 use native.Mathlib.Omega.{arith}
 use lib.ListN.{length, set, get_or, length-set}
 use Rattle.words.specs.lists.Numbers.{range}
-use Rattle.words.specs.lists.Sequences.{concatMap, written}
+use Rattle.words.specs.lists.Sequences.{concat_map, written}
 use Rattle.words.proofs.lists.Joins.{concat-range-snoc, length-concat-range}
 use Rattle.words.proofs.lists.Ranges.{map-range-snoc, length-map-range, map-places}
 use Rattle.words.proofs.lists.Written.{written_none, written-snoc, written-more}
@@ -44,11 +44,11 @@ module _ (f : ℕ → ℕ) (out₀ : List ℕ) (at n : ℕ) where
 pub record Pieces (f : ℕ → List ℕ) (m : ℕ) (out₀ out : List ℕ) (at n k : ℕ) : Type 0 where
   pub low : k ≤ n
   pub size : length out ≡ length out₀
-  pub buffer : out ≡ written out₀ at (concatMap f (range 0 k))
+  pub buffer : out ≡ written out₀ at (concat_map f (range 0 k))
 
 module _ (f : ℕ → List ℕ) (m : ℕ) (out₀ : List ℕ) (at n : ℕ) where
   pub pieces_none : Pieces f m out₀ out₀ at n 0
-  unfolding concatMap
+  unfolding concat_map
   pieces_none = record { low = omega arith; size = refl; buffer = sym (written_none out₀ at) }
 
   pub pieces-turn : ((k : ℕ) → length (f k) ≡ m) → (out out' : List ℕ) (k place : ℕ) → Pieces f m out₀ out at n k
@@ -59,15 +59,15 @@ module _ (f : ℕ → List ℕ) (m : ℕ) (out₀ : List ℕ) (at n : ℕ) where
       record {
         low = omega arith;
         size = s ∙ w.size;
-        buffer = written-more out₀ at (concatMap f (range 0 k)) (f k) out out' place
+        buffer = written-more out₀ at (concat_map f (range 0 k)) (f k) out out' place
             (omega (arith, length-concat-range f m 0 k each)) room w.buffer e
-            ∙ ap (λ (x : List ℕ). written out₀ at (concatMap f (range 0 k) ++ x)) (sym z)
+            ∙ ap (λ (x : List ℕ). written out₀ at (concat_map f (range 0 k) ++ x)) (sym z)
             ∙ ap (λ (vs : List ℕ). written out₀ at vs) (sym (concat-range-snoc f 0 k))
-            ∙ ap (λ (j : ℕ). written out₀ at (concatMap f (range 0 j))) (sym (add-one k));
+            ∙ ap (λ (j : ℕ). written out₀ at (concat_map f (range 0 j))) (sym (add-one k));
       }
 
-  pub pieces-all : (out : List ℕ) (k : ℕ) → Pieces f m out₀ out at n k → n ≤ k → out ≡ written out₀ at (concatMap f (range 0 n))
-  pieces-all out k w h = let e : k ≡ n = omega arith in w.buffer ∙ ap (λ (j : ℕ). written out₀ at (concatMap f (range 0 j))) e
+  pub pieces-all : (out : List ℕ) (k : ℕ) → Pieces f m out₀ out at n k → n ≤ k → out ≡ written out₀ at (concat_map f (range 0 n))
+  pieces-all out k w h = let e : k ≡ n = omega arith in w.buffer ∙ ap (λ (j : ℕ). written out₀ at (concat_map f (range 0 j))) e
 
 -- the values are those of a list
 pub values-list : (xs out₀ out : List ℕ) (at k : ℕ) → ValuesFrom (λ i. get_or xs i 0) out₀ out at (length xs) k

@@ -8,7 +8,7 @@ use native.Mathlib.Nat.{eq-or-lt_of_le}
 use native.Mathlib.Omega.{arith}
 use lib.ListN.{length, get_or}
 use Rattle.words.specs.lists.Numbers.{range}
-use Rattle.words.specs.lists.Sequences.{filter, concatMap}
+use Rattle.words.specs.lists.Sequences.{filter, concat_map}
 use Rattle.words.proofs.lists.Tests.{no_both, cases}
 use Rattle.words.proofs.lists.Ranges.{filter-yes, filter-no}
 use Rattle.words.proofs.lists.Joins.{concat-cons}
@@ -62,34 +62,34 @@ module _ {A : Type 0} (p : A → Bool) where
 
 -- ---- lists joined over the numbers that pass, where all but one of them are empty
 module _ {B : Type 0} (f : ℕ → List B) (p : ℕ → Bool) where
-  kept : (i n : ℕ) → p i ≡ true → concatMap f (filter p (range i (suc n))) ≡ f i ++ concatMap f (filter p (range (suc i) n))
-  kept i n e = ap (concatMap f) (filter-yes p i (range (suc i) n) e) ∙ concat-cons f i (filter p (range (suc i) n))
+  kept : (i n : ℕ) → p i ≡ true → concat_map f (filter p (range i (suc n))) ≡ f i ++ concat_map f (filter p (range (suc i) n))
+  kept i n e = ap (concat_map f) (filter-yes p i (range (suc i) n) e) ∙ concat-cons f i (filter p (range (suc i) n))
 
-  left : (i n : ℕ) → p i ≡ false → concatMap f (filter p (range i (suc n))) ≡ concatMap f (filter p (range (suc i) n))
-  left i n e = ap (concatMap f) (filter-no p i (range (suc i) n) e)
+  left : (i n : ℕ) → p i ≡ false → concat_map f (filter p (range i (suc n))) ≡ concat_map f (filter p (range (suc i) n))
+  left i n e = ap (concat_map f) (filter-no p i (range (suc i) n) e)
 
-  pub concat-nothing : (i n : ℕ) → ((u : ℕ) → i ≤ u → u < i + n → p u ≡ true → f u ≡ []) → concatMap f (filter p (range i n)) ≡ []
-  concat-nothing i zero h = unfold filter concatMap in refl
+  pub concat-nothing : (i n : ℕ) → ((u : ℕ) → i ≤ u → u < i + n → p u ≡ true → f u ≡ []) → concat_map f (filter p (range i n)) ≡ []
+  concat-nothing i zero h = unfold filter concat_map in refl
   concat-nothing i (suc n) h = go (cases (p i)) (concat-nothing (suc i) n (λ u a b. h u (omega arith) (omega arith)))
     where
-      go : (p i ≡ true) ⊎ (p i ≡ false) → concatMap f (filter p (range (suc i) n)) ≡ [] → concatMap f (filter p (range i (suc n))) ≡ []
+      go : (p i ≡ true) ⊎ (p i ≡ false) → concat_map f (filter p (range (suc i) n)) ≡ [] → concat_map f (filter p (range i (suc n))) ≡ []
       go (inl e) ih = kept i n e ∙ ap₂ ◌++◌ (h i (omega arith) (omega arith) e) ih
       go (inr e) ih = left i n e ∙ ih
 
   pub concat-only : (v i n : ℕ) → i ≤ v → v < i + n → p v ≡ true
-      → ((u : ℕ) → i ≤ u → u < i + n → p u ≡ true → (u ≡ v → ⊥) → f u ≡ []) → concatMap f (filter p (range i n)) ≡ f v
+      → ((u : ℕ) → i ≤ u → u < i + n → p u ≡ true → (u ≡ v → ⊥) → f u ≡ []) → concat_map f (filter p (range i n)) ≡ f v
   concat-only v i zero lo hi t h = absurd (omega arith)
   concat-only v i (suc n) lo hi t h =
       go (cases (p i)) (eq-or-lt_of_le lo)
       (λ (q : suc i ≤ v). concat-only v (suc i) n q (omega arith) t (λ u a b. h u (omega arith) (omega arith)))
     where
-      go : (p i ≡ true) ⊎ (p i ≡ false) → (i ≡ v) ⊎ (i < v) → (suc i ≤ v → concatMap f (filter p (range (suc i) n)) ≡ f v)
-          → concatMap f (filter p (range i (suc n))) ≡ f v
+      go : (p i ≡ true) ⊎ (p i ≡ false) → (i ≡ v) ⊎ (i < v) → (suc i ≤ v → concat_map f (filter p (range (suc i) n)) ≡ f v)
+          → concat_map f (filter p (range i (suc n))) ≡ f v
       go (inl e) (inl q) ih =
           kept i n e ∙ ap₂ ◌++◌ (ap f q) (concat-nothing (suc i) n (λ u a b y. h u (omega arith) (omega arith) y (λ z. omega arith)))
           ∙ append-nil (f v)
       go (inl e) (inr q) ih = kept i n e
-          ∙ ap (λ (zs : List B). zs ++ concatMap f (filter p (range (suc i) n))) (h i (omega arith) (omega arith) e (λ z. omega arith))
+          ∙ ap (λ (zs : List B). zs ++ concat_map f (filter p (range (suc i) n))) (h i (omega arith) (omega arith) e (λ z. omega arith))
           ∙ ih q
       go (inr e) (inl q) ih = no_both (p v) t (subst (λ (u : ℕ). p u ≡ false) q e)
       go (inr e) (inr q) ih = left i n e ∙ ih q

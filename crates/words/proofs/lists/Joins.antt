@@ -8,8 +8,8 @@ use native.Mathlib.Omega.{arith}
 use lib.ListN.{length, get_or, length-append, get_or-append}
 use lib.Seq.{get_or-append-add}
 use Rattle.words.specs.lists.Numbers.{range}
-use Rattle.words.specs.lists.Sequences.{filter, concatMap, All}
-use Rattle.words.proofs.lists.Ranges.{length-range, getD-range, range_snoc, range-append}
+use Rattle.words.specs.lists.Sequences.{filter, concat_map, All}
+use Rattle.words.proofs.lists.Ranges.{length-range, get_or-range, range_snoc, range-append}
 
 pub all-at : {A : Type 0} (P : A → Type 0) (d : A) (xs : List A) → All P xs → (i : ℕ) → i < length xs → P (get_or xs i d)
 all-at P d [] a i h = absurd (omega arith)
@@ -32,10 +32,10 @@ pub all_of : {A : Type 0} (P Q : A → Type 0) → ((x : A) → P x → Q x) →
 all_of P Q f [] a = tt
 all_of P Q f (x ∷ xs) a = (f x a.0, all_of P Q f xs a.1)
 
-pub all-concat : {A B : Type 0} (P : B → Type 0) (f : A → List B) (xs : List A) → All (λ x. All P (f x)) xs → All P (concatMap f xs)
-unfolding concatMap
+pub all-concat : {A B : Type 0} (P : B → Type 0) (f : A → List B) (xs : List A) → All (λ x. All P (f x)) xs → All P (concat_map f xs)
+unfolding concat_map
 all-concat P f [] a = tt
-all-concat P f (x ∷ xs) a = all_append P (f x) (concatMap f xs) a.0 (all-concat P f xs a.1)
+all-concat P f (x ∷ xs) a = all_append P (f x) (concat_map f xs) a.0 (all-concat P f xs a.1)
 
 pub all-range : (P : ℕ → Type 0) (a n : ℕ) → ((i : ℕ) → i < n → P (a + i)) → All P (range a n)
 all-range P a zero h = tt
@@ -44,24 +44,24 @@ all-range P a (suc n) h = (
   all-range P (suc a) n (λ i l. subst P (omega arith) (h (suc i) (omega arith))),
 )
 
-pub concat-cons : {A B : Type 0} (f : A → List B) (x : A) (xs : List A) → concatMap f (x ∷ xs) ≡ f x ++ concatMap f xs
-unfolding concatMap
+pub concat-cons : {A B : Type 0} (f : A → List B) (x : A) (xs : List A) → concat_map f (x ∷ xs) ≡ f x ++ concat_map f xs
+unfolding concat_map
 concat-cons f x xs = refl
 
 -- joined lists
-pub concat-map : {A B C : Type 0} (f : B → List C) (g : A → B) (xs : List A) → concatMap f (map g xs) ≡ concatMap (λ x. f (g x)) xs
-unfolding concatMap
+pub concat-map : {A B C : Type 0} (f : B → List C) (g : A → B) (xs : List A) → concat_map f (map g xs) ≡ concat_map (λ x. f (g x)) xs
+unfolding concat_map
 concat-map f g [] = refl
 concat-map f g (x ∷ xs) = ap (λ ys. f (g x) ++ ys) (concat-map f g xs)
 
-pub concat-append : {A B : Type 0} (f : A → List B) (xs ys : List A) → concatMap f (xs ++ ys) ≡ concatMap f xs ++ concatMap f ys
-unfolding concatMap
+pub concat-append : {A B : Type 0} (f : A → List B) (xs ys : List A) → concat_map f (xs ++ ys) ≡ concat_map f xs ++ concat_map f ys
+unfolding concat_map
 concat-append f [] ys = refl
-concat-append f (x ∷ xs) ys = ap (λ zs. f x ++ zs) (concat-append f xs ys) ∙ sym (append_assoc (f x) (concatMap f xs) (concatMap f ys))
+concat-append f (x ∷ xs) ys = ap (λ zs. f x ++ zs) (concat-append f xs ys) ∙ sym (append_assoc (f x) (concat_map f xs) (concat_map f ys))
 
 pub concat-places : {A B : Type 0} (g : ℕ → List B) (h : A → List B) (d : A) (xs : List A) (a : ℕ)
-    → ((i : ℕ) → i < length xs → g (a + i) ≡ h (get_or xs i d)) → concatMap g (range a (length xs)) ≡ concatMap h xs
-unfolding concatMap
+    → ((i : ℕ) → i < length xs → g (a + i) ≡ h (get_or xs i d)) → concat_map g (range a (length xs)) ≡ concat_map h xs
+unfolding concat_map
 concat-places g h d [] a e = refl
 concat-places g h d (x ∷ xs) a e =
     ap₂ (λ y ys. y ++ ys) (ap g (omega arith) ∙ e 0 (omega arith))
@@ -69,54 +69,54 @@ concat-places g h d (x ∷ xs) a e =
 
 -- over a range and the one behind it, and over one range where two functions agree
 pub concat-split : {B : Type 0} (f : ℕ → List B) (a m n : ℕ)
-    → concatMap f (range a (m + n)) ≡ concatMap f (range a m) ++ concatMap f (range (a + m) n)
-concat-split f a m n = ap (concatMap f) (range-append a m n) ∙ concat-append f (range a m) (range (a + m) n)
+    → concat_map f (range a (m + n)) ≡ concat_map f (range a m) ++ concat_map f (range (a + m) n)
+concat-split f a m n = ap (concat_map f) (range-append a m n) ∙ concat-append f (range a m) (range (a + m) n)
 
 pub concat-alike : {B : Type 0} (f g : ℕ → List B) (a n : ℕ) → ((k : ℕ) → a ≤ k → k < a + n → f k ≡ g k)
-    → concatMap f (range a n) ≡ concatMap g (range a n)
-unfolding concatMap
+    → concat_map f (range a n) ≡ concat_map g (range a n)
+unfolding concat_map
 concat-alike f g a zero h = refl
 concat-alike f g a (suc n) h =
     ap₂ (λ xs ys. xs ++ ys) (h a (omega arith) (omega arith)) (concat-alike f g (suc a) n (λ k p q. h k (omega arith) (omega arith)))
 
 -- lists of m elements each
 module _ {A B : Type 0} (f : A → List B) (m : ℕ) where
-  pub length-concat : (xs : List A) → All (λ x. length (f x) ≡ m) xs → length (concatMap f xs) ≡ m * length xs
-  unfolding concatMap
+  pub length-concat : (xs : List A) → All (λ x. length (f x) ≡ m) xs → length (concat_map f xs) ≡ m * length xs
+  unfolding concat_map
   length-concat [] a = omega arith
   length-concat (x ∷ xs) a =
-      length-append (f x) (concatMap f xs) ∙ omega (arith, a.0, length-concat xs a.1, mul-suc m (length xs))
+      length-append (f x) (concat_map f xs) ∙ omega (arith, a.0, length-concat xs a.1, mul-suc m (length xs))
 
-  pub getD-concat : (d : A) (e : B) (xs : List A) → All (λ x. length (f x) ≡ m) xs → (i k : ℕ) → i < length xs → k < m
-      → get_or (concatMap f xs) (m * i + k) e ≡ get_or (f (get_or xs i d)) k e
-  unfolding concatMap
-  getD-concat d e [] a i k h l = absurd (omega arith)
-  getD-concat d e (x ∷ xs) a zero k h l =
-      ap (λ (j : ℕ). get_or (f x ++ concatMap f xs) j e) (omega (arith, mul-zero m))
-      ∙ get_or-append (f x) (concatMap f xs) e k (omega (arith, a.0))
-  getD-concat d e (x ∷ xs) a (suc i) k h l =
-      ap (λ (j : ℕ). get_or (f x ++ concatMap f xs) j e) (omega (arith, mul-suc m i, a.0))
-      ∙ get_or-append-add (f x) (concatMap f xs) (m * i + k) e ∙ getD-concat d e xs a.1 i k (omega arith) l
+  pub get_or-concat : (d : A) (e : B) (xs : List A) → All (λ x. length (f x) ≡ m) xs → (i k : ℕ) → i < length xs → k < m
+      → get_or (concat_map f xs) (m * i + k) e ≡ get_or (f (get_or xs i d)) k e
+  unfolding concat_map
+  get_or-concat d e [] a i k h l = absurd (omega arith)
+  get_or-concat d e (x ∷ xs) a zero k h l =
+      ap (λ (j : ℕ). get_or (f x ++ concat_map f xs) j e) (omega (arith, mul-zero m))
+      ∙ get_or-append (f x) (concat_map f xs) e k (omega (arith, a.0))
+  get_or-concat d e (x ∷ xs) a (suc i) k h l =
+      ap (λ (j : ℕ). get_or (f x ++ concat_map f xs) j e) (omega (arith, mul-suc m i, a.0))
+      ∙ get_or-append-add (f x) (concat_map f xs) (m * i + k) e ∙ get_or-concat d e xs a.1 i k (omega arith) l
 
 pub length-concat-range : {B : Type 0} (f : ℕ → List B) (m i n : ℕ) → ((k : ℕ) → length (f k) ≡ m)
-    → length (concatMap f (range i n)) ≡ m * n
-unfolding concatMap
+    → length (concat_map f (range i n)) ≡ m * n
+unfolding concat_map
 length-concat-range f m i zero h = omega arith
-length-concat-range f m i (suc n) h = length-append (f i) (concatMap f (range (suc i) n))
+length-concat-range f m i (suc n) h = length-append (f i) (concat_map f (range (suc i) n))
     ∙ omega (arith, h i, length-concat-range f m (suc i) n h, mul-suc m n)
 
 -- ---- one more at the far end
-pub concat-range-snoc : {B : Type 0} (f : ℕ → List B) (i n : ℕ) → concatMap f (range i (suc n)) ≡ concatMap f (range i n) ++ f (i + n)
+pub concat-range-snoc : {B : Type 0} (f : ℕ → List B) (i n : ℕ) → concat_map f (range i (suc n)) ≡ concat_map f (range i n) ++ f (i + n)
 concat-range-snoc f i n =
-    ap (concatMap f) (range_snoc i n) ∙ concat-append f (range i n) ((i + n) ∷ [])
-    ∙ ap (λ ys. concatMap f (range i n) ++ ys) (concat-cons f (i + n) [] ∙ (unfold concatMap in append-nil (f (i + n))))
+    ap (concat_map f) (range_snoc i n) ∙ concat-append f (range i n) ((i + n) ∷ [])
+    ∙ ap (λ ys. concat_map f (range i n) ++ ys) (concat-cons f (i + n) [] ∙ (unfold concat_map in append-nil (f (i + n))))
 
 -- lists of m elements each, one a number
 pub concat-range-at : {B : Type 0} (f : ℕ → List B) (m i n : ℕ) (e : B) → ((k : ℕ) → length (f k) ≡ m) → (j k : ℕ) → j < n → k < m
-    → get_or (concatMap f (range i n)) (m * j + k) e ≡ get_or (f (i + j)) k e
+    → get_or (concat_map f (range i n)) (m * j + k) e ≡ get_or (f (i + j)) k e
 concat-range-at f m i n e h j k a b =
-    getD-concat f m 0 e (range i n) (all-every (λ x. length (f x) ≡ m) h (range i n)) j k (omega (arith, length-range i n)) b
-    ∙ ap (λ (x : ℕ). get_or (f x) k e) (getD-range i n j 0 a)
+    get_or-concat f m 0 e (range i n) (all-every (λ x. length (f x) ≡ m) h (range i n)) j k (omega (arith, length-range i n)) b
+    ∙ ap (λ (x : ℕ). get_or (f x) k e) (get_or-range i n j 0 a)
 
 -- every place
 pub all-places : {A : Type 0} (P : A → Type 0) (d : A) (xs : List A) → ((i : ℕ) → i < length xs → P (get_or xs i d)) → All P xs

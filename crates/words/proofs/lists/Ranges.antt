@@ -7,7 +7,7 @@ use native.Mathlib.Nat.{add-zero, zero-add}
 use native.Mathlib.Omega.{arith}
 use lib.ListN.{length, get_or, length-map}
 use Rattle.words.specs.lists.Numbers.{range, count}
-use Rattle.words.specs.lists.Sequences.{filter, mapFrom}
+use Rattle.words.specs.lists.Sequences.{filter, map_from}
 use Rattle.words.proofs.lists.Counts.{count-suc}
 
 pub length-range : (a n : ℕ) → length (range a n) ≡ n
@@ -17,15 +17,15 @@ length-range a (suc n) = ap suc (length-range (suc a) n)
 pub length-map-range : {B : Type 0} (f : ℕ → B) (a n : ℕ) → length (map f (range a n)) ≡ n
 length-map-range f a n = length-map (range a n) f ∙ length-range a n
 
-pub getD-map-range : {B : Type 0} (f : ℕ → B) (d : B) (a n k : ℕ) → k < n → get_or (map f (range a n)) k d ≡ f (a + k)
-getD-map-range f d a zero k h = absurd (omega arith)
-getD-map-range f d a (suc n) zero h = ap f (omega arith)
-getD-map-range f d a (suc n) (suc k) h = getD-map-range f d (suc a) n k (omega arith) ∙ ap f (omega arith)
+pub get_or-map-range : {B : Type 0} (f : ℕ → B) (d : B) (a n k : ℕ) → k < n → get_or (map f (range a n)) k d ≡ f (a + k)
+get_or-map-range f d a zero k h = absurd (omega arith)
+get_or-map-range f d a (suc n) zero h = ap f (omega arith)
+get_or-map-range f d a (suc n) (suc k) h = get_or-map-range f d (suc a) n k (omega arith) ∙ ap f (omega arith)
 
-pub getD-range : (a n i d : ℕ) → i < n → get_or (range a n) i d ≡ a + i
-getD-range a zero i d h = absurd (omega arith)
-getD-range a (suc n) zero d h = omega arith
-getD-range a (suc n) (suc i) d h = getD-range (suc a) n i d (omega arith) ∙ omega arith
+pub get_or-range : (a n i d : ℕ) → i < n → get_or (range a n) i d ≡ a + i
+get_or-range a zero i d h = absurd (omega arith)
+get_or-range a (suc n) zero d h = omega arith
+get_or-range a (suc n) (suc i) d h = get_or-range (suc a) n i d (omega arith) ∙ omega arith
 
 pub get_d_map : {A B : Type 0} (f : A → B) (xs : List A) (i : ℕ) (d : A) (e : B) → i < length xs → get_or (map f xs) i e ≡ f (get_or xs i d)
 get_d_map f [] i d e h = absurd (omega arith)
@@ -64,14 +64,14 @@ length-filter p i (suc n) = go (p i) refl (length-filter p (suc i) n)
     go false e h = ap (λ (l : List ℕ). length l) (filter-no p i (range (suc i) n) e) ∙ rw (count-suc, e) (omega arith)
 
 -- the place of a number that passes is the count below it
-pub getD-filter : {B : Type 0} (f : ℕ → B) (d : B) (p : ℕ → Bool) (i n k : ℕ) → k < n → p (i + k) ≡ true
+pub get_or-filter : {B : Type 0} (f : ℕ → B) (d : B) (p : ℕ → Bool) (i n k : ℕ) → k < n → p (i + k) ≡ true
     → get_or (map f (filter p (range i n))) (count p i k) d ≡ f (i + k)
-getD-filter f d p i zero k h e = absurd (omega arith)
-getD-filter f d p i (suc n) zero h e =
+get_or-filter f d p i zero k h e = absurd (omega arith)
+get_or-filter f d p i (suc n) zero h e =
     let q : p i ≡ true = ap p (omega arith) ∙ e in
     ap (λ (l : List ℕ). get_or (map f l) (count p i 0) d) (filter-yes p i (range (suc i) n) q) ∙ (unfold count in ap f (omega arith))
-getD-filter f d p i (suc n) (suc k) h e =
-    go (p i) refl (getD-filter f d p (suc i) n k (omega arith) (ap p (omega arith) ∙ e))
+get_or-filter f d p i (suc n) (suc k) h e =
+    go (p i) refl (get_or-filter f d p (suc i) n k (omega arith) (ap p (omega arith) ∙ e))
   where
     go : (b : Bool) → p i ≡ b → get_or (map f (filter p (range (suc i) n))) (count p (suc i) k) d ≡ f (suc i + k)
         → get_or (map f (filter p (range i (suc n)))) (count p i (suc k)) d ≡ f (i + suc k)
@@ -103,19 +103,20 @@ map-append f (x ∷ xs) ys = ap (λ zs. f x ∷ zs) (map-append f xs ys)
 pub map-range-snoc : {B : Type 0} (f : ℕ → B) (i n : ℕ) → map f (range i (suc n)) ≡ map f (range i n) ++ (f (i + n) ∷ [])
 map-range-snoc f i n = ap (map f) (range_snoc i n) ∙ map-append f (range i n) ((i + n) ∷ [])
 
-pub mapFrom-cons : {A B : Type 0} (f : ℕ → A → B) (i : ℕ) (x : A) (xs : List A) → mapFrom f i (x ∷ xs) ≡ f i x ∷ mapFrom f (suc i) xs
-unfolding mapFrom
-mapFrom-cons f i x xs = refl
+pub map_from-cons : {A B : Type 0} (f : ℕ → A → B) (i : ℕ) (x : A) (xs : List A) → map_from f i (x ∷ xs) ≡ f i x ∷ map_from f (suc i) xs
+unfolding map_from
+map_from-cons f i x xs = refl
 
 -- ---- numbered elements
-pub length-mapFrom : {A B : Type 0} (f : ℕ → A → B) (i : ℕ) (xs : List A) → length (mapFrom f i xs) ≡ length xs
-unfolding mapFrom
-length-mapFrom f i [] = refl
-length-mapFrom f i (x ∷ xs) = ap suc (length-mapFrom f (suc i) xs)
+pub length-map_from : {A B : Type 0} (f : ℕ → A → B) (i : ℕ) (xs : List A) → length (map_from f i xs) ≡ length xs
+unfolding map_from
+length-map_from f i [] = refl
+length-map_from f i (x ∷ xs) = ap suc (length-map_from f (suc i) xs)
 
-pub getD-mapFrom : {A B : Type 0} (f : ℕ → A → B) (i : ℕ) (xs : List A) (d : A) (e : B) (k : ℕ) → k < length xs
-    → get_or (mapFrom f i xs) k e ≡ f (i + k) (get_or xs k d)
-unfolding mapFrom
-getD-mapFrom f i [] d e k h = absurd (omega arith)
-getD-mapFrom f i (x ∷ xs) d e zero h = ap (λ (j : ℕ). f j x) (omega arith)
-getD-mapFrom f i (x ∷ xs) d e (suc k) h = getD-mapFrom f (suc i) xs d e k (omega arith) ∙ ap (λ (j : ℕ). f j (get_or xs k d)) (omega arith)
+pub get_or-map_from : {A B : Type 0} (f : ℕ → A → B) (i : ℕ) (xs : List A) (d : A) (e : B) (k : ℕ) → k < length xs
+    → get_or (map_from f i xs) k e ≡ f (i + k) (get_or xs k d)
+unfolding map_from
+get_or-map_from f i [] d e k h = absurd (omega arith)
+get_or-map_from f i (x ∷ xs) d e zero h = ap (λ (j : ℕ). f j x) (omega arith)
+get_or-map_from f i (x ∷ xs) d e (suc k) h =
+    get_or-map_from f (suc i) xs d e k (omega arith) ∙ ap (λ (j : ℕ). f j (get_or xs k d)) (omega arith)

@@ -8,7 +8,7 @@ use native.Mathlib.Omega.{arith}
 use lib.ListN.{length, get_or, set, replicate, length-set, length-replicate, get_or-replicate}
 use lib.Seq.{ext_get_or, get_or-set_same, get_or-set_other}
 use Rattle.words.specs.lists.Numbers.{tabulate}
-use Rattle.words.proofs.lists.Ranges.{length-map-range, getD-map-range}
+use Rattle.words.proofs.lists.Ranges.{length-map-range, get_or-map-range}
 
 pub length-tabulate : (f : ℕ → ℕ) (n : ℕ) → length (tabulate f n) ≡ n
 unfolding tabulate
@@ -16,7 +16,7 @@ length-tabulate f n = length-map-range f 0 n
 
 pub get_d_tabulate : (f : ℕ → ℕ) (n u : ℕ) → u < n → get_or (tabulate f n) u 0 ≡ f u
 unfolding tabulate
-get_d_tabulate f n u l = getD-map-range f 0 0 n u l ∙ ap f (zero-add u)
+get_d_tabulate f n u l = get_or-map-range f 0 0 n u l ∙ ap f (zero-add u)
 
 -- a list with these numbers
 pub tabulate-is : (f : ℕ → ℕ) (n : ℕ) (xs : List ℕ) → length xs ≡ n → ((u : ℕ) → u < n → get_or xs u 0 ≡ f u) → xs ≡ tabulate f n

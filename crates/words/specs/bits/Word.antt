@@ -6,5 +6,5 @@ abbrev pub bit : ℕ → ℕ → ℕ
 bit w i = w / 2 ^ i % 2
 
 -- the bits of a word that the care mask has are the values
-abbrev pub agrees : ℕ → ℕ → ℕ → Bool
-agrees w care values = eqb (bit_and w care) values
+abbrev pub is_agreeing : ℕ → ℕ → ℕ → Bool
+is_agreeing w care values = eqb (bit_and w care) values

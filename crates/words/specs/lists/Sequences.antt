@@ -9,14 +9,14 @@ unfoldable pub filter : {A : Type 0} → (A → Bool) → List A → List A
 filter p [] = []
 filter p (x ∷ xs) = elim (p x) [ true ↦ x ∷ filter p xs | false ↦ filter p xs ]
 
-unfoldable pub concatMap : {A B : Type 0} → (A → List B) → List A → List B
-concatMap f [] = []
-concatMap f (x ∷ xs) = f x ++ concatMap f xs
+unfoldable pub concat_map : {A B : Type 0} → (A → List B) → List A → List B
+concat_map f [] = []
+concat_map f (x ∷ xs) = f x ++ concat_map f xs
 
 -- each element with its number, the first one's being i
-unfoldable pub mapFrom : {A B : Type 0} → (ℕ → A → B) → ℕ → List A → List B
-mapFrom f i [] = []
-mapFrom f i (x ∷ xs) = f i x ∷ mapFrom f (suc i) xs
+unfoldable pub map_from : {A B : Type 0} → (ℕ → A → B) → ℕ → List A → List B
+map_from f i [] = []
+map_from f i (x ∷ xs) = f i x ∷ map_from f (suc i) xs
 
 -- a buffer after xs was written to its front
 abbrev pub over : {A : Type 0} → List A → List A → List A

@@ -2,8 +2,8 @@
 use mathlib.Core.Path.{◌≡◌, refl}
 use native.Mathlib.Omega.{arith}
 use Rattle.results.specs.Results.{Results}
-use Rattle.tables.specs.Table.{firstOn, rowsOn}
-use Rattle.rows.specs.Rows.{bestRow}
+use Rattle.tables.specs.Table.{first_on, rows_on}
+use Rattle.rows.specs.Rows.{best_row}
 use Rattle.rows.specs.inner.Search.{found_at, Deciding}
 use Rattle.rows.proofs.SearchCases.{end-within, chosen-found}
 use Rattle.state.specs.Bytes.{state_of}
@@ -23,7 +23,7 @@ find_row-f-requires c =
 pub returns-then-table-f : goal.returns-then-table-f
 returns-then-table-f c =
     let bits : Results = (state_of c.args.bytes.now).bits in
-    let found : let asked = c.args in let b = asked.table.now in found_at b asked.l c.find_row-f.result ≡ bestRow asked.l asked.word c.bit_of-bit.result (firstOn b asked.l) (rowsOn b asked.l) = chosen-found _ _ _ _ c.requires.label (λ k. omega (arith, c.type_inv.table k)) _ c.find_row-f.ensures in
+    let found : let asked = c.args in let b = asked.table.now in found_at b asked.l c.find_row-f.result ≡ best_row asked.l asked.word c.bit_of-bit.result (first_on b asked.l) (rows_on b asked.l) = chosen-found _ _ _ _ c.requires.label (λ k. omega (arith, c.type_inv.table k)) _ c.find_row-f.ensures in
     none_told _ _ _ c.requires bits _ c.label_read-read.ensures _
     c.bit_of-bit.ensures _ found
     (omega (arith, c.if-table-f.true)) _ c.refused-answer.ensures _ c.untold.ensures
@@ -41,7 +41,7 @@ against_rows-others-requires c =
 pub overflow_sub-row : goal.overflow_sub-row
 overflow_sub-row c =
     let bits : Results = (state_of c.args.bytes.now).bits in
-    let found : let asked = c.args in let b = asked.table.now in found_at b asked.l c.find_row-f.result ≡ bestRow asked.l asked.word c.bit_of-bit.result (firstOn b asked.l) (rowsOn b asked.l) = chosen-found _ _ _ _ c.requires.label (λ k. omega (arith, c.type_inv.table k)) _ c.find_row-f.ensures in
+    let found : let asked = c.args in let b = asked.table.now in found_at b asked.l c.find_row-f.result ≡ best_row asked.l asked.word c.bit_of-bit.result (first_on b asked.l) (rows_on b asked.l) = chosen-found _ _ _ _ c.requires.label (λ k. omega (arith, c.type_inv.table k)) _ c.find_row-f.ensures in
     let numbered : RowNumbers c.args.table.now c.args.l c.args.word c.bit_of-bit.result c.find_row-f.result = numbers _ _ _ c.requires bits _ c.label_read-read.ensures _ c.bit_of-bit.ensures _ found (omega (arith, c.if-table-f.false)) in
     let n = numbered in
     omega (arith, n.least, n.after, c.rows_from-from.ensures, c.first_of-first.ensures)
@@ -49,7 +49,7 @@ overflow_sub-row c =
 pub overflow_cast-row : goal.overflow_cast-row
 overflow_cast-row c =
     let bits : Results = (state_of c.args.bytes.now).bits in
-    let found : let asked = c.args in let b = asked.table.now in found_at b asked.l c.find_row-f.result ≡ bestRow asked.l asked.word c.bit_of-bit.result (firstOn b asked.l) (rowsOn b asked.l) = chosen-found _ _ _ _ c.requires.label (λ k. omega (arith, c.type_inv.table k)) _ c.find_row-f.ensures in
+    let found : let asked = c.args in let b = asked.table.now in found_at b asked.l c.find_row-f.result ≡ best_row asked.l asked.word c.bit_of-bit.result (first_on b asked.l) (rows_on b asked.l) = chosen-found _ _ _ _ c.requires.label (λ k. omega (arith, c.type_inv.table k)) _ c.find_row-f.ensures in
     let numbered : RowNumbers c.args.table.now c.args.l c.args.word c.bit_of-bit.result c.find_row-f.result = numbers _ _ _ c.requires bits _ c.label_read-read.ensures _ c.bit_of-bit.ensures _ found (omega (arith, c.if-table-f.false)) in
     let n = numbered in
     omega (arith, n.least, n.after, n.below, n.few, c.rows_from-from.ensures, c.first_of-first.ensures)
@@ -58,7 +58,7 @@ pub returns : goal.returns
 returns c =
     let bits : Results = (state_of c.args.bytes.now).bits in
     let decides : Deciding c.args.table.now c.args.l c.bit_of-bit.result = bit-decides _ _ _ c.label_read-read.ensures bits _ _ c.bit_of-bit.ensures c.requires.label in
-    let found : let asked = c.args in let b = asked.table.now in found_at b asked.l c.find_row-f.result ≡ bestRow asked.l asked.word c.bit_of-bit.result (firstOn b asked.l) (rowsOn b asked.l) = chosen-found _ _ _ _ c.requires.label (λ k. omega (arith, c.type_inv.table k)) _ c.find_row-f.ensures in
+    let found : let asked = c.args in let b = asked.table.now in found_at b asked.l c.find_row-f.result ≡ best_row asked.l asked.word c.bit_of-bit.result (first_on b asked.l) (rows_on b asked.l) = chosen-found _ _ _ _ c.requires.label (λ k. omega (arith, c.type_inv.table k)) _ c.find_row-f.ensures in
     row_told _ _ _ c.requires bits _ c.label_read-read.ensures _
     c.bit_of-bit.ensures _ found
     (omega (arith, c.if-table-f.false)) _ _ _ _ _ _ c.first_of-first.ensures

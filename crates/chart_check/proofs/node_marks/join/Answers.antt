@@ -1,7 +1,7 @@
 -- `chart_check::node_marks::join`: once the list is followed to its end, all are reached.
 use Rattle.std.proofs.Common.{arith, ◌≡◌, ◌∙◌, refl, ℕ, get_or, subst}
 use Rattle.text.specs.frames.Frame.{size}
-use Rattle.charts.specs.inner.Marks.{arcsBy}
+use Rattle.charts.specs.inner.Marks.{arcs_by}
 use Rattle.words.proofs.graph.Marking.{joining-first, joining-done}
 use Rattle.words.proofs.graph.Lists.{list-node, Followed, followed-none, followed-more, followed-closed, joining-more}
 use Rattle.chart_check.proofs.node_marks.MarkCases.{turn-lent, turn-few, lent-enlisted}
@@ -51,6 +51,6 @@ returns c =
     let inv = loop.invariant in
     let e : loop.i ≡ loop.end = omega arith in (
       joining-done _ _ _ c.requires.long loop.marks inv.joining
-          (followed-closed _ _ loop.marks loop.list loop.end inv.listed (subst (λ (k : ℕ). Followed (size c.args.records.now) (arcsBy c.args.records.now c.args.conditions) loop.marks loop.list k) e inv.followed)),
+          (followed-closed _ _ loop.marks loop.list loop.end inv.listed (subst (λ (k : ℕ). Followed (size c.args.records.now) (arcs_by c.args.records.now c.args.conditions) loop.marks loop.list k) e inv.followed)),
       inv.listed.counted,
     )

@@ -4,7 +4,7 @@ use Rattle.text.specs.declared.frames.sizes.TheConstants.{RECORD, NODES}
 use Rattle.text.specs.frames.Frame.{size}
 use Rattle.text.specs.frames.Verdict.{fine}
 use Rattle.charts.specs.Chart.{Chart, kind, next0, schemes, begin}
-use Rattle.charts.specs.Check.{chartVerdict}
+use Rattle.charts.specs.Check.{chart_verdict}
 use Rattle.chart_rows.specs.chart_labels.Labels.{label}
 
 -- an accepted chart: the whole records of 1 to 256 nodes, in bytes, and none of 4 to 9 and 19
@@ -13,7 +13,7 @@ pub record Ready (c : Chart) : Type 0 where
   pub some : 1 ≤ size c
   pub few : size c ≤ NODES
   pub bytes : (k : ℕ) → get_or c k 0 < 256
-  pub accepted : chartVerdict c ≡ fine
+  pub accepted : chart_verdict c ≡ fine
 
 -- the labels of all nodes, by node
 pub record Labelled (c : Chart) (labels : List ℕ) : Type 0 where

@@ -1,7 +1,7 @@
 -- `fillings::counting::tally` meets its contract: one list, or all of them, from the fresh state.
 use Prim.Native.Nat.{ℕ}
 use mathlib.Core.Path.{sym, ◌∙◌, ap, ap₂}
-use Rattle.tables.specs.Table.{tableImage}
+use Rattle.tables.specs.Table.{table_image}
 use Rattle.state.specs.declared.State.{State}
 use Rattle.state.specs.Bytes.{state_of}
 use Rattle.ticks.specs.inner.TickContracts.{TickAsked}
@@ -18,7 +18,7 @@ pub returns-then-k-eq0 : goal.returns-then-k-eq0
 returns-then-k-eq0 c =
     let a = c.args in
     c.tally_one.ensures
-    ∙ ap₂ (λ (s : State) (k : ℕ). tally_of (tableImage a.table.now) s a.n k) c.fresh_bytes-bytes.ensures
+    ∙ ap₂ (λ (s : State) (k : ℕ). tally_of (table_image a.table.now) s a.n k) c.fresh_bytes-bytes.ensures
     (sym c.if-k-eq0.true)
 
 pub tally_all-requires : goal.tally_all-requires
@@ -31,4 +31,4 @@ tally_all-requires c =
 pub returns : goal.returns
 returns c =
     let a = c.args in
-    c.tally_all.ensures ∙ ap (λ (s : State). tally_of (tableImage a.table.now) s a.n a.k) c.fresh_bytes-bytes.ensures
+    c.tally_all.ensures ∙ ap (λ (s : State). tally_of (table_image a.table.now) s a.n a.k) c.fresh_bytes-bytes.ensures

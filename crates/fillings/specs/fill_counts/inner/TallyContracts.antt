@@ -4,19 +4,19 @@ use Rattle.words.specs.lists.Pick.{pick}
 use Rattle.text.specs.declared.frames.refusals.TheConstants.{FULL, NO_ROW}
 use Rattle.image.specs.Image.{Image}
 use Rattle.state.specs.declared.State.{State}
-use Rattle.fillings.specs.Counts.{meeting}
+use Rattle.fillings.specs.Counts.{count_meeting}
 use Rattle.fillings.specs.declared.fill_counts.Tally.{Tally}
 
 -- all lists of n words, from a state
 abbrev pub tally_of : Image → State → ℕ → ℕ → Tally
-tally_of i s n k = record { ended = meeting i s n k 0; full = meeting i s n k FULL; unmatched = meeting i s n k NO_ROW }
+tally_of i s n k = record { ended = count_meeting i s n k 0; full = count_meeting i s n k FULL; unmatched = count_meeting i s n k NO_ROW }
 
 -- m lists, all of which meet one number
-abbrev pub allMeet : ℕ → ℕ → Tally
-allMeet number m = record { ended = pick (eqb number 0) m 0; full = pick (eqb number FULL) m 0; unmatched = pick (eqb number NO_ROW) m 0 }
+abbrev pub all_meet : ℕ → ℕ → Tally
+all_meet number m = record { ended = pick (eqb number 0) m 0; full = pick (eqb number FULL) m 0; unmatched = pick (eqb number NO_ROW) m 0 }
 
-abbrev pub added : Tally → Tally → Tally
-added a b = record { ended = a.ended + b.ended; full = a.full + b.full; unmatched = a.unmatched + b.unmatched }
+abbrev pub tally_sum : Tally → Tally → Tally
+tally_sum a b = record { ended = a.ended + b.ended; full = a.full + b.full; unmatched = a.unmatched + b.unmatched }
 
 -- no more than there are lists
 pub record FewLists (t : Tally) : Type 0 where

@@ -3,7 +3,7 @@ use mathlib.Core.Path.{sym}
 use Prim.Native.Nat.{◌-◌}
 use Rattle.words.proofs.lists.Searches.{any-over}
 use Rattle.state.specs.Bytes.{state_of}
-use Rattle.fitness.specs.Fitness.{filledPlace}
+use Rattle.fitness.specs.Fitness.{is_filled_place}
 use Rattle.fitness.proofs.fitting.AboveCases.{seen_first, seen_next, seen_all}
 use Rattle.std.proofs.Common.{rules}
 use Rattle.fitness.proofs.fitting.any_filled.Goals as goal
@@ -11,7 +11,7 @@ use Rattle.fitness.proofs.fitting.any_filled.Goals as goal
 pub returns-then-depth-ge-PLACES : goal.returns-then-depth-ge-PLACES
 returns-then-depth-ge-PLACES c =
     let s = state_of c.args.bytes.now in
-    sym (any-over (filledPlace s) 32 s.depth (search rules))
+    sym (any-over (is_filled_place s) 32 s.depth (search rules))
 
 pub loop-k-init : goal.loop-k-init
 loop-k-init c = seen_first (state_of c.args.bytes.now)

@@ -2,7 +2,7 @@
 use mathlib.Core.Path.{refl}
 use Prim.Native.Nat.{◌-◌}
 use native.Mathlib.Omega.{arith}
-use Rattle.tables.specs.Table.{tableImage}
+use Rattle.tables.specs.Table.{table_image}
 use Rattle.state.specs.declared.State.{State}
 use Rattle.state.specs.Bytes.{state_of}
 use Rattle.fitness.proofs.fitting.ServedCases.{served-found, served-next, served-all}
@@ -29,5 +29,5 @@ loop-h-preserved c =
 pub returns : goal.returns
 returns c =
     let state : State = state_of c.args.bytes.now in
-    served-all (tableImage c.args.table.now)
+    served-all (table_image c.args.table.now)
     state c.loop-h.h (search rules) c.loop-h.invariant

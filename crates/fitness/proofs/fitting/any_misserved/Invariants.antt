@@ -1,9 +1,9 @@
 -- `fitness::fitting::any_misserved` meets its contract: the first number that is served amiss ends the loop.
 use Prim.Native.Nat.{◌-◌}
-use Rattle.tables.specs.Table.{tableImage}
+use Rattle.tables.specs.Table.{table_image}
 use Rattle.state.specs.Bytes.{state_of}
 use Rattle.fitness.proofs.fitting.ServedCases.{Left}
 use Rattle.fitness.proofs.fitting.any_misserved.Given as goal
 
 abbrev pub invariant-loop-h : goal.invariant-loop-h
-invariant-loop-h l = Left (tableImage l.table) (state_of l.bytes) l.h
+invariant-loop-h l = Left (table_image l.table) (state_of l.bytes) l.h

@@ -2,12 +2,12 @@
 use mathlib.Core.Path.{◌≡◌}
 use Prim.Native.Nat.{◌-◌, ◌≤◌}
 use Rattle.words.specs.lists.Numbers.{lowest}
-use Rattle.grouping.specs.inner.GroupingContracts.{holdsSameOn}
+use Rattle.grouping.specs.inner.GroupingContracts.{has_same_fields_on}
 use Rattle.grouping.proofs.first_classes.lowest_same.Given as goal
 
 abbrev pub invariant-loop-m : goal.invariant-loop-m
 invariant-loop-m l =
-    (l.m ≤ l.l) × (lowest (λ k. holdsSameOn l.table k l.l) l.m (l.l - l.m) ≡ lowest (λ k. holdsSameOn l.table k l.l) 0 l.l)
+    (l.m ≤ l.l) × (lowest (λ k. has_same_fields_on l.table k l.l) l.m (l.l - l.m) ≡ lowest (λ k. has_same_fields_on l.table k l.l) 0 l.l)
 
 abbrev pub decreases-loop-m : goal.decreases-loop-m
 decreases-loop-m l = l.l - l.m

@@ -8,30 +8,30 @@ labelled place value zero xs = xs
 labelled place value (suc l) xs = let before = labelled place value l xs in set before (place l) (value l before)
 
 -- the labels of a class with label l, up to 255: its lowest label is the first of them
-abbrev pub memberCount : List ℕ → ℕ → ℕ → ℕ
-memberCount counts class l = let before = get_or counts class 0 in pick (eqb class l) 1 (pick (ltb before 255) (before + 1) before)
+abbrev pub member_count : List ℕ → ℕ → ℕ → ℕ
+member_count counts class l = let before = get_or counts class 0 in pick (eqb class l) 1 (pick (ltb before 255) (before + 1) before)
 
-abbrev pub countMembers : List ℕ → ℕ → List ℕ → List ℕ
-countMembers classes = labelled (λ l. get_or classes l 0) (λ l counts. memberCount counts (get_or classes l 0) l)
+abbrev pub count_members : List ℕ → ℕ → List ℕ → List ℕ
+count_members classes = labelled (λ l. get_or classes l 0) (λ l counts. member_count counts (get_or classes l 0) l)
 
 -- the part of label l, where none is kept for its former class or one with fewer labels, else the part that is kept
-abbrev pub largerPart : List ℕ → List ℕ → ℕ → ℕ → ℕ → ℕ
-largerPart counts kept class l part =
+abbrev pub larger_part : List ℕ → List ℕ → ℕ → ℕ → ℕ → ℕ
+larger_part counts kept class l part =
     let first = get_or kept class 0 in pick (eqb class l) part (pick (ltb (get_or counts first 0) (get_or counts part 0)) part first)
 
-abbrev pub keepLargest : List ℕ → List ℕ → List ℕ → ℕ → List ℕ → List ℕ
-keepLargest classes next counts =
-    labelled (λ l. get_or classes l 0) (λ l kept. largerPart counts kept (get_or classes l 0) l (get_or next l 0))
+abbrev pub keep_largest : List ℕ → List ℕ → List ℕ → ℕ → List ℕ → List ℕ
+keep_largest classes next counts =
+    labelled (λ l. get_or classes l 0) (λ l kept. larger_part counts kept (get_or classes l 0) l (get_or next l 0))
 
 -- 2 for a label whose part is not the one that is kept, else 0
-abbrev pub markOf : ℕ → ℕ → ℕ
-markOf part kept = pick (eqb part kept) 0 2
+abbrev pub mark_of : ℕ → ℕ → ℕ
+mark_of part kept = pick (eqb part kept) 0 2
 
-abbrev pub markOthers : List ℕ → List ℕ → List ℕ → ℕ → List ℕ → List ℕ
-markOthers classes next kept = labelled (λ l. l) (λ l _. markOf (get_or next l 0) (get_or kept (get_or classes l 0) 0))
+abbrev pub mark_others : List ℕ → List ℕ → List ℕ → ℕ → List ℕ → List ℕ
+mark_others classes next kept = labelled (λ l. l) (λ l _. mark_of (get_or next l 0) (get_or kept (get_or classes l 0) 0))
 
 -- what the three buffers then hold
 pub record PartsMarked (classes next marks₀ counts₀ kept₀ : List ℕ) (n : ℕ) (marks counts kept : List ℕ) : Type 0 where
-  pub counted : counts ≡ countMembers next n counts₀
-  pub largest : kept ≡ keepLargest classes next counts n kept₀
-  pub others : marks ≡ markOthers classes next kept n marks₀
+  pub counted : counts ≡ count_members next n counts₀
+  pub largest : kept ≡ keep_largest classes next counts n kept₀
+  pub others : marks ≡ mark_others classes next kept n marks₀

@@ -1,8 +1,8 @@
 -- `image::table::filled_to` meets its contract: the loop keeps what is left to look at.
 use mathlib.Core.Path.{◌≡◌}
 use Prim.Native.Nat.{◌-◌, ◌≤◌}
-use Rattle.image.specs.Check.{filled}
+use Rattle.image.specs.Check.{is_filled}
 use Rattle.image.proofs.table.filled_to.Given as goal
 
 abbrev pub invariant-loop-j : goal.invariant-loop-j
-invariant-loop-j l = (l.j ≤ l.end) × (filled l.table l.f l.j (l.end - l.j) ≡ filled l.table l.f l.k (l.end - l.k))
+invariant-loop-j l = (l.j ≤ l.end) × (is_filled l.table l.f l.j (l.end - l.j) ≡ is_filled l.table l.f l.k (l.end - l.k))

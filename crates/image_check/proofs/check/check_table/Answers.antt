@@ -3,7 +3,7 @@ use mathlib.Core.Path.{◌≡◌, sym, ◌∙◌, ap}
 use mathlib.Core.Bool.{false}
 use native.Mathlib.Omega.{arith}
 use Rattle.text.specs.frames.Answer.{reply}
-use Rattle.image.specs.Check.{badHeader}
+use Rattle.image.specs.Check.{is_bad_header}
 use Rattle.image_check.proofs.TableCases.{header-size, table-header, table-stray, table-bad, table-good}
 use Rattle.std.proofs.Common.{rules}
 use Rattle.image_check.proofs.check.check_table.Goals as goal
@@ -13,22 +13,22 @@ returns-then-bad_header c = ap reply c.refused.ensures ∙ table-header _ (sym c
 
 pub lowest_fault-fault-requires : goal.lowest_fault-fault-requires
 lowest_fault-fault-requires c =
-    let header : badHeader c.args.table.now ≡ false = sym c.bad_header.ensures ∙ c.if-bad_header.false in
+    let header : is_bad_header c.args.table.now ≡ false = sym c.bad_header.ensures ∙ c.if-bad_header.false in
     omega (arith, header-size _ header)
 
 pub returns-then-frames-fault : goal.returns-then-frames-fault
 returns-then-frames-fault c =
-    let header : badHeader c.args.table.now ≡ false = sym c.bad_header.ensures ∙ c.if-bad_header.false in
+    let header : is_bad_header c.args.table.now ≡ false = sym c.bad_header.ensures ∙ c.if-bad_header.false in
     table-good _ header _ c.lowest_fault-fault.ensures c.if-frames-fault.true
 
 pub returns-then-stray-frames : goal.returns-then-stray-frames
 returns-then-stray-frames c =
-    let header : badHeader c.args.table.now ≡ false = sym c.bad_header.ensures ∙ c.if-bad_header.false in
+    let header : is_bad_header c.args.table.now ≡ false = sym c.bad_header.ensures ∙ c.if-bad_header.false in
     ap reply c.refused-then-stray-frames.ensures
     ∙ table-stray _ header _ c.lowest_fault-fault.ensures _ c.lowest_stray-stray.ensures (search rules)
 
 pub returns : goal.returns
 returns c =
-    let header : badHeader c.args.table.now ≡ false = sym c.bad_header.ensures ∙ c.if-bad_header.false in
+    let header : is_bad_header c.args.table.now ≡ false = sym c.bad_header.ensures ∙ c.if-bad_header.false in
     ap reply c.refused-2.ensures
     ∙ table-bad _ header _ c.lowest_fault-fault.ensures _ c.lowest_stray-stray.ensures (search rules) (search rules)

@@ -1,13 +1,13 @@
 -- `image_check::image_faults::lowest_entry` meets its contract: the loop keeps what is left to search.
 use Prim.Native.Nat.{◌-◌}
-use Rattle.image_check.specs.image_faults.inner.FaultyFrames.{faulty}
+use Rattle.image_check.specs.image_faults.inner.FaultyFrames.{is_faulty}
 use Rattle.words.specs.lists.Numbers.{lowest}
 use Rattle.words.proofs.lists.Searches.{Searching}
 use Prim.Native.Nat.{◌≤◌}
 use Rattle.image_check.proofs.image_faults.lowest_entry.Given as goal
 
 abbrev pub invariant-loop-f : goal.invariant-loop-f
-invariant-loop-f l = (1 ≤ l.f) × Searching (faulty l.table) l.end l.f (lowest (faulty l.table) 1 (l.end - 1))
+invariant-loop-f l = (1 ≤ l.f) × Searching (is_faulty l.table) l.end l.f (lowest (is_faulty l.table) 1 (l.end - 1))
 
 abbrev pub decreases-loop-f : goal.decreases-loop-f
 decreases-loop-f l = l.end - l.f

@@ -3,13 +3,13 @@ use Rattle.std.specs.Prelude.{ℕ, Bool, ◌||◌, not, List, ltb, eqb}
 use Rattle.std.specs.Int.Bits.{bit_and}
 use Rattle.image.specs.declared.layout.TheConstants.{FUNCTION_CALL}
 use Rattle.image.specs.Image.{Label, Row}
-use Rattle.image.specs.Decode.{lastLabel}
-use Rattle.image.specs.Check.{badCalled}
+use Rattle.image.specs.Decode.{last_label}
+use Rattle.image.specs.Check.{has_bad_called}
 
 -- 13, of a label from 2 up: its tick kind and the scheme that it calls
-abbrev pub badKind : List ℕ → Label → Bool
-badKind b x = ltb FUNCTION_CALL x.kind || badCalled b x
+abbrev pub has_bad_kind : List ℕ → Label → Bool
+has_bad_kind b x = ltb FUNCTION_CALL x.kind || has_bad_called b x
 
 -- 13, of a row: the label that it leaves, and its values
-abbrev pub badTest : List ℕ → Row → Bool
-badTest b r = ltb r.from 2 || ltb (lastLabel b) r.from || not (eqb (bit_and r.values r.care) r.values)
+abbrev pub has_bad_test : List ℕ → Row → Bool
+has_bad_test b r = ltb r.from 2 || ltb (last_label b) r.from || not (eqb (bit_and r.values r.care) r.values)

@@ -4,9 +4,9 @@ use Rattle.words.specs.lists.Numbers.{any}
 use Rattle.text.specs.declared.frames.sizes.TheConstants.{RECORD}
 use Rattle.text.specs.frames.Frame.{size}
 use Rattle.charts.specs.Chart.{Chart}
-use Rattle.charts.specs.Check.{chartVerdict}
-use Rattle.little_charts.specs.Little.{passes}
-use Rattle.little_charts.specs.little_search.inner.Search.{lonely}
+use Rattle.charts.specs.Check.{chart_verdict}
+use Rattle.little_charts.specs.Little.{is_fine}
+use Rattle.little_charts.specs.little_search.inner.Search.{is_lonely}
 use Rattle.little_fetch.specs.declared.little_seek.Sought.{Sought}
 
 -- records of 2 to 4 frames
@@ -16,8 +16,8 @@ pub record FewFrames (c : List ℕ) : Type 0 where
   pub few : size c ≤ 4
 
 -- by the nodes that no other leads to, and by the chart's verdict
-abbrev pub accepts : Chart → Bool
-accepts c = not (any (lonely c) 0 (size c)) && passes (chartVerdict c)
+abbrev pub is_accepted : Chart → Bool
+is_accepted c = not (any (is_lonely c) 0 (size c)) && is_fine (chart_verdict c)
 
 -- a record stands at place v after those below it
 pub record RecordPlaced (c : List ℕ) (v : ℕ) (r after : List ℕ) : Type 0 where

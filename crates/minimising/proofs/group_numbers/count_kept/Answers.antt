@@ -1,6 +1,6 @@
 -- `minimising::group_numbers::count_kept` meets its contract: the count over the rows before f.
 use Prim.Native.Nat.{◌-◌}
-use Rattle.grouping.specs.Classes.{isFirst}
+use Rattle.grouping.specs.Classes.{is_first}
 use Rattle.text.specs.frames.Frame.{field}
 use native.Mathlib.Omega.{arith}
 use mathlib.Core.Path.{sym, ◌∙◌, ap}
@@ -16,9 +16,9 @@ loop-f-init c = adding-start _ _ _ _ (search rules)
 pub loop-f-preserved : goal.loop-f-preserved
 loop-f-preserved c =
     adding-on _ _ _ _ _ _ _ c.loop-f.invariant (search rules)
-    (c.first_at-total.ensures.0 ∙ ap (λ (k : ℕ). pick (isFirst c.args.classes.now k) 1 0) c.byte-from.ensures, c.first_at-total.ensures.1)
+    (c.first_at-total.ensures.0 ∙ ap (λ (k : ℕ). pick (is_first c.args.classes.now k) 1 0) c.byte-from.ensures, c.first_at-total.ensures.1)
 
 pub returns : goal.returns
 returns c =
     let added = adding-all _ _ _ _ _ _ c.loop-f.invariant (search rules) in
-    (added.0 ∙ sym (count-sum (λ k. isFirst c.args.classes.now (field c.args.table.now k 1)) _ _), omega (arith, added.1))
+    (added.0 ∙ sym (count-sum (λ k. is_first c.args.classes.now (field c.args.table.now k 1)) _ _), omega (arith, added.1))

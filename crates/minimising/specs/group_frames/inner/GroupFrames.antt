@@ -1,13 +1,13 @@
 -- The frames that are written with the numbers of groups.
 use Rattle.std.specs.Prelude.{ℕ, ◌-◌, List, get_or}
-use Rattle.text.specs.frames.Frame.{frameText}
+use Rattle.text.specs.frames.Frame.{frame_text}
 use Rattle.image.specs.Image.{Row}
-use Rattle.translator.specs.label_text.inner.LabelBytes.{headerBytes}
+use Rattle.translator.specs.label_text.inner.LabelBytes.{header_bytes}
 
-abbrev pub headerPiece : ℕ → ℕ → ℕ → ℕ → List ℕ
-headerPiece schemes groups rows handler = frameText (headerBytes schemes (groups - 1) rows handler)
+abbrev pub header_piece : ℕ → ℕ → ℕ → ℕ → List ℕ
+header_piece schemes groups rows handler = frame_text (header_bytes schemes (groups - 1) rows handler)
 
 -- a row with the numbers that a buffer has
-abbrev pub ledBy : List ℕ → Row → Row
-ledBy numbers r =
+abbrev pub row_numbered_by : List ℕ → Row → Row
+row_numbered_by numbers r =
     record { from = get_or numbers r.from 0; care = r.care; values = r.values; bit = r.bit; next = get_or numbers r.next 0 }

@@ -1,9 +1,9 @@
 -- `output::printing::code_line` meets its contract: the two characters are those of the code's digits.
 use mathlib.Core.Path.{ap₂}
 use mathlib.Core.List.{[], ◌∷◌}
-use Rattle.output.specs.printing.Lines.{codeLine}
+use Rattle.output.specs.printing.Lines.{code_line}
 use Rattle.output.proofs.printing.code_line.Goals as goal
 
 pub returns : goal.returns
-unfolding codeLine
+unfolding code_line
 returns c = ap₂ (λ x y. x ∷ y ∷ 10 ∷ []) c.character-high.ensures c.character-low.ensures

@@ -1,12 +1,12 @@
 -- `rows::row_search::skip_rows` meets its contract: none of the rows passed so far matches, and before two that are left it stops
 -- only at one that does.
 use Prim.Native.Nat.{◌+◌, ◌-◌, ◌≤◌}
-use Rattle.rows.specs.inner.Search.{swap}
+use Rattle.rows.specs.inner.Search.{swapped_word}
 use Rattle.rows.specs.row_search.inner.Skipped.{Unmatched}
 use Rattle.rows.proofs.row_search.skip_rows.Given as goal
 
 abbrev pub invariant-loop-f : goal.invariant-loop-f
-invariant-loop-f l = Unmatched l.table (swap l.swapped) l.bit l.from l.end l.f × (l.f ≤ l.from + l.end)
+invariant-loop-f l = Unmatched l.table (swapped_word l.swapped) l.bit l.from l.end l.f × (l.f ≤ l.from + l.end)
 
 abbrev pub decreases-loop-f : goal.decreases-loop-f
 decreases-loop-f l = l.end - l.f

@@ -3,30 +3,30 @@ use Rattle.std.specs.Prelude.{ℕ, ◌≤◌, ◌<◌, ◌≡◌, List, length}
 use Rattle.text.specs.declared.frames.refusals.TheConstants.{NO_ROOM}
 use Rattle.text.specs.frames.Verdict.{when}
 use Rattle.image.specs.Image.{Image}
-use Rattle.image.specs.Decode.{schemeCount, lastLabel}
-use Rattle.tables.specs.Table.{tableImage}
+use Rattle.image.specs.Decode.{scheme_count, last_label}
+use Rattle.tables.specs.Table.{table_image}
 use Rattle.tables.specs.inner.Asked.{Whole}
-use Rattle.rows.specs.listing.Listing.{howMany, first_of, ListingOutcome, listingOn, noRoomFor}
+use Rattle.rows.specs.listing.Listing.{row_count_of, first_of, ListingOutcome, listing_on, has_no_room_for}
 use Rattle.rows.specs.listing.Exact.{LooksAt}
 use Rattle.rows.specs.declared.listing.Rows.{Rows}
 
 -- a table whose noted frames are those of its image's listing
 pub record Listable (b : List ℕ) : Type 0 where
   pub whole : Whole b
-  pub none : (l : ℕ) → l < 2 → howMany (tableImage b) l ≡ 0
-  pub some : (l : ℕ) → 2 ≤ l → l ≤ lastLabel b → LooksAt b (tableImage b) l
+  pub none : (l : ℕ) → l < 2 → row_count_of (table_image b) l ≡ 0
+  pub some : (l : ℕ) → 2 ≤ l → l ≤ last_label b → LooksAt b (table_image b) l
 
 -- a label of it, with H as the caller has it
 pub record ListingAsked (b : List ℕ) (h l : ℕ) : Type 0 where
   pub table : Listable b
-  pub schemes : h ≡ schemeCount b
-  pub high : l ≤ lastLabel b
+  pub schemes : h ≡ scheme_count b
+  pub high : l ≤ last_label b
 
 -- the rows of label l
 pub record RowsOf (i : Image) (l : ℕ) (r : Rows) : Type 0 where
   pub first : r.first ≡ first_of i l
-  pub count : r.count ≡ howMany i l
+  pub count : r.count ≡ row_count_of i l
 
 -- 16, then the listing
-unfoldable pub listTable : List ℕ → List ℕ → List ℕ → ListingOutcome
-listTable b old₁ old₂ = let i = tableImage b in listingOn (when NO_ROOM (noRoomFor (length i.labels) old₁ old₂)) (λ _. i) old₁ old₂
+unfoldable pub list_table : List ℕ → List ℕ → List ℕ → ListingOutcome
+list_table b old₁ old₂ = let i = table_image b in listing_on (when NO_ROOM (has_no_room_for (length i.labels) old₁ old₂)) (λ _. i) old₁ old₂

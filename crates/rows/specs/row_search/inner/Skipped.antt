@@ -1,14 +1,14 @@
 -- What a search that passes over rows promises.
 use Rattle.std.specs.Prelude.{ℕ, ◌+◌, ◌≤◌, ◌<◌, true, false, ◌≡◌, List}
-use Rattle.rows.specs.inner.Search.{matchingFrame}
+use Rattle.rows.specs.inner.Search.{is_matching_frame}
 
 -- no row from a frame on, up to the one in frame r, matches, and none of them stands behind the end
 pub record Unmatched (b : List ℕ) (w bit from end r : ℕ) : Type 0 where
   pub on : from ≤ r
   pub within : from < r → r ≤ end
-  pub none : (k : ℕ) → from ≤ k → k < r → matchingFrame b w bit k ≡ false
+  pub none : (k : ℕ) → from ≤ k → k < r → is_matching_frame b w bit k ≡ false
 
 -- r is where a search from a frame on stopped: at a row that matches, or where fewer than two rows are left
 pub record Skipped (b : List ℕ) (w bit from end r : ℕ) : Type 0 where
   pub passed : Unmatched b w bit from end r
-  pub stopped : r + 1 < end → matchingFrame b w bit r ≡ true
+  pub stopped : r + 1 < end → is_matching_frame b w bit r ≡ true

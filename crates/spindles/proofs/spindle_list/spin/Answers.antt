@@ -1,5 +1,5 @@
 use Rattle.std.proofs.Common.{◌∙◌, sym}
-use Rattle.runs.specs.TickOutcome.{imageTick}
+use Rattle.runs.specs.TickOutcome.{image_tick}
 use Rattle.spindles.proofs.InParts.{spin-parts}
 use Rattle.spindles.proofs.spindle_list.Spun.{bad-spun, turn-spun}
 use Rattle.spindles.proofs.spindle_list.spin.Goals as goal
@@ -10,5 +10,5 @@ returns-then-bad_call c = rw spin-parts (bad-spun _ _ _ _ _ _ (sym c.bad_call.en
 pub returns : goal.returns
 returns c =
     rw spin-parts
-    (turn-spun _ _ _ _ _ (λ s. imageTick c.args.image.now s c.args.word) _ _ (sym c.bad_call.ensures ∙ c.if-bad_call.false)
+    (turn-spun _ _ _ _ _ (λ s. image_tick c.args.image.now s c.args.word) _ _ (sym c.bad_call.ensures ∙ c.if-bad_call.false)
     c.turn_state-done.ensures)

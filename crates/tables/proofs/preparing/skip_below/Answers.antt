@@ -4,7 +4,7 @@ use mathlib.Core.Path.{sym, ◌∙◌}
 use Prim.Native.Nat.{◌-◌}
 use Rattle.words.proofs.lists.Searches.{lowest-here, lowest-on, lowest-over}
 use Rattle.text.specs.frames.Frame.{field}
-use Rattle.tables.specs.Prepare.{rowReached}
+use Rattle.tables.specs.Prepare.{is_row_reached}
 use Rattle.std.proofs.Common.{rules}
 use Rattle.tables.proofs.preparing.skip_below.Goals as goal
 
@@ -13,7 +13,7 @@ returns-then-l-byte c =
     let b = c.args.table.now in
     let l = c.args.l in
     let loop = c.loop-f in
-    sym (lowest-here (rowReached b l) _ _ (search rules) (le-leb l (field b loop.f 1) (search rules))) ∙ loop.invariant.1
+    sym (lowest-here (is_row_reached b l) _ _ (search rules) (le-leb l (field b loop.f 1) (search rules))) ∙ loop.invariant.1
 
 pub loop-f-preserved : goal.loop-f-preserved
 loop-f-preserved c =
@@ -21,7 +21,7 @@ loop-f-preserved c =
     let l = c.args.l in
     let loop = c.loop-f in (
       search rules,
-      sym (lowest-on (rowReached b l) _ _ (search rules) (lt-leb l (field b loop.f 1) (search rules))) ∙ loop.invariant.1,
+      sym (lowest-on (is_row_reached b l) _ _ (search rules) (lt-leb l (field b loop.f 1) (search rules))) ∙ loop.invariant.1,
     )
 
 pub returns : goal.returns

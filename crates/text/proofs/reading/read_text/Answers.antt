@@ -1,12 +1,12 @@
 -- `text::reading::read_text` meets its contract: each return is a way through the chain of verdicts.
 use Rattle.std.proofs.Common.{◌≡◌, ◌∙◌, sym, length, false}
-use Rattle.text.specs.frames.Check.{badLength, textVerdict}
+use Rattle.text.specs.frames.Check.{is_bad_length, text_verdict}
 use Rattle.text.proofs.frames.Chains.{when-holds, when-fails, lowest-refused, lowest-fine, next-refused, next-on, refused-judged, judged-fine}
 use Rattle.text.proofs.reading.Buffers.{read_none, read_all}
 use Rattle.text.proofs.reading.read_text.Goals as goal
 
 pub returns-then-bad_length : goal.returns-then-bad_length
-unfolding textVerdict
+unfolding text_verdict
 returns-then-bad_length c =
     let short = sym c.bad_length.ensures ∙ c.if-bad_length.true in
     record {
@@ -15,9 +15,9 @@ returns-then-bad_length c =
     }
 
 pub returns-then-form-frames : goal.returns-then-form-frames
-unfolding textVerdict
+unfolding text_verdict
 returns-then-form-frames c =
-    let good : badLength 23 c.args.most (length c.args.text.now) ≡ false = sym c.bad_length.ensures ∙ c.if-bad_length.false in
+    let good : is_bad_length 23 c.args.most (length c.args.text.now) ≡ false = sym c.bad_length.ensures ∙ c.if-bad_length.false in
     let found = c.read_frames-found.ensures in
     record {
       result_value = refused-judged _ _ _ _ _ c.refused-then-form-frames.ensures
@@ -26,9 +26,9 @@ returns-then-form-frames c =
     }
 
 pub returns-then-sum-frames : goal.returns-then-sum-frames
-unfolding textVerdict
+unfolding text_verdict
 returns-then-sum-frames c =
-    let good : badLength 23 c.args.most (length c.args.text.now) ≡ false = sym c.bad_length.ensures ∙ c.if-bad_length.false in
+    let good : is_bad_length 23 c.args.most (length c.args.text.now) ≡ false = sym c.bad_length.ensures ∙ c.if-bad_length.false in
     let found = c.read_frames-found.ensures in
     record {
       result_value = refused-judged _ _ _ _ _ c.refused-then-sum-frames.ensures
@@ -38,9 +38,9 @@ returns-then-sum-frames c =
     }
 
 pub returns : goal.returns
-unfolding textVerdict
+unfolding text_verdict
 returns c =
-    let good : badLength 23 c.args.most (length c.args.text.now) ≡ false = sym c.bad_length.ensures ∙ c.if-bad_length.false in
+    let good : is_bad_length 23 c.args.most (length c.args.text.now) ≡ false = sym c.bad_length.ensures ∙ c.if-bad_length.false in
     let found = c.read_frames-found.ensures in
     record {
       result_value = judged-fine _ _ (next-on _ _ (when-fails _ _ good) ∙ next-on _ _ (lowest-fine _ _ _ _ found.form c.if-form-frames.false)

@@ -3,23 +3,23 @@ use Rattle.std.specs.Prelude.{ℕ, ◌+◌, ◌*◌, ◌%◌, ◌≤◌, ◌<◌
 use Rattle.words.specs.lists.Pick.{pick}
 use Rattle.words.specs.lists.Numbers.{any, range}
 use Rattle.words.specs.lists.Sequences.{written}
-use Rattle.text.specs.digits.Digit.{digitOf}
+use Rattle.text.specs.digits.Digit.{digit_of}
 use Rattle.text.specs.declared.frames.sizes.TheConstants.{LINE, DIGITS, FRAME}
 use Rattle.text.specs.frames.Frame.{byte_at}
-use Rattle.text.specs.frames.Check.{badForm, badSum}
+use Rattle.text.specs.frames.Check.{has_bad_form, has_bad_sum}
 use Rattle.text.specs.declared.frame_reading.FrameDigits.{FrameDigits}
 use Rattle.text.specs.declared.frame_reading.Faults.{Faults}
 
 -- the digit of character k from an offset on
-abbrev pub digitAt : List ℕ → ℕ → ℕ → ℕ
-digitAt t from k = digitOf (get_or t (from + k) 0)
+abbrev pub digit_at : List ℕ → ℕ → ℕ → ℕ
+digit_at t from k = digit_of (get_or t (from + k) 0)
 
 -- the digits of characters 0 to 15, then of 6 to 21, and whether one of these is no digit
 pub record DigitsRead (t : List ℕ) (from : ℕ) (r : FrameDigits) : Type 0 where
   pub size : length r.digits ≡ 32
-  pub front : (i : ℕ) → i < 16 → get_or r.digits i 0 ≡ digitAt t from i
-  pub back : (i : ℕ) → i < 16 → get_or r.digits (16 + i) 0 ≡ digitAt t from (6 + i)
-  pub form : r.form ≡ any (λ k. leb 16 (digitAt t from k)) 0 DIGITS
+  pub front : (i : ℕ) → i < 16 → get_or r.digits i 0 ≡ digit_at t from i
+  pub back : (i : ℕ) → i < 16 → get_or r.digits (16 + i) 0 ≡ digit_at t from (6 + i)
+  pub form : r.form ≡ any (λ k. leb 16 (digit_at t from k)) 0 DIGITS
 
 -- where the digits of byte k stand among these, and the byte, as it is stored
 abbrev pub place_of : ℕ → ℕ
@@ -29,14 +29,14 @@ abbrev pub value_of : List ℕ → ℕ → ℕ
 value_of digits k = (16 * get_or digits (place_of k) 0 + get_or digits (place_of k + 1) 0) % 256
 
 -- frame f, and the ten bytes that are stored of it; they are its own where 2 does not refuse it
-abbrev pub storedOf : List ℕ → ℕ → List ℕ
-storedOf t f = map (λ k. byte_at t f k % 256) (range 0 FRAME)
+abbrev pub stored_bytes : List ℕ → ℕ → List ℕ
+stored_bytes t f = map (λ k. byte_at t f k % 256) (range 0 FRAME)
 
 pub record FrameAsked (t : List ℕ) (f : ℕ) (out : List ℕ) : Type 0 where
   pub whole : LINE * f + LINE ≤ length t
   pub room : FRAME * f + FRAME ≤ length out
 
 pub record FrameRead (t : List ℕ) (f : ℕ) (old : List ℕ) (r : Faults) (out : List ℕ) : Type 0 where
-  pub form : r.form ≡ badForm t f
-  pub sum : r.sum ≡ badSum t f
-  pub buffer : out ≡ written old (FRAME * f) (storedOf t f)
+  pub form : r.form ≡ has_bad_form t f
+  pub sum : r.sum ≡ has_bad_sum t f
+  pub buffer : out ≡ written old (FRAME * f) (stored_bytes t f)

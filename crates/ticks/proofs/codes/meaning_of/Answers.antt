@@ -1,23 +1,23 @@
 -- `ticks::codes::meaning_of` meets its contract: by single codes, then by ranges.
-use Rattle.ticks.specs.codes.Codes.{meaningOf}
+use Rattle.ticks.specs.codes.Codes.{meaning_of}
 use Rattle.ticks.proofs.codes.CodeCases.{in-operations, in-functions, below-calls, between-calls, above-calls}
 use Rattle.std.proofs.Common.{rules}
 use Rattle.ticks.proofs.codes.meaning_of.Goals as goal
 
 pub returns-in-0 : goal.returns-in-0
-unfolding meaningOf
+unfolding meaning_of
 returns-in-0 c = simp c.in-0.is
 
 pub returns-in-3 : goal.returns-in-3
-unfolding meaningOf
+unfolding meaning_of
 returns-in-3 c = simp c.in-3.is
 
 pub returns-in-4 : goal.returns-in-4
-unfolding meaningOf
+unfolding meaning_of
 returns-in-4 c = simp c.in-4.is
 
 pub returns-in-96 : goal.returns-in-96
-unfolding meaningOf
+unfolding meaning_of
 returns-in-96 c = simp c.in-96.is
 
 pub returns-in-18-to-32 : goal.returns-in-18-to-32

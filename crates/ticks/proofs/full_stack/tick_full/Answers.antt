@@ -2,7 +2,7 @@
 use mathlib.Core.Path.{◌≡◌, ◌∙◌, ap}
 use Prim.Native.Nat.{ℕ, ◌-◌}
 use Rattle.state.specs.declared.State.{State}
-use Rattle.state.specs.State.{placeAt, number_at}
+use Rattle.state.specs.State.{place_at, number_at}
 use Rattle.state.specs.Bytes.{state_of}
 use Rattle.ticks.specs.Tick.{top_of}
 use Rattle.ticks.proofs.full_stack.FullCases.{full-kept, full-drops}
@@ -16,7 +16,7 @@ returns c =
     let state : State =
     state_of c.args.bytes.now in
     let top_read : c.place_of.result ≡ top_of state =
-    c.place_of.ensures ∙ ap (λ (d : ℕ). placeAt state (d - 1)) c.depth_of.ensures in
+    c.place_of.ensures ∙ ap (λ (d : ℕ). place_at state (d - 1)) c.depth_of.ensures in
     full-drops _ _ _ c.requires.top_full _ c.keeps_full.ensures c.if-keeps_full.false
     _ top_read _ c.label_read-label.ensures
     _ (c.number_of-caller.ensures ∙ ap (λ (k : ℕ). number_at state (k - 1)) c.depth_of.ensures) _ c.handler_of-handler.ensures

@@ -2,8 +2,8 @@
 use Prim.Native.Nat.{◌-◌}
 use Rattle.words.proofs.lists.Fills.{Pieces}
 use Rattle.chart_rows.specs.chart_labels.inner.ChartContracts.{Begun}
-use Rattle.translator.specs.label_text.inner.LabelBytes.{entryBytes}
+use Rattle.translator.specs.label_text.inner.LabelBytes.{entry_bytes}
 use Rattle.translator.proofs.entry_text.put_entries.Given as goal
 
 abbrev pub invariant-loop-k : goal.invariant-loop-k
-invariant-loop-k l = Begun l.records l.begins × Pieces (entryBytes l.records) 10 l.initial.out l.out l.at l.n l.k
+invariant-loop-k l = Begun l.records l.begins × Pieces (entry_bytes l.records) 10 l.initial.out l.out l.at l.n l.k

@@ -3,16 +3,16 @@ use Rattle.std.specs.Prelude.{ℕ, ◌+◌, ◌<◌, ◌≡◌, Bool, true, not,
 use Rattle.words.specs.lists.Pick.{pick}
 use Rattle.words.specs.lists.Numbers.{range, count}
 use Rattle.words.specs.lists.Sequences.{filter}
-use Rattle.words.specs.graph.Reach.{marked}
+use Rattle.words.specs.graph.Reach.{is_marked}
 
 -- how many are marked
 abbrev pub many : List Bool → ℕ
-many ms = count (marked ms) 0 (length ms)
+many ms = count (is_marked ms) 0 (length ms)
 
 -- all of these are marked, where they are nodes
-unfoldable pub markAll : List ℕ → List Bool → List Bool
-markAll [] ms = ms
-markAll (u ∷ us) ms = markAll us (set ms u true)
+unfoldable pub mark_all : List ℕ → List Bool → List Bool
+mark_all [] ms = ms
+mark_all (u ∷ us) ms = mark_all us (set ms u true)
 
 -- marks, a list of nodes, and how many of the list count
 pub record Listing : Type 0 where
@@ -24,25 +24,25 @@ abbrev pub listing : List Bool → List ℕ → ℕ → Listing
 listing ms us k = record { marks = ms; list = us; count = k }
 
 -- u is a node, and has no mark
-abbrev pub unmarked : List Bool → ℕ → Bool
-unmarked ms u = ltb u (length ms) && not (marked ms u)
+abbrev pub is_unmarked : List Bool → ℕ → Bool
+is_unmarked ms u = ltb u (length ms) && not (is_marked ms u)
 
 -- node u is marked, if it is one, and listed after the first that count, if it had no mark
 unfoldable pub enlist : Listing → ℕ → Listing
 enlist s u = record {
   marks = set s.marks u true;
-  list = pick (unmarked s.marks u) (set s.list s.count u) s.list;
-  count = pick (unmarked s.marks u) (s.count + 1) s.count;
+  list = pick (is_unmarked s.marks u) (set s.list s.count u) s.list;
+  count = pick (is_unmarked s.marks u) (s.count + 1) s.count;
 }
 
 -- one node after the other
-unfoldable pub enlistAll : Listing → List ℕ → Listing
-enlistAll s [] = s
-enlistAll s (u ∷ us) = enlistAll (enlist s u) us
+unfoldable pub enlist_all : Listing → List ℕ → Listing
+enlist_all s [] = s
+enlist_all s (u ∷ us) = enlist_all (enlist s u) us
 
 -- the marked nodes, the lowest first
-abbrev pub markedNodes : List Bool → List ℕ
-markedNodes ms = filter (marked ms) (range 0 (length ms))
+abbrev pub marked_nodes : List Bool → List ℕ
+marked_nodes ms = filter (is_marked ms) (range 0 (length ms))
 
 -- node v stands among the first k of a list
 pub record Among (list : List ℕ) (k v : ℕ) : Type 0 where
@@ -53,5 +53,5 @@ pub record Among (list : List ℕ) (k v : ℕ) : Type 0 where
 -- the first k of the list are the marked nodes, in any order, as many as there are
 pub record Listed (marks : List Bool) (list : List ℕ) (k : ℕ) : Type 0 where
   pub counted : k ≡ many marks
-  pub are : (i : ℕ) → i < k → marked marks (get_or list i 0) ≡ true
-  pub all : (v : ℕ) → marked marks v ≡ true → Among list k v
+  pub are : (i : ℕ) → i < k → is_marked marks (get_or list i 0) ≡ true
+  pub all : (v : ℕ) → is_marked marks v ≡ true → Among list k v

@@ -1,6 +1,6 @@
 -- `chart_check::chart_arcs::arcs::bad_arc` meets its contract: by the kind of the node.
 use Rattle.std.proofs.Common.{◌∙◌, ap, inl, inr, arith}
-use Rattle.charts.specs.Check.{badTarget}
+use Rattle.charts.specs.Check.{is_bad_target}
 use Rattle.chart_check.proofs.chart_arcs.NodeCases.{end-arc, single-arc, double-arc}
 use Rattle.chart_check.proofs.chart_arcs.arcs.bad_arc.Goals as goal
 use Rattle.chart_check.proofs.chart_arcs.arcs.bad_arc.Goals.{in_default-via-else-this-lt3+else-this-lt5, in_default-via-then-this-lt3}
@@ -15,6 +15,6 @@ pub returns-in_default : goal.returns-in_default
 returns-in_default c =
     let records = c.args.records.now in
     let v = c.args.v in
-    c.bad_target.ensures ∙ ap (badTarget records v) c.field-in_default.ensures
+    c.bad_target.ensures ∙ ap (is_bad_target records v) c.field-in_default.ensures
     ∙ single-arc records v _ c.field.ensures (λ e. omega arith)
     (elim c.in_default.branch [ in_default-via-then-this-lt3 w ↦ inl (omega arith) | in_default-via-else-this-lt3+else-this-lt5 w ↦ inr (omega arith) ])

@@ -1,7 +1,7 @@
 use Prim.Native.Nat.{◌+◌}
 use mathlib.Core.Path.{sym, ◌∙◌}
 use Rattle.words.proofs.lists.Searches.{any_here, any-on, any-over}
-use Rattle.chart_check.specs.chart_counts.inner.Counts.{notOne}
+use Rattle.chart_check.specs.chart_counts.inner.Counts.{is_not_one_of_each}
 use Rattle.chart_check.proofs.chart_counts.SchemeCounts.{one_each, not-begin, not_end}
 use Rattle.std.proofs.Common.{rules}
 use Rattle.chart_check.proofs.chart_counts.schemes.any_not_one.Goals as goal
@@ -12,7 +12,7 @@ returns-then-begins-at-ne1 c =
     let ends = c.args.ends.now in
     let highest = c.args.highest in
     let loop = c.loop-scheme in
-    sym (any_here (notOne begins ends) (highest + 1) (loop.scheme + 1) (search rules)
+    sym (any_here (is_not_one_of_each begins ends) (highest + 1) (loop.scheme + 1) (search rules)
     (not-begin begins ends (loop.scheme + 1) c.if-begins-at-ne1.true))
     ∙ loop.invariant.1
 
@@ -22,7 +22,7 @@ returns-then-ends-at-ne1 c =
     let ends = c.args.ends.now in
     let highest = c.args.highest in
     let loop = c.loop-scheme in
-    sym (any_here (notOne begins ends) (highest + 1) (loop.scheme + 1) (search rules)
+    sym (any_here (is_not_one_of_each begins ends) (highest + 1) (loop.scheme + 1) (search rules)
     (not_end begins ends (loop.scheme + 1) c.if-begins-at-ne1.false c.if-ends-at-ne1.true))
     ∙ loop.invariant.1
 
@@ -33,7 +33,7 @@ loop-scheme-preserved c =
     let highest = c.args.highest in
     let loop = c.loop-scheme in (
       search rules,
-      sym (any-on (notOne begins ends) (highest + 1) (loop.scheme + 1) (search rules)
+      sym (any-on (is_not_one_of_each begins ends) (highest + 1) (loop.scheme + 1) (search rules)
           (one_each begins ends (loop.scheme + 1) c.if-begins-at-ne1.false c.if-ends-at-ne1.false))
           ∙ loop.invariant.1,
     )

@@ -5,8 +5,8 @@ use mathlib.Core.Bool.{not}
 use lib.Dec.{eqb}
 use Rattle.words.specs.lists.Numbers.{any}
 use Rattle.text.specs.frames.Frame.{field}
-use Rattle.charts.specs.Check.{filledFrom}
+use Rattle.charts.specs.Check.{is_filled_from}
 use Rattle.chart_check.proofs.chart_fields.fields.filled_from.Given as goal
 
 abbrev pub invariant-loop-k : goal.invariant-loop-k
-invariant-loop-k l = (l.k ≤ 10) × (any (λ j. not (eqb (field l.records l.v j) 0)) l.k (10 - l.k) ≡ filledFrom l.records l.v l.i)
+invariant-loop-k l = (l.k ≤ 10) × (any (λ j. not (eqb (field l.records l.v j) 0)) l.k (10 - l.k) ≡ is_filled_from l.records l.v l.i)

@@ -2,7 +2,7 @@
 use Rattle.std.proofs.Common.{◌≡◌, ◌∙◌, ℕ, sym, ap, refl, arith, rules}
 use Rattle.words.specs.lists.Numbers.{highest}
 use Rattle.text.specs.frames.Frame.{size}
-use Rattle.charts.specs.Chart.{handlerAt, handler}
+use Rattle.charts.specs.Chart.{handler_at, handler}
 use Rattle.chart_check.proofs.chart_handler.HandlerLoops.{handler-mark, handler-pass}
 use Rattle.chart_check.proofs.chart_handler.handlers.handler_scheme.Goals as goal
 use Rattle.chart_check.proofs.chart_handler.handlers.handler_scheme.Goals.{then-marks_handler+then-highest-scheme, then-marks_handler+else-highest-scheme, else-marks_handler}
@@ -30,4 +30,4 @@ unfolding handler
 returns c =
     let records = c.args.records.now in
     let e : c.loop-v.v ≡ size records = search rules in
-    c.loop-v.invariant.2 ∙ ap (λ (k : ℕ). highest (handlerAt records) 0 k) e
+    c.loop-v.invariant.2 ∙ ap (λ (k : ℕ). highest (handler_at records) 0 k) e

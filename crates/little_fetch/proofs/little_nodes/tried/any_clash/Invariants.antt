@@ -2,8 +2,8 @@
 use Prim.Native.Nat.{◌+◌, ◌-◌, ◌≤◌}
 use mathlib.Core.Path.{◌≡◌}
 use Rattle.words.specs.lists.Numbers.{any}
-use Rattle.little_charts.specs.little_search.inner.Search.{clashes}
+use Rattle.little_charts.specs.little_search.inner.Search.{is_clash}
 use Rattle.little_fetch.proofs.little_nodes.tried.any_clash.Given as goal
 
 abbrev pub invariant-loop-u : goal.invariant-loop-u
-invariant-loop-u l = (l.u ≤ l.end) × (any (clashes l.records l.v) l.u (l.end - l.u) ≡ any (clashes l.records l.v) 0 (l.v + 1))
+invariant-loop-u l = (l.u ≤ l.end) × (any (is_clash l.records l.v) l.u (l.end - l.u) ≡ any (is_clash l.records l.v) 0 (l.v + 1))

@@ -3,8 +3,8 @@ use Prim.Native.Nat.{◌-◌, ◌≤◌}
 use mathlib.Core.Path.{◌≡◌}
 use Rattle.words.specs.lists.Numbers.{any}
 use Rattle.text.specs.frames.Frame.{size}
-use Rattle.little_charts.specs.little_search.inner.Search.{lonely}
+use Rattle.little_charts.specs.little_search.inner.Search.{is_lonely}
 use Rattle.little_fetch.proofs.little_nodes.tried.any_lonely.Given as goal
 
 abbrev pub invariant-loop-v : goal.invariant-loop-v
-invariant-loop-v l = (l.v ≤ l.n) × (l.n ≡ size l.records) × (any (lonely l.records) l.v (l.n - l.v) ≡ any (lonely l.records) 0 (size l.records))
+invariant-loop-v l = (l.v ≤ l.n) × (l.n ≡ size l.records) × (any (is_lonely l.records) l.v (l.n - l.v) ≡ any (is_lonely l.records) 0 (size l.records))

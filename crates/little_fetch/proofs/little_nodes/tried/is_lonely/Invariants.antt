@@ -3,9 +3,9 @@ use Prim.Native.Nat.{◌-◌, ◌≤◌}
 use mathlib.Core.Path.{◌≡◌}
 use Rattle.words.specs.lists.Numbers.{any}
 use Rattle.text.specs.frames.Frame.{size}
-use Rattle.little_charts.specs.little_search.inner.Search.{leadsOther}
+use Rattle.little_charts.specs.little_search.inner.Search.{is_other_leading_to}
 use Rattle.little_fetch.proofs.little_nodes.tried.is_lonely.Given as goal
 
 abbrev pub invariant-loop-u : goal.invariant-loop-u
 invariant-loop-u l = (l.u ≤ l.n) × (l.n ≡ size l.records) ×
-    (any (leadsOther l.records l.v) l.u (l.n - l.u) ≡ any (leadsOther l.records l.v) 0 (size l.records))
+    (any (is_other_leading_to l.records l.v) l.u (l.n - l.u) ≡ any (is_other_leading_to l.records l.v) 0 (size l.records))

@@ -1,8 +1,8 @@
 -- `places::chains::calls::note_calls`: the nodes before v are noted.
 use mathlib.Core.Path.{◌≡◌}
 use Prim.Native.Nat.{◌-◌, ◌≤◌}
-use Rattle.places.specs.chains.inner.Masks.{callMasks}
+use Rattle.places.specs.chains.inner.Masks.{call_masks}
 use Rattle.places.proofs.chains.calls.note_calls.Given as goal
 
 abbrev pub invariant-loop-v : goal.invariant-loop-v
-invariant-loop-v l = (l.v ≤ l.n) × (l.masks ≡ callMasks l.records l.v)
+invariant-loop-v l = (l.v ≤ l.n) × (l.masks ≡ call_masks l.records l.v)

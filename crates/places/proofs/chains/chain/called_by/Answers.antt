@@ -1,14 +1,14 @@
 -- `places::chains::chain::called_by`: the masks of the schemes below g are joined.
 use mathlib.Core.Path.{refl, ap, ◌∙◌}
 use native.Mathlib.Omega.{arith}
-use Rattle.places.specs.chains.inner.Masks.{calledBy}
+use Rattle.places.specs.chains.inner.Masks.{called_by}
 use Rattle.places.proofs.chains.CallMasks.{called-yes, called-no}
 use Rattle.std.proofs.Common.{rules}
 use Rattle.places.proofs.chains.chain.called_by.Goals.{else-set-g-eq1, then-set-g-eq1}
 use Rattle.places.proofs.chains.chain.called_by.Goals as goal
 
 pub loop-g-init : goal.loop-g-init
-loop-g-init c = (omega arith, unfold calledBy in refl)
+loop-g-init c = (omega arith, unfold called_by in refl)
 
 pub loop-g-preserved : goal.loop-g-preserved
 loop-g-preserved c =
@@ -18,4 +18,4 @@ loop-g-preserved c =
     )
 
 pub returns : goal.returns
-returns c = c.loop-g.invariant.1 ∙ ap (calledBy _ _) (omega (arith, c.loop-g.invariant.0))
+returns c = c.loop-g.invariant.1 ∙ ap (called_by _ _) (omega (arith, c.loop-g.invariant.0))

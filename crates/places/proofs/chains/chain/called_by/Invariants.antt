@@ -1,8 +1,8 @@
 -- `places::chains::chain::called_by`: the masks of the schemes below g are joined.
 use mathlib.Core.Path.{◌≡◌}
 use Prim.Native.Nat.{◌-◌, ◌≤◌}
-use Rattle.places.specs.chains.inner.Masks.{calledBy}
+use Rattle.places.specs.chains.inner.Masks.{called_by}
 use Rattle.places.proofs.chains.chain.called_by.Given as goal
 
 abbrev pub invariant-loop-g : goal.invariant-loop-g
-invariant-loop-g l = (l.g ≤ 17) × (l.called ≡ calledBy l.masks l.set l.g)
+invariant-loop-g l = (l.g ≤ 17) × (l.called ≡ called_by l.masks l.set l.g)

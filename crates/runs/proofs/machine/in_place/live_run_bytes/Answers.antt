@@ -2,7 +2,7 @@
 use mathlib.Core.Path.{◌≡◌, sym, ◌∙◌}
 use mathlib.Core.Bool.{false}
 use native.Mathlib.Omega.{arith}
-use Rattle.tables.specs.Table.{badTable}
+use Rattle.tables.specs.Table.{is_bad_table}
 use Rattle.tables.proofs.Front.{end-holds}
 use Rattle.tables.proofs.Front.{cut-length, cut-whole}
 use Rattle.runs.proofs.machine.EntryCases.{live-refused, live-runs}
@@ -17,12 +17,12 @@ table_length-n-requires c =
 
 pub slice_bounds-run_table-end : goal.slice_bounds-run_table-end
 slice_bounds-run_table-end c =
-    let good : badTable c.args.table.now ≡ false = sym c.bad_table.ensures ∙ c.if-bad_table.false in
+    let good : is_bad_table c.args.table.now ≡ false = sym c.bad_table.ensures ∙ c.if-bad_table.false in
     cut-length _ _ c.table_length-n.ensures good
 
 pub run_table-requires : goal.run_table-requires
 run_table-requires c =
-    let good : badTable c.args.table.now ≡ false = sym c.bad_table.ensures ∙ c.if-bad_table.false in
+    let good : is_bad_table c.args.table.now ≡ false = sym c.bad_table.ensures ∙ c.if-bad_table.false in
     cut-whole _ _ c.table_length-n.ensures good
 
 pub returns : goal.returns
