@@ -92,7 +92,8 @@ module _ (image bytes : List ℕ) where
   rebound-holds : (h k : ℕ) → let x = rebind_for image bytes h k in
       state_of (pick (eqb (reply_number x.reply) 0) (bytes_of x.state) bytes) ≡ x.state
   unfolding rebind
-  rebound-holds h k = rebinding-held bytes h k (next (image_verdict image) λ _. rebind_verdict (decoded_image (contents image)) (state_of bytes) h k)
+  rebound-holds h k = rebinding-held bytes h k (next (image_verdict image) λ _. rebind_verdict (decoded_image (contents image))
+      (state_of bytes) h k)
 
   run-like : (a : RunInput) {x : RunOutcome} {t : RunOutputC} {after : List ℕ} → x ≡ run_asked image (state_of bytes) a
       → GivesRunC x bytes t.number t.index t.count after t.masks t.codes → LikeC image bytes (to_run a) (by_run_c t) after

@@ -182,7 +182,8 @@ unfolding call_outputs ticking ticks_by_rule table_swap
 reads-by-server-fails claim =
     let given : List CallInput = to_rebind 2 3 ∷ run_alone (replicate 8 0) ∷ [] in
     let z : ◌≡◌ {A = ℕ} 0 2 =
-    ap (mask_at 7) (sym (ap second_output (with-run of-swap reads_by_server (fresh 2) given)) ∙ at-answer (run_by reads_by_server) rebind claim) in
+    ap (mask_at 7) (sym (ap second_output (with-run of-swap reads_by_server (fresh 2) given)) ∙ at-answer (run_by reads_by_server) rebind
+    claim) in
     omega arith
 
 -- ---- results kept by the scheme that serves throughout: written, cleared and read at its bit

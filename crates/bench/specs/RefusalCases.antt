@@ -118,7 +118,8 @@ pub record RefusalCases : Type 0 where
   pub r7-first : read_verdict (changed_chart 1 2 1) ≡ refused 7 1
   pub r7-high : read_verdict (changed_chart 6 2 3) ≡ refused 7 6
   -- node 1 only leads to the circle of nodes 2 and 3
-  pub r8 : read_verdict (text_of (chart (begins 1 1 ∷ condition 1 0 2 4 ∷ condition 1 1 3 4 ∷ condition 1 2 4 2 ∷ ends_with 1 ∷ []))) ≡ refused
+  pub r8 : read_verdict (text_of (chart (begins 1 1 ∷ condition 1 0 2 4 ∷ condition 1 1 3 4 ∷ condition 1 2 4 2 ∷ ends_with 1 ∷ []))) ≡
+      refused
       8 2
   pub r9 : read_verdict (text_of (chart (begins 1 1 ∷ ends_with 1 ∷ operation 1 0 1 5 ∷ []))) ≡ refused 9 2
   pub r10-most : length (rows (doubling_chart 10)) ≡ 1024
@@ -196,7 +197,8 @@ pub record RefusalCases : Type 0 where
   pub r19-first : read_verdict (text_of marked_first) ≡ refused 19 0
   pub r19-write : write_verdict marked_first ≡ refused 19 0
   pub r19-translate : translate_verdict (text_of marked_first) ≡ refused 19 0
-  pub r19-second : read_verdict (text_of (chart (begins 1 1 ∷ ends_with 1 ∷ marks 2 3 ∷ ends_with 2 ∷ marks 3 5 ∷ ends_with 3 ∷ []))) ≡ refused
+  pub r19-second : read_verdict (text_of (chart (begins 1 1 ∷ ends_with 1 ∷ marks 2 3 ∷ ends_with 2 ∷ marks 3 5 ∷ ends_with 3 ∷ []))) ≡
+      refused
       19 0
   -- with an End missing too, and with an arc to no node
   pub r19-after-5 : read_verdict (text_of (set marked_first 51 1)) ≡ refused 5 0

@@ -23,7 +23,8 @@ use Rattle.state.specs.State.{label_at, entry_at, place_at, number_at, server_at
 use Rattle.state.specs.Changes.{with_bits}
 use Rattle.fitness.specs.Fitness.{is_call, is_of_handler}
 use Rattle.fitness.proofs.Fitness.{Fits}
-use Rattle.ticks.specs.Tick.{called_bit, choice, MachineTick, finished, stopped, moved_tick, popped_state, state_alone, pushed_tick, popped_tick, tick_by, tick, top_of}
+use Rattle.ticks.specs.Tick.{called_bit, choice, MachineTick, finished, stopped, moved_tick, popped_state, state_alone, pushed_tick}
+use Rattle.ticks.specs.Tick.{popped_tick, tick_by, tick, top_of}
 use Rattle.ticks.proofs.Leads.{Sort, home_sort, return_sort, numbered_sort, sort, call-kind, kind-high, carry-told}
 use Rattle.cause.specs.Cause.{leaves_label, nothing, leaving_by, leaving}
 use Rattle.cause.specs.Laws.{Arrives, Rowless, at_home_label, at_call_label, at_last_return}

@@ -16,7 +16,8 @@ use Rattle.words.proofs.lists.Searches.{lowest-hit, lowest-past, lowest-alike, a
 use Rattle.words.proofs.lists.Counts.{count-lowest, count-one}
 use Rattle.words.proofs.lists.Ranges.{length-map-range, get_or-map-range}
 use Rattle.words.specs.graph.Reach.{is_member, is_marked, reach, nodes_joined_from}
-use Rattle.words.proofs.graph.Closure.{Closed, marked-below, reach-grow, reach-least, reach-closed, joined-first, joined-closed, joined-least}
+use Rattle.words.proofs.graph.Closure.{Closed, marked-below, reach-grow, reach-least, reach-closed, joined-first, joined-closed}
+use Rattle.words.proofs.graph.Closure.{joined-least}
 use Rattle.text.specs.frames.Frame.{size}
 use Rattle.charts.specs.Chart.{Chart, scheme, is, is_of, schemes, node_of, begin}
 use Rattle.charts.specs.Check.{has_bad_field, is_bad_scheme, arcs, is_bad_target, has_bad_arc, is_cut_off}

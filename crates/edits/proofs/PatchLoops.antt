@@ -40,7 +40,8 @@ module _ (bytes₀ edits bytes : List ℕ) (i : ℕ) (done : Patching bytes₀ e
     -- an edit past the end
     pub patching-past : length bytes ≤ get_or edits i 0 → Patching bytes₀ edits bytes (i + 2)
     patching-past out =
-        let same : set bytes (get_or edits i 0) (get_or edits (i + 1) 0) ≡ bytes = set_out bytes (get_or edits i 0) (get_or edits (i + 1) 0) out in
+        let same : set bytes (get_or edits i 0) (get_or edits (i + 1) 0) ≡ bytes =
+        set_out bytes (get_or edits i 0) (get_or edits (i + 1) 0) out in
         rw same at patching-turn
 
   pub patching-end : length edits ≤ i + 1 → bytes ≡ patched_bytes bytes₀ edits

@@ -36,7 +36,8 @@ use Rattle.enough.proofs.Made.{expected-made}
 
 -- what the computation opens
 unfoldable accepting : Unit {0}
-unfolding lowest any count sum highest some filter concat_map reach digit_of char_of contents total frame_text text_of has_bad_form has_bad_sum text_verdict
+unfolding lowest any count sum highest some filter concat_map reach digit_of char_of contents total frame_text text_of has_bad_form
+    has_bad_sum text_verdict
 accepting = tt
 
 unfoldable counting : Unit {0}

@@ -12,7 +12,8 @@ use lib.Seq.{get_or-set_same, get_or-set_other}
 use borrow.Author.Tests.{eq-eqb, ne_eqb, eqb-true, lt-ltb, le-leb, lt-leb, ltb-true, leb-false}
 use Rattle.words.specs.lists.Numbers.{any}
 use Rattle.words.specs.lists.Sequences.{some}
-use Rattle.words.proofs.lists.Tests.{no_both, and_l, and_r, and-true, and-false, and_no, not-true, not-false, or_cases, or-true-l, or_true_r}
+use Rattle.words.proofs.lists.Tests.{no_both, and_l, and_r, and-true, and-false, and_no, not-true, not-false, or_cases, or-true-l}
+use Rattle.words.proofs.lists.Tests.{or_true_r}
 use Rattle.words.proofs.lists.Searches.{any_false, any-true, any_some, any_none}
 use Rattle.text.specs.frames.Frame.{field}
 use Rattle.image.specs.Image.{Image, Row, no_row}
@@ -270,7 +271,8 @@ module _ (b : List ℕ) (x : Even b) where
         same : get_or former y 0 ≡ get_or former z 0
         same =
             eqb-true (get_or former y 0) (get_or former z 0) (not-false (eqb (get_or former y 0) (get_or former z 0))
-            (first (not (eqb (get_or former y 0) (get_or former z 0))) meet before (and_r (not (eqb (get_or c y 0) (get_or c z 0))) meet p)))
+            (first (not (eqb (get_or former y 0) (get_or former z 0))) meet before
+            (and_r (not (eqb (get_or c y 0) (get_or c z 0))) meet p)))
 
         go : (s t : Bool) → has_marked_next b marks 1 f ≡ s → has_marked_next b marks 2 g ≡ t → (s || t) ≡ true
         go true t q r = refl
@@ -280,7 +282,8 @@ module _ (b : List ℕ) (x : Even b) where
             K.one y (omega (arith, count, next-inside m f am hm uf vf)) (omega (arith, leb-false 1 (get_or marks y 0) q)) in
             let v : get_or c z 0 ≡ get_or kept (get_or former z 0) 0 =
             K.one z (omega (arith, count, next-inside l g al hl ug vg)) (omega (arith, leb-false 2 (get_or marks z 0) r)) in
-            no_both (eqb (get_or c y 0) (get_or c z 0)) (eq-eqb (get_or c y 0) (get_or c z 0) (u ∙ ap (λ (w : ℕ). get_or kept w 0) same ∙ sym v))
+            no_both (eqb (get_or c y 0) (get_or c z 0)) (eq-eqb (get_or c y 0) (get_or c z 0)
+            (u ∙ ap (λ (w : ℕ). get_or kept w 0) same ∙ sym v))
             (not-true (eqb (get_or c y 0) (get_or c z 0)) (and_l (not (eqb (get_or c y 0) (get_or c z 0))) meet p))
 
     pub next_marks : (touched : List ℕ) → Touched b marks (last_label b + 1) touched → Marks b c marks touched

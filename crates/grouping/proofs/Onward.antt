@@ -27,7 +27,8 @@ some_at p d [] e j h = absurd (omega arith)
 some_at p d (x ∷ xs) e zero h = or_l (p x) (some p xs) e
 some_at p d (x ∷ xs) e (suc j) h = some_at p d xs (or_r (p x) (some p xs) e) j (omega arith)
 
-pub some-none : {A : Type 0} (p : A → Bool) (d : A) (xs : List A) → ((j : ℕ) → j < length xs → p (get_or xs j d) ≡ false) → some p xs ≡ false
+pub some-none : {A : Type 0} (p : A → Bool) (d : A) (xs : List A) → ((j : ℕ) → j < length xs → p (get_or xs j d) ≡ false) → some p xs ≡
+    false
 unfolding some
 some-none p d [] h = refl
 some-none p d (x ∷ xs) h = ap₂ ◌||◌ (h 0 (omega arith)) (some-none p d xs (λ j l. h (suc j) (omega arith)))

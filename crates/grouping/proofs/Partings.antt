@@ -23,7 +23,8 @@ use Rattle.grouping.specs.inner.GroupingContracts.{Even, is_parting_in, is_parti
 
 -- ---- parts, parts_any
 module _ (b c : List ℕ) (f g : ℕ) where
-  pub parts-not : (class next : ℕ) → class ≡ get_or c (field b f 7) 0 → next ≡ field b g 7 → class ≡ get_or c next 0 → false ≡ is_parting_in b c f g
+  pub parts-not : (class next : ℕ) → class ≡ get_or c (field b f 7) 0 → next ≡ field b g 7 → class ≡ get_or c next 0 → false ≡ is_parting_in
+      b c f g
   parts-not class next p q e =
       sym (ap (λ (t : Bool). not t && is_together (row_in_frame b f) (row_in_frame b g))
       (eq-eqb (get_or c (field b f 7) 0) (get_or c (field b g 7) 0) (sym p ∙ e ∙ ap (λ (x : ℕ). get_or c x 0) q)))

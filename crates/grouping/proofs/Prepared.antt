@@ -40,7 +40,8 @@ module _ (b : List ℕ) (ok : table_verdict b ≡ fine) (bytes : (k : ℕ) → g
       let at : first_on (noted_table b) l + k ≡ f = omega arith in
       let at' : first_frame b l + k ≡ f = omega arith in
       ap (λ (r : Row). r.bit)
-      (ap (row_on (noted_table b) l) (sym at) ∙ sym mine ∙ ap (λ (rs : List Row). get_or rs k no_row) (rows-own b ok bytes l (omega arith) hl) ∙ its
+      (ap (row_on (noted_table b) l) (sym at) ∙ sym mine ∙ ap (λ (rs : List Row). get_or rs k no_row)
+      (rows-own b ok bytes l (omega arith) hl) ∙ its
       ∙ ap (row_in_frame b) at')
       ∙ sym (noted-late b f 6 (omega arith) (omega arith))
 

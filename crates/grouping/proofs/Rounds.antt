@@ -61,7 +61,8 @@ module _ (i : Image) where
     self = λ l h. same-fields (label_at i l) (label_at i l) refl;
     turn = λ l m hl hm t. same-fields (label_at i m) (label_at i l) (sym (fields-same (label_at i l) (label_at i m) t));
     chain = λ l m k hl hm hk t u.
-        same-fields (label_at i l) (label_at i k) (fields-same (label_at i l) (label_at i m) t ∙ fields-same (label_at i m) (label_at i k) u);
+        same-fields (label_at i l) (label_at i k) (fields-same (label_at i l) (label_at i m) t ∙ fields-same (label_at i m) (label_at i k)
+        u);
   }
 
   pub first_round : ClassRound i (classes_by i has_same_fields_at)
@@ -94,7 +95,8 @@ module _ (i : Image) where
           go e p (inr x) (inr y) = unparted i S one c l m x hl y hm p
 
       pub stays-made : (l m : ℕ) → class_of c l ≡ class_of c m
-          → ((w : ℕ) (b : Bool) → w < 65536 → class_of c (onward_label i l w b) ≡ class_of c (onward_label i m w b)) → is_staying_with i c l m ≡ true
+          → ((w : ℕ) (b : Bool) → w < 65536 → class_of c (onward_label i l w b) ≡ class_of c (onward_label i m w b)) → is_staying_with i c l
+          m ≡ true
       stays-made l m e h =
           and-true (eqb (class_of c l) (class_of c m)) (not (is_parted i c l m)) (eq-eqb (class_of c l) (class_of c m) e)
           (ap not (not-parted i S one c l m h))

@@ -2,7 +2,8 @@
 // so that each time that a label is marked its class is at most half as large as before.
 ghost use Rattle.std.specs.Prelude.{◌≡◌, ◌≤◌, ◌<◌, length};
 ghost use Rattle.text.specs.declared.frames.sizes.TheConstants.{LABELS};
-ghost use Rattle.grouping.specs.marked_parts.inner.Parts.{member_count, count_members, larger_part, keep_largest, mark_of, mark_others, PartsMarked};
+ghost use Rattle.grouping.specs.marked_parts.inner.Parts.{member_count, count_members, larger_part, keep_largest, mark_of, mark_others};
+ghost use Rattle.grouping.specs.marked_parts.inner.Parts.{PartsMarked};
 
 // How many labels a class has with label l, up to 255: no class has so many.
 fn member_count(counts: &[u8], class: usize, l: usize) -> u8

@@ -16,7 +16,8 @@ abbrev pub Rising : ℕ → List Row → Type 0
 Rising m [] = Unit {0}
 Rising m (r ∷ rs) = (m ≤ r.from) × Rising r.from rs
 
-pub rising-at : (m : ℕ) (rs : List Row) → Rising m rs → (k : ℕ) → suc k < length rs → (get_or rs k no_row).from ≤ (get_or rs (suc k) no_row).from
+pub rising-at : (m : ℕ) (rs : List Row) → Rising m rs → (k : ℕ) → suc k < length rs → (get_or rs k no_row).from ≤
+    (get_or rs (suc k) no_row).from
 rising-at m [] a k h = absurd (omega arith)
 rising-at m (r ∷ rs) a zero h = second rs a.1 (omega arith)
   where

@@ -27,7 +27,8 @@ has_bad_handler b = not (eqb (handler_in b) 0) && (ltb (handler_in b) 2 || ltb (
 
 unfoldable pub is_bad_header : List ℕ → Bool
 is_bad_header b =
-    not (eqb (field b 0 FRAME_KIND) HEADER) || is_filled b 0 6 4 || has_bad_handler b || has_bad_counts b || not (eqb (size b) (rows_from b + row_count b))
+    not (eqb (field b 0 FRAME_KIND) HEADER) || is_filled b 0 6 4 || has_bad_handler b || has_bad_counts b || not
+    (eqb (size b) (rows_from b + row_count b))
 
 -- a frame of an image by its position: header, the entry of a scheme, a label, a row
 pub data Position : Type 0 where

@@ -76,7 +76,8 @@ module _ (b : List ℕ) (f : ℕ) where
   placed-entry false false true e = absurd (omega arith)
   placed-entry false false false e = absurd (omega arith)
 
-  placed-label : (x y z : Bool) → position_kind (placed x y z b f) ≡ 17 → (placed x y z b f ≡ label_position (f - labels_from b)) × (y ≡ false)
+  placed-label : (x y z : Bool) → position_kind (placed x y z b f) ≡ 17 → (placed x y z b f ≡ label_position (f - labels_from b)) ×
+      (y ≡ false)
   placed-label true y z e = absurd (omega arith)
   placed-label false true z e = absurd (omega arith)
   placed-label false false true e = (refl, refl)

@@ -15,7 +15,8 @@ use Rattle.agreement.specs.Agreement.{binding_after}
 use Rattle.spindles.specs.Spindles.{state_at, depths, SpinOutcome}
 use Rattle.spindles.specs.spindle_places.Calls.{Head, new_head, head_after, head_after_all}
 use Rattle.spindles.specs.spindle_places.Calls as calls
-use Rattle.spindles.specs.spindle_places.PlacesBalance.{places_called, places_returned, places_given_back, counts, tally, PlacesBalance, PlacesCounted}
+use Rattle.spindles.specs.spindle_places.PlacesBalance.{places_called, places_returned, places_given_back, counts, tally, PlacesBalance}
+use Rattle.spindles.specs.spindle_places.PlacesBalance.{PlacesCounted}
 use Rattle.spindles.proofs.spindle_places.PlacesBalance.{places-counted}
 use Rattle.spindle_walks.specs.Walks.{FinishedTick, is_success, finished_ticks_by}
 use Rattle.spindle_calls.specs.ObservedCalls.{ObservedTick, ObservedCall, observed_spin, observed_rebinding, call_of}
@@ -32,7 +33,8 @@ HeardFrom h (observed_spin t k w y) = Hears (state_at h.states k).depth (calls.s
 HeardFrom h (observed_rebinding t k n g) = Unit {0}
 
 -- the places that it takes or gives back; a code of 0 counts for none
-call-counts : (f : ℕ → ℕ → ℕ) → ((d : ℕ) → f 0 d ≡ 0) → (h : Head) (x : ObservedCall) → HeardFrom h x → counts f h (call_of x) ≡ counts_in f x
+call-counts : (f : ℕ → ℕ → ℕ) → ((d : ℕ) → f 0 d ≡ 0) → (h : Head) (x : ObservedCall) → HeardFrom h x → counts f h (call_of x) ≡ counts_in f
+    x
 call-counts f zero h (observed_rebinding t k n g) z = refl
 call-counts f zero h (observed_spin t k w y) (hears_no d c e) =
     let deep : ℕ = (state_at h.states k).depth in

@@ -21,7 +21,8 @@ use Rattle.spindle_calls.specs.ObservedCalls.{call_of, ObservedBalance, finished
 
 -- the depth before a tick is a byte of the spindle's state
 abbrev pub observed_tick_c : List ℕ → ℕ → ℕ → ℕ → ℕ → ObservedTick
-observed_tick_c bytes k returned m code = record { depth = get_or bytes (STATE_BYTES * k + DEPTH) 0; number = returned; mask = m; code = code }
+observed_tick_c bytes k returned m code =
+    record { depth = get_or bytes (STATE_BYTES * k + DEPTH) 0; number = returned; mask = m; code = code }
 
 -- one call on these bytes and this record, and what both are after it; a live one is handed a table that fairleadow_prepare made of the
 -- image; a rebinding is handed the bytes of one spindle where they stand, and the record stays

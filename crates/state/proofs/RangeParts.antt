@@ -31,7 +31,8 @@ module _ {A : Type 0} (f : ℕ → A) (d : A) (from n : ℕ) (b : List ℕ) wher
   part x = map (λ (k : ℕ). f (get_or x (from + k) 0)) (range 0 n)
 
   pub part-read : (k : ℕ) → k < n → f (get_or b (from + k) 0) ≡ get_or (part b) k d
-  part-read k l = sym (get_or-map-range (λ (j : ℕ). f (get_or b (from + j) 0)) d 0 n k l ∙ ap (λ (j : ℕ). f (get_or b (from + j) 0)) (zero-add k))
+  part-read k l = sym (get_or-map-range (λ (j : ℕ). f (get_or b (from + j) 0)) d 0 n k l ∙ ap (λ (j : ℕ). f (get_or b (from + j) 0))
+      (zero-add k))
 
   -- a byte outside it leaves it
   pub part-kept : (j v : ℕ) → ((k : ℕ) → k < n → (from + k ≡ j) → ⊥) → part (set b j v) ≡ part b

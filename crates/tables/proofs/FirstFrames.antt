@@ -33,7 +33,8 @@ module _ (b : List ℕ) (ok : table_verdict b ≡ fine) where
   pub first-rises : (l : ℕ) → first_frame b l ≤ first_frame b (l + 1)
   first-rises l =
       let on : lowest (is_row_reached b (l + 1)) (first_frame b l) (size b - first_frame b l) ≡ first_frame b (l + 1) =
-      lowest-from (is_row_reached b l) (rows_from b) (size b) (rows_inside b ok) (is_row_reached b (l + 1)) (below_more b l (l + 1) (omega arith)) in
+      lowest-from (is_row_reached b l) (rows_from b) (size b) (rows_inside b ok) (is_row_reached b (l + 1))
+      (below_more b l (l + 1) (omega arith)) in
       omega (arith, lowest-above (is_row_reached b (l + 1)) (first_frame b l) (size b - first_frame b l))
 
   module _ (bytes : (k : ℕ) → get_or b k 0 < 256) where

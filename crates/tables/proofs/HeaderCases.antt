@@ -34,4 +34,5 @@ module _ (b : List ℕ) where
   pub header-frames : has_bad_counts b ≡ false → has_bad_handler b ≡ false → (n : ℕ) → n ≡ 10 * table_end b
       → ltb (length b) n ≡ is_bad_table b
   header-frames e h n q =
-      fewer n q (ltb (length b) n) refl ∙ sym (ap (λ (t : Bool). t || ltb (size b) (table_end b)) (or-none (has_bad_counts b) (has_bad_handler b) e h))
+      fewer n q (ltb (length b) n) refl ∙ sym (ap (λ (t : Bool). t || ltb (size b) (table_end b))
+      (or-none (has_bad_counts b) (has_bad_handler b) e h))

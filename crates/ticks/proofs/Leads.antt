@@ -125,7 +125,8 @@ module _ (i : Image) (sound : SoundImage i) where
         → is_able_to_stand_over k a ≡ true → is_able_to_carry i l h k a ≡ true
     may-carry c e m o =
         and-true (calls && is_callable i k) (is_able_to_stand_over k a)
-        (and-true calls (is_callable i k) (and-true (is_call (label_at i l)) (eqb h (label_at i l).called) c (eq-eqb h (label_at i l).called e))
+        (and-true calls (is_callable i k) (and-true (is_call (label_at i l)) (eqb h (label_at i l).called) c
+        (eq-eqb h (label_at i l).called e))
         m) o
 
   -- what is kept under a label is kept under what that leads to

@@ -46,7 +46,8 @@ module _ (b before : List ℕ) (w : ℕ) where
       record { step = sym (ap end_of_tick e); state = q ∙ sym (ap (state_after_tick (state_of before)) e); kept = λ z. absurd (z refl) }
 
 -- a label that was put in the place of the top is at the top
-pub top-put : (mid bytes : List ℕ) (k n : ℕ) → (state_of bytes).places ≡ set (state_of mid).places k n → (state_of bytes).depth - 1 ≡ k → k < 32
+pub top-put : (mid bytes : List ℕ) (k n : ℕ) → (state_of bytes).places ≡ set (state_of mid).places k n → (state_of bytes).depth - 1 ≡ k → k
+    < 32
     → n ≡ top_of (state_of bytes)
 top-put mid bytes k n e d h =
     sym (ap (place_at (state_of bytes)) d ∙ ap (λ (xs : List ℕ). get_or xs k 0) e

@@ -25,7 +25,8 @@ is_at_full_call i s = is_call (label_at i (top_of s)) && leb s.size s.depth
 -- a call that is made, of an operation or of a function, leaves the bit of the number called 0; one that drops leaves that of the handler 0
 unfoldable pub CallClears : Type 0
 CallClears =
-    (i : Image) (s : State) → let x = label_at i (top_of s) in is_call x ≡ true → (w m code : ℕ) (t : State) → tick i s w ≡ finished m code t
+    (i : Image) (s : State) → let x = label_at i (top_of s) in
+    is_call x ≡ true → (w m code : ℕ) (t : State) → tick i s w ≡ finished m code t
     → result_of (pick (is_at_full_call i s) i.handler x.called) t.bits ≡ false
 
 -- a drop emits the caller's mask with code 60 hexadecimal and leaves the handler's entry alone in the places, by its own number; the

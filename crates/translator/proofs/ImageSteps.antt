@@ -211,7 +211,8 @@ module _ (c : Chart) (highest own n : ℕ) (s : Sizes c highest own n) where
       (up_to (entry_bytes c) highest ++ (fixed_bytes ++ (up_to (node_label_bytes c) (size c) ++ up_to (node_rows_bytes c) (size c))))
       ∙ omega (
         arith,
-        length-append (up_to (entry_bytes c) highest) (fixed_bytes ++ (up_to (node_label_bytes c) (size c) ++ up_to (node_rows_bytes c) (size c))),
+        length-append (up_to (entry_bytes c) highest) (fixed_bytes ++
+            (up_to (node_label_bytes c) (size c) ++ up_to (node_rows_bytes c) (size c))),
         length-append fixed_bytes (up_to (node_label_bytes c) (size c) ++ up_to (node_rows_bytes c) (size c)),
         length-append (up_to (node_label_bytes c) (size c)) (up_to (node_rows_bytes c) (size c)),
         fixed-long,

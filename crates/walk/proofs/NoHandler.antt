@@ -127,7 +127,8 @@ module _ (c : Chart) (facts : Facts c) where
       own u = subst (λ (h : ℕ). StopOf c h u) g.same
 
       endless-act : {s : Stop} → View c v s → Endless (unbounded.stop_course go c x w ws b s)
-      endless-act (a-plain e a) = endless-on (one_tick x (mask c v) PLAIN_CODE) _ ws _ (own _ (arc-to c facts v w g.inside (λ p. omega arith)))
+      endless-act (a-plain e a) =
+          endless-on (one_tick x (mask c v) PLAIN_CODE) _ ws _ (own _ (arc-to c facts v w g.inside (λ p. omega arith)))
       endless-act (a_call e a) =
           endless-call x (call_by_operation c (mask c v) (argument c v) (next0 c v)) ws (with_result (result c v) x.number b)
           (λ y z. own _ (arc-to c facts v y g.inside (λ p. omega arith)))

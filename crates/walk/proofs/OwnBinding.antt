@@ -94,7 +94,8 @@ module _ (c : Chart) where
         alike-act : {s : Stop} → View c v s
             → Alike (stop_course go c d x (record { word = w; binding = own_binding }) (own ws) b s)
             (unswapped.stop_course free c d x w ws b s)
-        alike-act (a-plain e a) = alike-after (one_tick x (mask c v) PLAIN_CODE) (alike-on x _ ws _ (here (arc-to c facts v w g.inside (λ p. omega arith))))
+        alike-act (a-plain e a) =
+            alike-after (one_tick x (mask c v) PLAIN_CODE) (alike-on x _ ws _ (here (arc-to c facts v w g.inside (λ p. omega arith))))
         alike-act (a_call e a) =
             alike-call x _ ws _ (λ y z. here (arc-to c facts v y g.inside (λ p. omega arith)))
             (facts.calls v g.inside e a) (d x.opened) (handled x.opened)

@@ -18,7 +18,8 @@ use Rattle.chart_rows.proofs.RowSteps.{rows-function, rows-condition, rows_other
 use Rattle.chart_rows.proofs.RowSteps.{rows_below, below_more, below_all}
 
 -- ---- the rows of one node
-pub bound-none : {c : Chart} {notes : List ℕ} {v : ℕ} → NotedAt c notes v → get_or notes v 0 < 2 → (length (node_rows c v) ≤ 0) × (0 ≤ 131072)
+pub bound-none : {c : Chart} {notes : List ℕ} {v : ℕ} → NotedAt c notes v → get_or notes v 0 < 2 → (length (node_rows c v) ≤ 0) ×
+    (0 ≤ 131072)
 bound-none node h = (omega (arith, ap (λ (rs : List Row). length rs) (no_rows node h)), omega arith)
 
 -- a bound on the paths that go on along an arc

@@ -13,20 +13,28 @@ returns-in_default c =
 
 pub slice_bounds-table-end : goal.slice_bounds-table-end
 slice_bounds-table-end c =
-    let made : let p = c.prepare_table-answer in let t = c.args.image.now in MadeTable t (take (10 * frame_count t) p.new.table) = let p = c.prepare_table-answer in image-made _ _ _ p.result p.ensures _ c.in-Done.is in
+    let made : let p = c.prepare_table-answer in let t = c.args.image.now in
+    MadeTable t (take (10 * frame_count t) p.new.table) = let p = c.prepare_table-answer in
+    image-made _ _ _ p.result p.ensures _ c.in-Done.is in
     omega (arith, made.few, c.prepare_table-answer.auto.table)
 
 pub slice_bounds-minimise_table-end : goal.slice_bounds-minimise_table-end
 slice_bounds-minimise_table-end c =
-    let made : let p = c.prepare_table-answer in let t = c.args.image.now in MadeTable t (take (10 * frame_count t) p.new.table) = let p = c.prepare_table-answer in image-made _ _ _ p.result p.ensures _ c.in-Done.is in
+    let made : let p = c.prepare_table-answer in let t = c.args.image.now in
+    MadeTable t (take (10 * frame_count t) p.new.table) = let p = c.prepare_table-answer in
+    image-made _ _ _ p.result p.ensures _ c.in-Done.is in
     made.long
 
 pub minimise_table-requires : goal.minimise_table-requires
 minimise_table-requires c =
-    let made : let p = c.prepare_table-answer in let t = c.args.image.now in MadeTable t (take (10 * frame_count t) p.new.table) = let p = c.prepare_table-answer in image-made _ _ _ p.result p.ensures _ c.in-Done.is in
+    let made : let p = c.prepare_table-answer in let t = c.args.image.now in
+    MadeTable t (take (10 * frame_count t) p.new.table) = let p = c.prepare_table-answer in
+    image-made _ _ _ p.result p.ensures _ c.in-Done.is in
     made-prepared _ _ made
 
 pub returns : goal.returns
 returns c =
-    let made : let p = c.prepare_table-answer in let t = c.args.image.now in MadeTable t (take (10 * frame_count t) p.new.table) = let p = c.prepare_table-answer in image-made _ _ _ p.result p.ensures _ c.in-Done.is in
+    let made : let p = c.prepare_table-answer in let t = c.args.image.now in
+    MadeTable t (take (10 * frame_count t) p.new.table) = let p = c.prepare_table-answer in
+    image-made _ _ _ p.result p.ensures _ c.in-Done.is in
     image-made-smaller _ _ made _ _ _ c.minimise_table.ensures

@@ -74,7 +74,8 @@ module _ (t old : List ℕ) (a : Answer) (e : reply a ≡ (translate t old).repl
           × ((buffer_on v 1 (λ _. image_text (table (contents t))) old).buffer ≡ old)
       go (refused l j) f q = (cc, refl)
       go fine f q =
-          let s : (buffer_on fine 1 (λ _. image_text (table (contents t))) old).reply ≡ success (length (image_text (table (contents t))) / 1) =
+          let s : (buffer_on fine 1 (λ _. image_text (table (contents t))) old).reply ≡ success
+          (length (image_text (table (contents t))) / 1) =
           ap (λ (r : BufferOutcome). r.reply) (lent_fits 1 (λ _. image_text (table (contents t))) old (omega (arith, f refl))) in
           absurd (let z : ◌≡◌ {A = ℕ} 0 1 = cc in omega arith)
 

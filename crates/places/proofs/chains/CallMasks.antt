@@ -164,7 +164,8 @@ module _ (masks : List ℕ) where
   pub called-yes : (set g x : ℕ) → x ≡ called_by masks set g → bit set g ≡ 1 → bit_or x (get_or masks g 0) ≡ called_by masks set (g + 1)
   unfolding called_by
   called-yes set g x e o =
-      ap₂ bit_or e (sym (ap (λ (b : Bool). pick b (get_or masks g 0) 0) (eq-eqb (bit set g) 1 o))) ∙ sym (ap (called_by masks set) (add-one g))
+      ap₂ bit_or e (sym (ap (λ (b : Bool). pick b (get_or masks g 0) 0) (eq-eqb (bit set g) 1 o))) ∙ sym
+      (ap (called_by masks set) (add-one g))
 
   pub called-no : (set g x : ℕ) → x ≡ called_by masks set g → (bit set g ≡ 1 → ⊥) → x ≡ called_by masks set (g + 1)
   unfolding called_by

@@ -9,7 +9,8 @@ loop-i-init c = summed-none _ _
 
 pub overflow_add-total : goal.overflow_add-total
 overflow_add-total c =
-    let onward : (let turn = c.loop-i in SummedTicks c.args.prices.now c.args.masks.now (turn.total + c.tick_price-total.result) (turn.i + 1)) = summed-more _ _ _ _ c.loop-i.invariant (search rules) _ c.tick_price-total.ensures in
+    let onward : (let turn = c.loop-i in SummedTicks c.args.prices.now c.args.masks.now (turn.total + c.tick_price-total.result)
+    (turn.i + 1)) = summed-more _ _ _ _ c.loop-i.invariant (search rules) _ c.tick_price-total.ensures in
     let known = c.shared_slice_known-1 in
     omega (
       arith,
@@ -19,7 +20,8 @@ overflow_add-total c =
 
 pub loop-i-preserved : goal.loop-i-preserved
 loop-i-preserved c =
-    let onward : (let turn = c.loop-i in SummedTicks c.args.prices.now c.args.masks.now (turn.total + c.tick_price-total.result) (turn.i + 1)) = summed-more _ _ _ _ c.loop-i.invariant (search rules) _ c.tick_price-total.ensures in
+    let onward : (let turn = c.loop-i in SummedTicks c.args.prices.now c.args.masks.now (turn.total + c.tick_price-total.result)
+    (turn.i + 1)) = summed-more _ _ _ _ c.loop-i.invariant (search rules) _ c.tick_price-total.ensures in
     onward
 
 pub returns : goal.returns

@@ -39,7 +39,8 @@ loop-frame-preserved c =
           (sym z.best-is)
           (search-own given.table.now given.l given.word given.bit first c.end_of-end.result
           loop.frame loop.best loop.invariant c.requires.deciding
-          c.loop-frame-test.true _ c.swap-swapped.ensures (search rules) _ found.ensures z.if-is_matching.true _ z.better_frame-best.ensures)
+          c.loop-frame-test.true _ c.swap-swapped.ensures (search rules) _ found.ensures z.if-is_matching.true _
+          z.better_frame-best.ensures)
       | else-is_matching z ↦ subst (Searched given.table.now given.l given.word given.bit first c.end_of-end.result (loop.frame + 1))
           (sym z.best-is)
           (search-other given.table.now given.l given.word given.bit first c.end_of-end.result

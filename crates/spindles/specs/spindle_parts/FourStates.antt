@@ -17,4 +17,5 @@ states_of b = pick (eqb (length b) HEAD_BYTES)
 
 -- the sum of their depths
 abbrev pub depths_in : List ℕ → ℕ
-depths_in b = get_or b DEPTH 0 + get_or b (STATE_BYTES + DEPTH) 0 + get_or b (2 * STATE_BYTES + DEPTH) 0 + get_or b (3 * STATE_BYTES + DEPTH) 0
+depths_in b = get_or b DEPTH 0 + get_or b (STATE_BYTES + DEPTH) 0 + get_or b (2 * STATE_BYTES + DEPTH) 0 + get_or b
+    (3 * STATE_BYTES + DEPTH) 0

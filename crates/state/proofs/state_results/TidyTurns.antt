@@ -28,7 +28,8 @@ all-parts : (b : List ℕ) → length b ≡ 130
 all-parts b e = sym (map-count (λ i. get_or b i 0) 0 b 0 130 (sym e) (λ i h. ap (λ (j : ℕ). get_or b j 0) (zero-add i)))
 
 -- the bytes of the state that b₀ holds, where b differs from b₀ in no other byte than those of the results
-bytes-are : (b₀ b : List ℕ) → length b ≡ 130 → ((j : ℕ) → j < 34 → get_or b j 0 ≡ get_or b₀ j 0) → ((j : ℕ) → 50 ≤ j → get_or b j 0 ≡ get_or b₀ j 0)
+bytes-are : (b₀ b : List ℕ) → length b ≡ 130 → ((j : ℕ) → j < 34 → get_or b j 0 ≡ get_or b₀ j 0) →
+    ((j : ℕ) → 50 ≤ j → get_or b j 0 ≡ get_or b₀ j 0)
     → ((j : ℕ) → j < 16 → get_or b (34 + j) 0 ≡ result_byte (state_of b₀) j) → b ≡ bytes_of (state_of b₀)
 unfolding bytes_of state_of
 bytes-are b₀ b e low high results =

@@ -11,7 +11,8 @@ use Rattle.words.specs.lists.Pick.{pick}
 use Rattle.words.specs.lists.Numbers.{range, any, sum}
 use Rattle.words.specs.lists.Sequences.{concat_map, over}
 use Rattle.text.specs.digits.Digit.{digit_of, capital}
-use Rattle.text.proofs.digits.Digits.{Class, numeral, large, small, other, class_of, capital-same, capital-of-small, capital-at, digit-capital}
+use Rattle.text.proofs.digits.Digits.{Class, numeral, large, small, other, class_of, capital-same, capital-of-small, capital-at}
+use Rattle.text.proofs.digits.Digits.{digit-capital}
 use Rattle.text.specs.frames.Frame.{byte_at, contents}
 use Rattle.text.specs.frames.Verdict.{next, when, at_lowest}
 use Rattle.text.specs.frames.Check.{is_bad_length, has_bad_form, has_bad_sum, text_verdict}

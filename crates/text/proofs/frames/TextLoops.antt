@@ -31,7 +31,8 @@ module _ (b out₀ out : List ℕ) (at n f : ℕ) (done : Pieces (frame_of b) 23
   unfolding text_of
   text-end e h =
       pieces-all (frame_of b) 23 out₀ at n out f done h
-      ∙ ap (written out₀ at) (ap (λ (m : ℕ). concat_map (frame_of b) (range 0 m)) e ∙ sym (concat-map frame_text (ten_bytes_at b) (range 0 (size b))))
+      ∙ ap (written out₀ at) (ap (λ (m : ℕ). concat_map (frame_of b) (range 0 m)) e ∙ sym
+      (concat-map frame_text (ten_bytes_at b) (range 0 (size b))))
 
 pub length-text : (b : List ℕ) → length (text_of b) ≡ 23 * size b
 unfolding text_of

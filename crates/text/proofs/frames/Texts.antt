@@ -38,12 +38,14 @@ module _ (fs : List (List ℕ)) (F : All Frame fs) where
   frame-of : (f : ℕ) → f < length fs → Frame (get_or fs f [])
   frame-of f h = all-at Frame [] fs F f h
 
-  pub text-here : (f : ℕ) → f < length fs → (k : ℕ) → k < 23 → get_or (frames_text fs) (23 * f + k) 0 ≡ get_or (frame_text (get_or fs f [])) k 0
+  pub text-here : (f : ℕ) → f < length fs → (k : ℕ) → k < 23 → get_or (frames_text fs) (23 * f + k) 0 ≡ get_or (frame_text (get_or fs f []))
+      k 0
   text-here f h k l = get_or-concat frame_text 23 [] 0 fs lengths f k h l
 
   pub text-byte : (f k : ℕ) → f < length fs → k < 10 → byte_at (frames_text fs) f k ≡ get_or (get_or fs f []) k 0
   text-byte f k h l =
-      byte-is (get_or fs f []) (frame-of f h) (frames_text fs) f (text-here f h) k (omega arith) ∙ eleven-at (get_or fs f []) (frame-of f h) k l
+      byte-is (get_or fs f []) (frame-of f h) (frames_text fs) f (text-here f h) k (omega arith) ∙ eleven-at (get_or fs f []) (frame-of f h)
+      k l
 
   pub text-forms : (f : ℕ) → f < length fs → has_bad_form (frames_text fs) f ≡ false
   text-forms f h = good-form (get_or fs f []) (frame-of f h) (frames_text fs) f (text-here f h)

@@ -102,7 +102,8 @@ module _ (c : Chart) (v l : ℕ) where
   operation-bytes node t g o r m0 m1 m2 m3 et eg eo er e0 e1 e2 e3 =
       let B : (j : ℕ) → get_or c j 0 < 256 = node.ready.bytes in
       let q : quad (mask c v) ≡ m0 ∷ m1 ∷ m2 ∷ m3 ∷ [] =
-      quad-bytes (get_or c (10 * v + 6) 0) (get_or c (10 * v + 7) 0) (get_or c (10 * v + 8) 0) (get_or c (10 * v + 9) 0) (B _) (B _) (B _) (B _)
+      quad-bytes (get_or c (10 * v + 6) 0) (get_or c (10 * v + 7) 0) (get_or c (10 * v + 8) 0) (get_or c (10 * v + 9) 0) (B _) (B _) (B _)
+      (B _)
       ∙ ap₂ (λ (x : ℕ) (xs : List ℕ). x ∷ xs) (sym e0)
       (ap₂ (λ (x : ℕ) (xs : List ℕ). x ∷ xs) (sym e1) (ap₂ (λ (x y : ℕ). x ∷ y ∷ []) (sym e2) (sym e3))) in
       let p : t ≡ pick (eqb (argument c v) 0) 0 1 = et ∙ ap (λ (x : ℕ). pick {A = ℕ} (eqb x 0) 0 1) eg in

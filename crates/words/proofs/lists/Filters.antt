@@ -46,7 +46,8 @@ module _ {A : Type 0} (p : A → Bool) where
     where
       go : (t : Bool) → p x ≡ t → (i j : ℕ) → i < length (x ∷ xs) → j < length (x ∷ xs)
           → p (get_or (x ∷ xs) i d) ≡ true → p (get_or (x ∷ xs) j d) ≡ true
-          → (length (filter p xs) ≤ 1 → (i j : ℕ) → i < length xs → j < length xs → p (get_or xs i d) ≡ true → p (get_or xs j d) ≡ true → i ≡ j)
+          → (length (filter p xs) ≤ 1 → (i j : ℕ) → i < length xs → j < length xs → p (get_or xs i d) ≡ true → p (get_or xs j d) ≡ true → i
+          ≡ j)
           → i ≡ j
       go t q zero zero li lj a b ih = refl
       go true q (suc i) j li lj a b ih =

@@ -9,5 +9,6 @@ use Rattle.cause.proofs.explaining.cause_of.Goals as goal
 pub returns : goal.returns
 returns c =
     let all-bits : length c.args.state.bits ≡ 16 = search rules in
-    let sized : Sized c.args.state = record { places = search rules; serving = search rules; numbers = search rules; servers = search rules } in
+    let sized : Sized c.args.state =
+    record { places = search rules; serving = search rules; numbers = search rules; servers = search rules } in
     value-told _ _ _ sized all-bits _ c.bytes_of-bytes.ensures _ c.cause_bytes.ensures

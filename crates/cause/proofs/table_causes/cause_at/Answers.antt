@@ -15,7 +15,8 @@ use Rattle.cause.proofs.table_causes.cause_at.Goals as goal
 pub find_row-f-requires : goal.find_row-f-requires
 find_row-f-requires c =
     let bits : Results = (state_of c.args.bytes.now).bits in
-    let decides : Deciding c.args.table.now c.args.l c.bit_of-bit.result = bit-decides _ _ _ c.label_read-read.ensures bits _ _ c.bit_of-bit.ensures c.requires.label in record {
+    let decides : Deciding c.args.table.now c.args.l c.bit_of-bit.result =
+    bit-decides _ _ _ c.label_read-read.ensures bits _ _ c.bit_of-bit.ensures c.requires.label in record {
       deciding = decides;
       schemes_value = c.scheme_count-schemes.ensures;
     }
@@ -23,7 +24,9 @@ find_row-f-requires c =
 pub returns-then-table-f : goal.returns-then-table-f
 returns-then-table-f c =
     let bits : Results = (state_of c.args.bytes.now).bits in
-    let found : let asked = c.args in let b = asked.table.now in found_at b asked.l c.find_row-f.result ≡ best_row asked.l asked.word c.bit_of-bit.result (first_on b asked.l) (rows_on b asked.l) = chosen-found _ _ _ _ c.requires.label (λ k. omega (arith, c.type_inv.table k)) _ c.find_row-f.ensures in
+    let found : let asked = c.args in let b = asked.table.now in
+    found_at b asked.l c.find_row-f.result ≡ best_row asked.l asked.word c.bit_of-bit.result (first_on b asked.l) (rows_on b asked.l) =
+    chosen-found _ _ _ _ c.requires.label (λ k. omega (arith, c.type_inv.table k)) _ c.find_row-f.ensures in
     none_told _ _ _ c.requires bits _ c.label_read-read.ensures _
     c.bit_of-bit.ensures _ found
     (omega (arith, c.if-table-f.true)) _ c.refused-answer.ensures _ c.untold.ensures
@@ -41,24 +44,33 @@ against_rows-others-requires c =
 pub overflow_sub-row : goal.overflow_sub-row
 overflow_sub-row c =
     let bits : Results = (state_of c.args.bytes.now).bits in
-    let found : let asked = c.args in let b = asked.table.now in found_at b asked.l c.find_row-f.result ≡ best_row asked.l asked.word c.bit_of-bit.result (first_on b asked.l) (rows_on b asked.l) = chosen-found _ _ _ _ c.requires.label (λ k. omega (arith, c.type_inv.table k)) _ c.find_row-f.ensures in
-    let numbered : RowNumbers c.args.table.now c.args.l c.args.word c.bit_of-bit.result c.find_row-f.result = numbers _ _ _ c.requires bits _ c.label_read-read.ensures _ c.bit_of-bit.ensures _ found (omega (arith, c.if-table-f.false)) in
+    let found : let asked = c.args in let b = asked.table.now in
+    found_at b asked.l c.find_row-f.result ≡ best_row asked.l asked.word c.bit_of-bit.result (first_on b asked.l) (rows_on b asked.l) =
+    chosen-found _ _ _ _ c.requires.label (λ k. omega (arith, c.type_inv.table k)) _ c.find_row-f.ensures in
+    let numbered : RowNumbers c.args.table.now c.args.l c.args.word c.bit_of-bit.result c.find_row-f.result =
+    numbers _ _ _ c.requires bits _ c.label_read-read.ensures _ c.bit_of-bit.ensures _ found (omega (arith, c.if-table-f.false)) in
     let n = numbered in
     omega (arith, n.least, n.after, c.rows_from-from.ensures, c.first_of-first.ensures)
 
 pub overflow_cast-row : goal.overflow_cast-row
 overflow_cast-row c =
     let bits : Results = (state_of c.args.bytes.now).bits in
-    let found : let asked = c.args in let b = asked.table.now in found_at b asked.l c.find_row-f.result ≡ best_row asked.l asked.word c.bit_of-bit.result (first_on b asked.l) (rows_on b asked.l) = chosen-found _ _ _ _ c.requires.label (λ k. omega (arith, c.type_inv.table k)) _ c.find_row-f.ensures in
-    let numbered : RowNumbers c.args.table.now c.args.l c.args.word c.bit_of-bit.result c.find_row-f.result = numbers _ _ _ c.requires bits _ c.label_read-read.ensures _ c.bit_of-bit.ensures _ found (omega (arith, c.if-table-f.false)) in
+    let found : let asked = c.args in let b = asked.table.now in
+    found_at b asked.l c.find_row-f.result ≡ best_row asked.l asked.word c.bit_of-bit.result (first_on b asked.l) (rows_on b asked.l) =
+    chosen-found _ _ _ _ c.requires.label (λ k. omega (arith, c.type_inv.table k)) _ c.find_row-f.ensures in
+    let numbered : RowNumbers c.args.table.now c.args.l c.args.word c.bit_of-bit.result c.find_row-f.result =
+    numbers _ _ _ c.requires bits _ c.label_read-read.ensures _ c.bit_of-bit.ensures _ found (omega (arith, c.if-table-f.false)) in
     let n = numbered in
     omega (arith, n.least, n.after, n.below, n.few, c.rows_from-from.ensures, c.first_of-first.ensures)
 
 pub returns : goal.returns
 returns c =
     let bits : Results = (state_of c.args.bytes.now).bits in
-    let decides : Deciding c.args.table.now c.args.l c.bit_of-bit.result = bit-decides _ _ _ c.label_read-read.ensures bits _ _ c.bit_of-bit.ensures c.requires.label in
-    let found : let asked = c.args in let b = asked.table.now in found_at b asked.l c.find_row-f.result ≡ best_row asked.l asked.word c.bit_of-bit.result (first_on b asked.l) (rows_on b asked.l) = chosen-found _ _ _ _ c.requires.label (λ k. omega (arith, c.type_inv.table k)) _ c.find_row-f.ensures in
+    let decides : Deciding c.args.table.now c.args.l c.bit_of-bit.result =
+    bit-decides _ _ _ c.label_read-read.ensures bits _ _ c.bit_of-bit.ensures c.requires.label in
+    let found : let asked = c.args in let b = asked.table.now in
+    found_at b asked.l c.find_row-f.result ≡ best_row asked.l asked.word c.bit_of-bit.result (first_on b asked.l) (rows_on b asked.l) =
+    chosen-found _ _ _ _ c.requires.label (λ k. omega (arith, c.type_inv.table k)) _ c.find_row-f.ensures in
     row_told _ _ _ c.requires bits _ c.label_read-read.ensures _
     c.bit_of-bit.ensures _ found
     (omega (arith, c.if-table-f.false)) _ _ _ _ _ _ c.first_of-first.ensures

@@ -3,7 +3,8 @@ use Rattle.cause.proofs.table_causes.CauseCases.{left-plain, left_other, left-la
 use Rattle.cause.proofs.table_causes.leaving_label.Goals as goal
 
 pub returns-then-kind-eq-PLAIN : goal.returns-then-kind-eq-PLAIN
-returns-then-kind-eq-PLAIN c = left-plain _ _ _ _ c.depth_of-depth.ensures c.place_below-top.ensures _ c.label_of-label.ensures c.if-kind-eq-PLAIN.true
+returns-then-kind-eq-PLAIN c =
+    left-plain _ _ _ _ c.depth_of-depth.ensures c.place_below-top.ensures _ c.label_of-label.ensures c.if-kind-eq-PLAIN.true
 
 pub returns-then-kind-ne-RETURN : goal.returns-then-kind-ne-RETURN
 returns-then-kind-ne-RETURN c =

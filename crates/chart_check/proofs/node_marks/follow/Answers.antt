@@ -9,7 +9,8 @@ pub returns-then-arcs-eq0 : goal.returns-then-arcs-eq0
 unfolding enlist_all
 returns-then-arcs-eq0 c =
     let a = c.args in
-    steps-none a.records.now a.conditions a.v _ c.arc_count-arcs.ensures (enlist_all (listing a.marks.now a.list.now a.count)) c.if-arcs-eq0.true
+    steps-none a.records.now a.conditions a.v _ c.arc_count-arcs.ensures (enlist_all (listing a.marks.now a.list.now a.count))
+    c.if-arcs-eq0.true
 
 pub returns-then-arcs-eq1 : goal.returns-then-arcs-eq1
 unfolding enlist_all

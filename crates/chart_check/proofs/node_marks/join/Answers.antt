@@ -51,6 +51,8 @@ returns c =
     let inv = loop.invariant in
     let e : loop.i ≡ loop.end = omega arith in (
       joining-done _ _ _ c.requires.long loop.marks inv.joining
-          (followed-closed _ _ loop.marks loop.list loop.end inv.listed (subst (λ (k : ℕ). Followed (size c.args.records.now) (arcs_by c.args.records.now c.args.conditions) loop.marks loop.list k) e inv.followed)),
+          (followed-closed _ _ loop.marks loop.list loop.end inv.listed
+          (subst (λ (k : ℕ). Followed (size c.args.records.now) (arcs_by c.args.records.now c.args.conditions) loop.marks loop.list k) e
+          inv.followed)),
       inv.listed.counted,
     )

@@ -6,6 +6,10 @@ use Rattle.chart_rows.proofs.numbers.note_nodes.Goals as goal
 pub number_nodes-requires : goal.number_nodes-requires
 number_nodes-requires c =
     record {
-      charted = record { ready = c.requires.ready; labelled = labelled _ _ _ (omega (arith, c.requires.in_bounds, c.requires.ready.few)) c.label_nodes-own.ensures.1 };
+      charted = record {
+        ready = c.requires.ready;
+        labelled = labelled _ _ _ (omega (arith, c.requires.in_bounds, c.requires.ready.few))
+            c.label_nodes-own.ensures.1;
+      };
       in_bounds = omega (arith, c.requires.in_bounds, c.label_nodes-own.auto.labels);
     }

@@ -35,23 +35,41 @@ field-at-requires c =
 
 pub loop-side-smaller : goal.loop-side-smaller
 loop-side-smaller c =
-    let noted : let a = c.args in get_or a.notes.now (256 + c.loop-side.at) 0 ≡ tested_number a.records.now c.loop-side.at = c.requires.noted.numbers _ c.loop-side.invariant.entered.inside in
+    let noted : let a = c.args in
+    get_or a.notes.now (256 + c.loop-side.at) 0 ≡ tested_number a.records.now c.loop-side.at =
+    c.requires.noted.numbers _ c.loop-side.invariant.entered.inside in
     let ready : Ready c.args.records.now = c.requires.noted.chart.ready in
-    let met : let a = c.args in is_known a.records.now a.care c.loop-side.at ≡ true = bit-known _ ready _ _ c.loop-side.invariant.entered noted c.args.care _ (omega (arith, c.ranges.care)) c.bit_at.ensures c.loop-side-test.true in
-    let side : let a = c.args in c.field-at.result ≡ arc_taken a.records.now a.values c.loop-side.at = side-taken _ ready _ _ c.loop-side.invariant.entered noted (known-goes _ _ _ c.loop-side.invariant.entered met) _ _ _ c.bit_at-side.ensures c.field-at.ensures in
+    let met : let a = c.args in
+    is_known a.records.now a.care c.loop-side.at ≡ true =
+    bit-known _ ready _ _ c.loop-side.invariant.entered noted c.args.care _ (omega (arith, c.ranges.care)) c.bit_at.ensures
+    c.loop-side-test.true in
+    let side : let a = c.args in
+    c.field-at.result ≡ arc_taken a.records.now a.values c.loop-side.at =
+    side-taken _ ready _ _ c.loop-side.invariant.entered noted (known-goes _ _ _ c.loop-side.invariant.entered met) _ _ _
+    c.bit_at-side.ensures c.field-at.ensures in
     known-falls _ _ _ c.loop-side.invariant.entered met ready _ _ side
 
 pub loop-side-preserved : goal.loop-side-preserved
 loop-side-preserved c =
-    let noted : let a = c.args in get_or a.notes.now (256 + c.loop-side.at) 0 ≡ tested_number a.records.now c.loop-side.at = c.requires.noted.numbers _ c.loop-side.invariant.entered.inside in
+    let noted : let a = c.args in
+    get_or a.notes.now (256 + c.loop-side.at) 0 ≡ tested_number a.records.now c.loop-side.at =
+    c.requires.noted.numbers _ c.loop-side.invariant.entered.inside in
     let ready : Ready c.args.records.now = c.requires.noted.chart.ready in
-    let met : let a = c.args in is_known a.records.now a.care c.loop-side.at ≡ true = bit-known _ ready _ _ c.loop-side.invariant.entered noted c.args.care _ (omega (arith, c.ranges.care)) c.bit_at.ensures c.loop-side-test.true in
-    let side : let a = c.args in c.field-at.result ≡ arc_taken a.records.now a.values c.loop-side.at = side-taken _ ready _ _ c.loop-side.invariant.entered noted (known-goes _ _ _ c.loop-side.invariant.entered met) _ _ _ c.bit_at-side.ensures c.field-at.ensures in
+    let met : let a = c.args in
+    is_known a.records.now a.care c.loop-side.at ≡ true =
+    bit-known _ ready _ _ c.loop-side.invariant.entered noted c.args.care _ (omega (arith, c.ranges.care)) c.bit_at.ensures
+    c.loop-side-test.true in
+    let side : let a = c.args in
+    c.field-at.result ≡ arc_taken a.records.now a.values c.loop-side.at =
+    side-taken _ ready _ _ c.loop-side.invariant.entered noted (known-goes _ _ _ c.loop-side.invariant.entered met) _ _ _
+    c.bit_at-side.ensures c.field-at.ensures in
     passing-on _ _ _ _ _ c.loop-side.invariant ready met _ side
 
 pub returns : goal.returns
 returns c =
-    let noted : let a = c.args in get_or a.notes.now (256 + c.loop-side.at) 0 ≡ tested_number a.records.now c.loop-side.at = c.requires.noted.numbers _ c.loop-side.invariant.entered.inside in
+    let noted : let a = c.args in
+    get_or a.notes.now (256 + c.loop-side.at) 0 ≡ tested_number a.records.now c.loop-side.at =
+    c.requires.noted.numbers _ c.loop-side.invariant.entered.inside in
     let ready : Ready c.args.records.now = c.requires.noted.chart.ready in
     passing-done _ _ _ _ _ c.loop-side.invariant
     (bit-unknown _ ready _ _ c.loop-side.invariant.entered noted c.args.care

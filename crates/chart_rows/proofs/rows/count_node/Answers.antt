@@ -39,7 +39,13 @@ count_paths-requires c =
 pub count_sides-requires-in_default : goal.count_sides-requires-in_default
 count_sides-requires-in_default c =
     let node = c.requires in
-    record { noted = node.noted; inside = node.inside; two = omega (arith, c.field.ensures, c.in_default.if-this-lt3-own.false); within = refl }
+    record {
+      noted = node.noted;
+      inside = node.inside;
+      two = omega (arith, c.field.ensures, c.in_default.if-this-lt3-own.false);
+      within =
+          refl;
+    }
 
 pub returns-in-3 : goal.returns-in-3
 returns-in-3 c =

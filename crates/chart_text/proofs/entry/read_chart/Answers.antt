@@ -26,38 +26,44 @@ slice_bounds-table-end c =
 pub slice_bounds-records-end : goal.slice_bounds-records-end
 slice_bounds-records-end c =
     let known : Formed c.args.text.now c.in-Done.count = formed _ _ _ c.read_text-form.ensures.result_value c.in-Done.is in
-    let chart : take (10 * c.in-Done.count) c.read_text-form.new.out ≡ contents c.args.text.now = formed-chart _ _ _ _ known c.read_text-form.ensures.out_after in
+    let chart : take (10 * c.in-Done.count) c.read_text-form.new.out ≡ contents c.args.text.now =
+    formed-chart _ _ _ _ known c.read_text-form.ensures.out_after in
     sym (chart-length _ _ _ known chart)
 
 pub check_chart-chart-requires : goal.check_chart-chart-requires
 check_chart-chart-requires c =
     let known : Formed c.args.text.now c.in-Done.count = formed _ _ _ c.read_text-form.ensures.result_value c.in-Done.is in
-    let chart : take (10 * c.in-Done.count) c.read_text-form.new.out ≡ contents c.args.text.now = formed-chart _ _ _ _ known c.read_text-form.ensures.out_after in
+    let chart : take (10 * c.in-Done.count) c.read_text-form.new.out ≡ contents c.args.text.now =
+    formed-chart _ _ _ _ known c.read_text-form.ensures.out_after in
     chart-asked _ _ _ known chart
 
 pub returns-in_default-chart : goal.returns-in_default-chart
 returns-in_default-chart c =
     let known : Formed c.args.text.now c.in-Done.count = formed _ _ _ c.read_text-form.ensures.result_value c.in-Done.is in
-    let chart : take (10 * c.in-Done.count) c.read_text-form.new.out ≡ contents c.args.text.now = formed-chart _ _ _ _ known c.read_text-form.ensures.out_after in
+    let chart : take (10 * c.in-Done.count) c.read_text-form.new.out ≡ contents c.args.text.now =
+    formed-chart _ _ _ _ known c.read_text-form.ensures.out_after in
     read-unsound _ _ _ known _ chart _ c.check_chart-chart.ensures
     c.in_default-chart.field-0 c.in_default-chart.field-1 c.in_default-chart.field-2 c.in_default-chart.is
 
 pub returns-then-out-end : goal.returns-then-out-end
 returns-then-out-end c =
     let known : Formed c.args.text.now c.in-Done.count = formed _ _ _ c.read_text-form.ensures.result_value c.in-Done.is in
-    let chart : take (10 * c.in-Done.count) c.read_text-form.new.out ≡ contents c.args.text.now = formed-chart _ _ _ _ known c.read_text-form.ensures.out_after in
+    let chart : take (10 * c.in-Done.count) c.read_text-form.new.out ≡ contents c.args.text.now =
+    formed-chart _ _ _ _ known c.read_text-form.ensures.out_after in
     read_short _ _ _ known _ chart _ c.check_chart-chart.ensures _
     c.in-Done-chart.is c.if-out-end.true _ c.refused.ensures
 
 pub put_bytes-requires : goal.put_bytes-requires
 put_bytes-requires c =
     let known : Formed c.args.text.now c.in-Done.count = formed _ _ _ c.read_text-form.ensures.result_value c.in-Done.is in
-    let chart : take (10 * c.in-Done.count) c.read_text-form.new.out ≡ contents c.args.text.now = formed-chart _ _ _ _ known c.read_text-form.ensures.out_after in
+    let chart : take (10 * c.in-Done.count) c.read_text-form.new.out ≡ contents c.args.text.now =
+    formed-chart _ _ _ _ known c.read_text-form.ensures.out_after in
     omega (arith, chart-length _ _ _ known chart, c.if-out-end.false)
 
 pub returns : goal.returns
 returns c =
     let known : Formed c.args.text.now c.in-Done.count = formed _ _ _ c.read_text-form.ensures.result_value c.in-Done.is in
-    let chart : take (10 * c.in-Done.count) c.read_text-form.new.out ≡ contents c.args.text.now = formed-chart _ _ _ _ known c.read_text-form.ensures.out_after in
+    let chart : take (10 * c.in-Done.count) c.read_text-form.new.out ≡ contents c.args.text.now =
+    formed-chart _ _ _ _ known c.read_text-form.ensures.out_after in
     read_done _ _ _ known _ chart _ c.check_chart-chart.ensures _
     c.in-Done-chart.is c.if-out-end.false _ c.put_bytes.ensures

@@ -11,7 +11,8 @@ use Rattle.fillings.proofs.counting.tally.Goals as goal
 
 pub tally_one-requires : goal.tally_one-requires
 tally_one-requires c =
-    let stands : TickAsked c.args.table.now (state_of c.fresh_bytes-bytes.result) = fresh-stands _ _ _ c.requires.whole c.requires.size_value c.fresh_bytes-bytes.ensures in
+    let stands : TickAsked c.args.table.now (state_of c.fresh_bytes-bytes.result) =
+    fresh-stands _ _ _ c.requires.whole c.requires.size_value c.fresh_bytes-bytes.ensures in
     stands
 
 pub returns-then-k-eq0 : goal.returns-then-k-eq0
@@ -23,7 +24,8 @@ returns-then-k-eq0 c =
 
 pub tally_all-requires : goal.tally_all-requires
 tally_all-requires c =
-    let stands : TickAsked c.args.table.now (state_of c.fresh_bytes-bytes.result) = fresh-stands _ _ _ c.requires.whole c.requires.size_value c.fresh_bytes-bytes.ensures in record {
+    let stands : TickAsked c.args.table.now (state_of c.fresh_bytes-bytes.result) =
+    fresh-stands _ _ _ c.requires.whole c.requires.size_value c.fresh_bytes-bytes.ensures in record {
       tick_asked = stands;
       k_bound = c.requires.k_bound;
     }

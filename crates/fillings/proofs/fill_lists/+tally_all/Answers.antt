@@ -35,26 +35,36 @@ tally_all-more-requires t c =
 
 pub add-tally-requires : goal.add-tally-requires
 add-tally-requires t c =
-    let ShareOf : Tally → Type 0 = λ tally. let a = c.args in let image = table_image a.table.now in tally ≡ share_of image (a.n - 1) a.k (tick image (state_of a.bytes.now) c.loop-word.word) in
-    let went : ShareOf c.tally_all-more.result = c.tally_all-more.ensures ∙ went-share _ _ _ c.tick_word-done.result _ c.tick_word-done.ensures _ _ c.if-number-eq0.true in
+    let ShareOf : Tally → Type 0 = λ tally. let a = c.args in let image = table_image a.table.now in
+    tally ≡ share_of image (a.n - 1) a.k (tick image (state_of a.bytes.now) c.loop-word.word) in
+    let went : ShareOf c.tally_all-more.result =
+    c.tally_all-more.ensures ∙ went-share _ _ _ c.tick_word-done.result _ c.tick_word-done.ensures _ _ c.if-number-eq0.true in
     part-few c.loop-word.invariant (search rules) _ went
 
 pub loop-word-preserved-then-number-eq0 : goal.loop-word-preserved-then-number-eq0
 loop-word-preserved-then-number-eq0 t c =
-    let ShareOf : Tally → Type 0 = λ tally. let a = c.args in let image = table_image a.table.now in tally ≡ share_of image (a.n - 1) a.k (tick image (state_of a.bytes.now) c.loop-word.word) in
-    let went : ShareOf c.tally_all-more.result = c.tally_all-more.ensures ∙ went-share _ _ _ c.tick_word-done.result _ c.tick_word-done.ensures _ _ c.if-number-eq0.true in
+    let ShareOf : Tally → Type 0 = λ tally. let a = c.args in let image = table_image a.table.now in
+    tally ≡ share_of image (a.n - 1) a.k (tick image (state_of a.bytes.now) c.loop-word.word) in
+    let went : ShareOf c.tally_all-more.result =
+    c.tally_all-more.ensures ∙ went-share _ _ _ c.tick_word-done.result _ c.tick_word-done.ensures _ _ c.if-number-eq0.true in
     part-on c.loop-word.invariant (search rules) _ went _ c.add-tally.ensures
 
 pub add-tally-requires-else-number-eq0 : goal.add-tally-requires-else-number-eq0
 add-tally-requires-else-number-eq0 t c =
-    let ShareOf : Tally → Type 0 = λ tally. let a = c.args in let image = table_image a.table.now in tally ≡ share_of image (a.n - 1) a.k (tick image (state_of a.bytes.now) c.loop-word.word) in
-    let stood : ShareOf c.all_meet-stopped.result = c.all_meet-stopped.ensures ∙ ap (all_meet c.tick_word-done.result.number) c.loop-word.invariant.all_lists ∙ stood-share _ _ _ c.tick_word-done.result _ c.tick_word-done.ensures _ _ c.if-number-eq0.false in
+    let ShareOf : Tally → Type 0 = λ tally. let a = c.args in let image = table_image a.table.now in
+    tally ≡ share_of image (a.n - 1) a.k (tick image (state_of a.bytes.now) c.loop-word.word) in
+    let stood : ShareOf c.all_meet-stopped.result =
+    c.all_meet-stopped.ensures ∙ ap (all_meet c.tick_word-done.result.number) c.loop-word.invariant.all_lists ∙ stood-share _ _ _
+    c.tick_word-done.result _ c.tick_word-done.ensures _ _ c.if-number-eq0.false in
     part-few c.loop-word.invariant (search rules) _ stood
 
 pub loop-word-preserved : goal.loop-word-preserved
 loop-word-preserved t c =
-    let ShareOf : Tally → Type 0 = λ tally. let a = c.args in let image = table_image a.table.now in tally ≡ share_of image (a.n - 1) a.k (tick image (state_of a.bytes.now) c.loop-word.word) in
-    let stood : ShareOf c.all_meet-stopped.result = c.all_meet-stopped.ensures ∙ ap (all_meet c.tick_word-done.result.number) c.loop-word.invariant.all_lists ∙ stood-share _ _ _ c.tick_word-done.result _ c.tick_word-done.ensures _ _ c.if-number-eq0.false in
+    let ShareOf : Tally → Type 0 = λ tally. let a = c.args in let image = table_image a.table.now in
+    tally ≡ share_of image (a.n - 1) a.k (tick image (state_of a.bytes.now) c.loop-word.word) in
+    let stood : ShareOf c.all_meet-stopped.result =
+    c.all_meet-stopped.ensures ∙ ap (all_meet c.tick_word-done.result.number) c.loop-word.invariant.all_lists ∙ stood-share _ _ _
+    c.tick_word-done.result _ c.tick_word-done.ensures _ _ c.if-number-eq0.false in
     part-on c.loop-word.invariant (search rules) _ stood _ c.add-tally-else-number-eq0.ensures
 
 pub returns : goal.returns

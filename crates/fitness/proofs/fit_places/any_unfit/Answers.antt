@@ -23,14 +23,18 @@ returns-then-is_astray_at_bottom c =
 pub returns-then-calls_none : goal.returns-then-calls_none
 returns-then-calls_none c =
     let state : State = state_of c.args.bytes.now in
-    let bottom-held : Belongs (table_image c.args.table.now) state 0 = bottom-belongs _ state 0 _ _ c.place_of-bottom.ensures c.last_label-last.ensures c.if-last-bottom.false _ c.label_of-first.ensures refl _ c.is_astray_at_bottom.ensures c.if-is_astray_at_bottom.false in
+    let bottom-held : Belongs (table_image c.args.table.now) state 0 =
+    bottom-belongs _ state 0 _ _ c.place_of-bottom.ensures c.last_label-last.ensures c.if-last-bottom.false _ c.label_of-first.ensures
+    refl _ c.is_astray_at_bottom.ensures c.if-is_astray_at_bottom.false in
     pass-top _ state 0 _ _ c.place_of-bottom.ensures c.last_label-last.ensures c.if-last-bottom.false _
     c.label_of-first.ensures bottom-held _ c.calls_none.ensures _ c.depth_of-depth.ensures c.if-calls_none.true
 
 pub loop-k-init : goal.loop-k-init
 loop-k-init c =
     let state : State = state_of c.args.bytes.now in
-    let bottom-held : Belongs (table_image c.args.table.now) state 0 = bottom-belongs _ state 0 _ _ c.place_of-bottom.ensures c.last_label-last.ensures c.if-last-bottom.false _ c.label_of-first.ensures refl _ c.is_astray_at_bottom.ensures c.if-is_astray_at_bottom.false in
+    let bottom-held : Belongs (table_image c.args.table.now) state 0 =
+    bottom-belongs _ state 0 _ _ c.place_of-bottom.ensures c.last_label-last.ensures c.if-last-bottom.false _ c.label_of-first.ensures
+    refl _ c.is_astray_at_bottom.ensures c.if-is_astray_at_bottom.false in
     pass-next _ state 0 _ _ c.place_of-bottom.ensures c.last_label-last.ensures c.if-last-bottom.false _
     c.label_of-first.ensures bottom-held _ c.calls_none.ensures c.if-calls_none.false
 
@@ -63,7 +67,10 @@ pub returns-then-calls_none-2 : goal.returns-then-calls_none-2
 returns-then-calls_none-2 c =
     let state : State = state_of c.args.bytes.now in
     let inside : c.loop-k.k < state.depth = omega (arith, c.loop-k-test.true, c.depth_of-depth.ensures) in
-    let turn-held : Belongs (table_image c.args.table.now) state c.loop-k.k = pass-belongs _ state _ _ _ c.place_of-l.ensures c.last_label-last.ensures _ c.loop-k.invariant inside _ _ _ c.scheme_count-schemes.ensures c.number_of.ensures c.server_of-server.ensures _ c.is_miscalled.ensures c.if-is_miscalled.false c.if-last-l.false _ c.label_of-label.ensures _ c.is_astray.ensures c.if-is_astray.false in
+    let turn-held : Belongs (table_image c.args.table.now) state c.loop-k.k =
+    pass-belongs _ state _ _ _ c.place_of-l.ensures c.last_label-last.ensures _ c.loop-k.invariant inside _ _ _
+    c.scheme_count-schemes.ensures c.number_of.ensures c.server_of-server.ensures _ c.is_miscalled.ensures c.if-is_miscalled.false
+    c.if-last-l.false _ c.label_of-label.ensures _ c.is_astray.ensures c.if-is_astray.false in
     pass-top _ state _ _ _ c.place_of-l.ensures c.last_label-last.ensures
     c.if-last-l.false _
     c.label_of-label.ensures turn-held _ c.calls_none-in-loop-k.ensures
@@ -73,7 +80,10 @@ pub loop-k-preserved : goal.loop-k-preserved
 loop-k-preserved c =
     let state : State = state_of c.args.bytes.now in
     let inside : c.loop-k.k < state.depth = omega (arith, c.loop-k-test.true, c.depth_of-depth.ensures) in
-    let turn-held : Belongs (table_image c.args.table.now) state c.loop-k.k = pass-belongs _ state _ _ _ c.place_of-l.ensures c.last_label-last.ensures _ c.loop-k.invariant inside _ _ _ c.scheme_count-schemes.ensures c.number_of.ensures c.server_of-server.ensures _ c.is_miscalled.ensures c.if-is_miscalled.false c.if-last-l.false _ c.label_of-label.ensures _ c.is_astray.ensures c.if-is_astray.false in
+    let turn-held : Belongs (table_image c.args.table.now) state c.loop-k.k =
+    pass-belongs _ state _ _ _ c.place_of-l.ensures c.last_label-last.ensures _ c.loop-k.invariant inside _ _ _
+    c.scheme_count-schemes.ensures c.number_of.ensures c.server_of-server.ensures _ c.is_miscalled.ensures c.if-is_miscalled.false
+    c.if-last-l.false _ c.label_of-label.ensures _ c.is_astray.ensures c.if-is_astray.false in
     pass-next _ state _ _ _ c.place_of-l.ensures c.last_label-last.ensures
     c.if-last-l.false _
     c.label_of-label.ensures turn-held _ c.calls_none-in-loop-k.ensures c.if-calls_none-2.false

@@ -6,4 +6,5 @@ use Rattle.grouping.proofs.marked_parts.Labelled.{Labelling}
 use Rattle.grouping.proofs.marked_parts.count_members.Given as goal
 
 abbrev pub invariant-loop-l : goal.invariant-loop-l
-invariant-loop-l l = Labelling (λ l'. get_or l.classes l' 0) (λ l' counts'. member_count counts' (get_or l.classes l' 0) l') l.fn.counts l.n l.counts l.l
+invariant-loop-l l = Labelling (λ l'. get_or l.classes l' 0) (λ l' counts'. member_count counts' (get_or l.classes l' 0) l') l.fn.counts l.n
+    l.counts l.l

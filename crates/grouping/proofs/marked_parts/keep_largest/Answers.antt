@@ -13,7 +13,12 @@ pub overflow_cast-class : goal.overflow_cast-class
 overflow_cast-class c = omega (arith, c.shared_slice_known-in-loop-l-1.given c.loop-l.l)
 
 pub larger_part-requires : goal.larger_part-requires
-larger_part-requires c = (c.requires.counts_len.0, c.loop-l.invariant.long ∙ c.requires.counts_len.1, omega (arith, c.shared_slice_known-in-loop-l-1.given c.loop-l.l))
+larger_part-requires c = (
+  c.requires.counts_len.0,
+  c.loop-l.invariant.long ∙ c.requires.counts_len.1,
+  omega
+      (arith, c.shared_slice_known-in-loop-l-1.given c.loop-l.l),
+)
 
 pub bounds-kept-class : goal.bounds-kept-class
 bounds-kept-class c = omega (arith, c.shared_slice_known-in-loop-l-1.given c.loop-l.l, c.loop-l.invariant.long, c.requires.counts_len.1)

@@ -6,4 +6,5 @@ use Rattle.grouping.proofs.marked_parts.Labelled.{Labelling}
 use Rattle.grouping.proofs.marked_parts.keep_largest.Given as goal
 
 abbrev pub invariant-loop-l : goal.invariant-loop-l
-invariant-loop-l l = Labelling (λ l'. get_or l.classes l' 0) (λ l' kept'. larger_part l.counts kept' (get_or l.classes l' 0) l' (get_or l.next l' 0)) l.fn.kept l.n l.kept l.l
+invariant-loop-l l = Labelling (λ l'. get_or l.classes l' 0)
+    (λ l' kept'. larger_part l.counts kept' (get_or l.classes l' 0) l' (get_or l.next l' 0)) l.fn.kept l.n l.kept l.l

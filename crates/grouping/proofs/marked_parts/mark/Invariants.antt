@@ -6,4 +6,5 @@ use Rattle.grouping.proofs.marked_parts.Labelled.{Labelling}
 use Rattle.grouping.proofs.marked_parts.mark.Given as goal
 
 abbrev pub invariant-loop-l : goal.invariant-loop-l
-invariant-loop-l l = Labelling (λ l'. l') (λ l' _. mark_of (get_or l.next l' 0) (get_or l.kept (get_or l.classes l' 0) 0)) l.fn.marks l.n l.marks l.l
+invariant-loop-l l = Labelling (λ l'. l') (λ l' _. mark_of (get_or l.next l' 0) (get_or l.kept (get_or l.classes l' 0) 0)) l.fn.marks l.n
+    l.marks l.l

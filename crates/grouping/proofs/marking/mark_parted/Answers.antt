@@ -7,7 +7,11 @@ pub mark_parts-requires : goal.mark_parts-requires
 mark_parts-requires c =
     let refined = c.requires.refined.0 in
     record {
-      n_bound = (omega (arith, c.last_label.ensures, c.type_inv.table 2), refined.now.long, (c.requires.refined.1 refined.rounds refined.now).long);
+      n_bound = (
+        omega (arith, c.last_label.ensures, c.type_inv.table 2),
+        refined.now.long,
+        (c.requires.refined.1 refined.rounds refined.now).long,
+      );
       marks_len = c.requires.marks_len;
     }
 

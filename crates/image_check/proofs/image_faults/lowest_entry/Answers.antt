@@ -12,20 +12,26 @@ use Rattle.image_check.proofs.image_faults.lowest_entry.Goals as goal
 
 pub returns-then-stray_entry : goal.returns-then-stray_entry
 returns-then-stray_entry c =
-    let tests : (let a = c.args in let b = a.table.now in let f = c.loop-f.f in f < a.end → (is_stray_frame b f (entry_position f) || is_bad_entry b f) ≡ is_faulty b f) = λ h. let a = c.args in entry-tests a.table.now c.loop-f.f c.loop-f.invariant.0 (omega (arith, c.requires)) in
+    let tests : (let a = c.args in let b = a.table.now in let f = c.loop-f.f in f < a.end →
+    (is_stray_frame b f (entry_position f) || is_bad_entry b f) ≡ is_faulty b f) = λ h. let a = c.args in entry-tests a.table.now
+    c.loop-f.f c.loop-f.invariant.0 (omega (arith, c.requires)) in
     searching-found _ _ _ _ c.loop-f.invariant.1 (search rules)
     (first_holds _ _ _ _ c.stray_entry.ensures (tests (search rules)) c.if-stray_entry.true)
 
 pub returns-then-bad_entry : goal.returns-then-bad_entry
 returns-then-bad_entry c =
-    let tests : (let a = c.args in let b = a.table.now in let f = c.loop-f.f in f < a.end → (is_stray_frame b f (entry_position f) || is_bad_entry b f) ≡ is_faulty b f) = λ h. let a = c.args in entry-tests a.table.now c.loop-f.f c.loop-f.invariant.0 (omega (arith, c.requires)) in
+    let tests : (let a = c.args in let b = a.table.now in let f = c.loop-f.f in f < a.end →
+    (is_stray_frame b f (entry_position f) || is_bad_entry b f) ≡ is_faulty b f) = λ h. let a = c.args in entry-tests a.table.now
+    c.loop-f.f c.loop-f.invariant.0 (omega (arith, c.requires)) in
     searching-found _ _ _ _ c.loop-f.invariant.1 (search rules)
     (second-tells _ _ _ _ c.stray_entry.ensures (tests (search rules))
     c.if-stray_entry.false _ c.bad_entry.ensures _ c.if-bad_entry.true)
 
 pub loop-f-preserved : goal.loop-f-preserved
 loop-f-preserved c =
-    let tests : (let a = c.args in let b = a.table.now in let f = c.loop-f.f in f < a.end → (is_stray_frame b f (entry_position f) || is_bad_entry b f) ≡ is_faulty b f) = λ h. let a = c.args in entry-tests a.table.now c.loop-f.f c.loop-f.invariant.0 (omega (arith, c.requires)) in (
+    let tests : (let a = c.args in let b = a.table.now in let f = c.loop-f.f in f < a.end →
+    (is_stray_frame b f (entry_position f) || is_bad_entry b f) ≡ is_faulty b f) = λ h. let a = c.args in entry-tests a.table.now
+    c.loop-f.f c.loop-f.invariant.0 (omega (arith, c.requires)) in (
       search rules,
       searching-next _ _ _ _ c.loop-f.invariant.1 (search rules)
           (second-tells _ _ _ _ c.stray_entry.ensures (tests (search rules))

@@ -16,14 +16,18 @@ returns-then-entry-labels c =
 
 pub returns-then-label-rows : goal.returns-then-label-rows
 returns-then-label-rows c =
-    let entries-good : (let b = c.args.table.now in let labels = c.labels_from-labels.result in lowest (is_faulty b) labels (size b - labels) ≡ lowest (is_faulty b) 0 (size b)) = let b = c.args.table.now in part-past (is_faulty b) 1 _ (size b) _ (search rules) (search rules) c.lowest_entry-entry.ensures c.if-entry-labels.false ∙ all-entries b (search rules) in
+    let entries-good : (let b = c.args.table.now in let labels = c.labels_from-labels.result in lowest (is_faulty b) labels
+    (size b - labels) ≡ lowest (is_faulty b) 0 (size b)) = let b = c.args.table.now in part-past (is_faulty b) 1 _ (size b) _
+    (search rules) (search rules) c.lowest_entry-entry.ensures c.if-entry-labels.false ∙ all-entries b (search rules) in
     part-found (is_faulty c.args.table.now) _ _ _ _ (search rules)
     (search rules) c.lowest_label-label.ensures c.if-label-rows.true
     ∙ entries-good
 
 pub returns : goal.returns
 returns c =
-    let entries-good : (let b = c.args.table.now in let labels = c.labels_from-labels.result in lowest (is_faulty b) labels (size b - labels) ≡ lowest (is_faulty b) 0 (size b)) = let b = c.args.table.now in part-past (is_faulty b) 1 _ (size b) _ (search rules) (search rules) c.lowest_entry-entry.ensures c.if-entry-labels.false ∙ all-entries b (search rules) in
+    let entries-good : (let b = c.args.table.now in let labels = c.labels_from-labels.result in lowest (is_faulty b) labels
+    (size b - labels) ≡ lowest (is_faulty b) 0 (size b)) = let b = c.args.table.now in part-past (is_faulty b) 1 _ (size b) _
+    (search rules) (search rules) c.lowest_entry-entry.ensures c.if-entry-labels.false ∙ all-entries b (search rules) in
     let b = c.args.table.now in
     c.lowest_row.ensures
     ∙ part-past (is_faulty b) _ _ (size b) _ (search rules) (search rules) c.lowest_label-label.ensures c.if-label-rows.false

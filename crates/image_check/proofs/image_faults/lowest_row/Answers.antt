@@ -13,20 +13,29 @@ use Rattle.image_check.proofs.image_faults.lowest_row.Goals as goal
 
 pub returns-then-stray_row : goal.returns-then-stray_row
 returns-then-stray_row c =
-    let tests : (let a = c.args in let b = a.table.now in let f = c.loop-f.f in f < a.end → (is_stray_frame b (rows_from b + (f - a.first)) (row_position (f - a.first)) || is_bad_row b (rows_from b + (f - a.first)) (row_in b (f - a.first))) ≡ is_faulty b f) = λ h. let a = c.args in row-tests a.table.now c.loop-f.f a.first c.requires.1 c.loop-f.invariant.0 in
+    let tests : (let a = c.args in let b = a.table.now in let f = c.loop-f.f in f < a.end →
+    (is_stray_frame b (rows_from b + (f - a.first)) (row_position (f - a.first)) || is_bad_row b (rows_from b + (f - a.first))
+    (row_in b (f - a.first))) ≡ is_faulty b f) = λ h. let a = c.args in row-tests a.table.now c.loop-f.f a.first c.requires.1
+    c.loop-f.invariant.0 in
     searching-found _ _ _ _ c.loop-f.invariant.1 (search rules)
     (first_holds _ _ _ _ c.stray_row.ensures (tests (search rules)) c.if-stray_row.true)
 
 pub returns-then-bad_row : goal.returns-then-bad_row
 returns-then-bad_row c =
-    let tests : (let a = c.args in let b = a.table.now in let f = c.loop-f.f in f < a.end → (is_stray_frame b (rows_from b + (f - a.first)) (row_position (f - a.first)) || is_bad_row b (rows_from b + (f - a.first)) (row_in b (f - a.first))) ≡ is_faulty b f) = λ h. let a = c.args in row-tests a.table.now c.loop-f.f a.first c.requires.1 c.loop-f.invariant.0 in
+    let tests : (let a = c.args in let b = a.table.now in let f = c.loop-f.f in f < a.end →
+    (is_stray_frame b (rows_from b + (f - a.first)) (row_position (f - a.first)) || is_bad_row b (rows_from b + (f - a.first))
+    (row_in b (f - a.first))) ≡ is_faulty b f) = λ h. let a = c.args in row-tests a.table.now c.loop-f.f a.first c.requires.1
+    c.loop-f.invariant.0 in
     searching-found _ _ _ _ c.loop-f.invariant.1 (search rules)
     (second-tells _ _ _ _ c.stray_row.ensures (tests (search rules))
     c.if-stray_row.false _ c.bad_row.ensures _ c.if-bad_row.true)
 
 pub loop-f-preserved : goal.loop-f-preserved
 loop-f-preserved c =
-    let tests : (let a = c.args in let b = a.table.now in let f = c.loop-f.f in f < a.end → (is_stray_frame b (rows_from b + (f - a.first)) (row_position (f - a.first)) || is_bad_row b (rows_from b + (f - a.first)) (row_in b (f - a.first))) ≡ is_faulty b f) = λ h. let a = c.args in row-tests a.table.now c.loop-f.f a.first c.requires.1 c.loop-f.invariant.0 in (
+    let tests : (let a = c.args in let b = a.table.now in let f = c.loop-f.f in f < a.end →
+    (is_stray_frame b (rows_from b + (f - a.first)) (row_position (f - a.first)) || is_bad_row b (rows_from b + (f - a.first))
+    (row_in b (f - a.first))) ≡ is_faulty b f) = λ h. let a = c.args in row-tests a.table.now c.loop-f.f a.first c.requires.1
+    c.loop-f.invariant.0 in (
       search rules,
       searching-next _ _ _ _ c.loop-f.invariant.1 (search rules)
           (second-tells _ _ _ _ c.stray_row.ensures (tests (search rules))

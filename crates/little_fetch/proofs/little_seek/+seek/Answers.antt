@@ -14,7 +14,8 @@ pub first_number-i-requires : goal.first_number-i-requires
 first_number-i-requires t c = omega (arith, c.requires.0.whole, c.requires.1)
 
 pub loop-i-init : goal.loop-i-init
-loop-i-init t c = seeking-first _ _ c.requires.0 (omega (arith, c.requires.1, c.if-v-n.false)) _ _ _ _ refl c.past_number-past.ensures c.first_number-i.ensures
+loop-i-init t c = seeking-first _ _ c.requires.0 (omega (arith, c.requires.1, c.if-v-n.false)) _ _ _ _ refl c.past_number-past.ensures
+    c.first_number-i.ensures
 
 pub place-requires : goal.place-requires
 place-requires t c =

@@ -14,17 +14,26 @@ number_groups-groups-requires c = record {
 
 pub overflow_mul-need : goal.overflow_mul-need
 overflow_mul-need c =
-    let told : let n = c.number_groups-groups in CountedFirst c.args.table.now c.args.classes.now n.new.numbers c.byte-schemes.result n.result c.count_kept-rows.result = counts _ _ c.requires.grouped _ _ _ _ _ _ c.byte-schemes.ensures c.byte-last.ensures c.rows_from.ensures c.number_groups-groups.ensures c.count_kept-rows.ensures in
+    let told : let n = c.number_groups-groups in
+    CountedFirst c.args.table.now c.args.classes.now n.new.numbers c.byte-schemes.result n.result c.count_kept-rows.result =
+    counts _ _ c.requires.grouped _ _ _ _ _ _ c.byte-schemes.ensures c.byte-last.ensures c.rows_from.ensures
+    c.number_groups-groups.ensures c.count_kept-rows.ensures in
     omega (arith, told.sixteen, told.bounds)
 
 pub returns-then-out-need : goal.returns-then-out-need
 returns-then-out-need c =
-    let told : let n = c.number_groups-groups in CountedFirst c.args.table.now c.args.classes.now n.new.numbers c.byte-schemes.result n.result c.count_kept-rows.result = counts _ _ c.requires.grouped _ _ _ _ _ _ c.byte-schemes.ensures c.byte-last.ensures c.rows_from.ensures c.number_groups-groups.ensures c.count_kept-rows.ensures in
+    let told : let n = c.number_groups-groups in
+    CountedFirst c.args.table.now c.args.classes.now n.new.numbers c.byte-schemes.result n.result c.count_kept-rows.result =
+    counts _ _ c.requires.grouped _ _ _ _ _ _ c.byte-schemes.ensures c.byte-last.ensures c.rows_from.ensures
+    c.number_groups-groups.ensures c.count_kept-rows.ensures in
     smaller-short _ _ _ _ _ _ told _ c.if-out-need.true _ c.refused.ensures
 
 pub put_pieces-requires : goal.put_pieces-requires
 put_pieces-requires c =
-    let told : let n = c.number_groups-groups in CountedFirst c.args.table.now c.args.classes.now n.new.numbers c.byte-schemes.result n.result c.count_kept-rows.result = counts _ _ c.requires.grouped _ _ _ _ _ _ c.byte-schemes.ensures c.byte-last.ensures c.rows_from.ensures c.number_groups-groups.ensures c.count_kept-rows.ensures in
+    let told : let n = c.number_groups-groups in
+    CountedFirst c.args.table.now c.args.classes.now n.new.numbers c.byte-schemes.result n.result c.count_kept-rows.result =
+    counts _ _ c.requires.grouped _ _ _ _ _ _ c.byte-schemes.ensures c.byte-last.ensures c.rows_from.ensures
+    c.number_groups-groups.ensures c.count_kept-rows.ensures in
     record {
       numbered_groups = told.numbered (c.number_groups-groups.auto.numbers ∙ c.requires.numbers_len);
       groups_value = told.kept;
@@ -34,5 +43,8 @@ put_pieces-requires c =
 
 pub returns : goal.returns
 returns c =
-    let told : let n = c.number_groups-groups in CountedFirst c.args.table.now c.args.classes.now n.new.numbers c.byte-schemes.result n.result c.count_kept-rows.result = counts _ _ c.requires.grouped _ _ _ _ _ _ c.byte-schemes.ensures c.byte-last.ensures c.rows_from.ensures c.number_groups-groups.ensures c.count_kept-rows.ensures in
+    let told : let n = c.number_groups-groups in
+    CountedFirst c.args.table.now c.args.classes.now n.new.numbers c.byte-schemes.result n.result c.count_kept-rows.result =
+    counts _ _ c.requires.grouped _ _ _ _ _ _ c.byte-schemes.ensures c.byte-last.ensures c.rows_from.ensures
+    c.number_groups-groups.ensures c.count_kept-rows.ensures in
     smaller-done _ _ _ _ _ _ told c.args.out.now (search rules) _ c.put_pieces.ensures

@@ -40,7 +40,11 @@ put_label-requires c =
     let m = c.labels_from in
     let kept = label_kept _ _ _ c.requires.numbered_groups c.args.f c.requires.table_bound.0 c.requires.table_bound.1 m.result m.ensures
     c.if-classes-l.false in record {
-      table_bound = (c.requires.table_bound.0, label-frame _ _ _ c.requires.numbered_groups c.args.f c.requires.table_bound.0 c.requires.table_bound.1 m.result m.ensures);
+      table_bound = (
+        c.requires.table_bound.0,
+        label-frame _ _ _ c.requires.numbered_groups c.args.f c.requires.table_bound.0
+            c.requires.table_bound.1 m.result m.ensures,
+      );
       at_in_bounds = frame-room _ _ c.args.out.now _ kept refl _ c.requires.f_in_bounds;
     }
 

@@ -11,7 +11,8 @@ overflow_cast-classes c = omega (arith, c.type_inv.classes c.byte-from.result)
 pub returns-then-classes-from : goal.returns-then-classes-from
 returns-then-classes-from c =
     let x = c.byte-from in
-    nothing_put _ _ _ (row-skip _ _ _ c.requires.numbered_groups c.args.f c.requires.table_bound.0 c.requires.table_bound.1 x.result x.ensures c.if-classes-from.true)
+    nothing_put _ _ _ (row-skip _ _ _ c.requires.numbered_groups c.args.f c.requires.table_bound.0 c.requires.table_bound.1 x.result
+    x.ensures c.if-classes-from.true)
 
 pub put_row-requires : goal.put_row-requires
 put_row-requires c =

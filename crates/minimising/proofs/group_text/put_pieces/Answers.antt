@@ -8,7 +8,8 @@ use Rattle.minimising.proofs.group_text.put_pieces.Goals as goal
 
 pub put_header-requires : goal.put_header-requires
 put_header-requires c =
-    let room = header-room _ _ _ c.requires.numbered_groups _ _ _ _ c.byte-schemes.ensures c.requires.groups_value.0 c.requires.groups_value.1
+    let room = header-room _ _ _ c.requires.numbered_groups _ _ _ _ c.byte-schemes.ensures c.requires.groups_value.0
+    c.requires.groups_value.1
     c.byte-handler.ensures in
     record { in_bounds = room c.args.out.now c.requires.classes_in_bounds; le_groups = search rules; rows_bound = search rules }
 

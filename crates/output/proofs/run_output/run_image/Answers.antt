@@ -10,11 +10,15 @@ use Rattle.output.proofs.run_output.run_image.Goals as goal
 pub returns-in-Ok : goal.returns-in-Ok
 returns-in-Ok g c =
     let full : length c.read_input.new.buffer ≡ 29832 = search rules in
-    of-whole run_output 29832 run-front _ _ _ (λ ys. Appends (g.W.Write.contents c.args.writer.now) (g.W.Write.contents c.write_output.new.writer) ys)
-    (subst (λ k. IsFrontOf (g.R.Read.remaining c.args.reader.now) k (take c.in-Text.n c.read_input.new.buffer)) full c.in-Text.ensures.front) (printed-is _ _ _ _ c.run_text-count.ensures) c.in-Ok.ensures.all
+    of-whole run_output 29832 run-front _ _ _ (λ ys. Appends (g.W.Write.contents c.args.writer.now)
+    (g.W.Write.contents c.write_output.new.writer) ys)
+    (subst (λ k. IsFrontOf (g.R.Read.remaining c.args.reader.now) k (take c.in-Text.n c.read_input.new.buffer)) full
+    c.in-Text.ensures.front) (printed-is _ _ _ _ c.run_text-count.ensures) c.in-Ok.ensures.all
 
 pub returns-in-Err : goal.returns-in-Err
 returns-in-Err g c =
     let full : length c.read_input.new.buffer ≡ 29832 = search rules in
-    of-whole run_output 29832 run-front _ _ _ (λ ys. AppendsFront (g.W.Write.contents c.args.writer.now) (g.W.Write.contents c.write_output.new.writer) ys)
-    (subst (λ k. IsFrontOf (g.R.Read.remaining c.args.reader.now) k (take c.in-Text.n c.read_input.new.buffer)) full c.in-Text.ensures.front) (printed-is _ _ _ _ c.run_text-count.ensures) c.in-Err.ensures.part
+    of-whole run_output 29832 run-front _ _ _ (λ ys. AppendsFront (g.W.Write.contents c.args.writer.now)
+    (g.W.Write.contents c.write_output.new.writer) ys)
+    (subst (λ k. IsFrontOf (g.R.Read.remaining c.args.reader.now) k (take c.in-Text.n c.read_input.new.buffer)) full
+    c.in-Text.ensures.front) (printed-is _ _ _ _ c.run_text-count.ensures) c.in-Err.ensures.part

@@ -13,44 +13,52 @@ returns-in_default c =
 
 pub overflow_mul-end : goal.overflow_mul-end
 overflow_mul-end c =
-    let done : Read c.args.text.now c.read_chart-read.new.out c.in-Done.count = let told = c.read_chart-read.ensures in read_told _ _ _ _ _ told.answered c.in-Done.is told.written in
+    let done : Read c.args.text.now c.read_chart-read.new.out c.in-Done.count = let told = c.read_chart-read.ensures in
+    read_told _ _ _ _ _ told.answered c.in-Done.is told.written in
     omega (arith, done.few)
 
 pub slice_bounds-held-end : goal.slice_bounds-held-end
 slice_bounds-held-end c =
-    let done : Read c.args.text.now c.read_chart-read.new.out c.in-Done.count = let told = c.read_chart-read.ensures in read_told _ _ _ _ _ told.answered c.in-Done.is told.written in
+    let done : Read c.args.text.now c.read_chart-read.new.out c.in-Done.count = let told = c.read_chart-read.ensures in
+    read_told _ _ _ _ _ told.answered c.in-Done.is told.written in
     omega (arith, done.few, c.read_chart-read.auto.out)
 
 pub slice_bounds-records-end : goal.slice_bounds-records-end
 slice_bounds-records-end c =
-    let done : Read c.args.text.now c.read_chart-read.new.out c.in-Done.count = let told = c.read_chart-read.ensures in read_told _ _ _ _ _ told.answered c.in-Done.is told.written in
+    let done : Read c.args.text.now c.read_chart-read.new.out c.in-Done.count = let told = c.read_chart-read.ensures in
+    read_told _ _ _ _ _ told.answered c.in-Done.is told.written in
     sym (read-long _ _ _ done)
 
 pub too_many_rows-requires : goal.too_many_rows-requires
 too_many_rows-requires c =
-    let done : Read c.args.text.now c.read_chart-read.new.out c.in-Done.count = let told = c.read_chart-read.ensures in read_told _ _ _ _ _ told.answered c.in-Done.is told.written in
+    let done : Read c.args.text.now c.read_chart-read.new.out c.in-Done.count = let told = c.read_chart-read.ensures in
+    read_told _ _ _ _ _ told.answered c.in-Done.is told.written in
     read-ready _ _ _ done
 
 pub returns-then-too_many_rows : goal.returns-then-too_many_rows
 returns-then-too_many_rows c =
-    let done : Read c.args.text.now c.read_chart-read.new.out c.in-Done.count = let told = c.read_chart-read.ensures in read_told _ _ _ _ _ told.answered c.in-Done.is told.written in
+    let done : Read c.args.text.now c.read_chart-read.new.out c.in-Done.count = let told = c.read_chart-read.ensures in
+    read_told _ _ _ _ _ told.answered c.in-Done.is told.written in
     ap reply c.refused.ensures
     ∙ needed-wide _ _ _ done _ c.too_many_rows.ensures c.if-too_many_rows.true
 
 pub longest_chain-schemes-requires : goal.longest_chain-schemes-requires
 longest_chain-schemes-requires c =
-    let done : Read c.args.text.now c.read_chart-read.new.out c.in-Done.count = let told = c.read_chart-read.ensures in read_told _ _ _ _ _ told.answered c.in-Done.is told.written in
+    let done : Read c.args.text.now c.read_chart-read.new.out c.in-Done.count = let told = c.read_chart-read.ensures in
+    read_told _ _ _ _ _ told.answered c.in-Done.is told.written in
     read-ready _ _ _ done
 
 pub returns-then-schemes-eq0 : goal.returns-then-schemes-eq0
 returns-then-schemes-eq0 c =
-    let done : Read c.args.text.now c.read_chart-read.new.out c.in-Done.count = let told = c.read_chart-read.ensures in read_told _ _ _ _ _ told.answered c.in-Done.is told.written in
+    let done : Read c.args.text.now c.read_chart-read.new.out c.in-Done.count = let told = c.read_chart-read.ensures in
+    read_told _ _ _ _ _ told.answered c.in-Done.is told.written in
     ap reply c.refused-then-schemes-eq0.ensures
     ∙ needed-circle _ _ _ done _ c.too_many_rows.ensures c.if-too_many_rows.false
     _ c.longest_chain-schemes.ensures c.if-schemes-eq0.true
 
 pub returns : goal.returns
 returns c =
-    let done : Read c.args.text.now c.read_chart-read.new.out c.in-Done.count = let told = c.read_chart-read.ensures in read_told _ _ _ _ _ told.answered c.in-Done.is told.written in
+    let done : Read c.args.text.now c.read_chart-read.new.out c.in-Done.count = let told = c.read_chart-read.ensures in
+    read_told _ _ _ _ _ told.answered c.in-Done.is told.written in
     needed-done _ _ _ done _ c.too_many_rows.ensures c.if-too_many_rows.false
     _ c.longest_chain-schemes.ensures c.if-schemes-eq0.false

@@ -12,12 +12,14 @@ returns-then-words-gt65536 c = many-priced _ _ _ _ _ _ (search rules) _ c.refuse
 
 pub slice_bounds-price_of-end : goal.slice_bounds-price_of-end
 slice_bounds-price_of-end c =
-    let inside : c.count_of-n.result ≤ length c.run_bytes-answer.new.masks = counted-inside _ _ _ _ _ _ _ _ _ c.run_bytes-answer.ensures _ c.count_of-n.ensures in
+    let inside : c.count_of-n.result ≤ length c.run_bytes-answer.new.masks =
+    counted-inside _ _ _ _ _ _ _ _ _ c.run_bytes-answer.ensures _ c.count_of-n.ensures in
     inside
 
 pub slice_bounds-price_of-end-2 : goal.slice_bounds-price_of-end-2
 slice_bounds-price_of-end-2 c =
-    let inside : c.count_of-n.result ≤ length c.run_bytes-answer.new.masks = counted-inside _ _ _ _ _ _ _ _ _ c.run_bytes-answer.ensures _ c.count_of-n.ensures in
+    let inside : c.count_of-n.result ≤ length c.run_bytes-answer.new.masks =
+    counted-inside _ _ _ _ _ _ _ _ _ c.run_bytes-answer.ensures _ c.count_of-n.ensures in
     omega (arith, inside, length-take c.count_of-n.result c.run_bytes-answer.new.masks)
 
 pub price_of-price-requires : goal.price_of-price-requires

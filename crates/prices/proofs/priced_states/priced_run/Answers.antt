@@ -9,6 +9,7 @@ use Rattle.prices.proofs.priced_states.priced_run.Goals as goal
 pub returns : goal.returns
 returns c =
     let all-bits : length c.args.state.bits ≡ 16 = search rules in
-    let sized : Sized c.args.state = record { places = search rules; serving = search rules; numbers = search rules; servers = search rules } in
+    let sized : Sized c.args.state =
+    record { places = search rules; serving = search rules; numbers = search rules; servers = search rules } in
     value-priced _ sized all-bits _ c.bytes_of-bytes.ensures _ _ _ _ _ _ _ _ _ _ c.state_of-after.ensures
     c.priced_run_bytes-done.ensures

@@ -24,12 +24,14 @@ loop-f-init c = pass-start _ _ _ _ _ _ (few-frames _ c.requires.deciding.label.w
 
 pub is_matching-requires : goal.is_matching-requires
 is_matching-requires c =
-    let inside : c.loop-f.f < size c.args.table.now = omega (arith, end-within _ _ _ c.requires.deciding.label.whole c.end_of-end.ensures, c.loop-f-test.true) in
+    let inside : c.loop-f.f < size c.args.table.now =
+    omega (arith, end-within _ _ _ c.requires.deciding.label.whole c.end_of-end.ensures, c.loop-f-test.true) in
     inside
 
 pub skip_rows-f-requires : goal.skip_rows-f-requires
 skip_rows-f-requires c =
-    let inside : c.loop-f.f < size c.args.table.now = omega (arith, end-within _ _ _ c.requires.deciding.label.whole c.end_of-end.ensures, c.loop-f-test.true) in
+    let inside : c.loop-f.f < size c.args.table.now =
+    omega (arith, end-within _ _ _ c.requires.deciding.label.whole c.end_of-end.ensures, c.loop-f-test.true) in
     let whole = c.requires.deciding.label.whole in record {
       from_bound = omega (arith, inside, c.loop-f.invariant.table);
       end_bound = end-within _ _ _ whole c.end_of-end.ensures;
@@ -40,7 +42,8 @@ loop-f-smaller c = omega (arith, c.skip_rows-f.ensures.passed.on, c.loop-f-test.
 
 pub loop-f-preserved : goal.loop-f-preserved
 loop-f-preserved c =
-    let inside : c.loop-f.f < size c.args.table.now = omega (arith, end-within _ _ _ c.requires.deciding.label.whole c.end_of-end.ensures, c.loop-f-test.true) in
+    let inside : c.loop-f.f < size c.args.table.now =
+    omega (arith, end-within _ _ _ c.requires.deciding.label.whole c.end_of-end.ensures, c.loop-f-test.true) in
     let given = c.args in
     let on = PassedRows given.table.now given.l given.word given.bit c.first_of-f.result c.end_of-end.result (c.loop-f.f + 1) in
     let looked : on c.if-is_matching.found = elim c.if-is_matching.branch [

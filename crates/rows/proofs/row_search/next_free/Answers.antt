@@ -4,7 +4,8 @@ use Rattle.rows.proofs.SearchCases.{chosen-inside, next-taken}
 use Rattle.rows.proofs.row_search.next_free.Goals as goal
 
 pub next_in-requires : goal.next_in-requires
-next_in-requires c = chosen-inside _ _ _ _ c.requires.deciding.label (λ k. omega (arith, c.shared_slice_known-1.given k)) _ c.take_row-f.ensures
+next_in-requires c = chosen-inside _ _ _ _ c.requires.deciding.label (λ k. omega (arith, c.shared_slice_known-1.given k)) _
+    c.take_row-f.ensures
 
 pub returns : goal.returns
 returns c =

@@ -29,7 +29,8 @@ pub put_bytes-requires : goal.put_bytes-requires
 put_bytes-requires c =
     let long : length c.args.states.now ≡ 520 = bytes-long _ _ _ c.state_count-count.ensures _ c.bad_call.ensures c.if-bad_call.false in
     let low : c.args.spindle < 4 = bytes-named c.args.states.now _ _ c.state_count-count.ensures _ c.bad_call.ensures c.if-bad_call.false in
-    let full : 130 ≡ length c.live_turn_bytes-turned.new.bytes = part-full _ long _ low _ _ _ _ c.part_of-own.ensures c.live_turn_bytes-turned.ensures in
+    let full : 130 ≡ length c.live_turn_bytes-turned.new.bytes =
+    part-full _ long _ low _ _ _ _ c.part_of-own.ensures c.live_turn_bytes-turned.ensures in
     omega arith
 
 pub returns : goal.returns

@@ -5,7 +5,8 @@ use Rattle.spindles.proofs.turning.live_turn_bytes.Goals as goal
 
 pub returns-then-bad_record : goal.returns-then-bad_record
 returns-then-bad_record c =
-    record-refused _ (table-numbered c.args.table.now) _ _ _ _ _ (sym c.bad_record.ensures ∙ c.if-bad_record.true) c.live_refuse_head.ensures
+    record-refused _ (table-numbered c.args.table.now) _ _ _ _ _ (sym c.bad_record.ensures ∙ c.if-bad_record.true)
+    c.live_refuse_head.ensures
 
 pub settle-requires : goal.settle-requires
 settle-requires c =

@@ -25,22 +25,26 @@ skip_below-f-requires c = (c.loop-l.invariant.inside, omega (arith, notes-length
 
 pub overflow_cast-table : goal.overflow_cast-table
 overflow_cast-table c =
-    let small : c.skip_below-f.result < 65536 = let bytes = c.slice_known-1 in notes-small _ c.requires c.loop-l.invariant refl c.skip_below-f.ensures (omega (arith, bytes.given 2)) in
+    let small : c.skip_below-f.result < 65536 = let bytes = c.slice_known-1 in
+    notes-small _ c.requires c.loop-l.invariant refl c.skip_below-f.ensures (omega (arith, bytes.given 2)) in
     omega (arith, small)
 
 pub bounds-table-at : goal.bounds-table-at
 bounds-table-at c =
-    let inside : 10 * (1 + c.byte.result + c.loop-l.l) + 1 < length c.loop-l.table = notes-place _ c.requires c.loop-l.invariant _ _ c.byte.ensures refl (omega (arith, c.byte-last.ensures)) in
+    let inside : 10 * (1 + c.byte.result + c.loop-l.l) + 1 < length c.loop-l.table =
+    notes-place _ c.requires c.loop-l.invariant _ _ c.byte.ensures refl (omega (arith, c.byte-last.ensures)) in
     omega (arith, inside)
 
 pub overflow_cast-table-in-loop-l : goal.overflow_cast-table-in-loop-l
 overflow_cast-table-in-loop-l c =
-    let small : c.skip_below-f.result < 65536 = let bytes = c.slice_known-1 in notes-small _ c.requires c.loop-l.invariant refl c.skip_below-f.ensures (omega (arith, bytes.given 2)) in
+    let small : c.skip_below-f.result < 65536 = let bytes = c.slice_known-1 in
+    notes-small _ c.requires c.loop-l.invariant refl c.skip_below-f.ensures (omega (arith, bytes.given 2)) in
     omega (arith, small)
 
 pub bounds-table-at-in-loop-l : goal.bounds-table-at-in-loop-l
 bounds-table-at-in-loop-l c =
-    let inside : 10 * (1 + c.byte.result + c.loop-l.l) + 1 < length c.loop-l.table = notes-place _ c.requires c.loop-l.invariant _ _ c.byte.ensures refl (omega (arith, c.byte-last.ensures)) in
+    let inside : 10 * (1 + c.byte.result + c.loop-l.l) + 1 < length c.loop-l.table =
+    notes-place _ c.requires c.loop-l.invariant _ _ c.byte.ensures refl (omega (arith, c.byte-last.ensures)) in
     simp length-set (omega (arith, inside))
 
 pub loop-l-preserved : goal.loop-l-preserved

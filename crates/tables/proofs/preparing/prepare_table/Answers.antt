@@ -17,23 +17,27 @@ returns-in_default c =
 pub slice_bounds-note_rows-end : goal.slice_bounds-note_rows-end
 slice_bounds-note_rows-end c =
     let text : List ℕ = c.args.text.now in
-    let accepted : image_verdict text ≡ fine = (done-fine c.read_image-answer.result _ 0 c.read_image-answer.ensures.result_value _ c.in-Done.is).0 in
+    let accepted : image_verdict text ≡ fine =
+    (done-fine c.read_image-answer.result _ 0 c.read_image-answer.ensures.result_value _ c.in-Done.is).0 in
     omega (arith, frames-few text accepted, c.read_image-answer.auto.table, c.requires)
 
 pub slice_bounds-note_rows-end-2 : goal.slice_bounds-note_rows-end-2
 slice_bounds-note_rows-end-2 c =
     let text : List ℕ = c.args.text.now in
-    let accepted : image_verdict text ≡ fine = (done-fine c.read_image-answer.result _ 0 c.read_image-answer.ensures.result_value _ c.in-Done.is).0 in
+    let accepted : image_verdict text ≡ fine =
+    (done-fine c.read_image-answer.result _ 0 c.read_image-answer.ensures.result_value _ c.in-Done.is).0 in
     read_length text accepted _ _ c.read_image-answer.ensures.table_after
 
 pub note_rows-requires : goal.note_rows-requires
 note_rows-requires c =
     let text : List ℕ = c.args.text.now in
-    let accepted : image_verdict text ≡ fine = (done-fine c.read_image-answer.result _ 0 c.read_image-answer.ensures.result_value _ c.in-Done.is).0 in
+    let accepted : image_verdict text ≡ fine =
+    (done-fine c.read_image-answer.result _ 0 c.read_image-answer.ensures.result_value _ c.in-Done.is).0 in
     read-accepted text accepted _ _ c.read_image-answer.ensures.table_after
 
 pub returns : goal.returns
 returns c =
     let text : List ℕ = c.args.text.now in
-    let accepted : image_verdict text ≡ fine = (done-fine c.read_image-answer.result _ 0 c.read_image-answer.ensures.result_value _ c.in-Done.is).0 in
+    let accepted : image_verdict text ≡ fine =
+    (done-fine c.read_image-answer.result _ 0 c.read_image-answer.ensures.result_value _ c.in-Done.is).0 in
     table-noted text accepted _ _ c.read_image-answer.ensures.table_after _ c.note_rows.ensures

@@ -10,12 +10,14 @@ loop-k-init c = stored-none _ _ _
 
 pub loop-k-preserved : goal.loop-k-preserved
 loop-k-preserved c =
-    let value : (k : ℕ) → k < 11 → get_or c.values_of-values.result k 0 ≡ stored c.args.text.now c.args.f k = λ k h. values-at _ _ _ c.read_digits-read.ensures _ c.values_of-values.ensures k h in
+    let value : (k : ℕ) → k < 11 → get_or c.values_of-values.result k 0 ≡ stored c.args.text.now c.args.f k =
+    λ k h. values-at _ _ _ c.read_digits-read.ensures _ c.values_of-values.ensures k h in
     stored-turn _ _ _ _ _ _ c.loop-k.invariant _ (search rules) (search rules) (value _ (search rules))
 
 pub returns : goal.returns
 returns c =
-    let value : (k : ℕ) → k < 11 → get_or c.values_of-values.result k 0 ≡ stored c.args.text.now c.args.f k = λ k h. values-at _ _ _ c.read_digits-read.ensures _ c.values_of-values.ensures k h in
+    let value : (k : ℕ) → k < 11 → get_or c.values_of-values.result k 0 ≡ stored c.args.text.now c.args.f k =
+    λ k h. values-at _ _ _ c.read_digits-read.ensures _ c.values_of-values.ensures k h in
     record {
       form = form-end _ _ _ c.read_digits-read.ensures;
       sum = sum-end _ _ _ _ _ _ c.loop-k.invariant (search rules) _ (value 10 (search rules));

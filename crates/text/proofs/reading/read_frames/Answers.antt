@@ -12,14 +12,22 @@ loop-f-init c = frames-none _ _ _
 pub loop-f-preserved-then-faults-2 : goal.loop-f-preserved-then-faults-2
 loop-f-preserved-then-faults-2 c =
     let form : c.if-faults.form ≡ pick c.read_frame-faults.result.form (c.loop-f.f - 1) c.loop-f.form =
-    elim c.if-faults.branch [ then-faults w ↦ w.form-is ∙ sym (yes-pick _ _ _ w.if-faults.true) | else-faults w ↦ w.form-is ∙ sym (no-pick _ _ _ w.if-faults.false) ] in
+    elim c.if-faults.branch [
+      | then-faults w ↦ w.form-is ∙ sym (yes-pick _ _ _ w.if-faults.true)
+      | else-faults w ↦ w.form-is ∙ sym
+          (no-pick _ _ _ w.if-faults.false)
+    ] in
     frames-turn _ _ _ _ _ _ _ c.loop-f.invariant _ _ _ _ (search rules) (search rules) c.read_frame-faults.ensures (search rules)
     form (sym (yes-pick _ _ _ c.if-faults-2.true))
 
 pub loop-f-preserved : goal.loop-f-preserved
 loop-f-preserved c =
     let form : c.if-faults.form ≡ pick c.read_frame-faults.result.form (c.loop-f.f - 1) c.loop-f.form =
-    elim c.if-faults.branch [ then-faults w ↦ w.form-is ∙ sym (yes-pick _ _ _ w.if-faults.true) | else-faults w ↦ w.form-is ∙ sym (no-pick _ _ _ w.if-faults.false) ] in
+    elim c.if-faults.branch [
+      | then-faults w ↦ w.form-is ∙ sym (yes-pick _ _ _ w.if-faults.true)
+      | else-faults w ↦ w.form-is ∙ sym
+          (no-pick _ _ _ w.if-faults.false)
+    ] in
     frames-turn _ _ _ _ _ _ _ c.loop-f.invariant _ _ _ _ (search rules) (search rules) c.read_frame-faults.ensures (search rules)
     form (sym (no-pick _ _ _ c.if-faults-2.false))
 

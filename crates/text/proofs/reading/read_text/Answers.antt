@@ -1,7 +1,8 @@
 -- `text::reading::read_text` meets its contract: each return is a way through the chain of verdicts.
 use Rattle.std.proofs.Common.{◌≡◌, ◌∙◌, sym, length, false}
 use Rattle.text.specs.frames.Check.{is_bad_length, text_verdict}
-use Rattle.text.proofs.frames.Chains.{when-holds, when-fails, lowest-refused, lowest-fine, next-refused, next-on, refused-judged, judged-fine}
+use Rattle.text.proofs.frames.Chains.{when-holds, when-fails, lowest-refused, lowest-fine, next-refused, next-on, refused-judged}
+use Rattle.text.proofs.frames.Chains.{judged-fine}
 use Rattle.text.proofs.reading.Buffers.{read_none, read_all}
 use Rattle.text.proofs.reading.read_text.Goals as goal
 
@@ -43,7 +44,8 @@ returns c =
     let good : is_bad_length 23 c.args.most (length c.args.text.now) ≡ false = sym c.bad_length.ensures ∙ c.if-bad_length.false in
     let found = c.read_frames-found.ensures in
     record {
-      result_value = judged-fine _ _ (next-on _ _ (when-fails _ _ good) ∙ next-on _ _ (lowest-fine _ _ _ _ found.form c.if-form-frames.false)
+      result_value = judged-fine _ _ (next-on _ _ (when-fails _ _ good) ∙ next-on _ _
+          (lowest-fine _ _ _ _ found.form c.if-form-frames.false)
           ∙ lowest-fine _ _ _ _ found.sum c.if-sum-frames.false);
       out_after = read_all _ _ _ good _ found.buffer;
     }

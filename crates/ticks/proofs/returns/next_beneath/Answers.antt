@@ -19,23 +19,37 @@ place_of-l-requires c =
 pub returns-then-l-lt2 : goal.returns-then-l-lt2
 returns-then-l-lt2 c =
     let state : State = state_of c.args.bytes.now in
-    let under-read : c.place_of-l.result ≡ place_at state (state.depth - 2) = c.place_of-l.ensures ∙ ap (λ (n : ℕ). place_at state (n - 2)) c.depth_of.ensures in
+    let under-read : c.place_of-l.result ≡ place_at state (state.depth - 2) =
+    c.place_of-l.ensures ∙ ap (λ (n : ℕ). place_at state (n - 2)) c.depth_of.ensures in
     beneath-low _ state _ _ under-read (omega (arith, c.if-l-lt2.true))
 
 pub returns-then-last-l : goal.returns-then-last-l
 returns-then-last-l c =
     let state : State = state_of c.args.bytes.now in
-    let under-read : c.place_of-l.result ≡ place_at state (state.depth - 2) = c.place_of-l.ensures ∙ ap (λ (n : ℕ). place_at state (n - 2)) c.depth_of.ensures in
+    let under-read : c.place_of-l.result ≡ place_at state (state.depth - 2) =
+    c.place_of-l.ensures ∙ ap (λ (n : ℕ). place_at state (n - 2)) c.depth_of.ensures in
     beneath-high _ state _ _ under-read (omega (arith, c.requires.header.last, c.if-last-l.true))
 
 pub label_read-label-requires : goal.label_read-label-requires
 label_read-label-requires c =
-    let numbered : NumberedLabel c.args.table.now c.place_of-l.result = record { whole = c.requires.top_back.top.stands.whole; low = omega (arith, c.if-l-lt2.false); high = omega (arith, c.requires.header.last, c.if-last-l.false) } in
+    let numbered : NumberedLabel c.args.table.now c.place_of-l.result =
+    record {
+      whole = c.requires.top_back.top.stands.whole;
+      low = omega (arith, c.if-l-lt2.false);
+      high = omega
+          (arith, c.requires.header.last, c.if-last-l.false);
+    } in
     record { label = numbered; schemes = c.requires.header.schemes }
 
 pub next_row-requires : goal.next_row-requires
 next_row-requires c =
-    let numbered : NumberedLabel c.args.table.now c.place_of-l.result = record { whole = c.requires.top_back.top.stands.whole; low = omega (arith, c.if-l-lt2.false); high = omega (arith, c.requires.header.last, c.if-last-l.false) } in
+    let numbered : NumberedLabel c.args.table.now c.place_of-l.result =
+    record {
+      whole = c.requires.top_back.top.stands.whole;
+      low = omega (arith, c.if-l-lt2.false);
+      high = omega
+          (arith, c.requires.header.last, c.if-last-l.false);
+    } in
     let state : State = state_of c.args.bytes.now in record {
       deciding = bit-decides _ _ _ c.label_read-label.ensures state.bits _ _ c.bit_of-bit.ensures numbered;
       schemes_value = c.requires.header.schemes;
@@ -43,8 +57,15 @@ next_row-requires c =
 
 pub returns : goal.returns
 returns c =
-    let numbered : NumberedLabel c.args.table.now c.place_of-l.result = record { whole = c.requires.top_back.top.stands.whole; low = omega (arith, c.if-l-lt2.false); high = omega (arith, c.requires.header.last, c.if-last-l.false) } in
+    let numbered : NumberedLabel c.args.table.now c.place_of-l.result =
+    record {
+      whole = c.requires.top_back.top.stands.whole;
+      low = omega (arith, c.if-l-lt2.false);
+      high = omega
+          (arith, c.requires.header.last, c.if-last-l.false);
+    } in
     let state : State = state_of c.args.bytes.now in
-    let under-read : c.place_of-l.result ≡ place_at state (state.depth - 2) = c.place_of-l.ensures ∙ ap (λ (n : ℕ). place_at state (n - 2)) c.depth_of.ensures in
+    let under-read : c.place_of-l.result ≡ place_at state (state.depth - 2) =
+    c.place_of-l.ensures ∙ ap (λ (n : ℕ). place_at state (n - 2)) c.depth_of.ensures in
     beneath-row _ state _ _ under-read numbered _ c.label_read-label.ensures _
     c.bit_of-bit.ensures _ c.next_row.ensures

@@ -13,31 +13,43 @@ bounds-begins-scheme c =
 
 pub overflow_cast-v-2 : goal.overflow_cast-v-2
 overflow_cast-v-2 c =
-    let noted : let a = c.args in get_or a.begins.now a.scheme 0 ≡ begin a.records.now a.scheme = c.requires.begun.at c.args.scheme c.requires.of_scheme.low c.requires.of_scheme.high in
+    let noted : let a = c.args in
+    get_or a.begins.now a.scheme 0 ≡ begin a.records.now a.scheme =
+    c.requires.begun.at c.args.scheme c.requires.of_scheme.low c.requires.of_scheme.high in
     let ready = c.requires.of_scheme.chart.ready in
     omega (arith, noted, ((ready-facts ready).begins c.args.scheme c.requires.of_scheme.low c.requires.of_scheme.high).0, ready.few)
 
 pub bounds-labels-v : goal.bounds-labels-v
 bounds-labels-v c =
-    let noted : let a = c.args in get_or a.begins.now a.scheme 0 ≡ begin a.records.now a.scheme = c.requires.begun.at c.args.scheme c.requires.of_scheme.low c.requires.of_scheme.high in
+    let noted : let a = c.args in
+    get_or a.begins.now a.scheme 0 ≡ begin a.records.now a.scheme =
+    c.requires.begun.at c.args.scheme c.requires.of_scheme.low c.requires.of_scheme.high in
     entry_read c.requires.of_scheme noted
 
 pub returns-then-own-ge2 : goal.returns-then-own-ge2
 returns-then-own-ge2 c =
-    let noted : let a = c.args in get_or a.begins.now a.scheme 0 ≡ begin a.records.now a.scheme = c.requires.begun.at c.args.scheme c.requires.of_scheme.low c.requires.of_scheme.high in
+    let noted : let a = c.args in
+    get_or a.begins.now a.scheme 0 ≡ begin a.records.now a.scheme =
+    c.requires.begun.at c.args.scheme c.requires.of_scheme.low c.requires.of_scheme.high in
     entry-own c.requires.of_scheme noted (omega arith)
 
 pub field-requires : goal.field-requires
 field-requires c =
-    let noted : let a = c.args in get_or a.begins.now a.scheme 0 ≡ begin a.records.now a.scheme = c.requires.begun.at c.args.scheme c.requires.of_scheme.low c.requires.of_scheme.high in
+    let noted : let a = c.args in
+    get_or a.begins.now a.scheme 0 ≡ begin a.records.now a.scheme =
+    c.requires.begun.at c.args.scheme c.requires.of_scheme.low c.requires.of_scheme.high in
     entry-field c.requires.of_scheme noted
 
 pub bounds-labels-field : goal.bounds-labels-field
 bounds-labels-field c =
-    let noted : let a = c.args in get_or a.begins.now a.scheme 0 ≡ begin a.records.now a.scheme = c.requires.begun.at c.args.scheme c.requires.of_scheme.low c.requires.of_scheme.high in
+    let noted : let a = c.args in
+    get_or a.begins.now a.scheme 0 ≡ begin a.records.now a.scheme =
+    c.requires.begun.at c.args.scheme c.requires.of_scheme.low c.requires.of_scheme.high in
     entry_next c.requires.of_scheme noted _ c.field.ensures
 
 pub returns : goal.returns
 returns c =
-    let noted : let a = c.args in get_or a.begins.now a.scheme 0 ≡ begin a.records.now a.scheme = c.requires.begun.at c.args.scheme c.requires.of_scheme.low c.requires.of_scheme.high in
+    let noted : let a = c.args in
+    get_or a.begins.now a.scheme 0 ≡ begin a.records.now a.scheme =
+    c.requires.begun.at c.args.scheme c.requires.of_scheme.low c.requires.of_scheme.high in
     entry_other c.requires.of_scheme noted c.if-own-ge2.false _ c.field.ensures

@@ -11,7 +11,9 @@ abbrev pub decreases-put_forks : goal.decreases-put_forks
 decreases-put_forks l = rank l.records.now l.node
 
 abbrev pub invariant-loop-out : goal.invariant-loop-out
-invariant-loop-out l = PutAlong l.records l.notes (rows_bytes (paths_from (size l.records) l.records l.from l.bit l.care l.values l.node)) l.initial.out l.out l.at l.place l.from l.bit
+invariant-loop-out l =
+    PutAlong l.records l.notes (rows_bytes (paths_from (size l.records) l.records l.from l.bit l.care l.values l.node)) l.initial.out l.out
+    l.at l.place l.from l.bit
     (rank l.records l.node) l.tested l.valued l.next
 
 abbrev pub decreases-loop-out : goal.decreases-loop-out

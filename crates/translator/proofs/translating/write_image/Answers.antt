@@ -9,12 +9,14 @@ use Rattle.translator.proofs.translating.write_image.Goals as goal
 
 pub overflow_add-highest-2 : goal.overflow_add-highest-2
 overflow_add-highest-2 c =
-    let small : c.note_nodes-own.result + 2 ≤ 256 = let ready = c.requires.ready in omega (arith, few-numbered _ (ready-facts ready), ready.few, c.note_nodes-own.ensures.0) in
+    let small : c.note_nodes-own.result + 2 ≤ 256 = let ready = c.requires.ready in
+    omega (arith, few-numbered _ (ready-facts ready), ready.few, c.note_nodes-own.ensures.0) in
     omega (arith, small)
 
 pub size_refusal-number-requires : goal.size_refusal-number-requires
 size_refusal-number-requires c =
-    let small : c.note_nodes-own.result + 2 ≤ 256 = let ready = c.requires.ready in omega (arith, few-numbered _ (ready-facts ready), ready.few, c.note_nodes-own.ensures.0) in record {
+    let small : c.note_nodes-own.result + 2 ≤ 256 = let ready = c.requires.ready in
+    omega (arith, few-numbered _ (ready-facts ready), ready.few, c.note_nodes-own.ensures.0) in record {
       noted = c.note_nodes-own.ensures.1;
       before_bound = omega (arith, small, c.well_formed.1.0);
     }

@@ -17,4 +17,8 @@ returns-in_default c =
     let v = c.args.v in
     c.bad_target.ensures ∙ ap (is_bad_target records v) c.field-in_default.ensures
     ∙ single-arc records v _ c.field.ensures (λ e. omega arith)
-    (elim c.in_default.branch [ in_default-via-then-this-lt3 w ↦ inl (omega arith) | in_default-via-else-this-lt3+else-this-lt5 w ↦ inr (omega arith) ])
+    (elim c.in_default.branch [
+      | in_default-via-then-this-lt3 w ↦ inl (omega arith)
+      | in_default-via-else-this-lt3+else-this-lt5 w ↦ inr
+          (omega arith)
+    ])

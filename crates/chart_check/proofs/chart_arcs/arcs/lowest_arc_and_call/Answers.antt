@@ -14,13 +14,21 @@ loop-v-init c = downward-none _ _ _
 pub loop-v-preserved-then-bad_call : goal.loop-v-preserved-then-bad_call
 loop-v-preserved-then-bad_call c =
     let arc-set : c.if-bad_arc.arc ≡ pick c.bad_arc.result (c.loop-v.v - 1) c.loop-v.arc =
-    elim c.if-bad_arc.branch [ then-bad_arc w ↦ w.arc-is ∙ sym (yes-pick _ _ _ w.if-bad_arc.true) | else-bad_arc w ↦ w.arc-is ∙ sym (no-pick _ _ _ w.if-bad_arc.false) ] in
+    elim c.if-bad_arc.branch [
+      | then-bad_arc w ↦ w.arc-is ∙ sym (yes-pick _ _ _ w.if-bad_arc.true)
+      | else-bad_arc w ↦ w.arc-is ∙ sym
+          (no-pick _ _ _ w.if-bad_arc.false)
+    ] in
     downward-turn _ _ _ _ _ _ c.loop-v.invariant _ _ _ _ (search rules) c.bad_arc.ensures c.bad_call.ensures
     arc-set (sym (yes-pick _ _ _ c.if-bad_call.true))
 
 pub loop-v-preserved : goal.loop-v-preserved
 loop-v-preserved c =
     let arc-set : c.if-bad_arc.arc ≡ pick c.bad_arc.result (c.loop-v.v - 1) c.loop-v.arc =
-    elim c.if-bad_arc.branch [ then-bad_arc w ↦ w.arc-is ∙ sym (yes-pick _ _ _ w.if-bad_arc.true) | else-bad_arc w ↦ w.arc-is ∙ sym (no-pick _ _ _ w.if-bad_arc.false) ] in
+    elim c.if-bad_arc.branch [
+      | then-bad_arc w ↦ w.arc-is ∙ sym (yes-pick _ _ _ w.if-bad_arc.true)
+      | else-bad_arc w ↦ w.arc-is ∙ sym
+          (no-pick _ _ _ w.if-bad_arc.false)
+    ] in
     downward-turn _ _ _ _ _ _ c.loop-v.invariant _ _ _ _ (search rules) c.bad_arc.ensures c.bad_call.ensures
     arc-set (sym (no-pick _ _ _ c.if-bad_call.false))

@@ -8,7 +8,8 @@ use Rattle.chart_check.proofs.chart_counts.counts.count_node.Goals as goal
 pub bounds-counts-scheme : goal.bounds-counts-scheme
 bounds-counts-scheme c =
     let low : c.field-scheme.result < 17 = omega (arith, c.field-scheme.ensures, c.requires.low) in
-    let within : c.field-scheme.result < length c.args.counts.now = let a = c.args in omega (arith, low, counts-long a.records.now a.kind a.v _ c.requires.counted) in
+    let within : c.field-scheme.result < length c.args.counts.now = let a = c.args in
+    omega (arith, low, counts-long a.records.now a.kind a.v _ c.requires.counted) in
     within
 
 pub overflow_add-counts : goal.overflow_add-counts
@@ -21,7 +22,8 @@ overflow_add-counts c =
 pub bounds-counts-scheme-then-field-kind : goal.bounds-counts-scheme-then-field-kind
 bounds-counts-scheme-then-field-kind c =
     let low : c.field-scheme.result < 17 = omega (arith, c.field-scheme.ensures, c.requires.low) in
-    let within : c.field-scheme.result < length c.args.counts.now = let a = c.args in omega (arith, low, counts-long a.records.now a.kind a.v _ c.requires.counted) in
+    let within : c.field-scheme.result < length c.args.counts.now = let a = c.args in
+    omega (arith, low, counts-long a.records.now a.kind a.v _ c.requires.counted) in
     within
 
 pub returns-then-field-kind : goal.returns-then-field-kind

@@ -5,7 +5,8 @@ use Rattle.text.specs.frames.Frame.{size}
 use Rattle.charts.specs.Chart.{handler_at, handler}
 use Rattle.chart_check.proofs.chart_handler.HandlerLoops.{handler-mark, handler-pass}
 use Rattle.chart_check.proofs.chart_handler.handlers.handler_scheme.Goals as goal
-use Rattle.chart_check.proofs.chart_handler.handlers.handler_scheme.Goals.{then-marks_handler+then-highest-scheme, then-marks_handler+else-highest-scheme, else-marks_handler}
+use Rattle.chart_check.proofs.chart_handler.handlers.handler_scheme.Goals.{then-marks_handler+then-highest-scheme}
+use Rattle.chart_check.proofs.chart_handler.handlers.handler_scheme.Goals.{then-marks_handler+else-highest-scheme, else-marks_handler}
 
 pub loop-v-init : goal.loop-v-init
 unfolding highest

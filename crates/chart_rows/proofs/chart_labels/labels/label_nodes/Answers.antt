@@ -23,7 +23,8 @@ label_of-label-requires c =
 pub loop-v-preserved : goal.loop-v-preserved
 loop-v-preserved c =
     labelling-on _ _ _ _ _ c.requires.records_in_bounds c.loop-v.invariant (search rules) _
-    c.label_of-label.ensures _ (elim c.if-label-ge2.branch [ then-label-ge2 w ↦ inl (w.if-label-ge2.true, w.own-is) | else-label-ge2 w ↦ inr (w.if-label-ge2.false, w.own-is) ])
+    c.label_of-label.ensures _ (elim c.if-label-ge2.branch
+    [ then-label-ge2 w ↦ inl (w.if-label-ge2.true, w.own-is) | else-label-ge2 w ↦ inr (w.if-label-ge2.false, w.own-is) ])
 
 pub shape_of-labels : goal.shape_of-labels
 shape_of-labels c = c.loop-v.invariant.long

@@ -8,14 +8,16 @@ pub overflow_add-result : goal.overflow_add-result
 overflow_add-result c =
     omega (
       arith,
-      own-small _ c.requires.beside.ready _ _ c.requires.beside.inside c.requires.own_value (sym c.is_numbered.ensures ∙ c.if-is_numbered.true),
+      own-small _ c.requires.beside.ready _ _ c.requires.beside.inside c.requires.own_value
+          (sym c.is_numbered.ensures ∙ c.if-is_numbered.true),
     )
 
 pub overflow_cast-result : goal.overflow_cast-result
 overflow_cast-result c =
     omega (
       arith,
-      own-small _ c.requires.beside.ready _ _ c.requires.beside.inside c.requires.own_value (sym c.is_numbered.ensures ∙ c.if-is_numbered.true),
+      own-small _ c.requires.beside.ready _ _ c.requires.beside.inside c.requires.own_value
+          (sym c.is_numbered.ensures ∙ c.if-is_numbered.true),
     )
 
 pub returns-then-is_numbered : goal.returns-then-is_numbered

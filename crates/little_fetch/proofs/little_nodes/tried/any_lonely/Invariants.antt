@@ -7,4 +7,5 @@ use Rattle.little_charts.specs.little_search.inner.Search.{is_lonely}
 use Rattle.little_fetch.proofs.little_nodes.tried.any_lonely.Given as goal
 
 abbrev pub invariant-loop-v : goal.invariant-loop-v
-invariant-loop-v l = (l.v ≤ l.n) × (l.n ≡ size l.records) × (any (is_lonely l.records) l.v (l.n - l.v) ≡ any (is_lonely l.records) 0 (size l.records))
+invariant-loop-v l = (l.v ≤ l.n) × (l.n ≡ size l.records) ×
+    (any (is_lonely l.records) l.v (l.n - l.v) ≡ any (is_lonely l.records) 0 (size l.records))

@@ -13,24 +13,34 @@ use Rattle.places.proofs.chains.calls.note_call.Goals as goal
 
 pub overflow_shl-masks : goal.overflow_shl-masks
 overflow_shl-masks c =
-    let low : (c.field-scheme.result < 17) × (c.called_at-called.result < 17) = let p = c.requires in let l = call-low _ _ _ c.called_at-called.ensures (ready-facts p.ready) p.inside c.if-called-ne0.true in (omega (arith, l, c.field-scheme.ensures), l.1) in
+    let low : (c.field-scheme.result < 17) × (c.called_at-called.result < 17) = let p = c.requires in
+    let l = call-low _ _ _ c.called_at-called.ensures (ready-facts p.ready) p.inside c.if-called-ne0.true in
+    (omega (arith, l, c.field-scheme.ensures), l.1) in
     omega (arith, low)
 
 pub bounds-masks-scheme : goal.bounds-masks-scheme
 bounds-masks-scheme c =
-    let low : (c.field-scheme.result < 17) × (c.called_at-called.result < 17) = let p = c.requires in let l = call-low _ _ _ c.called_at-called.ensures (ready-facts p.ready) p.inside c.if-called-ne0.true in (omega (arith, l, c.field-scheme.ensures), l.1) in
-    let within : c.field-scheme.result < length c.args.masks.now = omega (arith, low, masks-long c.args.records.now c.args.v _ c.requires.noted) in
+    let low : (c.field-scheme.result < 17) × (c.called_at-called.result < 17) = let p = c.requires in
+    let l = call-low _ _ _ c.called_at-called.ensures (ready-facts p.ready) p.inside c.if-called-ne0.true in
+    (omega (arith, l, c.field-scheme.ensures), l.1) in
+    let within : c.field-scheme.result < length c.args.masks.now =
+    omega (arith, low, masks-long c.args.records.now c.args.v _ c.requires.noted) in
     within
 
 pub bounds-masks-scheme-then-called-ne0 : goal.bounds-masks-scheme-then-called-ne0
 bounds-masks-scheme-then-called-ne0 c =
-    let low : (c.field-scheme.result < 17) × (c.called_at-called.result < 17) = let p = c.requires in let l = call-low _ _ _ c.called_at-called.ensures (ready-facts p.ready) p.inside c.if-called-ne0.true in (omega (arith, l, c.field-scheme.ensures), l.1) in
-    let within : c.field-scheme.result < length c.args.masks.now = omega (arith, low, masks-long c.args.records.now c.args.v _ c.requires.noted) in
+    let low : (c.field-scheme.result < 17) × (c.called_at-called.result < 17) = let p = c.requires in
+    let l = call-low _ _ _ c.called_at-called.ensures (ready-facts p.ready) p.inside c.if-called-ne0.true in
+    (omega (arith, l, c.field-scheme.ensures), l.1) in
+    let within : c.field-scheme.result < length c.args.masks.now =
+    omega (arith, low, masks-long c.args.records.now c.args.v _ c.requires.noted) in
     within
 
 pub returns-then-called-ne0 : goal.returns-then-called-ne0
 returns-then-called-ne0 c =
-    let low : (c.field-scheme.result < 17) × (c.called_at-called.result < 17) = let p = c.requires in let l = call-low _ _ _ c.called_at-called.ensures (ready-facts p.ready) p.inside c.if-called-ne0.true in (omega (arith, l, c.field-scheme.ensures), l.1) in
+    let low : (c.field-scheme.result < 17) × (c.called_at-called.result < 17) = let p = c.requires in
+    let l = call-low _ _ _ c.called_at-called.ensures (ready-facts p.ready) p.inside c.if-called-ne0.true in
+    (omega (arith, l, c.field-scheme.ensures), l.1) in
     let call = call-some c.args.records.now c.args.v _ c.called_at-called.ensures c.if-called-ne0.true in
     let k = c.called_at-called.result in
     ap (λ (x : ℕ). set c.args.masks.now c.field-scheme.result (bit_or (get_or c.args.masks.now c.field-scheme.result 0) x))

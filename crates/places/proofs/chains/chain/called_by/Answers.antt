@@ -14,7 +14,11 @@ pub loop-g-preserved : goal.loop-g-preserved
 loop-g-preserved c =
     let held = c.loop-g.invariant in (
       search rules,
-      elim c.if-set-g-eq1.branch [ then-set-g-eq1 w ↦ w.called-is ∙ called-yes _ _ _ _ held.1 w.if-set-g-eq1.true | else-set-g-eq1 w ↦ w.called-is ∙ called-no _ _ _ _ held.1 w.if-set-g-eq1.false ],
+      elim c.if-set-g-eq1.branch [
+        | then-set-g-eq1 w ↦ w.called-is ∙ called-yes _ _ _ _ held.1 w.if-set-g-eq1.true
+        | else-set-g-eq1 w ↦
+            w.called-is ∙ called-no _ _ _ _ held.1 w.if-set-g-eq1.false
+      ],
     )
 
 pub returns : goal.returns

@@ -14,20 +14,28 @@ returns-in_default c =
 
 pub slice_bounds-table-end : goal.slice_bounds-table-end
 slice_bounds-table-end c =
-    let made : let p = c.prepare_table-answer in let t = c.args.image.now in MadeTable t (take (10 * frame_count t) p.new.table) = let p = c.prepare_table-answer in image-made _ _ _ p.result p.ensures _ c.in-Done.is in
+    let made : let p = c.prepare_table-answer in let t = c.args.image.now in
+    MadeTable t (take (10 * frame_count t) p.new.table) = let p = c.prepare_table-answer in
+    image-made _ _ _ p.result p.ensures _ c.in-Done.is in
     omega (arith, made.few, c.prepare_table-answer.auto.table)
 
 pub slice_bounds-run_table-end : goal.slice_bounds-run_table-end
 slice_bounds-run_table-end c =
-    let made : let p = c.prepare_table-answer in let t = c.args.image.now in MadeTable t (take (10 * frame_count t) p.new.table) = let p = c.prepare_table-answer in image-made _ _ _ p.result p.ensures _ c.in-Done.is in
+    let made : let p = c.prepare_table-answer in let t = c.args.image.now in
+    MadeTable t (take (10 * frame_count t) p.new.table) = let p = c.prepare_table-answer in
+    image-made _ _ _ p.result p.ensures _ c.in-Done.is in
     made.long
 
 pub run_table-requires : goal.run_table-requires
 run_table-requires c =
-    let made : let p = c.prepare_table-answer in let t = c.args.image.now in MadeTable t (take (10 * frame_count t) p.new.table) = let p = c.prepare_table-answer in image-made _ _ _ p.result p.ensures _ c.in-Done.is in
+    let made : let p = c.prepare_table-answer in let t = c.args.image.now in
+    MadeTable t (take (10 * frame_count t) p.new.table) = let p = c.prepare_table-answer in
+    image-made _ _ _ p.result p.ensures _ c.in-Done.is in
     made.whole
 
 pub returns : goal.returns
 returns c =
-    let made : let p = c.prepare_table-answer in let t = c.args.image.now in MadeTable t (take (10 * frame_count t) p.new.table) = let p = c.prepare_table-answer in image-made _ _ _ p.result p.ensures _ c.in-Done.is in
+    let made : let p = c.prepare_table-answer in let t = c.args.image.now in
+    MadeTable t (take (10 * frame_count t) p.new.table) = let p = c.prepare_table-answer in
+    image-made _ _ _ p.result p.ensures _ c.in-Done.is in
     image-runs _ _ _ made _ _ _ _ _ _ _ c.run_table.ensures

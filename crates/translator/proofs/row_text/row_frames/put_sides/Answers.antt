@@ -12,19 +12,46 @@ use Rattle.translator.proofs.row_text.row_frames.put_sides.Goals as goal
 
 pub put_paths-mid-requires : goal.put_paths-mid-requires
 put_paths-mid-requires c =
-    let sided : (let a = c.args in let from = get_or a.notes.now a.v 0 in let n = size a.records.now in Parted (rows_bytes (sides a.records.now (label a.records.now a.v) a.first a.second a.care a.values a.v)) (rows_bytes (paths_from n a.records.now from a.first a.care 0 c.field-next0.result)) (rows_bytes (paths_from n a.records.now from a.second a.care a.values c.field-next1.result))) = let a = c.args in let node = c.requires.sides_at in sides-text a.records.now a.v a.first a.second a.care a.values _ _ _ (node.noted.chart.labelled.at a.v node.inside) c.field-next0.ensures c.field-next1.ensures in record {
-      path_at = record { noted = c.requires.sides_at.noted; entered = side-entered0 c.requires.sides_at c.field-next0.ensures; within = refl };
+    let sided : (let a = c.args in let from = get_or a.notes.now a.v 0 in let n = size a.records.now in Parted
+    (rows_bytes (sides a.records.now (label a.records.now a.v) a.first a.second a.care a.values a.v))
+    (rows_bytes (paths_from n a.records.now from a.first a.care 0 c.field-next0.result))
+    (rows_bytes (paths_from n a.records.now from a.second a.care a.values c.field-next1.result))) = let a = c.args in let node =
+    c.requires.sides_at in
+    sides-text a.records.now a.v a.first a.second a.care a.values _ _ _ (node.noted.chart.labelled.at a.v node.inside) c.field-next0.ensures
+    c.field-next1.ensures in record {
+      path_at = record {
+        noted = c.requires.sides_at.noted;
+        entered = side-entered0 c.requires.sides_at c.field-next0.ensures;
+        within = refl;
+      };
       node_in_bounds = both_first sided _ _ c.requires.v_in_bounds;
     }
 
 pub put_paths-requires : goal.put_paths-requires
 put_paths-requires c =
-    let sided : (let a = c.args in let from = get_or a.notes.now a.v 0 in let n = size a.records.now in Parted (rows_bytes (sides a.records.now (label a.records.now a.v) a.first a.second a.care a.values a.v)) (rows_bytes (paths_from n a.records.now from a.first a.care 0 c.field-next0.result)) (rows_bytes (paths_from n a.records.now from a.second a.care a.values c.field-next1.result))) = let a = c.args in let node = c.requires.sides_at in sides-text a.records.now a.v a.first a.second a.care a.values _ _ _ (node.noted.chart.labelled.at a.v node.inside) c.field-next0.ensures c.field-next1.ensures in record {
-      path_at = record { noted = c.requires.sides_at.noted; entered = side-entered1 c.requires.sides_at c.field-next1.ensures; within = c.requires.sides_at.within };
+    let sided : (let a = c.args in let from = get_or a.notes.now a.v 0 in let n = size a.records.now in Parted
+    (rows_bytes (sides a.records.now (label a.records.now a.v) a.first a.second a.care a.values a.v))
+    (rows_bytes (paths_from n a.records.now from a.first a.care 0 c.field-next0.result))
+    (rows_bytes (paths_from n a.records.now from a.second a.care a.values c.field-next1.result))) = let a = c.args in let node =
+    c.requires.sides_at in
+    sides-text a.records.now a.v a.first a.second a.care a.values _ _ _ (node.noted.chart.labelled.at a.v node.inside) c.field-next0.ensures
+    c.field-next1.ensures in record {
+      path_at = record {
+        noted = c.requires.sides_at.noted;
+        entered = side-entered1 c.requires.sides_at c.field-next1.ensures;
+        within =
+            c.requires.sides_at.within;
+      };
       node_in_bounds = both-second sided c.requires.v_in_bounds c.put_paths-mid.ensures;
     }
 
 pub returns : goal.returns
 returns c =
-    let sided : (let a = c.args in let from = get_or a.notes.now a.v 0 in let n = size a.records.now in Parted (rows_bytes (sides a.records.now (label a.records.now a.v) a.first a.second a.care a.values a.v)) (rows_bytes (paths_from n a.records.now from a.first a.care 0 c.field-next0.result)) (rows_bytes (paths_from n a.records.now from a.second a.care a.values c.field-next1.result))) = let a = c.args in let node = c.requires.sides_at in sides-text a.records.now a.v a.first a.second a.care a.values _ _ _ (node.noted.chart.labelled.at a.v node.inside) c.field-next0.ensures c.field-next1.ensures in
+    let sided : (let a = c.args in let from = get_or a.notes.now a.v 0 in let n = size a.records.now in Parted
+    (rows_bytes (sides a.records.now (label a.records.now a.v) a.first a.second a.care a.values a.v))
+    (rows_bytes (paths_from n a.records.now from a.first a.care 0 c.field-next0.result))
+    (rows_bytes (paths_from n a.records.now from a.second a.care a.values c.field-next1.result))) = let a = c.args in let node =
+    c.requires.sides_at in
+    sides-text a.records.now a.v a.first a.second a.care a.values _ _ _ (node.noted.chart.labelled.at a.v node.inside) c.field-next0.ensures
+    c.field-next1.ensures in
     both-done sided c.requires.v_in_bounds c.put_paths-mid.ensures c.put_paths.ensures
