@@ -37,24 +37,6 @@ fn put_sum(out: &mut [u8], at: usize, b: u8)
     out[at + 1] = character(b % 16);
 }
 
-// Ten bytes as a frame, from an offset on. The loop goes by the slice's length, so that it is compiled into each caller, and the bytes of
-// a frame just made need not go through memory.
-pub fn put_frame(out: &mut [u8], at: usize, bytes: &[u8])
-    requires at_in_bounds { at + LINE ≤ length out.old }
-    requires bytes_len { length bytes.now ≡ FRAME }
-    ensures { out.new ≡ written out.old at (frame_text bytes.now) }
-{
-    let n = bytes.len();
-    let mut sum: u32 = 0;
-    for k in 0..n {
-        let b = bytes[k];
-        put_byte(out, at + k * 2, b);
-        sum += b as u32;
-    }
-    put_sum(out, at + 2 * FRAME, ((256 - sum % 256) % 256) as u8);
-    out[at + DIGITS] = LINE_FEED;
-}
-
 // The ten bytes of frame f of contents.
 pub fn ten_at(bytes: &[u8], f: usize) -> [u8; FRAME]
     requires { FRAME * f + FRAME ≤ length bytes.now }
@@ -67,14 +49,31 @@ pub fn ten_at(bytes: &[u8], f: usize) -> [u8; FRAME]
     ten
 }
 
-// Frame f of contents. All ten bytes are taken before a character is written, so that the compiler takes several at once.
+// Frame f of contents as text, from an offset on. All ten bytes are taken before a character is written: what is written might lie where
+// they are read, for all that the compiler sees, and it makes several characters at once only where that cannot be.
 fn put_nth(out: &mut [u8], at: usize, bytes: &[u8], f: usize)
     requires at_in_bounds { at + LINE ≤ length out.old }
     requires f_in_bounds { FRAME * f + FRAME ≤ length bytes.now }
     ensures { out.new ≡ written out.old at (frame_text (ten_bytes_at bytes.now f)) }
 {
     let ten = ten_at(bytes, f);
-    put_frame(out, at, &ten);
+    let mut sum: u32 = 0;
+    for k in 0..FRAME {
+        let b = ten[k];
+        put_byte(out, at + k * 2, b);
+        sum += b as u32;
+    }
+    put_sum(out, at + 2 * FRAME, ((256 - sum % 256) % 256) as u8);
+    out[at + DIGITS] = LINE_FEED;
+}
+
+// Ten bytes as a frame, from an offset on.
+pub fn put_frame(out: &mut [u8], at: usize, bytes: &[u8])
+    requires at_in_bounds { at + LINE ≤ length out.old }
+    requires bytes_len { length bytes.now ≡ FRAME }
+    ensures { out.new ≡ written out.old at (frame_text bytes.now) }
+{
+    put_nth(out, at, bytes, 0);
 }
 
 // The text of contents, from an offset on.

@@ -1,20 +1,6 @@
-use Prim.Native.Nat.{◌<◌}
-use native.Mathlib.Omega.{arith}
-use lib.ListN.{get_or}
-use Rattle.text.proofs.frames.FrameLoops.{digits-none, digits-turn, digits-end}
-use Rattle.std.proofs.Common.{rules}
+-- `text::frames::write::put_frame` meets its contract: ten bytes are their own frame 0.
+use Rattle.text.proofs.frames.TextLoops.{frame-alone}
 use Rattle.text.proofs.frames.write.put_frame.Goals as goal
 
-pub loop-k-init : goal.loop-k-init
-loop-k-init c = digits-none _ _ _
-
-pub loop-k-preserved : goal.loop-k-preserved
-loop-k-preserved c =
-    let small : get_or c.args.bytes.now c.loop-k.k 0 < 256 = omega (arith, c.shared_slice_known-in-loop-k-1.given c.loop-k.k) in
-    digits-turn _ _ _ _ _ _ _ (search rules) c.loop-k.invariant (search rules) small
-    c.put_byte.auto.out c.put_byte.ensures
-
 pub returns : goal.returns
-returns c =
-    digits-end _ _ _ _ _ _ _ (search rules) c.loop-k.invariant
-    (search rules) (search rules) c.put_sum.ensures
+returns c = frame-alone _ _ _ _ c.requires.bytes_len c.put_nth.ensures
