@@ -1,5 +1,5 @@
 -- `chart_cases::changed` keeps its count below its index.
-use Prim.Native.Nat.{◌-◌, ◌≤◌}
+use Prim.Native.Nat.{◌≤◌}
 use lib.ListN.{length}
 use Rattle.chart_cases.proofs.changed.Given as goal
 

@@ -1,5 +1,4 @@
 -- `covering::is_uneven` meets its contract: label by label.
-use Prim.Native.Nat.{◌-◌}
 use Rattle.covering.proofs.LoopCases.{Trying}
 use Rattle.covering.proofs.is_uneven.Given as goal
 

@@ -1,5 +1,4 @@
 -- `covering::words_in` meets its contract: the sum over the rows before f.
-use Prim.Native.Nat.{◌-◌}
 use Rattle.words.proofs.lists.Sums.{Adding}
 use Rattle.image.specs.Decode.{row_in_frame}
 use Rattle.covering.specs.inner.CoveringContracts.{words_with}

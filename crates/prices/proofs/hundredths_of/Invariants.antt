@@ -1,5 +1,4 @@
 -- `prices::hundredths_of` meets its contract: the prices of the ticks before i.
-use Prim.Native.Nat.{◌-◌}
 use Rattle.prices.proofs.Sums.{SummedTicks}
 use Rattle.prices.proofs.hundredths_of.Given as goal
 

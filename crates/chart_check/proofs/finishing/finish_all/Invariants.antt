@@ -1,5 +1,5 @@
 -- `chart_check::finishing::finish_all` meets its contract: each call keeps what is finished.
-use Rattle.std.proofs.Common.{◌-◌, ◌≤◌}
+use Rattle.std.proofs.Common.{◌≤◌}
 use Rattle.charts.specs.inner.Finished.{Finished}
 use Rattle.chart_check.proofs.finishing.finish_all.Given as goal
 

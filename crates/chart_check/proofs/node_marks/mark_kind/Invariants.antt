@@ -1,5 +1,5 @@
 -- `chart_check::node_marks::mark_kind`: the nodes passed are marked as they should be.
-use Rattle.std.proofs.Common.{◌≡◌, ◌≤◌, ◌-◌, ◌++◌, map, length, drop}
+use Rattle.std.proofs.Common.{◌≡◌, ◌≤◌, ◌++◌, map, length, drop}
 use Rattle.words.specs.lists.Numbers.{range}
 use Rattle.text.specs.frames.Frame.{size}
 use Rattle.charts.specs.Chart.{is}

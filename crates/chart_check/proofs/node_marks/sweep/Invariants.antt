@@ -1,5 +1,4 @@
 -- `chart_check::node_marks::sweep`: one turn for each node.
-use Rattle.std.proofs.Common.{◌-◌}
 use Rattle.chart_check.proofs.node_marks.Sweeps.{Sweeping}
 use Rattle.chart_check.proofs.node_marks.sweep.Given as goal
 

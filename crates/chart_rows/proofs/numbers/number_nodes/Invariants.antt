@@ -1,5 +1,4 @@
 -- `chart_rows::number_nodes`: the numbers of the nodes before v stand behind the labels, which stay.
-use Prim.Native.Nat.{◌-◌}
 use Rattle.chart_rows.proofs.NumberLaws.{Numbering}
 use Rattle.chart_rows.proofs.numbers.number_nodes.Given as goal
 

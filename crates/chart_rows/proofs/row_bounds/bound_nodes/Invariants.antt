@@ -1,5 +1,4 @@
 -- `chart_rows::row_bounds::bound_nodes`: the rows of the nodes before v are no more than the total.
-use Prim.Native.Nat.{◌-◌}
 use Rattle.chart_rows.proofs.row_bounds.BoundSteps.{Bounding}
 use Rattle.chart_rows.proofs.row_bounds.bound_nodes.Given as goal
 

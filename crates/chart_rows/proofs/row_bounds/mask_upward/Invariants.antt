@@ -1,5 +1,4 @@
 -- `chart_rows::row_bounds::mask_upward`: each node's mask goes into its place, and the others stay.
-use Prim.Native.Nat.{◌-◌}
 use Rattle.chart_rows.proofs.row_bounds.BoundLaws.{Masking}
 use Rattle.chart_rows.proofs.row_bounds.mask_upward.Given as goal
 

@@ -1,5 +1,4 @@
 -- `chart_rows::count_rows`: the rows of the nodes before v are counted, up to the limit.
-use Prim.Native.Nat.{◌-◌}
 use Rattle.chart_rows.proofs.RowSteps.{CountingRows}
 use Rattle.chart_rows.proofs.rows.count_rows.Given as goal
 

@@ -1,5 +1,5 @@
 -- `fitness::fit_places::any_unfit` meets its contract: the loop keeps what is known of the places below.
-use Prim.Native.Nat.{◌-◌, ◌<◌}
+use Prim.Native.Nat.{◌<◌}
 use mathlib.Core.Path.{refl, sym}
 use native.Mathlib.Omega.{arith}
 use Rattle.tables.specs.Table.{table_image}

@@ -1,6 +1,5 @@
 -- `fitness::fitting::any_filled` meets its contract: a full stack has no place above it; else the loop gathers the bits of all above.
 use mathlib.Core.Path.{sym}
-use Prim.Native.Nat.{◌-◌}
 use Rattle.words.proofs.lists.Searches.{any-over}
 use Rattle.state.specs.Bytes.{state_of}
 use Rattle.fitness.specs.Fitness.{is_filled_place}

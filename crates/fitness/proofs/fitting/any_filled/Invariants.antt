@@ -1,5 +1,4 @@
 -- `fitness::fitting::any_filled` meets its contract: a full stack has no place above it; else the loop gathers the bits of all above.
-use Prim.Native.Nat.{◌-◌}
 use Rattle.state.specs.Bytes.{state_of}
 use Rattle.fitness.proofs.fitting.AboveCases.{Seen}
 use Rattle.fitness.proofs.fitting.any_filled.Given as goal

@@ -1,6 +1,5 @@
 -- `fitness::fitting::any_misserved` meets its contract: the first number that is served amiss ends the loop.
 use mathlib.Core.Path.{refl}
-use Prim.Native.Nat.{◌-◌}
 use native.Mathlib.Omega.{arith}
 use Rattle.tables.specs.Table.{table_image}
 use Rattle.state.specs.declared.State.{State}

@@ -1,5 +1,4 @@
 -- `fitness::fitting::any_misserved` meets its contract: the first number that is served amiss ends the loop.
-use Prim.Native.Nat.{◌-◌}
 use Rattle.tables.specs.Table.{table_image}
 use Rattle.state.specs.Bytes.{state_of}
 use Rattle.fitness.proofs.fitting.ServedCases.{Left}

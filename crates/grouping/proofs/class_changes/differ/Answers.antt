@@ -1,6 +1,6 @@
 -- `grouping::class_changes::differ` meets its contract: the loop keeps what is left of the search.
 use mathlib.Core.Path.{sym, ◌∙◌, ap}
-use Prim.Native.Nat.{ℕ, ◌-◌}
+use Prim.Native.Nat.{ℕ}
 use native.Mathlib.Nat.{sub-zero}
 use Rattle.words.specs.lists.Numbers.{any}
 use Rattle.words.proofs.lists.Searches.{any_here, any-on, any-over}

@@ -1,8 +1,6 @@
 -- `grouping::class_rounds::group_in` meets its contract: the buffer holds the classes after k rounds, the marks are those of the last.
 use mathlib.Core.Path.{refl, ◌∙◌}
-use Prim.Native.Nat.{◌-◌}
 use native.Mathlib.Omega.{arith}
-use lib.ListN.{length}
 use Rattle.grouping.proofs.class_rounds.GroupSteps.{rounding-start, rounding-refined, rounding-room}
 use Rattle.grouping.proofs.class_rounds.GroupSteps.{rounding-on, rounding-rest, rounding-all}
 use Rattle.grouping.proofs.marked_parts.Labelled.{kept-length}

@@ -1,5 +1,4 @@
 -- `grouping::class_rounds::group_in` meets its contract: the buffer holds the classes after k rounds, the marks are those of the last.
-use Prim.Native.Nat.{◌-◌}
 use Rattle.grouping.proofs.class_rounds.GroupSteps.{Rounding}
 use Rattle.grouping.proofs.class_rounds.group_in.Given as goal
 

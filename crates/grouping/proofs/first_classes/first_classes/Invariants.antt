@@ -1,5 +1,4 @@
 -- `grouping::first_classes::first_classes` meets its contract: the classes of the labels before l stand in the buffer.
-use Prim.Native.Nat.{◌-◌}
 use Rattle.tables.specs.Table.{table_image}
 use Rattle.grouping.proofs.Rounds.{has_same_fields_at}
 use Rattle.grouping.proofs.TableRounds.{FillingClasses}

@@ -1,5 +1,4 @@
 -- `grouping::marked_parts::count_members` meets its contract: a step for each label.
-use Prim.Native.Nat.{◌-◌}
 use mathlib.Core.Path.{refl, ◌∙◌}
 use native.Mathlib.Omega.{arith}
 use Rattle.grouping.proofs.marked_parts.Labelled.{labelling-none, labelling-turn, labelling-all}

@@ -1,5 +1,4 @@
 -- `grouping::marked_parts::count_members` meets its contract: a step for each label.
-use Prim.Native.Nat.{◌-◌}
 use lib.ListN.{get_or}
 use Rattle.grouping.specs.marked_parts.inner.Parts.{member_count}
 use Rattle.grouping.proofs.marked_parts.Labelled.{Labelling}

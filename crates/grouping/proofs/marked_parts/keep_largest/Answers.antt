@@ -1,5 +1,4 @@
 -- `grouping::marked_parts::keep_largest` meets its contract: one write for each label.
-use Prim.Native.Nat.{◌-◌}
 use mathlib.Core.Path.{refl, ◌∙◌}
 use native.Mathlib.Omega.{arith}
 use Rattle.grouping.proofs.marked_parts.Labelled.{labelling-none, labelling-turn, labelling-all}

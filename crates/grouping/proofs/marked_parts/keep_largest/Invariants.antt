@@ -1,5 +1,4 @@
 -- `grouping::marked_parts::keep_largest` meets its contract: one write for each label.
-use Prim.Native.Nat.{◌-◌}
 use lib.ListN.{get_or}
 use Rattle.grouping.specs.marked_parts.inner.Parts.{larger_part}
 use Rattle.grouping.proofs.marked_parts.Labelled.{Labelling}

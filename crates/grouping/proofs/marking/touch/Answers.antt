@@ -1,5 +1,4 @@
 -- `grouping::marking::touch` meets its contract: it holds of the labels before l.
-use Prim.Native.Nat.{◌-◌}
 use native.Mathlib.Omega.{arith}
 use Rattle.grouping.proofs.marking.Touches.{touching-start, touching-turn, touching-all}
 use Rattle.grouping.proofs.marking.touch.Goals as goal

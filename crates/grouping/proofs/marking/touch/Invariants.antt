@@ -1,5 +1,4 @@
 -- `grouping::marking::touch` meets its contract: it holds of the labels before l.
-use Prim.Native.Nat.{◌-◌}
 use Rattle.grouping.proofs.marking.Touches.{Touching}
 use Rattle.grouping.proofs.marking.touch.Given as goal
 

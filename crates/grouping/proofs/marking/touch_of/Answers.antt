@@ -1,7 +1,6 @@
 -- `grouping::marking::touch_of` meets its contract: the loop keeps what is left of the search.
 use mathlib.Core.Bool.{Bool}
 use mathlib.Core.Path.{refl, sym, ◌∙◌, ap}
-use Prim.Native.Nat.{◌-◌}
 use Rattle.words.specs.lists.Pick.{pick}
 use Rattle.words.proofs.lists.Searches.{any_here, any-on, any-over}
 use Rattle.grouping.proofs.Marked.{leads-marked, leads-unmarked}

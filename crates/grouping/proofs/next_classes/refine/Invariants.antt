@@ -1,5 +1,4 @@
 -- `grouping::next_classes::refine` meets its contract: the next classes of the labels before l stand in the buffer.
-use Prim.Native.Nat.{◌-◌}
 use Rattle.grouping.proofs.next_classes.RoundSteps.{Refining}
 use Rattle.grouping.proofs.next_classes.refine.Given as goal
 

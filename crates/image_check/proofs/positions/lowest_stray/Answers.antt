@@ -1,6 +1,5 @@
 -- `image_check::positions::lowest_stray` meets its contract: the loop keeps what is left to search.
 use mathlib.Core.Path.{sym, ◌∙◌}
-use Prim.Native.Nat.{◌-◌}
 use Rattle.words.proofs.lists.Searches.{searching-first, searching-found, searching-next, searching-over}
 use Rattle.std.proofs.Common.{rules}
 use Rattle.image_check.proofs.positions.lowest_stray.Goals as goal

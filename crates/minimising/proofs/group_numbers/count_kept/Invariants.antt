@@ -1,5 +1,4 @@
 -- `minimising::group_numbers::count_kept` meets its contract: the count over the rows before f.
-use Prim.Native.Nat.{◌-◌}
 use Rattle.grouping.specs.Classes.{is_first}
 use Rattle.text.specs.frames.Frame.{field}
 use Rattle.words.proofs.lists.Sums.{Adding}

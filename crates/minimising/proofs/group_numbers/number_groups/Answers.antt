@@ -1,6 +1,5 @@
 -- `minimising::group_numbers::number_groups` meets its contract: the labels below l have the numbers of their groups.
 use mathlib.Core.Path.{◌∙◌, sym}
-use Prim.Native.Nat.{◌-◌}
 use Rattle.minimising.proofs.group_numbers.NumberCases.{turn-start, turn_on, turn-all}
 use Rattle.std.proofs.Common.{rules}
 use Rattle.minimising.proofs.group_numbers.number_groups.Goals as goal

@@ -1,5 +1,4 @@
 -- `minimising::group_numbers::number_groups` meets its contract: the labels below l have the numbers of their groups.
-use Prim.Native.Nat.{◌-◌}
 use Rattle.minimising.proofs.group_numbers.NumberCases.{NumberTurn}
 use Rattle.minimising.proofs.group_numbers.number_groups.Given as goal
 

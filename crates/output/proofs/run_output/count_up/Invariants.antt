@@ -1,5 +1,4 @@
 -- `output::run_output::count_up` meets its contract: each place passed holds its own number.
-use Prim.Native.Nat.{◌-◌}
 use Rattle.output.proofs.run_output.Runs.{CountedWords}
 use Rattle.output.proofs.run_output.count_up.Given as goal
 

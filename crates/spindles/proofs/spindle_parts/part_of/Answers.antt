@@ -1,5 +1,4 @@
 -- `spindles::spindle_parts::part_of` meets its contract: the bytes passed stand in place.
-use Prim.Native.Nat.{◌-◌}
 use mathlib.Core.Path.{refl, ◌∙◌}
 use Rattle.words.proofs.lists.Arrays.{filled_none, filled-turn, filled-all}
 use Rattle.spindles.proofs.spindle_parts.States.{part-is}

@@ -1,5 +1,4 @@
 -- `state::state_bytes::binding_of` meets its contract: the elements passed stand in place.
-use Prim.Native.Nat.{◌-◌}
 use Rattle.words.proofs.lists.Arrays.{Filled}
 use Rattle.state.specs.Bytes.{serving_in}
 use Rattle.state.proofs.state_bytes.binding_of.Given as goal

@@ -1,5 +1,5 @@
 -- `state::state_bytes::places_from` meets its contract: the elements passed stand in place.
-use Prim.Native.Nat.{ℕ, ◌+◌, ◌-◌}
+use Prim.Native.Nat.{ℕ, ◌+◌}
 use Rattle.words.proofs.lists.Arrays.{Filled}
 use lib.ListN.{get_or}
 use Rattle.state.proofs.state_bytes.places_from.Given as goal

@@ -1,5 +1,4 @@
 -- `state::state_bytes::put_results` meets its contract: the elements passed stand in place.
-use Prim.Native.Nat.{◌-◌}
 use Rattle.words.proofs.lists.Fills.{ValuesFrom}
 use Rattle.state.specs.Bytes.{result_byte}
 use Rattle.state.proofs.state_bytes.put_results.Given as goal

@@ -1,5 +1,4 @@
 -- `state::state_bytes::results_of` meets its contract: the elements passed stand in place.
-use Prim.Native.Nat.{◌-◌}
 use mathlib.Core.Bool.{false}
 use Rattle.words.proofs.lists.Arrays.{Filled}
 use Rattle.state.specs.Bytes.{result_in}

@@ -1,5 +1,4 @@
 -- `state::state_places::clear_places` meets its contract: the loop keeps which places are 0.
-use Prim.Native.Nat.{◌-◌}
 use Rattle.state.specs.Bytes.{state_of}
 use Rattle.state.proofs.state_places.ClearTurns.{Cleared}
 use Rattle.state.proofs.state_places.clear_places.Given as goal

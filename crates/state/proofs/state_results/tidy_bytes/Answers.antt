@@ -1,5 +1,4 @@
 -- `state::state_results::tidy_bytes` meets its contract: the loop keeps which result bytes were written.
-use Prim.Native.Nat.{◌-◌}
 use Rattle.state.proofs.state_results.TidyTurns.{tidied-none, tidied-turn, tidied-all}
 use Rattle.std.proofs.Common.{rules}
 use Rattle.state.proofs.state_results.tidy_bytes.Goals as goal

@@ -1,5 +1,4 @@
 -- `state::state_results::tidy_bytes` meets its contract: the loop keeps which result bytes were written.
-use Prim.Native.Nat.{◌-◌}
 use Rattle.state.proofs.state_results.TidyTurns.{Tidied}
 use Rattle.state.proofs.state_results.tidy_bytes.Given as goal
 

@@ -1,6 +1,6 @@
 -- `tables::preparing::note_rows` meets its contract: the search for a label goes on where that for the label before it ended.
 use mathlib.Core.Path.{refl, ap}
-use Prim.Native.Nat.{ℕ, ◌+◌, ◌*◌, ◌-◌, ◌<◌}
+use Prim.Native.Nat.{ℕ, ◌+◌, ◌*◌, ◌<◌}
 use native.Mathlib.Omega.{arith}
 use lib.ListN.{length, length-set}
 use Rattle.tables.proofs.Noted.{rows_inside}

@@ -1,5 +1,4 @@
 -- `tables::preparing::note_rows` meets its contract: the search for a label goes on where that for the label before it ended.
-use Prim.Native.Nat.{◌-◌}
 use Rattle.tables.proofs.NotingCases.{Notes}
 use Rattle.tables.proofs.preparing.note_rows.Given as goal
 

@@ -1,7 +1,6 @@
 -- `tables::preparing::skip_below` meets its contract: the loop keeps what is left to search.
 use borrow.Author.Tests.{le-leb, lt-leb}
 use mathlib.Core.Path.{sym, ◌∙◌}
-use Prim.Native.Nat.{◌-◌}
 use Rattle.words.proofs.lists.Searches.{lowest-here, lowest-on, lowest-over}
 use Rattle.text.specs.frames.Frame.{field}
 use Rattle.tables.specs.Prepare.{is_row_reached}

@@ -1,5 +1,4 @@
 -- `text::frame_reading::read_digits` meets its contract: what is known of the characters passed is known of all.
-use Prim.Native.Nat.{◌-◌}
 use Rattle.text.proofs.frame_reading.ReadFrame.{Taken}
 use Rattle.text.proofs.frame_reading.read_digits.Given as goal
 

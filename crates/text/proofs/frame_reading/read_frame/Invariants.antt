@@ -1,5 +1,4 @@
 -- `text::frame_reading::read_frame` meets its contract: the bytes made of the digits are the frame's, and so are those added and stored.
-use Prim.Native.Nat.{◌-◌}
 use Rattle.text.proofs.frame_reading.ReadFrame.{Stored}
 use Rattle.text.proofs.frame_reading.read_frame.Given as goal
 

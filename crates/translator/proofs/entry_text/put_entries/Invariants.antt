@@ -1,5 +1,4 @@
 -- `translator::label_text::put_entries`: the entries of the schemes up to k stand in the buffer.
-use Prim.Native.Nat.{◌-◌}
 use Rattle.words.proofs.lists.Fills.{Pieces}
 use Rattle.chart_rows.specs.chart_labels.inner.ChartContracts.{Begun}
 use Rattle.translator.specs.label_text.inner.LabelBytes.{entry_bytes}

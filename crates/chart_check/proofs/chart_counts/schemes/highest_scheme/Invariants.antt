@@ -1,5 +1,5 @@
 -- `chart_check::chart_counts::schemes::highest_scheme` meets its contract: the highest of the nodes passed.
-use Rattle.std.proofs.Common.{◌-◌, ◌≡◌, ◌≤◌}
+use Rattle.std.proofs.Common.{◌≡◌, ◌≤◌}
 use Rattle.words.specs.lists.Numbers.{highest}
 use Rattle.text.specs.frames.Frame.{size}
 use Rattle.charts.specs.Chart.{scheme}

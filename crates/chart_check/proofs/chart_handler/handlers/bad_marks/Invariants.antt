@@ -1,5 +1,4 @@
 -- `chart_check::chart_handler::handlers::bad_marks`: scheme 1 has no mark among the nodes passed, and at most one of them is marked.
-use Rattle.std.proofs.Common.{◌-◌}
 use Rattle.chart_check.proofs.chart_handler.HandlerLoops.{Marking}
 use Rattle.chart_check.proofs.chart_handler.handlers.bad_marks.Given as goal
 

@@ -1,5 +1,5 @@
 -- `chart_check::chart_handler::handlers::handler_scheme`: the highest scheme that the nodes passed mark.
-use Rattle.std.proofs.Common.{◌≡◌, ◌-◌, ◌≤◌}
+use Rattle.std.proofs.Common.{◌≡◌, ◌≤◌}
 use Rattle.words.specs.lists.Numbers.{highest}
 use Rattle.text.specs.frames.Frame.{size}
 use Rattle.charts.specs.Chart.{handler_at}

@@ -1,6 +1,5 @@
 -- `chart_rows::chart_labels::labels::label_nodes` meets its contract:
 -- the labels of the nodes passed stand in the buffer, and those of their own are counted.
-use Prim.Native.Nat.{◌-◌}
 use Rattle.chart_rows.proofs.chart_labels.LabelSteps.{Labelling}
 use Rattle.chart_rows.proofs.chart_labels.labels.label_nodes.Given as goal
 

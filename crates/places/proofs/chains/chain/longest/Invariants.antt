@@ -1,5 +1,4 @@
 -- `places::chains::chain::longest`: each round has the ends of the chains with one call more.
-use Prim.Native.Nat.{◌-◌}
 use Rattle.places.proofs.chains.CallMasks.{MaskRound}
 use Rattle.places.proofs.chains.chain.longest.Given as goal
 

@@ -1,5 +1,4 @@
 -- `text::frames::write::put_text` meets its contract: the frames passed stand in the buffer.
-use Prim.Native.Nat.{◌-◌}
 use Rattle.words.proofs.lists.Fills.{Pieces}
 use Rattle.text.proofs.frames.TextLoops.{frame_of}
 use Rattle.text.proofs.frames.write.put_text.Given as goal

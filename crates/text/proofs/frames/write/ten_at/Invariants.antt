@@ -1,5 +1,4 @@
 -- `text::frames::write::ten_at` meets its contract: each of the ten stands at its place.
-use Prim.Native.Nat.{◌-◌}
 use Rattle.words.proofs.lists.Arrays.{Filled}
 use Rattle.text.specs.frames.Frame.{field}
 use Rattle.text.proofs.frames.write.ten_at.Given as goal

@@ -1,5 +1,4 @@
 -- `translator::label_text::put_labels`: the labels of the nodes before v stand in the buffer.
-use Prim.Native.Nat.{◌-◌}
 use Rattle.translator.specs.label_text.inner.LabelBytes.{node_label_bytes}
 use Rattle.translator.proofs.label_text.Puts.{Appended}
 use Rattle.translator.proofs.label_text.label_frames.put_labels.Given as goal
