@@ -8,7 +8,7 @@ use lib.ListN.{replicate}
 use Rattle.words.specs.lists.Numbers.{tabulate, lowest, count}
 use Rattle.words.specs.lists.Sequences.{filter, map_from}
 use Rattle.text.specs.frames.Frame.{contents}
-use Rattle.text.specs.frames.Verdict.{Verdict, fine, next, when}
+use Rattle.text.specs.frames.Verdict.{fine, next, when}
 use Rattle.text.specs.frames.Answer.{BufferOutcome, buffer_on}
 use Rattle.image.specs.Image.{image_frames, image_text}
 use Rattle.image.specs.Decode.{decoded_image}

@@ -19,16 +19,6 @@ use Rattle.cause.specs.Cause.{is_differing}
 use Rattle.cause.specs.inner.CauseContracts.{RowAsked, is_let_through, mask_against_in, mask_against_from}
 use Rattle.cause.proofs.Masks.{low-differs}
 
--- ---- one condition
-module _ (w care values i : ℕ) (c : ℕ) (is : c ≡ bit care i) where
-  pub differs-free : (c ≡ 1 → ⊥) → false ≡ is_differing w care values i
-  differs-free h = sym (ap (λ (t : Bool). t && not (eqb (bit w i) (bit values i))) (ne_eqb (bit care i) 1 (λ e. h (is ∙ e))))
-
-  pub differs-by : c ≡ 1 → (u v : ℕ) → u ≡ bit w i → v ≡ bit values i → not (eqb u v) ≡ is_differing w care values i
-  differs-by h u v e f =
-      ap₂ (λ (m n : ℕ). not (eqb m n)) e f
-      ∙ sym (ap (λ (t : Bool). t && not (eqb (bit w i) (bit values i))) (eq-eqb (bit care i) 1 (sym is ∙ h)))
-
 -- ---- the search, from the highest condition down: low is the lowest of those passed
 module _ (w care values : ℕ) where
   abbrev p : ℕ → Bool

@@ -10,12 +10,10 @@ use Rattle.text.specs.declared.frames.Answer.{Answer}
 use Rattle.text.specs.declared.frames.Answer.TheVariants.{Refused}
 use Rattle.text.proofs.frames.Chains.{lowest-refused, lowest-fine, next-refused, next-on}
 use Rattle.charts.specs.Chart.{Chart, schemes}
-use Rattle.charts.specs.Check.{has_bad_field, is_bad_scheme, has_bad_marks, has_bad_arc, has_bad_call, is_cut_off, chart_verdict}
+use Rattle.charts.specs.Check.{has_bad_field, is_bad_scheme, has_bad_marks, has_bad_arc, has_bad_call, chart_verdict}
 use Rattle.chart_check.specs.inner.CheckContracts.{joined_verdict}
 
 -- ---- the verdicts from a refusal on
-abbrev pub from9 : Chart → Verdict
-from9 c = at_lowest 9 (is_cut_off c) (size c)
 
 abbrev pub from7 : Chart → Verdict
 from7 c = next (at_lowest 7 (has_bad_call c) (size c)) λ _. joined_verdict c

@@ -23,7 +23,6 @@ use Rattle.chart_rows.specs.chart_labels.inner.ChartContracts.{Ready}
 use Rattle.chart_rows.specs.inner.PathContracts.{Entered}
 use Rattle.chart_rows.specs.inner.NodeRows.{paths_from}
 use Rattle.chart_rows.proofs.chart_labels.ReadyLaws.{ready-sound}
-use Rattle.chart_rows.proofs.NumberLaws.{small-number}
 use Rattle.chart_rows.proofs.PathSteps.{path_row, entered0, entered1, at-stop, at_new}
 use Rattle.chart_rows.proofs.Settled.{Settled}
 
@@ -54,9 +53,6 @@ pub record New (c : Chart) (care values v u i : ℕ) : Type 0 where
 module _ (c : Chart) (care values v u i : ℕ) (new : New c care values v u i) where
   condition : kind c u ≡ 3
   condition = goes_on c u new.settled.entered.no_begin new.goes
-
-  pub new-small : i < 16
-  new-small = small-number (record { ready = new.ready; inside = new.settled.entered.inside; kind = condition }) new.number
 
   untested : bit care (argument c u) ≡ 1 → ⊥
   untested =

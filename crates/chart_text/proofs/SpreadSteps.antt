@@ -73,16 +73,6 @@ module _ (out₀ out : List ℕ) (n f : ℕ) (s : Spread out₀ out n f) (room :
       count-more : (g : ℕ) → f ≡ g + 1 → n - g ≡ suc (n - f)
       count-more g e = omega (arith, s.low)
 
-  pub spread-all : f ≤ 0 → out ≡ written out₀ 0 (concat_map (frame_of out₀) (range 0 n))
-  spread-all h =
-      let z : f ≡ 0 = omega arith in
-      let p : 23 * f ≡ 0 = omega arith in
-      let k : n - f ≡ n = omega arith in
-      s.buffer
-      ∙ ap (λ (j : ℕ). written out₀ j (concat_map (frame_of out₀) (range f (n - f)))) p
-      ∙ ap (λ (j : ℕ). written out₀ 0 (concat_map (frame_of out₀) (range j (n - f)))) z
-      ∙ ap (λ (j : ℕ). written out₀ 0 (concat_map (frame_of out₀) (range 0 j))) k
-
 -- ---- all frames: the bytes of contents, and then what the loop leaves
 module _ (b out o₁ : List ℕ) (whole : length b ≡ 10 * size b) (room : 23 * size b ≤ length out) (put : o₁ ≡ written out 0 b) where
   front : (k : ℕ) → k < length b → get_or o₁ k 0 ≡ get_or b k 0

@@ -1,10 +1,9 @@
 -- Cases of the functions that try rows by their frames.
 use Prim.Native.Nat.{ℕ, ◌-◌, ◌*◌, ◌^◌, ◌%◌, ◌≤◌, ◌<◌}
 use mathlib.Core.Path.{◌≡◌, refl, sym, ◌∙◌, ap, ap₂}
-use mathlib.Core.Bool.{Bool, true, false, ◌&&◌, ◌||◌, not}
+use mathlib.Core.Bool.{Bool, true, false, ◌||◌, not}
 use mathlib.Core.List.{List}
 use native.Mathlib.Omega.{arith}
-use lib.Bits.{bit_and}
 use lib.Count.{ones, ones-le}
 use lib.Dec.{eqb}
 use lib.Pow.{pow_mono}
@@ -23,29 +22,6 @@ module _ (b : List ℕ) (g care values x p q : ℕ) (e₁ : p ≡ pair_at b g 2)
 
   abbrev y : ℕ
   y = field b g 6
-
-  by_values : (t : Bool) → eqb (bit_and values (pair_at b g 2)) (bit_and (pair_at b g 4) care) ≡ t
-      → is_together r (row_in_frame b g) ≡ (t && (eqb x 2 || eqb y 2 || eqb x y))
-  by_values t e = ap (λ (t : Bool). t && (eqb x 2 || eqb y 2 || eqb x y)) e
-
-  pub meets-no : (bit_and values p ≡ bit_and q care → ⊥) → false ≡ is_together r (row_in_frame b g)
-  meets-no n = sym (by_values false (ne_eqb (bit_and values (pair_at b g 2)) (bit_and (pair_at b g 4) care)
-      (λ z. n (ap (bit_and values) e₁ ∙ z ∙ sym (ap (λ (k : ℕ). bit_and k care) e₂)))))
-
-  module _ (z : bit_and values p ≡ bit_and q care) where
-    by_bits : is_together r (row_in_frame b g) ≡ (eqb x 2 || eqb y 2 || eqb x y)
-    by_bits = by_values true (eq-eqb (bit_and values (pair_at b g 2)) (bit_and (pair_at b g 4) care)
-        (sym (ap (bit_and values) e₁) ∙ z ∙ ap (λ (k : ℕ). bit_and k care) e₂))
-
-    pub meets-first : x ≡ 2 → true ≡ is_together r (row_in_frame b g)
-    meets-first k = sym (by_bits ∙ ap (λ (t : Bool). t || eqb y 2 || eqb x y) (eq-eqb x 2 k))
-
-    pub meets-second : (x ≡ 2 → ⊥) → (s : ℕ) → s ≡ y → s ≡ 2 → true ≡ is_together r (row_in_frame b g)
-    meets-second m s e k = sym (by_bits ∙ ap₂ (λ (t u : Bool). t || u || eqb x y) (ne_eqb x 2 m) (eq-eqb y 2 (sym e ∙ k)))
-
-    pub meets-same : (x ≡ 2 → ⊥) → (s : ℕ) → s ≡ y → (s ≡ 2 → ⊥) → eqb x s ≡ is_together r (row_in_frame b g)
-    meets-same m s e k =
-        ap (eqb x) e ∙ sym (by_bits ∙ ap₂ (λ (t u : Bool). t || u || eqb x y) (ne_eqb x 2 m) (ne_eqb y 2 (λ z. k (e ∙ z))))
 
 -- ---- are_together, meets_before: the row in frame f, read once
 pub read-row : (b : List ℕ) (f care values x : ℕ) → care ≡ pair_at b f 2 → values ≡ pair_at b f 4 → x ≡ field b f 6 → (s : Row)

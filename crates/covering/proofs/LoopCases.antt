@@ -33,9 +33,6 @@ pub record Trying (b : List ℕ) (last first l : ℕ) : Type 0 where
   pub after : (f : ℕ) → first ≤ f → f < size b → l ≤ field b f 1
   pub left : any (is_uneven_label (decoded_image b)) l (last + 1 - l) ≡ is_uneven (decoded_image b)
 
-pub some-frames : (b : List ℕ) → SoundTable b → 0 < size b
-some-frames b T = omega (arith, T.all)
-
 pub trying_start : (b : List ℕ) → SoundTable b → (last first : ℕ) → last ≡ last_label b → first ≡ rows_from b → Trying b last first 2
 unfolding is_uneven
 trying_start b T last first e q =

@@ -29,12 +29,6 @@ module _ (b c : List ℕ) (f g : ℕ) where
       sym (ap (λ (t : Bool). not t && is_together (row_in_frame b f) (row_in_frame b g))
       (eq-eqb (get_or c (field b f 7) 0) (get_or c (field b g 7) 0) (sym p ∙ e ∙ ap (λ (x : ℕ). get_or c x 0) q)))
 
-  pub parts-by : (class next : ℕ) → class ≡ get_or c (field b f 7) 0 → next ≡ field b g 7 → (class ≡ get_or c next 0 → ⊥) → (t : Bool)
-      → t ≡ is_together (row_in_frame b f) (row_in_frame b g) → t ≡ is_parting_in b c f g
-  parts-by class next p q e t h =
-      h ∙ sym (ap (λ (t : Bool). not t && is_together (row_in_frame b f) (row_in_frame b g))
-      (ne_eqb (get_or c (field b f 7) 0) (get_or c (field b g 7) 0) (λ z. e (p ∙ z ∙ sym (ap (λ (x : ℕ). get_or c x 0) q)))))
-
 -- ---- lists
 some-range : {A : Type 0} (p : A → Bool) (f : ℕ → A) (a n : ℕ) → some p (map f (range a n)) ≡ any (λ k. p (f k)) a n
 unfolding some any

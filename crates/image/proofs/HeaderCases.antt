@@ -3,11 +3,10 @@ use mathlib.Core.Path.{◌≡◌, ap}
 use mathlib.Core.Bool.{true, false, not}
 use mathlib.Core.List.{List}
 use Prim.Native.Nat.{ℕ, ◌≤◌, ◌<◌}
-use native.Mathlib.Omega.{arith}
 use lib.Dec.{ltb, eqb}
 use borrow.Author.Tests.{eq-eqb, ne_eqb, lt-ltb, le-ltb}
-use Rattle.image.specs.Decode.{scheme_count, last_label, row_count, handler_in}
-use Rattle.image.specs.Check.{has_bad_counts, has_bad_handler}
+use Rattle.image.specs.Decode.{scheme_count, handler_in}
+use Rattle.image.specs.Check.{has_bad_handler}
 
 pub unequal : (a b : ℕ) → (a ≡ b → ⊥) → not (eqb a b) ≡ true
 unequal a b h = ap not (ne_eqb a b h)
@@ -16,21 +15,6 @@ pub equal : (a b : ℕ) → a ≡ b → not (eqb a b) ≡ false
 equal a b h = ap not (eq-eqb a b h)
 
 module _ (b : List ℕ) where
-  pub counts-none : scheme_count b ≡ 0 → true ≡ has_bad_counts b
-  counts-none h = simp (eq-eqb (scheme_count b) 0 h)
-
-  pub counts-many : 16 < scheme_count b → true ≡ has_bad_counts b
-  counts-many h = simp (ne_eqb (scheme_count b) 0 (λ e. omega arith), lt-ltb 16 (scheme_count b) h)
-
-  pub counts-label : (scheme_count b ≡ 0 → ⊥) → scheme_count b ≤ 16 → last_label b ≡ 0 → true ≡ has_bad_counts b
-  counts-label n h l = simp (ne_eqb (scheme_count b) 0 n, le-ltb 16 (scheme_count b) h, eq-eqb (last_label b) 0 l)
-
-  pub counts-rows : (scheme_count b ≡ 0 → ⊥) → scheme_count b ≤ 16 → (last_label b ≡ 0 → ⊥) → ltb 1024 (row_count b) ≡ has_bad_counts b
-  counts-rows n h l = simp (ne_eqb (scheme_count b) 0 n, le-ltb 16 (scheme_count b) h, ne_eqb (last_label b) 0 l)
-
-  pub handler-none : handler_in b ≡ 0 → false ≡ has_bad_handler b
-  handler-none h = simp (eq-eqb (handler_in b) 0 h)
-
   pub handler-first : (handler_in b ≡ 0 → ⊥) → handler_in b < 2 → true ≡ has_bad_handler b
   handler-first n h = simp (ne_eqb (handler_in b) 0 n, lt-ltb (handler_in b) 2 h)
 

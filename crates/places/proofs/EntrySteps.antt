@@ -1,15 +1,14 @@
 -- The answer at each return of the entry point.
-use Prim.Native.Nat.{ℕ, ◌*◌, ◌≤◌, min}
+use Prim.Native.Nat.{ℕ, ◌*◌, ◌≤◌}
 use mathlib.Core.Bool.{Bool, true, false}
 use mathlib.Core.Path.{◌≡◌, sym, ◌∙◌, ap, subst}
 use mathlib.Core.Logic.{⊎_elim}
 use mathlib.Core.List.{List}
 use native.Mathlib.Omega.{arith}
-use borrow.Author.Tests.{le-ltb}
 use lib.Dec.{ltb}
 use lib.ListN.{length, take}
 use Rattle.words.specs.lists.Pick.{pick}
-use Rattle.words.proofs.lists.Tests.{cases, same-ltb}
+use Rattle.words.proofs.lists.Tests.{cases}
 use Rattle.text.specs.frames.Frame.{contents}
 use Rattle.text.specs.frames.Verdict.{Verdict, refused, when}
 use Rattle.text.specs.frames.Answer.{success, refusal, reply, verdict_reply}
@@ -29,12 +28,6 @@ use Rattle.places.proofs.chains.Longest.{places-some}
 use Rattle.places.specs.Entry.{places_verdict, places_needed}
 
 -- ---- rows counted up to 1025
-pub more-than-most : (r n : ℕ) → r ≡ min 1025 n → ltb 1024 r ≡ ltb 1024 n
-more-than-most r n e = same-ltb 1024 r 1024 n (λ l. omega arith) (λ l. omega arith)
-
--- by a bound on them
-pub at_most : (bound n : ℕ) → n ≤ bound → bound ≤ 1024 → false ≡ ltb 1024 n
-at_most bound n l m = sym (le-ltb 1024 n (omega arith))
 
 -- ---- what the code's number tells
 module _ (c : Chart) (f : Facts c) (n : ℕ) (e : n ≡ longest_chain c) where

@@ -109,9 +109,6 @@ module _ (prices : List ℕ) (mask total rest : ℕ) (inv : CountedBits prices m
     off : LowestBit (λ i. get_or prices i 0) 32 rest
     off = lowest-off (λ i. get_or prices i 0) 32 rest (omega arith) inv.low
 
-    pub bit-inside : j < 32
-    bit-inside = off.inside
-
     pub less-falls : less rest < rest
     less-falls = omega (arith, and_le_r rest (rest - 1))
 

@@ -27,7 +27,7 @@ use Rattle.rows.specs.Rows.{is_match, is_candidate, Choice, row, no_choice, bett
 use Rattle.rows.specs.declared.TheConstants.{NO_FRAME}
 use Rattle.rows.specs.inner.Search.{swapped_word, is_matching_frame, found_at, BetterOf, chosen_frame, Chosen, Deciding}
 use Rattle.rows.proofs.Swaps.{swap-twice, swapped-agrees}
-use Rattle.rows.proofs.ChoiceLaws.{best-nothing, best-own, best-other, better-none, better-first, better-second, better-three}
+use Rattle.rows.proofs.ChoiceLaws.{best-nothing, best-own, best-other, better-none, better-three}
 use Rattle.rows.proofs.TableRows.{next-found, next-none}
 
 -- ---- one frame: care mask, values and function bit as they were read
@@ -109,20 +109,6 @@ none_named b l h = ap chosen_frame (past-table b NO_FRAME l h)
 module _ (b : List ℕ) (best f : ℕ) (inside : f < size b) where
   pub better-only : size b ≤ best → BetterOf b best f f
   better-only h l = at-frame b f l inside ∙ sym (ap (λ (x : Choice). better_choice x (row f (row_on b l f))) (past-table b best l h))
-
-  -- care masks as they were read, and their ones
-  module _ (h : best < size b) (later former : ℕ) (p : later ≡ pair_at b f 2) (q : former ≡ pair_at b best 2) where
-    pub better-former : ones later < ones former → BetterOf b best f best
-    better-former g l =
-        at-frame b best l h
-        ∙ sym (ap (λ (x : Choice). better_choice x (row f (row_on b l f))) (at-frame b best l h)
-        ∙ better-first (row best (row_on b l best)) f (row_on b l f) (omega (arith, ap ones p, ap ones q)))
-
-    pub better-later : ones former ≤ ones later → BetterOf b best f f
-    better-later g l =
-        at-frame b f l inside
-        ∙ sym (ap (λ (x : Choice). better_choice x (row f (row_on b l f))) (at-frame b best l h)
-        ∙ better-second (row best (row_on b l best)) f (row_on b l f) (omega (arith, ap ones p, ap ones q)))
 
 -- ---- the search: the best row before frame f, with those from f on, is the best of all
 module _ (b : List ℕ) (l w bit first end : ℕ) where

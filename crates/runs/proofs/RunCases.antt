@@ -44,10 +44,6 @@ module _ (ws ms ks : List ℕ) where
     codes = ltb-false (length ks) (length ws) (or_r (ltb (length ms) (length ws)) (ltb (length ks) (length ws)) e);
   }
 
--- one word has room in one place
-pub one-room : {w m k : ℕ} → RunRoom (w ∷ []) (m ∷ []) (k ∷ [])
-one-room = record { masks = omega arith; codes = omega arith }
-
 -- ---- which numbers leave the bytes
 pub early-leaves : (n : ℕ) → 1 ≤ n → n ≤ 16 → is_without_change n ≡ true
 early-leaves n l h = and-true (leb 1 n) _ (le-leb 1 n l) (le-leb n _ (omega arith))

@@ -9,7 +9,7 @@ use native.Mathlib.Omega.{arith}
 use Rattle.words.specs.lists.Pick.{pick}
 use Rattle.bindings.specs.Binding.{Binding, rebound_binding}
 use Rattle.text.specs.frames.Frame.{contents}
-use Rattle.text.specs.frames.Verdict.{Verdict, fine, when}
+use Rattle.text.specs.frames.Verdict.{fine, when}
 use Rattle.text.specs.frames.Answer.{success}
 use Rattle.charts.specs.Chart.{Chart}
 use Rattle.walk.specs.Walk.{Signal}

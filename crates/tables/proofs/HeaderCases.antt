@@ -1,5 +1,5 @@
 -- The cases of refusal 11 of a table, as the code meets them.
-use Prim.Native.Nat.{ℕ, ◌*◌, ◌<◌}
+use Prim.Native.Nat.{ℕ, ◌*◌}
 use mathlib.Core.Bool.{Bool, true, false, ◌||◌}
 use mathlib.Core.Path.{◌≡◌, refl, sym, ◌∙◌, ap}
 use mathlib.Core.List.{List}
@@ -13,11 +13,6 @@ use Rattle.image.specs.Check.{has_bad_counts, has_bad_handler}
 use Rattle.tables.specs.Table.{table_end, is_bad_table}
 
 module _ (b : List ℕ) where
-  -- not even a header
-  pub header-short : length b < 10 → true ≡ is_bad_table b
-  header-short h =
-      sym (or_true_r (has_bad_counts b || has_bad_handler b) (ltb (size b) (table_end b)) (lt-ltb (size b) (table_end b) (omega arith)))
-
   pub header-counts : has_bad_counts b ≡ true → true ≡ is_bad_table b
   header-counts e = sym (or-true-l (has_bad_counts b || has_bad_handler b) (ltb (size b) (table_end b))
       (or-true-l (has_bad_counts b) (has_bad_handler b) e))

@@ -7,7 +7,7 @@ use lib.Dec.{ltb}
 use borrow.Author.Tests.{lt-ltb, le-ltb}
 use Rattle.words.specs.lists.Pick.{pick}
 use Rattle.words.proofs.lists.Tests.{yes-pick, no-pick}
-use Rattle.text.specs.frames.Frame.{field, quad_at}
+use Rattle.text.specs.frames.Frame.{field}
 use Rattle.image.specs.Image.{Label, home_label, return_label}
 use Rattle.image.specs.Decode.{scheme_count, last_label, labels_from, label_in}
 use Rattle.tables.specs.Table.{label_on, table_label}
@@ -50,47 +50,19 @@ module _ (b : List ℕ) (l : ℕ) (asked : NumberedLabel b l) where
         sym (ap (λ (x : Label). x.kind) label-numbered
         ∙ yes-pick (ltb 2 (label_in b l).kind) 0 (label_in b l).kind (lt-ltb 2 (label_in b l).kind (omega arith)))
 
-    pub kind-known : k ≤ 2 → k ≡ (table_label b l).kind
-    kind-known h =
-        found ∙ sym (ap (λ (x : Label). x.kind) label-numbered
-        ∙ no-pick (ltb 2 (label_in b l).kind) 0 (label_in b l).kind (le-ltb 2 (label_in b l).kind (omega arith)))
-
   module _ (k n : ℕ) (found : k ≡ field b (labels_from b + l) 3) (schemes : n ≡ scheme_count b) where
-    pub called-high : n < k → 0 ≡ (table_label b l).called
-    called-high h =
-        sym (ap (λ (x : Label). x.called) label-numbered
-        ∙ yes-pick (ltb (scheme_count b) (label_in b l).called) 0 (label_in b l).called
-        (lt-ltb (scheme_count b) (label_in b l).called (omega arith)))
-
     pub called-known : k ≤ n → k ≡ (table_label b l).called
     called-known h =
         found ∙ sym (ap (λ (x : Label). x.called) label-numbered
         ∙ no-pick (ltb (scheme_count b) (label_in b l).called) 0 (label_in b l).called
         (le-ltb (scheme_count b) (label_in b l).called (omega arith)))
 
-  pub label-made : (k h o r m : ℕ) → k ≡ (table_label b l).kind → h ≡ (table_label b l).called → o ≡ field b (labels_from b + l) 4
-      → r ≡ field b (labels_from b + l) 5 → m ≡ (table_label b l).mask
-      → record { kind = k; called = h; owner = o; result = r; mask = m } ≡ table_label b l
-  label-made k h o r m p₁ p₂ p₃ p₄ p₅ =
-      let q₃ : o ≡ (table_label b l).owner = p₃ ∙ sym (ap (λ (x : Label). x.owner) label-numbered) in
-      let q₄ : r ≡ (table_label b l).result = p₄ ∙ sym (ap (λ (x : Label). x.result) label-numbered) in
-      λ j. record { kind = p₁ j; called = p₂ j; owner = q₃ j; result = q₄ j; mask = p₅ j }
-
 -- ---- with H as the caller has it, n
 module _ (b : List ℕ) (n l : ℕ) (asked : Framed b n l) where
   frame_at : n + l + 1 ≡ labels_from b + l
   frame_at = omega (arith, asked.schemes)
 
-  pub field-framed : (k r : ℕ) → r ≡ field b (n + l + 1) k → r ≡ field b (labels_from b + l) k
-  field-framed k r e = e ∙ ap (λ (f : ℕ). field b f k) frame_at
-
-  pub mask-framed : (r : ℕ) → r ≡ quad_at b (n + l + 1) 6 → r ≡ (table_label b l).mask
-  mask-framed r e = e ∙ ap (λ (f : ℕ). quad_at b f 6) frame_at ∙ sym (ap (λ (x : Label). x.mask) (label-numbered b l asked.label))
-
 -- ---- entries
 module _ (b : List ℕ) (h e : ℕ) where
-  pub entry_first : h ≡ 0 → e ≡ field b 1 2 → e ≡ entry_of b h
-  entry_first z p = p ∙ ap (λ (n : ℕ). field b n 2) (let q : 1 ≡ suc (h - 1) = omega arith in q)
-
   pub entry_other : (h ≡ 0 → ⊥) → e ≡ field b h 2 → e ≡ entry_of b h
   entry_other z p = p ∙ ap (λ (n : ℕ). field b n 2) (let q : h ≡ suc (h - 1) = omega arith in q)

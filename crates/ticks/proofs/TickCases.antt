@@ -18,7 +18,6 @@ use Rattle.tables.specs.Table.{table_label, table_image}
 use Rattle.tables.specs.inner.Labels.{NumberedLabel}
 use Rattle.tables.proofs.TableReads.{counts-told, label-on, label-above, label-at, label-values}
 use Rattle.rows.specs.Rows.{Found, found, missing, lead_of}
-use Rattle.rows.specs.inner.Search.{Deciding}
 use Rattle.rows.proofs.TableRows.{row-above}
 use Rattle.ticks.specs.codes.Codes.{code_of}
 use Rattle.state.specs.declared.State.{State}
@@ -64,18 +63,11 @@ module _ {b : List ℕ} {s : State} (y : TickAsked b s) where
   pub size-most : s.size ≤ 32
   size-most = (deep-told s y.depth).small
 
-  pub schemes-some : 1 ≤ scheme_count b
-  schemes-some = (counts-told b y.whole.counts).first
-
   pub called-low : (l : ℕ) → (table_label b l).called ≤ scheme_count b
   called-low l = (label-values b l).schemes
 
   pub called-few : (l : ℕ) → (table_label b l).called ≤ 16
   called-few l = omega (arith, (label-values b l).schemes, (counts-told b y.whole.counts).most)
-
--- a label of 2 to M by another number for it, and its kind
-pub numbered-as : {b : List ℕ} {l m : ℕ} → l ≡ m → NumberedLabel b m → NumberedLabel b l
-numbered-as {b = b} e y = subst (NumberedLabel b) (sym e) y
 
 pub kind-low : {b : List ℕ} {l : ℕ} → NumberedLabel b l → (table_label b l).kind ≤ 2
 kind-low {b = b} {l = l} y = go (table_label b l).kind refl (label-values b l).kinds
@@ -86,16 +78,6 @@ kind-low {b = b} {l = l} y = go (table_label b l).kind refl (label-values b l).k
     go (suc (suc zero)) e h = omega arith
     go (suc (suc (suc zero))) e h = absurd (omega (arith, (label-values b l).three e, y.low))
     go (suc (suc (suc (suc k)))) e h = absurd (omega (arith, (label-values b l).four (omega arith), y.low))
-
--- of a plain label no bit decides
-pub plain-decides : {b : List ℕ} {l m : ℕ} → l ≡ m → NumberedLabel b m → (table_label b m).kind ≡ 0 → Deciding b l 2
-plain-decides {b = b} {l = l} e y k =
-    let z : (table_label b l).kind ≡ 0 = ap (λ (j : ℕ). (table_label b j).kind) e ∙ k in
-    record { label = numbered-as e y; none = λ _ n. omega arith; some = λ n. absurd (n refl) }
-
--- a label that is neither 0 nor 1
-pub two_up : {l m : ℕ} → l ≡ m → (Unit {0} × (l ≡ 0 → ⊥)) × (l ≡ 1 → ⊥) → 2 ≤ m
-two_up e others = let zero-not = others.0.1 in let one-not = others.1 in omega (arith, zero-not, one-not)
 
 -- ---- the top of a state
 module _ (b : List ℕ) (s : State) (y : TickAsked b s) where

@@ -33,9 +33,3 @@ module _ (p q : ℕ → Bool) (n v a b : ℕ) (d : Downward p q n v a b) where
   module _ (h : v ≤ 0) where
     whole : (p : ℕ → Bool) → lowest p v (n - v) ≡ lowest p 0 n
     whole p = ap (λ (j : ℕ). lowest p j (n - j)) (omega arith) ∙ ap (lowest p 0) (sub-zero n)
-
-    pub downward-first : a ≡ lowest p 0 n
-    downward-first = d.first ∙ whole p
-
-    pub downward-second : b ≡ lowest q 0 n
-    downward-second = d.second ∙ whole q

@@ -5,7 +5,7 @@ use mathlib.Core.Bool.{Bool, true, false, ◌||◌}
 use mathlib.Core.List.{[], ◌∷◌}
 use Prim.Native.Nat.{ℕ, zero, suc, ◌≤◌, ◌<◌}
 use native.Mathlib.Omega.{arith}
-use lib.Dec.{leb, ltb, eqb}
+use lib.Dec.{ltb, eqb}
 use borrow.Author.Tests.{eq-eqb, lt-leb}
 use Rattle.words.specs.lists.Sequences.{some}
 use Rattle.words.proofs.lists.Tests.{or_no}
@@ -57,9 +57,6 @@ module _ (c : Chart) (v k a h : ℕ) (ek : k ≡ kind c v) (ea : a ≡ argument 
 
   pub operation-call : k ≡ 2 → has_bad_call c v ≡ (eqb a 1 || ltb h a)
   operation-call e = call_by 2 e ∙ sym (rw (ea, eh))
-
-  pub function-call : k ≡ 4 → has_bad_call c v ≡ (leb a 1 || ltb h a)
-  function-call e = call_by 4 e ∙ sym (rw (ea, eh))
 
   pub no_call : (k ≡ 2 → ⊥) → (k ≡ 4 → ⊥) → false ≡ has_bad_call c v
   no_call x y = sym (go (kind c v) (λ q. x (ek ∙ q)) (λ q. y (ek ∙ q)))

@@ -41,9 +41,6 @@ module _ (c : Chart) (n v h : ℕ) (bs es : List ℕ) (d : CountingNodes c n v h
   pub begins-long : length bs ≡ length (replicate {A = ℕ} 17 0)
   begins-long = counts-long c 0 v bs d.begins ∙ sym (length-replicate {A = ℕ} 17 0)
 
-  pub ends-long : length es ≡ length (replicate {A = ℕ} 17 0)
-  ends-long = counts-long c 1 v es d.ends ∙ sym (length-replicate {A = ℕ} 17 0)
-
   pub counting-turn : (h' s : ℕ) (bs' es' : List ℕ) → v < n → has_bad_field c v ≡ false → s ≡ scheme c v → h' ≡ max h s
       → bs' ≡ counts_to c 0 (v + 1) → es' ≡ counts_to c 1 (v + 1) → CountingNodes c n (v + 1) h' bs' es'
   counting-turn h' s bs' es' l good is e p q = record {

@@ -1,15 +1,15 @@
 -- The arcs that marks follow, case by case, and the marks of Begins and of cut-off nodes.
 use mathlib.Core.Path.{◌≡◌, refl, sym, ◌∙◌, ap, subst}
 use mathlib.Core.Logic.{◌⊎◌, inl, inr}
-use mathlib.Core.Bool.{Bool, true, false, ◌&&◌, not}
-use mathlib.Core.List.{List, [], ◌∷◌, ◌++◌, map, append-nil}
+use mathlib.Core.Bool.{Bool, true, false, not}
+use mathlib.Core.List.{List, [], ◌∷◌, ◌++◌, map}
 use Prim.Native.Nat.{ℕ, zero, suc, ◌+◌, ◌≤◌, ◌<◌}
 use native.Mathlib.Nat.{zero-add}
 use native.Mathlib.Numerals.{add-one}
 use native.Mathlib.Decide.{ℕ_discrete}
 use native.Mathlib.Omega.{arith}
 use lib.Dec.{eqb}
-use lib.ListN.{length, get_or, set, take, drop, replicate, drop_of_length-le, length-replicate}
+use lib.ListN.{length, get_or, set, take, drop, replicate, length-replicate}
 use lib.Seq.{drop-cons, set_at, append_snoc}
 use borrow.Author.Tests.{eq-eqb, ne_eqb}
 use Rattle.words.specs.lists.Pick.{pick}
@@ -53,9 +53,6 @@ module _ (c : Chart) (b : Bool) (v : ℕ) where
     module _ (h : b ≡ true → k ≡ 3) where
       all : arcs_by c b v ≡ arcs c v
       all = by_all (λ t. sym e ∙ h t)
-
-      pub count-end : k ≡ 1 → 0 ≡ length (arcs_by c b v)
-      count-end q = long [] (all ∙ arcs-end c v (sym e ∙ q))
 
       pub count-two : 3 ≤ k → k < 5 → 2 ≡ length (arcs_by c b v)
       count-two l m = long (next0 c v ∷ next1 c v ∷ []) (all ∙ two-arcs c v (omega arith) (omega arith))
@@ -137,25 +134,9 @@ module _ (c : Chart) (k : ℕ) (old : List Bool) where
       ∙ ap (λ (xs : List Bool). xs ++ drop (suc v) old) (sym (map-range-snoc (is c k) 0 v))
       ∙ ap (λ (j : ℕ). map (is c k) (range 0 j) ++ drop j old) (sym (add-one v))
 
-  pub kinds-done : (v : ℕ) (ms : List Bool) → v ≡ size c → length old ≡ size c → ms ≡ map (is c k) (range 0 v) ++ drop v old
-      → ms ≡ kind_marks c k
-  kinds-done v ms q l e =
-      e ∙ ap (λ (xs : List Bool). front v ++ xs) (drop_of_length-le old {i = v} (omega arith))
-      ∙ append-nil (front v) ∙ ap (λ (j : ℕ). front j) q
-
 -- ---- a condition on a circle
 pub no-circle : (c : Chart) (v : ℕ) → is c 3 v ≡ false → is_on_circle c v ≡ false
 no-circle c v i = rw i
-
-module _ (c : Chart) (v x : ℕ) (p : x ≡ kind c v) where
-  pub circle-other : (x ≡ 3 → ⊥) → false ≡ is_on_circle c v
-  circle-other n = sym (no-circle c v (ne_eqb (kind c v) 3 (λ q. n (p ∙ q))))
-
-  pub circle-back : x ≡ 3 → (ms : List Bool) (r : Bool) → ms ≡ nodes_joined_from (size c) (condition_arcs c) (arcs c v)
-      → r ≡ is_marked ms v → r ≡ is_on_circle c v
-  circle-back q ms r e t =
-      t ∙ ap (λ (xs : List Bool). is_marked xs v) e
-      ∙ sym (ap (λ b. b && is_marked (nodes_joined_from (size c) (condition_arcs c) (arcs c v)) v) (eq-eqb (kind c v) 3 (sym p ∙ q)))
 
 -- the marks of the next nodes of v, spread: those of the definition
 pub spread-back : (c : Chart) (v : ℕ) (first joined : List Bool) → first ≡ only_marks (size c) (arcs c v)

@@ -48,9 +48,6 @@ module _ (c : Chart) (first : List Bool) where
         ∙ ap (λ (m : ℕ). marks_swept_to c m first) (sym (add-one v));
   }
 
-  pub sweeping-all : (now : List Bool) (v : ℕ) → Sweeping c first now v → size c ≤ v → now ≡ marks_swept_to c (size c) first
-  sweeping-all now v t h = let e : v ≡ size c = omega (arith, t.low) in t.is ∙ ap (λ (m : ℕ). marks_swept_to c m first) e
-
   -- ---- what arcs join from the marks stays the same
   swept-joining : length first ≡ size c → (v : ℕ) → Joining (size c) (arcs c) first (marks_swept_to c v first)
   unfolding marks_swept_to

@@ -1,7 +1,7 @@
 -- The steps of the functions on nodes, at plain values.
 use mathlib.Core.Path.{◌≡◌, refl, sym, ◌∙◌, ap}
 use mathlib.Core.List.{List}
-use mathlib.Core.Bool.{true, false, ◌&&◌, not}
+use mathlib.Core.Bool.{true, false, ◌&&◌}
 use Prim.Native.Nat.{ℕ, ◌*◌, ◌-◌, ◌+◌, ◌≤◌, ◌<◌}
 use native.Mathlib.Decide.{ℕ_discrete}
 use native.Mathlib.Omega.{arith}
@@ -95,17 +95,6 @@ pub begin-asks : (c : Chart) → Ready c → (v k : ℕ) → v < size c → k �
 begin-asks c ready v k l e z =
     let t = (ready-facts ready).arc0 v l (λ q. omega arith) in
     (omega (arith, ready.whole), omega (arith, ready.whole, t.inside))
-
-module _ (c : Chart) (v next s : ℕ) (e : next ≡ next0 c v) (es : s ≡ scheme c v) where
-  pub begin-second : (k : ℕ) → k ≡ kind c next → (s ≡ 1 → ⊥) → eqb k 3 ≡ (not (eqb (scheme c v) 1) && is c 3 (next0 c v))
-  begin-second k ek n =
-      and_second (not (eqb (scheme c v) 1)) (is c 3 (next0 c v)) (eqb k 3) (ap not (ne_eqb (scheme c v) 1 (λ q. n (es ∙ q))))
-      (ap (λ (x : ℕ). eqb x 3) (ek ∙ ap (kind c) e))
-
-  pub begin-first : s ≡ 1 → not (eqb s 1) ≡ (not (eqb (scheme c v) 1) && is c 3 (next0 c v))
-  begin-first n =
-      and_first (not (eqb (scheme c v) 1)) (is c 3 (next0 c v)) (not (eqb s 1)) (ap not (eq-eqb (scheme c v) 1 (sym es ∙ n)))
-      (ap (λ (x : ℕ). not (eqb x 1)) es)
 
 module _ (c : Chart) (v k s first : ℕ) (ek : k ≡ kind c v) (three : k ≡ 3) (es : s ≡ scheme c v) (f : first ≡ next0 c (begin c 1)) where
   pub condition-second : s ≡ 1 → eqb first v ≡ is_stop c v

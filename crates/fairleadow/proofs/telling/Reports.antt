@@ -1,29 +1,12 @@
 -- What is told of a refused tick and of a finished one, and of a report that gives an outcome.
 use Prim.Native.Nat.{ℕ}
 use mathlib.Core.Bool.{Bool}
-use mathlib.Core.Path.{◌≡◌, sym, ◌∙◌, ap, subst}
+use mathlib.Core.Path.{◌≡◌, ◌∙◌, ap, subst}
 use lib.Dec.{eqb}
-use borrow.Author.Tests.{eq-eqb, ne_eqb}
 use Rattle.words.specs.lists.Pick.{pick}
-use Rattle.words.proofs.lists.Tests.{yes-pick, no-pick}
 use Rattle.text.specs.frames.Answer.{Reply, reply_number, reply}
 use Rattle.runs.specs.declared.TickReport.{TickReport}
 use Rattle.fairleadow.specs.telling.AnswersForC.{GivesReplyC, GivesTickReportC}
-
-module _ (r : TickReport) {n i m : ℕ} (told : GivesReplyC (reply r.answer) n i m) where
-  pub report-refused : (m₀ k₀ : ℕ) → (n ≡ 0 → ⊥) → GivesTickReportC r m₀ k₀ n i m m₀ k₀
-  report-refused m₀ k₀ h = record {
-    told = told;
-    mask = sym (no-pick (eqb n 0) r.mask m₀ (ne_eqb n 0 h));
-    code = sym (no-pick (eqb n 0) r.code k₀ (ne_eqb n 0 h));
-  }
-
-  pub report-done : (m₀ k₀ : ℕ) → n ≡ 0 → GivesTickReportC r m₀ k₀ n i m r.mask r.code
-  report-done m₀ k₀ h = record {
-    told = told;
-    mask = sym (yes-pick (eqb n 0) r.mask m₀ (eq-eqb n 0 h));
-    code = sym (yes-pick (eqb n 0) r.code k₀ (eq-eqb n 0 h));
-  }
 
 pub told-as : {a b : Reply} {n i m : ℕ} → a ≡ b → GivesReplyC a n i m → GivesReplyC b n i m
 told-as {n = n} {i = i} {m = m} e t = subst (λ (x : Reply). GivesReplyC x n i m) e t

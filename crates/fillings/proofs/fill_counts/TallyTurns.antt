@@ -126,9 +126,6 @@ left-few n k left e l =
     let m : n * k ≡ left * k + k = ap (λ (a : ℕ). a * k) e ∙ suc-mul left k in
     (omega arith, omega arith)
 
-pub words-few : (k : ℕ) → k ≤ 16 → 2 ^ k ≤ 65536
-words-few k l = pow-le-pow_right {n = 2} (omega arith) l
-
 pub record Part (b bytes : List ℕ) (n k left listed words : ℕ) (tally : Tally) (word : ℕ) : Type 0 where
   pub stands : TickAsked b (state_of bytes)
   pub whole : n ≡ suc left

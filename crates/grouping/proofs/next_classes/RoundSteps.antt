@@ -1,40 +1,21 @@
 -- Steps of one round over a table.
 use Prim.Native.Nat.{ℕ, suc, ◌+◌, ◌≤◌, ◌<◌}
-use mathlib.Core.Bool.{Bool, false, ◌&&◌, not}
-use mathlib.Core.Path.{◌≡◌, refl, sym, ◌∙◌, ap, ap₂, subst}
+use mathlib.Core.Bool.{Bool}
+use mathlib.Core.Path.{◌≡◌, refl, sym, ◌∙◌, ap, subst}
 use mathlib.Core.List.{List}
 use native.Mathlib.Omega.{arith}
-use lib.Dec.{eqb}
 use lib.ListN.{length, get_or, set}
 use lib.Seq.{ext_get_or}
-use borrow.Author.Tests.{eq-eqb, ne_eqb}
 use Rattle.image.specs.Image.{Image}
 use Rattle.image.specs.Decode.{last_label}
 use Rattle.tables.specs.Table.{table_image}
 use Rattle.tables.proofs.TableReads.{labels-count}
 use Rattle.grouping.specs.Classes.{is_staying_with, classes_by, classes}
 use Rattle.grouping.specs.inner.GroupingContracts.{Even, Classed, Refined, OneMore, Marks, ClassAsked}
-use Rattle.grouping.specs.inner.GroupingContracts.{is_parted_on, is_class_leader, next_class}
+use Rattle.grouping.specs.inner.GroupingContracts.{next_class}
 use Rattle.grouping.proofs.Representatives.{lowest_alike}
 use Rattle.grouping.proofs.TableRounds.{FillingClasses, fill_start, fill_on, fill-all, value-small, classes-long, class_low, class-below}
 use Rattle.grouping.proofs.TableRounds.{zero-alone, one-alone, next-is}
-
--- ---- leads_class
-module _ (b c next : List ℕ) (l m : ℕ) where
-  pub leads-other : (get_or c m 0 ≡ get_or c l 0 → ⊥) → false ≡ is_class_leader b c next l m
-  leads-other e =
-      sym (ap (λ (t : Bool). t && eqb (get_or next m 0) m && not (is_parted_on b c m l)) (ne_eqb (get_or c m 0) (get_or c l 0) e))
-
-  pub leads-not : get_or c m 0 ≡ get_or c l 0 → (get_or next m 0 ≡ m → ⊥) → false ≡ is_class_leader b c next l m
-  leads-not p e =
-      sym (ap₂ (λ (s t : Bool). s && t && not (is_parted_on b c m l)) (eq-eqb (get_or c m 0) (get_or c l 0) p)
-      (ne_eqb (get_or next m 0) m e))
-
-  pub leads-by : get_or c m 0 ≡ get_or c l 0 → get_or next m 0 ≡ m → (t : Bool) → t ≡ is_parted_on b c m l
-      → not t ≡ is_class_leader b c next l m
-  leads-by p q t e =
-      ap not e ∙ sym (ap₂ (λ (s t : Bool). s && t && not (is_parted_on b c m l))
-      (eq-eqb (get_or c m 0) (get_or c l 0) p) (eq-eqb (get_or next m 0) m q))
 
 module _ (b : List ℕ) where
   abbrev i : Image

@@ -6,7 +6,6 @@ use mathlib.Core.List.{List, []}
 use native.Mathlib.Omega.{arith}
 use lib.Dec.{leb, ltb}
 use lib.ListN.{length, get_or, take}
-use lib.Seq.{length-take-le}
 use borrow.Author.Tests.{lt-ltb, le-ltb, le-leb, lt-leb, ltb-true, ltb-false}
 use Rattle.words.specs.lists.Sequences.{written, over}
 use Rattle.words.proofs.lists.Tests.{or-none, or-true-l, or_true_r}
@@ -85,20 +84,3 @@ module _ (rs₀ rs : List ℕ) (k : ℕ) (s : Sought) (few : FewFrames rs₀) (l
       fetched l out w = lent-done (little_verdict (size rs₀) k) 1 (λ _. little_text (size rs₀) k) old accepted
           (omega (arith, text-long)) count
           (omega (arith, text-long)) out (w ∙ written-front old (text_of rs) ∙ ap (λ (xs : List ℕ). over xs old) text-is)
-
--- ---- the records that the search is lent
-module _ (xs : List ℕ) (n : ℕ) (a : 2 ≤ n) (b : n ≤ 4) (long : length xs ≡ 40) where
-  pub lent-long : length (take (10 * n) xs) ≡ 10 * n
-  lent-long = length-take-le (10 * n) xs (omega arith)
-
-  lent-size : size (take (10 * n) xs) ≡ n
-  lent-size = omega (arith, lent-long)
-
-  pub lent-few : FewFrames (take (10 * n) xs)
-  lent-few = record { whole = omega (arith, lent-long); some = omega (arith, lent-size); few = omega (arith, lent-size) }
-
-  pub lent-fetched : (k : ℕ) (old out : List ℕ) (r : Answer) → GivesBuffer (little_chart (size (take (10 * n) xs)) k old) r out
-      → GivesBuffer (little_chart n k old) r out
-  lent-fetched k old out r = subst (λ (m : ℕ). GivesBuffer (little_chart m k old) r out
-      → GivesBuffer (little_chart n k old) r out) (sym lent-size)
-      (λ x. x)

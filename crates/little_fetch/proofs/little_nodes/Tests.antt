@@ -8,36 +8,9 @@ use borrow.Author.Tests.{eq-eqb, ne_eqb}
 use Rattle.words.specs.lists.Numbers.{any}
 use Rattle.text.specs.frames.Frame.{size}
 use Rattle.words.proofs.lists.Tests.{or-true-l, or_true_r, or-none, or_no}
-use Rattle.charts.specs.Chart.{Chart, kind, next0, next1}
+use Rattle.charts.specs.Chart.{Chart, kind}
 use Rattle.little_charts.specs.little_search.inner.Search.{has_kind, has_arc_to, has_arc_to_begin, is_clash, is_repeat, is_barred_node}
 use Rattle.little_charts.specs.little_search.inner.Search.{is_other_leading_to, is_lonely}
-
-module _ (c : Chart) (u t k : ℕ) (q : k ≡ kind c u) where
-  pub leads-end : k ≡ 1 → false ≡ has_arc_to c u t
-  leads-end e = rw (eq-eqb (kind c u) 1 (sym q ∙ e))
-
-  module _ (n : k ≡ 1 → ⊥) (x : ℕ) (f : x ≡ next0 c u) where
-    pub leads-first : x ≡ t → true ≡ has_arc_to c u t
-    leads-first e = rw (ne_eqb (kind c u) 1 (λ z. n (q ∙ z)), eq-eqb (next0 c u) t (sym f ∙ e))
-
-    module _ (d : x ≡ t → ⊥) where
-      pub leads-only : (k ≡ 3 → ⊥) → false ≡ has_arc_to c u t
-      leads-only e = rw (ne_eqb (kind c u) 1 (λ z. n (q ∙ z)), ne_eqb (next0 c u) t (λ z. d (f ∙ z)), ne_eqb (kind c u) 3 (λ z. e (q ∙ z)))
-
-      pub leads-second : (y : ℕ) → k ≡ 3 → y ≡ next1 c u → eqb y t ≡ has_arc_to c u t
-      leads-second y e g = rw
-          (ne_eqb (kind c u) 1 (λ z. n (q ∙ z)), ne_eqb (next0 c u) t (λ z. d (f ∙ z)), eq-eqb (kind c u) 3 (sym q ∙ e), g)
-
-pub any-start : (p : ℕ → Bool) (n : ℕ) → any p 0 (n - 0) ≡ any p 0 n
-any-start p n = ap (any p 0) (omega arith)
-
--- ---- Begins that arcs lead to
-module _ (c : Chart) (u v k : ℕ) (q : k ≡ kind c v) where
-  pub enters_none : (k ≡ 0 → ⊥) → false ≡ has_arc_to_begin c u v
-  enters_none n = rw (ne_eqb (kind c v) 0 (λ z. n (q ∙ z)))
-
-  pub enters-by : (r : Bool) → k ≡ 0 → r ≡ has_arc_to c u v → r ≡ has_arc_to_begin c u v
-  enters-by r e f = f ∙ rw (eq-eqb (kind c v) 0 (sym q ∙ e))
 
 module _ (c : Chart) (v u : ℕ) where
   pub clash-first : (r : Bool) → r ≡ has_arc_to_begin c u v → r ≡ true → is_clash c v u ≡ true
@@ -51,16 +24,10 @@ module _ (c : Chart) (v u : ℕ) where
 
 -- ---- nodes that no other leads to
 module _ (c : Chart) (v u : ℕ) where
-  pub other-self : u ≡ v → false ≡ is_other_leading_to c v u
-  other-self e = rw (eq-eqb u v e)
-
   pub other-by : (r : Bool) → (u ≡ v → ⊥) → r ≡ has_arc_to c u v → r ≡ is_other_leading_to c v u
   other-by r n e = e ∙ rw (ne_eqb u v n)
 
 module _ (c : Chart) (v k : ℕ) (q : k ≡ kind c v) where
-  pub lonely-begin : k ≡ 0 → false ≡ is_lonely c v
-  lonely-begin e = rw (eq-eqb (kind c v) 0 (sym q ∙ e))
-
   pub lonely-by : (t : Bool) → (k ≡ 0 → ⊥) → t ≡ any (is_other_leading_to c v) 0 (size c) → not t ≡ is_lonely c v
   lonely-by t n e = ap not e ∙ rw (ne_eqb (kind c v) 0 (λ z. n (q ∙ z)))
 

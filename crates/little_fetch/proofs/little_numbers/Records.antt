@@ -1,23 +1,15 @@
 -- Node records by number, and the numbers to try, by the tests that the code makes.
-use Prim.Native.Nat.{ℕ, zero, suc, ◌+◌, ◌*◌, ◌-◌, ◌/◌, ◌%◌, ◌≤◌, ◌<◌}
+use Prim.Native.Nat.{ℕ, ◌+◌, ◌*◌, ◌-◌, ◌/◌, ◌%◌, ◌≤◌, ◌<◌}
 use mathlib.Core.Bool.{Bool, true, false}
 use mathlib.Core.Path.{◌≡◌, sym, ◌∙◌}
 use mathlib.Core.List.{List, [], ◌∷◌}
-use native.Mathlib.Omega.{arith}
-use lib.Dec.{leb, ltb, eqb}
-use borrow.Author.Tests.{lt-ltb, le-ltb, le-leb, lt-leb, eq-eqb, ne_eqb}
+use lib.Dec.{ltb, eqb}
+use borrow.Author.Tests.{lt-ltb, le-ltb, eq-eqb, ne_eqb}
 use Rattle.words.specs.lists.Pick.{pick}
 use Rattle.words.proofs.lists.Tests.{yes-pick, no-pick}
-use Rattle.little_charts.specs.little_search.inner.Search.{node_count, node_at}
+use Rattle.little_charts.specs.little_search.inner.Search.{node_at}
 
 -- ---- arcs are small
-pub condition-small : (n i : ℕ) → 1 ≤ n → n ≤ 4 → i < node_count n → ((i - (3 * n + 1)) / n < 256) × ((i - (3 * n + 1)) % n < 256)
-condition-small zero i a b l = absurd (omega arith)
-condition-small (suc zero) i a b l = (omega arith, omega arith)
-condition-small (suc (suc zero)) i a b l = (omega arith, omega arith)
-condition-small (suc (suc (suc zero))) i a b l = (omega arith, omega arith)
-condition-small (suc (suc (suc (suc zero)))) i a b l = (omega arith, omega arith)
-condition-small (suc (suc (suc (suc (suc n))))) i a b l = absurd (omega arith)
 
 module _ (n i : ℕ) where
   pub at-begin : i < n → ◌≡◌ {A = List ℕ} (0 ∷ 1 ∷ 0 ∷ i ∷ 0 ∷ 0 ∷ 0 ∷ 0 ∷ 0 ∷ 0 ∷ []) (node_at n i)
@@ -47,24 +39,3 @@ chosen r t a b e q = sym (yes-pick t a b (sym e ∙ q))
 
 pub left : {A : Type 0} (r t : Bool) (a b : A) → r ≡ t → r ≡ false → b ≡ pick t a b
 left r t a b e q = sym (no-pick t a b (sym e ∙ q))
-
-pub both_small : (s t : Bool) (x y : ℕ) → x ≡ pick s 0 1 → y ≡ pick t 0 1 → x + y ≤ 2
-both_small true true x y e f = omega arith
-both_small true false x y e f = omega arith
-both_small false true x y e f = omega arith
-both_small false false x y e f = omega arith
-
-pub square-small : (n : ℕ) → n ≤ 4 → n * n ≤ 16
-square-small zero a = omega arith
-square-small (suc zero) a = omega arith
-square-small (suc (suc zero)) a = omega arith
-square-small (suc (suc (suc zero))) a = omega arith
-square-small (suc (suc (suc (suc zero)))) a = omega arith
-square-small (suc (suc (suc (suc (suc n))))) a = absurd (omega arith)
-
-module _ (n v m k : ℕ) (e : m ≡ k) where
-  pub past-few : n - v ≤ m → n + 1 ≡ pick (leb (n - v) k) (n + 1) (node_count n)
-  past-few l = sym (yes-pick (leb (n - v) k) (n + 1) (node_count n) (le-leb (n - v) k (omega arith)))
-
-  pub past_all : m < n - v → node_count n ≡ pick (leb (n - v) k) (n + 1) (node_count n)
-  past_all l = sym (no-pick (leb (n - v) k) (n + 1) (node_count n) (lt-leb (n - v) k (omega arith)))

@@ -111,9 +111,6 @@ module _ (b c numbers : List ℕ) (N : NumberedGroups b c numbers) (f : ℕ) whe
     pub entry-frame : f < size b
     entry-frame = omega (arith, table-all)
 
-    pub entry-small : f < 256
-    entry-small = omega (arith, entries-count b, N.table.image.most)
-
     entry-inside : field b f 2 ≤ last_label b
     entry-inside =
         let z : suc (f - 1) ≡ f = omega arith in
@@ -159,9 +156,6 @@ pub record Rest (piece : ℕ → List ℕ) (out₀ out : List ℕ) (place n f : 
   pub low : 1 ≤ f
   pub done : (old : List ℕ) → Appended piece old out₀ 0 23 n 1 → Appended piece old out 0 place n f
 
-pub rest-start : (piece : ℕ → List ℕ) (out₀ : List ℕ) (n : ℕ) → Rest piece out₀ out₀ 23 n 1
-rest-start piece out₀ n = record { low = omega arith; done = λ old a. a }
-
 module _ (piece : ℕ → List ℕ) (out₀ out : List ℕ) (place n f : ℕ) (t : Rest piece out₀ out place n f) (old : List ℕ)
     (a : Appended piece old out₀ 0 23 n 1) where
   module _ (h : f < n) (room : length (up_to piece n) ≤ length old) where
@@ -173,9 +167,6 @@ module _ (piece : ℕ → List ℕ) (out₀ out : List ℕ) (place n f : ℕ) (t
       low = omega arith;
       done = λ other x. appended-on piece other out 0 place n f (t.done other x) h (omega (arith, x.size, a.size)) out' place' p;
     }
-
-  pub rest-length : length out ≡ length old
-  rest-length = (t.done old a).size
 
   pub rest_all : n ≤ f → out ≡ written old 0 (up_to piece n)
   rest_all h = appended-done piece old out 0 place n f (t.done old a) h

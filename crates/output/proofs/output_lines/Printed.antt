@@ -3,7 +3,7 @@ use Prim.Native.Nat.{ℕ, ◌+◌, ◌*◌, ◌≤◌, ◌<◌}
 use mathlib.Core.Path.{◌≡◌, refl, ◌∙◌, ap, subst}
 use mathlib.Core.List.{List}
 use native.Mathlib.Omega.{arith}
-use lib.ListN.{length, take, drop, get_or, length-append, length-take}
+use lib.ListN.{length, get_or}
 use Rattle.words.specs.lists.Sequences.{concat_map, written}
 use Rattle.words.proofs.lists.Joins.{concat-places, length-concat, all-every}
 use Rattle.words.proofs.lists.Fills.{Pieces, pieces-turn, pieces-all}
@@ -42,14 +42,3 @@ module _ (codes out₀ out : List ℕ) (i : ℕ) (w : Pieces (line_at codes) 3 o
 
 pub printed-as : (x y : List ℕ) (n : ℕ) (before after : List ℕ) → x ≡ y → Prints x n before after → Prints y n before after
 printed-as x y n before after e p = subst (λ z. Prints z n before after) e p
-
--- ---- what was printed lies within the buffer, so that it can be handed on
-module _ (x : List ℕ) (n : ℕ) (before after : List ℕ) (p : Prints x n before after) where
-  pub printed-fits : n ≤ length after
-  printed-fits =
-      let e : length after ≡ length x + length (drop (length x) before) = ap length p.written
-      ∙ length-append x (drop (length x) before) in
-      omega (arith, p.counted)
-
-  pub printed-part : n ≡ length (take n after)
-  printed-part = simp length-take (omega (arith, printed-fits))

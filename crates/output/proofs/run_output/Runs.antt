@@ -50,9 +50,6 @@ module _ (a : Answer) (codes : List ℕ) (n : ℕ) (counts : reply_count (reply 
   pub finished-part : n ≡ length (take n codes)
   finished-part = simp length-take (omega (arith, within.0))
 
-  pub finished-room : (before : List ℕ) → 215 ≤ length before → 3 * length (take n codes) + 23 ≤ length before
-  finished-room before room = omega (arith, finished-part, within.0, within.1)
-
   taken-length : length (concat_map code_line (take n codes)) ≡ 3 * n
   taken-length = codes-length (take n codes) ∙ omega (arith, finished-part)
 

@@ -1,6 +1,6 @@
 -- The masks of the calls: one node more, and the rounds over them.
 use Prim.Native.Nat.{ℕ, zero, suc, ◌+◌, ◌-◌, ◌^◌, ◌≤◌, ◌<◌}
-use mathlib.Core.Bool.{Bool, true, false, ◌&&◌, ◌||◌, not}
+use mathlib.Core.Bool.{Bool, true, false, ◌&&◌, ◌||◌}
 use mathlib.Core.Path.{◌≡◌, refl, sym, ◌∙◌, ap, ap₂}
 use mathlib.Core.Logic.{⊎_elim}
 use mathlib.Core.List.{List}
@@ -62,10 +62,6 @@ module _ (c : Chart) (v k r : ℕ) (ek : k ≡ kind c v) where
 
   pub at-function : k ≡ 4 → r ≡ argument c v → r ≡ called_at c v
   at-function e q = q ∙ sym (ap (λ (b : Bool). pick b (argument c v) 0) (holds-function c v (sym ek ∙ e)))
-
-  pub at_other : (k ≡ 2 → ⊥) → (k ≡ 4 → ⊥) → 0 ≡ called_at c v
-  at_other n m = sym (ap₂ (λ (a b : Bool). pick (a || (b && not (eqb (argument c v) 0))) (argument c v) 0)
-      (ne_eqb (kind c v) 4 (λ z. m (ek ∙ z))) (ne_eqb (kind c v) 2 (λ z. n (ek ∙ z))))
 
 module _ (c : Chart) (v r : ℕ) (e : r ≡ called_at c v) where
   pub call-some : (r ≡ 0 → ⊥) → (has_call c v ≡ true) × (r ≡ argument c v)

@@ -1,14 +1,13 @@
 -- The loop that puts 0 in each place.
-use Prim.Native.Nat.{ℕ, ◌+◌, ◌≤◌, ◌<◌}
-use mathlib.Core.Path.{◌≡◌, refl, sym, ap, ap₂, subst, ◌∙◌}
+use Prim.Native.Nat.{ℕ, ◌≤◌, ◌<◌}
+use mathlib.Core.Path.{◌≡◌, refl, sym, ap, ap₂, ◌∙◌}
 use mathlib.Core.List.{List}
 use native.Mathlib.Omega.{arith}
-use borrow.Author.Count.{below_more}
-use lib.ListN.{length, get_or, set, length-set, get_or-replicate}
-use lib.Seq.{ext_get_or, get_or-set_same, get_or-set_other}
+use lib.ListN.{length, get_or, get_or-replicate}
+use lib.Seq.{ext_get_or}
 use Rattle.state.specs.declared.State.{State}
 use Rattle.state.specs.State.{no_places}
-use Rattle.state.specs.Changes.{with_opened, with_places}
+use Rattle.state.specs.Changes.{with_places}
 use Rattle.state.specs.Bytes.{state_of}
 use Rattle.state.proofs.ResultBytes.{held-sized}
 
@@ -19,15 +18,6 @@ pub record Zeros (xs : List ℕ) (k : ℕ) : Type 0 where
 
 zeros-none : (xs : List ℕ) → length xs ≡ 32 → Zeros xs 0
 zeros-none xs e = record { whole = e; passed = λ j h. absurd (omega arith) }
-
-zeros-turn : (xs : List ℕ) (k : ℕ) → Zeros xs k → k < 32 → Zeros (set xs k 0) (k + 1)
-zeros-turn xs k z h =
-    record {
-      whole = length-set xs k 0 ∙ z.whole;
-      passed = below_more (λ (j : ℕ). get_or (set xs k 0) j 0 ≡ 0) k
-          (λ j l. get_or-set_other xs k j 0 0 (λ q. omega arith) ∙ z.passed j l)
-          (get_or-set_same xs k 0 0 (omega (arith, z.whole)));
-    }
 
 zeros-all : (xs : List ℕ) (k : ℕ) → Zeros xs k → 32 ≤ k → xs ≡ no_places
 zeros-all xs k z h =
@@ -54,17 +44,6 @@ cleared-none b =
     }
 
 module _ (s₀ s : State) (k : ℕ) (y : Cleared s₀ s k) where
-  pub cleared-turn : (t : State) → t ≡ with_opened s k 0 0 0 → k < 32 → Cleared s₀ t (k + 1)
-  cleared-turn t e h =
-      subst (λ (u : State). Cleared s₀ u (k + 1)) (sym e)
-      (record {
-        low = omega arith;
-        same = ap (λ (u : State). with_opened u k 0 0 0) y.same;
-        places = zeros-turn _ k y.places h;
-        numbers = zeros-turn _ k y.numbers h;
-        servers = zeros-turn _ k y.servers h;
-      })
-
   pub cleared-all : 32 ≤ k → s ≡ with_places s₀ no_places no_places no_places
   cleared-all h =
       y.same

@@ -6,7 +6,7 @@ use mathlib.Core.Logic.{⊎_elim, ◌⊎◌, inl, inr}
 use mathlib.Core.List.{List, [], ◌∷◌, ◌++◌, map}
 use native.Mathlib.Omega.{arith}
 use mir.Val.{bool_byte}
-use lib.Bits.{bit_and, and_le_r}
+use lib.Bits.{bit_and}
 use lib.Dec.{leb, ltb}
 use lib.ListN.{get_or, replicate}
 use borrow.Author.Tests.{le-ltb, lt-ltb, le-leb, lt-leb, leb-true}
@@ -129,11 +129,6 @@ pub char-high : (d : ℕ) → 10 ≤ d → char_of d ≡ 55 + d
 unfolding char_of
 char-high d h = simp (le-ltb d 10 h)
 
--- a test as a number, and the character of a digit by it
-pub test-small : (b : Bool) → bool_byte b ≤ 1
-test-small true = omega arith
-test-small false = omega arith
-
 pub char_made : (d : ℕ) → d + 48 + 7 * bool_byte (ltb 9 d) ≡ char_of d
 char_made d =
     ⊎_elim (λ (l : d < 10). ap (λ (b : Bool). d + 48 + 7 * bool_byte b) (le-ltb 9 d (omega arith)) ∙ omega arith ∙ sym (char-low d l))
@@ -150,9 +145,6 @@ both_digits b = b / 16 + b % 16 * 256
 
 abbrev pub letters : ℕ → ℕ
 letters b = bit_and ((both_digits b + 1542) / 16) 257
-
-pub letters-few : (b : ℕ) → letters b ≤ 257
-letters-few b = and_le_r ((both_digits b + 1542) / 16) 257
 
 abbrev summed : ℕ → ℕ
 summed b = both_digits b + 12336 + 7 * letters b

@@ -2,8 +2,7 @@
 use mathlib.Core.Path.{◌≡◌, refl, sym, ◌∙◌, ap}
 use mathlib.Core.Bool.{true, false}
 use mathlib.Core.List.{List, [], ◌∷◌, ◌++◌, map}
-use Prim.Native.Nat.{ℕ, ◌*◌, ◌%◌, ◌≤◌}
-use native.Mathlib.Omega.{arith}
+use Prim.Native.Nat.{ℕ, ◌%◌}
 use lib.ListN.{length}
 use Rattle.words.specs.lists.Numbers.{range}
 use Rattle.words.specs.lists.Sequences.{concat_map, over}
@@ -12,7 +11,6 @@ use Rattle.words.proofs.lists.Ranges.{map-append}
 use Rattle.text.specs.frames.Frame.{byte_at, frame_count, contents}
 use Rattle.text.specs.frames.Check.{is_bad_length}
 use Rattle.text.specs.frames.inner.Read.{read_buffer}
-use Rattle.text.proofs.frames.Contents.{length-told}
 use Rattle.text.specs.frame_reading.inner.FrameReads.{stored_bytes}
 
 map-concat : (g : ℕ → ℕ) (f : ℕ → List ℕ) (xs : List ℕ) → map g (concat_map f xs) ≡ concat_map (λ x. map g (f x)) xs
@@ -32,9 +30,6 @@ module _ (most : ℕ) (t old : List ℕ) where
 
   -- 1 does not, and all frames are stored; there is room for them
   module _ (e : is_bad_length 23 most (length t) ≡ false) where
-    pub read-room : 10 * most ≤ 23 * length old → (23 * frame_count t ≤ length t) × (10 * frame_count t ≤ length old)
-    read-room room = (omega arith, omega (arith, (length-told 23 most (length t) e).fits))
-
     pub read_all : (out : List ℕ) → out ≡ over (concat_map (stored_bytes t) (range 0 (frame_count t))) old → out ≡ read_buffer most t old
     unfolding read_buffer
     read_all out q =

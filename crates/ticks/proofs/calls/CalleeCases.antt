@@ -1,5 +1,5 @@
 -- The entry of the scheme that serves, and the callee of a label, by what was read of it.
-use mathlib.Core.Path.{◌≡◌, sym, ◌∙◌, ap, subst}
+use mathlib.Core.Path.{◌≡◌, sym, ◌∙◌, ap}
 use mathlib.Core.List.{List}
 use Prim.Native.Nat.{ℕ, ◌≤◌, ◌<◌}
 use native.Mathlib.Omega.{arith}
@@ -8,10 +8,9 @@ use Rattle.bindings.specs.Binding.{server_of}
 use Rattle.image.specs.Decode.{scheme_count}
 use Rattle.tables.specs.Table.{table_image}
 use Rattle.tables.specs.inner.Asked.{Whole, entry_of}
-use Rattle.tables.proofs.TableReads.{counts-told, entries-count, entry-at}
+use Rattle.tables.proofs.TableReads.{entries-count, entry-at}
 use Rattle.state.specs.declared.State.{State}
 use Rattle.state.specs.State.{entry_at}
-use Rattle.ticks.specs.declared.calls.Callee.{Callee}
 use Rattle.ticks.specs.calls.inner.Callees.{IsCallee}
 
 -- ---- the entry of the scheme that serves
@@ -27,14 +26,8 @@ module _ (b : List ℕ) (k : ℕ) where
   first_entry y z n e = e ∙ sym (ap (entry_at (table_image b)) z ∙ entry-at b y.counts 0 (omega arith))
 
 -- ---- the callee
--- a number of the table is one of 16
-pub number-few : {b : List ℕ} → Whole b → (h : ℕ) → h ≤ scheme_count b → h ≤ 16
-number-few {b = b} y h l = omega (arith, (counts-told b y.counts).most)
 
 module _ (b : List ℕ) (s : State) {h m : ℕ} (same : h ≡ m) where
-  pub callee-as : (r : Callee) → IsCallee b s h r → IsCallee b s m r
-  callee-as r y = subst (λ (j : ℕ). IsCallee b s j r) same y
-
   -- k is the scheme that serves, e its entry
   pub callee-read : (k : ℕ) → k ≡ server_of s.serving h → (e : ℕ) → e ≡ entry_at (table_image b) k
       → IsCallee b s m (record { number = h; server = k; entry = e })

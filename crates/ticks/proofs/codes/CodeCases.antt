@@ -1,19 +1,10 @@
 -- What each way out of the functions on codes answers.
-use mathlib.Core.Path.{◌≡◌, refl}
-use Prim.Native.Nat.{ℕ, zero, suc, ◌-◌, ◌≤◌, ◌<◌}
+use mathlib.Core.Path.{◌≡◌}
+use Prim.Native.Nat.{ℕ, ◌-◌, ◌≤◌, ◌<◌}
 use native.Mathlib.Omega.{arith}
 use borrow.Author.Tests.{ne_eqb, le-leb, lt-leb}
-use Rattle.image.specs.Layout.{tick_kind}
 use Rattle.ticks.specs.declared.codes.Meaning.TheVariants.{OperationCall, FunctionCall, Unknown}
-use Rattle.ticks.specs.codes.Codes.{code_of, meaning_of}
-
--- the code of every kind from 4 up
-pub code-rest : (k h : ℕ) → (k ≡ 0 → ⊥) → (k ≡ 1 → ⊥) → (k ≡ 2 → ⊥) → (k ≡ 3 → ⊥) → 4 ≡ code_of (tick_kind k) h
-code-rest zero h p q r t = absurd (p refl)
-code-rest (suc zero) h p q r t = absurd (q refl)
-code-rest (suc (suc zero)) h p q r t = absurd (r refl)
-code-rest (suc (suc (suc zero))) h p q r t = absurd (t refl)
-code-rest (suc (suc (suc (suc k)))) h p q r t = refl
+use Rattle.ticks.specs.codes.Codes.{meaning_of}
 
 -- ---- what a code stands for, by the range that it lies in
 module _ (c : ℕ) where

@@ -39,12 +39,6 @@ module _ (b : List ℕ) (s : State) (h : ℕ) (is : h ≡ handler_in b) where
     abbrev owner : ℕ
     owner = (table_label b (place_at s 0)).owner
 
-    pub kept-return : l ≡ 1 → true ≡ is_full_stack_kept (table_image b) s
-    kept-return e = kept ∙ keeps-is l owner place (λ j. owner)
-      where
-        kept : true ≡ keeps h l owner
-        kept = rw (ne_eqb h 0 some, eq-eqb l 1 e)
-
     pub kept-owner : (l ≡ 1 → ⊥) → (z : declared.Label) → as_label z ≡ table_label b l
         → eqb z.owner h ≡ is_full_stack_kept (table_image b) s
     kept-owner n z read = kept ∙ keeps-is l z.owner place (ap (λ (x : Label). x.owner) (read ∙ ap (table_label b) place))

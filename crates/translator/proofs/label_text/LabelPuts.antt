@@ -4,7 +4,6 @@ use mathlib.Core.Bool.{Bool, true, false, ◌&&◌, not}
 use mathlib.Core.List.{List, [], ◌∷◌, ◌++◌}
 use Prim.Native.Nat.{ℕ, ◌+◌, ◌*◌, ◌≤◌, ◌<◌}
 use native.Mathlib.Omega.{arith}
-use lib.Dec.{eqb}
 use lib.ListN.{length, get_or}
 use borrow.Author.Tests.{ne_eqb}
 use Rattle.words.specs.lists.Pick.{pick}
@@ -13,17 +12,16 @@ use Rattle.words.proofs.lists.Tests.{yes-pick, no-pick}
 use Rattle.words.proofs.lists.Written.{written-more}
 use Rattle.words.proofs.lists.Fills.{Pieces, pieces-turn}
 use Rattle.text.specs.frames.Frame.{size, quad}
-use Rattle.charts.specs.Chart.{Chart, kind, scheme, argument, next0, result, mask, begin}
+use Rattle.charts.specs.Chart.{Chart, kind, next0, begin}
 use Rattle.walk.specs.Stops.{is_stop, start}
 use Rattle.walk.proofs.Facts.{Facts}
 use Rattle.image.specs.Image.{entry_frame, label_frame}
 use Rattle.chart_rows.specs.chart_labels.Labels.{is_numbered, label, entry, stop_label}
-use Rattle.chart_rows.specs.chart_labels.inner.ChartContracts.{Labelled, OfKind, AtNode}
+use Rattle.chart_rows.specs.chart_labels.inner.ChartContracts.{Labelled, AtNode}
 use Rattle.translator.specs.label_text.inner.LabelContracts.{OfScheme}
 use Rattle.translator.specs.label_text.inner.LabelBytes.{entry_bytes, node_label_bytes, Put}
 use Rattle.chart_rows.proofs.chart_labels.ReadyLaws.{ready-facts}
 use Rattle.chart_rows.proofs.chart_labels.LabelSteps.{own-label, no-own-label}
-use Rattle.chart_rows.proofs.chart_labels.LabelKinds.{label-operation, label-function, label-bare}
 
 -- ---- entries
 pub numbered-stop : (c : Chart) (v : ℕ) → (kind c v ≡ 1 → ⊥) → is_numbered c v ≡ is_stop c v
@@ -93,33 +91,6 @@ quad-bytes : (a b d e : ℕ) → a < 256 → b < 256 → d < 256 → e < 256 →
 quad-bytes a b d e ha hb hd he =
     ap₂ (λ (x : ℕ) (xs : List ℕ). x ∷ xs) (omega arith) (ap₂ (λ (x : ℕ) (xs : List ℕ). x ∷ xs) (omega arith)
     (ap₂ (λ (x : ℕ) (xs : List ℕ). x ∷ xs) (omega arith) (ap₂ (λ (x : ℕ) (xs : List ℕ). x ∷ xs) (omega arith) refl)))
-
-module _ (c : Chart) (v l : ℕ) where
-  pub operation-bytes : OfKind c 2 v → (t g o r m0 m1 m2 m3 : ℕ) → t ≡ pick (eqb g 0) 0 1 → g ≡ argument c v
-      → o ≡ scheme c v → r ≡ result c v
-      → m0 ≡ get_or c (10 * v + 6) 0 → m1 ≡ get_or c (10 * v + 7) 0 → m2 ≡ get_or c (10 * v + 8) 0 → m3 ≡ get_or c (10 * v + 9) 0
-      → (17 ∷ l ∷ t ∷ g ∷ o ∷ r ∷ m0 ∷ m1 ∷ m2 ∷ m3 ∷ []) ≡ label_frame l (stop_label c v)
-  operation-bytes node t g o r m0 m1 m2 m3 et eg eo er e0 e1 e2 e3 =
-      let B : (j : ℕ) → get_or c j 0 < 256 = node.ready.bytes in
-      let q : quad (mask c v) ≡ m0 ∷ m1 ∷ m2 ∷ m3 ∷ [] =
-      quad-bytes (get_or c (10 * v + 6) 0) (get_or c (10 * v + 7) 0) (get_or c (10 * v + 8) 0) (get_or c (10 * v + 9) 0) (B _) (B _) (B _)
-      (B _)
-      ∙ ap₂ (λ (x : ℕ) (xs : List ℕ). x ∷ xs) (sym e0)
-      (ap₂ (λ (x : ℕ) (xs : List ℕ). x ∷ xs) (sym e1) (ap₂ (λ (x y : ℕ). x ∷ y ∷ []) (sym e2) (sym e3))) in
-      let p : t ≡ pick (eqb (argument c v) 0) 0 1 = et ∙ ap (λ (x : ℕ). pick {A = ℕ} (eqb x 0) 0 1) eg in
-      ap (λ (xs : List ℕ). 17 ∷ l ∷ t ∷ g ∷ o ∷ r ∷ xs) (sym q)
-      ∙ ap₂ (λ (x y : ℕ). 17 ∷ l ∷ x ∷ y ∷ o ∷ r ∷ quad (mask c v)) p eg
-      ∙ ap₂ (λ (x y : ℕ). 17 ∷ l ∷ pick (eqb (argument c v) 0) 0 1 ∷ argument c v ∷ x ∷ y ∷ quad (mask c v)) eo er
-      ∙ ap (label_frame l) (sym (label-operation c v node.kind))
-
-  pub function-bytes : kind c v ≡ 4 → (g o : ℕ) → g ≡ argument c v → o ≡ scheme c v
-      → (17 ∷ l ∷ 2 ∷ g ∷ o ∷ 0 ∷ 0 ∷ 0 ∷ 0 ∷ 0 ∷ []) ≡ label_frame l (stop_label c v)
-  function-bytes k g o eg eo =
-      ap₂ (λ (x y : ℕ). 17 ∷ l ∷ 2 ∷ x ∷ y ∷ 0 ∷ 0 ∷ 0 ∷ 0 ∷ 0 ∷ []) eg eo ∙ ap (label_frame l) (sym (label-function c v k))
-
-  pub other-bytes : (kind c v ≡ 2 → ⊥) → (kind c v ≡ 4 → ⊥) → (o : ℕ) → o ≡ scheme c v
-      → (17 ∷ l ∷ 0 ∷ 0 ∷ o ∷ 0 ∷ 0 ∷ 0 ∷ 0 ∷ 0 ∷ []) ≡ label_frame l (stop_label c v)
-  other-bytes n m o eo = ap (λ (x : ℕ). 17 ∷ l ∷ 0 ∷ 0 ∷ x ∷ 0 ∷ 0 ∷ 0 ∷ 0 ∷ 0 ∷ []) eo ∙ ap (label_frame l) (sym (label-bare c v n m))
 
 module _ {c : Chart} {labels : List ℕ} {v : ℕ} (node : AtNode c labels v) where
   read : get_or labels v 0 ≡ label c v

@@ -96,8 +96,3 @@ module _ (piece : ℕ → List ℕ) where
 
     pub appended-done : n ≤ v → out ≡ written out₀ at (up_to piece n)
     appended-done h = let e : v ≡ n = omega (arith, t.within) in t.buffer ∙ ap (λ (k : ℕ). written out₀ at (up_to piece k)) e
-
-    pub appended-put : n ≤ v → Put out₀ at (up_to piece n) place out
-    appended-put h =
-        let e : v ≡ n = omega (arith, t.within) in
-        record { ends = t.here ∙ ap (λ (k : ℕ). at + length (up_to piece k)) e; holds = appended-done h }

@@ -20,7 +20,7 @@ use Rattle.chart_rows.specs.chart_labels.inner.ChartContracts.{Charted}
 use Rattle.translator.specs.path_text.inner.RowBytes.{rows_bytes}
 use Rattle.chart_rows.specs.inner.NodeRows.{paths_from}
 use Rattle.translator.specs.label_text.inner.LabelBytes.{Put}
-use Rattle.translator.proofs.label_text.Puts.{Parted, put-length, both_first, both-second, both-done, nothing_put, done-as}
+use Rattle.translator.proofs.label_text.Puts.{Parted, both_first, both-second, both-done, nothing_put, done-as}
 use Rattle.chart_rows.proofs.Settled.{Settled}
 use Rattle.chart_rows.proofs.PathCases.{Fork, stop-paths}
 
@@ -87,9 +87,6 @@ module _ {c : Chart} {notes all out₀ out : List ℕ} {at place l f top care va
     (w : PutAlong c notes all out₀ out at place l f top care values v) (room : at + length all ≤ length out₀) where
   pub walked-room : place + length (rows_bytes (paths_from (size c) c l f care values v)) ≤ length out
   walked-room = both-second w.rest room w.put
-
-  pub walked-long : length out ≡ length out₀
-  walked-long = put-length (both_first w.rest at (length out₀) room) w.put
 
   pub walked-done : {out' : List ℕ} {r : ℕ} → Put out place (rows_bytes (paths_from (size c) c l f care values v)) r out'
       → Put out₀ at all r out'

@@ -167,9 +167,6 @@ pub record Searching (p : ℕ → Bool) (n i found : ℕ) : Type 0 where
 pub searching-first : (p : ℕ → Bool) (n : ℕ) → Searching p n 0 (lowest p 0 n)
 searching-first p n = record { inside = omega arith; left = lowest_start p n }
 
-pub searching-from : (p : ℕ → Bool) (first n : ℕ) → first ≤ n → Searching p n first (lowest p first (n - first))
-searching-from p first n h = record { inside = h; left = refl }
-
 module _ (p : ℕ → Bool) (n i found : ℕ) (s : Searching p n i found) where
   pub searching-found : i < n → p i ≡ true → i ≡ found
   searching-found h t = sym (lowest-here p n i h t) ∙ s.left
