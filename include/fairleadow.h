@@ -8,10 +8,10 @@
  * 17 and 18, nothing past the count is changed.
  * A buffer is a pointer and how many elements it has. No pointer is null, and nothing that a call writes may overlap anything
  * else that the call is given. Nothing is allocated and nothing is kept between calls. The archive that `./archive` makes is code for
- * x86-64 and calls memcpy and memset and nothing else; there a translation takes 7,290 bytes of stack, a count of places 7,090, a run, a
- * tick, a preparation, a cause, a list of rows or a rebinding 13,620, a priced run 13,860, a spindle's tick 13,940, the joining of labels
- * 14,880, a little chart 1,990, a count of fillings 18,880, a live run 470, a live tick 420, a live rebinding 240, a spindle's live tick
- * 640 (docs/MEASUREMENTS.md says of which archive that was measured).
+ * x86-64 and calls memcpy and memset and nothing else; there a translation takes 6,800 bytes of stack, a count of places 6,700, a run, a
+ * tick, a preparation, a cause, a list of rows or a rebinding 13,460, a priced run 13,600, a spindle's tick 13,830, the joining of labels
+ * 14,850, a little chart 1,600, a count of fillings 18,030, a live run 440, a live tick 340, a live rebinding 210, a spindle's live tick
+ * 690 (docs/MEASUREMENTS.md says how that was measured).
  * controller/README.md tells of archives for ARM. This file is for both, and for C and C++: lengths are of type size_t, and
  * fairleadow_calls.h, which lies beside it, makes of them what the archive takes.
  *

@@ -1,7 +1,8 @@
-//! The library against plain Rust written for speed, on the same inputs in one run. `cargo bench --offline` prints six
-//! tables, of calls on texts, of little charts, of counts of how often the stack fills, of long runs by the rows that a tick looks at, of
-//! long runs with prices, and of live calls; a ratio below 1 means that the library takes less, or that a priced run takes less than one
-//! without prices. Where valgrind is at hand, instructions are counted too. A word after `--` picks the lines that have it.
+//! The library against plain Rust written for speed, on the same inputs in one run. `cargo bench --offline` prints seven
+//! tables, of calls on texts, of those on slow charts and images, of little charts, of counts of how often the stack fills, of long runs
+//! by the rows that a tick looks at, of long runs with prices, and of live calls; a ratio below 1 means that the library takes less, or
+//! that a priced run takes less than one without prices. Where valgrind is at hand, instructions are counted too. A word after `--` picks
+//! the lines that have it.
 
 mod fillings;
 mod little;
@@ -18,8 +19,9 @@ use measure::Line;
 /// The names of a table's sides, and its lines.
 type Table = (&'static [&'static str], fn() -> Vec<Line>);
 
-const TABLES: [Table; 6] = [
+const TABLES: [Table; 7] = [
     (&["Library", "Plain Rust"], texts::lines),
+    (&["Library", "Plain Rust"], texts::slow_lines),
     (&["Library", "Plain Rust"], little::lines),
     (&["Library", "Plain Rust"], fillings::lines),
     (&rows::SIDES, rows::lines),
@@ -29,10 +31,10 @@ const TABLES: [Table; 6] = [
 
 fn main() {
     let words: Vec<String> = env::args().skip(1).collect();
-    if let [first, line, side] = &words[..] {
+    if let [first, table, line, side] = &words[..] {
         if first == measure::ONE_CALL {
-            // the first table takes longest to make, and is made last
-            return measure::make_one_call(TABLES.iter().rev().flat_map(|(_, lines)| lines()), line, side);
+            let number: usize = table.parse().expect("a table's number");
+            return measure::make_one_call(TABLES[number].1(), line, side);
         }
     }
     let wanted = |line: &str| words.iter().all(|word| word.starts_with("--") || line.contains(word));
@@ -40,6 +42,6 @@ fn main() {
         if number > 0 {
             println!();
         }
-        measure::print_table(sides, lines(), wanted);
+        measure::print_table(number, sides, lines(), wanted);
     }
 }

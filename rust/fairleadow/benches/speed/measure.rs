@@ -16,7 +16,7 @@ pub struct Line {
     pub sides: Vec<Call>,
 }
 
-/// Asks this program for one call alone: the line and the side's number follow.
+/// Asks this program for one call alone: the table's number, the line and the side's number follow.
 pub const ONE_CALL: &str = "--one-call";
 
 /// The function whose instructions are counted.
@@ -26,18 +26,18 @@ fn counted_call(call: &mut dyn FnMut()) {
     call();
 }
 
-pub fn make_one_call(mut lines: impl Iterator<Item = Line>, name: &str, side: &str) {
+pub fn make_one_call(lines: Vec<Line>, name: &str, side: &str) {
     let side: usize = side.parse().expect("a side's number");
-    let mut line = lines.find(|line| line.name == name).expect("a line");
+    let mut line = lines.into_iter().find(|line| line.name == name).expect("a line");
     counted_call(&mut line.sides[side]);
 }
 
 /// The instructions of one call, by this program run anew under valgrind; none where valgrind is missing.
-fn instructions(line: &str, side: usize) -> Option<u64> {
+fn instructions(table: usize, line: &str, side: usize) -> Option<u64> {
     let output = Command::new("valgrind")
         .args(["--tool=callgrind", "--callgrind-out-file=/dev/null", "--toggle-collect=counted_call"])
         .arg(env::current_exe().ok()?)
-        .args([ONE_CALL, line, &side.to_string()])
+        .args([ONE_CALL, &table.to_string(), line, &side.to_string()])
         .output()
         .ok()?;
     let said = String::from_utf8_lossy(&output.stderr).into_owned();
@@ -91,8 +91,8 @@ fn cells(numbers: &[f64]) -> String {
     format!(" {:.0} |{}", numbers[0], ratios.collect::<String>())
 }
 
-/// A table of the lines that are wanted; its sides have these names.
-pub fn print_table(sides: &[&str], lines: Vec<Line>, wanted: impl Fn(&str) -> bool) {
+/// The table of this number, of the lines that are wanted; its sides have these names.
+pub fn print_table(number: usize, sides: &[&str], lines: Vec<Line>, wanted: impl Fn(&str) -> bool) {
     let lines: Vec<Line> = lines.into_iter().filter(|line| wanted(&line.name)).collect();
     if lines.is_empty() {
         return;
@@ -105,8 +105,9 @@ pub fn print_table(sides: &[&str], lines: Vec<Line>, wanted: impl Fn(&str) -> bo
     println!("|---|---|{}", "---:|".repeat(2 * (2 * sides.len() - 1)));
     for mut line in lines {
         let nanoseconds = cells(&times(&mut line));
-        let counted: Option<Vec<f64>> =
-            (0..sides.len()).map(|side| instructions(&line.name, side).map(|count| count as f64)).collect();
+        let counted: Option<Vec<f64>> = (0..sides.len())
+            .map(|side| instructions(number, &line.name, side).map(|count| count as f64))
+            .collect();
         let counted = counted.map_or(" |".repeat(2 * sides.len() - 1), |numbers| cells(&numbers));
         println!("| {} |{nanoseconds}{counted}", line.name);
     }

@@ -148,9 +148,8 @@ fn slow_inputs() -> Vec<Input> {
     inputs
 }
 
-pub fn lines() -> Vec<Line> {
-    let mut inputs: Vec<Input> = charts().iter().map(|(name, records)| Input::new(name, records)).collect();
-    inputs.extend(slow_inputs());
+/// Each call on each of the inputs.
+fn lines_of(inputs: Vec<Input>) -> Vec<Line> {
     let rooms = [Room::new(), Room::new()].map(|room| Rc::new(RefCell::new(room)));
     let mut lines = Vec::new();
     for input in inputs.into_iter().map(Rc::new) {
@@ -160,4 +159,12 @@ pub fn lines() -> Vec<Line> {
         }
     }
     lines
+}
+
+pub fn lines() -> Vec<Line> {
+    lines_of(charts().iter().map(|(name, records)| Input::new(name, records)).collect())
+}
+
+pub fn slow_lines() -> Vec<Line> {
+    lines_of(slow_inputs())
 }
