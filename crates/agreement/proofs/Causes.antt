@@ -7,12 +7,12 @@ use borrow.Fn.World.{ArgsD, ResD}
 use Prim.Native.Nat.{ℕ}
 use mathlib.Core.Path.{◌≡◌, sym, ◌∙◌, subst}
 use mathlib.Core.List.{List}
-use Rattle.text.specs.frames.Answer.{success, reply_count, reply}
+use Rattle.text.specs.frames.Answer.{success, reply_count}
 use Rattle.state.specs.declared.State.{State}
 use Rattle.state.specs.State.{Sized}
 use Rattle.state.specs.Bytes.{state_of}
 use Rattle.state.proofs.ResultBytes.{held-sized}
-use Rattle.cause.specs.Cause.{Cause, explain, GivesCause}
+use Rattle.cause.specs.Cause.{Cause, explain, cause_reply, cause_row, cause_mask, cause_bit, GivesCause}
 use Rattle.cause.specs.Laws.{Explains}
 use Rattle.cause.proofs.Answers.{answered}
 use Rattle.cause.specs.contracts.explaining.cause_of as cause-of
@@ -32,11 +32,11 @@ explained t s w n h e k m b p q o =
     subst (Explains t s w) (sym same) (answered t s w n h e)
 
 pub cause-told : (κs : Lfts 1) (a : ArgsD cause-of.signature κs) (r : ResD cause-of.signature κs) (s : AtExit cause-of.ended κs)
-    → cause-of-reads.Learnt κs a r s → Sized a.1.0 → (n : ℕ) → reply r.answer ≡ success n
-    → Explains a.0.now a.1.0 a.1.1.0 (cause_report r.row r.mask r.bit)
+    → cause-of-reads.Learnt κs a r s → Sized a.1.0 → (n : ℕ) → cause_reply r ≡ success n
+    → Explains a.0.now a.1.0 a.1.1.0 (cause_report (cause_row r) (cause_mask r) (cause_bit r))
 cause-told κs a r s e h n d =
     let c : GivesCause (explain a.0.now a.1.0 a.1.1.0) r = e in
-    explained a.0.now a.1.0 a.1.1.0 n h (sym c.answered ∙ d) r.row r.mask r.bit c.row c.mask c.bit
+    explained a.0.now a.1.0 a.1.1.0 n h (sym c.answered ∙ d) (cause_row r) (cause_mask r) (cause_bit r) c.row c.mask c.bit
 
 pub cause-told-c : (κs : Lfts 7) (a : ArgsD c-cause.signature κs) (r : ResD c-cause.signature κs) (s : AtExit c-cause.ended κs)
     → c-cause-reads.Learnt κs a r s → r ≡ 0

@@ -137,7 +137,7 @@ priced-run-prices κs a r s e = e
 
 pub tick-advances : (κs : Lfts 1) (a : ArgsD machine-tick.signature κs)
     (r : ResD machine-tick.signature κs) (s : AtExit machine-tick.ended κs)
-    → machine-tick-reads.Learnt κs a r s → GivesTick (image_tick a.0.now a.1.0 a.1.1.0) r.report r.state
+    → machine-tick-reads.Learnt κs a r s → GivesTick (image_tick a.0.now a.1.0 a.1.1.0) r.answer r.state
 tick-advances κs a r s e = e
 
 pub live-run-runs : (κs : Lfts 4) (a : ArgsD machine-live-run.signature κs) (r : ResD machine-live-run.signature κs)
@@ -149,7 +149,7 @@ live-run-runs κs a r s e = e
 
 pub live-tick-advances : (κs : Lfts 1) (a : ArgsD machine-live-tick.signature κs) (r : ResD machine-live-tick.signature κs)
     (s : AtExit machine-live-tick.ended κs)
-    → machine-live-tick-reads.Learnt κs a r s → GivesTick (live_tick a.0.now a.1.0 a.1.1.0) r.report r.state
+    → machine-live-tick-reads.Learnt κs a r s → GivesTick (live_tick a.0.now a.1.0 a.1.1.0) r.answer r.state
 live-tick-advances κs a r s e = e
 
 pub rebind-makes : (κs : Lfts 1) (a : ArgsD rebinding-rebind.signature κs) (r : ResD rebinding-rebind.signature κs)

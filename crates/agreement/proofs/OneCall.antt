@@ -10,9 +10,8 @@ use Rattle.tables.proofs.PreparedImage as tables
 use Rattle.state.specs.declared.State.{State}
 use Rattle.state.specs.declared.StateReport.{StateReport}
 use Rattle.state.specs.State.{StateOutcome, GivesState}
-use Rattle.runs.specs.declared.TickReport.{TickReport}
 use Rattle.runs.specs.Run.{RunOutcome, run, GivesRun}
-use Rattle.runs.specs.TickOutcome.{TickOutcome, image_tick, GivesTick}
+use Rattle.runs.specs.TickOutcome.{TickOutcome, image_tick, GivesTick, TickAnswer}
 use Rattle.rebinding.specs.Rebind.{rebind, live_rebind}
 use Rattle.rebinding.proofs.Live.{live-rebind-is}
 use Rattle.runs.specs.machine.Live.{live_run, live_tick}
@@ -80,7 +79,7 @@ module _ (image : List ℕ) (s : State) where
     state-is = c.state ∙ ap (λ (y : RunOutcome). y.state) e;
   }
 
-  tick-like : (w : ℕ) {x : TickOutcome} {r : TickReport} {after : State} → x ≡ image_tick image s w → GivesTick x r after
+  tick-like : (w : ℕ) {x : TickOutcome} {r : TickAnswer} {after : State} → x ≡ image_tick image s w → GivesTick x r after
       → Like image s (one_word w 0 0) (output_of_tick r) after
   tick-like w {x} {r} {after} e c =
       let one : run image s (w ∷ []) (0 ∷ []) (0 ∷ []) ≡ run_of_tick x = run-advance image s w ∙ ap run_of_tick (sym e) in

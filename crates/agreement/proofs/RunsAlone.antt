@@ -9,8 +9,7 @@ use Rattle.words.specs.lists.Sequences.{concat_map}
 use Rattle.bindings.specs.Binding.{Binding, own_binding}
 use Rattle.text.specs.frames.Frame.{contents}
 use Rattle.text.specs.frames.Verdict.{fine}
-use Rattle.text.specs.frames.Answer.{reply, success, BufferOutcome, GivesBuffer}
-use Rattle.text.specs.declared.frames.Answer.{Answer}
+use Rattle.text.specs.frames.Answer.{Answer, reply, success, BufferOutcome, GivesBuffer}
 use Rattle.charts.specs.Chart.{Chart}
 use Rattle.charts.specs.Entry.{read_verdict}
 use Rattle.walk.specs.Walk.{Signal, signals, Tick, walk}

@@ -3,17 +3,15 @@
 -- `ensures` cites.
 use Rattle.std.specs.Prelude.{ℕ, ◌≤◌, ◌≡◌, List, [], ◌∷◌, take}
 use Rattle.text.specs.frames.Frame.{contents}
-use Rattle.text.specs.frames.Answer.{reply, success, GivesBuffer}
-use Rattle.text.specs.declared.frames.Answer.{Answer}
+use Rattle.text.specs.frames.Answer.{Answer, reply, success, GivesBuffer}
 use Rattle.translator.specs.Entry.{translate}
 use Rattle.tables.specs.Prepare.{prepare}
 use Rattle.state.specs.declared.layout.TheConstants.{PLACES}
 use Rattle.state.specs.declared.State.{State}
 use Rattle.state.specs.declared.StateReport.{StateReport}
 use Rattle.state.specs.State.{fresh_state, GivesState}
-use Rattle.runs.specs.declared.TickReport.{TickReport}
 use Rattle.runs.specs.Run.{run, GivesRun}
-use Rattle.runs.specs.TickOutcome.{image_tick, GivesTick}
+use Rattle.runs.specs.TickOutcome.{image_tick, TickAnswer, tick_reply, answered_mask, answered_code, GivesTick}
 use Rattle.rebinding.specs.Rebind.{rebind, live_rebind}
 use Rattle.runs.specs.machine.Live.{live_run, live_tick}
 use Rattle.agreement.specs.Agreement.{RunInput, CallInput, to_run, to_rebind, CallOutput, by_run, by_rebinding, walk_outputs}
@@ -31,13 +29,13 @@ output_of_run r masks codes = by_run (record { reply = reply r.answer; masks = m
 abbrev pub output_of_rebinding : StateReport → CallOutput
 output_of_rebinding r = by_rebinding (reply r.answer)
 
--- a tick counts as a run of one word, with one place for its mask and one for its code, which hold m and k before it; the report of a
--- refused one says 0 and 0, as if the places had held these
+-- a tick counts as a run of one word, with one place for its mask and one for its code, which hold m and k before it; the answer of a
+-- refused one stands for 0 and 0, as if the places had held these
 abbrev pub one_word : ℕ → ℕ → ℕ → CallInput
 one_word w m k = to_run (record { words = w ∷ []; masks = m ∷ []; codes = k ∷ [] })
 
-abbrev pub output_of_tick : TickReport → CallOutput
-output_of_tick r = by_run (record { reply = reply r.answer; masks = r.mask ∷ []; codes = r.code ∷ [] })
+abbrev pub output_of_tick : TickAnswer → CallOutput
+output_of_tick a = by_run (record { reply = tick_reply a; masks = answered_mask a ∷ []; codes = answered_code a ∷ [] })
 
 -- one call that is handed the image, or a table of it, and the state s: what else it is given, what it hands back, and the state after it
 pub data Call (image : List ℕ) (s : State) : CallInput → CallOutput → State → Type 0 where
@@ -46,10 +44,10 @@ pub data Call (image : List ℕ) (s : State) : CallInput → CallOutput → Stat
   run_call_live : {table : List ℕ} {a : RunInput} {r : StateReport} {masks codes : List ℕ} → TableOf image table
       → GivesRun (live_run table s a.words a.masks a.codes) r masks codes
       → Call image s (to_run a) (output_of_run r masks codes) r.state
-  tick_call : {w : ℕ} {r : TickReport} {after : State} → GivesTick (image_tick image s w) r after
-      → Call image s (one_word w 0 0) (output_of_tick r) after
-  tick_call_live : {table : List ℕ} {w : ℕ} {r : TickReport} {after : State} → TableOf image table
-      → GivesTick (live_tick table s w) r after → Call image s (one_word w 0 0) (output_of_tick r) after
+  tick_call : {w : ℕ} {a : TickAnswer} {after : State} → GivesTick (image_tick image s w) a after
+      → Call image s (one_word w 0 0) (output_of_tick a) after
+  tick_call_live : {table : List ℕ} {w : ℕ} {a : TickAnswer} {after : State} → TableOf image table
+      → GivesTick (live_tick table s w) a after → Call image s (one_word w 0 0) (output_of_tick a) after
   rebind_call : {h k : ℕ} {r : StateReport} → GivesState (rebind image s h k) r
       → Call image s (to_rebind h k) (output_of_rebinding r) r.state
   rebind_call_live : {table : List ℕ} {h k : ℕ} {r : StateReport} → TableOf image table → GivesState (live_rebind table s h k) r

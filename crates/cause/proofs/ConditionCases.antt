@@ -6,14 +6,13 @@ use mathlib.Core.Logic.{◌⊎◌, inl, inr}
 use mathlib.Core.List.{List}
 use native.Mathlib.Omega.{arith}
 use lib.Bits.{bit_and, bit_or, or_zero_l}
-use lib.Dec.{eqb}
 use lib.ListN.{get_or}
 use borrow.Author.Tests.{eq-eqb, ne_eqb}
 use Rattle.words.specs.lists.Pick.{pick}
 use Rattle.words.specs.lists.Numbers.{lowest}
 use Rattle.words.proofs.lists.Searches.{lowest-below}
 use Rattle.words.proofs.lists.Tests.{split}
-use Rattle.words.specs.bits.Word.{bit, is_agreeing}
+use Rattle.words.specs.bits.Word.{is_agreeing}
 use Rattle.text.specs.frames.Frame.{field, pair_at}
 use Rattle.cause.specs.Cause.{is_differing}
 use Rattle.cause.specs.inner.CauseContracts.{RowAsked, is_let_through, mask_against_in, mask_against_from}

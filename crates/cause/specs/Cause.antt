@@ -1,11 +1,12 @@
 -- What sends a tick on: the row that it takes, the conditions that decide it, and the result bit; refusals 21 and 18.
-use Rattle.std.specs.Prelude.{ℕ, ◌-◌, ◌^◌, Bool, ◌&&◌, ◌||◌, not, ◌≡◌, List, [], ◌∷◌, leb, eqb}
+use Rattle.std.specs.Prelude.{ℕ, ◌-◌, ◌^◌, Bool, ◌&&◌, ◌||◌, not, ◌≡◌, List, [], ◌∷◌, leb, eqb, Result, Ok, Err}
 use Rattle.std.specs.Int.Bits.{bit_or}
 use Rattle.words.specs.lists.Pick.{pick}
 use Rattle.words.specs.lists.Numbers.{lowest}
 use Rattle.words.specs.bits.Word.{bit, is_agreeing}
 use Rattle.results.specs.Results.{Results}
 use Rattle.text.specs.declared.frames.refusals.TheConstants.{UNFIT, NO_ROW, ROWLESS}
+use Rattle.text.specs.declared.frames.refusals.Refusal.{Refusal}
 use Rattle.text.specs.frames.Frame.{contents}
 use Rattle.text.specs.frames.Verdict.{Verdict, fine, refused, next, when}
 use Rattle.text.specs.frames.Answer.{Reply, success, refusal, reply}
@@ -19,7 +20,7 @@ use Rattle.state.specs.declared.State.{State}
 use Rattle.state.specs.State.{label_at, place_at}
 use Rattle.fitness.specs.Fitness.{is_unfit}
 use Rattle.ticks.specs.Tick.{called_bit, choice}
-use Rattle.cause.specs.declared.CauseReport as declared
+use Rattle.cause.specs.declared.Cause as declared
 
 -- condition i is in the care mask and has another value in the word
 abbrev pub is_differing : ℕ → ℕ → ℕ → ℕ → Bool
@@ -102,8 +103,29 @@ explain t s w =
     cause_on (next (image_verdict t) λ _. when UNFIT (is_unfit (decoded_image (contents t)) s))
     (λ _. cause_of (decoded_image (contents t)) s w)
 
-pub record GivesCause (x : CauseOutcome) (r : declared.CauseReport) : Type 0 where
-  pub answered : reply r.answer ≡ x.reply
-  pub row : r.row ≡ x.cause.row
-  pub mask : r.mask ≡ x.cause.mask
-  pub bit : r.bit ≡ x.cause.bit
+-- the cause, or why none is told
+abbrev pub CauseAnswer : Type 0
+CauseAnswer = Result declared.Cause Refusal
+
+abbrev pub cause_reply : CauseAnswer → Reply
+cause_reply (Ok c) = success 0
+cause_reply (Err r) = reply (Err r)
+
+-- row, mask and bit, each 0 with a refusal
+abbrev pub cause_row : CauseAnswer → ℕ
+cause_row (Ok c) = c.row
+cause_row (Err r) = 0
+
+abbrev pub cause_mask : CauseAnswer → ℕ
+cause_mask (Ok c) = c.mask
+cause_mask (Err r) = 0
+
+abbrev pub cause_bit : CauseAnswer → ℕ
+cause_bit (Ok c) = c.bit
+cause_bit (Err r) = 0
+
+pub record GivesCause (x : CauseOutcome) (r : CauseAnswer) : Type 0 where
+  pub answered : cause_reply r ≡ x.reply
+  pub row : cause_row r ≡ x.cause.row
+  pub mask : cause_mask r ≡ x.cause.mask
+  pub bit : cause_bit r ≡ x.cause.bit

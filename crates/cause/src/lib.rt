@@ -2,19 +2,15 @@
 //! `conditions` finds these, `table_causes` tells them of a tick on a prepared table, and `explaining` is the entry point, with refusal 21.
 #![tactic(auto)]
 
-use text::frames::Answer;
-
 mod conditions;
 pub mod explaining;
 pub mod table_causes;
 
 pub use conditions::against_rows;
 
-// The row's number among the image's rows, a mask of conditions, and the result bit of the number called, 2 for none; with a refusal all
-// are 0.
+// The row's number among the image's rows, a mask of conditions, and the result bit of the number called, 2 for none.
 #[derive(Drop)]
-pub struct CauseReport {
-    pub answer: Answer,
+pub struct Cause {
     pub row: u16,
     pub mask: u16,
     pub bit: u8,

@@ -7,7 +7,7 @@ ghost use Rattle.state.specs.Bytes.{state_of};
 ghost use Rattle.cause.specs.Cause.{leaves_label, leaving, cause_at, cause_outcome, GivesCause};
 ghost use Rattle.cause.specs.table_causes.inner.TableCauses.{Ordered, OrderedLabel, leaving_number, table_cause};
 
-use crate::{CauseReport, against_rows};
+use crate::{Cause, against_rows};
 use fitness::fitting::is_unfit;
 use image::layout::{CARE, PLAIN, RETURN};
 use image::{pair, rows_from};
@@ -17,22 +17,9 @@ use state::State;
 use state::layout::STATE_BYTES;
 use state::state_places::{depth_of, place_of};
 use tables::{label_of, label_read, scheme_count};
-use text::frames::refusals::{NO_ROW, ROWLESS, UNFIT};
+use text::frames::Refusal;
 use text::frames::sizes::FRAME;
-use text::frames::{Answer, refused};
 use ticks::bit_of;
-
-// No cause, but an answer.
-pub fn untold(answer: Answer) -> CauseReport
-    ensures { result ≡ record { answer = answer; row = 0; mask = 0; bit = 0 } }
-{
-    CauseReport {
-        answer,
-        row: 0,
-        mask: 0,
-        bit: 0,
-    }
-}
 
 // The label n places below that depth, whatever the state: the lowest place where there are fewer, and 0 past the highest.
 fn place_below(bytes: &[u8; STATE_BYTES], depth: u8, n: u8) -> u8
@@ -70,7 +57,7 @@ fn leaving_label(table: &[u8], bytes: &[u8; STATE_BYTES]) -> u8
 }
 
 // The row that label l takes, the conditions that decide it and the bit; 18 where no row matches.
-fn cause_at(table: &[u8], bytes: &[u8; STATE_BYTES], l: u8, word: u16) -> CauseReport
+fn cause_at(table: &[u8], bytes: &[u8; STATE_BYTES], l: u8, word: u16) -> Result<Cause, Refusal>
     requires { OrderedLabel table.now l }
     ensures { GivesCause (cause_outcome
         (cause_at (table_image table.now) (state_of bytes.now).bits word (leaves_label l))) result }
@@ -80,8 +67,7 @@ fn cause_at(table: &[u8], bytes: &[u8; STATE_BYTES], l: u8, word: u16) -> CauseR
     let bit = bit_of(bytes, read.kind, read.called);
     let f = find_row(table, schemes, l as usize, word, bit);
     if table.len() / FRAME <= f {
-        let answer = refused(NO_ROW, 0);
-        return untold(answer);
+        return Err(Refusal::NoRow { ticks: 0 });
     }
     let first = first_of(table, schemes, l as usize);
     let end = end_of(table, schemes, l as usize);
@@ -89,28 +75,24 @@ fn cause_at(table: &[u8], bytes: &[u8; STATE_BYTES], l: u8, word: u16) -> CauseR
     let others = against_rows(table, first, end, word, bit);
     let from = rows_from(table);
     let row = (f - from) as u16;
-    CauseReport {
-        answer: Answer::Done(0),
+    Ok(Cause {
         row,
         mask: care | others,
         bit,
-    }
+    })
 }
 
 // A cause on a prepared table: 15, then 21, then 18.
-pub fn cause_table(table: &[u8], bytes: &[u8; STATE_BYTES], word: u16) -> CauseReport
+pub fn cause_table(table: &[u8], bytes: &[u8; STATE_BYTES], word: u16) -> Result<Cause, Refusal>
     requires { Ordered table.now }
     ensures { GivesCause (table_cause table.now (state_of bytes.now) word) result }
 {
-    let unfit = is_unfit(table, bytes);
-    let l = leaving_label(table, bytes);
-    if unfit {
-        let answer = refused(UNFIT, 0);
-        return untold(answer);
+    if is_unfit(table, bytes) {
+        return Err(Refusal::Unfit);
     }
+    let l = leaving_label(table, bytes);
     if l == 0 {
-        let answer = refused(ROWLESS, 0);
-        return untold(answer);
+        return Err(Refusal::Rowless);
     }
     cause_at(table, bytes, l, word)
 }

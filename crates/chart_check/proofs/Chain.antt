@@ -1,13 +1,10 @@
 -- The chain of refusals 4 to 9, with 19 after 5, as the code goes along it: what is left of the verdict after each.
-use mathlib.Core.Path.{◌≡◌, refl, sym, ◌∙◌, ap}
+use mathlib.Core.Path.{◌≡◌, refl, ◌∙◌}
 use mathlib.Core.Bool.{Bool}
 use Prim.Native.Nat.{ℕ, ◌≤◌, ◌<◌}
 use Rattle.words.specs.lists.Numbers.{lowest, any}
 use Rattle.text.specs.frames.Frame.{size}
 use Rattle.text.specs.frames.Verdict.{Verdict, refused, next, when, at_lowest}
-use Rattle.text.specs.frames.Answer.{reply, verdict_reply}
-use Rattle.text.specs.declared.frames.Answer.{Answer}
-use Rattle.text.specs.declared.frames.Answer.TheVariants.{Refused}
 use Rattle.text.proofs.frames.Chains.{lowest-refused, lowest-fine, next-refused, next-on}
 use Rattle.charts.specs.Chart.{Chart, schemes}
 use Rattle.charts.specs.Check.{has_bad_field, is_bad_scheme, has_bad_marks, has_bad_arc, has_bad_call, chart_verdict}
@@ -42,6 +39,3 @@ module _ (v : Verdict) (m : ℕ) (p : ℕ → Bool) (n : ℕ) (rest : Verdict) (
 
   pub goes_on : n ≤ r → v ≡ rest
   goes_on h = left ∙ next-on (at_lowest m p n) (λ _. rest) (lowest-fine m p n r found h)
-
-pub answered : (v : Verdict) (r : Answer) (k i : ℕ) → r ≡ Refused k i 0 → v ≡ refused k i → reply r ≡ verdict_reply v 0
-answered v r k i e f = ap reply e ∙ sym (ap (λ v. verdict_reply v 0) f)

@@ -9,11 +9,10 @@ use crate::chart_arcs::lowest_arc_and_call;
 use crate::chart_counts::check_fields;
 use crate::chart_handler::bad_marks;
 use crate::joined::check_joined;
-use text::frames::refusals::*;
 use text::frames::sizes::RECORD;
-use text::frames::{Answer, refused};
+use text::frames::Refusal;
 
-pub fn check_chart(records: &[u8]) -> Answer
+pub fn check_chart(records: &[u8]) -> Result<usize, Refusal>
     requires { (length records.now ≡ RECORD * size records.now) × (size records.now ≤ NODES) }
     ensures { reply result ≡ verdict_reply (chart_verdict records.now) 0 }
 {
@@ -21,22 +20,22 @@ pub fn check_chart(records: &[u8]) -> Answer
     let tried = check_fields(records);
     let field = tried.field;
     if field < n {
-        return refused(BAD_FIELD, field);
+        return Err(Refusal::BadField(field));
     }
     if tried.scheme {
-        return refused(BAD_SCHEME, 0);
+        return Err(Refusal::BadScheme);
     }
     if bad_marks(records) {
-        return refused(BAD_MARKS, 0);
+        return Err(Refusal::BadMarks);
     }
     let found = lowest_arc_and_call(records, tried.highest);
     let arc = found.arc;
     if arc < n {
-        return refused(BAD_ARC, arc);
+        return Err(Refusal::BadArc(arc));
     }
     let call = found.call;
     if call < n {
-        return refused(BAD_CALL, call);
+        return Err(Refusal::BadCall(call));
     }
     check_joined(records)
 }

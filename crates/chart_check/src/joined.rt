@@ -12,9 +12,8 @@ ghost use Rattle.chart_check.specs.inner.CheckContracts.{Passed4To6, joined_verd
 use crate::circles::lowest_circle;
 use crate::node_marks::{join, mark_kind, sweep};
 use charts::layout::BEGIN;
-use text::frames::refusals::{CIRCLE, CUT_OFF};
 use text::frames::sizes::{NODES, RECORD};
-use text::frames::{Answer, refused};
+use text::frames::Refusal;
 
 // The nodes that arcs join from some Begin are marked; the lowest other one, or the number of nodes. It is looked for only where not all
 // are marked.
@@ -48,7 +47,7 @@ fn lowest_cut_off(records: &[u8], marks: &mut [bool], list: &mut [u8]) -> usize
 }
 
 // 8 and 9; marks and list serve both.
-fn try_joined(records: &[u8], marks: &mut [bool], list: &mut [u8]) -> Answer
+fn try_joined(records: &[u8], marks: &mut [bool], list: &mut [u8]) -> Result<usize, Refusal>
     requires marks_len { (length marks.old ≡ size records.now) × Passed4To6 records.now }
     requires node_room { NodeRoom records.now list.old }
     ensures { reply result ≡ verdict_reply (joined_verdict records.now) 0 }
@@ -56,17 +55,17 @@ fn try_joined(records: &[u8], marks: &mut [bool], list: &mut [u8]) -> Answer
     let n = records.len() / RECORD;
     let circle = lowest_circle(records, marks, list);
     if circle < n {
-        return refused(CIRCLE, circle);
+        return Err(Refusal::Circle(circle));
     }
     let cut_off = lowest_cut_off(records, marks, list);
     if cut_off < n {
-        return refused(CUT_OFF, cut_off);
+        return Err(Refusal::CutOff(cut_off));
     }
-    Answer::Done(0)
+    Ok(0)
 }
 
 // The same, with room for 256 nodes.
-pub fn check_joined(records: &[u8]) -> Answer
+pub fn check_joined(records: &[u8]) -> Result<usize, Refusal>
     requires { Passed4To6 records.now }
     ensures { reply result ≡ verdict_reply (joined_verdict records.now) 0 }
 {

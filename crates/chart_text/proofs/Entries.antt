@@ -1,5 +1,5 @@
 -- The two entry points, return by return: what the checks before a return tell of the verdict, the answer and the buffer.
-use mathlib.Core.Path.{◌≡◌, refl, sym, ◌∙◌, ap, subst}
+use mathlib.Core.Path.{◌≡◌, refl, sym, ◌∙◌, ap}
 use mathlib.Core.Bool.{true, false}
 use mathlib.Core.List.{List}
 use Prim.Native.Nat.{ℕ, zero, suc, ◌*◌, ◌/◌, ◌≤◌, ◌<◌}
@@ -8,24 +8,22 @@ use lib.ListN.{length, take}
 use Rattle.words.specs.lists.Sequences.{over, written}
 use Rattle.words.proofs.lists.Written.{written-front}
 use Rattle.text.specs.frames.Frame.{contents, frame_count, size, text_of}
-use Rattle.text.specs.frames.Verdict.{Verdict, fine, when}
+use Rattle.text.specs.frames.Verdict.{fine, when}
 use Rattle.text.specs.frames.Check.{is_bad_length, text_verdict}
 use Rattle.text.specs.frames.inner.Read.{read_buffer}
-use Rattle.text.specs.frames.Answer.{refusal, reply, GivesBuffer, verdict_reply}
-use Rattle.text.specs.declared.frames.Answer.{Answer}
-use Rattle.text.specs.declared.frames.Answer.TheVariants.{Done, Refused}
-use Rattle.text.proofs.frames.Chains.{when-holds, when-fails, next-refused, next-on, done-fine, refused-verdict}
+use Rattle.text.specs.frames.Answer.{Answer, reply, GivesBuffer, verdict_reply}
+use Rattle.std.proofs.Common.{Ok, Err}
+use Rattle.text.specs.declared.frames.refusals.Refusal.{Refusal}
+use Rattle.text.specs.frames.Refusal.{number_of, index_of}
+use Rattle.text.specs.declared.frames.refusals.Refusal.TheVariants.{BadLength, NoRoom}
+use Rattle.text.proofs.frames.Chains.{when-holds, when-fails, next-refused, next-on, ok-fine, err-refused}
 use Rattle.text.proofs.frames.Contents.{Length, length-told, text-told, any-contents-length}
 use Rattle.text.proofs.frames.Reading.{read-fine}
-use Rattle.text.proofs.frames.Lent.{lent-refused, lent-short, lent-done, front}
+use Rattle.text.proofs.frames.Lent.{lent-err, lent-short, lent-done, front}
 use Rattle.text.proofs.frames.TextLoops.{length-text}
 use Rattle.charts.specs.Chart.{Chart}
 use Rattle.charts.specs.Check.{chart_verdict}
 use Rattle.charts.specs.Entry.{read_verdict, read_chart, write_verdict, write_chart}
-
--- a refusal that was answered counts 0
-refused-reply : (a : Answer) (v : Verdict) (n : ℕ) → reply a ≡ verdict_reply v n → (k i m : ℕ) → a ≡ Refused k i m → reply a ≡ refusal k i 0
-refused-reply a v n e k i m q = ap reply q ∙ ap (refusal k i) (refused-verdict a v n e k i m q).1
 
 -- ---- the reader
 -- 1 to 3 find nothing, and the frames are n
@@ -36,9 +34,9 @@ pub record Formed (t : List ℕ) (n : ℕ) : Type 0 where
   pub few : n ≤ 256
   pub records : length (contents t) ≡ 10 * n
 
-pub formed : (t : List ℕ) (a : Answer) (n : ℕ) → reply a ≡ verdict_reply (text_verdict 5888 t) (frame_count t) → a ≡ Done n → Formed t n
+pub formed : (t : List ℕ) (a : Answer) (n : ℕ) → reply a ≡ verdict_reply (text_verdict 5888 t) (frame_count t) → a ≡ Ok n → Formed t n
 formed t a n e d =
-    let p : (text_verdict 5888 t ≡ fine) × (n ≡ frame_count t) = done-fine a (text_verdict 5888 t) (frame_count t) e n d in
+    let p : (text_verdict 5888 t ≡ fine) × (n ≡ frame_count t) = ok-fine a (text_verdict 5888 t) (frame_count t) e n d in
     let l : Length 23 5888 (length t) = (text-told 5888 t p.0).length in
     let some : 1 ≤ n = go (length t) n l p.1 in
     record {
@@ -67,37 +65,35 @@ chart-asked t c n F e =
     (omega arith, omega (arith, F.few))
 
 module _ (t out : List ℕ) where
-  pub read-unformed : (a : Answer) → reply a ≡ verdict_reply (text_verdict 5888 t) (frame_count t) → (k i m : ℕ) → a ≡ Refused k i m
-      → GivesBuffer (read_chart t out) a out
+  pub read-unformed : (a : Answer) → reply a ≡ verdict_reply (text_verdict 5888 t) (frame_count t) → (r : Refusal) → a ≡ Err r
+      → GivesBuffer (read_chart t out) (Err r) out
   unfolding read_chart read_verdict
-  read-unformed a e k i m q =
-      lent-refused (read_verdict t) 10 (λ _. contents t) out k i
-      (next-refused (text_verdict 5888 t) (λ _. chart_verdict (contents t)) k i
-      (refused-verdict a (text_verdict 5888 t) (frame_count t) e k i m q).0)
-      a (refused-reply a (text_verdict 5888 t) (frame_count t) e k i m q)
+  read-unformed a e r q =
+      let p = err-refused a (text_verdict 5888 t) (frame_count t) e r q in
+      lent-err (read_verdict t) 10 (λ _. contents t) out r
+      (next-refused (text_verdict 5888 t) (λ _. chart_verdict (contents t)) (number_of r) (index_of r) p.0, p.1)
 
   module _ (n : ℕ) (F : Formed t n) (c : Chart) (is : c ≡ contents t) (a : Answer) (e : reply a ≡ verdict_reply (chart_verdict c) 0) where
     rest : read_verdict t ≡ chart_verdict c
     unfolding read_verdict
     rest = next-on (text_verdict 5888 t) (λ _. chart_verdict (contents t)) F.passed ∙ ap chart_verdict (sym is)
 
-    pub read-unsound : (k i m : ℕ) → a ≡ Refused k i m → GivesBuffer (read_chart t out) a out
+    pub read-unsound : (r : Refusal) → a ≡ Err r → GivesBuffer (read_chart t out) (Err r) out
     unfolding read_chart
-    read-unsound k i m q =
-        lent-refused (read_verdict t) 10 (λ _. contents t) out k i (rest ∙ (refused-verdict a (chart_verdict c) 0 e k i m q).0)
-        a (refused-reply a (chart_verdict c) 0 e k i m q)
+    read-unsound r q =
+        let p = err-refused a (chart_verdict c) 0 e r q in
+        lent-err (read_verdict t) 10 (λ _. contents t) out r (rest ∙ p.0, p.1)
 
-    pub read_short : (m : ℕ) → a ≡ Done m → length out < 10 * n → (r : Answer) → r ≡ Refused 16 0 0 → GivesBuffer (read_chart t out) r out
+    pub read_short : (m : ℕ) → a ≡ Ok m → length out < 10 * n → GivesBuffer (read_chart t out) (Err NoRoom) out
     unfolding read_chart
-    read_short m q h r is16 =
-        subst (λ (x : Answer). GivesBuffer (read_chart t out) x out) (sym is16)
-        (lent-short (read_verdict t) 10 (λ _. contents t) out (rest ∙ (done-fine a (chart_verdict c) 0 e m q).0) (omega (arith, F.records)))
+    read_short m q h =
+        lent-short (read_verdict t) 10 (λ _. contents t) out (rest ∙ (ok-fine a (chart_verdict c) 0 e m q).0) (omega (arith, F.records))
 
-    pub read_done : (m : ℕ) → a ≡ Done m → 10 * n ≤ length out → (out' : List ℕ) → out' ≡ written out 0 c
-        → GivesBuffer (read_chart t out) (Done n) out'
+    pub read_done : (m : ℕ) → a ≡ Ok m → 10 * n ≤ length out → (out' : List ℕ) → out' ≡ written out 0 c
+        → GivesBuffer (read_chart t out) (Ok n) out'
     unfolding read_chart
     read_done m q h out' o =
-        lent-done (read_verdict t) 10 (λ _. contents t) out (rest ∙ (done-fine a (chart_verdict c) 0 e m q).0) (omega (arith, F.records))
+        lent-done (read_verdict t) 10 (λ _. contents t) out (rest ∙ (ok-fine a (chart_verdict c) 0 e m q).0) (omega (arith, F.records))
         n (omega (arith, F.records)) out' (o ∙ written-front out c ∙ ap (λ (x : List ℕ). over x out) is)
 
 -- ---- the writer
@@ -121,13 +117,12 @@ pub whole-asked : (c : Chart) → WholeRecords c → (length c ≡ 10 * size c) 
 whole-asked c w = (w.records, w.few)
 
 module _ (c : Chart) (out : List ℕ) where
-  pub write-unwhole : is_bad_length 10 2560 (length c) ≡ true → (r : Answer) → r ≡ Refused 1 0 0 → GivesBuffer (write_chart c out) r out
+  pub write-unwhole : is_bad_length 10 2560 (length c) ≡ true → GivesBuffer (write_chart c out) (Err BadLength) out
   unfolding write_chart write_verdict
-  write-unwhole b r is1 =
-      lent-refused (write_verdict c) 1 (λ _. text_of c) out 1 0
+  write-unwhole b =
+      lent-err (write_verdict c) 1 (λ _. text_of c) out BadLength
       (next-refused (when 1 (is_bad_length 10 2560 (length c))) (λ _. chart_verdict c) 1 0
-      (when-holds 1 (is_bad_length 10 2560 (length c)) b))
-      r (ap reply is1)
+      (when-holds 1 (is_bad_length 10 2560 (length c)) b), refl)
 
   module _ (w : WholeRecords c) (a : Answer) (e : reply a ≡ verdict_reply (chart_verdict c) 0) where
     on : write_verdict c ≡ chart_verdict c
@@ -135,23 +130,21 @@ module _ (c : Chart) (out : List ℕ) where
     on = next-on (when 1 (is_bad_length 10 2560 (length c))) (λ _. chart_verdict c)
         (when-fails 1 (is_bad_length 10 2560 (length c)) w.passed)
 
-    pub write-unsound : (k i m : ℕ) → a ≡ Refused k i m → GivesBuffer (write_chart c out) a out
+    pub write-unsound : (r : Refusal) → a ≡ Err r → GivesBuffer (write_chart c out) (Err r) out
     unfolding write_chart
-    write-unsound k i m q =
-        lent-refused (write_verdict c) 1 (λ _. text_of c) out k i (on ∙ (refused-verdict a (chart_verdict c) 0 e k i m q).0)
-        a (refused-reply a (chart_verdict c) 0 e k i m q)
+    write-unsound r q =
+        let p = err-refused a (chart_verdict c) 0 e r q in
+        lent-err (write_verdict c) 1 (λ _. text_of c) out r (on ∙ p.0, p.1)
 
-    pub write-short : (m : ℕ) → a ≡ Done m → length out < 23 * size c → (r : Answer) → r ≡ Refused 16 0 0
-        → GivesBuffer (write_chart c out) r out
+    pub write-short : (m : ℕ) → a ≡ Ok m → length out < 23 * size c → GivesBuffer (write_chart c out) (Err NoRoom) out
     unfolding write_chart
-    write-short m q h r is16 =
-        subst (λ (x : Answer). GivesBuffer (write_chart c out) x out) (sym is16)
-        (lent-short (write_verdict c) 1 (λ _. text_of c) out (on ∙ (done-fine a (chart_verdict c) 0 e m q).0)
-        (omega (arith, length-text c)))
+    write-short m q h =
+        lent-short (write_verdict c) 1 (λ _. text_of c) out (on ∙ (ok-fine a (chart_verdict c) 0 e m q).0)
+        (omega (arith, length-text c))
 
-    pub write_done : (m : ℕ) → a ≡ Done m → 23 * size c ≤ length out → (out' : List ℕ) → out' ≡ written out 0 (text_of c)
-        → GivesBuffer (write_chart c out) (Done (23 * size c)) out'
+    pub write_done : (m : ℕ) → a ≡ Ok m → 23 * size c ≤ length out → (out' : List ℕ) → out' ≡ written out 0 (text_of c)
+        → GivesBuffer (write_chart c out) (Ok (23 * size c)) out'
     unfolding write_chart
     write_done m q h out' o =
-        lent-done (write_verdict c) 1 (λ _. text_of c) out (on ∙ (done-fine a (chart_verdict c) 0 e m q).0) (omega (arith, length-text c))
+        lent-done (write_verdict c) 1 (λ _. text_of c) out (on ∙ (ok-fine a (chart_verdict c) 0 e m q).0) (omega (arith, length-text c))
         (23 * size c) (omega (arith, length-text c)) out' (o ∙ written-front out (text_of c))

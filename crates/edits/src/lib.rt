@@ -5,7 +5,7 @@
 ghost use Rattle.std.specs.Prelude.{◌≡◌};
 ghost use Rattle.edits.specs.inner.Patch.{patched_bytes};
 
-use text::frames::Answer;
+use text::frames::Refusal;
 
 // Pairs of a place and the byte that is put there.
 pub fn patch(bytes: &mut [u8], edits: &[u8])
@@ -40,13 +40,15 @@ fn print(entry: u8, number: u8, index: usize, count: usize, bytes: usize) {
 }
 
 // The entry's number, that of the answer or 0, the index, the count, and a number of bytes.
-pub fn report(entry: u8, answer: Answer, bytes: usize) {
+pub fn report(entry: u8, answer: Result<usize, Refusal>, bytes: usize) {
     match answer {
-        Answer::Done(count) => print(entry, 0, 0, count, bytes),
-        Answer::Refused {
-            number,
-            index,
-            count,
-        } => print(entry, number, index, count, bytes),
+        Ok(count) => print(entry, 0, 0, count, bytes),
+        Err(refusal) => print(
+            entry,
+            refusal.number(),
+            refusal.index(),
+            refusal.ticks(),
+            bytes,
+        ),
     }
 }

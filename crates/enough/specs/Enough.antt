@@ -8,8 +8,7 @@ use Rattle.bindings.specs.Binding.{own_binding}
 use Rattle.text.specs.declared.frames.codes.TheConstants.{DROP_CODE}
 use Rattle.text.specs.declared.frames.refusals.TheConstants.{NO_ROOM}
 use Rattle.text.specs.frames.Frame.{contents}
-use Rattle.text.specs.frames.Answer.{Reply, success, refusal, reply, reply_number, reply_count, GivesBuffer}
-use Rattle.text.specs.declared.frames.Answer.{Answer}
+use Rattle.text.specs.frames.Answer.{Answer, Reply, success, refusal, reply, reply_number, reply_count, GivesBuffer}
 use Rattle.charts.specs.Chart.{Chart}
 use Rattle.walk.specs.Walk.{Signal}
 use Rattle.translator.specs.Entry.{translate}

@@ -6,7 +6,6 @@ use crate::telling::tell;
 use cause::explaining::cause_bytes;
 use image::layout::*;
 use state::layout::STATE_BYTES;
-use text::frames::Answer;
 use ticks::codes::{DROP, Meaning, UNKNOWN, meaning_of};
 
 // What made a tick go on: writes the row's number, the conditions that decide it and the result bit, each 0 with a refusal.
@@ -24,12 +23,20 @@ pub extern "C" fn fairleadow_cause(
     ensures { GivesCauseC (cause_for image.now state.now word) result at.new
         made.new row.new mask.new bit.new }
 {
-    let found = cause_bytes(image, state, word);
-    let answer: Answer = found.answer;
-    *row = found.row;
-    *mask = found.mask;
-    *bit = found.bit;
-    tell(answer, at, made)
+    match cause_bytes(image, state, word) {
+        Ok(cause) => {
+            *row = cause.row;
+            *mask = cause.mask;
+            *bit = cause.bit;
+            tell(Ok(0), at, made)
+        }
+        Err(refusal) => {
+            *row = 0;
+            *mask = 0;
+            *bit = 0;
+            tell(Err(refusal), at, made)
+        }
+    }
 }
 
 // What a code stands for: returns the tick kind, 5 for a drop, 255 for a code that no tick has, and writes the number called, 0 for none.

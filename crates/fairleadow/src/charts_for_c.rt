@@ -5,7 +5,6 @@ ghost use Rattle.places.specs.Entry.{places_needed};
 ghost use Rattle.fairleadow.specs.telling.AnswersForC.{GivesReplyC, GivesBufferC};
 
 use crate::telling::tell;
-use text::frames::Answer;
 
 #[unsafe(no_mangle)]
 pub extern "C" fn fairleadow_read_chart(
@@ -17,7 +16,7 @@ pub extern "C" fn fairleadow_read_chart(
     ensures { GivesBufferC (read_chart text.now records.old) result
         at.new made.new records.new }
 {
-    let answer: Answer = chart_text::read_chart(text, records);
+    let answer = chart_text::read_chart(text, records);
     tell(answer, at, made)
 }
 
@@ -31,7 +30,7 @@ pub extern "C" fn fairleadow_write_chart(
     ensures { GivesBufferC (write_chart records.now text.old) result
         at.new made.new text.new }
 {
-    let answer: Answer = chart_text::write_chart(records, text);
+    let answer = chart_text::write_chart(records, text);
     tell(answer, at, made)
 }
 
@@ -46,7 +45,7 @@ pub extern "C" fn fairleadow_little_chart(
     ensures { GivesBufferC (little_chart frames number text.old) result at.new made.new
         text.new }
 {
-    let answer: Answer = little_fetch::fetching::little_chart(frames, number, text);
+    let answer = little_fetch::fetching::little_chart(frames, number, text);
     tell(answer, at, made)
 }
 
@@ -54,6 +53,6 @@ pub extern "C" fn fairleadow_little_chart(
 pub extern "C" fn fairleadow_places(chart: &[u8], at: &mut usize, made: &mut usize) -> u8
     ensures { GivesReplyC (places_needed chart.now) result at.new made.new }
 {
-    let answer: Answer = places::places_needed(chart);
+    let answer = places::places_needed(chart);
     tell(answer, at, made)
 }

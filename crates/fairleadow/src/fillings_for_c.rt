@@ -3,7 +3,6 @@ ghost use Rattle.fillings.specs.Counts.{count_fillings};
 ghost use Rattle.fairleadow.specs.fillings_for_c.Calls.{GivesFillingsC};
 
 use crate::telling::tell;
-use text::frames::Answer;
 
 // How often the stack fills: writes how many lists of words run to their end, meet 17 and meet 18, each 0 with a refusal.
 #[unsafe(no_mangle)]
@@ -21,10 +20,18 @@ pub extern "C" fn fairleadow_count_fillings(
     ensures { GivesFillingsC (count_fillings image.now size ticks conditions) result at.new
         made.new ended.new full.new unmatched.new }
 {
-    let counted = fillings::counting::count_fillings(image, size, ticks, conditions);
-    let answer: Answer = counted.answer;
-    *ended = counted.ended;
-    *full = counted.full;
-    *unmatched = counted.unmatched;
-    tell(answer, at, made)
+    match fillings::counting::count_fillings(image, size, ticks, conditions) {
+        Ok(tally) => {
+            *ended = tally.ended;
+            *full = tally.full;
+            *unmatched = tally.unmatched;
+            tell(Ok(0), at, made)
+        }
+        Err(refusal) => {
+            *ended = 0;
+            *full = 0;
+            *unmatched = 0;
+            tell(Err(refusal), at, made)
+        }
+    }
 }

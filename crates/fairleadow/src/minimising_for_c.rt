@@ -3,7 +3,6 @@ ghost use Rattle.minimising.specs.Entry.{minimise};
 ghost use Rattle.fairleadow.specs.telling.AnswersForC.{GivesBufferC};
 
 use crate::telling::tell;
-use text::frames::Answer;
 
 #[unsafe(no_mangle)]
 pub extern "C" fn fairleadow_minimise(
@@ -15,6 +14,6 @@ pub extern "C" fn fairleadow_minimise(
     ensures { GivesBufferC (minimise image.now smaller.old) result at.new made.new
         smaller.new }
 {
-    let answer: Answer = minimising::minimise(image, smaller);
+    let answer = minimising::minimise(image, smaller);
     tell(answer, at, made)
 }

@@ -74,8 +74,8 @@ pub extern "C" fn fairleadow_tick(
     ensures { GivesTickC (tick_for image.now state.old word) state.old mask.old
         code.old result at.new made.new state.new mask.new code.new }
 {
-    let report = tick_bytes(image, state, word);
-    tell_tick(report, mask, code, at, made)
+    let answer = tick_bytes(image, state, word);
+    tell_tick(answer, mask, code, at, made)
 }
 
 // One tick on a prepared table; a refused one writes no mask, no code and no state.
@@ -92,6 +92,6 @@ pub extern "C" fn fairleadow_live_tick(
     ensures { GivesTickC (live_tick_for table.now state.old word) state.old mask.old
         code.old result at.new made.new state.new mask.new code.new }
 {
-    let report = live_tick_bytes(table, state, word);
-    tell_tick(report, mask, code, at, made)
+    let answer = live_tick_bytes(table, state, word);
+    tell_tick(answer, mask, code, at, made)
 }

@@ -2,7 +2,6 @@
 ghost use Rattle.fairleadow.specs.spindles_for_c.Calls.{spin_for, live_spin_for, GivesSpinC};
 
 use crate::telling::tell_tick;
-use runs::TickReport;
 use spindles::live_spindle_bytes::live_spin_bytes;
 use spindles::spindle_bytes::spin_bytes;
 
@@ -27,13 +26,7 @@ pub extern "C" fn fairleadow_spin(
     let recorded = *taken;
     let report = spin_bytes(states, recorded, spindle, image, word);
     *taken = report.taken;
-    let answer = report.answer;
-    let ticked = TickReport {
-        answer,
-        mask: report.mask,
-        code: report.code,
-    };
-    tell_tick(ticked, mask, code, at, made)
+    tell_tick(report.answer, mask, code, at, made)
 }
 
 #[unsafe(no_mangle)]
@@ -55,11 +48,5 @@ pub extern "C" fn fairleadow_live_spin(
     let recorded = *taken;
     let report = live_spin_bytes(states, recorded, spindle, table, word);
     *taken = report.taken;
-    let answer = report.answer;
-    let ticked = TickReport {
-        answer,
-        mask: report.mask,
-        code: report.code,
-    };
-    tell_tick(ticked, mask, code, at, made)
+    tell_tick(report.answer, mask, code, at, made)
 }

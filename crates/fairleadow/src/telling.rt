@@ -1,49 +1,45 @@
-// An answer as the three numbers that C gets, and a tick's report as these with its mask and its code.
+// An answer as the three numbers that C gets, and a tick's as these with its mask and its code.
 ghost use Rattle.text.specs.frames.Answer.{reply};
-ghost use Rattle.fairleadow.specs.telling.AnswersForC.{GivesReplyC, GivesTickReportC};
+ghost use Rattle.fairleadow.specs.telling.AnswersForC.{GivesReplyC, GivesTickAnswerC};
 
-use runs::TickReport;
-use text::frames::Answer;
+use runs::Tick;
+use text::frames::Refusal;
 
 // Returns the number, and writes the index and the count.
-pub fn tell(answer: Answer, at: &mut usize, made: &mut usize) -> u8
+pub fn tell(answer: Result<usize, Refusal>, at: &mut usize, made: &mut usize) -> u8
     ensures { GivesReplyC (reply answer) result at.new made.new }
 {
     match answer {
-        Answer::Done(count) => {
+        Ok(count) => {
             *at = 0;
             *made = count;
             0
         }
-        Answer::Refused {
-            number,
-            index,
-            count,
-        } => {
-            *at = index;
-            *made = count;
-            number
+        Err(refusal) => {
+            *at = refusal.index();
+            *made = refusal.ticks();
+            refusal.number()
         }
     }
 }
 
-// A refused tick leaves mask and code as they were.
+// A finished tick counts 1, and a refused one leaves mask and code as they were.
 pub fn tell_tick(
-    report: TickReport,
+    answer: Result<Tick, Refusal>,
     mask: &mut u32,
     code: &mut u8,
     at: &mut usize,
     made: &mut usize,
 ) -> u8
-    ensures { GivesTickReportC report mask.old code.old result at.new
+    ensures { GivesTickAnswerC answer mask.old code.old result at.new
         made.new mask.new code.new }
 {
-    let answer = report.answer;
-    let number = tell(answer, at, made);
-    if number != 0 {
-        return number;
+    match answer {
+        Ok(tick) => {
+            *mask = tick.mask;
+            *code = tick.code;
+            tell(Ok(1), at, made)
+        }
+        Err(refusal) => tell(Err(refusal), at, made),
     }
-    *mask = report.mask;
-    *code = report.code;
-    number
 }

@@ -3,7 +3,6 @@ ghost use Rattle.translator.specs.Entry.{translate};
 ghost use Rattle.fairleadow.specs.telling.AnswersForC.{GivesBufferC};
 
 use crate::telling::tell;
-use text::frames::Answer;
 
 #[unsafe(no_mangle)]
 pub extern "C" fn fairleadow_translate(
@@ -15,6 +14,6 @@ pub extern "C" fn fairleadow_translate(
     ensures { GivesBufferC (translate chart.now image.old) result
         at.new made.new image.new }
 {
-    let answer: Answer = translator::translating::translate(chart, image);
+    let answer = translator::translating::translate(chart, image);
     tell(answer, at, made)
 }

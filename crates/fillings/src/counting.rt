@@ -14,18 +14,8 @@ use state::layout::STATE_BYTES;
 use state::state_bytes::bytes_of;
 use state::{State, bad_size};
 use tables::preparing::prepare_table;
-use text::frames::refusals::{BAD_SIZE, MANY_LISTS};
+use text::frames::Refusal;
 use text::frames::sizes::{FRAME, LINE, TABLE};
-use text::frames::{Answer, refused};
-
-// How many lists run to their end, meet 17 and meet 18; 0 with a refusal.
-#[derive(Drop)]
-pub struct FillingsReport {
-    pub answer: Answer,
-    pub ended: u32,
-    pub full: u32,
-    pub unmatched: u32,
-}
 
 // 28: each bound by itself, so that no product wraps.
 fn too_many(n: usize, k: usize) -> bool
@@ -63,43 +53,17 @@ fn tally(table: &[u8], size: usize, n: usize, k: usize) -> Tally
 }
 
 // What the image check tries, then 14 and 28.
-pub fn count_fillings(image: &[u8], size: usize, n: usize, k: usize) -> FillingsReport
+pub fn count_fillings(image: &[u8], size: usize, n: usize, k: usize) -> Result<Tally, Refusal>
     ensures { GivesFillings (count_fillings image.now size n k) result }
 {
     let mut table = [0u8; TABLE];
-    let answer = prepare_table(image, &mut table);
-    let Answer::Done(_) = answer else {
-        return FillingsReport {
-            answer,
-            ended: 0,
-            full: 0,
-            unmatched: 0,
-        };
-    };
+    prepare_table(image, &mut table)?;
     if bad_size(size) {
-        let answer = refused(BAD_SIZE, 0);
-        return FillingsReport {
-            answer,
-            ended: 0,
-            full: 0,
-            unmatched: 0,
-        };
+        return Err(Refusal::BadSize);
     }
     if too_many(n, k) {
-        let answer = refused(MANY_LISTS, 0);
-        return FillingsReport {
-            answer,
-            ended: 0,
-            full: 0,
-            unmatched: 0,
-        };
+        return Err(Refusal::ManyLists);
     }
     let m = FRAME * (image.len() / LINE);
-    let all = tally(&table[..m], size, n, k);
-    FillingsReport {
-        answer: Answer::Done(0),
-        ended: all.ended,
-        full: all.full,
-        unmatched: all.unmatched,
-    }
+    Ok(tally(&table[..m], size, n, k))
 }

@@ -6,3 +6,5 @@
 pub mod counting;
 pub mod fill_counts;
 pub mod fill_lists;
+
+pub use fill_counts::Tally;

@@ -9,12 +9,13 @@ use Rattle.text.specs.frames.Frame.{size, frame_count, contents}
 use Rattle.text.specs.frames.Verdict.{fine, refused}
 use Rattle.text.specs.frames.Check.{text_verdict}
 use Rattle.text.specs.frames.inner.Read.{read_buffer}
-use Rattle.text.specs.frames.Answer.{reply, verdict_reply}
-use Rattle.text.specs.declared.frames.Answer.{Answer}
-use Rattle.text.specs.declared.frames.Answer.TheVariants.{Done, Refused}
+use Rattle.text.specs.frames.Answer.{Answer, reply, verdict_reply}
+use Rattle.std.proofs.Common.{Ok, Err}
+use Rattle.text.specs.declared.frames.refusals.Refusal.{Refusal}
+use Rattle.text.specs.frames.Refusal.{number_of, index_of}
 use Rattle.text.proofs.frames.Contents.{text-told, any-contents-length}
 use Rattle.text.proofs.frames.Reading.{read-fine}
-use Rattle.text.proofs.frames.Chains.{next-refused, next-on, done-fine, refused-verdict}
+use Rattle.text.proofs.frames.Chains.{next-refused, next-on, ok-fine, err-refused, err-judged}
 use Rattle.image.specs.Check.{table_verdict, image_verdict}
 
 -- an image's text of m frames that 1 to 3 let pass
@@ -36,18 +37,18 @@ good-text t v =
     some_or (Prim.Native.Nat.suc n) h = omega arith
 
 module _ (t : List ℕ) (a : Answer) (gives : reply a ≡ verdict_reply (text_verdict 29831 t) (frame_count t)) where
-  pub read-good : (m : ℕ) → a ≡ Done m → GoodText t m
+  pub read-good : (m : ℕ) → a ≡ Ok m → GoodText t m
   read-good m e =
-      let d = done-fine a (text_verdict 29831 t) (frame_count t) gives m e in
+      let d = ok-fine a (text_verdict 29831 t) (frame_count t) gives m e in
       let g = good-text t d.0 in
       record { verdict = d.0; count = d.1; some = omega (arith, g.some, d.1); most = omega (arith, g.most, d.1) }
 
-  pub read-refused : (k i m : ℕ) → a ≡ Refused k i m → reply a ≡ verdict_reply (image_verdict t) 0
+  pub read-refused : (r : Refusal) → a ≡ Err r → reply (Err r) ≡ verdict_reply (image_verdict t) 0
   unfolding image_verdict
-  read-refused k i m e =
-      let v : text_verdict 29831 t ≡ refused k i = (refused-verdict a (text_verdict 29831 t) (frame_count t) gives k i m e).0 in
-      gives ∙ ap (λ w. verdict_reply w (frame_count t)) v
-      ∙ sym (ap (λ w. verdict_reply w 0) (next-refused (text_verdict 29831 t) (λ _. table_verdict (contents t)) k i v))
+  read-refused r e =
+      let p = err-refused a (text_verdict 29831 t) (frame_count t) gives r e in
+      err-judged (image_verdict t) r 0
+      (next-refused (text_verdict 29831 t) (λ _. table_verdict (contents t)) (number_of r) (index_of r) p.0) p.1
 
 module _ (t old table : List ℕ) (m : ℕ) (g : GoodText t m) (e : table ≡ read_buffer 29831 t old) where
   pub contents-count : length (contents t) ≡ 10 * m

@@ -6,26 +6,25 @@ ghost use Rattle.image.specs.Check.{table_verdict};
 
 use crate::image_faults::lowest_fault;
 use crate::positions::{bad_header, lowest_stray};
-use text::frames::refusals::{BAD_CONTENT, BAD_HEADER, STRAY_FRAME};
 use text::frames::sizes::FRAME;
-use text::frames::{Answer, refused};
+use text::frames::Refusal;
 
 // 11 to 13. A table in which 12 and 13 find no frame is done with one pass; else 12 on any frame goes before 13.
-pub fn check_table(table: &[u8]) -> Answer
+pub fn check_table(table: &[u8]) -> Result<usize, Refusal>
     requires { 0 < size table.now }
     ensures { reply result ≡ verdict_reply (table_verdict table.now) 0 }
 {
     if bad_header(table) {
-        return refused(BAD_HEADER, 0);
+        return Err(Refusal::BadHeader);
     }
     let frames = table.len() / FRAME;
     let fault = lowest_fault(table);
     if frames <= fault {
-        return Answer::Done(0);
+        return Ok(0);
     }
     let stray = lowest_stray(table, frames);
     if stray < frames {
-        return refused(STRAY_FRAME, stray);
+        return Err(Refusal::StrayFrame(stray));
     }
-    refused(BAD_CONTENT, fault)
+    Err(Refusal::BadContent(fault))
 }

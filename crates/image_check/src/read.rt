@@ -5,27 +5,24 @@ ghost use Rattle.text.specs.frames.inner.Read.{read_buffer};
 ghost use Rattle.image.specs.Check.{image_verdict};
 
 use crate::check::check_table;
-use text::frames::Answer;
+use text::frames::Refusal;
 use text::frames::sizes::{FRAME, IMAGE_TEXT, TABLE};
 use text::reading::read_text;
 
 // The table, ten bytes a frame, is written to the front of the lent buffer; only 1 leaves the buffer as it was.
 // No entry point: the caller lends scratch space, as the image check below and a run do.
-pub fn read_image(text: &[u8], table: &mut [u8]) -> Answer
+pub fn read_image(text: &[u8], table: &mut [u8]) -> Result<usize, Refusal>
     requires { TABLE ≤ length table.old }
     ensures result_value { reply result ≡ verdict_reply (image_verdict text.now) 0 }
     ensures table_after { table.new ≡ read_buffer IMAGE_TEXT text.now table.old }
 {
-    let answer = read_text(text, IMAGE_TEXT, table);
-    let Answer::Done(frames) = answer else {
-        return answer;
-    };
+    let frames = read_text(text, IMAGE_TEXT, table)?;
     let n = FRAME * frames;
     check_table(&table[..n])
 }
 
 // What the image check tries, and nothing else.
-pub fn check_image(text: &[u8]) -> Answer
+pub fn check_image(text: &[u8]) -> Result<usize, Refusal>
     ensures { reply result ≡ verdict_reply (image_verdict text.now) 0 }
 {
     let mut table = [0u8; TABLE];

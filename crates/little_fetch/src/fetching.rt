@@ -5,36 +5,35 @@ ghost use Rattle.little_charts.specs.Little.{little_chart};
 ghost use Rattle.little_fetch.specs.little_seek.inner.SeekContracts.{FewFrames};
 
 use crate::little_seek::seek;
-use text::frames::refusals::{NO_LITTLE_CHART, NO_ROOM};
 use text::frames::sizes::{LINE, RECORD};
-use text::frames::{Answer, put_text, refused};
+use text::frames::{Refusal, put_text};
 
 // A number past the last chart is 24, then 16; else the text is written. The records serve the search.
-fn fetch(records: &mut [u8], number: usize, text: &mut [u8]) -> Answer
+fn fetch(records: &mut [u8], number: usize, text: &mut [u8]) -> Result<usize, Refusal>
     requires { FewFrames records.old }
     ensures { GivesBuffer (little_chart (size records.old) number text.old) result text.new }
 {
     let sought = seek(records, 0, number);
     if !sought.found {
-        return refused(NO_LITTLE_CHART, 0);
+        return Err(Refusal::NoLittleChart);
     }
     let count = LINE * (records.len() / RECORD);
     if text.len() < count {
-        return refused(NO_ROOM, 0);
+        return Err(Refusal::NoRoom);
     }
     put_text(text, 0, records);
-    Answer::Done(count)
+    Ok(count)
 }
 
 // A frame count outside 2 to 4 is 24 too. Counts characters; a refusal leaves the buffer as it was.
-pub fn little_chart(frames: usize, number: usize, text: &mut [u8]) -> Answer
+pub fn little_chart(frames: usize, number: usize, text: &mut [u8]) -> Result<usize, Refusal>
     ensures { GivesBuffer (little_chart frames number text.old) result text.new }
 {
     if frames < 2 {
-        return refused(NO_LITTLE_CHART, 0);
+        return Err(Refusal::NoLittleChart);
     }
     if 4 < frames {
-        return refused(NO_LITTLE_CHART, 0);
+        return Err(Refusal::NoLittleChart);
     }
     let mut records = [0u8; 40];
     let end = RECORD * frames;

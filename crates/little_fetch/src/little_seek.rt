@@ -7,8 +7,8 @@ ghost use Rattle.little_fetch.specs.little_seek.inner.SeekContracts.{FewFrames, 
 use crate::little_nodes::{any_lonely, is_barred};
 use crate::little_numbers::{first_number, node, past_number};
 use chart_check::check_chart;
+use text::frames::put_bytes;
 use text::frames::sizes::RECORD;
-use text::frames::{Answer, put_bytes};
 
 // Whether the chart was found, and else how many are still to be passed over.
 #[derive(Drop)]
@@ -25,11 +25,7 @@ fn accepts(records: &[u8]) -> bool
     if any_lonely(records) {
         return false;
     }
-    let answer = check_chart(records);
-    let Answer::Done(_) = answer else {
-        return false;
-    };
-    true
+    check_chart(records).is_ok()
 }
 
 // All records stand: the chart is the one sought, or one to pass over, or none.

@@ -2,8 +2,7 @@
 -- that run, tick and rebind in any mixture on the smaller image, or on a table that prepare made of it. The same for C.
 use Rattle.std.specs.Prelude.{ℕ, ◌≤◌, ◌≡◌, List, map, take}
 use Rattle.text.specs.frames.Frame.{contents}
-use Rattle.text.specs.frames.Answer.{reply, success, GivesBuffer}
-use Rattle.text.specs.declared.frames.Answer.{Answer}
+use Rattle.text.specs.frames.Answer.{Answer, reply, success, GivesBuffer}
 use Rattle.translator.specs.Entry.{translate}
 use Rattle.state.specs.declared.layout.TheConstants.{PLACES}
 use Rattle.minimising.specs.Entry.{minimise}

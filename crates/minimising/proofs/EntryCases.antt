@@ -3,12 +3,13 @@ use mathlib.Core.Path.{◌≡◌, sym, ◌∙◌, ap, subst}
 use mathlib.Core.List.{List}
 use Prim.Native.Nat.{ℕ}
 use Rattle.text.specs.frames.Frame.{contents}
-use Rattle.text.specs.frames.Verdict.{Verdict, refused, next, when}
-use Rattle.text.specs.frames.Answer.{reply, verdict_reply, BufferOutcome, buffer_on, GivesBuffer}
-use Rattle.text.specs.declared.frames.Answer.{Answer}
-use Rattle.text.specs.declared.frames.Answer.TheVariants.{Refused}
-use Rattle.text.proofs.frames.Chains.{next-refused, refused-verdict}
-use Rattle.text.proofs.frames.Lent.{lent-refused}
+use Rattle.text.specs.frames.Verdict.{Verdict, next, when}
+use Rattle.text.specs.frames.Answer.{Answer, reply, verdict_reply, BufferOutcome, buffer_on, GivesBuffer}
+use Rattle.std.proofs.Common.{Err}
+use Rattle.text.specs.declared.frames.refusals.Refusal.{Refusal}
+use Rattle.text.specs.frames.Refusal.{number_of, index_of}
+use Rattle.text.proofs.frames.Chains.{next-refused, err-refused}
+use Rattle.text.proofs.frames.Lent.{lent-err}
 use Rattle.image.specs.Image.{Image, image_text}
 use Rattle.image.specs.Decode.{decoded_image}
 use Rattle.image.specs.Check.{image_verdict}
@@ -22,14 +23,13 @@ use Rattle.minimising.specs.joining.inner.JoiningContracts.{ReadableTable}
 use Rattle.minimising.specs.Entry.{minimise_verdict, minimise}
 
 module _ (t : List ℕ) where
-  pub image-refused : (old : List ℕ) (a : Answer) → reply a ≡ verdict_reply (image_verdict t) 0 → (k j m : ℕ) → a ≡ Refused k j m
-      → GivesBuffer (minimise t old) a old
+  pub image-refused : (old : List ℕ) (a : Answer) → reply a ≡ verdict_reply (image_verdict t) 0 → (r : Refusal) → a ≡ Err r
+      → GivesBuffer (minimise t old) (Err r) old
   unfolding minimise minimise_verdict
-  image-refused old a gives k j m e =
-      let v : image_verdict t ≡ refused k j = (refused-verdict a (image_verdict t) 0 gives k j m e).0 in
-      lent-refused (minimise_verdict t) 1 (λ _. image_text (smaller_image (decoded_image (contents t)))) old k j
-      (next-refused (image_verdict t) (λ _. when 23 (is_uneven (decoded_image (contents t)))) k j v) a
-      (gives ∙ ap (λ (w : Verdict). verdict_reply w 0) v)
+  image-refused old a gives r e =
+      let p = err-refused a (image_verdict t) 0 gives r e in
+      lent-err (minimise_verdict t) 1 (λ _. image_text (smaller_image (decoded_image (contents t)))) old r
+      (next-refused (image_verdict t) (λ _. when 23 (is_uneven (decoded_image (contents t)))) (number_of r) (index_of r) p.0, p.1)
 
   module _ (b : List ℕ) (made : MadeTable t b) where
     same : decoded_image b ≡ decoded_image (contents t)

@@ -8,12 +8,16 @@ use crate::group_numbers::{count_kept, number_groups};
 use crate::group_text::put_pieces;
 use image::layout::{LAST_LABEL, SCHEME_COUNT};
 use image::{byte, rows_from};
-use text::frames::refusals::NO_ROOM;
+use text::frames::Refusal;
 use text::frames::sizes::*;
-use text::frames::{Answer, refused};
 
 // 16, else all of it is written.
-pub fn write_groups(table: &[u8], classes: &[u8], numbers: &mut [u8], out: &mut [u8]) -> Answer
+pub fn write_groups(
+    table: &[u8],
+    classes: &[u8],
+    numbers: &mut [u8],
+    out: &mut [u8],
+) -> Result<usize, Refusal>
     requires grouped { Grouped table.now classes.now }
     requires numbers_len { length numbers.old ≡ LABELS }
     ensures { GivesBuffer (smaller_outcome table.now fine out.old) result out.new }
@@ -24,8 +28,8 @@ pub fn write_groups(table: &[u8], classes: &[u8], numbers: &mut [u8], out: &mut 
     let rows = count_kept(table, classes, rows_from(table), table.len() / FRAME);
     let need = LINE * (1 + schemes + groups + rows);
     if out.len() < need {
-        return refused(NO_ROOM, 0);
+        return Err(Refusal::NoRoom);
     }
     put_pieces(table, classes, numbers, groups, rows, out);
-    Answer::Done(need)
+    Ok(need)
 }

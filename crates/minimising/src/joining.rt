@@ -1,5 +1,6 @@
 // The labels of a table joined: 23, the grouping, and the smaller image of its groups.
 ghost use Rattle.std.specs.Prelude.{◌≡◌, false, length};
+ghost use Rattle.text.specs.declared.frames.refusals.TheConstants.{UNEVEN};
 ghost use Rattle.text.specs.frames.Verdict.{fine, when};
 ghost use Rattle.text.specs.frames.Answer.{GivesBuffer};
 ghost use Rattle.image.specs.Decode.{decoded_image};
@@ -10,12 +11,16 @@ ghost use Rattle.minimising.specs.joining.inner.JoiningContracts.{ReadableTable}
 use crate::group_image::write_groups;
 use covering::is_uneven;
 use grouping::refining::group;
-use text::frames::refusals::UNEVEN;
+use text::frames::Refusal;
 use text::frames::sizes::LABELS;
-use text::frames::{Answer, refused};
 
 // The grouping, then what it gives.
-fn minimise_in(table: &[u8], classes: &mut [u8], numbers: &mut [u8], out: &mut [u8]) -> Answer
+fn minimise_in(
+    table: &[u8],
+    classes: &mut [u8],
+    numbers: &mut [u8],
+    out: &mut [u8],
+) -> Result<usize, Refusal>
     requires readable_table { (ReadableTable table.now) × (is_uneven (decoded_image table.now) ≡ false) }
     requires classes_len { (length classes.old ≡ LABELS) × (length numbers.old ≡ LABELS) }
     ensures { GivesBuffer (smaller_outcome table.now fine out.old) result out.new }
@@ -25,14 +30,14 @@ fn minimise_in(table: &[u8], classes: &mut [u8], numbers: &mut [u8], out: &mut [
 }
 
 // 23, then 16.
-pub fn minimise_table(table: &[u8], out: &mut [u8]) -> Answer
+pub fn minimise_table(table: &[u8], out: &mut [u8]) -> Result<usize, Refusal>
     requires { ReadableTable table.now }
     ensures { GivesBuffer (smaller_outcome table.now
         (when UNEVEN (is_uneven (decoded_image table.now))) out.old)
         result out.new }
 {
     if is_uneven(table) {
-        return refused(UNEVEN, 0);
+        return Err(Refusal::Uneven);
     }
     let mut classes = [0u8; LABELS];
     let mut numbers = [0u8; LABELS];

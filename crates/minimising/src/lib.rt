@@ -15,18 +15,15 @@ pub mod joining;
 
 use crate::joining::minimise_table;
 use tables::preparing::prepare_table;
-use text::frames::Answer;
+use text::frames::Refusal;
 use text::frames::sizes::*;
 
 // What the image check tries, then 23 and 16; counts characters. A refusal leaves the buffer as it was.
-pub fn minimise(image: &[u8], out: &mut [u8]) -> Answer
+pub fn minimise(image: &[u8], out: &mut [u8]) -> Result<usize, Refusal>
     ensures { GivesBuffer (minimise image.now out.old) result out.new }
 {
     let mut table = [0u8; TABLE];
-    let answer = prepare_table(image, &mut table);
-    let Answer::Done(_) = answer else {
-        return answer;
-    };
+    prepare_table(image, &mut table)?;
     let n = FRAME * (image.len() / LINE);
     minimise_table(&table[..n], out)
 }

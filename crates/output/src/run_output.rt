@@ -9,7 +9,7 @@ use crate::output_lines::{put_codes, put_refusal};
 use console::{Input, Outcome};
 use state::State;
 use std::io::{Read, Write};
-use text::frames::Answer;
+use text::frames::Refusal;
 use text::frames::sizes::{IMAGE_TEXT, LINE};
 
 // One character more than the longest image: of a longer text no more needs to be read.
@@ -30,23 +30,20 @@ fn count_up() -> [u16; 64]
 }
 
 // The codes of the finished ticks, then the refusal if there is one.
-fn put_run(answer: Answer, codes: &[u8], out: &mut [u8; RUN_PRINTS]) -> usize
+fn put_run(answer: Result<usize, Refusal>, codes: &[u8], out: &mut [u8; RUN_PRINTS]) -> usize
     requires { (reply_count (reply answer) ≤ length codes.now) × (length codes.now ≤ 64) }
     ensures { Prints (run_lines (reply answer) codes.now) result out.old out.new }
 {
     match answer {
-        Answer::Done(n) => {
+        Ok(n) => {
             put_codes(out, &codes[..n]);
             n * 3
         }
-        Answer::Refused {
-            number,
-            index,
-            count,
-        } => {
-            put_codes(out, &codes[..count]);
-            put_refusal(out, count * 3, number, index);
-            count * 3 + LINE
+        Err(refusal) => {
+            let ticks = refusal.ticks();
+            put_codes(out, &codes[..ticks]);
+            put_refusal(out, ticks * 3, refusal.number(), refusal.index());
+            ticks * 3 + LINE
         }
     }
 }

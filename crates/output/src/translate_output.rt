@@ -6,7 +6,6 @@ ghost use Rattle.console.specs.Outcome.{PrintsFor};
 use crate::output_lines::put_refusal;
 use console::{Input, Outcome};
 use std::io::{Read, Write};
-use text::frames::Answer;
 use text::frames::sizes::{CHART_TEXT, IMAGE_TEXT, LINE};
 
 // One character more than the longest chart: of a longer text no more needs to be read.
@@ -21,13 +20,9 @@ pub fn translate_text(input: &[u8], out: &mut [u8; TRANSLATE_PRINTS]) -> usize
 {
     let answer = translator::translating::translate(input, out);
     match answer {
-        Answer::Done(count) => count,
-        Answer::Refused {
-            number,
-            index,
-            count: _,
-        } => {
-            put_refusal(out, 0, number, index);
+        Ok(count) => count,
+        Err(refusal) => {
+            put_refusal(out, 0, refusal.number(), refusal.index());
             LINE
         }
     }

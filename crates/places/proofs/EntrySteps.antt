@@ -11,9 +11,10 @@ use Rattle.words.specs.lists.Pick.{pick}
 use Rattle.words.proofs.lists.Tests.{cases}
 use Rattle.text.specs.frames.Frame.{contents}
 use Rattle.text.specs.frames.Verdict.{Verdict, refused, when}
-use Rattle.text.specs.frames.Answer.{success, refusal, reply, verdict_reply}
-use Rattle.text.specs.declared.frames.Answer.{Answer}
-use Rattle.text.specs.declared.frames.Answer.TheVariants.{Refused}
+use Rattle.std.proofs.Common.{Err}
+use Rattle.text.specs.declared.frames.refusals.Refusal.{Refusal}
+use Rattle.text.specs.frames.Refusal.{number_of, index_of}
+use Rattle.text.specs.frames.Answer.{Answer, success, refusal, reply, verdict_reply}
 use Rattle.text.proofs.frames.Chains.{next-refused, next-on}
 use Rattle.charts.specs.Chart.{Chart}
 use Rattle.charts.specs.Entry.{read_verdict, read_chart}
@@ -53,13 +54,13 @@ module _ (t : List ℕ) where
   refused-before k i e = refused-by k i (next-refused (translate_verdict t) (λ _. when 20 (is_circular (contents t))) k i e)
 
   pub needed-unread : (zeros : List ℕ) → 2560 ≤ length zeros → (a : Answer)
-      → reply a ≡ (read_chart t zeros).reply → (k i m : ℕ) → a ≡ Refused k i m
-      → reply a ≡ places_needed t
+      → reply a ≡ (read_chart t zeros).reply → (r : Refusal) → a ≡ Err r → reply (Err r) ≡ places_needed t
   unfolding translate_verdict
-  needed-unread zeros room a e k i m q =
-      let p : (read_verdict t ≡ refused k i) × (m ≡ 0) = read_no t zeros room a e k i m q in
-      ap reply q ∙ ap (refusal k i) p.1
-      ∙ refused-before k i (next-refused (read_verdict t) (λ _. when 10 (ltb 1024 (length (rows (contents t))))) k i p.0)
+  needed-unread zeros room a e r q =
+      let p = read_no t zeros room a e r q in
+      ap (refusal (number_of r) (index_of r)) p.1
+      ∙ refused-before (number_of r) (index_of r)
+      (next-refused (read_verdict t) (λ _. when 10 (ltb 1024 (length (rows (contents t))))) (number_of r) (index_of r) p.0)
 
   module _ (held : List ℕ) (n : ℕ) (r : Read t held n) where
     by_rows : (b : Bool) → b ≡ ltb 1024 (length (rows (take (10 * n) held))) → translate_verdict t ≡ when 10 b

@@ -9,9 +9,8 @@ use crate::chains::longest_chain;
 use chart_rows::row_bounds::bound_rows;
 use chart_rows::{COUNTED, NOTES, count_rows, note_nodes};
 use chart_text::read_chart;
-use text::frames::refusals::{CALLS_ITSELF, MANY_ROWS};
+use text::frames::Refusal;
 use text::frames::sizes::*;
-use text::frames::{Answer, refused};
 
 // 10: there are more rows than an image has. Where a bound on the rows excludes it, the paths are not walked to count them.
 fn too_many_rows(records: &[u8]) -> bool
@@ -27,22 +26,19 @@ fn too_many_rows(records: &[u8]) -> bool
 }
 
 // Refusals 1 to 10, with 19 after 5, and 20 where a circle of calls can be reached; else the number of schemes of the longest chain.
-pub fn places_needed(text: &[u8]) -> Answer
+pub fn places_needed(text: &[u8]) -> Result<usize, Refusal>
     ensures { reply result ≡ places_needed text.now }
 {
     let mut held = [0u8; RECORDS];
-    let read = read_chart(text, &mut held);
-    let Answer::Done(count) = read else {
-        return read;
-    };
+    let count = read_chart(text, &mut held)?;
     let end = RECORD * count;
     let records = &held[..end];
     if too_many_rows(records) {
-        return refused(MANY_ROWS, 0);
+        return Err(Refusal::ManyRows);
     }
     let schemes = longest_chain(records);
     if schemes == 0 {
-        return refused(CALLS_ITSELF, 0);
+        return Err(Refusal::CallsItself);
     }
-    Answer::Done(schemes as usize)
+    Ok(schemes as usize)
 }

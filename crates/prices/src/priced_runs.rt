@@ -9,51 +9,43 @@ use crate::price_of;
 use runs::machine::run_bytes;
 use state::State;
 use state::layout::STATE_BYTES;
-use text::frames::refusals::MANY_WORDS;
-use text::frames::{Answer, refused};
+use text::frames::Refusal;
 
 // What a run on the bytes of a state answers, and its price in cents: 0 with every refusal but 17 and 18.
 #[derive(Drop)]
 pub struct PricedReport {
-    pub answer: Answer,
+    pub answer: Result<usize, Refusal>,
     pub price: u64,
 }
 
 // The same, and the state after it.
 #[derive(Drop)]
 pub struct PricedStateReport {
-    pub answer: Answer,
+    pub answer: Result<usize, Refusal>,
     pub state: State,
     pub price: u64,
 }
 
 // How many ticks were finished.
-fn count_of(answer: Answer) -> usize
+fn count_of(answer: Result<usize, Refusal>) -> usize
     ensures { result ≡ reply_count (reply answer) }
 {
     match answer {
-        Answer::Done(count) => count,
-        Answer::Refused {
-            number: _,
-            index: _,
-            count,
-        } => count,
+        Ok(count) => count,
+        Err(refusal) => refusal.ticks(),
     }
 }
 
 // The answer to more words than are priced: what refuses a run of no words, or 27. It runs on a copy, since a run tidies the bytes.
-fn refuse_many(image: &[u8], bytes: &[u8; STATE_BYTES]) -> Answer
+fn refuse_many(image: &[u8], bytes: &[u8; STATE_BYTES]) -> Result<usize, Refusal>
     ensures { reply result ≡ verdict_reply (many_verdict image.now (state_of bytes.now)) 0 }
 {
     let mut copy = *bytes;
     let words = [0u16; 1];
     let mut masks = [0u32; 1];
     let mut codes = [0u8; 1];
-    let answer = run_bytes(image, &mut copy, &words[..0], &mut masks, &mut codes);
-    let Answer::Done(_) = answer else {
-        return answer;
-    };
-    refused(MANY_WORDS, 0)
+    run_bytes(image, &mut copy, &words[..0], &mut masks, &mut codes)?;
+    Err(Refusal::ManyWords)
 }
 
 // What the image check tries, 15, 27 and 16 before the first tick, 17 and 18 tick by tick.

@@ -4,7 +4,6 @@ ghost use Rattle.prices.specs.priced_runs.PricedRun.{priced_run, GivesPricedRun}
 use crate::priced_runs::{PricedStateReport, priced_run_bytes};
 use state::State;
 use state::state_bytes::{bytes_of, state_of};
-use text::frames::Answer;
 
 // The same on a state that is taken and handed back.
 pub fn priced_run(
@@ -21,7 +20,7 @@ pub fn priced_run(
 {
     let mut bytes = bytes_of(state);
     let done = priced_run_bytes(image, &mut bytes, prices, words, masks, codes);
-    let answer: Answer = done.answer;
+    let answer = done.answer;
     let price = done.price;
     let after = state_of(bytes);
     PricedStateReport {

@@ -1,5 +1,5 @@
 -- A rebinding on an image, or live on a table, by the rebinding on the table that it makes; and by value, by what the bytes then hold.
-use mathlib.Core.Path.{◌≡◌, sym, ◌∙◌, ap, subst}
+use mathlib.Core.Path.{◌≡◌, refl, sym, ◌∙◌, ap, subst}
 use mathlib.Core.Bool.{Bool, true, false}
 use mathlib.Core.List.{List}
 use Prim.Native.Nat.{ℕ, ◌*◌}
@@ -7,11 +7,13 @@ use native.Mathlib.Omega.{arith}
 use lib.ListN.{length, take}
 use Rattle.text.specs.frames.Frame.{contents}
 use Rattle.text.specs.frames.Verdict.{Verdict, fine, refused, next, when}
-use Rattle.text.specs.frames.Answer.{reply, verdict_reply}
-use Rattle.text.specs.declared.frames.Answer.{Answer}
-use Rattle.text.specs.declared.frames.Answer.TheVariants.{Refused}
+use Rattle.text.specs.frames.Answer.{Answer, refusal, reply, verdict_reply}
+use Rattle.std.proofs.Common.{Err}
+use Rattle.text.specs.declared.frames.refusals.Refusal.{Refusal}
+use Rattle.text.specs.frames.Refusal.{number_of, index_of}
+use Rattle.text.specs.declared.frames.refusals.Refusal.TheVariants.{BadHeader}
 use Rattle.text.proofs.frames.Refuses.{RefusesWith}
-use Rattle.text.proofs.frames.Chains.{refused-verdict}
+use Rattle.text.proofs.frames.Chains.{err-refused}
 use Rattle.image.specs.Decode.{decoded_image}
 use Rattle.image.specs.Check.{image_verdict}
 use Rattle.image.proofs.Refuses.{Early, early-image}
@@ -32,9 +34,9 @@ module _ (b before : List ℕ) (h k : ℕ) (t : Bool) (e : t ≡ is_bad_table b)
   abbrev s : State
   s = state_of before
 
-  pub live-refused : t ≡ true → (a : Answer) → a ≡ Refused 11 0 0 → GivesRebindingOn (live_rebind b s h k) before a before
+  pub live-refused : t ≡ true → GivesRebindingOn (live_rebind b s h k) before (Err BadHeader) before
   unfolding live_rebind
-  live-refused q a r = kept-rebinds (live_rebind b s h k) before 11 0 s (rw (sym e ∙ q)) (omega arith) a (ap reply r)
+  live-refused q = kept-rebinds (live_rebind b s h k) before 11 0 s (rw (sym e ∙ q)) (omega arith) (Err BadHeader) refl
 
   live-good : t ≡ false → table_rebind (front b) s h k ≡ live_rebind b s h k
   unfolding live_rebind table_rebind
@@ -64,12 +66,13 @@ module _ (t before : List ℕ) (h k : ℕ) where
   early : (n j : ℕ) → image_verdict t ≡ refused n j → Early n
   early n j e = subst (RefusesWith Early) e (early-image t)
 
-  pub image-refused : (a : Answer) → reply a ≡ verdict_reply (image_verdict t) 0 → (n j m : ℕ) → a ≡ Refused n j m
-      → GivesRebindingOn (rebind t state₀ h k) before a before
-  image-refused a gives n j m e =
-      let verdict : image_verdict t ≡ refused n j = (refused-verdict a (image_verdict t) 0 gives n j m e).0 in
-      kept-rebinds (rebind t state₀ h k) before n j state₀ (image-kept n j verdict) (early n j verdict).0 a
-      (gives ∙ ap (λ (v : Verdict). verdict_reply v 0) verdict)
+  pub image-refused : (a : Answer) → reply a ≡ verdict_reply (image_verdict t) 0 → (r : Refusal) → a ≡ Err r
+      → GivesRebindingOn (rebind t state₀ h k) before (Err r) before
+  image-refused a gives r e =
+      let p = err-refused a (image_verdict t) 0 gives r e in
+      kept-rebinds (rebind t state₀ h k) before (number_of r) (index_of r) state₀
+      (image-kept (number_of r) (index_of r) p.0) (early (number_of r) (index_of r) p.0).0 (Err r)
+      (ap (refusal (number_of r) (index_of r)) p.1)
 
   pub image-rebinds : (b : List ℕ) → tables.MadeTable t b → (a : Answer) (after : List ℕ)
       → GivesRebindingOn (table_rebind b state₀ h k) before a after

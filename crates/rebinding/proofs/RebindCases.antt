@@ -10,9 +10,9 @@ use borrow.Author.Tests.{ne_eqb, ltb-false}
 use Rattle.words.proofs.lists.Tests.{no-pick, or_l, or_r}
 use Rattle.bindings.specs.Binding.{rebound_binding, is_bad_rebinding}
 use Rattle.text.specs.frames.Verdict.{next, when}
-use Rattle.text.specs.frames.Answer.{refusal, reply}
-use Rattle.text.specs.declared.frames.Answer.{Answer}
-use Rattle.text.specs.declared.frames.Answer.TheVariants.{Done, Refused}
+use Rattle.text.specs.frames.Answer.{Answer, refusal, reply}
+use Rattle.std.proofs.Common.{Ok, Err}
+use Rattle.text.specs.declared.frames.refusals.Refusal.TheVariants.{Unfit, BadRebinding}
 use Rattle.image.specs.Decode.{scheme_count, handler_in, last_label, row_count}
 use Rattle.tables.specs.Table.{table_image}
 use Rattle.tables.specs.inner.Asked.{Whole}
@@ -43,12 +43,12 @@ module _ (b before : List ℕ) (h k : ℕ) (t : Bool) (e : t ≡ is_unfit (table
   abbrev answers : Bool → Bool → StateOutcome
   answers t u = rebind_on (next (when 15 t) λ _. when 22 u) s h k
 
-  pub unfit-rebinds : t ≡ true → (a : Answer) → a ≡ Refused 15 0 0 → GivesRebindingOn (table_rebind b s h k) before a before
+  pub unfit-rebinds : t ≡ true → GivesRebindingOn (table_rebind b s h k) before (Err Unfit) before
   unfolding table_rebind
-  unfit-rebinds q a r =
+  unfit-rebinds q =
       kept-rebinds (table_rebind b s h k) before 15 0 s
       (ap (λ (t : Bool). answers t (is_bad_rebinding (length (table_image b).entries) (table_image b).handler h k)) (sym e ∙ q))
-      (omega arith) a (ap reply r)
+      (omega arith) (Err Unfit) refl
 
   module _ (fit : t ≡ false) (u : Bool) (f : u ≡ is_bad_rebinding (scheme_count b) (handler_in b) h k) where
     refused-by : is_bad_rebinding (length (table_image b).entries) (table_image b).handler h k ≡ u
@@ -59,12 +59,13 @@ module _ (b before : List ℕ) (h k : ℕ) (t : Bool) (e : t ≡ is_unfit (table
     unfolding table_rebind
     table_is = ap₂ answers (sym e ∙ fit) refused-by
 
-    pub bad-rebinds : u ≡ true → (a : Answer) → a ≡ Refused 22 0 0 → GivesRebindingOn (table_rebind b s h k) before a before
-    bad-rebinds q a r = kept-rebinds (table_rebind b s h k) before 22 0 s (table_is ∙ ap (answers false) q) (omega arith) a (ap reply r)
+    pub bad-rebinds : u ≡ true → GivesRebindingOn (table_rebind b s h k) before (Err BadRebinding) before
+    bad-rebinds q =
+        kept-rebinds (table_rebind b s h k) before 22 0 s (table_is ∙ ap (answers false) q) (omega arith) (Err BadRebinding) refl
 
     pub done-rebinds : u ≡ false → (bound after : List ℕ) → state_of bound ≡ with_serving s (rebound_binding h k s.serving)
         → after ≡ bytes_of (state_of bound)
-        → GivesRebindingOn (table_rebind b s h k) before (Done 0) after
+        → GivesRebindingOn (table_rebind b s h k) before (Ok 0) after
     done-rebinds q bound after x y = rw (table_is ∙ ap (answers false) q) (record { answered = refl; bytes = y ∙ ap bytes_of x })
 
 -- at most 16 schemes, so that both are bytes

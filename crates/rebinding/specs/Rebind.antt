@@ -5,8 +5,7 @@ use Rattle.bindings.specs.Binding.{rebound_binding, is_bad_rebinding}
 use Rattle.text.specs.declared.frames.refusals.TheConstants.{BAD_HEADER, UNFIT, BAD_REBINDING}
 use Rattle.text.specs.frames.Frame.{contents}
 use Rattle.text.specs.frames.Verdict.{Verdict, fine, refused, next, when}
-use Rattle.text.specs.frames.Answer.{success, refusal, reply_number, reply}
-use Rattle.text.specs.declared.frames.Answer.{Answer}
+use Rattle.text.specs.frames.Answer.{Answer, success, refusal, reply_number, reply}
 use Rattle.image.specs.Image.{Image}
 use Rattle.image.specs.Decode.{decoded_image}
 use Rattle.image.specs.Check.{image_verdict}

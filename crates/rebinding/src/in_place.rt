@@ -9,25 +9,29 @@ use state::layout::STATE_BYTES;
 use state::state_results::{put_serving, tidy_results};
 use tables::preparing::prepare_table;
 use tables::{bad_table, table_length};
-use text::frames::refusals::{BAD_HEADER, BAD_REBINDING, UNFIT};
+use text::frames::Refusal;
 use text::frames::sizes::{FRAME, LINE, TABLE};
-use text::frames::{Answer, refused};
 
 // A rebinding on a prepared table: 15, then 22.
-fn rebind_table(table: &[u8], bytes: &mut [u8; STATE_BYTES], number: usize, scheme: usize) -> Answer
+fn rebind_table(
+    table: &[u8],
+    bytes: &mut [u8; STATE_BYTES],
+    number: usize,
+    scheme: usize,
+) -> Result<usize, Refusal>
     requires { Whole table.now }
     ensures { GivesRebindingOn (table_rebind table.now (state_of bytes.old) number scheme)
         bytes.old result bytes.new }
 {
     if is_unfit(table, bytes) {
-        return refused(UNFIT, 0);
+        return Err(Refusal::Unfit);
     }
     if bad_rebinding(table, number, scheme) {
-        return refused(BAD_REBINDING, 0);
+        return Err(Refusal::BadRebinding);
     }
     put_serving(bytes, number, scheme as u8);
     tidy_results(bytes);
-    Answer::Done(0)
+    Ok(0)
 }
 
 // What the image check tries, then 15 and 22.
@@ -36,15 +40,12 @@ pub fn rebind_bytes(
     bytes: &mut [u8; STATE_BYTES],
     number: usize,
     scheme: usize,
-) -> Answer
+) -> Result<usize, Refusal>
     ensures { GivesRebindingOn (rebind image.now (state_of bytes.old) number scheme)
         bytes.old result bytes.new }
 {
     let mut table = [0u8; TABLE];
-    let answer = prepare_table(image, &mut table);
-    let Answer::Done(_) = answer else {
-        return answer;
-    };
+    prepare_table(image, &mut table)?;
     let n = FRAME * (image.len() / LINE);
     rebind_table(&table[..n], bytes, number, scheme)
 }
@@ -55,12 +56,12 @@ pub fn live_rebind_bytes(
     bytes: &mut [u8; STATE_BYTES],
     number: usize,
     scheme: usize,
-) -> Answer
+) -> Result<usize, Refusal>
     ensures { GivesRebindingOn (live_rebind table.now (state_of bytes.old) number scheme)
         bytes.old result bytes.new }
 {
     if bad_table(table) {
-        return refused(BAD_HEADER, 0);
+        return Err(Refusal::BadHeader);
     }
     let n = table_length(table);
     rebind_table(&table[..n], bytes, number, scheme)

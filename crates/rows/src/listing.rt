@@ -9,8 +9,7 @@ ghost use Rattle.rows.specs.listing.inner.ListingContracts.{Listable, ListingAsk
 use crate::{end_of, first_of};
 use image::rows_from;
 use tables::{last_label, scheme_count};
-use text::frames::refusals::NO_ROOM;
-use text::frames::{Answer, refused};
+use text::frames::Refusal;
 
 // The number of a label's first row and how many it has.
 #[derive(Drop)]
@@ -55,18 +54,18 @@ fn fill_listing(table: &[u8], firsts: &mut [u16], counts: &mut [u16])
 }
 
 // 16, then the listing; counts the labels.
-pub fn list_table(table: &[u8], firsts: &mut [u16], counts: &mut [u16]) -> Answer
+pub fn list_table(table: &[u8], firsts: &mut [u16], counts: &mut [u16]) -> Result<usize, Refusal>
     requires { Listable table.now }
     ensures { GivesListing (list_table table.now firsts.old counts.old)
         result firsts.new counts.new }
 {
     let labels = last_label(table) as usize + 1;
     if firsts.len() < labels {
-        return refused(NO_ROOM, 0);
+        return Err(Refusal::NoRoom);
     }
     if counts.len() < labels {
-        return refused(NO_ROOM, 0);
+        return Err(Refusal::NoRoom);
     }
     fill_listing(table, firsts, counts);
-    Answer::Done(labels)
+    Ok(labels)
 }

@@ -12,7 +12,7 @@ use Rattle.runs.specs.Run.{then, ticks}
 -- no refusal of these numbers is one that a run tries before its first tick
 abbrev pub Late : Verdict → Type 0
 Late fine = Unit {0}
-Late (refused n j) = 17 ≤ n
+Late (refused n j) = (17 ≤ n) × (n ≤ 18)
 
 pub ticks-same : (i : Image) (ws : List ℕ) (s : State) → Same s (ticks i s ws).state
 unfolding ticks

@@ -10,9 +10,10 @@ use borrow.Author.Tests.{lt-ltb, le-ltb, lt-leb, le-leb, ltb-false, ne_eqb}
 use Rattle.words.specs.lists.Sequences.{over}
 use Rattle.words.proofs.lists.Tests.{or_l, or_r, yes-pick, no-pick, and_no, and-true}
 use Rattle.text.specs.frames.Verdict.{Verdict, fine, refused, next, when}
-use Rattle.text.specs.frames.Answer.{Reply, success, refusal, reply_number, reply, counted_reply}
-use Rattle.text.specs.declared.frames.Answer.{Answer}
-use Rattle.text.specs.declared.frames.Answer.TheVariants.{Done, Refused}
+use Rattle.text.specs.frames.Answer.{Answer, Reply, success, refusal, reply_number, reply, counted_reply}
+use Rattle.std.proofs.Common.{Ok, Err}
+use Rattle.text.specs.declared.frames.refusals.Refusal.{Refusal}
+use Rattle.text.specs.declared.frames.refusals.Refusal.TheVariants.{Unfit, NoRoom}
 use Rattle.tables.specs.Table.{table_image}
 use Rattle.tables.specs.inner.Asked.{Whole}
 use Rattle.state.specs.declared.State.{State}
@@ -27,6 +28,7 @@ use Rattle.ticks.specs.declared.TickEnd.{TickEnd}
 use Rattle.ticks.specs.inner.TickContracts.{state_after_tick, end_of_tick, GivesTickEnd}
 use Rattle.ticks.specs.inner.TickContracts.{TickAsked}
 use Rattle.runs.specs.inner.RunContracts.{verdict_of, RunRoom, GivesRunEnd, table_run}
+use Rattle.ticks.proofs.Normal.{Normal, tick-normal}
 use Rattle.runs.proofs.Normal.{Late, ticks-late}
 use Rattle.runs.proofs.TurnCases.{number-verdict, went, stood}
 
@@ -100,14 +102,13 @@ module _ (b before ws ms₀ ks₀ : List ℕ) where
       ap (λ (t : Bool). run_on (next (when 15 t) λ _. when 16 (has_no_room ws ms₀ ks₀)) (λ _. ran) s ms₀ ks₀) e
       ∙ ap (λ (t : Bool). run_on (when 16 t) (λ _. ran) s ms₀ ks₀) f
 
-  pub unfit-answer : (t : Bool) → t ≡ is_unfit (table_image b) s → t ≡ true → (a : Answer)
-      → a ≡ Refused 15 0 0 → GivesRunOn given before a before ms₀ ks₀
-  unfit-answer t e h a q = kept-runs given before ms₀ ks₀ 15 0 s (table-unfit (sym e ∙ h)) (omega arith) (omega arith) a (ap reply q)
+  pub unfit-answer : (t : Bool) → t ≡ is_unfit (table_image b) s → t ≡ true → GivesRunOn given before (Err Unfit) before ms₀ ks₀
+  unfit-answer t e h = kept-runs given before ms₀ ks₀ 15 0 s (table-unfit (sym e ∙ h)) (omega arith) (omega arith) (Err Unfit) refl
 
   module _ (t : Bool) (e : t ≡ is_unfit (table_image b) s) (h : t ≡ false) (u : Bool) (f : u ≡ has_no_room ws ms₀ ks₀) where
-    pub short-answer : u ≡ true → (a : Answer) → a ≡ Refused 16 0 0 → GivesRunOn given before a before ms₀ ks₀
-    short-answer g a q = kept-runs given before ms₀ ks₀ 16 0 s (table-short (sym e ∙ h) (sym f ∙ g))
-        (omega arith) (omega arith) a (ap reply q)
+    pub short-answer : u ≡ true → GivesRunOn given before (Err NoRoom) before ms₀ ks₀
+    short-answer g = kept-runs given before ms₀ ks₀ 16 0 s (table-short (sym e ∙ h) (sym f ∙ g))
+        (omega arith) (omega arith) (Err NoRoom) refl
 
     module _ (g : u ≡ false) (r : RunEnd) (mid bytes ms ks : List ℕ) (ends : GivesRunEnd b before ws ms₀ ks₀ r mid ms ks)
         (tidied : bytes ≡ bytes_of (state_of mid)) where
@@ -120,7 +121,11 @@ module _ (b before ws ms₀ ks₀ : List ℕ) where
       -- neither success nor 17 and 18 leave the bytes
       writes : (n : ℕ) → Late (verdict_of n) → (m : ℕ) → is_without_change (reply_number (counted_reply (verdict_of n) m)) ≡ false
       writes zero l m = refl
-      writes (suc n) l m = late-writes (suc n) l
+      writes (suc n) l m = late-writes (suc n) l.0
+
+      -- a run that is stopped tells 17 or 18
+      pub stops-late : (r.number ≡ 0 → ⊥) → (17 ≤ r.number) × (r.number ≤ 18)
+      stops-late z = subst Late (number-verdict r.number z) late
 
       pub ran-answer : (a : Answer) → reply a ≡ counted_reply (verdict_of r.number) r.count → GivesRunOn given before a bytes ms ks
       unfolding bytes_after
@@ -234,30 +239,31 @@ module _ (b before : List ℕ) (w : ℕ) where
       ∙ ap (λ (x : MachineTick). tick_outcome (run_on fine (λ _. then state₀ (λ t. ticks (table_image b) t []) x) state₀ (0 ∷ [])
       (0 ∷ []))) q
 
-  pub refused-advances : (n : ℕ) → (n ≡ 0 → ⊥) → one ≡ tick_refused_by n → (a : Answer) → a ≡ Refused n 0 0
-      → GivesTickOn one before (record { answer = a; mask = 0; code = 0 }) before
-  refused-advances n h e a q =
+  pub refused-advances : (n : ℕ) → (n ≡ 0 → ⊥) → one ≡ tick_refused_by n → (r : Refusal) → reply (Err r) ≡ refusal n 0 0
+      → GivesTickOn one before (Err r) before
+  refused-advances n h e r q =
       rw e
       (record {
-        answered = ap reply q;
+        answered = q;
         mask = refl;
         code = refl;
         bytes = sym (no-pick (eqb n 0) (bytes_of state₀) before (ne_eqb n 0 h));
       })
 
   module _ (t : Bool) (e : t ≡ is_unfit (table_image b) state₀) where
-    pub tick-unfit : t ≡ true → (a : Answer) → a ≡ Refused 15 0 0
-        → GivesTickOn one before (record { answer = a; mask = 0; code = 0 }) before
-    tick-unfit h a q = refused-advances 15 (λ z. omega arith) (one-unfit (sym e ∙ h)) a q
+    pub tick-unfit : t ≡ true → GivesTickOn one before (Err Unfit) before
+    tick-unfit h = refused-advances 15 (λ z. omega arith) (one-unfit (sym e ∙ h)) Unfit refl
 
     module _ (h : t ≡ false) (r : TickEnd) (mid : List ℕ) (q : GivesTickEnd b before w r mid) where
-      pub tick-stopped : (z : r.number ≡ 0 → ⊥) (a : Answer) → a ≡ Refused r.number 0 0
-          → GivesTickOn one before (record { answer = a; mask = 0; code = 0 }) mid
-      tick-stopped z a p =
-          rw (q.kept z) (refused-advances r.number z (one-stopped (sym e ∙ h) r.number (stood b before w r mid q z)) a p)
+      pub tick-late : (r.number ≡ 0 → ⊥) → (17 ≤ r.number) × (r.number ≤ 18)
+      tick-late z = subst (Normal state₀) (stood b before w r mid q z) (tick-normal (table_image b) state₀ w)
+
+      pub tick-stopped : (z : r.number ≡ 0 → ⊥) (x : Refusal) → reply (Err x) ≡ refusal r.number 0 0 → GivesTickOn one before (Err x) mid
+      tick-stopped z x p =
+          rw (q.kept z) (refused-advances r.number z (one-stopped (sym e ∙ h) r.number (stood b before w r mid q z)) x p)
 
       pub tick-finished : r.number ≡ 0 → (bytes : List ℕ) → bytes ≡ bytes_of (state_of mid)
-          → GivesTickOn one before (record { answer = Done 1; mask = r.mask; code = r.code }) bytes
+          → GivesTickOn one before (Ok (record { mask = r.mask; code = r.code })) bytes
       tick-finished z bytes u =
           rw (one-ticked (sym e ∙ h) r.mask r.code (state_of mid) (went b before w r mid q z))
           (record { answered = refl; mask = refl; code = refl; bytes = u })

@@ -2,12 +2,10 @@
 use Rattle.std.specs.Prelude.{ℕ, Bool, ◌&&◌, ◌≡◌, List, eqb, leb}
 use Rattle.words.specs.lists.Pick.{pick}
 use Rattle.text.specs.declared.frames.refusals.TheConstants.{BAD_LENGTH, NO_ROOM}
-use Rattle.text.specs.frames.Answer.{reply_number, reply}
-use Rattle.text.specs.declared.frames.Answer.{Answer}
+use Rattle.text.specs.frames.Answer.{Answer, reply_number, reply}
 use Rattle.state.specs.Bytes.{bytes_of}
-use Rattle.runs.specs.declared.TickReport.{TickReport}
 use Rattle.runs.specs.Run.{RunOutcome}
-use Rattle.runs.specs.TickOutcome.{TickOutcome}
+use Rattle.runs.specs.TickOutcome.{TickOutcome, TickAnswer, tick_reply, answered_mask, answered_code}
 
 -- refusals that change no state
 abbrev pub is_without_change : ℕ → Bool
@@ -27,8 +25,8 @@ pub record GivesRunOn (x : RunOutcome) (before : List ℕ) (answer : Answer) (af
   pub masks : ms ≡ x.masks
   pub codes : ks ≡ x.codes
 
-pub record GivesTickOn (x : TickOutcome) (before : List ℕ) (r : TickReport) (after : List ℕ) : Type 0 where
-  pub answered : reply r.answer ≡ x.reply
-  pub mask : r.mask ≡ x.mask
-  pub code : r.code ≡ x.code
+pub record GivesTickOn (x : TickOutcome) (before : List ℕ) (answer : TickAnswer) (after : List ℕ) : Type 0 where
+  pub answered : tick_reply answer ≡ x.reply
+  pub mask : answered_mask answer ≡ x.mask
+  pub code : answered_code answer ≡ x.code
   pub bytes : after ≡ if_ticked x (bytes_of x.state) before

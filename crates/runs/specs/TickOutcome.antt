@@ -1,8 +1,9 @@
 -- One tick as a controller calls it: a run of one word, with room for one mask and one code.
-use Rattle.std.specs.Prelude.{ℕ, ◌≡◌, List, [], ◌∷◌, get_or}
-use Rattle.text.specs.frames.Answer.{Reply, reply}
+use Rattle.std.specs.Prelude.{ℕ, ◌≡◌, List, [], ◌∷◌, get_or, Result, Ok, Err}
+use Rattle.text.specs.declared.frames.refusals.Refusal.{Refusal}
+use Rattle.text.specs.frames.Answer.{Reply, success, reply}
 use Rattle.state.specs.declared.State.{State}
-use Rattle.runs.specs.declared.TickReport.{TickReport}
+use Rattle.runs.specs.declared.Tick.{Tick}
 use Rattle.runs.specs.Run.{RunOutcome, run}
 
 -- mask and code of the tick, 0 where it is refused, and the state after it
@@ -19,9 +20,26 @@ tick_outcome r = record { reply = r.reply; mask = get_or r.masks 0 0; code = get
 unfoldable pub image_tick : List ℕ → State → ℕ → TickOutcome
 image_tick t s w = tick_outcome (run t s (w ∷ []) (0 ∷ []) (0 ∷ []))
 
--- what a function that makes one tick promises: its report, and the state after it
-pub record GivesTick (x : TickOutcome) (r : TickReport) (after : State) : Type 0 where
-  pub answered : reply r.answer ≡ x.reply
-  pub mask : r.mask ≡ x.mask
-  pub code : r.code ≡ x.code
+-- what it answers: the tick, or why it is refused
+abbrev pub TickAnswer : Type 0
+TickAnswer = Result Tick Refusal
+
+-- a finished tick counts 1
+abbrev pub tick_reply : TickAnswer → Reply
+tick_reply (Ok t) = success 1
+tick_reply (Err r) = reply (Err r)
+
+abbrev pub answered_mask : TickAnswer → ℕ
+answered_mask (Ok t) = t.mask
+answered_mask (Err r) = 0
+
+abbrev pub answered_code : TickAnswer → ℕ
+answered_code (Ok t) = t.code
+answered_code (Err r) = 0
+
+-- what a function that makes one tick promises: its answer, and the state after it
+pub record GivesTick (x : TickOutcome) (answer : TickAnswer) (after : State) : Type 0 where
+  pub answered : tick_reply answer ≡ x.reply
+  pub mask : answered_mask answer ≡ x.mask
+  pub code : answered_code answer ≡ x.code
   pub state : after ≡ x.state

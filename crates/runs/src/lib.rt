@@ -3,8 +3,6 @@
 //! by value, and `kept_states` a tick on a state behind a reference.
 #![tactic(auto)]
 
-use text::frames::Answer;
-
 pub mod kept_states;
 pub mod machine;
 mod runs;
@@ -20,10 +18,9 @@ pub struct RunEnd {
     pub count: usize,
 }
 
-// What one tick answers: with a refusal, mask and code are 0.
-#[derive(Drop)]
-pub struct TickReport {
-    pub answer: Answer,
+// What a tick gives: the mask that it emits and its code.
+#[derive(Clone, Copy)]
+pub struct Tick {
     pub mask: u32,
     pub code: u8,
 }

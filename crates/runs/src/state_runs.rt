@@ -3,15 +3,16 @@ ghost use Rattle.runs.specs.Run.{run, GivesRun};
 ghost use Rattle.runs.specs.TickOutcome.{image_tick, GivesTick};
 ghost use Rattle.runs.specs.machine.Live.{live_run, live_tick};
 
-use crate::TickReport;
+use crate::Tick;
 use crate::machine::{live_run_bytes, live_tick_bytes, run_bytes, tick_bytes};
 use state::state_bytes::{bytes_of, state_of};
 use state::{State, StateReport};
+use text::frames::Refusal;
 
-// A tick's report, and the state after it.
+// A tick's answer, and the state after it.
 #[derive(Drop)]
 pub struct TickStateReport {
-    pub report: TickReport,
+    pub answer: Result<Tick, Refusal>,
     pub state: State,
 }
 
@@ -35,15 +36,15 @@ pub fn run(
     }
 }
 
-// A run of one word; refused, it hands back mask 0, code 0 and the state as it was.
+// A run of one word; refused, it hands back the state as it was.
 pub fn tick_image(image: &[u8], state: State, word: u16) -> TickStateReport
-    ensures { GivesTick (image_tick image.now state word) result.report result.state }
+    ensures { GivesTick (image_tick image.now state word) result.answer result.state }
 {
     let mut bytes = bytes_of(state);
-    let report = tick_bytes(image, &mut bytes, word);
+    let answer = tick_bytes(image, &mut bytes, word);
     let after = state_of(bytes);
     TickStateReport {
-        report,
+        answer,
         state: after,
     }
 }
@@ -70,13 +71,13 @@ pub fn live_run(
 
 // One tick on a prepared table.
 pub fn live_tick(table: &[u8], state: State, word: u16) -> TickStateReport
-    ensures { GivesTick (live_tick table.now state word) result.report result.state }
+    ensures { GivesTick (live_tick table.now state word) result.answer result.state }
 {
     let mut bytes = bytes_of(state);
-    let report = live_tick_bytes(table, &mut bytes, word);
+    let answer = live_tick_bytes(table, &mut bytes, word);
     let after = state_of(bytes);
     TickStateReport {
-        report,
+        answer,
         state: after,
     }
 }

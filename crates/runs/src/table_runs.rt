@@ -1,5 +1,7 @@
 // A run and a tick on a prepared table: 15 and 16 are tried, then the ticks are made.
-ghost use Rattle.std.specs.Prelude.{◌≡◌, [], ◌∷◌};
+ghost use Rattle.std.specs.Prelude.{◌≡◌, ◌≤◌, [], ◌∷◌, Err};
+ghost use Rattle.text.specs.declared.frames.refusals.TheConstants.{FULL, NO_ROW};
+ghost use Rattle.text.specs.frames.Answer.{refusal, reply};
 ghost use Rattle.tables.specs.inner.Asked.{Whole};
 ghost use Rattle.state.specs.Bytes.{state_of};
 ghost use Rattle.runs.specs.Run.{has_no_room};
@@ -7,13 +9,12 @@ ghost use Rattle.runs.specs.TickOutcome.{tick_outcome};
 ghost use Rattle.runs.specs.InPlace.{GivesRunOn, GivesTickOn};
 ghost use Rattle.runs.specs.inner.RunContracts.{table_run};
 
-use crate::{TickReport, tick_all, tick_word};
+use crate::{Tick, tick_all, tick_word};
 use fitness::fitting::is_unfit;
 use state::layout::STATE_BYTES;
 use state::state_results::tidy_results;
-use text::frames::refusals::{NO_ROOM, UNFIT};
-use text::frames::{Answer, refused};
-use ticks::TickEnd;
+use text::frames::Refusal;
+use text::frames::refusals::FULL;
 
 // Whether a buffer has less room than words.
 fn no_room(words: &[u16], masks: &[u32], codes: &[u8]) -> bool
@@ -25,6 +26,17 @@ fn no_room(words: &[u16], masks: &[u32], codes: &[u8]) -> bool
     codes.len() < words.len()
 }
 
+// What stopped the ticks, 17 or 18, and how many were finished before it.
+fn stop_after(number: u8, ticks: usize) -> Refusal
+    requires { (FULL ≤ number) × (number ≤ NO_ROW) }
+    ensures { reply (Err result) ≡ refusal number 0 ticks }
+{
+    if number == FULL {
+        return Refusal::Full { ticks };
+    }
+    Refusal::NoRow { ticks }
+}
+
 // A run: 15 and 16, then the ticks.
 pub fn run_table(
     table: &[u8],
@@ -32,58 +44,41 @@ pub fn run_table(
     words: &[u16],
     masks: &mut [u32],
     codes: &mut [u8],
-) -> Answer
+) -> Result<usize, Refusal>
     requires { Whole table.now }
     ensures { GivesRunOn (table_run table.now (state_of bytes.old) words.now masks.old
         codes.old) bytes.old result bytes.new masks.new codes.new }
 {
     if is_unfit(table, bytes) {
-        return refused(UNFIT, 0);
+        return Err(Refusal::Unfit);
     }
     if no_room(words, masks, codes) {
-        return refused(NO_ROOM, 0);
+        return Err(Refusal::NoRoom);
     }
     let ended = tick_all(table, bytes, words, masks, codes);
     tidy_results(bytes);
-    let number = ended.number;
-    let count = ended.count;
-    if number == 0 {
-        return Answer::Done(count);
+    if ended.number == 0 {
+        return Ok(ended.count);
     }
-    Answer::Refused {
-        number,
-        index: 0,
-        count,
-    }
+    Err(stop_after(ended.number, ended.count))
 }
 
 // One tick: 15, then a tick for one word; a refused one leaves the bytes as they were.
-pub fn tick_table(table: &[u8], bytes: &mut [u8; STATE_BYTES], word: u16) -> TickReport
+pub fn tick_table(table: &[u8], bytes: &mut [u8; STATE_BYTES], word: u16) -> Result<Tick, Refusal>
     requires { Whole table.now }
     ensures { GivesTickOn (tick_outcome (table_run table.now (state_of bytes.old) (word ∷ []) (0 ∷ []) (0 ∷ [])))
         bytes.old result bytes.new }
 {
     if is_unfit(table, bytes) {
-        let answer = refused(UNFIT, 0);
-        return TickReport {
-            answer,
-            mask: 0,
-            code: 0,
-        };
+        return Err(Refusal::Unfit);
     }
-    let done: TickEnd = tick_word(table, bytes, word);
-    let number = done.number;
-    if number != 0 {
-        let answer = refused(number, 0);
-        return TickReport {
-            answer,
-            mask: 0,
-            code: 0,
-        };
+    let done = tick_word(table, bytes, word);
+    if done.number != 0 {
+        return Err(stop_after(done.number, 0));
     }
     tidy_results(bytes);
-    let answer = Answer::Done(1);
-    let mask = done.mask;
-    let code = done.code;
-    TickReport { answer, mask, code }
+    Ok(Tick {
+        mask: done.mask,
+        code: done.code,
+    })
 }

@@ -16,6 +16,7 @@ use Rattle.state.specs.declared.State.{State}
 use Rattle.state.specs.State.{fresh, no_state, is_bad_size, StateOutcome, fresh_state}
 use Rattle.agreement.specs.Calls.{TableOf}
 use Rattle.agreement.proofs.OneCall.{prepared-rebind-is, table-prepared}
+use Rattle.runs.specs.TickOutcome.{tick_reply, answered_mask, answered_code}
 use Rattle.spindles.specs.declared.SpinReport.{SpinReport}
 use Rattle.spindles.specs.Spindles.{state_at, depths, SpinOutcome, spin, live_spin, GivesSpin}
 use Rattle.spindles.proofs.Live.{live-spin-is}
@@ -34,8 +35,8 @@ head_with states taken = record { states = states; taken = taken }
 
 module _ (states : List State) (taken : ℕ) where
   -- ---- a tick
-  hears-by : (k : ℕ) (r : SpinReport) {x : SpinOutcome} → SpinEnds states taken k x → reply r.answer ≡ x.reply → r.mask ≡ x.mask
-      → r.code ≡ x.code
+  hears-by : (k : ℕ) (r : SpinReport) {x : SpinOutcome} → SpinEnds states taken k x → tick_reply r.answer ≡ x.reply
+      → answered_mask r.answer ≡ x.mask → answered_code r.answer ≡ x.code
       → Hears (state_at states k).depth x (observed_tick states k r)
   hears-by k r (refuses n j l) e f g = hears_no refl refl (ap (λ (a : Reply). eqb (reply_number a) 0) e ∙ ne_eqb n 0 (λ q. omega arith))
   hears-by k r (finishes m code t low length-is same) e f g = hears_tick refl (ap reply_number e) f g refl

@@ -5,8 +5,7 @@ use Rattle.std.specs.Prelude.{ℕ, ◌≤◌, ◌<◌, ◌≡◌, List, [], ◌�
 use Rattle.words.specs.lists.Sequences.{All}
 use Rattle.bindings.specs.Binding.{own_binding}
 use Rattle.text.specs.frames.Frame.{contents}
-use Rattle.text.specs.frames.Answer.{reply, reply_number, success, GivesBuffer}
-use Rattle.text.specs.declared.frames.Answer.{Answer}
+use Rattle.text.specs.frames.Answer.{Answer, reply, reply_number, success, GivesBuffer}
 use Rattle.translator.specs.Entry.{translate}
 use Rattle.state.specs.declared.layout.TheConstants.{PLACES}
 use Rattle.state.specs.declared.State.{State}
@@ -14,6 +13,7 @@ use Rattle.state.specs.declared.StateReport.{StateReport}
 use Rattle.state.specs.State.{fresh_state, GivesState}
 use Rattle.rebinding.specs.Rebind.{rebind, live_rebind}
 use Rattle.agreement.specs.Calls.{TableOf}
+use Rattle.runs.specs.TickOutcome.{tick_reply, answered_mask, answered_code}
 use Rattle.spindles.specs.declared.SpinReport.{SpinReport}
 use Rattle.spindles.specs.Spindles.{state_at, depths, spin, live_spin, GivesSpin}
 use Rattle.spindle_walks.specs.Walks.{HandsImage, FollowsWalk}
@@ -24,9 +24,9 @@ abbrev pub observed_tick : List State → ℕ → SpinReport → ObservedTick
 observed_tick states k r = record {
   depth = (state_at states k).depth;
   number =
-      reply_number (reply r.answer);
-  mask = r.mask;
-  code = r.code;
+      reply_number (tick_reply r.answer);
+  mask = answered_mask r.answer;
+  code = answered_code r.answer;
 }
 
 -- one call on these states and this record, and what both are after it; a live one is handed a table that prepare made of the image

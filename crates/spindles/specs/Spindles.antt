@@ -3,12 +3,12 @@ use Rattle.std.specs.Prelude.{ℕ, ◌+◌, ◌-◌, Bool, ◌&&◌, ◌||◌, n
 use Rattle.words.specs.lists.Pick.{pick}
 use Rattle.text.specs.declared.frames.refusals.TheConstants.{BAD_HEADER, UNFIT, NO_SPINDLE, NO_PLACE}
 use Rattle.text.specs.frames.Verdict.{Verdict, fine, refused, next, when}
-use Rattle.text.specs.frames.Answer.{Reply, refusal, reply}
+use Rattle.text.specs.frames.Answer.{Reply, refusal}
 use Rattle.image.specs.Check.{image_verdict}
 use Rattle.tables.specs.Table.{is_bad_table}
 use Rattle.state.specs.declared.State.{State}
 use Rattle.state.specs.State.{no_state}
-use Rattle.runs.specs.TickOutcome.{TickOutcome, image_tick}
+use Rattle.runs.specs.TickOutcome.{TickOutcome, image_tick, tick_reply, answered_mask, answered_code}
 use Rattle.runs.specs.machine.Live.{live_tick}
 use Rattle.spindles.specs.declared.layout.TheConstants.{SPINDLES, STORE}
 use Rattle.spindles.specs.declared.SpinReport.{SpinReport}
@@ -79,8 +79,8 @@ live_spin b states taken k w =
 
 -- what a function over the list of states promises: its report, and the list after it
 pub record GivesSpin (x : SpinOutcome) (r : SpinReport) (after : List State) : Type 0 where
-  pub answered : reply r.answer ≡ x.reply
-  pub mask : r.mask ≡ x.mask
-  pub code : r.code ≡ x.code
+  pub answered : tick_reply r.answer ≡ x.reply
+  pub mask : answered_mask r.answer ≡ x.mask
+  pub code : answered_code r.answer ≡ x.code
   pub taken : r.taken ≡ x.taken
   pub states : after ≡ x.states

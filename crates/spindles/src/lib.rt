@@ -18,14 +18,13 @@ ghost use Rattle.spindles.specs.Spindles.{is_none_left};
 ghost use Rattle.spindles.specs.inner.HeadAndTurn.{is_bad_spin_call, is_bad_record};
 
 use layout::{SPINDLES, STORE};
-use text::frames::Answer;
+use runs::Tick;
+use text::frames::Refusal;
 
-// What a call answers: with a refusal, mask and code are 0 and the record is as it was.
+// What a call answers, and the places recorded as taken after it: with a refusal as many as before.
 #[derive(Drop)]
 pub struct SpinReport {
-    pub answer: Answer,
-    pub mask: u32,
-    pub code: u8,
+    pub answer: Result<Tick, Refusal>,
     pub taken: usize,
 }
 
@@ -57,16 +56,4 @@ pub fn none_left(before: usize, after: usize, taken: usize) -> bool
         return STORE <= taken;
     }
     false
-}
-
-// A report that tells of a refusal alone.
-pub fn turned_back(answer: Answer, taken: usize) -> SpinReport
-    ensures { result ≡ record { answer = answer; mask = 0; code = 0; taken = taken } }
-{
-    SpinReport {
-        answer,
-        mask: 0,
-        code: 0,
-        taken,
-    }
 }

@@ -13,36 +13,33 @@ ghost use Rattle.spindles.specs.turning.inner.TurnContracts.{GivesSettled};
 ghost use Rattle.spindles.specs.declared.layout.TheConstants.{STORE};
 
 use crate::spindle_heads::{live_refuse_head, refuse_head};
-use crate::{SpinReport, bad_record, none_left, turned_back};
-use runs::machine::{TickReport, live_tick_bytes, tick_bytes};
+use crate::{SpinReport, bad_record, none_left};
+use runs::Tick;
+use runs::machine::{live_tick_bytes, tick_bytes};
 use state::layout::STATE_BYTES;
 use state::state_places::depth_of;
-use text::frames::refusals::NO_PLACE;
-use text::frames::refused;
+use text::frames::Refusal;
 
 // After the tick: where it ended deeper than it began and no place is left, it is undone and refused with 26.
 fn settle(
     old: [u8; STATE_BYTES],
     bytes: &mut [u8; STATE_BYTES],
-    report: TickReport,
+    answer: Result<Tick, Refusal>,
     taken: usize,
 ) -> SpinReport
     requires bound { (state_of old).depth ≤ taken }
     requires taken_bound { taken ≤ STORE }
-    ensures { GivesSettled old bytes.old report taken result bytes.new }
+    ensures { GivesSettled old bytes.old answer taken result bytes.new }
 {
     let before = depth_of(&old) as usize;
     let after = depth_of(bytes) as usize;
     if none_left(before, after, taken) {
         *bytes = old;
-        let full = refused(NO_PLACE, 0);
-        return turned_back(full, taken);
+        let answer = Err(Refusal::NoPlace);
+        return SpinReport { answer, taken };
     }
-    let answer = report.answer;
     SpinReport {
         answer,
-        mask: report.mask,
-        code: report.code,
         taken: taken + after - before,
     }
 }
@@ -63,8 +60,8 @@ pub fn turn_bytes(
         return refuse_head(image, 0, taken);
     }
     let old = *bytes;
-    let report = tick_bytes(image, bytes, word);
-    settle(old, bytes, report, taken)
+    let answer = tick_bytes(image, bytes, word);
+    settle(old, bytes, answer, taken)
 }
 
 // The same on a prepared table: 11, 15, 17, 26, 18.
@@ -83,6 +80,6 @@ pub fn live_turn_bytes(
         return live_refuse_head(table, 0, taken);
     }
     let old = *bytes;
-    let report = live_tick_bytes(table, bytes, word);
-    settle(old, bytes, report, taken)
+    let answer = live_tick_bytes(table, bytes, word);
+    settle(old, bytes, answer, taken)
 }

@@ -4,9 +4,8 @@ ghost use Rattle.bindings.specs.Binding.{own_binding};
 ghost use Rattle.state.specs.State.{is_bad_size, fresh_state, GivesState};
 
 use super::{State, StateReport};
-use text::frames::refusals::BAD_SIZE;
+use text::frames::Refusal;
 use text::frames::sizes::SCHEMES;
-use text::frames::{Answer, refused};
 
 // Whether a stack size lies outside 1 to 32.
 pub fn bad_size(size: usize) -> bool
@@ -33,7 +32,7 @@ impl State {
         let places = [0u8; State::PLACES];
         let bits = [false; State::SCHEMES];
         if bad_size(size) {
-            let answer = refused(BAD_SIZE, 0);
+            let answer = Err(Refusal::BadSize);
             let state = State {
                 size: 0,
                 depth: 0,
@@ -45,7 +44,7 @@ impl State {
             };
             return StateReport { answer, state };
         }
-        let answer = Answer::Done(0);
+        let answer = Ok(0);
         let mut own = [0u8; State::PLACES];
         own[0] = 1;
         let serving = own_binding();

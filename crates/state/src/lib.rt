@@ -7,7 +7,7 @@ ghost use Rattle.std.specs.Prelude.{◌≡◌, ◌<◌, length, set};
 
 use crate::layout::PLACES;
 use text::frames::sizes::SCHEMES;
-use text::frames::{Answer, sizes};
+use text::frames::{Refusal, sizes};
 
 mod fresh;
 pub mod layout;
@@ -34,7 +34,7 @@ pub struct State {
 // What a call that hands back a state answers.
 #[derive(Drop)]
 pub struct StateReport {
-    pub answer: Answer,
+    pub answer: Result<usize, Refusal>,
     pub state: State,
 }
 

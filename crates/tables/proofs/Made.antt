@@ -9,9 +9,9 @@ use Rattle.words.specs.lists.Numbers.{range}
 use Rattle.words.specs.lists.Sequences.{concat_map}
 use Rattle.text.specs.frames.Frame.{contents, frame_count}
 use Rattle.text.specs.frames.Verdict.{fine}
-use Rattle.text.specs.declared.frames.Answer.{Answer}
-use Rattle.text.specs.declared.frames.Answer.TheVariants.{Done}
-use Rattle.text.proofs.frames.Chains.{done-fine}
+use Rattle.text.specs.frames.Answer.{Answer}
+use Rattle.std.proofs.Common.{Ok}
+use Rattle.text.proofs.frames.Chains.{ok-fine}
 use Rattle.text.proofs.frames.Contents.{any-contents-length}
 use Rattle.image.specs.Decode.{last_label, rows_from, decoded_image}
 use Rattle.image.specs.Check.{table_verdict, image_verdict}
@@ -37,9 +37,9 @@ pub record MadeTable (t b : List ℕ) : Type 0 where
   pub is : b ≡ noted_table (contents t)
 
 pub image-made : (t old table : List ℕ) (a : Answer) → GivesPrepared t old a table → (m : ℕ)
-    → a ≡ Done m → MadeTable t (take (10 * frame_count t) table)
+    → a ≡ Ok m → MadeTable t (take (10 * frame_count t) table)
 image-made t old table a x m done =
-    let ok : image_verdict t ≡ fine = (done-fine a (image_verdict t) 0 x.answered m done).0 in
+    let ok : image_verdict t ≡ fine = (ok-fine a (image_verdict t) 0 x.answered m done).0 in
     let fine-table : table_verdict (contents t) ≡ fine = image-table t ok in
     let front : take (10 * frame_count t) table ≡ noted_table (contents t) = made-front t ok old table x.written in
     record {

@@ -1,6 +1,6 @@
 -- The preparation of an image, by the image check's answer: what was read stays, or is noted; the table is copied where it has room.
 use Prim.Native.Nat.{ℕ, ◌*◌, ◌≤◌, ◌<◌}
-use mathlib.Core.Path.{◌≡◌, sym, ◌∙◌, ap, ap₂, subst}
+use mathlib.Core.Path.{◌≡◌, sym, ◌∙◌, ap, ap₂}
 use mathlib.Core.List.{List, ◌++◌}
 use native.Mathlib.Omega.{arith}
 use lib.ListN.{length, take, drop}
@@ -8,17 +8,19 @@ use lib.Seq.{take_at, drop_at}
 use Rattle.words.specs.lists.Sequences.{over, written}
 use Rattle.words.proofs.lists.Written.{written-front}
 use Rattle.text.specs.frames.Frame.{frame_count, contents}
-use Rattle.text.specs.frames.Verdict.{Verdict, fine, refused}
-use Rattle.text.specs.frames.Answer.{reply, verdict_reply, GivesBuffer}
+use Rattle.text.specs.frames.Verdict.{fine, refused}
+use Rattle.text.specs.frames.Answer.{Answer, reply, verdict_reply, GivesBuffer}
 use Rattle.text.specs.frames.Check.{text_verdict}
 use Rattle.text.specs.frames.inner.Read.{read_buffer}
-use Rattle.text.specs.declared.frames.Answer.{Answer}
-use Rattle.text.specs.declared.frames.Answer.TheVariants.{Done, Refused}
+use Rattle.std.proofs.Common.{Ok, Err}
+use Rattle.text.specs.declared.frames.refusals.Refusal.{Refusal}
+use Rattle.text.specs.declared.frames.refusals.Refusal.TheVariants.{NoRoom}
+use Rattle.text.specs.frames.Refusal.{number_of, index_of, ticks_of}
 use Rattle.text.proofs.frames.Verdicts.{next-first}
-use Rattle.text.proofs.frames.Chains.{refused-verdict, judged-fine}
+use Rattle.text.proofs.frames.Chains.{err-refused, err-judged, judged-fine}
 use Rattle.text.proofs.frames.Contents.{any-contents-length}
 use Rattle.text.proofs.frames.Reading.{read-fine}
-use Rattle.text.proofs.frames.Lent.{lent-refused, lent-short, lent-done}
+use Rattle.text.proofs.frames.Lent.{lent-err, lent-short, lent-done}
 use Rattle.image.specs.Check.{table_verdict, image_verdict}
 use Rattle.image.proofs.Accepted.{image-table}
 use Rattle.image_check.proofs.ReadCases.{good-text, front-contents, front_length}
@@ -27,18 +29,20 @@ use Rattle.tables.specs.inner.Prepares.{prepared_buffer, GivesPrepared}
 use Rattle.tables.proofs.Noted.{noted-length}
 
 -- ---- the image is refused
-module _ (t : List ℕ) (a : Answer) (gives : reply a ≡ verdict_reply (image_verdict t) 0) (k i m : ℕ) (e : a ≡ Refused k i m) where
-  verdict : image_verdict t ≡ refused k i
-  verdict = (refused-verdict a (image_verdict t) 0 gives k i m e).0
+module _ (t : List ℕ) (a : Answer) (gives : reply a ≡ verdict_reply (image_verdict t) 0) (r : Refusal) (e : a ≡ Err r) where
+  verdict : (image_verdict t ≡ refused (number_of r) (index_of r)) × (ticks_of r ≡ 0)
+  verdict = err-refused a (image_verdict t) 0 gives r e
 
-  pub table-refused : (old out : List ℕ) → out ≡ read_buffer 29831 t old → GivesPrepared t old a out
+  pub table-refused : (old out : List ℕ) → out ≡ read_buffer 29831 t old → GivesPrepared t old (Err r) out
   unfolding prepared_buffer
-  table-refused old out left = record { answered = gives; written = left ∙ rw (verdict, prepared_buffer) }
+  table-refused old out left = record {
+    answered = err-judged (image_verdict t) r 0 verdict.0 verdict.1;
+    written = left ∙ rw (verdict.0, prepared_buffer);
+  }
 
-  pub image-refused : (old : List ℕ) → GivesBuffer (prepare t old) a old
+  pub image-refused : (old : List ℕ) → GivesBuffer (prepare t old) (Err r) old
   unfolding prepare
-  image-refused old = lent-refused (image_verdict t) 1 (λ _. noted_table (contents t)) old k i
-      verdict a (gives ∙ ap (λ (v : Verdict). verdict_reply v 0) verdict)
+  image-refused old = lent-err (image_verdict t) 1 (λ _. noted_table (contents t)) old r verdict
 
 -- ---- it is accepted
 module _ (t : List ℕ) (ok : image_verdict t ≡ fine) where
@@ -71,7 +75,7 @@ module _ (t : List ℕ) (ok : image_verdict t ≡ fine) where
     pub read-accepted : table_verdict (take long table) ≡ fine
     read-accepted = ap table_verdict read-front ∙ image-table t ok
 
-    pub table-noted : (new : List ℕ) → new ≡ noted_table (take long table) → GivesPrepared t old (Done 0) (new ++ drop long table)
+    pub table-noted : (new : List ℕ) → new ≡ noted_table (take long table) → GivesPrepared t old (Ok 0) (new ++ drop long table)
     table-noted new e = record {
       answered = judged-fine (image_verdict t) 0 ok;
       written =
@@ -93,15 +97,13 @@ module _ (t : List ℕ) (ok : image_verdict t ≡ fine) where
     made-length = sym (ap (λ (x : List ℕ). length x) made-front ∙ prepared-length)
 
     pub image-done : (given : List ℕ) → long ≤ length given → (out : List ℕ) → out ≡ written given 0 (take long made)
-        → GivesBuffer (prepare t given) (Done long) out
+        → GivesBuffer (prepare t given) (Ok long) out
     unfolding prepare
     image-done given h out e =
         lent-done (image_verdict t) 1 (λ _. noted_table (contents t)) given ok (omega (arith, prepared-length))
         long (omega (arith, prepared-length)) out
         (e ∙ ap (written given 0) made-front ∙ written-front given (noted_table (contents t)))
 
-  pub image-short : (given : List ℕ) → length given < long → (a : Answer) → a ≡ Refused 16 0 0 → GivesBuffer (prepare t given) a given
+  pub image-short : (given : List ℕ) → length given < long → GivesBuffer (prepare t given) (Err NoRoom) given
   unfolding prepare
-  image-short given h a e =
-      subst (λ (x : Answer). GivesBuffer (prepare t given) x given) (sym e)
-      (lent-short (image_verdict t) 1 (λ _. noted_table (contents t)) given ok (omega (arith, prepared-length)))
+  image-short given h = lent-short (image_verdict t) 1 (λ _. noted_table (contents t)) given ok (omega (arith, prepared-length))

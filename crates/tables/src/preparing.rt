@@ -11,9 +11,8 @@ ghost use Rattle.image.specs.Check.{table_verdict};
 use image::layout::{FROM, LAST_LABEL, SCHEME_COUNT};
 use image::{byte, rows_from};
 use image_check::read_image;
-use text::frames::refusals::NO_ROOM;
 use text::frames::sizes::{FRAME, LINE, TABLE};
-use text::frames::{Answer, put_bytes, refused};
+use text::frames::{Refusal, put_bytes};
 
 // The lowest frame from first up to end whose row leaves label l or one above it, or end.
 fn skip_below(table: &[u8], first: usize, end: usize, l: usize) -> usize
@@ -48,32 +47,26 @@ fn note_rows(table: &mut [u8])
 }
 
 // In a buffer with room for any table, which a refusal leaves with what was read: no entry point.
-pub fn prepare_table(text: &[u8], table: &mut [u8]) -> Answer
+pub fn prepare_table(text: &[u8], table: &mut [u8]) -> Result<usize, Refusal>
     requires { TABLE ≤ length table.old }
     ensures { GivesPrepared text.now table.old result table.new }
 {
-    let answer = read_image(text, table);
-    let Answer::Done(_) = answer else {
-        return answer;
-    };
+    read_image(text, table)?;
     let n = FRAME * (text.len() / LINE);
     note_rows(&mut table[..n]);
-    Answer::Done(0)
+    Ok(0)
 }
 
 // What the image check tries, then 16; counts the bytes of the table. A refusal leaves the buffer as it was.
-pub fn prepare(image: &[u8], table: &mut [u8]) -> Answer
+pub fn prepare(image: &[u8], table: &mut [u8]) -> Result<usize, Refusal>
     ensures { GivesBuffer (prepare image.now table.old) result table.new }
 {
     let mut made = [0u8; TABLE];
-    let answer = prepare_table(image, &mut made);
-    let Answer::Done(_) = answer else {
-        return answer;
-    };
+    prepare_table(image, &mut made)?;
     let n = FRAME * (image.len() / LINE);
     if table.len() < n {
-        return refused(NO_ROOM, 0);
+        return Err(Refusal::NoRoom);
     }
     put_bytes(table, 0, &made[..n]);
-    Answer::Done(n)
+    Ok(n)
 }

@@ -2,5 +2,6 @@ pub mod Sizes
 pub mod Frame
 pub mod Verdict
 pub mod Check
+pub mod Refusal
 pub mod Answer
 pub mod inner

@@ -8,9 +8,8 @@ ghost use Rattle.text.specs.frames.Answer.{reply, verdict_reply};
 ghost use Rattle.text.specs.reading.inner.Reads.{FramesRead};
 
 use crate::frame_reading::read_frame;
-use crate::frames::refusals::{BAD_CHARACTER, BAD_LENGTH, BAD_SUM};
 use crate::frames::sizes::LINE;
-use crate::frames::{Answer, bad_length, refused};
+use crate::frames::{Refusal, bad_length};
 
 // The lowest frame that 2 refuses and the lowest that 3 refuses, or the number of frames.
 #[derive(Drop)]
@@ -43,23 +42,21 @@ fn read_frames(text: &[u8], n: usize, out: &mut [u8]) -> Lowest
 
 // 1 to 3, else the number of frames. A fault of form in any frame goes before a wrong sum in any.
 // No entry point: the caller lends scratch space, which 2 and 3 leave changed.
-pub fn read_text(text: &[u8], most: usize, out: &mut [u8]) -> Answer
+pub fn read_text(text: &[u8], most: usize, out: &mut [u8]) -> Result<usize, Refusal>
     requires { FRAME * most ≤ LINE * length out.old }
     ensures result_value { reply result ≡ verdict_reply (text_verdict most text.now) (frame_count text.now) }
     ensures out_after { out.new ≡ read_buffer most text.now out.old }
 {
     if bad_length(LINE, most, text.len()) {
-        return refused(BAD_LENGTH, 0);
+        return Err(Refusal::BadLength);
     }
     let frames = text.len() / LINE;
-    let found = read_frames(text, frames, out);
-    let form = found.form;
+    let Lowest { form, sum } = read_frames(text, frames, out);
     if form < frames {
-        return refused(BAD_CHARACTER, form);
+        return Err(Refusal::BadCharacter(form));
     }
-    let sum = found.sum;
     if sum < frames {
-        return refused(BAD_SUM, sum);
+        return Err(Refusal::BadSum(sum));
     }
-    Answer::Done(frames)
+    Ok(frames)
 }

@@ -33,7 +33,7 @@ pub record Same (s t : State) : Type 0 where
 
 abbrev pub Normal : State → MachineTick → Type 0
 Normal s (finished m k t) = Same s t
-Normal s (stopped n) = 17 ≤ n
+Normal s (stopped n) = (17 ≤ n) × (n ≤ 18)
 
 module _ (i : Image) (s : State) where
   -- one label moved in what is already the same
@@ -49,7 +49,7 @@ module _ (i : Image) (s : State) where
       servers = (e.sized z).servers;
     };
   }
-  moved-normal m code t k missing e = omega arith
+  moved-normal m code t k missing e = (omega arith, omega arith)
 
   module _ (b : Results) (e : length b ≡ length s.bits) where
     bits-same : Same s (with_bits s b)
@@ -86,7 +86,7 @@ module _ (i : Image) (s : State) where
     where
       go : (t : Bool) → Normal s (pick t (stopped 17)
           (finished m 96 (state_alone s (entry_at i i.handler) i.handler (cleared_results i.handler b))))
-      go true = omega arith
+      go true = (omega arith, omega arith)
       go false = alone-same (cleared_results i.handler b) (length-set b (i.handler - 1) false ∙ e) (entry_at i i.handler) i.handler
 
   module _ (b : Results) (e : length b ≡ length s.bits) where

@@ -4,8 +4,6 @@
 
 ghost use Rattle.std.specs.Prelude.{◌≤◌, length};
 
-use text::frames::Answer;
-
 // Where the chart that begins at a place ends.
 fn end_of(text: &[u8], start: usize) -> usize
     requires { start ≤ length text.now }
@@ -21,19 +19,6 @@ fn end_of(text: &[u8], start: usize) -> usize
     i
 }
 
-fn refuse(answer: Answer) {
-    let Answer::Refused {
-        number,
-        index,
-        count: _,
-    } = answer
-    else {
-        return;
-    };
-    let line = output::printing::refusal_line(number, index);
-    io::write_all(1, &line);
-}
-
 fn show(image: &[u8]) {
     let n = image.len();
     if n <= 1380 {
@@ -47,12 +32,13 @@ fn show(image: &[u8]) {
 
 fn run(text: &[u8]) {
     let mut image = [0u8; 29831];
-    let answer = translator::translating::translate(text, &mut image);
-    let Answer::Done(count) = answer else {
-        refuse(answer);
-        return;
-    };
-    show(&image[..count]);
+    match translator::translating::translate(text, &mut image) {
+        Ok(count) => show(&image[..count]),
+        Err(refusal) => {
+            let line = output::printing::refusal_line(refusal.number(), refusal.index());
+            io::write_all(1, &line);
+        }
+    }
 }
 
 fn run_all(text: &[u8]) {

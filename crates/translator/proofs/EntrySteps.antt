@@ -7,13 +7,14 @@ use lib.Dec.{ltb}
 use lib.ListN.{length, take, replicate}
 use Rattle.text.specs.frames.Frame.{contents}
 use Rattle.text.specs.frames.Verdict.{Verdict, fine, refused, when}
-use Rattle.text.specs.frames.Answer.{success, refusal, reply, BufferOutcome, GivesBuffer, buffer_on}
-use Rattle.text.specs.declared.frames.Answer.{Answer}
-use Rattle.text.specs.declared.frames.Answer.TheVariants.{Done, Refused}
+use Rattle.text.specs.frames.Answer.{Answer, success, refusal, reply, BufferOutcome, GivesBuffer, buffer_on}
+use Rattle.std.proofs.Common.{Ok, Err}
+use Rattle.text.specs.declared.frames.refusals.Refusal.{Refusal}
+use Rattle.text.specs.frames.Refusal.{number_of, index_of, ticks_of}
 use Rattle.text.specs.frames.Check.{text_verdict}
 use Rattle.text.proofs.frames.Chains.{next-refused, next-on}
 use Rattle.text.proofs.frames.Verdicts.{next-rest}
-use Rattle.text.proofs.frames.Lent.{Success, lent_fits, lent-told, lent-refused, front}
+use Rattle.text.proofs.frames.Lent.{Success, lent_fits, lent-told, lent-err, front}
 use Rattle.charts.specs.Check.{chart_verdict}
 use Rattle.charts.specs.Entry.{read_verdict, read_chart}
 use Rattle.charts.proofs.Accepted.{Accepted, accepted, accepted-bytes}
@@ -38,18 +39,19 @@ chart-room t zeros h ok = let a : Accepted (contents t) = accepted t ok in omega
 
 module _ (t zeros : List ℕ) (room : 2560 ≤ length zeros) (a : Answer) (e : reply a ≡ (read_chart t zeros).reply) where
   -- a refusal of the reader is its verdict's, since there is room, and counts 0
-  pub read_no : (k i m : ℕ) → a ≡ Refused k i m → (read_verdict t ≡ refused k i) × (m ≡ 0)
+  pub read_no : (r : Refusal) → a ≡ Err r → (read_verdict t ≡ refused (number_of r) (index_of r)) × (ticks_of r ≡ 0)
   unfolding read_chart
-  read_no k i m q = lent-no (read_verdict t) 10 (λ _. contents t) zeros k i m (chart-room t zeros room) (sym e ∙ ap reply q)
+  read_no r q =
+      lent-no (read_verdict t) 10 (λ _. contents t) zeros (number_of r) (index_of r) (ticks_of r) (chart-room t zeros room)
+      (sym e ∙ ap reply q)
 
   -- and the translator's
-  pub read-refused : (out : List ℕ) (k i m : ℕ) → a ≡ Refused k i m → GivesBuffer (translate t out) a out
+  pub read-refused : (out : List ℕ) (r : Refusal) → a ≡ Err r → GivesBuffer (translate t out) a out
   unfolding translate translate_verdict
-  read-refused out k i m q =
-      let p : (read_verdict t ≡ refused k i) × (m ≡ 0) = read_no k i m q in
-      lent-refused (translate_verdict t) 1 (λ _. image_text (table (contents t))) out k i
-      (next-refused (read_verdict t) (λ _. when 10 (ltb 1024 (length (rows (contents t))))) k i p.0)
-      a (ap reply q ∙ ap (refusal k i) p.1)
+  read-refused out r q =
+      let p = read_no r q in
+      rw q (lent-err (translate_verdict t) 1 (λ _. image_text (table (contents t))) out r
+      (next-refused (read_verdict t) (λ _. when 10 (ltb 1024 (length (rows (contents t))))) (number_of r) (index_of r) p.0, p.1))
 
 -- the chart was accepted and stands at the front of the table
 pub record Read (t held : List ℕ) (n : ℕ) : Type 0 where
@@ -58,7 +60,7 @@ pub record Read (t held : List ℕ) (n : ℕ) : Type 0 where
   pub chart : take (10 * n) held ≡ contents t
   pub long : length (contents t) ≡ 10 * n
 
-pub read_told : (t zeros : List ℕ) (a : Answer) (n : ℕ) (held : List ℕ) → reply a ≡ (read_chart t zeros).reply → a ≡ Done n
+pub read_told : (t zeros : List ℕ) (a : Answer) (n : ℕ) (held : List ℕ) → reply a ≡ (read_chart t zeros).reply → a ≡ Ok n
     → held ≡ (read_chart t zeros).buffer → Read t held n
 unfolding read_chart
 read_told t zeros a n held e d b =

@@ -21,9 +21,12 @@ use Rattle.words.proofs.lists.Written.{written-more, written-front, written-befo
 use Rattle.text.specs.frames.Frame.{size}
 use Rattle.text.specs.frames.Verdict.{fine, when}
 use Rattle.text.specs.frames.Answer.{GivesBuffer}
-use Rattle.text.specs.declared.frames.Answer.TheVariants.{Done, Refused}
+use Rattle.std.proofs.Common.{Option, None, Some, Ok, Err}
+use Rattle.std.proofs.lemmas.Option.{none-some}
+use Rattle.text.specs.declared.frames.refusals.Refusal.{Refusal}
+use Rattle.text.specs.declared.frames.refusals.Refusal.TheVariants.{ManyRows, NoRoom}
 use Rattle.text.proofs.frames.Chains.{when-holds, when-fails}
-use Rattle.text.proofs.frames.Lent.{lent-refused, lent-short, lent-done}
+use Rattle.text.proofs.frames.Lent.{lent-err, lent-short, lent-done}
 use Rattle.charts.specs.Chart.{Chart, handler, schemes}
 use Rattle.image.specs.Image.{Row, entry_frame, label_frame, row_frame, image_frames, image_text}
 use Rattle.chart_rows.specs.chart_labels.Labels.{is_numbered, label, entry, home_label, return_label, stop_label, numbered_nodes}
@@ -260,63 +263,68 @@ module _ (c : Chart) (before room : ℕ) where
   abbrev short : Bool
   short = ltb room (23 * (before + length (rows c)))
 
-  pub refusal-rows : 1024 < length (rows c) → 10 ≡ size_refusal c before room
-  refusal-rows h = sym (yes-pick many 10 (pick short 16 0) (lt-ltb 1024 (length (rows c)) h))
+  pub refusal-rows : 1024 < length (rows c) → Some ManyRows ≡ size_refusal c before room
+  refusal-rows h = sym (yes-pick many (Some ManyRows) (pick short (Some NoRoom) None) (lt-ltb 1024 (length (rows c)) h))
 
   module _ (few : length (rows c) ≤ 1024) where
-    rest : size_refusal c before room ≡ pick short 16 0
-    rest = no-pick many 10 (pick short 16 0) (le-ltb 1024 (length (rows c)) few)
+    rest : size_refusal c before room ≡ pick short (Some NoRoom) None
+    rest = no-pick many (Some ManyRows) (pick short (Some NoRoom) None) (le-ltb 1024 (length (rows c)) few)
 
-    pub refusal-room : room < 23 * (before + length (rows c)) → 16 ≡ size_refusal c before room
-    refusal-room h = sym (rest ∙ yes-pick short 16 0 (lt-ltb room (23 * (before + length (rows c))) h))
+    pub refusal-room : room < 23 * (before + length (rows c)) → Some NoRoom ≡ size_refusal c before room
+    refusal-room h = sym (rest ∙ yes-pick short (Some NoRoom) None (lt-ltb room (23 * (before + length (rows c))) h))
 
-    pub refusal-none : 23 * (before + length (rows c)) ≤ room → 0 ≡ size_refusal c before room
-    refusal-none h = sym (rest ∙ no-pick short 16 0 (le-ltb room (23 * (before + length (rows c))) h))
+    pub refusal-none : 23 * (before + length (rows c)) ≤ room → None ≡ size_refusal c before room
+    refusal-none h = sym (rest ∙ no-pick short (Some NoRoom) None (le-ltb room (23 * (before + length (rows c))) h))
 
-module _ (c : Chart) (old : List ℕ) (highest own number : ℕ) (eh : highest ≡ schemes c) (eo : own ≡ count (is_numbered c) 0 (size c))
-    (e : number ≡ size_refusal c (3 + highest + own) (length old)) where
+module _ (c : Chart) (old : List ℕ) (highest own : ℕ) (found : Option Refusal) (eh : highest ≡ schemes c)
+    (eo : own ≡ count (is_numbered c) 0 (size c)) (e : found ≡ size_refusal c (3 + highest + own) (length old)) where
   sizes : Sizes c highest own (length (rows c))
   sizes = record { schemed = eh; owned = eo; rowed = refl }
 
   allowed : length (rows c) ≤ 1024 → when 10 (ltb 1024 (length (rows c))) ≡ fine
   allowed few = when-fails 10 (ltb 1024 (length (rows c))) (le-ltb 1024 (length (rows c)) few)
 
-  pub image-refused : (number ≡ 0 → ⊥) → GivesBuffer (image_outcome c old) (Refused number 0 0) old
-  image-refused n = go (dec_lt 1024 (length (rows c))) (dec_lt (length old) (23 * (3 + highest + own + length (rows c))))
+  pub image-refused : (r : Refusal) → found ≡ Some r → GivesBuffer (image_outcome c old) (Err r) old
+  image-refused r is = go (dec_lt 1024 (length (rows c))) (dec_lt (length old) (23 * (3 + highest + own + length (rows c))))
     where
-      same : (k : ℕ) → k ≡ number → GivesBuffer (image_outcome c old) (Refused k 0 0) old
-          → GivesBuffer (image_outcome c old) (Refused number 0 0) old
-      same k q l = subst (λ (x : ℕ). GivesBuffer (image_outcome c old) (Refused x 0 0) old) q l
+      same : (s : Refusal) → Some s ≡ size_refusal c (3 + highest + own) (length old) → GivesBuffer (image_outcome c old) (Err s) old
+          → GivesBuffer (image_outcome c old) (Err r) old
+      same s q l =
+          let p : Some s ≡ Some r = q ∙ sym e ∙ is in
+          let is-it : s ≡ r = cc in
+          subst (λ (x : Refusal). GivesBuffer (image_outcome c old) (Err x) old) is-it l
 
       go : Dec (1024 < length (rows c)) → Dec (length old < 23 * (3 + highest + own + length (rows c)))
-          → GivesBuffer (image_outcome c old) (Refused number 0 0) old
+          → GivesBuffer (image_outcome c old) (Err r) old
       go (yes h) d =
-          same 10 (refusal-rows c (3 + highest + own) (length old) h ∙ sym e)
-          (lent-refused (when 10 (ltb 1024 (length (rows c)))) 1 (λ _. image_text (table c)) old 10 0
-          (when-holds 10 (ltb 1024 (length (rows c))) (lt-ltb 1024 (length (rows c)) h)) (Refused 10 0 0) refl)
+          same ManyRows (refusal-rows c (3 + highest + own) (length old) h)
+          (lent-err (when 10 (ltb 1024 (length (rows c)))) 1 (λ _. image_text (table c)) old ManyRows
+          (when-holds 10 (ltb 1024 (length (rows c))) (lt-ltb 1024 (length (rows c)) h), refl))
       go (no h) (yes d) =
           let few : length (rows c) ≤ 1024 = omega arith in
-          same 16 (refusal-room c (3 + highest + own) (length old) few d ∙ sym e)
+          same NoRoom (refusal-room c (3 + highest + own) (length old) few d)
           (lent-short (when 10 (ltb 1024 (length (rows c)))) 1 (λ _. image_text (table c)) old (allowed few)
           (omega (arith, image-long c highest own (length (rows c)) sizes)))
-      go (no h) (no d) = absurd (n (e ∙ sym (refusal-none c (3 + highest + own) (length old) (omega arith) (omega arith))))
+      go (no h) (no d) =
+          let p : None ≡ Some r = refusal-none c (3 + highest + own) (length old) (omega arith) (omega arith) ∙ sym e ∙ is in
+          absurd (none-some r p)
 
-  module _ (none : number ≡ 0) where
+  module _ (none : found ≡ None) where
     pub image-few : length (rows c) ≤ 1024
     image-few = go (dec_lt 1024 (length (rows c)))
       where
         go : Dec (1024 < length (rows c)) → length (rows c) ≤ 1024
-        go (yes h) = absurd (omega (arith, refusal-rows c (3 + highest + own) (length old) h))
+        go (yes h) = absurd (none-some ManyRows (sym none ∙ e ∙ sym (refusal-rows c (3 + highest + own) (length old) h)))
         go (no h) = omega arith
 
     pub image-room : 23 * (3 + highest + own + length (rows c)) ≤ length old
     image-room = go (dec_lt (length old) (23 * (3 + highest + own + length (rows c))))
       where
         go : Dec (length old < 23 * (3 + highest + own + length (rows c))) → 23 * (3 + highest + own + length (rows c)) ≤ length old
-        go (yes h) = absurd (omega (arith, refusal-room c (3 + highest + own) (length old) image-few h))
+        go (yes h) = absurd (none-some NoRoom (sym none ∙ e ∙ sym (refusal-room c (3 + highest + own) (length old) image-few h)))
         go (no h) = omega arith
 
-    pub image-fits : (out : List ℕ) (n : ℕ) → Put old 0 (image_text (table c)) n out → GivesBuffer (image_outcome c old) (Done n) out
+    pub image-fits : (out : List ℕ) (n : ℕ) → Put old 0 (image_text (table c)) n out → GivesBuffer (image_outcome c old) (Ok n) out
     image-fits out n put =
         let l : length (image_text (table c)) ≡ 23 * (3 + highest + own + length (rows c)) =
         image-long c highest own (length (rows c)) sizes in

@@ -8,9 +8,8 @@ use lib.ListN.{length, take, length-take}
 use borrow.Author.Tests.{ltb-false}
 use Rattle.text.specs.frames.Frame.{contents}
 use Rattle.text.specs.frames.Verdict.{fine, when}
-use Rattle.text.specs.frames.Answer.{success, reply}
-use Rattle.text.specs.declared.frames.Answer.{Answer}
-use Rattle.text.specs.declared.frames.Answer.TheVariants.{Done}
+use Rattle.text.specs.frames.Answer.{Answer, success, reply}
+use Rattle.std.proofs.Common.{Ok}
 use Rattle.text.proofs.frames.Verdicts.{next-first, next-rest, when-fine}
 use Rattle.text.proofs.frames.Lent.{Success, lent-told, front}
 use Rattle.charts.specs.Entry.{read_verdict}
@@ -45,7 +44,7 @@ module _ (t out : List ℕ) (n : ℕ) (done : (translate t out).reply ≡ succes
       ap (take n) s.buffer ∙ front n (image_text (table (contents t))) out (s.count ∙ omega arith)
 
 -- an answer's count is no more than the buffer has
-pub done-room : (t out : List ℕ) (a : Answer) (n : ℕ) → reply a ≡ (translate t out).reply → a ≡ Done n → n ≤ length out
+pub done-room : (t out : List ℕ) (a : Answer) (n : ℕ) → reply a ≡ (translate t out).reply → a ≡ Ok n → n ≤ length out
 done-room t out a n e d =
     let s : Success (translate_verdict t) 1 (image_text (table (contents t))) out n (translate t out) =
     translate-told t out n (sym e ∙ ap reply d) in
@@ -53,7 +52,7 @@ done-room t out a n e d =
 
 -- that many characters of it can be handed on
 module _ (t out held : List ℕ) (a : Answer) (n : ℕ) (e : reply a ≡ (translate t out).reply)
-    (d : a ≡ Done n) (k : length held ≡ length out) where
+    (d : a ≡ Ok n) (k : length held ≡ length out) where
   pub done-fits : n ≤ length held
   done-fits = omega (arith, done-room t out a n e d)
 

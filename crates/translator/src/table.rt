@@ -14,12 +14,12 @@ use chart_check::chart_handler::handler_scheme;
 use chart_rows::row_bounds::bound_rows;
 use chart_rows::{COUNTED, count_rows};
 use chart_text::spread;
-use text::frames::refusals::{MANY_ROWS, NO_ROOM};
+use text::frames::Refusal;
 use text::frames::sizes::*;
 
-// 10, or 16 where there is no room for so many frames before the rows and for the rows, or 0. Where a bound on the rows excludes both,
+// 10, or 16 where there is no room for so many frames before the rows and for the rows. Where a bound on the rows excludes both,
 // the paths are not walked to count them.
-pub fn size_refusal(records: &[u8], notes: &[u8], before: usize, room: usize) -> u8
+pub fn size_refusal(records: &[u8], notes: &[u8], before: usize, room: usize) -> Option<Refusal>
     requires noted { Noted records.now notes.now }
     requires before_bound { before ≤ 1024 }
     ensures { result ≡ size_refusal records.now before room }
@@ -27,17 +27,17 @@ pub fn size_refusal(records: &[u8], notes: &[u8], before: usize, room: usize) ->
     let bound = bound_rows(records, notes);
     if bound <= ROWS {
         if LINE * (before + bound) <= room {
-            return 0;
+            return None;
         }
     }
     let total = count_rows(records, notes, COUNTED);
     if total > ROWS {
-        return MANY_ROWS;
+        return Some(Refusal::ManyRows);
     }
     if room < LINE * (before + total) {
-        return NO_ROOM;
+        return Some(Refusal::NoRoom);
     }
-    0
+    None
 }
 
 // The bytes of the image's frames. `own` nodes have a label of their own. The header comes last: it has the number of rows.

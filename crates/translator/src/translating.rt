@@ -10,31 +10,30 @@ use crate::{put_image, size_refusal};
 use chart_check::chart_counts::highest_scheme;
 use chart_rows::{NOTES, note_nodes};
 use chart_text::read_chart;
+use text::frames::Refusal;
 use text::frames::sizes::{RECORD, RECORDS};
-use text::frames::{Answer, refused};
 
 // The image of an accepted chart: 10 and 16 are settled before anything is written.
-fn write_image(records: &[u8], highest: u8, out: &mut [u8]) -> Answer
+fn write_image(records: &[u8], highest: u8, out: &mut [u8]) -> Result<usize, Refusal>
     requires ready { Ready records.now }
     requires highest_value { highest ≡ schemes records.now }
     ensures { GivesBuffer (image_outcome records.now out.old) result out.new }
 {
     let mut notes = [0u8; NOTES];
     let own = note_nodes(records, &mut notes);
-    let number = size_refusal(records, &notes, 3 + highest as usize + own, out.len());
-    if number != 0 {
-        return refused(number, 0);
+    if let Some(refusal) = size_refusal(records, &notes, 3 + highest as usize + own, out.len()) {
+        return Err(refusal);
     }
-    Answer::Done(put_image(records, &notes, highest, own, out))
+    Ok(put_image(records, &notes, highest, own, out))
 }
 
 // Refusals 1 to 10, 19 after 5, and 16, else the number of characters. Nothing is written before every refusal is settled.
-pub fn translate(text: &[u8], out: &mut [u8]) -> Answer
+pub fn translate(text: &[u8], out: &mut [u8]) -> Result<usize, Refusal>
     ensures { GivesBuffer (translate text.now out.old) result out.new }
 {
     let mut held = [0u8; RECORDS];
     let read = read_chart(text, &mut held);
-    let Answer::Done(count) = read else {
+    let Ok(count) = read else {
         return read;
     };
     let end = RECORD * count;

@@ -1,14 +1,15 @@
 -- A cause over an image: it is refused, or the cause is that on the table it is prepared to; and by value, over the bytes of the state.
 use Prim.Native.Nat.{ℕ}
-use mathlib.Core.Path.{◌≡◌, refl, sym, ◌∙◌, ap, subst}
+use mathlib.Core.Path.{◌≡◌, sym, ◌∙◌, ap, subst}
 use mathlib.Core.List.{List}
 use lib.ListN.{length}
 use Rattle.text.specs.frames.Frame.{contents}
 use Rattle.text.specs.frames.Verdict.{Verdict, fine, refused, next, when}
-use Rattle.text.specs.frames.Answer.{reply, verdict_reply}
-use Rattle.text.specs.declared.frames.Answer.{Answer}
-use Rattle.text.specs.declared.frames.Answer.TheVariants.{Refused}
-use Rattle.text.proofs.frames.Chains.{refused-verdict}
+use Rattle.text.specs.frames.Answer.{Answer, refusal, reply, verdict_reply}
+use Rattle.std.proofs.Common.{Err}
+use Rattle.text.specs.declared.frames.refusals.Refusal.{Refusal}
+use Rattle.text.specs.frames.Refusal.{number_of, index_of}
+use Rattle.text.proofs.frames.Chains.{err-refused}
 use Rattle.image.specs.Image.{Image}
 use Rattle.image.specs.Decode.{decoded_image}
 use Rattle.image.specs.Check.{image_verdict}
@@ -20,10 +21,9 @@ use Rattle.state.specs.State.{Sized}
 use Rattle.fitness.specs.Fitness.{is_unfit}
 use Rattle.state.specs.Bytes.{state_of, bytes_of}
 use Rattle.state.proofs.ResultBytes.{state-back}
-use Rattle.cause.specs.declared.CauseReport as given
-use Rattle.cause.specs.Cause.{cause_of, CauseOutcome, cause_on, explain, GivesCause}
+use Rattle.cause.specs.Cause.{cause_of, CauseOutcome, no_cause, cause_on, explain, CauseAnswer, GivesCause}
 use Rattle.cause.specs.table_causes.inner.TableCauses.{Ordered, table_cause}
-use Rattle.cause.proofs.table_causes.CauseCases.{untold}
+use Rattle.cause.proofs.table_causes.CauseCases.{tells_none}
 
 pub image-ordered : (t b : List ℕ) → MadeTable t b → Ordered b
 image-ordered t b made = record {
@@ -42,20 +42,20 @@ module _ (t : List ℕ) (s : State) (w : ℕ) where
   unfolding explain
   explain-by v e = ap (λ (u : Verdict). explained u (decoded_image (contents t))) e
 
-  pub image-untold : (a : Answer) → reply a ≡ verdict_reply (image_verdict t) 0 → (k j m : ℕ)
-      → a ≡ Refused k j m → (r : given.CauseReport) → r ≡ untold a
-      → GivesCause (explain t s w) r
-  image-untold a gives k j m e r q =
-      let verdict : image_verdict t ≡ refused k j = (refused-verdict a (image_verdict t) 0 gives k j m e).0 in
-      rw (explain-by (refused k j) verdict, q)
-      (record { answered = gives ∙ ap (λ (v : Verdict). verdict_reply v 0) verdict; row = refl; mask = refl; bit = refl })
+  pub image-untold : (a : Answer) → reply a ≡ verdict_reply (image_verdict t) 0 → (r : Refusal) → a ≡ Err r
+      → GivesCause (explain t s w) (Err r)
+  image-untold a gives r e =
+      let p = err-refused a (image_verdict t) 0 gives r e in
+      tells_none (explain t s w) r
+      (explain-by (refused (number_of r) (index_of r)) p.0
+      ∙ ap (λ (n : ℕ). record { reply = refusal (number_of r) (index_of r) n; cause = no_cause }) (sym p.1))
 
-  pub image-told : (b : List ℕ) → MadeTable t b → (r : given.CauseReport) → GivesCause (table_cause b s w) r → GivesCause (explain t s w) r
+  pub image-told : (b : List ℕ) → MadeTable t b → (r : CauseAnswer) → GivesCause (table_cause b s w) r → GivesCause (explain t s w) r
   image-told b made r y =
       subst (λ (x : CauseOutcome). GivesCause x r)
       (ap (λ (i : Image). explained fine i) made.holds ∙ sym (explain-by fine made.accepted)) y
 
 pub value-told : (t : List ℕ) (state : State) (w : ℕ) → Sized state → length state.bits ≡ 16 → (bytes : List ℕ) → bytes ≡ bytes_of state
-    → (r : given.CauseReport) → GivesCause (explain t (state_of bytes) w) r → GivesCause (explain t state w) r
+    → (r : CauseAnswer) → GivesCause (explain t (state_of bytes) w) r → GivesCause (explain t state w) r
 value-told t state w sized bits bytes e r y =
     subst (λ (s : State). GivesCause (explain t s w) r) (ap state_of e ∙ state-back state sized bits) y

@@ -14,9 +14,9 @@ use Rattle.words.proofs.lists.Tests.{yes-pick, no-pick}
 use Rattle.results.specs.Results.{Results}
 use Rattle.text.specs.frames.Frame.{size, pair_at}
 use Rattle.text.specs.frames.Verdict.{Verdict}
-use Rattle.text.specs.frames.Answer.{reply}
-use Rattle.text.specs.declared.frames.Answer.{Answer}
-use Rattle.text.specs.declared.frames.Answer.TheVariants.{Done, Refused}
+use Rattle.std.proofs.Common.{Ok, Err}
+use Rattle.text.specs.declared.frames.refusals.Refusal.{Refusal}
+use Rattle.text.specs.declared.frames.refusals.Refusal.TheVariants.{Unfit, NoRow, Rowless}
 use Rattle.text.proofs.frames.Chains.{when-holds, when-fails}
 use Rattle.image.specs.Layout.{tick_kind}
 use Rattle.image.specs.Image.{Image, Label, Row}
@@ -38,21 +38,16 @@ use Rattle.state.proofs.ResultBytes.{held-places, held-sized}
 use Rattle.fitness.proofs.Fitness.{unfits}
 use Rattle.ticks.specs.Tick.{called_bit, choice}
 use Rattle.ticks.specs.inner.TickContracts.{bit_of}
-use Rattle.cause.specs.declared.CauseReport as given
-use Rattle.cause.specs.Cause.{mask_against_all, Leaving, leaves_label, nothing, leaving_by, leaving, unexplained, cause_by}
-use Rattle.cause.specs.Cause.{cause_at, cause_of, CauseOutcome, cause_outcome, cause_on, GivesCause}
+use Rattle.cause.specs.Cause.{mask_against_all, Leaving, leaves_label, nothing, leaving_by, leaving, cause_by}
+use Rattle.cause.specs.Cause.{cause_at, cause_of, CauseOutcome, no_cause, cause_outcome, cause_on, CauseAnswer, cause_reply, GivesCause}
 use Rattle.cause.specs.inner.CauseContracts.{mask_against_from}
 use Rattle.cause.specs.table_causes.inner.TableCauses.{Ordered, OrderedLabel, leaving_number, table_cause}
 use Rattle.cause.proofs.Leaves.{Leaves, by, stays, leaves}
 use Rattle.cause.proofs.table_causes.TableConditions.{any-conditions, frame-conditions}
 
--- what is answered with no cause
-abbrev pub untold : Answer → given.CauseReport
-untold a = record { answer = a; row = 0; mask = 0; bit = 0 }
-
-pub tells_none : (x : CauseOutcome) (n : ℕ) → x ≡ cause_outcome (unexplained n) → (a : Answer)
-    → a ≡ Refused n 0 0 → (r : given.CauseReport) → r ≡ untold a → GivesCause x r
-tells_none x n e a p r q = rw (e, q) (record { answered = ap reply p; row = refl; mask = refl; bit = refl })
+-- a refusal, and no cause
+pub tells_none : (x : CauseOutcome) (r : Refusal) → x ≡ record { reply = cause_reply (Err r); cause = no_cause } → GivesCause x (Err r)
+tells_none x r e = rw e (record { answered = refl; row = refl; mask = refl; bit = refl })
 
 -- ---- places: n below the depth d
 module _ (bytes : List ℕ) (d n : ℕ) where
@@ -151,11 +146,10 @@ module _ (b : List ℕ) (l w : ℕ) (x : OrderedLabel b l) (bs : Results) (z : d
     by_number : moved_by (rows_before b l) (found_at b l f) ≡ moved_by (first_on b l) (best_row l w bit 0 img.rows)
     by_number = found_number b l w bit x.label f g
 
-    pub none_told : size b ≤ f → (a : Answer) → a ≡ Refused 18 0 0 → (r : given.CauseReport) → r ≡ untold a
-        → GivesCause (cause_outcome (cause_at img bs w (leaves_label l))) r
+    pub none_told : size b ≤ f → GivesCause (cause_outcome (cause_at img bs w (leaves_label l))) (Err (NoRow 0))
     none_told h =
         let found : found_at b l f ≡ no_choice = no-pick (ltb f (size b)) (row f (row_on b l f)) no_choice (le-ltb f (size b) h) in
-        tells_none (cause_outcome (cause_at img bs w (leaves_label l))) 18
+        tells_none (cause_outcome (cause_at img bs w (leaves_label l))) (NoRow 0)
         (ap caused (choice-is ∙ unmoved-none (first_on b l) (best_row l w bit 0 img.rows)
         (sym (ap (moved_by (rows_before b l)) found) ∙ by_number)))
 
@@ -182,14 +176,14 @@ module _ (b : List ℕ) (l w : ℕ) (x : OrderedLabel b l) (bs : Results) (z : d
       pub row_told : (first end care others from k : ℕ) → first ≡ first_on b l → end ≡ end_on b l → care ≡ pair_at b f 2
           → Deciding b l bit → others ≡ mask_against_from b w bit first (end - first) → from ≡ rows_from b → k ≡ f - from
           → GivesCause (cause_outcome (cause_at img bs w (leaves_label l)))
-          (record { answer = Done 0; row = k; mask = bit_or care others; bit = bit })
+          (Ok (record { row = k; mask = bit_or care others; bit = bit }))
       row_told first end care others from k p q r y o u v =
           let same : cause_outcome (cause_at img bs w (leaves_label l)) ≡ caused (row (f - rows_from b) (row_on b l f)) =
           ap caused (choice-is ∙ numbers.chosen) in
           let joined : others ≡ mask_against_all l w (called_bit img bs l) img.rows =
           o ∙ ap₂ (λ (m n : ℕ). mask_against_from b w bit m (n - m)) p q
           ∙ frame-conditions b l w bit y x.label.low x.label.high ∙ sym conditions-are in
-          subst (λ (t : CauseOutcome). GivesCause t (record { answer = Done 0; row = k; mask = bit_or care others; bit = bit })) (sym same)
+          subst (λ (t : CauseOutcome). GivesCause t (Ok (record { row = k; mask = bit_or care others; bit = bit }))) (sym same)
           (record { answered = refl; row = v ∙ ap (λ (n : ℕ). f - n) u; mask = ap₂ bit_or r joined; bit = bit-told })
 
 -- ---- on the table: t says whether the state is unfit, and l is the label left, 0 for none
@@ -197,9 +191,9 @@ module _ (b bytes : List ℕ) (w : ℕ) (x : Ordered b) (t : Bool) (e : t ≡ is
   abbrev s : State
   s = state_of bytes
 
-  pub unfit-told : t ≡ true → (a : Answer) → a ≡ Refused 15 0 0 → (r : given.CauseReport) → r ≡ untold a → GivesCause (table_cause b s w) r
+  pub unfit-told : t ≡ true → GivesCause (table_cause b s w) (Err Unfit)
   unfit-told h =
-      tells_none (table_cause b s w) 15
+      tells_none (table_cause b s w) Unfit
       (ap (λ (v : Verdict). cause_on v (λ _. cause_of (table_image b) s w)) (when-holds 15 (is_unfit (table_image b) s) (sym e ∙ h)))
 
   module _ (h : t ≡ false) (l : ℕ) (is : l ≡ leaving_number (leaving (table_image b) s)) where
@@ -210,8 +204,8 @@ module _ (b bytes : List ℕ) (w : ℕ) (x : Ordered b) (t : Bool) (e : t ≡ is
     view : Leaves (table_image b) s
     view = leaves (table_image b) x.sound s (unfits (table_image b) s (held-sized bytes) (sym e ∙ h))
 
-    pub rowless-told : l ≡ 0 → (a : Answer) → a ≡ Refused 21 0 0 → (r : given.CauseReport) → r ≡ untold a → GivesCause (table_cause b s w) r
-    rowless-told n = tells_none (table_cause b s w) 21
+    pub rowless-told : l ≡ 0 → GivesCause (table_cause b s w) (Err Rowless)
+    rowless-told n = tells_none (table_cause b s w) Rowless
         (fit-told ∙ ap (λ (y : Leaving). cause_outcome (cause_at (table_image b) s.bits w y)) (none_left view))
       where
         none_left : Leaves (table_image b) s → leaving (table_image b) s ≡ nothing
@@ -233,7 +227,7 @@ module _ (b bytes : List ℕ) (w : ℕ) (x : Ordered b) (t : Bool) (e : t ≡ is
       pub left-placed : OrderedLabel b l
       left-placed = (one_left view).1
 
-      pub left-told : (r : given.CauseReport) → GivesCause (cause_outcome (cause_at (table_image b) s.bits w (leaves_label l))) r
+      pub left-told : (r : CauseAnswer) → GivesCause (cause_outcome (cause_at (table_image b) s.bits w (leaves_label l))) r
           → GivesCause (table_cause b s w) r
       left-told r y =
           subst (λ (u : CauseOutcome). GivesCause u r)

@@ -2,20 +2,20 @@
 use Prim.Native.Nat.{ℕ}
 use mathlib.Core.Path.{◌≡◌}
 use mathlib.Core.List.{List}
-use Rattle.text.specs.frames.Answer.{reply}
+use Rattle.runs.specs.TickOutcome.{tick_reply}
 use Rattle.spindles.specs.declared.SpinReport.{SpinReport}
 use Rattle.spindles.specs.Spindles.{SpinOutcome}
 use Rattle.spindles.specs.spindle_bytes.Bytes.{GivesSpinOn}
-use Rattle.fairleadow.specs.telling.AnswersForC.{GivesTickReportC}
+use Rattle.fairleadow.specs.telling.AnswersForC.{GivesTickAnswerC}
 use Rattle.fairleadow.proofs.telling.Reports.{told-as, mask-told, code-told}
 use Rattle.fairleadow.specs.spindles_for_c.Calls.{GivesSpinC}
 
 pub spin-told : {x : SpinOutcome} {before after : List ℕ} {spindle : ℕ} {r : SpinReport} {m₀ k₀ n i m mask code : ℕ}
     → GivesSpinOn x before spindle r after
-    → GivesTickReportC (record { answer = r.answer; mask = r.mask; code = r.code }) m₀ k₀ n i m mask code
+    → GivesTickAnswerC r.answer m₀ k₀ n i m mask code
     → GivesSpinC x before spindle m₀ k₀ n i m after r.taken mask code
 spin-told {x = x} {r = r} spins ticked =
-    let answered : reply r.answer ≡ x.reply = spins.answered in
+    let answered : tick_reply r.answer ≡ x.reply = spins.answered in
     record {
       told = told-as answered ticked.told;
       bytes = spins.bytes;

@@ -1,8 +1,8 @@
--- What C is told of an answer and of a tick's report.
+-- What C is told of an answer and of a tick's.
 use Rattle.std.specs.Prelude.{ℕ, ◌≡◌, List, eqb}
 use Rattle.words.specs.lists.Pick.{pick}
-use Rattle.text.specs.frames.Answer.{Reply, reply_number, reply_index, reply_count, reply, BufferOutcome}
-use Rattle.runs.specs.declared.TickReport.{TickReport}
+use Rattle.text.specs.frames.Answer.{Reply, reply_number, reply_index, reply_count, BufferOutcome}
+use Rattle.runs.specs.TickOutcome.{TickAnswer, tick_reply, answered_mask, answered_code}
 
 -- the number returned, and the index and the count written, are those of the reply
 pub record GivesReplyC (x : Reply) (returned at made : ℕ) : Type 0 where
@@ -10,11 +10,11 @@ pub record GivesReplyC (x : Reply) (returned at made : ℕ) : Type 0 where
   pub index_is : at ≡ reply_index x
   pub count-is : made ≡ reply_count x
 
--- what is written of a tick's report, over the mask and the code before it
-pub record GivesTickReportC (r : TickReport) (m₀ k₀ returned at made m k : ℕ) : Type 0 where
-  pub told : GivesReplyC (reply r.answer) returned at made
-  pub mask : m ≡ pick (eqb returned 0) r.mask m₀
-  pub code : k ≡ pick (eqb returned 0) r.code k₀
+-- what is written of a tick's answer, over the mask and the code before it
+pub record GivesTickAnswerC (answer : TickAnswer) (m₀ k₀ returned at made m k : ℕ) : Type 0 where
+  pub told : GivesReplyC (tick_reply answer) returned at made
+  pub mask : m ≡ pick (eqb returned 0) (answered_mask answer) m₀
+  pub code : k ≡ pick (eqb returned 0) (answered_code answer) k₀
 
 -- a call with one lent buffer
 pub record GivesBufferC (x : BufferOutcome) (returned at made : ℕ) (after : List ℕ) : Type 0 where

@@ -11,10 +11,12 @@ use Rattle.words.specs.lists.Pick.{pick}
 use Rattle.words.proofs.lists.Tests.{or_l, or-none, or-true-l, or_true_r}
 use Rattle.text.specs.frames.Frame.{contents}
 use Rattle.text.specs.frames.Verdict.{Verdict, fine, refused, next, when}
-use Rattle.text.specs.frames.Answer.{success, refusal, reply, verdict_reply}
-use Rattle.text.specs.declared.frames.Answer.{Answer}
-use Rattle.text.specs.declared.frames.Answer.TheVariants.{Done, Refused}
-use Rattle.text.proofs.frames.Chains.{refused-verdict}
+use Rattle.text.specs.frames.Answer.{Answer, success, refusal, reply, verdict_reply}
+use Rattle.std.proofs.Common.{Ok, Err}
+use Rattle.text.specs.declared.frames.refusals.Refusal.{Refusal}
+use Rattle.text.specs.declared.frames.refusals.Refusal.TheVariants.{BadSize, ManyLists}
+use Rattle.text.specs.frames.Refusal.{number_of, index_of, ticks_of}
+use Rattle.text.proofs.frames.Chains.{next-refused, next-on, err-refused}
 use Rattle.image.specs.Image.{Image}
 use Rattle.image.specs.Decode.{decoded_image}
 use Rattle.image.specs.Check.{image_verdict}
@@ -73,41 +75,40 @@ module _ (t : List ℕ) (size n k : ℕ) where
   abbrev image : Image
   image = decoded_image (contents t)
 
-  pub refused-tells : (a : Answer) (m j : ℕ) → reply a ≡ refusal m j 0 → count_verdict t size n k ≡ refused m j
-      → GivesFillings (count_fillings t size n k) (record { answer = a; ended = 0; full = 0; unmatched = 0 })
-  unfolding count_fillings
-  refused-tells a m j e v = rw v (record { answered = e; ended = refl; full = refl; unmatched = refl })
+  abbrev sizes : Verdict
+  sizes = next (when 14 (is_bad_size size)) λ _. when 28 (has_too_many_lists n k)
 
-  pub image-tells : (a : Answer) → reply a ≡ verdict_reply (image_verdict t) 0 → (m j i : ℕ) → a ≡ Refused m j i
-      → GivesFillings (count_fillings t size n k) (record { answer = a; ended = 0; full = 0; unmatched = 0 })
+  -- a refusal r; nothing is counted
+  refused-tells : (r : Refusal) → count_verdict t size n k ≡ refused (number_of r) (index_of r) → ticks_of r ≡ 0
+      → GivesFillings (count_fillings t size n k) (Err r)
+  unfolding count_fillings
+  refused-tells r v z = rw v (record { answered = ap (refusal (number_of r) (index_of r)) z; ended = refl; full = refl; unmatched = refl })
+
+  pub image-tells : (a : Answer) → reply a ≡ verdict_reply (image_verdict t) 0 → (r : Refusal) → a ≡ Err r
+      → GivesFillings (count_fillings t size n k) (Err r)
   unfolding count_verdict
-  image-tells a gives m j i e =
-      let v : image_verdict t ≡ refused m j = (refused-verdict a (image_verdict t) 0 gives m j i e).0 in
-      refused-tells a m j (gives ∙ ap (λ (w : Verdict). verdict_reply w 0) v)
-      (ap (λ (w : Verdict). next w λ _. next (when 14 (is_bad_size size)) λ _. when 28 (has_too_many_lists n k)) v)
+  image-tells a gives r e =
+      let p = err-refused a (image_verdict t) 0 gives r e in
+      refused-tells r (next-refused (image_verdict t) (λ _. sizes) (number_of r) (index_of r) p.0) p.1
 
   module _ (ok : image_verdict t ≡ fine) where
-    verdict-on : count_verdict t size n k ≡ next (when 14 (is_bad_size size)) λ _. when 28 (has_too_many_lists n k)
+    verdict-on : count_verdict t size n k ≡ sizes
     unfolding count_verdict
-    verdict-on = ap (λ (w : Verdict). next w λ _. next (when 14 (is_bad_size size)) λ _. when 28 (has_too_many_lists n k)) ok
+    verdict-on = next-on (image_verdict t) (λ _. sizes) ok
 
-    pub size-tells : (a : Answer) → a ≡ Refused 14 0 0 → is_bad_size size ≡ true
-        → GivesFillings (count_fillings t size n k) (record { answer = a; ended = 0; full = 0; unmatched = 0 })
-    size-tells a e z =
-        refused-tells a 14 0 (ap reply e) (verdict-on ∙ ap (λ (x : Bool). next (when 14 x) λ _. when 28 (has_too_many_lists n k)) z)
+    pub size-tells : is_bad_size size ≡ true → GivesFillings (count_fillings t size n k) (Err BadSize)
+    size-tells z =
+        refused-tells BadSize (verdict-on ∙ ap (λ (x : Bool). next (when 14 x) λ _. when 28 (has_too_many_lists n k)) z) refl
 
     module _ (good : is_bad_size size ≡ false) where
       verdict-last : (x : Bool) → has_too_many_lists n k ≡ x → count_verdict t size n k ≡ when 28 x
       verdict-last x e = verdict-on ∙ ap₂ (λ (y z : Bool). next (when 14 y) λ _. when 28 z) good e
 
-      pub many-tells : (a : Answer) → a ≡ Refused 28 0 0 → has_too_many_lists n k ≡ true
-          → GivesFillings (count_fillings t size n k) (record { answer = a; ended = 0; full = 0; unmatched = 0 })
-      many-tells a e z = refused-tells a 28 0 (ap reply e) (verdict-last true z)
+      pub many-tells : has_too_many_lists n k ≡ true → GivesFillings (count_fillings t size n k) (Err ManyLists)
+      many-tells z = refused-tells ManyLists (verdict-last true z) refl
 
       pub all_tell : (b : List ℕ) → table_image b ≡ image → has_too_many_lists n k ≡ false
-          → (r : Tally) → r ≡ tally_of (table_image b) (fresh size) n k
-          → GivesFillings (count_fillings t size n k)
-          (record { answer = Done 0; ended = r.ended; full = r.full; unmatched = r.unmatched })
+          → (r : Tally) → r ≡ tally_of (table_image b) (fresh size) n k → GivesFillings (count_fillings t size n k) (Ok r)
       unfolding count_fillings
       all_tell b h z r e =
           let is : r ≡ tally_of image (fresh size) n k = e ∙ ap (λ (i : Image). tally_of i (fresh size) n k) h in

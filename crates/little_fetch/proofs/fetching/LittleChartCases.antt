@@ -1,7 +1,7 @@
 -- What is answered for a frame count and a number, case by case.
 use Prim.Native.Nat.{ℕ, ◌*◌, ◌-◌, ◌/◌, ◌≤◌, ◌<◌}
 use mathlib.Core.Bool.{Bool, true, false, ◌||◌}
-use mathlib.Core.Path.{◌≡◌, sym, ◌∙◌, ap, ap₂, subst}
+use mathlib.Core.Path.{◌≡◌, refl, sym, ◌∙◌, ap, ap₂, subst}
 use mathlib.Core.List.{List, []}
 use native.Mathlib.Omega.{arith}
 use lib.Dec.{leb, ltb}
@@ -12,10 +12,10 @@ use Rattle.words.proofs.lists.Tests.{or-none, or-true-l, or_true_r}
 use Rattle.words.proofs.lists.Written.{written-front}
 use Rattle.text.specs.frames.Frame.{size, text_of}
 use Rattle.text.specs.frames.Verdict.{fine, when}
-use Rattle.text.specs.frames.Answer.{reply, GivesBuffer}
-use Rattle.text.specs.declared.frames.Answer.{Answer}
-use Rattle.text.specs.declared.frames.Answer.TheVariants.{Done, Refused}
-use Rattle.text.proofs.frames.Lent.{lent-refused, lent-short, lent-done}
+use Rattle.text.specs.frames.Answer.{GivesBuffer}
+use Rattle.std.proofs.Common.{Ok, Err}
+use Rattle.text.specs.declared.frames.refusals.Refusal.TheVariants.{NoRoom, NoLittleChart}
+use Rattle.text.proofs.frames.Lent.{lent-err, lent-short, lent-done}
 use Rattle.text.proofs.frames.TextLoops.{length-text}
 use Rattle.charts.specs.Chart.{Chart}
 use Rattle.little_charts.specs.Little.{little_charts, little_text, little_verdict, little_chart}
@@ -25,16 +25,16 @@ use Rattle.little_fetch.specs.declared.little_seek.Sought.{Sought}
 use Rattle.little_fetch.specs.little_seek.inner.SeekContracts.{FewFrames, GivesSought}
 
 -- ---- a frame count outside 2 to 4
-module _ (n k : ℕ) (old : List ℕ) (a : Answer) (e : a ≡ Refused 24 0 0) where
-  outside : (ltb n 2 || ltb 4 n) ≡ true → GivesBuffer (little_chart n k old) a old
+module _ (n k : ℕ) (old : List ℕ) where
+  outside : (ltb n 2 || ltb 4 n) ≡ true → GivesBuffer (little_chart n k old) (Err NoLittleChart) old
   unfolding little_chart little_verdict
-  outside q = lent-refused (little_verdict n k) 1 (λ _. little_text n k) old 24 0
-      (ap (when 24) (or-true-l (ltb n 2 || ltb 4 n) (leb (length (little_charts n)) k) q)) a (ap reply e)
+  outside q = lent-err (little_verdict n k) 1 (λ _. little_text n k) old NoLittleChart
+      (ap (when 24) (or-true-l (ltb n 2 || ltb 4 n) (leb (length (little_charts n)) k) q), refl)
 
-  pub too_few : n < 2 → GivesBuffer (little_chart n k old) a old
+  pub too_few : n < 2 → GivesBuffer (little_chart n k old) (Err NoLittleChart) old
   too_few l = outside (or-true-l (ltb n 2) (ltb 4 n) (lt-ltb n 2 l))
 
-  pub too_many : 4 < n → GivesBuffer (little_chart n k old) a old
+  pub too_many : 4 < n → GivesBuffer (little_chart n k old) (Err NoLittleChart) old
   too_many l = outside (or_true_r (ltb n 2) (ltb 4 n) (lt-ltb 4 n l))
 
 -- ---- what was sought
@@ -52,13 +52,13 @@ module _ (rs₀ rs : List ℕ) (k : ℕ) (s : Sought) (few : FewFrames rs₀) (l
       (or-none (ltb (size rs₀) 2) (ltb 4 (size rs₀)) (le-ltb (size rs₀) 2 few.some) (le-ltb 4 (size rs₀) few.few)) e
 
   module _ (old : List ℕ) where
-    pub past-last : s.found ≡ false → (a : Answer) → a ≡ Refused 24 0 0 → GivesBuffer (little_chart (size rs₀) k old) a old
+    pub past-last : s.found ≡ false → GivesBuffer (little_chart (size rs₀) k old) (Err NoLittleChart) old
     unfolding little_chart
-    past-last f a e =
+    past-last f =
         let l : length (little_charts (size rs₀)) ≤ k = subst (λ (xs : List Chart). length xs ≤ k) listed
         (ltb-false k (length (searched_charts (size rs₀) (size rs₀ - 0) (take (10 * 0) rs₀))) (sym o.counted.told ∙ f)) in
-        lent-refused (little_verdict (size rs₀) k) 1 (λ _. little_text (size rs₀) k) old 24 0
-        (verdict-by true (le-leb (length (little_charts (size rs₀))) k l)) a (ap reply e)
+        lent-err (little_verdict (size rs₀) k) 1 (λ _. little_text (size rs₀) k) old NoLittleChart
+        (verdict-by true (le-leb (length (little_charts (size rs₀))) k l), refl)
 
     module _ (f : s.found ≡ true) (count : ℕ) (c : count ≡ 23 * (length rs / 10)) where
       low : k < length (searched_charts (size rs₀) (size rs₀ - 0) (take (10 * 0) rs₀))
@@ -73,13 +73,13 @@ module _ (rs₀ rs : List ℕ) (k : ℕ) (s : Sought) (few : FewFrames rs₀) (l
       text-long : count ≡ length (little_text (size rs₀) k)
       text-long = c ∙ sym (length-text rs) ∙ ap length text-is
 
-      pub too_short : length old < count → (a : Answer) → a ≡ Refused 16 0 0 → GivesBuffer (little_chart (size rs₀) k old) a old
+      pub too_short : length old < count → GivesBuffer (little_chart (size rs₀) k old) (Err NoRoom) old
       unfolding little_chart
-      too_short l a e = subst (λ (b : Answer). GivesBuffer (little_chart (size rs₀) k old) b old) (sym e)
-          (lent-short (little_verdict (size rs₀) k) 1 (λ _. little_text (size rs₀) k) old accepted (omega (arith, text-long)))
+      too_short l =
+          lent-short (little_verdict (size rs₀) k) 1 (λ _. little_text (size rs₀) k) old accepted (omega (arith, text-long))
 
       pub fetched : count ≤ length old → (out : List ℕ) → out ≡ written old 0 (text_of rs)
-          → GivesBuffer (little_chart (size rs₀) k old) (Done count) out
+          → GivesBuffer (little_chart (size rs₀) k old) (Ok count) out
       unfolding little_chart
       fetched l out w = lent-done (little_verdict (size rs₀) k) 1 (λ _. little_text (size rs₀) k) old accepted
           (omega (arith, text-long)) count

@@ -14,10 +14,10 @@ use Rattle.words.specs.lists.Sequences.{written}
 use Rattle.words.proofs.lists.Written.{written-take}
 use Rattle.text.specs.frames.Frame.{size}
 use Rattle.text.specs.frames.Verdict.{Verdict}
-use Rattle.text.specs.frames.Answer.{reply, verdict_reply}
-use Rattle.text.proofs.frames.Chains.{done-fine, refused-verdict}
-use Rattle.text.specs.declared.frames.Answer.{Answer}
-use Rattle.text.specs.declared.frames.Answer.TheVariants.{Done, Refused}
+use Rattle.text.specs.frames.Answer.{Answer, reply, verdict_reply}
+use Rattle.text.proofs.frames.Chains.{ok-fine, err-refused}
+use Rattle.std.proofs.Common.{Ok, Err}
+use Rattle.std.specs.Prelude.{is_ok}
 use Rattle.charts.specs.Chart.{Chart}
 use Rattle.charts.specs.Check.{chart_verdict}
 use Rattle.little_charts.specs.Little.{begin_node, end_node, is_fine}
@@ -29,14 +29,12 @@ use Rattle.little_fetch.specs.little_seek.inner.SeekContracts.{FewFrames, Record
 pub lonely-out : (c : Chart) (t : Bool) → t ≡ any (is_lonely c) 0 (size c) → t ≡ true → false ≡ is_accepted c
 lonely-out c t e q = ap (λ (b : Bool). not b && is_fine (chart_verdict c)) (sym q ∙ e)
 
-module _ (c : Chart) (t : Bool) (e : t ≡ any (is_lonely c) 0 (size c)) (q : t ≡ false) (a : Answer)
-    (f : reply a ≡ verdict_reply (chart_verdict c) 0) where
-  pub refused-out : (k i n : ℕ) → a ≡ Refused k i n → false ≡ is_accepted c
-  refused-out k i n h = ap₂ (λ (b : Bool) (v : Verdict). not b && is_fine v) (sym q ∙ e)
-      (sym (refused-verdict a (chart_verdict c) 0 f k i n h).0)
-
-  pub done-in : (k : ℕ) → a ≡ Done k → true ≡ is_accepted c
-  done-in k h = ap₂ (λ (b : Bool) (v : Verdict). not b && is_fine v) (sym q ∙ e) (sym (done-fine a (chart_verdict c) 0 f k h).0)
+pub checked-in : (c : Chart) (t : Bool) → t ≡ any (is_lonely c) 0 (size c) → t ≡ false → (a : Answer)
+    → reply a ≡ verdict_reply (chart_verdict c) 0 → is_ok a ≡ is_accepted c
+checked-in c t e q (Ok k) f =
+    ap₂ (λ (b : Bool) (v : Verdict). not b && is_fine v) (sym q ∙ e) (sym (ok-fine (Ok k) (chart_verdict c) 0 f k refl).0)
+checked-in c t e q (Err r) f =
+    ap₂ (λ (b : Bool) (v : Verdict). not b && is_fine v) (sym q ∙ e) (sym (err-refused (Err r) (chart_verdict c) 0 f r refl).0)
 
 -- ---- counted
 searched-leaf : (n : ℕ) (c : Chart) → searched_charts n 0 c ≡ pick (is_accepted c) (c ∷ []) []

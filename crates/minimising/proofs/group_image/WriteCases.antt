@@ -15,8 +15,8 @@ use Rattle.words.proofs.lists.Written.{written-front}
 use Rattle.text.specs.frames.Frame.{size, field}
 use Rattle.text.specs.frames.Verdict.{fine}
 use Rattle.text.specs.frames.Answer.{GivesBuffer}
-use Rattle.text.specs.declared.frames.Answer.{Answer}
-use Rattle.text.specs.declared.frames.Answer.TheVariants.{Done, Refused}
+use Rattle.std.proofs.Common.{Ok, Err}
+use Rattle.text.specs.declared.frames.refusals.Refusal.TheVariants.{NoRoom}
 use Rattle.text.proofs.frames.Lent.{lent-short, lent-done}
 use Rattle.text.proofs.frames.Texts.{text-length}
 use Rattle.image.specs.Image.{Image, Row, image_frames, image_text}
@@ -163,16 +163,14 @@ module _ (b buffer : List ℕ) (G : Grouped b buffer) where
     }
 
 module _ (b buffer numbers : List ℕ) (schemes groups rows : ℕ) (C : CountedFirst b buffer numbers schemes groups rows) (old : List ℕ) where
-  pub smaller-short : length old < 23 * (1 + schemes + groups + rows) → (a : Answer)
-      → a ≡ Refused 16 0 0 → GivesBuffer (smaller_outcome b fine old) a old
-  smaller-short g a e = subst (λ (x : Answer). GivesBuffer (smaller_outcome b fine old) x old) (sym e)
-      (lent-short fine 1 (λ _. image_text (smaller_image (decoded_image b))) old refl (omega (arith, C.long)))
+  pub smaller-short : length old < 23 * (1 + schemes + groups + rows) → GivesBuffer (smaller_outcome b fine old) (Err NoRoom) old
+  smaller-short g = lent-short fine 1 (λ _. image_text (smaller_image (decoded_image b))) old refl (omega (arith, C.long))
 
   pub pieces_room : 23 * (1 + schemes + groups + rows) ≤ length old → length (all_pieces b buffer) ≤ length old
   pieces_room g = omega (arith, ap (λ (xs : List ℕ). length xs) C.text, C.long)
 
   pub smaller-done : 23 * (1 + schemes + groups + rows) ≤ length old → (out : List ℕ) → out ≡ written old 0 (all_pieces b buffer)
-      → GivesBuffer (smaller_outcome b fine old) (Done (23 * (1 + schemes + groups + rows))) out
+      → GivesBuffer (smaller_outcome b fine old) (Ok (23 * (1 + schemes + groups + rows))) out
   smaller-done g out e =
       let m : length (image_text (smaller_image (decoded_image b))) ≡ 23 * (1 + schemes + groups + rows) = C.long in
       lent-done fine 1 (λ _. image_text (smaller_image (decoded_image b))) old refl (omega arith) (23 * (1 + schemes + groups + rows))

@@ -7,9 +7,10 @@ use lib.ListN.{length, take, set, length-take, length-append, replicate}
 use Rattle.words.specs.lists.Sequences.{concat_map, over, written}
 use Rattle.words.proofs.lists.Written.{written-front, written-more}
 use Rattle.words.proofs.lists.Fills.{ValuesFrom, values-none, values-turn, values-all}
-use Rattle.text.specs.frames.Answer.{reply_count, reply}
-use Rattle.text.specs.declared.frames.Answer.{Answer}
-use Rattle.text.specs.declared.frames.Answer.TheVariants.{Done, Refused}
+use Rattle.text.specs.frames.Answer.{Answer, reply_count, reply}
+use Rattle.std.proofs.Common.{Ok, Err}
+use Rattle.text.specs.declared.frames.refusals.Refusal.{Refusal}
+use Rattle.text.specs.frames.Refusal.{number_of, index_of, ticks_of}
 use Rattle.state.specs.declared.State.{State}
 use Rattle.state.specs.State.{fresh_state}
 use Rattle.runs.specs.Run.{run}
@@ -38,11 +39,11 @@ module _ (all : List ℕ) (i : ℕ) (w : CountedWords all i) where
   counted-all h = values-all (λ k. k) (replicate 64 0) 0 64 all i w h
 
 -- ---- what is printed
-pub done-count : (a : Answer) (n : ℕ) → a ≡ Done n → reply_count (reply a) ≡ n
+pub done-count : (a : Answer) (n : ℕ) → a ≡ Ok n → reply_count (reply a) ≡ n
 done-count a n e = ap (λ (b : Answer). reply_count (reply b)) e
 
-pub refused-count : (a : Answer) (k i n : ℕ) → a ≡ Refused k i n → reply_count (reply a) ≡ n
-refused-count a k i n e = ap (λ (b : Answer). reply_count (reply b)) e
+pub refused-count : (a : Answer) (r : Refusal) (n : ℕ) → a ≡ Err r → n ≡ ticks_of r → reply_count (reply a) ≡ n
+refused-count a r n e t = ap (λ (b : Answer). reply_count (reply b)) e ∙ sym t
 
 -- n ticks were finished, and their codes are there
 module _ (a : Answer) (codes : List ℕ) (n : ℕ) (counts : reply_count (reply a) ≡ n)
@@ -53,7 +54,7 @@ module _ (a : Answer) (codes : List ℕ) (n : ℕ) (counts : reply_count (reply 
   taken-length : length (concat_map code_line (take n codes)) ≡ 3 * n
   taken-length = codes-length (take n codes) ∙ omega (arith, finished-part)
 
-  pub codes-printed : (before after : List ℕ) → a ≡ Done n → after ≡ written before 0 (concat_map code_line (take n codes))
+  pub codes-printed : (before after : List ℕ) → a ≡ Ok n → after ≡ written before 0 (concat_map code_line (take n codes))
       → Prints (run_lines (reply a) codes) (n * 3) before after
   codes-printed before after d w =
       let x : List ℕ = concat_map code_line (take n codes) in
@@ -63,12 +64,14 @@ module _ (a : Answer) (codes : List ℕ) (n : ℕ) (counts : reply_count (reply 
         written = w ∙ written-front before x ∙ ap (λ (y : List ℕ). over y before) (sym o);
       }
 
-  pub stop-printed : (k i : ℕ) (before middle after : List ℕ) → a ≡ Refused k i n → 215 ≤ length before
+  pub stop-printed : (r : Refusal) (k i : ℕ) → k ≡ number_of r → i ≡ index_of r → n ≡ ticks_of r
+      → (before middle after : List ℕ) → a ≡ Err r → 215 ≤ length before
       → middle ≡ written before 0 (concat_map code_line (take n codes)) → after ≡ written middle (n * 3) (refusal_line k i)
       → Prints (run_lines (reply a) codes) (n * 3 + 23) before after
-  stop-printed k i before middle after d room m w =
+  stop-printed r k i p q t before middle after d room m w =
       let x : List ℕ = concat_map code_line (take n codes) in
-      let o : run_lines (reply a) codes ≡ x ++ refusal_line k i = ap (λ (b : Answer). run_lines (reply b) codes) d in
+      let o : run_lines (reply a) codes ≡ x ++ refusal_line k i = ap (λ (b : Answer). run_lines (reply b) codes) d
+      ∙ sym (λ j. concat_map code_line (take (t j) codes) ++ refusal_line (p j) (q j)) in
       record {
         counted = omega (arith, taken-length, refusal-line-length k i, length-append x (refusal_line k i), ap length o);
         written = written-more before 0 x (refusal_line k i) middle after (n * 3) (omega (arith, taken-length))

@@ -13,9 +13,10 @@ use Rattle.words.proofs.lists.Written.{written-front}
 use Rattle.text.specs.frames.Frame.{contents, frame_count}
 use Rattle.text.specs.frames.Verdict.{Verdict, fine, refused, next, when, at_lowest}
 use Rattle.text.specs.frames.Check.{is_bad_length, has_bad_form, has_bad_sum, text_verdict}
-use Rattle.text.specs.frames.Answer.{success, refusal, BufferOutcome, buffer_on, reply}
-use Rattle.text.specs.declared.frames.Answer.{Answer}
-use Rattle.text.specs.declared.frames.Answer.TheVariants.{Done, Refused}
+use Rattle.text.specs.frames.Answer.{Answer, success, refusal, BufferOutcome, buffer_on, reply}
+use Rattle.std.proofs.Common.{Ok, Err}
+use Rattle.text.specs.declared.frames.refusals.Refusal.{Refusal}
+use Rattle.text.specs.frames.Refusal.{number_of, index_of, ticks_of}
 use Rattle.text.proofs.frames.Verdicts.{next-first, when-fine}
 use Rattle.text.proofs.frames.Lent.{Success, lent_fits, lent-told}
 use Rattle.walk.proofs.FactsHold.{facts}
@@ -50,7 +51,7 @@ image-fits t ok =
 
 -- ---- what the translator answered tells what is to be printed
 module _ (t old : List ℕ) (a : Answer) (e : reply a ≡ (translate t old).reply) where
-  pub image-printed : (n : ℕ) (after : List ℕ) → a ≡ Done n → after ≡ (translate t old).buffer → Prints (translate_output t) n old after
+  pub image-printed : (n : ℕ) (after : List ℕ) → a ≡ Ok n → after ≡ (translate t old).buffer → Prints (translate_output t) n old after
   unfolding translate translate_output
   image-printed n after d b =
       let x : List ℕ = image_text (table (contents t)) in
@@ -63,13 +64,13 @@ module _ (t old : List ℕ) (a : Answer) (e : reply a ≡ (translate t old).repl
       }
 
   -- the frame of the refusal is all that is printed, and the buffer is as it was before it
-  pub refusal-told : (k i n : ℕ) → a ≡ Refused k i n → 29831 ≤ length old
+  pub refusal-told : (r : Refusal) → a ≡ Err r → 29831 ≤ length old → (k i : ℕ) → k ≡ number_of r → i ≡ index_of r
       → (translate_output t ≡ refusal_line k i) × ((translate t old).buffer ≡ old)
   unfolding translate translate_output
-  refusal-told k i n d room = go (translate_verdict t) (image-fits t) (sym (ap reply d) ∙ e)
+  refusal-told r d room k i p q = go (translate_verdict t) (image-fits t) ((λ j. refusal (p j) (q j) (ticks_of r)) ∙ sym (ap reply d) ∙ e)
     where
       go : (v : Verdict) → (v ≡ fine → length (image_text (table (contents t))) ≤ 29831)
-          → refusal k i n ≡ (buffer_on v 1 (λ _. image_text (table (contents t))) old).reply
+          → refusal k i (ticks_of r) ≡ (buffer_on v 1 (λ _. image_text (table (contents t))) old).reply
           → (image_or v (λ _. image_text (table (contents t))) ≡ refusal_line k i)
           × ((buffer_on v 1 (λ _. image_text (table (contents t))) old).buffer ≡ old)
       go (refused l j) f q = (cc, refl)
@@ -79,10 +80,11 @@ module _ (t old : List ℕ) (a : Answer) (e : reply a ≡ (translate t old).repl
           ap (λ (r : BufferOutcome). r.reply) (lent_fits 1 (λ _. image_text (table (contents t))) old (omega (arith, f refl))) in
           absurd (let z : ◌≡◌ {A = ℕ} 0 1 = cc in omega arith)
 
-  pub refusal-printed : (k i n : ℕ) (middle after : List ℕ) → a ≡ Refused k i n → 29831 ≤ length old → middle ≡ (translate t old).buffer
-      → after ≡ written middle 0 (refusal_line k i) → Prints (translate_output t) 23 old after
-  refusal-printed k i n middle after d room m w =
-      let told : (translate_output t ≡ refusal_line k i) × ((translate t old).buffer ≡ old) = refusal-told k i n d room in
+  pub refusal-printed : (r : Refusal) → a ≡ Err r → 29831 ≤ length old → (k i : ℕ) → k ≡ number_of r → i ≡ index_of r
+      → (middle after : List ℕ) → middle ≡ (translate t old).buffer → after ≡ written middle 0 (refusal_line k i)
+      → Prints (translate_output t) 23 old after
+  refusal-printed r d room k i p q middle after m w =
+      let told : (translate_output t ≡ refusal_line k i) × ((translate t old).buffer ≡ old) = refusal-told r d room k i p q in
       record {
         counted = omega (arith, refusal-line-length k i, ap length told.0);
         written = w ∙ ap (λ (o : List ℕ). written o 0 (refusal_line k i)) (m ∙ told.1) ∙ written-front old (refusal_line k i)

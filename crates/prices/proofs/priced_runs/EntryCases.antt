@@ -12,9 +12,10 @@ use Rattle.words.specs.lists.Pick.{pick}
 use Rattle.words.proofs.lists.Tests.{or-none, yes-pick, no-pick, split}
 use Rattle.text.specs.frames.Frame.{contents}
 use Rattle.text.specs.frames.Verdict.{Verdict, fine, refused, next, when}
-use Rattle.text.specs.frames.Answer.{refusal, reply_number, reply, verdict_reply, reply_count}
-use Rattle.text.specs.declared.frames.Answer.{Answer}
-use Rattle.text.specs.declared.frames.Answer.TheVariants.{Done, Refused}
+use Rattle.text.specs.frames.Answer.{Answer, success, refusal, reply_number, reply, verdict_reply, reply_count}
+use Rattle.std.proofs.Common.{Ok, Err}
+use Rattle.text.specs.declared.frames.refusals.Refusal.{Refusal}
+use Rattle.text.specs.declared.frames.refusals.Refusal.TheVariants.{ManyWords}
 use Rattle.text.proofs.frames.Refuses.{RefusesWith}
 use Rattle.image.specs.Decode.{decoded_image}
 use Rattle.image.specs.Check.{image_verdict}
@@ -100,20 +101,20 @@ module _ (t : List ℕ) (s : State) (ms ks : List ℕ) where
       go fine false p q = refl
 
   module _ (a : Answer) (gives : reply a ≡ (run t s [] ms ks).reply) where
-    pub many-before : (k i n : ℕ) → a ≡ Refused k i n → reply a ≡ verdict_reply (many_verdict t s) 0
+    pub many-before : (r : Refusal) → a ≡ Err r → reply (Err r) ≡ verdict_reply (many_verdict t s) 0
     unfolding many_verdict
-    many-before k i n e = go (image_verdict t) (is_unfit (decoded_image (contents t)) s) (gives ∙ none-answer)
+    many-before r e = go (image_verdict t) (is_unfit (decoded_image (contents t)) s) (sym (ap reply e) ∙ gives ∙ none-answer)
       where
-        go : (v : Verdict) (b : Bool) → reply a ≡ verdict_reply (tried v b) 0 → reply a ≡ verdict_reply (many v b) 0
+        go : (v : Verdict) (b : Bool) → reply (Err r) ≡ verdict_reply (tried v b) 0 → reply (Err r) ≡ verdict_reply (many v b) 0
         go (refused l j) b q = q
         go fine true q = q
         go fine false q = absurd (let z : ◌≡◌ {A = ℕ} 0 1 = cc in omega arith)
 
-    pub many-itself : (n : ℕ) → a ≡ Done n → (r : Answer) → r ≡ Refused 27 0 0 → reply r ≡ verdict_reply (many_verdict t s) 0
+    pub many-itself : (n : ℕ) → a ≡ Ok n → reply (Err ManyWords) ≡ verdict_reply (many_verdict t s) 0
     unfolding many_verdict
-    many-itself n e r q = ap reply q ∙ go (image_verdict t) (is_unfit (decoded_image (contents t)) s) (gives ∙ none-answer)
+    many-itself n e = go (image_verdict t) (is_unfit (decoded_image (contents t)) s) (sym (ap reply e) ∙ gives ∙ none-answer)
       where
-        go : (v : Verdict) (b : Bool) → reply a ≡ verdict_reply (tried v b) 0 → refusal 27 0 0 ≡ verdict_reply (many v b) 0
+        go : (v : Verdict) (b : Bool) → success n ≡ verdict_reply (tried v b) 0 → refusal 27 0 0 ≡ verdict_reply (many v b) 0
         go (refused l j) b z = absurd (let y : ◌≡◌ {A = ℕ} 0 1 = cc in omega arith)
         go fine true z = absurd (let y : ◌≡◌ {A = ℕ} 0 1 = cc in omega arith)
         go fine false z = refl

@@ -6,10 +6,11 @@ use native.Mathlib.Omega.{arith}
 use lib.ListN.{length}
 use Rattle.text.specs.frames.Frame.{contents}
 use Rattle.text.specs.frames.Verdict.{Verdict, fine, refused, next, when}
-use Rattle.text.specs.frames.Answer.{reply, verdict_reply}
-use Rattle.text.specs.declared.frames.Answer.{Answer}
-use Rattle.text.specs.declared.frames.Answer.TheVariants.{Refused}
-use Rattle.text.proofs.frames.Chains.{refused-verdict}
+use Rattle.text.specs.frames.Answer.{Answer, refusal, reply, verdict_reply}
+use Rattle.std.proofs.Common.{Err}
+use Rattle.text.specs.declared.frames.refusals.Refusal.{Refusal}
+use Rattle.text.specs.frames.Refusal.{number_of, index_of}
+use Rattle.text.proofs.frames.Chains.{err-refused}
 use Rattle.image.specs.Image.{Image}
 use Rattle.image.specs.Decode.{last_label, decoded_image}
 use Rattle.image.specs.Check.{image_verdict}
@@ -34,13 +35,13 @@ module _ (t : List ℕ) where
     unfolding list
     by-verdict v e = ap tried e
 
-    pub image-refused : (a : Answer) → reply a ≡ verdict_reply (image_verdict t) 0 → (k n m : ℕ)
-        → a ≡ Refused k n m → GivesListing (list t xs ys) a xs ys
-    image-refused a gives k n m e =
-        let v : image_verdict t ≡ refused k n = (refused-verdict a (image_verdict t) 0 gives k n m e).0 in
-        let g = by-verdict (refused k n) v in
+    pub image-refused : (a : Answer) → reply a ≡ verdict_reply (image_verdict t) 0 → (r : Refusal) → a ≡ Err r
+        → GivesListing (list t xs ys) (Err r) xs ys
+    image-refused a gives r e =
+        let p = err-refused a (image_verdict t) 0 gives r e in
+        let g = by-verdict (refused (number_of r) (index_of r)) p.0 in
         record {
-          answered = gives ∙ ap (λ (w : Verdict). verdict_reply w 0) v ∙ sym (ap (λ (x : ListingOutcome). x.reply) g);
+          answered = ap (refusal (number_of r) (index_of r)) p.1 ∙ sym (ap (λ (x : ListingOutcome). x.reply) g);
           firsts = sym (ap (λ (x : ListingOutcome). x.firsts) g);
           counts = sym (ap (λ (x : ListingOutcome). x.counts) g);
         }

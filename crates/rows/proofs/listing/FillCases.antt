@@ -14,9 +14,9 @@ use Rattle.words.proofs.lists.Tests.{or-true-l, or_true_r, or-none}
 use Rattle.words.proofs.lists.Written.{written-front}
 use Rattle.words.proofs.lists.Fills.{ValuesFrom, values-none, values-turn, values-all}
 use Rattle.text.specs.frames.Verdict.{when}
-use Rattle.text.specs.frames.Answer.{reply, success}
-use Rattle.text.specs.declared.frames.Answer.{Answer}
-use Rattle.text.specs.declared.frames.Answer.TheVariants.{Done, Refused}
+use Rattle.text.specs.frames.Answer.{success}
+use Rattle.std.proofs.Common.{Ok, Err}
+use Rattle.text.specs.declared.frames.refusals.Refusal.TheVariants.{NoRoom}
 use Rattle.image.specs.Image.{Image}
 use Rattle.image.specs.Decode.{last_label}
 use Rattle.tables.specs.Table.{table_image}
@@ -75,21 +75,21 @@ module _ (b xs ys : List ℕ) (n : ℕ) (is : n ≡ last_label b + 1) where
       ap (λ (m : ℕ). listing_on (when 16 (has_no_room_for m xs ys)) (λ _. image) xs ys) (sym count)
       ∙ ap (λ (u : Bool). listing_on (when 16 u) (λ _. image) xs ys) e
 
-  full : has_no_room_for n xs ys ≡ true → (a : Answer) → a ≡ Refused 16 0 0 → GivesListing (list_table b xs ys) a xs ys
-  full e a q = let g = by-room true e in record {
-    answered = ap reply q ∙ sym (ap (λ (x : ListingOutcome). x.reply) g);
+  full : has_no_room_for n xs ys ≡ true → GivesListing (list_table b xs ys) (Err NoRoom) xs ys
+  full e = let g = by-room true e in record {
+    answered = sym (ap (λ (x : ListingOutcome). x.reply) g);
     firsts = sym (ap (λ (x : ListingOutcome). x.firsts) g);
     counts = sym (ap (λ (x : ListingOutcome). x.counts) g);
   }
 
-  pub firsts-short : length xs < n → (a : Answer) → a ≡ Refused 16 0 0 → GivesListing (list_table b xs ys) a xs ys
+  pub firsts-short : length xs < n → GivesListing (list_table b xs ys) (Err NoRoom) xs ys
   firsts-short h = full (or-true-l (ltb (length xs) n) (ltb (length ys) n) (lt-ltb (length xs) n h))
 
-  pub counts-short : length ys < n → (a : Answer) → a ≡ Refused 16 0 0 → GivesListing (list_table b xs ys) a xs ys
+  pub counts-short : length ys < n → GivesListing (list_table b xs ys) (Err NoRoom) xs ys
   counts-short h = full (or_true_r (ltb (length xs) n) (ltb (length ys) n) (lt-ltb (length ys) n h))
 
   pub listed : n ≤ length xs → n ≤ length ys → (xs' ys' : List ℕ) → (xs' ≡ over (first_rows image) xs) × (ys' ≡ over (row_counts image) ys)
-      → GivesListing (list_table b xs ys) (Done n) xs' ys'
+      → GivesListing (list_table b xs ys) (Ok n) xs' ys'
   listed p q xs' ys' (x, y) =
       let g = by-room false (or-none (ltb (length xs) n) (ltb (length ys) n) (le-ltb (length xs) n p) (le-ltb (length ys) n q)) in
       record {

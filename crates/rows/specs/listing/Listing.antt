@@ -6,8 +6,7 @@ use Rattle.words.specs.lists.Sequences.{over}
 use Rattle.text.specs.declared.frames.refusals.TheConstants.{NO_ROOM}
 use Rattle.text.specs.frames.Frame.{contents}
 use Rattle.text.specs.frames.Verdict.{Verdict, fine, refused, next, when}
-use Rattle.text.specs.frames.Answer.{Reply, success, refusal, reply}
-use Rattle.text.specs.declared.frames.Answer.{Answer}
+use Rattle.text.specs.frames.Answer.{Answer, Reply, success, refusal, reply}
 use Rattle.image.specs.Image.{Image, nth_row}
 use Rattle.image.specs.Decode.{last_label, decoded_image}
 use Rattle.image.specs.Check.{image_verdict}

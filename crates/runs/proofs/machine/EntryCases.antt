@@ -9,12 +9,14 @@ use lib.ListN.{take}
 use borrow.Author.Tests.{ne_eqb}
 use Rattle.words.proofs.lists.Tests.{no-pick}
 use Rattle.text.specs.frames.Frame.{contents}
-use Rattle.text.specs.frames.Verdict.{Verdict, fine, refused}
-use Rattle.text.specs.frames.Answer.{refusal, reply, verdict_reply}
-use Rattle.text.specs.declared.frames.Answer.{Answer}
-use Rattle.text.specs.declared.frames.Answer.TheVariants.{Refused}
+use Rattle.text.specs.frames.Verdict.{fine, refused}
+use Rattle.text.specs.frames.Answer.{Answer, refusal, reply, verdict_reply}
+use Rattle.std.proofs.Common.{Err}
+use Rattle.text.specs.declared.frames.refusals.Refusal.{Refusal}
+use Rattle.text.specs.declared.frames.refusals.Refusal.TheVariants.{BadHeader}
+use Rattle.text.specs.frames.Refusal.{number_of, index_of}
 use Rattle.text.proofs.frames.Refuses.{RefusesWith}
-use Rattle.text.proofs.frames.Chains.{refused-verdict}
+use Rattle.text.proofs.frames.Chains.{err-refused}
 use Rattle.image.specs.Decode.{decoded_image}
 use Rattle.image.specs.Check.{image_verdict}
 use Rattle.image.proofs.Refuses.{Early, early-image}
@@ -24,9 +26,8 @@ use Rattle.tables.proofs.Made.{MadeTable}
 use Rattle.tables.proofs.Front.{front-image, cut-is}
 use Rattle.state.specs.declared.State.{State}
 use Rattle.state.specs.Bytes.{state_of, bytes_of}
-use Rattle.runs.specs.declared.TickReport.{TickReport}
 use Rattle.runs.specs.Run.{RunOutcome, run_verdict, run}
-use Rattle.runs.specs.TickOutcome.{TickOutcome, tick_outcome, image_tick}
+use Rattle.runs.specs.TickOutcome.{TickOutcome, TickAnswer, tick_outcome, image_tick}
 use Rattle.runs.specs.machine.Live.{live_verdict, live_run, live_tick}
 use Rattle.runs.specs.InPlace.{GivesRunOn, GivesTickOn}
 use Rattle.runs.specs.inner.RunContracts.{table_run}
@@ -37,9 +38,8 @@ abbrev kept_advance : ℕ → ℕ → State → TickOutcome
 kept_advance n j s = record { reply = refusal n j 0; mask = 0; code = 0; state = s }
 
 kept-advances : (x : TickOutcome) (bytes : List ℕ) (n j : ℕ) (s : State) → x ≡ kept_advance n j s
-    → 1 ≤ n → (a : Answer) → reply a ≡ refusal n j 0
-    → GivesTickOn x bytes (record { answer = a; mask = 0; code = 0 }) bytes
-kept-advances x bytes n j s g l a e =
+    → 1 ≤ n → (r : Refusal) → reply (Err r) ≡ refusal n j 0 → GivesTickOn x bytes (Err r) bytes
+kept-advances x bytes n j s g l r e =
     rw g
     (record {
       answered = e;
@@ -63,10 +63,10 @@ module _ (b before : List ℕ) where
     live-good e = rw (e, front-image b e)
 
   module _ (t : Bool) (e : t ≡ is_bad_table b) where
-    pub live-refused : (ws ms ks : List ℕ) → t ≡ true → (a : Answer) → a ≡ Refused 11 0 0
-        → GivesRunOn (live_run b s ws ms ks) before a before ms ks
-    live-refused ws ms ks h a q =
-        kept-runs (live_run b s ws ms ks) before ms ks 11 0 s (live-bad ws ms ks (sym e ∙ h)) (omega arith) (omega arith) a (ap reply q)
+    pub live-refused : (ws ms ks : List ℕ) → t ≡ true → GivesRunOn (live_run b s ws ms ks) before (Err BadHeader) before ms ks
+    live-refused ws ms ks h =
+        kept-runs (live_run b s ws ms ks) before ms ks 11 0 s (live-bad ws ms ks (sym e ∙ h)) (omega arith) (omega arith)
+        (Err BadHeader) refl
 
     pub live-runs : (ws ms ks : List ℕ) (n : ℕ) → n ≡ 10 * table_end b → t ≡ false → (a : Answer) (after us vs : List ℕ)
         → GivesRunOn (table_run (take n b) s ws ms ks) before a after us vs → GivesRunOn (live_run b s ws ms ks) before a after us vs
@@ -75,14 +75,13 @@ module _ (b before : List ℕ) where
         (ap (λ (c : List ℕ). table_run c s ws ms ks) (cut-is b n q) ∙ live-good ws ms ks (sym e ∙ h)) r
 
     module _ (w : ℕ) where
-      pub live-stays : t ≡ true → (a : Answer) → a ≡ Refused 11 0 0
-          → GivesTickOn (live_tick b s w) before (record { answer = a; mask = 0; code = 0 }) before
+      pub live-stays : t ≡ true → GivesTickOn (live_tick b s w) before (Err BadHeader) before
       unfolding live_tick
-      live-stays h a q =
+      live-stays h =
           kept-advances (live_tick b s w) before 11 0 s (ap tick_outcome (live-bad (w ∷ []) (0 ∷ []) (0 ∷ []) (sym e ∙ h)))
-          (omega arith) a (ap reply q)
+          (omega arith) BadHeader refl
 
-      pub live-advances : (n : ℕ) → n ≡ 10 * table_end b → t ≡ false → (r : TickReport) (after : List ℕ)
+      pub live-advances : (n : ℕ) → n ≡ 10 * table_end b → t ≡ false → (r : TickAnswer) (after : List ℕ)
           → GivesTickOn (tick_outcome (table_run (take n b) s (w ∷ []) (0 ∷ []) (0 ∷ []))) before r after
           → GivesTickOn (live_tick b s w) before r after
       unfolding live_tick
@@ -110,23 +109,29 @@ module _ (t before : List ℕ) where
   early : (k j : ℕ) → image_verdict t ≡ refused k j → Early k
   early k j e = subst (RefusesWith Early) e (early-image t)
 
-  module _ (a : Answer) (gives : reply a ≡ verdict_reply (image_verdict t) 0) (k j m : ℕ) (e : a ≡ Refused k j m) where
+  module _ (a : Answer) (gives : reply a ≡ verdict_reply (image_verdict t) 0) (r : Refusal) (e : a ≡ Err r) where
+    abbrev k : ℕ
+    k = number_of r
+
+    abbrev j : ℕ
+    j = index_of r
+
     verdict : image_verdict t ≡ refused k j
-    verdict = (refused-verdict a (image_verdict t) 0 gives k j m e).0
+    verdict = (err-refused a (image_verdict t) 0 gives r e).0
 
-    told : reply a ≡ refusal k j 0
-    told = gives ∙ ap (λ (v : Verdict). verdict_reply v 0) verdict
+    told : reply (Err r) ≡ refusal k j 0
+    told = ap (refusal k j) (err-refused a (image_verdict t) 0 gives r e).1
 
-    pub image-refused : (ws ms ks : List ℕ) → GivesRunOn (run t state₀ ws ms ks) before a before ms ks
+    pub image-refused : (ws ms ks : List ℕ) → GivesRunOn (run t state₀ ws ms ks) before (Err r) before ms ks
     image-refused ws ms ks =
         kept-runs (run t state₀ ws ms ks) before ms ks k j state₀ (image-kept ws ms ks k j verdict)
-        (early k j verdict).0 (early k j verdict).1 a told
+        (early k j verdict).0 (early k j verdict).1 (Err r) told
 
-    pub image-stays : (w : ℕ) → GivesTickOn (image_tick t state₀ w) before (record { answer = a; mask = 0; code = 0 }) before
+    pub image-stays : (w : ℕ) → GivesTickOn (image_tick t state₀ w) before (Err r) before
     unfolding image_tick
     image-stays w =
         kept-advances (image_tick t state₀ w) before k j state₀ (ap tick_outcome (image-kept (w ∷ []) (0 ∷ []) (0 ∷ []) k j verdict))
-        (early k j verdict).0 a told
+        (early k j verdict).0 r told
 
   module _ (b : List ℕ) (made : MadeTable t b) where
     pub image-runs : (ws ms ks : List ℕ) (a : Answer) (after us vs : List ℕ)
@@ -134,7 +139,7 @@ module _ (t before : List ℕ) where
     image-runs ws ms ks a after us vs r =
         subst (λ (x : RunOutcome). GivesRunOn x before a after us vs) (table_is ws ms ks b made.accepted made.holds) r
 
-    pub image-advances : (w : ℕ) (r : TickReport) (after : List ℕ)
+    pub image-advances : (w : ℕ) (r : TickAnswer) (after : List ℕ)
         → GivesTickOn (tick_outcome (table_run b state₀ (w ∷ []) (0 ∷ []) (0 ∷ []))) before r after
         → GivesTickOn (image_tick t state₀ w) before r after
     unfolding image_tick

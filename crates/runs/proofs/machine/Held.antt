@@ -42,7 +42,7 @@ module _ (b : List ℕ) where
         → state_of (pick (is_without_change (reply_number (counted_reply v n))) b (bytes_of ran.state)) ≡ ran.state
     ran-held fine l n = back ran.state (ticks-same i ws s)
     ran-held (refused k j) l n =
-        ap state_of (no-pick (is_without_change k) b (bytes_of ran.state) (late-writes k l)) ∙ back ran.state (ticks-same i ws s)
+        ap state_of (no-pick (is_without_change k) b (bytes_of ran.state) (late-writes k l.0)) ∙ back ran.state (ticks-same i ws s)
 
     pub run-held : (v : Verdict) → state_of (bytes_after b (run_on v (λ _. ran) s ms ks)) ≡ (run_on v (λ _. ran) s ms ks).state
     unfolding bytes_after

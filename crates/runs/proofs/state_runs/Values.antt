@@ -5,7 +5,7 @@ use Prim.Native.Nat.{ℕ}
 use lib.ListN.{length}
 use Rattle.text.specs.frames.Frame.{contents}
 use Rattle.text.specs.frames.Verdict.{Verdict}
-use Rattle.text.specs.declared.frames.Answer.{Answer}
+use Rattle.text.specs.frames.Answer.{Answer}
 use Rattle.image.specs.Image.{Image}
 use Rattle.image.specs.Decode.{decoded_image}
 use Rattle.tables.specs.Table.{table_image}
@@ -13,9 +13,8 @@ use Rattle.state.specs.declared.State.{State}
 use Rattle.state.specs.State.{Sized}
 use Rattle.state.specs.Bytes.{state_of, bytes_of}
 use Rattle.state.proofs.ResultBytes.{state-back}
-use Rattle.runs.specs.declared.TickReport.{TickReport}
 use Rattle.runs.specs.Run.{GivesRun, ticks, run_verdict, run_on, run}
-use Rattle.runs.specs.TickOutcome.{GivesTick, tick_outcome, image_tick}
+use Rattle.runs.specs.TickOutcome.{TickAnswer, GivesTick, tick_outcome, image_tick}
 use Rattle.runs.specs.InPlace.{GivesRunOn, GivesTickOn}
 use Rattle.runs.specs.machine.Live.{live_verdict, live_run, live_tick}
 use Rattle.runs.proofs.machine.Held.{run-held, tick-held}
@@ -40,7 +39,7 @@ module _ (state : State) (sized : Sized state) (bits : length state.bits ≡ 16)
           codes = r.codes;
         })
 
-    value-tick : (i : Image) (v : State → Verdict) (w : ℕ) (r : TickReport) (after : List ℕ) (u : State) → u ≡ state_of after
+    value-tick : (i : Image) (v : State → Verdict) (w : ℕ) (r : TickAnswer) (after : List ℕ) (u : State) → u ≡ state_of after
         → GivesTickOn (tick_outcome (run_on (v (state_of bytes)) (λ _. ticks i (state_of bytes) (w ∷ [])) (state_of bytes) (0 ∷ [])
         (0 ∷ [])))
         bytes r after
@@ -66,12 +65,12 @@ module _ (state : State) (sized : Sized state) (bits : length state.bits ≡ 16)
     unfolding live_run
     live-run-value b ws ms ks = value-run (table_image b) (λ s. live_verdict b s ws ms ks) ws ms ks
 
-    pub tick-value : (t : List ℕ) (w : ℕ) (r : TickReport) (after : List ℕ) (u : State) → u ≡ state_of after
+    pub tick-value : (t : List ℕ) (w : ℕ) (r : TickAnswer) (after : List ℕ) (u : State) → u ≡ state_of after
         → GivesTickOn (image_tick t (state_of bytes) w) bytes r after → GivesTick (image_tick t state w) r u
     unfolding image_tick run
     tick-value t w = value-tick (decoded_image (contents t)) (λ s. run_verdict t s (w ∷ []) (0 ∷ []) (0 ∷ [])) w
 
-    pub live-tick-value : (b : List ℕ) (w : ℕ) (r : TickReport) (after : List ℕ) (u : State) → u ≡ state_of after
+    pub live-tick-value : (b : List ℕ) (w : ℕ) (r : TickAnswer) (after : List ℕ) (u : State) → u ≡ state_of after
         → GivesTickOn (live_tick b (state_of bytes) w) bytes r after → GivesTick (live_tick b state w) r u
     unfolding live_tick live_run
     live-tick-value b w = value-tick (table_image b) (λ s. live_verdict b s (w ∷ []) (0 ∷ []) (0 ∷ [])) w

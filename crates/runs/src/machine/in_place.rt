@@ -5,14 +5,13 @@ ghost use Rattle.runs.specs.TickOutcome.{image_tick};
 ghost use Rattle.runs.specs.machine.Live.{live_run, live_tick};
 ghost use Rattle.runs.specs.InPlace.{GivesRunOn, GivesTickOn};
 
-use super::TickReport;
+use crate::Tick;
 use crate::table_runs::{run_table, tick_table};
 use state::layout::STATE_BYTES;
 use tables::preparing::prepare_table;
 use tables::{bad_table, table_length};
-use text::frames::refusals::BAD_HEADER;
+use text::frames::Refusal;
 use text::frames::sizes::{FRAME, LINE, TABLE};
-use text::frames::{Answer, refused};
 
 // What the image check tries, 15 and 16 before the first tick, 17 and 18 tick by tick.
 pub fn run_bytes(
@@ -21,33 +20,23 @@ pub fn run_bytes(
     words: &[u16],
     masks: &mut [u32],
     codes: &mut [u8],
-) -> Answer
+) -> Result<usize, Refusal>
     ensures { GivesRunOn (run image.now (state_of bytes.old) words.now masks.old
         codes.old) bytes.old result bytes.new masks.new codes.new }
 {
     let mut table = [0u8; TABLE];
-    let answer = prepare_table(image, &mut table);
-    let Answer::Done(_) = answer else {
-        return answer;
-    };
+    prepare_table(image, &mut table)?;
     let n = FRAME * (image.len() / LINE);
     run_table(&table[..n], bytes, words, masks, codes)
 }
 
 // One tick: what a run tries but 16.
-pub fn tick_bytes(image: &[u8], bytes: &mut [u8; STATE_BYTES], word: u16) -> TickReport
+pub fn tick_bytes(image: &[u8], bytes: &mut [u8; STATE_BYTES], word: u16) -> Result<Tick, Refusal>
     ensures { GivesTickOn (image_tick image.now (state_of bytes.old) word)
         bytes.old result bytes.new }
 {
     let mut table = [0u8; TABLE];
-    let answer = prepare_table(image, &mut table);
-    let Answer::Done(_) = answer else {
-        return TickReport {
-            answer,
-            mask: 0,
-            code: 0,
-        };
-    };
+    prepare_table(image, &mut table)?;
     let n = FRAME * (image.len() / LINE);
     tick_table(&table[..n], bytes, word)
 }
@@ -59,29 +48,28 @@ pub fn live_run_bytes(
     words: &[u16],
     masks: &mut [u32],
     codes: &mut [u8],
-) -> Answer
+) -> Result<usize, Refusal>
     ensures { GivesRunOn (live_run table.now (state_of bytes.old) words.now masks.old
         codes.old) bytes.old result bytes.new masks.new codes.new }
 {
     if bad_table(table) {
-        return refused(BAD_HEADER, 0);
+        return Err(Refusal::BadHeader);
     }
     let n = table_length(table);
     run_table(&table[..n], bytes, words, masks, codes)
 }
 
 // One tick on a prepared table.
-pub fn live_tick_bytes(table: &[u8], bytes: &mut [u8; STATE_BYTES], word: u16) -> TickReport
+pub fn live_tick_bytes(
+    table: &[u8],
+    bytes: &mut [u8; STATE_BYTES],
+    word: u16,
+) -> Result<Tick, Refusal>
     ensures { GivesTickOn (live_tick table.now (state_of bytes.old) word)
         bytes.old result bytes.new }
 {
     if bad_table(table) {
-        let answer = refused(BAD_HEADER, 0);
-        return TickReport {
-            answer,
-            mask: 0,
-            code: 0,
-        };
+        return Err(Refusal::BadHeader);
     }
     let n = table_length(table);
     tick_table(&table[..n], bytes, word)

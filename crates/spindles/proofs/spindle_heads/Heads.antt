@@ -8,8 +8,10 @@ use lib.ListN.{get_or}
 use borrow.Author.Tests.{lt-ltb, le-ltb}
 use Rattle.text.specs.frames.Verdict.{Verdict, fine, refused, next, when}
 use Rattle.text.specs.frames.Answer.{refusal, reply, verdict_reply}
-use Rattle.text.specs.declared.frames.Answer.{Answer}
-use Rattle.text.specs.declared.frames.Answer.TheVariants.{Refused}
+use Rattle.std.proofs.Common.{Ok, Err}
+use Rattle.text.specs.declared.frames.refusals.Refusal.{Refusal}
+use Rattle.text.proofs.frames.Chains.{no-success}
+use Rattle.text.specs.declared.frames.refusals.Refusal.TheVariants.{BadHeader, Unfit, NoSpindle}
 use Rattle.text.specs.frames.Frame.{contents}
 use Rattle.image.specs.Decode.{decoded_image}
 use Rattle.image.specs.Check.{image_verdict}
@@ -19,50 +21,50 @@ use Rattle.state.specs.Bytes.{state_of}
 use Rattle.fitness.specs.Fitness.{has_bad_depth, is_unfit}
 use Rattle.fitness.proofs.FitCases.{unfit-depth}
 use Rattle.runs.specs.Run.{MachineRun, run_on, run_verdict, run}
-use Rattle.runs.specs.TickOutcome.{image_tick}
-use Rattle.spindles.specs.declared.SpinReport.{SpinReport}
+use Rattle.runs.specs.TickOutcome.{image_tick, TickAnswer, tick_reply, answered_mask, answered_code}
 use Rattle.spindles.specs.inner.HeadAndTurn.{refused_head, GivesRefusedHead}
 
-refuses : (u : Verdict) (taken n i : ℕ) → u ≡ refused n i → (a : Answer) → reply a ≡ refusal n i 0 → (r : SpinReport)
-    → r ≡ record { answer = a; mask = 0; code = 0; taken = taken } → GivesRefusedHead u taken r
-refuses u taken n i e a f r g = record {
-  answered = ap (λ (x : SpinReport). reply x.answer) g ∙ f ∙ sym (ap (λ (v : Verdict). verdict_reply v 0) e);
-  mask = ap (λ (x : SpinReport). x.mask) g;
-  code = ap (λ (x : SpinReport). x.code) g;
-  taken = ap (λ (x : SpinReport). x.taken) g;
-}
+refuses : (u : Verdict) (taken n i : ℕ) → u ≡ refused n i → (x : Refusal) → reply (Err x) ≡ refusal n i 0
+    → GivesRefusedHead u taken (record { answer = Err x; taken = taken })
+refuses u taken n i e x f = record { answered = f ∙ sym (ap (λ (v : Verdict). verdict_reply v 0) e); mask = refl; code = refl; taken = refl }
+
+-- an answer that stands for a refusal has no mask and no code
+no-tick : (a : TickAnswer) (n i : ℕ) → tick_reply a ≡ refusal n i 0 → (answered_mask a ≡ 0) × (answered_code a ≡ 0)
+no-tick (Ok t) n i e = no-success n i 0 1 (sym e)
+no-tick (Err r) n i e = (refl, refl)
 
 module _ (v : Verdict) (k taken : ℕ) where
-  abbrev Told : Answer → SpinReport → Type 0
-  Told a r = r ≡ record { answer = a; mask = 0; code = 0; taken = taken }
-
-  pub no-spindle : 3 < k → (a : Answer) → a ≡ Refused 25 0 0 → (r : SpinReport) → Told a r → GivesRefusedHead (refused_head v k) taken r
+  pub no-spindle : 3 < k → GivesRefusedHead (refused_head v k) taken (record { answer = Err NoSpindle; taken = taken })
   unfolding refused_head
-  no-spindle l a e =
-      refuses (refused_head v k) taken 25 0 (ap (λ (t : Bool). next (when 25 t) λ _. next v λ _. refused 15 0) (lt-ltb 3 k l)) a
-      (ap reply e)
+  no-spindle l =
+      refuses (refused_head v k) taken 25 0 (ap (λ (t : Bool). next (when 25 t) λ _. next v λ _. refused 15 0) (lt-ltb 3 k l)) NoSpindle refl
 
   module _ (l : k ≤ 3) where
     named : refused_head v k ≡ next v λ _. refused 15 0
     unfolding refused_head
     named = ap (λ (t : Bool). next (when 25 t) λ _. next v λ _. refused 15 0) (le-ltb 3 k l)
 
-    pub bad-image : (n i : ℕ) → v ≡ refused n i → (a : Answer) → reply a ≡ refusal n i 0 → (r : SpinReport) → Told a r
-        → GivesRefusedHead (refused_head v k) taken r
-    bad-image n i e = refuses (refused_head v k) taken n i (named ∙ ap (λ (u : Verdict). next u λ _. refused 15 0) e)
+    pub bad-header : v ≡ refused 11 0 → GivesRefusedHead (refused_head v k) taken (record { answer = Err BadHeader; taken = taken })
+    bad-header e = refuses (refused_head v k) taken 11 0 (named ∙ ap (λ (u : Verdict). next u λ _. refused 15 0) e) BadHeader refl
 
-    pub bad-list : v ≡ fine → (a : Answer) → a ≡ Refused 15 0 0 → (r : SpinReport) → Told a r → GivesRefusedHead (refused_head v k) taken r
-    bad-list e a f = refuses (refused_head v k) taken 15 0 (named ∙ ap (λ (u : Verdict). next u λ _. refused 15 0) e) a (ap reply f)
+    pub bad-list : v ≡ fine → GivesRefusedHead (refused_head v k) taken (record { answer = Err Unfit; taken = taken })
+    bad-list e = refuses (refused_head v k) taken 15 0 (named ∙ ap (λ (u : Verdict). next u λ _. refused 15 0) e) Unfit refl
 
     -- by what a tick answers that is refused with what the image is, or 15
-    pub tick-refused : (a : Answer) → reply a ≡ verdict_reply (next v λ _. refused 15 0) 0 → (r : SpinReport) → Told a r
-        → GivesRefusedHead (refused_head v k) taken r
-    tick-refused a f r g = record {
-      answered = ap (λ (x : SpinReport). reply x.answer) g ∙ f ∙ sym (ap (λ (u : Verdict). verdict_reply u 0) named);
-      mask = ap (λ (x : SpinReport). x.mask) g;
-      code = ap (λ (x : SpinReport). x.code) g;
-      taken = ap (λ (x : SpinReport). x.taken) g;
-    }
+    pub tick-refused : (a : TickAnswer) → tick_reply a ≡ verdict_reply (next v λ _. refused 15 0) 0
+        → GivesRefusedHead (refused_head v k) taken (record { answer = a; taken = taken })
+    tick-refused a f =
+        let none = go v f in
+        record {
+          answered = f ∙ sym (ap (λ (u : Verdict). verdict_reply u 0) named);
+          mask = none.0;
+          code = none.1;
+          taken = refl;
+        }
+      where
+        go : (u : Verdict) → tick_reply a ≡ verdict_reply (next u λ _. refused 15 0) 0 → (answered_mask a ≡ 0) × (answered_code a ≡ 0)
+        go fine e = no-tick a 15 0 e
+        go (refused n i) e = no-tick a n i e
 
 module _ (s : State) (masks codes : List ℕ) (go : Unit {0} → MachineRun) (last : Verdict) where
   -- a run of a state that does not fit

@@ -10,9 +10,9 @@ use Rattle.words.specs.lists.Pick.{pick}
 use Rattle.words.proofs.lists.Tests.{or_l, or_r, not-false, yes-pick, no-pick}
 use Rattle.text.specs.frames.Frame.{contents}
 use Rattle.text.specs.frames.Verdict.{Verdict, fine, refused, next, when}
-use Rattle.text.specs.frames.Answer.{refusal, reply, verdict_reply}
-use Rattle.text.specs.declared.frames.Answer.{Answer}
-use Rattle.text.specs.declared.frames.Answer.TheVariants.{Refused}
+use Rattle.text.specs.frames.Answer.{refusal, verdict_reply}
+use Rattle.std.proofs.Common.{Err}
+use Rattle.text.specs.declared.frames.refusals.Refusal.TheVariants.{NoPlace}
 use Rattle.text.proofs.frames.Refuses.{RefusesWith, when-refuses}
 use Rattle.image.proofs.Refuses.{Early, early-image}
 use Rattle.image.specs.Image.{Image}
@@ -21,9 +21,8 @@ use Rattle.image.specs.Check.{image_verdict}
 use Rattle.tables.specs.Table.{is_bad_table, table_image}
 use Rattle.state.specs.declared.State.{State}
 use Rattle.state.specs.Bytes.{state_of, bytes_of}
-use Rattle.runs.specs.declared.TickReport.{TickReport}
 use Rattle.runs.specs.Run.{run, run_verdict}
-use Rattle.runs.specs.TickOutcome.{TickOutcome, image_tick}
+use Rattle.runs.specs.TickOutcome.{TickOutcome, TickAnswer, image_tick, tick_reply, answered_mask, answered_code}
 use Rattle.runs.specs.InPlace.{if_ticked, GivesTickOn}
 use Rattle.runs.specs.machine.Live.{live_verdict, live_run, live_tick}
 use Rattle.runs.proofs.machine.Held.{tick-held}
@@ -77,53 +76,47 @@ record-holds sum taken depth e l =
 
 -- ---- what is settled after a tick
 -- by the depths as they are read, and the test as it comes out
-module _ (before new : List ℕ) (ticked : TickReport) (taken d₀ d₁ : ℕ) (e₀ : d₀ ≡ depth_in before) (e₁ : d₁ ≡ depth_in new) (b : Bool)
+module _ (before new : List ℕ) (ticked : TickAnswer) (taken d₀ d₁ : ℕ) (e₀ : d₀ ≡ depth_in before) (e₁ : d₁ ≡ depth_in new) (b : Bool)
     (tested : b ≡ is_none_left d₀ d₁ taken) where
   test-is : is_none_left (depth_in before) (depth_in new) taken ≡ b
   test-is = ap₂ (λ (x y : ℕ). is_none_left x y taken) (sym e₀) (sym e₁) ∙ sym tested
 
-  pub settles-none : b ≡ true → (a : Answer) → a ≡ Refused 26 0 0 → (r : SpinReport)
-      → r ≡ record { answer = a; mask = 0; code = 0; taken = taken }
-      → GivesSettled before new ticked taken r before
-  settles-none l a f r e = record {
-    report = e ∙ ap (λ (x : Answer). record { answer = x; mask = 0; code = 0; taken = taken }) f
-        ∙ sym (yes-pick (is_none_left (depth_in before) (depth_in new) taken) _ _ (test-is ∙ l));
+  pub settles-none : b ≡ true → GivesSettled before new ticked taken (record { answer = Err NoPlace; taken = taken }) before
+  settles-none l = record {
+    report = sym (yes-pick (is_none_left (depth_in before) (depth_in new) taken) _ _ (test-is ∙ l));
     bytes = sym (yes-pick (is_none_left (depth_in before) (depth_in new) taken) before new (test-is ∙ l));
   }
 
-  pub settles-free : b ≡ false
-      → GivesSettled before new ticked taken
-      (record { answer = ticked.answer; mask = ticked.mask; code = ticked.code; taken = taken + d₁ - d₀ }) new
+  pub settles-free : b ≡ false → GivesSettled before new ticked taken (record { answer = ticked; taken = taken + d₁ - d₀ }) new
   settles-free l = record {
-    report = ap₂ (λ (x y : ℕ). record { answer = ticked.answer; mask = ticked.mask; code = ticked.code; taken = taken + y - x }) e₀ e₁
+    report = ap₂ (λ (x y : ℕ). record { answer = ticked; taken = taken + y - x }) e₀ e₁
         ∙ sym (no-pick (is_none_left (depth_in before) (depth_in new) taken) _ _ (test-is ∙ l));
     bytes = sym (no-pick (is_none_left (depth_in before) (depth_in new) taken) before new (test-is ∙ l));
   }
 
-module _ (before new after : List ℕ) (ticked : TickReport) (taken : ℕ) (r : SpinReport) where
+module _ (before new after : List ℕ) (ticked : TickAnswer) (taken : ℕ) (r : SpinReport) where
   -- with the tick in place
   module _ (x : TickOutcome) (held : Held before x) (made : GivesTickOn x before ticked new) where
     deep : depth_in new ≡ x.state.depth
     deep = ap (λ (b : List ℕ). (state_of b).depth) made.bytes ∙ ap (λ (s : State). s.depth) held
 
     turned : (b : Bool)
-        → r ≡ pick b (record { answer = Refused 26 0 0; mask = 0; code = 0; taken = taken })
-        (record { answer = ticked.answer; mask = ticked.mask; code = ticked.code; taken = taken + x.state.depth - depth_in before })
+        → r ≡ pick b (record { answer = Err NoPlace; taken = taken }) (record { answer = ticked; taken = taken + x.state.depth - depth_in before })
         → after ≡ pick b before new
         → GivesTurnOn (pick b (unchanged_turn 26 0 (state_of before) taken)
         (record { reply = x.reply; mask = x.mask; code = x.code; taken = taken + x.state.depth - depth_in before; state = x.state }))
         before r after
     turned true e f = record {
-      answered = ap (λ (y : SpinReport). reply y.answer) e;
-      mask = ap (λ (y : SpinReport). y.mask) e;
-      code = ap (λ (y : SpinReport). y.code) e;
+      answered = ap (λ (y : SpinReport). tick_reply y.answer) e;
+      mask = ap (λ (y : SpinReport). answered_mask y.answer) e;
+      code = ap (λ (y : SpinReport). answered_code y.answer) e;
       taken = ap (λ (y : SpinReport). y.taken) e;
       bytes = f;
     }
     turned false e f = record {
-      answered = ap (λ (y : SpinReport). reply y.answer) e ∙ made.answered;
-      mask = ap (λ (y : SpinReport). y.mask) e ∙ made.mask;
-      code = ap (λ (y : SpinReport). y.code) e ∙ made.code;
+      answered = ap (λ (y : SpinReport). tick_reply y.answer) e ∙ made.answered;
+      mask = ap (λ (y : SpinReport). answered_mask y.answer) e ∙ made.mask;
+      code = ap (λ (y : SpinReport). answered_code y.answer) e ∙ made.code;
       taken = ap (λ (y : SpinReport). y.taken) e;
       bytes = f ∙ made.bytes;
     }
@@ -133,12 +126,11 @@ module _ (before new after : List ℕ) (ticked : TickReport) (taken : ℕ) (r : 
         turned (has_no_place taken (state_of before) x)
         (z.report ∙ ap
         (λ (d : ℕ). pick (ltb (depth_in before) d && leb 64 taken)
-        (record { answer = Refused 26 0 0; mask = 0; code = 0; taken = taken })
-        (record { answer = ticked.answer; mask = ticked.mask; code = ticked.code; taken = taken + d - depth_in before })) deep)
+        (record { answer = Err NoPlace; taken = taken }) (record { answer = ticked; taken = taken + d - depth_in before })) deep)
         (z.bytes ∙ ap (λ (d : ℕ). pick (ltb (depth_in before) d && leb 64 taken) before new) deep)
 
 -- a turn whose record holds
-module _ (t before new after : List ℕ) (ticked : TickReport) (sum taken w : ℕ) (r : SpinReport) (good : is_bad_record sum taken ≡ false)
+module _ (t before new after : List ℕ) (ticked : TickAnswer) (sum taken w : ℕ) (r : SpinReport) (good : is_bad_record sum taken ≡ false)
     (settles : GivesSettled before new ticked taken r after) where
   pub image-turns : GivesTickOn (image_tick t (state_of before) w) before ticked new
       → GivesTurnOn (turn (image_verdict t) (state_of before) sum taken (image_tick t (state_of before) w)) before r after
@@ -174,7 +166,7 @@ record-refused v numbered before sum taken x r e z =
     subst (λ (t : Bool). GivesTurnOn (turn_on (next v λ _. when 15 t) (state_of before) taken x) before r before) (sym e)
     (go v numbered z.answered)
   where
-    go : (u : Verdict) → NumberedVerdict u → reply r.answer ≡ verdict_reply (next u λ _. refused 15 0) 0
+    go : (u : Verdict) → NumberedVerdict u → tick_reply r.answer ≡ verdict_reply (next u λ _. refused 15 0) 0
         → GivesTurnOn (turn_on (next u λ _. when 15 true) (state_of before) taken x) before r before
     go fine l q = record { answered = q; mask = z.mask; code = z.code; taken = z.taken; bytes = refl }
     go (refused n i) l q = record {

@@ -3,10 +3,10 @@ use Rattle.std.specs.Prelude.{ℕ, ◌+◌, ◌-◌, Bool, ◌||◌, not, ◌≡
 use Rattle.words.specs.lists.Pick.{pick}
 use Rattle.text.specs.declared.frames.refusals.TheConstants.{UNFIT, NO_SPINDLE, NO_PLACE}
 use Rattle.text.specs.frames.Verdict.{Verdict, fine, refused, next, when}
-use Rattle.text.specs.frames.Answer.{Reply, refusal, reply_number, reply, verdict_reply}
+use Rattle.text.specs.frames.Answer.{Reply, refusal, reply_number, verdict_reply}
 use Rattle.state.specs.declared.State.{State}
 use Rattle.state.specs.Bytes.{bytes_of}
-use Rattle.runs.specs.TickOutcome.{TickOutcome}
+use Rattle.runs.specs.TickOutcome.{TickOutcome, tick_reply, answered_mask, answered_code}
 use Rattle.spindles.specs.declared.layout.TheConstants.{SPINDLES, STORE}
 use Rattle.spindles.specs.declared.SpinReport.{SpinReport}
 use Rattle.spindles.specs.Spindles.{state_at, SpinOutcome, outcome_turned_back, has_no_place}
@@ -28,9 +28,9 @@ refused_head v k =
 
 -- what a function that refuses it promises
 pub record GivesRefusedHead (v : Verdict) (recorded : ℕ) (r : SpinReport) : Type 0 where
-  pub answered : reply r.answer ≡ verdict_reply v 0
-  pub mask : r.mask ≡ 0
-  pub code : r.code ≡ 0
+  pub answered : tick_reply r.answer ≡ verdict_reply v 0
+  pub mask : answered_mask r.answer ≡ 0
+  pub code : answered_code r.answer ≡ 0
   pub taken : r.taken ≡ recorded
 
 -- ---- the turn of one spindle: what is told of it, and its state after it
@@ -59,16 +59,16 @@ turn v s sum taken x = turn_on (next v λ _. when UNFIT (is_bad_record sum taken
 
 -- what a function promises that makes a turn of a state, and of the bytes of one
 pub record GivesTurn (x : TurnOutcome) (r : SpinReport) (after : State) : Type 0 where
-  pub answered : reply r.answer ≡ x.reply
-  pub mask : r.mask ≡ x.mask
-  pub code : r.code ≡ x.code
+  pub answered : tick_reply r.answer ≡ x.reply
+  pub mask : answered_mask r.answer ≡ x.mask
+  pub code : answered_code r.answer ≡ x.code
   pub taken : r.taken ≡ x.taken
   pub state : after ≡ x.state
 
 pub record GivesTurnOn (x : TurnOutcome) (before : List ℕ) (r : SpinReport) (after : List ℕ) : Type 0 where
-  pub answered : reply r.answer ≡ x.reply
-  pub mask : r.mask ≡ x.mask
-  pub code : r.code ≡ x.code
+  pub answered : tick_reply r.answer ≡ x.reply
+  pub mask : answered_mask r.answer ≡ x.mask
+  pub code : answered_code r.answer ≡ x.code
   pub taken : r.taken ≡ x.taken
   pub bytes : after ≡ pick (eqb (reply_number x.reply) 0) (bytes_of x.state) before
 

@@ -2,9 +2,10 @@
 use Rattle.std.specs.Prelude.{ℕ, ◌*◌, ◌≡◌, List, eqb}
 use Rattle.words.specs.lists.Pick.{pick}
 use Rattle.words.specs.lists.Sequences.{written}
-use Rattle.text.specs.frames.Answer.{reply_number, reply}
+use Rattle.text.specs.frames.Answer.{reply_number}
 use Rattle.state.specs.declared.layout.TheConstants.{STATE_BYTES}
 use Rattle.state.specs.Bytes.{bytes_of}
+use Rattle.runs.specs.TickOutcome.{tick_reply, answered_mask, answered_code}
 use Rattle.spindles.specs.declared.SpinReport.{SpinReport}
 use Rattle.spindles.specs.Spindles.{state_at, SpinOutcome}
 
@@ -17,8 +18,8 @@ bytes_spun before k x = if_spun x (written before (STATE_BYTES * k) (bytes_of (s
 
 -- what a function over the bytes of four states promises
 pub record GivesSpinOn (x : SpinOutcome) (before : List ℕ) (k : ℕ) (r : SpinReport) (after : List ℕ) : Type 0 where
-  pub answered : reply r.answer ≡ x.reply
-  pub mask : r.mask ≡ x.mask
-  pub code : r.code ≡ x.code
+  pub answered : tick_reply r.answer ≡ x.reply
+  pub mask : answered_mask r.answer ≡ x.mask
+  pub code : answered_code r.answer ≡ x.code
   pub taken : r.taken ≡ x.taken
   pub bytes : after ≡ bytes_spun before k x

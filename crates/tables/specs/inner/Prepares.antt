@@ -5,8 +5,7 @@ use Rattle.text.specs.declared.frames.sizes.TheConstants.{IMAGE_TEXT}
 use Rattle.text.specs.frames.Frame.{contents}
 use Rattle.text.specs.frames.Verdict.{fine, refused}
 use Rattle.text.specs.frames.inner.Read.{read_buffer}
-use Rattle.text.specs.frames.Answer.{reply, verdict_reply}
-use Rattle.text.specs.declared.frames.Answer.{Answer}
+use Rattle.text.specs.frames.Answer.{Answer, reply, verdict_reply}
 use Rattle.image.specs.Check.{image_verdict}
 use Rattle.tables.specs.Prepare.{noted_table}
 

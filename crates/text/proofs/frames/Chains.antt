@@ -8,9 +8,10 @@ use borrow.Author.Tests.{lt-ltb, le-ltb}
 use Rattle.words.specs.lists.Numbers.{lowest}
 use Rattle.words.proofs.lists.Tests.{yes-pick, no-pick}
 use Rattle.text.specs.frames.Verdict.{Verdict, fine, refused, next, when, at_lowest}
-use Rattle.text.specs.frames.Answer.{success, refusal, reply_count, reply, counted_reply, verdict_reply}
-use Rattle.text.specs.declared.frames.Answer.{Answer}
-use Rattle.text.specs.declared.frames.Answer.TheVariants.{Done, Refused}
+use Rattle.std.proofs.Common.{Ok, Err}
+use Rattle.text.specs.declared.frames.refusals.Refusal.{Refusal}
+use Rattle.text.specs.frames.Refusal.{number_of, index_of, ticks_of}
+use Rattle.text.specs.frames.Answer.{Answer, success, refusal, reply_count, reply, counted_reply, verdict_reply}
 
 -- ---- one link
 pub when-holds : (k : ℕ) (b : Bool) → b ≡ true → when k b ≡ refused k 0
@@ -50,25 +51,26 @@ replied-count (refused k i) n = refl
 pub judged-refused : (v : Verdict) (k i n : ℕ) → v ≡ refused k i → refusal k i 0 ≡ verdict_reply v n
 judged-refused v k i n e = sym (ap (λ w. verdict_reply w n) e)
 
--- the same through the function that makes a refusal
-pub refused-judged : (a : Answer) (v : Verdict) (k i n : ℕ) → a ≡ Refused k i 0 → v ≡ refused k i → reply a ≡ verdict_reply v n
-refused-judged a v k i n e q = ap reply e ∙ judged-refused v k i n q
+-- the same of a refusal that is handed on
+pub err-judged : (v : Verdict) (r : Refusal) (n : ℕ) → v ≡ refused (number_of r) (index_of r) → ticks_of r ≡ 0 → reply (Err r) ≡ verdict_reply v n
+err-judged v r n e t = ap (refusal (number_of r) (index_of r)) t ∙ judged-refused v (number_of r) (index_of r) n e
 
 pub judged-fine : (v : Verdict) (n : ℕ) → v ≡ fine → success n ≡ verdict_reply v n
 judged-fine v n e = sym (ap (λ w. verdict_reply w n) e)
 
--- an answer that is Done, or Refused: what it tells of the verdict
+-- an answer that is Ok, or Err: what it tells of the verdict
 module _ (a : Answer) (v : Verdict) (n : ℕ) (gives : reply a ≡ verdict_reply v n) where
-  pub done-fine : (m : ℕ) → a ≡ Done m → (v ≡ fine) × (m ≡ n)
-  done-fine m e = go v (sym (ap reply e) ∙ gives)
+  pub ok-fine : (m : ℕ) → a ≡ Ok m → (v ≡ fine) × (m ≡ n)
+  ok-fine m e = go v (sym (ap reply e) ∙ gives)
     where
       go : (w : Verdict) → success m ≡ verdict_reply w n → (w ≡ fine) × (m ≡ n)
       go fine q = (refl, cc)
       go (refused k i) q = absurd (let z : ◌≡◌ {A = ℕ} 0 1 = cc in omega arith)
 
-  pub refused-verdict : (k i m : ℕ) → a ≡ Refused k i m → (v ≡ refused k i) × (m ≡ 0)
-  refused-verdict k i m e = go v (sym (ap reply e) ∙ gives)
+  pub err-refused : (r : Refusal) → a ≡ Err r → (v ≡ refused (number_of r) (index_of r)) × (ticks_of r ≡ 0)
+  err-refused r e = go v (sym (ap reply e) ∙ gives)
     where
-      go : (w : Verdict) → refusal k i m ≡ verdict_reply w n → (w ≡ refused k i) × (m ≡ 0)
+      go : (w : Verdict) → refusal (number_of r) (index_of r) (ticks_of r) ≡ verdict_reply w n
+          → (w ≡ refused (number_of r) (index_of r)) × (ticks_of r ≡ 0)
       go fine q = absurd (let z : ◌≡◌ {A = ℕ} 0 1 = cc in omega arith)
       go (refused l j) q = (cc, cc)

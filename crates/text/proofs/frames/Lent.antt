@@ -11,9 +11,11 @@ use borrow.Author.Tests.{lt-ltb, le-ltb, ltb-false}
 use Rattle.words.specs.lists.Pick.{pick}
 use Rattle.words.specs.lists.Sequences.{over}
 use Rattle.text.specs.frames.Verdict.{Verdict, fine, refused}
-use Rattle.text.specs.frames.Answer.{success, refusal, reply, BufferOutcome, GivesBuffer, buffer_on}
-use Rattle.text.specs.declared.frames.Answer.{Answer}
-use Rattle.text.specs.declared.frames.Answer.TheVariants.{Done, Refused}
+use Rattle.std.proofs.Common.{Ok, Err}
+use Rattle.text.specs.declared.frames.refusals.Refusal.{Refusal}
+use Rattle.text.specs.declared.frames.refusals.Refusal.TheVariants.{NoRoom}
+use Rattle.text.specs.frames.Refusal.{number_of, index_of, ticks_of}
+use Rattle.text.specs.frames.Answer.{Answer, success, refusal, reply, BufferOutcome, GivesBuffer, buffer_on}
 
 -- all of xs stands at the front, counted by units
 abbrev pub buffer_filled_with : ℕ → List ℕ → List ℕ → BufferOutcome
@@ -54,7 +56,11 @@ module _ (v : Verdict) (unit : ℕ) (new : Unit {0} → List ℕ) (old : List �
     written = sym (ap (λ w. (buffer_on w unit new old).buffer) e);
   }
 
-  pub lent-short : v ≡ fine → length old < length (new tt) → GivesBuffer (buffer_on v unit new old) (Refused 16 0 0) old
+  -- the same of a refusal that is handed on
+  pub lent-err : (r : Refusal) → (v ≡ refused (number_of r) (index_of r)) × (ticks_of r ≡ 0) → GivesBuffer (buffer_on v unit new old) (Err r) old
+  lent-err r (e, t) = lent-refused (number_of r) (index_of r) e (Err r) (ap (refusal (number_of r) (index_of r)) t)
+
+  pub lent-short : v ≡ fine → length old < length (new tt) → GivesBuffer (buffer_on v unit new old) (Err NoRoom) old
   lent-short e h =
       let q : buffer_on v unit new old ≡ record { reply = refusal 16 0 0; buffer = old } =
       ap (λ w. buffer_on w unit new old) e
@@ -63,7 +69,7 @@ module _ (v : Verdict) (unit : ℕ) (new : Unit {0} → List ℕ) (old : List �
       record { answered = sym (ap (λ (l : BufferOutcome). l.reply) q); written = sym (ap (λ (l : BufferOutcome). l.buffer) q) }
 
   pub lent-done : v ≡ fine → length (new tt) ≤ length old → (n : ℕ) → n ≡ length (new tt) / unit → (out : List ℕ) → out ≡ over (new tt) old
-      → GivesBuffer (buffer_on v unit new old) (Done n) out
+      → GivesBuffer (buffer_on v unit new old) (Ok n) out
   lent-done e h n m out o =
       let q : buffer_on v unit new old ≡ buffer_filled_with unit (new tt) old =
       ap (λ w. buffer_on w unit new old) e ∙ lent_fits unit new old h in

@@ -1,21 +1,25 @@
 -- What an entry point answers and leaves in the buffer lent to it, in the paper's numbers.
-use Rattle.std.specs.Prelude.{ℕ, ◌/◌, ◌≡◌, List, ltb, length}
+use Rattle.std.specs.Prelude.{ℕ, ◌/◌, ◌≡◌, List, ltb, length, Result, Ok, Err}
 use Rattle.words.specs.lists.Pick.{pick}
 use Rattle.words.specs.lists.Sequences.{over}
 use Rattle.text.specs.declared.frames.refusals.TheConstants.{NO_ROOM}
 use Rattle.text.specs.frames.Verdict.{Verdict, fine, refused}
-use Rattle.text.specs.declared.frames.Answer.{Answer}
-use Rattle.text.specs.declared.frames.Answer.TheVariants.{Done, Refused}
+use Rattle.text.specs.declared.frames.refusals.Refusal.{Refusal}
+use Rattle.text.specs.frames.Refusal.{number_of, index_of, ticks_of}
+
+-- the count that it made, or why it refuses
+abbrev pub Answer : Type 0
+Answer = Result ℕ Refusal
 
 -- success with the count written; or a refusal's number, index and count
 pub data Reply : Type 0 where
   success : ℕ → Reply
   refusal : ℕ → ℕ → ℕ → Reply
 
--- what each case of the enum stands for; every promise about an answer goes through this
+-- what an answer stands for in numbers; every promise about an answer goes through this
 abbrev pub reply : Answer → Reply
-reply (Done n) = success n
-reply (Refused k i n) = refusal k i n
+reply (Ok n) = success n
+reply (Err r) = refusal (number_of r) (index_of r) (ticks_of r)
 
 -- the number that C gets, 0 for success, and the values beside it
 abbrev pub reply_number : Reply → ℕ

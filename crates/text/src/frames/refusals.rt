@@ -1,4 +1,6 @@
-// The numbers of refusals.
+// Why an entry point refuses: each refusal with what it carries, and the number by which callers from C and printed frames know it.
+ghost use Rattle.std.specs.Prelude.{◌≡◌};
+ghost use Rattle.text.specs.frames.Refusal.{number_of, index_of, ticks_of};
 
 // Of a text, of records and of frames.
 pub const BAD_LENGTH: u8 = 1;
@@ -65,3 +67,102 @@ pub const NO_PLACE: u8 = 26;
 pub const MANY_WORDS: u8 = 27;
 
 pub const MANY_LISTS: u8 = 28;
+
+// A refusal that looks at frames or nodes carries the lowest at fault, one that stops a tick how many were finished before it.
+#[derive(Clone, Copy)]
+pub enum Refusal {
+    BadLength,
+    BadCharacter(usize),
+    BadSum(usize),
+    BadField(usize),
+    BadScheme,
+    BadArc(usize),
+    BadCall(usize),
+    Circle(usize),
+    CutOff(usize),
+    ManyRows,
+    BadHeader,
+    StrayFrame(usize),
+    BadContent(usize),
+    BadSize,
+    Unfit,
+    NoRoom,
+    Full { ticks: usize },
+    NoRow { ticks: usize },
+    BadMarks,
+    CallsItself,
+    Rowless,
+    BadRebinding,
+    Uneven,
+    NoLittleChart,
+    NoSpindle,
+    NoPlace,
+    ManyWords,
+    ManyLists,
+}
+
+impl Refusal {
+    // Its number, 1 to 28.
+    pub fn number(self) -> u8
+        ensures { result ≡ number_of self }
+    {
+        match self {
+            Refusal::BadLength => BAD_LENGTH,
+            Refusal::BadCharacter(_) => BAD_CHARACTER,
+            Refusal::BadSum(_) => BAD_SUM,
+            Refusal::BadField(_) => BAD_FIELD,
+            Refusal::BadScheme => BAD_SCHEME,
+            Refusal::BadArc(_) => BAD_ARC,
+            Refusal::BadCall(_) => BAD_CALL,
+            Refusal::Circle(_) => CIRCLE,
+            Refusal::CutOff(_) => CUT_OFF,
+            Refusal::ManyRows => MANY_ROWS,
+            Refusal::BadHeader => BAD_HEADER,
+            Refusal::StrayFrame(_) => STRAY_FRAME,
+            Refusal::BadContent(_) => BAD_CONTENT,
+            Refusal::BadSize => BAD_SIZE,
+            Refusal::Unfit => UNFIT,
+            Refusal::NoRoom => NO_ROOM,
+            Refusal::Full { .. } => FULL,
+            Refusal::NoRow { .. } => NO_ROW,
+            Refusal::BadMarks => BAD_MARKS,
+            Refusal::CallsItself => CALLS_ITSELF,
+            Refusal::Rowless => ROWLESS,
+            Refusal::BadRebinding => BAD_REBINDING,
+            Refusal::Uneven => UNEVEN,
+            Refusal::NoLittleChart => NO_LITTLE_CHART,
+            Refusal::NoSpindle => NO_SPINDLE,
+            Refusal::NoPlace => NO_PLACE,
+            Refusal::ManyWords => MANY_WORDS,
+            Refusal::ManyLists => MANY_LISTS,
+        }
+    }
+
+    // The lowest frame or node at fault, 0 where it looks at none.
+    pub fn index(self) -> usize
+        ensures { result ≡ index_of self }
+    {
+        match self {
+            Refusal::BadCharacter(frame)
+            | Refusal::BadSum(frame)
+            | Refusal::StrayFrame(frame)
+            | Refusal::BadContent(frame) => frame,
+            Refusal::BadField(node)
+            | Refusal::BadArc(node)
+            | Refusal::BadCall(node)
+            | Refusal::Circle(node)
+            | Refusal::CutOff(node) => node,
+            _ => 0,
+        }
+    }
+
+    // How many ticks were finished before it.
+    pub fn ticks(self) -> usize
+        ensures { result ≡ ticks_of self }
+    {
+        match self {
+            Refusal::Full { ticks } | Refusal::NoRow { ticks } => ticks,
+            _ => 0,
+        }
+    }
+}

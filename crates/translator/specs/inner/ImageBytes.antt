@@ -1,9 +1,11 @@
 -- The image of an accepted chart, as the functions behind the entry point leave it.
-use Rattle.std.specs.Prelude.{ℕ, ◌+◌, ◌*◌, List, ltb, length}
+use Rattle.std.specs.Prelude.{ℕ, ◌+◌, ◌*◌, List, ltb, length, Option, None, Some}
 use Rattle.words.specs.lists.Pick.{pick}
 use Rattle.words.specs.lists.Sequences.{concat_map}
 use Rattle.text.specs.declared.frames.sizes.TheConstants.{LINE, ROWS}
-use Rattle.text.specs.declared.frames.refusals.TheConstants.{MANY_ROWS, NO_ROOM}
+use Rattle.text.specs.declared.frames.refusals.TheConstants.{MANY_ROWS}
+use Rattle.text.specs.declared.frames.refusals.Refusal.{Refusal}
+use Rattle.text.specs.declared.frames.refusals.Refusal.TheVariants.{ManyRows, NoRoom}
 use Rattle.text.specs.frames.Verdict.{when}
 use Rattle.text.specs.frames.Answer.{BufferOutcome, buffer_on}
 use Rattle.charts.specs.Chart.{Chart}
@@ -18,9 +20,10 @@ frames_bytes = concat_map (λ f. f)
 abbrev pub table_bytes : Chart → List ℕ
 table_bytes c = frames_bytes (image_frames (table c))
 
--- the number of the refusal for a chart with so many frames before its rows and room for so many characters, or 0
-abbrev pub size_refusal : Chart → ℕ → ℕ → ℕ
-size_refusal c before room = pick (ltb ROWS (length (rows c))) MANY_ROWS (pick (ltb room (LINE * (before + length (rows c)))) NO_ROOM 0)
+-- the refusal of a chart with so many frames before its rows and room for so many characters, if there is one
+abbrev pub size_refusal : Chart → ℕ → ℕ → Option Refusal
+size_refusal c before room =
+    pick (ltb ROWS (length (rows c))) (Some ManyRows) (pick (ltb room (LINE * (before + length (rows c)))) (Some NoRoom) None)
 
 -- what the functions leave in the buffer and answer: 10 and 16 are still to be tried
 abbrev pub image_outcome : Chart → List ℕ → BufferOutcome

@@ -27,9 +27,7 @@ returns-then-table-f c =
     let found : let asked = c.args in let b = asked.table.now in
     found_at b asked.l c.find_row-f.result ≡ best_row asked.l asked.word c.bit_of-bit.result (first_on b asked.l) (rows_on b asked.l) =
     chosen-found _ _ _ _ c.requires.label (λ k. omega (arith, c.type_inv.table k)) _ c.find_row-f.ensures in
-    none_told _ _ _ c.requires bits _ c.label_read-read.ensures _
-    c.bit_of-bit.ensures _ found
-    (omega (arith, c.if-table-f.true)) _ c.refused-answer.ensures _ c.untold.ensures
+    none_told _ _ _ c.requires bits _ c.label_read-read.ensures _ c.bit_of-bit.ensures _ found (omega (arith, c.if-table-f.true))
 
 pub against_rows-others-requires : goal.against_rows-others-requires
 against_rows-others-requires c =

@@ -2,23 +2,19 @@
 use Rattle.cause.proofs.table_causes.CauseCases.{unfit-told, rowless-told, left-placed, left-told}
 use Rattle.cause.proofs.table_causes.cause_table.Goals as goal
 
-pub returns-then-unfit : goal.returns-then-unfit
-returns-then-unfit c =
-    unfit-told _ _ _ c.requires _ c.is_unfit-unfit.ensures c.if-unfit.true
-    _ c.refused-answer.ensures _ c.untold.ensures
+pub returns-then-is_unfit : goal.returns-then-is_unfit
+returns-then-is_unfit c = unfit-told _ _ _ c.requires _ c.is_unfit.ensures c.if-is_unfit.true
 
 pub returns-then-l-eq0 : goal.returns-then-l-eq0
 returns-then-l-eq0 c =
-    rowless-told _ _ _ c.requires _ c.is_unfit-unfit.ensures c.if-unfit.false _
-    c.leaving_label-l.ensures c.if-l-eq0.true _
-    c.refused-answer-then-l-eq0.ensures _ c.untold-then-l-eq0.ensures
+    rowless-told _ _ _ c.requires _ c.is_unfit.ensures c.if-is_unfit.false _ c.leaving_label-l.ensures c.if-l-eq0.true
 
 pub cause_at-requires : goal.cause_at-requires
 cause_at-requires c =
-    left-placed _ _ c.args.word c.requires _ c.is_unfit-unfit.ensures c.if-unfit.false
+    left-placed _ _ c.args.word c.requires _ c.is_unfit.ensures c.if-is_unfit.false
     _ c.leaving_label-l.ensures c.if-l-eq0.false
 
 pub returns : goal.returns
 returns c =
-    left-told _ _ _ c.requires _ c.is_unfit-unfit.ensures c.if-unfit.false _ c.leaving_label-l.ensures
+    left-told _ _ _ c.requires _ c.is_unfit.ensures c.if-is_unfit.false _ c.leaving_label-l.ensures
     c.if-l-eq0.false _ c.cause_at.ensures

@@ -1,4 +1,4 @@
--- `fairleadow_live_spin` meets its contract: the call on the bytes, and its report told.
+-- `fairleadow_live_spin` meets its contract: the call on the bytes, and its answer told.
 use Rattle.fairleadow.proofs.spindles_for_c.CallLaws.{spin-told}
 use Rattle.fairleadow.proofs.spindles_for_c.fairleadow_live_spin.Goals as goal
 

@@ -7,13 +7,12 @@ use Rattle.little_fetch.proofs.fetching.fetch.Goals as goal
 pub returns-then-not-sought : goal.returns-then-not-sought
 returns-then-not-sought c =
     past-last _ _ _ _ c.requires c.seek-sought.auto.records c.seek-sought.ensures _
-    (not-true _ c.if-not-sought.true) _ c.refused.ensures
+    (not-true _ c.if-not-sought.true)
 
 pub returns-then-text-count : goal.returns-then-text-count
 returns-then-text-count c =
     too_short _ _ _ _ c.requires c.seek-sought.auto.records c.seek-sought.ensures _
-    (not-false _ c.if-not-sought.false) _ refl c.if-text-count.true _
-    c.refused-then-text-count.ensures
+    (not-false _ c.if-not-sought.false) _ refl c.if-text-count.true
 
 pub returns : goal.returns
 returns c =

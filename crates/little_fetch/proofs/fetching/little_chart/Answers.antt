@@ -3,7 +3,7 @@ use Rattle.little_fetch.proofs.fetching.LittleChartCases.{too_few, too_many}
 use Rattle.little_fetch.proofs.fetching.little_chart.Goals as goal
 
 pub returns-then-frames-lt2 : goal.returns-then-frames-lt2
-returns-then-frames-lt2 c = too_few _ _ _ _ c.refused.ensures c.if-frames-lt2.true
+returns-then-frames-lt2 c = too_few _ _ _ c.if-frames-lt2.true
 
 pub returns-then-frames-gt4 : goal.returns-then-frames-gt4
-returns-then-frames-gt4 c = too_many _ _ _ _ c.refused-then-frames-gt4.ensures c.if-frames-gt4.true
+returns-then-frames-gt4 c = too_many _ _ _ c.if-frames-gt4.true

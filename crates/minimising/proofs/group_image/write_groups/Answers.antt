@@ -26,7 +26,7 @@ returns-then-out-need c =
     CountedFirst c.args.table.now c.args.classes.now n.new.numbers c.byte-schemes.result n.result c.count_kept-rows.result =
     counts _ _ c.requires.grouped _ _ _ _ _ _ c.byte-schemes.ensures c.byte-last.ensures c.rows_from.ensures
     c.number_groups-groups.ensures c.count_kept-rows.ensures in
-    smaller-short _ _ _ _ _ _ told _ c.if-out-need.true _ c.refused.ensures
+    smaller-short _ _ _ _ _ _ told _ c.if-out-need.true
 
 pub put_pieces-requires : goal.put_pieces-requires
 put_pieces-requires c =

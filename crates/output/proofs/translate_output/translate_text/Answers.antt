@@ -3,16 +3,16 @@ use Rattle.output.proofs.translate_output.Translations.{image-printed, refusal-p
 use Rattle.std.proofs.Common.{rules}
 use Rattle.output.proofs.translate_output.translate_text.Goals as goal
 
-pub returns-in-Done : goal.returns-in-Done
-returns-in-Done c =
+pub returns-in-Ok : goal.returns-in-Ok
+returns-in-Ok c =
     let translate = c.translate-answer in
     let answered = translate.ensures.answered in
     let left = translate.ensures.written in
-    image-printed _ _ _ answered _ _ c.in-Done.is left
+    image-printed _ _ _ answered _ _ c.in-Ok.is left
 
-pub returns-in-Refused : goal.returns-in-Refused
-returns-in-Refused c =
+pub returns-in-Err : goal.returns-in-Err
+returns-in-Err c =
     let translate = c.translate-answer in
     let answered = translate.ensures.answered in
     let left = translate.ensures.written in
-    refusal-printed _ _ _ answered _ _ _ _ _ c.in-Refused.is (search rules) left c.put_refusal.ensures
+    refusal-printed _ _ _ answered _ c.in-Err.is (search rules) _ _ c.number.ensures c.index.ensures _ _ left c.put_refusal.ensures

@@ -1,13 +1,12 @@
 -- `prices::priced_runs::refuse_many` meets its contract: what refuses a run of no words, or 27.
 use Rattle.prices.proofs.priced_runs.EntryCases.{many-before, many-itself}
+use Rattle.std.proofs.lemmas.Result.{err_from_is_err_and}
 use Rattle.prices.proofs.priced_runs.refuse_many.Goals as goal
 
-pub returns-in_default : goal.returns-in_default
-returns-in_default c =
-    let made = c.run_bytes-answer in
-    many-before _ _ _ _ _ made.ensures.answered _ _ _ c.in_default.is
+pub returns-in_err-run_bytes : goal.returns-in_err-run_bytes
+returns-in_err-run_bytes c =
+    let p = err_from_is_err_and c.from_residual.result c.from_residual.ensures.1 in
+    rw (p.1, p.2) (many-before _ _ _ _ _ c.run_bytes.ensures.answered _ c.in_err-run_bytes.was)
 
 pub returns : goal.returns
-returns c =
-    let made = c.run_bytes-answer in
-    many-itself _ _ _ _ _ made.ensures.answered _ c.in-Done.is _ c.refused.ensures
+returns c = many-itself _ _ _ _ _ c.run_bytes.ensures.answered _ c.in_ok-run_bytes.was

@@ -9,7 +9,7 @@ use Rattle.rebinding.proofs.EntryCases.{live-refused, live-rebinds}
 use Rattle.rebinding.proofs.in_place.live_rebind_bytes.Goals as goal
 
 pub returns-then-bad_table : goal.returns-then-bad_table
-returns-then-bad_table c = live-refused _ _ _ _ _ c.bad_table.ensures c.if-bad_table.true _ c.refused.ensures
+returns-then-bad_table c = live-refused _ _ _ _ _ c.bad_table.ensures c.if-bad_table.true
 
 pub table_length-n-requires : goal.table_length-n-requires
 table_length-n-requires c =

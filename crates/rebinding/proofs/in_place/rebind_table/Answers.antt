@@ -5,12 +5,11 @@ use Rattle.std.proofs.Common.{rules}
 use Rattle.rebinding.proofs.in_place.rebind_table.Goals as goal
 
 pub returns-then-is_unfit : goal.returns-then-is_unfit
-returns-then-is_unfit c = unfit-rebinds _ _ _ _ _ c.is_unfit.ensures c.if-is_unfit.true _ c.refused.ensures
+returns-then-is_unfit c = unfit-rebinds _ _ _ _ _ c.is_unfit.ensures c.if-is_unfit.true
 
 pub returns-then-bad_rebinding : goal.returns-then-bad_rebinding
 returns-then-bad_rebinding c =
-    bad-rebinds _ _ _ _ _ c.is_unfit.ensures c.if-is_unfit.false _ c.bad_rebinding.ensures c.if-bad_rebinding.true _
-    c.refused-then-bad_rebinding.ensures
+    bad-rebinds _ _ _ _ _ c.is_unfit.ensures c.if-is_unfit.false _ c.bad_rebinding.ensures c.if-bad_rebinding.true
 
 pub overflow_cast-scheme : goal.overflow_cast-scheme
 overflow_cast-scheme c =

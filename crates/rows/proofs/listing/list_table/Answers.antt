@@ -6,11 +6,10 @@ use Rattle.std.proofs.Common.{rules}
 use Rattle.rows.proofs.listing.list_table.Goals as goal
 
 pub returns-then-firsts-labels : goal.returns-then-firsts-labels
-returns-then-firsts-labels c = firsts-short _ _ _ _ (ap (λ (n : ℕ). n + 1) c.last_label.ensures) (search rules) _ c.refused.ensures
+returns-then-firsts-labels c = firsts-short _ _ _ _ (ap (λ (n : ℕ). n + 1) c.last_label.ensures) (search rules)
 
 pub returns-then-counts-labels : goal.returns-then-counts-labels
-returns-then-counts-labels c =
-    counts-short _ _ _ _ (ap (λ (n : ℕ). n + 1) c.last_label.ensures) (search rules) _ c.refused-then-counts-labels.ensures
+returns-then-counts-labels c = counts-short _ _ _ _ (ap (λ (n : ℕ). n + 1) c.last_label.ensures) (search rules)
 
 pub returns : goal.returns
 returns c =

@@ -12,4 +12,4 @@ returns c =
     record { places = search rules; serving = search rules; numbers = search rules; servers = search rules } in
     let all-bits : length c.args.state.bits ≡ 16 = search rules in
     live-tick-value _ sized all-bits _ c.bytes_of-bytes.ensures _ _ _ _ _
-    c.state_of-after.ensures c.live_tick_bytes-report.ensures
+    c.state_of-after.ensures c.live_tick_bytes-answer.ensures

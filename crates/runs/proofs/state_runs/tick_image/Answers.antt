@@ -11,4 +11,4 @@ returns c =
     let sized : Sized c.args.state =
     record { places = search rules; serving = search rules; numbers = search rules; servers = search rules } in
     let all-bits : length c.args.state.bits ≡ 16 = search rules in
-    tick-value _ sized all-bits _ c.bytes_of-bytes.ensures _ _ _ _ _ c.state_of-after.ensures c.tick_bytes-report.ensures
+    tick-value _ sized all-bits _ c.bytes_of-bytes.ensures _ _ _ _ _ c.state_of-after.ensures c.tick_bytes-answer.ensures

@@ -1,18 +1,17 @@
 -- `runs::table_runs::run_table` meets its contract: 15 and 16 in turn, then what the ticks leave.
 use mathlib.Core.Path.{sym, ◌∙◌}
-use Rattle.runs.proofs.RunCases.{room-enough, unfit-answer, short-answer, ran-answer, done-replied, stopped-replied, fits-stands}
+use Rattle.runs.proofs.RunCases.{room-enough, unfit-answer, short-answer, ran-answer, stops-late, done-replied, stopped-replied, fits-stands}
 use Rattle.runs.proofs.table_runs.run_table.Goals as goal
 
 pub is_unfit-requires : goal.is_unfit-requires
 is_unfit-requires c = c.requires
 
 pub returns-then-is_unfit : goal.returns-then-is_unfit
-returns-then-is_unfit c = unfit-answer _ _ _ _ _ _ c.is_unfit.ensures c.if-is_unfit.true _ c.refused.ensures
+returns-then-is_unfit c = unfit-answer _ _ _ _ _ _ c.is_unfit.ensures c.if-is_unfit.true
 
 pub returns-then-no_room : goal.returns-then-no_room
 returns-then-no_room c =
-    short-answer _ _ _ _ _ _ c.is_unfit.ensures c.if-is_unfit.false _ c.no_room.ensures c.if-no_room.true _
-    c.refused-then-no_room.ensures
+    short-answer _ _ _ _ _ _ c.is_unfit.ensures c.if-is_unfit.false _ c.no_room.ensures c.if-no_room.true
 
 pub tick_all-ended-requires : goal.tick_all-ended-requires
 tick_all-ended-requires c =
@@ -21,16 +20,21 @@ tick_all-ended-requires c =
       room = room-enough _ _ _ (sym c.no_room.ensures ∙ c.if-no_room.false);
     }
 
-pub returns-then-number-eq0 : goal.returns-then-number-eq0
-returns-then-number-eq0 c =
+pub returns-then-ended-eq0 : goal.returns-then-ended-eq0
+returns-then-ended-eq0 c =
     ran-answer _ _ _ _ _ _ c.is_unfit.ensures c.if-is_unfit.false _ c.no_room.ensures
     c.if-no_room.false c.tick_all-ended.result _ _ _ _
     c.tick_all-ended.ensures c.tidy_results.ensures _
-    (done-replied _ _ c.if-number-eq0.true)
+    (done-replied _ _ c.if-ended-eq0.true)
+
+pub stop_after-requires : goal.stop_after-requires
+stop_after-requires c =
+    stops-late _ _ _ _ _ _ c.is_unfit.ensures c.if-is_unfit.false _ c.no_room.ensures
+    c.if-no_room.false c.tick_all-ended.result _ _ _ _ c.tick_all-ended.ensures c.tidy_results.ensures c.if-ended-eq0.false
 
 pub returns : goal.returns
 returns c =
     ran-answer _ _ _ _ _ _ c.is_unfit.ensures c.if-is_unfit.false _ c.no_room.ensures
     c.if-no_room.false c.tick_all-ended.result _ _ _ _
     c.tick_all-ended.ensures c.tidy_results.ensures _
-    (stopped-replied _ _ c.if-number-eq0.false)
+    (c.stop_after.ensures ∙ stopped-replied _ _ c.if-ended-eq0.false)

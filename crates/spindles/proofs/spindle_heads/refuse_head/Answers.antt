@@ -4,9 +4,8 @@ use Rattle.spindles.proofs.spindle_heads.Heads.{no-spindle, tick-refused, no_siz
 use Rattle.spindles.proofs.spindle_heads.refuse_head.Goals as goal
 
 pub returns-then-spindle-gt3 : goal.returns-then-spindle-gt3
-returns-then-spindle-gt3 c = no-spindle _ _ _ c.if-spindle-gt3.true _ c.refused-answer.ensures _ c.turned_back.ensures
+returns-then-spindle-gt3 c = no-spindle _ _ _ c.if-spindle-gt3.true
 
 pub returns : goal.returns
 returns c =
-    tick-refused _ _ _ c.if-spindle-gt3.false _ (c.tick_bytes-report.ensures.answered ∙ no_size _ _ 0 refl)
-    _ c.turned_back-2.ensures
+    tick-refused _ _ _ c.if-spindle-gt3.false _ (c.tick_bytes-answer.ensures.answered ∙ no_size _ _ 0 refl)

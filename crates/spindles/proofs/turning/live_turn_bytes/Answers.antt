@@ -17,4 +17,4 @@ settle-requires c =
 pub returns : goal.returns
 returns c =
     let good = sym c.bad_record.ensures ∙ c.if-bad_record.false in
-    table-turns c.args.table.now _ _ _ _ _ _ _ _ good c.settle.ensures c.live_tick_bytes-report.ensures
+    table-turns c.args.table.now _ _ _ _ _ _ _ _ good c.settle.ensures c.live_tick_bytes-answer.ensures

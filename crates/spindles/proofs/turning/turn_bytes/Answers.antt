@@ -16,4 +16,4 @@ settle-requires c =
 pub returns : goal.returns
 returns c =
     let good = sym c.bad_record.ensures ∙ c.if-bad_record.false in
-    image-turns c.args.image.now _ _ _ _ _ _ _ _ good c.settle.ensures c.tick_bytes-report.ensures
+    image-turns c.args.image.now _ _ _ _ _ _ _ _ good c.settle.ensures c.tick_bytes-answer.ensures

@@ -7,7 +7,7 @@ pub returns-then-bad_size : goal.returns-then-bad_size
 unfolding fresh_state
 returns-then-bad_size c =
     let e = sym c.bad_size.ensures ∙ c.if-bad_size.true in
-    record { answered = simp (c.refused-answer.ensures, e); state = simp e }
+    record { answered = simp e; state = simp e }
 
 pub returns : goal.returns
 unfolding fresh_state

@@ -4,48 +4,48 @@ use mathlib.Core.Path.{◌≡◌}
 use mathlib.Core.List.{List}
 use native.Mathlib.Omega.{arith}
 use Rattle.text.specs.frames.Verdict.{fine}
-use Rattle.text.proofs.frames.Chains.{done-fine}
+use Rattle.text.proofs.frames.Chains.{ok-fine}
 use Rattle.image.specs.Check.{image_verdict}
 use Rattle.tables.proofs.PrepareCases.{image-refused, frames-few, made-length, image-short, image-done}
+use Rattle.std.proofs.lemmas.Result.{err_from_is_err_and}
 use Rattle.tables.proofs.preparing.prepare.Goals as goal
 
-pub returns-in_default : goal.returns-in_default
-returns-in_default c =
-    let prepare-table = c.prepare_table-answer in
-    image-refused _ prepare-table.result prepare-table.ensures.answered c.in_default.field-0 c.in_default.field-1 c.in_default.field-2
-    c.in_default.is _
+pub returns-in_err-prepare_table : goal.returns-in_err-prepare_table
+returns-in_err-prepare_table c =
+    let p = err_from_is_err_and c.from_residual.result c.from_residual.ensures.1 in
+    rw (p.1, p.2) (image-refused _ _ c.prepare_table.ensures.answered _ c.in_err-prepare_table.was _)
 
 pub returns-then-table-n : goal.returns-then-table-n
 returns-then-table-n c =
     let text : List ℕ = c.args.image.now in
-    let accepted : image_verdict text ≡ fine = let prepare-table = c.prepare_table-answer in
-    (done-fine prepare-table.result _ 0 prepare-table.ensures.answered _ c.in-Done.is).0 in
-    image-short text accepted _ c.if-table-n.true _ c.refused.ensures
+    let accepted : image_verdict text ≡ fine =
+    (ok-fine _ _ 0 c.prepare_table.ensures.answered _ c.in_ok-prepare_table.was).0 in
+    image-short text accepted _ c.if-table-n.true
 
 pub slice_bounds-made-end : goal.slice_bounds-made-end
 slice_bounds-made-end c =
     let text : List ℕ = c.args.image.now in
-    let accepted : image_verdict text ≡ fine = let prepare-table = c.prepare_table-answer in
-    (done-fine prepare-table.result _ 0 prepare-table.ensures.answered _ c.in-Done.is).0 in
-    omega (arith, frames-few text accepted, c.prepare_table-answer.auto.table)
+    let accepted : image_verdict text ≡ fine =
+    (ok-fine _ _ 0 c.prepare_table.ensures.answered _ c.in_ok-prepare_table.was).0 in
+    omega (arith, frames-few text accepted, c.prepare_table.auto.table)
 
 pub slice_bounds-put_bytes-end : goal.slice_bounds-put_bytes-end
 slice_bounds-put_bytes-end c =
     let text : List ℕ = c.args.image.now in
-    let accepted : image_verdict text ≡ fine = let prepare-table = c.prepare_table-answer in
-    (done-fine prepare-table.result _ 0 prepare-table.ensures.answered _ c.in-Done.is).0 in
-    made-length text accepted _ _ c.prepare_table-answer.ensures.written
+    let accepted : image_verdict text ≡ fine =
+    (ok-fine _ _ 0 c.prepare_table.ensures.answered _ c.in_ok-prepare_table.was).0 in
+    made-length text accepted _ _ c.prepare_table.ensures.written
 
 pub put_bytes-requires : goal.put_bytes-requires
 put_bytes-requires c =
     let text : List ℕ = c.args.image.now in
-    let accepted : image_verdict text ≡ fine = let prepare-table = c.prepare_table-answer in
-    (done-fine prepare-table.result _ 0 prepare-table.ensures.answered _ c.in-Done.is).0 in
-    omega (arith, made-length text accepted _ _ c.prepare_table-answer.ensures.written, c.if-table-n.false)
+    let accepted : image_verdict text ≡ fine =
+    (ok-fine _ _ 0 c.prepare_table.ensures.answered _ c.in_ok-prepare_table.was).0 in
+    omega (arith, made-length text accepted _ _ c.prepare_table.ensures.written, c.if-table-n.false)
 
 pub returns : goal.returns
 returns c =
     let text : List ℕ = c.args.image.now in
-    let accepted : image_verdict text ≡ fine = let prepare-table = c.prepare_table-answer in
-    (done-fine prepare-table.result _ 0 prepare-table.ensures.answered _ c.in-Done.is).0 in
-    image-done text accepted _ _ c.prepare_table-answer.ensures.written _ c.if-table-n.false _ c.put_bytes.ensures
+    let accepted : image_verdict text ≡ fine =
+    (ok-fine _ _ 0 c.prepare_table.ensures.answered _ c.in_ok-prepare_table.was).0 in
+    image-done text accepted _ _ c.prepare_table.ensures.written _ c.if-table-n.false _ c.put_bytes.ensures

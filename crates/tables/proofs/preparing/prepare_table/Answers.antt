@@ -4,40 +4,41 @@ use mathlib.Core.Path.{◌≡◌}
 use mathlib.Core.List.{List}
 use native.Mathlib.Omega.{arith}
 use Rattle.text.specs.frames.Verdict.{fine}
-use Rattle.text.proofs.frames.Chains.{done-fine}
+use Rattle.text.proofs.frames.Chains.{ok-fine}
 use Rattle.image.specs.Check.{image_verdict}
 use Rattle.tables.proofs.PrepareCases.{table-refused, frames-few, read_length, read-accepted, table-noted}
+use Rattle.std.proofs.lemmas.Result.{err_from_is_err_and}
 use Rattle.tables.proofs.preparing.prepare_table.Goals as goal
 
-pub returns-in_default : goal.returns-in_default
-returns-in_default c =
-    table-refused _ c.read_image-answer.result c.read_image-answer.ensures.result_value c.in_default.field-0 c.in_default.field-1
-    c.in_default.field-2 c.in_default.is _ _ c.read_image-answer.ensures.table_after
+pub returns-in_err-read_image : goal.returns-in_err-read_image
+returns-in_err-read_image c =
+    let p = err_from_is_err_and c.from_residual.result c.from_residual.ensures.1 in
+    rw (p.1, p.2) (table-refused _ _ c.read_image.ensures.result_value _ c.in_err-read_image.was _ _ c.read_image.ensures.table_after)
 
 pub slice_bounds-note_rows-end : goal.slice_bounds-note_rows-end
 slice_bounds-note_rows-end c =
     let text : List ℕ = c.args.text.now in
     let accepted : image_verdict text ≡ fine =
-    (done-fine c.read_image-answer.result _ 0 c.read_image-answer.ensures.result_value _ c.in-Done.is).0 in
-    omega (arith, frames-few text accepted, c.read_image-answer.auto.table, c.requires)
+    (ok-fine _ _ 0 c.read_image.ensures.result_value _ c.in_ok-read_image.was).0 in
+    omega (arith, frames-few text accepted, c.read_image.auto.table, c.requires)
 
 pub slice_bounds-note_rows-end-2 : goal.slice_bounds-note_rows-end-2
 slice_bounds-note_rows-end-2 c =
     let text : List ℕ = c.args.text.now in
     let accepted : image_verdict text ≡ fine =
-    (done-fine c.read_image-answer.result _ 0 c.read_image-answer.ensures.result_value _ c.in-Done.is).0 in
-    read_length text accepted _ _ c.read_image-answer.ensures.table_after
+    (ok-fine _ _ 0 c.read_image.ensures.result_value _ c.in_ok-read_image.was).0 in
+    read_length text accepted _ _ c.read_image.ensures.table_after
 
 pub note_rows-requires : goal.note_rows-requires
 note_rows-requires c =
     let text : List ℕ = c.args.text.now in
     let accepted : image_verdict text ≡ fine =
-    (done-fine c.read_image-answer.result _ 0 c.read_image-answer.ensures.result_value _ c.in-Done.is).0 in
-    read-accepted text accepted _ _ c.read_image-answer.ensures.table_after
+    (ok-fine _ _ 0 c.read_image.ensures.result_value _ c.in_ok-read_image.was).0 in
+    read-accepted text accepted _ _ c.read_image.ensures.table_after
 
 pub returns : goal.returns
 returns c =
     let text : List ℕ = c.args.text.now in
     let accepted : image_verdict text ≡ fine =
-    (done-fine c.read_image-answer.result _ 0 c.read_image-answer.ensures.result_value _ c.in-Done.is).0 in
-    table-noted text accepted _ _ c.read_image-answer.ensures.table_after _ c.note_rows.ensures
+    (ok-fine _ _ 0 c.read_image.ensures.result_value _ c.in_ok-read_image.was).0 in
+    table-noted text accepted _ _ c.read_image.ensures.table_after _ c.note_rows.ensures

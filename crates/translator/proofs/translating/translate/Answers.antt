@@ -6,37 +6,36 @@ use Rattle.translator.proofs.translating.translate.Goals as goal
 
 pub returns-in_default : goal.returns-in_default
 returns-in_default c =
-    read-refused _ _ zeros-long _ c.read_chart-read.ensures.answered _ c.in_default.field-0
-    c.in_default.field-1 c.in_default.field-2 c.in_default.is
+    read-refused _ _ zeros-long _ c.read_chart-read.ensures.answered _ _ c.in_default.is
 
 pub overflow_mul-end : goal.overflow_mul-end
 overflow_mul-end c =
-    let done : Read c.args.text.now c.read_chart-read.new.out c.in-Done.count = let told = c.read_chart-read.ensures in
-    read_told _ _ _ _ _ told.answered c.in-Done.is told.written in
+    let done : Read c.args.text.now c.read_chart-read.new.out c.in-Ok.count = let told = c.read_chart-read.ensures in
+    read_told _ _ _ _ _ told.answered c.in-Ok.is told.written in
     omega (arith, done.few)
 
 pub slice_bounds-held-end : goal.slice_bounds-held-end
 slice_bounds-held-end c =
-    let done : Read c.args.text.now c.read_chart-read.new.out c.in-Done.count = let told = c.read_chart-read.ensures in
-    read_told _ _ _ _ _ told.answered c.in-Done.is told.written in
+    let done : Read c.args.text.now c.read_chart-read.new.out c.in-Ok.count = let told = c.read_chart-read.ensures in
+    read_told _ _ _ _ _ told.answered c.in-Ok.is told.written in
     omega (arith, done.few, c.read_chart-read.auto.out)
 
 pub slice_bounds-records-end : goal.slice_bounds-records-end
 slice_bounds-records-end c =
-    let done : Read c.args.text.now c.read_chart-read.new.out c.in-Done.count = let told = c.read_chart-read.ensures in
-    read_told _ _ _ _ _ told.answered c.in-Done.is told.written in
+    let done : Read c.args.text.now c.read_chart-read.new.out c.in-Ok.count = let told = c.read_chart-read.ensures in
+    read_told _ _ _ _ _ told.answered c.in-Ok.is told.written in
     sym (read-long _ _ _ done)
 
 pub write_image-requires : goal.write_image-requires
 write_image-requires c =
-    let done : Read c.args.text.now c.read_chart-read.new.out c.in-Done.count = let told = c.read_chart-read.ensures in
-    read_told _ _ _ _ _ told.answered c.in-Done.is told.written in record {
+    let done : Read c.args.text.now c.read_chart-read.new.out c.in-Ok.count = let told = c.read_chart-read.ensures in
+    read_told _ _ _ _ _ told.answered c.in-Ok.is told.written in record {
       ready = read-ready _ _ _ done;
       highest_value = c.highest_scheme-highest.ensures;
     }
 
 pub returns : goal.returns
 returns c =
-    let done : Read c.args.text.now c.read_chart-read.new.out c.in-Done.count = let told = c.read_chart-read.ensures in
-    read_told _ _ _ _ _ told.answered c.in-Done.is told.written in
+    let done : Read c.args.text.now c.read_chart-read.new.out c.in-Ok.count = let told = c.read_chart-read.ensures in
+    read_told _ _ _ _ _ told.answered c.in-Ok.is told.written in
     translated _ _ _ done _ _ _ c.write_image.ensures

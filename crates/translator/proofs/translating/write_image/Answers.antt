@@ -13,32 +13,31 @@ overflow_add-highest-2 c =
     omega (arith, few-numbered _ (ready-facts ready), ready.few, c.note_nodes-own.ensures.0) in
     omega (arith, small)
 
-pub size_refusal-number-requires : goal.size_refusal-number-requires
-size_refusal-number-requires c =
+pub size_refusal-requires : goal.size_refusal-requires
+size_refusal-requires c =
     let small : c.note_nodes-own.result + 2 ≤ 256 = let ready = c.requires.ready in
     omega (arith, few-numbered _ (ready-facts ready), ready.few, c.note_nodes-own.ensures.0) in record {
       noted = c.note_nodes-own.ensures.1;
       before_bound = omega (arith, small, c.well_formed.1.0);
     }
 
-pub returns-then-number-ne0 : goal.returns-then-number-ne0
-returns-then-number-ne0 c =
-    rw c.refused.ensures
-    (image-refused _ _ _ _ _ c.requires.highest_value c.note_nodes-own.ensures.0 c.size_refusal-number.ensures c.if-number-ne0.true)
+pub returns-in-Some : goal.returns-in-Some
+returns-in-Some c =
+    image-refused _ _ _ _ _ c.requires.highest_value c.note_nodes-own.ensures.0 c.size_refusal.ensures _ c.in-Some.is
 
 pub put_image-requires : goal.put_image-requires
 put_image-requires c =
     let schemed = c.requires.highest_value in
     let owned = c.note_nodes-own.ensures.0 in
-    let settled = c.size_refusal-number.ensures in
+    let settled = c.size_refusal.ensures in
     record {
       noted = c.note_nodes-own.ensures.1;
       sizes = record { schemed = schemed; owned = owned; rowed = refl };
-      few = image-few _ c.args.out.now _ _ _ schemed owned settled c.if-number-ne0.false;
-      room = image-room _ c.args.out.now _ _ _ schemed owned settled c.if-number-ne0.false;
+      few = image-few _ c.args.out.now _ _ _ schemed owned settled c.in_default.is;
+      room = image-room _ c.args.out.now _ _ _ schemed owned settled c.in_default.is;
     }
 
 pub returns : goal.returns
 returns c =
-    image-fits _ _ _ _ _ c.requires.highest_value c.note_nodes-own.ensures.0 c.size_refusal-number.ensures c.if-number-ne0.false _ _
+    image-fits _ _ _ _ _ c.requires.highest_value c.note_nodes-own.ensures.0 c.size_refusal.ensures c.in_default.is _ _
     c.put_image.ensures

@@ -9,7 +9,7 @@ use Rattle.runs.proofs.machine.EntryCases.{live-stays, live-advances}
 use Rattle.runs.proofs.machine.in_place.live_tick_bytes.Goals as goal
 
 pub returns-then-bad_table : goal.returns-then-bad_table
-returns-then-bad_table c = live-stays _ _ _ c.bad_table.ensures _ c.if-bad_table.true _ c.refused-answer.ensures
+returns-then-bad_table c = live-stays _ _ _ c.bad_table.ensures _ c.if-bad_table.true
 
 pub table_length-n-requires : goal.table_length-n-requires
 table_length-n-requires c =
