@@ -1,4 +1,5 @@
 -- A list of runs and rebindings on the image of a chart hands back what the walk of the joined words gives.
+use Rattle.std.proofs.Common.{if◌then◌else◌, cond}
 use Prim.Native.Nat.{ℕ, ◌≤◌}
 use mathlib.Core.Bool.{Bool, true, false}
 use mathlib.Core.Path.{◌≡◌, refl, ap, ap₂, ◌∙◌, sym, subst}
@@ -6,7 +7,6 @@ use mathlib.Core.List.{List, [], ◌∷◌, map}
 use lib.Dec.{ltb}
 use lib.ListN.{length, take, replicate}
 use native.Mathlib.Omega.{arith}
-use Rattle.words.specs.lists.Pick.{pick}
 use Rattle.words.specs.lists.Sequences.{over}
 use Rattle.results.specs.Results.{no_results}
 use Rattle.bindings.specs.Binding.{Binding, own_binding, rebound_binding, is_bad_rebinding}
@@ -86,7 +86,7 @@ module _ (text : List ℕ) (i : Image) (passes : image_verdict text ≡ fine) (d
   chain-rebinds s h k rest f e =
       ap (λ (r : StateOutcome). by_rebinding r.reply ∷ call_outputs run rebind text r.state rest) (rebind-is s h k f e)
 
-replied-by : (t : Bool) (k : ℕ) → counted_reply (pick t (refused 17 0) fine) k ≡ pick t (refusal 17 0 k) (success k)
+replied-by : (t : Bool) (k : ℕ) → counted_reply (if t then refused 17 0 else fine) k ≡ (if t then refusal 17 0 k else success k)
 replied-by true k = refl
 replied-by false k = refl
 
@@ -94,7 +94,7 @@ replied-by false k = refl
 pub fresh-is : (n : ℕ) → 1 ≤ n → n ≤ 32 → (fresh_state n).state ≡ fresh n
 unfolding fresh_state
 fresh-is n l h =
-    ap (λ (t : Bool). (pick {A = StateOutcome} t (record { reply = refusal 14 0 0; state = no_state })
+    ap (λ (t : Bool). (cond {A = StateOutcome} t (record { reply = refusal 14 0 0; state = no_state })
     (record { reply = success 0; state = fresh n })).state)
     (size-good n l h)
 
@@ -161,10 +161,10 @@ module _ (c : Chart) (facts : Facts c) (table_facts : TableFacts c) (text : List
     where
       -- what is due, with the binding that the rebinding leaves
       due : (t : Bool) → is_barred_rebinding c h k ≡ t
-          → by_rebinding (pick t (refusal 22 0 0) (success 0)) ∷ Due c n (pick t s (rebound_binding h k s))
+          → by_rebinding (if t then refusal 22 0 0 else success 0) ∷ Due c n (if t then s else rebound_binding h k s)
           x rest ≡ Due c n s x (to_rebind h k ∷ rest)
-      due t e = sym (ap (λ (r : Bool). let ts = trace n c (joined_words c (pick r s (rebound_binding h k s)) rest) x in
-          by_rebinding (pick r (refusal 22 0 0) (success 0)) ∷ expected_outputs c (bound n ts) ts 0 rest) e)
+      due t e = sym (ap (λ (r : Bool). let ts = trace n c (joined_words c (if r then s else rebound_binding h k s) rest) x in
+          by_rebinding (if r then refusal 22 0 0 else success 0) ∷ expected_outputs c (bound n ts) ts 0 rest) e)
 
       go : (t : Bool) → is_barred_rebinding c h k ≡ t
           → call_outputs run rebind text (state_of_position c n s x) (to_rebind h k ∷ rest) ≡ Due c n s x (to_rebind h k ∷ rest)

@@ -1,4 +1,5 @@
 -- What is expected of a list of runs and rebindings: moved along the ticks, and after the bound.
+use Rattle.std.proofs.Common.{if◌then◌else◌}
 use Prim.Native.Nat.{ℕ, ◌+◌, ◌-◌, ◌≤◌, min}
 use mathlib.Core.Bool.{Bool, true, false, ◌&&◌}
 use mathlib.Core.Path.{◌≡◌, refl, ap, ap₂, ◌∙◌, sym}
@@ -8,7 +9,6 @@ use lib.ListN.{length, take, drop}
 use lib.Seq.{drop-append-add}
 use native.Mathlib.Omega.{arith}
 use borrow.Author.Tests.{lt-ltb, ltb-true}
-use Rattle.words.specs.lists.Pick.{pick}
 use Rattle.words.specs.lists.Sequences.{over}
 use Rattle.words.proofs.lists.Tests.{and_no, same-ltb}
 use Rattle.text.specs.frames.Answer.{success, refusal}
@@ -21,7 +21,7 @@ use Rattle.agreement.specs.Agreement.{expected_outputs}
 -- a run that made these ticks, and was stopped by 17 or not
 abbrev pub output_told_by : Bool → ℕ → List Tick → RunInput → RunOutput
 output_told_by stopped done ts a = record {
-  reply = pick stopped (refusal 17 0 done) (success done);
+  reply = if stopped then refusal 17 0 done else success done;
   masks = over (map (λ (t : Tick). t.mask) ts) a.masks;
   codes = over (map (λ (t : Tick). t.code) ts) a.codes;
 }

@@ -1,5 +1,6 @@
 -- A call that is refused with 17, said of the walk:
 -- it finds as many schemes open as places, and there is no handler or the handler is the first of them.
+use Rattle.std.proofs.Common.{if◌then◌else◌}
 use Prim.Native.Nat.{ℕ, suc, ◌+◌, ◌<◌}
 use mathlib.Core.Bool.{Bool, true, false, ◌&&◌, ◌||◌, not}
 use mathlib.Core.Path.{◌≡◌, refl, ap, ap₂}
@@ -7,7 +8,6 @@ use lib.Dec.{leb, eqb}
 use lib.ListN.{length}
 use native.Mathlib.Omega.{arith}
 use borrow.Author.Tests.{le-leb, ne_eqb}
-use Rattle.words.specs.lists.Pick.{pick}
 use Rattle.text.specs.frames.Frame.{size}
 use Rattle.charts.specs.Chart.{Chart, argument, handler}
 use Rattle.walk.specs.Stops.{Stop, stop_at}
@@ -20,13 +20,13 @@ use Rattle.agreement.specs.Agreement.{is_full_call}
 
 -- a code k of a call, where the handler is first (f), there is none (z), as many are open as places (e)
 made : (k : ℕ) → 16 < k → (k ≡ 96 → ⊥) → (f z e : Bool)
-    → let code = pick (not f && not z && e) 96 k in (leb 16 code && not (eqb code 96) && e) ≡ ((f || z) && e)
+    → let code = (if not f && not z && e then 96 else k) in (leb 16 code && not (eqb code 96) && e) ≡ ((f || z) && e)
 made k l other f z e = go f z e
   where
     kept : (leb 16 k && not (eqb k 96)) ≡ true
     kept = ap₂ (λ (s t : Bool). s && not t) (le-leb 16 k (omega arith)) (ne_eqb k 96 other)
 
-    go : (f z e : Bool) → let code = pick (not f && not z && e) 96 k in (leb 16 code && not (eqb code 96) && e) ≡ ((f || z) && e)
+    go : (f z e : Bool) → let code = (if not f && not z && e then 96 else k) in (leb 16 code && not (eqb code 96) && e) ≡ ((f || z) && e)
     go true z e = ap (λ (t : Bool). t && e) kept
     go false true e = ap (λ (t : Bool). t && e) kept
     go false false true = refl

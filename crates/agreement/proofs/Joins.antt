@@ -1,4 +1,5 @@
 -- The first run and the later ones: what is expected of each from its own ticks is what the ticks of the joined words let expect.
+use Rattle.std.proofs.Common.{if◌then◌else◌}
 use Prim.Native.Nat.{ℕ, ◌+◌, ◌-◌, ◌≤◌, ◌<◌, min}
 use mathlib.Core.Bool.{Bool, true, false, ◌&&◌}
 use mathlib.Core.Path.{◌≡◌, refl, ap, ap₂, ◌∙◌, sym}
@@ -8,7 +9,6 @@ use lib.ListN.{length, take, length-map}
 use lib.Seq.{take-append-le, length-take-le}
 use native.Mathlib.Omega.{arith}
 use borrow.Author.Tests.{lt-ltb, le-ltb, ltb-true, ltb-false}
-use Rattle.words.specs.lists.Pick.{pick}
 use Rattle.bindings.specs.Binding.{Binding}
 use Rattle.charts.specs.Chart.{Chart}
 use Rattle.walk.specs.Walk.{Signal, signals, Tick}
@@ -21,11 +21,11 @@ use Rattle.agreement.proofs.Expected.{output_told_by, all-long, shift, halted}
 module _ (c : Chart) (s : Binding) (a : RunInput) (rest : List CallInput) where
   pub joined-short : is_short a ≡ true → joined_words c s (to_run a ∷ rest) ≡ joined_words c s rest
   unfolding joined_words
-  joined-short e = ap (λ (t : Bool). pick t [] (signals s a.words) ++ joined_words c s rest) e
+  joined-short e = ap (λ (t : Bool). (if t then [] else signals s a.words) ++ joined_words c s rest) e
 
   pub joined-long : is_short a ≡ false → joined_words c s (to_run a ∷ rest) ≡ signals s a.words ++ joined_words c s rest
   unfolding joined_words
-  joined-long e = ap (λ (t : Bool). pick t [] (signals s a.words) ++ joined_words c s rest) e
+  joined-long e = ap (λ (t : Bool). (if t then [] else signals s a.words) ++ joined_words c s rest) e
 
 -- ---- the first run, which makes the ticks up to the bound b of its own
 abbrev pub first_told : ℕ → List Tick → RunInput → RunOutput

@@ -1,5 +1,6 @@
 -- No refusal of the translator, of prepare, of minimise, of a little chart, of a listing, of a cause or of the counts has the number
 -- 0, so that a caller from C can tell success by it.
+use Rattle.std.proofs.Common.{if◌then◌else◌}
 use Prim.Native.Nat.{ℕ, ◌+◌, ◌/◌, ◌≤◌}
 use mathlib.Core.Path.{◌≡◌, refl}
 use mathlib.Core.Bool.{Bool, true, false, ◌||◌}
@@ -7,7 +8,6 @@ use mathlib.Core.List.{List}
 use native.Mathlib.Omega.{arith}
 use lib.Dec.{leb, ltb}
 use lib.ListN.{length}
-use Rattle.words.specs.lists.Pick.{pick}
 use Rattle.words.specs.lists.Sequences.{over}
 use Rattle.text.specs.frames.Frame.{contents}
 use Rattle.text.specs.frames.Verdict.{Verdict, fine, refused, next, when}
@@ -57,8 +57,8 @@ lent-success (refused k i) unit new old p e = absurd (omega arith)
 lent-success fine unit new old p e = go (ltb (length old) (length (new tt))) e
   where
     made : Bool → BufferOutcome
-    made b = pick b (record { reply = refusal 16 0 0; buffer = old })
-        (record { reply = success (length (new tt) / unit); buffer = over (new tt) old })
+    made b = if b then record { reply = refusal 16 0 0; buffer = old }
+        else record { reply = success (length (new tt) / unit); buffer = over (new tt) old }
 
     go : (b : Bool) → reply_number (made b).reply ≡ 0 → (made b).reply ≡ success (reply_count (made b).reply)
     go true q = absurd (omega arith)

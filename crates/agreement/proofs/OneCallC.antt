@@ -1,5 +1,6 @@
 -- One call from C of any kind that meets its contract hands back what a run or a rebinding on the image's text does, and leaves bytes
 -- that hold its state.
+use Rattle.std.proofs.Common.{if◌then◌else◌}
 use Prim.Native.Nat.{ℕ}
 use mathlib.Core.Path.{◌≡◌, refl, sym, ◌∙◌, ap, ap₂, subst}
 use mathlib.Core.List.{List, [], ◌∷◌}
@@ -7,8 +8,7 @@ use native.Mathlib.Omega.{arith}
 use lib.Dec.{eqb}
 use lib.ListN.{take}
 use borrow.Author.Tests.{ne_eqb}
-use Rattle.words.specs.lists.Pick.{pick}
-use Rattle.words.proofs.lists.Tests.{no-pick}
+use Rattle.words.proofs.lists.Tests.{if-false}
 use Rattle.text.specs.frames.Frame.{contents}
 use Rattle.text.specs.frames.Verdict.{Verdict, fine, refused, next}
 use Rattle.text.specs.frames.Answer.{refusal, success, reply_number}
@@ -49,7 +49,7 @@ module _ (s : State) (m₀ k₀ : ℕ) where
       (run_over m₀ k₀ (record { reply = refusal n i 0; mask = 0; code = 0; state = s }))
   none_made n i h =
       ap₂ (λ (m k : ℕ). record { reply = refusal n i 0; state = s; masks = m ∷ []; codes = k ∷ [] })
-      (sym (no-pick (eqb n 0) 0 m₀ (ne_eqb n 0 h))) (sym (no-pick (eqb n 0) 0 k₀ (ne_eqb n 0 h)))
+      (sym (if-false (eqb n 0) 0 m₀ (ne_eqb n 0 h))) (sym (if-false (eqb n 0) 0 k₀ (ne_eqb n 0 h)))
 
   over_by : (v : Verdict) (d : machine.MachineTick) → RefusesWith Positive v → Normal s d
       → one.run_of_word s m₀ k₀ v d ≡ run_over m₀ k₀ (one.advance_by s v d)
@@ -90,7 +90,7 @@ module _ (image bytes : List ℕ) where
   ticked-holds w = tick-held bytes (decoded_image (contents image)) w (run_verdict image (state_of bytes) (w ∷ []) (0 ∷ []) (0 ∷ []))
 
   rebound-holds : (h k : ℕ) → let x = rebind_for image bytes h k in
-      state_of (pick (eqb (reply_number x.reply) 0) (bytes_of x.state) bytes) ≡ x.state
+      state_of (if eqb (reply_number x.reply) 0 then bytes_of x.state else bytes) ≡ x.state
   unfolding rebind
   rebound-holds h k = rebinding-held bytes h k (next (image_verdict image) λ _. rebind_verdict (decoded_image (contents image))
       (state_of bytes) h k)

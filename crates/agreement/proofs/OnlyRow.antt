@@ -1,11 +1,11 @@
 -- On the image of a chart just one row matches for each label from 2 up, word and bit, and it is the row taken.
+use Rattle.std.proofs.Common.{if◌then◌else◌}
 use mathlib.Core.Path.{◌≡◌, refl, sym, ◌∙◌, ap, subst}
 use mathlib.Core.Bool.{Bool, true}
 use mathlib.Core.List.{List}
 use Prim.Native.Nat.{ℕ, ◌≤◌, ◌<◌}
 use native.Mathlib.Omega.{arith}
 use lib.ListN.{length, take, get_or}
-use Rattle.words.specs.lists.Pick.{pick}
 use Rattle.text.specs.frames.Frame.{size, contents}
 use Rattle.text.specs.frames.Verdict.{fine}
 use Rattle.text.specs.frames.Answer.{success}
@@ -36,24 +36,24 @@ pub record Only (l w b : ℕ) (rs : List Row) : Type 0 where
   pub only : (j : ℕ) → j < length rs → is_candidate l w b (get_or rs j no_row) ≡ true → j ≡ number
 
 pub only_row : (c : Chart) → SoundChart c → (v w : ℕ) (b : Bool) → v < size c
-    → is_numbered c v ≡ true → Only (label c v) w (pick b 1 0) (rows c)
-only_row c a v w b l e = go (best_row (label c v) w (pick b 1 0) 0 (rows c)) refl
+    → is_numbered c v ≡ true → Only (label c v) w (if b then 1 else 0) (rows c)
+only_row c a v w b l e = go (best_row (label c v) w (if b then 1 else 0) 0 (rows c)) refl
   where
-    leading : lead_of (best_row (label c v) w (pick b 1 0) 0 (rows c)) ≡ found (label c (onward_stop c w b v))
-    leading = best-only (label c v) w (pick b 1 0) 0 (label c (onward_stop c w b v)) (rows c) (one-row c a v w b l e)
+    leading : lead_of (best_row (label c v) w (if b then 1 else 0) 0 (rows c)) ≡ found (label c (onward_stop c w b v))
+    leading = best-only (label c v) w (if b then 1 else 0) 0 (label c (onward_stop c w b v)) (rows c) (one-row c a v w b l e)
 
-    go : (x : Choice) → best_row (label c v) w (pick b 1 0) 0 (rows c) ≡ x → Only (label c v) w (pick b 1 0) (rows c)
+    go : (x : Choice) → best_row (label c v) w (if b then 1 else 0) 0 (rows c) ≡ x → Only (label c v) w (if b then 1 else 0) (rows c)
     go no_choice q =
         absurd (let p : missing ≡ found (label c (onward_stop c w b v)) = sym (ap lead_of q)
         ∙ leading in let z : ◌≡◌ {A = ℕ} 0 1 = cc in omega arith)
     go (row k r) q =
-        let best : Best (label c v) w (pick b 1 0) (rows c) k r = best-is (label c v) w (pick b 1 0) (rows c) k r q in
+        let best : Best (label c v) w (if b then 1 else 0) (rows c) k r = best-is (label c v) w (if b then 1 else 0) (rows c) k r q in
         record {
           number = k;
           one = r;
           taken = q;
           only = λ j h o. same_row c a v w b l e j k h best.inside o
-              (ap (is_candidate (label c v) w (pick b 1 0)) best.is ∙ best.matches);
+              (ap (is_candidate (label c v) w (if b then 1 else 0)) best.is ∙ best.matches);
         }
 
 -- ---- the image that the translator wrote
@@ -70,10 +70,10 @@ module _ (text out : List ℕ) (n : ℕ) (done : (translate text out).reply ≡ 
       ∙ translated-decoded text (translated-fine text out n done) (facts text read)
 
   -- each of its labels from 2 up
-  pub only-translated : (l : ℕ) → 2 ≤ l → l < length image.labels → (w : ℕ) (b : Bool) → Only l w (pick b 1 0) image.rows
+  pub only-translated : (l : ℕ) → 2 ≤ l → l < length image.labels → (w : ℕ) (b : Bool) → Only l w (if b then 1 else 0) image.rows
   only-translated l low high w b =
       let c : Chart = contents text in
       let x : Bearer c (size c) l = bearer c l low (subst (λ (i : Image). l < length i.labels) image-is high) in
-      subst (λ (m : ℕ). Only m w (pick b 1 0) image.rows) x.is
-      (subst (Only (label c x.node) w (pick b 1 0)) (sym (ap (λ (i : Image). i.rows) image-is ∙ rows_are c))
+      subst (λ (m : ℕ). Only m w (if b then 1 else 0) image.rows) x.is
+      (subst (Only (label c x.node) w (if b then 1 else 0)) (sym (ap (λ (i : Image). i.rows) image-is ∙ rows_are c))
       (only_row c (accepted text read).sound x.node w b x.inside x.own))

@@ -1,10 +1,10 @@
 -- With no rebinding in the list, the agreement is one over lists of runs and the walk of words alone.
+use Rattle.std.proofs.Common.{if◌then◌else◌}
 use Prim.Native.Nat.{ℕ, ◌+◌, ◌≤◌}
 use mathlib.Core.Bool.{Bool, true, false}
 use mathlib.Core.Path.{◌≡◌, refl, sym, ap, ◌∙◌}
 use mathlib.Core.List.{List, [], ◌∷◌, ◌++◌, map, map-append}
 use lib.ListN.{length, take}
-use Rattle.words.specs.lists.Pick.{pick}
 use Rattle.words.specs.lists.Sequences.{concat_map}
 use Rattle.bindings.specs.Binding.{Binding, own_binding}
 use Rattle.text.specs.frames.Frame.{contents}
@@ -51,8 +51,8 @@ joined-alone c s [] = refl
 joined-alone c s (a ∷ rest) = go (is_short a) (joined-alone c s rest)
   where
     go : (t : Bool) → joined_words c s (map to_run rest) ≡ signals s (unswapped.joined_run_words rest)
-        → pick t [] (signals s a.words) ++ joined_words c s (map to_run rest) ≡ signals s
-        (pick t [] a.words ++ unswapped.joined_run_words rest)
+        → (if t then [] else signals s a.words) ++ joined_words c s (map to_run rest) ≡ signals s
+        ((if t then [] else a.words) ++ unswapped.joined_run_words rest)
     go true ih = ih
     go false ih = ap (λ (l : List Signal). signals s a.words ++ l) ih ∙ sym (map-append _ a.words (unswapped.joined_run_words rest))
 

@@ -1,4 +1,5 @@
 -- One tick of the machine on the table of a chart is one tick of the walk, but for a call at a full stack, which stops it with 17.
+use Rattle.std.proofs.Common.{if◌then◌else◌}
 use Prim.Native.Nat.{ℕ, suc, ◌+◌, ◌-◌, ◌≤◌, ◌<◌}
 use mathlib.Core.Bool.{Bool, true, false, ◌&&◌, ◌||◌, not}
 use mathlib.Core.Path.{◌≡◌, refl, ap, ap₂, ◌∙◌, sym}
@@ -8,8 +9,7 @@ use lib.Dec.{leb, eqb}
 use lib.ListN.{length, set}
 use native.Mathlib.Omega.{arith}
 use borrow.Author.Tests.{eqb-true, eqb-false, eq-eqb, ne_eqb, le-leb, lt-leb, leb-true, leb-false}
-use Rattle.words.specs.lists.Pick.{pick}
-use Rattle.words.proofs.lists.Tests.{and_no, and_r, and-true, or_true_r, or-none, yes-pick, no-pick}
+use Rattle.words.proofs.lists.Tests.{and_no, and_r, and-true, or_true_r, or-none, if-true, if-false}
 use Rattle.text.specs.frames.Frame.{size}
 use Rattle.results.specs.Results.{Results, result_of, with_result, cleared_results}
 use Rattle.bindings.specs.Binding.{Binding, server_of}
@@ -42,7 +42,7 @@ use Rattle.agreement.proofs.Places.{get-bottom, get-top, get-under, set-top, set
 
 -- what the machine answers for a tick of the walk that leads to state s
 abbrev pub answer : ℕ → Tick → State → MachineTick
-answer n t s = pick (is_full_call n t) (stopped 17) (finished t.mask t.code s)
+answer n t s = if is_full_call n t then stopped 17 else finished t.mask t.code s
 
 -- the tick of a label x that is known, in a scheme called by number g
 tick-at : (i : Image) (s : State) (w l g : ℕ) (x : Label) → place_at s (s.depth - 1) ≡ l → number_at s (s.depth - 1) ≡ g → label_at i l ≡ x
@@ -135,20 +135,20 @@ module _ (c : Chart) (n : ℕ) (n≤ : n ≤ 32) (serving : Binding) where
 
         abbrev Goal : Bool → Bool → Type 0
         Goal full t = pushed_tick (table c) (state x ks b f) m (j + h) h (server_of serving h) d full
-            ≡ answer n (made (pick t 96 (j + h))) (state_of_position c n serving (position_called c x ks h (server_of serving h) d f t))
+            ≡ answer n (made (if t then 96 else j + h)) (state_of_position c n serving (position_called c x ks h (server_of serving h) d f t))
 
         at-full : (t : Bool) → is_dropping n c f (suc (length ks)) ≡ t → suc (length ks) ≡ n
             → is_full_stack_kept (table c) (state x ks b f) ≡ not t → Goal true t
         unfolding table below
         at-full true q e k =
             let l = facts.handled (drop-handler n c f (suc (length ks)) q) in
-            no-pick (is_full_stack_kept (table c) (state x ks b f)) (stopped 17) _ k
+            if-false (is_full_stack_kept (table c) (state x ks b f)) (stopped 17) _ k
             ∙ ap (λ (u : ℕ). finished m 96
             (holding n 1 serving (cleared_results (handler c) d) (bottom_alone u) (bottom_alone (handler c)) (bottom_alone (handler c))))
             (table_facts.entries (handler c) (omega (arith, l)) l.1)
         at-full false q e k =
-            yes-pick (is_full_stack_kept (table c) (state x ks b f)) (stopped 17) _ k
-            ∙ sym (yes-pick (is_full_call n (made (j + h))) (stopped 17) _
+            if-true (is_full_stack_kept (table c) (state x ks b f)) (stopped 17) _ k
+            ∙ sym (if-true (is_full_call n (made (j + h))) (stopped 17) _
             (and-true (leb 16 (j + h) && not (eqb (j + h) 96)) (eqb (suc (length ks)) n)
             (and-true (leb 16 (j + h)) (not (eqb (j + h) 96)) (le-leb 16 (j + h) low) (ap not (ne_eqb (j + h) 96 other)))
             (eq-eqb (suc (length ks)) n e)))
@@ -169,7 +169,7 @@ module _ (c : Chart) (n : ℕ) (n≤ : n ≤ 32) (serving : Binding) where
             (below (labelled c) (x ∷ ks) (label c (start c k) ∷ zeros_over (x ∷ ks)))
             (below open_number (x ∷ ks) (h ∷ zeros_over (x ∷ ks))) zs))
             (set-push open_server x ks k (omega arith))
-            ∙ sym (no-pick (is_full_call n (made (j + h))) (stopped 17) _
+            ∙ sym (if-false (is_full_call n (made (j + h))) (stopped 17) _
             (and_no (leb 16 (j + h) && not (eqb (j + h) 96)) (eqb (suc (length ks)) n) (ne_eqb (suc (length ks)) n (λ z. omega arith))))
 
         to-push : length ks < n → Goal (leb n (suc (length ks))) (is_dropping n c f (suc (length ks)))
@@ -191,7 +191,7 @@ module _ (c : Chart) (n : ℕ) (n≤ : n ≤ 32) (serving : Binding) where
         go (inl e) = table_facts.row_plain k.node w _ caller.stop.inside e
             ∙ ap (λ (s : Stop). found (label c (node_resumed c k.node w b s)))
             (sym (stop-call c k.node e (λ p. omega (arith, caller.called, caller.deep))))
-        go (inr e) = ap (λ (x : Label). lead_of (best_row (labelled c k) w (pick (result_of x.called b) 1 0) 0 (rows c)))
+        go (inr e) = ap (λ (x : Label). lead_of (best_row (labelled c k) w (if result_of x.called b then 1 else 0) 0 (rows c)))
             (held c k.node table_facts caller.stop (a-function e))
             ∙ table_facts.row_function k.node w (result_of (argument c k.node) b) caller.stop.inside e
             ∙ ap (λ (s : Stop). found (label c (node_resumed c k.node w b s))) (sym (stop-function c k.node e))

@@ -1,4 +1,5 @@
 -- What the table of a chart holds at the label of a stop.
+use Rattle.std.proofs.Common.{if◌then◌else◌}
 use Prim.Native.Nat.{ℕ, ◌+◌, ◌<◌}
 use mathlib.Core.Bool.{Bool, true, false, ◌&&◌, not}
 use mathlib.Core.Path.{◌≡◌, refl, ap, ◌∙◌, sym, subst}
@@ -6,7 +7,6 @@ use lib.ListN.{length}
 use lib.Dec.{eqb}
 use native.Mathlib.Omega.{arith}
 use borrow.Author.Tests.{eqb-true, eqb-false, ne_eqb}
-use Rattle.words.specs.lists.Pick.{pick}
 use Rattle.words.specs.lists.Numbers.{count}
 use Rattle.charts.specs.Chart.{Chart, kind, scheme, argument}
 use Rattle.walk.specs.Stops.{is_stop, Stop, plain, call, function, test, home, back}
@@ -28,19 +28,19 @@ label_held_by c v back = return_label
 
 module _ (c : Chart) (v : ℕ) where
   -- an End has label 0 in scheme 1 and 1 elsewhere
-  label-end : kind c v ≡ 1 → label c v ≡ pick (eqb (scheme c v) 1) 0 1
+  label-end : kind c v ≡ 1 → label c v ≡ (if eqb (scheme c v) 1 then 0 else 1)
   unfolding label
-  label-end e = ap (λ (t : Bool). pick t (2 + count (is_numbered c) 0 v) (pick (eqb (scheme c v) 1) 0 1)) (unnumbered (is_stop c v))
+  label-end e = ap (λ (t : Bool). (if t then 2 + count (is_numbered c) 0 v else if eqb (scheme c v) 1 then 0 else 1)) (unnumbered (is_stop c v))
     where
       unnumbered : (t : Bool) → (t && not (eqb (kind c v) 1)) ≡ false
       unnumbered true = rw e
       unnumbered false = refl
 
   pub label-home : kind c v ≡ 1 → scheme c v ≡ 1 → label c v ≡ 0
-  label-home e s = label-end e ∙ ap (λ (h : ℕ). pick (eqb h 1) 0 1) s
+  label-home e s = label-end e ∙ ap (λ (h : ℕ). (if eqb h 1 then 0 else 1)) s
 
   pub label-back : kind c v ≡ 1 → (scheme c v ≡ 1 → ⊥) → label c v ≡ 1
-  label-back e s = label-end e ∙ ap (λ (t : Bool). pick t 0 1) (ne_eqb (scheme c v) 1 s)
+  label-back e s = label-end e ∙ ap (λ (t : Bool). (if t then 0 else 1)) (ne_eqb (scheme c v) 1 s)
 
   module _ (facts : TableFacts c) {h : ℕ} (stop : StopOf c h v) where
     pub is-numbered : (kind c v ≡ 1 → ⊥) → is_numbered c v ≡ true
@@ -61,7 +61,7 @@ module _ (c : Chart) (v : ℕ) where
     pub label-low : label c v < length (table c).labels
     label-low = go (eqb (kind c v) 1) refl
       where
-        low : (t : Bool) → pick t 0 1 < length (table c).labels
+        low : (t : Bool) → (if t then 0 else 1) < length (table c).labels
         low true = omega (arith, facts.highest)
         low false = omega (arith, facts.highest)
 

@@ -1,9 +1,9 @@
 -- What acceptance of a chart gives for its table: labels, entries, and where the row that a label takes leads.
+use Rattle.std.proofs.Common.{if◌then◌else◌}
 use Prim.Native.Nat.{ℕ, ◌≤◌, ◌<◌}
 use mathlib.Core.Bool.{Bool, true}
 use mathlib.Core.Path.{◌≡◌}
 use lib.ListN.{length}
-use Rattle.words.specs.lists.Pick.{pick}
 use Rattle.text.specs.frames.Frame.{size}
 use Rattle.charts.specs.Chart.{Chart, kind, next0, next1, schemes}
 use Rattle.walk.specs.Stops.{is_stop, by_arc, by_word}
@@ -30,4 +30,4 @@ pub record TableFacts (c : Chart) : Type 0 where
   pub row_condition : (v w b : ℕ) → v < size c → kind c v ≡ 3 → is_stop c v ≡ true
       → lead_of (best_row (label c v) w b 0 (rows c)) ≡ found (label c (by_word c w v))
   pub row_function : (v w : ℕ) (b : Bool) → v < size c → kind c v ≡ 4
-      → lead_of (best_row (label c v) w (pick b 1 0) 0 (rows c)) ≡ found (label c (by_arc c w (pick b (next1 c v) (next0 c v))))
+      → lead_of (best_row (label c v) w (if b then 1 else 0) 0 (rows c)) ≡ found (label c (by_arc c w (if b then next1 c v else next0 c v)))

@@ -1,4 +1,5 @@
 -- Many ticks of the machine are those of the trace up to its bound.
+use Rattle.std.proofs.Common.{if◌then◌else◌}
 use Prim.Native.Nat.{ℕ, suc, ◌+◌, ◌≤◌, ◌<◌}
 use mathlib.Core.Bool.{Bool, true, false, ◌&&◌, not}
 use mathlib.Core.Path.{◌≡◌, refl, ap, ◌∙◌, sym, subst}
@@ -7,7 +8,6 @@ use lib.Dec.{leb, ltb, eqb, leb-suc-suc}
 use lib.ListN.{length, take}
 use native.Mathlib.Omega.{arith}
 use borrow.Author.Tests.{eqb-false, ne_eqb, lt-ltb, le-leb}
-use Rattle.words.specs.lists.Pick.{pick}
 use Rattle.words.proofs.lists.Tests.{and-true, and-false}
 use Rattle.results.specs.Results.{Results}
 use Rattle.bindings.specs.Binding.{Binding}
@@ -23,7 +23,7 @@ use Rattle.walk.proofs.Trace.{is_drop_at, tick_at, move, trace, Serves, Good, vi
 use Rattle.translator.specs.Table.{table}
 use Rattle.state.specs.declared.State.{State}
 use Rattle.ticks.specs.Tick.{finished, stopped}
-use Rattle.runs.specs.Run.{MachineRun, then, ticks}
+use Rattle.runs.specs.Run.{MachineRun, run_after, ticks}
 use Rattle.agreement.specs.Agreement.{is_full_call, bound}
 use Rattle.agreement.proofs.TableFacts.{TableFacts}
 use Rattle.agreement.proofs.Places.{state_of_position}
@@ -36,7 +36,7 @@ run_by_ticks c n s b ts y m = record {
   masks = map (λ (t : Tick). t.mask) (take b ts);
   codes = map (λ (t : Tick). t.code) (take b ts);
   state = state_of_position c n s y;
-  verdict = pick (ltb b m) (refused 17 0) fine;
+  verdict = if ltb b m then refused 17 0 else fine;
 }
 
 -- what is run of all the words, from x on
@@ -59,7 +59,7 @@ module _ (c : Chart) (n : ℕ) (s : Binding) where
   deep_back (k ∷ ks) w b f low = omega arith
 
   deep-call : (x : Open) (ks : List Open) (h k code : ℕ) (d : Results) (f : Bool) → length ks < n → 16 ≤ code → (code ≡ 96 → ⊥) → (t : Bool)
-      → (leb 16 (pick t 96 code) && not (eqb (pick t 96 code) 96) && eqb (suc (length ks)) n) ≡ false
+      → (leb 16 (if t then 96 else code) && not (eqb (if t then 96 else code) 96) && eqb (suc (length ks)) n) ≡ false
       → length (position_called c x ks h k d f t).callers < n
   deep-call x ks h k code d f low l other true q = omega arith
   deep-call x ks h k code d f low l other false q =
@@ -94,15 +94,15 @@ module _ (c : Chart) (n : ℕ) (s : Binding) where
   state x = state_of_position c n s x
 
   abbrev first : ℕ → List ℕ → WalkPosition → MachineRun
-  first w ws x = then (state x) (λ t. ticks (table c) t ws) (answer n (tick_at n c x) (state (next w x)))
+  first w ws x = run_after (state x) (λ t. ticks (table c) t ws) (answer n (tick_at n c x) (state (next w x)))
 
   first_stops : (w : ℕ) (ws : List ℕ) (x : WalkPosition) → is_full_call n (tick_at n c x) ≡ true
       → first w ws x ≡ run_from_position c n s (w ∷ ws) x
   unfolding trace
   first_stops w ws x e =
       let t = tick_at n c x in let y = next w x in let ts = trace n c (signals s ws) y in
-      ap (λ (r : Bool). then (state x) (λ t. ticks (table c) t ws) (pick r (stopped 17) (finished t.mask t.code (state y)))) e
-      ∙ ap (λ (r : Bool). ran [] [] (state x) (pick r (refused 17 0) fine)) (sym (lt-ltb 0 (suc (length ws)) (omega arith)))
+      ap (λ (r : Bool). run_after (state x) (λ t. ticks (table c) t ws) (if r then stopped 17 else finished t.mask t.code (state y))) e
+      ∙ ap (λ (r : Bool). ran [] [] (state x) (if r then refused 17 0 else fine)) (sym (lt-ltb 0 (suc (length ws)) (omega arith)))
       ∙ ap (λ (y : WalkPosition). run_by_ticks c n s 0 (t ∷ ts) y (suc (length ws))) (sym (stand-stop c n (signal w) (signals s ws) x e))
       ∙ ap (λ (b : ℕ). run_by_ticks c n s b (t ∷ ts) (stand c n (signal w ∷ signals s ws) x) (suc (length ws))) (sym (bound-stop n t ts e))
 
@@ -111,10 +111,10 @@ module _ (c : Chart) (n : ℕ) (s : Binding) where
   unfolding trace
   first_goes w ws x e ih =
       let t = tick_at n c x in let y = next w x in let ts = trace n c (signals s ws) y in let b = bound n ts in
-      ap (λ (r : Bool). then (state x) (λ t. ticks (table c) t ws) (pick r (stopped 17) (finished t.mask t.code (state y)))) e
+      ap (λ (r : Bool). run_after (state x) (λ t. ticks (table c) t ws) (if r then stopped 17 else finished t.mask t.code (state y))) e
       ∙ ap (λ (r : MachineRun). ran (t.mask ∷ r.masks) (t.code ∷ r.codes) r.state r.verdict) ih
       ∙ ap (λ (r : Bool). ran (map (λ (u : Tick). u.mask) (take (suc b) (t ∷ ts))) (map (λ (u : Tick). u.code) (take (suc b) (t ∷ ts)))
-      (state (stand c n (signals s ws) y)) (pick r (refused 17 0) fine)) (sym (leb-suc-suc (suc b) (length ws)))
+      (state (stand c n (signals s ws) y)) (if r then refused 17 0 else fine)) (sym (leb-suc-suc (suc b) (length ws)))
       ∙ ap (λ (y : WalkPosition). run_by_ticks c n s (suc b) (t ∷ ts) y (suc (length ws)))
       (sym (stand-go c n (signal w) (signals s ws) x e))
       ∙ ap (λ (k : ℕ). run_by_ticks c n s k (t ∷ ts) (stand c n (signal w ∷ signals s ws) x) (suc (length ws))) (sym (bound-go n t ts e))
@@ -143,7 +143,7 @@ module _ (c : Chart) (n : ℕ) (s : Binding) where
     unfolding ticks trace bound stand
     ticks-are n≤ table_facts [] x z = refl
     ticks-are n≤ table_facts (w ∷ ws) x z =
-        ap (then (state x) (λ t. ticks (table c) t ws)) (tick_is c n n≤ s facts table_facts serves w x z.low z.good)
+        ap (run_after (state x) (λ t. ticks (table c) t ws)) (tick_is c n n≤ s facts table_facts serves w x z.low z.good)
         ∙ go (ticks-are n≤ table_facts ws (next w x)) (is_full_call n (tick_at n c x)) refl
       where
         go : (StandsWell c n (next w x) → ticks (table c) (state (next w x)) ws ≡ run_from_position c n s ws (next w x))

@@ -1,7 +1,6 @@
 -- The agreement: what a whole list of runs and rebindings hands back, against what the walk of the joined words gives.
-use Rattle.std.specs.Prelude.{ℕ, suc, ◌+◌, ◌-◌, ◌≤◌, min, Bool, true, false, ◌&&◌, not, ◌≡◌, List, [], ◌∷◌, ◌++◌, map, leb, ltb, eqb}
+use Rattle.std.specs.Prelude.{ℕ, suc, ◌+◌, ◌-◌, ◌≤◌, min, Bool, true, false, ◌&&◌, not, ◌≡◌, List, [], ◌∷◌, ◌++◌, map, leb, ltb, eqb, if◌then◌else◌}
 use Rattle.std.specs.Prelude.{length, take, drop}
-use Rattle.words.specs.lists.Pick.{pick}
 use Rattle.words.specs.lists.Sequences.{over}
 use Rattle.bindings.specs.Binding.{Binding, own_binding, rebound_binding, is_bad_rebinding}
 use Rattle.text.specs.declared.frames.codes.TheConstants.{OPERATION_CALL_CODE}
@@ -73,12 +72,12 @@ abbrev pub is_barred_rebinding : Chart → ℕ → ℕ → Bool
 is_barred_rebinding c h k = is_bad_rebinding (schemes c) (handler c) h k
 
 abbrev pub binding_after : Chart → ℕ → ℕ → Binding → Binding
-binding_after c h k s = pick (is_barred_rebinding c h k) s (rebound_binding h k s)
+binding_after c h k s = if is_barred_rebinding c h k then s else rebound_binding h k s
 
 -- the words of all runs, each told the binding that the rebindings before it have made of s
 unfoldable pub joined_words : Chart → Binding → List CallInput → List Signal
 joined_words c s [] = []
-joined_words c s (to_run a ∷ rest) = pick (is_short a) [] (signals s a.words) ++ joined_words c s rest
+joined_words c s (to_run a ∷ rest) = (if is_short a then [] else signals s a.words) ++ joined_words c s rest
 joined_words c s (to_rebind h k ∷ rest) = joined_words c (binding_after c h k s) rest
 
 -- a call, of an operation or of a function, that finds n schemes open and is made: with a handler, one that finds it first of them
@@ -98,7 +97,7 @@ expected_output b ts p a =
     let done = min end b - min p b in
     let mine = take done (drop p ts) in
     record {
-      reply = pick (ltb b end && ltb 0 (length a.words)) (refusal FULL 0 done) (success done);
+      reply = if ltb b end && ltb 0 (length a.words) then refusal FULL 0 done else success done;
       masks = over (map (λ (t : Tick). t.mask) mine) a.masks;
       codes = over (map (λ (t : Tick). t.code) mine) a.codes;
     }
@@ -107,7 +106,7 @@ abbrev pub output_refused_short : RunInput → RunOutput
 output_refused_short a = record { reply = refusal NO_ROOM 0 0; masks = a.masks; codes = a.codes }
 
 abbrev pub reply_to : Chart → ℕ → ℕ → Reply
-reply_to c h k = pick (is_barred_rebinding c h k) (refusal BAD_REBINDING 0 0) (success 0)
+reply_to c h k = if is_barred_rebinding c h k then refusal BAD_REBINDING 0 0 else success 0
 
 unfoldable pub expected_outputs : Chart → ℕ → List Tick → ℕ → List CallInput → List CallOutput
 expected_outputs c b ts p [] = []

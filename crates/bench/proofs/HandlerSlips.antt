@@ -1,6 +1,7 @@
 -- Slips of a drop, each a tick in the place of the machine's. Most are shown not to meet the agreement.
 -- The result bits that a drop leaves never show in a tick, because a function's own call clears the bit that its return reads; a slip in
 -- them is shown to hand back another state than the definition, which the tick's contract rules out.
+use Rattle.std.proofs.Common.{if◌then◌else◌}
 use mathlib.Core.Path.{◌≡◌, ◌∙◌, ap, sym}
 use mathlib.Core.Bool.{◌&&◌, not}
 use mathlib.Core.List.{List, [], ◌∷◌}
@@ -8,7 +9,6 @@ use Prim.Native.Nat.{ℕ, suc, ◌-◌}
 use native.Mathlib.Omega.{arith}
 use lib.Dec.{leb, eqb}
 use lib.ListN.{take, set}
-use Rattle.words.specs.lists.Pick.{pick}
 use Rattle.results.specs.Results.{Results, result_of, with_result, cleared_results}
 use Rattle.text.specs.frames.Answer.{reply_number}
 use Rattle.image.specs.Image.{Image, Label}
@@ -38,7 +38,7 @@ written i s = with_result (top_label i s).result (top_number s) s.bits
 
 -- the machine's tick, but after a drop the state is what f makes of the states before and after it
 abbrev altered_tick : (State → State) → MachineTick → MachineTick
-altered_tick f (finished m code t) = finished m code (pick (eqb code 96) (f t) t)
+altered_tick f (finished m code t) = finished m code (if eqb code 96 then f t else t)
 altered_tick f (stopped n) = stopped n
 
 abbrev after_drop : (Image → State → State → State) → StepRule
@@ -46,7 +46,7 @@ after_drop f i s w = altered_tick (f i s) (tick i s w)
 
 -- ---- 17 in the place of every drop
 abbrev pub never_drops : StepRule
-never_drops i s w = pick (is_at_full_call i s) (stopped 17) (tick i s w)
+never_drops i s w = if is_at_full_call i s then stopped 17 else tick i s w
 
 pub never-drops-fails : (g : Rebinder) → Agreement translate fresh_state (run_by never_drops) g → ⊥
 unfolding running ticks_by_rule table_handler drop_words
@@ -58,7 +58,7 @@ never-drops-fails g claim =
 -- ---- a drop at depth Σ - 1
 abbrev pub drops_early : StepRule
 drops_early i s w =
-    pick (is_call (top_label i s) && leb (s.size - 1) s.depth) (full_tick i s (top_label i s).mask (written i s)) (tick i s w)
+    if is_call (top_label i s) && leb (s.size - 1) s.depth then full_tick i s (top_label i s).mask (written i s) else tick i s w
 
 pub drops-early-fails : (g : Rebinder) → Agreement translate fresh_state (run_by drops_early) g → ⊥
 unfolding running ticks_by_rule table_handler drop_words
@@ -69,9 +69,9 @@ drops-early-fails g claim =
 
 -- ---- a drop though the handler is at the bottom
 abbrev pub drops_again : StepRule
-drops_again i s w = pick (is_at_full_call i s && is_of_handler i (place_at s 0))
-    (finished (top_label i s).mask 96 (state_alone s (entry_at i i.handler) i.handler (cleared_results i.handler (written i s))))
-    (tick i s w)
+drops_again i s w = if is_at_full_call i s && is_of_handler i (place_at s 0)
+    then finished (top_label i s).mask 96 (state_alone s (entry_at i i.handler) i.handler (cleared_results i.handler (written i s)))
+    else tick i s w
 
 pub drops-again-fails : (g : Rebinder) → Agreement translate fresh_state (run_by drops_again) g → ⊥
 unfolding running ticks_by_rule table_handler bottom_words
@@ -97,7 +97,7 @@ tick_resized_after n (finished m code t) = finished m code (resized_state n t)
 tick_resized_after n (stopped k) = stopped k
 
 abbrev pub counts_zero : StepRule
-counts_zero i s w = pick (is_of_handler i (place_at s 0)) (tick_resized_after s.size (tick i (resized_state (suc s.size) s) w)) (tick i s w)
+counts_zero i s w = if is_of_handler i (place_at s 0) then tick_resized_after s.size (tick i (resized_state (suc s.size) s) w) else tick i s w
 
 pub counts-zero-fails : (g : Rebinder) → Agreement translate fresh_state (run_by counts_zero) g → ⊥
 unfolding running ticks_by_rule table_handler bottom_words
@@ -108,7 +108,7 @@ counts-zero-fails g claim =
 
 -- ---- a handler's scheme that was called taken for the handler at the bottom
 abbrev pub heeds_called : StepRule
-heeds_called i s w = pick (is_at_full_call i s && is_of_handler i (top_of s)) (stopped 17) (tick i s w)
+heeds_called i s w = if is_at_full_call i s && is_of_handler i (top_of s) then stopped 17 else tick i s w
 
 pub heeds-called-fails : (g : Rebinder) → Agreement translate fresh_state (run_by heeds_called) g → ⊥
 unfolding running ticks_by_rule table_handler ordinary_words
@@ -130,9 +130,9 @@ keeps-beneath-fails g claim =
 
 -- ---- a handler that returns to the dropped caller: a drop keeps the caller's label above the handler, and the return takes its row
 abbrev pub returns_to_caller : StepRule
-returns_to_caller i s w = pick (eqb (top_label i s).kind 3 && leb s.depth 1 && not (eqb (place_at s 1) 0))
-    (moved_tick 0 3 (state_alone s 0 1 s.bits) 0 (row_leads i s.bits (place_at s 1) w))
-    (after_drop (λ i s t. with_place t 1 (top_of s)) i s w)
+returns_to_caller i s w = if eqb (top_label i s).kind 3 && leb s.depth 1 && not (eqb (place_at s 1) 0)
+    then moved_tick 0 3 (state_alone s 0 1 s.bits) 0 (row_leads i s.bits (place_at s 1) w)
+    else after_drop (λ i s t. with_place t 1 (top_of s)) i s w
 
 pub returns-to-caller-fails : (g : Rebinder) → Agreement translate fresh_state (run_by returns_to_caller) g → ⊥
 unfolding running ticks_by_rule table_handler drop_words
@@ -143,7 +143,7 @@ returns-to-caller-fails g claim =
 
 -- ---- the handler's return at depth 1 takes a row, of which label 1 has none
 abbrev pub takes_row : StepRule
-takes_row i s w = pick (eqb (top_label i s).kind 3) (return_tick s (beneath i s w)) (tick i s w)
+takes_row i s w = if eqb (top_label i s).kind 3 then return_tick s (beneath i s w) else tick i s w
 
 pub takes-row-fails : (g : Rebinder) → Agreement translate fresh_state (run_by takes_row) g → ⊥
 unfolding running ticks_by_rule table_handler drop_words
@@ -181,7 +181,7 @@ states-made step claim ws =
     (run-image image_handler table_handler of-handler.passes of-handler.decodes (fresh 2) ws a.masks a.codes)
 
 abbrev bit_of : ℕ → State → ℕ
-bit_of h s = pick (result_of h s.bits) 1 0
+bit_of h s = if result_of h s.bits then 1 else 0
 
 -- ---- a drop clears the bit of the number called
 abbrev pub clears_called : StepRule

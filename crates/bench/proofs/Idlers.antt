@@ -1,4 +1,5 @@
 -- Functions that do too little: none that has one of these properties meets the translator's equation or the agreement.
+use Rattle.std.proofs.Common.{if◌then◌else◌}
 use mathlib.Core.Path.{◌≡◌, refl, ◌∙◌, ap, sym}
 use mathlib.Core.Bool.{Bool, true, false, ◌&&◌}
 use mathlib.Core.List.{List, [], ◌∷◌}
@@ -6,7 +7,6 @@ use Prim.Native.Nat.{ℕ, ◌≤◌, ◌<◌}
 use native.Mathlib.Omega.{arith}
 use lib.Dec.{leb, eqb}
 use lib.ListN.{length, take, get_or, replicate}
-use Rattle.words.specs.lists.Pick.{pick}
 use Rattle.words.specs.lists.Sequences.{over}
 use Rattle.text.specs.frames.Verdict.{fine}
 use Rattle.text.specs.frames.Answer.{Reply, success, refusal, BufferOutcome, buffer_on, reply_number, reply_count}
@@ -113,7 +113,7 @@ plain-after-call-fails f g idle claim =
 
 -- such a run: the machine's ticks as long as one scheme is open, and then plain ones
 abbrev pub plain_after_call : StepRule
-plain_after_call i s w = pick (eqb s.depth 1) (tick i s w) (finished 0 0 s)
+plain_after_call i s w = if eqb s.depth 1 then tick i s w else finished 0 0 s
 
 pub plain-run-fails : (g : Rebinder) → Agreement translate fresh_state (run_by plain_after_call) g → ⊥
 unfolding running ticks_by_rule table_p bench_words
@@ -138,9 +138,9 @@ stays-in-handler-fails f g idle claim =
 
 -- such a run: the handler's return at the bottom starts the handler again
 abbrev pub stays_in_handler : StepRule
-stays_in_handler i s w = pick (leb s.depth 1 && eqb (place_at s 0) 1)
-    (finished 0 3 (with_place s 0 (entry_at i i.handler)))
-    (tick i s w)
+stays_in_handler i s w = if leb s.depth 1 && eqb (place_at s 0) 1
+    then finished 0 3 (with_place s 0 (entry_at i i.handler))
+    else tick i s w
 
 pub handler-run-fails : (g : Rebinder) → Agreement translate fresh_state (run_by stays_in_handler) g → ⊥
 unfolding running ticks_by_rule table_handler drop_words

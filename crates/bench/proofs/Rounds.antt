@@ -24,7 +24,7 @@ use Rattle.state.specs.declared.State.{State}
 use Rattle.state.specs.State.{fresh}
 use Rattle.ticks.specs.Tick.{MachineTick, finished, pushed_tick, tick}
 use Rattle.rows.specs.Rows.{best_row}
-use Rattle.runs.specs.Run.{RunOutcome, MachineRun, then, ticks, has_no_room, run_on, run}
+use Rattle.runs.specs.Run.{RunOutcome, MachineRun, run_after, ticks, has_no_room, run_on, run}
 use Rattle.fitness.proofs.Fitness.{fits}
 use Rattle.ticks.proofs.Keeps.{fresh-fits}
 use Rattle.agreement.proofs.Images.{run-image}
@@ -169,9 +169,9 @@ module _ (size : ℕ) (two : 2 ≤ size) where
       → Makes s (w ∷ ws) (m ∷ ms) (k ∷ ks)
   unfolding ticks
   more {s} {t} {w} {m} {k} {ws} e r = record {
-    masks = ap (λ (x : MachineTick). (then s (λ u. ticks table_function u ws) x).masks) e ∙ ap (λ (ms : List ℕ). m ∷ ms) r.masks;
-    codes = ap (λ (x : MachineTick). (then s (λ u. ticks table_function u ws) x).codes) e ∙ ap (λ (ks : List ℕ). k ∷ ks) r.codes;
-    verdict = ap (λ (x : MachineTick). (then s (λ u. ticks table_function u ws) x).verdict) e ∙ r.verdict;
+    masks = ap (λ (x : MachineTick). (run_after s (λ u. ticks table_function u ws) x).masks) e ∙ ap (λ (ms : List ℕ). m ∷ ms) r.masks;
+    codes = ap (λ (x : MachineTick). (run_after s (λ u. ticks table_function u ws) x).codes) e ∙ ap (λ (ks : List ℕ). k ∷ ks) r.codes;
+    verdict = ap (λ (x : MachineTick). (run_after s (λ u. ticks table_function u ws) x).verdict) e ∙ r.verdict;
   }
 
   rounds : (x : Bool) (ws : List ℕ) → Makes (two_places size 1 0 0 x) ws (repeated_list masks5 (length ws))

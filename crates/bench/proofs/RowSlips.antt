@@ -1,6 +1,7 @@
 -- Slips of the rule by which a row is taken, each shown to run a patched image otherwise than the definition, which a run's contract
 -- rules out. On the image of a chart they are no slips: just one row matches there. So it is with the rule that takes the first row that
 -- matches.
+use Rattle.std.proofs.Common.{if◌then◌else◌}
 use mathlib.Core.Path.{◌≡◌, refl, sym, ◌∙◌, ap}
 use mathlib.Core.Bool.{Bool, true, false}
 use mathlib.Core.List.{List, [], ◌∷◌}
@@ -9,7 +10,6 @@ use native.Mathlib.Omega.{arith}
 use lib.Count.{ones, ones_in}
 use lib.Dec.{leb, ltb, eqb}
 use lib.ListN.{length, get_or}
-use Rattle.words.specs.lists.Pick.{pick}
 use Rattle.text.specs.frames.Answer.{success}
 use Rattle.image.specs.Image.{Image, Row, no_row}
 use Rattle.translator.specs.Entry.{translate}
@@ -32,7 +32,7 @@ use Rattle.bench.proofs.Variants.{StepRule, ticks_by_rule, run_by, decoded_run_b
 -- ---- rules that go through the rows and keep one of two
 unfoldable pub kept_choice : (Choice → Choice → Choice) → ℕ → ℕ → ℕ → ℕ → List Row → Choice
 kept_choice f l w b k [] = no_choice
-kept_choice f l w b k (r ∷ rs) = f (pick (is_candidate l w b r) (row k r) no_choice) (kept_choice f l w b (suc k) rs)
+kept_choice f l w b k (r ∷ rs) = f (if is_candidate l w b r then row k r else no_choice) (kept_choice f l w b (suc k) rs)
 
 -- the earlier, if there is one
 abbrev earlier : Choice → Choice → Choice
@@ -43,12 +43,12 @@ earlier (row k r) y = row k r
 abbrev heavier_choice : (Row → ℕ) → Choice → Choice → Choice
 heavier_choice weight no_choice y = y
 heavier_choice weight (row k r) no_choice = row k r
-heavier_choice weight (row k r) (row j q) = pick (ltb (weight q) (weight r)) (row k r) (row j q)
+heavier_choice weight (row k r) (row j q) = if ltb (weight q) (weight r) then row k r else row j q
 
 abbrev firmer_choice : (Row → ℕ) → Choice → Choice → Choice
 firmer_choice weight no_choice y = y
 firmer_choice weight (row k r) no_choice = row k r
-firmer_choice weight (row k r) (row j q) = pick (leb (weight q) (weight r)) (row k r) (row j q)
+firmer_choice weight (row k r) (row j q) = if leb (weight q) (weight r) then row k r else row j q
 
 -- ---- the runs that they make of a patched image, by its table
 abbrev pub RunsAs : Runner → Type 0
@@ -108,7 +108,7 @@ ones-of-values-fails claim =
 
 -- ---- the function bit counted as a condition
 abbrev pub counts_bit : Rule
-counts_bit l w b rs = kept_choice (heavier_choice (λ r. ones r.care + pick (eqb r.bit 2) 0 1)) l w b 0 rs
+counts_bit l w b rs = kept_choice (heavier_choice (λ r. ones r.care + (if eqb r.bit 2 then 0 else 1))) l w b 0 rs
 
 pub counts-bit-fails : RunsAs (run_by (tick_with counts_bit)) → ⊥
 unfolding running ticks_by_rule kept_choice ones ones_in table_equal answer_words
@@ -137,7 +137,7 @@ module _ (l w b : ℕ) where
   first-from k (r ∷ rs) = go (is_candidate l w b r) refl (first-from (suc k) rs)
     where
       go : (t : Bool) → is_candidate l w b r ≡ t → From (suc k) rs (kept_choice earlier l w b (suc k) rs)
-          → From k (r ∷ rs) (earlier (pick t (row k r) no_choice) (kept_choice earlier l w b (suc k) rs))
+          → From k (r ∷ rs) (earlier (if t then row k r else no_choice) (kept_choice earlier l w b (suc k) rs))
       go true e ih = (0, omega arith, omega arith, refl, e)
       go false e ih = behind k r rs e (kept_choice earlier l w b (suc k) rs) ih
 

@@ -1,5 +1,6 @@
 -- The six slips of the bench sheet, and a call that clears no bit: the machine, or the table, with one of them is shown not to meet its
 -- statement.
+use Rattle.std.proofs.Common.{if◌then◌else◌}
 use mathlib.Core.Path.{◌≡◌, ap}
 use mathlib.Core.Bool.{Bool, true, false, ◌&&◌}
 use mathlib.Core.List.{List, [], ◌∷◌}
@@ -7,7 +8,6 @@ use Prim.Native.Nat.{ℕ, zero, suc, ◌-◌}
 use native.Mathlib.Omega.{arith}
 use lib.Dec.{leb, eqb}
 use lib.ListN.{get_or, set, replicate}
-use Rattle.words.specs.lists.Pick.{pick}
 use Rattle.words.specs.bits.Word.{bit}
 use Rattle.results.specs.Results.{result_of, with_result}
 use Rattle.text.specs.frames.Frame.{contents}
@@ -41,7 +41,7 @@ without_top s = popped_state s s.bits
 
 -- ---- the call issued again on return: the label beneath stays and calls once more
 abbrev pub calls_again : StepRule
-calls_again i s w = pick (eqb (kind_of i s) 3) (finished 0 3 (without_top s)) (tick i s w)
+calls_again i s w = if eqb (kind_of i s) 3 then finished 0 3 (without_top s) else tick i s w
 
 pub calls-again-fails : (g : Rebinder) → Agreement translate fresh_state (run_by calls_again) g → ⊥
 unfolding running ticks_by_rule table_p bench_words
@@ -61,9 +61,9 @@ is_call_kind (suc k) = leb k 1
 
 -- ---- the result bit read at the call
 abbrev pub reads_at_call : StepRule
-reads_at_call i s w = pick (eqb (kind_of i s) 3)
-    (return_tick s (lead_of (best_row (beneath s) w (pick (get_or s.bits 15 false) 1 0) 0 i.rows)))
-    (pick (eqb (kind_of i s) 2) (remembered_tick 15 (result_of (label_at i (top_of s)).called s.bits) (tick i s w)) (tick i s w))
+reads_at_call i s w = if eqb (kind_of i s) 3
+    then return_tick s (lead_of (best_row (beneath s) w (if get_or s.bits 15 false then 1 else 0) 0 i.rows))
+    else if eqb (kind_of i s) 2 then remembered_tick 15 (result_of (label_at i (top_of s)).called s.bits) (tick i s w) else tick i s w
 
 pub reads-at-call-fails : (g : Rebinder) → Agreement translate fresh_state (run_by reads_at_call) g → ⊥
 unfolding running ticks_by_rule table_function
@@ -74,9 +74,9 @@ reads-at-call-fails g claim =
 
 -- ---- after a return the choice by the call's word
 abbrev pub chooses_by_call : StepRule
-chooses_by_call i s w = pick (eqb (kind_of i s) 3)
-    (return_tick s (row_leads i s.bits (beneath s) (pick (get_or s.bits 15 false) 1 0)))
-    (pick (is_call_kind (kind_of i s)) (remembered_tick 15 (eqb (bit w 0) 1) (tick i s w)) (tick i s w))
+chooses_by_call i s w = if eqb (kind_of i s) 3
+    then return_tick s (row_leads i s.bits (beneath s) (if get_or s.bits 15 false then 1 else 0))
+    else if is_call_kind (kind_of i s) then remembered_tick 15 (eqb (bit w 0) 1) (tick i s w) else tick i s w
 
 pub chooses-by-call-fails : (g : Rebinder) → Agreement translate fresh_state (run_by chooses_by_call) g → ⊥
 unfolding running ticks_by_rule table_choice
@@ -91,7 +91,7 @@ kept_bit s x = result_of x.called (with_result x.result (top_number s) s.bits)
 
 abbrev pub keeps_bit : StepRule
 keeps_bit i s w = let x = label_at i (top_of s) in
-    pick (is_call_kind x.kind) (remembered_tick (x.called - 1) (kept_bit s x) (tick i s w)) (tick i s w)
+    if is_call_kind x.kind then remembered_tick (x.called - 1) (kept_bit s x) (tick i s w) else tick i s w
 
 pub keeps-bit-fails : (g : Rebinder) → Agreement translate fresh_state (run_by keeps_bit) g → ⊥
 unfolding running ticks_by_rule table_bore bore_words
@@ -102,7 +102,7 @@ keeps-bit-fails g claim =
 
 -- ---- a return from scheme 1
 abbrev pub returns_home : StepRule
-returns_home i s w = pick (eqb (kind_of i s) 4) (finished 0 3 (without_top s)) (tick i s w)
+returns_home i s w = if eqb (kind_of i s) 4 then finished 0 3 (without_top s) else tick i s w
 
 pub returns-home-fails : (g : Rebinder) → Agreement translate fresh_state (run_by returns_home) g → ⊥
 unfolding running ticks_by_rule table_home
@@ -113,7 +113,7 @@ returns-home-fails g claim =
 
 -- ---- a call at depth Σ - 1 refused
 abbrev pub refuses_early : StepRule
-refuses_early i s w = pick (is_call_kind (kind_of i s) && leb (s.size - 1) s.depth) (stopped 17) (tick i s w)
+refuses_early i s w = if is_call_kind (kind_of i s) && leb (s.size - 1) s.depth then stopped 17 else tick i s w
 
 pub refuses-early-fails : (g : Rebinder) → Agreement translate fresh_state (run_by refuses_early) g → ⊥
 unfolding running ticks_by_rule table_p bench_words

@@ -1,4 +1,5 @@
 -- Slips of a rebinding, and of a run under one, each shown not to meet the agreement.
+use Rattle.std.proofs.Common.{if◌then◌else◌}
 use mathlib.Core.Path.{◌≡◌, ◌∙◌, ap, sym}
 use mathlib.Core.Bool.{false, ◌&&◌}
 use mathlib.Core.List.{List, [], ◌∷◌, map}
@@ -6,7 +7,6 @@ use Prim.Native.Nat.{ℕ, ◌+◌, ◌-◌, ◌*◌, ◌/◌, ◌%◌, ◌≤◌
 use native.Mathlib.Omega.{arith}
 use lib.Dec.{ltb, eqb}
 use lib.ListN.{length, get_or, set, replicate}
-use Rattle.words.specs.lists.Pick.{pick}
 use Rattle.words.specs.lists.Numbers.{range}
 use Rattle.words.specs.lists.Sequences.{some}
 use Rattle.results.specs.Results.{result_of, with_result, cleared_results}
@@ -97,17 +97,17 @@ module _ {chart image : List ℕ} {i : Image} (known : TranslatesTo chart image 
 
 -- ---- one that acts later: it is noted where number 1 stands, which nothing calls, and counts from the next return on
 abbrev state_where_done : StateOutcome → State → State → State
-state_where_done r t s = pick (eqb (reply_number r.reply) 0) t s
+state_where_done r t s = if eqb (reply_number r.reply) 0 then t else s
 
 abbrev pub notes : Swapper
 notes i s h k = let r = rebind_image i s h k in
     record { reply = r.reply; state = state_where_done r (with_serving s (set s.serving 0 (32 * h + k))) s }
 
 abbrev counted_state : State → State
-counted_state s = let n = get_or s.serving 0 0 in pick (ltb n 32) s (with_serving s (rebound_binding (n / 32) (n % 32) (set s.serving 0 1)))
+counted_state s = let n = get_or s.serving 0 0 in if ltb n 32 then s else with_serving s (rebound_binding (n / 32) (n % 32) (set s.serving 0 1))
 
 abbrev later : MachineTick → MachineTick
-later (finished m code t) = finished m code (pick (eqb code 3) (counted_state t) t)
+later (finished m code t) = finished m code (if eqb code 3 then counted_state t else t)
 later (stopped n) = stopped n
 
 abbrev pub counts_at_return : StepRule
@@ -125,9 +125,9 @@ counts-at-return-fails claim =
 -- ---- the open schemes that number h called are swapped too: each starts anew as scheme k
 abbrev reopened_state : Image → ℕ → ℕ → State → State
 reopened_state i h k s = with_places s
-    (map (λ j. pick (eqb (number_at s j) h) (entry_at i k) (place_at s j)) (range 0 32))
+    (map (λ j. (if eqb (number_at s j) h then entry_at i k else place_at s j)) (range 0 32))
     s.numbers
-    (map (λ j. pick (eqb (number_at s j) h) k (server_at s j)) (range 0 32))
+    (map (λ j. (if eqb (number_at s j) h then k else server_at s j)) (range 0 32))
 
 abbrev pub swaps_open : Swapper
 swaps_open i s h k = let r = rebind_image i s h k in
@@ -173,9 +173,9 @@ writes-by-server-fails claim =
 
 -- ---- results read at the bit of the scheme that served
 abbrev pub reads_by_server : StepRule
-reads_by_server i s w = pick (eqb (label_at i (top_of s)).kind 3)
-    (return_tick s (lead_of (best_row (place_at s (s.depth - 2)) w (pick (result_of (top_server s) s.bits) 1 0) 0 i.rows)))
-    (tick i s w)
+reads_by_server i s w = if eqb (label_at i (top_of s)).kind 3
+    then return_tick s (lead_of (best_row (place_at s (s.depth - 2)) w (if result_of (top_server s) s.bits then 1 else 0) 0 i.rows))
+    else tick i s w
 
 pub reads-by-server-fails : Agreement translate fresh_state (run_by reads_by_server) rebind → ⊥
 unfolding call_outputs ticking ticks_by_rule table_swap
@@ -192,9 +192,9 @@ kept_by_server i s w =
     let x = label_at i (top_of s) in
     let b = with_result x.result (top_server s) s.bits in
     let k = server_of s.serving x.called in
-    pick (is_call x && ltb s.depth s.size)
-    (finished x.mask (pick (eqb x.kind 1) 16 64 + x.called) (opened_state s (entry_at i k) x.called k (cleared_results k b)))
-    (pick (eqb x.kind 3) (reads_by_server i s w) (writes_by_server i s w))
+    if is_call x && ltb s.depth s.size
+    then finished x.mask ((if eqb x.kind 1 then 16 else 64) + x.called) (opened_state s (entry_at i k) x.called k (cleared_results k b))
+    else if eqb x.kind 3 then reads_by_server i s w else writes_by_server i s w
 
 pub kept-by-server-fails : Agreement translate fresh_state (run_by kept_by_server) rebind → ⊥
 unfolding call_outputs ticking ticks_by_rule table_inner
@@ -206,12 +206,12 @@ kept-by-server-fails claim =
 
 -- ---- codes that show the scheme that serves
 abbrev shown_tick : ℕ → ℕ → MachineTick → MachineTick
-shown_tick h k (finished m code t) = finished m (pick (eqb code 96) code (code - h + k)) t
+shown_tick h k (finished m code t) = finished m (if eqb code 96 then code else code - h + k) t
 shown_tick h k (stopped n) = stopped n
 
 abbrev pub shows_server : StepRule
 shows_server i s w = let x = label_at i (top_of s) in
-    pick (is_call x) (shown_tick x.called (server_of s.serving x.called) (tick i s w)) (tick i s w)
+    if is_call x then shown_tick x.called (server_of s.serving x.called) (tick i s w) else tick i s w
 
 pub shows-server-fails : Agreement translate fresh_state (run_by shows_server) rebind → ⊥
 unfolding call_outputs ticking ticks_by_rule table_swap

@@ -10,7 +10,7 @@ use Rattle.image.specs.Decode.{decoded_image}
 use Rattle.state.specs.declared.State.{State}
 use Rattle.state.specs.State.{number_at, fresh}
 use Rattle.ticks.specs.Tick.{MachineTick}
-use Rattle.runs.specs.Run.{MachineRun, then, run_verdict, run_on}
+use Rattle.runs.specs.Run.{MachineRun, run_after, run_verdict, run_on}
 use Rattle.agreement.specs.Agreement.{Runner, Rebinder, RunOutput, output_of, CallInput, call_outputs}
 use Rattle.agreement.proofs.Images.{state_verdict}
 use Rattle.bench.proofs.Tables.{Holds, held, TranslatesTo}
@@ -22,7 +22,7 @@ StepRule = Image → State → ℕ → MachineTick
 
 unfoldable pub ticks_by_rule : StepRule → Image → State → List ℕ → MachineRun
 ticks_by_rule step i s [] = record { masks = []; codes = []; state = s; verdict = fine }
-ticks_by_rule step i s (w ∷ ws) = then s (λ t. ticks_by_rule step i t ws) (step i s w)
+ticks_by_rule step i s (w ∷ ws) = run_after s (λ t. ticks_by_rule step i t ws) (step i s w)
 
 -- a run as the definition has it, but for the tick
 abbrev pub run_by : StepRule → Runner

@@ -1,4 +1,5 @@
 -- The functions that find the conditions against the rows of a label, test by test and row by row.
+use Rattle.std.proofs.Common.{if◌then◌else◌}
 use Prim.Native.Nat.{ℕ, suc, ◌+◌, ◌*◌, ◌-◌, ◌^◌, ◌≤◌, ◌<◌, min}
 use mathlib.Core.Bool.{Bool, true, false, ◌&&◌, not}
 use mathlib.Core.Path.{◌≡◌, sym, ◌∙◌, ap, ap₂}
@@ -8,7 +9,6 @@ use native.Mathlib.Omega.{arith}
 use lib.Bits.{bit_and, bit_or, or_zero_l}
 use lib.ListN.{get_or}
 use borrow.Author.Tests.{eq-eqb, ne_eqb}
-use Rattle.words.specs.lists.Pick.{pick}
 use Rattle.words.specs.lists.Numbers.{lowest}
 use Rattle.words.proofs.lists.Searches.{lowest-below}
 use Rattle.words.proofs.lists.Tests.{split}
@@ -28,10 +28,10 @@ module _ (w care values : ℕ) where
     pub lowest : low ≡ lowest p i (16 - i)
 
   module _ (low i : ℕ) (x : PassedCondition low i) (some : 0 < i) (t : Bool) (e : t ≡ p (i - 1)) where
-    pub passed-turn : (found : ℕ) → found ≡ pick t (i - 1) low → PassedCondition found (i - 1)
+    pub passed-turn : (found : ℕ) → found ≡ (if t then i - 1 else low) → PassedCondition found (i - 1)
     passed-turn found h = record {
       inside = omega (arith, x.inside);
-      lowest = h ∙ ap (λ (u : Bool). pick u (i - 1) low) e ∙ lowest-below p 16 i low some x.inside x.lowest;
+      lowest = h ∙ ap (λ (u : Bool). (if u then i - 1 else low)) e ∙ lowest-below p 16 i low some x.inside x.lowest;
     }
 
   pub passed-all : (low i : ℕ) → PassedCondition low i → i ≤ 0 → low ≡ lowest p 0 16
@@ -53,14 +53,14 @@ module _ (b : List ℕ) (f w bit : ℕ) (x : RowAsked b f) (bytes : (k : ℕ) �
     let-is = e ∙ ap (λ (n : ℕ). is_let_through n bit) is
 
     pub against-shut : t ≡ false → 0 ≡ mask_against_in b w bit f
-    against-shut h = sym (ap (λ (u : Bool). pick (u && not (is_agreeing w care values)) low 0) (sym let-is ∙ h))
+    against-shut h = sym (ap (λ (u : Bool). (if u && not (is_agreeing w care values) then low else 0)) (sym let-is ∙ h))
 
     module _ (h : t ≡ true) (c v : ℕ) (p : c ≡ care) (q : v ≡ values) where
       agrees-is : is_agreeing w c v ≡ is_agreeing w care values
       agrees-is = ap₂ (is_agreeing w) p q
 
-      by_word : (u : Bool) → is_agreeing w c v ≡ u → mask_against_in b w bit f ≡ pick (not u) low 0
-      by_word u z = ap₂ (λ (m n : Bool). pick (m && not n) low 0) (sym let-is ∙ h) (sym agrees-is ∙ z)
+      by_word : (u : Bool) → is_agreeing w c v ≡ u → mask_against_in b w bit f ≡ (if not u then low else 0)
+      by_word u z = ap₂ (λ (m n : Bool). (if m && not n then low else 0)) (sym let-is ∙ h) (sym agrees-is ∙ z)
 
       pub against-match : bit_and w c ≡ v → 0 ≡ mask_against_in b w bit f
       against-match z = sym (by_word true (eq-eqb (bit_and w c) v z))

@@ -1,5 +1,6 @@
 -- A cause and the tick that it explains: the mask decides the row and with it the tick, the row is the one that the tick takes, and a
 -- refusal says that it takes none.
+use Rattle.std.proofs.Common.{if◌then◌else◌}
 use Prim.Native.Nat.{ℕ}
 use mathlib.Core.Path.{◌≡◌, refl, sym, ◌∙◌, ap, subst}
 use mathlib.Core.Logic.{inl, inr}
@@ -7,7 +8,6 @@ use mathlib.Core.List.{List}
 use native.Mathlib.Omega.{arith}
 use lib.Bits.{bit_and, bit_or}
 use lib.Dec.{eqb}
-use Rattle.words.specs.lists.Pick.{pick}
 use Rattle.words.specs.bits.Word.{bit}
 use Rattle.text.specs.frames.Frame.{contents}
 use Rattle.image.specs.Image.{Image, Row, nth_row}
@@ -83,7 +83,7 @@ module _ (i : Image) (s : State) (w : ℕ) where
               let d : Cause = record {
                 row = k;
                 mask = bit_or r.care (mask_against_all l w (called_bit i s.bits l) i.rows);
-                bit = pick (eqb (label_at i l).kind 2) (called_bit i s.bits l) 2;
+                bit = if eqb (label_at i l).kind 2 then called_bit i s.bits l else 2;
               } in
               let same : d ≡ c = cause-same d c (sym (cause-row l q k r p) ∙ e) in
               subst (TakenApart i s w) same (record { from = l; left = q; one = r; chosen = p; masked = refl })
@@ -146,7 +146,7 @@ module _ (i : Image) (sound : SoundImage i) (s : State) (f : Fits i s) (w : ℕ)
           let x : Cause = record {
             row = k;
             mask = bit_or r.care (mask_against_all l w (called_bit i s.bits l) i.rows);
-            bit = pick (eqb (label_at i l).kind 2) (called_bit i s.bits l) 2;
+            bit = if eqb (label_at i l).kind 2 then called_bit i s.bits l else 2;
           } in
           let told : cause_of i s w ≡ because x = cause-row i s w l q k r p in
           let at : tick i s w ≡ o.go (found r.next) = o.ticks w ∙ ap (λ (y : Choice). o.go (lead_of y)) p in

@@ -1,4 +1,5 @@
 -- How a tick goes on from a state that fits: by the row of the label that it leaves and nothing else of the word, or without a row.
+use Rattle.std.proofs.Common.{if◌then◌else◌}
 use Prim.Native.Nat.{ℕ, zero, suc, ◌+◌, ◌-◌, ◌≤◌, ◌<◌}
 use mathlib.Core.Bool.{Bool, true, false, ◌||◌}
 use mathlib.Core.Path.{◌≡◌, refl, sym, ◌∙◌, ap}
@@ -9,7 +10,6 @@ use lib.Dec.{leb, eqb}
 use lib.ListN.{length, get_or, set, length-set}
 use lib.Seq.{get_or-set_same}
 use borrow.Author.Tests.{le-leb, leb-true, leb-false, eqb-true, eq-eqb}
-use Rattle.words.specs.lists.Pick.{pick}
 use Rattle.words.proofs.lists.Tests.{or_cases, or-true-l, or_true_r}
 use Rattle.results.specs.Results.{Results, with_result, cleared_results}
 use Rattle.bindings.specs.Binding.{server_of}
@@ -147,8 +147,8 @@ module _ (i : Image) (sound : SoundImage i) (s : State) (f : Fits i s) where
   }
 
   -- ---- a call, and home
-  full-other : (m : ℕ) (t : Bool) → Other (pick t (stopped 17)
-      (finished m 96 (state_alone s (entry_at i i.handler) i.handler (cleared_results i.handler bits))))
+  full-other : (m : ℕ) (t : Bool) → Other (if t then stopped 17
+      else finished m 96 (state_alone s (entry_at i i.handler) i.handler (cleared_results i.handler bits)))
   full-other m true = λ e. omega arith
   full-other m false = tt
 
@@ -182,9 +182,9 @@ module _ (i : Image) (sound : SoundImage i) (s : State) (f : Fits i s) where
   leaves = go x.kind refl
     where
       beneath : x.kind ≡ 3 → (t : Bool) → leb s.depth 1 ≡ t → Leaves i s
-      beneath e true t = stays (leaving-by 3 e ∙ ap (λ (b : Bool). pick b nothing (leaves_label (place_at s (s.depth - 2)))) t) (ends e t)
+      beneath e true t = stays (leaving-by 3 e ∙ ap (λ (b : Bool). (if b then nothing else leaves_label (place_at s (s.depth - 2)))) t) (ends e t)
       beneath e false t =
-          by (place_at s (s.depth - 2)) (leaving-by 3 e ∙ ap (λ (b : Bool). pick b nothing (leaves_label (place_at s (s.depth - 2)))) t)
+          by (place_at s (s.depth - 2)) (leaving-by 3 e ∙ ap (λ (b : Bool). (if b then nothing else leaves_label (place_at s (s.depth - 2)))) t)
           (back e t)
 
       go : (k : ℕ) → x.kind ≡ k → Leaves i s
@@ -207,4 +207,4 @@ module _ (i : Image) (sound : SoundImage i) (s : State) (f : Fits i s) where
       go (inr p) = leaving-by 2 (eqb-true x.kind 2 p)
   rowless-stays (at_last_return e d) =
       leaving-by 3 (ap (λ (l : ℕ). (label_at i l).kind) e ∙ ap (λ (y : Label). y.kind) sound.back)
-      ∙ ap (λ (b : Bool). pick b nothing (leaves_label (place_at s (s.depth - 2)))) (le-leb s.depth 1 (omega arith))
+      ∙ ap (λ (b : Bool). (if b then nothing else leaves_label (place_at s (s.depth - 2)))) (le-leb s.depth 1 (omega arith))

@@ -1,6 +1,7 @@
 -- The rows of one label, for one word and one bit:
 -- every word that agrees on the mask of the row chosen and of the conditions against the others chooses the same row, and no condition of
 -- the row's own care mask can be left out.
+use Rattle.std.proofs.Common.{if◌then◌else◌}
 use mathlib.Core.Path.{◌≡◌, sym, ◌∙◌, ap, subst}
 use mathlib.Core.Logic.{◌⊎◌, inl, inr}
 use mathlib.Core.Bool.{Bool, true, false, ◌&&◌, ◌||◌, not}
@@ -13,7 +14,6 @@ use lib.Dec.{eqb}
 use lib.ListN.{length, get_or}
 use lib.Pow.{pow_mono}
 use borrow.Author.Tests.{eq-eqb, ne_eqb, eqb-true, eqb-false}
-use Rattle.words.specs.lists.Pick.{pick}
 use Rattle.words.specs.lists.Numbers.{lowest}
 use Rattle.words.proofs.lists.Tests.{no_both, split, cases, and_l, and_r, and-true, and_no, not-true, not-false, and-false}
 use Rattle.words.proofs.lists.Searches.{lowest-hit, lowest-past}
@@ -138,7 +138,7 @@ module _ (i : Image) (sound : SoundImage i) (l w b : ℕ) where
             let out : is_contradicted l w b r ≡ true =
             and-true (eqb r.from l) ((eqb r.bit 2 || eqb r.bit b) && not (is_agreeing w r.care r.values)) f
             (and-true (eqb r.bit 2 || eqb r.bit b) (not (is_agreeing w r.care r.values)) y (ap not z)) in
-            let one : bit (mask_against l w b r) x ≡ 1 = ap (λ (t : Bool). bit (pick t (2 ^ x) 0) x) out ∙ bit-pow-same x in
+            let one : bit (mask_against l w b r) x ≡ 1 = ap (λ (t : Bool). bit (if t then 2 ^ x else 0) x) out ∙ bit-pow-same x in
             let same : bit v x ≡ bit w x = agree-bit v w m x e (part x (has-against l w b x i.rows k h one)) in
             let no-match : is_agreeing v r.care r.values ≡ false = still i w r (sound.each k h) z v same in
             and_no (eqb r.from l) (is_match v b r) (ap (λ (t : Bool). t && (eqb r.bit 2 || eqb r.bit b)) no-match)

@@ -1,7 +1,6 @@
 -- What sends a tick on: the row that it takes, the conditions that decide it, and the result bit; refusals 21 and 18.
-use Rattle.std.specs.Prelude.{ℕ, ◌-◌, ◌^◌, Bool, ◌&&◌, ◌||◌, not, ◌≡◌, List, [], ◌∷◌, leb, eqb, Result, Ok, Err}
+use Rattle.std.specs.Prelude.{ℕ, ◌-◌, ◌^◌, Bool, ◌&&◌, ◌||◌, not, ◌≡◌, List, [], ◌∷◌, leb, eqb, Result, Ok, Err, if◌then◌else◌}
 use Rattle.std.specs.Int.Bits.{bit_or}
-use Rattle.words.specs.lists.Pick.{pick}
 use Rattle.words.specs.lists.Numbers.{lowest}
 use Rattle.words.specs.bits.Word.{bit, is_agreeing}
 use Rattle.results.specs.Results.{Results}
@@ -33,7 +32,7 @@ is_contradicted l w b r = eqb r.from l && ((eqb r.bit NO_BIT || eqb r.bit b) && 
 -- the lowest contradicting condition of such a row, as a mask; those of all rows, joined:
 -- the row taken and a matching row that loses add none
 abbrev pub mask_against : ℕ → ℕ → ℕ → Row → ℕ
-mask_against l w b r = pick (is_contradicted l w b r) (2 ^ lowest (is_differing w r.care r.values) 0 16) 0
+mask_against l w b r = if is_contradicted l w b r then 2 ^ lowest (is_differing w r.care r.values) 0 16 else 0
 
 unfoldable pub mask_against_all : ℕ → ℕ → ℕ → List Row → ℕ
 mask_against_all l w b [] = 0
@@ -49,7 +48,7 @@ abbrev pub leaving_by : State → TickKind → Leaving
 leaving_by s plain = leaves_label (place_at s (s.depth - 1))
 leaving_by s operation_call = nothing
 leaving_by s function_call = nothing
-leaving_by s return = pick (leb s.depth 1) nothing (leaves_label (place_at s (s.depth - 2)))
+leaving_by s return = if leb s.depth 1 then nothing else leaves_label (place_at s (s.depth - 2))
 leaving_by s home = nothing
 
 unfoldable pub leaving : Image → State → Leaving
@@ -71,7 +70,7 @@ abbrev pub cause_by : List Row → ℕ → ℕ → ℕ → ℕ → Choice → Ca
 cause_by rs kind l w b (row k r) = because (record {
   row = k;
   mask = bit_or r.care (mask_against_all l w b rs);
-  bit = pick (eqb kind FUNCTION_CALL) b NO_BIT;
+  bit = if eqb kind FUNCTION_CALL then b else NO_BIT;
 })
 cause_by rs kind l w b no_choice = unexplained NO_ROW
 

@@ -1,6 +1,5 @@
 // Marks on the nodes of a chart, spread over all arcs or over the arcs of conditions alone.
-ghost use Rattle.std.specs.Prelude.{◌≡◌, ◌+◌, ◌*◌, ◌≤◌, ◌<◌, true, length, set};
-ghost use Rattle.words.specs.lists.Pick.{pick};
+ghost use Rattle.std.specs.Prelude.{◌≡◌, ◌+◌, ◌*◌, ◌≤◌, ◌<◌, true, length, set, if◌then◌else◌};
 ghost use Rattle.words.specs.graph.Reach.{is_marked, reach};
 ghost use Rattle.words.specs.graph.inner.Listed.{many, mark_all, listing, enlist_all};
 ghost use Rattle.text.specs.frames.Frame.{size};
@@ -104,8 +103,8 @@ fn mark_next(records: &[u8], v: usize, marks: &mut [bool])
 // The same where node v is marked itself.
 fn mark_on(records: &[u8], v: usize, marks: &mut [bool])
     requires { (v < size records.now) × (length marks.old ≡ size records.now) }
-    ensures { marks.new ≡ pick (is_marked marks.old v)
-        (mark_all (arcs records.now v) marks.old) marks.old }
+    ensures { marks.new ≡ (if is_marked marks.old v
+        then mark_all (arcs records.now v) marks.old else marks.old) }
 {
     if !marks[v] {
         return;

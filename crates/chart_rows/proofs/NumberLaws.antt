@@ -11,7 +11,7 @@ use lib.Dec.{eqb}
 use lib.ListN.{length, get_or, set, length-set}
 use lib.Seq.{get_or-set_same, get_or-set_other}
 use borrow.Author.Tests.{eqb-true, eq-eqb, ne_eqb}
-use Rattle.words.proofs.lists.Tests.{no_both, and_l, and-true, yes-pick, no-pick, cases, and_no}
+use Rattle.words.proofs.lists.Tests.{no_both, and_l, and-true, if-true, if-false, cases, and_no}
 use Rattle.words.specs.bits.Word.{bit}
 use Rattle.text.specs.frames.Frame.{size, field}
 use Rattle.charts.specs.Chart.{Chart, kind, argument, is, arc_taken}
@@ -27,7 +27,7 @@ use Rattle.chart_rows.specs.inner.PathContracts.{Noted, Entered}
 -- ---- the number of a node
 module _ (c : Chart) (v : ℕ) where
   pub number-none : (is c 3 v && not (is_stop c v)) ≡ false → 16 ≡ tested_number c v
-  number-none e = sym (no-pick (is c 3 v && not (is_stop c v)) (argument c v) 16 e)
+  number-none e = sym (if-false (is c 3 v && not (is_stop c v)) (argument c v) 16 e)
 
   pub number-other : (kind c v ≡ 3 → ⊥) → 16 ≡ tested_number c v
   number-other n = number-none (ap (λ x. x && not (is_stop c v)) (ne_eqb (kind c v) 3 n))
@@ -36,7 +36,7 @@ module _ (c : Chart) (v : ℕ) where
   number-stop s = number-none (and_no (is c 3 v) (not (is_stop c v)) (ap not s))
 
   pub number-goes : kind c v ≡ 3 → is_stop c v ≡ false → tested_number c v ≡ argument c v
-  number-goes k s = yes-pick (is c 3 v && not (is_stop c v)) (argument c v) 16
+  number-goes k s = if-true (is c 3 v && not (is_stop c v)) (argument c v) 16
       (and-true (is c 3 v) (not (is_stop c v)) (eq-eqb (kind c v) 3 k) (ap not s))
 
   pub low-condition : (i : ℕ) → i ≡ tested_number c v → i ≤ 15 → kind c v ≡ 3

@@ -1,4 +1,5 @@
 -- The steps of the functions that count and write the rows of labels, at plain values.
+use Rattle.std.proofs.Common.{if◌then◌else◌}
 use mathlib.Core.Path.{◌≡◌, refl, sym, ◌∙◌, ap, ap₂, subst}
 use mathlib.Core.Bool.{Bool, true, false, not}
 use mathlib.Core.List.{List, [], ◌++◌}
@@ -9,10 +10,9 @@ use native.Mathlib.Omega.{arith}
 use lib.Bits.{bit_or}
 use lib.ListN.{length, get_or, length-append}
 use borrow.Author.Tests.{eqb-false}
-use Rattle.words.specs.lists.Pick.{pick}
 use Rattle.words.specs.lists.Numbers.{range}
 use Rattle.words.specs.lists.Sequences.{concat_map, filter}
-use Rattle.words.proofs.lists.Tests.{and_r, not-true, yes-pick, no-pick}
+use Rattle.words.proofs.lists.Tests.{and_r, not-true, if-true, if-false}
 use Rattle.words.proofs.lists.Ranges.{filter-yes, filter-no}
 use Rattle.words.proofs.lists.Joins.{concat-cons, concat-range-snoc}
 use Rattle.words.proofs.bits.BitLaws.{add-is-or, bit-none}
@@ -97,10 +97,10 @@ module _ {c : Chart} {notes : List ℕ} {v : ℕ} (node : NotedAt c notes v) whe
   own-number h = own-label c v (omega (arith, read))
 
   pub no_rows : get_or notes v 0 < 2 → node_rows c v ≡ []
-  no_rows h = no-pick (is_numbered c v) (rows_of c v) [] (no-own-label c v (omega (arith, read)))
+  no_rows h = if-false (is_numbered c v) (rows_of c v) [] (no-own-label c v (omega (arith, read)))
 
   pub own-rows : 2 ≤ get_or notes v 0 → node_rows c v ≡ rows_of c v
-  own-rows h = yes-pick (is_numbered c v) (rows_of c v) [] (own-number h)
+  own-rows h = if-true (is_numbered c v) (rows_of c v) [] (own-number h)
 
   pub other-entered : 2 ≤ get_or notes v 0 → {w : ℕ} → w ≡ next0 c v → Entered c w
   other-entered h e =
@@ -124,17 +124,17 @@ below_more c v = ap (rows_below c) (add-one v) ∙ concat-range-snoc (node_rows 
 
 -- the nodes without a label add nothing
 picked : {A : Type 0} (p : ℕ → Bool) (f : ℕ → List A) (i n : ℕ)
-    → concat_map (λ v. pick (p v) (f v) []) (range i n) ≡ concat_map f (filter p (range i n))
+    → concat_map (λ v. (if p v then f v else [])) (range i n) ≡ concat_map f (filter p (range i n))
 picked p f i zero = unfold concat_map filter in refl
 picked {A} p f i (suc n) = go (p i) refl (picked p f (suc i) n)
   where
-    go : (b : Bool) → p i ≡ b → concat_map (λ v. pick (p v) (f v) []) (range (suc i) n) ≡ concat_map f (filter p (range (suc i) n))
-        → concat_map (λ v. pick (p v) (f v) []) (range i (suc n)) ≡ concat_map f (filter p (range i (suc n)))
+    go : (b : Bool) → p i ≡ b → concat_map (λ v. (if p v then f v else [])) (range (suc i) n) ≡ concat_map f (filter p (range (suc i) n))
+        → concat_map (λ v. (if p v then f v else [])) (range i (suc n)) ≡ concat_map f (filter p (range i (suc n)))
     go true e ih =
-        concat-cons (λ v. pick (p v) (f v) []) i (range (suc i) n) ∙ ap₂ (λ (x y : List A). x ++ y) (yes-pick (p i) (f i) [] e) ih
+        concat-cons (λ v. (if p v then f v else [])) i (range (suc i) n) ∙ ap₂ (λ (x y : List A). x ++ y) (if-true (p i) (f i) [] e) ih
         ∙ sym (ap (concat_map f) (filter-yes p i (range (suc i) n) e) ∙ concat-cons f i (filter p (range (suc i) n)))
     go false e ih =
-        concat-cons (λ v. pick (p v) (f v) []) i (range (suc i) n) ∙ ap₂ (λ (x y : List A). x ++ y) (no-pick (p i) (f i) [] e) ih
+        concat-cons (λ v. (if p v then f v else [])) i (range (suc i) n) ∙ ap₂ (λ (x y : List A). x ++ y) (if-false (p i) (f i) [] e) ih
         ∙ sym (ap (concat_map f) (filter-no p i (range (suc i) n) e))
 
 pub below_all : (c : Chart) (v : ℕ) → v ≡ size c → rows_below c v ≡ rows c

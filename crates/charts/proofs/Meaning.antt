@@ -6,7 +6,7 @@ use mathlib.Core.List.{[], ◌∷◌}
 use Prim.Native.Nat.{ℕ, ◌<◌}
 use lib.Dec.{eqb}
 use borrow.Author.Tests.{eqb-true, eq-eqb}
-use Rattle.words.proofs.lists.Tests.{no_both, or_cases, and_l, and_r, and-true, not-false, yes-pick, no-pick, cases}
+use Rattle.words.proofs.lists.Tests.{no_both, or_cases, and_l, and_r, and-true, not-false, if-true, if-false, cases}
 use Rattle.words.proofs.lists.Searches.{some-cons}
 use Rattle.words.specs.lists.Sequences.{some}
 use Rattle.words.specs.graph.Reach.{is_member, is_marked, nodes_joined_from}
@@ -28,10 +28,10 @@ member-only v u e =
 -- ---- arcs of conditions are the arcs that leave a condition
 module _ (c : Chart) where
   pub condition-arcs : (v : ℕ) → is c 3 v ≡ true → condition_arcs c v ≡ arcs c v
-  condition-arcs v i = yes-pick (is c 3 v) (arcs c v) [] i
+  condition-arcs v i = if-true (is c 3 v) (arcs c v) [] i
 
   pub no-condition-arcs : (v : ℕ) → is c 3 v ≡ false → condition_arcs c v ≡ []
-  no-condition-arcs v i = no-pick (is c 3 v) (arcs c v) [] i
+  no-condition-arcs v i = if-false (is c 3 v) (arcs c v) [] i
 
   pub leaves-condition : (v u : ℕ) → is_member u (condition_arcs c v) ≡ true → is c 3 v ≡ true
   leaves-condition v u s =

@@ -1,4 +1,5 @@
 -- What the tests give of the nodes of a sound chart: ranges of fields, Begins and Ends, arcs, calls.
+use Rattle.std.proofs.Common.{if◌then◌else◌}
 use mathlib.Core.Path.{◌≡◌, refl, sym, ◌∙◌, ap, subst}
 use mathlib.Core.Logic.{◌⊎◌, ⊎_elim}
 use mathlib.Core.Bool.{Bool, true, false, ◌&&◌, ◌||◌, not}
@@ -8,9 +9,8 @@ use native.Mathlib.Decide.{dec_le, ℕ_discrete}
 use native.Mathlib.Omega.{arith}
 use lib.Dec.{leb, ltb, eqb}
 use borrow.Author.Tests.{ltb-false, leb-false, eqb-true, eqb-false, eq-eqb}
-use Rattle.words.specs.lists.Pick.{pick}
 use Rattle.words.specs.lists.Numbers.{lowest, any, count}
-use Rattle.words.proofs.lists.Tests.{no_both, or_l, or_r, or-true-l, or_true_r, and_l, and_r, and-true, not-false, yes-pick}
+use Rattle.words.proofs.lists.Tests.{no_both, or_l, or_r, or-true-l, or_true_r, and_l, and_r, and-true, not-false, if-true}
 use Rattle.words.proofs.lists.Searches.{lowest-hit, highest-ge, highest-le, highest-of, any_false, some-cons, some-both}
 use Rattle.words.proofs.lists.Counts.{count-lowest, count-one}
 use Rattle.words.specs.graph.Reach.{is_member}
@@ -191,7 +191,7 @@ module _ (c : Chart) (a : SoundChart c) where
       any_false p 0 (size c) (or_l (any p 0 (size c)) (ltb 1 (count (is_handler_mark c) 0 (size c))) a.good_marks)
       v (omega arith) (omega arith) in
       let n : handler_at c v ≡ 1 → ⊥ = eqb-false (handler_at c v) 1 f in
-      omega (arith, owned v l, yes-pick (is_handler_mark c v) (scheme c v) 0 e)
+      omega (arith, owned v l, if-true (is_handler_mark c v) (scheme c v) 0 e)
 
   pub handled : (handler c ≡ 0 → ⊥) → (2 ≤ handler c) × (handler c ≤ schemes c)
   unfolding handler
@@ -199,7 +199,7 @@ module _ (c : Chart) (a : SoundChart c) where
       (λ n. absurd (n refl)) (λ v x y. go v (omega arith) (is_handler_mark c v) refl)
     where
       go : (v : ℕ) → v < size c → (t : Bool) → is_handler_mark c v ≡ t
-          → (pick t (scheme c v) 0 ≡ 0 → ⊥) → (2 ≤ pick t (scheme c v) 0) × (pick t (scheme c v) 0 ≤ schemes c)
+          → ((if t then scheme c v else 0) ≡ 0 → ⊥) → (2 ≤ (if t then scheme c v else 0)) × ((if t then scheme c v else 0) ≤ schemes c)
       go v l true e n = (marked-deep v l e, (owned v l).1)
       go v l false e n = absurd (n refl)
 

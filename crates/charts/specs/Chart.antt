@@ -1,6 +1,5 @@
 -- A chart (the paper's word for a hierarchical graph scheme) as its node records, ten bytes a node.
-use Rattle.std.specs.Prelude.{ℕ, Bool, ◌&&◌, List, eqb}
-use Rattle.words.specs.lists.Pick.{pick}
+use Rattle.std.specs.Prelude.{ℕ, Bool, ◌&&◌, List, eqb, if◌then◌else◌}
 use Rattle.words.specs.lists.Numbers.{lowest, highest}
 use Rattle.words.specs.bits.Word.{bit}
 use Rattle.text.specs.frames.Frame.{size, field, quad_at}
@@ -28,7 +27,7 @@ next1 c v = field c v NEXT1
 
 -- the arc of a condition that a word takes: bit i of the word is condition i
 abbrev pub arc_taken : Chart → ℕ → ℕ → ℕ
-arc_taken c w v = pick (eqb (bit w (argument c v)) 0) (next0 c v) (next1 c v)
+arc_taken c w v = if eqb (bit w (argument c v)) 0 then next0 c v else next1 c v
 
 abbrev pub result : Chart → ℕ → ℕ
 result c v = field c v RESULT
@@ -54,7 +53,7 @@ is_handler_mark c v = is c BEGIN v && eqb (argument c v) 1
 
 -- the scheme that node v marks, or 0
 abbrev pub handler_at : Chart → ℕ → ℕ
-handler_at c v = pick (is_handler_mark c v) (scheme c v) 0
+handler_at c v = if is_handler_mark c v then scheme c v else 0
 
 -- the handler, 0 where no scheme is marked
 unfoldable pub handler : Chart → ℕ

@@ -1,6 +1,5 @@
 -- Why a chart is refused: refusals 4 to 9 and 19.
-use Rattle.std.specs.Prelude.{ℕ, ◌-◌, Bool, true, false, ◌&&◌, ◌||◌, not, List, [], ◌∷◌, leb, ltb, eqb}
-use Rattle.words.specs.lists.Pick.{pick}
+use Rattle.std.specs.Prelude.{ℕ, ◌-◌, Bool, true, false, ◌&&◌, ◌||◌, not, List, [], ◌∷◌, leb, ltb, eqb, if◌then◌else◌}
 use Rattle.words.specs.lists.Numbers.{any, count}
 use Rattle.words.specs.lists.Sequences.{some}
 use Rattle.words.specs.graph.Reach.{is_marked, nodes_joined_from}
@@ -68,7 +67,7 @@ has_bad_call c v = has_bad_call_as c v (kind_of (kind c v))
 
 -- 8. A condition that arcs of conditions lead back to.
 abbrev pub condition_arcs : Chart → ℕ → List ℕ
-condition_arcs c v = pick (is c CONDITION v) (arcs c v) []
+condition_arcs c v = if is c CONDITION v then arcs c v else []
 
 abbrev pub is_on_circle : Chart → ℕ → Bool
 is_on_circle c v = is c CONDITION v && is_marked (nodes_joined_from (size c) (condition_arcs c) (arcs c v)) v

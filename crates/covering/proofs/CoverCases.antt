@@ -1,4 +1,5 @@
 -- Cases of the functions that try rows by their frames.
+use Rattle.std.proofs.Common.{if◌then◌else◌}
 use Prim.Native.Nat.{ℕ, ◌-◌, ◌*◌, ◌^◌, ◌%◌, ◌≤◌, ◌<◌}
 use mathlib.Core.Path.{◌≡◌, refl, sym, ◌∙◌, ap, ap₂}
 use mathlib.Core.Bool.{Bool, true, false, ◌||◌, not}
@@ -8,7 +9,6 @@ use lib.Count.{ones, ones-le}
 use lib.Dec.{eqb}
 use lib.Pow.{pow_mono}
 use borrow.Author.Tests.{eq-eqb, ne_eqb}
-use Rattle.words.specs.lists.Pick.{pick}
 use Rattle.text.specs.frames.Frame.{field, pair_at}
 use Rattle.image.specs.Decode.{row_in_frame}
 use Rattle.image.specs.Image.{Row}
@@ -42,13 +42,13 @@ module _ (b : List ℕ) (f bit : ℕ) where
   asked x = eqb x 2 || eqb x bit
 
   pub words-off : (x : ℕ) (t : Bool) → x ≡ field b f 6 → t ≡ asked x → t ≡ false → 0 ≡ words_with bit (row_in_frame b f)
-  words-off x t e h z = sym (ap (λ (u : Bool). pick u (2 ^ (16 - ones (pair_at b f 2))) 0) (ap asked (sym e) ∙ sym h ∙ z))
+  words-off x t e h z = sym (ap (λ (u : Bool). (if u then 2 ^ (16 - ones (pair_at b f 2)) else 0)) (ap asked (sym e) ∙ sym h ∙ z))
 
   pub words-on : (x p : ℕ) (t : Bool) → x ≡ field b f 6 → t ≡ asked x → t ≡ true → p ≡ pair_at b f 2
       → (1 * 2 ^ (16 - ones p) % 4294967296 ≡ words_with bit (row_in_frame b f)) × (1 * 2 ^ (16 - ones p) % 4294967296 ≤ 65536)
   words-on x p t e h z q = let s = shifted p (16 - ones p) refl in (
     s.0 ∙ ap (λ (y : ℕ). 2 ^ (16 - ones y)) q
-        ∙ sym (ap (λ (u : Bool). pick u (2 ^ (16 - ones (pair_at b f 2))) 0) (ap asked (sym e) ∙ sym h ∙ z)),
+        ∙ sym (ap (λ (u : Bool). (if u then 2 ^ (16 - ones (pair_at b f 2)) else 0)) (ap asked (sym e) ∙ sym h ∙ z)),
     s.1,
   )
 

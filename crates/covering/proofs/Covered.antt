@@ -1,4 +1,5 @@
 -- 23 by sizes says what 23 says: the words that the rows of a label match, counted word by word and row by row, are as many.
+use Rattle.std.proofs.Common.{if◌then◌else◌}
 use Prim.Native.Nat.{ℕ, zero, suc, ◌+◌, ◌-◌, ◌^◌, ◌≤◌, ◌<◌}
 use mathlib.Core.Bool.{Bool, true, false, ◌&&◌, ◌||◌, not}
 use mathlib.Core.Path.{◌≡◌, refl, sym, ◌∙◌, ap, ap₂}
@@ -8,7 +9,6 @@ use lib.Count.{ones}
 use lib.Dec.{eqb}
 use lib.ListN.{length, get_or}
 use borrow.Author.Tests.{eqb-true, eq-eqb}
-use Rattle.words.specs.lists.Pick.{pick}
 use Rattle.words.specs.lists.Numbers.{any, count, sum}
 use Rattle.words.specs.lists.Sequences.{filter, All}
 use Rattle.words.proofs.lists.Tests.{no_both, and_l, and_r, and-true, or_l, or_r, or-none, not-false, bit-low}
@@ -36,7 +36,7 @@ module _ (l b : ℕ) where
   abbrev kept : List Row → ℕ → ℕ
   kept rs w = length (filter (is_candidate l w b) rs)
 
-  split-own : (x y z : Bool) → (x && (y && z)) ≡ pick (x && z) y false
+  split-own : (x y z : Bool) → (x && (y && z)) ≡ (if x && z then y else false)
   split-own true true true = refl
   split-own true true false = refl
   split-own true false true = refl
@@ -46,29 +46,29 @@ module _ (l b : ℕ) where
   row_words : {i : Image} (r : Row) → SoundRow i r → count (λ w. is_candidate l w b r) 0 65536 ≡ words_matched l b r
   row_words r s = go (asks r) refl
     where
-      go : (t : Bool) → asks r ≡ t → count (λ w. is_candidate l w b r) 0 65536 ≡ pick (asks r) (2 ^ (16 - ones r.care)) 0
+      go : (t : Bool) → asks r ≡ t → count (λ w. is_candidate l w b r) 0 65536 ≡ (if asks r then 2 ^ (16 - ones r.care) else 0)
       go true e =
           count-alike (λ w. is_agreeing w r.care r.values) (λ w. is_candidate l w b r) 0 65536 (λ w m k.
           split-own (eqb r.from l) (is_agreeing w r.care r.values) (eqb r.bit 2 || eqb r.bit b)
-          ∙ ap (λ (t : Bool). pick t (is_agreeing w r.care r.values) false) e)
+          ∙ ap (λ (t : Bool). (if t then is_agreeing w r.care r.values else false)) e)
           ∙ words_count 16 r.care r.values s.cares s.within
-          ∙ sym (ap (λ (t : Bool). pick t (2 ^ (16 - ones r.care)) 0) e)
+          ∙ sym (ap (λ (t : Bool). (if t then 2 ^ (16 - ones r.care) else 0)) e)
       go false e =
           count_none (λ w. is_candidate l w b r) 0 65536 (λ w m k.
           split-own (eqb r.from l) (is_agreeing w r.care r.values) (eqb r.bit 2 || eqb r.bit b)
-          ∙ ap (λ (t : Bool). pick t (is_agreeing w r.care r.values) false) e)
-          ∙ sym (ap (λ (t : Bool). pick t (2 ^ (16 - ones r.care)) 0) e)
+          ∙ ap (λ (t : Bool). (if t then is_agreeing w r.care r.values else false)) e)
+          ∙ sym (ap (λ (t : Bool). (if t then 2 ^ (16 - ones r.care) else 0)) e)
 
-  kept_more : (r : Row) (rs : List Row) (w : ℕ) → kept (r ∷ rs) w ≡ pick (is_candidate l w b r) 1 0 + kept rs w
+  kept_more : (r : Row) (rs : List Row) (w : ℕ) → kept (r ∷ rs) w ≡ (if is_candidate l w b r then 1 else 0) + kept rs w
   kept_more r rs w = go (is_candidate l w b r) refl
     where
-      go : (t : Bool) → is_candidate l w b r ≡ t → kept (r ∷ rs) w ≡ pick (is_candidate l w b r) 1 0 + kept rs w
+      go : (t : Bool) → is_candidate l w b r ≡ t → kept (r ∷ rs) w ≡ (if is_candidate l w b r then 1 else 0) + kept rs w
       go true e =
           ap (λ (xs : List Row). length xs) (filter-yes (is_candidate l w b) r rs e) ∙ omega arith
-          ∙ sym (ap (λ (t : Bool). pick t 1 0 + kept rs w) e)
+          ∙ sym (ap (λ (t : Bool). (if t then 1 else 0) + kept rs w) e)
       go false e =
           ap (λ (xs : List Row). length xs) (filter-no (is_candidate l w b) r rs e) ∙ omega arith
-          ∙ sym (ap (λ (t : Bool). pick t 1 0 + kept rs w) e)
+          ∙ sym (ap (λ (t : Bool). (if t then 1 else 0) + kept rs w) e)
 
   -- word by word, row by row
   all_words : (i : Image) (rs : List Row) → All (SoundRow i) rs
@@ -108,7 +108,7 @@ module _ (i : Image) (S : SoundImage i) where
           go false e = e
           go true e =
               let C : Common r s = together-common r s (S.each j hj) (S.each k hk) e in
-              let b : ℕ = pick C.bit 1 0 in
+              let b : ℕ = (if C.bit then 1 else 0) in
               let few : hits i l C.word b ≡ 1 = one C.word b C.low (bit-low C.bit) in
               absurd (n (one_passes (is_candidate l C.word b) no_row i.rows (omega arith) j k hj hk
               (and-true (eqb r.from l) (is_match C.word b r) (eq-eqb r.from l p) C.first)

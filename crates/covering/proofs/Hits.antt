@@ -1,4 +1,5 @@
 -- Where 23 does not apply, each label from 2 up has just one row for each word and bit, and the machine takes it.
+use Rattle.std.proofs.Common.{if◌then◌else◌}
 use Prim.Native.Nat.{ℕ, suc, ◌+◌, ◌-◌, ◌%◌, ◌≤◌, ◌<◌}
 use mathlib.Core.Bool.{Bool, true, false, ◌&&◌, not}
 use mathlib.Core.Path.{◌≡◌, refl, sym, ◌∙◌, ap}
@@ -7,7 +8,6 @@ use native.Mathlib.Omega.{arith}
 use lib.Dec.{eqb}
 use lib.ListN.{length, get_or}
 use borrow.Author.Tests.{eqb-true, eq-eqb}
-use Rattle.words.specs.lists.Pick.{pick}
 use Rattle.words.specs.lists.Sequences.{filter, All}
 use Rattle.words.proofs.lists.Tests.{not-false, bit-low}
 use Rattle.words.proofs.lists.Searches.{any_false, any_none}
@@ -101,7 +101,7 @@ all-cares i S = all-places (λ r. r.care < 65536) no_row i.rows (λ k h. (S.each
 
 -- ---- 23 does not apply: every word and bit, of any size, match one row of each label from 2 up
 abbrev pub OneRow : Image → Type 0
-OneRow i = (l w : ℕ) (b : Bool) → 2 ≤ l → l < length i.labels → hits i l w (pick b 1 0) ≡ 1
+OneRow i = (l w : ℕ) (b : Bool) → 2 ≤ l → l < length i.labels → hits i l w (if b then 1 else 0) ≡ 1
 
 module _ (i : Image) where
   pub label-low : (l : ℕ) → is_uneven_label i l ≡ false → (w b : ℕ) → w < 65536 → b < 2 → hits i l w b ≡ 1
@@ -127,8 +127,8 @@ module _ (i : Image) where
 
   -- the row itself
   pub the_row : OneRow i → (l w : ℕ) (b : Bool) → 2 ≤ l → l < length i.labels
-      → (s : Row) × (filter (is_candidate l w (pick b 1 0)) i.rows ≡ s ∷ [])
-  the_row one l w b low high = only (filter (is_candidate l w (pick b 1 0)) i.rows) (one l w b low high)
+      → (s : Row) × (filter (is_candidate l w (if b then 1 else 0)) i.rows ≡ s ∷ [])
+  the_row one l w b low high = only (filter (is_candidate l w (if b then 1 else 0)) i.rows) (one l w b low high)
     where
       only : (xs : List Row) → length xs ≡ 1 → (s : Row) × (xs ≡ s ∷ [])
       only [] e = absurd (omega arith)
@@ -137,5 +137,5 @@ module _ (i : Image) where
 
   pub one-row : SoundImage i → is_uneven i ≡ false → OneRow i
   one-row S e l w b low high =
-      ap (λ (xs : List Row). length xs) (low-hits l w (pick b 1 0) i.rows (all-cares i S))
-      ∙ even-low e l (w % 65536) (pick b 1 0) low high (omega arith) (bit-low b)
+      ap (λ (xs : List Row). length xs) (low-hits l w (if b then 1 else 0) i.rows (all-cares i S))
+      ∙ even-low e l (w % 65536) (if b then 1 else 0) low high (omega arith) (bit-low b)

@@ -1,4 +1,5 @@
 -- The rows of one label by their frames in a table: what the functions try of them is what 23 says of the label.
+use Rattle.std.proofs.Common.{if◌then◌else◌}
 use Prim.Native.Nat.{ℕ, ◌+◌, ◌-◌, ◌^◌, ◌≤◌, ◌<◌}
 use mathlib.Core.Bool.{Bool, true, false, ◌&&◌, ◌||◌, not}
 use mathlib.Core.Path.{◌≡◌, refl, sym, ◌∙◌, ap, ap₂}
@@ -8,7 +9,6 @@ use lib.Count.{ones}
 use lib.Dec.{eqb}
 use lib.ListN.{length}
 use borrow.Author.Tests.{eqb-true, eq-eqb, ne_eqb}
-use Rattle.words.specs.lists.Pick.{pick}
 use Rattle.words.specs.lists.Numbers.{sum}
 use Rattle.words.proofs.lists.Tests.{no_both, or_l, or_r, or-none, not-false}
 use Rattle.words.proofs.lists.Searches.{any_false, any_none}
@@ -26,10 +26,10 @@ use Rattle.covering.proofs.Hits.{label-low, label_of}
 use Rattle.covering.proofs.Covered.{no-pair, full, one-hits}
 
 words-own : (l b : ℕ) (r : Row) → r.from ≡ l → words_matched l b r ≡ words_with b r
-words-own l b r e = ap (λ (t : Bool). pick (t && (eqb r.bit 2 || eqb r.bit b)) (2 ^ (16 - ones r.care)) 0) (eq-eqb r.from l e)
+words-own l b r e = ap (λ (t : Bool). (if t && (eqb r.bit 2 || eqb r.bit b) then 2 ^ (16 - ones r.care) else 0)) (eq-eqb r.from l e)
 
 words-other : (l b : ℕ) (r : Row) → (r.from ≡ l → ⊥) → words_matched l b r ≡ 0
-words-other l b r n = ap (λ (t : Bool). pick (t && (eqb r.bit 2 || eqb r.bit b)) (2 ^ (16 - ones r.care)) 0) (ne_eqb r.from l n)
+words-other l b r n = ap (λ (t : Bool). (if t && (eqb r.bit 2 || eqb r.bit b) then 2 ^ (16 - ones r.care) else 0)) (ne_eqb r.from l n)
 
 module _ (b : List ℕ) (T : SoundTable b) where
   abbrev i : Image

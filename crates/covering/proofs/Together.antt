@@ -1,4 +1,5 @@
 -- Two rows are together just where some word of 16 bits and some bit match both.
+use Rattle.std.proofs.Common.{if◌then◌else◌}
 use Prim.Native.Nat.{ℕ, zero, suc, ◌%◌, ◌≤◌, ◌<◌, min}
 use mathlib.Core.Bool.{Bool, true, false, ◌&&◌, ◌||◌}
 use mathlib.Core.Path.{◌≡◌, refl, sym, ◌∙◌, ap, ap₂}
@@ -8,7 +9,6 @@ use native.Mathlib.Omega.{arith}
 use lib.Bits.{bit_and, bit_or, and_le_l, and_le_r, and_mod, or_lt}
 use lib.Dec.{eqb}
 use borrow.Author.Tests.{eqb-true, eq-eqb, ne_eqb}
-use Rattle.words.specs.lists.Pick.{pick}
 use Rattle.words.proofs.lists.Tests.{no_both, and_l, and_r, and-true, or_cases, or-true-l, or_true_r}
 use Rattle.words.specs.bits.Word.{bit, is_agreeing}
 use Rattle.words.proofs.bits.BitLaws.{bit-and, bit-or, same_bits}
@@ -62,7 +62,7 @@ bits-suit f g b p q = go (or_cases (eqb f 2) (eqb f b) p) (or_cases (eqb g 2) (e
 
 -- a bit that suits both
 suiting : (f g : ℕ) → f ≤ 2 → g ≤ 2 → (eqb f 2 || eqb g 2 || eqb f g) ≡ true
-    → (b : Bool) × (suits f (pick b 1 0) ≡ true) × (suits g (pick b 1 0) ≡ true)
+    → (b : Bool) × (suits f (if b then 1 else 0) ≡ true) × (suits g (if b then 1 else 0) ≡ true)
 suiting zero zero hf hg e = (false, refl, refl)
 suiting zero (suc zero) hf hg e = absurd (let z : ◌≡◌ {A = Bool} false true = e in let y : ◌≡◌ {A = ℕ} 0 1 = cc in omega arith)
 suiting zero (suc (suc zero)) hf hg e = (false, refl, refl)
@@ -102,8 +102,8 @@ pub record Common (r s : Row) : Type 0 where
   pub word : ℕ
   pub low : word < 65536
   pub bit : Bool
-  pub first : is_match word (pick bit 1 0) r ≡ true
-  pub second : is_match word (pick bit 1 0) s ≡ true
+  pub first : is_match word (if bit then 1 else 0) r ≡ true
+  pub second : is_match word (if bit then 1 else 0) s ≡ true
 
 module _ (r s : Row) where
   pub common-together : (w b : ℕ) → r.values < 65536 → s.values < 65536 → is_match w b r ≡ true
@@ -129,10 +129,10 @@ module _ (r s : Row) where
         word = w;
         low = or_lt 16 r.values s.values R.small S.small;
         bit = t.0;
-        first = and-true (is_agreeing w r.care r.values) (suits r.bit (pick t.0 1 0))
+        first = and-true (is_agreeing w r.care r.values) (suits r.bit (if t.0 then 1 else 0))
             (eq-eqb (bit_and w r.care) r.values
             (joined-has r.care r.values s.care s.values R.cares R.small R.within q)) t.1;
-        second = and-true (is_agreeing w s.care s.values) (suits s.bit (pick t.0 1 0))
+        second = and-true (is_agreeing w s.care s.values) (suits s.bit (if t.0 then 1 else 0))
             (eq-eqb (bit_and w s.care) s.values
             (joined-has-too r.care r.values s.care s.values S.cares S.small S.within q)) t.2;
       }

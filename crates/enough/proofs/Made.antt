@@ -1,5 +1,6 @@
 -- What is expected of runs and rebindings where the bound lies behind all words and no tick of the walk is a drop:
 -- each run is made in full.
+use Rattle.std.proofs.Common.{if◌then◌else◌}
 use Prim.Native.Nat.{ℕ, zero, suc, ◌+◌, ◌-◌, ◌≤◌, min}
 use mathlib.Core.Bool.{Bool, true, false, ◌&&◌}
 use mathlib.Core.Path.{◌≡◌, refl, sym, ◌∙◌, ap, ap₂, subst}
@@ -8,7 +9,6 @@ use lib.Dec.{ltb}
 use lib.ListN.{length, take, drop, length-append, length-map, length-take, length-drop}
 use native.Mathlib.Omega.{arith}
 use borrow.Author.Tests.{eqb-false, le-ltb}
-use Rattle.words.specs.lists.Pick.{pick}
 use Rattle.words.proofs.lists.Joins.{all_map, all_of}
 use Rattle.words.specs.lists.Sequences.{All}
 use Rattle.bindings.specs.Binding.{Binding}
@@ -45,7 +45,7 @@ module _ (b : ℕ) (ts : List Tick) (long : b ≤ length ts) (quiet : All (λ (t
     reply-made =
         let m : ℕ = length a.words in
         let e : min (p + m) b - min p b ≡ m = omega arith in
-        ap (λ (t : Bool). pick (t && ltb 0 m) (refusal 17 0 (min (p + m) b - min p b)) (success (min (p + m) b - min p b)))
+        ap (λ (t : Bool). (if t && ltb 0 m then refusal 17 0 (min (p + m) b - min p b) else success (min (p + m) b - min p b)))
         (le-ltb b (p + m) l)
         ∙ ap success e
 
@@ -83,7 +83,7 @@ module _ (b : ℕ) (ts : List Tick) (long : b ≤ length ts) (quiet : All (λ (t
     expected-made (to_run a ∷ rest) s p l = go (expected-made rest s) (is_short a) refl
       where
         made : Bool → Reply
-        made t = pick t (refusal 16 0 0) (success (length a.words))
+        made t = if t then refusal 16 0 0 else success (length a.words)
 
         go : ((q : ℕ) → q + length (joined_words c s rest) ≤ b → AllMade c rest (expected_outputs c b ts q rest)) → (t : Bool)
             → is_short a ≡ t

@@ -1,4 +1,5 @@
 -- The chart whose call no words lead to: it goes from home to its first condition and back, whatever the words and the bindings.
+use Rattle.std.proofs.Common.{if◌then◌else◌}
 use Prim.Native.Nat.{ℕ, suc}
 use mathlib.Core.Bool.{Bool, true, false}
 use mathlib.Core.Path.{◌≡◌, refl, sym, ◌∙◌, ap, subst}
@@ -6,7 +7,6 @@ use mathlib.Core.List.{List, [], ◌∷◌}
 use lib.Dec.{eqb}
 use lib.ListN.{length}
 use native.Mathlib.Omega.{arith}
-use Rattle.words.specs.lists.Pick.{pick}
 use Rattle.words.specs.lists.Numbers.{lowest, any, count, sum, highest}
 use Rattle.words.specs.lists.Sequences.{some, filter, concat_map, All}
 use Rattle.words.specs.bits.Word.{bit}
@@ -55,8 +55,8 @@ unfolding next_stop is_stop node_of lowest
 leads-home w = go (eqb (bit w 0) 0) refl
   where
     go : (b : Bool) → eqb (bit w 0) 0 ≡ b → by_word chart_never w 1 ≡ 4
-    go true e = ap (λ (t : Bool). next_stop 7 chart_never w (pick t 4 2)) e
-    go false e = ap (λ (t : Bool). next_stop 7 chart_never w (pick t 4 2)) e ∙ ap (λ (t : Bool). next_stop 6 chart_never w (pick t 3 4)) e
+    go true e = ap (λ (t : Bool). next_stop 7 chart_never w (if t then 4 else 2)) e
+    go false e = ap (λ (t : Bool). next_stop 7 chart_never w (if t then 4 else 2)) e ∙ ap (λ (t : Bool). next_stop 6 chart_never w (if t then 3 else 4)) e
 
 -- ---- so that it is at one of two positions, and calls at neither
 pub data Quiet : WalkPosition → Type 0 where

@@ -1,8 +1,7 @@
 -- What the number of places promises:
 -- with that many or more, no call of any list from a fresh state gets 17 or makes a drop, as long as every number is served by its own
 -- scheme. Said over the functions, and for a caller from C; each call is known by its contract alone.
-use Rattle.std.specs.Prelude.{ℕ, ◌≤◌, ◌≡◌, List, map, length, take}
-use Rattle.words.specs.lists.Pick.{pick}
+use Rattle.std.specs.Prelude.{ℕ, ◌≤◌, ◌≡◌, List, map, length, take, if◌then◌else◌}
 use Rattle.words.specs.lists.Sequences.{All}
 use Rattle.bindings.specs.Binding.{own_binding}
 use Rattle.text.specs.declared.frames.codes.TheConstants.{DROP_CODE}
@@ -29,7 +28,7 @@ OwnServed c given = All (λ (w : Signal). w.binding ≡ own_binding) (joined_wor
 
 -- a run makes a tick for every word, or gets 16 for want of room; a rebinding is made, or gets 22
 abbrev pub all_made : Chart → CallInput → Reply
-all_made c (to_run a) = pick (is_short a) (refusal NO_ROOM 0 0) (success (length a.words))
+all_made c (to_run a) = if is_short a then refusal NO_ROOM 0 0 else success (length a.words)
 all_made c (to_rebind h k) = reply_to c h k
 
 -- no code of a drop among those that were written

@@ -1,4 +1,5 @@
 -- On the image of a chart no list of words meets 18, and one meets 17 exactly where its walk goes too deep.
+use Rattle.std.proofs.Common.{if◌then◌else◌}
 use Prim.Native.Nat.{ℕ, suc, ◌≤◌}
 use mathlib.Core.Bool.{Bool, true, false, ◌||◌}
 use mathlib.Core.Path.{◌≡◌, refl, sym, ◌∙◌, ap, ap₂}
@@ -7,7 +8,6 @@ use lib.Dec.{ltb, eqb, leb-suc-suc}
 use lib.ListN.{length, take}
 use native.Mathlib.Omega.{arith}
 use borrow.Author.Tests.{lt-ltb, eqb-false}
-use Rattle.words.specs.lists.Pick.{pick}
 use Rattle.words.specs.lists.Numbers.{count}
 use Rattle.words.specs.lists.Sequences.{some}
 use Rattle.words.proofs.lists.Tests.{or_l}
@@ -65,26 +65,26 @@ signals-length : (ws : List ℕ) → length (signals own_binding ws) ≡ length 
 signals-length [] = refl
 signals-length (w ∷ ws) = ap suc (signals-length ws)
 
-seventeen : (b : Bool) → eqb (number_of (pick b (refused 17 0) fine)) 17 ≡ b
+seventeen : (b : Bool) → eqb (number_of (if b then refused 17 0 else fine)) 17 ≡ b
 seventeen true = refl
 seventeen false = refl
 
-never-18 : (b : Bool) → eqb (number_of (pick b (refused 17 0) fine)) 18 ≡ false
+never-18 : (b : Bool) → eqb (number_of (if b then refused 17 0 else fine)) 18 ≡ false
 never-18 true = refl
 never-18 false = refl
 
 module _ (c : Chart) (f : Facts c) (table_facts : TableFacts c) (size : ℕ) (low : 1 ≤ size) (high : size ≤ 32) where
-  pub met-is : (ws : List ℕ) → number_met (table c) (fresh size) ws ≡ number_of (pick (is_walk_too_deep size c ws) (refused 17 0) fine)
+  pub met-is : (ws : List ℕ) → number_met (table c) (fresh size) ws ≡ number_of (if is_walk_too_deep size c ws then refused 17 0 else fine)
   met-is ws =
       let ts : List Tick = trace size c (signals own_binding ws) (position_at_home c no_results) in
       ap (λ (s : State). number_of (ticks (table c) s ws).verdict) (home-is c f size)
       ∙ ap (λ (r : MachineRun). number_of r.verdict)
       (ticks-are c size own_binding f (own-serves c f) high table_facts ws (position_at_home c no_results)
       (record { low = low; good = home-good c f no_results }))
-      ∙ ap (λ (m : ℕ). number_of (pick (ltb (bound size ts) m) (refused 17 0) fine))
+      ∙ ap (λ (m : ℕ). number_of (if ltb (bound size ts) m then refused 17 0 else fine))
       (sym (trace-length size c (signals own_binding ws) (position_at_home c no_results) ∙ signals-length ws))
-      ∙ ap (λ (b : Bool). number_of (pick b (refused 17 0) fine)) (sym (deep-bound size ts))
-      ∙ ap (λ (us : List Tick). number_of (pick (is_too_deep size us) (refused 17 0) fine))
+      ∙ ap (λ (b : Bool). number_of (if b then refused 17 0 else fine)) (sym (deep-bound size ts))
+      ∙ ap (λ (us : List Tick). number_of (if is_too_deep size us then refused 17 0 else fine))
       (sym (walk-trace size c (signals own_binding ws)))
 
   no-18 : (n k : ℕ) → count_meeting (table c) (fresh size) n k 18 ≡ 0

@@ -1,11 +1,11 @@
 -- Every run ends, meets 17 or meets 18, so that the three counts are all lists.
+use Rattle.std.proofs.Common.{if◌then◌else◌}
 use Prim.Native.Nat.{ℕ, zero, suc, ◌+◌, ◌-◌}
 use mathlib.Core.Bool.{Bool, true, false}
 use mathlib.Core.Path.{◌≡◌, refl, ◌∙◌, ap}
 use mathlib.Core.List.{List, [], ◌∷◌}
 use lib.Dec.{leb, eqb}
 use native.Mathlib.Omega.{arith}
-use Rattle.words.specs.lists.Pick.{pick}
 use Rattle.words.specs.lists.Numbers.{count}
 use Rattle.results.specs.Results.{Results, with_result, cleared_results}
 use Rattle.bindings.specs.Binding.{server_of}
@@ -21,7 +21,7 @@ use Rattle.state.specs.State.{fresh, label_at, entry_at, place_at, number_at}
 use Rattle.state.specs.Changes.{with_bits}
 use Rattle.ticks.specs.Tick.{row_leads, MachineTick, finished, stopped, moved_tick, popped_state, state_alone}
 use Rattle.ticks.specs.Tick.{is_full_stack_kept, full_tick, pushed_tick, popped_tick, tick_by, tick}
-use Rattle.runs.specs.Run.{then, ticks}
+use Rattle.runs.specs.Run.{run_after, ticks}
 use Rattle.fillings.specs.Counts.{words_of, lists, number_of, number_met, count_meeting, count_verdict, fillings_on, count_fillings}
 use Rattle.fillings.specs.Promises.{SumsUp}
 
@@ -42,8 +42,8 @@ moved-stops m code t k missing = ends_by_18
 full-stops : (i : Image) (s : State) (m : ℕ) (b : Results) → Stops (full_tick i s m b)
 full-stops i s m b = go (is_full_stack_kept i s)
   where
-    go : (t : Bool) → Stops (pick t (stopped 17) (finished m 96 (state_alone s (entry_at i i.handler) i.handler
-        (cleared_results i.handler b))))
+    go : (t : Bool) → Stops (if t then stopped 17 else finished m 96 (state_alone s (entry_at i i.handler) i.handler
+        (cleared_results i.handler b)))
     go true = ends_by_17
     go false = tt
 
@@ -75,19 +75,19 @@ ticks-end i [] s = ends_by_0
 ticks-end i (w ∷ ws) s = go (tick i s w) (tick-stops i s w) (ticks-end i ws)
   where
     go : (t : MachineTick) → Stops t → ((u : State) → EndsBy (number_of (ticks i u ws).verdict))
-        → EndsBy (number_of (then s (λ u. ticks i u ws) t).verdict)
+        → EndsBy (number_of (run_after s (λ u. ticks i u ws) t).verdict)
     go (finished m code u) q ih = ih u
     go (stopped n) q ih = q
 
 -- ---- three counts
 module _ (f : ℕ → ℕ) (e : (x : ℕ) → EndsBy (f x)) where
   abbrev here : ℕ → ℕ → ℕ
-  here x number = pick (eqb (f x) number) 1 0
+  here x number = if eqb (f x) number then 1 else 0
 
   one_each : (x : ℕ) → here x 0 + here x 17 + here x 18 ≡ 1
   one_each x = go (f x) (e x)
     where
-      go : (m : ℕ) → EndsBy m → pick (eqb m 0) 1 0 + pick (eqb m 17) 1 0 + pick (eqb m 18) 1 0 ≡ 1
+      go : (m : ℕ) → EndsBy m → (if eqb m 0 then 1 else 0) + (if eqb m 17 then 1 else 0) + (if eqb m 18 then 1 else 0) ≡ 1
       go m ends_by_0 = refl
       go m ends_by_17 = refl
       go m ends_by_18 = refl

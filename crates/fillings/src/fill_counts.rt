@@ -1,6 +1,5 @@
 // How runs end, in tallies: of lists that all end alike, of two tallies together, and of one list of words on a prepared table.
-ghost use Rattle.std.specs.Prelude.{◌≡◌, ◌^◌, ◌≤◌};
-ghost use Rattle.words.specs.lists.Pick.{pick};
+ghost use Rattle.std.specs.Prelude.{◌≡◌, ◌^◌, ◌≤◌, if◌then◌else◌};
 ghost use Rattle.tables.specs.Table.{table_image};
 ghost use Rattle.state.specs.Bytes.{state_of};
 ghost use Rattle.ticks.specs.inner.TickContracts.{TickAsked};
@@ -26,7 +25,7 @@ pub fn power(k: usize) -> u32
 }
 
 fn only_if(here: bool, lists: u32) -> u32
-    ensures { result ≡ pick here lists 0 }
+    ensures { result ≡ (if here then lists else 0) }
 {
     if here {
         return lists;

@@ -1,4 +1,5 @@
 -- What it says that a state fits an image (refusal 15), test by test.
+use Rattle.std.proofs.Common.{if◌then◌else◌}
 use Prim.Native.Nat.{ℕ, ◌+◌, ◌-◌, ◌≤◌, ◌<◌}
 use mathlib.Core.Bool.{Bool, true, false, ◌&&◌, ◌||◌, not}
 use mathlib.Core.Path.{◌≡◌, refl, sym, ◌∙◌, ap, subst}
@@ -6,7 +7,6 @@ use lib.Dec.{leb, ltb, eqb}
 use lib.ListN.{length}
 use native.Mathlib.Omega.{arith}
 use borrow.Author.Tests.{eqb-true, lt-ltb, ltb-true, le-leb, lt-leb, leb-true, leb-false}
-use Rattle.words.specs.lists.Pick.{pick}
 use Rattle.words.specs.lists.Numbers.{any}
 use Rattle.words.proofs.lists.Tests.{or_r, or_l, or-none, and_l, and_r, and-true, and-false, not-false}
 use Rattle.words.proofs.lists.Searches.{any_false, any_none}
@@ -109,7 +109,7 @@ module _ (i : Image) where
       go (eqb h i.handler) (ap (λ (p : Bool). by p (eqb h i.handler)) (sym (le-leb h (length i.entries) most)) ∙ good)
     where
       by : Bool → Bool → Bool
-      by p t = not (pick (p && not t) (is_callable i (server_of s.serving h)) (eqb (server_of s.serving h) h))
+      by p t = not (if p && not t then is_callable i (server_of s.serving h) else eqb (server_of s.serving h) h)
 
       good : by (leb h (length i.entries)) (eqb h i.handler) ≡ false
       good = f.serves h two (omega arith)

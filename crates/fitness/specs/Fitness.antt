@@ -1,6 +1,5 @@
 -- Whether a state fits an image: refusal 15.
-use Rattle.std.specs.Prelude.{ℕ, ◌+◌, ◌-◌, Bool, ◌&&◌, ◌||◌, not, leb, ltb, eqb, length}
-use Rattle.words.specs.lists.Pick.{pick}
+use Rattle.std.specs.Prelude.{ℕ, ◌+◌, ◌-◌, Bool, ◌&&◌, ◌||◌, not, leb, ltb, eqb, length, if◌then◌else◌}
 use Rattle.words.specs.lists.Numbers.{any}
 use Rattle.bindings.specs.Binding.{server_of}
 use Rattle.text.specs.declared.frames.sizes.TheConstants.{SCHEMES}
@@ -47,7 +46,7 @@ has_bad_bottom i s = not ((eqb (label_at i (place_at s 0)).owner 1 && is_own_bot
 -- number h, where it is of 2 to H and not the handler's, is served by a scheme of 2 to H, any other by itself
 abbrev pub is_badly_served : Image → State → ℕ → Bool
 is_badly_served i s h = let k = server_of s.serving h in
-    not (pick (leb h (length i.entries) && not (eqb h i.handler)) (is_callable i k) (eqb k h))
+    not (if leb h (length i.entries) && not (eqb h i.handler) then is_callable i k else eqb k h)
 
 -- the depth is 1 to Σ
 abbrev pub has_bad_depth : State → Bool

@@ -1,7 +1,6 @@
 // Whether a state, kept as 130 bytes, fits the image that a prepared table holds: refusal 15.
-ghost use Rattle.std.specs.Prelude.{◌≡◌, ◌-◌, ◌≤◌, ◌<◌, leb};
+ghost use Rattle.std.specs.Prelude.{◌≡◌, ◌-◌, ◌≤◌, ◌<◌, leb, if◌then◌else◌};
 ghost use Rattle.std.specs.Int.Bits.{bit_or};
-ghost use Rattle.words.specs.lists.Pick.{pick};
 ghost use Rattle.words.specs.lists.Numbers.{any};
 ghost use Rattle.tables.specs.Table.{table_image};
 ghost use Rattle.tables.specs.inner.Asked.{Whole};
@@ -21,9 +20,9 @@ use tables::{handler_of, scheme_count};
 // Label, number and server of place k, joined, where it lies above the depth, and 0 where it does not.
 fn place_above(bytes: &[u8; STATE_BYTES], depth: usize, k: usize) -> u8
     requires { k < PLACES }
-    ensures { result ≡ pick (leb depth k)
-        (bit_or (bit_or (place_at (state_of bytes.now) k) (number_at (state_of bytes.now) k))
-        (server_at (state_of bytes.now) k)) 0 }
+    ensures { result ≡ (if leb depth k
+        then bit_or (bit_or (place_at (state_of bytes.now) k) (number_at (state_of bytes.now) k))
+        (server_at (state_of bytes.now) k) else 0) }
 {
     if depth <= k {
         return place_of(bytes, k) | number_of(bytes, k) | server_of(bytes, k);

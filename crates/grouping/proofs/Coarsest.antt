@@ -1,4 +1,5 @@
 -- The grouping meets the rule, every grouping that meets the rule is within it, and none of these has fewer groups.
+use Rattle.std.proofs.Common.{if◌then◌else◌}
 use Prim.Native.Nat.{ℕ, zero, suc, ◌+◌, ◌≤◌, ◌<◌}
 use mathlib.Core.Bool.{Bool, true, false, not}
 use mathlib.Core.Path.{◌≡◌, refl, sym, ◌∙◌, ap, subst}
@@ -7,7 +8,6 @@ use native.Mathlib.Omega.{arith}
 use lib.Dec.{eqb}
 use lib.ListN.{length}
 use borrow.Author.Tests.{eqb-true, eqb-false, eq-eqb, ne_eqb}
-use Rattle.words.specs.lists.Pick.{pick}
 use Rattle.words.specs.lists.Numbers.{any, count}
 use Rattle.words.proofs.lists.Tests.{and_l, split, not-true, bit-low}
 use Rattle.words.proofs.lists.Searches.{any_false, any_none}
@@ -23,7 +23,7 @@ use Rattle.grouping.specs.Classes.{class_of, is_first, is_staying_with, classes,
 use Rattle.grouping.proofs.Onward.{same-fields, onward_label, onward-inside, low_same, onward-is, the-hit}
 use Rattle.grouping.proofs.Rounds.{has_same_fields_at, first_alike, class_same, stays-made, stays-alike, rounds, group-round, group-leads}
 
-pub bit-of : (b : ℕ) → b < 2 → (t : Bool) × (pick t 1 0 ≡ b)
+pub bit-of : (b : ℕ) → b < 2 → (t : Bool) × ((if t then 1 else 0) ≡ b)
 bit-of zero h = (false, refl)
 bit-of (suc zero) h = (true, refl)
 bit-of (suc (suc b)) h = absurd (omega arith)
@@ -34,7 +34,7 @@ module _ (i : Image) (S : SoundImage i) (one : OneRow i) where
 
   -- a row that matches leads where its label leads
   row-leads : (l w b j : ℕ) → j < length i.rows → is_candidate l w b (nth_row i j) ≡ true → (t : Bool)
-      → pick t 1 0 ≡ b → (nth_row i j).next ≡ onward_label i l w t
+      → (if t then 1 else 0) ≡ b → (nth_row i j).next ≡ onward_label i l w t
   row-leads l w b j h e t q =
       let f : (nth_row i j).from ≡ l = eqb-true (nth_row i j).from l (and_l (eqb (nth_row i j).from l) (is_match w b (nth_row i j)) e) in
       sym (onward-is i S one l w t (omega (arith, (S.each j h).low)) (omega (arith, (S.each j h).high)) j h
@@ -67,7 +67,7 @@ module _ (i : Image) (S : SoundImage i) (one : OneRow i) where
             let p = the-hit i S one l w b x hl in
             let q = the-hit i S one m w b y hm in
             ap g (onward-is i S one l w b x hl p.place p.inside p.holding)
-            ∙ M.leads l m hl hm e w (pick b 1 0) hw (bit-low b) p.place q.place p.inside q.inside p.holding q.holding
+            ∙ M.leads l m hl hm e w (if b then 1 else 0) hw (bit-low b) p.place q.place p.inside q.inside p.holding q.holding
             ∙ sym (ap g (onward-is i S one m w b y hm q.place q.inside q.holding))
 
     within-classes : (k l m : ℕ) → l < n → m < n → g l ≡ g m → class_of (classes i k) l ≡ class_of (classes i k) m

@@ -1,4 +1,5 @@
 -- Where a label's row leads by a word and a bit, and when a list of classes parts two labels.
+use Rattle.std.proofs.Common.{if◌then◌else◌}
 use Prim.Native.Nat.{ℕ, zero, suc, ◌≤◌, ◌<◌}
 use mathlib.Core.Bool.{Bool, true, false, ◌&&◌, ◌||◌, not}
 use mathlib.Core.Path.{◌≡◌, refl, sym, ◌∙◌, ap, ap₂, subst}
@@ -7,7 +8,6 @@ use native.Mathlib.Omega.{arith}
 use lib.Dec.{eqb}
 use lib.ListN.{length, get_or}
 use borrow.Author.Tests.{eqb-true, eq-eqb}
-use Rattle.words.specs.lists.Pick.{pick}
 use Rattle.words.specs.lists.Sequences.{some, filter, All}
 use Rattle.words.proofs.lists.Tests.{no_both, and_l, and_r, and-true, and-false, or_l, or_r, not-false}
 use Rattle.words.proofs.lists.Joins.{all-places, all_filter}
@@ -45,7 +45,7 @@ label_led_to l [] = l
 label_led_to l (r ∷ rs) = r.next
 
 abbrev pub onward_label : Image → ℕ → ℕ → Bool → ℕ
-onward_label i l w b = label_led_to l (filter (is_candidate l w (pick b 1 0)) i.rows)
+onward_label i l w b = label_led_to l (filter (is_candidate l w (if b then 1 else 0)) i.rows)
 
 module _ (i : Image) (S : SoundImage i) where
   abbrev n : ℕ
@@ -53,10 +53,10 @@ module _ (i : Image) (S : SoundImage i) where
 
   pub onward-inside : (l w : ℕ) (b : Bool) → l < n → onward_label i l w b < n
   onward-inside l w b h =
-      go (filter (is_candidate l w (pick b 1 0)) i.rows)
-      (all_filter (SoundRow i) (is_candidate l w (pick b 1 0)) i.rows (all-places (SoundRow i) no_row i.rows S.each))
+      go (filter (is_candidate l w (if b then 1 else 0)) i.rows)
+      (all_filter (SoundRow i) (is_candidate l w (if b then 1 else 0)) i.rows (all-places (SoundRow i) no_row i.rows S.each))
     where
-      go : (rs : List Row) → All (λ r. SoundRow i r × (is_candidate l w (pick b 1 0) r ≡ true)) rs → label_led_to l rs < n
+      go : (rs : List Row) → All (λ r. SoundRow i r × (is_candidate l w (if b then 1 else 0) r ≡ true)) rs → label_led_to l rs < n
       go [] a = h
       go (r ∷ rs) a = a.0.0.leading.inside
 
@@ -81,19 +81,19 @@ module _ (i : Image) (S : SoundImage i) where
 
   module _ (one : OneRow i) where
     -- a row of a label that matches is the one that leads on
-    pub onward-is : (l w : ℕ) (b : Bool) → 2 ≤ l → l < n → (j : ℕ) → j < length i.rows → is_candidate l w (pick b 1 0) (nth_row i j) ≡ true
+    pub onward-is : (l w : ℕ) (b : Bool) → 2 ≤ l → l < n → (j : ℕ) → j < length i.rows → is_candidate l w (if b then 1 else 0) (nth_row i j) ≡ true
         → onward_label i l w b ≡ (nth_row i j).next
     onward-is l w b low high j h e = let x = the_row i one l w b low high in
-        ap (label_led_to l) x.1 ∙ ap (λ (r : Row). r.next) (sym (hit-is l w (pick b 1 0) x.0 i.rows x.1 j h e))
+        ap (label_led_to l) x.1 ∙ ap (λ (r : Row). r.next) (sym (hit-is l w (if b then 1 else 0) x.0 i.rows x.1 j h e))
 
-    pub the-hit : (l w : ℕ) (b : Bool) → (low : 2 ≤ l) → (high : l < n) → Hit l w (pick b 1 0) (the_row i one l w b low high).0 i.rows
-    the-hit l w b low high = let x = the_row i one l w b low high in the-place l w (pick b 1 0) x.0 i.rows x.1
+    pub the-hit : (l w : ℕ) (b : Bool) → (low : 2 ≤ l) → (high : l < n) → Hit l w (if b then 1 else 0) (the_row i one l w b low high).0 i.rows
+    the-hit l w b low high = let x = the_row i one l w b low high in the-place l w (if b then 1 else 0) x.0 i.rows x.1
 
     -- and the machine goes there
     pub best-found : (l w : ℕ) (b : Bool) → 2 ≤ l → l < n → (k : ℕ)
-        → lead_of (best_row l w (pick b 1 0) k i.rows) ≡ found (onward_label i l w b)
+        → lead_of (best_row l w (if b then 1 else 0) k i.rows) ≡ found (onward_label i l w b)
     best-found l w b low high k = let x = the_row i one l w b low high in
-        only_row l w (pick b 1 0) x.0 k i.rows x.1 ∙ ap found (sym (ap (label_led_to l) x.1))
+        only_row l w (if b then 1 else 0) x.0 k i.rows x.1 ∙ ap found (sym (ap (label_led_to l) x.1))
 
     module _ (c : List ℕ) where
       pub unparted : (l m : ℕ) → 2 ≤ l → l < n → 2 ≤ m → m < n → is_parted i c l m ≡ false
@@ -107,12 +107,12 @@ module _ (i : Image) (S : SoundImage i) where
           let p : some (is_parting c l m r) i.rows ≡ false =
           some_at (λ r. some (is_parting c l m r) i.rows) no_row i.rows e x.place x.inside in
           let q : is_parting c l m r s ≡ false = some_at (is_parting c l m r) no_row i.rows p y.place y.inside in
-          let f : eqb r.from l ≡ true = and_l (eqb r.from l) (is_match w (pick b 1 0) r) x.holding in
-          let g : eqb s.from m ≡ true = and_l (eqb s.from m) (is_match w (pick b 1 0) s) y.holding in
+          let f : eqb r.from l ≡ true = and_l (eqb r.from l) (is_match w (if b then 1 else 0) r) x.holding in
+          let g : eqb s.from m ≡ true = and_l (eqb s.from m) (is_match w (if b then 1 else 0) s) y.holding in
           let t : is_together r s ≡ true =
-          common-together r s w (pick b 1 0) (S.each x.place x.inside).small (S.each y.place y.inside).small
-          (and_r (eqb r.from l) (is_match w (pick b 1 0) r) x.holding)
-          (and_r (eqb s.from m) (is_match w (pick b 1 0) s) y.holding) in
+          common-together r s w (if b then 1 else 0) (S.each x.place x.inside).small (S.each y.place y.inside).small
+          (and_r (eqb r.from l) (is_match w (if b then 1 else 0) r) x.holding)
+          (and_r (eqb s.from m) (is_match w (if b then 1 else 0) s) y.holding) in
           let z : not (eqb (class_of c r.next) (class_of c s.next)) ≡ false =
           and-false (eqb r.from l && eqb s.from m && is_together r s) (not (eqb (class_of c r.next) (class_of c s.next))) q
           (and-true (eqb r.from l && eqb s.from m) (is_together r s) (and-true (eqb r.from l) (eqb s.from m) f g) t) in
@@ -144,10 +144,10 @@ module _ (i : Image) (S : SoundImage i) where
               let C : Common r s = together-common r s (S.each j hj) (S.each k hk) (and_r (x && y) (is_together r s) e₁) in
               let p : onward_label i l C.word C.bit ≡ r.next =
               onward-is l C.word C.bit (omega (arith, (S.each j hj).low)) (omega (arith, (S.each j hj).high)) j hj
-              (and-true x (is_match C.word (pick C.bit 1 0) r) (and_l x y e₂) C.first) in
+              (and-true x (is_match C.word (if C.bit then 1 else 0) r) (and_l x y e₂) C.first) in
               let q : onward_label i m C.word C.bit ≡ s.next =
               onward-is m C.word C.bit (omega (arith, (S.each k hk).low)) (omega (arith, (S.each k hk).high)) k hk
-              (and-true y (is_match C.word (pick C.bit 1 0) s) (and_r x y e₂) C.second) in
+              (and-true y (is_match C.word (if C.bit then 1 else 0) s) (and_r x y e₂) C.second) in
               let same : class_of c r.next ≡ class_of c s.next =
               ap (class_of c) (sym p) ∙ h C.word C.bit C.low ∙ ap (class_of c) q in
               no_both z (and_r (x && y && is_together r s) z e) (ap not (eq-eqb (class_of c r.next) (class_of c s.next) same))

@@ -9,7 +9,7 @@ use lib.ListN.{length, get_or}
 use lib.Bits.{bit_and}
 use lib.Dec.{leb, ltb, eqb}
 use borrow.Author.Tests.{le-ltb, lt-ltb, eq-eqb, ne_eqb, eqb-true, eqb-false, ltb-false, leb-true}
-use Rattle.words.proofs.lists.Tests.{or_l, or_r, or_cases, and_l, and_r, and-false, not-false, yes-pick, no-pick}
+use Rattle.words.proofs.lists.Tests.{or_l, or_r, or_cases, and_l, and_r, and-false, not-false, if-true, if-false}
 use Rattle.words.proofs.lists.Ranges.{length-map-range, get_or-map-range}
 use Rattle.text.specs.frames.Frame.{size, field, pair_at, contents}
 use Rattle.text.specs.frames.Verdict.{fine, next, when, at_lowest}
@@ -116,7 +116,7 @@ fields-same x y e =
 called-told : (b : List ℕ) (x : Label) → has_bad_called b x ≡ false → (x.kind ≡ 0 → ⊥) → (2 ≤ x.called) × (x.called ≤ scheme_count b)
 called-told b x e n =
     let t : (ltb x.called 2 || ltb (scheme_count b) x.called) ≡ false =
-    sym (no-pick (eqb x.kind 0) (not (eqb x.called 0)) (ltb x.called 2 || ltb (scheme_count b) x.called)
+    sym (if-false (eqb x.kind 0) (not (eqb x.called 0)) (ltb x.called 2 || ltb (scheme_count b) x.called)
     (ne_eqb x.kind 0 n))
     ∙ e in (
       ltb-false x.called 2 (or_l (ltb x.called 2) (ltb (scheme_count b) x.called) t),
@@ -126,7 +126,7 @@ called-told b x e n =
 plain-told : (b : List ℕ) (x : Label) → has_bad_called b x ≡ false → x.kind ≡ 0 → x.called ≡ 0
 plain-told b x e k =
     eqb-true x.called 0 (not-false (eqb x.called 0)
-    (sym (yes-pick (eqb x.kind 0) (not (eqb x.called 0)) (ltb x.called 2 || ltb (scheme_count b) x.called)
+    (sym (if-true (eqb x.kind 0) (not (eqb x.called 0)) (ltb x.called 2 || ltb (scheme_count b) x.called)
     (eq-eqb x.kind 0 k)) ∙ e))
 
 label-told : (b : List ℕ) (l : ℕ) (x : Label) → x.mask < 4294967296 → is_bad_label b (suc (suc l)) x ≡ false → SoundLabel (scheme_count b) x

@@ -1,4 +1,5 @@
 -- The text of a sound image passes the image check.
+use Rattle.std.proofs.Common.{if◌then◌else◌}
 use Prim.Native.Nat.{ℕ, zero, suc, ◌+◌, ◌-◌, ◌≤◌, ◌<◌}
 use mathlib.Core.Bool.{Bool, true, false, ◌&&◌, ◌||◌, not}
 use mathlib.Core.Path.{◌≡◌, refl, ◌∙◌, ap, ap₂, subst}
@@ -10,7 +11,6 @@ use lib.Seq.{get_or-append-add}
 use lib.Dec.{ltb, eqb}
 use lib.Bits.{bit_and}
 use borrow.Author.Tests.{le-ltb, lt-ltb, le-leb, eq-eqb, ne_eqb}
-use Rattle.words.specs.lists.Pick.{pick}
 use Rattle.words.proofs.lists.Tests.{split, or-none, or-true-l, or_true_r}
 use Rattle.words.proofs.lists.Searches.{any_none}
 use Rattle.text.specs.frames.Frame.{size, field, pair, contents}
@@ -137,7 +137,7 @@ module _ (i : Image) (b : List ℕ) (S : SoundImage i) (R : Reads i b) where
   called-fine : (x : Label) → SoundLabel (length i.entries) x → has_bad_called b x ≡ false
   called-fine x L = go x.kind refl
     where
-      go : (k : ℕ) → x.kind ≡ k → pick (eqb k 0) (not (eqb x.called 0)) (ltb x.called 2 || ltb (scheme_count b) x.called) ≡ false
+      go : (k : ℕ) → x.kind ≡ k → (if eqb k 0 then not (eqb x.called 0) else ltb x.called 2 || ltb (scheme_count b) x.called) ≡ false
       go zero e = equal x.called 0 (L.plain e)
       go (suc k) e =
           let c : (2 ≤ x.called) × (x.called ≤ length i.entries) = L.calls (λ z. omega arith) in

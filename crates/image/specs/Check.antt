@@ -1,7 +1,6 @@
 -- Why an image is refused: refusals 1 to 3 and 11 to 13.
-use Rattle.std.specs.Prelude.{ℕ, zero, suc, ◌+◌, ◌-◌, Bool, false, ◌&&◌, ◌||◌, not, List, leb, ltb, eqb}
+use Rattle.std.specs.Prelude.{ℕ, zero, suc, ◌+◌, ◌-◌, Bool, false, ◌&&◌, ◌||◌, not, List, leb, ltb, eqb, if◌then◌else◌}
 use Rattle.std.specs.Int.Bits.{bit_and}
-use Rattle.words.specs.lists.Pick.{pick}
 use Rattle.words.specs.lists.Numbers.{any}
 use Rattle.text.specs.declared.frames.sizes.TheConstants.{SCHEMES, ROWS, IMAGE_TEXT}
 use Rattle.text.specs.declared.frames.refusals.TheConstants.{BAD_HEADER, STRAY_FRAME, BAD_CONTENT}
@@ -39,8 +38,8 @@ pub data Position : Type 0 where
 
 unfoldable pub position_of : List ℕ → ℕ → Position
 position_of b f =
-    pick (eqb f 0) header_position (pick (ltb f (labels_from b)) (entry_position f)
-    (pick (ltb f (rows_from b)) (label_position (f - labels_from b)) (row_position (f - rows_from b))))
+    if eqb f 0 then header_position else if ltb f (labels_from b) then entry_position f
+    else if ltb f (rows_from b) then label_position (f - labels_from b) else row_position (f - rows_from b)
 
 -- 12. Byte 0 or byte 1 is not what the position asks for, or rows are out of order.
 abbrev pub is_falling : List ℕ → ℕ → Bool
@@ -58,7 +57,7 @@ is_stray b f = is_stray_frame b f (position_of b f)
 
 -- 13. A label of the image that scheme h owns, or the one where h ends.
 abbrev pub is_within : List ℕ → ℕ → ℕ → Bool
-is_within b h l = leb l (last_label b) && (eqb (label_in b l).owner h || eqb l (pick (eqb h 1) 0 1))
+is_within b h l = leb l (last_label b) && (eqb (label_in b l).owner h || eqb l (if eqb h 1 then 0 else 1))
 
 abbrev pub is_bad_entry : List ℕ → ℕ → Bool
 is_bad_entry b h = is_filled b h 3 7 || not (is_within b h (entry_in b h))
@@ -69,7 +68,7 @@ is_label k h x = eqb x.kind k && eqb x.called 0 && eqb x.owner h && eqb x.result
 
 -- kind 0 calls nothing, kinds 1 and 2 a scheme of 2 to H
 abbrev pub has_bad_called : List ℕ → Label → Bool
-has_bad_called b x = pick (eqb x.kind PLAIN) (not (eqb x.called 0)) (ltb x.called 2 || ltb (scheme_count b) x.called)
+has_bad_called b x = if eqb x.kind PLAIN then not (eqb x.called 0) else ltb x.called 2 || ltb (scheme_count b) x.called
 
 abbrev pub is_bad_label : List ℕ → ℕ → Label → Bool
 is_bad_label b zero x = not (is_label HOME 1 x)

@@ -1,4 +1,5 @@
 -- The cases of refusals 11 and 12, as the code meets them.
+use Rattle.std.proofs.Common.{if◌then◌else◌}
 use mathlib.Core.Path.{◌≡◌, refl, sym, ◌∙◌, ap}
 use mathlib.Core.Bool.{Bool, true, false, ◌||◌, not}
 use mathlib.Core.List.{List}
@@ -6,7 +7,6 @@ use Prim.Native.Nat.{ℕ, ◌+◌, ◌-◌, ◌≤◌, ◌<◌}
 use native.Mathlib.Omega.{arith}
 use lib.Dec.{ltb, eqb}
 use borrow.Author.Tests.{eq-eqb, ne_eqb, lt-ltb, le-ltb, ltb-false}
-use Rattle.words.specs.lists.Pick.{pick}
 use Rattle.words.proofs.lists.Tests.{or-true-l, or_true_r}
 use Rattle.text.specs.frames.Frame.{size, field}
 use Rattle.image.specs.Decode.{row_count, labels_from, rows_from}
@@ -50,8 +50,8 @@ module _ (b : List ℕ) where
 
 -- ---- a frame by its position
 abbrev placed : Bool → Bool → Bool → List ℕ → ℕ → Position
-placed x y z b f = pick x header_position
-    (pick y (entry_position f) (pick z (label_position (f - labels_from b)) (row_position (f - rows_from b))))
+placed x y z b f = if x then header_position
+    else if y then entry_position f else if z then label_position (f - labels_from b) else row_position (f - rows_from b)
 
 module _ (b : List ℕ) (f : ℕ) where
   pub kind-header : f ≡ 0 → 15 ≡ position_kind (position_of b f)

@@ -1,4 +1,5 @@
 -- The smaller image joined again is itself.
+use Rattle.std.proofs.Common.{if◌then◌else◌}
 use Prim.Native.Nat.{ℕ, ◌+◌, ◌≤◌, ◌<◌}
 use mathlib.Core.Bool.{Bool, true, false}
 use mathlib.Core.Path.{◌≡◌, sym, ◌∙◌, ap, subst}
@@ -8,7 +9,6 @@ use native.Mathlib.Omega.{arith}
 use lib.Dec.{eqb}
 use lib.ListN.{length, get_or}
 use borrow.Author.Tests.{eqb-true, eq-eqb}
-use Rattle.words.specs.lists.Pick.{pick}
 use Rattle.words.specs.lists.Numbers.{range, count}
 use Rattle.words.specs.lists.Sequences.{filter}
 use Rattle.words.proofs.lists.Tests.{and_l}
@@ -111,7 +111,7 @@ module _ (i : Image) (S : SoundImage i) (even : is_uneven i ≡ false) where
     from_is : (nth_row i k).from ≡ l
     from_is = eqb-true (nth_row i k).from l (and_l (eqb (nth_row i k).from l) (is_match w b (nth_row i k)) own)
 
-    next-whole : (t : Bool) → pick t 1 0 ≡ b → whole (nth_row i k).next
+    next-whole : (t : Bool) → (if t then 1 else 0) ≡ b → whole (nth_row i k).next
         ≡ class_of d (onward_label (smaller_image i) (renumbered_label c l) w t)
     next-whole t q =
         let low : 2 ≤ l = omega (arith, (S.each k h).low, from_is) in

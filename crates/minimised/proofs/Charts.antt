@@ -1,11 +1,11 @@
 -- The image of a translated chart: 23 never applies, and runs and rebindings on its smaller image agree with the walk.
+use Rattle.std.proofs.Common.{if◌then◌else◌}
 use Prim.Native.Nat.{ℕ, zero, suc, ◌/◌, ◌≤◌, ◌<◌}
 use mathlib.Core.Bool.{true, false}
 use mathlib.Core.Path.{◌≡◌, sym, ◌∙◌, ap, subst}
 use mathlib.Core.List.{List}
 use native.Mathlib.Omega.{arith}
 use lib.ListN.{length, take, length-map, length-take}
-use Rattle.words.specs.lists.Pick.{pick}
 use Rattle.words.specs.lists.Sequences.{filter}
 use Rattle.text.specs.frames.Frame.{contents, size}
 use Rattle.text.specs.frames.Verdict.{Verdict, fine, next, when}
@@ -47,9 +47,9 @@ module _ (c : Chart) (a : SoundChart c) where
   unfolding targets
   table-one-row l w b low high =
       let x : Bearer c (size c) l = bearer c l low high in
-      ap (λ (rs : List Row). length (filter (is_candidate l w (pick b 1 0)) rs)) (rows_are c)
-      ∙ ap (λ (k : ℕ). length (filter (is_candidate k w (pick b 1 0)) (rows c))) (sym x.is)
-      ∙ sym (length-map (filter (is_matching_row (label c x.node) w (pick b 1 0)) (rows c)) (λ (r : Row). r.next))
+      ap (λ (rs : List Row). length (filter (is_candidate l w (if b then 1 else 0)) rs)) (rows_are c)
+      ∙ ap (λ (k : ℕ). length (filter (is_candidate k w (if b then 1 else 0)) (rows c))) (sym x.is)
+      ∙ sym (length-map (filter (is_matching_row (label c x.node) w (if b then 1 else 0)) (rows c)) (λ (r : Row). r.next))
       ∙ ap (λ (us : List ℕ). length us) (one-row c a x.node w b x.inside x.own)
 
   pub table-even : is_uneven (table c) ≡ false

@@ -1,4 +1,5 @@
 -- A state that fits an image fits, with its labels renumbered, the smaller image.
+use Rattle.std.proofs.Common.{if◌then◌else◌}
 use Prim.Native.Nat.{ℕ, ◌+◌, ◌<◌}
 use mathlib.Core.Bool.{Bool, false, ◌&&◌, ◌||◌, not}
 use mathlib.Core.Path.{◌≡◌, sym, ◌∙◌, ap, ap₂, subst}
@@ -7,7 +8,6 @@ use native.Mathlib.Omega.{arith}
 use lib.Dec.{leb, eqb}
 use lib.ListN.{length, length-map}
 use borrow.Author.Tests.{eqb-true}
-use Rattle.words.specs.lists.Pick.{pick}
 use Rattle.words.proofs.lists.Tests.{and_l, not-false}
 use Rattle.bindings.specs.Binding.{server_of}
 use Rattle.image.specs.Image.{Image, Label}
@@ -62,7 +62,7 @@ module _ (i : Image) (S : SoundImage i) (c : List ℕ) (R : ClassRound i c) wher
   served-new : (s : State) (h : ℕ) → is_badly_served small (renumbered_state c s) h ≡ is_badly_served i s h
   served-new s h =
       let k : ℕ = server_of s.serving h in
-      ap₂ (λ (m g : ℕ). not (pick (leb h m && not (eqb h g)) (leb 2 k && leb k m) (eqb k h))) (entries-count i S c R) (same-handler i S c R)
+      ap₂ (λ (m g : ℕ). not (if leb h m && not (eqb h g) then leb 2 k && leb k m else eqb k h)) (entries-count i S c R) (same-handler i S c R)
 
   module _ (s : State) (f : Fits i s) where
     bottom-new : has_bad_bottom small (renumbered_state c s) ≡ has_bad_bottom i s

@@ -1,4 +1,5 @@
 -- The parts of the smaller image and of a renumbered state are those of the given ones, with each label's group in its place.
+use Rattle.std.proofs.Common.{if◌then◌else◌}
 use Prim.Native.Nat.{ℕ, zero, suc, ◌-◌, ◌≤◌, ◌<◌}
 use mathlib.Core.Bool.{Bool}
 use mathlib.Core.Path.{◌≡◌, refl, sym, ◌∙◌, ap, ap₂}
@@ -7,7 +8,6 @@ use native.Mathlib.Omega.{arith}
 use lib.Dec.{eqb}
 use lib.ListN.{length, get_or, set, replicate, get_or-map}
 use borrow.Author.Tests.{ne_eqb}
-use Rattle.words.specs.lists.Pick.{pick}
 use Rattle.results.specs.Results.{Results, result_of}
 use Rattle.image.specs.Image.{Image, Label}
 use Rattle.image.specs.inner.Sound.{SoundImage}
@@ -87,7 +87,7 @@ module _ (i : Image) (S : SoundImage i) (one : OneRow i) (d : Results) (l w : �
       → row_leads (joined_labels i c) d (renumbered_label c l) w ≡ renamed_found c (row_leads i d l w)
   row_new c R g =
       let k : ℕ = renumbered_label c l in
-      ap (λ (x : Label). lead_of (best_row k w (pick (result_of x.called d) 1 0) 0 (joined_labels i c).rows)) (label-new i S c R l h)
+      ap (λ (x : Label). lead_of (best_row k w (if result_of x.called d then 1 else 0) 0 (joined_labels i c).rows)) (label-new i S c R l h)
       ∙ best-found (joined_labels i c) (joined-sound i S c R) (one-new i S c R one) k w bit
       (new-high i S c R l h low) (new-inside i S c R l h) 0
       ∙ ap found (onward-new i S c R one g l w bit low h)

@@ -1,4 +1,5 @@
 -- One tick on the smaller image is the tick on the given one, its labels renumbered; so are any number of ticks.
+use Rattle.std.proofs.Common.{if◌then◌else◌}
 use Prim.Native.Nat.{ℕ, zero, suc, ◌+◌, ◌-◌, ◌≤◌, ◌<◌}
 use mathlib.Core.Bool.{Bool, true, false, ◌||◌}
 use mathlib.Core.Path.{◌≡◌, refl, sym, ◌∙◌, ap, ap₂, subst}
@@ -7,7 +8,6 @@ use native.Mathlib.Omega.{arith}
 use lib.Dec.{leb, eqb}
 use lib.ListN.{length, set}
 use borrow.Author.Tests.{leb-false}
-use Rattle.words.specs.lists.Pick.{pick}
 use Rattle.results.specs.Results.{Results, with_result, cleared_results}
 use Rattle.bindings.specs.Binding.{server_of}
 use Rattle.image.specs.Layout.{tick_kind}
@@ -23,7 +23,7 @@ use Rattle.ticks.specs.Tick.{row_leads, MachineTick, finished, stopped, moved_ti
 use Rattle.ticks.specs.Tick.{opened_state, is_full_stack_kept, full_tick, pushed_tick, popped_tick, tick_by, tick}
 use Rattle.ticks.proofs.Leads.{call-kind, kind-high, carry-told}
 use Rattle.ticks.proofs.Keeps.{Keeps, tick-keeps}
-use Rattle.runs.specs.Run.{MachineRun, then, ticks}
+use Rattle.runs.specs.Run.{MachineRun, run_after, ticks}
 use Rattle.covering.proofs.Hits.{OneRow}
 use Rattle.grouping.proofs.Rounds.{ClassRound}
 use Rattle.minimising.specs.group_numbers.Smaller.{renumbered_label, joined_labels}
@@ -91,10 +91,10 @@ module _ (i : Image) (S : SoundImage i) (c : List ℕ) (R : ClassRound i c) wher
         ∙ go (is_full_stack_kept i s) (state_alone s (entry_at i i.handler) i.handler (cleared_results i.handler b))
       where
         by : Bool → State → MachineTick
-        by t u = pick t (stopped 17) (finished m 96 u)
+        by t u = if t then stopped 17 else finished m 96 u
 
-        go : (t : Bool) (u : State) → pick t (stopped 17) (finished m 96 (renumbered_state c u)) ≡ renamed_tick
-            c (pick t (stopped 17) (finished m 96 u))
+        go : (t : Bool) (u : State) → (if t then stopped 17 else finished m 96 (renumbered_state c u)) ≡ renamed_tick
+            c (if t then stopped 17 else finished m 96 u)
         go true u = refl
         go false u = refl
 
@@ -137,8 +137,8 @@ module _ (i : Image) (S : SoundImage i) (one : OneRow i) where
     pushed-some : (m code h k : ℕ) (b : Results) (t : Bool) → Stops17 (pushed_tick i s m code h k b t)
     pushed-some m code h k b true = go (is_full_stack_kept i s)
       where
-        go : (t : Bool) → Stops17 (pick t (stopped 17)
-            (finished m 96 (state_alone s (entry_at i i.handler) i.handler (cleared_results i.handler b))))
+        go : (t : Bool) → Stops17 (if t then stopped 17
+            else finished m 96 (state_alone s (entry_at i i.handler) i.handler (cleared_results i.handler b)))
         go true = refl
         go false = tt
     pushed-some m code h k b false = tt
@@ -214,13 +214,13 @@ module _ (i : Image) (S : SoundImage i) (one : OneRow i) where
     unfolding ticks
     ticks-new [] s f = refl
     ticks-new (w ∷ ws) s f =
-        ap (then (renumbered_state c s) (λ t. ticks (joined_labels i c) t ws)) (tick-new s f w)
+        ap (run_after (renumbered_state c s) (λ t. ticks (joined_labels i c) t ws)) (tick-new s f w)
         ∙ go (tick i s w) (tick-keeps i S s f w) (ticks-new ws)
       where
         go : (t : MachineTick) → Keeps i S t
             → ((u : State) → Fits i u → ticks (joined_labels i c) (renumbered_state c u) ws ≡ renamed_machine_run c (ticks i u ws))
-            → then (renumbered_state c s) (λ t. ticks (joined_labels i c) t ws) (renamed_tick c t)
-            ≡ renamed_machine_run c (then s (λ u. ticks i u ws) t)
+            → run_after (renumbered_state c s) (λ t. ticks (joined_labels i c) t ws) (renamed_tick c t)
+            ≡ renamed_machine_run c (run_after s (λ u. ticks i u ws) t)
         go (finished m k u) q ih =
             ap (λ (r : MachineRun). record { masks = m ∷ r.masks; codes = k ∷ r.codes; state = r.state; verdict = r.verdict }) (ih u q)
         go (stopped k) q ih = refl

@@ -1,6 +1,5 @@
 // The numbers of the groups, in the order of their lowest members, and how many rows are kept.
-ghost use Rattle.std.specs.Prelude.{◌≡◌, ◌-◌, ◌≤◌, ◌<◌, length, get_or};
-ghost use Rattle.words.specs.lists.Pick.{pick};
+ghost use Rattle.std.specs.Prelude.{◌≡◌, ◌-◌, ◌≤◌, ◌<◌, length, get_or, if◌then◌else◌};
 ghost use Rattle.words.specs.lists.Numbers.{count};
 ghost use Rattle.text.specs.declared.frames.sizes.TheConstants.{LABELS};
 ghost use Rattle.text.specs.frames.Frame.{size, field};
@@ -13,7 +12,7 @@ use image::layout::FROM;
 // 1 for a label that is the lowest of its class, else 0.
 fn first_at(classes: &[u8], l: usize) -> usize
     requires { l < length classes.now }
-    ensures { (result ≡ pick (is_first classes.now l) 1 0) × (result ≤ 1) }
+    ensures { (result ≡ (if is_first classes.now l then 1 else 0)) × (result ≤ 1) }
 {
     if classes[l] as usize == l {
         return 1;
@@ -25,7 +24,7 @@ fn first_at(classes: &[u8], l: usize) -> usize
 fn number_at(classes: &[u8], numbers: &[u8], l: usize, new: usize) -> u8
     requires classes_len { (length classes.now ≡ LABELS) × (length numbers.now ≡ LABELS) }
     requires l_bound { (l < LABELS) × (new ≤ l) }
-    ensures { result ≡ pick (is_first classes.now l) new (get_or numbers.now (get_or classes.now l 0) 0) }
+    ensures { result ≡ (if is_first classes.now l then new else get_or numbers.now (get_or classes.now l 0) 0) }
 {
     let class = classes[l] as usize;
     if class == l {

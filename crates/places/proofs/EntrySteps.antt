@@ -7,11 +7,10 @@ use mathlib.Core.List.{List}
 use native.Mathlib.Omega.{arith}
 use lib.Dec.{ltb}
 use lib.ListN.{length, take}
-use Rattle.words.specs.lists.Pick.{pick}
 use Rattle.words.proofs.lists.Tests.{cases}
 use Rattle.text.specs.frames.Frame.{contents}
 use Rattle.text.specs.frames.Verdict.{Verdict, refused, when}
-use Rattle.std.proofs.Common.{Err}
+use Rattle.std.proofs.Common.{Err, if◌then◌else◌}
 use Rattle.text.specs.declared.frames.refusals.Refusal.{Refusal}
 use Rattle.text.specs.frames.Refusal.{number_of, index_of}
 use Rattle.text.specs.frames.Answer.{Answer, success, refusal, reply, verdict_reply}
@@ -32,8 +31,8 @@ use Rattle.places.specs.Entry.{places_verdict, places_needed}
 
 -- ---- what the code's number tells
 module _ (c : Chart) (f : Facts c) (n : ℕ) (e : n ≡ longest_chain c) where
-  circle-when : (b : Bool) → is_circular c ≡ b → n ≡ pick b 0 (places c)
-  circle-when b q = e ∙ ap (λ (b : Bool). pick b 0 (places c)) q
+  circle-when : (b : Bool) → is_circular c ≡ b → n ≡ (if b then 0 else places c)
+  circle-when b q = e ∙ ap (λ (b : Bool). (if b then 0 else places c)) q
 
   longest-zero : n ≡ 0 → is_circular c ≡ true
   longest-zero z = ⊎_elim (λ q. q) (λ (q : is_circular c ≡ false). absurd (omega (arith, circle-when false q, places-some c f q)))

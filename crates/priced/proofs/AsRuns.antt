@@ -1,4 +1,5 @@
 -- A priced run as a run, which is one of no words where 27 refuses it; and what it hands back, by what that run does.
+use Rattle.std.proofs.Common.{if◌then◌else◌, cond}
 use Prim.Native.Nat.{ℕ, ◌+◌, ◌-◌, ◌≤◌, min}
 use mathlib.Core.Bool.{Bool, true, false, ◌||◌, ◌&&◌}
 use mathlib.Core.Path.{◌≡◌, refl, sym, ◌∙◌, ap, ap₂, subst}
@@ -8,7 +9,6 @@ use lib.Dec.{ltb}
 use lib.ListN.{length, take, drop, length-map, length-drop}
 use lib.Seq.{length-take-le}
 use borrow.Author.Tests.{le-ltb}
-use Rattle.words.specs.lists.Pick.{pick}
 use Rattle.words.proofs.lists.Tests.{no_both, or-none, and_no}
 use Rattle.bindings.specs.Binding.{Binding}
 use Rattle.text.specs.frames.Answer.{success, refusal, reply_number, reply_count}
@@ -30,14 +30,14 @@ no_words a = record { words = []; masks = a.masks; codes = a.codes }
 
 abbrev pub as_run : PricedInput → CallInput
 as_run (unpriced g) = g
-as_run (to_priced_run list a) = to_run (pick (has_too_many_words a.words) (no_words a) a)
+as_run (to_priced_run list a) = to_run (if has_too_many_words a.words then no_words a else a)
 
 abbrev pub with_price : PricedInput → CallOutput → PricedOutput
 with_price (unpriced g) d = by_unpriced d
 with_price (to_priced_run list a) (by_rebinding r) = by_unpriced (by_rebinding r)
 with_price (to_priced_run list a) (by_run t) =
-    pick (has_too_many_words a.words) (by_priced_run (output_refused_many a) 0)
-    (by_priced_run t (price list (take (reply_count t.reply) t.masks)))
+    if has_too_many_words a.words then by_priced_run (output_refused_many a) 0
+    else by_priced_run t (price list (take (reply_count t.reply) t.masks))
 
 unfoldable pub with_prices : List PricedInput → List CallOutput → List PricedOutput
 with_prices [] ds = []
@@ -65,25 +65,25 @@ pub expected-count : (b : ℕ) (ts : List Tick) (p : ℕ) (a : RunInput)
     → reply_count (expected_output b ts p a).reply ≡ min (p + length a.words) b - min p b
 expected-count b ts p a = go (ltb b (p + length a.words) && ltb 0 (length a.words)) (min (p + length a.words) b - min p b)
   where
-    go : (t : Bool) (n : ℕ) → reply_count (pick t (refusal 17 0 n) (success n)) ≡ n
+    go : (t : Bool) (n : ℕ) → reply_count (if t then refusal 17 0 n else success n) ≡ n
     go true n = refl
     go false n = refl
 
 module _ (c : Chart) where
   -- ---- the joined words
-  none-joined : (t : Bool) → pick {A = List Signal} t [] [] ≡ []
+  none-joined : (t : Bool) → cond {A = List Signal} t [] [] ≡ []
   none-joined true = refl
   none-joined false = refl
 
   pub joined_as : (given : List PricedInput) (s : Binding) → joined_priced_words c s given ≡ agreed.joined_words c s (map as_run given)
   unfolding joined_priced_words agreed.joined_words
   joined_as [] s = refl
-  joined_as (unpriced (to_run a) ∷ rest) s = ap (λ (l : List Signal). pick (is_short a) [] (signals s a.words) ++ l) (joined_as rest s)
+  joined_as (unpriced (to_run a) ∷ rest) s = ap (λ (l : List Signal). (if is_short a then [] else signals s a.words) ++ l) (joined_as rest s)
   joined_as (unpriced (to_rebind h k) ∷ rest) s = joined_as rest (binding_after c h k s)
   joined_as (to_priced_run list a ∷ rest) s = ap₂ (λ (l m : List Signal). l ++ m) (go (has_too_many_words a.words)) (joined_as rest s)
     where
-      go : (t : Bool) → pick (t || is_short a) [] (signals s a.words)
-          ≡ (let b = pick t (no_words a) a in pick (is_short b) [] (signals s b.words))
+      go : (t : Bool) → (if t || is_short a then [] else signals s a.words)
+          ≡ (let b = (if t then no_words a else a) in if is_short b then [] else signals s b.words)
       go true = sym (none-joined (is_short (no_words a)))
       go false = refl
 
@@ -169,7 +169,7 @@ module _ (c : Chart) where
 
       module _ (list : List ℕ) where
         abbrev as_runs : Bool → List CallOutput
-        as_runs x = agreed.expected_outputs c b ts p (to_run (pick x (no_words a) a) ∷ map as_run rest)
+        as_runs x = agreed.expected_outputs c b ts p (to_run (if x then no_words a else a) ∷ map as_run rest)
 
         -- a told run, with the price of its masks
         abbrev billed : agreed.RunOutput → PricedOutput
@@ -177,7 +177,7 @@ module _ (c : Chart) where
 
         -- what is due where 27 refuses, or not
         abbrev either : Bool → agreed.RunOutput → List CallOutput → List PricedOutput
-        either x t l = pick x (by_priced_run (output_refused_many a) 0) (billed t) ∷ with_prices rest l
+        either x t l = (if x then by_priced_run (output_refused_many a) 0 else billed t) ∷ with_prices rest l
 
         as_many : has_too_many_words a.words ≡ true → As p (to_priced_run list a ∷ rest)
         unfolding with_prices
@@ -229,7 +229,7 @@ module _ (c : Chart) where
 
     -- ---- a run of no words is expected to succeed
     none-stopped : (p : ℕ) (a : RunInput) → reply_number (expected_output b ts p (no_words a)).reply ≡ 0
-    none-stopped p a = ap (λ (t : Bool). reply_number (pick t (refusal 17 0 (min (p + 0) b - min p b)) (success (min (p + 0) b - min p b))))
+    none-stopped p a = ap (λ (t : Bool). reply_number (if t then refusal 17 0 (min (p + 0) b - min p b) else success (min (p + 0) b - min p b)))
         (and_no (ltb b (p + 0)) (ltb 0 0) refl)
 
     abbrev Fine : ℕ → List PricedInput → Type 0
@@ -244,7 +244,7 @@ module _ (c : Chart) where
       module _ (list : List ℕ) where
         abbrev FineAs : Bool → Type 0
         FineAs t =
-            AllSucceed (to_priced_run list a ∷ rest) (agreed.expected_outputs c b ts p (to_run (pick t (no_words a) a) ∷ map as_run rest))
+            AllSucceed (to_priced_run list a ∷ rest) (agreed.expected_outputs c b ts p (to_run (if t then no_words a else a) ∷ map as_run rest))
 
         few-fine : has_too_many_words a.words ≡ false → (t : Bool) → is_short a ≡ t → FineAs false
         few-fine e true f =

@@ -1,11 +1,11 @@
 -- A list with priced runs hands back what the list of runs in their place does, with the prices.
+use Rattle.std.proofs.Common.{if◌then◌else◌}
 use Prim.Native.Nat.{ℕ}
 use mathlib.Core.Bool.{Bool, true, false}
 use mathlib.Core.Path.{◌≡◌, refl, sym, ◌∙◌, ap}
 use mathlib.Core.List.{List, [], ◌∷◌, map}
 use lib.ListN.{length, take}
 use borrow.Author.Tests.{ltb-true, ltb-false}
-use Rattle.words.specs.lists.Pick.{pick}
 use Rattle.text.specs.frames.Answer.{reply_number, reply_count}
 use Rattle.state.specs.declared.State.{State}
 use Rattle.runs.specs.Run.{RunOutcome, run}
@@ -35,7 +35,7 @@ module _ (image : List ℕ) where
     priced = priced_run image s list a.words a.masks a.codes
 
     abbrev ran : Bool → RunOutcome
-    ran t = let b = pick t (no_words a) a in run image s b.words b.masks b.codes
+    ran t = let b = (if t then no_words a else a) in run image s b.words b.masks b.codes
 
     -- the run in its place, with a price
     abbrev with_run : RunOutcome → PricedOutput
@@ -43,7 +43,7 @@ module _ (image : List ℕ) where
 
     abbrev Goal : Bool → Type 0
     Goal t = by_priced_run (output_of priced.run) priced.price ∷ made priced.run.state rest
-        ≡ pick (has_too_many_words a.words) (by_priced_run (output_refused_many a) 0) (with_run (ran t)) ∷ with_prices rest
+        ≡ (if has_too_many_words a.words then by_priced_run (output_refused_many a) 0 else with_run (ran t)) ∷ with_prices rest
         (plain (ran t).state rest)
 
     abbrev Holds : Bool → Type 0
@@ -56,7 +56,7 @@ module _ (image : List ℕ) where
         (many-refused image s list a.words a.masks a.codes (ltb-true 65536 (length a.words) e) (f.0 e))
         ∙ ap (λ (z : State). by_priced_run (output_refused_many a) 0 ∷ made z rest) (sym same)
         ∙ ap (λ (l : List PricedOutput). by_priced_run (output_refused_many a) 0 ∷ l) (ih (ran true).state f.1)
-        ∙ sym (ap (λ (t : Bool). pick t (by_priced_run (output_refused_many a) 0) (with_run (ran true)) ∷ with_prices
+        ∙ sym (ap (λ (t : Bool). (if t then by_priced_run (output_refused_many a) 0 else with_run (ran true)) ∷ with_prices
         rest (plain (ran true).state rest)) e)
 
     priced-few : has_too_many_words a.words ≡ false → Holds false → Goal false
@@ -66,7 +66,7 @@ module _ (image : List ℕ) where
         ∙ ap (λ (r : RunOutcome). with_run r ∷ made r.state rest)
         (does-all image s list a.words a.masks a.codes (ltb-false 65536 (length a.words) e))
         ∙ ap (λ (l : List PricedOutput). with_run (ran false) ∷ l) (ih (ran false).state f.1)
-        ∙ sym (ap (λ (t : Bool). pick t (by_priced_run (output_refused_many a) 0) (with_run (ran false)) ∷ with_prices
+        ∙ sym (ap (λ (t : Bool). (if t then by_priced_run (output_refused_many a) 0 else with_run (ran false)) ∷ with_prices
         rest (plain (ran false).state rest)) e)
 
     priced-as : (t : Bool) → has_too_many_words a.words ≡ t → Holds t → Goal t

@@ -1,10 +1,10 @@
 -- The agreement with prices, and of one priced run from a fresh state.
+use Rattle.std.proofs.Common.{if◌then◌else◌}
 use Prim.Native.Nat.{ℕ, ◌+◌, ◌-◌, ◌≤◌, min}
 use mathlib.Core.Bool.{Bool, true, false, ◌||◌}
 use mathlib.Core.Path.{◌≡◌, refl, sym, ◌∙◌, ap, ap₂, subst}
 use mathlib.Core.List.{List, [], ◌∷◌, ◌++◌, map, append-nil}
 use lib.ListN.{length, take}
-use Rattle.words.specs.lists.Pick.{pick}
 use Rattle.bindings.specs.Binding.{own_binding}
 use Rattle.text.specs.frames.Frame.{contents}
 use Rattle.text.specs.frames.Answer.{success, reply_count}
@@ -70,7 +70,7 @@ module _ (size : ℕ) (c : Chart) (list : List ℕ) (a : RunInput) (r : PricedOu
   all_words : has_too_many_words a.words ≡ false → is_short a ≡ false → joined_priced_words c own_binding only ≡ signals own_binding a.words
   unfolding joined_priced_words
   all_words e f =
-      ap₂ (λ (x y : Bool). pick (x || y) [] (signals own_binding a.words) ++ []) e f ∙ append-nil (signals own_binding a.words)
+      ap₂ (λ (x y : Bool). (if x || y then [] else signals own_binding a.words) ++ []) e f ∙ append-nil (signals own_binding a.words)
 
   ticks-priced : has_too_many_words a.words ≡ false → is_short a ≡ false → handed ≡ priced_walk_outputs size c only → Priced
   unfolding expected_priced_outputs

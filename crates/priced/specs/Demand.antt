@@ -1,6 +1,5 @@
 -- The agreement with prices: what a list of runs, rebindings and priced runs hands back, against what the walk of the joined words gives.
-use Rattle.std.specs.Prelude.{ℕ, ◌+◌, ◌-◌, ◌≤◌, min, true, false, ◌||◌, ◌≡◌, List, [], ◌∷◌, ◌++◌, map, length, take, drop}
-use Rattle.words.specs.lists.Pick.{pick}
+use Rattle.std.specs.Prelude.{ℕ, ◌+◌, ◌-◌, ◌≤◌, min, true, false, ◌||◌, ◌≡◌, List, [], ◌∷◌, ◌++◌, map, length, take, drop, if◌then◌else◌}
 use Rattle.bindings.specs.Binding.{Binding, own_binding}
 use Rattle.text.specs.declared.frames.refusals.TheConstants.{MANY_WORDS}
 use Rattle.text.specs.frames.Frame.{contents}
@@ -44,10 +43,10 @@ priced_outputs pricer run rebind image s (to_priced_run list a ∷ rest) =
 -- the words of all runs, but of those that 16 or 27 refuses
 unfoldable pub joined_priced_words : Chart → Binding → List PricedInput → List Signal
 joined_priced_words c s [] = []
-joined_priced_words c s (unpriced (to_run a) ∷ rest) = pick (is_short a) [] (signals s a.words) ++ joined_priced_words c s rest
+joined_priced_words c s (unpriced (to_run a) ∷ rest) = (if is_short a then [] else signals s a.words) ++ joined_priced_words c s rest
 joined_priced_words c s (unpriced (to_rebind h k) ∷ rest) = joined_priced_words c (binding_after c h k s) rest
 joined_priced_words c s (to_priced_run list a ∷ rest) =
-    pick (has_too_many_words a.words || is_short a) [] (signals s a.words) ++ joined_priced_words c s rest
+    (if has_too_many_words a.words || is_short a then [] else signals s a.words) ++ joined_priced_words c s rest
 
 -- the ticks of the walk that fall on words from p on and come before tick b
 abbrev pub ticks_falling_on : ℕ → List Tick → ℕ → List ℕ → List Tick

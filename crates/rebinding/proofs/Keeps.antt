@@ -1,4 +1,5 @@
 -- A rebinding leaves a fitting state fitting, refused or not.
+use Rattle.std.proofs.Common.{if◌then◌else◌}
 use Prim.Native.Nat.{ℕ, ◌-◌, ◌≤◌, ◌<◌}
 use mathlib.Core.Bool.{Bool, true, false, ◌&&◌, not}
 use mathlib.Core.Path.{◌≡◌, refl, sym, ap, ap₂, ◌∙◌}
@@ -9,7 +10,6 @@ use lib.Dec.{leb, eqb}
 use lib.ListN.{length, set, length-set}
 use lib.Seq.{get_or-set_same, get_or-set_other}
 use borrow.Author.Tests.{ne_eqb, le-leb}
-use Rattle.words.specs.lists.Pick.{pick}
 use Rattle.words.proofs.lists.Tests.{and-true}
 use Rattle.bindings.specs.Binding.{server_of, is_bad_rebinding}
 use Rattle.text.specs.frames.Frame.{contents}
@@ -39,7 +39,7 @@ module _ (i : Image) (few : length i.entries ≤ 16) (s : State) (h k : ℕ) whe
 
   -- whether the scheme that serves number g may not serve it
   abbrev bad : ℕ → Bool → ℕ → Bool
-  bad g t j = not (pick t (is_callable i j) (eqb j g))
+  bad g t j = not (if t then is_callable i j else eqb j g)
 
   pub rebinding-fits : Fits i s → is_bad_rebinding H i.handler h k ≡ false → Fits i (rebinding h k s)
   rebinding-fits f e = record {

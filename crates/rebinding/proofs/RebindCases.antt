@@ -7,7 +7,7 @@ use native.Mathlib.Omega.{arith}
 use lib.Dec.{eqb, ltb}
 use lib.ListN.{length}
 use borrow.Author.Tests.{ne_eqb, ltb-false}
-use Rattle.words.proofs.lists.Tests.{no-pick, or_l, or_r}
+use Rattle.words.proofs.lists.Tests.{if-false, or_l, or_r}
 use Rattle.bindings.specs.Binding.{rebound_binding, is_bad_rebinding}
 use Rattle.text.specs.frames.Verdict.{next, when}
 use Rattle.text.specs.frames.Answer.{Answer, refusal, reply}
@@ -33,7 +33,7 @@ pub kept-rebinds : (x : StateOutcome) (bytes : List ℕ) (n j : ℕ) (s : State)
     → 1 ≤ n → (a : Answer) → reply a ≡ refusal n j 0
     → GivesRebindingOn x bytes a bytes
 kept-rebinds x bytes n j s g l a e =
-    rw g (record { answered = e; bytes = sym (no-pick (eqb n 0) (bytes_of s) bytes (ne_eqb n 0 (λ z. omega arith))) })
+    rw g (record { answered = e; bytes = sym (if-false (eqb n 0) (bytes_of s) bytes (ne_eqb n 0 (λ z. omega arith))) })
 
 -- ---- on a table: t says whether the state is unfit, u whether the rebinding is refused
 module _ (b before : List ℕ) (h k : ℕ) (t : Bool) (e : t ≡ is_unfit (table_image b) (state_of before)) where

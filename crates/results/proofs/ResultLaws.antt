@@ -1,4 +1,5 @@
 -- A result bit that is 0 stays 0 under every call, and under every result but a 1 written to it.
+use Rattle.std.proofs.Common.{if◌then◌else◌}
 use Prim.Native.Nat.{ℕ, zero, suc, ◌-◌, ◌≤◌}
 use mathlib.Core.Bool.{Bool, true, false}
 use mathlib.Core.Path.{◌≡◌, refl, ap, ◌∙◌}
@@ -8,7 +9,6 @@ use lib.ListN.{get_or, set}
 use lib.Seq.{get_or-set_other}
 use native.Mathlib.Omega.{arith}
 use borrow.Author.Tests.{eqb-true, eqb-false}
-use Rattle.words.specs.lists.Pick.{pick}
 use Rattle.results.specs.Results.{Results, result_of, with_result, cleared_results}
 
 -- past the end every bit reads as 0
@@ -36,6 +36,6 @@ result-keeps r g h b l other e = by_result (eqb r 0)
     by-two false q = cleared-keeps g h b e
     by-two true q = get_or-set_other b (g - 1) (h - 1) true false (λ i. other (omega arith) (eqb-true r 2 q)) ∙ e
 
-    by_result : (t : Bool) → result_of h (pick t b (set b (g - 1) (eqb r 2))) ≡ false
+    by_result : (t : Bool) → result_of h (if t then b else set b (g - 1) (eqb r 2)) ≡ false
     by_result true = e
     by_result false = by-two (eqb r 2) refl

@@ -1,6 +1,5 @@
 -- The result bits, one for each scheme number; walk and machine both keep them.
-use Rattle.std.specs.Prelude.{ℕ, ◌-◌, Bool, false, List, eqb, get_or, set, replicate}
-use Rattle.words.specs.lists.Pick.{pick}
+use Rattle.std.specs.Prelude.{ℕ, ◌-◌, Bool, false, List, eqb, get_or, set, replicate, if◌then◌else◌}
 
 -- number h's bit stands at h - 1
 abbrev pub Results : Type 0
@@ -14,7 +13,7 @@ result_of h b = get_or b (h - 1) false
 
 -- the result r of a tick of a scheme that was called by number h: 0 keeps the bit, 1 writes 0, 2 writes 1
 abbrev pub with_result : ℕ → ℕ → Results → Results
-with_result r h b = pick (eqb r 0) b (set b (h - 1) (eqb r 2))
+with_result r h b = if eqb r 0 then b else set b (h - 1) (eqb r 2)
 
 -- a call of number h sets its bit to 0
 abbrev pub cleared_results : ℕ → Results → Results

@@ -1,5 +1,6 @@
 -- Laws of the choice among rows: one row more in front, the better of three, lists joined, numbers counted from another start, and rows
 -- that no bit decides.
+use Rattle.std.proofs.Common.{if◌then◌else◌}
 use Prim.Native.Nat.{ℕ, suc, ◌+◌, ◌≤◌, ◌<◌}
 use mathlib.Core.Bool.{Bool, true, false, ◌&&◌, ◌||◌}
 use mathlib.Core.Path.{◌≡◌, refl, sym, ◌∙◌, ap, ap₂}
@@ -11,7 +12,6 @@ use lib.Count.{ones}
 use lib.Dec.{ltb, eqb}
 use lib.ListN.{length, get_or}
 use borrow.Author.Tests.{lt-ltb, le-ltb, eq-eqb, eqb-true}
-use Rattle.words.specs.lists.Pick.{pick}
 use Rattle.words.proofs.lists.Tests.{split}
 use Rattle.words.specs.bits.Word.{is_agreeing}
 use Rattle.image.specs.Image.{Row, no_row}
@@ -23,15 +23,15 @@ unfolding best_row
 best-nothing l w b k = refl
 
 module _ (l w b k : ℕ) (r : Row) (rs : List Row) where
-  pub best-cons : best_row l w b k (r ∷ rs) ≡ better_choice (pick (is_candidate l w b r) (row k r) no_choice) (best_row l w b (suc k) rs)
+  pub best-cons : best_row l w b k (r ∷ rs) ≡ better_choice (if is_candidate l w b r then row k r else no_choice) (best_row l w b (suc k) rs)
   unfolding best_row
   best-cons = refl
 
   pub best-own : is_candidate l w b r ≡ true → best_row l w b k (r ∷ rs) ≡ better_choice (row k r) (best_row l w b (suc k) rs)
-  best-own e = best-cons ∙ ap (λ (t : Bool). better_choice (pick t (row k r) no_choice) (best_row l w b (suc k) rs)) e
+  best-own e = best-cons ∙ ap (λ (t : Bool). better_choice (if t then row k r else no_choice) (best_row l w b (suc k) rs)) e
 
   pub best-other : is_candidate l w b r ≡ false → best_row l w b k (r ∷ rs) ≡ best_row l w b (suc k) rs
-  best-other e = best-cons ∙ ap (λ (t : Bool). better_choice (pick t (row k r) no_choice) (best_row l w b (suc k) rs)) e
+  best-other e = best-cons ∙ ap (λ (t : Bool). better_choice (if t then row k r else no_choice) (best_row l w b (suc k) rs)) e
 
 -- ---- the better of two, and of three
 pub better-none : (x : Choice) → better_choice x no_choice ≡ x
@@ -45,11 +45,11 @@ weight (row k r) = ones r.care
 
 pub better-second : (x : Choice) (j : ℕ) (q : Row) → weight x ≤ ones q.care → better_choice x (row j q) ≡ row j q
 better-second no_choice j q h = refl
-better-second (row k r) j q h = ap (λ (t : Bool). pick t (row k r) (row j q)) (le-ltb (ones q.care) (ones r.care) h)
+better-second (row k r) j q h = ap (λ (t : Bool). (if t then row k r else row j q)) (le-ltb (ones q.care) (ones r.care) h)
 
 pub better-first : (x : Choice) (j : ℕ) (q : Row) → ones q.care < weight x → better_choice x (row j q) ≡ x
 better-first no_choice j q h = absurd (omega arith)
-better-first (row k r) j q h = ap (λ (t : Bool). pick t (row k r) (row j q)) (lt-ltb (ones q.care) (ones r.care) h)
+better-first (row k r) j q h = ap (λ (t : Bool). (if t then row k r else row j q)) (lt-ltb (ones q.care) (ones r.care) h)
 
 pub better-three : (x y z : Choice) → better_choice x (better_choice y z) ≡ better_choice (better_choice x y) z
 better-three no_choice y z = refl
@@ -80,7 +80,7 @@ best-joined l w b k [] ys =
     ap (λ (n : ℕ). best_row l w b n ys) (sym (add-zero k))
     ∙ sym (ap (λ (x : Choice). better_choice x (best_row l w b (k + 0) ys)) (best-nothing l w b k))
 best-joined l w b k (x ∷ xs) ys =
-    let here : Choice = pick (is_candidate l w b x) (row k x) no_choice in
+    let here : Choice = (if is_candidate l w b x then row k x else no_choice) in
     best-cons l w b k x (xs ++ ys)
     ∙ ap (better_choice here)
     (best-joined l w b (suc k) xs ys
@@ -99,7 +99,7 @@ better-moved n no_choice y = refl
 better-moved n (row k r) no_choice = refl
 better-moved n (row k r) (row j q) = go (ltb (ones q.care) (ones r.care))
   where
-    go : (t : Bool) → pick t (row (n + k) r) (row (n + j) q) ≡ moved_by n (pick t (row k r) (row j q))
+    go : (t : Bool) → (if t then row (n + k) r else row (n + j) q) ≡ moved_by n (if t then row k r else row j q)
     go true = refl
     go false = refl
 
@@ -109,10 +109,10 @@ best-moved l w b n k (r ∷ rs) =
     best-cons l w b (n + k) r rs
     ∙ ap₂ better_choice (here (is_candidate l w b r))
     (ap (λ (j : ℕ). best_row l w b j rs) (let e : suc (n + k) ≡ n + suc k = omega arith in e) ∙ best-moved l w b n (suc k) rs)
-    ∙ better-moved n (pick (is_candidate l w b r) (row k r) no_choice) (best_row l w b (suc k) rs)
+    ∙ better-moved n (if is_candidate l w b r then row k r else no_choice) (best_row l w b (suc k) rs)
     ∙ ap (moved_by n) (sym (best-cons l w b k r rs))
   where
-    here : (t : Bool) → pick t (row (n + k) r) no_choice ≡ moved_by n (pick t (row k r) no_choice)
+    here : (t : Bool) → (if t then row (n + k) r else no_choice) ≡ moved_by n (if t then row k r else no_choice)
     here true = refl
     here false = refl
 
@@ -136,6 +136,6 @@ pub any-bit : (l w p q k : ℕ) (rs : List Row)
 any-bit l w p q k [] h = best-nothing l w p k ∙ sym (best-nothing l w q k)
 any-bit l w p q k (r ∷ rs) h =
     best-cons l w p k r rs
-    ∙ ap₂ (λ (t : Bool) (x : Choice). better_choice (pick t (row k r) no_choice) x) (same_test l w p q r (h 0 (omega arith)))
+    ∙ ap₂ (λ (t : Bool) (x : Choice). better_choice (if t then row k r else no_choice) x) (same_test l w p q r (h 0 (omega arith)))
     (any-bit l w p q (suc k) rs (λ j m. h (suc j) (omega arith)))
     ∙ sym (best-cons l w q k r rs)

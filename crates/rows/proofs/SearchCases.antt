@@ -1,5 +1,6 @@
 -- One frame of a table as the code compares it, the better of two, the search from one frame up to another, and where the rows of a label
 -- stand.
+use Rattle.std.proofs.Common.{if◌then◌else◌}
 use Prim.Native.Nat.{ℕ, zero, suc, ◌+◌, ◌*◌, ◌-◌, ◌≤◌, ◌<◌}
 use mathlib.Core.Bool.{Bool, true, false, ◌&&◌, ◌||◌}
 use mathlib.Core.Path.{◌≡◌, refl, sym, ◌∙◌, ap, ap₂}
@@ -13,9 +14,8 @@ use lib.Count.{ones}
 use lib.Dec.{ltb, eqb}
 use lib.ListN.{get_or}
 use borrow.Author.Tests.{lt-ltb, le-ltb, eq-eqb, ne_eqb}
-use Rattle.words.specs.lists.Pick.{pick}
 use Rattle.words.specs.lists.Numbers.{range}
-use Rattle.words.proofs.lists.Tests.{split, yes-pick, no-pick}
+use Rattle.words.proofs.lists.Tests.{split, if-true, if-false}
 use Rattle.words.specs.bits.Word.{is_agreeing}
 use Rattle.text.specs.frames.Frame.{size, field, pair_at}
 use Rattle.image.specs.Decode.{labels_from}
@@ -79,11 +79,11 @@ module _ (b : List ℕ) (l bit : ℕ) (d : Deciding b l bit) (f : ℕ) where
       go : Dec (bit ≡ 2)
           → (eqb (row_on b l f).bit 2 || eqb (row_on b l f).bit bit) ≡ (eqb bit 2 || (eqb (field b f 6) 2 || eqb (field b f 6) bit))
       go (yes e) =
-          ap (λ (t : Bool). eqb (pick t (field b f 6) 2) 2 || eqb (pick t (field b f 6) 2) bit)
+          ap (λ (t : Bool). eqb (if t then field b f 6 else 2) 2 || eqb (if t then field b f 6 else 2) bit)
           (ne_eqb (table_label b l).kind 2 (d.none e))
           ∙ sym (ap (λ (t : Bool). t || (eqb (field b f 6) 2 || eqb (field b f 6) bit)) (eq-eqb bit 2 e))
       go (no e) =
-          ap (λ (t : Bool). eqb (pick t (field b f 6) 2) 2 || eqb (pick t (field b f 6) 2) bit)
+          ap (λ (t : Bool). eqb (if t then field b f 6 else 2) 2 || eqb (if t then field b f 6 else 2) bit)
           (eq-eqb (table_label b l).kind 2 (d.some e))
           ∙ sym (ap (λ (t : Bool). t || (eqb (field b f 6) 2 || eqb (field b f 6) bit)) (ne_eqb bit 2 e))
 
@@ -95,10 +95,10 @@ module _ (b : List ℕ) (l bit : ℕ) (d : Deciding b l bit) (f : ℕ) where
 -- ---- frames as choices, and the better of two
 module _ (b : List ℕ) (f : ℕ) where
   at-frame : (l : ℕ) → f < size b → found_at b l f ≡ row f (row_on b l f)
-  at-frame l h = yes-pick (ltb f (size b)) (row f (row_on b l f)) no_choice (lt-ltb f (size b) h)
+  at-frame l h = if-true (ltb f (size b)) (row f (row_on b l f)) no_choice (lt-ltb f (size b) h)
 
   past-table : (l : ℕ) → size b ≤ f → found_at b l f ≡ no_choice
-  past-table l h = no-pick (ltb f (size b)) (row f (row_on b l f)) no_choice (le-ltb f (size b) h)
+  past-table l h = if-false (ltb f (size b)) (row f (row_on b l f)) no_choice (le-ltb f (size b) h)
 
   pub frame-named : (l : ℕ) → f < size b → chosen_frame (found_at b l f) ≡ f
   frame-named l h = ap chosen_frame (at-frame l h)
@@ -169,11 +169,11 @@ module _ (b : List ℕ) (w bit f : ℕ) (small : w < 65536) (swapped : ℕ) (e :
   one-test : t ≡ is_matching_frame b w bit f
   one-test = q ∙ ap (λ (v : ℕ). is_matching_frame b v bit f) (ap (λ (v : ℕ). swapped_word v) e ∙ swap-twice w small)
 
-  pub one-matches : t ≡ true → f ≡ pick (is_matching_frame b w bit f) f NO_FRAME
-  one-matches y = sym (yes-pick (is_matching_frame b w bit f) f NO_FRAME (sym one-test ∙ y))
+  pub one-matches : t ≡ true → f ≡ (if is_matching_frame b w bit f then f else NO_FRAME)
+  one-matches y = sym (if-true (is_matching_frame b w bit f) f NO_FRAME (sym one-test ∙ y))
 
-  pub one-fails : t ≡ false → NO_FRAME ≡ pick (is_matching_frame b w bit f) f NO_FRAME
-  one-fails n = sym (no-pick (is_matching_frame b w bit f) f NO_FRAME (sym one-test ∙ n))
+  pub one-fails : t ≡ false → NO_FRAME ≡ (if is_matching_frame b w bit f then f else NO_FRAME)
+  one-fails n = sym (if-false (is_matching_frame b w bit f) f NO_FRAME (sym one-test ∙ n))
 
 module _ (b : List ℕ) (l w bit first end : ℕ) (d : Deciding b l bit) (p : first ≡ first_on b l) (q : end ≡ end_on b l)
     (one : end ≡ first + 1)
@@ -183,18 +183,18 @@ module _ (b : List ℕ) (l w bit first end : ℕ) (d : Deciding b l bit) (p : fi
         ap (λ (n : ℕ). best_row l w bit first (map (row_on b l) (range first n))) (let z : 1 ≡ end - first = omega arith in z)
         ∙ ap₂ (λ (i j : ℕ). best_row l w bit i (map (row_on b l) (range i (j - i)))) p q
 
-    pub one_found : (r : ℕ) → r ≡ pick (is_matching_frame b w bit first) first NO_FRAME → Chosen b l w bit r
+    pub one_found : (r : ℕ) → r ≡ (if is_matching_frame b w bit first then first else NO_FRAME) → Chosen b l w bit r
     one_found r z = z ∙ go (is_matching_frame b w bit first) refl ∙ ap chosen_frame alone
       where
         go : (t : Bool) → is_matching_frame b w bit first ≡ t
-            → pick (is_matching_frame b w bit first) first NO_FRAME ≡ chosen_frame
+            → (if is_matching_frame b w bit first then first else NO_FRAME) ≡ chosen_frame
             (best_row l w bit first (map (row_on b l) (range first 1)))
         go true y =
-            yes-pick (is_matching_frame b w bit first) first NO_FRAME y
+            if-true (is_matching_frame b w bit first) first NO_FRAME y
             ∙ sym (ap chosen_frame (best-own l w bit first (row_on b l first) [] (own-test b l bit d first w ∙ y)
             ∙ ap (better_choice (row first (row_on b l first))) (best-nothing l w bit (suc first))))
         go false n =
-            no-pick (is_matching_frame b w bit first) first NO_FRAME n
+            if-false (is_matching_frame b w bit first) first NO_FRAME n
             ∙ sym (ap chosen_frame (best-other l w bit first (row_on b l first) [] (own-test b l bit d first w ∙ n)
             ∙ best-nothing l w bit (suc first)))
 
@@ -214,22 +214,22 @@ module _ (b : List ℕ) (l w bit : ℕ) (few : size b < NO_FRAME) where
   held_none : Held no_choice
   held_none = past-table b NO_FRAME l (omega arith)
 
-  held-pick : (t : Bool) (x y : Choice) → Held x → Held y → Held (pick t x y)
-  held-pick true x y p q = p
-  held-pick false x y p q = q
+  held-if : (t : Bool) (x y : Choice) → Held x → Held y → Held (if t then x else y)
+  held-if true x y p q = p
+  held-if false x y p q = q
 
   held-better : (x y : Choice) → Held x → Held y → Held (better_choice x y)
   held-better no_choice y p q = q
   held-better (row k r) no_choice p q = p
-  held-better (row k r) (row j s) p q = held-pick (ltb (ones s.care) (ones r.care)) (row k r) (row j s) p q
+  held-better (row k r) (row j s) p q = held-if (ltb (ones s.care) (ones r.care)) (row k r) (row j s) p q
 
   held-best : (f n : ℕ) → (0 < n → f + n ≤ size b) → Held (best_row l w bit f (map (row_on b l) (range f n)))
   unfolding best_row
   held-best f zero h = held_none
   held-best f (suc n) h =
-      held-better (pick (is_candidate l w bit (row_on b l f)) (row f (row_on b l f)) no_choice)
+      held-better (if is_candidate l w bit (row_on b l f) then row f (row_on b l f) else no_choice)
       (best_row l w bit (suc f) (map (row_on b l) (range (suc f) n)))
-      (held-pick (is_candidate l w bit (row_on b l f)) (row f (row_on b l f)) no_choice
+      (held-if (is_candidate l w bit (row_on b l f)) (row f (row_on b l f)) no_choice
       (at-frame b f l (omega (arith, h (omega arith)))) held_none)
       (held-best (suc f) n (λ _. omega (arith, h (omega arith))))
 
@@ -257,12 +257,12 @@ module _ (b : List ℕ) (l w bit : ℕ) (x : NumberedLabel b l) (bytes : (k : �
       go (inl k) = k
       go (inr k) = absurd (omega (arith, e ∙ ap chosen_frame (sym chosen-found ∙ past-table b f l k)))
 
-  pub next-taken : (n : ℕ) → n ≡ pick (ltb f NO_FRAME) (field b f 7) 256 → n ≡ next_of (lead_of (best_row l w bit 0 (table_image b).rows))
+  pub next-taken : (n : ℕ) → n ≡ (if ltb f NO_FRAME then field b f 7 else 256) → n ≡ next_of (lead_of (best_row l w bit 0 (table_image b).rows))
   next-taken n q = go (split f NO_FRAME)
     where
       go : (f < NO_FRAME) ⊎ (NO_FRAME ≤ f) → n ≡ next_of (lead_of (best_row l w bit 0 (table_image b).rows))
       go (inl h) =
-          next-found b l w bit x f chosen-found n (q ∙ yes-pick (ltb f NO_FRAME) (field b f 7) 256 (lt-ltb f NO_FRAME h)) (chosen-inside h)
+          next-found b l w bit x f chosen-found n (q ∙ if-true (ltb f NO_FRAME) (field b f 7) 256 (lt-ltb f NO_FRAME h)) (chosen-inside h)
       go (inr h) =
-          q ∙ no-pick (ltb f NO_FRAME) (field b f 7) 256 (le-ltb f NO_FRAME h)
+          q ∙ if-false (ltb f NO_FRAME) (field b f 7) 256 (le-ltb f NO_FRAME h)
           ∙ next-none b l w bit x f chosen-found (omega (arith, few))

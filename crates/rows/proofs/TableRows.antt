@@ -11,7 +11,7 @@ use lib.ListN.{length, get_or, length-append}
 use borrow.Author.Tests.{lt-ltb, le-ltb, ne_eqb}
 use Rattle.words.specs.lists.Numbers.{range}
 use Rattle.words.specs.lists.Sequences.{concat_map, All}
-use Rattle.words.proofs.lists.Tests.{yes-pick, no-pick}
+use Rattle.words.proofs.lists.Tests.{if-true, if-false}
 use Rattle.words.proofs.lists.Ranges.{length-map-range, get_or-map-range}
 use Rattle.words.proofs.lists.Joins.{all-every, all_map, all-concat, concat-cons}
 use Rattle.text.specs.frames.Frame.{size, field}
@@ -130,13 +130,13 @@ module _ (b : List ℕ) (l w bit : ℕ) where
     -- and where it leads
     pub next-found : (n : ℕ) → n ≡ field b f 7 → f < size b → n ≡ next_of (lead_of (best_row l w bit 0 (table_image b).rows))
     next-found n q h =
-        q ∙ sym (ap (λ (y : Choice). next_of (lead_of y)) (yes-pick (ltb f (size b)) (row f (row_on b l f)) no_choice
+        q ∙ sym (ap (λ (y : Choice). next_of (lead_of y)) (if-true (ltb f (size b)) (row f (row_on b l f)) no_choice
         (lt-ltb f (size b) h)))
         ∙ ap next_of found-leads
 
     pub next-none : size b ≤ f → 256 ≡ next_of (lead_of (best_row l w bit 0 (table_image b).rows))
     next-none h =
-        sym (ap (λ (y : Choice). next_of (lead_of y)) (no-pick (ltb f (size b)) (row f (row_on b l f)) no_choice (le-ltb f (size b) h)))
+        sym (ap (λ (y : Choice). next_of (lead_of y)) (if-false (ltb f (size b)) (row f (row_on b l f)) no_choice (le-ltb f (size b) h)))
         ∙ ap next_of found-leads
 
 -- ---- no row of a label that calls no function looks at the bit
@@ -151,7 +151,7 @@ module _ (b : List ℕ) (l w p q : ℕ) (n : (table_label b l).kind ≡ 2 → �
   free-bit k h =
       ap (λ (r : Row). r.bit) (get_or-map-range (row_on b l) no_row first count k
       (omega (arith, length-map-range (row_on b l) first count)))
-      ∙ no-pick (eqb (table_label b l).kind 2) (field b (first + k) 6) 2 (ne_eqb (table_label b l).kind 2 n)
+      ∙ if-false (eqb (table_label b l).kind 2) (field b (first + k) 6) 2 (ne_eqb (table_label b l).kind 2 n)
 
   pub any-row : 2 ≤ l → l ≤ last_label b → best_row l w p 0 (table_image b).rows ≡ best_row l w q 0 (table_image b).rows
   any-row h g = row-own b l w p h g ∙ any-bit l w p q (rows_before b l) (rows_on b l) (λ k m e. free-bit k m) ∙ sym (row-own b l w q h g)

@@ -1,7 +1,6 @@
 -- Which row a label takes.
-use Rattle.std.specs.Prelude.{ℕ, suc, Bool, ◌&&◌, ◌||◌, List, [], ◌∷◌, ltb, eqb}
+use Rattle.std.specs.Prelude.{ℕ, suc, Bool, ◌&&◌, ◌||◌, List, [], ◌∷◌, ltb, eqb, if◌then◌else◌}
 use Rattle.std.specs.Int.Count.{ones}
-use Rattle.words.specs.lists.Pick.{pick}
 use Rattle.words.specs.bits.Word.{is_agreeing}
 use Rattle.image.specs.declared.layout.TheConstants.{NO_BIT, NO_LABEL}
 use Rattle.image.specs.Image.{Row}
@@ -23,12 +22,12 @@ pub data Choice : Type 0 where
 abbrev pub better_choice : Choice → Choice → Choice
 better_choice no_choice y = y
 better_choice (row k r) no_choice = row k r
-better_choice (row k r) (row j q) = pick (ltb (ones q.care) (ones r.care)) (row k r) (row j q)
+better_choice (row k r) (row j q) = if ltb (ones q.care) (ones r.care) then row k r else row j q
 
 -- of the matching rows of label l the one whose care mask has most ones, with equal counts the later; the first row has number k
 unfoldable pub best_row : ℕ → ℕ → ℕ → ℕ → List Row → Choice
 best_row l w b k [] = no_choice
-best_row l w b k (r ∷ rs) = better_choice (pick (is_candidate l w b r) (row k r) no_choice) (best_row l w b (suc k) rs)
+best_row l w b k (r ∷ rs) = better_choice (if is_candidate l w b r then row k r else no_choice) (best_row l w b (suc k) rs)
 
 pub data Found : Type 0 where
   found : ℕ → Found

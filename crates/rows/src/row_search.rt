@@ -1,6 +1,5 @@
 // The row of a prepared table that a label takes, found by the word and a result bit, and where it leads.
-ghost use Rattle.std.specs.Prelude.{◌≡◌, ◌≤◌, ◌<◌, ltb};
-ghost use Rattle.words.specs.lists.Pick.{pick};
+ghost use Rattle.std.specs.Prelude.{◌≡◌, ◌≤◌, ◌<◌, ltb, if◌then◌else◌};
 ghost use Rattle.text.specs.frames.Frame.{size, field};
 ghost use Rattle.image.specs.Decode.{scheme_count};
 ghost use Rattle.tables.specs.Table.{table_image};
@@ -15,7 +14,7 @@ use image::layout::*;
 // The frame where its row matches, else none.
 fn one_row(table: &[u8], f: usize, word: u16, bit: u8) -> usize
     requires { f < size table.now }
-    ensures { result ≡ pick (is_matching_frame table.now word bit f) f NO_FRAME }
+    ensures { result ≡ (if is_matching_frame table.now word bit f then f else NO_FRAME) }
 {
     if is_matching(table, f, swap(word), bit) {
         return f;
@@ -94,7 +93,7 @@ fn take_row(table: &[u8], schemes: u8, l: usize, word: u16, bit: u8) -> usize
 // Where the row in frame f leads, or NO_LABEL where that is none.
 fn next_in(table: &[u8], f: usize) -> u16
     requires { f < NO_FRAME → f < size table.now }
-    ensures { result ≡ pick (ltb f NO_FRAME) (field table.now f NEXT) NO_LABEL }
+    ensures { result ≡ (if ltb f NO_FRAME then field table.now f NEXT else NO_LABEL) }
 {
     if f < NO_FRAME {
         return byte(table, f, NEXT) as u16;

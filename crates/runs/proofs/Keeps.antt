@@ -16,7 +16,7 @@ use Rattle.fitness.specs.Fitness.{is_unfit}
 use Rattle.fitness.proofs.Fitness.{Fits, fits, unfits}
 use Rattle.ticks.specs.Tick.{MachineTick, finished, stopped, tick}
 use Rattle.ticks.proofs.Keeps.{Keeps, tick-keeps}
-use Rattle.runs.specs.Run.{then, ticks}
+use Rattle.runs.specs.Run.{run_after, ticks}
 
 module _ (i : Image) (sound : SoundImage i) where
   pub ticks-keep : (ws : List ℕ) (s : State) → Fits i s → Fits i (ticks i s ws).state
@@ -25,7 +25,7 @@ module _ (i : Image) (sound : SoundImage i) where
   ticks-keep (w ∷ ws) s f = go (tick i s w) (tick-keeps i sound s f w) (ticks-keep ws)
     where
       go : (t : MachineTick) → Keeps i sound t → ((u : State) → Fits i u → Fits i (ticks i u ws).state)
-          → Fits i (then s (λ u. ticks i u ws) t).state
+          → Fits i (run_after s (λ u. ticks i u ws) t).state
       go (finished m k u) q ih = ih u q
       go (stopped n) q ih = f
 

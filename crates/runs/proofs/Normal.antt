@@ -7,7 +7,7 @@ use Rattle.image.specs.Image.{Image}
 use Rattle.state.specs.declared.State.{State}
 use Rattle.ticks.specs.Tick.{MachineTick, finished, stopped, tick}
 use Rattle.ticks.proofs.Normal.{Same, Normal, tick-normal}
-use Rattle.runs.specs.Run.{then, ticks}
+use Rattle.runs.specs.Run.{run_after, ticks}
 
 -- no refusal of these numbers is one that a run tries before its first tick
 abbrev pub Late : Verdict → Type 0
@@ -19,7 +19,7 @@ unfolding ticks
 ticks-same i [] s = record { size = refl; serving = refl; bits = refl; sized = λ q. q }
 ticks-same i (w ∷ ws) s = go (tick i s w) (tick-normal i s w) (ticks-same i ws)
   where
-    go : (x : MachineTick) → Normal s x → ((t : State) → Same t (ticks i t ws).state) → Same s (then s (λ t. ticks i t ws) x).state
+    go : (x : MachineTick) → Normal s x → ((t : State) → Same t (ticks i t ws).state) → Same s (run_after s (λ t. ticks i t ws) x).state
     go (finished m k t) n ih = record {
       size = (ih t).size ∙ n.size;
       serving = (ih t).serving ∙ n.serving;
@@ -33,6 +33,6 @@ unfolding ticks
 ticks-late i [] s = tt
 ticks-late i (w ∷ ws) s = go (tick i s w) (tick-normal i s w) (ticks-late i ws)
   where
-    go : (x : MachineTick) → Normal s x → ((t : State) → Late (ticks i t ws).verdict) → Late (then s (λ t. ticks i t ws) x).verdict
+    go : (x : MachineTick) → Normal s x → ((t : State) → Late (ticks i t ws).verdict) → Late (run_after s (λ t. ticks i t ws) x).verdict
     go (finished m k t) n ih = ih t
     go (stopped k) n ih = n

@@ -8,7 +8,7 @@ use lib.Dec.{leb, ltb, eqb}
 use lib.ListN.{length, get_or}
 use borrow.Author.Tests.{lt-ltb, le-ltb, lt-leb, le-leb, ltb-false, ne_eqb}
 use Rattle.words.specs.lists.Sequences.{over}
-use Rattle.words.proofs.lists.Tests.{or_l, or_r, yes-pick, no-pick, and_no, and-true}
+use Rattle.words.proofs.lists.Tests.{or_l, or_r, if-true, if-false, and_no, and-true}
 use Rattle.text.specs.frames.Verdict.{Verdict, fine, refused, next, when}
 use Rattle.text.specs.frames.Answer.{Answer, Reply, success, refusal, reply_number, reply, counted_reply}
 use Rattle.std.proofs.Common.{Ok, Err}
@@ -21,7 +21,7 @@ use Rattle.state.specs.Bytes.{state_of, bytes_of}
 use Rattle.fitness.specs.Fitness.{has_bad_depth, is_unfit}
 use Rattle.runs.specs.declared.RunEnd.{RunEnd}
 use Rattle.ticks.specs.Tick.{MachineTick, finished, stopped, tick}
-use Rattle.runs.specs.Run.{MachineRun, RunOutcome, then, ticks, has_no_room, run_on}
+use Rattle.runs.specs.Run.{MachineRun, RunOutcome, run_after, ticks, has_no_room, run_on}
 use Rattle.runs.specs.TickOutcome.{TickOutcome, tick_outcome}
 use Rattle.runs.specs.InPlace.{is_without_change, bytes_after, GivesRunOn, GivesTickOn}
 use Rattle.ticks.specs.declared.TickEnd.{TickEnd}
@@ -65,7 +65,7 @@ kept-runs x bytes ms ks n j s g l h a e =
     rw g
     (record {
       answered = e;
-      bytes = sym (yes-pick (is_without_change n) bytes (bytes_of s) (early-leaves n l h));
+      bytes = sym (if-true (is_without_change n) bytes (bytes_of s) (early-leaves n l h));
       masks = refl;
       codes = refl;
     })
@@ -137,7 +137,7 @@ module _ (b before ws ms₀ ks₀ : List ℕ) where
           rw is
           (record {
             answered = answered;
-            bytes = tidied ∙ ap bytes_of ends.state ∙ sym (no-pick _ before (bytes_of ran.state) w);
+            bytes = tidied ∙ ap bytes_of ends.state ∙ sym (if-false _ before (bytes_of ran.state) w);
             masks = ends.masks;
             codes = ends.codes;
           })
@@ -164,7 +164,7 @@ module _ (b before : List ℕ) (w : ℕ) (r : RunEnd) (mid ms ks : List ℕ)
   made = tick (table_image b) (state_of before) w
 
   abbrev only : MachineTick → MachineRun
-  only x = then (state_of before) (λ t. ticks (table_image b) t []) x
+  only x = run_after (state_of before) (λ t. ticks (table_image b) t []) x
 
   one_word : ticks (table_image b) (state_of before) (w ∷ []) ≡ only made
   unfolding ticks
@@ -228,7 +228,7 @@ module _ (b before : List ℕ) (w : ℕ) where
   unfolding ticks
   one-stopped e n q =
       ap tick_outcome (table_runs b before (w ∷ []) (0 ∷ []) (0 ∷ []) e refl)
-      ∙ ap (λ (x : MachineTick). tick_outcome (run_on fine (λ _. then state₀ (λ t. ticks (table_image b) t []) x) state₀ (0 ∷ [])
+      ∙ ap (λ (x : MachineTick). tick_outcome (run_on fine (λ _. run_after state₀ (λ t. ticks (table_image b) t []) x) state₀ (0 ∷ [])
       (0 ∷ []))) q
 
   one-ticked : is_unfit (table_image b) state₀ ≡ false → (m k : ℕ) (t : State) → tick (table_image b) state₀ w ≡ finished m k t
@@ -236,7 +236,7 @@ module _ (b before : List ℕ) (w : ℕ) where
   unfolding ticks
   one-ticked e m k t q =
       ap tick_outcome (table_runs b before (w ∷ []) (0 ∷ []) (0 ∷ []) e refl)
-      ∙ ap (λ (x : MachineTick). tick_outcome (run_on fine (λ _. then state₀ (λ t. ticks (table_image b) t []) x) state₀ (0 ∷ [])
+      ∙ ap (λ (x : MachineTick). tick_outcome (run_on fine (λ _. run_after state₀ (λ t. ticks (table_image b) t []) x) state₀ (0 ∷ [])
       (0 ∷ []))) q
 
   pub refused-advances : (n : ℕ) → (n ≡ 0 → ⊥) → one ≡ tick_refused_by n → (r : Refusal) → reply (Err r) ≡ refusal n 0 0
@@ -247,7 +247,7 @@ module _ (b before : List ℕ) (w : ℕ) where
         answered = q;
         mask = refl;
         code = refl;
-        bytes = sym (no-pick (eqb n 0) (bytes_of state₀) before (ne_eqb n 0 h));
+        bytes = sym (if-false (eqb n 0) (bytes_of state₀) before (ne_eqb n 0 h));
       })
 
   module _ (t : Bool) (e : t ≡ is_unfit (table_image b) state₀) where

@@ -12,7 +12,7 @@ use Rattle.image.specs.Image.{Image}
 use Rattle.image.specs.Decode.{decoded_image}
 use Rattle.state.specs.declared.State.{State}
 use Rattle.ticks.specs.Tick.{MachineTick, finished, stopped, tick}
-use Rattle.runs.specs.Run.{MachineRun, then, ticks, run_on, run_verdict, run}
+use Rattle.runs.specs.Run.{MachineRun, run_after, ticks, run_on, run_verdict, run}
 
 -- as many masks as codes
 pub same_count : (i : Image) (ws : List ℕ) (s : State) → length (ticks i s ws).masks ≡ length (ticks i s ws).codes
@@ -21,7 +21,7 @@ same_count i [] s = refl
 same_count i (w ∷ ws) s = go (tick i s w) (same_count i ws)
   where
     go : (t : MachineTick) → ((u : State) → length (ticks i u ws).masks ≡ length (ticks i u ws).codes)
-        → length (then s (λ u. ticks i u ws) t).masks ≡ length (then s (λ u. ticks i u ws) t).codes
+        → length (run_after s (λ u. ticks i u ws) t).masks ≡ length (run_after s (λ u. ticks i u ws) t).codes
     go (finished m code u) ih = ap suc (ih u)
     go (stopped n) ih = refl
 
@@ -32,7 +32,7 @@ ticks-most i [] s = omega arith
 ticks-most i (w ∷ ws) s = go (tick i s w) (ticks-most i ws)
   where
     go : (t : MachineTick) → ((u : State) → length (ticks i u ws).codes ≤ length ws)
-        → length (then s (λ u. ticks i u ws) t).codes ≤ suc (length ws)
+        → length (run_after s (λ u. ticks i u ws) t).codes ≤ suc (length ws)
     go (finished m code u) ih = omega (arith, ih u)
     go (stopped n) ih = omega arith
 

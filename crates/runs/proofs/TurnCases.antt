@@ -16,7 +16,7 @@ use Rattle.state.specs.declared.State.{State}
 use Rattle.state.specs.Bytes.{state_of}
 use Rattle.ticks.specs.declared.TickEnd.{TickEnd}
 use Rattle.ticks.specs.Tick.{top_of, MachineTick, finished, stopped, tick}
-use Rattle.runs.specs.Run.{MachineRun, then, ticks}
+use Rattle.runs.specs.Run.{MachineRun, run_after, ticks}
 use Rattle.ticks.specs.inner.TickContracts.{TickAsked, state_after_tick, end_of_tick, GivesTickEnd}
 use Rattle.runs.specs.inner.RunContracts.{verdict_of, RunRoom, GivesRunEnd}
 use Rattle.ticks.proofs.Normal.{Normal, tick-normal}
@@ -56,11 +56,11 @@ module _ (i : Image) (s : State) (w : ℕ) (ws : List ℕ) where
         verdict = (ticks i t ws).verdict;
       }
   unfolding ticks
-  ticks-went m k t e = ap (then s (λ u. ticks i u ws)) e
+  ticks-went m k t e = ap (run_after s (λ u. ticks i u ws)) e
 
   ticks-stood : (n : ℕ) → tick i s w ≡ stopped n → ticks i s (w ∷ ws) ≡ record { masks = []; codes = []; state = s; verdict = refused n 0 }
   unfolding ticks
-  ticks-stood n e = ap (then s (λ u. ticks i u ws)) e
+  ticks-stood n e = ap (run_after s (λ u. ticks i u ws)) e
 
 ticks-none : (i : Image) (s : State) → ticks i s [] ≡ record { masks = []; codes = []; state = s; verdict = fine }
 unfolding ticks

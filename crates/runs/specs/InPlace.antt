@@ -1,6 +1,5 @@
 -- A run and a tick on the bytes of a state that the caller keeps: what they promise, and what the bytes then hold.
-use Rattle.std.specs.Prelude.{ℕ, Bool, ◌&&◌, ◌≡◌, List, eqb, leb}
-use Rattle.words.specs.lists.Pick.{pick}
+use Rattle.std.specs.Prelude.{ℕ, Bool, ◌&&◌, ◌≡◌, List, eqb, leb, if◌then◌else◌}
 use Rattle.text.specs.declared.frames.refusals.TheConstants.{BAD_LENGTH, NO_ROOM}
 use Rattle.text.specs.frames.Answer.{Answer, reply_number, reply}
 use Rattle.state.specs.Bytes.{bytes_of}
@@ -13,11 +12,11 @@ is_without_change n = leb BAD_LENGTH n && leb n NO_ROOM
 
 -- refusals 1 to 16 of a run leave the bytes as they were
 unfoldable pub bytes_after : List ℕ → RunOutcome → List ℕ
-bytes_after old r = pick (is_without_change (reply_number r.reply)) old (bytes_of r.state)
+bytes_after old r = if is_without_change (reply_number r.reply) then old else bytes_of r.state
 
 -- a tick that is refused leaves what it was lent as it was
 abbrev pub if_ticked : {A : Type 0} → TickOutcome → A → A → A
-if_ticked a new old = pick (eqb (reply_number a.reply) 0) new old
+if_ticked a new old = if eqb (reply_number a.reply) 0 then new else old
 
 pub record GivesRunOn (x : RunOutcome) (before : List ℕ) (answer : Answer) (after ms ks : List ℕ) : Type 0 where
   pub answered : reply answer ≡ x.reply

@@ -20,13 +20,13 @@ pub record MachineRun : Type 0 where
   pub state : State
   pub verdict : Verdict
 
-abbrev pub then : State → (State → MachineRun) → MachineTick → MachineRun
-then s go (finished m k t) = let r = go t in record { masks = m ∷ r.masks; codes = k ∷ r.codes; state = r.state; verdict = r.verdict }
-then s go (stopped n) = record { masks = []; codes = []; state = s; verdict = refused n 0 }
+abbrev pub run_after : State → (State → MachineRun) → MachineTick → MachineRun
+run_after s go (finished m k t) = let r = go t in record { masks = m ∷ r.masks; codes = k ∷ r.codes; state = r.state; verdict = r.verdict }
+run_after s go (stopped n) = record { masks = []; codes = []; state = s; verdict = refused n 0 }
 
 unfoldable pub ticks : Image → State → List ℕ → MachineRun
 ticks i s [] = record { masks = []; codes = []; state = s; verdict = fine }
-ticks i s (w ∷ ws) = then s (λ t. ticks i t ws) (tick i s w)
+ticks i s (w ∷ ws) = run_after s (λ t. ticks i t ws) (tick i s w)
 
 pub record RunOutcome : Type 0 where
   pub reply : Reply

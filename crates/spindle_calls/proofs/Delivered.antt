@@ -1,4 +1,5 @@
 -- Calls in a row over the functions that meet their contracts: the places are counted, and each spindle makes the ticks of its own walk.
+use Rattle.std.proofs.Common.{if◌then◌else◌}
 use Prim.Native.Nat.{ℕ}
 use mathlib.Core.Path.{◌≡◌, refl, sym, ◌∙◌, ap, ap₂, subst}
 use mathlib.Core.Bool.{Bool, true, false}
@@ -7,7 +8,6 @@ use native.Mathlib.Omega.{arith}
 use lib.Dec.{eqb}
 use lib.ListN.{set, take}
 use borrow.Author.Tests.{ne_eqb}
-use Rattle.words.specs.lists.Pick.{pick}
 use Rattle.words.specs.lists.Sequences.{All}
 use Rattle.bindings.specs.Binding.{own_binding}
 use Rattle.text.specs.frames.Frame.{contents}
@@ -88,7 +88,7 @@ unfolding fresh_state
 fresh-one n s z = sym (z.state ∙ z.makes.state ∙ go (is_bad_size n) (ap reply_number (sym z.succeeded ∙ z.makes.answered)))
   where
     fresh_as : Bool → StateOutcome
-    fresh_as t = pick t (record { reply = refusal 14 0 0; state = no_state }) (record { reply = success 0; state = fresh n })
+    fresh_as t = if t then record { reply = refusal 14 0 0; state = no_state } else record { reply = success 0; state = fresh n }
 
     go : (t : Bool) → 0 ≡ reply_number (fresh_as t).reply → (fresh_as t).state ≡ fresh n
     go true e = absurd (omega arith)

@@ -1,4 +1,5 @@
 -- Calls from C in a row that meet their contracts: the places are counted, and each spindle makes the ticks of its own walk.
+use Rattle.std.proofs.Common.{if◌then◌else◌}
 use Prim.Native.Nat.{ℕ}
 use mathlib.Core.Path.{◌≡◌, refl, sym, ◌∙◌, ap, subst}
 use mathlib.Core.Bool.{Bool, true, false}
@@ -6,7 +7,6 @@ use mathlib.Core.List.{List, [], ◌∷◌, ◌++◌, map}
 use native.Mathlib.Omega.{arith}
 use lib.Dec.{eqb}
 use lib.ListN.{length, take}
-use Rattle.words.specs.lists.Pick.{pick}
 use Rattle.words.specs.lists.Sequences.{written, All}
 use Rattle.bindings.specs.Binding.{own_binding}
 use Rattle.text.specs.frames.Frame.{contents}
@@ -75,7 +75,7 @@ unfolding fresh_state
 fresh-made n at made b z = z.bytes ∙ go (is_bad_size n) z.told.number_is
   where
     fresh_as : Bool → StateOutcome
-    fresh_as t = pick t (record { reply = refusal 14 0 0; state = no_state }) (record { reply = success 0; state = fresh n })
+    fresh_as t = if t then record { reply = refusal 14 0 0; state = no_state } else record { reply = success 0; state = fresh n }
 
     go : (t : Bool) → 0 ≡ reply_number (fresh_as t).reply → bytes_of (fresh_as t).state ≡ bytes_of (fresh n)
     go true e = absurd (omega arith)
@@ -122,7 +122,7 @@ fresh-four {a} {b} {c} {d} _ (four_fresh {x = x} {y = y} {z = z} {u = u} p q r s
 -- ---- the two theorems
 depths-read : (b : List ℕ) → length b ≡ 520 → depths (states_of b) ≡ depths_in b
 depths-read b long =
-    four-depths (states_of b) (count-is b ∙ ap (λ (n : ℕ). pick (eqb n 520) 4 0) long) ∙ depths-are b long
+    four-depths (states_of b) (count-is b ∙ ap (λ (n : ℕ). (if eqb n 520 then 4 else 0)) long) ∙ depths-are b long
 
 pub places-counted-c : PlacesCountedC
 unfolding PlacesCountedC
@@ -136,7 +136,7 @@ pub own-walks-c : OwnWalkC
 unfolding OwnWalkC OwnWalk
 own-walks-c text before after at n c size low high k named bytes long returned at' made m taken said last final cs hands =
     let r : RowC bytes taken said last final = calls-row bytes long taken said last final cs in
-    let four-states : length (states_of bytes) ≡ 4 = count-is bytes ∙ ap (λ (l : ℕ). pick (eqb l 520) 4 0) long in
+    let four-states : length (states_of bytes) ≡ 4 = count-is bytes ∙ ap (λ (l : ℕ). (if eqb l 520 then 4 else 0)) long in
     subst (FollowsWalk size (contents text)) (r.row.made (contents text) k own_binding)
     (own-walks text before n (returned-0 text before after at n c) size low high k (head_of bytes taken) (omega (arith, four-states))
     (state-is bytes long k named ∙ ap state_of m.bytes ∙ fresh-held size) (map call_of said)

@@ -1,4 +1,5 @@
 -- What a call hands back by its number, and the states that the bytes hold after it.
+use Rattle.std.proofs.Common.{if◌then◌else◌}
 use Prim.Native.Nat.{ℕ, ◌+◌, ◌-◌, ◌*◌, ◌≤◌, ◌<◌}
 use mathlib.Core.Path.{◌≡◌, refl, sym, ◌∙◌, ap, subst}
 use mathlib.Core.Bool.{Bool, true, false}
@@ -8,9 +9,8 @@ use lib.Dec.{ltb, eqb}
 use lib.ListN.{length, set}
 use lib.Seq.{get_or-set_same}
 use borrow.Author.Tests.{ne_eqb, eqb-true}
-use Rattle.words.specs.lists.Pick.{pick}
 use Rattle.words.specs.lists.Sequences.{written}
-use Rattle.words.proofs.lists.Tests.{no-pick}
+use Rattle.words.proofs.lists.Tests.{if-false}
 use Rattle.text.specs.frames.Frame.{contents}
 use Rattle.text.specs.frames.Verdict.{Verdict, fine, refused, next, when}
 use Rattle.text.specs.frames.Answer.{success}
@@ -61,8 +61,8 @@ module _ (v : Verdict) (numbered : NumberedVerdict v) (i : Image) (states : List
   ends_by z fine l (stopped n) e = subst (SpinEnds states taken k) (sym (kept_by states taken k n 0)) (refuses n 0 (omega arith))
   ends_by z fine l (finished m code t) e = go (is_none_left s.depth t.depth taken)
     where
-      go : (b : Bool) → SpinEnds states taken k (pick b (outcome_turned_back 26 0 states taken)
-          (record { reply = success 1; mask = m; code = code; states = set states k t; taken = taken + t.depth - s.depth }))
+      go : (b : Bool) → SpinEnds states taken k (if b then outcome_turned_back 26 0 states taken
+          else record { reply = success 1; mask = m; code = code; states = set states k t; taken = taken + t.depth - s.depth })
       go true = refuses 26 0 (omega arith)
       go false = finishes m code t z.named z.four e
 
@@ -96,7 +96,7 @@ live-spin-ends b states taken k w = subst (SpinEnds states taken k) (sym (live-s
 pub four-long : (b : List ℕ) → length (states_of b) ≡ 4 → length b ≡ 520
 four-long b e = go (eqb (length b) 520) refl (sym (count-is b) ∙ e)
   where
-    go : (t : Bool) → eqb (length b) 520 ≡ t → ◌≡◌ {A = ℕ} (pick t 4 0) 4 → length b ≡ 520
+    go : (t : Bool) → eqb (length b) 520 ≡ t → ◌≡◌ {A = ℕ} (if t then 4 else 0) 4 → length b ≡ 520
     go true f q = eqb-true (length b) 520 f
     go false f q = absurd (omega arith)
 
@@ -107,7 +107,7 @@ bytes-length u = refl
 pub bytes-held : (b : List ℕ) (taken k : ℕ) {x : SpinOutcome} → SpinEnds (states_of b) taken k x → states_of (bytes_spun b k x) ≡ x.states
 unfolding bytes_spun
 bytes-held b taken k (refuses n j l) =
-    ap states_of (no-pick (eqb n 0) (written b (130 * k) (bytes_of (state_at (states_of b) k))) b (ne_eqb n 0 (λ e. omega arith)))
+    ap states_of (if-false (eqb n 0) (written b (130 * k) (bytes_of (state_at (states_of b) k))) b (ne_eqb n 0 (λ e. omega arith)))
 bytes-held b taken k (finishes m code t low length-is same) =
     let long : length b ≡ 520 = four-long b length-is in
     let held : state_at (states_of b) k ≡ state_of (part_of b k) = state-is b long k low in

@@ -1,4 +1,5 @@
 -- A finished tick finds no place exactly where it is a call and all 64 are taken.
+use Rattle.std.proofs.Common.{if◌then◌else◌}
 use Prim.Native.Nat.{ℕ, ◌+◌, ◌-◌, ◌≤◌, ◌<◌}
 use mathlib.Core.Path.{◌≡◌, refl, sym, ◌∙◌, ap, subst}
 use mathlib.Core.Bool.{Bool, true, false, ◌&&◌, not}
@@ -8,7 +9,6 @@ use native.Mathlib.Omega.{arith}
 use lib.Dec.{leb, ltb, eqb}
 use lib.ListN.{set}
 use borrow.Author.Tests.{lt-ltb, leb-true, le-leb, ltb-true, ne_eqb}
-use Rattle.words.specs.lists.Pick.{pick}
 use Rattle.words.proofs.lists.Tests.{and_l, and_r, and-true}
 use Rattle.text.specs.frames.Frame.{contents}
 use Rattle.text.specs.frames.Verdict.{Verdict, fine, refused, when}
@@ -51,8 +51,8 @@ module _ (code d after : ℕ) (deepens : after + places_returned code d + places
   deeper-call l = go (leb 16 code && not (eqb code 96)) refl
     where
       go : (b : Bool) → (leb 16 code && not (eqb code 96)) ≡ b → places_called code d ≡ 1
-      go true f = ap (λ (b : Bool). pick b 1 0) f
-      go false f = absurd (let z : places_called code d ≡ 0 = ap (λ (b : Bool). pick b 1 0) f in omega (arith, deepens))
+      go true f = ap (λ (b : Bool). (if b then 1 else 0)) f
+      go false f = absurd (let z : places_called code d ≡ 0 = ap (λ (b : Bool). (if b then 1 else 0)) f in omega (arith, deepens))
 
 -- ---- the reply by what the tick is found to be
 module _ (states : List State) (taken k : ℕ) (room : taken ≤ 64) where
@@ -65,8 +65,8 @@ module _ (states : List State) (taken k : ℕ) (room : taken ≤ 64) where
   none-exactly m code u deep = (there (is_none_left s.depth u.depth taken) refl, back)
     where
       reply_by : Bool → Reply
-      reply_by b = (pick b (outcome_turned_back 26 0 states taken)
-          (record { reply = success 1; mask = m; code = code; states = set states k u; taken = taken + u.depth - s.depth })).reply
+      reply_by b = (if b then outcome_turned_back 26 0 states taken
+          else record { reply = success 1; mask = m; code = code; states = set states k u; taken = taken + u.depth - s.depth }).reply
 
       there : (b : Bool) → is_none_left s.depth u.depth taken ≡ b → reply_by (is_none_left s.depth u.depth taken) ≡ refusal 26 0 0
           → (places_called code s.depth ≡ 1) × (taken ≡ 64)

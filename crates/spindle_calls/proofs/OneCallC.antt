@@ -1,4 +1,5 @@
 -- One call from C that meets its contract is the call over the states that the bytes hold, and leaves bytes that hold what it leaves.
+use Rattle.std.proofs.Common.{if◌then◌else◌}
 use Prim.Native.Nat.{ℕ, ◌+◌, ◌*◌, ◌<◌}
 use mathlib.Core.Path.{◌≡◌, refl, sym, ◌∙◌, ap, ap₂, subst}
 use mathlib.Core.Bool.{Bool, true, false}
@@ -8,9 +9,8 @@ use lib.Dec.{eqb}
 use lib.ListN.{length, get_or, set, drop}
 use lib.Seq.{get_or-take, get_or-drop}
 use borrow.Author.Tests.{ne_eqb}
-use Rattle.words.specs.lists.Pick.{pick}
 use Rattle.words.specs.lists.Sequences.{written}
-use Rattle.words.proofs.lists.Tests.{no-pick}
+use Rattle.words.proofs.lists.Tests.{if-false}
 use Rattle.text.specs.frames.Frame.{contents}
 use Rattle.text.specs.frames.Verdict.{next}
 use Rattle.text.specs.frames.Answer.{reply_number}
@@ -63,7 +63,7 @@ module _ (bytes : List ℕ) (long : length bytes ≡ 520) (taken : ℕ) where
     unfolding bytes_spun
     spun-long (refuses n j l) =
         ap length
-        (no-pick (eqb n 0) (written bytes (130 * k) (bytes_of (state_at (states_of bytes) k))) bytes (ne_eqb n 0 (λ e. omega arith)))
+        (if-false (eqb n 0) (written bytes (130 * k) (bytes_of (state_at (states_of bytes) k))) bytes (ne_eqb n 0 (λ e. omega arith)))
         ∙ long
     spun-long (finishes m code t low length-is same) =
         put-long bytes (bytes_of (state_at (set (states_of bytes) k t) k)) long k low
@@ -99,7 +99,7 @@ module _ (bytes : List ℕ) (long : length bytes ≡ 520) (taken : ℕ) where
     part-long : length part ≡ 130
     part-long = ap length z.bytes ∙ go (eqb (reply_number (rebind_for image (part_of bytes k) n g).reply) 0)
       where
-        go : (t : Bool) → length (pick t (bytes_of (rebind_for image (part_of bytes k) n g).state) (part_of bytes k)) ≡ 130
+        go : (t : Bool) → length (if t then bytes_of (rebind_for image (part_of bytes k) n g).state else part_of bytes k) ≡ 130
         go true = bytes-length (rebind_for image (part_of bytes k) n g).state
         go false = part_length bytes long k low
 

@@ -1,5 +1,6 @@
 -- Calls in a row, by what their caller has of each: what they leave, the places they count and the ticks they make are those of the list
 -- of calls over the states.
+use Rattle.std.proofs.Common.{if◌then◌else◌}
 use Prim.Native.Nat.{ℕ, ◌+◌, ◌≤◌}
 use mathlib.Core.Path.{◌≡◌, refl, sym, ◌∙◌, ap, ap₂, subst}
 use mathlib.Core.Bool.{Bool, true, false, ◌&&◌}
@@ -7,7 +8,6 @@ use mathlib.Core.List.{List, [], ◌∷◌, map}
 use native.Mathlib.Omega.{arith}
 use lib.Dec.{eqb}
 use borrow.Author.Tests.{eq-eqb}
-use Rattle.words.specs.lists.Pick.{pick}
 use Rattle.words.proofs.lists.Tests.{no_both}
 use Rattle.bindings.specs.Binding.{Binding}
 use Rattle.charts.specs.Chart.{Chart}
@@ -38,9 +38,9 @@ call-counts : (f : ℕ → ℕ → ℕ) → ((d : ℕ) → f 0 d ≡ 0) → (h :
 call-counts f zero h (observed_rebinding t k n g) z = refl
 call-counts f zero h (observed_spin t k w y) (hears_no d c e) =
     let deep : ℕ = (state_at h.states k).depth in
-    ap (λ (a : ℕ). f a deep) c ∙ zero deep ∙ sym (ap (λ (b : Bool). pick b (f y.code y.depth) 0) e)
+    ap (λ (a : ℕ). f a deep) c ∙ zero deep ∙ sym (ap (λ (b : Bool). (if b then f y.code y.depth else 0)) e)
 call-counts f zero h (observed_spin t k w y) (hears_tick d n m c e) =
-    ap₂ f (sym c) (sym e) ∙ sym (ap (λ (b : Bool). pick b (f y.code y.depth) 0) (eq-eqb y.number 0 n))
+    ap₂ f (sym c) (sym e) ∙ sym (ap (λ (b : Bool). (if b then f y.code y.depth else 0)) (eq-eqb y.number 0 n))
 
 -- the tick that it makes, if any
 heard-done : {d : ℕ} {r : SpinOutcome} {y : ObservedTick} → Hears d r y → is_success r.reply ≡ eqb y.number 0
@@ -55,10 +55,10 @@ heard-made s w (hears_tick d n m c e) q =
     ap₂ (λ (a b : ℕ). record { signal = record { word = w; binding = s }; mask = a; code = b }) (sym m) (sym c)
 
 made-same : (a b b' : Bool) (p p' : FinishedTick) (q q' : List FinishedTick) → b ≡ b' → (b ≡ true → p ≡ p') → q ≡ q'
-    → pick (a && b) (p ∷ q) q ≡ pick (a && b') (p' ∷ q') q'
-made-same a b b' p p' q q' e f g = go a b refl ∙ ap (λ (t : Bool). pick (a && t) (p' ∷ q') q') e
+    → (if a && b then p ∷ q else q) ≡ (if a && b' then p' ∷ q' else q')
+made-same a b b' p p' q q' e f g = go a b refl ∙ ap (λ (t : Bool). (if a && t then p' ∷ q' else q')) e
   where
-    go : (u t : Bool) → b ≡ t → pick (u && t) (p ∷ q) q ≡ pick (u && t) (p' ∷ q') q'
+    go : (u t : Bool) → b ≡ t → (if u && t then p ∷ q else q) ≡ (if u && t then p' ∷ q' else q')
     go true true h = ap₂ (λ (x : FinishedTick) (xs : List FinishedTick). x ∷ xs) (f h) g
     go true false h = g
     go false t h = g
@@ -78,7 +78,7 @@ made_more c k h after (observed_spin t j w y) rest z e ih s =
     made-same (eqb j k) (is_success (calls.spin_on h t j w).reply) (eqb y.number 0) _ _ _ _ (heard-done z) (heard-made s w z)
     (ap (λ (g : Head). finished_ticks_by c k s g (map call_of rest)) e ∙ ih s)
 made_more c k h after (observed_rebinding t j n g) rest z e ih s =
-    let u : Binding = pick (eqb j k) (binding_after c n g s) s in
+    let u : Binding = (if eqb j k then binding_after c n g s else s) in
     ap (λ (g : Head). finished_ticks_by c k u g (map call_of rest)) e ∙ ih u
 
 pub row-none : (h : Head) → CallsRow h [] h

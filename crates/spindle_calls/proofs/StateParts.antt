@@ -10,7 +10,7 @@ use lib.ListN.{length, get_or, set, take, drop, length-take, get_or-append}
 use lib.Seq.{get_or-take, get_or-drop, get_or-append-add}
 use borrow.Author.Tests.{eq-eqb}
 use Rattle.words.specs.lists.Sequences.{written}
-use Rattle.words.proofs.lists.Tests.{yes-pick, split}
+use Rattle.words.proofs.lists.Tests.{if-true, split}
 use Rattle.words.proofs.lists.Ranges.{map-count}
 use Rattle.words.proofs.lists.Written.{written-length}
 use Rattle.state.specs.declared.State.{State}
@@ -23,7 +23,7 @@ four_states b = state_of (part_of b 0) ∷ state_of (part_of b 1) ∷ state_of (
 
 pub four_are : (b : List ℕ) → length b ≡ 520 → states_of b ≡ four_states b
 unfolding states_of
-four_are b long = yes-pick (eqb (length b) 520) (four_states b) [] (eq-eqb (length b) 520 long)
+four_are b long = if-true (eqb (length b) 520) (four_states b) [] (eq-eqb (length b) 520 long)
 
 -- ---- a byte of a buffer that was written from a place on
 module _ (b p : List ℕ) (at : ℕ) (room : at + length p ≤ length b) where

@@ -1,4 +1,5 @@
 -- The finished ticks of a spindle are those of its own walk over their words, over every list of calls.
+use Rattle.std.proofs.Common.{if◌then◌else◌}
 use Prim.Native.Nat.{ℕ, ◌≤◌, ◌<◌}
 use mathlib.Core.Bool.{Bool, true, false, ◌&&◌}
 use mathlib.Core.Path.{◌≡◌, refl, sym, ◌∙◌, ap, ap₂, subst}
@@ -7,7 +8,6 @@ use lib.Dec.{eqb}
 use lib.ListN.{length, take}
 use native.Mathlib.Decide.{ℕ_discrete}
 use borrow.Author.Tests.{eq-eqb, ne_eqb}
-use Rattle.words.specs.lists.Pick.{pick}
 use Rattle.words.specs.lists.Sequences.{All}
 use Rattle.results.specs.Results.{no_results}
 use Rattle.bindings.specs.Binding.{Binding, own_binding}
@@ -71,7 +71,7 @@ module _ (c : Chart) (facts : Facts c) (table_facts : TableFacts c) (image : Lis
   -- the ticks of the calls after a tick, and before them its own where t holds
   abbrev with : Binding → Head → List ℕ → ℕ → ℕ → List SpindleCall → Bool → List FinishedTick
   with s h t j w rest b =
-      let more = finished_ticks_by c k s (head_after h (spins t j w)) rest in pick b (tick_made s w (spin_on h t j w) ∷ more) more
+      let more = finished_ticks_by c k s (head_after h (spins t j w)) rest in if b then tick_made s w (spin_on h t j w) ∷ more else more
 
   -- ---- one tick, and the calls after it
   after-spin : (t : List ℕ) (j w : ℕ) (rest : List SpindleCall) → (j ≡ k → t ≡ image) → (s : Binding) (h : Head)
@@ -108,12 +108,12 @@ module _ (c : Chart) (facts : Facts c) (table_facts : TableFacts c) (image : Lis
           (subst (λ (u : List ℕ). Stood (head_after h (rebinds u k m g)) (binding_after c m g s) x) (sym (hand (sym e)))
           (bound-own c facts table_facts image passes decodes n n≤ k h s x z m g))
 
-      go : Dec (k ≡ j) → Traced x (finished_ticks_by c k (pick (eqb j k) (binding_after c m g s) s) (head_after h (rebinds t j m g)) rest)
+      go : Dec (k ≡ j) → Traced x (finished_ticks_by c k (if eqb j k then binding_after c m g s else s) (head_after h (rebinds t j m g)) rest)
       go (yes e) =
-          subst (λ (b : Bool). Traced x (finished_ticks_by c k (pick b (binding_after c m g s) s) (head_after h (rebinds t j m g)) rest))
+          subst (λ (b : Bool). Traced x (finished_ticks_by c k (if b then binding_after c m g s else s) (head_after h (rebinds t j m g)) rest))
           (sym (eq-eqb j k (sym e))) (ih (binding_after c m g s) x (own e))
       go (no e) =
-          subst (λ (b : Bool). Traced x (finished_ticks_by c k (pick b (binding_after c m g s) s) (head_after h (rebinds t j m g)) rest))
+          subst (λ (b : Bool). Traced x (finished_ticks_by c k (if b then binding_after c m g s else s) (head_after h (rebinds t j m g)) rest))
           (sym (ne_eqb j k (λ q. e (sym q)))) (ih s x (bound-over c facts table_facts image passes decodes n n≤ k h s x z t j m g e))
 
   own-walk : (calls : List SpindleCall) → All (HandsImage k image) calls → (s : Binding) (h : Head) → More s h calls

@@ -1,4 +1,5 @@
 -- One call, by what it does to the spindle that is watched: it leaves its state, or makes the tick of the walk's position and moves on.
+use Rattle.std.proofs.Common.{if◌then◌else◌}
 use Prim.Native.Nat.{ℕ, ◌+◌, ◌-◌, ◌≤◌, ◌<◌}
 use mathlib.Core.Bool.{Bool, true, false}
 use mathlib.Core.Path.{◌≡◌, refl, sym, ◌∙◌, ap, subst}
@@ -6,7 +7,6 @@ use mathlib.Core.List.{List}
 use lib.ListN.{length, set, length-set}
 use lib.Seq.{get_or-set_same, get_or-set_other}
 use native.Mathlib.Omega.{arith}
-use Rattle.words.specs.lists.Pick.{pick}
 use Rattle.bindings.specs.Binding.{Binding, rebound_binding}
 use Rattle.text.specs.frames.Frame.{contents}
 use Rattle.text.specs.frames.Verdict.{fine, when}
@@ -113,8 +113,8 @@ module _ (c : Chart) (facts : Facts c) (table_facts : TableFacts c) (image : Lis
     turned_by (on m code t passed fit e free) = go (is_full_call n (tick_at n c x)) refl (sym tick-at ∙ e)
       where
         go : (b : Bool) → is_full_call n (tick_at n c x) ≡ b
-            → pick (is_full_call n (tick_at n c x)) (stopped 17)
-            (finished (tick_at n c x).mask (tick_at n c x).code (state_of_position c n s y)) ≡ finished m code t
+            → (if is_full_call n (tick_at n c x) then stopped 17
+            else finished (tick_at n c x).mask (tick_at n c x).code (state_of_position c n s y)) ≡ finished m code t
             → Turned h s x w (record {
               reply = success 1;
               mask = m;
@@ -125,12 +125,12 @@ module _ (c : Chart) (facts : Facts c) (table_facts : TableFacts c) (image : Lis
         go true f q = absurd (
             let o : ◌≡◌ {A = ℕ} 0 1 =
             ap ticked_count
-            (sym (ap (λ (b : Bool). pick b (stopped 17) (finished (tick_at n c x).mask (tick_at n c x).code (state_of_position c n s y))) f)
+            (sym (ap (λ (b : Bool). (if b then stopped 17 else finished (tick_at n c x).mask (tick_at n c x).code (state_of_position c n s y))) f)
             ∙ q) in
             omega arith)
         go false f q =
             let o : finished (tick_at n c x).mask (tick_at n c x).code (state_of_position c n s y) ≡ finished m code t =
-            sym (ap (λ (b : Bool). pick b (stopped 17) (finished (tick_at n c x).mask (tick_at n c x).code (state_of_position c n s y))) f)
+            sym (ap (λ (b : Bool). (if b then stopped 17 else finished (tick_at n c x).mask (tick_at n c x).code (state_of_position c n s y))) f)
             ∙ q in
             let same : t ≡ state_of_position c n s y = sym (ap (after_of t) o) in
             steps refl (sym (ap mask_of o)) (sym (ap code_of o))
@@ -172,7 +172,7 @@ module _ (c : Chart) (facts : Facts c) (table_facts : TableFacts c) (image : Lis
 
   module _ (h : Head) (s : Binding) (x : WalkPosition) (z : At h s x) (m g : ℕ) where
     bound-state : (t : Bool) → is_barred_rebinding c m g ≡ t
-        → (rebind image (state_at h.states k) m g).state ≡ state_of_position c n (pick t s (rebound_binding m g s)) x
+        → (rebind image (state_at h.states k) m g).state ≡ state_of_position c n (if t then s else rebound_binding m g s) x
     bound-state t e =
         ap (λ (u : State). (rebind image u m g).state) z.at
         ∙ ap (λ (r : StateOutcome). r.state) (rebind-is image (table c) passes decodes (state_of_position c n s x) m g z.fits
@@ -180,11 +180,11 @@ module _ (c : Chart) (facts : Facts c) (table_facts : TableFacts c) (image : Lis
         ∙ go t
       where
         go : (b : Bool) → (rebind_on (when 22 b) (state_of_position c n s x) m g).state
-            ≡ state_of_position c n (pick b s (rebound_binding m g s)) x
+            ≡ state_of_position c n (if b then s else rebound_binding m g s) x
         go true = refl
         go false = refl
 
-    bound-fits : (t : Bool) → is_barred_rebinding c m g ≡ t → Fits (table c) (state_of_position c n (pick t s (rebound_binding m g s)) x)
+    bound-fits : (t : Bool) → is_barred_rebinding c m g ≡ t → Fits (table c) (state_of_position c n (if t then s else rebound_binding m g s) x)
     bound-fits true e = z.fits
     bound-fits false e =
         rebinding-fits (table c) (sound c facts table_facts image passes decodes n n≤).most (state_of_position c n s x) m g z.fits

@@ -1,7 +1,6 @@
 -- The finished ticks of a spindle are those of its own walk over the words of just these ticks, whatever the other spindles are handed
 -- meanwhile.
-use Rattle.std.specs.Prelude.{ℕ, ◌≤◌, ◌<◌, Bool, true, false, ◌&&◌, ◌≡◌, List, [], ◌∷◌, map, eqb, length, take}
-use Rattle.words.specs.lists.Pick.{pick}
+use Rattle.std.specs.Prelude.{ℕ, ◌≤◌, ◌<◌, Bool, true, false, ◌&&◌, ◌≡◌, List, [], ◌∷◌, map, eqb, length, take, if◌then◌else◌}
 use Rattle.words.specs.lists.Sequences.{All}
 use Rattle.bindings.specs.Binding.{Binding, own_binding}
 use Rattle.text.specs.frames.Frame.{contents}
@@ -31,10 +30,10 @@ finished_ticks_by c k s h [] = []
 finished_ticks_by c k s h (spins t j w ∷ rest) =
     let r = spin_on h t j w in
     let more = finished_ticks_by c k s (head_after h (spins t j w)) rest in
-    pick (eqb j k && is_success r.reply)
-    (record { signal = record { word = w; binding = s }; mask = r.mask; code = r.code } ∷ more) more
+    if eqb j k && is_success r.reply
+    then record { signal = record { word = w; binding = s }; mask = r.mask; code = r.code } ∷ more else more
 finished_ticks_by c k s h (rebinds t j n g ∷ rest) =
-    finished_ticks_by c k (pick (eqb j k) (binding_after c n g s) s) (head_after h (rebinds t j n g)) rest
+    finished_ticks_by c k (if eqb j k then binding_after c n g s else s) (head_after h (rebinds t j n g)) rest
 
 -- each call of spindle k is handed the image
 abbrev pub HandsImage : ℕ → List ℕ → SpindleCall → Type 0

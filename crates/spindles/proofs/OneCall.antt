@@ -1,4 +1,5 @@
 -- A call, on an image or on a table, by the machine's tick on the image that is meant; and what a refused call leaves.
+use Rattle.std.proofs.Common.{if◌then◌else◌}
 use Prim.Native.Nat.{ℕ, zero, suc, ◌+◌, ◌-◌, ◌≤◌}
 use mathlib.Core.Bool.{Bool, true, false, ◌&&◌}
 use mathlib.Core.Path.{◌≡◌, refl, sym, ◌∙◌, ap, subst}
@@ -7,7 +8,6 @@ use lib.Dec.{leb, ltb}
 use lib.ListN.{set}
 use native.Mathlib.Omega.{arith}
 use borrow.Author.Tests.{le-ltb}
-use Rattle.words.specs.lists.Pick.{pick}
 use Rattle.text.specs.frames.Frame.{contents}
 use Rattle.text.specs.frames.Verdict.{Verdict, fine, refused, next, when}
 use Rattle.text.specs.frames.Answer.{reply_number, success, refusal}
@@ -78,8 +78,8 @@ pub kept_by : (states : List State) (taken k n i : ℕ)
 kept_by states taken k n i =
     let s : State = state_at states k in
     let x : TickOutcome = record { reply = refusal n i 0; mask = 0; code = 0; state = s } in
-    ap (λ (t : Bool). pick (t && leb 64 taken) (outcome_turned_back 26 0 states taken)
-    (record { reply = refusal n i 0; mask = 0; code = 0; states = set states k s; taken = taken + s.depth - s.depth }))
+    ap (λ (t : Bool). (if t && leb 64 taken then outcome_turned_back 26 0 states taken
+    else record { reply = refusal n i 0; mask = 0; code = 0; states = set states k s; taken = taken + s.depth - s.depth }))
     (le-ltb s.depth s.depth (omega arith))
     ∙ ap (λ (ss : List State). record { reply = refusal n i 0; mask = 0; code = 0; states = ss; taken = taken + s.depth - s.depth })
     (set_same states k)
@@ -109,8 +109,8 @@ module _ (v : Verdict) (i : Image) (states : List State) (taken k w : ℕ) where
   comes-by h fine f (finished m code t) e = go (is_none_left s.depth t.depth taken) refl
     where
       go : (b : Bool) → is_none_left s.depth t.depth taken ≡ b
-          → Comes v i states taken k w (pick b (outcome_turned_back 26 0 states taken)
-          (record { reply = success 1; mask = m; code = code; states = set states k t; taken = taken + t.depth - s.depth }))
+          → Comes v i states taken k w (if b then outcome_turned_back 26 0 states taken
+          else record { reply = success 1; mask = m; code = code; states = set states k t; taken = taken + t.depth - s.depth })
       go true q = turns_back 26 0
       go false q = on m code t h (when-fine 15 (is_unfit i s) (next-rest v (λ _. when 15 (is_unfit i s)) f)) e q
 
@@ -141,14 +141,14 @@ module _ (v : Verdict) (i : Image) (states : List State) (taken k w : ℕ) where
       → (outcome_spun_on (head_verdict v states taken k) states taken k (λ _. x)).reply ≡ x.reply
   level_by h x l =
       ap (λ (q : Verdict). (outcome_spun_on q states taken k (λ _. x)).reply) h
-      ∙ ap (λ (b : Bool). (pick (b && leb 64 taken) (outcome_turned_back 26 0 states taken)
-      (record {
+      ∙ ap (λ (b : Bool). (if b && leb 64 taken then outcome_turned_back 26 0 states taken
+      else record {
         reply = x.reply;
         mask = x.mask;
         code = x.code;
         states = set states k x.state;
         taken = taken + x.state.depth - s.depth;
-      })).reply)
+      }).reply)
       (le-ltb s.depth x.state.depth l)
 
 pub full-first : FullFirst

@@ -1,4 +1,5 @@
 -- A call leaves the states of the other spindles as they were, and reads no more of them than their depths.
+use Rattle.std.proofs.Common.{if◌then◌else◌}
 use Prim.Native.Nat.{ℕ, ◌+◌, ◌-◌, ◌≤◌, ◌<◌}
 use mathlib.Core.Bool.{Bool, true, false, ◌||◌, not}
 use mathlib.Core.Path.{◌≡◌, refl, sym, ◌∙◌, ap, ap₂, subst}
@@ -8,7 +9,6 @@ use lib.ListN.{length, set}
 use lib.Seq.{get_or-set_same, get_or-set_other}
 use native.Mathlib.Omega.{arith}
 use borrow.Author.Tests.{ltb-false, eqb-true}
-use Rattle.words.specs.lists.Pick.{pick}
 use Rattle.words.proofs.lists.Tests.{or_l, or_r, not-false}
 use Rattle.text.specs.frames.Verdict.{Verdict, fine, refused, next, when}
 use Rattle.text.proofs.frames.Verdicts.{next-first, next-rest, when-fine}
@@ -52,13 +52,13 @@ module _ (k : ℕ) (states : List State) (taken j : ℕ) (ne : k ≡ j → ⊥) 
   other-by : (x : TickOutcome) → state_at (outcome_spun_by states taken j x).states k ≡ state_at states k
   other-by x = go (has_no_place taken (state_at states j) x)
     where
-      go : (b : Bool) → state_at (pick b (outcome_turned_back 26 0 states taken) (record {
+      go : (b : Bool) → state_at (if b then outcome_turned_back 26 0 states taken else record {
         reply = x.reply;
         mask = x.mask;
         code = x.code;
         states = set states j x.state;
         taken = taken + x.state.depth - (state_at states j).depth;
-      })).states k ≡ state_at states k
+      }).states k ≡ state_at states k
       go true = refl
       go false = get_or-set_other states j k x.state no_state ne
 
@@ -86,31 +86,31 @@ module _ (v : Verdict) (go : State → TickOutcome) (states states' : List State
   alike-by : k < length states → (x : TickOutcome) → AlikeSpins k (outcome_spun_by states taken k x) (outcome_spun_by states' taken k x)
   alike-by m x =
       subst (λ (y : State). AlikeSpins k (outcome_spun_by states taken k x)
-      (pick (has_no_place taken y x) (outcome_turned_back 26 0 states' taken) (record {
+      (if has_no_place taken y x then outcome_turned_back 26 0 states' taken else record {
         reply = x.reply;
         mask = x.mask;
         code = x.code;
         states = set states' k x.state;
         taken = taken + x.state.depth - y.depth;
-      }))) s (both (has_no_place taken (state_at states k) x))
+      })) s (both (has_no_place taken (state_at states k) x))
     where
       both : (b : Bool) → AlikeSpins k
-          (pick b (outcome_turned_back 26 0 states taken)
-          (record {
+          (if b then outcome_turned_back 26 0 states taken
+          else record {
             reply = x.reply;
             mask = x.mask;
             code = x.code;
             states = set states k x.state;
             taken = taken + x.state.depth - (state_at states k).depth;
-          }))
-          (pick b (outcome_turned_back 26 0 states' taken)
-          (record {
+          })
+          (if b then outcome_turned_back 26 0 states' taken
+          else record {
             reply = x.reply;
             mask = x.mask;
             code = x.code;
             states = set states' k x.state;
             taken = taken + x.state.depth - (state_at states k).depth;
-          }))
+          })
       both true = record { reply = refl; mask = refl; code = refl; taken = refl; state = s }
       both false = record {
         reply = refl;

@@ -1,6 +1,5 @@
 -- Four spindles that share 64 places: one call ticks a named spindle by one word. Refusals 25 and 26.
-use Rattle.std.specs.Prelude.{ℕ, ◌+◌, ◌-◌, Bool, ◌&&◌, ◌||◌, not, ◌≡◌, List, [], ◌∷◌, leb, ltb, eqb, length, get_or, set}
-use Rattle.words.specs.lists.Pick.{pick}
+use Rattle.std.specs.Prelude.{ℕ, ◌+◌, ◌-◌, Bool, ◌&&◌, ◌||◌, not, ◌≡◌, List, [], ◌∷◌, leb, ltb, eqb, length, get_or, set, if◌then◌else◌}
 use Rattle.text.specs.declared.frames.refusals.TheConstants.{BAD_HEADER, UNFIT, NO_SPINDLE, NO_PLACE}
 use Rattle.text.specs.frames.Verdict.{Verdict, fine, refused, next, when}
 use Rattle.text.specs.frames.Answer.{Reply, refusal}
@@ -53,15 +52,15 @@ has_no_place taken s x = is_none_left s.depth x.state.depth taken
 
 -- the spindle's own tick; one that is refused hands back the state as it was
 abbrev pub outcome_spun_by : List State → ℕ → ℕ → TickOutcome → SpinOutcome
-outcome_spun_by states taken k x = let s = state_at states k in pick (has_no_place taken s x)
-    (outcome_turned_back NO_PLACE 0 states taken)
-    (record {
+outcome_spun_by states taken k x = let s = state_at states k in if has_no_place taken s x
+    then outcome_turned_back NO_PLACE 0 states taken
+    else record {
       reply = x.reply;
       mask = x.mask;
       code = x.code;
       states = set states k x.state;
       taken = taken + x.state.depth - s.depth;
-    })
+    }
 
 abbrev pub outcome_spun_on : Verdict → List State → ℕ → ℕ → (Unit {0} → TickOutcome) → SpinOutcome
 outcome_spun_on (refused n i) states taken k go = outcome_turned_back n i states taken

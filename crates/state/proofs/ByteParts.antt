@@ -1,4 +1,5 @@
 -- Laws of the parts of a state that is kept as 130 bytes: what each byte reads as, and the state after one of them is written.
+use Rattle.std.proofs.Common.{if◌then◌else◌}
 use Prim.Native.Nat.{ℕ, ◌+◌, ◌-◌, ◌≤◌, ◌<◌}
 use mathlib.Core.Path.{◌≡◌, refl, sym, ap, ap₂, ◌∙◌}
 use mathlib.Core.Bool.{Bool, true, false, not}
@@ -9,7 +10,6 @@ use lib.Dec.{eqb}
 use lib.ListN.{length, get_or, set, get_or-eq_default}
 use lib.Seq.{get_or-set_same, get_or-set_other, set_out}
 use borrow.Author.Tests.{eq-eqb, ne_eqb}
-use Rattle.words.specs.lists.Pick.{pick}
 use Rattle.results.specs.Results.{result_of}
 use Rattle.bindings.specs.Binding.{server_of, rebound_binding}
 use Rattle.state.specs.declared.State.{State}
@@ -187,7 +187,7 @@ module _ (b : List ℕ) (r h k : ℕ) (place : k ≡ h - 1) where
   pub result-beyond : 16 ≤ k → state_of b ≡ state_after_result (state_of b) r h
   result-beyond l = ap (with_bits (state_of b)) (go (eqb r 0))
     where
-      go : (t : Bool) → (state_of b).bits ≡ pick t (state_of b).bits (set (state_of b).bits (h - 1) (eqb r 2))
+      go : (t : Bool) → (state_of b).bits ≡ (if t then (state_of b).bits else set (state_of b).bits (h - 1) (eqb r 2))
       go true = refl
       go false = sym (set_out (state_of b).bits (h - 1) (eqb r 2) (omega (arith, held-bits b)))
 

@@ -1,4 +1,5 @@
 -- Laws of the bytes of a state: a cast of a result, and the way back.
+use Rattle.std.proofs.Common.{if◌then◌else◌, cond}
 use Prim.Native.Nat.{ℕ, ◌+◌}
 use mathlib.Core.Path.{◌≡◌, refl, sym, ap, ap₂, ◌∙◌}
 use mathlib.Core.Bool.{Bool, true, false, not}
@@ -7,7 +8,6 @@ use native.Mathlib.Nat.{zero-add}
 use mir.Val.{bool_byte}
 use lib.Dec.{eqb}
 use lib.ListN.{length, get_or, set, replicate}
-use Rattle.words.specs.lists.Pick.{pick}
 use Rattle.words.specs.lists.Numbers.{range}
 use Rattle.words.specs.lists.Sequences.{written}
 use Rattle.words.proofs.lists.Ranges.{map-count}
@@ -18,11 +18,11 @@ use Rattle.state.specs.Changes.{with_places, with_bits, with_serving}
 use Rattle.state.specs.Bytes.{result_byte, serving_byte, state_of, bytes_of}
 
 -- a cast of a result is its byte
-pub byte-is : (b : Bool) → bool_byte b ≡ pick b 1 0
+pub byte-is : (b : Bool) → bool_byte b ≡ (if b then 1 else 0)
 byte-is true = refl
 byte-is false = refl
 
-bit-back : (b : Bool) → not (eqb (pick b 1 0) 0) ≡ b
+bit-back : (b : Bool) → not (eqb (if b then 1 else 0) 0) ≡ b
 bit-back true = refl
 bit-back false = refl
 
@@ -83,7 +83,7 @@ unfolding fresh_state
 fresh-held n = go (is_bad_size n)
   where
     go : (t : Bool)
-        → let x = pick {A = StateOutcome} t (record { reply = refusal 14 0 0; state = no_state })
+        → let x = cond {A = StateOutcome} t (record { reply = refusal 14 0 0; state = no_state })
         (record { reply = success 0; state = fresh n }) in
         state_of (bytes_of x.state) ≡ x.state
     go true = state-back no_state (record { places = refl; serving = refl; numbers = refl; servers = refl }) refl

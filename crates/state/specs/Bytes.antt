@@ -1,8 +1,7 @@
 -- The 130 bytes by which C keeps a state:
 -- size, depth, 32 places, 16 results, the 16 schemes that serve, and for each place the number that its scheme was called by, then the
 -- scheme that served it.
-use Rattle.std.specs.Prelude.{ℕ, ◌+◌, Bool, false, not, List, ◌∷◌, ◌++◌, map, eqb, get_or}
-use Rattle.words.specs.lists.Pick.{pick}
+use Rattle.std.specs.Prelude.{ℕ, ◌+◌, Bool, false, not, List, ◌∷◌, ◌++◌, map, eqb, get_or, if◌then◌else◌}
 use Rattle.words.specs.lists.Numbers.{range}
 use Rattle.text.specs.declared.frames.sizes.TheConstants.{SCHEMES}
 use Rattle.state.specs.declared.layout.TheConstants.{PLACES, SIZE, DEPTH, PLACES_FROM, RESULTS_FROM, SERVING_FROM, NUMBERS_FROM}
@@ -39,7 +38,7 @@ state_of b = record {
 
 -- the byte of a result, 0 or 1
 abbrev pub result_byte : State → ℕ → ℕ
-result_byte s k = pick (get_or s.bits k false) 1 0
+result_byte s k = if get_or s.bits k false then 1 else 0
 
 abbrev pub serving_byte : State → ℕ → ℕ
 serving_byte s k = get_or s.serving k 0

@@ -1,6 +1,5 @@
 -- The state, and a fresh one (refusal 14).
-use Rattle.std.specs.Prelude.{ℕ, ◌-◌, Bool, ◌||◌, ◌≡◌, List, ltb, eqb, length, get_or, set, replicate}
-use Rattle.words.specs.lists.Pick.{pick}
+use Rattle.std.specs.Prelude.{ℕ, ◌-◌, Bool, ◌||◌, ◌≡◌, List, ltb, eqb, length, get_or, set, replicate, if◌then◌else◌}
 use Rattle.results.specs.Results.{no_results}
 use Rattle.bindings.specs.Binding.{own_binding}
 use Rattle.text.specs.declared.frames.sizes.TheConstants.{SCHEMES}
@@ -58,7 +57,7 @@ pub record GivesState (x : StateOutcome) (r : StateReport) : Type 0 where
 
 unfoldable pub fresh_state : ℕ → StateOutcome
 fresh_state n =
-    pick (is_bad_size n) (record { reply = refusal BAD_SIZE 0 0; state = no_state }) (record { reply = success 0; state = fresh n })
+    if is_bad_size n then record { reply = refusal BAD_SIZE 0 0; state = no_state } else record { reply = success 0; state = fresh n }
 
 -- ---- what an image has, by number
 abbrev pub label_at : Image → ℕ → Label

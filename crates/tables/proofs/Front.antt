@@ -1,4 +1,5 @@
 -- Only the bytes of the frames that the header counts say which image a table holds: bytes behind them are no part of it.
+use Rattle.std.proofs.Common.{if◌then◌else◌}
 use Prim.Native.Nat.{ℕ, zero, suc, ◌+◌, ◌*◌, ◌-◌, ◌≤◌, ◌<◌, min}
 use mathlib.Core.Bool.{Bool, false, ◌&&◌, ◌||◌, not}
 use mathlib.Core.Path.{◌≡◌, refl, sym, ◌∙◌, ap, ap₂, subst}
@@ -8,11 +9,10 @@ use lib.Dec.{ltb, eqb}
 use lib.ListN.{length, get_or, take, length-take}
 use lib.Seq.{get_or-take}
 use borrow.Author.Tests.{ltb-false, le-ltb}
-use Rattle.words.specs.lists.Pick.{pick}
 use Rattle.words.specs.lists.Numbers.{range}
 use Rattle.words.specs.lists.Sequences.{concat_map}
 use Rattle.words.proofs.lists.Joins.{concat-alike}
-use Rattle.words.proofs.lists.Tests.{or_l, or_r, no-pick}
+use Rattle.words.proofs.lists.Tests.{or_l, or_r, if-false}
 use Rattle.text.specs.frames.Frame.{size, field, pair_at, quad_at}
 use Rattle.image.specs.Image.{Label, no_label}
 use Rattle.image.specs.Decode.{scheme_count, last_label, row_count, handler_in, labels_from, entry_in}
@@ -89,8 +89,8 @@ module _ (b c : List ℕ) (same : (k : ℕ) → k < 10 * table_end b → get_or 
         label-field m 9 h (omega arith),
       ) in
       λ j. record {
-        kind = pick (ltb 2 (e₂ j)) 0 (e₂ j);
-        called = pick (ltb (s j) (e₃ j)) 0 (e₃ j);
+        kind = if ltb 2 (e₂ j) then 0 else e₂ j;
+        called = if ltb (s j) (e₃ j) then 0 else e₃ j;
         owner = e₄ j;
         result = e₅ j;
         mask = e₆ j;
@@ -99,9 +99,9 @@ module _ (b c : List ℕ) (same : (k : ℕ) → k < 10 * table_end b → get_or 
   kind-same : (l : ℕ) → l ≤ last_label b → (table_label c l).kind ≡ (table_label b l).kind
   kind-same l h =
       ap (λ (x : Label). x.kind)
-      (no-pick (ltb (last_label c) l) no_label (label_on c l) (le-ltb (last_label c) l (omega (arith, last-same)))
+      (if-false (ltb (last_label c) l) no_label (label_on c l) (le-ltb (last_label c) l (omega (arith, last-same)))
       ∙ label_same l h
-      ∙ sym (no-pick (ltb (last_label b) l) no_label (label_on b l) (le-ltb (last_label b) l h)))
+      ∙ sym (if-false (ltb (last_label b) l) no_label (label_on b l) (le-ltb (last_label b) l h)))
 
   -- ---- the rows of one label
   noted-same : (l : ℕ) → l ≤ last_label b → noted_in c l ≡ noted_in b l
@@ -117,7 +117,7 @@ module _ (b c : List ℕ) (same : (k : ℕ) → k < 10 * table_end b → get_or 
       let p₄ : pair_at c f 4 ≡ pair_at b f 4 = pair_same f 4 h (omega arith) in
       let p₆ : field c f 6 ≡ field b f 6 = field-same f 6 h (omega arith) in
       let p₇ : field c f 7 ≡ field b f 7 = field-same f 7 h (omega arith) in
-      λ j. record { from = l; care = p₂ j; values = p₄ j; bit = pick (eqb (k j) 2) (p₆ j) 2; next = p₇ j }
+      λ j. record { from = l; care = p₂ j; values = p₄ j; bit = if eqb (k j) 2 then p₆ j else 2; next = p₇ j }
 
   rows-on-same : (l : ℕ) → l ≤ last_label b → rows_on c l ≡ rows_on b l
   rows-on-same l h =

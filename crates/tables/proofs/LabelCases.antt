@@ -1,12 +1,12 @@
 -- What the functions that read a label of a table hand back, by the bytes that they find.
+use Rattle.std.proofs.Common.{if◌then◌else◌}
 use Prim.Native.Nat.{ℕ, zero, suc, ◌+◌, ◌-◌, ◌≤◌, ◌<◌}
 use mathlib.Core.Path.{◌≡◌, refl, sym, ◌∙◌, ap}
 use mathlib.Core.List.{List}
 use native.Mathlib.Omega.{arith}
 use lib.Dec.{ltb}
 use borrow.Author.Tests.{lt-ltb, le-ltb}
-use Rattle.words.specs.lists.Pick.{pick}
-use Rattle.words.proofs.lists.Tests.{yes-pick, no-pick}
+use Rattle.words.proofs.lists.Tests.{if-true, if-false}
 use Rattle.text.specs.frames.Frame.{field}
 use Rattle.image.specs.Image.{Label, home_label, return_label}
 use Rattle.image.specs.Decode.{scheme_count, last_label, labels_from, label_in}
@@ -26,10 +26,10 @@ module _ (b : List ℕ) (l : ℕ) where
 -- ---- a label with fields of its own
 -- its kind and its called scheme, as any table counts them
 abbrev kind_on : List ℕ → ℕ → ℕ
-kind_on b l = let k = (label_in b l).kind in pick (ltb 2 k) 0 k
+kind_on b l = let k = (label_in b l).kind in if ltb 2 k then 0 else k
 
 abbrev called_on : List ℕ → ℕ → ℕ
-called_on b l = let h = (label_in b l).called in pick (ltb (scheme_count b) h) 0 h
+called_on b l = let h = (label_in b l).called in if ltb (scheme_count b) h then 0 else h
 
 abbrev numbered : List ℕ → ℕ → Label
 numbered b l = let x = label_in b l in
@@ -48,13 +48,13 @@ module _ (b : List ℕ) (l : ℕ) (asked : NumberedLabel b l) where
     pub kind-high : 2 < k → 0 ≡ (table_label b l).kind
     kind-high h =
         sym (ap (λ (x : Label). x.kind) label-numbered
-        ∙ yes-pick (ltb 2 (label_in b l).kind) 0 (label_in b l).kind (lt-ltb 2 (label_in b l).kind (omega arith)))
+        ∙ if-true (ltb 2 (label_in b l).kind) 0 (label_in b l).kind (lt-ltb 2 (label_in b l).kind (omega arith)))
 
   module _ (k n : ℕ) (found : k ≡ field b (labels_from b + l) 3) (schemes : n ≡ scheme_count b) where
     pub called-known : k ≤ n → k ≡ (table_label b l).called
     called-known h =
         found ∙ sym (ap (λ (x : Label). x.called) label-numbered
-        ∙ no-pick (ltb (scheme_count b) (label_in b l).called) 0 (label_in b l).called
+        ∙ if-false (ltb (scheme_count b) (label_in b l).called) 0 (label_in b l).called
         (le-ltb (scheme_count b) (label_in b l).called (omega arith)))
 
 -- ---- with H as the caller has it, n

@@ -1,4 +1,5 @@
 -- The table that is prepared from an accepted image holds the very image that the text does.
+use Rattle.std.proofs.Common.{if◌then◌else◌}
 use Prim.Native.Nat.{ℕ, zero, suc, ◌+◌, ◌*◌, ◌-◌, ◌%◌, ◌≤◌, ◌<◌}
 use mathlib.Core.Bool.{false, ◌||◌}
 use mathlib.Core.Path.{◌≡◌, sym, ◌∙◌, ap, ap₂}
@@ -10,11 +11,10 @@ use lib.Dec.{ltb, eqb}
 use lib.ListN.{length, take, drop, get_or, length-append, length-take, get_or-append}
 use lib.Seq.{get_or-take}
 use borrow.Author.Tests.{le-ltb, eq-eqb, ne_eqb}
-use Rattle.words.specs.lists.Pick.{pick}
 use Rattle.words.specs.lists.Numbers.{range}
 use Rattle.words.specs.lists.Sequences.{concat_map}
 use Rattle.words.proofs.lists.Joins.{concat-alike}
-use Rattle.words.proofs.lists.Tests.{or-none, yes-pick, no-pick}
+use Rattle.words.proofs.lists.Tests.{or-none, if-true, if-false}
 use Rattle.words.proofs.lists.Ranges.{length-map-range}
 use Rattle.text.specs.frames.Frame.{size, field, pair_at, contents}
 use Rattle.text.specs.frames.Verdict.{fine}
@@ -76,12 +76,12 @@ module _ (b : List ℕ) (ok : table_verdict b ≡ fine) where
         (accepted-sound b ok bytes).others m (omega arith) (omega (arith, labels-count b)) in
         let k : x.kind ≤ 2 = omega (arith, s.kinds, ap (λ (y : Label). y.kind) same) in
         let c : x.called ≤ scheme_count b = called-most m s same in
-        let e₁ : pick (ltb 2 x.kind) 0 x.kind ≡ x.kind = no-pick (ltb 2 x.kind) 0 x.kind (le-ltb 2 x.kind k) in
-        let e₂ : pick (ltb (scheme_count b) x.called) 0 x.called ≡ x.called =
-        no-pick (ltb (scheme_count b) x.called) 0 x.called (le-ltb (scheme_count b) x.called c) in
+        let e₁ : (if ltb 2 x.kind then 0 else x.kind) ≡ x.kind = if-false (ltb 2 x.kind) 0 x.kind (le-ltb 2 x.kind k) in
+        let e₂ : (if ltb (scheme_count b) x.called then 0 else x.called) ≡ x.called =
+        if-false (ltb (scheme_count b) x.called) 0 x.called (le-ltb (scheme_count b) x.called c) in
         ap₂ (λ (n : ℕ) (y : Label). record {
-          kind = pick (ltb 2 y.kind) 0 y.kind;
-          called = pick (ltb n y.called) 0 y.called;
+          kind = if ltb 2 y.kind then 0 else y.kind;
+          called = if ltb n y.called then 0 else y.called;
           owner = y.owner;
           result = y.result;
           mask = y.mask;
@@ -109,7 +109,7 @@ module _ (b : List ℕ) (ok : table_verdict b ≡ fine) where
 
     -- only a row of a function call's label has a function bit other than 2
     bit-own : (l f : ℕ) → l ≤ last_label b → first_frame b l ≤ f → f < first_frame b (l + 1)
-        → pick (eqb (table_label (noted_table b) l).kind 2) (field b f 6) 2 ≡ field b f 6
+        → (if eqb (table_label (noted_table b) l).kind 2 then field b f 6 else 2) ≡ field b f 6
     bit-own l f m h g = go (ℕ_discrete (table_label (noted_table b) l).kind 2)
       where
         k : ℕ
@@ -138,11 +138,11 @@ module _ (b : List ℕ) (ok : table_verdict b ≡ fine) where
         two n (yes z) = absurd (n (sym kind ∙ sound.function z))
         two n (no z) = omega (arith, sound.bits, ap (λ (r : Row). r.bit) row)
 
-        go : Dec ((table_label (noted_table b) l).kind ≡ 2) → pick (eqb (table_label (noted_table b) l).kind 2) (field b f 6) 2
+        go : Dec ((table_label (noted_table b) l).kind ≡ 2) → (if eqb (table_label (noted_table b) l).kind 2 then field b f 6 else 2)
             ≡ field b f 6
-        go (yes e) = yes-pick (eqb (table_label (noted_table b) l).kind 2) (field b f 6) 2 (eq-eqb (table_label (noted_table b) l).kind 2 e)
+        go (yes e) = if-true (eqb (table_label (noted_table b) l).kind 2) (field b f 6) 2 (eq-eqb (table_label (noted_table b) l).kind 2 e)
         go (no e) =
-            no-pick (eqb (table_label (noted_table b) l).kind 2) (field b f 6) 2 (ne_eqb (table_label (noted_table b) l).kind 2 e)
+            if-false (eqb (table_label (noted_table b) l).kind 2) (field b f 6) 2 (ne_eqb (table_label (noted_table b) l).kind 2 e)
             ∙ sym (two e (dec_lt (nth_row (decoded_image b) k).bit 2))
 
     row-own : (l f : ℕ) → l ≤ last_label b → first_frame b l ≤ f → f < first_frame b (l + 1) → row_on (noted_table b) l f ≡ row_in_frame b f
@@ -150,8 +150,8 @@ module _ (b : List ℕ) (ok : table_verdict b ≡ fine) where
         let e₁ : l ≡ field b f 1 = sym (first-own b ok bytes l f h g) in
         let e₂ : pair_at (noted_table b) f 2 ≡ pair_at b f 2 = noted-pair b f 2 (omega arith) (omega arith) in
         let e₄ : pair_at (noted_table b) f 4 ≡ pair_at b f 4 = noted-pair b f 4 (omega arith) (omega arith) in
-        let e₆ : pick (eqb (table_label (noted_table b) l).kind 2) (field (noted_table b) f 6) 2 ≡ field b f 6 =
-        ap (λ (n : ℕ). pick (eqb (table_label (noted_table b) l).kind 2) n 2) (noted-late b f 6 (omega arith) (omega arith))
+        let e₆ : (if eqb (table_label (noted_table b) l).kind 2 then field (noted_table b) f 6 else 2) ≡ field b f 6 =
+        ap (λ (n : ℕ). (if eqb (table_label (noted_table b) l).kind 2 then n else 2)) (noted-late b f 6 (omega arith) (omega arith))
         ∙ bit-own l f m h g in
         let e₇ : field (noted_table b) f 7 ≡ field b f 7 = noted-late b f 7 (omega arith) (omega arith) in
         λ j. record { from = e₁ j; care = e₂ j; values = e₄ j; bit = e₆ j; next = e₇ j }

@@ -1,4 +1,5 @@
 -- The image that a table holds, label by label and entry by entry, and which values the fields of a label can have.
+use Rattle.std.proofs.Common.{if◌then◌else◌}
 use Prim.Native.Nat.{ℕ, zero, suc, ◌+◌, ◌-◌, ◌≤◌, ◌<◌}
 use mathlib.Core.Bool.{Bool, true, false, ◌||◌}
 use mathlib.Core.Path.{◌≡◌, refl, sym, ◌∙◌, ap, subst}
@@ -10,9 +11,8 @@ use native.Mathlib.Omega.{arith}
 use lib.Dec.{ltb, eqb}
 use lib.ListN.{length, get_or, get_or-eq_default}
 use borrow.Author.Tests.{lt-ltb, le-ltb, ltb-false, eqb-false}
-use Rattle.words.specs.lists.Pick.{pick}
 use Rattle.words.specs.lists.Numbers.{range}
-use Rattle.words.proofs.lists.Tests.{or_l, or_r, yes-pick, no-pick, cases, split}
+use Rattle.words.proofs.lists.Tests.{or_l, or_r, if-true, if-false, cases, split}
 use Rattle.words.proofs.lists.Ranges.{length-map-range, get_or-map-range}
 use Rattle.image.specs.Image.{Label, no_label}
 use Rattle.image.specs.Decode.{scheme_count, last_label, row_count, handler_in, entry_in, label_in}
@@ -66,10 +66,10 @@ module _ (b : List ℕ) where
   handler-at = refl
 
   pub label-on : (l : ℕ) → l ≤ last_label b → table_label b l ≡ label_on b l
-  label-on l h = no-pick (ltb (last_label b) l) no_label (label_on b l) (le-ltb (last_label b) l h)
+  label-on l h = if-false (ltb (last_label b) l) no_label (label_on b l) (le-ltb (last_label b) l h)
 
   pub label-above : (l : ℕ) → last_label b < l → table_label b l ≡ no_label
-  label-above l h = yes-pick (ltb (last_label b) l) no_label (label_on b l) (lt-ltb (last_label b) l h)
+  label-above l h = if-true (ltb (last_label b) l) no_label (label_on b l) (lt-ltb (last_label b) l h)
 
   pub label-at : (l : ℕ) → get_or (table_image b).labels l no_label ≡ table_label b l
   unfolding table_image
@@ -90,12 +90,12 @@ module _ (b : List ℕ) where
       get_or-map-range (entry_in b) 0 1 (scheme_count b) (h - 1) (omega (arith, (counts-told b e).first)) ∙ ap (entry_in b) (omega arith)
 
 -- ---- which values the fields have
-clipped : (most x : ℕ) → pick (ltb most x) 0 x ≤ most
+clipped : (most x : ℕ) → (if ltb most x then 0 else x) ≤ most
 clipped most x = go (cases (ltb most x))
   where
-    go : (ltb most x ≡ true) ⊎ (ltb most x ≡ false) → pick (ltb most x) 0 x ≤ most
-    go (inl e) = let z : pick (ltb most x) 0 x ≡ 0 = yes-pick (ltb most x) 0 x e in omega arith
-    go (inr e) = let z : pick (ltb most x) 0 x ≡ x = no-pick (ltb most x) 0 x e in omega (arith, ltb-false most x e)
+    go : (ltb most x ≡ true) ⊎ (ltb most x ≡ false) → (if ltb most x then 0 else x) ≤ most
+    go (inl e) = let z : (if ltb most x then 0 else x) ≡ 0 = if-true (ltb most x) 0 x e in omega arith
+    go (inr e) = let z : (if ltb most x then 0 else x) ≡ x = if-false (ltb most x) 0 x e in omega (arith, ltb-false most x e)
 
 -- of label l in an image of n schemes
 pub record LabelValues (n l : ℕ) (x : Label) : Type 0 where

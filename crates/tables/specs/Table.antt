@@ -1,6 +1,5 @@
 -- The image that any bytes hold when they are taken for a prepared table; refusal 11 of such bytes.
-use Rattle.std.specs.Prelude.{ℕ, zero, suc, ◌+◌, ◌*◌, ◌-◌, min, Bool, ◌||◌, List, map, ltb, eqb}
-use Rattle.words.specs.lists.Pick.{pick}
+use Rattle.std.specs.Prelude.{ℕ, zero, suc, ◌+◌, ◌*◌, ◌-◌, min, Bool, ◌||◌, List, map, ltb, eqb, if◌then◌else◌}
 use Rattle.words.specs.lists.Numbers.{range}
 use Rattle.words.specs.lists.Sequences.{concat_map}
 use Rattle.text.specs.frames.Frame.{size, field, pair_at}
@@ -22,8 +21,8 @@ abbrev pub label_on : List ℕ → ℕ → Label
 label_on b zero = home_label
 label_on b (suc zero) = return_label
 label_on b (suc (suc l)) = let x = label_in b (suc (suc l)) in record {
-  kind = pick (ltb FUNCTION_CALL x.kind) PLAIN x.kind;
-  called = pick (ltb (scheme_count b) x.called) 0 x.called;
+  kind = if ltb FUNCTION_CALL x.kind then PLAIN else x.kind;
+  called = if ltb (scheme_count b) x.called then 0 else x.called;
   owner = x.owner;
   result = x.result;
   mask = x.mask;
@@ -31,7 +30,7 @@ label_on b (suc (suc l)) = let x = label_in b (suc (suc l)) in record {
 
 -- label l of the image; one above M holds nothing
 abbrev pub table_label : List ℕ → ℕ → Label
-table_label b l = pick (ltb (last_label b) l) no_label (label_on b l)
+table_label b l = if ltb (last_label b) l then no_label else label_on b l
 
 -- the frame noted in that of label l, at which its rows end: those of the next label begin there, and none stands past the table
 abbrev pub noted_in : List ℕ → ℕ → ℕ
@@ -49,7 +48,7 @@ row_on b l f = record {
   from = l;
   care = pair_at b f CARE;
   values = pair_at b f VALUES;
-  bit = pick (eqb (table_label b l).kind FUNCTION_CALL) (field b f FUNCTION_BIT) NO_BIT;
+  bit = if eqb (table_label b l).kind FUNCTION_CALL then field b f FUNCTION_BIT else NO_BIT;
   next = field b f NEXT;
 }
 

@@ -1,5 +1,6 @@
 -- A function's label takes its row for bit 0 if nothing writes 1 to the bit of the number called meanwhile:
 -- from the call on the bit is 0, and the label stays in its place under the top, until the call's own return.
+use Rattle.std.proofs.Common.{if◌then◌else◌}
 use Prim.Native.Nat.{ℕ, zero, suc, ◌+◌, ◌-◌, ◌≤◌, ◌<◌}
 use mathlib.Core.Bool.{Bool, true, false, ◌&&◌}
 use mathlib.Core.Path.{◌≡◌, refl, ap, ◌∙◌, sym, subst}
@@ -9,7 +10,6 @@ use lib.ListN.{length, get_or-eq_default}
 use lib.Seq.{get_or-set_other}
 use native.Mathlib.Omega.{arith}
 use borrow.Author.Tests.{eqb-true, eqb-false, eq-eqb, lt-leb}
-use Rattle.words.specs.lists.Pick.{pick}
 use Rattle.words.proofs.lists.Tests.{no_both, or_l, or_cases, and_l, and_r, and-true, and-false, split}
 use Rattle.results.specs.Results.{Results, result_of, with_result, cleared_results}
 use Rattle.bindings.specs.Binding.{server_of}
@@ -40,8 +40,8 @@ Cleared h (stopped n) = Unit {0}
 pub call-clears : CallClears
 unfolding CallClears tick
 call-clears i s call w m code t e =
-    subst (λ (r : Bool). result_of (pick r i.handler h) t.bits ≡ false) (sym (ap (λ (c : Bool). c && leb s.size s.depth) call))
-    (subst (Cleared (pick (leb s.size s.depth) i.handler h)) e (go (or_cases (eqb x.kind 1) (eqb x.kind 2) call)))
+    subst (λ (r : Bool). result_of (if r then i.handler else h) t.bits ≡ false) (sym (ap (λ (c : Bool). c && leb s.size s.depth) call))
+    (subst (Cleared (if leb s.size s.depth then i.handler else h)) e (go (or_cases (eqb x.kind 1) (eqb x.kind 2) call)))
   where
     x : Label
     x = label_at i (top_of s)
@@ -52,17 +52,17 @@ call-clears i s call w m code t e =
     b : Results
     b = with_result x.result (number_at s (s.depth - 1)) s.bits
 
-    drops : (m : ℕ) (r : Bool) → Cleared i.handler (pick r (stopped 17)
-        (finished m 96 (state_alone s (entry_at i i.handler) i.handler (cleared_results i.handler b))))
+    drops : (m : ℕ) (r : Bool) → Cleared i.handler (if r then stopped 17
+        else finished m 96 (state_alone s (entry_at i i.handler) i.handler (cleared_results i.handler b)))
     drops m true = tt
     drops m false = cleared-own i.handler b
 
-    pushes : (m code : ℕ) (r : Bool) → Cleared (pick r i.handler h) (pushed_tick i s m code h (server_of s.serving h) b r)
+    pushes : (m code : ℕ) (r : Bool) → Cleared (if r then i.handler else h) (pushed_tick i s m code h (server_of s.serving h) b r)
     pushes m code true = drops m (is_full_stack_kept i s)
     pushes m code false = cleared-own h b
 
     go : (eqb x.kind 1 ≡ true) ⊎ (eqb x.kind 2 ≡ true)
-        → Cleared (pick (leb s.size s.depth) i.handler h) (tick_by i s w (top_of s) x b (tick_kind x.kind))
+        → Cleared (if leb s.size s.depth then i.handler else h) (tick_by i s w (top_of s) x b (tick_kind x.kind))
     go (inl p) = rw (eqb-true x.kind 1 p) (pushes x.mask (16 + h) (leb s.size s.depth))
     go (inr p) = rw (eqb-true x.kind 2 p) (pushes x.mask (64 + h) (leb s.size s.depth))
 
@@ -82,8 +82,8 @@ drops i s full w m code t e = subst (Dropped i x s) e
     b : Results
     b = with_result x.result (number_at s (s.depth - 1)) s.bits
 
-    dropped : (r : Bool) → is_full_stack_kept i s ≡ r → Dropped i x s (pick r (stopped 17)
-        (finished x.mask 96 (state_alone s (entry_at i i.handler) i.handler (cleared_results i.handler b))))
+    dropped : (r : Bool) → is_full_stack_kept i s ≡ r → Dropped i x s (if r then stopped 17
+        else finished x.mask 96 (state_alone s (entry_at i i.handler) i.handler (cleared_results i.handler b)))
     dropped true q = tt
     dropped false q = record {
       mask = refl;
@@ -239,7 +239,7 @@ module _ (i : Image) (sound : SoundImage i) where
         (return-is (top_of u) k)
         ∙ ap (popped_tick i u v 0 u.bits) (lt-leb u.depth 1 (omega (arith, f.some)))
         ∙ ap (λ (l : ℕ). return_tick u (row_leads i u.bits l v)) (ap (place_at u) p ∙ y.label)
-        ∙ ap (λ (t : Bool). return_tick u (lead_of (best_row (top_of s) v (pick t 1 0) 0 i.rows))) y.unset
+        ∙ ap (λ (t : Bool). return_tick u (lead_of (best_row (top_of s) v (if t then 1 else 0) 0 i.rows))) y.unset
 
 pub zero_row : ZeroRow
 unfolding ZeroRow

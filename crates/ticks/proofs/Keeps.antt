@@ -1,4 +1,5 @@
 -- On a sound image a tick keeps a fitting state fitting, however it ends.
+use Rattle.std.proofs.Common.{if◌then◌else◌}
 use Prim.Native.Nat.{ℕ, zero, suc, ◌+◌, ◌-◌, ◌≤◌, ◌<◌}
 use mathlib.Core.Bool.{Bool, true, false, ◌&&◌, ◌||◌, not}
 use mathlib.Core.Path.{◌≡◌, refl, ap, ap₂, ◌∙◌, sym, subst}
@@ -8,7 +9,6 @@ use lib.ListN.{length, get_or-replicate}
 use lib.Seq.{get_or-set_other}
 use native.Mathlib.Omega.{arith}
 use borrow.Author.Tests.{eqb-false, eq-eqb, leb-true, leb-false}
-use Rattle.words.specs.lists.Pick.{pick}
 use Rattle.words.proofs.lists.Ranges.{get_or-range}
 use Rattle.words.proofs.lists.Tests.{and-true}
 use Rattle.results.specs.Results.{Results, with_result, cleared_results}
@@ -67,8 +67,8 @@ module _ (i : Image) (sound : SoundImage i) where
         h = i.handler
 
         go : (t : Bool) → eqb i.handler 0 ≡ t → (r : Bool)
-            → Keeps (pick (t || r) (stopped 17) (finished m 96 (state_alone s (entry_at i i.handler) i.handler
-            (cleared_results i.handler b))))
+            → Keeps (if t || r then stopped 17 else finished m 96 (state_alone s (entry_at i i.handler) i.handler
+            (cleared_results i.handler b)))
         go true e r = tt
         go false e true = tt
         go false e false =
@@ -163,10 +163,10 @@ module _ (i : Image) (sound : SoundImage i) where
   own-serves : (n h : ℕ) → 2 ≤ h → h < 17 → is_badly_served i (fresh n) h ≡ false
   own-serves n h a b =
       let e : server_of own_binding h ≡ h = get_or-range 1 16 (h - 1) 0 (omega arith) ∙ omega arith in
-      ap (λ (k : ℕ). not (pick (leb h (length i.entries) && not (eqb h i.handler)) (is_callable i k) (eqb k h))) e
+      ap (λ (k : ℕ). not (if leb h (length i.entries) && not (eqb h i.handler) then is_callable i k else eqb k h)) e
       ∙ go (leb h (length i.entries)) refl (eqb h i.handler)
     where
-      go : (p : Bool) → leb h (length i.entries) ≡ p → (q : Bool) → not (pick (p && not q) (is_callable i h) (eqb h h)) ≡ false
+      go : (p : Bool) → leb h (length i.entries) ≡ p → (q : Bool) → not (if p && not q then is_callable i h else eqb h h) ≡ false
       go true e true = ap not (eq-eqb h h refl)
       go true e false = ap not (range-callable i h a (leb-true h (length i.entries) e))
       go false e q = ap not (eq-eqb h h refl)

@@ -1,4 +1,5 @@
 -- On a sound image: labels by their kind, and where the rows and the entry of a scheme lead.
+use Rattle.std.proofs.Common.{if◌then◌else◌}
 use Prim.Native.Nat.{ℕ, zero, suc, ◌-◌, ◌≤◌, ◌<◌}
 use mathlib.Core.Bool.{Bool, true, false, ◌&&◌, ◌||◌, not}
 use mathlib.Core.Path.{◌≡◌, refl, ap, ◌∙◌, sym, subst}
@@ -7,7 +8,6 @@ use lib.Dec.{eqb}
 use lib.ListN.{length}
 use native.Mathlib.Omega.{arith}
 use borrow.Author.Tests.{eqb-true, eqb-false, eq-eqb, ne_eqb}
-use Rattle.words.specs.lists.Pick.{pick}
 use Rattle.words.proofs.lists.Tests.{or_cases, or-true-l, or_true_r, and_l, and_r, and-true, not-true, not-false}
 use Rattle.image.specs.Image.{Image, Label, Row, nth_row}
 use Rattle.image.specs.inner.Sound.{end_of, Reaches, SoundImage}
@@ -80,7 +80,7 @@ module _ (i : Image) (sound : SoundImage i) where
       go (numbered_sort z q) = omega arith
 
   end-other : (h : ℕ) → 2 ≤ h → end_of h ≡ 1
-  end-other h l = ap (λ (t : Bool). pick t 0 1) (ne_eqb h 1 (λ p. omega arith))
+  end-other h l = ap (λ (t : Bool). (if t then 0 else 1)) (ne_eqb h 1 (λ p. omega arith))
 
   -- what a scheme of 2 and up may lead to may stand above a call that it serves
   abbrev pub is_able_to_stand_over : ℕ → ℕ → Bool

@@ -1,11 +1,11 @@
 -- What every tick keeps, on any image and from any state, and the numbers that stop one.
+use Rattle.std.proofs.Common.{if◌then◌else◌}
 use Prim.Native.Nat.{ℕ, zero, suc, ◌+◌, ◌-◌, ◌≤◌}
 use mathlib.Core.Path.{◌≡◌, refl, ◌∙◌}
 use mathlib.Core.Bool.{Bool, true, false}
 use native.Mathlib.Omega.{arith}
 use lib.Dec.{leb, eqb}
 use lib.ListN.{length, set, length-set}
-use Rattle.words.specs.lists.Pick.{pick}
 use Rattle.results.specs.Results.{Results, with_result, cleared_results}
 use Rattle.bindings.specs.Binding.{server_of}
 use Rattle.image.specs.Layout.{tick_kind}
@@ -20,7 +20,7 @@ use Rattle.ticks.specs.Tick.{is_full_stack_kept, full_tick, pushed_tick, popped_
 length-result : (r h : ℕ) (b : Results) → length (with_result r h b) ≡ length b
 length-result r h b = go (eqb r 0)
   where
-    go : (t : Bool) → length (pick t b (set b (h - 1) (eqb r 2))) ≡ length b
+    go : (t : Bool) → length (if t then b else set b (h - 1) (eqb r 2)) ≡ length b
     go true = refl
     go false = length-set b (h - 1) (eqb r 2)
 
@@ -84,8 +84,8 @@ module _ (i : Image) (s : State) where
   full-normal : (m : ℕ) (b : Results) → length b ≡ length s.bits → Normal s (full_tick i s m b)
   full-normal m b e = go (is_full_stack_kept i s)
     where
-      go : (t : Bool) → Normal s (pick t (stopped 17)
-          (finished m 96 (state_alone s (entry_at i i.handler) i.handler (cleared_results i.handler b))))
+      go : (t : Bool) → Normal s (if t then stopped 17
+          else finished m 96 (state_alone s (entry_at i i.handler) i.handler (cleared_results i.handler b)))
       go true = (omega arith, omega arith)
       go false = alone-same (cleared_results i.handler b) (length-set b (i.handler - 1) false ∙ e) (entry_at i i.handler) i.handler
 

@@ -1,4 +1,5 @@
 -- Which bit decides among the rows of a label, and where a row leads.
+use Rattle.std.proofs.Common.{if◌then◌else◌}
 use mathlib.Core.Path.{◌≡◌, refl, sym, ◌∙◌, ap}
 use mathlib.Core.List.{List}
 use Prim.Native.Nat.{ℕ, ◌≤◌, ◌<◌}
@@ -6,8 +7,7 @@ use native.Mathlib.Omega.{arith}
 use native.Mathlib.Decide.{ℕ_discrete}
 use lib.Dec.{eqb}
 use borrow.Author.Tests.{eq-eqb, ne_eqb}
-use Rattle.words.specs.lists.Pick.{pick}
-use Rattle.words.proofs.lists.Tests.{yes-pick, no-pick, bit-low}
+use Rattle.words.proofs.lists.Tests.{if-true, if-false, bit-low}
 use Rattle.results.specs.Results.{Results, result_of}
 use Rattle.image.specs.Image.{Label}
 use Rattle.tables.specs.Table.{table_label}
@@ -20,11 +20,11 @@ use Rattle.ticks.specs.inner.TickContracts.{bit_of}
 -- ---- the bit that decides among the rows of label l, read as z, where the result of number h is looked at
 module _ (b : List ℕ) (l : ℕ) (z : declared.Label) (read : as_label z ≡ table_label b l) (bs : Results)
     (h bit : ℕ) (e : bit ≡ bit_of z.kind h bs) where
-  pub bit-called : z.kind ≡ 2 → bit ≡ pick (result_of h bs) 1 0
-  bit-called k = e ∙ yes-pick (eqb z.kind 2) (pick (result_of h bs) 1 0) 2 (eq-eqb z.kind 2 k)
+  pub bit-called : z.kind ≡ 2 → bit ≡ (if result_of h bs then 1 else 0)
+  bit-called k = e ∙ if-true (eqb z.kind 2) (if result_of h bs then 1 else 0) 2 (eq-eqb z.kind 2 k)
 
   bit-none : (z.kind ≡ 2 → ⊥) → bit ≡ 2
-  bit-none k = e ∙ no-pick (eqb z.kind 2) (pick (result_of h bs) 1 0) 2 (ne_eqb z.kind 2 k)
+  bit-none k = e ∙ if-false (eqb z.kind 2) (if result_of h bs then 1 else 0) 2 (ne_eqb z.kind 2 k)
 
   pub bit-decides : NumberedLabel b l → Deciding b l bit
   bit-decides g = go (ℕ_discrete z.kind 2)

@@ -1,4 +1,5 @@
 -- One tick on any table whose header holds: what it is for each kind of the top label, and that it leaves a depth of 1 to Σ.
+use Rattle.std.proofs.Common.{if◌then◌else◌}
 use mathlib.Core.Path.{◌≡◌, refl, sym, ◌∙◌, ap, subst}
 use mathlib.Core.Bool.{Bool, true, false}
 use mathlib.Core.List.{List}
@@ -8,7 +9,6 @@ use lib.Dec.{leb}
 use lib.ListN.{get_or, set}
 use lib.Seq.{get_or-set_same}
 use borrow.Author.Tests.{le-leb, lt-leb, leb-false}
-use Rattle.words.specs.lists.Pick.{pick}
 use Rattle.results.specs.Results.{Results, with_result, cleared_results}
 use Rattle.bindings.specs.Binding.{server_of}
 use Rattle.image.specs.Layout.{tick_kind}
@@ -168,8 +168,8 @@ module _ (b : List ℕ) (s : State) (y : TickAsked b s) where
     full-deep : (m : ℕ) (bs : Results) → KeptDepth (full_tick i s m bs)
     full-deep m bs = go (is_full_stack_kept i s)
       where
-        go : (t : Bool) → KeptDepth (pick t (stopped 17)
-            (finished m 96 (state_alone s (entry_at i i.handler) i.handler (cleared_results i.handler bs))))
+        go : (t : Bool) → KeptDepth (if t then stopped 17
+            else finished m 96 (state_alone s (entry_at i i.handler) i.handler (cleared_results i.handler bs)))
         go true = deep
         go false = record { some = omega arith; most = omega (arith, deep.some, deep.most); small = deep.small }
 

@@ -1,7 +1,6 @@
 -- A call leaves the bit of the number called 0, and a function's label takes its row for bit 0 if nothing writes 1 to that bit between
 -- its call and its return: said of the machine's ticks, on any accepted image.
-use Rattle.std.specs.Prelude.{ℕ, suc, ◌-◌, ◌≤◌, Bool, true, false, ◌&&◌, ◌≡◌, List, leb, eqb}
-use Rattle.words.specs.lists.Pick.{pick}
+use Rattle.std.specs.Prelude.{ℕ, suc, ◌-◌, ◌≤◌, Bool, true, false, ◌&&◌, ◌≡◌, List, leb, eqb, if◌then◌else◌}
 use Rattle.results.specs.Results.{result_of, with_result}
 use Rattle.bindings.specs.Binding.{Binding}
 use Rattle.text.specs.declared.frames.codes.TheConstants.{RETURN_CODE, DROP_CODE}
@@ -27,7 +26,7 @@ unfoldable pub CallClears : Type 0
 CallClears =
     (i : Image) (s : State) → let x = label_at i (top_of s) in
     is_call x ≡ true → (w m code : ℕ) (t : State) → tick i s w ≡ finished m code t
-    → result_of (pick (is_at_full_call i s) i.handler x.called) t.bits ≡ false
+    → result_of (if is_at_full_call i s then i.handler else x.called) t.bits ≡ false
 
 -- a drop emits the caller's mask with code 60 hexadecimal and leaves the handler's entry alone in the places, by its own number; the
 -- handler's bit is then 0, and every other bit, that of the number called too, is as the caller's result left it; who serves stays

@@ -1,6 +1,5 @@
 -- One tick of the machine over an image; refusals 17 and 18.
-use Rattle.std.specs.Prelude.{ℕ, suc, ◌+◌, ◌-◌, Bool, true, false, ◌||◌, leb, eqb}
-use Rattle.words.specs.lists.Pick.{pick}
+use Rattle.std.specs.Prelude.{ℕ, suc, ◌+◌, ◌-◌, Bool, true, false, ◌||◌, leb, eqb, if◌then◌else◌}
 use Rattle.results.specs.Results.{Results, result_of, with_result, cleared_results}
 use Rattle.bindings.specs.Binding.{server_of}
 use Rattle.text.specs.declared.frames.codes.TheConstants.{PLAIN_CODE, RETURN_CODE, HOME_CODE, OPERATION_CALL_CODE, FUNCTION_CALL_CODE}
@@ -20,7 +19,7 @@ top_of s = place_at s (s.depth - 1)
 
 -- the result bit of the number that label l calls
 abbrev pub called_bit : Image → Results → ℕ → ℕ
-called_bit i b l = pick (result_of (label_at i l).called b) 1 0
+called_bit i b l = if result_of (label_at i l).called b then 1 else 0
 
 -- the row that label l takes, with its number among the rows of the image; and where it leads
 abbrev pub choice : Image → Results → ℕ → ℕ → Choice
@@ -57,8 +56,8 @@ is_full_stack_kept i s = eqb i.handler 0 || is_of_handler i (place_at s 0)
 -- a call at depth Σ is refused where the stack is kept, and nothing is done; else all places are dropped, and the handler starts at the
 -- bottom with its bit cleared
 abbrev pub full_tick : Image → State → ℕ → Results → MachineTick
-full_tick i s m b = pick (is_full_stack_kept i s) (stopped FULL)
-    (finished m DROP_CODE (state_alone s (entry_at i i.handler) i.handler (cleared_results i.handler b)))
+full_tick i s m b = if is_full_stack_kept i s then stopped FULL
+    else finished m DROP_CODE (state_alone s (entry_at i i.handler) i.handler (cleared_results i.handler b))
 
 -- a call of number h, which scheme k serves, at depth Σ as above: else the entry of k is put above the top and the bit of h cleared
 abbrev pub pushed_tick : Image → State → ℕ → ℕ → ℕ → ℕ → Results → Bool → MachineTick

@@ -10,10 +10,9 @@ use native.Mathlib.Omega.{arith}
 use lib.Dec.{ltb}
 use lib.ListN.{length, length-append}
 use borrow.Author.Tests.{lt-ltb, le-ltb}
-use Rattle.words.specs.lists.Pick.{pick}
 use Rattle.words.specs.lists.Numbers.{range, count}
 use Rattle.words.specs.lists.Sequences.{concat_map, filter, map_from, written}
-use Rattle.words.proofs.lists.Tests.{yes-pick, no-pick}
+use Rattle.words.proofs.lists.Tests.{if-true, if-false}
 use Rattle.words.proofs.lists.Counts.{count-suc, count-snoc}
 use Rattle.words.proofs.lists.Ranges.{map_from-cons, filter-yes, filter-no}
 use Rattle.words.proofs.lists.Joins.{concat-cons, concat-map, concat-append, length-concat-range}
@@ -21,7 +20,7 @@ use Rattle.words.proofs.lists.Written.{written-more, written-front, written-befo
 use Rattle.text.specs.frames.Frame.{size}
 use Rattle.text.specs.frames.Verdict.{fine, when}
 use Rattle.text.specs.frames.Answer.{GivesBuffer}
-use Rattle.std.proofs.Common.{Option, None, Some, Ok, Err}
+use Rattle.std.proofs.Common.{Option, None, Some, Ok, Err, if◌then◌else◌, cond}
 use Rattle.std.proofs.lemmas.Option.{none-some}
 use Rattle.text.specs.declared.frames.refusals.Refusal.{Refusal}
 use Rattle.text.specs.declared.frames.refusals.Refusal.TheVariants.{ManyRows, NoRoom}
@@ -71,8 +70,8 @@ module _ (c : Chart) where
           (map (stop_label c) (filter (is_numbered c) (range i (suc n)))))
           ≡ concat_map (node_label_bytes c) (range i (suc n))
       go true e ih =
-          let p : pick {A = ℕ} (is_numbered c (0 + i)) 1 0 ≡ 1 =
-          ap (λ (j : ℕ). pick {A = ℕ} (is_numbered c j) 1 0) (zero-add i) ∙ yes-pick (is_numbered c i) 1 0 e in
+          let p : cond {A = ℕ} (is_numbered c (0 + i)) 1 0 ≡ 1 =
+          ap (λ (j : ℕ). cond {A = ℕ} (is_numbered c j) 1 0) (zero-add i) ∙ if-true (is_numbered c i) 1 0 e in
           let s : suc (2 + count (is_numbered c) 0 i) ≡ 2 + count (is_numbered c) 0 (suc i) =
           omega (arith, count-snoc (is_numbered c) 0 i, p) in
           ap (λ (vs : List ℕ). frames_bytes (map_from label_frame (2 + count (is_numbered c) 0 i) (map (stop_label c) vs)))
@@ -83,19 +82,19 @@ module _ (c : Chart) where
           (map_from label_frame (suc (2 + count (is_numbered c) 0 i)) (map (stop_label c) (filter (is_numbered c) (range (suc i) n))))
           ∙ ap₂ (λ (x y : List ℕ). x ++ y)
           (ap (λ (l : ℕ). label_frame l (stop_label c i)) (sym (label-own c i e))
-          ∙ sym (yes-pick (is_numbered c i) (label_frame (label c i) (stop_label c i)) [] e))
+          ∙ sym (if-true (is_numbered c i) (label_frame (label c i) (stop_label c i)) [] e))
           (ap (λ (l : ℕ). frames_bytes (map_from label_frame l (map (stop_label c) (filter (is_numbered c) (range (suc i) n))))) s ∙ ih)
           ∙ sym (concat-cons (node_label_bytes c) i (range (suc i) n))
       go false e ih =
-          let p : pick {A = ℕ} (is_numbered c (0 + i)) 1 0 ≡ 0 =
-          ap (λ (j : ℕ). pick {A = ℕ} (is_numbered c j) 1 0) (zero-add i) ∙ no-pick (is_numbered c i) 1 0 e in
+          let p : cond {A = ℕ} (is_numbered c (0 + i)) 1 0 ≡ 0 =
+          ap (λ (j : ℕ). cond {A = ℕ} (is_numbered c j) 1 0) (zero-add i) ∙ if-false (is_numbered c i) 1 0 e in
           let s : 2 + count (is_numbered c) 0 i ≡ 2 + count (is_numbered c) 0 (suc i) = omega (arith, count-snoc (is_numbered c) 0 i, p) in
           ap (λ (vs : List ℕ). frames_bytes (map_from label_frame (2 + count (is_numbered c) 0 i) (map (stop_label c) vs)))
           (filter-no (is_numbered c) i (range (suc i) n) e)
           ∙ ap (λ (l : ℕ). frames_bytes (map_from label_frame l (map (stop_label c) (filter (is_numbered c) (range (suc i) n))))) s ∙ ih
           ∙ sym (concat-cons (node_label_bytes c) i (range (suc i) n)
           ∙ ap (λ (x : List ℕ). x ++ concat_map (node_label_bytes c) (range (suc i) n))
-          (no-pick (is_numbered c i) (label_frame (label c i) (stop_label c i)) [] e))
+          (if-false (is_numbered c i) (label_frame (label c i) (stop_label c i)) [] e))
 
   none_before : 2 + count (is_numbered c) 0 0 ≡ 2
   unfolding count
@@ -161,15 +160,15 @@ module _ (c : Chart) where
           → length (concat_map (node_label_bytes c) (range i (suc n))) ≡ 10 * count (is_numbered c) i (suc n)
       go true e ih =
           let p : length (node_label_bytes c i) ≡ 10 =
-          ap (λ (x : List ℕ). length x) (yes-pick (is_numbered c i) (label_frame (label c i) (stop_label c i)) [] e) in
-          let q : pick {A = ℕ} (is_numbered c i) 1 0 ≡ 1 = yes-pick (is_numbered c i) 1 0 e in
+          ap (λ (x : List ℕ). length x) (if-true (is_numbered c i) (label_frame (label c i) (stop_label c i)) [] e) in
+          let q : cond {A = ℕ} (is_numbered c i) 1 0 ≡ 1 = if-true (is_numbered c i) 1 0 e in
           ap (λ (x : List ℕ). length x) (concat-cons (node_label_bytes c) i (range (suc i) n))
           ∙ length-append (node_label_bytes c i) (concat_map (node_label_bytes c) (range (suc i) n))
           ∙ omega (arith, p, q, ih, count-suc (is_numbered c) i n)
       go false e ih =
           let p : length (node_label_bytes c i) ≡ 0 =
-          ap (λ (x : List ℕ). length x) (no-pick (is_numbered c i) (label_frame (label c i) (stop_label c i)) [] e) in
-          let q : pick {A = ℕ} (is_numbered c i) 1 0 ≡ 0 = no-pick (is_numbered c i) 1 0 e in
+          ap (λ (x : List ℕ). length x) (if-false (is_numbered c i) (label_frame (label c i) (stop_label c i)) [] e) in
+          let q : cond {A = ℕ} (is_numbered c i) 1 0 ≡ 0 = if-false (is_numbered c i) 1 0 e in
           ap (λ (x : List ℕ). length x) (concat-cons (node_label_bytes c) i (range (suc i) n))
           ∙ length-append (node_label_bytes c i) (concat_map (node_label_bytes c) (range (suc i) n))
           ∙ omega (arith, p, q, ih, count-suc (is_numbered c) i n)
@@ -264,17 +263,17 @@ module _ (c : Chart) (before room : ℕ) where
   short = ltb room (23 * (before + length (rows c)))
 
   pub refusal-rows : 1024 < length (rows c) → Some ManyRows ≡ size_refusal c before room
-  refusal-rows h = sym (yes-pick many (Some ManyRows) (pick short (Some NoRoom) None) (lt-ltb 1024 (length (rows c)) h))
+  refusal-rows h = sym (if-true many (Some ManyRows) (if short then Some NoRoom else None) (lt-ltb 1024 (length (rows c)) h))
 
   module _ (few : length (rows c) ≤ 1024) where
-    rest : size_refusal c before room ≡ pick short (Some NoRoom) None
-    rest = no-pick many (Some ManyRows) (pick short (Some NoRoom) None) (le-ltb 1024 (length (rows c)) few)
+    rest : size_refusal c before room ≡ (if short then Some NoRoom else None)
+    rest = if-false many (Some ManyRows) (if short then Some NoRoom else None) (le-ltb 1024 (length (rows c)) few)
 
     pub refusal-room : room < 23 * (before + length (rows c)) → Some NoRoom ≡ size_refusal c before room
-    refusal-room h = sym (rest ∙ yes-pick short (Some NoRoom) None (lt-ltb room (23 * (before + length (rows c))) h))
+    refusal-room h = sym (rest ∙ if-true short (Some NoRoom) None (lt-ltb room (23 * (before + length (rows c))) h))
 
     pub refusal-none : 23 * (before + length (rows c)) ≤ room → None ≡ size_refusal c before room
-    refusal-none h = sym (rest ∙ no-pick short (Some NoRoom) None (le-ltb room (23 * (before + length (rows c))) h))
+    refusal-none h = sym (rest ∙ if-false short (Some NoRoom) None (le-ltb room (23 * (before + length (rows c))) h))
 
 module _ (c : Chart) (old : List ℕ) (highest own : ℕ) (found : Option Refusal) (eh : highest ≡ schemes c)
     (eo : own ≡ count (is_numbered c) 0 (size c)) (e : found ≡ size_refusal c (3 + highest + own) (length old)) where

@@ -1,4 +1,5 @@
 -- The labels of a chart's table: 0 and 1, one from 2 on for each numbered stop, and the entries.
+use Rattle.std.proofs.Common.{if◌then◌else◌}
 use mathlib.Core.Path.{◌≡◌, refl, ◌∙◌, ap, subst}
 use mathlib.Core.Logic.{◌⊎◌, inl, inr}
 use mathlib.Core.Bool.{Bool, true, false, ◌&&◌, not}
@@ -9,9 +10,8 @@ use native.Mathlib.Omega.{arith}
 use lib.ListN.{length, get_or, length-map}
 use lib.Dec.{eqb}
 use borrow.Author.Tests.{eq-eqb}
-use Rattle.words.specs.lists.Pick.{pick}
 use Rattle.words.specs.lists.Numbers.{count}
-use Rattle.words.proofs.lists.Tests.{yes-pick, and_no, split}
+use Rattle.words.proofs.lists.Tests.{if-true, and_no, split}
 use Rattle.words.proofs.lists.Counts.{count-le, count-below, count-apart, count_yes, count-pass, count-miss2}
 use Rattle.words.proofs.lists.Ranges.{length-map-range, get_or-map-range, length-filter, get_or-filter}
 use Rattle.text.specs.frames.Frame.{size}
@@ -34,7 +34,7 @@ pub record Bearer (c : Chart) (n l : ℕ) : Type 0 where
 module _ (c : Chart) where
   pub label_is : (v : ℕ) → is_numbered c v ≡ true → label c v ≡ suc (suc (count (is_numbered c) 0 v))
   unfolding label
-  label_is v e = yes-pick (is_numbered c v) (2 + count (is_numbered c) 0 v) (pick (eqb (scheme c v) 1) 0 1) e ∙ omega arith
+  label_is v e = if-true (is_numbered c v) (2 + count (is_numbered c) 0 v) (if eqb (scheme c v) 1 then 0 else 1) e ∙ omega arith
 
   pub length-labels : length (table c).labels ≡ suc (suc (count (is_numbered c) 0 (size c)))
   unfolding table

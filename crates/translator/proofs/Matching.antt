@@ -1,4 +1,5 @@
 -- Which rows of a label match a word and a bit: of the paths from a node just one does, and it ends where the word leads.
+use Rattle.std.proofs.Common.{if◌then◌else◌}
 use mathlib.Core.Path.{◌≡◌, refl, sym, ◌∙◌, ap, ap₂}
 use mathlib.Core.Logic.{◌⊎◌, inl, inr}
 use mathlib.Core.Bool.{Bool, true, false, ◌&&◌, ◌||◌}
@@ -8,7 +9,6 @@ use native.Mathlib.Omega.{arith}
 use lib.Bits.{bit_and}
 use lib.Dec.{eqb}
 use borrow.Author.Tests.{eq-eqb, ne_eqb}
-use Rattle.words.specs.lists.Pick.{pick}
 use Rattle.words.specs.lists.Sequences.{filter, concat_map}
 use Rattle.words.proofs.lists.Tests.{and-true, cases}
 use Rattle.words.proofs.lists.Ranges.{filter-yes, filter-no, map-append}
@@ -157,7 +157,7 @@ module _ (c : Chart) (a : SoundChart c) (l w f b : ℕ) where
       go (inr s) (inr o) y ih =
           let e : kind c v ≡ 3 = goes_on c v t.entered s in
           let q : arc_taken c w v ≡ arc_taken c values v =
-          ap (λ (x : ℕ). pick (eqb x 0) (next0 c v) (next1 c v)) (g.agrees (argument c v) o) in
+          ap (λ (x : ℕ). (if eqb x 0 then next0 c v else next1 c v)) (g.agrees (argument c v) o) in
           ap (targets l w b) (paths-known n c l f care values v s o)
           ∙ ih care values (arc_taken c values v) (taken-end c a h values v t e) (lower e (arc_taken c values v) q) m g
           ∙ on s (arc_taken c values v) q

@@ -1,5 +1,6 @@
 -- For each numbered stop of a sound chart, every word and every bit just one row matches, and it leads to the label of the stop where the
 -- walk goes.
+use Rattle.std.proofs.Common.{if◌then◌else◌}
 use mathlib.Core.Path.{◌≡◌, refl, sym, ◌∙◌, ap, subst}
 use mathlib.Core.Logic.{◌⊎◌, inl, inr}
 use mathlib.Core.Bool.{Bool, true, false, ◌&&◌, ◌||◌, not}
@@ -11,10 +12,9 @@ use native.Mathlib.Omega.{arith}
 use lib.ListN.{length, get_or, length-map}
 use lib.Dec.{eqb}
 use borrow.Author.Tests.{eqb-true, eqb-false, eq-eqb, ne_eqb}
-use Rattle.words.specs.lists.Pick.{pick}
 use Rattle.words.specs.lists.Numbers.{range}
 use Rattle.words.specs.lists.Sequences.{filter}
-use Rattle.words.proofs.lists.Tests.{and_l, and_r, not-true, yes-pick, no-pick}
+use Rattle.words.proofs.lists.Tests.{and_l, and_r, not-true, if-true, if-false}
 use Rattle.words.proofs.lists.Filters.{concat-only, one_passes}
 use Rattle.words.specs.bits.Word.{bit, is_agreeing}
 use Rattle.words.proofs.bits.BitLaws.{bit-none, bit-cases, Mask, Agree, Clash, mask-none, agree-none, mask-0}
@@ -152,10 +152,10 @@ module _ (c : Chart) (a : SoundChart c) where
 
   -- the rows of the other bit match nothing
   pub row-function : (v w : ℕ) (b : Bool) → v < size c → kind c v ≡ 4
-      → targets (label c v) w (pick b 1 0) (rows c) ≡ label c (by_arc c w (pick b (next1 c v) (next0 c v))) ∷ []
+      → targets (label c v) w (if b then 1 else 0) (rows c) ≡ label c (by_arc c w (if b then next1 c v else next0 c v)) ∷ []
   row-function v w b l k =
-      rows-here c v w (pick b 1 0) l (numbered-stop c v (λ e. omega arith) ∙ stops-other c v (λ e. omega arith) (λ e. omega arith))
-      ∙ ap (targets (label c v) w (pick b 1 0)) (function-rows c v k) ∙ go b
+      rows-here c v w (if b then 1 else 0) l (numbered-stop c v (λ e. omega arith) ∙ stops-other c v (λ e. omega arith) (λ e. omega arith))
+      ∙ ap (targets (label c v) w (if b then 1 else 0)) (function-rows c v k) ∙ go b
     where
       none : (x y : Bool) → (x && (y && false)) ≡ false
       none true true = refl
@@ -168,9 +168,9 @@ module _ (c : Chart) (a : SoundChart c) where
           ap (λ (y : Bool). eqb r.from (label c v) && (is_agreeing w r.care r.values && y)) (ap (λ (y : ℕ). eqb y 2 || eqb y x) g ∙ q)
           ∙ none (eqb r.from (label c v)) (is_agreeing w r.care r.values)
 
-      go : (b : Bool) → targets (label c v) w (pick b 1 0)
+      go : (b : Bool) → targets (label c v) w (if b then 1 else 0)
           (paths_from (size c) c (label c v) 0 0 0 (next0 c v) ++ paths_from (size c) c (label c v) 1 0 0 (next1 c v))
-          ≡ label c (by_arc c w (pick b (next1 c v) (next0 c v))) ∷ []
+          ≡ label c (by_arc c w (if b then next1 c v else next0 c v)) ∷ []
       go false =
           in-first (label c v) w 0 (paths_from (size c) c (label c v) 0 0 0 (next0 c v))
           (paths_from (size c) c (label c v) 1 0 0 (next1 c v)) (label c (by_arc c w (next0 c v)))
@@ -186,40 +186,40 @@ module _ (c : Chart) (a : SoundChart c) where
 -- the stop where the walk goes from the numbered stop v, by a word and, from a function, by the bit of the scheme called
 unfoldable pub onward_stop : Chart → ℕ → Bool → ℕ → ℕ
 onward_stop c w b v =
-    pick (is c 4 v) (by_arc c w (pick b (next1 c v) (next0 c v))) (pick (is c 3 v) (by_word c w v) (by_arc c w (next0 c v)))
+    if is c 4 v then by_arc c w (if b then next1 c v else next0 c v) else if is c 3 v then by_word c w v else by_arc c w (next0 c v)
 
 module _ (c : Chart) (a : SoundChart c) (v w : ℕ) (b : Bool) (l : v < size c) (e : is_numbered c v ≡ true) where
   -- just one row matches, and this is where it leads
-  pub one-row : targets (label c v) w (pick b 1 0) (rows c) ≡ label c (onward_stop c w b v) ∷ []
+  pub one-row : targets (label c v) w (if b then 1 else 0) (rows c) ≡ label c (onward_stop c w b v) ∷ []
   unfolding onward_stop
   one-row = go (ℕ_discrete (kind c v) 4) (ℕ_discrete (kind c v) 3)
     where
-      go : Dec (kind c v ≡ 4) → Dec (kind c v ≡ 3) → targets (label c v) w (pick b 1 0) (rows c) ≡ label c (onward_stop c w b v) ∷ []
+      go : Dec (kind c v ≡ 4) → Dec (kind c v ≡ 3) → targets (label c v) w (if b then 1 else 0) (rows c) ≡ label c (onward_stop c w b v) ∷ []
       go (yes k) x =
           row-function c a v w b l k
           ∙ ap (λ (u : ℕ). label c u ∷ [])
-          (sym (yes-pick (is c 4 v) (by_arc c w (pick b (next1 c v) (next0 c v))) _ (eq-eqb (kind c v) 4 k)))
+          (sym (if-true (is c 4 v) (by_arc c w (if b then next1 c v else next0 c v)) _ (eq-eqb (kind c v) 4 k)))
       go (no n) (yes k) =
-          row-condition c a v w (pick b 1 0) l k (and_l (is_stop c v) (not (is c 1 v)) e)
+          row-condition c a v w (if b then 1 else 0) l k (and_l (is_stop c v) (not (is c 1 v)) e)
           ∙ ap (λ (u : ℕ). label c u ∷ [])
-          (sym (no-pick (is c 4 v) (by_arc c w (pick b (next1 c v) (next0 c v)))
-          (pick (is c 3 v) (by_word c w v) (by_arc c w (next0 c v))) (ne_eqb (kind c v) 4 n)
-          ∙ yes-pick (is c 3 v) (by_word c w v) (by_arc c w (next0 c v)) (eq-eqb (kind c v) 3 k)))
+          (sym (if-false (is c 4 v) (by_arc c w (if b then next1 c v else next0 c v))
+          (if is c 3 v then by_word c w v else by_arc c w (next0 c v)) (ne_eqb (kind c v) 4 n)
+          ∙ if-true (is c 3 v) (by_word c w v) (by_arc c w (next0 c v)) (eq-eqb (kind c v) 3 k)))
       go (no n) (no k) =
-          row-straight c a v w (pick b 1 0) l e n k
+          row-straight c a v w (if b then 1 else 0) l e n k
           ∙ ap (λ (u : ℕ). label c u ∷ [])
-          (sym (no-pick (is c 4 v) (by_arc c w (pick b (next1 c v) (next0 c v)))
-          (pick (is c 3 v) (by_word c w v) (by_arc c w (next0 c v))) (ne_eqb (kind c v) 4 n)
-          ∙ no-pick (is c 3 v) (by_word c w v) (by_arc c w (next0 c v)) (ne_eqb (kind c v) 3 k)))
+          (sym (if-false (is c 4 v) (by_arc c w (if b then next1 c v else next0 c v))
+          (if is c 3 v then by_word c w v else by_arc c w (next0 c v)) (ne_eqb (kind c v) 4 n)
+          ∙ if-false (is c 3 v) (by_word c w v) (by_arc c w (next0 c v)) (ne_eqb (kind c v) 3 k)))
 
   -- so two rows that match are the same row
   pub same_row : (i j : ℕ) → i < length (rows c) → j < length (rows c)
-      → is_matching_row (label c v) w (pick b 1 0) (get_or (rows c) i no_row) ≡ true
-      → is_matching_row (label c v) w (pick b 1 0) (get_or (rows c) j no_row) ≡ true → i ≡ j
+      → is_matching_row (label c v) w (if b then 1 else 0) (get_or (rows c) i no_row) ≡ true
+      → is_matching_row (label c v) w (if b then 1 else 0) (get_or (rows c) j no_row) ≡ true → i ≡ j
   unfolding targets
-  same_row = one_passes (is_matching_row (label c v) w (pick b 1 0)) no_row (rows c)
+  same_row = one_passes (is_matching_row (label c v) w (if b then 1 else 0)) no_row (rows c)
       (omega (
         arith,
-        sym (length-map (filter (is_matching_row (label c v) w (pick b 1 0)) (rows c)) (λ (r : Row). r.next))
+        sym (length-map (filter (is_matching_row (label c v) w (if b then 1 else 0)) (rows c)) (λ (r : Row). r.next))
             ∙ ap (λ (us : List ℕ). length us) one-row,
       ))

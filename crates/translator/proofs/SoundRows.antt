@@ -1,4 +1,5 @@
 -- The rows of an accepted chart are sound, and their labels do not fall.
+use Rattle.std.proofs.Common.{if◌then◌else◌}
 use Prim.Native.Nat.{ℕ, zero, suc, ◌+◌, ◌^◌, ◌≤◌, ◌<◌}
 use mathlib.Core.Bool.{Bool, true, false, not}
 use mathlib.Core.Path.{◌≡◌, refl, sym, ◌∙◌, ap, subst}
@@ -11,7 +12,6 @@ use lib.Bits.{bit_and, and_le_r, and_zero_l, and_self}
 use lib.Dec.{eqb}
 use lib.Pow.{pow-lt}
 use borrow.Author.Tests.{eqb-true, eqb-false, eq-eqb}
-use Rattle.words.specs.lists.Pick.{pick}
 use Rattle.words.specs.lists.Numbers.{range, count}
 use Rattle.words.specs.lists.Sequences.{concat_map, filter, All}
 use Rattle.words.proofs.lists.Tests.{and_r, not-true}
@@ -48,7 +48,7 @@ pub label-reaches : (c : Chart) (h v : ℕ) → v < size c → scheme c v ≡ h 
 unfolding label
 label-reaches c h v l e = go (is_numbered c v) refl
   where
-    ends : (b : Bool) → pick b 0 1 ≤ 1
+    ends : (b : Bool) → (if b then 0 else 1) ≤ 1
     ends true = omega arith
     ends false = omega arith
 
@@ -65,9 +65,9 @@ label-reaches c h v l e = go (is_numbered c v) refl
         }
 
 module _ (c : Chart) (F : Facts c) where
-  pick-target : (h : ℕ) (b : Bool) (u v : ℕ) → Target c h u → Target c h v → Target c h (pick b u v)
-  pick-target h true u v s t = s
-  pick-target h false u v s t = t
+  if-target : (h : ℕ) (b : Bool) (u v : ℕ) → Target c h u → Target c h v → Target c h (if b then u else v)
+  if-target h true u v s t = s
+  if-target h false u v s t = t
 
   paths-good : (n l f h care values v : ℕ) → care < 65536 → bit_and values care ≡ values → Target c h v
       → All (PathRow c l f h) (paths_from n c l f care values v)
@@ -98,7 +98,7 @@ module _ (c : Chart) (F : Facts c) where
           further : (b : Bool) → eqb (bit care (argument c v)) 1 ≡ b → All (PathRow c l f h) (paths_from (suc n) c l f care values v)
           further true q =
               rw (paths, e, q) (ih care values (arc_taken c values v) s w
-              (pick-target h (eqb (bit values (argument c v)) 0) (next0 c v) (next1 c v) t₀ t₁))
+              (if-target h (eqb (bit values (argument c v)) 0) (next0 c v) (next1 c v) t₀ t₁))
           further false q =
               let free : bit care (argument c v) ≡ 1 → ⊥ = eqb-false (bit care (argument c v)) 1 q in
               let small : care + 2 ^ argument c v < 65536 =

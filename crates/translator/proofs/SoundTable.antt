@@ -1,4 +1,5 @@
 -- The table of an accepted chart of at most 1,024 rows is sound, so its text passes the image check and reads back as the table.
+use Rattle.std.proofs.Common.{if◌then◌else◌}
 use Prim.Native.Nat.{ℕ, zero, suc, ◌+◌, ◌*◌, ◌-◌, ◌≤◌, ◌<◌}
 use mathlib.Core.Bool.{Bool, true, false}
 use mathlib.Core.Path.{◌≡◌, refl, sym, ◌∙◌, ap, subst}
@@ -7,7 +8,6 @@ use native.Mathlib.Omega.{arith}
 use lib.ListN.{length, get_or, length-map}
 use lib.Dec.{eqb}
 use borrow.Author.Tests.{eqb-true, eqb-false}
-use Rattle.words.specs.lists.Pick.{pick}
 use Rattle.words.proofs.lists.Ranges.{get_d_map}
 use Rattle.words.proofs.lists.Joins.{all-at}
 use Rattle.text.specs.frames.Frame.{contents, size}
@@ -47,7 +47,7 @@ module _ (c : Chart) (F : Facts c) where
 
     operation-sound : kind c v ≡ 2 → (z : Bool) → eqb (argument c v) 0 ≡ z
         → SoundLabel (schemes c)
-        (record { kind = pick z 0 1; called = argument c v; owner = scheme c v; result = result c v; mask = mask c v })
+        (record { kind = if z then 0 else 1; called = argument c v; owner = scheme c v; result = result c v; mask = mask c v })
     operation-sound e true g = record {
       kinds = omega arith;
       some = (F.owned v l).0;

@@ -7,7 +7,7 @@ use native.Mathlib.Decide.{ℕ_discrete}
 use native.Mathlib.Omega.{arith}
 use lib.Dec.{eqb}
 use borrow.Author.Tests.{eqb-true, eq-eqb, ne_eqb}
-use Rattle.words.proofs.lists.Tests.{no_both, and-true, yes-pick, no-pick, cases}
+use Rattle.words.proofs.lists.Tests.{no_both, and-true, if-true, if-false, cases}
 use Rattle.words.specs.bits.Word.{bit}
 use Rattle.text.specs.frames.Frame.{size}
 use Rattle.charts.specs.Chart.{Chart, kind, scheme, argument, next0, next1, is, schemes, begin, arc_taken}
@@ -55,18 +55,18 @@ follow-goes n c w v e = rw (next_stop, e)
 
 -- the arc that a word takes, by the bit of the condition
 pub takes-0 : (c : Chart) (w v : ℕ) → bit w (argument c v) ≡ 0 → arc_taken c w v ≡ next0 c v
-takes-0 c w v z = yes-pick (eqb (bit w (argument c v)) 0) (next0 c v) (next1 c v) (eq-eqb (bit w (argument c v)) 0 z)
+takes-0 c w v z = if-true (eqb (bit w (argument c v)) 0) (next0 c v) (next1 c v) (eq-eqb (bit w (argument c v)) 0 z)
 
 pub takes-1 : (c : Chart) (w v : ℕ) → bit w (argument c v) ≡ 1 → arc_taken c w v ≡ next1 c v
-takes-1 c w v o = no-pick (eqb (bit w (argument c v)) 0) (next0 c v) (next1 c v) (ne_eqb (bit w (argument c v)) 0 (λ q. omega arith))
+takes-1 c w v o = if-false (eqb (bit w (argument c v)) 0) (next0 c v) (next1 c v) (ne_eqb (bit w (argument c v)) 0 (λ q. omega arith))
 
 -- what holds of both arcs holds of the one taken
 pub taken-by : (P : ℕ → Type 0) (c : Chart) (w v : ℕ) → P (next0 c v) → P (next1 c v) → P (arc_taken c w v)
 taken-by P c w v p q = go (eqb (bit w (argument c v)) 0) refl
   where
     go : (b : Bool) → eqb (bit w (argument c v)) 0 ≡ b → P (arc_taken c w v)
-    go true e = subst P (sym (yes-pick (eqb (bit w (argument c v)) 0) (next0 c v) (next1 c v) e)) p
-    go false e = subst P (sym (no-pick (eqb (bit w (argument c v)) 0) (next0 c v) (next1 c v) e)) q
+    go true e = subst P (sym (if-true (eqb (bit w (argument c v)) 0) (next0 c v) (next1 c v) e)) p
+    go false e = subst P (sym (if-false (eqb (bit w (argument c v)) 0) (next0 c v) (next1 c v) e)) q
 
 pub target-as : (c : Chart) {h g u : ℕ} → h ≡ g → Target c h u → Target c g u
 target-as c e t = record { inside = t.inside; same = t.same ∙ e; entered = t.entered }
@@ -160,10 +160,10 @@ module _ (c : Chart) (a : SoundChart c) where
       let b : TheNode c 0 h (begin c h) = begins c a h l m in
       ⊎_elim
       (λ (s : is_stop c (begin c h) ≡ true). subst (λ (u : ℕ). StopOf c h u)
-      (sym (yes-pick (is_stop c (begin c h)) (begin c h) (next0 c (begin c h)) s))
+      (sym (if-true (is_stop c (begin c h)) (begin c h) (next0 c (begin c h)) s))
       (record { inside = b.inside; same = b.same; stopping = s }))
       (λ (s : is_stop c (begin c h) ≡ false). subst (λ (u : ℕ). StopOf c h u)
-      (sym (no-pick (is_stop c (begin c h)) (begin c h) (next0 c (begin c h)) s))
+      (sym (if-false (is_stop c (begin c h)) (begin c h) (next0 c (begin c h)) s))
       (stays h (next0 c (begin c h))
       (target-as c b.same (arc0 c a (begin c h) b.inside (λ q. omega (arith, b.kinded)))) (first-stop h (begin c h) b refl s)))
       (cases (is_stop c (begin c h)))

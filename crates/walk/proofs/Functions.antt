@@ -1,5 +1,6 @@
 -- A function takes its 0 arc if nothing writes 1 to the bit of the number that it calls meanwhile: from its call on the bit is 0, and the
 -- function waits among the callers, until its own return. The bindings told do not matter.
+use Rattle.std.proofs.Common.{if◌then◌else◌}
 use Prim.Native.Nat.{ℕ, suc, ◌+◌, ◌≤◌, ◌<◌}
 use mathlib.Core.Bool.{Bool, true, false, ◌&&◌}
 use mathlib.Core.Path.{◌≡◌, refl, ap, ◌∙◌, sym, subst}
@@ -10,7 +11,6 @@ use lib.ListN.{length, get_or, length-append, get_or-eq_default}
 use native.Mathlib.Omega.{arith}
 use native.Mathlib.Decide.{dec_lt}
 use borrow.Author.Tests.{eqb-true, eq-eqb}
-use Rattle.words.specs.lists.Pick.{pick}
 use Rattle.words.specs.lists.Sequences.{some}
 use Rattle.words.proofs.lists.Tests.{no_both, or_l, or_r, and_l, and_r, and-true}
 use Rattle.words.proofs.lists.Searches.{some-cons}
@@ -145,7 +145,7 @@ module _ (c : Chart) (y : Open) (h : ℕ) (ks : List Open) (deep : 2 ≤ h) wher
         ap (λ (s : Stop). (position_moved c (is_drop_at n c x) u (y ∷ ks) w b f s).now.node)
         (is-back (is_drop_at n c x) (stop_at c u.node) (eqb-true _ _ (and_l _ _ q)))
         ∙ ap (node_resumed c y.node w.word b) (stop-function c y.node kinded)
-        ∙ ap (λ (t : Bool). by_arc c w.word (pick t (next1 c y.node) (next0 c y.node))) (ap (λ (k : ℕ). result_of k b) called ∙ e)
+        ∙ ap (λ (t : Bool). by_arc c w.word (if t then next1 c y.node else next0 c y.node)) (ap (λ (k : ℕ). result_of k b) called ∙ e)
     own-return w x (waits u (j ∷ js) b f e) q =
         let o : ℕ = suc (length (j ∷ (js ++ (y ∷ ks)))) in
         absurd (omega (

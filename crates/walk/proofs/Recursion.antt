@@ -1,4 +1,5 @@
 -- The recursive walk makes the ticks of the trace from home: the list of callers does what the recursion does.
+use Rattle.std.proofs.Common.{if◌then◌else◌}
 use Prim.Native.Nat.{ℕ, zero, suc, ◌≤◌, ◌<◌}
 use mathlib.Core.Bool.{Bool, true, false}
 use mathlib.Core.Path.{◌≡◌, refl, ap, ◌∙◌, sym}
@@ -6,7 +7,6 @@ use mathlib.Core.List.{List, [], ◌∷◌, ◌++◌, append_assoc}
 use lib.ListN.{length}
 use native.Mathlib.Omega.{arith}
 use native.Mathlib.Nat.{le_of_suc-le-suc, not-suc-le-zero}
-use Rattle.words.specs.lists.Pick.{pick}
 use Rattle.results.specs.Results.{Results, no_results, cleared_results}
 use Rattle.bindings.specs.Binding.{Binding, server_of}
 use Rattle.charts.specs.Chart.{Chart, handler, end}
@@ -116,7 +116,7 @@ module _ (n : ℕ) (c : Chart) where
 
       -- a call: the scheme called, and then the caller; or a drop
       same-call : (s : Binding) (ws : List Signal) (b : Results) → length ws ≤ k → (d : Bool)
-          → tick_of x.node x.number a.mask (pick d 96 a.code) (suc (length ks))
+          → tick_of x.node x.number a.mask (if d then 96 else a.code) (suc (length ks))
           ∷ trace n c ws (position_called c x ks a.called (server_of s a.called) b f d)
           ≡ onward ks f (call_course go c s (above ks x) a ws b d)
       same-call s ws b l true = refl

@@ -1,4 +1,5 @@
 -- The walk without recursion: positions of an open scheme, its unfinished callers and the result bits, each word a move to the next one.
+use Rattle.std.proofs.Common.{if◌then◌else◌}
 use Prim.Native.Nat.{ℕ, suc, ◌+◌, ◌≤◌, ◌<◌}
 use mathlib.Core.Bool.{Bool, true, false, ◌&&◌, not}
 use mathlib.Core.Path.{◌≡◌, refl, ap, sym, ◌∙◌}
@@ -8,7 +9,6 @@ use lib.ListN.{length}
 use lib.Dec.{eqb}
 use borrow.Author.Tests.{eqb-false}
 use native.Mathlib.Omega.{arith}
-use Rattle.words.specs.lists.Pick.{pick}
 use Rattle.words.proofs.lists.Tests.{no_both, and_l, and_r, not-true}
 use Rattle.results.specs.Results.{Results, result_of, with_result, cleared_results}
 use Rattle.bindings.specs.Binding.{Binding, server_of}
@@ -54,8 +54,8 @@ stop_mask back = 0
 
 abbrev pub stop_code : Bool → Stop → ℕ
 stop_code d (plain m r u) = 0
-stop_code d (call m r h u) = pick d 96 (16 + h)
-stop_code d (function h u₀ u₁) = pick d 96 (64 + h)
+stop_code d (call m r h u) = if d then 96 else 16 + h
+stop_code d (function h u₀ u₁) = if d then 96 else 64 + h
 stop_code d (test u) = 0
 stop_code d home = 4
 stop_code d back = 3
@@ -71,7 +71,7 @@ stop_tick d o x s = tick_of x.node x.number (stop_mask s) (stop_code d s) o
 abbrev pub node_resumed : Chart → ℕ → ℕ → Results → Stop → ℕ
 node_resumed c k w b (plain m r u) = k
 node_resumed c k w b (call m r h u) = by_arc c w u
-node_resumed c k w b (function h u₀ u₁) = by_arc c w (pick (result_of h b) u₁ u₀)
+node_resumed c k w b (function h u₀ u₁) = by_arc c w (if result_of h b then u₁ else u₀)
 node_resumed c k w b (test u) = k
 node_resumed c k w b home = k
 node_resumed c k w b back = k
@@ -172,7 +172,7 @@ module _ (c : Chart) (facts : Facts c) where
   pub arc-to : (v w : ℕ) → v < size c → (kind c v ≡ 1 → ⊥) → StopOf c (scheme c v) (by_arc c w (next0 c v))
   arc-to v w l e = facts.follows (scheme c v) (next0 c v) w (facts.arc0 v l e)
 
-  pub function_to : (v w : ℕ) (t : Bool) → v < size c → kind c v ≡ 4 → StopOf c (scheme c v) (by_arc c w (pick t (next1 c v) (next0 c v)))
+  pub function_to : (v w : ℕ) (t : Bool) → v < size c → kind c v ≡ 4 → StopOf c (scheme c v) (by_arc c w (if t then next1 c v else next0 c v))
   function_to v w true l e = facts.follows (scheme c v) (next1 c v) w (facts.arc1 v l (omega arith))
   function_to v w false l e = arc-to v w l (λ p. omega arith)
 

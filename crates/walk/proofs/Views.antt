@@ -5,7 +5,7 @@ use mathlib.Core.Path.{◌≡◌, refl, sym, ◌∙◌, ap}
 use lib.Dec.{eqb}
 use native.Mathlib.Omega.{arith}
 use borrow.Author.Tests.{eqb-true, eqb-false, eq-eqb, ne_eqb}
-use Rattle.words.proofs.lists.Tests.{and_r, yes-pick, no-pick}
+use Rattle.words.proofs.lists.Tests.{and_r, if-true, if-false}
 use Rattle.charts.specs.Layout.{kind_of}
 use Rattle.charts.specs.Chart.{Chart, kind, scheme, argument, next0, next1, result, mask, is}
 use Rattle.walk.specs.Stops.{is_stop_as, is_stop, Stop, plain, call, function, test, home, back, stop_as, stop_at}
@@ -26,19 +26,19 @@ module _ (c : Chart) (v : ℕ) where
   stop-by k e = ap (λ (k : ℕ). stop_as c v (kind_of k)) e
 
   stop-plain : kind c v ≡ 2 → argument c v ≡ 0 → stop_at c v ≡ plain (mask c v) (result c v) (next0 c v)
-  stop-plain e a = stop-by 2 e ∙ yes-pick (eqb (argument c v) 0) _ _ (eq-eqb (argument c v) 0 a)
+  stop-plain e a = stop-by 2 e ∙ if-true (eqb (argument c v) 0) _ _ (eq-eqb (argument c v) 0 a)
 
   pub stop-call : kind c v ≡ 2 → (argument c v ≡ 0 → ⊥) → stop_at c v ≡ call (mask c v) (result c v) (argument c v) (next0 c v)
-  stop-call e a = stop-by 2 e ∙ no-pick (eqb (argument c v) 0) _ _ (ne_eqb (argument c v) 0 a)
+  stop-call e a = stop-by 2 e ∙ if-false (eqb (argument c v) 0) _ _ (ne_eqb (argument c v) 0 a)
 
   pub stop-function : kind c v ≡ 4 → stop_at c v ≡ function (argument c v) (next0 c v) (next1 c v)
   stop-function e = stop-by 4 e
 
   stop-home : kind c v ≡ 1 → scheme c v ≡ 1 → stop_at c v ≡ home
-  stop-home e s = stop-by 1 e ∙ yes-pick (eqb (scheme c v) 1) home back (eq-eqb (scheme c v) 1 s)
+  stop-home e s = stop-by 1 e ∙ if-true (eqb (scheme c v) 1) home back (eq-eqb (scheme c v) 1 s)
 
   stop-back : kind c v ≡ 1 → (scheme c v ≡ 1 → ⊥) → stop_at c v ≡ back
-  stop-back e s = stop-by 1 e ∙ no-pick (eqb (scheme c v) 1) home back (ne_eqb (scheme c v) 1 s)
+  stop-back e s = stop-by 1 e ∙ if-false (eqb (scheme c v) 1) home back (ne_eqb (scheme c v) 1 s)
 
   stop-begin : kind c v ≡ 0 → stop_at c v ≡ test (next0 c v)
   stop-begin e = stop-by 0 e

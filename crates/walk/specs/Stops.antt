@@ -1,6 +1,5 @@
 -- Stops (the paper's word for the nodes that take a tick) and the way from one to the next.
-use Rattle.std.specs.Prelude.{ℕ, zero, suc, Bool, true, false, ◌&&◌, not, eqb}
-use Rattle.words.specs.lists.Pick.{pick}
+use Rattle.std.specs.Prelude.{ℕ, zero, suc, Bool, true, false, ◌&&◌, not, eqb, if◌then◌else◌}
 use Rattle.text.specs.frames.Frame.{size}
 use Rattle.charts.specs.declared.layout.TheConstants.{CONDITION}
 use Rattle.charts.specs.Layout.{Kind, Begin, End, Operation, Condition, Function, Unknown, kind_of}
@@ -20,7 +19,7 @@ is_stop c v = is_stop_as c v (kind_of (kind c v))
 
 -- the stop where performing a scheme starts
 unfoldable pub start : Chart → ℕ → ℕ
-start c h = pick (is_stop c (begin c h)) (begin c h) (next0 c (begin c h))
+start c h = if is_stop c (begin c h) then begin c h else next0 c (begin c h)
 
 -- from an arc's end through conditions that take no tick to a stop, in at most n steps
 unfoldable pub next_stop : ℕ → Chart → ℕ → ℕ → ℕ
@@ -50,9 +49,9 @@ pub data Stop : Type 0 where
 
 abbrev pub stop_as : Chart → ℕ → Kind → Stop
 stop_as c v Begin = test (next0 c v)
-stop_as c v End = pick (eqb (scheme c v) 1) home back
-stop_as c v Operation = pick (eqb (argument c v) 0) (plain (mask c v) (result c v) (next0 c v))
-    (call (mask c v) (result c v) (argument c v) (next0 c v))
+stop_as c v End = if eqb (scheme c v) 1 then home else back
+stop_as c v Operation = if eqb (argument c v) 0 then plain (mask c v) (result c v) (next0 c v)
+    else call (mask c v) (result c v) (argument c v) (next0 c v)
 stop_as c v Condition = test v
 stop_as c v Function = function (argument c v) (next0 c v) (next1 c v)
 stop_as c v Unknown = test (next0 c v)

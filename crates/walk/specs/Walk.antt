@@ -1,7 +1,6 @@
 -- The walk (the paper's word for what a chart does by itself): schemes performed recursively, one tick a word.
 -- It knows charts, the number of places and the binding that is told before each word, and nothing of labels, rows or a stack.
-use Rattle.std.specs.Prelude.{ℕ, zero, suc, ◌+◌, Bool, true, false, ◌&&◌, not, List, [], ◌∷◌, ◌++◌, map, eqb, length}
-use Rattle.words.specs.lists.Pick.{pick}
+use Rattle.std.specs.Prelude.{ℕ, zero, suc, ◌+◌, Bool, true, false, ◌&&◌, not, List, [], ◌∷◌, ◌++◌, map, eqb, length, if◌then◌else◌}
 use Rattle.results.specs.Results.{Results, no_results, result_of, with_result, cleared_results}
 use Rattle.bindings.specs.Binding.{Binding, server_of}
 use Rattle.text.specs.declared.frames.codes.TheConstants.{PLAIN_CODE, RETURN_CODE, HOME_CODE, OPERATION_CALL_CODE, FUNCTION_CALL_CODE}
@@ -72,7 +71,7 @@ call_by_operation c m h u = record { mask = m; code = OPERATION_CALL_CODE + h; c
 -- a function's call of number h, with next node u₀ or u₁ by the result bit of h
 abbrev pub call_by_function : Chart → ℕ → ℕ → ℕ → SchemeCall
 call_by_function c h u₀ u₁ =
-    record { mask = 0; code = FUNCTION_CALL_CODE + h; called = h; resumed = λ w b. by_arc c w (pick (result_of h b) u₁ u₀) }
+    record { mask = 0; code = FUNCTION_CALL_CODE + h; called = h; resumed = λ w b. by_arc c w (if result_of h b then u₁ else u₀) }
 
 -- performing an open scheme on from where it stands, by the words and with the result bits
 abbrev pub Performer : Type 0
@@ -119,7 +118,7 @@ is_dropping n c first o = not first && not (eqb (handler c) 0) && eqb o n
 
 -- the first open scheme, the handler where `first` is true and else scheme 1; it goes by its own number
 abbrev pub bottom : Chart → Bool → ℕ
-bottom c first = pick first (handler c) 1
+bottom c first = if first then handler c else 1
 
 -- what follows the course of the first open scheme: after a drop the handler, which is then the first, and after the handler's End home
 abbrev pub ticks_after_course : (Bool → ℕ → List Signal → Results → List Tick) → Chart → Course → List Tick

@@ -1,4 +1,3 @@
 -- Definitions and laws on lists, on ranges of numbers and on lent buffers; no function.
-pub mod Pick
 pub mod Numbers
 pub mod Sequences

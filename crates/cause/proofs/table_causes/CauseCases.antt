@@ -9,12 +9,11 @@ use lib.Bits.{bit_or}
 use lib.Dec.{leb, ltb, eqb}
 use lib.ListN.{get_or-eq_default}
 use borrow.Author.Tests.{lt-ltb, le-ltb, le-leb, lt-leb, eq-eqb}
-use Rattle.words.specs.lists.Pick.{pick}
-use Rattle.words.proofs.lists.Tests.{yes-pick, no-pick}
+use Rattle.words.proofs.lists.Tests.{if-true, if-false}
 use Rattle.results.specs.Results.{Results}
 use Rattle.text.specs.frames.Frame.{size, pair_at}
 use Rattle.text.specs.frames.Verdict.{Verdict}
-use Rattle.std.proofs.Common.{Ok, Err}
+use Rattle.std.proofs.Common.{Ok, Err, if◌then◌else◌}
 use Rattle.text.specs.declared.frames.refusals.Refusal.{Refusal}
 use Rattle.text.specs.declared.frames.refusals.Refusal.TheVariants.{Unfit, NoRow, Rowless}
 use Rattle.text.proofs.frames.Chains.{when-holds, when-fails}
@@ -86,10 +85,10 @@ module _ (b : List ℕ) (s : State) (d top : ℕ) (is : d ≡ s.depth) (at : top
 
   module _ (k : z.kind ≡ 3) where
     left_back : (t : Bool) → leb s.depth 1 ≡ t
-        → leaving_number (leaving i s) ≡ leaving_number (pick t nothing (leaves_label (place_at s (s.depth - 2))))
+        → leaving_number (leaving i s) ≡ leaving_number (if t then nothing else leaves_label (place_at s (s.depth - 2)))
     left_back t e =
         ap leaving_number (left_is ∙ ap (λ (n : ℕ). leaving_by s (tick_kind n)) k)
-        ∙ ap (λ (u : Bool). leaving_number (pick u nothing (leaves_label (place_at s (s.depth - 2))))) e
+        ∙ ap (λ (u : Bool). leaving_number (if u then nothing else leaves_label (place_at s (s.depth - 2)))) e
 
     pub left-last : d ≤ 1 → 0 ≡ leaving_number (leaving i s)
     left-last h = sym (left_back true (le-leb s.depth 1 (omega arith)))
@@ -122,7 +121,7 @@ module _ (b : List ℕ) (l w : ℕ) (x : OrderedLabel b l) (bs : Results) (z : d
   label_is : as_label z ≡ label_at img l
   label_is = read ∙ sym (label-at b l)
 
-  pub bit-told : bit ≡ pick (eqb (label_at img l).kind 2) (called_bit img bs l) 2
+  pub bit-told : bit ≡ (if eqb (label_at img l).kind 2 then called_bit img bs l else 2)
   bit-told = e ∙ ap (λ (y : Label). bit_of y.kind y.called bs) label_is
 
   -- what does not look at the bit of a label that calls no function is the same for the bit called and the one that decides
@@ -130,7 +129,7 @@ module _ (b : List ℕ) (l w : ℕ) (x : OrderedLabel b l) (bs : Results) (z : d
   decided F any = go (ℕ_discrete (label_at img l).kind 2)
     where
       go : Dec ((label_at img l).kind ≡ 2) → F (called_bit img bs l) ≡ F bit
-      go (yes k) = ap F (sym (bit-told ∙ yes-pick (eqb (label_at img l).kind 2) (called_bit img bs l) 2 (eq-eqb (label_at img l).kind 2 k)))
+      go (yes k) = ap F (sym (bit-told ∙ if-true (eqb (label_at img l).kind 2) (called_bit img bs l) 2 (eq-eqb (label_at img l).kind 2 k)))
       go (no k) = any (λ m. k (ap (λ (y : Label). y.kind) (label-at b l) ∙ m)) (called_bit img bs l) bit
 
   choice-is : choice img bs l w ≡ best_row l w bit 0 img.rows
@@ -148,14 +147,14 @@ module _ (b : List ℕ) (l w : ℕ) (x : OrderedLabel b l) (bs : Results) (z : d
 
     pub none_told : size b ≤ f → GivesCause (cause_outcome (cause_at img bs w (leaves_label l))) (Err (NoRow 0))
     none_told h =
-        let found : found_at b l f ≡ no_choice = no-pick (ltb f (size b)) (row f (row_on b l f)) no_choice (le-ltb f (size b) h) in
+        let found : found_at b l f ≡ no_choice = if-false (ltb f (size b)) (row f (row_on b l f)) no_choice (le-ltb f (size b) h) in
         tells_none (cause_outcome (cause_at img bs w (leaves_label l))) (NoRow 0)
         (ap caused (choice-is ∙ unmoved-none (first_on b l) (best_row l w bit 0 img.rows)
         (sym (ap (moved_by (rows_before b l)) found) ∙ by_number)))
 
     module _ (h : f < size b) where
       found-is : found_at b l f ≡ row f (row_on b l f)
-      found-is = yes-pick (ltb f (size b)) (row f (row_on b l f)) no_choice (lt-ltb f (size b) h)
+      found-is = if-true (ltb f (size b)) (row f (row_on b l f)) no_choice (lt-ltb f (size b) h)
 
       pub numbers : RowNumbers b l w bit f
       numbers =

@@ -1,5 +1,6 @@
 -- The conditions against the rows of a label, among all rows of a table:
 -- only its own rows have any, they stand in its frames, and each has its values within its care mask.
+use Rattle.std.proofs.Common.{if◌then◌else◌}
 use Prim.Native.Nat.{ℕ, zero, suc, ◌+◌, ◌-◌, ◌^◌, ◌≤◌, ◌<◌}
 use mathlib.Core.Bool.{Bool, ◌&&◌, ◌||◌, not}
 use mathlib.Core.Path.{◌≡◌, refl, sym, ◌∙◌, ap, ap₂, subst}
@@ -9,10 +10,9 @@ use native.Mathlib.Omega.{arith}
 use lib.Bits.{bit_and, bit_or, or_zero_l}
 use lib.Dec.{eqb}
 use borrow.Author.Tests.{eq-eqb, ne_eqb}
-use Rattle.words.specs.lists.Pick.{pick}
 use Rattle.words.specs.lists.Numbers.{range, lowest}
 use Rattle.words.specs.lists.Sequences.{concat_map, All}
-use Rattle.words.proofs.lists.Tests.{no-pick}
+use Rattle.words.proofs.lists.Tests.{if-false}
 use Rattle.words.proofs.lists.Ranges.{length-map-range, get_or-map-range}
 use Rattle.words.proofs.lists.Joins.{all-at, all-places, concat-cons}
 use Rattle.words.specs.bits.Word.{is_agreeing}
@@ -37,8 +37,8 @@ module _ (b : List ℕ) (l w bit : ℕ) where
 
   other_none : (r : Row) → (r.from ≡ l → ⊥) → mask_against l w bit r ≡ 0
   other_none r h =
-      ap (λ (t : Bool). pick (t && (let-in r && not (is_agreeing w r.care r.values)))
-      (2 ^ lowest (is_differing w r.care r.values) 0 16) 0)
+      ap (λ (t : Bool). (if t && (let-in r && not (is_agreeing w r.care r.values))
+      then 2 ^ lowest (is_differing w r.care r.values) 0 16 else 0))
       (ne_eqb r.from l h)
 
   others-first : (m : ℕ) → (m ≡ l → ⊥) → (i n : ℕ) (rs : List Row) → all (map (row_on b m) (range i n) ++ rs) ≡ all rs
@@ -69,16 +69,16 @@ module _ (b : List ℕ) (l w : ℕ) where
   abbrev low : ℕ → ℕ
   low f = 2 ^ lowest (is_differing w (pair_at b f 2) (pair_at b f 4)) 0 16
 
-  by_bit : (bit f : ℕ) → mask_against l w bit (row_on b l f) ≡ pick ((eqb (only f) 2 || eqb (only f) bit) && not (agreed f)) (low f) 0
-  by_bit bit f = ap (λ (t : Bool). pick (t && ((eqb (only f) 2 || eqb (only f) bit) && not (agreed f))) (low f) 0) (eq-eqb l l refl)
+  by_bit : (bit f : ℕ) → mask_against l w bit (row_on b l f) ≡ (if (eqb (only f) 2 || eqb (only f) bit) && not (agreed f) then low f else 0)
+  by_bit bit f = ap (λ (t : Bool). (if t && ((eqb (only f) 2 || eqb (only f) bit) && not (agreed f)) then low f else 0)) (eq-eqb l l refl)
 
   -- no row of a label that calls no function looks at the bit
   module _ (n : kind ≡ 2 → ⊥) where
     free : (f : ℕ) → only f ≡ 2
-    free f = no-pick (eqb kind 2) (field b f 6) 2 (ne_eqb kind 2 n)
+    free f = if-false (eqb kind 2) (field b f 6) 2 (ne_eqb kind 2 n)
 
-    free-lets : (bit f : ℕ) → mask_against l w bit (row_on b l f) ≡ pick (not (agreed f)) (low f) 0
-    free-lets bit f = by_bit bit f ∙ ap (λ (k : ℕ). pick ((eqb k 2 || eqb k bit) && not (agreed f)) (low f) 0) (free f)
+    free-lets : (bit f : ℕ) → mask_against l w bit (row_on b l f) ≡ (if not (agreed f) then low f else 0)
+    free-lets bit f = by_bit bit f ∙ ap (λ (k : ℕ). (if (eqb k 2 || eqb k bit) && not (agreed f) then low f else 0)) (free f)
 
     free-rows : (p q f n : ℕ) → mask_against_all l w p (map (row_on b l) (range f n))
         ≡ mask_against_all l w q (map (row_on b l) (range f n))
@@ -96,7 +96,7 @@ module _ (b : List ℕ) (l w : ℕ) where
     unfolding mask_against_from mask_against_all
     frames-are f zero = refl
     frames-are f (suc n) =
-        ap₂ bit_or (ap (λ (t : Bool). pick (t && not (agreed f)) (low f) 0) (sym (own-bit b l bit x f)) ∙ sym (by_bit bit f))
+        ap₂ bit_or (ap (λ (t : Bool). (if t && not (agreed f) then low f else 0)) (sym (own-bit b l bit x f)) ∙ sym (by_bit bit f))
         (frames-are (suc f) n)
 
     pub frame-conditions : 2 ≤ l → l ≤ last_label b

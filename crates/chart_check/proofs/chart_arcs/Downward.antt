@@ -1,10 +1,10 @@
 -- Two searches over the numbers from the last one down.
+use Rattle.std.proofs.Common.{if◌then◌else◌}
 use mathlib.Core.Path.{◌≡◌, sym, ◌∙◌, ap}
 use mathlib.Core.Bool.{Bool}
 use Prim.Native.Nat.{ℕ, ◌-◌, ◌≤◌, ◌<◌}
 use native.Mathlib.Nat.{sub-zero}
 use native.Mathlib.Omega.{arith}
-use Rattle.words.specs.lists.Pick.{pick}
 use Rattle.words.specs.lists.Numbers.{lowest}
 use Rattle.words.proofs.lists.Searches.{lowest-over, lowest-below}
 
@@ -22,12 +22,12 @@ downward-none p q n = record {
 }
 
 module _ (p q : ℕ → Bool) (n v a b : ℕ) (d : Downward p q n v a b) where
-  pub downward-turn : (x y : Bool) (a' b' : ℕ) → 0 < v → x ≡ p (v - 1) → y ≡ q (v - 1) → a' ≡ pick x (v - 1) a → b' ≡ pick y (v - 1) b
+  pub downward-turn : (x y : Bool) (a' b' : ℕ) → 0 < v → x ≡ p (v - 1) → y ≡ q (v - 1) → a' ≡ (if x then v - 1 else a) → b' ≡ (if y then v - 1 else b)
       → Downward p q n (v - 1) a' b'
   downward-turn x y a' b' some ex ey ea eb = record {
     low = omega (arith, d.low);
-    first = ea ∙ ap (λ (t : Bool). pick t (v - 1) a) ex ∙ lowest-below p n v a some d.low d.first;
-    second = eb ∙ ap (λ (t : Bool). pick t (v - 1) b) ey ∙ lowest-below q n v b some d.low d.second;
+    first = ea ∙ ap (λ (t : Bool). (if t then v - 1 else a)) ex ∙ lowest-below p n v a some d.low d.first;
+    second = eb ∙ ap (λ (t : Bool). (if t then v - 1 else b)) ey ∙ lowest-below q n v b some d.low d.second;
   }
 
   module _ (h : v ≤ 0) where

@@ -1,4 +1,5 @@
 -- The passes for the handler: its scheme by the nodes passed, and refusal 19 by the marks passed.
+use Rattle.std.proofs.Common.{if◌then◌else◌, cond}
 use mathlib.Core.Path.{◌≡◌, refl, sym, ◌∙◌, ap}
 use mathlib.Core.Bool.{Bool, true, false}
 use Prim.Native.Nat.{ℕ, ◌+◌, ◌-◌, ◌≤◌, ◌<◌, max}
@@ -6,9 +7,8 @@ use native.Mathlib.Nat.{sub-zero}
 use native.Mathlib.Omega.{arith}
 use lib.Dec.{ltb, eqb}
 use borrow.Author.Tests.{lt-ltb, le-ltb, eq-eqb, ne_eqb}
-use Rattle.words.specs.lists.Pick.{pick}
 use Rattle.words.specs.lists.Numbers.{any, count, highest}
-use Rattle.words.proofs.lists.Tests.{or-true-l, or_true_r, or-none, yes-pick, no-pick}
+use Rattle.words.proofs.lists.Tests.{or-true-l, or_true_r, or-none, if-true, if-false}
 use Rattle.words.proofs.lists.Searches.{any_here, any-on, any-over, highest-next}
 use Rattle.words.proofs.lists.Counts.{count_yes, count-pass, count-below}
 use Rattle.text.specs.frames.Frame.{size}
@@ -18,10 +18,10 @@ use Rattle.charts.specs.Check.{has_bad_marks}
 -- ---- the scheme: one node more, with a mark or without
 module _ (c : Chart) (v h : ℕ) (e : h ≡ highest (handler_at c) 0 v) where
   pub handler-mark : (s h' : ℕ) → is_handler_mark c v ≡ true → s ≡ scheme c v → h' ≡ max h s → h' ≡ highest (handler_at c) 0 (v + 1)
-  handler-mark s h' t is m = omega (arith, highest-next (handler_at c) v, yes-pick (is_handler_mark c v) (scheme c v) 0 t)
+  handler-mark s h' t is m = omega (arith, highest-next (handler_at c) v, if-true (is_handler_mark c v) (scheme c v) 0 t)
 
   pub handler-pass : is_handler_mark c v ≡ false → h ≡ highest (handler_at c) 0 (v + 1)
-  handler-pass t = omega (arith, highest-next (handler_at c) v, no-pick (is_handler_mark c v) (scheme c v) 0 t)
+  handler-pass t = omega (arith, highest-next (handler_at c) v, if-false (is_handler_mark c v) (scheme c v) 0 t)
 
 -- ---- 19
 abbrev is_mark_on_first : Chart → ℕ → Bool
@@ -32,7 +32,7 @@ pub record Marking (c : Chart) (n v : ℕ) (marked : Bool) : Type 0 where
   pub inside : v ≤ n
   pub all : n ≡ size c
   pub left : any (is_mark_on_first c) v (n - v) ≡ any (is_mark_on_first c) 0 n
-  pub one : count (is_handler_mark c) 0 v ≡ pick marked 1 0
+  pub one : count (is_handler_mark c) 0 v ≡ (if marked then 1 else 0)
 
 pub marking-none : (c : Chart) (n : ℕ) → n ≡ size c → Marking c n 0 false
 unfolding count
@@ -59,7 +59,7 @@ module _ (c : Chart) (n v : ℕ) (marked : Bool) (d : Marking c n v marked) wher
       let e : count (is_handler_mark c) 0 v ≡ marks = ap (count (is_handler_mark c) 0) (omega (arith, d.inside, d.all)) in
       sym (or-none firsts (ltb 1 marks) (sym left-all ∙ any-over (is_mark_on_first c) n v l) (le-ltb 1 marks (omega arith)))
     where
-      low : (b : Bool) → pick {A = ℕ} b 1 0 ≤ 1
+      low : (b : Bool) → cond {A = ℕ} b 1 0 ≤ 1
       low true = omega arith
       low false = omega arith
 
@@ -68,18 +68,18 @@ module _ (c : Chart) (n v : ℕ) (marked : Bool) (d : Marking c n v marked) wher
     marking-pass t = record {
       inside = omega arith;
       all = d.all;
-      left = sym (any-on (is_mark_on_first c) n v l (ap (λ x. eqb x 1) (no-pick (is_handler_mark c v) (scheme c v) 0 t))) ∙ d.left;
+      left = sym (any-on (is_mark_on_first c) n v l (ap (λ x. eqb x 1) (if-false (is_handler_mark c v) (scheme c v) 0 t))) ∙ d.left;
       one = count-pass (is_handler_mark c) v t ∙ d.one;
     }
 
     module _ (t : is_handler_mark c v ≡ true) where
       marked-scheme : handler_at c v ≡ scheme c v
-      marked-scheme = yes-pick (is_handler_mark c v) (scheme c v) 0 t
+      marked-scheme = if-true (is_handler_mark c v) (scheme c v) 0 t
 
       pub marking-second : marked ≡ true → true ≡ has_bad_marks c
       marking-second m =
           let more : count (is_handler_mark c) 0 v < marks = count-below (is_handler_mark c) v (size c) (omega (arith, d.all)) t in
-          sym (or_true_r firsts (ltb 1 marks) (lt-ltb 1 marks (omega (arith, d.one, yes-pick {A = ℕ} marked 1 0 m))))
+          sym (or_true_r firsts (ltb 1 marks) (lt-ltb 1 marks (omega (arith, d.one, if-true {A = ℕ} marked 1 0 m))))
 
       pub marking-first : (s : ℕ) → s ≡ scheme c v → s ≡ 1 → true ≡ has_bad_marks c
       marking-first s is e =
@@ -91,5 +91,5 @@ module _ (c : Chart) (n v : ℕ) (marked : Bool) (d : Marking c n v marked) wher
         inside = omega arith;
         all = d.all;
         left = sym (any-on (is_mark_on_first c) n v l (ne_eqb (handler_at c v) 1 (λ q. o (is ∙ sym marked-scheme ∙ q)))) ∙ d.left;
-        one = count_yes (is_handler_mark c) v t ∙ omega (arith, d.one, no-pick {A = ℕ} marked 1 0 m);
+        one = count_yes (is_handler_mark c) v t ∙ omega (arith, d.one, if-false {A = ℕ} marked 1 0 m);
       }

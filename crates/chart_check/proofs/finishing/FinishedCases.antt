@@ -1,4 +1,5 @@
 -- A depth-first search: a condition none of whose arcs leads to an unfinished one is on no circle.
+use Rattle.std.proofs.Common.{if◌then◌else◌}
 use mathlib.Core.Path.{◌≡◌, refl, sym, ◌∙◌, ap, subst}
 use mathlib.Core.Logic.{◌⊎◌, inl, inr, ⊎_elim}
 use mathlib.Core.Bool.{Bool, true, false, ◌&&◌, not}
@@ -10,8 +11,7 @@ use lib.Dec.{eqb}
 use lib.ListN.{length, get_or, set, length-set}
 use lib.Seq.{get_or-set_same, get_or-set_other}
 use borrow.Author.Tests.{eqb-true}
-use Rattle.words.specs.lists.Pick.{pick}
-use Rattle.words.proofs.lists.Tests.{no_both, not-true, or_cases, yes-pick, no-pick, cases}
+use Rattle.words.proofs.lists.Tests.{no_both, not-true, or_cases, if-true, if-false, cases}
 use Rattle.words.proofs.lists.Searches.{some-cons}
 use Rattle.words.proofs.lists.Ranges.{length-map-range}
 use Rattle.words.specs.graph.Reach.{is_member, is_marked, nodes_joined_from}
@@ -35,22 +35,22 @@ finished-none c ms e = subst (λ (xs : List Bool). Finished c xs) (sym e) (recor
 
 -- ---- the next nodes, the one on a 0 first
 module _ (c : Chart) (ms : List Bool) (v : ℕ) where
-  next-other : is_marked ms (next0 c v) ≡ false → next_unfinished c ms v ≡ pick (is_marked ms (next1 c v)) (next1 c v) (size c)
-  next-other m = no-pick (is_marked ms (next0 c v)) (next0 c v) (pick (is_marked ms (next1 c v)) (next1 c v) (size c)) m
+  next-other : is_marked ms (next0 c v) ≡ false → next_unfinished c ms v ≡ (if is_marked ms (next1 c v) then next1 c v else size c)
+  next-other m = if-false (is_marked ms (next0 c v)) (next0 c v) (if is_marked ms (next1 c v) then next1 c v else size c) m
 
   module _ (a : ℕ) (p : a ≡ next0 c v) where
     pub next-first : is_marked ms a ≡ true → a ≡ next_unfinished c ms v
-    next-first m = p ∙ sym (yes-pick (is_marked ms (next0 c v)) (next0 c v)
-        (pick (is_marked ms (next1 c v)) (next1 c v) (size c)) (ap (is_marked ms) (sym p) ∙ m))
+    next-first m = p ∙ sym (if-true (is_marked ms (next0 c v)) (next0 c v)
+        (if is_marked ms (next1 c v) then next1 c v else size c) (ap (is_marked ms) (sym p) ∙ m))
 
     module _ (m : is_marked ms a ≡ false) (b : ℕ) (q : b ≡ next1 c v) where
       pub next-second : is_marked ms b ≡ true → b ≡ next_unfinished c ms v
       next-second t = q ∙ sym (next-other (ap (is_marked ms) (sym p) ∙ m)
-          ∙ yes-pick (is_marked ms (next1 c v)) (next1 c v) (size c) (ap (is_marked ms) (sym q) ∙ t))
+          ∙ if-true (is_marked ms (next1 c v)) (next1 c v) (size c) (ap (is_marked ms) (sym q) ∙ t))
 
       pub next-none : is_marked ms b ≡ false → size c ≡ next_unfinished c ms v
       next-none t = sym (next-other (ap (is_marked ms) (sym p) ∙ m)
-          ∙ no-pick (is_marked ms (next1 c v)) (next1 c v) (size c) (ap (is_marked ms) (sym q) ∙ t))
+          ∙ if-false (is_marked ms (next1 c v)) (next1 c v) (size c) (ap (is_marked ms) (sym q) ∙ t))
 
   none_both : is_marked ms (next0 c v) ≡ false → is_marked ms (next1 c v) ≡ false → NoneAhead c ms v
   none_both a b u s =

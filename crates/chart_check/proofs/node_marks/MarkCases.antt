@@ -1,4 +1,5 @@
 -- The arcs that marks follow, case by case, and the marks of Begins and of cut-off nodes.
+use Rattle.std.proofs.Common.{if◌then◌else◌}
 use mathlib.Core.Path.{◌≡◌, refl, sym, ◌∙◌, ap, subst}
 use mathlib.Core.Logic.{◌⊎◌, inl, inr}
 use mathlib.Core.Bool.{Bool, true, false, not}
@@ -12,7 +13,6 @@ use lib.Dec.{eqb}
 use lib.ListN.{length, get_or, set, take, drop, replicate, length-replicate}
 use lib.Seq.{drop-cons, set_at, append_snoc}
 use borrow.Author.Tests.{eq-eqb, ne_eqb}
-use Rattle.words.specs.lists.Pick.{pick}
 use Rattle.words.specs.lists.Numbers.{range, lowest}
 use Rattle.words.proofs.lists.Tests.{no_both}
 use Rattle.words.proofs.lists.Searches.{lowest-none}
@@ -34,14 +34,14 @@ use Rattle.chart_check.proofs.node_marks.Sweeps.{swept_same}
 -- ---- arcs
 module _ (c : Chart) (b : Bool) (v : ℕ) where
   by-none : b ≡ true → (kind c v ≡ 3 → ⊥) → arcs_by c b v ≡ []
-  by-none t n = ap (λ b. pick b (condition_arcs c v) (arcs c v)) t ∙ no-condition-arcs c v (ne_eqb (kind c v) 3 n)
+  by-none t n = ap (λ b. (if b then condition_arcs c v else arcs c v)) t ∙ no-condition-arcs c v (ne_eqb (kind c v) 3 n)
 
   by_all : (b ≡ true → kind c v ≡ 3) → arcs_by c b v ≡ arcs c v
   by_all h = go b refl
     where
       go : (x : Bool) → b ≡ x → arcs_by c b v ≡ arcs c v
-      go true t = ap (λ b. pick b (condition_arcs c v) (arcs c v)) t ∙ condition-arcs c v (eq-eqb (kind c v) 3 (h t))
-      go false t = ap (λ b. pick b (condition_arcs c v) (arcs c v)) t
+      go true t = ap (λ b. (if b then condition_arcs c v else arcs c v)) t ∙ condition-arcs c v (eq-eqb (kind c v) 3 (h t))
+      go false t = ap (λ b. (if b then condition_arcs c v else arcs c v)) t
 
   module _ (k : ℕ) (e : k ≡ kind c v) where
     long : (us : List ℕ) → arcs_by c b v ≡ us → length us ≡ length (arcs_by c b v)

@@ -1,4 +1,5 @@
 -- Marked nodes whose arcs are followed in the order of the nodes: a turn of the loop, and what arcs join from the marks stays the same.
+use Rattle.std.proofs.Common.{if◌then◌else◌}
 use mathlib.Core.Path.{◌≡◌, refl, sym, ◌∙◌, ap, subst}
 use mathlib.Core.Logic.{◌⊎◌, inl, inr}
 use mathlib.Core.Bool.{Bool, true, false}
@@ -7,8 +8,7 @@ use Prim.Native.Nat.{ℕ, zero, suc, ◌+◌, ◌≤◌, ◌<◌}
 use native.Mathlib.Numerals.{add-one}
 use native.Mathlib.Omega.{arith}
 use lib.ListN.{length}
-use Rattle.words.specs.lists.Pick.{pick}
-use Rattle.words.proofs.lists.Tests.{cases, yes-pick, no-pick}
+use Rattle.words.proofs.lists.Tests.{cases, if-true, if-false}
 use Rattle.words.specs.graph.Reach.{is_marked, reach}
 use Rattle.words.specs.graph.inner.Listed.{mark_all}
 use Rattle.words.proofs.graph.Lists.{joining-more}
@@ -20,12 +20,12 @@ use Rattle.chart_check.specs.node_marks.inner.MarkContracts.{marks_swept_to}
 
 -- one node more, followed where it is marked
 swept-more : (c : Chart) (first now out : List Bool) (v : ℕ) → length first ≡ size c → Joining (size c) (arcs c) first now
-    → out ≡ pick (is_marked now v) (mark_all (arcs c v) now) now → Joining (size c) (arcs c) first out
+    → out ≡ (if is_marked now v then mark_all (arcs c v) now else now) → Joining (size c) (arcs c) first out
 swept-more c first now out v long on e = go (cases (is_marked now v))
   where
     go : (is_marked now v ≡ true) ⊎ (is_marked now v ≡ false) → Joining (size c) (arcs c) first out
-    go (inl m) = joining-more (size c) (arcs c) first now out v long m (e ∙ yes-pick (is_marked now v) _ _ m) on
-    go (inr m) = subst (λ (xs : List Bool). Joining (size c) (arcs c) first xs) (sym (e ∙ no-pick (is_marked now v) _ _ m)) on
+    go (inl m) = joining-more (size c) (arcs c) first now out v long m (e ∙ if-true (is_marked now v) _ _ m) on
+    go (inr m) = subst (λ (xs : List Bool). Joining (size c) (arcs c) first xs) (sym (e ∙ if-false (is_marked now v) _ _ m)) on
 
 -- ---- the loop: nodes 0 to v - 1 had their turn
 pub record Sweeping (c : Chart) (first now : List Bool) (v : ℕ) : Type 0 where
@@ -39,12 +39,12 @@ module _ (c : Chart) (first : List Bool) where
   sweeping-none = record { low = omega arith; long = refl; is = refl }
 
   pub sweeping-turn : (now out : List Bool) (v : ℕ) → Sweeping c first now v → v < size c → length out ≡ length now
-      → out ≡ pick (is_marked now v) (mark_all (arcs c v) now) now → Sweeping c first out (v + 1)
+      → out ≡ (if is_marked now v then mark_all (arcs c v) now else now) → Sweeping c first out (v + 1)
   unfolding marks_swept_to
   sweeping-turn now out v t h l e = record {
     low = omega arith;
     long = l ∙ t.long;
-    is = e ∙ ap (λ (ms : List Bool). pick (is_marked ms v) (mark_all (arcs c v) ms) ms) t.is
+    is = e ∙ ap (λ (ms : List Bool). (if is_marked ms v then mark_all (arcs c v) ms else ms)) t.is
         ∙ ap (λ (m : ℕ). marks_swept_to c m first) (sym (add-one v));
   }
 

@@ -1,4 +1,5 @@
 -- Labels: their number is small, a label of a node's own is 2 or more, and the steps of the functions that lay them out.
+use Rattle.std.proofs.Common.{if◌then◌else◌, cond}
 use mathlib.Core.Path.{◌≡◌, refl, sym, ◌∙◌, ap}
 use mathlib.Core.Logic.{◌⊎◌, ⊎_elim}
 use mathlib.Core.Bool.{Bool, true, false, ◌&&◌, not}
@@ -10,10 +11,9 @@ use native.Mathlib.Omega.{arith}
 use lib.Dec.{eqb}
 use lib.ListN.{length, get_or, set, length-set}
 use borrow.Author.Tests.{eq-eqb, ne_eqb}
-use Rattle.words.specs.lists.Pick.{pick}
 use Rattle.words.specs.lists.Numbers.{range, count}
 use Rattle.words.specs.lists.Sequences.{written, over}
-use Rattle.words.proofs.lists.Tests.{yes-pick, no-pick, cases}
+use Rattle.words.proofs.lists.Tests.{if-true, if-false, cases}
 use Rattle.words.proofs.lists.Counts.{count-snoc, count-below, count-miss2}
 use Rattle.words.proofs.lists.Ranges.{length-map-range, get_or-map-range, map-range-snoc}
 use Rattle.words.proofs.lists.Written.{written_none, written-snoc, written-front}
@@ -28,13 +28,13 @@ use Rattle.walk.proofs.Follow.{stops-begin}
 
 pub label-own : (c : Chart) (v : ℕ) → is_numbered c v ≡ true → label c v ≡ 2 + count (is_numbered c) 0 v
 unfolding label
-label-own c v e = yes-pick (is_numbered c v) (2 + count (is_numbered c) 0 v) (pick (eqb (scheme c v) 1) 0 1) e
+label-own c v e = if-true (is_numbered c v) (2 + count (is_numbered c) 0 v) (if eqb (scheme c v) 1 then 0 else 1) e
 
-pub label-shared : (c : Chart) (v : ℕ) → is_numbered c v ≡ false → label c v ≡ pick (eqb (scheme c v) 1) 0 1
+pub label-shared : (c : Chart) (v : ℕ) → is_numbered c v ≡ false → label c v ≡ (if eqb (scheme c v) 1 then 0 else 1)
 unfolding label
-label-shared c v e = no-pick (is_numbered c v) (2 + count (is_numbered c) 0 v) (pick (eqb (scheme c v) 1) 0 1) e
+label-shared c v e = if-false (is_numbered c v) (2 + count (is_numbered c) 0 v) (if eqb (scheme c v) 1 then 0 else 1) e
 
-low : (b : Bool) → pick {A = ℕ} b 0 1 < 2
+low : (b : Bool) → cond {A = ℕ} b 0 1 < 2
 low true = omega arith
 low false = omega arith
 
@@ -75,10 +75,10 @@ module _ (c : Chart) (v : ℕ) where
   own-done own e t = omega (arith, label-own c v t)
 
   pub first_done : is_numbered c v ≡ false → scheme c v ≡ 1 → 0 ≡ label c v
-  first_done f e = sym (label-shared c v f ∙ yes-pick (eqb (scheme c v) 1) 0 1 (eq-eqb (scheme c v) 1 e))
+  first_done f e = sym (label-shared c v f ∙ if-true (eqb (scheme c v) 1) 0 1 (eq-eqb (scheme c v) 1 e))
 
   pub other-done : is_numbered c v ≡ false → (scheme c v ≡ 1 → ⊥) → 1 ≡ label c v
-  other-done f e = sym (label-shared c v f ∙ no-pick (eqb (scheme c v) 1) 0 1 (ne_eqb (scheme c v) 1 e))
+  other-done f e = sym (label-shared c v f ∙ if-false (eqb (scheme c v) 1) 0 1 (ne_eqb (scheme c v) 1 e))
 
 -- ---- the labels of the first v nodes
 pub record Labelling (c : Chart) (old labels : List ℕ) (own v : ℕ) : Type 0 where
@@ -109,9 +109,9 @@ module _ (c : Chart) (old labels : List ℕ) (own v : ℕ) (room : size c ≤ le
       ∙ ap (λ (y : ℕ). written old 0 (map (label c) (range 0 v) ++ (y ∷ []))) (e ∙ ap (label c) (sym (zero-add v)))
       ∙ ap (written old 0) (sym (map-range-snoc (label c) 0 v) ∙ ap (λ (k : ℕ). map (label c) (range 0 k)) (sym (add-one v)))
 
-  counted : (b : Bool) → is_numbered c v ≡ b → count (is_numbered c) 0 (v + 1) ≡ own + pick b 1 0
+  counted : (b : Bool) → is_numbered c v ≡ b → count (is_numbered c) 0 (v + 1) ≡ own + (if b then 1 else 0)
   counted b q = ap (count (is_numbered c) 0) (add-one v) ∙ count-snoc (is_numbered c) 0 v
-      ∙ omega (arith, t.owned, ap (λ (y : Bool). pick {A = ℕ} y 1 0) (ap (is_numbered c) (zero-add v) ∙ q))
+      ∙ omega (arith, t.owned, ap (λ (y : Bool). cond {A = ℕ} y 1 0) (ap (is_numbered c) (zero-add v) ∙ q))
 
   pub labelling-on : (own' : ℕ) → ((2 ≤ x) × (own' ≡ own + 1)) ⊎ ((x < 2) × (own' ≡ own))
       → Labelling c old (set labels v x) own' (v + 1)

@@ -1,5 +1,6 @@
 -- How many paths go on from a node at most: each test of a new number takes one from the numbers that are untested, and at most doubles
 -- the paths.
+use Rattle.std.proofs.Common.{if◌then◌else◌}
 use mathlib.Core.Path.{◌≡◌, refl, sym, ◌∙◌, ap, subst}
 use mathlib.Core.Logic.{◌⊎◌, inl, inr, ⊎_elim}
 use mathlib.Core.Bool.{Bool, true, false, ◌&&◌}
@@ -17,10 +18,9 @@ use lib.ListN.{length, get_or, set, replicate, length-append, length-set, length
 use lib.Pow.{pow_pos, pow_mono, shr-shr, shr_lt, shl_exact, high, ones_lt, ones_split}
 use lib.Seq.{get_or-set_same, get_or-set_other}
 use borrow.Author.Tests.{eqb-true, eq-eqb, ne_eqb}
-use Rattle.words.specs.lists.Pick.{pick}
 use Rattle.words.specs.lists.Numbers.{count}
 use Rattle.words.proofs.lists.Counts.{count-suc, count-within, count_less}
-use Rattle.words.proofs.lists.Tests.{and_l, and_r, and-true, and_no, yes-pick, no-pick}
+use Rattle.words.proofs.lists.Tests.{and_l, and_r, and-true, and_no, if-true, if-false}
 use Rattle.words.specs.bits.Word.{bit}
 use Rattle.words.proofs.bits.BitLaws.{bit-or, bit-pow-same, bit-add-same, bit-add-other, bit-cases}
 use Rattle.text.specs.frames.Frame.{size}
@@ -81,10 +81,10 @@ ones-count (suc k) i m h =
     ∙ ap (λ (x : ℕ). x + count (λ j. eqb (bit m j) 1) (suc i) k) (digit (bit-cases m i))
     ∙ sym (count-suc (λ j. eqb (bit m j) 1) i k)
   where
-    digit : (bit m i ≡ 0) ⊎ (bit m i ≡ 1) → bit m i ≡ pick (eqb (bit m i) 1) 1 0
+    digit : (bit m i ≡ 0) ⊎ (bit m i ≡ 1) → bit m i ≡ (if eqb (bit m i) 1 then 1 else 0)
     digit = ⊎_elim
-        (λ (z : bit m i ≡ 0). z ∙ sym (no-pick (eqb (bit m i) 1) 1 0 (ne_eqb (bit m i) 1 (λ q. omega arith))))
-        (λ (o : bit m i ≡ 1). o ∙ sym (yes-pick (eqb (bit m i) 1) 1 0 (eq-eqb (bit m i) 1 o)))
+        (λ (z : bit m i ≡ 0). z ∙ sym (if-false (eqb (bit m i) 1) 1 0 (ne_eqb (bit m i) 1 (λ q. omega arith))))
+        (λ (o : bit m i ≡ 1). o ∙ sym (if-true (eqb (bit m i) 1) 1 0 (eq-eqb (bit m i) 1 o)))
 
 pub untested-ones : (m care : ℕ) → m < 65536 → untested_count m care ≤ ones m
 untested-ones m care h =

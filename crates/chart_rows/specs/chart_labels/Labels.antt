@@ -1,6 +1,5 @@
 -- The labels of a chart's stops.
-use Rattle.std.specs.Prelude.{ℕ, ◌+◌, Bool, ◌&&◌, not, List, eqb}
-use Rattle.words.specs.lists.Pick.{pick}
+use Rattle.std.specs.Prelude.{ℕ, ◌+◌, Bool, ◌&&◌, not, List, eqb, if◌then◌else◌}
 use Rattle.words.specs.lists.Numbers.{range, count}
 use Rattle.words.specs.lists.Sequences.{filter}
 use Rattle.text.specs.frames.Frame.{size}
@@ -21,7 +20,7 @@ numbered_nodes c = filter (is_numbered c) (range 0 (size c))
 
 -- the numbered stops have 2, 3, .., all other nodes 0 in scheme 1 and 1 elsewhere; of these only Begin and End are read as labels
 unfoldable pub label : Chart → ℕ → ℕ
-label c v = pick (is_numbered c v) (2 + count (is_numbered c) 0 v) (pick (eqb (scheme c v) 1) 0 1)
+label c v = if is_numbered c v then 2 + count (is_numbered c) 0 v else if eqb (scheme c v) 1 then 0 else 1
 
 -- the label where performing scheme h starts
 abbrev pub entry : Chart → ℕ → ℕ
@@ -36,7 +35,7 @@ abbrev pub label_as : Chart → ℕ → Kind → Label
 label_as c v Begin = bare_label (scheme c v)
 label_as c v End = bare_label (scheme c v)
 label_as c v Operation = record {
-  kind = pick (eqb (argument c v) 0) PLAIN OPERATION_CALL;
+  kind = if eqb (argument c v) 0 then PLAIN else OPERATION_CALL;
   called = argument c v;
   owner = scheme c v;
   result = result c v;

@@ -1,6 +1,5 @@
 -- Parts of the rows, as the functions that count and write them have them, node by node.
-use Rattle.std.specs.Prelude.{ℕ, zero, suc, Bool, true, false, ◌&&◌, not, List, [], ◌++◌, eqb}
-use Rattle.words.specs.lists.Pick.{pick}
+use Rattle.std.specs.Prelude.{ℕ, zero, suc, Bool, true, false, ◌&&◌, not, List, [], ◌++◌, eqb, if◌then◌else◌}
 use Rattle.words.specs.lists.Numbers.{count}
 use Rattle.words.specs.bits.Word.{bit}
 use Rattle.text.specs.frames.Frame.{size}
@@ -13,7 +12,7 @@ use Rattle.chart_rows.specs.Rows.{paths, rows_of}
 
 -- the number of the condition that a path tests at node v, or 16 where no path goes on from it so
 abbrev pub tested_number : Chart → ℕ → ℕ
-tested_number c v = pick (is c CONDITION v && not (is_stop c v)) (argument c v) 16
+tested_number c v = if is c CONDITION v && not (is_stop c v) then argument c v else 16
 
 -- how many numbers of a mask a path with this care mask has not tested
 abbrev pub untested_count : ℕ → ℕ → ℕ
@@ -41,4 +40,4 @@ sides c l f g care values v = paths_from (size c) c l f care 0 (next0 c v) ++ pa
 
 -- the rows of node v, none where it has no label of its own
 abbrev pub node_rows : Chart → ℕ → List Row
-node_rows c v = pick (is_numbered c v) (rows_of c v) []
+node_rows c v = if is_numbered c v then rows_of c v else []

@@ -1,7 +1,6 @@
 -- What the functions that try 23 ask and promise, by frames of the table.
-use Rattle.std.specs.Prelude.{ℕ, ◌+◌, ◌-◌, ◌^◌, Bool, ◌||◌, not, List, ◌≡◌, eqb}
+use Rattle.std.specs.Prelude.{ℕ, ◌+◌, ◌-◌, ◌^◌, Bool, ◌||◌, not, List, ◌≡◌, eqb, if◌then◌else◌}
 use Rattle.std.specs.Int.Count.{ones}
-use Rattle.words.specs.lists.Pick.{pick}
 use Rattle.words.specs.lists.Numbers.{any, sum}
 use Rattle.text.specs.frames.Frame.{size, field}
 use Rattle.text.specs.frames.Sizes.{CONDITIONS, WORDS}
@@ -30,7 +29,7 @@ has_any_together b first n = any (λ f. is_together_with_some b (row_in_frame b 
 
 -- how many words a row matches with bit b, whatever its label
 abbrev pub words_with : ℕ → Row → ℕ
-words_with b r = pick (eqb r.bit NO_BIT || eqb r.bit b) (2 ^ (CONDITIONS - ones r.care)) 0
+words_with b r = if eqb r.bit NO_BIT || eqb r.bit b then 2 ^ (CONDITIONS - ones r.care) else 0
 
 abbrev pub words_in : List ℕ → ℕ → ℕ → ℕ → ℕ
 words_in b bit first n = sum (λ f. words_with bit (row_in_frame b f)) first n

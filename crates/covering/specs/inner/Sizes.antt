@@ -1,8 +1,7 @@
 -- Refusal 23 without trying every word: no two rows of one label can match one word and bit, and for each label from 2 up and each bit the
 -- numbers of words that its rows match sum up to 65,536.
-use Rattle.std.specs.Prelude.{ℕ, ◌-◌, ◌^◌, Bool, ◌&&◌, ◌||◌, not, eqb, length}
+use Rattle.std.specs.Prelude.{ℕ, ◌-◌, ◌^◌, Bool, ◌&&◌, ◌||◌, not, eqb, length, if◌then◌else◌}
 use Rattle.std.specs.Int.Count.{ones}
-use Rattle.words.specs.lists.Pick.{pick}
 use Rattle.words.specs.lists.Numbers.{any, sum}
 use Rattle.text.specs.frames.Sizes.{CONDITIONS, WORDS}
 use Rattle.image.specs.declared.layout.TheConstants.{NO_BIT}
@@ -18,7 +17,7 @@ has_overlap i = any (λ j. any (λ k. is_overlap (nth_row i k) (nth_row i j)) 0 
 
 -- how many words a row of label l matches, with bit b
 abbrev pub words_matched : ℕ → ℕ → Row → ℕ
-words_matched l b r = pick (eqb r.from l && (eqb r.bit NO_BIT || eqb r.bit b)) (2 ^ (CONDITIONS - ones r.care)) 0
+words_matched l b r = if eqb r.from l && (eqb r.bit NO_BIT || eqb r.bit b) then 2 ^ (CONDITIONS - ones r.care) else 0
 
 unfoldable pub covered_count : Image → ℕ → ℕ → ℕ
 covered_count i l b = sum (λ k. words_matched l b (nth_row i k)) 0 (length i.rows)

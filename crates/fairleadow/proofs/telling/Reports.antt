@@ -1,9 +1,9 @@
 -- What is told of a refused tick and of a finished one, and of an answer that gives an outcome.
+use Rattle.std.proofs.Common.{if◌then◌else◌}
 use Prim.Native.Nat.{ℕ}
 use mathlib.Core.Bool.{Bool}
 use mathlib.Core.Path.{◌≡◌, ◌∙◌, ap, subst}
 use lib.Dec.{eqb}
-use Rattle.words.specs.lists.Pick.{pick}
 use Rattle.text.specs.frames.Answer.{Reply, reply_number}
 use Rattle.runs.specs.TickOutcome.{TickAnswer, tick_reply, answered_mask, answered_code}
 use Rattle.fairleadow.specs.telling.AnswersForC.{GivesReplyC, GivesTickAnswerC}
@@ -17,8 +17,8 @@ module _ {a : TickAnswer} {m₀ k₀ n i m mask code : ℕ} (ticked : GivesTickA
   told-test : eqb n 0 ≡ eqb (reply_number x) 0
   told-test = ap (λ (k : ℕ). eqb k 0) (ticked.told.number_is ∙ ap reply_number answered)
 
-  pub mask-told : {v : ℕ} → answered_mask a ≡ v → mask ≡ pick (eqb (reply_number x) 0) v m₀
-  mask-told e = ticked.mask ∙ ap (λ (t : Bool). pick t (answered_mask a) m₀) told-test ∙ ap (λ (v : ℕ). pick (eqb (reply_number x) 0) v m₀) e
+  pub mask-told : {v : ℕ} → answered_mask a ≡ v → mask ≡ (if eqb (reply_number x) 0 then v else m₀)
+  mask-told e = ticked.mask ∙ ap (λ (t : Bool). (if t then answered_mask a else m₀)) told-test ∙ ap (λ (v : ℕ). (if eqb (reply_number x) 0 then v else m₀)) e
 
-  pub code-told : {v : ℕ} → answered_code a ≡ v → code ≡ pick (eqb (reply_number x) 0) v k₀
-  code-told e = ticked.code ∙ ap (λ (t : Bool). pick t (answered_code a) k₀) told-test ∙ ap (λ (v : ℕ). pick (eqb (reply_number x) 0) v k₀) e
+  pub code-told : {v : ℕ} → answered_code a ≡ v → code ≡ (if eqb (reply_number x) 0 then v else k₀)
+  code-told e = ticked.code ∙ ap (λ (t : Bool). (if t then answered_code a else k₀)) told-test ∙ ap (λ (v : ℕ). (if eqb (reply_number x) 0 then v else k₀)) e

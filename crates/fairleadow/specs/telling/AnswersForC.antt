@@ -1,6 +1,5 @@
 -- What C is told of an answer and of a tick's.
-use Rattle.std.specs.Prelude.{ℕ, ◌≡◌, List, eqb}
-use Rattle.words.specs.lists.Pick.{pick}
+use Rattle.std.specs.Prelude.{ℕ, ◌≡◌, List, eqb, if◌then◌else◌}
 use Rattle.text.specs.frames.Answer.{Reply, reply_number, reply_index, reply_count, BufferOutcome}
 use Rattle.runs.specs.TickOutcome.{TickAnswer, tick_reply, answered_mask, answered_code}
 
@@ -13,8 +12,8 @@ pub record GivesReplyC (x : Reply) (returned at made : ℕ) : Type 0 where
 -- what is written of a tick's answer, over the mask and the code before it
 pub record GivesTickAnswerC (answer : TickAnswer) (m₀ k₀ returned at made m k : ℕ) : Type 0 where
   pub told : GivesReplyC (tick_reply answer) returned at made
-  pub mask : m ≡ pick (eqb returned 0) (answered_mask answer) m₀
-  pub code : k ≡ pick (eqb returned 0) (answered_code answer) k₀
+  pub mask : m ≡ (if eqb returned 0 then answered_mask answer else m₀)
+  pub code : k ≡ (if eqb returned 0 then answered_code answer else k₀)
 
 -- a call with one lent buffer
 pub record GivesBufferC (x : BufferOutcome) (returned at made : ℕ) (after : List ℕ) : Type 0 where

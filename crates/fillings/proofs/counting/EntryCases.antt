@@ -7,12 +7,11 @@ use native.Mathlib.Nat.{mul-le-mul}
 use native.Mathlib.Omega.{arith}
 use lib.Dec.{ltb, eqb}
 use borrow.Author.Tests.{lt-ltb, le-ltb, ltb-false, eqb-false}
-use Rattle.words.specs.lists.Pick.{pick}
 use Rattle.words.proofs.lists.Tests.{or_l, or-none, or-true-l, or_true_r}
 use Rattle.text.specs.frames.Frame.{contents}
 use Rattle.text.specs.frames.Verdict.{Verdict, fine, refused, next, when}
 use Rattle.text.specs.frames.Answer.{Answer, success, refusal, reply, verdict_reply}
-use Rattle.std.proofs.Common.{Ok, Err}
+use Rattle.std.proofs.Common.{Ok, Err, cond}
 use Rattle.text.specs.declared.frames.refusals.Refusal.{Refusal}
 use Rattle.text.specs.declared.frames.refusals.Refusal.TheVariants.{BadSize, ManyLists}
 use Rattle.text.specs.frames.Refusal.{number_of, index_of, ticks_of}
@@ -60,7 +59,7 @@ pub fresh-made : (size : ℕ) → is_bad_size size ≡ false → (s : State) (by
     → state_of bytes ≡ fresh size
 unfolding fresh_state
 fresh-made size e s bytes q h =
-    let is : s ≡ fresh size = q ∙ ap (λ (t : Bool). (pick {A = StateOutcome} t (record { reply = refusal 14 0 0; state = no_state })
+    let is : s ≡ fresh size = q ∙ ap (λ (t : Bool). (cond {A = StateOutcome} t (record { reply = refusal 14 0 0; state = no_state })
     (record { reply = success 0; state = fresh size })).state) e in
     ap state_of (h ∙ ap bytes_of is) ∙ state-back (fresh size) (fresh-sized size) refl
 

@@ -1,4 +1,5 @@
 -- The lists of one word more, by their first word: where its tick leads, and the lists of the words after it.
+use Rattle.std.proofs.Common.{if◌then◌else◌, cond}
 use Prim.Native.Nat.{ℕ, zero, suc, ◌+◌, ◌*◌, ◌^◌, ◌<◌}
 use mathlib.Core.Bool.{Bool, true, false}
 use mathlib.Core.Path.{◌≡◌, refl, sym, ◌∙◌, ap, ap₂}
@@ -7,14 +8,13 @@ use native.Mathlib.Nat.{zero-add, add-zero, add-suc, suc-mul, zero-mul}
 use native.Mathlib.Omega.{arith}
 use lib.Dec.{eqb}
 use lib.Pow.{pow-add, high, low}
-use Rattle.words.specs.lists.Pick.{pick}
 use Rattle.words.specs.lists.Numbers.{count, sum}
 use Rattle.words.proofs.lists.Counts.{count-snoc, count-all, count_none, count-alike}
 use Rattle.words.proofs.lists.Sums.{sum-add, sum-zero, sum_same}
 use Rattle.image.specs.Image.{Image}
 use Rattle.state.specs.declared.State.{State}
 use Rattle.ticks.specs.Tick.{MachineTick, finished, stopped, tick}
-use Rattle.runs.specs.Run.{then, ticks}
+use Rattle.runs.specs.Run.{run_after, ticks}
 use Rattle.fillings.specs.Counts.{words_of, lists, number_of, number_met, count_meeting}
 use Rattle.fillings.proofs.Lists.{lists-suc}
 
@@ -26,7 +26,7 @@ count-block p m zero =
     omega arith
 count-block p m (suc n) =
     let e : count p 0 (m + suc n) ≡ count p 0 (suc (m + n)) = ap (count p 0) (add-suc m n) in
-    let x : pick {A = ℕ} (p (0 + (m + n))) 1 0 ≡ pick (p (m + (0 + n))) 1 0 = ap (λ (k : ℕ). pick {A = ℕ} (p k) 1 0) (omega arith) in
+    let x : cond {A = ℕ} (p (0 + (m + n))) 1 0 ≡ (if p (m + (0 + n)) then 1 else 0) = ap (λ (k : ℕ). cond {A = ℕ} (p k) 1 0) (omega arith) in
     omega (arith, e, x, count-snoc p 0 (m + n), count-snoc (λ w. p (m + w)) 0 n, count-block p m n)
 
 by-rest : (p : ℕ → Bool) (b a : ℕ) → count p 0 (a * b) ≡ sum (λ w. count (λ q. p (q * b + w)) 0 a) 0 b
@@ -36,9 +36,9 @@ by-rest p b zero =
     (λ w l h. count_none (λ q. p (q * b + w)) 0 0 (λ k a c. absurd (omega arith))))
 by-rest p b (suc a) =
     let e : count p 0 (suc a * b) ≡ count p 0 (a * b + b) = ap (count p 0) (suc-mul a b) in
-    let more : (w : ℕ) → count (λ q. p (q * b + w)) 0 (suc a) ≡ pick (p (a * b + w)) 1 0 + count (λ q. p (q * b + w)) 0 a =
-    λ w. let x : pick {A = ℕ} (p ((0 + a) * b + w)) 1 0 ≡ pick (p (a * b + w)) 1 0 =
-    ap (λ (k : ℕ). pick {A = ℕ} (p (k * b + w)) 1 0) (zero-add a) in
+    let more : (w : ℕ) → count (λ q. p (q * b + w)) 0 (suc a) ≡ (if p (a * b + w) then 1 else 0) + count (λ q. p (q * b + w)) 0 a =
+    λ w. let x : cond {A = ℕ} (p ((0 + a) * b + w)) 1 0 ≡ (if p (a * b + w) then 1 else 0) =
+    ap (λ (k : ℕ). cond {A = ℕ} (p (k * b + w)) 1 0) (zero-add a) in
     omega (arith, x, count-snoc (λ q. p (q * b + w)) 0 a) in
     let s : sum (λ w. count (λ q. p (q * b + w)) 0 (suc a)) 0 b
     ≡ count (λ w. p (a * b + w)) 0 b + sum (λ w. count (λ q. p (q * b + w)) 0 a) 0 b =
@@ -48,9 +48,9 @@ by-rest p b (suc a) =
 -- ---- how many of the lists that begin alike meet a number
 abbrev pub share : Image → ℕ → ℕ → ℕ → MachineTick → ℕ
 share i n k number (finished m c t) = count_meeting i t n k number
-share i n k number (stopped m) = pick (eqb m number) (lists n k) 0
+share i n k number (stopped m) = if eqb m number then lists n k else 0
 
-all-or-none : (b : Bool) (m : ℕ) → count (λ q. b) 0 m ≡ pick b m 0
+all-or-none : (b : Bool) (m : ℕ) → count (λ q. b) 0 m ≡ (if b then m else 0)
 all-or-none true m = count-all 0 m
 all-or-none false m = count_none (λ q. false) 0 m (λ k l h. refl)
 
@@ -66,10 +66,10 @@ module _ (i : Image) (s : State) (n k number : ℕ) where
   unfolding ticks count_meeting
   by-tick w (finished m c t) e =
       count-alike (λ q. eqb (number_met i t (words_of n k q)) number) (λ q. meets (w ∷ words_of n k q)) 0 (lists n k)
-      (λ q l h. ap (λ (y : MachineTick). eqb (number_of (then s (λ u. ticks i u (words_of n k q)) y).verdict) number) e)
+      (λ q l h. ap (λ (y : MachineTick). eqb (number_of (run_after s (λ u. ticks i u (words_of n k q)) y).verdict) number) e)
   by-tick w (stopped m) e =
       count-alike (λ q. eqb m number) (λ q. meets (w ∷ words_of n k q)) 0 (lists n k)
-      (λ q l h. ap (λ (y : MachineTick). eqb (number_of (then s (λ u. ticks i u (words_of n k q)) y).verdict) number) e)
+      (λ q l h. ap (λ (y : MachineTick). eqb (number_of (run_after s (λ u. ticks i u (words_of n k q)) y).verdict) number) e)
       ∙ all-or-none (eqb m number) (lists n k)
 
   pub meeting-more : count_meeting i s (suc n) k number ≡ sum (λ w. share i n k number (tick i s w)) 0 (2 ^ k)
@@ -83,6 +83,6 @@ module _ (i : Image) (s : State) (n k number : ℕ) where
       (λ q b h. ap meets (words_more q w (omega arith))) ∙ by-tick w (tick i s w) refl)
 
 -- no word is left: the one list has come to its end
-pub meeting-none : (i : Image) (s : State) (k number : ℕ) → count_meeting i s 0 k number ≡ pick (eqb 0 number) 1 0
+pub meeting-none : (i : Image) (s : State) (k number : ℕ) → count_meeting i s 0 k number ≡ (if eqb 0 number then 1 else 0)
 unfolding count_meeting words_of ticks
 meeting-none i s k number = ap (λ (m : ℕ). count (λ x. eqb 0 number) 0 (2 ^ m)) (zero-mul k) ∙ all-or-none (eqb 0 number) 1

@@ -1,4 +1,5 @@
 -- The places above the depth, looked at one after the other: their bits are gathered, and none is set where every place is 0.
+use Rattle.std.proofs.Common.{if◌then◌else◌}
 use Prim.Native.Nat.{ℕ, ◌+◌, ◌-◌, ◌≤◌, ◌<◌}
 use mathlib.Core.Bool.{true, false, ◌&&◌, not}
 use mathlib.Core.Path.{◌≡◌, refl, sym, ◌∙◌, ap}
@@ -8,9 +9,8 @@ use native.Mathlib.Omega.{arith}
 use lib.Bits.{bit_or, or_add_and, and_le_l, and_le_r}
 use lib.Dec.{leb, eqb}
 use borrow.Author.Tests.{eq-eqb, ne_eqb, le-leb, lt-leb}
-use Rattle.words.specs.lists.Pick.{pick}
 use Rattle.words.specs.lists.Numbers.{any}
-use Rattle.words.proofs.lists.Tests.{and-true, yes-pick, no-pick, split}
+use Rattle.words.proofs.lists.Tests.{and-true, if-true, if-false, split}
 use Rattle.words.proofs.lists.Searches.{any_none, any-true}
 use Rattle.state.specs.declared.State.{State}
 use Rattle.state.specs.State.{place_at, number_at, server_at}
@@ -53,11 +53,11 @@ module _ (s : State) where
   found = any (is_filled_place s) s.depth (32 - s.depth) ≡ true
 
   -- place k, where it lies above the depth
-  above-is : (d k x : ℕ) → d ≡ s.depth → x ≡ pick (leb d k) (place_joined s k) 0 → s.depth ≤ k → x ≡ place_joined s k
-  above-is d k x e q h = q ∙ yes-pick (leb d k) (place_joined s k) 0 (le-leb d k (omega arith))
+  above-is : (d k x : ℕ) → d ≡ s.depth → x ≡ (if leb d k then place_joined s k else 0) → s.depth ≤ k → x ≡ place_joined s k
+  above-is d k x e q h = q ∙ if-true (leb d k) (place_joined s k) 0 (le-leb d k (omega arith))
 
-  above-not : (d k x : ℕ) → d ≡ s.depth → x ≡ pick (leb d k) (place_joined s k) 0 → k < s.depth → x ≡ 0
-  above-not d k x e q h = q ∙ no-pick (leb d k) (place_joined s k) 0 (lt-leb d k (omega arith))
+  above-not : (d k x : ℕ) → d ≡ s.depth → x ≡ (if leb d k then place_joined s k else 0) → k < s.depth → x ≡ 0
+  above-not d k x e q h = q ∙ if-false (leb d k) (place_joined s k) 0 (lt-leb d k (omega arith))
 
   -- after k places, with their bits gathered
   pub record Seen (bits k : ℕ) : Type 0 where
@@ -68,7 +68,7 @@ module _ (s : State) where
   pub seen_first : Seen 0 0
   seen_first = record { inside = omega arith; none = λ e j h g. absurd (omega arith); some = λ n. absurd (n refl) }
 
-  module _ (bits k d x : ℕ) (e : d ≡ s.depth) (h : k < 32) (q : x ≡ pick (leb d k) (place_joined s k) 0) (t : Seen bits k) where
+  module _ (bits k d x : ℕ) (e : d ≡ s.depth) (h : k < 32) (q : x ≡ (if leb d k then place_joined s k else 0)) (t : Seen bits k) where
     here : x ≡ 0 → s.depth ≤ k → place_joined s k ≡ 0
     here z g = sym (above-is d k x e q g) ∙ z
 

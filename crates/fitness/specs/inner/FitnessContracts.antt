@@ -1,6 +1,5 @@
 -- What the tests of a state's fitness ask and promise.
-use Rattle.std.specs.Prelude.{ℕ, ◌≤◌, Bool, ◌&&◌, ◌||◌, not, List, leb, eqb}
-use Rattle.words.specs.lists.Pick.{pick}
+use Rattle.std.specs.Prelude.{ℕ, ◌≤◌, Bool, ◌&&◌, ◌||◌, not, List, leb, eqb, if◌then◌else◌}
 use Rattle.tables.specs.inner.Asked.{Whole}
 use Rattle.state.specs.declared.layout.TheConstants.{PLACES}
 use Rattle.state.specs.declared.State.{State}
@@ -31,4 +30,4 @@ is_astray_at_bottom handler owner l number server =
 
 -- with H schemes and handler g, scheme k may not serve number h
 abbrev pub is_misserved : ℕ → ℕ → ℕ → ℕ → Bool
-is_misserved H g h k = not (pick (leb h H && not (eqb h g)) (leb 2 k && leb k H) (eqb k h))
+is_misserved H g h k = not (if leb h H && not (eqb h g) then leb 2 k && leb k H else eqb k h)

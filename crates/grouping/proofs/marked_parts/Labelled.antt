@@ -1,4 +1,5 @@
 -- A buffer after one write for each label: loops that make one, and the classes that are kept by the marks.
+use Rattle.std.proofs.Common.{if◌then◌else◌}
 use Prim.Native.Nat.{ℕ, zero, suc, ◌+◌, ◌≤◌, ◌<◌}
 use mathlib.Core.Path.{◌≡◌, refl, sym, ◌∙◌, ap, ap₂, subst}
 use mathlib.Core.Bool.{Bool, true, false}
@@ -8,7 +9,6 @@ use native.Mathlib.Omega.{arith}
 use lib.Dec.{eqb}
 use lib.ListN.{length, get_or, set, length-set}
 use borrow.Author.Tests.{eqb-true}
-use Rattle.words.specs.lists.Pick.{pick}
 use Rattle.grouping.specs.inner.GroupingContracts.{KeptClasses}
 use Rattle.grouping.proofs.Marked.{kept-start, kept_on}
 use Rattle.grouping.specs.marked_parts.inner.Parts.{labelled, mark_others, PartsMarked}
@@ -46,7 +46,7 @@ module _ (place : ℕ → ℕ) (value : ℕ → List ℕ → ℕ) (xs₀ : List 
 
 -- ---- the marks
 module _ (former c kept marks₀ : List ℕ) (h : length marks₀ ≡ 256) where
-  kept_of : (t : Bool) (part k : ℕ) → eqb part k ≡ t → pick t 0 2 < 2 → part ≡ k
+  kept_of : (t : Bool) (part k : ℕ) → eqb part k ≡ t → (if t then 0 else 2) < 2 → part ≡ k
   kept_of true part k e l = eqb-true part k e
   kept_of false part k e l = absurd (omega arith)
 

@@ -1,4 +1,5 @@
 -- The notes of labels 2 to M: the loop that makes them, and that they are enough with the marks.
+use Rattle.std.proofs.Common.{cond}
 use Prim.Native.Nat.{ℕ, ◌+◌, ◌-◌, ◌≤◌, ◌<◌}
 use mathlib.Core.Path.{◌≡◌, refl, sym, ◌∙◌, ap, ap₂, subst}
 use mathlib.Core.Bool.{Bool, true, false}
@@ -6,7 +7,6 @@ use mathlib.Core.List.{List, map, ◌++◌}
 use native.Mathlib.Omega.{arith}
 use lib.ListN.{length, get_or, set, take, drop, get_or-append}
 use lib.Seq.{get_or-append-add, length-take-le}
-use Rattle.words.specs.lists.Pick.{pick}
 use Rattle.words.specs.lists.Numbers.{range, any}
 use Rattle.words.specs.lists.Sequences.{written}
 use Rattle.words.proofs.lists.Ranges.{length-map-range, get_or-map-range}
@@ -69,7 +69,7 @@ module _ (b marks old : List ℕ) where
         ∙ get_or-map-range note 0 0 (last_label b - 1) (l - 2) (omega arith)
         ∙ ap (λ (m : ℕ). touch_in b marks (first_on b m) (end_on b m)) (omega arith)
 
-    none : (t : Bool) → pick {A = ℕ} t 1 0 ≡ 0 → t ≡ false
+    none : (t : Bool) → cond {A = ℕ} t 1 0 ≡ 0 → t ≡ false
     none true z = absurd (omega arith)
     none false z = refl
 

@@ -1,7 +1,6 @@
 -- A sound image: the plain facts that let its text be read back and pass the image check.
-use Rattle.std.specs.Prelude.{ℕ, suc, ◌≤◌, ◌<◌, ◌≡◌, ◌⊎◌, length, get_or, eqb}
+use Rattle.std.specs.Prelude.{ℕ, suc, ◌≤◌, ◌<◌, ◌≡◌, ◌⊎◌, length, get_or, eqb, if◌then◌else◌}
 use Rattle.std.specs.Int.Bits.{bit_and}
-use Rattle.words.specs.lists.Pick.{pick}
 use Rattle.text.specs.declared.frames.sizes.TheConstants.{SCHEMES, LABELS, ROWS}
 use Rattle.text.specs.frames.Sizes.{WORDS}
 use Rattle.image.specs.Image.{Image, Label, Row, home_label, return_label, nth_row}
@@ -12,7 +11,7 @@ nth_label i l = get_or i.labels l no_label
 
 -- the label where scheme h ends
 abbrev pub end_of : ℕ → ℕ
-end_of h = pick (eqb h 1) 0 1
+end_of h = if eqb h 1 then 0 else 1
 
 -- a label that a row or an entry of scheme h may lead to
 pub record Reaches (i : Image) (h l : ℕ) : Type 0 where

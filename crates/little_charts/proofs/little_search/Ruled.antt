@@ -1,5 +1,6 @@
 -- What is left out is in no accepted chart: a second Begin or End, an arc to a Begin, a condition's arc to itself, a node that no other
 -- leads to.
+use Rattle.std.proofs.Common.{if◌then◌else◌}
 use Prim.Native.Nat.{ℕ, ◌+◌, ◌-◌, ◌≤◌, ◌<◌}
 use mathlib.Core.Bool.{Bool, true, false, ◌&&◌, ◌||◌, not}
 use mathlib.Core.Path.{◌≡◌, refl, sym, ◌∙◌, ap, subst}
@@ -9,7 +10,6 @@ use native.Mathlib.Omega.{arith}
 use native.Mathlib.Decide.{ℕ_discrete}
 use lib.Dec.{eqb}
 use borrow.Author.Tests.{eqb-true, eq-eqb, ne_eqb}
-use Rattle.words.specs.lists.Pick.{pick}
 use Rattle.words.specs.lists.Numbers.{any}
 use Rattle.words.proofs.lists.Tests.{no_both, split, or_cases, or-none, or-true-l, or_true_r, and_l, and_r, and-true, not-true}
 use Rattle.words.proofs.lists.Searches.{any_some, any-true, any_false, some-cons}
@@ -161,7 +161,7 @@ module _ (c : Chart) (p : Plain c) where
   pub needed : (v : ℕ) → v < size c → size c - v ≤ missing_ends c v → 2 ≤ kind c v → ⊥
   needed v l m k = go (has_kind c 0 v) (has_kind c 1 v) refl refl m
     where
-      go : (a b : Bool) → has_kind c 0 v ≡ a → has_kind c 1 v ≡ b → size c - v ≤ pick a 0 1 + pick b 0 1 → ⊥
+      go : (a b : Bool) → has_kind c 0 v ≡ a → has_kind c 1 v ≡ b → size c - v ≤ (if a then 0 else 1) + (if b then 0 else 1) → ⊥
       go true true e f h = omega arith
       go true false e f h =
           let x : v ≤ end c 1 = above 1 v (end c 1) f the_end.kinded in

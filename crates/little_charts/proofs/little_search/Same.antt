@@ -1,4 +1,5 @@
 -- The search finds just the little charts, in their order.
+use Rattle.std.proofs.Common.{if◌then◌else◌}
 use Prim.Native.Nat.{ℕ, zero, suc, ◌+◌, ◌*◌, ◌-◌, ◌≤◌, ◌<◌}
 use mathlib.Core.Bool.{Bool, true, false, ◌&&◌}
 use mathlib.Core.Path.{◌≡◌, refl, sym, ◌∙◌, ap, ap₂, subst}
@@ -8,10 +9,9 @@ use lib.Dec.{leb, ltb, eqb}
 use lib.ListN.{length, get_or, length-append}
 use lib.Seq.{get_or-append-add}
 use borrow.Author.Tests.{eqb-true, leb-true, lt-ltb, le-ltb, ne_eqb}
-use Rattle.words.specs.lists.Pick.{pick}
 use Rattle.words.specs.lists.Numbers.{range, any}
 use Rattle.words.specs.lists.Sequences.{filter, concat_map, All}
-use Rattle.words.proofs.lists.Tests.{no_both, and_l, and_r, yes-pick, no-pick}
+use Rattle.words.proofs.lists.Tests.{no_both, and_l, and_r, if-true, if-false}
 use Rattle.words.proofs.lists.Searches.{any_none}
 use Rattle.words.proofs.lists.Ranges.{filter-yes, filter-no}
 use Rattle.words.proofs.lists.Joins.{all_of, all_append, all_map, length-concat, concat-append, concat-map, concat-alike}
@@ -48,15 +48,15 @@ nodes-at (suc (suc (suc (suc (suc n))))) a b = absurd (omega arith)
 -- low numbers are Begins, those after the End are neither Begin nor End
 pub low-kind : (n i : ℕ) → i < n → get_or (node_at n i) 0 0 ≡ 0
 unfolding node_at
-low-kind n i l = ap (λ (t : List ℕ). get_or t 0 0) (yes-pick (ltb i n) _ _ (lt-ltb i n l))
+low-kind n i l = ap (λ (t : List ℕ). get_or t 0 0) (if-true (ltb i n) _ _ (lt-ltb i n l))
 
 pub high-kind : (n i : ℕ) → n + 1 ≤ i → 2 ≤ get_or (node_at n i) 0 0
 unfolding node_at
 high-kind n i l = subst (λ (t : List ℕ). 2 ≤ get_or t 0 0)
-    (sym (no-pick (ltb i n) _ _ (le-ltb i n (omega arith)) ∙ no-pick (eqb i n) _ _ (ne_eqb i n (λ e. omega arith))))
+    (sym (if-false (ltb i n) _ _ (le-ltb i n (omega arith)) ∙ if-false (eqb i n) _ _ (ne_eqb i n (λ e. omega arith))))
     (go (ltb i (3 * n + 1)))
   where
-    go : (t : Bool) → 2 ≤ get_or (pick t (operation_at (i - (n + 1))) (condition_at n (i - (3 * n + 1)))) 0 0
+    go : (t : Bool) → 2 ≤ get_or (if t then operation_at (i - (n + 1)) else condition_at n (i - (3 * n + 1))) 0 0
     go true = omega arith
     go false = omega arith
 
@@ -64,14 +64,14 @@ high-kind n i l = subst (λ (t : List ℕ). 2 ≤ get_or t 0 0)
 pub first-low : (n : ℕ) (c : Chart) (v : ℕ) → first_tried n c v ≤ n
 first-low n c v = go (has_kind c 0 v)
   where
-    go : (t : Bool) → pick t n 0 ≤ n
+    go : (t : Bool) → (if t then n else 0) ≤ n
     go true = omega arith
     go false = omega arith
 
 pub past-within : (n : ℕ) (c : Chart) (v : ℕ) → (n + 1 ≤ past_last n c v) × (past_last n c v ≤ node_count n)
 past-within n c v = go (leb (n - v) (missing_ends c v))
   where
-    go : (t : Bool) → (n + 1 ≤ pick t (n + 1) (node_count n)) × (pick t (n + 1) (node_count n) ≤ node_count n)
+    go : (t : Bool) → (n + 1 ≤ (if t then n + 1 else node_count n)) × ((if t then n + 1 else node_count n) ≤ node_count n)
     go true = (omega arith, omega arith)
     go false = (omega arith, omega arith)
 
@@ -195,7 +195,7 @@ module _ (n : ℕ) (a : 2 ≤ n) (b : n ≤ 4) where
       low-empty : i < first_tried n c v → Rest more m ≡ []
       low-empty h = go (has_kind c 0 v) refl h
         where
-          go : (t : Bool) → has_kind c 0 v ≡ t → i < pick t n 0 → Rest more m ≡ []
+          go : (t : Bool) → has_kind c 0 v ≡ t → i < (if t then n else 0) → Rest more m ≡ []
           go true q k = no_more (λ fs s p. no_second (whole fs) p v (omega arith) (sym (has-alike c (whole fs) 0 v (first-alikes fs)) ∙ q)
               (kind-is fs ∙ low-kind n i k))
           go false q k = absurd (omega arith)
@@ -203,7 +203,7 @@ module _ (n : ℕ) (a : 2 ≤ n) (b : n ≤ 4) where
       high-empty : past_last n c v ≤ i → Rest more m ≡ []
       high-empty h = go (leb (n - v) (missing_ends c v)) refl h
         where
-          go : (t : Bool) → leb (n - v) (missing_ends c v) ≡ t → pick t (n + 1) (node_count n) ≤ i → Rest more m ≡ []
+          go : (t : Bool) → leb (n - v) (missing_ends c v) ≡ t → (if t then n + 1 else node_count n) ≤ i → Rest more m ≡ []
           go true q k = no_more (λ fs s p. needed (whole fs) p v (omega arith)
               (let x : n - v ≤ missing_ends c v = leb-true (n - v) (missing_ends c v) q in omega
               (arith, missing-alike c (whole fs) v (first-alikes fs)))

@@ -1,12 +1,12 @@
 -- Node records by number, and the numbers to try, by the tests that the code makes.
+use Rattle.std.proofs.Common.{if◌then◌else◌}
 use Prim.Native.Nat.{ℕ, ◌+◌, ◌*◌, ◌-◌, ◌/◌, ◌%◌, ◌≤◌, ◌<◌}
 use mathlib.Core.Bool.{Bool, true, false}
 use mathlib.Core.Path.{◌≡◌, sym, ◌∙◌}
 use mathlib.Core.List.{List, [], ◌∷◌}
 use lib.Dec.{ltb, eqb}
 use borrow.Author.Tests.{lt-ltb, le-ltb, eq-eqb, ne_eqb}
-use Rattle.words.specs.lists.Pick.{pick}
-use Rattle.words.proofs.lists.Tests.{yes-pick, no-pick}
+use Rattle.words.proofs.lists.Tests.{if-true, if-false}
 use Rattle.little_charts.specs.little_search.inner.Search.{node_at}
 
 -- ---- arcs are small
@@ -14,28 +14,28 @@ use Rattle.little_charts.specs.little_search.inner.Search.{node_at}
 module _ (n i : ℕ) where
   pub at-begin : i < n → ◌≡◌ {A = List ℕ} (0 ∷ 1 ∷ 0 ∷ i ∷ 0 ∷ 0 ∷ 0 ∷ 0 ∷ 0 ∷ 0 ∷ []) (node_at n i)
   unfolding node_at
-  at-begin l = sym (yes-pick (ltb i n) _ _ (lt-ltb i n l))
+  at-begin l = sym (if-true (ltb i n) _ _ (lt-ltb i n l))
 
   pub at-end : n ≤ i → i ≡ n → ◌≡◌ {A = List ℕ} (1 ∷ 1 ∷ 0 ∷ 0 ∷ 0 ∷ 0 ∷ 0 ∷ 0 ∷ 0 ∷ 0 ∷ []) (node_at n i)
   unfolding node_at
-  at-end l e = sym (no-pick (ltb i n) _ _ (le-ltb i n l) ∙ yes-pick (eqb i n) _ _ (eq-eqb i n e))
+  at-end l e = sym (if-false (ltb i n) _ _ (le-ltb i n l) ∙ if-true (eqb i n) _ _ (eq-eqb i n e))
 
   module _ (l : n ≤ i) (d : i ≡ n → ⊥) where
     pub at-operation : i < 3 * n + 1 → let j = i - (n + 1) in
         ◌≡◌ {A = List ℕ} (2 ∷ 1 ∷ 0 ∷ j / 2 ∷ 0 ∷ 0 ∷ 0 ∷ 0 ∷ 0 ∷ j % 2 ∷ []) (node_at n i)
     unfolding node_at
-    at-operation m = sym (no-pick (ltb i n) _ _ (le-ltb i n l) ∙ no-pick (eqb i n) _ _ (ne_eqb i n d)
-        ∙ yes-pick (ltb i (3 * n + 1)) _ _ (lt-ltb i (3 * n + 1) m))
+    at-operation m = sym (if-false (ltb i n) _ _ (le-ltb i n l) ∙ if-false (eqb i n) _ _ (ne_eqb i n d)
+        ∙ if-true (ltb i (3 * n + 1)) _ _ (lt-ltb i (3 * n + 1) m))
 
     pub at-condition : 3 * n + 1 ≤ i → let j = i - (3 * n + 1) in
         ◌≡◌ {A = List ℕ} (3 ∷ 1 ∷ 0 ∷ j / n ∷ j % n ∷ 0 ∷ 0 ∷ 0 ∷ 0 ∷ 0 ∷ []) (node_at n i)
     unfolding node_at
-    at-condition m = sym (no-pick (ltb i n) _ _ (le-ltb i n l) ∙ no-pick (eqb i n) _ _ (ne_eqb i n d)
-        ∙ no-pick (ltb i (3 * n + 1)) _ _ (le-ltb i (3 * n + 1) m))
+    at-condition m = sym (if-false (ltb i n) _ _ (le-ltb i n l) ∙ if-false (eqb i n) _ _ (ne_eqb i n d)
+        ∙ if-false (ltb i (3 * n + 1)) _ _ (le-ltb i (3 * n + 1) m))
 
 -- ---- choices by a test that a call made
-pub chosen : {A : Type 0} (r t : Bool) (a b : A) → r ≡ t → r ≡ true → a ≡ pick t a b
-chosen r t a b e q = sym (yes-pick t a b (sym e ∙ q))
+pub chosen : {A : Type 0} (r t : Bool) (a b : A) → r ≡ t → r ≡ true → a ≡ (if t then a else b)
+chosen r t a b e q = sym (if-true t a b (sym e ∙ q))
 
-pub left : {A : Type 0} (r t : Bool) (a b : A) → r ≡ t → r ≡ false → b ≡ pick t a b
-left r t a b e q = sym (no-pick t a b (sym e ∙ q))
+pub left : {A : Type 0} (r t : Bool) (a b : A) → r ≡ t → r ≡ false → b ≡ (if t then a else b)
+left r t a b e q = sym (if-false t a b (sym e ∙ q))

@@ -8,7 +8,6 @@ use lib.Dec.{ltb, eqb}
 use lib.ListN.{length, get_or, take}
 use lib.Seq.{take_all, take-length}
 use borrow.Author.Tests.{lt-ltb, le-ltb}
-use Rattle.words.specs.lists.Pick.{pick}
 use Rattle.words.specs.lists.Numbers.{any}
 use Rattle.words.specs.lists.Sequences.{written}
 use Rattle.words.proofs.lists.Written.{written-take}
@@ -16,7 +15,7 @@ use Rattle.text.specs.frames.Frame.{size}
 use Rattle.text.specs.frames.Verdict.{Verdict}
 use Rattle.text.specs.frames.Answer.{Answer, reply, verdict_reply}
 use Rattle.text.proofs.frames.Chains.{ok-fine, err-refused}
-use Rattle.std.proofs.Common.{Ok, Err}
+use Rattle.std.proofs.Common.{Ok, Err, if◌then◌else◌}
 use Rattle.std.specs.Prelude.{is_ok}
 use Rattle.charts.specs.Chart.{Chart}
 use Rattle.charts.specs.Check.{chart_verdict}
@@ -37,20 +36,20 @@ checked-in c t e q (Err r) f =
     ap₂ (λ (b : Bool) (v : Verdict). not b && is_fine v) (sym q ∙ e) (sym (err-refused (Err r) (chart_verdict c) 0 f r refl).0)
 
 -- ---- counted
-searched-leaf : (n : ℕ) (c : Chart) → searched_charts n 0 c ≡ pick (is_accepted c) (c ∷ []) []
+searched-leaf : (n : ℕ) (c : Chart) → searched_charts n 0 c ≡ (if is_accepted c then c ∷ [] else [])
 unfolding searched_charts
 searched-leaf n c = go (any (is_lonely c) 0 (size c)) (is_fine (chart_verdict c))
   where
     go : (t s : Bool) → ◌≡◌ {A = List Chart} (elim t [ true ↦ [] | false ↦ elim s [ true ↦ c ∷ [] | false ↦ [] ] ])
-        (pick (not t && s) (c ∷ []) [])
+        (if not t && s then c ∷ [] else [])
     go true true = refl
     go true false = refl
     go false true = refl
     go false false = refl
 
 module _ (n : ℕ) (c : Chart) (left : ℕ) (r : Bool) (e : r ≡ is_accepted c) where
-  found-by : (b : Bool) → r ≡ b → searched_charts n 0 c ≡ pick b (c ∷ []) []
-  found-by b q = searched-leaf n c ∙ ap (λ (t : Bool). pick t (c ∷ []) []) (sym e ∙ q)
+  found-by : (b : Bool) → r ≡ b → searched_charts n 0 c ≡ (if b then c ∷ [] else [])
+  found-by b q = searched-leaf n c ∙ ap (λ (t : Bool). (if t then c ∷ [] else [])) (sym e ∙ q)
 
   pub count_none : r ≡ false → SoughtCount (searched_charts n 0 c) left (record { found = false; left = left })
   count_none q = subst (λ (xs : List Chart). SoughtCount xs left (record { found = false; left = left })) (sym (found-by false q))
@@ -68,7 +67,7 @@ module _ (n : ℕ) (c : Chart) (left : ℕ) (r : Bool) (e : r ≡ is_accepted c)
 leaf-chart : (n : ℕ) (c : Chart) (left : ℕ) → left < length (searched_charts n 0 c) → c ≡ get_or (searched_charts n 0 c) left []
 leaf-chart n c left l = go (is_accepted c) (searched-leaf n c) left l
   where
-    go : (t : Bool) → searched_charts n 0 c ≡ pick t (c ∷ []) [] → (k : ℕ) → k < length (searched_charts n 0 c)
+    go : (t : Bool) → searched_charts n 0 c ≡ (if t then c ∷ [] else []) → (k : ℕ) → k < length (searched_charts n 0 c)
         → c ≡ get_or (searched_charts n 0 c) k []
     go true q k h = subst (λ (xs : List Chart). k < length xs → c ≡ get_or xs k []) (sym q) (one k) h
       where
@@ -93,7 +92,7 @@ unfolding node_at
 node-ten n i = go (ltb i n) (eqb i n) (ltb i (3 * n + 1))
   where
     go : (s t u : Bool) → length
-        (pick s (begin_node i) (pick t end_node (pick u (operation_at (i - (n + 1))) (condition_at n (i - (3 * n + 1)))))) ≡ 10
+        (if s then begin_node i else if t then end_node else if u then operation_at (i - (n + 1)) else condition_at n (i - (3 * n + 1))) ≡ 10
     go true t u = refl
     go false true u = refl
     go false false true = refl

@@ -1,4 +1,5 @@
 -- Rows of the smaller image: those that match are the rows of the lowest member that match, led to the new labels, so there is just one.
+use Rattle.std.proofs.Common.{if◌then◌else◌}
 use Prim.Native.Nat.{ℕ, zero, suc, ◌≤◌, ◌<◌}
 use mathlib.Core.Bool.{Bool, true, false, ◌&&◌}
 use mathlib.Core.Path.{◌≡◌, refl, sym, ◌∙◌, ap}
@@ -8,7 +9,6 @@ use native.Mathlib.Omega.{arith}
 use lib.Dec.{eqb}
 use lib.ListN.{length, length-map}
 use borrow.Author.Tests.{eqb-true, eq-eqb, ne_eqb}
-use Rattle.words.specs.lists.Pick.{pick}
 use Rattle.words.specs.lists.Numbers.{count}
 use Rattle.words.specs.lists.Sequences.{filter}
 use Rattle.words.proofs.lists.Tests.{no_both}
@@ -121,10 +121,10 @@ module _ (i : Image) (S : SoundImage i) (c : List ℕ) (R : ClassRound i c) wher
         let x : Member k = member k high in
         let l : ℕ = x.label in
         let e : class_of c l ≡ l = eqb-true (class_of c l) l x.first in
-        ap (λ (j : ℕ). hits (joined_labels i c) j w (pick b 1 0)) (sym x.number)
-        ∙ ap (λ (rs : List Row). length rs) (matching-led l w (pick b 1 0) x.inside)
-        ∙ length-map (filter (is_candidate (class_of c l) w (pick b 1 0)) i.rows) (renumbered_row c)
-        ∙ ap (λ (j : ℕ). hits i j w (pick b 1 0)) e
+        ap (λ (j : ℕ). hits (joined_labels i c) j w (if b then 1 else 0)) (sym x.number)
+        ∙ ap (λ (rs : List Row). length rs) (matching-led l w (if b then 1 else 0) x.inside)
+        ∙ length-map (filter (is_candidate (class_of c l) w (if b then 1 else 0)) i.rows) (renumbered_row c)
+        ∙ ap (λ (j : ℕ). hits i j w (if b then 1 else 0)) e
         ∙ one l w b (x.high low) x.inside
 
     pub even-new : is_uneven (joined_labels i c) ≡ false
@@ -143,6 +143,6 @@ module _ (i : Image) (S : SoundImage i) (c : List ℕ) (R : ClassRound i c) wher
         let m : ℕ = class_of c l in
         let hm : m < n = omega (arith, R.below l h) in
         let x = the_row i one m w b (class-high i S c R l h low) hm in
-        ap (label_led_to (new l)) (matching-led l w (pick b 1 0) h ∙ ap (map (renumbered_row c)) x.1)
+        ap (label_led_to (new l)) (matching-led l w (if b then 1 else 0) h ∙ ap (map (renumbered_row c)) x.1)
         ∙ ap new (sym (ap (label_led_to m) x.1))
         ∙ ap (λ (y : ℕ). count (is_first c) 0 y) (leads m l hm h (R.own l h) w b)

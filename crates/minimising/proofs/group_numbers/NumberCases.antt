@@ -1,4 +1,5 @@
 -- Cases of the functions that number the groups and count what is kept.
+use Rattle.std.proofs.Common.{if◌then◌else◌}
 use Prim.Native.Nat.{ℕ, ◌+◌, ◌≤◌, ◌<◌}
 use mathlib.Core.Path.{◌≡◌, refl, sym, ◌∙◌, ap, ap₂}
 use mathlib.Core.Bool.{Bool, true, false}
@@ -11,9 +12,8 @@ use native.Mathlib.Omega.{arith}
 use lib.ListN.{length, get_or, set, length-set}
 use lib.Seq.{get_or-set_same, get_or-set_other}
 use borrow.Author.Tests.{eqb-true, eqb-false, eq-eqb, ne_eqb}
-use Rattle.words.specs.lists.Pick.{pick}
 use Rattle.words.specs.lists.Numbers.{count}
-use Rattle.words.proofs.lists.Tests.{yes-pick, no-pick, split}
+use Rattle.words.proofs.lists.Tests.{if-true, if-false, split}
 use Rattle.words.proofs.lists.Counts.{count-snoc, count-le}
 use Rattle.grouping.specs.Classes.{class_of, is_first}
 use Rattle.minimising.specs.group_numbers.Smaller.{renumbered_label}
@@ -21,17 +21,17 @@ use Rattle.minimising.specs.group_numbers.inner.NumberContracts.{LowestOfClass, 
 
 -- ---- first_at, number_at
 module _ (c : List ℕ) (l : ℕ) where
-  pub first_one : get_or c l 0 ≡ l → (◌≡◌ {A = ℕ} 1 (pick (is_first c l) 1 0)) × (1 ≤ 1)
-  first_one e = (sym (yes-pick (is_first c l) 1 0 (eq-eqb (get_or c l 0) l e)), omega arith)
+  pub first_one : get_or c l 0 ≡ l → (◌≡◌ {A = ℕ} 1 (if is_first c l then 1 else 0)) × (1 ≤ 1)
+  first_one e = (sym (if-true (is_first c l) 1 0 (eq-eqb (get_or c l 0) l e)), omega arith)
 
-  pub first-none : (get_or c l 0 ≡ l → ⊥) → (◌≡◌ {A = ℕ} 0 (pick (is_first c l) 1 0)) × (0 ≤ 1)
-  first-none e = (sym (no-pick (is_first c l) 1 0 (ne_eqb (get_or c l 0) l e)), omega arith)
+  pub first-none : (get_or c l 0 ≡ l → ⊥) → (◌≡◌ {A = ℕ} 0 (if is_first c l then 1 else 0)) × (0 ≤ 1)
+  first-none e = (sym (if-false (is_first c l) 1 0 (ne_eqb (get_or c l 0) l e)), omega arith)
 
-  pub number-new : (x y : ℕ) → get_or c l 0 ≡ l → x ≡ pick (is_first c l) x y
-  number-new x y e = sym (yes-pick (is_first c l) x y (eq-eqb (get_or c l 0) l e))
+  pub number-new : (x y : ℕ) → get_or c l 0 ≡ l → x ≡ (if is_first c l then x else y)
+  number-new x y e = sym (if-true (is_first c l) x y (eq-eqb (get_or c l 0) l e))
 
-  pub number-old : (x y : ℕ) → (get_or c l 0 ≡ l → ⊥) → y ≡ pick (is_first c l) x y
-  number-old x y e = sym (no-pick (is_first c l) x y (ne_eqb (get_or c l 0) l e))
+  pub number-old : (x y : ℕ) → (get_or c l 0 ≡ l → ⊥) → y ≡ (if is_first c l then x else y)
+  number-old x y e = sym (if-false (is_first c l) x y (ne_eqb (get_or c l 0) l e))
 
 less-of : (a b : ℕ) → a ≤ b → (a ≡ b → ⊥) → a < b
 less-of a b k ne = go (split a b)
@@ -60,24 +60,24 @@ turn-start c numbers n e = record {
 module _ (c numbers : List ℕ) (n groups l : ℕ) (low : LowestOfClass c n)
     (t : NumberTurn c numbers n groups l) (h : l < n) (small : n ≤ 256) where
   abbrev number : ℕ
-  number = pick (is_first c l) groups (get_or numbers (get_or c l 0) 0)
+  number = if is_first c l then groups else get_or numbers (get_or c l 0) 0
 
   number_is : (b : Bool) → is_first c l ≡ b → number ≡ renumbered_label c l
   number_is true e =
-      yes-pick (is_first c l) groups (get_or numbers (get_or c l 0) 0) e ∙ t.is
+      if-true (is_first c l) groups (get_or numbers (get_or c l 0) 0) e ∙ t.is
       ∙ ap (λ (x : ℕ). count (is_first c) 0 x) (sym (eqb-true (class_of c l) l e))
   number_is false e =
-      no-pick (is_first c l) groups (get_or numbers (get_or c l 0) 0) e
+      if-false (is_first c l) groups (get_or numbers (get_or c l 0) 0) e
       ∙ t.at (get_or c l 0) (less-of (get_or c l 0) l (low.below l h) (eqb-false (get_or c l 0) l e))
       ∙ ap (λ (x : ℕ). count (is_first c) 0 x) (low.own l h)
 
-  pub turn_on : (v x : ℕ) → v ≡ number → (x ≡ pick (is_first c l) 1 0) × (x ≤ 1) → NumberTurn c (set numbers l v) n (groups + x) (l + 1)
+  pub turn_on : (v x : ℕ) → v ≡ number → (x ≡ (if is_first c l then 1 else 0)) × (x ≤ 1) → NumberTurn c (set numbers l v) n (groups + x) (l + 1)
   turn_on v x e w = record {
     high = omega arith;
     room = length-set numbers l v ∙ t.room;
     is = ap₂ ◌+◌ t.is w.0
         ∙ sym (ap (count (is_first c) 0) (add-one l) ∙ count-snoc (is_first c) 0 l
-        ∙ ap (λ (k : ℕ). count (is_first c) 0 l + pick (is_first c k) 1 0) (zero-add l));
+        ∙ ap (λ (k : ℕ). count (is_first c) 0 l + (if is_first c k then 1 else 0)) (zero-add l));
     few = omega (arith, t.few, w.1);
     at = λ k j. go k j (ℕ_discrete k l);
   }

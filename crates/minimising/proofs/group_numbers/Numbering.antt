@@ -1,4 +1,5 @@
 -- The numbers of the groups, and that the image with one label a group is sound.
+use Rattle.std.proofs.Common.{if◌then◌else◌}
 use Prim.Native.Nat.{ℕ, zero, suc, ◌+◌, ◌-◌, ◌≤◌, ◌<◌}
 use mathlib.Core.Bool.{Bool, true, false}
 use mathlib.Core.Path.{◌≡◌, refl, sym, ◌∙◌, ap, subst}
@@ -9,10 +10,9 @@ use native.Mathlib.Omega.{arith}
 use lib.Dec.{eqb}
 use lib.ListN.{length, get_or, length-map}
 use borrow.Author.Tests.{eqb-true, eq-eqb}
-use Rattle.words.specs.lists.Pick.{pick}
 use Rattle.words.specs.lists.Numbers.{range, count}
 use Rattle.words.specs.lists.Sequences.{filter, All}
-use Rattle.words.proofs.lists.Tests.{split, yes-pick}
+use Rattle.words.proofs.lists.Tests.{split, if-true}
 use Rattle.words.proofs.lists.Counts.{count-snoc, count-le, count-mono, count-below}
 use Rattle.words.proofs.lists.Ranges.{length-filter, get_or-filter, get_d_map, filter-yes, filter-no}
 use Rattle.words.proofs.lists.Filters.{filter_none}
@@ -40,8 +40,8 @@ nth p (suc n) k h = go (p n) refl (split k (count p 0 n)) (nth p n k)
     wider : Nth p n k → Nth p (suc n) k
     wider x = record { member = x.member; inside = omega (arith, x.inside); passes = x.passes; number = x.number }
 
-    tail : (t : Bool) → p n ≡ t → count p 0 (suc n) ≡ count p 0 n + pick t 1 0
-    tail t e = count-snoc p 0 n ∙ ap (λ (x : Bool). count p 0 n + pick x 1 0) (ap p (zero-add n) ∙ e)
+    tail : (t : Bool) → p n ≡ t → count p 0 (suc n) ≡ count p 0 n + (if t then 1 else 0)
+    tail t e = count-snoc p 0 n ∙ ap (λ (x : Bool). count p 0 n + (if x then 1 else 0)) (ap p (zero-add n) ∙ e)
 
     go : (t : Bool) → p n ≡ t → (k < count p 0 n) ⊎ (count p 0 n ≤ k) → (k < count p 0 n → Nth p n k) → Nth p (suc n) k
     go t e (inl x) ih = wider (ih x)
@@ -100,8 +100,8 @@ module _ (i : Image) (S : SoundImage i) (c : List ℕ) (R : ClassRound i c) wher
 
   next-first : (k : ℕ) → class_of c k ≡ k → count (is_first c) 0 (suc k) ≡ suc (count (is_first c) 0 k)
   next-first k e = count-snoc (is_first c) 0 k
-      ∙ ap (λ (x : ℕ). count (is_first c) 0 k + x) (ap (λ (x : ℕ). pick (is_first c x) 1 0) (zero-add k)
-      ∙ yes-pick (is_first c k) 1 0 (eq-eqb (class_of c k) k e)) ∙ omega arith
+      ∙ ap (λ (x : ℕ). count (is_first c) 0 k + x) (ap (λ (x : ℕ). (if is_first c x then 1 else 0)) (zero-add k)
+      ∙ if-true (is_first c k) 1 0 (eq-eqb (class_of c k) k e)) ∙ omega arith
 
   pub new-zero : new 0 ≡ 0
   new-zero = ap (λ (x : ℕ). count (is_first c) 0 x) class-zero ∙ count-zero
@@ -151,7 +151,7 @@ module _ (i : Image) (S : SoundImage i) (c : List ℕ) (R : ClassRound i c) wher
   end-new : (h : ℕ) → new (end_of h) ≡ end_of h
   end-new h = go (eqb h 1)
     where
-      go : (t : Bool) → new (pick t 0 1) ≡ pick t 0 1
+      go : (t : Bool) → new (if t then 0 else 1) ≡ (if t then 0 else 1)
       go true = new-zero
       go false = new-one
 

@@ -1,13 +1,13 @@
 -- Cases of the functions that write the pieces.
+use Rattle.std.proofs.Common.{if◌then◌else◌}
 use Prim.Native.Nat.{ℕ, suc, ◌+◌, ◌-◌, ◌≤◌, ◌<◌}
 use mathlib.Core.Path.{◌≡◌, refl, sym, ◌∙◌, ap, ap₂, subst}
 use mathlib.Core.List.{List, []}
 use native.Mathlib.Omega.{arith}
 use lib.ListN.{length, get_or}
 use borrow.Author.Tests.{eq-eqb, ne_eqb}
-use Rattle.words.specs.lists.Pick.{pick}
 use Rattle.words.specs.lists.Sequences.{written}
-use Rattle.words.proofs.lists.Tests.{yes-pick, no-pick}
+use Rattle.words.proofs.lists.Tests.{if-true, if-false}
 use Rattle.text.specs.frames.Frame.{size, field, pair_at, frame_text}
 use Rattle.text.proofs.frames.FrameLoops.{length-frame}
 use Rattle.image.specs.Image.{Row, entry_frame, label_frame, row_frame}
@@ -61,11 +61,11 @@ module _ (b c numbers : List ℕ) (N : NumberedGroups b c numbers) (f : ℕ) whe
 
     pub label-skip : (get_or c l 0 ≡ l → ⊥) → piece b c f ≡ []
     label-skip n = ap (piece_at b c) at_label
-        ∙ no-pick (is_first c l) (frame_text (label_frame (renumbered_label c l) (label_in b l))) [] (ne_eqb (get_or c l 0) l n)
+        ∙ if-false (is_first c l) (frame_text (label_frame (renumbered_label c l) (label_in b l))) [] (ne_eqb (get_or c l 0) l n)
 
     pub label_kept : get_or c l 0 ≡ l → piece b c f ≡ frame_text (label_frame (get_or numbers l 0) (label_in b (f - labels_from b)))
     label_kept q = ap (piece_at b c) at_label
-        ∙ yes-pick (is_first c l) (frame_text (label_frame (renumbered_label c l) (label_in b l))) [] (eq-eqb (get_or c l 0) l q)
+        ∙ if-true (is_first c l) (frame_text (label_frame (renumbered_label c l) (label_in b l))) [] (eq-eqb (get_or c l 0) l q)
         ∙ ap₂ (λ (k m : ℕ). frame_text (label_frame k (label_in b m))) (sym (N.at l label-low)) (ap (λ (k : ℕ). f - k) e)
 
   -- ---- put_kept_row
@@ -91,19 +91,19 @@ module _ (b c numbers : List ℕ) (N : NumberedGroups b c numbers) (f : ℕ) whe
         (omega (arith, sound-row.leading.inside, labels-count b)) in
         λ j. record { from = p j; care = pair_at b f 2; values = pair_at b f 4; bit = field b f 6; next = q j }
 
-    at_row : piece_at b c (position_of b f) ≡ pick (is_first c x) (frame_text (row_frame (renumbered_row c (row_in_frame b f)))) []
+    at_row : piece_at b c (position_of b f) ≡ (if is_first c x then frame_text (row_frame (renumbered_row c (row_in_frame b f))) else [])
     at_row =
         ap (piece_at b c) (ap (position_of b) (let z : f ≡ rows_from b + k = omega arith in z) ∙ position-of-row b k)
-        ∙ ap (λ (r : Row). pick (is_first c r.from) (frame_text (row_frame (renumbered_row c r))) []) row_is
-        ∙ ap (λ (y : ℕ). pick (is_first c y) (frame_text (row_frame (renumbered_row c (row_in_frame b f)))) []) (sym e)
+        ∙ ap (λ (r : Row). (if is_first c r.from then frame_text (row_frame (renumbered_row c r)) else [])) row_is
+        ∙ ap (λ (y : ℕ). (if is_first c y then frame_text (row_frame (renumbered_row c (row_in_frame b f))) else [])) (sym e)
 
     pub row-skip : (get_or c x 0 ≡ x → ⊥) → piece b c f ≡ []
     row-skip n =
-        at_row ∙ no-pick (is_first c x) (frame_text (row_frame (renumbered_row c (row_in_frame b f)))) [] (ne_eqb (get_or c x 0) x n)
+        at_row ∙ if-false (is_first c x) (frame_text (row_frame (renumbered_row c (row_in_frame b f)))) [] (ne_eqb (get_or c x 0) x n)
 
     pub row_kept : get_or c x 0 ≡ x → piece b c f ≡ frame_text (row_frame (row_numbered_by numbers (row_in_frame b f)))
     row_kept q =
-        at_row ∙ yes-pick (is_first c x) (frame_text (row_frame (renumbered_row c (row_in_frame b f)))) [] (eq-eqb (get_or c x 0) x q)
+        at_row ∙ if-true (is_first c x) (frame_text (row_frame (renumbered_row c (row_in_frame b f)))) [] (eq-eqb (get_or c x 0) x q)
         ∙ ap (λ (r : Row). frame_text (row_frame r)) (sym led-is)
 
   -- ---- put_piece

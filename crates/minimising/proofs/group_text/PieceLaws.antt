@@ -1,4 +1,5 @@
 -- The pieces of all frames, joined, are the text of the smaller image.
+use Rattle.std.proofs.Common.{if◌then◌else◌, cond}
 use Prim.Native.Nat.{ℕ, zero, suc, ◌+◌, ◌≤◌, ◌<◌}
 use mathlib.Core.Path.{◌≡◌, refl, sym, ◌∙◌, ap, ap₂}
 use mathlib.Core.Bool.{Bool, true, false}
@@ -7,10 +8,9 @@ use native.Mathlib.Nat.{zero-add}
 use native.Mathlib.Omega.{arith}
 use lib.ListN.{length, length-map}
 use borrow.Author.Tests.{eqb-true}
-use Rattle.words.specs.lists.Pick.{pick}
 use Rattle.words.specs.lists.Numbers.{range, count}
 use Rattle.words.specs.lists.Sequences.{filter, concat_map, map_from}
-use Rattle.words.proofs.lists.Tests.{yes-pick, no-pick}
+use Rattle.words.proofs.lists.Tests.{if-true, if-false}
 use Rattle.words.proofs.lists.Counts.{count-snoc, count-le}
 use Rattle.words.proofs.lists.Ranges.{filter-yes, filter-no, length-filter}
 use Rattle.words.proofs.lists.Filters.{filter_none}
@@ -51,7 +51,7 @@ module _ (c : List ℕ) where
   entries-text e a (suc m) = ap (λ (t : List ℕ). frame_text (entry_frame a (renumbered_label c (e a))) ++ t) (entries-text e (suc a) m)
 
   abbrev kept : (ℕ → Label) → ℕ → List ℕ
-  kept x l = pick (is_first c l) (frame_text (label_frame (count (is_first c) 0 l) (x l))) []
+  kept x l = if is_first c l then frame_text (label_frame (count (is_first c) 0 l) (x l)) else []
 
   labels-text : (x : ℕ → Label) (a m s : ℕ) → s ≡ count (is_first c) 0 a
       → frames_text (map_from label_frame s (map x (filter (is_first c) (range a m)))) ≡ concat_map (kept x) (range a m)
@@ -59,8 +59,8 @@ module _ (c : List ℕ) where
   labels-text x a zero s e = ap (λ (ls : List ℕ). frames_text (map_from label_frame s (map x ls))) (filter_none (is_first c))
   labels-text x a (suc m) s e = go (is_first c a) refl (labels-text x (suc a) m (suc s)) (labels-text x (suc a) m s)
     where
-      tail : (t : Bool) → is_first c a ≡ t → count (is_first c) 0 (suc a) ≡ count (is_first c) 0 a + pick t 1 0
-      tail t q = count-snoc (is_first c) 0 a ∙ ap (λ (u : Bool). count (is_first c) 0 a + pick u 1 0) (ap (is_first c) (zero-add a) ∙ q)
+      tail : (t : Bool) → is_first c a ≡ t → count (is_first c) 0 (suc a) ≡ count (is_first c) 0 a + (if t then 1 else 0)
+      tail t q = count-snoc (is_first c) 0 a ∙ ap (λ (u : Bool). count (is_first c) 0 a + (if u then 1 else 0)) (ap (is_first c) (zero-add a) ∙ q)
 
       go : (t : Bool) → is_first c a ≡ t
           → (suc s ≡ count (is_first c) 0 (suc a)
@@ -74,16 +74,16 @@ module _ (c : List ℕ) where
           ap (λ (ls : List ℕ). frames_text (map_from label_frame s (map x ls))) (filter-yes (is_first c) a (range (suc a) m) q)
           ∙ ap₂ (λ (xs ys : List ℕ). xs ++ ys)
           (ap (λ (k : ℕ). frame_text (label_frame k (x a))) e
-          ∙ sym (yes-pick (is_first c a) (frame_text (label_frame (count (is_first c) 0 a) (x a))) [] q))
+          ∙ sym (if-true (is_first c a) (frame_text (label_frame (count (is_first c) 0 a) (x a))) [] q))
           (ih (omega (arith, tail true q)))
       go false q _ ih =
           ap (λ (ls : List ℕ). frames_text (map_from label_frame s (map x ls))) (filter-no (is_first c) a (range (suc a) m) q)
           ∙ ih (omega (arith, tail false q))
-          ∙ ap (λ (xs : List ℕ). xs ++ concat_map (kept x) (range (suc a) m)) (sym (no-pick (is_first c a) (frame_text
+          ∙ ap (λ (xs : List ℕ). xs ++ concat_map (kept x) (range (suc a) m)) (sym (if-false (is_first c a) (frame_text
           (label_frame (count (is_first c) 0 a) (x a))) [] q))
 
   abbrev row_piece : Row → List ℕ
-  row_piece r = pick (is_first c r.from) (frame_text (row_frame (renumbered_row c r))) []
+  row_piece r = if is_first c r.from then frame_text (row_frame (renumbered_row c r)) else []
 
   rows-text : (x : ℕ → Row) (a m : ℕ)
       → frames_text (map row_frame (map (renumbered_row c) (filter (λ r. is_first c r.from) (map x (range a m))))) ≡ concat_map
@@ -106,11 +106,11 @@ module _ (c : List ℕ) where
           ap (λ (rs : List Row). frames_text (map row_frame (map (renumbered_row c) rs)))
           (filter-yes test (x a) (map x (range (suc a) m)) q)
           ∙ ap₂ (λ (xs ys : List ℕ). xs ++ ys)
-          (sym (yes-pick (is_first c (x a).from) (frame_text (row_frame (renumbered_row c (x a)))) [] q)) ih
+          (sym (if-true (is_first c (x a).from) (frame_text (row_frame (renumbered_row c (x a)))) [] q)) ih
       go false q ih =
           ap (λ (rs : List Row). frames_text (map row_frame (map (renumbered_row c) rs))) (filter-no test (x a) (map x (range (suc a) m)) q)
           ∙ ih ∙ ap (λ (xs : List ℕ). xs ++ concat_map (λ k. row_piece (x k)) (range (suc a) m))
-          (sym (no-pick (is_first c (x a).from) (frame_text
+          (sym (if-false (is_first c (x a).from) (frame_text
           (row_frame (renumbered_row c (x a)))) [] q))
 
   rows-number : (x : ℕ → Row) (a m : ℕ)
@@ -124,17 +124,17 @@ module _ (c : List ℕ) where
 
       go : (t : Bool) → is_first c (x a).from ≡ t
           → length (filter test (map x (range (suc a) m))) ≡ count (λ k. is_first c (x k).from) (suc a) m
-          → length (filter test (map x (range a (suc m)))) ≡ pick (is_first c (x a).from) 1 0 + count (λ k. is_first c (x k).from) (suc a) m
+          → length (filter test (map x (range a (suc m)))) ≡ (if is_first c (x a).from then 1 else 0) + count (λ k. is_first c (x k).from) (suc a) m
       go true q ih = ap (λ (rs : List Row). length rs) (filter-yes test (x a) (map x (range (suc a) m)) q)
-          ∙ omega (arith, ih) ∙ sym (ap (λ (t : Bool). pick t 1 0 + count (λ k. is_first c (x k).from) (suc a) m) q)
+          ∙ omega (arith, ih) ∙ sym (ap (λ (t : Bool). (if t then 1 else 0) + count (λ k. is_first c (x k).from) (suc a) m) q)
       go false q ih = ap (λ (rs : List Row). length rs) (filter-no test (x a) (map x (range (suc a) m)) q)
-          ∙ omega (arith, ih) ∙ sym (ap (λ (t : Bool). pick t 1 0 + count (λ k. is_first c (x k).from) (suc a) m) q)
+          ∙ omega (arith, ih) ∙ sym (ap (λ (t : Bool). (if t then 1 else 0) + count (λ k. is_first c (x k).from) (suc a) m) q)
 
 pub count-moved : (p q : ℕ → Bool) (s a m : ℕ) → ((k : ℕ) → a ≤ k → k < a + m → p (s + k) ≡ q k) → count p (s + a) m ≡ count q a m
 unfolding count
 count-moved p q s a zero h = refl
 count-moved p q s a (suc m) h =
-    ap₂ (λ (x y : ℕ). x + y) (ap (λ (t : Bool). pick {A = ℕ} t 1 0) (h a (omega arith) (omega arith)))
+    ap₂ (λ (x y : ℕ). x + y) (ap (λ (t : Bool). cond {A = ℕ} t 1 0) (h a (omega arith) (omega arith)))
     (ap (λ (x : ℕ). count p x m) (let e : suc (s + a) ≡ s + suc a = omega arith in e)
     ∙ count-moved p q s (suc a) m (λ k l u. h k (omega arith) (omega arith)))
 
@@ -164,14 +164,14 @@ module _ (b c : List ℕ) (all : size b ≡ rows_from b + row_count b) where
     where
       go : (t : Bool) → is_first c l ≡ t → kept c (machine.label_at i) l ≡ piece_at b c (label_position l)
       go true q =
-          yes-pick (is_first c l) (frame_text (label_frame (count (is_first c) 0 l) (machine.label_at i l))) [] q
+          if-true (is_first c l) (frame_text (label_frame (count (is_first c) 0 l) (machine.label_at i l))) [] q
           ∙ ap₂ (λ (k : ℕ) (x : Label). frame_text (label_frame k x))
           (ap (λ (k : ℕ). count (is_first c) 0 k) (sym (eqb-true (class_of c l) l q)))
           (label-read b l h)
-          ∙ sym (yes-pick (is_first c l) (frame_text (label_frame (renumbered_label c l) (label_in b l))) [] q)
+          ∙ sym (if-true (is_first c l) (frame_text (label_frame (renumbered_label c l) (label_in b l))) [] q)
       go false q =
-          no-pick (is_first c l) (frame_text (label_frame (count (is_first c) 0 l) (machine.label_at i l))) [] q
-          ∙ sym (no-pick (is_first c l) (frame_text (label_frame (renumbered_label c l) (label_in b l))) [] q)
+          if-false (is_first c l) (frame_text (label_frame (count (is_first c) 0 l) (machine.label_at i l))) [] q
+          ∙ sym (if-false (is_first c l) (frame_text (label_frame (renumbered_label c l) (label_in b l))) [] q)
 
   labels-part : frames_text (map_from label_frame 0 (joined_labels i c).labels) ≡ concat_map (piece b c) (range (labels_from b + 0) n)
   unfolding joined_labels

@@ -1,4 +1,5 @@
 -- Laws of masks of the numbers below n that pass a test: their bits, two of them joined, one number more.
+use Rattle.std.proofs.Common.{if◌then◌else◌}
 use Prim.Native.Nat.{ℕ, zero, suc, ◌+◌, ◌/◌, ◌%◌, ◌^◌, ◌≤◌, ◌<◌, max}
 use mathlib.Core.Bool.{Bool, true, false, ◌||◌, not}
 use mathlib.Core.Path.{◌≡◌, refl, sym, ◌∙◌, ap, ap₂, subst}
@@ -11,7 +12,6 @@ use lib.Bits.{bit_or, or_lt}
 use lib.Dec.{eqb}
 use lib.Pow.{pow_pos, pow_mono, pow-lt}
 use borrow.Author.Tests.{ne_eqb, eq-eqb}
-use Rattle.words.specs.lists.Pick.{pick}
 use Rattle.words.specs.lists.Numbers.{any}
 use Rattle.words.proofs.lists.Tests.{split}
 use Rattle.words.proofs.lists.Searches.{any_some, any_false}
@@ -31,11 +31,11 @@ module _ (p : ℕ → Bool) where
   mask-small zero = pow_pos 0
   mask-small (suc n) = go (p n) (mask-small n)
     where
-      go : (b : Bool) → mask_of p n < 2 ^ n → mask_of p n + pick b (2 ^ n) 0 < 2 ^ suc n
+      go : (b : Bool) → mask_of p n < 2 ^ n → mask_of p n + (if b then 2 ^ n else 0) < 2 ^ suc n
       go true l = omega (arith, pow-suc 2 n)
       go false l = omega (arith, pow-suc 2 n)
 
-  pub mask-bit : (n i : ℕ) → i < n → bit (mask_of p n) i ≡ pick (p i) 1 0
+  pub mask-bit : (n i : ℕ) → i < n → bit (mask_of p n) i ≡ (if p i then 1 else 0)
   unfolding mask_of
   mask-bit zero i l = absurd (omega arith)
   mask-bit (suc n) i l = go (p n) refl (ℕ_discrete n i) (mask-bit n i)
@@ -43,19 +43,19 @@ module _ (p : ℕ → Bool) where
       free : bit (mask_of p n) n ≡ 0
       free = beyond (mask_of p n) n (mask-small n)
 
-      go : (b : Bool) → p n ≡ b → Dec (n ≡ i) → (i < n → bit (mask_of p n) i ≡ pick (p i) 1 0)
-          → bit (mask_of p n + pick b (2 ^ n) 0) i ≡ pick (p i) 1 0
+      go : (b : Bool) → p n ≡ b → Dec (n ≡ i) → (i < n → bit (mask_of p n) i ≡ (if p i then 1 else 0))
+          → bit (mask_of p n + (if b then 2 ^ n else 0)) i ≡ (if p i then 1 else 0)
       go true e (yes q) ih =
           ap (λ (k : ℕ). bit (mask_of p n + 2 ^ n) k) (sym q) ∙ bit-add-same (mask_of p n) n free
-          ∙ sym (ap (λ (b : Bool). pick b 1 0) (ap p (sym q) ∙ e))
+          ∙ sym (ap (λ (b : Bool). (if b then 1 else 0)) (ap p (sym q) ∙ e))
       go false e (yes q) ih =
           ap (λ (k : ℕ). bit k i) (omega arith) ∙ ap (bit (mask_of p n)) (sym q) ∙ free
-          ∙ sym (ap (λ (b : Bool). pick b 1 0) (ap p (sym q) ∙ e))
+          ∙ sym (ap (λ (b : Bool). (if b then 1 else 0)) (ap p (sym q) ∙ e))
       go true e (no q) ih = bit-add-other (mask_of p n) n i free q ∙ ih (omega arith)
       go false e (no q) ih = ap (λ (k : ℕ). bit k i) (omega arith) ∙ ih (omega arith)
 
   -- a number with these bits
-  pub mask_is : (n x : ℕ) → x < 2 ^ n → ((i : ℕ) → i < n → bit x i ≡ pick (p i) 1 0) → x ≡ mask_of p n
+  pub mask_is : (n x : ℕ) → x < 2 ^ n → ((i : ℕ) → i < n → bit x i ≡ (if p i then 1 else 0)) → x ≡ mask_of p n
   mask_is n x l h = same_bits n x (mask_of p n) l (mask-small n) (λ i. ⊎_elim
       (λ (a : i < n). h i a ∙ sym (mask-bit n i a))
       (λ (a : n ≤ i). beyond x i (higher x i l a) ∙ sym (beyond (mask_of p n) i (higher (mask_of p n) i (mask-small n) a)))
@@ -70,26 +70,26 @@ module _ (p : ℕ → Bool) where
       go : (b : Bool) → any p 0 n ≡ b → eqb (mask_of p n) 0 ≡ not (any p 0 n)
       go true e =
           let r = any_some p 0 n e in
-          let o : bit (mask_of p n) r.0 ≡ 1 = mask-bit n r.0 (omega (arith, r.2)) ∙ ap (λ (b : Bool). pick b 1 0) r.3 in
+          let o : bit (mask_of p n) r.0 ≡ 1 = mask-bit n r.0 (omega (arith, r.2)) ∙ ap (λ (b : Bool). (if b then 1 else 0)) r.3 in
           ne_eqb (mask_of p n) 0 (λ z. let q : bit (mask_of p n) r.0 ≡ 0 = ap (λ (x : ℕ). bit x r.0) z ∙ bit-none r.0 in omega arith)
           ∙ sym (ap not e)
       go false e =
           eq-eqb (mask_of p n) 0 (sym (mask_is n 0 (pow_pos n)
-          (λ i l. bit-none i ∙ sym (ap (λ (b : Bool). pick b 1 0) (any_false p 0 n e i (omega arith) (omega arith))))))
+          (λ i l. bit-none i ∙ sym (ap (λ (b : Bool). (if b then 1 else 0)) (any_false p 0 n e i (omega arith) (omega arith))))))
           ∙ sym (ap not e)
 
 pub mask-alike : (p q : ℕ → Bool) (n : ℕ) → ((i : ℕ) → i < n → p i ≡ q i) → mask_of p n ≡ mask_of q n
 unfolding mask_of
 mask-alike p q zero h = refl
 mask-alike p q (suc n) h =
-    ap₂ (λ (x : ℕ) (b : Bool). x + pick b (2 ^ n) 0) (mask-alike p q n (λ i l. h i (omega arith))) (h n (omega arith))
+    ap₂ (λ (x : ℕ) (b : Bool). x + (if b then 2 ^ n else 0)) (mask-alike p q n (λ i l. h i (omega arith))) (h n (omega arith))
 
 pub mask-or : (p q : ℕ → Bool) (n : ℕ) → bit_or (mask_of p n) (mask_of q n) ≡ mask_of (λ i. p i || q i) n
 mask-or p q n = mask_is (λ i. p i || q i) n (bit_or (mask_of p n) (mask_of q n))
     (or_lt n (mask_of p n) (mask_of q n) (mask-small p n) (mask-small q n))
     (λ i l. bit-or (mask_of p n) (mask_of q n) i ∙ ap₂ max (mask-bit p n i l) (mask-bit q n i l) ∙ higher (p i) (q i))
   where
-    higher : (a b : Bool) → max (pick a 1 0) (pick b 1 0) ≡ pick (a || b) 1 0
+    higher : (a b : Bool) → max (if a then 1 else 0) (if b then 1 else 0) ≡ (if a || b then 1 else 0)
     higher true true = refl
     higher true false = refl
     higher false true = refl
@@ -102,12 +102,12 @@ mask-more p q n k l e h =
     mask_is q n (bit_or (mask_of p n) (2 ^ k)) (or_lt n (mask_of p n) (2 ^ k) (mask-small p n) (pow-lt {i = k} {j = n} l))
     (λ i a. bit-or (mask_of p n) (2 ^ k) i ∙ go i a (ℕ_discrete k i))
   where
-    go : (i : ℕ) → i < n → Dec (k ≡ i) → max (bit (mask_of p n) i) (bit (2 ^ k) i) ≡ pick (q i) 1 0
+    go : (i : ℕ) → i < n → Dec (k ≡ i) → max (bit (mask_of p n) i) (bit (2 ^ k) i) ≡ (if q i then 1 else 0)
     go i a (yes z) =
         let o : bit (2 ^ k) i ≡ 1 = ap (bit (2 ^ k)) (sym z) ∙ bit-pow-same k in
-        let r : ◌≡◌ {A = ℕ} (pick (q i) 1 0) 1 = ap (λ (b : Bool). pick b 1 0) (ap q (sym z) ∙ e) in
+        let r : ◌≡◌ {A = ℕ} (if q i then 1 else 0) 1 = ap (λ (b : Bool). (if b then 1 else 0)) (ap q (sym z) ∙ e) in
         omega (arith, o, r)
     go i a (no z) =
         let o : bit (2 ^ k) i ≡ 0 = bit-pow-other k i z in
-        let r : bit (mask_of p n) i ≡ pick (q i) 1 0 = mask-bit p n i a ∙ ap (λ (b : Bool). pick b 1 0) (h i z) in
+        let r : bit (mask_of p n) i ≡ (if q i then 1 else 0) = mask-bit p n i a ∙ ap (λ (b : Bool). (if b then 1 else 0)) (h i z) in
         omega (arith, o, r)

@@ -8,12 +8,11 @@ use native.Mathlib.Omega.{arith}
 use lib.Dec.{ltb}
 use lib.ListN.{length, take}
 use borrow.Author.Tests.{lt-ltb, le-ltb}
-use Rattle.words.specs.lists.Pick.{pick}
-use Rattle.words.proofs.lists.Tests.{or-none, yes-pick, no-pick, split}
+use Rattle.words.proofs.lists.Tests.{or-none, if-true, if-false, split}
 use Rattle.text.specs.frames.Frame.{contents}
 use Rattle.text.specs.frames.Verdict.{Verdict, fine, refused, next, when}
 use Rattle.text.specs.frames.Answer.{Answer, success, refusal, reply_number, reply, verdict_reply, reply_count}
-use Rattle.std.proofs.Common.{Ok, Err}
+use Rattle.std.proofs.Common.{Ok, Err, if◌then◌else◌}
 use Rattle.text.specs.declared.frames.refusals.Refusal.{Refusal}
 use Rattle.text.specs.declared.frames.refusals.Refusal.TheVariants.{ManyWords}
 use Rattle.text.proofs.frames.Refuses.{RefusesWith}
@@ -160,8 +159,8 @@ module _ (t before prices ws ms ks : List ℕ) where
     unfolding bytes_priced many_verdict
     many-priced a e = rw many_is (go (image_verdict t) (is_unfit (decoded_image (contents t)) s₀) e)
       where
-        kept : (r : RunOutcome) → before ≡ pick (has_too_many_words ws) before (bytes_after before r)
-        kept r = sym (yes-pick (has_too_many_words ws) before (bytes_after before r) (lt-ltb 65536 (length ws) more))
+        kept : (r : RunOutcome) → before ≡ (if has_too_many_words ws then before else bytes_after before r)
+        kept r = sym (if-true (has_too_many_words ws) before (bytes_after before r) (lt-ltb 65536 (length ws) more))
 
         go : (v : Verdict) (b : Bool) → reply a ≡ verdict_reply (many v b) 0
             → GivesPricedRunOn (priced_outcome_by (many v b)) ws before (record { answer = a; price = 0 }) before ms ks
@@ -184,7 +183,7 @@ module _ (t before prices ws ms ks : List ℕ) where
               ∙ sym (by-the-masks t s₀ prices ws ms ks);
           bytes = runs.bytes
               ∙ sym (ap (bytes_after before) all)
-              ∙ sym (no-pick (has_too_many_words ws) before (bytes_after before whole.run) (le-ltb 65536 (length ws) few));
+              ∙ sym (if-false (has_too_many_words ws) before (bytes_after before whole.run) (le-ltb 65536 (length ws) few));
           masks = runs.masks ∙ sym (ap (λ (r : RunOutcome). r.masks) all);
           codes = runs.codes ∙ sym (ap (λ (r : RunOutcome). r.codes) all);
         }
@@ -197,8 +196,8 @@ module _ (t before prices ws ms ks : List ℕ) where
       old : RunOutcome → List ℕ
       old r = bytes_after before r
 
-      go : (65536 < length ws) ⊎ (length ws ≤ 65536) → state_of (pick (has_too_many_words ws) before (old whole.run)) ≡ whole.run.state
-      go (inl more) = ap state_of (yes-pick (has_too_many_words ws) before (old whole.run) (lt-ltb 65536 (length ws) more))
+      go : (65536 < length ws) ⊎ (length ws ≤ 65536) → state_of (if has_too_many_words ws then before else old whole.run) ≡ whole.run.state
+      go (inl more) = ap state_of (if-true (has_too_many_words ws) before (old whole.run) (lt-ltb 65536 (length ws) more))
           ∙ sym (ap (λ (x : PricedOutcome). x.run.state) (many_is more) ∙ kept (image_verdict t) (is_unfit (decoded_image (contents t)) s₀))
         where
           kept : (v : Verdict) (b : Bool) → (priced_outcome_by (many v b)).run.state ≡ s₀
@@ -206,7 +205,7 @@ module _ (t before prices ws ms ks : List ℕ) where
           kept fine true = refl
           kept fine false = refl
       go (inr few) =
-          ap state_of (no-pick (has_too_many_words ws) before (old whole.run) (le-ltb 65536 (length ws) few))
+          ap state_of (if-false (has_too_many_words ws) before (old whole.run) (le-ltb 65536 (length ws) few))
           ∙ run-held before (decoded_image (contents t)) ws ms ks (priced_verdict t s₀ ws ms ks)
 
 -- ---- more words than are priced, where a run of none succeeds

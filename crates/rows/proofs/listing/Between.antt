@@ -1,12 +1,12 @@
 -- Laws of a test that holds from one number up to another and nowhere else: how many numbers pass, and the lowest that does.
+use Rattle.std.proofs.Common.{if◌then◌else◌}
 use Prim.Native.Nat.{ℕ, zero, suc, ◌+◌, ◌-◌, ◌≤◌, ◌<◌, min, max}
 use mathlib.Core.Bool.{Bool, true, false}
 use mathlib.Core.Path.{◌≡◌, ◌∙◌}
 use mathlib.Core.Logic.{◌⊎◌, inl, inr}
 use native.Mathlib.Omega.{arith}
-use Rattle.words.specs.lists.Pick.{pick}
 use Rattle.words.specs.lists.Numbers.{lowest, count}
-use Rattle.words.proofs.lists.Tests.{no_both, yes-pick, no-pick, split}
+use Rattle.words.proofs.lists.Tests.{no_both, if-true, if-false, split}
 use Rattle.words.proofs.lists.Counts.{count-suc}
 use Rattle.words.proofs.lists.Searches.{lowest-hit, lowest-before}
 
@@ -23,10 +23,10 @@ module _ (p : ℕ → Bool) (all a e : ℕ) (t : Between p all a e) where
   count-from (suc n) i h = count-suc p i n ∙ go (split i a) (split i e) (count-from n (suc i) (omega arith))
     where
       go : (i < a) ⊎ (a ≤ i) → (i < e) ⊎ (e ≤ i) → count p (suc i) n ≡ min e (suc i + n) - max a (suc i)
-          → pick (p i) 1 0 + count p (suc i) n ≡ min e (i + suc n) - max a i
-      go (inl u) x ih = omega (arith, ih, t.order, no-pick {A = ℕ} (p i) 1 0 (t.outer i (omega arith) (inl u)))
-      go (inr u) (inr g) ih = omega (arith, ih, t.order, no-pick {A = ℕ} (p i) 1 0 (t.outer i (omega arith) (inr g)))
-      go (inr u) (inl g) ih = omega (arith, ih, t.order, yes-pick {A = ℕ} (p i) 1 0 (t.inner i u g))
+          → (if p i then 1 else 0) + count p (suc i) n ≡ min e (i + suc n) - max a i
+      go (inl u) x ih = omega (arith, ih, t.order, if-false {A = ℕ} (p i) 1 0 (t.outer i (omega arith) (inl u)))
+      go (inr u) (inr g) ih = omega (arith, ih, t.order, if-false {A = ℕ} (p i) 1 0 (t.outer i (omega arith) (inr g)))
+      go (inr u) (inl g) ih = omega (arith, ih, t.order, if-true {A = ℕ} (p i) 1 0 (t.inner i u g))
 
   pub count-between : count p 0 all ≡ e - a
   count-between = omega (arith, count-from all 0 (omega arith), t.order, t.most)

@@ -9,7 +9,7 @@ use lib.ListN.{length, get_or, take, drop, length-take, length-drop}
 use lib.Seq.{get_or-take, get_or-drop, ext_get_or}
 use borrow.Author.Tests.{eq-eqb, ne_eqb, eqb-true}
 use Rattle.words.specs.lists.Numbers.{lowest, range}
-use Rattle.words.proofs.lists.Tests.{no_both, yes-pick, no-pick, split}
+use Rattle.words.proofs.lists.Tests.{no_both, if-true, if-false, split}
 use Rattle.words.proofs.lists.Counts.{count_none}
 use Rattle.words.proofs.lists.Ranges.{length-map-range, get_or-map-range}
 use Rattle.text.specs.frames.Frame.{size, field, contents}
@@ -31,10 +31,10 @@ use Rattle.rows.proofs.listing.Between.{Between, count-between, lowest-between}
 -- ---- any image: without rows 0 and 0
 module _ (i : Image) (l : ℕ) where
   pub none_first : row_count_of i l ≡ 0 → first_of i l ≡ 0
-  none_first e = yes-pick (eqb (row_count_of i l) 0) 0 _ (eq-eqb (row_count_of i l) 0 e)
+  none_first e = if-true (eqb (row_count_of i l) 0) 0 _ (eq-eqb (row_count_of i l) 0 e)
 
   pub some_first : (row_count_of i l ≡ 0 → ⊥) → first_of i l ≡ lowest (is_row_leaving i l) 0 (length i.rows)
-  some_first h = no-pick (eqb (row_count_of i l) 0) 0 (lowest (is_row_leaving i l) 0 (length i.rows)) (ne_eqb (row_count_of i l) 0 h)
+  some_first h = if-false (eqb (row_count_of i l) 0) 0 (lowest (is_row_leaving i l) 0 (length i.rows)) (ne_eqb (row_count_of i l) 0 h)
 
 -- ---- an accepted table
 module _ (b : List ℕ) (ok : table_verdict b ≡ fine) (bytes : (k : ℕ) → get_or b k 0 < 256) (l : ℕ) where

@@ -1,6 +1,5 @@
 -- What the search for a row among the frames of a table asks and promises.
-use Rattle.std.specs.Prelude.{ℕ, ◌+◌, ◌*◌, ◌/◌, ◌%◌, Bool, ◌&&◌, ◌||◌, ◌≡◌, List, ltb, eqb}
-use Rattle.words.specs.lists.Pick.{pick}
+use Rattle.std.specs.Prelude.{ℕ, ◌+◌, ◌*◌, ◌/◌, ◌%◌, Bool, ◌&&◌, ◌||◌, ◌≡◌, List, ltb, eqb, if◌then◌else◌}
 use Rattle.words.specs.bits.Word.{is_agreeing}
 use Rattle.text.specs.frames.Frame.{size, field, pair_at}
 use Rattle.image.specs.declared.layout.TheConstants.{CARE, VALUES, FUNCTION_BIT, NO_BIT, FUNCTION_CALL}
@@ -20,7 +19,7 @@ is_matching_frame b w bit f = is_agreeing w (pair_at b f CARE) (pair_at b f VALU
 
 -- what a search among the rows of label l chose: the row in frame f, or none where that is past the table
 abbrev pub found_at : List ℕ → ℕ → ℕ → Choice
-found_at b l f = pick (ltb f (size b)) (row f (row_on b l f)) no_choice
+found_at b l f = if ltb f (size b) then row f (row_on b l f) else no_choice
 
 -- r is the better of the row in frame best, none where that is past the table, and the later one in frame f, whatever label they leave
 abbrev pub BetterOf : List ℕ → ℕ → ℕ → ℕ → Type 0

@@ -1,6 +1,5 @@
 -- The rows of each label of an image: the first one's number and how many there are; refusal 16.
-use Rattle.std.specs.Prelude.{ℕ, ◌+◌, Bool, ◌||◌, ◌≡◌, List, ltb, eqb, length}
-use Rattle.words.specs.lists.Pick.{pick}
+use Rattle.std.specs.Prelude.{ℕ, ◌+◌, Bool, ◌||◌, ◌≡◌, List, ltb, eqb, length, if◌then◌else◌}
 use Rattle.words.specs.lists.Numbers.{tabulate, lowest, count}
 use Rattle.words.specs.lists.Sequences.{over}
 use Rattle.text.specs.declared.frames.refusals.TheConstants.{NO_ROOM}
@@ -19,7 +18,7 @@ abbrev pub row_count_of : Image → ℕ → ℕ
 row_count_of i l = count (is_row_leaving i l) 0 (length i.rows)
 
 abbrev pub first_of : Image → ℕ → ℕ
-first_of i l = pick (eqb (row_count_of i l) 0) 0 (lowest (is_row_leaving i l) 0 (length i.rows))
+first_of i l = if eqb (row_count_of i l) 0 then 0 else lowest (is_row_leaving i l) 0 (length i.rows)
 
 -- of the labels 0 to M
 unfoldable pub first_rows : Image → List ℕ

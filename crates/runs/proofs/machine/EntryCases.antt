@@ -7,7 +7,7 @@ use native.Mathlib.Omega.{arith}
 use lib.Dec.{eqb}
 use lib.ListN.{take}
 use borrow.Author.Tests.{ne_eqb}
-use Rattle.words.proofs.lists.Tests.{no-pick}
+use Rattle.words.proofs.lists.Tests.{if-false}
 use Rattle.text.specs.frames.Frame.{contents}
 use Rattle.text.specs.frames.Verdict.{fine, refused}
 use Rattle.text.specs.frames.Answer.{Answer, refusal, reply, verdict_reply}
@@ -45,7 +45,7 @@ kept-advances x bytes n j s g l r e =
       answered = e;
       mask = refl;
       code = refl;
-      bytes = sym (no-pick (eqb n 0) (bytes_of s) bytes (ne_eqb n 0 (λ z. omega arith)));
+      bytes = sym (if-false (eqb n 0) (bytes_of s) bytes (ne_eqb n 0 (λ z. omega arith)));
     })
 
 -- ---- live

@@ -1,12 +1,12 @@
 -- What the bytes hold after a run or a tick in place is the state that it hands back.
+use Rattle.std.proofs.Common.{if◌then◌else◌}
 use Prim.Native.Nat.{ℕ}
 use mathlib.Core.Path.{◌≡◌, refl, ap, ◌∙◌}
 use mathlib.Core.Bool.{Bool, true, false}
 use mathlib.Core.List.{List, [], ◌∷◌}
 use lib.Dec.{eqb}
 use lib.ListN.{length}
-use Rattle.words.specs.lists.Pick.{pick}
-use Rattle.words.proofs.lists.Tests.{no-pick}
+use Rattle.words.proofs.lists.Tests.{if-false}
 use Rattle.text.specs.frames.Verdict.{Verdict, fine, refused}
 use Rattle.text.specs.frames.Answer.{reply_number, counted_reply}
 use Rattle.image.specs.Image.{Image}
@@ -14,7 +14,7 @@ use Rattle.state.specs.declared.State.{State}
 use Rattle.state.specs.Bytes.{state_of, bytes_of}
 use Rattle.state.proofs.ResultBytes.{state-back, held-sized, held-bits, held_back}
 use Rattle.ticks.specs.Tick.{MachineTick, finished, stopped, tick}
-use Rattle.runs.specs.Run.{MachineRun, then, ticks, run_on}
+use Rattle.runs.specs.Run.{MachineRun, run_after, ticks, run_on}
 use Rattle.runs.specs.TickOutcome.{TickOutcome, tick_outcome}
 use Rattle.runs.specs.InPlace.{is_without_change, bytes_after, if_ticked}
 use Rattle.ticks.proofs.Normal.{Same, Normal, tick-normal}
@@ -26,7 +26,7 @@ module _ (b : List ℕ) where
   s = state_of b
 
   -- the bytes as they were, or those of the state that they hold
-  left : (t : Bool) → state_of (pick t b (bytes_of s)) ≡ s
+  left : (t : Bool) → state_of (if t then b else bytes_of s) ≡ s
   left true = refl
   left false = held_back b
 
@@ -39,10 +39,10 @@ module _ (b : List ℕ) where
     ran = ticks i s ws
 
     ran-held : (v : Verdict) → Late v → (n : ℕ)
-        → state_of (pick (is_without_change (reply_number (counted_reply v n))) b (bytes_of ran.state)) ≡ ran.state
+        → state_of (if is_without_change (reply_number (counted_reply v n)) then b else bytes_of ran.state) ≡ ran.state
     ran-held fine l n = back ran.state (ticks-same i ws s)
     ran-held (refused k j) l n =
-        ap state_of (no-pick (is_without_change k) b (bytes_of ran.state) (late-writes k l.0)) ∙ back ran.state (ticks-same i ws s)
+        ap state_of (if-false (is_without_change k) b (bytes_of ran.state) (late-writes k l.0)) ∙ back ran.state (ticks-same i ws s)
 
     pub run-held : (v : Verdict) → state_of (bytes_after b (run_on v (λ _. ran) s ms ks)) ≡ (run_on v (λ _. ran) s ms ks).state
     unfolding bytes_after
@@ -58,18 +58,18 @@ module _ (b : List ℕ) where
     unfolding ticks
     tick-held (refused k j) = go (eqb k 0)
       where
-        go : (t : Bool) → state_of (pick t (bytes_of s) b) ≡ s
+        go : (t : Bool) → state_of (if t then bytes_of s else b) ≡ s
         go true = held_back b
         go false = refl
     tick-held fine = go (tick i s w) (tick-normal i s w)
       where
         abbrev-run : MachineTick → TickOutcome
-        abbrev-run x = tick_outcome (run_on fine (λ _. then s (λ t. ticks i t []) x) s (0 ∷ []) (0 ∷ []))
+        abbrev-run x = tick_outcome (run_on fine (λ _. run_after s (λ t. ticks i t []) x) s (0 ∷ []) (0 ∷ []))
 
         go : (x : MachineTick) → Normal s x → state_of (if_ticked (abbrev-run x) (bytes_of (abbrev-run x).state) b) ≡ (abbrev-run x).state
         go (finished m k t) n = back t n
         go (stopped k) n = stay (eqb k 0)
           where
-            stay : (t : Bool) → state_of (pick t (bytes_of s) b) ≡ s
+            stay : (t : Bool) → state_of (if t then bytes_of s else b) ≡ s
             stay true = held_back b
             stay false = refl

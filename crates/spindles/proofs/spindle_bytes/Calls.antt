@@ -1,4 +1,5 @@
 -- A call on bytes, from a head that is refused or from the turn of the part that is the spindle's state.
+use Rattle.std.proofs.Common.{if◌then◌else◌}
 use Prim.Native.Nat.{ℕ, ◌*◌, ◌≤◌, ◌<◌}
 use mathlib.Core.Path.{◌≡◌, refl, sym, ◌∙◌, ap, ap₂, subst}
 use mathlib.Core.Bool.{Bool, true, false}
@@ -8,9 +9,8 @@ use lib.Dec.{ltb, eqb}
 use lib.ListN.{length}
 use lib.Seq.{get_or-set_same}
 use borrow.Author.Tests.{ne_eqb, eqb-true}
-use Rattle.words.specs.lists.Pick.{pick}
 use Rattle.words.specs.lists.Sequences.{written}
-use Rattle.words.proofs.lists.Tests.{yes-pick, no-pick}
+use Rattle.words.proofs.lists.Tests.{if-true, if-false}
 use Rattle.text.specs.frames.Verdict.{Verdict, fine, refused, next, when}
 use Rattle.text.specs.frames.Answer.{reply_number, reply}
 use Rattle.text.proofs.frames.Refuses.{next-refuses, when-refuses}
@@ -38,7 +38,7 @@ module _ (b : List ℕ) (n k : ℕ) (counted : n ≡ state_count (length b)) (t 
   pub bytes-long : length b ≡ 520
   bytes-long = go (eqb (length b) 520) refl (sym counted ∙ call-four n k (sym tested ∙ good))
     where
-      go : (u : Bool) → eqb (length b) 520 ≡ u → ◌≡◌ {A = ℕ} (pick u 4 0) 4 → length b ≡ 520
+      go : (u : Bool) → eqb (length b) 520 ≡ u → ◌≡◌ {A = ℕ} (if u then 4 else 0) 4 → length b ≡ 520
       go true e q = eqb-true (length b) 520 e
       go false e q = absurd (omega arith)
 
@@ -59,7 +59,7 @@ pub part-full : (b : List ℕ) → length b ≡ 520 → (k : ℕ) → k < 4
 unfolding bytes_of
 part-full b long k l y part part' r e z = sym (ap length z.bytes ∙ go (eqb (reply_number y.reply) 0))
   where
-    go : (t : Bool) → length (pick t (bytes_of y.state) part) ≡ 130
+    go : (t : Bool) → length (if t then bytes_of y.state else part) ≡ 130
     go true = refl
     go false = ap length e ∙ part_length b long k l
 
@@ -80,7 +80,7 @@ module _ (b : List ℕ) (taken k : ℕ) (r : SpinReport) where
     mask = z.mask;
     code = z.code;
     taken = z.taken;
-    bytes = sym (no-pick (eqb n 0) (written b (130 * k) (bytes_of (state_at (states_of b) k))) b (ne_eqb n 0 (λ m. omega arith)));
+    bytes = sym (if-false (eqb n 0) (written b (130 * k) (bytes_of (state_at (states_of b) k))) b (ne_eqb n 0 (λ m. omega arith)));
   }
 
   -- with the count of states as it is read
@@ -92,7 +92,7 @@ module _ (b : List ℕ) (taken k : ℕ) (r : SpinReport) where
         → GivesSpinOn (spin_in_parts v (states_of b) taken k x) b k r b
     head-by bad v l x z =
         subst (λ (y : SpinOutcome). GivesSpinOn y b k r b)
-        (sym (yes-pick (is_bad_spin_call (length (states_of b)) k) (head_spun (refused_head v k) (states_of b) taken)
+        (sym (if-true (is_bad_spin_call (length (states_of b)) k) (head_spun (refused_head v k) (states_of b) taken)
         (turn_spun (states_of b) k (turn v (state_at (states_of b) k) (four_depths (states_of b)) taken x)) (test-is ∙ bad)))
         (head-spins (refused_head v k) (head-numbered v k l) (head-refused v k) z)
 
@@ -124,11 +124,11 @@ module _ (b : List ℕ) (taken k : ℕ) (r : SpinReport) where
       is_held = ap state_of parted ∙ sym (state-is b long k low)
 
       -- what is written of a turn
-      put-by : (y : TurnOutcome) → part' ≡ pick (eqb (reply_number y.reply) 0) (bytes_of y.state) part
-          → after ≡ pick (eqb (reply_number y.reply) 0) (written b (130 * k) (bytes_of y.state)) b
+      put-by : (y : TurnOutcome) → part' ≡ (if eqb (reply_number y.reply) 0 then bytes_of y.state else part)
+          → after ≡ (if eqb (reply_number y.reply) 0 then written b (130 * k) (bytes_of y.state) else b)
       put-by y e = put ∙ ap (written b (130 * k)) e ∙ go (eqb (reply_number y.reply) 0)
         where
-          go : (u : Bool) → written b (130 * k) (pick u (bytes_of y.state) part) ≡ pick u (written b (130 * k) (bytes_of y.state)) b
+          go : (u : Bool) → written b (130 * k) (if u then bytes_of y.state else part) ≡ (if u then written b (130 * k) (bytes_of y.state) else b)
           go true = refl
           go false = ap (written b (130 * k)) parted ∙ part-back b long k low
 
@@ -139,7 +139,7 @@ module _ (b : List ℕ) (taken k : ℕ) (r : SpinReport) where
         mask = z.mask;
         code = z.code;
         taken = z.taken;
-        bytes = put-by y z.bytes ∙ ap (λ (u : State). pick (eqb (reply_number y.reply) 0) (written b (130 * k) (bytes_of u)) b)
+        bytes = put-by y z.bytes ∙ ap (λ (u : State). (if eqb (reply_number y.reply) 0 then written b (130 * k) (bytes_of u) else b))
             (sym (get_or-set_same (states_of b) k y.state no_state
             (omega (arith, count-is b, counted, call-four n k (sym tested ∙ good), low))));
       }
@@ -149,7 +149,7 @@ module _ (b : List ℕ) (taken k : ℕ) (r : SpinReport) where
       turn_by v go z =
           subst (λ (y : SpinOutcome). GivesSpinOn y b k r after)
           (ap₂ (λ (u : State) (m : ℕ). turn_spun (states_of b) k (turn v u m taken (go u))) is_held (summed ∙ sym (depths-are b long))
-          ∙ sym (no-pick (is_bad_spin_call (length (states_of b)) k) (head_spun (refused_head v k) (states_of b) taken)
+          ∙ sym (if-false (is_bad_spin_call (length (states_of b)) k) (head_spun (refused_head v k) (states_of b) taken)
           (turn_spun (states_of b) k (turn v s (four_depths (states_of b)) taken (go s))) (test-is ∙ good)))
           (turn-spins (turn v (state_of part) sum taken (go (state_of part))) z)
 

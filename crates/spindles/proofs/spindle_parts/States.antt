@@ -1,4 +1,5 @@
 -- Four states in 520 bytes: how many there are, their parts and their depths.
+use Rattle.std.proofs.Common.{if◌then◌else◌}
 use Prim.Native.Nat.{ℕ, zero, suc, ◌+◌, ◌*◌, ◌<◌}
 use mathlib.Core.Path.{◌≡◌, refl, sym, ◌∙◌, ap, ap₂}
 use mathlib.Core.Bool.{Bool, true, false}
@@ -8,10 +9,9 @@ use lib.Dec.{eqb}
 use lib.ListN.{length, get_or, take, drop, length-take, length-drop, take-append-drop}
 use lib.Seq.{get_or-take, get_or-drop, drop-drop}
 use borrow.Author.Tests.{eq-eqb}
-use Rattle.words.specs.lists.Pick.{pick}
 use Rattle.words.specs.lists.Numbers.{range}
 use Rattle.words.specs.lists.Sequences.{written}
-use Rattle.words.proofs.lists.Tests.{yes-pick}
+use Rattle.words.proofs.lists.Tests.{if-true}
 use Rattle.words.proofs.lists.Ranges.{map-count}
 use Rattle.state.specs.declared.State.{State}
 use Rattle.state.specs.Bytes.{state_of}
@@ -27,14 +27,14 @@ pub count-is : (b : List ℕ) → length (states_of b) ≡ state_count (length b
 unfolding states_of
 count-is b = go (eqb (length b) 520)
   where
-    go : (t : Bool) → length (pick t (four b) []) ≡ pick t 4 0
+    go : (t : Bool) → length (if t then four b else []) ≡ (if t then 4 else 0)
     go true = refl
     go false = refl
 
 module _ (b : List ℕ) (long : length b ≡ 520) where
   four_are : states_of b ≡ four b
   unfolding states_of
-  four_are = yes-pick (eqb (length b) 520) (four b) [] (eq-eqb (length b) 520 long)
+  four_are = if-true (eqb (length b) 520) (four b) [] (eq-eqb (length b) 520 long)
 
   pub state-is : (k : ℕ) → k < 4 → state_at (states_of b) k ≡ state_of (part_of b k)
   state-is k l = ap (λ (ss : List State). state_at ss k) four_are ∙ go k l

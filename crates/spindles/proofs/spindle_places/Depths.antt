@@ -1,4 +1,5 @@
 -- What one finished tick does to the depth of a fitting state, and one state put in its place to the sum of the depths.
+use Rattle.std.proofs.Common.{if◌then◌else◌}
 use Prim.Native.Nat.{ℕ, zero, suc, ◌+◌, ◌-◌, ◌≤◌, ◌<◌}
 use mathlib.Core.Bool.{Bool, true, false}
 use mathlib.Core.Path.{◌≡◌, refl, ap}
@@ -8,7 +9,6 @@ use lib.ListN.{length, set}
 use native.Mathlib.Decide.{ℕ_discrete}
 use native.Mathlib.Omega.{arith}
 use borrow.Author.Tests.{le-leb, leb-true, leb-false, lt-ltb, le-ltb, ne_eqb}
-use Rattle.words.specs.lists.Pick.{pick}
 use Rattle.results.specs.Results.{Results, with_result, cleared_results}
 use Rattle.bindings.specs.Binding.{server_of}
 use Rattle.image.specs.Layout.{tick_kind}
@@ -39,8 +39,8 @@ full-deepens : (i : Image) (s : State) (m : ℕ) (b : Results) → 1 ≤ s.depth
 full-deepens i s m b l = go (is_full_stack_kept i s)
   where
     go : (t : Bool)
-        → Deepens s.depth (pick t (stopped 17) (finished m 96 (state_alone s (entry_at i i.handler) i.handler
-        (cleared_results i.handler b))))
+        → Deepens s.depth (if t then stopped 17 else finished m 96 (state_alone s (entry_at i i.handler) i.handler
+        (cleared_results i.handler b)))
     go true = tt
     go false = omega arith
 

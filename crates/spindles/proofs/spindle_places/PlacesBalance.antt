@@ -1,5 +1,6 @@
 -- After every list of calls the depths sum to 4 and the finished calls, less the returns above depth 1 and what drops gave back, and do
 -- not pass 64.
+use Rattle.std.proofs.Common.{if◌then◌else◌}
 use Prim.Native.Nat.{ℕ, zero, suc, ◌+◌, ◌-◌, ◌≤◌, ◌<◌}
 use mathlib.Core.Bool.{Bool, true, false, ◌&&◌, not}
 use mathlib.Core.Path.{◌≡◌, refl, sym, ◌∙◌, subst}
@@ -11,7 +12,6 @@ use lib.Seq.{get_or-set_same, get_or-set_other}
 use native.Mathlib.Omega.{arith}
 use native.Mathlib.Decide.{ℕ_discrete}
 use borrow.Author.Tests.{leb-false, lt-ltb}
-use Rattle.words.specs.lists.Pick.{pick}
 use Rattle.words.proofs.lists.Tests.{and-true, no_both, split}
 use Rattle.text.specs.frames.Frame.{contents}
 use Rattle.text.specs.frames.Verdict.{Verdict, fine, refused, next}
@@ -66,7 +66,7 @@ module _ (h : Head) (q : KeptHead h) (k : ℕ) (l : k < 4) where
   abbrev put : State → Head
   put t = record { states = set h.states k t; taken = h.taken + t.depth - s.depth }
 
-  one : (p : Bool) → pick p 1 0 ≤ 1
+  one : (p : Bool) → (if p then 1 else 0) ≤ 1
   one true = omega arith
   one false = omega arith
 

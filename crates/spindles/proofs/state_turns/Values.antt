@@ -1,4 +1,5 @@
 -- A turn by value, by what the bytes hold after the turn on them.
+use Rattle.std.proofs.Common.{if◌then◌else◌}
 use Prim.Native.Nat.{ℕ, ◌+◌, ◌-◌, ◌≤◌}
 use mathlib.Core.Path.{◌≡◌, refl, ◌∙◌, ap, subst}
 use mathlib.Core.Bool.{Bool, true, false}
@@ -6,7 +7,6 @@ use mathlib.Core.List.{List}
 use native.Mathlib.Omega.{arith}
 use lib.Dec.{eqb}
 use lib.ListN.{length}
-use Rattle.words.specs.lists.Pick.{pick}
 use Rattle.text.specs.frames.Verdict.{Verdict, fine, refused, next, when}
 use Rattle.text.specs.frames.Answer.{reply_number}
 use Rattle.image.specs.Check.{image_verdict}
@@ -24,19 +24,19 @@ use Rattle.spindles.proofs.turning.Settled.{Held, image-held, table-held}
 
 -- the bytes are those of the state, and what they then hold is handed back
 module _ (b : List ℕ) (v : Verdict) (sum taken : ℕ) (x : TickOutcome) (held : Held b x) where
-  left : (n : ℕ) → state_of (pick (eqb n 0) (bytes_of (state_of b)) b) ≡ state_of b
+  left : (n : ℕ) → state_of (if eqb n 0 then bytes_of (state_of b) else b) ≡ state_of b
   left n = go (eqb n 0)
     where
-      go : (t : Bool) → state_of (pick t (bytes_of (state_of b)) b) ≡ state_of b
+      go : (t : Bool) → state_of (if t then bytes_of (state_of b) else b) ≡ state_of b
       go true = held_back b
       go false = refl
 
-  turn-held : let y = turn v (state_of b) sum taken x in state_of (pick (eqb (reply_number y.reply) 0) (bytes_of y.state) b) ≡ y.state
+  turn-held : let y = turn v (state_of b) sum taken x in state_of (if eqb (reply_number y.reply) 0 then bytes_of y.state else b) ≡ y.state
   unfolding turn
   turn-held = go (next v λ _. when 15 (is_bad_record sum taken))
     where
-      by : (t : Bool) → let y = pick t (unchanged_turn 26 0 (state_of b) taken)
-          (record {
+      by : (t : Bool) → let y = (if t then unchanged_turn 26 0 (state_of b) taken
+          else record {
             reply = x.reply;
             mask = x.mask;
             code = x.code;
@@ -44,12 +44,12 @@ module _ (b : List ℕ) (v : Verdict) (sum taken : ℕ) (x : TickOutcome) (held 
                 taken + x.state.depth - (state_of b).depth;
             state = x.state;
           }) in
-          state_of (pick (eqb (reply_number y.reply) 0) (bytes_of y.state) b) ≡ y.state
+          state_of (if eqb (reply_number y.reply) 0 then bytes_of y.state else b) ≡ y.state
       by true = refl
       by false = held
 
       go : (u : Verdict)
-          → let y = turn_on u (state_of b) taken x in state_of (pick (eqb (reply_number y.reply) 0) (bytes_of y.state) b) ≡ y.state
+          → let y = turn_on u (state_of b) taken x in state_of (if eqb (reply_number y.reply) 0 then bytes_of y.state else b) ≡ y.state
       go (refused n i) = left n
       go fine = by (has_no_place taken (state_of b) x)
 

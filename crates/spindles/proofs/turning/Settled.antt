@@ -6,12 +6,11 @@ use mathlib.Core.List.{List, [], ◌∷◌}
 use lib.Dec.{leb, ltb, eqb}
 use native.Mathlib.Omega.{arith}
 use borrow.Author.Tests.{ne_eqb, le-ltb, eqb-true, ltb-false}
-use Rattle.words.specs.lists.Pick.{pick}
-use Rattle.words.proofs.lists.Tests.{or_l, or_r, not-false, yes-pick, no-pick}
+use Rattle.words.proofs.lists.Tests.{or_l, or_r, not-false, if-true, if-false}
 use Rattle.text.specs.frames.Frame.{contents}
 use Rattle.text.specs.frames.Verdict.{Verdict, fine, refused, next, when}
 use Rattle.text.specs.frames.Answer.{refusal, verdict_reply}
-use Rattle.std.proofs.Common.{Err}
+use Rattle.std.proofs.Common.{Err, if◌then◌else◌}
 use Rattle.text.specs.declared.frames.refusals.Refusal.TheVariants.{NoPlace}
 use Rattle.text.proofs.frames.Refuses.{RefusesWith, when-refuses}
 use Rattle.image.proofs.Refuses.{Early, early-image}
@@ -50,8 +49,8 @@ table-held t b w = tick-held b (table_image t) w (live_verdict t (state_of b) (w
 module _ (s : State) (sum taken : ℕ) (e : is_bad_record sum taken ≡ false) where
   stayed-by : (n i : ℕ) → unchanged_turn n i s taken ≡ turn_by s taken (record { reply = refusal n i 0; mask = 0; code = 0; state = s })
   stayed-by n i = sym (
-      ap (λ (t : Bool). pick (t && leb 64 taken) (unchanged_turn 26 0 s taken)
-      (record { reply = refusal n i 0; mask = 0; code = 0; taken = taken + s.depth - s.depth; state = s }))
+      ap (λ (t : Bool). (if t && leb 64 taken then unchanged_turn 26 0 s taken
+      else record { reply = refusal n i 0; mask = 0; code = 0; taken = taken + s.depth - s.depth; state = s }))
       (le-ltb s.depth s.depth (omega arith))
       ∙ ap (unchanged_turn n i s) (let q : taken + s.depth - s.depth ≡ taken = omega arith in q))
 
@@ -83,15 +82,15 @@ module _ (before new : List ℕ) (ticked : TickAnswer) (taken d₀ d₁ : ℕ) (
 
   pub settles-none : b ≡ true → GivesSettled before new ticked taken (record { answer = Err NoPlace; taken = taken }) before
   settles-none l = record {
-    report = sym (yes-pick (is_none_left (depth_in before) (depth_in new) taken) _ _ (test-is ∙ l));
-    bytes = sym (yes-pick (is_none_left (depth_in before) (depth_in new) taken) before new (test-is ∙ l));
+    report = sym (if-true (is_none_left (depth_in before) (depth_in new) taken) _ _ (test-is ∙ l));
+    bytes = sym (if-true (is_none_left (depth_in before) (depth_in new) taken) before new (test-is ∙ l));
   }
 
   pub settles-free : b ≡ false → GivesSettled before new ticked taken (record { answer = ticked; taken = taken + d₁ - d₀ }) new
   settles-free l = record {
     report = ap₂ (λ (x y : ℕ). record { answer = ticked; taken = taken + y - x }) e₀ e₁
-        ∙ sym (no-pick (is_none_left (depth_in before) (depth_in new) taken) _ _ (test-is ∙ l));
-    bytes = sym (no-pick (is_none_left (depth_in before) (depth_in new) taken) before new (test-is ∙ l));
+        ∙ sym (if-false (is_none_left (depth_in before) (depth_in new) taken) _ _ (test-is ∙ l));
+    bytes = sym (if-false (is_none_left (depth_in before) (depth_in new) taken) before new (test-is ∙ l));
   }
 
 module _ (before new after : List ℕ) (ticked : TickAnswer) (taken : ℕ) (r : SpinReport) where
@@ -101,10 +100,10 @@ module _ (before new after : List ℕ) (ticked : TickAnswer) (taken : ℕ) (r : 
     deep = ap (λ (b : List ℕ). (state_of b).depth) made.bytes ∙ ap (λ (s : State). s.depth) held
 
     turned : (b : Bool)
-        → r ≡ pick b (record { answer = Err NoPlace; taken = taken }) (record { answer = ticked; taken = taken + x.state.depth - depth_in before })
-        → after ≡ pick b before new
-        → GivesTurnOn (pick b (unchanged_turn 26 0 (state_of before) taken)
-        (record { reply = x.reply; mask = x.mask; code = x.code; taken = taken + x.state.depth - depth_in before; state = x.state }))
+        → r ≡ (if b then record { answer = Err NoPlace; taken = taken } else record { answer = ticked; taken = taken + x.state.depth - depth_in before })
+        → after ≡ (if b then before else new)
+        → GivesTurnOn (if b then unchanged_turn 26 0 (state_of before) taken
+        else record { reply = x.reply; mask = x.mask; code = x.code; taken = taken + x.state.depth - depth_in before; state = x.state })
         before r after
     turned true e f = record {
       answered = ap (λ (y : SpinReport). tick_reply y.answer) e;
@@ -125,9 +124,9 @@ module _ (before new after : List ℕ) (ticked : TickAnswer) (taken : ℕ) (r : 
     settled-turns z =
         turned (has_no_place taken (state_of before) x)
         (z.report ∙ ap
-        (λ (d : ℕ). pick (ltb (depth_in before) d && leb 64 taken)
-        (record { answer = Err NoPlace; taken = taken }) (record { answer = ticked; taken = taken + d - depth_in before })) deep)
-        (z.bytes ∙ ap (λ (d : ℕ). pick (ltb (depth_in before) d && leb 64 taken) before new) deep)
+        (λ (d : ℕ). (if ltb (depth_in before) d && leb 64 taken
+        then record { answer = Err NoPlace; taken = taken } else record { answer = ticked; taken = taken + d - depth_in before })) deep)
+        (z.bytes ∙ ap (λ (d : ℕ). (if ltb (depth_in before) d && leb 64 taken then before else new)) deep)
 
 -- a turn whose record holds
 module _ (t before new after : List ℕ) (ticked : TickAnswer) (sum taken w : ℕ) (r : SpinReport) (good : is_bad_record sum taken ≡ false)
@@ -174,5 +173,5 @@ record-refused v numbered before sum taken x r e z =
       mask = z.mask;
       code = z.code;
       taken = z.taken;
-      bytes = sym (no-pick (eqb n 0) (bytes_of (state_of before)) before (ne_eqb n 0 (λ m. omega arith)));
+      bytes = sym (if-false (eqb n 0) (bytes_of (state_of before)) before (ne_eqb n 0 (λ m. omega arith)));
     }

@@ -1,6 +1,5 @@
 -- A call in parts, as the functions have it: a head that is refused before any state is looked at, and one spindle's turn by its own state.
-use Rattle.std.specs.Prelude.{ℕ, ◌+◌, ◌-◌, Bool, ◌||◌, not, ◌≡◌, List, ltb, eqb, length, set}
-use Rattle.words.specs.lists.Pick.{pick}
+use Rattle.std.specs.Prelude.{ℕ, ◌+◌, ◌-◌, Bool, ◌||◌, not, ◌≡◌, List, ltb, eqb, length, set, if◌then◌else◌}
 use Rattle.text.specs.declared.frames.refusals.TheConstants.{UNFIT, NO_SPINDLE, NO_PLACE}
 use Rattle.text.specs.frames.Verdict.{Verdict, fine, refused, next, when}
 use Rattle.text.specs.frames.Answer.{Reply, refusal, reply_number, verdict_reply}
@@ -45,9 +44,9 @@ abbrev pub unchanged_turn : ℕ → ℕ → State → ℕ → TurnOutcome
 unchanged_turn n i s taken = record { reply = refusal n i 0; mask = 0; code = 0; taken = taken; state = s }
 
 abbrev pub turn_by : State → ℕ → TickOutcome → TurnOutcome
-turn_by s taken x = pick (has_no_place taken s x)
-    (unchanged_turn NO_PLACE 0 s taken)
-    (record { reply = x.reply; mask = x.mask; code = x.code; taken = taken + x.state.depth - s.depth; state = x.state })
+turn_by s taken x = if has_no_place taken s x
+    then unchanged_turn NO_PLACE 0 s taken
+    else record { reply = x.reply; mask = x.mask; code = x.code; taken = taken + x.state.depth - s.depth; state = x.state }
 
 abbrev pub turn_on : Verdict → State → ℕ → TickOutcome → TurnOutcome
 turn_on (refused n i) s taken x = unchanged_turn n i s taken
@@ -70,7 +69,7 @@ pub record GivesTurnOn (x : TurnOutcome) (before : List ℕ) (r : SpinReport) (a
   pub mask : answered_mask r.answer ≡ x.mask
   pub code : answered_code r.answer ≡ x.code
   pub taken : r.taken ≡ x.taken
-  pub bytes : after ≡ pick (eqb (reply_number x.reply) 0) (bytes_of x.state) before
+  pub bytes : after ≡ (if eqb (reply_number x.reply) 0 then bytes_of x.state else before)
 
 -- ---- the two parts of a call
 abbrev pub depth_at : List State → ℕ → ℕ
@@ -88,6 +87,6 @@ abbrev pub turn_spun : List State → ℕ → TurnOutcome → SpinOutcome
 turn_spun states k x = record { reply = x.reply; mask = x.mask; code = x.code; states = set states k x.state; taken = x.taken }
 
 abbrev pub spin_in_parts : Verdict → List State → ℕ → ℕ → TickOutcome → SpinOutcome
-spin_in_parts v states taken k x = pick (is_bad_spin_call (length states) k)
-    (head_spun (refused_head v k) states taken)
-    (turn_spun states k (turn v (state_at states k) (four_depths states) taken x))
+spin_in_parts v states taken k x = if is_bad_spin_call (length states) k
+    then head_spun (refused_head v k) states taken
+    else turn_spun states k (turn v (state_at states k) (four_depths states) taken x)

@@ -1,6 +1,5 @@
 -- Four states as 520 bytes, one after the other.
-use Rattle.std.specs.Prelude.{ℕ, ◌+◌, ◌*◌, List, [], ◌∷◌, eqb, length, get_or, take, drop}
-use Rattle.words.specs.lists.Pick.{pick}
+use Rattle.std.specs.Prelude.{ℕ, ◌+◌, ◌*◌, List, [], ◌∷◌, eqb, length, get_or, take, drop, if◌then◌else◌}
 use Rattle.state.specs.declared.layout.TheConstants.{STATE_BYTES, DEPTH}
 use Rattle.state.specs.declared.State.{State}
 use Rattle.state.specs.Bytes.{state_of}
@@ -12,8 +11,8 @@ part_of b k = take STATE_BYTES (drop (STATE_BYTES * k) b)
 
 -- 520 bytes hold four states; any other number of bytes holds no list of four
 unfoldable pub states_of : List ℕ → List State
-states_of b = pick (eqb (length b) HEAD_BYTES)
-    (state_of (part_of b 0) ∷ state_of (part_of b 1) ∷ state_of (part_of b 2) ∷ state_of (part_of b 3) ∷ []) []
+states_of b = if eqb (length b) HEAD_BYTES
+    then state_of (part_of b 0) ∷ state_of (part_of b 1) ∷ state_of (part_of b 2) ∷ state_of (part_of b 3) ∷ [] else []
 
 -- the sum of their depths
 abbrev pub depths_in : List ℕ → ℕ

@@ -1,4 +1,5 @@
 -- The loop that writes each result byte as 0 or 1, and what 130 bytes have to hold to be those of a state.
+use Rattle.std.proofs.Common.{if◌then◌else◌}
 use Prim.Native.Nat.{ℕ, ◌+◌, ◌≤◌, ◌<◌}
 use mathlib.Core.Path.{◌≡◌, refl, sym, ap, ap₂, ◌∙◌}
 use mathlib.Core.Bool.{Bool, not}
@@ -10,7 +11,6 @@ use borrow.Author.Count.{below_more}
 use lib.Dec.{eqb}
 use lib.ListN.{length, get_or, set, length-set}
 use lib.Seq.{get_or-set_same, get_or-set_other}
-use Rattle.words.specs.lists.Pick.{pick}
 use Rattle.words.specs.lists.Numbers.{range}
 use Rattle.words.proofs.lists.Ranges.{map-count}
 use Rattle.tables.proofs.RangeLaws.{map-alike}
@@ -58,7 +58,7 @@ module _ (b₀ : List ℕ) where
   tidied-none = record { low = omega arith; size = refl; passed = λ j h. absurd (omega arith); before = λ j h. refl; left = λ j h. refl }
 
   byte-tidy : (k : ℕ) → k < 16 → bool_byte (not (eqb (get_or b₀ (34 + k) 0) 0)) ≡ result_byte (state_of b₀) k
-  byte-tidy k l = byte-is (not (eqb (get_or b₀ (34 + k) 0) 0)) ∙ ap (λ (t : Bool). pick t 1 0) (bit-read b₀ k l)
+  byte-tidy k l = byte-is (not (eqb (get_or b₀ (34 + k) 0) 0)) ∙ ap (λ (t : Bool). (if t then 1 else 0)) (bit-read b₀ k l)
 
   module _ (whole : length b₀ ≡ 130) (b : List ℕ) (k : ℕ) (t : Tidied b₀ b k) where
     pub tidied-turn : k < 16 → Tidied b₀ (set b (34 + k) (bool_byte (not (eqb (get_or b (34 + k) 0) 0)))) (k + 1)

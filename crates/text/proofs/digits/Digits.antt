@@ -1,4 +1,5 @@
 -- Digits and characters: each of the sixteen digits has one character, its capital where it is a letter.
+use Rattle.std.proofs.Common.{if◌then◌else◌}
 use Prim.Native.Nat.{ℕ, zero, suc, ◌+◌, ◌*◌, ◌-◌, ◌/◌, ◌%◌, ◌≤◌, ◌<◌}
 use mathlib.Core.Bool.{Bool, true, false, ◌&&◌}
 use mathlib.Core.Path.{◌≡◌, refl, sym, ◌∙◌, ap}
@@ -10,9 +11,8 @@ use lib.Bits.{bit_and}
 use lib.Dec.{leb, ltb}
 use lib.ListN.{get_or, replicate}
 use borrow.Author.Tests.{le-ltb, lt-ltb, le-leb, lt-leb, leb-true}
-use Rattle.words.specs.lists.Pick.{pick}
 use Rattle.words.specs.lists.Numbers.{range, tabulate}
-use Rattle.words.proofs.lists.Tests.{and_l, and_r, split, cases, no-pick}
+use Rattle.words.proofs.lists.Tests.{and_l, and_r, split, cases, if-false}
 use Rattle.words.proofs.lists.Tabulated.{get_d_tabulate}
 use Rattle.text.specs.digits.Digit.{numeral_of, letter_of, digit_of, char_of, capital}
 
@@ -29,7 +29,7 @@ each f g e c h = sym (get_d_tabulate f 256 c h) ∙ ap (λ (xs : List ℕ). get_
 
 -- a letter's digit by its capital: without the bit of 32 none but the twelve letters are between A and F; each of the 256 computed
 abbrev masked : ℕ → ℕ
-masked c = let letter = bit_and c 223 in pick (leb 65 letter && leb letter 70) (letter - 55) 255
+masked c = let letter = bit_and c 223 in if leb 65 letter && leb letter 70 then letter - 55 else 255
 
 masked-each : tabulate masked 256 ≡ tabulate letter_of 256
 unfolding tabulate
@@ -107,7 +107,7 @@ class_of c = go (cases (leb 48 c && leb c 57)) (cases (leb 65 c && leb c 70)) (c
     go (inl e) _ _ = numeral (within 48 57 c e).0 (within 48 57 c e).1
     go (inr _) (inl e) _ = large (within 65 70 c e).0 (within 65 70 c e).1
     go (inr _) (inr _) (inl e) = small (within 97 102 c e).0 (within 97 102 c e).1
-    go (inr d) (inr e) (inr f) = other (no-pick _ _ _ d ∙ no-pick _ _ _ e ∙ no-pick _ _ _ f) (no-pick _ _ _ f)
+    go (inr d) (inr e) (inr f) = other (if-false _ _ _ d ∙ if-false _ _ _ e ∙ if-false _ _ _ f) (if-false _ _ _ f)
 
 -- a character and its capital stand for the same digit
 pub digit-capital : (c : ℕ) → digit_of (capital c) ≡ digit_of c

@@ -14,7 +14,7 @@ use lib.ListN.{length, get_or, set, length-set}
 use lib.Seq.{get_or-set_same, get_or-set_other}
 use Rattle.words.specs.lists.Numbers.{any, sum, range}
 use Rattle.words.specs.lists.Sequences.{written}
-use Rattle.words.proofs.lists.Tests.{cases, split, yes-pick, no-pick, or-true-l, or_true_r, or-none}
+use Rattle.words.proofs.lists.Tests.{cases, split, if-true, if-false, or-true-l, or_true_r, or-none}
 use Rattle.words.proofs.lists.Ranges.{get_or-map-range}
 use Rattle.words.proofs.lists.Searches.{any_some, any-true, any_false, any_none, any_snoc, sum-turn}
 use Rattle.words.proofs.lists.Fills.{ValuesFrom, values-none, values-turn, values-all}
@@ -111,10 +111,10 @@ abbrev pub stored : List ℕ → ℕ → ℕ → ℕ
 stored t f k = byte_at t f k % 256
 
 place-low : (k : ℕ) → k < 8 → place_of k ≡ 2 * k
-place-low k h = yes-pick (ltb k 8) (2 * k) (2 * k + 10) (lt-ltb k 8 h)
+place-low k h = if-true (ltb k 8) (2 * k) (2 * k + 10) (lt-ltb k 8 h)
 
 place-high : (k : ℕ) → 8 ≤ k → place_of k ≡ 2 * k + 10
-place-high k h = no-pick (ltb k 8) (2 * k) (2 * k + 10) (le-ltb k 8 h)
+place-high k h = if-false (ltb k 8) (2 * k) (2 * k + 10) (le-ltb k 8 h)
 
 pub value_made : (digits : List ℕ) (k i : ℕ) → i ≡ place_of k → (16 * get_or digits i 0 + get_or digits (i + 1) 0) % 256 ≡ value_of digits k
 value_made digits k i e = ap (λ (j : ℕ). (16 * get_or digits j 0 + get_or digits (j + 1) 0) % 256) e

@@ -1,4 +1,5 @@
 -- A text and the same text in capitals are read alike, whatever its characters are and however long it is.
+use Rattle.std.proofs.Common.{if◌then◌else◌}
 use Prim.Native.Nat.{ℕ, ◌+◌, ◌*◌, ◌/◌, ◌%◌}
 use mathlib.Core.Bool.{Bool, ◌||◌, not}
 use mathlib.Core.Path.{◌≡◌, sym, ◌∙◌, ap, ap₂, fun_ext}
@@ -7,7 +8,6 @@ use native.Mathlib.Omega.{arith}
 use lib.Dec.{leb, eqb}
 use lib.ListN.{length, get_or, length-map}
 use borrow.Author.Tests.{ne_eqb}
-use Rattle.words.specs.lists.Pick.{pick}
 use Rattle.words.specs.lists.Numbers.{range, any, sum}
 use Rattle.words.specs.lists.Sequences.{concat_map, over}
 use Rattle.text.specs.digits.Digit.{digit_of, capital}
@@ -75,7 +75,7 @@ module _ (t : List ℕ) where
   buffer-same : (most : ℕ) (old : List ℕ) → read_buffer most capitals old ≡ read_buffer most t old
   unfolding read_buffer
   buffer-same most old =
-      ap₂ (λ (n : ℕ) (b : List ℕ). pick (is_bad_length 23 most n) old (over (map (λ x. x % 256) b) old))
+      ap₂ (λ (n : ℕ) (b : List ℕ). (if is_bad_length 23 most n then old else over (map (λ x. x % 256) b) old))
       (length-map t capital) contents-same
 
   pub capitals-alike : ReadAlike capitals t

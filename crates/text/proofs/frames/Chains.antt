@@ -6,7 +6,7 @@ use native.Mathlib.Omega.{arith}
 use lib.Dec.{ltb}
 use borrow.Author.Tests.{lt-ltb, le-ltb}
 use Rattle.words.specs.lists.Numbers.{lowest}
-use Rattle.words.proofs.lists.Tests.{yes-pick, no-pick}
+use Rattle.words.proofs.lists.Tests.{if-true, if-false}
 use Rattle.text.specs.frames.Verdict.{Verdict, fine, refused, next, when, at_lowest}
 use Rattle.std.proofs.Common.{Ok, Err}
 use Rattle.text.specs.declared.frames.refusals.Refusal.{Refusal}
@@ -24,10 +24,10 @@ when-fails k b e = ap (when k) e
 module _ (k : ℕ) (p : ℕ → Bool) (n r : ℕ) (found : r ≡ lowest p 0 n) where
   pub lowest-refused : r < n → at_lowest k p n ≡ refused k r
   lowest-refused h =
-      yes-pick (ltb (lowest p 0 n) n) (refused k (lowest p 0 n)) fine (lt-ltb (lowest p 0 n) n (omega arith)) ∙ ap (refused k) (sym found)
+      if-true (ltb (lowest p 0 n) n) (refused k (lowest p 0 n)) fine (lt-ltb (lowest p 0 n) n (omega arith)) ∙ ap (refused k) (sym found)
 
   pub lowest-fine : n ≤ r → at_lowest k p n ≡ fine
-  lowest-fine h = no-pick (ltb (lowest p 0 n) n) (refused k (lowest p 0 n)) fine (le-ltb (lowest p 0 n) n (omega arith))
+  lowest-fine h = if-false (ltb (lowest p 0 n) n) (refused k (lowest p 0 n)) fine (le-ltb (lowest p 0 n) n (omega arith))
 
 -- ---- the chain
 module _ (v : Verdict) (rest : Unit {0} → Verdict) where

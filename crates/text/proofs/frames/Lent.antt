@@ -8,10 +8,9 @@ use lib.ListN.{length, take, drop}
 use lib.Seq.{take_at}
 use lib.Dec.{ltb}
 use borrow.Author.Tests.{lt-ltb, le-ltb, ltb-false}
-use Rattle.words.specs.lists.Pick.{pick}
 use Rattle.words.specs.lists.Sequences.{over}
 use Rattle.text.specs.frames.Verdict.{Verdict, fine, refused}
-use Rattle.std.proofs.Common.{Ok, Err}
+use Rattle.std.proofs.Common.{Ok, Err, if◌then◌else◌}
 use Rattle.text.specs.declared.frames.refusals.Refusal.{Refusal}
 use Rattle.text.specs.declared.frames.refusals.Refusal.TheVariants.{NoRoom}
 use Rattle.text.specs.frames.Refusal.{number_of, index_of, ticks_of}
@@ -24,7 +23,7 @@ buffer_filled_with unit xs old = record { reply = success (length xs / unit); bu
 pub lent_fits : (unit : ℕ) (new : Unit {0} → List ℕ) (old : List ℕ) → length (new tt) ≤ length old
     → buffer_on fine unit new old ≡ buffer_filled_with unit (new tt) old
 lent_fits unit new old h =
-    ap (λ (b : Bool). pick b (record { reply = refusal 16 0 0; buffer = old }) (buffer_filled_with unit (new tt) old))
+    ap (λ (b : Bool). (if b then record { reply = refusal 16 0 0; buffer = old } else buffer_filled_with unit (new tt) old))
     (le-ltb (length old) (length (new tt)) h)
 
 pub record Success (v : Verdict) (unit : ℕ) (xs old : List ℕ) (n : ℕ) (r : BufferOutcome) : Type 0 where
@@ -39,7 +38,7 @@ lent-told (refused k i) unit new old n e = absurd (let z : ◌≡◌ {A = ℕ} 0
 lent-told fine unit new old n e = go (ltb (length old) (length (new tt))) refl e
   where
     made : Bool → BufferOutcome
-    made b = pick b (record { reply = refusal 16 0 0; buffer = old }) (buffer_filled_with unit (new tt) old)
+    made b = if b then record { reply = refusal 16 0 0; buffer = old } else buffer_filled_with unit (new tt) old
 
     go : (b : Bool) → ltb (length old) (length (new tt)) ≡ b → (made b).reply ≡ success n → Success fine unit (new tt) old n (made b)
     go true q z = absurd (let y : ◌≡◌ {A = ℕ} 0 1 = cc in omega arith)
@@ -64,7 +63,7 @@ module _ (v : Verdict) (unit : ℕ) (new : Unit {0} → List ℕ) (old : List �
   lent-short e h =
       let q : buffer_on v unit new old ≡ record { reply = refusal 16 0 0; buffer = old } =
       ap (λ w. buffer_on w unit new old) e
-      ∙ ap (λ (b : Bool). pick b (record { reply = refusal 16 0 0; buffer = old }) (buffer_filled_with unit (new tt) old))
+      ∙ ap (λ (b : Bool). (if b then record { reply = refusal 16 0 0; buffer = old } else buffer_filled_with unit (new tt) old))
       (lt-ltb (length old) (length (new tt)) h) in
       record { answered = sym (ap (λ (l : BufferOutcome). l.reply) q); written = sym (ap (λ (l : BufferOutcome). l.buffer) q) }
 

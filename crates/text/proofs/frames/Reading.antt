@@ -6,7 +6,7 @@ use Prim.Native.Nat.{ℕ, suc, ◌%◌, ◌<◌}
 use native.Mathlib.Omega.{arith}
 use lib.ListN.{length, get_or}
 use Rattle.words.specs.lists.Sequences.{over}
-use Rattle.words.proofs.lists.Tests.{no-pick}
+use Rattle.words.proofs.lists.Tests.{if-false}
 use Rattle.text.specs.frames.Frame.{frame_count, contents}
 use Rattle.text.specs.frames.Verdict.{Verdict, fine, next, when, at_lowest}
 use Rattle.text.specs.frames.Check.{is_bad_length, has_bad_form, has_bad_sum, text_verdict}
@@ -25,5 +25,5 @@ module _ (most : ℕ) (t old : List ℕ) where
       let rest : Verdict = next (at_lowest 2 (has_bad_form t) (frame_count t)) λ _. at_lowest 3 (has_bad_sum t) (frame_count t) in
       let e : is_bad_length 23 most (length t) ≡ false =
       when-fine 1 (is_bad_length 23 most (length t)) (next-first (when 1 (is_bad_length 23 most (length t))) (λ _. rest) v) in
-      no-pick (is_bad_length 23 most (length t)) old (over (map (λ x. x % 256) (contents t)) old) e
+      if-false (is_bad_length 23 most (length t)) old (over (map (λ x. x % 256) (contents t)) old) e
       ∙ ap (λ (xs : List ℕ). over xs old) (bytes_same (contents t) (contents-bytes t (text-told most t v).forms))

@@ -1,10 +1,10 @@
 -- Which numbers a chain of verdicts can refuse with.
+use Rattle.std.proofs.Common.{if◌then◌else◌}
 use Prim.Native.Nat.{ℕ}
 use mathlib.Core.Bool.{Bool, true, false}
 use mathlib.Core.List.{List}
 use lib.Dec.{ltb}
 use lib.ListN.{length}
-use Rattle.words.specs.lists.Pick.{pick}
 use Rattle.words.specs.lists.Numbers.{lowest}
 use Rattle.text.specs.frames.Frame.{frame_count}
 use Rattle.text.specs.frames.Verdict.{Verdict, fine, refused, next, when, at_lowest}
@@ -27,7 +27,7 @@ module _ (P : ℕ → Type 0) where
   pub lowest-refuses : (k : ℕ) (p : ℕ → Bool) (n : ℕ) → P k → RefusesWith P (at_lowest k p n)
   lowest-refuses k p n h = go (ltb (lowest p 0 n) n)
     where
-      go : (b : Bool) → RefusesWith P (pick b (refused k (lowest p 0 n)) fine)
+      go : (b : Bool) → RefusesWith P (if b then refused k (lowest p 0 n) else fine)
       go true = h
       go false = tt
 

@@ -1,11 +1,11 @@
 -- Laws of verdicts: what it tells that no test refuses.
+use Rattle.std.proofs.Common.{if◌then◌else◌}
 use mathlib.Core.Path.{◌≡◌, refl, ◌∙◌, ap}
 use mathlib.Core.Bool.{Bool, true, false}
 use Prim.Native.Nat.{ℕ, ◌≤◌, ◌<◌}
 use native.Mathlib.Omega.{arith}
 use lib.Dec.{ltb}
 use borrow.Author.Tests.{ltb-false, le-ltb}
-use Rattle.words.specs.lists.Pick.{pick}
 use Rattle.words.specs.lists.Numbers.{lowest}
 use Rattle.words.proofs.lists.Searches.{lowest-past, lowest-none}
 use Rattle.text.specs.frames.Verdict.{Verdict, fine, refused, next, when, at_lowest}
@@ -22,7 +22,7 @@ pub when-fine : (n : ℕ) (b : Bool) → when n b ≡ fine → b ≡ false
 when-fine n false e = refl
 when-fine n true e = absurd (let z : ◌≡◌ {A = ℕ} 0 1 = cc in omega arith)
 
-picked-fine : (n i : ℕ) (b : Bool) → pick b (refused n i) fine ≡ fine → b ≡ false
+picked-fine : (n i : ℕ) (b : Bool) → (if b then refused n i else fine) ≡ fine → b ≡ false
 picked-fine n i false e = refl
 picked-fine n i true e = absurd (let z : ◌≡◌ {A = ℕ} 0 1 = cc in omega arith)
 
@@ -34,4 +34,4 @@ at-lowest-fine n p k e v l =
 pub at_none : (m : ℕ) (p : ℕ → Bool) (n : ℕ) → ((k : ℕ) → k < n → p k ≡ false) → at_lowest m p n ≡ fine
 at_none m p n h =
     let e : lowest p 0 n ≡ n = lowest-none p 0 n (λ k l. ap p (omega arith) ∙ h k l) ∙ omega arith in
-    ap (λ b. pick b (refused m (lowest p 0 n)) fine) (le-ltb (lowest p 0 n) n (omega arith))
+    ap (λ b. (if b then refused m (lowest p 0 n) else fine)) (le-ltb (lowest p 0 n) n (omega arith))

@@ -6,7 +6,7 @@ use Prim.Native.Nat.{ℕ, ◌%◌}
 use lib.ListN.{length}
 use Rattle.words.specs.lists.Numbers.{range}
 use Rattle.words.specs.lists.Sequences.{concat_map, over}
-use Rattle.words.proofs.lists.Tests.{yes-pick, no-pick}
+use Rattle.words.proofs.lists.Tests.{if-true, if-false}
 use Rattle.words.proofs.lists.Ranges.{map-append}
 use Rattle.text.specs.frames.Frame.{byte_at, frame_count, contents}
 use Rattle.text.specs.frames.Check.{is_bad_length}
@@ -26,7 +26,7 @@ module _ (most : ℕ) (t old : List ℕ) where
   -- 1 refuses, and nothing is stored
   pub read_none : is_bad_length 23 most (length t) ≡ true → old ≡ read_buffer most t old
   unfolding read_buffer
-  read_none e = sym (yes-pick (is_bad_length 23 most (length t)) old (over (map (λ x. x % 256) (contents t)) old) e)
+  read_none e = sym (if-true (is_bad_length 23 most (length t)) old (over (map (λ x. x % 256) (contents t)) old) e)
 
   -- 1 does not, and all frames are stored; there is room for them
   module _ (e : is_bad_length 23 most (length t) ≡ false) where
@@ -34,4 +34,4 @@ module _ (most : ℕ) (t old : List ℕ) where
     unfolding read_buffer
     read_all out q =
         q ∙ ap (λ (xs : List ℕ). over xs old) (contents-stored t)
-        ∙ sym (no-pick (is_bad_length 23 most (length t)) old (over (map (λ x. x % 256) (contents t)) old) e)
+        ∙ sym (if-false (is_bad_length 23 most (length t)) old (over (map (λ x. x % 256) (contents t)) old) e)

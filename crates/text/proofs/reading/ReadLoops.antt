@@ -1,4 +1,5 @@
 -- The loop that reads a text: its frames from the last one down.
+use Rattle.std.proofs.Common.{if◌then◌else◌}
 use mathlib.Core.Path.{◌≡◌, refl, sym, ◌∙◌, ap}
 use mathlib.Core.Bool.{Bool}
 use mathlib.Core.List.{List, ◌++◌}
@@ -6,7 +7,6 @@ use Prim.Native.Nat.{ℕ, suc, ◌+◌, ◌-◌, ◌*◌, ◌≤◌, ◌<◌}
 use native.Mathlib.Nat.{sub-zero}
 use native.Mathlib.Omega.{arith}
 use lib.ListN.{length}
-use Rattle.words.specs.lists.Pick.{pick}
 use Rattle.words.specs.lists.Numbers.{range, lowest}
 use Rattle.words.specs.lists.Sequences.{concat_map, written}
 use Rattle.words.proofs.lists.Searches.{lowest-over, lowest-below}
@@ -48,13 +48,13 @@ frames-none t out₀ n =
 module _ (t out₀ out : List ℕ) (n f bad wrong : ℕ) (done : Frames t out₀ out n f bad wrong) where
   pub frames-turn : (out' : List ℕ) (r : Faults) (bad' wrong' : ℕ) → 10 * n ≤ length out₀ → 0 < f
       → FrameRead t (f - 1) out r out' → length out' ≡ length out
-      → bad' ≡ pick r.form (f - 1) bad → wrong' ≡ pick r.sum (f - 1) wrong → Frames t out₀ out' n (f - 1) bad' wrong'
+      → bad' ≡ (if r.form then f - 1 else bad) → wrong' ≡ (if r.sum then f - 1 else wrong) → Frames t out₀ out' n (f - 1) bad' wrong'
   frames-turn out' r bad' wrong' room some read s x y =
       let place : 10 * f ≡ 10 * (f - 1) + length (stored_bytes t (f - 1)) = omega arith in
       record {
         low = omega (arith, done.low);
-        form = x ∙ ap (λ (c : Bool). pick c (f - 1) bad) read.form ∙ lowest-below (has_bad_form t) n f bad some done.low done.form;
-        sum = y ∙ ap (λ (c : Bool). pick c (f - 1) wrong) read.sum ∙ lowest-below (has_bad_sum t) n f wrong some done.low done.sum;
+        form = x ∙ ap (λ (c : Bool). (if c then f - 1 else bad)) read.form ∙ lowest-below (has_bad_form t) n f bad some done.low done.form;
+        sum = y ∙ ap (λ (c : Bool). (if c then f - 1 else wrong)) read.sum ∙ lowest-below (has_bad_sum t) n f wrong some done.low done.sum;
         size = s ∙ done.size;
         buffer = read.buffer ∙ ap (λ (o : List ℕ). written o (10 * (f - 1)) (stored_bytes t (f - 1))) done.buffer
             ∙ written-before out₀ (10 * (f - 1)) (stored_bytes t (f - 1)) (concat_map (stored_bytes t) (range f (n - f)))

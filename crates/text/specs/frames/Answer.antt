@@ -1,6 +1,5 @@
 -- What an entry point answers and leaves in the buffer lent to it, in the paper's numbers.
-use Rattle.std.specs.Prelude.{ℕ, ◌/◌, ◌≡◌, List, ltb, length, Result, Ok, Err}
-use Rattle.words.specs.lists.Pick.{pick}
+use Rattle.std.specs.Prelude.{ℕ, ◌/◌, ◌≡◌, List, ltb, length, Result, Ok, Err, if◌then◌else◌}
 use Rattle.words.specs.lists.Sequences.{over}
 use Rattle.text.specs.declared.frames.refusals.TheConstants.{NO_ROOM}
 use Rattle.text.specs.frames.Verdict.{Verdict, fine, refused}
@@ -56,6 +55,6 @@ pub record GivesBuffer (x : BufferOutcome) (answer : Answer) (after : List ℕ) 
 -- a refusal leaves the buffer as it was; else its front is written, counted by units, or there is no room: 16
 abbrev pub buffer_on : Verdict → ℕ → (Unit {0} → List ℕ) → List ℕ → BufferOutcome
 buffer_on (refused k i) unit new old = record { reply = refusal k i 0; buffer = old }
-buffer_on fine unit new old = let xs = new tt in pick (ltb (length old) (length xs))
-    (record { reply = refusal NO_ROOM 0 0; buffer = old })
-    (record { reply = success (length xs / unit); buffer = over xs old })
+buffer_on fine unit new old = let xs = new tt in if ltb (length old) (length xs)
+    then record { reply = refusal NO_ROOM 0 0; buffer = old }
+    else record { reply = success (length xs / unit); buffer = over xs old }

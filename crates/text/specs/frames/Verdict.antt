@@ -1,6 +1,5 @@
 -- Verdicts: no test refuses, or the number of the first one that does and the frame index that it carries.
-use Rattle.std.specs.Prelude.{ℕ, Bool, true, false, ltb}
-use Rattle.words.specs.lists.Pick.{pick}
+use Rattle.std.specs.Prelude.{ℕ, Bool, true, false, ltb, if◌then◌else◌}
 use Rattle.words.specs.lists.Numbers.{lowest}
 
 pub data Verdict : Type 0 where
@@ -19,4 +18,4 @@ when n false = fine
 
 -- refused with number n at the lowest of k frames where the test holds
 abbrev pub at_lowest : ℕ → (ℕ → Bool) → ℕ → Verdict
-at_lowest n p k = let i = lowest p 0 k in pick (ltb i k) (refused n i) fine
+at_lowest n p k = let i = lowest p 0 k in if ltb i k then refused n i else fine

@@ -1,11 +1,11 @@
 -- Codes and ticks turn into each other with nothing lost.
+use Rattle.std.proofs.Common.{if◌then◌else◌}
 use mathlib.Core.Path.{◌≡◌, refl, sym, ◌∙◌, ap}
 use mathlib.Core.Bool.{Bool, true, false}
 use Prim.Native.Nat.{ℕ, zero, suc, ◌+◌, ◌-◌, ◌≤◌}
 use native.Mathlib.Omega.{arith}
 use lib.Dec.{leb, eqb}
 use borrow.Author.Tests.{eqb-true, leb-true}
-use Rattle.words.specs.lists.Pick.{pick}
 use Rattle.words.proofs.lists.Tests.{and_l}
 use Rattle.image.specs.Layout.{tick_kind}
 use Rattle.ticks.specs.declared.codes.Meaning.{Meaning}
@@ -57,11 +57,11 @@ kind-back (suc (suc (suc (suc (suc k))))) h l = absurd (omega arith)
 
 -- a code that stands for a tick is that tick's, which is 96 for a drop
 abbrev pub Coded : ℕ → Meaning → Type 0
-Coded c m = pick (eqb (tick_kind_of m) 5) 96 (code_of (tick_kind (tick_kind_of m)) (called_of m)) ≡ c
+Coded c m = (if eqb (tick_kind_of m) 5 then 96 else code_of (tick_kind (tick_kind_of m)) (called_of m)) ≡ c
 
 module _ (c : ℕ) where
   one_more : (t : Bool) (m rest : Meaning) → (t ≡ true → Coded c m) → ((rest ≡ Unknown → ⊥) → Coded c rest)
-      → (pick t m rest ≡ Unknown → ⊥) → Coded c (pick t m rest)
+      → ((if t then m else rest) ≡ Unknown → ⊥) → Coded c (if t then m else rest)
   one_more true m rest p q n = p refl
   one_more false m rest p q n = q n
 

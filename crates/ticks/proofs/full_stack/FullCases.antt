@@ -5,7 +5,7 @@ use mathlib.Core.Bool.{Bool, true, false, ◌&&◌, ◌||◌, not}
 use mathlib.Core.List.{List}
 use lib.Dec.{eqb}
 use borrow.Author.Tests.{eq-eqb, ne_eqb}
-use Rattle.words.proofs.lists.Tests.{yes-pick, no-pick}
+use Rattle.words.proofs.lists.Tests.{if-true, if-false}
 use Rattle.results.specs.Results.{Results, with_result, cleared_results}
 use Rattle.image.specs.Image.{Image, Label}
 use Rattle.image.specs.Decode.{handler_in}
@@ -68,7 +68,7 @@ module _ (b before : List ℕ) (w : ℕ) (y : TopFull b (state_of before)) (t : 
   full-kept q =
       steps-stopped b before w 17
       (tick-full b s y.calls.stands w y.calls.low y.calls.high y.full
-      ∙ yes-pick (is_full_stack_kept i s) (stopped 17) (finished caller.mask 96 dropped) (sym e ∙ q))
+      ∙ if-true (is_full_stack_kept i s) (stopped 17) (finished caller.mask 96 dropped) (sym e ∙ q))
 
   -- l is the top, z what was read of it, k its number, h the handler and n its entry; then the bytes after each write
   pub full-drops : t ≡ false → (l : ℕ) → l ≡ top_of s → (z : declared.Label) → as_label z ≡ table_label b l
@@ -92,4 +92,4 @@ module _ (b before : List ℕ) (w : ℕ) (y : TopFull b (state_of before)) (t : 
       rw m
       (steps-ticked b before w caller.mask 96 dropped bytes
       (tick-full b s y.calls.stands w y.calls.low y.calls.high y.full
-      ∙ no-pick (is_full_stack_kept i s) (stopped 17) (finished caller.mask 96 dropped) (sym e ∙ q)) left)
+      ∙ if-false (is_full_stack_kept i s) (stopped 17) (finished caller.mask 96 dropped) (sym e ∙ q)) left)

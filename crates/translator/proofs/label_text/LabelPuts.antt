@@ -1,4 +1,5 @@
 -- The steps of the functions that write entries and labels, at plain values.
+use Rattle.std.proofs.Common.{if◌then◌else◌}
 use mathlib.Core.Path.{◌≡◌, refl, sym, ◌∙◌, ap, ap₂}
 use mathlib.Core.Bool.{Bool, true, false, ◌&&◌, not}
 use mathlib.Core.List.{List, [], ◌∷◌, ◌++◌}
@@ -6,9 +7,8 @@ use Prim.Native.Nat.{ℕ, ◌+◌, ◌*◌, ◌≤◌, ◌<◌}
 use native.Mathlib.Omega.{arith}
 use lib.ListN.{length, get_or}
 use borrow.Author.Tests.{ne_eqb}
-use Rattle.words.specs.lists.Pick.{pick}
 use Rattle.words.specs.lists.Sequences.{written}
-use Rattle.words.proofs.lists.Tests.{yes-pick, no-pick}
+use Rattle.words.proofs.lists.Tests.{if-true, if-false}
 use Rattle.words.proofs.lists.Written.{written-more}
 use Rattle.words.proofs.lists.Fills.{Pieces, pieces-turn}
 use Rattle.text.specs.frames.Frame.{size, quad}
@@ -56,9 +56,9 @@ module _ {c : Chart} {labels : List ℕ} {h v : ℕ} (s : OfScheme c labels h) (
   pub entry_next : (w : ℕ) → w ≡ next0 c v → w < length labels
   entry_next w q = omega (arith, ok.long, next-inside)
 
-  starts : (b : Bool) → is_stop c v ≡ b → start c h ≡ pick b v (next0 c v)
+  starts : (b : Bool) → is_stop c v ≡ b → start c h ≡ (if b then v else next0 c v)
   unfolding start
-  starts b q = ap (λ (x : ℕ). pick (is_stop c x) x (next0 c x)) (sym e) ∙ ap (λ y. pick y v (next0 c v)) q
+  starts b q = ap (λ (x : ℕ). (if is_stop c x then x else next0 c x)) (sym e) ∙ ap (λ y. (if y then v else next0 c v)) q
 
   stop-by : is_numbered c v ≡ is_stop c v
   stop-by = numbered-stop c v (λ z. omega (arith, begin-kind))
@@ -98,11 +98,11 @@ module _ {c : Chart} {labels : List ℕ} {v : ℕ} (node : AtNode c labels v) wh
 
   pub label-none : get_or labels v 0 < 2 → node_label_bytes c v ≡ []
   label-none h =
-      no-pick (is_numbered c v) (label_frame (label c v) (stop_label c v)) [] (no-own-label c v (omega (arith, read)))
+      if-false (is_numbered c v) (label_frame (label c v) (stop_label c v)) [] (no-own-label c v (omega (arith, read)))
 
   label-one : 2 ≤ get_or labels v 0 → node_label_bytes c v ≡ label_frame (label c v) (stop_label c v)
   label-one h =
-      yes-pick (is_numbered c v) (label_frame (label c v) (stop_label c v)) [] (own-label c v (omega (arith, read)))
+      if-true (is_numbered c v) (label_frame (label c v) (stop_label c v)) [] (own-label c v (omega (arith, read)))
 
   label-long : 2 ≤ get_or labels v 0 → length (node_label_bytes c v) ≡ 10
   label-long h = ap (λ (x : List ℕ). length x) (label-one h)

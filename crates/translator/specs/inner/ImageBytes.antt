@@ -1,6 +1,5 @@
 -- The image of an accepted chart, as the functions behind the entry point leave it.
-use Rattle.std.specs.Prelude.{ℕ, ◌+◌, ◌*◌, List, ltb, length, Option, None, Some}
-use Rattle.words.specs.lists.Pick.{pick}
+use Rattle.std.specs.Prelude.{ℕ, ◌+◌, ◌*◌, List, ltb, length, Option, None, Some, if◌then◌else◌}
 use Rattle.words.specs.lists.Sequences.{concat_map}
 use Rattle.text.specs.declared.frames.sizes.TheConstants.{LINE, ROWS}
 use Rattle.text.specs.declared.frames.refusals.TheConstants.{MANY_ROWS}
@@ -23,7 +22,7 @@ table_bytes c = frames_bytes (image_frames (table c))
 -- the refusal of a chart with so many frames before its rows and room for so many characters, if there is one
 abbrev pub size_refusal : Chart → ℕ → ℕ → Option Refusal
 size_refusal c before room =
-    pick (ltb ROWS (length (rows c))) (Some ManyRows) (pick (ltb room (LINE * (before + length (rows c)))) (Some NoRoom) None)
+    if ltb ROWS (length (rows c)) then Some ManyRows else if ltb room (LINE * (before + length (rows c))) then Some NoRoom else None
 
 -- what the functions leave in the buffer and answer: 10 and 16 are still to be tried
 abbrev pub image_outcome : Chart → List ℕ → BufferOutcome

@@ -1,6 +1,5 @@
 // The labels of an image, written as frames of ten bytes: 0 and 1, and those of the nodes that have one of their own.
-ghost use Rattle.std.specs.Prelude.{◌≡◌, ◌+◌, ◌≤◌, eqb, length};
-ghost use Rattle.words.specs.lists.Pick.{pick};
+ghost use Rattle.std.specs.Prelude.{◌≡◌, ◌+◌, ◌≤◌, eqb, length, if◌then◌else◌};
 ghost use Rattle.words.specs.lists.Sequences.{written};
 ghost use Rattle.text.specs.frames.Frame.{size};
 ghost use Rattle.image.specs.Image.{label_frame};
@@ -54,7 +53,7 @@ fn put_operation(records: &[u8], v: usize, label: u8, out: &mut [u8], at: usize)
 
 // The kind of an operation's tick: 1 with a call, else 0.
 fn call_kind(called: u8) -> u8
-    ensures { result ≡ pick (eqb called 0) PLAIN OPERATION_CALL }
+    ensures { result ≡ (if eqb called 0 then PLAIN else OPERATION_CALL) }
 {
     if called == 0 { PLAIN } else { OPERATION_CALL }
 }

@@ -1,4 +1,5 @@
 -- Laws of how many numbers pass a test.
+use Rattle.std.proofs.Common.{if◌then◌else◌, cond}
 use mathlib.Core.Path.{◌≡◌, refl, sym, ◌∙◌, ap}
 use mathlib.Core.Logic.{⊎_elim}
 use mathlib.Core.Bool.{Bool, true, false, not}
@@ -9,12 +10,11 @@ use native.Mathlib.Decide.{dec_lt}
 use native.Mathlib.Omega.{arith}
 use lib.Dec.{eqb}
 use borrow.Author.Tests.{eq-eqb, ne_eqb}
-use Rattle.words.specs.lists.Pick.{pick}
 use Rattle.words.specs.lists.Numbers.{lowest, count}
-use Rattle.words.proofs.lists.Tests.{no_both, yes-pick, no-pick}
+use Rattle.words.proofs.lists.Tests.{no_both, if-true, if-false}
 use Rattle.words.proofs.lists.Searches.{lowest-past}
 
-pub count-suc : (p : ℕ → Bool) (i n : ℕ) → count p i (suc n) ≡ pick (p i) 1 0 + count p (suc i) n
+pub count-suc : (p : ℕ → Bool) (i n : ℕ) → count p i (suc n) ≡ (if p i then 1 else 0) + count p (suc i) n
 unfolding count
 count-suc p i n = refl
 
@@ -23,19 +23,19 @@ unfolding count
 count-le p i zero = omega arith
 count-le p i (suc n) = go (p i) refl (count-le p (suc i) n)
   where
-    go : (b : Bool) → p i ≡ b → count p (suc i) n ≤ n → pick (p i) 1 0 + count p (suc i) n ≤ suc n
+    go : (b : Bool) → p i ≡ b → count p (suc i) n ≤ n → (if p i then 1 else 0) + count p (suc i) n ≤ suc n
     go true e h = rw e (omega arith)
     go false e h = rw e (omega arith)
 
 -- one more at the far end
-pub count-snoc : (p : ℕ → Bool) (i n : ℕ) → count p i (suc n) ≡ count p i n + pick (p (i + n)) 1 0
+pub count-snoc : (p : ℕ → Bool) (i n : ℕ) → count p i (suc n) ≡ count p i n + (if p (i + n) then 1 else 0)
 unfolding count
 count-snoc p i zero =
-    let k : pick {A = ℕ} (p i) 1 0 ≡ pick (p (i + 0)) 1 0 = ap (λ (k : ℕ). pick {A = ℕ} (p k) 1 0) (omega arith) in
+    let k : cond {A = ℕ} (p i) 1 0 ≡ (if p (i + 0) then 1 else 0) = ap (λ (k : ℕ). cond {A = ℕ} (p k) 1 0) (omega arith) in
     omega arith
 count-snoc p i (suc n) =
-    let ih : count p (suc i) (suc n) ≡ count p (suc i) n + pick (p (suc i + n)) 1 0 = count-snoc p (suc i) n in
-    let k : pick {A = ℕ} (p (suc i + n)) 1 0 ≡ pick (p (i + suc n)) 1 0 = ap (λ (k : ℕ). pick {A = ℕ} (p k) 1 0) (omega arith) in
+    let ih : count p (suc i) (suc n) ≡ count p (suc i) n + (if p (suc i + n) then 1 else 0) = count-snoc p (suc i) n in
+    let k : cond {A = ℕ} (p (suc i + n)) 1 0 ≡ (if p (i + suc n) then 1 else 0) = ap (λ (k : ℕ). cond {A = ℕ} (p k) 1 0) (omega arith) in
     omega (arith, ih, k)
 
 pub count-within : (p q : ℕ → Bool) (i n : ℕ) → ((k : ℕ) → i ≤ k → k < i + n → p k ≡ true → q k ≡ true) → count p i n ≤ count q i n
@@ -44,7 +44,7 @@ count-within p q i zero h = omega arith
 count-within p q i (suc n) h = go (p i) (q i) refl refl (count-within p q (suc i) n (λ k a b. h k (omega arith) (omega arith)))
   where
     go : (a b : Bool) → p i ≡ a → q i ≡ b → count p (suc i) n ≤ count q (suc i) n
-        → pick (p i) 1 0 + count p (suc i) n ≤ pick (q i) 1 0 + count q (suc i) n
+        → (if p i then 1 else 0) + count p (suc i) n ≤ (if q i then 1 else 0) + count q (suc i) n
     go true true e f l = rw (e, f) (omega arith)
     go true false e f l = no_both (q i) (h i (omega arith) (omega arith) e) f
     go false true e f l = rw (e, f) (omega arith)
@@ -57,14 +57,14 @@ unfolding count
 count_less p q i zero h j a b x y = absurd (omega arith)
 count_less p q i (suc n) h j a b x y =
     ⊎_elim (λ (e : i ≡ j).
-    let u : pick {A = ℕ} (p i) 1 0 ≡ 0 = ap (λ (k : ℕ). pick {A = ℕ} (p k) 1 0) e ∙ no-pick (p j) 1 0 x in
-    let v : pick {A = ℕ} (q i) 1 0 ≡ 1 = ap (λ (k : ℕ). pick {A = ℕ} (q k) 1 0) e ∙ yes-pick (q j) 1 0 y in
+    let u : cond {A = ℕ} (p i) 1 0 ≡ 0 = ap (λ (k : ℕ). cond {A = ℕ} (p k) 1 0) e ∙ if-false (p j) 1 0 x in
+    let v : cond {A = ℕ} (q i) 1 0 ≡ 1 = ap (λ (k : ℕ). cond {A = ℕ} (q k) 1 0) e ∙ if-true (q j) 1 0 y in
     omega (arith, u, v, count-within p q (suc i) n (λ k a b. h k (omega arith) (omega arith))))
     (λ (l : i < j). go (p i) (q i) refl refl (count_less p q (suc i) n (λ k a b. h k (omega arith) (omega arith)) j l (omega arith) x y))
     (eq-or-lt_of_le a)
   where
     go : (a b : Bool) → p i ≡ a → q i ≡ b → count p (suc i) n < count q (suc i) n
-        → pick (p i) 1 0 + count p (suc i) n < pick (q i) 1 0 + count q (suc i) n
+        → (if p i then 1 else 0) + count p (suc i) n < (if q i then 1 else 0) + count q (suc i) n
     go true true e f l = rw (e, f) (omega arith)
     go true false e f l = no_both (q i) (h i (omega arith) (omega arith) e) f
     go false true e f l = rw (e, f) (omega arith)
@@ -139,8 +139,8 @@ pub count-below : (p : ℕ → Bool) (u v : ℕ) → u < v → p u ≡ true → 
 count-below p u v l e =
     let m : count p 0 (suc u) ≤ count p 0 (suc u + (v - suc u)) = count-mono p (suc u) (v - suc u) in
     let s : count p 0 (suc u + (v - suc u)) ≡ count p 0 v = ap (λ (k : ℕ). count p 0 k) (omega arith) in
-    let t : pick {A = ℕ} (p (0 + u)) 1 0 ≡ 1 = ap (λ (k : ℕ). pick {A = ℕ} (p k) 1 0) (native.Mathlib.Nat.zero-add u)
-    ∙ yes-pick (p u) 1 0 e in
+    let t : cond {A = ℕ} (p (0 + u)) 1 0 ≡ 1 = ap (λ (k : ℕ). cond {A = ℕ} (p k) 1 0) (native.Mathlib.Nat.zero-add u)
+    ∙ if-true (p u) 1 0 e in
     omega (arith, m, s, t, count-snoc p 0 u)
 
 pub count-apart : (p : ℕ → Bool) (u v : ℕ) → p u ≡ true → p v ≡ true → count p 0 u ≡ count p 0 v → u ≡ v
@@ -154,11 +154,11 @@ count-apart p u v a b e = go (dec_lt u v) (dec_lt v u)
 -- one more at a loop's index that passes, or not
 pub count_yes : (p : ℕ → Bool) (n : ℕ) → p n ≡ true → count p 0 (n + 1) ≡ count p 0 n + 1
 count_yes p n e = ap (λ (k : ℕ). count p 0 k) (add-one n) ∙ count-snoc p 0 n
-    ∙ ap (λ (k : ℕ). count p 0 n + k) (ap (λ (k : ℕ). pick {A = ℕ} (p k) 1 0) (zero-add n) ∙ yes-pick (p n) 1 0 e)
+    ∙ ap (λ (k : ℕ). count p 0 n + k) (ap (λ (k : ℕ). cond {A = ℕ} (p k) 1 0) (zero-add n) ∙ if-true (p n) 1 0 e)
 
 pub count-pass : (p : ℕ → Bool) (n : ℕ) → p n ≡ false → count p 0 (n + 1) ≡ count p 0 n
 count-pass p n e = ap (λ (k : ℕ). count p 0 k) (add-one n) ∙ count-snoc p 0 n
-    ∙ ap (λ (k : ℕ). count p 0 n + k) (ap (λ (k : ℕ). pick {A = ℕ} (p k) 1 0) (zero-add n) ∙ no-pick (p n) 1 0 e) ∙ add-zero (count p 0 n)
+    ∙ ap (λ (k : ℕ). count p 0 n + k) (ap (λ (k : ℕ). cond {A = ℕ} (p k) 1 0) (zero-add n) ∙ if-false (p n) 1 0 e) ∙ add-zero (count p 0 n)
 
 -- where just one passes, two that pass are the same
 pub count-one : (p : ℕ → Bool) (n u v : ℕ) → count p 0 n ≡ 1 → u < n → v < n → p u ≡ true → p v ≡ true → u ≡ v
@@ -178,10 +178,10 @@ count_add p q i zero u a b x y h = absurd (omega arith)
 count_add p q i (suc n) u a b x y h =
     ⊎_elim
     (λ (e : i ≡ u).
-    let s : pick {A = ℕ} (p i) 1 0 ≡ 0 = no-pick (p i) 1 0 (ap p e ∙ x) in
-    let t : pick {A = ℕ} (q i) 1 0 ≡ 1 = yes-pick (q i) 1 0 (ap q e ∙ y) in
+    let s : cond {A = ℕ} (p i) 1 0 ≡ 0 = if-false (p i) 1 0 (ap p e ∙ x) in
+    let t : cond {A = ℕ} (q i) 1 0 ≡ 1 = if-true (q i) 1 0 (ap q e ∙ y) in
     omega (arith, s, t, count-suc p i n, count-suc q i n, count-alike p q (suc i) n (λ k c d. h k (λ z. omega arith))))
     (λ (l : i < u).
-    let s : pick {A = ℕ} (q i) 1 0 ≡ pick (p i) 1 0 = ap (λ b. pick {A = ℕ} b 1 0) (h i (λ z. omega arith)) in
+    let s : cond {A = ℕ} (q i) 1 0 ≡ (if p i then 1 else 0) = ap (λ b. cond {A = ℕ} b 1 0) (h i (λ z. omega arith)) in
     omega (arith, s, count-suc p i n, count-suc q i n, count_add p q (suc i) n u l (omega arith) x y h))
     (eq-or-lt_of_le a)

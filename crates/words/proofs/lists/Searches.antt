@@ -1,4 +1,5 @@
 -- Laws of the lowest number that passes a test, of whether any does, and of the highest value; of an element that passes.
+use Rattle.std.proofs.Common.{if◌then◌else◌}
 use mathlib.Core.Path.{◌≡◌, refl, sym, ◌∙◌, ap, ap₂, subst}
 use mathlib.Core.Logic.{◌⊎◌, inl, inr, ⊎_elim}
 use mathlib.Core.Bool.{Bool, true, false, ◌||◌}
@@ -7,10 +8,9 @@ use Prim.Native.Nat.{ℕ, zero, suc, ◌+◌, ◌-◌, ◌≤◌, ◌<◌, max}
 use native.Mathlib.Nat.{eq-or-lt_of_le, sub-zero, zero-add}
 use native.Mathlib.Numerals.{add-one}
 use native.Mathlib.Omega.{arith}
-use Rattle.words.specs.lists.Pick.{pick}
 use Rattle.words.specs.lists.Numbers.{lowest, any, sum, highest}
 use Rattle.words.specs.lists.Sequences.{some}
-use Rattle.words.proofs.lists.Tests.{no_both, or_l, or_r, or_cases, cases, yes-pick, no-pick}
+use Rattle.words.proofs.lists.Tests.{no_both, or_l, or_r, or_cases, cases, if-true, if-false}
 
 -- ---- the lowest that passes
 pub lowest-hit : (p : ℕ → Bool) (i n : ℕ) → lowest p i n < i + n → p (lowest p i n) ≡ true
@@ -148,13 +148,13 @@ module _ (p : ℕ → Bool) (n i : ℕ) where
 
 -- the lowest where the number before the others is tried too
 pub lowest-below : (p : ℕ → Bool) (n v r : ℕ) → 0 < v → v ≤ n → r ≡ lowest p v (n - v)
-    → pick (p (v - 1)) (v - 1) r ≡ lowest p (v - 1) (n - (v - 1))
+    → (if p (v - 1) then v - 1 else r) ≡ lowest p (v - 1) (n - (v - 1))
 lowest-below p n v r some low e = go (cases (p (v - 1)))
   where
-    go : (p (v - 1) ≡ true) ⊎ (p (v - 1) ≡ false) → pick (p (v - 1)) (v - 1) r ≡ lowest p (v - 1) (n - (v - 1))
-    go (inl h) = yes-pick (p (v - 1)) (v - 1) r h ∙ sym (lowest-here p n (v - 1) (omega arith) h)
+    go : (p (v - 1) ≡ true) ⊎ (p (v - 1) ≡ false) → (if p (v - 1) then v - 1 else r) ≡ lowest p (v - 1) (n - (v - 1))
+    go (inl h) = if-true (p (v - 1)) (v - 1) r h ∙ sym (lowest-here p n (v - 1) (omega arith) h)
     go (inr h) =
-        no-pick (p (v - 1)) (v - 1) r h ∙ e ∙ ap (λ (j : ℕ). lowest p j (n - j)) (omega arith) ∙ sym (lowest-on p n (v - 1) (omega arith) h)
+        if-false (p (v - 1)) (v - 1) r h ∙ e ∙ ap (λ (j : ℕ). lowest p j (n - j)) (omega arith) ∙ sym (lowest-on p n (v - 1) (omega arith) h)
 
 pub lowest_start : (p : ℕ → Bool) (n : ℕ) → lowest p 0 (n - 0) ≡ lowest p 0 n
 lowest_start p n = rw (sub-zero n)

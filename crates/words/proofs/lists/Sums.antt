@@ -1,11 +1,11 @@
 -- Laws of sums: of numbers within a bound, over ranges that follow one another, moved, or alike; and a loop that adds.
+use Rattle.std.proofs.Common.{if◌then◌else◌}
 use Prim.Native.Nat.{ℕ, zero, suc, ◌+◌, ◌*◌, ◌-◌, ◌≤◌, ◌<◌}
 use mathlib.Core.Bool.{Bool}
 use mathlib.Core.Path.{◌≡◌, refl, sym, ◌∙◌, ap, ap₂}
 use mathlib.Core.Logic.{◌⊎◌, inl, inr}
 use native.Mathlib.Nat.{eq-or-lt_of_le, mul-suc, suc-mul}
 use native.Mathlib.Omega.{arith}
-use Rattle.words.specs.lists.Pick.{pick}
 use Rattle.words.specs.lists.Numbers.{count, sum}
 use Rattle.words.proofs.lists.Counts.{count-suc, count_none}
 use Rattle.words.proofs.lists.Searches.{sum-snoc}
@@ -51,7 +51,7 @@ sum-full f i (suc n) h e k a b =
     go (inl q) ih one = ap f (sym q) ∙ one
     go (inr q) ih one = ih q
 
-pub sum-add : (p : ℕ → Bool) (f g : ℕ → ℕ) → ((k : ℕ) → f k ≡ pick (p k) 1 0 + g k) → (i n : ℕ) → sum f i n ≡ count p i n + sum g i n
+pub sum-add : (p : ℕ → Bool) (f g : ℕ → ℕ) → ((k : ℕ) → f k ≡ (if p k then 1 else 0) + g k) → (i n : ℕ) → sum f i n ≡ count p i n + sum g i n
 sum-add p f g h i zero = omega (arith, sum-none f i, sum-none g i, count_none p i 0 (λ k a b. absurd (omega arith)))
 sum-add p f g h i (suc n) = omega (arith, sum-suc f i n, sum-suc g i n, count-suc p i n, h i, sum-add p f g h (suc i) n)
 
@@ -89,10 +89,10 @@ sum-move f g a i (suc n) h =
       sum-move f g a (suc i) n (λ k l m. h k (omega arith) (omega arith)),
     )
 
-pub count-sum : (p : ℕ → Bool) (i n : ℕ) → count p i n ≡ sum (λ k. pick (p k) 1 0) i n
+pub count-sum : (p : ℕ → Bool) (i n : ℕ) → count p i n ≡ sum (λ k. (if p k then 1 else 0)) i n
 unfolding count sum
 count-sum p i zero = refl
-count-sum p i (suc n) = ap (λ (m : ℕ). pick (p i) 1 0 + m) (count-sum p (suc i) n)
+count-sum p i (suc n) = ap (λ (m : ℕ). (if p i then 1 else 0) + m) (count-sum p (suc i) n)
 
 -- ---- a loop from first up to end that adds a number, at most `most`, in each turn
 pub record Adding (g : ℕ → ℕ) (most first end total f : ℕ) : Type 0 where

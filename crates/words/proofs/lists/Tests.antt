@@ -1,4 +1,5 @@
 -- Laws of tests and of a choice by a test.
+use Rattle.std.proofs.Common.{if◌then◌else◌}
 use mathlib.Core.Path.{◌≡◌, refl, sym, ◌∙◌}
 use mathlib.Core.Logic.{◌⊎◌, inl, inr}
 use mathlib.Core.Bool.{Bool, true, false, ◌&&◌, ◌||◌, not}
@@ -7,7 +8,6 @@ use native.Mathlib.Decide.{dec_lt}
 use native.Mathlib.Omega.{arith}
 use lib.Dec.{ltb}
 use borrow.Author.Tests.{lt-ltb, le-ltb}
-use Rattle.words.specs.lists.Pick.{pick}
 
 pub no_both {ℓ} : {A : Type ℓ} (b : Bool) → b ≡ true → b ≡ false → A
 no_both b p q = absurd (let z : ◌≡◌ {A = ℕ} 0 1 = cc in omega arith)
@@ -62,11 +62,11 @@ pub not-true : (a : Bool) → not a ≡ true → a ≡ false
 not-true true e = sym e
 not-true false e = refl
 
-pub yes-pick {ℓ} : {A : Type ℓ} (t : Bool) (a b : A) → t ≡ true → pick t a b ≡ a
-yes-pick t a b e = rw e
+pub if-true : {A : Type 0} (t : Bool) (a b : A) → t ≡ true → (if t then a else b) ≡ a
+if-true t a b e = rw e
 
-pub no-pick {ℓ} : {A : Type ℓ} (t : Bool) (a b : A) → t ≡ false → pick t a b ≡ b
-no-pick t a b e = rw e
+pub if-false : {A : Type 0} (t : Bool) (a b : A) → t ≡ false → (if t then a else b) ≡ b
+if-false t a b e = rw e
 
 pub cases : (b : Bool) → (b ≡ true) ⊎ (b ≡ false)
 cases true = inl refl
@@ -104,6 +104,6 @@ same-ltb a b c d f g = go (split a b)
         below (inr p) = p
 
 -- a test as a bit
-pub bit-low : (b : Bool) → pick b 1 0 < 2
+pub bit-low : (b : Bool) → (if b then 1 else 0) < 2
 bit-low true = omega arith
 bit-low false = omega arith

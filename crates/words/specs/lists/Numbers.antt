@@ -1,6 +1,5 @@
 -- Functions and tests over n numbers from i on.
-use Rattle.std.specs.Prelude.{ℕ, zero, suc, ◌+◌, max, Bool, true, false, ◌||◌, List, [], ◌∷◌, map}
-use Rattle.words.specs.lists.Pick.{pick}
+use Rattle.std.specs.Prelude.{ℕ, zero, suc, ◌+◌, max, Bool, true, false, ◌||◌, List, [], ◌∷◌, map, if◌then◌else◌}
 
 abbrev pub range : ℕ → ℕ → List ℕ
 range i zero = []
@@ -21,7 +20,7 @@ any p i (suc n) = p i || any p (suc i) n
 
 unfoldable pub count : (ℕ → Bool) → ℕ → ℕ → ℕ
 count p i zero = 0
-count p i (suc n) = pick (p i) 1 0 + count p (suc i) n
+count p i (suc n) = (if p i then 1 else 0) + count p (suc i) n
 
 unfoldable pub sum : (ℕ → ℕ) → ℕ → ℕ → ℕ
 sum f i zero = 0

@@ -2,7 +2,7 @@ use native.Mathlib.Omega.{arith}
 use Rattle.cause.proofs.ConditionCases.{passed-turn}
 use mathlib.Core.Path.{refl, sym}
 use Rattle.words.specs.lists.Numbers.{lowest}
-use Rattle.words.proofs.lists.Tests.{yes-pick, no-pick}
+use Rattle.words.proofs.lists.Tests.{if-true, if-false}
 use Rattle.std.proofs.Common.{rules}
 use Rattle.cause.proofs.conditions.lowest_differing.Goals as goal
 
@@ -14,10 +14,10 @@ pub loop-i-preserved-then-differs : goal.loop-i-preserved-then-differs
 loop-i-preserved-then-differs c =
     let loop = c.loop-i in
     passed-turn _ _ _ loop.low loop.i loop.invariant (search rules) _ c.differs.ensures _
-    (sym (yes-pick _ _ _ c.if-differs.true))
+    (sym (if-true _ _ _ c.if-differs.true))
 
 pub loop-i-preserved : goal.loop-i-preserved
 loop-i-preserved c =
     let loop = c.loop-i in
     passed-turn _ _ _ loop.low loop.i loop.invariant (search rules) _ c.differs.ensures _
-    (sym (no-pick _ _ _ c.if-differs.false))
+    (sym (if-false _ _ _ c.if-differs.false))

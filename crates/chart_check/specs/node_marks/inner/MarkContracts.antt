@@ -1,6 +1,5 @@
 -- The marks that a sweep leaves, and what functions that mark nodes ask of their callers: marks for all nodes, lists with room for all.
-use Rattle.std.specs.Prelude.{ℕ, zero, suc, ◌≤◌, ◌≡◌, Bool, false, List, length, replicate}
-use Rattle.words.specs.lists.Pick.{pick}
+use Rattle.std.specs.Prelude.{ℕ, zero, suc, ◌≤◌, ◌≡◌, Bool, false, List, length, replicate, if◌then◌else◌}
 use Rattle.words.specs.graph.Reach.{is_marked}
 use Rattle.words.specs.graph.inner.Listed.{mark_all, Listed}
 use Rattle.text.specs.declared.frames.sizes.TheConstants.{NODES}
@@ -11,7 +10,7 @@ use Rattle.charts.specs.Check.{arcs}
 -- the marks after the arcs of nodes 0 to n - 1 were followed, each node's where it was marked by then
 unfoldable pub marks_swept_to : Chart → ℕ → List Bool → List Bool
 marks_swept_to c zero ms = ms
-marks_swept_to c (suc v) ms = let now = marks_swept_to c v ms in pick (is_marked now v) (mark_all (arcs c v) now) now
+marks_swept_to c (suc v) ms = let now = marks_swept_to c v ms in if is_marked now v then mark_all (arcs c v) now else now
 
 -- as many nodes as a byte can number, and a list with room for all
 pub record NodeRoom (c : Chart) (list : List ℕ) : Type 0 where

@@ -1,6 +1,5 @@
 -- What the functions that tally lists of words ask and promise.
-use Rattle.std.specs.Prelude.{ℕ, ◌+◌, ◌≤◌, eqb}
-use Rattle.words.specs.lists.Pick.{pick}
+use Rattle.std.specs.Prelude.{ℕ, ◌+◌, ◌≤◌, eqb, if◌then◌else◌}
 use Rattle.text.specs.declared.frames.refusals.TheConstants.{FULL, NO_ROW}
 use Rattle.image.specs.Image.{Image}
 use Rattle.state.specs.declared.State.{State}
@@ -13,7 +12,7 @@ tally_of i s n k = record { ended = count_meeting i s n k 0; full = count_meetin
 
 -- m lists, all of which meet one number
 abbrev pub all_meet : ℕ → ℕ → Tally
-all_meet number m = record { ended = pick (eqb number 0) m 0; full = pick (eqb number FULL) m 0; unmatched = pick (eqb number NO_ROW) m 0 }
+all_meet number m = record { ended = if eqb number 0 then m else 0; full = if eqb number FULL then m else 0; unmatched = if eqb number NO_ROW then m else 0 }
 
 abbrev pub tally_sum : Tally → Tally → Tally
 tally_sum a b = record { ended = a.ended + b.ended; full = a.full + b.full; unmatched = a.unmatched + b.unmatched }

@@ -1,6 +1,5 @@
 -- The parts of each class after a round: how many labels each has, the largest one, and the marks of all others.
-use Rattle.std.specs.Prelude.{ℕ, zero, suc, ◌+◌, ◌≡◌, List, eqb, ltb, get_or, set}
-use Rattle.words.specs.lists.Pick.{pick}
+use Rattle.std.specs.Prelude.{ℕ, zero, suc, ◌+◌, ◌≡◌, List, eqb, ltb, get_or, set, if◌then◌else◌}
 
 -- a buffer after one write for each label from 0 up to n
 unfoldable pub labelled : (ℕ → ℕ) → (ℕ → List ℕ → ℕ) → ℕ → List ℕ → List ℕ
@@ -9,7 +8,7 @@ labelled place value (suc l) xs = let before = labelled place value l xs in set 
 
 -- the labels of a class with label l, up to 255: its lowest label is the first of them
 abbrev pub member_count : List ℕ → ℕ → ℕ → ℕ
-member_count counts class l = let before = get_or counts class 0 in pick (eqb class l) 1 (pick (ltb before 255) (before + 1) before)
+member_count counts class l = let before = get_or counts class 0 in if eqb class l then 1 else if ltb before 255 then before + 1 else before
 
 abbrev pub count_members : List ℕ → ℕ → List ℕ → List ℕ
 count_members classes = labelled (λ l. get_or classes l 0) (λ l counts. member_count counts (get_or classes l 0) l)
@@ -17,7 +16,7 @@ count_members classes = labelled (λ l. get_or classes l 0) (λ l counts. member
 -- the part of label l, where none is kept for its former class or one with fewer labels, else the part that is kept
 abbrev pub larger_part : List ℕ → List ℕ → ℕ → ℕ → ℕ → ℕ
 larger_part counts kept class l part =
-    let first = get_or kept class 0 in pick (eqb class l) part (pick (ltb (get_or counts first 0) (get_or counts part 0)) part first)
+    let first = get_or kept class 0 in if eqb class l then part else if ltb (get_or counts first 0) (get_or counts part 0) then part else first
 
 abbrev pub keep_largest : List ℕ → List ℕ → List ℕ → ℕ → List ℕ → List ℕ
 keep_largest classes next counts =
@@ -25,7 +24,7 @@ keep_largest classes next counts =
 
 -- 2 for a label whose part is not the one that is kept, else 0
 abbrev pub mark_of : ℕ → ℕ → ℕ
-mark_of part kept = pick (eqb part kept) 0 2
+mark_of part kept = if eqb part kept then 0 else 2
 
 abbrev pub mark_others : List ℕ → List ℕ → List ℕ → ℕ → List ℕ → List ℕ
 mark_others classes next kept = labelled (λ l. l) (λ l _. mark_of (get_or next l 0) (get_or kept (get_or classes l 0) 0))

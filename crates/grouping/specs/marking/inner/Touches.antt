@@ -1,6 +1,5 @@
 -- Which labels have a row to a marked label, and what a round leaves for the next.
-use Rattle.std.specs.Prelude.{ℕ, ◌+◌, ◌-◌, ◌≡◌, List, map}
-use Rattle.words.specs.lists.Pick.{pick}
+use Rattle.std.specs.Prelude.{ℕ, ◌+◌, ◌-◌, ◌≡◌, List, map, if◌then◌else◌}
 use Rattle.words.specs.lists.Numbers.{range, any}
 use Rattle.words.specs.lists.Sequences.{written}
 use Rattle.image.specs.Decode.{last_label}
@@ -10,7 +9,7 @@ use Rattle.grouping.specs.marked_parts.inner.Parts.{PartsMarked}
 
 -- 1 where a row in the frames from first up to end leads to a marked label, else 0
 abbrev pub touch_in : List ℕ → List ℕ → ℕ → ℕ → ℕ
-touch_in b marks first end = pick (any (has_marked_next b marks 1) first (end - first)) 1 0
+touch_in b marks first end = if any (has_marked_next b marks 1) first (end - first) then 1 else 0
 
 -- the notes of labels 2 to M
 abbrev pub touches : List ℕ → List ℕ → List ℕ → List ℕ

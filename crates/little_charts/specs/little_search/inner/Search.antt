@@ -1,6 +1,5 @@
 -- A search for little charts, record by record: where no accepted chart begins with the records so far, it goes no further.
-use Rattle.std.specs.Prelude.{ℕ, zero, suc, ◌+◌, ◌*◌, ◌-◌, ◌/◌, ◌%◌, Bool, true, false, ◌&&◌, ◌||◌, not, List, [], ◌∷◌, ◌++◌, leb, ltb, eqb}
-use Rattle.words.specs.lists.Pick.{pick}
+use Rattle.std.specs.Prelude.{ℕ, zero, suc, ◌+◌, ◌*◌, ◌-◌, ◌/◌, ◌%◌, Bool, true, false, ◌&&◌, ◌||◌, not, List, [], ◌∷◌, ◌++◌, leb, ltb, eqb, if◌then◌else◌}
 use Rattle.words.specs.lists.Numbers.{range, any}
 use Rattle.words.specs.lists.Sequences.{concat_map}
 use Rattle.text.specs.frames.Frame.{size}
@@ -20,8 +19,8 @@ abbrev pub condition_at : ℕ → ℕ → List ℕ
 condition_at n i = condition_node (i / n) (i % n)
 
 unfoldable pub node_at : ℕ → ℕ → List ℕ
-node_at n i = pick (ltb i n) (begin_node i) (pick (eqb i n) end_node
-    (pick (ltb i (3 * n + 1)) (operation_at (i - (n + 1))) (condition_at n (i - (3 * n + 1)))))
+node_at n i = if ltb i n then begin_node i else if eqb i n then end_node
+    else if ltb i (3 * n + 1) then operation_at (i - (n + 1)) else condition_at n (i - (3 * n + 1))
 
 -- ---- what the first records rule out
 -- a node below v is of kind k
@@ -58,7 +57,7 @@ is_lonely c v = not (is c BEGIN v) && not (any (is_other_leading_to c v) 0 (size
 
 -- 1 where no node below v is of kind k
 abbrev pub absent_count : Chart → ℕ → ℕ → ℕ
-absent_count c k v = pick (has_kind c k v) 0 1
+absent_count c k v = if has_kind c k v then 0 else 1
 
 -- how many of Begin and End are still to come
 abbrev pub missing_ends : Chart → ℕ → ℕ
@@ -66,11 +65,11 @@ missing_ends c v = absent_count c BEGIN v + absent_count c END v
 
 -- the number of the first record to try at place v of n: no second Begin
 abbrev pub first_tried : ℕ → Chart → ℕ → ℕ
-first_tried n c v = pick (has_kind c BEGIN v) n 0
+first_tried n c v = if has_kind c BEGIN v then n else 0
 
 -- the number after the last one: where all places are needed for them, Begin and End alone
 abbrev pub past_last : ℕ → Chart → ℕ → ℕ
-past_last n c v = pick (leb (n - v) (missing_ends c v)) (n + 1) (node_count n)
+past_last n c v = if leb (n - v) (missing_ends c v) then n + 1 else node_count n
 
 -- ---- the search: the accepted charts that begin with the records c and have m more
 unfoldable pub searched_charts : ℕ → ℕ → Chart → List Chart

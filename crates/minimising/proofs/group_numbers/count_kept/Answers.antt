@@ -5,8 +5,7 @@ use native.Mathlib.Omega.{arith}
 use mathlib.Core.Path.{sym, ◌∙◌, ap}
 use Rattle.words.proofs.lists.Sums.{adding-start, adding-on, adding-all, count-sum}
 use Prim.Native.Nat.{ℕ}
-use Rattle.words.specs.lists.Pick.{pick}
-use Rattle.std.proofs.Common.{rules}
+use Rattle.std.proofs.Common.{rules, if◌then◌else◌}
 use Rattle.minimising.proofs.group_numbers.count_kept.Goals as goal
 
 pub loop-f-init : goal.loop-f-init
@@ -15,7 +14,7 @@ loop-f-init c = adding-start _ _ _ _ (search rules)
 pub loop-f-preserved : goal.loop-f-preserved
 loop-f-preserved c =
     adding-on _ _ _ _ _ _ _ c.loop-f.invariant (search rules)
-    (c.first_at-total.ensures.0 ∙ ap (λ (k : ℕ). pick (is_first c.args.classes.now k) 1 0) c.byte-from.ensures, c.first_at-total.ensures.1)
+    (c.first_at-total.ensures.0 ∙ ap (λ (k : ℕ). (if is_first c.args.classes.now k then 1 else 0)) c.byte-from.ensures, c.first_at-total.ensures.1)
 
 pub returns : goal.returns
 returns c =

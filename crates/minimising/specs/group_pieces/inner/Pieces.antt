@@ -1,6 +1,5 @@
 -- The text of the smaller image, frame by frame of the given one: a frame of a label or row that is not kept gives nothing.
-use Rattle.std.specs.Prelude.{ℕ, ◌+◌, List, []}
-use Rattle.words.specs.lists.Pick.{pick}
+use Rattle.std.specs.Prelude.{ℕ, ◌+◌, List, [], if◌then◌else◌}
 use Rattle.words.specs.lists.Numbers.{count}
 use Rattle.text.specs.frames.Frame.{size, field, frame_text}
 use Rattle.image.specs.declared.layout.TheConstants.{FROM}
@@ -22,8 +21,8 @@ rows_kept b c = count (λ f. is_first c (field b f FROM)) (rows_from b) (row_cou
 abbrev pub piece_at : List ℕ → List ℕ → Position → List ℕ
 piece_at b c header_position = header_piece (scheme_count b) (groups_in b c) (rows_kept b c) (handler_in b)
 piece_at b c (entry_position h) = frame_text (entry_frame h (renumbered_label c (entry_in b h)))
-piece_at b c (label_position l) = pick (is_first c l) (frame_text (label_frame (renumbered_label c l) (label_in b l))) []
-piece_at b c (row_position k) = pick (is_first c (row_in b k).from) (frame_text (row_frame (renumbered_row c (row_in b k)))) []
+piece_at b c (label_position l) = if is_first c l then frame_text (label_frame (renumbered_label c l) (label_in b l)) else []
+piece_at b c (row_position k) = if is_first c (row_in b k).from then frame_text (row_frame (renumbered_row c (row_in b k))) else []
 
 abbrev pub piece : List ℕ → List ℕ → ℕ → List ℕ
 piece b c f = piece_at b c (position_of b f)

@@ -1,7 +1,6 @@
 -- Calls as the functions keep them: sets of schemes as masks, bit h for scheme h.
-use Rattle.std.specs.Prelude.{ℕ, zero, suc, ◌+◌, ◌^◌, ◌<◌, Bool, ◌≡◌, List, ltb, eqb, get_or}
+use Rattle.std.specs.Prelude.{ℕ, zero, suc, ◌+◌, ◌^◌, ◌<◌, Bool, ◌≡◌, List, ltb, eqb, get_or, if◌then◌else◌}
 use Rattle.std.specs.Int.Bits.{bit_or}
-use Rattle.words.specs.lists.Pick.{pick}
 use Rattle.words.specs.lists.Numbers.{tabulate, any, lowest}
 use Rattle.words.specs.bits.Word.{bit}
 use Rattle.text.specs.declared.frames.sizes.TheConstants.{SCHEMES}
@@ -12,12 +11,12 @@ use Rattle.places.specs.chains.Calls.{has_call, is_call_of, is_circular, places}
 
 -- the scheme that node v calls, 0 where it holds no call
 abbrev pub called_at : Chart → ℕ → ℕ
-called_at c v = pick (has_call c v) (argument c v) 0
+called_at c v = if has_call c v then argument c v else 0
 
 -- the numbers below n that pass
 unfoldable pub mask_of : (ℕ → Bool) → ℕ → ℕ
 mask_of p zero = 0
-mask_of p (suc n) = mask_of p n + pick (p n) (2 ^ n) 0
+mask_of p (suc n) = mask_of p n + (if p n then 2 ^ n else 0)
 
 -- for each scheme, those that the first v nodes call from it
 abbrev pub call_masks : Chart → ℕ → List ℕ
@@ -26,7 +25,7 @@ call_masks c v = tabulate (λ g. mask_of (λ h. any (is_call_of c g h) 0 v) (suc
 -- the schemes that those of a set call, by the masks of the first n
 unfoldable pub called_by : List ℕ → ℕ → ℕ → ℕ
 called_by masks set zero = 0
-called_by masks set (suc g) = bit_or (called_by masks set g) (pick (eqb (bit set g) 1) (get_or masks g 0) 0)
+called_by masks set (suc g) = bit_or (called_by masks set g) (if eqb (bit set g) 1 then get_or masks g 0 else 0)
 
 -- the schemes that chains of k calls from scheme 1 end in
 unfoldable pub ends_by : List ℕ → ℕ → ℕ
@@ -35,11 +34,11 @@ ends_by masks (suc k) = called_by masks (ends_by masks k) (suc SCHEMES)
 
 -- the lowest number of calls that no chain has, or 0 where there are chains of 16 calls: of 17 schemes
 unfoldable pub longest_by : List ℕ → ℕ
-longest_by masks = let k = lowest (λ k. eqb (ends_by masks k) 0) 0 (suc SCHEMES) in pick (ltb k (suc SCHEMES)) k 0
+longest_by masks = let k = lowest (λ k. eqb (ends_by masks k) 0) 0 (suc SCHEMES) in if ltb k (suc SCHEMES) then k else 0
 
 -- how many schemes the longest chain has, or 0 where a circle of calls can be reached
 abbrev pub longest_chain : Chart → ℕ
-longest_chain c = pick (is_circular c) 0 (places c)
+longest_chain c = if is_circular c then 0 else places c
 
 -- a node of an accepted chart, and the masks by the nodes before it
 pub record CallsAsked (c : Chart) (v : ℕ) (masks : List ℕ) : Type 0 where

@@ -1,12 +1,12 @@
 -- `text::digits::letter_digit` meets its contract: the rule on the letter's capital, which was computed for every character.
 use mathlib.Core.Path.{sym, ◌∙◌}
-use Rattle.words.proofs.lists.Tests.{yes-pick, no-pick}
+use Rattle.words.proofs.lists.Tests.{if-true, if-false}
 use Rattle.text.proofs.digits.Digits.{masked-is}
 use Rattle.std.proofs.Common.{rules}
 use Rattle.text.proofs.digits.letter_digit.Goals as goal
 
 pub returns-then-letter : goal.returns-then-letter
-returns-then-letter c = sym (yes-pick _ _ _ c.if-letter.true) ∙ masked-is c.args.c (search rules)
+returns-then-letter c = sym (if-true _ _ _ c.if-letter.true) ∙ masked-is c.args.c (search rules)
 
 pub returns : goal.returns
-returns c = sym (no-pick _ _ _ c.if-letter.false) ∙ masked-is c.args.c (search rules)
+returns c = sym (if-false _ _ _ c.if-letter.false) ∙ masked-is c.args.c (search rules)

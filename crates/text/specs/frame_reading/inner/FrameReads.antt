@@ -1,6 +1,5 @@
 -- What the functions that read one frame ask and promise, by the names of the parts.
-use Rattle.std.specs.Prelude.{ℕ, ◌+◌, ◌*◌, ◌%◌, ◌≤◌, ◌<◌, ◌≡◌, List, map, leb, ltb, length, get_or}
-use Rattle.words.specs.lists.Pick.{pick}
+use Rattle.std.specs.Prelude.{ℕ, ◌+◌, ◌*◌, ◌%◌, ◌≤◌, ◌<◌, ◌≡◌, List, map, leb, ltb, length, get_or, if◌then◌else◌}
 use Rattle.words.specs.lists.Numbers.{any, range}
 use Rattle.words.specs.lists.Sequences.{written}
 use Rattle.text.specs.digits.Digit.{digit_of}
@@ -23,7 +22,7 @@ pub record DigitsRead (t : List ℕ) (from : ℕ) (r : FrameDigits) : Type 0 whe
 
 -- where the digits of byte k stand among these, and the byte, as it is stored
 abbrev pub place_of : ℕ → ℕ
-place_of k = pick (ltb k 8) (2 * k) (2 * k + 10)
+place_of k = if ltb k 8 then 2 * k else 2 * k + 10
 
 abbrev pub value_of : List ℕ → ℕ → ℕ
 value_of digits k = (16 * get_or digits (place_of k) 0 + get_or digits (place_of k + 1) 0) % 256

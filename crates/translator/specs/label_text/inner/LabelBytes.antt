@@ -1,6 +1,5 @@
 -- Parts of an image's bytes before its rows, as the functions that write them have them, node by node or scheme by scheme.
-use Rattle.std.specs.Prelude.{ℕ, ◌+◌, ◌≡◌, List, [], ◌∷◌, ◌++◌, length, replicate}
-use Rattle.words.specs.lists.Pick.{pick}
+use Rattle.std.specs.Prelude.{ℕ, ◌+◌, ◌≡◌, List, [], ◌∷◌, ◌++◌, length, replicate, if◌then◌else◌}
 use Rattle.words.specs.lists.Numbers.{range}
 use Rattle.words.specs.lists.Sequences.{concat_map, written}
 use Rattle.text.specs.frames.Frame.{pair}
@@ -20,7 +19,7 @@ abbrev pub fixed_bytes : List ℕ
 fixed_bytes = label_frame 0 home_label ++ label_frame 1 return_label
 
 abbrev pub node_label_bytes : Chart → ℕ → List ℕ
-node_label_bytes c v = pick (is_numbered c v) (label_frame (label c v) (stop_label c v)) []
+node_label_bytes c v = if is_numbered c v then label_frame (label c v) (stop_label c v) else []
 
 -- those of the nodes or schemes below n, joined
 abbrev pub up_to : (ℕ → List ℕ) → ℕ → List ℕ

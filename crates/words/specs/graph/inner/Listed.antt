@@ -1,6 +1,5 @@
 -- Nodes marked one after the other, and marked nodes in a list: one listed as it is marked, and all of them, the lowest first.
-use Rattle.std.specs.Prelude.{ℕ, ◌+◌, ◌<◌, ◌≡◌, Bool, true, not, ◌&&◌, List, [], ◌∷◌, ltb, length, get_or, set}
-use Rattle.words.specs.lists.Pick.{pick}
+use Rattle.std.specs.Prelude.{ℕ, ◌+◌, ◌<◌, ◌≡◌, Bool, true, not, ◌&&◌, List, [], ◌∷◌, ltb, length, get_or, set, if◌then◌else◌}
 use Rattle.words.specs.lists.Numbers.{range, count}
 use Rattle.words.specs.lists.Sequences.{filter}
 use Rattle.words.specs.graph.Reach.{is_marked}
@@ -31,8 +30,8 @@ is_unmarked ms u = ltb u (length ms) && not (is_marked ms u)
 unfoldable pub enlist : Listing → ℕ → Listing
 enlist s u = record {
   marks = set s.marks u true;
-  list = pick (is_unmarked s.marks u) (set s.list s.count u) s.list;
-  count = pick (is_unmarked s.marks u) (s.count + 1) s.count;
+  list = if is_unmarked s.marks u then set s.list s.count u else s.list;
+  count = if is_unmarked s.marks u then s.count + 1 else s.count;
 }
 
 -- one node after the other

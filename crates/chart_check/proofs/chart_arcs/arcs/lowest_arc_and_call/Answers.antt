@@ -1,8 +1,8 @@
 -- `chart_check::chart_arcs::arcs::lowest_arc_and_call` meets its contract: what is known of the nodes from v on is known of all.
+use Rattle.std.proofs.Common.{if◌then◌else◌}
 use mathlib.Core.Path.{◌≡◌, sym, ◌∙◌}
 use Prim.Native.Nat.{◌-◌}
-use Rattle.words.specs.lists.Pick.{pick}
-use Rattle.words.proofs.lists.Tests.{yes-pick, no-pick}
+use Rattle.words.proofs.lists.Tests.{if-true, if-false}
 use Rattle.chart_check.proofs.chart_arcs.Downward.{downward-none, downward-turn}
 use borrow.Author.Rules.{rules}
 use Rattle.chart_check.proofs.chart_arcs.arcs.lowest_arc_and_call.Goals as goal
@@ -13,22 +13,22 @@ loop-v-init c = downward-none _ _ _
 
 pub loop-v-preserved-then-bad_call : goal.loop-v-preserved-then-bad_call
 loop-v-preserved-then-bad_call c =
-    let arc-set : c.if-bad_arc.arc ≡ pick c.bad_arc.result (c.loop-v.v - 1) c.loop-v.arc =
+    let arc-set : c.if-bad_arc.arc ≡ (if c.bad_arc.result then c.loop-v.v - 1 else c.loop-v.arc) =
     elim c.if-bad_arc.branch [
-      | then-bad_arc w ↦ w.arc-is ∙ sym (yes-pick _ _ _ w.if-bad_arc.true)
+      | then-bad_arc w ↦ w.arc-is ∙ sym (if-true _ _ _ w.if-bad_arc.true)
       | else-bad_arc w ↦ w.arc-is ∙ sym
-          (no-pick _ _ _ w.if-bad_arc.false)
+          (if-false _ _ _ w.if-bad_arc.false)
     ] in
     downward-turn _ _ _ _ _ _ c.loop-v.invariant _ _ _ _ (search rules) c.bad_arc.ensures c.bad_call.ensures
-    arc-set (sym (yes-pick _ _ _ c.if-bad_call.true))
+    arc-set (sym (if-true _ _ _ c.if-bad_call.true))
 
 pub loop-v-preserved : goal.loop-v-preserved
 loop-v-preserved c =
-    let arc-set : c.if-bad_arc.arc ≡ pick c.bad_arc.result (c.loop-v.v - 1) c.loop-v.arc =
+    let arc-set : c.if-bad_arc.arc ≡ (if c.bad_arc.result then c.loop-v.v - 1 else c.loop-v.arc) =
     elim c.if-bad_arc.branch [
-      | then-bad_arc w ↦ w.arc-is ∙ sym (yes-pick _ _ _ w.if-bad_arc.true)
+      | then-bad_arc w ↦ w.arc-is ∙ sym (if-true _ _ _ w.if-bad_arc.true)
       | else-bad_arc w ↦ w.arc-is ∙ sym
-          (no-pick _ _ _ w.if-bad_arc.false)
+          (if-false _ _ _ w.if-bad_arc.false)
     ] in
     downward-turn _ _ _ _ _ _ c.loop-v.invariant _ _ _ _ (search rules) c.bad_arc.ensures c.bad_call.ensures
-    arc-set (sym (no-pick _ _ _ c.if-bad_call.false))
+    arc-set (sym (if-false _ _ _ c.if-bad_call.false))
