@@ -135,7 +135,8 @@ module _ (c : Chart) (n : ℕ) (n≤ : n ≤ 32) (serving : Binding) where
 
         abbrev Goal : Bool → Bool → Type 0
         Goal full t = pushed_tick (table c) (state x ks b f) m (j + h) h (server_of serving h) d full
-            ≡ answer n (made (if t then 96 else j + h)) (state_of_position c n serving (position_called c x ks h (server_of serving h) d f t))
+            ≡ answer n (made (if t then 96 else j + h))
+            (state_of_position c n serving (position_called c x ks h (server_of serving h) d f t))
 
         at-full : (t : Bool) → is_dropping n c f (suc (length ks)) ≡ t → suc (length ks) ≡ n
             → is_full_stack_kept (table c) (state x ks b f) ≡ not t → Goal true t

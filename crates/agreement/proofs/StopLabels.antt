@@ -30,17 +30,18 @@ module _ (c : Chart) (v : ℕ) where
   -- an End has label 0 in scheme 1 and 1 elsewhere
   label-end : kind c v ≡ 1 → label c v ≡ (if eqb (scheme c v) 1 then 0 else 1)
   unfolding label
-  label-end e = ap (λ (t : Bool). (if t then 2 + count (is_numbered c) 0 v else if eqb (scheme c v) 1 then 0 else 1)) (unnumbered (is_stop c v))
+  label-end e = ap (λ (t : Bool). if t then 2 + count (is_numbered c) 0 v else if eqb (scheme c v) 1 then 0 else 1)
+      (unnumbered (is_stop c v))
     where
       unnumbered : (t : Bool) → (t && not (eqb (kind c v) 1)) ≡ false
       unnumbered true = rw e
       unnumbered false = refl
 
   pub label-home : kind c v ≡ 1 → scheme c v ≡ 1 → label c v ≡ 0
-  label-home e s = label-end e ∙ ap (λ (h : ℕ). (if eqb h 1 then 0 else 1)) s
+  label-home e s = label-end e ∙ ap (λ (h : ℕ). if eqb h 1 then 0 else 1) s
 
   pub label-back : kind c v ≡ 1 → (scheme c v ≡ 1 → ⊥) → label c v ≡ 1
-  label-back e s = label-end e ∙ ap (λ (t : Bool). (if t then 0 else 1)) (ne_eqb (scheme c v) 1 s)
+  label-back e s = label-end e ∙ ap (λ (t : Bool). if t then 0 else 1) (ne_eqb (scheme c v) 1 s)
 
   module _ (facts : TableFacts c) {h : ℕ} (stop : StopOf c h v) where
     pub is-numbered : (kind c v ≡ 1 → ⊥) → is_numbered c v ≡ true

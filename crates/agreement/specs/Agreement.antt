@@ -1,5 +1,6 @@
 -- The agreement: what a whole list of runs and rebindings hands back, against what the walk of the joined words gives.
-use Rattle.std.specs.Prelude.{ℕ, suc, ◌+◌, ◌-◌, ◌≤◌, min, Bool, true, false, ◌&&◌, not, ◌≡◌, List, [], ◌∷◌, ◌++◌, map, leb, ltb, eqb, if◌then◌else◌}
+use Rattle.std.specs.Prelude.{ℕ, suc, ◌+◌, ◌-◌, ◌≤◌, min, Bool, true, false, ◌&&◌, not, ◌≡◌, List, [], ◌∷◌, ◌++◌, map, leb, ltb}
+use Rattle.std.specs.Prelude.{eqb, if◌then◌else◌}
 use Rattle.std.specs.Prelude.{length, take, drop}
 use Rattle.words.specs.lists.Sequences.{over}
 use Rattle.bindings.specs.Binding.{Binding, own_binding, rebound_binding, is_bad_rebinding}

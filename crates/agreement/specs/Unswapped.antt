@@ -19,7 +19,7 @@ run_outputs run image s (a ∷ rest) = let r = run image s a.words a.masks a.cod
     output_of r ∷ run_outputs run image r.state rest
 
 abbrev pub joined_run_words : List RunInput → List ℕ
-joined_run_words = concat_map (λ a. (if is_short a then [] else a.words))
+joined_run_words = concat_map (λ a. if is_short a then [] else a.words)
 
 unfoldable pub expected_runs : ℕ → List Tick → ℕ → List RunInput → List RunOutput
 expected_runs b ts p [] = []

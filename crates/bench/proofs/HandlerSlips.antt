@@ -97,7 +97,8 @@ tick_resized_after n (finished m code t) = finished m code (resized_state n t)
 tick_resized_after n (stopped k) = stopped k
 
 abbrev pub counts_zero : StepRule
-counts_zero i s w = if is_of_handler i (place_at s 0) then tick_resized_after s.size (tick i (resized_state (suc s.size) s) w) else tick i s w
+counts_zero i s w = if is_of_handler i (place_at s 0) then tick_resized_after s.size (tick i (resized_state (suc s.size) s) w)
+    else tick i s w
 
 pub counts-zero-fails : (g : Rebinder) → Agreement translate fresh_state (run_by counts_zero) g → ⊥
 unfolding running ticks_by_rule table_handler bottom_words

@@ -104,7 +104,8 @@ notes i s h k = let r = rebind_image i s h k in
     record { reply = r.reply; state = state_where_done r (with_serving s (set s.serving 0 (32 * h + k))) s }
 
 abbrev counted_state : State → State
-counted_state s = let n = get_or s.serving 0 0 in if ltb n 32 then s else with_serving s (rebound_binding (n / 32) (n % 32) (set s.serving 0 1))
+counted_state s = let n = get_or s.serving 0 0 in if ltb n 32 then s
+    else with_serving s (rebound_binding (n / 32) (n % 32) (set s.serving 0 1))
 
 abbrev later : MachineTick → MachineTick
 later (finished m code t) = finished m code (if eqb code 3 then counted_state t else t)
@@ -125,9 +126,9 @@ counts-at-return-fails claim =
 -- ---- the open schemes that number h called are swapped too: each starts anew as scheme k
 abbrev reopened_state : Image → ℕ → ℕ → State → State
 reopened_state i h k s = with_places s
-    (map (λ j. (if eqb (number_at s j) h then entry_at i k else place_at s j)) (range 0 32))
+    (map (λ j. if eqb (number_at s j) h then entry_at i k else place_at s j) (range 0 32))
     s.numbers
-    (map (λ j. (if eqb (number_at s j) h then k else server_at s j)) (range 0 32))
+    (map (λ j. if eqb (number_at s j) h then k else server_at s j) (range 0 32))
 
 abbrev pub swaps_open : Swapper
 swaps_open i s h k = let r = rebind_image i s h k in

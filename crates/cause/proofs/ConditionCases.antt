@@ -31,7 +31,7 @@ module _ (w care values : ℕ) where
     pub passed-turn : (found : ℕ) → found ≡ (if t then i - 1 else low) → PassedCondition found (i - 1)
     passed-turn found h = record {
       inside = omega (arith, x.inside);
-      lowest = h ∙ ap (λ (u : Bool). (if u then i - 1 else low)) e ∙ lowest-below p 16 i low some x.inside x.lowest;
+      lowest = h ∙ ap (λ (u : Bool). if u then i - 1 else low) e ∙ lowest-below p 16 i low some x.inside x.lowest;
     }
 
   pub passed-all : (low i : ℕ) → PassedCondition low i → i ≤ 0 → low ≡ lowest p 0 16
@@ -53,14 +53,14 @@ module _ (b : List ℕ) (f w bit : ℕ) (x : RowAsked b f) (bytes : (k : ℕ) �
     let-is = e ∙ ap (λ (n : ℕ). is_let_through n bit) is
 
     pub against-shut : t ≡ false → 0 ≡ mask_against_in b w bit f
-    against-shut h = sym (ap (λ (u : Bool). (if u && not (is_agreeing w care values) then low else 0)) (sym let-is ∙ h))
+    against-shut h = sym (ap (λ (u : Bool). if u && not (is_agreeing w care values) then low else 0) (sym let-is ∙ h))
 
     module _ (h : t ≡ true) (c v : ℕ) (p : c ≡ care) (q : v ≡ values) where
       agrees-is : is_agreeing w c v ≡ is_agreeing w care values
       agrees-is = ap₂ (is_agreeing w) p q
 
       by_word : (u : Bool) → is_agreeing w c v ≡ u → mask_against_in b w bit f ≡ (if not u then low else 0)
-      by_word u z = ap₂ (λ (m n : Bool). (if m && not n then low else 0)) (sym let-is ∙ h) (sym agrees-is ∙ z)
+      by_word u z = ap₂ (λ (m n : Bool). if m && not n then low else 0) (sym let-is ∙ h) (sym agrees-is ∙ z)
 
       pub against-match : bit_and w c ≡ v → 0 ≡ mask_against_in b w bit f
       against-match z = sym (by_word true (eq-eqb (bit_and w c) v z))

@@ -182,9 +182,11 @@ module _ (i : Image) (sound : SoundImage i) (s : State) (f : Fits i s) where
   leaves = go x.kind refl
     where
       beneath : x.kind ≡ 3 → (t : Bool) → leb s.depth 1 ≡ t → Leaves i s
-      beneath e true t = stays (leaving-by 3 e ∙ ap (λ (b : Bool). (if b then nothing else leaves_label (place_at s (s.depth - 2)))) t) (ends e t)
+      beneath e true t = stays (leaving-by 3 e ∙ ap (λ (b : Bool). if b then nothing else leaves_label (place_at s (s.depth - 2))) t)
+          (ends e t)
       beneath e false t =
-          by (place_at s (s.depth - 2)) (leaving-by 3 e ∙ ap (λ (b : Bool). (if b then nothing else leaves_label (place_at s (s.depth - 2)))) t)
+          by (place_at s (s.depth - 2)) (leaving-by 3 e
+          ∙ ap (λ (b : Bool). if b then nothing else leaves_label (place_at s (s.depth - 2))) t)
           (back e t)
 
       go : (k : ℕ) → x.kind ≡ k → Leaves i s
@@ -207,4 +209,4 @@ module _ (i : Image) (sound : SoundImage i) (s : State) (f : Fits i s) where
       go (inr p) = leaving-by 2 (eqb-true x.kind 2 p)
   rowless-stays (at_last_return e d) =
       leaving-by 3 (ap (λ (l : ℕ). (label_at i l).kind) e ∙ ap (λ (y : Label). y.kind) sound.back)
-      ∙ ap (λ (b : Bool). (if b then nothing else leaves_label (place_at s (s.depth - 2)))) (le-leb s.depth 1 (omega arith))
+      ∙ ap (λ (b : Bool). if b then nothing else leaves_label (place_at s (s.depth - 2))) (le-leb s.depth 1 (omega arith))

@@ -81,7 +81,7 @@ cause_at i b w nothing = unexplained ROWLESS
 unfoldable pub cause_of : Image → State → ℕ → Caused
 cause_of i s w = cause_at i s.bits w (leaving i s)
 
--- what the entry point answers: what the image check tries, 15, 21 and 18; a refusal reports 0 and nothing else
+-- what the entry point answers: what the image check tries, 15, 21 and 18; with a refusal the cause is 0 throughout
 pub record CauseOutcome : Type 0 where
   pub reply : Reply
   pub cause : Cause

@@ -13,10 +13,7 @@ fn differs(word: u16, care: u16, values: u16, i: u8) -> bool
     requires { i < 16 }
     ensures { result ≡ is_differing word care values i }
 {
-    if bit(care, i) != 1 {
-        return false;
-    }
-    bit(word, i) != bit(values, i)
+    bit(care, i) == 1 && bit(word, i) != bit(values, i)
 }
 
 // The lowest such condition, or 16.
@@ -38,13 +35,7 @@ fn lowest_differing(word: u16, care: u16, values: u16) -> u8
 fn lets_through(only: u8, bit: u8) -> bool
     ensures { result ≡ is_let_through only bit }
 {
-    if bit == NO_BIT {
-        return true;
-    }
-    if only == NO_BIT {
-        return true;
-    }
-    only == bit
+    bit == NO_BIT || only == NO_BIT || only == bit
 }
 
 // The lowest condition that contradicts the row in frame f, as a mask; a row that the bit shuts out or that matches adds none.

@@ -9,8 +9,8 @@ use crate::chart_arcs::lowest_arc_and_call;
 use crate::chart_counts::check_fields;
 use crate::chart_handler::bad_marks;
 use crate::joined::check_joined;
-use text::frames::sizes::RECORD;
 use text::frames::Refusal;
+use text::frames::sizes::RECORD;
 
 pub fn check_chart(records: &[u8]) -> Result<usize, Refusal>
     requires { (length records.now ≡ RECORD * size records.now) × (size records.now ≤ NODES) }

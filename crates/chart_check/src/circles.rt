@@ -31,12 +31,9 @@ fn on_circle(records: &[u8], v: usize, list: &mut [u8]) -> bool
     requires node_room { NodeRoom records.now list.old }
     ensures { result ≡ is_on_circle records.now v }
 {
-    if field(records, v, KIND) != CONDITION {
-        return false;
-    }
     let n = records.len() / RECORD;
     let mut marks = [false; NODES];
-    leads_back(records, v, &mut marks[..n], list)
+    field(records, v, KIND) == CONDITION && leads_back(records, v, &mut marks[..n], list)
 }
 
 // The lowest node on a circle, or the number of nodes. A finished node is on none, so only the others are tried.

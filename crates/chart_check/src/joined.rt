@@ -12,8 +12,8 @@ ghost use Rattle.chart_check.specs.inner.CheckContracts.{Passed4To6, joined_verd
 use crate::circles::lowest_circle;
 use crate::node_marks::{join, mark_kind, sweep};
 use charts::layout::BEGIN;
-use text::frames::sizes::{NODES, RECORD};
 use text::frames::Refusal;
+use text::frames::sizes::{NODES, RECORD};
 
 // The nodes that arcs join from some Begin are marked; the lowest other one, or the number of nodes. It is looked for only where not all
 // are marked.

@@ -124,17 +124,17 @@ below_more c v = ap (rows_below c) (add-one v) ∙ concat-range-snoc (node_rows 
 
 -- the nodes without a label add nothing
 picked : {A : Type 0} (p : ℕ → Bool) (f : ℕ → List A) (i n : ℕ)
-    → concat_map (λ v. (if p v then f v else [])) (range i n) ≡ concat_map f (filter p (range i n))
+    → concat_map (λ v. if p v then f v else []) (range i n) ≡ concat_map f (filter p (range i n))
 picked p f i zero = unfold concat_map filter in refl
 picked {A} p f i (suc n) = go (p i) refl (picked p f (suc i) n)
   where
-    go : (b : Bool) → p i ≡ b → concat_map (λ v. (if p v then f v else [])) (range (suc i) n) ≡ concat_map f (filter p (range (suc i) n))
-        → concat_map (λ v. (if p v then f v else [])) (range i (suc n)) ≡ concat_map f (filter p (range i (suc n)))
+    go : (b : Bool) → p i ≡ b → concat_map (λ v. if p v then f v else []) (range (suc i) n) ≡ concat_map f (filter p (range (suc i) n))
+        → concat_map (λ v. if p v then f v else []) (range i (suc n)) ≡ concat_map f (filter p (range i (suc n)))
     go true e ih =
-        concat-cons (λ v. (if p v then f v else [])) i (range (suc i) n) ∙ ap₂ (λ (x y : List A). x ++ y) (if-true (p i) (f i) [] e) ih
+        concat-cons (λ v. if p v then f v else []) i (range (suc i) n) ∙ ap₂ (λ (x y : List A). x ++ y) (if-true (p i) (f i) [] e) ih
         ∙ sym (ap (concat_map f) (filter-yes p i (range (suc i) n) e) ∙ concat-cons f i (filter p (range (suc i) n)))
     go false e ih =
-        concat-cons (λ v. (if p v then f v else [])) i (range (suc i) n) ∙ ap₂ (λ (x y : List A). x ++ y) (if-false (p i) (f i) [] e) ih
+        concat-cons (λ v. if p v then f v else []) i (range (suc i) n) ∙ ap₂ (λ (x y : List A). x ++ y) (if-false (p i) (f i) [] e) ih
         ∙ sym (ap (concat_map f) (filter-no p i (range (suc i) n) e))
 
 pub below_all : (c : Chart) (v : ℕ) → v ≡ size c → rows_below c v ≡ rows c

@@ -120,9 +120,11 @@ module _ (c : Chart) (out : List ℕ) where
   pub write-unwhole : is_bad_length 10 2560 (length c) ≡ true → GivesBuffer (write_chart c out) (Err BadLength) out
   unfolding write_chart write_verdict
   write-unwhole b =
-      lent-err (write_verdict c) 1 (λ _. text_of c) out BadLength
-      (next-refused (when 1 (is_bad_length 10 2560 (length c))) (λ _. chart_verdict c) 1 0
-      (when-holds 1 (is_bad_length 10 2560 (length c)) b), refl)
+      lent-err (write_verdict c) 1 (λ _. text_of c) out BadLength (
+        next-refused (when 1 (is_bad_length 10 2560 (length c))) (λ _. chart_verdict c) 1 0
+            (when-holds 1 (is_bad_length 10 2560 (length c)) b),
+        refl,
+      )
 
   module _ (w : WholeRecords c) (a : Answer) (e : reply a ≡ verdict_reply (chart_verdict c) 0) where
     on : write_verdict c ≡ chart_verdict c

@@ -13,15 +13,7 @@ use Rattle.text.specs.frames.Frame.{field, pair_at}
 use Rattle.image.specs.Decode.{row_in_frame}
 use Rattle.image.specs.Image.{Row}
 use Rattle.covering.specs.Matched.{is_together}
-use Rattle.covering.specs.inner.CoveringContracts.{row_with, has_any_together, words_with, words_in, has_uneven_rows, is_other}
-
--- ---- meets
-module _ (b : List ℕ) (g care values x p q : ℕ) (e₁ : p ≡ pair_at b g 2) (e₂ : q ≡ pair_at b g 4) where
-  abbrev r : Row
-  r = row_with care values x
-
-  abbrev y : ℕ
-  y = field b g 6
+use Rattle.covering.specs.inner.CoveringContracts.{row_with, words_with, is_other}
 
 -- ---- are_together, meets_before: the row in frame f, read once
 pub read-row : (b : List ℕ) (f care values x : ℕ) → care ≡ pair_at b f 2 → values ≡ pair_at b f 4 → x ≡ field b f 6 → (s : Row)
@@ -42,34 +34,18 @@ module _ (b : List ℕ) (f bit : ℕ) where
   asked x = eqb x 2 || eqb x bit
 
   pub words-off : (x : ℕ) (t : Bool) → x ≡ field b f 6 → t ≡ asked x → t ≡ false → 0 ≡ words_with bit (row_in_frame b f)
-  words-off x t e h z = sym (ap (λ (u : Bool). (if u then 2 ^ (16 - ones (pair_at b f 2)) else 0)) (ap asked (sym e) ∙ sym h ∙ z))
+  words-off x t e h z = sym (ap (λ (u : Bool). if u then 2 ^ (16 - ones (pair_at b f 2)) else 0) (ap asked (sym e) ∙ sym h ∙ z))
 
   pub words-on : (x p : ℕ) (t : Bool) → x ≡ field b f 6 → t ≡ asked x → t ≡ true → p ≡ pair_at b f 2
       → (1 * 2 ^ (16 - ones p) % 4294967296 ≡ words_with bit (row_in_frame b f)) × (1 * 2 ^ (16 - ones p) % 4294967296 ≤ 65536)
   words-on x p t e h z q = let s = shifted p (16 - ones p) refl in (
     s.0 ∙ ap (λ (y : ℕ). 2 ^ (16 - ones y)) q
-        ∙ sym (ap (λ (u : Bool). (if u then 2 ^ (16 - ones (pair_at b f 2)) else 0)) (ap asked (sym e) ∙ sym h ∙ z)),
+        ∙ sym (ap (λ (u : Bool). if u then 2 ^ (16 - ones (pair_at b f 2)) else 0) (ap asked (sym e) ∙ sym h ∙ z)),
     s.1,
   )
 
 pub few_ones : (x : ℕ) → x < 65536 → ones x ≤ 16
 few_ones x h = ones-le 16 x h
-
--- ---- uneven_rows
-module _ (b : List ℕ) (first n x : ℕ) (e : x ≡ words_in b 0 first n) where
-  pub uneven-first : (x ≡ 65536 → ⊥) → true ≡ has_uneven_rows b first n
-  uneven-first h = sym (ap (λ (t : Bool). not t || not (eqb (words_in b 1 first n) 65536) || has_any_together b first n)
-      (ne_eqb (words_in b 0 first n) 65536 (λ z. h (e ∙ z))))
-
-  module _ (k : x ≡ 65536) (y : ℕ) (e₂ : y ≡ words_in b 1 first n) where
-    both : (t : Bool) → eqb (words_in b 1 first n) 65536 ≡ t → has_uneven_rows b first n ≡ (not t || has_any_together b first n)
-    both t q = ap₂ (λ (u v : Bool). not u || not v || has_any_together b first n) (eq-eqb (words_in b 0 first n) 65536 (sym e ∙ k)) q
-
-    pub uneven-second : (y ≡ 65536 → ⊥) → true ≡ has_uneven_rows b first n
-    uneven-second h = sym (both false (ne_eqb (words_in b 1 first n) 65536 (λ z. h (e₂ ∙ z))))
-
-    pub uneven-pairs : y ≡ 65536 → (t : Bool) → t ≡ has_any_together b first n → t ≡ has_uneven_rows b first n
-    uneven-pairs h t q = q ∙ sym (both true (eq-eqb (words_in b 1 first n) 65536 (sym e₂ ∙ h)))
 
 -- ---- rows_end
 module _ (b : List ℕ) (l f x : ℕ) (e : x ≡ field b f 1) where

@@ -50,14 +50,14 @@ module _ (l b : ℕ) where
       go true e =
           count-alike (λ w. is_agreeing w r.care r.values) (λ w. is_candidate l w b r) 0 65536 (λ w m k.
           split-own (eqb r.from l) (is_agreeing w r.care r.values) (eqb r.bit 2 || eqb r.bit b)
-          ∙ ap (λ (t : Bool). (if t then is_agreeing w r.care r.values else false)) e)
+          ∙ ap (λ (t : Bool). if t then is_agreeing w r.care r.values else false) e)
           ∙ words_count 16 r.care r.values s.cares s.within
-          ∙ sym (ap (λ (t : Bool). (if t then 2 ^ (16 - ones r.care) else 0)) e)
+          ∙ sym (ap (λ (t : Bool). if t then 2 ^ (16 - ones r.care) else 0) e)
       go false e =
           count_none (λ w. is_candidate l w b r) 0 65536 (λ w m k.
           split-own (eqb r.from l) (is_agreeing w r.care r.values) (eqb r.bit 2 || eqb r.bit b)
-          ∙ ap (λ (t : Bool). (if t then is_agreeing w r.care r.values else false)) e)
-          ∙ sym (ap (λ (t : Bool). (if t then 2 ^ (16 - ones r.care) else 0)) e)
+          ∙ ap (λ (t : Bool). if t then is_agreeing w r.care r.values else false) e)
+          ∙ sym (ap (λ (t : Bool). if t then 2 ^ (16 - ones r.care) else 0) e)
 
   kept_more : (r : Row) (rs : List Row) (w : ℕ) → kept (r ∷ rs) w ≡ (if is_candidate l w b r then 1 else 0) + kept rs w
   kept_more r rs w = go (is_candidate l w b r) refl

@@ -26,10 +26,10 @@ use Rattle.covering.proofs.Hits.{label-low, label_of}
 use Rattle.covering.proofs.Covered.{no-pair, full, one-hits}
 
 words-own : (l b : ℕ) (r : Row) → r.from ≡ l → words_matched l b r ≡ words_with b r
-words-own l b r e = ap (λ (t : Bool). (if t && (eqb r.bit 2 || eqb r.bit b) then 2 ^ (16 - ones r.care) else 0)) (eq-eqb r.from l e)
+words-own l b r e = ap (λ (t : Bool). if t && (eqb r.bit 2 || eqb r.bit b) then 2 ^ (16 - ones r.care) else 0) (eq-eqb r.from l e)
 
 words-other : (l b : ℕ) (r : Row) → (r.from ≡ l → ⊥) → words_matched l b r ≡ 0
-words-other l b r n = ap (λ (t : Bool). (if t && (eqb r.bit 2 || eqb r.bit b) then 2 ^ (16 - ones r.care) else 0)) (ne_eqb r.from l n)
+words-other l b r n = ap (λ (t : Bool). if t && (eqb r.bit 2 || eqb r.bit b) then 2 ^ (16 - ones r.care) else 0) (ne_eqb r.from l n)
 
 module _ (b : List ℕ) (T : SoundTable b) where
   abbrev i : Image

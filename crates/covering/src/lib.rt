@@ -22,17 +22,8 @@ fn meets(table: &[u8], g: usize, care: u16, values: u16, bit: u8) -> bool
 {
     let mine = values & pair(table, g, CARE);
     let other = pair(table, g, VALUES) & care;
-    if mine != other {
-        return false;
-    }
-    if bit == NO_BIT {
-        return true;
-    }
     let second = byte(table, g, FUNCTION_BIT);
-    if second == NO_BIT {
-        return true;
-    }
-    bit == second
+    mine == other && (bit == NO_BIT || second == NO_BIT || bit == second)
 }
 
 // Whether some word and bit match the rows in frames f and g.
@@ -79,10 +70,7 @@ fn any_together(table: &[u8], first: usize, end: usize) -> bool
 fn suits(only: u8, bit: u8) -> bool
     ensures { result ≡ (eqb only NO_BIT || eqb only bit) }
 {
-    if only == NO_BIT {
-        return true;
-    }
-    only == bit
+    only == NO_BIT || only == bit
 }
 
 // How many words the row in frame f matches with a bit.
@@ -118,13 +106,9 @@ fn uneven_rows(table: &[u8], first: usize, end: usize) -> bool
     requires first_bound { end - first ≤ ROWS }
     ensures { result ≡ has_uneven_rows table.now first (end - first) }
 {
-    if words_in(table, first, end, 0) != 65536 {
-        return true;
-    }
-    if words_in(table, first, end, 1) != 65536 {
-        return true;
-    }
-    any_together(table, first, end)
+    words_in(table, first, end, 0) != 65536
+        || words_in(table, first, end, 1) != 65536
+        || any_together(table, first, end)
 }
 
 // The first frame from f on without a row of the label, or the end of the table.

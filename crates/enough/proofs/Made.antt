@@ -45,7 +45,7 @@ module _ (b : ℕ) (ts : List Tick) (long : b ≤ length ts) (quiet : All (λ (t
     reply-made =
         let m : ℕ = length a.words in
         let e : min (p + m) b - min p b ≡ m = omega arith in
-        ap (λ (t : Bool). (if t && ltb 0 m then refusal 17 0 (min (p + m) b - min p b) else success (min (p + m) b - min p b)))
+        ap (λ (t : Bool). if t && ltb 0 m then refusal 17 0 (min (p + m) b - min p b) else success (min (p + m) b - min p b))
         (le-ltb b (p + m) l)
         ∙ ap success e
 

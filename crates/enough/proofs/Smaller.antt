@@ -56,7 +56,8 @@ leads-home w = go (eqb (bit w 0) 0) refl
   where
     go : (b : Bool) → eqb (bit w 0) 0 ≡ b → by_word chart_never w 1 ≡ 4
     go true e = ap (λ (t : Bool). next_stop 7 chart_never w (if t then 4 else 2)) e
-    go false e = ap (λ (t : Bool). next_stop 7 chart_never w (if t then 4 else 2)) e ∙ ap (λ (t : Bool). next_stop 6 chart_never w (if t then 3 else 4)) e
+    go false e = ap (λ (t : Bool). next_stop 7 chart_never w (if t then 4 else 2)) e
+        ∙ ap (λ (t : Bool). next_stop 6 chart_never w (if t then 3 else 4)) e
 
 -- ---- so that it is at one of two positions, and calls at neither
 pub data Quiet : WalkPosition → Type 0 where

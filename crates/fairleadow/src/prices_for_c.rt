@@ -24,7 +24,6 @@ pub extern "C" fn fairleadow_priced_run(
         state.new masks.new codes.new price.new }
 {
     let done = priced_run_bytes(image, state, prices, words, masks, codes);
-    let answer = done.answer;
     *price = done.price;
-    tell(answer, at, made)
+    tell(done.answer, at, made)
 }

@@ -17,11 +17,8 @@ pub extern "C" fn fairleadow_fresh(
     ensures { GivesStateC (fresh_state size) result at.new made.new state.new }
 {
     let done = State::fresh(size);
-    let answer = done.answer;
-    let after = done.state;
-    let bytes = bytes_of(after);
-    *state = bytes;
-    tell(answer, at, made)
+    *state = bytes_of(done.state);
+    tell(done.answer, at, made)
 }
 
 #[unsafe(no_mangle)]

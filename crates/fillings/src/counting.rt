@@ -21,13 +21,7 @@ use text::frames::sizes::{FRAME, LINE, TABLE};
 fn too_many(n: usize, k: usize) -> bool
     ensures { result ≡ has_too_many_lists n k }
 {
-    if 16 < k {
-        return true;
-    }
-    if 65536 < n {
-        return true;
-    }
-    16 < n * k
+    16 < k || 65536 < n || 16 < n * k
 }
 
 fn fresh_bytes(size: usize) -> [u8; STATE_BYTES]

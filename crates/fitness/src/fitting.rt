@@ -68,28 +68,14 @@ fn bad_depth(bytes: &[u8; STATE_BYTES]) -> bool
 {
     let size = size_of(bytes);
     let depth = depth_of(bytes);
-    if bad_size(size as usize) {
-        return true;
-    }
-    if depth == 0 {
-        return true;
-    }
-    size < depth
+    bad_size(size as usize) || depth == 0 || size < depth
 }
 
 // Refusal 15.
+#[tactic(auto, unfolding(crate::specs::Fitness::is_unfit))]
 pub fn is_unfit(table: &[u8], bytes: &[u8; STATE_BYTES]) -> bool
     requires { Whole table.now }
     ensures { result ≡ is_unfit (table_image table.now) (state_of bytes.now) }
 {
-    if bad_depth(bytes) {
-        return true;
-    }
-    if any_unfit(table, bytes) {
-        return true;
-    }
-    if any_filled(bytes) {
-        return true;
-    }
-    any_misserved(table, bytes)
+    bad_depth(bytes) || any_unfit(table, bytes) || any_filled(bytes) || any_misserved(table, bytes)
 }

@@ -81,12 +81,14 @@ module _ (i : Image) (S : SoundImage i) where
 
   module _ (one : OneRow i) where
     -- a row of a label that matches is the one that leads on
-    pub onward-is : (l w : ℕ) (b : Bool) → 2 ≤ l → l < n → (j : ℕ) → j < length i.rows → is_candidate l w (if b then 1 else 0) (nth_row i j) ≡ true
+    pub onward-is : (l w : ℕ) (b : Bool) → 2 ≤ l → l < n → (j : ℕ) → j < length i.rows
+        → is_candidate l w (if b then 1 else 0) (nth_row i j) ≡ true
         → onward_label i l w b ≡ (nth_row i j).next
     onward-is l w b low high j h e = let x = the_row i one l w b low high in
         ap (label_led_to l) x.1 ∙ ap (λ (r : Row). r.next) (sym (hit-is l w (if b then 1 else 0) x.0 i.rows x.1 j h e))
 
-    pub the-hit : (l w : ℕ) (b : Bool) → (low : 2 ≤ l) → (high : l < n) → Hit l w (if b then 1 else 0) (the_row i one l w b low high).0 i.rows
+    pub the-hit : (l w : ℕ) (b : Bool) → (low : 2 ≤ l) → (high : l < n)
+        → Hit l w (if b then 1 else 0) (the_row i one l w b low high).0 i.rows
     the-hit l w b low high = let x = the_row i one l w b low high in the-place l w (if b then 1 else 0) x.0 i.rows x.1
 
     -- and the machine goes there

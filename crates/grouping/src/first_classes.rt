@@ -13,19 +13,11 @@ use tables::{Label, label_of, last_label};
 fn is_same(x: Label, y: Label) -> bool
     ensures { result ≡ has_same_fields (as_label x) (as_label y) }
 {
-    if x.kind != y.kind {
-        return false;
-    }
-    if x.called != y.called {
-        return false;
-    }
-    if x.owner != y.owner {
-        return false;
-    }
-    if x.result != y.result {
-        return false;
-    }
-    x.mask == y.mask
+    x.kind == y.kind
+        && x.called == y.called
+        && x.owner == y.owner
+        && x.result == y.result
+        && x.mask == y.mask
 }
 
 // The lowest label that holds the same as label l.

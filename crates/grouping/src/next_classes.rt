@@ -23,14 +23,9 @@ fn leads_class(
     requires schemes_value { (schemes ≡ scheme_count table.now) × (2 ≤ m) × (m < l) × (l < LABELS) }
     ensures { result ≡ is_class_leader table.now classes.now next.now l m }
 {
-    if classes[m] != classes[l] {
-        return false;
-    }
-    let own = next[m] as usize;
-    if own != m {
-        return false;
-    }
-    !are_parted(table, schemes, classes, marks, touched, m, l)
+    classes[m] == classes[l]
+        && next[m] as usize == m
+        && !are_parted(table, schemes, classes, marks, touched, m, l)
 }
 
 // The lowest label of the next class of label l. Whether labels stay together is an equivalence where 23 does not apply, so only the lowest

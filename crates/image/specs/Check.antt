@@ -38,8 +38,10 @@ pub data Position : Type 0 where
 
 unfoldable pub position_of : List ℕ → ℕ → Position
 position_of b f =
-    if eqb f 0 then header_position else if ltb f (labels_from b) then entry_position f
-    else if ltb f (rows_from b) then label_position (f - labels_from b) else row_position (f - rows_from b)
+    if eqb f 0 then header_position
+    else if ltb f (labels_from b) then entry_position f
+    else if ltb f (rows_from b) then label_position (f - labels_from b)
+    else row_position (f - rows_from b)
 
 -- 12. Byte 0 or byte 1 is not what the position asks for, or rows are out of order.
 abbrev pub is_falling : List ℕ → ℕ → Bool

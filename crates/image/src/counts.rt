@@ -15,16 +15,10 @@ pub fn bad_counts(table: &[u8]) -> bool
     ensures { result ≡ has_bad_counts table.now }
 {
     let schemes = byte(table, 0, SCHEME_COUNT);
-    if schemes == 0 {
-        return true;
-    }
-    if 16 < schemes {
-        return true;
-    }
-    if byte(table, 0, LAST_LABEL) == 0 {
-        return true;
-    }
-    MOST_ROWS < pair(table, 0, ROW_COUNT)
+    schemes == 0
+        || 16 < schemes
+        || byte(table, 0, LAST_LABEL) == 0
+        || MOST_ROWS < pair(table, 0, ROW_COUNT)
 }
 
 // The handler is neither 0 nor a scheme of 2 to H.
@@ -33,11 +27,5 @@ pub fn bad_handler(table: &[u8]) -> bool
     ensures { result ≡ has_bad_handler table.now }
 {
     let handler = byte(table, 0, HANDLER);
-    if handler == 0 {
-        return false;
-    }
-    if handler < 2 {
-        return true;
-    }
-    byte(table, 0, SCHEME_COUNT) < handler
+    handler != 0 && (handler < 2 || byte(table, 0, SCHEME_COUNT) < handler)
 }

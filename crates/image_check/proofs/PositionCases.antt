@@ -1,52 +1,16 @@
--- The cases of refusals 11 and 12, as the code meets them.
+-- The cases of refusal 12, as the code meets them.
 use Rattle.std.proofs.Common.{if◌then◌else◌}
 use mathlib.Core.Path.{◌≡◌, refl, sym, ◌∙◌, ap}
-use mathlib.Core.Bool.{Bool, true, false, ◌||◌, not}
+use mathlib.Core.Bool.{Bool, true, false}
 use mathlib.Core.List.{List}
 use Prim.Native.Nat.{ℕ, ◌+◌, ◌-◌, ◌≤◌, ◌<◌}
 use native.Mathlib.Omega.{arith}
 use lib.Dec.{ltb, eqb}
 use borrow.Author.Tests.{eq-eqb, ne_eqb, lt-ltb, le-ltb, ltb-false}
-use Rattle.words.proofs.lists.Tests.{or-true-l, or_true_r}
-use Rattle.text.specs.frames.Frame.{size, field}
-use Rattle.image.specs.Decode.{row_count, labels_from, rows_from}
-use Rattle.image.specs.Check.{Position, header_position, entry_position, label_position, row_position, is_filled}
-use Rattle.image.specs.Check.{has_bad_handler, has_bad_counts, is_bad_header, position_of, is_stray_frame, is_stray}
-use Rattle.image.proofs.HeaderCases.{equal}
+use Rattle.image.specs.Decode.{labels_from, rows_from}
+use Rattle.image.specs.Check.{Position, header_position, entry_position, label_position, row_position}
+use Rattle.image.specs.Check.{position_of, is_stray_frame, is_stray}
 use Rattle.image_check.specs.inner.CheckedFrames.{position_kind}
-
-all-false : (x y z u n : Bool) → x ≡ false → y ≡ false → z ≡ false → u ≡ false → n ≡ (x || y || z || u || n)
-all-false x y z u n p q r t = rw (p, q, r, t)
-
--- ---- 11
-module _ (b : List ℕ) where
-  pub header-kind : (field b 0 0 ≡ 15 → ⊥) → true ≡ is_bad_header b
-  unfolding is_bad_header
-  header-kind h = simp (ne_eqb (field b 0 0) 15 h)
-
-  pub header-filled : field b 0 0 ≡ 15 → is_filled b 0 6 4 ≡ true → true ≡ is_bad_header b
-  unfolding is_bad_header
-  header-filled k h = simp (eq-eqb (field b 0 0) 15 k, h)
-
-  pub header-handler : has_bad_handler b ≡ true → true ≡ is_bad_header b
-  unfolding is_bad_header
-  header-handler h =
-      sym (or-true-l _ (not (eqb (size b) (rows_from b + row_count b)))
-      (or-true-l _ (has_bad_counts b) (or_true_r (not (eqb (field b 0 0) 15) || is_filled b 0 6 4) (has_bad_handler b) h)))
-
-  pub header-counts : has_bad_counts b ≡ true → true ≡ is_bad_header b
-  unfolding is_bad_header
-  header-counts h =
-      sym (or-true-l _ (not (eqb (size b) (rows_from b + row_count b)))
-      (or_true_r (not (eqb (field b 0 0) 15) || is_filled b 0 6 4 || has_bad_handler b) (has_bad_counts b) h))
-
-  pub header-frames : field b 0 0 ≡ 15 → is_filled b 0 6 4 ≡ false → has_bad_handler b ≡ false → has_bad_counts b ≡ false
-      → not (eqb (size b) (rows_from b + row_count b)) ≡ is_bad_header b
-  unfolding is_bad_header
-  header-frames k f h e =
-      all-false (not (eqb (field b 0 0) 15)) (is_filled b 0 6 4) (has_bad_handler b) (has_bad_counts b)
-      (not (eqb (size b) (rows_from b + row_count b)))
-      (equal (field b 0 0) 15 k) f h e
 
 -- ---- a frame by its position
 abbrev placed : Bool → Bool → Bool → List ℕ → ℕ → Position

@@ -6,7 +6,7 @@ use native.Mathlib.Omega.{arith}
 use lib.ListN.{length, take, drop}
 use lib.Seq.{take_at}
 use Rattle.text.specs.frames.Frame.{size, frame_count, contents}
-use Rattle.text.specs.frames.Verdict.{fine, refused}
+use Rattle.text.specs.frames.Verdict.{fine}
 use Rattle.text.specs.frames.Check.{text_verdict}
 use Rattle.text.specs.frames.inner.Read.{read_buffer}
 use Rattle.text.specs.frames.Answer.{Answer, reply, verdict_reply}

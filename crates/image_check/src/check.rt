@@ -6,8 +6,8 @@ ghost use Rattle.image.specs.Check.{table_verdict};
 
 use crate::image_faults::lowest_fault;
 use crate::positions::{bad_header, lowest_stray};
-use text::frames::sizes::FRAME;
 use text::frames::Refusal;
+use text::frames::sizes::FRAME;
 
 // 11 to 13. A table in which 12 and 13 find no frame is done with one pass; else 12 on any frame goes before 13.
 pub fn check_table(table: &[u8]) -> Result<usize, Refusal>

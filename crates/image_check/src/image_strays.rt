@@ -12,10 +12,7 @@ pub fn stray_entry(table: &[u8], h: usize) -> bool
     requires { h < size table.now }
     ensures { result ≡ is_stray_frame table.now h (entry_position h) }
 {
-    if byte(table, h, FRAME_KIND) != ENTRY {
-        return true;
-    }
-    (byte(table, h, NUMBER) as usize) != h
+    byte(table, h, FRAME_KIND) != ENTRY || (byte(table, h, NUMBER) as usize) != h
 }
 
 // The frame of label l has another kind or number.
@@ -23,10 +20,7 @@ pub fn stray_label(table: &[u8], l: usize) -> bool
     requires { labels_from table.now + l < size table.now }
     ensures { result ≡ is_stray_frame table.now (labels_from table.now + l) (label_position l) }
 {
-    if label_byte(table, l, FRAME_KIND) != LABEL {
-        return true;
-    }
-    (label_byte(table, l, NUMBER) as usize) != l
+    label_byte(table, l, FRAME_KIND) != LABEL || (label_byte(table, l, NUMBER) as usize) != l
 }
 
 // The frame of row k has another kind, or the row leaves a label below that of the row before it.
@@ -34,11 +28,6 @@ pub fn stray_row(table: &[u8], k: usize) -> bool
     requires { rows_from table.now + k < size table.now }
     ensures { result ≡ is_stray_frame table.now (rows_from table.now + k) (row_position k) }
 {
-    if row_byte(table, k, FRAME_KIND) != ROW {
-        return true;
-    }
-    if k == 0 {
-        return false;
-    }
-    row_byte(table, k, FROM) < row_byte(table, k - 1, FROM)
+    row_byte(table, k, FRAME_KIND) != ROW
+        || (k != 0 && row_byte(table, k, FROM) < row_byte(table, k - 1, FROM))
 }

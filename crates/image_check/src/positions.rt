@@ -11,23 +11,16 @@ use image::{bad_counts, bad_handler, byte, filled_to, labels_from, pair, rows_fr
 use text::frames::sizes::FRAME;
 
 // 11
+#[tactic(auto, unfolding(image::specs::Check::is_bad_header))]
 pub fn bad_header(table: &[u8]) -> bool
     requires { 0 < size table.now }
     ensures { result ≡ is_bad_header table.now }
 {
-    if byte(table, 0, FRAME_KIND) != HEADER {
-        return true;
-    }
-    if filled_to(table, 0, 6, FRAME) {
-        return true;
-    }
-    if bad_handler(table) {
-        return true;
-    }
-    if bad_counts(table) {
-        return true;
-    }
-    table.len() / FRAME != rows_from(table) + (pair(table, 0, ROW_COUNT) as usize)
+    byte(table, 0, FRAME_KIND) != HEADER
+        || filled_to(table, 0, 6, FRAME)
+        || bad_handler(table)
+        || bad_counts(table)
+        || table.len() / FRAME != rows_from(table) + (pair(table, 0, ROW_COUNT) as usize)
 }
 
 // The kind byte of frame f by its position.

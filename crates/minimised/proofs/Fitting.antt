@@ -62,7 +62,8 @@ module _ (i : Image) (S : SoundImage i) (c : List ℕ) (R : ClassRound i c) wher
   served-new : (s : State) (h : ℕ) → is_badly_served small (renumbered_state c s) h ≡ is_badly_served i s h
   served-new s h =
       let k : ℕ = server_of s.serving h in
-      ap₂ (λ (m g : ℕ). not (if leb h m && not (eqb h g) then leb 2 k && leb k m else eqb k h)) (entries-count i S c R) (same-handler i S c R)
+      ap₂ (λ (m g : ℕ). not (if leb h m && not (eqb h g) then leb 2 k && leb k m else eqb k h)) (entries-count i S c R)
+      (same-handler i S c R)
 
   module _ (s : State) (f : Fits i s) where
     bottom-new : has_bad_bottom small (renumbered_state c s) ≡ has_bad_bottom i s

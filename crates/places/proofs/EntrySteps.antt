@@ -32,7 +32,7 @@ use Rattle.places.specs.Entry.{places_verdict, places_needed}
 -- ---- what the code's number tells
 module _ (c : Chart) (f : Facts c) (n : ℕ) (e : n ≡ longest_chain c) where
   circle-when : (b : Bool) → is_circular c ≡ b → n ≡ (if b then 0 else places c)
-  circle-when b q = e ∙ ap (λ (b : Bool). (if b then 0 else places c)) q
+  circle-when b q = e ∙ ap (λ (b : Bool). if b then 0 else places c) q
 
   longest-zero : n ≡ 0 → is_circular c ≡ true
   longest-zero z = ⊎_elim (λ q. q) (λ (q : is_circular c ≡ false). absurd (omega (arith, circle-when false q, places-some c f q)))

@@ -19,10 +19,7 @@ fn too_many_rows(records: &[u8]) -> bool
 {
     let mut notes = [0u8; NOTES];
     note_nodes(records, &mut notes);
-    if bound_rows(records, &notes) <= ROWS {
-        return false;
-    }
-    ROWS < count_rows(records, &notes, COUNTED)
+    ROWS < bound_rows(records, &notes) && ROWS < count_rows(records, &notes, COUNTED)
 }
 
 // Refusals 1 to 10, with 19 after 5, and 20 where a circle of calls can be reached; else the number of schemes of the longest chain.

@@ -78,7 +78,8 @@ module _ (c : Chart) where
   pub joined_as : (given : List PricedInput) (s : Binding) → joined_priced_words c s given ≡ agreed.joined_words c s (map as_run given)
   unfolding joined_priced_words agreed.joined_words
   joined_as [] s = refl
-  joined_as (unpriced (to_run a) ∷ rest) s = ap (λ (l : List Signal). (if is_short a then [] else signals s a.words) ++ l) (joined_as rest s)
+  joined_as (unpriced (to_run a) ∷ rest) s = ap (λ (l : List Signal). (if is_short a then [] else signals s a.words) ++ l)
+      (joined_as rest s)
   joined_as (unpriced (to_rebind h k) ∷ rest) s = joined_as rest (binding_after c h k s)
   joined_as (to_priced_run list a ∷ rest) s = ap₂ (λ (l m : List Signal). l ++ m) (go (has_too_many_words a.words)) (joined_as rest s)
     where
@@ -229,7 +230,8 @@ module _ (c : Chart) where
 
     -- ---- a run of no words is expected to succeed
     none-stopped : (p : ℕ) (a : RunInput) → reply_number (expected_output b ts p (no_words a)).reply ≡ 0
-    none-stopped p a = ap (λ (t : Bool). reply_number (if t then refusal 17 0 (min (p + 0) b - min p b) else success (min (p + 0) b - min p b)))
+    none-stopped p a = ap (λ (t : Bool). reply_number
+        (if t then refusal 17 0 (min (p + 0) b - min p b) else success (min (p + 0) b - min p b)))
         (and_no (ltb b (p + 0)) (ltb 0 0) refl)
 
     abbrev Fine : ℕ → List PricedInput → Type 0
@@ -244,7 +246,8 @@ module _ (c : Chart) where
       module _ (list : List ℕ) where
         abbrev FineAs : Bool → Type 0
         FineAs t =
-            AllSucceed (to_priced_run list a ∷ rest) (agreed.expected_outputs c b ts p (to_run (if t then no_words a else a) ∷ map as_run rest))
+            AllSucceed (to_priced_run list a ∷ rest)
+            (agreed.expected_outputs c b ts p (to_run (if t then no_words a else a) ∷ map as_run rest))
 
         few-fine : has_too_many_words a.words ≡ false → (t : Bool) → is_short a ≡ t → FineAs false
         few-fine e true f =

@@ -12,17 +12,9 @@ pub fn bad_rebinding(table: &[u8], number: usize, scheme: usize) -> bool
     ensures { result ≡ is_bad_rebinding (scheme_count table.now) (handler_in table.now) number scheme }
 {
     let schemes = scheme_count(table) as usize;
-    if number < 2 {
-        return true;
-    }
-    if schemes < number {
-        return true;
-    }
-    if scheme < 2 {
-        return true;
-    }
-    if schemes < scheme {
-        return true;
-    }
-    number == handler_of(table) as usize
+    number < 2
+        || schemes < number
+        || scheme < 2
+        || schemes < scheme
+        || number == handler_of(table) as usize
 }

@@ -23,7 +23,8 @@ unfolding best_row
 best-nothing l w b k = refl
 
 module _ (l w b k : ℕ) (r : Row) (rs : List Row) where
-  pub best-cons : best_row l w b k (r ∷ rs) ≡ better_choice (if is_candidate l w b r then row k r else no_choice) (best_row l w b (suc k) rs)
+  pub best-cons : best_row l w b k (r ∷ rs) ≡ better_choice (if is_candidate l w b r then row k r else no_choice)
+      (best_row l w b (suc k) rs)
   unfolding best_row
   best-cons = refl
 
@@ -45,11 +46,11 @@ weight (row k r) = ones r.care
 
 pub better-second : (x : Choice) (j : ℕ) (q : Row) → weight x ≤ ones q.care → better_choice x (row j q) ≡ row j q
 better-second no_choice j q h = refl
-better-second (row k r) j q h = ap (λ (t : Bool). (if t then row k r else row j q)) (le-ltb (ones q.care) (ones r.care) h)
+better-second (row k r) j q h = ap (λ (t : Bool). if t then row k r else row j q) (le-ltb (ones q.care) (ones r.care) h)
 
 pub better-first : (x : Choice) (j : ℕ) (q : Row) → ones q.care < weight x → better_choice x (row j q) ≡ x
 better-first no_choice j q h = absurd (omega arith)
-better-first (row k r) j q h = ap (λ (t : Bool). (if t then row k r else row j q)) (lt-ltb (ones q.care) (ones r.care) h)
+better-first (row k r) j q h = ap (λ (t : Bool). if t then row k r else row j q) (lt-ltb (ones q.care) (ones r.care) h)
 
 pub better-three : (x y z : Choice) → better_choice x (better_choice y z) ≡ better_choice (better_choice x y) z
 better-three no_choice y z = refl

@@ -257,7 +257,8 @@ module _ (b : List ℕ) (l w bit : ℕ) (x : NumberedLabel b l) (bytes : (k : �
       go (inl k) = k
       go (inr k) = absurd (omega (arith, e ∙ ap chosen_frame (sym chosen-found ∙ past-table b f l k)))
 
-  pub next-taken : (n : ℕ) → n ≡ (if ltb f NO_FRAME then field b f 7 else 256) → n ≡ next_of (lead_of (best_row l w bit 0 (table_image b).rows))
+  pub next-taken : (n : ℕ) → n ≡ (if ltb f NO_FRAME then field b f 7 else 256)
+      → n ≡ next_of (lead_of (best_row l w bit 0 (table_image b).rows))
   next-taken n q = go (split f NO_FRAME)
     where
       go : (f < NO_FRAME) ⊎ (NO_FRAME ≤ f) → n ≡ next_of (lead_of (best_row l w bit 0 (table_image b).rows))

@@ -2,11 +2,11 @@
 use mathlib.Core.Path.{◌≡◌, refl, sym, ◌∙◌, ap, ap₂, subst}
 use mathlib.Core.Bool.{Bool, true, false}
 use mathlib.Core.List.{List, [], ◌∷◌}
-use Prim.Native.Nat.{ℕ, zero, suc, ◌≤◌, ◌<◌}
+use Prim.Native.Nat.{ℕ, zero, suc, ◌≤◌}
 use native.Mathlib.Omega.{arith}
 use lib.Dec.{leb, ltb, eqb}
 use lib.ListN.{length, get_or}
-use borrow.Author.Tests.{lt-ltb, le-ltb, lt-leb, le-leb, ltb-false, ne_eqb}
+use borrow.Author.Tests.{lt-leb, le-leb, ltb-false, ne_eqb}
 use Rattle.words.specs.lists.Sequences.{over}
 use Rattle.words.proofs.lists.Tests.{or_l, or_r, if-true, if-false, and_no, and-true}
 use Rattle.text.specs.frames.Verdict.{Verdict, fine, refused, next, when}
@@ -32,19 +32,12 @@ use Rattle.ticks.proofs.Normal.{Normal, tick-normal}
 use Rattle.runs.proofs.Normal.{Late, ticks-late}
 use Rattle.runs.proofs.TurnCases.{number-verdict, went, stood}
 
--- ---- a buffer has less room than words, or both have enough
-module _ (ws ms ks : List ℕ) where
-  pub room-first : length ms < length ws → true ≡ has_no_room ws ms ks
-  room-first h = rw (lt-ltb (length ms) (length ws) h)
-
-  pub room-second : length ws ≤ length ms → ltb (length ks) (length ws) ≡ has_no_room ws ms ks
-  room-second h = rw (le-ltb (length ms) (length ws) h)
-
-  pub room-enough : has_no_room ws ms ks ≡ false → RunRoom ws ms ks
-  room-enough e = record {
-    masks = ltb-false (length ms) (length ws) (or_l (ltb (length ms) (length ws)) (ltb (length ks) (length ws)) e);
-    codes = ltb-false (length ks) (length ws) (or_r (ltb (length ms) (length ws)) (ltb (length ks) (length ws)) e);
-  }
+-- ---- both buffers have room for the words
+pub room-enough : (ws ms ks : List ℕ) → has_no_room ws ms ks ≡ false → RunRoom ws ms ks
+room-enough ws ms ks e = record {
+  masks = ltb-false (length ms) (length ws) (or_l (ltb (length ms) (length ws)) (ltb (length ks) (length ws)) e);
+  codes = ltb-false (length ks) (length ws) (or_r (ltb (length ms) (length ws)) (ltb (length ks) (length ws)) e);
+}
 
 -- ---- which numbers leave the bytes
 pub early-leaves : (n : ℕ) → 1 ≤ n → n ≤ 16 → is_without_change n ≡ true

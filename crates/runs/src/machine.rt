@@ -2,6 +2,5 @@
 
 mod in_place;
 
-pub use crate::Tick;
 pub use in_place::{live_run_bytes, live_tick_bytes, run_bytes, tick_bytes};
 pub use state::State;

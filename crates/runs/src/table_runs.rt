@@ -20,10 +20,7 @@ use text::frames::refusals::FULL;
 fn no_room(words: &[u16], masks: &[u32], codes: &[u8]) -> bool
     ensures { result ≡ has_no_room words.now masks.now codes.now }
 {
-    if masks.len() < words.len() {
-        return true;
-    }
-    codes.len() < words.len()
+    masks.len() < words.len() || codes.len() < words.len()
 }
 
 // What stopped the ticks, 17 or 18, and how many were finished before it.

@@ -122,7 +122,7 @@ fresh-four {a} {b} {c} {d} _ (four_fresh {x = x} {y = y} {z = z} {u = u} p q r s
 -- ---- the two theorems
 depths-read : (b : List ℕ) → length b ≡ 520 → depths (states_of b) ≡ depths_in b
 depths-read b long =
-    four-depths (states_of b) (count-is b ∙ ap (λ (n : ℕ). (if eqb n 520 then 4 else 0)) long) ∙ depths-are b long
+    four-depths (states_of b) (count-is b ∙ ap (λ (n : ℕ). if eqb n 520 then 4 else 0) long) ∙ depths-are b long
 
 pub places-counted-c : PlacesCountedC
 unfolding PlacesCountedC
@@ -136,7 +136,7 @@ pub own-walks-c : OwnWalkC
 unfolding OwnWalkC OwnWalk
 own-walks-c text before after at n c size low high k named bytes long returned at' made m taken said last final cs hands =
     let r : RowC bytes taken said last final = calls-row bytes long taken said last final cs in
-    let four-states : length (states_of bytes) ≡ 4 = count-is bytes ∙ ap (λ (l : ℕ). (if eqb l 520 then 4 else 0)) long in
+    let four-states : length (states_of bytes) ≡ 4 = count-is bytes ∙ ap (λ (l : ℕ). if eqb l 520 then 4 else 0) long in
     subst (FollowsWalk size (contents text)) (r.row.made (contents text) k own_binding)
     (own-walks text before n (returned-0 text before after at n c) size low high k (head_of bytes taken) (omega (arith, four-states))
     (state-is bytes long k named ∙ ap state_of m.bytes ∙ fresh-held size) (map call_of said)

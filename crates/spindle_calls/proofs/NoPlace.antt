@@ -51,8 +51,8 @@ module _ (code d after : ℕ) (deepens : after + places_returned code d + places
   deeper-call l = go (leb 16 code && not (eqb code 96)) refl
     where
       go : (b : Bool) → (leb 16 code && not (eqb code 96)) ≡ b → places_called code d ≡ 1
-      go true f = ap (λ (b : Bool). (if b then 1 else 0)) f
-      go false f = absurd (let z : places_called code d ≡ 0 = ap (λ (b : Bool). (if b then 1 else 0)) f in omega (arith, deepens))
+      go true f = ap (λ (b : Bool). if b then 1 else 0) f
+      go false f = absurd (let z : places_called code d ≡ 0 = ap (λ (b : Bool). if b then 1 else 0) f in omega (arith, deepens))
 
 -- ---- the reply by what the tick is found to be
 module _ (states : List State) (taken k : ℕ) (room : taken ≤ 64) where

@@ -38,9 +38,9 @@ call-counts : (f : ℕ → ℕ → ℕ) → ((d : ℕ) → f 0 d ≡ 0) → (h :
 call-counts f zero h (observed_rebinding t k n g) z = refl
 call-counts f zero h (observed_spin t k w y) (hears_no d c e) =
     let deep : ℕ = (state_at h.states k).depth in
-    ap (λ (a : ℕ). f a deep) c ∙ zero deep ∙ sym (ap (λ (b : Bool). (if b then f y.code y.depth else 0)) e)
+    ap (λ (a : ℕ). f a deep) c ∙ zero deep ∙ sym (ap (λ (b : Bool). if b then f y.code y.depth else 0) e)
 call-counts f zero h (observed_spin t k w y) (hears_tick d n m c e) =
-    ap₂ f (sym c) (sym e) ∙ sym (ap (λ (b : Bool). (if b then f y.code y.depth else 0)) (eq-eqb y.number 0 n))
+    ap₂ f (sym c) (sym e) ∙ sym (ap (λ (b : Bool). if b then f y.code y.depth else 0) (eq-eqb y.number 0 n))
 
 -- the tick that it makes, if any
 heard-done : {d : ℕ} {r : SpinOutcome} {y : ObservedTick} → Hears d r y → is_success r.reply ≡ eqb y.number 0
@@ -56,7 +56,7 @@ heard-made s w (hears_tick d n m c e) q =
 
 made-same : (a b b' : Bool) (p p' : FinishedTick) (q q' : List FinishedTick) → b ≡ b' → (b ≡ true → p ≡ p') → q ≡ q'
     → (if a && b then p ∷ q else q) ≡ (if a && b' then p' ∷ q' else q')
-made-same a b b' p p' q q' e f g = go a b refl ∙ ap (λ (t : Bool). (if a && t then p' ∷ q' else q')) e
+made-same a b b' p p' q q' e f g = go a b refl ∙ ap (λ (t : Bool). if a && t then p' ∷ q' else q') e
   where
     go : (u t : Bool) → b ≡ t → (if u && t then p ∷ q else q) ≡ (if u && t then p' ∷ q' else q')
     go true true h = ap₂ (λ (x : FinishedTick) (xs : List FinishedTick). x ∷ xs) (f h) g

@@ -108,12 +108,15 @@ module _ (c : Chart) (facts : Facts c) (table_facts : TableFacts c) (image : Lis
           (subst (λ (u : List ℕ). Stood (head_after h (rebinds u k m g)) (binding_after c m g s) x) (sym (hand (sym e)))
           (bound-own c facts table_facts image passes decodes n n≤ k h s x z m g))
 
-      go : Dec (k ≡ j) → Traced x (finished_ticks_by c k (if eqb j k then binding_after c m g s else s) (head_after h (rebinds t j m g)) rest)
+      go : Dec (k ≡ j) → Traced x (finished_ticks_by c k (if eqb j k then binding_after c m g s else s)
+          (head_after h (rebinds t j m g)) rest)
       go (yes e) =
-          subst (λ (b : Bool). Traced x (finished_ticks_by c k (if b then binding_after c m g s else s) (head_after h (rebinds t j m g)) rest))
+          subst (λ (b : Bool). Traced x (finished_ticks_by c k (if b then binding_after c m g s else s)
+          (head_after h (rebinds t j m g)) rest))
           (sym (eq-eqb j k (sym e))) (ih (binding_after c m g s) x (own e))
       go (no e) =
-          subst (λ (b : Bool). Traced x (finished_ticks_by c k (if b then binding_after c m g s else s) (head_after h (rebinds t j m g)) rest))
+          subst (λ (b : Bool). Traced x (finished_ticks_by c k (if b then binding_after c m g s else s)
+          (head_after h (rebinds t j m g)) rest))
           (sym (ne_eqb j k (λ q. e (sym q)))) (ih s x (bound-over c facts table_facts image passes decodes n n≤ k h s x z t j m g e))
 
   own-walk : (calls : List SpindleCall) → All (HandsImage k image) calls → (s : Binding) (h : Head) → More s h calls

@@ -125,12 +125,14 @@ module _ (c : Chart) (facts : Facts c) (table_facts : TableFacts c) (image : Lis
         go true f q = absurd (
             let o : ◌≡◌ {A = ℕ} 0 1 =
             ap ticked_count
-            (sym (ap (λ (b : Bool). (if b then stopped 17 else finished (tick_at n c x).mask (tick_at n c x).code (state_of_position c n s y))) f)
+            (sym (ap (λ (b : Bool). if b then stopped 17
+            else finished (tick_at n c x).mask (tick_at n c x).code (state_of_position c n s y)) f)
             ∙ q) in
             omega arith)
         go false f q =
             let o : finished (tick_at n c x).mask (tick_at n c x).code (state_of_position c n s y) ≡ finished m code t =
-            sym (ap (λ (b : Bool). (if b then stopped 17 else finished (tick_at n c x).mask (tick_at n c x).code (state_of_position c n s y))) f)
+            sym (ap (λ (b : Bool). if b then stopped 17
+            else finished (tick_at n c x).mask (tick_at n c x).code (state_of_position c n s y)) f)
             ∙ q in
             let same : t ≡ state_of_position c n s y = sym (ap (after_of t) o) in
             steps refl (sym (ap mask_of o)) (sym (ap code_of o))
@@ -184,7 +186,8 @@ module _ (c : Chart) (facts : Facts c) (table_facts : TableFacts c) (image : Lis
         go true = refl
         go false = refl
 
-    bound-fits : (t : Bool) → is_barred_rebinding c m g ≡ t → Fits (table c) (state_of_position c n (if t then s else rebound_binding m g s) x)
+    bound-fits : (t : Bool) → is_barred_rebinding c m g ≡ t
+        → Fits (table c) (state_of_position c n (if t then s else rebound_binding m g s) x)
     bound-fits true e = z.fits
     bound-fits false e =
         rebinding-fits (table c) (sound c facts table_facts image passes decodes n n≤).most (state_of_position c n s x) m g z.fits

@@ -4,7 +4,7 @@ use Prim.Native.Nat.{ℕ, zero, suc, ◌+◌, ◌-◌, ◌≤◌}
 use mathlib.Core.Bool.{Bool, true, false, ◌&&◌}
 use mathlib.Core.Path.{◌≡◌, refl, sym, ◌∙◌, ap, subst}
 use mathlib.Core.List.{List, [], ◌∷◌}
-use lib.Dec.{leb, ltb}
+use lib.Dec.{leb}
 use lib.ListN.{set}
 use native.Mathlib.Omega.{arith}
 use borrow.Author.Tests.{le-ltb}
@@ -78,8 +78,8 @@ pub kept_by : (states : List State) (taken k n i : ℕ)
 kept_by states taken k n i =
     let s : State = state_at states k in
     let x : TickOutcome = record { reply = refusal n i 0; mask = 0; code = 0; state = s } in
-    ap (λ (t : Bool). (if t && leb 64 taken then outcome_turned_back 26 0 states taken
-    else record { reply = refusal n i 0; mask = 0; code = 0; states = set states k s; taken = taken + s.depth - s.depth }))
+    ap (λ (t : Bool). if t && leb 64 taken then outcome_turned_back 26 0 states taken
+    else record { reply = refusal n i 0; mask = 0; code = 0; states = set states k s; taken = taken + s.depth - s.depth })
     (le-ltb s.depth s.depth (omega arith))
     ∙ ap (λ (ss : List State). record { reply = refusal n i 0; mask = 0; code = 0; states = ss; taken = taken + s.depth - s.depth })
     (set_same states k)

@@ -52,8 +52,8 @@ has_no_place taken s x = is_none_left s.depth x.state.depth taken
 
 -- the spindle's own tick; one that is refused hands back the state as it was
 abbrev pub outcome_spun_by : List State → ℕ → ℕ → TickOutcome → SpinOutcome
-outcome_spun_by states taken k x = let s = state_at states k in if has_no_place taken s x
-    then outcome_turned_back NO_PLACE 0 states taken
+outcome_spun_by states taken k x = let s = state_at states k in
+    if has_no_place taken s x then outcome_turned_back NO_PLACE 0 states taken
     else record {
       reply = x.reply;
       mask = x.mask;

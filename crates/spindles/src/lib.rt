@@ -32,28 +32,19 @@ pub struct SpinReport {
 pub fn bad_call(count: usize, spindle: usize) -> bool
     ensures { result ≡ is_bad_spin_call count spindle }
 {
-    if count != SPINDLES {
-        return true;
-    }
-    3 < spindle
+    count != SPINDLES || 3 < spindle
 }
 
 // Whether the depths do not sum to the record, or it is above 64.
 pub fn bad_record(sum: usize, taken: usize) -> bool
     ensures { result ≡ is_bad_record sum taken }
 {
-    if sum != taken {
-        return true;
-    }
-    STORE < taken
+    sum != taken || STORE < taken
 }
 
 // Whether a tick ended deeper than it began, and no place is left.
 pub fn none_left(before: usize, after: usize, taken: usize) -> bool
     ensures { result ≡ is_none_left before after taken }
 {
-    if before < after {
-        return STORE <= taken;
-    }
-    false
+    before < after && STORE <= taken
 }

@@ -11,10 +11,7 @@ use text::frames::sizes::SCHEMES;
 pub fn bad_size(size: usize) -> bool
     ensures { result ≡ is_bad_size size }
 {
-    if size == 0 {
-        return true;
-    }
-    State::PLACES < size
+    size == 0 || State::PLACES < size
 }
 
 // Each number served by its own scheme.

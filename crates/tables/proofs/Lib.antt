@@ -1,4 +1,3 @@
-pub mod HeaderCases
 pub mod LabelCases
 pub mod Noted
 pub mod NotingCases

@@ -151,7 +151,7 @@ module _ (b : List ℕ) (ok : table_verdict b ≡ fine) where
         let e₂ : pair_at (noted_table b) f 2 ≡ pair_at b f 2 = noted-pair b f 2 (omega arith) (omega arith) in
         let e₄ : pair_at (noted_table b) f 4 ≡ pair_at b f 4 = noted-pair b f 4 (omega arith) (omega arith) in
         let e₆ : (if eqb (table_label (noted_table b) l).kind 2 then field (noted_table b) f 6 else 2) ≡ field b f 6 =
-        ap (λ (n : ℕ). (if eqb (table_label (noted_table b) l).kind 2 then n else 2)) (noted-late b f 6 (omega arith) (omega arith))
+        ap (λ (n : ℕ). if eqb (table_label (noted_table b) l).kind 2 then n else 2) (noted-late b f 6 (omega arith) (omega arith))
         ∙ bit-own l f m h g in
         let e₇ : field (noted_table b) f 7 ≡ field b f 7 = noted-late b f 7 (omega arith) (omega arith) in
         λ j. record { from = e₁ j; care = e₂ j; values = e₄ j; bit = e₆ j; next = e₇ j }

@@ -27,14 +27,8 @@ pub fn table_length(table: &[u8]) -> usize
 pub fn bad_table(table: &[u8]) -> bool
     ensures { result ≡ is_bad_table table.now }
 {
-    if table.len() < FRAME {
-        return true;
-    }
-    if bad_counts(table) {
-        return true;
-    }
-    if bad_handler(table) {
-        return true;
-    }
-    table.len() < table_length(table)
+    table.len() < FRAME
+        || bad_counts(table)
+        || bad_handler(table)
+        || table.len() < table_length(table)
 }

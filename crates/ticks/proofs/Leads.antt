@@ -80,7 +80,7 @@ module _ (i : Image) (sound : SoundImage i) where
       go (numbered_sort z q) = omega arith
 
   end-other : (h : ℕ) → 2 ≤ h → end_of h ≡ 1
-  end-other h l = ap (λ (t : Bool). (if t then 0 else 1)) (ne_eqb h 1 (λ p. omega arith))
+  end-other h l = ap (λ (t : Bool). if t then 0 else 1) (ne_eqb h 1 (λ p. omega arith))
 
   -- what a scheme of 2 and up may lead to may stand above a call that it serves
   abbrev pub is_able_to_stand_over : ℕ → ℕ → Bool

@@ -157,7 +157,7 @@ module _ (c : Chart) (a : SoundChart c) (l w f b : ℕ) where
       go (inr s) (inr o) y ih =
           let e : kind c v ≡ 3 = goes_on c v t.entered s in
           let q : arc_taken c w v ≡ arc_taken c values v =
-          ap (λ (x : ℕ). (if eqb x 0 then next0 c v else next1 c v)) (g.agrees (argument c v) o) in
+          ap (λ (x : ℕ). if eqb x 0 then next0 c v else next1 c v) (g.agrees (argument c v) o) in
           ap (targets l w b) (paths-known n c l f care values v s o)
           ∙ ih care values (arc_taken c values v) (taken-end c a h values v t e) (lower e (arc_taken c values v) q) m g
           ∙ on s (arc_taken c values v) q

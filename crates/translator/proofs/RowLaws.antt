@@ -194,7 +194,8 @@ module _ (c : Chart) (a : SoundChart c) (v w : ℕ) (b : Bool) (l : v < size c) 
   unfolding onward_stop
   one-row = go (ℕ_discrete (kind c v) 4) (ℕ_discrete (kind c v) 3)
     where
-      go : Dec (kind c v ≡ 4) → Dec (kind c v ≡ 3) → targets (label c v) w (if b then 1 else 0) (rows c) ≡ label c (onward_stop c w b v) ∷ []
+      go : Dec (kind c v ≡ 4) → Dec (kind c v ≡ 3)
+          → targets (label c v) w (if b then 1 else 0) (rows c) ≡ label c (onward_stop c w b v) ∷ []
       go (yes k) x =
           row-function c a v w b l k
           ∙ ap (λ (u : ℕ). label c u ∷ [])

@@ -172,7 +172,8 @@ module _ (c : Chart) (facts : Facts c) where
   pub arc-to : (v w : ℕ) → v < size c → (kind c v ≡ 1 → ⊥) → StopOf c (scheme c v) (by_arc c w (next0 c v))
   arc-to v w l e = facts.follows (scheme c v) (next0 c v) w (facts.arc0 v l e)
 
-  pub function_to : (v w : ℕ) (t : Bool) → v < size c → kind c v ≡ 4 → StopOf c (scheme c v) (by_arc c w (if t then next1 c v else next0 c v))
+  pub function_to : (v w : ℕ) (t : Bool) → v < size c → kind c v ≡ 4
+      → StopOf c (scheme c v) (by_arc c w (if t then next1 c v else next0 c v))
   function_to v w true l e = facts.follows (scheme c v) (next1 c v) w (facts.arc1 v l (omega arith))
   function_to v w false l e = arc-to v w l (λ p. omega arith)
 

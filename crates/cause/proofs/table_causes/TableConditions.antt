@@ -37,8 +37,8 @@ module _ (b : List ℕ) (l w bit : ℕ) where
 
   other_none : (r : Row) → (r.from ≡ l → ⊥) → mask_against l w bit r ≡ 0
   other_none r h =
-      ap (λ (t : Bool). (if t && (let-in r && not (is_agreeing w r.care r.values))
-      then 2 ^ lowest (is_differing w r.care r.values) 0 16 else 0))
+      ap (λ (t : Bool). if t && (let-in r && not (is_agreeing w r.care r.values))
+      then 2 ^ lowest (is_differing w r.care r.values) 0 16 else 0)
       (ne_eqb r.from l h)
 
   others-first : (m : ℕ) → (m ≡ l → ⊥) → (i n : ℕ) (rs : List Row) → all (map (row_on b m) (range i n) ++ rs) ≡ all rs
@@ -70,7 +70,7 @@ module _ (b : List ℕ) (l w : ℕ) where
   low f = 2 ^ lowest (is_differing w (pair_at b f 2) (pair_at b f 4)) 0 16
 
   by_bit : (bit f : ℕ) → mask_against l w bit (row_on b l f) ≡ (if (eqb (only f) 2 || eqb (only f) bit) && not (agreed f) then low f else 0)
-  by_bit bit f = ap (λ (t : Bool). (if t && ((eqb (only f) 2 || eqb (only f) bit) && not (agreed f)) then low f else 0)) (eq-eqb l l refl)
+  by_bit bit f = ap (λ (t : Bool). if t && ((eqb (only f) 2 || eqb (only f) bit) && not (agreed f)) then low f else 0) (eq-eqb l l refl)
 
   -- no row of a label that calls no function looks at the bit
   module _ (n : kind ≡ 2 → ⊥) where
@@ -78,7 +78,7 @@ module _ (b : List ℕ) (l w : ℕ) where
     free f = if-false (eqb kind 2) (field b f 6) 2 (ne_eqb kind 2 n)
 
     free-lets : (bit f : ℕ) → mask_against l w bit (row_on b l f) ≡ (if not (agreed f) then low f else 0)
-    free-lets bit f = by_bit bit f ∙ ap (λ (k : ℕ). (if (eqb k 2 || eqb k bit) && not (agreed f) then low f else 0)) (free f)
+    free-lets bit f = by_bit bit f ∙ ap (λ (k : ℕ). if (eqb k 2 || eqb k bit) && not (agreed f) then low f else 0) (free f)
 
     free-rows : (p q f n : ℕ) → mask_against_all l w p (map (row_on b l) (range f n))
         ≡ mask_against_all l w q (map (row_on b l) (range f n))
@@ -96,7 +96,7 @@ module _ (b : List ℕ) (l w : ℕ) where
     unfolding mask_against_from mask_against_all
     frames-are f zero = refl
     frames-are f (suc n) =
-        ap₂ bit_or (ap (λ (t : Bool). (if t && not (agreed f) then low f else 0)) (sym (own-bit b l bit x f)) ∙ sym (by_bit bit f))
+        ap₂ bit_or (ap (λ (t : Bool). if t && not (agreed f) then low f else 0) (sym (own-bit b l bit x f)) ∙ sym (by_bit bit f))
         (frames-are (suc f) n)
 
     pub frame-conditions : 2 ≤ l → l ≤ last_label b

@@ -26,7 +26,8 @@ is_let_through only bit = eqb bit NO_BIT || (eqb only NO_BIT || eqb only bit)
 -- the condition against the row in frame f as a mask, and those against n rows, joined
 abbrev pub mask_against_in : List ℕ → ℕ → ℕ → ℕ → ℕ
 mask_against_in b w bit f = let care = pair_at b f CARE in let values = pair_at b f VALUES in
-    if is_let_through (field b f FUNCTION_BIT) bit && not (is_agreeing w care values) then 2 ^ lowest (is_differing w care values) 0 16 else 0
+    if is_let_through (field b f FUNCTION_BIT) bit && not (is_agreeing w care values) then 2 ^ lowest (is_differing w care values) 0 16
+    else 0
 
 unfoldable pub mask_against_from : List ℕ → ℕ → ℕ → ℕ → ℕ → ℕ
 mask_against_from b w bit f zero = 0

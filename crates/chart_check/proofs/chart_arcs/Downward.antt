@@ -22,12 +22,13 @@ downward-none p q n = record {
 }
 
 module _ (p q : ℕ → Bool) (n v a b : ℕ) (d : Downward p q n v a b) where
-  pub downward-turn : (x y : Bool) (a' b' : ℕ) → 0 < v → x ≡ p (v - 1) → y ≡ q (v - 1) → a' ≡ (if x then v - 1 else a) → b' ≡ (if y then v - 1 else b)
+  pub downward-turn : (x y : Bool) (a' b' : ℕ) → 0 < v → x ≡ p (v - 1) → y ≡ q (v - 1) → a' ≡ (if x then v - 1 else a)
+      → b' ≡ (if y then v - 1 else b)
       → Downward p q n (v - 1) a' b'
   downward-turn x y a' b' some ex ey ea eb = record {
     low = omega (arith, d.low);
-    first = ea ∙ ap (λ (t : Bool). (if t then v - 1 else a)) ex ∙ lowest-below p n v a some d.low d.first;
-    second = eb ∙ ap (λ (t : Bool). (if t then v - 1 else b)) ey ∙ lowest-below q n v b some d.low d.second;
+    first = ea ∙ ap (λ (t : Bool). if t then v - 1 else a) ex ∙ lowest-below p n v a some d.low d.first;
+    second = eb ∙ ap (λ (t : Bool). if t then v - 1 else b) ey ∙ lowest-below q n v b some d.low d.second;
   }
 
   module _ (h : v ≤ 0) where

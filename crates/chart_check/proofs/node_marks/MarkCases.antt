@@ -34,14 +34,14 @@ use Rattle.chart_check.proofs.node_marks.Sweeps.{swept_same}
 -- ---- arcs
 module _ (c : Chart) (b : Bool) (v : ℕ) where
   by-none : b ≡ true → (kind c v ≡ 3 → ⊥) → arcs_by c b v ≡ []
-  by-none t n = ap (λ b. (if b then condition_arcs c v else arcs c v)) t ∙ no-condition-arcs c v (ne_eqb (kind c v) 3 n)
+  by-none t n = ap (λ b. if b then condition_arcs c v else arcs c v) t ∙ no-condition-arcs c v (ne_eqb (kind c v) 3 n)
 
   by_all : (b ≡ true → kind c v ≡ 3) → arcs_by c b v ≡ arcs c v
   by_all h = go b refl
     where
       go : (x : Bool) → b ≡ x → arcs_by c b v ≡ arcs c v
-      go true t = ap (λ b. (if b then condition_arcs c v else arcs c v)) t ∙ condition-arcs c v (eq-eqb (kind c v) 3 (h t))
-      go false t = ap (λ b. (if b then condition_arcs c v else arcs c v)) t
+      go true t = ap (λ b. if b then condition_arcs c v else arcs c v) t ∙ condition-arcs c v (eq-eqb (kind c v) 3 (h t))
+      go false t = ap (λ b. if b then condition_arcs c v else arcs c v) t
 
   module _ (k : ℕ) (e : k ≡ kind c v) where
     long : (us : List ℕ) → arcs_by c b v ≡ us → length us ≡ length (arcs_by c b v)

@@ -44,7 +44,7 @@ module _ (c : Chart) (first : List Bool) where
   sweeping-turn now out v t h l e = record {
     low = omega arith;
     long = l ∙ t.long;
-    is = e ∙ ap (λ (ms : List Bool). (if is_marked ms v then mark_all (arcs c v) ms else ms)) t.is
+    is = e ∙ ap (λ (ms : List Bool). if is_marked ms v then mark_all (arcs c v) ms else ms) t.is
         ∙ ap (λ (m : ℕ). marks_swept_to c m first) (sym (add-one v));
   }
 

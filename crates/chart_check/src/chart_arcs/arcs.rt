@@ -14,13 +14,9 @@ fn bad_target(records: &[u8], v: usize, u: usize) -> bool
     requires { RECORD * v + RECORD ≤ length records.now }
     ensures { result ≡ is_bad_target records.now v u }
 {
-    if records.len() / RECORD <= u {
-        return true;
-    }
-    if field(records, u, SCHEME) != field(records, v, SCHEME) {
-        return true;
-    }
-    field(records, u, KIND) == BEGIN
+    records.len() / RECORD <= u
+        || field(records, u, SCHEME) != field(records, v, SCHEME)
+        || field(records, u, KIND) == BEGIN
 }
 
 // One of the two arcs of node v leads where none may.
@@ -29,10 +25,8 @@ fn bad_pair(records: &[u8], v: usize) -> bool
     ensures { result ≡ (is_bad_target records.now v (next0 records.now v)
         || is_bad_target records.now v (next1 records.now v)) }
 {
-    if bad_target(records, v, field(records, v, NEXT0) as usize) {
-        return true;
-    }
-    bad_target(records, v, field(records, v, NEXT1) as usize)
+    bad_target(records, v, field(records, v, NEXT0) as usize)
+        || bad_target(records, v, field(records, v, NEXT1) as usize)
 }
 
 // 6: an arc of node v leads where none may. An End has none, a condition and a function have two.

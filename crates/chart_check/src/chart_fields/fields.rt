@@ -26,10 +26,7 @@ fn bad_begin(records: &[u8], v: usize) -> bool
     requires { RECORD * v + RECORD ≤ length records.now }
     ensures { result ≡ has_bad_use records.now v Begin }
 {
-    if 1 < field(records, v, ARGUMENT) {
-        return true;
-    }
-    filled_from(records, v, NEXT1)
+    1 < field(records, v, ARGUMENT) || filled_from(records, v, NEXT1)
 }
 
 // An operation has no use for byte 4, and its result is 0 to 2.
@@ -37,10 +34,7 @@ fn bad_operation(records: &[u8], v: usize) -> bool
     requires { RECORD * v + RECORD ≤ length records.now }
     ensures { result ≡ has_bad_use records.now v Operation }
 {
-    if field(records, v, NEXT1) != 0 {
-        return true;
-    }
-    2 < field(records, v, RESULT)
+    field(records, v, NEXT1) != 0 || 2 < field(records, v, RESULT)
 }
 
 // A condition's number is 0 to 15, and it uses bytes 3 and 4 besides.
@@ -48,10 +42,7 @@ fn bad_condition(records: &[u8], v: usize) -> bool
     requires { RECORD * v + RECORD ≤ length records.now }
     ensures { result ≡ has_bad_use records.now v Condition }
 {
-    if 15 < field(records, v, ARGUMENT) {
-        return true;
-    }
-    filled_from(records, v, RESULT)
+    15 < field(records, v, ARGUMENT) || filled_from(records, v, RESULT)
 }
 
 // By the kind: a field of node v outside its values, or a needless byte that is not 0.
@@ -70,16 +61,11 @@ fn bad_use(records: &[u8], v: usize, kind: u8) -> bool
 }
 
 // 4: node v has a field outside its values.
+#[tactic(auto, unfolding(charts::specs::Check::has_bad_field))]
 pub fn bad_field(records: &[u8], v: usize) -> bool
     requires { RECORD * v + RECORD ≤ length records.now }
     ensures { result ≡ has_bad_field records.now v }
 {
     let scheme = field(records, v, SCHEME);
-    if scheme == 0 {
-        return true;
-    }
-    if 16 < scheme {
-        return true;
-    }
-    bad_use(records, v, field(records, v, KIND))
+    scheme == 0 || 16 < scheme || bad_use(records, v, field(records, v, KIND))
 }

@@ -12,10 +12,7 @@ fn marks_handler(records: &[u8], v: usize) -> bool
     requires { RECORD * v + RECORD ≤ length records.now }
     ensures { result ≡ is_handler_mark records.now v }
 {
-    if field(records, v, KIND) != BEGIN {
-        return false;
-    }
-    field(records, v, ARGUMENT) == 1
+    field(records, v, KIND) == BEGIN && field(records, v, ARGUMENT) == 1
 }
 
 // The handler's scheme, or 0 where none is marked.

@@ -18,7 +18,9 @@ module _ {a : TickAnswer} {m₀ k₀ n i m mask code : ℕ} (ticked : GivesTickA
   told-test = ap (λ (k : ℕ). eqb k 0) (ticked.told.number_is ∙ ap reply_number answered)
 
   pub mask-told : {v : ℕ} → answered_mask a ≡ v → mask ≡ (if eqb (reply_number x) 0 then v else m₀)
-  mask-told e = ticked.mask ∙ ap (λ (t : Bool). (if t then answered_mask a else m₀)) told-test ∙ ap (λ (v : ℕ). (if eqb (reply_number x) 0 then v else m₀)) e
+  mask-told e = ticked.mask ∙ ap (λ (t : Bool). if t then answered_mask a else m₀) told-test
+      ∙ ap (λ (v : ℕ). if eqb (reply_number x) 0 then v else m₀) e
 
   pub code-told : {v : ℕ} → answered_code a ≡ v → code ≡ (if eqb (reply_number x) 0 then v else k₀)
-  code-told e = ticked.code ∙ ap (λ (t : Bool). (if t then answered_code a else k₀)) told-test ∙ ap (λ (v : ℕ). (if eqb (reply_number x) 0 then v else k₀)) e
+  code-told e = ticked.code ∙ ap (λ (t : Bool). if t then answered_code a else k₀) told-test
+      ∙ ap (λ (v : ℕ). if eqb (reply_number x) 0 then v else k₀) e

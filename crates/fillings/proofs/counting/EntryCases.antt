@@ -1,13 +1,12 @@
 -- The answers of the entry point to the counts, by what its parts give.
-use Prim.Native.Nat.{ℕ, ◌*◌, ◌≤◌, ◌<◌}
+use Prim.Native.Nat.{ℕ, ◌*◌, ◌≤◌}
 use mathlib.Core.Bool.{Bool, true, false, ◌||◌}
-use mathlib.Core.Path.{◌≡◌, refl, sym, ◌∙◌, ap, ap₂}
+use mathlib.Core.Path.{◌≡◌, refl, ◌∙◌, ap, ap₂}
 use mathlib.Core.List.{List}
-use native.Mathlib.Nat.{mul-le-mul}
 use native.Mathlib.Omega.{arith}
 use lib.Dec.{ltb, eqb}
-use borrow.Author.Tests.{lt-ltb, le-ltb, ltb-false, eqb-false}
-use Rattle.words.proofs.lists.Tests.{or_l, or-none, or-true-l, or_true_r}
+use borrow.Author.Tests.{ltb-false, eqb-false}
+use Rattle.words.proofs.lists.Tests.{or_l}
 use Rattle.text.specs.frames.Frame.{contents}
 use Rattle.text.specs.frames.Verdict.{Verdict, fine, refused, next, when}
 use Rattle.text.specs.frames.Answer.{Answer, success, refusal, reply, verdict_reply}
@@ -34,25 +33,8 @@ use Rattle.fillings.specs.fill_counts.inner.TallyContracts.{tally_of}
 use Rattle.fillings.specs.counting.CountingContracts.{GivesFillings}
 
 -- ---- 28
-module _ (n k : ℕ) where
-  pub many-conditions : 16 < k → true ≡ has_too_many_lists n k
-  many-conditions l = sym (or-true-l (ltb 16 (n * k) || ltb 16 k) (ltb 65536 n) (or_true_r (ltb 16 (n * k)) (ltb 16 k) (lt-ltb 16 k l)))
-
-  pub many-words : 65536 < n → true ≡ has_too_many_lists n k
-  many-words l = sym (or_true_r (ltb 16 (n * k) || ltb 16 k) (ltb 65536 n) (lt-ltb 65536 n l))
-
-  pub few-both : k ≤ 16 → n ≤ 65536 → ltb 16 (n * k) ≡ has_too_many_lists n k
-  few-both l h = go (ltb 16 (n * k)) (le-ltb 16 k l) (le-ltb 65536 n h)
-    where
-      go : (t : Bool) → ltb 16 k ≡ false → ltb 65536 n ≡ false → t ≡ (t || ltb 16 k || ltb 65536 n)
-      go true e f = refl
-      go false e f = sym (or-none (ltb 16 k) (ltb 65536 n) e f)
-
-  pub product-few : k ≤ 16 → n ≤ 65536 → n * k ≤ 1048576
-  product-few l h = mul-le-mul h l
-
-  pub many-not : has_too_many_lists n k ≡ false → n * k ≤ 16
-  many-not e = ltb-false 16 (n * k) (or_l (ltb 16 (n * k)) (ltb 16 k) (or_l (ltb 16 (n * k) || ltb 16 k) (ltb 65536 n) e))
+pub many-not : (n k : ℕ) → has_too_many_lists n k ≡ false → n * k ≤ 16
+many-not n k e = ltb-false 16 (n * k) (or_l (ltb 16 (n * k)) (ltb 16 k) (or_l (ltb 16 (n * k) || ltb 16 k) (ltb 65536 n) e))
 
 -- ---- the fresh state in its bytes
 pub fresh-made : (size : ℕ) → is_bad_size size ≡ false → (s : State) (bytes : List ℕ) → s ≡ (fresh_state size).state → bytes ≡ bytes_of s

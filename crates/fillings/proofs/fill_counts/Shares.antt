@@ -26,7 +26,8 @@ count-block p m zero =
     omega arith
 count-block p m (suc n) =
     let e : count p 0 (m + suc n) ≡ count p 0 (suc (m + n)) = ap (count p 0) (add-suc m n) in
-    let x : cond {A = ℕ} (p (0 + (m + n))) 1 0 ≡ (if p (m + (0 + n)) then 1 else 0) = ap (λ (k : ℕ). cond {A = ℕ} (p k) 1 0) (omega arith) in
+    let x : cond {A = ℕ} (p (0 + (m + n))) 1 0
+    ≡ (if p (m + (0 + n)) then 1 else 0) = ap (λ (k : ℕ). cond {A = ℕ} (p k) 1 0) (omega arith) in
     omega (arith, e, x, count-snoc p 0 (m + n), count-snoc (λ w. p (m + w)) 0 n, count-block p m n)
 
 by-rest : (p : ℕ → Bool) (b a : ℕ) → count p 0 (a * b) ≡ sum (λ w. count (λ q. p (q * b + w)) 0 a) 0 b

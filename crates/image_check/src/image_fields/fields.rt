@@ -14,16 +14,8 @@ fn is_within(table: &[u8], h: usize, l: usize) -> bool
     requires { rows_from table.now ≤ size table.now }
     ensures { result ≡ is_within table.now h l }
 {
-    if (byte(table, 0, LAST_LABEL) as usize) < l {
-        return false;
-    }
-    if (label_byte(table, l, OWNER) as usize) == h {
-        return true;
-    }
-    if h == 1 {
-        return l == 0;
-    }
-    l == 1
+    l <= (byte(table, 0, LAST_LABEL) as usize)
+        && ((label_byte(table, l, OWNER) as usize) == h || if h == 1 { l == 0 } else { l == 1 })
 }
 
 // The entry of scheme h.
@@ -31,10 +23,7 @@ pub fn bad_entry(table: &[u8], h: usize) -> bool
     requires { (rows_from table.now ≤ size table.now) × (h < size table.now) }
     ensures { result ≡ is_bad_entry table.now h }
 {
-    if filled_to(table, h, 3, FRAME) {
-        return true;
-    }
-    !is_within(table, h, byte(table, h, ENTRY_LABEL) as usize)
+    filled_to(table, h, 3, FRAME) || !is_within(table, h, byte(table, h, ENTRY_LABEL) as usize)
 }
 
 // Label l, which no chart can change, is not of this kind and owner, or has a further field.
@@ -42,19 +31,11 @@ fn unlike(table: &[u8], l: usize, kind: u8, owner: u8) -> bool
     requires { labels_from table.now + l < size table.now }
     ensures { result ≡ not (is_label kind owner (label_in table.now l)) }
 {
-    if label_byte(table, l, TICK_KIND) != kind {
-        return true;
-    }
-    if label_byte(table, l, CALLED) != 0 {
-        return true;
-    }
-    if label_byte(table, l, OWNER) != owner {
-        return true;
-    }
-    if label_byte(table, l, LABEL_RESULT) != 0 {
-        return true;
-    }
-    label_mask(table, l) != 0
+    label_byte(table, l, TICK_KIND) != kind
+        || label_byte(table, l, CALLED) != 0
+        || label_byte(table, l, OWNER) != owner
+        || label_byte(table, l, LABEL_RESULT) != 0
+        || label_mask(table, l) != 0
 }
 
 // The tick kind of label l is above 2, or the scheme called does not suit it: kind 0 calls none, 1 and 2 one of 2 to H.
@@ -81,17 +62,11 @@ fn bad_numbered(table: &[u8], l: usize) -> bool
     requires { (labels_from table.now + l < size table.now) × (2 ≤ l) }
     ensures { result ≡ is_bad_label table.now l (label_in table.now l) }
 {
-    if bad_kind(table, l) {
-        return true;
-    }
     let owner = label_byte(table, l, OWNER);
-    if owner == 0 {
-        return true;
-    }
-    if byte(table, 0, SCHEME_COUNT) < owner {
-        return true;
-    }
-    2 < label_byte(table, l, LABEL_RESULT)
+    bad_kind(table, l)
+        || owner == 0
+        || byte(table, 0, SCHEME_COUNT) < owner
+        || 2 < label_byte(table, l, LABEL_RESULT)
 }
 
 // Label l.
@@ -112,14 +87,8 @@ fn bad_bit(table: &[u8], k: usize) -> bool
     ensures { result ≡ has_bad_bit table.now (row_in table.now k) }
 {
     let bit = row_byte(table, k, FUNCTION_BIT);
-    if NO_BIT < bit {
-        return true;
-    }
-    if bit == NO_BIT {
-        return false;
-    }
     let from = row_byte(table, k, FROM) as usize;
-    label_byte(table, from, TICK_KIND) != FUNCTION_CALL
+    NO_BIT < bit || (bit != NO_BIT && label_byte(table, from, TICK_KIND) != FUNCTION_CALL)
 }
 
 // Row k leaves a label that is none of 2 to M, or tests values outside its care mask.
@@ -128,14 +97,8 @@ fn bad_test(table: &[u8], k: usize) -> bool
     ensures { result ≡ has_bad_test table.now (row_in table.now k) }
 {
     let from = row_byte(table, k, FROM);
-    if from < 2 {
-        return true;
-    }
-    if byte(table, 0, LAST_LABEL) < from {
-        return true;
-    }
     let values = row_pair(table, k, VALUES);
-    values & row_pair(table, k, CARE) != values
+    from < 2 || byte(table, 0, LAST_LABEL) < from || values & row_pair(table, k, CARE) != values
 }
 
 // Row k.
@@ -143,16 +106,10 @@ pub fn bad_row(table: &[u8], k: usize) -> bool
     requires { rows_from table.now + k < size table.now }
     ensures { result ≡ is_bad_row table.now (rows_from table.now + k) (row_in table.now k) }
 {
-    if bad_test(table, k) {
-        return true;
-    }
-    if bad_bit(table, k) {
-        return true;
-    }
     let from = row_byte(table, k, FROM) as usize;
-    let owner = label_byte(table, from, OWNER) as usize;
-    if !is_within(table, owner, row_byte(table, k, NEXT) as usize) {
-        return true;
-    }
-    filled_to(table, rows_from(table) + k, 8, FRAME)
+    let next = row_byte(table, k, NEXT) as usize;
+    bad_test(table, k)
+        || bad_bit(table, k)
+        || !is_within(table, label_byte(table, from, OWNER) as usize, next)
+        || filled_to(table, rows_from(table) + k, 8, FRAME)
 }

@@ -1,6 +1,6 @@
 -- What is tried of records, by the tests that the code makes.
-use Prim.Native.Nat.{ℕ, ◌+◌}
-use mathlib.Core.Bool.{Bool, true, false, ◌||◌, not}
+use Prim.Native.Nat.{ℕ}
+use mathlib.Core.Bool.{Bool, true, false, not}
 use mathlib.Core.Path.{◌≡◌, sym, ◌∙◌, ap}
 use native.Mathlib.Omega.{arith}
 use borrow.Author.Tests.{eq-eqb, ne_eqb}
@@ -8,7 +8,7 @@ use Rattle.words.specs.lists.Numbers.{any}
 use Rattle.text.specs.frames.Frame.{size}
 use Rattle.words.proofs.lists.Tests.{or-true-l, or_true_r, or-none, or_no}
 use Rattle.charts.specs.Chart.{Chart, kind}
-use Rattle.little_charts.specs.little_search.inner.Search.{has_kind, has_arc_to, has_arc_to_begin, is_clash, is_repeat, is_barred_node}
+use Rattle.little_charts.specs.little_search.inner.Search.{has_kind, has_arc_to, has_arc_to_begin, is_clash, is_repeat}
 use Rattle.little_charts.specs.little_search.inner.Search.{is_other_leading_to, is_lonely}
 
 module _ (c : Chart) (v u : ℕ) where
@@ -22,10 +22,6 @@ module _ (c : Chart) (v u : ℕ) where
   clash-none r s e f q p = or-none (has_arc_to_begin c u v) (has_arc_to_begin c v u) (sym e ∙ q) (sym f ∙ p)
 
 -- ---- nodes that no other leads to
-module _ (c : Chart) (v u : ℕ) where
-  pub other-by : (r : Bool) → (u ≡ v → ⊥) → r ≡ has_arc_to c u v → r ≡ is_other_leading_to c v u
-  other-by r n e = e ∙ rw (ne_eqb u v n)
-
 module _ (c : Chart) (v k : ℕ) (q : k ≡ kind c v) where
   pub lonely-by : (t : Bool) → (k ≡ 0 → ⊥) → t ≡ any (is_other_leading_to c v) 0 (size c) → not t ≡ is_lonely c v
   lonely-by t n e = ap not e ∙ rw (ne_eqb (kind c v) 0 (λ z. n (q ∙ z)))
@@ -39,12 +35,3 @@ module _ (c : Chart) (v k : ℕ) (q : k ≡ kind c v) where
 
   pub repeats-none : (k ≡ 1 → ⊥) → (k ≡ 3 → ⊥) → false ≡ is_repeat c v
   repeats-none n m = rw (ne_eqb (kind c v) 1 (λ z. n (q ∙ z)), ne_eqb (kind c v) 3 (λ z. m (q ∙ z)))
-
-module _ (c : Chart) (v : ℕ) (r : Bool) (q : r ≡ is_repeat c v) where
-  pub barred-first : r ≡ true → true ≡ is_barred_node c v
-  unfolding is_barred_node
-  barred-first e = sym (or-true-l (is_repeat c v) (any (is_clash c v) 0 (v + 1)) (sym q ∙ e))
-
-  pub barred-second : (s : Bool) → r ≡ false → s ≡ any (is_clash c v) 0 (v + 1) → s ≡ is_barred_node c v
-  unfolding is_barred_node
-  barred-second s e f = f ∙ ap (λ (t : Bool). t || any (is_clash c v) 0 (v + 1)) (sym (sym q ∙ e))

@@ -49,7 +49,7 @@ searched-leaf n c = go (any (is_lonely c) 0 (size c)) (is_fine (chart_verdict c)
 
 module _ (n : ℕ) (c : Chart) (left : ℕ) (r : Bool) (e : r ≡ is_accepted c) where
   found-by : (b : Bool) → r ≡ b → searched_charts n 0 c ≡ (if b then c ∷ [] else [])
-  found-by b q = searched-leaf n c ∙ ap (λ (t : Bool). (if t then c ∷ [] else [])) (sym e ∙ q)
+  found-by b q = searched-leaf n c ∙ ap (λ (t : Bool). if t then c ∷ [] else []) (sym e ∙ q)
 
   pub count_none : r ≡ false → SoughtCount (searched_charts n 0 c) left (record { found = false; left = left })
   count_none q = subst (λ (xs : List Chart). SoughtCount xs left (record { found = false; left = left })) (sym (found-by false q))
@@ -92,7 +92,8 @@ unfolding node_at
 node-ten n i = go (ltb i n) (eqb i n) (ltb i (3 * n + 1))
   where
     go : (s t u : Bool) → length
-        (if s then begin_node i else if t then end_node else if u then operation_at (i - (n + 1)) else condition_at n (i - (3 * n + 1))) ≡ 10
+        (if s then begin_node i else if t then end_node else if u then operation_at (i - (n + 1)) else condition_at n (i - (3 * n + 1)))
+        ≡ 10
     go true t u = refl
     go false true u = refl
     go false false true = refl

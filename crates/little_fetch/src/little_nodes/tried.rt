@@ -28,16 +28,9 @@ fn leads_to(records: &[u8], u: usize, t: usize) -> bool
     ensures { result ≡ has_arc_to records.now u t }
 {
     let kind = field(records, u, KIND);
-    if kind == END {
-        return false;
-    }
-    if field(records, u, NEXT0) as usize == t {
-        return true;
-    }
-    if kind != CONDITION {
-        return false;
-    }
-    field(records, u, NEXT1) as usize == t
+    kind != END
+        && (field(records, u, NEXT0) as usize == t
+            || (kind == CONDITION && field(records, u, NEXT1) as usize == t))
 }
 
 // Node v is a Begin that an arc of node u leads to.
@@ -45,10 +38,7 @@ fn enters_begin(records: &[u8], u: usize, v: usize) -> bool
     requires { (RECORD * u + RECORD ≤ length records.now) × (RECORD * v + RECORD ≤ length records.now) }
     ensures { result ≡ has_arc_to_begin records.now u v }
 {
-    if field(records, v, KIND) != BEGIN {
-        return false;
-    }
-    leads_to(records, u, v)
+    field(records, v, KIND) == BEGIN && leads_to(records, u, v)
 }
 
 // Node v clashes with one up to it.
@@ -81,14 +71,12 @@ fn repeats(records: &[u8], v: usize) -> bool
 }
 
 // No accepted chart has such a node v after such records.
+#[tactic(auto, unfolding(little_charts::specs::little_search::inner::Search::is_barred_node))]
 pub fn is_barred(records: &[u8], v: usize) -> bool
     requires { RECORD * v + RECORD ≤ length records.now }
     ensures { result ≡ is_barred_node records.now v }
 {
-    if repeats(records, v) {
-        return true;
-    }
-    any_clash(records, v)
+    repeats(records, v) || any_clash(records, v)
 }
 
 // Node u is another one than v, and an arc of it leads there.
@@ -96,10 +84,7 @@ fn leads_other(records: &[u8], v: usize, u: usize) -> bool
     requires { RECORD * u + RECORD ≤ length records.now }
     ensures { result ≡ is_other_leading_to records.now v u }
 {
-    if u == v {
-        return false;
-    }
-    leads_to(records, u, v)
+    u != v && leads_to(records, u, v)
 }
 
 // No arc of another node leads to node v, and it is no Begin.

@@ -71,7 +71,8 @@ module _ (c numbers : List ℕ) (n groups l : ℕ) (low : LowestOfClass c n)
       ∙ t.at (get_or c l 0) (less-of (get_or c l 0) l (low.below l h) (eqb-false (get_or c l 0) l e))
       ∙ ap (λ (x : ℕ). count (is_first c) 0 x) (low.own l h)
 
-  pub turn_on : (v x : ℕ) → v ≡ number → (x ≡ (if is_first c l then 1 else 0)) × (x ≤ 1) → NumberTurn c (set numbers l v) n (groups + x) (l + 1)
+  pub turn_on : (v x : ℕ) → v ≡ number → (x ≡ (if is_first c l then 1 else 0)) × (x ≤ 1)
+      → NumberTurn c (set numbers l v) n (groups + x) (l + 1)
   turn_on v x e w = record {
     high = omega arith;
     room = length-set numbers l v ∙ t.room;

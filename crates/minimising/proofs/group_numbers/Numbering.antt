@@ -100,7 +100,7 @@ module _ (i : Image) (S : SoundImage i) (c : List ℕ) (R : ClassRound i c) wher
 
   next-first : (k : ℕ) → class_of c k ≡ k → count (is_first c) 0 (suc k) ≡ suc (count (is_first c) 0 k)
   next-first k e = count-snoc (is_first c) 0 k
-      ∙ ap (λ (x : ℕ). count (is_first c) 0 k + x) (ap (λ (x : ℕ). (if is_first c x then 1 else 0)) (zero-add k)
+      ∙ ap (λ (x : ℕ). count (is_first c) 0 k + x) (ap (λ (x : ℕ). if is_first c x then 1 else 0) (zero-add k)
       ∙ if-true (is_first c k) 1 0 (eq-eqb (class_of c k) k e)) ∙ omega arith
 
   pub new-zero : new 0 ≡ 0

@@ -94,8 +94,8 @@ module _ (b c numbers : List ℕ) (N : NumberedGroups b c numbers) (f : ℕ) whe
     at_row : piece_at b c (position_of b f) ≡ (if is_first c x then frame_text (row_frame (renumbered_row c (row_in_frame b f))) else [])
     at_row =
         ap (piece_at b c) (ap (position_of b) (let z : f ≡ rows_from b + k = omega arith in z) ∙ position-of-row b k)
-        ∙ ap (λ (r : Row). (if is_first c r.from then frame_text (row_frame (renumbered_row c r)) else [])) row_is
-        ∙ ap (λ (y : ℕ). (if is_first c y then frame_text (row_frame (renumbered_row c (row_in_frame b f))) else [])) (sym e)
+        ∙ ap (λ (r : Row). if is_first c r.from then frame_text (row_frame (renumbered_row c r)) else []) row_is
+        ∙ ap (λ (y : ℕ). if is_first c y then frame_text (row_frame (renumbered_row c (row_in_frame b f))) else []) (sym e)
 
     pub row-skip : (get_or c x 0 ≡ x → ⊥) → piece b c f ≡ []
     row-skip n =

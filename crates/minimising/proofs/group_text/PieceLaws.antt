@@ -60,7 +60,8 @@ module _ (c : List ℕ) where
   labels-text x a (suc m) s e = go (is_first c a) refl (labels-text x (suc a) m (suc s)) (labels-text x (suc a) m s)
     where
       tail : (t : Bool) → is_first c a ≡ t → count (is_first c) 0 (suc a) ≡ count (is_first c) 0 a + (if t then 1 else 0)
-      tail t q = count-snoc (is_first c) 0 a ∙ ap (λ (u : Bool). count (is_first c) 0 a + (if u then 1 else 0)) (ap (is_first c) (zero-add a) ∙ q)
+      tail t q = count-snoc (is_first c) 0 a ∙ ap (λ (u : Bool). count (is_first c) 0 a + (if u then 1 else 0))
+          (ap (is_first c) (zero-add a) ∙ q)
 
       go : (t : Bool) → is_first c a ≡ t
           → (suc s ≡ count (is_first c) 0 (suc a)
@@ -124,7 +125,8 @@ module _ (c : List ℕ) where
 
       go : (t : Bool) → is_first c (x a).from ≡ t
           → length (filter test (map x (range (suc a) m))) ≡ count (λ k. is_first c (x k).from) (suc a) m
-          → length (filter test (map x (range a (suc m)))) ≡ (if is_first c (x a).from then 1 else 0) + count (λ k. is_first c (x k).from) (suc a) m
+          → length (filter test (map x (range a (suc m))))
+          ≡ (if is_first c (x a).from then 1 else 0) + count (λ k. is_first c (x k).from) (suc a) m
       go true q ih = ap (λ (rs : List Row). length rs) (filter-yes test (x a) (map x (range (suc a) m)) q)
           ∙ omega (arith, ih) ∙ sym (ap (λ (t : Bool). (if t then 1 else 0) + count (λ k. is_first c (x k).from) (suc a) m) q)
       go false q ih = ap (λ (rs : List Row). length rs) (filter-no test (x a) (map x (range (suc a) m)) q)

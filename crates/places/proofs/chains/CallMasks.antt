@@ -58,24 +58,29 @@ module _ (c : Chart) (v k r : ℕ) (ek : k ≡ kind c v) where
 
       go : Dec (argument c v ≡ 0) → argument c v ≡ called_at c v
       go (yes z) = if-zero (has_call c v) (argument c v) z
-      go (no z) = sym (ap (λ (b : Bool). (if b then argument c v else 0)) (holds-operation c v two z))
+      go (no z) = sym (ap (λ (b : Bool). if b then argument c v else 0) (holds-operation c v two z))
 
   pub at-function : k ≡ 4 → r ≡ argument c v → r ≡ called_at c v
-  at-function e q = q ∙ sym (ap (λ (b : Bool). (if b then argument c v else 0)) (holds-function c v (sym ek ∙ e)))
+  at-function e q = q ∙ sym (ap (λ (b : Bool). if b then argument c v else 0) (holds-function c v (sym ek ∙ e)))
 
 module _ (c : Chart) (v r : ℕ) (e : r ≡ called_at c v) where
   pub call-some : (r ≡ 0 → ⊥) → (has_call c v ≡ true) × (r ≡ argument c v)
   call-some n = go (has_call c v) refl
     where
       go : (b : Bool) → has_call c v ≡ b → (has_call c v ≡ true) × (r ≡ argument c v)
-      go true q = (q, e ∙ ap (λ (b : Bool). (if b then argument c v else 0)) q)
-      go false q = absurd (n (e ∙ ap (λ (b : Bool). (if b then argument c v else 0)) q))
+      go true q = (q, e ∙ ap (λ (b : Bool). if b then argument c v else 0) q)
+      go false q = absurd (n (e ∙ ap (λ (b : Bool). if b then argument c v else 0) q))
 
   pub call_none : Facts c → v < size c → r ≡ 0 → has_call c v ≡ false
   call_none f l z = ⊎_elim
       (λ (q : has_call c v ≡ true).
       let k : Calls c (scheme c v) (argument c v) = record { node = v; inside = l; holds = q; owner = refl; called = refl } in
-      absurd (omega (arith, called-range c f (scheme c v) (argument c v) k, sym z ∙ e ∙ ap (λ (b : Bool). (if b then argument c v else 0)) q)))
+      absurd (omega (
+        arith,
+        called-range c f (scheme c v) (argument c v) k,
+        sym z ∙ e
+            ∙ ap (λ (b : Bool). if b then argument c v else 0) q,
+      )))
       (λ q. q) (cases (has_call c v))
 
   pub call-low : Facts c → v < size c → (r ≡ 0 → ⊥) → (scheme c v < 17) × (r < 17)
@@ -138,21 +143,23 @@ module _ (p : ℕ → ℕ → Bool) (s : ℕ → Bool) (masks : List ℕ) (are :
   called-by (suc n) l = go (s n) refl (called-by n (omega arith))
     where
       bit_is : (b : Bool) → s n ≡ b → eqb (bit (mask_of s 17) n) 1 ≡ b
-      bit_is true e = eq-eqb (bit (mask_of s 17) n) 1 (mask-bit s 17 n (omega arith) ∙ ap (λ (b : Bool). (if b then 1 else 0)) e)
+      bit_is true e = eq-eqb (bit (mask_of s 17) n) 1 (mask-bit s 17 n (omega arith) ∙ ap (λ (b : Bool). if b then 1 else 0) e)
       bit_is false e = ne_eqb (bit (mask_of s 17) n) 1
-          (λ z. let o : bit (mask_of s 17) n ≡ 0 = mask-bit s 17 n (omega arith) ∙ ap (λ (b : Bool). (if b then 1 else 0)) e in omega arith)
+          (λ z. let o : bit (mask_of s 17) n ≡ 0 = mask-bit s 17 n (omega arith) ∙ ap (λ (b : Bool). if b then 1 else 0) e in omega arith)
 
       with-one : (b : Bool) → s n ≡ b → (h : ℕ) → by (suc n) h ≡ (by n h || (b && p n h))
       with-one b e h = any_snoc (λ g. s g && p g h) 0 n ∙ ap (λ (k : ℕ). by n h || (s k && p k h)) (omega arith)
           ∙ ap (λ (b : Bool). by n h || (b && p n h)) e
 
       go : (b : Bool) → s n ≡ b → called_by masks (mask_of s 17) n ≡ mask_of (by n) 17
-          → bit_or (called_by masks (mask_of s 17) n) (if eqb (bit (mask_of s 17) n) 1 then get_or masks n 0 else 0) ≡ mask_of (by (suc n)) 17
+          → bit_or (called_by masks (mask_of s 17) n) (if eqb (bit (mask_of s 17) n) 1 then get_or masks n 0 else 0)
+          ≡ mask_of (by (suc n)) 17
       go true e ih =
-          ap₂ bit_or ih (ap (λ (b : Bool). (if b then get_or masks n 0 else 0)) (bit_is true e) ∙ are n (omega arith)) ∙ mask-or (by n) (p n) 17
+          ap₂ bit_or ih (ap (λ (b : Bool). if b then get_or masks n 0 else 0) (bit_is true e) ∙ are n (omega arith))
+          ∙ mask-or (by n) (p n) 17
           ∙ mask-alike (λ h. by n h || p n h) (by (suc n)) 17 (λ h m. sym (with-one true e h))
       go false e ih =
-          ap₂ bit_or ih (ap (λ (b : Bool). (if b then get_or masks n 0 else 0)) (bit_is false e)) ∙ or_zero_r (mask_of (by n) 17)
+          ap₂ bit_or ih (ap (λ (b : Bool). if b then get_or masks n 0 else 0) (bit_is false e)) ∙ or_zero_r (mask_of (by n) 17)
           ∙ mask-alike (by n) (by (suc n)) 17 (λ h m. or_right (by n h) false refl ∙ sym (with-one false e h))
 
 -- ---- the loops over the masks
@@ -160,14 +167,14 @@ module _ (masks : List ℕ) where
   pub called-yes : (set g x : ℕ) → x ≡ called_by masks set g → bit set g ≡ 1 → bit_or x (get_or masks g 0) ≡ called_by masks set (g + 1)
   unfolding called_by
   called-yes set g x e o =
-      ap₂ bit_or e (sym (ap (λ (b : Bool). (if b then get_or masks g 0 else 0)) (eq-eqb (bit set g) 1 o))) ∙ sym
+      ap₂ bit_or e (sym (ap (λ (b : Bool). if b then get_or masks g 0 else 0) (eq-eqb (bit set g) 1 o))) ∙ sym
       (ap (called_by masks set) (add-one g))
 
   pub called-no : (set g x : ℕ) → x ≡ called_by masks set g → (bit set g ≡ 1 → ⊥) → x ≡ called_by masks set (g + 1)
   unfolding called_by
   called-no set g x e n =
       e ∙ sym (or_zero_r (called_by masks set g))
-      ∙ ap (bit_or (called_by masks set g)) (sym (ap (λ (b : Bool). (if b then get_or masks g 0 else 0)) (ne_eqb (bit set g) 1 n)))
+      ∙ ap (bit_or (called_by masks set g)) (sym (ap (λ (b : Bool). if b then get_or masks g 0 else 0) (ne_eqb (bit set g) 1 n)))
       ∙ sym (ap (called_by masks set) (add-one g))
 
   -- chains of k calls end nowhere
@@ -237,15 +244,17 @@ module _ (c : Chart) (masks : List ℕ) (e : masks ≡ call_masks c (size c)) wh
 
   pub longest-by : Facts c → longest_by masks ≡ longest_chain c
   unfolding longest_by
-  longest-by f = ap (λ (k : ℕ). (if ltb k 17 then k else 0)) (lowest-alike (λ k. eqb (ends_by masks k) 0) (has_no_end c) 0 17 (λ k a b. none-by k))
+  longest-by f = ap (λ (k : ℕ). if ltb k 17 then k else 0)
+      (lowest-alike (λ k. eqb (ends_by masks k) 0) (has_no_end c) 0 17 (λ k a b. none-by k))
       ∙ go (is_circular c) refl
     where
-      go : (b : Bool) → is_circular c ≡ b → (if ltb (lowest (has_no_end c) 0 17) 17 then lowest (has_no_end c) 0 17 else 0) ≡ longest_chain c
+      go : (b : Bool) → is_circular c ≡ b → (if ltb (lowest (has_no_end c) 0 17) 17 then lowest (has_no_end c) 0 17 else 0)
+          ≡ longest_chain c
       go true q =
           let k : lowest (has_no_end c) 0 17 ≡ 17 = lowest-none (has_no_end c) 0 17 (λ k l. circle-long c f (circle-told c q) (0 + k)) in
-          ap (λ (k : ℕ). (if ltb k 17 then k else 0)) k ∙ sym (ap (λ (b : Bool). (if b then 0 else places c)) q)
+          ap (λ (k : ℕ). if ltb k 17 then k else 0) k ∙ sym (ap (λ (b : Bool). if b then 0 else places c) q)
       go false q =
           let k : lowest (has_no_end c) 0 17 ≡ lowest (has_no_end c) 0 16 = lowest-last (has_no_end c) 0 16 (no-circle-short c f q) in
-          ap (λ (b : Bool). (if b then lowest (has_no_end c) 0 17 else 0))
+          ap (λ (b : Bool). if b then lowest (has_no_end c) 0 17 else 0)
           (lt-ltb (lowest (has_no_end c) 0 17) 17 (omega (arith, lowest-most (has_no_end c) 0 16))) ∙ k
-          ∙ places-lowest c ∙ sym (ap (λ (b : Bool). (if b then 0 else places c)) q)
+          ∙ places-lowest c ∙ sym (ap (λ (b : Bool). if b then 0 else places c) q)

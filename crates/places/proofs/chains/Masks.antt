@@ -47,10 +47,10 @@ module _ (p : ℕ → Bool) where
           → bit (mask_of p n + (if b then 2 ^ n else 0)) i ≡ (if p i then 1 else 0)
       go true e (yes q) ih =
           ap (λ (k : ℕ). bit (mask_of p n + 2 ^ n) k) (sym q) ∙ bit-add-same (mask_of p n) n free
-          ∙ sym (ap (λ (b : Bool). (if b then 1 else 0)) (ap p (sym q) ∙ e))
+          ∙ sym (ap (λ (b : Bool). if b then 1 else 0) (ap p (sym q) ∙ e))
       go false e (yes q) ih =
           ap (λ (k : ℕ). bit k i) (omega arith) ∙ ap (bit (mask_of p n)) (sym q) ∙ free
-          ∙ sym (ap (λ (b : Bool). (if b then 1 else 0)) (ap p (sym q) ∙ e))
+          ∙ sym (ap (λ (b : Bool). if b then 1 else 0) (ap p (sym q) ∙ e))
       go true e (no q) ih = bit-add-other (mask_of p n) n i free q ∙ ih (omega arith)
       go false e (no q) ih = ap (λ (k : ℕ). bit k i) (omega arith) ∙ ih (omega arith)
 
@@ -70,12 +70,12 @@ module _ (p : ℕ → Bool) where
       go : (b : Bool) → any p 0 n ≡ b → eqb (mask_of p n) 0 ≡ not (any p 0 n)
       go true e =
           let r = any_some p 0 n e in
-          let o : bit (mask_of p n) r.0 ≡ 1 = mask-bit n r.0 (omega (arith, r.2)) ∙ ap (λ (b : Bool). (if b then 1 else 0)) r.3 in
+          let o : bit (mask_of p n) r.0 ≡ 1 = mask-bit n r.0 (omega (arith, r.2)) ∙ ap (λ (b : Bool). if b then 1 else 0) r.3 in
           ne_eqb (mask_of p n) 0 (λ z. let q : bit (mask_of p n) r.0 ≡ 0 = ap (λ (x : ℕ). bit x r.0) z ∙ bit-none r.0 in omega arith)
           ∙ sym (ap not e)
       go false e =
           eq-eqb (mask_of p n) 0 (sym (mask_is n 0 (pow_pos n)
-          (λ i l. bit-none i ∙ sym (ap (λ (b : Bool). (if b then 1 else 0)) (any_false p 0 n e i (omega arith) (omega arith))))))
+          (λ i l. bit-none i ∙ sym (ap (λ (b : Bool). if b then 1 else 0) (any_false p 0 n e i (omega arith) (omega arith))))))
           ∙ sym (ap not e)
 
 pub mask-alike : (p q : ℕ → Bool) (n : ℕ) → ((i : ℕ) → i < n → p i ≡ q i) → mask_of p n ≡ mask_of q n
@@ -105,9 +105,9 @@ mask-more p q n k l e h =
     go : (i : ℕ) → i < n → Dec (k ≡ i) → max (bit (mask_of p n) i) (bit (2 ^ k) i) ≡ (if q i then 1 else 0)
     go i a (yes z) =
         let o : bit (2 ^ k) i ≡ 1 = ap (bit (2 ^ k)) (sym z) ∙ bit-pow-same k in
-        let r : ◌≡◌ {A = ℕ} (if q i then 1 else 0) 1 = ap (λ (b : Bool). (if b then 1 else 0)) (ap q (sym z) ∙ e) in
+        let r : ◌≡◌ {A = ℕ} (if q i then 1 else 0) 1 = ap (λ (b : Bool). if b then 1 else 0) (ap q (sym z) ∙ e) in
         omega (arith, o, r)
     go i a (no z) =
         let o : bit (2 ^ k) i ≡ 0 = bit-pow-other k i z in
-        let r : bit (mask_of p n) i ≡ (if q i then 1 else 0) = mask-bit p n i a ∙ ap (λ (b : Bool). (if b then 1 else 0)) (h i z) in
+        let r : bit (mask_of p n) i ≡ (if q i then 1 else 0) = mask-bit p n i a ∙ ap (λ (b : Bool). if b then 1 else 0) (h i z) in
         omega (arith, o, r)

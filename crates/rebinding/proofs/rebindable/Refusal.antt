@@ -34,8 +34,3 @@ module _ (H g h k : ℕ) where
         scheme-high = ltb-false H k (or_r (numbers || ltb k 2) (ltb H k) all);
         other = eqb-false h g (or_r ranges (eqb h g) e);
       }
-
-  -- ---- one law for each way out; n stands for H as it was read
-  module _ (n : ℕ) (schemes : n ≡ H) where
-    abbrev bad : Bool
-    bad = is_bad_rebinding H g h k

@@ -12,7 +12,7 @@ use borrow.Author.Tests.{ne_eqb, eqb-true}
 use Rattle.words.specs.lists.Sequences.{written}
 use Rattle.words.proofs.lists.Tests.{if-true, if-false}
 use Rattle.text.specs.frames.Verdict.{Verdict, fine, refused, next, when}
-use Rattle.text.specs.frames.Answer.{reply_number, reply}
+use Rattle.text.specs.frames.Answer.{reply_number}
 use Rattle.text.proofs.frames.Refuses.{next-refuses, when-refuses}
 use Rattle.image.specs.Check.{image_verdict}
 use Rattle.tables.specs.Table.{is_bad_table}
@@ -128,7 +128,8 @@ module _ (b : List ℕ) (taken k : ℕ) (r : SpinReport) where
           → after ≡ (if eqb (reply_number y.reply) 0 then written b (130 * k) (bytes_of y.state) else b)
       put-by y e = put ∙ ap (written b (130 * k)) e ∙ go (eqb (reply_number y.reply) 0)
         where
-          go : (u : Bool) → written b (130 * k) (if u then bytes_of y.state else part) ≡ (if u then written b (130 * k) (bytes_of y.state) else b)
+          go : (u : Bool) → written b (130 * k) (if u then bytes_of y.state else part)
+              ≡ (if u then written b (130 * k) (bytes_of y.state) else b)
           go true = refl
           go false = ap (written b (130 * k)) parted ∙ part-back b long k low
 
@@ -139,7 +140,7 @@ module _ (b : List ℕ) (taken k : ℕ) (r : SpinReport) where
         mask = z.mask;
         code = z.code;
         taken = z.taken;
-        bytes = put-by y z.bytes ∙ ap (λ (u : State). (if eqb (reply_number y.reply) 0 then written b (130 * k) (bytes_of u) else b))
+        bytes = put-by y z.bytes ∙ ap (λ (u : State). if eqb (reply_number y.reply) 0 then written b (130 * k) (bytes_of u) else b)
             (sym (get_or-set_same (states_of b) k y.state no_state
             (omega (arith, count-is b, counted, call-four n k (sym tested ∙ good), low))));
       }

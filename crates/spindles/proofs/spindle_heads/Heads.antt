@@ -26,7 +26,12 @@ use Rattle.spindles.specs.inner.HeadAndTurn.{refused_head, GivesRefusedHead}
 
 refuses : (u : Verdict) (taken n i : ℕ) → u ≡ refused n i → (x : Refusal) → reply (Err x) ≡ refusal n i 0
     → GivesRefusedHead u taken (record { answer = Err x; taken = taken })
-refuses u taken n i e x f = record { answered = f ∙ sym (ap (λ (v : Verdict). verdict_reply v 0) e); mask = refl; code = refl; taken = refl }
+refuses u taken n i e x f = record {
+  answered = f ∙ sym (ap (λ (v : Verdict). verdict_reply v 0) e);
+  mask = refl;
+  code = refl;
+  taken = refl;
+}
 
 -- an answer that stands for a refusal has no mask and no code
 no-tick : (a : TickAnswer) (n i : ℕ) → tick_reply a ≡ refusal n i 0 → (answered_mask a ≡ 0) × (answered_code a ≡ 0)
@@ -37,7 +42,8 @@ module _ (v : Verdict) (k taken : ℕ) where
   pub no-spindle : 3 < k → GivesRefusedHead (refused_head v k) taken (record { answer = Err NoSpindle; taken = taken })
   unfolding refused_head
   no-spindle l =
-      refuses (refused_head v k) taken 25 0 (ap (λ (t : Bool). next (when 25 t) λ _. next v λ _. refused 15 0) (lt-ltb 3 k l)) NoSpindle refl
+      refuses (refused_head v k) taken 25 0 (ap (λ (t : Bool). next (when 25 t) λ _. next v λ _. refused 15 0)
+      (lt-ltb 3 k l)) NoSpindle refl
 
   module _ (l : k ≤ 3) where
     named : refused_head v k ≡ next v λ _. refused 15 0

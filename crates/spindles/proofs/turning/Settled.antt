@@ -49,8 +49,8 @@ table-held t b w = tick-held b (table_image t) w (live_verdict t (state_of b) (w
 module _ (s : State) (sum taken : ℕ) (e : is_bad_record sum taken ≡ false) where
   stayed-by : (n i : ℕ) → unchanged_turn n i s taken ≡ turn_by s taken (record { reply = refusal n i 0; mask = 0; code = 0; state = s })
   stayed-by n i = sym (
-      ap (λ (t : Bool). (if t && leb 64 taken then unchanged_turn 26 0 s taken
-      else record { reply = refusal n i 0; mask = 0; code = 0; taken = taken + s.depth - s.depth; state = s }))
+      ap (λ (t : Bool). if t && leb 64 taken then unchanged_turn 26 0 s taken
+      else record { reply = refusal n i 0; mask = 0; code = 0; taken = taken + s.depth - s.depth; state = s })
       (le-ltb s.depth s.depth (omega arith))
       ∙ ap (unchanged_turn n i s) (let q : taken + s.depth - s.depth ≡ taken = omega arith in q))
 
@@ -100,7 +100,8 @@ module _ (before new after : List ℕ) (ticked : TickAnswer) (taken : ℕ) (r : 
     deep = ap (λ (b : List ℕ). (state_of b).depth) made.bytes ∙ ap (λ (s : State). s.depth) held
 
     turned : (b : Bool)
-        → r ≡ (if b then record { answer = Err NoPlace; taken = taken } else record { answer = ticked; taken = taken + x.state.depth - depth_in before })
+        → r ≡ (if b then record { answer = Err NoPlace; taken = taken }
+        else record { answer = ticked; taken = taken + x.state.depth - depth_in before })
         → after ≡ (if b then before else new)
         → GivesTurnOn (if b then unchanged_turn 26 0 (state_of before) taken
         else record { reply = x.reply; mask = x.mask; code = x.code; taken = taken + x.state.depth - depth_in before; state = x.state })
@@ -124,9 +125,9 @@ module _ (before new after : List ℕ) (ticked : TickAnswer) (taken : ℕ) (r : 
     settled-turns z =
         turned (has_no_place taken (state_of before) x)
         (z.report ∙ ap
-        (λ (d : ℕ). (if ltb (depth_in before) d && leb 64 taken
-        then record { answer = Err NoPlace; taken = taken } else record { answer = ticked; taken = taken + d - depth_in before })) deep)
-        (z.bytes ∙ ap (λ (d : ℕ). (if ltb (depth_in before) d && leb 64 taken then before else new)) deep)
+        (λ (d : ℕ). if ltb (depth_in before) d && leb 64 taken
+        then record { answer = Err NoPlace; taken = taken } else record { answer = ticked; taken = taken + d - depth_in before }) deep)
+        (z.bytes ∙ ap (λ (d : ℕ). if ltb (depth_in before) d && leb 64 taken then before else new) deep)
 
 -- a turn whose record holds
 module _ (t before new after : List ℕ) (ticked : TickAnswer) (sum taken w : ℕ) (r : SpinReport) (good : is_bad_record sum taken ≡ false)

@@ -44,8 +44,8 @@ abbrev pub unchanged_turn : ℕ → ℕ → State → ℕ → TurnOutcome
 unchanged_turn n i s taken = record { reply = refusal n i 0; mask = 0; code = 0; taken = taken; state = s }
 
 abbrev pub turn_by : State → ℕ → TickOutcome → TurnOutcome
-turn_by s taken x = if has_no_place taken s x
-    then unchanged_turn NO_PLACE 0 s taken
+turn_by s taken x =
+    if has_no_place taken s x then unchanged_turn NO_PLACE 0 s taken
     else record { reply = x.reply; mask = x.mask; code = x.code; taken = taken + x.state.depth - s.depth; state = x.state }
 
 abbrev pub turn_on : Verdict → State → ℕ → TickOutcome → TurnOutcome
@@ -87,6 +87,6 @@ abbrev pub turn_spun : List State → ℕ → TurnOutcome → SpinOutcome
 turn_spun states k x = record { reply = x.reply; mask = x.mask; code = x.code; states = set states k x.state; taken = x.taken }
 
 abbrev pub spin_in_parts : Verdict → List State → ℕ → ℕ → TickOutcome → SpinOutcome
-spin_in_parts v states taken k x = if is_bad_spin_call (length states) k
-    then head_spun (refused_head v k) states taken
+spin_in_parts v states taken k x =
+    if is_bad_spin_call (length states) k then head_spun (refused_head v k) states taken
     else turn_spun states k (turn v (state_at states k) (four_depths states) taken x)

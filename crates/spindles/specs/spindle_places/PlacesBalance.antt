@@ -6,7 +6,7 @@ use Rattle.spindles.specs.Spindles.{state_at, depths}
 use Rattle.spindles.specs.spindle_places.Calls.{Head, new_head, SpindleCall, spins, rebinds, spin_on, head_after, head_after_all}
 
 -- the places that a tick takes or gives back, by its code and the depth before it: a finished call (code 60 hexadecimal is none), a
--- return above depth 1, a drop; a refused call hands back code 0
+-- return above depth 1, a drop; a refused call stands for code 0
 abbrev pub places_called : ℕ → ℕ → ℕ
 places_called code d = if leb OPERATION_CALL_CODE code && not (eqb code DROP_CODE) then 1 else 0
 

@@ -58,7 +58,7 @@ module _ (b₀ : List ℕ) where
   tidied-none = record { low = omega arith; size = refl; passed = λ j h. absurd (omega arith); before = λ j h. refl; left = λ j h. refl }
 
   byte-tidy : (k : ℕ) → k < 16 → bool_byte (not (eqb (get_or b₀ (34 + k) 0) 0)) ≡ result_byte (state_of b₀) k
-  byte-tidy k l = byte-is (not (eqb (get_or b₀ (34 + k) 0) 0)) ∙ ap (λ (t : Bool). (if t then 1 else 0)) (bit-read b₀ k l)
+  byte-tidy k l = byte-is (not (eqb (get_or b₀ (34 + k) 0) 0)) ∙ ap (λ (t : Bool). if t then 1 else 0) (bit-read b₀ k l)
 
   module _ (whole : length b₀ ≡ 130) (b : List ℕ) (k : ℕ) (t : Tidied b₀ b k) where
     pub tidied-turn : k < 16 → Tidied b₀ (set b (34 + k) (bool_byte (not (eqb (get_or b (34 + k) 0) 0)))) (k + 1)

@@ -75,7 +75,7 @@ module _ (t : List ℕ) where
   buffer-same : (most : ℕ) (old : List ℕ) → read_buffer most capitals old ≡ read_buffer most t old
   unfolding read_buffer
   buffer-same most old =
-      ap₂ (λ (n : ℕ) (b : List ℕ). (if is_bad_length 23 most n then old else over (map (λ x. x % 256) b) old))
+      ap₂ (λ (n : ℕ) (b : List ℕ). if is_bad_length 23 most n then old else over (map (λ x. x % 256) b) old)
       (length-map t capital) contents-same
 
   pub capitals-alike : ReadAlike capitals t

@@ -52,7 +52,8 @@ pub judged-refused : (v : Verdict) (k i n : ℕ) → v ≡ refused k i → refus
 judged-refused v k i n e = sym (ap (λ w. verdict_reply w n) e)
 
 -- the same of a refusal that is handed on
-pub err-judged : (v : Verdict) (r : Refusal) (n : ℕ) → v ≡ refused (number_of r) (index_of r) → ticks_of r ≡ 0 → reply (Err r) ≡ verdict_reply v n
+pub err-judged : (v : Verdict) (r : Refusal) (n : ℕ) → v ≡ refused (number_of r) (index_of r) → ticks_of r ≡ 0
+    → reply (Err r) ≡ verdict_reply v n
 err-judged v r n e t = ap (refusal (number_of r) (index_of r)) t ∙ judged-refused v (number_of r) (index_of r) n e
 
 pub judged-fine : (v : Verdict) (n : ℕ) → v ≡ fine → success n ≡ verdict_reply v n

@@ -23,7 +23,7 @@ buffer_filled_with unit xs old = record { reply = success (length xs / unit); bu
 pub lent_fits : (unit : ℕ) (new : Unit {0} → List ℕ) (old : List ℕ) → length (new tt) ≤ length old
     → buffer_on fine unit new old ≡ buffer_filled_with unit (new tt) old
 lent_fits unit new old h =
-    ap (λ (b : Bool). (if b then record { reply = refusal 16 0 0; buffer = old } else buffer_filled_with unit (new tt) old))
+    ap (λ (b : Bool). if b then record { reply = refusal 16 0 0; buffer = old } else buffer_filled_with unit (new tt) old)
     (le-ltb (length old) (length (new tt)) h)
 
 pub record Success (v : Verdict) (unit : ℕ) (xs old : List ℕ) (n : ℕ) (r : BufferOutcome) : Type 0 where
@@ -56,14 +56,15 @@ module _ (v : Verdict) (unit : ℕ) (new : Unit {0} → List ℕ) (old : List �
   }
 
   -- the same of a refusal that is handed on
-  pub lent-err : (r : Refusal) → (v ≡ refused (number_of r) (index_of r)) × (ticks_of r ≡ 0) → GivesBuffer (buffer_on v unit new old) (Err r) old
+  pub lent-err : (r : Refusal) → (v ≡ refused (number_of r) (index_of r)) × (ticks_of r ≡ 0)
+      → GivesBuffer (buffer_on v unit new old) (Err r) old
   lent-err r (e, t) = lent-refused (number_of r) (index_of r) e (Err r) (ap (refusal (number_of r) (index_of r)) t)
 
   pub lent-short : v ≡ fine → length old < length (new tt) → GivesBuffer (buffer_on v unit new old) (Err NoRoom) old
   lent-short e h =
       let q : buffer_on v unit new old ≡ record { reply = refusal 16 0 0; buffer = old } =
       ap (λ w. buffer_on w unit new old) e
-      ∙ ap (λ (b : Bool). (if b then record { reply = refusal 16 0 0; buffer = old } else buffer_filled_with unit (new tt) old))
+      ∙ ap (λ (b : Bool). if b then record { reply = refusal 16 0 0; buffer = old } else buffer_filled_with unit (new tt) old)
       (lt-ltb (length old) (length (new tt)) h) in
       record { answered = sym (ap (λ (l : BufferOutcome). l.reply) q); written = sym (ap (λ (l : BufferOutcome). l.buffer) q) }
 

@@ -34,4 +34,4 @@ at-lowest-fine n p k e v l =
 pub at_none : (m : ℕ) (p : ℕ → Bool) (n : ℕ) → ((k : ℕ) → k < n → p k ≡ false) → at_lowest m p n ≡ fine
 at_none m p n h =
     let e : lowest p 0 n ≡ n = lowest-none p 0 n (λ k l. ap p (omega arith) ∙ h k l) ∙ omega arith in
-    ap (λ b. (if b then refused m (lowest p 0 n) else fine)) (le-ltb (lowest p 0 n) n (omega arith))
+    ap (λ b. if b then refused m (lowest p 0 n) else fine) (le-ltb (lowest p 0 n) n (omega arith))

@@ -53,8 +53,8 @@ module _ (t out₀ out : List ℕ) (n f bad wrong : ℕ) (done : Frames t out₀
       let place : 10 * f ≡ 10 * (f - 1) + length (stored_bytes t (f - 1)) = omega arith in
       record {
         low = omega (arith, done.low);
-        form = x ∙ ap (λ (c : Bool). (if c then f - 1 else bad)) read.form ∙ lowest-below (has_bad_form t) n f bad some done.low done.form;
-        sum = y ∙ ap (λ (c : Bool). (if c then f - 1 else wrong)) read.sum ∙ lowest-below (has_bad_sum t) n f wrong some done.low done.sum;
+        form = x ∙ ap (λ (c : Bool). if c then f - 1 else bad) read.form ∙ lowest-below (has_bad_form t) n f bad some done.low done.form;
+        sum = y ∙ ap (λ (c : Bool). if c then f - 1 else wrong) read.sum ∙ lowest-below (has_bad_sum t) n f wrong some done.low done.sum;
         size = s ∙ done.size;
         buffer = read.buffer ∙ ap (λ (o : List ℕ). written o (10 * (f - 1)) (stored_bytes t (f - 1))) done.buffer
             ∙ written-before out₀ (10 * (f - 1)) (stored_bytes t (f - 1)) (concat_map (stored_bytes t) (range f (n - f)))

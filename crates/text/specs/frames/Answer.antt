@@ -55,6 +55,6 @@ pub record GivesBuffer (x : BufferOutcome) (answer : Answer) (after : List ℕ) 
 -- a refusal leaves the buffer as it was; else its front is written, counted by units, or there is no room: 16
 abbrev pub buffer_on : Verdict → ℕ → (Unit {0} → List ℕ) → List ℕ → BufferOutcome
 buffer_on (refused k i) unit new old = record { reply = refusal k i 0; buffer = old }
-buffer_on fine unit new old = let xs = new tt in if ltb (length old) (length xs)
-    then record { reply = refusal NO_ROOM 0 0; buffer = old }
+buffer_on fine unit new old = let xs = new tt in
+    if ltb (length old) (length xs) then record { reply = refusal NO_ROOM 0 0; buffer = old }
     else record { reply = success (length xs / unit); buffer = over xs old }

@@ -38,7 +38,7 @@ number_of NoPlace = constant.NO_PLACE
 number_of ManyWords = constant.MANY_WORDS
 number_of ManyLists = constant.MANY_LISTS
 
--- the lowest frame or node at fault, 0 where it looks at none
+-- the frame or node that it names, 0 where it names none
 abbrev pub index_of : Refusal → ℕ
 index_of (BadCharacter f) = f
 index_of (BadSum f) = f
@@ -49,53 +49,10 @@ index_of (Circle v) = v
 index_of (CutOff v) = v
 index_of (StrayFrame f) = f
 index_of (BadContent f) = f
-index_of BadLength = 0
-index_of BadScheme = 0
-index_of ManyRows = 0
-index_of BadHeader = 0
-index_of BadSize = 0
-index_of Unfit = 0
-index_of NoRoom = 0
-index_of BadMarks = 0
-index_of CallsItself = 0
-index_of Rowless = 0
-index_of BadRebinding = 0
-index_of Uneven = 0
-index_of NoLittleChart = 0
-index_of NoSpindle = 0
-index_of NoPlace = 0
-index_of ManyWords = 0
-index_of ManyLists = 0
-index_of (Full n) = 0
-index_of (NoRow n) = 0
+index_of _ = 0
 
 -- only 17 and 18 come after ticks
 abbrev pub ticks_of : Refusal → ℕ
 ticks_of (Full n) = n
 ticks_of (NoRow n) = n
-ticks_of BadLength = 0
-ticks_of BadScheme = 0
-ticks_of ManyRows = 0
-ticks_of BadHeader = 0
-ticks_of BadSize = 0
-ticks_of Unfit = 0
-ticks_of NoRoom = 0
-ticks_of BadMarks = 0
-ticks_of CallsItself = 0
-ticks_of Rowless = 0
-ticks_of BadRebinding = 0
-ticks_of Uneven = 0
-ticks_of NoLittleChart = 0
-ticks_of NoSpindle = 0
-ticks_of NoPlace = 0
-ticks_of ManyWords = 0
-ticks_of ManyLists = 0
-ticks_of (BadCharacter i) = 0
-ticks_of (BadSum i) = 0
-ticks_of (BadField i) = 0
-ticks_of (BadArc i) = 0
-ticks_of (BadCall i) = 0
-ticks_of (Circle i) = 0
-ticks_of (CutOff i) = 0
-ticks_of (StrayFrame i) = 0
-ticks_of (BadContent i) = 0
+ticks_of _ = 0

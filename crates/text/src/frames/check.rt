@@ -7,11 +7,5 @@ pub fn bad_length(unit: usize, most: usize, n: usize) -> bool
     requires { 0 < unit }
     ensures { result ≡ is_bad_length unit most n }
 {
-    if n == 0 {
-        return true;
-    }
-    if n % unit != 0 {
-        return true;
-    }
-    most < n
+    n == 0 || n % unit != 0 || most < n
 }

@@ -68,7 +68,7 @@ pub const MANY_WORDS: u8 = 27;
 
 pub const MANY_LISTS: u8 = 28;
 
-// A refusal that looks at frames or nodes carries the lowest at fault, one that stops a tick how many were finished before it.
+// A refusal that names a frame or a node carries its index, one that stops a tick how many ticks were finished before it.
 #[derive(Clone, Copy)]
 pub enum Refusal {
     BadLength,
@@ -138,7 +138,7 @@ impl Refusal {
         }
     }
 
-    // The lowest frame or node at fault, 0 where it looks at none.
+    // The frame or node that it names, 0 where it names none.
     pub fn index(self) -> usize
         ensures { result ≡ index_of self }
     {

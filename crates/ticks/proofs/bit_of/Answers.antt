@@ -9,7 +9,7 @@ use Rattle.ticks.proofs.bit_of.Goals as goal
 
 pub returns-then-kind-eq-FUNCTION_CALL : goal.returns-then-kind-eq-FUNCTION_CALL
 returns-then-kind-eq-FUNCTION_CALL c =
-    byte-is c.result_of.result ∙ ap (λ (u : Bool). (if u then 1 else 0)) c.result_of.ensures
+    byte-is c.result_of.result ∙ ap (λ (u : Bool). if u then 1 else 0) c.result_of.ensures
     ∙ sym (if-true _ _ _ (eq-eqb _ _ c.if-kind-eq-FUNCTION_CALL.true))
 
 pub returns : goal.returns

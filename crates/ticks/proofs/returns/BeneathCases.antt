@@ -45,5 +45,5 @@ module _ (b : List ℕ) (s : State) (w l : ℕ) (at : l ≡ place_at s (s.depth 
       called = ap (λ (k : Label). k.called) (read ∙ sym (label-at b l))
 
       go : Dec (z.kind ≡ 2) → best_row l w bit 0 (table_image b).rows ≡ row_beneath
-      go (yes k) = chosen bit (bit-called b l z read s.bits _ bit e k ∙ ap (λ (h : ℕ). (if result_of h s.bits then 1 else 0)) called)
+      go (yes k) = chosen bit (bit-called b l z read s.bits _ bit e k ∙ ap (λ (h : ℕ). if result_of h s.bits then 1 else 0) called)
       go (no k) = any-row b l w bit _ (λ m. k (ap (λ (x : Label). x.kind) read ∙ m)) g.low g.high ∙ chosen _ refl

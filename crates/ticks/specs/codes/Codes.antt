@@ -32,9 +32,13 @@ is_call_above base code = leb (base + 2) code && leb code (base + SCHEMES)
 
 unfoldable pub meaning_of : ℕ → Meaning
 meaning_of code =
-    if eqb code PLAIN_CODE then Plain else if eqb code RETURN_CODE then Return else if eqb code HOME_CODE then Home
+    if eqb code PLAIN_CODE then Plain
+    else if eqb code RETURN_CODE then Return
+    else if eqb code HOME_CODE then Home
     else if is_call_above OPERATION_CALL_CODE code then OperationCall (code - OPERATION_CALL_CODE)
-    else if is_call_above FUNCTION_CALL_CODE code then FunctionCall (code - FUNCTION_CALL_CODE) else if eqb code DROP_CODE then Drop else Unknown
+    else if is_call_above FUNCTION_CALL_CODE code then FunctionCall (code - FUNCTION_CALL_CODE)
+    else if eqb code DROP_CODE then Drop
+    else Unknown
 
 -- its tick kind, 5 for a call that dropped all open schemes, 255 for a code that no tick has, and the number called, 0 for none
 abbrev pub tick_kind_of : Meaning → ℕ

@@ -58,7 +58,7 @@ module _ {c : Chart} {labels : List ℕ} {h v : ℕ} (s : OfScheme c labels h) (
 
   starts : (b : Bool) → is_stop c v ≡ b → start c h ≡ (if b then v else next0 c v)
   unfolding start
-  starts b q = ap (λ (x : ℕ). (if is_stop c x then x else next0 c x)) (sym e) ∙ ap (λ y. (if y then v else next0 c v)) q
+  starts b q = ap (λ (x : ℕ). if is_stop c x then x else next0 c x) (sym e) ∙ ap (λ y. if y then v else next0 c v) q
 
   stop-by : is_numbered c v ≡ is_stop c v
   stop-by = numbered-stop c v (λ z. omega (arith, begin-kind))

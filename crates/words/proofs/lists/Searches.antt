@@ -154,7 +154,8 @@ lowest-below p n v r some low e = go (cases (p (v - 1)))
     go : (p (v - 1) ≡ true) ⊎ (p (v - 1) ≡ false) → (if p (v - 1) then v - 1 else r) ≡ lowest p (v - 1) (n - (v - 1))
     go (inl h) = if-true (p (v - 1)) (v - 1) r h ∙ sym (lowest-here p n (v - 1) (omega arith) h)
     go (inr h) =
-        if-false (p (v - 1)) (v - 1) r h ∙ e ∙ ap (λ (j : ℕ). lowest p j (n - j)) (omega arith) ∙ sym (lowest-on p n (v - 1) (omega arith) h)
+        if-false (p (v - 1)) (v - 1) r h ∙ e ∙ ap (λ (j : ℕ). lowest p j (n - j)) (omega arith)
+        ∙ sym (lowest-on p n (v - 1) (omega arith) h)
 
 pub lowest_start : (p : ℕ → Bool) (n : ℕ) → lowest p 0 (n - 0) ≡ lowest p 0 n
 lowest_start p n = rw (sub-zero n)

@@ -51,7 +51,8 @@ sum-full f i (suc n) h e k a b =
     go (inl q) ih one = ap f (sym q) ∙ one
     go (inr q) ih one = ih q
 
-pub sum-add : (p : ℕ → Bool) (f g : ℕ → ℕ) → ((k : ℕ) → f k ≡ (if p k then 1 else 0) + g k) → (i n : ℕ) → sum f i n ≡ count p i n + sum g i n
+pub sum-add : (p : ℕ → Bool) (f g : ℕ → ℕ) → ((k : ℕ) → f k ≡ (if p k then 1 else 0) + g k) → (i n : ℕ)
+    → sum f i n ≡ count p i n + sum g i n
 sum-add p f g h i zero = omega (arith, sum-none f i, sum-none g i, count_none p i 0 (λ k a b. absurd (omega arith)))
 sum-add p f g h i (suc n) = omega (arith, sum-suc f i n, sum-suc g i n, count-suc p i n, h i, sum-add p f g h (suc i) n)
 
@@ -89,7 +90,7 @@ sum-move f g a i (suc n) h =
       sum-move f g a (suc i) n (λ k l m. h k (omega arith) (omega arith)),
     )
 
-pub count-sum : (p : ℕ → Bool) (i n : ℕ) → count p i n ≡ sum (λ k. (if p k then 1 else 0)) i n
+pub count-sum : (p : ℕ → Bool) (i n : ℕ) → count p i n ≡ sum (λ k. if p k then 1 else 0) i n
 unfolding count sum
 count-sum p i zero = refl
 count-sum p i (suc n) = ap (λ (m : ℕ). (if p i then 1 else 0) + m) (count-sum p (suc i) n)

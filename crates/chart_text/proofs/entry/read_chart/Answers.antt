@@ -1,9 +1,6 @@
 -- `chart_text::entry::read_chart` meets its contract: each return is a case of the definition.
-use Prim.Native.Nat.{◌*◌}
-use mathlib.Core.Path.{◌≡◌, sym}
-use lib.ListN.{take}
+use mathlib.Core.Path.{sym}
 use native.Mathlib.Omega.{arith}
-use Rattle.text.specs.frames.Frame.{contents}
 use Rattle.chart_text.proofs.Entries.{Formed, formed, formed-chart, chart-length, chart-asked}
 use Rattle.chart_text.proofs.Entries.{read-unformed, read-unsound, read_short, read_done}
 use Rattle.std.proofs.lemmas.Result.{err_from_is_err_and}

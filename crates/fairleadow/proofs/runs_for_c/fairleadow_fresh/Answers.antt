@@ -9,5 +9,5 @@ returns c =
     let fresh = c.fresh-done in
     record {
       told = told-as fresh.ensures.answered c.tell.ensures;
-      bytes = c.bytes_of-bytes.ensures ∙ ap bytes_of fresh.ensures.state;
+      bytes = c.bytes_of.ensures ∙ ap bytes_of fresh.ensures.state;
     }

@@ -12,7 +12,11 @@ tally_of i s n k = record { ended = count_meeting i s n k 0; full = count_meetin
 
 -- m lists, all of which meet one number
 abbrev pub all_meet : ℕ → ℕ → Tally
-all_meet number m = record { ended = if eqb number 0 then m else 0; full = if eqb number FULL then m else 0; unmatched = if eqb number NO_ROW then m else 0 }
+all_meet number m = record {
+  ended = if eqb number 0 then m else 0;
+  full = if eqb number FULL then m else 0;
+  unmatched = if eqb number NO_ROW then m else 0;
+}
 
 abbrev pub tally_sum : Tally → Tally → Tally
 tally_sum a b = record { ended = a.ended + b.ended; full = a.full + b.full; unmatched = a.unmatched + b.unmatched }

@@ -12,7 +12,7 @@ loop-f-init c = refl
 pub returns-then-marks-next-ge1 : goal.returns-then-marks-next-ge1
 returns-then-marks-next-ge1 c =
     let here = leads-marked c.args.table.now c.args.marks.now c.loop-f.f _ c.byte-next.ensures c.if-marks-next-ge1.true in
-    ap (λ (t : Bool). (if t then 1 else 0)) (sym (any_here _ _ _ (search rules) here) ∙ c.loop-f.invariant)
+    ap (λ (t : Bool). if t then 1 else 0) (sym (any_here _ _ _ (search rules) here) ∙ c.loop-f.invariant)
 
 pub loop-f-preserved : goal.loop-f-preserved
 loop-f-preserved c =
@@ -20,4 +20,4 @@ loop-f-preserved c =
     sym (any-on _ _ _ (search rules) here) ∙ c.loop-f.invariant
 
 pub returns : goal.returns
-returns c = ap (λ (t : Bool). (if t then 1 else 0)) (sym (any-over _ _ _ (search rules)) ∙ c.loop-f.invariant)
+returns c = ap (λ (t : Bool). if t then 1 else 0) (sym (any-over _ _ _ (search rules)) ∙ c.loop-f.invariant)

@@ -16,7 +16,10 @@ count_members classes = labelled (λ l. get_or classes l 0) (λ l counts. member
 -- the part of label l, where none is kept for its former class or one with fewer labels, else the part that is kept
 abbrev pub larger_part : List ℕ → List ℕ → ℕ → ℕ → ℕ → ℕ
 larger_part counts kept class l part =
-    let first = get_or kept class 0 in if eqb class l then part else if ltb (get_or counts first 0) (get_or counts part 0) then part else first
+    let first = get_or kept class 0 in
+    if eqb class l then part
+    else if ltb (get_or counts first 0) (get_or counts part 0) then part
+    else first
 
 abbrev pub keep_largest : List ℕ → List ℕ → List ℕ → ℕ → List ℕ → List ℕ
 keep_largest classes next counts =

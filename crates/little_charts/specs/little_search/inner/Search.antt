@@ -1,5 +1,6 @@
 -- A search for little charts, record by record: where no accepted chart begins with the records so far, it goes no further.
-use Rattle.std.specs.Prelude.{ℕ, zero, suc, ◌+◌, ◌*◌, ◌-◌, ◌/◌, ◌%◌, Bool, true, false, ◌&&◌, ◌||◌, not, List, [], ◌∷◌, ◌++◌, leb, ltb, eqb, if◌then◌else◌}
+use Rattle.std.specs.Prelude.{ℕ, zero, suc, ◌+◌, ◌*◌, ◌-◌, ◌/◌, ◌%◌, Bool, true, false, ◌&&◌, ◌||◌, not, List, [], ◌∷◌, ◌++◌, leb}
+use Rattle.std.specs.Prelude.{ltb, eqb, if◌then◌else◌}
 use Rattle.words.specs.lists.Numbers.{range, any}
 use Rattle.words.specs.lists.Sequences.{concat_map}
 use Rattle.text.specs.frames.Frame.{size}
@@ -19,8 +20,11 @@ abbrev pub condition_at : ℕ → ℕ → List ℕ
 condition_at n i = condition_node (i / n) (i % n)
 
 unfoldable pub node_at : ℕ → ℕ → List ℕ
-node_at n i = if ltb i n then begin_node i else if eqb i n then end_node
-    else if ltb i (3 * n + 1) then operation_at (i - (n + 1)) else condition_at n (i - (3 * n + 1))
+node_at n i =
+    if ltb i n then begin_node i
+    else if eqb i n then end_node
+    else if ltb i (3 * n + 1) then operation_at (i - (n + 1))
+    else condition_at n (i - (3 * n + 1))
 
 -- ---- what the first records rule out
 -- a node below v is of kind k

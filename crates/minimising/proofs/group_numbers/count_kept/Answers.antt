@@ -13,8 +13,11 @@ loop-f-init c = adding-start _ _ _ _ (search rules)
 
 pub loop-f-preserved : goal.loop-f-preserved
 loop-f-preserved c =
-    adding-on _ _ _ _ _ _ _ c.loop-f.invariant (search rules)
-    (c.first_at-total.ensures.0 ∙ ap (λ (k : ℕ). (if is_first c.args.classes.now k then 1 else 0)) c.byte-from.ensures, c.first_at-total.ensures.1)
+    adding-on _ _ _ _ _ _ _ c.loop-f.invariant (search rules) (
+      c.first_at-total.ensures.0 ∙ ap (λ (k : ℕ).
+          if is_first c.args.classes.now k then 1 else 0) c.byte-from.ensures,
+      c.first_at-total.ensures.1,
+    )
 
 pub returns : goal.returns
 returns c =

@@ -6,4 +6,4 @@ use Rattle.words.proofs.lists.Sums.{Adding}
 use Rattle.minimising.proofs.group_numbers.count_kept.Given as goal
 
 abbrev pub invariant-loop-f : goal.invariant-loop-f
-invariant-loop-f l = Adding (λ k. (if is_first l.classes (field l.table k 1) then 1 else 0)) 1 l.first l.end l.total l.f
+invariant-loop-f l = Adding (λ k. if is_first l.classes (field l.table k 1) then 1 else 0) 1 l.first l.end l.total l.f

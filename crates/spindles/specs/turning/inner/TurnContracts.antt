@@ -11,8 +11,8 @@ depth_in b = (state_of b).depth
 
 -- the tick found its place, or is undone
 abbrev pub settled_report : List ℕ → List ℕ → TickAnswer → ℕ → SpinReport
-settled_report old new ticked taken = if is_none_left (depth_in old) (depth_in new) taken
-    then record { answer = Err NoPlace; taken = taken }
+settled_report old new ticked taken =
+    if is_none_left (depth_in old) (depth_in new) taken then record { answer = Err NoPlace; taken = taken }
     else record { answer = ticked; taken = taken + depth_in new - depth_in old }
 
 pub record GivesSettled (old new : List ℕ) (ticked : TickAnswer) (taken : ℕ) (r : SpinReport) (after : List ℕ) : Type 0 where
