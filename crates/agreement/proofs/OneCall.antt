@@ -4,7 +4,7 @@ use Prim.Native.Nat.{ℕ, ◌≤◌}
 use mathlib.Core.Path.{◌≡◌, refl, sym, ◌∙◌, ap, subst}
 use mathlib.Core.List.{List, [], ◌∷◌}
 use lib.ListN.{take}
-use Rattle.text.specs.frames.Answer.{reply, success}
+use Rattle.text.specs.frames.Answer.{success}
 use Rattle.tables.specs.Prepare.{prepare}
 use Rattle.tables.proofs.PreparedImage as tables
 use Rattle.state.specs.declared.State.{State}

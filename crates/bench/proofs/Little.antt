@@ -15,7 +15,7 @@ use Rattle.little_charts.specs.Little.{little_text, little_verdict, little_chart
 use Rattle.little_charts.specs.little_search.inner.Search.{node_at, is_barred_node, searched_charts}
 use Rattle.little_charts.proofs.little_search.Same.{search-lists}
 use Rattle.little_charts.specs.little_totals.inner.Samples.{Samples, samples}
-use Rattle.little_charts.proofs.little_totals.Totals.{four, samples-four, total-four}
+use Rattle.little_charts.proofs.little_totals.Totals.{samples-four, total-four}
 use Rattle.bench.specs.Little.{LittleCases, texts_two, texts_three, first_four, middle_four, last_four}
 use Rattle.bench.proofs.Computing.{charting}
 

@@ -26,7 +26,13 @@ fn is_astray_at_bottom(table: &[u8], bytes: &[u8; STATE_BYTES], owner: u8, l: u8
         return false;
     }
     let handler = handler_of(table);
-    handler == 0 || !is_own(number, server, handler) || is_astray(owner, handler, l)
+    if handler == 0 {
+        return true;
+    }
+    if is_own(number, server, handler) {
+        return is_astray(owner, handler, l);
+    }
+    true
 }
 
 // Whether some place up to the depth does not fit, or the bottom does not.

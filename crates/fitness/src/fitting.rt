@@ -68,14 +68,28 @@ fn bad_depth(bytes: &[u8; STATE_BYTES]) -> bool
 {
     let size = size_of(bytes);
     let depth = depth_of(bytes);
-    bad_size(size as usize) || depth == 0 || size < depth
+    if bad_size(size as usize) {
+        return true;
+    }
+    if depth == 0 {
+        return true;
+    }
+    size < depth
 }
 
 // Refusal 15.
-#[tactic(auto, unfolding(crate::specs::Fitness::is_unfit))]
 pub fn is_unfit(table: &[u8], bytes: &[u8; STATE_BYTES]) -> bool
     requires { Whole table.now }
     ensures { result ≡ is_unfit (table_image table.now) (state_of bytes.now) }
 {
-    bad_depth(bytes) || any_unfit(table, bytes) || any_filled(bytes) || any_misserved(table, bytes)
+    if bad_depth(bytes) {
+        return true;
+    }
+    if any_unfit(table, bytes) {
+        return true;
+    }
+    if any_filled(bytes) {
+        return true;
+    }
+    any_misserved(table, bytes)
 }

@@ -24,37 +24,57 @@ pub fn calls_none(kind: u8) -> bool
 pub fn is_astray(owner: u8, scheme: u8, l: u8) -> bool
     ensures { result ≡ is_astray owner scheme l }
 {
-    owner != scheme && l != 1
+    if owner == scheme {
+        return false;
+    }
+    l != 1
 }
 
 // Whether number and server of a place are both that scheme.
 pub fn is_own(number: u8, server: u8, scheme: u8) -> bool
     ensures { result ≡ is_own number server scheme }
 {
-    number == scheme && server == scheme
+    if number != scheme {
+        return false;
+    }
+    server == scheme
 }
 
 // Whether a bottom of that owner is of scheme 1, by its own number.
 pub fn is_first(owner: u8, number: u8, server: u8) -> bool
     ensures { result ≡ (eqb owner 1 && is_own number server 1) }
 {
-    owner == 1 && is_own(number, server, 1)
+    if owner != 1 {
+        return false;
+    }
+    is_own(number, server, 1)
 }
 
 // Whether the number or the server of a place above a call is wrong: the number is not the one called, or the server is not of 2 to H.
 pub fn is_miscalled(schemes: u8, number: u8, called: u8, server: u8) -> bool
     ensures { result ≡ is_miscalled schemes number called server }
 {
-    number != called || server < 2 || schemes < server
+    if number != called {
+        return true;
+    }
+    if server < 2 {
+        return true;
+    }
+    schemes < server
 }
 
 // Whether number h may not be served by scheme k, with that many schemes and that handler.
 pub fn is_misserved(schemes: u8, handler: u8, h: u8, k: u8) -> bool
     ensures { result ≡ is_misserved schemes handler h k }
 {
-    if schemes < h || h == handler {
-        k != h
-    } else {
-        k < 2 || schemes < k
+    if schemes < h {
+        return k != h;
     }
+    if h == handler {
+        return k != h;
+    }
+    if k < 2 {
+        return true;
+    }
+    schemes < k
 }

@@ -17,7 +17,7 @@ use Rattle.words.proofs.lists.Ranges.{map-places}
 use Rattle.words.proofs.lists.Elements.{map-own, filter-own}
 use Rattle.words.proofs.lists.Joins.{all-places, all_of, all-range}
 use Rattle.text.specs.frames.Frame.{contents}
-use Rattle.text.specs.frames.Verdict.{fine, next, when}
+use Rattle.text.specs.frames.Verdict.{fine, when}
 use Rattle.text.proofs.frames.Verdicts.{next-first, next-rest, when-fine}
 use Rattle.image.specs.Image.{Image, Row, image_text, nth_row}
 use Rattle.image.specs.Decode.{decoded_image}

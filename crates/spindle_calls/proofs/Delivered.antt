@@ -11,7 +11,7 @@ use borrow.Author.Tests.{ne_eqb}
 use Rattle.words.specs.lists.Sequences.{All}
 use Rattle.bindings.specs.Binding.{own_binding}
 use Rattle.text.specs.frames.Frame.{contents}
-use Rattle.text.specs.frames.Answer.{Reply, reply, reply_number, success, refusal}
+use Rattle.text.specs.frames.Answer.{Reply, reply_number, success, refusal}
 use Rattle.state.specs.declared.State.{State}
 use Rattle.state.specs.State.{fresh, no_state, is_bad_size, StateOutcome, fresh_state}
 use Rattle.agreement.specs.Calls.{TableOf}
