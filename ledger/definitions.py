@@ -112,9 +112,10 @@ class DefinitionFile:
         taken = [(depth, words)]
         while lines.depth() > depth or lines.depth() == depth and not begins(lines.words()):
             taken.append(lines.take())
-        body = next((at for at, (here, line) in enumerate(taken) if at and here == depth and line[0] not in CLOSERS), len(taken))
         kinds = [word for word in words[:2] if word in KINDS and word != "pub"]
         kind, name = kinds[0] if kinds else "law", next(word for word in words if word not in KINDS)
+        starts = (at for at, (here, line) in enumerate(taken) if at and here == depth and line[0] in (name, "unfolding"))
+        body = next(starts, len(taken))
         statement, whole = around + with_breaks(taken[:body]), around + with_breaks(taken)
         if name in self.items:
             statement, whole = self.items[name].statement + statement, self.items[name].words + whole

@@ -2,13 +2,15 @@
 
 import hashlib
 import re
+from collections import namedtuple
 
 from laws import named_laws
 from program import Program
 from scope import Scope, resolved_code
 
 HEAD = """\
-# What is promised, made by ./promises: the kind, the path, a digest of its own text, and one of the texts of all that it rests on.
+# What is promised, made by ./promises: the kind, the path, and digests of its words, of these with each name in full, and of the texts
+# of all that it rests on.
 # contract: of a public function. theorem: a clause of a function without parameters. law: a statement that docs/TRACE.md names.
 # definition: to be believed. declared: a type, a trait or a constant of the code. inner: what one of these rests on beside them.
 """
@@ -18,14 +20,23 @@ def digest(parts):
     return hashlib.sha256("\0".join(parts).encode()).hexdigest()[:16]
 
 
+def short(word):
+    """A name without the path to it."""
+    return re.sub("[^@&~#]+", lambda path: re.split("::|[.]", path[0])[-1], word) if word.startswith("@") else word
+
+
 class Line:
-    """A promise, or what one rests on: its own digest, and what its text names."""
+    """A promise, or what one rests on: a digest of its words, one of its text, which has each name in full, and what it names."""
 
     def __init__(self, kind, path, text, names):
-        self.kind, self.path, self.own, self.names = kind, path, digest(text), names
+        self.kind, self.path, self.names = kind, path, names
+        self.words, self.own = digest([short(word) for word in text]), digest(text)
 
     def key(self):
         return f"{self.kind} {self.path}"
+
+
+Entry = namedtuple("Entry", "words own whole below")
 
 
 class Ledger:
@@ -88,6 +99,8 @@ class Ledger:
 
     def law(self, where, name):
         text, names = self.scope(where).resolved(self.program.file(where).items[name].statement)
+        # what a theorem may say in the same words begins behind the name
+        text = text[4:] if text[:2] == ["\n", "pub"] and text[3] == ":" else text
         return Line("law", f"{where}.{name}", text, names - {("definition", where, name)})
 
     def clause_text(self, module, clauses):
@@ -100,10 +113,10 @@ class Ledger:
 
     def clause(self, item, at):
         """A theorem: the clause, with all that the function requires."""
-        clauses = [each for each in item.clauses if each.kind != "ensures"] + [item.clauses[at]]
-        text, names = self.clause_text(item.module, clauses)
+        text, names = self.clause_text(item.module, [each for each in item.clauses if each.kind != "ensures"])
+        fact, others = self.clauses_scope(item.module).resolved(item.clauses[at].words)
         title = item.clauses[at].name
-        return Line("theorem", item.key() + ("." + title if title else ""), text, names)
+        return Line("theorem", item.key() + ("." + title if title else ""), text + fact, names | others)
 
     def code(self, item):
         """A function's contract with its signature, or a type, a trait or a constant."""
@@ -137,17 +150,17 @@ class Ledger:
         return self.program.crates.index(re.match(r"\w+", line.path)[0]), line.path, line.kind
 
     def entries(self):
-        """The lines in their order, by kind and path: the own digest, that of the rest, and the keys of what they rest on."""
+        """The lines in their order, by kind and path: their three digests, and the keys of what they rest on."""
         entries = {}
         for each, line in sorted(self.lines.items(), key=lambda pair: self.place(pair[1])):
             rest = sorted((self.lines[name] for name in self.below(each)), key=Line.key)
             whole = digest([part for other in rest for part in (other.key(), other.own)]) if rest else "-" * 16
             if line.key() in entries:
                 raise SystemExit(f"promises: there are two of {line.key()}")
-            entries[line.key()] = (line.own, whole, [other.key() for other in rest])
+            entries[line.key()] = Entry(line.words, line.own, whole, {other.key() for other in rest})
         return entries
 
 
 def page(entries):
     """The text of docs/promises.txt."""
-    return HEAD + "".join("{:<10} {} {} {}\n".format(*key.split(" ", 1), *entry[:2]) for key, entry in entries.items())
+    return HEAD + "".join("{:<10} {} {} {} {}\n".format(*key.split(" ", 1), *entry[:3]) for key, entry in entries.items())

@@ -1,5 +1,6 @@
 """What the ledger sees and what it does not: a small program in texts, and edits of the repository's own."""
 
+import re
 import unittest
 
 from comparing import differences
@@ -74,8 +75,12 @@ pub fn worth(n: u8, told: Told) -> u8
 }
 """,
     "crates/low/proofs/Laws.antt": """\
-use Rattle.low.specs.Numbers.{Gives, worth}
+use Rattle.low.specs.Numbers.{Gives, worth, Always}
 use Prim.Native.Nat.{ℕ}
+
+pub all-worth : Always
+unfolding Always
+all-worth n = always-worth n
 
 module _ (n : ℕ) where
   pub always-worth : Gives n (worth n)
@@ -127,7 +132,7 @@ pub fn it_always_holds()
     ensures twice { Always → Always }
 {}
 """,
-    "docs/TRACE.md": "| a number is worth something | `Gives`; `always-worth` (low/proofs/Laws) |\n",
+    "docs/TRACE.md": "| a number is worth something | `Gives`; `all-worth`, `always-worth` (low/proofs/Laws) |\n",
 }
 
 SPECS, LAWS, TRACE = "crates/low/specs/Numbers.antt", "crates/low/proofs/Laws.antt", "docs/TRACE.md"
@@ -157,6 +162,7 @@ class SmallProgram(unittest.TestCase):
         self.assertEqual(
             [" ".join(line.split()[:2]) for line in page(Ledger(TEXTS).entries()).splitlines() if not line.startswith("#")],
             [
+                "law low/proofs/Laws.all-worth",
                 "law low/proofs/Laws.always-worth",
                 "definition low/specs/Numbers.Always",
                 "definition low/specs/Numbers.Gives",
@@ -204,7 +210,7 @@ class SmallProgram(unittest.TestCase):
     def test_a_law_that_is_deleted_or_named_no_more(self):
         text = TEXTS[LAWS]
         self.assertEqual(self.told((LAWS, text[text.index("  pub always") :], "")), ["went: law low/proofs/Laws.always-worth"])
-        self.assertEqual(self.told((TRACE, "; `always-worth` (low/proofs/Laws)", "")), ["went: law low/proofs/Laws.always-worth"])
+        self.assertEqual(self.told((TRACE, ", `always-worth`", "")), ["went: law low/proofs/Laws.always-worth"])
 
     def test_a_premise_of_a_law(self):
         changed = ["changed: law low/proofs/Laws.always-worth"]
@@ -216,6 +222,11 @@ class SmallProgram(unittest.TestCase):
         self.assertEqual(self.told((TOP, "    ensures twice { Always → Always }\n", "")), ["went: theorem top::it_always_holds.twice"])
         self.assertEqual(self.told((TOP, "always { Always }", "always { worth 0 ≡ 1 → Always }")), changed[:1])
         self.assertEqual(self.told((TOP, "    ensures always", "    requires { worth 0 ≡ 1 }\n    ensures always")), changed)
+
+    def test_a_theorem_that_says_what_a_law_says(self):
+        before = edited(TEXTS, (TOP, "    ensures always { Always }\n", ""))
+        told = differences(Ledger(before).entries(), Ledger(TEXTS).entries())
+        self.assertEqual(told, ["came: theorem top::it_always_holds.always, in the words of law low/proofs/Laws.all-worth"])
 
     def test_a_definition_that_says_less(self):
         self.assertEqual(self.told((SPECS, "Gives n (worth n)\n", "Gives n n\n")), ["changed: definition low/specs/Numbers.Always"])
@@ -233,6 +244,18 @@ class SmallProgram(unittest.TestCase):
         import_of_other = (SPECS, "{MOST, LEAST}", "{MOST as LEAST, LEAST as MOST}")
         changed = ["changed: definition low/specs/Numbers.Gives", "changed: definition low/specs/Numbers.worth"]
         self.assertEqual(self.told(import_of_other), changed)
+
+    def test_what_moves_is_told_as_moved_and_not_as_another_text(self):
+        half = "\nabbrev pub half : ℕ → ℕ\nhalf n = n / 2\n"
+        moved = (("crates/low/specs/inner/Halves.antt", half, ""), (SPECS, "\n-- what a number", half + "\n-- what a number"))
+        imports = ((SPECS, "use Rattle.low.specs.inner.Halves.{half}\n", ""), (SPECS, "◌+◌, Bool", "◌+◌, ◌/◌, Bool"))
+        self.assertEqual(
+            self.told(*moved, *imports),
+            [
+                "moved: inner definition low/specs/inner/Halves.half is now definition low/specs/Numbers.half",
+                "changed: definition low/specs/Numbers.worth, where a name stands for what stands elsewhere",
+            ],
+        )
 
     def test_a_contract(self):
         changed = ["changed: the contract of low::inside::worth"]
@@ -265,31 +288,47 @@ class SmallProgram(unittest.TestCase):
 
 
 class Repository(unittest.TestCase):
-    """Five changes of the repository's own texts at once: each is named."""
+    """Changes of the repository's own texts, all at once: each is named."""
 
-    def test_five_changes_are_named(self):
-        texts = texts_of(ROOT)
-        trips, refusals = "crates/chart_text/proofs/RoundTrips.antt", "crates/text/src/frames/refusals.rt"
-        law = texts["crates/agreement/proofs/Demand.antt"]
-        edits = [
-            (trips, "pub read-of-write : (c : Chart) →", "pub read-of-write : (c : Chart) → length c ≡ 0 →"),
-            ("crates/agreement/proofs/Demand.antt", law[law.index("pub theorem :") :], ""),
-            ("crates/agreement/specs/Calls.antt", "→ handed ≡ walk_outputs size (contents text) given", "→ handed ≡ handed"),
-            (refusals, "FULL: u8 = 17", "FULL: u8 = 18"),
-            (refusals, "NO_ROW: u8 = 18", "NO_ROW: u8 = 17"),
-            ("crates/text/src/digits.rt", "ensures { result ≡ digit_of c }", "ensures { digit_of c ≡ result }"),
-        ]
-        told = differences(Ledger(texts).entries(), Ledger(edited(texts, *edits)).entries())
-        for line in (
-            "changed: law chart_text/proofs/RoundTrips.read-of-write",
-            "went: law agreement/proofs/Demand.theorem",
-            "changed: definition agreement/specs/Calls.Delivered",
-            "changed: the type, trait or constant text::frames::refusals::FULL",
-            "changed: the type, trait or constant text::frames::refusals::NO_ROW",
-            "changed: the contract of text::digits::digit",
-        ):
+    def setUp(self):
+        self.texts = texts_of(ROOT)
+        self.ledger = Ledger(self.texts)
+        self.edits, self.wanted = [], []
+
+    def edit(self, path, old, new, *wanted):
+        self.edits.append((path, old, new))
+        self.wanted += wanted
+
+    def first(self, pattern, part):
+        """Where a pattern first matches in a file of some kind."""
+        found = ((path, re.search(pattern, text, re.M)) for path, text in self.texts.items() if part in path)
+        return next((path, match) for path, match in found if match)
+
+    def laws(self):
+        """The laws that begin on one line, with that line."""
+        for line in self.ledger.lines.values():
+            where, _, name = line.path.partition(".")
+            if line.kind == "law" and f"\npub {name} : " in self.texts[f"crates/{where}.antt"]:
+                yield line.path, f"crates/{where}.antt", f"\npub {name} : "
+
+    def test_changes_are_named(self):
+        laws = sorted(self.laws())
+        law, path, head = laws[0]
+        self.edit(path, self.texts[path][self.texts[path].index(head) :].split("\n\n")[0], "", f"went: law {law}")
+        law, path, head = laws[-1]
+        self.edit(path, head, head + "1 ≡ 0 → ", f"changed: law {law}")
+        path, match = self.first(r"^unfoldable pub (\w+) : Type 0\n\1 =", "/specs/")
+        where = path[len("crates/") : -len(".antt")]
+        self.edit(path, match[0], match[0] + " ⊤ ⊎", f"changed: definition {where}.{match[1]}")
+        path, match = self.first(r"^pub const (\w+): u8 = (\d+);\n+pub const (\w+): u8 = (\d+);", "/frames/refusals.rt")
+        swapped = f"pub const {match[1]}: u8 = {match[4]}; pub const {match[3]}: u8 = {match[2]};"
+        constants = (f"changed: the type, trait or constant text::frames::refusals::{match[at]}" for at in (1, 3))
+        self.edit(path, match[0], swapped, *constants)
+        turned = ("crates/text/src/digits.rt", "ensures { result ≡ digit_of c }", "ensures { digit_of c ≡ result }")
+        self.edit(*turned, "changed: the contract of text::digits::digit")
+        told = differences(self.ledger.entries(), Ledger(edited(self.texts, *self.edits)).entries())
+        for line in self.wanted:
             self.assertIn(line, told)
-        self.assertEqual(sum(not line.startswith(" ") for line in told), 6)
 
 
 if __name__ == "__main__":
