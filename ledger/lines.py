@@ -1,4 +1,4 @@
-"""The lines of the ledger: what is promised, with a digest of its own text and one of all that it rests on."""
+"""The lines of the ledger: what is promised, with digests of its own text and of all that it rests on."""
 
 import hashlib
 import re

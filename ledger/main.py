@@ -30,7 +30,7 @@ def main(arguments):
     for name in sorted(ledger.program.unknown):
         print(f"not there: {name}")
     if ledger.program.unknown:
-        return "an import names what is not there"
+        return f"the texts name what is not there, so {LEDGER} cannot be made"
     if not arguments:
         (ROOT / LEDGER).write_text(page(entries), encoding="utf-8")
     elif page(entries) != old:
