@@ -1,0 +1,42 @@
+"""Writes docs/promises.txt, or with --check compares it with what the texts promise."""
+
+import sys
+from pathlib import Path
+
+from comparing import differences, written
+from lines import Ledger, page
+
+ROOT = Path(__file__).resolve().parent.parent
+LEDGER = "docs/promises.txt"
+
+
+def texts_of(root):
+    """The texts that promise something, by their paths: code, definitions, laws, and the pages that name crates and laws."""
+    paths = [root / "crates.txt", root / "docs/TRACE.md"]
+    for part in ("src", "specs", "proofs"):
+        for ending in ("rt", "antt"):
+            paths += root.glob(f"crates/*/{part}/**/*.{ending}")
+    return {path.relative_to(root).as_posix(): path.read_text(encoding="utf-8") for path in sorted(paths)}
+
+
+def main(arguments):
+    if arguments not in ([], ["--check"]):
+        return "usage: ./promises [--check]"
+    old = (ROOT / LEDGER).read_text(encoding="utf-8") if (ROOT / LEDGER).exists() else ""
+    ledger = Ledger(texts_of(ROOT))
+    entries = ledger.entries()
+    for line in differences(written(old), entries):
+        print(line)
+    for name in sorted(ledger.program.unknown):
+        print(f"not there: {name}")
+    if ledger.program.unknown:
+        return f"the texts name what is not there, so {LEDGER} cannot be made"
+    if not arguments:
+        (ROOT / LEDGER).write_text(page(entries), encoding="utf-8")
+    elif page(entries) != old:
+        return f"{LEDGER} says otherwise. If each of these is meant, run ./promises, look at its diff, and say in the commit why."
+    return 0
+
+
+if __name__ == "__main__":
+    sys.exit(main(sys.argv[1:]))
