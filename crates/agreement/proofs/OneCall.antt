@@ -16,7 +16,8 @@ use Rattle.rebinding.specs.Rebind.{rebind, live_rebind}
 use Rattle.rebinding.proofs.Live.{live-rebind-is}
 use Rattle.runs.specs.machine.Live.{live_run, live_tick}
 use Rattle.runs.proofs.machine.OneTick.{run_of_tick, run-advance}
-use Rattle.runs.proofs.machine.Live.{PreparedTable, live-run-is, live-tick-is}
+use Rattle.runs.specs.machine.Prepared.{PreparedTable}
+use Rattle.runs.proofs.machine.Live.{live-run-is, live-tick-is}
 use Rattle.agreement.specs.Agreement.{RunInput, output_of, CallInput, to_run, to_rebind, CallOutput, by_run, by_rebinding, call_outputs}
 use Rattle.agreement.specs.Calls.{TableOf, prepared, output_of_run, output_of_rebinding, one_word, output_of_tick}
 use Rattle.agreement.specs.Calls.{Call, run_call, run_call_live, tick_call, tick_call_live, rebind_call, rebind_call_live}

@@ -26,7 +26,8 @@ use Rattle.runs.specs.InPlace.{bytes_after, if_ticked}
 use Rattle.ticks.proofs.Normal.{Normal, tick-normal}
 use Rattle.runs.proofs.machine.Held.{run-held, tick-held}
 use Rattle.runs.proofs.machine.OneTick as one
-use Rattle.runs.proofs.machine.Live.{PreparedTable, live-run-is, live-tick-is}
+use Rattle.runs.specs.machine.Prepared.{PreparedTable}
+use Rattle.runs.proofs.machine.Live.{live-run-is, live-tick-is}
 use Rattle.rebinding.specs.Rebind.{rebind_verdict, rebind}
 use Rattle.rebinding.proofs.Held.{rebinding-held}
 use Rattle.fairleadow.specs.runs_for_c.Calls.{GivesRunC, tick_for, GivesTickC}

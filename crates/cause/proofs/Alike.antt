@@ -3,7 +3,7 @@ use Prim.Native.Nat.{ℕ}
 use mathlib.Core.Path.{◌≡◌, ap₂}
 use mathlib.Core.List.{List}
 use Rattle.text.specs.frames.Verdict.{Verdict, next, when}
-use Rattle.text.proofs.frames.Capitals.{ReadAlike}
+use Rattle.text.specs.frames.Alike.{ReadAlike}
 use Rattle.image.specs.Decode.{decoded_image}
 use Rattle.image.proofs.Alike.{image-verdict}
 use Rattle.state.specs.declared.State.{State}

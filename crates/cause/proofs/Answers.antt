@@ -14,7 +14,7 @@ use Rattle.state.specs.declared.State.{State}
 use Rattle.state.specs.State.{Sized}
 use Rattle.fitness.specs.Fitness.{is_unfit}
 use Rattle.cause.specs.Cause.{Caused, because, unexplained, CauseOutcome, cause_on, cause_of, explain}
-use Rattle.cause.specs.Laws.{Explains}
+use Rattle.cause.specs.Laws.{Explains, CauseTold}
 
 -- the image check's verdict, whether the state is unfit, and the cause found
 abbrev answer : Verdict → Bool → Caused → CauseOutcome
@@ -44,3 +44,7 @@ module _ (t : List ℕ) (s : State) (w n : ℕ) where
 
   pub answered-count : (explain t s w).reply ≡ success n → n ≡ 0
   answered-count e = (succeeds e).none
+
+pub cause-told : CauseTold
+unfolding CauseTold
+cause-told = answered

@@ -5,6 +5,7 @@ use Rattle.words.specs.bits.Word.{bit}
 use Rattle.text.specs.declared.frames.refusals.TheConstants.{NO_ROW, ROWLESS}
 use Rattle.text.specs.frames.Frame.{contents}
 use Rattle.text.specs.frames.Verdict.{fine}
+use Rattle.text.specs.frames.Answer.{success}
 use Rattle.image.specs.Image.{Image, Row, nth_row}
 use Rattle.image.specs.Decode.{decoded_image}
 use Rattle.image.specs.Check.{image_verdict}
@@ -13,7 +14,7 @@ use Rattle.state.specs.declared.State.{State}
 use Rattle.state.specs.State.{label_at, Sized}
 use Rattle.fitness.specs.Fitness.{is_call, is_unfit}
 use Rattle.ticks.specs.Tick.{choice, MachineTick, finished, stopped, tick, top_of}
-use Rattle.cause.specs.Cause.{Leaving, leaves_label, nothing, leaving, Cause, because, unexplained, cause_of}
+use Rattle.cause.specs.Cause.{Leaving, leaves_label, nothing, leaving, Cause, because, unexplained, cause_of, explain}
 
 -- an accepted image, patched or not, and a state that fits it
 pub record Fitting (text : List ℕ) (s : State) : Type 0 where
@@ -80,3 +81,8 @@ pub record RefusedCause (i : Image) (s : State) (w : ℕ) : Type 0 where
 
 unfoldable pub RefusedExactly : Type 0
 RefusedExactly = (text : List ℕ) (s : State) (w : ℕ) → Fitting text s → RefusedCause (decoded_image (contents text)) s w
+
+-- what success of the entry point says: what is reported is the cause, so that the laws speak of it
+unfoldable pub CauseTold : Type 0
+CauseTold =
+    (t : List ℕ) (s : State) (w n : ℕ) → Sized s → (explain t s w).reply ≡ success n → Explains t s w (explain t s w).cause

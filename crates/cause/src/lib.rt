@@ -2,6 +2,8 @@
 //! `conditions` finds these, `table_causes` tells them of a tick on a prepared table, and `explaining` is the entry point, with refusal 21.
 #![tactic(auto)]
 
+ghost use Rattle.cause.specs.Laws.{SameRow, SameTick, RowTaken, CareNeeded, RefusedExactly, CauseTold};
+
 mod conditions;
 pub mod explaining;
 pub mod table_causes;
@@ -15,3 +17,14 @@ pub struct Cause {
     pub mask: u16,
     pub bit: u8,
 }
+
+/// A cause is exact, on every accepted image and from every state that fits it: it names the row that the tick takes and conditions that
+/// decide it, and it is refused exactly where there is none. What the entry point tells is such a cause.
+pub fn a_cause_is_exact()
+    ensures same_row { SameRow }
+    ensures same_tick { SameTick }
+    ensures row_taken { RowTaken }
+    ensures care_needed { CareNeeded }
+    ensures refused_exactly { RefusedExactly }
+    ensures told { CauseTold }
+{}

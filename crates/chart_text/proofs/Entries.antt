@@ -10,7 +10,7 @@ use Rattle.words.proofs.lists.Written.{written-front}
 use Rattle.text.specs.frames.Frame.{contents, frame_count, size, text_of}
 use Rattle.text.specs.frames.Verdict.{fine, when}
 use Rattle.text.specs.frames.Check.{is_bad_length, text_verdict}
-use Rattle.text.specs.frames.inner.Read.{read_buffer}
+use Rattle.text.specs.frames.Read.{read_buffer}
 use Rattle.text.specs.frames.Answer.{Answer, reply, GivesBuffer, verdict_reply}
 use Rattle.std.proofs.Common.{Ok, Err}
 use Rattle.text.specs.declared.frames.refusals.Refusal.{Refusal}

@@ -10,14 +10,15 @@ use Rattle.text.specs.digits.Digit.{capital}
 use Rattle.text.specs.frames.Frame.{contents, frame_count, size, text_of}
 use Rattle.text.specs.frames.Verdict.{Verdict, fine, next, when}
 use Rattle.text.specs.frames.Check.{is_bad_length, text_verdict}
-use Rattle.text.specs.frames.Answer.{success, buffer_on}
+use Rattle.text.specs.frames.Answer.{buffer_on, buffer_filled_with}
 use Rattle.text.proofs.frames.Verdicts.{next-rest}
 use Rattle.text.proofs.frames.Texts.{length-good}
 use Rattle.text.proofs.frames.Contents.{any-contents-length, text_of-fine, text_of-contents, text_of-capitals, text-back}
-use Rattle.text.proofs.frames.Lent.{buffer_filled_with, lent_fits, Success, lent-told, front}
+use Rattle.text.proofs.frames.Lent.{lent_fits, Success, lent-told, front}
 use Rattle.charts.specs.Chart.{Chart}
 use Rattle.charts.specs.Check.{chart_verdict}
 use Rattle.charts.specs.Entry.{read_verdict, read_chart, write_verdict, write_chart}
+use Rattle.chart_text.specs.RoundTrips.{ReadOfWrite, WriteOfRead, WriteOfCapitals}
 use Rattle.charts.proofs.Accepted.{Accepted, accepted, accepted-records, read-text}
 
 -- ---- accepted records: their text is accepted, is in capitals, and its contents are the records
@@ -65,19 +66,14 @@ module _ (t : List ℕ) (ok : read_verdict t ≡ fine) where
   write_read out = ap₂ (λ (v : Verdict) (x : List ℕ). buffer_on v 1 (λ _. x) out) read-accepted read_back
 
 -- ---- through the buffers
--- n characters were written; given room, the reader turns them into the records again
-pub read-of-write : (c : Chart) → ((k : ℕ) → get_or c k 0 < 256) → (out out' : List ℕ) (n : ℕ)
-    → (write_chart c out).reply ≡ success n → length c ≤ length out'
-    → read_chart (take n (write_chart c out).buffer) out' ≡ buffer_filled_with 10 c out'
+pub read-of-write : ReadOfWrite
 unfolding write_chart
 read-of-write c bytes out out' n e room =
     let s : Success (write_verdict c) 1 (text_of c) out n (write_chart c out) = lent-told (write_verdict c) 1 (λ _. text_of c) out n e in
     let f : take n (write_chart c out).buffer ≡ text_of c = ap (take n) s.buffer ∙ front n (text_of c) out (s.count ∙ omega arith) in
     ap (λ (t : List ℕ). read_chart t out') f ∙ read-written c bytes s.accepted out' ∙ lent_fits 10 (λ _. c) out' room
 
--- n records were read; given room, the writer turns them into the text in capitals
-pub write-of-read : (t out out' : List ℕ) (n : ℕ) → (read_chart t out).reply ≡ success n → length t ≤ length out'
-    → write_chart (take (10 * n) (read_chart t out).buffer) out' ≡ buffer_filled_with 1 (map capital t) out'
+pub write-of-read : WriteOfRead
 unfolding read_chart
 write-of-read t out out' n e room =
     let s : Success (read_verdict t) 10 (contents t) out n (read_chart t out) = lent-told (read_verdict t) 10 (λ _. contents t) out n e in
@@ -87,7 +83,6 @@ write-of-read t out out' n e room =
     ap (λ (c : Chart). write_chart c out') f ∙ write_read t s.accepted out'
     ∙ lent_fits 1 (λ _. map capital t) out' (omega (arith, length-map t capital))
 
--- a text that was in capitals comes back as it was
-pub write-of-capitals : (t out out' : List ℕ) (n : ℕ) → map capital t ≡ t → (read_chart t out).reply ≡ success n → length t ≤ length out'
-    → write_chart (take (10 * n) (read_chart t out).buffer) out' ≡ buffer_filled_with 1 t out'
-write-of-capitals t out out' n same e room = write-of-read t out out' n e room ∙ ap (λ (x : List ℕ). buffer_filled_with 1 x out') same
+pub write-of-capitals : WriteOfCapitals
+write-of-capitals t out out' n same e room =
+    write-of-read t out out' n e room ∙ ap (λ (x : List ℕ). buffer_filled_with 1 x out') same

@@ -4,7 +4,7 @@ use mathlib.Core.Path.{◌≡◌, ap₂}
 use mathlib.Core.List.{List}
 use Rattle.text.specs.frames.Verdict.{Verdict, next}
 use Rattle.text.specs.frames.Answer.{buffer_on}
-use Rattle.text.proofs.frames.Capitals.{ReadAlike}
+use Rattle.text.specs.frames.Alike.{ReadAlike}
 use Rattle.charts.specs.Check.{chart_verdict}
 use Rattle.charts.specs.Entry.{read_verdict, read_chart}
 

@@ -11,10 +11,12 @@ use Rattle.words.proofs.lists.Searches.{some-cons}
 use Rattle.words.specs.lists.Sequences.{some}
 use Rattle.words.specs.graph.Reach.{is_member, is_marked, nodes_joined_from}
 use Rattle.words.proofs.graph.Closure.{joined-below}
-use Rattle.words.proofs.graph.Paths.{Arc, Path, PathFrom, joined-path, path-joined}
+use Rattle.words.specs.graph.Paths.{Arc, Path, PathFrom}
+use Rattle.words.proofs.graph.Paths.{joined-path, path-joined}
 use Rattle.text.specs.frames.Frame.{size}
 use Rattle.charts.specs.Chart.{Chart, kind, scheme, is, begin}
 use Rattle.charts.specs.Check.{arcs, condition_arcs, is_on_circle, is_cut_off}
+use Rattle.charts.specs.Meaning.{ConditionCircle, JoinedNode, CircleMeans, CutOffMeans}
 use Rattle.charts.proofs.Nodes.{member-first}
 
 member-none : (v : ℕ) → is_member v [] ≡ false
@@ -52,12 +54,7 @@ module _ (c : Chart) where
       let i : is c 3 v ≡ true = leaves-condition v u a.leads in
       (eqb-true (kind c v) 3 i, record { start = a.start; end = a.end; leads = ap (is_member u) (sym (condition-arcs v i)) ∙ a.leads })
 
--- ---- 8: an arc of the condition v, and a path of arcs of conditions from its end back to v
-pub record ConditionCircle (c : Chart) (v : ℕ) : Type 0 where
-  pub second : ℕ
-  pub leaves : Arc (size c) (condition_arcs c) v second
-  pub back : Path (size c) (condition_arcs c) second v
-
+-- ---- 8
 pub found-circle : (c : Chart) (v : ℕ) → is_on_circle c v ≡ true → ConditionCircle c v
 found-circle c v e =
     let ahead = nodes_joined_from (size c) (condition_arcs c) (arcs c v) in
@@ -85,11 +82,7 @@ circle-found c v k =
       path = k.back;
     }))
 
--- ---- 9: a path of arcs from the Begin of its scheme
-pub record JoinedNode (c : Chart) (v : ℕ) : Type 0 where
-  pub inside : begin c (scheme c v) < size c
-  pub path : Path (size c) (arcs c) (begin c (scheme c v)) v
-
+-- ---- 9
 pub joined-found : (c : Chart) (v : ℕ) → JoinedNode c v → is_cut_off c v ≡ false
 joined-found c v j =
     let b : ℕ = begin c (scheme c v) in
@@ -105,3 +98,10 @@ found-joined c v e =
       inside = subst (λ (u : ℕ). u < size c) q p.inside;
       path = subst (λ (u : ℕ). Path (size c) (arcs c) u v) q p.path;
     }
+
+-- ---- both ways
+pub circle-means : CircleMeans
+circle-means c v = (found-circle c v, circle-found c v)
+
+pub cut-off-means : CutOffMeans
+cut-off-means c v = (found-joined c v, joined-found c v)

@@ -1,5 +1,6 @@
 pub mod Layout
 pub mod Chart
 pub mod Check
+pub mod Meaning
 pub mod Entry
 pub mod inner

@@ -24,7 +24,8 @@ use Rattle.image.specs.inner.Sound.{SoundRow, SoundImage}
 use Rattle.rows.specs.Rows.{is_match, is_candidate}
 use Rattle.covering.specs.Matched.{hits, is_uneven, is_together}
 use Rattle.covering.specs.inner.Sizes.{is_overlap, has_overlap, words_matched, covered_count, has_gap, is_uneven_by_sizes}
-use Rattle.covering.proofs.Together.{Common, common-together, together-common, together-turned}
+use Rattle.covering.specs.Common.{Common}
+use Rattle.covering.proofs.Together.{common-together, together-common, together-turned}
 use Rattle.covering.proofs.Hits.{even-low, even-of}
 use Rattle.covering.proofs.WordCount.{words_count}
 

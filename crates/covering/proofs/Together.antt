@@ -12,10 +12,14 @@ use borrow.Author.Tests.{eqb-true, eq-eqb, ne_eqb}
 use Rattle.words.proofs.lists.Tests.{no_both, and_l, and_r, and-true, or_cases, or-true-l, or_true_r}
 use Rattle.words.specs.bits.Word.{bit, is_agreeing}
 use Rattle.words.proofs.bits.BitLaws.{bit-and, bit-or, same_bits}
-use Rattle.image.specs.Image.{Image, Row}
+use Rattle.text.specs.frames.Frame.{contents}
+use Rattle.image.specs.Image.{Image, Row, nth_row}
+use Rattle.image.specs.Decode.{decoded_image}
 use Rattle.image.specs.inner.Sound.{SoundRow}
+use Rattle.image.proofs.Accepted.{image-sound}
 use Rattle.rows.specs.Rows.{is_match}
 use Rattle.covering.specs.Matched.{is_together}
+use Rattle.covering.specs.Common.{Common, TogetherCommon, CommonTogether}
 
 -- ---- words above 16 bits
 pub and_low : (w c : ℕ) → c < 65536 → bit_and w c ≡ bit_and (w % 65536) c
@@ -98,13 +102,6 @@ together-turned r s e =
     turned true false false d a₂ d₂ p q e = ap₂ (λ (t u : Bool). t && (false || false || u)) (sym p) (sym q) ∙ e
 
 -- ---- both ways
-pub record Common (r s : Row) : Type 0 where
-  pub word : ℕ
-  pub low : word < 65536
-  pub bit : Bool
-  pub first : is_match word (if bit then 1 else 0) r ≡ true
-  pub second : is_match word (if bit then 1 else 0) s ≡ true
-
 module _ (r s : Row) where
   pub common-together : (w b : ℕ) → r.values < 65536 → s.values < 65536 → is_match w b r ≡ true
       → is_match w b s ≡ true → is_together r s ≡ true
@@ -136,3 +133,14 @@ module _ (r s : Row) where
             (eq-eqb (bit_and w s.care) s.values
             (joined-has-too r.care r.values s.care s.values S.cares S.small S.within q)) t.2;
       }
+
+-- of every accepted image
+pub rows-together-common : TogetherCommon
+rows-together-common t ok j k hj hk e =
+    let i : Image = decoded_image (contents t) in let S = image-sound t ok in
+    together-common (nth_row i j) (nth_row i k) (S.each j hj) (S.each k hk) e
+
+pub rows-common-together : CommonTogether
+rows-common-together t ok j k hj hk w b p q =
+    let i : Image = decoded_image (contents t) in let S = image-sound t ok in
+    common-together (nth_row i j) (nth_row i k) w b (S.each j hj).small (S.each k hk).small p q

@@ -8,6 +8,7 @@ ghost use Rattle.text.specs.declared.frames.sizes.TheConstants.{ROWS};
 ghost use Rattle.text.specs.frames.Frame.{size};
 ghost use Rattle.image.specs.Decode.{decoded_image, row_in_frame};
 ghost use Rattle.covering.specs.Matched.{is_together, is_uneven};
+ghost use Rattle.covering.specs.Common.{TogetherCommon, CommonTogether};
 ghost use Rattle.covering.specs.inner.CoveringContracts.{SoundTable, row_with, is_together_with_some, has_any_together};
 ghost use Rattle.covering.specs.inner.CoveringContracts.{words_with, words_in, has_uneven_rows, is_other};
 
@@ -143,3 +144,9 @@ pub fn is_uneven(table: &[u8]) -> bool
     }
     false
 }
+
+/// That some word and bit match two rows of an accepted image is told by their masks.
+pub fn masks_tell_what_matches_two_rows()
+    ensures together_common { TogetherCommon }
+    ensures common_together { CommonTogether }
+{}

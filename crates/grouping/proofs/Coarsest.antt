@@ -12,14 +12,18 @@ use Rattle.words.specs.lists.Numbers.{any, count}
 use Rattle.words.proofs.lists.Tests.{and_l, split, not-true, bit-low}
 use Rattle.words.proofs.lists.Searches.{any_false, any_none}
 use Rattle.words.proofs.lists.Counts.{count-within}
+use Rattle.text.specs.frames.Frame.{contents}
 use Rattle.image.specs.Image.{Image, nth_row}
+use Rattle.image.specs.Decode.{decoded_image}
 use Rattle.image.specs.inner.Sound.{SoundImage}
+use Rattle.image.proofs.Accepted.{image-sound}
 use Rattle.state.specs.State.{label_at}
 use Rattle.rows.specs.Rows.{is_match, is_candidate}
 use Rattle.covering.specs.Matched.{is_uneven}
 use Rattle.covering.proofs.Hits.{OneRow, one-row}
 use Rattle.grouping.specs.Rule.{Grouping, Meets, is_lowest, groups}
 use Rattle.grouping.specs.Classes.{class_of, is_first, is_staying_with, classes, grouping}
+use Rattle.grouping.specs.Fewest.{GroupsMeet, GroupsCoarsest, GroupsFewest}
 use Rattle.grouping.proofs.Onward.{same-fields, onward_label, onward-inside, low_same, onward-is, the-hit}
 use Rattle.grouping.proofs.Rounds.{has_same_fields_at, first_alike, class_same, stays-made, stays-alike, rounds, group-round, group-leads}
 
@@ -126,3 +130,14 @@ module _ (i : Image) (S : SoundImage i) (even : is_uneven i ≡ false) where
 
   pub even-fewest : (g : Grouping) → Meets i g → groups (class_of (grouping i)) (length i.labels) ≤ groups g (length i.labels)
   even-fewest = fewest i S (one-row i S even)
+
+-- ---- of every such text
+pub groups-meet : GroupsMeet
+groups-meet t ok even = even-meets (decoded_image (contents t)) (image-sound t ok) even
+
+pub groups-coarsest : GroupsCoarsest
+groups-coarsest t ok even g M l m hl hm e =
+    let i : Image = decoded_image (contents t) in let S = image-sound t ok in within-grouping i S (one-row i S even) g M l m hl hm e
+
+pub groups-fewest : GroupsFewest
+groups-fewest t ok even g M = even-fewest (decoded_image (contents t)) (image-sound t ok) even g M

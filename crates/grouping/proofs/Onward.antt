@@ -17,7 +17,8 @@ use Rattle.state.specs.State.{label_at}
 use Rattle.rows.specs.Rows.{is_match, is_candidate, best_row, found, lead_of}
 use Rattle.covering.specs.Matched.{is_together}
 use Rattle.grouping.specs.Classes.{has_same_fields, class_of, is_parting, is_parted}
-use Rattle.covering.proofs.Together.{Common, common-together, together-common}
+use Rattle.covering.specs.Common.{Common}
+use Rattle.covering.proofs.Together.{common-together, together-common}
 use Rattle.covering.proofs.Hits.{Hit, OneRow, only_row, the-place, hit-is, the_row}
 
 -- ---- lists

@@ -4,6 +4,8 @@
 //! look at.
 #![tactic(auto)]
 
+ghost use Rattle.grouping.specs.Fewest.{GroupsMeet, GroupsCoarsest, GroupsFewest};
+
 pub mod class_changes;
 pub mod class_rounds;
 pub mod first_classes;
@@ -12,3 +14,11 @@ pub mod marking;
 pub mod next_classes;
 pub mod parting;
 pub mod refining;
+
+/// The groups meet the rule, every grouping that meets it is within them, and none has fewer groups: of every accepted image that 23 does
+/// not refuse.
+pub fn groups_are_the_fewest()
+    ensures meet { GroupsMeet }
+    ensures coarsest { GroupsCoarsest }
+    ensures fewest { GroupsFewest }
+{}

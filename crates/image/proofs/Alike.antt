@@ -3,7 +3,7 @@ use Prim.Native.Nat.{ℕ}
 use mathlib.Core.Path.{◌≡◌, ap₂}
 use mathlib.Core.List.{List}
 use Rattle.text.specs.frames.Verdict.{Verdict, next}
-use Rattle.text.proofs.frames.Capitals.{ReadAlike}
+use Rattle.text.specs.frames.Alike.{ReadAlike}
 use Rattle.image.specs.Check.{table_verdict, image_verdict}
 
 pub image-verdict : (t u : List ℕ) → ReadAlike t u → image_verdict t ≡ image_verdict u

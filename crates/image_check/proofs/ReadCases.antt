@@ -8,7 +8,7 @@ use lib.Seq.{take_at}
 use Rattle.text.specs.frames.Frame.{size, frame_count, contents}
 use Rattle.text.specs.frames.Verdict.{fine}
 use Rattle.text.specs.frames.Check.{text_verdict}
-use Rattle.text.specs.frames.inner.Read.{read_buffer}
+use Rattle.text.specs.frames.Read.{read_buffer}
 use Rattle.text.specs.frames.Answer.{Answer, reply, verdict_reply}
 use Rattle.std.proofs.Common.{Ok, Err}
 use Rattle.text.specs.declared.frames.refusals.Refusal.{Refusal}

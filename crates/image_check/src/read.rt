@@ -1,7 +1,7 @@
 // An image's text: read and checked, refusals 1 to 3 and 11 to 13.
 ghost use Rattle.std.specs.Prelude.{◌≡◌, ◌≤◌, length};
 ghost use Rattle.text.specs.frames.Answer.{reply, verdict_reply};
-ghost use Rattle.text.specs.frames.inner.Read.{read_buffer};
+ghost use Rattle.text.specs.frames.Read.{read_buffer};
 ghost use Rattle.image.specs.Check.{image_verdict};
 
 use crate::check::check_table;

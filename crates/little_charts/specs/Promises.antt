@@ -41,3 +41,13 @@ InOrder = (n i j : ℕ) → 2 ≤ n → n ≤ 4 → i < j → j < little_total n
 
 unfoldable pub EachOnce : Type 0
 EachOnce = (n i j : ℕ) → 2 ≤ n → n ≤ 4 → i < little_total n → j < little_total n → little_text n i ≡ little_text n j → i ≡ j
+
+-- a little chart of fewer frames has the shorter text
+unfoldable pub ShorterFirst : Type 0
+ShorterFirst =
+    (m n j k : ℕ) → 2 ≤ m → n ≤ 4 → m < n → j < little_total m → k < little_total n
+    → length (little_text m j) < length (little_text n k)
+
+-- how many there are
+abbrev pub Totals : Type 0
+Totals = (little_total 2 ≡ 2) × (little_total 3 ≡ 18) × (little_total 4 ≡ 648)

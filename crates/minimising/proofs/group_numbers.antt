@@ -1,4 +1,5 @@
 pub mod Numbering
 pub mod Led
+pub mod Renumbered
 pub mod NumberCases
 pub mod GroupCases

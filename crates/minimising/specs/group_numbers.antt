@@ -1,2 +1,3 @@
 pub mod Smaller
+pub mod Renumbered
 pub mod inner

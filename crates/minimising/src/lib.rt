@@ -5,6 +5,7 @@
 
 ghost use Rattle.text.specs.frames.Answer.{GivesBuffer};
 ghost use Rattle.minimising.specs.Entry.{minimise};
+ghost use Rattle.minimising.specs.group_numbers.Renumbered.{FirstNumbered, EntriesLed, RowsLed};
 
 pub mod group_frames;
 pub mod group_image;
@@ -27,3 +28,10 @@ pub fn minimise(image: &[u8], out: &mut [u8]) -> Result<usize, Refusal>
     let n = FRAME * (image.len() / LINE);
     minimise_table(&table[..n], out)
 }
+
+/// Groups are numbered in order of their lowest members, and entries and rows lead to the new labels.
+pub fn groups_are_renumbered_in_order()
+    ensures first_numbered { FirstNumbered }
+    ensures entries_led { EntriesLed }
+    ensures rows_led { RowsLed }
+{}

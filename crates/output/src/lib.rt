@@ -2,7 +2,17 @@
 //! lines put into a buffer (`output_lines`), and each program between its input and its output (`translate_output`, `run_output`).
 #![tactic(auto)]
 
+ghost use Rattle.output.specs.Readings.{TranslateFront, RunFront, TranslateCapitals, RunCapitals};
+
 pub mod output_lines;
 pub mod printing;
 pub mod run_output;
 pub mod translate_output;
+
+/// What the programs print goes by no more than one character past the longest text, and by no letter's size.
+pub fn programs_print_by_what_is_read()
+    ensures translate_front { TranslateFront }
+    ensures run_front { RunFront }
+    ensures translate_capitals { TranslateCapitals }
+    ensures run_capitals { RunCapitals }
+{}

@@ -4,7 +4,7 @@ use mathlib.Core.Path.{◌≡◌, ap₂}
 use mathlib.Core.List.{List}
 use Rattle.text.specs.frames.Verdict.{Verdict, next, when}
 use Rattle.text.specs.frames.Answer.{verdict_reply}
-use Rattle.text.proofs.frames.Capitals.{ReadAlike}
+use Rattle.text.specs.frames.Alike.{ReadAlike}
 use Rattle.places.specs.chains.Calls.{is_circular, places}
 use Rattle.translator.proofs.Alike.{translate-verdict}
 use Rattle.places.specs.Entry.{places_verdict, places_needed}

@@ -15,3 +15,6 @@ pub record Reported (text : List ℕ) : Type 0 where
   pub few : (n : ℕ) → places_needed text ≡ success n → (1 ≤ n) × (n ≤ SCHEMES)
   pub circle : places_needed text ≡ refusal CALLS_ITSELF 0 0 → Circle (contents text)
   pub refused : translate_verdict text ≡ fine → Circle (contents text) → places_needed text ≡ refusal CALLS_ITSELF 0 0
+
+abbrev pub AlwaysReported : Type 0
+AlwaysReported = (text : List ℕ) → Reported text

@@ -1,1 +1,2 @@
 pub mod Rebind
+pub mod Laws

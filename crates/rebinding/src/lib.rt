@@ -2,9 +2,18 @@
 //! (`by_value`) or in the bytes of a state (`in_place`), on an image or live on a prepared table.
 #![tactic(auto)]
 
+ghost use Rattle.rebinding.specs.Laws.{LiveRebindIs, RebindFits};
+
 mod by_value;
 mod in_place;
 pub mod rebindable;
 
 pub use by_value::{live_rebind, rebind};
 pub use in_place::{live_rebind_bytes, rebind_bytes};
+
+/// A live rebinding on a prepared table is the rebinding on the image that it was prepared from, and a rebinding leaves a fitting state
+/// fitting, on every accepted image.
+pub fn rebindings_keep_a_state_fitting_live_too()
+    ensures live { LiveRebindIs }
+    ensures fits { RebindFits }
+{}

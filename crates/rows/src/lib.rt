@@ -6,6 +6,8 @@
 ghost use Rattle.std.specs.Prelude.{◌≡◌, ◌<◌};
 ghost use Rattle.text.specs.frames.Frame.{size};
 ghost use Rattle.image.specs.Decode.{scheme_count};
+ghost use Rattle.rows.specs.Choices.{ChosenIsBest, BestIsChosen, BestOnce, NoneMatches, NoneChosen};
+ghost use Rattle.rows.specs.listing.Exact.{Exactly, EmptyZero, LowZero, HeldOnSuccess, ListedFrames};
 ghost use Rattle.rows.specs.inner.Search.{swapped_word, is_matching_frame, BetterOf, Chosen, Deciding};
 
 pub mod image_rows;
@@ -83,3 +85,22 @@ pub fn compare_rows(table: &[u8], schemes: u8, l: usize, word: u16, bit: u8) -> 
     }
     NO_FRAME
 }
+
+/// The row chosen among those of a label is the best-tested of those that match, of equals the later, and none where none matches.
+pub fn the_best_tested_row_is_chosen()
+    ensures chosen_is_best { ChosenIsBest }
+    ensures best_is_chosen { BestIsChosen }
+    ensures best_once { BestOnce }
+    ensures none_matches { NoneMatches }
+    ensures none_chosen { NoneChosen }
+{}
+
+/// A listing is exact, of every accepted image: the rows of each label and no others, 0 and 0 where there are none, in the buffers too and
+/// by the frames that ticks look at.
+pub fn a_listing_is_exact()
+    ensures exactly { Exactly }
+    ensures empty_zero { EmptyZero }
+    ensures low_zero { LowZero }
+    ensures held { HeldOnSuccess }
+    ensures listed_frames { ListedFrames }
+{}

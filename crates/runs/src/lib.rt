@@ -3,6 +3,8 @@
 //! by value, and `kept_states` a tick on a state behind a reference.
 #![tactic(auto)]
 
+ghost use Rattle.runs.specs.machine.Prepared.{LiveRunIs, LiveTickIs};
+
 pub mod kept_states;
 pub mod machine;
 mod runs;
@@ -24,3 +26,9 @@ pub struct Tick {
     pub mask: u32,
     pub code: u8,
 }
+
+/// A live run and a live tick on a prepared table are the run and the tick on the image that it was prepared from, for every state and word.
+pub fn live_calls_are_those_on_the_image()
+    ensures run { LiveRunIs }
+    ensures tick { LiveTickIs }
+{}

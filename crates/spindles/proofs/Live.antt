@@ -6,7 +6,8 @@ use mathlib.Core.List.{List}
 use Rattle.text.specs.frames.Verdict.{Verdict, when}
 use Rattle.state.specs.declared.State.{State}
 use Rattle.runs.specs.TickOutcome.{TickOutcome, image_tick}
-use Rattle.runs.proofs.machine.Live.{PreparedTable, live-tick-is}
+use Rattle.runs.specs.machine.Prepared.{PreparedTable}
+use Rattle.runs.proofs.machine.Live.{live-tick-is}
 use Rattle.spindles.specs.Spindles.{state_at, head_verdict, outcome_spun_on, spin, live_spin}
 
 module _ {t b : List ℕ} (p : PreparedTable t b) where

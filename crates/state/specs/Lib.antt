@@ -1,3 +1,4 @@
 pub mod State
 pub mod Bytes
+pub mod BytesBack
 pub mod Changes

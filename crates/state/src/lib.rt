@@ -4,6 +4,7 @@
 #![tactic(auto)]
 
 ghost use Rattle.std.specs.Prelude.{◌≡◌, ◌<◌, length, set};
+ghost use Rattle.state.specs.BytesBack.{StateBack, FreshBack};
 
 use crate::layout::PLACES;
 use text::frames::sizes::SCHEMES;
@@ -55,3 +56,9 @@ pub fn put_byte(bytes: &mut [u8], at: usize, value: u8)
 {
     bytes[at] = value;
 }
+
+/// A state that was written as bytes is read back as itself, a fresh one too.
+pub fn a_written_state_is_read_back()
+    ensures state { StateBack }
+    ensures fresh { FreshBack }
+{}

@@ -11,7 +11,7 @@ use Rattle.text.specs.frames.Frame.{frame_count, contents}
 use Rattle.text.specs.frames.Verdict.{fine, refused}
 use Rattle.text.specs.frames.Answer.{Answer, reply, verdict_reply, GivesBuffer}
 use Rattle.text.specs.frames.Check.{text_verdict}
-use Rattle.text.specs.frames.inner.Read.{read_buffer}
+use Rattle.text.specs.frames.Read.{read_buffer}
 use Rattle.std.proofs.Common.{Ok, Err}
 use Rattle.text.specs.declared.frames.refusals.Refusal.{Refusal}
 use Rattle.text.specs.declared.frames.refusals.Refusal.TheVariants.{NoRoom}

@@ -29,6 +29,7 @@ use Rattle.image.proofs.Accepted.{label-read, row_read, labels-count, entries-co
 use Rattle.image.proofs.Accepted.{counted, accepted-sound, image-bytes, image-table}
 use Rattle.tables.specs.Prepare.{first_frame, noted_table, prepare}
 use Rattle.tables.specs.Table.{table_end, is_bad_table, label_on, table_label, first_on, end_on, row_on, rows_on, table_image}
+use Rattle.tables.specs.Prepared.{PreparedEntry, PreparedOnSuccess}
 use Rattle.tables.specs.inner.Asked.{Whole}
 use Rattle.tables.proofs.RangeLaws.{map-alike, map-moved, ranges-join}
 use Rattle.tables.proofs.Front.{handler-alike, counts-alike, alike-image, counts_same, bad-handler-same, end_same}
@@ -209,13 +210,6 @@ module _ (b : List ℕ) (ok : table_verdict b ≡ fine) where
         λ j. record { handler = noted-handler b j; entries = e j; labels = l j; rows = r j }
 
 -- ---- over the entry: what it wrote, with anything behind it
-pub record PreparedEntry (t old : List ℕ) (n : ℕ) : Type 0 where
-  pub accepted : image_verdict t ≡ fine
-  pub count : n ≡ length (contents t)
-  pub room : n ≤ length old
-  pub good : (m : ℕ) → n ≤ m → is_bad_table (take m (prepare t old).buffer) ≡ false
-  pub image : (m : ℕ) → n ≤ m → table_image (take m (prepare t old).buffer) ≡ decoded_image (contents t)
-
 module _ (t old : List ℕ) (n : ℕ) (e : (prepare t old).reply ≡ success n) where
   abbrev b : List ℕ
   b = contents t
@@ -273,3 +267,6 @@ module _ (t old : List ℕ) (n : ℕ) (e : (prepare t old).reply ≡ success n) 
     good = taken-good;
     image = taken-image;
   }
+
+pub prepared-on-success : PreparedOnSuccess
+prepared-on-success = prepared

@@ -1,3 +1,4 @@
 pub mod Prepare
 pub mod Table
+pub mod Prepared
 pub mod inner

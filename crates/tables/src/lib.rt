@@ -2,6 +2,8 @@
 //! `header` tries 11 of any bytes as a table, `labels` reads entries and labels of it, and `row_ranges` tells where a label's rows stand.
 #![tactic(auto)]
 
+ghost use Rattle.tables.specs.Prepared.{PreparedOnSuccess};
+
 mod header;
 mod labels;
 pub mod preparing;
@@ -21,3 +23,8 @@ pub struct Label {
     pub result: u8,
     pub mask: u32,
 }
+
+/// A prepared table, also with bytes behind it, holds the image that it was prepared from, and is not refused.
+pub fn a_prepared_table_holds_its_image()
+    ensures on_success { PreparedOnSuccess }
+{}

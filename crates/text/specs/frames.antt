@@ -4,4 +4,5 @@ pub mod Verdict
 pub mod Check
 pub mod Refusal
 pub mod Answer
-pub mod inner
+pub mod Read
+pub mod Alike

@@ -3,7 +3,7 @@ ghost use Rattle.std.specs.Prelude.{◌≡◌, ◌*◌, ◌≤◌, length};
 ghost use Rattle.text.specs.declared.frames.sizes.TheConstants.{FRAME};
 ghost use Rattle.text.specs.frames.Frame.{frame_count};
 ghost use Rattle.text.specs.frames.Check.{text_verdict};
-ghost use Rattle.text.specs.frames.inner.Read.{read_buffer};
+ghost use Rattle.text.specs.frames.Read.{read_buffer};
 ghost use Rattle.text.specs.frames.Answer.{reply, verdict_reply};
 ghost use Rattle.text.specs.reading.inner.Reads.{FramesRead};
 

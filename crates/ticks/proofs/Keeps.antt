@@ -27,6 +27,7 @@ use Rattle.state.specs.State.{fresh, label_at, entry_at, place_at, number_at, se
 use Rattle.state.specs.Changes.{with_place, with_bits}
 use Rattle.fitness.specs.Fitness.{is_call, is_callable, is_of_handler, is_badly_served, is_unfit}
 use Rattle.fitness.proofs.Fitness.{Fits, fits, unfits, callable-range, range-callable, called-served}
+use Rattle.ticks.specs.Functions.{FreshFits, TickFits}
 use Rattle.ticks.specs.Tick.{row_leads, MachineTick, finished, stopped, moved_tick, popped_state, state_alone, full_tick, pushed_tick}
 use Rattle.ticks.specs.Tick.{popped_tick, tick_by, tick}
 use Rattle.ticks.proofs.Leads.{Sort, home_sort, return_sort, numbered_sort, sort, row-leads}
@@ -196,3 +197,12 @@ module _ (text : List ℕ) (passes : image_verdict text ≡ fine) (s : State) (s
   pub tick-fits : (w m code : ℕ) (t : State) → tick image s w ≡ finished m code t → is_unfit image t ≡ false
   tick-fits w m code t e = fits image t
       (subst (Keeps image (image-sound text passes)) e (tick-keeps image (image-sound text passes) s (unfits image s sized fit) w))
+
+pub fresh-fitting : FreshFits
+unfolding FreshFits
+fresh-fitting text passes n l h =
+    let i : Image = decoded_image (contents text) in fits i (fresh n) (fresh-fits i (image-sound text passes) n l h)
+
+pub tick-fitting : TickFits
+unfolding TickFits
+tick-fitting text passes s sized fit = tick-fits text passes s sized fit

@@ -12,7 +12,7 @@ use Rattle.image.specs.Decode.{decoded_image}
 use Rattle.image.specs.Check.{image_verdict}
 use Rattle.rows.specs.Rows.{best_row, Found, lead_of}
 use Rattle.state.specs.declared.State.{State}
-use Rattle.state.specs.State.{bottom_alone, label_at, entry_at, number_at, Sized}
+use Rattle.state.specs.State.{fresh, bottom_alone, label_at, entry_at, number_at, Sized}
 use Rattle.state.specs.Changes.{with_serving}
 use Rattle.fitness.specs.Fitness.{is_call, is_unfit}
 use Rattle.ticks.specs.Tick.{MachineTick, finished, moved_tick, popped_state, tick, top_of}
@@ -78,3 +78,15 @@ ZeroRow =
     → (w m code : ℕ) (t u : State) → tick i s w ≡ finished m code t → is_at_full_call i s ≡ false
     → MachineUnwritten i x.called (suc s.depth) t u
     → is_return_at i (suc s.depth) u ≡ true → (v : ℕ) → tick i u v ≡ return_tick u (lead_of (best_row (top_of s) v 0 0 i.rows))
+
+-- on every accepted image, whatever its rows: a fresh state fits, and a finished tick, a drop and a handler's return too, leaves a fitting
+-- state fitting
+unfoldable pub FreshFits : Type 0
+FreshFits =
+    (text : List ℕ) → image_verdict text ≡ fine → (n : ℕ) → 1 ≤ n → n ≤ 32 → is_unfit (decoded_image (contents text)) (fresh n) ≡ false
+
+unfoldable pub TickFits : Type 0
+TickFits =
+    (text : List ℕ) → image_verdict text ≡ fine → (s : State) → Sized s
+    → let image = decoded_image (contents text) in is_unfit image s ≡ false
+    → (w m code : ℕ) (t : State) → tick image s w ≡ finished m code t → is_unfit image t ≡ false

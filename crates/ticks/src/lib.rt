@@ -6,6 +6,8 @@
 ghost use Rattle.std.specs.Prelude.{◌≡◌};
 ghost use Rattle.state.specs.Bytes.{state_of};
 ghost use Rattle.ticks.specs.Tick.{stopped};
+ghost use Rattle.ticks.specs.Functions.{CallClears, Drops, ZeroRow, FreshFits, TickFits};
+ghost use Rattle.ticks.specs.codes.CodesApart.{CodeMeans, CodesApart, DropMeans, DropApart, KindBack, MeaningCoded};
 ghost use Rattle.ticks.specs.inner.TickContracts.{bit_of, end_of_tick};
 
 pub mod calls;
@@ -54,3 +56,27 @@ pub fn no_row() -> TickEnd
         code: 0,
     }
 }
+
+/// A call clears the bit of the number called and a drop that of the handler alone, and a function takes its row for bit 0 where nothing
+/// wrote 1 between its call and its return.
+pub fn calls_clear_result_bits()
+    ensures call_clears { CallClears }
+    ensures drops { Drops }
+    ensures zero_row { ZeroRow }
+{}
+
+/// A fresh state fits every accepted image, and every finished tick leaves a fitting state fitting.
+pub fn ticks_keep_a_state_fitting()
+    ensures fresh { FreshFits }
+    ensures tick { TickFits }
+{}
+
+/// Tick codes stand for their ticks: no two ticks share a code.
+pub fn no_two_ticks_share_a_code()
+    ensures code_means { CodeMeans }
+    ensures codes_apart { CodesApart }
+    ensures drop_means { DropMeans }
+    ensures drop_apart { DropApart }
+    ensures kind_back { KindBack }
+    ensures meaning_coded { MeaningCoded }
+{}

@@ -6,7 +6,7 @@ use lib.Dec.{ltb}
 use lib.ListN.{length}
 use Rattle.text.specs.frames.Verdict.{Verdict, next, when}
 use Rattle.text.specs.frames.Answer.{buffer_on}
-use Rattle.text.proofs.frames.Capitals.{ReadAlike}
+use Rattle.text.specs.frames.Alike.{ReadAlike}
 use Rattle.charts.proofs.Alike.{read-verdict}
 use Rattle.image.specs.Image.{image_text}
 use Rattle.chart_rows.specs.Rows.{rows}

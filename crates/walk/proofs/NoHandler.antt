@@ -7,17 +7,15 @@ use mathlib.Core.List.{List, [], ◌∷◌, ◌++◌}
 use lib.ListN.{length}
 use native.Mathlib.Omega.{arith}
 use Rattle.results.specs.Results.{Results, no_results, result_of, with_result, cleared_results}
-use Rattle.bindings.specs.Binding.{own_binding}
 use Rattle.text.specs.frames.Frame.{contents}
-use Rattle.text.specs.frames.Verdict.{fine}
-use Rattle.charts.specs.Entry.{read_verdict}
 use Rattle.charts.specs.Chart.{Chart, scheme, argument, next0, next1, result, mask, handler, end}
 use Rattle.walk.specs.Stops.{start, Stop, plain, call, function, test, home, back, stop_at}
-use Rattle.walk.specs.Walk.{Signal, signals, OpenScheme, Tick, one_tick, SchemeCall, call_by_operation, call_by_function, is_dropping, walk}
+use Rattle.walk.specs.Walk.{Signal, OpenScheme, Tick, one_tick, SchemeCall, call_by_operation, call_by_function, is_dropping}
 use Rattle.walk.specs.Unswapped.{open_at, Course, spent, ended, course_after}
 use Rattle.walk.specs.Unswapped.{Performer, resumed_course, call_course, stop_course, scheme_course, ticks_after_course, walk_from}
 use Rattle.walk.specs.Unswapped.{walk as unswapped_walk}
 use Rattle.walk.specs.Unbounded as unbounded
+use Rattle.walk.specs.Simpler.{NoHandler, AnyPlaces}
 use Rattle.walk.proofs.Facts.{StopOf, Facts}
 use Rattle.walk.proofs.FactsHold.{facts}
 use Rattle.walk.proofs.Views.{View, a-plain, a_call, a-function, a-home, a_back, a-begin, a-condition, view}
@@ -42,7 +40,7 @@ any-trace c h n m (w ∷ ws) x =
     ap (λ (d : Bool). stop_tick d o x.now s ∷ trace n c ws (position_moved c d x.now x.callers w x.results x.first s)) e
     ∙ ap (λ (ts : List Tick). tick_at m c x ∷ ts) (any-trace c h n m ws (move m c w x))
 
-pub any-places : (c : Chart) → handler c ≡ 0 → (n m : ℕ) (ws : List Signal) → walk n c ws ≡ walk m c ws
+pub any-places : AnyPlaces
 any-places c h n m ws = walk-trace n c ws ∙ any-trace c h n m ws (position_at_home c no_results) ∙ sym (walk-trace m c ws)
 
 -- ---- where no call drops, both perform alike
@@ -164,6 +162,5 @@ module _ (c : Chart) (facts : Facts c) where
       (endless k x (w ∷ ws) no_results (home-stop c facts))
 
 -- ---- of every text that the reader accepts
-pub no-handler : (text : List ℕ) → read_verdict text ≡ fine → let c = contents text in handler c ≡ 0
-    → (n : ℕ) (ws : List ℕ) → walk n c (signals own_binding ws) ≡ unbounded.walk c ws
+pub no-handler : NoHandler
 no-handler text ok h n ws = own-binding text ok n ws ∙ alike-walks (contents text) (facts text ok) h n ws

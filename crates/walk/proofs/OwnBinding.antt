@@ -10,14 +10,13 @@ use Rattle.words.proofs.lists.Ranges.{get_or-range}
 use Rattle.results.specs.Results.{Results, no_results, result_of, cleared_results}
 use Rattle.bindings.specs.Binding.{own_binding, server_of}
 use Rattle.text.specs.frames.Frame.{contents}
-use Rattle.text.specs.frames.Verdict.{fine}
-use Rattle.charts.specs.Entry.{read_verdict}
 use Rattle.charts.specs.Chart.{Chart, scheme, argument, handler, schemes, end}
 use Rattle.walk.specs.Stops.{start, Stop}
 use Rattle.walk.specs.Walk.{Signal, signals, OpenScheme, open_at_stop, Tick, Course, spent, ended, dropped, course_after, SchemeCall}
 use Rattle.walk.specs.Walk.{Performer, resumed_course, opened_scheme, call_course, stop_course, scheme_course}
 use Rattle.walk.specs.Walk.{is_dropping, bottom, ticks_after_course, walk_from, walk}
 use Rattle.walk.specs.Unswapped as unswapped
+use Rattle.walk.specs.Simpler.{OwnBinding}
 use Rattle.walk.proofs.Facts.{StopOf, Facts}
 use Rattle.walk.proofs.FactsHold.{facts}
 use Rattle.walk.proofs.Views.{View, a-plain, a_call, a-function, a-home, a_back, a-begin, a-condition, view}
@@ -146,8 +145,7 @@ module _ (c : Chart) where
             ap (λ (xs : List Tick). ts ++ xs) (ih true (start c (handler c)) us d (facts.starts (handler c) (omega (arith, l)) l.1))
 
 -- ---- of every text that the reader accepts
-pub own-binding : (text : List ℕ) → read_verdict text ≡ fine → let c = contents text in
-    (n : ℕ) (ws : List ℕ) → walk n c (signals own_binding ws) ≡ unswapped.walk n c ws
+pub own-binding : OwnBinding
 unfolding walk unswapped.walk
 own-binding text ok n ws =
     let c : Chart = contents text in let f : Facts c = facts text ok in

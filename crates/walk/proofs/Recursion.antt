@@ -15,7 +15,8 @@ use Rattle.walk.specs.Walk.{Signal, OpenScheme, open_at_stop, Tick, one_tick, Co
 use Rattle.walk.specs.Walk.{Performer, resumed_course, opened_scheme, call_course, stop_course, scheme_course, is_dropping}
 use Rattle.walk.specs.Walk.{bottom, ticks_after_course, walk_from, walk}
 use Rattle.walk.proofs.Trace.{Open, opens, moved_to, at, tick_of, stop_tick, node_resumed, resumed, position_returned}
-use Rattle.walk.proofs.Trace.{position_handling, position_called, position_moved, trace, position_at_home}
+use Rattle.walk.specs.Simpler.{TickAWord}
+use Rattle.walk.proofs.Trace.{position_handling, position_called, position_moved, trace, position_at_home, trace-length}
 use Rattle.text.specs.declared.frames.codes.TheConstants.{HOME_CODE, PLAIN_CODE}
 use Rattle.walk.specs.Stops.{by_arc, by_word}
 
@@ -172,3 +173,7 @@ module _ (n : ℕ) (c : Chart) where
   pub walk-trace : (ws : List Signal) → walk n c ws ≡ trace n c ws (position_at_home c no_results)
   unfolding walk
   walk-trace ws = walk-from (length ws) false (end c 1) ws no_results (omega arith)
+
+-- so each word makes one tick
+pub tick-a-word : TickAWord
+tick-a-word n c ws = ap (λ (ts : List Tick). length ts) (walk-trace n c ws) ∙ trace-length n c ws (position_at_home c no_results)

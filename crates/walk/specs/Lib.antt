@@ -3,3 +3,4 @@ pub mod Walk
 pub mod Functions
 pub mod Unbounded
 pub mod Unswapped
+pub mod Simpler

@@ -15,13 +15,14 @@ use Rattle.words.proofs.lists.Tests.{no_both, split, or_cases, or-none, or-true-
 use Rattle.words.proofs.lists.Searches.{any_some, any-true, any_false, some-cons}
 use Rattle.words.specs.lists.Sequences.{some}
 use Rattle.words.specs.graph.Reach.{is_member}
-use Rattle.words.proofs.graph.Paths.{Arc, Path, here, on}
+use Rattle.words.specs.graph.Paths.{Arc, Path, here, on}
 use Rattle.text.specs.frames.Frame.{size}
 use Rattle.charts.specs.Chart.{Chart, kind, scheme, next0, next1, is, begin, end}
 use Rattle.charts.specs.Check.{arcs, is_on_circle}
 use Rattle.charts.proofs.Accepted.{SoundChart}
 use Rattle.charts.proofs.Nodes.{TheNode, arc-end, begins, ends, arcs-end, arcs-one, arcs-condition, in-arcs0, in-arcs1, schemes-first}
-use Rattle.charts.proofs.Meaning.{member-only, ConditionCircle, circle-found, condition-arc, found-joined}
+use Rattle.charts.specs.Meaning.{ConditionCircle}
+use Rattle.charts.proofs.Meaning.{member-only, circle-found, condition-arc, found-joined}
 use Rattle.little_charts.specs.little_search.inner.Search.{has_kind, has_arc_to, is_clash, is_barred_node, is_lonely, missing_ends}
 
 some-none : (f : ℕ → Bool) → some f [] ≡ false

@@ -7,7 +7,7 @@ use Rattle.text.specs.frames.Frame.{contents, text_of}
 use Rattle.text.proofs.frames.Contents.{any-contents-length}
 use Rattle.text.proofs.frames.TextLoops.{length-text}
 use Rattle.little_charts.specs.Little.{little_text}
-use Rattle.little_charts.specs.Promises.{little_total, Wanted, AllWanted}
+use Rattle.little_charts.specs.Promises.{little_total, Wanted, AllWanted, ShorterFirst}
 use Rattle.little_charts.proofs.Listing.{all_wanted}
 
 module _ (n k : ℕ) (low : 2 ≤ n) (high : n ≤ 4) (inside : k < little_total n) where
@@ -22,7 +22,7 @@ module _ (n k : ℕ) (low : 2 ≤ n) (high : n ≤ 4) (inside : k < little_total
       any-contents-length (little_text n k) ∙ ap (λ (m : ℕ). 10 * m) w.0.frames in
       ap length (sym w.1) ∙ length-text (contents (little_text n k)) ∙ omega (arith, c)
 
-pub shorter-first : (m n j k : ℕ) → 2 ≤ m → n ≤ 4 → m < n → j < little_total m → k < little_total n
-    → length (little_text m j) < length (little_text n k)
+pub shorter-first : ShorterFirst
+unfolding ShorterFirst
 shorter-first m n j k low high less a b =
     omega (arith, text-long m j low (omega arith) a, text-long n k (omega arith) high b)

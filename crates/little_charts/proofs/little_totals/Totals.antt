@@ -9,7 +9,7 @@ use Rattle.words.specs.graph.Reach.{reach}
 use Rattle.charts.specs.Chart.{node_of}
 use Rattle.charts.specs.Check.{has_bad_field, chart_verdict}
 use Rattle.little_charts.specs.Little.{begin_node, end_node, operation_node, condition_node, little_charts}
-use Rattle.little_charts.specs.Promises.{little_total}
+use Rattle.little_charts.specs.Promises.{little_total, Totals}
 use Rattle.little_charts.specs.little_search.inner.Search.{node_at, is_barred_node, searched_charts}
 use Rattle.little_charts.proofs.little_search.Same.{search-lists}
 use Rattle.little_charts.specs.little_totals.inner.Samples.{Samples, samples}
@@ -47,3 +47,6 @@ samples-four = sym (ap (samples 324 647) (search-lists 4 (omega arith) (omega ar
 pub total-four : little_total 4 ≡ 648
 unfolding samples
 total-four = ap (λ (s : Samples). s.count) samples-four
+
+pub totals : Totals
+totals = (total-two, total-three, total-four)

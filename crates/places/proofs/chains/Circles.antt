@@ -9,7 +9,8 @@ use Rattle.words.proofs.lists.Tests.{and_l, and_r, and-true, cases}
 use Rattle.words.proofs.lists.Searches.{any-true, any_some, any_none}
 use Rattle.words.specs.graph.Reach.{is_marked, nodes_joined_from}
 use Rattle.words.proofs.graph.Closure.{joined-first, joined-closed}
-use Rattle.words.proofs.graph.Paths.{Path, here, on as further, PathFrom, joined-path}
+use Rattle.words.specs.graph.Paths.{Path, here, on as further, PathFrom}
+use Rattle.words.proofs.graph.Paths.{joined-path}
 use Rattle.charts.specs.Chart.{Chart}
 use Rattle.walk.proofs.Facts.{Facts}
 use Rattle.places.specs.chains.Calls.{calls_of, is_calling_itself, is_circular, ends_of, has_no_end}

@@ -3,7 +3,7 @@ use Prim.Native.Nat.{ℕ, ◌+◌}
 use mathlib.Core.Path.{◌≡◌, ap₂}
 use mathlib.Core.List.{List}
 use Rattle.text.specs.frames.Verdict.{Verdict, next, when}
-use Rattle.text.proofs.frames.Capitals.{ReadAlike}
+use Rattle.text.specs.frames.Alike.{ReadAlike}
 use Rattle.image.specs.Decode.{last_label, decoded_image}
 use Rattle.image.proofs.Alike.{image-verdict}
 use Rattle.rows.specs.listing.Listing.{listing_on, has_no_room_for, list}

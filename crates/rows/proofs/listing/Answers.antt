@@ -17,7 +17,7 @@ use Rattle.image.specs.Image.{Image}
 use Rattle.image.specs.Decode.{last_label, decoded_image}
 use Rattle.image.specs.Check.{image_verdict}
 use Rattle.rows.specs.listing.Listing.{row_count_of, first_of, first_rows, row_counts, ListingOutcome, listing_on, has_no_room_for, list}
-use Rattle.rows.specs.listing.Exact.{Own, Exactly, Held}
+use Rattle.rows.specs.listing.Exact.{Own, Exactly, Held, HeldOnSuccess}
 use Rattle.rows.proofs.listing.Laws.{exactly}
 
 front : (f : ℕ → ℕ) (n : ℕ) (old : List ℕ) (l : ℕ) → l < n → get_or (over (tabulate f n) old) l 0 ≡ f l
@@ -72,3 +72,7 @@ module _ (t xs ys : List ℕ) (n : ℕ) where
         exactly = λ l k h. subst (λ (f : ℕ). Own i l k ↔ ((f ≤ k) × (k < f + get_or (list t xs ys).counts l 0))) (sym (x.first l h))
             (subst (λ (m : ℕ). Own i l k ↔ ((first_of i l ≤ k) × (k < first_of i l + m))) (sym (x.number l h)) (own x.passes l k));
       }
+
+pub held-on-success : HeldOnSuccess
+unfolding HeldOnSuccess
+held-on-success = held

@@ -2,12 +2,13 @@
 use Rattle.std.specs.Prelude.{ℕ, ◌+◌, ◌≤◌, ◌<◌, ◌≡◌, ◌↔◌, List, length, get_or, take, drop}
 use Rattle.text.specs.frames.Frame.{contents}
 use Rattle.text.specs.frames.Verdict.{fine}
+use Rattle.text.specs.frames.Answer.{success}
 use Rattle.image.specs.Image.{Image, nth_row}
 use Rattle.image.specs.Decode.{last_label, rows_from, decoded_image}
 use Rattle.image.specs.Check.{image_verdict}
 use Rattle.tables.specs.Prepare.{noted_table}
 use Rattle.tables.specs.Table.{first_on, end_on, rows_on}
-use Rattle.rows.specs.listing.Listing.{row_count_of, first_of}
+use Rattle.rows.specs.listing.Listing.{row_count_of, first_of, list}
 
 -- row k is there and leaves label l
 abbrev pub Own : Image → ℕ → ℕ → Type 0
@@ -38,6 +39,11 @@ pub record Held (t firsts counts : List ℕ) (n : ℕ) : Type 0 where
   pub number : (l : ℕ) → l < n → get_or counts l 0 ≡ row_count_of (decoded_image (contents t)) l
   pub exactly : (l k : ℕ) → l < n
       → Own (decoded_image (contents t)) l k ↔ ((get_or firsts l 0 ≤ k) × (k < get_or firsts l 0 + get_or counts l 0))
+
+-- so they are whenever the entry point succeeds
+unfoldable pub HeldOnSuccess : Type 0
+HeldOnSuccess =
+    (t xs ys : List ℕ) (n : ℕ) → (list t xs ys).reply ≡ success n → Held t (list t xs ys).firsts (list t xs ys).counts n
 
 -- on a table that holds image i a tick looks at the frames from the one of label l's first row on, as many as the listing counts, and at
 -- the rows that it names

@@ -1,25 +1,18 @@
 -- On the table that was prepared from an image, live runs and live ticks are the image's own, from every state.
 use Prim.Native.Nat.{ℕ}
 use mathlib.Core.Path.{◌≡◌, sym, ap, ap₂, ◌∙◌}
-use mathlib.Core.Bool.{Bool, false}
+use mathlib.Core.Bool.{Bool}
 use mathlib.Core.List.{List, [], ◌∷◌}
 use Rattle.text.specs.frames.Frame.{contents}
-use Rattle.text.specs.frames.Verdict.{Verdict, fine, next, when}
+use Rattle.text.specs.frames.Verdict.{Verdict, next, when}
 use Rattle.image.specs.Image.{Image}
 use Rattle.image.specs.Decode.{decoded_image}
-use Rattle.image.specs.Check.{image_verdict}
-use Rattle.tables.specs.Table.{is_bad_table, table_image}
 use Rattle.state.specs.declared.State.{State}
 use Rattle.fitness.specs.Fitness.{is_unfit}
 use Rattle.runs.specs.Run.{has_no_room, ticks, run_on, run, run_verdict}
 use Rattle.runs.specs.TickOutcome.{tick_outcome, image_tick}
 use Rattle.runs.specs.machine.Live.{live_verdict, live_run, live_tick}
-
--- the bytes b hold the image that the text t says, and neither is refused
-pub record PreparedTable (t b : List ℕ) : Type 0 where
-  pub header : is_bad_table b ≡ false
-  pub holds : table_image b ≡ decoded_image (contents t)
-  pub accepted : image_verdict t ≡ fine
+use Rattle.runs.specs.machine.Prepared.{PreparedTable}
 
 -- refusals 15 and 16
 abbrev tried : Image → State → List ℕ → List ℕ → List ℕ → Verdict

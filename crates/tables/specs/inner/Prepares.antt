@@ -4,7 +4,7 @@ use Rattle.words.specs.lists.Sequences.{over}
 use Rattle.text.specs.declared.frames.sizes.TheConstants.{IMAGE_TEXT}
 use Rattle.text.specs.frames.Frame.{contents}
 use Rattle.text.specs.frames.Verdict.{fine, refused}
-use Rattle.text.specs.frames.inner.Read.{read_buffer}
+use Rattle.text.specs.frames.Read.{read_buffer}
 use Rattle.text.specs.frames.Answer.{Answer, reply, verdict_reply}
 use Rattle.image.specs.Check.{image_verdict}
 use Rattle.tables.specs.Prepare.{noted_table}

@@ -4,22 +4,21 @@ use Prim.Native.Nat.{ℕ, zero, suc, ◌+◌, ◌*◌, ◌-◌, ◌/◌, ◌%◌
 use mathlib.Core.Bool.{Bool, true, false, ◌&&◌}
 use mathlib.Core.Path.{◌≡◌, refl, sym, ◌∙◌, ap}
 use mathlib.Core.Logic.{⊎_elim, ◌⊎◌, inl, inr}
-use mathlib.Core.List.{List, [], ◌∷◌, ◌++◌, map}
+use mathlib.Core.List.{List, [], ◌∷◌, map}
 use native.Mathlib.Omega.{arith}
 use mir.Val.{bool_byte}
 use lib.Bits.{bit_and}
 use lib.Dec.{leb, ltb}
-use lib.ListN.{get_or, replicate}
+use lib.ListN.{get_or}
 use borrow.Author.Tests.{le-ltb, lt-ltb, le-leb, lt-leb, leb-true}
-use Rattle.words.specs.lists.Numbers.{range, tabulate}
+use Rattle.words.specs.lists.Numbers.{tabulate}
 use Rattle.words.proofs.lists.Tests.{and_l, and_r, split, cases, if-false}
 use Rattle.words.proofs.lists.Tabulated.{get_d_tabulate}
 use Rattle.text.specs.digits.Digit.{numeral_of, letter_of, digit_of, char_of, capital}
+use Rattle.text.specs.digits.EachDigit.{EachDigit}
 
--- what each of the 256 characters gives, computed:
--- 48 of them nothing, then 0 to 9, 7 nothing, A to F, 26 nothing, a to f, the others nothing
-pub digit-each : tabulate digit_of 256
-    ≡ replicate 48 255 ++ (range 0 10 ++ (replicate 7 255 ++ (range 10 6 ++ (replicate 26 255 ++ (range 10 6 ++ replicate 153 255)))))
+-- what each of the 256 characters gives, computed
+pub digit-each : EachDigit
 unfolding tabulate digit_of
 digit-each = refl
 

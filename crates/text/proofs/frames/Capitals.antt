@@ -16,13 +16,8 @@ use Rattle.text.proofs.digits.Digits.{digit-capital}
 use Rattle.text.specs.frames.Frame.{byte_at, contents}
 use Rattle.text.specs.frames.Verdict.{next, when, at_lowest}
 use Rattle.text.specs.frames.Check.{is_bad_length, has_bad_form, has_bad_sum, text_verdict}
-use Rattle.text.specs.frames.inner.Read.{read_buffer}
-
--- all that is read of a text
-pub record ReadAlike (t u : List ℕ) : Type 0 where
-  pub verdict : (most : ℕ) → text_verdict most t ≡ text_verdict most u
-  pub contents : contents t ≡ contents u
-  pub buffer : (most : ℕ) (old : List ℕ) → read_buffer most t old ≡ read_buffer most u old
+use Rattle.text.specs.frames.Read.{read_buffer}
+use Rattle.text.specs.frames.Alike.{ReadAlike}
 
 -- a capital is no line feed where the character is none
 feed-capital : (c : ℕ) → eqb (capital c) 10 ≡ eqb c 10

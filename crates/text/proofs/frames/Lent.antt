@@ -14,11 +14,7 @@ use Rattle.std.proofs.Common.{Ok, Err, if◌then◌else◌}
 use Rattle.text.specs.declared.frames.refusals.Refusal.{Refusal}
 use Rattle.text.specs.declared.frames.refusals.Refusal.TheVariants.{NoRoom}
 use Rattle.text.specs.frames.Refusal.{number_of, index_of, ticks_of}
-use Rattle.text.specs.frames.Answer.{Answer, success, refusal, reply, BufferOutcome, GivesBuffer, buffer_on}
-
--- all of xs stands at the front, counted by units
-abbrev pub buffer_filled_with : ℕ → List ℕ → List ℕ → BufferOutcome
-buffer_filled_with unit xs old = record { reply = success (length xs / unit); buffer = over xs old }
+use Rattle.text.specs.frames.Answer.{Answer, success, refusal, reply, BufferOutcome, GivesBuffer, buffer_on, buffer_filled_with}
 
 pub lent_fits : (unit : ℕ) (new : Unit {0} → List ℕ) (old : List ℕ) → length (new tt) ≤ length old
     → buffer_on fine unit new old ≡ buffer_filled_with unit (new tt) old

@@ -10,7 +10,7 @@ use Rattle.words.proofs.lists.Tests.{if-false}
 use Rattle.text.specs.frames.Frame.{frame_count, contents}
 use Rattle.text.specs.frames.Verdict.{Verdict, fine, next, when, at_lowest}
 use Rattle.text.specs.frames.Check.{is_bad_length, has_bad_form, has_bad_sum, text_verdict}
-use Rattle.text.specs.frames.inner.Read.{read_buffer}
+use Rattle.text.specs.frames.Read.{read_buffer}
 use Rattle.text.proofs.frames.Verdicts.{next-first, when-fine}
 use Rattle.text.proofs.frames.Contents.{text-told, contents-bytes}
 

@@ -58,3 +58,7 @@ buffer_on (refused k i) unit new old = record { reply = refusal k i 0; buffer = 
 buffer_on fine unit new old = let xs = new tt in
     if ltb (length old) (length xs) then record { reply = refusal NO_ROOM 0 0; buffer = old }
     else record { reply = success (length xs / unit); buffer = over xs old }
+
+-- all of xs stands at the front, counted by units
+abbrev pub buffer_filled_with : ℕ → List ℕ → List ℕ → BufferOutcome
+buffer_filled_with unit xs old = record { reply = success (length xs / unit); buffer = over xs old }

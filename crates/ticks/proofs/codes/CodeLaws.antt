@@ -2,23 +2,18 @@
 use Rattle.std.proofs.Common.{if◌then◌else◌}
 use mathlib.Core.Path.{◌≡◌, refl, sym, ◌∙◌, ap}
 use mathlib.Core.Bool.{Bool, true, false}
-use Prim.Native.Nat.{ℕ, zero, suc, ◌+◌, ◌-◌, ◌≤◌}
+use Prim.Native.Nat.{ℕ, zero, suc, ◌+◌, ◌-◌}
 use native.Mathlib.Omega.{arith}
 use lib.Dec.{leb, eqb}
 use borrow.Author.Tests.{eqb-true, leb-true}
 use Rattle.words.proofs.lists.Tests.{and_l}
-use Rattle.image.specs.Layout.{tick_kind}
 use Rattle.ticks.specs.declared.codes.Meaning.{Meaning}
 use Rattle.ticks.specs.declared.codes.Meaning.TheVariants.{Plain, OperationCall, FunctionCall, Return, Home, Drop, Unknown}
-use Rattle.ticks.specs.codes.Codes.{code_of, meaning_by, is_call_above, meaning_of, tick_kind_of, called_of}
+use Rattle.ticks.specs.codes.Codes.{is_call_above, meaning_of}
+use Rattle.ticks.specs.codes.CodesApart.{CodeMeans, CodesApart, DropMeans, DropApart, KindBack, Coded}
 use Rattle.ticks.proofs.codes.CodeCases.{in-operations, in-functions}
 
--- a call is of a scheme of 2 to 16
-abbrev pub Called : ℕ → ℕ → Type 0
-Called k h = 1 ≤ k → k ≤ 2 → (2 ≤ h) × (h ≤ 16)
-
--- the code of a tick stands for the tick, so no two ticks share a code
-pub code-means : (k h : ℕ) → Called k h → meaning_of (code_of (tick_kind k) h) ≡ meaning_by (tick_kind k) h
+pub code-means : CodeMeans
 unfolding meaning_of
 code-means zero h p = refl
 code-means (suc zero) h p =
@@ -30,34 +25,27 @@ code-means (suc (suc zero)) h p =
 code-means (suc (suc (suc zero))) h p = refl
 code-means (suc (suc (suc (suc k)))) h p = refl
 
-pub codes-apart : (k h : ℕ) → Called k h → (j g : ℕ) → Called j g → code_of (tick_kind k) h ≡ code_of (tick_kind j) g
-    → meaning_by (tick_kind k) h ≡ meaning_by (tick_kind j) g
+pub codes-apart : CodesApart
 codes-apart k h p j g q e = sym (code-means k h p) ∙ ap meaning_of e ∙ code-means j g q
 
--- 96 stands for a drop, and no other tick has it
-pub drop-means : meaning_of 96 ≡ Drop
+pub drop-means : DropMeans
 unfolding meaning_of
 drop-means = refl
 
-pub drop-apart : (k h : ℕ) → Called k h → code_of (tick_kind k) h ≡ 96 → ⊥
+pub drop-apart : DropApart
 drop-apart zero h p e = omega arith
 drop-apart (suc zero) h p e = omega (arith, (p (omega arith) (omega arith)).1)
 drop-apart (suc (suc zero)) h p e = omega (arith, (p (omega arith) (omega arith)).1)
 drop-apart (suc (suc (suc zero))) h p e = omega arith
 drop-apart (suc (suc (suc (suc k)))) h p e = omega arith
 
--- a tick's kind is read back
-pub kind-back : (k h : ℕ) → k ≤ 4 → tick_kind_of (meaning_by (tick_kind k) h) ≡ k
+pub kind-back : KindBack
 kind-back zero h l = refl
 kind-back (suc zero) h l = refl
 kind-back (suc (suc zero)) h l = refl
 kind-back (suc (suc (suc zero))) h l = refl
 kind-back (suc (suc (suc (suc zero)))) h l = refl
 kind-back (suc (suc (suc (suc (suc k))))) h l = absurd (omega arith)
-
--- a code that stands for a tick is that tick's, which is 96 for a drop
-abbrev pub Coded : ℕ → Meaning → Type 0
-Coded c m = (if eqb (tick_kind_of m) 5 then 96 else code_of (tick_kind (tick_kind_of m)) (called_of m)) ≡ c
 
 module _ (c : ℕ) where
   one_more : (t : Bool) (m rest : Meaning) → (t ≡ true → Coded c m) → ((rest ≡ Unknown → ⊥) → Coded c rest)

@@ -1,0 +1,19 @@
+-- What the two programs print goes by no more than the longest text and one character, and is the same for a text in capitals.
+use Rattle.std.specs.Prelude.{ℕ, ◌≡◌, List, map, take}
+use Rattle.text.specs.digits.Digit.{capital}
+use Rattle.output.specs.translate_output.TranslateProgram.{translate_output}
+use Rattle.output.specs.run_output.RunProgram.{run_output}
+
+-- read no more than one character past the longest chart, and past the longest image
+abbrev pub TranslateFront : Type 0
+TranslateFront = (t : List ℕ) → translate_output (take 5889 t) ≡ translate_output t
+
+abbrev pub RunFront : Type 0
+RunFront = (t : List ℕ) → run_output (take 29832 t) ≡ run_output t
+
+-- in letters of both sizes
+abbrev pub TranslateCapitals : Type 0
+TranslateCapitals = (t : List ℕ) → translate_output (map capital t) ≡ translate_output t
+
+abbrev pub RunCapitals : Type 0
+RunCapitals = (t : List ℕ) → run_output (map capital t) ≡ run_output t
