@@ -27,7 +27,8 @@ pub fn chart_images_are_joined()
     ensures room { SmallerMade translate minimise }
 {}
 
-/// On the smaller image of a chart the machine ticks as the chart's walk: of the definitions, of calls of the functions, and of calls from C.
+/// On the smaller image of a chart the machine ticks as the chart's walk: of the definitions, of calls of the functions, and of calls from
+/// C.
 pub fn joined_images_tick_as_walks()
     ensures definitions { SmallerAgreement translate minimise fresh_state run rebind }
     ensures functions { SmallerDelivered }

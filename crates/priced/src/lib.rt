@@ -11,8 +11,8 @@ ghost use Rattle.priced.specs.FreshRun.{PricedByTheWalk};
 ghost use Rattle.priced.specs.Delivered.{PricedDelivered};
 ghost use Rattle.priced.specs.ForC.{PricedDeliveredC};
 
-/// Over any list of runs, rebindings and priced runs on the image of a chart, each priced run costs what its ticks of the walk cost, and all
-/// else agrees as without prices: of the definitions, of calls of the functions, and of calls from C.
+/// Over any list of runs, rebindings and priced runs on the image of a chart, each priced run costs what its ticks of the walk cost, and
+/// all else agrees as without prices: of the definitions, of calls of the functions, and of calls from C.
 pub fn priced_runs_cost_as_walks()
     ensures definitions { PricedAgreement translate fresh_state priced_run run rebind }
     ensures functions { PricedDelivered }

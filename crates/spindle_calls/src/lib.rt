@@ -16,8 +16,8 @@ pub fn callers_see_places_balance()
     ensures calls_from_c { PlacesCountedC }
 {}
 
-/// A spindle whose calls are all handed its chart's image, or a table prepared of it, makes the ticks of that chart's walk over the words of
-/// its finished ticks: by what callers have of the functions, and of the calls from C.
+/// A spindle whose calls are all handed its chart's image, or a table prepared of it, makes the ticks of that chart's walk over the words
+/// of its finished ticks: by what callers have of the functions, and of the calls from C.
 pub fn callers_see_own_walks()
     ensures functions { OwnWalkDelivered }
     ensures calls_from_c { OwnWalkC }

@@ -4,8 +4,8 @@
 ghost use Rattle.spindle_walks.specs.Walks.{OwnWalk};
 ghost use Rattle.spindle_walks.specs.Prepared.{PreparedSpin};
 
-/// A spindle that is always handed its chart's image makes the ticks of that chart's walk over the words of its finished ticks, whatever the
-/// other spindles are handed meanwhile.
+/// A spindle that is always handed its chart's image makes the ticks of that chart's walk over the words of its finished ticks, whatever
+/// the other spindles are handed meanwhile.
 pub fn spindles_tick_as_their_walks()
     ensures definitions { OwnWalk }
 {}
