@@ -4,16 +4,15 @@ use Prim.Native.Nat.{ℕ, ◌+◌}
 use mathlib.Core.Path.{◌≡◌, sym, ◌∙◌}
 use mathlib.Core.List.{List}
 use lib.ListN.{take}
-use Rattle.words.specs.lists.Numbers.{count}
-use Rattle.text.specs.frames.Frame.{contents}
 use Rattle.text.specs.frames.Answer.{success}
 use Rattle.translator.specs.Entry.{translate}
-use Rattle.fillings.specs.Counts.{words_of, lists, count_fillings}
+use Rattle.fillings.specs.Counts.{lists, count_fillings}
 use Rattle.fillings.specs.Promises.{SumsUp}
 use Rattle.fillings.proofs.Sums.{sums-up}
 use Rattle.fairleadow.specs.fillings_for_c.Calls.{GivesFillingsC}
 use Rattle.agreement.proofs.Numbers.{counts-success}
-use Rattle.fill_walks.specs.Promises.{is_walk_too_deep, ByTheWalk}
+use Rattle.fill_walks.specs.Promises.{ByTheWalk}
+use Rattle.fill_walks.specs.ForC.{ByTheWalkC}
 use Rattle.fill_walks.proofs.Deep.{by-the-walk}
 
 module _ (t : List ℕ) (size n k r at made e f u : ℕ) (c : GivesFillingsC (count_fillings t size n k) r at made e f u) (z : r ≡ 0) where
@@ -24,9 +23,7 @@ module _ (t : List ℕ) (size n k r at made e f u : ℕ) (c : GivesFillingsC (co
   unfolding SumsUp
   sums-up-c = (λ j. c.ended j + c.full j + c.unmatched j) ∙ sums-up t size n k fine-reply
 
-pub by-the-walk-c : (text out : List ℕ) (m : ℕ) → (translate text out).reply ≡ success m → (size n k r at made e f u : ℕ)
-    → GivesFillingsC (count_fillings (take m (translate text out).buffer) size n k) r at made e f u → r ≡ 0
-    → (u ≡ 0) × (f ≡ count (λ x. is_walk_too_deep size (contents text) (words_of n k x)) 0 (lists n k))
+pub by-the-walk-c : ByTheWalkC
 unfolding ByTheWalk
 by-the-walk-c text out m translated size n k r at made e f u c z =
     let image : List ℕ = take m (translate text out).buffer in

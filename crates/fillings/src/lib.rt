@@ -7,4 +7,13 @@ pub mod counting;
 pub mod fill_counts;
 pub mod fill_lists;
 
+ghost use Rattle.fillings.specs.Promises.{AllLists, SumsUp};
+
 pub use fill_counts::Tally;
+
+/// The lists counted are all lists of so many words that use so many conditions, each just once, and those that run to their end, meet 17
+/// and meet 18 are together as many, for every accepted image.
+pub fn every_list_is_counted_once()
+    ensures once { AllLists }
+    ensures sum { SumsUp }
+{}

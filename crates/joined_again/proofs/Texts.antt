@@ -1,6 +1,6 @@
 -- What holds of every text that is made smaller:
 -- its groups meet the rule and are the fewest, what is written is accepted, and given back it is written again.
-use Prim.Native.Nat.{ℕ, ◌/◌, ◌≤◌}
+use Prim.Native.Nat.{ℕ, ◌/◌, ◌≤◌, ◌<◌}
 use mathlib.Core.Bool.{Bool, false}
 use mathlib.Core.Path.{◌≡◌, sym, ◌∙◌, ap, ap₂}
 use mathlib.Core.List.{List}
@@ -17,11 +17,13 @@ use Rattle.image.specs.Check.{image_verdict}
 use Rattle.image.specs.inner.Sound.{SoundImage}
 use Rattle.image.proofs.Accepted.{image-sound}
 use Rattle.covering.specs.Matched.{is_uneven}
+use Rattle.covering.proofs.Hits.{one-row}
 use Rattle.grouping.specs.Rule.{Grouping, Meets, groups}
 use Rattle.grouping.specs.Classes.{class_of, grouping}
-use Rattle.grouping.proofs.Coarsest.{even-meets, even-fewest}
+use Rattle.grouping.proofs.Coarsest.{even-meets, even-fewest, within-grouping}
 use Rattle.minimising.specs.group_numbers.Smaller.{smaller_image}
 use Rattle.minimising.specs.Entry.{minimise_verdict, minimise}
+use Rattle.joined_again.proofs.Shorter.{fewest-labels}
 use Rattle.joined_again.proofs.Again.{smaller-even, smaller-again, smaller-passes, smaller-decoded, AllowedImage, minimise-allowed}
 
 module _ (t : List ℕ) (ok : minimise_verdict t ≡ fine) where
@@ -37,12 +39,26 @@ module _ (t : List ℕ) (ok : minimise_verdict t ≡ fine) where
   pub text-meets : Meets image (class_of (grouping image))
   text-meets = even-meets image sound allowed.even
 
+  -- labels that any grouping by the rule joins are joined
+  pub text-widest : (g : Grouping) → Meets image g → (l m : ℕ) → l < length image.labels → m < length image.labels → g l ≡ g m
+      → class_of (grouping image) l ≡ class_of (grouping image) m
+  text-widest = within-grouping image sound (one-row image sound allowed.even)
+
   pub text-fewest : (g : Grouping) → Meets image g
       → groups (class_of (grouping image)) (length image.labels) ≤ groups g (length image.labels)
   text-fewest = even-fewest image sound allowed.even
 
+  pub text-labels : (g : Grouping) → Meets image g → length (smaller_image image).labels ≤ groups g (length image.labels)
+  text-labels = fewest-labels image sound allowed.even
+
   pub text-passes : image_verdict (image_text (smaller_image image)) ≡ fine
   text-passes = smaller-passes image sound allowed.even
+
+  pub text-even : is_uneven (smaller_image image) ≡ false
+  text-even = smaller-even image sound allowed.even
+
+  pub text-same : smaller_image (smaller_image image) ≡ smaller_image image
+  text-same = smaller-again image sound allowed.even
 
 -- ---- given back
 text-again : (i : Image) (S : SoundImage i) (even : is_uneven i ≡ false) (old : List ℕ) → length (image_text (smaller_image i)) ≤ length old

@@ -22,8 +22,9 @@ use Rattle.grouping.specs.Classes.{grouping}
 use Rattle.minimising.specs.group_numbers.Smaller.{smaller_image}
 use Rattle.minimising.specs.Entry.{minimise_verdict}
 use Rattle.joined_again.proofs.Again.{AllowedImage, minimise-allowed}
+use Rattle.minimised.specs.Alike.{Stops17}
 use Rattle.minimised.specs.Renamed.{renumbered_state, renamed_tick, renamed_run, renamed_state_outcome}
-use Rattle.minimised.proofs.SmallerTicks.{Stops17, never-18}
+use Rattle.minimised.proofs.SmallerTicks.{never-18}
 use Rattle.minimised.proofs.Runs.{smaller-fits, smaller-tick, run-new, rebind-new}
 
 module _ (text : List ℕ) (ok : minimise_verdict text ≡ fine) (s : State) (sized : Sized s)

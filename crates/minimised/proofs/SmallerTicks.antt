@@ -28,6 +28,7 @@ use Rattle.covering.proofs.Hits.{OneRow}
 use Rattle.grouping.proofs.Rounds.{ClassRound}
 use Rattle.minimising.specs.group_numbers.Smaller.{renumbered_label, joined_labels}
 use Rattle.minimising.proofs.group_numbers.Numbering.{new-zero, label-new}
+use Rattle.minimised.specs.Alike.{Stops17}
 use Rattle.minimised.specs.Renamed.{renumbered_state, renamed_tick, renamed_machine_run}
 use Rattle.minimised.proofs.Renumbered.{map-set, same-handler, entry-at, place-new, only-new}
 use Rattle.minimised.proofs.Renumbered.{renamed_found, GroupLeads, row-some, row_new}
@@ -102,11 +103,6 @@ module _ (i : Image) (S : SoundImage i) (c : List ℕ) (R : ClassRound i c) wher
         → pushed_tick small (renumbered_state c s) m code h k b t ≡ renamed_tick c (pushed_tick i s m code h k b t)
     pushed-new m code h k b true = full-new m b
     pushed-new m code h k b false = ap (finished m code) (opening-new s h k (cleared_results h b))
-
--- a tick ends with 17 or goes on
-abbrev pub Stops17 : MachineTick → Type 0
-Stops17 (finished m k t) = Unit {0}
-Stops17 (stopped k) = k ≡ 17
 
 module _ (i : Image) (S : SoundImage i) (one : OneRow i) where
   -- ---- a state that fits: its top, and the label beneath it, which is a call

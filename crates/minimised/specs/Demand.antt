@@ -1,8 +1,13 @@
 -- The agreement for the smaller image: what a list of runs and rebindings on it hands back, against the walk of the chart.
 use Rattle.std.specs.Prelude.{ℕ, ◌≤◌, ◌≡◌, List, length, take}
 use Rattle.text.specs.frames.Frame.{contents}
+use Rattle.text.specs.frames.Verdict.{fine}
 use Rattle.text.specs.frames.Answer.{success, BufferOutcome}
+use Rattle.image.specs.Image.{image_text}
+use Rattle.translator.specs.Table.{table}
+use Rattle.translator.specs.Entry.{translate_verdict}
 use Rattle.state.specs.declared.layout.TheConstants.{PLACES}
+use Rattle.minimising.specs.Entry.{minimise_verdict}
 use Rattle.agreement.specs.Agreement.{Translator, Maker, Runner, Rebinder, CallInput, call_outputs, walk_outputs}
 
 abbrev pub Minimiser : Type 0
@@ -13,6 +18,10 @@ pub record Shrunk (x : BufferOutcome) (n : ℕ) : Type 0 where
   pub count : ℕ
   pub done : x.reply ≡ success count
   pub most : count ≤ n
+
+-- For every text that translates nothing but 16 refuses to make its image smaller.
+abbrev pub NeverUneven : Type 0
+NeverUneven = (t : List ℕ) → translate_verdict t ≡ fine → minimise_verdict (image_text (table (contents t))) ≡ fine
 
 -- For every text that translates, with n characters written, room for as many is enough.
 unfoldable pub SmallerMade : Translator → Minimiser → Type 0

@@ -1,3 +1,4 @@
 pub mod Renamed
+pub mod Alike
 pub mod Demand
 pub mod Delivered

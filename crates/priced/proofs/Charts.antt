@@ -1,13 +1,13 @@
 -- The agreement with prices, and of one priced run from a fresh state.
 use Rattle.std.proofs.Common.{if◌then◌else◌}
-use Prim.Native.Nat.{ℕ, ◌+◌, ◌-◌, ◌≤◌, min}
+use Prim.Native.Nat.{ℕ, ◌+◌, ◌-◌, min}
 use mathlib.Core.Bool.{Bool, true, false, ◌||◌}
 use mathlib.Core.Path.{◌≡◌, refl, sym, ◌∙◌, ap, ap₂, subst}
 use mathlib.Core.List.{List, [], ◌∷◌, ◌++◌, map, append-nil}
 use lib.ListN.{length, take}
 use Rattle.bindings.specs.Binding.{own_binding}
 use Rattle.text.specs.frames.Frame.{contents}
-use Rattle.text.specs.frames.Answer.{success, reply_count}
+use Rattle.text.specs.frames.Answer.{reply_count}
 use Rattle.charts.specs.Chart.{Chart}
 use Rattle.walk.specs.Walk.{Signal, signals, Tick, walk}
 use Rattle.translator.specs.Entry.{translate}
@@ -24,6 +24,7 @@ use Rattle.agreement.proofs.Bounds.{bound-le}
 use Rattle.agreement.proofs.Demand.{theorem}
 use Rattle.priced.specs.Demand.{PricedInput, to_priced_run, PricedOutput, by_priced_run, priced_outputs}
 use Rattle.priced.specs.Demand.{joined_priced_words, priced_walk_outputs, expected_priced_outputs, PricedAgreement}
+use Rattle.priced.specs.FreshRun.{PricedByTheWalk}
 use Rattle.priced.proofs.AsRuns.{as_run, with_prices, AllSucceed, joined_as, expected-as, expected-fine, expected-count}
 use Rattle.priced.proofs.AsRuns.{all-many, all-refused, all-priced}
 use Rattle.priced.proofs.Chain.{chain-as}
@@ -101,11 +102,7 @@ module _ (size : ℕ) (c : Chart) (list : List ℕ) (a : RunInput) (r : PricedOu
 
 -- of a translated chart, from a fresh state:
 -- the price of the walk's ticks, as many as the answer counts, with no premise about room or length
-pub by-the-walk : (text out : List ℕ) (n : ℕ) → (translate text out).reply ≡ success n
-    → (size : ℕ) → 1 ≤ size → size ≤ 32 → (list words masks codes : List ℕ)
-    → let r = priced_run (take n (translate text out).buffer) (fresh_state size).state list words masks codes in
-    r.price ≡ price list (map (λ (t : Tick). t.mask)
-    (take (reply_count r.run.reply) (walk size (contents text) (signals own_binding words))))
+pub by-the-walk : PricedByTheWalk
 unfolding priced_outputs PricedAgreement
 by-the-walk text out n done size low high list words masks codes =
     let a : RunInput = record { words = words; masks = masks; codes = codes } in

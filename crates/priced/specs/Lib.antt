@@ -1,3 +1,4 @@
 pub mod Demand
+pub mod FreshRun
 pub mod Delivered
 pub mod ForC

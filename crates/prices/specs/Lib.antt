@@ -1,2 +1,3 @@
 pub mod Prices
 pub mod priced_runs
+pub mod Promises

@@ -4,6 +4,7 @@
 
 ghost use Rattle.std.specs.Prelude.{◌≡◌, ◌≤◌, length};
 ghost use Rattle.prices.specs.Prices.{tick_price, hundredths, price};
+ghost use Rattle.prices.specs.Promises.{DoesAll, ByTheMasks, PricedBytesHold, TickMost, HundredthsMost};
 
 pub mod priced_runs;
 pub mod priced_states;
@@ -42,3 +43,17 @@ pub fn price_of(prices: &[u16; 32], masks: &[u32]) -> u64
 {
     (hundredths_of(prices, masks) + 50) / 100
 }
+
+/// A priced run of at most 65,536 words does all that a run does, and its price is that of the masks written, as many as its answer counts,
+/// whatever the image, the state, the price list and the words. The bytes that it leaves hold the state that it hands back.
+pub fn priced_runs_are_runs()
+    ensures run { DoesAll }
+    ensures price { ByTheMasks }
+    ensures bytes { PricedBytesHold }
+{}
+
+/// By prices of 0 to 65,535 a tick costs at most 2,097,120 hundredths of a cent, and ticks as often that as they are.
+pub fn prices_stay_small()
+    ensures a_tick { TickMost }
+    ensures ticks { HundredthsMost }
+{}

@@ -7,7 +7,7 @@ use mathlib.Core.List.{List, [], ◌∷◌, ◌++◌, map}
 use native.Mathlib.Omega.{arith}
 use lib.Dec.{eqb}
 use lib.ListN.{length, take}
-use Rattle.words.specs.lists.Sequences.{written, All}
+use Rattle.words.specs.lists.Sequences.{All}
 use Rattle.bindings.specs.Binding.{own_binding}
 use Rattle.text.specs.frames.Frame.{contents}
 use Rattle.text.specs.frames.Answer.{reply_number, success, refusal}
@@ -22,7 +22,6 @@ use Rattle.spindles.proofs.InParts.{four-depths}
 use Rattle.spindles.specs.spindle_parts.FourStates.{part_of, states_of, depths_in}
 use Rattle.spindles.proofs.spindle_parts.States.{count-is, state-is, depths-are}
 use Rattle.spindles.specs.spindle_places.Calls.{new_head}
-use Rattle.spindles.specs.spindle_places.Calls as calls
 use Rattle.spindle_walks.specs.Walks.{HandsImage, FollowsWalk, OwnWalk}
 use Rattle.spindle_walks.proofs.Walks.{own-walks}
 use Rattle.spindle_calls.specs.ObservedCalls.{ObservedCall, call_of}

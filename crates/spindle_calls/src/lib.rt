@@ -1,3 +1,36 @@
 //! Four spindles and their walks, as a caller knows them by the contracts: of calls of the functions over a list of states, and of calls
-//! from C on 520 bytes; definitions and laws, no function.
+//! from C on 520 bytes; definitions, and theorems as contracts.
 #![tactic(auto)]
+
+ghost use Rattle.fairleadow.specs.spindles_for_c.Calls.{spin_for, live_spin_for};
+ghost use Rattle.spindle_calls.specs.Held.{BytesHold};
+ghost use Rattle.spindle_calls.specs.NoPlace.{NoPlaceExactly};
+ghost use Rattle.spindle_calls.specs.Delivered.{PlacesDelivered, OwnWalkDelivered};
+ghost use Rattle.spindle_calls.specs.ForC.{PlacesCountedC, OwnWalkC};
+
+/// After every list of calls from four fresh states and a record of 4, live calls and rebindings among them, the record is the sum of the
+/// depths, 4 and one more for each call made, less what returns and drops gave back, and never more than 64: by what callers have of the
+/// functions, and of the calls from C.
+pub fn callers_see_places_balance()
+    ensures functions { PlacesDelivered }
+    ensures calls_from_c { PlacesCountedC }
+{}
+
+/// A spindle whose calls are all handed its chart's image, or a table prepared of it, makes the ticks of that chart's walk over the words
+/// of its finished ticks: by what callers have of the functions, and of the calls from C.
+pub fn callers_see_own_walks()
+    ensures functions { OwnWalkDelivered }
+    ensures calls_from_c { OwnWalkC }
+{}
+
+/// Where all that is tried before the tick is passed, a call is refused with 26 exactly where its tick is a call by its code and all 64
+/// places are taken.
+pub fn no_place_is_told_exactly()
+    ensures spin { NoPlaceExactly }
+{}
+
+/// After a call from C the 520 bytes hold the states after it, whatever they held before.
+pub fn bytes_hold_the_states()
+    ensures spin { BytesHold spin_for }
+    ensures live_spin { BytesHold live_spin_for }
+{}

@@ -2,4 +2,3 @@ pub mod OneCall
 pub mod Others
 pub mod Live
 pub mod InParts
-pub mod spindle_places

@@ -1,7 +1,8 @@
 //! Four spindles that share 64 places: a call ticks one, or is refused, and leaves the others as they are.
 //! Here are its report and what it tries of spindle and record, in `spindle_heads` what refuses it before any state; `turning` makes the
 //! turn on the bytes of one state, `state_turns` by value. `spindle_bytes` and `live_spindle_bytes` turn one part of 520 bytes
-//! (`spindle_parts`), `spindle_list` one state of a list. By its laws the record is what calls took and did not give back, 64 at most.
+//! (`spindle_parts`), `spindle_list` one state of a list. By the theorem of `spindle_places` the record is what calls took and did not give
+//! back, 64 at most.
 #![tactic(auto)]
 
 pub mod layout;
@@ -10,11 +11,13 @@ pub mod spindle_bytes;
 pub mod spindle_heads;
 pub mod spindle_list;
 pub mod spindle_parts;
+pub mod spindle_places;
 pub mod state_turns;
 pub mod turning;
 
 ghost use Rattle.std.specs.Prelude.{◌≡◌};
-ghost use Rattle.spindles.specs.Spindles.{is_none_left};
+ghost use Rattle.spindles.specs.Spindles.{is_none_left, spin, live_spin};
+ghost use Rattle.spindles.specs.Laws.{RefusedLeaves, FullFirst, LevelGoes, OthersLeft, OnlyDepths};
 ghost use Rattle.spindles.specs.inner.HeadAndTurn.{is_bad_spin_call, is_bad_record};
 
 use layout::{SPINDLES, STORE};
@@ -48,3 +51,23 @@ pub fn none_left(before: usize, after: usize, taken: usize) -> bool
 {
     before < after && STORE <= taken
 }
+
+/// A call leaves the other three states as they are, and reads no more of them than their depths; on an image and live.
+pub fn spins_leave_the_others()
+    ensures left { OthersLeft spin }
+    ensures left_live { OthersLeft live_spin }
+    ensures depths { OnlyDepths spin }
+    ensures depths_live { OnlyDepths live_spin }
+{}
+
+/// A call that is refused changes no state and no record and has no mask and no code; on an image and live.
+pub fn refused_spins_change_nothing()
+    ensures spin { RefusedLeaves spin }
+    ensures live_spin { RefusedLeaves live_spin }
+{}
+
+/// 17 is given before 26, and a tick that ends no deeper than it began, a drop or a return among them, goes ahead where no place is free.
+pub fn places_are_tried_last()
+    ensures full_first { FullFirst }
+    ensures level_goes { LevelGoes }
+{}

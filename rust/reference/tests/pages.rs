@@ -1,5 +1,6 @@
 //! docs/REFERENCE.md and docs/ARCHITECTURE.md name definitions, laws and functions that stand where they say; the first shows lines
-//! whose sums are right; docs/TRACE.md lists the edits; a link leads to a file and, if it names one, to a heading of it.
+//! whose sums are right; docs/TRACE.md lists the edits and names the theorems; a link leads to a file and, if it names one, to a heading
+//! of it.
 
 use std::collections::BTreeSet;
 use std::fs;
@@ -131,4 +132,65 @@ fn the_trace_lists_the_edits_that_must_be_refused() {
         })
         .collect();
     assert_eq!(listed, edits());
+}
+
+/// The texts of a crate's code.
+fn code(folder: &Path) -> Vec<String> {
+    let mut texts = Vec::new();
+    for entry in fs::read_dir(folder).into_iter().flatten() {
+        let path = entry.expect("an entry").path();
+        if path.is_dir() {
+            texts.extend(code(&path));
+        } else if path.extension().is_some_and(|ending| ending == "rt") {
+            texts.push(fs::read_to_string(path).expect("a text"));
+        }
+    }
+    texts
+}
+
+/// The theorems of a text: functions without parameters and with an empty body.
+fn theorems(text: &str) -> Vec<String> {
+    let lines: Vec<&str> = text.lines().collect();
+    let heads = lines.iter().enumerate();
+    heads
+        .filter_map(|(k, line)| Some((k, line.strip_prefix("pub fn ")?.strip_suffix("()")?)))
+        .filter(|(k, _)| lines[k + 1..].iter().find(|line| !line.starts_with(' ')) == Some(&"{}"))
+        .map(|(_, name)| name.to_owned())
+        .collect()
+}
+
+/// The contracts that the trace names with their crate, as crate and function: contract of `f` (crate).
+fn contracts() -> BTreeSet<(String, String)> {
+    let page = page("docs/TRACE.md");
+    let parts = page.lines().flat_map(|line| line.split(['|', ';', ':']));
+    let named = parts.filter_map(|part| {
+        let (functions, name) = part.split_once("contract")?.1.split_once(" (")?;
+        Some((functions, name.split(')').next()?))
+    });
+    named
+        .flat_map(|(functions, name)| {
+            let functions = functions.split('`').skip(1).step_by(2);
+            functions.map(move |function| (name.to_owned(), function.to_owned()))
+        })
+        .collect()
+}
+
+#[test]
+fn the_trace_names_every_theorem_and_the_contracts_that_it_names_are_there() {
+    let named = contracts();
+    for entry in fs::read_dir(root().join("crates")).expect("the crates") {
+        let folder = entry.expect("a crate").path();
+        let name = folder.file_name().expect("a name").to_string_lossy().into_owned();
+        let texts = code(&folder.join("src"));
+        for theorem in texts.iter().flat_map(|text| theorems(text)) {
+            assert!(named.contains(&(name.clone(), theorem.clone())), "{theorem} of {name} has a row");
+        }
+        let functions = named.iter().filter(|(of, function)| *of == name && !function.contains(' '));
+        for (_, function) in functions {
+            let there = |text: &String| {
+                [format!("fn {function}("), format!("fn {function}<")].iter().any(|head| text.contains(head))
+            };
+            assert!(texts.iter().any(there), "{function} stands in {name}");
+        }
+    }
 }

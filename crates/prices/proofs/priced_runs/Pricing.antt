@@ -1,5 +1,5 @@
 -- A priced run is a run; its price is that of the masks written.
-use Prim.Native.Nat.{ℕ, ◌≤◌}
+use Prim.Native.Nat.{ℕ}
 use mathlib.Core.Bool.{Bool, true, false}
 use mathlib.Core.Path.{◌≡◌, refl, sym, ◌∙◌, ap}
 use mathlib.Core.List.{List, []}
@@ -18,10 +18,10 @@ use Rattle.runs.specs.Run.{MachineRun, ticks, RunOutcome, has_no_room, run_on, r
 use Rattle.runs.proofs.RunCounts.{same_count}
 use Rattle.prices.specs.Prices.{hundredths, price}
 use Rattle.prices.specs.priced_runs.PricedRun.{in_turn, priced_verdict, price_on, priced_run}
+use Rattle.prices.specs.Promises.{DoesAll, ByTheMasks}
 
 -- of at most 65,536 words it does all that a run does
-pub does-all : (t : List ℕ) (s : State) (prices words masks codes : List ℕ) → length words ≤ 65536
-    → (priced_run t s prices words masks codes).run ≡ run t s words masks codes
+pub does-all : DoesAll
 unfolding priced_run priced_verdict run run_verdict
 does-all t s prices words masks codes l =
     ap (λ (b : Bool). made (in_turn (image_verdict t) (is_unfit (decoded_image (contents t)) s) b (has_no_room words masks codes)))
@@ -51,8 +51,7 @@ module _ (prices : List ℕ) (s : State) (masks codes : List ℕ) where
       ap (price prices) (sym (front n r.masks masks (replied-count r.verdict (length r.codes) ∙ sym e)))
 
 -- the price is that of the masks written, as many as the answer counts
-pub by-the-masks : (t : List ℕ) (s : State) (prices words masks codes : List ℕ) → let r = priced_run t s prices words masks codes in
-    r.price ≡ price prices (take (reply_count r.run.reply) r.run.masks)
+pub by-the-masks : ByTheMasks
 unfolding priced_run
 by-the-masks t s prices words masks codes =
     masks-by prices s masks codes (priced_verdict t s words masks codes) (ticks (decoded_image (contents t)) s words)

@@ -1,0 +1,2 @@
+pub mod Fewest
+pub mod Again
