@@ -28,7 +28,7 @@ use Rattle.fitness.specs.Fitness.{is_call, is_unfit}
 use Rattle.fitness.proofs.Fitness.{Fits, unfits}
 use Rattle.ticks.specs.Tick.{called_bit, choice, moved_tick, popped_state, popped_tick, tick_by, tick, top_of}
 use Rattle.ticks.proofs.Leads.{Sort, home_sort, return_sort, numbered_sort, sort, call-kind, carry-told}
-use Rattle.agreement.specs.OneRow.{Only, Rule, Matching, TakesMatching, tick_by_kind, popped_tick_by, tick_with, AnyRuleTicks}
+use Rattle.agreement.specs.OneRow.{Only, Rule, Matching, TakesMatching, tick_by_rule, popped_tick_by, tick_with, AnyRuleTicks}
 use Rattle.agreement.proofs.OnlyRow.{image, read, image-is, only-translated}
 
 only-taken : (l w b : ℕ) (rs : List Row) → Only l w b rs → (x : Choice) → Matching l w b rs x → x ≡ best_row l w b 0 rs
@@ -65,7 +65,7 @@ module _ (f : Rule) (i : Image) (s : State) (w : ℕ) where
       back false e =
           ap (λ (c : Choice). moved_tick x.mask 3 (popped_state s b) (s.depth - 2) (lead_of c)) (beneath (leb-false s.depth 1 e) b)
 
-      go : (k : ℕ) → x.kind ≡ k → tick_by_kind f i s w (top_of s) x b k ≡ tick_by i s w (top_of s) x b (tick_kind k)
+      go : (k : ℕ) → x.kind ≡ k → tick_by_rule f i s w (top_of s) x b (tick_kind k) ≡ tick_by i s w (top_of s) x b (tick_kind k)
       go zero e = ap (λ (c : Choice). moved_tick x.mask 0 (with_bits s b) (s.depth - 1) (lead_of c)) (top e b)
       go (suc zero) e = refl
       go (suc (suc zero)) e = refl

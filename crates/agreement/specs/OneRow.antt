@@ -1,10 +1,11 @@
 -- On the image of a chart just one row matches each label, word and bit. So whatever rule chooses among the rows that match, the machine
 -- makes the same ticks there, and the care mask of the row taken decides it.
-use Rattle.std.specs.Prelude.{ℕ, zero, suc, ◌-◌, ◌≤◌, ◌<◌, Bool, true, false, ◌≡◌, List, leb, length, get_or, take, bit_and, if◌then◌else◌}
+use Rattle.std.specs.Prelude.{ℕ, ◌-◌, ◌≤◌, ◌<◌, Bool, true, false, ◌≡◌, List, leb, length, get_or, take, bit_and, if◌then◌else◌}
 use Rattle.results.specs.Results.{Results, with_result}
+use Rattle.text.specs.declared.frames.codes.TheConstants.{PLAIN_CODE, RETURN_CODE}
 use Rattle.text.specs.frames.Frame.{contents}
 use Rattle.text.specs.frames.Answer.{success}
-use Rattle.image.specs.Layout.{tick_kind}
+use Rattle.image.specs.Layout.{TickKind, plain, operation_call, function_call, return, home, tick_kind}
 use Rattle.image.specs.Image.{Image, Label, Row, no_row, nth_row}
 use Rattle.image.specs.Decode.{decoded_image}
 use Rattle.translator.specs.Entry.{translate}
@@ -44,24 +45,24 @@ Matching l w b rs (row k r) = (k < length rs) × (get_or rs k no_row ≡ r) × (
 abbrev pub TakesMatching : Rule → Type 0
 TakesMatching f = (l w b : ℕ) (rs : List Row) → Matching l w b rs (f l w b rs)
 
--- the machine's tick, but for the rule
+-- the machine's tick, but that the rule finds the row, where a plain tick takes one and where a return does
 abbrev pub row_by : Rule → Image → Results → ℕ → ℕ → Found
 row_by f i b l w = lead_of (f l w (called_bit i b l) i.rows)
 
 abbrev pub popped_tick_by : Rule → Image → State → ℕ → ℕ → Results → Bool → MachineTick
 popped_tick_by f i s w m b true = popped_tick i s w m b true
-popped_tick_by f i s w m b false = moved_tick m 3 (popped_state s b) (s.depth - 2) (row_by f i b (place_at s (s.depth - 2)) w)
+popped_tick_by f i s w m b false = moved_tick m RETURN_CODE (popped_state s b) (s.depth - 2) (row_by f i b (place_at s (s.depth - 2)) w)
 
-abbrev pub tick_by_kind : Rule → Image → State → ℕ → ℕ → Label → Results → ℕ → MachineTick
-tick_by_kind f i s w l x b zero = moved_tick x.mask 0 (with_bits s b) (s.depth - 1) (row_by f i b l w)
-tick_by_kind f i s w l x b (suc zero) = tick_by i s w l x b (tick_kind 1)
-tick_by_kind f i s w l x b (suc (suc zero)) = tick_by i s w l x b (tick_kind 2)
-tick_by_kind f i s w l x b (suc (suc (suc zero))) = popped_tick_by f i s w x.mask b (leb s.depth 1)
-tick_by_kind f i s w l x b (suc (suc (suc (suc n)))) = tick_by i s w l x b (tick_kind 4)
+abbrev pub tick_by_rule : Rule → Image → State → ℕ → ℕ → Label → Results → TickKind → MachineTick
+tick_by_rule f i s w l x b plain = moved_tick x.mask PLAIN_CODE (with_bits s b) (s.depth - 1) (row_by f i b l w)
+tick_by_rule f i s w l x b operation_call = tick_by i s w l x b operation_call
+tick_by_rule f i s w l x b function_call = tick_by i s w l x b function_call
+tick_by_rule f i s w l x b return = popped_tick_by f i s w x.mask b (leb s.depth 1)
+tick_by_rule f i s w l x b home = tick_by i s w l x b home
 
 abbrev pub tick_with : Rule → Image → State → ℕ → MachineTick
 tick_with f i s w = let l = top_of s in let x = label_at i l in
-    tick_by_kind f i s w l x (with_result x.result (number_at s (s.depth - 1)) s.bits) x.kind
+    tick_by_rule f i s w l x (with_result x.result (number_at s (s.depth - 1)) s.bits) (tick_kind x.kind)
 
 -- by every such rule, of every state that fits
 unfoldable pub AnyRuleTicks : Type 0
