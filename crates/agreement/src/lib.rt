@@ -1,6 +1,6 @@
 //! The agreement of machine and walk, as one statement over a whole list of runs and rebindings, and its proof. Each theorem of the crate is
-//! the contract of a function here, which does nothing: whoever takes the theorem away, or its proof, breaks the contract. `dry_runs` runs a
-//! chart from its text, and promises what the walk gives.
+//! a clause of a function here that does nothing: a law that is changed or taken away no longer proves it. `dry_runs` runs a chart from its
+//! text, and promises what the walk gives.
 #![tactic(auto)]
 
 ghost use Rattle.std.specs.Prelude.{ℕ, List};
@@ -41,7 +41,7 @@ pub fn runs_tick_as_walk()
 /// On a table that `prepare` wrote, a live run is the run on the image's text, a live tick the tick and a live rebinding the rebinding, from
 /// every state.
 pub fn live_calls_act_as_on_text()
-    ensures { PreparedActs }
+    ensures prepared { PreparedActs }
 {}
 
 /// On the image of a chart, as `translate` wrote it, exactly one row matches each label from 2 up, word and bit; by every rule that takes a
@@ -63,5 +63,5 @@ pub fn causes_and_rows_are_told()
 
 /// For each text, refused or not, each entry point does what it does for the text in capitals.
 pub fn small_letters_are_capitals()
-    ensures { (t : List ℕ) → AsInCapitals t }
+    ensures every_text { (t : List ℕ) → AsInCapitals t }
 {}
