@@ -18,7 +18,7 @@ use Rattle.walk.proofs.FactsHold.{facts}
 use Rattle.translator.specs.Entry.{translate}
 use Rattle.translator.proofs.SoundTable.{table-sound}
 use Rattle.translator.proofs.Translated.{translated-fine, translated-few}
-use Rattle.rows.specs.Rows.{is_candidate, Choice, row, no_choice, best_row, Found, lead_of}
+use Rattle.rows.specs.Rows.{is_candidate, Choice, row, no_choice, best_row, lead_of}
 use Rattle.rows.specs.Choices.{Best}
 use Rattle.rows.proofs.BestRows.{best-is}
 use Rattle.state.specs.declared.State.{State}
@@ -26,21 +26,10 @@ use Rattle.state.specs.State.{label_at, place_at, number_at, server_at, Sized}
 use Rattle.state.specs.Changes.{with_bits}
 use Rattle.fitness.specs.Fitness.{is_call, is_unfit}
 use Rattle.fitness.proofs.Fitness.{Fits, unfits}
-use Rattle.ticks.specs.Tick.{called_bit, choice, MachineTick, moved_tick, popped_state, popped_tick, tick_by, tick, top_of}
+use Rattle.ticks.specs.Tick.{called_bit, choice, moved_tick, popped_state, popped_tick, tick_by, tick, top_of}
 use Rattle.ticks.proofs.Leads.{Sort, home_sort, return_sort, numbered_sort, sort, call-kind, carry-told}
-use Rattle.agreement.proofs.OnlyRow.{Only, image, read, image-is, only-translated}
-
--- which of the rows a label takes by a word and a bit
-abbrev pub Rule : Type 0
-Rule = ℕ → ℕ → ℕ → List Row → Choice
-
--- a row that matches, or none where no row does
-abbrev pub Matching : ℕ → ℕ → ℕ → List Row → Choice → Type 0
-Matching l w b rs no_choice = (j : ℕ) → j < length rs → is_candidate l w b (get_or rs j no_row) ≡ false
-Matching l w b rs (row k r) = (k < length rs) × (get_or rs k no_row ≡ r) × (is_candidate l w b r ≡ true)
-
-abbrev pub TakesMatching : Rule → Type 0
-TakesMatching f = (l w b : ℕ) (rs : List Row) → Matching l w b rs (f l w b rs)
+use Rattle.agreement.specs.OneRow.{Only, Rule, Matching, TakesMatching, tick_by_rule, popped_tick_by, tick_with, AnyRuleTicks}
+use Rattle.agreement.proofs.OnlyRow.{image, read, image-is, only-translated}
 
 only-taken : (l w b : ℕ) (rs : List Row) → Only l w b rs → (x : Choice) → Matching l w b rs x → x ≡ best_row l w b 0 rs
 only-taken l w b rs o x m = go x m ∙ sym o.taken
@@ -54,25 +43,6 @@ only-taken l w b rs o x m = go x m ∙ sym o.taken
     go (row k r) m =
         let same : k ≡ o.number = o.only k m.0 (ap (is_candidate l w b) m.1 ∙ m.2) in
         ap₂ row same (sym m.1 ∙ ap (λ (j : ℕ). get_or rs j no_row) same ∙ best.is)
-
--- ---- the machine's tick, but for the rule
-abbrev row_by : Rule → Image → Results → ℕ → ℕ → Found
-row_by f i b l w = lead_of (f l w (called_bit i b l) i.rows)
-
-abbrev popped_tick_by : Rule → Image → State → ℕ → ℕ → Results → Bool → MachineTick
-popped_tick_by f i s w m b true = popped_tick i s w m b true
-popped_tick_by f i s w m b false = moved_tick m 3 (popped_state s b) (s.depth - 2) (row_by f i b (place_at s (s.depth - 2)) w)
-
-abbrev tick_by_kind : Rule → Image → State → ℕ → ℕ → Label → Results → ℕ → MachineTick
-tick_by_kind f i s w l x b zero = moved_tick x.mask 0 (with_bits s b) (s.depth - 1) (row_by f i b l w)
-tick_by_kind f i s w l x b (suc zero) = tick_by i s w l x b (tick_kind 1)
-tick_by_kind f i s w l x b (suc (suc zero)) = tick_by i s w l x b (tick_kind 2)
-tick_by_kind f i s w l x b (suc (suc (suc zero))) = popped_tick_by f i s w x.mask b (leb s.depth 1)
-tick_by_kind f i s w l x b (suc (suc (suc (suc n)))) = tick_by i s w l x b (tick_kind 4)
-
-abbrev pub tick_with : Rule → Image → State → ℕ → MachineTick
-tick_with f i s w = let l = top_of s in let x = label_at i l in
-    tick_by_kind f i s w l x (with_result x.result (number_at s (s.depth - 1)) s.bits) x.kind
 
 -- where the rule takes the machine's row, for the label at the top or beneath a return, it makes the machine's tick
 module _ (f : Rule) (i : Image) (s : State) (w : ℕ) where
@@ -95,7 +65,7 @@ module _ (f : Rule) (i : Image) (s : State) (w : ℕ) where
       back false e =
           ap (λ (c : Choice). moved_tick x.mask 3 (popped_state s b) (s.depth - 2) (lead_of c)) (beneath (leb-false s.depth 1 e) b)
 
-      go : (k : ℕ) → x.kind ≡ k → tick_by_kind f i s w (top_of s) x b k ≡ tick_by i s w (top_of s) x b (tick_kind k)
+      go : (k : ℕ) → x.kind ≡ k → tick_by_rule f i s w (top_of s) x b (tick_kind k) ≡ tick_by i s w (top_of s) x b (tick_kind k)
       go zero e = ap (λ (c : Choice). moved_tick x.mask 0 (with_bits s b) (s.depth - 1) (lead_of c)) (top e b)
       go (suc zero) e = refl
       go (suc (suc zero)) e = refl
@@ -141,3 +111,7 @@ module _ (text out : List ℕ) (n : ℕ) (done : (translate text out).reply ≡ 
       (carry-told i sound m (number_at s (s.depth - 2 + 1)) (server_at s (s.depth - 2 + 1)) (place_at s (s.depth - 2 + 1))
       (g.carries (s.depth - 2) (omega arith))).0 in
       any-rule m (numbered m h (call-kind i sound m kept).1) h w)
+
+pub any-rule-ticks : AnyRuleTicks
+unfolding AnyRuleTicks
+any-rule-ticks = any-tick

@@ -93,6 +93,10 @@ use Rattle.spindles.specs.contracts.spindle_list.spin as spin
 use Rattle.spindles.proofs.spindle_list.spin.Reads as spin-reads
 use Rattle.spindles.specs.contracts.spindle_list.live_spin as live-spin
 use Rattle.spindles.proofs.spindle_list.live_spin.Reads as live-spin-reads
+use Rattle.ticks.specs.contracts.codes.meaning_of as meaning-of
+use Rattle.ticks.proofs.codes.meaning_of.Reads as meaning-of-reads
+use Rattle.agreement.specs.contracts.dry_runs.dry_run as dry-run
+use Rattle.agreement.proofs.dry_runs.dry_run.Reads as dry-run-reads
 
 pub read-chart-asks-nothing : (κs : Lfts 2) (a : ArgsD read-chart.signature κs) → read-chart-reads.Asked κs a
 read-chart-asks-nothing κs a = tt
@@ -165,6 +169,12 @@ spin-asks-nothing κs a = tt
 
 pub live-spin-asks-nothing : (κs : Lfts 2) (a : ArgsD live-spin.signature κs) → live-spin-reads.Asked κs a
 live-spin-asks-nothing κs a = tt
+
+pub meaning-of-asks-nothing : (κs : Lfts 0) (a : ArgsD meaning-of.signature κs) → meaning-of-reads.Asked κs a
+meaning-of-asks-nothing κs a = tt
+
+pub dry-run-asks-nothing : (κs : Lfts 5) (a : ArgsD dry-run.signature κs) → dry-run-reads.Asked κs a
+dry-run-asks-nothing κs a = tt
 
 -- ---- the functions for C
 pub c-read-chart-asks-nothing : (κs : Lfts 4) (a : ArgsD c-read-chart.signature κs) → c-read-chart-reads.Asked κs a

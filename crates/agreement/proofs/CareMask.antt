@@ -1,31 +1,24 @@
 -- On the image of a chart the care mask of the row taken is enough by itself: every word that agrees on it takes the same row.
 use mathlib.Core.Path.{◌≡◌, sym, ◌∙◌, ap, ap₂, subst}
 use mathlib.Core.Bool.{true, ◌&&◌, ◌||◌}
-use mathlib.Core.List.{List}
 use Prim.Native.Nat.{ℕ}
 use lib.Bits.{bit_and}
 use lib.Dec.{eqb}
-use lib.ListN.{take}
 use Rattle.results.specs.Results.{result_of}
-use Rattle.text.specs.frames.Answer.{success}
 use Rattle.image.specs.Image.{Image, Row, nth_row}
-use Rattle.translator.specs.Entry.{translate}
 use Rattle.rows.specs.Rows.{is_candidate, row}
 use Rattle.rows.specs.Choices.{Best}
 use Rattle.rows.proofs.BestRows.{best-is}
-use Rattle.state.specs.declared.State.{State}
 use Rattle.state.specs.State.{label_at}
 use Rattle.ticks.specs.Tick.{called_bit}
-use Rattle.cause.specs.Cause.{Cause}
-use Rattle.cause.specs.Laws.{taken_row, Explains}
 use Rattle.cause.proofs.Leaves.{Goes}
 use Rattle.cause.proofs.Explained.{TakenApart, given, taken_is, goes}
 use Rattle.cause.proofs.Explained as explained
-use Rattle.agreement.proofs.OnlyRow.{Only, image, only-translated}
+use Rattle.agreement.specs.OneRow.{Only, CareDecides}
+use Rattle.agreement.proofs.OnlyRow.{image, only-translated}
 
-pub care-decides : (text out : List ℕ) (n : ℕ) (done : (translate text out).reply ≡ success n) (s : State) (w : ℕ) (c : Cause)
-    → Explains (take n (translate text out).buffer) s w c → let i = image text out n done in
-    (v : ℕ) → bit_and v (nth_row i c.row).care ≡ bit_and w (nth_row i c.row).care → taken_row i s v ≡ row c.row (nth_row i c.row)
+pub care-decides : CareDecides
+unfolding CareDecides
 care-decides text out n done s w c x v a =
     let i : Image = image text out n done in
     let sound = explained.image x.fitting in

@@ -12,7 +12,7 @@ use Rattle.state.specs.declared.State.{State}
 use Rattle.state.specs.State.{Sized}
 use Rattle.state.specs.Bytes.{state_of}
 use Rattle.state.proofs.ResultBytes.{held-sized}
-use Rattle.cause.specs.Cause.{Cause, explain, cause_reply, cause_row, cause_mask, cause_bit, GivesCause}
+use Rattle.cause.specs.Cause.{explain, cause_reply, cause_row, cause_mask, cause_bit}
 use Rattle.cause.specs.Laws.{Explains}
 use Rattle.cause.proofs.Answers.{answered}
 use Rattle.cause.specs.contracts.explaining.cause_of as cause-of
@@ -20,28 +20,38 @@ use Rattle.cause.proofs.explaining.cause_of.Reads as cause-of-reads
 use Rattle.fairleadow.specs.causes_for_c.Calls.{GivesCauseC, cause_for}
 use Rattle.fairleadow.specs.contracts.causes_for_c.fairleadow_cause as c-cause
 use Rattle.fairleadow.proofs.causes_for_c.fairleadow_cause.Reads as c-cause-reads
+use Rattle.agreement.specs.Told.{cause_report, CauseTold, CauseToldC}
 use Rattle.agreement.proofs.Numbers.{cause-success}
 
-abbrev pub cause_report : ℕ → ℕ → ℕ → Cause
-cause_report k m b = record { row = k; mask = m; bit = b }
-
+-- ---- by the records of the two calls
 explained : (t : List ℕ) (s : State) (w n : ℕ) → Sized s → (explain t s w).reply ≡ success n → (k m b : ℕ)
     → k ≡ (explain t s w).cause.row → m ≡ (explain t s w).cause.mask → b ≡ (explain t s w).cause.bit → Explains t s w (cause_report k m b)
 explained t s w n h e k m b p q o =
     let same : cause_report k m b ≡ (explain t s w).cause = λ j. cause_report (p j) (q j) (o j) in
     subst (Explains t s w) (sym same) (answered t s w n h e)
 
+pub cause-explains : CauseTold
+unfolding CauseTold
+cause-explains t s w r c h n d = explained t s w n h (sym c.answered ∙ d) (cause_row r) (cause_mask r) (cause_bit r) c.row c.mask c.bit
+
+pub cause-explains-c : CauseToldC
+unfolding CauseToldC
+cause-explains-c t b w at made k m o c =
+    explained t (state_of b) w (reply_count (explain t (state_of b) w).reply) (held-sized b)
+    (cause-success t (state_of b) w (sym c.told.number_is)) k m o c.row c.mask c.bit
+
+-- ---- by what the contracts let a caller learn
 pub cause-told : (κs : Lfts 1) (a : ArgsD cause-of.signature κs) (r : ResD cause-of.signature κs) (s : AtExit cause-of.ended κs)
     → cause-of-reads.Learnt κs a r s → Sized a.1.0 → (n : ℕ) → cause_reply r ≡ success n
     → Explains a.0.now a.1.0 a.1.1.0 (cause_report (cause_row r) (cause_mask r) (cause_bit r))
-cause-told κs a r s e h n d =
-    let c : GivesCause (explain a.0.now a.1.0 a.1.1.0) r = e in
-    explained a.0.now a.1.0 a.1.1.0 n h (sym c.answered ∙ d) (cause_row r) (cause_mask r) (cause_bit r) c.row c.mask c.bit
+unfolding CauseTold
+cause-told κs a r s e h n d = cause-explains a.0.now a.1.0 a.1.1.0 r e h n d
 
 pub cause-told-c : (κs : Lfts 7) (a : ArgsD c-cause.signature κs) (r : ResD c-cause.signature κs) (s : AtExit c-cause.ended κs)
     → c-cause-reads.Learnt κs a r s → r ≡ 0
     → Explains a.0.now (state_of a.1.0.now) a.1.1.0
     (cause_report s.1.1.1.0.now s.1.1.1.1.0.now s.1.1.1.1.1.0.now)
+unfolding CauseToldC
 cause-told-c κs a r s e z =
     let t : List ℕ = a.0.now in
     let b : List ℕ = a.1.0.now in
@@ -49,6 +59,6 @@ cause-told-c κs a r s e z =
     let k : ℕ = s.1.1.1.0.now in
     let m : ℕ = s.1.1.1.1.0.now in
     let o : ℕ = s.1.1.1.1.1.0.now in
-    let c : GivesCauseC (cause_for t b w) r s.1.1.1.1.1.1.0.now s.1.1.1.1.1.1.1.0.now k m o = e in
-    explained t (state_of b) w (reply_count (explain t (state_of b) w).reply) (held-sized b)
-    (cause-success t (state_of b) w (sym c.told.number_is ∙ z)) k m o c.row c.mask c.bit
+    let at : ℕ = s.1.1.1.1.1.1.0.now in
+    let made : ℕ = s.1.1.1.1.1.1.1.0.now in
+    cause-explains-c t b w at made k m o (subst (λ (x : ℕ). GivesCauseC (cause_for t b w) x at made k m o) z e)

@@ -5,7 +5,7 @@ use contract.Lifetimes.{Lfts}
 use denote.Triple.Clauses.{AtExit}
 use borrow.Fn.World.{ArgsD, ResD}
 use mathlib.Core.Path.{◌≡◌}
-use Rattle.text.specs.frames.Answer.{reply, GivesBuffer}
+use Rattle.text.specs.frames.Answer.{reply, verdict_reply, GivesBuffer}
 use Rattle.translator.specs.Entry.{translate}
 use Rattle.places.specs.Entry.{places_needed}
 use Rattle.translator.specs.contracts.translating.translate as translating-translate
@@ -89,9 +89,53 @@ use Rattle.fairleadow.specs.contracts.spindles_for_c.fairleadow_live_spin as c-l
 use Rattle.fairleadow.proofs.spindles_for_c.fairleadow_live_spin.Reads as c-live-spin-reads
 use Rattle.fairleadow.specs.contracts.fillings_for_c.fairleadow_count_fillings as c-count-fillings
 use Rattle.fairleadow.proofs.fillings_for_c.fairleadow_count_fillings.Reads as c-count-fillings-reads
+use Rattle.charts.specs.Entry.{read_chart, write_chart}
+use Rattle.chart_text.specs.contracts.read_chart as text-read-chart
+use Rattle.chart_text.proofs.read_chart.Reads as text-read-chart-reads
+use Rattle.chart_text.specs.contracts.write_chart as text-write-chart
+use Rattle.chart_text.proofs.write_chart.Reads as text-write-chart-reads
+use Rattle.image.specs.Check.{image_verdict}
+use Rattle.image_check.specs.contracts.check_image as check-image
+use Rattle.image_check.proofs.check_image.Reads as check-image-reads
+use Rattle.rows.specs.listing.Listing.{list, GivesListing}
+use Rattle.rows.specs.contracts.image_rows.list_rows as list-rows
+use Rattle.rows.proofs.image_rows.list_rows.Reads as list-rows-reads
+use Rattle.cause.specs.Cause.{explain, GivesCause}
+use Rattle.cause.specs.contracts.explaining.cause_of as cause-of
+use Rattle.cause.proofs.explaining.cause_of.Reads as cause-of-reads
+use Rattle.ticks.specs.codes.Codes.{meaning_of}
+use Rattle.ticks.specs.contracts.codes.meaning_of as meaning-of
+use Rattle.ticks.proofs.codes.meaning_of.Reads as meaning-of-reads
+use Rattle.runs.specs.contracts.kept_states.tick as kept-tick
+use Rattle.runs.proofs.kept_states.tick.Reads as kept-tick-reads
+use Rattle.spindles.specs.Spindles.{spin, live_spin, GivesSpin}
+use Rattle.spindles.specs.spindle_parts.FourStates.{states_of}
+use Rattle.spindles.specs.spindle_bytes.Bytes.{GivesSpinOn}
+use Rattle.spindles.specs.contracts.spindle_list.spin as list-spin
+use Rattle.spindles.proofs.spindle_list.spin.Reads as list-spin-reads
+use Rattle.spindles.specs.contracts.spindle_list.live_spin as list-live-spin
+use Rattle.spindles.proofs.spindle_list.live_spin.Reads as list-live-spin-reads
+use Rattle.spindles.specs.contracts.spindle_bytes.spin_bytes as spin-bytes
+use Rattle.spindles.proofs.spindle_bytes.spin_bytes.Reads as spin-bytes-reads
+use Rattle.spindles.specs.contracts.live_spindle_bytes.live_spin_bytes as live-spin-bytes
+use Rattle.spindles.proofs.live_spindle_bytes.live_spin_bytes.Reads as live-spin-bytes-reads
+use Rattle.fairleadow.specs.images_for_c.Calls.{GivesListingC}
+use Rattle.fairleadow.specs.causes_for_c.Calls.{cause_for, GivesCauseC}
+use Rattle.fairleadow.specs.causes_for_c.Meant.{Meant}
+use Rattle.fairleadow.specs.contracts.charts_for_c.fairleadow_read_chart as c-read-chart
+use Rattle.fairleadow.proofs.charts_for_c.fairleadow_read_chart.Reads as c-read-chart-reads
+use Rattle.fairleadow.specs.contracts.charts_for_c.fairleadow_write_chart as c-write-chart
+use Rattle.fairleadow.proofs.charts_for_c.fairleadow_write_chart.Reads as c-write-chart-reads
+use Rattle.fairleadow.specs.contracts.images_for_c.fairleadow_check_image as c-check-image
+use Rattle.fairleadow.proofs.images_for_c.fairleadow_check_image.Reads as c-check-image-reads
+use Rattle.fairleadow.specs.contracts.images_for_c.fairleadow_list_rows as c-list-rows
+use Rattle.fairleadow.proofs.images_for_c.fairleadow_list_rows.Reads as c-list-rows-reads
+use Rattle.fairleadow.specs.contracts.causes_for_c.fairleadow_cause as c-cause
+use Rattle.fairleadow.proofs.causes_for_c.fairleadow_cause.Reads as c-cause-reads
+use Rattle.fairleadow.specs.contracts.causes_for_c.fairleadow_meaning as c-meaning
+use Rattle.fairleadow.proofs.causes_for_c.fairleadow_meaning.Reads as c-meaning-reads
 
--- ---- translate, prepare, minimise, little_chart, State::fresh, of state_runs run, tick_image, live_run and live_tick, priced_run, of
--- rebinding rebind and live_rebind, and count_fillings
+-- ---- the functions: on charts, images and tables, with a state, over four spindles
 pub translate-lends : (κs : Lfts 2) (a : ArgsD translating-translate.signature κs) (r : ResD translating-translate.signature κs)
     (s : AtExit translating-translate.ended κs)
     → translating-translate-reads.Learnt κs a r s → GivesBuffer (translate a.0.now a.1.0.now) r s.1.0.now
@@ -167,8 +211,58 @@ pub count-fillings-tells : (κs : Lfts 1) (a : ArgsD counting-count-fillings.sig
     → counting-count-fillings-reads.Learnt κs a r s → GivesFillings (count_fillings a.0.now a.1.0 a.1.1.0 a.1.1.1.0) r
 count-fillings-tells κs a r s e = e
 
--- ---- for C: translate, fresh, run, priced_run and tick, then prepare, minimise,
--- little_chart, live_run and live_tick, and the two rebindings
+pub read-chart-lends : (κs : Lfts 2) (a : ArgsD text-read-chart.signature κs) (r : ResD text-read-chart.signature κs)
+    (s : AtExit text-read-chart.ended κs)
+    → text-read-chart-reads.Learnt κs a r s → GivesBuffer (read_chart a.0.now a.1.0.now) r s.1.0.now
+read-chart-lends κs a r s e = e
+
+pub write-chart-lends : (κs : Lfts 2) (a : ArgsD text-write-chart.signature κs) (r : ResD text-write-chart.signature κs)
+    (s : AtExit text-write-chart.ended κs)
+    → text-write-chart-reads.Learnt κs a r s → GivesBuffer (write_chart a.0.now a.1.0.now) r s.1.0.now
+write-chart-lends κs a r s e = e
+
+pub check-image-answered : (κs : Lfts 1) (a : ArgsD check-image.signature κs) (r : ResD check-image.signature κs)
+    (s : AtExit check-image.ended κs)
+    → check-image-reads.Learnt κs a r s → reply r ≡ verdict_reply (image_verdict a.0.now) 0
+check-image-answered κs a r s e = e
+
+pub list-rows-lends : (κs : Lfts 3) (a : ArgsD list-rows.signature κs) (r : ResD list-rows.signature κs) (s : AtExit list-rows.ended κs)
+    → list-rows-reads.Learnt κs a r s → GivesListing (list a.0.now a.1.0.now a.1.1.0.now) r s.1.0.now s.1.1.0.now
+list-rows-lends κs a r s e = e
+
+pub cause-of-tells : (κs : Lfts 1) (a : ArgsD cause-of.signature κs) (r : ResD cause-of.signature κs) (s : AtExit cause-of.ended κs)
+    → cause-of-reads.Learnt κs a r s → GivesCause (explain a.0.now a.1.0 a.1.1.0) r
+cause-of-tells κs a r s e = e
+
+pub meaning-of-tells : (κs : Lfts 0) (a : ArgsD meaning-of.signature κs) (r : ResD meaning-of.signature κs) (s : AtExit meaning-of.ended κs)
+    → meaning-of-reads.Learnt κs a r s → r ≡ meaning_of a.0
+meaning-of-tells κs a r s e = e
+
+pub kept-tick-advances : (κs : Lfts 2) (a : ArgsD kept-tick.signature κs) (r : ResD kept-tick.signature κs) (s : AtExit kept-tick.ended κs)
+    → kept-tick-reads.Learnt κs a r s → GivesTick (image_tick a.1.0.now a.0.now a.1.1.0) r s.0.now
+kept-tick-advances κs a r s e = e
+
+pub spin-spins : (κs : Lfts 2) (a : ArgsD list-spin.signature κs) (r : ResD list-spin.signature κs) (s : AtExit list-spin.ended κs)
+    → list-spin-reads.Learnt κs a r s → GivesSpin (spin a.1.1.1.0.now a.0.now a.1.0 a.1.1.0 a.1.1.1.1.0) r s.0.now
+spin-spins κs a r s e = e
+
+pub live-spin-spins : (κs : Lfts 2) (a : ArgsD list-live-spin.signature κs) (r : ResD list-live-spin.signature κs)
+    (s : AtExit list-live-spin.ended κs)
+    → list-live-spin-reads.Learnt κs a r s → GivesSpin (live_spin a.1.1.1.0.now a.0.now a.1.0 a.1.1.0 a.1.1.1.1.0) r s.0.now
+live-spin-spins κs a r s e = e
+
+pub spin-bytes-spins : (κs : Lfts 2) (a : ArgsD spin-bytes.signature κs) (r : ResD spin-bytes.signature κs) (s : AtExit spin-bytes.ended κs)
+    → spin-bytes-reads.Learnt κs a r s
+    → GivesSpinOn (spin a.1.1.1.0.now (states_of a.0.now) a.1.0 a.1.1.0 a.1.1.1.1.0) a.0.now a.1.1.0 r s.0.now
+spin-bytes-spins κs a r s e = e
+
+pub live-spin-bytes-spins : (κs : Lfts 2) (a : ArgsD live-spin-bytes.signature κs) (r : ResD live-spin-bytes.signature κs)
+    (s : AtExit live-spin-bytes.ended κs)
+    → live-spin-bytes-reads.Learnt κs a r s
+    → GivesSpinOn (live_spin a.1.1.1.0.now (states_of a.0.now) a.1.0 a.1.1.0 a.1.1.1.1.0) a.0.now a.1.1.0 r s.0.now
+live-spin-bytes-spins κs a r s e = e
+
+-- ---- the functions for C
 pub translate-lends-c : (κs : Lfts 4) (a : ArgsD c-translate.signature κs)
     (r : ResD c-translate.signature κs) (s : AtExit c-translate.ended κs)
     → c-translate-reads.Learnt κs a r s
@@ -268,3 +362,36 @@ pub count-fillings-tells-c : (κs : Lfts 6) (a : ArgsD c-count-fillings.signatur
     → GivesFillingsC (count_fillings a.0.now a.1.0 a.1.1.0 a.1.1.1.0) r s.1.1.1.1.1.1.1.0.now
     s.1.1.1.1.1.1.1.1.0.now s.1.1.1.1.0.now s.1.1.1.1.1.0.now s.1.1.1.1.1.1.0.now
 count-fillings-tells-c κs a r s e = e
+
+pub read-chart-lends-c : (κs : Lfts 4) (a : ArgsD c-read-chart.signature κs) (r : ResD c-read-chart.signature κs)
+    (s : AtExit c-read-chart.ended κs)
+    → c-read-chart-reads.Learnt κs a r s
+    → GivesBufferC (read_chart a.0.now a.1.0.now) r s.1.1.0.now s.1.1.1.0.now s.1.0.now
+read-chart-lends-c κs a r s e = e
+
+pub write-chart-lends-c : (κs : Lfts 4) (a : ArgsD c-write-chart.signature κs) (r : ResD c-write-chart.signature κs)
+    (s : AtExit c-write-chart.ended κs)
+    → c-write-chart-reads.Learnt κs a r s
+    → GivesBufferC (write_chart a.0.now a.1.0.now) r s.1.1.0.now s.1.1.1.0.now s.1.0.now
+write-chart-lends-c κs a r s e = e
+
+pub check-image-answered-c : (κs : Lfts 3) (a : ArgsD c-check-image.signature κs) (r : ResD c-check-image.signature κs)
+    (s : AtExit c-check-image.ended κs)
+    → c-check-image-reads.Learnt κs a r s → GivesReplyC (verdict_reply (image_verdict a.0.now) 0) r s.1.0.now s.1.1.0.now
+check-image-answered-c κs a r s e = e
+
+pub list-rows-lends-c : (κs : Lfts 5) (a : ArgsD c-list-rows.signature κs) (r : ResD c-list-rows.signature κs)
+    (s : AtExit c-list-rows.ended κs)
+    → c-list-rows-reads.Learnt κs a r s
+    → GivesListingC (list a.0.now a.1.0.now a.1.1.0.now) r s.1.1.1.0.now s.1.1.1.1.0.now s.1.0.now s.1.1.0.now
+list-rows-lends-c κs a r s e = e
+
+pub cause-tells-c : (κs : Lfts 7) (a : ArgsD c-cause.signature κs) (r : ResD c-cause.signature κs) (s : AtExit c-cause.ended κs)
+    → c-cause-reads.Learnt κs a r s
+    → GivesCauseC (cause_for a.0.now a.1.0.now a.1.1.0) r s.1.1.1.1.1.1.0.now s.1.1.1.1.1.1.1.0.now
+    s.1.1.1.0.now s.1.1.1.1.0.now s.1.1.1.1.1.0.now
+cause-tells-c κs a r s e = e
+
+pub meaning-tells-c : (κs : Lfts 1) (a : ArgsD c-meaning.signature κs) (r : ResD c-meaning.signature κs) (s : AtExit c-meaning.ended κs)
+    → c-meaning-reads.Learnt κs a r s → Meant a.0 r s.1.0.now
+meaning-tells-c κs a r s e = e

@@ -8,7 +8,7 @@ use Prim.Native.Nat.{ℕ}
 use mathlib.Core.Path.{◌≡◌, sym, ◌∙◌, ap, subst}
 use mathlib.Core.List.{List}
 use Rattle.text.specs.frames.Answer.{success, reply}
-use Rattle.rows.specs.listing.Listing.{list, GivesListing}
+use Rattle.rows.specs.listing.Listing.{list}
 use Rattle.rows.specs.listing.Exact.{Held}
 use Rattle.rows.proofs.listing.Answers.{held}
 use Rattle.rows.specs.contracts.image_rows.list_rows as list-rows
@@ -16,6 +16,7 @@ use Rattle.rows.proofs.image_rows.list_rows.Reads as list-rows-reads
 use Rattle.fairleadow.specs.images_for_c.Calls.{GivesListingC}
 use Rattle.fairleadow.specs.contracts.images_for_c.fairleadow_list_rows as c-list-rows
 use Rattle.fairleadow.proofs.images_for_c.fairleadow_list_rows.Reads as c-list-rows-reads
+use Rattle.agreement.specs.Told.{RowsListed, RowsListedC}
 use Rattle.agreement.proofs.Numbers.{list-success}
 
 holding : (t xs ys : List ℕ) (n : ℕ) → (list t xs ys).reply ≡ success n → (us vs : List ℕ)
@@ -24,23 +25,31 @@ holding : (t xs ys : List ℕ) (n : ℕ) → (list t xs ys).reply ≡ success n 
 holding t xs ys n e us vs p q =
     subst (λ (u : List ℕ). Held t u vs n) (sym p) (subst (λ (v : List ℕ). Held t (list t xs ys).firsts v n) (sym q) (held t xs ys n e))
 
+-- ---- by the records of the two calls
+pub rows-held : RowsListed
+unfolding RowsListed
+rows-held t xs ys r us vs c n d = holding t xs ys n (sym c.answered ∙ d) us vs c.firsts c.counts
+
+pub rows-held-c : RowsListedC
+unfolding RowsListedC
+rows-held-c t xs ys at n us vs c =
+    holding t xs ys n (list-success t xs ys (sym c.told.number_is) ∙ ap success (sym c.told.count-is)) us vs c.firsts c.counts
+
+-- ---- by what the contracts let a caller learn
 pub rows-listed : (κs : Lfts 3) (a : ArgsD list-rows.signature κs) (r : ResD list-rows.signature κs) (s : AtExit list-rows.ended κs)
     → list-rows-reads.Learnt κs a r s → (n : ℕ) → reply r ≡ success n → Held a.0.now s.1.0.now s.1.1.0.now n
-rows-listed κs a r s e n d =
-    let t : List ℕ = a.0.now in
-    let xs : List ℕ = a.1.0.now in
-    let ys : List ℕ = a.1.1.0.now in
-    let c : GivesListing (list t xs ys) r s.1.0.now s.1.1.0.now = e in
-    holding t xs ys n (sym c.answered ∙ d) s.1.0.now s.1.1.0.now c.firsts c.counts
+unfolding RowsListed
+rows-listed κs a r s e n d = rows-held a.0.now a.1.0.now a.1.1.0.now r s.1.0.now s.1.1.0.now e n d
 
 pub rows-listed-c : (κs : Lfts 5) (a : ArgsD c-list-rows.signature κs) (r : ResD c-list-rows.signature κs) (s : AtExit c-list-rows.ended κs)
     → c-list-rows-reads.Learnt κs a r s → r ≡ 0 → Held a.0.now s.1.0.now s.1.1.0.now s.1.1.1.1.0.now
+unfolding RowsListedC
 rows-listed-c κs a r s e z =
     let t : List ℕ = a.0.now in
     let xs : List ℕ = a.1.0.now in
     let ys : List ℕ = a.1.1.0.now in
+    let at : ℕ = s.1.1.1.0.now in
     let n : ℕ = s.1.1.1.1.0.now in
-    let c : GivesListingC (list t xs ys) r s.1.1.1.0.now n s.1.0.now s.1.1.0.now = e in
-    holding t xs ys n (list-success t xs ys (sym c.told.number_is ∙ z) ∙ ap success (sym c.told.count-is))
-    s.1.0.now s.1.1.0.now
-    c.firsts c.counts
+    let us : List ℕ = s.1.0.now in
+    let vs : List ℕ = s.1.1.0.now in
+    rows-held-c t xs ys at n us vs (subst (λ (x : ℕ). GivesListingC (list t xs ys) x at n us vs) z e)

@@ -20,6 +20,7 @@ use Rattle.runs.specs.machine.Prepared.{PreparedTable}
 use Rattle.runs.proofs.machine.Live.{live-run-is, live-tick-is}
 use Rattle.agreement.specs.Agreement.{RunInput, output_of, CallInput, to_run, to_rebind, CallOutput, by_run, by_rebinding, call_outputs}
 use Rattle.agreement.specs.Calls.{TableOf, prepared, output_of_run, output_of_rebinding, one_word, output_of_tick}
+use Rattle.agreement.specs.LiveCalls.{PreparedActs}
 use Rattle.agreement.specs.Calls.{Call, run_call, run_call_live, tick_call, tick_call_live, rebind_call, rebind_call_live}
 
 -- a rebinding on the table that was prepared from an image is the image's own, from every state
@@ -43,6 +44,11 @@ module _ (t old : List ℕ) (n : ℕ) (e : (prepare t old).reply ≡ success n) 
 
   pub prepared-rebind : (s : State) (number scheme : ℕ) → live_rebind table s number scheme ≡ rebind t s number scheme
   prepared-rebind = prepared-rebind-is prepared-holds
+
+pub prepared-acts : PreparedActs
+unfolding PreparedActs
+prepared-acts t old n e m h =
+    record { runs = prepared-run t old n e m h; ticks = prepared-tick t old n e m h; rebinds = prepared-rebind t old n e m h }
 
 -- ---- what is asked for: what it hands back, and the state after it
 abbrev pub run_asked : List ℕ → State → RunInput → RunOutcome

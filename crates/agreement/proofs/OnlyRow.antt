@@ -5,7 +5,7 @@ use mathlib.Core.Bool.{Bool, true}
 use mathlib.Core.List.{List}
 use Prim.Native.Nat.{ℕ, ◌≤◌, ◌<◌}
 use native.Mathlib.Omega.{arith}
-use lib.ListN.{length, take, get_or}
+use lib.ListN.{length}
 use Rattle.text.specs.frames.Frame.{size, contents}
 use Rattle.text.specs.frames.Verdict.{fine}
 use Rattle.text.specs.frames.Answer.{success}
@@ -13,7 +13,7 @@ use Rattle.charts.specs.Chart.{Chart}
 use Rattle.charts.specs.Entry.{read_verdict}
 use Rattle.charts.proofs.Accepted.{SoundChart, accepted}
 use Rattle.walk.proofs.FactsHold.{facts}
-use Rattle.image.specs.Image.{Image, Row, no_row}
+use Rattle.image.specs.Image.{Image}
 use Rattle.image.specs.Decode.{decoded_image}
 use Rattle.chart_rows.specs.chart_labels.Labels.{is_numbered, label}
 use Rattle.chart_rows.specs.Rows.{rows}
@@ -25,15 +25,9 @@ use Rattle.translator.proofs.Translated.{translated-read, translated-fine, trans
 use Rattle.rows.specs.Rows.{is_candidate, Choice, row, no_choice, best_row, found, missing, lead_of}
 use Rattle.rows.specs.Choices.{Best}
 use Rattle.rows.proofs.BestRows.{best-is}
+use Rattle.agreement.specs.OneRow.{translated_image, Only, OneRowMatches}
 use Rattle.agreement.proofs.TableFactsHold.{best-only}
 use Rattle.agreement.proofs.Images.{translated-decoded}
-
--- the row that label l takes by a word and a bit, and no other row matches
-pub record Only (l w b : ℕ) (rs : List Row) : Type 0 where
-  pub number : ℕ
-  pub one : Row
-  pub taken : best_row l w b 0 rs ≡ row number one
-  pub only : (j : ℕ) → j < length rs → is_candidate l w b (get_or rs j no_row) ≡ true → j ≡ number
 
 pub only_row : (c : Chart) → SoundChart c → (v w : ℕ) (b : Bool) → v < size c
     → is_numbered c v ≡ true → Only (label c v) w (if b then 1 else 0) (rows c)
@@ -59,7 +53,7 @@ only_row c a v w b l e = go (best_row (label c v) w (if b then 1 else 0) 0 (rows
 -- ---- the image that the translator wrote
 module _ (text out : List ℕ) (n : ℕ) (done : (translate text out).reply ≡ success n) where
   abbrev pub image : Image
-  image = decoded_image (contents (take n (translate text out).buffer))
+  image = translated_image text out n
 
   pub read : read_verdict text ≡ fine
   read = translated-read text (translated-fine text out n done)
@@ -77,3 +71,7 @@ module _ (text out : List ℕ) (n : ℕ) (done : (translate text out).reply ≡ 
       subst (λ (m : ℕ). Only m w (if b then 1 else 0) image.rows) x.is
       (subst (Only (label c x.node) w (if b then 1 else 0)) (sym (ap (λ (i : Image). i.rows) image-is ∙ rows_are c))
       (only_row c (accepted text read).sound x.node w b x.inside x.own))
+
+pub one-row-matches : OneRowMatches
+unfolding OneRowMatches
+one-row-matches = only-translated

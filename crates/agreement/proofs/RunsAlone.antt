@@ -1,6 +1,6 @@
 -- With no rebinding in the list, the agreement is one over lists of runs and the walk of words alone.
 use Rattle.std.proofs.Common.{if◌then◌else◌}
-use Prim.Native.Nat.{ℕ, ◌+◌, ◌≤◌}
+use Prim.Native.Nat.{ℕ, ◌+◌}
 use mathlib.Core.Bool.{Bool, true, false}
 use mathlib.Core.Path.{◌≡◌, refl, sym, ap, ◌∙◌}
 use mathlib.Core.List.{List, [], ◌∷◌, ◌++◌, map, map-append}
@@ -9,7 +9,7 @@ use Rattle.words.specs.lists.Sequences.{concat_map}
 use Rattle.bindings.specs.Binding.{Binding, own_binding}
 use Rattle.text.specs.frames.Frame.{contents}
 use Rattle.text.specs.frames.Verdict.{fine}
-use Rattle.text.specs.frames.Answer.{Answer, reply, success, BufferOutcome, GivesBuffer}
+use Rattle.text.specs.frames.Answer.{success, BufferOutcome}
 use Rattle.charts.specs.Chart.{Chart}
 use Rattle.charts.specs.Entry.{read_verdict}
 use Rattle.walk.specs.Walk.{Signal, signals, Tick, walk}
@@ -17,12 +17,9 @@ use Rattle.walk.proofs.OwnBinding.{own-binding}
 use Rattle.translator.specs.Entry.{translate}
 use Rattle.translator.proofs.Translated.{translated-read, translated-fine}
 use Rattle.state.specs.declared.State.{State}
-use Rattle.state.specs.declared.StateReport.{StateReport}
-use Rattle.state.specs.State.{fresh_state, GivesState}
-use Rattle.runs.specs.Run.{RunOutcome, run, GivesRun}
+use Rattle.state.specs.State.{fresh_state}
+use Rattle.runs.specs.Run.{RunOutcome, run}
 use Rattle.rebinding.specs.Rebind.{rebind}
-use Rattle.fairleadow.specs.telling.AnswersForC.{GivesBufferC}
-use Rattle.fairleadow.specs.runs_for_c.Calls.{GivesStateC, run_for, GivesRunC}
 use Rattle.agreement.specs.Agreement.{Translator, Maker, Runner, Rebinder, RunInput, RunOutput, output_of, to_run}
 use Rattle.agreement.specs.Agreement.{CallOutput, by_run, by_rebinding, call_outputs, is_short}
 use Rattle.agreement.specs.Agreement.{joined_words, bound, expected_output, output_refused_short, expected_outputs, walk_outputs, Agreement}
@@ -31,6 +28,7 @@ use Rattle.agreement.specs.Unswapped as unswapped
 use Rattle.agreement.proofs.Expected.{all_short, all-long}
 use Rattle.agreement.specs.Calls as calls
 use Rattle.agreement.specs.ForC as c
+use Rattle.agreement.specs.RunsAlone as alone
 use Rattle.agreement.proofs.Demand.{theorem}
 use Rattle.agreement.proofs.Delivered.{delivered}
 use Rattle.agreement.proofs.ForC.{returned-0, delivered-c}
@@ -112,35 +110,20 @@ pub runs-alone : unswapped.RunAgreement translate fresh_state run
 runs-alone = agreement-alone translate fresh_state run rebind (λ text out. refl) theorem
 
 -- ---- over the functions
--- any mixture of calls that run and tick, on the image's text or on a table of it
-pub delivered-alone :
-    (text before after : List ℕ) (answer : Answer) → GivesBuffer (translate text before) answer after → (n : ℕ) → reply answer ≡ success n
-    → (size : ℕ) → 1 ≤ size → size ≤ 32 → (made : StateReport) → GivesState (fresh_state size) made
-    → (asked : List RunInput) (handed : List CallOutput) → calls.CallsInTurn (take n after) made.state (map to_run asked) handed
-    → handed ≡ map by_run (unswapped.walk_runs size (contents text) asked)
-unfolding calls.Delivered
+pub delivered-alone : alone.DeliveredAlone
+unfolding alone.DeliveredAlone calls.Delivered
 delivered-alone text before after answer l n e size low high made m asked handed cs =
     delivered text before after answer l n e size low high made m (map to_run asked) handed cs
     ∙ walked-alone text (translated-read text (translated-fine text before n (sym l.answered ∙ e))) size asked
 
--- calls of run in a row, each given the state that the one before returned
-pub data RunCalls (image : List ℕ) : State → List RunInput → List RunOutput → Type 0 where
-  none : {s : State} → RunCalls image s [] []
-  more : {s : State} {a : RunInput} {rest : List RunInput} {tolds : List RunOutput} (ran : StateReport) (masks codes : List ℕ)
-      → GivesRun (run image s a.words a.masks a.codes) ran masks codes → RunCalls image ran.state rest tolds
-      → RunCalls image s (a ∷ rest) (record { reply = reply ran.answer; masks = masks; codes = codes } ∷ tolds)
-
 -- are among the lists of calls: no call of prepare is asked for
-pub runs-are-calls : {image : List ℕ} {s : State} {asked : List RunInput} {tolds : List RunOutput} → RunCalls image s asked tolds
+pub runs-are-calls : {image : List ℕ} {s : State} {asked : List RunInput} {tolds : List RunOutput} → alone.RunCalls image s asked tolds
     → calls.CallsInTurn image s (map to_run asked) (map by_run tolds)
-runs-are-calls none = calls.none
-runs-are-calls (more ran masks codes r rs) = calls.more (calls.run_call r) (runs-are-calls rs)
+runs-are-calls alone.none = calls.none
+runs-are-calls (alone.more ran masks codes r rs) = calls.more (calls.run_call r) (runs-are-calls rs)
 
-pub runs-delivered :
-    (text before after : List ℕ) (answer : Answer) → GivesBuffer (translate text before) answer after → (n : ℕ) → reply answer ≡ success n
-    → (size : ℕ) → 1 ≤ size → size ≤ 32 → (made : StateReport) → GivesState (fresh_state size) made
-    → (asked : List RunInput) (tolds : List RunOutput) → RunCalls (take n after) made.state asked tolds
-    → tolds ≡ unswapped.walk_runs size (contents text) asked
+pub runs-delivered : alone.RunsDelivered
+unfolding alone.RunsDelivered alone.DeliveredAlone
 runs-delivered text before after answer l n e size low high made m asked tolds rs =
     same-told tolds (unswapped.walk_runs size (contents text) asked)
     (delivered-alone text before after answer l n e size low high made m asked (map by_run tolds) (runs-are-calls rs))
@@ -150,29 +133,18 @@ handed-told : (ts : List RunOutput) → map c.call_output_c (map by_run ts) ≡ 
 handed-told [] = refl
 handed-told (t ∷ ts) = ap (λ (l : List c.CallOutputC). c.by_run_c (c.run_output_c t) ∷ l) (handed-told ts)
 
-pub delivered-alone-c :
-    (text before after : List ℕ) (at n : ℕ) → GivesBufferC (translate text before) 0 at n after
-    → (size : ℕ) → 1 ≤ size → size ≤ 32 → (returned at made : ℕ) (bytes : List ℕ) → GivesStateC (fresh_state size) returned at made bytes
-    → (asked : List RunInput) (handed : List c.CallOutputC) → c.CallsInTurnC (take n after) bytes (map to_run asked) handed
-    → handed ≡ map c.by_run_c (map c.run_output_c (unswapped.walk_runs size (contents text) asked))
-unfolding c.DeliveredC
+pub delivered-alone-c : alone.DeliveredAloneC
+unfolding alone.DeliveredAloneC c.DeliveredC
 delivered-alone-c text before after at n l size low high returned at' made bytes m asked handed cs =
     delivered-c text before after at n l size low high returned at' made bytes m (map to_run asked) handed cs
     ∙ ap (map c.call_output_c)
     (walked-alone text (translated-read text (translated-fine text before n (returned-0 text before after at n l))) size asked)
     ∙ handed-told (unswapped.walk_runs size (contents text) asked)
 
-pub data RunCallsC (image : List ℕ) : List ℕ → List RunInput → List c.RunOutputC → Type 0 where
-  none : {bytes : List ℕ} → RunCallsC image bytes [] []
-  more : {bytes : List ℕ} {a : RunInput} {rest : List RunInput} {t : c.RunOutputC} {tolds : List c.RunOutputC} (after : List ℕ)
-      → GivesRunC (run_for image bytes a.words a.masks a.codes) bytes t.number t.index t.count after t.masks t.codes
-      → RunCallsC image after rest tolds
-      → RunCallsC image bytes (a ∷ rest) (t ∷ tolds)
-
-pub runs-are-calls-c : {image bytes : List ℕ} {asked : List RunInput} {tolds : List c.RunOutputC} → RunCallsC image bytes asked tolds
+pub runs-are-calls-c : {image bytes : List ℕ} {asked : List RunInput} {tolds : List c.RunOutputC} → alone.RunCallsC image bytes asked tolds
     → c.CallsInTurnC image bytes (map to_run asked) (map c.by_run_c tolds)
-runs-are-calls-c none = c.none
-runs-are-calls-c (more after r rs) = c.more (c.run_call r) (runs-are-calls-c rs)
+runs-are-calls-c alone.none = c.none
+runs-are-calls-c (alone.more after r rs) = c.more (c.run_call r) (runs-are-calls-c rs)
 
 abbrev outputs_of_run_c : c.CallOutputC → List c.RunOutputC
 outputs_of_run_c (c.by_run_c t) = t ∷ []
@@ -183,11 +155,8 @@ unfolding concat_map
 told-back-c [] = refl
 told-back-c (t ∷ ts) = ap (λ (l : List c.RunOutputC). t ∷ l) (told-back-c ts)
 
-pub runs-delivered-c :
-    (text before after : List ℕ) (at n : ℕ) → GivesBufferC (translate text before) 0 at n after
-    → (size : ℕ) → 1 ≤ size → size ≤ 32 → (returned at made : ℕ) (bytes : List ℕ) → GivesStateC (fresh_state size) returned at made bytes
-    → (asked : List RunInput) (tolds : List c.RunOutputC) → RunCallsC (take n after) bytes asked tolds
-    → tolds ≡ map c.run_output_c (unswapped.walk_runs size (contents text) asked)
+pub runs-delivered-c : alone.RunsDeliveredC
+unfolding alone.RunsDeliveredC alone.DeliveredAloneC
 runs-delivered-c text before after at n l size low high returned at' made bytes m asked tolds rs =
     sym (told-back-c tolds)
     ∙ ap (concat_map outputs_of_run_c) (delivered-alone-c text before after at n l size low high returned at' made bytes m asked

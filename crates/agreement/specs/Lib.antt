@@ -3,3 +3,8 @@ pub mod Calls
 pub mod ForC
 pub mod Capitals
 pub mod Unswapped
+pub mod RunsAlone
+pub mod LiveCalls
+pub mod OneRow
+pub mod Told
+pub mod dry_runs

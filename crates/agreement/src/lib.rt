@@ -1,3 +1,67 @@
-//! The agreement of machine and walk, as one statement over a whole list of runs and rebindings, and its proof: of the definitions, of
-//! calls of the functions, and of calls from C; definitions and theorems, no function.
+//! The agreement of machine and walk, as one statement over a whole list of runs and rebindings, and its proof. Each theorem of the crate is
+//! a clause of a function here that does nothing: a law that is changed or taken away no longer proves it. `dry_runs` runs a chart from its
+//! text, and promises what the walk gives.
 #![tactic(auto)]
+
+ghost use Rattle.std.specs.Prelude.{ℕ, List};
+ghost use Rattle.translator.specs.Entry.{translate};
+ghost use Rattle.state.specs.State.{fresh_state};
+ghost use Rattle.runs.specs.Run.{run};
+ghost use Rattle.rebinding.specs.Rebind.{rebind};
+ghost use Rattle.agreement.specs.Agreement.{Agreement};
+ghost use Rattle.agreement.specs.Calls.{Delivered};
+ghost use Rattle.agreement.specs.ForC.{DeliveredC};
+ghost use Rattle.agreement.specs.Unswapped.{RunAgreement};
+ghost use Rattle.agreement.specs.RunsAlone.{DeliveredAlone, RunsDelivered, DeliveredAloneC, RunsDeliveredC};
+ghost use Rattle.agreement.specs.LiveCalls.{PreparedActs};
+ghost use Rattle.agreement.specs.OneRow.{OneRowMatches, AnyRuleTicks, CareDecides};
+ghost use Rattle.agreement.specs.Told.{CauseTold, CauseToldC, RowsListed, RowsListedC};
+ghost use Rattle.agreement.specs.Capitals.{AsInCapitals};
+
+pub mod dry_runs;
+
+/// The machine ticks as the walk ticks, over every list of runs and rebindings on the image of every chart that translates: of the
+/// definitions; of calls of the functions, live ones and ticks among them, each known by its contract alone; and of calls from C.
+pub fn machine_ticks_as_walk()
+    ensures definitions { Agreement translate fresh_state run rebind }
+    ensures functions { Delivered }
+    ensures calls_from_c { DeliveredC }
+{}
+
+/// With no rebinding in the list it does so by the walk of words alone: of the definitions; of runs, ticks and live calls in any mixture; of
+/// runs on the image's text; and of both from C.
+pub fn runs_tick_as_walk()
+    ensures definitions { RunAgreement translate fresh_state run }
+    ensures mixtures { DeliveredAlone }
+    ensures functions { RunsDelivered }
+    ensures mixtures_from_c { DeliveredAloneC }
+    ensures calls_from_c { RunsDeliveredC }
+{}
+
+/// On a table that `prepare` wrote, a live run is the run on the image's text, a live tick the tick and a live rebinding the rebinding, from
+/// every state.
+pub fn live_calls_act_as_on_text()
+    ensures prepared { PreparedActs }
+{}
+
+/// On the image of a chart, as `translate` wrote it, exactly one row matches each label from 2 up, word and bit; by every rule that takes a
+/// row that matches, the machine makes the same ticks; and the care mask alone of the row that a cause names decides it.
+pub fn translated_image_has_one_row()
+    ensures one_row { OneRowMatches }
+    ensures any_rule { AnyRuleTicks }
+    ensures care_mask { CareDecides }
+{}
+
+/// With success, a cause that is told explains the tick, and two buffers of rows listed hold the rows of each label: of the functions, and
+/// from C.
+pub fn causes_and_rows_are_told()
+    ensures causes { CauseTold }
+    ensures causes_from_c { CauseToldC }
+    ensures rows { RowsListed }
+    ensures rows_from_c { RowsListedC }
+{}
+
+/// For each text, refused or not, each entry point does what it does for the text in capitals.
+pub fn small_letters_are_capitals()
+    ensures every_text { (t : List ℕ) → AsInCapitals t }
+{}

@@ -22,7 +22,8 @@ use Rattle.runs.specs.Run.{RunOutcome, run}
 use Rattle.agreement.specs.Agreement.{Runner}
 use Rattle.agreement.proofs.Images.{run_image, run-image}
 use Rattle.agreement.proofs.OnlyRow.{image}
-use Rattle.agreement.proofs.AnyRule.{Rule, Matching, TakesMatching, tick_with, any-tick}
+use Rattle.agreement.specs.OneRow.{Rule, Matching, TakesMatching, tick_with}
+use Rattle.agreement.proofs.AnyRule.{any-tick}
 use Rattle.bench.specs.Patched.{answer_words}
 use Rattle.bench.proofs.Computing.{running}
 use Rattle.bench.proofs.Tables.{Holds, table_special, of-special, table_equal, of-equal}

@@ -1,8 +1,9 @@
-//! The image check, fresh states and runs, over the tables of the bench sheet and edits of them.
-//! Each call prints a frame: 00 for a check, 01 for a run, 02 for a fresh state; then the number or 00, the index, the count.
-//! A run of eight words with room for all of them prints its masks and codes too.
+//! The image check, fresh states and runs, over the tables of the bench sheet and edits of them; and dry runs of the sheet's chart.
+//! Each call prints a frame: 00 for a check, 01 for a run, 02 for a fresh state, 03 for a dry run; then the number or 00, the index, the
+//! count. A run of eight words with room for all of them prints its masks and codes too, and so does each dry run.
 #![tactic(auto)]
 
+use agreement::dry_runs::dry_run;
 use edits::{patch, report};
 use state::State;
 
@@ -252,6 +253,38 @@ fn drops(p: [u8; 120]) {
     rest(text, one);
 }
 
+// A chart run from its text over eight words, with this much room for its image.
+fn dry(chart: &[u8], size: usize, room: usize) {
+    let mut image = [0u8; 276];
+    let mut masks = [119u32; 8];
+    let mut codes = [170u8; 8];
+    let words = [0, 0, 1, 0, 0, 0, 0, 0];
+    if room <= 276 {
+        let answer = dry_run(
+            chart,
+            size,
+            &mut image[..room],
+            &words,
+            &mut masks,
+            &mut codes,
+        );
+        report(3, answer, 0);
+        print_ticks(masks, codes);
+    }
+}
+
+// B2 to B4 from the chart's text; then what refuses the text, the image's room and the size, each before the next.
+fn dry_runs(chart: [u8; 161]) {
+    dry(&chart, 3, 276);
+    dry(&chart, 2, 276);
+    dry(&chart, 1, 276);
+    dry(&chart, 32, 276);
+    dry(&chart[..23], 0, 0);
+    dry(&chart, 0, 275);
+    dry(&chart, 0, 276);
+    dry(&chart, 33, 276);
+}
+
 fn main() {
     let p = *b"\x0F\x02\x04\x00\x04\x00\x00\x00\x00\x00\
         \x10\x01\x02\x00\x00\x00\x00\x00\x00\x00\
@@ -273,6 +306,15 @@ fn main() {
     states(p);
     runs(p);
     drops(p);
+    dry_runs(
+        *b"00010001000000000000FE\n\
+        02010202000000000001F8\n\
+        01010000000000000000FE\n\
+        00020004000000000000FA\n\
+        03020005060000000000F0\n\
+        01020000000000000000FD\n\
+        02020205000000000002F3\n",
+    );
     let function = *b"\x0F\x02\x04\x00\x04\x00\x00\x00\x00\x00\
         \x10\x01\x02\x00\x00\x00\x00\x00\x00\x00\
         \x10\x02\x04\x00\x00\x00\x00\x00\x00\x00\

@@ -1,0 +1,64 @@
+-- The agreement with no rebinding in the list, over the functions and for C: of any mixture of runs, ticks and live calls, and of runs on
+-- the image's text alone.
+use Rattle.std.specs.Prelude.{ℕ, ◌≤◌, ◌≡◌, List, [], ◌∷◌, map, take}
+use Rattle.text.specs.frames.Frame.{contents}
+use Rattle.text.specs.frames.Answer.{Answer, reply, success, GivesBuffer}
+use Rattle.translator.specs.Entry.{translate}
+use Rattle.state.specs.declared.layout.TheConstants.{PLACES}
+use Rattle.state.specs.declared.State.{State}
+use Rattle.state.specs.declared.StateReport.{StateReport}
+use Rattle.state.specs.State.{fresh_state, GivesState}
+use Rattle.runs.specs.Run.{run, GivesRun}
+use Rattle.fairleadow.specs.telling.AnswersForC.{GivesBufferC}
+use Rattle.fairleadow.specs.runs_for_c.Calls.{GivesStateC, run_for, GivesRunC}
+use Rattle.agreement.specs.Agreement.{RunInput, to_run, RunOutput, CallOutput, by_run}
+use Rattle.agreement.specs.Unswapped.{walk_runs}
+use Rattle.agreement.specs.Calls.{CallsInTurn}
+use Rattle.agreement.specs.ForC.{RunOutputC, run_output_c, CallOutputC, by_run_c, CallsInTurnC}
+
+-- ---- over the functions
+-- any mixture of calls that run and tick, on the image's text or on a table of it
+unfoldable pub DeliveredAlone : Type 0
+DeliveredAlone =
+    (text before after : List ℕ) (answer : Answer) → GivesBuffer (translate text before) answer after → (n : ℕ) → reply answer ≡ success n
+    → (size : ℕ) → 1 ≤ size → size ≤ PLACES → (made : StateReport) → GivesState (fresh_state size) made
+    → (asked : List RunInput) (handed : List CallOutput) → CallsInTurn (take n after) made.state (map to_run asked) handed
+    → handed ≡ map by_run (walk_runs size (contents text) asked)
+
+-- calls of run in a row, each given the state that the one before returned
+pub data RunCalls (image : List ℕ) : State → List RunInput → List RunOutput → Type 0 where
+  none : {s : State} → RunCalls image s [] []
+  more : {s : State} {a : RunInput} {rest : List RunInput} {tolds : List RunOutput} (ran : StateReport) (masks codes : List ℕ)
+      → GivesRun (run image s a.words a.masks a.codes) ran masks codes → RunCalls image ran.state rest tolds
+      → RunCalls image s (a ∷ rest) (record { reply = reply ran.answer; masks = masks; codes = codes } ∷ tolds)
+
+unfoldable pub RunsDelivered : Type 0
+RunsDelivered =
+    (text before after : List ℕ) (answer : Answer) → GivesBuffer (translate text before) answer after → (n : ℕ) → reply answer ≡ success n
+    → (size : ℕ) → 1 ≤ size → size ≤ PLACES → (made : StateReport) → GivesState (fresh_state size) made
+    → (asked : List RunInput) (tolds : List RunOutput) → RunCalls (take n after) made.state asked tolds
+    → tolds ≡ walk_runs size (contents text) asked
+
+-- ---- for C
+unfoldable pub DeliveredAloneC : Type 0
+DeliveredAloneC =
+    (text before after : List ℕ) (at n : ℕ) → GivesBufferC (translate text before) 0 at n after
+    → (size : ℕ) → 1 ≤ size → size ≤ PLACES → (returned at made : ℕ) (bytes : List ℕ)
+    → GivesStateC (fresh_state size) returned at made bytes
+    → (asked : List RunInput) (handed : List CallOutputC) → CallsInTurnC (take n after) bytes (map to_run asked) handed
+    → handed ≡ map by_run_c (map run_output_c (walk_runs size (contents text) asked))
+
+pub data RunCallsC (image : List ℕ) : List ℕ → List RunInput → List RunOutputC → Type 0 where
+  none : {bytes : List ℕ} → RunCallsC image bytes [] []
+  more : {bytes : List ℕ} {a : RunInput} {rest : List RunInput} {t : RunOutputC} {tolds : List RunOutputC} (after : List ℕ)
+      → GivesRunC (run_for image bytes a.words a.masks a.codes) bytes t.number t.index t.count after t.masks t.codes
+      → RunCallsC image after rest tolds
+      → RunCallsC image bytes (a ∷ rest) (t ∷ tolds)
+
+unfoldable pub RunsDeliveredC : Type 0
+RunsDeliveredC =
+    (text before after : List ℕ) (at n : ℕ) → GivesBufferC (translate text before) 0 at n after
+    → (size : ℕ) → 1 ≤ size → size ≤ PLACES → (returned at made : ℕ) (bytes : List ℕ)
+    → GivesStateC (fresh_state size) returned at made bytes
+    → (asked : List RunInput) (tolds : List RunOutputC) → RunCallsC (take n after) bytes asked tolds
+    → tolds ≡ map run_output_c (walk_runs size (contents text) asked)

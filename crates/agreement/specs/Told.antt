@@ -1,0 +1,37 @@
+-- What a caller learns of a cause and of a listing, from C too, by the records that the contracts cite: with success the cause explains
+-- the tick, and the two buffers hold the rows of each label.
+use Rattle.std.specs.Prelude.{ℕ, ◌≡◌, List}
+use Rattle.text.specs.frames.Answer.{Answer, reply, success}
+use Rattle.rows.specs.listing.Listing.{list, GivesListing}
+use Rattle.rows.specs.listing.Exact.{Held}
+use Rattle.state.specs.declared.State.{State}
+use Rattle.state.specs.State.{Sized}
+use Rattle.state.specs.Bytes.{state_of}
+use Rattle.cause.specs.Cause.{Cause, CauseAnswer, explain, cause_reply, cause_row, cause_mask, cause_bit, GivesCause}
+use Rattle.cause.specs.Laws.{Explains}
+use Rattle.fairleadow.specs.images_for_c.Calls.{GivesListingC}
+use Rattle.fairleadow.specs.causes_for_c.Calls.{cause_for, GivesCauseC}
+
+abbrev pub cause_report : ℕ → ℕ → ℕ → Cause
+cause_report k m b = record { row = k; mask = m; bit = b }
+
+unfoldable pub CauseTold : Type 0
+CauseTold =
+    (text : List ℕ) (s : State) (w : ℕ) (answer : CauseAnswer) → GivesCause (explain text s w) answer → Sized s
+    → (n : ℕ) → cause_reply answer ≡ success n
+    → Explains text s w (cause_report (cause_row answer) (cause_mask answer) (cause_bit answer))
+
+unfoldable pub CauseToldC : Type 0
+CauseToldC =
+    (text bytes : List ℕ) (w at made k m b : ℕ) → GivesCauseC (cause_for text bytes w) 0 at made k m b
+    → Explains text (state_of bytes) w (cause_report k m b)
+
+unfoldable pub RowsListed : Type 0
+RowsListed =
+    (text firsts counts : List ℕ) (answer : Answer) (us vs : List ℕ) → GivesListing (list text firsts counts) answer us vs
+    → (n : ℕ) → reply answer ≡ success n → Held text us vs n
+
+unfoldable pub RowsListedC : Type 0
+RowsListedC =
+    (text firsts counts : List ℕ) (at n : ℕ) (us vs : List ℕ) → GivesListingC (list text firsts counts) 0 at n us vs
+    → Held text us vs n

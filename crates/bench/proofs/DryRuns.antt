@@ -1,0 +1,20 @@
+-- The cases of dry runs hold, computed.
+use mathlib.Core.Path.{refl}
+use Rattle.agreement.specs.dry_runs.DryRun.{dry_run}
+use Rattle.bench.specs.Bench.{chart_p, image_p, bench_words}
+use Rattle.bench.specs.DryRuns.{DryRunCases}
+use Rattle.bench.proofs.Computing.{translating, running}
+
+pub dry-run-cases : DryRunCases
+unfolding translating running dry_run chart_p image_p bench_words
+dry-run-cases = record {
+  b2 = refl;
+  b3 = refl;
+  b4 = refl;
+  behind = refl;
+  no_text = λ image a. refl;
+  small_image = refl;
+  no_places = refl;
+  many_places = refl;
+  few_codes = refl;
+}
