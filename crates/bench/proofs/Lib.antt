@@ -25,3 +25,4 @@ pub mod Little
 pub mod Spindles
 pub mod Prices
 pub mod Fillings
+pub mod Numbers

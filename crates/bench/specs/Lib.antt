@@ -13,3 +13,9 @@ pub mod Little
 pub mod Spindles
 pub mod Prices
 pub mod Fillings
+pub mod Numbers
+pub mod Idlers
+pub mod Variants
+pub mod Slips
+pub mod HandlerSlips
+pub mod SwapSlips
