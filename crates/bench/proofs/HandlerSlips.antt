@@ -3,25 +3,16 @@
 -- them is shown to hand back another state than the definition, which the tick's contract rules out.
 use Rattle.std.proofs.Common.{if◌then◌else◌}
 use mathlib.Core.Path.{◌≡◌, ◌∙◌, ap, sym}
-use mathlib.Core.Bool.{◌&&◌, not}
 use mathlib.Core.List.{List, [], ◌∷◌}
-use Prim.Native.Nat.{ℕ, suc, ◌-◌}
+use Prim.Native.Nat.{ℕ}
 use native.Mathlib.Omega.{arith}
-use lib.Dec.{leb, eqb}
-use lib.ListN.{take, set}
-use Rattle.results.specs.Results.{Results, result_of, with_result, cleared_results}
+use lib.ListN.{take}
+use Rattle.results.specs.Results.{result_of}
 use Rattle.text.specs.frames.Answer.{reply_number}
-use Rattle.image.specs.Image.{Image, Label}
-use Rattle.translator.specs.Entry.{translate}
 use Rattle.state.specs.declared.State.{State}
-use Rattle.state.specs.State.{label_at, entry_at, place_at, fresh, fresh_state}
-use Rattle.state.specs.Changes.{with_places, with_place, with_opened, with_bits}
-use Rattle.fitness.specs.Fitness.{is_call, is_of_handler}
-use Rattle.ticks.specs.Tick.{row_leads, MachineTick, finished, stopped, moved_tick, state_alone, full_tick, tick, top_of}
-use Rattle.ticks.specs.inner.TickContracts.{beneath}
-use Rattle.ticks.specs.Functions.{is_at_full_call, return_tick}
-use Rattle.runs.specs.Run.{RunOutcome, run}
-use Rattle.agreement.specs.Agreement.{Runner, Rebinder, CallInput, CallOutput, call_outputs, Agreement}
+use Rattle.state.specs.State.{fresh}
+use Rattle.runs.specs.Run.{RunOutcome}
+use Rattle.agreement.specs.Agreement.{CallInput, CallOutput, call_outputs}
 use Rattle.agreement.proofs.Images.{run_image, run-image}
 use Rattle.bench.specs.Handler.{image_handler, drop_words, bottom_words, ordinary_words}
 use Rattle.bench.specs.HandlerSlips.{never_drops, drops_early, drops_again, counts_zero, heeds_called, keeps_beneath}
@@ -33,7 +24,7 @@ use Rattle.bench.specs.HandlerSlips.{KeepsHandlerBitFails, ForgetsResultFails, C
 use Rattle.bench.proofs.Computing.{running}
 use Rattle.bench.proofs.Tables.{table_handler, of-handler}
 use Rattle.bench.proofs.Instances.{alone_input, run_alone, second_output, at_drop, at-bottom, at-ordinary, at_parted}
-use Rattle.bench.specs.Variants.{StepRule, ticks_by_rule, run_by, top_number}
+use Rattle.bench.specs.Variants.{StepRule, ticks_by_rule, run_by}
 use Rattle.bench.proofs.Variants.{decoded_run_by, by-table, made, chain-made, code_at}
 
 pub never-drops-fails : NeverDropsFails

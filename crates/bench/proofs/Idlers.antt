@@ -1,25 +1,22 @@
 -- Functions that do too little: none that has one of these properties meets the translator's equation or the agreement.
 use Rattle.std.proofs.Common.{if◌then◌else◌}
 use mathlib.Core.Path.{◌≡◌, refl, ◌∙◌, ap, sym}
-use mathlib.Core.Bool.{Bool, true, false, ◌&&◌}
+use mathlib.Core.Bool.{true, false, ◌&&◌}
 use mathlib.Core.List.{List, [], ◌∷◌}
-use Prim.Native.Nat.{ℕ, ◌≤◌, ◌<◌}
+use Prim.Native.Nat.{ℕ}
 use native.Mathlib.Omega.{arith}
 use lib.Dec.{leb, eqb}
 use lib.ListN.{length, take, get_or, replicate}
 use Rattle.words.specs.lists.Sequences.{over}
-use Rattle.text.specs.frames.Verdict.{fine}
-use Rattle.text.specs.frames.Answer.{Reply, success, refusal, BufferOutcome, buffer_on, reply_number, reply_count}
+use Rattle.text.specs.frames.Answer.{BufferOutcome, buffer_on, reply_number, reply_count}
 use Rattle.text.proofs.frames.Lent.{Success, lent-told, front}
-use Rattle.charts.specs.Entry.{read_verdict}
 use Rattle.translator.specs.Entry.{translate_verdict, translate}
 use Rattle.state.specs.declared.State.{State}
 use Rattle.state.specs.State.{entry_at, place_at, fresh, fresh_state}
 use Rattle.state.specs.Changes.{with_place}
 use Rattle.ticks.specs.Tick.{finished, tick}
-use Rattle.runs.specs.Run.{RunOutcome, run_verdict, run}
-use Rattle.rebinding.specs.Rebind.{rebind}
-use Rattle.agreement.specs.Agreement.{Runner, Rebinder, Translator, RunOutput, CallInput, CallOutput, call_outputs, Agreement, Translates}
+use Rattle.runs.specs.Run.{RunOutcome}
+use Rattle.agreement.specs.Agreement.{Rebinder, Translator, RunOutput, CallOutput, call_outputs, Agreement}
 use Rattle.agreement.proofs.Demand.{theorem}
 use Rattle.bench.specs.Bench.{chart_p, image_p, bench_words, chart_home}
 use Rattle.bench.specs.Handler.{image_handler, drop_words}

@@ -1,27 +1,11 @@
 -- The six slips of the bench sheet, and a call that clears no bit: the machine, or the table, with one of them is shown not to meet its
 -- statement.
-use Rattle.std.proofs.Common.{if◌then◌else◌}
 use mathlib.Core.Path.{◌≡◌, ap}
-use mathlib.Core.Bool.{Bool, true, false, ◌&&◌}
 use mathlib.Core.List.{List, [], ◌∷◌}
-use Prim.Native.Nat.{ℕ, zero, suc, ◌-◌}
+use Prim.Native.Nat.{ℕ}
 use native.Mathlib.Omega.{arith}
-use lib.Dec.{leb, eqb}
-use lib.ListN.{get_or, set, replicate}
-use Rattle.words.specs.bits.Word.{bit}
-use Rattle.results.specs.Results.{result_of, with_result}
-use Rattle.text.specs.frames.Frame.{contents}
-use Rattle.text.specs.frames.Answer.{BufferOutcome, buffer_on, reply_count}
-use Rattle.image.specs.Image.{Image, Label, Row, image_text}
-use Rattle.translator.specs.Table.{table}
-use Rattle.translator.specs.Entry.{translate_verdict, translate}
-use Rattle.state.specs.declared.State.{State}
-use Rattle.state.specs.State.{label_at, place_at, fresh_state}
-use Rattle.state.specs.Changes.{with_bits}
-use Rattle.ticks.specs.Tick.{MachineTick, finished, stopped, row_leads, popped_state, tick, top_of}
-use Rattle.ticks.specs.Functions.{return_tick}
-use Rattle.rows.specs.Rows.{best_row, lead_of}
-use Rattle.agreement.specs.Agreement.{Translator, Rebinder, Agreement, Translates}
+use lib.ListN.{replicate}
+use Rattle.text.specs.frames.Answer.{BufferOutcome, reply_count}
 use Rattle.bench.specs.Bench.{lines, bench_words, bore_words}
 use Rattle.bench.specs.Slips.{calls_again, reads_at_call, chooses_by_call, keeps_bit, returns_home, refuses_early}
 use Rattle.bench.specs.Slips.{joined_rows, CallsAgainFails, ReadsAtCallFails, ChoosesByCallFails, KeepsBitFails}
@@ -30,7 +14,7 @@ use Rattle.bench.proofs.Computing.{translating, running}
 use Rattle.bench.proofs.Tables.{table_p, of-P, table_home, of-home, table_function, of_function}
 use Rattle.bench.proofs.Tables.{table_choice, of-choice, table_bore, of-bore}
 use Rattle.bench.proofs.Instances.{at_home, at-deep, at-shallow, at-function, at-choice, at-bore}
-use Rattle.bench.specs.Variants.{StepRule, ticks_by_rule, run_by, top_number}
+use Rattle.bench.specs.Variants.{ticks_by_rule, run_by}
 use Rattle.bench.proofs.Variants.{made, code_at, mask_at}
 
 pub calls-again-fails : CallsAgainFails

@@ -1,32 +1,26 @@
 -- Slips of a rebinding, and of a run under one, each shown not to meet the agreement.
 use Rattle.std.proofs.Common.{if◌then◌else◌}
 use mathlib.Core.Path.{◌≡◌, ◌∙◌, ap, sym}
-use mathlib.Core.Bool.{false, ◌&&◌}
 use mathlib.Core.List.{List, [], ◌∷◌, map}
-use Prim.Native.Nat.{ℕ, ◌+◌, ◌-◌, ◌*◌, ◌/◌, ◌%◌, ◌≤◌}
+use Prim.Native.Nat.{ℕ, ◌+◌, ◌*◌, ◌/◌, ◌%◌}
 use native.Mathlib.Omega.{arith}
 use lib.Dec.{ltb, eqb}
 use lib.ListN.{length, get_or, set, replicate}
 use Rattle.words.specs.lists.Numbers.{range}
 use Rattle.words.specs.lists.Sequences.{some}
-use Rattle.results.specs.Results.{result_of, with_result, cleared_results}
-use Rattle.bindings.specs.Binding.{server_of, rebound_binding}
+use Rattle.bindings.specs.Binding.{rebound_binding}
 use Rattle.text.specs.frames.Frame.{contents}
-use Rattle.text.specs.frames.Answer.{success, reply_number}
-use Rattle.image.specs.Layout.{tick_kind}
+use Rattle.text.specs.frames.Answer.{reply_number}
 use Rattle.image.specs.Image.{Image}
 use Rattle.image.specs.Decode.{decoded_image}
 use Rattle.translator.specs.Entry.{translate}
 use Rattle.state.specs.declared.State.{State}
-use Rattle.state.specs.State.{label_at, entry_at, place_at, number_at, server_at, fresh, StateOutcome, fresh_state}
+use Rattle.state.specs.State.{entry_at, place_at, number_at, server_at, fresh, StateOutcome, fresh_state}
 use Rattle.state.specs.Changes.{with_places, with_serving}
-use Rattle.fitness.specs.Fitness.{is_call}
-use Rattle.rows.specs.Rows.{best_row, lead_of}
-use Rattle.ticks.specs.Tick.{MachineTick, finished, stopped, opened_state, tick_by, tick, top_of}
-use Rattle.ticks.specs.Functions.{return_tick}
+use Rattle.ticks.specs.Tick.{MachineTick, finished, stopped, tick}
 use Rattle.runs.specs.Run.{run}
 use Rattle.rebinding.specs.Rebind.{rebinding, rebind}
-use Rattle.agreement.specs.Agreement.{Runner, Rebinder, RunOutput, output_of, CallInput, to_rebind, call_outputs, Agreement}
+use Rattle.agreement.specs.Agreement.{RunOutput, output_of, CallInput, to_rebind, call_outputs, Agreement}
 use Rattle.agreement.proofs.Images.{run_image, rebind_image, run-image}
 use Rattle.bench.specs.Swap.{image_swap}
 use Rattle.bench.specs.SwapSlips.{writes_by_server, reads_by_server, kept_by_server, shows_server, ActsLaterFails}

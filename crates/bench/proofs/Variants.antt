@@ -1,16 +1,13 @@
 -- Runs with another tick in the place of the machine's, and what they hand back.
 use mathlib.Core.Path.{◌≡◌, refl, ◌∙◌, ap, ap₂, sym}
-use mathlib.Core.List.{List, [], ◌∷◌}
-use Prim.Native.Nat.{ℕ, ◌-◌}
+use mathlib.Core.List.{List}
+use Prim.Native.Nat.{ℕ}
 use lib.ListN.{get_or}
-use Rattle.text.specs.frames.Verdict.{Verdict, fine, next}
-use Rattle.text.specs.frames.Frame.{contents}
+use Rattle.text.specs.frames.Verdict.{Verdict, next}
 use Rattle.image.specs.Image.{Image}
-use Rattle.image.specs.Decode.{decoded_image}
 use Rattle.state.specs.declared.State.{State}
-use Rattle.state.specs.State.{number_at, fresh}
-use Rattle.ticks.specs.Tick.{MachineTick}
-use Rattle.runs.specs.Run.{MachineRun, run_after, run_verdict, run_on}
+use Rattle.state.specs.State.{fresh}
+use Rattle.runs.specs.Run.{run_verdict, run_on}
 use Rattle.agreement.specs.Agreement.{Runner, Rebinder, RunOutput, output_of, CallInput, call_outputs}
 use Rattle.agreement.proofs.Images.{state_verdict}
 use Rattle.bench.specs.Variants.{StepRule, ticks_by_rule, run_by}

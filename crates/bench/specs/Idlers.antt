@@ -1,5 +1,5 @@
 -- Functions that do too little: none that has one of these properties meets the translator's equation or the agreement.
-use Rattle.std.specs.Prelude.{ℕ, ◌≤◌, ◌<◌, Bool, true, false, ◌≡◌, List, [], ◌∷◌, take, length, get_or, replicate}
+use Rattle.std.specs.Prelude.{ℕ, ◌≤◌, ◌<◌, Bool, true, false, ◌≡◌, List, ◌∷◌, take, length, get_or, replicate}
 use Rattle.words.specs.lists.Sequences.{over}
 use Rattle.text.specs.frames.Verdict.{fine}
 use Rattle.text.specs.frames.Answer.{Reply, success, refusal, reply_number, reply_count}
