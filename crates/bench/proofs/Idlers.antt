@@ -1,52 +1,41 @@
 -- Functions that do too little: none that has one of these properties meets the translator's equation or the agreement.
 use Rattle.std.proofs.Common.{if◌then◌else◌}
 use mathlib.Core.Path.{◌≡◌, refl, ◌∙◌, ap, sym}
-use mathlib.Core.Bool.{Bool, true, false, ◌&&◌}
+use mathlib.Core.Bool.{true, false, ◌&&◌}
 use mathlib.Core.List.{List, [], ◌∷◌}
-use Prim.Native.Nat.{ℕ, ◌≤◌, ◌<◌}
+use Prim.Native.Nat.{ℕ}
 use native.Mathlib.Omega.{arith}
 use lib.Dec.{leb, eqb}
 use lib.ListN.{length, take, get_or, replicate}
 use Rattle.words.specs.lists.Sequences.{over}
-use Rattle.text.specs.frames.Verdict.{fine}
-use Rattle.text.specs.frames.Answer.{Reply, success, refusal, BufferOutcome, buffer_on, reply_number, reply_count}
+use Rattle.text.specs.frames.Answer.{BufferOutcome, buffer_on, reply_number, reply_count}
 use Rattle.text.proofs.frames.Lent.{Success, lent-told, front}
-use Rattle.charts.specs.Entry.{read_verdict}
 use Rattle.translator.specs.Entry.{translate_verdict, translate}
 use Rattle.state.specs.declared.State.{State}
 use Rattle.state.specs.State.{entry_at, place_at, fresh, fresh_state}
 use Rattle.state.specs.Changes.{with_place}
 use Rattle.ticks.specs.Tick.{finished, tick}
-use Rattle.runs.specs.Run.{RunOutcome, run_verdict, run}
-use Rattle.rebinding.specs.Rebind.{rebind}
-use Rattle.agreement.specs.Agreement.{Runner, Rebinder, Translator, RunOutput, CallInput, CallOutput, call_outputs, Agreement, Translates}
+use Rattle.runs.specs.Run.{RunOutcome}
+use Rattle.agreement.specs.Agreement.{Rebinder, Translator, RunOutput, CallOutput, call_outputs, Agreement}
 use Rattle.agreement.proofs.Demand.{theorem}
 use Rattle.bench.specs.Bench.{chart_p, image_p, bench_words, chart_home}
 use Rattle.bench.specs.Handler.{image_handler, drop_words}
+use Rattle.bench.specs.Idlers.{is_refusal, WritesOnly, TurnsBackFails, OneImageFails, AlwaysFullFails, AlwaysHomeFails}
+use Rattle.bench.specs.Idlers.{PlainAfterCallFails, StaysInHandlerFails, HomeAfterDropFails, WritesNothingFails}
+use Rattle.bench.specs.Idlers.{KeepsStateFails, MiscountsFails, OnlyThese}
 use Rattle.bench.proofs.Computing.{translating, running}
 use Rattle.bench.proofs.Tables.{table_p, of-P, image_home, table_handler, of-handler}
 use Rattle.bench.proofs.Instances.{first_output, second_output, at_home, at-deep, at-twice, at_drop}
-use Rattle.bench.proofs.Variants.{StepRule, ticks_by_rule, run_by, made, code_at}
+use Rattle.bench.specs.Variants.{StepRule, ticks_by_rule, run_by}
+use Rattle.bench.proofs.Variants.{made, code_at}
 
 -- ---- translators
--- every chart is turned back, whatever the number
-abbrev is_refusal : Reply → Bool
-is_refusal (success n) = false
-is_refusal (refusal k i n) = true
-
-abbrev pub TurnsBack : Translator → Type 0
-TurnsBack f = (text out : List ℕ) → read_verdict text ≡ fine → is_refusal (f text out).reply ≡ true
-
-pub turns-back-fails : (f : Translator) → TurnsBack f → Translates f → ⊥
+pub turns-back-fails : TurnsBackFails
 unfolding translating chart_home
 turns-back-fails f idle claim =
     let z : false ≡ true = sym (ap (λ (l : BufferOutcome). is_refusal l.reply) (claim chart_home (replicate 92 0)))
     ∙ idle chart_home (replicate 92 0) refl in
     let y : ◌≡◌ {A = ℕ} 0 1 = cc in omega arith
-
--- one image for all charts: wherever it succeeds, that is what it wrote
-abbrev pub WritesOnly : List ℕ → Translator → Type 0
-WritesOnly x f = (text out : List ℕ) (n : ℕ) → (f text out).reply ≡ success n → take n (f text out).buffer ≡ x
 
 abbrev pub one_image : List ℕ → Translator
 one_image x text out = buffer_on (translate_verdict text) 1 (λ _. x) out
@@ -56,7 +45,7 @@ writes-only x text out n done =
     let s : Success (translate_verdict text) 1 x out n (one_image x text out) = lent-told (translate_verdict text) 1 (λ _. x) out n done in
     ap (take n) s.buffer ∙ front n x out (s.count ∙ omega arith)
 
-pub one-image-fails : (x : List ℕ) (f : Translator) → WritesOnly x f → Translates f → ⊥
+pub one-image-fails : OneImageFails
 unfolding translating chart_home chart_p
 one-image-fails x f idle claim =
     let home = claim chart_home (replicate 92 0) in
@@ -67,25 +56,14 @@ one-image-fails x f idle claim =
     ∙ ap (λ (l : BufferOutcome). length (take 276 l.buffer)) deep in
     omega arith
 
--- ---- runs
--- 17 for all runs with a word that 1 to 16 let pass
-abbrev pub AlwaysFull : Runner → Type 0
-AlwaysFull f = (image : List ℕ) (s : State) (w : ℕ) (ws masks codes : List ℕ)
-    → run_verdict image s (w ∷ ws) masks codes ≡ fine → reply_number (f image s (w ∷ ws) masks codes).reply ≡ 17
-
-pub always-full-fails : (f : Runner) (g : Rebinder) → AlwaysFull f → Agreement translate fresh_state f g → ⊥
+pub always-full-fails : AlwaysFullFails
 unfolding running image_home
 always-full-fails f g idle claim =
     let z : ◌≡◌ {A = ℕ} 17 0 =
     sym (idle image_home (fresh 1) 0 [] (7 ∷ []) (7 ∷ []) refl) ∙ ap (λ (t : RunOutput). reply_number t.reply) (at_home f g claim) in
     omega arith
 
--- all ticks that it counts are home ticks
-abbrev pub AlwaysHome : Runner → Type 0
-AlwaysHome f = (image : List ℕ) (s : State) (ws masks codes : List ℕ) → let r = f image s ws masks codes in
-    r.codes ≡ over (replicate (reply_count r.reply) 4) codes
-
-pub always-home-fails : (f : Runner) (g : Rebinder) → AlwaysHome f → Agreement translate fresh_state f g → ⊥
+pub always-home-fails : AlwaysHomeFails
 unfolding bench_words
 always-home-fails f g idle claim =
     let told = at-deep f g claim in
@@ -94,12 +72,7 @@ always-home-fails f g idle claim =
     let z : ◌≡◌ {A = ℕ} 4 18 = sym (ap (λ (ks : List ℕ). get_or ks 1 0) homes) ∙ ap (code_at 1) told in
     omega arith
 
--- after a call all ticks that it counts are plain
-abbrev pub PlainAfterCall : Runner → Type 0
-PlainAfterCall f = (image : List ℕ) (s : State) (ws masks codes : List ℕ) → let r = f image s ws masks codes in
-    (j k : ℕ) → j < k → k < reply_count r.reply → 16 ≤ get_or r.codes j 0 → get_or r.codes k 0 ≡ 0
-
-pub plain-after-call-fails : (f : Runner) (g : Rebinder) → PlainAfterCall f → Agreement translate fresh_state f g → ⊥
+pub plain-after-call-fails : PlainAfterCallFails
 unfolding bench_words
 plain-after-call-fails f g idle claim =
     let told = at-deep f g claim in
@@ -122,12 +95,7 @@ plain-run-fails g claim =
     ap (code_at 3) (made of-P plain_after_call 3 bench_words (at-deep (run_by plain_after_call) g claim)) in
     omega arith
 
--- after a drop no tick that it counts is a home tick
-abbrev pub StaysInHandler : Runner → Type 0
-StaysInHandler f = (image : List ℕ) (s : State) (ws masks codes : List ℕ) → let r = f image s ws masks codes in
-    (j k : ℕ) → j < k → k < reply_count r.reply → get_or r.codes j 0 ≡ 96 → get_or r.codes k 0 ≡ 4 → ⊥
-
-pub stays-in-handler-fails : (f : Runner) (g : Rebinder) → StaysInHandler f → Agreement translate fresh_state f g → ⊥
+pub stays-in-handler-fails : StaysInHandlerFails
 unfolding drop_words
 stays-in-handler-fails f g idle claim =
     let told = at_drop f g claim in
@@ -148,12 +116,7 @@ handler-run-fails g claim =
     let z : ◌≡◌ {A = ℕ} 0 4 = ap (code_at 6) (made of-handler stays_in_handler 2 drop_words (at_drop (run_by stays_in_handler) g claim)) in
     omega arith
 
--- after a drop all ticks that it counts are home ticks
-abbrev pub HomeAfterDrop : Runner → Type 0
-HomeAfterDrop f = (image : List ℕ) (s : State) (ws masks codes : List ℕ) → let r = f image s ws masks codes in
-    (j k : ℕ) → j < k → k < reply_count r.reply → get_or r.codes j 0 ≡ 96 → get_or r.codes k 0 ≡ 4
-
-pub home-after-drop-fails : (f : Runner) (g : Rebinder) → HomeAfterDrop f → Agreement translate fresh_state f g → ⊥
+pub home-after-drop-fails : HomeAfterDropFails
 unfolding drop_words
 home-after-drop-fails f g idle claim =
     let told = at_drop f g claim in
@@ -164,20 +127,13 @@ home-after-drop-fails f g idle claim =
     ∙ idle image_handler (fresh 2) drop_words held held 3 4 (omega arith) (omega arith) (ap (code_at 3) told) in
     omega arith
 
--- a run that changes nothing leaves its buffers and its state; either is too little
-abbrev pub WritesNothing : Runner → Type 0
-WritesNothing f = (image : List ℕ) (s : State) (ws masks codes : List ℕ) → (f image s ws masks codes).codes ≡ codes
-
-pub writes-nothing-fails : (f : Runner) (g : Rebinder) → WritesNothing f → Agreement translate fresh_state f g → ⊥
+pub writes-nothing-fails : WritesNothingFails
 writes-nothing-fails f g idle claim =
     let z : ◌≡◌ {A = ℕ} 7 4 =
     sym (ap (λ (ks : List ℕ). get_or ks 0 0) (idle image_home (fresh 1) (0 ∷ []) (7 ∷ []) (7 ∷ []))) ∙ ap (code_at 0) (at_home f g claim) in
     omega arith
 
-abbrev pub KeepsState : Runner → Type 0
-KeepsState f = (image : List ℕ) (s : State) (ws masks codes : List ℕ) → (f image s ws masks codes).state ≡ s
-
-pub keeps-state-fails : (f : Runner) (g : Rebinder) → KeepsState f → Agreement translate fresh_state f g → ⊥
+pub keeps-state-fails : KeepsStateFails
 unfolding call_outputs
 keeps-state-fails f g idle claim =
     let told = at-twice f g claim in
@@ -188,22 +144,12 @@ keeps-state-fails f g idle claim =
     ∙ ap (λ (ds : List CallOutput). code_at 0 (first_output ds)) told in
     omega arith
 
--- a count that is not the ticks written, in all runs with a word that 1 to 16 let pass
-pub record Miscount (codes : List ℕ) (r : RunOutcome) : Type 0 where
-  pub written : List ℕ
-  pub buffer : r.codes ≡ over written codes
-  pub differs : reply_count r.reply ≡ length written → ⊥
-
-abbrev pub Miscounts : Runner → Type 0
-Miscounts f = (image : List ℕ) (s : State) (w : ℕ) (ws masks codes : List ℕ)
-    → run_verdict image s (w ∷ ws) masks codes ≡ fine → Miscount codes (f image s (w ∷ ws) masks codes)
-
 one_written : (ks : List ℕ) → over ks (7 ∷ []) ≡ 4 ∷ [] → length ks ≡ 1
 one_written [] e = let z : ◌≡◌ {A = ℕ} 7 4 = ap (λ (xs : List ℕ). get_or xs 0 0) e in absurd (omega arith)
 one_written (k ∷ []) e = refl
 one_written (k ∷ j ∷ ks) e = let z = ap length e in absurd (omega arith)
 
-pub miscounts-fails : (f : Runner) (g : Rebinder) → Miscounts f → Agreement translate fresh_state f g → ⊥
+pub miscounts-fails : MiscountsFails
 unfolding running image_home
 miscounts-fails f g idle claim =
     let told = at_home f g claim in
@@ -211,10 +157,7 @@ miscounts-fails f g idle claim =
     m.differs (ap (λ (t : RunOutput). reply_count t.reply) told
     ∙ sym (one_written m.written (sym m.buffer ∙ ap (λ (t : RunOutput). t.codes) told)))
 
--- ---- and no other: whatever meets the agreement hands back what the definitions do, in every list of runs and rebindings
-pub only-these : (f : Runner) (g : Rebinder) → Agreement translate fresh_state f g
-    → (text out : List ℕ) (n : ℕ) → (translate text out).reply ≡ success n
-    → (size : ℕ) → 1 ≤ size → size ≤ 32 → (given : List CallInput) → let image = take n (translate text out).buffer in
-    call_outputs f g image (fresh_state size).state given ≡ call_outputs run rebind image (fresh_state size).state given
+-- ---- and no other
+pub only-these : OnlyThese
 unfolding Agreement
 only-these f g claim text out n done size l h given = claim text out n done size l h given ∙ sym (theorem text out n done size l h given)

@@ -5,8 +5,8 @@ use Prim.Native.Nat.{ℕ, ◌/◌, ◌≤◌}
 use native.Mathlib.Omega.{arith}
 use lib.ListN.{length, take, replicate, length-replicate}
 use Rattle.text.specs.frames.Frame.{contents}
-use Rattle.text.specs.frames.Answer.{success, refusal, BufferOutcome}
-use Rattle.text.proofs.frames.Lent.{lent_fits, buffer_filled_with, front}
+use Rattle.text.specs.frames.Answer.{success, refusal, BufferOutcome, buffer_filled_with}
+use Rattle.text.proofs.frames.Lent.{lent_fits, front}
 use Rattle.bindings.specs.Binding.{own_binding}
 use Rattle.walk.specs.Walk.{Tick, walk}
 use Rattle.image.specs.Image.{Image}

@@ -26,3 +26,4 @@ pub mod Spindles
 pub mod Prices
 pub mod Fillings
 pub mod DryRuns
+pub mod Numbers

@@ -28,7 +28,8 @@ use Rattle.bench.specs.Patched.{answer_words}
 use Rattle.bench.proofs.Computing.{running}
 use Rattle.bench.proofs.Tables.{Holds, table_special, of-special, table_equal, of-equal}
 use Rattle.bench.proofs.Rounds.{blank}
-use Rattle.bench.proofs.Variants.{StepRule, ticks_by_rule, run_by, decoded_run_by, by-image}
+use Rattle.bench.specs.Variants.{StepRule, ticks_by_rule, run_by}
+use Rattle.bench.proofs.Variants.{decoded_run_by, by-image}
 
 -- ---- rules that go through the rows and keep one of two
 unfoldable pub kept_choice : (Choice → Choice → Choice) → ℕ → ℕ → ℕ → ℕ → List Row → Choice

@@ -1,50 +1,43 @@
 -- Slips of a rebinding, and of a run under one, each shown not to meet the agreement.
 use Rattle.std.proofs.Common.{if◌then◌else◌}
 use mathlib.Core.Path.{◌≡◌, ◌∙◌, ap, sym}
-use mathlib.Core.Bool.{false, ◌&&◌}
 use mathlib.Core.List.{List, [], ◌∷◌, map}
-use Prim.Native.Nat.{ℕ, ◌+◌, ◌-◌, ◌*◌, ◌/◌, ◌%◌, ◌≤◌}
+use Prim.Native.Nat.{ℕ, ◌+◌, ◌*◌, ◌/◌, ◌%◌}
 use native.Mathlib.Omega.{arith}
 use lib.Dec.{ltb, eqb}
 use lib.ListN.{length, get_or, set, replicate}
 use Rattle.words.specs.lists.Numbers.{range}
 use Rattle.words.specs.lists.Sequences.{some}
-use Rattle.results.specs.Results.{result_of, with_result, cleared_results}
-use Rattle.bindings.specs.Binding.{server_of, rebound_binding}
+use Rattle.bindings.specs.Binding.{rebound_binding}
 use Rattle.text.specs.frames.Frame.{contents}
-use Rattle.text.specs.frames.Answer.{success, reply_number}
-use Rattle.image.specs.Layout.{tick_kind}
+use Rattle.text.specs.frames.Answer.{reply_number}
 use Rattle.image.specs.Image.{Image}
 use Rattle.image.specs.Decode.{decoded_image}
 use Rattle.translator.specs.Entry.{translate}
 use Rattle.state.specs.declared.State.{State}
-use Rattle.state.specs.State.{label_at, entry_at, place_at, number_at, server_at, fresh, StateOutcome, fresh_state}
+use Rattle.state.specs.State.{entry_at, place_at, number_at, server_at, fresh, StateOutcome, fresh_state}
 use Rattle.state.specs.Changes.{with_places, with_serving}
-use Rattle.fitness.specs.Fitness.{is_call}
-use Rattle.rows.specs.Rows.{best_row, lead_of}
-use Rattle.ticks.specs.Tick.{MachineTick, finished, stopped, opened_state, tick_by, tick, top_of}
-use Rattle.ticks.specs.Functions.{return_tick}
+use Rattle.ticks.specs.Tick.{MachineTick, finished, stopped, tick}
 use Rattle.runs.specs.Run.{run}
 use Rattle.rebinding.specs.Rebind.{rebinding, rebind}
-use Rattle.agreement.specs.Agreement.{Runner, Rebinder, RunOutput, output_of, CallInput, to_rebind, call_outputs, Agreement}
+use Rattle.agreement.specs.Agreement.{RunOutput, output_of, CallInput, to_rebind, call_outputs, Agreement}
 use Rattle.agreement.proofs.Images.{run_image, rebind_image, run-image}
 use Rattle.bench.specs.Swap.{image_swap}
+use Rattle.bench.specs.SwapSlips.{writes_by_server, reads_by_server, kept_by_server, shows_server, ActsLaterFails}
+use Rattle.bench.specs.SwapSlips.{KeepsBindingFails, RebindsHandlerFails, WritesByServerFails, ReadsByServerFails}
+use Rattle.bench.specs.SwapSlips.{KeptByServerFails, ShowsServerFails}
 use Rattle.bench.proofs.Computing.{ticking}
 use Rattle.bench.proofs.Tables.{TranslatesTo, held, table_swap, of-swap, table_inner, of_inner}
 use Rattle.bench.proofs.Instances.{run_alone, second_output, third, at_own, at-served, at-answer}
 use Rattle.bench.proofs.Instances.{at-within, at-barred, at-handler, at_inner}
 use Rattle.bench.proofs.Rebindings.{Swapper, rebind-image, rebind_by, rebind-by, chain-alike}
-use Rattle.bench.proofs.Variants.{StepRule, ticks_by_rule, run_by, decoded_run_by, by-table, code_at, mask_at}
+use Rattle.bench.specs.Variants.{StepRule, ticks_by_rule, run_by}
+use Rattle.bench.proofs.Variants.{decoded_run_by, by-table, code_at, mask_at}
 
 abbrev word3 : List ℕ
 word3 = replicate 3 0
 
--- ---- a rebinding that does not count before the next return: a run with no return hands back what it does without the rebinding
-abbrev pub ActsLater : Runner → Rebinder → Type 0
-ActsLater f g = (image : List ℕ) (s : State) (h k : ℕ) (ws ms ks : List ℕ) → some (eqb 3) (f image s ws ms ks).codes ≡ false
-    → output_of (f image (g image s h k).state ws ms ks) ≡ output_of (f image s ws ms ks)
-
-pub acts-later-fails : (f : Runner) (g : Rebinder) → ActsLater f g → Agreement translate fresh_state f g → ⊥
+pub acts-later-fails : ActsLaterFails
 unfolding call_outputs some
 acts-later-fails f g late claim =
     let own = at_own f g claim in
@@ -54,20 +47,11 @@ acts-later-fails f g late claim =
     ∙ ap (mask_at 2) (late image_swap (fresh 2) 2 3 word3 lent lent quiet ∙ own) in
     omega arith
 
--- ---- a rebinding that changes nothing, whatever it answers
-abbrev pub KeepsBinding : Rebinder → Type 0
-KeepsBinding g = (image : List ℕ) (s : State) (h k : ℕ) → (g image s h k).state ≡ s
-
-pub keeps-binding-fails : (f : Runner) (g : Rebinder) → KeepsBinding g → Agreement translate fresh_state f g → ⊥
+pub keeps-binding-fails : KeepsBindingFails
 keeps-binding-fails f g idle =
     acts-later-fails f g (λ image s h k ws ms ks quiet. ap (λ (t : State). output_of (f image t ws ms ks)) (idle image s h k))
 
--- ---- the handler is rebound like any other
-abbrev pub RebindsHandler : Rebinder → Type 0
-RebindsHandler g = (image : List ℕ) (s : State) (k : ℕ) → let i = decoded_image (contents image) in
-    2 ≤ k → k ≤ length i.entries → (g image s i.handler k).reply ≡ success 0
-
-pub rebinds-handler-fails : (f : Runner) (g : Rebinder) → RebindsHandler g → Agreement translate fresh_state f g → ⊥
+pub rebinds-handler-fails : RebindsHandlerFails
 unfolding table_swap
 rebinds-handler-fails f g idle claim =
     let i = of-swap.decodes in
@@ -155,15 +139,7 @@ binds-refused-fails claim =
     ∙ at-barred run (rebind_by binds_refused) claim) in
     omega arith
 
--- ---- results written to the bit of the scheme that serves
-abbrev top_server : State → ℕ
-top_server s = server_at s (s.depth - 1)
-
-abbrev pub writes_by_server : StepRule
-writes_by_server i s w = let x = label_at i (top_of s) in
-    tick_by i s w (top_of s) x (with_result x.result (top_server s) s.bits) (tick_kind x.kind)
-
-pub writes-by-server-fails : Agreement translate fresh_state (run_by writes_by_server) rebind → ⊥
+pub writes-by-server-fails : WritesByServerFails
 unfolding call_outputs ticking ticks_by_rule table_swap
 writes-by-server-fails claim =
     let given : List CallInput = to_rebind 2 3 ∷ run_alone (replicate 8 0) ∷ [] in
@@ -172,13 +148,7 @@ writes-by-server-fails claim =
     ∙ at-answer (run_by writes_by_server) rebind claim) in
     omega arith
 
--- ---- results read at the bit of the scheme that served
-abbrev pub reads_by_server : StepRule
-reads_by_server i s w = if eqb (label_at i (top_of s)).kind 3
-    then return_tick s (lead_of (best_row (place_at s (s.depth - 2)) w (if result_of (top_server s) s.bits then 1 else 0) 0 i.rows))
-    else tick i s w
-
-pub reads-by-server-fails : Agreement translate fresh_state (run_by reads_by_server) rebind → ⊥
+pub reads-by-server-fails : ReadsByServerFails
 unfolding call_outputs ticking ticks_by_rule table_swap
 reads-by-server-fails claim =
     let given : List CallInput = to_rebind 2 3 ∷ run_alone (replicate 8 0) ∷ [] in
@@ -187,17 +157,7 @@ reads-by-server-fails claim =
     claim) in
     omega arith
 
--- ---- results kept by the scheme that serves throughout: written, cleared and read at its bit
-abbrev pub kept_by_server : StepRule
-kept_by_server i s w =
-    let x = label_at i (top_of s) in
-    let b = with_result x.result (top_server s) s.bits in
-    let k = server_of s.serving x.called in
-    if is_call x && ltb s.depth s.size
-    then finished x.mask ((if eqb x.kind 1 then 16 else 64) + x.called) (opened_state s (entry_at i k) x.called k (cleared_results k b))
-    else if eqb x.kind 3 then reads_by_server i s w else writes_by_server i s w
-
-pub kept-by-server-fails : Agreement translate fresh_state (run_by kept_by_server) rebind → ⊥
+pub kept-by-server-fails : KeptByServerFails
 unfolding call_outputs ticking ticks_by_rule table_inner
 kept-by-server-fails claim =
     let given : List CallInput = run_alone (0 ∷ 0 ∷ []) ∷ to_rebind 2 3 ∷ run_alone (replicate 5 0) ∷ [] in
@@ -205,16 +165,7 @@ kept-by-server-fails claim =
     ap (code_at 4) (sym (ap third (with-run of_inner kept_by_server (fresh 3) given)) ∙ at_inner (run_by kept_by_server) rebind claim) in
     omega arith
 
--- ---- codes that show the scheme that serves
-abbrev shown_tick : ℕ → ℕ → MachineTick → MachineTick
-shown_tick h k (finished m code t) = finished m (if eqb code 96 then code else code - h + k) t
-shown_tick h k (stopped n) = stopped n
-
-abbrev pub shows_server : StepRule
-shows_server i s w = let x = label_at i (top_of s) in
-    if is_call x then shown_tick x.called (server_of s.serving x.called) (tick i s w) else tick i s w
-
-pub shows-server-fails : Agreement translate fresh_state (run_by shows_server) rebind → ⊥
+pub shows-server-fails : ShowsServerFails
 unfolding call_outputs ticking ticks_by_rule table_swap
 shows-server-fails claim =
     let given : List CallInput = to_rebind 2 3 ∷ run_alone word3 ∷ [] in

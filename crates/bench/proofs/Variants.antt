@@ -1,33 +1,19 @@
 -- Runs with another tick in the place of the machine's, and what they hand back.
 use mathlib.Core.Path.{◌≡◌, refl, ◌∙◌, ap, ap₂, sym}
-use mathlib.Core.List.{List, [], ◌∷◌}
-use Prim.Native.Nat.{ℕ, ◌-◌}
+use mathlib.Core.List.{List}
+use Prim.Native.Nat.{ℕ}
 use lib.ListN.{get_or}
-use Rattle.text.specs.frames.Verdict.{Verdict, fine, next}
-use Rattle.text.specs.frames.Frame.{contents}
+use Rattle.text.specs.frames.Verdict.{Verdict, next}
 use Rattle.image.specs.Image.{Image}
-use Rattle.image.specs.Decode.{decoded_image}
 use Rattle.state.specs.declared.State.{State}
-use Rattle.state.specs.State.{number_at, fresh}
-use Rattle.ticks.specs.Tick.{MachineTick}
-use Rattle.runs.specs.Run.{MachineRun, run_after, run_verdict, run_on}
+use Rattle.state.specs.State.{fresh}
+use Rattle.runs.specs.Run.{run_verdict, run_on}
 use Rattle.agreement.specs.Agreement.{Runner, Rebinder, RunOutput, output_of, CallInput, call_outputs}
 use Rattle.agreement.proofs.Images.{state_verdict}
+use Rattle.bench.specs.Variants.{StepRule, ticks_by_rule, run_by}
 use Rattle.bench.proofs.Tables.{Holds, held, TranslatesTo}
 use Rattle.bench.proofs.Instances.{alone_input, one_run_output}
 use Rattle.bench.proofs.Rebindings.{chain-alike}
-
-abbrev pub StepRule : Type 0
-StepRule = Image → State → ℕ → MachineTick
-
-unfoldable pub ticks_by_rule : StepRule → Image → State → List ℕ → MachineRun
-ticks_by_rule step i s [] = record { masks = []; codes = []; state = s; verdict = fine }
-ticks_by_rule step i s (w ∷ ws) = run_after s (λ t. ticks_by_rule step i t ws) (step i s w)
-
--- a run as the definition has it, but for the tick
-abbrev pub run_by : StepRule → Runner
-run_by step text s words masks codes =
-    run_on (run_verdict text s words masks codes) (λ _. ticks_by_rule step (decoded_image (contents text)) s words) s masks codes
 
 -- the same with the image given as a table; on an image that holds it, it is that run
 abbrev pub decoded_run_by : Image → StepRule → Runner
@@ -54,10 +40,6 @@ module _ {chart image : List ℕ} {i : Image} (known : TranslatesTo chart image 
   pub chain-made : (rebind : Rebinder) (s : State) (given : List CallInput)
       → call_outputs (run_by step) rebind image s given ≡ call_outputs (decoded_run_by i step) rebind image s given
   chain-made rebind = chain-alike image (run_by step) (decoded_run_by i step) rebind rebind by-table (λ s h k. refl)
-
--- the number that the scheme at the top was called by
-abbrev pub top_number : State → ℕ
-top_number s = number_at s (s.depth - 1)
 
 abbrev pub code_at : ℕ → RunOutput → ℕ
 code_at k t = get_or t.codes k 0

@@ -14,3 +14,9 @@ pub mod Spindles
 pub mod Prices
 pub mod Fillings
 pub mod DryRuns
+pub mod Numbers
+pub mod Idlers
+pub mod Variants
+pub mod Slips
+pub mod HandlerSlips
+pub mod SwapSlips
