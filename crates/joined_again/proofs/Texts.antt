@@ -1,6 +1,6 @@
 -- What holds of every text that is made smaller:
 -- its groups meet the rule and are the fewest, what is written is accepted, and given back it is written again.
-use Prim.Native.Nat.{ℕ, ◌/◌, ◌≤◌, ◌<◌}
+use Prim.Native.Nat.{ℕ, ◌/◌, ◌≤◌}
 use mathlib.Core.Bool.{Bool, false}
 use mathlib.Core.Path.{◌≡◌, sym, ◌∙◌, ap, ap₂}
 use mathlib.Core.List.{List}
@@ -17,10 +17,9 @@ use Rattle.image.specs.Check.{image_verdict}
 use Rattle.image.specs.inner.Sound.{SoundImage}
 use Rattle.image.proofs.Accepted.{image-sound}
 use Rattle.covering.specs.Matched.{is_uneven}
-use Rattle.covering.proofs.Hits.{one-row}
 use Rattle.grouping.specs.Rule.{Grouping, Meets, groups}
 use Rattle.grouping.specs.Classes.{class_of, grouping}
-use Rattle.grouping.proofs.Coarsest.{even-meets, even-fewest, within-grouping}
+use Rattle.grouping.proofs.Coarsest.{even-meets, even-fewest}
 use Rattle.minimising.specs.group_numbers.Smaller.{smaller_image}
 use Rattle.minimising.specs.Entry.{minimise_verdict, minimise}
 use Rattle.joined_again.proofs.Shorter.{fewest-labels}
@@ -38,11 +37,6 @@ module _ (t : List ℕ) (ok : minimise_verdict t ≡ fine) where
 
   pub text-meets : Meets image (class_of (grouping image))
   text-meets = even-meets image sound allowed.even
-
-  -- labels that any grouping by the rule joins are joined
-  pub text-widest : (g : Grouping) → Meets image g → (l m : ℕ) → l < length image.labels → m < length image.labels → g l ≡ g m
-      → class_of (grouping image) l ≡ class_of (grouping image) m
-  text-widest = within-grouping image sound (one-row image sound allowed.even)
 
   pub text-fewest : (g : Grouping) → Meets image g
       → groups (class_of (grouping image)) (length image.labels) ≤ groups g (length image.labels)

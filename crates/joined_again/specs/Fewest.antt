@@ -1,30 +1,14 @@
--- Of every image that nothing but 16 refuses to make smaller: its groups meet the rule, no grouping that meets it has fewer, and so the
--- smaller image has as few labels as can be and its text is no longer.
-use Rattle.std.specs.Prelude.{ℕ, ◌≤◌, ◌<◌, ◌≡◌, List, length}
+-- Of every image that nothing but 16 refuses to make smaller: no grouping by the rule has fewer groups than the smaller image has labels,
+-- and its text is no longer.
+use Rattle.std.specs.Prelude.{ℕ, ◌≤◌, ◌≡◌, List, length}
 use Rattle.text.specs.frames.Frame.{contents}
 use Rattle.text.specs.frames.Verdict.{fine}
 use Rattle.text.specs.frames.Answer.{success}
 use Rattle.image.specs.Image.{image_text}
 use Rattle.image.specs.Decode.{decoded_image}
 use Rattle.grouping.specs.Rule.{Grouping, Meets, groups}
-use Rattle.grouping.specs.Classes.{class_of, grouping}
 use Rattle.minimising.specs.group_numbers.Smaller.{smaller_image}
 use Rattle.minimising.specs.Entry.{minimise_verdict, minimise}
-
-abbrev pub GroupsMeet : Type 0
-GroupsMeet =
-    (t : List ℕ) → minimise_verdict t ≡ fine → let i = decoded_image (contents t) in Meets i (class_of (grouping i))
-
--- labels that any grouping by the rule joins are joined
-abbrev pub GroupsWidest : Type 0
-GroupsWidest =
-    (t : List ℕ) → minimise_verdict t ≡ fine → let i = decoded_image (contents t) in (g : Grouping) → Meets i g
-    → (l m : ℕ) → l < length i.labels → m < length i.labels → g l ≡ g m → class_of (grouping i) l ≡ class_of (grouping i) m
-
-abbrev pub FewestGroups : Type 0
-FewestGroups =
-    (t : List ℕ) → minimise_verdict t ≡ fine → let i = decoded_image (contents t) in (g : Grouping) → Meets i g
-    → groups (class_of (grouping i)) (length i.labels) ≤ groups g (length i.labels)
 
 abbrev pub FewestLabels : Type 0
 FewestLabels =

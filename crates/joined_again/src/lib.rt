@@ -2,15 +2,12 @@
 //! again; theorems as contracts.
 #![tactic(auto)]
 
-ghost use Rattle.joined_again.specs.Fewest.{GroupsMeet, GroupsWidest, FewestGroups, FewestLabels, NeverLonger, CountNoLonger};
+ghost use Rattle.joined_again.specs.Fewest.{FewestLabels, NeverLonger, CountNoLonger};
 ghost use Rattle.joined_again.specs.Again.{SmallerPasses, SmallerEven, SmallerAgain, MinimiseAgain};
 
-/// Of every image that nothing but 16 refuses to make smaller: its groups meet the rule, every grouping that meets it is within them and
-/// has as many groups at least, and so the smaller image has the fewest labels; its text is never longer than the one given.
+/// Of every image that nothing but 16 refuses to make smaller: the smaller image has no more labels than any grouping by the rule has
+/// groups, and its text is never longer than the one given.
 pub fn joined_image_is_smallest()
-    ensures rule_met { GroupsMeet }
-    ensures widest { GroupsWidest }
-    ensures fewest_groups { FewestGroups }
     ensures fewest_labels { FewestLabels }
     ensures never_longer { NeverLonger }
     ensures count { CountNoLonger }
