@@ -37,8 +37,8 @@ pub fn tick_bytes(image: &[u8], bytes: &mut [u8; STATE_BYTES], word: u16) -> Res
 {
     let mut table = [0u8; TABLE];
     prepare_table(image, &mut table)?;
-    let n = FRAME * (image.len() / LINE);
-    tick_table(&table[..n], bytes, word)
+    let end = FRAME * (image.len() / LINE);
+    tick_table(&table[..end], bytes, word)
 }
 
 // A run on a prepared table: 11, then as any run.
@@ -71,6 +71,6 @@ pub fn live_tick_bytes(
     if bad_table(table) {
         return Err(Refusal::BadHeader);
     }
-    let n = table_length(table);
-    tick_table(&table[..n], bytes, word)
+    let end = table_length(table);
+    tick_table(&table[..end], bytes, word)
 }

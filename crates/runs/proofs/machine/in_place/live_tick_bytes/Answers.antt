@@ -11,19 +11,19 @@ use Rattle.runs.proofs.machine.in_place.live_tick_bytes.Goals as goal
 pub returns-then-bad_table : goal.returns-then-bad_table
 returns-then-bad_table c = live-stays _ _ _ c.bad_table.ensures _ c.if-bad_table.true
 
-pub table_length-n-requires : goal.table_length-n-requires
-table_length-n-requires c =
+pub table_length-end-requires : goal.table_length-end-requires
+table_length-end-requires c =
     let long = end-holds c.args.table.now (sym c.bad_table.ensures ∙ c.if-bad_table.false) in omega (arith, long)
 
 pub slice_bounds-tick_table-end : goal.slice_bounds-tick_table-end
 slice_bounds-tick_table-end c =
     let good : is_bad_table c.args.table.now ≡ false = sym c.bad_table.ensures ∙ c.if-bad_table.false in
-    cut-length _ _ c.table_length-n.ensures good
+    cut-length _ _ c.table_length-end.ensures good
 
 pub tick_table-requires : goal.tick_table-requires
 tick_table-requires c =
     let good : is_bad_table c.args.table.now ≡ false = sym c.bad_table.ensures ∙ c.if-bad_table.false in
-    cut-whole _ _ c.table_length-n.ensures good
+    cut-whole _ _ c.table_length-end.ensures good
 
 pub returns : goal.returns
-returns c = live-advances _ _ _ c.bad_table.ensures _ _ c.table_length-n.ensures c.if-bad_table.false _ _ c.tick_table.ensures
+returns c = live-advances _ _ _ c.bad_table.ensures _ _ c.table_length-end.ensures c.if-bad_table.false _ _ c.tick_table.ensures
