@@ -1,5 +1,6 @@
 //! The laws that docs/TRACE.md names stand in the files that it names. A law is a promise where all that its type speaks of is to be
-//! believed; where it speaks of a definition of `proofs/` or `specs/inner/`, the row says that it is a step of a proof.
+//! believed; where it speaks of a definition of `proofs/` or `specs/inner/`, the row says that it is a step of a proof, or stands in a table
+//! of steps.
 
 use std::collections::BTreeSet;
 use std::fs;
@@ -13,7 +14,8 @@ fn read(path: &str) -> String {
     fs::read_to_string(root().join(path)).unwrap_or_else(|_| panic!("{path} is there"))
 }
 
-/// The laws that a row names with their file, as `a`, `b` (crate/proofs/File), and whether it calls them steps.
+/// The laws that a row names with their file, as `a`, `b` (crate/proofs/File), and whether it calls them steps: the word stands before
+/// them, behind no semicolon.
 struct Group {
     names: Vec<String>,
     file: String,
@@ -22,21 +24,22 @@ struct Group {
 
 fn groups(row: &str) -> Vec<Group> {
     let mut found = Vec::new();
-    for (at, _) in row.match_indices('(') {
-        let path = |c: char| c.is_alphanumeric() || c == '_' || c == '/';
-        let inside = &row[at + 1..];
-        let file = &inside[..inside.find(|c| !path(c)).unwrap_or(inside.len())];
-        if !file.contains("/proofs/") {
-            continue;
+    for part in row.split([';', '|']) {
+        let (mut start, mut are_steps) = (0, false);
+        for (at, _) in part.match_indices('(') {
+            let path = |c: char| c.is_alphanumeric() || c == '_' || c == '/';
+            let inside = &part[at + 1..];
+            let file = &inside[..inside.find(|c| !path(c)).unwrap_or(inside.len())];
+            let (words, quoted): (Vec<_>, Vec<_>) =
+                part[start..at].split('`').enumerate().partition(|(k, _)| k % 2 == 0);
+            let mut words = words.into_iter().flat_map(|(_, text)| text.split(|c: char| !c.is_alphabetic()));
+            are_steps |= words.any(|word| word == "step" || word == "steps");
+            start = at + 1;
+            if file.contains("/proofs/") {
+                let names = quoted.into_iter().map(|(_, name)| name.to_owned()).collect();
+                found.push(Group { names, file: file.to_owned(), are_steps });
+            }
         }
-        let start = row[..at].rfind([')', ';', '|', ':']).map_or(0, |before| before + 1);
-        let (words, quoted): (Vec<_>, Vec<_>) =
-            row[start..at].split('`').enumerate().partition(|(k, _)| k % 2 == 0);
-        let are_steps = words.iter().any(|(_, text)| {
-            text.split(|c: char| !c.is_alphabetic()).any(|word| word == "step" || word == "steps")
-        });
-        let names = quoted.into_iter().map(|(_, name)| name.to_owned()).collect();
-        found.push(Group { names, file: file.to_owned(), are_steps });
     }
     found
 }
@@ -135,7 +138,12 @@ fn the_laws_that_the_trace_names_stand_in_their_files_and_speak_of_what_is_belie
     let trace = read("docs/TRACE.md");
     let mut wrong = Vec::new();
     let mut seen = 0;
-    for row in trace.lines().filter(|line| line.starts_with('|')) {
+    let mut is_in_table_of_steps = false;
+    for row in trace.lines() {
+        is_in_table_of_steps = row.starts_with("| Step |") || (is_in_table_of_steps && row.starts_with('|'));
+        if !row.starts_with('|') {
+            continue;
+        }
         for group in groups(row) {
             let path = format!("crates/{}.antt", group.file);
             let text = read(&path);
@@ -155,9 +163,7 @@ fn the_laws_that_the_trace_names_stand_in_their_files_and_speak_of_what_is_belie
                     inner.push(format!("{law} ({}) speaks of {}", group.file, speaks_of.join(", ")));
                 }
             }
-            if inner.is_empty() && group.are_steps && !group.names.is_empty() {
-                wrong.push(format!("{} ({}) is called a step and needs not", group.names.join(", "), group.file));
-            } else if !group.are_steps {
+            if !group.are_steps && !is_in_table_of_steps {
                 wrong.extend(inner);
             }
         }
