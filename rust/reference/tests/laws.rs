@@ -116,7 +116,7 @@ fn unbelieved(text: &str) -> BTreeSet<&str> {
         let Some(rest) = kind.iter().find_map(|kind| head.strip_prefix(kind)) else { continue };
         let name = rest.strip_prefix("pub ").unwrap_or(rest);
         let name = &name[..name.find([' ', ':', '(', '{']).unwrap_or(name.len())];
-        if head.starts_with("abbrev ") && !rest.starts_with("pub ") {
+        if head.starts_with("abbrev ") {
             let depth = indent(line);
             let more = |next: &&&str| indent(next) > depth || next.trim_start().starts_with(&format!("{name} "));
             let whole = std::iter::once(*line).chain(lines[k + 1..].iter().take_while(more).copied());
