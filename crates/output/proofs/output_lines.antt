@@ -1,2 +1,3 @@
 pub mod Printed
 pub mod Limits
+pub mod Outcomes

@@ -1,4 +1,3 @@
 pub mod Runs
 pub mod Limits
 pub mod Capitals
-mod Handed

@@ -1,4 +1,3 @@
 pub mod Translations
 pub mod Limits
 pub mod Capitals
-mod Handed

@@ -3,12 +3,14 @@ ghost use Rattle.std.specs.Prelude.{◌≡◌, ◌≤◌, length};
 ghost use Rattle.text.specs.frames.Answer.{reply, reply_count};
 ghost use Rattle.output.specs.output_lines.Prints.{Prints};
 ghost use Rattle.output.specs.run_output.RunProgram.{program_words, run_lines, run_output};
-ghost use Rattle.console.specs.Outcome.{PrintsFor};
+ghost use Rattle.std.specs.Io.Cursor.{cursor_position, cursor_inner};
+ghost use Rattle.console.specs.Outcome.{PrintsFor, TellsErrors, PrintsWhereItFits};
 
 use crate::output_lines::{put_codes, put_refusal};
+use console::streams::{Reader, Writer};
 use console::{Input, Outcome};
 use state::State;
-use std::io::{Read, Write};
+use std::io::Cursor;
 use text::frames::Refusal;
 use text::frames::sizes::{IMAGE_TEXT, LINE};
 
@@ -63,8 +65,9 @@ pub fn run_text(input: &[u8], out: &mut [u8; RUN_PRINTS]) -> usize
 }
 
 // Reads an image and prints what its run prints.
-pub fn run_image<R: Read, W: Write>(reader: &mut R, writer: &mut W) -> Outcome
-    ensures { PrintsFor run_output (R.remaining reader.old) (W.contents writer.old) (W.contents writer.new) result }
+pub fn run_image<R: Reader, W: Writer>(reader: &mut R, writer: &mut W) -> Outcome
+    ensures prints { PrintsFor run_output (R.remaining reader.old) (W.contents writer.old) (W.contents writer.new) result }
+    ensures errors { TellsErrors run_output (R.remaining reader.old) R.fails (W.fails writer.old) result }
 {
     let mut text = [0u8; IMAGE_READ];
     let n = match console::read_input(reader, &mut text) {
@@ -77,4 +80,12 @@ pub fn run_image<R: Read, W: Write>(reader: &mut R, writer: &mut W) -> Outcome
         Ok(()) => Outcome::Printed,
         Err(error) => Outcome::NotWritten(error),
     }
+}
+
+// The program over memory, where no read fails: all that it prints stands at the front of the buffer, where that has room.
+pub fn run_image_in_memory(image: &[u8], out: &mut Cursor<&mut [u8]>) -> Outcome
+    ensures { cursor_position out.old ≡ 0 → PrintsWhereItFits (run_output image.now) (cursor_inner out.old).now (cursor_inner out.new).now result }
+{
+    let mut reader = image;
+    run_image(&mut reader, out)
 }

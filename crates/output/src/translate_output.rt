@@ -1,11 +1,14 @@
 // The translator's program between its input and its output.
+ghost use Rattle.std.specs.Prelude.{◌≡◌};
 ghost use Rattle.output.specs.output_lines.Prints.{Prints};
 ghost use Rattle.output.specs.translate_output.TranslateProgram.{translate_output};
-ghost use Rattle.console.specs.Outcome.{PrintsFor};
+ghost use Rattle.std.specs.Io.Cursor.{cursor_position, cursor_inner};
+ghost use Rattle.console.specs.Outcome.{PrintsFor, TellsErrors, PrintsWhereItFits};
 
 use crate::output_lines::put_refusal;
+use console::streams::{Reader, Writer};
 use console::{Input, Outcome};
-use std::io::{Read, Write};
+use std::io::Cursor;
 use text::frames::sizes::{CHART_TEXT, IMAGE_TEXT, LINE};
 
 // One character more than the longest chart: of a longer text no more needs to be read.
@@ -29,8 +32,9 @@ pub fn translate_text(input: &[u8], out: &mut [u8; TRANSLATE_PRINTS]) -> usize
 }
 
 // Reads a chart and prints its image, or the frame that tells why there is none.
-pub fn translate<R: Read, W: Write>(reader: &mut R, writer: &mut W) -> Outcome
-    ensures { PrintsFor translate_output (R.remaining reader.old) (W.contents writer.old) (W.contents writer.new) result }
+pub fn translate<R: Reader, W: Writer>(reader: &mut R, writer: &mut W) -> Outcome
+    ensures prints { PrintsFor translate_output (R.remaining reader.old) (W.contents writer.old) (W.contents writer.new) result }
+    ensures errors { TellsErrors translate_output (R.remaining reader.old) R.fails (W.fails writer.old) result }
 {
     let mut text = [0u8; CHART_READ];
     let n = match console::read_input(reader, &mut text) {
@@ -43,4 +47,12 @@ pub fn translate<R: Read, W: Write>(reader: &mut R, writer: &mut W) -> Outcome
         Ok(()) => Outcome::Printed,
         Err(error) => Outcome::NotWritten(error),
     }
+}
+
+// The program over memory, where no read fails: all that it prints stands at the front of the buffer, where that has room.
+pub fn translate_in_memory(chart: &[u8], out: &mut Cursor<&mut [u8]>) -> Outcome
+    ensures { cursor_position out.old ≡ 0 → PrintsWhereItFits (translate_output chart.now) (cursor_inner out.old).now (cursor_inner out.new).now result }
+{
+    let mut reader = chart;
+    translate(&mut reader, out)
 }

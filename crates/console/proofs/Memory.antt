@@ -1,0 +1,36 @@
+-- Between texts in memory a program prints all, since no read fails there, and no write that has room.
+use Rattle.std.proofs.Common.{ℕ, ◌≡◌, ◌≤◌, ◌<◌, ◌-◌, ◌∙◌, ap, sym, refl, Bool, true, false, leb, List, [], ◌++◌, length, take, drop, Some, None, if◌then◌else◌, arith, rules, take-append-drop}
+use Rattle.std.proofs.Math.Dec.{leb-zero}
+use lib.Seq.{take-append_seam}
+use Rattle.std.specs.Io.KnownBytes.{Appends}
+use Rattle.console.specs.declared.Outcome.{Outcome}
+use Rattle.console.specs.declared.Outcome.TheVariants.{Printed, NotRead, NotWritten}
+use Rattle.console.specs.inner.Memory.{written_front, HasNoRoom}
+use Rattle.console.specs.Outcome.{PrintsFor, TellsErrors, PrintsWhereItFits}
+
+front-is : (text buffer : List ℕ) (position : ℕ) → take position buffer ≡ text → take (length text) buffer ≡ text
+front-is text buffer position e =
+    ap (λ t. take (length t) buffer) (sym e) ∙ ap (take (length (take position buffer))) (sym (take-append-drop position buffer)) ∙
+    take-append_seam (take position buffer) (drop position buffer) ∙ e
+
+-- what an empty front was grown by
+grown-by : (text old front : List ℕ) (was_within is_within : Bool) → was_within ≡ true → old ≡ []
+    → Appends (if was_within then Some old else None) (if is_within then Some front else None) text → front ≡ text
+grown-by text old front true true e none p = p ∙ ap (λ l. l ++ text) none
+grown-by text old front true false e none p = absurd p
+grown-by text old front false b e none p = search rules
+
+-- the buffer is printed over from its first byte on
+pub printed-in-memory : (output : List ℕ → List ℕ) (text before start after : List ℕ) (first position : ℕ) (r : Outcome)
+    → first ≡ 0 → start ≡ before → PrintsFor output (Some text) (written_front first start) (written_front position after) r
+    → TellsErrors output (Some text) (λ _. ⊥) (λ n _. HasNoRoom first start n) r → PrintsWhereItFits (output text) before after r
+printed-in-memory output text before start after first position Printed zero same printed told fits =
+    let within = ap (λ k. leb k (length start)) zero ∙ leb-zero (length start) in
+    let none = ap (λ k. take k start) zero in (
+      refl,
+      front-is (output text) after position
+          (grown-by (output text) (take first start) (take position after) _ (leb position (length after)) within none printed),
+    )
+printed-in-memory output text before start after first position (NotRead e) zero same printed told fits = absurd told
+printed-in-memory output text before start after first position (NotWritten e) zero same printed told fits =
+    absurd (omega (arith, zero, ap length same, told.1, told.2))

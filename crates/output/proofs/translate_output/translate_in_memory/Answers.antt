@@ -1,0 +1,9 @@
+use Rattle.std.proofs.Common.{refl}
+use Rattle.output.specs.translate_output.TranslateProgram.{translate_output}
+use Rattle.console.proofs.Memory.{printed-in-memory}
+use Rattle.output.proofs.translate_output.translate_in_memory.Goals as goal
+
+pub returns : goal.returns
+returns c = λ zero.
+    printed-in-memory translate_output c.args.chart.now c.args.out.now.inner.now c.args.out.now.inner.now c.translate.new.writer.inner.now c.args.out.now.pos
+    c.translate.new.writer.pos c.translate.result zero refl c.translate.ensures.prints c.translate.ensures.errors
