@@ -2,7 +2,7 @@
 -- codes, each before the next.
 use Rattle.std.specs.Prelude.{ℕ, ◌≡◌, List, [], ◌∷◌, ◌++◌, replicate}
 use Rattle.text.specs.frames.Answer.{Reply, success, refusal}
-use Rattle.agreement.specs.Agreement.{RunInput, RunOutput}
+use Rattle.agreement.specs.Agreement.{RunInput}
 use Rattle.agreement.specs.dry_runs.DryRun.{DryRunOutcome, dry_run}
 use Rattle.bench.specs.Bench.{chart_p, image_p, bench_words}
 
