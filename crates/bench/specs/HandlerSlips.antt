@@ -9,7 +9,6 @@ use Rattle.state.specs.State.{label_at, entry_at, place_at, fresh_state}
 use Rattle.state.specs.Changes.{with_places, with_place, with_opened, with_bits}
 use Rattle.fitness.specs.Fitness.{is_call, is_of_handler}
 use Rattle.ticks.specs.Tick.{row_leads, MachineTick, finished, stopped, moved_tick, state_alone, full_tick, tick, top_of}
-use Rattle.ticks.specs.inner.TickContracts.{beneath}
 use Rattle.ticks.specs.Functions.{is_at_full_call, return_tick}
 use Rattle.runs.specs.Run.{run}
 use Rattle.agreement.specs.Agreement.{Runner, Rebinder, Agreement}
@@ -102,7 +101,8 @@ ReturnsToCallerFails = (g : Rebinder) → Agreement translate fresh_state (run_b
 
 -- ---- the handler's return at depth 1 takes a row, of which label 1 has none
 abbrev pub takes_row : StepRule
-takes_row i s w = if eqb (top_label i s).kind 3 then return_tick s (beneath i s w) else tick i s w
+takes_row i s w =
+    if eqb (top_label i s).kind 3 then return_tick s (row_leads i s.bits (place_at s (s.depth - 2)) w) else tick i s w
 
 abbrev pub TakesRowFails : Type 0
 TakesRowFails = (g : Rebinder) → Agreement translate fresh_state (run_by takes_row) g → ⊥
