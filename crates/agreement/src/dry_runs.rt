@@ -6,9 +6,9 @@ use state::State;
 use text::frames::Refusal;
 use translator::translating::translate;
 
-/// Runs a chart from its text: translates it, makes a fresh state of `size` places, 1 to 32, and runs `words` from it on the image, a word of
-/// signals a tick, bit c for condition c. `image` is lent for the image's characters, 29,831 at most; `masks` and `codes` get a mask and a
-/// code a tick, and need a place for each word. Answers how many ticks were made.
+/// Runs a chart from its text: translates it, makes a fresh state of `size` places, 1 to 32, and runs `words` from it on the image, a word
+/// of signals a tick, bit c for condition c. `image` is lent for the image's characters, 29,831 at most; `masks` and `codes` get a mask and
+/// a code a tick, and need a place for each word. Answers how many ticks were made.
 ///
 /// Where the chart translates and the size is 1 to 32, answer, masks and codes are what the chart's walk over the words gives.
 ///

@@ -1,6 +1,6 @@
-//! The agreement of machine and walk, as one statement over a whole list of runs and rebindings, and its proof. Each theorem of the crate is
-//! a clause of a function here that does nothing: a law that is changed or taken away no longer proves it. `dry_runs` runs a chart from its
-//! text, and promises what the walk gives.
+//! The agreement of machine and walk, as one statement over a whole list of runs and rebindings, and its proof. Each theorem of the crate
+//! is a clause of a function here that does nothing: a law that is changed or taken away no longer proves it. `dry_runs` runs a chart from
+//! its text, and promises what the walk gives.
 #![tactic(auto)]
 
 ghost use Rattle.std.specs.Prelude.{ℕ, List};
@@ -28,8 +28,8 @@ pub fn machine_ticks_as_walk()
     ensures calls_from_c { DeliveredC }
 {}
 
-/// With no rebinding in the list it does so by the walk of words alone: of the definitions; of runs, ticks and live calls in any mixture; of
-/// runs on the image's text; and of both from C.
+/// With no rebinding in the list it does so by the walk of words alone: of the definitions; of runs, ticks and live calls in any mixture;
+/// of runs on the image's text; and of both from C.
 pub fn runs_tick_as_walk()
     ensures definitions { RunAgreement translate fresh_state run }
     ensures mixtures { DeliveredAlone }
@@ -38,8 +38,8 @@ pub fn runs_tick_as_walk()
     ensures calls_from_c { RunsDeliveredC }
 {}
 
-/// On a table that `prepare` wrote, a live run is the run on the image's text, a live tick the tick and a live rebinding the rebinding, from
-/// every state.
+/// On a table that `prepare` wrote, a live run is the run on the image's text, a live tick the tick and a live rebinding the rebinding,
+/// from every state.
 pub fn live_calls_act_as_on_text()
     ensures prepared { PreparedActs }
 {}

@@ -48,7 +48,8 @@ module _ (text before after : List ℕ) (size : ℕ) (a : RunInput) (answer : An
         let z : reply (Err r) ≡ success 0 = sym (ap reply e) ∙ fresh.answered ∙ rw (size-good size low high) refl in absurd (cc)
 
   -- and the run made
-  module _ (told : StateReport) (masks codes : List ℕ) (runs : GivesRun (run (take n after) made.state a.words a.masks a.codes) told masks codes)
+  module _ (told : StateReport) (masks codes : List ℕ)
+      (runs : GivesRun (run (take n after) made.state a.words a.masks a.codes) told masks codes)
     where
       pub ran : (m : ℕ) → made.answer ≡ Ok m → GivesDryRun (dry_run text size before a) told.answer after masks codes
       unfolding dry_run
