@@ -14,6 +14,7 @@ use Rattle.bench.proofs.Prices.{price-cases}
 use Rattle.bench.proofs.Fillings.{filling-cases}
 use Rattle.bench.proofs.Live.{live-cases}
 use Rattle.bench.proofs.Outputs.{printed-cases}
+use Rattle.bench.proofs.DryRuns.{dry-run-cases}
 
 pub returns-clause-bench_sheet : goal.returns-clause-bench_sheet
 returns-clause-bench_sheet c = bench-sheet
@@ -77,3 +78,6 @@ returns-clause-live c = live-cases
 
 pub returns-clause-printed : goal.returns-clause-printed
 returns-clause-printed c = printed-cases
+
+pub returns-clause-dry_runs : goal.returns-clause-dry_runs
+returns-clause-dry_runs c = dry-run-cases
