@@ -1,5 +1,6 @@
 -- Between texts in memory a program prints all, since no read fails there, and no write that has room.
-use Rattle.std.proofs.Common.{ℕ, ◌≡◌, ◌≤◌, ◌<◌, ◌-◌, ◌∙◌, ap, sym, refl, Bool, true, false, leb, List, [], ◌++◌, length, take, drop, Some, None, if◌then◌else◌, arith, rules, take-append-drop}
+use Rattle.std.proofs.Common.{ℕ, ◌≡◌, ◌∙◌, ap, sym, refl, Bool, true, false, leb, if◌then◌else◌, arith, rules}
+use Rattle.std.proofs.Common.{List, [], ◌++◌, length, take, drop, Some, None, take-append-drop}
 use Rattle.std.proofs.Math.Dec.{leb-zero}
 use lib.Seq.{take-append_seam}
 use Rattle.std.specs.Io.KnownBytes.{Appends}

@@ -84,7 +84,8 @@ pub fn run_image<R: Reader, W: Writer>(reader: &mut R, writer: &mut W) -> Outcom
 
 // The program over memory, where no read fails: all that it prints stands at the front of the buffer, where that has room.
 pub fn run_image_in_memory(image: &[u8], out: &mut Cursor<&mut [u8]>) -> Outcome
-    ensures { cursor_position out.old ≡ 0 → PrintsWhereItFits (run_output image.now) (cursor_inner out.old).now (cursor_inner out.new).now result }
+    ensures { cursor_position out.old ≡ 0
+        → PrintsWhereItFits (run_output image.now) (cursor_inner out.old).now (cursor_inner out.new).now result }
 {
     let mut reader = image;
     run_image(&mut reader, out)

@@ -51,7 +51,8 @@ pub fn translate<R: Reader, W: Writer>(reader: &mut R, writer: &mut W) -> Outcom
 
 // The program over memory, where no read fails: all that it prints stands at the front of the buffer, where that has room.
 pub fn translate_in_memory(chart: &[u8], out: &mut Cursor<&mut [u8]>) -> Outcome
-    ensures { cursor_position out.old ≡ 0 → PrintsWhereItFits (translate_output chart.now) (cursor_inner out.old).now (cursor_inner out.new).now result }
+    ensures { cursor_position out.old ≡ 0
+        → PrintsWhereItFits (translate_output chart.now) (cursor_inner out.old).now (cursor_inner out.new).now result }
 {
     let mut reader = chart;
     translate(&mut reader, out)

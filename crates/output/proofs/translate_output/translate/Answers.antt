@@ -7,15 +7,18 @@ use Rattle.output.proofs.translate_output.translate.Goals as goal
 pub returns-in-Ok-clause-prints : goal.returns-in-Ok-clause-prints
 returns-in-Ok-clause-prints g c =
     let full : length c.read_input.new.buffer ≡ 5889 = search rules in
-    all-printed translate_output 5889 translate-front _ _ _ _ _ _ _ _ full c.in-Text.ensures.front c.translate_text-count.ensures c.in-Ok.ensures.all
+    all-printed translate_output 5889 translate-front _ _ _ _ _ _ _ _ full
+    c.in-Text.ensures.front c.translate_text-count.ensures c.in-Ok.ensures.all
 
 pub returns-in-Err-clause-prints : goal.returns-in-Err-clause-prints
 returns-in-Err-clause-prints g c =
     let full : length c.read_input.new.buffer ≡ 5889 = search rules in
-    front-printed translate_output 5889 translate-front _ _ _ _ _ _ _ _ full c.in-Text.ensures.front c.translate_text-count.ensures c.in-Err.ensures.part
+    front-printed translate_output 5889 translate-front _ _ _ _ _ _ _ _ full
+    c.in-Text.ensures.front c.translate_text-count.ensures c.in-Err.ensures.part
 
 pub returns-in-Err-clause-errors : goal.returns-in-Err-clause-errors
 returns-in-Err-clause-errors g c =
     let full : length c.read_input.new.buffer ≡ 5889 = search rules in
-    error-told translate_output 5889 translate-front (g.W.Writer.fails c.args.writer.now) _ _ _ _ _ _ _ full c.in-Text.ensures.front c.translate_text-count.ensures
+    error-told translate_output 5889 translate-front (g.W.Writer.fails c.args.writer.now) _ _ _ _ _ _ _ full
+    c.in-Text.ensures.front c.translate_text-count.ensures
     c.in-Err.ensures.fails

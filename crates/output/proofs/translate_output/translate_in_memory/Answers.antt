@@ -5,5 +5,6 @@ use Rattle.output.proofs.translate_output.translate_in_memory.Goals as goal
 
 pub returns : goal.returns
 returns c = λ zero.
-    printed-in-memory translate_output c.args.chart.now c.args.out.now.inner.now c.args.out.now.inner.now c.translate.new.writer.inner.now c.args.out.now.pos
+    printed-in-memory translate_output c.args.chart.now c.args.out.now.inner.now c.args.out.now.inner.now
+    c.translate.new.writer.inner.now c.args.out.now.pos
     c.translate.new.writer.pos c.translate.result zero refl c.translate.ensures.prints c.translate.ensures.errors
