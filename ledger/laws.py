@@ -33,27 +33,32 @@ def declares(program, file, name):
     return name in items and items[name].kind == "law"
 
 
-def named_laws(program):
-    """A name in a row is a law's if a file of the row declares it, if it has a dash, or if it stands behind `proved as`. It stands in a
-    file of the row, else in a crate of the row, else anywhere. A file that a row names with none of its laws is named with all."""
-    files_with, named = declaring(program), set()
-    for row in program.texts["docs/TRACE.md"].splitlines():
-        files = files_of(row, program)
-        crates = set(re.findall(r"(\w+)/(?:specs|proofs|src)/", row))
-        proved = set(names_in(" ".join(re.findall("(?:proved|computed) as " + NAMES, row))))
-        here = set()
-        for name in names_in(row):
-            inside = {(file, name) for file in files if declares(program, file, name)}
-            if not inside and ("-" in name or name in proved):
-                places = {file for file in files_with.get(name, ()) if name in program.file(file).public}
-                near = {file for file in places if file.split("/")[0] in crates}
-                named |= {(file, name) for file in near or places}
-            here |= inside
-        for file in files - {file for file, _ in here}:
-            here |= {(file, name) for name in program.file(file).public}
-        named |= here
-        astray = [name for name in proved if name not in {other for _, other in named}]
-        for names, file in re.findall(NAMES + r" \((\w+/proofs/[\w/]+)", row):
-            astray += [f"{file}.{name}" for name in names_in(names) if not program.file(file) or name not in program.file(file).items]
-        program.unknown.update(f"{name}, which docs/TRACE.md names" for name in astray)
+def laws_of(row, program, files_with):
+    """The laws that a row names. A name is a law's if a file of the row declares it, if it has a dash, or if it stands behind `proved as`.
+    It stands in a file of the row, else in a crate of the row, else anywhere. A file that a row names with none of its laws stands for
+    all of them."""
+    files, named = files_of(row, program), set()
+    crates = set(re.findall(r"(\w+)/(?:specs|proofs|src)/", row))
+    proved = set(names_in(" ".join(re.findall("(?:proved|computed) as " + NAMES, row))))
+    here = set()
+    for name in names_in(row):
+        inside = {(file, name) for file in files if declares(program, file, name)}
+        if not inside and ("-" in name or name in proved):
+            places = {file for file in files_with.get(name, ()) if name in program.file(file).public}
+            near = {file for file in places if file.split("/")[0] in crates}
+            named |= {(file, name) for file in near or places}
+        here |= inside
+    for file in files - {file for file, _ in here}:
+        here |= {(file, name) for name in program.file(file).public}
+    named |= here
+    astray = [name for name in proved if name not in {other for _, other in named}]
+    for names, file in re.findall(NAMES + r" \((\w+/proofs/[\w/]+)", row):
+        astray += [f"{file}.{name}" for name in names_in(names) if not program.file(file) or name not in program.file(file).items]
+    program.unknown.update(f"{name}, which docs/TRACE.md names" for name in astray)
     return named
+
+
+def named_laws(program):
+    """The laws that docs/TRACE.md names."""
+    files_with = declaring(program)
+    return {law for row in program.texts["docs/TRACE.md"].splitlines() for law in laws_of(row, program, files_with)}

@@ -5,6 +5,7 @@ from pathlib import Path
 
 from comparing import differences, written
 from lines import Ledger, page
+from steps import uncalled_steps
 
 ROOT = Path(__file__).resolve().parent.parent
 LEDGER = "docs/promises.txt"
@@ -31,6 +32,11 @@ def main(arguments):
         print(f"not there: {name}")
     if ledger.program.unknown:
         return f"the texts name what is not there, so {LEDGER} cannot be made"
+    steps = uncalled_steps(ledger)
+    for line in steps:
+        print(line)
+    if steps:
+        return "docs/TRACE.md names as promises what a reader cannot tell from the definitions to believe"
     if not arguments:
         (ROOT / LEDGER).write_text(page(entries), encoding="utf-8")
     elif page(entries) != old:

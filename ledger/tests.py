@@ -6,6 +6,7 @@ import unittest
 from comparing import differences
 from lines import Ledger, page
 from main import ROOT, texts_of
+from steps import uncalled_steps
 
 NUMBERS = """\
 -- Numbers, and what is told of them.
@@ -157,6 +158,23 @@ class SmallProgram(unittest.TestCase):
 
     def unseen(self, *edits):
         self.assertEqual(page(Ledger(edited(TEXTS, *edits)).entries()), page(Ledger(TEXTS).entries()))
+
+    def uncalled(self, row, *edits):
+        """The laws that a row of the trace names and has to call steps."""
+        texts = {**edited(TEXTS, *edits), TRACE: row + "\n"}
+        return [line.split()[2].rstrip(",") for line in uncalled_steps(Ledger(texts))]
+
+    def test_a_law_that_speaks_of_what_is_not_to_be_believed_is_called_a_step(self):
+        edits = [
+            (LAWS, "use Prim", "use Rattle.low.specs.inner.Halves.{half}\nuse Prim"),
+            (LAWS, "  pub always-worth : Gives n (worth n)", "  pub always-worth : Gives n (half n)"),
+        ]
+        self.assertEqual(self.uncalled("| a | `always-worth` (low/proofs/Laws) |", *edits), ["low/proofs/Laws.always-worth"])
+        self.assertEqual(self.uncalled("| a | by the step; `always-worth` (low/proofs/Laws) |", *edits), ["low/proofs/Laws.always-worth"])
+        self.assertEqual(self.uncalled("| a | low/proofs/Laws |", *edits), ["low/proofs/Laws.always-worth"])
+        self.assertEqual(self.uncalled("| a | by the step `always-worth` (low/proofs/Laws) |", *edits), [])
+        self.assertEqual(self.uncalled("| Step | Law |\n|---|---|\n| a | `always-worth` (low/proofs/Laws) |", *edits), [])
+        self.assertEqual(self.uncalled("| a | `all-worth`, `always-worth` (low/proofs/Laws) |"), [])
 
     def test_each_promise_has_a_line(self):
         self.assertEqual(

@@ -140,7 +140,6 @@ rows-together-common t ok j k hj hk e =
     let i : Image = decoded_image (contents t) in let S = image-sound t ok in
     together-common (nth_row i j) (nth_row i k) (S.each j hj) (S.each k hk) e
 
+-- of any two rows
 pub rows-common-together : CommonTogether
-rows-common-together t ok j k hj hk w b p q =
-    let i : Image = decoded_image (contents t) in let S = image-sound t ok in
-    common-together (nth_row i j) (nth_row i k) w b (S.each j hj).small (S.each k hk).small p q
+rows-common-together r s w b hr hs p q = common-together r s w b hr hs p q

@@ -1,4 +1,4 @@
--- Two rows of an accepted image are together just where some word and bit match both.
+-- Two rows are together just where some word and bit match both.
 use Rattle.std.specs.Prelude.{ℕ, ◌<◌, Bool, true, ◌≡◌, List, length, if◌then◌else◌}
 use Rattle.text.specs.frames.Frame.{contents}
 use Rattle.text.specs.frames.Verdict.{fine}
@@ -16,14 +16,15 @@ pub record Common (r s : Row) : Type 0 where
   pub first : is_match word (if bit then 1 else 0) r ≡ true
   pub second : is_match word (if bit then 1 else 0) s ≡ true
 
+-- of the rows of an accepted image
 abbrev pub TogetherCommon : Type 0
 TogetherCommon =
     (t : List ℕ) → image_verdict t ≡ fine → let i = decoded_image (contents t) in
     (j k : ℕ) → j < length i.rows → k < length i.rows → is_together (nth_row i j) (nth_row i k) ≡ true
     → Common (nth_row i j) (nth_row i k)
 
+-- of any two rows with values of 16 bits
 abbrev pub CommonTogether : Type 0
 CommonTogether =
-    (t : List ℕ) → image_verdict t ≡ fine → let i = decoded_image (contents t) in
-    (j k : ℕ) → j < length i.rows → k < length i.rows → (w b : ℕ) → is_match w b (nth_row i j) ≡ true
-    → is_match w b (nth_row i k) ≡ true → is_together (nth_row i j) (nth_row i k) ≡ true
+    (r s : Row) (w b : ℕ) → r.values < 65536 → s.values < 65536 → is_match w b r ≡ true → is_match w b s ≡ true
+    → is_together r s ≡ true

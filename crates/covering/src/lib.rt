@@ -145,7 +145,8 @@ pub fn is_uneven(table: &[u8]) -> bool
     false
 }
 
-/// That some word and bit match two rows of an accepted image is told by their masks.
+/// Where two rows of an accepted image are together by their masks, some word and bit match both; and where a word and a bit match two rows,
+/// they are together.
 pub fn masks_tell_what_matches_two_rows()
     ensures together_common { TogetherCommon }
     ensures common_together { CommonTogether }
