@@ -1,6 +1,7 @@
 //! The agreement of machine and walk, as one statement over a whole list of runs and rebindings, and its proof. Each theorem of the crate
-//! is a clause of a function here that does nothing: a law that is changed or taken away no longer proves it. `dry_runs` runs a chart from
-//! its text, and promises what the walk gives.
+//! is a clause of a function here that does nothing: a law that is changed or taken away no longer proves it. What ties
+//! the theorems to the functions' own contracts stays laws (proofs/Contracts, proofs/Asks). `dry_runs` runs a chart from its text, and
+//! promises what the walk gives.
 #![tactic(auto)]
 
 ghost use Rattle.std.specs.Prelude.{ℕ, List};
