@@ -158,7 +158,7 @@ class Reader:
             stop = end_of_group(self.words, stop) - 1 if self.words[stop].text == "{" else stop
             self.keep(Item(word, following, module, block, attributes + self.texts_of(start, stop + 1), public))
         elif word in ("impl", "trait"):
-            return self.block(at, module, public)
+            return end_of_group(self.words, self.find(at, "{")) if is_test else self.block(at, module, public)
         else:
             return end_of_group(self.words, at) if word in ("(", "[", "{") else at + 1
         return stop + 1

@@ -159,6 +159,13 @@ class SmallProgram(unittest.TestCase):
     def unseen(self, *edits):
         self.assertEqual(page(Ledger(edited(TEXTS, *edits)).entries()), page(Ledger(TEXTS).entries()))
 
+    def test_what_hides_code_is_seen(self):
+        for hiding in ("/* /* */", 'const X: &str = r#""#;'):
+            with self.assertRaises(SystemExit):
+                Ledger(edited(TEXTS, (TOP, "/// What is always so.", hiding)))
+        went = self.told((STREAMS, "impl Source for", "#[cfg(test)]\nimpl Source for"))
+        self.assertIn("went: the contract of low::streams::Source-for-&[u8]::next", went)
+
     def uncalled(self, row, *edits):
         """The laws that a row of the trace names and has to call steps."""
         texts = {**edited(TEXTS, *edits), TRACE: row + "\n"}

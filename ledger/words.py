@@ -7,7 +7,7 @@ DEFINITION = re.compile(
     r"""\s+|--[^\n]*|(?P<word>"(?:[^"\\]|\\.)*"|\[\]|\.[^\s(){}\[\];,."]+|[(){}\[\];,.]|[^\s(){}\[\];,."]+)"""
 )
 CODE = re.compile(
-    r"""\s+|//[^\n]*|/\*.*?\*/|(?P<word>b?"(?:[^"\\]|\\.)*"|b?'(?:\\.[^']*|[^'\\\s])'|'\w+|\w+|::|->|=>|\S)""", re.S
+    r"""\s+|//[^\n]*|(?P<word>/\*|[bc]*r#*"|[bc]?"(?:[^"\\]|\\.)*"|b?'(?:\\.[^']*|[^'\\\s])'|'\w+|\w+|::|->|=>|\S)""", re.S
 )
 
 CLOSING = {"(": ")", "[": "]", "{": "}", "<": ">"}
@@ -53,7 +53,12 @@ class CodeWord:
 
 
 def code_words(text):
-    return [CodeWord(found) for found in CODE.finditer(text) if found["word"]]
+    """The words of code. A comment in brackets, which may nest, and a raw string are not read, and may not stand there."""
+    words = [CodeWord(found) for found in CODE.finditer(text) if found["word"]]
+    unread = next((word.text for word in words if re.fullmatch(r'/\*|[bc]*r#*"', word.text)), None)
+    if unread:
+        raise SystemExit(f"promises: {unread} stands in code; comments in brackets and raw strings are not read")
+    return words
 
 
 def end_of_group(words, at):

@@ -145,8 +145,8 @@ pub fn is_uneven(table: &[u8]) -> bool
     false
 }
 
-/// Where two rows of an accepted image are together by their masks, some word and bit match both; and where a word and a bit match two rows,
-/// they are together.
+/// Where two rows of an accepted image are together by their masks some word and bit match both; where a word and a bit match two rows they
+/// are together.
 pub fn masks_tell_what_matches_two_rows()
     ensures together_common { TogetherCommon }
     ensures common_together { CommonTogether }

@@ -273,7 +273,7 @@ fn dry(chart: &[u8], size: usize, room: usize) {
     }
 }
 
-// B2 to B4 from the chart's text; then what refuses the text, the image's room and the size, each before the next.
+// B2 to B4 from the chart's text, and on 32 places; then what refuses the text, the image's room and the size, each before the next.
 fn dry_runs(chart: [u8; 161]) {
     dry(&chart, 3, 276);
     dry(&chart, 2, 276);

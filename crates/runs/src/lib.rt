@@ -27,7 +27,7 @@ pub struct Tick {
     pub code: u8,
 }
 
-/// A live run and a live tick on a prepared table are the run and the tick on the image that it was prepared from, for every state and word.
+/// A live run and a live tick on a prepared table are the run and the tick on the image it was prepared from, for every state and word.
 pub fn live_calls_are_those_on_the_image()
     ensures run { LiveRunIs }
     ensures tick { LiveTickIs }
