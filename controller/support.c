@@ -47,10 +47,11 @@ void __aeabi_memclr8(uint32_t *to, size_t n) {
     __aeabi_memset4(to, n, 0);
 }
 
-/* Quotient and remainder come back in four registers, as this type does. */
+/* Quotient and remainder come back in four registers, as this type does by the base calling convention. By that of hard float it would
+ * come back in registers of floating point, where the library does not look. */
 typedef uint64_t both __attribute__((vector_size(16)));
 
-both __aeabi_uldivmod(uint64_t number, uint64_t by) {
+__attribute__((pcs("aapcs"))) both __aeabi_uldivmod(uint64_t number, uint64_t by) {
     uint64_t quotient = 0, left = 0;
     int bits = 64;
     /* the library divides lengths, most of whose bits are leading zeros, which the quotient has too */

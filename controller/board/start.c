@@ -11,6 +11,9 @@ int main(void);
 void fault(void);
 
 void reset(void) {
+#ifdef __ARM_FP
+    *(volatile uint32_t *)0xE000ED88 |= 0xF << 20; /* the compiler may use the registers of floating point: they are switched on */
+#endif
     for (uint32_t *word = bss_start; word < bss_end; word++)
         *word = 0;
     host_end(main() == 0);
