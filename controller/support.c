@@ -70,7 +70,8 @@ __attribute__((pcs("aapcs"))) both __aeabi_uldivmod(uint64_t number, uint64_t by
     return (both){quotient, left};
 }
 
-#if __ARM_ARCH == 6 /* Cortex-M0 neither divides nor makes products of 64 bits */
+/* What follows is for the code for Cortex-M0, which neither divides nor makes products of 64 bits. It may run on another processor. */
+
 /* The quotient in the first register, the remainder in the second. */
 uint64_t __aeabi_uidivmod(uint32_t number, uint32_t by) {
     uint32_t quotient = 0, left = 0;
@@ -98,4 +99,3 @@ uint64_t __aeabi_lmul(uint64_t a, uint64_t b) {
             product += a;
     return product;
 }
-#endif
