@@ -13,15 +13,15 @@
  * This file is for C99 and C++98 and what came after them, and for every processor: lengths are of type size_t, and fairleadow_calls.h,
  * which lies beside it, makes of them what the archive takes. controller/README.md tells of the archives for controllers. The one that
  * `./archive` makes is code for x86-64 and calls memcpy and memset and nothing else; there a call takes at most so many bytes of stack,
- * its return address with them (docs/MEASUREMENTS.md has the deepest that was seen beside it):
- *    read_chart      3,328   tick           13,360   prepare        13,192
- *    write_chart       784   rebind         13,208   live_run          352
- *    translate       6,752   spin           13,728   live_tick         288
- *    places          6,656   cause          13,176   live_rebind       160
- *    check_image    13,160   list_rows      13,224   live_spin         576
- *    fresh               8   minimise       14,792   meaning             8
- *    run            13,376   little_chart    1,440
- *    priced_run     13,520   count_fillings 18,112
+ * its return address and what it uses below its stack with them (docs/MEASUREMENTS.md has the deepest that was seen beside it):
+ *    read_chart      3,456   tick           13,488   prepare        13,320
+ *    write_chart       912   rebind         13,336   live_run          480
+ *    translate       6,880   spin           13,856   live_tick         416
+ *    places          6,784   cause          13,304   live_rebind       288
+ *    check_image    13,288   list_rows      13,352   live_spin         704
+ *    fresh             136   minimise       14,920   meaning           136
+ *    run            13,504   little_chart    1,568
+ *    priced_run     13,648   count_fillings 18,240
  */
 #ifndef FAIRLEADOW_H
 #define FAIRLEADOW_H

@@ -31,11 +31,13 @@ PREFIX = "fairleadow_"
 class Processor:
     """What its text looks like, and what a call takes besides the frame."""
 
-    def __init__(self, branches, calls_by_pointer, jumps_by_pointer, returned=0, library=()):
+    def __init__(self, branches, calls_by_pointer, jumps_by_pointer, returned=0, below=0, library=()):
         self.branches = re.compile(branches)
         self.calls_by_pointer = re.compile(calls_by_pointer)
         self.jumps_by_pointer = re.compile(jumps_by_pointer)
         self.returned = returned
+        # what a function may use below its frame where it calls nothing
+        self.below = below
         # functions of a library that is not compiled here, which call nothing
         self.library = frozenset(library)
 
@@ -45,7 +47,7 @@ THUMB = Processor(
     r"blx\t",
     r"(?:add|mov|ldr)\tpc\b|bx\t(?!lr$)",
 )
-X86 = Processor(r"(?:callq?|j\w+)\t", r"callq?\t\*", r"jmpq?\t\*", returned=8, library=("memcpy", "memset"))
+X86 = Processor(r"(?:callq?|j\w+)\t", r"callq?\t\*", r"jmpq?\t\*", returned=8, below=128, library=("memcpy", "memset"))
 RISCV = Processor(r"(?:call|tail|j|b\w+)\t", r"jalr\t", r"jr\t(?!ra$)")
 PROCESSORS = {"thumbv7m": THUMB, "thumbv6m": THUMB, "riscv32imac": RISCV, "x86_64": X86}
 FOLDERS = {"x86_64": "target/staticlib", "riscv32imac": "target/riscv/riscv32imac"}
@@ -119,7 +121,7 @@ def bounds(processor, paths):
         if name in known:
             return known[name]
         if name in processor.library:
-            return processor.returned
+            return processor.returned + processor.below
         if name not in frames:
             raise Refused(f"{above[-1]} calls {name}, whose frame is not known")
         if name in above:
@@ -130,7 +132,7 @@ def bounds(processor, paths):
             if name not in DEPTHS:
                 raise Refused(f"{name} calls itself, and how often is not stated")
             times = DEPTHS[name]
-        deepest = max((bound(other) for other in calls[name] if other != name), default=0)
+        deepest = max([processor.below] + [bound(other) for other in calls[name] if other != name])
         above.pop()
         known[name] = times * (frames[name] + processor.returned) + deepest
         return known[name]
