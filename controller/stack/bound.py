@@ -1,11 +1,8 @@
 #!/usr/bin/env python3
 """How many bytes of stack each call of the library can take at most, counted on the compiler's text.
 
-    bound.py                prints the bounds of all calls on all processors
-    bound.py --pages        fails where a page states less than the bound, or a budget that is below what it states
-
-controller/build and controller/programs write the texts, beside the archives; the page for controllers is controller/README.md,
-that for x86-64 include/fairleadow.h. On a controller the frame of the board's caller counts too (controller/board/board.c).
+controller/build and controller/programs write the texts, beside the archives. On a controller the frame of the board's caller counts too
+(controller/board/board.c). Prints the bounds of all calls on all processors; pages.py holds the pages to them.
 
 Beside each text lies what the compiler wrote of its frames (-fstack-usage, TEXT.su). A call's bound is the largest sum of frames on a
 way of calls. A function that calls itself counts as often as its contract allows. What cannot be counted is refused: a frame without a
@@ -151,75 +148,27 @@ def call_bounds(name, paths):
     return {call[len(PREFIX):]: found[call] + before for call, before in below.items()}
 
 
-def number(cell):
-    return int(cell.replace(",", ""))
-
-
-def rows_of_page():
-    """The table of stacks in controller/README.md, a row a call, by the heads of its columns."""
-    rows, heads = {}, None
-    for line in open("controller/README.md", encoding="utf-8"):
-        cells = [cell.strip() for cell in line.strip().strip("|").split("|")]
-        if line.startswith("| Call | Bound,"):
-            heads = cells
-        elif heads and not line.startswith("|"):
-            break
-        elif heads and not line.startswith("|---"):
-            rows[cells[0]] = dict(zip(heads, cells))
-    return rows
-
-
-def header_bounds():
-    """The bounds on x86-64 that include/fairleadow.h states, lines of names and numbers."""
-    stated = {}
-    for line in open("include/fairleadow.h", encoding="utf-8"):
-        if re.fullmatch(r" \*    (?: *[a-z_]+ +[\d,]+)+\n", line):
-            stated.update((name, number(cell)) for name, cell in re.findall(r"([a-z_]+) +([\d,]+)", line))
-    return stated
-
-
-def faults(found):
-    """What a page states that is not so."""
-    rows, header = rows_of_page(), header_bounds()
-    for processor, calls in found.items():
-        for call, bound in sorted(calls.items()):
-            if processor == "x86_64":
-                if header.get(call, 0) < bound:
-                    yield f"include/fairleadow.h: {call} takes up to {bound} bytes of stack on x86-64"
-                continue
-            row = rows.get(call)
-            if row and processor.endswith(SMALLER):
-                if bound > number(row["Budget"]):
-                    yield f"controller/README.md: {call} on {processor} takes up to {bound} bytes of stack, above its budget"
-                continue
-            if not row or f"Bound, {processor}" not in row:
-                yield f"controller/README.md: the stack of {call} on {processor} is not there"
-                continue
-            stated, seen, budget = (number(row[head]) for head in (f"Bound, {processor}", f"Seen, {processor}", "Budget"))
-            if not seen <= bound <= stated <= budget:
-                yield (f"controller/README.md: {call} on {processor}: seen {seen}, bound {bound} and stated as {stated}, "
-                       f"budget {budget} are not in this order")
+def every_bound():
+    """The bounds of all calls, by processors; those of smaller code where it was made and linked."""
+    check_module("target/staticlib/module.ll")
+    found = {}
+    for name in PROCESSORS:
+        folder = FOLDERS.get(name, f"target/arm/{name}")
+        found[name] = call_bounds(name, sorted(glob.glob(folder + "/*.s")))
+        if os.path.exists(f"{folder}{SMALLER}/board.s"):
+            found[name + SMALLER] = call_bounds(name, sorted(glob.glob(f"{folder}{SMALLER}/*.s")))
+    return found
 
 
 def main():
+    os.chdir(os.path.join(os.path.dirname(os.path.abspath(__file__)), "../.."))
     try:
-        check_module("target/staticlib/module.ll")
-        found = {}
-        for name in PROCESSORS:
-            folder = FOLDERS.get(name, f"target/arm/{name}")
-            found[name] = call_bounds(name, sorted(glob.glob(folder + "/*.s")))
-            if os.path.exists(f"{folder}{SMALLER}/board.s"):
-                found[name + SMALLER] = call_bounds(name, sorted(glob.glob(f"{folder}{SMALLER}/*.s")))
+        found = every_bound()
     except Refused as refused:
         sys.exit(f"controller/stack/bound.py: {refused}")
-    if sys.argv[1:] == ["--pages"]:
-        told = list(faults(found))
-        print("\n".join(told) or "no call can take more stack than its page states, and no page states more than a budget")
-        sys.exit(1 if told else 0)
     for call in sorted(found["x86_64"]):
         print(call, *(f"{name} {found[name][call]}" for name in found))
 
 
 if __name__ == "__main__":
-    os.chdir(os.path.join(os.path.dirname(os.path.abspath(__file__)), "../.."))
     main()

@@ -19,7 +19,8 @@ REFUSED = {
     "void fairleadow_a(int n) { volatile char held[n]; held[0] = 1; }": "without a fixed size",
     KEPT + "int down(int n) { volatile char held[9]; use(held); return n ? down(n - 1) + n * held[0] : 0; }\n"
     "int fairleadow_a(int n) { return down(n) + 1; }": "how often is not stated",
-    "int even(int);\n__attribute__((noinline)) int odd(int n) { volatile char held[9]; held[0] = 1; return n ? even(n - 1) + held[0] : 0; }\n"
+    "int even(int);\n"
+    "__attribute__((noinline)) int odd(int n) { volatile char held[9]; held[0] = 1; return n ? even(n - 1) + held[0] : 0; }\n"
     "__attribute__((noinline)) int even(int n) { volatile char held[9]; held[0] = 1; return n ? odd(n - 1) + held[0] : 1; }\n"
     "int fairleadow_a(int n) { return odd(n) + 1; }": "a circle of calls",
     "int other(int);\nint fairleadow_a(int n) { return other(n) + 1; }": "whose frame is not known",
