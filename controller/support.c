@@ -47,10 +47,11 @@ void __aeabi_memclr8(uint32_t *to, size_t n) {
     __aeabi_memset4(to, n, 0);
 }
 
-/* Quotient and remainder come back in four registers, as this type does. */
+/* Quotient and remainder come back in four registers, as this type does by the base calling convention. By that of hard float it would
+ * come back in registers of floating point, where the library does not look. */
 typedef uint64_t both __attribute__((vector_size(16)));
 
-both __aeabi_uldivmod(uint64_t number, uint64_t by) {
+__attribute__((pcs("aapcs"))) both __aeabi_uldivmod(uint64_t number, uint64_t by) {
     uint64_t quotient = 0, left = 0;
     int bits = 64;
     /* the library divides lengths, most of whose bits are leading zeros, which the quotient has too */
@@ -69,7 +70,8 @@ both __aeabi_uldivmod(uint64_t number, uint64_t by) {
     return (both){quotient, left};
 }
 
-#if __ARM_ARCH == 6 /* Cortex-M0 neither divides nor makes products of 64 bits */
+/* What follows is for the code for Cortex-M0, which neither divides nor makes products of 64 bits. It may run on another processor. */
+
 /* The quotient in the first register, the remainder in the second. */
 uint64_t __aeabi_uidivmod(uint32_t number, uint32_t by) {
     uint32_t quotient = 0, left = 0;
@@ -97,4 +99,3 @@ uint64_t __aeabi_lmul(uint64_t a, uint64_t b) {
             product += a;
     return product;
 }
-#endif

@@ -6,40 +6,22 @@
  *            it is 0, with 17 and 18 the ticks finished before
  * With refusals 1 to 16 and 19 to 28 no buffer and no state is changed; only 14 writes a state, of zeros. With success, and with
  * 17 and 18, nothing past the count is changed.
- * A buffer is a pointer and how many elements it has. No pointer is null, and nothing that a call writes may overlap anything
- * else that the call is given. Nothing is allocated and nothing is kept between calls. The archive that `./archive` makes is code for
- * x86-64 and calls memcpy and memset and nothing else; there a translation takes 6,800 bytes of stack, a count of places 6,700, a run, a
- * tick, a preparation, a cause, a list of rows or a rebinding 13,460, a priced run 13,600, a spindle's tick 13,830, the joining of labels
- * 14,850, a little chart 1,600, a count of fillings 18,030, a live run 440, a live tick 340, a live rebinding 210, a spindle's live tick
- * 690 (docs/MEASUREMENTS.md says how that was measured).
- * controller/README.md tells of archives for ARM. This file is for both, and for C and C++: lengths are of type size_t, and
- * fairleadow_calls.h, which lies beside it, makes of them what the archive takes.
- *
- * The refusals, tried in this order, but 19 directly after 5, 21 before 18, 22 and 27 after 15, 23 after 13, 24 before 16, 25 first of
- * all, 26 after 17 and 28 after 14 (docs/REFUSALS.md tells what to look for; H is how many schemes there are):
- *    1  the length of the text or of the records           10  more than 1,024 rows
- *    2  a character other than 0-9, A-F, a-f, line feed    11  the image's header
- *    3  the sum of a frame                                 12  an image frame that stands in a wrong place
- *    4  a field of a node                                  13  a field of an image frame
- *    5  a scheme without just one Begin and one End        14  a stack size other than 1 to 32
- *    6  an arc into another scheme, to a Begin or nowhere  15  a state that does not fit the image
- *    7  a call of a scheme that cannot be called           16  an output buffer that is too short
- *    8  a circle of conditions                             17  a call that finds the stack full and drops nothing
- *    9  a node cut off from its Begin                      18  no row for the word
- *                                                          19  a handler's mark on scheme 1, or a second one
- *                                                          20  a scheme within reach of scheme 1 that can call itself
- *                                                          21  a state whose tick takes no row
- *                                                          22  a rebinding of or to a number that is not 2 to H, or of
- *                                                              the handler's
- *                                                          23  a word and bit that match no row, or two rows, of a label
- *                                                              from 2 up
- *                                                          24  a little chart of other than 2 to 4 frames, or a number
- *                                                              past the last one
- *                                                          25  a spindle's number above 3
- *                                                          26  a call while all 64 places of the spindles are taken
- *                                                          27  more than 65,536 words in a priced run
- *                                                          28  lists of more than 16 ticks times conditions, 16
- *                                                              conditions or 65,536 ticks
+ * A buffer is a pointer and how many elements it has; the pointer may be NULL where there are none. `index` and `count` may be NULL for
+ * a caller who needs neither, and no other pointer. Nothing that a call writes may overlap anything else that the call is given. Nothing is
+ * allocated and nothing is kept between calls: calls may be made at once from several threads, tasks or interrupts, as long as what one of
+ * them writes is given to no other.
+ * This file is for C99 and C++98 and what came after them, and for every processor: lengths are of type size_t, and fairleadow_calls.h,
+ * which lies beside it, makes of them what the archive takes. controller/README.md tells of the archives for controllers. The one that
+ * `./archive` makes is code for x86-64 and calls memcpy and memset and nothing else; there a call takes at most so many bytes of stack,
+ * its return address and what it uses below its stack with them (docs/MEASUREMENTS.md has the deepest that was seen beside it):
+ *    read_chart      3,456   tick           13,488   prepare        13,320
+ *    write_chart       912   rebind         13,336   live_run          480
+ *    translate       6,880   spin           13,856   live_tick         416
+ *    places          6,784   cause          13,304   live_rebind       288
+ *    check_image    13,288   list_rows      13,352   live_spin         704
+ *    fresh             136   minimise       14,920   meaning           136
+ *    run            13,504   little_chart    1,568
+ *    priced_run     13,648   count_fillings 18,240
  */
 #ifndef FAIRLEADOW_H
 #define FAIRLEADOW_H
@@ -47,9 +29,75 @@
 #include <stddef.h>
 #include <stdint.h>
 
+/* What a caller may count on: it rises where a function, a number or the state's bytes change their meaning, and where any is added. */
+#define FAIRLEADOW_VERSION 1
+
 #ifdef __cplusplus
 extern "C" {
 #endif
+
+/* The refusals, tried in this order, but 19 directly after 5, 21 before 18, 22 and 27 after 15, 23 after 13, 24 before 16, 25 first of
+ * all, 26 after 17 and 28 after 14 (docs/REFUSALS.md tells what to look for; H is how many schemes there are). */
+enum {
+    FAIRLEADOW_DONE = 0,
+    FAIRLEADOW_BAD_LENGTH = 1,        /* the length of the text or of the records */
+    FAIRLEADOW_BAD_CHARACTER = 2,     /* a character other than 0-9, A-F, a-f, line feed */
+    FAIRLEADOW_BAD_SUM = 3,           /* the sum of a frame */
+    FAIRLEADOW_BAD_FIELD = 4,         /* a field of a node */
+    FAIRLEADOW_BAD_SCHEME = 5,        /* a scheme without just one Begin and one End */
+    FAIRLEADOW_BAD_ARC = 6,           /* an arc into another scheme, to a Begin or nowhere */
+    FAIRLEADOW_BAD_CALL = 7,          /* a call of a scheme that cannot be called */
+    FAIRLEADOW_CIRCLE = 8,            /* a circle of conditions */
+    FAIRLEADOW_CUT_OFF = 9,           /* a node cut off from its Begin */
+    FAIRLEADOW_MANY_ROWS = 10,        /* more than 1,024 rows */
+    FAIRLEADOW_BAD_HEADER = 11,       /* the image's header */
+    FAIRLEADOW_STRAY_FRAME = 12,      /* an image frame that stands in a wrong place */
+    FAIRLEADOW_BAD_CONTENT = 13,      /* a field of an image frame */
+    FAIRLEADOW_BAD_SIZE = 14,         /* a stack size other than 1 to 32 */
+    FAIRLEADOW_UNFIT = 15,            /* a state that does not fit the image */
+    FAIRLEADOW_NO_ROOM = 16,          /* an output buffer that is too short */
+    FAIRLEADOW_FULL = 17,             /* a call that finds the stack full and drops nothing */
+    FAIRLEADOW_NO_ROW = 18,           /* no row for the word */
+    FAIRLEADOW_BAD_MARKS = 19,        /* a handler's mark on scheme 1, or a second one */
+    FAIRLEADOW_CALLS_ITSELF = 20,     /* a scheme within reach of scheme 1 that can call itself */
+    FAIRLEADOW_ROWLESS = 21,          /* a state whose tick takes no row */
+    FAIRLEADOW_BAD_REBINDING = 22,    /* a rebinding of or to a number that is not 2 to H, or of the handler's */
+    FAIRLEADOW_UNEVEN = 23,           /* a word and bit that match no row, or two rows, of a label from 2 up */
+    FAIRLEADOW_NO_LITTLE_CHART = 24,  /* a little chart of other than 2 to 4 frames, or a number past the last one */
+    FAIRLEADOW_NO_SPINDLE = 25,       /* a spindle's number above 3 */
+    FAIRLEADOW_NO_PLACE = 26,         /* a call while all 64 places of the spindles are taken */
+    FAIRLEADOW_MANY_WORDS = 27,       /* more than 65,536 words in a priced run */
+    FAIRLEADOW_MANY_LISTS = 28        /* lists of more than 16 ticks times conditions, 16 conditions or 65,536 ticks */
+};
+
+/* The codes of ticks; a number called is added to those of calls. */
+enum {
+    FAIRLEADOW_PLAIN_CODE = 0x00,
+    FAIRLEADOW_RETURN_CODE = 0x03,
+    FAIRLEADOW_HOME_CODE = 0x04,
+    FAIRLEADOW_OPERATION_CALL_CODE = 0x10,
+    FAIRLEADOW_FUNCTION_CALL_CODE = 0x40,
+    FAIRLEADOW_DROP_CODE = 0x60
+};
+
+/* The kinds of ticks, as an image and fairleadow_meaning have them; a drop is no kind of an image. */
+enum {
+    FAIRLEADOW_PLAIN = 0,
+    FAIRLEADOW_OPERATION_CALL = 1,
+    FAIRLEADOW_FUNCTION_CALL = 2,
+    FAIRLEADOW_RETURN = 3,
+    FAIRLEADOW_HOME = 4,
+    FAIRLEADOW_DROP = 5,
+    FAIRLEADOW_NO_CODE = 255
+};
+
+/* The kinds of nodes, as a record has them. */
+enum { FAIRLEADOW_BEGIN = 0, FAIRLEADOW_END = 1, FAIRLEADOW_OPERATION = 2, FAIRLEADOW_CONDITION = 3, FAIRLEADOW_FUNCTION = 4 };
+
+/* A line of a text, in characters, a node record and a line of a table, in bytes. */
+#define FAIRLEADOW_LINE 23
+#define FAIRLEADOW_RECORD 10
+#define FAIRLEADOW_FRAME 10
 
 /* The longest texts of a chart, an image and a little chart, in characters, and the longest list of node records and the largest table,
  * in bytes. */
@@ -59,12 +107,17 @@ extern "C" {
 #define FAIRLEADOW_RECORDS 2560
 #define FAIRLEADOW_TABLE 12970
 
-/* The most labels of an image. */
+/* The most nodes and schemes of a chart, the most labels and rows of an image, and the most places of a stack. */
+#define FAIRLEADOW_NODES 256
+#define FAIRLEADOW_SCHEMES 16
 #define FAIRLEADOW_LABELS 256
+#define FAIRLEADOW_ROWS 1024
+#define FAIRLEADOW_PLACES 32
 
 /* The spindles of a head, and the places that they have together. */
 #define FAIRLEADOW_SPINDLES 4
 #define FAIRLEADOW_STORE 64
+
 /* The micro operations of a mask, each of which has a price, and the most words of a priced run. */
 #define FAIRLEADOW_OPERATIONS 32
 #define FAIRLEADOW_PRICED_WORDS 65536
@@ -92,7 +145,47 @@ typedef struct {
     uint8_t servers[32]; /* the scheme that served that number at the call, at the bottom the number again; 0 above */
 } fairleadow_state;
 
+#define FAIRLEADOW_STATE_BYTES 130
+/* A compiler that laid the state out otherwise stops here. */
+typedef char fairleadow_state_has_130_bytes[sizeof(fairleadow_state) == FAIRLEADOW_STATE_BYTES ? 1 : -1];
+
 #include "fairleadow_calls.h"
+
+/* What a refusal is about, in a few words without a line feed; of another number that it is no refusal. */
+static inline const char *fairleadow_refusal_text(uint8_t number) {
+    static const char *const texts[] = {
+        "done",
+        "the length of the text or of the records",
+        "a character other than 0-9, A-F, a-f, line feed",
+        "the sum of a frame",
+        "a field of a node",
+        "a scheme without just one Begin and one End",
+        "an arc into another scheme, to a Begin or nowhere",
+        "a call of a scheme that cannot be called",
+        "a circle of conditions",
+        "a node cut off from its Begin",
+        "more than 1,024 rows",
+        "the image's header",
+        "an image frame that stands in a wrong place",
+        "a field of an image frame",
+        "a stack size other than 1 to 32",
+        "a state that does not fit the image",
+        "an output buffer that is too short",
+        "a call that finds the stack full and drops nothing",
+        "no row for the word",
+        "a handler's mark on scheme 1, or a second one",
+        "a scheme within reach of scheme 1 that can call itself",
+        "a state whose tick takes no row",
+        "a rebinding of or to a number that is not 2 to H, or of the handler's",
+        "a word and bit that match no row, or two rows, of a label from 2 up",
+        "a little chart of other than 2 to 4 frames, or a number past the last one",
+        "a spindle's number above 3",
+        "a call while all 64 places of the spindles are taken",
+        "more than 65,536 words in a priced run",
+        "lists of more than 16 ticks times conditions, 16 conditions or 65,536 ticks"
+    };
+    return number <= FAIRLEADOW_MANY_LISTS ? texts[number] : "a number that is no refusal";
+}
 
 /* Chart lines to node records of ten bytes each: 0 the kind (0 Begin, 1 End, 2 operation, 3 condition, 4 function), 1 the scheme,
  * 2 the scheme called, the condition's number or, in a Begin, 1 where its scheme is the handler, 3 the next node, or that on a 0,

@@ -53,10 +53,13 @@ typedef struct {
     uint64_t index, count;
 } fairleadow_told;
 
-/* Hands on what the archive told. An index and a count fit a size_t: they are no larger than the lengths that were given. */
+/* Hands on what the archive told, to a caller who asks. An index and a count fit a size_t: they are no larger than the lengths that were
+ * given. */
 static inline uint8_t fairleadow_tell(uint32_t number, const fairleadow_told *told, size_t *index, size_t *count) {
-    *index = (size_t)told->index;
-    *count = (size_t)told->count;
+    if (index)
+        *index = (size_t)told->index;
+    if (count)
+        *count = (size_t)told->count;
     return (uint8_t)(number & 0xFF);
 }
 

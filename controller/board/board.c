@@ -203,7 +203,7 @@ __attribute__((noinline)) static void make_call(void) {
 }
 
 __attribute__((noinline)) static void measure_call(uint32_t length) {
-    uint32_t *from = stack_here(), *lowest = bss_end + (length + 3) / 4;
+    uint32_t *from = processor_stack(), *lowest = bss_end + (length + 3) / 4;
     stack_paint(lowest);
     make_call();
     head.stack = stack_used(from, lowest);

@@ -1,20 +1,14 @@
 #include "host.h"
+#include "processor.h"
 
 enum { OPEN = 0x01, WRITE = 0x05, READ = 0x06, EXIT = 0x18 };
 enum { READ_BYTES = 1, WRITE_BYTES = 5 };
 
 static uint32_t input, output;
 
-static uint32_t host(uint32_t operation, uintptr_t argument) {
-    register uint32_t first __asm("r0") = operation;
-    register uintptr_t second __asm("r1") = argument;
-    __asm volatile("bkpt 0xAB" : "+r"(first) : "r"(second) : "memory");
-    return first;
-}
-
 static uint32_t host_with(uint32_t operation, uint32_t a, uintptr_t b, uint32_t c) {
     uint32_t block[3] = {a, b, c};
-    return host(operation, (uintptr_t)block);
+    return processor_ask(operation, (uintptr_t)block);
 }
 
 /* The name of a file is handed over with its mode and its length. */
@@ -45,7 +39,7 @@ void host_write(const void *from, uint32_t length) {
 
 void host_end(int well) {
     /* the two reasons that the emulator tells apart: the program's own end, and any error */
-    host(EXIT, well ? 0x20026 : 0x20023);
+    processor_ask(EXIT, well ? 0x20026 : 0x20023);
     for (;;)
         ;
 }

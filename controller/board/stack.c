@@ -3,7 +3,7 @@
 #define PAINT 0xA5A5A5A5u
 
 __attribute__((noinline)) void stack_paint(uint32_t *lowest) {
-    uint32_t *end = stack_here();
+    uint32_t *end = processor_stack();
     for (uint32_t *word = lowest; word < end; word++)
         *word = PAINT;
 }

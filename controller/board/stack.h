@@ -4,12 +4,7 @@
 
 #include <stdint.h>
 
-/* Where the stack of the calling function ends now. */
-static inline uint32_t *stack_here(void) {
-    uint32_t *here;
-    __asm volatile("mov %0, sp" : "=r"(here));
-    return here;
-}
+#include "processor.h"
 
 /* The stack may go down to `lowest`. */
 void stack_paint(uint32_t *lowest);

@@ -1,8 +1,8 @@
 /* Counts, for the emulator, what the board executes in each call that it makes, from the first instruction of make_call to the first
- * of stack_used: instructions, accesses to memory, jumps taken, divisions and long products. Writes a line a call, before the board
- * answers. It counts by blocks, which the emulator enters at their first instruction and leaves after their last, so that a search can
- * make many calls. The functions are those of version 1 of the emulator's interface for plugins, declared here because its header is in
- * no Debian package. */
+ * of stack_used: instructions, accesses to memory, jumps taken, divisions, long products and products of 32 bits. Writes a line a call,
+ * before the board answers. It counts by blocks, which the emulator enters at their first instruction and leaves after their last, so
+ * that a search can make many calls. The functions are those of version 1 of the emulator's interface for plugins, declared here because
+ * its header is in no Debian package. */
 #include <stdint.h>
 #include <stdio.h>
 #include <stdlib.h>
@@ -30,7 +30,7 @@ SHOWN int qemu_plugin_install(plugin_id id, const void *info, int count, char **
 typedef struct {
     uint64_t at, next; /* its first instruction, and where the one after its last lies */
     int begins, ends;  /* whether make_call or stack_used begins with it */
-    unsigned long instructions, divisions, products;
+    unsigned long instructions, divisions, products, short_products;
 } part;
 
 static FILE *to;
@@ -39,17 +39,18 @@ static int counting;
 static uint64_t after;    /* where the next block lies if none jumps */
 static uint64_t accesses; /* from the emulator's start on */
 static uint64_t accesses_before;
-static unsigned long instructions, jumps, divisions, products;
+static unsigned long instructions, jumps, divisions, products, short_products;
 
 static void begin(const part *here) {
-    instructions = jumps = divisions = products = 0;
+    instructions = jumps = divisions = products = short_products = 0;
     accesses_before = accesses;
     after = here->at;
     counting = 1;
 }
 
 static void end(void) {
-    fprintf(to, "%lu %lu %lu %lu %lu\n", instructions, (unsigned long)(accesses - accesses_before), jumps, divisions, products);
+    fprintf(to, "%lu %lu %lu %lu %lu %lu\n", instructions, (unsigned long)(accesses - accesses_before), jumps, divisions, products,
+            short_products);
     fflush(to);
     counting = 0;
 }
@@ -66,6 +67,7 @@ static void entered(unsigned processor, void *data) {
     instructions += here->instructions;
     divisions += here->divisions;
     products += here->products;
+    short_products += here->short_products;
     jumps += here->at != after;
     after = here->next;
 }
@@ -90,6 +92,7 @@ static void add(part *here, instruction *each) {
     here->instructions++;
     here->divisions += begins_with(text, "udiv") || begins_with(text, "sdiv");
     here->products += begins_with(text, "umull") || begins_with(text, "umlal") || begins_with(text, "mla") || begins_with(text, "mls");
+    here->short_products += begins_with(text, "mul");
     free(text);
     qemu_plugin_register_vcpu_mem_inline(each, READ_OR_WRITE, ADD, &accesses, 1);
 }

@@ -1,6 +1,7 @@
 /* The program of a controller: prepares the image that lies in its flash, once, and then makes a tick for each word of the probes and
  * switches the outputs by the tick's mask. Between two ticks the operator may give a number to another scheme to serve. Whatever cannot
- * be done stops it: all outputs are off, and the operator is told why; only a swap that the chart does not allow is told and left. */
+ * be done stops it, and so does a word that does not come in time: all outputs are off, and the operator is told why; only a swap that the
+ * chart does not allow is told and left. */
 #include "fairleadow.h"
 #include "port.h"
 
@@ -14,7 +15,8 @@ static size_t table_length;
 static fairleadow_state state;
 static uint32_t ticks;
 
-__attribute__((noreturn)) static void stop(const char *why, uint32_t number) {
+/* The outputs are off before anything is told, which takes time. */
+__attribute__((noreturn)) static void stop(const char *why, uint32_t number, const char *meaning) {
     port_set_outputs(0);
     port_tell("stopped after ");
     port_tell_number(ticks);
@@ -22,36 +24,41 @@ __attribute__((noreturn)) static void stop(const char *why, uint32_t number) {
     port_tell(why);
     port_tell(" ");
     port_tell_number(number);
+    port_tell(meaning ? ": " : "");
+    port_tell(meaning ? meaning : "");
     port_tell("\n");
     port_stay();
 }
 
+__attribute__((noreturn)) static void stop_refused(uint8_t number) {
+    stop("refusal", number, fairleadow_refusal_text(number));
+}
+
 /* The processor calls this where it finds a fault. */
 void fault(void) {
-    stop("fault of the processor", 0);
+    stop("fault of the processor", 0, NULL);
 }
 
 static void load(void) {
-    size_t index, count;
+    size_t index;
     uint8_t number = fairleadow_prepare(image_start, (size_t)(image_end - image_start), table, sizeof table, &index, &table_length);
     if (number) {
         port_tell("image refused at line ");
         port_tell_number((uint32_t)index);
         port_tell("\n");
-        stop("refusal", number);
+        stop_refused(number);
     }
-    number = fairleadow_fresh(PLACES, &state, &index, &count);
+    number = fairleadow_fresh(PLACES, &state, NULL, NULL);
     if (number)
-        stop("refusal", number);
+        stop_refused(number);
 }
 
 static void tick(uint16_t word) {
     uint32_t mask;
     uint8_t code;
-    size_t index, count;
-    uint8_t number = fairleadow_live_tick(table, table_length, &state, word, &mask, &code, &index, &count);
+    uint8_t number = fairleadow_live_tick(table, table_length, &state, word, &mask, &code, NULL, NULL);
     if (number)
-        stop("refusal", number);
+        stop_refused(number);
     ticks++;
     port_tell("word ");
     port_tell_hex(word, 4);
@@ -61,12 +68,11 @@ static void tick(uint16_t word) {
     port_set_outputs(mask);
 }
 
-/* Refusal 22 leaves the state as it was: the operator asked for a swap that there is not, and the ticks go on. */
+/* A refused swap leaves the state as it was: the operator asked for one that there is not, and the ticks go on. */
 static void swap(uint8_t number, uint8_t scheme) {
-    size_t index, count;
-    uint8_t refusal = fairleadow_live_rebind(table, table_length, &state, number, scheme, &index, &count);
-    if (refusal && refusal != 22)
-        stop("refusal", refusal);
+    uint8_t refusal = fairleadow_live_rebind(table, table_length, &state, number, scheme, NULL, NULL);
+    if (refusal && refusal != FAIRLEADOW_BAD_REBINDING)
+        stop_refused(refusal);
     port_tell("number ");
     port_tell_number(number);
     port_tell(refusal ? " not given to scheme " : " given to scheme ");
@@ -88,8 +94,10 @@ int main(void) {
         case PORT_SWAP:
             swap(number, scheme);
             break;
+        case PORT_LATE:
+            stop("no word came, milliseconds waited", PORT_WAIT, NULL);
         default:
-            stop("no word came, tick", ticks + 1);
+            stop("no word at tick", ticks + 1, NULL);
         }
     }
 }

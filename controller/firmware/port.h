@@ -9,9 +9,13 @@ void port_open(void);
 /* Switches the outputs: bit i is micro operation i. */
 void port_set_outputs(uint32_t mask);
 
+/* How long the outputs may stay as they are while no word comes, in milliseconds: as long as the machine bears it. */
+#define PORT_WAIT 3000
+
 /* Waits for what comes next: a word of the probes, bit i of which is condition i, or a swap, a number that the operator gives to a scheme
- * to serve. Tells which of them came, PORT_NOTHING where it is neither. */
-enum { PORT_NOTHING, PORT_WORD, PORT_SWAP };
+ * to serve. Tells which of them came, PORT_NOTHING where it is neither, PORT_LATE where it did not come within PORT_WAIT. A board with a
+ * watchdog starts it anew here. */
+enum { PORT_NOTHING, PORT_WORD, PORT_SWAP, PORT_LATE };
 int port_next(uint16_t *word, uint8_t *number, uint8_t *scheme);
 
 /* Tells the operator. */

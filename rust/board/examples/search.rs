@@ -1,12 +1,12 @@
 //! A search for inputs that keep an entry point busy for longer than those of the samples: from the worst of them, and from
 //! inputs drawn, small changes are tried one after the other, and those are kept that take no fewer cycles on the emulated
-//! board.
+//! board, on a Cortex-M0 with the slow multiplier.
 //! The seeds of the changes follow each other, so that a search is the same each time, and what it kept is printed as a row
 //! for rust/reference/src/samples/found.rs. controller/count/count search runs it: SEED CHANGES [ENTRY POINT...].
 
 use std::env;
 
-use board::Counting;
+use board::{may_be_slow, Counting};
 use reference::entry_point::{EntryPoint, Input};
 use reference::generate::{vary, Random};
 use reference::samples::found::{changed, Start};
@@ -36,7 +36,12 @@ struct Search<'a> {
 impl Search<'_> {
     fn cycles(&mut self, input: &Input) -> u64 {
         let entry = self.entry;
-        self.board.counted(|board| entry.make(board, input)).1.cycles
+        let count = self.board.counted(|board| entry.make(board, input)).1;
+        if may_be_slow() {
+            count.slow_cycles
+        } else {
+            count.cycles
+        }
     }
 
     /// Changes are tried by the seeds in turn, and kept where the call then takes no less.

@@ -12,6 +12,8 @@ use interface::Library;
 pub struct Count {
     pub instructions: u64,
     pub cycles: u64,
+    /// With a multiplier that takes 32 cycles for a product of 32 bits, as a Cortex-M0 may have.
+    pub slow_cycles: u64,
 }
 
 impl Count {
@@ -19,16 +21,22 @@ impl Count {
     /// for a long product; a Cortex-M0 has neither of the last two.
     fn read(line: &str) -> Count {
         let numbers: Vec<u64> = line.split(' ').map(|word| word.parse().expect("a number")).collect();
-        let [instructions, accesses, jumps, divisions, products] = numbers[..] else {
-            panic!("five numbers a line: {line}")
+        let [instructions, accesses, jumps, divisions, products, short_products] = numbers[..] else {
+            panic!("six numbers a line: {line}")
         };
-        Count { instructions, cycles: instructions + accesses + 2 * jumps + 6 * divisions + 3 * products }
+        let cycles = instructions + accesses + 2 * jumps + 6 * divisions + 3 * products;
+        Count { instructions, cycles, slow_cycles: cycles + 31 * short_products }
     }
+}
 
-    /// At 16 MHz.
-    pub fn milliseconds(self) -> f64 {
-        self.cycles as f64 / 16_000.0
-    }
+/// At 16 MHz.
+pub fn milliseconds(cycles: u64) -> f64 {
+    cycles as f64 / 16_000.0
+}
+
+/// Whether the processor that BOARD names is also made with the slow multiplier.
+pub fn may_be_slow() -> bool {
+    env::var("BOARD").is_ok_and(|processor| processor.starts_with("thumbv6m"))
 }
 
 /// A board whose calls are counted.

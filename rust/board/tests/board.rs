@@ -1,5 +1,7 @@
-//! The library's code for ARM, on the emulated board, against the reference. controller/test runs these: BOARD names the
+//! The library's code for controllers, on an emulated board, against the reference. controller/test runs these: BOARD names the
 //! processor, FAIRLEADOW_SEED and FAIRLEADOW_CASES choose the inputs.
+
+use std::collections::BTreeMap;
 
 use board::{Board, Call, Notes};
 use interface::{Answer, Library, State, PRICED_WORDS, TABLE};
@@ -13,35 +15,62 @@ use reference::{fresh_state, Reference};
 
 const CASES: u64 = 20_000;
 
-/// The bytes of stack that each call may take, as controller/README.md states them.
-const STACK: [(Call, usize); 22] = [
-    (Call::ReadChart, 4_608),
-    (Call::WriteChart, 2_048),
-    (Call::Translate, 8_192),
-    (Call::Places, 8_192),
-    (Call::CheckImage, 14_336),
-    (Call::Fresh, 512),
-    (Call::Run, 14_336),
-    (Call::PricedRun, 15_360),
-    (Call::Tick, 14_336),
-    (Call::Cause, 14_336),
-    (Call::ListRows, 14_336),
-    (Call::Minimise, 15_360),
-    (Call::LittleChart, 3_072),
-    (Call::CountFillings, 19_456),
-    (Call::Rebind, 14_336),
-    (Call::Spin, 15_360),
-    (Call::Prepare, 14_336),
-    (Call::LiveRun, 1_024),
-    (Call::LiveTick, 768),
-    (Call::LiveRebind, 512),
-    (Call::LiveSpin, 1_024),
-    (Call::Meaning, 256),
+/// The calls, as controller/README.md names them.
+const CALLS: [(Call, &str); 22] = [
+    (Call::ReadChart, "read_chart"),
+    (Call::WriteChart, "write_chart"),
+    (Call::Translate, "translate"),
+    (Call::Places, "places"),
+    (Call::CheckImage, "check_image"),
+    (Call::Fresh, "fresh"),
+    (Call::Run, "run"),
+    (Call::PricedRun, "priced_run"),
+    (Call::Tick, "tick"),
+    (Call::Cause, "cause"),
+    (Call::ListRows, "list_rows"),
+    (Call::Minimise, "minimise"),
+    (Call::LittleChart, "little_chart"),
+    (Call::CountFillings, "count_fillings"),
+    (Call::Rebind, "rebind"),
+    (Call::Spin, "spin"),
+    (Call::Prepare, "prepare"),
+    (Call::LiveRun, "live_run"),
+    (Call::LiveTick, "live_tick"),
+    (Call::LiveRebind, "live_rebind"),
+    (Call::LiveSpin, "live_spin"),
+    (Call::Meaning, "meaning"),
 ];
 
+/// The bytes of stack of a call as the page for controllers has them for a processor.
+struct Stack {
+    bound: usize,
+    seen: usize,
+}
+
+/// The page's table of stacks, by the names of the calls. Of the smaller code it has the budgets alone.
+fn stacks(processor: &str) -> BTreeMap<String, Stack> {
+    let page = concat!(env!("CARGO_MANIFEST_DIR"), "/../../controller/README.md");
+    let page = std::fs::read_to_string(page).expect("the page is there");
+    let cells = |line: &str| -> Vec<String> { line.split('|').map(|cell| cell.trim().to_string()).collect() };
+    let mut lines = page.lines().skip_while(|line| !line.starts_with("| Call | Bound, "));
+    let heads = cells(lines.next().expect("the page has a table of stacks"));
+    let column = |name: &str| {
+        let head = if processor.ends_with("-size") { "Budget".into() } else { format!("{name}, {processor}") };
+        heads.iter().position(|each| *each == head).unwrap_or_else(|| panic!("there is no column {head}"))
+    };
+    let (bound, seen) = (column("Bound"), column("Seen"));
+    let number = |cell: &str| cell.replace(',', "").parse().expect("a number of bytes");
+    let stack = |row: &[String]| Stack { bound: number(&row[bound]), seen: number(&row[seen]) };
+    let rows = lines.skip(1).take_while(|line| line.starts_with('|')).map(cells);
+    rows.map(|row| (row[1].clone(), stack(&row))).collect()
+}
+
+fn processor() -> String {
+    std::env::var("BOARD").expect("BOARD is a processor, as controller/emulate names it")
+}
+
 fn board() -> Board<'static> {
-    let processor = std::env::var("BOARD").expect("BOARD is thumbv7m or thumbv6m");
-    Board::start(&processor, &[], &Reference).expect("the emulator starts")
+    Board::start(&processor(), &[], &Reference).expect("the emulator starts")
 }
 
 fn setting(name: &str, otherwise: u64) -> u64 {
@@ -51,16 +80,19 @@ fn setting(name: &str, otherwise: u64) -> u64 {
     }
 }
 
-/// Every call was made, and none took more stack than its budget.
-fn hold_to_budgets(notes: &Notes) {
+/// Every call was made, and none took more stack than its bound, nor, with the usual inputs, than the page has as seen.
+fn hold_to_page(notes: &Notes) {
     println!(
         "{} calls were made, {} were too large; code: {} bytes",
         notes.calls, notes.too_large, notes.code
     );
     println!("deepest stack: {:?}", notes.deepest);
-    for (call, budget) in STACK {
-        let deepest = *notes.deepest.get(&call).unwrap_or_else(|| panic!("{call:?} was never made"));
-        assert!(deepest <= budget, "{call:?} takes {deepest} bytes of stack, its budget is {budget}");
+    let (stacks, usual) = (stacks(&processor()), std::env::var("FAIRLEADOW_SEED").is_err());
+    for (call, name) in CALLS {
+        let deepest = *notes.deepest.get(&call).unwrap_or_else(|| panic!("{name} was never made"));
+        let stack = stacks.get(name).unwrap_or_else(|| panic!("the page has no stack of {name}"));
+        assert!(deepest <= stack.bound, "{name} takes {deepest} bytes of stack, above its bound");
+        assert!(!usual || deepest <= stack.seen, "{name} takes {deepest} bytes of stack, more than was seen");
     }
 }
 
@@ -81,7 +113,7 @@ fn the_board_agrees_with_the_reference() {
     }
     println!("\n{cases} cases from seed {seed} agree");
     let notes = board.notes();
-    hold_to_budgets(&notes);
+    hold_to_page(&notes);
     assert!(notes.too_large * 100 < notes.calls, "too many calls were not made on the board");
 }
 
@@ -128,7 +160,7 @@ fn too_many_words(board: &Board) {
 
 #[test]
 #[ignore = "needs the emulated board: controller/test"]
-fn the_largest_inputs_keep_to_the_budgets() {
+fn the_largest_inputs_keep_to_the_bounds() {
     let board = board();
     let known = board.known_stack();
     assert!((4_000..4_200).contains(&known), "the measure is wrong: {known}");
@@ -147,5 +179,5 @@ fn the_largest_inputs_keep_to_the_budgets() {
             ticks(&board, &image, &table[..length]);
         }
     }
-    hold_to_budgets(&board.notes());
+    hold_to_page(&board.notes());
 }

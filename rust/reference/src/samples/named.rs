@@ -18,12 +18,27 @@ pub fn falling_conditions(before: Before, different: u8) -> Vec<Frame> {
     records
 }
 
+/// A function, then conditions with all sixteen numbers, the 0 side of each of which goes on, and one more with the first number: the
+/// deepest paths, each walked from a path that goes on.
+fn comb() -> Vec<Frame> {
+    let mut records =
+        vec![[0, 1, 0, 2, 0, 0, 0, 0, 0, 0], [1, 1, 0, 0, 0, 0, 0, 0, 0, 0], [4, 1, 2, 3, 3, 0, 0, 0, 0, 0]];
+    records.extend((0..16).map(|number| [3, 1, number, number + 4, 1, 0, 0, 0, 0, 0]));
+    records.extend([
+        [3, 1, 0, 1, 1, 0, 0, 0, 0, 0],
+        [0, 2, 0, 21, 0, 0, 0, 0, 0, 0],
+        [1, 2, 0, 0, 0, 0, 0, 0, 0, 0],
+    ]);
+    records
+}
+
 pub fn named_charts() -> Vec<(String, Vec<Frame>)> {
     let mut all = vec![
         ("256 labels".to_string(), operations(254)),
         ("one label, 1,024 rows".to_string(), one_label()),
         ("229 labels, 1,024 rows".to_string(), most_rows()),
         ("16 schemes".to_string(), most_schemes()),
+        ("comb of 16 conditions".to_string(), comb()),
     ];
     for (before, name) in
         [(Before::Begin, "Begin"), (Before::Operation, "operation"), (Before::Function, "function")]

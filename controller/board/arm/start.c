@@ -11,6 +11,12 @@ int main(void);
 void fault(void);
 
 void reset(void) {
+#ifdef TRAP_UNALIGNED
+    *(volatile uint32_t *)0xE000ED14 |= 1 << 3; /* an access that is not aligned is a fault, as on a Cortex-M0 */
+#endif
+#ifdef __ARM_FP
+    *(volatile uint32_t *)0xE000ED88 |= 0xF << 20; /* the compiler may use the registers of floating point: they are switched on */
+#endif
     for (uint32_t *word = bss_start; word < bss_end; word++)
         *word = 0;
     host_end(main() == 0);
