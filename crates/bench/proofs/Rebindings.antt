@@ -2,12 +2,8 @@
 use mathlib.Core.Path.{◌≡◌, refl, ◌∙◌, ap, ap₂}
 use mathlib.Core.List.{List, [], ◌∷◌}
 use Prim.Native.Nat.{ℕ}
-use Rattle.text.specs.frames.Frame.{contents}
-use Rattle.text.specs.frames.Verdict.{Verdict, fine, refused, next}
-use Rattle.text.specs.frames.Answer.{refusal}
+use Rattle.text.specs.frames.Verdict.{Verdict, next}
 use Rattle.image.specs.Image.{Image}
-use Rattle.image.specs.Decode.{decoded_image}
-use Rattle.image.specs.Check.{image_verdict}
 use Rattle.state.specs.declared.State.{State}
 use Rattle.state.specs.State.{StateOutcome}
 use Rattle.runs.specs.Run.{RunOutcome, run}
@@ -15,6 +11,7 @@ use Rattle.rebinding.specs.Rebind.{rebind_verdict, rebind_on, rebind}
 use Rattle.agreement.specs.Agreement.{Runner, Rebinder, output_of, CallInput, to_run, to_rebind, CallOutput, by_run, by_rebinding}
 use Rattle.agreement.specs.Agreement.{call_outputs}
 use Rattle.agreement.proofs.Images.{run_image, rebind_image, run-image}
+use Rattle.bench.specs.SwapSlips.{Swapper, checked, rebind_by}
 use Rattle.bench.proofs.Tables.{Holds}
 
 pub rebind-image : {image : List ℕ} {i : Image} → Holds image i → (s : State) (h k : ℕ) → rebind image s h k ≡ rebind_image i s h k
@@ -23,16 +20,6 @@ rebind-image known s h k =
     ap₂ (λ (v : Verdict) (j : Image). rebind_on (next v λ _. rebind_verdict j s h k) s h k) known.passes known.decodes
 
 -- ---- rebindings as the definition has them, but for what is done after the image check
-abbrev pub Swapper : Type 0
-Swapper = Image → State → ℕ → ℕ → StateOutcome
-
-abbrev pub checked : Verdict → State → StateOutcome → StateOutcome
-checked fine s r = r
-checked (refused n i) s r = record { reply = refusal n i 0; state = s }
-
-abbrev pub rebind_by : Swapper → Rebinder
-rebind_by f t s h k = checked (image_verdict t) s (f (decoded_image (contents t)) s h k)
-
 pub rebind-by : {image : List ℕ} {i : Image} → Holds image i → (f : Swapper) (s : State) (h k : ℕ) → rebind_by f image s h k ≡ f i s h k
 rebind-by known f s h k = ap₂ (λ (v : Verdict) (j : Image). checked v s (f j s h k)) known.passes known.decodes
 

@@ -1,36 +1,31 @@
 -- Slips of a rebinding, and of a run under one, each shown not to meet the agreement.
-use Rattle.std.proofs.Common.{if◌then◌else◌}
 use mathlib.Core.Path.{◌≡◌, ◌∙◌, ap, sym}
-use mathlib.Core.List.{List, [], ◌∷◌, map}
-use Prim.Native.Nat.{ℕ, ◌+◌, ◌*◌, ◌/◌, ◌%◌}
+use mathlib.Core.List.{List, [], ◌∷◌}
+use Prim.Native.Nat.{ℕ}
 use native.Mathlib.Omega.{arith}
-use lib.Dec.{ltb, eqb}
-use lib.ListN.{length, get_or, set, replicate}
-use Rattle.words.specs.lists.Numbers.{range}
+use lib.Dec.{eqb}
+use lib.ListN.{length, replicate}
 use Rattle.words.specs.lists.Sequences.{some}
-use Rattle.bindings.specs.Binding.{rebound_binding}
 use Rattle.text.specs.frames.Frame.{contents}
 use Rattle.text.specs.frames.Answer.{reply_number}
 use Rattle.image.specs.Image.{Image}
 use Rattle.image.specs.Decode.{decoded_image}
-use Rattle.translator.specs.Entry.{translate}
 use Rattle.state.specs.declared.State.{State}
-use Rattle.state.specs.State.{entry_at, place_at, number_at, server_at, fresh, StateOutcome, fresh_state}
-use Rattle.state.specs.Changes.{with_places, with_serving}
-use Rattle.ticks.specs.Tick.{MachineTick, finished, stopped, tick}
+use Rattle.state.specs.State.{fresh}
 use Rattle.runs.specs.Run.{run}
-use Rattle.rebinding.specs.Rebind.{rebinding, rebind}
-use Rattle.agreement.specs.Agreement.{RunOutput, output_of, CallInput, to_rebind, call_outputs, Agreement}
+use Rattle.rebinding.specs.Rebind.{rebind}
+use Rattle.agreement.specs.Agreement.{RunOutput, output_of, CallInput, to_rebind, call_outputs}
 use Rattle.agreement.proofs.Images.{run_image, rebind_image, run-image}
 use Rattle.bench.specs.Swap.{image_swap}
+use Rattle.bench.specs.SwapSlips.{Swapper, rebind_by, notes, counts_at_return, swaps_open, binds_refused}
 use Rattle.bench.specs.SwapSlips.{writes_by_server, reads_by_server, kept_by_server, shows_server, ActsLaterFails}
-use Rattle.bench.specs.SwapSlips.{KeepsBindingFails, RebindsHandlerFails, WritesByServerFails, ReadsByServerFails}
-use Rattle.bench.specs.SwapSlips.{KeptByServerFails, ShowsServerFails}
+use Rattle.bench.specs.SwapSlips.{KeepsBindingFails, RebindsHandlerFails, CountsAtReturnFails, SwapsOpenFails}
+use Rattle.bench.specs.SwapSlips.{BindsRefusedFails, WritesByServerFails, ReadsByServerFails, KeptByServerFails, ShowsServerFails}
 use Rattle.bench.proofs.Computing.{ticking}
 use Rattle.bench.proofs.Tables.{TranslatesTo, held, table_swap, of-swap, table_inner, of_inner}
 use Rattle.bench.proofs.Instances.{run_alone, second_output, third, at_own, at-served, at-answer}
 use Rattle.bench.proofs.Instances.{at-within, at-barred, at-handler, at_inner}
-use Rattle.bench.proofs.Rebindings.{Swapper, rebind-image, rebind_by, rebind-by, chain-alike}
+use Rattle.bench.proofs.Rebindings.{rebind-image, rebind-by, chain-alike}
 use Rattle.bench.specs.Variants.{StepRule, ticks_by_rule, run_by}
 use Rattle.bench.proofs.Variants.{decoded_run_by, by-table, code_at, mask_at}
 
@@ -79,26 +74,7 @@ module _ {chart image : List ℕ} {i : Image} (known : TranslatesTo chart image 
   with-both step f = chain-alike image (run_by step) (decoded_run_by i step) (rebind_by f)
       (λ t. f i) (by-table known step) (rebind-by (held known) f)
 
--- ---- one that acts later: it is noted where number 1 stands, which nothing calls, and counts from the next return on
-abbrev state_where_done : StateOutcome → State → State → State
-state_where_done r t s = if eqb (reply_number r.reply) 0 then t else s
-
-abbrev pub notes : Swapper
-notes i s h k = let r = rebind_image i s h k in
-    record { reply = r.reply; state = state_where_done r (with_serving s (set s.serving 0 (32 * h + k))) s }
-
-abbrev counted_state : State → State
-counted_state s = let n = get_or s.serving 0 0 in if ltb n 32 then s
-    else with_serving s (rebound_binding (n / 32) (n % 32) (set s.serving 0 1))
-
-abbrev later : MachineTick → MachineTick
-later (finished m code t) = finished m code (if eqb code 3 then counted_state t else t)
-later (stopped n) = stopped n
-
-abbrev pub counts_at_return : StepRule
-counts_at_return i s w = later (tick i s w)
-
-pub counts-at-return-fails : Agreement translate fresh_state (run_by counts_at_return) (rebind_by notes) → ⊥
+pub counts-at-return-fails : CountsAtReturnFails
 unfolding call_outputs ticking ticks_by_rule table_swap
 counts-at-return-fails claim =
     let given : List CallInput = to_rebind 2 3 ∷ run_alone word3 ∷ [] in
@@ -107,18 +83,7 @@ counts-at-return-fails claim =
     ∙ at-served (run_by counts_at_return) (rebind_by notes) claim) in
     omega arith
 
--- ---- the open schemes that number h called are swapped too: each starts anew as scheme k
-abbrev reopened_state : Image → ℕ → ℕ → State → State
-reopened_state i h k s = with_places s
-    (map (λ j. if eqb (number_at s j) h then entry_at i k else place_at s j) (range 0 32))
-    s.numbers
-    (map (λ j. if eqb (number_at s j) h then k else server_at s j) (range 0 32))
-
-abbrev pub swaps_open : Swapper
-swaps_open i s h k = let r = rebind_image i s h k in
-    record { reply = r.reply; state = state_where_done r (reopened_state i h k r.state) s }
-
-pub swaps-open-fails : Agreement translate fresh_state run (rebind_by swaps_open) → ⊥
+pub swaps-open-fails : SwapsOpenFails
 unfolding call_outputs ticking table_swap
 swaps-open-fails claim =
     let given : List CallInput = run_alone (0 ∷ 0 ∷ []) ∷ to_rebind 2 3 ∷ run_alone (0 ∷ []) ∷ [] in
@@ -126,11 +91,7 @@ swaps-open-fails claim =
     ap (mask_at 0) (sym (ap third (with-rebinding of-swap swaps_open (fresh 2) given)) ∙ at-within run (rebind_by swaps_open) claim) in
     omega arith
 
--- ---- a rebinding that is refused with 22 binds all the same
-abbrev pub binds_refused : Swapper
-binds_refused i s h k = record { reply = (rebind_image i s h k).reply; state = rebinding h k s }
-
-pub binds-refused-fails : Agreement translate fresh_state run (rebind_by binds_refused) → ⊥
+pub binds-refused-fails : BindsRefusedFails
 unfolding call_outputs ticking table_swap
 binds-refused-fails claim =
     let given : List CallInput = to_rebind 2 1 ∷ run_alone (0 ∷ []) ∷ [] in

@@ -19,4 +19,5 @@ pub mod Idlers
 pub mod Variants
 pub mod Slips
 pub mod HandlerSlips
+pub mod RowSlips
 pub mod SwapSlips

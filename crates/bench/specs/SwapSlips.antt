@@ -1,20 +1,27 @@
 -- Slips of a rebinding, and of a run under one: none meets the agreement.
-use Rattle.std.specs.Prelude.{ℕ, ◌+◌, ◌-◌, ◌≤◌, false, ◌&&◌, ◌≡◌, List, ltb, eqb, length, if◌then◌else◌}
+use Rattle.std.specs.Prelude.{ℕ, ◌+◌, ◌-◌, ◌*◌, ◌/◌, ◌%◌, ◌≤◌, false, ◌&&◌, ◌≡◌, List, map, ltb, eqb, length, get_or, set}
+use Rattle.std.specs.Prelude.{if◌then◌else◌}
+use Rattle.words.specs.lists.Numbers.{range}
 use Rattle.words.specs.lists.Sequences.{some}
 use Rattle.results.specs.Results.{result_of, with_result, cleared_results}
-use Rattle.bindings.specs.Binding.{server_of}
+use Rattle.bindings.specs.Binding.{server_of, rebound_binding}
 use Rattle.text.specs.frames.Frame.{contents}
-use Rattle.text.specs.frames.Answer.{success}
+use Rattle.text.specs.frames.Verdict.{Verdict, fine, refused}
+use Rattle.text.specs.frames.Answer.{reply_number, success, refusal}
 use Rattle.image.specs.Layout.{tick_kind}
+use Rattle.image.specs.Image.{Image}
 use Rattle.image.specs.Decode.{decoded_image}
+use Rattle.image.specs.Check.{image_verdict}
 use Rattle.translator.specs.Entry.{translate}
 use Rattle.state.specs.declared.State.{State}
-use Rattle.state.specs.State.{label_at, entry_at, place_at, server_at, fresh_state}
+use Rattle.state.specs.State.{label_at, entry_at, place_at, number_at, server_at, StateOutcome, fresh_state}
+use Rattle.state.specs.Changes.{with_places, with_serving}
 use Rattle.fitness.specs.Fitness.{is_call}
 use Rattle.rows.specs.Rows.{best_row, lead_of}
 use Rattle.ticks.specs.Tick.{MachineTick, finished, stopped, opened_state, tick_by, tick, top_of}
 use Rattle.ticks.specs.Functions.{return_tick}
-use Rattle.rebinding.specs.Rebind.{rebind}
+use Rattle.runs.specs.Run.{run}
+use Rattle.rebinding.specs.Rebind.{rebinding, rebind_verdict, rebind_on, rebind}
 use Rattle.agreement.specs.Agreement.{Runner, Rebinder, output_of, Agreement}
 use Rattle.bench.specs.Variants.{StepRule, run_by}
 
@@ -40,6 +47,60 @@ RebindsHandler g = (image : List ℕ) (s : State) (k : ℕ) → let i = decoded_
 
 abbrev pub RebindsHandlerFails : Type 0
 RebindsHandlerFails = (f : Runner) (g : Rebinder) → RebindsHandler g → Agreement translate fresh_state f g → ⊥
+
+-- ---- rebindings as the definition has them, but for what is done after the image check
+abbrev pub Swapper : Type 0
+Swapper = Image → State → ℕ → ℕ → StateOutcome
+
+abbrev pub checked : Verdict → State → StateOutcome → StateOutcome
+checked fine s r = r
+checked (refused n i) s r = record { reply = refusal n i 0; state = s }
+
+abbrev pub rebind_by : Swapper → Rebinder
+rebind_by f t s h k = checked (image_verdict t) s (f (decoded_image (contents t)) s h k)
+
+-- ---- one that acts later: it is noted where number 1 stands, which nothing calls, and counts from the next return on
+abbrev pub state_where_done : StateOutcome → State → State → State
+state_where_done r t s = if eqb (reply_number r.reply) 0 then t else s
+
+abbrev pub notes : Swapper
+notes i s h k = let r = rebind_on (rebind_verdict i s h k) s h k in
+    record { reply = r.reply; state = state_where_done r (with_serving s (set s.serving 0 (32 * h + k))) s }
+
+abbrev pub counted_state : State → State
+counted_state s = let n = get_or s.serving 0 0 in if ltb n 32 then s
+    else with_serving s (rebound_binding (n / 32) (n % 32) (set s.serving 0 1))
+
+abbrev pub later : MachineTick → MachineTick
+later (finished m code t) = finished m code (if eqb code 3 then counted_state t else t)
+later (stopped n) = stopped n
+
+abbrev pub counts_at_return : StepRule
+counts_at_return i s w = later (tick i s w)
+
+abbrev pub CountsAtReturnFails : Type 0
+CountsAtReturnFails = Agreement translate fresh_state (run_by counts_at_return) (rebind_by notes) → ⊥
+
+-- ---- the open schemes that number h called are swapped too: each starts anew as scheme k
+abbrev pub reopened_state : Image → ℕ → ℕ → State → State
+reopened_state i h k s = with_places s
+    (map (λ j. if eqb (number_at s j) h then entry_at i k else place_at s j) (range 0 32))
+    s.numbers
+    (map (λ j. if eqb (number_at s j) h then k else server_at s j) (range 0 32))
+
+abbrev pub swaps_open : Swapper
+swaps_open i s h k = let r = rebind_on (rebind_verdict i s h k) s h k in
+    record { reply = r.reply; state = state_where_done r (reopened_state i h k r.state) s }
+
+abbrev pub SwapsOpenFails : Type 0
+SwapsOpenFails = Agreement translate fresh_state run (rebind_by swaps_open) → ⊥
+
+-- ---- a rebinding that is refused with 22 binds all the same
+abbrev pub binds_refused : Swapper
+binds_refused i s h k = record { reply = (rebind_on (rebind_verdict i s h k) s h k).reply; state = rebinding h k s }
+
+abbrev pub BindsRefusedFails : Type 0
+BindsRefusedFails = Agreement translate fresh_state run (rebind_by binds_refused) → ⊥
 
 -- ---- results written to the bit of the scheme that serves
 abbrev pub top_server : State → ℕ

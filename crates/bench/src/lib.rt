@@ -29,6 +29,9 @@ ghost use Rattle.bench.specs.HandlerSlips.{KeepsBeneathFails, ReturnsToCallerFai
 ghost use Rattle.bench.specs.HandlerSlips.{ClearsCalledFails, KeepsHandlerBitFails, ForgetsResultFails, ClearsFirstFails};
 ghost use Rattle.bench.specs.SwapSlips.{ActsLaterFails, KeepsBindingFails, RebindsHandlerFails, WritesByServerFails};
 ghost use Rattle.bench.specs.SwapSlips.{ReadsByServerFails, KeptByServerFails, ShowsServerFails};
+ghost use Rattle.bench.specs.SwapSlips.{CountsAtReturnFails, SwapsOpenFails, BindsRefusedFails};
+ghost use Rattle.bench.specs.RowSlips.{FirstMatchFails, LastMatchFails, FirstOfEqualsFails, OnesOfValuesFails, CountsBitFails};
+ghost use Rattle.bench.specs.RowSlips.{FormerTick};
 
 /// The constants of the code are the numbers of the paper, each written out.
 pub fn constants_are_the_numbers_of_the_paper()
@@ -84,7 +87,8 @@ pub fn no_idler_meets_what_is_promised()
     ensures only_these { OnlyThese }
 {}
 
-/// No slip of the bench sheet, of a drop or of a rebinding meets what is promised.
+/// No slip of the bench sheet, of a drop, of a rebinding or of the choice of a row meets what is promised. That the first row that matches
+/// is taken shows on a patched image alone: on one that was translated it makes the machine's ticks.
 pub fn no_slip_meets_what_is_promised()
     ensures calls_again_fails { CallsAgainFails }
     ensures reads_at_call_fails { ReadsAtCallFails }
@@ -113,4 +117,13 @@ pub fn no_slip_meets_what_is_promised()
     ensures reads_by_server_fails { ReadsByServerFails }
     ensures kept_by_server_fails { KeptByServerFails }
     ensures shows_server_fails { ShowsServerFails }
+    ensures counts_at_return_fails { CountsAtReturnFails }
+    ensures swaps_open_fails { SwapsOpenFails }
+    ensures binds_refused_fails { BindsRefusedFails }
+    ensures first_match_fails { FirstMatchFails }
+    ensures last_match_fails { LastMatchFails }
+    ensures first_of_equals_fails { FirstOfEqualsFails }
+    ensures ones_of_values_fails { OnesOfValuesFails }
+    ensures counts_bit_fails { CountsBitFails }
+    ensures former_tick { FormerTick }
 {}

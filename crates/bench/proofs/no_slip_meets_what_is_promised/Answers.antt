@@ -1,7 +1,8 @@
 use Rattle.bench.proofs.no_slip_meets_what_is_promised.Goals as goal
 use Rattle.bench.proofs.Slips.{calls-again-fails, reads-at-call-fails, chooses-by-call-fails, keeps-bit-fails, returns-home-fails, refuses-early-fails, joins-rows-fails}
 use Rattle.bench.proofs.HandlerSlips.{never-drops-fails, drops-early-fails, drops-again-fails, counts-zero-fails, heeds-called-fails, keeps-beneath-fails, returns-to-caller-fails, takes-row-fails, leaves-places-fails, clears-called-fails, keeps-handler-bit-fails, forgets-result-fails, clears-first-fails}
-use Rattle.bench.proofs.SwapSlips.{acts-later-fails, keeps-binding-fails, rebinds-handler-fails, writes-by-server-fails, reads-by-server-fails, kept-by-server-fails, shows-server-fails}
+use Rattle.bench.proofs.SwapSlips.{acts-later-fails, keeps-binding-fails, rebinds-handler-fails, writes-by-server-fails, reads-by-server-fails, kept-by-server-fails, shows-server-fails, counts-at-return-fails, swaps-open-fails, binds-refused-fails}
+use Rattle.bench.proofs.RowSlips.{first-match-fails, last-match-fails, first-of-equals-fails, ones-of-values-fails, counts-bit-fails, former-tick}
 
 pub returns-clause-calls_again_fails : goal.returns-clause-calls_again_fails
 returns-clause-calls_again_fails c = calls-again-fails
@@ -83,3 +84,30 @@ returns-clause-kept_by_server_fails c = kept-by-server-fails
 
 pub returns-clause-shows_server_fails : goal.returns-clause-shows_server_fails
 returns-clause-shows_server_fails c = shows-server-fails
+
+pub returns-clause-counts_at_return_fails : goal.returns-clause-counts_at_return_fails
+returns-clause-counts_at_return_fails c = counts-at-return-fails
+
+pub returns-clause-swaps_open_fails : goal.returns-clause-swaps_open_fails
+returns-clause-swaps_open_fails c = swaps-open-fails
+
+pub returns-clause-binds_refused_fails : goal.returns-clause-binds_refused_fails
+returns-clause-binds_refused_fails c = binds-refused-fails
+
+pub returns-clause-first_match_fails : goal.returns-clause-first_match_fails
+returns-clause-first_match_fails c = first-match-fails
+
+pub returns-clause-last_match_fails : goal.returns-clause-last_match_fails
+returns-clause-last_match_fails c = last-match-fails
+
+pub returns-clause-first_of_equals_fails : goal.returns-clause-first_of_equals_fails
+returns-clause-first_of_equals_fails c = first-of-equals-fails
+
+pub returns-clause-ones_of_values_fails : goal.returns-clause-ones_of_values_fails
+returns-clause-ones_of_values_fails c = ones-of-values-fails
+
+pub returns-clause-counts_bit_fails : goal.returns-clause-counts_bit_fails
+returns-clause-counts_bit_fails c = counts-bit-fails
+
+pub returns-clause-former_tick : goal.returns-clause-former_tick
+returns-clause-former_tick c = former-tick
