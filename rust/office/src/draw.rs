@@ -32,9 +32,12 @@ pub fn arc_id(arc: Arc) -> String {
     format!("n{}_{}", arc.from, arc.side)
 }
 
-/// The identifier of the call that a node makes.
-pub fn call_id(at: usize) -> String {
-    format!("n{at}_call")
+/// The identifier of the call that a node makes, by the scheme that serves it.
+pub fn call_id(plan: &Plan, at: usize, server: u8) -> String {
+    match server == called(&plan.nodes[at]) {
+        true => format!("n{at}_call"),
+        false => format!("n{at}_call_{server}"),
+    }
 }
 
 /// The whole drawing with a caption, which may be empty.
@@ -48,7 +51,7 @@ pub fn drawing(plan: &Plan, coverage: Option<&Coverage>, caption: &str) -> Strin
     }
     for at in 0..plan.nodes.len() {
         text.push_str(&arcs(plan, coverage, at));
-        text.push_str(&call(plan, coverage, at));
+        text.push_str(&calls(plan, coverage, at));
     }
     text.push_str("}\n");
     text
@@ -97,15 +100,27 @@ fn arcs(plan: &Plan, coverage: Option<&Coverage>, from: usize) -> String {
     text
 }
 
-/// The dashed line from a call to the Begin of the scheme called.
-fn call(plan: &Plan, coverage: Option<&Coverage>, at: usize) -> String {
+/// The dashed lines from a call: to the Begin of the scheme called, and to those of others that served it.
+fn calls(plan: &Plan, coverage: Option<&Coverage>, at: usize) -> String {
     let scheme = called(&plan.nodes[at]);
     if scheme == 0 {
         return String::new();
     }
-    let begin = node_id(plan.marking.begin(scheme));
-    let taken = coverage.map(|coverage| coverage.call_taken(at));
-    format!("    {} -> {begin} [{}];\n", node_id(at), marks(&call_id(at), "call", taken))
+    let servers = coverage.into_iter().flat_map(|coverage| coverage.servers(at));
+    let others = servers.filter(|server| *server != scheme);
+    [scheme].into_iter().chain(others).map(|server| call(plan, coverage, at, server)).collect()
+}
+
+fn call(plan: &Plan, coverage: Option<&Coverage>, at: usize, server: u8) -> String {
+    let scheme = called(&plan.nodes[at]);
+    let begin = node_id(plan.marking.begin(server));
+    let taken = coverage.map(|coverage| coverage.call_taken(at, server));
+    let marks = marks(&call_id(plan, at, server), "call", taken);
+    let name = match server == scheme {
+        true => String::new(),
+        false => format!(", label={}", quoted(&format!(" for {} ", plan.names.scheme(scheme)))),
+    };
+    format!("    {} -> {begin} [{marks}{name}];\n", node_id(at))
 }
 
 /// The identifier and class of a node or a line, and how it looks: lines are bold where they were taken, and what never

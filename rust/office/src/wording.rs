@@ -2,6 +2,7 @@
 
 use crate::chart::Node;
 use crate::plan::Plan;
+use crate::trace::swaps::Swap;
 use crate::trace::{Arc, Happening, Opened, Tick};
 
 /// What stands where a list is empty.
@@ -74,8 +75,22 @@ impl Plan {
         ones.map(|scheme| self.names.scheme(scheme)).collect()
     }
 
-    /// What a tick does. Which schemes a drop drops is told by those that are open.
+    /// A swap that was made, by the names of its schemes.
+    pub fn swapped(&self, swap: &Swap) -> String {
+        let name = |number: usize| self.names.scheme(number as u8);
+        match swap.number == swap.scheme {
+            true => format!("{} now serves its own calls", name(swap.scheme)),
+            false => format!("{} now serves {}", name(swap.scheme), name(swap.number)),
+        }
+    }
+
+    /// The swaps made right before a tick, and what it does. Which schemes a drop drops is told by those that are open.
     pub fn happening(&self, tick: &Tick) -> String {
+        let swaps = tick.swaps.iter().map(|swap| self.swapped(swap));
+        swaps.chain([self.own_happening(tick)]).collect::<Vec<String>>().join("; ")
+    }
+
+    fn own_happening(&self, tick: &Tick) -> String {
         match (tick.happening(), tick.stack.len()) {
             (Happening::Plain, _) => "plain".to_string(),
             (Happening::Return, 1) => "return to home".to_string(),
@@ -95,17 +110,30 @@ impl Plan {
     /// How many schemes are open, and which, the bottom first; equal ones in a row are named once, with their number. One that
     /// serves another's number is named with it.
     pub fn open_schemes(&self, stack: &[Opened]) -> String {
-        let scheme = |opened: &Opened| (self.nodes[opened.node].scheme(), opened.number);
-        let schemes: Vec<(u8, u8)> = stack.iter().map(scheme).collect();
+        let schemes: Vec<(u8, u8)> = stack.iter().map(|opened| self.opened(opened)).collect();
         let groups: Vec<String> = schemes.chunk_by(|a, b| a == b).map(|group| self.repeated(group)).collect();
         format!("{}: {}", stack.len(), groups.join(" > "))
     }
 
+    /// An open scheme, and the number that it was called by.
+    fn opened(&self, opened: &Opened) -> (u8, u8) {
+        (self.nodes[opened.node].scheme(), opened.number)
+    }
+
+    /// An open scheme by its name, and what it serves where that is another's number.
+    pub fn open_scheme(&self, opened: &Opened) -> String {
+        self.served(self.opened(opened))
+    }
+
+    fn served(&self, (scheme, number): (u8, u8)) -> String {
+        match scheme == number {
+            true => self.names.scheme(scheme),
+            false => format!("{} for {}", self.names.scheme(scheme), self.names.scheme(number)),
+        }
+    }
+
     fn repeated(&self, group: &[(u8, u8)]) -> String {
-        let name = match group[0] {
-            (scheme, number) if scheme == number => self.names.scheme(scheme),
-            (scheme, number) => format!("{} for {}", self.names.scheme(scheme), self.names.scheme(number)),
-        };
+        let name = self.served(group[0]);
         match group.len() {
             1 => name,
             count => format!("{name} x{count}"),

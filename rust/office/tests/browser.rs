@@ -10,7 +10,7 @@ use office::draw::{arc_id, call_id, node_id};
 use office::plan::Plan;
 use office::source::load;
 use office::trace::words::Words;
-use office::trace::{trace, Happening, Tick, Trace};
+use office::trace::{swaps, trace, Happening, Tick, Trace};
 use shared::{example, run};
 
 /// Steps a page and notes what is lit after each step.
@@ -29,14 +29,15 @@ fn main() {
     let Some(browser) = BROWSERS.into_iter().find(|name| installed(name)) else {
         return println!("browser test left out: no Chromium is installed (Debian's package chromium)");
     };
-    for (chart, places, words, ticks) in [
-        ("roughing.txt", "32", "random:1", "64"),
-        ("bore.txt", "2", "count", "40"),
-        ("finishing.chart", "32", "0,2,0x12", "30"),
-        ("paper.chart", "6", "1", "20"),
-        ("full_stack.txt", "2", "0,0,4,4,4,0,0", "30"),
+    for (chart, places, words, ticks, swaps) in [
+        ("roughing.txt", "32", "random:1", "64", None),
+        ("bore.txt", "2", "count", "40", None),
+        ("finishing.chart", "32", "0,2,0x12", "30", None),
+        ("paper.chart", "6", "1", "20", None),
+        ("full_stack.txt", "2", "0,0,4,4,4,0,0", "30", None),
+        ("swapped.txt", "32", "0,0,4,0,0,0,0,0,0,0,4,4,4,0,0,0,0", "40", Some("0:2=3,20:2=2")),
     ] {
-        let case = Case::make(chart, places, words, ticks);
+        let case = Case::make(chart, places, words, ticks, swaps);
         case.opens(browser);
         case.steps(browser);
         println!("page of {chart} in {browser}: {} ticks as traced", case.trace.ticks.len());
@@ -51,13 +52,17 @@ struct Case {
 }
 
 impl Case {
-    fn make(chart: &str, places: &str, words: &str, ticks: &str) -> Case {
+    fn make(chart: &str, places: &str, words: &str, ticks: &str, swaps: Option<&str>) -> Case {
         let page = folder().join(format!("{chart}.html"));
         let (path, file) = (example(chart), page.to_string_lossy());
-        let made = run(&["page", &path, "--places", places, "--words", words, "--ticks", ticks, "-o", &file]);
+        let mut args = vec!["page", &path, "--places", places, "--words", words, "--ticks", ticks, "-o", &file];
+        args.extend(swaps.into_iter().flat_map(|swaps| ["--swap", swaps]));
+        let made = run(&args);
         let plan = load(&path).and_then(Plan::read).expect("an accepted chart");
         let words = Words::given(words).expect("words").take(Some(ticks.parse().expect("a number")));
-        let trace = trace(&plan, places.parse().expect("a number"), &words, &[]).expect("an accepted chart");
+        let swaps = swaps.map_or(Vec::new(), |text| swaps::given(text, words.len()).expect("swaps"));
+        let places = places.parse().expect("a number");
+        let trace = trace(&plan, places, &words, &swaps).expect("an accepted chart");
         assert_eq!(made.status, i32::from(trace.stopped.is_some()), "{}", made.said);
         Case { page, plan, trace }
     }
@@ -113,8 +118,9 @@ impl Case {
             number.to_string(),
             stack[0].clone(),
             sorted(waiting),
-            sorted(lines(tick)),
+            sorted(self.lines(tick)),
             stack.join(" "),
+            self.open(tick),
             shown(&self.plan.operations(tick.mask)),
             shown(&self.plan.results(&tick.results)),
             format!("tick-{number}"),
@@ -123,16 +129,23 @@ impl Case {
         ];
         parts.join("|")
     }
+
+    /// The arcs of a tick, and the line from its call to the scheme that serves it.
+    fn lines(&self, tick: &Tick) -> Vec<String> {
+        let mut lines: Vec<String> = tick.arcs.iter().map(|arc| arc_id(*arc)).collect();
+        if let Happening::Call(_) = tick.happening() {
+            lines.push(call_id(&self.plan, tick.node(), tick.server));
+        }
+        lines
+    }
+
+    /// The open schemes, the innermost first.
+    fn open(&self, tick: &Tick) -> String {
+        let names: Vec<String> = tick.stack.iter().rev().map(|opened| self.plan.open_scheme(opened)).collect();
+        names.join(" > ")
+    }
 }
 
-/// The arcs and the call of a tick.
-fn lines(tick: &Tick) -> Vec<String> {
-    let mut lines: Vec<String> = tick.arcs.iter().map(|arc| arc_id(*arc)).collect();
-    if let Happening::Call(_) = tick.happening() {
-        lines.push(call_id(tick.node()));
-    }
-    lines
-}
 
 fn sorted(mut names: Vec<String>) -> String {
     names.sort();

@@ -76,6 +76,26 @@ fn the_handler_is_shown_and_a_dropped_call_was_not_made() {
     assert!(line(&ran.printed, "n9").contains("never\""));
 }
 
+/// A call leads to the scheme that served it; that of the number called served none here.
+#[test]
+fn a_swapped_call_leads_to_the_scheme_that_served_it() {
+    let words = "0,0,4,0,0,0,0,0,0,0,4,4,4,0,0,0,0";
+    let ran = drawn("swapped.txt", &["--trace", "--words", words, "--swap", "0:2=3"]);
+    assert_eq!((ran.status, ran.said.as_str()), (0, ""));
+    let text = &ran.printed;
+    let own = line(text, "n1_call");
+    assert!(own.contains("n1 -> n4 ") && own.contains("never\"") && own.contains("#b3b8c0"), "{own}");
+    let served = line(text, "n1_call_3");
+    assert!(served.contains("n1 -> n8 ") && served.contains("taken\""), "{served}");
+    assert!(served.contains("penwidth=2.2") && served.contains("label=\" for roughing \""), "{served}");
+    // swapped between two calls, both served
+    let ran = drawn("swapped.txt", &["--trace", "--words", words, "--swap", "6:2=3"]);
+    for id in ["n1_call", "n1_call_3"] {
+        assert!(line(&ran.printed, id).contains("penwidth=2.2"), "{id}");
+    }
+    assert!(!drawn("swapped.txt", &["--trace", "--words", words]).printed.contains("n1_call_"));
+}
+
 #[test]
 fn a_trace_that_is_refused_is_drawn_and_told() {
     let ran = drawn("paper.chart", &["--trace", "--places", "1"]);
@@ -140,7 +160,7 @@ fn dot_takes_every_drawing() {
         for (at, node) in plan.nodes.iter().enumerate() {
             let mut ids = vec![node_id(at)];
             ids.extend((0..node.arcs().len()).map(|side| arc_id(Arc { from: at, side })));
-            ids.extend((called(node) != 0).then(|| call_id(at)));
+            ids.extend((called(node) != 0).then(|| call_id(&plan, at, called(node))));
             for id in ids {
                 assert_eq!(svg.matches(&format!("<g id=\"{id}\"")).count(), 1, "{id}");
             }

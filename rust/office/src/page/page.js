@@ -40,6 +40,7 @@
   // the open schemes, the innermost first
   function stack(row) {
     const list = find("stack");
+    const serving = row.dataset.serving ? row.dataset.serving.split("\n").reverse() : [];
     list.replaceChildren();
     row.dataset.stack.split(" ").reverse().forEach((id, place) => {
       const cells = find("node-" + id).cells;
@@ -47,7 +48,7 @@
       item.dataset.node = id;
       item.className = place === 0 ? "top" : "";
       const scheme = document.createElement("b");
-      scheme.textContent = cells[1].textContent;
+      scheme.textContent = serving[place] ?? cells[1].textContent;
       const where = document.createElement("span");
       where.className = "where";
       where.textContent = (place === 0 ? "at " : "waits at ") + cells[0].textContent;

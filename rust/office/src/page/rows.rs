@@ -31,16 +31,26 @@ fn row(plan: &Plan, number: usize, tick: &Tick) -> String {
     ];
     let cells: String = cells.iter().map(|cell| format!("<td>{cell}</td>")).collect();
     let stack: Vec<String> = tick.stack.iter().map(|opened| node_id(opened.node)).collect();
-    let lines = lines(tick).join(" ");
+    let lines = lines(plan, tick).join(" ");
     let stack = stack.join(" ");
-    format!("<tr id=\"tick-{number}\" data-stack=\"{stack}\" data-lines=\"{lines}\">{cells}</tr>\n")
+    let serving = serving(plan, tick);
+    format!("<tr id=\"tick-{number}\" data-stack=\"{stack}\" data-lines=\"{lines}\"{serving}>{cells}</tr>\n")
+}
+
+/// The open schemes as they are named, where one of them serves another's number; elsewhere each is that of its node.
+fn serving(plan: &Plan, tick: &Tick) -> String {
+    if tick.stack.iter().all(|opened| opened.number == plan.nodes[opened.node].scheme()) {
+        return String::new();
+    }
+    let names: Vec<String> = tick.stack.iter().map(|opened| escaped(&plan.open_scheme(opened))).collect();
+    format!(" data-serving=\"{}\"", names.join("&#10;"))
 }
 
 /// The arcs that a tick takes, and its call.
-fn lines(tick: &Tick) -> Vec<String> {
+fn lines(plan: &Plan, tick: &Tick) -> Vec<String> {
     let mut lines: Vec<String> = tick.arcs.iter().map(|arc| arc_id(*arc)).collect();
     if let Happening::Call(_) = tick.happening() {
-        lines.push(call_id(tick.node()));
+        lines.push(call_id(plan, tick.node(), tick.server));
     }
     lines
 }

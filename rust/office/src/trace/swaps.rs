@@ -46,9 +46,14 @@ pub fn given(text: &str, ticks: usize) -> Result<Vec<Swap>, Failure> {
     text.split(',').map(swap).collect()
 }
 
-/// Makes the swaps of one tick, in the order in which they were given.
+/// The swaps of one tick, in the order in which they were given.
+pub fn of_tick(swaps: &[Swap], tick: usize) -> impl Iterator<Item = &Swap> {
+    swaps.iter().filter(move |swap| swap.tick == tick)
+}
+
+/// Makes the swaps of one tick.
 pub fn make(swaps: &[Swap], tick: usize, image: &[u8], state: &mut State) -> Result<(), Problem> {
-    for swap in swaps.iter().filter(|swap| swap.tick == tick) {
+    for swap in of_tick(swaps, tick) {
         let answer = Proved.rebind(image, state, swap.number, swap.scheme);
         if answer.number() != 0 {
             let told = explain::refusal(image, Kind::Image, answer);

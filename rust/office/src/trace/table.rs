@@ -58,12 +58,9 @@ pub fn problem(plan: &Plan, trace: &Trace, stopped: &Stopped) -> Problem {
     let node = stopped.stack[stopped.stack.len() - 1].node;
     let count = trace.ticks.len();
     let told = plan.source.problem(Answer::Refused { number: stopped.number, index: 0, count });
-    let place = format!(
-        "tick {count}, word {:04X}, node {} of {}",
-        stopped.word,
-        plan.node_title(node),
-        plan.scheme_of(node)
-    );
+    let swaps: String = stopped.swaps.iter().map(|swap| format!(", {}", plan.swapped(swap))).collect();
+    let (word, at, scheme) = (stopped.word, plan.node_title(node), plan.scheme_of(node));
+    let place = format!("tick {count}, word {word:04X}{swaps}, node {at} of {scheme}");
     let words = match called(&plan.nodes[node]) {
         0 => format!("{place}: {}", told.words),
         scheme => {

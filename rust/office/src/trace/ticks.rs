@@ -42,10 +42,11 @@ pub struct Opened {
     pub number: u8,
 }
 
-/// One tick. The stack holds the open schemes before the tick, the bottom first, and `server` is the scheme that a call opens, 0
-/// where none is made; the result bits are those after it.
+/// One tick, with the swaps made right before it. The stack holds the open schemes before the tick, the bottom first, and `server`
+/// is the scheme that a call opens, 0 where none is made; the result bits are those after it.
 #[derive(Clone, Debug)]
 pub struct Tick {
+    pub swaps: Vec<Swap>,
     pub word: u16,
     pub stack: Vec<Opened>,
     pub server: u8,
@@ -66,10 +67,11 @@ impl Tick {
     }
 }
 
-/// The refusal that ended a trace, with the word and the stack that met it.
+/// The refusal that ended a trace, with the swaps, the word and the stack that met it.
 #[derive(Clone, Debug)]
 pub struct Stopped {
     pub number: u8,
+    pub swaps: Vec<Swap>,
     pub word: u16,
     pub stack: Vec<Opened>,
 }
@@ -91,7 +93,8 @@ pub fn trace(plan: &Plan, places: usize, words: &[u16], swaps: &[Swap]) -> Resul
     let mut trace = Trace { places, ticks: Vec::new(), stopped: None, coverage: Coverage::none(plan) };
     for (number, word) in words.iter().enumerate() {
         swaps::make(swaps, number, &image, &mut state)?;
-        match tick(plan, &image, &mut state, *word) {
+        let swaps = swaps::of_tick(swaps, number).copied().collect();
+        match tick(plan, &image, &mut state, swaps, *word) {
             Ok(tick) => {
                 trace.coverage.note(&tick);
                 trace.ticks.push(tick);
@@ -116,11 +119,17 @@ pub fn fresh(places: usize) -> Result<State, Problem> {
 }
 
 /// One tick of the library's, with its node and arcs.
-fn tick(plan: &Plan, image: &[u8], state: &mut State, word: u16) -> Result<Tick, Stopped> {
+fn tick(
+    plan: &Plan,
+    image: &[u8],
+    state: &mut State,
+    swaps: Vec<Swap>,
+    word: u16,
+) -> Result<Tick, Stopped> {
     let (stack, before) = (stack(plan, state), results(state));
     let ticked = Proved.tick(image, state, word);
     if let Answer::Refused { number, .. } = ticked.answer {
-        return Err(Stopped { number, word, stack });
+        return Err(Stopped { number, swaps, word, stack });
     }
     let happening = Happening::of(ticked.code);
     let server = match happening {
@@ -132,7 +141,7 @@ fn tick(plan: &Plan, image: &[u8], state: &mut State, word: u16) -> Result<Tick,
     let reached = self::stack(plan, state).pop().map(|opened| opened.node);
     assert_eq!(Some(path.end), reached, "the arcs followed end where the library's state stands");
     let results = results(state);
-    Ok(Tick { word, stack, server, code: ticked.code, mask: ticked.mask, results, arcs: path.arcs })
+    Ok(Tick { swaps, word, stack, server, code: ticked.code, mask: ticked.mask, results, arcs: path.arcs })
 }
 
 /// What is open in a state, the bottom first: each label with the scheme that the state remembers for it.
