@@ -3,31 +3,23 @@
 
 mod shared;
 
-use std::path::{Path, PathBuf};
-use std::process::{Command, Stdio};
+use std::path::PathBuf;
 
 use office::draw::{arc_id, call_id, node_id};
 use office::plan::Plan;
 use office::source::load;
 use office::trace::words::Words;
 use office::trace::{swaps, trace, Happening, Tick, Trace};
+use shared::browser::{dom, folder, found};
 use shared::{example, run};
 
 /// Steps a page and notes what is lit after each step.
 const DRIVER: &str = include_str!("driver.js");
-const BROWSERS: [&str; 2] = ["chromium", "chromium-browser"];
-
-fn installed(program: &str) -> bool {
-    let asked = Command::new(program).arg("--version").stdout(Stdio::null()).stderr(Stdio::null()).status();
-    asked.is_ok()
-}
 
 fn main() {
-    if !installed("dot") {
-        return println!("browser test left out: dot is not installed (Debian's package graphviz)");
-    }
-    let Some(browser) = BROWSERS.into_iter().find(|name| installed(name)) else {
-        return println!("browser test left out: no Chromium is installed (Debian's package chromium)");
+    let browser = match found() {
+        Ok(browser) => browser,
+        Err(missing) => return println!("browser test left out: {missing}"),
     };
     for (chart, places, words, ticks, swaps) in [
         ("roughing.txt", "32", "random:1", "64", None),
@@ -55,7 +47,8 @@ impl Case {
     fn make(chart: &str, places: &str, words: &str, ticks: &str, swaps: Option<&str>) -> Case {
         let page = folder().join(format!("{chart}.html"));
         let (path, file) = (example(chart), page.to_string_lossy());
-        let mut args = vec!["page", &path, "--places", places, "--words", words, "--ticks", ticks, "-o", &file];
+        let mut args =
+            vec!["page", &path, "--places", places, "--words", words, "--ticks", ticks, "-o", &file];
         args.extend(swaps.into_iter().flat_map(|swaps| ["--swap", swaps]));
         let made = run(&args);
         let plan = load(&path).and_then(Plan::read).expect("an accepted chart");
@@ -141,11 +134,11 @@ impl Case {
 
     /// The open schemes, the innermost first.
     fn open(&self, tick: &Tick) -> String {
-        let names: Vec<String> = tick.stack.iter().rev().map(|opened| self.plan.open_scheme(opened)).collect();
-        names.join(" > ")
+        let names: Vec<String> =
+            tick.stack.iter().rev().map(|opened| self.plan.open_scheme(opened)).collect();
+        names.join(", ")
     }
 }
-
 
 fn sorted(mut names: Vec<String>) -> String {
     names.sort();
@@ -172,30 +165,4 @@ fn lit(dom: &str) -> Vec<String> {
 fn between<'a>(text: &'a str, before: &str, after: &str) -> &'a str {
     let rest = text.split_once(before).map_or("", |(_, rest)| rest);
     rest.split(after).next().unwrap_or("")
-}
-
-fn folder() -> PathBuf {
-    Path::new(env!("CARGO_TARGET_TMPDIR")).to_path_buf()
-}
-
-/// The page's document after its scripts have run. A browser that crashes is started once more.
-fn dom(browser: &str, page: &Path, fragment: &str) -> String {
-    let url = format!("file://{}{fragment}", page.display());
-    for _ in 0..2 {
-        let profile = folder().join("profile");
-        let output = Command::new("timeout")
-            .args(["120", browser, "--headless", "--no-sandbox", "--disable-gpu", "--disable-dev-shm-usage"])
-            .args(["--no-first-run", "--disable-extensions", "--disable-background-networking"])
-            .arg(format!("--user-data-dir={}", profile.display()))
-            .args(["--virtual-time-budget=10000", "--dump-dom", &url])
-            .env("HOME", folder())
-            .output()
-            .expect("timeout starts");
-        let dom = String::from_utf8_lossy(&output.stdout).into_owned();
-        if output.status.success() && dom.trim_end().ends_with("</html>") {
-            return dom;
-        }
-        eprintln!("{browser} ended with {}: {}", output.status, String::from_utf8_lossy(&output.stderr));
-    }
-    panic!("{browser} does not show {url}");
 }

@@ -13,7 +13,7 @@
       ids("svg .open").sort().join(" "),
       ids("svg .now").sort().join(" "),
       Array.from(find("stack").children).map((item) => item.dataset.node).join(" "),
-      Array.from(find("stack").children).map((item) => item.querySelector("b").textContent).join(" > "),
+      Array.from(find("stack").children).map((item) => item.querySelector("b").textContent).join(", "),
       text("outputs"),
       text("results"),
       ids("#ticks .current").join(" "),

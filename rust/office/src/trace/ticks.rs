@@ -119,13 +119,7 @@ pub fn fresh(places: usize) -> Result<State, Problem> {
 }
 
 /// One tick of the library's, with its node and arcs.
-fn tick(
-    plan: &Plan,
-    image: &[u8],
-    state: &mut State,
-    swaps: Vec<Swap>,
-    word: u16,
-) -> Result<Tick, Stopped> {
+fn tick(plan: &Plan, image: &[u8], state: &mut State, swaps: Vec<Swap>, word: u16) -> Result<Tick, Stopped> {
     let (stack, before) = (stack(plan, state), results(state));
     let ticked = Proved.tick(image, state, word);
     if let Answer::Refused { number, .. } = ticked.answer {
