@@ -118,6 +118,41 @@ fn check_tells_refusals_with_status_1() {
     }
 }
 
+/// Every name as long as a name may be, in every command that prints names, and one that is longer.
+#[test]
+fn long_names_go_through_every_command() {
+    let chart = |length: usize| {
+        let name = |first: &str| format!("{first}{}", "w".repeat(length - 1));
+        let [condition, output, scheme, node] = ["c", "o", "s", "n"].map(name);
+        format!(
+            "condition 2 {condition}\noutput 0 {output}\nscheme 1\nbegin -> {node}\n{node}: do {output} -> ask\n\
+             ask: if {condition} then call_it else end\ncall_it: call {scheme} -> end\nend\n\
+             scheme 2 {scheme}\nbegin -> end\nend\n"
+        )
+    };
+    let prices = written("long.prices", "y0 1\n");
+    let (longest, longer) = (written("longest.txt", &chart(64)), written("longer.txt", &chart(65_536)));
+    for (command, rest) in [
+        ("check", vec![]),
+        ("places", vec![]),
+        ("trace", vec!["--words", "4", "--ticks", "20"]),
+        ("bill", vec!["--prices", &prices, "--words", "4", "--ticks", "20"]),
+        ("draw", vec!["--svg"]),
+        ("page", vec!["-o", "-", "--words", "4"]),
+    ] {
+        let said = |chart: &str| fairleadow(&[&[command, chart], &rest[..]].concat(), b"");
+        let (status, _, told) = said(&longest);
+        assert!(status == 0 || told.starts_with("dot is not installed"), "{command}: {told}");
+        let (status, out, told) = said(&longer);
+        assert_eq!((status, out.as_str()), (1, ""), "{command}");
+        assert!(told.contains("longer.txt: line 1, column 13: the name 'cwwww"), "{command}: {told}");
+        assert!(told.contains("...' has 65,536 characters, and 64 are the most\n"), "{command}: {told}");
+    }
+    for path in [prices, longest, longer] {
+        fs::remove_file(path).expect("it was written");
+    }
+}
+
 #[test]
 fn files_that_cannot_be_read() {
     for name in ["check", "compose", "show", "places"] {

@@ -1,8 +1,8 @@
 //! One line of the notation as a statement, its names not yet looked up.
 
-use crate::problem::Problem;
+use crate::problem::{counted, Problem};
 
-use super::words::{Word, Words};
+use super::words::{Word, Words, LONGEST_NAME};
 use super::WHEN_FULL;
 
 #[derive(Clone, Debug, PartialEq, Eq)]
@@ -77,11 +77,23 @@ impl Reader<'_> {
     fn name(&mut self, what: &str) -> Result<Word, Problem> {
         match self.words.get(self.at) {
             Some(word) if word.is_name() => {
+                self.fits(word)?;
                 self.at += 1;
                 Ok(word.clone())
             }
             _ => Err(self.wanted(what)),
         }
+    }
+
+    /// Refused where a name is longer than any may be.
+    fn fits(&self, name: &Word) -> Result<(), Problem> {
+        let length = name.text.chars().count();
+        if length <= LONGEST_NAME {
+            return Ok(());
+        }
+        let has = counted(length, "character");
+        let what = format!("the name '{}' has {has}, and {LONGEST_NAME} are the most", name.shown());
+        Err(Problem::at(self.line, name.column, what).advice("a shorter name; a space or a sign lost in it"))
     }
 
     /// A node that an arc leads to: its name, or the word for the End of its scheme.

@@ -21,6 +21,9 @@ pub struct Words {
 const RESERVED: [&str; 12] =
     ["condition", "output", "scheme", "begin", "end", "do", "nothing", "write", "call", "if", "then", "else"];
 
+/// The most characters of a name.
+pub const LONGEST_NAME: usize = 64;
+
 impl Word {
     /// Whether this can name something: it begins with a letter and is not one of the notation's own words.
     pub fn is_name(&self) -> bool {
