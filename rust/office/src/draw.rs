@@ -44,7 +44,7 @@ pub fn call_id(plan: &Plan, at: usize, server: u8) -> String {
 pub fn drawing(plan: &Plan, coverage: Option<&Coverage>, caption: &str) -> String {
     let mut text = format!("digraph chart {{\n{COMMON}");
     if !caption.is_empty() {
-        text.push_str(&format!("    label={};\n", quoted(caption)));
+        text.push_str(&format!("    label={};\n", quoted(&broken(caption))));
     }
     for scheme in 1..=plan.schemes() {
         text.push_str(&cluster(plan, coverage, scheme));
@@ -135,6 +135,29 @@ fn marks(id: &str, kind: &str, taken: Option<bool>) -> String {
     let classes = format!("{kind} {class}");
     let call = if kind == "call" { CALL } else { "" };
     format!("id=\"{id}\", class=\"{}\"{call}{look}", classes.trim())
+}
+
+/// The most characters of a caption's line.
+const LONGEST_LINE: usize = 70;
+
+/// A caption in lines that are not too long: broken at spaces where there are some, else anywhere.
+fn broken(caption: &str) -> String {
+    let mut lines = Vec::new();
+    for line in caption.lines() {
+        let mut open: Vec<char> = Vec::new();
+        for word in line.split(' ') {
+            for piece in word.chars().collect::<Vec<char>>().chunks(LONGEST_LINE) {
+                if !open.is_empty() && open.len() + 1 + piece.len() > LONGEST_LINE {
+                    lines.push(std::mem::take(&mut open));
+                }
+                open.extend((!open.is_empty()).then_some(' '));
+                open.extend(piece);
+            }
+        }
+        lines.push(open);
+    }
+    let lines: Vec<String> = lines.into_iter().map(String::from_iter).collect();
+    lines.join("\n")
 }
 
 /// A text between quotation marks.

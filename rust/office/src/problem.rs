@@ -127,6 +127,16 @@ pub fn counted(count: usize, thing: &str) -> String {
     format!("{} {thing}{plural}", thousands(count))
 }
 
+/// The most characters of a list that a caption has.
+const LONGEST_LIST: usize = 60;
+
+/// A list with commas between its pieces; a long one is cut, with how many pieces there are of this thing.
+pub fn shortened(list: &str, thing: &str) -> String {
+    let Some((end, _)) = list.char_indices().nth(LONGEST_LIST) else { return list.to_string() };
+    let kept = list[..end].rfind(',').unwrap_or(end);
+    format!("{},... ({})", &list[..kept], counted(list.split(',').count(), thing))
+}
+
 /// `a`, `a and b`, `a, b and c`.
 pub fn listed(things: &[String]) -> String {
     match things {
@@ -146,6 +156,15 @@ mod tests {
         assert_eq!(thousands(1_048_576), "1,048,576");
         assert_eq!((counted(1, "row"), counted(1_024, "row")), ("1 row".into(), "1,024 rows".into()));
         assert_eq!(listed(&["a".into(), "b".into(), "c".into()]), "a, b and c");
+    }
+
+    #[test]
+    fn a_long_list_is_cut_with_how_many_there_are() {
+        let list = |count: usize| vec!["0x10"; count].join(",");
+        assert_eq!(shortened(&list(12), "word"), list(12));
+        assert_eq!(shortened(&list(13), "word"), format!("{},... (13 words)", list(12)));
+        assert_eq!(shortened(&list(1_300), "word"), format!("{},... (1,300 words)", list(12)));
+        assert!(shortened(&"ö".repeat(9_000), "swap").ends_with("ö,... (1 swap)"));
     }
 
     #[test]

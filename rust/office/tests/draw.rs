@@ -142,6 +142,28 @@ fn names_cannot_break_the_drawing() {
     }
 }
 
+/// A list of 300 words, in a file whose name is long too, leaves the drawing as wide as it is and the page's head short.
+#[test]
+fn long_lists_and_names_are_cut_in_captions() {
+    let text = std::fs::read(example("roughing.txt")).expect("an example");
+    let chart = file(&format!("{}.txt", "roughing".repeat(25)), &text);
+    let (chart, words) = (chart.to_string_lossy(), vec!["0"; 300].join(","));
+    let swaps = vec!["3:2=2"; 100].join(",");
+    let tracing = ["--words", &words, "--swap", &swaps];
+    let width = |args: &[&str]| {
+        let drawn = run(&[&["draw", &chart, "--svg"], args].concat()).printed;
+        let (_, rest) = drawn.split_once("width=\"")?;
+        rest.split("pt\"").next()?.parse::<usize>().ok()
+    };
+    let Some(alone) = width(&[]) else { return missing() };
+    let traced = width(&[&["--trace"], &tracing[..]].concat()).expect("a width");
+    assert!(traced < alone + 200, "{traced} and {alone}");
+    let page = run(&[&["page", &chart, "-o", "-"], &tracing[..]].concat()).printed;
+    let head = page.lines().find(|line| line.contains("stack of 32 places")).expect("a head");
+    assert!(head.contains(",... (300 words)") && head.contains(",... (100 swaps)"), "{head}");
+    assert!(head.len() < 300, "{head}");
+}
+
 /// Random charts: dot takes each drawing, and every node, arc and call has its group.
 #[test]
 fn dot_takes_every_drawing() {

@@ -39,7 +39,7 @@ fn run(args: &[String], out: &mut dyn Write) -> Result<(), Failure> {
     let listed = listed.map_err(|problem| Failure::of(file, problem))?;
     let (places, words) = arguments.places_and_words()?;
     let bill = Bill::of(&subject, places, listed, &words).map_err(failure)?;
-    let (chart, stack, words) = (arguments.title(), counted(places, "place"), arguments.words());
+    let (chart, stack, words) = (arguments.title(), counted(places, "place"), arguments.words_named());
     writeln!(out, "{chart}: stack of {stack}; words {words}; prices {}\n", title(file))?;
     out.write_all(bill.report(names).as_bytes())?;
     match bill.answer.ok() {

@@ -8,6 +8,7 @@ use fairleadow::PLACES;
 
 use crate::command::Failure;
 use crate::plan::Plan;
+use crate::problem::shortened;
 use crate::source;
 use crate::trace::swaps::{self, Swap};
 use crate::trace::words::Words;
@@ -144,6 +145,15 @@ impl Arguments {
     /// The words as they were given.
     pub fn words(&self) -> &str {
         self.value("--words").unwrap_or(WORDS)
+    }
+
+    /// The words as a caption names them.
+    pub fn words_named(&self) -> String {
+        let words = self.words();
+        match words.starts_with(|first: char| first.is_ascii_digit()) {
+            true => shortened(words, "word"),
+            false => words.to_string(),
+        }
     }
 
     /// The bytes of the chart's file.

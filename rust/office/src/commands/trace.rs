@@ -5,7 +5,7 @@ use std::io::Write;
 use super::options::{Arguments, RUNNING_HELP, SWAP_HELP, TRACING};
 use crate::command::{Command, Failure};
 use crate::plan::Plan;
-use crate::problem::counted;
+use crate::problem::{counted, shortened};
 use crate::trace::table::report;
 use crate::trace::Trace;
 
@@ -42,12 +42,13 @@ fn run(args: &[String], out: &mut dyn Write) -> Result<(), Failure> {
 
 /// What is traced, and with what.
 pub fn summary(arguments: &Arguments, plan: &Plan, trace: &Trace) -> String {
-    let swaps = arguments.value("--swap").map_or(String::new(), |swaps| format!("; swaps {swaps}"));
+    let swaps = arguments.value("--swap").map(|swaps| format!("; swaps {}", shortened(swaps, "swap")));
     format!(
-        "{} in {}; stack of {}; words {}{swaps}",
+        "{} in {}; stack of {}; words {}{}",
         counted(plan.nodes.len(), "node"),
         counted(usize::from(plan.schemes()), "scheme"),
         counted(trace.places, "place"),
-        arguments.words()
+        arguments.words_named(),
+        swaps.unwrap_or_default()
     )
 }
