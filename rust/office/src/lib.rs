@@ -18,6 +18,7 @@ pub mod kind;
 pub mod marking;
 pub mod names;
 pub mod notation;
+pub mod output;
 pub mod page;
 pub mod places;
 pub mod plan;

@@ -164,7 +164,7 @@ fn what_is_read_is_kept() {
         let [chart, words, lost] = [&chart, &words, lost].map(|path| path.to_string_lossy());
         let ran = run(&["page", &chart, "--words", &words, "-o", &lost]);
         assert_eq!((ran.status, ran.printed.as_str()), (2, ""));
-        assert!(ran.said.starts_with(&format!("{lost} is what the page is made of")), "{}", ran.said);
+        assert!(ran.said.starts_with(&format!("{lost} is read by this command")), "{}", ran.said);
         assert_eq!(std::fs::read(&*lost).expect("a file"), before);
     }
 }

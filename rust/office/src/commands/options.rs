@@ -1,12 +1,12 @@
 //! What the commands that trace share: their arguments, the chart, and the trace that is asked for.
 
 use std::collections::BTreeMap;
-use std::fs;
 use std::path::Path;
 
 use fairleadow::PLACES;
 
 use crate::command::Failure;
+use crate::output;
 use crate::plan::Plan;
 use crate::problem::shortened;
 use crate::source;
@@ -43,6 +43,10 @@ pub const SWAP_HELP: &str =
     "  --swap SWAPS   TICK:NUMBER=SCHEME, with commas between them: right before that tick, counted
                  from 0, the number is given to that scheme to serve. Later calls of the number
                  open it; what is open goes on.";
+
+/// The help of what goes with a file that is written.
+pub const FORCE_HELP: &str =
+    "  --force        also where the file holds a chart, an image or the notation, which is lost then";
 
 /// A file without the folders before it.
 pub fn title(file: &str) -> String {
@@ -125,11 +129,16 @@ impl Arguments {
         title(&self.chart)
     }
 
-    /// Whether a file is the chart or that of the words.
-    pub fn reads(&self, file: &str) -> bool {
-        let read = [self.chart.as_str(), self.words()];
-        fs::canonicalize(file)
-            .is_ok_and(|file| read.iter().any(|own| fs::canonicalize(own).is_ok_and(|own| own == file)))
+    /// The file that is written, where one is: not the chart or the words, and with --force alone one that holds such.
+    pub fn written(&self) -> Result<Option<&str>, Failure> {
+        let file = self.value("-o");
+        if file.is_none() && self.has("--force") {
+            return Err(Failure::Usage("--force goes with -o".to_string()));
+        }
+        if let Some(file) = file.filter(|file| *file != "-") {
+            output::may_write(file, &[&self.chart, self.words()], self.has("--force"))?;
+        }
+        Ok(file)
     }
 
     /// A problem of the chart's file.

@@ -3,10 +3,11 @@
 use std::io::Write;
 
 use super::draw::ended;
-use super::options::{Arguments, RUNNING_HELP, SWAP_HELP, TRACING};
+use super::options::{Arguments, FORCE_HELP, RUNNING_HELP, SWAP_HELP, TRACING};
 use super::trace::summary;
 use crate::command::{Command, Failure};
 use crate::draw::{dot, drawing};
+use crate::output;
 use crate::page::page;
 
 /// The most ticks that a page lists.
@@ -14,7 +15,7 @@ const MOST_TICKS: usize = 10_000;
 
 pub const COMMAND: Command = Command {
     name: "page",
-    arguments: "CHART [--places N] [--words WORDS] [--ticks N] [--swap SWAPS] -o FILE.html",
+    arguments: "CHART [--places N] [--words WORDS] [--ticks N] [--swap SWAPS] -o FILE.html [--force]",
     help: "runs a chart and writes a page that steps through the ticks in a browser",
     details: &[
         "
@@ -24,6 +25,7 @@ FILE.html#tick=5 opens it at tick 5. It is also written where a full stack ends 
 
   -o FILE.html   where the page is written, - for standard output; the drawing is laid out by dot (Debian's package
                  graphviz)",
+        FORCE_HELP,
         RUNNING_HELP,
         SWAP_HELP,
     ],
@@ -31,11 +33,9 @@ FILE.html#tick=5 opens it at tick 5. It is also written where a full stack ends 
 };
 
 fn run(args: &[String], out: &mut dyn Write) -> Result<(), Failure> {
-    let arguments = Arguments::of(args, &[TRACING.as_slice(), &["-o"]].concat(), &[])?;
-    let file = arguments.value("-o").ok_or_else(|| Failure::Usage("-o FILE.html is missing".to_string()))?;
-    if file != "-" && arguments.reads(file) {
-        return Err(Failure::Usage(format!("{file} is what the page is made of: it would be lost")));
-    }
+    let arguments = Arguments::of(args, &[TRACING.as_slice(), &["-o"]].concat(), &["--force"])?;
+    let missing = || Failure::Usage("-o FILE.html is missing".to_string());
+    let file = arguments.written()?.ok_or_else(missing)?;
     let plan = arguments.plan()?;
     let trace = arguments.trace(&plan)?;
     if trace.ticks.len() > MOST_TICKS {
@@ -47,7 +47,7 @@ fn run(args: &[String], out: &mut dyn Write) -> Result<(), Failure> {
         out.write_all(page.as_bytes())?;
     } else {
         let told = |error| Failure::of(file, format!("the page cannot be written: {error}"));
-        std::fs::write(file, page).map_err(told)?;
+        output::write(file, page.as_bytes()).map_err(told)?;
     }
     ended(&arguments, &plan, &trace)
 }
