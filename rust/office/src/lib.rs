@@ -22,6 +22,7 @@ pub mod output;
 pub mod page;
 pub mod places;
 pub mod plan;
+pub mod printed;
 pub mod problem;
 pub mod source;
 pub mod trace;

@@ -1,12 +1,15 @@
 //! Commands of the office program.
 
+mod closed;
+
 use std::env;
 use std::ffi::OsString;
-use std::io::{self, ErrorKind, Write};
+use std::io::{self, Write};
 use std::process::ExitCode;
 
 use office::command::{Command, Failure, Run};
 use office::commands::{bill, draw, fillings, minimise, page, trace, wall, why};
+use office::printed::{Closed, Printed};
 use office::{check, compose, places};
 
 const fn command(name: &'static str, arguments: &'static str, help: &'static str, run: Run) -> Command {
@@ -83,17 +86,23 @@ fn arguments() -> Result<Vec<String>, Failure> {
     env::args_os().skip(1).map(|word| word.into_string().map_err(told)).collect()
 }
 
-fn main() -> ExitCode {
-    let mut out = io::stdout().lock();
-    let done = arguments().and_then(|arguments| run(&arguments, &mut out)).and_then(|()| Ok(out.flush()?));
-    let Err(failure) = done else {
-        return ExitCode::SUCCESS;
-    };
+/// The status of a command, which tells on standard error how it failed.
+fn status(failure: &Failure) -> u8 {
+    // Where standard error cannot be written either, the status is all that is left to tell.
+    drop(io::stderr().write_all(format!("{}\n", failure.to_string().trim_end()).as_bytes()));
     match failure {
-        // Whoever read the output has enough of it.
-        Failure::Output(error) if error.kind() == ErrorKind::BrokenPipe => return ExitCode::SUCCESS,
-        // Where standard error cannot be written either, the status is all that is left to tell.
-        _ => drop(io::stderr().write_all(format!("{}\n", failure.to_string().trim_end()).as_bytes())),
+        Failure::Usage(_) => 2,
+        Failure::Refused(_) | Failure::Output(_) => 1,
     }
-    ExitCode::from(if matches!(failure, Failure::Usage(_)) { 2 } else { 1 })
+}
+
+fn main() -> ExitCode {
+    let to: Box<dyn Write> =
+        if closed::standard_output() { Box::new(Closed) } else { Box::new(io::stdout().lock()) };
+    let mut out = Printed::to(to);
+    let done = arguments().and_then(|arguments| run(&arguments, &mut out));
+    // what was refused is told whether or not anybody reads the output, and a lost output after it
+    let lost = out.lost().map(Failure::Output);
+    let statuses = done.err().into_iter().chain(lost).map(|failure| status(&failure));
+    ExitCode::from(statuses.max().unwrap_or(0))
 }
