@@ -8,6 +8,11 @@ use crate::trace::{Arc, Happening, Opened, Tick};
 /// What stands where a list is empty.
 pub const NONE: &str = "-";
 
+/// A word as `--words` takes it.
+pub fn word(word: u16) -> String {
+    format!("0x{word:04X}")
+}
+
 /// Names in a row, or a dash.
 pub fn listed(names: &[String]) -> String {
     if names.is_empty() {

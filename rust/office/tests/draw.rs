@@ -100,7 +100,7 @@ fn a_swapped_call_leads_to_the_scheme_that_served_it() {
 fn a_trace_that_is_refused_is_drawn_and_told() {
     let ran = drawn("paper.chart", &["--trace", "--places", "1"]);
     assert_eq!(ran.status, 1);
-    let told = format!("{}: tick 1, word EC67, node n1 of s1: the call of s2 ", example("paper.chart"));
+    let told = format!("{}: tick 1, word 0xEC67, node n1 of s1: the call of s2 ", example("paper.chart"));
     assert!(ran.said.starts_with(&told) && ran.said.contains("\n  refusal 17: "), "{}", ran.said);
     assert!(line(&ran.printed, "n1_call").contains("never"));
     let ran = drawn("paper.chart", &["--trace", "--places", "33"]);

@@ -76,9 +76,8 @@ fn a_refusal_and_what_was_never_taken_stand_in_the_page() {
     let (plan, trace) = traced(source("paper.chart"), 2, &[0, 0, 1, 0, 0]);
     let page = page(&plan, &trace, "paper.chart", "", SVG);
     let told = line(&page, "<p id=\"refusal\">");
-    assert!(
-        told.contains("tick 3, word 0000, node n6 of s2: the call of s2 finds the stack full, all 2 places")
-    );
+    assert!(told
+        .contains("tick 3, word 0x0000, node n6 of s2: the call of s2 finds the stack full, all 2 places"));
     assert!(
         page.contains("<li>arc n4, x0 = 0 -&gt; n5 of s2</li>") && page.contains("<li>node n6 of s2</li>")
     );

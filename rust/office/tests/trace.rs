@@ -29,15 +29,15 @@ fn the_table_of_the_paper() {
     let expected = "\
 paper.chart: 7 nodes in 2 schemes; stack of 3 places; words 0,0,1,0,0,0,0,0
 
-tick  word  conditions at 1  scheme  node        what happens  micro operations  open schemes   results at 1
-   0  0000  -                s1      n2 (End)    home          -                 1: s1          -
-   1  0000  -                s1      n1          call of s2    y0                1: s1          -
-   2  0001  x0               s2      n3 (Begin)  plain         -                 2: s1 > s2     -
-   3  0000  -                s2      n6          call of s2    y1                2: s1 > s2     -
-   4  0000  -                s2      n3 (Begin)  plain         -                 3: s1 > s2 x2  -
-   5  0000  -                s2      n5 (End)    return        -                 3: s1 > s2 x2  -
-   6  0000  -                s2      n5 (End)    return        -                 2: s1 > s2     -
-   7  0000  -                s1      n2 (End)    home          -                 1: s1          -
+tick  word    conditions at 1  scheme  node        what happens  micro operations  open schemes   results at 1
+   0  0x0000  -                s1      n2 (End)    home          -                 1: s1          -
+   1  0x0000  -                s1      n1          call of s2    y0                1: s1          -
+   2  0x0001  x0               s2      n3 (Begin)  plain         -                 2: s1 > s2     -
+   3  0x0000  -                s2      n6          call of s2    y1                2: s1 > s2     -
+   4  0x0000  -                s2      n3 (Begin)  plain         -                 3: s1 > s2 x2  -
+   5  0x0000  -                s2      n5 (End)    return        -                 3: s1 > s2 x2  -
+   6  0x0000  -                s2      n5 (End)    return        -                 2: s1 > s2     -
+   7  0x0000  -                s1      n2 (End)    home          -                 1: s1          -
 
 8 ticks; every node and arc was taken (7 nodes, 6 arcs)
 ";
@@ -51,7 +51,7 @@ fn a_full_stack_is_told_with_the_call_that_met_it() {
     assert_eq!(rows(&ran).len(), 3);
     assert_eq!(ran.said, format!("{}: ended by refusal 17 after 3 ticks\n", example("paper.chart")));
     let told = [
-        "tick 3, word 0000, node n6 of s2: the call of s2 finds the stack full, all 2 places in use (2: s1 > s2)",
+        "tick 3, word 0x0000, node n6 of s2: the call of s2 finds the stack full, all 2 places in use (2: s1 > s2)",
         "  refusal 17: a call needs a free place of the stack, or a handler that is not at the bottom of it",
         "  look for: a chart or a handler that calls deeper than the stack has places: give it more (32 at most; `fairleadow \
          places` tells how many it needs), or let it call less deep",
@@ -140,7 +140,7 @@ fn a_handler_that_calls_too_deep_is_refused() {
     let seen: Vec<(String, usize)> = rows(&ran).into_iter().map(happens_and_open).collect();
     let seen: Vec<(&str, usize)> = seen.iter().map(|(happens, open)| (happens.as_str(), *open)).collect();
     assert_eq!(seen, [("home", 1), ("call of s2", 1), ("drop of 2, start of s2", 2), ("call of s2", 1)]);
-    let told = "tick 4, word 0000, node b of s2: the call of s2 finds the stack full, all 2 places in use (2: s2 x2), with \
+    let told = "tick 4, word 0x0000, node b of s2: the call of s2 finds the stack full, all 2 places in use (2: s2 x2), with \
                 the handler at the bottom";
     assert_eq!(after(&ran)[0], told);
     assert!(after(&ran)[1].starts_with("  refusal 17: "), "{}", ran.printed);
@@ -217,11 +217,11 @@ fn the_names_of_the_notation_are_used() {
         row.split("  ").map(str::trim).filter(|cell| !cell.is_empty()).map(String::from).collect()
     };
     let expected = [
-        ["0", "0000", "-", "drilling", "end", "home", "-", "1: drilling", "-"],
-        ["1", "0000", "-", "drilling", "test (function)", "call of bore_test", "-", "1: drilling", "-"],
-        ["2", "0008", "bore", "bore_test", "lower", "plain", "probe_down", "2: drilling > bore_test", "-"],
-        ["3", "0008", "bore", "bore_test", "yes", "plain", "-", "2: drilling > bore_test", "bore_test"],
-        ["4", "0000", "-", "bore_test", "end", "return", "-", "2: drilling > bore_test", "bore_test"],
+        ["0", "0x0000", "-", "drilling", "end", "home", "-", "1: drilling", "-"],
+        ["1", "0x0000", "-", "drilling", "test (function)", "call of bore_test", "-", "1: drilling", "-"],
+        ["2", "0x0008", "bore", "bore_test", "lower", "plain", "probe_down", "2: drilling > bore_test", "-"],
+        ["3", "0x0008", "bore", "bore_test", "yes", "plain", "-", "2: drilling > bore_test", "bore_test"],
+        ["4", "0x0000", "-", "bore_test", "end", "return", "-", "2: drilling > bore_test", "bore_test"],
     ];
     for (row, expected) in rows(&ran).into_iter().zip(expected) {
         assert_eq!(cells(row), expected);
@@ -230,6 +230,29 @@ fn the_names_of_the_notation_are_used() {
     // the same ticks as those of the chart's lines
     let plain = traced("bore.chart", &["--words", "0,0,8,8,0,0,0"]);
     assert!(rows(&ran).iter().map(|row| &row[..10]).eq(rows(&plain).iter().map(|row| &row[..10])));
+}
+
+/// The words of a table are given to another run as they stand, and make the same table.
+#[test]
+fn words_of_the_table_are_read_as_they_were() {
+    let ran = traced("bore.txt", &["--words", "0,16,0x10,8004,0x8004,65535"]);
+    let column = |row: &str| row.split_whitespace().nth(1).expect("a word").to_string();
+    let words: Vec<String> = rows(&ran).into_iter().map(column).collect();
+    assert_eq!(words, ["0x0000", "0x0010", "0x0010", "0x1F44", "0x8004", "0xFFFF"]);
+    assert_eq!(rows(&traced("bore.txt", &["--words", &words.join(",")])), rows(&ran));
+    let lines = file("table_words.txt", words.join("\n").as_bytes());
+    assert_eq!(rows(&traced("bore.txt", &["--words", &lines.to_string_lossy()])), rows(&ran));
+    for (words, told) in [
+        ("0010", "in the words 0010: '0010' begins with a 0: write 10, or 0x10, which is 16\n"),
+        (
+            "FFFF",
+            "there is no file FFFF, and in the words FFFF: 'FFFF' could only be hexadecimal: write 0xFFFF\n",
+        ),
+    ] {
+        let ran = traced("bore.txt", &["--words", words]);
+        assert_eq!((ran.status, ran.printed.as_str()), (2, ""), "{words}");
+        assert!(ran.said.starts_with(told), "{}", ran.said);
+    }
 }
 
 #[test]

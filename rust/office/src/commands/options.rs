@@ -31,7 +31,7 @@ pub const RUNNING_HELP: &str = "
   --words WORDS  the words, one a tick; bit i of a word is condition i. One of
                    random:SEED    random words, the same for the same seed
                    count          0, 1, 2 and so on
-                   0,1,0x8004     these words
+                   0,1,0x8004     these words, decimal, or hexadecimal after 0x
                    FILE           one word a line, # before a comment; - is standard input,
                                   ./FILE one whose name begins with a digit
                  random:1 if not given, so that every condition is 0 and 1 in turn

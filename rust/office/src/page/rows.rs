@@ -5,7 +5,7 @@ use crate::escape::escaped;
 use crate::plan::Plan;
 use crate::trace::table::HEADINGS;
 use crate::trace::{Happening, Tick, Trace};
-use crate::wording::kind;
+use crate::wording::{kind, word};
 
 /// The headings of the table of ticks.
 pub fn headings() -> String {
@@ -20,7 +20,7 @@ pub fn ticks(plan: &Plan, trace: &Trace) -> String {
 fn row(plan: &Plan, number: usize, tick: &Tick) -> String {
     let cells = [
         number.to_string(),
-        format!("{:04X}", tick.word),
+        word(tick.word),
         chips(&plan.conditions(tick.word)),
         escaped(&plan.scheme_of(tick.node())),
         escaped(&plan.node_title(tick.node())),

@@ -8,10 +8,11 @@ use crate::image::{Open, Row};
 use crate::kind::Kind;
 use crate::problem::{counted, Problem};
 use crate::trace::Happening;
+use crate::wording::word;
 
 /// Where the tick went and what made it go there, or why it took no row.
 pub fn told(subject: &Subject, asked: &Asked) -> Result<String, Problem> {
-    let tick = format!("tick {}, word {:04X}", asked.number, asked.word);
+    let tick = format!("tick {}, word {}", asked.number, word(asked.word));
     let words = match asked.cause.answer {
         Answer::Done(_) => return Ok(format!("{tick}, {}", taken(subject, asked))),
         Answer::Refused { number: 18, .. } => without_match(subject, asked),
