@@ -38,6 +38,16 @@ impl Problem {
         }
     }
 
+    /// Where what is found here differs from what the library answers. No file is at fault then.
+    pub fn internal(what: impl fmt::Display) -> Problem {
+        let advice = "nothing in the file: tell the makers of this program, and trust nothing that it says of this file";
+        Problem::new(format!("{INTERNAL}{what}")).advice(advice)
+    }
+
+    pub fn is_internal(&self) -> bool {
+        self.words.starts_with(INTERNAL)
+    }
+
     /// What stands at a line and a column.
     pub fn at(line: usize, column: usize, what: impl fmt::Display) -> Problem {
         let words = format!("line {line}, column {column}: {what}");
@@ -66,6 +76,9 @@ impl Problem {
         self
     }
 }
+
+/// How an internal error begins.
+const INTERNAL: &str = "internal error: ";
 
 /// Longer lines are not shown.
 const LONGEST_EXCERPT: usize = 160;

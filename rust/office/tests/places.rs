@@ -8,7 +8,7 @@ use std::fs;
 use fairleadow::{Answer, Library, Proved, RECORD, RECORDS};
 use office::calls::Calls;
 use office::chart::{nodes, Node};
-use office::explain::{self, UNEXPLAINED};
+use office::explain;
 use office::kind::Kind;
 use office::marking::called;
 use office::places::needed;
@@ -77,7 +77,7 @@ fn hold(records: &[Frame], met: &mut BTreeMap<usize, usize>) {
             assert!(round.iter().zip(next).all(|(at, next)| called(&chart[*at]) == chart[*next].scheme()));
             assert!(reached(&chart).contains(&chart[round[0]].scheme()));
             let told = explain::refusal(&text, Kind::Chart, answer);
-            assert!(told.words != UNEXPLAINED && told.words.contains("calls itself"), "{told}");
+            assert!(!told.is_internal() && told.words.contains("calls itself"), "{told}");
             assert_eq!((told.line, told.column), (Some(round[0] + 1), Some(5)));
             *met.entry(0).or_default() += 1;
         }

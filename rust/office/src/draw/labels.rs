@@ -25,7 +25,7 @@ pub fn label(plan: &Plan, at: usize) -> String {
         }
         Node::Operation { .. } => operation(plan, at, &name),
     };
-    if let Some(label) = plan.marking.label(at) {
+    if let Some(label) = plan.label(at) {
         lines.push(small(&format!("label {label}")));
     }
     format!("<{}>", lines.join("<BR/>"))

@@ -1,4 +1,5 @@
-//! A refusal of the library in words. The library's answer decides; here the reason for that very answer is found.
+//! A refusal of the library in words. The library's answer decides; here the reason for that very answer is found, by the rule of its
+//! number, and where it names a line, on that line. Where there is none, an internal error is told in its place.
 
 mod circles;
 pub mod image;
@@ -19,16 +20,12 @@ use crate::problem::{counted, thousands, Problem};
 
 use voice::Voice;
 
-/// Said where no reason is found, which the tests never meet.
-pub const UNEXPLAINED: &str = "the library turns this back, and no reason was found";
-
 /// Why the library refuses this text as a chart or as an image, or a run of it.
 pub fn refusal(text: &[u8], asked: Kind, answer: Answer) -> Problem {
     let Err(refusal) = answer.ok() else {
         return Problem::new("nothing is refused");
     };
-    let problem = reason(text, asked, &refusal).unwrap_or_else(|| Problem::new(UNEXPLAINED));
-    problem.refused(refusal).excerpt(text)
+    held(reason(text, asked, &refusal), refusal, refusal.frame().map(|frame| frame + 1)).excerpt(text)
 }
 
 fn reason(text: &[u8], asked: Kind, refusal: &Refusal) -> Option<Problem> {
@@ -59,7 +56,24 @@ pub fn composed(records: &[u8], names: &Names, lines: &[usize], answer: Answer) 
         4..=10 | 19 | 20 => of_records(&records, &refusal, Voice::Notation { names, lines }),
         _ => of_run(&refusal),
     };
-    problem.unwrap_or_else(|| Problem::new(UNEXPLAINED)).refused(refusal)
+    held(problem, refusal, refusal.frame().and_then(|node| lines.get(node).copied()))
+}
+
+/// The reason found, if it is one for this refusal: on the line that the library names, where it names one.
+fn held(reason: Option<Problem>, refusal: Refusal, line: Option<usize>) -> Problem {
+    let problem = match reason {
+        None => Problem::internal("the library turns this back, and no reason for it is found"),
+        Some(problem) if line.is_some() && problem.line != line => {
+            let found = problem.line.map_or("no line".to_string(), |found| format!("line {found}"));
+            let what = format!(
+                "the library turns line {} back, and a reason is found on {found}",
+                line.unwrap_or(0)
+            );
+            Problem::internal(what)
+        }
+        Some(problem) => problem,
+    };
+    problem.refused(refusal)
 }
 
 /// Refusal 1 of a notation.
@@ -152,5 +166,30 @@ pub fn accepted(nodes: Option<usize>, image: &[u8]) -> String {
             )
         }
         None => format!("accepted: an image of {schemes}, {labels} labels and {rows}{handler}"),
+    }
+}
+
+#[cfg(test)]
+mod tests {
+    use super::*;
+
+    const CHART: &[u8] = include_bytes!("../../../../examples/home.chart");
+    const IMAGE: &[u8] = include_bytes!("../../../../examples/home.image");
+
+    /// Refusals that this chart and its image do not deserve, and a reason that is found on another line than the library's.
+    #[test]
+    fn a_refusal_without_its_reason_is_an_internal_error() {
+        let of_chart = (1..=10).chain([19, 20]).map(|number| (CHART, Kind::Chart, number));
+        let of_image = [1, 2, 3, 11, 12, 13, 23].map(|number| (IMAGE, Kind::Image, number));
+        for (text, kind, number) in of_chart.chain(of_image) {
+            let told = refusal(text, kind, Answer::Refused { number, index: 1, count: 0 });
+            assert!(told.is_internal() && told.refusal.is_some_and(|own| own.number == number), "{told}");
+            assert!(told.advice.contains("the makers of this program"), "{told}");
+        }
+        let refusal = Refusal { number: 6, index: 4, count: 0 };
+        let found = |line| held(Some(Problem::at(line, 1, "a reason")), refusal, Some(5));
+        assert_eq!(found(5).words, "line 5, column 1: a reason");
+        let told = "internal error: the library turns line 5 back, and a reason is found on line 4";
+        assert_eq!(found(4).words, told);
     }
 }

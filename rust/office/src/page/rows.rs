@@ -69,7 +69,7 @@ pub fn nodes(plan: &Plan, trace: &Trace) -> String {
 }
 
 fn node(plan: &Plan, trace: &Trace, at: usize) -> String {
-    let label = plan.marking.label(at).map_or("\u{2013}".to_string(), |label| label.to_string());
+    let label = plan.label(at).map_or("\u{2013}".to_string(), |label| label.to_string());
     let times = trace.coverage.times(at);
     let class = if times == 0 { " class=\"never\"" } else { "" };
     format!(
