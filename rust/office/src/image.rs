@@ -1,9 +1,11 @@
 //! An accepted image as labels and rows.
 
-use fairleadow::State;
+use fairleadow::{Answer, Library, Proved, State, TABLE};
 
 use crate::explain;
 use crate::explain::image::{Frame, Header};
+use crate::kind::Kind;
+use crate::problem::Problem;
 
 /// The text of an accepted image, and its lines.
 #[derive(Clone, Debug)]
@@ -48,6 +50,18 @@ impl Image {
     /// The number that a label calls, 0 for none.
     pub fn called(&self, label: u8) -> u8 {
         self.header.label(&self.frames, label).expect("a state's labels are in its image")[3]
+    }
+
+    /// Its table for live ticks and rebindings: the text is read and checked for it once, and no more in each tick.
+    pub fn prepared(&self) -> Result<Vec<u8>, Problem> {
+        let mut table = vec![0; TABLE];
+        match Proved.prepare(&self.text, &mut table) {
+            Answer::Done(length) => {
+                table.truncate(length);
+                Ok(table)
+            }
+            answer => Err(explain::refusal(&self.text, Kind::Image, answer)),
+        }
     }
 
     /// How many labels it has.

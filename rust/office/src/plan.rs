@@ -16,6 +16,8 @@ pub struct Plan {
     pub nodes: Vec<Node>,
     pub names: Names,
     pub marking: Marking,
+    /// The conditions that some node tests, as a mask.
+    pub tested: u16,
     /// The library's image, or why there is none: a chart that is read can have too many rows.
     pub image: Result<Image, Problem>,
 }
@@ -32,7 +34,11 @@ impl Plan {
                 if let Ok(image) = &image {
                     held::to_image(&nodes, &marking, image)?;
                 }
-                Ok(Plan { names: source.names.clone(), source, nodes, marking, image })
+                let tested = nodes.iter().fold(0, |tested, node| match node {
+                    Node::Condition { number, .. } => tested | 1 << number,
+                    _ => tested,
+                });
+                Ok(Plan { names: source.names.clone(), source, nodes, marking, tested, image })
             }
             refused => Err(source.problem(refused)),
         }

@@ -58,14 +58,9 @@ impl Plan {
         format!("{}{value} -> {target} of {}", self.names.node(arc.from), self.scheme_of(arc.from))
     }
 
-    /// Whether some node of the chart tests this condition.
-    pub fn tests(&self, condition: u8) -> bool {
-        self.nodes.iter().any(|node| matches!(node, Node::Condition { number, .. } if *number == condition))
-    }
-
     /// The conditions that are 1 in a word, of those that the chart tests.
     pub fn conditions(&self, word: u16) -> Vec<String> {
-        let ones = (0..16).filter(|number| word >> number & 1 == 1 && self.tests(*number));
+        let ones = (0..16).filter(|number| (word & self.tested) >> number & 1 == 1);
         ones.map(|number| self.names.condition(number)).collect()
     }
 

@@ -2,6 +2,11 @@
 
 mod shared;
 
+use std::time::Instant;
+
+use fairleadow::{Library, Proved};
+use office::plan::Plan;
+use office::{source, trace};
 use shared::{example, file, run, Ran};
 
 fn traced(chart: &str, rest: &[&str]) -> Ran {
@@ -230,6 +235,27 @@ fn the_names_of_the_notation_are_used() {
     // the same ticks as those of the chart's lines
     let plain = traced("bore.chart", &["--words", "0,0,8,8,0,0,0"]);
     assert!(rows(&ran).iter().map(|row| &row[..10]).eq(rows(&plain).iter().map(|row| &row[..10])));
+}
+
+/// The image is prepared once: ticks on its table take a part of what ticks on its text take, which is read and checked in each.
+#[test]
+fn ticks_are_made_on_a_prepared_table() {
+    let node =
+        |k: usize| format!("a{k}: do y0 -> {}\n", if k < 197 { format!("a{}", k + 1) } else { "end".into() });
+    let text: String = (0..198).map(node).collect();
+    let source = source::from_notation(&format!("scheme 1\nbegin -> a0\n{text}end\n")).expect("the notation");
+    let plan = Plan::read(source).expect("a chart");
+    let words = vec![0; 5_000];
+    let start = Instant::now();
+    let traced = trace::trace(&plan, 32, &words, &[]).expect("a trace");
+    let live = start.elapsed();
+    let image = &plan.image.as_ref().expect("an image").text;
+    let mut state = trace::fresh(32).expect("a state");
+    let start = Instant::now();
+    let masks: Vec<u32> = words.iter().map(|word| Proved.tick(image, &mut state, *word).mask).collect();
+    let on_text = start.elapsed();
+    assert!(traced.ticks.iter().map(|tick| tick.mask).eq(masks));
+    assert!(live * 2 < on_text, "{live:?} and {on_text:?}");
 }
 
 /// The words of a table are given to another run as they stand, and make the same table.

@@ -51,12 +51,12 @@ pub fn of_tick(swaps: &[Swap], tick: usize) -> impl Iterator<Item = &Swap> {
     swaps.iter().filter(move |swap| swap.tick == tick)
 }
 
-/// Makes the swaps of one tick.
-pub fn make(swaps: &[Swap], tick: usize, image: &[u8], state: &mut State) -> Result<(), Problem> {
+/// Makes the swaps of one tick on a prepared table.
+pub fn make(swaps: &[Swap], tick: usize, table: &[u8], state: &mut State) -> Result<(), Problem> {
     for swap in of_tick(swaps, tick) {
-        let answer = Proved.rebind(image, state, swap.number, swap.scheme);
+        let answer = Proved.live_rebind(table, state, swap.number, swap.scheme);
         if answer.number() != 0 {
-            let told = explain::refusal(image, Kind::Image, answer);
+            let told = explain::refusal(&[], Kind::Image, answer);
             return Err(Problem { words: format!("the swap {swap}: {}", told.words), ..told });
         }
     }

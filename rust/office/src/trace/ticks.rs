@@ -85,16 +85,16 @@ pub struct Trace {
     pub coverage: Coverage,
 }
 
-/// Ticks a chart over the words, with swaps before some of them, or tells why chart, stack size or a swap
+/// Prepares the chart's image once and ticks it over the words, with swaps before some of them, or tells why chart, stack size or a swap
 /// are refused.
 pub fn trace(plan: &Plan, places: usize, words: &[u16], swaps: &[Swap]) -> Result<Trace, Problem> {
-    let image = &plan.image.as_ref().map_err(Problem::clone)?.text;
+    let table = plan.image.as_ref().map_err(Problem::clone)?.prepared()?;
     let mut state = fresh(places)?;
     let mut trace = Trace { places, ticks: Vec::new(), stopped: None, coverage: Coverage::none(plan) };
     for (number, word) in words.iter().enumerate() {
-        swaps::make(swaps, number, image, &mut state)?;
+        swaps::make(swaps, number, &table, &mut state)?;
         let swaps = swaps::of_tick(swaps, number).copied().collect();
-        match tick(plan, image, &mut state, swaps, *word)? {
+        match tick(plan, &table, &mut state, swaps, *word)? {
             Ok(tick) => {
                 trace.coverage.note(&tick);
                 trace.ticks.push(tick);
@@ -121,13 +121,13 @@ pub fn fresh(places: usize) -> Result<State, Problem> {
 /// One tick of the library's, with its node and arcs, or the refusal that met it.
 fn tick(
     plan: &Plan,
-    image: &[u8],
+    table: &[u8],
     state: &mut State,
     swaps: Vec<Swap>,
     word: u16,
 ) -> Result<Result<Tick, Stopped>, Problem> {
     let (stack, before) = (stack(plan, state), results(state));
-    let ticked = Proved.tick(image, state, word);
+    let ticked = Proved.live_tick(table, state, word);
     if let Answer::Refused { number, .. } = ticked.answer {
         return Ok(Err(Stopped { number, swaps, word, stack }));
     }
