@@ -8,6 +8,7 @@ use crate::command::Failure;
 use crate::explain;
 use crate::kind::Kind;
 use crate::places;
+use crate::plan::Plan;
 use crate::problem::Problem;
 use crate::source::{self, Source};
 
@@ -38,7 +39,7 @@ pub fn each(
     Failure::all(refused)
 }
 
-/// What an accepted text is, in words, or why it is refused.
+/// What an accepted text is, in words, with what in a chart was likely not meant, or why it is refused.
 pub fn checked(bytes: &[u8]) -> Result<String, Problem> {
     if Kind::of(bytes) == Kind::Image {
         return match Proved.check_image(bytes) {
@@ -49,7 +50,10 @@ pub fn checked(bytes: &[u8]) -> Result<String, Problem> {
     let source = source::from_either(bytes)?;
     let image = translated(&source)?;
     let accepted = explain::accepted(Some(source.text.len() / LINE), &image);
-    Ok(format!("{accepted}; {}", places::told(&source)?))
+    let places = places::told(&source)?;
+    let warnings = explain::warnings::warnings(&Plan::read(source)?);
+    let warnings: String = warnings.iter().map(|words| format!("\n  warning: {words}")).collect();
+    Ok(format!("{accepted}; {places}{warnings}"))
 }
 
 /// The image of a chart.

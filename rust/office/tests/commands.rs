@@ -89,14 +89,54 @@ fn check_accepts_charts_images_and_the_notation() {
     let chart = "accepted: a chart of 9 nodes in 2 schemes; its image has 7 labels and 6 rows; \
                  may need any number of places:";
     assert!(lines[0].ends_with(&format!("roughing.chart: {chart} s2 calls itself")));
-    assert!(lines[1].ends_with("roughing.image: accepted: an image of 2 schemes, 7 labels and 6 rows"));
+    assert!(lines[1]
+        .starts_with("  warning: line 8, column 5: y0 is on here and again in line 9, and off between"));
+    assert!(lines[2].ends_with("roughing.image: accepted: an image of 2 schemes, 7 labels and 6 rows"));
     let texts = [(file("roughing.txt"), "roughing"), (file("roughing.chart").to_lowercase(), "s2")];
     for (text, name) in texts {
-        let said = fairleadow(&["check", "-"], text.as_bytes());
-        assert_eq!(said, (0, format!("standard input: {chart} {name} calls itself\n"), String::new()));
+        let (status, out, told) = fairleadow(&["check", "-"], text.as_bytes());
+        assert_eq!((status, told.as_str()), (0, ""));
+        assert_eq!(out.lines().next(), Some(format!("standard input: {chart} {name} calls itself").as_str()));
     }
     let (status, out, _) = fairleadow(&["check", "-"], file("roughing.image").to_lowercase().as_bytes());
     assert!(status == 0 && out.contains("accepted: an image of 2 schemes"), "{out}");
+}
+
+/// A chart with all that is likely not meant is accepted, and each is told by its line.
+#[test]
+fn check_warns_of_what_was_likely_not_meant() {
+    let chart = "condition 1 idle\noutput 0 clamp\noutput 1 idler\noutput 2 feed\n\nscheme 1\nbegin -> hold\n\
+                 hold: do clamp, feed; call cut -> keep\nkeep: do clamp -> ask\nask: if call cut then go else go\n\
+                 go: do clamp -> end\nend\n\nscheme 2 cut\nbegin -> in\nin: do feed; write 0 -> end\nend\n\n\
+                 scheme 3 spare\nbegin -> end\nend\n\nscheme 4 full\nbegin when the stack is full -> end\nend\n";
+    let (status, out, told) = fairleadow(&["check", "-"], chart.as_bytes());
+    assert_eq!((status, told.as_str()), (0, ""));
+    let lines: Vec<&str> = out.lines().collect();
+    assert!(lines[0].starts_with("standard input: accepted: a chart of 13 nodes in 4 schemes;"), "{out}");
+    let warnings = [
+        "line 1: condition 1 is named idle, and no node asks it",
+        "line 3: output 1 is named idler, and no node puts it out",
+        "line 8 (node hold): clamp is on here and again in keep (line 9), and off between them, in the tick of the called \
+         scheme's End at least",
+        "line 10 (node ask): both arcs lead to go (line 11), so nothing is decided here",
+        "line 10 (node ask): scheme cut never writes 1, so this function goes on as on a 0, unless another scheme serves its \
+         call",
+        "line 10 (node ask): clamp is on in keep (line 9) and again in go (line 11), and off between them, in the function's \
+         own tick at least",
+        "line 20 (begin): no other scheme calls scheme spare: only a swap opens it",
+    ];
+    assert_eq!(lines[1..], warnings.map(|words| format!("  warning: {words}")));
+    // by the lines of digits too, where there are no names
+    let lines = fairleadow(&["compose", "-"], chart.as_bytes()).1;
+    let out = fairleadow(&["check", "-"], lines.as_bytes()).1;
+    assert_eq!(out.lines().count(), 6);
+    assert!(
+        out.contains("\n  warning: line 4, column 7: both arcs lead to 04 (line 5), so nothing"),
+        "{out}"
+    );
+    for name in ["bore", "branches", "home", "paper", "two_blocks"] {
+        assert_eq!(fairleadow(&["check", &path(&format!("{name}.txt"))], b"").1.lines().count(), 1, "{name}");
+    }
 }
 
 #[test]

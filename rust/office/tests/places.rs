@@ -38,7 +38,8 @@ fn each_example_is_told() {
     for (name, words) in EXAMPLES {
         let path = example(&format!("{name}.txt"));
         let checked = run(&["check", &path]);
-        assert!(checked.printed.ends_with(&format!("; {words}\n")), "{}", checked.printed);
+        let first = checked.printed.lines().next().expect("a line");
+        assert!(first.ends_with(&format!("; {words}")), "{}", checked.printed);
         assert_eq!((checked.status, checked.said.as_str()), (0, ""));
         let told = run(&["places", &path]);
         if words.starts_with("needs") {
@@ -136,7 +137,7 @@ fn a_circle_through_others_names_each_call() {
     let path = path.to_str().expect("a path");
     let checked = run(&["check", path]).printed;
     assert!(
-        checked.ends_with("; may need any number of places: roughing calls itself through feeling\n"),
+        checked.contains("; may need any number of places: roughing calls itself through feeling\n"),
         "{checked}"
     );
     let said = run(&["places", path]).said;

@@ -11,6 +11,7 @@ mod rows;
 pub mod rules;
 mod uneven;
 mod voice;
+pub mod warnings;
 
 use fairleadow::{Answer, Refusal, CHART_TEXT, IMAGE_TEXT, LINE, NODES, RECORD};
 

@@ -135,6 +135,22 @@ impl Notation {
         self.lines.iter().enumerate().filter_map(node).collect()
     }
 
+    /// The line of each condition that is named.
+    pub fn condition_lines(&self) -> impl Iterator<Item = (u8, usize)> + '_ {
+        self.lines.iter().enumerate().filter_map(|(at, line)| match line.part {
+            Part::Condition(number) => Some((number, at + 1)),
+            _ => None,
+        })
+    }
+
+    /// The line of each output that is named.
+    pub fn output_lines(&self) -> impl Iterator<Item = (u8, usize)> + '_ {
+        self.lines.iter().enumerate().filter_map(|(at, line)| match line.part {
+            Part::Output(number) => Some((number, at + 1)),
+            _ => None,
+        })
+    }
+
     /// The chart's lines, by the library's writer.
     pub fn chart_lines(&self) -> Result<Vec<u8>, Problem> {
         let mut text = vec![0; CHART_TEXT];
