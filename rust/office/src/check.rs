@@ -4,7 +4,7 @@ use std::io::Write;
 
 use fairleadow::{Answer, Library, Proved, IMAGE_TEXT, LINE};
 
-use crate::command::Failure;
+use crate::command::{Failure, EMPTY};
 use crate::explain;
 use crate::kind::Kind;
 use crate::places;
@@ -25,6 +25,9 @@ pub fn each(
 ) -> Result<(), Failure> {
     if files.is_empty() {
         return Err(Failure::Usage("a file is missing".to_string()));
+    }
+    if files.iter().any(String::is_empty) {
+        return Err(Failure::Usage(EMPTY.to_string()));
     }
     if let Some(option) = files.iter().find(|file| file.starts_with('-') && *file != "-") {
         return Err(Failure::Usage(format!("no option {option}")));

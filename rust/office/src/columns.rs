@@ -1,12 +1,13 @@
 //! Tables in plain text.
 
 /// Columns as wide as their widest cell, with two spaces between them; the cells of some columns, such as numbers, end under each other.
-pub fn aligned<const N: usize>(rows: &[[String; N]], to_the_right: impl Fn(usize) -> bool) -> String {
+pub fn aligned<R: AsRef<[String]>>(rows: &[R], to_the_right: impl Fn(usize) -> bool) -> String {
     let wide = |text: &String| text.chars().count();
-    let width = |column: usize| rows.iter().map(|row| wide(&row[column])).max().unwrap_or(0);
-    let widths: [usize; N] = std::array::from_fn(width);
-    let cell = |row: &[String; N], column: usize| {
-        let text = &row[column];
+    let columns = rows.iter().map(|row| row.as_ref().len()).max().unwrap_or(0);
+    let width =
+        |column: usize| rows.iter().filter_map(|row| row.as_ref().get(column)).map(wide).max().unwrap_or(0);
+    let widths: Vec<usize> = (0..columns).map(width).collect();
+    let cell = |(column, text): (usize, &String)| {
         // by hand: a width in a format has a highest number
         let room = " ".repeat(widths[column] - wide(text));
         if to_the_right(column) {
@@ -15,8 +16,8 @@ pub fn aligned<const N: usize>(rows: &[[String; N]], to_the_right: impl Fn(usize
             text.clone() + &room
         }
     };
-    let line = |row: &[String; N]| {
-        let cells: Vec<String> = (0..N).map(|column| cell(row, column)).collect();
+    let line = |row: &R| {
+        let cells: Vec<String> = row.as_ref().iter().enumerate().map(cell).collect();
         format!("{}\n", cells.join("  ").trim_end())
     };
     rows.iter().map(line).collect()

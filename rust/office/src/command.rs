@@ -59,9 +59,13 @@ impl From<io::Error> for Failure {
     }
 }
 
+/// Said of a file's name that is no name.
+pub const EMPTY: &str = "the name of a file is empty";
+
 /// The one file that a command takes.
 pub fn one_file(arguments: &[String]) -> Result<&str, Failure> {
     match arguments {
+        [path] if path.is_empty() => Err(Failure::Usage(EMPTY.to_string())),
         [path] if path == "-" || !path.starts_with('-') => Ok(path),
         [] => Err(Failure::Usage("a file is missing".to_string())),
         [option, ..] if option != "-" && option.starts_with('-') => {

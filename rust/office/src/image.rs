@@ -64,6 +64,11 @@ impl Image {
         }
     }
 
+    /// The scheme that is performed when the stack is full, 0 for none.
+    pub fn handler(&self) -> u8 {
+        self.header.handler
+    }
+
     /// How many labels it has.
     pub fn labels(&self) -> usize {
         self.header.last + 1

@@ -5,8 +5,6 @@ mod told;
 
 use fairleadow::{Answer, CauseReport, Library, Proved, State, TickReport};
 
-use crate::explain;
-use crate::kind::Kind;
 use crate::problem::Problem;
 use crate::trace::fresh;
 use crate::trace::swaps::{self, Swap};
@@ -40,7 +38,7 @@ pub fn asked(
     let last = answer.count().min(words.len() - 1);
     let number = tick.unwrap_or(last);
     if number > last {
-        let ended = explain::refusal(image, Kind::Image, answer);
+        let ended = subject.problem(answer);
         return Err(Problem { words: format!("tick {number} is not reached: {}", ended.words), ..ended });
     }
     let (_, mut before) = run(&table, &start, &words[..number], swaps)?;

@@ -71,8 +71,8 @@ sum                                       5.60
 
 after 5 ticks a call finds the stack full
   refusal 17: a call needs a free place of the stack, or a handler that is not at the bottom of it
-  look for: a chart or a handler that calls deeper than the stack has places: give it more (32 at most; `fairleadow places` \
-                    tells how many it needs), or let it call less deep
+  look for: a chart that calls itself, for which no number of places is enough whatever the words: more places (32 at most), \
+                    words by which it calls less deep, or a handler, which starts when the stack is full
 ";
     assert_eq!(ran.printed, expected);
 }

@@ -77,6 +77,13 @@ fn each_command_has_a_usage_line() {
             (2, String::new(), format!("no option --fast\n{usage}\n"))
         );
     }
+    for arguments in [&["check", ""][..], &["places", "a", ""], &["show", ""], &["draw", ""]] {
+        let (status, out, told) = fairleadow(arguments, b"");
+        assert_eq!((status, out.as_str()), (2, ""));
+        assert!(told.starts_with("the name of a file is empty\nusage: "), "{told}");
+    }
+    let (status, _, told) = fairleadow(&["minimise", &path("paper.chart"), "-o", ""], b"");
+    assert!(status == 2 && told.starts_with("-o is given, and nothing stands after it\n"), "{told}");
     let told = "one file only, and b is one more\nusage: fairleadow show FILE\n";
     assert_eq!(fairleadow(&["show", "a", "b"], b""), (2, String::new(), told.to_string()));
 }

@@ -58,8 +58,8 @@ fn a_full_stack_is_told_with_the_call_that_met_it() {
     let told = [
         "tick 3, word 0x0000, node n6 of s2: the call of s2 finds the stack full, all 2 places in use (2: s1 > s2)",
         "  refusal 17: a call needs a free place of the stack, or a handler that is not at the bottom of it",
-        "  look for: a chart or a handler that calls deeper than the stack has places: give it more (32 at most; `fairleadow \
-         places` tells how many it needs), or let it call less deep",
+        "  look for: a chart that calls itself, for which no number of places is enough whatever the words: more places (32 at \
+         most), words by which it calls less deep, or a handler, which starts when the stack is full",
         "",
     ];
     let left = [
@@ -151,6 +151,28 @@ fn a_handler_that_calls_too_deep_is_refused() {
     assert!(after(&ran)[1].starts_with("  refusal 17: "), "{}", ran.printed);
     // the drop writes 1 for its scheme and then clears it as the handler's
     assert!(rows(&ran)[2].ends_with("  -") && rows(&ran)[3].ends_with("  -"), "{}", ran.printed);
+}
+
+/// What to do about a full stack fits the chart: one that calls itself, one that does not, and one whose handler calls.
+#[test]
+fn the_advice_for_a_full_stack_fits_the_chart() {
+    let advice = |ran: &Ran| {
+        let line = ran.printed.lines().find_map(|line| line.strip_prefix("  look for: "));
+        line.expect("advice").to_string()
+    };
+    let told = advice(&traced("roughing.txt", &["--places", "2", "--words", "4", "--ticks", "9"]));
+    assert!(told.starts_with("a chart that calls itself, ") && !told.contains("fairleadow places"), "{told}");
+    let told = advice(&traced("bore.chart", &["--places", "1"]));
+    assert!(told.starts_with("too few places: this chart needs 2 places, "), "{told}");
+    let text = "scheme 1\nbegin -> a\na: call s2 -> end\nend\nscheme 2\nbegin when the stack is full -> b\n\
+                b: call s2 -> end\nend\n";
+    let chart = file("handler_advice.txt", text.as_bytes());
+    let told =
+        advice(&run(&["trace", &chart.to_string_lossy(), "--places", "2", "--words", "0", "--ticks", "9"]));
+    assert!(told.starts_with("a handler that calls deeper than the stack has places: "), "{told}");
+    // a circle in a chart that has its handler already
+    let said = run(&["places", &example("full_stack.txt")]).said;
+    assert!(said.ends_with(", scheme drawing_back is there, the handler for the full stack\n"), "{said}");
 }
 
 #[test]
@@ -359,12 +381,16 @@ fn wrong_arguments_get_the_usage() {
         vec!["trace", &chart, "--ticks", "100001"],
         vec!["trace", &chart, "--ticks", "1", "--ticks", "2"],
         vec!["trace", &chart, "--words", "0,x"],
+        vec!["trace", &chart, "--words", ""],
+        vec!["trace", ""],
         vec!["trace", &chart, "--words", "random:x"],
     ] {
         let ran = run(&args);
         assert_eq!((ran.status, ran.printed.as_str()), (2, ""), "{args:?}");
         assert!(ran.said.contains("\nusage: fairleadow trace CHART "), "{}", ran.said);
     }
+    let ran = run(&["trace", &chart, "--words", ""]);
+    assert!(ran.said.starts_with("--words is given, and nothing stands after it\n"), "{}", ran.said);
     let ran = run(&["trace", &chart, "--words", "0,x"]);
     assert!(ran.said.starts_with("in the words 0,x: 'x' is no word"), "{}", ran.said);
     let ran = run(&["trace", "--help"]);

@@ -5,7 +5,7 @@ use std::path::Path;
 
 use fairleadow::PLACES;
 
-use crate::command::Failure;
+use crate::command::{Failure, EMPTY};
 use crate::output;
 use crate::plan::Plan;
 use crate::problem::shortened;
@@ -74,6 +74,9 @@ impl Arguments {
                 taken.switches.push(arg.clone());
             } else if options.contains(&arg.as_str()) {
                 let value = rest.next().ok_or_else(|| Failure::Usage(format!("{arg} needs a value")))?;
+                if value.is_empty() {
+                    return Err(Failure::Usage(format!("{arg} is given, and nothing stands after it")));
+                }
                 if taken.values.insert(arg.clone(), value.clone()).is_some() {
                     return Err(Failure::Usage(format!("{arg} is given twice")));
                 }
@@ -85,6 +88,7 @@ impl Arguments {
         }
         match charts.as_slice() {
             [] => Err(Failure::Usage("a chart is missing".to_string())),
+            [chart] if chart.is_empty() => Err(Failure::Usage(EMPTY.to_string())),
             [chart] => Arguments { chart: chart.clone(), ..taken }.with_one_input(),
             [_, second, ..] => Err(Failure::Usage(format!("one chart only, and {second} is one more"))),
         }

@@ -15,7 +15,10 @@ pub mod warnings;
 
 use fairleadow::{Answer, Refusal, CHART_TEXT, IMAGE_TEXT, LINE, NODES, RECORD};
 
+use crate::calls::Calls;
+use crate::chart::{self, Node};
 use crate::kind::Kind;
+use crate::marking::handler;
 use crate::names::Names;
 use crate::problem::{counted, thousands, Problem};
 
@@ -40,6 +43,7 @@ fn reason(text: &[u8], asked: Kind, refusal: &Refusal) -> Option<Problem> {
         11 => image::header(&frames(text)?),
         12 => image::place(&frames(text)?, index),
         13 => image_fields::field(&frames(text)?, index),
+        17 => Some(full_stack(refusal, chart_of(text, asked).as_deref())),
         23 => uneven::label(&frames(text)?),
         _ => of_run(refusal),
     }
@@ -55,6 +59,7 @@ pub fn composed(records: &[u8], names: &Names, lines: &[usize], answer: Answer) 
     let problem = match refusal.number {
         1 => Some(node_count(records.len(), lines)),
         4..=10 | 19 | 20 => of_records(&records, &refusal, Voice::Notation { names, lines }),
+        17 => Some(full_stack(&refusal, Some(&chart::nodes(&records.concat())))),
         _ => of_run(&refusal),
     };
     held(problem, refusal, refusal.frame().and_then(|node| lines.get(node).copied()))
@@ -107,26 +112,45 @@ fn of_records(records: &[[u8; RECORD]], refusal: &Refusal, voice: Voice) -> Opti
     }
 }
 
-/// Refusals 14 to 18, 21, 22, 24, 27 and 28, which name no line.
+/// The nodes of a chart's text.
+fn chart_of(text: &[u8], asked: Kind) -> Option<Vec<Node>> {
+    let frames = (asked == Kind::Chart).then(|| frames(text)).flatten()?;
+    Some(chart::nodes(&frames.concat()))
+}
+
+/// Refusal 17, with advice that fits the chart that was run, where it was one.
+fn full_stack(refusal: &Refusal, nodes: Option<&[Node]>) -> Problem {
+    let advice = match nodes.map(|nodes| (handler(nodes), Calls::of(nodes))) {
+        None => "an image that calls deeper than the stack has places: more places (32 at most), or calls less deep".to_string(),
+        Some((1.., _)) => {
+            "a handler that calls deeper than the stack has places: more places (32 at most), or a handler that calls less deep".to_string()
+        }
+        Some((0, Calls::Circle(_))) => {
+            "a chart that calls itself, for which no number of places is enough whatever the words: more places (32 at most), words \
+             by which it calls less deep, or a handler, which starts when the stack is full"
+                .to_string()
+        }
+        Some((0, Calls::Chain(schemes))) => {
+            let places = counted(schemes.len(), "place");
+            format!("too few places: this chart needs {places}, and more only where a scheme is swapped for one that calls deeper")
+        }
+    };
+    let ticks = counted(refusal.count, "tick");
+    Problem::new(format!("after {ticks} a call finds the stack full")).advice(advice)
+}
+
+/// Refusals 14 to 16, 18, 21, 22, 24, 27 and 28, which name no line.
 fn of_run(refusal: &Refusal) -> Option<Problem> {
     let ticks = counted(refusal.count, "tick");
     let (words, advice) = match refusal.number {
         14 => ("a stack has 1 to 32 places".to_string(), "the number of places asked for"),
         15 => ("the state does not fit the image".to_string(), "a state kept from another chart"),
         16 => ("a buffer is too short for the answer".to_string(), "the caller's buffers"),
-        17 => (
-            format!("after {ticks} a call finds the stack full"),
-            "a chart or a handler that calls deeper than the stack has places: give it more (32 at most; `fairleadow \
-             places` tells how many it needs), or let it call less deep",
-        ),
         18 => (
             format!("after {ticks} no row of the label matches the word"),
             "a row that was taken out of the image by hand; the image of a chart has them all",
         ),
-        21 => (
-            "the tick takes no row".to_string(),
-            "a tick before it or after it that is plain or a return",
-        ),
+        21 => ("the tick takes no row".to_string(), "a tick before it or after it that is plain or a return"),
         22 => (
             "this number cannot be given to that scheme".to_string(),
             "a number and a scheme from 2 to the highest one, and a number that is not the handler's",
