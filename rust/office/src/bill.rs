@@ -1,4 +1,4 @@
-//! What a dry run costs: the ticks of each micro operation by a price list, and the library's price of the whole run.
+//! What a dry run costs: the ticks of each output by a price list, and the library's price of the whole run.
 
 pub mod prices;
 
@@ -43,14 +43,14 @@ impl Bill {
         (0..OPERATIONS).map(|operation| self.ticks(operation) * u64::from(self.prices[operation])).sum()
     }
 
-    /// At how many ticks a micro operation was on.
+    /// At how many ticks an output was on.
     fn ticks(&self, operation: usize) -> u64 {
         self.masks.iter().filter(|mask| **mask >> operation & 1 == 1).count() as u64
     }
 
-    /// A line for each micro operation that was on, their sum, and what the ticks cost.
+    /// A line for each output that was on, their sum, and what the ticks cost.
     pub fn report(&self, names: &Names) -> String {
-        let heading = ["micro operation", "ticks on", "cents a tick", "cents"].map(str::to_string);
+        let heading = ["output", "ticks on", "cents a tick", "cents"].map(str::to_string);
         let mut rows = vec![heading];
         for operation in (0..OPERATIONS).filter(|operation| self.ticks(*operation) > 0) {
             let (ticks, price) = (self.ticks(operation), u64::from(self.prices[operation]));

@@ -3,6 +3,7 @@
 //! image, arcs to the state, a chain or a circle of calls to the places, a reason to the refusal. Where they differ an internal error
 //! is told in its place.
 
+pub mod arguments;
 pub mod bill;
 pub mod calls;
 pub mod chart;

@@ -1,6 +1,7 @@
 //! `places`: how many places of the stack a chart needs. The number is the library's; the chain or the circle of calls is
 //! looked for here and held to it.
 
+use std::ffi::OsString;
 use std::io::Write;
 
 use fairleadow::{Answer, Library, Proved};
@@ -13,8 +14,8 @@ use crate::problem::{counted, listed, Problem};
 use crate::source::{self, Source};
 
 /// What each chart needs; those that are refused are told together at the end.
-pub fn run(files: &[String], out: &mut dyn Write) -> Result<(), Failure> {
-    each(files, out, needed)
+pub fn run(args: &[OsString], out: &mut dyn Write) -> Result<(), Failure> {
+    each(args, out, needed)
 }
 
 /// How many places a chart needs, with a longest chain of calls, or why that cannot be told.

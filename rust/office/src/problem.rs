@@ -1,9 +1,11 @@
 //! What went wrong, for a person: where, what stands there and what was expected, the rule, and what to look for.
 
+use std::ffi::OsStr;
 use std::fmt;
 
 use fairleadow::Refusal;
 
+use crate::columns::width;
 use crate::explain::rules;
 
 /// What to look for where a carriage return stands by itself.
@@ -93,15 +95,22 @@ fn shown(line: &[u8]) -> Box<str> {
 /// The most characters of a word that a message repeats.
 const LONGEST_WORD: usize = 40;
 
+/// A file's name, or a word of a call, with each character that cannot be seen as its code.
+pub fn shown_name(name: impl AsRef<OsStr>) -> String {
+    name.as_ref().to_string_lossy().chars().map(seen).collect()
+}
+
+/// A character as it stands, or its code where it cannot be seen.
+fn seen(character: char) -> String {
+    match character {
+        '\'' | '"' | '\\' => character.to_string(),
+        _ => character.escape_debug().to_string(),
+    }
+}
+
 /// A word with each character that cannot be seen as its code, cut where it is long.
 pub fn visible(word: &str) -> String {
-    let mut shown = String::new();
-    for character in word.chars().take(LONGEST_WORD) {
-        match character {
-            '\'' | '"' | '\\' => shown.push(character),
-            _ => shown.extend(character.escape_debug()),
-        }
-    }
+    let shown: String = word.chars().take(LONGEST_WORD).map(seen).collect();
     shown + if word.chars().nth(LONGEST_WORD).is_some() { "..." } else { "" }
 }
 
@@ -111,7 +120,9 @@ impl fmt::Display for Problem {
         if let Some(excerpt) = &self.excerpt {
             write!(f, "\n    {excerpt}")?;
             if let Some(column) = self.column {
-                write!(f, "\n    {:>column$}", '^')?;
+                let before: String = excerpt.chars().take(column - 1).collect();
+                let past = (column - 1).saturating_sub(excerpt.chars().count());
+                write!(f, "\n    {}^", " ".repeat(width(&before) + past))?;
             }
         }
         if let Some(refusal) = &self.refusal {

@@ -64,7 +64,7 @@ impl Plan {
         ones.map(|number| self.names.condition(number)).collect()
     }
 
-    /// The micro operations of a mask.
+    /// The outputs of a mask.
     pub fn operations(&self, mask: u32) -> Vec<String> {
         (0..32).filter(|bit| mask >> bit & 1 == 1).map(|bit| self.names.operation(bit)).collect()
     }

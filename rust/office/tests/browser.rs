@@ -53,7 +53,8 @@ impl Case {
         let made = run(&args);
         let plan = load(&path).and_then(Plan::read).expect("an accepted chart");
         let words = Words::given(words).expect("words").take(Some(ticks.parse().expect("a number")));
-        let swaps = swaps.map_or(Vec::new(), |text| swaps::given(text, words.len()).expect("swaps"));
+        let swaps =
+            swaps.map_or(Vec::new(), |text| swaps::given(text, words.len(), &plan.names).expect("swaps"));
         let places = places.parse().expect("a number");
         let trace = trace(&plan, places, &words, &swaps).expect("an accepted chart");
         assert_eq!(made.status, i32::from(trace.stopped.is_some()), "{}", made.said);

@@ -27,6 +27,23 @@ fn a_good_line_is_accepted() {
     }
 }
 
+/// A hyphen in a name is told with the rule for names.
+#[test]
+fn a_sign_in_a_name_is_told() {
+    for (line, column, name) in [
+        ("output 3 cutter-in", 10, "cutter-in"),
+        ("more: do cutter.in -> end", 10, "cutter.in"),
+        ("more-wood: do nothing -> end", 1, "more-wood"),
+        ("more: do nothing -> more/wood", 21, "more/wood"),
+    ] {
+        let told = told(&with(line));
+        assert_eq!(
+            told,
+            format!("line 9, column {column}: '{name}' is no name: a name is letters, digits and _")
+        );
+    }
+}
+
 /// 64 characters are the most of a name, wherever it stands.
 #[test]
 fn a_longer_name_than_any_may_be_is_told() {

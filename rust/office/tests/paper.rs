@@ -61,7 +61,7 @@ impl Case {
         let (path, file) = (chart.to_string_lossy(), page.to_string_lossy());
         let made = run(&["page", &path, "--words", "random:1", "--ticks", "64", "-o", &file]);
         assert_eq!(made.status, 0, "{}", made.said);
-        let plan = load(&path).and_then(Plan::read).expect("an accepted chart");
+        let plan = load(chart).and_then(Plan::read).expect("an accepted chart");
         let words = Words::given("random:1").expect("words").take(Some(64));
         let trace = trace(&plan, 32, &words, &[]).expect("an accepted chart");
         Case { page, plan, trace }

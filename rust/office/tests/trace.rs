@@ -34,15 +34,15 @@ fn the_table_of_the_paper() {
     let expected = "\
 paper.chart: 7 nodes in 2 schemes; stack of 3 places; words 0,0,1,0,0,0,0,0
 
-tick  word    conditions at 1  scheme  node        what happens  micro operations  open schemes   results at 1
-   0  0x0000  -                s1      n2 (End)    home          -                 1: s1          -
-   1  0x0000  -                s1      n1          call of s2    y0                1: s1          -
-   2  0x0001  x0               s2      n3 (Begin)  plain         -                 2: s1 > s2     -
-   3  0x0000  -                s2      n6          call of s2    y1                2: s1 > s2     -
-   4  0x0000  -                s2      n3 (Begin)  plain         -                 3: s1 > s2 x2  -
-   5  0x0000  -                s2      n5 (End)    return        -                 3: s1 > s2 x2  -
-   6  0x0000  -                s2      n5 (End)    return        -                 2: s1 > s2     -
-   7  0x0000  -                s1      n2 (End)    home          -                 1: s1          -
+tick  word    conditions at 1  scheme  node        what happens  outputs  open schemes   results at 1
+   0  0x0000  -                s1      n2 (End)    home          -        1: s1          -
+   1  0x0000  -                s1      n1          call of s2    y0       1: s1          -
+   2  0x0001  x0               s2      n3 (Begin)  plain         -        2: s1 > s2     -
+   3  0x0000  -                s2      n6          call of s2    y1       2: s1 > s2     -
+   4  0x0000  -                s2      n3 (Begin)  plain         -        3: s1 > s2 x2  -
+   5  0x0000  -                s2      n5 (End)    return        -        3: s1 > s2 x2  -
+   6  0x0000  -                s2      n5 (End)    return        -        2: s1 > s2     -
+   7  0x0000  -                s1      n2 (End)    home          -        1: s1          -
 
 8 ticks; every node and arc was taken (7 nodes, 6 arcs)
 ";
@@ -83,38 +83,6 @@ fn a_handler_starts_where_the_stack_is_full() {
         assert_eq!((ran.status, ran.said.as_str()), (0, ""));
         let expected = example(&format!("full_stack.{places}.trace"));
         assert_eq!(ran.printed, std::fs::read_to_string(expected).expect("the example's trace"));
-    }
-}
-
-/// A scheme is swapped between two blocks, and in the middle of one, as the examples have it.
-#[test]
-fn a_swap_serves_later_calls() {
-    let words = "0,0,4,0,0,0,0,0,4,4,0,0,0,0,0,0,4,0,0";
-    for (name, swaps) in [("between", "6:2=3"), ("middle", "3:2=3,10:2=2")] {
-        let ran = traced("swapped.txt", &["--words", words, "--swap", swaps]);
-        assert_eq!((ran.status, ran.said.as_str()), (0, ""));
-        let expected = example(&format!("swapped.{name}.trace"));
-        assert_eq!(ran.printed, std::fs::read_to_string(expected).expect("the example's trace"));
-    }
-}
-
-#[test]
-fn swaps_that_cannot_be_made_are_told() {
-    let swapped = |swap: &str| traced("swapped.txt", &["--words", "0,0,4,0", "--swap", swap]);
-    for swap in ["3:2=4", "3:1=2", "0:2=1", "3:17=2"] {
-        let ran = swapped(swap);
-        assert_eq!((ran.status, ran.printed.as_str()), (1, ""), "{swap}");
-        let told = format!("the swap {swap}: this number cannot be given to that scheme");
-        assert!(ran.said.contains(&told) && ran.said.contains("refusal 22"), "{}", ran.said);
-    }
-    let ran = traced("full_stack.txt", &["--words", "0", "--swap", "0:3=2"]);
-    assert!(ran.status == 1 && ran.said.contains("refusal 22"), "{}", ran.said);
-    for (swap, told) in [
-        ("2=3", "'2=3' is no swap: write TICK:NUMBER=SCHEME, such as 4:2=3"),
-        ("4:2=3", "the swap 4:2=3 comes after the last tick, 3"),
-    ] {
-        let ran = swapped(swap);
-        assert!(ran.status == 2 && ran.said.starts_with(told), "{}", ran.said);
     }
 }
 

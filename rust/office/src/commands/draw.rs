@@ -1,5 +1,6 @@
 //! `fairleadow draw`: a chart as graphviz text or as SVG.
 
+use std::ffi::OsString;
 use std::io::Write;
 
 use super::options::{Arguments, RUNNING_HELP, SWAP_HELP, TRACING};
@@ -24,7 +25,7 @@ pub const COMMAND: Command = Command {
     run,
 };
 
-fn run(args: &[String], out: &mut dyn Write) -> Result<(), Failure> {
+fn run(args: &[OsString], out: &mut dyn Write) -> Result<(), Failure> {
     let arguments = Arguments::of(args, &TRACING, &["--svg", "--trace"])?;
     if let Some(option) = TRACING.iter().find(|option| arguments.value(option).is_some()) {
         if !arguments.has("--trace") {

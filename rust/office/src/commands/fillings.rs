@@ -1,10 +1,12 @@
 //! `fairleadow fillings`: how often stacks of 1 to 32 places fill.
 
+use std::ffi::OsString;
 use std::io::Write;
 
 use fairleadow::Proved;
 
 use super::options::Arguments;
+use crate::columns::reading;
 use crate::command::{Command, Failure};
 use crate::fillings::{Drawing, Lists};
 use crate::names::Names;
@@ -26,7 +28,7 @@ lists may find no row (18).
     run,
 };
 
-fn run(args: &[String], out: &mut dyn Write) -> Result<(), Failure> {
+fn run(args: &[OsString], out: &mut dyn Write) -> Result<(), Failure> {
     let arguments = Arguments::of(args, &["--ticks", "--conditions"], &[])?;
     let (ticks, conditions) = (arguments.number("--ticks")?, arguments.number("--conditions")?);
     let subject = Subject::read(arguments.bytes()?).map_err(|problem| arguments.failure(problem))?;
@@ -38,5 +40,6 @@ fn run(args: &[String], out: &mut dyn Write) -> Result<(), Failure> {
     let no_names = Names::default();
     let names = subject.names().unwrap_or(&no_names);
     writeln!(out, "{}: {}\n", arguments.title(), drawing.title(&subject.image, names))?;
-    Ok(out.write_all(drawing.report().as_bytes())?)
+    let report = drawing.report();
+    Ok(out.write_all((report.clone() + &reading(&report).unwrap_or_default()).as_bytes())?)
 }

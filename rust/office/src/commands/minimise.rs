@@ -1,5 +1,6 @@
 //! `fairleadow minimise`: the image with its alike labels joined.
 
+use std::ffi::OsString;
 use std::io::Write;
 
 use fairleadow::{Answer, Library, Proved};
@@ -28,14 +29,14 @@ image that was patched by hand some word may match no row of a label, or two.
     run,
 };
 
-fn run(args: &[String], out: &mut dyn Write) -> Result<(), Failure> {
+fn run(args: &[OsString], out: &mut dyn Write) -> Result<(), Failure> {
     let arguments = Arguments::of(args, &["-o"], &["--force"])?;
     let file = arguments.written()?;
     let failure = |problem| arguments.failure(problem);
     let image = Subject::read(arguments.bytes()?).map_err(failure)?.image.text;
     let smaller = minimised(&image).map_err(failure)?;
     match file {
-        Some("-") => return Ok(out.write_all(&smaller)?),
+        Some(file) if file == "-" => return Ok(out.write_all(&smaller)?),
         Some(file) => {
             let told = |error| Failure::of(file, format!("the image cannot be written: {error}"));
             output::write(file, &smaller).map_err(told)?;

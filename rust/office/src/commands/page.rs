@@ -1,5 +1,6 @@
 //! `fairleadow page`: a trace as one page to step through.
 
+use std::ffi::OsString;
 use std::io::Write;
 
 use super::draw::ended;
@@ -20,7 +21,7 @@ pub const COMMAND: Command = Command {
     details: &[
         "
 The page needs nothing but a browser: the drawing, the ticks, and a slider and arrow keys that step through them and
-light up the node, the open schemes and the micro operations. One page is one chart, of at most 10000 ticks;
+light up the node, the open schemes and the outputs. One page is one chart, of at most 10000 ticks;
 FILE.html#tick=5 opens it at tick 5. It is also written where a full stack ends the ticks; the status is 1 then.
 
   -o FILE.html   where the page is written, - for standard output; the drawing is laid out by dot (Debian's package
@@ -32,7 +33,7 @@ FILE.html#tick=5 opens it at tick 5. It is also written where a full stack ends 
     run,
 };
 
-fn run(args: &[String], out: &mut dyn Write) -> Result<(), Failure> {
+fn run(args: &[OsString], out: &mut dyn Write) -> Result<(), Failure> {
     let arguments = Arguments::of(args, &[TRACING.as_slice(), &["-o"]].concat(), &["--force"])?;
     let missing = || Failure::Usage("-o FILE.html is missing".to_string());
     let file = arguments.written()?.ok_or_else(missing)?;

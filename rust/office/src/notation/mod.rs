@@ -37,7 +37,8 @@ use crate::explain;
 use crate::names::Names;
 use crate::problem::{Problem, LONE_RETURNS};
 
-pub use resolve::{output, unknown};
+pub use near::nearest;
+pub use resolve::{output, scheme, unknown};
 use statement::Statement;
 pub use words::Word;
 

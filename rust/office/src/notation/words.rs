@@ -31,6 +31,11 @@ impl Word {
             && !RESERVED.contains(&self.text.as_str())
     }
 
+    /// Whether it is made of what names are made of, and is no sign.
+    pub fn is_letters(&self) -> bool {
+        self.text.chars().all(in_word)
+    }
+
     /// As it stands, or by its code where it cannot be seen.
     pub fn shown(&self) -> String {
         visible(&self.text)

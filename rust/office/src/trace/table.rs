@@ -17,7 +17,7 @@ pub const HEADINGS: [&str; 9] = [
     "scheme",
     "node",
     "what happens",
-    "micro operations",
+    "outputs",
     "open schemes",
     "results at 1",
 ];

@@ -1,5 +1,6 @@
 //! The words that a trace is fed: a list, a file, counted up, or random from a seed.
 
+use std::ffi::OsStr;
 use std::path::Path;
 
 use crate::command::Failure;
@@ -20,7 +21,10 @@ pub enum Words {
 impl Words {
     /// From what was given: `random:SEED`, `count`, a list that begins with a digit, or the name of a file, where `-`
     /// is standard input.
-    pub fn given(text: &str) -> Result<Words, Failure> {
+    pub fn given(text: impl AsRef<OsStr>) -> Result<Words, Failure> {
+        let file = text.as_ref();
+        // what is no text can only be a file
+        let text = file.to_str().unwrap_or("");
         if text == "count" {
             return Ok(Words::Counted);
         }
@@ -31,13 +35,13 @@ impl Words {
         if text.starts_with(|first: char| first.is_ascii_digit()) {
             return listed(text).map_err(Failure::Usage);
         }
-        if !Path::new(text).exists() && text.split(',').map(str::trim).all(is_hexadecimal) {
+        if !Path::new(file).exists() && text.split(',').map(str::trim).all(is_hexadecimal) {
             let told = |message| Failure::Usage(format!("there is no file {text}, and {message}"));
             return listed(text).map_err(told);
         }
         let forms = "words are random:SEED, count, a list such as 0,1,0x8004, or a file";
-        let bytes = source::read(text).map_err(|problem| problem.advice(forms));
-        bytes.and_then(|bytes| lines(&bytes)).map_err(|problem| Failure::of(text, problem))
+        let bytes = source::read(file).map_err(|problem| problem.advice(forms));
+        bytes.and_then(|bytes| lines(&bytes)).map_err(|problem| Failure::of(file, problem))
     }
 
     /// So many words. A list is taken once where no number is given, and begins again where the number is larger.

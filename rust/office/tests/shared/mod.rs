@@ -3,6 +3,7 @@
 #![allow(dead_code)]
 
 pub mod browser;
+pub mod called;
 pub mod sheets;
 
 use std::path::{Path, PathBuf};
