@@ -5,6 +5,7 @@ pub mod dot;
 mod labels;
 
 use crate::chart::Node;
+use crate::escape::escaped;
 use crate::marking::called;
 use crate::plan::Plan;
 use crate::trace::{Arc, Coverage};
@@ -20,7 +21,7 @@ const CALL: &str = r##", style=dashed, constraint=false, color="#3f6ea8""##;
 /// What was taken.
 const TAKEN: &str = ", penwidth=2.2";
 /// What was never taken.
-const NEVER: &str = r##", color="#b3b8c0", fontcolor="#b3b8c0""##;
+const NEVER: &str = r##", color="#b3b8c0", fontcolor="#5f6672""##;
 
 /// The identifier of a node in drawing and page.
 pub fn node_id(at: usize) -> String {
@@ -38,6 +39,44 @@ pub fn call_id(plan: &Plan, at: usize, server: u8) -> String {
         true => format!("n{at}_call"),
         false => format!("n{at}_call_{server}"),
     }
+}
+
+/// The drawing as SVG, laid out by dot, whose titles, shown beside a pointer, are in the shop's words.
+pub fn svg(plan: &Plan, drawing: &str) -> Result<String, String> {
+    let svg = dot::svg(drawing)?;
+    let mut pieces = svg.split("<title>");
+    let mut named = pieces.next().unwrap_or("").to_string();
+    for piece in pieces {
+        let (title, rest) = piece.split_once("</title>").unwrap_or((piece, ""));
+        let id = named.rsplit_once("<g id=\"").and_then(|(_, group)| group.split('"').next()).unwrap_or("");
+        let title = titled(plan, id, title).map_or(title.to_string(), |title| escaped(&title));
+        named.push_str(&format!("<title>{title}</title>{rest}"));
+    }
+    Ok(named)
+}
+
+/// A node, an arc, a call or a cluster by its identifier, or by dot's own title where it has none.
+fn titled(plan: &Plan, id: &str, title: &str) -> Option<String> {
+    if let Some(scheme) = title.strip_prefix("cluster_") {
+        return Some(format!("scheme {}", plan.names.scheme(scheme.parse().ok()?)));
+    }
+    let (node, rest) = id.strip_prefix('n')?.split_once('_').unwrap_or((&id[1..], ""));
+    let at = node.parse().ok().filter(|at| *at < plan.nodes.len())?;
+    let (node, scheme) = (plan.node_title(at), plan.scheme_of(at));
+    Some(match rest.strip_prefix("call") {
+        _ if rest.is_empty() => format!("node {node} of {scheme}"),
+        None => format!("arc {}", plan.arc_title(Arc { from: at, side: rest.parse().ok()? })),
+        Some(server) => {
+            let called = called(&plan.nodes[at]);
+            let server = server.strip_prefix('_').and_then(|server| server.parse().ok()).unwrap_or(called);
+            let served = if server == called {
+                String::new()
+            } else {
+                format!(", served by {}", plan.names.scheme(server))
+            };
+            format!("call of {} at {node} of {scheme}{served}", plan.names.scheme(called))
+        }
+    })
 }
 
 /// The whole drawing with a caption, which may be empty.

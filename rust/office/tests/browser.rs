@@ -87,15 +87,33 @@ impl Case {
             assert_eq!(seen, expected, "step {step} of {}", copy.display());
         }
         assert_eq!(seen.len(), expected.len());
+        self.found(between(&dom, "<pre id=\"found\">", "</pre>"));
+    }
+
+    /// What the driver found: keys that are left alone, what can be reached by keys, and the faintest text.
+    fn found(&self, found: &str) {
+        let value = |name: &str| {
+            let line = found.lines().find_map(|line| line.strip_prefix(name)?.strip_prefix('='));
+            line.unwrap_or_else(|| panic!("{name} in {found}"))
+        };
+        assert_eq!(value("prevented"), "", "keys that are the document's");
+        assert_eq!(value("typed"), "2", "a key in a field that is typed in");
+        assert_eq!(value("entered"), "3", "a row by Enter");
+        assert_eq!(value("reached"), (self.trace.ticks.len() + self.plan.nodes.len()).to_string());
+        assert_eq!(value("unnamed"), "0", "what can be reached and has no name");
+        assert_eq!(value("fixed"), "0", "refusals that stay where the page scrolls");
+        let faintest: f64 =
+            value("contrast").split(' ').next().and_then(|ratio| ratio.parse().ok()).expect("a ratio");
+        assert!(faintest >= 4.5, "{}", value("contrast"));
     }
 
     /// The ticks that the driver's steps lead to.
     fn sequence(&self) -> Vec<usize> {
         let last = self.trace.ticks.len() - 1;
         let mut ticks: Vec<usize> = (0..=last).collect();
-        // a key at the end, Home, End, left, page up, the slider, a row, two buttons
+        // a key at the end, Home and End, which are the document's, left, page up, the slider, a row, two buttons
         let middle = last / 2;
-        ticks.extend([last, 0, last, last - 1, (last - 1).saturating_sub(10), middle, 2, 3, 2]);
+        ticks.extend([last, last, last, last - 1, last - 1, middle, 2, 3, 2]);
         // a click on the node that is lit leads to its next tick
         let node = self.trace.ticks[2].node();
         let at_node = |tick: &usize| self.trace.ticks[*tick].node() == node;

@@ -34,7 +34,9 @@ fn schemes_nodes_arcs_and_calls_are_drawn() {
     assert!(text.starts_with("digraph chart {\n") && text.ends_with("}\n"));
     assert!(text.contains("subgraph cluster_1 {") && text.contains("subgraph cluster_2 {"));
     assert!(line(text, "n5").contains("shape=diamond") && line(text, "n5").contains("<B>x2</B>"));
-    assert!(line(text, "n7").contains("<B>n7</B><BR/>y0 y1 y2<BR/>call s2<BR/>"));
+    assert!(
+        line(text, "n7").contains("<B>n7</B></TD></TR><TR><TD>y0 y1 y2</TD></TR><TR><TD>call s2</TD></TR>")
+    );
     for (node, label) in [("n0", 0), ("n3", 0), ("n6", 1), ("n1", 2), ("n4", 4), ("n8", 6)] {
         assert!(line(text, node).contains(&format!(">label {label}<")), "{node}");
     }
@@ -62,7 +64,8 @@ fn a_trace_marks_what_it_took() {
 #[test]
 fn the_handler_is_shown_and_a_dropped_call_was_not_made() {
     let text = drawn("full_stack.chart", &[]).printed;
-    assert!(line(&text, "n9").contains("Begin <B>n9</B><BR/>when the stack is full>"));
+    assert!(line(&text, "n9")
+        .contains("Begin <B>n9</B></TD></TR><TR><TD>when the stack is full</TD></TR></TABLE>"));
     assert_eq!(text.matches("when the stack is full").count(), 1);
     let ran = drawn("full_stack.chart", &["--trace", "--places", "2", "--words", "0,0,4,4,4,0,0"]);
     assert_eq!((ran.status, ran.said.as_str()), (0, ""));
@@ -163,6 +166,29 @@ fn long_lists_and_names_are_cut_in_captions() {
     let head = page.lines().find(|line| line.contains("stack of 32 places")).expect("a head");
     assert!(head.contains(",... (300 words)") && head.contains(",... (100 swaps)"), "{head}");
     assert!(head.len() < 300, "{head}");
+}
+
+/// What a pointer shows beside it is told in the shop's words, not in dot's.
+#[test]
+fn titles_are_the_shops_names() {
+    let words = ["--trace", "--words", "0,0,4,0,0,0,0,0,0,0,4,4,4,0,0,0,0", "--swap", "0:2=3"];
+    let svg = drawn("swapped.txt", &[&["--svg"], &words[..]].concat()).printed;
+    if svg.is_empty() {
+        return missing();
+    }
+    for title in [
+        "scheme roughing",
+        "node more (condition) of roughing",
+        "arc more, wood = 1 -&gt; cut of roughing",
+        "call of roughing at block of blocks",
+        "call of roughing at block of blocks, served by finer",
+    ] {
+        assert_eq!(svg.matches(&format!("<title>{title}</title>")).count(), 1, "{title}");
+    }
+    assert!(
+        !svg.contains("<title>n") || svg.matches("<title>n").count() == svg.matches("<title>node ").count()
+    );
+    assert!(!svg.contains("<title>cluster"));
 }
 
 /// Random charts: dot takes each drawing, and every node, arc and call has its group.

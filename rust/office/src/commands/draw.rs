@@ -6,7 +6,7 @@ use std::io::Write;
 use super::options::{Arguments, RUNNING_HELP, SWAP_HELP, TRACING};
 use super::trace::summary;
 use crate::command::{Command, Failure};
-use crate::draw::{dot, drawing};
+use crate::draw::{drawing, svg};
 use crate::plan::Plan;
 use crate::trace::table::{never_taken, problem};
 use crate::trace::Trace;
@@ -36,7 +36,7 @@ fn run(args: &[OsString], out: &mut dyn Write) -> Result<(), Failure> {
     let trace = arguments.has("--trace").then(|| arguments.trace(&plan)).transpose()?;
     let caption = trace.as_ref().map(|trace| caption(&arguments, &plan, trace)).unwrap_or_default();
     let text = drawing(&plan, trace.as_ref().map(|trace| &trace.coverage), &caption);
-    let text = if arguments.has("--svg") { dot::svg(&text).map_err(Failure::Refused)? } else { text };
+    let text = if arguments.has("--svg") { svg(&plan, &text).map_err(Failure::Refused)? } else { text };
     out.write_all(text.as_bytes())?;
     trace.map_or(Ok(()), |trace| ended(&arguments, &plan, &trace))
 }

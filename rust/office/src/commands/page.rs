@@ -7,7 +7,7 @@ use super::draw::ended;
 use super::options::{Arguments, FORCE_HELP, RUNNING_HELP, SWAP_HELP, TRACING};
 use super::trace::summary;
 use crate::command::{Command, Failure};
-use crate::draw::{dot, drawing};
+use crate::draw::{drawing, svg};
 use crate::output;
 use crate::page::page;
 
@@ -42,7 +42,7 @@ fn run(args: &[OsString], out: &mut dyn Write) -> Result<(), Failure> {
     if trace.ticks.len() > MOST_TICKS {
         return Err(Failure::Usage(format!("a page has at most {MOST_TICKS} ticks")));
     }
-    let svg = dot::svg(&drawing(&plan, Some(&trace.coverage), "")).map_err(Failure::Refused)?;
+    let svg = svg(&plan, &drawing(&plan, Some(&trace.coverage), "")).map_err(Failure::Refused)?;
     let page = page(&plan, &trace, &arguments.title(), &summary(&arguments, &plan, &trace), &svg);
     if file == "-" {
         out.write_all(page.as_bytes())?;

@@ -28,7 +28,8 @@ pub fn label(plan: &Plan, at: usize) -> String {
     if let Some(label) = plan.label(at) {
         lines.push(small(&format!("label {label}")));
     }
-    format!("<{}>", lines.join("<BR/>"))
+    let rows: String = lines.iter().map(|line| format!("<TR><TD>{line}</TD></TR>")).collect();
+    format!("<<TABLE BORDER=\"0\" CELLBORDER=\"0\" CELLSPACING=\"0\" CELLPADDING=\"1\">{rows}</TABLE>>")
 }
 
 /// A Begin or an End, with its name where that says something else.

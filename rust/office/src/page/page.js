@@ -106,23 +106,43 @@
     return here.find((tick) => tick > shown) ?? here[0];
   }
 
-  const keys = { ArrowLeft: -1, ArrowRight: 1, PageUp: -10, PageDown: 10, Home: -Infinity, End: Infinity };
+  // left and right step; all other keys are the document's, and all keys are a field's that is typed in
+  const keys = { ArrowLeft: -1, ArrowRight: 1 };
+  const isTyped = (one) => one.isContentEditable || (one.matches("input, textarea, select") && one !== find("slider"));
   document.addEventListener("keydown", (event) => {
-    if (!(event.key in keys) || event.ctrlKey || event.altKey || event.metaKey) return;
+    if (!(event.key in keys) || event.ctrlKey || event.altKey || event.metaKey || isTyped(event.target)) return;
     event.preventDefault();
     show(shown + keys[event.key]);
   });
+
+  // a node or a row that is reached by the Tab key does by Enter or Space what a click does
+  function reachable(one, name) {
+    one.setAttribute("tabindex", "0");
+    if (name) {
+      one.setAttribute("role", "button");
+      one.setAttribute("aria-label", name);
+    }
+    one.addEventListener("keydown", (event) => {
+      if (event.key !== "Enter" && event.key !== " ") return;
+      event.preventDefault();
+      one.dispatchEvent(new MouseEvent("click", { bubbles: true }));
+    });
+  }
   find("slider").addEventListener("input", (event) => show(Number(event.target.value)));
   find("back").addEventListener("click", () => show(shown - 1));
   find("forward").addEventListener("click", () => show(shown + 1));
   find("fit").addEventListener("change", (event) => fit(event.target.checked));
-  rows.forEach((row, tick) => row.addEventListener("click", () => show(tick)));
-  document.querySelectorAll("svg g.node").forEach((node) =>
+  rows.forEach((row, tick) => {
+    row.addEventListener("click", () => show(tick));
+    reachable(row);
+  });
+  document.querySelectorAll("svg g.node").forEach((node) => {
     node.addEventListener("click", () => {
       const tick = nextAt(node.id);
       if (tick !== undefined) show(tick);
-    })
-  );
+    });
+    reachable(node, node.querySelector("title").textContent + ": its next tick");
+  });
   window.addEventListener("hashchange", () => show(asked()));
   fit(fits());
   show(asked());
