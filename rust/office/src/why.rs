@@ -5,9 +5,10 @@ mod told;
 
 use fairleadow::{Answer, CauseReport, Library, Proved, State, TickReport};
 
+use crate::plan::Plan;
 use crate::problem::Problem;
-use crate::trace::fresh;
 use crate::trace::swaps::{self, Swap};
+use crate::trace::{fresh, Tick, Trace};
 
 pub use subject::Subject;
 pub use told::told;
@@ -47,6 +48,28 @@ pub fn asked(
     let ticked = Proved.live_tick(&table, &mut after, word);
     let cause = Proved.cause(image, &before, word);
     Ok(Asked { number, word, before, ticked, after, cause })
+}
+
+/// What made each tick of a trace go where it went, or why it took no row.
+pub fn reasons(plan: &Plan, trace: &Trace) -> Result<Vec<String>, Problem> {
+    let subject = Subject::of(plan)?;
+    let (image, table) = (&subject.image.text, subject.image.prepared()?);
+    let mut state = fresh(trace.places)?;
+    let reason = |(number, tick): (usize, &Tick)| {
+        swaps::make(&tick.swaps, number, &table, &mut state)?;
+        let (before, word) = (state, tick.word);
+        let ticked = Proved.live_tick(&table, &mut state, word);
+        let cause = Proved.cause(image, &before, word);
+        let told = told(&subject, &Asked { number, word, before, ticked, after: state, cause });
+        // the tick itself is told elsewhere
+        Ok(match told {
+            Ok(words) => words.split_once('\n').map_or(String::new(), |(_, words)| words.to_string()),
+            Err(problem) => {
+                problem.words.split_once(": ").map_or(String::new(), |(_, words)| words.to_string())
+            }
+        })
+    };
+    trace.ticks.iter().enumerate().map(reason).collect()
 }
 
 /// The library's live runs from one swap to the next, with room for each tick; counts the ticks of all.

@@ -9,7 +9,7 @@ use office::draw::{arc_id, call_id, node_id};
 use office::plan::Plan;
 use office::source::load;
 use office::trace::words::Words;
-use office::trace::{swaps, trace, Happening, Tick, Trace};
+use office::trace::{swaps, trace, Happening, Opened, Tick, Trace};
 use shared::browser::{dom, folder, found};
 use shared::{example, run};
 
@@ -26,6 +26,8 @@ fn main() {
         ("bore.txt", "2", "count", "40", None),
         ("finishing.chart", "32", "0,2,0x12", "30", None),
         ("paper.chart", "6", "1", "20", None),
+        // refused at a node that no tick took
+        ("paper.chart", "2", "random:1", "20", None),
         ("full_stack.txt", "2", "0,0,4,4,4,0,0", "30", None),
         ("swapped.txt", "32", "0,0,4,0,0,0,0,0,0,0,4,4,4,0,0,0,0", "40", Some("0:2=3,20:2=2")),
     ] {
@@ -63,9 +65,9 @@ impl Case {
 
     /// The page as it was written, opened at a tick.
     fn opens(&self, browser: &str) {
-        for tick in [5, self.trace.ticks.len() - 1] {
+        for tick in [5, self.last()] {
             let dom = dom(browser, &self.page, &format!("#tick={tick}"));
-            let node = node_id(self.trace.ticks[tick].node());
+            let node = self.stack(tick)[0].clone();
             let body = dom.split("<body").nth(1).and_then(|rest| rest.split('>').next()).expect("a body");
             assert!(body.contains(&format!("data-tick=\"{tick}\"")), "{body}");
             assert!(body.contains(&format!("data-node=\"{node}\"")), "{body}");
@@ -99,7 +101,30 @@ impl Case {
         assert_eq!(value("prevented"), "", "keys that are the document's");
         assert_eq!(value("typed"), "2", "a key in a field that is typed in");
         assert_eq!(value("entered"), "3", "a row by Enter");
-        assert_eq!(value("reached"), (self.trace.ticks.len() + self.plan.nodes.len()).to_string());
+        assert_eq!(value("field"), "4", "the tick of the field");
+        let with =
+            |output: &str, tick: &Tick| self.plan.operations(tick.mask).iter().any(|own| own == output);
+        for line in found.lines().filter_map(|line| line.strip_prefix("sought=tick with ")) {
+            let (output, tick) = line.split_once(' ').expect("a tick");
+            let first = self.trace.ticks.iter().position(|one| with(output, one)).expect("a tick with it");
+            assert_eq!(tick, first.to_string(), "{output}");
+        }
+        for line in found.lines().filter_map(|line| line.strip_prefix("line=")) {
+            let (output, ticks) = line.split_once(' ').expect("ticks");
+            let on = self.trace.ticks.iter().enumerate().filter(|(_, tick)| with(output, tick));
+            let on: Vec<String> = on.map(|(number, _)| number.to_string()).collect();
+            assert_eq!(ticks, on.join(","), "{output}");
+        }
+        assert_eq!(found.matches("\nline=").count(), found.matches("\nsought=tick with ").count());
+        assert!(
+            value("why").starts_with("it left node ") || value("why").contains(" takes no row; "),
+            "{}",
+            value("why")
+        );
+        let calls = self.trace.ticks.iter().any(|tick| matches!(tick.happening(), Happening::Call(_)));
+        assert_eq!(found.contains("sought=call of "), calls);
+        assert_eq!(found.contains("sought=refused "), self.trace.stopped.is_some());
+        assert_eq!(value("reached"), (self.last() + 1 + self.plan.nodes.len()).to_string());
         assert_eq!(value("unnamed"), "0", "what can be reached and has no name");
         assert_eq!(value("fixed"), "0", "refusals that stay where the page scrolls");
         let faintest: f64 =
@@ -109,37 +134,63 @@ impl Case {
 
     /// The ticks that the driver's steps lead to.
     fn sequence(&self) -> Vec<usize> {
-        let last = self.trace.ticks.len() - 1;
+        let last = self.last();
         let mut ticks: Vec<usize> = (0..=last).collect();
         // a key at the end, Home and End, which are the document's, left, page up, the slider, a row, two buttons
         let middle = last / 2;
         ticks.extend([last, last, last, last - 1, last - 1, middle, 2, 3, 2]);
         // a click on the node that is lit leads to its next tick
-        let node = self.trace.ticks[2].node();
-        let at_node = |tick: &usize| self.trace.ticks[*tick].node() == node;
+        let node = self.stack(2)[0].clone();
+        let at_node = |tick: &usize| self.stack(*tick)[0] == node;
         ticks.push((3..=last).chain(0..3).find(at_node).expect("tick 2 itself"));
         ticks
     }
 
     /// What is lit and shown at a tick, as the driver notes it.
     fn expected(&self, number: usize) -> String {
-        let tick = &self.trace.ticks[number];
-        let stack: Vec<String> = tick.stack.iter().rev().map(|opened| node_id(opened.node)).collect();
+        let tick = self.trace.ticks.get(number);
+        let stack = self.stack(number);
         let waiting = stack[1..].iter().filter(|node| **node != stack[0]).cloned().collect();
         let parts = [
             number.to_string(),
             stack[0].clone(),
             sorted(waiting),
-            sorted(self.lines(tick)),
+            sorted(tick.map(|tick| self.lines(tick)).unwrap_or_default()),
             stack.join(" "),
-            self.open(tick),
-            shown(&self.plan.operations(tick.mask)),
-            shown(&self.plan.results(&tick.results)),
+            self.open(number),
+            shown(&tick.map(|tick| self.plan.operations(tick.mask)).unwrap_or_default()),
+            shown(&tick.map(|tick| self.plan.results(&tick.results)).unwrap_or_default()),
             format!("tick-{number}"),
             number.to_string(),
             format!("#tick={number}"),
+            number.to_string(),
+            format!(
+                "{} of {} place{}",
+                stack.len(),
+                self.trace.places,
+                if self.trace.places == 1 { "" } else { "s" }
+            ),
         ];
         parts.join("|")
+    }
+
+    /// The last row: the last tick, or the one that was refused.
+    fn last(&self) -> usize {
+        self.trace.ticks.len() + usize::from(self.trace.stopped.is_some()) - 1
+    }
+
+    /// What is open before a tick or the refused one, the bottom first.
+    fn opened(&self, number: usize) -> &[Opened] {
+        match (self.trace.ticks.get(number), &self.trace.stopped) {
+            (Some(tick), _) => &tick.stack,
+            (None, Some(stopped)) => &stopped.stack,
+            (None, None) => panic!("there is no tick {number}"),
+        }
+    }
+
+    /// Its nodes, the innermost first.
+    fn stack(&self, number: usize) -> Vec<String> {
+        self.opened(number).iter().rev().map(|opened| node_id(opened.node)).collect()
     }
 
     /// The arcs of a tick, and the line from its call to the scheme that serves it.
@@ -152,9 +203,9 @@ impl Case {
     }
 
     /// The open schemes, the innermost first.
-    fn open(&self, tick: &Tick) -> String {
+    fn open(&self, number: usize) -> String {
         let names: Vec<String> =
-            tick.stack.iter().rev().map(|opened| self.plan.open_scheme(opened)).collect();
+            self.opened(number).iter().rev().map(|opened| self.plan.open_scheme(opened)).collect();
         names.join(", ")
     }
 }

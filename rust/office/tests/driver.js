@@ -19,6 +19,8 @@
       ids("#ticks .current").join(" "),
       find("slider").value,
       location.hash,
+      find("at").value,
+      text("depth"),
     ].join("|"));
   }
 
@@ -65,6 +67,24 @@
   found.push("typed=" + document.body.dataset.tick);
   left("Enter", find("tick-3"));
   found.push("entered=" + document.body.dataset.tick);
+  find("at").value = "4";
+  find("at").dispatchEvent(new Event("change", { bubbles: true }));
+  found.push("field=" + document.body.dataset.tick);
+  // the ticks in which an output's line is high
+  document.querySelectorAll("#graph div").forEach((row) => {
+    const levels = row.querySelector("path").getAttribute("d").match(/(?<=[MV](?:0 )?)[19](?=H)/g);
+    const high = levels.map((level, tick) => (level === "1" ? tick : -1)).filter((tick) => tick >= 0);
+    found.push("line=" + row.textContent + " " + high.join(","));
+  });
+  find("tick-2").click();
+  found.push("why=" + find("why").textContent.split("\n")[0]);
+  // each search from the last tick on finds the first
+  Array.from(find("wanted").options).forEach((option) => {
+    find("tick-" + last).click();
+    find("wanted").value = option.value;
+    find("find").click();
+    found.push("sought=" + option.value + " " + document.body.dataset.tick);
+  });
   const reached = Array.from(document.querySelectorAll("#ticks tbody tr[tabindex], svg g.node[tabindex]"));
   found.push("reached=" + reached.length);
   const controls = Array.from(document.querySelectorAll("[tabindex], button, input"));

@@ -21,7 +21,8 @@ pub const COMMAND: Command = Command {
     details: &[
         "
 The page needs nothing but a browser: the drawing, the ticks, and a slider and arrow keys that step through them and
-light up the node, the open schemes and the outputs. One page is one chart, of at most 10000 ticks;
+light up the node, the open schemes and the outputs; the outputs over time, and a search for calls, drops and outputs.
+One page is one chart, of at most 10000 ticks;
 FILE.html#tick=5 opens it at tick 5. It is also written where a full stack ends the ticks; the status is 1 then.
 
   -o FILE.html   where the page is written, - for standard output; the drawing is laid out by dot (Debian's package

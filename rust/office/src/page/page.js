@@ -71,6 +71,11 @@
     document.body.dataset.tick = String(tick);
     document.body.dataset.node = row.dataset.stack.split(" ").pop();
     find("slider").value = String(tick);
+    find("at").value = String(tick);
+    find("why").textContent = row.dataset.why || "\u2013";
+    document.querySelectorAll("#graph rect").forEach((mark) => mark.setAttribute("x", String(tick)));
+    const [depth, places] = [row.dataset.stack.split(" ").length, find("depth").dataset.places];
+    find("depth").textContent = depth + " of " + places + (places === "1" ? " place" : " places");
     find("counter").textContent = "tick " + tick + " of " + last;
     find("back").disabled = tick === 0;
     find("forward").disabled = tick === last;
@@ -105,6 +110,43 @@
     const here = rows.map((row, tick) => (row.dataset.stack.split(" ").pop() === id ? tick : -1)).filter((t) => t >= 0);
     return here.find((tick) => tick > shown) ?? here[0];
   }
+
+  // what can be looked for: each call, a drop, each output, and the refusal
+  const events = rows.map((row) => {
+    const happens = row.cells[5].textContent.split("; ").pop();
+    const outputs = Array.from(row.cells[6].querySelectorAll(".chip")).map((chip) => "tick with " + chip.textContent);
+    const call = /^(call of [^,]+|drop|refused)/.exec(happens);
+    return new Set(call ? [call[1], ...outputs] : outputs);
+  });
+  find("wanted").replaceChildren(...Array.from(new Set(events.flatMap((some) => Array.from(some)))).sort().map((name) => new Option(name)));
+  // each output over time, high in the ticks in which it is on
+  const drawn = (kind, attributes) => {
+    const one = document.createElementNS(document.querySelector("#sheet svg").namespaceURI, kind);
+    Object.entries(attributes).forEach(([name, value]) => one.setAttribute(name, value));
+    return one;
+  };
+  const named = Array.from(find("wanted").options, (option) => option.value).filter((value) => value.startsWith("tick with "));
+  named.forEach((event) => {
+    const output = event.slice("tick with ".length);
+    const levels = events.map((some) => (some.has(event) ? 1 : 9));
+    const path = levels.map((level, tick) => (tick ? "V" + level : "M0 " + level) + "H" + (tick + 1)).join("");
+    const line = drawn("svg", { viewBox: "0 0 " + rows.length + " 10", preserveAspectRatio: "none", role: "img" });
+    line.setAttribute("aria-label", output + " over time");
+    line.append(drawn("rect", { x: "0", y: "0", width: "1", height: "10" }), drawn("path", { d: path }));
+    line.addEventListener("click", (click) => show(Math.floor((click.offsetX / line.clientWidth) * rows.length)));
+    const [name, row] = [document.createElement("span"), document.createElement("div")];
+    name.textContent = output;
+    row.append(name, line);
+    find("graph").append(row);
+  });
+
+  function seek() {
+    const here = events.map((some, tick) => (some.has(find("wanted").value) ? tick : -1)).filter((tick) => tick >= 0);
+    const tick = here.find((one) => one > shown) ?? here[0];
+    if (tick !== undefined) show(tick);
+  }
+  find("find").addEventListener("click", seek);
+  find("at").addEventListener("change", (event) => show(Math.trunc(Number(event.target.value)) || 0));
 
   // left and right step; all other keys are the document's, and all keys are a field's that is typed in
   const keys = { ArrowLeft: -1, ArrowRight: 1 };

@@ -4,7 +4,8 @@ use crate::draw::{arc_id, call_id, node_id};
 use crate::escape::escaped;
 use crate::plan::Plan;
 use crate::trace::table::HEADINGS;
-use crate::trace::{Happening, Tick, Trace};
+use crate::trace::{Happening, Opened, Stopped, Tick, Trace};
+use crate::why::reasons;
 use crate::wording::{kind, word};
 
 /// The headings of the table of ticks.
@@ -12,12 +13,32 @@ pub fn headings() -> String {
     HEADINGS.iter().map(|heading| format!("<th scope=\"col\">{heading}</th>")).collect()
 }
 
-/// A row a tick, with the identifiers of what it lights.
+/// A row a tick, with the identifiers of what it lights, and one for the tick that was refused.
 pub fn ticks(plan: &Plan, trace: &Trace) -> String {
-    trace.ticks.iter().enumerate().map(|(number, tick)| row(plan, number, tick)).collect()
+    let reasons = reasons(plan, trace).unwrap_or_else(|problem| vec![problem.words; trace.ticks.len()]);
+    let made = trace.ticks.iter().zip(&reasons).enumerate();
+    let made = made.map(|(number, (tick, why))| row(plan, number, tick, why));
+    made.chain(trace.stopped.iter().map(|stopped| refused(plan, trace.ticks.len(), stopped))).collect()
 }
 
-fn row(plan: &Plan, number: usize, tick: &Tick) -> String {
+/// The tick that a refusal met: it stands at its node, puts nothing out and leaves all as it was.
+fn refused(plan: &Plan, number: usize, stopped: &Stopped) -> String {
+    let node = stopped.stack[stopped.stack.len() - 1].node;
+    let cells = [
+        number.to_string(),
+        word(stopped.word),
+        chips(&plan.conditions(stopped.word)),
+        escaped(&plan.scheme_of(node)),
+        escaped(&plan.node_title(node)),
+        format!("refused ({})", stopped.number),
+        chips(&[]),
+        escaped(&plan.open_schemes(&stopped.stack)),
+        chips(&[]),
+    ];
+    table_row(plan, number, &stopped.stack, "", cells, " class=\"refused\"")
+}
+
+fn row(plan: &Plan, number: usize, tick: &Tick, why: &str) -> String {
     let cells = [
         number.to_string(),
         word(tick.word),
@@ -29,20 +50,31 @@ fn row(plan: &Plan, number: usize, tick: &Tick) -> String {
         escaped(&plan.open_schemes(&tick.stack)),
         chips(&plan.results(&tick.results)),
     ];
+    let why = format!(" data-why=\"{}\"", escaped(why).replace('\n', "&#10;"));
+    table_row(plan, number, &tick.stack, &lines(plan, tick).join(" "), cells, &why)
+}
+
+fn table_row(
+    plan: &Plan,
+    number: usize,
+    stack: &[Opened],
+    lines: &str,
+    cells: [String; 9],
+    marks: &str,
+) -> String {
     let cells: String = cells.iter().map(|cell| format!("<td>{cell}</td>")).collect();
-    let stack: Vec<String> = tick.stack.iter().map(|opened| node_id(opened.node)).collect();
-    let lines = lines(plan, tick).join(" ");
+    let serving = serving(plan, stack);
+    let stack: Vec<String> = stack.iter().map(|opened| node_id(opened.node)).collect();
     let stack = stack.join(" ");
-    let serving = serving(plan, tick);
-    format!("<tr id=\"tick-{number}\" data-stack=\"{stack}\" data-lines=\"{lines}\"{serving}>{cells}</tr>\n")
+    format!("<tr id=\"tick-{number}\" data-stack=\"{stack}\" data-lines=\"{lines}\"{serving}{marks}>{cells}</tr>\n")
 }
 
 /// The open schemes as they are named, where one of them serves another's number; elsewhere each is that of its node.
-fn serving(plan: &Plan, tick: &Tick) -> String {
-    if tick.stack.iter().all(|opened| opened.number == plan.nodes[opened.node].scheme()) {
+fn serving(plan: &Plan, stack: &[Opened]) -> String {
+    if stack.iter().all(|opened| opened.number == plan.nodes[opened.node].scheme()) {
         return String::new();
     }
-    let names: Vec<String> = tick.stack.iter().map(|opened| escaped(&plan.open_scheme(opened))).collect();
+    let names: Vec<String> = stack.iter().map(|opened| escaped(&plan.open_scheme(opened))).collect();
     format!(" data-serving=\"{}\"", names.join("&#10;"))
 }
 

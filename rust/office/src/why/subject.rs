@@ -35,6 +35,11 @@ impl Subject {
         Ok(Subject { image, plan: Some(plan) })
     }
 
+    /// A chart that is read, with its image.
+    pub fn of(plan: &Plan) -> Result<Subject, Problem> {
+        Ok(Subject { image: plan.image.clone()?, plan: Some(plan.clone()) })
+    }
+
     /// The shop's names; an image by itself has none.
     pub fn names(&self) -> Option<&Names> {
         self.plan.as_ref().map(|plan| &plan.names)
