@@ -36,7 +36,7 @@ fn line(name: &str, [given, smaller]: [[usize; 3]; 2]) {
 }
 
 /// The sums over random charts, changed by this first.
-fn random(name: &str, change: fn(&mut Vec<Frame>)) {
+fn random(name: &str, change: fn(&mut [Frame])) {
     let (mut sums, mut drawn, mut joined) = ([[0; 3]; 2], 0, 0);
     for seed in 0..SEEDS {
         let mut records = charts::chart(&mut Random::new(seed));
@@ -53,7 +53,7 @@ fn random(name: &str, change: fn(&mut Vec<Frame>)) {
 }
 
 /// Operations with no mask but bit 0, and no result.
-fn one_operation(records: &mut Vec<Frame>) {
+fn one_operation(records: &mut [Frame]) {
     for record in records.iter_mut().filter(|record| record[0] == 2) {
         record[5..9].fill(0);
         record[9] &= 1;

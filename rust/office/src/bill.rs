@@ -1,4 +1,4 @@
-//! What a dry run costs: the ticks of each micro operation by a price list, and the library's price of the whole run.
+//! What a dry run costs: the ticks of each output by a price list, and the library's price of the whole run.
 
 pub mod prices;
 
@@ -29,26 +29,35 @@ impl Bill {
             return Err(subject.problem(answer));
         }
         masks.truncate(answer.count());
-        Ok(Bill { answer, masks, prices, price })
+        let bill = Bill { answer, masks, prices, price };
+        match (bill.sum() + 50) / 100 {
+            own if own == price => Ok(bill),
+            own => Err(Problem::internal(format!(
+                "the lines make {own} cents, and the library's price is {price}"
+            ))),
+        }
     }
 
-    /// At how many ticks a micro operation was on.
+    /// What all lines cost, in hundredths of a cent.
+    fn sum(&self) -> u64 {
+        (0..OPERATIONS).map(|operation| self.ticks(operation) * u64::from(self.prices[operation])).sum()
+    }
+
+    /// At how many ticks an output was on.
     fn ticks(&self, operation: usize) -> u64 {
         self.masks.iter().filter(|mask| **mask >> operation & 1 == 1).count() as u64
     }
 
-    /// A line for each micro operation that was on, their sum, and what the ticks cost.
+    /// A line for each output that was on, their sum, and what the ticks cost.
     pub fn report(&self, names: &Names) -> String {
-        let heading = ["micro operation", "ticks on", "cents a tick", "cents"].map(str::to_string);
-        let (mut rows, mut sum) = (vec![heading], 0);
+        let heading = ["output", "ticks on", "cents a tick", "cents"].map(str::to_string);
+        let mut rows = vec![heading];
         for operation in (0..OPERATIONS).filter(|operation| self.ticks(*operation) > 0) {
             let (ticks, price) = (self.ticks(operation), u64::from(self.prices[operation]));
             let name = names.operation(operation as u8);
             rows.push([name, thousands(ticks as usize), cents(price), cents(ticks * price)]);
-            sum += ticks * price;
         }
-        assert_eq!((sum + 50) / 100, self.price, "the lines make the library's price");
-        rows.push(["sum".to_string(), String::new(), String::new(), cents(sum)]);
+        rows.push(["sum".to_string(), String::new(), String::new(), cents(self.sum())]);
         let (ticks, price) = (counted(self.masks.len(), "tick"), counted(self.price as usize, "cent"));
         format!("{}\n{ticks}, to pay: {price}\n", aligned(&rows, |column| column > 0))
     }

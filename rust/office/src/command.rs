@@ -1,7 +1,10 @@
 //! What a command is, and how it can fail.
 
+use std::ffi::{OsStr, OsString};
 use std::fmt::{self, Display};
 use std::io::{self, Write};
+
+use crate::problem::shown_name;
 
 /// A command of the program: its name, its arguments, one line of help, the rest of its help, and what it does.
 pub struct Command {
@@ -13,7 +16,7 @@ pub struct Command {
 }
 
 /// Handed the arguments after the command's name; what it has to say goes to the writer.
-pub type Run = fn(&[String], &mut dyn Write) -> Result<(), Failure>;
+pub type Run = fn(&[OsString], &mut dyn Write) -> Result<(), Failure>;
 
 /// Why a command does not end well.
 #[derive(Debug)]
@@ -26,11 +29,18 @@ pub enum Failure {
     Output(io::Error),
 }
 
+/// How a file is called in what is told.
+pub fn file_name(path: impl AsRef<OsStr>) -> String {
+    match path.as_ref() {
+        path if path == "-" => "standard input".to_string(),
+        path => shown_name(path),
+    }
+}
+
 impl Failure {
     /// A problem of a file.
-    pub fn of(path: &str, problem: impl Display) -> Failure {
-        let name = if path == "-" { "standard input" } else { path };
-        Failure::Refused(format!("{name}: {problem}"))
+    pub fn of(path: impl AsRef<OsStr>, problem: impl Display) -> Failure {
+        Failure::Refused(format!("{}: {problem}", file_name(path)))
     }
 
     /// What several files gave: well only where none failed.
@@ -56,18 +66,5 @@ impl fmt::Display for Failure {
 impl From<io::Error> for Failure {
     fn from(error: io::Error) -> Failure {
         Failure::Output(error)
-    }
-}
-
-/// The one file that a command takes.
-pub fn one_file(arguments: &[String]) -> Result<&str, Failure> {
-    match arguments {
-        [path] if path == "-" || !path.starts_with('-') => Ok(path),
-        [] => Err(Failure::Usage("a file is missing".to_string())),
-        [option, ..] if option != "-" && option.starts_with('-') => {
-            Err(Failure::Usage(format!("no option {option}")))
-        }
-        [_, second, ..] => Err(Failure::Usage(format!("one file only, and {second} is one more"))),
-        _ => Err(Failure::Usage("a file is missing".to_string())),
     }
 }

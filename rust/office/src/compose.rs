@@ -1,19 +1,22 @@
 //! `compose` and `show`: the readable notation into chart lines, and back.
 
+use std::ffi::OsString;
 use std::io::Write;
 
 use fairleadow::{Answer, Library, Proved, RECORD, RECORDS};
 
+use crate::arguments::Given;
 use crate::check::translated;
-use crate::command::{one_file, Failure};
+use crate::command::Failure;
 use crate::kind::{has_digits, Kind};
 use crate::notation::Notation;
 use crate::problem::Problem;
 use crate::source;
 
 /// The chart lines of a file in the notation.
-pub fn compose(arguments: &[String], out: &mut dyn Write) -> Result<(), Failure> {
-    let path = one_file(arguments)?;
+pub fn compose(args: &[OsString], out: &mut dyn Write) -> Result<(), Failure> {
+    let arguments = Given::of(args, &[], &[])?;
+    let path = arguments.one_file("file")?;
     let lines = source::read(path)
         .and_then(|bytes| composed(&bytes))
         .map_err(|problem| Failure::of(path, problem))?;
@@ -34,8 +37,9 @@ fn composed(bytes: &[u8]) -> Result<Vec<u8>, Problem> {
 }
 
 /// A chart in the notation; one that is written so already is laid out anew.
-pub fn show(arguments: &[String], out: &mut dyn Write) -> Result<(), Failure> {
-    let path = one_file(arguments)?;
+pub fn show(args: &[OsString], out: &mut dyn Write) -> Result<(), Failure> {
+    let arguments = Given::of(args, &[], &[])?;
+    let path = arguments.one_file("file")?;
     let text =
         source::read(path).and_then(|bytes| shown(&bytes)).map_err(|problem| Failure::of(path, problem))?;
     Ok(out.write_all(text.as_bytes())?)

@@ -5,6 +5,7 @@ pub mod dot;
 mod labels;
 
 use crate::chart::Node;
+use crate::escape::escaped;
 use crate::marking::called;
 use crate::plan::Plan;
 use crate::trace::{Arc, Coverage};
@@ -20,7 +21,7 @@ const CALL: &str = r##", style=dashed, constraint=false, color="#3f6ea8""##;
 /// What was taken.
 const TAKEN: &str = ", penwidth=2.2";
 /// What was never taken.
-const NEVER: &str = r##", color="#b3b8c0", fontcolor="#b3b8c0""##;
+const NEVER: &str = r##", color="#b3b8c0", fontcolor="#5f6672""##;
 
 /// The identifier of a node in drawing and page.
 pub fn node_id(at: usize) -> String {
@@ -32,23 +33,64 @@ pub fn arc_id(arc: Arc) -> String {
     format!("n{}_{}", arc.from, arc.side)
 }
 
-/// The identifier of the call that a node makes.
-pub fn call_id(at: usize) -> String {
-    format!("n{at}_call")
+/// The identifier of the call that a node makes, by the scheme that serves it.
+pub fn call_id(plan: &Plan, at: usize, server: u8) -> String {
+    match server == called(&plan.nodes[at]) {
+        true => format!("n{at}_call"),
+        false => format!("n{at}_call_{server}"),
+    }
+}
+
+/// The drawing as SVG, laid out by dot, whose titles, shown beside a pointer, are in the shop's words.
+pub fn svg(plan: &Plan, drawing: &str) -> Result<String, String> {
+    let svg = dot::svg(drawing)?;
+    let mut pieces = svg.split("<title>");
+    let mut named = pieces.next().unwrap_or("").to_string();
+    for piece in pieces {
+        let (title, rest) = piece.split_once("</title>").unwrap_or((piece, ""));
+        let id = named.rsplit_once("<g id=\"").and_then(|(_, group)| group.split('"').next()).unwrap_or("");
+        let title = titled(plan, id, title).map_or(title.to_string(), |title| escaped(&title));
+        named.push_str(&format!("<title>{title}</title>{rest}"));
+    }
+    Ok(named)
+}
+
+/// A node, an arc, a call or a cluster by its identifier, or by dot's own title where it has none.
+fn titled(plan: &Plan, id: &str, title: &str) -> Option<String> {
+    if let Some(scheme) = title.strip_prefix("cluster_") {
+        return Some(format!("scheme {}", plan.names.scheme(scheme.parse().ok()?)));
+    }
+    let (node, rest) = id.strip_prefix('n')?.split_once('_').unwrap_or((&id[1..], ""));
+    let at = node.parse().ok().filter(|at| *at < plan.nodes.len())?;
+    let (node, scheme) = (plan.node_title(at), plan.scheme_of(at));
+    Some(match rest.strip_prefix("call") {
+        _ if rest.is_empty() => format!("node {node} of {scheme}"),
+        None => format!("arc {}", plan.arc_title(Arc { from: at, side: rest.parse().ok()? })),
+        Some(server) => {
+            let called = called(&plan.nodes[at]);
+            let server = server.strip_prefix('_').and_then(|server| server.parse().ok()).unwrap_or(called);
+            let served = if server == called {
+                String::new()
+            } else {
+                format!(", served by {}", plan.names.scheme(server))
+            };
+            format!("call of {} at {node} of {scheme}{served}", plan.names.scheme(called))
+        }
+    })
 }
 
 /// The whole drawing with a caption, which may be empty.
 pub fn drawing(plan: &Plan, coverage: Option<&Coverage>, caption: &str) -> String {
     let mut text = format!("digraph chart {{\n{COMMON}");
     if !caption.is_empty() {
-        text.push_str(&format!("    label={};\n", quoted(caption)));
+        text.push_str(&format!("    label={};\n", quoted(&broken(caption))));
     }
     for scheme in 1..=plan.schemes() {
         text.push_str(&cluster(plan, coverage, scheme));
     }
     for at in 0..plan.nodes.len() {
         text.push_str(&arcs(plan, coverage, at));
-        text.push_str(&call(plan, coverage, at));
+        text.push_str(&calls(plan, coverage, at));
     }
     text.push_str("}\n");
     text
@@ -97,15 +139,27 @@ fn arcs(plan: &Plan, coverage: Option<&Coverage>, from: usize) -> String {
     text
 }
 
-/// The dashed line from a call to the Begin of the scheme called.
-fn call(plan: &Plan, coverage: Option<&Coverage>, at: usize) -> String {
+/// The dashed lines from a call: to the Begin of the scheme called, and to those of others that served it.
+fn calls(plan: &Plan, coverage: Option<&Coverage>, at: usize) -> String {
     let scheme = called(&plan.nodes[at]);
     if scheme == 0 {
         return String::new();
     }
-    let begin = node_id(plan.marking.begin(scheme));
-    let taken = coverage.map(|coverage| coverage.call_taken(at));
-    format!("    {} -> {begin} [{}];\n", node_id(at), marks(&call_id(at), "call", taken))
+    let servers = coverage.into_iter().flat_map(|coverage| coverage.servers(at));
+    let others = servers.filter(|server| *server != scheme);
+    [scheme].into_iter().chain(others).map(|server| call(plan, coverage, at, server)).collect()
+}
+
+fn call(plan: &Plan, coverage: Option<&Coverage>, at: usize, server: u8) -> String {
+    let scheme = called(&plan.nodes[at]);
+    let begin = node_id(plan.marking.begin(server));
+    let taken = coverage.map(|coverage| coverage.call_taken(at, server));
+    let marks = marks(&call_id(plan, at, server), "call", taken);
+    let name = match server == scheme {
+        true => String::new(),
+        false => format!(", label={}", quoted(&format!(" for {} ", plan.names.scheme(scheme)))),
+    };
+    format!("    {} -> {begin} [{marks}{name}];\n", node_id(at))
 }
 
 /// The identifier and class of a node or a line, and how it looks: lines are bold where they were taken, and what never
@@ -120,6 +174,29 @@ fn marks(id: &str, kind: &str, taken: Option<bool>) -> String {
     let classes = format!("{kind} {class}");
     let call = if kind == "call" { CALL } else { "" };
     format!("id=\"{id}\", class=\"{}\"{call}{look}", classes.trim())
+}
+
+/// The most characters of a caption's line.
+const LONGEST_LINE: usize = 70;
+
+/// A caption in lines that are not too long: broken at spaces where there are some, else anywhere.
+fn broken(caption: &str) -> String {
+    let mut lines = Vec::new();
+    for line in caption.lines() {
+        let mut open: Vec<char> = Vec::new();
+        for word in line.split(' ') {
+            for piece in word.chars().collect::<Vec<char>>().chunks(LONGEST_LINE) {
+                if !open.is_empty() && open.len() + 1 + piece.len() > LONGEST_LINE {
+                    lines.push(std::mem::take(&mut open));
+                }
+                open.extend((!open.is_empty()).then_some(' '));
+                open.extend(piece);
+            }
+        }
+        lines.push(open);
+    }
+    let lines: Vec<String> = lines.into_iter().map(String::from_iter).collect();
+    lines.join("\n")
 }
 
 /// A text between quotation marks.

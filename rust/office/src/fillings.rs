@@ -1,11 +1,15 @@
 //! How often stacks of 1 to 32 places fill, over all lists of words of some conditions: a table, with a bar for each stack.
 
+mod drops;
+
 use fairleadow::{Answer, FillingsReport, Library, COUNTED_BITS, COUNTED_TICKS, PLACES};
 
 use crate::columns::aligned;
 use crate::image::Image;
 use crate::names::Names;
-use crate::problem::{counted, listed, thousands};
+use crate::problem::{counted, listed, thousands, Problem};
+
+use drops::{drops, Drops};
 
 /// The marks of a bar that stands for all lists.
 const WIDTH: u64 = 50;
@@ -30,10 +34,11 @@ impl Lists {
     }
 }
 
-/// What was counted of each stack, that of 1 place first.
+/// What was counted of each stack, that of 1 place first; of an image with a handler also its drops.
 pub struct Drawing {
     lists: Lists,
     stacks: Vec<FillingsReport>,
+    drops: Vec<Drops>,
 }
 
 impl Drawing {
@@ -43,7 +48,18 @@ impl Drawing {
             let counted = library.count_fillings(&image.text, places, lists.ticks, lists.conditions);
             counted.answer.ok().map(|_| counted).map_err(|_| counted.answer)
         };
-        Ok(Drawing { lists, stacks: (1..=PLACES).map(counted).collect::<Result<_, _>>()? })
+        let stacks = (1..=PLACES).map(counted).collect::<Result<_, _>>()?;
+        Ok(Drawing { lists, stacks, drops: Vec::new() })
+    }
+
+    /// With the drops, where the image has a handler.
+    pub fn with_drops(mut self, library: &dyn Library, image: &Image) -> Result<Drawing, Problem> {
+        if image.handler() != 0 {
+            let table = image.prepared()?;
+            let of_stack = |(places, stack)| drops(library, &table, places, self.lists, stack);
+            self.drops = (1..).zip(&self.stacks).map(of_stack).collect::<Result<_, _>>()?;
+        }
+        Ok(self)
     }
 
     /// How many lists there are, and which conditions they vary.
@@ -63,33 +79,50 @@ impl Drawing {
         format!("{lists} of {}; {varied}{kept}", counted(ticks, "word"))
     }
 
-    /// A line for each stack, and from how many places on none fills.
+    /// A line for each stack, and from how many places on none fills it and none drops.
     pub fn report(&self) -> String {
         let unmatched = self.stacks.iter().any(|stack| stack.unmatched > 0);
-        let heading = ["places", "fill the stack", "find no row", "share that fills it", ""];
-        let mut rows = vec![heading.map(str::to_string)];
-        for (places, stack) in (1..).zip(&self.stacks) {
-            let (full, lists) = (stack.full, stack.ended + stack.full + stack.unmatched);
-            let number = |count: u32| thousands(count as usize);
-            let share = share(full, lists);
-            rows.push([thousands(places), number(full), number(stack.unmatched), share, bar(full, lists)]);
-        }
-        let table = if unmatched {
-            aligned(&rows, |column| column < 4)
-        } else {
-            let rows: Vec<[String; 4]> = rows.into_iter().map(|[a, b, _, c, d]| [a, b, c, d]).collect();
-            aligned(&rows, |column| column < 3)
+        let drops = !self.drops.is_empty();
+        let shared = if drops { "share that finds it full" } else { "share that fills it" };
+        let row = |cells: [String; 6]| -> Vec<String> {
+            let shown = [true, true, unmatched, drops, true, true];
+            cells.into_iter().zip(shown).filter(|(_, shown)| *shown).map(|(cell, _)| cell).collect()
         };
-        format!("{table}\n{}\n", self.conclusion())
+        let heading = ["places", "fill the stack", "find no row", "drop", shared, ""];
+        let mut rows = vec![row(heading.map(str::to_string))];
+        for (at, stack) in self.stacks.iter().enumerate() {
+            let lists = stack.ended + stack.full + stack.unmatched;
+            let number = |count: u32| thousands(count as usize);
+            let of_stack =
+                self.drops.get(at).copied().unwrap_or(Drops { dropped: 0, found_full: stack.full });
+            let (share, bar) = (share(of_stack.found_full, lists), bar(of_stack.found_full, lists));
+            let counts = [stack.full, stack.unmatched, of_stack.dropped].map(number);
+            let [full, unmatched, dropped] = counts;
+            rows.push(row([thousands(at + 1), full, unmatched, dropped, share, bar]));
+        }
+        let last = rows[0].len() - 1;
+        format!("{}\n{}\n", aligned(&rows, |column| column < last), self.conclusion())
     }
 
     fn conclusion(&self) -> String {
-        match self.stacks.iter().rposition(|stack| stack.full > 0) {
-            None => "no list fills any of these stacks".to_string(),
+        let Lists { ticks, conditions } = self.lists;
+        let none =
+            format!("none of {} of {}", counted(1 << (ticks * conditions), "list"), counted(ticks, "word"));
+        let fills = match self.stacks.iter().rposition(|stack| stack.full > 0) {
+            None => format!("{none} fills any of these stacks"),
             Some(at) if at + 1 == PLACES => format!("lists fill a stack of {PLACES} places too"),
-            Some(at) if at + 2 == PLACES => format!("no list fills a stack of {PLACES} places"),
-            Some(at) => format!("no list fills a stack of {} places or more, up to {PLACES}", at + 2),
+            Some(at) if at + 2 == PLACES => format!("{none} fills a stack of {PLACES} places"),
+            Some(at) => format!("{none} fills a stack of {} places or more, up to {PLACES}", at + 2),
+        };
+        if self.drops.is_empty() {
+            return fills;
         }
+        let drops = match self.drops.iter().rposition(|drops| drops.dropped > 0) {
+            None => "none drops".to_string(),
+            Some(at) if at + 1 == PLACES => format!("lists drop on a stack of {PLACES} places too"),
+            Some(at) => format!("from {} on none drops", counted(at + 2, "place")),
+        };
+        format!("{fills}; {drops}")
     }
 }
 

@@ -20,6 +20,13 @@ impl Kind {
         }
     }
 
+    /// What a file surely holds: none where it has no line of digits or of notation, or is a page.
+    pub fn held(bytes: &[u8]) -> Option<Kind> {
+        let is_page = bytes.trim_ascii_start().starts_with(b"<");
+        let is_held = !is_page && (has_digits(bytes) || is_notation(bytes));
+        is_held.then(|| Kind::of(bytes))
+    }
+
     /// `a chart`, `an image`, `the notation`.
     pub fn named(self) -> &'static str {
         match self {
@@ -95,5 +102,17 @@ mod tests {
         assert_eq!(Kind::of(b"# 00010001000000000000FE\nscheme 1\n"), Kind::Notation);
         assert_eq!(Kind::of(b"scheme 1 Fr\xE4sen\n"), Kind::Notation);
         assert_eq!(Kind::of(b"\xFF\xFEs\0c\0"), Kind::Chart);
+    }
+
+    #[test]
+    fn files_that_hold_none_of_these_are_told_apart() {
+        assert_eq!(Kind::held(b"00010001000000000000fe\r\n"), Some(Kind::Chart));
+        assert_eq!(Kind::held(b"0F010100000000000000EF\n"), Some(Kind::Image));
+        assert_eq!(Kind::held(b"scheme 1\nbegin -> end\nend\n"), Some(Kind::Notation));
+        for other in
+            ["", "<!doctype html>\n<!-- a -> b -->\n", "0\n0x10 # feeler\n", "spindle 150\n", "Dear sirs,\n"]
+        {
+            assert_eq!(Kind::held(other.as_bytes()), None, "{other}");
+        }
     }
 }

@@ -1,12 +1,16 @@
 //! Commands of the office program.
 
+mod closed;
+
 use std::env;
-use std::ffi::OsString;
-use std::io::{self, ErrorKind, Write};
+use std::ffi::{OsStr, OsString};
+use std::io::{self, Write};
 use std::process::ExitCode;
 
+use office::arguments::unknown;
 use office::command::{Command, Failure, Run};
 use office::commands::{bill, draw, fillings, minimise, page, trace, wall, why};
+use office::printed::{Closed, Printed};
 use office::{check, compose, places};
 
 const fn command(name: &'static str, arguments: &'static str, help: &'static str, run: Run) -> Command {
@@ -45,29 +49,44 @@ fn help() -> String {
     text.push_str("\nA FILE or CHART holds chart lines or the readable notation, for check, why, bill, fillings and minimise ");
     text.push_str("also an image; - is standard input.\n");
     text.push_str(
-        "`fairleadow COMMAND --help` tells of one command. Status 1 means refused, 2 a wrong call.\n",
+        "`fairleadow help COMMAND` tells of one command, --version of the program. An option's value may stand after a = too,\n\
+         and what stands after -- is no option. Status 1 means refused, 2 a wrong call.\n",
     );
     text
 }
 
-fn is_help(argument: &String) -> bool {
+fn is_help(argument: &OsString) -> bool {
     argument == "--help" || argument == "-h"
 }
 
+/// The command of this name, or which was likely meant.
+fn named(name: &OsStr) -> Result<&'static Command, Failure> {
+    let known = || COMMANDS.iter().map(|command| command.name).chain(["help"]);
+    let told =
+        || Failure::Usage(format!("{}\n{}", unknown("command", &name.to_string_lossy(), known()), help()));
+    COMMANDS.iter().find(|command| name == command.name).ok_or_else(told)
+}
+
+/// The help of one command.
+fn help_of(command: &Command, out: &mut dyn Write) -> Result<(), Failure> {
+    writeln!(out, "{}\n{}", line(command), command.help)?;
+    Ok(command.details.iter().try_for_each(|part| writeln!(out, "{part}"))?)
+}
+
 /// Runs what was asked for.
-fn run(arguments: &[String], out: &mut dyn Write) -> Result<(), Failure> {
+fn run(arguments: &[OsString], out: &mut dyn Write) -> Result<(), Failure> {
     let Some((name, rest)) = arguments.split_first() else {
         return Err(Failure::Usage(help()));
     };
-    if is_help(name) {
-        return Ok(out.write_all(help().as_bytes())?);
+    match (name.to_str(), rest) {
+        (Some("--help" | "-h" | "help"), []) => return Ok(out.write_all(help().as_bytes())?),
+        (Some("help"), [command, ..]) => return help_of(named(command)?, out),
+        (Some("--version"), _) => return Ok(writeln!(out, "fairleadow {}", env!("CARGO_PKG_VERSION"))?),
+        _ => {}
     }
-    let Some(command) = COMMANDS.iter().find(|command| command.name == name) else {
-        return Err(Failure::Usage(format!("no command {name}\n{}", help())));
-    };
-    if rest.iter().any(is_help) {
-        writeln!(out, "{}\n{}", line(command), command.help)?;
-        return Ok(command.details.iter().try_for_each(|part| writeln!(out, "{part}"))?);
+    let command = named(name)?;
+    if rest.iter().take_while(|word| *word != "--").any(is_help) {
+        return help_of(command, out);
     }
     (command.run)(rest, out).map_err(|failure| match failure {
         Failure::Usage(why) => Failure::Usage(format!("{why}\n{}", line(command))),
@@ -75,25 +94,24 @@ fn run(arguments: &[String], out: &mut dyn Write) -> Result<(), Failure> {
     })
 }
 
-/// The arguments, which are text.
-fn arguments() -> Result<Vec<String>, Failure> {
-    let told = |word: OsString| {
-        Failure::Usage(format!("{} is not in UTF-8: give such a file as -, by <", word.to_string_lossy()))
-    };
-    env::args_os().skip(1).map(|word| word.into_string().map_err(told)).collect()
+/// The status of a command, which tells on standard error how it failed.
+fn status(failure: &Failure) -> u8 {
+    // Where standard error cannot be written either, the status is all that is left to tell.
+    drop(io::stderr().write_all(format!("{}\n", failure.to_string().trim_end()).as_bytes()));
+    match failure {
+        Failure::Usage(_) => 2,
+        Failure::Refused(_) | Failure::Output(_) => 1,
+    }
 }
 
 fn main() -> ExitCode {
-    let mut out = io::stdout().lock();
-    let done = arguments().and_then(|arguments| run(&arguments, &mut out)).and_then(|()| Ok(out.flush()?));
-    let Err(failure) = done else {
-        return ExitCode::SUCCESS;
-    };
-    match failure {
-        // Whoever read the output has enough of it.
-        Failure::Output(error) if error.kind() == ErrorKind::BrokenPipe => return ExitCode::SUCCESS,
-        // Where standard error cannot be written either, the status is all that is left to tell.
-        _ => drop(io::stderr().write_all(format!("{}\n", failure.to_string().trim_end()).as_bytes())),
-    }
-    ExitCode::from(if matches!(failure, Failure::Usage(_)) { 2 } else { 1 })
+    let to: Box<dyn Write> =
+        if closed::standard_output() { Box::new(Closed) } else { Box::new(io::stdout().lock()) };
+    let mut out = Printed::to(to);
+    let arguments: Vec<OsString> = env::args_os().skip(1).collect();
+    let done = run(&arguments, &mut out);
+    // what was refused is told whether or not anybody reads the output, and a lost output after it
+    let lost = out.lost().map(Failure::Output);
+    let statuses = done.err().into_iter().chain(lost).map(|failure| status(&failure));
+    ExitCode::from(statuses.max().unwrap_or(0))
 }

@@ -1,5 +1,7 @@
 //! Labels by the marking method: which nodes take a tick, and the label that the machine keeps for each.
 
+pub mod held;
+
 use crate::chart::Node;
 
 /// The nodes of the Begins and Ends by scheme, and the nodes of labels 2 up.
@@ -78,6 +80,11 @@ impl Marking {
             return Some(1);
         }
         self.labelled.binary_search(&node).ok().map(|place| place + 2)
+    }
+
+    /// How many labels there are.
+    pub fn labels(&self) -> usize {
+        self.labelled.len() + 2
     }
 
     /// Whether a node takes a tick. The tick of label 0 is that of scheme 1's End.

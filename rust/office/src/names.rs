@@ -1,4 +1,4 @@
-//! The shop's names for nodes, schemes, conditions and micro operations.
+//! The shop's names for nodes, schemes, conditions and outputs.
 
 use std::collections::BTreeMap;
 

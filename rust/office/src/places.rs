@@ -1,6 +1,7 @@
-//! `places`: how many places of the stack a chart needs. The number is the library's, the chain or the circle of calls is
-//! looked for here.
+//! `places`: how many places of the stack a chart needs. The number is the library's; the chain or the circle of calls is
+//! looked for here and held to it.
 
+use std::ffi::OsString;
 use std::io::Write;
 
 use fairleadow::{Answer, Library, Proved};
@@ -13,8 +14,8 @@ use crate::problem::{counted, listed, Problem};
 use crate::source::{self, Source};
 
 /// What each chart needs; those that are refused are told together at the end.
-pub fn run(files: &[String], out: &mut dyn Write) -> Result<(), Failure> {
-    each(files, out, needed)
+pub fn run(args: &[OsString], out: &mut dyn Write) -> Result<(), Failure> {
+    each(args, out, needed)
 }
 
 /// How many places a chart needs, with a longest chain of calls, or why that cannot be told.
@@ -29,7 +30,7 @@ pub fn needed(bytes: &[u8]) -> Result<String, Problem> {
 /// What an accepted chart needs, in words.
 pub fn told(source: &Source) -> Result<String, Problem> {
     let plan = Plan::read(source.clone())?;
-    match (Proved.places(&source.text), Calls::of(&plan.nodes)) {
+    match held(Proved.places(&source.text), Calls::of(&plan.nodes))? {
         (Answer::Done(places), Calls::Chain(schemes)) => {
             let names: Vec<String> = schemes.iter().map(|scheme| plan.names.scheme(*scheme)).collect();
             Ok(format!("needs {}: {}", counted(places, "place"), names.join(" > ")))
@@ -41,6 +42,31 @@ pub fn told(source: &Source) -> Result<String, Problem> {
     }
 }
 
+/// The library's answer with what is found here, or how they differ: a number of places needs a chain of as many schemes, and
+/// refusal 20 a circle.
+fn held(answer: Answer, calls: Calls) -> Result<(Answer, Calls), Problem> {
+    let (found, agrees) = match (&calls, answer) {
+        (Calls::Chain(schemes), Answer::Done(places)) => {
+            (format!("a chain of {} is found", counted(schemes.len(), "scheme")), schemes.len() == places)
+        }
+        (Calls::Chain(_), Answer::Refused { number, .. }) => {
+            ("no circle of calls is found".to_string(), number != 20)
+        }
+        (Calls::Circle(_), answer) => ("a circle of calls is found".to_string(), answer.number() != 0),
+    };
+    match agrees {
+        true => Ok((answer, calls)),
+        false => Err(Problem::internal(format!("{found}, and the library {}", answered(answer)))),
+    }
+}
+
+fn answered(answer: Answer) -> String {
+    match answer {
+        Answer::Done(places) => format!("says {}", counted(places, "place")),
+        Answer::Refused { number, .. } => format!("refuses with {number}"),
+    }
+}
+
 /// A circle of calls by the names of its schemes.
 fn round(plan: &Plan, nodes: &[usize]) -> String {
     let names: Vec<String> = nodes.iter().map(|node| plan.scheme_of(*node)).collect();
@@ -48,5 +74,30 @@ fn round(plan: &Plan, nodes: &[usize]) -> String {
         [] => String::new(),
         [one] => format!("{one} calls itself"),
         [first, others @ ..] => format!("{first} calls itself through {}", listed(others)),
+    }
+}
+
+#[cfg(test)]
+mod tests {
+    use super::*;
+
+    #[test]
+    fn chains_and_circles_that_the_library_does_not_bear_out_are_told() {
+        let refused = |number| Answer::Refused { number, index: 0, count: 0 };
+        let (chain, circle) = (|| Calls::Chain(vec![1, 3]), || Calls::Circle(vec![4]));
+        for (answer, calls) in [(Answer::Done(2), chain()), (refused(20), circle()), (refused(10), chain())] {
+            assert_eq!(held(answer, calls.clone()), Ok((answer, calls)));
+        }
+        for (answer, calls, told) in [
+            (Answer::Done(3), chain(), "a chain of 2 schemes is found, and the library says 3 places"),
+            (Answer::Done(1), chain(), "a chain of 2 schemes is found, and the library says 1 place"),
+            (refused(20), chain(), "no circle of calls is found, and the library refuses with 20"),
+            (Answer::Done(2), circle(), "a circle of calls is found, and the library says 2 places"),
+        ] {
+            assert_eq!(
+                held(answer, calls).expect_err("they differ").words,
+                format!("internal error: {told}")
+            );
+        }
     }
 }

@@ -1,9 +1,11 @@
-//! An accepted chart, ready to be traced and drawn: its nodes, the shop's names and its labels.
+//! An accepted chart, ready to be traced and drawn: its nodes, the shop's names, its image and its labels.
 
 use fairleadow::{Answer, Library, Proved, RECORD, RECORDS};
 
 use crate::chart::{nodes, Node};
-use crate::marking::{self, Marking};
+use crate::check::translated;
+use crate::image::Image;
+use crate::marking::{self, held, Marking};
 use crate::names::Names;
 use crate::problem::Problem;
 use crate::source::Source;
@@ -14,17 +16,29 @@ pub struct Plan {
     pub nodes: Vec<Node>,
     pub names: Names,
     pub marking: Marking,
+    /// The conditions that some node tests, as a mask.
+    pub tested: u16,
+    /// The library's image, or why there is none: a chart that is read can have too many rows.
+    pub image: Result<Image, Problem>,
 }
 
 impl Plan {
-    /// Reads a chart with the proved reader, or tells why it is refused.
+    /// Reads a chart with the proved reader, or tells why it is refused. Its labels are those of the image.
     pub fn read(source: Source) -> Result<Plan, Problem> {
         let mut records = [0; RECORDS];
         match Proved.read_chart(&source.text, &mut records) {
             Answer::Done(count) => {
                 let nodes = nodes(&records[..RECORD * count]);
                 let marking = Marking::of(&nodes);
-                Ok(Plan { names: source.names.clone(), source, nodes, marking })
+                let image = translated(&source).map(Image::accepted);
+                if let Ok(image) = &image {
+                    held::to_image(&nodes, &marking, image)?;
+                }
+                let tested = nodes.iter().fold(0, |tested, node| match node {
+                    Node::Condition { number, .. } => tested | 1 << number,
+                    _ => tested,
+                });
+                Ok(Plan { names: source.names.clone(), source, nodes, marking, tested, image })
             }
             refused => Err(source.problem(refused)),
         }
@@ -37,6 +51,11 @@ impl Plan {
     /// The scheme that is performed when the stack is full, 0 for none.
     pub fn handler(&self) -> u8 {
         marking::handler(&self.nodes)
+    }
+
+    /// The label of a node; without an image there are none.
+    pub fn label(&self, node: usize) -> Option<usize> {
+        self.image.as_ref().ok().and_then(|_| self.marking.label(node))
     }
 
     /// How many arcs the chart has.

@@ -1,9 +1,11 @@
 //! What went wrong, for a person: where, what stands there and what was expected, the rule, and what to look for.
 
+use std::ffi::OsStr;
 use std::fmt;
 
 use fairleadow::Refusal;
 
+use crate::columns::width;
 use crate::explain::rules;
 
 /// What to look for where a carriage return stands by itself.
@@ -38,6 +40,16 @@ impl Problem {
         }
     }
 
+    /// Where what is found here differs from what the library answers. No file is at fault then.
+    pub fn internal(what: impl fmt::Display) -> Problem {
+        let advice = "nothing in the file: tell the makers of this program, and trust nothing that it says of this file";
+        Problem::new(format!("{INTERNAL}{what}")).advice(advice)
+    }
+
+    pub fn is_internal(&self) -> bool {
+        self.words.starts_with(INTERNAL)
+    }
+
     /// What stands at a line and a column.
     pub fn at(line: usize, column: usize, what: impl fmt::Display) -> Problem {
         let words = format!("line {line}, column {column}: {what}");
@@ -67,6 +79,9 @@ impl Problem {
     }
 }
 
+/// How an internal error begins.
+const INTERNAL: &str = "internal error: ";
+
 /// Longer lines are not shown.
 const LONGEST_EXCERPT: usize = 160;
 
@@ -80,15 +95,22 @@ fn shown(line: &[u8]) -> Box<str> {
 /// The most characters of a word that a message repeats.
 const LONGEST_WORD: usize = 40;
 
+/// A file's name, or a word of a call, with each character that cannot be seen as its code.
+pub fn shown_name(name: impl AsRef<OsStr>) -> String {
+    name.as_ref().to_string_lossy().chars().map(seen).collect()
+}
+
+/// A character as it stands, or its code where it cannot be seen.
+fn seen(character: char) -> String {
+    match character {
+        '\'' | '"' | '\\' => character.to_string(),
+        _ => character.escape_debug().to_string(),
+    }
+}
+
 /// A word with each character that cannot be seen as its code, cut where it is long.
 pub fn visible(word: &str) -> String {
-    let mut shown = String::new();
-    for character in word.chars().take(LONGEST_WORD) {
-        match character {
-            '\'' | '"' | '\\' => shown.push(character),
-            _ => shown.extend(character.escape_debug()),
-        }
-    }
+    let shown: String = word.chars().take(LONGEST_WORD).map(seen).collect();
     shown + if word.chars().nth(LONGEST_WORD).is_some() { "..." } else { "" }
 }
 
@@ -98,7 +120,9 @@ impl fmt::Display for Problem {
         if let Some(excerpt) = &self.excerpt {
             write!(f, "\n    {excerpt}")?;
             if let Some(column) = self.column {
-                write!(f, "\n    {:>column$}", '^')?;
+                let before: String = excerpt.chars().take(column - 1).collect();
+                let past = (column - 1).saturating_sub(excerpt.chars().count());
+                write!(f, "\n    {}^", " ".repeat(width(&before) + past))?;
             }
         }
         if let Some(refusal) = &self.refusal {
@@ -127,6 +151,16 @@ pub fn counted(count: usize, thing: &str) -> String {
     format!("{} {thing}{plural}", thousands(count))
 }
 
+/// The most characters of a list that a caption has.
+const LONGEST_LIST: usize = 60;
+
+/// A list with commas between its pieces; a long one is cut, with how many pieces there are of this thing.
+pub fn shortened(list: &str, thing: &str) -> String {
+    let Some((end, _)) = list.char_indices().nth(LONGEST_LIST) else { return list.to_string() };
+    let kept = list[..end].rfind(',').unwrap_or(end);
+    format!("{},... ({})", &list[..kept], counted(list.split(',').count(), thing))
+}
+
 /// `a`, `a and b`, `a, b and c`.
 pub fn listed(things: &[String]) -> String {
     match things {
@@ -146,6 +180,15 @@ mod tests {
         assert_eq!(thousands(1_048_576), "1,048,576");
         assert_eq!((counted(1, "row"), counted(1_024, "row")), ("1 row".into(), "1,024 rows".into()));
         assert_eq!(listed(&["a".into(), "b".into(), "c".into()]), "a, b and c");
+    }
+
+    #[test]
+    fn a_long_list_is_cut_with_how_many_there_are() {
+        let list = |count: usize| vec!["0x10"; count].join(",");
+        assert_eq!(shortened(&list(12), "word"), list(12));
+        assert_eq!(shortened(&list(13), "word"), format!("{},... (13 words)", list(12)));
+        assert_eq!(shortened(&list(1_300), "word"), format!("{},... (1,300 words)", list(12)));
+        assert!(shortened(&"ö".repeat(9_000), "swap").ends_with("ö,... (1 swap)"));
     }
 
     #[test]

@@ -1,5 +1,6 @@
 //! A chart from a file: its lines as they are sent, and the names that stand beside them.
 
+use std::ffi::OsStr;
 use std::fs::{self, File};
 use std::io::{self, ErrorKind, Read};
 
@@ -63,7 +64,7 @@ pub fn from_either(bytes: &[u8]) -> Result<Source, Problem> {
 }
 
 /// A chart from a file of either sort; `-` is standard input.
-pub fn load(path: &str) -> Result<Source, Problem> {
+pub fn load(path: impl AsRef<OsStr>) -> Result<Source, Problem> {
     from_either(&read(path)?)
 }
 
@@ -72,7 +73,8 @@ const LONGEST: usize = 1 << 20;
 const _: () = assert!(CHART_TEXT < LONGEST && IMAGE_TEXT < LONGEST);
 
 /// The bytes of a file; `-` is standard input.
-pub fn read(path: &str) -> Result<Vec<u8>, Problem> {
+pub fn read(path: impl AsRef<OsStr>) -> Result<Vec<u8>, Problem> {
+    let path = path.as_ref();
     let bytes = if path == "-" { limited(io::stdin()) } else { file(path) };
     let bytes = bytes.map_err(|error| Problem::new(unreadable(&error)))?;
     if bytes.len() > LONGEST {
@@ -82,7 +84,7 @@ pub fn read(path: &str) -> Result<Vec<u8>, Problem> {
     Ok(bytes)
 }
 
-fn file(path: &str) -> io::Result<Vec<u8>> {
+fn file(path: &OsStr) -> io::Result<Vec<u8>> {
     if fs::metadata(path)?.is_dir() {
         return Err(ErrorKind::IsADirectory.into());
     }

@@ -5,11 +5,10 @@ mod told;
 
 use fairleadow::{Answer, CauseReport, Library, Proved, State, TickReport};
 
-use crate::explain;
-use crate::kind::Kind;
+use crate::plan::Plan;
 use crate::problem::Problem;
-use crate::trace::fresh;
 use crate::trace::swaps::{self, Swap};
+use crate::trace::{fresh, Tick, Trace};
 
 pub use subject::Subject;
 pub use told::told;
@@ -34,32 +33,55 @@ pub fn asked(
     tick: Option<usize>,
 ) -> Result<Asked, Problem> {
     let image = &subject.image.text;
+    let table = subject.image.prepared()?;
     let start = fresh(places)?;
-    let (answer, _) = run(image, &start, words, swaps)?;
+    let (answer, _) = run(&table, &start, words, swaps)?;
     let last = answer.count().min(words.len() - 1);
     let number = tick.unwrap_or(last);
     if number > last {
-        let ended = explain::refusal(image, Kind::Image, answer);
+        let ended = subject.problem(answer);
         return Err(Problem { words: format!("tick {number} is not reached: {}", ended.words), ..ended });
     }
-    let (_, mut before) = run(image, &start, &words[..number], swaps)?;
-    swaps::make(swaps, number, image, &mut before)?;
+    let (_, mut before) = run(&table, &start, &words[..number], swaps)?;
+    swaps::make(swaps, number, &table, &mut before)?;
     let (word, mut after) = (words[number], before);
-    let ticked = Proved.tick(image, &mut after, word);
+    let ticked = Proved.live_tick(&table, &mut after, word);
     let cause = Proved.cause(image, &before, word);
     Ok(Asked { number, word, before, ticked, after, cause })
 }
 
-/// The library's runs from one swap to the next, with room for each tick; counts the ticks of all.
-fn run(image: &[u8], start: &State, words: &[u16], swaps: &[Swap]) -> Result<(Answer, State), Problem> {
+/// What made each tick of a trace go where it went, or why it took no row.
+pub fn reasons(plan: &Plan, trace: &Trace) -> Result<Vec<String>, Problem> {
+    let subject = Subject::of(plan)?;
+    let (image, table) = (&subject.image.text, subject.image.prepared()?);
+    let mut state = fresh(trace.places)?;
+    let reason = |(number, tick): (usize, &Tick)| {
+        swaps::make(&tick.swaps, number, &table, &mut state)?;
+        let (before, word) = (state, tick.word);
+        let ticked = Proved.live_tick(&table, &mut state, word);
+        let cause = Proved.cause(image, &before, word);
+        let told = told(&subject, &Asked { number, word, before, ticked, after: state, cause });
+        // the tick itself is told elsewhere
+        Ok(match told {
+            Ok(words) => words.split_once('\n').map_or(String::new(), |(_, words)| words.to_string()),
+            Err(problem) => {
+                problem.words.split_once(": ").map_or(String::new(), |(_, words)| words.to_string())
+            }
+        })
+    };
+    trace.ticks.iter().enumerate().map(reason).collect()
+}
+
+/// The library's live runs from one swap to the next, with room for each tick; counts the ticks of all.
+fn run(table: &[u8], start: &State, words: &[u16], swaps: &[Swap]) -> Result<(Answer, State), Problem> {
     let mut state = *start;
     let mut made = 0;
     while made < words.len() {
-        swaps::make(swaps, made, image, &mut state)?;
+        swaps::make(swaps, made, table, &mut state)?;
         let next = swaps.iter().map(|swap| swap.tick).filter(|tick| *tick > made).min();
         let part = &words[made..next.unwrap_or(words.len()).min(words.len())];
         let (answer, after) =
-            Proved.run(image, &state, part, &mut vec![0; part.len()], &mut vec![0; part.len()]);
+            Proved.live_run(table, &state, part, &mut vec![0; part.len()], &mut vec![0; part.len()]);
         if let Answer::Refused { number, index, count } = answer {
             return Ok((Answer::Refused { number, index, count: made + count }, after));
         }

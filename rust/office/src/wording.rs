@@ -2,10 +2,16 @@
 
 use crate::chart::Node;
 use crate::plan::Plan;
+use crate::trace::swaps::Swap;
 use crate::trace::{Arc, Happening, Opened, Tick};
 
 /// What stands where a list is empty.
 pub const NONE: &str = "-";
+
+/// A word as `--words` takes it.
+pub fn word(word: u16) -> String {
+    format!("0x{word:04X}")
+}
 
 /// Names in a row, or a dash.
 pub fn listed(names: &[String]) -> String {
@@ -52,18 +58,13 @@ impl Plan {
         format!("{}{value} -> {target} of {}", self.names.node(arc.from), self.scheme_of(arc.from))
     }
 
-    /// Whether some node of the chart tests this condition.
-    pub fn tests(&self, condition: u8) -> bool {
-        self.nodes.iter().any(|node| matches!(node, Node::Condition { number, .. } if *number == condition))
-    }
-
     /// The conditions that are 1 in a word, of those that the chart tests.
     pub fn conditions(&self, word: u16) -> Vec<String> {
-        let ones = (0..16).filter(|number| word >> number & 1 == 1 && self.tests(*number));
+        let ones = (0..16).filter(|number| (word & self.tested) >> number & 1 == 1);
         ones.map(|number| self.names.condition(number)).collect()
     }
 
-    /// The micro operations of a mask.
+    /// The outputs of a mask.
     pub fn operations(&self, mask: u32) -> Vec<String> {
         (0..32).filter(|bit| mask >> bit & 1 == 1).map(|bit| self.names.operation(bit)).collect()
     }
@@ -74,8 +75,22 @@ impl Plan {
         ones.map(|scheme| self.names.scheme(scheme)).collect()
     }
 
-    /// What a tick does. Which schemes a drop drops is told by those that are open.
+    /// A swap that was made, by the names of its schemes.
+    pub fn swapped(&self, swap: &Swap) -> String {
+        let name = |number: usize| self.names.scheme(number as u8);
+        match swap.number == swap.scheme {
+            true => format!("{} now serves its own calls", name(swap.scheme)),
+            false => format!("{} now serves {}", name(swap.scheme), name(swap.number)),
+        }
+    }
+
+    /// The swaps made right before a tick, and what it does. Which schemes a drop drops is told by those that are open.
     pub fn happening(&self, tick: &Tick) -> String {
+        let swaps = tick.swaps.iter().map(|swap| self.swapped(swap));
+        swaps.chain([self.own_happening(tick)]).collect::<Vec<String>>().join("; ")
+    }
+
+    fn own_happening(&self, tick: &Tick) -> String {
         match (tick.happening(), tick.stack.len()) {
             (Happening::Plain, _) => "plain".to_string(),
             (Happening::Return, 1) => "return to home".to_string(),
@@ -95,17 +110,30 @@ impl Plan {
     /// How many schemes are open, and which, the bottom first; equal ones in a row are named once, with their number. One that
     /// serves another's number is named with it.
     pub fn open_schemes(&self, stack: &[Opened]) -> String {
-        let scheme = |opened: &Opened| (self.nodes[opened.node].scheme(), opened.number);
-        let schemes: Vec<(u8, u8)> = stack.iter().map(scheme).collect();
+        let schemes: Vec<(u8, u8)> = stack.iter().map(|opened| self.opened(opened)).collect();
         let groups: Vec<String> = schemes.chunk_by(|a, b| a == b).map(|group| self.repeated(group)).collect();
         format!("{}: {}", stack.len(), groups.join(" > "))
     }
 
+    /// An open scheme, and the number that it was called by.
+    fn opened(&self, opened: &Opened) -> (u8, u8) {
+        (self.nodes[opened.node].scheme(), opened.number)
+    }
+
+    /// An open scheme by its name, and what it serves where that is another's number.
+    pub fn open_scheme(&self, opened: &Opened) -> String {
+        self.served(self.opened(opened))
+    }
+
+    fn served(&self, (scheme, number): (u8, u8)) -> String {
+        match scheme == number {
+            true => self.names.scheme(scheme),
+            false => format!("{} for {}", self.names.scheme(scheme), self.names.scheme(number)),
+        }
+    }
+
     fn repeated(&self, group: &[(u8, u8)]) -> String {
-        let name = match group[0] {
-            (scheme, number) if scheme == number => self.names.scheme(scheme),
-            (scheme, number) => format!("{} for {}", self.names.scheme(scheme), self.names.scheme(number)),
-        };
+        let name = self.served(group[0]);
         match group.len() {
             1 => name,
             count => format!("{name} x{count}"),

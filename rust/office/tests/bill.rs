@@ -31,7 +31,7 @@ fn the_example_has_its_bill() {
 
 /// The same run of the chart's lines and of its image, which have no names.
 #[test]
-fn without_names_micro_operations_go_by_their_numbers() {
+fn without_names_outputs_go_by_their_numbers() {
     let prices = list("numbered.prices", "y0 150\ny1 35\ny2 225\ny3 30\n");
     for name in ["roughing.chart", "roughing.image"] {
         let ran = billed(&example(name), &prices, &["--words", WORDS]);
@@ -39,12 +39,12 @@ fn without_names_micro_operations_go_by_their_numbers() {
         let expected = format!(
             "{name}: stack of 32 places; words {WORDS}; prices numbered.prices
 
-micro operation  ticks on  cents a tick  cents
-y0                      7          1.50  10.50
-y1                      3          0.35   1.05
-y2                      3          2.25   6.75
-y3                      4          0.30   1.20
-sum                                      19.50
+output  ticks on  cents a tick  cents
+y0             7          1.50  10.50
+y1             3          0.35   1.05
+y2             3          2.25   6.75
+y3             4          0.30   1.20
+sum                             19.50
 
 17 ticks, to pay: 20 cents
 "
@@ -61,18 +61,18 @@ fn a_run_that_is_stopped_is_billed_as_far_as_it_came() {
     assert_eq!(ran.said, format!("{}: ended by refusal 17 after 5 ticks\n", example("roughing.txt")));
     let expected = "roughing.txt: stack of 3 places; words 0,0,4,0,4,0,4,0,0,0,0,0,0,0,0,0,0; prices roughing.prices
 
-micro operation  ticks on  cents a tick  cents
-spindle                 2          1.50   3.00
-feed                    1          0.35   0.35
-cutter_in               1          2.25   2.25
-sum                                       5.60
+output     ticks on  cents a tick  cents
+spindle           2          1.50   3.00
+feed              1          0.35   0.35
+cutter_in         1          2.25   2.25
+sum                                 5.60
 
 5 ticks, to pay: 6 cents
 
 after 5 ticks a call finds the stack full
   refusal 17: a call needs a free place of the stack, or a handler that is not at the bottom of it
-  look for: a chart or a handler that calls deeper than the stack has places: give it more (32 at most; `fairleadow places` \
-                    tells how many it needs), or let it call less deep
+  look for: a chart that calls itself, for which no number of places is enough whatever the words: more places (32 at most), \
+                    words by which it calls less deep, or a handler, which starts when the stack is full
 ";
     assert_eq!(ran.printed, expected);
 }
@@ -90,7 +90,7 @@ fn an_image_without_a_row_is_billed_as_far_as_it_came() {
     assert_eq!(ran.said, format!("{image}: ended by refusal 18 after 2 ticks\n"));
     let told =
         "2 ticks, to pay: 0 cents\n\nafter 2 ticks no row of the label matches the word\n  refusal 18: ";
-    assert!(ran.printed.contains("y0                      1          0.49   0.49\n"), "{}", ran.printed);
+    assert!(ran.printed.contains("y0             1          0.49   0.49\n"), "{}", ran.printed);
     assert!(ran.printed.contains(told), "{}", ran.printed);
 }
 
@@ -101,18 +101,17 @@ fn what_has_no_price_costs_nothing() {
     let ran = billed(&example("roughing.txt"), &prices, &["--words", "0,0,4,0"]);
     assert_eq!((ran.status, ran.said.as_str()), (0, ""));
     let table = "
-micro operation  ticks on  cents a tick  cents
-spindle                 2          0.00   0.00
-feed                    1          1.00   1.00
-cutter_in               1          0.00   0.00
-sum                                       1.00
+output     ticks on  cents a tick  cents
+spindle           2          0.00   0.00
+feed              1          1.00   1.00
+cutter_in         1          0.00   0.00
+sum                                 1.00
 
 4 ticks, to pay: 1 cent
 ";
     assert!(ran.printed.ends_with(table), "{}", ran.printed);
     let ran = billed(&example("home.chart"), &list("y0.prices", "y0 5\n"), &["--words", "0", "--ticks", "2"]);
-    let table =
-        "\nmicro operation  ticks on  cents a tick  cents\nsum                                       0.00\n";
+    let table = "\noutput  ticks on  cents a tick  cents\nsum                              0.00\n";
     assert!(ran.printed.contains(table) && ran.printed.ends_with("\n2 ticks, to pay: 0 cents\n"));
 }
 
@@ -123,7 +122,7 @@ fn as_many_ticks_as_there_may_be() {
     let (chart, prices) = (list("long.txt", text), list("long.prices", "all 65535\n"));
     let ran = billed(&chart, &prices, &["--words", "1", "--ticks", "65536"]);
     assert_eq!((ran.status, ran.said.as_str()), (0, ""));
-    let line = "all                65,535        655.35  42,948,362.25\n";
+    let line = "all       65,535        655.35  42,948,362.25\n";
     assert!(ran.printed.contains(line), "{}", ran.printed);
     assert!(ran.printed.ends_with("\n65,536 ticks, to pay: 42,948,362 cents\n"), "{}", ran.printed);
     let ran = billed(&chart, &prices, &["--words", "1", "--ticks", "65537"]);
@@ -135,10 +134,7 @@ fn as_many_ticks_as_there_may_be() {
 #[test]
 fn prices_that_cannot_be_read_are_told_with_their_line() {
     let faults = [
-        (
-            "spindle 150\nfeeed 35\n",
-            "line 2, column 1: no micro operation is named 'feeed'; 'feed' is near to it",
-        ),
+        ("spindle 150\nfeeed 35\n", "line 2, column 1: no output is named 'feeed'; 'feed' is near to it"),
         ("spindle 1.50\n", "line 1, column 9: '1.50' is no price"),
         ("spindle 150\n\nspindle 140\n", "line 3, column 1: 'spindle' has a price already (line 1)"),
         ("feed 65536\n", "line 1, column 6: '65536' is more than 65535, the highest price"),
@@ -153,7 +149,8 @@ fn prices_that_cannot_be_read_are_told_with_their_line() {
     }
     // the chart's lines have no names
     let ran = billed(&example("roughing.chart"), &example("roughing.prices"), &[]);
-    let told = "line 2, column 1: no micro operation is named 'spindle'\n    spindle      150\n    ^\n  look for: this chart";
+    let told =
+        "line 2, column 1: no output is named 'spindle'\n    spindle      150\n    ^\n  look for: this chart";
     assert!(ran.status == 1 && ran.said.contains(told), "{}", ran.said);
     let ran = billed(&example("roughing.txt"), &example("no.prices"), &[]);
     assert_eq!((ran.status, ran.said), (1, format!("{}: there is no such file\n", example("no.prices"))));

@@ -3,40 +3,35 @@
 
 mod shared;
 
-use std::path::{Path, PathBuf};
-use std::process::{Command, Stdio};
+use std::path::PathBuf;
 
 use office::draw::{arc_id, call_id, node_id};
 use office::plan::Plan;
 use office::source::load;
 use office::trace::words::Words;
-use office::trace::{trace, Happening, Tick, Trace};
+use office::trace::{swaps, trace, Happening, Opened, Tick, Trace};
+use shared::browser::{dom, folder, found};
 use shared::{example, run};
 
 /// Steps a page and notes what is lit after each step.
 const DRIVER: &str = include_str!("driver.js");
-const BROWSERS: [&str; 2] = ["chromium", "chromium-browser"];
-
-fn installed(program: &str) -> bool {
-    let asked = Command::new(program).arg("--version").stdout(Stdio::null()).stderr(Stdio::null()).status();
-    asked.is_ok()
-}
 
 fn main() {
-    if !installed("dot") {
-        return println!("browser test left out: dot is not installed (Debian's package graphviz)");
-    }
-    let Some(browser) = BROWSERS.into_iter().find(|name| installed(name)) else {
-        return println!("browser test left out: no Chromium is installed (Debian's package chromium)");
+    let browser = match found() {
+        Ok(browser) => browser,
+        Err(missing) => return println!("browser test left out: {missing}"),
     };
-    for (chart, places, words, ticks) in [
-        ("roughing.txt", "32", "random:1", "64"),
-        ("bore.txt", "2", "count", "40"),
-        ("finishing.chart", "32", "0,2,0x12", "30"),
-        ("paper.chart", "6", "1", "20"),
-        ("full_stack.txt", "2", "0,0,4,4,4,0,0", "30"),
+    for (chart, places, words, ticks, swaps) in [
+        ("roughing.txt", "32", "random:1", "64", None),
+        ("bore.txt", "2", "count", "40", None),
+        ("finishing.chart", "32", "0,2,0x12", "30", None),
+        ("paper.chart", "6", "1", "20", None),
+        // refused at a node that no tick took
+        ("paper.chart", "2", "random:1", "20", None),
+        ("full_stack.txt", "2", "0,0,4,4,4,0,0", "30", None),
+        ("swapped.txt", "32", "0,0,4,0,0,0,0,0,0,0,4,4,4,0,0,0,0", "40", Some("0:2=3,20:2=2")),
     ] {
-        let case = Case::make(chart, places, words, ticks);
+        let case = Case::make(chart, places, words, ticks, swaps);
         case.opens(browser);
         case.steps(browser);
         println!("page of {chart} in {browser}: {} ticks as traced", case.trace.ticks.len());
@@ -51,22 +46,28 @@ struct Case {
 }
 
 impl Case {
-    fn make(chart: &str, places: &str, words: &str, ticks: &str) -> Case {
+    fn make(chart: &str, places: &str, words: &str, ticks: &str, swaps: Option<&str>) -> Case {
         let page = folder().join(format!("{chart}.html"));
         let (path, file) = (example(chart), page.to_string_lossy());
-        let made = run(&["page", &path, "--places", places, "--words", words, "--ticks", ticks, "-o", &file]);
+        let mut args =
+            vec!["page", &path, "--places", places, "--words", words, "--ticks", ticks, "-o", &file];
+        args.extend(swaps.into_iter().flat_map(|swaps| ["--swap", swaps]));
+        let made = run(&args);
         let plan = load(&path).and_then(Plan::read).expect("an accepted chart");
         let words = Words::given(words).expect("words").take(Some(ticks.parse().expect("a number")));
-        let trace = trace(&plan, places.parse().expect("a number"), &words, &[]).expect("an accepted chart");
+        let swaps =
+            swaps.map_or(Vec::new(), |text| swaps::given(text, words.len(), &plan.names).expect("swaps"));
+        let places = places.parse().expect("a number");
+        let trace = trace(&plan, places, &words, &swaps).expect("an accepted chart");
         assert_eq!(made.status, i32::from(trace.stopped.is_some()), "{}", made.said);
         Case { page, plan, trace }
     }
 
     /// The page as it was written, opened at a tick.
     fn opens(&self, browser: &str) {
-        for tick in [5, self.trace.ticks.len() - 1] {
+        for tick in [5, self.last()] {
             let dom = dom(browser, &self.page, &format!("#tick={tick}"));
-            let node = node_id(self.trace.ticks[tick].node());
+            let node = self.stack(tick)[0].clone();
             let body = dom.split("<body").nth(1).and_then(|rest| rest.split('>').next()).expect("a body");
             assert!(body.contains(&format!("data-tick=\"{tick}\"")), "{body}");
             assert!(body.contains(&format!("data-node=\"{node}\"")), "{body}");
@@ -88,50 +89,125 @@ impl Case {
             assert_eq!(seen, expected, "step {step} of {}", copy.display());
         }
         assert_eq!(seen.len(), expected.len());
+        self.found(between(&dom, "<pre id=\"found\">", "</pre>"));
+    }
+
+    /// What the driver found: keys that are left alone, what can be reached by keys, and the faintest text.
+    fn found(&self, found: &str) {
+        let value = |name: &str| {
+            let line = found.lines().find_map(|line| line.strip_prefix(name)?.strip_prefix('='));
+            line.unwrap_or_else(|| panic!("{name} in {found}"))
+        };
+        assert_eq!(value("prevented"), "", "keys that are the document's");
+        assert_eq!(value("typed"), "2", "a key in a field that is typed in");
+        assert_eq!(value("entered"), "3", "a row by Enter");
+        assert_eq!(value("field"), "4", "the tick of the field");
+        let with =
+            |output: &str, tick: &Tick| self.plan.operations(tick.mask).iter().any(|own| own == output);
+        for line in found.lines().filter_map(|line| line.strip_prefix("sought=tick with ")) {
+            let (output, tick) = line.split_once(' ').expect("a tick");
+            let first = self.trace.ticks.iter().position(|one| with(output, one)).expect("a tick with it");
+            assert_eq!(tick, first.to_string(), "{output}");
+        }
+        for line in found.lines().filter_map(|line| line.strip_prefix("line=")) {
+            let (output, ticks) = line.split_once(' ').expect("ticks");
+            let on = self.trace.ticks.iter().enumerate().filter(|(_, tick)| with(output, tick));
+            let on: Vec<String> = on.map(|(number, _)| number.to_string()).collect();
+            assert_eq!(ticks, on.join(","), "{output}");
+        }
+        assert_eq!(found.matches("\nline=").count(), found.matches("\nsought=tick with ").count());
+        assert!(
+            value("why").starts_with("it left node ") || value("why").contains(" takes no row; "),
+            "{}",
+            value("why")
+        );
+        let calls = self.trace.ticks.iter().any(|tick| matches!(tick.happening(), Happening::Call(_)));
+        assert_eq!(found.contains("sought=call of "), calls);
+        assert_eq!(found.contains("sought=refused "), self.trace.stopped.is_some());
+        assert_eq!(value("reached"), (self.last() + 1 + self.plan.nodes.len()).to_string());
+        assert_eq!(value("unnamed"), "0", "what can be reached and has no name");
+        assert_eq!(value("fixed"), "0", "refusals that stay where the page scrolls");
+        let faintest: f64 =
+            value("contrast").split(' ').next().and_then(|ratio| ratio.parse().ok()).expect("a ratio");
+        assert!(faintest >= 4.5, "{}", value("contrast"));
     }
 
     /// The ticks that the driver's steps lead to.
     fn sequence(&self) -> Vec<usize> {
-        let last = self.trace.ticks.len() - 1;
+        let last = self.last();
         let mut ticks: Vec<usize> = (0..=last).collect();
-        // a key at the end, Home, End, left, page up, the slider, a row, two buttons
+        // a key at the end, Home and End, which are the document's, left, page up, the slider, a row, two buttons
         let middle = last / 2;
-        ticks.extend([last, 0, last, last - 1, (last - 1).saturating_sub(10), middle, 2, 3, 2]);
+        ticks.extend([last, last, last, last - 1, last - 1, middle, 2, 3, 2]);
         // a click on the node that is lit leads to its next tick
-        let node = self.trace.ticks[2].node();
-        let at_node = |tick: &usize| self.trace.ticks[*tick].node() == node;
+        let node = self.stack(2)[0].clone();
+        let at_node = |tick: &usize| self.stack(*tick)[0] == node;
         ticks.push((3..=last).chain(0..3).find(at_node).expect("tick 2 itself"));
         ticks
     }
 
     /// What is lit and shown at a tick, as the driver notes it.
     fn expected(&self, number: usize) -> String {
-        let tick = &self.trace.ticks[number];
-        let stack: Vec<String> = tick.stack.iter().rev().map(|opened| node_id(opened.node)).collect();
+        let tick = self.trace.ticks.get(number);
+        let stack = self.stack(number);
         let waiting = stack[1..].iter().filter(|node| **node != stack[0]).cloned().collect();
         let parts = [
             number.to_string(),
             stack[0].clone(),
             sorted(waiting),
-            sorted(lines(tick)),
+            sorted(tick.map(|tick| self.lines(tick)).unwrap_or_default()),
             stack.join(" "),
-            shown(&self.plan.operations(tick.mask)),
-            shown(&self.plan.results(&tick.results)),
+            self.open(number),
+            shown(&tick.map(|tick| self.plan.operations(tick.mask)).unwrap_or_default()),
+            shown(&tick.map(|tick| self.plan.results(&tick.results)).unwrap_or_default()),
             format!("tick-{number}"),
             number.to_string(),
             format!("#tick={number}"),
+            number.to_string(),
+            format!(
+                "{} of {} place{}",
+                stack.len(),
+                self.trace.places,
+                if self.trace.places == 1 { "" } else { "s" }
+            ),
         ];
         parts.join("|")
     }
-}
 
-/// The arcs and the call of a tick.
-fn lines(tick: &Tick) -> Vec<String> {
-    let mut lines: Vec<String> = tick.arcs.iter().map(|arc| arc_id(*arc)).collect();
-    if let Happening::Call(_) = tick.happening() {
-        lines.push(call_id(tick.node()));
+    /// The last row: the last tick, or the one that was refused.
+    fn last(&self) -> usize {
+        self.trace.ticks.len() + usize::from(self.trace.stopped.is_some()) - 1
     }
-    lines
+
+    /// What is open before a tick or the refused one, the bottom first.
+    fn opened(&self, number: usize) -> &[Opened] {
+        match (self.trace.ticks.get(number), &self.trace.stopped) {
+            (Some(tick), _) => &tick.stack,
+            (None, Some(stopped)) => &stopped.stack,
+            (None, None) => panic!("there is no tick {number}"),
+        }
+    }
+
+    /// Its nodes, the innermost first.
+    fn stack(&self, number: usize) -> Vec<String> {
+        self.opened(number).iter().rev().map(|opened| node_id(opened.node)).collect()
+    }
+
+    /// The arcs of a tick, and the line from its call to the scheme that serves it.
+    fn lines(&self, tick: &Tick) -> Vec<String> {
+        let mut lines: Vec<String> = tick.arcs.iter().map(|arc| arc_id(*arc)).collect();
+        if let Happening::Call(_) = tick.happening() {
+            lines.push(call_id(&self.plan, tick.node(), tick.server));
+        }
+        lines
+    }
+
+    /// The open schemes, the innermost first.
+    fn open(&self, number: usize) -> String {
+        let names: Vec<String> =
+            self.opened(number).iter().rev().map(|opened| self.plan.open_scheme(opened)).collect();
+        names.join(", ")
+    }
 }
 
 fn sorted(mut names: Vec<String>) -> String {
@@ -159,30 +235,4 @@ fn lit(dom: &str) -> Vec<String> {
 fn between<'a>(text: &'a str, before: &str, after: &str) -> &'a str {
     let rest = text.split_once(before).map_or("", |(_, rest)| rest);
     rest.split(after).next().unwrap_or("")
-}
-
-fn folder() -> PathBuf {
-    Path::new(env!("CARGO_TARGET_TMPDIR")).to_path_buf()
-}
-
-/// The page's document after its scripts have run. A browser that crashes is started once more.
-fn dom(browser: &str, page: &Path, fragment: &str) -> String {
-    let url = format!("file://{}{fragment}", page.display());
-    for _ in 0..2 {
-        let profile = folder().join("profile");
-        let output = Command::new("timeout")
-            .args(["120", browser, "--headless", "--no-sandbox", "--disable-gpu", "--disable-dev-shm-usage"])
-            .args(["--no-first-run", "--disable-extensions", "--disable-background-networking"])
-            .arg(format!("--user-data-dir={}", profile.display()))
-            .args(["--virtual-time-budget=10000", "--dump-dom", &url])
-            .env("HOME", folder())
-            .output()
-            .expect("timeout starts");
-        let dom = String::from_utf8_lossy(&output.stdout).into_owned();
-        if output.status.success() && dom.trim_end().ends_with("</html>") {
-            return dom;
-        }
-        eprintln!("{browser} ended with {}: {}", output.status, String::from_utf8_lossy(&output.stderr));
-    }
-    panic!("{browser} does not show {url}");
 }

@@ -6,6 +6,10 @@ use std::fs;
 use std::path::{Path, PathBuf};
 use std::process::Command;
 
+use office::plan::Plan;
+use office::source::load;
+use office::trace::{trace, Tick};
+
 fn top() -> PathBuf {
     Path::new(env!("CARGO_MANIFEST_DIR")).join("../..")
 }
@@ -45,6 +49,33 @@ fn each_command_prints_what_the_page_shows() {
     assert!(commands.len() >= 9);
     for (command, shown) in commands {
         assert_eq!(printed(&command), shown, "{command}");
+    }
+}
+
+/// The outputs over time that the page draws are those of the ticks.
+#[test]
+fn the_picture_over_time_is_that_of_the_ticks() {
+    let page = fs::read_to_string(top().join("docs/CHARTS.md")).expect("the page");
+    let (_, picture) = page.split_once("```\ntick ").expect("a picture over time");
+    let picture = picture.split("```").next().expect("its lines");
+    let path = top().join("examples/swapped.txt");
+    let plan = load(&path).and_then(Plan::read).expect("an example");
+    let trace = trace(&plan, 32, &[0, 0, 4, 0, 0, 0, 0], &[]).expect("an example");
+    let lines: Vec<(&str, Vec<&str>)> = picture
+        .lines()
+        .skip(2)
+        .filter_map(|line| {
+            let (name, ticks) = line.split_once(' ')?;
+            let ticks = ticks.trim_start();
+            Some((name, (0..ticks.len() / 9).map(|tick| &ticks[9 * tick..9 * tick + 9]).collect()))
+        })
+        .collect();
+    let outputs: Vec<&str> = lines.iter().map(|(name, _)| *name).filter(|name| *name != "valve").collect();
+    assert_eq!(outputs, ["clamp", "spindle", "feed", "cutter_in", "cutter_back", "unclamp"]);
+    for (name, ticks) in lines.iter().filter(|(name, _)| *name != "valve") {
+        let on = |tick: &Tick| plan.operations(tick.mask).iter().any(|output| output == name);
+        let wanted = trace.ticks.iter().map(|tick| if on(tick) { "#########" } else { "........." });
+        assert!(ticks.iter().copied().eq(wanted), "{name}: {ticks:?}");
     }
 }
 

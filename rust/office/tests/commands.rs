@@ -1,85 +1,10 @@
-//! The program as it is called: what it prints, where, and its exit status.
+//! The commands check, compose and show: what they print, where, and their exit status.
 
-use std::io::Write;
-use std::path::{Path, PathBuf};
-use std::process::{Command, Stdio};
-use std::{env, fs};
+mod shared;
 
-/// Exit status, standard output and standard error.
-type Said = (i32, String, String);
+use std::fs;
 
-fn fairleadow(arguments: &[&str], input: &[u8]) -> Said {
-    let mut child = Command::new(env!("CARGO_BIN_EXE_fairleadow"))
-        .args(arguments)
-        .stdin(Stdio::piped())
-        .stdout(Stdio::piped())
-        .stderr(Stdio::piped())
-        .spawn()
-        .expect("the program starts");
-    // A wrong call reads nothing.
-    let _ = child.stdin.take().expect("a pipe").write_all(input);
-    let output = child.wait_with_output().expect("it ends");
-    let text = |bytes: Vec<u8>| String::from_utf8(bytes).expect("text");
-    (output.status.code().expect("a status"), text(output.stdout), text(output.stderr))
-}
-
-fn example(name: &str) -> PathBuf {
-    Path::new(env!("CARGO_MANIFEST_DIR")).join("../../examples").join(name)
-}
-
-fn path(name: &str) -> String {
-    example(name).to_str().expect("a path").to_string()
-}
-
-fn file(name: &str) -> String {
-    fs::read_to_string(example(name)).expect("an example")
-}
-
-/// A file of this test alone.
-fn written(name: &str, text: &str) -> String {
-    let path = env::temp_dir().join(format!("fairleadow-{}-{name}", std::process::id()));
-    fs::write(&path, text).expect("a file");
-    path.to_str().expect("a path").to_string()
-}
-
-#[test]
-fn help_and_wrong_calls() {
-    let (status, help, none) = fairleadow(&["--help"], b"");
-    assert_eq!((status, none.as_str()), (0, ""));
-    assert!(help.starts_with("usage: fairleadow COMMAND ARGUMENTS\n"));
-    for name in ["check FILE", "compose FILE", "show FILE", "places FILE"] {
-        assert!(help.lines().any(|line| line.trim_start().starts_with(name) && line.len() > 30), "{name}");
-    }
-    assert!(
-        help.contains("for check, why, bill, fillings and minimise also an image; - is standard input.\n"),
-        "{help}"
-    );
-    assert_eq!(fairleadow(&["-h"], b"").1, help);
-    assert_eq!(fairleadow(&[], b""), (2, String::new(), help.clone()));
-    let (status, out, told) = fairleadow(&["chekc", "x"], b"");
-    assert_eq!((status, out.as_str()), (2, ""));
-    assert_eq!(told, format!("no command chekc\n{help}"));
-}
-
-#[test]
-fn each_command_has_a_usage_line() {
-    for name in ["check", "compose", "show", "places"] {
-        let (status, out, _) = fairleadow(&[name, "--help"], b"");
-        assert_eq!(status, 0);
-        assert!(
-            out.starts_with(&format!("usage: fairleadow {name} FILE")) && out.lines().count() == 2,
-            "{out}"
-        );
-        let usage = out.lines().next().unwrap();
-        assert_eq!(fairleadow(&[name], b""), (2, String::new(), format!("a file is missing\n{usage}\n")));
-        assert_eq!(
-            fairleadow(&[name, "--fast"], b""),
-            (2, String::new(), format!("no option --fast\n{usage}\n"))
-        );
-    }
-    let told = "one file only, and b is one more\nusage: fairleadow show FILE\n";
-    assert_eq!(fairleadow(&["show", "a", "b"], b""), (2, String::new(), told.to_string()));
-}
+use shared::called::{fairleadow, file, path, written};
 
 #[test]
 fn check_accepts_charts_images_and_the_notation() {
@@ -89,14 +14,54 @@ fn check_accepts_charts_images_and_the_notation() {
     let chart = "accepted: a chart of 9 nodes in 2 schemes; its image has 7 labels and 6 rows; \
                  may need any number of places:";
     assert!(lines[0].ends_with(&format!("roughing.chart: {chart} s2 calls itself")));
-    assert!(lines[1].ends_with("roughing.image: accepted: an image of 2 schemes, 7 labels and 6 rows"));
+    assert!(lines[1]
+        .starts_with("  warning: line 8, column 5: y0 is on here and again in line 9, and off between"));
+    assert!(lines[2].ends_with("roughing.image: accepted: an image of 2 schemes, 7 labels and 6 rows"));
     let texts = [(file("roughing.txt"), "roughing"), (file("roughing.chart").to_lowercase(), "s2")];
     for (text, name) in texts {
-        let said = fairleadow(&["check", "-"], text.as_bytes());
-        assert_eq!(said, (0, format!("standard input: {chart} {name} calls itself\n"), String::new()));
+        let (status, out, told) = fairleadow(&["check", "-"], text.as_bytes());
+        assert_eq!((status, told.as_str()), (0, ""));
+        assert_eq!(out.lines().next(), Some(format!("standard input: {chart} {name} calls itself").as_str()));
     }
     let (status, out, _) = fairleadow(&["check", "-"], file("roughing.image").to_lowercase().as_bytes());
     assert!(status == 0 && out.contains("accepted: an image of 2 schemes"), "{out}");
+}
+
+/// A chart with all that is likely not meant is accepted, and each is told by its line.
+#[test]
+fn check_warns_of_what_was_likely_not_meant() {
+    let chart = "condition 1 idle\noutput 0 clamp\noutput 1 idler\noutput 2 feed\n\nscheme 1\nbegin -> hold\n\
+                 hold: do clamp, feed; call cut -> keep\nkeep: do clamp -> ask\nask: if call cut then go else go\n\
+                 go: do clamp -> end\nend\n\nscheme 2 cut\nbegin -> in\nin: do feed; write 0 -> end\nend\n\n\
+                 scheme 3 spare\nbegin -> end\nend\n\nscheme 4 full\nbegin when the stack is full -> end\nend\n";
+    let (status, out, told) = fairleadow(&["check", "-"], chart.as_bytes());
+    assert_eq!((status, told.as_str()), (0, ""));
+    let lines: Vec<&str> = out.lines().collect();
+    assert!(lines[0].starts_with("standard input: accepted: a chart of 13 nodes in 4 schemes;"), "{out}");
+    let warnings = [
+        "line 1: condition 1 is named idle, and no node asks it",
+        "line 3: output 1 is named idler, and no node puts it out",
+        "line 8 (node hold): clamp is on here and again in keep (line 9), and off between them, in the tick of the called \
+         scheme's End at least",
+        "line 10 (node ask): both arcs lead to go (line 11), so nothing is decided here",
+        "line 10 (node ask): scheme cut never writes 1, so this function goes on as on a 0, unless another scheme serves its \
+         call",
+        "line 10 (node ask): clamp is on in keep (line 9) and again in go (line 11), and off between them, in the function's \
+         own tick at least",
+        "line 20 (begin): no other scheme calls scheme spare: only a swap opens it",
+    ];
+    assert_eq!(lines[1..], warnings.map(|words| format!("  warning: {words}")));
+    // by the lines of digits too, where there are no names
+    let lines = fairleadow(&["compose", "-"], chart.as_bytes()).1;
+    let out = fairleadow(&["check", "-"], lines.as_bytes()).1;
+    assert_eq!(out.lines().count(), 6);
+    assert!(
+        out.contains("\n  warning: line 4, column 7: both arcs lead to 04 (line 5), so nothing"),
+        "{out}"
+    );
+    for name in ["bore", "branches", "home", "paper", "two_blocks"] {
+        assert_eq!(fairleadow(&["check", &path(&format!("{name}.txt"))], b"").1.lines().count(), 1, "{name}");
+    }
 }
 
 #[test]
@@ -114,6 +79,41 @@ fn check_tells_refusals_with_status_1() {
     assert!(out.contains("home.chart: accepted") && out.lines().count() == 1);
     assert!(told.contains("bad.chart: line 2, column 21") && told.contains("empty.chart: the file is empty"));
     for path in [&paths[0], &paths[2]] {
+        fs::remove_file(path).expect("it was written");
+    }
+}
+
+/// Every name as long as a name may be, in every command that prints names, and one that is longer.
+#[test]
+fn long_names_go_through_every_command() {
+    let chart = |length: usize| {
+        let name = |first: &str| format!("{first}{}", "w".repeat(length - 1));
+        let [condition, output, scheme, node] = ["c", "o", "s", "n"].map(name);
+        format!(
+            "condition 2 {condition}\noutput 0 {output}\nscheme 1\nbegin -> {node}\n{node}: do {output} -> ask\n\
+             ask: if {condition} then call_it else end\ncall_it: call {scheme} -> end\nend\n\
+             scheme 2 {scheme}\nbegin -> end\nend\n"
+        )
+    };
+    let prices = written("long.prices", "y0 1\n");
+    let (longest, longer) = (written("longest.txt", &chart(64)), written("longer.txt", &chart(65_536)));
+    for (command, rest) in [
+        ("check", vec![]),
+        ("places", vec![]),
+        ("trace", vec!["--words", "4", "--ticks", "20"]),
+        ("bill", vec!["--prices", &prices, "--words", "4", "--ticks", "20"]),
+        ("draw", vec!["--svg"]),
+        ("page", vec!["-o", "-", "--words", "4"]),
+    ] {
+        let said = |chart: &str| fairleadow(&[&[command, chart], &rest[..]].concat(), b"");
+        let (status, _, told) = said(&longest);
+        assert!(status == 0 || told.starts_with("dot is not installed"), "{command}: {told}");
+        let (status, out, told) = said(&longer);
+        assert_eq!((status, out.as_str()), (1, ""), "{command}");
+        assert!(told.contains("longer.txt: line 1, column 13: the name 'cwwww"), "{command}: {told}");
+        assert!(told.contains("...' has 65,536 characters, and 64 are the most\n"), "{command}: {told}");
+    }
+    for path in [prices, longest, longer] {
         fs::remove_file(path).expect("it was written");
     }
 }
@@ -194,46 +194,4 @@ fn compose_tells_what_is_no_notation() {
         told.starts_with("standard input: there is no node in it\n  refusal 1: a chart has 1 to 256 nodes, "),
         "{told}"
     );
-}
-
-#[test]
-fn a_name_that_is_no_text_is_a_wrong_call() {
-    use std::os::unix::ffi::OsStrExt;
-    let name = std::ffi::OsStr::from_bytes(b"Fr\xE4ser.chart");
-    let ran =
-        Command::new(env!("CARGO_BIN_EXE_fairleadow")).arg("check").arg(name).output().expect("it ends");
-    assert_eq!(ran.status.code(), Some(2));
-    let told = String::from_utf8(ran.stderr).expect("text");
-    assert!(told.starts_with("Fr\u{FFFD}ser.chart is not in UTF-8"), "{told}");
-}
-
-/// A device that takes nothing: the output is told to be lost, and what cannot be told leaves its status.
-#[test]
-fn a_full_device_is_told_and_keeps_the_status() {
-    let full = || Stdio::from(fs::File::options().write(true).open("/dev/full").expect("a device"));
-    let program = || Command::new(env!("CARGO_BIN_EXE_fairleadow"));
-    let ran = program().args(["show", &path("paper.chart")]).stdout(full()).output().expect("it ends");
-    let told = String::from_utf8(ran.stderr).expect("text");
-    assert!(told.starts_with("the output cannot be written: No space left on device"), "{told}");
-    assert_eq!(ran.status.code(), Some(1));
-    for (arguments, status) in [(vec!["check", "no/such.chart"], 1), (vec!["chekc"], 2), (vec!["show"], 2)] {
-        let ran = program().args(&arguments).stderr(full()).output().expect("it ends");
-        assert_eq!(ran.status.code(), Some(status), "{arguments:?}");
-    }
-}
-
-/// A reader that has enough is no fault.
-#[test]
-fn a_closed_pipe_is_no_fault() {
-    let mut child = Command::new(env!("CARGO_BIN_EXE_fairleadow"))
-        .args(["show", "-"])
-        .stdin(Stdio::piped())
-        .stdout(Stdio::piped())
-        .stderr(Stdio::piped())
-        .spawn()
-        .expect("the program starts");
-    drop(child.stdout.take());
-    child.stdin.take().expect("a pipe").write_all(file("paper.chart").as_bytes()).expect("it reads");
-    let output = child.wait_with_output().expect("it ends");
-    assert!(output.status.success() && output.stderr.is_empty());
 }

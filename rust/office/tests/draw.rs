@@ -34,7 +34,9 @@ fn schemes_nodes_arcs_and_calls_are_drawn() {
     assert!(text.starts_with("digraph chart {\n") && text.ends_with("}\n"));
     assert!(text.contains("subgraph cluster_1 {") && text.contains("subgraph cluster_2 {"));
     assert!(line(text, "n5").contains("shape=diamond") && line(text, "n5").contains("<B>x2</B>"));
-    assert!(line(text, "n7").contains("<B>n7</B><BR/>y0 y1 y2<BR/>call s2<BR/>"));
+    assert!(
+        line(text, "n7").contains("<B>n7</B></TD></TR><TR><TD>y0 y1 y2</TD></TR><TR><TD>call s2</TD></TR>")
+    );
     for (node, label) in [("n0", 0), ("n3", 0), ("n6", 1), ("n1", 2), ("n4", 4), ("n8", 6)] {
         assert!(line(text, node).contains(&format!(">label {label}<")), "{node}");
     }
@@ -62,7 +64,8 @@ fn a_trace_marks_what_it_took() {
 #[test]
 fn the_handler_is_shown_and_a_dropped_call_was_not_made() {
     let text = drawn("full_stack.chart", &[]).printed;
-    assert!(line(&text, "n9").contains("Begin <B>n9</B><BR/>when the stack is full>"));
+    assert!(line(&text, "n9")
+        .contains("Begin <B>n9</B></TD></TR><TR><TD>when the stack is full</TD></TR></TABLE>"));
     assert_eq!(text.matches("when the stack is full").count(), 1);
     let ran = drawn("full_stack.chart", &["--trace", "--places", "2", "--words", "0,0,4,4,4,0,0"]);
     assert_eq!((ran.status, ran.said.as_str()), (0, ""));
@@ -76,11 +79,31 @@ fn the_handler_is_shown_and_a_dropped_call_was_not_made() {
     assert!(line(&ran.printed, "n9").contains("never\""));
 }
 
+/// A call leads to the scheme that served it; that of the number called served none here.
+#[test]
+fn a_swapped_call_leads_to_the_scheme_that_served_it() {
+    let words = "0,0,4,0,0,0,0,0,0,0,4,4,4,0,0,0,0";
+    let ran = drawn("swapped.txt", &["--trace", "--words", words, "--swap", "0:2=3"]);
+    assert_eq!((ran.status, ran.said.as_str()), (0, ""));
+    let text = &ran.printed;
+    let own = line(text, "n1_call");
+    assert!(own.contains("n1 -> n4 ") && own.contains("never\"") && own.contains("#b3b8c0"), "{own}");
+    let served = line(text, "n1_call_3");
+    assert!(served.contains("n1 -> n8 ") && served.contains("taken\""), "{served}");
+    assert!(served.contains("penwidth=2.2") && served.contains("label=\" for roughing \""), "{served}");
+    // swapped between two calls, both served
+    let ran = drawn("swapped.txt", &["--trace", "--words", words, "--swap", "6:2=3"]);
+    for id in ["n1_call", "n1_call_3"] {
+        assert!(line(&ran.printed, id).contains("penwidth=2.2"), "{id}");
+    }
+    assert!(!drawn("swapped.txt", &["--trace", "--words", words]).printed.contains("n1_call_"));
+}
+
 #[test]
 fn a_trace_that_is_refused_is_drawn_and_told() {
     let ran = drawn("paper.chart", &["--trace", "--places", "1"]);
     assert_eq!(ran.status, 1);
-    let told = format!("{}: tick 1, word EC67, node n1 of s1: the call of s2 ", example("paper.chart"));
+    let told = format!("{}: tick 1, word 0xEC67, node n1 of s1: the call of s2 ", example("paper.chart"));
     assert!(ran.said.starts_with(&told) && ran.said.contains("\n  refusal 17: "), "{}", ran.said);
     assert!(line(&ran.printed, "n1_call").contains("never"));
     let ran = drawn("paper.chart", &["--trace", "--places", "33"]);
@@ -96,7 +119,8 @@ fn too_many_rows_are_drawn_and_not_traced() {
     let chart = chart.to_string_lossy();
     let ran = run(&["draw", &chart]);
     assert_eq!((ran.status, ran.said.as_str()), (0, ""));
-    assert!(ran.printed.contains("subgraph cluster_2 {"));
+    // there is no image that its labels could be those of
+    assert!(ran.printed.contains("subgraph cluster_2 {") && !ran.printed.contains(">label "));
     for args in [vec!["draw", &chart, "--trace"], vec!["trace", &chart]] {
         let ran = run(&args);
         assert_eq!((ran.status, ran.printed.as_str()), (1, ""));
@@ -122,6 +146,51 @@ fn names_cannot_break_the_drawing() {
     }
 }
 
+/// A list of 300 words, in a file whose name is long too, leaves the drawing as wide as it is and the page's head short.
+#[test]
+fn long_lists_and_names_are_cut_in_captions() {
+    let text = std::fs::read(example("roughing.txt")).expect("an example");
+    let chart = file(&format!("{}.txt", "roughing".repeat(25)), &text);
+    let (chart, words) = (chart.to_string_lossy(), vec!["0"; 300].join(","));
+    let swaps = vec!["3:2=2"; 100].join(",");
+    let tracing = ["--words", &words, "--swap", &swaps];
+    let width = |args: &[&str]| {
+        let drawn = run(&[&["draw", &chart, "--svg"], args].concat()).printed;
+        let (_, rest) = drawn.split_once("width=\"")?;
+        rest.split("pt\"").next()?.parse::<usize>().ok()
+    };
+    let Some(alone) = width(&[]) else { return missing() };
+    let traced = width(&[&["--trace"], &tracing[..]].concat()).expect("a width");
+    assert!(traced < alone + 200, "{traced} and {alone}");
+    let page = run(&[&["page", &chart, "-o", "-"], &tracing[..]].concat()).printed;
+    let head = page.lines().find(|line| line.contains("stack of 32 places")).expect("a head");
+    assert!(head.contains(",... (300 words)") && head.contains(",... (100 swaps)"), "{head}");
+    assert!(head.len() < 300, "{head}");
+}
+
+/// What a pointer shows beside it is told in the shop's words, not in dot's.
+#[test]
+fn titles_are_the_shops_names() {
+    let words = ["--trace", "--words", "0,0,4,0,0,0,0,0,0,0,4,4,4,0,0,0,0", "--swap", "0:2=3"];
+    let svg = drawn("swapped.txt", &[&["--svg"], &words[..]].concat()).printed;
+    if svg.is_empty() {
+        return missing();
+    }
+    for title in [
+        "scheme roughing",
+        "node more (condition) of roughing",
+        "arc more, wood = 1 -&gt; cut of roughing",
+        "call of roughing at block of blocks",
+        "call of roughing at block of blocks, served by finer",
+    ] {
+        assert_eq!(svg.matches(&format!("<title>{title}</title>")).count(), 1, "{title}");
+    }
+    assert!(
+        !svg.contains("<title>n") || svg.matches("<title>n").count() == svg.matches("<title>node ").count()
+    );
+    assert!(!svg.contains("<title>cluster"));
+}
+
 /// Random charts: dot takes each drawing, and every node, arc and call has its group.
 #[test]
 fn dot_takes_every_drawing() {
@@ -140,7 +209,7 @@ fn dot_takes_every_drawing() {
         for (at, node) in plan.nodes.iter().enumerate() {
             let mut ids = vec![node_id(at)];
             ids.extend((0..node.arcs().len()).map(|side| arc_id(Arc { from: at, side })));
-            ids.extend((called(node) != 0).then(|| call_id(at)));
+            ids.extend((called(node) != 0).then(|| call_id(&plan, at, called(node))));
             for id in ids {
                 assert_eq!(svg.matches(&format!("<g id=\"{id}\"")).count(), 1, "{id}");
             }

@@ -5,7 +5,7 @@ use std::fs;
 use std::path::Path;
 
 use fairleadow::{Answer, Library, Proved, CHART_TEXT, IMAGE_TEXT, LINE};
-use office::explain::{self, UNEXPLAINED};
+use office::explain;
 use office::kind::Kind;
 use office::notation::Notation;
 use office::problem::Problem;
@@ -21,7 +21,7 @@ fn held(text: &[u8], asked: Kind, answer: Answer, met: &mut Met) {
     *met.entry(refusal.number).or_default() += 1;
     let problem = explain::refusal(text, asked, answer);
     let shown = || format!("{problem}\n{answer:?}\n{}", text.escape_ascii());
-    assert!(problem.words != UNEXPLAINED && !problem.advice.is_empty(), "{}", shown());
+    assert!(!problem.is_internal() && !problem.advice.is_empty(), "{}", shown());
     assert_eq!(problem.refusal, Some(refusal));
     if let Some(frame) = refusal.frame() {
         assert_eq!(problem.line, Some(frame + 1), "{}", shown());
@@ -57,7 +57,7 @@ fn hold_records(records: &[Frame], met: &mut Met) {
     *met.entry(refusal.number).or_default() += 1;
     let lines: Vec<usize> = (0..records.len()).map(|node| 2 * node + 5).collect();
     let problem = explain::composed(&records.concat(), &Default::default(), &lines, answer);
-    assert!(problem.words != UNEXPLAINED, "{answer:?} {records:?}");
+    assert!(!problem.is_internal(), "{answer:?} {records:?}");
     if let Some(frame) = refusal.frame() {
         assert_eq!(problem.line, Some(2 * frame + 5));
         assert!(problem.words.starts_with(&format!("line {} (node n{frame}): ", 2 * frame + 5)));

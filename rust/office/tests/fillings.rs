@@ -38,25 +38,71 @@ places  fill the stack  share that fills it
      3              64               25.0 %  #############
      4              32               12.5 %  #######
 ";
-    let ended = "\nno list fills a stack of 5 places or more, up to 32\n";
+    let ended = "\nnone of 256 lists of 8 words fills a stack of 5 places or more, up to 32\n";
     let expected = format!("{begun}{}{ended}", empty(5..=32));
     assert_eq!(printed(&[&example("paper.chart"), "--ticks", "8", "--conditions", "1"]), expected);
     let image = printed(&[&example("paper.image"), "--conditions", "1", "--ticks", "8"]);
     assert_eq!(image, expected.replace("paper.chart", "paper.image"));
 }
 
-/// With a handler no list is stopped; the stack drops.
+/// With a handler no list is stopped; those that drop are counted beside, and the share is theirs.
 #[test]
-fn a_drop_is_no_end() {
-    let drawn = printed(&[&example("full_stack.txt"), "--ticks", "16", "--conditions", "1"]);
-    let (begun, ended) = (
-        "full_stack.txt: 65,536 lists of 16 words; x0 at 0 or 1, all others at 0 (tested too: wood)
+fn a_drop_is_no_end_and_is_counted() {
+    let drawn = printed(&[&example("full_stack.txt")]);
+    let begun = "full_stack.txt: 32,768 lists of 5 words; x0, x1 and wood at 0 or 1, all others at 0
 
-places  fill the stack  share that fills it
-",
-        "\nno list fills any of these stacks\n",
+places  fill the stack    drop  share that finds it full
+     1               0  32,768                   100.0 %  ##################################################
+     2               0  16,384                    50.0 %  #########################
+     3               0       0                     0.0 %
+";
+    assert!(drawn.starts_with(begun), "{drawn}");
+    let ended = "\nnone of 32,768 lists of 5 words fills any of these stacks; from 3 places on none drops\n";
+    assert!(drawn.ends_with(ended), "{drawn}");
+    // wood is never asked, so none goes deeper
+    let drawn = printed(&[&example("full_stack.txt"), "--ticks", "16", "--conditions", "1"]);
+    assert!(
+        drawn.ends_with(
+            "\nnone of 65,536 lists of 16 words fills any of these stacks; from 2 places on none drops\n"
+        ),
+        "{drawn}"
     );
-    assert_eq!(drawn, format!("{begun}{}{ended}", empty(1..=32)));
+}
+
+/// Lists that drop, and lists that find the stack full, by ticking each of them.
+#[test]
+fn drops_are_those_of_the_lists() {
+    let text = "scheme 1\nbegin -> a\na: call s2 -> end\nend\nscheme 2\nbegin -> b\nb: do nothing -> c\n\
+                c: if x0 then d else end\nd: call s2 -> end\nend\nscheme 3\nbegin when the stack is full -> e\n\
+                e: if x1 then f else end\nf: call s2 -> end\nend\n";
+    let path = file("drops.txt", text.as_bytes());
+    let subject = Subject::read(text.as_bytes().to_vec()).expect("a chart");
+    let drawn = printed(&[&path.to_string_lossy(), "--ticks", "7", "--conditions", "2"]);
+    for places in 1..=5 {
+        let mut found = [0; 3];
+        for list in 0..1u32 << 14 {
+            let mut state = Proved.fresh(places).1;
+            let (mut dropped, mut full) = (false, false);
+            for tick in 0..7 {
+                let word = (list >> (2 * tick) & 3) as u16;
+                let ticked = Proved.tick(&subject.image.text, &mut state, word);
+                full |= ticked.answer.number() == 17;
+                dropped |= ticked.answer.number() == 0 && ticked.code == 0x60;
+                if full {
+                    break;
+                }
+            }
+            for (count, met) in found.iter_mut().zip([full, dropped, full || dropped]) {
+                *count += usize::from(met);
+            }
+        }
+        let row = drawn.lines().nth(2 + places).expect("a row");
+        let cells: Vec<String> = row.split_whitespace().map(|cell| cell.replace(',', "")).collect();
+        let [full, dropped, found_full] = found;
+        assert_eq!(cells[1..3], [full.to_string(), dropped.to_string()], "{row}");
+        let share = found_full as f64 / 163.84;
+        assert!((cells[3].parse::<f64>().expect("a share") - share).abs() < 0.06, "{row}: {share}");
+    }
 }
 
 /// Chart P without the row of its condition at 1: half of the lists find no row at the third word, on all stacks but the first.
@@ -124,7 +170,8 @@ fn every_list_may_fill_every_stack() {
     // home and 31 calls, or one less
     for (ticks, told) in [("32", "32 places"), ("31", "31 places or more, up to 32")] {
         let drawn = printed(&[&path, "--ticks", ticks, "--conditions", "0"]);
-        assert!(drawn.ends_with(&format!("\nno list fills a stack of {told}\n")), "{drawn}");
+        let none = format!("\nnone of 1 list of {ticks} words fills a stack of {told}\n");
+        assert!(drawn.ends_with(&none), "{drawn}");
     }
 }
 

@@ -66,7 +66,7 @@ fn a_row_too_few_and_a_row_too_many_are_told_with_their_lines() {
         .replace("12030001000102040000E3\n", "");
     let Ran { printed, said, status } = run(&["minimise", &path("few.image", without.as_bytes())]);
     assert_eq!((status, printed.as_str()), (1, ""));
-    assert!(said.contains("few.image: line 7: label 3 has no row for word 0001\n"), "{said}");
+    assert!(said.contains("few.image: line 7: label 3 has no row for word 0x0001\n"), "{said}");
     assert!(said.contains("\n  refusal 23: ") && said.contains("\n  look for: "), "{said}");
     let row = "12020000000002000000EA\n";
     let twice =
@@ -74,7 +74,7 @@ fn a_row_too_few_and_a_row_too_many_are_told_with_their_lines() {
     let Ran { said, status, .. } = run(&["minimise", &path("many.image", twice.as_bytes())]);
     assert_eq!(status, 1);
     assert!(
-        said.contains("many.image: line 10: label 2 has two rows for word 0000, this and line 9\n"),
+        said.contains("many.image: line 10: label 2 has two rows for word 0x0000, this and line 9\n"),
         "{said}"
     );
 }

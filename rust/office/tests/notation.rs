@@ -27,6 +27,46 @@ fn a_good_line_is_accepted() {
     }
 }
 
+/// A hyphen in a name is told with the rule for names.
+#[test]
+fn a_sign_in_a_name_is_told() {
+    for (line, column, name) in [
+        ("output 3 cutter-in", 10, "cutter-in"),
+        ("more: do cutter.in -> end", 10, "cutter.in"),
+        ("more-wood: do nothing -> end", 1, "more-wood"),
+        ("more: do nothing -> more/wood", 21, "more/wood"),
+    ] {
+        let told = told(&with(line));
+        assert_eq!(
+            told,
+            format!("line 9, column {column}: '{name}' is no name: a name is letters, digits and _")
+        );
+    }
+}
+
+/// 64 characters are the most of a name, wherever it stands.
+#[test]
+fn a_longer_name_than_any_may_be_is_told() {
+    for (line, column) in [
+        ("condition 3 NAME", 13),
+        ("output 3 NAME", 10),
+        ("scheme 3 NAME", 10),
+        ("NAME: do nothing -> end", 1),
+        ("more: do y1, NAME -> end", 14),
+        ("more: do nothing -> NAME", 21),
+        ("more: call NAME -> end", 12),
+        ("more: if NAME then end else end", 10),
+        ("more: if call NAME then end else end", 15),
+    ] {
+        let fault =
+            |length: usize| source::from_notation(&with(&line.replace("NAME", &"ö".repeat(length)))).err();
+        let name = format!("the name '{}...' has 65 characters, and 64 are the most", "ö".repeat(40));
+        let told = fault(65).expect("a fault").words;
+        assert_eq!(told, format!("line 9, column {column}: {name}"), "{line}");
+        assert!(!fault(64).is_some_and(|problem| problem.words.contains("characters")), "{line}");
+    }
+}
+
 /// The Begin of scheme 2 with other words.
 fn with_begin(line: &str) -> String {
     with("more: if wood then start else end").replace("begin -> cut", line)

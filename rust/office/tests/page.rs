@@ -45,7 +45,15 @@ fn every_tick_has_a_row_with_what_it_lights() {
         let row = line(&page, &format!("<tr id=\"tick-{tick}\""));
         assert!(row.contains(&format!("data-stack=\"{stack}\" data-lines=\"{lines}\"")), "{row}");
     }
+    let why = "it left node n3 (Begin) of s2 (label 3) and went to node n6 of s2 (label 4)&#10;by row 2 of";
+    let decided = "&#10;what decided:&#10;  condition 0 was 1\"";
+    let row = line(&page, "<tr id=\"tick-2\"");
+    assert!(row.contains(&format!("data-why=\"{why}")) && row.contains(decided), "{row}");
     let row = line(&page, "<tr id=\"tick-3\"");
+    assert!(
+        row.contains("data-why=\"a call takes no row; node n6 of s2 (label 4) called scheme 2, "),
+        "{row}"
+    );
     assert!(row.contains("<td>call of s2</td><td><span class=\"chip\">y1</span> </td>"), "{row}");
     assert!(line(&page, "<tr id=\"node-n4\"").ends_with("<td>condition</td><td>\u{2013}</td><td>2</td></tr>"));
     assert!(page.contains("max=\"7\"") && page.contains("every node and arc was taken"));
@@ -76,13 +84,16 @@ fn a_refusal_and_what_was_never_taken_stand_in_the_page() {
     let (plan, trace) = traced(source("paper.chart"), 2, &[0, 0, 1, 0, 0]);
     let page = page(&plan, &trace, "paper.chart", "", SVG);
     let told = line(&page, "<p id=\"refusal\">");
-    assert!(
-        told.contains("tick 3, word 0000, node n6 of s2: the call of s2 finds the stack full, all 2 places")
-    );
+    assert!(told
+        .contains("tick 3, word 0x0000, node n6 of s2: the call of s2 finds the stack full, all 2 places"));
     assert!(
         page.contains("<li>arc n4, x0 = 0 -&gt; n5 of s2</li>") && page.contains("<li>node n6 of s2</li>")
     );
     assert!(line(&page, "<tr id=\"node-n6\"").contains("class=\"never\""));
+    // the refused tick is a row like others
+    let refused = line(&page, "<tr id=\"tick-3\"");
+    assert!(refused.contains("data-stack=\"n1 n6\" data-lines=\"\" class=\"refused\""), "{refused}");
+    assert!(refused.contains("<td>refused (17)</td>") && page.contains("max=\"3\""), "{refused}");
 }
 
 #[test]
@@ -112,7 +123,8 @@ fn names_cannot_break_the_page() {
     assert_eq!(page.matches("</script>").count(), 1);
     assert!(!page.contains("<b>[["));
     assert!(page.contains("&lt;/script&gt;&lt;b&gt;[[TICKS]] &amp; &quot;x&quot;"));
-    assert_eq!(page.matches("<tr id=\"tick-").count(), trace.ticks.len());
+    let rows = trace.ticks.len() + usize::from(trace.stopped.is_some());
+    assert_eq!(page.matches("<tr id=\"tick-").count(), rows);
 }
 
 fn target(name: &str) -> String {
@@ -164,7 +176,7 @@ fn what_is_read_is_kept() {
         let [chart, words, lost] = [&chart, &words, lost].map(|path| path.to_string_lossy());
         let ran = run(&["page", &chart, "--words", &words, "-o", &lost]);
         assert_eq!((ran.status, ran.printed.as_str()), (2, ""));
-        assert!(ran.said.starts_with(&format!("{lost} is what the page is made of")), "{}", ran.said);
+        assert!(ran.said.starts_with(&format!("{lost} is read by this command")), "{}", ran.said);
         assert_eq!(std::fs::read(&*lost).expect("a file"), before);
     }
 }

@@ -2,6 +2,11 @@
 
 mod shared;
 
+use std::time::Instant;
+
+use fairleadow::{Library, Proved};
+use office::plan::Plan;
+use office::{source, trace};
 use shared::{example, file, run, Ran};
 
 fn traced(chart: &str, rest: &[&str]) -> Ran {
@@ -29,15 +34,15 @@ fn the_table_of_the_paper() {
     let expected = "\
 paper.chart: 7 nodes in 2 schemes; stack of 3 places; words 0,0,1,0,0,0,0,0
 
-tick  word  conditions at 1  scheme  node        what happens  micro operations  open schemes   results at 1
-   0  0000  -                s1      n2 (End)    home          -                 1: s1          -
-   1  0000  -                s1      n1          call of s2    y0                1: s1          -
-   2  0001  x0               s2      n3 (Begin)  plain         -                 2: s1 > s2     -
-   3  0000  -                s2      n6          call of s2    y1                2: s1 > s2     -
-   4  0000  -                s2      n3 (Begin)  plain         -                 3: s1 > s2 x2  -
-   5  0000  -                s2      n5 (End)    return        -                 3: s1 > s2 x2  -
-   6  0000  -                s2      n5 (End)    return        -                 2: s1 > s2     -
-   7  0000  -                s1      n2 (End)    home          -                 1: s1          -
+tick  word    conditions at 1  scheme  node        what happens  outputs  open schemes   results at 1
+   0  0x0000  -                s1      n2 (End)    home          -        1: s1          -
+   1  0x0000  -                s1      n1          call of s2    y0       1: s1          -
+   2  0x0001  x0               s2      n3 (Begin)  plain         -        2: s1 > s2     -
+   3  0x0000  -                s2      n6          call of s2    y1       2: s1 > s2     -
+   4  0x0000  -                s2      n3 (Begin)  plain         -        3: s1 > s2 x2  -
+   5  0x0000  -                s2      n5 (End)    return        -        3: s1 > s2 x2  -
+   6  0x0000  -                s2      n5 (End)    return        -        2: s1 > s2     -
+   7  0x0000  -                s1      n2 (End)    home          -        1: s1          -
 
 8 ticks; every node and arc was taken (7 nodes, 6 arcs)
 ";
@@ -51,10 +56,10 @@ fn a_full_stack_is_told_with_the_call_that_met_it() {
     assert_eq!(rows(&ran).len(), 3);
     assert_eq!(ran.said, format!("{}: ended by refusal 17 after 3 ticks\n", example("paper.chart")));
     let told = [
-        "tick 3, word 0000, node n6 of s2: the call of s2 finds the stack full, all 2 places in use (2: s1 > s2)",
+        "tick 3, word 0x0000, node n6 of s2: the call of s2 finds the stack full, all 2 places in use (2: s1 > s2)",
         "  refusal 17: a call needs a free place of the stack, or a handler that is not at the bottom of it",
-        "  look for: a chart or a handler that calls deeper than the stack has places: give it more (32 at most; `fairleadow \
-         places` tells how many it needs), or let it call less deep",
+        "  look for: a chart that calls itself, for which no number of places is enough whatever the words: more places (32 at \
+         most), words by which it calls less deep, or a handler, which starts when the stack is full",
         "",
     ];
     let left = [
@@ -78,38 +83,6 @@ fn a_handler_starts_where_the_stack_is_full() {
         assert_eq!((ran.status, ran.said.as_str()), (0, ""));
         let expected = example(&format!("full_stack.{places}.trace"));
         assert_eq!(ran.printed, std::fs::read_to_string(expected).expect("the example's trace"));
-    }
-}
-
-/// A scheme is swapped between two blocks, and in the middle of one, as the examples have it.
-#[test]
-fn a_swap_serves_later_calls() {
-    let words = "0,0,4,0,0,0,0,0,4,4,0,0,0,0,0,0,4,0,0";
-    for (name, swaps) in [("between", "6:2=3"), ("middle", "3:2=3,10:2=2")] {
-        let ran = traced("swapped.txt", &["--words", words, "--swap", swaps]);
-        assert_eq!((ran.status, ran.said.as_str()), (0, ""));
-        let expected = example(&format!("swapped.{name}.trace"));
-        assert_eq!(ran.printed, std::fs::read_to_string(expected).expect("the example's trace"));
-    }
-}
-
-#[test]
-fn swaps_that_cannot_be_made_are_told() {
-    let swapped = |swap: &str| traced("swapped.txt", &["--words", "0,0,4,0", "--swap", swap]);
-    for swap in ["3:2=4", "3:1=2", "0:2=1", "3:17=2"] {
-        let ran = swapped(swap);
-        assert_eq!((ran.status, ran.printed.as_str()), (1, ""), "{swap}");
-        let told = format!("the swap {swap}: this number cannot be given to that scheme");
-        assert!(ran.said.contains(&told) && ran.said.contains("refusal 22"), "{}", ran.said);
-    }
-    let ran = traced("full_stack.txt", &["--words", "0", "--swap", "0:3=2"]);
-    assert!(ran.status == 1 && ran.said.contains("refusal 22"), "{}", ran.said);
-    for (swap, told) in [
-        ("2=3", "'2=3' is no swap: write TICK:NUMBER=SCHEME, such as 4:2=3"),
-        ("4:2=3", "the swap 4:2=3 comes after the last tick, 3"),
-    ] {
-        let ran = swapped(swap);
-        assert!(ran.status == 2 && ran.said.starts_with(told), "{}", ran.said);
     }
 }
 
@@ -140,12 +113,34 @@ fn a_handler_that_calls_too_deep_is_refused() {
     let seen: Vec<(String, usize)> = rows(&ran).into_iter().map(happens_and_open).collect();
     let seen: Vec<(&str, usize)> = seen.iter().map(|(happens, open)| (happens.as_str(), *open)).collect();
     assert_eq!(seen, [("home", 1), ("call of s2", 1), ("drop of 2, start of s2", 2), ("call of s2", 1)]);
-    let told = "tick 4, word 0000, node b of s2: the call of s2 finds the stack full, all 2 places in use (2: s2 x2), with \
+    let told = "tick 4, word 0x0000, node b of s2: the call of s2 finds the stack full, all 2 places in use (2: s2 x2), with \
                 the handler at the bottom";
     assert_eq!(after(&ran)[0], told);
     assert!(after(&ran)[1].starts_with("  refusal 17: "), "{}", ran.printed);
     // the drop writes 1 for its scheme and then clears it as the handler's
     assert!(rows(&ran)[2].ends_with("  -") && rows(&ran)[3].ends_with("  -"), "{}", ran.printed);
+}
+
+/// What to do about a full stack fits the chart: one that calls itself, one that does not, and one whose handler calls.
+#[test]
+fn the_advice_for_a_full_stack_fits_the_chart() {
+    let advice = |ran: &Ran| {
+        let line = ran.printed.lines().find_map(|line| line.strip_prefix("  look for: "));
+        line.expect("advice").to_string()
+    };
+    let told = advice(&traced("roughing.txt", &["--places", "2", "--words", "4", "--ticks", "9"]));
+    assert!(told.starts_with("a chart that calls itself, ") && !told.contains("fairleadow places"), "{told}");
+    let told = advice(&traced("bore.chart", &["--places", "1"]));
+    assert!(told.starts_with("too few places: this chart needs 2 places, "), "{told}");
+    let text = "scheme 1\nbegin -> a\na: call s2 -> end\nend\nscheme 2\nbegin when the stack is full -> b\n\
+                b: call s2 -> end\nend\n";
+    let chart = file("handler_advice.txt", text.as_bytes());
+    let told =
+        advice(&run(&["trace", &chart.to_string_lossy(), "--places", "2", "--words", "0", "--ticks", "9"]));
+    assert!(told.starts_with("a handler that calls deeper than the stack has places: "), "{told}");
+    // a circle in a chart that has its handler already
+    let said = run(&["places", &example("full_stack.txt")]).said;
+    assert!(said.ends_with(", scheme drawing_back is there, the handler for the full stack\n"), "{said}");
 }
 
 #[test]
@@ -217,11 +212,11 @@ fn the_names_of_the_notation_are_used() {
         row.split("  ").map(str::trim).filter(|cell| !cell.is_empty()).map(String::from).collect()
     };
     let expected = [
-        ["0", "0000", "-", "drilling", "end", "home", "-", "1: drilling", "-"],
-        ["1", "0000", "-", "drilling", "test (function)", "call of bore_test", "-", "1: drilling", "-"],
-        ["2", "0008", "bore", "bore_test", "lower", "plain", "probe_down", "2: drilling > bore_test", "-"],
-        ["3", "0008", "bore", "bore_test", "yes", "plain", "-", "2: drilling > bore_test", "bore_test"],
-        ["4", "0000", "-", "bore_test", "end", "return", "-", "2: drilling > bore_test", "bore_test"],
+        ["0", "0x0000", "-", "drilling", "end", "home", "-", "1: drilling", "-"],
+        ["1", "0x0000", "-", "drilling", "test (function)", "call of bore_test", "-", "1: drilling", "-"],
+        ["2", "0x0008", "bore", "bore_test", "lower", "plain", "probe_down", "2: drilling > bore_test", "-"],
+        ["3", "0x0008", "bore", "bore_test", "yes", "plain", "-", "2: drilling > bore_test", "bore_test"],
+        ["4", "0x0000", "-", "bore_test", "end", "return", "-", "2: drilling > bore_test", "bore_test"],
     ];
     for (row, expected) in rows(&ran).into_iter().zip(expected) {
         assert_eq!(cells(row), expected);
@@ -230,6 +225,50 @@ fn the_names_of_the_notation_are_used() {
     // the same ticks as those of the chart's lines
     let plain = traced("bore.chart", &["--words", "0,0,8,8,0,0,0"]);
     assert!(rows(&ran).iter().map(|row| &row[..10]).eq(rows(&plain).iter().map(|row| &row[..10])));
+}
+
+/// The image is prepared once: ticks on its table take a part of what ticks on its text take, which is read and checked in each.
+#[test]
+fn ticks_are_made_on_a_prepared_table() {
+    let node =
+        |k: usize| format!("a{k}: do y0 -> {}\n", if k < 197 { format!("a{}", k + 1) } else { "end".into() });
+    let text: String = (0..198).map(node).collect();
+    let source = source::from_notation(&format!("scheme 1\nbegin -> a0\n{text}end\n")).expect("the notation");
+    let plan = Plan::read(source).expect("a chart");
+    let words = vec![0; 5_000];
+    let start = Instant::now();
+    let traced = trace::trace(&plan, 32, &words, &[]).expect("a trace");
+    let live = start.elapsed();
+    let image = &plan.image.as_ref().expect("an image").text;
+    let mut state = trace::fresh(32).expect("a state");
+    let start = Instant::now();
+    let masks: Vec<u32> = words.iter().map(|word| Proved.tick(image, &mut state, *word).mask).collect();
+    let on_text = start.elapsed();
+    assert!(traced.ticks.iter().map(|tick| tick.mask).eq(masks));
+    assert!(live * 2 < on_text, "{live:?} and {on_text:?}");
+}
+
+/// The words of a table are given to another run as they stand, and make the same table.
+#[test]
+fn words_of_the_table_are_read_as_they_were() {
+    let ran = traced("bore.txt", &["--words", "0,16,0x10,8004,0x8004,65535"]);
+    let column = |row: &str| row.split_whitespace().nth(1).expect("a word").to_string();
+    let words: Vec<String> = rows(&ran).into_iter().map(column).collect();
+    assert_eq!(words, ["0x0000", "0x0010", "0x0010", "0x1F44", "0x8004", "0xFFFF"]);
+    assert_eq!(rows(&traced("bore.txt", &["--words", &words.join(",")])), rows(&ran));
+    let lines = file("table_words.txt", words.join("\n").as_bytes());
+    assert_eq!(rows(&traced("bore.txt", &["--words", &lines.to_string_lossy()])), rows(&ran));
+    for (words, told) in [
+        ("0010", "in the words 0010: '0010' begins with a 0: write 10, or 0x10, which is 16\n"),
+        (
+            "FFFF",
+            "there is no file FFFF, and in the words FFFF: 'FFFF' could only be hexadecimal: write 0xFFFF\n",
+        ),
+    ] {
+        let ran = traced("bore.txt", &["--words", words]);
+        assert_eq!((ran.status, ran.printed.as_str()), (2, ""), "{words}");
+        assert!(ran.said.starts_with(told), "{}", ran.said);
+    }
 }
 
 #[test]
@@ -310,12 +349,16 @@ fn wrong_arguments_get_the_usage() {
         vec!["trace", &chart, "--ticks", "100001"],
         vec!["trace", &chart, "--ticks", "1", "--ticks", "2"],
         vec!["trace", &chart, "--words", "0,x"],
+        vec!["trace", &chart, "--words", ""],
+        vec!["trace", ""],
         vec!["trace", &chart, "--words", "random:x"],
     ] {
         let ran = run(&args);
         assert_eq!((ran.status, ran.printed.as_str()), (2, ""), "{args:?}");
         assert!(ran.said.contains("\nusage: fairleadow trace CHART "), "{}", ran.said);
     }
+    let ran = run(&["trace", &chart, "--words", ""]);
+    assert!(ran.said.starts_with("--words is given, and nothing stands after it\n"), "{}", ran.said);
     let ran = run(&["trace", &chart, "--words", "0,x"]);
     assert!(ran.said.starts_with("in the words 0,x: 'x' is no word"), "{}", ran.said);
     let ran = run(&["trace", "--help"]);

@@ -44,7 +44,7 @@ fn a_condition_is_told_with_its_value_and_its_name() {
     let ran = why(&chart, BLOCKS, &["--tick", "8"]);
     assert_eq!((ran.status, ran.said.as_str()), (0, ""));
     let expected = "\
-bore.txt: tick 8, word 0008, plain
+bore.txt: tick 8, word 0x0008, plain
 it left node lower of bore_test (label 4) and went to node yes of bore_test (label 6)
 by row 4 of the image's rows, counted from 0
 what decided:
@@ -59,7 +59,7 @@ what decided:
 #[test]
 fn chart_lines_have_numbers_and_an_image_has_labels() {
     let expected = "\
-tick 8, word 0008, plain
+tick 8, word 0x0008, plain
 it left node n5 of s2 (label 4) and went to node n8 of s2 (label 6)
 by row 4 of the image's rows, counted from 0
 what decided:
@@ -87,7 +87,7 @@ fn without_a_number_it_is_the_last_tick() {
 #[test]
 fn a_return_goes_on_from_the_label_beneath() {
     let expected = "\
-tick 10, word 0000, return
+tick 10, word 0x0000, return
 it returned from node end of bore_test (label 1) to node test (function) of drilling (label 2) and went on to node end of \
 drilling (label 0)
 by row 1 of the image's rows, counted from 0
@@ -96,7 +96,7 @@ what decided:
 ";
     assert_eq!(printed(&example("bore.txt"), BLOCKS, &["--tick", "10"]), expected);
     let expected = "\
-tick 4, word 0000, return
+tick 4, word 0x0000, return
 it returned from label 1 (End) of scheme 2 to label 2 of scheme 1 and went on to label 3 of scheme 1
 by row 0 of the image's rows, counted from 0
 what decided:
@@ -104,7 +104,7 @@ what decided:
 ";
     assert_eq!(printed(&example("bore.image"), BLOCKS, &["--tick", "4"]), expected);
     let expected = "\
-tick 5, word 0000, return
+tick 5, word 0x0000, return
 it returned from node n5 (End) of s2 (label 1) to node n6 of s2 (label 4) and went on to node n5 (End) of s2 (label 1)
 by row 3 of the image's rows, counted from 0
 nothing decided: from here every word takes this row
@@ -151,7 +151,7 @@ what ruled out other rows:
 fn a_row_that_loses_adds_nothing() {
     let path = example("patched/roughing.image");
     let expected = "\
-tick 2, word 00C4, plain
+tick 2, word 0x00C4, plain
 it left label 4 of scheme 2 and went to label 6 of scheme 2
 by row 5 of the image's rows, counted from 0
 what decided:
@@ -197,32 +197,32 @@ fn ticks_without_a_row_are_told_by_their_kind() {
     let test = "node test (function) of drilling (label 2)";
     assert_eq!(
         refused(&bore, BLOCKS, &["--tick", "6"], 21),
-        format!("tick 6, word 0000: a home tick takes no row; it left node end of drilling (label 0) and went to {test}")
+        format!("tick 6, word 0x0000: a home tick takes no row; it left node end of drilling (label 0) and went to {test}")
     );
     assert_eq!(
         refused(&bore, BLOCKS, &["--tick", "7"], 21),
         format!(
-            "tick 7, word 0000: a call takes no row; {test} called scheme 2 (bore_test), which starts at node lower of \
+            "tick 7, word 0x0000: a call takes no row; {test} called scheme 2 (bore_test), which starts at node lower of \
              bore_test (label 4)"
         )
     );
     assert_eq!(
         refused(&image, BLOCKS, &["--tick", "7"], 21),
-        "tick 7, word 0000: a call takes no row; label 2 of scheme 1 called scheme 2, which starts at label 4 of scheme 2"
+        "tick 7, word 0x0000: a call takes no row; label 2 of scheme 1 called scheme 2, which starts at label 4 of scheme 2"
     );
     assert_eq!(
         refused(&full, words, &["--places", "2", "--tick", "3"], 21),
-        "tick 3, word 0004: a drop of 2 open schemes takes no row; node cut of roughing (label 5) called scheme 2 \
+        "tick 3, word 0x0004: a drop of 2 open schemes takes no row; node cut of roughing (label 5) called scheme 2 \
          (roughing) and found the stack full, and the handler starts at node back of drawing_back (label 7)"
     );
     assert_eq!(
         refused(&full, words, &["--places", "2", "--tick", "6"], 21),
-        "tick 6, word 0000: the return of a handler with nothing beneath it takes no row; it left node end of drawing_back \
+        "tick 6, word 0x0000: the return of a handler with nothing beneath it takes no row; it left node end of drawing_back \
          (label 1) and went to node end of shaping (label 0)"
     );
     assert_eq!(
         refused(&example("full_stack.image"), words, &["--places", "2", "--tick", "6"], 21),
-        "tick 6, word 0000: the return of a handler with nothing beneath it takes no row; it left label 1 (End) of scheme 3 \
+        "tick 6, word 0x0000: the return of a handler with nothing beneath it takes no row; it left label 1 (End) of scheme 3 \
          and went to label 0 (End) of scheme 1"
     );
 }
@@ -231,7 +231,7 @@ fn ticks_without_a_row_are_told_by_their_kind() {
 #[test]
 fn a_call_that_finds_the_stack_full() {
     let (path, words) = (example("paper.chart"), "0,0,1,0,0,0,0,0");
-    let full = "tick 3, word 0000: a call takes no row; node n6 of s2 (label 4) calls scheme 2, finds the stack full and goes \
+    let full = "tick 3, word 0x0000: a call takes no row; node n6 of s2 (label 4) calls scheme 2, finds the stack full and goes \
                 nowhere (refusal 17)";
     assert_eq!(refused(&path, words, &["--places", "2"], 21), full);
     assert_eq!(refused(&path, words, &["--places", "2", "--tick", "3"], 21), full);
@@ -242,14 +242,14 @@ fn a_call_that_finds_the_stack_full() {
 #[test]
 fn a_label_whose_rows_do_not_match() {
     let path = written("less.image", &edited(&IMAGE.replace("12030001000102040000E3\n", ""), 1, 9, "03"));
-    let told = "tick 2, word 0001: no row of label 3 of scheme 2 matches";
+    let told = "tick 2, word 0x0001: no row of label 3 of scheme 2 matches";
     assert_eq!(refused(&path, "0,0,1,0", &[], 18), told);
     let told = "tick 3 is not reached: after 2 ticks no row of the label matches the word";
     assert_eq!(refused(&path, "0,0,1,0", &["--tick", "3"], 18), told);
     assert!(printed(&path, "0,0,0", &[]).ends_with("what decided:\n  condition 0 was 0\n"));
     let last = IMAGE.lines().last().expect("a row");
     let path = written("no_return.image", &edited(&IMAGE.replace(&format!("{last}\n"), ""), 1, 9, "03"));
-    let told = "tick 5, word 0000: no row of label 4 of scheme 2 matches";
+    let told = "tick 5, word 0x0000: no row of label 4 of scheme 2 matches";
     assert_eq!(refused(&path, "0,0,1,0,0,0", &[], 18), told);
 }
 

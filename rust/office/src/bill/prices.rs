@@ -1,4 +1,4 @@
-//! A price list as a person writes it: a line for each micro operation, its name and its price in hundredths of a cent a tick. What
+//! A price list as a person writes it: a line for each output, its name and its price in hundredths of a cent a tick. What
 //! has no line costs nothing.
 
 use fairleadow::{Prices, OPERATIONS};
@@ -9,8 +9,7 @@ use crate::problem::{visible, Problem};
 use crate::source::text_of;
 
 /// What a line looks like.
-const FORM: &str =
-    "a line for each micro operation, its name and its price, such as 'y0 150'; # before a comment";
+const FORM: &str = "a line for each output, its name and its price, such as 'y0 150'; # before a comment";
 
 /// The prices of a file, by the names of a chart, or what is wrong with it.
 pub fn prices(bytes: &[u8], names: &Names) -> Result<Prices, Problem> {
@@ -58,7 +57,7 @@ fn price_of(line: &str) -> Word {
     Word { text: price.to_string(), column }
 }
 
-/// The micro operation and the price of a line, if one stands on it.
+/// The output and the price of a line, if one stands on it.
 fn entry(line: &str, number: usize, names: &Names) -> Result<Option<(u8, u16)>, Problem> {
     let (name, price) = (name_of(line), price_of(line));
     if name.text.is_empty() {
@@ -66,7 +65,7 @@ fn entry(line: &str, number: usize, names: &Names) -> Result<Option<(u8, u16)>, 
     }
     let Some(operation) = output(names, &name.text) else {
         let known = names.operations.values().map(String::as_str);
-        return Err(unknown(number, &name, "micro operation", known).advice(advice(names)));
+        return Err(unknown(number, &name, "output", known).advice(advice(names)));
     };
     if price.text.is_empty() {
         let what = format!("'{}' has no price", name.shown());
@@ -87,7 +86,7 @@ fn entry(line: &str, number: usize, names: &Names) -> Result<Option<(u8, u16)>, 
 /// Which names there are.
 fn advice(names: &Names) -> &'static str {
     match names.operations.is_empty() {
-        true => "this chart or image has no names of its own: micro operations are y0 to y31",
+        true => "this chart or image has no names of its own: outputs are y0 to y31",
         false => "the names of the chart's outputs; those without a name are y0 to y31",
     }
 }
@@ -115,10 +114,10 @@ mod tests {
         for (text, told) in [
             (
                 "spindle 150\nspindel 3\n",
-                "line 2, column 1: no micro operation is named 'spindel'; 'spindle' is near to it",
+                "line 2, column 1: no output is named 'spindel'; 'spindle' is near to it",
             ),
-            ("y32 3\n", "line 1, column 1: no micro operation is named 'y32'"),
-            ("3 150\n", "line 1, column 1: no micro operation is named '3'"),
+            ("y32 3\n", "line 1, column 1: no output is named 'y32'"),
+            ("3 150\n", "line 1, column 1: no output is named '3'"),
             ("spindle\n", "line 1, column 8: 'spindle' has no price"),
             ("# so\n  spindle # 5\n", "line 2, column 10: 'spindle' has no price"),
             ("größe 1.50\n", "line 1, column 7: '1.50' is no price"),

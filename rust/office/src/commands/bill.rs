@@ -1,9 +1,11 @@
 //! `fairleadow bill`: what a dry run costs.
 
+use std::ffi::OsString;
 use std::io::Write;
 
 use super::options::{title, Arguments, RUNNING, RUNNING_HELP};
 use crate::bill::{prices::prices, Bill};
+use crate::columns::reading;
 use crate::command::{Command, Failure};
 use crate::names::Names;
 use crate::problem::counted;
@@ -13,21 +15,21 @@ use crate::why::Subject;
 pub const COMMAND: Command = Command {
     name: "bill",
     arguments: "CHART --prices FILE [--places N] [--words WORDS] [--ticks N]",
-    help: "runs a chart or an image, and tells what its micro operations cost",
+    help: "runs a chart or an image, and tells what its outputs cost",
     details: &[
         "
-For each micro operation that was on: at how many ticks, its price a tick, and what that makes. The sum is rounded once
+For each output that was on: at how many ticks, its price a tick, and what that makes. The sum is rounded once
 for the whole run, halves upward, to whole cents. A run has 65536 ticks at most. Where a full stack or a missing row ends
 it, the ticks before that are priced; the status is 1 then.
 
-  --prices FILE  a line for each micro operation: its name in the chart, or y0 to y31, and its price in hundredths of a
+  --prices FILE  a line for each output: its name in the chart, or y0 to y31, and its price in hundredths of a
                  cent a tick, 0 to 65535; # before a comment. What has no line costs nothing. - is standard input",
         RUNNING_HELP,
     ],
     run,
 };
 
-fn run(args: &[String], out: &mut dyn Write) -> Result<(), Failure> {
+fn run(args: &[OsString], out: &mut dyn Write) -> Result<(), Failure> {
     let arguments = Arguments::of(args, &[RUNNING.as_slice(), &["--prices"]].concat(), &[])?;
     let missing = || Failure::Usage("--prices FILE is missing".to_string());
     let file = arguments.value("--prices").ok_or_else(missing)?;
@@ -39,9 +41,10 @@ fn run(args: &[String], out: &mut dyn Write) -> Result<(), Failure> {
     let listed = listed.map_err(|problem| Failure::of(file, problem))?;
     let (places, words) = arguments.places_and_words()?;
     let bill = Bill::of(&subject, places, listed, &words).map_err(failure)?;
-    let (chart, stack, words) = (arguments.title(), counted(places, "place"), arguments.words());
+    let (chart, stack, words) = (arguments.title(), counted(places, "place"), arguments.words_named());
     writeln!(out, "{chart}: stack of {stack}; words {words}; prices {}\n", title(file))?;
-    out.write_all(bill.report(names).as_bytes())?;
+    let report = bill.report(names);
+    out.write_all((report.clone() + &reading(&report).unwrap_or_default()).as_bytes())?;
     match bill.answer.ok() {
         Ok(_) => Ok(()),
         Err(refusal) => {

@@ -1,11 +1,12 @@
 //! `fairleadow draw`: a chart as graphviz text or as SVG.
 
+use std::ffi::OsString;
 use std::io::Write;
 
 use super::options::{Arguments, RUNNING_HELP, SWAP_HELP, TRACING};
 use super::trace::summary;
 use crate::command::{Command, Failure};
-use crate::draw::{dot, drawing};
+use crate::draw::{drawing, svg};
 use crate::plan::Plan;
 use crate::trace::table::{never_taken, problem};
 use crate::trace::Trace;
@@ -24,7 +25,7 @@ pub const COMMAND: Command = Command {
     run,
 };
 
-fn run(args: &[String], out: &mut dyn Write) -> Result<(), Failure> {
+fn run(args: &[OsString], out: &mut dyn Write) -> Result<(), Failure> {
     let arguments = Arguments::of(args, &TRACING, &["--svg", "--trace"])?;
     if let Some(option) = TRACING.iter().find(|option| arguments.value(option).is_some()) {
         if !arguments.has("--trace") {
@@ -35,7 +36,7 @@ fn run(args: &[String], out: &mut dyn Write) -> Result<(), Failure> {
     let trace = arguments.has("--trace").then(|| arguments.trace(&plan)).transpose()?;
     let caption = trace.as_ref().map(|trace| caption(&arguments, &plan, trace)).unwrap_or_default();
     let text = drawing(&plan, trace.as_ref().map(|trace| &trace.coverage), &caption);
-    let text = if arguments.has("--svg") { dot::svg(&text).map_err(Failure::Refused)? } else { text };
+    let text = if arguments.has("--svg") { svg(&plan, &text).map_err(Failure::Refused)? } else { text };
     out.write_all(text.as_bytes())?;
     trace.map_or(Ok(()), |trace| ended(&arguments, &plan, &trace))
 }

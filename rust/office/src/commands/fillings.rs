@@ -1,10 +1,12 @@
 //! `fairleadow fillings`: how often stacks of 1 to 32 places fill.
 
+use std::ffi::OsString;
 use std::io::Write;
 
 use fairleadow::Proved;
 
 use super::options::Arguments;
+use crate::columns::reading;
 use crate::command::{Command, Failure};
 use crate::fillings::{Drawing, Lists};
 use crate::names::Names;
@@ -16,7 +18,8 @@ pub const COMMAND: Command = Command {
     help: "draws which share of all lists of words fills the stack, for stacks of 1 to 32 places",
     details: &["
 All lists of N words are tried in which conditions 0 to K - 1 are 0 or 1 and the others 0, each from a fresh state. One
-that a full stack ends (refusal 17) fills it; a drop to the handler is no end. Of an image that was patched by hand some
+that a full stack ends (refusal 17) fills it. A drop to the handler is no end: where there is a handler, the lists that
+drop are counted beside those, and the share is that of both. Of an image that was patched by hand some
 lists may find no row (18).
 
   --ticks N       how many words a list has, 0 to 65536; N times K is 16 at most. If not given, as many as that allows
@@ -25,15 +28,18 @@ lists may find no row (18).
     run,
 };
 
-fn run(args: &[String], out: &mut dyn Write) -> Result<(), Failure> {
+fn run(args: &[OsString], out: &mut dyn Write) -> Result<(), Failure> {
     let arguments = Arguments::of(args, &["--ticks", "--conditions"], &[])?;
     let (ticks, conditions) = (arguments.number("--ticks")?, arguments.number("--conditions")?);
     let subject = Subject::read(arguments.bytes()?).map_err(|problem| arguments.failure(problem))?;
     let lists = Lists::of(&subject.image, ticks, conditions);
     let told = |answer| arguments.failure(subject.problem(answer));
     let drawing = Drawing::of(&Proved, &subject.image, lists).map_err(told)?;
+    let drawing =
+        drawing.with_drops(&Proved, &subject.image).map_err(|problem| arguments.failure(problem))?;
     let no_names = Names::default();
     let names = subject.names().unwrap_or(&no_names);
     writeln!(out, "{}: {}\n", arguments.title(), drawing.title(&subject.image, names))?;
-    Ok(out.write_all(drawing.report().as_bytes())?)
+    let report = drawing.report();
+    Ok(out.write_all((report.clone() + &reading(&report).unwrap_or_default()).as_bytes())?)
 }

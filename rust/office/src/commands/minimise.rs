@@ -1,43 +1,45 @@
 //! `fairleadow minimise`: the image with its alike labels joined.
 
+use std::ffi::OsString;
 use std::io::Write;
 
 use fairleadow::{Answer, Library, Proved};
 
-use super::options::Arguments;
+use super::options::{Arguments, FORCE_HELP};
 use crate::command::{Command, Failure};
 use crate::explain;
 use crate::explain::image::Header;
 use crate::kind::Kind;
+use crate::output;
 use crate::problem::{counted, thousands, Problem};
 use crate::why::Subject;
 
 pub const COMMAND: Command = Command {
     name: "minimise",
-    arguments: "CHART [-o FILE.image]",
+    arguments: "CHART [-o FILE.image [--force]]",
     help: "joins the labels of a chart or an image that act alike, and tells how much is saved",
-    details: &["
+    details: &[
+        "
 The smaller image ticks as the given one does, whatever the words, results and swaps. Status 1 means refused: of an
 image that was patched by hand some word may match no row of a label, or two.
 
-  -o FILE.image  where the smaller image is written, - for standard output, and then nothing is told"],
+  -o FILE.image  where the smaller image is written, - for standard output, and then nothing is told",
+        FORCE_HELP,
+    ],
     run,
 };
 
-fn run(args: &[String], out: &mut dyn Write) -> Result<(), Failure> {
-    let arguments = Arguments::of(args, &["-o"], &[])?;
-    let file = arguments.value("-o");
-    if let Some(file) = file.filter(|file| *file != "-" && arguments.reads(file)) {
-        return Err(Failure::Usage(format!("{file} is what the image is made of: it would be lost")));
-    }
+fn run(args: &[OsString], out: &mut dyn Write) -> Result<(), Failure> {
+    let arguments = Arguments::of(args, &["-o"], &["--force"])?;
+    let file = arguments.written()?;
     let failure = |problem| arguments.failure(problem);
     let image = Subject::read(arguments.bytes()?).map_err(failure)?.image.text;
     let smaller = minimised(&image).map_err(failure)?;
     match file {
-        Some("-") => return Ok(out.write_all(&smaller)?),
+        Some(file) if file == "-" => return Ok(out.write_all(&smaller)?),
         Some(file) => {
             let told = |error| Failure::of(file, format!("the image cannot be written: {error}"));
-            std::fs::write(file, &smaller).map_err(told)?;
+            output::write(file, &smaller).map_err(told)?;
         }
         None => {}
     }

@@ -1,13 +1,16 @@
 //! What the commands that trace share: their arguments, the chart, and the trace that is asked for.
 
-use std::collections::BTreeMap;
-use std::fs;
+use std::ffi::{OsStr, OsString};
 use std::path::Path;
 
 use fairleadow::PLACES;
 
+use crate::arguments::Given;
 use crate::command::Failure;
+use crate::names::Names;
+use crate::output;
 use crate::plan::Plan;
+use crate::problem::{shortened, shown_name};
 use crate::source;
 use crate::trace::swaps::{self, Swap};
 use crate::trace::words::Words;
@@ -30,7 +33,7 @@ pub const RUNNING_HELP: &str = "
   --words WORDS  the words, one a tick; bit i of a word is condition i. One of
                    random:SEED    random words, the same for the same seed
                    count          0, 1, 2 and so on
-                   0,1,0x8004     these words
+                   0,1,0x8004     these words, decimal, or hexadecimal after 0x
                    FILE           one word a line, # before a comment; - is standard input,
                                   ./FILE one whose name begins with a digit
                  random:1 if not given, so that every condition is 0 and 1 in turn
@@ -41,82 +44,67 @@ pub const RUNNING_HELP: &str = "
 pub const SWAP_HELP: &str =
     "  --swap SWAPS   TICK:NUMBER=SCHEME, with commas between them: right before that tick, counted
                  from 0, the number is given to that scheme to serve. Later calls of the number
-                 open it; what is open goes on.";
+                 open it; what is open goes on. Both are numbers or names: 4:roughing=finer.";
+
+/// The help of what goes with a file that is written.
+pub const FORCE_HELP: &str =
+    "  --force        also where the file holds a chart, an image or the notation, which is lost then";
 
 /// A file without the folders before it.
-pub fn title(file: &str) -> String {
+pub fn title(file: &OsStr) -> String {
     match Path::new(file).file_name() {
-        Some(name) if file != "-" => name.to_string_lossy().into_owned(),
+        Some(name) if file != "-" => shown_name(name),
         _ => "standard input".to_string(),
     }
 }
 
-/// The arguments taken apart.
+/// What a command that takes one chart was given.
 pub struct Arguments {
-    chart: String,
-    values: BTreeMap<String, String>,
-    switches: Vec<String>,
+    chart: OsString,
+    given: Given,
 }
 
 impl Arguments {
-    /// Takes apart one chart, options with a value, and switches; anything else is told.
-    pub fn of(args: &[String], options: &[&str], switches: &[&str]) -> Result<Arguments, Failure> {
-        let mut charts = Vec::new();
-        let mut taken = Arguments { chart: String::new(), values: BTreeMap::new(), switches: Vec::new() };
-        let mut rest = args.iter();
-        while let Some(arg) = rest.next() {
-            if switches.contains(&arg.as_str()) {
-                taken.switches.push(arg.clone());
-            } else if options.contains(&arg.as_str()) {
-                let value = rest.next().ok_or_else(|| Failure::Usage(format!("{arg} needs a value")))?;
-                if taken.values.insert(arg.clone(), value.clone()).is_some() {
-                    return Err(Failure::Usage(format!("{arg} is given twice")));
-                }
-            } else if arg.starts_with('-') && arg != "-" {
-                return Err(Failure::Usage(format!("no option {arg}")));
-            } else {
-                charts.push(arg.clone());
-            }
-        }
-        match charts.as_slice() {
-            [] => Err(Failure::Usage("a chart is missing".to_string())),
-            [chart] => Arguments { chart: chart.clone(), ..taken }.with_one_input(),
-            [_, second, ..] => Err(Failure::Usage(format!("one chart only, and {second} is one more"))),
-        }
-    }
-
-    /// Refused where two files are to be read from standard input.
-    fn with_one_input(self) -> Result<Arguments, Failure> {
+    /// One chart, options with a value, and switches; anything else is told, and two files from standard input.
+    pub fn of(args: &[OsString], options: &[&str], switches: &[&str]) -> Result<Arguments, Failure> {
+        let given = Given::of(args, options, switches)?;
+        let chart = given.one_file("chart")?.to_os_string();
         let files = [
-            ("chart", Some(self.chart.as_str())),
-            ("words", self.value("--words")),
-            ("prices", self.value("--prices")),
+            ("chart", Some(chart.as_os_str())),
+            ("words", given.value("--words")),
+            ("prices", given.value("--prices")),
         ];
-        let read: Vec<&str> =
-            files.into_iter().filter(|(_, file)| *file == Some("-")).map(|(what, _)| what).collect();
-        match read[..] {
+        let read =
+            files.into_iter().filter(|(_, file)| file.is_some_and(|file| file == "-")).map(|(what, _)| what);
+        match read.collect::<Vec<&str>>()[..] {
             [first, second, ..] => {
                 Err(Failure::Usage(format!("{first} and {second} cannot both be standard input")))
             }
-            _ => Ok(self),
+            _ => Ok(Arguments { chart, given }),
         }
     }
 
     pub fn has(&self, switch: &str) -> bool {
-        self.switches.iter().any(|given| given == switch)
+        self.given.has(switch)
     }
 
-    pub fn value(&self, option: &str) -> Option<&str> {
-        self.values.get(option).map(String::as_str)
+    /// The file that an option names.
+    pub fn value(&self, option: &str) -> Option<&OsStr> {
+        self.given.value(option)
+    }
+
+    /// What an option says that names no file.
+    pub fn text(&self, option: &str) -> Option<String> {
+        self.value(option).map(|value| value.to_string_lossy().into_owned())
     }
 
     /// The number that an option has.
     pub fn number(&self, option: &str) -> Result<Option<usize>, Failure> {
-        let parse = |value: &str| {
+        let parse = |value: String| {
             let number = value.parse();
-            number.map_err(|_| Failure::Usage(format!("{option} takes a number, not {value}")))
+            number.map_err(|_| Failure::Usage(format!("{option} takes a number, not {}", shown_name(value))))
         };
-        self.value(option).map(parse).transpose()
+        self.text(option).map(parse).transpose()
     }
 
     /// The chart's file without the folders before it.
@@ -124,11 +112,16 @@ impl Arguments {
         title(&self.chart)
     }
 
-    /// Whether a file is the chart or that of the words.
-    pub fn reads(&self, file: &str) -> bool {
-        let read = [self.chart.as_str(), self.words()];
-        fs::canonicalize(file)
-            .is_ok_and(|file| read.iter().any(|own| fs::canonicalize(own).is_ok_and(|own| own == file)))
+    /// The file that is written, where one is: not the chart or the words, and with --force alone one that holds such.
+    pub fn written(&self) -> Result<Option<&OsStr>, Failure> {
+        let file = self.value("-o");
+        if file.is_none() && self.has("--force") {
+            return Err(Failure::Usage("--force goes with -o".to_string()));
+        }
+        if let Some(file) = file.filter(|file| *file != "-") {
+            output::may_write(file, &[&self.chart, self.words()], self.has("--force"))?;
+        }
+        Ok(file)
     }
 
     /// A problem of the chart's file.
@@ -142,8 +135,17 @@ impl Arguments {
     }
 
     /// The words as they were given.
-    pub fn words(&self) -> &str {
-        self.value("--words").unwrap_or(WORDS)
+    pub fn words(&self) -> &OsStr {
+        self.value("--words").unwrap_or(OsStr::new(WORDS))
+    }
+
+    /// The words as a caption names them.
+    pub fn words_named(&self) -> String {
+        let words = shown_name(self.words());
+        match words.starts_with(|first: char| first.is_ascii_digit()) {
+            true => shortened(&words, "word"),
+            false => words,
+        }
     }
 
     /// The bytes of the chart's file.
@@ -154,13 +156,13 @@ impl Arguments {
     /// Traces the chart over the words that are asked for.
     pub fn trace(&self, plan: &Plan) -> Result<Trace, Failure> {
         let (places, words) = self.places_and_words()?;
-        let swaps = self.swaps(words.len())?;
+        let swaps = self.swaps(words.len(), &plan.names)?;
         trace::trace(plan, places, &words, &swaps).map_err(|problem| self.failure(problem))
     }
 
     /// The swaps that are asked for, none of them past the last of so many ticks.
-    pub fn swaps(&self, ticks: usize) -> Result<Vec<Swap>, Failure> {
-        self.value("--swap").map_or(Ok(Vec::new()), |text| swaps::given(text, ticks))
+    pub fn swaps(&self, ticks: usize, names: &Names) -> Result<Vec<Swap>, Failure> {
+        self.text("--swap").map_or(Ok(Vec::new()), |text| swaps::given(&text, ticks, names))
     }
 
     /// The places of the stack and the words that are asked for, one at least.

@@ -1,11 +1,13 @@
 //! `fairleadow trace`: a chart's ticks as a table.
 
+use std::ffi::OsString;
 use std::io::Write;
 
 use super::options::{Arguments, RUNNING_HELP, SWAP_HELP, TRACING};
+use crate::columns::reading;
 use crate::command::{Command, Failure};
 use crate::plan::Plan;
-use crate::problem::counted;
+use crate::problem::{counted, shortened};
 use crate::trace::table::report;
 use crate::trace::Trace;
 
@@ -15,22 +17,23 @@ pub const COMMAND: Command = Command {
     help: "runs a chart tick by tick, and tells which nodes and arcs were never taken",
     details: &[
         "
-Each tick has a line: the word, the node, what happens, the micro operations, the open schemes and the result bits
+Each tick has a line: the word, the node, what happens, the outputs, the open schemes and the result bits
 after it. Of the conditions at 1 those are named that the chart tests. A call that finds the stack full drops all that
 is open and starts the handler, if the chart marks one. Where another scheme serves a number, both are named. Status 1
-means that a refusal ended it.",
+means that a refusal ended it. Lines that are wider than the window: `fairleadow trace ... | less -S`.",
         RUNNING_HELP,
         SWAP_HELP,
     ],
     run,
 };
 
-fn run(args: &[String], out: &mut dyn Write) -> Result<(), Failure> {
+fn run(args: &[OsString], out: &mut dyn Write) -> Result<(), Failure> {
     let arguments = Arguments::of(args, &TRACING, &[])?;
     let plan = arguments.plan()?;
     let trace = arguments.trace(&plan)?;
     writeln!(out, "{}: {}\n", arguments.title(), summary(&arguments, &plan, &trace))?;
-    out.write_all(report(&plan, &trace).as_bytes())?;
+    let report = report(&plan, &trace);
+    out.write_all((report.clone() + &reading(&report).unwrap_or_default()).as_bytes())?;
     match &trace.stopped {
         Some(stopped) => {
             let ticks = counted(trace.ticks.len(), "tick");
@@ -42,12 +45,13 @@ fn run(args: &[String], out: &mut dyn Write) -> Result<(), Failure> {
 
 /// What is traced, and with what.
 pub fn summary(arguments: &Arguments, plan: &Plan, trace: &Trace) -> String {
-    let swaps = arguments.value("--swap").map_or(String::new(), |swaps| format!("; swaps {swaps}"));
+    let swaps = arguments.text("--swap").map(|swaps| format!("; swaps {}", shortened(&swaps, "swap")));
     format!(
-        "{} in {}; stack of {}; words {}{swaps}",
+        "{} in {}; stack of {}; words {}{}",
         counted(plan.nodes.len(), "node"),
         counted(usize::from(plan.schemes()), "scheme"),
         counted(trace.places, "place"),
-        arguments.words()
+        arguments.words_named(),
+        swaps.unwrap_or_default()
     )
 }

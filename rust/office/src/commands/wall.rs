@@ -1,14 +1,16 @@
 //! `fairleadow wall`: the wall sheet of all little charts, or one of them.
 
+use std::ffi::OsString;
 use std::io::Write;
 
 use fairleadow::{Answer, Library, Proved, LINE, LITTLE_FRAMES, LITTLE_TEXT, RECORD, RECORDS};
 
+use crate::arguments::Given;
 use crate::command::{Command, Failure};
 use crate::explain;
 use crate::kind::Kind;
 use crate::notation::Notation;
-use crate::problem::{counted, Problem};
+use crate::problem::{counted, shown_name, Problem};
 
 pub const COMMAND: Command = Command {
     name: "wall",
@@ -23,16 +25,14 @@ no such chart."],
     run,
 };
 
-fn run(args: &[String], out: &mut dyn Write) -> Result<(), Failure> {
-    if let Some(option) = args.iter().find(|arg| arg.starts_with('-')) {
-        return Err(Failure::Usage(format!("no option {option}")));
-    }
-    match args {
+fn run(args: &[OsString], out: &mut dyn Write) -> Result<(), Failure> {
+    let operands = Given::of(args, &[], &[])?.operands;
+    match operands.iter().map(shown_name).collect::<Vec<String>>().as_slice() {
         [] => sheet(&all(2..=LITTLE_FRAMES)?, out),
         [frames] => sheet(&all(number(frames)?..=number(frames)?)?, out),
         [frames, chart] => {
             let (frames, chart) = (number(frames)?, number(chart)?);
-            let told = |problem| Failure::of(&format!("{frames} frames, chart {chart}"), problem);
+            let told = |problem| Failure::of(format!("{frames} frames, chart {chart}"), problem);
             Ok(out.write_all(&fetched(frames, chart).map_err(told)?)?)
         }
         [_, _, more, ..] => Err(Failure::Usage(format!("{more} is one word more"))),
@@ -64,7 +64,7 @@ struct Charts {
 /// All charts of these frame counts, each of which has some.
 fn all(counts: impl Iterator<Item = usize>) -> Result<Vec<Charts>, Failure> {
     let of_count = |frames: usize| {
-        let first = fetched(frames, 0).map_err(|problem| Failure::of(&counted(frames, "frame"), problem))?;
+        let first = fetched(frames, 0).map_err(|problem| Failure::of(counted(frames, "frame"), problem))?;
         let others = (1..).map_while(|chart| fetched(frames, chart).ok());
         Ok(Charts { frames, lines: [first].into_iter().chain(others).collect() })
     };

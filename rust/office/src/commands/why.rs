@@ -1,9 +1,11 @@
 //! `fairleadow why`: what made a tick go where it went.
 
+use std::ffi::OsString;
 use std::io::Write;
 
 use super::options::{Arguments, RUNNING_HELP, SWAP_HELP, TRACING};
 use crate::command::{Command, Failure};
+use crate::names::Names;
 use crate::why::{asked, told, Subject};
 
 pub const COMMAND: Command = Command {
@@ -25,7 +27,7 @@ with nothing beneath it take no row. Status 1 means such a tick, or one that fin
     run,
 };
 
-fn run(args: &[String], out: &mut dyn Write) -> Result<(), Failure> {
+fn run(args: &[OsString], out: &mut dyn Write) -> Result<(), Failure> {
     let arguments = Arguments::of(args, &[TRACING.as_slice(), &["--tick"]].concat(), &[])?;
     let failure = |problem| arguments.failure(problem);
     let subject = Subject::read(arguments.bytes()?).map_err(failure)?;
@@ -36,7 +38,8 @@ fn run(args: &[String], out: &mut dyn Write) -> Result<(), Failure> {
         let made = format!("the words make ticks 0 to {last}");
         return Err(Failure::Usage(format!("there is no tick {tick}: {made} (--ticks asks for more)")));
     }
-    let swaps = arguments.swaps(words.len())?;
+    let no_names = Names::default();
+    let swaps = arguments.swaps(words.len(), subject.names().unwrap_or(&no_names))?;
     let asked = asked(&subject, places, &words, &swaps, tick).map_err(failure)?;
     let words = told(&subject, &asked).map_err(failure)?;
     Ok(writeln!(out, "{}: {words}", arguments.title())?)

@@ -6,7 +6,7 @@ use crate::notation::WHEN_FULL;
 use crate::plan::Plan;
 use crate::wording::kind;
 
-/// The longest line of micro operations, in characters; a longer list is broken.
+/// The longest line of outputs, in characters; a longer list is broken.
 const LONGEST: usize = 26;
 
 /// The lines of a node, as graphviz writes them: its name, what it does, and its label in small.
@@ -25,10 +25,11 @@ pub fn label(plan: &Plan, at: usize) -> String {
         }
         Node::Operation { .. } => operation(plan, at, &name),
     };
-    if let Some(label) = plan.marking.label(at) {
+    if let Some(label) = plan.label(at) {
         lines.push(small(&format!("label {label}")));
     }
-    format!("<{}>", lines.join("<BR/>"))
+    let rows: String = lines.iter().map(|line| format!("<TR><TD>{line}</TD></TR>")).collect();
+    format!("<<TABLE BORDER=\"0\" CELLBORDER=\"0\" CELLSPACING=\"0\" CELLPADDING=\"1\">{rows}</TABLE>>")
 }
 
 /// A Begin or an End, with its name where that says something else.
@@ -40,7 +41,7 @@ fn edge_of_scheme(kind: &str, name: &str) -> String {
     }
 }
 
-/// An operation: its name, micro operations, the result that it writes and the scheme that it calls.
+/// An operation: its name, outputs, the result that it writes and the scheme that it calls.
 fn operation(plan: &Plan, at: usize, name: &str) -> Vec<String> {
     let Node::Operation { called, result, mask, .. } = plan.nodes[at] else { return Vec::new() };
     let mut lines = vec![format!("<B>{name}</B>")];

@@ -2,6 +2,7 @@
 
 use crate::calls::Calls;
 use crate::chart;
+use crate::marking::handler;
 use crate::problem::Problem;
 
 use super::nodes::{Record, ARGUMENT, SCHEME};
@@ -9,7 +10,8 @@ use super::voice::Voice;
 
 /// The calls of the circle, each by its node.
 pub fn of_calls(records: &[Record], voice: Voice) -> Option<Problem> {
-    let Calls::Circle(nodes) = Calls::of(&chart::nodes(&records.concat())) else {
+    let chart = chart::nodes(&records.concat());
+    let Calls::Circle(nodes) = Calls::of(&chart) else {
         return None;
     };
     let first = *nodes.first()?;
@@ -23,6 +25,14 @@ pub fn of_calls(records: &[Record], voice: Voice) -> Option<Problem> {
             .collect();
         format!("{caller} calls itself through others: it calls {}", calls.join(", which calls "))
     };
-    let advice = "a call of the wrong scheme; where the circle is meant, a handler for the full stack";
+    let advice = match handler(&chart) {
+        0 => {
+            "a call of the wrong scheme; where the circle is meant, a handler for the full stack".to_string()
+        }
+        own => {
+            let own = voice.scheme(own);
+            format!("a call of the wrong scheme; where the circle is meant, {own} is there, the handler for the full stack")
+        }
+    };
     Some(voice.problem(first, ARGUMENT, &what).advice(advice))
 }

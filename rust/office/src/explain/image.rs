@@ -7,7 +7,7 @@ use crate::problem::{counted, thousands, Problem};
 pub type Frame = [u8; 10];
 
 /// What the header says: the number of schemes, the highest label, the number of rows, and the handler, 0 for none.
-#[derive(Clone, Copy)]
+#[derive(Clone, Copy, Debug)]
 pub struct Header {
     pub schemes: usize,
     pub last: usize,

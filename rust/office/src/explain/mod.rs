@@ -1,4 +1,5 @@
-//! A refusal of the library in words. The library's answer decides; here the reason for that very answer is found.
+//! A refusal of the library in words. The library's answer decides; here the reason for that very answer is found, by the rule of its
+//! number, and where it names a line, on that line. Where there is none, an internal error is told in its place.
 
 mod circles;
 pub mod image;
@@ -10,25 +11,25 @@ mod rows;
 pub mod rules;
 mod uneven;
 mod voice;
+pub mod warnings;
 
 use fairleadow::{Answer, Refusal, CHART_TEXT, IMAGE_TEXT, LINE, NODES, RECORD};
 
+use crate::calls::Calls;
+use crate::chart::{self, Node};
 use crate::kind::Kind;
+use crate::marking::handler;
 use crate::names::Names;
 use crate::problem::{counted, thousands, Problem};
 
 use voice::Voice;
-
-/// Said where no reason is found, which the tests never meet.
-pub const UNEXPLAINED: &str = "the library turns this back, and no reason was found";
 
 /// Why the library refuses this text as a chart or as an image, or a run of it.
 pub fn refusal(text: &[u8], asked: Kind, answer: Answer) -> Problem {
     let Err(refusal) = answer.ok() else {
         return Problem::new("nothing is refused");
     };
-    let problem = reason(text, asked, &refusal).unwrap_or_else(|| Problem::new(UNEXPLAINED));
-    problem.refused(refusal).excerpt(text)
+    held(reason(text, asked, &refusal), refusal, refusal.frame().map(|frame| frame + 1)).excerpt(text)
 }
 
 fn reason(text: &[u8], asked: Kind, refusal: &Refusal) -> Option<Problem> {
@@ -42,6 +43,7 @@ fn reason(text: &[u8], asked: Kind, refusal: &Refusal) -> Option<Problem> {
         11 => image::header(&frames(text)?),
         12 => image::place(&frames(text)?, index),
         13 => image_fields::field(&frames(text)?, index),
+        17 => Some(full_stack(refusal, chart_of(text, asked).as_deref())),
         23 => uneven::label(&frames(text)?),
         _ => of_run(refusal),
     }
@@ -57,9 +59,27 @@ pub fn composed(records: &[u8], names: &Names, lines: &[usize], answer: Answer) 
     let problem = match refusal.number {
         1 => Some(node_count(records.len(), lines)),
         4..=10 | 19 | 20 => of_records(&records, &refusal, Voice::Notation { names, lines }),
+        17 => Some(full_stack(&refusal, Some(&chart::nodes(&records.concat())))),
         _ => of_run(&refusal),
     };
-    problem.unwrap_or_else(|| Problem::new(UNEXPLAINED)).refused(refusal)
+    held(problem, refusal, refusal.frame().and_then(|node| lines.get(node).copied()))
+}
+
+/// The reason found, if it is one for this refusal: on the line that the library names, where it names one.
+fn held(reason: Option<Problem>, refusal: Refusal, line: Option<usize>) -> Problem {
+    let problem = match reason {
+        None => Problem::internal("the library turns this back, and no reason for it is found"),
+        Some(problem) if line.is_some() && problem.line != line => {
+            let found = problem.line.map_or("no line".to_string(), |found| format!("line {found}"));
+            let what = format!(
+                "the library turns line {} back, and a reason is found on {found}",
+                line.unwrap_or(0)
+            );
+            Problem::internal(what)
+        }
+        Some(problem) => problem,
+    };
+    problem.refused(refusal)
 }
 
 /// Refusal 1 of a notation.
@@ -92,26 +112,45 @@ fn of_records(records: &[[u8; RECORD]], refusal: &Refusal, voice: Voice) -> Opti
     }
 }
 
-/// Refusals 14 to 18, 21, 22, 24, 27 and 28, which name no line.
+/// The nodes of a chart's text.
+fn chart_of(text: &[u8], asked: Kind) -> Option<Vec<Node>> {
+    let frames = (asked == Kind::Chart).then(|| frames(text)).flatten()?;
+    Some(chart::nodes(&frames.concat()))
+}
+
+/// Refusal 17, with advice that fits the chart that was run, where it was one.
+fn full_stack(refusal: &Refusal, nodes: Option<&[Node]>) -> Problem {
+    let advice = match nodes.map(|nodes| (handler(nodes), Calls::of(nodes))) {
+        None => "an image that calls deeper than the stack has places: more places (32 at most), or calls less deep".to_string(),
+        Some((1.., _)) => {
+            "a handler that calls deeper than the stack has places: more places (32 at most), or a handler that calls less deep".to_string()
+        }
+        Some((0, Calls::Circle(_))) => {
+            "a chart that calls itself, for which no number of places is enough whatever the words: more places (32 at most), words \
+             by which it calls less deep, or a handler, which starts when the stack is full"
+                .to_string()
+        }
+        Some((0, Calls::Chain(schemes))) => {
+            let places = counted(schemes.len(), "place");
+            format!("too few places: this chart needs {places}, and more only where a scheme is swapped for one that calls deeper")
+        }
+    };
+    let ticks = counted(refusal.count, "tick");
+    Problem::new(format!("after {ticks} a call finds the stack full")).advice(advice)
+}
+
+/// Refusals 14 to 16, 18, 21, 22, 24, 27 and 28, which name no line.
 fn of_run(refusal: &Refusal) -> Option<Problem> {
     let ticks = counted(refusal.count, "tick");
     let (words, advice) = match refusal.number {
         14 => ("a stack has 1 to 32 places".to_string(), "the number of places asked for"),
         15 => ("the state does not fit the image".to_string(), "a state kept from another chart"),
         16 => ("a buffer is too short for the answer".to_string(), "the caller's buffers"),
-        17 => (
-            format!("after {ticks} a call finds the stack full"),
-            "a chart or a handler that calls deeper than the stack has places: give it more (32 at most; `fairleadow \
-             places` tells how many it needs), or let it call less deep",
-        ),
         18 => (
             format!("after {ticks} no row of the label matches the word"),
             "a row that was taken out of the image by hand; the image of a chart has them all",
         ),
-        21 => (
-            "the tick takes no row".to_string(),
-            "a tick before it or after it that is plain or a return",
-        ),
+        21 => ("the tick takes no row".to_string(), "a tick before it or after it that is plain or a return"),
         22 => (
             "this number cannot be given to that scheme".to_string(),
             "a number and a scheme from 2 to the highest one, and a number that is not the handler's",
@@ -152,5 +191,30 @@ pub fn accepted(nodes: Option<usize>, image: &[u8]) -> String {
             )
         }
         None => format!("accepted: an image of {schemes}, {labels} labels and {rows}{handler}"),
+    }
+}
+
+#[cfg(test)]
+mod tests {
+    use super::*;
+
+    const CHART: &[u8] = include_bytes!("../../../../examples/home.chart");
+    const IMAGE: &[u8] = include_bytes!("../../../../examples/home.image");
+
+    /// Refusals that this chart and its image do not deserve, and a reason that is found on another line than the library's.
+    #[test]
+    fn a_refusal_without_its_reason_is_an_internal_error() {
+        let of_chart = (1..=10).chain([19, 20]).map(|number| (CHART, Kind::Chart, number));
+        let of_image = [1, 2, 3, 11, 12, 13, 23].map(|number| (IMAGE, Kind::Image, number));
+        for (text, kind, number) in of_chart.chain(of_image) {
+            let told = refusal(text, kind, Answer::Refused { number, index: 1, count: 0 });
+            assert!(told.is_internal() && told.refusal.is_some_and(|own| own.number == number), "{told}");
+            assert!(told.advice.contains("the makers of this program"), "{told}");
+        }
+        let refusal = Refusal { number: 6, index: 4, count: 0 };
+        let found = |line| held(Some(Problem::at(line, 1, "a reason")), refusal, Some(5));
+        assert_eq!(found(5).words, "line 5, column 1: a reason");
+        let told = "internal error: the library turns line 5 back, and a reason is found on line 4";
+        assert_eq!(found(4).words, told);
     }
 }

@@ -15,7 +15,7 @@ const FUNCTION: u8 = 4;
 /// Where fields stand in a record.
 pub const SCHEME: usize = 1;
 pub const ARGUMENT: usize = 2;
-const NEXT: usize = 3;
+pub const NEXT: usize = 3;
 const RESULT: usize = 5;
 
 /// A kind with its article.

@@ -2,6 +2,7 @@
 
 use super::image::{Frame, Header};
 use crate::problem::Problem;
+use crate::wording;
 
 const FUNCTION_CALL: u8 = 2;
 
@@ -25,15 +26,16 @@ fn of_label(header: &Header, frames: &[Frame], label: u8) -> Option<Problem> {
             let found: Vec<usize> =
                 rows.iter().filter(|(_, row)| matches(row)).map(|(at, _)| at + 1).collect();
             let result = if calls { format!(" and result {bit}") } else { String::new() };
+            let shown = wording::word(word);
             match found[..] {
                 [_] => {}
                 [] => {
                     let line = header.line_of(label);
-                    let words = format!("line {line}: label {label} has no row for word {word:04X}{result}");
+                    let words = format!("line {line}: label {label} has no row for word {shown}{result}");
                     return Some(Problem::on(line, 1, words).advice(ADVICE));
                 }
                 [first, second, ..] => {
-                    let rows = format!("two rows for word {word:04X}{result}, this and line {first}");
+                    let rows = format!("two rows for word {shown}{result}, this and line {first}");
                     let words = format!("line {second}: label {label} has {rows}");
                     return Some(Problem::on(second, 1, words).advice(ADVICE));
                 }

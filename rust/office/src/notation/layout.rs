@@ -1,6 +1,7 @@
 //! The notation as text, laid out: labels in one column, what nodes do in the next.
 
 use crate::chart::{nodes, Node};
+use crate::columns;
 use crate::names::Names;
 
 use super::{Line, Notation, Part, WHEN_FULL};
@@ -11,7 +12,7 @@ const WIDEST: usize = 20;
 /// The text of a notation.
 pub fn layout(notation: &Notation) -> String {
     let page = Page { nodes: nodes(&notation.records), names: &notation.names };
-    let width = (0..page.nodes.len()).filter_map(|node| page.label(node)).map(|label| label.chars().count());
+    let width = (0..page.nodes.len()).filter_map(|node| page.label(node)).map(|label| columns::width(&label));
     let width = width.max().unwrap_or(0).min(WIDEST) + 1;
     let mut text = String::new();
     for line in &notation.lines {
@@ -35,7 +36,7 @@ impl Page<'_> {
             Part::Scheme(number) => self.scheme(number),
             Part::Node(node) => {
                 let label = self.label(node).map_or(String::new(), |label| format!("{label}:"));
-                let pad = width.saturating_sub(label.chars().count());
+                let pad = width.saturating_sub(columns::width(&label));
                 format!("{label}{:pad$} {}", "", self.step(&self.nodes[node]))
             }
         };

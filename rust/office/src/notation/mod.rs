@@ -37,7 +37,8 @@ use crate::explain;
 use crate::names::Names;
 use crate::problem::{Problem, LONE_RETURNS};
 
-pub use resolve::{output, unknown};
+pub use near::nearest;
+pub use resolve::{output, scheme, unknown};
 use statement::Statement;
 pub use words::Word;
 
@@ -133,6 +134,22 @@ impl Notation {
     pub fn node_lines(&self) -> Vec<usize> {
         let node = |(at, line): (usize, &Line)| matches!(line.part, Part::Node(_)).then_some(at + 1);
         self.lines.iter().enumerate().filter_map(node).collect()
+    }
+
+    /// The line of each condition that is named.
+    pub fn condition_lines(&self) -> impl Iterator<Item = (u8, usize)> + '_ {
+        self.lines.iter().enumerate().filter_map(|(at, line)| match line.part {
+            Part::Condition(number) => Some((number, at + 1)),
+            _ => None,
+        })
+    }
+
+    /// The line of each output that is named.
+    pub fn output_lines(&self) -> impl Iterator<Item = (u8, usize)> + '_ {
+        self.lines.iter().enumerate().filter_map(|(at, line)| match line.part {
+            Part::Output(number) => Some((number, at + 1)),
+            _ => None,
+        })
     }
 
     /// The chart's lines, by the library's writer.

@@ -125,6 +125,12 @@ impl Kind {
     }
 }
 
+/// The number of a scheme by its name, or by one that stands for its number.
+pub fn scheme(names: &Names, name: &str) -> Option<u8> {
+    let given = names.schemes.iter().find(|(_, own)| *own == name).map(|(number, _)| *number);
+    given.or_else(|| SCHEME.own_number(name))
+}
+
 /// The number of an output by its name, or by one that stands for its number.
 pub fn output(names: &Names, name: &str) -> Option<u8> {
     let given = names.operations.iter().find(|(_, own)| *own == name).map(|(number, _)| *number);

@@ -1,8 +1,8 @@
 //! One line of the notation as a statement, its names not yet looked up.
 
-use crate::problem::Problem;
+use crate::problem::{counted, visible, Problem};
 
-use super::words::{Word, Words};
+use super::words::{Word, Words, LONGEST_NAME};
 use super::WHEN_FULL;
 
 #[derive(Clone, Debug, PartialEq, Eq)]
@@ -15,6 +15,9 @@ pub enum Statement {
 
 /// The first words of what a node does.
 const STEPS: [&str; 6] = ["begin", "end", "do", "write", "call", "if"];
+
+/// The signs between words.
+const SIGNS: [&str; 4] = [":", ",", ";", "->"];
 
 /// What a node does.
 #[derive(Clone, Debug, PartialEq, Eq)]
@@ -32,6 +35,7 @@ pub fn statement(words: &Words, line: usize) -> Result<Option<Statement>, Proble
     if reader.peek().is_none() {
         return Ok(None);
     }
+    reader.names()?;
     let statement = reader.statement()?;
     reader.finished()?;
     Ok(Some(statement))
@@ -47,6 +51,24 @@ struct Reader<'a> {
 impl Reader<'_> {
     fn peek(&self) -> Option<&str> {
         self.words.get(self.at).map(|word| word.text.as_str())
+    }
+
+    /// Refused where a sign that the notation does not know joins two words, as in a name that has a hyphen.
+    fn names(&self) -> Result<(), Problem> {
+        let joins = |before: &Word, after: &Word| before.column + before.text.chars().count() == after.column;
+        let is_name = |[before, sign, after]: &[&Word; 3]| {
+            let known = SIGNS.contains(&sign.text.as_str());
+            !known && before.is_letters() && after.is_letters() && joins(before, sign) && joins(sign, after)
+        };
+        let triples = self.words.windows(3).map(|words| [&words[0], &words[1], &words[2]]);
+        match triples.into_iter().find(is_name) {
+            None => Ok(()),
+            Some([before, sign, after]) => {
+                let name = format!("{}{}{}", before.text, sign.text, after.text);
+                let what = format!("'{}' is no name: a name is letters, digits and _", visible(&name));
+                Err(Problem::at(self.line, before.column, what))
+            }
+        }
     }
 
     /// Says what belongs at the place reached.
@@ -77,11 +99,23 @@ impl Reader<'_> {
     fn name(&mut self, what: &str) -> Result<Word, Problem> {
         match self.words.get(self.at) {
             Some(word) if word.is_name() => {
+                self.fits(word)?;
                 self.at += 1;
                 Ok(word.clone())
             }
             _ => Err(self.wanted(what)),
         }
+    }
+
+    /// Refused where a name is longer than any may be.
+    fn fits(&self, name: &Word) -> Result<(), Problem> {
+        let length = name.text.chars().count();
+        if length <= LONGEST_NAME {
+            return Ok(());
+        }
+        let has = counted(length, "character");
+        let what = format!("the name '{}' has {has}, and {LONGEST_NAME} are the most", name.shown());
+        Err(Problem::at(self.line, name.column, what).advice("a shorter name; a space or a sign lost in it"))
     }
 
     /// A node that an arc leads to: its name, or the word for the End of its scheme.

@@ -21,11 +21,19 @@ pub struct Words {
 const RESERVED: [&str; 12] =
     ["condition", "output", "scheme", "begin", "end", "do", "nothing", "write", "call", "if", "then", "else"];
 
+/// The most characters of a name.
+pub const LONGEST_NAME: usize = 64;
+
 impl Word {
     /// Whether this can name something: it begins with a letter and is not one of the notation's own words.
     pub fn is_name(&self) -> bool {
         self.text.starts_with(|c: char| c.is_alphabetic() || c == '_')
             && !RESERVED.contains(&self.text.as_str())
+    }
+
+    /// Whether it is made of what names are made of, and is no sign.
+    pub fn is_letters(&self) -> bool {
+        self.text.chars().all(in_word)
     }
 
     /// As it stands, or by its code where it cannot be seen.

@@ -40,6 +40,7 @@
   // the open schemes, the innermost first
   function stack(row) {
     const list = find("stack");
+    const serving = row.dataset.serving ? row.dataset.serving.split("\n").reverse() : [];
     list.replaceChildren();
     row.dataset.stack.split(" ").reverse().forEach((id, place) => {
       const cells = find("node-" + id).cells;
@@ -47,7 +48,7 @@
       item.dataset.node = id;
       item.className = place === 0 ? "top" : "";
       const scheme = document.createElement("b");
-      scheme.textContent = cells[1].textContent;
+      scheme.textContent = serving[place] ?? cells[1].textContent;
       const where = document.createElement("span");
       where.className = "where";
       where.textContent = (place === 0 ? "at " : "waits at ") + cells[0].textContent;
@@ -70,6 +71,11 @@
     document.body.dataset.tick = String(tick);
     document.body.dataset.node = row.dataset.stack.split(" ").pop();
     find("slider").value = String(tick);
+    find("at").value = String(tick);
+    find("why").textContent = row.dataset.why || "\u2013";
+    document.querySelectorAll("#graph rect").forEach((mark) => mark.setAttribute("x", String(tick)));
+    const [depth, places] = [row.dataset.stack.split(" ").length, find("depth").dataset.places];
+    find("depth").textContent = depth + " of " + places + (places === "1" ? " place" : " places");
     find("counter").textContent = "tick " + tick + " of " + last;
     find("back").disabled = tick === 0;
     find("forward").disabled = tick === last;
@@ -105,23 +111,80 @@
     return here.find((tick) => tick > shown) ?? here[0];
   }
 
-  const keys = { ArrowLeft: -1, ArrowRight: 1, PageUp: -10, PageDown: 10, Home: -Infinity, End: Infinity };
+  // what can be looked for: each call, a drop, each output, and the refusal
+  const events = rows.map((row) => {
+    const happens = row.cells[5].textContent.split("; ").pop();
+    const outputs = Array.from(row.cells[6].querySelectorAll(".chip")).map((chip) => "tick with " + chip.textContent);
+    const call = /^(call of [^,]+|drop|refused)/.exec(happens);
+    return new Set(call ? [call[1], ...outputs] : outputs);
+  });
+  find("wanted").replaceChildren(...Array.from(new Set(events.flatMap((some) => Array.from(some)))).sort().map((name) => new Option(name)));
+  // each output over time, high in the ticks in which it is on
+  const drawn = (kind, attributes) => {
+    const one = document.createElementNS(document.querySelector("#sheet svg").namespaceURI, kind);
+    Object.entries(attributes).forEach(([name, value]) => one.setAttribute(name, value));
+    return one;
+  };
+  const named = Array.from(find("wanted").options, (option) => option.value).filter((value) => value.startsWith("tick with "));
+  named.forEach((event) => {
+    const output = event.slice("tick with ".length);
+    const levels = events.map((some) => (some.has(event) ? 1 : 9));
+    const path = levels.map((level, tick) => (tick ? "V" + level : "M0 " + level) + "H" + (tick + 1)).join("");
+    const line = drawn("svg", { viewBox: "0 0 " + rows.length + " 10", preserveAspectRatio: "none", role: "img" });
+    line.setAttribute("aria-label", output + " over time");
+    line.append(drawn("rect", { x: "0", y: "0", width: "1", height: "10" }), drawn("path", { d: path }));
+    line.addEventListener("click", (click) => show(Math.floor((click.offsetX / line.clientWidth) * rows.length)));
+    const [name, row] = [document.createElement("span"), document.createElement("div")];
+    name.textContent = output;
+    row.append(name, line);
+    find("graph").append(row);
+  });
+
+  function seek() {
+    const here = events.map((some, tick) => (some.has(find("wanted").value) ? tick : -1)).filter((tick) => tick >= 0);
+    const tick = here.find((one) => one > shown) ?? here[0];
+    if (tick !== undefined) show(tick);
+  }
+  find("find").addEventListener("click", seek);
+  find("at").addEventListener("change", (event) => show(Math.trunc(Number(event.target.value)) || 0));
+
+  // left and right step; all other keys are the document's, and all keys are a field's that is typed in
+  const keys = { ArrowLeft: -1, ArrowRight: 1 };
+  const isTyped = (one) => one.isContentEditable || (one.matches("input, textarea, select") && one !== find("slider"));
   document.addEventListener("keydown", (event) => {
-    if (!(event.key in keys) || event.ctrlKey || event.altKey || event.metaKey) return;
+    if (!(event.key in keys) || event.ctrlKey || event.altKey || event.metaKey || isTyped(event.target)) return;
     event.preventDefault();
     show(shown + keys[event.key]);
   });
+
+  // a node or a row that is reached by the Tab key does by Enter or Space what a click does
+  function reachable(one, name) {
+    one.setAttribute("tabindex", "0");
+    if (name) {
+      one.setAttribute("role", "button");
+      one.setAttribute("aria-label", name);
+    }
+    one.addEventListener("keydown", (event) => {
+      if (event.key !== "Enter" && event.key !== " ") return;
+      event.preventDefault();
+      one.dispatchEvent(new MouseEvent("click", { bubbles: true }));
+    });
+  }
   find("slider").addEventListener("input", (event) => show(Number(event.target.value)));
   find("back").addEventListener("click", () => show(shown - 1));
   find("forward").addEventListener("click", () => show(shown + 1));
   find("fit").addEventListener("change", (event) => fit(event.target.checked));
-  rows.forEach((row, tick) => row.addEventListener("click", () => show(tick)));
-  document.querySelectorAll("svg g.node").forEach((node) =>
+  rows.forEach((row, tick) => {
+    row.addEventListener("click", () => show(tick));
+    reachable(row);
+  });
+  document.querySelectorAll("svg g.node").forEach((node) => {
     node.addEventListener("click", () => {
       const tick = nextAt(node.id);
       if (tick !== undefined) show(tick);
-    })
-  );
+    });
+    reachable(node, node.querySelector("title").textContent + ": its next tick");
+  });
   window.addEventListener("hashchange", () => show(asked()));
   fit(fits());
   show(asked());

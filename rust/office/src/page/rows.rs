@@ -4,23 +4,44 @@ use crate::draw::{arc_id, call_id, node_id};
 use crate::escape::escaped;
 use crate::plan::Plan;
 use crate::trace::table::HEADINGS;
-use crate::trace::{Happening, Tick, Trace};
-use crate::wording::kind;
+use crate::trace::{Happening, Opened, Stopped, Tick, Trace};
+use crate::why::reasons;
+use crate::wording::{kind, word};
 
 /// The headings of the table of ticks.
 pub fn headings() -> String {
     HEADINGS.iter().map(|heading| format!("<th scope=\"col\">{heading}</th>")).collect()
 }
 
-/// A row a tick, with the identifiers of what it lights.
+/// A row a tick, with the identifiers of what it lights, and one for the tick that was refused.
 pub fn ticks(plan: &Plan, trace: &Trace) -> String {
-    trace.ticks.iter().enumerate().map(|(number, tick)| row(plan, number, tick)).collect()
+    let reasons = reasons(plan, trace).unwrap_or_else(|problem| vec![problem.words; trace.ticks.len()]);
+    let made = trace.ticks.iter().zip(&reasons).enumerate();
+    let made = made.map(|(number, (tick, why))| row(plan, number, tick, why));
+    made.chain(trace.stopped.iter().map(|stopped| refused(plan, trace.ticks.len(), stopped))).collect()
 }
 
-fn row(plan: &Plan, number: usize, tick: &Tick) -> String {
+/// The tick that a refusal met: it stands at its node, puts nothing out and leaves all as it was.
+fn refused(plan: &Plan, number: usize, stopped: &Stopped) -> String {
+    let node = stopped.stack[stopped.stack.len() - 1].node;
     let cells = [
         number.to_string(),
-        format!("{:04X}", tick.word),
+        word(stopped.word),
+        chips(&plan.conditions(stopped.word)),
+        escaped(&plan.scheme_of(node)),
+        escaped(&plan.node_title(node)),
+        format!("refused ({})", stopped.number),
+        chips(&[]),
+        escaped(&plan.open_schemes(&stopped.stack)),
+        chips(&[]),
+    ];
+    table_row(plan, number, &stopped.stack, "", cells, " class=\"refused\"")
+}
+
+fn row(plan: &Plan, number: usize, tick: &Tick, why: &str) -> String {
+    let cells = [
+        number.to_string(),
+        word(tick.word),
         chips(&plan.conditions(tick.word)),
         escaped(&plan.scheme_of(tick.node())),
         escaped(&plan.node_title(tick.node())),
@@ -29,18 +50,39 @@ fn row(plan: &Plan, number: usize, tick: &Tick) -> String {
         escaped(&plan.open_schemes(&tick.stack)),
         chips(&plan.results(&tick.results)),
     ];
+    let why = format!(" data-why=\"{}\"", escaped(why).replace('\n', "&#10;"));
+    table_row(plan, number, &tick.stack, &lines(plan, tick).join(" "), cells, &why)
+}
+
+fn table_row(
+    plan: &Plan,
+    number: usize,
+    stack: &[Opened],
+    lines: &str,
+    cells: [String; 9],
+    marks: &str,
+) -> String {
     let cells: String = cells.iter().map(|cell| format!("<td>{cell}</td>")).collect();
-    let stack: Vec<String> = tick.stack.iter().map(|opened| node_id(opened.node)).collect();
-    let lines = lines(tick).join(" ");
+    let serving = serving(plan, stack);
+    let stack: Vec<String> = stack.iter().map(|opened| node_id(opened.node)).collect();
     let stack = stack.join(" ");
-    format!("<tr id=\"tick-{number}\" data-stack=\"{stack}\" data-lines=\"{lines}\">{cells}</tr>\n")
+    format!("<tr id=\"tick-{number}\" data-stack=\"{stack}\" data-lines=\"{lines}\"{serving}{marks}>{cells}</tr>\n")
+}
+
+/// The open schemes as they are named, where one of them serves another's number; elsewhere each is that of its node.
+fn serving(plan: &Plan, stack: &[Opened]) -> String {
+    if stack.iter().all(|opened| opened.number == plan.nodes[opened.node].scheme()) {
+        return String::new();
+    }
+    let names: Vec<String> = stack.iter().map(|opened| escaped(&plan.open_scheme(opened))).collect();
+    format!(" data-serving=\"{}\"", names.join("&#10;"))
 }
 
 /// The arcs that a tick takes, and its call.
-fn lines(tick: &Tick) -> Vec<String> {
+fn lines(plan: &Plan, tick: &Tick) -> Vec<String> {
     let mut lines: Vec<String> = tick.arcs.iter().map(|arc| arc_id(*arc)).collect();
     if let Happening::Call(_) = tick.happening() {
-        lines.push(call_id(tick.node()));
+        lines.push(call_id(plan, tick.node(), tick.server));
     }
     lines
 }
@@ -59,7 +101,7 @@ pub fn nodes(plan: &Plan, trace: &Trace) -> String {
 }
 
 fn node(plan: &Plan, trace: &Trace, at: usize) -> String {
-    let label = plan.marking.label(at).map_or("\u{2013}".to_string(), |label| label.to_string());
+    let label = plan.label(at).map_or("\u{2013}".to_string(), |label| label.to_string());
     let times = trace.coverage.times(at);
     let class = if times == 0 { " class=\"never\"" } else { "" };
     format!(

@@ -1,9 +1,9 @@
 //! The arcs that a tick takes, followed on the chart by the tick's word. It is a computation for display: what the
-//! tick does is known from the library, and where the arcs end is held against the state that the library returns.
+//! tick does is known from the library, and where the arcs end is held to the state that the library returns.
 
 use super::Happening;
 use crate::chart::Node;
-use crate::marking::called;
+use crate::marking::{called, Marking};
 use crate::plan::Plan;
 
 /// An arc by the node that it leaves and its side: 0, or 1 for the arc on a 1.
@@ -24,9 +24,9 @@ impl Path {
         Path { arcs: Vec::new(), end: at }
     }
 
-    fn take(&mut self, plan: &Plan, side: usize) {
+    fn take(&mut self, nodes: &[Node], side: usize) {
         self.arcs.push(Arc { from: self.end, side });
-        self.end = plan.nodes[self.end].arcs()[side];
+        self.end = nodes[self.end].arcs()[side];
     }
 }
 
@@ -40,33 +40,35 @@ pub fn path(
     word: u16,
 ) -> Path {
     let top = stack[stack.len() - 1];
+    let entered = |scheme| entered(&plan.nodes, &plan.marking, scheme);
+    let followed = |from| followed(&plan.nodes, &plan.marking, from, results, word);
     match happening {
-        Happening::Home => entered(plan, 1),
-        Happening::Call(_) => entered(plan, server),
-        Happening::Drop => entered(plan, plan.handler()),
+        Happening::Home => entered(1),
+        Happening::Call(_) => entered(server),
+        Happening::Drop => entered(plan.handler()),
         // the handler at the bottom: it leads home by no arc
         Happening::Return if stack.len() == 1 => Path::start(plan.marking.end(1)),
-        Happening::Return => followed(plan, stack[stack.len() - 2], results, word),
-        Happening::Plain => followed(plan, top, results, word),
+        Happening::Return => followed(stack[stack.len() - 2]),
+        Happening::Plain => followed(top),
     }
 }
 
 /// From the Begin of a scheme to where performing it starts.
-fn entered(plan: &Plan, scheme: u8) -> Path {
-    let mut path = Path::start(plan.marking.begin(scheme));
-    if !plan.marking.stops(path.end) {
-        path.take(plan, 0);
+pub fn entered(nodes: &[Node], marking: &Marking, scheme: u8) -> Path {
+    let mut path = Path::start(marking.begin(scheme));
+    if !marking.stops(path.end) {
+        path.take(nodes, 0);
     }
     path
 }
 
 /// Out of a stop, then through the conditions that take no tick.
-fn followed(plan: &Plan, from: usize, results: &[bool; 16], word: u16) -> Path {
+pub fn followed(nodes: &[Node], marking: &Marking, from: usize, results: &[bool; 16], word: u16) -> Path {
     let mut path = Path::start(from);
     loop {
-        let side = side(&plan.nodes[path.end], results, word);
-        path.take(plan, side);
-        if plan.marking.stops(path.end) {
+        let side = side(&nodes[path.end], results, word);
+        path.take(nodes, side);
+        if marking.stops(path.end) {
             return path;
         }
     }

@@ -1,14 +1,16 @@
 //! Which nodes and arcs the ticks of a trace took.
 
+use std::collections::BTreeMap;
+
 use super::{Arc, Happening, Tick};
 use crate::plan::Plan;
 
-/// How often each node was taken, each call, and each arc by node and side. A node is taken by its tick, or by an arc out
-/// of it where it takes no tick. A call that is dropped is not taken, though its node is.
+/// How often each node was taken, each call by the scheme that served it, and each arc by node and side. A node is taken by its
+/// tick, or by an arc out of it where it takes no tick. A call that is dropped is not taken, though its node is.
 #[derive(Clone, Debug)]
 pub struct Coverage {
     nodes: Vec<usize>,
-    calls: Vec<usize>,
+    calls: Vec<BTreeMap<u8, usize>>,
     arcs: Vec<Vec<usize>>,
 }
 
@@ -16,14 +18,16 @@ impl Coverage {
     pub(super) fn none(plan: &Plan) -> Coverage {
         Coverage {
             nodes: vec![0; plan.nodes.len()],
-            calls: vec![0; plan.nodes.len()],
+            calls: vec![BTreeMap::new(); plan.nodes.len()],
             arcs: plan.nodes.iter().map(|node| vec![0; node.arcs().len()]).collect(),
         }
     }
 
     pub(super) fn note(&mut self, tick: &Tick) {
         self.nodes[tick.node()] += 1;
-        self.calls[tick.node()] += usize::from(matches!(tick.happening(), Happening::Call(_)));
+        if let Happening::Call(_) = tick.happening() {
+            *self.calls[tick.node()].entry(tick.server).or_default() += 1;
+        }
         for arc in &tick.arcs {
             self.arcs[arc.from][arc.side] += 1;
         }
@@ -38,9 +42,14 @@ impl Coverage {
         self.times(at) > 0
     }
 
-    /// Whether the call of a node was made.
-    pub fn call_taken(&self, at: usize) -> bool {
-        self.calls[at] > 0
+    /// Whether the call of a node was made and opened this scheme.
+    pub fn call_taken(&self, at: usize, server: u8) -> bool {
+        self.calls[at].contains_key(&server)
+    }
+
+    /// The schemes that served the call of a node, in the order of their numbers.
+    pub fn servers(&self, at: usize) -> impl Iterator<Item = u8> + '_ {
+        self.calls[at].keys().copied()
     }
 
     pub fn arc_taken(&self, arc: Arc) -> bool {

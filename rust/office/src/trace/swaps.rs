@@ -7,6 +7,8 @@ use fairleadow::{Library, Proved, State};
 use crate::command::Failure;
 use crate::explain;
 use crate::kind::Kind;
+use crate::names::Names;
+use crate::notation::{nearest, scheme, Word};
 use crate::problem::{visible, Problem};
 
 /// Before this tick the number is rebound to the scheme.
@@ -23,21 +25,45 @@ impl fmt::Display for Swap {
     }
 }
 
+/// Why a piece is no swap.
+enum Fault<'a> {
+    Form,
+    /// A name that no scheme has.
+    Unknown(&'a str),
+}
+
 impl Swap {
-    /// From its three numbers as `TICK:NUMBER=SCHEME`.
-    fn of(text: &str) -> Option<Swap> {
-        let (tick, rest) = text.split_once(':')?;
-        let (number, scheme) = rest.split_once('=')?;
-        let whole = |digits: &str| digits.trim().parse().ok();
-        Some(Swap { tick: whole(tick)?, number: whole(number)?, scheme: whole(scheme)? })
+    /// From `TICK:NUMBER=SCHEME`, where number and scheme may be names.
+    fn of<'a>(text: &'a str, names: &Names) -> Result<Swap, Fault<'a>> {
+        let (tick, rest) = text.split_once(':').ok_or(Fault::Form)?;
+        let (number, scheme) = rest.split_once('=').ok_or(Fault::Form)?;
+        let tick = tick.trim().parse().map_err(|_| Fault::Form)?;
+        Ok(Swap { tick, number: numbered(number.trim(), names)?, scheme: numbered(scheme.trim(), names)? })
+    }
+}
+
+/// The scheme that a number or a name stands for.
+fn numbered<'a>(word: &'a str, names: &Names) -> Result<usize, Fault<'a>> {
+    let is_name = || Word { text: word.to_string(), column: 1 }.is_name();
+    match word.parse() {
+        Ok(number) => Ok(number),
+        Err(_) if is_name() => scheme(names, word).map(usize::from).ok_or(Fault::Unknown(word)),
+        Err(_) => Err(Fault::Form),
     }
 }
 
 /// Swaps with commas between them, none of them past the last tick.
-pub fn given(text: &str, ticks: usize) -> Result<Vec<Swap>, Failure> {
-    let swap = |piece: &str| {
-        let form = || format!("'{}' is no swap: write TICK:NUMBER=SCHEME, such as 4:2=3", visible(piece));
-        let swap = Swap::of(piece).ok_or_else(|| Failure::Usage(form()))?;
+pub fn given(text: &str, ticks: usize, names: &Names) -> Result<Vec<Swap>, Failure> {
+    let told = |piece: &str, fault| match fault {
+        Fault::Form => format!("'{}' is no swap: write TICK:NUMBER=SCHEME, such as 4:2=3", visible(piece)),
+        Fault::Unknown(name) => {
+            let near = nearest(name, names.schemes.values().map(String::as_str));
+            let near = near.map_or(String::new(), |near| format!("; '{near}' is near to it"));
+            format!("no scheme is named '{}'{near}", visible(name))
+        }
+    };
+    let swap = |piece| {
+        let swap = Swap::of(piece, names).map_err(|fault| Failure::Usage(told(piece, fault)))?;
         if swap.tick < ticks {
             return Ok(swap);
         }
@@ -46,12 +72,17 @@ pub fn given(text: &str, ticks: usize) -> Result<Vec<Swap>, Failure> {
     text.split(',').map(swap).collect()
 }
 
-/// Makes the swaps of one tick, in the order in which they were given.
-pub fn make(swaps: &[Swap], tick: usize, image: &[u8], state: &mut State) -> Result<(), Problem> {
-    for swap in swaps.iter().filter(|swap| swap.tick == tick) {
-        let answer = Proved.rebind(image, state, swap.number, swap.scheme);
+/// The swaps of one tick, in the order in which they were given.
+pub fn of_tick(swaps: &[Swap], tick: usize) -> impl Iterator<Item = &Swap> {
+    swaps.iter().filter(move |swap| swap.tick == tick)
+}
+
+/// Makes the swaps of one tick on a prepared table.
+pub fn make(swaps: &[Swap], tick: usize, table: &[u8], state: &mut State) -> Result<(), Problem> {
+    for swap in of_tick(swaps, tick) {
+        let answer = Proved.live_rebind(table, state, swap.number, swap.scheme);
         if answer.number() != 0 {
-            let told = explain::refusal(image, Kind::Image, answer);
+            let told = explain::refusal(&[], Kind::Image, answer);
             return Err(Problem { words: format!("the swap {swap}: {}", told.words), ..told });
         }
     }
@@ -65,12 +96,18 @@ mod tests {
     #[test]
     fn swaps_are_tick_number_and_scheme() {
         let swap = |tick, number, scheme| Swap { tick, number, scheme };
+        let schemes = [(2, "roughing"), (3, "finer")].map(|(number, name)| (number, name.to_string()));
+        let names = Names { schemes: schemes.into(), ..Names::default() };
+        let given = |text: &str, ticks| given(text, ticks, &names);
         assert_eq!(given("4:2=3,9:2=2", 10).ok(), Some(vec![swap(4, 2, 3), swap(9, 2, 2)]));
         assert_eq!(given("0: 2 = 3", 1).ok(), Some(vec![swap(0, 2, 3)]));
+        assert_eq!(given("4:roughing=finer,5:2=s16", 10).ok(), Some(vec![swap(4, 2, 3), swap(5, 2, 16)]));
         for (text, told) in [
             ("2=3", "'2=3' is no swap: write TICK:NUMBER=SCHEME, such as 4:2=3"),
             ("4:2", "'4:2' is no swap"),
-            ("4:2=x", "'4:2=x' is no swap"),
+            ("4:2=x", "no scheme is named 'x'"),
+            ("4:rouging=3", "no scheme is named 'rouging'; 'roughing' is near to it"),
+            ("4:2=-3", "'4:2=-3' is no swap"),
             ("4:2=3,", "'' is no swap"),
             ("-1:2=3", "'-1:2=3' is no swap"),
             ("10:2=3", "the swap 10:2=3 comes after the last tick, 9"),

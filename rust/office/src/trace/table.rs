@@ -7,7 +7,7 @@ use crate::columns::aligned;
 use crate::marking::called;
 use crate::plan::Plan;
 use crate::problem::{counted, Problem};
-use crate::wording::listed;
+use crate::wording::{listed, word};
 
 /// The columns of the table, also of the page's.
 pub const HEADINGS: [&str; 9] = [
@@ -17,7 +17,7 @@ pub const HEADINGS: [&str; 9] = [
     "scheme",
     "node",
     "what happens",
-    "micro operations",
+    "outputs",
     "open schemes",
     "results at 1",
 ];
@@ -26,7 +26,7 @@ pub const HEADINGS: [&str; 9] = [
 pub fn cells(plan: &Plan, number: usize, tick: &Tick) -> [String; 9] {
     [
         number.to_string(),
-        format!("{:04X}", tick.word),
+        word(tick.word),
         listed(&plan.conditions(tick.word)),
         plan.scheme_of(tick.node()),
         plan.node_title(tick.node()),
@@ -58,12 +58,9 @@ pub fn problem(plan: &Plan, trace: &Trace, stopped: &Stopped) -> Problem {
     let node = stopped.stack[stopped.stack.len() - 1].node;
     let count = trace.ticks.len();
     let told = plan.source.problem(Answer::Refused { number: stopped.number, index: 0, count });
-    let place = format!(
-        "tick {count}, word {:04X}, node {} of {}",
-        stopped.word,
-        plan.node_title(node),
-        plan.scheme_of(node)
-    );
+    let swaps: String = stopped.swaps.iter().map(|swap| format!(", {}", plan.swapped(swap))).collect();
+    let (word, at, scheme) = (word(stopped.word), plan.node_title(node), plan.scheme_of(node));
+    let place = format!("tick {count}, word {word}{swaps}, node {at} of {scheme}");
     let words = match called(&plan.nodes[node]) {
         0 => format!("{place}: {}", told.words),
         scheme => {

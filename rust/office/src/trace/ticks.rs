@@ -1,17 +1,17 @@
 //! The ticks that the proved library makes of a chart, from a fresh state.
 
-use fairleadow::{Answer, Library, Proved, State};
+use fairleadow::{Answer, Library, Meaning, Proved, State};
 
-use super::arcs::{path, Arc};
+use super::arcs::{path, Arc, Path};
 use super::swaps::{self, Swap};
 use super::Coverage;
-use crate::check::translated;
 use crate::explain;
 use crate::kind::Kind;
 use crate::plan::Plan;
 use crate::problem::{counted, Problem};
+use crate::wording;
 
-/// What a tick does, by its code.
+/// What a tick does, as the library reads its code.
 #[derive(Clone, Copy, Debug, PartialEq, Eq)]
 pub enum Happening {
     Plain,
@@ -24,13 +24,13 @@ pub enum Happening {
 
 impl Happening {
     pub fn of(code: u8) -> Happening {
-        match code {
-            0x03 => Happening::Return,
-            0x04 => Happening::Home,
-            0x12..=0x20 => Happening::Call(code - 0x10),
-            0x42..=0x50 => Happening::Call(code - 0x40),
-            0x60 => Happening::Drop,
-            _ => Happening::Plain,
+        match Proved.meaning(code) {
+            Meaning::Return => Happening::Return,
+            Meaning::Home => Happening::Home,
+            Meaning::OperationCall(number) | Meaning::FunctionCall(number) => Happening::Call(number),
+            Meaning::Drop => Happening::Drop,
+            // the second is no tick's code
+            Meaning::Plain | Meaning::Unknown => Happening::Plain,
         }
     }
 }
@@ -42,10 +42,11 @@ pub struct Opened {
     pub number: u8,
 }
 
-/// One tick. The stack holds the open schemes before the tick, the bottom first, and `server` is the scheme that a call opens, 0
-/// where none is made; the result bits are those after it.
+/// One tick, with the swaps made right before it. The stack holds the open schemes before the tick, the bottom first, and `server`
+/// is the scheme that a call opens, 0 where none is made; the result bits are those after it.
 #[derive(Clone, Debug)]
 pub struct Tick {
+    pub swaps: Vec<Swap>,
     pub word: u16,
     pub stack: Vec<Opened>,
     pub server: u8,
@@ -66,10 +67,11 @@ impl Tick {
     }
 }
 
-/// The refusal that ended a trace, with the word and the stack that met it.
+/// The refusal that ended a trace, with the swaps, the word and the stack that met it.
 #[derive(Clone, Debug)]
 pub struct Stopped {
     pub number: u8,
+    pub swaps: Vec<Swap>,
     pub word: u16,
     pub stack: Vec<Opened>,
 }
@@ -83,15 +85,16 @@ pub struct Trace {
     pub coverage: Coverage,
 }
 
-/// Translates the chart once and ticks it over the words, with swaps before some of them, or tells why chart, stack size or a swap
+/// Prepares the chart's image once and ticks it over the words, with swaps before some of them, or tells why chart, stack size or a swap
 /// are refused.
 pub fn trace(plan: &Plan, places: usize, words: &[u16], swaps: &[Swap]) -> Result<Trace, Problem> {
-    let image = translated(&plan.source)?;
+    let table = plan.image.as_ref().map_err(Problem::clone)?.prepared()?;
     let mut state = fresh(places)?;
     let mut trace = Trace { places, ticks: Vec::new(), stopped: None, coverage: Coverage::none(plan) };
     for (number, word) in words.iter().enumerate() {
-        swaps::make(swaps, number, &image, &mut state)?;
-        match tick(plan, &image, &mut state, *word) {
+        swaps::make(swaps, number, &table, &mut state)?;
+        let swaps = swaps::of_tick(swaps, number).copied().collect();
+        match tick(plan, &table, &mut state, swaps, *word)? {
             Ok(tick) => {
                 trace.coverage.note(&tick);
                 trace.ticks.push(tick);
@@ -115,12 +118,18 @@ pub fn fresh(places: usize) -> Result<State, Problem> {
     Err(Problem { words, ..explain::refusal(&[], Kind::Image, answer) })
 }
 
-/// One tick of the library's, with its node and arcs.
-fn tick(plan: &Plan, image: &[u8], state: &mut State, word: u16) -> Result<Tick, Stopped> {
+/// One tick of the library's, with its node and arcs, or the refusal that met it.
+fn tick(
+    plan: &Plan,
+    table: &[u8],
+    state: &mut State,
+    swaps: Vec<Swap>,
+    word: u16,
+) -> Result<Result<Tick, Stopped>, Problem> {
     let (stack, before) = (stack(plan, state), results(state));
-    let ticked = Proved.tick(image, state, word);
+    let ticked = Proved.live_tick(table, state, word);
     if let Answer::Refused { number, .. } = ticked.answer {
-        return Err(Stopped { number, word, stack });
+        return Ok(Err(Stopped { number, swaps, word, stack }));
     }
     let happening = Happening::of(ticked.code);
     let server = match happening {
@@ -130,9 +139,16 @@ fn tick(plan: &Plan, image: &[u8], state: &mut State, word: u16) -> Result<Tick,
     let nodes: Vec<usize> = stack.iter().map(|opened| opened.node).collect();
     let path = path(plan, happening, server, &nodes, &before, word);
     let reached = self::stack(plan, state).pop().map(|opened| opened.node);
-    assert_eq!(Some(path.end), reached, "the arcs followed end where the library's state stands");
+    if Some(path.end) != reached {
+        let (found, word) = (plan.node_title(path.end), wording::word(word));
+        let what = format!(
+            "by word {word} the arcs lead to node {found}, and the library's state stands at another"
+        );
+        return Err(Problem::internal(what));
+    }
     let results = results(state);
-    Ok(Tick { word, stack, server, code: ticked.code, mask: ticked.mask, results, arcs: path.arcs })
+    let Path { arcs, .. } = path;
+    Ok(Ok(Tick { swaps, word, stack, server, code: ticked.code, mask: ticked.mask, results, arcs }))
 }
 
 /// What is open in a state, the bottom first: each label with the scheme that the state remembers for it.

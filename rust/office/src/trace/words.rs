@@ -1,5 +1,8 @@
 //! The words that a trace is fed: a list, a file, counted up, or random from a seed.
 
+use std::ffi::OsStr;
+use std::path::Path;
+
 use crate::command::Failure;
 use crate::problem::{visible, Problem};
 use crate::source;
@@ -18,7 +21,10 @@ pub enum Words {
 impl Words {
     /// From what was given: `random:SEED`, `count`, a list that begins with a digit, or the name of a file, where `-`
     /// is standard input.
-    pub fn given(text: &str) -> Result<Words, Failure> {
+    pub fn given(text: impl AsRef<OsStr>) -> Result<Words, Failure> {
+        let file = text.as_ref();
+        // what is no text can only be a file
+        let text = file.to_str().unwrap_or("");
         if text == "count" {
             return Ok(Words::Counted);
         }
@@ -29,9 +35,13 @@ impl Words {
         if text.starts_with(|first: char| first.is_ascii_digit()) {
             return listed(text).map_err(Failure::Usage);
         }
+        if !Path::new(file).exists() && text.split(',').map(str::trim).all(is_hexadecimal) {
+            let told = |message| Failure::Usage(format!("there is no file {text}, and {message}"));
+            return listed(text).map_err(told);
+        }
         let forms = "words are random:SEED, count, a list such as 0,1,0x8004, or a file";
-        let bytes = source::read(text).map_err(|problem| problem.advice(forms));
-        bytes.and_then(|bytes| lines(&bytes)).map_err(|problem| Failure::of(text, problem))
+        let bytes = source::read(file).map_err(|problem| problem.advice(forms));
+        bytes.and_then(|bytes| lines(&bytes)).map_err(|problem| Failure::of(file, problem))
     }
 
     /// So many words. A list is taken once where no number is given, and begins again where the number is larger.
@@ -66,17 +76,36 @@ fn lines(bytes: &[u8]) -> Result<Words, Problem> {
     Ok(Words::List(list))
 }
 
-/// A word in decimal, or in hexadecimal after 0x.
+/// Whether this could be a word in hexadecimal without its 0x.
+fn is_hexadecimal(piece: &str) -> bool {
+    (1..=4).contains(&piece.len()) && piece.bytes().all(|digit| digit.is_ascii_hexdigit())
+}
+
+/// A word in decimal, or in hexadecimal after 0x. What could be read as either, or as hexadecimal alone, is told so.
 fn word(piece: &str) -> Result<u16, String> {
+    let too_large = |_| format!("'{}' is more than 65535, the largest word", visible(piece));
     let (digits, radix) = match piece.strip_prefix("0x") {
         Some(digits) => (digits, 16),
         None => (piece, 10),
     };
     if digits.is_empty() || !digits.chars().all(|digit| digit.is_digit(radix)) {
-        return Err(format!("'{}' is no word: write 0 to 65535, or 0x0 to 0xFFFF", visible(piece)));
+        return Err(match is_hexadecimal(piece) {
+            true => format!("'{piece}' could only be hexadecimal: write 0x{piece}"),
+            false => format!("'{}' is no word: write 0 to 65535, or 0x0 to 0xFFFF", visible(piece)),
+        });
     }
-    u16::from_str_radix(digits, radix)
-        .map_err(|_| format!("'{}' is more than 65535, the largest word", visible(piece)))
+    let word = u16::from_str_radix(digits, radix).map_err(too_large)?;
+    if radix == 10 && digits.len() > 1 && digits.starts_with('0') {
+        return Err(ambiguous(piece, word));
+    }
+    Ok(word)
+}
+
+/// A decimal number with a 0 before it, as other programs print hexadecimal ones.
+fn ambiguous(piece: &str, word: u16) -> String {
+    let other = u16::from_str_radix(&word.to_string(), 16);
+    let hexadecimal = other.map_or(String::new(), |other| format!(", or 0x{word}, which is {other}"));
+    format!("'{}' begins with a 0: write {word}{hexadecimal}", visible(piece))
 }
 
 /// Words of 16 random bits each (splitmix64), the same for the same seed.
@@ -112,12 +141,21 @@ mod tests {
             ("0,65536", "in the words 0,65536: '65536' is more than 65535"),
             ("1,-1", "in the words 1,-1: '-1' is no word"),
             ("0,+1", "in the words 0,+1: '+1' is no word"),
+            ("0,0010", "in the words 0,0010: '0010' begins with a 0: write 10, or 0x10, which is 16"),
+            ("0000", "in the words 0000: '0000' begins with a 0: write 0, or 0x0, which is 0"),
+            ("065535", "in the words 065535: '065535' begins with a 0: write 65535"),
+            ("065536", "in the words 065536: '065536' is more than 65535"),
+            ("0,FFFF", "in the words 0,FFFF: 'FFFF' could only be hexadecimal: write 0xFFFF"),
+            ("1f44,00aB", "in the words 1f44,00aB: '1f44' could only be hexadecimal: write 0x1f44"),
+            ("12345A", "in the words 12345A: '12345A' is no word"),
+            ("FFFF", "there is no file FFFF, and in the words FFFF: 'FFFF' could only be hexadecimal: write 0xFFFF"),
+            ("F, 10", "there is no file F, 10, and in the words F, 10: 'F' could only be hexadecimal: write 0xF"),
             ("random:x", "the seed of random:x is no number from 0 to 18446744073709551615"),
         ] {
             let Err(Failure::Usage(error)) = Words::given(given) else { panic!("{given} is no wrong call") };
             assert!(error.starts_with(told), "{given}: {error}");
         }
-        for given in ["random", "no/such/file"] {
+        for given in ["random", "no/such/file", "ABCDE"] {
             let Err(Failure::Refused(error)) = Words::given(given) else { panic!("{given} is a file") };
             let told = "there is no such file\n  look for: words are random:SEED, count, a list such as 0,1,0x8004, or";
             assert!(error.starts_with(&format!("{given}: {told}")), "{error}");

@@ -2,7 +2,6 @@
 
 use fairleadow::{Answer, Library, Proved};
 
-use crate::check::translated;
 use crate::explain;
 use crate::image::{Image, Open};
 use crate::kind::Kind;
@@ -32,8 +31,13 @@ impl Subject {
             };
         }
         let plan = source::from_either(&bytes).and_then(Plan::read)?;
-        let image = Image::accepted(translated(&plan.source)?);
+        let image = plan.image.clone()?;
         Ok(Subject { image, plan: Some(plan) })
+    }
+
+    /// A chart that is read, with its image.
+    pub fn of(plan: &Plan) -> Result<Subject, Problem> {
+        Ok(Subject { image: plan.image.clone()?, plan: Some(plan.clone()) })
     }
 
     /// The shop's names; an image by itself has none.

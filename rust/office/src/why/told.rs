@@ -8,12 +8,13 @@ use crate::image::{Open, Row};
 use crate::kind::Kind;
 use crate::problem::{counted, Problem};
 use crate::trace::Happening;
+use crate::wording::word;
 
 /// Where the tick went and what made it go there, or why it took no row.
 pub fn told(subject: &Subject, asked: &Asked) -> Result<String, Problem> {
-    let tick = format!("tick {}, word {:04X}", asked.number, asked.word);
+    let tick = format!("tick {}, word {}", asked.number, word(asked.word));
     let words = match asked.cause.answer {
-        Answer::Done(_) => return Ok(format!("{tick}, {}", taken(subject, asked))),
+        Answer::Done(_) => return taken(subject, asked).map(|taken| format!("{tick}, {taken}")),
         Answer::Refused { number: 18, .. } => without_match(subject, asked),
         Answer::Refused { .. } => without_row(subject, asked),
     };
@@ -34,10 +35,14 @@ fn after(subject: &Subject, asked: &Asked) -> Open {
 }
 
 /// What happens, the way, the row, and what decided.
-fn taken(subject: &Subject, asked: &Asked) -> String {
+fn taken(subject: &Subject, asked: &Asked) -> Result<String, Problem> {
     let row = subject.image.row(asked.cause.row);
     let to = after(subject, asked);
-    assert_eq!(row.next, to.label, "the row told leads where the library's state stands");
+    if row.next != to.label {
+        let (next, stands) = (row.next, to.label);
+        let what = format!("the row told leads to label {next}, and the library's state stands at {stands}");
+        return Err(Problem::internal(what));
+    }
     let mut lines = match before(subject, asked) {
         (top, Some(beneath)) if top.label == 1 => {
             let (top, beneath, to) = (subject.place(top), subject.place(beneath), subject.place(to));
@@ -50,7 +55,7 @@ fn taken(subject: &Subject, asked: &Asked) -> String {
     };
     lines.push(format!("by row {} of the image's rows, counted from 0", asked.cause.row));
     lines.extend(reasons(subject, asked, &row));
-    lines.join("\n")
+    Ok(lines.join("\n"))
 }
 
 /// What the row asks for, and apart from it what ruled out other rows of its label.

@@ -2,6 +2,8 @@
 
 #![allow(dead_code)]
 
+pub mod browser;
+pub mod called;
 pub mod sheets;
 
 use std::path::{Path, PathBuf};

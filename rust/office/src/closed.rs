@@ -1,0 +1,29 @@
+//! Whether standard output was closed when the program was started. Rust opens the null device in its place before `main`, so that
+//! nothing fails there; what is to be told must be seen before that.
+
+use std::ffi::{c_char, c_int};
+use std::sync::atomic::{AtomicBool, Ordering};
+
+static CLOSED: AtomicBool = AtomicBool::new(false);
+
+/// Started by the C library before Rust's own beginning.
+#[used]
+#[link_section = ".init_array"]
+static LOOK: extern "C" fn(c_int, *const *const c_char, *const *const c_char) = look;
+
+const GET_FLAGS: c_int = 1;
+
+extern "C" {
+    fn fcntl(file: c_int, command: c_int, ...) -> c_int;
+}
+
+extern "C" fn look(_: c_int, _: *const *const c_char, _: *const *const c_char) {
+    // asks for the flags of file 1 and changes nothing
+    let flags = unsafe { fcntl(1, GET_FLAGS) };
+    CLOSED.store(flags == -1, Ordering::Relaxed);
+}
+
+/// Whether it was closed.
+pub fn standard_output() -> bool {
+    CLOSED.load(Ordering::Relaxed)
+}

@@ -1,0 +1,146 @@
+//! What an accepted chart has that was likely not meant. The chart is accepted all the same.
+
+use crate::chart::Node;
+use crate::marking::called;
+use crate::notation::Notation;
+use crate::plan::Plan;
+use crate::problem::{listed, Problem};
+
+use super::nodes::{ARGUMENT, NEXT};
+use super::voice::Voice;
+
+/// The result field of an operation that writes 1.
+const WRITES_1: u8 = 2;
+
+/// All warnings of a chart, in the order of their lines.
+pub fn warnings(plan: &Plan) -> Vec<String> {
+    let notation = plan.source.notation.as_ref();
+    let lines = notation.map(Notation::node_lines).unwrap_or_default();
+    let voice = match notation {
+        Some(_) => Voice::Notation { names: &plan.names, lines: &lines },
+        None => Voice::Lines,
+    };
+    let of_nodes = (0..plan.nodes.len()).flat_map(|at| {
+        [
+            one_target(plan, at, voice),
+            never_1(plan, at, voice),
+            uncalled(plan, at, voice),
+            off_between(plan, at, voice),
+        ]
+    });
+    let mut all: Vec<Problem> =
+        of_nodes.flatten().chain(notation.into_iter().flat_map(|own| unused(plan, own))).collect();
+    all.sort_by_key(|warning| warning.line);
+    all.into_iter().map(|warning| warning.words).collect()
+}
+
+/// A condition or a function whose two arcs lead to one node.
+fn one_target(plan: &Plan, at: usize, voice: Voice) -> Option<Problem> {
+    let arcs = plan.nodes[at].arcs();
+    let same = arcs.len() == 2 && arcs[0] == arcs[1];
+    let what = || format!("both arcs lead to {}, so nothing is decided here", voice.target(arcs[0]));
+    same.then(|| voice.problem(at, NEXT, &what()))
+}
+
+/// A function whose scheme has no operation that writes 1.
+fn never_1(plan: &Plan, at: usize, voice: Voice) -> Option<Problem> {
+    let Node::Function { called, .. } = plan.nodes[at] else { return None };
+    let writes =
+        |node: &Node| matches!(*node, Node::Operation { scheme, result: WRITES_1, .. } if scheme == called);
+    let what = || {
+        let scheme = voice.scheme(called);
+        format!("{scheme} never writes 1, so this function goes on as on a 0, unless another scheme serves its call")
+    };
+    (!plan.nodes.iter().any(writes)).then(|| voice.problem(at, ARGUMENT, &what()))
+}
+
+/// The Begin of a scheme that no other scheme calls, and that is not the handler.
+fn uncalled(plan: &Plan, at: usize, voice: Voice) -> Option<Problem> {
+    let Node::Begin { scheme, handler: false, .. } = plan.nodes[at] else { return None };
+    let calls = |node: &Node| called(node) == scheme && node.scheme() != scheme;
+    let what = || format!("no other scheme calls {}: only a swap opens it", voice.scheme(scheme));
+    let is_open = scheme == 1 || plan.nodes.iter().any(calls);
+    (!is_open).then(|| voice.problem(at, 1, &what()))
+}
+
+/// Outputs that are on in the box before a call or a function and again in the box after it. Between them is at least a tick of an
+/// End, and that of the function, in which no output is on.
+fn off_between(plan: &Plan, at: usize, voice: Voice) -> Option<Problem> {
+    let (before, between) = match plan.nodes[at] {
+        Node::Operation { called: 1.., .. } => (vec![at], "in the tick of the called scheme's End at least"),
+        Node::Function { .. } => (boxes_before(plan, at), "in the function's own tick at least"),
+        _ => return None,
+    };
+    let after = stops_after(plan, at);
+    let both = masks(plan, &before) & masks(plan, &after);
+    if both == 0 {
+        return None;
+    }
+    let name = |node: usize| if node == at { "here".to_string() } else { format!("in {}", voice.node(node)) };
+    let named = |nodes: &[usize]| {
+        let on = nodes.iter().filter(|node| mask(plan, **node) & both != 0);
+        listed(&on.map(|node| name(*node)).collect::<Vec<String>>())
+    };
+    let (outputs, are) = (plan.operations(both), if both.is_power_of_two() { "is" } else { "are" });
+    let (outputs, before, after) = (listed(&outputs), named(&before), named(&after));
+    let what = format!("{outputs} {are} on {before} and again {after}, and off between them, {between}");
+    Some(voice.problem(at, ARGUMENT, &what))
+}
+
+/// The outputs of a node.
+fn mask(plan: &Plan, at: usize) -> u32 {
+    match plan.nodes[at] {
+        Node::Operation { mask, .. } => mask,
+        _ => 0,
+    }
+}
+
+fn masks(plan: &Plan, nodes: &[usize]) -> u32 {
+    nodes.iter().fold(0, |all, node| all | mask(plan, *node))
+}
+
+/// The nodes that take the next tick after a node's, when what it calls is done.
+fn stops_after(plan: &Plan, at: usize) -> Vec<usize> {
+    let (mut stops, mut open, mut seen) = (Vec::new(), plan.nodes[at].arcs(), vec![false; plan.nodes.len()]);
+    while let Some(node) = open.pop() {
+        if std::mem::replace(&mut seen[node], true) {
+            continue;
+        }
+        match plan.marking.stops(node) {
+            true => stops.push(node),
+            false => open.extend(plan.nodes[node].arcs()),
+        }
+    }
+    stops.sort_unstable();
+    stops
+}
+
+/// The operations that call nothing and whose next tick may be a node's.
+fn boxes_before(plan: &Plan, at: usize) -> Vec<usize> {
+    let leads = |from: &usize| {
+        matches!(plan.nodes[*from], Node::Operation { called: 0, .. })
+            && stops_after(plan, *from).contains(&at)
+    };
+    (0..plan.nodes.len()).filter(leads).collect()
+}
+
+/// Names of conditions and outputs that no node uses.
+fn unused(plan: &Plan, notation: &Notation) -> Vec<Problem> {
+    let masks = (0..plan.nodes.len()).fold(0, |all, node| all | mask(plan, node));
+    let told = |line: usize, what: String| Problem::on(line, 1, format!("line {line}: {what}"));
+    let conditions = notation.condition_lines().filter(|(number, _)| plan.tested >> number & 1 == 0);
+    let outputs = notation.output_lines().filter(|(number, _)| masks >> number & 1 == 0);
+    let conditions = conditions.map(|(number, line)| {
+        told(
+            line,
+            format!("condition {number} is named {}, and no node asks it", plan.names.condition(number)),
+        )
+    });
+    let outputs = outputs.map(|(number, line)| {
+        told(
+            line,
+            format!("output {number} is named {}, and no node puts it out", plan.names.operation(number)),
+        )
+    });
+    conditions.chain(outputs).collect()
+}

@@ -1,0 +1,59 @@
+//! Files that the program writes: whole or not at all, and never over what somebody may need.
+
+use std::ffi::OsStr;
+use std::fs::{self, File};
+use std::io::{self, Write};
+use std::os::unix::fs::MetadataExt;
+use std::path::{Path, PathBuf};
+
+use crate::command::Failure;
+use crate::kind::Kind;
+use crate::problem::shown_name;
+use crate::source;
+
+/// Refuses a file that the command reads, by whatever name, and one that holds a chart, an image or notation, unless it may be lost.
+pub fn may_write(file: &OsStr, read: &[&OsStr], force: bool) -> Result<(), Failure> {
+    let lost = |why: &str| Failure::Usage(format!("{} {why}", shown_name(file)));
+    if read.iter().any(|own| is_same(own, file)) {
+        return Err(lost("is read by this command: it would be lost"));
+    }
+    let held = Path::new(file).is_file().then(|| source::read(file).ok()).flatten();
+    match held.and_then(|bytes| Kind::held(&bytes)) {
+        Some(kind) if !force => {
+            Err(lost(&format!("holds {}, which would be lost; --force writes over it", kind.named())))
+        }
+        _ => Ok(()),
+    }
+}
+
+/// Whether two names lead to one file.
+fn is_same(read: &OsStr, written: &OsStr) -> bool {
+    let place = |path: &OsStr| fs::metadata(path).map(|found| (found.dev(), found.ino()));
+    let read = if read == "-" { OsStr::new("/dev/stdin") } else { read };
+    place(read).is_ok_and(|read| place(written).is_ok_and(|written| read == written))
+}
+
+/// Writes a file beside the one that is there, and puts it in its place once it is whole. What is no file, such as a device, is
+/// written where it stands.
+pub fn write(file: &OsStr, bytes: &[u8]) -> io::Result<()> {
+    let old = fs::metadata(file).ok();
+    if old.as_ref().is_some_and(|old| !old.is_file()) {
+        return fs::write(file, bytes);
+    }
+    // a link keeps leading to its file, and one that may not be written stays
+    let path = fs::canonicalize(file).unwrap_or_else(|_| PathBuf::from(file));
+    if old.is_some() {
+        File::options().write(true).open(&path)?;
+    }
+    let beside = path.with_file_name(format!(".fairleadow-{}", std::process::id()));
+    let mut new = File::options().write(true).create_new(true).open(&beside)?;
+    let mut whole = || {
+        new.write_all(bytes)?;
+        if let Some(old) = &old {
+            new.set_permissions(old.permissions())?;
+        }
+        new.sync_all()?;
+        fs::rename(&beside, &path)
+    };
+    whole().inspect_err(|_| drop(fs::remove_file(&beside)))
+}
