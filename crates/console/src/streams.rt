@@ -1,12 +1,13 @@
 // Readers and writers of which is known how they can fail: the library's over memory, and any other of the library's.
-ghost use Rattle.std.specs.Prelude.{◌≡◌, ◌<◌, ◌-◌, ℕ, List, Option, Some, length, take, drop, Ok, IfOk, IfErr, OnErr, ⊤};
+ghost use Rattle.std.specs.Prelude.{◌≡◌, ◌<◌, ◌-◌, ℕ, List, Option, None, Some, [], length, take, drop, Ok, IfOk, IfErr, OnErr, ⊤};
 ghost use Rattle.std.specs.Io.{ReadsAtMost, WritesAtMost};
 ghost use Rattle.std.specs.Io.KnownBytes.{ReadConsumes, WriteAppends};
 ghost use Rattle.std.specs.Io.Cursor.{cursor_position, cursor_inner};
 ghost use Rattle.std.specs.IoError.{error_kind};
 ghost use Rattle.std.specs.declared.io.Error.{Error};
 ghost use Rattle.std.specs.declared.io.ErrorKind.TheVariants.{OutOfMemory};
-ghost use Rattle.console.specs.inner.Memory.{written_front, HasNoRoom};
+ghost use Rattle.console.specs.Input.{LosesFirst};
+ghost use Rattle.console.specs.Memory.{written_front, unwritten_rest, HasNoRoom};
 
 use std::alloc::Allocator;
 use std::io::{self, Cursor, ErrorKind, Read, Write};
@@ -32,13 +33,18 @@ pub trait Writer {
     // The bytes that the writer holds, where they are known.
     ghost contents: { Self → Option (List ℕ) };
 
+    // The bytes that writes will go over from here on, where they are known.
+    ghost overwritten: { Self → Option (List ℕ) };
+
     // The errors that can come before so many bytes are written.
     ghost fails: { Self → ℕ → Error → Type 0 };
 
-    // Writes a front of the text, at least a byte of it unless it is empty.
+    // Writes a front of the text, at least a byte of it unless it is empty, over as many bytes and no others.
     fn write_some(&mut self, text: &[u8]) -> io::Result<usize>
         ensures bound { WritesAtMost result text.now }
         ensures bytes { WriteAppends (contents self.old) (contents self.new) result text.now }
+        ensures over { IfOk result (LosesFirst (overwritten self.old) (overwritten self.new)) }
+        ensures kept { OnErr result (LosesFirst (overwritten self.old) (overwritten self.new) 0) }
         ensures some { IfOk result (λ n. 0 < length text.now → 0 < n) }
         ensures later { IfOk result (λ n. (e : Error) → fails self.new (length text.now - n) e → fails self.old (length text.now) e) }
         ensures error { IfErr result (fails self.old (length text.now)) };
@@ -57,6 +63,8 @@ impl Reader for &[u8] {
 impl<A: Allocator> Writer for Vec<u8, A> {
     ghost contents = { λ v. Some v.items };
 
+    ghost overwritten = { λ _. Some [] };
+
     ghost fails = { λ _ _ e. error_kind e ≡ OutOfMemory };
 
     fn write_some(&mut self, text: &[u8]) -> io::Result<usize> {
@@ -66,6 +74,8 @@ impl<A: Allocator> Writer for Vec<u8, A> {
 
 impl Writer for Cursor<&mut [u8]> {
     ghost contents = { λ c. written_front (cursor_position c) (cursor_inner c).now };
+
+    ghost overwritten = { λ c. unwritten_rest (cursor_position c) (cursor_inner c).now };
 
     ghost fails = { λ c n _. HasNoRoom (cursor_position c) (cursor_inner c).now n };
 
@@ -127,6 +137,8 @@ impl<R: Read> Reader for Stream<R> {
 
 impl<W: Write> Writer for Stream<W> {
     ghost contents = { λ s. W.contents s.inner };
+
+    ghost overwritten = { λ _. None };
 
     ghost fails = { λ _ _ _. ⊤ };
 

@@ -1,10 +1,11 @@
 // The run program between its input and its output.
-ghost use Rattle.std.specs.Prelude.{◌≡◌, ◌≤◌, length};
+ghost use Rattle.std.specs.Prelude.{◌≡◌, ◌≤◌, length, Some};
 ghost use Rattle.text.specs.frames.Answer.{reply, reply_count};
 ghost use Rattle.output.specs.output_lines.Prints.{Prints};
 ghost use Rattle.output.specs.run_output.RunProgram.{program_words, run_lines, run_output};
 ghost use Rattle.std.specs.Io.Cursor.{cursor_position, cursor_inner};
-ghost use Rattle.console.specs.Outcome.{PrintsFor, TellsErrors, PrintsWhereItFits};
+ghost use Rattle.console.specs.Memory.{written_front, unwritten_rest, HasNoRoom};
+ghost use Rattle.console.specs.Outcome.{PrintsFor, WritesOver, TellsErrors, PrintsWhereItFits};
 
 use crate::output_lines::{put_codes, put_refusal};
 use console::streams::{Reader, Writer};
@@ -67,6 +68,8 @@ pub fn run_text(input: &[u8], out: &mut [u8; RUN_PRINTS]) -> usize
 // Reads an image and prints what its run prints.
 pub fn run_image<R: Reader, W: Writer>(reader: &mut R, writer: &mut W) -> Outcome
     ensures prints { PrintsFor run_output (R.remaining reader.old) (W.contents writer.old) (W.contents writer.new) result }
+    ensures over { WritesOver run_output (R.remaining reader.old) (W.contents writer.old) (W.contents writer.new)
+        (W.overwritten writer.old) (W.overwritten writer.new) result }
     ensures errors { TellsErrors run_output (R.remaining reader.old) R.fails (W.fails writer.old) result }
 {
     let mut text = [0u8; IMAGE_READ];
@@ -82,9 +85,18 @@ pub fn run_image<R: Reader, W: Writer>(reader: &mut R, writer: &mut W) -> Outcom
     }
 }
 
-// The program over memory, where no read fails: all that it prints stands at the front of the buffer, where that has room.
+// The program over memory, where no read fails: what it prints stands from the cursor on, all of it where that has room, and else a front
+// is written and the failure told. Behind it the buffer stays. Of a cursor past the end of its buffer nothing more is promised.
 pub fn run_image_in_memory(image: &[u8], out: &mut Cursor<&mut [u8]>) -> Outcome
-    ensures { cursor_position out.old ≡ 0
+    ensures prints { PrintsFor run_output (Some image.now) (written_front (cursor_position out.old) (cursor_inner out.old).now)
+        (written_front (cursor_position out.new) (cursor_inner out.new).now) result }
+    ensures over { WritesOver run_output (Some image.now) (written_front (cursor_position out.old) (cursor_inner out.old).now)
+        (written_front (cursor_position out.new) (cursor_inner out.new).now)
+        (unwritten_rest (cursor_position out.old) (cursor_inner out.old).now)
+        (unwritten_rest (cursor_position out.new) (cursor_inner out.new).now) result }
+    ensures errors { TellsErrors run_output (Some image.now) (λ _. ⊥)
+        (λ n _. HasNoRoom (cursor_position out.old) (cursor_inner out.old).now n) result }
+    ensures fits { cursor_position out.old ≡ 0
         → PrintsWhereItFits (run_output image.now) (cursor_inner out.old).now (cursor_inner out.new).now result }
 {
     let mut reader = image;
