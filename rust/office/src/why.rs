@@ -64,6 +64,7 @@ pub fn reasons(plan: &Plan, trace: &Trace) -> Result<Vec<String>, Problem> {
         // the tick itself is told elsewhere
         Ok(match told {
             Ok(words) => words.split_once('\n').map_or(String::new(), |(_, words)| words.to_string()),
+            Err(problem) if problem.is_internal() => return Err(problem),
             Err(problem) => {
                 problem.words.split_once(": ").map_or(String::new(), |(_, words)| words.to_string())
             }

@@ -102,6 +102,8 @@ impl Case {
         assert_eq!(value("typed"), "2", "a key in a field that is typed in");
         assert_eq!(value("entered"), "3", "a row by Enter");
         assert_eq!(value("field"), "4", "the tick of the field");
+        assert_eq!(value("past"), format!("{0} {0}", self.last()), "a tick past the last one");
+        assert_eq!(value("spaces"), "pre-wrap", "lines with spaces before them");
         let with =
             |output: &str, tick: &Tick| self.plan.operations(tick.mask).iter().any(|own| own == output);
         for line in found.lines().filter_map(|line| line.strip_prefix("sought=tick with ")) {
@@ -159,7 +161,7 @@ impl Case {
             stack.join(" "),
             self.open(number),
             shown(&tick.map(|tick| self.plan.operations(tick.mask)).unwrap_or_default()),
-            shown(&tick.map(|tick| self.plan.results(&tick.results)).unwrap_or_default()),
+            shown(&self.plan.results(&self.results(number))),
             format!("tick-{number}"),
             number.to_string(),
             format!("#tick={number}"),
@@ -186,6 +188,12 @@ impl Case {
             (None, Some(stopped)) => &stopped.stack,
             (None, None) => panic!("there is no tick {number}"),
         }
+    }
+
+    /// The result bits after a tick, which the refused one leaves as they were.
+    fn results(&self, number: usize) -> [bool; 16] {
+        let ticks = &self.trace.ticks;
+        ticks.get(number).or(ticks.last()).map_or([false; 16], |tick| tick.results)
     }
 
     /// Its nodes, the innermost first.

@@ -70,6 +70,12 @@
   find("at").value = "4";
   find("at").dispatchEvent(new Event("change", { bubbles: true }));
   found.push("field=" + document.body.dataset.tick);
+  // a number past the end, at the end
+  find("tick-" + last).click();
+  find("at").value = "99999";
+  find("at").dispatchEvent(new Event("change", { bubbles: true }));
+  found.push("past=" + document.body.dataset.tick + " " + find("at").value);
+  found.push("spaces=" + getComputedStyle(find("why")).whiteSpace);
   // the ticks in which an output's line is high
   document.querySelectorAll("#graph div").forEach((row) => {
     const levels = row.querySelector("path").getAttribute("d").match(/(?<=[MV](?:0 )?)[19](?=H)/g);

@@ -4,10 +4,14 @@ mod shared;
 
 use std::path::Path;
 
+use office::image::Image;
 use office::page::page;
 use office::plan::Plan;
-use office::source::{from_bytes, Source};
+use office::source::{from_bytes, from_notation, Source};
+use office::trace::swaps::Swap;
 use office::trace::{trace, Trace};
+use office::why::reasons;
+use shared::sheets::{edited, IMAGE};
 use shared::{example, program, ran, run};
 
 const SVG: &str = "<?xml version=\"1.0\"?>\n<!DOCTYPE svg>\n<svg><g id=\"n0\"></g></svg>\n";
@@ -94,6 +98,35 @@ fn a_refusal_and_what_was_never_taken_stand_in_the_page() {
     let refused = line(&page, "<tr id=\"tick-3\"");
     assert!(refused.contains("data-stack=\"n1 n6\" data-lines=\"\" class=\"refused\""), "{refused}");
     assert!(refused.contains("<td>refused (17)</td>") && page.contains("max=\"3\""), "{refused}");
+}
+
+/// A row that leads elsewhere than the library's state keeps its mark on a page, where each tick has its reason.
+#[test]
+fn an_internal_error_of_one_tick_is_that_of_all() {
+    let (mut plan, trace) = traced(source("paper.chart"), 3, &[0, 0, 1]);
+    assert!(reasons(&plan, &trace).is_ok_and(|reasons| reasons[2].starts_with("it left node n3 (Begin)")));
+    let mut astray = Image::accepted(edited(IMAGE, 11, 15, "03").into_bytes());
+    astray.text = IMAGE.into();
+    plan.image = Ok(astray);
+    let problem = reasons(&plan, &trace).expect_err("an internal error");
+    let told = "internal error: the row told leads to label 3, and the library's state stands at 4";
+    assert_eq!(problem.words, told);
+}
+
+/// The results are those after the tick before it, and the swaps stand before the refusal.
+#[test]
+fn a_refused_tick_has_its_swaps_and_the_results() {
+    let text = "scheme 1\nbegin -> ask\nask: if call probe then again else end\nagain: do y0; call deep -> end\nend\n\
+                scheme 2 probe\nbegin -> yes\nyes: write 1 -> end\nend\n\
+                scheme 3 deep\nbegin -> more\nmore: do y1; call probe -> end\nend\n";
+    let plan = Plan::read(from_notation(text).expect("the notation")).expect("an accepted chart");
+    let swap = Swap { tick: 5, number: 2, scheme: 3 };
+    let trace = trace(&plan, 2, &[0; 9], &[swap]).expect("an accepted chart");
+    let page = page(&plan, &trace, "", "", SVG);
+    let row = line(&page, "class=\"refused\"");
+    assert!(row.starts_with("<tr id=\"tick-5\" "), "{row}");
+    assert!(row.contains("<td>deep now serves probe; refused (17)</td>"), "{row}");
+    assert!(row.ends_with("<td><span class=\"chip\">probe</span> </td></tr>"), "{row}");
 }
 
 #[test]

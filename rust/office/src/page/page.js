@@ -146,7 +146,10 @@
     if (tick !== undefined) show(tick);
   }
   find("find").addEventListener("click", seek);
-  find("at").addEventListener("change", (event) => show(Math.trunc(Number(event.target.value)) || 0));
+  find("at").addEventListener("change", (event) => {
+    show(Math.trunc(Number(event.target.value)) || 0);
+    event.target.value = String(shown);
+  });
 
   // left and right step; all other keys are the document's, and all keys are a field's that is typed in
   const keys = { ArrowLeft: -1, ArrowRight: 1 };

@@ -18,22 +18,27 @@ pub fn ticks(plan: &Plan, trace: &Trace) -> String {
     let reasons = reasons(plan, trace).unwrap_or_else(|problem| vec![problem.words; trace.ticks.len()]);
     let made = trace.ticks.iter().zip(&reasons).enumerate();
     let made = made.map(|(number, (tick, why))| row(plan, number, tick, why));
-    made.chain(trace.stopped.iter().map(|stopped| refused(plan, trace.ticks.len(), stopped))).collect()
+    let results = trace.ticks.last().map_or([false; 16], |tick| tick.results);
+    let stopped = trace.stopped.iter().map(|stopped| refused(plan, trace.ticks.len(), stopped, results));
+    made.chain(stopped).collect()
 }
 
-/// The tick that a refusal met: it stands at its node, puts nothing out and leaves all as it was.
-fn refused(plan: &Plan, number: usize, stopped: &Stopped) -> String {
+/// The tick that a refusal met, with the swaps before it: it stands at its node, puts nothing out and leaves the results and all
+/// else as they were.
+fn refused(plan: &Plan, number: usize, stopped: &Stopped, results: [bool; 16]) -> String {
     let node = stopped.stack[stopped.stack.len() - 1].node;
+    let swaps = stopped.swaps.iter().map(|swap| plan.swapped(swap));
+    let happens: Vec<String> = swaps.chain([format!("refused ({})", stopped.number)]).collect();
     let cells = [
         number.to_string(),
         word(stopped.word),
         chips(&plan.conditions(stopped.word)),
         escaped(&plan.scheme_of(node)),
         escaped(&plan.node_title(node)),
-        format!("refused ({})", stopped.number),
+        escaped(&happens.join("; ")),
         chips(&[]),
         escaped(&plan.open_schemes(&stopped.stack)),
-        chips(&[]),
+        chips(&plan.results(&results)),
     ];
     table_row(plan, number, &stopped.stack, "", cells, " class=\"refused\"")
 }
