@@ -279,6 +279,11 @@ fn a_tick_after_a_swap_is_that_of_the_scheme_that_serves() {
     );
     let before = printed(&example("swapped.txt"), words, &["--swap", "3:2=3", "--tick", "3"]);
     assert!(before.contains("it left node cut of roughing"), "{before}");
+    assert_eq!(
+        refused(&example("swapped.txt"), words, &["--swap", "3:2=3", "--tick", "7"], 21),
+        "tick 7, word 0x0000: a call takes no row; node block of blocks (label 2) called scheme 2 (roughing), served by scheme 3 \
+         (finer), which starts at node touch of finer (label 5)"
+    );
     let returned = printed(&example("swapped.image"), words, &["--swap", "3:2=3", "--tick", "12"]);
     assert!(
         returned.contains("it returned from label 1 (End) of scheme 3 to label 2 of scheme 1"),

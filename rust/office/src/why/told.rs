@@ -129,8 +129,13 @@ fn without_row(subject: &Subject, asked: &Asked) -> String {
     }
     match Happening::of(asked.ticked.code) {
         Happening::Home => format!("a home tick takes no row; it left {from} and went to {to}"),
-        Happening::Call(_) => {
-            format!("a call takes no row; {from} called {called}, which starts at {to}")
+        Happening::Call(number) => {
+            let server = after(subject, asked).scheme;
+            let served = match server == number {
+                true => String::new(),
+                false => format!(", served by {}", subject.scheme(server)),
+            };
+            format!("a call takes no row; {from} called {called}{served}, which starts at {to}")
         }
         Happening::Drop => {
             let dropped = counted(usize::from(asked.before.depth), "open scheme");
