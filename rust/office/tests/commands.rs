@@ -51,6 +51,17 @@ fn check_warns_of_what_was_likely_not_meant() {
         "line 20 (begin): no other scheme calls scheme spare: only a swap opens it",
     ];
     assert_eq!(lines[1..], warnings.map(|words| format!("  warning: {words}")));
+    // a call by itself puts nothing out in its own tick, whatever the box before it calls
+    for before in ["", "; call sub"] {
+        let chart = format!(
+            "output 0 spindle\nscheme 1\nbegin -> a\na: do spindle{before} -> c\nc: call sub -> b\nb: do spindle -> end\nend\n\
+             scheme 2 sub\nbegin -> end\nend\n"
+        );
+        let warning = "line 5 (node c): spindle is on in a (line 4) and again in b (line 6), and off between them, in this box's own \
+                       tick at least";
+        let out = fairleadow(&["check", "-"], chart.as_bytes()).1;
+        assert_eq!(out.lines().skip(1).collect::<Vec<&str>>(), [format!("  warning: {warning}")]);
+    }
     // by the lines of digits too, where there are no names
     let lines = fairleadow(&["compose", "-"], chart.as_bytes()).1;
     let out = fairleadow(&["check", "-"], lines.as_bytes()).1;

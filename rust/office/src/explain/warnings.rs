@@ -63,10 +63,14 @@ fn uncalled(plan: &Plan, at: usize, voice: Voice) -> Option<Problem> {
     (!is_open).then(|| voice.problem(at, 1, &what()))
 }
 
-/// Outputs that are on in the box before a call or a function and again in the box after it. Between them is at least a tick of an
-/// End, and that of the function, in which no output is on.
+/// Outputs that are on in the box before a call or a function and again in the box after it. A call stands in a box with outputs of
+/// its own, or by itself after other boxes. Between them is at least a tick of an End, and that of the function or of the call by
+/// itself, in which no output is on.
 fn off_between(plan: &Plan, at: usize, voice: Voice) -> Option<Problem> {
     let (before, between) = match plan.nodes[at] {
+        Node::Operation { called: 1.., mask: 0, .. } => {
+            (boxes_before(plan, at), "in this box's own tick at least")
+        }
         Node::Operation { called: 1.., .. } => (vec![at], "in the tick of the called scheme's End at least"),
         Node::Function { .. } => (boxes_before(plan, at), "in the function's own tick at least"),
         _ => return None,
@@ -115,11 +119,10 @@ fn stops_after(plan: &Plan, at: usize) -> Vec<usize> {
     stops
 }
 
-/// The operations that call nothing and whose next tick may be a node's.
+/// The operations whose next tick may be a node's, when what they call is done.
 fn boxes_before(plan: &Plan, at: usize) -> Vec<usize> {
     let leads = |from: &usize| {
-        matches!(plan.nodes[*from], Node::Operation { called: 0, .. })
-            && stops_after(plan, *from).contains(&at)
+        matches!(plan.nodes[*from], Node::Operation { .. }) && stops_after(plan, *from).contains(&at)
     };
     (0..plan.nodes.len()).filter(leads).collect()
 }
