@@ -11,7 +11,7 @@ use crate::kind::Kind;
 use crate::problem::shown_name;
 use crate::source;
 
-/// Refuses a file that the command reads, by whatever name, and one that holds a chart, an image or notation, unless it may be lost.
+/// Refuses a file that the command reads, by whatever name, and one that looks like a chart, an image or notation, unless it may be lost.
 pub fn may_write(file: &OsStr, read: &[&OsStr], force: bool) -> Result<(), Failure> {
     let lost = |why: &str| Failure::Usage(format!("{} {why}", shown_name(file)));
     if read.iter().any(|own| is_same(own, file)) {
@@ -20,7 +20,7 @@ pub fn may_write(file: &OsStr, read: &[&OsStr], force: bool) -> Result<(), Failu
     let held = Path::new(file).is_file().then(|| source::read(file).ok()).flatten();
     match held.and_then(|bytes| Kind::held(&bytes)) {
         Some(kind) if !force => {
-            Err(lost(&format!("holds {}, which would be lost; --force writes over it", kind.named())))
+            Err(lost(&format!("looks like {}, which would be lost; --force writes over it", kind.named())))
         }
         _ => Ok(()),
     }
@@ -46,6 +46,8 @@ pub fn write(file: &OsStr, bytes: &[u8]) -> io::Result<()> {
         File::options().write(true).open(&path)?;
     }
     let beside = path.with_file_name(format!(".fairleadow-{}", std::process::id()));
+    // one that an ended run of the same number left
+    let _ = fs::remove_file(&beside);
     let mut new = File::options().write(true).create_new(true).open(&beside)?;
     let mut whole = || {
         new.write_all(bytes)?;

@@ -44,12 +44,12 @@ impl<W: Write> Write for Printed<W> {
     }
 }
 
-/// Stands for an output that was closed before the program began.
+/// Stands for an output that was closed, or open for reading only, before the program began.
 pub struct Closed;
 
 impl Write for Closed {
     fn write(&mut self, _: &[u8]) -> io::Result<usize> {
-        Err(Error::other("standard output is closed"))
+        Err(Error::other("standard output is not open for writing"))
     }
 
     fn flush(&mut self) -> io::Result<()> {
@@ -100,7 +100,7 @@ mod tests {
         printed.write_all(b"a line\n").expect("it takes all");
         assert_eq!(
             printed.lost().map(|error| error.to_string()).as_deref(),
-            Some("standard output is closed")
+            Some("standard output is not open for writing")
         );
     }
 }

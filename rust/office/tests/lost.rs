@@ -46,21 +46,25 @@ fn printing() -> [Vec<String>; 12] {
     .map(|line| words(&line.replace("PLACES", &path("bore.txt"))))
 }
 
-/// A closed output is told and is status 1, in every command.
+/// An output that is closed, or open for reading only, is told and is status 1, in every command.
 #[test]
 fn a_closed_output_is_told() {
-    for arguments in printing() {
-        let closing = "exec \"$0\" \"$@\" >&-";
+    for (arguments, closed) in printing().iter().flat_map(|call| [">&-", "1</dev/null"].map(|to| (call, to)))
+    {
+        let closing = format!("exec \"$0\" \"$@\" {closed}");
         let ran = Command::new("sh")
-            .args(["-c", closing, env!("CARGO_BIN_EXE_fairleadow")])
-            .args(&arguments)
+            .args(["-c", &closing, env!("CARGO_BIN_EXE_fairleadow")])
+            .args(arguments)
             .output();
         let ran = ran.expect("it ends");
         let told = String::from_utf8(ran.stderr).expect("text");
         if told.starts_with("dot is not installed") {
             continue;
         }
-        assert_eq!(told, "the output cannot be written: standard output is closed\n", "{arguments:?}");
+        assert_eq!(
+            told, "the output cannot be written: standard output is not open for writing\n",
+            "{arguments:?} {closed}"
+        );
         assert_eq!(ran.status.code(), Some(1), "{arguments:?}");
     }
     // help and version print too, and where nothing is printed nothing is lost
@@ -88,7 +92,7 @@ fn a_refusal_is_told_whether_or_not_the_output_is_read() {
                 .output();
             let told = String::from_utf8(ran.expect("it ends").stderr).expect("text");
             assert!(told.contains(refusal) && told.ends_with("\n1\n"), "{output}: {told}");
-            assert_eq!(told.contains("standard output is closed"), lost, "{told}");
+            assert_eq!(told.contains("standard output is not open for writing"), lost, "{told}");
         }
     }
     fs::remove_file(bad).expect("it was written");

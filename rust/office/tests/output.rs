@@ -118,7 +118,7 @@ fn charts_images_and_notation_are_written_over_when_that_is_asked_for() {
         let file = shop.write(example_file, &text);
         let ran = shop.minimise(&file, &[]);
         assert_eq!((ran.status, ran.printed.as_str()), (2, ""), "{example_file}");
-        let told = format!("{file} holds {held}, which would be lost; --force writes over it\nusage: ");
+        let told = format!("{file} looks like {held}, which would be lost; --force writes over it\nusage: ");
         assert!(ran.said.starts_with(&told), "{}", ran.said);
         assert_eq!(shop.read(example_file), text);
         let ran = shop.minimise(&file, &["--force"]);
@@ -133,6 +133,21 @@ fn charts_images_and_notation_are_written_over_when_that_is_asked_for() {
     }
     let ran = run(&["minimise", &shop.path("branches.txt"), "--force"]);
     assert!(ran.status == 2 && ran.said.starts_with("--force goes with -o\n"), "{}", ran.said);
+}
+
+/// A run that was ended in the middle may have left its file, and a later one may have the same number.
+#[test]
+fn a_file_that_was_left_beside_is_no_hindrance() {
+    let shop = Shop::new("left");
+    let leaving =
+        "echo half >\"$1/.fairleadow-$$\"; exec \"$0\" minimise \"$1/branches.txt\" -o \"$1/new.image\"";
+    let program = env!("CARGO_BIN_EXE_fairleadow");
+    let ran = ran(Command::new("sh").args(["-c", leaving, program, &shop.path("")]));
+    assert_eq!((ran.status, ran.said.as_str()), (0, ""));
+    assert_eq!(
+        (shop.read("new.image"), shop.files()),
+        (smaller(), vec!["branches.txt".into(), "new.image".into()])
+    );
 }
 
 /// A link keeps leading to its file, a file keeps who may read it, and a device is written where it is.
