@@ -61,7 +61,7 @@ fn is_help(argument: &OsString) -> bool {
 
 /// The command of this name, or which was likely meant.
 fn named(name: &OsStr) -> Result<&'static Command, Failure> {
-    let known = || COMMANDS.iter().map(|command| command.name).chain(["help"]);
+    let known = || COMMANDS.iter().map(|command| command.name).chain(["help", "--version"]);
     let told =
         || Failure::Usage(format!("{}\n{}", unknown("command", &name.to_string_lossy(), known()), help()));
     COMMANDS.iter().find(|command| name == command.name).ok_or_else(told)
@@ -80,7 +80,10 @@ fn run(arguments: &[OsString], out: &mut dyn Write) -> Result<(), Failure> {
     };
     match (name.to_str(), rest) {
         (Some("--help" | "-h" | "help"), []) => return Ok(out.write_all(help().as_bytes())?),
-        (Some("help"), [command, ..]) => return help_of(named(command)?, out),
+        (Some("--help" | "-h" | "help"), [word, ..]) if word == "help" || is_help(word) => {
+            return Ok(out.write_all(help().as_bytes())?)
+        }
+        (Some("--help" | "-h" | "help"), [command, ..]) => return help_of(named(command)?, out),
         (Some("--version"), _) => return Ok(writeln!(out, "fairleadow {}", env!("CARGO_PKG_VERSION"))?),
         _ => {}
     }

@@ -104,7 +104,8 @@ pub fn shown_name(name: impl AsRef<OsStr>) -> String {
 fn seen(character: char) -> String {
     match character {
         '\'' | '"' | '\\' => character.to_string(),
-        _ => character.escape_debug().to_string(),
+        // behind a letter, so that a mark that joins the letter before it is no beginning, which would be shown as a code
+        _ => format!("a{character}").escape_debug().skip(1).collect(),
     }
 }
 
@@ -194,6 +195,7 @@ mod tests {
     #[test]
     fn a_word_is_shown_as_it_can_be_seen() {
         assert_eq!(visible("größe \"it's\" \\ »"), "größe \"it's\" \\ »");
+        assert_eq!(shown_name("gro\u{308}sse.txt"), "gro\u{308}sse.txt");
         assert_eq!(visible("a\u{200B}\t\u{FEFF}"), "a\\u{200b}\\t\\u{feff}");
         assert_eq!(visible(&"x".repeat(41)), format!("{}...", "x".repeat(40)));
     }

@@ -95,8 +95,15 @@ fn the_version_and_the_help_of_a_command_are_asked_for() {
     assert_eq!(fairleadow(&["--version"], b""), (0, version, String::new()));
     assert_eq!(fairleadow(&["help"], b""), fairleadow(&["--help"], b""));
     for name in ["check", "trace", "page", "wall"] {
-        assert_eq!(fairleadow(&["help", name], b""), fairleadow(&[name, "--help"], b""));
+        for asked in ["help", "--help", "-h"] {
+            assert_eq!(fairleadow(&[asked, name], b""), fairleadow(&[name, "--help"], b""));
+        }
     }
+    for asked in [["help", "help"], ["help", "--help"], ["--help", "-h"]] {
+        assert_eq!(fairleadow(&asked, b""), fairleadow(&["help"], b""));
+    }
+    let (status, _, told) = fairleadow(&["--versoin"], b"");
+    assert!(status == 2 && told.starts_with("no command --versoin; did you mean --version?\n"), "{told}");
     let (status, _, told) = fairleadow(&["help", "trase"], b"");
     assert!(status == 2 && told.starts_with("no command trase; did you mean trace?\n"), "{told}");
 }

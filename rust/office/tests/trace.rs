@@ -2,7 +2,7 @@
 
 mod shared;
 
-use std::time::Instant;
+use std::time::{Duration, Instant};
 
 use fairleadow::{Library, Proved};
 use office::plan::Plan;
@@ -227,6 +227,16 @@ fn the_names_of_the_notation_are_used() {
     assert!(rows(&ran).iter().map(|row| &row[..10]).eq(rows(&plain).iter().map(|row| &row[..10])));
 }
 
+/// The least time of three runs, and the masks of each: what else the machine does makes a run longer and never shorter.
+fn least(run: impl Fn() -> Vec<u32>) -> (Duration, Vec<u32>) {
+    let timed = |_| {
+        let start = Instant::now();
+        let masks = run();
+        (start.elapsed(), masks)
+    };
+    (0..3).map(timed).min().expect("three runs")
+}
+
 /// The image is prepared once: ticks on its table take a part of what ticks on its text take, which is read and checked in each.
 #[test]
 fn ticks_are_made_on_a_prepared_table() {
@@ -236,16 +246,18 @@ fn ticks_are_made_on_a_prepared_table() {
     let source = source::from_notation(&format!("scheme 1\nbegin -> a0\n{text}end\n")).expect("the notation");
     let plan = Plan::read(source).expect("a chart");
     let words = vec![0; 5_000];
-    let start = Instant::now();
-    let traced = trace::trace(&plan, 32, &words, &[]).expect("a trace");
-    let live = start.elapsed();
     let image = &plan.image.as_ref().expect("an image").text;
-    let mut state = trace::fresh(32).expect("a state");
-    let start = Instant::now();
-    let masks: Vec<u32> = words.iter().map(|word| Proved.tick(image, &mut state, *word).mask).collect();
-    let on_text = start.elapsed();
-    assert!(traced.ticks.iter().map(|tick| tick.mask).eq(masks));
-    assert!(live * 2 < on_text, "{live:?} and {on_text:?}");
+    let on_table = || {
+        let traced = trace::trace(&plan, 32, &words, &[]).expect("a trace");
+        traced.ticks.iter().map(|tick| tick.mask).collect()
+    };
+    let on_text = || {
+        let mut state = trace::fresh(32).expect("a state");
+        words.iter().map(|word| Proved.tick(image, &mut state, *word).mask).collect()
+    };
+    let ((table, table_masks), (text, text_masks)) = (least(on_table), least(on_text));
+    assert_eq!(table_masks, text_masks);
+    assert!(table * 2 < text, "{table:?} and {text:?}");
 }
 
 /// The words of a table are given to another run as they stand, and make the same table.

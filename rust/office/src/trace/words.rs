@@ -4,7 +4,7 @@ use std::ffi::OsStr;
 use std::path::Path;
 
 use crate::command::Failure;
-use crate::problem::{visible, Problem};
+use crate::problem::{shortened, shown_name, visible, Problem};
 use crate::source;
 
 /// How many ticks are made where the words have no end of their own.
@@ -29,14 +29,19 @@ impl Words {
             return Ok(Words::Counted);
         }
         if let Some(seed) = text.strip_prefix("random:") {
-            let told = |_| Failure::Usage(format!("the seed of {text} is no number from 0 to {}", u64::MAX));
+            let told = |_| {
+                let seed = visible(text);
+                Failure::Usage(format!("the seed of {seed} is no number from 0 to {}", u64::MAX))
+            };
             return seed.parse().map(Words::Random).map_err(told);
         }
         if text.starts_with(|first: char| first.is_ascii_digit()) {
             return listed(text).map_err(Failure::Usage);
         }
-        if !Path::new(file).exists() && text.split(',').map(str::trim).all(is_hexadecimal) {
-            let told = |message| Failure::Usage(format!("there is no file {text}, and {message}"));
+        let is_word = |piece: &str| is_hexadecimal(piece) || word(piece).is_ok();
+        if !Path::new(file).exists() && text.split(',').map(str::trim).all(is_word) {
+            let told =
+                |message| Failure::Usage(format!("there is no file {}, and {message}", repeated(text)));
             return listed(text).map_err(told);
         }
         let forms = "words are random:SEED, count, a list such as 0,1,0x8004, or a file";
@@ -54,10 +59,15 @@ impl Words {
     }
 }
 
+/// A list as it was given, as it can be seen and cut where it is long.
+fn repeated(list: &str) -> String {
+    shortened(&shown_name(list), "word")
+}
+
 /// Words with commas between them.
 fn listed(text: &str) -> Result<Words, String> {
     let list: Result<Vec<u16>, String> = text.split(',').map(|piece| word(piece.trim())).collect();
-    list.map(Words::List).map_err(|message| format!("in the words {text}: {message}"))
+    list.map(Words::List).map_err(|message| format!("in the words {}: {message}", repeated(text)))
 }
 
 /// One word a line; what stands after a # is a comment.
@@ -150,10 +160,19 @@ mod tests {
             ("12345A", "in the words 12345A: '12345A' is no word"),
             ("FFFF", "there is no file FFFF, and in the words FFFF: 'FFFF' could only be hexadecimal: write 0xFFFF"),
             ("F, 10", "there is no file F, 10, and in the words F, 10: 'F' could only be hexadecimal: write 0xF"),
+            ("FFFF,0x10", "there is no file FFFF,0x10, and in the words FFFF,0x10: 'FFFF' could only be hexadecimal: "),
             ("random:x", "the seed of random:x is no number from 0 to 18446744073709551615"),
+            ("random:\u{1B}[31m", "the seed of random:\\u{1b}[31m is no number"),
+            ("0,\u{1B}[31m", "in the words 0,\\u{1b}[31m: '\\u{1b}[31m' is no word"),
         ] {
             let Err(Failure::Usage(error)) = Words::given(given) else { panic!("{given} is no wrong call") };
             assert!(error.starts_with(told), "{given}: {error}");
+        }
+        for long in [format!("0{}x", ",0".repeat(9_000)), format!("FFFF{}", ",F".repeat(9_000))] {
+            let Err(Failure::Usage(error)) = Words::given(long) else {
+                panic!("a long list is no wrong call")
+            };
+            assert!(error.contains(",... (9,001 words): ") && error.len() < 300, "{error}");
         }
         for given in ["random", "no/such/file", "ABCDE"] {
             let Err(Failure::Refused(error)) = Words::given(given) else { panic!("{given} is a file") };
