@@ -1,7 +1,7 @@
 //! The office program: charts composed, shown, checked, traced, drawn, priced and asked about, and stacks compared. Every answer comes
 //! from the proved library. What is found here besides, to tell it to people, is held to that answer where it is told: labels to the
 //! image, arcs to the state, a chain or a circle of calls to the places, a reason to the refusal. Where they differ an internal error
-//! is told in its place.
+//! is told in its place. The warnings of `check` are this program's own, and no answer of the library's stands behind them.
 
 pub mod arguments;
 pub mod bill;

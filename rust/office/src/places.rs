@@ -44,7 +44,7 @@ pub fn told(source: &Source) -> Result<String, Problem> {
 
 /// The library's answer with what is found here, or how they differ: a number of places needs a chain of as many schemes, and
 /// refusal 20 a circle.
-fn held(answer: Answer, calls: Calls) -> Result<(Answer, Calls), Problem> {
+pub(crate) fn held(answer: Answer, calls: Calls) -> Result<(Answer, Calls), Problem> {
     let (found, agrees) = match (&calls, answer) {
         (Calls::Chain(schemes), Answer::Done(places)) => {
             (format!("a chain of {} is found", counted(schemes.len(), "scheme")), schemes.len() == places)

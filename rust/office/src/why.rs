@@ -40,6 +40,9 @@ pub fn asked(
     let number = tick.unwrap_or(last);
     if number > last {
         let ended = subject.problem(answer);
+        if ended.is_internal() {
+            return Err(ended);
+        }
         return Err(Problem { words: format!("tick {number} is not reached: {}", ended.words), ..ended });
     }
     let (_, mut before) = run(&table, &start, &words[..number], swaps)?;

@@ -13,13 +13,14 @@ mod uneven;
 mod voice;
 pub mod warnings;
 
-use fairleadow::{Answer, Refusal, CHART_TEXT, IMAGE_TEXT, LINE, NODES, RECORD};
+use fairleadow::{Answer, Library, Proved, Refusal, CHART_TEXT, IMAGE_TEXT, LINE, NODES, RECORD};
 
 use crate::calls::Calls;
 use crate::chart::{self, Node};
 use crate::kind::Kind;
 use crate::marking::handler;
 use crate::names::Names;
+use crate::places;
 use crate::problem::{counted, thousands, Problem};
 
 use voice::Voice;
@@ -43,7 +44,7 @@ fn reason(text: &[u8], asked: Kind, refusal: &Refusal) -> Option<Problem> {
         11 => image::header(&frames(text)?),
         12 => image::place(&frames(text)?, index),
         13 => image_fields::field(&frames(text)?, index),
-        17 => Some(full_stack(refusal, chart_of(text, asked).as_deref())),
+        17 => Some(full_stack(refusal, chart_of(text, asked).map(|nodes| (text, nodes)))),
         23 => uneven::label(&frames(text)?),
         _ => of_run(refusal),
     }
@@ -59,7 +60,10 @@ pub fn composed(records: &[u8], names: &Names, lines: &[usize], answer: Answer) 
     let problem = match refusal.number {
         1 => Some(node_count(records.len(), lines)),
         4..=10 | 19 | 20 => of_records(&records, &refusal, Voice::Notation { names, lines }),
-        17 => Some(full_stack(&refusal, Some(&chart::nodes(&records.concat())))),
+        17 => {
+            let records = records.concat();
+            Some(full_stack(&refusal, Some((&written(&records), chart::nodes(&records)))))
+        }
         _ => of_run(&refusal),
     };
     held(problem, refusal, refusal.frame().and_then(|node| lines.get(node).copied()))
@@ -118,25 +122,45 @@ fn chart_of(text: &[u8], asked: Kind) -> Option<Vec<Node>> {
     Some(chart::nodes(&frames.concat()))
 }
 
+/// The lines of a chart's records, which the library has accepted.
+fn written(records: &[u8]) -> Vec<u8> {
+    let mut text = vec![0; CHART_TEXT];
+    match Proved.write_chart(records, &mut text) {
+        Answer::Done(length) => text[..length].to_vec(),
+        Answer::Refused { .. } => Vec::new(),
+    }
+}
+
 /// Refusal 17, with advice that fits the chart that was run, where it was one.
-fn full_stack(refusal: &Refusal, nodes: Option<&[Node]>) -> Problem {
-    let advice = match nodes.map(|nodes| (handler(nodes), Calls::of(nodes))) {
+fn full_stack(refusal: &Refusal, chart: Option<(&[u8], Vec<Node>)>) -> Problem {
+    let advice = match chart {
         None => "an image that calls deeper than the stack has places: more places (32 at most), or calls less deep".to_string(),
-        Some((1.., _)) => {
+        Some((_, nodes)) if handler(&nodes) != 0 => {
             "a handler that calls deeper than the stack has places: more places (32 at most), or a handler that calls less deep".to_string()
         }
-        Some((0, Calls::Circle(_))) => {
+        Some((text, nodes)) => match too_deep(text, &nodes) {
+            Ok(advice) => advice,
+            Err(differing) => return differing,
+        },
+    };
+    let ticks = counted(refusal.count, "tick");
+    Problem::new(format!("after {ticks} a call finds the stack full")).advice(advice)
+}
+
+/// What to do where a chart without a handler finds the stack full: how deep it calls is held to the library's places.
+fn too_deep(text: &[u8], nodes: &[Node]) -> Result<String, Problem> {
+    let (_, calls) = places::held(Proved.places(text), Calls::of(nodes))?;
+    Ok(match calls {
+        Calls::Circle(_) => {
             "a chart that calls itself, for which no number of places is enough whatever the words: more places (32 at most), words \
              by which it calls less deep, or a handler, which starts when the stack is full"
                 .to_string()
         }
-        Some((0, Calls::Chain(schemes))) => {
+        Calls::Chain(schemes) => {
             let places = counted(schemes.len(), "place");
             format!("too few places: this chart needs {places}, and more only where a scheme is swapped for one that calls deeper")
         }
-    };
-    let ticks = counted(refusal.count, "tick");
-    Problem::new(format!("after {ticks} a call finds the stack full")).advice(advice)
+    })
 }
 
 /// Refusals 14 to 16, 18, 21, 22, 24, 27 and 28, which name no line.
@@ -200,6 +224,21 @@ mod tests {
 
     const CHART: &[u8] = include_bytes!("../../../../examples/home.chart");
     const IMAGE: &[u8] = include_bytes!("../../../../examples/home.image");
+
+    /// The places that a chart needs are those of its lines; lines of another chart have another number.
+    #[test]
+    fn the_places_of_a_full_stack_are_held_to_the_library() {
+        const CHAIN: &[u8] = include_bytes!("../../../../examples/bore.chart");
+        let (refusal, nodes) = (Refusal { number: 17, index: 0, count: 2 }, chart_of(CHAIN, Kind::Chart));
+        let told = |text| full_stack(&refusal, Some((text, nodes.clone().expect("a chart"))));
+        assert!(
+            told(CHAIN).advice.starts_with("too few places: this chart needs 2 places, "),
+            "{}",
+            told(CHAIN)
+        );
+        let differing = "internal error: a chain of 2 schemes is found, and the library says 1 place";
+        assert_eq!(told(CHART).words, differing);
+    }
 
     /// Refusals that this chart and its image do not deserve, and a reason that is found on another line than the library's.
     #[test]

@@ -58,6 +58,9 @@ pub fn problem(plan: &Plan, trace: &Trace, stopped: &Stopped) -> Problem {
     let node = stopped.stack[stopped.stack.len() - 1].node;
     let count = trace.ticks.len();
     let told = plan.source.problem(Answer::Refused { number: stopped.number, index: 0, count });
+    if told.is_internal() {
+        return told;
+    }
     let swaps: String = stopped.swaps.iter().map(|swap| format!(", {}", plan.swapped(swap))).collect();
     let (word, at, scheme) = (word(stopped.word), plan.node_title(node), plan.scheme_of(node));
     let place = format!("tick {count}, word {word}{swaps}, node {at} of {scheme}");
