@@ -33,6 +33,7 @@ static int read_nothing(void) {
     uint16_t row, conditions;
     uint32_t mask, ended, full, unmatched;
     uint8_t code;
+    uint64_t price;
     size_t taken = 0;
     if (fairleadow_read_chart(NULL, 0, NULL, 0, NULL, NULL) != FAIRLEADOW_BAD_LENGTH ||
         fairleadow_write_chart(NULL, 0, NULL, 0, NULL, NULL) != FAIRLEADOW_BAD_LENGTH ||
@@ -55,6 +56,11 @@ static int read_nothing(void) {
     if (fairleadow_spin(NULL, 0, &taken, 0, image, image_length, 0, &mask, &code, NULL, NULL) != FAIRLEADOW_UNFIT ||
         fairleadow_live_spin(NULL, 0, &taken, 0, table, table_length, 0, &mask, &code, NULL, NULL) != FAIRLEADOW_UNFIT)
         return 8;
+    if (fairleadow_run(NULL, 0, states, NULL, 0, NULL, 0, NULL, 0, NULL, NULL) != FAIRLEADOW_BAD_LENGTH ||
+        fairleadow_priced_run(NULL, 0, states, prices, NULL, 0, NULL, 0, NULL, 0, &price, NULL, NULL) != FAIRLEADOW_BAD_LENGTH ||
+        fairleadow_spin(states, FAIRLEADOW_SPINDLES, &taken, 0, NULL, 0, 0, &mask, &code, NULL, NULL) != FAIRLEADOW_BAD_LENGTH ||
+        fairleadow_live_spin(states, FAIRLEADOW_SPINDLES, &taken, 0, NULL, 0, 0, &mask, &code, NULL, NULL) != FAIRLEADOW_BAD_HEADER)
+        return 13;
     return 0;
 }
 

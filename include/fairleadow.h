@@ -13,7 +13,8 @@
  * This file is for C99 and C++98 and what came after them, and for every processor: lengths are of type size_t, and fairleadow_calls.h,
  * which lies beside it, makes of them what the archive takes. controller/README.md tells of the archives for controllers. The one that
  * `./archive` makes is code for x86-64 and calls memcpy and memset and nothing else; there a call takes at most so many bytes of stack,
- * its return address and what it uses below its stack with them (docs/MEASUREMENTS.md has the deepest that was seen beside it):
+ * its return address and what it uses below its stack with them; memcpy and memset count as functions without a frame, and what a
+ * dynamic linker takes to find them at their first call is not counted (docs/MEASUREMENTS.md has the deepest that was seen beside it):
  *    read_chart      3,456   tick           13,488   prepare        13,320
  *    write_chart       912   rebind         13,336   live_run          480
  *    translate       6,880   spin           13,856   live_tick         416
@@ -29,7 +30,8 @@
 #include <stddef.h>
 #include <stdint.h>
 
-/* What a caller may count on: it rises where a function, a number or the state's bytes change their meaning, and where any is added. */
+/* The version of this header; the archive has none of its own. It rises where a function, a number or the state's bytes change their
+ * meaning, and where any is added. */
 #define FAIRLEADOW_VERSION 1
 
 #ifdef __cplusplus

@@ -4,8 +4,12 @@
 #include "host.h"
 #include "serial.h"
 
+/* What is left of the wait for a word, in milliseconds: a swap does not lengthen it. */
+static uint32_t left;
+
 void port_open(void) {
     serial_open();
+    left = PORT_WAIT;
 }
 
 /* The value of a hexadecimal digit, or -1. */
@@ -20,7 +24,7 @@ static int digit(int c) {
 /* A word is a line of one to four digits; after a = the first of two digits is a number and the second a scheme, so that this
  * port names 0 to 15 and not 16. */
 int port_next(uint16_t *word, uint8_t *number, uint8_t *scheme) {
-    uint32_t value = 0, left = PORT_WAIT;
+    uint32_t value = 0;
     int digits = 0;
     int c = serial_receive(&left);
     int kind = c == '=' ? PORT_SWAP : PORT_WORD;
@@ -38,6 +42,8 @@ int port_next(uint16_t *word, uint8_t *number, uint8_t *scheme) {
     *word = (uint16_t)value;
     *number = (uint8_t)(value >> 4);
     *scheme = (uint8_t)(value & 15);
+    if (kind == PORT_WORD)
+        left = PORT_WAIT;
     return kind;
 }
 

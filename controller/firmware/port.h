@@ -13,8 +13,8 @@ void port_set_outputs(uint32_t mask);
 #define PORT_WAIT 3000
 
 /* Waits for what comes next: a word of the probes, bit i of which is condition i, or a swap, a number that the operator gives to a scheme
- * to serve. Tells which of them came, PORT_NOTHING where it is neither, PORT_LATE where it did not come within PORT_WAIT. A board with a
- * watchdog starts it anew here. */
+ * to serve. Tells which of them came, PORT_NOTHING where it is neither, PORT_LATE where no word came within PORT_WAIT, which swaps do not
+ * lengthen. A board with a watchdog starts it anew here, and again while it waits where the watchdog does not bear PORT_WAIT. */
 enum { PORT_NOTHING, PORT_WORD, PORT_SWAP, PORT_LATE };
 int port_next(uint16_t *word, uint8_t *number, uint8_t *scheme);
 

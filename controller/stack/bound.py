@@ -5,19 +5,20 @@ controller/build and controller/programs write the texts, beside the archives. O
 (controller/board/board.c). Prints the bounds of all calls on all processors; pages.py holds the pages to them.
 
 Beside each text lies what the compiler wrote of its frames (-fstack-usage, TEXT.su). A call's bound is the largest sum of frames on a
-way of calls. A function that calls itself counts as often as its contract allows. What cannot be counted is refused: a frame without a
-fixed size, a call by a pointer, a function without a frame, any other circle of calls.
+way of calls. A function that calls itself counts as often as its contract, or for one of them its only caller, allows. What cannot be
+counted is refused: a frame without a fixed size, a call by a pointer, a function without a frame, any other circle of calls.
 """
 import glob
 import os
 import re
 import sys
 
-# How often a function can stand on the stack that calls itself, by its contract.
+# How often a function can stand on the stack that calls itself, by its contract, or by its only caller.
 DEPTHS = {
     "chart_rows::paths::count_paths": 17,  # each adds a number to those that were tested, and there are 16
     "translator::path_text::put_forks": 17,  # likewise
-    "fillings::fill_lists::tally_all": 17,  # a word fewer each, of at most 16
+    # a word fewer each, of at most 16: without conditions, where there may be more, it is not called (fillings/src/counting.rt)
+    "fillings::fill_lists::tally_all": 17,
     "little_fetch::little_seek::seek": 5,  # a place further each, of at most 4 frames
 }
 
@@ -39,13 +40,14 @@ class Processor:
         self.library = frozenset(library)
 
 
+CONDITION = "(?:eq|ne|cs|cc|hs|lo|mi|pl|vs|vc|hi|ls|ge|lt|gt|le)?"
 THUMB = Processor(
-    r"(?:bl?|b(?:eq|ne|cs|cc|hs|lo|mi|pl|vs|vc|hi|ls|ge|lt|gt|le))(?:\.[wn])?\t",
-    r"blx\t",
-    r"(?:add|mov|ldr)\tpc\b|bx\t(?!lr$)",
+    rf"bl?{CONDITION}(?:\.[wn])?\t",
+    rf"blx{CONDITION}\t",
+    rf"(?:add|mov|ldr){CONDITION}(?:\.[wn])?\tpc\b|bx{CONDITION}\t(?!lr$)",
 )
 X86 = Processor(r"(?:callq?|j\w+)\t", r"callq?\t\*", r"jmpq?\t\*", returned=8, below=128, library=("memcpy", "memset"))
-RISCV = Processor(r"(?:call|tail|j|b\w+)\t", r"jalr\t", r"jr\t(?!ra$)")
+RISCV = Processor(r"(?:call|tail|jal|jump|j|b\w+)\t", r"jalr\t", r"jr\t(?!ra$)")
 PROCESSORS = {"thumbv7m": THUMB, "thumbv6m": THUMB, "riscv32imac": RISCV, "x86_64": X86}
 FOLDERS = {"x86_64": "target/staticlib", "riscv32imac": "target/riscv/riscv32imac"}
 SMALLER = "-size"  # what `controller/build --size` makes, where it was run
@@ -60,7 +62,7 @@ def frames_of(path):
     frames = {}
     for line in open(path, encoding="utf-8"):
         place, size, kind = line.rstrip("\n").split("\t")
-        # the file, in C the line and the column too, then the name, which may hold colons
+        # the file, in C the line too, then the name, which may hold colons
         name = re.sub(r"^[^:]*:(?:\d+:)?", "", place)
         if kind != "static":
             raise Refused(f"{name} has a frame without a fixed size ({kind})")
@@ -140,11 +142,14 @@ def bounds(processor, paths):
 def call_bounds(name, paths):
     """The bound of each call, with the frame of the board's caller where its text is there."""
     found, frames, calls = bounds(PROCESSORS[name], paths)
-    below = dict.fromkeys(found, 0)
     callers = ["make_call", "priced_run"] if "make_call" in frames else []
+    below = {} if callers else dict.fromkeys(found, 0)
     for caller in callers:
         before = frames["make_call"] + (frames[caller] if caller != "make_call" else 0)
-        below.update({call: before for call in calls[caller] if call in below})
+        below.update({call: before for call in calls[caller] if call in found})
+    missing = sorted(set(found) - set(below))
+    if missing:
+        raise Refused("the board's caller does not call " + ", ".join(missing))
     return {call[len(PREFIX):]: found[call] + before for call, before in below.items()}
 
 

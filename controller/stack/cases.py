@@ -24,6 +24,8 @@ REFUSED = {
     "__attribute__((noinline)) int even(int n) { volatile char held[9]; held[0] = 1; return n ? odd(n - 1) + held[0] : 1; }\n"
     "int fairleadow_a(int n) { return odd(n) + 1; }": "a circle of calls",
     "int other(int);\nint fairleadow_a(int n) { return other(n) + 1; }": "whose frame is not known",
+    "int make_call(int n) { return n; }\nint priced_run(int n) { return n; }\n"
+    "int fairleadow_a(int n) { return n + 1; }": "caller does not call fairleadow_a",
 }
 
 # two ways of calls, of which the one with fewer frames takes more
@@ -33,6 +35,25 @@ __attribute__((noinline)) int middle(int n) { volatile char held[16]; held[0] = 
 __attribute__((noinline)) int large(int n) { volatile char held[1024]; held[n & 1023] = 1; return held[n & 7] + 1; }
 int fairleadow_a(int n) { volatile char held[16]; held[0] = n; return middle(n) + large(n) + held[0]; }
 """
+
+# single lines, most of which the compiler was not seen to write: calls by a name, and calls and jumps by a pointer
+NAMED = {"thumbv7m": ["blne\tlarge", "bl\tlarge", "beq.w\tlarge", "ble\tlarge"], "riscv32imac": ["jal\tlarge", "jal\tra, large"]}
+POINTED = {"thumbv7m": ["blxne\tr3", "bxne\tr3", "ldrne.w\tpc, [r3]"], "riscv32imac": ["jalr\ta5", "jr\ta5"]}
+
+
+def check_lines(processor):
+    """What is told of single lines."""
+    kind = bound.PROCESSORS[processor]
+    for line in NAMED.get(processor, []):
+        calls = bound.called_by("f", [line], kind)
+        if calls != {"large"}:
+            sys.exit(f"controller/stack/bound.py says on {processor} that {line!r} calls {calls}")
+    for line in POINTED.get(processor, []):
+        try:
+            calls = bound.called_by("f", [line], kind)
+        except bound.Refused:
+            continue
+        sys.exit(f"controller/stack/bound.py takes {line!r} on {processor}, and {calls} for what it calls")
 
 
 def compiled(folder, compiler, source):
@@ -44,6 +65,7 @@ def compiled(folder, compiler, source):
 
 def main():
     processor, compiler = sys.argv[1], sys.argv[2:]
+    check_lines(processor)
     with tempfile.TemporaryDirectory() as folder:
         for source, why in REFUSED.items():
             try:

@@ -87,7 +87,8 @@ fn hold_to_page(notes: &Notes) {
         notes.calls, notes.too_large, notes.code
     );
     println!("deepest stack: {:?}", notes.deepest);
-    let (stacks, usual) = (stacks(&processor()), std::env::var("FAIRLEADOW_SEED").is_err());
+    let usual = ["FAIRLEADOW_SEED", "FAIRLEADOW_CASES"].iter().all(|name| std::env::var(name).is_err());
+    let stacks = stacks(&processor());
     for (call, name) in CALLS {
         let deepest = *notes.deepest.get(&call).unwrap_or_else(|| panic!("{name} was never made"));
         let stack = stacks.get(name).unwrap_or_else(|| panic!("the page has no stack of {name}"));
