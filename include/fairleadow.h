@@ -215,16 +215,16 @@ uint8_t fairleadow_check_image(const uint8_t *image, size_t image_len, size_t *i
  * number of the state is 0; counts 0. */
 uint8_t fairleadow_fresh(size_t size, fairleadow_state *state, size_t *index, size_t *count);
 
-/* One tick for each word, a mask and a code for each tick. Bit i of a word is condition i, bit i of a mask micro operation i.
+/* One tick a word, with its mask and its code. Bit i of a word is condition i, bit i of a mask micro operation i.
  * Codes: 0x00 plain, 0x03 return, 0x04 home, 0x10 + h an operation's call of number h, 0x40 + h a function's, 0x60 a drop: a call
  * found the stack full, all open schemes are closed, and the handler starts at the next tick. A return may be the handler's, after
  * which comes a home tick.
- * Tries what the image check tries, then 15 to 18; counts ticks. With 17 and 18 the state is that after the ticks counted. */
+ * Refuses all that the image check refuses, then 15 to 18; counts ticks. With 17 and 18 the state is that after the ticks counted. */
 uint8_t fairleadow_run(const uint8_t *image, size_t image_len, fairleadow_state *state, const uint16_t *words, size_t words_len,
                        uint32_t *masks, size_t masks_len, uint8_t *codes, size_t codes_len, size_t *index, size_t *count);
 
 /* A run that tells what it costs. Price i is that of micro operation i for each tick that it is on, in hundredths of a cent, 0 to 65,535;
- * *price is the sum over the ticks counted, divided by 100 once, halves upward, in cents. It is written in every case: with 17 and 18 it
+ * *price is in cents: what the ticks counted cost in all, rounded once, a half upward. It is written in every case: with 17 and 18 it
  * is that of the ticks finished before, with other refusals 0. All else is as in fairleadow_run. The prices are a pointer to 32.
  * Tries what the image check tries, then 15, 27 (more than 65,536 words, whatever room there is for them), and 16 to 18; counts ticks. */
 uint8_t fairleadow_priced_run(const uint8_t *image, size_t image_len, fairleadow_state *state,
@@ -247,7 +247,7 @@ uint8_t fairleadow_rebind(const uint8_t *image, size_t image_len, fairleadow_sta
 
 /* One tick of spindle `spindle`, 0 to 3, by its own image. The four states stand in one list, `states_len` tells how many there are, and
  * *taken how many places they have taken together: 4 when all are fresh, and then what the last call left there. A call takes one of 64
- * places, a return or a drop gives its places back. Of the other three states only the depths are read, and nothing is changed. Tries 25,
+ * places, a return or a drop gives its places back. All that is read of the other three states is their depths, and nothing is changed. Tries 25,
  * then what the image check tries, then 15: the list is not of four states, their depths do not sum to *taken, that is above 64, or the
  * spindle's own state does not fit; then 17, 26 and 18. A drop needs no place, and on a full stack a call is a drop or gets 17, never
  * 26. Counts 1. A refused tick counts 0 and leaves the states, *taken, *mask and *code as they were: after 26 the same tick may be
@@ -256,8 +256,8 @@ uint8_t fairleadow_rebind(const uint8_t *image, size_t image_len, fairleadow_sta
 uint8_t fairleadow_spin(fairleadow_state *states, size_t states_len, size_t *taken, size_t spindle, const uint8_t *image,
                         size_t image_len, uint16_t word, uint32_t *mask, uint8_t *code, size_t *index, size_t *count);
 
-/* What makes the tick of a state by a word go where it goes: the row that it takes, by its number among the image's rows, from 0;
- * a mask of the conditions that decide, so that every word which agrees with this one on them takes the same row; and the result bit
+/* What makes the tick of a state by a word go where it goes: the row that it takes, told by its number among the image's rows (0 is
+ * the first); a mask of the conditions that decide, so that every word which agrees with this one on them takes the same row; and the result bit
  * of the number called where the row is a function's, else 2. No tick is made, and the state is only read. A home tick, a call and a
  * handler's return at depth 1 take no row: they get 21. Tries what the image check tries, then 15, 21 and 18; counts 0. With a
  * refusal row, mask and bit are 0. */
@@ -278,16 +278,16 @@ uint8_t fairleadow_list_rows(const uint8_t *image, size_t image_len, uint16_t *f
 uint8_t fairleadow_minimise(const uint8_t *image, size_t image_len, uint8_t *smaller, size_t smaller_len,
                             size_t *index, size_t *count);
 
-/* The lines of little chart `number`, from 0, of `frames` frames. Little charts are all accepted charts of 2 to 4 frames with one scheme
- * that have, besides Begin and End, only operations of mask 0 or 1 that write no result, and conditions of number 0. There are 2 of 2
+/* The lines of little chart `number`, from 0, of `frames` frames. Little charts are all accepted charts that have one scheme in 2 to 4
+ * frames and, besides Begin and End, only operations of mask 0 or 1 that write no result, and conditions of number 0. There are 2 of 2
  * frames, 18 of 3 and 648 of 4; those of one frame count are numbered in increasing order of their texts as fairleadow_write_chart
  * writes them, each once. Both are as wide as a length, so that none is cut off before it is tried. Tries 24, then 16; counts
  * characters, 23 a frame. */
 uint8_t fairleadow_little_chart(size_t frames, size_t number, uint8_t *text, size_t text_len, size_t *index, size_t *count);
 
-/* How often the stack fills. Of all lists of `ticks` words, in which conditions 0 to `conditions` - 1 are 0 or 1 and the others 0: how
- * many run to their end, how many get 17 and how many get 18, each from a fresh state of `size` places. No ticks is one empty list, which
- * ends, and no conditions one list of zeros; the three sum to 2 to the power of ticks times conditions. A drop stops no list. On an image
+/* How often the stack fills. Of all lists of `ticks` words, in which only the `conditions` lowest conditions are ever 1: how
+ * many are run to the end, get 17 and get 18, each from a fresh state of `size` places. No ticks is one empty list, which
+ * ends, and no conditions one list of zeros; together the three are 2 to the power of ticks times conditions. A drop stops no list. On an image
  * that the translator wrote *unmatched is 0. All three are written in every case, as 0 with a refusal. Size, ticks and conditions are as
  * wide as a length, so that none is cut off before it is tried. It is a call for the office: with 16 ticks times conditions there are
  * 65,536 lists. Tries what the image check tries, then 14 and 28; counts 0. */
@@ -320,8 +320,8 @@ uint8_t fairleadow_live_rebind(const uint8_t *table, size_t table_len, fairleado
 uint8_t fairleadow_live_spin(fairleadow_state *states, size_t states_len, size_t *taken, size_t spindle, const uint8_t *table,
                              size_t table_len, uint16_t word, uint32_t *mask, uint8_t *code, size_t *index, size_t *count);
 
-/* What a tick's code stands for. Returns the tick kind as an image has it (0 plain, 1 operation call, 2 function call, 3 return,
- * 4 home), 5 for a drop, or 255 for a code that no tick has, and writes the number called, 2 to 16, or 0 where none is. Refuses
+/* What a tick's code stands for. Returns the tick kind as an image has it (FAIRLEADOW_PLAIN to
+ * FAIRLEADOW_HOME), 5 for a drop, or 255 for a code that no tick has, and writes the number called, 2 to 16, or 0 where none is. Refuses
  * nothing. */
 uint8_t fairleadow_meaning(uint8_t code, uint8_t *called);
 

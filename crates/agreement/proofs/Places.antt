@@ -1,5 +1,5 @@
 -- The state of the machine at a position of the walk:
--- of each open scheme, the bottom first, the label of its node, the number that it was called by and the scheme that it is, then zeros.
+-- of each open scheme, the bottom first, the label of its node, the number of its call and the scheme that it is, then zeros.
 use Prim.Native.Nat.{ℕ, suc, ◌+◌, ◌-◌, ◌<◌}
 use mathlib.Core.Path.{◌≡◌, refl, ap, ◌∙◌, sym}
 use mathlib.Core.List.{List, [], ◌∷◌}

@@ -54,7 +54,7 @@ chart_mixed = lines (
 unfoldable pub chart_circle : List ℕ
 chart_circle = lines ("00010001000000000000FE" ∷ "03010001010000000000FA" ∷ "01010000000000000000FE" ∷ [])
 
--- Begin, function 2 (on 0 End, on 1 mask 1 and then End); scheme 2: one operation that writes 1
+-- Begin; function 2, whose 0 leads to End and whose 1 leads to mask 1 and then End. Scheme 2: one operation that writes 1
 unfoldable pub chart_function : List ℕ
 chart_function = lines (
     "00010001000000000000FE" ∷ "04010203020000000000F4" ∷ "02010003000000000001F9" ∷ "01010000000000000000FE"

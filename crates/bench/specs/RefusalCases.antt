@@ -111,7 +111,7 @@ pub record RefusalCases : Type 0 where
   -- two Ends of scheme 1 and none of scheme 2; a scheme that is left out
   pub r5-ends : read_verdict (changed_chart 5 1 1) ≡ refused 5 0
   pub r5-gap : read_verdict (text_of (chart (begins 1 1 ∷ ends_with 1 ∷ begins 3 3 ∷ ends_with 3 ∷ []))) ≡ refused 5 0
-  -- an arc to no node, to another scheme, to a Begin
+  -- an arc that leads nowhere, into another scheme, to a Begin
   pub r6-none : read_verdict (changed_chart 1 3 7) ≡ refused 6 1
   pub r6-other : read_verdict (changed_chart 1 3 5) ≡ refused 6 1
   pub r6-begin : read_verdict (changed_chart 4 4 3) ≡ refused 6 4

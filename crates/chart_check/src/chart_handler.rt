@@ -1,4 +1,4 @@
-// The handler of a chart, and refusal 19: a mark on scheme 1 or a second mark.
+// The handler of a chart, and refusal 19: scheme 1 is marked, or a scheme beside one marked before.
 
 mod handlers;
 

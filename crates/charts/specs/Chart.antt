@@ -47,7 +47,7 @@ schemes c = highest (scheme c) 0 (size c)
 abbrev pub is_of : Chart → ℕ → ℕ → ℕ → Bool
 is_of c k h v = is c k v && eqb (scheme c v) h
 
--- a Begin with byte 2 equal to 1 marks its scheme as the handler, to which a call that finds the stack full drops
+-- a Begin whose byte 2 is 1 makes its scheme the handler, to which a call that finds the stack full drops
 abbrev pub is_handler_mark : Chart → ℕ → Bool
 is_handler_mark c v = is c BEGIN v && eqb (argument c v) 1
 

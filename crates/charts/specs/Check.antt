@@ -31,7 +31,7 @@ has_bad_field c v = eqb (scheme c v) 0 || ltb SCHEMES (scheme c v) || has_bad_us
 abbrev pub is_bad_scheme : Chart → ℕ → Bool
 is_bad_scheme c h = not (eqb (count (is_of c BEGIN h) 0 (size c)) 1 && eqb (count (is_of c END h) 0 (size c)) 1)
 
--- 19. A mark on scheme 1, or a second mark.
+-- 19. Scheme 1 is marked, or a scheme beside one marked before.
 abbrev pub has_bad_marks : Chart → Bool
 has_bad_marks c = any (λ v. eqb (handler_at c v) 1) 0 (size c) || ltb 1 (count (is_handler_mark c) 0 (size c))
 
@@ -72,7 +72,7 @@ condition_arcs c v = if is c CONDITION v then arcs c v else []
 abbrev pub is_on_circle : Chart → ℕ → Bool
 is_on_circle c v = is c CONDITION v && is_marked (nodes_joined_from (size c) (condition_arcs c) (arcs c v)) v
 
--- 9. A node that no arcs join from the Begin of its scheme.
+-- 9. A node to which no arcs lead from its scheme's Begin.
 abbrev pub is_cut_off : Chart → ℕ → Bool
 is_cut_off c v = not (is_marked (nodes_joined_from (size c) (arcs c) (begin c (scheme c v) ∷ [])) v)
 

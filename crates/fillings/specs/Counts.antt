@@ -1,4 +1,4 @@
--- How often the stack fills: over all lists of n words that use conditions 0 to k - 1, with the others 0, how their runs end.
+-- How often the stack fills: how the runs end over all lists of n words in which only the k lowest conditions are ever 1.
 use Rattle.std.specs.Prelude.{ℕ, zero, suc, ◌*◌, ◌/◌, ◌%◌, ◌^◌, Bool, ◌||◌, List, [], ◌∷◌, ltb, eqb}
 use Rattle.words.specs.lists.Numbers.{count}
 use Rattle.text.specs.frames.Sizes.{CONDITIONS, WORDS}

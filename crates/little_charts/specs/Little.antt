@@ -1,5 +1,5 @@
--- All the little charts: the accepted ones of 2 to 4 frames with one scheme, no function and no mark, condition 0 alone, masks 0 or 1
--- and results 0.
+-- All the little charts: the accepted ones that have one scheme in 2 to 4 frames, no function and no mark, condition 0 alone, masks 0
+-- or 1 and results 0.
 use Rattle.std.specs.Prelude.{ℕ, zero, suc, Bool, true, false, ◌&&◌, ◌||◌, not, List, [], ◌∷◌, ◌++◌, map, leb, ltb, eqb, length, get_or}
 use Rattle.std.specs.Prelude.{replicate}
 use Rattle.words.specs.lists.Numbers.{range, any}

@@ -1,4 +1,4 @@
-// The entry point to the little charts: one of them as text, by its frame count and its number.
+// The entry point to the little charts: the text of one of them, told by how many frames it has and by its number.
 ghost use Rattle.text.specs.frames.Frame.{size};
 ghost use Rattle.text.specs.frames.Answer.{GivesBuffer};
 ghost use Rattle.little_charts.specs.Little.{little_chart};

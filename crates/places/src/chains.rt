@@ -1,4 +1,4 @@
-// Calls between schemes: the longest chain of calls from scheme 1, and circles of calls.
+// Calls between schemes: the longest chain of them that begins at scheme 1, and circles.
 
 mod calls;
 mod chain;

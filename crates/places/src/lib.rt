@@ -1,4 +1,5 @@
-//! How many places a chart needs: the longest chain of calls from scheme 1 (`chains`), and the entry point, with refusal 20 (`entry`).
+//! How many places a chart needs: the longest chain of calls that begins at scheme 1 (`chains`), and the entry point, with refusal 20
+//! (`entry`).
 #![tactic(auto)]
 
 ghost use Rattle.places.specs.Reported.{AlwaysReported};

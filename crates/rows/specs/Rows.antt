@@ -24,7 +24,7 @@ better_choice no_choice y = y
 better_choice (row k r) no_choice = row k r
 better_choice (row k r) (row j q) = if ltb (ones q.care) (ones r.care) then row k r else row j q
 
--- of the matching rows of label l the one whose care mask has most ones, with equal counts the later; the first row has number k
+-- of the rows of label l that match, the one that asks for most conditions, the last of these where several do; the first row has number k
 unfoldable pub best_row : ℕ → ℕ → ℕ → ℕ → List Row → Choice
 best_row l w b k [] = no_choice
 best_row l w b k (r ∷ rs) = better_choice (if is_candidate l w b r then row k r else no_choice) (best_row l w b (suc k) rs)

@@ -1,5 +1,5 @@
--- The finished ticks of a spindle are those of its own walk over the words of just these ticks, whatever the other spindles are handed
--- meanwhile.
+-- What a spindle's finished ticks emit is what a walk of its own emits over the words of just these ticks, whatever the other spindles
+-- are handed meanwhile.
 use Rattle.std.specs.Prelude.{ℕ, ◌≤◌, ◌<◌, Bool, true, false, ◌&&◌, ◌≡◌, List, [], ◌∷◌, map, eqb, length, take, if◌then◌else◌}
 use Rattle.words.specs.lists.Sequences.{All}
 use Rattle.bindings.specs.Binding.{Binding, own_binding}

@@ -1,4 +1,4 @@
--- Four spindles that share 64 places: one call ticks a named spindle by one word. Refusals 25 and 26.
+-- Four spindles that share 64 places: a call makes one tick of the spindle that it names. Refusals 25 and 26.
 use Rattle.std.specs.Prelude.{ℕ, ◌+◌, ◌-◌, Bool, ◌&&◌, ◌||◌, not, ◌≡◌, List, [], ◌∷◌, leb, ltb, eqb, length, get_or, set, if◌then◌else◌}
 use Rattle.text.specs.declared.frames.refusals.TheConstants.{BAD_HEADER, UNFIT, NO_SPINDLE, NO_PLACE}
 use Rattle.text.specs.frames.Verdict.{Verdict, fine, refused, next, when}

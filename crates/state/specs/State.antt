@@ -69,7 +69,7 @@ entry_at i h = get_or i.entries (h - 1) 0
 abbrev pub place_at : State → ℕ → ℕ
 place_at s k = get_or s.places k 0
 
--- the number that the scheme of a place was called by, and the scheme that served it
+-- of the scheme open at a place, the number of its call and the scheme that serves it there
 abbrev pub number_at : State → ℕ → ℕ
 number_at s k = get_or s.numbers k 0
 

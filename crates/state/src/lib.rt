@@ -19,8 +19,8 @@ pub mod state_results;
 pub use fresh::bad_size;
 
 // Places (the paper's word for the entries of the stack) hold labels, the bottom first, up to the depth, and 0 above it; beside each
-// stand the number that its scheme was called by and the scheme that served it. Number h's result bit and the scheme that serves h stand
-// at h - 1.
+// stand the number of the call that filled it and the scheme open there. Number h's result bit and the scheme that serves h stand at
+// h - 1.
 #[derive(Clone, Copy)]
 pub struct State {
     pub size: u8,

@@ -28,7 +28,7 @@ CallClears =
     is_call x ≡ true → (w m code : ℕ) (t : State) → tick i s w ≡ finished m code t
     → result_of (if is_at_full_call i s then i.handler else x.called) t.bits ≡ false
 
--- a drop emits the caller's mask with code 60 hexadecimal and leaves the handler's entry alone in the places, by its own number; the
+-- a drop has the mask of the caller and code 60 hexadecimal, and leaves the handler's entry alone in the places, by its own number; the
 -- handler's bit is then 0, and every other bit, that of the number called too, is as the caller's result left it; who serves stays
 pub record Drop (i : Image) (x : Label) (s : State) (m code : ℕ) (t : State) : Type 0 where
   pub mask : m ≡ x.mask

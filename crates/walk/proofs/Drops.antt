@@ -1,5 +1,5 @@
--- A code 60 hexadecimal is made exactly at a call that finds as many schemes open as places, where there is a handler and it is not the
--- first of them.
+-- A code 60 hexadecimal is made exactly at a call for which no place is free, where there is a handler and it is not the first scheme
+-- open.
 use Prim.Native.Nat.{ℕ, ◌+◌, ◌<◌}
 use mathlib.Core.Bool.{Bool, true, false, ◌&&◌}
 use mathlib.Core.Path.{◌≡◌, refl}

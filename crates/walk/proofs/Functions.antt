@@ -1,4 +1,4 @@
--- A function takes its 0 arc if nothing writes 1 to the bit of the number that it calls meanwhile: from its call on the bit is 0, and the
+-- While no 1 is written to the bit of the number that it calls, a function leaves by its 0 arc: from its call on the bit is 0, and the
 -- function waits among the callers, until its own return. The bindings told do not matter.
 use Rattle.std.proofs.Common.{if◌then◌else◌}
 use Prim.Native.Nat.{ℕ, suc, ◌+◌, ◌≤◌, ◌<◌}

@@ -1,5 +1,5 @@
--- A function takes its 0 arc if nothing writes 1 to the bit of the number that it calls between its call and its return, said of the walk's
--- ticks alone.
+-- A function leaves by its 0 arc where, from its call to its return, no 1 is written to the bit of the number that it calls: said of the
+-- walk's ticks alone.
 use Rattle.std.specs.Prelude.{ℕ, suc, ◌+◌, Bool, true, false, ◌&&◌, ◌≡◌, List, ◌∷◌, ◌++◌, map, eqb, length, get_or}
 use Rattle.words.specs.lists.Sequences.{some}
 use Rattle.text.specs.declared.frames.codes.TheConstants.{RETURN_CODE}

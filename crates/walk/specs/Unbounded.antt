@@ -37,7 +37,7 @@ call_course go c x a ws b =
     course_after (one_tick x a.mask a.code)
     (resumed_course go c x a (go (open_at c (suc x.opened) (start c a.called)) ws (cleared_results a.called b)))
 
--- what the stop where x stands does by its word w, and what follows it; the stop's own result is written before its call
+-- what the stop where x stands does by its word w, and what follows it; its result is written before the call
 abbrev pub stop_course : Performer → Chart → OpenScheme → ℕ → List ℕ → Results → Stop → Course
 stop_course go c x w ws b (plain m r u) =
     course_after (one_tick x m PLAIN_CODE) (go (open_at c x.opened (by_arc c w u)) ws (with_result r x.number b))

@@ -43,7 +43,7 @@ call_course go c x a ws b false =
     (resumed_course go c x a (go (open_at c (suc x.opened) (start c a.called)) ws (cleared_results a.called b)))
 call_course go c x a ws b true = dropped (one_tick x a.mask DROP_CODE) ws (cleared_results (handler c) b)
 
--- what the stop where x stands does by its word w, and what follows it; the stop's own result is written before its call; d tells of a
+-- what the stop where x stands does by its word w, and what follows it; its result is written before the call; d tells of a
 -- number of open schemes whether a call drops them
 abbrev pub stop_course : Performer → Chart → (ℕ → Bool) → OpenScheme → ℕ → List ℕ → Results → Stop → Course
 stop_course go c d x w ws b (plain m r u) =

@@ -9,7 +9,7 @@ pub use sizes::*;
 
 /// The machine's state, with the fields of the C struct. Places hold labels, the bottom first; number h's result bit is
 /// `results[h - 1]`, and the scheme that serves it `serving[h - 1]` (that of number 1, which nothing calls, is kept and not tried). For
-/// each place in use there is the number that its scheme was called by, and the scheme that served it. All three are 0 above the depth.
+/// each place in use there is the number of the call that filled it, and the scheme open there. All three are 0 above the depth.
 #[derive(Clone, Copy, Debug, PartialEq, Eq)]
 pub struct State {
     pub size: u8,
@@ -53,8 +53,8 @@ pub struct PricedReport {
     pub price: u64,
 }
 
-/// What made a tick go where it went: the row taken, by its number among the image's rows, from 0; a mask of conditions that decide
-/// on it; and the result bit of the number called where the label is a function call's, else 2. With a refusal all three are 0.
+/// What made a tick go where it went: the row taken, told by its number among the image's rows (0 is the first); a mask of conditions that
+/// decide on it; and the result bit of the number called where the label is a function call's, else 2. With a refusal all three are 0.
 #[derive(Clone, Copy, Debug, PartialEq, Eq)]
 pub struct CauseReport {
     pub answer: Answer,
@@ -63,7 +63,7 @@ pub struct CauseReport {
     pub bit: u8,
 }
 
-/// How often the stack fills: of all lists of words that are tried, how many run to their end, how many get 17, and how many get 18.
+/// How often the stack fills: of all lists of words that are tried, those that run to their end, those that get 17, and those that get 18.
 /// With a refusal all three are 0.
 #[derive(Clone, Copy, Debug, PartialEq, Eq)]
 pub struct FillingsReport {
@@ -98,7 +98,7 @@ pub trait Library {
     /// Chart lines to the image's lines. Tries 1 to 10, with 19 after 5, and 16; counts characters.
     fn translate(&self, text: &[u8], out: &mut [u8]) -> Answer;
 
-    /// How many places a chart's calls need at most, 1 to 16: the longest chain of calls from scheme 1, which counts. With so
+    /// How many places a chart's calls need at most, 1 to 16: as many as schemes in the longest chain of calls that begins at scheme 1, which counts. With so
     /// many or more, from a fresh state, no call gets 17 or drops, as long as every number is served by its own scheme. Tries 1 to
     /// 10, with 19 after 5, and 20; counts places.
     fn places(&self, text: &[u8]) -> Answer;
@@ -109,8 +109,8 @@ pub trait Library {
     /// A fresh state for a stack of so many places. Tries 14, and then every number of the state is 0.
     fn fresh(&self, size: usize) -> (Answer, State);
 
-    /// One tick for each word, a mask and a code for each tick, and the state after them. Tries what the image check
-    /// tries, then 15 to 18; counts ticks.
+    /// One tick a word, with its mask and its code, and the state after them. Refuses all that the image check refuses,
+    /// then 15 to 18; counts ticks.
     fn run(
         &self,
         image: &[u8],
@@ -170,13 +170,13 @@ pub trait Library {
     fn minimise(&self, image: &[u8], out: &mut [u8]) -> Answer;
 
     /// A little chart's lines, by how many frames it has and its number, from 0, among those of as many, in the order of their texts.
-    /// These are all accepted charts of 2 to 4 frames with one scheme that have, besides Begin and End, only operations of mask 0 or 1
+    /// These are all accepted charts that have one scheme in 2 to 4 frames and, besides Begin and End, only operations of mask 0 or 1
     /// and no result, and conditions of number 0. Tries 24 and 16; counts characters.
     fn little_chart(&self, frames: usize, number: usize, text: &mut [u8]) -> Answer;
 
-    /// How often the stack fills: of all lists of so many words, in which only conditions from 0 up, so many, are ever 1, how many run to
-    /// their end, how many get 17 and how many get 18, each from a fresh state of so many places. No words is one empty list, and no
-    /// conditions is one list of zeros; the three sum to 2 to the power of ticks times conditions. Tries what the image check tries,
+    /// How often the stack fills: of all lists of so many words, in which only conditions from 0 up, so many, are ever 1, those that run to
+    /// their end, those that get 17 and those that get 18, each from a fresh state of so many places. No words is one empty list, and no
+    /// conditions is one list of zeros; together the three are 2 to the power of ticks times conditions. Tries what the image check tries,
     /// then 14 and 28: ticks times conditions above 16, or more than 16 conditions, or more than 65,536 ticks; counts 0.
     fn count_fillings(&self, image: &[u8], size: usize, ticks: usize, conditions: usize) -> FillingsReport;
 

@@ -5,7 +5,7 @@ use std::collections::BTreeMap;
 use crate::chart::Node;
 use crate::marking::{called, schemes};
 
-/// How deep a chart calls. A call counts wherever a node holds it.
+/// How deep a chart calls, by all its nodes that call.
 #[derive(Clone, Debug, PartialEq, Eq)]
 pub enum Calls {
     /// The schemes of a longest chain, scheme 1 first.

@@ -14,7 +14,7 @@ pub fn digits(byte: u8) -> [u8; 2] {
     [DIGITS[usize::from(byte >> 4)], DIGITS[usize::from(byte & 15)]]
 }
 
-/// The byte that makes the sum of all eleven 0 modulo 256.
+/// The last byte of a line: with it all eleven add up to a multiple of 256.
 fn sum_byte(frame: &Frame) -> u8 {
     frame.iter().fold(0u8, |sum, b| sum.wrapping_add(*b)).wrapping_neg()
 }

@@ -68,7 +68,7 @@ pub fn lowest_members(image: &Image) -> Vec<usize> {
     (0..count).map(|b| (0..=b).find(|a| !apart[*a][b]).expect("no label is apart from itself")).collect()
 }
 
-/// The image with one label a group: the lowest member's, with its rows.
+/// The image in which each group is one label: its lowest member, with that one's rows.
 pub fn joined(image: &Image) -> Image {
     let lowest = lowest_members(image);
     let kept: Vec<usize> = (0..lowest.len()).filter(|label| lowest[*label] == *label).collect();

@@ -2,7 +2,7 @@
 
 use crate::image::Image;
 
-/// For each label, from 0 on, the number of its first row and how many it has; 0 and 0 where it has none.
+/// For each label, from 0 on, the number of its first row and the count of its rows; two zeros where it has none.
 pub fn row_list(image: &Image) -> (Vec<u16>, Vec<u16>) {
     let own = |label: usize| (0..image.rows.len()).filter(move |k| usize::from(image.rows[*k].from) == label);
     let labels = 0..image.labels.len();

@@ -35,7 +35,7 @@ fn ran(image: &[u8], state: &State, words: &[u16]) -> (Answer, Vec<u8>, Vec<u32>
     (answer, codes, masks, after)
 }
 
-/// The caller's result is written, the handler's bit is cleared, that of the scheme called stays, and nothing is left above.
+/// A drop writes what the caller writes, clears the handler's bit, leaves that of the scheme called, and nothing is left above.
 #[test]
 fn a_drop_leaves_the_handler_alone() {
     let image = image(2, 0);

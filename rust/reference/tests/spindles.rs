@@ -278,7 +278,7 @@ fn the_depths_sum_to_what_is_counted() {
     assert!([0, 15, 17, 18, 26].iter().all(|number| answers[*number] > 100), "{answers:?}");
 }
 
-/// Each spindle's finished ticks are those of its own walk over the words of those ticks: the walks judge the reference.
+/// What each spindle's finished ticks emit is what a walk of its own emits over their words: the walks judge the reference.
 #[test]
 fn finished_ticks_are_those_of_the_spindles_own_walks() {
     let summary = compare_spins(&Reference, 7, 3_000).unwrap_or_else(|difference| panic!("{difference}"));

@@ -9,7 +9,7 @@ use charts::field;
 use charts::layout::*;
 use text::frames::sizes::RECORD;
 
-// An arc of node v to u leads to no node, to another scheme or to a Begin.
+// An arc of node v to u leads nowhere, into another scheme or to a Begin.
 fn bad_target(records: &[u8], v: usize, u: usize) -> bool
     requires { RECORD * v + RECORD ≤ length records.now }
     ensures { result ≡ is_bad_target records.now v u }

@@ -1,4 +1,4 @@
-// The handler, the scheme that is performed when the stack is full, and refusal 19: a mark on scheme 1 or a second mark.
+// The handler, the scheme that is performed when the stack is full, and refusal 19: scheme 1 is marked, or a scheme beside one marked before.
 ghost use Rattle.std.specs.Prelude.{◌≡◌, ◌+◌, ◌*◌, ◌≤◌, length};
 ghost use Rattle.charts.specs.Chart.{is_handler_mark, handler};
 ghost use Rattle.charts.specs.Check.{has_bad_marks};

@@ -1,5 +1,5 @@
--- The image with one label a group and the handler as it is: groups are numbered in order of their lowest members, each has that member's
--- rows, in their order.
+-- The image with one label a group and the handler as it is: the group with the lower lowest member has the lower number, and each has
+-- its lowest member's rows, in their order.
 use Rattle.std.specs.Prelude.{ℕ, List, map, length}
 use Rattle.words.specs.lists.Numbers.{range, count}
 use Rattle.words.specs.lists.Sequences.{filter}

@@ -1,4 +1,4 @@
--- Which schemes call which; the longest chain of calls from scheme 1, and refusal 20.
+-- Which schemes call which; the longest chain of their calls that begins at scheme 1, and refusal 20.
 use Rattle.std.specs.Prelude.{ℕ, zero, suc, Bool, ◌&&◌, ◌||◌, not, List, [], ◌∷◌, map, eqb}
 use Rattle.words.specs.lists.Numbers.{range, lowest, any}
 use Rattle.words.specs.lists.Sequences.{filter}

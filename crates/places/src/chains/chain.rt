@@ -34,7 +34,7 @@ fn longest(masks: &[u32]) -> u8
     0
 }
 
-// How many schemes the longest chain of calls from scheme 1 has, scheme 1 counted; 0 where a circle of calls can be reached.
+// How many schemes stand in the longest chain of calls that begins at scheme 1, which counts; 0 where a circle of calls can be reached.
 pub fn longest_chain(records: &[u8]) -> u8
     requires { Ready records.now }
     ensures { result ≡ longest_chain records.now }

@@ -1,4 +1,4 @@
-//! Refusal 23: a label of which some word and bit match no row, or two.
+//! Refusal 23: a label that has no row, or two, for some word and bit.
 
 use super::image::{Frame, Header};
 use crate::problem::Problem;
