@@ -5,7 +5,7 @@
  *   *count   records, characters, labels, bytes of a table or ticks written, or places needed; with refusals 1 to 16 and 19 to 28
  *            it is 0, with 17 and 18 the ticks finished before
  * With refusals 1 to 16 and 19 to 28 no buffer and no state is changed; only 14 writes a state, of zeros. With success, and with
- * 17 and 18, nothing past the count is changed.
+ * 17 and 18, nothing past the count is changed in a buffer.
  * A buffer is a pointer and how many elements it has; the pointer may be NULL where there are none. `index` and `count` may be NULL for
  * a caller who needs neither, and no other pointer. Nothing that a call writes may overlap anything else that the call is given. Nothing is
  * allocated and nothing is kept between calls: calls may be made at once from several threads, tasks or interrupts, as long as what one of
@@ -321,7 +321,8 @@ uint8_t fairleadow_live_spin(fairleadow_state *states, size_t states_len, size_t
                              size_t table_len, uint16_t word, uint32_t *mask, uint8_t *code, size_t *index, size_t *count);
 
 /* What a tick's code stands for. Returns the tick kind as an image has it (FAIRLEADOW_PLAIN to
- * FAIRLEADOW_HOME), 5 for a drop, or 255 for a code that no tick has, and writes the number called, 2 to 16, or 0 where none is. Refuses
+ * FAIRLEADOW_HOME), 5 for a drop, or 255 for a code that no tick of an accepted image has
+ * (a damaged table's ticks may have such), and writes the number called, 2 to 16, or 0 where none is. Refuses
  * nothing. */
 uint8_t fairleadow_meaning(uint8_t code, uint8_t *called);
 

@@ -38,7 +38,7 @@ pub fn code_of(kind: u8, called: u8) -> u8
     }
 }
 
-// Only schemes 2 to 16 can be called.
+// Only numbers 2 to 16 can be called.
 pub fn meaning_of(code: u8) -> Meaning
     ensures { result ≡ meaning_of code }
 {
