@@ -1,5 +1,4 @@
--- The places taken after every list of calls: the four of the fresh states and those of the finished calls, less those that returns and
--- drops gave back.
+-- The places taken after every list of calls: four, and those of the finished calls, less those that returns and drops gave back.
 use Rattle.std.specs.Prelude.{ℕ, ◌+◌, ◌-◌, ◌≤◌, ◌&&◌, not, ◌≡◌, List, [], ◌∷◌, leb, ltb, eqb, if◌then◌else◌}
 use Rattle.text.specs.declared.frames.codes.TheConstants.{RETURN_CODE, OPERATION_CALL_CODE, DROP_CODE}
 use Rattle.spindles.specs.declared.layout.TheConstants.{STORE}
