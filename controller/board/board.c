@@ -16,6 +16,7 @@ enum {
     CHECK_IMAGE,
     FRESH,
     RUN,
+    DRY_RUN,
     PRICED_RUN,
     TICK,
     CAUSE,
@@ -77,6 +78,13 @@ static uint8_t tell_cause(const uint8_t *image, uint16_t word, uint32_t *masks, 
 static uint8_t list_rows(const uint8_t *image, uint8_t *output, size_t *index, size_t *count) {
     uint16_t *firsts = (uint16_t *)output;
     return fairleadow_list_rows(image, head.input, firsts, head.value, firsts + head.value, head.output / 2 - head.value, index, count);
+}
+
+/* A dry run of the size that the value says: the output is the image. A function of its own, so that other calls do not have its frame. */
+__attribute__((noinline)) static uint8_t dry_run(const uint8_t *text, uint8_t *image, const uint16_t *words, uint32_t *masks,
+                                                 uint8_t *codes, size_t *index, size_t *count) {
+    return fairleadow_dry_run(text, head.input, head.value, image, head.output, words, head.words, masks, head.masks, codes, head.codes,
+                              index, count);
 }
 
 /* One word more than a priced run takes, all 0: there is no room for so many in memory. */
@@ -146,6 +154,9 @@ __attribute__((noinline)) static void make_call(void) {
     case RUN:
         number = fairleadow_run(input, head.input, &head.state, words, head.words, masks, head.masks, codes, head.codes,
                                 &index, &count);
+        break;
+    case DRY_RUN:
+        number = dry_run(input, output, words, masks, codes, &index, &count);
         break;
     case PRICED_RUN:
         number = priced_run(input, words, masks, codes, &index, &count);
