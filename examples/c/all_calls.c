@@ -1,9 +1,9 @@
 /* Makes every call of the header on the chart on standard input: reads it and writes it back, counts its places, translates it,
  * checks the image, runs eight words from a fresh state of three places, makes the same ticks one by one, both on the image and on
  * the table prepared from it, and once more from the chart's text, runs them with prices, rebinds each number up to 3 to its own
- * scheme, makes the ticks on each of four spindles, and tells what each code stands for, which signals made each tick go on and which rows each label has, and joins the labels
- * that act alike, and counts how often stacks of one to three places fill. Then it fetches every little chart. Prints what came of
- * each. */
+ * scheme, makes the ticks on each of four spindles, and tells what each code stands for, which signals made each tick go on and which
+ * rows each label has, and joins the labels that act alike, and counts how often stacks of one to three places fill. Then it fetches
+ * every little chart. Prints what came of each. */
 #include <stdio.h>
 #include <string.h>
 
