@@ -17,11 +17,11 @@
  * dynamic linker takes to find them at their first call is not counted (docs/MEASUREMENTS.md has the deepest that was seen beside it):
  *    read_chart      3,456   tick           13,488   prepare        13,320
  *    write_chart       912   rebind         13,336   live_run          480
- *    translate       6,880   spin           13,856   live_tick         416
+ *    translate       6,912   spin           13,856   live_tick         416
  *    places          6,784   cause          13,304   live_rebind       288
  *    check_image    13,288   list_rows      13,352   live_spin         704
  *    fresh             136   minimise       14,920   meaning           136
- *    run            13,504   little_chart    1,568   dry_run             0
+ *    run            13,504   little_chart    1,568   dry_run        20,160
  *    priced_run     13,648   count_fillings 18,240
  */
 #ifndef FAIRLEADOW_H
