@@ -38,6 +38,7 @@ static int read_nothing(void) {
     if (fairleadow_read_chart(NULL, 0, NULL, 0, NULL, NULL) != FAIRLEADOW_BAD_LENGTH ||
         fairleadow_write_chart(NULL, 0, NULL, 0, NULL, NULL) != FAIRLEADOW_BAD_LENGTH ||
         fairleadow_translate(NULL, 0, NULL, 0, NULL, NULL) != FAIRLEADOW_BAD_LENGTH ||
+        fairleadow_dry_run(NULL, 0, 1, NULL, 0, NULL, 0, NULL, 0, NULL, 0, NULL, NULL) != FAIRLEADOW_BAD_LENGTH ||
         fairleadow_places(NULL, 0, NULL, NULL) != FAIRLEADOW_BAD_LENGTH ||
         fairleadow_check_image(NULL, 0, NULL, NULL) != FAIRLEADOW_BAD_LENGTH ||
         fairleadow_prepare(NULL, 0, NULL, 0, NULL, NULL) != FAIRLEADOW_BAD_LENGTH ||
@@ -71,12 +72,14 @@ static int write_nothing(void) {
     if (fairleadow_read_chart(text, chart_length, NULL, 0, NULL, NULL) != FAIRLEADOW_NO_ROOM ||
         fairleadow_write_chart(records, sizeof records, NULL, 0, NULL, NULL) != FAIRLEADOW_NO_ROOM ||
         fairleadow_translate(text, chart_length, NULL, 0, NULL, NULL) != FAIRLEADOW_NO_ROOM ||
+        fairleadow_dry_run(text, chart_length, 1, NULL, 0, NULL, 0, NULL, 0, NULL, 0, NULL, NULL) != FAIRLEADOW_NO_ROOM ||
         fairleadow_prepare(image, image_length, NULL, 0, NULL, NULL) != FAIRLEADOW_NO_ROOM ||
         fairleadow_minimise(image, image_length, NULL, 0, NULL, NULL) != FAIRLEADOW_NO_ROOM ||
         fairleadow_list_rows(image, image_length, NULL, 0, NULL, 0, NULL, NULL) != FAIRLEADOW_NO_ROOM ||
         fairleadow_little_chart(2, 0, NULL, 0, NULL, NULL) != FAIRLEADOW_NO_ROOM)
         return 9;
     if (fairleadow_run(image, image_length, states, NULL, 0, NULL, 0, NULL, 0, NULL, NULL) != FAIRLEADOW_DONE ||
+        fairleadow_dry_run(text, chart_length, 1, image, sizeof image, NULL, 0, NULL, 0, NULL, 0, NULL, NULL) != FAIRLEADOW_DONE ||
         fairleadow_priced_run(image, image_length, states, prices, NULL, 0, NULL, 0, NULL, 0, &price, NULL, NULL) != FAIRLEADOW_DONE ||
         fairleadow_live_run(table, table_length, states, NULL, 0, NULL, 0, NULL, 0, NULL, NULL) != FAIRLEADOW_DONE)
         return 10;

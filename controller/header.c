@@ -6,6 +6,8 @@ typedef uint8_t (*checks)(const uint8_t *, size_t, size_t *, size_t *);
 typedef uint8_t (*makes)(size_t, fairleadow_state *, size_t *, size_t *);
 typedef uint8_t (*runs)(const uint8_t *, size_t, fairleadow_state *, const uint16_t *, size_t, uint32_t *, size_t, uint8_t *, size_t,
                         size_t *, size_t *);
+typedef uint8_t (*dry_runs)(const uint8_t *, size_t, size_t, uint8_t *, size_t, const uint16_t *, size_t, uint32_t *, size_t, uint8_t *,
+                            size_t, size_t *, size_t *);
 typedef uint8_t (*prices)(const uint8_t *, size_t, fairleadow_state *, const uint16_t *, const uint16_t *, size_t, uint32_t *, size_t,
                           uint8_t *, size_t, uint64_t *, size_t *, size_t *);
 typedef uint8_t (*ticks)(const uint8_t *, size_t, fairleadow_state *, uint16_t, uint32_t *, uint8_t *, size_t *, size_t *);
@@ -24,6 +26,7 @@ struct every_function {
     checks places, check_image;
     makes fresh;
     runs run, live_run;
+    dry_runs dry_run;
     prices priced_run;
     ticks tick, live_tick;
     rebinds rebind, live_rebind;
@@ -41,9 +44,9 @@ struct every_function every_function(void) {
     struct every_function all = {
         fairleadow_read_chart, fairleadow_write_chart, fairleadow_translate, fairleadow_prepare,   fairleadow_minimise,
         fairleadow_places,     fairleadow_check_image, fairleadow_fresh,     fairleadow_run,       fairleadow_live_run,
-        fairleadow_priced_run, fairleadow_tick,        fairleadow_live_tick, fairleadow_rebind,    fairleadow_live_rebind,
-        fairleadow_spin,       fairleadow_live_spin,   fairleadow_cause,     fairleadow_list_rows, fairleadow_little_chart,
-        fairleadow_count_fillings, fairleadow_meaning,
+        fairleadow_dry_run,    fairleadow_priced_run,  fairleadow_tick,      fairleadow_live_tick, fairleadow_rebind,
+        fairleadow_live_rebind, fairleadow_spin,       fairleadow_live_spin, fairleadow_cause,     fairleadow_list_rows,
+        fairleadow_little_chart, fairleadow_count_fillings, fairleadow_meaning,
     };
     return all;
 }

@@ -4,8 +4,8 @@
  *   *index   the frame (a line or a record) that the refusal names, from 0; only 2, 3, 4, 6 to 9, 12 and 13 name one, else it is 0
  *   *count   records, characters, labels, bytes of a table or ticks written, or places needed; with refusals 1 to 16 and 19 to 28
  *            it is 0, with 17 and 18 the ticks finished before
- * With refusals 1 to 16 and 19 to 28 no buffer and no state is changed; only 14 writes a state, of zeros. With success, and with
- * 17 and 18, nothing past the count is changed in a buffer.
+ * With refusals 1 to 16 and 19 to 28 no buffer and no state is changed; only 14 writes a state, of zeros, and fairleadow_dry_run leaves
+ * an image that it has written before. With success, and with 17 and 18, nothing past the count is changed in a buffer.
  * A buffer is a pointer and how many elements it has; the pointer may be NULL where there are none. `index` and `count` may be NULL for
  * a caller who needs neither, and no other pointer. Nothing that a call writes may overlap anything else that the call is given. Nothing is
  * allocated and nothing is kept between calls: calls may be made at once from several threads, tasks or interrupts, as long as what one of
@@ -17,11 +17,11 @@
  * dynamic linker takes to find them at their first call is not counted (docs/MEASUREMENTS.md has the deepest that was seen beside it):
  *    read_chart      3,456   tick           13,488   prepare        13,320
  *    write_chart       912   rebind         13,336   live_run          480
- *    translate       6,880   spin           13,856   live_tick         416
+ *    translate       6,912   spin           13,856   live_tick         416
  *    places          6,784   cause          13,304   live_rebind       288
  *    check_image    13,288   list_rows      13,352   live_spin         704
  *    fresh             136   minimise       14,920   meaning           136
- *    run            13,504   little_chart    1,568
+ *    run            13,504   little_chart    1,568   dry_run        20,160
  *    priced_run     13,648   count_fillings 18,240
  */
 #ifndef FAIRLEADOW_H
@@ -222,6 +222,15 @@ uint8_t fairleadow_fresh(size_t size, fairleadow_state *state, size_t *index, si
  * Refuses all that the image check refuses, then 15 to 18; counts ticks. With 17 and 18 the state is that after the ticks counted. */
 uint8_t fairleadow_run(const uint8_t *image, size_t image_len, fairleadow_state *state, const uint16_t *words, size_t words_len,
                        uint32_t *masks, size_t masks_len, uint8_t *codes, size_t codes_len, size_t *index, size_t *count);
+
+/* A chart run from its text, in one call: translated to `image`, and run from a fresh state of `size` places, with a mask and a code for
+ * each tick as in fairleadow_run. They are what the chart's walk over the words gives. The size is as wide as a length, so that none is
+ * cut off before it is tried. It is a call for the office: the state is not handed out, and of the image's length nothing is told.
+ * Tries what fairleadow_translate tries, then 14, 16 for masks and codes, and 17; counts ticks. Once the chart is translated `image` holds
+ * its lines, also with 14, 16 and 17. */
+uint8_t fairleadow_dry_run(const uint8_t *text, size_t text_len, size_t size, uint8_t *image, size_t image_len, const uint16_t *words,
+                           size_t words_len, uint32_t *masks, size_t masks_len, uint8_t *codes, size_t codes_len, size_t *index,
+                           size_t *count);
 
 /* A run that tells what it costs. Price i is that of micro operation i for each tick that it is on, in hundredths of a cent, 0 to 65,535;
  * *price is in cents: what the ticks counted cost in all, rounded once, a half upward. It is written in every case: with 17 and 18 it

@@ -1,7 +1,7 @@
 /* How the functions of fairleadow.h reach the archive; to be included by that file alone. Whatever the processor, the archive takes
- * lengths, numbers to rebind, numbers of little charts, spindles' numbers and the size, ticks and conditions of a count, and writes index,
- * count and the places taken as 64 bits, and of what it returns only the low eight bits have a meaning. The functions below have the types
- * of fairleadow.h, and from there on its names stand for them. */
+ * lengths, numbers to rebind, numbers of little charts, spindles' numbers, sizes of stacks and the ticks and conditions of a count, and
+ * writes index, count and the places taken as 64 bits, and of what it returns only the low eight bits have a meaning. The functions
+ * below have the types of fairleadow.h, and from there on its names stand for them. */
 #ifndef FAIRLEADOW_CALLS_H
 #define FAIRLEADOW_CALLS_H
 
@@ -17,6 +17,9 @@ uint32_t fairleadow_check_image(const uint8_t *image, uint64_t image_len, uint64
 uint32_t fairleadow_fresh(uint64_t size, fairleadow_state *state, uint64_t *index, uint64_t *count);
 uint32_t fairleadow_run(const uint8_t *image, uint64_t image_len, fairleadow_state *state, const uint16_t *words, uint64_t words_len,
                         uint32_t *masks, uint64_t masks_len, uint8_t *codes, uint64_t codes_len, uint64_t *index, uint64_t *count);
+uint32_t fairleadow_dry_run(const uint8_t *text, uint64_t text_len, uint64_t size, uint8_t *image, uint64_t image_len,
+                            const uint16_t *words, uint64_t words_len, uint32_t *masks, uint64_t masks_len, uint8_t *codes,
+                            uint64_t codes_len, uint64_t *index, uint64_t *count);
 uint32_t fairleadow_priced_run(const uint8_t *image, uint64_t image_len, fairleadow_state *state, const uint16_t *prices,
                                const uint16_t *words, uint64_t words_len, uint32_t *masks, uint64_t masks_len, uint8_t *codes,
                                uint64_t codes_len, uint64_t *price, uint64_t *index, uint64_t *count);
@@ -108,6 +111,15 @@ static inline uint8_t fairleadow_c_run(const uint8_t *image, size_t image_len, f
     fairleadow_told told;
     uint32_t number = fairleadow_run(image, image_len, state, words, words_len, masks, masks_len, codes, codes_len,
                                      &told.index, &told.count);
+    return fairleadow_tell(number, &told, index, count);
+}
+
+static inline uint8_t fairleadow_c_dry_run(const uint8_t *text, size_t text_len, size_t size, uint8_t *image, size_t image_len,
+                                           const uint16_t *words, size_t words_len, uint32_t *masks, size_t masks_len,
+                                           uint8_t *codes, size_t codes_len, size_t *index, size_t *count) {
+    fairleadow_told told;
+    uint32_t number = fairleadow_dry_run(text, text_len, size, image, image_len, words, words_len, masks, masks_len, codes, codes_len,
+                                         &told.index, &told.count);
     return fairleadow_tell(number, &told, index, count);
 }
 
@@ -242,6 +254,7 @@ static inline uint8_t fairleadow_c_meaning(uint8_t code, uint8_t *called) {
 #define fairleadow_check_image fairleadow_c_check_image
 #define fairleadow_fresh fairleadow_c_fresh
 #define fairleadow_run fairleadow_c_run
+#define fairleadow_dry_run fairleadow_c_dry_run
 #define fairleadow_priced_run fairleadow_c_priced_run
 #define fairleadow_tick fairleadow_c_tick
 #define fairleadow_rebind fairleadow_c_rebind

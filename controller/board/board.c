@@ -16,6 +16,7 @@ enum {
     CHECK_IMAGE,
     FRESH,
     RUN,
+    DRY_RUN,
     PRICED_RUN,
     TICK,
     CAUSE,
@@ -77,6 +78,20 @@ static uint8_t tell_cause(const uint8_t *image, uint16_t word, uint32_t *masks, 
 static uint8_t list_rows(const uint8_t *image, uint8_t *output, size_t *index, size_t *count) {
     uint16_t *firsts = (uint16_t *)output;
     return fairleadow_list_rows(image, head.input, firsts, head.value, firsts + head.value, head.output / 2 - head.value, index, count);
+}
+
+/* A dry run of the size that the value says: the output is the image. A function of its own, which finds its buffers and tells its answer
+ * itself, so that other calls do not have its frame. */
+__attribute__((noinline)) static void dry_run(void) {
+    uint32_t *masks = bss_end;
+    uint16_t *words = (uint16_t *)(masks + head.masks);
+    uint8_t *codes = (uint8_t *)(words + head.words);
+    uint8_t *image = codes + head.codes;
+    size_t index = 0, count = 0;
+    head.number = fairleadow_dry_run(image + head.output, head.input, head.value, image, head.output, words, head.words, masks, head.masks,
+                                     codes, head.codes, &index, &count);
+    head.index = index;
+    head.count = count;
 }
 
 /* One word more than a priced run takes, all 0: there is no room for so many in memory. */
@@ -147,6 +162,9 @@ __attribute__((noinline)) static void make_call(void) {
         number = fairleadow_run(input, head.input, &head.state, words, head.words, masks, head.masks, codes, head.codes,
                                 &index, &count);
         break;
+    case DRY_RUN:
+        dry_run();
+        return;
     case PRICED_RUN:
         number = priced_run(input, words, masks, codes, &index, &count);
         break;

@@ -142,7 +142,7 @@ def bounds(processor, paths):
 def call_bounds(name, paths):
     """The bound of each call, with the frame of the board's caller where its text is there."""
     found, frames, calls = bounds(PROCESSORS[name], paths)
-    callers = ["make_call", "priced_run"] if "make_call" in frames else []
+    callers = ["make_call", "dry_run", "priced_run"] if "make_call" in frames else []
     below = {} if callers else dict.fromkeys(found, 0)
     for caller in callers:
         before = frames["make_call"] + (frames[caller] if caller != "make_call" else 0)

@@ -24,7 +24,7 @@ REFUSED = {
     "__attribute__((noinline)) int even(int n) { volatile char held[9]; held[0] = 1; return n ? odd(n - 1) + held[0] : 1; }\n"
     "int fairleadow_a(int n) { return odd(n) + 1; }": "a circle of calls",
     "int other(int);\nint fairleadow_a(int n) { return other(n) + 1; }": "whose frame is not known",
-    "int make_call(int n) { return n; }\nint priced_run(int n) { return n; }\n"
+    "int make_call(int n) { return n; }\nint dry_run(int n) { return n; }\nint priced_run(int n) { return n; }\n"
     "int fairleadow_a(int n) { return n + 1; }": "caller does not call fairleadow_a",
 }
 

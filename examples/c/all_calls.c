@@ -1,9 +1,9 @@
 /* Makes every call of the header on the chart on standard input: reads it and writes it back, counts its places, translates it,
  * checks the image, runs eight words from a fresh state of three places, makes the same ticks one by one, both on the image and on
- * the table prepared from it, runs them with prices, rebinds each number up to 3 to its own scheme, makes the ticks on each of four
- * spindles, and tells what each code stands for, which signals made each tick go on and which rows each label has, and joins the labels
- * that act alike, and counts how often stacks of one to three places fill. Then it fetches every little chart. Prints what came of
- * each. */
+ * the table prepared from it, and once more from the chart's text, runs them with prices, rebinds each number up to 3 to its own
+ * scheme, makes the ticks on each of four spindles, and tells what each code stands for, which signals made each tick go on and which
+ * rows each label has, and joins the labels that act alike, and counts how often stacks of one to three places fill. Then it fetches
+ * every little chart. Prints what came of each. */
 #include <stdio.h>
 #include <string.h>
 
@@ -162,6 +162,21 @@ static int run_and_tick(size_t length, outcome *all) {
     return 0;
 }
 
+/* The same run from the chart's text, and the image that it makes on the way. */
+static int run_dry(size_t length, size_t characters, const outcome *on_image) {
+    static uint8_t made[FAIRLEADOW_IMAGE_TEXT];
+    outcome all;
+    size_t index, count;
+    uint8_t number = fairleadow_dry_run(chart, length, 3, made, sizeof made, words, WORDS, all.masks, WORDS, all.codes, WORDS, &index,
+                                        &count);
+    if (number)
+        return refused(number, index);
+    all.state = on_image->state; /* none is handed out */
+    printf("ticks of the dry run: %zu\nmade on the image: %s\nimage made: %s\n", count, compared(&all, on_image),
+           memcmp(made, image, characters) ? "another text" : "the same");
+    return 0;
+}
+
 /* The same run with prices, and on two places, where it is stopped (17) and costs as far as it came: micro operation 0 is 1.50 cents a
  * tick, micro operation 1 is 10 cents, the others are free. */
 static int run_with_prices(size_t length, const outcome *unpriced) {
@@ -283,8 +298,8 @@ int main(void) {
     if ((number = fairleadow_prepare(image, count, table, sizeof table, &index, &prepared)))
         return refused(number, index);
     printf("bytes of the table: %zu\n", prepared);
-    if (run_and_tick(count, &all) || live_run_and_tick(prepared, &all) || run_with_prices(count, &all) || rebind(count, prepared)
-        || spin(count, prepared))
+    if (run_and_tick(count, &all) || live_run_and_tick(prepared, &all) || run_dry(length, count, &all) || run_with_prices(count, &all)
+        || rebind(count, prepared) || spin(count, prepared))
         return 1;
     tell_codes(all.codes, WORDS);
     return tell_causes(count) || tell_rows(count) || tell_smaller(count) || tell_fillings(count) || tell_little_charts();

@@ -95,8 +95,10 @@ use Rattle.spindles.specs.contracts.spindle_list.live_spin as live-spin
 use Rattle.spindles.proofs.spindle_list.live_spin.Reads as live-spin-reads
 use Rattle.ticks.specs.contracts.codes.meaning_of as meaning-of
 use Rattle.ticks.proofs.codes.meaning_of.Reads as meaning-of-reads
-use Rattle.agreement.specs.contracts.dry_runs.dry_run as dry-run
-use Rattle.agreement.proofs.dry_runs.dry_run.Reads as dry-run-reads
+use Rattle.dry_runs.specs.contracts.dry_run as dry-run
+use Rattle.dry_runs.proofs.dry_run.Reads as dry-run-reads
+use Rattle.fairleadow.specs.contracts.dry_runs_for_c.fairleadow_dry_run as c-dry-run
+use Rattle.fairleadow.proofs.dry_runs_for_c.fairleadow_dry_run.Reads as c-dry-run-reads
 
 pub read-chart-asks-nothing : (κs : Lfts 2) (a : ArgsD read-chart.signature κs) → read-chart-reads.Asked κs a
 read-chart-asks-nothing κs a = tt
@@ -242,3 +244,6 @@ c-live-spin-asks-nothing κs a = tt
 
 pub c-count-fillings-asks-nothing : (κs : Lfts 6) (a : ArgsD c-count-fillings.signature κs) → c-count-fillings-reads.Asked κs a
 c-count-fillings-asks-nothing κs a = tt
+
+pub c-dry-run-asks-nothing : (κs : Lfts 7) (a : ArgsD c-dry-run.signature κs) → c-dry-run-reads.Asked κs a
+c-dry-run-asks-nothing κs a = tt

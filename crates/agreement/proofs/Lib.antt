@@ -20,7 +20,9 @@ pub mod Numbers
 pub mod OneCallC
 pub mod ForC
 pub mod RunsAlone
+pub mod DryRuns
 pub mod Contracts
+pub mod DryRunContracts
 pub mod Causes
 pub mod Listings
 pub mod Capitals

@@ -7,4 +7,4 @@ pub mod RunsAlone
 pub mod LiveCalls
 pub mod OneRow
 pub mod Told
-pub mod dry_runs
+pub mod DryRuns

@@ -1,7 +1,6 @@
 //! The agreement of machine and walk, as one statement over a whole list of runs and rebindings, and its proof. Each theorem of the crate
 //! is a clause of a function here that does nothing: a law that is changed or taken away no longer proves it. What ties
-//! the theorems to the functions' own contracts stays laws (proofs/Contracts, proofs/Asks). `dry_runs` runs a chart from its text, and
-//! promises what the walk gives.
+//! the theorems to the functions' own contracts stays laws (proofs/Contracts, proofs/DryRunContracts, proofs/Asks).
 #![tactic(auto)]
 
 ghost use Rattle.std.specs.Prelude.{ℕ, List};
@@ -14,12 +13,11 @@ ghost use Rattle.agreement.specs.Calls.{Delivered};
 ghost use Rattle.agreement.specs.ForC.{DeliveredC};
 ghost use Rattle.agreement.specs.Unswapped.{RunAgreement};
 ghost use Rattle.agreement.specs.RunsAlone.{DeliveredAlone, RunsDelivered, DeliveredAloneC, RunsDeliveredC};
+ghost use Rattle.agreement.specs.DryRuns.{DryRunByWalk, DryRunByWalkC};
 ghost use Rattle.agreement.specs.LiveCalls.{PreparedActs};
 ghost use Rattle.agreement.specs.OneRow.{OneRowMatches, AnyRuleTicks, CareDecides};
 ghost use Rattle.agreement.specs.Told.{CauseTold, CauseToldC, RowsListed, RowsListedC};
 ghost use Rattle.agreement.specs.Capitals.{AsInCapitals};
-
-pub mod dry_runs;
 
 /// The machine ticks as the walk ticks, over every list of runs and rebindings on the image of every chart that translates: of the
 /// definitions; of calls of the functions, live ones and ticks among them, each known by its contract alone; and of calls from C.
@@ -37,6 +35,13 @@ pub fn runs_tick_as_walk()
     ensures functions { RunsDelivered }
     ensures mixtures_from_c { DeliveredAloneC }
     ensures calls_from_c { RunsDeliveredC }
+{}
+
+/// A dry run of a chart that translates, on 1 to 32 places, hands back what the walk over its words gives: of the function, known by its
+/// contract alone, and from C.
+pub fn dry_runs_tick_as_walk()
+    ensures functions { DryRunByWalk }
+    ensures calls_from_c { DryRunByWalkC }
 {}
 
 /// On a table that `prepare` wrote, a live run is the run on the image's text, a live tick the tick and a live rebinding the rebinding,

@@ -1,6 +1,6 @@
 -- The cases of dry runs hold, computed.
 use mathlib.Core.Path.{refl}
-use Rattle.agreement.specs.dry_runs.DryRun.{dry_run}
+use Rattle.dry_runs.specs.DryRun.{dry_run}
 use Rattle.bench.specs.Bench.{chart_p, image_p, bench_words}
 use Rattle.bench.specs.DryRuns.{DryRunCases}
 use Rattle.bench.proofs.Computing.{translating, running}
@@ -12,7 +12,7 @@ dry-run-cases = record {
   b3 = refl;
   b4 = refl;
   behind = refl;
-  no_text = λ image a. refl;
+  no_text = λ image words masks codes. refl;
   small_image = refl;
   no_places = refl;
   many_places = refl;

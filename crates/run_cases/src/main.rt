@@ -3,7 +3,7 @@
 //! count. A run of eight words with room for all of them prints its masks and codes too, and so does each dry run.
 #![tactic(auto)]
 
-use agreement::dry_runs::dry_run;
+use dry_runs::dry_run;
 use edits::{patch, report};
 use state::State;
 

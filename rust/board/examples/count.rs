@@ -51,7 +51,8 @@ fn longest(lines: &[Counted], wanted: impl Fn(&Candidate) -> bool) -> Vec<&Count
 
 fn print_entry(entry: EntryPoint, lines: &[Counted], all: bool) {
     let live = matches!(entry, EntryPoint::LiveTick | EntryPoint::LiveRun | EntryPoint::LiveSpin);
-    let runs = matches!(entry, EntryPoint::Run | EntryPoint::PricedRun | EntryPoint::LiveRun);
+    let runs =
+        matches!(entry, EntryPoint::Run | EntryPoint::DryRun | EntryPoint::PricedRun | EntryPoint::LiveRun);
     let words = if runs { " of 64 words" } else { "" };
     let call = format!("{}{words}", entry.name());
     let prepared = |candidate: &Candidate| live && is_table(&candidate.input.frames);

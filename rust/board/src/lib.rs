@@ -146,6 +146,24 @@ impl<'a> Board<'a> {
         Some(told)
     }
 
+    /// The text goes to the board as the input, the size as the value, and the image comes back as its output.
+    fn run_dry(
+        &self,
+        text: &[u8],
+        size: usize,
+        image: &mut [u8],
+        words: &[u16],
+        masks: &mut [u32],
+        codes: &mut [u8],
+    ) -> Option<Answer> {
+        let mut message = Message::new(Call::DryRun, text);
+        message.value = as_wide_as_there(size);
+        (message.words, message.output) = (words.to_vec(), image.to_vec());
+        let told = self.ran_with(&mut message, masks, codes)?;
+        image.copy_from_slice(&message.output);
+        Some(told.answer())
+    }
+
     /// The prices go before the words. The board's flash has one word more than a priced run takes, all 0, so that 27 is tried there too.
     fn paid(
         &self,
@@ -308,6 +326,19 @@ impl Library for Board<'_> {
     ) -> (Answer, State) {
         self.ran(Call::Run, image, state, words, masks, codes)
             .unwrap_or_else(|| self.instead.run(image, state, words, masks, codes))
+    }
+
+    fn dry_run(
+        &self,
+        text: &[u8],
+        size: usize,
+        image: &mut [u8],
+        words: &[u16],
+        masks: &mut [u32],
+        codes: &mut [u8],
+    ) -> Answer {
+        self.run_dry(text, size, image, words, masks, codes)
+            .unwrap_or_else(|| self.instead.dry_run(text, size, image, words, masks, codes))
     }
 
     fn priced_run(

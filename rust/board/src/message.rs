@@ -13,6 +13,7 @@ pub enum Call {
     CheckImage,
     Fresh,
     Run,
+    DryRun,
     PricedRun,
     Tick,
     Cause,

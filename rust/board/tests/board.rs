@@ -16,7 +16,7 @@ use reference::{fresh_state, Reference};
 const CASES: u64 = 20_000;
 
 /// The calls, as controller/README.md names them.
-const CALLS: [(Call, &str); 22] = [
+const CALLS: [(Call, &str); 23] = [
     (Call::ReadChart, "read_chart"),
     (Call::WriteChart, "write_chart"),
     (Call::Translate, "translate"),
@@ -24,6 +24,7 @@ const CALLS: [(Call, &str); 22] = [
     (Call::CheckImage, "check_image"),
     (Call::Fresh, "fresh"),
     (Call::Run, "run"),
+    (Call::DryRun, "dry_run"),
     (Call::PricedRun, "priced_run"),
     (Call::Tick, "tick"),
     (Call::Cause, "cause"),
@@ -55,7 +56,8 @@ fn stacks(processor: &str) -> BTreeMap<String, Stack> {
     let mut lines = page.lines().skip_while(|line| !line.starts_with("| Call | Bound, "));
     let heads = cells(lines.next().expect("the page has a table of stacks"));
     let column = |name: &str| {
-        let head = if processor.ends_with("-size") { "Budget".into() } else { format!("{name}, {processor}") };
+        let head =
+            if processor.ends_with("-size") { "Budget".into() } else { format!("{name}, {processor}") };
         heads.iter().position(|each| *each == head).unwrap_or_else(|| panic!("there is no column {head}"))
     };
     let (bound, seen) = (column("Bound"), column("Seen"));

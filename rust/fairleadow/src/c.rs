@@ -145,6 +145,21 @@ extern "C" {
         index: *mut usize,
         count: *mut usize,
     ) -> u8;
+    pub fn fairleadow_dry_run(
+        text: *const u8,
+        text_len: usize,
+        size: usize,
+        image: *mut u8,
+        image_len: usize,
+        words: *const u16,
+        words_len: usize,
+        masks: *mut u32,
+        masks_len: usize,
+        codes: *mut u8,
+        codes_len: usize,
+        index: *mut usize,
+        count: *mut usize,
+    ) -> u8;
     pub fn fairleadow_priced_run(
         image: *const u8,
         image_len: usize,

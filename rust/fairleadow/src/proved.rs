@@ -43,6 +43,18 @@ use crate::c;
 /// # Ok::<(), fairleadow::Refusal>(())
 /// ```
 ///
+/// A chart can be run from its text in one call, three ticks here:
+///
+/// ```
+/// use fairleadow::{Library, Proved, IMAGE_TEXT, PLACES};
+///
+/// let chart = b"00010001000000000000FE\n02010002000000000001FA\n01010000000000000000FE\n";
+/// let (mut image, mut masks, mut codes) = ([0; IMAGE_TEXT], [0; 3], [0; 3]);
+/// let count = Proved.dry_run(chart, PLACES, &mut image, &[0, 0, 0], &mut masks, &mut codes).ok()?;
+/// assert_eq!((count, masks, codes), (3, [0, 1, 0], [0x04, 0x00, 0x04]));
+/// # Ok::<(), fairleadow::Refusal>(())
+/// ```
+///
 /// A run can be priced: here a tick of micro operation 0 costs 1.5 cents, and of three ticks the second has it on.
 ///
 /// ```
@@ -255,6 +267,34 @@ impl Library for Proved {
         codes: &mut [u8],
     ) -> (Answer, State) {
         ran(c::fairleadow_run, image, state, words, masks, codes)
+    }
+
+    fn dry_run(
+        &self,
+        text: &[u8],
+        size: usize,
+        image: &mut [u8],
+        words: &[u16],
+        masks: &mut [u32],
+        codes: &mut [u8],
+    ) -> Answer {
+        answered(|index, count| unsafe {
+            c::fairleadow_dry_run(
+                text.as_ptr(),
+                text.len(),
+                size,
+                image.as_mut_ptr(),
+                image.len(),
+                words.as_ptr(),
+                words.len(),
+                masks.as_mut_ptr(),
+                masks.len(),
+                codes.as_mut_ptr(),
+                codes.len(),
+                index,
+                count,
+            )
+        })
     }
 
     fn priced_run(

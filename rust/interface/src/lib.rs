@@ -120,6 +120,19 @@ pub trait Library {
         codes: &mut [u8],
     ) -> (Answer, State);
 
+    /// A chart run from its text: the image that `translate` makes of it, and a run on that from a fresh state of so many places. Once the
+    /// chart is translated the image is there, whatever is refused then. Tries 1 to 10, with 19 after 5, and 16 for the image, then 14,
+    /// then 16 for masks and codes, and 17; counts ticks.
+    fn dry_run(
+        &self,
+        text: &[u8],
+        size: usize,
+        image: &mut [u8],
+        words: &[u16],
+        masks: &mut [u32],
+        codes: &mut [u8],
+    ) -> Answer;
+
     /// A run, and its price: the prices of all set bits of the masks of its finished ticks, summed and divided by 100 once, halves
     /// upward. Tries what the image check tries, then 15, 27 for more than 65,536 words, and 16 to 18; counts ticks.
     fn priced_run(

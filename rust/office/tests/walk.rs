@@ -1,5 +1,7 @@
-//! Traces of random charts held against the recursive walk of the reference, which knows no label and no stack.
+//! Traces of random charts held against the recursive walk of the reference, which knows no label and no stack, and those without swaps
+//! against the library's dry run, whose contract says that it is the walk.
 
+use fairleadow::{Answer, Library, Proved, IMAGE_TEXT};
 use office::plan::Plan;
 use office::source::from_bytes;
 use office::trace::swaps::Swap;
@@ -48,6 +50,20 @@ fn compared(chart: &Chart, traced: &Trace, words: &[u16], swaps: &[Swap]) {
     }
 }
 
+/// A trace without swaps has the masks and the codes of the chart's dry run, and the refusal that ends it.
+fn dry_run_is(text: &[u8], traced: &Trace, words: &[u16]) {
+    let (mut image, mut masks, mut codes) = ([0; IMAGE_TEXT], vec![0; words.len()], vec![0; words.len()]);
+    let answer = Proved.dry_run(text, traced.places, &mut image, words, &mut masks, &mut codes);
+    let count = traced.ticks.len();
+    let expected = match &traced.stopped {
+        Some(stopped) => Answer::Refused { number: stopped.number, index: 0, count },
+        None => Answer::Done(count),
+    };
+    assert_eq!(answer, expected);
+    assert!(traced.ticks.iter().map(|tick| tick.mask).eq(masks[..count].iter().copied()));
+    assert!(traced.ticks.iter().map(|tick| tick.code).eq(codes[..count].iter().copied()));
+}
+
 /// Some swaps that are allowed, in the order of their ticks.
 fn swaps(random: &mut Random, chart: &Chart, ticks: usize) -> Vec<Swap> {
     let (schemes, handler) = (usize::from(chart.schemes()), chart.handler().unwrap_or(0));
@@ -88,7 +104,7 @@ fn arcs_join(plan: &Plan, traced: &Trace) {
 #[test]
 fn traces_are_the_walk() {
     let mut random = Random::new(14);
-    let (mut traced_charts, mut ticks, mut full, mut drops, mut swapped) = (0, 0, 0, 0, 0);
+    let (mut traced_charts, mut ticks, mut full, mut drops, mut swapped, mut dry_runs) = (0, 0, 0, 0, 0, 0);
     for _ in 0..CHARTS {
         let text = text_of(&charts::chart(&mut random));
         let chart = chart_from_text(&text).expect("an accepted chart");
@@ -107,6 +123,10 @@ fn traces_are_the_walk() {
         };
         compared(&chart, &traced, &words, &swaps);
         arcs_join(&plan, &traced);
+        if swaps.is_empty() {
+            dry_run_is(&text, &traced, &words);
+            dry_runs += 1;
+        }
         traced_charts += 1;
         let called =
             |tick: &&office::trace::Tick| matches!(tick.happening(), Happening::Call(h) if h != tick.server);
@@ -119,6 +139,7 @@ fn traces_are_the_walk() {
         "{traced_charts} charts, {ticks} ticks, {drops} drops, {swapped} swapped calls, {full} ended by 17"
     );
     assert!(swapped > CHARTS / 20, "{swapped}");
+    assert!(dry_runs > CHARTS / 10, "{dry_runs}");
     assert!(
         traced_charts > CHARTS * 9 / 10 && ticks > 40 * CHARTS && full > CHARTS / 20 && drops > CHARTS / 20
     );
@@ -133,5 +154,6 @@ fn the_largest_charts_are_the_walk() {
         let traced = trace(&plan, 32, &words, &[]).expect("an accepted chart");
         compared(&chart_from_text(&text).expect("an accepted chart"), &traced, &words, &[]);
         arcs_join(&plan, &traced);
+        dry_run_is(&text, &traced, &words);
     }
 }

@@ -2,6 +2,7 @@
 //! can be made again by its own seed; seeds that lie closer than the number of cases share cases.
 
 mod alike;
+mod dry_runs;
 mod fillings;
 mod little;
 mod live;
@@ -224,8 +225,8 @@ impl<'a> Case<'a> {
             1 => self.write_chart(),
             2 => self.translate().and_then(|()| self.places()),
             3 => self.check_image().and_then(|()| self.count_fillings()),
-            4 => self.fresh().and_then(|()| self.little_chart()),
-            5 => self.run(),
+            4 => self.fresh().and_then(|()| self.little_chart()).and_then(|()| self.dry_run()),
+            5 => self.run().and_then(|()| self.dry_run()),
             6 => self.tick(),
             7 => self.calls("runs", false),
             8 => self.prepare().and_then(|()| self.count_fillings()),

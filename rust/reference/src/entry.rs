@@ -4,6 +4,7 @@ use crate::answer::{answered, refuse_if, ticked, Answer, Refusal};
 use crate::cause::{cause_of, Found};
 use crate::chart::Chart;
 use crate::check::chart_of;
+use crate::expectation::{expected, Run, Step};
 use crate::fillings::{counts, too_many, Counts};
 use crate::frames::{frames_of, text_of, Frame, CHART_TEXT, IMAGE_TEXT, RECORDS};
 use crate::image::{self, Image};
@@ -136,6 +137,33 @@ pub fn run(
         Ok(image) => run_ticks(|s, word| machine::tick(&image, s, word), *state, words, masks, codes),
         Err(refusal) => (refusal.into(), *state),
     }
+}
+
+/// The chart of a text, with its image written, where a stack may have this size: refusals 1 to 10 and 16, then 14.
+fn chart_with_image(text: &[u8], size: usize, image: &mut [u8]) -> Result<Chart, Refusal> {
+    put(&translated(text)?, image)?;
+    refuse_if(14, fresh_state(size).is_none())?;
+    chart_from_text(text)
+}
+
+/// What `translate` tries, then 14, 16 and 17; counts ticks. They are those of the chart's walk: no image is run.
+pub fn dry_run(
+    text: &[u8],
+    size: usize,
+    image: &mut [u8],
+    words: &[u16],
+    masks: &mut [u32],
+    codes: &mut [u8],
+) -> Answer {
+    let chart = match chart_with_image(text, size, image) {
+        Ok(chart) => chart,
+        Err(refusal) => return refusal.into(),
+    };
+    let run = Run { words: words.to_vec(), masks: masks.to_vec(), codes: codes.to_vec(), prices: None };
+    let walked = expected(&chart, size, &[Step::Run(run)]).remove(0);
+    masks.copy_from_slice(&walked.masks);
+    codes.copy_from_slice(&walked.codes);
+    walked.answer
 }
 
 /// What the image check tries, then 15, 27 and 16 to 18; counts ticks. Of the masks those of finished ticks alone are priced.

@@ -2,7 +2,7 @@
 //! answers and leaves.
 
 use crate::answer::Answer;
-use crate::entry::minimised;
+use crate::entry::{minimised, translated};
 use crate::frames::{text_of, Frame};
 use crate::library::{CauseReport, FillingsReport, Library, Meaning, PricedReport, Prices, TickReport};
 use crate::state::State;
@@ -18,6 +18,7 @@ pub enum EntryPoint {
     Prepare,
     Tick,
     Run,
+    DryRun,
     PricedRun,
     Cause,
     ListRows,
@@ -86,7 +87,7 @@ pub struct Made {
 }
 
 impl EntryPoint {
-    pub const ALL: [EntryPoint; 22] = [
+    pub const ALL: [EntryPoint; 23] = [
         EntryPoint::ReadChart,
         EntryPoint::WriteChart,
         EntryPoint::Translate,
@@ -95,6 +96,7 @@ impl EntryPoint {
         EntryPoint::Prepare,
         EntryPoint::Tick,
         EntryPoint::Run,
+        EntryPoint::DryRun,
         EntryPoint::PricedRun,
         EntryPoint::Cause,
         EntryPoint::ListRows,
@@ -121,6 +123,7 @@ impl EntryPoint {
             EntryPoint::Prepare => "prepare",
             EntryPoint::Tick => "tick",
             EntryPoint::Run => "run",
+            EntryPoint::DryRun => "dry_run",
             EntryPoint::PricedRun => "priced_run",
             EntryPoint::Cause => "cause",
             EntryPoint::ListRows => "list_rows",
@@ -153,6 +156,14 @@ impl EntryPoint {
             EntryPoint::LiveTick => ticked(state, |after| library.live_tick(&bytes(), after, words[0])),
             EntryPoint::Run => {
                 ran(words.len(), |masks, codes| library.run(&text(), state, words, masks, codes))
+            }
+            EntryPoint::DryRun => {
+                // just as long as needed, as for a smaller image
+                let mut image = vec![0xAA; translated(&text()).map_or(0, |image| image.len())];
+                let made = ran(words.len(), |masks, codes| {
+                    (library.dry_run(&text(), *value, &mut image, words, masks, codes), State::NONE)
+                });
+                Made { bytes: image, ..made }
             }
             EntryPoint::PricedRun => {
                 let mut paid = None;

@@ -44,6 +44,18 @@ impl Library for Reference {
         entry::run(image, state, words, masks, codes)
     }
 
+    fn dry_run(
+        &self,
+        text: &[u8],
+        size: usize,
+        image: &mut [u8],
+        words: &[u16],
+        masks: &mut [u32],
+        codes: &mut [u8],
+    ) -> Answer {
+        entry::dry_run(text, size, image, words, masks, codes)
+    }
+
     fn priced_run(
         &self,
         image: &[u8],

@@ -13,7 +13,7 @@ use reference::translator;
 use reference::{Reference, State};
 
 /// Which refusals each call may give; 0 is success.
-const TRIED: [(&str, &[u8]); 25] = [
+const TRIED: [(&str, &[u8]); 26] = [
     ("read_chart", &[0, 1, 2, 3, 4, 5, 6, 7, 8, 9, 16, 19]),
     ("write_chart", &[0, 1, 4, 5, 6, 7, 8, 9, 16, 19]),
     ("translate", &[0, 1, 2, 3, 4, 5, 6, 7, 8, 9, 10, 16, 19]),
@@ -21,6 +21,7 @@ const TRIED: [(&str, &[u8]); 25] = [
     ("check_image", &[0, 1, 2, 3, 11, 12, 13]),
     ("fresh", &[0, 14]),
     ("run", &[0, 1, 2, 3, 11, 12, 13, 15, 16, 17, 18]),
+    ("dry_run", &[0, 1, 2, 3, 4, 5, 6, 7, 8, 9, 10, 14, 16, 17, 19]),
     ("priced_run", &[0, 1, 2, 3, 11, 12, 13, 15, 16, 17, 18, 27]),
     ("tick", &[0, 1, 2, 3, 11, 12, 13, 15, 17, 18]),
     ("runs", &[0, 16, 17, 22, 27]),
@@ -71,7 +72,7 @@ fn every_answer_is_met_and_no_other() {
 #[test]
 fn every_call_that_ticks_meets_the_handler() {
     let summary = compare(&Reference, 78, 16_000).unwrap_or_else(|difference| panic!("{difference}"));
-    for call in TICKS {
+    for call in TICKS.into_iter().chain(["dry_run"]) {
         let Handled { drops, returns } = summary.handled(call);
         assert!(drops > 20 && returns > 20, "{call}\n{summary}");
     }
@@ -121,6 +122,7 @@ fn every_call_that_reads_meets_small_letters() {
     let calls = [
         "read_chart",
         "translate",
+        "dry_run",
         "places",
         "check_image",
         "prepare",

@@ -190,7 +190,17 @@ fn joined(image: &mut Image) {
 }
 
 impl Library for Faulty {
-    as_the_reference!(places, priced_run, cause, list_rows, minimise, count_fillings, prepare, live_run);
+    as_the_reference!(
+        places,
+        dry_run,
+        priced_run,
+        cause,
+        list_rows,
+        minimise,
+        count_fillings,
+        prepare,
+        live_run
+    );
     as_the_reference!(rebindings, spins, meaning, little_chart);
 
     fn read_chart(&self, text: &[u8], out: &mut [u8]) -> Answer {

@@ -43,6 +43,18 @@ impl Library for Misreading {
         Reference.places(&self.read(text))
     }
 
+    fn dry_run(
+        &self,
+        text: &[u8],
+        size: usize,
+        image: &mut [u8],
+        words: &[u16],
+        masks: &mut [u32],
+        codes: &mut [u8],
+    ) -> Answer {
+        Reference.dry_run(&self.read(text), size, image, words, masks, codes)
+    }
+
     fn check_image(&self, text: &[u8]) -> Answer {
         Reference.check_image(&self.read(text))
     }

@@ -105,6 +105,7 @@ impl Library for Faulty {
         read_chart,
         write_chart,
         translate,
+        dry_run,
         image_calls,
         run_calls,
         rebindings,

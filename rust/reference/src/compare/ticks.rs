@@ -160,7 +160,7 @@ impl<'a> Case<'a> {
 }
 
 /// A buffer with margins on both sides.
-fn widened<T: Copy>(buffer: &[T], filler: T) -> Vec<T> {
+pub(super) fn widened<T: Copy>(buffer: &[T], filler: T) -> Vec<T> {
     [&[filler; MARGIN], buffer, &[filler; MARGIN]].concat()
 }
 

@@ -241,6 +241,25 @@ impl Library for Fast {
         run_on::<false>(image, state, words, masks, codes)
     }
 
+    fn dry_run(
+        &self,
+        text: &[u8],
+        size: usize,
+        image: &mut [u8],
+        words: &[u16],
+        masks: &mut [u32],
+        codes: &mut [u8],
+    ) -> Answer {
+        let made = put_image(text, image).and_then(|count| {
+            let fresh = fresh_state(size).ok_or(Refusal::of(14))?;
+            Ok((count, fresh))
+        });
+        match made {
+            Ok((count, fresh)) => run_on::<false>(&image[..count], &fresh, words, masks, codes).0,
+            Err(refusal) => refusal.into(),
+        }
+    }
+
     fn priced_run(
         &self,
         image: &[u8],

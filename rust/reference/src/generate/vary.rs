@@ -19,6 +19,9 @@ pub fn drawn(random: &mut Random, entry: EntryPoint) -> Input {
         EntryPoint::ReadChart | EntryPoint::WriteChart | EntryPoint::Translate | EntryPoint::Places => {
             Input::of(charts::chart(random))
         }
+        EntryPoint::DryRun => {
+            Input { value: random.within(1, 32), words, ..Input::of(charts::chart(random)) }
+        }
         EntryPoint::LiveTick | EntryPoint::LiveRun | EntryPoint::LiveRebind | EntryPoint::LiveSpin => {
             let (bytes, state) = tables::table_and_state(random);
             Input { state, words, ..Input::of(bytes.as_chunks::<10>().0.to_vec()) }
@@ -43,6 +46,11 @@ fn change(random: &mut Random, entry: EntryPoint, input: &mut Input) {
         EntryPoint::ReadChart | EntryPoint::WriteChart | EntryPoint::Translate | EntryPoint::Places => {
             chart(random, &mut input.frames);
         }
+        EntryPoint::DryRun => match random.below(6) {
+            0 => input.value = random.within(1, 32),
+            1 => word(random, &mut input.words),
+            _ => chart(random, &mut input.frames),
+        },
         EntryPoint::CheckImage | EntryPoint::Prepare | EntryPoint::ListRows | EntryPoint::Minimise => {
             image(random, &mut input.frames)
         }

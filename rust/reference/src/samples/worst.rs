@@ -63,6 +63,7 @@ pub fn known(entry: EntryPoint) -> Vec<Candidate> {
         EntryPoint::ReadChart | EntryPoint::WriteChart | EntryPoint::Translate | EntryPoint::Places => {
             charts()
         }
+        EntryPoint::DryRun => dry_runs(),
         EntryPoint::CheckImage | EntryPoint::Prepare | EntryPoint::ListRows => images(),
         EntryPoint::Minimise => smaller_images(),
         EntryPoint::LittleChart => little_charts(),
@@ -120,6 +121,15 @@ fn charts() -> Vec<Candidate> {
         .collect();
     let constructed = worst_charts().into_iter();
     all.extend(constructed.map(|(name, it)| Candidate::new(name, Origin::Construction, Input::of(it))));
+    all
+}
+
+/// The charts run on the largest stack, every condition 1.
+fn dry_runs() -> Vec<Candidate> {
+    let mut all = charts();
+    for Candidate { input, .. } in &mut all {
+        (input.value, input.words) = (PLACES, vec![0xFFFF; WORDS]);
+    }
     all
 }
 

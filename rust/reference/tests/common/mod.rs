@@ -24,7 +24,7 @@ macro_rules! faults {
 /// tick that is not written out is made by the library's own run.
 macro_rules! as_the_reference {
     ($($call:ident),* $(,)?) => { $(as_the_reference!(@$call);)* };
-    (@chart_calls) => { as_the_reference!(read_chart, write_chart, translate, places); };
+    (@chart_calls) => { as_the_reference!(read_chart, write_chart, translate, places, dry_run); };
     (@image_calls) => { as_the_reference!(check_image, cause, list_rows, minimise, count_fillings, prepare); };
     (@run_calls) => { as_the_reference!(run, priced_run, live_run); };
     (@rebindings) => { as_the_reference!(rebind, live_rebind); };
@@ -34,6 +34,16 @@ macro_rules! as_the_reference {
     (@write_chart) => { as_the_reference!(@fn write_chart(records: &[u8], out: &mut [u8]) -> reference::Answer); };
     (@translate) => { as_the_reference!(@fn translate(text: &[u8], out: &mut [u8]) -> reference::Answer); };
     (@places) => { as_the_reference!(@fn places(text: &[u8]) -> reference::Answer); };
+    (@dry_run) => {
+        as_the_reference!(@fn dry_run(
+            text: &[u8],
+            size: usize,
+            image: &mut [u8],
+            words: &[u16],
+            masks: &mut [u32],
+            codes: &mut [u8]
+        ) -> reference::Answer);
+    };
     (@check_image) => { as_the_reference!(@fn check_image(text: &[u8]) -> reference::Answer); };
     (@fresh) => { as_the_reference!(@fn fresh(size: usize) -> (reference::Answer, reference::State)); };
     (@run) => { as_the_reference!(@run run); };

@@ -198,6 +198,7 @@ impl Library for Faulty {
     as_the_reference!(
         write_chart,
         places,
+        dry_run,
         cause,
         list_rows,
         minimise,

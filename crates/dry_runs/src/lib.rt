@@ -1,5 +1,7 @@
-// A chart run from its text.
-ghost use Rattle.agreement.specs.dry_runs.DryRun.{dry_run, GivesDryRun, RunsByWalk};
+//! A chart run from its text to its ticks in one call: translated, and run from a fresh state.
+#![tactic(auto)]
+
+ghost use Rattle.dry_runs.specs.DryRun.{dry_run, GivesDryRun};
 
 use runs::state_runs::run;
 use state::State;
@@ -9,8 +11,6 @@ use translator::translating::translate;
 /// Runs a chart from its text: translates it, makes a fresh state of `size` places, 1 to 32, and runs `words` from it on the image, a word
 /// of signals a tick, bit c for condition c. `image` is lent for the image's characters, 29,831 at most; `masks` and `codes` get a mask and
 /// a code a tick, and need a place for each word. Answers how many ticks were made.
-///
-/// Where the chart translates and the size is 1 to 32, answer, masks and codes are what the chart's walk over the words gives.
 ///
 /// Refuses, in this order, what `translate` refuses (1 to 10, 19 after 5, 16 by `image`), 14, and what the run refuses: 16 by `masks` or
 /// `codes` before any tick, else 17 with the ticks finished before it. Once `translate` has succeeded `image` holds the image, whatever is
@@ -23,12 +23,8 @@ pub fn dry_run(
     masks: &mut [u32],
     codes: &mut [u8],
 ) -> Result<usize, Refusal>
-    ensures gives { GivesDryRun
-        (dry_run text.now size image.old (record { words = words.now; masks = masks.old; codes = codes.old }))
+    ensures { GivesDryRun (dry_run text.now size image.old words.now masks.old codes.old)
         result image.new masks.new codes.new }
-    ensures by_walk { RunsByWalk text.now size image.old
-        (record { words = words.now; masks = masks.old; codes = codes.old })
-        result masks.new codes.new }
 {
     let count = translate(text, image)?;
     let made = State::fresh(size);

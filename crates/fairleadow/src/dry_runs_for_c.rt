@@ -1,0 +1,25 @@
+// The call from C that runs a chart from its text.
+ghost use Rattle.dry_runs.specs.DryRun.{dry_run};
+ghost use Rattle.fairleadow.specs.dry_runs_for_c.Calls.{GivesDryRunC};
+
+use crate::telling::tell;
+
+// A chart run from its text: the image is written once the chart is translated, masks and codes with each tick.
+#[unsafe(no_mangle)]
+pub extern "C" fn fairleadow_dry_run(
+    text: &[u8],
+    size: usize,
+    image: &mut [u8],
+    words: &[u16],
+    masks: &mut [u32],
+    codes: &mut [u8],
+    at: &mut usize,
+    made: &mut usize,
+) -> u8
+    ensures { GivesDryRunC (dry_run text.now size image.old words.now masks.old
+        codes.old) result at.new made.new image.new
+        masks.new codes.new }
+{
+    let answer = dry_runs::dry_run(text, size, image, words, masks, codes);
+    tell(answer, at, made)
+}
