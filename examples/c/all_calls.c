@@ -1,4 +1,4 @@
-/* Makes every call of the header on the chart on standard input: reads it and writes it back, counts its places, translates it,
+/* Makes every call of the header, once its version is that of the library, on the chart on standard input: reads it and writes it back, counts its places, translates it,
  * checks the image, runs eight words from a fresh state of three places, makes the same ticks one by one, both on the image and on
  * the table prepared from it, runs them with prices, rebinds each number up to 3 to its own scheme, makes the ticks on each of four
  * spindles, and tells what each code stands for, which signals made each tick go on and which rows each label has, and joins the labels
@@ -271,6 +271,10 @@ int main(void) {
     size_t index, count, prepared, none;
     uint8_t number;
     size_t length = fread(chart, 1, sizeof chart, stdin);
+    if (fairleadow_version() != FAIRLEADOW_VERSION) {
+        printf("compiled with the header of another library\n");
+        return 1;
+    }
     if (read_and_write(length))
         return 1;
     tell_places(length);
