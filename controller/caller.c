@@ -94,7 +94,7 @@ static int name(void) {
     if (!same(fairleadow_refusal_text(FAIRLEADOW_NO_ROW), "no row for the word") ||
         !same(fairleadow_refusal_text(FAIRLEADOW_MANY_LISTS + 1), "a number that is no refusal"))
         return 12;
-    return 0;
+    return fairleadow_version() == FAIRLEADOW_VERSION ? 0 : 14;
 }
 
 /* What the emulated board does at a fault: it stays here. */

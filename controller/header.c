@@ -20,6 +20,7 @@ typedef uint8_t (*lists)(const uint8_t *, size_t, uint16_t *, size_t, uint16_t *
 typedef uint8_t (*fetches)(size_t, size_t, uint8_t *, size_t, size_t *, size_t *);
 typedef uint8_t (*counts)(const uint8_t *, size_t, size_t, size_t, size_t, uint32_t *, uint32_t *, uint32_t *, size_t *, size_t *);
 typedef uint8_t (*means)(uint8_t, uint8_t *);
+typedef uint32_t (*numbers)(void);
 
 struct every_function {
     writes read_chart, write_chart, translate, prepare, minimise;
@@ -36,6 +37,7 @@ struct every_function {
     fetches little_chart;
     counts count_fillings;
     means meaning;
+    numbers version;
 };
 
 struct every_function every_function(void);
@@ -46,7 +48,7 @@ struct every_function every_function(void) {
         fairleadow_places,     fairleadow_check_image, fairleadow_fresh,     fairleadow_run,       fairleadow_live_run,
         fairleadow_dry_run,    fairleadow_priced_run,  fairleadow_tick,      fairleadow_live_tick, fairleadow_rebind,
         fairleadow_live_rebind, fairleadow_spin,       fairleadow_live_spin, fairleadow_cause,     fairleadow_list_rows,
-        fairleadow_little_chart, fairleadow_count_fillings, fairleadow_meaning,
+        fairleadow_little_chart, fairleadow_count_fillings, fairleadow_meaning, fairleadow_version,
     };
     return all;
 }

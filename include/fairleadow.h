@@ -1,6 +1,7 @@
 /* Fairleadow: charts read, written, translated and run. Link with libfairleadow.a.
  *
- * Every function answers for everything that it is handed. All but fairleadow_meaning return 0, or the number of a refusal, and write
+ * Every function answers for everything that it is handed. All but fairleadow_meaning and fairleadow_version return 0, or the number of a
+ * refusal, and write
  *   *index   the frame (a line or a record) that the refusal names, from 0; only 2, 3, 4, 6 to 9, 12 and 13 name one, else it is 0
  *   *count   records, characters, labels, bytes of a table or ticks written, or places needed; with refusals 1 to 16 and 19 to 28
  *            it is 0, with 17 and 18 the ticks finished before
@@ -22,7 +23,7 @@
  *    check_image    13,288   list_rows      13,352   live_spin         704
  *    fresh             136   minimise       14,920   meaning           136
  *    run            13,504   little_chart    1,568   dry_run        20,160
- *    priced_run     13,648   count_fillings 18,240
+ *    priced_run     13,648   count_fillings 18,240   version           136
  */
 #ifndef FAIRLEADOW_H
 #define FAIRLEADOW_H
@@ -30,9 +31,9 @@
 #include <stddef.h>
 #include <stdint.h>
 
-/* The version of this header; the archive has none of its own. It rises where a function, a number or the state's bytes change their
- * meaning, and where any is added. */
-#define FAIRLEADOW_VERSION 1
+/* The version of this header. It rises where a function, a number or the state's bytes change their meaning, and where any is added. A
+ * program that begins with fairleadow_version() == FAIRLEADOW_VERSION was compiled with the header of its archive. */
+#define FAIRLEADOW_VERSION 2
 
 #ifdef __cplusplus
 extern "C" {
@@ -334,6 +335,9 @@ uint8_t fairleadow_live_spin(fairleadow_state *states, size_t states_len, size_t
  * (a damaged table's ticks may have such), and writes the number called, 2 to 16, or 0 where none is. Refuses
  * nothing. */
 uint8_t fairleadow_meaning(uint8_t code, uint8_t *called);
+
+/* The version of the archive; that of this header is FAIRLEADOW_VERSION. Refuses nothing. */
+uint32_t fairleadow_version(void);
 
 #ifdef __cplusplus
 }

@@ -32,6 +32,7 @@ enum {
     LIVE_REBIND,
     LIVE_SPIN,
     MEANING,
+    VERSION,
     KNOWN,
 };
 
@@ -210,6 +211,10 @@ __attribute__((noinline)) static void make_call(void) {
         break;
     case MEANING:
         number = fairleadow_meaning((uint8_t)head.value, codes);
+        break;
+    case VERSION:
+        count = fairleadow_version();
+        number = 0;
         break;
     case KNOWN:
         number = take_known_stack();

@@ -83,6 +83,8 @@ static void swap(uint8_t number, uint8_t scheme) {
 int main(void) {
     port_open();
     port_set_outputs(0);
+    if (fairleadow_version() != FAIRLEADOW_VERSION)
+        stop("compiled with a header of version", FAIRLEADOW_VERSION, NULL);
     load();
     for (;;) {
         uint16_t word;

@@ -1,9 +1,12 @@
-/* Makes every call of the header on the chart on standard input: reads it and writes it back, counts its places, translates it,
- * checks the image, runs eight words from a fresh state of three places, makes the same ticks one by one, both on the image and on
- * the table prepared from it, and once more from the chart's text, runs them with prices, rebinds each number up to 3 to its own
- * scheme, makes the ticks on each of four spindles, and tells what each code stands for, which signals made each tick go on and which
- * rows each label has, and joins the labels that act alike, and counts how often stacks of one to three places fill. Then it fetches
- * every little chart. Prints what came of each. */
+/* Sees that the header is that of the library, and makes every call of it on the chart on standard input: reads it and writes it back,
+ * counts its places, translates it, checks the image, runs eight words from a fresh state of three places, makes the same ticks one by
+ * one, both on the image and on the table prepared from it, and once more from the chart's text, runs them with prices, rebinds each number up to 3 to its own
+ * scheme, makes
+ * the ticks on each of four spindles, and tells what each code stands for, which signals made each tick go on and which
+ * rows each label
+ * has, and joins the labels that act alike, and counts how often stacks of one to three places fill. Then it fetches
+ * every little chart.
+ * Prints what came of each. */
 #include <stdio.h>
 #include <string.h>
 
@@ -286,6 +289,10 @@ int main(void) {
     size_t index, count, prepared, none;
     uint8_t number;
     size_t length = fread(chart, 1, sizeof chart, stdin);
+    if (fairleadow_version() != FAIRLEADOW_VERSION) {
+        printf("compiled with the header of another library\n");
+        return 1;
+    }
     if (read_and_write(length))
         return 1;
     tell_places(length);

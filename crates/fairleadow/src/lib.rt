@@ -15,3 +15,4 @@ pub mod runs_for_c;
 pub mod spindles_for_c;
 pub mod telling;
 pub mod translating_for_c;
+pub mod version_for_c;

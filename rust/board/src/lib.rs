@@ -86,6 +86,11 @@ impl<'a> Board<'a> {
         self.made(&mut Message::new(Call::Known, &[])).expect("it has no buffers").stack
     }
 
+    /// The version of the library that the board has.
+    pub fn version(&self) -> usize {
+        self.made(&mut Message::new(Call::Version, &[])).expect("it has no buffers").count
+    }
+
     /// Makes the call, if the board has room for it.
     fn made(&self, message: &mut Message) -> Option<Told> {
         let mut notes = self.notes.borrow_mut();

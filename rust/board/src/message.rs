@@ -29,6 +29,8 @@ pub enum Call {
     LiveRebind,
     LiveSpin,
     Meaning,
+    /// The count is the version.
+    Version,
     /// No call of the library: it takes 4,000 bytes of stack.
     Known,
 }

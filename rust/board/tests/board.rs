@@ -4,7 +4,7 @@
 use std::collections::BTreeMap;
 
 use board::{Board, Call, Notes};
-use interface::{Answer, Library, State, PRICED_WORDS, TABLE};
+use interface::{Answer, Library, State, PRICED_WORDS, TABLE, VERSION};
 use reference::compare::compare;
 use reference::entry::translated;
 use reference::entry_point::EntryPoint;
@@ -40,6 +40,7 @@ const CALLS: [(Call, &str); 23] = [
     (Call::LiveRebind, "live_rebind"),
     (Call::LiveSpin, "live_spin"),
     (Call::Meaning, "meaning"),
+    (Call::Version, "version"),
 ];
 
 /// The bytes of stack of a call as the page for controllers has them for a processor.
@@ -99,7 +100,8 @@ fn hold_to_page(notes: &Notes) {
     }
 }
 
-fn every_code(board: &Board) {
+fn version_and_codes(board: &Board) {
+    assert_eq!(board.version(), VERSION as usize);
     for code in 0..=255 {
         assert_eq!(board.meaning(code), Reference.meaning(code), "code {code:02X}");
     }
@@ -110,7 +112,7 @@ fn every_code(board: &Board) {
 fn the_board_agrees_with_the_reference() {
     let board = board();
     let (seed, cases) = (setting("FAIRLEADOW_SEED", 1), setting("FAIRLEADOW_CASES", CASES));
-    every_code(&board);
+    version_and_codes(&board);
     if let Err(difference) = compare(&board, seed, cases) {
         panic!("{difference}");
     }
@@ -167,7 +169,7 @@ fn the_largest_inputs_keep_to_the_bounds() {
     let board = board();
     let known = board.known_stack();
     assert!((4_000..4_200).contains(&known), "the measure is wrong: {known}");
-    every_code(&board);
+    version_and_codes(&board);
     too_many_words(&board);
     for entry in EntryPoint::ALL {
         for candidate in candidates(entry) {

@@ -310,4 +310,5 @@ extern "C" {
         count: *mut usize,
     ) -> u8;
     pub fn fairleadow_meaning(code: u8, called: *mut u8) -> u8;
+    pub fn fairleadow_version() -> u32;
 }

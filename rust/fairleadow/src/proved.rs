@@ -131,6 +131,13 @@ use crate::c;
 /// ```
 pub struct Proved;
 
+impl Proved {
+    /// The version of the archive; that of the wrapper is [`VERSION`](interface::VERSION).
+    pub fn version() -> u32 {
+        unsafe { c::fairleadow_version() }
+    }
+}
+
 /// Calls with room for index and count, and puts the answer together.
 fn answered(call: impl FnOnce(*mut usize, *mut usize) -> u8) -> Answer {
     let (mut index, mut count) = (usize::MAX, usize::MAX);

@@ -7,6 +7,9 @@ mod sizes;
 pub use answer::{Answer, Refusal};
 pub use sizes::*;
 
+/// The version of the entry points, as the header and the archive have it.
+pub const VERSION: u32 = 2;
+
 /// The machine's state, with the fields of the C struct. Places hold labels, the bottom first; number h's result bit is
 /// `results[h - 1]`, and the scheme that serves it `serving[h - 1]` (that of number 1, which nothing calls, is kept and not tried). For
 /// each place in use there is the number of the call that filled it, and the scheme open there. All three are 0 above the depth.

@@ -7,6 +7,7 @@ use std::ffi::{OsStr, OsString};
 use std::io::{self, Write};
 use std::process::ExitCode;
 
+use fairleadow::Proved;
 use office::arguments::unknown;
 use office::command::{Command, Failure, Run};
 use office::commands::{bill, draw, fillings, minimise, page, trace, wall, why};
@@ -84,7 +85,10 @@ fn run(arguments: &[OsString], out: &mut dyn Write) -> Result<(), Failure> {
             return Ok(out.write_all(help().as_bytes())?)
         }
         (Some("--help" | "-h" | "help"), [command, ..]) => return help_of(named(command)?, out),
-        (Some("--version"), _) => return Ok(writeln!(out, "fairleadow {}", env!("CARGO_PKG_VERSION"))?),
+        (Some("--version"), _) => {
+            let (program, library) = (env!("CARGO_PKG_VERSION"), Proved::version());
+            return Ok(writeln!(out, "fairleadow {program}, with version {library} of the library")?);
+        }
         _ => {}
     }
     let command = named(name)?;

@@ -5,6 +5,7 @@ mod shared;
 use std::process::Command;
 use std::{env, fs};
 
+use fairleadow::VERSION;
 use shared::called::{example, fairleadow, file, path, written};
 
 #[test]
@@ -91,7 +92,8 @@ fn any_name_of_a_file_is_read_and_shown_without_codes() {
 
 #[test]
 fn the_version_and_the_help_of_a_command_are_asked_for() {
-    let version = format!("fairleadow {}\n", env!("CARGO_PKG_VERSION"));
+    let version =
+        format!("fairleadow {}, with version {VERSION} of the library\n", env!("CARGO_PKG_VERSION"));
     assert_eq!(fairleadow(&["--version"], b""), (0, version, String::new()));
     assert_eq!(fairleadow(&["help"], b""), fairleadow(&["--help"], b""));
     for name in ["check", "trace", "page", "wall"] {
