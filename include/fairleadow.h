@@ -32,7 +32,7 @@
 
 /* The version of this header; the archive has none of its own. It rises where a function, a number or the state's bytes change their
  * meaning, and where any is added. */
-#define FAIRLEADOW_VERSION 1
+#define FAIRLEADOW_VERSION 2
 
 #ifdef __cplusplus
 extern "C" {
