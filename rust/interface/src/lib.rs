@@ -89,8 +89,9 @@ pub enum Meaning {
     Unknown,
 }
 
-/// The entry points of papers 01 and 02, and those for a controller that keeps an image prepared. Counts are records, characters,
-/// labels, bytes of a table, ticks and places; an accepted image, a fresh state, a cause, a rebinding and fillings count 0.
+/// The entry points of papers 01 and 02, those for a controller that keeps an image prepared, and the dry run of a chart's text. Counts
+/// are records, characters, labels, bytes of a table, ticks and places; an accepted image, a fresh state, a cause, a rebinding and
+/// fillings count 0.
 pub trait Library {
     /// Chart lines to node records of ten bytes each. Tries 1 to 9, with 19 after 5, and 16; counts records.
     fn read_chart(&self, text: &[u8], out: &mut [u8]) -> Answer;
