@@ -73,6 +73,8 @@ use Rattle.fairleadow.specs.contracts.charts_for_c.fairleadow_little_chart as c-
 use Rattle.fairleadow.proofs.charts_for_c.fairleadow_little_chart.Reads as c-little-chart-reads
 use Rattle.fairleadow.specs.contracts.causes_for_c.fairleadow_meaning as c-meaning
 use Rattle.fairleadow.proofs.causes_for_c.fairleadow_meaning.Reads as c-meaning-reads
+use Rattle.fairleadow.specs.contracts.version_for_c.fairleadow_version as c-version
+use Rattle.fairleadow.proofs.version_for_c.fairleadow_version.Reads as c-version-reads
 use Rattle.fairleadow.specs.contracts.images_for_c.fairleadow_prepare as c-prepare
 use Rattle.fairleadow.proofs.images_for_c.fairleadow_prepare.Reads as c-prepare-reads
 use Rattle.fairleadow.specs.contracts.runs_for_c.fairleadow_live_run as c-live-run
@@ -208,6 +210,9 @@ c-tick-asks-nothing κs a = tt
 
 pub c-meaning-asks-nothing : (κs : Lfts 1) (a : ArgsD c-meaning.signature κs) → c-meaning-reads.Asked κs a
 c-meaning-asks-nothing κs a = tt
+
+pub c-version-asks-nothing : (κs : Lfts 0) (a : ArgsD c-version.signature κs) → c-version-reads.Asked κs a
+c-version-asks-nothing κs a = tt
 
 pub c-prepare-asks-nothing : (κs : Lfts 4) (a : ArgsD c-prepare.signature κs) → c-prepare-reads.Asked κs a
 c-prepare-asks-nothing κs a = tt
