@@ -60,7 +60,7 @@ fn the_picture_over_time_is_that_of_the_ticks() {
     let picture = picture.split("```").next().expect("its lines");
     let path = top().join("examples/swapped.txt");
     let plan = load(&path).and_then(Plan::read).expect("an example");
-    let trace = trace(&plan, 32, &[0, 0, 4, 0, 0, 0, 0], &[]).expect("an example");
+    let trace = trace(&plan, 32, &[0, 0, 4, 0, 0, 0, 0, 0], &[]).expect("an example");
     let lines: Vec<(&str, Vec<&str>)> = picture
         .lines()
         .skip(2)
