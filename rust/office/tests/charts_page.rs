@@ -107,3 +107,17 @@ fn each_link_leads_to_a_file() {
         }
     }
 }
+
+/// Each picture of the page is made by the command beside the pictures: the page on a screen, on a phone and on paper among them.
+#[test]
+fn each_picture_is_made_by_the_command() {
+    let page = fs::read_to_string(top().join("docs/CHARTS.md")).expect("the page");
+    let command = fs::read_to_string(top().join("docs/pictures/draw")).expect("the command");
+    let shown: Vec<&str> =
+        page.split("](pictures/").skip(1).filter_map(|rest| rest.split(')').next()).collect();
+    assert_eq!(shown, ["bore.svg", "bore-traced.svg", "page.png", "phone.png", "paper.png"]);
+    for picture in shown {
+        let made = format!("docs/pictures/{}", picture.strip_suffix(".png").unwrap_or(picture));
+        assert!(command.contains(&made), "{picture}");
+    }
+}

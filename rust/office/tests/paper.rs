@@ -1,5 +1,5 @@
 //! Pages on paper: each is printed at its first, a middle and its last tick, and every row is read back below its heading, with the
-//! tick and the whole drawing. Where dot, the browser or the reader of papers is missing it says so in one line and tries nothing.
+//! tick and the whole drawing, which stand on the first paper. Where dot, the browser or the reader of papers is missing it says so in one line and tries nothing.
 
 mod shared;
 
@@ -25,7 +25,7 @@ fn main() {
         Err(missing) => return println!("paper test left out: {missing}"),
     };
     let deep = file("nine_schemes.txt", nine_schemes().as_bytes());
-    for chart in [Path::new(&example("roughing.txt")), &deep] {
+    for chart in [Path::new(&example("roughing.txt")), Path::new(&example("bore.txt")), &deep] {
         let case = Case::make(chart);
         let last = case.trace.ticks.len() - 1;
         for tick in [0, 20, last] {
@@ -79,12 +79,13 @@ impl Case {
         assert_eq!(rows.len(), last + 1);
         let first_page = pages[0].text();
         assert!(first_page.contains(&format!("tick {tick} of {last}")), "tick {tick}: {}", first_page);
-        let first = pages.iter().position(|page| page.headings().is_some()).expect("headings");
         for at in 0..self.plan.nodes.len() {
             let name = self.plan.names.node(at);
-            let drawn =
-                pages[..=first].iter().any(|page| page.above_headings().any(|word| page.holds(word, &name)));
-            assert!(drawn || name == "begin" || name == "end", "tick {tick}: {name} is not drawn");
+            let drawn = pages[0].above_headings().any(|word| pages[0].holds(word, &name));
+            assert!(
+                drawn || name == "begin" || name == "end",
+                "tick {tick}: {name} is not drawn on the first page"
+            );
         }
     }
 }
