@@ -121,8 +121,9 @@ impl Case {
             let on: Vec<String> = on.map(|(number, _)| number.to_string()).collect();
             assert_eq!(ticks, on.join(","), "{output}");
         }
-        let outputs = sought.iter().filter(|search| search.starts_with("tick with "));
-        assert_eq!(found.matches("\nline=").count(), outputs.count());
+        let outputs = sought.iter().filter(|search| search.starts_with("tick with ")).count();
+        assert_eq!(found.matches("\nline=").count(), outputs);
+        assert_eq!(value("graph"), if outputs == 0 { "no output is on in any tick" } else { "" });
         assert!(
             value("why").starts_with("it left node ") || value("why").contains(" takes no row; "),
             "{}",

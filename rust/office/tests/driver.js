@@ -82,6 +82,7 @@
     const high = levels.map((level, tick) => (level === "1" ? tick : -1)).filter((tick) => tick >= 0);
     found.push("line=" + row.textContent + " " + high.join(","));
   });
+  found.push("graph=" + (document.querySelector("#graph div") ? "" : text("graph")));
   find("tick-2").click();
   found.push("why=" + find("why").textContent.split("\n")[0]);
   // each search, begun at the last tick, until it has come round twice; what is told stands behind the tick

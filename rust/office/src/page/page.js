@@ -140,6 +140,7 @@
     row.append(name, line);
     find("graph").append(row);
   });
+  if (!named.length) find("graph").textContent = "no output is on in any tick";
 
   // the next such tick, or the first one again, which is told
   function seek() {
