@@ -37,11 +37,13 @@ impl Kind {
     }
 }
 
-/// Whether this could be a line of digits, damaged or not; in a comment of the notation one may stand.
+/// Whether this could be a line of digits, damaged or not. One may stand in a comment of the notation, and a name may be of the letters
+/// A to F alone.
 fn like_digits(line: &[u8]) -> bool {
     let line = line.trim_ascii();
     let digits = line.iter().filter(|byte| byte.is_ascii_hexdigit()).count();
-    line.len() >= 16 && digits * 10 >= line.len() * 9 && !line.starts_with(b"#")
+    let are_most = line.len() >= 16 && digits * 10 >= line.len() * 9;
+    are_most && !line.starts_with(b"#") && !like_notation(&String::from_utf8_lossy(line))
 }
 
 /// Whether some line could be one of digits.
@@ -101,6 +103,15 @@ mod tests {
         assert_eq!(Kind::of(b"cut: do spindle\n"), Kind::Notation);
         assert_eq!(Kind::of(b"# 00010001000000000000FE\nscheme 1\n"), Kind::Notation);
         assert_eq!(Kind::of(b"scheme 1 Fr\xE4sen\n"), Kind::Notation);
+        let name = "facade".repeat(10);
+        for line in [
+            format!("output 0 {name}"),
+            format!("condition 1 {name}"),
+            format!("{name}: end"),
+            format!("{name}: do {name}"),
+        ] {
+            assert_eq!(Kind::of(format!("{line}\nscheme 1\n").as_bytes()), Kind::Notation, "{line}");
+        }
         assert_eq!(Kind::of(b"\xFF\xFEs\0c\0"), Kind::Chart);
     }
 

@@ -2,7 +2,7 @@
 
 use std::ffi::OsStr;
 use std::fs::{self, File};
-use std::io::{self, Write};
+use std::io::{self, ErrorKind, Write};
 use std::os::unix::fs::MetadataExt;
 use std::path::{Path, PathBuf};
 
@@ -34,21 +34,27 @@ fn is_same(read: &OsStr, written: &OsStr) -> bool {
 }
 
 /// Writes a file beside the one that is there, and puts it in its place once it is whole. What is no file, such as a device, is
-/// written where it stands.
-pub fn write(file: &OsStr, bytes: &[u8]) -> io::Result<()> {
+/// written where it stands. Tells why it cannot.
+pub fn write(file: &OsStr, bytes: &[u8]) -> Result<(), String> {
+    let told = |error: io::Error| match error.kind() {
+        ErrorKind::IsADirectory => "this is a folder".to_string(),
+        ErrorKind::PermissionDenied => "the file may not be written by this user".to_string(),
+        _ => error.to_string(),
+    };
     let old = fs::metadata(file).ok();
     if old.as_ref().is_some_and(|old| !old.is_file()) {
-        return fs::write(file, bytes);
+        return fs::write(file, bytes).map_err(told);
     }
     // a link keeps leading to its file, and one that may not be written stays
     let path = fs::canonicalize(file).unwrap_or_else(|_| PathBuf::from(file));
     if old.is_some() {
-        File::options().write(true).open(&path)?;
+        File::options().write(true).open(&path).map_err(told)?;
     }
     let beside = path.with_file_name(format!(".fairleadow-{}", std::process::id()));
     // one that an ended run of the same number left
     let _ = fs::remove_file(&beside);
-    let mut new = File::options().write(true).create_new(true).open(&beside)?;
+    let new = File::options().write(true).create_new(true).open(&beside);
+    let mut new = new.map_err(|error| no_file_in(path.parent().unwrap_or(Path::new("")), &error))?;
     let mut whole = || {
         new.write_all(bytes)?;
         if let Some(old) = &old {
@@ -57,5 +63,22 @@ pub fn write(file: &OsStr, bytes: &[u8]) -> io::Result<()> {
         new.sync_all()?;
         fs::rename(&beside, &path)
     };
-    whole().inspect_err(|_| drop(fs::remove_file(&beside)))
+    whole().map_err(|error| {
+        drop(fs::remove_file(&beside));
+        told(error)
+    })
+}
+
+/// Why no file can be made in a folder.
+fn no_file_in(folder: &Path, error: &io::Error) -> String {
+    let folder = if folder.as_os_str().is_empty() { Path::new(".") } else { folder };
+    let name = shown_name(folder);
+    match fs::metadata(folder) {
+        Ok(found) if !found.is_dir() => format!("{name} is no folder"),
+        Err(missing) if missing.kind() == ErrorKind::NotFound => format!("there is no folder {name}"),
+        _ if error.kind() == ErrorKind::PermissionDenied => {
+            format!("this user may not make a file in the folder {name}")
+        }
+        _ => format!("no file can be made in the folder {name}: {error}"),
+    }
 }

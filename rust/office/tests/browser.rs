@@ -3,6 +3,7 @@
 
 mod shared;
 
+use std::collections::BTreeMap;
 use std::path::PathBuf;
 
 use office::draw::{arc_id, call_id, node_id};
@@ -25,6 +26,8 @@ fn main() {
         ("roughing.txt", "32", "random:1", "64", None),
         ("bore.txt", "2", "count", "40", None),
         ("finishing.chart", "32", "0,2,0x12", "30", None),
+        // nothing to look for
+        ("home.chart", "1", "0", "20", None),
         ("paper.chart", "6", "1", "20", None),
         // refused at a node that no tick took
         ("paper.chart", "2", "random:1", "20", None),
@@ -106,10 +109,11 @@ impl Case {
         assert_eq!(value("spaces"), "pre-wrap", "lines with spaces before them");
         let with =
             |output: &str, tick: &Tick| self.plan.operations(tick.mask).iter().any(|own| own == output);
-        for line in found.lines().filter_map(|line| line.strip_prefix("sought=tick with ")) {
-            let (output, tick) = line.split_once(' ').expect("a tick");
-            let first = self.trace.ticks.iter().position(|one| with(output, one)).expect("a tick with it");
-            assert_eq!(tick, first.to_string(), "{output}");
+        let sought: Vec<String> =
+            found.lines().filter_map(|line| line.strip_prefix("sought=").map(String::from)).collect();
+        assert_eq!(sought, self.searches());
+        if sought.is_empty() {
+            assert_eq!(value("lost"), "true|true|no tick calls or puts anything out|2");
         }
         for line in found.lines().filter_map(|line| line.strip_prefix("line=")) {
             let (output, ticks) = line.split_once(' ').expect("ticks");
@@ -117,21 +121,51 @@ impl Case {
             let on: Vec<String> = on.map(|(number, _)| number.to_string()).collect();
             assert_eq!(ticks, on.join(","), "{output}");
         }
-        assert_eq!(found.matches("\nline=").count(), found.matches("\nsought=tick with ").count());
+        let outputs = sought.iter().filter(|search| search.starts_with("tick with ")).count();
+        assert_eq!(found.matches("\nline=").count(), outputs);
+        assert_eq!(value("graph"), if outputs == 0 { "no output is on in any tick" } else { "" });
         assert!(
             value("why").starts_with("it left node ") || value("why").contains(" takes no row; "),
             "{}",
             value("why")
         );
-        let calls = self.trace.ticks.iter().any(|tick| matches!(tick.happening(), Happening::Call(_)));
-        assert_eq!(found.contains("sought=call of "), calls);
-        assert_eq!(found.contains("sought=refused "), self.trace.stopped.is_some());
         assert_eq!(value("reached"), (self.last() + 1 + self.plan.nodes.len()).to_string());
         assert_eq!(value("unnamed"), "0", "what can be reached and has no name");
         assert_eq!(value("fixed"), "0", "refusals that stay where the page scrolls");
         let faintest: f64 =
             value("contrast").split(' ').next().and_then(|ratio| ratio.parse().ok()).expect("a ratio");
         assert!(faintest >= 4.5, "{}", value("contrast"));
+    }
+
+    /// What can be looked for, each with the ticks that are found from the last one on, until the search has come round twice, and
+    /// what is told of them. What is told goes with the next step.
+    fn searches(&self) -> Vec<String> {
+        let mut events: BTreeMap<String, Vec<usize>> = BTreeMap::new();
+        for (number, tick) in self.trace.ticks.iter().enumerate() {
+            let outputs =
+                self.plan.operations(tick.mask).into_iter().map(|output| format!("tick with {output}"));
+            let happens = match tick.happening() {
+                Happening::Call(scheme) => Some(format!("call of {}", self.plan.names.scheme(scheme))),
+                Happening::Drop => Some("drop".to_string()),
+                _ => None,
+            };
+            outputs.chain(happens).for_each(|event| events.entry(event).or_default().push(number));
+        }
+        if self.trace.stopped.is_some() {
+            events.insert("refused".to_string(), vec![self.last()]);
+        }
+        let search = |(event, ticks): (String, Vec<usize>)| {
+            let first = |shown: usize| match ticks[0] == shown {
+                true => format!("{shown}nowhere else"),
+                false => format!("{}none further on: this is the first", ticks[0]),
+            };
+            let mut found = vec![event, first(self.last())];
+            found.extend(ticks[1..].iter().map(usize::to_string));
+            found.push(first(ticks[ticks.len() - 1]));
+            found.push(String::new());
+            found.join("|")
+        };
+        events.into_iter().map(search).collect()
     }
 
     /// The ticks that the driver's steps lead to.

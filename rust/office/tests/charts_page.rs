@@ -60,7 +60,7 @@ fn the_picture_over_time_is_that_of_the_ticks() {
     let picture = picture.split("```").next().expect("its lines");
     let path = top().join("examples/swapped.txt");
     let plan = load(&path).and_then(Plan::read).expect("an example");
-    let trace = trace(&plan, 32, &[0, 0, 4, 0, 0, 0, 0], &[]).expect("an example");
+    let trace = trace(&plan, 32, &[0, 0, 4, 0, 0, 0, 0, 0], &[]).expect("an example");
     let lines: Vec<(&str, Vec<&str>)> = picture
         .lines()
         .skip(2)
@@ -105,5 +105,19 @@ fn each_link_leads_to_a_file() {
             let file = page.parent().expect("a folder").join(link);
             assert!(file.exists(), "{} of {}", link, page.display());
         }
+    }
+}
+
+/// Each picture of the page is made by the command beside the pictures: the page on a screen, on a phone and on paper among them.
+#[test]
+fn each_picture_is_made_by_the_command() {
+    let page = fs::read_to_string(top().join("docs/CHARTS.md")).expect("the page");
+    let command = fs::read_to_string(top().join("docs/pictures/draw")).expect("the command");
+    let shown: Vec<&str> =
+        page.split("](pictures/").skip(1).filter_map(|rest| rest.split(')').next()).collect();
+    assert_eq!(shown, ["bore.svg", "bore-traced.svg", "page.png", "phone.png", "paper.png"]);
+    for picture in shown {
+        let made = format!("docs/pictures/{}", picture.strip_suffix(".png").unwrap_or(picture));
+        assert!(command.contains(&made), "{picture}");
     }
 }

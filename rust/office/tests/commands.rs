@@ -62,6 +62,17 @@ fn check_warns_of_what_was_likely_not_meant() {
         let out = fairleadow(&["check", "-"], chart.as_bytes()).1;
         assert_eq!(out.lines().skip(1).collect::<Vec<&str>>(), [format!("  warning: {warning}")]);
     }
+    // two schemes that only call each other, and one that only they call; what the handler calls is open when the stack is full
+    let circle = "scheme 1\nbegin -> end\nend\nscheme 2 there\nbegin -> a\na: do nothing; call back -> end\nend\n\
+                  scheme 3 back\nbegin -> b\nb: do nothing; call there -> c\nc: do nothing; call only -> end\nend\n\
+                  scheme 4 only\nbegin -> end\nend\n\
+                  scheme 5 full\nbegin when the stack is full -> d\nd: do nothing; call off -> end\nend\n\
+                  scheme 6 off\nbegin -> end\nend\n";
+    let out = fairleadow(&["check", "-"], circle.as_bytes()).1;
+    let warnings = [(5, "there"), (9, "back"), (14, "only")].map(|(line, scheme)| {
+        format!("  warning: line {line} (begin): no calls lead from scheme 1 to scheme {scheme}: it is open only after a swap")
+    });
+    assert_eq!(out.lines().skip(1).collect::<Vec<&str>>(), warnings);
     // by the lines of digits too, where there are no names
     let lines = fairleadow(&["compose", "-"], chart.as_bytes()).1;
     let out = fairleadow(&["check", "-"], lines.as_bytes()).1;

@@ -87,12 +87,12 @@ fn a_swapped_call_leads_to_the_scheme_that_served_it() {
     assert_eq!((ran.status, ran.said.as_str()), (0, ""));
     let text = &ran.printed;
     let own = line(text, "n1_call");
-    assert!(own.contains("n1 -> n4 ") && own.contains("never\"") && own.contains("#b3b8c0"), "{own}");
+    assert!(own.contains("n1 -> n5 ") && own.contains("never\"") && own.contains("#b3b8c0"), "{own}");
     let served = line(text, "n1_call_3");
-    assert!(served.contains("n1 -> n8 ") && served.contains("taken\""), "{served}");
+    assert!(served.contains("n1 -> n9 ") && served.contains("taken\""), "{served}");
     assert!(served.contains("penwidth=2.2") && served.contains("label=\" for roughing \""), "{served}");
     // swapped between two calls, both served
-    let ran = drawn("swapped.txt", &["--trace", "--words", words, "--swap", "6:2=3"]);
+    let ran = drawn("swapped.txt", &["--trace", "--words", words, "--swap", "7:2=3"]);
     for id in ["n1_call", "n1_call_3"] {
         assert!(line(&ran.printed, id).contains("penwidth=2.2"), "{id}");
     }

@@ -82,15 +82,26 @@
     const high = levels.map((level, tick) => (level === "1" ? tick : -1)).filter((tick) => tick >= 0);
     found.push("line=" + row.textContent + " " + high.join(","));
   });
+  found.push("graph=" + (document.querySelector("#graph div") ? "" : text("graph")));
   find("tick-2").click();
   found.push("why=" + find("why").textContent.split("\n")[0]);
-  // each search from the last tick on finds the first
+  // each search, begun at the last tick, until it has come round twice; what is told stands behind the tick
   Array.from(find("wanted").options).forEach((option) => {
     find("tick-" + last).click();
     find("wanted").value = option.value;
-    find("find").click();
-    found.push("sought=" + option.value + " " + document.body.dataset.tick);
+    const ticks = [];
+    for (let rounds = 0; rounds < 2; ) {
+      const before = Number(document.body.dataset.tick);
+      find("find").click();
+      const tick = Number(document.body.dataset.tick);
+      if (tick <= before) rounds += 1;
+      ticks.push(tick + text("sought"));
+    }
+    find("tick-" + (last - 1)).click();
+    found.push("sought=" + option.value + "|" + ticks.join("|") + "|" + text("sought"));
   });
+  find("find").click();
+  found.push("lost=" + [find("wanted").disabled, find("find").disabled, text("sought"), document.body.dataset.tick].join("|"));
   const reached = Array.from(document.querySelectorAll("#ticks tbody tr[tabindex], svg g.node[tabindex]"));
   found.push("reached=" + reached.length);
   const controls = Array.from(document.querySelectorAll("[tabindex], button, input"));

@@ -162,9 +162,44 @@ fn a_file_is_written_where_it_stands() {
     assert_eq!(shop.read("far.image"), smaller());
     assert_eq!(fs::metadata(&file).expect("a file").permissions().mode() & 0o777, 0o640);
     assert_eq!(shop.minimise("/dev/null", &[]).status, 0);
-    let ran = shop.minimise(&shop.path("no/such.image"), &[]);
-    assert!(ran.status == 1 && ran.said.contains("the image cannot be written: "), "{}", ran.said);
     let ran = shop.minimise(&shop.path(""), &[]);
-    assert!(ran.status == 1 && ran.said.contains("the image cannot be written: "), "{}", ran.said);
+    assert_eq!(
+        (ran.status, ran.said),
+        (1, format!("{}: the image cannot be written: this is a folder\n", shop.path("")))
+    );
     assert_eq!(shop.files(), ["branches.txt", "far.image", "near.image"]);
+}
+
+/// Where no file can be made it is the folder that is told, and why.
+#[test]
+fn a_folder_that_takes_no_file_is_named() {
+    let shop = Shop::new("folders");
+    let refused = |file: &str, why: &str| {
+        let ran = shop.minimise(file, &[]);
+        let told = format!("{file}: the image cannot be written: {why}\n");
+        assert_eq!((ran.status, ran.printed.as_str(), ran.said), (1, "", told));
+    };
+    refused(&shop.path("no/such.image"), &format!("there is no folder {}", shop.path("no")));
+    // a name of control codes is shown without them
+    let file = shop.path("no\u{1b}/such.image");
+    let ran = shop.minimise(&file, &[]);
+    assert!(ran.said.ends_with(&format!("there is no folder {}\n", shop.path("no\\u{1b}"))), "{}", ran.said);
+    let file = shop.path("branches.txt");
+    refused(&format!("{file}/x.image"), &format!("{file} is no folder"));
+    // in one that may not be written, and over a file that may not be, where this user may not do all
+    fs::create_dir(shop.path("shut")).expect("a folder that can be written");
+    let shut = |path: &str, mode| {
+        fs::set_permissions(shop.path(path), fs::Permissions::from_mode(mode)).expect("our own")
+    };
+    let file = shop.write("kept.image", "");
+    shut("shut", 0o555);
+    shut("kept.image", 0o444);
+    if File::create(shop.path("shut/own")).is_err() {
+        let inside = shop.path("shut/new.image");
+        refused(&inside, &format!("this user may not make a file in the folder {}", shop.path("shut")));
+        refused(&file, "the file may not be written by this user");
+    }
+    // no user may do all here
+    let ran = shop.minimise("/sys/new.image", &[]);
+    assert!(ran.status == 1 && ran.said.contains(" the folder /sys"), "{}", ran.said);
 }

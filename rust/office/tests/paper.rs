@@ -1,5 +1,5 @@
 //! Pages on paper: each is printed at its first, a middle and its last tick, and every row is read back below its heading, with the
-//! tick and the whole drawing. Where dot, the browser or the reader of papers is missing it says so in one line and tries nothing.
+//! tick and the whole drawing, which stand on the first paper. Where dot, the browser or the reader of papers is missing it says so in one line and tries nothing.
 
 mod shared;
 
@@ -25,10 +25,15 @@ fn main() {
         Err(missing) => return println!("paper test left out: {missing}"),
     };
     let deep = file("nine_schemes.txt", nine_schemes().as_bytes());
-    for chart in [Path::new(&example("roughing.txt")), &deep] {
-        let case = Case::make(chart);
-        let last = case.trace.ticks.len() - 1;
-        for tick in [0, 20, last] {
+    let tall = file("tall.txt", tall().as_bytes());
+    let examples = ["roughing.txt", "bore.txt"].map(example);
+    // the last is refused, which is told above the drawing
+    for (chart, places) in
+        [(Path::new(&examples[0]), 32), (Path::new(&examples[1]), 32), (&deep, 32), (&tall, 1)]
+    {
+        let case = Case::make(chart, places);
+        let last = case.last();
+        for tick in [0, last / 3, last] {
             let paper = printed(browser, &case.page, &format!("#tick={tick}"));
             case.read(&words(&paper), tick);
         }
@@ -48,6 +53,14 @@ fn nine_schemes() -> String {
     (1..=9).map(scheme).collect()
 }
 
+/// A drawing that is higher than a paper, whose last tick finds the stack full.
+fn tall() -> String {
+    let boxes: String = (1..30).map(|at| format!("box_{at}: do y{at} -> box_{}\n", at + 1)).collect();
+    format!(
+        "scheme 1\nbegin -> box_1\n{boxes}box_30: do nothing; call s2 -> end\nend\nscheme 2\nbegin -> end\nend\n"
+    )
+}
+
 /// A page that the program wrote, and the trace that it shows.
 struct Case {
     page: PathBuf,
@@ -56,20 +69,27 @@ struct Case {
 }
 
 impl Case {
-    fn make(chart: &Path) -> Case {
+    fn make(chart: &Path, places: usize) -> Case {
         let page = folder().join(chart.file_name().expect("a name")).with_extension("paper.html");
         let (path, file) = (chart.to_string_lossy(), page.to_string_lossy());
-        let made = run(&["page", &path, "--words", "random:1", "--ticks", "64", "-o", &file]);
-        assert_eq!(made.status, 0, "{}", made.said);
+        let stack = places.to_string();
+        let options = ["--places", &stack, "--words", "random:1", "--ticks", "64", "-o", &file];
+        let made = run(&[&["page", &path], &options[..]].concat());
         let plan = load(chart).and_then(Plan::read).expect("an accepted chart");
         let words = Words::given("random:1").expect("words").take(Some(64));
-        let trace = trace(&plan, 32, &words, &[]).expect("an accepted chart");
+        let trace = trace(&plan, places, &words, &[]).expect("an accepted chart");
+        assert_eq!(made.status, i32::from(trace.stopped.is_some()), "{}", made.said);
         Case { page, plan, trace }
+    }
+
+    /// The last row: the last tick, or the one that was refused.
+    fn last(&self) -> usize {
+        self.trace.ticks.len() + usize::from(self.trace.stopped.is_some()) - 1
     }
 
     /// The tick, the drawing and the rows of a paper.
     fn read(&self, pages: &[Page], tick: usize) {
-        let last = self.trace.ticks.len() - 1;
+        let last = self.last();
         let rows: Vec<[String; 9]> = pages.iter().flat_map(Page::rows).collect();
         for (number, traced) in self.trace.ticks.iter().enumerate() {
             let wanted = cells(&self.plan, number, traced).map(|cell| unspaced(&cell));
@@ -79,12 +99,13 @@ impl Case {
         assert_eq!(rows.len(), last + 1);
         let first_page = pages[0].text();
         assert!(first_page.contains(&format!("tick {tick} of {last}")), "tick {tick}: {}", first_page);
-        let first = pages.iter().position(|page| page.headings().is_some()).expect("headings");
         for at in 0..self.plan.nodes.len() {
             let name = self.plan.names.node(at);
-            let drawn =
-                pages[..=first].iter().any(|page| page.above_headings().any(|word| page.holds(word, &name)));
-            assert!(drawn || name == "begin" || name == "end", "tick {tick}: {name} is not drawn");
+            let drawn = pages[0].above_headings().any(|word| pages[0].holds(word, &name));
+            assert!(
+                drawn || name == "begin" || name == "end",
+                "tick {tick}: {name} is not drawn on the first page"
+            );
         }
     }
 }

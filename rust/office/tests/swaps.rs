@@ -18,8 +18,8 @@ fn rows(ran: &Ran) -> Vec<&str> {
 /// A scheme is swapped between two blocks, and in the middle of one, as the examples have it.
 #[test]
 fn a_swap_serves_later_calls() {
-    let words = "0,0,4,0,0,0,0,0,4,4,0,0,0,0,0,0,4,0,0";
-    for (name, swaps) in [("between", "6:2=3"), ("middle", "3:2=3,10:2=2")] {
+    let words = "0,0,4,0,0,0,0,0,0,4,4,0,0,0,0,0,0,0,4,0,0";
+    for (name, swaps) in [("between", "7:2=3"), ("middle", "3:2=3,11:2=2")] {
         let ran = traced("swapped.txt", &["--words", words, "--swap", swaps]);
         assert_eq!((ran.status, ran.said.as_str()), (0, ""));
         let expected = example(&format!("swapped.{name}.trace"));
@@ -31,7 +31,7 @@ fn a_swap_serves_later_calls() {
 #[test]
 fn schemes_are_swapped_by_their_names() {
     let rows_of = |swap: &str| {
-        let ran = traced("swapped.txt", &["--words", "0,0,4,0,0,0,0,0,0,0", "--swap", swap]);
+        let ran = traced("swapped.txt", &["--words", "0,0,4,0,0,0,0,0,0,0,0", "--swap", swap]);
         assert_eq!((ran.status, ran.said.as_str()), (0, ""));
         rows(&ran).into_iter().map(String::from).collect::<Vec<String>>()
     };

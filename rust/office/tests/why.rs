@@ -271,20 +271,20 @@ fn refusals_of_the_library_are_told() {
 /// The tick is that of the run with its swaps: the scheme that serves is told.
 #[test]
 fn a_tick_after_a_swap_is_that_of_the_scheme_that_serves() {
-    let words = "0,0,4,0,0,0,0,0,4,4,0,0,0,0";
-    let swapped = printed(&example("swapped.txt"), words, &["--swap", "3:2=3", "--tick", "9"]);
+    let words = "0,0,4,0,0,0,0,0,0,4,4,0,0,0,0";
+    let swapped = printed(&example("swapped.txt"), words, &["--swap", "3:2=3", "--tick", "10"]);
     assert!(
-        swapped.contains("it left node lift of finer (label 6) and went to node touch of finer (label 5)"),
+        swapped.contains("it left node lift of finer (label 7) and went to node touch of finer (label 6)"),
         "{swapped}"
     );
     let before = printed(&example("swapped.txt"), words, &["--swap", "3:2=3", "--tick", "3"]);
     assert!(before.contains("it left node cut of roughing"), "{before}");
     assert_eq!(
-        refused(&example("swapped.txt"), words, &["--swap", "3:2=3", "--tick", "7"], 21),
-        "tick 7, word 0x0000: a call takes no row; node block of blocks (label 2) called scheme 2 (roughing), served by scheme 3 \
-         (finer), which starts at node touch of finer (label 5)"
+        refused(&example("swapped.txt"), words, &["--swap", "3:2=3", "--tick", "8"], 21),
+        "tick 8, word 0x0000: a call takes no row; node block of blocks (label 2) called scheme 2 (roughing), served by scheme 3 \
+         (finer), which starts at node touch of finer (label 6)"
     );
-    let returned = printed(&example("swapped.image"), words, &["--swap", "3:2=3", "--tick", "12"]);
+    let returned = printed(&example("swapped.image"), words, &["--swap", "3:2=3", "--tick", "13"]);
     assert!(
         returned.contains("it returned from label 1 (End) of scheme 3 to label 2 of scheme 1"),
         "{returned}"

@@ -24,7 +24,7 @@ pub fn warnings(plan: &Plan) -> Vec<String> {
         [
             one_target(plan, at, voice),
             never_1(plan, at, voice),
-            uncalled(plan, at, voice),
+            unreached(plan, at, voice),
             off_between(plan, at, voice),
         ]
     });
@@ -54,13 +54,31 @@ fn never_1(plan: &Plan, at: usize, voice: Voice) -> Option<Problem> {
     (!plan.nodes.iter().any(writes)).then(|| voice.problem(at, ARGUMENT, &what()))
 }
 
-/// The Begin of a scheme that no other scheme calls, and that is not the handler.
-fn uncalled(plan: &Plan, at: usize, voice: Voice) -> Option<Problem> {
-    let Node::Begin { scheme, handler: false, .. } = plan.nodes[at] else { return None };
+/// The Begin of a scheme to which no calls lead from scheme 1, nor from the handler, which a full stack starts.
+fn unreached(plan: &Plan, at: usize, voice: Voice) -> Option<Problem> {
+    let Node::Begin { scheme, .. } = plan.nodes[at] else { return None };
     let calls = |node: &Node| called(node) == scheme && node.scheme() != scheme;
-    let what = || format!("no other scheme calls {}: only a swap opens it", voice.scheme(scheme));
-    let is_open = scheme == 1 || plan.nodes.iter().any(calls);
-    (!is_open).then(|| voice.problem(at, 1, &what()))
+    let what = || {
+        let scheme = voice.scheme(scheme);
+        match plan.nodes.iter().any(calls) {
+            true => format!("no calls lead from scheme 1 to {scheme}: it is open only after a swap"),
+            false => format!("no other scheme calls {scheme}: only a swap opens it"),
+        }
+    };
+    (!reached(plan).contains(&scheme)).then(|| voice.problem(at, 1, &what()))
+}
+
+/// The schemes to which calls lead from scheme 1 and from the handler, these two first.
+fn reached(plan: &Plan) -> Vec<u8> {
+    let mut reached = vec![1, plan.handler()];
+    let mut next = 0;
+    while let Some(scheme) = reached.get(next).copied() {
+        let own = plan.nodes.iter().filter(|node| node.scheme() == scheme).map(called);
+        let new: Vec<u8> = own.filter(|called| !reached.contains(called)).collect();
+        reached.extend(new);
+        next += 1;
+    }
+    reached
 }
 
 /// Outputs that are on in the box before a call or a function and again in the box after it. A call stands in a box with outputs of

@@ -72,6 +72,7 @@
     document.body.dataset.node = row.dataset.stack.split(" ").pop();
     find("slider").value = String(tick);
     find("at").value = String(tick);
+    find("sought").textContent = unsought;
     find("why").textContent = row.dataset.why || "\u2013";
     document.querySelectorAll("#graph rect").forEach((mark) => mark.setAttribute("x", String(tick)));
     const [depth, places] = [row.dataset.stack.split(" ").length, find("depth").dataset.places];
@@ -139,13 +140,19 @@
     row.append(name, line);
     find("graph").append(row);
   });
+  if (!named.length) find("graph").textContent = "no output is on in any tick";
 
+  // the next such tick, or the first one again, which is told
   function seek() {
     const here = events.map((some, tick) => (some.has(find("wanted").value) ? tick : -1)).filter((tick) => tick >= 0);
-    const tick = here.find((one) => one > shown) ?? here[0];
-    if (tick !== undefined) show(tick);
+    const next = here.find((tick) => tick > shown);
+    const again = here[0] === shown ? "nowhere else" : "none further on: this is the first";
+    show(next ?? here[0]);
+    find("sought").textContent = next === undefined ? again : "";
   }
   find("find").addEventListener("click", seek);
+  const unsought = find("wanted").length ? "" : "no tick calls or puts anything out";
+  find("wanted").disabled = find("find").disabled = unsought !== "";
   find("at").addEventListener("change", (event) => {
     show(Math.trunc(Number(event.target.value)) || 0);
     event.target.value = String(shown);
