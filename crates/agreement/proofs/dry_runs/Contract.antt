@@ -1,8 +1,8 @@
 -- What a caller learns of dry_run by its contract: the outcome, and that it is by the walk.
 -- `a` has the arguments, `r` the result, and `s` the arguments at exit, as in Contracts.
-use contract.Lifetimes.{Lfts}
 use denote.Triple.Clauses.{AtExit}
 use borrow.Fn.World.{ArgsD, ResD}
+use contract.Lifetimes.{Lfts}
 use Rattle.agreement.specs.Agreement.{RunInput}
 use Rattle.agreement.specs.dry_runs.DryRun.{dry_run, GivesDryRun, RunsByWalk}
 use Rattle.agreement.specs.contracts.dry_runs.dry_run as dry-run

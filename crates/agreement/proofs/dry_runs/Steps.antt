@@ -1,9 +1,5 @@
 -- A dry run by what its three calls gave: refused by the translator, refused by the fresh state, and run.
-use Prim.Native.Nat.{ℕ}
-use mathlib.Core.Path.{◌≡◌, refl, sym, ◌∙◌, ap}
-use mathlib.Core.List.{List}
-use lib.ListN.{take}
-use Rattle.std.proofs.Common.{Ok, Err}
+use Rattle.std.proofs.Common.{ℕ, ◌≡◌, refl, sym, ◌∙◌, ap, List, take, Ok, Err}
 use Rattle.text.specs.frames.Answer.{Answer, reply, success, GivesBuffer}
 use Rattle.text.specs.declared.frames.refusals.Refusal.{Refusal}
 use Rattle.translator.specs.Entry.{translate}
