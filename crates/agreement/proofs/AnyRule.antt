@@ -1,34 +1,26 @@
 -- Whatever rule chooses among the rows that match: on the image of a chart the machine makes the same ticks by it.
-use mathlib.Core.Path.{◌≡◌, refl, sym, ◌∙◌, ap, ap₂, subst}
-use mathlib.Core.Bool.{Bool, true, false}
-use mathlib.Core.List.{List}
-use Prim.Native.Nat.{ℕ, zero, suc, ◌+◌, ◌-◌, ◌≤◌, ◌<◌}
-use native.Mathlib.Omega.{arith}
-use lib.Dec.{leb}
-use lib.ListN.{length, get_or}
-use borrow.Author.Tests.{leb-false}
+use Rattle.std.proofs.Common.{◌≡◌, refl, sym, ◌∙◌, ap, ap₂, subst, true, false, List, ℕ, ◌+◌, ◌-◌, ◌≤◌, ◌<◌, arith, length, get_or}
+use Rattle.std.proofs.lemmas.Grind.{common_steps}
 use Rattle.words.proofs.lists.Tests.{no_both}
-use Rattle.results.specs.Results.{Results, result_of, with_result}
+use Rattle.results.specs.Results.{Results}
 use Rattle.text.specs.frames.Answer.{success}
 use Rattle.text.specs.frames.Frame.{contents}
-use Rattle.image.specs.Image.{Image, Label, Row, no_row}
+use Rattle.image.specs.Image.{Image, Row, no_row}
 use Rattle.image.specs.inner.Sound.{SoundImage}
-use Rattle.image.specs.Layout.{tick_kind}
 use Rattle.walk.proofs.FactsHold.{facts}
 use Rattle.translator.specs.Entry.{translate}
 use Rattle.translator.proofs.SoundTable.{table-sound}
 use Rattle.translator.proofs.Translated.{translated-fine, translated-few}
-use Rattle.rows.specs.Rows.{is_candidate, Choice, row, no_choice, best_row, lead_of}
+use Rattle.rows.specs.Rows.{is_candidate, Choice, row, no_choice, best_row}
 use Rattle.rows.specs.Choices.{Best}
 use Rattle.rows.proofs.BestRows.{best-is}
 use Rattle.state.specs.declared.State.{State}
 use Rattle.state.specs.State.{label_at, place_at, number_at, server_at, Sized}
-use Rattle.state.specs.Changes.{with_bits}
 use Rattle.fitness.specs.Fitness.{is_call, is_unfit}
 use Rattle.fitness.proofs.Fitness.{Fits, unfits}
-use Rattle.ticks.specs.Tick.{called_bit, choice, moved_tick, popped_state, popped_tick, tick_by, tick, top_of}
-use Rattle.ticks.proofs.Leads.{Sort, home_sort, return_sort, numbered_sort, sort, call-kind, carry-told}
-use Rattle.agreement.specs.OneRow.{Only, Rule, Matching, TakesMatching, tick_by_rule, popped_tick_by, tick_with, AnyRuleTicks}
+use Rattle.ticks.specs.Tick.{called_bit, choice, tick, top_of}
+use Rattle.ticks.proofs.Leads.{home_sort, return_sort, numbered_sort, sort, call-kind, carry-told}
+use Rattle.agreement.specs.OneRow.{Only, Rule, Matching, TakesMatching, tick_with, AnyRuleTicks}
 use Rattle.agreement.proofs.OnlyRow.{image, read, image-is, only-translated}
 
 only-taken : (l w b : ℕ) (rs : List Row) → Only l w b rs → (x : Choice) → Matching l w b rs x → x ≡ best_row l w b 0 rs
@@ -52,25 +44,7 @@ module _ (f : Rule) (i : Image) (s : State) (w : ℕ) where
   same-tick : ((label_at i (top_of s)).kind ≡ 0 → Same (top_of s)) → (1 < s.depth → Same (place_at s (s.depth - 2)))
       → tick_with f i s w ≡ tick i s w
   unfolding tick
-  same-tick top beneath = go x.kind refl
-    where
-      x : Label
-      x = label_at i (top_of s)
-
-      b : Results
-      b = with_result x.result (number_at s (s.depth - 1)) s.bits
-
-      back : (t : Bool) → leb s.depth 1 ≡ t → popped_tick_by f i s w x.mask b t ≡ popped_tick i s w x.mask b t
-      back true e = refl
-      back false e =
-          ap (λ (c : Choice). moved_tick x.mask 3 (popped_state s b) (s.depth - 2) (lead_of c)) (beneath (leb-false s.depth 1 e) b)
-
-      go : (k : ℕ) → x.kind ≡ k → tick_by_rule f i s w (top_of s) x b (tick_kind k) ≡ tick_by i s w (top_of s) x b (tick_kind k)
-      go zero e = ap (λ (c : Choice). moved_tick x.mask 0 (with_bits s b) (s.depth - 1) (lead_of c)) (top e b)
-      go (suc zero) e = refl
-      go (suc (suc zero)) e = refl
-      go (suc (suc (suc zero))) e = back (leb s.depth 1) refl
-      go (suc (suc (suc (suc n)))) e = refl
+  same-tick top beneath = grind (arith, common_steps)
 
 -- by the machine's own rule it is the machine's tick, on any image
 pub own-rule : (i : Image) (s : State) (w : ℕ) → tick_with (λ l w b rs. best_row l w b 0 rs) i s w ≡ tick i s w
@@ -82,9 +56,7 @@ module _ (text out : List ℕ) (n : ℕ) (done : (translate text out).reply ≡ 
   i = image text out n done
 
   pub any-rule : (l : ℕ) → 2 ≤ l → l < length i.labels → (w : ℕ) (b : Results) → f l w (called_bit i b l) i.rows ≡ choice i b l w
-  any-rule l low high w b =
-      only-taken l w (called_bit i b l) i.rows (only-translated text out n done l low high w (result_of (label_at i l).called b))
-      (f l w (called_bit i b l) i.rows) (takes l w (called_bit i b l) i.rows)
+  any-rule l low high w b = grind (arith, common_steps, only-translated, only-taken)
 
   sound : SoundImage i
   sound = subst SoundImage (sym (image-is text out n done))
@@ -92,12 +64,7 @@ module _ (text out : List ℕ) (n : ℕ) (done : (translate text out).reply ≡ 
 
   -- a label with rows is 2 or above
   numbered : (l : ℕ) → l < length i.labels → (label_at i l).kind ≤ 2 → 2 ≤ l
-  numbered l h k = go (sort i sound l h)
-    where
-      go : Sort i sound l → 2 ≤ l
-      go (home_sort z q o) = absurd (omega arith)
-      go (return_sort z q o) = absurd (omega arith)
-      go (numbered_sort z q) = z
+  numbered l h k = grind (arith, common_steps, home_sort, numbered_sort, sort, return_sort, sound)
 
   -- every tick, of every state that fits
   pub any-tick : (s : State) → Sized s → is_unfit i s ≡ false → (w : ℕ) → tick_with f i s w ≡ tick i s w

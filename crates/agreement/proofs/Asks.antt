@@ -1,6 +1,6 @@
 -- No entry point asks anything of its caller: what the checker has a caller show before a call is nothing, whatever the arguments.
-use contract.Lifetimes.{Lfts}
 use borrow.Fn.World.{ArgsD}
+use contract.Lifetimes.{Lfts}
 use Rattle.chart_text.specs.contracts.read_chart as read-chart
 use Rattle.chart_text.proofs.read_chart.Reads as read-chart-reads
 use Rattle.chart_text.specs.contracts.write_chart as write-chart

@@ -1,10 +1,6 @@
 -- The bound of a trace (the ticks before the first call at a full stack), and the position where the machine comes to stand.
-use Prim.Native.Nat.{ℕ, suc, ◌+◌, ◌≤◌, ◌<◌}
-use mathlib.Core.Bool.{Bool, true, false}
-use mathlib.Core.Path.{◌≡◌, refl, ap, ◌∙◌, sym}
-use mathlib.Core.List.{List, [], ◌∷◌, ◌++◌}
-use lib.ListN.{length}
-use native.Mathlib.Omega.{arith}
+use Rattle.std.proofs.Common.{ℕ, suc, ◌+◌, ◌≤◌, ◌<◌, Bool, true, false, ◌≡◌, refl, ap, ◌∙◌, sym, List, [], ◌∷◌, ◌++◌, length, arith}
+use Rattle.std.proofs.lemmas.Grind.{common_steps}
 use Rattle.charts.specs.Chart.{Chart}
 use Rattle.walk.specs.Walk.{Signal, Tick}
 use Rattle.walk.proofs.Trace.{WalkPosition, tick_at, move, trace, position_reached}
@@ -21,12 +17,8 @@ module _ (n : ℕ) (t : Tick) (ts : List Tick) where
 
 pub bound-le : (n : ℕ) (ts : List Tick) → bound n ts ≤ length ts
 unfolding bound
-bound-le n [] = omega arith
-bound-le n (t ∷ ts) = go (bound-le n ts) (is_full_call n t) refl
-  where
-    go : bound n ts ≤ length ts → (r : Bool) → is_full_call n t ≡ r → bound n (t ∷ ts) ≤ suc (length ts)
-    go ih true e = omega (arith, bound-stop n t ts e)
-    go ih false e = omega (arith, bound-go n t ts e)
+bound-le n [] = grind (arith, common_steps)
+bound-le n (t ∷ ts) = grind (arith, common_steps, bound-le n ts, bound-stop, bound-go)
 
 -- of joined ticks: the bound of the first ones, or all of them and that of the rest
 pub bound-full : (n : ℕ) (ts us : List Tick) → bound n ts ≡ length ts → bound n (ts ++ us) ≡ length ts + bound n us

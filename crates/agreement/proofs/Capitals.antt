@@ -1,14 +1,13 @@
 -- Small letters are read as capitals at every entry point, each by the one law of the reader.
-use Prim.Native.Nat.{ℕ}
-use mathlib.Core.Path.{◌≡◌, ap₂}
-use mathlib.Core.List.{List, map}
+use Rattle.std.proofs.Common.{ℕ, ◌≡◌, List, map, arith}
+use Rattle.std.proofs.lemmas.Grind.{common_steps}
 use Rattle.text.specs.digits.Digit.{capital}
-use Rattle.text.specs.frames.Verdict.{Verdict}
 use Rattle.text.proofs.frames.Capitals.{capitals-alike}
 use Rattle.image.specs.Check.{image_verdict}
 use Rattle.state.specs.declared.State.{State}
-use Rattle.runs.specs.TickOutcome.{TickOutcome, image_tick}
-use Rattle.spindles.specs.Spindles.{state_at, head_verdict, outcome_spun_on, spin}
+use Rattle.runs.specs.TickOutcome.{image_tick}
+use Rattle.spindles.specs.Spindles.{spin}
+use Rattle.agreement.specs.Capitals.{AsInCapitals}
 use Rattle.charts.proofs.Alike as chart
 use Rattle.image.proofs.Alike as image
 use Rattle.tables.proofs.Alike as table
@@ -21,15 +20,12 @@ use Rattle.prices.proofs.priced_runs.Alike as pricing
 use Rattle.rebinding.proofs.Alike as rebinding
 use Rattle.runs.proofs.Alike as running
 use Rattle.fillings.proofs.Alike as filling
-use Rattle.agreement.specs.Capitals.{AsInCapitals}
 
 -- a call of a spindle by what the image check tries and the tick
 spins-alike : (t u : List ℕ) → image_verdict t ≡ image_verdict u → ((s : State) (w : ℕ) → image_tick t s w ≡ image_tick u s w)
     → (states : List State) (taken k w : ℕ) → spin t states taken k w ≡ spin u states taken k w
 unfolding spin
-spins-alike t u e f states taken k w =
-    ap₂ (λ (v : Verdict) (x : TickOutcome). outcome_spun_on (head_verdict v states taken k) states taken k (λ _. x)) e
-    (f (state_at states k) w)
+spins-alike t u e f states taken k w = grind (arith, common_steps)
 
 pub as-in-capitals : (t : List ℕ) → AsInCapitals t
 as-in-capitals t = record {

@@ -1,9 +1,5 @@
 -- On the image of a chart the care mask of the row taken is enough by itself: every word that agrees on it takes the same row.
-use mathlib.Core.Path.{◌≡◌, sym, ◌∙◌, ap, ap₂, subst}
-use mathlib.Core.Bool.{true, ◌&&◌, ◌||◌}
-use Prim.Native.Nat.{ℕ}
-use lib.Bits.{bit_and}
-use lib.Dec.{eqb}
+use Rattle.std.proofs.Common.{◌≡◌, sym, ◌∙◌, ap, ap₂, subst, true, ◌&&◌, ◌||◌, ℕ, bit_and, eqb}
 use Rattle.results.specs.Results.{result_of}
 use Rattle.image.specs.Image.{Image, Row, nth_row}
 use Rattle.rows.specs.Rows.{is_candidate, row}
@@ -13,9 +9,9 @@ use Rattle.state.specs.State.{label_at}
 use Rattle.ticks.specs.Tick.{called_bit}
 use Rattle.cause.proofs.Leaves.{Goes}
 use Rattle.cause.proofs.Explained.{TakenApart, given, taken_is, goes}
-use Rattle.cause.proofs.Explained as explained
 use Rattle.agreement.specs.OneRow.{Only, CareDecides}
 use Rattle.agreement.proofs.OnlyRow.{image, only-translated}
+use Rattle.cause.proofs.Explained as explained
 
 pub care-decides : CareDecides
 unfolding CareDecides

@@ -1,12 +1,10 @@
 -- What a caller learns by the contract of cause_of, and of fairleadow_cause from C:
 -- with success the row, the mask and the bit that are reported explain the tick, so that the laws of a cause hold of them.
 -- `a` has the arguments, `r` the result, and `s` the arguments at exit, as in Contracts.
-use contract.Lifetimes.{Lfts}
+use Rattle.std.proofs.Common.{ℕ, ◌≡◌, sym, ◌∙◌, subst, List}
 use denote.Triple.Clauses.{AtExit}
 use borrow.Fn.World.{ArgsD, ResD}
-use Prim.Native.Nat.{ℕ}
-use mathlib.Core.Path.{◌≡◌, sym, ◌∙◌, subst}
-use mathlib.Core.List.{List}
+use contract.Lifetimes.{Lfts}
 use Rattle.text.specs.frames.Answer.{success, reply_count}
 use Rattle.state.specs.declared.State.{State}
 use Rattle.state.specs.State.{Sized}
@@ -15,13 +13,13 @@ use Rattle.state.proofs.ResultBytes.{held-sized}
 use Rattle.cause.specs.Cause.{explain, cause_reply, cause_row, cause_mask, cause_bit}
 use Rattle.cause.specs.Laws.{Explains}
 use Rattle.cause.proofs.Answers.{answered}
-use Rattle.cause.specs.contracts.explaining.cause_of as cause-of
-use Rattle.cause.proofs.explaining.cause_of.Reads as cause-of-reads
 use Rattle.fairleadow.specs.causes_for_c.Calls.{GivesCauseC, cause_for}
-use Rattle.fairleadow.specs.contracts.causes_for_c.fairleadow_cause as c-cause
-use Rattle.fairleadow.proofs.causes_for_c.fairleadow_cause.Reads as c-cause-reads
 use Rattle.agreement.specs.Told.{cause_report, CauseTold, CauseToldC}
 use Rattle.agreement.proofs.Numbers.{cause-success}
+use Rattle.cause.specs.contracts.explaining.cause_of as cause-of
+use Rattle.cause.proofs.explaining.cause_of.Reads as cause-of-reads
+use Rattle.fairleadow.specs.contracts.causes_for_c.fairleadow_cause as c-cause
+use Rattle.fairleadow.proofs.causes_for_c.fairleadow_cause.Reads as c-cause-reads
 
 -- ---- by the records of the two calls
 explained : (t : List ℕ) (s : State) (w n : ℕ) → Sized s → (explain t s w).reply ≡ success n → (k m b : ℕ)

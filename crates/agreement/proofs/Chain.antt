@@ -1,19 +1,14 @@
 -- A list of runs and rebindings on the image of a chart hands back what the walk of the joined words gives.
-use Rattle.std.proofs.Common.{if◌then◌else◌, cond}
-use Prim.Native.Nat.{ℕ, ◌≤◌}
-use mathlib.Core.Bool.{Bool, true, false}
-use mathlib.Core.Path.{◌≡◌, refl, ap, ap₂, ◌∙◌, sym, subst}
-use mathlib.Core.List.{List, [], ◌∷◌, map}
-use lib.Dec.{ltb}
-use lib.ListN.{length, take, replicate}
-use native.Mathlib.Omega.{arith}
+use Rattle.std.proofs.Common.{if◌then◌else◌, ℕ, ◌≤◌, Bool, true, false, ◌≡◌, refl, ap, ap₂, ◌∙◌, sym, subst, List, [], ◌∷◌, map, ltb}
+use Rattle.std.proofs.Common.{length, take, arith}
+use Rattle.std.proofs.lemmas.Grind.{common_steps}
 use Rattle.words.specs.lists.Sequences.{over}
 use Rattle.results.specs.Results.{no_results}
 use Rattle.bindings.specs.Binding.{Binding, own_binding, rebound_binding, is_bad_rebinding}
 use Rattle.text.specs.frames.Frame.{contents}
-use Rattle.text.specs.frames.Verdict.{fine, refused, next, when}
+use Rattle.text.specs.frames.Verdict.{fine, refused, when}
 use Rattle.text.specs.frames.Answer.{Reply, success, refusal, counted_reply}
-use Rattle.charts.specs.Chart.{Chart, handler, end}
+use Rattle.charts.specs.Chart.{Chart, handler}
 use Rattle.walk.specs.Walk.{Signal, signals, Tick, walk}
 use Rattle.walk.proofs.Facts.{Facts}
 use Rattle.walk.proofs.Trace.{WalkPosition, trace, position_at_home, Serves, home-good}
@@ -26,17 +21,15 @@ use Rattle.image.proofs.Accepted.{image-sound}
 use Rattle.translator.specs.Table.{table}
 use Rattle.translator.proofs.LabelLaws.{length-entries}
 use Rattle.state.specs.declared.State.{State}
-use Rattle.state.specs.State.{bottom_alone, fresh, no_state, StateOutcome, fresh_state}
-use Rattle.runs.specs.Run.{MachineRun, ticks, RunOutcome, has_no_room, run_on, run}
+use Rattle.state.specs.State.{fresh, fresh_state}
+use Rattle.runs.specs.Run.{MachineRun, ticks, has_no_room, run_on, run}
 use Rattle.rebinding.specs.Rebind.{rebind_on, rebind}
-use Rattle.state.proofs.Sizes.{size-good}
 use Rattle.fitness.proofs.Fitness.{Fits, fits, fits-serves}
 use Rattle.ticks.proofs.Keeps.{fresh-fits}
 use Rattle.runs.proofs.Keeps.{ticks-keep}
 use Rattle.rebinding.proofs.Keeps.{rebinding-fits}
-use Rattle.agreement.specs.Agreement.{RunInput, output_of, CallInput, to_run, to_rebind, CallOutput, by_run, by_rebinding}
-use Rattle.agreement.specs.Agreement.{call_outputs, is_short, is_barred_rebinding, joined_words, bound}
-use Rattle.agreement.specs.Agreement.{output_refused_short, expected_outputs}
+use Rattle.agreement.specs.Agreement.{RunInput, output_of, CallInput, to_run, to_rebind, CallOutput, by_run, by_rebinding, call_outputs}
+use Rattle.agreement.specs.Agreement.{is_short, is_barred_rebinding, joined_words, bound, output_refused_short, expected_outputs}
 use Rattle.agreement.proofs.TableFacts.{TableFacts}
 use Rattle.agreement.proofs.StopLabels.{label-home}
 use Rattle.agreement.proofs.Places.{below, holding, state_of_position}
@@ -50,41 +43,30 @@ use Rattle.agreement.proofs.Expected.{all_short}
 module _ (text : List ℕ) (i : Image) (passes : image_verdict text ≡ fine) (decodes : decoded_image (contents text) ≡ i) where
   pub run_is : (s : State) (ws ms ks : List ℕ) → Fits i s
       → run text s ws ms ks ≡ run_on (when 16 (has_no_room ws ms ks)) (λ _. ticks i s ws) s ms ks
-  run_is s ws ms ks f =
-      run-image text i passes decodes s ws ms ks
-      ∙ ap (λ (t : Bool). run_on (next (when 15 t) λ _. when 16 (has_no_room ws ms ks)) (λ _. ticks i s ws) s ms ks) (fits i s f)
+  run_is s ws ms ks f = grind (arith, common_steps, fits, run-image)
 
   chain-short : (s : State) (a : RunInput) (rest : List CallInput) → Fits i s → is_short a ≡ true
       → call_outputs run rebind text s (to_run a ∷ rest) ≡ by_run (output_refused_short a) ∷ call_outputs run rebind text s rest
   unfolding call_outputs
-  chain-short s a rest f e = ap (λ (r : RunOutcome). by_run (output_of r) ∷ call_outputs run rebind text r.state rest)
-      (run_is s a.words a.masks a.codes f
-      ∙ ap (λ (t : Bool). run_on (when 16 t) (λ _. ticks i s a.words) s a.masks a.codes) e)
+  chain-short s a rest f e = grind (arith, common_steps, run_is)
 
   chain-long : (s : State) (a : RunInput) (rest : List CallInput) → Fits i s → is_short a ≡ false → {r : MachineRun} → ticks i s a.words ≡ r
       → call_outputs run rebind text s (to_run a ∷ rest) ≡ by_run (output_of (run_on fine (λ _. r) s a.masks a.codes)) ∷ call_outputs
       run rebind text r.state rest
   unfolding call_outputs
-  chain-long s a rest f e q =
-      ap (λ (r : RunOutcome). by_run (output_of r) ∷ call_outputs run rebind text r.state rest)
-      (run_is s a.words a.masks a.codes f
-      ∙ ap (λ (t : Bool). run_on (when 16 t) (λ _. ticks i s a.words) s a.masks a.codes) e)
-      ∙ ap (λ (r : MachineRun). by_run (output_of (run_on fine (λ _. r) s a.masks a.codes)) ∷ call_outputs
-      run rebind text r.state rest) q
+  chain-long s a rest f e q = grind (arith, common_steps, run_is)
 
   -- ---- one rebinding, which 22 refuses where t is true
   pub rebind-is : (s : State) (h k : ℕ) → Fits i s → {t : Bool} → is_bad_rebinding (length i.entries) i.handler h k ≡ t
       → rebind text s h k ≡ rebind_on (when 22 t) s h k
-  rebind-is s h k f e =
-      rebind-image text i passes decodes s h k ∙ ap₂ (λ (t u : Bool). rebind_on (next (when 15 t) λ _. when 22 u) s h k) (fits i s f) e
+  rebind-is s h k f e = grind (arith, common_steps, rebind-image, fits)
 
   chain-rebinds : (s : State) (h k : ℕ) (rest : List CallInput) → Fits i s → {t : Bool}
       → is_bad_rebinding (length i.entries) i.handler h k ≡ t
       → call_outputs run rebind text s (to_rebind h k ∷ rest)
       ≡ (let r = rebind_on (when 22 t) s h k in by_rebinding r.reply ∷ call_outputs run rebind text r.state rest)
   unfolding call_outputs
-  chain-rebinds s h k rest f e =
-      ap (λ (r : StateOutcome). by_rebinding r.reply ∷ call_outputs run rebind text r.state rest) (rebind-is s h k f e)
+  chain-rebinds s h k rest f e = grind (arith, common_steps, rebind-is)
 
 replied-by : (t : Bool) (k : ℕ) → counted_reply (if t then refused 17 0 else fine) k ≡ (if t then refusal 17 0 k else success k)
 replied-by true k = refl
@@ -93,16 +75,11 @@ replied-by false k = refl
 -- the fresh state is that of the position where the walk begins
 pub fresh-is : (n : ℕ) → 1 ≤ n → n ≤ 32 → (fresh_state n).state ≡ fresh n
 unfolding fresh_state
-fresh-is n l h =
-    ap (λ (t : Bool). (cond {A = StateOutcome} t (record { reply = refusal 14 0 0; state = no_state })
-    (record { reply = success 0; state = fresh n })).state)
-    (size-good n l h)
+fresh-is n l h = grind (arith, common_steps)
 
 pub home-is : (c : Chart) → Facts c → (n : ℕ) → fresh n ≡ state_of_position c n own_binding (position_at_home c no_results)
 unfolding below
-home-is c facts n = let e = facts.ends 1 (omega arith) facts.first in
-    ap (λ (k : ℕ). holding n 1 own_binding no_results (k ∷ replicate 31 0) (bottom_alone 1) (bottom_alone 1))
-    (sym (label-home c (end c 1) e.1 e.2))
+home-is c facts n = grind (arith, common_steps, label-home, holding)
 
 module _ (c : Chart) (facts : Facts c) (table_facts : TableFacts c) (text : List ℕ) (passes : image_verdict text ≡ fine)
     (decodes : decoded_image (contents text) ≡ table c) (n : ℕ) (n≤ : n ≤ 32) where
@@ -111,9 +88,7 @@ module _ (c : Chart) (facts : Facts c) (table_facts : TableFacts c) (text : List
 
   -- the table has the chart's schemes and its handler
   pub serves : (s : Binding) (x : WalkPosition) → Fits (table c) (state_of_position c n s x) → Serves c s
-  serves s x f h low high = let l =
-      fits-serves (table c) sound.most (state_of_position c n s x) f h low (omega (arith, length-entries c)) in
-      (l.0, omega (arith, l.1, length-entries c))
+  serves s x f h low high = grind (arith, common_steps, length-entries, state_of_position, fits-serves, sound)
 
   pub same-bar : (h k : ℕ) → is_bad_rebinding (length (table c).entries) (table c).handler h k ≡ is_barred_rebinding c h k
   unfolding table

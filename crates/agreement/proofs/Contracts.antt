@@ -1,28 +1,50 @@
 -- The calls that Calls and ForC speak of are those of the functions:
 -- what a caller learns of a call by the function's contract is the very record.
 -- `a` has the arguments, `r` the result, and `s` the arguments at exit, each in the order of the function's parameters.
-use contract.Lifetimes.{Lfts}
+use Rattle.std.proofs.Common.{◌≡◌}
 use denote.Triple.Clauses.{AtExit}
 use borrow.Fn.World.{ArgsD, ResD}
-use mathlib.Core.Path.{◌≡◌}
+use contract.Lifetimes.{Lfts}
 use Rattle.text.specs.frames.Answer.{reply, verdict_reply, GivesBuffer}
 use Rattle.translator.specs.Entry.{translate}
 use Rattle.places.specs.Entry.{places_needed}
-use Rattle.translator.specs.contracts.translating.translate as translating-translate
-use Rattle.translator.proofs.translating.translate.Reads as translating-translate-reads
 use Rattle.tables.specs.Prepare.{prepare}
-use Rattle.tables.specs.contracts.preparing.prepare as tables-prepare
-use Rattle.tables.proofs.preparing.prepare.Reads as tables-prepare-reads
 use Rattle.minimising.specs.Entry.{minimise}
-use Rattle.minimising.specs.contracts.minimise as minimising-minimise
-use Rattle.minimising.proofs.minimise.Reads as minimising-minimise-reads
 use Rattle.little_charts.specs.Little.{little_chart}
-use Rattle.little_fetch.specs.contracts.fetching.little_chart as fetching-little-chart
-use Rattle.little_fetch.proofs.fetching.little_chart.Reads as fetching-little-chart-reads
 use Rattle.state.specs.State.{fresh_state, GivesState}
 use Rattle.runs.specs.Run.{run, GivesRun}
 use Rattle.runs.specs.TickOutcome.{image_tick, GivesTick}
 use Rattle.runs.specs.machine.Live.{live_run, live_tick}
+use Rattle.prices.specs.priced_runs.PricedRun.{priced_run, GivesPricedRun}
+use Rattle.rebinding.specs.Rebind.{rebind, live_rebind}
+use Rattle.fillings.specs.Counts.{count_fillings}
+use Rattle.fillings.specs.counting.CountingContracts.{GivesFillings}
+use Rattle.state.specs.Bytes.{state_of}
+use Rattle.fairleadow.specs.telling.AnswersForC.{GivesReplyC, GivesBufferC}
+use Rattle.fairleadow.specs.runs_for_c.Calls.{GivesStateC, run_for, GivesRunC, tick_for, GivesTickC}
+use Rattle.fairleadow.specs.prices_for_c.Calls.{priced_run_for, GivesPricedRunC}
+use Rattle.fairleadow.specs.rebinding_for_c.Calls.{rebind_for, GivesRebindingC}
+use Rattle.fairleadow.specs.spindles_for_c.Calls.{spin_for, live_spin_for, GivesSpinC}
+use Rattle.fairleadow.specs.fillings_for_c.Calls.{GivesFillingsC}
+use Rattle.charts.specs.Entry.{read_chart, write_chart}
+use Rattle.image.specs.Check.{image_verdict}
+use Rattle.rows.specs.listing.Listing.{list, GivesListing}
+use Rattle.cause.specs.Cause.{explain, GivesCause}
+use Rattle.ticks.specs.codes.Codes.{meaning_of}
+use Rattle.spindles.specs.Spindles.{spin, live_spin, GivesSpin}
+use Rattle.spindles.specs.spindle_parts.FourStates.{states_of}
+use Rattle.spindles.specs.spindle_bytes.Bytes.{GivesSpinOn}
+use Rattle.fairleadow.specs.images_for_c.Calls.{GivesListingC}
+use Rattle.fairleadow.specs.causes_for_c.Calls.{cause_for, GivesCauseC}
+use Rattle.fairleadow.specs.causes_for_c.Meant.{Meant}
+use Rattle.translator.specs.contracts.translating.translate as translating-translate
+use Rattle.translator.proofs.translating.translate.Reads as translating-translate-reads
+use Rattle.tables.specs.contracts.preparing.prepare as tables-prepare
+use Rattle.tables.proofs.preparing.prepare.Reads as tables-prepare-reads
+use Rattle.minimising.specs.contracts.minimise as minimising-minimise
+use Rattle.minimising.proofs.minimise.Reads as minimising-minimise-reads
+use Rattle.little_fetch.specs.contracts.fetching.little_chart as fetching-little-chart
+use Rattle.little_fetch.proofs.fetching.little_chart.Reads as fetching-little-chart-reads
 use Rattle.state.specs.contracts.State.fresh as state-fresh
 use Rattle.state.proofs.State.fresh.Reads as state-fresh-reads
 use Rattle.runs.specs.contracts.state_runs.run as machine-run
@@ -33,28 +55,14 @@ use Rattle.runs.specs.contracts.state_runs.live_run as machine-live-run
 use Rattle.runs.proofs.state_runs.live_run.Reads as machine-live-run-reads
 use Rattle.runs.specs.contracts.state_runs.live_tick as machine-live-tick
 use Rattle.runs.proofs.state_runs.live_tick.Reads as machine-live-tick-reads
-use Rattle.prices.specs.priced_runs.PricedRun.{priced_run, GivesPricedRun}
 use Rattle.prices.specs.contracts.priced_states.priced_run as priced-run
 use Rattle.prices.proofs.priced_states.priced_run.Reads as priced-run-reads
-use Rattle.rebinding.specs.Rebind.{rebind, live_rebind}
 use Rattle.rebinding.specs.contracts.rebind as rebinding-rebind
 use Rattle.rebinding.proofs.rebind.Reads as rebinding-rebind-reads
 use Rattle.rebinding.specs.contracts.live_rebind as rebinding-live-rebind
 use Rattle.rebinding.proofs.live_rebind.Reads as rebinding-live-rebind-reads
-use Rattle.fillings.specs.Counts.{count_fillings}
-use Rattle.fillings.specs.counting.CountingContracts.{GivesFillings}
 use Rattle.fillings.specs.contracts.counting.count_fillings as counting-count-fillings
 use Rattle.fillings.proofs.counting.count_fillings.Reads as counting-count-fillings-reads
-use Rattle.state.specs.Bytes.{state_of}
-use Rattle.fairleadow.specs.telling.AnswersForC.{GivesReplyC}
-use Rattle.fairleadow.specs.telling.AnswersForC.{GivesBufferC}
-use Rattle.fairleadow.specs.runs_for_c.Calls.{GivesStateC, run_for, GivesRunC}
-use Rattle.fairleadow.specs.prices_for_c.Calls.{priced_run_for}
-use Rattle.fairleadow.specs.prices_for_c.Calls.{GivesPricedRunC}
-use Rattle.fairleadow.specs.runs_for_c.Calls.{tick_for, GivesTickC}
-use Rattle.fairleadow.specs.rebinding_for_c.Calls.{rebind_for, GivesRebindingC}
-use Rattle.fairleadow.specs.spindles_for_c.Calls.{spin_for, live_spin_for, GivesSpinC}
-use Rattle.fairleadow.specs.fillings_for_c.Calls.{GivesFillingsC}
 use Rattle.fairleadow.specs.contracts.translating_for_c.fairleadow_translate as c-translate
 use Rattle.fairleadow.proofs.translating_for_c.fairleadow_translate.Reads as c-translate-reads
 use Rattle.places.specs.contracts.places_needed as places-needed
@@ -89,28 +97,20 @@ use Rattle.fairleadow.specs.contracts.spindles_for_c.fairleadow_live_spin as c-l
 use Rattle.fairleadow.proofs.spindles_for_c.fairleadow_live_spin.Reads as c-live-spin-reads
 use Rattle.fairleadow.specs.contracts.fillings_for_c.fairleadow_count_fillings as c-count-fillings
 use Rattle.fairleadow.proofs.fillings_for_c.fairleadow_count_fillings.Reads as c-count-fillings-reads
-use Rattle.charts.specs.Entry.{read_chart, write_chart}
 use Rattle.chart_text.specs.contracts.read_chart as text-read-chart
 use Rattle.chart_text.proofs.read_chart.Reads as text-read-chart-reads
 use Rattle.chart_text.specs.contracts.write_chart as text-write-chart
 use Rattle.chart_text.proofs.write_chart.Reads as text-write-chart-reads
-use Rattle.image.specs.Check.{image_verdict}
 use Rattle.image_check.specs.contracts.check_image as check-image
 use Rattle.image_check.proofs.check_image.Reads as check-image-reads
-use Rattle.rows.specs.listing.Listing.{list, GivesListing}
 use Rattle.rows.specs.contracts.image_rows.list_rows as list-rows
 use Rattle.rows.proofs.image_rows.list_rows.Reads as list-rows-reads
-use Rattle.cause.specs.Cause.{explain, GivesCause}
 use Rattle.cause.specs.contracts.explaining.cause_of as cause-of
 use Rattle.cause.proofs.explaining.cause_of.Reads as cause-of-reads
-use Rattle.ticks.specs.codes.Codes.{meaning_of}
 use Rattle.ticks.specs.contracts.codes.meaning_of as meaning-of
 use Rattle.ticks.proofs.codes.meaning_of.Reads as meaning-of-reads
 use Rattle.runs.specs.contracts.kept_states.tick as kept-tick
 use Rattle.runs.proofs.kept_states.tick.Reads as kept-tick-reads
-use Rattle.spindles.specs.Spindles.{spin, live_spin, GivesSpin}
-use Rattle.spindles.specs.spindle_parts.FourStates.{states_of}
-use Rattle.spindles.specs.spindle_bytes.Bytes.{GivesSpinOn}
 use Rattle.spindles.specs.contracts.spindle_list.spin as list-spin
 use Rattle.spindles.proofs.spindle_list.spin.Reads as list-spin-reads
 use Rattle.spindles.specs.contracts.spindle_list.live_spin as list-live-spin
@@ -119,9 +119,6 @@ use Rattle.spindles.specs.contracts.spindle_bytes.spin_bytes as spin-bytes
 use Rattle.spindles.proofs.spindle_bytes.spin_bytes.Reads as spin-bytes-reads
 use Rattle.spindles.specs.contracts.live_spindle_bytes.live_spin_bytes as live-spin-bytes
 use Rattle.spindles.proofs.live_spindle_bytes.live_spin_bytes.Reads as live-spin-bytes-reads
-use Rattle.fairleadow.specs.images_for_c.Calls.{GivesListingC}
-use Rattle.fairleadow.specs.causes_for_c.Calls.{cause_for, GivesCauseC}
-use Rattle.fairleadow.specs.causes_for_c.Meant.{Meant}
 use Rattle.fairleadow.specs.contracts.charts_for_c.fairleadow_read_chart as c-read-chart
 use Rattle.fairleadow.proofs.charts_for_c.fairleadow_read_chart.Reads as c-read-chart-reads
 use Rattle.fairleadow.specs.contracts.charts_for_c.fairleadow_write_chart as c-write-chart

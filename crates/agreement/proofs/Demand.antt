@@ -1,7 +1,5 @@
 -- The agreement, with nothing assumed: the runs and rebindings on the image of any translated chart agree with its walk.
-use Prim.Native.Nat.{ℕ}
-use mathlib.Core.Path.{◌≡◌, ap, ◌∙◌}
-use mathlib.Core.List.{List}
+use Rattle.std.proofs.Common.{ℕ, ◌≡◌, ap, ◌∙◌, List}
 use Rattle.text.specs.frames.Frame.{contents}
 use Rattle.text.specs.frames.Verdict.{fine}
 use Rattle.charts.specs.Entry.{read_verdict}

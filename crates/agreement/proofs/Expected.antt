@@ -1,22 +1,15 @@
 -- What is expected of a list of runs and rebindings: moved along the ticks, and after the bound.
-use Rattle.std.proofs.Common.{if◌then◌else◌}
-use Prim.Native.Nat.{ℕ, ◌+◌, ◌-◌, ◌≤◌, min}
-use mathlib.Core.Bool.{Bool, true, false, ◌&&◌}
-use mathlib.Core.Path.{◌≡◌, refl, ap, ap₂, ◌∙◌, sym}
-use mathlib.Core.List.{List, [], ◌∷◌, ◌++◌, map}
-use lib.Dec.{ltb}
-use lib.ListN.{length, take, drop}
-use lib.Seq.{drop-append-add}
-use native.Mathlib.Omega.{arith}
-use borrow.Author.Tests.{lt-ltb, ltb-true}
+use Rattle.std.proofs.Common.{if◌then◌else◌, ℕ, ◌+◌, ◌-◌, ◌≤◌, Bool, true, false, ◌≡◌, refl, ap, ◌∙◌, sym, List, [], ◌∷◌, ◌++◌, map, ltb}
+use Rattle.std.proofs.Common.{length, arith}
+use Rattle.std.proofs.Math.Seq.{drop-append-add}
+use Rattle.std.proofs.lemmas.Grind.{common_steps}
 use Rattle.words.specs.lists.Sequences.{over}
-use Rattle.words.proofs.lists.Tests.{and_no, same-ltb}
+use Rattle.words.proofs.lists.Tests.{same-ltb}
 use Rattle.text.specs.frames.Answer.{success, refusal}
 use Rattle.charts.specs.Chart.{Chart}
 use Rattle.walk.specs.Walk.{Tick}
-use Rattle.agreement.specs.Agreement.{RunInput, RunOutput, CallInput, to_run, to_rebind, CallOutput, by_run}
-use Rattle.agreement.specs.Agreement.{by_rebinding, is_short, expected_output, output_refused_short, reply_to}
-use Rattle.agreement.specs.Agreement.{expected_outputs}
+use Rattle.agreement.specs.Agreement.{RunInput, RunOutput, CallInput, to_run, to_rebind, CallOutput, by_run, by_rebinding, is_short}
+use Rattle.agreement.specs.Agreement.{expected_output, output_refused_short, reply_to, expected_outputs}
 
 -- a run that made these ticks, and was stopped by 17 or not
 abbrev pub output_told_by : Bool → ℕ → List Tick → RunInput → RunOutput
@@ -42,26 +35,12 @@ same-all : (c : Chart) (b : ℕ) (ts : List Tick) (p b' : ℕ) (ts' : List Tick)
     → expected_output b ts p a ≡ expected_output b' ts' p' a → expected_outputs c b ts p rest ≡ expected_outputs c b' ts' p' rest
     → expected_outputs c b ts (p + length a.words) rest ≡ expected_outputs c b' ts' (p' + length a.words) rest
     → expected_outputs c b ts p (to_run a ∷ rest) ≡ expected_outputs c b' ts' p' (to_run a ∷ rest)
-same-all c b ts p b' ts' p' a rest one here on = go (is_short a) refl
-  where
-    go : (t : Bool) → is_short a ≡ t → expected_outputs c b ts p (to_run a ∷ rest) ≡ expected_outputs c b' ts' p' (to_run a ∷ rest)
-    go true e = all_short c b ts p a rest e ∙ ap (λ (l : List CallOutput). by_run (output_refused_short a) ∷ l) here
-        ∙ sym (all_short c b' ts' p' a rest e)
-    go false e = all-long c b ts p a rest e ∙ ap₂ (λ (x : RunOutput) (l : List CallOutput). by_run x ∷ l) one on
-        ∙ sym (all-long c b' ts' p' a rest e)
+same-all c b ts p b' ts' p' a rest one here on = grind (arith, common_steps, all_short, all-long)
 
 -- ticks in front of all others, made already
 module _ (us : List Tick) (b : ℕ) (ts : List Tick) where
   expected-shift : (p : ℕ) (a : RunInput) → expected_output (length us + b) (us ++ ts) (length us + p) a ≡ expected_output b ts p a
-  expected-shift p a =
-      let d : ℕ = length us in let n : ℕ = length a.words in
-      let far : ℕ = min (d + p + n) (d + b) - min (d + p) (d + b) in
-      let near : ℕ = min (p + n) b - min p b in
-      let e : far ≡ near = omega arith in
-      ap (λ (t : Bool). output_told_by (t && ltb 0 n) far (take far (drop (d + p) (us ++ ts))) a)
-      (same-ltb (d + b) (d + p + n) b (p + n) (λ h. omega arith) (λ h. omega arith))
-      ∙ ap (λ (k : ℕ). output_told_by (ltb b (p + n) && ltb 0 n) k (take k (drop (d + p) (us ++ ts))) a) e
-      ∙ ap (λ (l : List Tick). output_told_by (ltb b (p + n) && ltb 0 n) near (take near l) a) (drop-append-add us ts p)
+  expected-shift p a = grind (arith, common_steps, same-ltb, drop-append-add)
 
   pub shift : (c : Chart) (p : ℕ) (rest : List CallInput)
       → expected_outputs c (length us + b) (us ++ ts) (length us + p) rest ≡ expected_outputs c b ts p rest
@@ -76,17 +55,7 @@ module _ (us : List Tick) (b : ℕ) (ts : List Tick) where
 -- after the bound nothing depends on the ticks
 expected-halted : (b : ℕ) (ts : List Tick) (p : ℕ) (a : RunInput) → b ≤ p
     → expected_output b ts p a ≡ output_told_by (ltb 0 (length a.words)) 0 [] a
-expected-halted b ts p a h =
-    let n : ℕ = length a.words in
-    let e : min (p + n) b - min p b ≡ 0 = omega arith in
-    ap (λ (k : ℕ). output_told_by (ltb b (p + n) && ltb 0 n) k (take k (drop p ts)) a) e
-    ∙ ap (λ (t : Bool). output_told_by t 0 [] a) (go (ltb 0 (length a.words)) refl)
-  where
-    go : (t : Bool) → ltb 0 (length a.words) ≡ t
-        → (ltb b (p + length a.words) && ltb 0 (length a.words)) ≡ ltb 0 (length a.words)
-    go true e = ap (λ (t : Bool). t && ltb 0 (length a.words))
-        (lt-ltb b (p + length a.words) (omega (arith, ltb-true 0 (length a.words) e)))
-    go false e = and_no (ltb b (p + length a.words)) (ltb 0 (length a.words)) e ∙ sym e
+expected-halted b ts p a h = grind (arith, common_steps)
 
 pub halted : (c : Chart) (b : ℕ) (ts : List Tick) (p b' : ℕ) (ts' : List Tick) (p' : ℕ) (rest : List CallInput) → b ≤ p → b' ≤ p'
     → expected_outputs c b ts p rest ≡ expected_outputs c b' ts' p' rest

@@ -1,7 +1,6 @@
 -- A run or a rebinding on the image that the translator wrote is one on the chart's table.
-use Prim.Native.Nat.{ℕ}
-use mathlib.Core.Path.{◌≡◌, ap₂}
-use mathlib.Core.List.{List}
+use Rattle.std.proofs.Common.{ℕ, ◌≡◌, ap₂, List, arith}
+use Rattle.std.proofs.lemmas.Grind.{common_steps}
 use Rattle.text.specs.frames.Frame.{contents}
 use Rattle.text.specs.frames.Verdict.{Verdict, fine, next, when}
 use Rattle.walk.proofs.Facts.{Facts}
@@ -29,8 +28,7 @@ pub run-image : (t : List ℕ) (i : Image) → image_verdict t ≡ fine → deco
     → (s : State) (words masks codes : List ℕ)
     → run t s words masks codes ≡ run_image i s words masks codes
 unfolding run run_verdict
-run-image t i ok e s words masks codes =
-    ap₂ (λ (v : Verdict) (j : Image). run_on (next v λ _. state_verdict j s words masks codes) (λ _. ticks j s words) s masks codes) ok e
+run-image t i ok e s words masks codes = grind (arith, common_steps)
 
 -- refusals 15 and 22, and the rebinding, likewise
 abbrev pub rebind_image : Image → State → ℕ → ℕ → StateOutcome

@@ -1,20 +1,14 @@
 -- The first run and the later ones: what is expected of each from its own ticks is what the ticks of the joined words let expect.
-use Rattle.std.proofs.Common.{if◌then◌else◌}
-use Prim.Native.Nat.{ℕ, ◌+◌, ◌-◌, ◌≤◌, ◌<◌, min}
-use mathlib.Core.Bool.{Bool, true, false, ◌&&◌}
-use mathlib.Core.Path.{◌≡◌, refl, ap, ap₂, ◌∙◌, sym}
-use mathlib.Core.List.{List, [], ◌∷◌, ◌++◌, map}
-use lib.Dec.{ltb}
-use lib.ListN.{length, take, length-map}
-use lib.Seq.{take-append-le, length-take-le}
-use native.Mathlib.Omega.{arith}
-use borrow.Author.Tests.{lt-ltb, le-ltb, ltb-true, ltb-false}
+use Rattle.std.proofs.Common.{if◌then◌else◌, ℕ, ◌+◌, ◌-◌, ◌≤◌, ◌<◌, min, Bool, true, false, ◌&&◌, ◌≡◌, ap, ap₂, ◌∙◌, sym, List, [], ◌∷◌}
+use Rattle.std.proofs.Common.{◌++◌, map, ltb, length, take, arith, lt-ltb, le-ltb, ltb-true, ltb-false}
+use Rattle.std.proofs.Math.ListN.{length-map}
+use Rattle.std.proofs.lemmas.Grind.{common_steps}
 use Rattle.bindings.specs.Binding.{Binding}
 use Rattle.charts.specs.Chart.{Chart}
 use Rattle.walk.specs.Walk.{Signal, signals, Tick}
 use Rattle.walk.proofs.Trace.{WalkPosition, trace, position_reached, trace-length, trace-append}
-use Rattle.agreement.specs.Agreement.{RunInput, RunOutput, CallInput, to_run, CallOutput, by_run, is_short}
-use Rattle.agreement.specs.Agreement.{joined_words, bound, expected_output, expected_outputs}
+use Rattle.agreement.specs.Agreement.{RunInput, RunOutput, CallInput, to_run, CallOutput, by_run, is_short, joined_words, bound}
+use Rattle.agreement.specs.Agreement.{expected_output, expected_outputs}
 use Rattle.agreement.proofs.Bounds.{bound-le, bound-full, bound-part, stand, stand-full, stand-part, bound-here}
 use Rattle.agreement.proofs.Expected.{output_told_by, all-long, shift, halted}
 
@@ -35,13 +29,7 @@ first_told b ts a = output_told_by (ltb b (length a.words)) (length (map (λ (t 
 first : (b B : ℕ) (ts us : List Tick) (a : RunInput) → b ≤ length ts → min (length a.words) B ≡ b
     → (ltb B (0 + length a.words) && ltb 0 (length a.words)) ≡ ltb b (length a.words)
     → first_told b ts a ≡ expected_output B (ts ++ us) 0 a
-first b B ts us a l e q =
-    let m : ℕ = length a.words in
-    let d : b ≡ min (0 + m) B - min 0 B = omega arith in
-    ap (λ (k : ℕ). output_told_by (ltb b m) k (take b ts) a) (length-map (take b ts) (λ (t : Tick). t.code) ∙ length-take-le b ts l)
-    ∙ ap (λ (t : Bool). output_told_by t b (take b ts) a) (sym q)
-    ∙ ap (λ (l₁ : List Tick). output_told_by (ltb B (0 + m) && ltb 0 m) b l₁ a) (sym (take-append-le b ts us l))
-    ∙ ap (λ (k : ℕ). output_told_by (ltb B (0 + m) && ltb 0 m) k (take k (ts ++ us)) a) d
+first b B ts us a l e q = grind (arith, common_steps)
 
 module _ (c : Chart) (n : ℕ) (s : Binding) where
   -- what the trace of the joined words from x on lets expect, with binding s before the first call
@@ -103,8 +91,4 @@ module _ (c : Chart) (n : ℕ) (s : Binding) where
         (trace-append n c ws (joined_words c s rest) x))
 
     pub joins : is_short a ≡ false → Joins
-    joins e = go (ltb (bound n mine) (length a.words)) refl
-      where
-        go : (t : Bool) → ltb (bound n mine) (length a.words) ≡ t → Joins
-        go true t = joins_part (ltb-true (bound n mine) (length a.words) t) e
-        go false t = joins-full (omega (arith, ltb-false (bound n mine) (length a.words) t, bound-le n mine, mine-length)) e
+    joins e = grind (arith, common_steps, bound-le, ltb-true, ltb-false, mine-length, joins-full, joins_part)

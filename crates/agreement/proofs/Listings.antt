@@ -1,23 +1,21 @@
 -- What a caller learns by the contract of list_rows, and of fairleadow_list_rows from C:
 -- with success the two buffers hold the rows of each label.
 -- `a` has the arguments, `r` the result, and `s` the arguments at exit, as in Contracts.
-use contract.Lifetimes.{Lfts}
+use Rattle.std.proofs.Common.{ℕ, ◌≡◌, sym, ◌∙◌, ap, subst, List}
 use denote.Triple.Clauses.{AtExit}
 use borrow.Fn.World.{ArgsD, ResD}
-use Prim.Native.Nat.{ℕ}
-use mathlib.Core.Path.{◌≡◌, sym, ◌∙◌, ap, subst}
-use mathlib.Core.List.{List}
+use contract.Lifetimes.{Lfts}
 use Rattle.text.specs.frames.Answer.{success, reply}
 use Rattle.rows.specs.listing.Listing.{list}
 use Rattle.rows.specs.listing.Exact.{Held}
 use Rattle.rows.proofs.listing.Answers.{held}
-use Rattle.rows.specs.contracts.image_rows.list_rows as list-rows
-use Rattle.rows.proofs.image_rows.list_rows.Reads as list-rows-reads
 use Rattle.fairleadow.specs.images_for_c.Calls.{GivesListingC}
-use Rattle.fairleadow.specs.contracts.images_for_c.fairleadow_list_rows as c-list-rows
-use Rattle.fairleadow.proofs.images_for_c.fairleadow_list_rows.Reads as c-list-rows-reads
 use Rattle.agreement.specs.Told.{RowsListed, RowsListedC}
 use Rattle.agreement.proofs.Numbers.{list-success}
+use Rattle.rows.specs.contracts.image_rows.list_rows as list-rows
+use Rattle.rows.proofs.image_rows.list_rows.Reads as list-rows-reads
+use Rattle.fairleadow.specs.contracts.images_for_c.fairleadow_list_rows as c-list-rows
+use Rattle.fairleadow.proofs.images_for_c.fairleadow_list_rows.Reads as c-list-rows-reads
 
 holding : (t xs ys : List ℕ) (n : ℕ) → (list t xs ys).reply ≡ success n → (us vs : List ℕ)
     → us ≡ (list t xs ys).firsts → vs ≡ (list t xs ys).counts

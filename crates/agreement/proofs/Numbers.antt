@@ -1,40 +1,29 @@
 -- No refusal of the translator, of prepare, of minimise, of a little chart, of a listing, of a cause or of the counts has the number
 -- 0, so that a caller from C can tell success by it.
-use Rattle.std.proofs.Common.{if◌then◌else◌}
-use Prim.Native.Nat.{ℕ, ◌+◌, ◌/◌, ◌≤◌}
-use mathlib.Core.Path.{◌≡◌, refl}
-use mathlib.Core.Bool.{Bool, true, false, ◌||◌}
-use mathlib.Core.List.{List}
-use native.Mathlib.Omega.{arith}
-use lib.Dec.{leb, ltb}
-use lib.ListN.{length}
-use Rattle.words.specs.lists.Sequences.{over}
+use Rattle.std.proofs.Common.{ℕ, ◌≤◌, ◌≡◌, refl, List, arith}
+use Rattle.std.proofs.lemmas.Grind.{common_steps}
 use Rattle.text.specs.frames.Frame.{contents}
-use Rattle.text.specs.frames.Verdict.{Verdict, fine, refused, next, when}
-use Rattle.text.specs.frames.Answer.{success, refusal, reply_number, reply_count, BufferOutcome, buffer_on}
+use Rattle.text.specs.frames.Verdict.{Verdict, fine, refused}
+use Rattle.text.specs.frames.Answer.{success, reply_number, reply_count, buffer_on}
 use Rattle.text.proofs.frames.Refuses.{RefusesWith, next-refuses, when-refuses}
 use Rattle.image.specs.Image.{Image, Row, image_text}
-use Rattle.image.specs.Decode.{last_label, decoded_image}
 use Rattle.image.specs.Check.{image_verdict}
 use Rattle.image.proofs.Refuses.{Early, early-image}
 use Rattle.tables.specs.Prepare.{noted_table, prepare}
-use Rattle.covering.specs.Matched.{is_uneven}
-use Rattle.minimising.specs.group_numbers.Smaller.{smaller_image}
 use Rattle.minimising.specs.Entry.{minimise_verdict, minimise}
-use Rattle.little_charts.specs.Little.{little_charts, little_text, little_verdict, little_chart}
+use Rattle.little_charts.specs.Little.{little_verdict, little_chart}
 use Rattle.translator.specs.Table.{table}
 use Rattle.translator.specs.Entry.{translate_verdict, translate}
 use Rattle.translator.proofs.Refuses.{OfChart, translate-refuses}
-use Rattle.rows.specs.listing.Listing.{listing_on, has_no_room_for, list}
+use Rattle.rows.specs.listing.Listing.{listing_on, list}
 use Rattle.results.specs.Results.{Results}
 use Rattle.rows.specs.Rows.{Choice, row, no_choice}
 use Rattle.state.specs.declared.State.{State}
-use Rattle.state.specs.State.{label_at, is_bad_size}
-use Rattle.fitness.specs.Fitness.{is_unfit}
+use Rattle.state.specs.State.{label_at}
 use Rattle.ticks.specs.Tick.{called_bit, choice}
-use Rattle.fillings.specs.Counts.{has_too_many_lists, count_verdict, fillings_on, count_fillings}
-use Rattle.cause.specs.Cause.{Leaving, leaves_label, nothing, leaving, Caused, because}
-use Rattle.cause.specs.Cause.{unexplained, cause_by, cause_at, cause_of, cause_on, explain}
+use Rattle.fillings.specs.Counts.{count_verdict, fillings_on, count_fillings}
+use Rattle.cause.specs.Cause.{Leaving, leaves_label, nothing, leaving, Caused, because, unexplained, cause_by, cause_at, cause_of, cause_on}
+use Rattle.cause.specs.Cause.{explain}
 
 -- 1 or above
 abbrev pub Positive : ℕ → Type 0
@@ -53,16 +42,8 @@ image-positive t = refuses-too Early Positive (λ k p. p.0) (image_verdict t) (e
 -- 16 is the one refusal besides
 lent-success : (v : Verdict) (unit : ℕ) (new : Unit {0} → List ℕ) (old : List ℕ) → RefusesWith Positive v
     → let x = buffer_on v unit new old in reply_number x.reply ≡ 0 → x.reply ≡ success (reply_count x.reply)
-lent-success (refused k i) unit new old p e = absurd (omega arith)
-lent-success fine unit new old p e = go (ltb (length old) (length (new tt))) e
-  where
-    made : Bool → BufferOutcome
-    made b = if b then record { reply = refusal 16 0 0; buffer = old }
-        else record { reply = success (length (new tt) / unit); buffer = over (new tt) old }
-
-    go : (b : Bool) → reply_number (made b).reply ≡ 0 → (made b).reply ≡ success (reply_count (made b).reply)
-    go true q = absurd (omega arith)
-    go false q = refl
+lent-success (refused k i) unit new old p e = grind (arith, common_steps)
+lent-success fine unit new old p e = grind (arith, common_steps)
 
 pub translate-success : (t old : List ℕ) → let x = translate t old in reply_number x.reply ≡ 0
     → x.reply ≡ success (reply_count x.reply)
@@ -75,16 +56,12 @@ prepare-success t old = lent-success (image_verdict t) 1 (λ _. noted_table (con
 
 pub minimise-success : (t old : List ℕ) → let x = minimise t old in reply_number x.reply ≡ 0 → x.reply ≡ success (reply_count x.reply)
 unfolding minimise minimise_verdict
-minimise-success t old =
-    let uncovered : Bool = is_uneven (decoded_image (contents t)) in
-    lent-success (minimise_verdict t) 1 (λ _. image_text (smaller_image (decoded_image (contents t)))) old
-    (next-refuses Positive (image_verdict t) _ (image-positive t) (when-refuses Positive 23 uncovered (omega arith)))
+minimise-success t old = grind (arith, common_steps, when-refuses, next-refuses, image-positive, lent-success)
 
 pub little-chart-success : (n k : ℕ) (old : List ℕ) → let x = little_chart n k old in reply_number x.reply ≡ 0
     → x.reply ≡ success (reply_count x.reply)
 unfolding little_chart little_verdict
-little-chart-success n k old = lent-success (little_verdict n k) 1 (λ _. little_text n k) old
-    (when-refuses Positive 24 (ltb n 2 || ltb 4 n || leb (length (little_charts n)) k) (omega arith))
+little-chart-success n k old = grind (arith, common_steps)
 
 -- ---- a listing
 listed-success : (v : Verdict) (go : Unit {0} → Image) (xs ys : List ℕ) → RefusesWith Positive v
@@ -94,10 +71,7 @@ listed-success fine go xs ys p e = refl
 
 pub list-success : (t xs ys : List ℕ) → let x = list t xs ys in reply_number x.reply ≡ 0 → x.reply ≡ success (reply_count x.reply)
 unfolding list
-list-success t xs ys =
-    let full : Bool = has_no_room_for (last_label (contents t) + 1) xs ys in
-    listed-success (next (image_verdict t) λ _. when 16 full) (λ _. decoded_image (contents t)) xs ys
-    (next-refuses Positive (image_verdict t) _ (image-positive t) (when-refuses Positive 16 full (omega arith)))
+list-success t xs ys = grind (arith, common_steps, when-refuses, next-refuses, image-positive, listed-success)
 
 -- ---- a cause: 21 and 18 besides
 abbrev CausedHigh : Caused → Type 0
@@ -125,11 +99,7 @@ told-success fine (because c) p q e = refl
 pub cause-success : (t : List ℕ) (s : State) (w : ℕ) → let x = explain t s w in reply_number x.reply ≡ 0
     → x.reply ≡ success (reply_count x.reply)
 unfolding explain
-cause-success t s w =
-    let i : Image = decoded_image (contents t) in
-    told-success (next (image_verdict t) λ _. when 15 (is_unfit i s)) (cause_of i s w)
-    (next-refuses Positive (image_verdict t) _ (image-positive t) (when-refuses Positive 15 (is_unfit i s) (omega arith)))
-    (cause-high i s w)
+cause-success t s w = grind (arith, common_steps, when-refuses, next-refuses, image-positive, cause-high, told-success)
 
 -- ---- the counts: 14 and 28 besides
 counted-success : (i : Image) (size n k : ℕ) (v : Verdict) → RefusesWith Positive v
@@ -139,8 +109,4 @@ counted-success i size n k fine p e = refl
 
 pub counts-success : (t : List ℕ) (size n k : ℕ) → let x = count_fillings t size n k in reply_number x.reply ≡ 0 → x.reply ≡ success 0
 unfolding count_fillings count_verdict
-counts-success t size n k =
-    counted-success (decoded_image (contents t)) size n k (count_verdict t size n k)
-    (next-refuses Positive (image_verdict t) _ (image-positive t)
-    (next-refuses Positive (when 14 (is_bad_size size)) _ (when-refuses Positive 14 (is_bad_size size) (omega arith))
-    (when-refuses Positive 28 (has_too_many_lists n k) (omega arith))))
+counts-success t size n k = grind (arith, common_steps, when-refuses, next-refuses, image-positive, counted-success)

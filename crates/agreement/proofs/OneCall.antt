@@ -1,12 +1,9 @@
 -- One call of any kind that meets its contract hands back what a run or a rebinding on the image's text does:
 -- a tick is a run of one word, and live calls are those on the text.
-use Prim.Native.Nat.{ℕ, ◌≤◌}
-use mathlib.Core.Path.{◌≡◌, refl, sym, ◌∙◌, ap, subst}
-use mathlib.Core.List.{List, [], ◌∷◌}
-use lib.ListN.{take}
+use Rattle.std.proofs.Common.{ℕ, ◌≤◌, ◌≡◌, refl, sym, ◌∙◌, subst, List, [], ◌∷◌, take, arith}
+use Rattle.std.proofs.lemmas.Grind.{common_steps}
 use Rattle.text.specs.frames.Answer.{success}
 use Rattle.tables.specs.Prepare.{prepare}
-use Rattle.tables.proofs.PreparedImage as tables
 use Rattle.state.specs.declared.State.{State}
 use Rattle.state.specs.declared.StateReport.{StateReport}
 use Rattle.state.specs.State.{StateOutcome, GivesState}
@@ -19,9 +16,10 @@ use Rattle.runs.proofs.machine.OneTick.{run_of_tick, run-advance}
 use Rattle.runs.specs.machine.Prepared.{PreparedTable}
 use Rattle.runs.proofs.machine.Live.{live-run-is, live-tick-is}
 use Rattle.agreement.specs.Agreement.{RunInput, output_of, CallInput, to_run, to_rebind, CallOutput, by_run, by_rebinding, call_outputs}
-use Rattle.agreement.specs.Calls.{TableOf, prepared, output_of_run, output_of_rebinding, one_word, output_of_tick}
+use Rattle.agreement.specs.Calls.{TableOf, prepared, output_of_run, output_of_rebinding, one_word, output_of_tick, Call, run_call}
+use Rattle.agreement.specs.Calls.{run_call_live, tick_call, tick_call_live, rebind_call, rebind_call_live}
 use Rattle.agreement.specs.LiveCalls.{PreparedActs}
-use Rattle.agreement.specs.Calls.{Call, run_call, run_call_live, tick_call, tick_call_live, rebind_call, rebind_call_live}
+use Rattle.tables.proofs.PreparedImage as tables
 
 -- a rebinding on the table that was prepared from an image is the image's own, from every state
 pub prepared-rebind-is : {t b : List ℕ} → PreparedTable t b → (s : State) (h k : ℕ) → live_rebind b s h k ≡ rebind t s h k
@@ -81,26 +79,15 @@ table-prepared image (prepared before after answer c n e k h) =
 module _ (image : List ℕ) (s : State) where
   run-like : (a : RunInput) {x : RunOutcome} {r : StateReport} {masks codes : List ℕ} → x ≡ run_asked image s a → GivesRun x r masks codes
       → Like image s (to_run a) (output_of_run r masks codes) r.state
-  run-like a {x} {r} {masks} {codes} e c = record {
-    handed-is = (let f = c.answered in let g = c.masks in let h = c.codes in cc);
-    state-is = c.state ∙ ap (λ (y : RunOutcome). y.state) e;
-  }
+  run-like a {x} {r} {masks} {codes} e c = grind (arith, common_steps)
 
   tick-like : (w : ℕ) {x : TickOutcome} {r : TickAnswer} {after : State} → x ≡ image_tick image s w → GivesTick x r after
       → Like image s (one_word w 0 0) (output_of_tick r) after
-  tick-like w {x} {r} {after} e c =
-      let one : run image s (w ∷ []) (0 ∷ []) (0 ∷ []) ≡ run_of_tick x = run-advance image s w ∙ ap run_of_tick (sym e) in
-      record {
-        handed-is = (let f = c.answered in let g = c.mask in let h = c.code in cc);
-        state-is = c.state ∙ sym (ap (λ (y : RunOutcome). y.state) one);
-      }
+  tick-like w {x} {r} {after} e c = grind (arith, common_steps, run_of_tick, run-advance)
 
   rebinding-like : (h k : ℕ) {x : StateOutcome} {r : StateReport} → x ≡ rebind image s h k → GivesState x r
       → Like image s (to_rebind h k) (output_of_rebinding r) r.state
-  rebinding-like h k {x} {r} e c = record {
-    handed-is = ap by_rebinding (c.answered ∙ ap (λ (y : StateOutcome). y.reply) e);
-    state-is = c.state ∙ ap (λ (y : StateOutcome). y.state) e;
-  }
+  rebinding-like h k {x} {r} e c = grind (arith, common_steps)
 
   pub call-like : {g : CallInput} {d : CallOutput} {after : State} → Call image s g d after → Like image s g d after
   call-like (run_call {a = a} c) = run-like a refl c

@@ -1,14 +1,7 @@
 -- One call from C of any kind that meets its contract hands back what a run or a rebinding on the image's text does, and leaves bytes
 -- that hold its state.
-use Rattle.std.proofs.Common.{if◌then◌else◌}
-use Prim.Native.Nat.{ℕ}
-use mathlib.Core.Path.{◌≡◌, refl, sym, ◌∙◌, ap, ap₂, subst}
-use mathlib.Core.List.{List, [], ◌∷◌}
-use native.Mathlib.Omega.{arith}
-use lib.Dec.{eqb}
-use lib.ListN.{take}
-use borrow.Author.Tests.{ne_eqb}
-use Rattle.words.proofs.lists.Tests.{if-false}
+use Rattle.std.proofs.Common.{if◌then◌else◌, ℕ, ◌≡◌, refl, sym, ◌∙◌, ap, subst, List, [], ◌∷◌, arith, eqb, take}
+use Rattle.std.proofs.lemmas.Grind.{common_steps}
 use Rattle.text.specs.frames.Frame.{contents}
 use Rattle.text.specs.frames.Verdict.{Verdict, fine, refused, next}
 use Rattle.text.specs.frames.Answer.{refusal, success, reply_number}
@@ -19,26 +12,25 @@ use Rattle.state.specs.declared.State.{State}
 use Rattle.state.specs.State.{StateOutcome}
 use Rattle.state.specs.Bytes.{state_of, bytes_of}
 use Rattle.fitness.specs.Fitness.{is_unfit}
-use Rattle.ticks.specs.Tick as machine
 use Rattle.runs.specs.Run.{RunOutcome, run_verdict, run}
 use Rattle.runs.specs.TickOutcome.{TickOutcome, image_tick}
 use Rattle.runs.specs.InPlace.{bytes_after, if_ticked}
 use Rattle.ticks.proofs.Normal.{Normal, tick-normal}
 use Rattle.runs.proofs.machine.Held.{run-held, tick-held}
-use Rattle.runs.proofs.machine.OneTick as one
 use Rattle.runs.specs.machine.Prepared.{PreparedTable}
 use Rattle.runs.proofs.machine.Live.{live-run-is, live-tick-is}
 use Rattle.rebinding.specs.Rebind.{rebind_verdict, rebind}
 use Rattle.rebinding.proofs.Held.{rebinding-held}
 use Rattle.fairleadow.specs.runs_for_c.Calls.{GivesRunC, tick_for, GivesTickC}
 use Rattle.fairleadow.specs.rebinding_for_c.Calls.{rebind_for, GivesRebindingC}
-use Rattle.agreement.specs.Agreement.{RunInput, output_of, CallInput, to_run, to_rebind}
+use Rattle.agreement.specs.Agreement.{RunInput, CallInput, to_run, to_rebind}
 use Rattle.agreement.specs.Calls.{one_word}
-use Rattle.agreement.specs.ForC.{RunOutputC, run_output_c, CallOutputC, by_run_c, by_rebinding_c}
-use Rattle.agreement.specs.ForC.{call_output_c, output_of_tick_c, TableOfC, prepared}
+use Rattle.agreement.specs.ForC.{RunOutputC, CallOutputC, by_run_c, by_rebinding_c, call_output_c, output_of_tick_c, TableOfC, prepared}
 use Rattle.agreement.specs.ForC.{CallC, run_call, run_call_live, tick_call, tick_call_live, rebind_call, rebind_call_live}
 use Rattle.agreement.proofs.Numbers.{Positive, image-positive, prepare-success}
 use Rattle.agreement.proofs.OneCall.{prepared-rebind-is, prepared-holds, run_asked, handed_output, state_after}
+use Rattle.ticks.specs.Tick as machine
+use Rattle.runs.proofs.machine.OneTick as one
 
 -- ---- a run of one word where the places for its mask and its code held m₀ and k₀: a refused tick leaves them
 abbrev run_over : ℕ → ℕ → TickOutcome → RunOutcome
@@ -48,9 +40,7 @@ run_over m₀ k₀ x =
 module _ (s : State) (m₀ k₀ : ℕ) where
   none_made : (n i : ℕ) → (n ≡ 0 → ⊥) → ◌≡◌ {A = RunOutcome} (record { reply = refusal n i 0; state = s; masks = m₀ ∷ []; codes = k₀ ∷ [] })
       (run_over m₀ k₀ (record { reply = refusal n i 0; mask = 0; code = 0; state = s }))
-  none_made n i h =
-      ap₂ (λ (m k : ℕ). record { reply = refusal n i 0; state = s; masks = m ∷ []; codes = k ∷ [] })
-      (sym (if-false (eqb n 0) 0 m₀ (ne_eqb n 0 h))) (sym (if-false (eqb n 0) 0 k₀ (ne_eqb n 0 h)))
+  none_made n i h = grind (arith, common_steps)
 
   over_by : (v : Verdict) (d : machine.MachineTick) → RefusesWith Positive v → Normal s d
       → one.run_of_word s m₀ k₀ v d ≡ run_over m₀ k₀ (one.advance_by s v d)
@@ -115,33 +105,11 @@ module _ (image bytes : List ℕ) where
   tick-like : (w : ℕ) {x : TickOutcome} {m₀ k₀ returned at made m k : ℕ} {after : List ℕ} → x ≡ tick_for image bytes w
       → GivesTickC x bytes m₀ k₀ returned at made after m k
       → LikeC image bytes (one_word w m₀ k₀) (output_of_tick_c returned at made m k) after
-  tick-like w {x} {m₀} {k₀} {returned} {at} {made} {m} {k} {after} e d =
-      let c : GivesTickC (tick_for image bytes w) bytes m₀ k₀ returned at made after m k =
-      subst (λ (y : TickOutcome). GivesTickC y bytes m₀ k₀ returned at made after m k) e d in
-      let one-run : RunOutcome = run_over m₀ k₀ (tick_for image bytes w) in
-      let same : run image (state_of bytes) (w ∷ []) (m₀ ∷ []) (k₀ ∷ []) ≡ one-run = run-over (state_of bytes) m₀ k₀ image w in
-      let made-is : output_of_tick_c returned at made m k ≡ by_run_c (run_output_c (output_of one-run)) =
-      λ j. by_run_c (record {
-        number = c.told.number_is j;
-        index = c.told.index_is j;
-        count = c.told.count-is j;
-        masks = c.mask j ∷ [];
-        codes = c.code j ∷ [];
-      }) in
-      record {
-        handed-is = made-is ∙ sym (ap (λ (y : RunOutcome). by_run_c (run_output_c (output_of y))) same);
-        state-is = ap state_of c.bytes ∙ ticked-holds w ∙ sym (ap (λ (y : RunOutcome). y.state) same);
-      }
+  tick-like w {x} {m₀} {k₀} {returned} {at} {made} {m} {k} {after} e d = grind (arith, common_steps, run-over, ticked-holds)
 
   rebinding-like : (h k : ℕ) {x : StateOutcome} {returned at made : ℕ} {after : List ℕ} → x ≡ rebind_for image bytes h k
       → GivesRebindingC x bytes returned at made after → LikeC image bytes (to_rebind h k) (by_rebinding_c returned at made) after
-  rebinding-like h k {x} {returned} {at} {made} {after} e d =
-      let c : GivesRebindingC (rebind_for image bytes h k) bytes returned at made after =
-      subst (λ (y : StateOutcome). GivesRebindingC y bytes returned at made after) e d in
-      record {
-        handed-is = λ j. by_rebinding_c (c.told.number_is j) (c.told.index_is j) (c.told.count-is j);
-        state-is = ap state_of c.bytes ∙ rebound-holds h k;
-      }
+  rebinding-like h k {x} {returned} {at} {made} {after} e d = grind (arith, common_steps, rebound-holds)
 
   pub call-like : {g : CallInput} {d : CallOutputC} {after : List ℕ} → CallC image bytes g d after → LikeC image bytes g d after
   call-like (run_call {a = a} c) = run-like a refl c

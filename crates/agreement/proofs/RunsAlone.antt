@@ -1,10 +1,7 @@
 -- With no rebinding in the list, the agreement is one over lists of runs and the walk of words alone.
-use Rattle.std.proofs.Common.{if◌then◌else◌}
-use Prim.Native.Nat.{ℕ, ◌+◌}
-use mathlib.Core.Bool.{Bool, true, false}
-use mathlib.Core.Path.{◌≡◌, refl, sym, ap, ◌∙◌}
-use mathlib.Core.List.{List, [], ◌∷◌, ◌++◌, map, map-append}
-use lib.ListN.{length, take}
+use Rattle.std.proofs.Common.{ℕ, ◌+◌, Bool, true, false, ◌≡◌, refl, sym, ap, ◌∙◌, List, [], ◌∷◌, map, length, take, arith}
+use mathlib.Core.List.{map-append}
+use Rattle.std.proofs.lemmas.Grind.{common_steps}
 use Rattle.words.specs.lists.Sequences.{concat_map}
 use Rattle.bindings.specs.Binding.{Binding, own_binding}
 use Rattle.text.specs.frames.Frame.{contents}
@@ -12,7 +9,7 @@ use Rattle.text.specs.frames.Verdict.{fine}
 use Rattle.text.specs.frames.Answer.{success, BufferOutcome}
 use Rattle.charts.specs.Chart.{Chart}
 use Rattle.charts.specs.Entry.{read_verdict}
-use Rattle.walk.specs.Walk.{Signal, signals, Tick, walk}
+use Rattle.walk.specs.Walk.{signals, Tick, walk}
 use Rattle.walk.proofs.OwnBinding.{own-binding}
 use Rattle.translator.specs.Entry.{translate}
 use Rattle.translator.proofs.Translated.{translated-read, translated-fine}
@@ -20,18 +17,17 @@ use Rattle.state.specs.declared.State.{State}
 use Rattle.state.specs.State.{fresh_state}
 use Rattle.runs.specs.Run.{RunOutcome, run}
 use Rattle.rebinding.specs.Rebind.{rebind}
-use Rattle.agreement.specs.Agreement.{Translator, Maker, Runner, Rebinder, RunInput, RunOutput, output_of, to_run}
-use Rattle.agreement.specs.Agreement.{CallOutput, by_run, by_rebinding, call_outputs, is_short}
-use Rattle.agreement.specs.Agreement.{joined_words, bound, expected_output, output_refused_short, expected_outputs, walk_outputs, Agreement}
-use Rattle.agreement.specs.Agreement.{Translates}
-use Rattle.agreement.specs.Unswapped as unswapped
+use Rattle.agreement.specs.Agreement.{Translator, Maker, Runner, Rebinder, RunInput, RunOutput, output_of, to_run, CallOutput, by_run}
+use Rattle.agreement.specs.Agreement.{by_rebinding, call_outputs, is_short, joined_words, bound, expected_output, output_refused_short}
+use Rattle.agreement.specs.Agreement.{expected_outputs, walk_outputs, Agreement, Translates}
 use Rattle.agreement.proofs.Expected.{all_short, all-long}
-use Rattle.agreement.specs.Calls as calls
-use Rattle.agreement.specs.ForC as c
-use Rattle.agreement.specs.RunsAlone as alone
 use Rattle.agreement.proofs.Demand.{theorem}
 use Rattle.agreement.proofs.Delivered.{delivered}
 use Rattle.agreement.proofs.ForC.{returned-0, delivered-c}
+use Rattle.agreement.specs.Unswapped as unswapped
+use Rattle.agreement.specs.Calls as calls
+use Rattle.agreement.specs.ForC as c
+use Rattle.agreement.specs.RunsAlone as alone
 
 -- ---- each part of the statement
 pub chain-alone : (run : Runner) (rebind : Rebinder) (image : List ℕ) (s : State) (asked : List RunInput)
@@ -45,14 +41,8 @@ chain-alone run rebind image s (a ∷ rest) =
 pub joined-alone : (c : Chart) (s : Binding) (asked : List RunInput)
     → joined_words c s (map to_run asked) ≡ signals s (unswapped.joined_run_words asked)
 unfolding joined_words concat_map
-joined-alone c s [] = refl
-joined-alone c s (a ∷ rest) = go (is_short a) (joined-alone c s rest)
-  where
-    go : (t : Bool) → joined_words c s (map to_run rest) ≡ signals s (unswapped.joined_run_words rest)
-        → (if t then [] else signals s a.words) ++ joined_words c s (map to_run rest) ≡ signals s
-        ((if t then [] else a.words) ++ unswapped.joined_run_words rest)
-    go true ih = ih
-    go false ih = ap (λ (l : List Signal). signals s a.words ++ l) ih ∙ sym (map-append _ a.words (unswapped.joined_run_words rest))
+joined-alone c s [] = grind (arith, common_steps)
+joined-alone c s (a ∷ rest) = grind (arith, common_steps, joined-alone c s rest, map-append)
 
 pub expected-alone : (c : Chart) (b : ℕ) (ts : List Tick) (p : ℕ) (asked : List RunInput)
     → expected_outputs c b ts p (map to_run asked) ≡ map by_run (unswapped.expected_runs b ts p asked)

@@ -1,15 +1,9 @@
 -- One tick of the machine on the table of a chart is one tick of the walk, but for a call at a full stack, which stops it with 17.
-use Rattle.std.proofs.Common.{if◌then◌else◌}
-use Prim.Native.Nat.{ℕ, suc, ◌+◌, ◌-◌, ◌≤◌, ◌<◌}
-use mathlib.Core.Bool.{Bool, true, false, ◌&&◌, ◌||◌, not}
-use mathlib.Core.Path.{◌≡◌, refl, ap, ap₂, ◌∙◌, sym}
-use mathlib.Core.Logic.{◌⊎◌, inl, inr}
-use mathlib.Core.List.{List, [], ◌∷◌}
-use lib.Dec.{leb, eqb}
-use lib.ListN.{length, set}
-use native.Mathlib.Omega.{arith}
-use borrow.Author.Tests.{eqb-true, eqb-false, eq-eqb, ne_eqb, le-leb, lt-leb, leb-true, leb-false}
-use Rattle.words.proofs.lists.Tests.{and_no, and_r, and-true, or_true_r, or-none, if-true, if-false}
+use Rattle.std.proofs.Common.{if◌then◌else◌, ℕ, suc, ◌+◌, ◌-◌, ◌≤◌, ◌<◌, Bool, true, false, ◌&&◌, ◌||◌, not, ◌≡◌, refl, ap, ap₂, ◌∙◌, sym}
+use Rattle.std.proofs.Common.{◌⊎◌, inl, inr, List, [], ◌∷◌, leb, eqb, length, set, arith, eqb-true, ne_eqb, leb-true, leb-false}
+use borrow.Author.Tests.{lt-leb}
+use Rattle.std.proofs.lemmas.Grind.{common_steps}
+use Rattle.words.proofs.lists.Tests.{and_no, and_r, if-false}
 use Rattle.text.specs.frames.Frame.{size}
 use Rattle.results.specs.Results.{Results, result_of, with_result, cleared_results}
 use Rattle.bindings.specs.Binding.{Binding, server_of}
@@ -18,9 +12,8 @@ use Rattle.walk.specs.Stops.{start, by_arc, by_word, Stop}
 use Rattle.walk.specs.Walk.{Tick, is_dropping, bottom}
 use Rattle.walk.proofs.Facts.{StopOf, Facts}
 use Rattle.walk.proofs.Views.{View, a-plain, a_call, a-function, a-home, a_back, a-begin, a-condition, stop-call, stop-function}
-use Rattle.walk.proofs.Trace.{Open, moved_to, WalkPosition, at, tick_of, stop_tick, node_resumed, resumed}
-use Rattle.walk.proofs.Trace.{position_returned, position_called, position_moved, tick_at, move}
-use Rattle.walk.proofs.Trace.{Serves, Caller, Under, Good, drop-handler, view_of}
+use Rattle.walk.proofs.Trace.{Open, moved_to, WalkPosition, at, tick_of, stop_tick, node_resumed, resumed, position_returned}
+use Rattle.walk.proofs.Trace.{position_called, position_moved, tick_at, move, Serves, Caller, Under, Good, view_of}
 use Rattle.image.specs.Layout.{tick_kind}
 use Rattle.image.specs.Image.{Image, Label}
 use Rattle.chart_rows.specs.chart_labels.Labels.{is_numbered, label}
@@ -48,9 +41,7 @@ answer n t s = if is_full_call n t then stopped 17 else finished t.mask t.code s
 tick-at : (i : Image) (s : State) (w l g : ℕ) (x : Label) → place_at s (s.depth - 1) ≡ l → number_at s (s.depth - 1) ≡ g → label_at i l ≡ x
     → tick i s w ≡ tick_by i s w l x (with_result x.result g s.bits) (tick_kind x.kind)
 unfolding tick
-tick-at i s w l g x e h f =
-    ap₂ (λ (k j : ℕ). let y = label_at i k in tick_by i s w k y (with_result y.result j s.bits) (tick_kind y.kind)) e h
-    ∙ ap (λ (y : Label). tick_by i s w l y (with_result y.result g s.bits) (tick_kind y.kind)) f
+tick-at i s w l g x e h f = grind (arith, common_steps)
 
 -- the kind of a node that calls, which is no End
 abbrev Calling : ℕ → Type 0
@@ -93,28 +84,14 @@ module _ (c : Chart) (n : ℕ) (n≤ : n ≤ 32) (serving : Binding) where
     -- the scheme of the bottom, under a node that calls
     bottom-scheme : (g : ℕ) (x : Open) (ks : List Open) → StopOf c x.server x.node → Calling (kind c x.node) → Under c g x ks
         → let v = (bottom_of x ks).node in (v < size c) × (is_numbered c v ≡ true) × (scheme c v ≡ g)
-    bottom-scheme g x [] s call under =
-        (s.inside, is-numbered c x.node table_facts s (no_end (kind c x.node) call), s.same ∙ under.1)
-    bottom-scheme g x (k ∷ ks) s call (caller, under) = bottom-scheme g k ks caller.stop caller.calls under
+    bottom-scheme g x [] s call under = grind (arith, common_steps, is-numbered, no_end)
+    bottom-scheme g x (k ∷ ks) s call (caller, under) = grind (arith, common_steps, bottom-scheme g k ks)
 
     keeps : (f : Bool) (o l : ℕ) → 2 ≤ l → (label_at (table c) l).owner ≡ bottom c f → (f ≡ true → handler c ≡ 0 → ⊥) → o ≡ n
         → (eqb (table c).handler 0 || is_of_handler (table c) l) ≡ not (is_dropping n c f o)
     unfolding table
-    keeps true o l two own handled e =
-        or_true_r (eqb (handler c) 0) (is_of_handler (table c) l)
-        (and-true (not (eqb (handler c) 0)) (eqb l 1 || eqb (label_at (table c) l).owner (handler c))
-        (ap not (ne_eqb (handler c) 0 (handled refl)))
-        (or_true_r (eqb l 1) (eqb (label_at (table c) l).owner (handler c)) (eq-eqb (label_at (table c) l).owner (handler c) own)))
-    keeps false o l two own handled e = go (eqb (handler c) 0) refl
-      where
-        go : (t : Bool) → eqb (handler c) 0 ≡ t
-            → (t || (not t && (eqb l 1 || eqb (label_at (table c) l).owner (handler c)))) ≡ not (not t && eqb o n)
-        go true z = refl
-        go false z =
-            let h : 2 ≤ handler c = (facts.handled (eqb-false (handler c) 0 z)).0 in
-            or-none (eqb l 1) (eqb (label_at (table c) l).owner (handler c)) (ne_eqb l 1 (λ q. omega arith))
-            (ne_eqb (label_at (table c) l).owner (handler c) (λ q. omega (arith, own)))
-            ∙ sym (ap not (eq-eqb o n e))
+    keeps true o l two own handled e = grind (arith, common_steps)
+    keeps false o l two own handled e = grind (arith, common_steps)
 
     module _ (x : Open) (ks : List Open) (b : Results) (f : Bool) (g : Good c (at x ks b f)) (call : Calling (kind c x.node)) where
       full-kept : suc (length ks) ≡ n → is_full_stack_kept (table c) (state x ks b f) ≡ not (is_dropping n c f (suc (length ks)))
@@ -141,18 +118,8 @@ module _ (c : Chart) (n : ℕ) (n≤ : n ≤ 32) (serving : Binding) where
         at-full : (t : Bool) → is_dropping n c f (suc (length ks)) ≡ t → suc (length ks) ≡ n
             → is_full_stack_kept (table c) (state x ks b f) ≡ not t → Goal true t
         unfolding table below
-        at-full true q e k =
-            let l = facts.handled (drop-handler n c f (suc (length ks)) q) in
-            if-false (is_full_stack_kept (table c) (state x ks b f)) (stopped 17) _ k
-            ∙ ap (λ (u : ℕ). finished m 96
-            (holding n 1 serving (cleared_results (handler c) d) (bottom_alone u) (bottom_alone (handler c)) (bottom_alone (handler c))))
-            (table_facts.entries (handler c) (omega (arith, l)) l.1)
-        at-full false q e k =
-            if-true (is_full_stack_kept (table c) (state x ks b f)) (stopped 17) _ k
-            ∙ sym (if-true (is_full_call n (made (j + h))) (stopped 17) _
-            (and-true (leb 16 (j + h) && not (eqb (j + h) 96)) (eqb (suc (length ks)) n)
-            (and-true (leb 16 (j + h)) (not (eqb (j + h) 96)) (le-leb 16 (j + h) low) (ap not (ne_eqb (j + h) 96 other)))
-            (eq-eqb (suc (length ks)) n e)))
+        at-full true q e k = grind (arith, common_steps)
+        at-full false q e k = grind (arith, common_steps)
 
         room : (t : Bool) → is_dropping n c f (suc (length ks)) ≡ t → suc (length ks) < n → Goal false t
         room true q e = absurd (let z : suc (length ks) ≡ n =

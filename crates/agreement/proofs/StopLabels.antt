@@ -1,15 +1,9 @@
 -- What the table of a chart holds at the label of a stop.
-use Rattle.std.proofs.Common.{if◌then◌else◌}
-use Prim.Native.Nat.{ℕ, ◌+◌, ◌<◌}
-use mathlib.Core.Bool.{Bool, true, false, ◌&&◌, not}
-use mathlib.Core.Path.{◌≡◌, refl, ap, ◌∙◌, sym, subst}
-use lib.ListN.{length}
-use lib.Dec.{eqb}
-use native.Mathlib.Omega.{arith}
-use borrow.Author.Tests.{eqb-true, eqb-false, ne_eqb}
-use Rattle.words.specs.lists.Numbers.{count}
+use Rattle.std.proofs.Common.{if◌then◌else◌, ℕ, ◌<◌, Bool, true, ◌≡◌, ap, ◌∙◌, length, eqb, arith, eqb-true, ne_eqb}
+use borrow.Author.Tests.{eqb-false}
+use Rattle.std.proofs.lemmas.Grind.{common_steps}
 use Rattle.charts.specs.Chart.{Chart, kind, scheme, argument}
-use Rattle.walk.specs.Stops.{is_stop, Stop, plain, call, function, test, home, back}
+use Rattle.walk.specs.Stops.{Stop, plain, call, function, test, home, back}
 use Rattle.walk.proofs.Facts.{StopOf}
 use Rattle.walk.proofs.Views.{View, a-plain, a_call, a-function, a-home, a_back, a-begin, a-condition}
 use Rattle.image.specs.Image.{Label}
@@ -30,12 +24,7 @@ module _ (c : Chart) (v : ℕ) where
   -- an End has label 0 in scheme 1 and 1 elsewhere
   label-end : kind c v ≡ 1 → label c v ≡ (if eqb (scheme c v) 1 then 0 else 1)
   unfolding label
-  label-end e = ap (λ (t : Bool). if t then 2 + count (is_numbered c) 0 v else if eqb (scheme c v) 1 then 0 else 1)
-      (unnumbered (is_stop c v))
-    where
-      unnumbered : (t : Bool) → (t && not (eqb (kind c v) 1)) ≡ false
-      unnumbered true = rw e
-      unnumbered false = refl
+  label-end e = grind (arith, common_steps)
 
   pub label-home : kind c v ≡ 1 → scheme c v ≡ 1 → label c v ≡ 0
   label-home e s = label-end e ∙ ap (λ (h : ℕ). if eqb h 1 then 0 else 1) s
@@ -60,12 +49,4 @@ module _ (c : Chart) (v : ℕ) where
     held (a-condition e) = of_node (λ p. omega arith) ∙ rw e
 
     pub label-low : label c v < length (table c).labels
-    label-low = go (eqb (kind c v) 1) refl
-      where
-        low : (t : Bool) → (if t then 0 else 1) < length (table c).labels
-        low true = omega (arith, facts.highest)
-        low false = omega (arith, facts.highest)
-
-        go : (t : Bool) → eqb (kind c v) 1 ≡ t → label c v < length (table c).labels
-        go true e = subst (λ (l : ℕ). l < length (table c).labels) (sym (label-end (eqb-true (kind c v) 1 e))) (low (eqb (scheme c v) 1))
-        go false e = (facts.numbers v stop.inside (is-numbered (eqb-false (kind c v) 1 e))).1
+    label-low = grind (arith, common_steps, eqb-false, eqb-true, label-end, is-numbered)

@@ -1,9 +1,5 @@
 -- What acceptance of a chart gives for its table: labels, entries, and where the row that a label takes leads.
-use Rattle.std.proofs.Common.{if◌then◌else◌}
-use Prim.Native.Nat.{ℕ, ◌≤◌, ◌<◌}
-use mathlib.Core.Bool.{Bool, true}
-use mathlib.Core.Path.{◌≡◌}
-use lib.ListN.{length}
+use Rattle.std.proofs.Common.{if◌then◌else◌, ℕ, ◌≤◌, ◌<◌, Bool, true, ◌≡◌, length}
 use Rattle.text.specs.frames.Frame.{size}
 use Rattle.charts.specs.Chart.{Chart, kind, next0, next1, schemes}
 use Rattle.walk.specs.Stops.{is_stop, by_arc, by_word}

@@ -1,10 +1,6 @@
 -- The facts that the simulation takes of a chart's table hold for every accepted text.
-use mathlib.Core.Path.{◌≡◌, refl, sym, ◌∙◌, ap}
-use mathlib.Core.Bool.{Bool, true, false}
-use mathlib.Core.List.{List, [], ◌∷◌}
-use Prim.Native.Nat.{ℕ, suc, ◌-◌}
-use native.Mathlib.Omega.{arith}
-use lib.ListN.{length, drop, get_or, length-map}
+use Rattle.std.proofs.Common.{◌≡◌, refl, sym, ◌∙◌, ap, Bool, true, false, List, [], ◌∷◌, ℕ, suc, ◌-◌, arith, length, drop, get_or}
+use Rattle.std.proofs.Math.ListN.{length-map}
 use Rattle.words.specs.lists.Sequences.{filter}
 use Rattle.words.proofs.lists.Filters.{none_passes}
 use Rattle.text.specs.frames.Frame.{contents}
@@ -16,8 +12,8 @@ use Rattle.walk.proofs.Facts.{Facts}
 use Rattle.walk.proofs.FactsHold.{facts}
 use Rattle.image.specs.Image.{Row, no_row}
 use Rattle.chart_rows.specs.chart_labels.Labels.{entry}
-use Rattle.translator.proofs.LabelLaws.{label-low, label_inside, label-holds, labels_apart, label-home, label-return}
-use Rattle.translator.proofs.LabelLaws.{labels-two, labels-few, entry-holds}
+use Rattle.translator.proofs.LabelLaws.{label-low, label_inside, label-holds, labels_apart, label-home, label-return, labels-two}
+use Rattle.translator.proofs.LabelLaws.{labels-few, entry-holds}
 use Rattle.translator.proofs.Matching.{is_matching_row, targets, targets-none, targets-own, targets-other}
 use Rattle.translator.proofs.RowLaws.{row_plain, row-begin, row-condition, row-function}
 use Rattle.rows.specs.Rows.{row, no_choice, better_choice, best_row, found, lead_of}

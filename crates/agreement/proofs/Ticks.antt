@@ -1,28 +1,21 @@
 -- Many ticks of the machine are those of the trace up to its bound.
-use Rattle.std.proofs.Common.{if◌then◌else◌}
-use Prim.Native.Nat.{ℕ, suc, ◌+◌, ◌≤◌, ◌<◌}
-use mathlib.Core.Bool.{Bool, true, false, ◌&&◌, not}
-use mathlib.Core.Path.{◌≡◌, refl, ap, ◌∙◌, sym, subst}
-use mathlib.Core.List.{List, [], ◌∷◌, map}
-use lib.Dec.{leb, ltb, eqb, leb-suc-suc}
-use lib.ListN.{length, take}
-use native.Mathlib.Omega.{arith}
-use borrow.Author.Tests.{eqb-false, ne_eqb, lt-ltb, le-leb}
-use Rattle.words.proofs.lists.Tests.{and-true, and-false}
+use Rattle.std.proofs.Common.{if◌then◌else◌, ℕ, suc, ◌≤◌, ◌<◌, Bool, true, false, ◌&&◌, not, ◌≡◌, refl, ap, ◌∙◌, sym, subst, List, [], ◌∷◌}
+use Rattle.std.proofs.Common.{map, leb, ltb, eqb, length, take, arith, lt-ltb}
+use Rattle.std.proofs.Math.Dec.{leb-suc-suc}
+use Rattle.std.proofs.lemmas.Grind.{common_steps}
 use Rattle.results.specs.Results.{Results}
 use Rattle.bindings.specs.Binding.{Binding}
 use Rattle.text.specs.frames.Frame.{size}
 use Rattle.text.specs.frames.Verdict.{Verdict, fine, refused}
-use Rattle.charts.specs.Chart.{Chart, argument}
+use Rattle.charts.specs.Chart.{Chart}
 use Rattle.walk.specs.Stops.{Stop}
 use Rattle.walk.specs.Walk.{Signal, signals, Tick}
 use Rattle.walk.proofs.Facts.{Facts}
 use Rattle.walk.proofs.Views.{View, a-plain, a_call, a-function, a-home, a_back, a-begin, a-condition}
-use Rattle.walk.proofs.Trace.{Open, WalkPosition, stop_tick, position_returned, position_called, position_moved}
-use Rattle.walk.proofs.Trace.{is_drop_at, tick_at, move, trace, Serves, Good, view_of, moves}
+use Rattle.walk.proofs.Trace.{Open, WalkPosition, stop_tick, position_returned, position_called, position_moved, is_drop_at, tick_at, move}
+use Rattle.walk.proofs.Trace.{trace, Serves, Good, view_of, moves}
 use Rattle.translator.specs.Table.{table}
 use Rattle.state.specs.declared.State.{State}
-use Rattle.ticks.specs.Tick.{finished, stopped}
 use Rattle.runs.specs.Run.{MachineRun, run_after, ticks}
 use Rattle.agreement.specs.Agreement.{is_full_call, bound}
 use Rattle.agreement.proofs.TableFacts.{TableFacts}
@@ -61,27 +54,19 @@ module _ (c : Chart) (n : ℕ) (s : Binding) where
   deep-call : (x : Open) (ks : List Open) (h k code : ℕ) (d : Results) (f : Bool) → length ks < n → 16 ≤ code → (code ≡ 96 → ⊥) → (t : Bool)
       → (leb 16 (if t then 96 else code) && not (eqb (if t then 96 else code) 96) && eqb (suc (length ks)) n) ≡ false
       → length (position_called c x ks h k d f t).callers < n
-  deep-call x ks h k code d f low l other true q = omega arith
-  deep-call x ks h k code d f low l other false q =
-      let e : suc (length ks) ≡ n → ⊥ =
-      eqb-false (suc (length ks)) n (and-false (leb 16 code && not (eqb code 96)) (eqb (suc (length ks)) n) q
-      (and-true (leb 16 code) (not (eqb code 96)) (le-leb 16 code l) (ap not (ne_eqb code 96 other)))) in
-      omega arith
+  deep-call x ks h k code d f low l other true q = grind (arith, common_steps)
+  deep-call x ks h k code d f low l other false q = grind (arith, common_steps)
 
   deep-by : Facts c → (x : Open) (ks : List Open) (b : Results) (f : Bool) (w : Signal)
       → x.node < size c → length ks < n → (t : Bool) → {z : Stop}
       → View c x.node z → is_full_call n (stop_tick t (suc (length ks)) x z) ≡ false → length (position_moved c t x ks w b f z).callers < n
-  deep-by facts x ks b f w i low t (a-plain e a) q = low
-  deep-by facts x ks b f w i low t (a_call e a) q =
-      deep-call x ks (argument c x.node) _ (16 + argument c x.node) _ f low (omega arith)
-      (λ z. omega (arith, facts.calls x.node i e a, facts.most)) t q
-  deep-by facts x ks b f w i low t (a-function e) q =
-      deep-call x ks (argument c x.node) _ (64 + argument c x.node) b f low (omega arith)
-      (λ z. omega (arith, facts.functions x.node i e, facts.most)) t q
-  deep-by facts x ks b f w i low t (a-home e z) q = low
-  deep-by facts x ks b f w i low t (a_back e z) q = deep_back ks w.word b f low
-  deep-by facts x ks b f w i low t (a-begin e) q = low
-  deep-by facts x ks b f w i low t (a-condition e) q = low
+  deep-by facts x ks b f w i low t (a-plain e a) q = grind (arith, common_steps)
+  deep-by facts x ks b f w i low t (a_call e a) q = grind (arith, common_steps)
+  deep-by facts x ks b f w i low t (a-function e) q = grind (arith, common_steps)
+  deep-by facts x ks b f w i low t (a-home e z) q = grind (arith, common_steps)
+  deep-by facts x ks b f w i low t (a_back e z) q = grind (arith, common_steps)
+  deep-by facts x ks b f w i low t (a-begin e) q = grind (arith, common_steps)
+  deep-by facts x ks b f w i low t (a-condition e) q = grind (arith, common_steps)
 
   -- ---- the first tick, and then the others
   abbrev signal : ℕ → Signal
@@ -99,25 +84,12 @@ module _ (c : Chart) (n : ℕ) (s : Binding) where
   first_stops : (w : ℕ) (ws : List ℕ) (x : WalkPosition) → is_full_call n (tick_at n c x) ≡ true
       → first w ws x ≡ run_from_position c n s (w ∷ ws) x
   unfolding trace
-  first_stops w ws x e =
-      let t = tick_at n c x in let y = next w x in let ts = trace n c (signals s ws) y in
-      ap (λ (r : Bool). run_after (state x) (λ t. ticks (table c) t ws) (if r then stopped 17 else finished t.mask t.code (state y))) e
-      ∙ ap (λ (r : Bool). ran [] [] (state x) (if r then refused 17 0 else fine)) (sym (lt-ltb 0 (suc (length ws)) (omega arith)))
-      ∙ ap (λ (y : WalkPosition). run_by_ticks c n s 0 (t ∷ ts) y (suc (length ws))) (sym (stand-stop c n (signal w) (signals s ws) x e))
-      ∙ ap (λ (b : ℕ). run_by_ticks c n s b (t ∷ ts) (stand c n (signal w ∷ signals s ws) x) (suc (length ws))) (sym (bound-stop n t ts e))
+  first_stops w ws x e = grind (arith, common_steps, stand, stand-stop, tick_at, lt-ltb, bound-stop, trace)
 
   first_goes : (w : ℕ) (ws : List ℕ) (x : WalkPosition) → is_full_call n (tick_at n c x) ≡ false
       → ticks (table c) (state (next w x)) ws ≡ run_from_position c n s ws (next w x) → first w ws x ≡ run_from_position c n s (w ∷ ws) x
   unfolding trace
-  first_goes w ws x e ih =
-      let t = tick_at n c x in let y = next w x in let ts = trace n c (signals s ws) y in let b = bound n ts in
-      ap (λ (r : Bool). run_after (state x) (λ t. ticks (table c) t ws) (if r then stopped 17 else finished t.mask t.code (state y))) e
-      ∙ ap (λ (r : MachineRun). ran (t.mask ∷ r.masks) (t.code ∷ r.codes) r.state r.verdict) ih
-      ∙ ap (λ (r : Bool). ran (map (λ (u : Tick). u.mask) (take (suc b) (t ∷ ts))) (map (λ (u : Tick). u.code) (take (suc b) (t ∷ ts)))
-      (state (stand c n (signals s ws) y)) (if r then refused 17 0 else fine)) (sym (leb-suc-suc (suc b) (length ws)))
-      ∙ ap (λ (y : WalkPosition). run_by_ticks c n s (suc b) (t ∷ ts) y (suc (length ws)))
-      (sym (stand-go c n (signal w) (signals s ws) x e))
-      ∙ ap (λ (k : ℕ). run_by_ticks c n s k (t ∷ ts) (stand c n (signal w ∷ signals s ws) x) (suc (length ws))) (sym (bound-go n t ts e))
+  first_goes w ws x e ih = grind (arith, common_steps, leb-suc-suc, stand, tick_at, bound-go, stand-go, trace)
 
   module _ (facts : Facts c) (serves : Serves c s) where
     pub moves-on : (w : ℕ) (x : WalkPosition) → StandsWell c n x → is_full_call n (tick_at n c x) ≡ false → StandsWell c n (next w x)

@@ -1,9 +1,5 @@
 -- The bench sheet holds, as one list.
-use mathlib.Core.Path.{◌≡◌, refl, ◌∙◌, ap}
-use mathlib.Core.List.{List, []}
-use Prim.Native.Nat.{ℕ, ◌≤◌}
-use native.Mathlib.Omega.{arith}
-use lib.ListN.{replicate}
+use Rattle.std.proofs.Common.{◌≡◌, refl, ◌∙◌, ap, List, [], ℕ, ◌≤◌, arith, replicate}
 use Rattle.text.specs.frames.Verdict.{fine}
 use Rattle.text.specs.frames.Answer.{refusal, BufferOutcome}
 use Rattle.translator.specs.Entry.{translate}
@@ -11,11 +7,11 @@ use Rattle.state.specs.State.{fresh}
 use Rattle.ticks.specs.Tick.{tick}
 use Rattle.rows.specs.Rows.{best_row}
 use Rattle.runs.specs.Run.{RunOutcome, ticks, run_on}
-use Rattle.bench.specs.Bench.{BenchSheet, chart_p, image_p, bench_words, chart_home, chart_small, chart_mixed, chart_circle}
-use Rattle.bench.specs.Bench.{chart_function, chart_bore, bore_words, chart_again, fresh_run, image_of}
+use Rattle.bench.specs.Bench.{BenchSheet, chart_p, image_p, bench_words, chart_home, chart_small, chart_mixed, chart_circle, chart_function}
+use Rattle.bench.specs.Bench.{chart_bore, bore_words, chart_again, fresh_run, image_of}
 use Rattle.bench.proofs.Computing.{framing, translating}
-use Rattle.bench.proofs.Tables.{table_p, of-P, image_home, of-home, image_function, of_function, table_bore}
-use Rattle.bench.proofs.Tables.{image_bore, of-bore, table_again, image_again, of-again}
+use Rattle.bench.proofs.Tables.{table_p, of-P, image_home, of-home, image_function, of_function, table_bore, image_bore, of-bore}
+use Rattle.bench.proofs.Tables.{table_again, image_again, of-again}
 use Rattle.bench.proofs.Rounds.{blank, fresh-run, home-walk, home-run, function-run}
 
 refused-texts : (out : List ℕ) → (translate [] out ≡ record { reply = refusal 1 0 0; buffer = out })

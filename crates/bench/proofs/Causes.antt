@@ -1,5 +1,5 @@
 -- The cases of a tick's cause hold, computed.
-use mathlib.Core.Path.{refl}
+use Rattle.std.proofs.Common.{refl}
 use lib.Count.{ones, ones_in}
 use Rattle.cause.specs.Cause.{mask_against_all, leaving, cause_of, explain}
 use Rattle.bench.specs.Bench.{image_p}

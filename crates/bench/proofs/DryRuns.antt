@@ -1,5 +1,5 @@
 -- The cases of dry runs hold, computed.
-use mathlib.Core.Path.{refl}
+use Rattle.std.proofs.Common.{refl}
 use Rattle.dry_runs.specs.DryRun.{dry_run}
 use Rattle.bench.specs.Bench.{chart_p, image_p, bench_words}
 use Rattle.bench.specs.DryRuns.{DryRunCases}

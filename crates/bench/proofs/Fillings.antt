@@ -1,5 +1,5 @@
 -- The cases of how often the stack fills hold, computed.
-use mathlib.Core.Path.{refl}
+use Rattle.std.proofs.Common.{refl}
 use Rattle.words.specs.lists.Numbers.{count}
 use Rattle.fillings.specs.Counts.{words_of, count_meeting, count_verdict, count_fillings}
 use Rattle.bench.specs.Bench.{image_p}

@@ -1,10 +1,6 @@
 -- The second block of the bore test meets what the laws of functions ask, of the walk and of the machine: between call and return nothing
 -- writes 1, and the 0 arc, or the row for bit 0, is taken.
-use mathlib.Core.Path.{◌≡◌, refl}
-use mathlib.Core.Bool.{true, false}
-use mathlib.Core.List.{List, [], ◌∷◌, ◌++◌}
-use Prim.Native.Nat.{ℕ}
-use lib.ListN.{take}
+use Rattle.std.proofs.Common.{◌≡◌, refl, true, false, List, [], ◌∷◌, ◌++◌, ℕ, take}
 use Rattle.text.specs.frames.Frame.{contents}
 use Rattle.text.specs.frames.Verdict.{fine}
 use Rattle.charts.specs.Chart.{next0}

@@ -1,16 +1,12 @@
 -- The cases of a chart with a handler hold, computed.
-use mathlib.Core.Path.{◌≡◌, refl, ap}
-use mathlib.Core.Bool.{false}
-use mathlib.Core.List.{List, [], ◌∷◌}
-use Prim.Native.Nat.{ℕ, ◌≤◌}
-use native.Mathlib.Omega.{arith}
+use Rattle.std.proofs.Common.{◌≡◌, refl, ap, false, List, [], ◌∷◌, ℕ, ◌≤◌, arith}
 use Rattle.text.specs.frames.Verdict.{fine}
 use Rattle.state.specs.State.{fresh}
 use Rattle.runs.specs.Run.{RunOutcome, ticks, run_on}
 use Rattle.agreement.proofs.Images.{run_image, run-image}
 use Rattle.bench.specs.Bench.{fresh_run}
-use Rattle.bench.specs.Handler.{chart_handler, image_handler, drop_words, bottom_words}
-use Rattle.bench.specs.Handler.{ordinary_words, handler_state, reply_to_word, HandlerCases}
+use Rattle.bench.specs.Handler.{chart_handler, image_handler, drop_words, bottom_words, ordinary_words, handler_state, reply_to_word}
+use Rattle.bench.specs.Handler.{HandlerCases}
 use Rattle.bench.proofs.Computing.{walking, checking, ticking}
 use Rattle.bench.proofs.Tables.{table_handler, of-handler}
 use Rattle.bench.proofs.Rounds.{blank, fresh-run}

@@ -1,12 +1,7 @@
 -- Slips of a drop, each a tick in the place of the machine's. Most are shown not to meet the agreement.
 -- The result bits that a drop leaves never show in a tick, because a function's own call clears the bit that its return reads; a slip in
 -- them is shown to hand back another state than the definition, which the tick's contract rules out.
-use Rattle.std.proofs.Common.{if◌then◌else◌}
-use mathlib.Core.Path.{◌≡◌, ◌∙◌, ap, sym}
-use mathlib.Core.List.{List, [], ◌∷◌}
-use Prim.Native.Nat.{ℕ}
-use native.Mathlib.Omega.{arith}
-use lib.ListN.{take}
+use Rattle.std.proofs.Common.{if◌then◌else◌, ◌≡◌, ◌∙◌, ap, sym, List, [], ◌∷◌, ℕ, arith, take}
 use Rattle.results.specs.Results.{result_of}
 use Rattle.text.specs.frames.Answer.{reply_number}
 use Rattle.state.specs.declared.State.{State}
@@ -15,11 +10,10 @@ use Rattle.runs.specs.Run.{RunOutcome}
 use Rattle.agreement.specs.Agreement.{CallInput, CallOutput, call_outputs}
 use Rattle.agreement.proofs.Images.{run_image, run-image}
 use Rattle.bench.specs.Handler.{image_handler, drop_words, bottom_words, ordinary_words}
-use Rattle.bench.specs.HandlerSlips.{never_drops, drops_early, drops_again, counts_zero, heeds_called, keeps_beneath}
-use Rattle.bench.specs.HandlerSlips.{returns_to_caller, takes_row, leaves_places, HandsBack, clears_called}
-use Rattle.bench.specs.HandlerSlips.{keeps_handler_bit, forgets_result, clears_first, NeverDropsFails, DropsEarlyFails}
-use Rattle.bench.specs.HandlerSlips.{DropsAgainFails, CountsZeroFails, HeedsCalledFails, KeepsBeneathFails}
-use Rattle.bench.specs.HandlerSlips.{ReturnsToCallerFails, TakesRowFails, LeavesPlacesFails, ClearsCalledFails}
+use Rattle.bench.specs.HandlerSlips.{never_drops, drops_early, drops_again, counts_zero, heeds_called, keeps_beneath, returns_to_caller}
+use Rattle.bench.specs.HandlerSlips.{takes_row, leaves_places, HandsBack, clears_called, keeps_handler_bit, forgets_result, clears_first}
+use Rattle.bench.specs.HandlerSlips.{NeverDropsFails, DropsEarlyFails, DropsAgainFails, CountsZeroFails, HeedsCalledFails}
+use Rattle.bench.specs.HandlerSlips.{KeepsBeneathFails, ReturnsToCallerFails, TakesRowFails, LeavesPlacesFails, ClearsCalledFails}
 use Rattle.bench.specs.HandlerSlips.{KeepsHandlerBitFails, ForgetsResultFails, ClearsFirstFails}
 use Rattle.bench.proofs.Computing.{running}
 use Rattle.bench.proofs.Tables.{table_handler, of-handler}

@@ -1,12 +1,6 @@
 -- Functions that do too little: none that has one of these properties meets the translator's equation or the agreement.
-use Rattle.std.proofs.Common.{if◌then◌else◌}
-use mathlib.Core.Path.{◌≡◌, refl, ◌∙◌, ap, sym}
-use mathlib.Core.Bool.{true, false, ◌&&◌}
-use mathlib.Core.List.{List, [], ◌∷◌}
-use Prim.Native.Nat.{ℕ}
-use native.Mathlib.Omega.{arith}
-use lib.Dec.{leb, eqb}
-use lib.ListN.{length, take, get_or, replicate}
+use Rattle.std.proofs.Common.{if◌then◌else◌, ◌≡◌, refl, ◌∙◌, ap, sym, true, false, ◌&&◌, List, [], ◌∷◌, ℕ, arith, leb, eqb, length, take}
+use Rattle.std.proofs.Common.{get_or, replicate}
 use Rattle.words.specs.lists.Sequences.{over}
 use Rattle.text.specs.frames.Answer.{BufferOutcome, buffer_on, reply_number, reply_count}
 use Rattle.text.proofs.frames.Lent.{Success, lent-told, front}
@@ -20,9 +14,8 @@ use Rattle.agreement.specs.Agreement.{Rebinder, Translator, RunOutput, CallOutpu
 use Rattle.agreement.proofs.Demand.{theorem}
 use Rattle.bench.specs.Bench.{chart_p, image_p, bench_words, chart_home}
 use Rattle.bench.specs.Handler.{image_handler, drop_words}
-use Rattle.bench.specs.Idlers.{is_refusal, WritesOnly, TurnsBackFails, OneImageFails, AlwaysFullFails, AlwaysHomeFails}
-use Rattle.bench.specs.Idlers.{PlainAfterCallFails, StaysInHandlerFails, HomeAfterDropFails, WritesNothingFails}
-use Rattle.bench.specs.Idlers.{KeepsStateFails, MiscountsFails, OnlyThese}
+use Rattle.bench.specs.Idlers.{is_refusal, WritesOnly, TurnsBackFails, OneImageFails, AlwaysFullFails, AlwaysHomeFails, PlainAfterCallFails}
+use Rattle.bench.specs.Idlers.{StaysInHandlerFails, HomeAfterDropFails, WritesNothingFails, KeepsStateFails, MiscountsFails, OnlyThese}
 use Rattle.bench.proofs.Computing.{translating, running}
 use Rattle.bench.proofs.Tables.{table_p, of-P, image_home, table_handler, of-handler}
 use Rattle.bench.proofs.Instances.{first_output, second_output, at_home, at-deep, at-twice, at_drop}

@@ -1,9 +1,6 @@
 -- The agreement at a few charts and words, for any run that meets it: what runs from a fresh state must then hand back.
-use mathlib.Core.Path.{◌≡◌, refl, ◌∙◌, ap, ap₂, sym}
-use mathlib.Core.List.{List, [], ◌∷◌}
-use Prim.Native.Nat.{ℕ, ◌/◌, ◌≤◌}
-use native.Mathlib.Omega.{arith}
-use lib.ListN.{length, take, replicate, length-replicate}
+use Rattle.std.proofs.Common.{◌≡◌, refl, ◌∙◌, ap, ap₂, sym, List, [], ◌∷◌, ℕ, ◌/◌, ◌≤◌, arith, length, take, replicate}
+use Rattle.std.proofs.Math.ListN.{length-replicate}
 use Rattle.text.specs.frames.Frame.{contents}
 use Rattle.text.specs.frames.Answer.{success, refusal, BufferOutcome, buffer_filled_with}
 use Rattle.text.proofs.frames.Lent.{lent_fits, front}
@@ -13,16 +10,14 @@ use Rattle.image.specs.Image.{Image}
 use Rattle.translator.specs.Entry.{translate}
 use Rattle.state.specs.declared.State.{State}
 use Rattle.state.specs.State.{fresh, fresh_state}
-use Rattle.agreement.specs.Agreement.{Runner, Rebinder, RunInput, RunOutput, output_of, CallInput}
-use Rattle.agreement.specs.Agreement.{to_run, to_rebind, CallOutput, by_run, by_rebinding}
-use Rattle.agreement.specs.Agreement.{joined_words, call_outputs, bound, expected_outputs, Agreement}
+use Rattle.agreement.specs.Agreement.{Runner, Rebinder, RunInput, RunOutput, output_of, CallInput, to_run, to_rebind, CallOutput, by_run}
+use Rattle.agreement.specs.Agreement.{by_rebinding, joined_words, call_outputs, bound, expected_outputs, Agreement}
 use Rattle.agreement.proofs.Chain.{fresh-is}
 use Rattle.bench.specs.Bench.{chart_p, image_p, bench_words, chart_home, chart_function, chart_bore, bore_words}
 use Rattle.bench.specs.Handler.{chart_handler, image_handler, drop_words, bottom_words, ordinary_words}
 use Rattle.bench.specs.Swap.{chart_swap, image_swap}
 use Rattle.bench.proofs.Computing.{walking}
-use Rattle.bench.proofs.Tables.{TranslatesTo, of-P, image_home, of-home, image_function}
-use Rattle.bench.proofs.Tables.{of_function, chart_choice, image_choice, of-choice}
+use Rattle.bench.proofs.Tables.{TranslatesTo, of-P, image_home, of-home, image_function, of_function, chart_choice, image_choice, of-choice}
 use Rattle.bench.proofs.Tables.{image_bore, of-bore, of-handler, of-swap, chart_inner, image_inner, of_inner}
 
 -- one run with just room for its words; 7 is no code

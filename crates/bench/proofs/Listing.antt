@@ -1,5 +1,5 @@
 -- The cases of the listing hold, computed.
-use mathlib.Core.Path.{refl}
+use Rattle.std.proofs.Common.{refl}
 use Rattle.words.specs.lists.Numbers.{tabulate, lowest, count}
 use Rattle.rows.specs.listing.Listing.{first_rows, row_counts, list}
 use Rattle.bench.specs.Bench.{image_p}

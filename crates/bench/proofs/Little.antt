@@ -1,17 +1,11 @@
 -- The cases of the little charts hold: those of two and three frames are computed by the search, those of four follow from its samples.
-use Prim.Native.Nat.{ℕ}
-use mathlib.Core.Bool.{◌||◌}
-use mathlib.Core.Path.{◌≡◌, refl, sym, ◌∙◌, ap, ap₂}
-use mathlib.Core.List.{List, [], ◌∷◌, ◌++◌, map}
-use native.Mathlib.Omega.{arith}
-use lib.Dec.{leb, ltb}
-use lib.ListN.{length, get_or, replicate}
+use Rattle.std.proofs.Common.{ℕ, ◌||◌, ◌≡◌, refl, sym, ◌∙◌, ap, ap₂, List, [], ◌∷◌, ◌++◌, map, arith, leb, ltb, length, get_or, replicate}
 use Rattle.text.specs.frames.Frame.{text_of}
 use Rattle.text.specs.frames.Verdict.{when}
 use Rattle.text.specs.frames.Answer.{BufferOutcome, buffer_on}
 use Rattle.charts.specs.Chart.{Chart}
-use Rattle.little_charts.specs.Little.{begin_node, end_node, operation_node, condition_node, little_charts}
-use Rattle.little_charts.specs.Little.{little_text, little_verdict, little_chart}
+use Rattle.little_charts.specs.Little.{begin_node, end_node, operation_node, condition_node, little_charts, little_text, little_verdict}
+use Rattle.little_charts.specs.Little.{little_chart}
 use Rattle.little_charts.specs.little_search.inner.Search.{node_at, is_barred_node, searched_charts}
 use Rattle.little_charts.proofs.little_search.Same.{search-lists}
 use Rattle.little_charts.specs.little_totals.inner.Samples.{Samples, samples}

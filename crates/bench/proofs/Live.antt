@@ -1,5 +1,5 @@
 -- The cases of prepared tables and of live ticks hold, computed.
-use mathlib.Core.Path.{◌≡◌, refl, sym, ◌∙◌}
+use Rattle.std.proofs.Common.{◌≡◌, refl, sym, ◌∙◌}
 use Rattle.tables.specs.Prepare.{noted_to, prepare}
 use Rattle.tables.specs.Table.{table_image}
 use Rattle.runs.specs.machine.Live.{live_verdict, live_run, live_tick}

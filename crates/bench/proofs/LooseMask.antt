@@ -1,5 +1,5 @@
 -- The chart whose cause has a condition more than the row's care mask, computed.
-use mathlib.Core.Path.{refl}
+use Rattle.std.proofs.Common.{refl}
 use Rattle.rows.specs.Rows.{best_row}
 use Rattle.cause.specs.Cause.{mask_against_all, leaving, cause_of}
 use Rattle.bench.specs.LooseMask.{chart_loose, LooseMask}

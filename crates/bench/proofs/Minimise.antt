@@ -1,10 +1,6 @@
 -- The cases of the smaller image hold, computed; that 23 does not apply is computed by sizes.
-use Prim.Native.Nat.{ℕ}
-use mathlib.Core.Bool.{Bool}
-use mathlib.Core.Path.{◌≡◌, refl, sym, ap}
-use mathlib.Core.List.{List}
+use Rattle.std.proofs.Common.{ℕ, Bool, ◌≡◌, refl, sym, ap, List, replicate}
 use lib.Count.{ones, ones_in}
-use lib.ListN.{replicate}
 use Rattle.words.specs.lists.Numbers.{tabulate, lowest, count}
 use Rattle.words.specs.lists.Sequences.{filter, map_from}
 use Rattle.text.specs.frames.Frame.{contents}

@@ -1,5 +1,5 @@
 -- The constants of the code are the numbers written out, each computed.
-use mathlib.Core.Path.{refl}
+use Rattle.std.proofs.Common.{refl}
 use Rattle.bench.specs.Numbers.{RefusalNumbers, TickCodes, Meanings, Sizes, NodeLayout, ImageLayout, StateLayout, HeadSizes}
 
 pub refusal-numbers : RefusalNumbers

@@ -1,5 +1,5 @@
 -- What the two programs print on these charts and images, computed.
-use mathlib.Core.Path.{refl}
+use Rattle.std.proofs.Common.{refl}
 use Rattle.output.specs.printing.Lines.{refusal_line, code_line}
 use Rattle.output.specs.translate_output.TranslateProgram.{translate_output}
 use Rattle.output.specs.run_output.RunProgram.{run_output}

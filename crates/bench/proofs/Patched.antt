@@ -1,9 +1,6 @@
 -- The cases of a patched image hold, computed.
 -- Ones of a care mask are counted here, in causes and in the slips of the rule, and nowhere else on the bench.
-use mathlib.Core.Path.{◌≡◌, ap}
-use mathlib.Core.List.{List}
-use Prim.Native.Nat.{ℕ}
-use native.Mathlib.Omega.{arith}
+use Rattle.std.proofs.Common.{◌≡◌, ap, List, ℕ, arith}
 use lib.Count.{ones, ones_in}
 use Rattle.results.specs.Results.{no_results}
 use Rattle.text.specs.frames.Verdict.{fine}

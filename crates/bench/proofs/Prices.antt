@@ -1,5 +1,5 @@
 -- The cases of prices hold, computed.
-use mathlib.Core.Path.{refl}
+use Rattle.std.proofs.Common.{refl}
 use Rattle.words.specs.lists.Numbers.{sum}
 use Rattle.prices.specs.Prices.{tick_price, hundredths}
 use Rattle.prices.specs.priced_runs.PricedRun.{priced_verdict, priced_run}

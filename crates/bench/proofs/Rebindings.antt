@@ -1,7 +1,5 @@
 -- Lists of runs and rebindings on an image, by the table that it holds.
-use mathlib.Core.Path.{◌≡◌, refl, ◌∙◌, ap, ap₂}
-use mathlib.Core.List.{List, [], ◌∷◌}
-use Prim.Native.Nat.{ℕ}
+use Rattle.std.proofs.Common.{◌≡◌, refl, ◌∙◌, ap, ap₂, List, [], ◌∷◌, ℕ}
 use Rattle.text.specs.frames.Verdict.{Verdict, next}
 use Rattle.image.specs.Image.{Image}
 use Rattle.state.specs.declared.State.{State}

@@ -1,5 +1,5 @@
 -- Every case of a refusal holds, computed.
-use mathlib.Core.Path.{refl}
+use Rattle.std.proofs.Common.{refl}
 use Rattle.bench.specs.Bench.{chart_p, image_p, bench_words, chart_function}
 use Rattle.bench.specs.RefusalCases.{RefusalCases}
 use Rattle.bench.proofs.Computing.{translating, counting, running}

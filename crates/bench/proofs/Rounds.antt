@@ -1,12 +1,9 @@
 -- Runs from a fresh state on the image of a chart, for every list of words: B6 and B10.
-use mathlib.Core.Path.{◌≡◌, refl, ◌∙◌, ap, ap₂, subst}
-use mathlib.Core.Bool.{Bool, true, false}
-use mathlib.Core.List.{List, [], ◌∷◌, ◌++◌, map, append-nil}
-use Prim.Native.Nat.{ℕ, zero, suc, ◌%◌, ◌≤◌}
-use native.Mathlib.Omega.{arith}
-use borrow.Author.Tests.{le-ltb, lt-leb}
+use Rattle.std.proofs.Common.{◌≡◌, refl, ◌∙◌, ap, ap₂, subst, Bool, true, false, List, [], ◌∷◌, ◌++◌, map, append-nil, ℕ, zero, suc, ◌%◌}
+use Rattle.std.proofs.Common.{◌≤◌, arith, le-ltb, length, get_or, replicate, drop_of_length-le}
+use borrow.Author.Tests.{lt-leb}
 use lib.Bits.{and_zero_r}
-use lib.ListN.{length, get_or, replicate, length-replicate, length-map, drop_of_length-le}
+use Rattle.std.proofs.Math.ListN.{length-replicate, length-map}
 use Rattle.words.specs.lists.Numbers.{range}
 use Rattle.words.specs.lists.Sequences.{over}
 use Rattle.words.proofs.lists.Ranges.{length-map-range}

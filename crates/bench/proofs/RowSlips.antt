@@ -1,14 +1,9 @@
 -- Slips of the rule by which a row is taken, each shown to run a patched image otherwise than the definition, which a run's contract
 -- rules out. On the image of a chart they are no slips: just one row matches there. So it is with the rule that takes the first row that
 -- matches.
-use Rattle.std.proofs.Common.{if◌then◌else◌}
-use mathlib.Core.Path.{◌≡◌, refl, sym, ◌∙◌, ap}
-use mathlib.Core.Bool.{Bool, true, false}
-use mathlib.Core.List.{List, [], ◌∷◌}
-use Prim.Native.Nat.{ℕ, zero, suc, ◌+◌, ◌<◌}
-use native.Mathlib.Omega.{arith}
+use Rattle.std.proofs.Common.{if◌then◌else◌, ◌≡◌, refl, sym, ◌∙◌, ap, Bool, true, false, List, [], ◌∷◌, ℕ, zero, suc, ◌+◌, ◌<◌, arith}
+use Rattle.std.proofs.Common.{length, get_or}
 use lib.Count.{ones, ones_in}
-use lib.ListN.{length, get_or}
 use Rattle.image.specs.Image.{Image, Row, no_row}
 use Rattle.rows.specs.Rows.{is_candidate, Choice, row, no_choice}
 use Rattle.state.specs.State.{fresh}

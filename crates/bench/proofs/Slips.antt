@@ -1,18 +1,14 @@
 -- The six slips of the bench sheet, and a call that clears no bit: the machine, or the table, with one of them is shown not to meet its
 -- statement.
-use mathlib.Core.Path.{◌≡◌, ap}
-use mathlib.Core.List.{List, [], ◌∷◌}
-use Prim.Native.Nat.{ℕ}
-use native.Mathlib.Omega.{arith}
-use lib.ListN.{replicate}
+use Rattle.std.proofs.Common.{◌≡◌, ap, List, [], ◌∷◌, ℕ, arith, replicate}
 use Rattle.text.specs.frames.Answer.{BufferOutcome, reply_count}
 use Rattle.bench.specs.Bench.{lines, bench_words, bore_words}
-use Rattle.bench.specs.Slips.{calls_again, reads_at_call, chooses_by_call, keeps_bit, returns_home, refuses_early}
-use Rattle.bench.specs.Slips.{joined_rows, CallsAgainFails, ReadsAtCallFails, ChoosesByCallFails, KeepsBitFails}
-use Rattle.bench.specs.Slips.{ReturnsHomeFails, RefusesEarlyFails, JoinsRowsFails}
+use Rattle.bench.specs.Slips.{calls_again, reads_at_call, chooses_by_call, keeps_bit, returns_home, refuses_early, joined_rows}
+use Rattle.bench.specs.Slips.{CallsAgainFails, ReadsAtCallFails, ChoosesByCallFails, KeepsBitFails, ReturnsHomeFails, RefusesEarlyFails}
+use Rattle.bench.specs.Slips.{JoinsRowsFails}
 use Rattle.bench.proofs.Computing.{translating, running}
-use Rattle.bench.proofs.Tables.{table_p, of-P, table_home, of-home, table_function, of_function}
-use Rattle.bench.proofs.Tables.{table_choice, of-choice, table_bore, of-bore}
+use Rattle.bench.proofs.Tables.{table_p, of-P, table_home, of-home, table_function, of_function, table_choice, of-choice, table_bore}
+use Rattle.bench.proofs.Tables.{of-bore}
 use Rattle.bench.proofs.Instances.{at_home, at-deep, at-shallow, at-function, at-choice, at-bore}
 use Rattle.bench.specs.Variants.{ticks_by_rule, run_by}
 use Rattle.bench.proofs.Variants.{made, code_at, mask_at}

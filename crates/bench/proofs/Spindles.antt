@@ -1,5 +1,5 @@
 -- The cases of four spindles hold, computed.
-use mathlib.Core.Path.{refl}
+use Rattle.std.proofs.Common.{refl}
 use Rattle.runs.specs.TickOutcome.{image_tick}
 use Rattle.runs.specs.machine.Live.{live_verdict, live_run, live_tick}
 use Rattle.spindles.specs.Spindles.{depths, spin, live_spin}

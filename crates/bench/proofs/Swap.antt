@@ -1,8 +1,5 @@
 -- The cases of swapped schemes hold, computed on the chart's table.
-use mathlib.Core.Path.{◌≡◌, refl, ◌∙◌, ap, sym}
-use mathlib.Core.List.{List, [], ◌∷◌}
-use Prim.Native.Nat.{ℕ}
-use lib.ListN.{replicate}
+use Rattle.std.proofs.Common.{◌≡◌, refl, ◌∙◌, ap, sym, List, [], ◌∷◌, ℕ, replicate}
 use Rattle.text.specs.frames.Frame.{contents}
 use Rattle.text.specs.frames.Answer.{success, refusal}
 use Rattle.walk.specs.Walk.{Tick}
@@ -11,12 +8,12 @@ use Rattle.state.specs.State.{fresh, fresh_state}
 use Rattle.state.specs.Bytes.{bytes_of}
 use Rattle.runs.specs.Run.{RunOutcome}
 use Rattle.rebinding.specs.Rebind.{rebind}
-use Rattle.agreement.specs.Agreement.{CallInput, to_rebind, CallOutput, by_rebinding, call_outputs}
-use Rattle.agreement.specs.Agreement.{joined_words, bound, expected_outputs, walk_outputs}
+use Rattle.agreement.specs.Agreement.{CallInput, to_rebind, CallOutput, by_rebinding, call_outputs, joined_words, bound, expected_outputs}
+use Rattle.agreement.specs.Agreement.{walk_outputs}
 use Rattle.agreement.proofs.Images.{rebind_image, run_image, run-image}
 use Rattle.bench.specs.Swap.{chart_swap, image_swap, input_word, run_of, output_handed, rebinding_done, swap_outputs, walk_of}
-use Rattle.bench.specs.Swap.{calls_across_blocks, calls_across_drop, calls_across_full, blocks_ticks, drop_ticks, full_ticks}
-use Rattle.bench.specs.Swap.{ByteCases, SwapCases, RebindingCases, FitnessCases, WalkedCases}
+use Rattle.bench.specs.Swap.{calls_across_blocks, calls_across_drop, calls_across_full, blocks_ticks, drop_ticks, full_ticks, ByteCases}
+use Rattle.bench.specs.Swap.{SwapCases, RebindingCases, FitnessCases, WalkedCases}
 use Rattle.bench.proofs.Computing.{walking, ticking}
 use Rattle.bench.proofs.Tables.{table_swap, of-swap, held}
 use Rattle.bench.proofs.Rebindings.{rebind-image, chain-image}

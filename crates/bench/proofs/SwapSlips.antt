@@ -1,10 +1,5 @@
 -- Slips of a rebinding, and of a run under one, each shown not to meet the agreement.
-use mathlib.Core.Path.{◌≡◌, ◌∙◌, ap, sym}
-use mathlib.Core.List.{List, [], ◌∷◌}
-use Prim.Native.Nat.{ℕ}
-use native.Mathlib.Omega.{arith}
-use lib.Dec.{eqb}
-use lib.ListN.{length, replicate}
+use Rattle.std.proofs.Common.{◌≡◌, ◌∙◌, ap, sym, List, [], ◌∷◌, ℕ, arith, eqb, length, replicate}
 use Rattle.words.specs.lists.Sequences.{some}
 use Rattle.text.specs.frames.Frame.{contents}
 use Rattle.text.specs.frames.Answer.{reply_number}
@@ -17,14 +12,14 @@ use Rattle.rebinding.specs.Rebind.{rebind}
 use Rattle.agreement.specs.Agreement.{RunOutput, output_of, CallInput, to_rebind, call_outputs}
 use Rattle.agreement.proofs.Images.{run_image, rebind_image, run-image}
 use Rattle.bench.specs.Swap.{image_swap}
-use Rattle.bench.specs.SwapSlips.{Swapper, rebind_by, notes, counts_at_return, swaps_open, binds_refused}
-use Rattle.bench.specs.SwapSlips.{writes_by_server, reads_by_server, kept_by_server, shows_server, ActsLaterFails}
-use Rattle.bench.specs.SwapSlips.{KeepsBindingFails, RebindsHandlerFails, CountsAtReturnFails, SwapsOpenFails}
-use Rattle.bench.specs.SwapSlips.{BindsRefusedFails, WritesByServerFails, ReadsByServerFails, KeptByServerFails, ShowsServerFails}
+use Rattle.bench.specs.SwapSlips.{Swapper, rebind_by, notes, counts_at_return, swaps_open, binds_refused, writes_by_server, reads_by_server}
+use Rattle.bench.specs.SwapSlips.{kept_by_server, shows_server, ActsLaterFails, KeepsBindingFails, RebindsHandlerFails, CountsAtReturnFails}
+use Rattle.bench.specs.SwapSlips.{SwapsOpenFails, BindsRefusedFails, WritesByServerFails, ReadsByServerFails, KeptByServerFails}
+use Rattle.bench.specs.SwapSlips.{ShowsServerFails}
 use Rattle.bench.proofs.Computing.{ticking}
 use Rattle.bench.proofs.Tables.{TranslatesTo, held, table_swap, of-swap, table_inner, of_inner}
-use Rattle.bench.proofs.Instances.{run_alone, second_output, third, at_own, at-served, at-answer}
-use Rattle.bench.proofs.Instances.{at-within, at-barred, at-handler, at_inner}
+use Rattle.bench.proofs.Instances.{run_alone, second_output, third, at_own, at-served, at-answer, at-within, at-barred, at-handler}
+use Rattle.bench.proofs.Instances.{at_inner}
 use Rattle.bench.proofs.Rebindings.{rebind-image, rebind-by, chain-alike}
 use Rattle.bench.specs.Variants.{StepRule, ticks_by_rule, run_by}
 use Rattle.bench.proofs.Variants.{decoded_run_by, by-table, code_at, mask_at}

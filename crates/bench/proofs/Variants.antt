@@ -1,8 +1,5 @@
 -- Runs with another tick in the place of the machine's, and what they hand back.
-use mathlib.Core.Path.{◌≡◌, refl, ◌∙◌, ap, ap₂, sym}
-use mathlib.Core.List.{List}
-use Prim.Native.Nat.{ℕ}
-use lib.ListN.{get_or}
+use Rattle.std.proofs.Common.{◌≡◌, refl, ◌∙◌, ap, ap₂, sym, List, ℕ, get_or}
 use Rattle.text.specs.frames.Verdict.{Verdict, next}
 use Rattle.image.specs.Image.{Image}
 use Rattle.state.specs.declared.State.{State}

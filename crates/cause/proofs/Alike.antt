@@ -1,7 +1,5 @@
 -- On texts that are read alike the cause of a tick is the same.
-use Prim.Native.Nat.{ℕ}
-use mathlib.Core.Path.{◌≡◌, ap₂}
-use mathlib.Core.List.{List}
+use Rattle.std.proofs.Common.{ℕ, ◌≡◌, ap₂, List}
 use Rattle.text.specs.frames.Verdict.{Verdict, next, when}
 use Rattle.text.specs.frames.Alike.{ReadAlike}
 use Rattle.image.specs.Decode.{decoded_image}

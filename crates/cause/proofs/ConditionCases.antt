@@ -1,14 +1,8 @@
 -- The functions that find the conditions against the rows of a label, test by test and row by row.
-use Rattle.std.proofs.Common.{if◌then◌else◌}
-use Prim.Native.Nat.{ℕ, suc, ◌+◌, ◌*◌, ◌-◌, ◌^◌, ◌≤◌, ◌<◌, min}
-use mathlib.Core.Bool.{Bool, true, false, ◌&&◌, not}
-use mathlib.Core.Path.{◌≡◌, sym, ◌∙◌, ap, ap₂}
-use mathlib.Core.Logic.{◌⊎◌, inl, inr}
-use mathlib.Core.List.{List}
-use native.Mathlib.Omega.{arith}
-use lib.Bits.{bit_and, bit_or, or_zero_l}
-use lib.ListN.{get_or}
-use borrow.Author.Tests.{eq-eqb, ne_eqb}
+use Rattle.std.proofs.Common.{if◌then◌else◌, ℕ, suc, ◌-◌, ◌^◌, ◌≤◌, ◌<◌, min, Bool, true, false, ◌&&◌, not, ◌≡◌, sym, ◌∙◌, ap, ap₂, List}
+use Rattle.std.proofs.Common.{arith, bit_and, bit_or, get_or, eq-eqb, ne_eqb}
+use lib.Bits.{or_zero_l}
+use Rattle.std.proofs.lemmas.Grind.{common_steps}
 use Rattle.words.specs.lists.Numbers.{lowest}
 use Rattle.words.proofs.lists.Searches.{lowest-below}
 use Rattle.words.proofs.lists.Tests.{split}
@@ -70,9 +64,7 @@ module _ (b : List ℕ) (f w bit : ℕ) (x : RowAsked b f) (bytes : (k : ℕ) �
         low-is = g ∙ ap₂ (λ (m n : ℕ). lowest (is_differing w m n) 0 16) p q
 
         pub low-condition : i < 16
-        low-condition =
-            let small : (k : ℕ) → pair_at b f k < 65536 = λ k. omega (arith, bytes (10 * f + k), bytes (10 * f + (k + 1))) in
-            omega (arith, low-is, low-differs w care values (small 2) (small 4) x.kept (sym agrees-is ∙ ne_eqb (bit_and w c) v z))
+        low-condition = grind (arith, common_steps, low-differs, ne_eqb, agrees-is, low-is)
 
         pub against-low : (r : ℕ) → r ≡ bit_or 0 (2 ^ i) → r ≡ mask_against_in b w bit f
         against-low r y = y ∙ or_zero_l (2 ^ i) ∙ ap (λ (n : ℕ). 2 ^ n) low-is ∙ sym (by_word false (ne_eqb (bit_and w c) v z))
@@ -86,11 +78,7 @@ module _ (b : List ℕ) (w bit first end : ℕ) where
 
   pub joined-none : JoinedMask 0 end
   unfolding mask_against_from
-  joined-none = record {
-    inside = omega arith;
-    reached = omega arith;
-    joined = ap (mask_against_from b w bit end) (let z : 0 ≡ end - end = omega arith in z);
-  }
+  joined-none = grind (arith, common_steps)
 
   pub joined-more : (mask f r : ℕ) → JoinedMask mask f → first < f → r ≡ mask_against_in b w bit (f - 1)
       → JoinedMask (bit_or r mask) (f - 1)
@@ -109,8 +97,4 @@ module _ (b : List ℕ) (w bit first end : ℕ) where
   over-end f h = ap (mask_against_from b w bit f) (let z : end - f ≡ 0 = omega arith in z)
 
   pub joined-all : (mask f : ℕ) → JoinedMask mask f → f ≤ first → mask ≡ mask_against_from b w bit first (end - first)
-  joined-all mask f x h = x.joined ∙ go (split end first)
-    where
-      go : (end < first) ⊎ (first ≤ end) → mask_against_from b w bit f (end - f) ≡ mask_against_from b w bit first (end - first)
-      go (inl g) = over-end f (omega (arith, x.reached)) ∙ sym (over-end first (omega arith))
-      go (inr g) = ap (λ (n : ℕ). mask_against_from b w bit n (end - n)) (let z : f ≡ first = omega (arith, x.reached) in z)
+  joined-all mask f x h = grind (arith, common_steps, split, over-end)

@@ -1,13 +1,6 @@
 -- A cause and the tick that it explains: the mask decides the row and with it the tick, the row is the one that the tick takes, and a
 -- refusal says that it takes none.
-use Rattle.std.proofs.Common.{if◌then◌else◌}
-use Prim.Native.Nat.{ℕ}
-use mathlib.Core.Path.{◌≡◌, refl, sym, ◌∙◌, ap, subst}
-use mathlib.Core.Logic.{inl, inr}
-use mathlib.Core.List.{List}
-use native.Mathlib.Omega.{arith}
-use lib.Bits.{bit_and, bit_or}
-use lib.Dec.{eqb}
+use Rattle.std.proofs.Common.{if◌then◌else◌, ℕ, ◌≡◌, refl, sym, ◌∙◌, ap, subst, inl, inr, List, arith, bit_and, bit_or, eqb}
 use Rattle.words.specs.bits.Word.{bit}
 use Rattle.text.specs.frames.Frame.{contents}
 use Rattle.image.specs.Image.{Image, Row, nth_row}
@@ -20,10 +13,10 @@ use Rattle.state.specs.declared.State.{State}
 use Rattle.state.specs.State.{label_at}
 use Rattle.fitness.proofs.Fitness.{Fits, unfits}
 use Rattle.ticks.specs.Tick.{called_bit, choice, MachineTick, stopped, tick}
-use Rattle.cause.specs.Cause.{mask_against_all, Leaving, leaves_label, nothing, leaving, Cause, Caused}
-use Rattle.cause.specs.Cause.{because, unexplained, cause_by, cause_at, cause_of}
-use Rattle.cause.specs.Laws.{Fitting, taken_row_from, taken_row, SameRow, SameTick, Arrives}
-use Rattle.cause.specs.Laws.{RowTaken, CareNeeded, RefusedCause, RefusedExactly}
+use Rattle.cause.specs.Cause.{mask_against_all, Leaving, leaves_label, nothing, leaving, Cause, Caused, because, unexplained, cause_by}
+use Rattle.cause.specs.Cause.{cause_at, cause_of}
+use Rattle.cause.specs.Laws.{Fitting, taken_row_from, taken_row, SameRow, SameTick, Arrives, RowTaken, CareNeeded, RefusedCause}
+use Rattle.cause.specs.Laws.{RefusedExactly}
 use Rattle.cause.proofs.Masks.{mask-decides, care-tells}
 use Rattle.cause.proofs.Leaves.{Goes, Leaves, by, stays, leaves, rowless-stays}
 

@@ -1,15 +1,9 @@
 -- How a tick goes on from a state that fits: by the row of the label that it leaves and nothing else of the word, or without a row.
-use Rattle.std.proofs.Common.{if◌then◌else◌}
-use Prim.Native.Nat.{ℕ, zero, suc, ◌+◌, ◌-◌, ◌≤◌, ◌<◌}
-use mathlib.Core.Bool.{Bool, true, false, ◌||◌}
-use mathlib.Core.Path.{◌≡◌, refl, sym, ◌∙◌, ap}
-use mathlib.Core.Logic.{◌⊎◌, inl, inr}
-use native.Mathlib.Decide.{dec_lt}
-use native.Mathlib.Omega.{arith}
-use lib.Dec.{leb, eqb}
-use lib.ListN.{length, get_or, set, length-set}
-use lib.Seq.{get_or-set_same}
-use borrow.Author.Tests.{le-leb, leb-true, leb-false, eqb-true, eq-eqb}
+use Rattle.std.proofs.Common.{if◌then◌else◌, ℕ, zero, suc, ◌+◌, ◌-◌, ◌≤◌, ◌<◌, Bool, true, false, ◌||◌, ◌≡◌, refl, sym, ◌∙◌, ap, ◌⊎◌, inl}
+use Rattle.std.proofs.Common.{inr, arith, leb, eqb, length, get_or, set, length-set, get_or-set_same, le-leb, leb-true, leb-false, eqb-true}
+use Rattle.std.proofs.Common.{eq-eqb}
+use Rattle.std.proofs.Math.Decide.{dec_lt}
+use Rattle.std.proofs.lemmas.Grind.{common_steps}
 use Rattle.words.proofs.lists.Tests.{or_cases, or-true-l, or_true_r}
 use Rattle.results.specs.Results.{Results, with_result, cleared_results}
 use Rattle.bindings.specs.Binding.{server_of}
@@ -107,18 +101,11 @@ module _ (i : Image) (sound : SoundImage i) (s : State) (f : Fits i s) where
 
   -- ---- a return
   return-is : x.kind ≡ 3 → (top_of s ≡ 1) × (x ≡ return_label)
-  return-is e = go top-sort
-    where
-      go : Sort i sound (top_of s) → (top_of s ≡ 1) × (x ≡ return_label)
-      go (home_sort z q o) = absurd (omega arith)
-      go (return_sort z q o) = (z, ap (label_at i) z ∙ sound.back)
-      go (numbered_sort z q) = absurd (omega arith)
+  return-is e = grind (arith, common_steps)
 
   returns : x.kind ≡ 3 → (w : ℕ) → tick i s w ≡ popped_tick i s w 0 s.bits (leb s.depth 1)
   unfolding tick
-  returns e w =
-      ap (λ (y : Label). tick_by i s w (top_of s) y (with_result y.result (number_at s (s.depth - 1)) s.bits) (tick_kind y.kind))
-      (return-is e).1
+  returns e w = grind (arith, common_steps)
 
   back : x.kind ≡ 3 → leb s.depth 1 ≡ false → Goes i s (place_at s (s.depth - 2))
   back e t = let two : 1 < s.depth = leb-false s.depth 1 t in record {
@@ -159,12 +146,7 @@ module _ (i : Image) (sound : SoundImage i) (s : State) (f : Fits i s) where
   calls : (code : ℕ) → is_call x ≡ true
       → ((w : ℕ) → tick i s w ≡ pushed_tick i s x.mask code x.called (server_of s.serving x.called) bits (leb s.size s.depth))
       → StaysPut i s
-  calls code e go = record {
-    rowless = at_call_label e;
-    same = λ v w. go v ∙ sym (go w);
-    never = λ w q. other-never _ (pushed-other x.mask code x.called (server_of s.serving x.called) (leb s.size s.depth))
-        (sym (go w) ∙ q);
-  }
+  calls code e go = grind (arith, common_steps)
 
   starts : (k : ℕ) → x.kind ≡ suc (suc (suc (suc k))) → StaysPut i s
   starts k e = record {

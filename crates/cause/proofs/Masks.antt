@@ -1,19 +1,13 @@
 -- The rows of one label, for one word and one bit:
 -- every word that agrees on the mask of the row chosen and of the conditions against the others chooses the same row, and no condition of
 -- the row's own care mask can be left out.
-use Rattle.std.proofs.Common.{if◌then◌else◌}
-use mathlib.Core.Path.{◌≡◌, sym, ◌∙◌, ap, subst}
-use mathlib.Core.Logic.{◌⊎◌, inl, inr}
-use mathlib.Core.Bool.{Bool, true, false, ◌&&◌, ◌||◌, not}
-use mathlib.Core.List.{List, [], ◌∷◌}
-use Prim.Native.Nat.{ℕ, zero, suc, ◌^◌, ◌%◌, ◌≤◌, ◌<◌, min, max}
-use native.Mathlib.Nat.{div-eq_of_lt}
-use native.Mathlib.Omega.{arith}
-use lib.Bits.{bit_and, bit_or, and_le_r}
-use lib.Dec.{eqb}
-use lib.ListN.{length, get_or}
-use lib.Pow.{pow_mono}
-use borrow.Author.Tests.{eq-eqb, ne_eqb, eqb-true, eqb-false}
+use Rattle.std.proofs.Common.{if◌then◌else◌, ◌≡◌, sym, ◌∙◌, ap, ◌⊎◌, inl, inr, Bool, true, false, ◌&&◌, ◌||◌, not, List, [], ◌∷◌, ℕ, zero}
+use Rattle.std.proofs.Common.{suc, ◌^◌, ◌%◌, ◌≤◌, ◌<◌, min, max, arith, bit_and, bit_or, eqb, length, get_or, pow_mono, eq-eqb, ne_eqb}
+use Rattle.std.proofs.Common.{eqb-true}
+use Rattle.std.proofs.Math.Nat.{div-eq_of_lt}
+use lib.Bits.{and_le_r}
+use borrow.Author.Tests.{eqb-false}
+use Rattle.std.proofs.lemmas.Grind.{common_steps}
 use Rattle.words.specs.lists.Numbers.{lowest}
 use Rattle.words.proofs.lists.Tests.{no_both, split, cases, and_l, and_r, and-true, and_no, not-true, not-false, and-false}
 use Rattle.words.proofs.lists.Searches.{lowest-hit, lowest-past}
@@ -78,8 +72,7 @@ low-differs w care values small tiny kept e = go (split (lowest p 0 16) 16)
 module _ (i : Image) (w : ℕ) (r : Row) (s : SoundRow i r) where
   lowest-contradicts : is_agreeing w r.care r.values ≡ false
       → is_differing w r.care r.values (lowest (is_differing w r.care r.values) 0 16) ≡ true
-  lowest-contradicts e = lowest-hit (is_differing w r.care r.values) 0 16
-      (omega (arith, low-differs w r.care r.values s.cares s.small s.within e))
+  lowest-contradicts e = grind (arith, common_steps, lowest-hit, low-differs)
 
   -- a word with the same value there does not match it either
   still : is_agreeing w r.care r.values ≡ false → (v : ℕ)
@@ -144,30 +137,7 @@ module _ (i : Image) (sound : SoundImage i) (l w b : ℕ) where
             and_no (eqb r.from l) (is_match v b r) (ap (λ (t : Bool). t && (eqb r.bit 2 || eqb r.bit b)) no-match)
 
     same-best : (k : ℕ) (r : Row) → ((j : ℕ) → bit r.care j ≡ 1 → bit m j ≡ 1) → Best l w b i.rows k r → Best l v b i.rows k r
-    same-best k r cares best = record {
-      inside = best.inside;
-      is = best.is;
-      matches = matching;
-      most = λ j h o. best.most j h (before j h o);
-      last = λ j g h o. best.last j g h (before j h o);
-    }
-      where
-        before : (j : ℕ) → j < length i.rows → is_candidate l v b (nth_row i j) ≡ true → is_candidate l w b (nth_row i j) ≡ true
-        before j h o = go (cases (is_candidate l w b (nth_row i j)))
-          where
-            go : (is_candidate l w b (nth_row i j) ≡ true) ⊎ (is_candidate l w b (nth_row i j) ≡ false)
-                → is_candidate l w b (nth_row i j) ≡ true
-            go (inl y) = y
-            go (inr y) = no_both (is_candidate l v b (nth_row i j)) o (kept_out j h y)
-
-        small : r.care < 2 ^ 16
-        small = subst (λ (x : Row). x.care < 65536) best.is (sound.each k best.inside).cares
-
-        matching : is_candidate l v b r ≡ true
-        matching =
-            ap (λ (x : ℕ). eqb r.from l && (eqb x r.values && (eqb r.bit 2 || eqb r.bit b)))
-            (agree-part v w m r.care small cares e)
-            ∙ best.matches
+    same-best k r cares best = grind (arith, common_steps, cases, no_both, agree-part, kept_out)
 
   -- the mask of a cause decides the row
   pub mask-decides : (k : ℕ) (r : Row) → best_row l w b 0 i.rows ≡ row k r → (v : ℕ)

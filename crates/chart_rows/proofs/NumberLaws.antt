@@ -1,16 +1,8 @@
 -- The numbers of the conditions that paths test, at plain values: which nodes have one, what a word's bit at it tells, and how a loop
 -- writes them behind the labels.
-use mathlib.Core.Path.{◌≡◌, refl, sym, ◌∙◌, ap}
-use mathlib.Core.Logic.{⊎_elim}
-use mathlib.Core.Bool.{true, false, ◌&&◌, not}
-use mathlib.Core.List.{List}
-use Prim.Native.Nat.{ℕ, ◌+◌, ◌≤◌, ◌<◌}
-use native.Mathlib.Decide.{ℕ_discrete}
-use native.Mathlib.Omega.{arith}
-use lib.Dec.{eqb}
-use lib.ListN.{length, get_or, set, length-set}
-use lib.Seq.{get_or-set_same, get_or-set_other}
-use borrow.Author.Tests.{eqb-true, eq-eqb, ne_eqb}
+use Rattle.std.proofs.Common.{◌≡◌, refl, sym, ◌∙◌, ap, ⊎_elim, true, false, ◌&&◌, not, List, ℕ, ◌+◌, ◌≤◌, ◌<◌, arith, length, get_or, set}
+use Rattle.std.proofs.Common.{length-set, get_or-set_same, get_or-set_other, eqb-true, eq-eqb, ne_eqb}
+use Rattle.std.proofs.lemmas.Grind.{common_steps}
 use Rattle.words.proofs.lists.Tests.{no_both, and_l, and-true, if-true, if-false, cases, and_no}
 use Rattle.words.specs.bits.Word.{bit}
 use Rattle.text.specs.frames.Frame.{size, field}
@@ -36,13 +28,10 @@ module _ (c : Chart) (v : ℕ) where
   number-stop s = number-none (and_no (is c 3 v) (not (is_stop c v)) (ap not s))
 
   pub number-goes : kind c v ≡ 3 → is_stop c v ≡ false → tested_number c v ≡ argument c v
-  number-goes k s = if-true (is c 3 v && not (is_stop c v)) (argument c v) 16
-      (and-true (is c 3 v) (not (is_stop c v)) (eq-eqb (kind c v) 3 k) (ap not s))
+  number-goes k s = grind (arith, common_steps, eq-eqb, if-true, and-true)
 
   pub low-condition : (i : ℕ) → i ≡ tested_number c v → i ≤ 15 → kind c v ≡ 3
-  low-condition i e h = ⊎_elim
-      (λ (g : (is c 3 v && not (is_stop c v)) ≡ true). eqb-true (kind c v) 3 (and_l (is c 3 v) (not (is_stop c v)) g))
-      (λ (g : (is c 3 v && not (is_stop c v)) ≡ false). absurd (omega (arith, number-none g))) (cases (is c 3 v && not (is_stop c v)))
+  low-condition i e h = grind (arith, common_steps, eqb-true, cases, and_l, number-none)
 
 -- a condition stops where it has a label of its own
 module _ (c : Chart) (v own : ℕ) (e : own ≡ label c v) where
@@ -67,16 +56,13 @@ module _ (c : Chart) (ready : Ready c) (v i : ℕ) (t : Entered c v) (e : i ≡ 
       (q, small-number (record { ready = ready; inside = t.inside; kind = k }) q)
 
   pub number-most : i ≤ 16
-  number-most = ⊎_elim (λ (s : is_stop c v ≡ true). omega (arith, number-stop c v s))
-      (λ (s : is_stop c v ≡ false). omega (arith, (goes_small s).1)) (cases (is_stop c v))
+  number-most = grind (arith, common_steps, cases, number-stop, goes_small)
 
   pub high-stops : 15 < i → is_stop c v ≡ true
-  high-stops h = ⊎_elim (λ (s : is_stop c v ≡ true). s)
-      (λ (s : is_stop c v ≡ false). absurd (omega (arith, (goes_small s).1))) (cases (is_stop c v))
+  high-stops h = grind (arith, common_steps, cases, goes_small)
 
   pub low_goes : i ≤ 15 → is_stop c v ≡ false
-  low_goes h = ⊎_elim (λ (s : is_stop c v ≡ true). absurd (omega (arith, number-stop c v s)))
-      (λ (s : is_stop c v ≡ false). s) (cases (is_stop c v))
+  low_goes h = grind (arith, common_steps, cases, number-stop)
 
   pub low-number : i ≤ 15 → i ≡ argument c v
   low-number h = (goes_small (low_goes h)).0
@@ -84,36 +70,14 @@ module _ (c : Chart) (ready : Ready c) (v i : ℕ) (t : Entered c v) (e : i ≡ 
   -- the bit of a mask tells whether the condition was met before: at a stop it is bit 16, which a word has not
   module _ (care b : ℕ) (small : care < 65536) (eb : b ≡ bit care i) where
     pub bit-known : b ≡ 1 → is_known c care v ≡ true
-    bit-known o = ⊎_elim
-        (λ (s : is_stop c v ≡ true).
-        let z : i ≡ 16 = e ∙ sym (number-stop c v s) in
-        let w : bit care i ≡ bit care 16 = ap (bit care) z in
-        absurd (omega arith))
-        (λ (s : is_stop c v ≡ false).
-        and-true (not (is_stop c v)) (eqb (bit care (argument c v)) 1) (ap not s)
-        (eq-eqb (bit care (argument c v)) 1 (ap (bit care) (sym (goes_small s).0) ∙ sym eb ∙ o)))
-        (cases (is_stop c v))
+    bit-known o = grind (arith, common_steps, eq-eqb, and-true, cases, number-stop, goes_small)
 
     pub bit-unknown : (b ≡ 1 → ⊥) → is_known c care v ≡ false
-    bit-unknown n = ⊎_elim
-        (λ (s : is_stop c v ≡ true). ap (λ x. not x && eqb (bit care (argument c v)) 1) s)
-        (λ (s : is_stop c v ≡ false).
-        ap (λ x. not x && eqb (bit care (argument c v)) 1) s
-        ∙ ne_eqb (bit care (argument c v)) 1 (λ q. n (eb ∙ ap (bit care) (goes_small s).0 ∙ q)))
-        (cases (is_stop c v))
+    bit-unknown n = grind (arith, common_steps, ne_eqb, cases, goes_small)
 
   -- the arc of a condition by the bit of the values
   pub side-taken : is_stop c v ≡ false → (values b r : ℕ) → b ≡ bit values i → r ≡ field c v (3 + b) → r ≡ arc_taken c values v
-  side-taken s values b r eb er = go (ℕ_discrete b 0)
-    where
-      same : b ≡ bit values (argument c v)
-      same = eb ∙ ap (bit values) (goes_small s).0
-
-      go : Dec (b ≡ 0) → r ≡ arc_taken c values v
-      go (yes z) = er ∙ ap (λ (k : ℕ). field c v (3 + k)) z ∙ sym (takes-0 c values v (sym same ∙ z))
-      go (no n) =
-          let o : b ≡ 1 = omega (arith, eb) in
-          er ∙ ap (λ (k : ℕ). field c v (3 + k)) o ∙ sym (takes-1 c values v (sym same ∙ o))
+  side-taken s values b r eb er = grind (arith, common_steps, takes-1, takes-0, goes_small)
 
 -- ---- the numbers of the first v nodes
 pub record Numbering (c : Chart) (old notes : List ℕ) (v : ℕ) : Type 0 where
@@ -127,26 +91,7 @@ numbering_start c notes chart = record { within = omega arith; size = refl; char
 
 module _ (c : Chart) (old notes : List ℕ) (v : ℕ) (long : 512 ≤ length old) (t : Numbering c old notes v) where
   pub numbering-on : v < size c → (x : ℕ) → x ≡ tested_number c v → Numbering c old (set notes (256 + v) x) (v + 1)
-  numbering-on l x e =
-      let few : size c ≤ 256 = t.chart.ready.few in record {
-        within = omega arith;
-        size = length-set notes (256 + v) x ∙ t.size;
-        chart = record {
-          ready = t.chart.ready;
-          labelled = record {
-            long = omega (arith, t.chart.labelled.long, length-set notes (256 + v) x);
-            at = λ u g. get_or-set_other notes (256 + v) u x 0 (λ q. omega arith) ∙ t.chart.labelled.at u g;
-          };
-        };
-        numbers = λ u g. go u g (ℕ_discrete u v);
-      }
-    where
-      go : (u : ℕ) → u < v + 1 → Dec (u ≡ v) → get_or (set notes (256 + v) x) (256 + u) 0 ≡ tested_number c u
-      go u g (yes q) =
-          ap (λ (k : ℕ). get_or (set notes (256 + v) x) (256 + k) 0) q
-          ∙ get_or-set_same notes (256 + v) x 0 (omega (arith, t.size, t.chart.ready.few)) ∙ e ∙ ap (tested_number c) (sym q)
-      go u g (no n) =
-          get_or-set_other notes (256 + v) (256 + u) x 0 (λ q. n (omega arith)) ∙ t.numbers u (let d : u ≡ v → ⊥ = n in omega arith)
+  numbering-on l x e = grind (arith, common_steps, length-set, get_or-set_other, get_or-set_same)
 
   pub numbering-done : (n : ℕ) → n ≡ size c → n ≤ v → Noted c notes
   numbering-done n e h = record { chart = t.chart; long = omega (arith, t.size); numbers = λ u l. t.numbers u (omega arith) }

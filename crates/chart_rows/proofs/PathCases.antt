@@ -1,14 +1,9 @@
 -- The steps of the functions that follow paths, at plain values: how the paths from a stop and from a new condition are made up, and how
 -- many they are.
-use mathlib.Core.Path.{◌≡◌, sym, ◌∙◌, ap, ap₂, subst}
-use mathlib.Core.Bool.{true, false, not}
-use mathlib.Core.List.{List, [], ◌∷◌, ◌++◌}
-use Prim.Native.Nat.{ℕ, ◌+◌, ◌-◌, ◌^◌, ◌<◌, min}
-use native.Mathlib.Omega.{arith}
-use lib.Bits.{bit_and, bit_or}
-use lib.Dec.{eqb}
-use lib.ListN.{length, length-append}
+use Rattle.std.proofs.Common.{◌≡◌, sym, ◌∙◌, ap, ap₂, subst, true, false, List, [], ◌∷◌, ◌++◌, ℕ, ◌+◌, ◌-◌, ◌^◌, ◌<◌, min, arith, bit_and}
+use Rattle.std.proofs.Common.{bit_or, length, length-append}
 use borrow.Author.Tests.{eqb-false}
+use Rattle.std.proofs.lemmas.Grind.{common_steps}
 use Rattle.words.proofs.lists.Tests.{and-false}
 use Rattle.words.specs.bits.Word.{bit}
 use Rattle.words.proofs.bits.BitLaws.{add-is-or}
@@ -55,9 +50,7 @@ module _ (c : Chart) (care values v u i : ℕ) (new : New c care values v u i) w
   condition = goes_on c u new.settled.entered.no_begin new.goes
 
   untested : bit care (argument c u) ≡ 1 → ⊥
-  untested =
-      eqb-false (bit care (argument c u)) 1
-      (and-false (not (is_stop c u)) (eqb (bit care (argument c u)) 1) new.settled.fresh (ap not new.goes))
+  untested = grind (arith, common_steps, eqb-false, and-false)
 
   lacks-care : bit care i ≡ 0
   lacks-care = let n : bit care i ≡ 1 → ⊥ = λ q. untested (ap (bit care) (sym new.number) ∙ q) in omega arith
@@ -119,11 +112,4 @@ module _ (c : Chart) (care values v most : ℕ) where
       → ((l f : ℕ) → low ≡ min most (length (P tested values w0 l f)))
       → ((l f : ℕ) → high ≡ min (most - low) (length (P tested valued w1 l f)))
       → (l f : ℕ) → low + high ≡ min most (length (P care values v l f))
-  count-fork tested valued w0 w1 low high k a b l f =
-      omega (
-        arith,
-        a l f,
-        b l f,
-        ap (λ (rs : List Row). length rs) (k.all l f)
-            ∙ length-append (P tested values w0 l f) (P tested valued w1 l f),
-      )
+  count-fork tested valued w0 w1 low high k a b l f = grind (arith, common_steps, length-append)

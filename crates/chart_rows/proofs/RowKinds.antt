@@ -1,8 +1,5 @@
 -- The rows of a node, by its kind.
-use Prim.Native.Nat.{ℕ, zero, suc, ◌^◌}
-use mathlib.Core.Path.{◌≡◌, refl, ap, ◌∙◌}
-use mathlib.Core.List.{◌++◌}
-use native.Mathlib.Nat.{zero-add}
+use Rattle.std.proofs.Common.{ℕ, zero, suc, ◌^◌, ◌≡◌, refl, ap, ◌∙◌, ◌++◌, zero-add}
 use Rattle.text.specs.frames.Frame.{size}
 use Rattle.charts.specs.Layout.{kind_of}
 use Rattle.charts.specs.Chart.{Chart, kind, argument, next0, next1}

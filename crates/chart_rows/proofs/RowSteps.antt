@@ -1,15 +1,8 @@
 -- The steps of the functions that count and write the rows of labels, at plain values.
-use Rattle.std.proofs.Common.{if◌then◌else◌}
-use mathlib.Core.Path.{◌≡◌, refl, sym, ◌∙◌, ap, ap₂, subst}
-use mathlib.Core.Bool.{Bool, true, false, not}
-use mathlib.Core.List.{List, [], ◌++◌}
-use Prim.Native.Nat.{ℕ, zero, suc, ◌+◌, ◌-◌, ◌^◌, ◌≤◌, ◌<◌, min}
-use native.Mathlib.Nat.{zero-add}
-use native.Mathlib.Numerals.{add-one}
-use native.Mathlib.Omega.{arith}
-use lib.Bits.{bit_or}
-use lib.ListN.{length, get_or, length-append}
+use Rattle.std.proofs.Common.{if◌then◌else◌, ◌≡◌, refl, sym, ◌∙◌, ap, ap₂, subst, Bool, true, false, List, [], ◌++◌, ℕ, zero, suc, ◌+◌, ◌-◌}
+use Rattle.std.proofs.Common.{◌^◌, ◌≤◌, ◌<◌, min, zero-add, add-one, arith, bit_or, length, get_or, length-append}
 use borrow.Author.Tests.{eqb-false}
+use Rattle.std.proofs.lemmas.Grind.{common_steps}
 use Rattle.words.specs.lists.Numbers.{range}
 use Rattle.words.specs.lists.Sequences.{concat_map, filter}
 use Rattle.words.proofs.lists.Tests.{and_r, not-true, if-true, if-false}
@@ -17,8 +10,7 @@ use Rattle.words.proofs.lists.Ranges.{filter-yes, filter-no}
 use Rattle.words.proofs.lists.Joins.{concat-cons, concat-range-snoc}
 use Rattle.words.proofs.bits.BitLaws.{add-is-or, bit-none}
 use Rattle.text.specs.frames.Frame.{size}
-use Rattle.charts.specs.Chart.{Chart, kind, argument, next0, next1, is}
-use Rattle.walk.specs.Stops.{is_stop}
+use Rattle.charts.specs.Chart.{Chart, kind, argument, next0, next1}
 use Rattle.image.specs.Image.{Row}
 use Rattle.chart_rows.specs.chart_labels.Labels.{is_numbered, label}
 use Rattle.chart_rows.specs.Rows.{rows_of, rows}
@@ -78,15 +70,11 @@ module _ (c : Chart) (v k most r : ℕ) (ek : k ≡ kind c v) (own : node_rows c
 
   pub count-condition : k ≡ 3 → (mask : ℕ) → mask ≡ 2 ^ argument c v
       → ((l f g : ℕ) → r ≡ min most (length (sides c l f g mask mask v))) → r ≡ min most (length (node_rows c v))
-  count-condition e mask m q =
-      counted (sides c (label c v) 2 2 mask mask v)
-      (rows-condition c v k ek e ∙ ap (λ (o : ℕ). sides c (label c v) 2 2 o o v) (sym m)) (q (label c v) 2 2)
+  count-condition e mask m q = grind (arith, common_steps, rows-condition, counted)
 
   pub count-other : k < 3 → (w : ℕ) → w ≡ next0 c v
       → ((l f : ℕ) → r ≡ min most (length (paths_from (size c) c l f 0 0 w))) → r ≡ min most (length (node_rows c v))
-  count-other h w e q =
-      counted (paths_from (size c) c (label c v) 2 0 0 w)
-      (rows_other c v k ek h ∙ ap (paths_from (size c) c (label c v) 2 0 0) (sym e)) (q (label c v) 2)
+  count-other h w e q = grind (arith, common_steps, rows_other, counted)
 
 -- ---- a node without a label of its own, and one with it
 module _ {c : Chart} {notes : List ℕ} {v : ℕ} (node : NotedAt c notes v) where
@@ -103,9 +91,7 @@ module _ {c : Chart} {notes : List ℕ} {v : ℕ} (node : NotedAt c notes v) whe
   own-rows h = if-true (is_numbered c v) (rows_of c v) [] (own-number h)
 
   pub other-entered : 2 ≤ get_or notes v 0 → {w : ℕ} → w ≡ next0 c v → Entered c w
-  other-entered h e =
-      subst (Entered c) (sym e) (entered0 c node.noted.chart.ready v node.inside
-      (eqb-false (kind c v) 1 (not-true (is c 1 v) (and_r (is_stop c v) (not (is c 1 v)) (own-number h)))))
+  other-entered h e = grind (arith, common_steps, not-true, and_r, entered0, eqb-false, own-number)
 
   -- the kind after a condition's is a function's
   pub function-kind : {k : ℕ} → k ≡ kind c v → 3 ≤ k → (k ≡ 3 → ⊥) → k ≡ 4

@@ -1,11 +1,7 @@
 -- The node where a path goes on past the conditions that it has met before: what holds of it, and how a loop comes to it.
 -- The rank falls with each condition that is passed, so the bound on their number never shows.
-use mathlib.Core.Path.{◌≡◌, refl, sym, ◌∙◌, ap, subst}
-use mathlib.Core.Bool.{Bool, true, false, not}
-use Prim.Native.Nat.{ℕ, zero, suc, ◌≤◌, ◌<◌}
-use native.Mathlib.Omega.{arith}
-use lib.Dec.{eqb}
-use borrow.Author.Tests.{eqb-true}
+use Rattle.std.proofs.Common.{◌≡◌, refl, sym, ◌∙◌, ap, subst, Bool, true, false, not, ℕ, zero, suc, ◌≤◌, ◌<◌, arith, eqb, eqb-true}
+use Rattle.std.proofs.lemmas.Grind.{common_steps}
 use Rattle.words.proofs.lists.Tests.{and_l, and_r, not-true}
 use Rattle.words.specs.bits.Word.{bit}
 use Rattle.text.specs.frames.Frame.{size}
@@ -46,9 +42,7 @@ module _ (c : Chart) (care v : ℕ) (t : Entered c v) (k : is_known c care v ≡
     known-entered w e = subst (Entered c) (sym e) (entered-taken c ready values v t.inside known-condition)
 
     known-paths : (l f : ℕ) → paths_from (size c) c l f care values v ≡ paths_from (size c) c l f care values (arc_taken c values v)
-    known-paths l f =
-        at-known c ready l f care values v t known-goes
-        (eqb-true (bit care (argument c v)) 1 (and_r (not (is_stop c v)) (eqb (bit care (argument c v)) 1) k))
+    known-paths l f = grind (arith, common_steps, and_r, eqb-true, at-known, known-goes)
 
 -- ---- what holds of the node: it is a stop or a new condition, and the paths on from it are the same
 pub record Settled (c : Chart) (care values v u : ℕ) : Type 0 where

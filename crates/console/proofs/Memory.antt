@@ -1,9 +1,9 @@
 -- Between texts in memory a program prints all, since no read fails there, and no write that has room.
-use Rattle.std.proofs.Common.{ℕ, ◌≡◌, ◌∙◌, ap, sym, refl, Bool, true, false, leb, if◌then◌else◌, arith, rules}
-use Rattle.std.proofs.Common.{List, [], ◌++◌, length, take, drop, Some, None, drop_at, take-append-drop}
+use Rattle.std.proofs.Common.{ℕ, ◌≡◌, ◌∙◌, ap, refl, Bool, true, false, leb, if◌then◌else◌, arith, rules, List, [], ◌++◌, length, take}
+use Rattle.std.proofs.Common.{drop, Some, None}
 use Rattle.std.proofs.Math.Dec.{leb-zero}
-use lib.Seq.{take-append_seam}
 use Rattle.std.specs.Io.KnownBytes.{Appends}
+use Rattle.std.proofs.lemmas.Grind.{common_steps}
 use Rattle.console.specs.Input.{LosesFirst}
 use Rattle.console.specs.declared.Outcome.{Outcome}
 use Rattle.console.specs.declared.Outcome.TheVariants.{Printed, NotRead, NotWritten}
@@ -11,9 +11,7 @@ use Rattle.console.specs.Memory.{written_front, unwritten_rest, HasNoRoom}
 use Rattle.console.specs.Outcome.{PrintsFor, WritesOver, TellsErrors, PrintsWhereItFits}
 
 front-is : (text buffer : List ℕ) (position : ℕ) → take position buffer ≡ text → take (length text) buffer ≡ text
-front-is text buffer position e =
-    ap (λ t. take (length t) buffer) (sym e) ∙ ap (take (length (take position buffer))) (sym (take-append-drop position buffer)) ∙
-    take-append_seam (take position buffer) (drop position buffer) ∙ e
+front-is text buffer position e = grind (arith, common_steps)
 
 -- what an empty front was grown by
 grown-by : (text old front : List ℕ) (was_within is_within : Bool) → was_within ≡ true → old ≡ []
@@ -31,9 +29,7 @@ rest-is n old rest false b e p = search rules
 
 -- what was printed is as long as the front
 as-long : (text buffer : List ℕ) (position : ℕ) → take position buffer ≡ text → drop (length text) buffer ≡ drop position buffer
-as-long text buffer position e =
-    ap (λ t. drop (length t) buffer) (sym e) ∙ ap (drop (length (take position buffer))) (sym (take-append-drop position buffer)) ∙
-    drop_at (take position buffer) (drop position buffer) (length (take position buffer)) refl
+as-long text buffer position e = grind (arith, common_steps)
 
 -- the buffer is printed over from its first byte on
 pub printed-in-memory : (output : List ℕ → List ℕ) (text before start after : List ℕ) (first position : ℕ) (r : Outcome)

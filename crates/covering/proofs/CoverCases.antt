@@ -1,14 +1,8 @@
 -- Cases of the functions that try rows by their frames.
-use Rattle.std.proofs.Common.{if◌then◌else◌}
-use Prim.Native.Nat.{ℕ, ◌-◌, ◌*◌, ◌^◌, ◌%◌, ◌≤◌, ◌<◌}
-use mathlib.Core.Path.{◌≡◌, refl, sym, ◌∙◌, ap, ap₂}
-use mathlib.Core.Bool.{Bool, true, false, ◌||◌, not}
-use mathlib.Core.List.{List}
-use native.Mathlib.Omega.{arith}
+use Rattle.std.proofs.Common.{if◌then◌else◌, ℕ, ◌-◌, ◌*◌, ◌^◌, ◌%◌, ◌≤◌, ◌<◌, ◌≡◌, sym, ◌∙◌, ap, Bool, true, false, ◌||◌, not, List, arith}
+use Rattle.std.proofs.Common.{eqb, pow_mono, eq-eqb, ne_eqb}
 use lib.Count.{ones, ones-le}
-use lib.Dec.{eqb}
-use lib.Pow.{pow_mono}
-use borrow.Author.Tests.{eq-eqb, ne_eqb}
+use Rattle.std.proofs.lemmas.Grind.{common_steps}
 use Rattle.text.specs.frames.Frame.{field, pair_at}
 use Rattle.image.specs.Decode.{row_in_frame}
 use Rattle.image.specs.Image.{Row}
@@ -18,9 +12,7 @@ use Rattle.covering.specs.inner.CoveringContracts.{row_with, words_with, is_othe
 -- ---- are_together, meets_before: the row in frame f, read once
 pub read-row : (b : List ℕ) (f care values x : ℕ) → care ≡ pair_at b f 2 → values ≡ pair_at b f 4 → x ≡ field b f 6 → (s : Row)
     (t : Bool) → t ≡ is_together (row_with care values x) s → t ≡ is_together (row_in_frame b f) s
-read-row b f care values x e₁ e₂ e₃ s t e =
-    e ∙ ap₂ (λ (c v : ℕ). is_together (row_with c v x) s) e₁ e₂ ∙ ap
-    (λ (k : ℕ). is_together (row_with (pair_at b f 2) (pair_at b f 4) k) s) e₃
+read-row b f care values x e₁ e₂ e₃ s t e = grind (arith, common_steps)
 
 -- ---- words_of
 shifted : (c k : ℕ) → k ≡ 16 - ones c → (1 * 2 ^ k % 4294967296 ≡ 2 ^ (16 - ones c)) × (1 * 2 ^ k % 4294967296 ≤ 65536)
@@ -38,11 +30,7 @@ module _ (b : List ℕ) (f bit : ℕ) where
 
   pub words-on : (x p : ℕ) (t : Bool) → x ≡ field b f 6 → t ≡ asked x → t ≡ true → p ≡ pair_at b f 2
       → (1 * 2 ^ (16 - ones p) % 4294967296 ≡ words_with bit (row_in_frame b f)) × (1 * 2 ^ (16 - ones p) % 4294967296 ≤ 65536)
-  words-on x p t e h z q = let s = shifted p (16 - ones p) refl in (
-    s.0 ∙ ap (λ (y : ℕ). 2 ^ (16 - ones y)) q
-        ∙ sym (ap (λ (u : Bool). if u then 2 ^ (16 - ones (pair_at b f 2)) else 0) (ap asked (sym e) ∙ sym h ∙ z)),
-    s.1,
-  )
+  words-on x p t e h z q = grind (arith, common_steps, shifted)
 
 pub few_ones : (x : ℕ) → x < 65536 → ones x ≤ 16
 few_ones x h = ones-le 16 x h

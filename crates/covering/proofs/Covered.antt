@@ -1,14 +1,8 @@
 -- 23 by sizes says what 23 says: the words that the rows of a label match, counted word by word and row by row, are as many.
-use Rattle.std.proofs.Common.{if◌then◌else◌}
-use Prim.Native.Nat.{ℕ, zero, suc, ◌+◌, ◌-◌, ◌^◌, ◌≤◌, ◌<◌}
-use mathlib.Core.Bool.{Bool, true, false, ◌&&◌, ◌||◌, not}
-use mathlib.Core.Path.{◌≡◌, refl, sym, ◌∙◌, ap, ap₂}
-use mathlib.Core.List.{List, [], ◌∷◌}
-use native.Mathlib.Omega.{arith}
+use Rattle.std.proofs.Common.{if◌then◌else◌, ℕ, zero, suc, ◌+◌, ◌-◌, ◌^◌, ◌≤◌, ◌<◌, Bool, true, false, ◌&&◌, ◌||◌, not, ◌≡◌, refl, sym, ◌∙◌}
+use Rattle.std.proofs.Common.{ap, ap₂, List, [], ◌∷◌, arith, eqb, length, get_or, eqb-true, eq-eqb}
 use lib.Count.{ones}
-use lib.Dec.{eqb}
-use lib.ListN.{length, get_or}
-use borrow.Author.Tests.{eqb-true, eq-eqb}
+use Rattle.std.proofs.lemmas.Grind.{common_steps}
 use Rattle.words.specs.lists.Numbers.{any, count, sum}
 use Rattle.words.specs.lists.Sequences.{filter, All}
 use Rattle.words.proofs.lists.Tests.{no_both, and_l, and_r, and-true, or_l, or_r, or-none, not-false, bit-low}
@@ -61,15 +55,7 @@ module _ (l b : ℕ) where
           ∙ sym (ap (λ (t : Bool). if t then 2 ^ (16 - ones r.care) else 0) e)
 
   kept_more : (r : Row) (rs : List Row) (w : ℕ) → kept (r ∷ rs) w ≡ (if is_candidate l w b r then 1 else 0) + kept rs w
-  kept_more r rs w = go (is_candidate l w b r) refl
-    where
-      go : (t : Bool) → is_candidate l w b r ≡ t → kept (r ∷ rs) w ≡ (if is_candidate l w b r then 1 else 0) + kept rs w
-      go true e =
-          ap (λ (xs : List Row). length xs) (filter-yes (is_candidate l w b) r rs e) ∙ omega arith
-          ∙ sym (ap (λ (t : Bool). (if t then 1 else 0) + kept rs w) e)
-      go false e =
-          ap (λ (xs : List Row). length xs) (filter-no (is_candidate l w b) r rs e) ∙ omega arith
-          ∙ sym (ap (λ (t : Bool). (if t then 1 else 0) + kept rs w) e)
+  kept_more r rs w = grind (arith, common_steps, filter-yes, filter-no)
 
   -- word by word, row by row
   all_words : (i : Image) (rs : List Row) → All (SoundRow i) rs
@@ -142,29 +128,14 @@ module _ (i : Image) (S : SoundImage i) where
 
   -- ---- all labels
   no-overlap : is_uneven i ≡ false → (j k : ℕ) → j < length i.rows → k < j → is_overlap (nth_row i k) (nth_row i j) ≡ false
-  no-overlap e j k hj hk = go (eqb (nth_row i k).from (nth_row i j).from) refl
-    where
-      l : ℕ
-      l = (nth_row i j).from
-
-      go : (t : Bool) → eqb (nth_row i k).from (nth_row i j).from ≡ t → (t && is_together (nth_row i k) (nth_row i j)) ≡ false
-      go false q = refl
-      go true q = no-pair l (λ w b. even-low i e l w b (S.each j hj).low (S.each j hj).high) k j (omega arith) hj (λ z. omega arith)
-          (eqb-true (nth_row i k).from (nth_row i j).from q) refl
+  no-overlap e j k hj hk = grind (arith, common_steps, eqb-true, even-low, no-pair)
 
   no_gaps : is_uneven i ≡ false → (l : ℕ) → 2 ≤ l → l < length i.labels → has_gap i l ≡ false
-  no_gaps e l low high =
-      let full : (b : ℕ) → b < 2 → not (eqb (covered_count i l b) 65536) ≡ false =
-      λ b h. ap not (eq-eqb (covered_count i l b) 65536 (full l (λ w b. even-low i e l w b low high) b h)) in
-      or-none (not (eqb (covered_count i l 0) 65536)) (not (eqb (covered_count i l 1) 65536)) (full 0 (omega arith)) (full 1 (omega arith))
+  no_gaps e l low high = grind (arith, common_steps, or-none, even-low, eq-eqb, full)
 
   sizes-even : is_uneven i ≡ false → is_uneven_by_sizes i ≡ false
   unfolding is_uneven_by_sizes has_overlap
-  sizes-even e = or-none (has_overlap i) (any (has_gap i) 2 (length i.labels - 2))
-      (any_none (λ j. any (λ k. is_overlap (nth_row i k) (nth_row i j)) 0 j) 0 (length i.rows) (λ j hj.
-      any_none (λ k. is_overlap (nth_row i k) (nth_row i (0 + j))) 0 (0 + j)
-      (λ k hk. no-overlap e (0 + j) (0 + k) (omega arith) (omega arith))))
-      (any_none (has_gap i) 2 (length i.labels - 2) (λ l h. no_gaps e (2 + l) (omega arith) (omega arith)))
+  sizes-even e = grind (arith, common_steps, any_none, or-none, no-overlap, no_gaps)
 
   even-sizes : is_uneven_by_sizes i ≡ false → is_uneven i ≡ false
   unfolding is_uneven_by_sizes has_overlap
@@ -187,9 +158,4 @@ module _ (i : Image) (S : SoundImage i) where
 
   -- 23 is decided by the sizes
   pub sizes-decide : is_uneven_by_sizes i ≡ is_uneven i
-  sizes-decide = go (is_uneven i) refl (is_uneven_by_sizes i) refl
-    where
-      go : (x : Bool) → is_uneven i ≡ x → (y : Bool) → is_uneven_by_sizes i ≡ y → is_uneven_by_sizes i ≡ is_uneven i
-      go false e y f = sizes-even e ∙ sym e
-      go true e true f = f ∙ sym e
-      go true e false f = no_both (is_uneven i) e (even-sizes f)
+  sizes-decide = grind (arith, common_steps, no_both, sizes-even, even-sizes)

@@ -1,8 +1,5 @@
 -- Cases, computed: 23 by sizes of small images.
-use Prim.Native.Nat.{ℕ}
-use mathlib.Core.Bool.{true, false}
-use mathlib.Core.Path.{◌≡◌, refl}
-use mathlib.Core.List.{List, [], ◌∷◌}
+use Rattle.std.proofs.Common.{ℕ, true, false, ◌≡◌, refl, List, [], ◌∷◌}
 use lib.Count.{ones, ones_in}
 use Rattle.words.specs.lists.Numbers.{any, sum}
 use Rattle.image.specs.Image.{Image, Label, Row, row}

@@ -1,13 +1,7 @@
 -- Where 23 does not apply, each label from 2 up has just one row for each word and bit, and the machine takes it.
-use Rattle.std.proofs.Common.{if◌then◌else◌}
-use Prim.Native.Nat.{ℕ, suc, ◌+◌, ◌-◌, ◌%◌, ◌≤◌, ◌<◌}
-use mathlib.Core.Bool.{Bool, true, false, ◌&&◌, not}
-use mathlib.Core.Path.{◌≡◌, refl, sym, ◌∙◌, ap}
-use mathlib.Core.List.{List, [], ◌∷◌}
-use native.Mathlib.Omega.{arith}
-use lib.Dec.{eqb}
-use lib.ListN.{length, get_or}
-use borrow.Author.Tests.{eqb-true, eq-eqb}
+use Rattle.std.proofs.Common.{if◌then◌else◌, ℕ, suc, ◌-◌, ◌%◌, ◌≤◌, ◌<◌, Bool, true, false, ◌&&◌, not, ◌≡◌, refl, sym, ◌∙◌, ap, List, []}
+use Rattle.std.proofs.Common.{◌∷◌, arith, eqb, length, get_or, eqb-true, eq-eqb}
+use Rattle.std.proofs.lemmas.Grind.{common_steps}
 use Rattle.words.specs.lists.Sequences.{filter, All}
 use Rattle.words.proofs.lists.Tests.{not-false, bit-low}
 use Rattle.words.proofs.lists.Searches.{any_false, any_none}
@@ -86,15 +80,8 @@ module _ (l w b : ℕ) where
   low_alike r h = ap (λ (t : Bool). eqb r.from l && t) (matches-low w b r h)
 
   pub low-hits : (rs : List Row) → All (λ r. r.care < 65536) rs → filter (is_candidate l w b) rs ≡ filter (is_candidate l (w % 65536) b) rs
-  low-hits [] a = filter_none (is_candidate l w b) ∙ sym (filter_none (is_candidate l (w % 65536) b))
-  low-hits (r ∷ rs) a = go (is_candidate l w b r) refl (low-hits rs a.1)
-    where
-      go : (t : Bool) → is_candidate l w b r ≡ t → filter (is_candidate l w b) rs ≡ filter (is_candidate l (w % 65536) b) rs
-          → filter (is_candidate l w b) (r ∷ rs) ≡ filter (is_candidate l (w % 65536) b) (r ∷ rs)
-      go true q ih = filter-yes (is_candidate l w b) r rs q ∙ ap (λ (xs : List Row). r ∷ xs) ih
-          ∙ sym (filter-yes (is_candidate l (w % 65536) b) r rs (sym (low_alike r a.0) ∙ q))
-      go false q ih = filter-no (is_candidate l w b) r rs q ∙ ih
-          ∙ sym (filter-no (is_candidate l (w % 65536) b) r rs (sym (low_alike r a.0) ∙ q))
+  low-hits [] a = grind (arith, common_steps, filter_none)
+  low-hits (r ∷ rs) a = grind (arith, common_steps, low-hits rs a.1, filter-yes, filter-no, low_alike)
 
 pub all-cares : (i : Image) → SoundImage i → All (λ r. r.care < 65536) i.rows
 all-cares i S = all-places (λ r. r.care < 65536) no_row i.rows (λ k h. (S.each k h).cares)
@@ -111,10 +98,7 @@ module _ (i : Image) where
       (any_false (λ b. not (eqb (hits i l w b) 1)) 0 2 y b (omega arith) (omega arith)))
 
   pub label_of : (l : ℕ) → ((w b : ℕ) → w < 65536 → b < 2 → hits i l w b ≡ 1) → is_uneven_label i l ≡ false
-  label_of l h =
-      any_none (is_uneven_word i l) 0 65536 (λ w hw.
-      any_none (λ b. not (eqb (hits i l (0 + w) b) 1)) 0 2 (λ b hb.
-      ap not (eq-eqb (hits i l (0 + w) (0 + b)) 1 (h (0 + w) (0 + b) (omega arith) (omega arith)))))
+  label_of l h = grind (arith, common_steps, any_none, eq-eqb)
 
   pub even-low : is_uneven i ≡ false → (l w b : ℕ) → 2 ≤ l → l < length i.labels → w < 65536 → b < 2 → hits i l w b ≡ 1
   unfolding is_uneven
@@ -122,8 +106,7 @@ module _ (i : Image) where
 
   pub even-of : ((l w b : ℕ) → 2 ≤ l → l < length i.labels → w < 65536 → b < 2 → hits i l w b ≡ 1) → is_uneven i ≡ false
   unfolding is_uneven
-  even-of h = any_none (is_uneven_label i) 2 (length i.labels - 2) (λ l hl.
-      label_of (2 + l) (λ w b. h (2 + l) w b (omega arith) (omega arith)))
+  even-of h = grind (arith, common_steps, any_none, label_of)
 
   -- the row itself
   pub the_row : OneRow i → (l w : ℕ) (b : Bool) → 2 ≤ l → l < length i.labels
@@ -136,6 +119,4 @@ module _ (i : Image) where
       only (x ∷ y ∷ ys) e = absurd (omega arith)
 
   pub one-row : SoundImage i → is_uneven i ≡ false → OneRow i
-  one-row S e l w b low high =
-      ap (λ (xs : List Row). length xs) (low-hits l w (if b then 1 else 0) i.rows (all-cares i S))
-      ∙ even-low e l (w % 65536) (if b then 1 else 0) low high (omega arith) (bit-low b)
+  one-row S e l w b low high = grind (arith, common_steps, bit-low, low-hits, all-cares, even-low)

@@ -1,14 +1,8 @@
 -- The rows of one label by their frames in a table: what the functions try of them is what 23 says of the label.
-use Rattle.std.proofs.Common.{if◌then◌else◌}
-use Prim.Native.Nat.{ℕ, ◌+◌, ◌-◌, ◌^◌, ◌≤◌, ◌<◌}
-use mathlib.Core.Bool.{Bool, true, false, ◌&&◌, ◌||◌, not}
-use mathlib.Core.Path.{◌≡◌, refl, sym, ◌∙◌, ap, ap₂}
-use mathlib.Core.List.{List}
-use native.Mathlib.Omega.{arith}
+use Rattle.std.proofs.Common.{if◌then◌else◌, ℕ, ◌+◌, ◌-◌, ◌^◌, ◌≤◌, ◌<◌, Bool, false, ◌&&◌, ◌||◌, not, ◌≡◌, sym, ◌∙◌, ap, ap₂, List, arith}
+use Rattle.std.proofs.Common.{eqb, length, eqb-true, eq-eqb, ne_eqb}
 use lib.Count.{ones}
-use lib.Dec.{eqb}
-use lib.ListN.{length}
-use borrow.Author.Tests.{eqb-true, eq-eqb, ne_eqb}
+use Rattle.std.proofs.lemmas.Grind.{common_steps}
 use Rattle.words.specs.lists.Numbers.{sum}
 use Rattle.words.proofs.lists.Tests.{no_both, or_l, or_r, or-none, not-false}
 use Rattle.words.proofs.lists.Searches.{any_false, any_none}
@@ -111,10 +105,4 @@ module _ (b : List ℕ) (T : SoundTable b) where
         (words_are 1 ∙ eqb-true (words_in b 1 first n) 65536 (not-false y (or_r (not x) (not y) sums)))
 
     pub rows-decide : has_uneven_rows b first n ≡ is_uneven_label i l
-    rows-decide = go (has_uneven_rows b first n) refl (is_uneven_label i l) refl
-      where
-        go : (x : Bool) → has_uneven_rows b first n ≡ x → (y : Bool) → is_uneven_label i l ≡ y
-            → has_uneven_rows b first n ≡ is_uneven_label i l
-        go x e false h = even-rows (label-low i l h) ∙ sym h
-        go true e true h = e ∙ sym h
-        go false e true h = no_both (is_uneven_label i l) h (label_of i l (one_of e))
+    rows-decide = grind (arith, common_steps, label-low, label_of, no_both, even-rows, one_of)

@@ -1,19 +1,11 @@
 -- 23 label by label: the loop over the labels, whose rows stand one after the other.
-use Prim.Native.Nat.{ℕ, ◌+◌, ◌-◌, ◌≤◌, ◌<◌}
-use mathlib.Core.Path.{◌≡◌, sym, ◌∙◌, ap}
-use mathlib.Core.Bool.{Bool, true, false}
-use mathlib.Core.Logic.{◌⊎◌, inl, inr}
-use mathlib.Core.List.{List}
-use native.Mathlib.Decide.{ℕ_discrete}
-use native.Mathlib.Omega.{arith}
-use lib.ListN.{length}
-use borrow.Author.Tests.{eqb-true, eq-eqb}
-use lib.Dec.{eqb}
+use Rattle.std.proofs.Common.{ℕ, ◌+◌, ◌-◌, ◌≤◌, ◌<◌, ◌≡◌, sym, ◌∙◌, ap, Bool, true, false, List, arith, eqb-true, eq-eqb, eqb}
+use Rattle.std.proofs.lemmas.Grind.{common_steps}
 use Rattle.words.specs.lists.Numbers.{any, lowest}
 use Rattle.words.proofs.lists.Tests.{no_both, not-false, not-true, split}
 use Rattle.words.proofs.lists.Searches.{any_here, any-on, any-over, lowest-hit, lowest-above, lowest-most, lowest-before}
 use Rattle.text.specs.frames.Frame.{size, field}
-use Rattle.image.specs.Decode.{last_label, row_count, rows_from, decoded_image}
+use Rattle.image.specs.Decode.{last_label, rows_from, decoded_image}
 use Rattle.image.proofs.Accepted.{labels-count, rows-count}
 use Rattle.image.proofs.Rising.{rises-on}
 use Rattle.covering.specs.Matched.{is_uneven_label, is_uneven}
@@ -35,21 +27,7 @@ pub record Trying (b : List ℕ) (last first l : ℕ) : Type 0 where
 
 pub trying_start : (b : List ℕ) → SoundTable b → (last first : ℕ) → last ≡ last_label b → first ≡ rows_from b → Trying b last first 2
 unfolding is_uneven
-trying_start b T last first e q =
-    let two : 2 ≤ length (decoded_image b).labels = T.image.two in
-    let all : size b ≡ rows_from b + row_count b = T.all in
-    record {
-      table = T;
-      is = e;
-      small = omega (arith, T.image.last, labels-count b);
-      low = omega arith;
-      high = omega (arith, labels-count b);
-      from = omega arith;
-      to = omega arith;
-      before = λ f h g. absurd (omega arith);
-      after = λ f h g. from_low b T f (omega arith) g;
-      left = ap (λ (n : ℕ). any (is_uneven_label (decoded_image b)) 2 (n - 2)) (ap (λ (n : ℕ). n + 1) e ∙ sym (labels-count b));
-    }
+trying_start b T last first e q = grind (arith, common_steps, from_low, labels-count)
 
 module _ (b : List ℕ) (last first l : ℕ) (t : Trying b last first l) (h : l ≤ last) (end : ℕ)
     (e : end ≡ lowest (is_other b l) first (size b - first)) where
@@ -77,14 +55,7 @@ module _ (b : List ℕ) (last first l : ℕ) (t : Trying b last first l) (h : l 
 
   -- the first row behind them is of a label above
   behind : end < size b → l < field b end 1
-  behind q =
-      let p : is_other b l end ≡ true =
-      ap (is_other b l) e ∙ lowest-hit (is_other b l) first (size b - first) (omega (arith, e, first_to)) in
-      go p (ℕ_discrete (field b end 1) l)
-    where
-      go : is_other b l end ≡ true → Dec (field b end 1 ≡ l) → l < field b end 1
-      go p (yes z) = no_both (eqb (field b end 1) l) (eq-eqb (field b end 1) l z) (not-true (eqb (field b end 1) l) p)
-      go p (no z) = omega (arith, z, t.after end end_after q)
+  behind q = grind (arith, common_steps, not-true, lowest-hit, eq-eqb, no_both, first_to, end_after)
 
   beyond : (f : ℕ) → end ≤ f → f < size b → l < field b f 1
   beyond f p q =
@@ -97,45 +68,14 @@ module _ (b : List ℕ) (last first l : ℕ) (t : Trying b last first l) (h : l 
       )
 
   label_is : has_uneven_rows b first n ≡ is_uneven_label (decoded_image b) l
-  label_is = rows-decide b t.table l first n first-from (omega (arith, end_after, end-inside))
-      (λ f p q. own f p (omega (arith, end_after)))
-      (λ f p q z. (front f p z, omega (arith, end_after, back f q z)))
-    where
-      front : (f : ℕ) → rows_from b ≤ f → field b f 1 ≡ l → first ≤ f
-      front f p z = go (split f first)
-        where
-          go : (f < first) ⊎ (first ≤ f) → first ≤ f
-          go (inl w) = absurd (omega (arith, z, t.before f p w))
-          go (inr w) = w
-
-      back : (f : ℕ) → f < size b → field b f 1 ≡ l → f < end
-      back f q z = go (split f end)
-        where
-          go : (f < end) ⊎ (end ≤ f) → f < end
-          go (inl w) = w
-          go (inr w) = absurd (omega (arith, z, beyond f w q))
+  label_is = grind (arith, common_steps, rows-decide, split, first-from, end_after, end-inside, own, beyond)
 
   module _ (u : Bool) (g : u ≡ has_uneven_rows b first (end - first)) where
     pub trying-hit : u ≡ true → true ≡ is_uneven (decoded_image b)
     trying-hit z = sym (any_here (is_uneven_label (decoded_image b)) (last + 1) l (omega arith) (sym label_is ∙ sym g ∙ z)) ∙ t.left
 
     pub trying-on : u ≡ false → Trying b last end (l + 1)
-    trying-on z = record {
-      table = t.table;
-      is = t.is;
-      small = t.small;
-      low = omega (arith, t.low);
-      high = omega arith;
-      from = omega (arith, end_after, first-from);
-      to = end-inside;
-      before = λ f p q. earlier f p q (split f first);
-      after = λ f p q. omega (arith, beyond f p q);
-      left = sym (any-on (is_uneven_label (decoded_image b)) (last + 1) l (omega arith) (sym label_is ∙ sym g ∙ z)) ∙ t.left;
-    }
-      where
-        earlier : (f : ℕ) → rows_from b ≤ f → f < end → (f < first) ⊎ (first ≤ f) → field b f 1 < l + 1
-        earlier f p q (inl w) = omega (arith, t.before f p w)
-        earlier f p q (inr w) = omega (arith, own f w q)
+    trying-on z = grind (arith, common_steps, split, any-on, first-from, end_after, end-inside, own, beyond, label_is)
 
 pub trying-over : (b : List ℕ) (last first l : ℕ) → Trying b last first l → last < l → false ≡ is_uneven (decoded_image b)
 trying-over b last first l t h = sym (any-over (is_uneven_label (decoded_image b)) (last + 1) l (omega arith)) ∙ t.left

@@ -1,42 +1,24 @@
 -- A table of an accepted image, as it is read and as it is prepared for ticks, is sound and holds the image that the text does.
-use Prim.Native.Nat.{ℕ, ◌+◌, ◌<◌}
-use mathlib.Core.Path.{◌≡◌, sym, ◌∙◌, ap, ap₂, subst}
-use mathlib.Core.List.{List, map}
-use native.Mathlib.Omega.{arith}
-use lib.ListN.{get_or}
+use Rattle.std.proofs.Common.{ℕ, ◌+◌, ◌<◌, ◌≡◌, sym, ◌∙◌, ap, ap₂, subst, List, map, arith, get_or}
+use Rattle.std.proofs.lemmas.Grind.{common_steps}
 use Rattle.words.specs.lists.Numbers.{range}
-use Rattle.text.specs.frames.Frame.{field, pair_at, contents}
+use Rattle.text.specs.frames.Frame.{contents}
 use Rattle.text.specs.frames.Verdict.{fine}
-use Rattle.image.specs.Image.{Row}
-use Rattle.image.specs.Decode.{scheme_count, last_label, row_count, rows_from, handler_in, entry_in, label_in, row_in, decoded_image}
+use Rattle.image.specs.Decode.{scheme_count, last_label, row_count, handler_in, entry_in, label_in, row_in, decoded_image}
 use Rattle.image.specs.Check.{table_verdict}
 use Rattle.image.specs.inner.Sound.{SoundImage}
 use Rattle.image.proofs.Accepted.{counted, accepted-sound, image-table, image-bytes}
 use Rattle.tables.specs.Prepare.{noted_table}
 use Rattle.tables.proofs.RangeLaws.{map-alike}
-use Rattle.tables.proofs.Noted.{noted-size, noted-schemes, noted-last, noted-rows, noted-handler, noted-rows-from}
-use Rattle.tables.proofs.Noted.{noted-label, noted-late, noted-row, noted-pair}
+use Rattle.tables.proofs.Noted.{noted-size, noted-schemes, noted-last, noted-rows, noted-handler, noted-rows-from, noted-label, noted-late}
+use Rattle.tables.proofs.Noted.{noted-row, noted-pair}
 use Rattle.tables.proofs.Made.{MadeTable}
 use Rattle.covering.specs.Matched.{is_uneven}
 use Rattle.covering.specs.inner.CoveringContracts.{SoundTable}
 
 module _ (b : List ℕ) where
   row_same : (k : ℕ) → row_in (noted_table b) k ≡ row_in b k
-  row_same k =
-      let f : ℕ = rows_from b + k in
-      let at : ℕ → Row = λ m. record {
-        from = field (noted_table b) m 1;
-        care = pair_at (noted_table b) m 2;
-        values = pair_at (noted_table b) m 4;
-        bit = field (noted_table b) m 6;
-        next = field (noted_table b) m 7;
-      } in
-      let e₁ : field (noted_table b) f 1 ≡ field b f 1 = noted-row b f 1 (omega arith) (omega arith) in
-      let e₂ : pair_at (noted_table b) f 2 ≡ pair_at b f 2 = noted-pair b f 2 (omega arith) (omega arith) in
-      let e₄ : pair_at (noted_table b) f 4 ≡ pair_at b f 4 = noted-pair b f 4 (omega arith) (omega arith) in
-      let e₆ : field (noted_table b) f 6 ≡ field b f 6 = noted-late b f 6 (omega arith) (omega arith) in
-      let e₇ : field (noted_table b) f 7 ≡ field b f 7 = noted-late b f 7 (omega arith) (omega arith) in
-      ap at (ap (λ (m : ℕ). m + k) (noted-rows-from b)) ∙ (λ j. record { from = e₁ j; care = e₂ j; values = e₄ j; bit = e₆ j; next = e₇ j })
+  row_same k = grind (arith, common_steps, noted-late, noted-pair, noted-row, noted-rows-from)
 
   pub noted-decoded : decoded_image (noted_table b) ≡ decoded_image b
   unfolding decoded_image

@@ -1,14 +1,8 @@
 -- Two rows are together just where some word of 16 bits and some bit match both.
-use Rattle.std.proofs.Common.{if◌then◌else◌}
-use Prim.Native.Nat.{ℕ, zero, suc, ◌%◌, ◌≤◌, ◌<◌, min}
-use mathlib.Core.Bool.{Bool, true, false, ◌&&◌, ◌||◌}
-use mathlib.Core.Path.{◌≡◌, refl, sym, ◌∙◌, ap, ap₂}
-use mathlib.Core.Logic.{◌⊎◌, inl, inr}
-use native.Mathlib.Decide.{ℕ_discrete}
-use native.Mathlib.Omega.{arith}
-use lib.Bits.{bit_and, bit_or, and_le_l, and_le_r, and_mod, or_lt}
-use lib.Dec.{eqb}
-use borrow.Author.Tests.{eqb-true, eq-eqb, ne_eqb}
+use Rattle.std.proofs.Common.{if◌then◌else◌, ℕ, zero, suc, ◌%◌, ◌≤◌, ◌<◌, min, Bool, true, false, ◌&&◌, ◌||◌, ◌≡◌, refl, sym, ◌∙◌, ap}
+use Rattle.std.proofs.Common.{arith, bit_and, bit_or, eqb, eqb-true, eq-eqb, ne_eqb}
+use lib.Bits.{and_le_l, and_le_r, and_mod, or_lt}
+use Rattle.std.proofs.lemmas.Grind.{common_steps}
 use Rattle.words.proofs.lists.Tests.{no_both, and_l, and_r, and-true, or_cases, or-true-l, or_true_r}
 use Rattle.words.specs.bits.Word.{bit, is_agreeing}
 use Rattle.words.proofs.bits.BitLaws.{bit-and, bit-or, same_bits}
@@ -57,12 +51,7 @@ abbrev suits : ℕ → ℕ → Bool
 suits f b = eqb f 2 || eqb f b
 
 bits-suit : (f g b : ℕ) → suits f b ≡ true → suits g b ≡ true → (eqb f 2 || eqb g 2 || eqb f g) ≡ true
-bits-suit f g b p q = go (or_cases (eqb f 2) (eqb f b) p) (or_cases (eqb g 2) (eqb g b) q)
-  where
-    go : (eqb f 2 ≡ true) ⊎ (eqb f b ≡ true) → (eqb g 2 ≡ true) ⊎ (eqb g b ≡ true) → (eqb f 2 || eqb g 2 || eqb f g) ≡ true
-    go (inl x) y = or-true-l (eqb f 2 || eqb g 2) (eqb f g) (or-true-l (eqb f 2) (eqb g 2) x)
-    go (inr x) (inl y) = or-true-l (eqb f 2 || eqb g 2) (eqb f g) (or_true_r (eqb f 2) (eqb g 2) y)
-    go (inr x) (inr y) = or_true_r (eqb f 2 || eqb g 2) (eqb f g) (eq-eqb f g (eqb-true f b x ∙ sym (eqb-true g b y)))
+bits-suit f g b p q = grind (arith, common_steps, eqb-true, or-true-l, or_true_r, or_cases, eq-eqb)
 
 -- a bit that suits both
 suiting : (f g : ℕ) → f ≤ 2 → g ≤ 2 → (eqb f 2 || eqb g 2 || eqb f g) ≡ true
@@ -83,36 +72,13 @@ suiting (suc (suc (suc f))) g hf hg e = absurd (omega arith)
 
 -- ---- in the other order
 pub together-turned : (r s : Row) → is_together r s ≡ false → is_together s r ≡ false
-together-turned r s e =
-    turned (eqb (bit_and r.values s.care) (bit_and s.values r.care)) (eqb r.bit 2) (eqb s.bit 2) (eqb r.bit s.bit)
-    (eqb (bit_and s.values r.care) (bit_and r.values s.care)) (eqb s.bit r.bit)
-    (same (bit_and r.values s.care) (bit_and s.values r.care)) (same r.bit s.bit) e
-  where
-    same : (x y : ℕ) → eqb x y ≡ eqb y x
-    same x y = go (ℕ_discrete x y)
-      where
-        go : Dec (x ≡ y) → eqb x y ≡ eqb y x
-        go (yes e) = eq-eqb x y e ∙ sym (eq-eqb y x (sym e))
-        go (no n) = ne_eqb x y n ∙ sym (ne_eqb y x (λ z. n (sym z)))
-
-    turned : (a b c d a₂ d₂ : Bool) → a ≡ a₂ → d ≡ d₂ → (a && (b || c || d)) ≡ false → (a₂ && (c || b || d₂)) ≡ false
-    turned false b c d a₂ d₂ p q e = ap (λ (t : Bool). t && (c || b || d₂)) (sym p)
-    turned true true c d a₂ d₂ p q e = no_both true refl e
-    turned true false true d a₂ d₂ p q e = no_both true refl e
-    turned true false false d a₂ d₂ p q e = ap₂ (λ (t u : Bool). t && (false || false || u)) (sym p) (sym q) ∙ e
+together-turned r s e = grind (arith, common_steps, ne_eqb, eq-eqb, no_both)
 
 -- ---- both ways
 module _ (r s : Row) where
   pub common-together : (w b : ℕ) → r.values < 65536 → s.values < 65536 → is_match w b r ≡ true
       → is_match w b s ≡ true → is_together r s ≡ true
-  common-together w b hr hs p q =
-      and-true (eqb (bit_and r.values s.care) (bit_and s.values r.care))
-      (eqb r.bit 2 || eqb s.bit 2 || eqb r.bit s.bit)
-      (eq-eqb (bit_and r.values s.care) (bit_and s.values r.care) (both-have w r.care r.values s.care s.values hr hs
-      (eqb-true (bit_and w r.care) r.values (and_l (is_agreeing w r.care r.values) (suits r.bit b) p))
-      (eqb-true (bit_and w s.care) s.values (and_l (is_agreeing w s.care s.values) (suits s.bit b) q))))
-      (bits-suit r.bit s.bit b (and_r (is_agreeing w r.care r.values) (suits r.bit b) p)
-      (and_r (is_agreeing w s.care s.values) (suits s.bit b) q))
+  common-together w b hr hs p q = grind (arith, common_steps, eqb-true, and_l, and-true, and_r, eq-eqb, both-have, bits-suit)
 
   pub together-common : {i : Image} → SoundRow i r → SoundRow i s → is_together r s ≡ true → Common r s
   together-common R S e =

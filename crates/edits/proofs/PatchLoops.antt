@@ -1,11 +1,7 @@
 -- The loop over edits: those left are made on the bytes as they are now.
-use mathlib.Core.Path.{◌≡◌, refl, sym, ◌∙◌, ap}
-use mathlib.Core.List.{List, [], ◌∷◌}
-use Prim.Native.Nat.{ℕ, suc, ◌+◌, ◌≤◌, ◌<◌}
-use native.Mathlib.Numerals.{add-one}
-use native.Mathlib.Omega.{arith}
-use lib.ListN.{length, get_or, set, drop, length-set, length-drop}
-use lib.Seq.{drop-cons, set_out}
+use Rattle.std.proofs.Common.{◌≡◌, refl, sym, ◌∙◌, ap, List, [], ◌∷◌, ℕ, suc, ◌+◌, ◌≤◌, ◌<◌, add-one, arith, length, get_or, set, drop}
+use Rattle.std.proofs.Common.{length-set, length-drop, drop-cons}
+use Rattle.std.proofs.Math.Seq.{set_out}
 use Rattle.edits.specs.inner.Patch.{patched_bytes}
 
 pub record Patching (bytes₀ edits bytes : List ℕ) (i : ℕ) : Type 0 where

@@ -1,14 +1,8 @@
 -- With as many places as the longest chain has schemes, and every number served by its own scheme, no call of the walk finds as many
 -- schemes open: none gets 17, and none is a drop.
-use Prim.Native.Nat.{ℕ, suc, ◌≤◌}
-use mathlib.Core.Bool.{Bool, true, false, ◌&&◌, ◌||◌, not}
-use mathlib.Core.Path.{◌≡◌, refl, sym, ◌∙◌, ap, subst}
-use mathlib.Core.Logic.{◌⊎◌, inl, inr}
-use mathlib.Core.List.{List, [], ◌∷◌}
-use lib.Dec.{eqb}
-use lib.ListN.{length}
-use native.Mathlib.Omega.{arith}
-use borrow.Author.Tests.{ne_eqb}
+use Rattle.std.proofs.Common.{ℕ, suc, ◌≤◌, Bool, true, false, ◌&&◌, ◌||◌, not, ◌≡◌, refl, sym, ◌∙◌, ap, subst, ◌⊎◌, List, [], ◌∷◌, eqb}
+use Rattle.std.proofs.Common.{length, arith, ne_eqb}
+use Rattle.std.proofs.lemmas.Grind.{common_steps}
 use Rattle.words.specs.lists.Sequences.{All}
 use Rattle.words.proofs.lists.Tests.{no_both, and_no}
 use Rattle.results.specs.Results.{Results, no_results}
@@ -19,12 +13,11 @@ use Rattle.walk.specs.Walk.{Signal, Tick, is_drop, is_dropping, bottom, walk}
 use Rattle.walk.proofs.Facts.{Facts}
 use Rattle.walk.proofs.Views.{View, a-plain, a_call, a-function, a-home, a_back, a-begin, a-condition}
 use Rattle.walk.proofs.Trace.{Open, opens, WalkPosition, at, position_returned, position_called, position_moved, tick_at, move, trace}
-use Rattle.walk.proofs.Trace.{position_at_home}
-use Rattle.walk.proofs.Trace.{Serves, Caller, Under, Good, view_of, moves, home-good}
+use Rattle.walk.proofs.Trace.{position_at_home, Serves, Caller, Under, Good, view_of, moves, home-good}
 use Rattle.walk.proofs.OwnBinding.{served-own, own-serves}
 use Rattle.walk.proofs.Drops.{is_call_stop, drop-exactly}
 use Rattle.walk.proofs.Recursion.{walk-trace}
-use Rattle.places.specs.chains.Calls.{has_call, is_circular, places}
+use Rattle.places.specs.chains.Calls.{is_circular, places}
 use Rattle.places.specs.chains.Chains.{Calls, Chain, first, on}
 use Rattle.places.proofs.chains.CallLaws.{holds-function, holds-operation}
 use Rattle.places.proofs.chains.Longest.{no_longer}
@@ -34,12 +27,7 @@ use Rattle.agreement.proofs.FullCalls.{full-exactly}
 
 -- ---- the schemes open at a position of the walk are a chain
 caller-calls : (c : Chart) (h : ℕ) (k : Open) → Caller c h k → Calls c k.server h
-caller-calls c h k r =
-    record { node = k.node; inside = r.stop.inside; holds = go r.calls; owner = r.stop.same; called = r.called }
-  where
-    go : (kind c k.node ≡ 2) ⊎ (kind c k.node ≡ 4) → has_call c k.node ≡ true
-    go (inl e) = holds-operation c k.node e (λ z. omega (arith, r.called, r.deep))
-    go (inr e) = holds-function c k.node e
+caller-calls c h k r = grind (arith, common_steps, holds-operation, holds-function)
 
 -- an open scheme that goes by its own number
 abbrev Own : Open → Type 0
@@ -81,9 +69,7 @@ module _ (c : Chart) (f : Facts c) (calm : is_circular c ≡ false) (n : ℕ) (e
     module _ (w : Signal) (told : ToldOwn w) where
       called-plain : (h : ℕ) (d : Results) → (2 ≤ h) × (h ≤ schemes c) → eqb (suc (length ks)) n ≡ false
           → Plain (position_called c x ks h (server_of w.binding h) d t (is_dropping n c t (suc (length ks))))
-      called-plain h d l q = called-by h (server_of w.binding h) d (is_dropping n c t (suc (length ks)))
-          (sym (ap (λ s. server_of s h) told ∙ served-own h (omega arith) (omega (arith, f.most))))
-          (and_no (not t && not (eqb (handler c) 0)) (eqb (suc (length ks)) n) q)
+      called-plain h d l q = grind (arith, common_steps, served-own, and_no, called-by)
 
       returned-plain : (ks : List Open) → All Own ks → Plain (position_returned c ks w.word b t)
       returned-plain [] own = record { first = refl; owned = (refl, tt) }
@@ -93,15 +79,13 @@ module _ (c : Chart) (f : Facts c) (calm : is_circular c ≡ false) (n : ℕ) (e
       calm-by : {s : Stop} → View c v s
           → ((is_call_stop s && eqb (suc (length ks)) n) ≡ false) × Plain
           (position_moved c (is_dropping n c t (suc (length ks))) x ks w b t s)
-      calm-by (a-plain k a) = (refl, stays _ _)
-      calm-by (a_call k a) =
-          let l = f.calls v g.top.inside k a in let q = not_full (inl k) l.0 in (q, called-plain (argument c v) _ l q)
-      calm-by (a-function k) =
-          let l = f.functions v g.top.inside k in let q = not_full (inr k) l.0 in (q, called-plain (argument c v) b l q)
-      calm-by (a-home k s) = (refl, stays _ b)
-      calm-by (a_back k s) = (refl, returned-plain ks p.owned.1)
-      calm-by (a-begin k) = (refl, stays _ b)
-      calm-by (a-condition k) = (refl, stays _ b)
+      calm-by (a-plain k a) = grind (arith, common_steps, stays)
+      calm-by (a_call k a) = grind (arith, common_steps, not_full, called-plain)
+      calm-by (a-function k) = grind (arith, common_steps, not_full, called-plain)
+      calm-by (a-home k s) = grind (arith, common_steps, stays)
+      calm-by (a_back k s) = grind (arith, common_steps, returned-plain)
+      calm-by (a-begin k) = grind (arith, common_steps, stays)
+      calm-by (a-condition k) = grind (arith, common_steps, stays)
 
   -- a tick that gets no 17 and is no drop, and the position after it
   record Calm (t : Tick) (y : WalkPosition) : Type 0 where

@@ -1,8 +1,6 @@
 -- With as many places as a chart needs, no call gets 17 or makes a drop: over the functions, and for C.
-use Prim.Native.Nat.{ℕ, ◌≤◌}
-use mathlib.Core.Path.{◌≡◌, refl, sym, ◌∙◌, ap, ap₂, subst}
-use mathlib.Core.List.{List, [], ◌∷◌, map}
-use native.Mathlib.Omega.{arith}
+use Rattle.std.proofs.Common.{ℕ, ◌≤◌, ◌≡◌, refl, sym, ◌∙◌, ap, ap₂, subst, List, [], ◌∷◌, map, arith}
+use Rattle.std.proofs.lemmas.Grind.{common_steps}
 use Rattle.words.specs.lists.Sequences.{All}
 use Rattle.bindings.specs.Binding.{own_binding}
 use Rattle.text.specs.frames.Frame.{contents}
@@ -11,8 +9,6 @@ use Rattle.text.specs.frames.Answer.{Reply, success, reply_number, reply_count, 
 use Rattle.text.proofs.frames.Refuses.{RefusesWith, next-refuses, when-refuses}
 use Rattle.charts.specs.Chart.{Chart}
 use Rattle.walk.specs.Walk.{Signal, Tick, walk}
-use Rattle.translator.specs.Entry.{translate_verdict}
-use Rattle.places.specs.chains.Calls.{is_circular, places}
 use Rattle.places.specs.Entry.{places_verdict, places_needed}
 use Rattle.places.proofs.Reported.{needed-is, needed-calm, needed-facts, needed-few}
 use Rattle.agreement.specs.Agreement.{CallInput, CallOutput, by_run, by_rebinding, joined_words, bound, walk_outputs}
@@ -22,8 +18,8 @@ use Rattle.agreement.proofs.Bounds.{bound-le}
 use Rattle.agreement.proofs.Delivered.{delivered}
 use Rattle.agreement.proofs.ForC.{delivered-c}
 use Rattle.agreement.proofs.Numbers.{Positive, translate-positive}
-use Rattle.enough.specs.Enough.{OwnServed, all_made, reply_of, IsDropless, AllMade, Enough}
-use Rattle.enough.specs.Enough.{number_of_c, count_of_c, IsDroplessC, AllMadeC, EnoughC}
+use Rattle.enough.specs.Enough.{OwnServed, all_made, reply_of, IsDropless, AllMade, Enough, number_of_c, count_of_c, IsDroplessC, AllMadeC}
+use Rattle.enough.specs.Enough.{EnoughC}
 use Rattle.enough.proofs.CalmWalk.{calm_walk}
 use Rattle.enough.proofs.Made.{expected-made}
 
@@ -58,10 +54,7 @@ judged-0 (refused k i) p n e = absurd (omega (arith, p))
 
 needed-0 : (text : List ℕ) → reply_number (places_needed text) ≡ 0 → places_needed text ≡ success (reply_count (places_needed text))
 unfolding places_needed places_verdict
-needed-0 text e = judged-0 (places_verdict text)
-    (next-refuses Positive (translate_verdict text) _ (translate-positive text)
-    (when-refuses Positive 20 (is_circular (contents text)) (omega arith)))
-    (places (contents text)) e
+needed-0 text e = grind (arith, common_steps, when-refuses, next-refuses, translate-positive, judged-0)
 
 module _ (c : Chart) where
   made-c : (given : List CallInput) (handed : List CallOutput) → AllMade c given handed → AllMadeC c given (map call_output_c handed)

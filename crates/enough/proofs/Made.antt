@@ -1,14 +1,10 @@
 -- What is expected of runs and rebindings where the bound lies behind all words and no tick of the walk is a drop:
 -- each run is made in full.
-use Rattle.std.proofs.Common.{if◌then◌else◌}
-use Prim.Native.Nat.{ℕ, zero, suc, ◌+◌, ◌-◌, ◌≤◌, min}
-use mathlib.Core.Bool.{Bool, true, false, ◌&&◌}
-use mathlib.Core.Path.{◌≡◌, refl, sym, ◌∙◌, ap, ap₂, subst}
-use mathlib.Core.List.{List, [], ◌∷◌, map}
-use lib.Dec.{ltb}
-use lib.ListN.{length, take, drop, length-append, length-map, length-take, length-drop}
-use native.Mathlib.Omega.{arith}
-use borrow.Author.Tests.{eqb-false, le-ltb}
+use Rattle.std.proofs.Common.{if◌then◌else◌, ℕ, zero, suc, ◌+◌, ◌-◌, ◌≤◌, min, Bool, true, false, ◌≡◌, refl, sym, ◌∙◌, ap, subst, List, []}
+use Rattle.std.proofs.Common.{◌∷◌, map, length, take, drop, length-append, length-take, length-drop, arith, le-ltb}
+use Rattle.std.proofs.Math.ListN.{length-map}
+use borrow.Author.Tests.{eqb-false}
+use Rattle.std.proofs.lemmas.Grind.{common_steps}
 use Rattle.words.proofs.lists.Joins.{all_map, all_of}
 use Rattle.words.specs.lists.Sequences.{All}
 use Rattle.bindings.specs.Binding.{Binding}
@@ -16,9 +12,8 @@ use Rattle.text.specs.frames.Answer.{Reply, success, refusal, reply_count}
 use Rattle.text.proofs.frames.Lent.{front}
 use Rattle.charts.specs.Chart.{Chart}
 use Rattle.walk.specs.Walk.{signals, Tick, is_drop}
-use Rattle.agreement.specs.Agreement.{RunInput, CallInput, to_run, to_rebind, CallOutput, by_run, by_rebinding}
-use Rattle.agreement.specs.Agreement.{is_short, joined_words, binding_after, reply_to, output_refused_short}
-use Rattle.agreement.specs.Agreement.{expected_output, expected_outputs}
+use Rattle.agreement.specs.Agreement.{RunInput, CallInput, to_run, to_rebind, CallOutput, by_run, by_rebinding, is_short, joined_words}
+use Rattle.agreement.specs.Agreement.{binding_after, reply_to, output_refused_short, expected_output, expected_outputs}
 use Rattle.agreement.proofs.Joins.{joined-short, joined-long}
 use Rattle.agreement.proofs.Expected.{all_short, all-long}
 use Rattle.enough.specs.Enough.{all_made, HasNoDrop, reply_of, IsDropless, AllMade}
@@ -42,12 +37,7 @@ module _ (b : ℕ) (ts : List Tick) (long : b ≤ length ts) (quiet : All (λ (t
   -- ---- one run
   module _ (p : ℕ) (a : RunInput) (l : p + length a.words ≤ b) where
     reply-made : (expected_output b ts p a).reply ≡ success (length a.words)
-    reply-made =
-        let m : ℕ = length a.words in
-        let e : min (p + m) b - min p b ≡ m = omega arith in
-        ap (λ (t : Bool). if t && ltb 0 m then refusal 17 0 (min (p + m) b - min p b) else success (min (p + m) b - min p b))
-        (le-ltb b (p + m) l)
-        ∙ ap success e
+    reply-made = grind (arith, common_steps, le-ltb)
 
     no_drop : HasNoDrop (reply_count (expected_output b ts p a).reply) (expected_output b ts p a).codes
     no_drop =
@@ -71,8 +61,7 @@ module _ (b : ℕ) (ts : List Tick) (long : b ≤ length ts) (quiet : All (λ (t
     more-made : (g : CallInput) (rest : List CallInput) (d : CallOutput) (handed : List CallOutput) → reply_of d ≡ all_made c g
         → IsDropless d
         → AllMade c rest handed → AllMade c (g ∷ rest) (d ∷ handed)
-    more-made g rest d handed e q r =
-        record { replies = ap₂ (λ (x : Reply) (xs : List Reply). x ∷ xs) e r.replies; drops = (q, r.drops) }
+    more-made g rest d handed e q r = grind (arith, common_steps)
 
     pub expected-made : (given : List CallInput) (s : Binding) (p : ℕ) → p + length (joined_words c s given) ≤ b
         → AllMade c given (expected_outputs c b ts p given)

@@ -1,17 +1,10 @@
 -- The chart whose call no words lead to: it goes from home to its first condition and back, whatever the words and the bindings.
-use Rattle.std.proofs.Common.{if◌then◌else◌}
-use Prim.Native.Nat.{ℕ, suc}
-use mathlib.Core.Bool.{Bool, true, false}
-use mathlib.Core.Path.{◌≡◌, refl, sym, ◌∙◌, ap, subst}
-use mathlib.Core.List.{List, [], ◌∷◌}
-use lib.Dec.{eqb}
-use lib.ListN.{length}
-use native.Mathlib.Omega.{arith}
+use Rattle.std.proofs.Common.{if◌then◌else◌, ℕ, suc, Bool, true, false, ◌≡◌, refl, sym, ◌∙◌, ap, subst, List, [], ◌∷◌, eqb, length, arith}
+use Rattle.std.proofs.lemmas.Grind.{common_steps}
 use Rattle.words.specs.lists.Numbers.{lowest, any, count, sum, highest}
 use Rattle.words.specs.lists.Sequences.{some, filter, concat_map, All}
 use Rattle.words.specs.bits.Word.{bit}
 use Rattle.results.specs.Results.{Results, no_results}
-use Rattle.bindings.specs.Binding.{own_binding}
 use Rattle.words.specs.graph.Reach.{reach}
 use Rattle.text.specs.digits.Digit.{digit_of, char_of}
 use Rattle.text.specs.frames.Frame.{contents, total, frame_text, text_of}
@@ -21,7 +14,7 @@ use Rattle.charts.specs.Chart.{handler, node_of}
 use Rattle.charts.specs.Check.{has_bad_field, chart_verdict}
 use Rattle.charts.specs.Entry.{read_verdict}
 use Rattle.walk.specs.Stops.{is_stop, start, next_stop, by_word, stop_at}
-use Rattle.walk.specs.Walk.{Signal, Tick, is_drop, walk}
+use Rattle.walk.specs.Walk.{Signal, Tick, is_drop}
 use Rattle.walk.proofs.Trace.{opens, WalkPosition, at, tick_at, move, trace, position_at_home}
 use Rattle.walk.proofs.Recursion.{walk-trace}
 use Rattle.chart_rows.specs.chart_labels.Labels.{label}
@@ -29,7 +22,7 @@ use Rattle.chart_rows.specs.Rows.{paths, rows_of, rows}
 use Rattle.translator.specs.Entry.{translate_verdict}
 use Rattle.places.specs.chains.Calls.{is_caller, is_circular, ends_of, places}
 use Rattle.places.specs.Entry.{places_verdict, places_needed}
-use Rattle.agreement.specs.Agreement.{is_full_call, bound, joined_words}
+use Rattle.agreement.specs.Agreement.{is_full_call, bound}
 use Rattle.agreement.proofs.Bounds.{bound-go, bound-le}
 use Rattle.enough.specs.Smaller.{chart_never, Smaller}
 use Rattle.enough.proofs.Made.{expected-made}
@@ -88,12 +81,4 @@ unfolding node_of lowest
 first-quiet = homes
 
 pub smaller : Smaller
-smaller = record {
-  number = number-2;
-  one = λ given.
-      let ws : List Signal = joined_words chart_never own_binding given in
-      let q = subst (λ (ts : List Tick). (bound 1 ts ≡ length ws) × All (λ (t : Tick). is_drop t ≡ false) ts)
-      (sym (walk-trace 1 chart_never ws)) (quiet-trace ws (position_at_home chart_never no_results) first-quiet) in
-      let ts : List Tick = walk 1 chart_never ws in
-      expected-made (bound 1 ts) ts (bound-le 1 ts) q.1 chart_never given own_binding 0 (omega (arith, q.0));
-}
+smaller = grind (arith, common_steps, bound-le, walk-trace, expected-made, position_at_home, number-2, quiet-trace, first-quiet)

@@ -1,13 +1,9 @@
 -- On the image of a chart no list of words meets 18, and one meets 17 exactly where its walk goes too deep.
-use Rattle.std.proofs.Common.{if◌then◌else◌}
-use Prim.Native.Nat.{ℕ, suc, ◌≤◌}
-use mathlib.Core.Bool.{Bool, true, false, ◌||◌}
-use mathlib.Core.Path.{◌≡◌, refl, sym, ◌∙◌, ap, ap₂}
-use mathlib.Core.List.{List, [], ◌∷◌}
-use lib.Dec.{ltb, eqb, leb-suc-suc}
-use lib.ListN.{length, take}
-use native.Mathlib.Omega.{arith}
-use borrow.Author.Tests.{lt-ltb, eqb-false}
+use Rattle.std.proofs.Common.{if◌then◌else◌, ℕ, suc, ◌≤◌, Bool, true, false, ◌≡◌, refl, sym, ◌∙◌, ap, ap₂, List, [], ◌∷◌, ltb, eqb, length}
+use Rattle.std.proofs.Common.{take, arith, lt-ltb}
+use Rattle.std.proofs.Math.Dec.{leb-suc-suc}
+use borrow.Author.Tests.{eqb-false}
+use Rattle.std.proofs.lemmas.Grind.{common_steps}
 use Rattle.words.specs.lists.Numbers.{count}
 use Rattle.words.specs.lists.Sequences.{some}
 use Rattle.words.proofs.lists.Tests.{or_l}
@@ -35,14 +31,14 @@ use Rattle.state.specs.declared.State.{State}
 use Rattle.state.specs.State.{fresh, is_bad_size}
 use Rattle.runs.specs.Run.{MachineRun, ticks}
 use Rattle.state.proofs.Sizes.{size-most}
-use Rattle.agreement.specs.Agreement.{is_full_call, bound}
+use Rattle.agreement.specs.Agreement.{bound}
 use Rattle.agreement.proofs.TableFacts.{TableFacts}
 use Rattle.agreement.proofs.TableFactsHold.{table-facts}
 use Rattle.agreement.proofs.Bounds.{bound-stop, bound-go}
 use Rattle.agreement.proofs.Ticks.{ticks-are}
 use Rattle.agreement.proofs.Images.{translated-passes, translated-decoded}
-use Rattle.fillings.specs.Counts.{words_of, lists, number_of, number_met, count_meeting, has_too_many_lists, count_verdict}
-use Rattle.fillings.specs.Counts.{FillingsOutcome, fillings_on, count_fillings}
+use Rattle.fillings.specs.Counts.{words_of, lists, number_of, number_met, count_meeting, has_too_many_lists, count_verdict, FillingsOutcome}
+use Rattle.fillings.specs.Counts.{fillings_on, count_fillings}
 use Rattle.fill_walks.specs.Promises.{is_too_deep, is_walk_too_deep, AlwaysCounted, ByTheWalk}
 use Rattle.fillings.proofs.Sums.{counted-fine}
 use Rattle.walk.proofs.OwnBinding.{own-serves}
@@ -51,15 +47,8 @@ use Rattle.agreement.proofs.Chain.{home-is}
 -- some tick is a call at a full stack exactly where the bound is before the end
 pub deep-bound : (n : ℕ) (ts : List Tick) → is_too_deep n ts ≡ ltb (bound n ts) (length ts)
 unfolding some bound
-deep-bound n [] = refl
-deep-bound n (t ∷ ts) = go (is_full_call n t) refl (deep-bound n ts)
-  where
-    go : (b : Bool) → is_full_call n t ≡ b → is_too_deep n ts ≡ ltb (bound n ts) (length ts)
-        → is_too_deep n (t ∷ ts) ≡ ltb (bound n (t ∷ ts)) (suc (length ts))
-    go true e ih = some-cons (is_full_call n) t ts ∙ ap (λ (b : Bool). b || is_too_deep n ts) e
-        ∙ sym (lt-ltb (bound n (t ∷ ts)) (suc (length ts)) (omega (arith, bound-stop n t ts e)))
-    go false e ih = some-cons (is_full_call n) t ts ∙ ap (λ (b : Bool). b || is_too_deep n ts) e ∙ ih
-        ∙ sym (leb-suc-suc (suc (bound n ts)) (length ts)) ∙ sym (ap (λ (m : ℕ). ltb m (suc (length ts))) (bound-go n t ts e))
+deep-bound n [] = grind (arith, common_steps)
+deep-bound n (t ∷ ts) = grind (arith, common_steps, deep-bound n ts, some-cons, lt-ltb, bound-go, leb-suc-suc, bound-stop)
 
 signals-length : (ws : List ℕ) → length (signals own_binding ws) ≡ length ws
 signals-length [] = refl
@@ -89,19 +78,15 @@ module _ (c : Chart) (f : Facts c) (table_facts : TableFacts c) (size : ℕ) (lo
 
   no-18 : (n k : ℕ) → count_meeting (table c) (fresh size) n k 18 ≡ 0
   unfolding count_meeting
-  no-18 n k = count_none (λ x. eqb (number_met (table c) (fresh size) (words_of n k x)) 18) 0 (lists n k)
-      (λ x l m. ap (λ (y : ℕ). eqb y 18) (met-is (words_of n k x)) ∙ never-18 (is_walk_too_deep size c (words_of n k x)))
+  no-18 n k = grind (arith, common_steps, count_none, never-18, met-is)
 
   deep-17 : (n k : ℕ) → count_meeting (table c) (fresh size) n k 17 ≡ count (λ x. is_walk_too_deep size c (words_of n k x)) 0 (lists n k)
   unfolding count_meeting
-  deep-17 n k = count-alike (λ x. is_walk_too_deep size c (words_of n k x))
-      (λ x. eqb (number_met (table c) (fresh size) (words_of n k x)) 17) 0 (lists n k)
-      (λ x l m. ap (λ (y : ℕ). eqb y 17) (met-is (words_of n k x)) ∙ seventeen (is_walk_too_deep size c (words_of n k x)))
+  deep-17 n k = grind (arith, common_steps, count-alike, seventeen, met-is)
 
 size-told : (t : List ℕ) (size n k : ℕ) → count_verdict t size n k ≡ fine → is_bad_size size ≡ false
 unfolding count_verdict
-size-told t size n k v = when-fine 14 (is_bad_size size) (next-first (when 14 (is_bad_size size)) (λ _. when 28 (has_too_many_lists n k))
-    (next-rest (image_verdict t) (λ _. next (when 14 (is_bad_size size)) λ _. when 28 (has_too_many_lists n k)) v))
+size-told t size n k v = grind (arith, common_steps, next-first, next-rest, when-fine)
 
 pub always-counted : AlwaysCounted
 unfolding AlwaysCounted count_fillings count_verdict

@@ -1,11 +1,8 @@
 -- What a caller learns by the contract of fairleadow_count_fillings where it returns 0: the three counts written are all lists; and on the
 -- image that the translator wrote none meets 18, and those that meet 17 are the ones whose walk goes too deep.
-use Prim.Native.Nat.{ℕ, ◌+◌}
-use mathlib.Core.Path.{◌≡◌, sym, ◌∙◌}
-use mathlib.Core.List.{List}
-use lib.ListN.{take}
+use Rattle.std.proofs.Common.{ℕ, ◌+◌, ◌≡◌, sym, ◌∙◌, List, arith}
+use Rattle.std.proofs.lemmas.Grind.{common_steps}
 use Rattle.text.specs.frames.Answer.{success}
-use Rattle.translator.specs.Entry.{translate}
 use Rattle.fillings.specs.Counts.{lists, count_fillings}
 use Rattle.fillings.specs.Promises.{SumsUp}
 use Rattle.fillings.proofs.Sums.{sums-up}
@@ -25,7 +22,4 @@ module _ (t : List ℕ) (size n k r at made e f u : ℕ) (c : GivesFillingsC (co
 
 pub by-the-walk-c : ByTheWalkC
 unfolding ByTheWalk
-by-the-walk-c text out m translated size n k r at made e f u c z =
-    let image : List ℕ = take m (translate text out).buffer in
-    let laws = by-the-walk text out m translated size n k (fine-reply image size n k r at made e f u c z) in
-    (c.unmatched ∙ laws.0, c.full ∙ laws.1)
+by-the-walk-c text out m translated size n k r at made e f u c z = grind (arith, common_steps, by-the-walk, fine-reply)

@@ -1,12 +1,9 @@
 -- The numbers below 2 ^ (n * k) are the lists of n words below 2 ^ k, each once.
-use Prim.Native.Nat.{ℕ, zero, suc, ◌+◌, ◌*◌, ◌/◌, ◌%◌, ◌^◌, ◌<◌}
-use mathlib.Core.Path.{◌≡◌, refl, sym, ◌∙◌, ap, ap₂, subst}
-use mathlib.Core.List.{List, [], ◌∷◌}
-use lib.ListN.{length, get_or, drop}
-use lib.Arith.{digits_lt}
-use lib.Pow.{pow-add, pow_pos, shr_lt, split, high, low}
-use native.Mathlib.Nat.{suc-mul, zero-mul, mod-lt}
-use native.Mathlib.Omega.{arith}
+use Rattle.std.proofs.Common.{ℕ, zero, suc, ◌+◌, ◌*◌, ◌/◌, ◌%◌, ◌^◌, ◌<◌, ◌≡◌, sym, ◌∙◌, ap, ap₂, subst, List, [], ◌∷◌, length, get_or}
+use Rattle.std.proofs.Common.{drop, pow-add, pow_pos, shr_lt, suc-mul, zero-mul, mod-lt, arith}
+use Rattle.std.proofs.Math.Arith.{digits_lt}
+use Rattle.std.proofs.Math.Pow.{split, high, low}
+use Rattle.std.proofs.lemmas.Grind.{common_steps}
 use Rattle.words.specs.lists.Sequences.{All}
 use Rattle.fillings.specs.Counts.{words_of, lists}
 use Rattle.fillings.specs.Promises.{Words, NumberedList, AllLists}
@@ -32,22 +29,15 @@ numbered_more n k w ws l r =
 
 numbered : (n k : ℕ) (ws : List ℕ) → length ws ≡ n → All (λ (w : ℕ). w < 2 ^ k) ws → NumberedList n k ws
 unfolding words_of
-numbered zero k [] e a = record {
-  number = 0;
-  low = subst (λ (m : ℕ). 0 < m) (sym (ap (λ (m : ℕ). 2 ^ m) (zero-mul k))) (omega arith);
-  same = refl;
-  only = λ x l q. let z : x < 1 = subst (λ (m : ℕ). x < m) (ap (λ (m : ℕ). 2 ^ m) (zero-mul k)) l in omega arith;
-}
-numbered zero k (w ∷ ws) e a = absurd (omega arith)
-numbered (suc n) k [] e a = absurd (omega arith)
-numbered (suc n) k (w ∷ ws) e a = numbered_more n k w ws a.0 (numbered n k ws (omega arith) a.1)
+numbered zero k [] e a = grind (arith, common_steps, low, zero-mul)
+numbered zero k (w ∷ ws) e a = grind (arith, common_steps)
+numbered (suc n) k [] e a = grind (arith, common_steps)
+numbered (suc n) k (w ∷ ws) e a = grind (arith, common_steps, numbered n k ws (omega arith) a.1, numbered_more)
 
 each-words : (n k x : ℕ) → Words n k (words_of n k x)
 unfolding words_of
-each-words zero k x = record { many = refl; low = tt }
-each-words (suc n) k x =
-    let more : Words n k (words_of n k (x / 2 ^ k)) = each-words n k (x / 2 ^ k) in
-    record { many = ap suc more.many; low = (mod-lt x (pow_pos k), more.low) }
+each-words zero k x = grind (arith, common_steps, low)
+each-words (suc n) k x = grind (arith, common_steps, each-words n k, pow_pos, low, mod-lt)
 
 pub all-lists : AllLists
 all-lists = record { each = each-words; once = λ n k words a. numbered n k words a.many a.low }

@@ -1,14 +1,8 @@
 -- Every run ends, meets 17 or meets 18, so that the three counts are all lists.
-use Rattle.std.proofs.Common.{if◌then◌else◌}
-use Prim.Native.Nat.{ℕ, zero, suc, ◌+◌, ◌-◌}
-use mathlib.Core.Bool.{Bool, true, false}
-use mathlib.Core.Path.{◌≡◌, refl, ◌∙◌, ap}
-use mathlib.Core.List.{List, [], ◌∷◌}
-use lib.Dec.{leb, eqb}
-use native.Mathlib.Omega.{arith}
+use Rattle.std.proofs.Common.{if◌then◌else◌, ℕ, zero, suc, ◌+◌, ◌-◌, Bool, true, false, ◌≡◌, refl, ◌∙◌, ap, List, [], ◌∷◌, eqb, arith}
+use Rattle.std.proofs.lemmas.Grind.{common_steps}
 use Rattle.words.specs.lists.Numbers.{count}
-use Rattle.results.specs.Results.{Results, with_result, cleared_results}
-use Rattle.bindings.specs.Binding.{server_of}
+use Rattle.results.specs.Results.{Results, cleared_results}
 use Rattle.text.specs.frames.Frame.{contents}
 use Rattle.text.specs.frames.Verdict.{Verdict, fine, refused}
 use Rattle.text.specs.frames.Answer.{success}
@@ -17,10 +11,9 @@ use Rattle.image.specs.Image.{Image, Label}
 use Rattle.image.specs.Decode.{decoded_image}
 use Rattle.rows.specs.Rows.{Found, found, missing}
 use Rattle.state.specs.declared.State.{State}
-use Rattle.state.specs.State.{fresh, label_at, entry_at, place_at, number_at}
-use Rattle.state.specs.Changes.{with_bits}
-use Rattle.ticks.specs.Tick.{row_leads, MachineTick, finished, stopped, moved_tick, popped_state, state_alone}
-use Rattle.ticks.specs.Tick.{is_full_stack_kept, full_tick, pushed_tick, popped_tick, tick_by, tick}
+use Rattle.state.specs.State.{fresh, entry_at, place_at}
+use Rattle.ticks.specs.Tick.{row_leads, MachineTick, finished, stopped, moved_tick, popped_state, state_alone, is_full_stack_kept}
+use Rattle.ticks.specs.Tick.{full_tick, pushed_tick, popped_tick, tick_by, tick}
 use Rattle.runs.specs.Run.{run_after, ticks}
 use Rattle.fillings.specs.Counts.{words_of, lists, number_of, number_met, count_meeting, count_verdict, fillings_on, count_fillings}
 use Rattle.fillings.specs.Promises.{SumsUp}
@@ -56,18 +49,15 @@ popped-stops i s w m b true = tt
 popped-stops i s w m b false = moved-stops m 3 (popped_state s b) (s.depth - 2) (row_leads i b (place_at s (s.depth - 2)) w)
 
 by-stops : (i : Image) (s : State) (w l : ℕ) (x : Label) (b : Results) (k : ℕ) → Stops (tick_by i s w l x b (tick_kind k))
-by-stops i s w l x b zero = moved-stops x.mask 0 (with_bits s b) (s.depth - 1) (row_leads i b l w)
-by-stops i s w l x b (suc zero) =
-    pushed-stops i s x.mask (16 + x.called) x.called (server_of s.serving x.called) b (leb s.size s.depth)
-by-stops i s w l x b (suc (suc zero)) =
-    pushed-stops i s x.mask (64 + x.called) x.called (server_of s.serving x.called) b (leb s.size s.depth)
-by-stops i s w l x b (suc (suc (suc zero))) = popped-stops i s w x.mask b (leb s.depth 1)
-by-stops i s w l x b (suc (suc (suc (suc n)))) = moved-stops x.mask 4 (with_bits s b) (s.depth - 1) (found (entry_at i 1))
+by-stops i s w l x b zero = grind (arith, common_steps, moved-stops)
+by-stops i s w l x b (suc zero) = grind (arith, common_steps, pushed-stops)
+by-stops i s w l x b (suc (suc zero)) = grind (arith, common_steps, pushed-stops)
+by-stops i s w l x b (suc (suc (suc zero))) = grind (arith, common_steps, popped-stops)
+by-stops i s w l x b (suc (suc (suc (suc n)))) = grind (arith, common_steps, moved-stops)
 
 tick-stops : (i : Image) (s : State) (w : ℕ) → Stops (tick i s w)
 unfolding tick
-tick-stops i s w = let l : ℕ = place_at s (s.depth - 1) in let x : Label = label_at i l in
-    by-stops i s w l x (with_result x.result (number_at s (s.depth - 1)) s.bits) x.kind
+tick-stops i s w = grind (arith, common_steps, by-stops)
 
 pub ticks-end : (i : Image) (ws : List ℕ) (s : State) → EndsBy (number_of (ticks i s ws).verdict)
 unfolding ticks
@@ -85,12 +75,7 @@ module _ (f : ℕ → ℕ) (e : (x : ℕ) → EndsBy (f x)) where
   here x number = if eqb (f x) number then 1 else 0
 
   one_each : (x : ℕ) → here x 0 + here x 17 + here x 18 ≡ 1
-  one_each x = go (f x) (e x)
-    where
-      go : (m : ℕ) → EndsBy m → (if eqb m 0 then 1 else 0) + (if eqb m 17 then 1 else 0) + (if eqb m 18 then 1 else 0) ≡ 1
-      go m ends_by_0 = refl
-      go m ends_by_17 = refl
-      go m ends_by_18 = refl
+  one_each x = grind (arith, common_steps)
 
   all_three : (i n : ℕ) → count (λ x. eqb (f x) 0) i n + count (λ x. eqb (f x) 17) i n + count (λ x. eqb (f x) 18) i n ≡ n
   unfolding count

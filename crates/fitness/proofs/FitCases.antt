@@ -1,17 +1,13 @@
 -- What each way out of the functions on fitness answers.
-use Prim.Native.Nat.{ℕ, zero, suc, ◌-◌, ◌≤◌, ◌<◌}
-use mathlib.Core.Bool.{Bool, true, false, ◌&&◌, ◌||◌, not}
-use mathlib.Core.Path.{◌≡◌, refl, sym, ◌∙◌, ap}
-use mathlib.Core.Logic.{◌⊎◌, inl, inr}
-use native.Mathlib.Omega.{arith}
-use lib.Dec.{leb, ltb, eqb}
-use borrow.Author.Tests.{eq-eqb, ne_eqb, eqb-false, ltb-false, lt-ltb, le-ltb, le-leb, lt-leb}
+use Rattle.std.proofs.Common.{ℕ, zero, suc, ◌-◌, ◌≤◌, ◌<◌, Bool, true, false, ◌&&◌, ◌||◌, not, ◌≡◌, refl, sym, ◌∙◌, ap, arith, leb, ltb}
+use Rattle.std.proofs.Common.{eqb, eq-eqb, ne_eqb, le-leb}
+use borrow.Author.Tests.{lt-leb}
+use Rattle.std.proofs.lemmas.Grind.{common_steps}
 use Rattle.words.specs.lists.Numbers.{any}
-use Rattle.words.proofs.lists.Tests.{or_l, or_r, or-none, or_true_r, and_no, split}
+use Rattle.words.proofs.lists.Tests.{or_true_r}
 use Rattle.image.specs.Image.{Image}
 use Rattle.state.specs.declared.State.{State}
 use Rattle.state.specs.State.{is_bad_size}
-use Rattle.state.proofs.Sizes.{size-most}
 use Rattle.fitness.specs.Fitness.{is_unfit_place, is_filled_place, has_bad_bottom, is_badly_served, has_bad_depth, is_unfit}
 use Rattle.fitness.specs.inner.FitnessContracts.{is_astray, is_own, is_miscalled, is_astray_at_bottom, is_misserved}
 
@@ -21,11 +17,7 @@ both false = refl
 
 -- a number above another is not at most that
 beyond : (a b : ℕ) → ltb a b ≡ not (leb b a)
-beyond a b = go (split a b)
-  where
-    go : (a < b) ⊎ (b ≤ a) → ltb a b ≡ not (leb b a)
-    go (inl l) = lt-ltb a b l ∙ sym (ap not (lt-leb b a l))
-    go (inr l) = le-ltb a b l ∙ sym (ap not (le-leb b a l))
+beyond a b = grind (arith, common_steps)
 
 -- ---- kinds 1 and 2 are calls
 pub kind-call : (k : ℕ) → 1 ≤ k → k < 3 → (eqb k 1 || eqb k 2) ≡ true
@@ -35,12 +27,10 @@ kind-call (suc (suc zero)) h l = refl
 kind-call (suc (suc (suc k))) h l = absurd (omega arith)
 
 pub kind-none : (k : ℕ) → (1 ≤ k → k < 3 → ⊥) → (eqb k 1 || eqb k 2) ≡ false
-kind-none zero n = refl
-kind-none (suc zero) n = absurd (n (omega arith) (omega arith))
-kind-none (suc (suc zero)) n = absurd (n (omega arith) (omega arith))
-kind-none (suc (suc (suc k))) n =
-    or-none (eqb (suc (suc (suc k))) 1) (eqb (suc (suc (suc k))) 2)
-    (ne_eqb (suc (suc (suc k))) 1 (λ e. omega arith)) (ne_eqb (suc (suc (suc k))) 2 (λ e. omega arith))
+kind-none zero n = grind (arith, common_steps)
+kind-none (suc zero) n = grind (arith, common_steps)
+kind-none (suc (suc zero)) n = grind (arith, common_steps)
+kind-none (suc (suc (suc k))) n = grind (arith, common_steps)
 
 -- ---- where a label of that owner may not stand
 module _ (owner scheme l : ℕ) where
@@ -48,11 +38,7 @@ module _ (owner scheme l : ℕ) where
   astray-owned e = sym (ap not (or_true_r (eqb l 1) (eqb owner scheme) (eq-eqb owner scheme e)))
 
   pub astray-other : (owner ≡ scheme → ⊥) → not (eqb l 1) ≡ is_astray owner scheme l
-  astray-other n = go (eqb l 1)
-    where
-      go : (t : Bool) → not t ≡ not (t || eqb owner scheme)
-      go true = refl
-      go false = sym (ap not (ne_eqb owner scheme n))
+  astray-other n = grind (arith, common_steps)
 
 -- ---- number and server of a place
 module _ (number server scheme : ℕ) where
@@ -96,24 +82,14 @@ module _ (handler owner l number server : ℕ) where
         bottom-handler e = rw (sym is ∙ other, ne_eqb handler 0 n, sym by ∙ e) (both (eqb l 1 || eqb owner handler))
 
         pub bottom-called : u ≡ false → true ≡ is_astray_at_bottom handler owner l number server
-        bottom-called e = rw (sym is ∙ other, ne_eqb handler 0 n, sym by ∙ e)
-            (sym (ap not (and_no (eqb l 1 || eqb owner handler) false refl)))
+        bottom-called e = grind (arith, common_steps)
 
 -- ---- the depth; n and d stand for size and depth as they were read
 pub depth-most : (s : State) → has_bad_depth s ≡ false → s.depth ≤ 32
-depth-most s e =
-    let p : (is_bad_size s.size || eqb s.depth 0) ≡ false = or_l (is_bad_size s.size || eqb s.depth 0) (ltb s.size s.depth) e in
-    omega (
-      arith,
-      size-most s.size (or_l (is_bad_size s.size) (eqb s.depth 0) p),
-      ltb-false s.size s.depth (or_r (is_bad_size s.size || eqb s.depth 0) (ltb s.size s.depth) e),
-    )
+depth-most s e = grind (arith, common_steps)
 
 pub depth-some : (s : State) → has_bad_depth s ≡ false → 1 ≤ s.depth
-depth-some s e =
-    let p : (is_bad_size s.size || eqb s.depth 0) ≡ false = or_l (is_bad_size s.size || eqb s.depth 0) (ltb s.size s.depth) e in
-    let n : s.depth ≡ 0 → ⊥ = eqb-false s.depth 0 (or_r (is_bad_size s.size) (eqb s.depth 0) p) in
-    omega arith
+depth-some s e = grind (arith, common_steps)
 
 module _ (s : State) (n d : ℕ) (size : n ≡ s.size) (depth : d ≡ s.depth) (t : Bool) (refused : t ≡ is_bad_size n) where
   sized : is_bad_size s.size ≡ t

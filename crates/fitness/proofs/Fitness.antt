@@ -1,14 +1,9 @@
 -- What it says that a state fits an image (refusal 15), test by test.
-use Rattle.std.proofs.Common.{if◌then◌else◌}
-use Prim.Native.Nat.{ℕ, ◌+◌, ◌-◌, ◌≤◌, ◌<◌}
-use mathlib.Core.Bool.{Bool, true, false, ◌&&◌, ◌||◌, not}
-use mathlib.Core.Path.{◌≡◌, refl, sym, ◌∙◌, ap, subst}
-use lib.Dec.{leb, ltb, eqb}
-use lib.ListN.{length}
-use native.Mathlib.Omega.{arith}
-use borrow.Author.Tests.{eqb-true, lt-ltb, ltb-true, le-leb, lt-leb, leb-true, leb-false}
+use Rattle.std.proofs.Common.{ℕ, ◌+◌, ◌-◌, ◌≤◌, ◌<◌, Bool, true, false, ◌&&◌, ◌||◌, not, ◌≡◌, leb, ltb, length, arith, lt-ltb, le-leb}
+use Rattle.std.proofs.Common.{leb-false}
+use Rattle.std.proofs.lemmas.Grind.{common_steps}
 use Rattle.words.specs.lists.Numbers.{any}
-use Rattle.words.proofs.lists.Tests.{or_r, or_l, or-none, and_l, and_r, and-true, and-false, not-false}
+use Rattle.words.proofs.lists.Tests.{or_r, or_l, and-true, and-false, not-false}
 use Rattle.words.proofs.lists.Searches.{any_false, any_none}
 use Rattle.bindings.specs.Binding.{server_of}
 use Rattle.image.specs.Image.{Image}
@@ -35,11 +30,7 @@ pub record Fits (i : Image) (s : State) : Type 0 where
 
 -- a chain of tests of which none holds
 none_of : (a b c d e : Bool) → (a || b || c || d || e) ≡ false → (a ≡ false) × (b ≡ false) × (c ≡ false) × (d ≡ false) × (e ≡ false)
-none_of a b c d e p =
-    let t = or_l (a || b || c || d) e p in
-    let r = or_l (a || b || c) d t in
-    let q = or_l (a || b) c r in
-    (or_l a b q, or_r a b q, or_r (a || b) c r, or_r (a || b || c) d t, or_r (a || b || c || d) e p)
+none_of a b c d e p = grind (arith, common_steps)
 
 module _ (i : Image) (s : State) where
   -- place k may not carry the one above it
@@ -47,13 +38,7 @@ module _ (i : Image) (s : State) where
   strays k = ltb (k + 1) s.depth && not (is_carried i s k)
 
   fits-place : Fits i s → (k : ℕ) → k < s.depth → is_unfit_place i s k ≡ false
-  fits-place f k l =
-      or-none (leb (length i.labels) (place_at s k)) (strays k)
-      (lt-leb (length i.labels) (place_at s k) (f.labels k l)) (go (ltb (k + 1) s.depth) refl)
-    where
-      go : (t : Bool) → ltb (k + 1) s.depth ≡ t → (t && not (is_carried i s k)) ≡ false
-      go true e = ap not (f.carries k (ltb-true (k + 1) s.depth e))
-      go false e = refl
+  fits-place f k l = grind (arith, common_steps)
 
   pub fits : Fits i s → is_unfit i s ≡ false
   unfolding is_unfit
@@ -94,10 +79,7 @@ module _ (i : Image) (s : State) where
 -- ---- who may be called, and who serves
 module _ (i : Image) where
   pub callable-range : (k : ℕ) → is_callable i k ≡ true → (2 ≤ k) × (k ≤ length i.entries)
-  callable-range k e = (
-    leb-true 2 k (and_l (leb 2 k) (leb k (length i.entries)) e),
-    leb-true k (length i.entries) (and_r (leb 2 k) (leb k (length i.entries)) e),
-  )
+  callable-range k e = grind (arith, common_steps)
 
   pub range-callable : (k : ℕ) → 2 ≤ k → k ≤ length i.entries → is_callable i k ≡ true
   range-callable k a b = and-true (leb 2 k) (leb k (length i.entries)) (le-leb 2 k a) (le-leb k (length i.entries) b)
@@ -105,20 +87,7 @@ module _ (i : Image) where
   -- every number of 2 to H is served by a scheme of 2 to H
   pub called-served : length i.entries ≤ 16 → (s : State) → Fits i s → (h : ℕ) → 2 ≤ h → h ≤ length i.entries
       → is_callable i (server_of s.serving h) ≡ true
-  called-served few s f h two most =
-      go (eqb h i.handler) (ap (λ (p : Bool). by p (eqb h i.handler)) (sym (le-leb h (length i.entries) most)) ∙ good)
-    where
-      by : Bool → Bool → Bool
-      by p t = not (if p && not t then is_callable i (server_of s.serving h) else eqb (server_of s.serving h) h)
-
-      good : by (leb h (length i.entries)) (eqb h i.handler) ≡ false
-      good = f.serves h two (omega arith)
-
-      go : (t : Bool) → by true t ≡ false → is_callable i (server_of s.serving h) ≡ true
-      go true e =
-          let q : server_of s.serving h ≡ h = eqb-true (server_of s.serving h) h (not-false _ e) in
-          subst (λ (k : ℕ). is_callable i k ≡ true) (sym q) (range-callable h two most)
-      go false e = not-false _ e
+  called-served few s f h two most = grind (arith, common_steps)
 
   pub fits-serves : length i.entries ≤ 16 → (s : State) → Fits i s → (h : ℕ) → 2 ≤ h → h ≤ length i.entries
       → (2 ≤ server_of s.serving h) × (server_of s.serving h ≤ length i.entries)

@@ -1,13 +1,8 @@
 -- The grouping meets the rule, every grouping that meets the rule is within it, and none of these has fewer groups.
-use Rattle.std.proofs.Common.{if◌then◌else◌}
-use Prim.Native.Nat.{ℕ, zero, suc, ◌+◌, ◌≤◌, ◌<◌}
-use mathlib.Core.Bool.{Bool, true, false, not}
-use mathlib.Core.Path.{◌≡◌, refl, sym, ◌∙◌, ap, subst}
-use mathlib.Core.Logic.{◌⊎◌, inl, inr}
-use native.Mathlib.Omega.{arith}
-use lib.Dec.{eqb}
-use lib.ListN.{length}
-use borrow.Author.Tests.{eqb-true, eqb-false, eq-eqb, ne_eqb}
+use Rattle.std.proofs.Common.{if◌then◌else◌, ℕ, zero, suc, ◌+◌, ◌≤◌, ◌<◌, Bool, true, false, not, ◌≡◌, refl, sym, ◌∙◌, ap, subst, ◌⊎◌, inl}
+use Rattle.std.proofs.Common.{inr, arith, eqb, length, eqb-true, eq-eqb, ne_eqb}
+use borrow.Author.Tests.{eqb-false}
+use Rattle.std.proofs.lemmas.Grind.{common_steps}
 use Rattle.words.specs.lists.Numbers.{any, count}
 use Rattle.words.proofs.lists.Tests.{and_l, split, not-true, bit-low}
 use Rattle.words.proofs.lists.Searches.{any_false, any_none}
@@ -100,10 +95,7 @@ module _ (i : Image) (S : SoundImage i) (one : OneRow i) where
 
   -- ---- the groups are counted by the labels that are their own class
   first-lowest : (l : ℕ) → l < n → is_first (grouping i) l ≡ true → is_lowest (class_of (grouping i)) l ≡ true
-  first-lowest l h t = ap not (any_none (λ k. eqb (class_of (grouping i) k) (class_of (grouping i) l)) 0 l (λ k m.
-      ne_eqb (class_of (grouping i) (0 + k)) (class_of (grouping i) l) (λ e.
-      let x : class_of (grouping i) (0 + k) ≤ 0 + k = (group-round i S one).below (0 + k) (omega arith) in
-      omega (arith, eqb-true (class_of (grouping i) l) l t))))
+  first-lowest l h t = grind (arith, common_steps, eqb-true, any_none, group-round, ne_eqb)
 
   lowest-first : (l : ℕ) → l < n → is_lowest (class_of (grouping i)) l ≡ true → is_first (grouping i) l ≡ true
   lowest-first l h t = eq-eqb (class_of (grouping i) l) l (go (split (class_of (grouping i) l) l))

@@ -1,15 +1,10 @@
 -- Rows that lead to marked labels are enough to look at: two labels of one class are parted by them, or by none.
-use Prim.Native.Nat.{ℕ, suc, ◌+◌, ◌*◌, ◌-◌, ◌≤◌, ◌<◌}
-use mathlib.Core.Bool.{Bool, true, false, ◌&&◌, ◌||◌, not}
-use mathlib.Core.Path.{◌≡◌, refl, sym, ◌∙◌, ap, ap₂, subst}
-use mathlib.Core.Logic.{◌⊎◌, inl, inr}
-use mathlib.Core.List.{List}
-use native.Mathlib.Nat.{eq-or-lt_of_le}
-use native.Mathlib.Omega.{arith}
-use lib.Dec.{eqb, ltb, leb}
-use lib.ListN.{length, get_or, set, replicate, length-set, length-replicate, get_or-replicate}
-use lib.Seq.{get_or-set_same, get_or-set_other}
-use borrow.Author.Tests.{eq-eqb, ne_eqb, eqb-true, lt-ltb, le-leb, lt-leb, ltb-true, leb-false}
+use Rattle.std.proofs.Common.{ℕ, suc, ◌+◌, ◌*◌, ◌-◌, ◌≤◌, ◌<◌, Bool, true, false, ◌&&◌, ◌||◌, not, ◌≡◌, refl, sym, ◌∙◌, ap, ◌⊎◌, inl, inr}
+use Rattle.std.proofs.Common.{List, arith, eqb, ltb, leb, length, get_or, set, replicate, eq-eqb, ne_eqb, eqb-true, lt-ltb, le-leb}
+use Rattle.std.proofs.Common.{ltb-true, leb-false}
+use Rattle.std.proofs.Math.ListN.{length-replicate, get_or-replicate}
+use borrow.Author.Tests.{lt-leb}
+use Rattle.std.proofs.lemmas.Grind.{common_steps}
 use Rattle.words.specs.lists.Numbers.{any}
 use Rattle.words.specs.lists.Sequences.{some}
 use Rattle.words.proofs.lists.Tests.{no_both, and_l, and_r, and-true, and-false, and_no, not-true, not-false, or_cases, or-true-l}
@@ -115,22 +110,16 @@ module _ (b c : List ℕ) where
     -- ---- are_parted_by
     pub by-told : (least m l first end last f : ℕ) → first ≡ first_on b l → end ≡ end_on b l → last ≡ end_on b m → f ≡ first_on b m
         → any (λ f. has_marked_next b marks least f && is_parting_any b c f first end) f (last - f) ≡ is_parted_by b c marks least m l
-    by-told least m l first end last f p q r s =
-        ap₂ (λ (u v : ℕ). any (λ g. has_marked_next b marks least g && is_parting_any b c g u v) f (last - f)) p q
-        ∙ ap₂ (λ (u v : ℕ). any (marked least l) u (v - u)) s r
+    by-told least m l first end last f p q r s = grind (arith, common_steps)
 
     pub marked-not : (least f next first end : ℕ) → next ≡ field b f 7 → get_or marks next 0 < least
         → false ≡ (has_marked_next b marks least f && is_parting_any b c f first end)
-    marked-not least f next first end e h =
-        sym (ap (λ (t : Bool). t && is_parting_any b c f first end)
-        (ap (λ (x : ℕ). leb least (get_or marks x 0)) (sym e) ∙ lt-leb least (get_or marks next 0) h))
+    marked-not least f next first end e h = grind (arith, common_steps)
 
     pub marked_by : (least f next first end : ℕ) → next ≡ field b f 7 → least ≤ get_or marks next 0
         → (t : Bool) → t ≡ is_parting_any b c f first end
         → t ≡ (has_marked_next b marks least f && is_parting_any b c f first end)
-    marked_by least f next first end e h t q =
-        q ∙ sym (ap (λ (t : Bool). t && is_parting_any b c f first end)
-        (ap (λ (x : ℕ). leb least (get_or marks x 0)) (sym e) ∙ le-leb least (get_or marks next 0) h))
+    marked_by least f next first end e h t q = grind (arith, common_steps)
 
     module _ (touched : List ℕ) (M : Marks b c marks touched) (m l : ℕ) (am : 2 ≤ m) (hm : m ≤ last_label b) where
       pub by-none : get_or touched m 0 ≡ 0 → (least : ℕ) → 1 ≤ least → false ≡ is_parted_by b c marks least m l
@@ -163,13 +152,7 @@ module _ (b c : List ℕ) where
 
         pub parted-second : (s : Bool) → s ≡ is_parted_by b c marks 1 m l → s ≡ false → (t : Bool) → t ≡ is_parted_by b c marks 2 l m
             → t ≡ is_parted_on b c m l
-        parted-second s q z t r =
-            same_truth t (is_parted_on b c m l) (λ u. turned m l (by_parts 2 l m (sym r ∙ u)))
-            (λ u. go (or_cases (is_parted_by b c marks 1 m l) (is_parted_by b c marks 2 l m) (by-marks u)))
-          where
-            go : (is_parted_by b c marks 1 m l ≡ true) ⊎ (is_parted_by b c marks 2 l m ≡ true) → t ≡ true
-            go (inl u) = no_both (is_parted_by b c marks 1 m l) u (sym q ∙ z)
-            go (inr u) = r ∙ u
+        parted-second s q z t r = grind (arith, common_steps, no_both, or_cases, same_truth, turned, by_parts, by-marks)
 
 -- ---- the marks before the first round
 pub ones-long : (xs : List ℕ) → xs ≡ replicate 256 1 → length xs ≡ 256
@@ -198,16 +181,7 @@ module _ (former c kept : List ℕ) where
   pub kept_on : (marks : List ℕ) (l v : ℕ) → KeptClasses l former c kept marks → l < 256
       → (v < 2 → get_or c l 0 ≡ get_or kept (get_or former l 0) 0)
       → KeptClasses (l + 1) former c kept (set marks l v)
-  kept_on marks l v K h e = record { long = length-set marks l v ∙ K.long; one = λ k z s. go k s (eq-or-lt_of_le (below k z)) }
-    where
-      below : (k : ℕ) → k < l + 1 → k ≤ l
-      below k z = omega arith
-
-      go : (k : ℕ) → get_or (set marks l v) k 0 < 2 → (k ≡ l) ⊎ (k < l) → get_or c k 0 ≡ get_or kept (get_or former k 0) 0
-      go k s (inl q) =
-          subst (λ (j : ℕ). get_or c j 0 ≡ get_or kept (get_or former j 0) 0) (sym q)
-          (e (omega (arith, s, ap (λ (j : ℕ). get_or (set marks l v) j 0) q, get_or-set_same marks l v 0 (omega (arith, K.long)))))
-      go k s (inr q) = K.one k q (omega (arith, s, get_or-set_other marks l k v 0 (λ y. omega arith)))
+  kept_on marks l v K h e = grind (arith, common_steps)
 
 module _ (b marks : List ℕ) where
   pub leads-marked : (f next : ℕ) → next ≡ field b f 7 → 1 ≤ get_or marks next 0 → has_marked_next b marks 1 f ≡ true

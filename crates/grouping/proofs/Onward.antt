@@ -1,13 +1,7 @@
 -- Where a label's row leads by a word and a bit, and when a list of classes parts two labels.
-use Rattle.std.proofs.Common.{if◌then◌else◌}
-use Prim.Native.Nat.{ℕ, zero, suc, ◌≤◌, ◌<◌}
-use mathlib.Core.Bool.{Bool, true, false, ◌&&◌, ◌||◌, not}
-use mathlib.Core.Path.{◌≡◌, refl, sym, ◌∙◌, ap, ap₂, subst}
-use mathlib.Core.List.{List, [], ◌∷◌}
-use native.Mathlib.Omega.{arith}
-use lib.Dec.{eqb}
-use lib.ListN.{length, get_or}
-use borrow.Author.Tests.{eqb-true, eq-eqb}
+use Rattle.std.proofs.Common.{if◌then◌else◌, ℕ, zero, suc, ◌≤◌, ◌<◌, Bool, true, false, ◌&&◌, ◌||◌, not, ◌≡◌, refl, sym, ◌∙◌, ap, ap₂, List}
+use Rattle.std.proofs.Common.{[], ◌∷◌, arith, eqb, length, get_or, eqb-true, eq-eqb}
+use Rattle.std.proofs.lemmas.Grind.{common_steps}
 use Rattle.words.specs.lists.Sequences.{some, filter, All}
 use Rattle.words.proofs.lists.Tests.{no_both, and_l, and_r, and-true, and-false, or_l, or_r, not-false}
 use Rattle.words.proofs.lists.Joins.{all-places, all_filter}
@@ -36,9 +30,7 @@ some-none p d (x ∷ xs) h = ap₂ ◌||◌ (h 0 (omega arith)) (some-none p d x
 
 -- ---- labels that hold the same
 pub same-fields : (x y : Label) → x ≡ y → has_same_fields x y ≡ true
-same-fields x y e = subst (λ (z : Label). has_same_fields x z ≡ true) e
-    (ap₂ ◌&&◌ (ap₂ ◌&&◌ (ap₂ ◌&&◌ (ap₂ ◌&&◌ (eq-eqb x.kind x.kind refl) (eq-eqb x.called x.called refl))
-    (eq-eqb x.owner x.owner refl)) (eq-eqb x.result x.result refl)) (eq-eqb x.mask x.mask refl))
+same-fields x y e = grind (arith, common_steps)
 
 -- ---- where the rows that match lead; where none does, to the label itself
 abbrev pub label_led_to : ℕ → List Row → ℕ
@@ -63,22 +55,7 @@ module _ (i : Image) (S : SoundImage i) where
 
   -- labels 0 and 1 hold what no other label holds
   pub low_same : (l m : ℕ) → l < n → m < n → label_at i l ≡ label_at i m → l < 2 → l ≡ m
-  low_same l m hl hm e low = go l m hl hm (ap (λ (x : Label). x.kind) e) low
-    where
-      home : (label_at i 0).kind ≡ 4
-      home = ap (λ (x : Label). x.kind) S.home
-
-      back : (label_at i 1).kind ≡ 3
-      back = ap (λ (x : Label). x.kind) S.back
-
-      go : (l m : ℕ) → l < n → m < n → (label_at i l).kind ≡ (label_at i m).kind → l < 2 → l ≡ m
-      go zero zero hl hm e low = refl
-      go zero (suc zero) hl hm e low = absurd (omega (arith, home, back))
-      go zero (suc (suc m)) hl hm e low = absurd (omega (arith, home, (S.others (suc (suc m)) (omega arith) hm).kinds))
-      go (suc zero) zero hl hm e low = absurd (omega (arith, home, back))
-      go (suc zero) (suc zero) hl hm e low = refl
-      go (suc zero) (suc (suc m)) hl hm e low = absurd (omega (arith, back, (S.others (suc (suc m)) (omega arith) hm).kinds))
-      go (suc (suc l)) m hl hm e low = absurd (omega arith)
+  low_same l m hl hm e low = grind (arith, common_steps)
 
   module _ (one : OneRow i) where
     -- a row of a label that matches is the one that leads on

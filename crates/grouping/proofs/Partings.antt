@@ -1,20 +1,14 @@
 -- Whether rows part two labels, by the frames of a table: each label's rows stand in frames of its own.
-use Prim.Native.Nat.{ℕ, zero, suc, ◌-◌, ◌≤◌, ◌<◌}
-use mathlib.Core.Bool.{Bool, true, false, ◌&&◌, ◌||◌, not}
-use mathlib.Core.Path.{◌≡◌, refl, sym, ◌∙◌, ap, ap₂}
-use mathlib.Core.List.{List, [], ◌∷◌, ◌++◌, map}
-use native.Mathlib.Omega.{arith}
-use lib.Bits.{bit_and}
-use lib.Dec.{eqb}
-use lib.ListN.{get_or}
-use borrow.Author.Tests.{eq-eqb, ne_eqb}
+use Rattle.std.proofs.Common.{ℕ, zero, suc, ◌-◌, ◌≤◌, ◌<◌, Bool, true, false, ◌&&◌, ◌||◌, not, ◌≡◌, refl, ◌∙◌, ap, ap₂, List, [], ◌∷◌, ◌++◌}
+use Rattle.std.proofs.Common.{map, arith, bit_and, eqb, get_or, eq-eqb, ne_eqb}
+use Rattle.std.proofs.lemmas.Grind.{common_steps}
 use Rattle.words.specs.lists.Numbers.{range, any}
 use Rattle.words.specs.lists.Sequences.{some}
 use Rattle.words.proofs.lists.Tests.{or-none}
 use Rattle.words.proofs.lists.Searches.{any-alike}
 use Rattle.text.specs.frames.Frame.{field, pair_at}
 use Rattle.image.specs.Image.{Row}
-use Rattle.image.specs.Decode.{last_label, row_in_frame}
+use Rattle.image.specs.Decode.{last_label}
 use Rattle.tables.specs.Table.{first_on, end_on, row_on, rows_on, table_image}
 use Rattle.tables.proofs.OwnRows.{own_alone}
 use Rattle.covering.specs.Matched.{is_together}
@@ -25,9 +19,7 @@ use Rattle.grouping.specs.inner.GroupingContracts.{Even, is_parting_in, is_parti
 module _ (b c : List ℕ) (f g : ℕ) where
   pub parts-not : (class next : ℕ) → class ≡ get_or c (field b f 7) 0 → next ≡ field b g 7 → class ≡ get_or c next 0 → false ≡ is_parting_in
       b c f g
-  parts-not class next p q e =
-      sym (ap (λ (t : Bool). not t && is_together (row_in_frame b f) (row_in_frame b g))
-      (eq-eqb (get_or c (field b f 7) 0) (get_or c (field b g 7) 0) (sym p ∙ e ∙ ap (λ (x : ℕ). get_or c x 0) q)))
+  parts-not class next p q e = grind (arith, common_steps)
 
 -- ---- lists
 some-range : {A : Type 0} (p : A → Bool) (f : ℕ → A) (a n : ℕ) → some p (map f (range a n)) ≡ any (λ k. p (f k)) a n
@@ -37,12 +29,8 @@ some-range p f a (suc n) = ap (λ (t : Bool). p (f a) || t) (some-range p f (suc
 
 some_first : {A : Type 0} (p : A → Bool) (xs ys : List A) → some p xs ≡ false → some p (xs ++ ys) ≡ some p ys
 unfolding some
-some_first p [] ys e = refl
-some_first p (x ∷ xs) ys e = go (p x) (some p xs) e (some_first p xs ys)
-  where
-    go : (t u : Bool) → (t || u) ≡ false → (u ≡ false → some p (xs ++ ys) ≡ some p ys) → (t || some p (xs ++ ys)) ≡ some p ys
-    go false u e ih = ih e
-    go true u e ih = absurd (let z : ◌≡◌ {A = ℕ} 0 1 = cc in omega arith)
+some_first p [] ys e = grind (arith, common_steps)
+some_first p (x ∷ xs) ys e = grind (arith, common_steps)
 
 some-last : {A : Type 0} (p : A → Bool) (xs ys : List A) → some p ys ≡ false → some p (xs ++ ys) ≡ some p xs
 unfolding some
@@ -91,14 +79,7 @@ module _ (b c : List ℕ) (x : Even b) (l m : ℕ) (al : 2 ≤ l) (hl : l ≤ la
       turned false false = refl
 
   first-only : (r : Row) → (k f : ℕ) → (k ≡ m → ⊥) → is_parting c l m r (row_on b k f) ≡ false
-  first-only r k f h =
-      ap (λ (t : Bool). eqb r.from l && t && is_together r (row_on b k f) && not (eqb (class_of c r.next) (class_of c (field b f 7))))
-      (ne_eqb k m h)
-      ∙ gone (eqb r.from l) (is_together r (row_on b k f)) (not (eqb (class_of c r.next) (class_of c (field b f 7))))
-    where
-      gone : (p q t : Bool) → (p && false && q && t) ≡ false
-      gone true q t = refl
-      gone false q t = refl
+  first-only r k f h = grind (arith, common_steps)
 
   second-only : (k f : ℕ) → (k ≡ l → ⊥) → some (is_parting c l m (row_on b k f)) (table_image b).rows ≡ false
   second-only k f h = some-never (is_parting c l m (row_on b k f)) (table_image b).rows (λ r.

@@ -1,10 +1,6 @@
 -- The table of an accepted image to which 23 does not apply is one that labels are grouped on.
-use Prim.Native.Nat.{ℕ, ◌+◌, ◌-◌, ◌%◌, ◌≤◌, ◌<◌}
-use mathlib.Core.Bool.{false}
-use mathlib.Core.Path.{◌≡◌, sym, ◌∙◌, ap, subst}
-use mathlib.Core.List.{List, map}
-use native.Mathlib.Omega.{arith}
-use lib.ListN.{length, get_or}
+use Rattle.std.proofs.Common.{ℕ, ◌+◌, ◌-◌, ◌%◌, ◌≤◌, ◌<◌, false, ◌≡◌, sym, ◌∙◌, ap, subst, List, map, arith, length, get_or}
+use Rattle.std.proofs.lemmas.Grind.{common_steps}
 use Rattle.words.specs.lists.Numbers.{range}
 use Rattle.words.proofs.lists.Ranges.{get_or-map-range}
 use Rattle.text.specs.frames.Frame.{field, contents}
@@ -56,6 +52,4 @@ module _ (b : List ℕ) (ok : table_verdict b ≡ fine) (bytes : (k : ℕ) → g
       }
 
 pub made-even : (t b : List ℕ) → MadeTable t b → is_uneven (decoded_image (contents t)) ≡ false → Even b
-made-even t b made e =
-    subst Even (sym made.is)
-    (noted-even (contents t) (image-table t made.accepted) (image-bytes t made.accepted) (omega (arith, any-contents-length t)) e)
+made-even t b made e = grind (arith, common_steps, any-contents-length, image-table, image-bytes, noted-even)

@@ -1,13 +1,7 @@
 -- Rounds of parting: each list of classes is an equivalence, each round parts further, and after as many rounds as labels nothing changes.
-use Prim.Native.Nat.{ℕ, zero, suc, ◌≤◌, ◌<◌}
-use mathlib.Core.Bool.{Bool, true, false, not}
-use mathlib.Core.Path.{◌≡◌, refl, sym, ◌∙◌, ap, subst}
-use mathlib.Core.Logic.{◌⊎◌, inl, inr}
-use mathlib.Core.List.{List}
-use native.Mathlib.Omega.{arith}
-use lib.Dec.{eqb}
-use lib.ListN.{length}
-use borrow.Author.Tests.{eqb-true, eq-eqb}
+use Rattle.std.proofs.Common.{ℕ, zero, suc, ◌≤◌, ◌<◌, Bool, true, false, not, ◌≡◌, refl, sym, ◌∙◌, ap, subst, ◌⊎◌, inl, inr, List, arith}
+use Rattle.std.proofs.Common.{eqb, length, eqb-true, eq-eqb}
+use Rattle.std.proofs.lemmas.Grind.{common_steps}
 use Rattle.words.specs.lists.Numbers.{tabulate, count}
 use Rattle.words.proofs.lists.Tests.{and_l, and_r, and-true, not-true, split}
 use Rattle.words.proofs.lists.Counts.{count-within, count_same, count-le, count-some}
@@ -97,9 +91,7 @@ module _ (i : Image) where
       pub stays-made : (l m : ℕ) → class_of c l ≡ class_of c m
           → ((w : ℕ) (b : Bool) → w < 65536 → class_of c (onward_label i l w b) ≡ class_of c (onward_label i m w b)) → is_staying_with i c l
           m ≡ true
-      stays-made l m e h =
-          and-true (eqb (class_of c l) (class_of c m)) (not (is_parted i c l m)) (eq-eqb (class_of c l) (class_of c m) e)
-          (ap not (not-parted i S one c l m h))
+      stays-made l m e h = grind (arith, common_steps, and-true, eq-eqb, not-parted)
 
       pub stays-alike : AlikeBelow n (is_staying_with i c)
       stays-alike = record {

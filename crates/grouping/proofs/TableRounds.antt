@@ -1,15 +1,7 @@
 -- Steps of the functions that find the classes of a table's labels, round after round.
-use Prim.Native.Nat.{ℕ, zero, suc, ◌+◌, ◌-◌, ◌≤◌, ◌<◌}
-use mathlib.Core.Bool.{Bool, true, false, ◌&&◌, ◌||◌, not}
-use mathlib.Core.Path.{◌≡◌, refl, sym, ◌∙◌, ap, ap₂, subst}
-use mathlib.Core.Logic.{◌⊎◌, inl, inr}
-use mathlib.Core.List.{List, [], ◌∷◌}
-use native.Mathlib.Nat.{eq-or-lt_of_le}
-use native.Mathlib.Omega.{arith}
-use lib.Dec.{eqb}
-use lib.ListN.{length, get_or, set, length-set}
-use lib.Seq.{get_or-set_same, get_or-set_other}
-use borrow.Author.Tests.{eq-eqb, eqb-true}
+use Rattle.std.proofs.Common.{ℕ, zero, suc, ◌+◌, ◌-◌, ◌≤◌, ◌<◌, Bool, true, false, ◌&&◌, ◌||◌, not, ◌≡◌, refl, sym, ◌∙◌, ap, ap₂, subst}
+use Rattle.std.proofs.Common.{◌⊎◌, inl, inr, List, [], ◌∷◌, arith, eqb, length, get_or, set, eq-eqb, eqb-true}
+use Rattle.std.proofs.lemmas.Grind.{common_steps}
 use Rattle.words.specs.lists.Numbers.{lowest}
 use Rattle.words.specs.lists.Sequences.{some}
 use Rattle.words.proofs.lists.Tests.{no_both, and_l, and_r, and-true, not-true, split}
@@ -21,7 +13,7 @@ use Rattle.tables.specs.Table.{table_image}
 use Rattle.tables.proofs.TableReads.{labels-count, label-at}
 use Rattle.covering.specs.Matched.{is_together}
 use Rattle.covering.proofs.Hits.{OneRow, one-row}
-use Rattle.grouping.specs.Classes.{has_same_fields, class_of, is_parting, is_parted, is_staying_with, classes_by, classes}
+use Rattle.grouping.specs.Classes.{class_of, is_parting, is_parted, is_staying_with, classes_by, classes}
 use Rattle.grouping.specs.inner.GroupingContracts.{Even, Classed, has_same_fields_on, is_parted_on, is_class_leader, next_class}
 use Rattle.grouping.proofs.Representatives.{lowest_alike, alike-le, tabulated, lowest-own}
 use Rattle.grouping.proofs.Onward.{low_same}
@@ -64,47 +56,21 @@ module _ (b : List ℕ) where
 
   module _ (alike : ℕ → ℕ → Bool) (buffer : List ℕ) (m : ℕ) where
     pub fill_start : ((k : ℕ) → get_or b k 0 < 256) → length buffer ≡ 256 → m ≡ last_label b → FillingClasses alike buffer m 0
-    fill_start bytes h e = record {
-      long = h;
-      small = omega (arith, bytes 2);
-      is =
-          e;
-      high = omega arith;
-      each = λ k z. absurd (omega arith);
-    }
+    fill_start bytes h e = grind (arith, common_steps)
 
     module _ (l : ℕ) (t : FillingClasses alike buffer m l) where
       pub value-small : l ≤ m → (x : ℕ) → x ≡ lowest_alike alike l → x < 256
       value-small h x e = omega (arith, alike-le alike l, t.small)
 
       pub fill_on : l ≤ m → (x : ℕ) → x ≡ lowest_alike alike l → FillingClasses alike (set buffer l x) m (l + 1)
-      fill_on h x e = record {
-        long = length-set buffer l x ∙ t.long;
-        small = t.small;
-        is = t.is;
-        high = omega arith;
-        each = λ k z. go k z (eq-or-lt_of_le (below k z));
-      }
-        where
-          below : (k : ℕ) → k < l + 1 → k ≤ l
-          below k z = omega arith
-
-          go : (k : ℕ) → k < l + 1 → (k ≡ l) ⊎ (k < l) → get_or (set buffer l x) k 0 ≡ lowest_alike alike k
-          go k z (inl q) =
-              ap (λ (j : ℕ). get_or (set buffer l x) j 0) q ∙ get_or-set_same buffer l x 0 (omega (arith, t.long, t.small)) ∙ e
-              ∙ ap (lowest_alike alike) (sym q)
-          go k z (inr q) = get_or-set_other buffer l k x 0 (λ y. omega arith) ∙ t.each k q
+      fill_on h x e = grind (arith, common_steps)
 
       pub fill-all : m < l → Classed b (classes_by i alike) buffer
-      fill-all h = record {
-        long = t.long;
-        at = λ k z. t.each k (omega (arith, t.is)) ∙ sym (tabulated alike n k (omega (arith, labels-count b)));
-      }
+      fill-all h = grind (arith, common_steps, labels-count, tabulated)
 
   -- ---- first_classes
   pub same_alike : (l : ℕ) → lowest_alike (has_same_fields_on b) l ≡ lowest_alike (has_same_fields_at i) l
-  same_alike l = lowest-alike (λ m. has_same_fields_on b m l) (λ m. has_same_fields_at i m l) 0 l (λ m u v.
-      ap₂ has_same_fields (sym (label-at b m)) (sym (label-at b l)))
+  same_alike l = grind (arith, common_steps, lowest-alike, has_same_fields_at, label-at)
 
   pub first-all : (buffer : List ℕ) (m l : ℕ) → FillingClasses (has_same_fields_at i) buffer m l → m < l → Classed b (classes i 0) buffer
   unfolding classes
@@ -241,14 +207,7 @@ module _ (b : List ℕ) where
 
         -- one below that led a class would stay with l
         led : (m : ℕ) → get_or buffer l 0 ≤ m → m < l → is_class_leader b buffer next l m ≡ true → stays m l ≡ true
-        led m u p e =
-            let s : Bool = eqb (get_or buffer m 0) (get_or buffer l 0) in
-            let t : Bool = eqb (get_or next m 0) m in
-            let f : get_or buffer m 0 ≡ get_or buffer l 0 =
-            eqb-true (get_or buffer m 0) (get_or buffer l 0) (and_l s t (and_l (s && t) (not (is_parted_on b buffer m l)) e)) in
-            and-true (eqb (class_of c m) (class_of c l)) (not (is_parted i c m l))
-            (eq-eqb (class_of c m) (class_of c l) (sym (inside m (omega (arith, hl))) ∙ f ∙ inside l hl))
-            (sym (not-parted m (omega (arith, class_low l a z)) p) ∙ and_r (s && t) (not (is_parted_on b buffer m l)) e)
+        led m u p e = grind (arith, common_steps, and-true, eq-eqb, and_l, and_r, eqb-true, inside, class_low, hl, not-parted)
 
         before : (m : ℕ) → get_or buffer l 0 ≤ m → m < y → is_class_leader b buffer next l m ≡ false
         before m u v = go (is_class_leader b buffer next l m) refl

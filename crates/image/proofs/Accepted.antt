@@ -1,29 +1,22 @@
 -- What it gives that the image check accepts: the counts and the handler of the header hold, and the image that the contents hold is sound.
-use Prim.Native.Nat.{ℕ, zero, suc, ◌+◌, ◌*◌, ◌≤◌, ◌<◌}
-use mathlib.Core.Bool.{Bool, true, false, ◌&&◌, ◌||◌, not}
-use mathlib.Core.Path.{◌≡◌, sym, ◌∙◌, ap, subst}
-use mathlib.Core.Logic.{◌⊎◌, inl, inr}
-use mathlib.Core.List.{List}
-use native.Mathlib.Omega.{arith}
-use lib.ListN.{length, get_or}
-use lib.Bits.{bit_and}
-use lib.Dec.{leb, ltb, eqb}
-use borrow.Author.Tests.{le-ltb, lt-ltb, eq-eqb, ne_eqb, eqb-true, eqb-false, ltb-false, leb-true}
-use Rattle.words.proofs.lists.Tests.{or_l, or_r, or_cases, and_l, and_r, and-false, not-false, if-true, if-false}
+use Rattle.std.proofs.Common.{ℕ, zero, suc, ◌+◌, ◌*◌, ◌≤◌, ◌<◌, Bool, true, false, ◌&&◌, ◌||◌, not, ◌≡◌, sym, ◌∙◌, ap, subst, List, arith}
+use Rattle.std.proofs.Common.{length, get_or, bit_and, ltb, eqb, lt-ltb, ne_eqb, eqb-true, ltb-false, leb-true}
+use borrow.Author.Tests.{eqb-false}
+use Rattle.std.proofs.lemmas.Grind.{common_steps}
+use Rattle.words.proofs.lists.Tests.{or_l, or_r, or_cases, and_l, and_r, and-false, not-false}
 use Rattle.words.proofs.lists.Ranges.{length-map-range, get_or-map-range}
 use Rattle.text.specs.frames.Frame.{size, field, pair_at, contents}
-use Rattle.text.specs.frames.Verdict.{fine, next, when, at_lowest}
+use Rattle.text.specs.frames.Verdict.{fine, next, at_lowest}
 use Rattle.text.specs.frames.Check.{text_verdict}
-use Rattle.text.proofs.frames.Verdicts.{next-first, next-rest, when-fine, at-lowest-fine}
+use Rattle.text.proofs.frames.Verdicts.{next-first, next-rest, at-lowest-fine}
 use Rattle.text.proofs.frames.Contents.{text-told, contents-bytes}
 use Rattle.image.specs.Image.{Label, Row, no_row, nth_row, home_label, return_label}
 use Rattle.image.specs.Decode.{scheme_count, last_label, row_count, handler_in, labels_from, rows_from, entry_in, label_in, row_in}
 use Rattle.image.specs.Decode.{decoded_image}
-use Rattle.image.specs.Check.{is_filled, has_bad_handler, has_bad_counts, is_bad_header, entry_position, label_position}
-use Rattle.image.specs.Check.{row_position, position_of, is_falling, is_stray_frame, is_stray, is_within}
-use Rattle.image.specs.Check.{is_label, is_bad_entry, has_bad_called, is_bad_label, has_bad_bit, is_bad_row}
-use Rattle.image.specs.Check.{is_bad_frame, has_bad_content, table_verdict, image_verdict}
-use Rattle.image.specs.inner.Sound.{no_label, nth_label, end_of, Reaches, SoundLabel, SoundRow, SoundImage}
+use Rattle.image.specs.Check.{is_filled, has_bad_handler, has_bad_counts, is_bad_header, entry_position, label_position, row_position}
+use Rattle.image.specs.Check.{position_of, is_falling, is_stray_frame, is_stray, is_within, is_label, is_bad_entry, has_bad_called}
+use Rattle.image.specs.Check.{is_bad_label, has_bad_bit, is_bad_row, is_bad_frame, has_bad_content, table_verdict, image_verdict}
+use Rattle.image.specs.inner.Sound.{no_label, nth_label, Reaches, SoundLabel, SoundRow, SoundImage}
 
 -- ---- what the image that contents hold has at each number
 module _ (b : List ℕ) where
@@ -59,96 +52,30 @@ module _ (b : List ℕ) where
 
   pub position-of-label : (l : ℕ) → l ≤ last_label b → position_of b (labels_from b + l) ≡ label_position l
   unfolding position_of
-  position-of-label l h =
-      rw (
-        ne_eqb (labels_from b + l) 0 (λ z. omega arith),
-        le-ltb (labels_from b + l) (labels_from b) (omega arith),
-        lt-ltb (labels_from b + l) (rows_from b) (omega arith),
-      )
-      (ap label_position (omega arith))
+  position-of-label l h = grind (arith, common_steps)
 
   pub position-of-row : (k : ℕ) → position_of b (rows_from b + k) ≡ row_position k
   unfolding position_of
-  position-of-row k =
-      rw (
-        ne_eqb (rows_from b + k) 0 (λ z. omega arith),
-        le-ltb (rows_from b + k) (labels_from b) (omega arith),
-        le-ltb (rows_from b + k) (rows_from b) (omega arith),
-      )
-      (ap row_position (omega arith))
+  position-of-row k = grind (arith, common_steps)
 
   -- a label that passes for scheme h is one that h reaches
   pub within-reaches : (h l : ℕ) → is_within b h l ≡ true → Reaches (decoded_image b) h l
-  within-reaches h l e =
-      let low : l ≤ last_label b = leb-true l (last_label b)
-      (and_l (leb l (last_label b)) (eqb (label_in b l).owner h || eqb l (end_of h)) e) in
-      record {
-        inside = omega (arith, labels-count);
-        belongs = go low (or_cases (eqb (label_in b l).owner h) (eqb l (end_of h))
-            (and_r (leb l (last_label b)) (eqb (label_in b l).owner h || eqb l (end_of h)) e));
-      }
-    where
-      go : l ≤ last_label b → (eqb (label_in b l).owner h ≡ true) ⊎ (eqb l (end_of h) ≡ true)
-          → ((nth_label (decoded_image b) l).owner ≡ h) ⊎ (l ≡ end_of h)
-      go low (inl p) = inl (ap (λ (x : Label). x.owner) (label-read l low) ∙ eqb-true (label_in b l).owner h p)
-      go low (inr p) = inr (eqb-true l (end_of h) p)
+  within-reaches h l e = grind (arith, common_steps, and_l, leb-true, eqb-true, or_cases, and_r, labels-count, label-read)
 
 -- ---- labels that hold the same
 pub fields-same : (x y : Label)
     → (eqb x.kind y.kind && eqb x.called y.called && eqb x.owner y.owner && eqb x.result y.result
     && eqb x.mask y.mask) ≡ true → x ≡ y
-fields-same x y e =
-    let k : Bool = eqb x.kind y.kind in
-    let c : Bool = eqb x.called y.called in
-    let o : Bool = eqb x.owner y.owner in
-    let r : Bool = eqb x.result y.result in
-    let m : Bool = eqb x.mask y.mask in
-    let e₁ : (k && c && o && r) ≡ true = and_l (k && c && o && r) m e in
-    let e₂ : (k && c && o) ≡ true = and_l (k && c && o) r e₁ in
-    let e₃ : (k && c) ≡ true = and_l (k && c) o e₂ in
-    let p₁ : x.kind ≡ y.kind = eqb-true x.kind y.kind (and_l k c e₃) in
-    let p₂ : x.called ≡ y.called = eqb-true x.called y.called (and_r k c e₃) in
-    let p₃ : x.owner ≡ y.owner = eqb-true x.owner y.owner (and_r (k && c) o e₂) in
-    let p₄ : x.result ≡ y.result = eqb-true x.result y.result (and_r (k && c && o) r e₁) in
-    let p₅ : x.mask ≡ y.mask = eqb-true x.mask y.mask (and_r (k && c && o && r) m e) in
-    λ j. record { kind = p₁ j; called = p₂ j; owner = p₃ j; result = p₄ j; mask = p₅ j }
+fields-same x y e = grind (arith, common_steps)
 
 called-told : (b : List ℕ) (x : Label) → has_bad_called b x ≡ false → (x.kind ≡ 0 → ⊥) → (2 ≤ x.called) × (x.called ≤ scheme_count b)
-called-told b x e n =
-    let t : (ltb x.called 2 || ltb (scheme_count b) x.called) ≡ false =
-    sym (if-false (eqb x.kind 0) (not (eqb x.called 0)) (ltb x.called 2 || ltb (scheme_count b) x.called)
-    (ne_eqb x.kind 0 n))
-    ∙ e in (
-      ltb-false x.called 2 (or_l (ltb x.called 2) (ltb (scheme_count b) x.called) t),
-      ltb-false (scheme_count b) x.called (or_r (ltb x.called 2) (ltb (scheme_count b) x.called) t),
-    )
+called-told b x e n = grind (arith, common_steps)
 
 plain-told : (b : List ℕ) (x : Label) → has_bad_called b x ≡ false → x.kind ≡ 0 → x.called ≡ 0
-plain-told b x e k =
-    eqb-true x.called 0 (not-false (eqb x.called 0)
-    (sym (if-true (eqb x.kind 0) (not (eqb x.called 0)) (ltb x.called 2 || ltb (scheme_count b) x.called)
-    (eq-eqb x.kind 0 k)) ∙ e))
+plain-told b x e k = grind (arith, common_steps)
 
 label-told : (b : List ℕ) (l : ℕ) (x : Label) → x.mask < 4294967296 → is_bad_label b (suc (suc l)) x ≡ false → SoundLabel (scheme_count b) x
-label-told b l x small e =
-    let k : Bool = ltb 2 x.kind in
-    let z : Bool = eqb x.owner 0 in
-    let o : Bool = ltb (scheme_count b) x.owner in
-    let r : Bool = ltb 2 x.result in
-    let c : Bool = has_bad_called b x in
-    let e₁ : (k || z || o || r) ≡ false = or_l (k || z || o || r) c e in
-    let e₂ : (k || z || o) ≡ false = or_l (k || z || o) r e₁ in
-    let e₃ : (k || z) ≡ false = or_l (k || z) o e₂ in
-    let called : c ≡ false = or_r (k || z || o || r) c e in
-    record {
-      kinds = ltb-false 2 x.kind (or_l k z e₃);
-      some = omega (arith, eqb-false x.owner 0 (or_r k z e₃));
-      most = ltb-false (scheme_count b) x.owner (or_r (k || z) o e₂);
-      results = ltb-false 2 x.result (or_r (k || z || o) r e₁);
-      masks = small;
-      plain = plain-told b x called;
-      calls = called-told b x called;
-    }
+label-told b l x small e = grind (arith, common_steps)
 
 -- ---- a row
 row_told : (b : List ℕ) (f : ℕ) (r : Row) → r.care < 65536 → r.values < 65536 → is_bad_row b f r ≡ false → SoundRow (decoded_image b) r
@@ -186,11 +113,7 @@ row_told b f r small tiny e =
 
 -- ---- the handler is 0 or a scheme of 2 to H
 pub handler-told : (b : List ℕ) → has_bad_handler b ≡ false → (handler_in b ≡ 0 → ⊥) → (2 ≤ handler_in b) × (handler_in b ≤ scheme_count b)
-handler-told b e n =
-    let low : Bool = ltb (handler_in b) 2 in
-    let high : Bool = ltb (scheme_count b) (handler_in b) in
-    let t : (low || high) ≡ false = and-false (not (eqb (handler_in b) 0)) (low || high) e (ap not (ne_eqb (handler_in b) 0 n)) in
-    (ltb-false (handler_in b) 2 (or_l low high t), ltb-false (scheme_count b) (handler_in b) (or_r low high t))
+handler-told b e n = grind (arith, common_steps)
 
 -- ---- the whole table
 pub record CountedTable (b : List ℕ) : Type 0 where
@@ -204,14 +127,11 @@ pub record CountedTable (b : List ℕ) : Type 0 where
 module _ (b : List ℕ) (ok : table_verdict b ≡ fine) where
   header-good : is_bad_header b ≡ false
   unfolding table_verdict
-  header-good =
-      when-fine 11 (is_bad_header b) (next-first (when 11 (is_bad_header b))
-      (λ _. next (at_lowest 12 (is_stray b) (size b)) λ _. at_lowest 13 (has_bad_content b) (size b)) ok)
+  header-good = grind (arith, common_steps)
 
   frames-good : (next (at_lowest 12 (is_stray b) (size b)) λ _. at_lowest 13 (has_bad_content b) (size b)) ≡ fine
   unfolding table_verdict
-  frames-good = next-rest (when 11 (is_bad_header b)) (λ _. next (at_lowest 12 (is_stray b) (size b)) λ _. at_lowest 13 (has_bad_content b)
-      (size b)) ok
+  frames-good = grind (arith, common_steps)
 
   pub none-stray : (f : ℕ) → f < size b → is_stray b f ≡ false
   none-stray = at-lowest-fine 12 (is_stray b) (size b)

@@ -1,9 +1,5 @@
 -- Tests of two numbers, as the code meets them.
-use mathlib.Core.Path.{◌≡◌, ap}
-use mathlib.Core.Bool.{true, false, not}
-use Prim.Native.Nat.{ℕ}
-use lib.Dec.{eqb}
-use borrow.Author.Tests.{eq-eqb, ne_eqb}
+use Rattle.std.proofs.Common.{◌≡◌, ap, true, false, not, ℕ, eqb, eq-eqb, ne_eqb}
 
 pub unequal : (a b : ℕ) → (a ≡ b → ⊥) → not (eqb a b) ≡ true
 unequal a b h = ap not (ne_eqb a b h)

@@ -1,27 +1,19 @@
 -- The text of a sound image passes the image check.
-use Rattle.std.proofs.Common.{if◌then◌else◌}
-use Prim.Native.Nat.{ℕ, zero, suc, ◌+◌, ◌-◌, ◌≤◌, ◌<◌}
-use mathlib.Core.Bool.{Bool, true, false, ◌&&◌, ◌||◌, not}
-use mathlib.Core.Path.{◌≡◌, refl, ◌∙◌, ap, ap₂, subst}
-use mathlib.Core.Logic.{⊎_elim, ◌⊎◌, inl, inr}
-use mathlib.Core.List.{List, [], ◌∷◌, ◌++◌}
-use native.Mathlib.Omega.{arith}
-use lib.ListN.{length, get_or, replicate, get_or-replicate}
-use lib.Seq.{get_or-append-add}
-use lib.Dec.{ltb, eqb}
-use lib.Bits.{bit_and}
-use borrow.Author.Tests.{le-ltb, lt-ltb, le-leb, eq-eqb, ne_eqb}
+use Rattle.std.proofs.Common.{ℕ, zero, suc, ◌+◌, ◌-◌, ◌≤◌, ◌<◌, Bool, true, false, ◌&&◌, ◌||◌, not, ◌≡◌, refl, ◌∙◌, ap, ap₂, subst, ⊎_elim}
+use Rattle.std.proofs.Common.{◌⊎◌, inl, inr, List, [], ◌∷◌, ◌++◌, arith, length, get_or, replicate, get_or-append-add, eqb, bit_and, le-ltb}
+use Rattle.std.proofs.Common.{lt-ltb, le-leb, eq-eqb, ne_eqb}
+use Rattle.std.proofs.Math.ListN.{get_or-replicate}
+use Rattle.std.proofs.lemmas.Grind.{common_steps}
 use Rattle.words.proofs.lists.Tests.{split, or-none, or-true-l, or_true_r}
 use Rattle.words.proofs.lists.Searches.{any_none}
-use Rattle.text.specs.frames.Frame.{size, field, pair, contents}
+use Rattle.text.specs.frames.Frame.{size, field, pair}
 use Rattle.text.specs.frames.Verdict.{Verdict, fine, next, when, at_lowest}
 use Rattle.text.proofs.frames.Verdicts.{at_none}
 use Rattle.image.specs.Image.{Image, Label, Row, image_text, nth_row}
-use Rattle.image.specs.Decode.{scheme_count, last_label, row_count, handler_in, rows_from, label_in, row_in}
-use Rattle.image.specs.Check.{is_filled, has_bad_handler, has_bad_counts, is_bad_header, entry_position, label_position}
-use Rattle.image.specs.Check.{row_position, position_of, is_falling, is_stray_frame, is_stray}
-use Rattle.image.specs.Check.{is_within, is_bad_entry, has_bad_called, is_bad_label, has_bad_bit, is_bad_row, is_bad_frame, has_bad_content}
-use Rattle.image.specs.Check.{table_verdict, image_verdict}
+use Rattle.image.specs.Decode.{scheme_count, last_label, row_count, rows_from, label_in, row_in}
+use Rattle.image.specs.Check.{is_filled, has_bad_handler, has_bad_counts, is_bad_header, entry_position, label_position, row_position}
+use Rattle.image.specs.Check.{position_of, is_falling, is_stray_frame, is_stray, is_within, is_bad_entry, has_bad_called, is_bad_label}
+use Rattle.image.specs.Check.{has_bad_bit, is_bad_row, is_bad_frame, has_bad_content, table_verdict, image_verdict}
 use Rattle.image.specs.inner.Sound.{nth_label, end_of, Reaches, SoundLabel, SoundRow, SoundImage}
 use Rattle.image.proofs.Written.{Reads, image-reads, image-text-fine}
 use Rattle.image.proofs.Accepted.{position-of-entry, position-of-label, position-of-row}
@@ -64,14 +56,7 @@ module _ (i : Image) (b : List ℕ) (S : SoundImage i) (R : Reads i b) where
       (le-ltb 1024 (row_count b) (omega (arith, rows_is i b S R, S.few)))
 
   handler-fine : has_bad_handler b ≡ false
-  handler-fine = go i.handler (handler-is i b S R) S.handled
-    where
-      go : (h : ℕ) → handler_in b ≡ h → ((h ≡ 0 → ⊥) → (2 ≤ h) × (h ≤ length i.entries)) → has_bad_handler b ≡ false
-      go zero e f = rw e
-      go (suc h) e f = let r : (2 ≤ suc h) × (suc h ≤ length i.entries) = f (λ z. omega arith) in
-          ap₂ ◌&&◌ (ap not (ne_eqb (handler_in b) 0 (λ z. omega arith)))
-          (or-none (ltb (handler_in b) 2) (ltb (scheme_count b) (handler_in b))
-          (le-ltb (handler_in b) 2 (omega arith)) (le-ltb (scheme_count b) (handler_in b) (omega (arith, schemes-is i b S R))))
+  handler-fine = grind (arith, common_steps, schemes-is, le-ltb, or-none, ne_eqb, handler-is)
 
   header-fine : is_bad_header b ≡ false
   unfolding is_bad_header
@@ -135,28 +120,12 @@ module _ (i : Image) (b : List ℕ) (S : SoundImage i) (R : Reads i b) where
       (ap not (ap (is_within b (suc h)) (R.entry h 2 l (omega arith)) ∙ within-true (suc h) (get_or i.entries h 0) (S.starts h l)))
 
   called-fine : (x : Label) → SoundLabel (length i.entries) x → has_bad_called b x ≡ false
-  called-fine x L = go x.kind refl
-    where
-      go : (k : ℕ) → x.kind ≡ k → (if eqb k 0 then not (eqb x.called 0) else ltb x.called 2 || ltb (scheme_count b) x.called) ≡ false
-      go zero e = equal x.called 0 (L.plain e)
-      go (suc k) e =
-          let c : (2 ≤ x.called) × (x.called ≤ length i.entries) = L.calls (λ z. omega arith) in
-          rw (ne_eqb (suc k) 0 (λ z. omega arith))
-          (or-none (ltb x.called 2) (ltb (scheme_count b) x.called) (le-ltb x.called 2 c.0)
-          (le-ltb (scheme_count b) x.called (omega (arith, schemes-is i b S R))))
+  called-fine x L = grind (arith, common_steps)
 
   label-fine : (l : ℕ) → l < length i.labels → is_bad_label b l (nth_label i l) ≡ false
-  label-fine zero h = ap (is_bad_label b 0) S.home
-  label-fine (suc zero) h = ap (is_bad_label b 1) S.back
-  label-fine (suc (suc l)) h =
-      let x : Label = nth_label i (suc (suc l)) in
-      let L : SoundLabel (length i.entries) x = S.others (suc (suc l)) (omega arith) h in
-      ap₂ ◌||◌ (ap₂ ◌||◌ (ap₂ ◌||◌ (ap₂ ◌||◌
-      (le-ltb 2 x.kind L.kinds)
-      (ne_eqb x.owner 0 (λ z. omega (arith, L.some))))
-      (le-ltb (scheme_count b) x.owner (omega (arith, schemes-is i b S R, L.most))))
-      (le-ltb 2 x.result L.results))
-      (called-fine x L)
+  label-fine zero h = grind (arith, common_steps)
+  label-fine (suc zero) h = grind (arith, common_steps)
+  label-fine (suc (suc l)) h = grind (arith, common_steps)
 
   -- a row is judged by the label that it leaves
   module _ (r : Row) (s : SoundRow i r) where
@@ -164,12 +133,7 @@ module _ (i : Image) (b : List ℕ) (S : SoundImage i) (R : Reads i b) where
     from_is = label_is i b S R r.from s.high
 
     bit-fine : has_bad_bit b r ≡ false
-    bit-fine =
-        let k : ℕ = (label_in b r.from).kind in
-        ap₂ ◌||◌ (le-ltb 2 r.bit s.bits)
-        (⊎_elim (λ (h : r.bit < 2). ap₂ ◌&&◌ (lt-ltb r.bit 2 h) (equal k 2 (ap (λ (x : Label). x.kind) from_is ∙ s.function h)))
-        (λ (h : 2 ≤ r.bit). ap (λ (t : Bool). t && not (eqb k 2)) (le-ltb r.bit 2 h))
-        (split r.bit 2))
+    bit-fine = grind (arith, common_steps, equal, split, le-ltb, lt-ltb, from_is)
 
     row_fine : (f : ℕ) → is_filled b f 8 2 ≡ false → is_bad_row b f r ≡ false
     row_fine f z =
@@ -211,6 +175,4 @@ module _ (i : Image) (b : List ℕ) (S : SoundImage i) (R : Reads i b) where
 
 pub image-fine : (i : Image) → SoundImage i → image_verdict (image_text i) ≡ fine
 unfolding image_verdict
-image-fine i S =
-    let b : List ℕ = contents (image_text i) in
-    ap (λ (v : Verdict). next v λ _. table_verdict b) (image-text-fine i S) ∙ table-fine i b S (image-reads i S)
+image-fine i S = grind (arith, common_steps, image-reads, image-text-fine, table-fine)

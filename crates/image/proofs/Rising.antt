@@ -1,10 +1,6 @@
 -- Rows whose labels never fall: in a list, and in the frames of an accepted table.
-use Prim.Native.Nat.{ℕ, zero, suc, ◌+◌, ◌-◌, ◌≤◌, ◌<◌}
-use mathlib.Core.Path.{◌≡◌, sym, ◌∙◌, ap}
-use mathlib.Core.List.{List, [], ◌∷◌}
-use native.Mathlib.Nat.{add-zero}
-use native.Mathlib.Omega.{arith}
-use lib.ListN.{length, get_or}
+use Rattle.std.proofs.Common.{ℕ, zero, suc, ◌+◌, ◌-◌, ◌≤◌, ◌<◌, ◌≡◌, ap, List, [], ◌∷◌, add-zero, arith, length, get_or}
+use Rattle.std.proofs.lemmas.Grind.{common_steps}
 use Rattle.text.specs.frames.Frame.{size, field}
 use Rattle.image.specs.Image.{Row, no_row, nth_row}
 use Rattle.image.specs.Decode.{row_count, rows_from, row_in_frame, decoded_image}
@@ -29,8 +25,7 @@ rising-at m (r ∷ rs) a (suc k) h = rising-at r.from rs a.1 k (omega arith)
 -- ---- rows by their frames
 module _ (b : List ℕ) (all : size b ≡ rows_from b + row_count b) where
   pub row_at : (f : ℕ) → rows_from b ≤ f → f < size b → nth_row (decoded_image b) (f - rows_from b) ≡ row_in_frame b f
-  row_at f h g =
-      row_read b (f - rows_from b) (omega arith) ∙ ap (row_in_frame b) (let e : rows_from b + (f - rows_from b) ≡ f = omega arith in e)
+  row_at f h g = grind (arith, common_steps, row_read)
 
   pub from-read : (f : ℕ) → rows_from b ≤ f → f < size b → (nth_row (decoded_image b) (f - rows_from b)).from ≡ field b f 1
   from-read f h g = ap (λ (r : Row). r.from) (row_at f h g)
@@ -50,7 +45,5 @@ module _ (b : List ℕ) (all : size b ≡ rows_from b + row_count b) where
         )
 
     pub rises-on : (f n : ℕ) → rows_from b ≤ f → f + n < size b → field b f 1 ≤ field b (f + n) 1
-    rises-on f zero h g = let e : field b f 1 ≡ field b (f + 0) 1 = ap (λ (i : ℕ). field b i 1) (sym (add-zero f)) in omega arith
-    rises-on f (suc n) h g =
-        let e : field b (suc (f + n)) 1 ≡ field b (f + suc n) 1 = ap (λ (i : ℕ). field b i 1) (omega arith) in
-        omega (arith, rises-on f n h (omega arith), rises (f + n) (omega arith) (omega arith))
+    rises-on f zero h g = grind (arith, common_steps, add-zero)
+    rises-on f (suc n) h g = grind (arith, common_steps, rises-on f n h (omega arith), rises)

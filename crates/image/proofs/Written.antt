@@ -1,10 +1,8 @@
 -- The frames of a sound image are bytes, its text passes refusals 1 to 3, and the contents of that text are known byte by byte.
-use Prim.Native.Nat.{ℕ, zero, suc, ◌+◌, ◌*◌, ◌≤◌, ◌<◌}
-use mathlib.Core.Path.{◌≡◌, refl, sym, ◌∙◌, ap, subst}
-use mathlib.Core.List.{List, [], ◌++◌, map}
-use native.Mathlib.Omega.{arith}
-use lib.ListN.{length, get_or, length-append, length-map, get_or-append}
-use lib.Seq.{get_or-append-add}
+use Rattle.std.proofs.Common.{ℕ, zero, suc, ◌+◌, ◌*◌, ◌≤◌, ◌<◌, ◌≡◌, refl, sym, ◌∙◌, ap, subst, List, [], ◌++◌, map, arith, length, get_or}
+use Rattle.std.proofs.Common.{length-append, get_or-append-add}
+use Rattle.std.proofs.Math.ListN.{length-map, get_or-append}
+use Rattle.std.proofs.lemmas.Grind.{common_steps}
 use Rattle.words.specs.lists.Sequences.{map_from, All}
 use Rattle.words.proofs.lists.Ranges.{get_d_map, length-map_from, get_or-map_from}
 use Rattle.words.proofs.lists.Joins.{all_append, all-places}
@@ -45,16 +43,11 @@ module _ (i : Image) where
 
   pub frame-entry : (h : ℕ) → h < length i.entries → get_or (image_frames i) (suc h) [] ≡ entry_frame (suc h) (get_or i.entries h 0)
   unfolding image_frames
-  frame-entry h l =
-      get_or-append es (ls ++ rs) [] h (omega (arith, es-count))
-      ∙ get_or-map_from entry_frame 1 i.entries 0 [] h l ∙ ap (λ (x : ℕ). entry_frame x (get_or i.entries h 0)) (omega arith)
+  frame-entry h l = grind (arith, common_steps, get_or-append, get_or-map_from, es-count)
 
   pub frame-label : (l : ℕ) → l < length i.labels → get_or (image_frames i) (suc (length i.entries + l)) [] ≡ label_frame l (nth_label i l)
   unfolding image_frames
-  frame-label l h =
-      ap (λ (n : ℕ). get_or (es ++ (ls ++ rs)) (n + l) []) (sym es-count)
-      ∙ get_or-append-add es (ls ++ rs) l [] ∙ get_or-append ls rs [] l (omega (arith, ls-count))
-      ∙ get_or-map_from label_frame 0 i.labels no_label [] l h ∙ ap (λ (x : ℕ). label_frame x (nth_label i l)) (omega arith)
+  frame-label l h = grind (arith, common_steps, get_or-append, get_or-append-add, get_or-map_from, es-count, ls-count)
 
   pub frame_row : (k : ℕ) → k < length i.rows
       → get_or (image_frames i) (suc (length i.entries + length i.labels + k)) [] ≡ row_frame (nth_row i k)
@@ -66,27 +59,15 @@ module _ (i : Image) where
 
 -- ---- ten bytes each
 called-small : (n : ℕ) (x : Label) → n ≤ 16 → SoundLabel n x → x.called < 256
-called-small n x h L = go x.kind refl
-  where
-    go : (k : ℕ) → x.kind ≡ k → x.called < 256
-    go zero e = omega (arith, L.plain e)
-    go (suc k) e = omega (arith, L.calls (λ z. omega arith))
+called-small n x h L = grind (arith, common_steps)
 
 handler-small : (i : Image) → SoundImage i → i.handler < 256
-handler-small i S = go i.handler refl
-  where
-    go : (h : ℕ) → i.handler ≡ h → i.handler < 256
-    go zero e = omega arith
-    go (suc h) e = omega (arith, S.handled (λ z. omega arith), S.most)
+handler-small i S = grind (arith, common_steps)
 
 label_small : (i : Image) → SoundImage i → (l : ℕ) → l < length i.labels → All (λ x. x < 256) (label_frame l (nth_label i l))
-label_small i S zero h = subst (λ (x : Label). All (λ y. y < 256) (label_frame 0 x)) (sym S.home) (omega arith)
-label_small i S (suc zero) h = subst (λ (x : Label). All (λ y. y < 256) (label_frame 1 x)) (sym S.back) (omega arith)
-label_small i S (suc (suc l)) h =
-    let x : Label = nth_label i (suc (suc l)) in
-    let L : SoundLabel (length i.entries) x = S.others (suc (suc l)) (omega arith) h in
-    let c : x.called < 256 = called-small (length i.entries) x S.most L in
-    omega (arith, S.last, S.most)
+label_small i S zero h = grind (arith, common_steps)
+label_small i S (suc zero) h = grind (arith, common_steps)
+label_small i S (suc (suc l)) h = grind (arith, common_steps)
 
 module _ (i : Image) (S : SoundImage i) where
   entry-frames : All Frame (es i)
@@ -111,15 +92,11 @@ module _ (i : Image) (S : SoundImage i) where
 
   pub image-frames : All Frame (image_frames i)
   unfolding image_frames
-  image-frames = (
-    frame-by (header_frame i) refl (omega (arith, S.most, S.last, S.few, handler-small i S)),
-    all_append Frame (es i) (ls i ++ rs i) entry-frames (all_append Frame (ls i) (rs i) label-frames row-frames),
-  )
+  image-frames = grind (arith, common_steps, frame-by, all_append, handler-small, entry-frames, label-frames, row-frames)
 
   pub image-text-fine : text_verdict 29831 (image_text i) ≡ fine
   unfolding image_text
-  image-text-fine = text-fine (image_frames i) image-frames 29831 (omega (arith, frames-length i))
-      (omega (arith, frames-length i, S.most, S.last, S.few))
+  image-text-fine = grind (arith, common_steps, text-fine, frames-length, image-frames)
 
 -- ---- b is the contents of the image's text, byte by byte
 pub record Reads (i : Image) (b : List ℕ) : Type 0 where

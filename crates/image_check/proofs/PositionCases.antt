@@ -1,15 +1,9 @@
 -- The cases of refusal 12, as the code meets them.
-use Rattle.std.proofs.Common.{if◌then◌else◌}
-use mathlib.Core.Path.{◌≡◌, refl, sym, ◌∙◌, ap}
-use mathlib.Core.Bool.{Bool, true, false}
-use mathlib.Core.List.{List}
-use Prim.Native.Nat.{ℕ, ◌+◌, ◌-◌, ◌≤◌, ◌<◌}
-use native.Mathlib.Omega.{arith}
-use lib.Dec.{ltb, eqb}
-use borrow.Author.Tests.{eq-eqb, ne_eqb, lt-ltb, le-ltb, ltb-false}
+use Rattle.std.proofs.Common.{if◌then◌else◌, ◌≡◌, refl, sym, ◌∙◌, ap, Bool, true, false, List, ℕ, ◌+◌, ◌-◌, ◌≤◌, ◌<◌, arith, ltb, eqb}
+use Rattle.std.proofs.Common.{eq-eqb, ne_eqb, lt-ltb, le-ltb, ltb-false}
 use Rattle.image.specs.Decode.{labels_from, rows_from}
-use Rattle.image.specs.Check.{Position, header_position, entry_position, label_position, row_position}
-use Rattle.image.specs.Check.{position_of, is_stray_frame, is_stray}
+use Rattle.image.specs.Check.{Position, header_position, entry_position, label_position, row_position, position_of, is_stray_frame}
+use Rattle.image.specs.Check.{is_stray}
 use Rattle.image_check.specs.inner.CheckedFrames.{position_kind}
 
 -- ---- a frame by its position

@@ -1,16 +1,10 @@
 -- Reading an image's text into a table: what a good text gives, and the two answers.
-use mathlib.Core.Path.{◌≡◌, refl, sym, ◌∙◌, ap}
-use mathlib.Core.List.{List}
-use Prim.Native.Nat.{ℕ, ◌*◌, ◌/◌, ◌≤◌}
-use native.Mathlib.Omega.{arith}
-use lib.ListN.{length, take, drop}
-use lib.Seq.{take_at}
+use Rattle.std.proofs.Common.{◌≡◌, refl, sym, ◌∙◌, ap, List, ℕ, ◌*◌, ◌/◌, ◌≤◌, arith, length, take, drop, take_at, Ok, Err}
 use Rattle.text.specs.frames.Frame.{size, frame_count, contents}
 use Rattle.text.specs.frames.Verdict.{fine}
 use Rattle.text.specs.frames.Check.{text_verdict}
 use Rattle.text.specs.frames.Read.{read_buffer}
 use Rattle.text.specs.frames.Answer.{Answer, reply, verdict_reply}
-use Rattle.std.proofs.Common.{Ok, Err}
 use Rattle.text.specs.declared.frames.refusals.Refusal.{Refusal}
 use Rattle.text.specs.frames.Refusal.{number_of, index_of}
 use Rattle.text.proofs.frames.Contents.{text-told, any-contents-length}

@@ -1,11 +1,5 @@
 -- The verdict on a table, as the code comes to it; what acceptance of one gives first.
-use mathlib.Core.Path.{◌≡◌, ◌∙◌, ap}
-use mathlib.Core.Bool.{Bool, true, false, ◌||◌, not}
-use mathlib.Core.List.{List}
-use Prim.Native.Nat.{ℕ, ◌+◌, ◌≤◌, ◌<◌}
-use native.Mathlib.Omega.{arith}
-use lib.Dec.{eqb}
-use borrow.Author.Tests.{lt-ltb, le-ltb, eqb-true}
+use Rattle.std.proofs.Common.{◌≡◌, ◌∙◌, ap, Bool, true, false, ◌||◌, not, List, ℕ, ◌+◌, ◌≤◌, ◌<◌, arith, eqb, lt-ltb, le-ltb, eqb-true}
 use Rattle.words.specs.lists.Numbers.{lowest}
 use Rattle.words.proofs.lists.Tests.{or_l, or_r, not-false}
 use Rattle.words.proofs.lists.Searches.{lowest-past, lowest-none, lowest-alike}

@@ -1,14 +1,6 @@
 -- The smaller image joined again is itself.
-use Rattle.std.proofs.Common.{if◌then◌else◌}
-use Prim.Native.Nat.{ℕ, ◌+◌, ◌≤◌, ◌<◌}
-use mathlib.Core.Bool.{Bool, true, false}
-use mathlib.Core.Path.{◌≡◌, sym, ◌∙◌, ap, subst}
-use mathlib.Core.List.{List, map}
-use native.Mathlib.Nat.{zero-add}
-use native.Mathlib.Omega.{arith}
-use lib.Dec.{eqb}
-use lib.ListN.{length, get_or}
-use borrow.Author.Tests.{eqb-true, eq-eqb}
+use Rattle.std.proofs.Common.{if◌then◌else◌, ℕ, ◌+◌, ◌≤◌, ◌<◌, Bool, true, false, ◌≡◌, sym, ◌∙◌, ap, subst, List, map, zero-add, arith, eqb}
+use Rattle.std.proofs.Common.{length, get_or, eqb-true, eq-eqb}
 use Rattle.words.specs.lists.Numbers.{range, count}
 use Rattle.words.specs.lists.Sequences.{filter}
 use Rattle.words.proofs.lists.Tests.{and_l}

@@ -1,10 +1,5 @@
 -- The smaller image has as few labels as a grouping can have groups, and its text is no longer than the one given.
-use Prim.Native.Nat.{ℕ, ◌*◌, ◌/◌, ◌≤◌}
-use mathlib.Core.Bool.{false}
-use mathlib.Core.Path.{◌≡◌, ◌∙◌, ap}
-use mathlib.Core.List.{List}
-use native.Mathlib.Omega.{arith}
-use lib.ListN.{length}
+use Rattle.std.proofs.Common.{ℕ, ◌*◌, ◌/◌, ◌≤◌, false, ◌≡◌, ◌∙◌, ap, List, arith, length}
 use Rattle.words.proofs.lists.Counts.{count-le}
 use Rattle.text.specs.frames.Frame.{contents}
 use Rattle.text.specs.frames.Verdict.{Verdict, fine}
@@ -25,9 +20,9 @@ use Rattle.grouping.specs.Classes.{is_first, grouping}
 use Rattle.grouping.proofs.Rounds.{ClassRound, group-round}
 use Rattle.grouping.proofs.Coarsest.{groups-counted, even-fewest}
 use Rattle.minimising.specs.group_numbers.Smaller.{smaller_image}
-use Rattle.minimising.proofs.group_numbers.Numbering as numbered
 use Rattle.minimising.specs.Entry.{minimise_verdict, minimise}
 use Rattle.joined_again.proofs.Again.{smaller-sound, AllowedImage, minimise-allowed}
+use Rattle.minimising.proofs.group_numbers.Numbering as numbered
 
 module _ (i : Image) (S : SoundImage i) (even : is_uneven i ≡ false) where
   rounds : ClassRound i (grouping i)

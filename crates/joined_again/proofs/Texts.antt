@@ -1,11 +1,6 @@
 -- What holds of every text that is made smaller:
 -- its groups meet the rule and are the fewest, what is written is accepted, and given back it is written again.
-use Prim.Native.Nat.{ℕ, ◌/◌, ◌≤◌}
-use mathlib.Core.Bool.{Bool, false}
-use mathlib.Core.Path.{◌≡◌, sym, ◌∙◌, ap, ap₂}
-use mathlib.Core.List.{List}
-use native.Mathlib.Omega.{arith}
-use lib.ListN.{length, take}
+use Rattle.std.proofs.Common.{ℕ, ◌/◌, ◌≤◌, Bool, false, ◌≡◌, sym, ◌∙◌, ap, ap₂, List, arith, length, take}
 use Rattle.words.specs.lists.Sequences.{over}
 use Rattle.text.specs.frames.Frame.{contents}
 use Rattle.text.specs.frames.Verdict.{Verdict, fine, next, when}

@@ -1,9 +1,6 @@
 -- Every image that is accepted and to which 23 does not apply:
 -- for every state that fits, ticks, runs and rebindings on the smaller image are those on the given one, its labels renumbered.
-use Prim.Native.Nat.{ℕ}
-use mathlib.Core.Bool.{false}
-use mathlib.Core.Path.{◌≡◌, refl}
-use mathlib.Core.List.{List}
+use Rattle.std.proofs.Common.{ℕ, false, ◌≡◌, refl, List}
 use Rattle.text.specs.frames.Frame.{contents}
 use Rattle.text.specs.frames.Verdict.{fine}
 use Rattle.image.specs.Image.{Image, image_text}

@@ -1,14 +1,11 @@
 -- The image of a translated chart: 23 never applies, and runs and rebindings on its smaller image agree with the walk.
-use Rattle.std.proofs.Common.{if◌then◌else◌}
-use Prim.Native.Nat.{ℕ, zero, suc, ◌/◌, ◌≤◌, ◌<◌}
-use mathlib.Core.Bool.{true, false}
-use mathlib.Core.Path.{◌≡◌, sym, ◌∙◌, ap, subst}
-use mathlib.Core.List.{List}
-use native.Mathlib.Omega.{arith}
-use lib.ListN.{length, take, length-map, length-take}
+use Rattle.std.proofs.Common.{if◌then◌else◌, ℕ, zero, suc, ◌≤◌, ◌<◌, true, false, ◌≡◌, sym, ◌∙◌, ap, subst, List, arith, length, take}
+use Rattle.std.proofs.Common.{length-take}
+use Rattle.std.proofs.Math.ListN.{length-map}
+use Rattle.std.proofs.lemmas.Grind.{common_steps}
 use Rattle.words.specs.lists.Sequences.{filter}
 use Rattle.text.specs.frames.Frame.{contents, size}
-use Rattle.text.specs.frames.Verdict.{Verdict, fine, next, when}
+use Rattle.text.specs.frames.Verdict.{fine, next}
 use Rattle.text.specs.frames.Answer.{success}
 use Rattle.text.proofs.frames.Lent.{Success, lent-told, front}
 use Rattle.charts.specs.Chart.{Chart}
@@ -74,11 +71,7 @@ module _ (t : List ℕ) (ok : translate_verdict t ≡ fine) where
   -- nothing but 16 can refuse it
   pub minimise-fine : minimise_verdict (image_text made) ≡ fine
   unfolding minimise_verdict
-  minimise-fine =
-      ap (λ (v : Verdict). next v λ _. when 23 (is_uneven (decoded_image (contents (image_text made)))))
-      (translated-passes t ok chart-facts)
-      ∙ ap (λ (i : Image). when 23 (is_uneven i)) (translated-decoded t ok chart-facts)
-      ∙ ap (when 23) (table-even (contents t) chart-sound)
+  minimise-fine = grind (arith, common_steps, translated-decoded, translated-passes, table-even, chart-facts, chart-sound)
 
 -- what is written where an image is made smaller
 module _ (t room : List ℕ) (m : ℕ) (done : (minimise t room).reply ≡ success m) where
@@ -87,10 +80,7 @@ module _ (t room : List ℕ) (m : ℕ) (done : (minimise t room).reply ≡ succe
   minimise-told = lent-told (minimise_verdict t) 1 (λ _. image_text (smaller_image (decoded_image (contents t)))) room m done
 
   pub minimised-image : take m (minimise t room).buffer ≡ image_text (smaller_image (decoded_image (contents t)))
-  minimised-image =
-      let s : Success (minimise_verdict t) 1 (image_text (smaller_image (decoded_image (contents t)))) room m (minimise t room) =
-      minimise-told in
-      ap (take m) s.buffer ∙ front m (image_text (smaller_image (decoded_image (contents t)))) room (s.count ∙ omega arith)
+  minimised-image = grind (arith, common_steps, front, minimise-told)
 
 -- ---- the image that was written
 module _ (text out : List ℕ) (n : ℕ) (done : (translate text out).reply ≡ success n) where
@@ -98,17 +88,10 @@ module _ (text out : List ℕ) (n : ℕ) (done : (translate text out).reply ≡ 
   written = take n (translate text out).buffer
 
   written-fine : minimise_verdict written ≡ fine
-  written-fine =
-      ap minimise_verdict (translated-image text out n done) ∙ minimise-fine text (translated-fine text out n done)
+  written-fine = grind (arith, common_steps, translated-fine, translated-image, minimise-fine)
 
   pub written-made : (room : List ℕ) → n ≤ length room → Shrunk (minimise written room) n
-  written-made room h =
-      let short : length written ≤ n = simp (length-take) (omega arith) in
-      record {
-        count = length (image_text (smaller_image (decoded_image (contents written)))) / 1;
-        done = room-enough written written-fine room (omega arith);
-        most = omega (arith, never-longer written written-fine);
-      }
+  written-made room h = grind (arith, common_steps, length-take, never-longer, room-enough, written-fine)
 
 pub smaller-made : SmallerMade translate minimise
 unfolding SmallerMade

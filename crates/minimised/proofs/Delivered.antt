@@ -1,8 +1,6 @@
 -- Calls in a row on the smaller image that meet their contracts hand back what the agreement says.
-use Prim.Native.Nat.{ℕ, ◌≤◌}
-use mathlib.Core.Path.{◌≡◌, sym, ◌∙◌, ap, subst}
-use mathlib.Core.List.{List, map}
-use lib.ListN.{take}
+use Rattle.std.proofs.Common.{ℕ, ◌≤◌, ◌≡◌, sym, ◌∙◌, ap, List, map, take, arith}
+use Rattle.std.proofs.lemmas.Grind.{common_steps}
 use Rattle.text.specs.frames.Frame.{contents}
 use Rattle.text.specs.frames.Answer.{success}
 use Rattle.translator.specs.Entry.{translate}
@@ -17,11 +15,11 @@ use Rattle.agreement.specs.Agreement.{CallInput, call_outputs, walk_outputs}
 use Rattle.agreement.specs.ForC.{call_output_c}
 use Rattle.agreement.proofs.Delivered.{calls-chain}
 use Rattle.agreement.proofs.ForC.{returned-0}
-use Rattle.agreement.proofs.ForC as c
 use Rattle.agreement.proofs.Numbers.{minimise-success}
 use Rattle.minimised.specs.Demand.{SmallerAgreement}
 use Rattle.minimised.specs.Delivered.{SmallerDelivered, SmallerDeliveredC}
 use Rattle.minimised.proofs.Charts.{smaller-theorem}
+use Rattle.agreement.proofs.ForC as c
 
 -- the same of a buffer that holds what translate wrote
 module _ (text before after : List ℕ) (n : ℕ) (written : after ≡ (translate text before).buffer)
@@ -31,10 +29,7 @@ module _ (text before after : List ℕ) (n : ℕ) (written : after ≡ (translat
       → call_outputs run rebind (take m (minimise (take n after) room).buffer) (fresh_state size).state
       given ≡ walk_outputs size (contents text) given
   unfolding SmallerAgreement
-  chain-smaller low high given =
-      ap (λ (b : List ℕ). call_outputs run rebind (take m (minimise (take n b) room).buffer) (fresh_state size).state given) written
-      ∙ smaller-theorem text before n done room m (subst (λ (b : List ℕ). (minimise (take n b) room).reply ≡ success m) written shrunk)
-      size low high given
+  chain-smaller low high given = grind (arith, common_steps, smaller-theorem)
 
 pub smaller-delivered : SmallerDelivered
 unfolding SmallerDelivered

@@ -1,21 +1,13 @@
 -- A state that fits an image fits, with its labels renumbered, the smaller image.
-use Rattle.std.proofs.Common.{if◌then◌else◌}
-use Prim.Native.Nat.{ℕ, ◌+◌, ◌<◌}
-use mathlib.Core.Bool.{Bool, false, ◌&&◌, ◌||◌, not}
-use mathlib.Core.Path.{◌≡◌, sym, ◌∙◌, ap, ap₂, subst}
-use mathlib.Core.List.{List}
-use native.Mathlib.Omega.{arith}
-use lib.Dec.{leb, eqb}
-use lib.ListN.{length, length-map}
-use borrow.Author.Tests.{eqb-true}
+use Rattle.std.proofs.Common.{ℕ, ◌+◌, ◌<◌, Bool, false, ◌&&◌, ◌||◌, ◌≡◌, sym, ◌∙◌, ap, ap₂, subst, List, arith, leb, eqb, length, eqb-true}
+use Rattle.std.proofs.Math.ListN.{length-map}
+use Rattle.std.proofs.lemmas.Grind.{common_steps}
 use Rattle.words.proofs.lists.Tests.{and_l, not-false}
-use Rattle.bindings.specs.Binding.{server_of}
 use Rattle.image.specs.Image.{Image, Label}
 use Rattle.image.specs.inner.Sound.{SoundImage}
 use Rattle.state.specs.declared.State.{State}
 use Rattle.state.specs.State.{label_at, place_at, number_at, server_at, Sized}
-use Rattle.fitness.specs.Fitness.{is_call, is_callable, is_able_to_carry, is_filled_place, is_of_handler, is_own_bottom, has_bad_bottom}
-use Rattle.fitness.specs.Fitness.{is_badly_served}
+use Rattle.fitness.specs.Fitness.{is_callable, is_able_to_carry, is_filled_place, is_of_handler, has_bad_bottom, is_badly_served}
 use Rattle.fitness.proofs.Fitness.{Fits}
 use Rattle.grouping.proofs.Rounds.{ClassRound}
 use Rattle.minimising.specs.group_numbers.Smaller.{renumbered_label, joined_labels}
@@ -24,12 +16,7 @@ use Rattle.minimised.specs.Renamed.{renumbered_state}
 use Rattle.minimised.proofs.Renumbered.{same-handler, place-new, one_same}
 
 pub sized_new : (c : List ℕ) (s : State) → Sized s → Sized (renumbered_state c s)
-sized_new c s z = record {
-  places = length-map s.places (renumbered_label c) ∙ z.places;
-  serving = z.serving;
-  numbers = z.numbers;
-  servers = z.servers;
-}
+sized_new c s z = grind (arith, common_steps, length-map)
 
 module _ (i : Image) (S : SoundImage i) (c : List ℕ) (R : ClassRound i c) where
   abbrev new : ℕ → ℕ
@@ -49,43 +36,20 @@ module _ (i : Image) (S : SoundImage i) (c : List ℕ) (R : ClassRound i c) wher
 
   carry-new : (l h k a : ℕ) → l < length i.labels → a < length i.labels
       → is_able_to_carry small (new l) h k (new a) ≡ is_able_to_carry i l h k a
-  carry-new l h k a hl ha =
-      ap (λ (x : Label). is_call x && eqb h x.called && is_callable small k && (eqb (new a) 1 || eqb (label_at small (new a)).owner k))
-      (label-new i S c R l hl)
-      ∙ ap₂ (λ (t u : Bool). is_call (label_at i l) && eqb h (label_at i l).called && t && u) (callable-new k) (stands-new a k ha)
+  carry-new l h k a hl ha = grind (arith, common_steps, label-new, callable-new, stands-new)
 
   pub of-handler-new : (l : ℕ) → l < length i.labels → is_of_handler small (new l) ≡ is_of_handler i l
-  of-handler-new l h =
-      ap (λ (g : ℕ). not (eqb g 0) && (eqb (new l) 1 || eqb (label_at small (new l)).owner g)) (same-handler i S c R)
-      ∙ ap (λ (t : Bool). not (eqb i.handler 0) && t) (stands-new l i.handler h)
+  of-handler-new l h = grind (arith, common_steps, same-handler, stands-new)
 
   served-new : (s : State) (h : ℕ) → is_badly_served small (renumbered_state c s) h ≡ is_badly_served i s h
-  served-new s h =
-      let k : ℕ = server_of s.serving h in
-      ap₂ (λ (m g : ℕ). not (if leb h m && not (eqb h g) then leb 2 k && leb k m else eqb k h)) (entries-count i S c R)
-      (same-handler i S c R)
+  served-new s h = grind (arith, common_steps, entries-count, same-handler)
 
   module _ (s : State) (f : Fits i s) where
     bottom-new : has_bad_bottom small (renumbered_state c s) ≡ has_bad_bottom i s
-    bottom-new =
-        let l : ℕ = place_at s 0 in
-        let h : l < length i.labels = f.labels 0 f.some in
-        ap (λ (k : ℕ). not ((eqb (label_at small k).owner 1 && is_own_bottom s 1)
-        || (is_of_handler small k && is_own_bottom s small.handler)))
-        (place-new i S c R s 0)
-        ∙ ap₂ (λ (x : Label) (t : Bool). not ((eqb x.owner 1 && is_own_bottom s 1) || (t && is_own_bottom s small.handler)))
-        (label-new i S c R l h) (of-handler-new l h)
-        ∙ ap (λ (g : ℕ). not ((eqb (label_at i l).owner 1 && is_own_bottom s 1) || (is_of_handler i l && is_own_bottom s g)))
-        (same-handler i S c R)
+    bottom-new = grind (arith, common_steps, same-handler, place-new, label-new, of-handler-new)
 
     above_new : (k : ℕ) → is_filled_place s k ≡ false → is_filled_place (renumbered_state c s) k ≡ false
-    above_new k e =
-        let t : Bool = eqb (place_at s k) 0 && eqb (number_at s k) 0 in
-        let z : place_at s k ≡ 0 = eqb-true (place_at s k) 0
-        (and_l (eqb (place_at s k) 0) (eqb (number_at s k) 0) (and_l t (eqb (server_at s k) 0)
-        (not-false (t && eqb (server_at s k) 0) e))) in
-        let same : place_at (renumbered_state c s) k ≡ place_at s k = place-new i S c R s k ∙ ap new z ∙ new-zero i S c R ∙ sym z in
-        ap (λ (l : ℕ). not (eqb l 0 && eqb (number_at s k) 0 && eqb (server_at s k) 0)) same ∙ e
+    above_new k e = grind (arith, common_steps, eqb-true, not-false, place-new, and_l, new-zero)
 
     pub fits-new : Fits small (renumbered_state c s)
     fits-new = record {

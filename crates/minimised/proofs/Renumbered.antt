@@ -1,13 +1,8 @@
 -- The parts of the smaller image and of a renumbered state are those of the given ones, with each label's group in its place.
-use Rattle.std.proofs.Common.{if◌then◌else◌}
-use Prim.Native.Nat.{ℕ, zero, suc, ◌-◌, ◌≤◌, ◌<◌}
-use mathlib.Core.Bool.{Bool}
-use mathlib.Core.Path.{◌≡◌, refl, sym, ◌∙◌, ap, ap₂}
-use mathlib.Core.List.{List, [], ◌∷◌, map}
-use native.Mathlib.Omega.{arith}
-use lib.Dec.{eqb}
-use lib.ListN.{length, get_or, set, replicate, get_or-map}
-use borrow.Author.Tests.{ne_eqb}
+use Rattle.std.proofs.Common.{if◌then◌else◌, ℕ, zero, suc, ◌-◌, ◌≤◌, ◌<◌, Bool, ◌≡◌, refl, sym, ◌∙◌, ap, ap₂, List, [], ◌∷◌, map, arith}
+use Rattle.std.proofs.Common.{eqb, length, get_or, set, replicate, ne_eqb}
+use Rattle.std.proofs.Math.ListN.{get_or-map}
+use Rattle.std.proofs.lemmas.Grind.{common_steps}
 use Rattle.results.specs.Results.{Results, result_of}
 use Rattle.image.specs.Image.{Image, Label}
 use Rattle.image.specs.inner.Sound.{SoundImage}
@@ -60,11 +55,9 @@ module _ (i : Image) (S : SoundImage i) (c : List ℕ) (R : ClassRound i c) wher
 
   -- label 1 alone has number 1
   pub one_same : (l : ℕ) → l < n → eqb (new l) 1 ≡ eqb l 1
-  one_same zero h = ap (λ (k : ℕ). eqb k 1) (new-zero i S c R)
-  one_same (suc zero) h = ap (λ (k : ℕ). eqb k 1) (new-one i S c R)
-  one_same (suc (suc l)) h =
-      ne_eqb (new (suc (suc l))) 1 (λ q. omega (arith, new-high i S c R (suc (suc l)) h (omega arith)))
-      ∙ sym (ne_eqb (suc (suc l)) 1 (λ q. omega arith))
+  one_same zero h = grind (arith, common_steps, new-zero)
+  one_same (suc zero) h = grind (arith, common_steps, new-one)
+  one_same (suc (suc l)) h = grind (arith, common_steps, new-high, ne_eqb)
 
 -- ---- where a label leads
 abbrev pub renamed_found : List ℕ → Found → Found

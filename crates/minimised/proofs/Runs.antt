@@ -1,12 +1,8 @@
 -- Runs and rebindings on the smaller image of an accepted image:
 -- they answer and write what those on the given one do, in a list of them too.
-use Prim.Native.Nat.{ℕ, ◌≤◌}
-use mathlib.Core.Bool.{Bool, true, false}
-use mathlib.Core.Path.{◌≡◌, refl, sym, ◌∙◌, ap, ap₂, subst}
-use mathlib.Core.List.{List, [], ◌∷◌}
-use lib.ListN.{length}
-use Rattle.results.specs.Results.{no_results}
-use Rattle.bindings.specs.Binding.{own_binding, is_bad_rebinding}
+use Rattle.std.proofs.Common.{ℕ, ◌≤◌, Bool, true, false, ◌≡◌, refl, sym, ◌∙◌, ap, ap₂, subst, List, [], ◌∷◌, length, arith}
+use Rattle.std.proofs.lemmas.Grind.{common_steps}
+use Rattle.bindings.specs.Binding.{is_bad_rebinding}
 use Rattle.text.specs.frames.Frame.{contents}
 use Rattle.text.specs.frames.Verdict.{Verdict, fine, refused, when}
 use Rattle.image.specs.Image.{Image, image_text}
@@ -14,7 +10,7 @@ use Rattle.image.specs.Decode.{decoded_image}
 use Rattle.image.specs.Check.{image_verdict}
 use Rattle.image.specs.inner.Sound.{SoundImage}
 use Rattle.state.specs.declared.State.{State}
-use Rattle.state.specs.State.{bottom_alone, fresh, StateOutcome, fresh_state}
+use Rattle.state.specs.State.{fresh, StateOutcome, fresh_state}
 use Rattle.fitness.proofs.Fitness.{Fits}
 use Rattle.ticks.specs.Tick.{tick}
 use Rattle.ticks.proofs.Keeps.{fresh-fits}
@@ -22,7 +18,7 @@ use Rattle.runs.specs.Run.{MachineRun, ticks, RunOutcome, has_no_room, run_on, r
 use Rattle.runs.proofs.Keeps.{ticks-keep}
 use Rattle.rebinding.specs.Rebind.{rebind_on, rebind}
 use Rattle.rebinding.proofs.Keeps.{rebinding-fits}
-use Rattle.agreement.specs.Agreement.{output_of, CallInput, to_run, to_rebind, CallOutput, by_run, by_rebinding, call_outputs}
+use Rattle.agreement.specs.Agreement.{CallInput, to_run, to_rebind, call_outputs}
 use Rattle.agreement.proofs.Chain.{run_is, rebind-is, fresh-is}
 use Rattle.covering.specs.Matched.{is_uneven}
 use Rattle.covering.proofs.Hits.{OneRow, one-row}
@@ -66,18 +62,7 @@ module _ (i : Image) (S : SoundImage i) (even : is_uneven i ≡ false) where
   smaller-ticks = ticks-new i S one (grouping i) R (group-leads i S one)
 
   pub renamed-fresh : (n : ℕ) → renumbered_state (grouping i) (fresh n) ≡ fresh n
-  renamed-fresh n =
-      ap (λ (ps : List ℕ). record {
-        size = n;
-        depth = 1;
-        places = ps;
-        bits = no_results;
-        serving =
-            own_binding;
-        numbers = bottom_alone 1;
-        servers = bottom_alone 1;
-      })
-      (nothing-new i S (grouping i) R)
+  renamed-fresh n = grind (arith, common_steps, nothing-new, R)
 
   same-bar : (h k : ℕ) → is_bad_rebinding (length (smaller_image i).entries) (smaller_image i).handler
       h k ≡ is_bad_rebinding (length i.entries) i.handler h k
@@ -90,22 +75,11 @@ module _ (i : Image) (S : SoundImage i) (even : is_uneven i ≡ false) where
 
     pub run-new : (s : State) (ws ms ks : List ℕ) → Fits i s
         → run text' (renumbered_state (grouping i) s) ws ms ks ≡ renamed_run (grouping i) (run text s ws ms ks)
-    run-new s ws ms ks f =
-        run_is text' (smaller_image i) (smaller-passes i S even) (smaller-decoded i S even) (renumbered_state (grouping i) s) ws ms ks
-        (smaller-fits s f)
-        ∙ ap (λ (r : MachineRun). run_on (when 16 (has_no_room ws ms ks)) (λ _. r) (renumbered_state (grouping i) s) ms ks)
-        (smaller-ticks ws s f)
-        ∙ run-on-new (grouping i) (when 16 (has_no_room ws ms ks)) (ticks i s ws) s ms ks
-        ∙ sym (ap (renamed_run (grouping i)) (run_is text i passes decodes s ws ms ks f))
+    run-new s ws ms ks f = grind (arith, common_steps, smaller-passes, run_is, smaller-decoded, run-on-new, smaller-fits, smaller-ticks)
 
     pub rebind-new : (s : State) (h k : ℕ) → Fits i s
         → rebind text' (renumbered_state (grouping i) s) h k ≡ renamed_state_outcome (grouping i) (rebind text s h k)
-    rebind-new s h k f =
-        let t : Bool = is_bad_rebinding (length i.entries) i.handler h k in
-        rebind-is text' (smaller_image i) (smaller-passes i S even) (smaller-decoded i S even) (renumbered_state (grouping i) s) h k
-        (smaller-fits s f) (same-bar h k)
-        ∙ rebind-on-new (grouping i) (when 22 t) s h k
-        ∙ sym (ap (renamed_state_outcome (grouping i)) (rebind-is text i passes decodes s h k f refl))
+    rebind-new s h k f = grind (arith, common_steps, smaller-passes, smaller-decoded, rebind-is, rebind-on-new, smaller-fits, same-bar)
 
     -- ---- what they hand back fits
     run_fits : (s : State) (ws ms ks : List ℕ) → Fits i s → Fits i (run text s ws ms ks).state
@@ -129,16 +103,9 @@ module _ (i : Image) (S : SoundImage i) (even : is_uneven i ≡ false) where
     pub chain-new : (given : List CallInput) (s : State) → Fits i s
         → call_outputs run rebind text' (renumbered_state (grouping i) s) given ≡ call_outputs run rebind text s given
     unfolding call_outputs
-    chain-new [] s f = refl
-    chain-new (to_run a ∷ rest) s f =
-        let r : RunOutcome = run text s a.words a.masks a.codes in
-        ap (λ (q : RunOutcome). by_run (output_of q) ∷ call_outputs run rebind text' q.state rest)
-        (run-new s a.words a.masks a.codes f)
-        ∙ ap (λ (hs : List CallOutput). by_run (output_of r) ∷ hs) (chain-new rest r.state (run_fits s a.words a.masks a.codes f))
-    chain-new (to_rebind h k ∷ rest) s f =
-        let r : StateOutcome = rebind text s h k in
-        ap (λ (q : StateOutcome). by_rebinding q.reply ∷ call_outputs run rebind text' q.state rest) (rebind-new s h k f)
-        ∙ ap (λ (hs : List CallOutput). by_rebinding r.reply ∷ hs) (chain-new rest r.state (rebind-fits s h k f))
+    chain-new [] s f = grind (arith, common_steps)
+    chain-new (to_run a ∷ rest) s f = grind (arith, common_steps, chain-new rest, run-new, run_fits)
+    chain-new (to_rebind h k ∷ rest) s f = grind (arith, common_steps, chain-new rest, rebind-new, rebind-fits)
 
     pub calls-new : (n : ℕ) → 1 ≤ n → n ≤ 32 → (given : List CallInput)
         → call_outputs run rebind text' (fresh_state n).state given ≡ call_outputs run rebind text (fresh_state n).state given

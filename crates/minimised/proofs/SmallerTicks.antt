@@ -1,13 +1,7 @@
 -- One tick on the smaller image is the tick on the given one, its labels renumbered; so are any number of ticks.
-use Rattle.std.proofs.Common.{if◌then◌else◌}
-use Prim.Native.Nat.{ℕ, zero, suc, ◌+◌, ◌-◌, ◌≤◌, ◌<◌}
-use mathlib.Core.Bool.{Bool, true, false, ◌||◌}
-use mathlib.Core.Path.{◌≡◌, refl, sym, ◌∙◌, ap, ap₂, subst}
-use mathlib.Core.List.{List, [], ◌∷◌, map}
-use native.Mathlib.Omega.{arith}
-use lib.Dec.{leb, eqb}
-use lib.ListN.{length, set}
-use borrow.Author.Tests.{leb-false}
+use Rattle.std.proofs.Common.{if◌then◌else◌, ℕ, zero, suc, ◌+◌, ◌-◌, ◌≤◌, ◌<◌, Bool, true, false, ◌≡◌, refl, sym, ◌∙◌, ap, ap₂, subst, List}
+use Rattle.std.proofs.Common.{[], ◌∷◌, map, arith, leb, length, set, leb-false}
+use Rattle.std.proofs.lemmas.Grind.{common_steps}
 use Rattle.results.specs.Results.{Results, with_result, cleared_results}
 use Rattle.bindings.specs.Binding.{server_of}
 use Rattle.image.specs.Layout.{tick_kind}
@@ -15,12 +9,11 @@ use Rattle.image.specs.Image.{Image, Label}
 use Rattle.image.specs.inner.Sound.{SoundImage}
 use Rattle.rows.specs.Rows.{Found, found, missing}
 use Rattle.state.specs.declared.State.{State}
-use Rattle.state.specs.State.{bottom_alone, label_at, entry_at, place_at, number_at, server_at}
+use Rattle.state.specs.State.{label_at, entry_at, place_at, number_at}
 use Rattle.state.specs.Changes.{with_places, with_depth, with_bits}
-use Rattle.fitness.specs.Fitness.{is_of_handler}
 use Rattle.fitness.proofs.Fitness.{Fits}
-use Rattle.ticks.specs.Tick.{row_leads, MachineTick, finished, stopped, moved_tick, popped_state, state_alone}
-use Rattle.ticks.specs.Tick.{opened_state, is_full_stack_kept, full_tick, pushed_tick, popped_tick, tick_by, tick}
+use Rattle.ticks.specs.Tick.{row_leads, MachineTick, finished, stopped, moved_tick, popped_state, state_alone, opened_state}
+use Rattle.ticks.specs.Tick.{is_full_stack_kept, full_tick, pushed_tick, popped_tick, tick_by, tick}
 use Rattle.ticks.proofs.Leads.{call-kind, kind-high, carry-told}
 use Rattle.ticks.proofs.Keeps.{Keeps, tick-keeps}
 use Rattle.runs.specs.Run.{MachineRun, run_after, ticks}
@@ -30,18 +23,14 @@ use Rattle.minimising.specs.group_numbers.Smaller.{renumbered_label, joined_labe
 use Rattle.minimising.proofs.group_numbers.Numbering.{new-zero, label-new}
 use Rattle.minimised.specs.Alike.{Stops17}
 use Rattle.minimised.specs.Renamed.{renumbered_state, renamed_tick, renamed_machine_run}
-use Rattle.minimised.proofs.Renumbered.{map-set, same-handler, entry-at, place-new, only-new}
-use Rattle.minimised.proofs.Renumbered.{renamed_found, GroupLeads, row-some, row_new}
+use Rattle.minimised.proofs.Renumbered.{map-set, same-handler, entry-at, place-new, only-new, renamed_found, GroupLeads, row-some, row_new}
 use Rattle.minimised.proofs.Fitting.{of-handler-new}
 
 -- the tick of a label that is known
 tick-at : (i : Image) (s : State) (w l : ℕ) (x : Label) → place_at s (s.depth - 1) ≡ l → label_at i l ≡ x
     → tick i s w ≡ tick_by i s w l x (with_result x.result (number_at s (s.depth - 1)) s.bits) (tick_kind x.kind)
 unfolding tick
-tick-at i s w l x e f =
-    ap (λ (k : ℕ). let y = label_at i k in
-    tick_by i s w k y (with_result y.result (number_at s (s.depth - 1)) s.bits) (tick_kind y.kind)) e
-    ∙ ap (λ (y : Label). tick_by i s w l y (with_result y.result (number_at s (s.depth - 1)) s.bits) (tick_kind y.kind)) f
+tick-at i s w l x e f = grind (arith, common_steps)
 
 module _ (i : Image) (S : SoundImage i) (c : List ℕ) (R : ClassRound i c) where
   abbrev new : ℕ → ℕ
@@ -65,8 +54,7 @@ module _ (i : Image) (S : SoundImage i) (c : List ℕ) (R : ClassRound i c) wher
 
   alone-new : (s : State) (l h : ℕ) (b : Results) → state_alone (renumbered_state c s) (new l) h b
       ≡ renumbered_state c (state_alone s l h b)
-  alone-new s l h b =
-      ap (λ (ps : List ℕ). with_depth (with_places (with_bits s b) ps (bottom_alone h) (bottom_alone h)) 1) (only-new i S c R l)
+  alone-new s l h b = grind (arith, common_steps, only-new)
 
   opening-new : (s : State) (h k : ℕ) (b : Results)
       → opened_state (renumbered_state c s) (entry_at small k) h k b ≡ renumbered_state c (opened_state s (entry_at i k) h k b)
@@ -78,9 +66,7 @@ module _ (i : Image) (S : SoundImage i) (c : List ℕ) (R : ClassRound i c) wher
   -- ---- a call
   module _ (s : State) (inside : place_at s 0 < length i.labels) where
     keeps-new : is_full_stack_kept small (renumbered_state c s) ≡ is_full_stack_kept i s
-    keeps-new =
-        ap₂ (λ (g l : ℕ). eqb g 0 || is_of_handler small l) (same-handler i S c R) (place-new i S c R s 0)
-        ∙ ap (λ (t : Bool). eqb i.handler 0 || t) (of-handler-new i S c R (place_at s 0) inside)
+    keeps-new = grind (arith, common_steps, same-handler, of-handler-new, place-new)
 
     full-new : (m : ℕ) (b : Results) → full_tick small (renumbered_state c s) m b ≡ renamed_tick c (full_tick i s m b)
     full-new m b =
@@ -120,39 +106,26 @@ module _ (i : Image) (S : SoundImage i) (one : OneRow i) where
     under-inside e = f.labels (s.depth - 2) (omega (arith, leb-false s.depth 1 e))
 
     under-high : leb s.depth 1 ≡ false → 2 ≤ under
-    under-high e =
-        let two : 1 < s.depth = leb-false s.depth 1 e in
-        let k : ℕ = s.depth - 2 in
-        let told = carry-told i S under (number_at s (k + 1)) (server_at s (k + 1)) (place_at s (k + 1)) (f.carries k (omega arith)) in
-        kind-high i S under (under-inside e) (call-kind i S under told.0).1
+    under-high e = grind (arith, common_steps, kind-high, carry-told, leb-false, call-kind, under-inside)
 
     -- ---- no tick misses a row
     moved-some : (m code : ℕ) (t : State) (k : ℕ) (g : Found) (u : ℕ) → g ≡ found u → Stops17 (moved_tick m code t k g)
     moved-some m code t k g u e = subst (λ (x : Found). Stops17 (moved_tick m code t k x)) (sym e) tt
 
     pushed-some : (m code h k : ℕ) (b : Results) (t : Bool) → Stops17 (pushed_tick i s m code h k b t)
-    pushed-some m code h k b true = go (is_full_stack_kept i s)
-      where
-        go : (t : Bool) → Stops17 (if t then stopped 17
-            else finished m 96 (state_alone s (entry_at i i.handler) i.handler (cleared_results i.handler b)))
-        go true = refl
-        go false = tt
-    pushed-some m code h k b false = tt
+    pushed-some m code h k b true = grind (arith, common_steps)
+    pushed-some m code h k b false = grind (arith, common_steps)
 
     popped-some : (w m : ℕ) (b : Results) (t : Bool) → leb s.depth 1 ≡ t → Stops17 (popped_tick i s w m b t)
-    popped-some w m b true e = tt
-    popped-some w m b false e = moved-some m 3 (popped_state s b) (s.depth - 2) (row_leads i b under w) _
-        (row-some i S one b under w (under-high e) (under-inside e))
+    popped-some w m b true e = grind (arith, common_steps)
+    popped-some w m b false e = grind (arith, common_steps, row-some, under-inside, under-high, moved-some)
 
     some-by : (w : ℕ) (b : Results) (k : ℕ) → (label_at i top).kind ≡ k → Stops17 (tick_by i s w top (label_at i top) b (tick_kind k))
-    some-by w b zero e = moved-some (label_at i top).mask 0 (with_bits s b) (s.depth - 1) (row_leads i b top w) _
-        (row-some i S one b top w (kind-high i S top top-inside (omega arith)) top-inside)
-    some-by w b (suc zero) e = let h : ℕ = (label_at i top).called in
-        pushed-some (label_at i top).mask (16 + h) h (server_of s.serving h) b (leb s.size s.depth)
-    some-by w b (suc (suc zero)) e = let h : ℕ = (label_at i top).called in
-        pushed-some (label_at i top).mask (64 + h) h (server_of s.serving h) b (leb s.size s.depth)
-    some-by w b (suc (suc (suc zero))) e = popped-some w (label_at i top).mask b (leb s.depth 1) refl
-    some-by w b (suc (suc (suc (suc k)))) e = tt
+    some-by w b zero e = grind (arith, common_steps, kind-high, row-some, top-inside, moved-some)
+    some-by w b (suc zero) e = grind (arith, common_steps, pushed-some)
+    some-by w b (suc (suc zero)) e = grind (arith, common_steps, pushed-some)
+    some-by w b (suc (suc (suc zero))) e = grind (arith, common_steps, popped-some)
+    some-by w b (suc (suc (suc (suc k)))) e = grind (arith, common_steps)
 
     pub never-18 : (w : ℕ) → Stops17 (tick i s w)
     unfolding tick

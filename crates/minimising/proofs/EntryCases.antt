@@ -1,23 +1,16 @@
 -- Cases of the entry point: the image is refused, or the table that is made of it is made smaller.
-use mathlib.Core.Path.{◌≡◌, sym, ◌∙◌, ap, subst}
-use mathlib.Core.List.{List}
-use Prim.Native.Nat.{ℕ}
+use Rattle.std.proofs.Common.{◌≡◌, sym, ◌∙◌, ap, List, ℕ, Err, arith}
+use Rattle.std.proofs.lemmas.Grind.{common_steps}
 use Rattle.text.specs.frames.Frame.{contents}
-use Rattle.text.specs.frames.Verdict.{Verdict, next, when}
-use Rattle.text.specs.frames.Answer.{Answer, reply, verdict_reply, BufferOutcome, buffer_on, GivesBuffer}
-use Rattle.std.proofs.Common.{Err}
+use Rattle.text.specs.frames.Verdict.{when}
+use Rattle.text.specs.frames.Answer.{Answer, reply, verdict_reply, GivesBuffer}
 use Rattle.text.specs.declared.frames.refusals.Refusal.{Refusal}
-use Rattle.text.specs.frames.Refusal.{number_of, index_of}
-use Rattle.text.proofs.frames.Chains.{next-refused, err-refused}
-use Rattle.text.proofs.frames.Lent.{lent-err}
-use Rattle.image.specs.Image.{Image, image_text}
 use Rattle.image.specs.Decode.{decoded_image}
 use Rattle.image.specs.Check.{image_verdict}
 use Rattle.tables.proofs.Made.{MadeTable}
 use Rattle.covering.specs.Matched.{is_uneven}
 use Rattle.covering.proofs.Tables.{noted-decoded, made_table, made-uneven}
 use Rattle.grouping.proofs.Prepared.{made-even}
-use Rattle.minimising.specs.group_numbers.Smaller.{smaller_image}
 use Rattle.minimising.specs.group_image.inner.WriteContracts.{smaller_outcome}
 use Rattle.minimising.specs.joining.inner.JoiningContracts.{ReadableTable}
 use Rattle.minimising.specs.Entry.{minimise_verdict, minimise}
@@ -26,10 +19,7 @@ module _ (t : List ℕ) where
   pub image-refused : (old : List ℕ) (a : Answer) → reply a ≡ verdict_reply (image_verdict t) 0 → (r : Refusal) → a ≡ Err r
       → GivesBuffer (minimise t old) (Err r) old
   unfolding minimise minimise_verdict
-  image-refused old a gives r e =
-      let p = err-refused a (image_verdict t) 0 gives r e in
-      lent-err (minimise_verdict t) 1 (λ _. image_text (smaller_image (decoded_image (contents t)))) old r
-      (next-refused (image_verdict t) (λ _. when 23 (is_uneven (decoded_image (contents t)))) (number_of r) (index_of r) p.0, p.1)
+  image-refused old a gives r e = grind (arith, common_steps)
 
   module _ (b : List ℕ) (made : MadeTable t b) where
     same : decoded_image b ≡ decoded_image (contents t)
@@ -46,8 +36,4 @@ module _ (t : List ℕ) where
         → GivesBuffer (smaller_outcome b (when 23 (is_uneven (decoded_image b))) old) a out
         → GivesBuffer (minimise t old) a out
     unfolding minimise minimise_verdict
-    image-made-smaller old a out x =
-        subst (λ (l : BufferOutcome). GivesBuffer l a out)
-        (ap (λ (i : Image). buffer_on (when 23 (is_uneven i)) 1 (λ _. image_text (smaller_image i)) old) same
-        ∙ sym (ap (λ (w : Verdict). buffer_on (next w λ _. when 23 (is_uneven (decoded_image (contents t)))) 1 (λ _. image_text
-        (smaller_image (decoded_image (contents t)))) old) made.accepted)) x
+    image-made-smaller old a out x = grind (arith, common_steps, same)

@@ -1,7 +1,5 @@
 -- Texts that are read alike need the same places.
-use Prim.Native.Nat.{ℕ}
-use mathlib.Core.Path.{◌≡◌, ap₂}
-use mathlib.Core.List.{List}
+use Rattle.std.proofs.Common.{ℕ, ◌≡◌, ap₂, List}
 use Rattle.text.specs.frames.Verdict.{Verdict, next, when}
 use Rattle.text.specs.frames.Answer.{verdict_reply}
 use Rattle.text.specs.frames.Alike.{ReadAlike}

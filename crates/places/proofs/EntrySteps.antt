@@ -1,16 +1,9 @@
 -- The answer at each return of the entry point.
-use Prim.Native.Nat.{ℕ, ◌*◌, ◌≤◌}
-use mathlib.Core.Bool.{Bool, true, false}
-use mathlib.Core.Path.{◌≡◌, sym, ◌∙◌, ap, subst}
-use mathlib.Core.Logic.{⊎_elim}
-use mathlib.Core.List.{List}
-use native.Mathlib.Omega.{arith}
-use lib.Dec.{ltb}
-use lib.ListN.{length, take}
+use Rattle.std.proofs.Common.{ℕ, ◌*◌, ◌≤◌, Bool, true, false, ◌≡◌, sym, ◌∙◌, ap, subst, List, arith, ltb, length, take, Err, if◌then◌else◌}
+use Rattle.std.proofs.lemmas.Grind.{common_steps}
 use Rattle.words.proofs.lists.Tests.{cases}
 use Rattle.text.specs.frames.Frame.{contents}
 use Rattle.text.specs.frames.Verdict.{Verdict, refused, when}
-use Rattle.std.proofs.Common.{Err, if◌then◌else◌}
 use Rattle.text.specs.declared.frames.refusals.Refusal.{Refusal}
 use Rattle.text.specs.frames.Refusal.{number_of, index_of}
 use Rattle.text.specs.frames.Answer.{Answer, success, refusal, reply, verdict_reply}
@@ -35,12 +28,10 @@ module _ (c : Chart) (f : Facts c) (n : ℕ) (e : n ≡ longest_chain c) where
   circle-when b q = e ∙ ap (λ (b : Bool). if b then 0 else places c) q
 
   longest-zero : n ≡ 0 → is_circular c ≡ true
-  longest-zero z = ⊎_elim (λ q. q) (λ (q : is_circular c ≡ false). absurd (omega (arith, circle-when false q, places-some c f q)))
-      (cases (is_circular c))
+  longest-zero z = grind (arith, common_steps, places-some, cases, circle-when)
 
   longest-some : (n ≡ 0 → ⊥) → (is_circular c ≡ false) × (n ≡ places c)
-  longest-some z =
-      ⊎_elim (λ (q : is_circular c ≡ true). absurd (z (circle-when true q))) (λ q. (q, circle-when false q)) (cases (is_circular c))
+  longest-some z = grind (arith, common_steps)
 
 -- ---- the returns
 module _ (t : List ℕ) where
@@ -64,9 +55,7 @@ module _ (t : List ℕ) where
   module _ (held : List ℕ) (n : ℕ) (r : Read t held n) where
     by_rows : (b : Bool) → b ≡ ltb 1024 (length (rows (take (10 * n) held))) → translate_verdict t ≡ when 10 b
     unfolding translate_verdict
-    by_rows b e =
-        next-on (read_verdict t) (λ _. when 10 (ltb 1024 (length (rows (contents t))))) r.accepted
-        ∙ ap (when 10) (sym (e ∙ ap (λ (c : Chart). ltb 1024 (length (rows c))) r.chart))
+    by_rows b e = grind (arith, common_steps)
 
     pub needed-wide : (b : Bool) → b ≡ ltb 1024 (length (rows (take (10 * n) held))) → b ≡ true → refusal 10 0 0 ≡ places_needed t
     needed-wide b e q = refused-before 10 0 (by_rows b e ∙ ap (when 10) q)
@@ -88,6 +77,4 @@ module _ (t : List ℕ) where
 
       pub needed-done : (k ≡ 0 → ⊥) → success k ≡ places_needed t
       unfolding places_needed
-      needed-done z =
-          let s = longest-some (contents t) chart-facts k longest-is z in
-          ap success s.1 ∙ sym (ap (λ (v : Verdict). verdict_reply v (places (contents t))) (by-calls ∙ ap (when 20) s.0))
+      needed-done z = grind (arith, common_steps, longest-some, by-calls, chart-facts, longest-is)

@@ -1,9 +1,6 @@
 -- Success is the longest chain, and 20 is given exactly where a circle of calls can be reached.
-use Prim.Native.Nat.{ℕ, ◌≤◌}
-use mathlib.Core.Bool.{Bool, true, false}
-use mathlib.Core.Path.{◌≡◌, refl, sym, ◌∙◌, ap, subst}
-use mathlib.Core.List.{List}
-use native.Mathlib.Omega.{arith}
+use Rattle.std.proofs.Common.{ℕ, ◌≤◌, Bool, true, false, ◌≡◌, refl, sym, ap, subst, List, arith}
+use Rattle.std.proofs.lemmas.Grind.{common_steps}
 use Rattle.text.specs.frames.Frame.{contents}
 use Rattle.text.specs.frames.Verdict.{Verdict, fine, refused, next, when}
 use Rattle.text.specs.frames.Answer.{success, refusal, reply_number, reply_count, verdict_reply}
@@ -56,9 +53,7 @@ module _ (text : List ℕ) where
         subst (Longest c) (sym needed-is) (record { end = r.end; chain = r.chain; most = no_longer c needed-facts needed-calm })
 
     pub needed-few : (1 ≤ n) × (n ≤ 16)
-    needed-few =
-        let l : Longest (contents text) n = needed-longest in
-        (chain-some (contents text) l.chain, chain-few (contents text) needed-facts needed-calm n l.end l.chain)
+    needed-few = grind (arith, common_steps, chain-few, chain-some, needed-calm, needed-facts, needed-longest)
 
   -- ---- 20
   circle-by : (v : Verdict) → RefusesWith OfChart v → (b : Bool) (m : ℕ) → verdict_reply (next v λ _. when 20 b) m ≡ refusal 20 0 0
@@ -75,10 +70,7 @@ module _ (text : List ℕ) where
 
   needed-refused : translate_verdict text ≡ fine → Circle (contents text) → places_needed text ≡ refusal 20 0 0
   unfolding places_needed places_verdict
-  needed-refused ok k =
-      let c : Chart = contents text in
-      let b : is_circular c ≡ true = circle-refused c (facts text (translated-read text ok)) k in
-      ap (λ (v : Verdict). verdict_reply v (places c)) (next-on (translate_verdict text) (λ _. when 20 (is_circular c)) ok ∙ ap (when 20) b)
+  needed-refused ok k = grind (arith, common_steps, circle-refused, translated-read, next-on, facts)
 
   pub reported : Reported text
   reported = record { longest = needed-longest; few = needed-few; circle = needed-circle; refused = needed-refused }

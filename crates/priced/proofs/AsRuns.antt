@@ -1,29 +1,23 @@
 -- A priced run as a run, which is one of no words where 27 refuses it; and what it hands back, by what that run does.
-use Rattle.std.proofs.Common.{if◌then◌else◌, cond}
-use Prim.Native.Nat.{ℕ, ◌+◌, ◌-◌, ◌≤◌, min}
-use mathlib.Core.Bool.{Bool, true, false, ◌||◌, ◌&&◌}
-use mathlib.Core.Path.{◌≡◌, refl, sym, ◌∙◌, ap, ap₂, subst}
-use mathlib.Core.List.{List, [], ◌∷◌, ◌++◌, map}
-use native.Mathlib.Omega.{arith}
-use lib.Dec.{ltb}
-use lib.ListN.{length, take, drop, length-map, length-drop}
-use lib.Seq.{length-take-le}
-use borrow.Author.Tests.{le-ltb}
+use Rattle.std.proofs.Common.{if◌then◌else◌, cond, ℕ, ◌+◌, ◌-◌, ◌≤◌, min, Bool, true, false, ◌≡◌, refl, sym, ◌∙◌, ap, ap₂, subst, List, []}
+use Rattle.std.proofs.Common.{◌∷◌, map, arith, length, take, length-drop, length-take-le, le-ltb}
+use Rattle.std.proofs.Math.ListN.{length-map}
+use Rattle.std.proofs.lemmas.Grind.{common_steps}
 use Rattle.words.proofs.lists.Tests.{no_both, or-none, and_no}
 use Rattle.bindings.specs.Binding.{Binding}
-use Rattle.text.specs.frames.Answer.{success, refusal, reply_number, reply_count}
+use Rattle.text.specs.frames.Answer.{reply_number, reply_count}
 use Rattle.text.proofs.frames.Lent.{front}
 use Rattle.charts.specs.Chart.{Chart}
-use Rattle.walk.specs.Walk.{Signal, signals, Tick}
+use Rattle.walk.specs.Walk.{Signal, Tick}
 use Rattle.prices.specs.Prices.{price}
 use Rattle.prices.specs.priced_runs.PricedRun.{has_too_many_words}
 use Rattle.prices.proofs.priced_runs.Pricing.{no-price}
-use Rattle.agreement.specs.Agreement.{RunInput, CallInput, to_run, to_rebind, CallOutput, by_run, by_rebinding}
-use Rattle.agreement.specs.Agreement.{is_short, binding_after, expected_output, output_refused_short, reply_to}
-use Rattle.agreement.specs.Agreement as agreed
+use Rattle.agreement.specs.Agreement.{RunInput, CallInput, to_run, to_rebind, CallOutput, by_run, by_rebinding, is_short, expected_output}
+use Rattle.agreement.specs.Agreement.{output_refused_short, reply_to}
 use Rattle.agreement.proofs.Expected.{all_short, all-long}
-use Rattle.priced.specs.Demand.{PricedInput, unpriced, to_priced_run, PricedOutput, by_unpriced, by_priced_run}
-use Rattle.priced.specs.Demand.{joined_priced_words, ticks_falling_on, output_refused_many, expected_priced_outputs}
+use Rattle.priced.specs.Demand.{PricedInput, unpriced, to_priced_run, PricedOutput, by_unpriced, by_priced_run, joined_priced_words}
+use Rattle.priced.specs.Demand.{ticks_falling_on, output_refused_many, expected_priced_outputs}
+use Rattle.agreement.specs.Agreement as agreed
 
 abbrev pub no_words : RunInput → RunInput
 no_words a = record { words = []; masks = a.masks; codes = a.codes }
@@ -56,18 +50,12 @@ AllSucceed (g ∷ gs) [] = Unit {0}
 AllSucceed (g ∷ gs) (d ∷ ds) = Succeeds g d × AllSucceed gs ds
 
 no-words-short : (a : RunInput) → is_short (no_words a) ≡ false
-no-words-short a =
-    or-none (ltb (length a.masks) 0) (ltb (length a.codes) 0)
-    (le-ltb (length a.masks) 0 (omega arith)) (le-ltb (length a.codes) 0 (omega arith))
+no-words-short a = grind (arith, common_steps, or-none, le-ltb)
 
 -- how many ticks a run is expected to count
 pub expected-count : (b : ℕ) (ts : List Tick) (p : ℕ) (a : RunInput)
     → reply_count (expected_output b ts p a).reply ≡ min (p + length a.words) b - min p b
-expected-count b ts p a = go (ltb b (p + length a.words) && ltb 0 (length a.words)) (min (p + length a.words) b - min p b)
-  where
-    go : (t : Bool) (n : ℕ) → reply_count (if t then refusal 17 0 n else success n) ≡ n
-    go true n = refl
-    go false n = refl
+expected-count b ts p a = grind (arith, common_steps)
 
 module _ (c : Chart) where
   -- ---- the joined words
@@ -77,16 +65,10 @@ module _ (c : Chart) where
 
   pub joined_as : (given : List PricedInput) (s : Binding) → joined_priced_words c s given ≡ agreed.joined_words c s (map as_run given)
   unfolding joined_priced_words agreed.joined_words
-  joined_as [] s = refl
-  joined_as (unpriced (to_run a) ∷ rest) s = ap (λ (l : List Signal). (if is_short a then [] else signals s a.words) ++ l)
-      (joined_as rest s)
-  joined_as (unpriced (to_rebind h k) ∷ rest) s = joined_as rest (binding_after c h k s)
-  joined_as (to_priced_run list a ∷ rest) s = ap₂ (λ (l m : List Signal). l ++ m) (go (has_too_many_words a.words)) (joined_as rest s)
-    where
-      go : (t : Bool) → (if t || is_short a then [] else signals s a.words)
-          ≡ (let b = (if t then no_words a else a) in if is_short b then [] else signals s b.words)
-      go true = sym (none-joined (is_short (no_words a)))
-      go false = refl
+  joined_as [] s = grind (arith, common_steps)
+  joined_as (unpriced (to_run a) ∷ rest) s = grind (arith, common_steps, joined_as rest s)
+  joined_as (unpriced (to_rebind h k) ∷ rest) s = grind (arith, common_steps, joined_as rest)
+  joined_as (to_priced_run list a ∷ rest) s = grind (arith, common_steps, joined_as rest s, none-joined)
 
   -- ---- what is expected
   module _ (b : ℕ) (ts : List Tick) (low : b ≤ length ts) where
@@ -95,18 +77,12 @@ module _ (c : Chart) where
 
     -- as many ticks fall on the words as the answer counts
     counted : (p : ℕ) (a : RunInput) → reply_count (expected_output b ts p a).reply ≡ length (masks_of (ticks_falling_on b ts p a.words))
-    counted p a =
-        let done : ℕ = min (p + length a.words) b - min p b in
-        expected-count b ts p a
-        ∙ sym (length-map (take done (drop p ts)) (λ (t : Tick). t.mask)
-        ∙ length-take-le done (drop p ts) (omega (arith, low, length-drop p ts)))
+    counted p a = grind (arith, common_steps, length-take-le, length-drop, length-map, expected-count)
 
     -- so the price of the masks written is that of these ticks
     price-of : (list : List ℕ) (p : ℕ) (a : RunInput) → let t = expected_output b ts p a in
         price list (masks_of (ticks_falling_on b ts p a.words)) ≡ price list (take (reply_count t.reply) t.masks)
-    price-of list p a =
-        ap (price list) (sym (front (reply_count (expected_output b ts p a).reply) (masks_of (ticks_falling_on b ts p a.words)) a.masks
-        (counted p a)))
+    price-of list p a = grind (arith, common_steps, front, counted)
 
     module _ (p : ℕ) (a : RunInput) (rest : List PricedInput) where
       run_short : is_short a ≡ true → expected_priced_outputs c b ts p (unpriced (to_run a) ∷ rest) ≡ by_unpriced
@@ -230,9 +206,7 @@ module _ (c : Chart) where
 
     -- ---- a run of no words is expected to succeed
     none-stopped : (p : ℕ) (a : RunInput) → reply_number (expected_output b ts p (no_words a)).reply ≡ 0
-    none-stopped p a = ap (λ (t : Bool). reply_number
-        (if t then refusal 17 0 (min (p + 0) b - min p b) else success (min (p + 0) b - min p b)))
-        (and_no (ltb b (p + 0)) (ltb 0 0) refl)
+    none-stopped p a = grind (arith, common_steps, and_no)
 
     abbrev Fine : ℕ → List PricedInput → Type 0
     Fine p given = AllSucceed given (plain p given)

@@ -1,11 +1,6 @@
 -- A list with priced runs hands back what the list of runs in their place does, with the prices.
-use Rattle.std.proofs.Common.{if◌then◌else◌}
-use Prim.Native.Nat.{ℕ}
-use mathlib.Core.Bool.{Bool, true, false}
-use mathlib.Core.Path.{◌≡◌, refl, sym, ◌∙◌, ap}
-use mathlib.Core.List.{List, [], ◌∷◌, map}
-use lib.ListN.{length, take}
-use borrow.Author.Tests.{ltb-true, ltb-false}
+use Rattle.std.proofs.Common.{if◌then◌else◌, ℕ, Bool, true, false, ◌≡◌, refl, sym, ◌∙◌, ap, List, [], ◌∷◌, map, length, take, ltb-true}
+use Rattle.std.proofs.Common.{ltb-false}
 use Rattle.text.specs.frames.Answer.{reply_number, reply_count}
 use Rattle.state.specs.declared.State.{State}
 use Rattle.runs.specs.Run.{RunOutcome, run}
@@ -15,10 +10,10 @@ use Rattle.prices.specs.priced_runs.PricedRun.{has_too_many_words, PricedOutcome
 use Rattle.prices.proofs.priced_runs.Pricing.{does-all, by-the-masks}
 use Rattle.prices.proofs.priced_runs.EntryCases.{none-state, many-refused}
 use Rattle.agreement.specs.Agreement.{RunInput, output_of, to_run, to_rebind, CallOutput, by_run, by_rebinding}
-use Rattle.agreement.specs.Agreement as agreed
 use Rattle.priced.specs.Demand.{PricedInput, unpriced, to_priced_run, PricedOutput, by_unpriced, by_priced_run, priced_outputs}
 use Rattle.priced.specs.Demand.{output_refused_many}
 use Rattle.priced.proofs.AsRuns.{no_words, as_run, with_prices, AllSucceed}
+use Rattle.agreement.specs.Agreement as agreed
 
 module _ (image : List ℕ) where
   abbrev made : State → List PricedInput → List PricedOutput

@@ -1,10 +1,6 @@
 -- The agreement with prices, and of one priced run from a fresh state.
-use Rattle.std.proofs.Common.{if◌then◌else◌}
-use Prim.Native.Nat.{ℕ, ◌+◌, ◌-◌, min}
-use mathlib.Core.Bool.{Bool, true, false, ◌||◌}
-use mathlib.Core.Path.{◌≡◌, refl, sym, ◌∙◌, ap, ap₂, subst}
-use mathlib.Core.List.{List, [], ◌∷◌, ◌++◌, map, append-nil}
-use lib.ListN.{length, take}
+use Rattle.std.proofs.Common.{ℕ, ◌+◌, ◌-◌, min, Bool, true, false, ◌≡◌, refl, sym, ◌∙◌, ap, subst, List, [], ◌∷◌, map, length, take, arith}
+use Rattle.std.proofs.lemmas.Grind.{common_steps}
 use Rattle.bindings.specs.Binding.{own_binding}
 use Rattle.text.specs.frames.Frame.{contents}
 use Rattle.text.specs.frames.Answer.{reply_count}
@@ -19,15 +15,15 @@ use Rattle.prices.specs.Prices.{price}
 use Rattle.prices.specs.priced_runs.PricedRun.{has_too_many_words, PricedOutcome, priced_run}
 use Rattle.prices.proofs.priced_runs.Pricing.{no-price}
 use Rattle.agreement.specs.Agreement.{RunInput, RunOutput, output_of, CallInput, is_short, bound, expected_output, Agreement}
-use Rattle.agreement.specs.Agreement as agreed
 use Rattle.agreement.proofs.Bounds.{bound-le}
 use Rattle.agreement.proofs.Demand.{theorem}
-use Rattle.priced.specs.Demand.{PricedInput, to_priced_run, PricedOutput, by_priced_run, priced_outputs}
-use Rattle.priced.specs.Demand.{joined_priced_words, priced_walk_outputs, expected_priced_outputs, PricedAgreement}
+use Rattle.priced.specs.Demand.{PricedInput, to_priced_run, PricedOutput, by_priced_run, priced_outputs, joined_priced_words}
+use Rattle.priced.specs.Demand.{priced_walk_outputs, expected_priced_outputs, PricedAgreement}
 use Rattle.priced.specs.FreshRun.{PricedByTheWalk}
-use Rattle.priced.proofs.AsRuns.{as_run, with_prices, AllSucceed, joined_as, expected-as, expected-fine, expected-count}
-use Rattle.priced.proofs.AsRuns.{all-many, all-refused, all-priced}
+use Rattle.priced.proofs.AsRuns.{as_run, with_prices, AllSucceed, joined_as, expected-as, expected-fine, expected-count, all-many}
+use Rattle.priced.proofs.AsRuns.{all-refused, all-priced}
 use Rattle.priced.proofs.Chain.{chain-as}
+use Rattle.agreement.specs.Agreement as agreed
 
 pub priced-theorem : PricedAgreement translate fresh_state priced_run run rebind
 unfolding PricedAgreement Agreement
@@ -70,8 +66,7 @@ module _ (size : ℕ) (c : Chart) (list : List ℕ) (a : RunInput) (r : PricedOu
 
   all_words : has_too_many_words a.words ≡ false → is_short a ≡ false → joined_priced_words c own_binding only ≡ signals own_binding a.words
   unfolding joined_priced_words
-  all_words e f =
-      ap₂ (λ (x y : Bool). (if x || y then [] else signals own_binding a.words) ++ []) e f ∙ append-nil (signals own_binding a.words)
+  all_words e f = grind (arith, common_steps)
 
   ticks-priced : has_too_many_words a.words ≡ false → is_short a ≡ false → handed ≡ priced_walk_outputs size c only → Priced
   unfolding expected_priced_outputs

@@ -1,8 +1,5 @@
 -- Calls in a row that meet their contracts, priced runs among them, hand back what the agreement with prices says.
-use Prim.Native.Nat.{ℕ}
-use mathlib.Core.Path.{◌≡◌, refl, sym, ◌∙◌, ap, ap₂}
-use mathlib.Core.List.{List, [], ◌∷◌}
-use lib.ListN.{take}
+use Rattle.std.proofs.Common.{ℕ, ◌≡◌, refl, sym, ◌∙◌, ap, ap₂, List, [], ◌∷◌, take}
 use Rattle.state.specs.declared.State.{State}
 use Rattle.state.specs.State.{fresh_state}
 use Rattle.runs.specs.Run.{run}
@@ -10,8 +7,8 @@ use Rattle.rebinding.specs.Rebind.{rebind}
 use Rattle.prices.specs.priced_runs.PricedRun.{priced_run}
 use Rattle.agreement.specs.Agreement.{CallInput, to_run, to_rebind}
 use Rattle.agreement.proofs.OneCall.{handed_output, state_after, Like, call-like}
-use Rattle.priced.specs.Demand.{PricedInput, unpriced, to_priced_run, PricedOutput, by_unpriced}
-use Rattle.priced.specs.Demand.{by_priced_run, priced_outputs, PricedAgreement}
+use Rattle.priced.specs.Demand.{PricedInput, unpriced, to_priced_run, PricedOutput, by_unpriced, by_priced_run, priced_outputs}
+use Rattle.priced.specs.Demand.{PricedAgreement}
 use Rattle.priced.specs.Delivered.{PricedCallsInTurn, none, unpriced_call, priced_call, PricedDelivered}
 use Rattle.priced.proofs.Charts.{priced-theorem}
 

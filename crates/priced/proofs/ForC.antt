@@ -1,8 +1,5 @@
 -- Calls from C in a row that meet their contracts, priced runs among them, hand back what the agreement with prices says.
-use Prim.Native.Nat.{ℕ}
-use mathlib.Core.Path.{◌≡◌, refl, sym, ◌∙◌, ap, ap₂}
-use mathlib.Core.List.{List, [], ◌∷◌, map}
-use lib.ListN.{take}
+use Rattle.std.proofs.Common.{ℕ, ◌≡◌, refl, sym, ◌∙◌, ap, ap₂, List, [], ◌∷◌, map, take}
 use Rattle.state.specs.declared.State.{State}
 use Rattle.state.specs.State.{fresh_state}
 use Rattle.state.specs.Bytes.{state_of}
@@ -11,8 +8,8 @@ use Rattle.prices.proofs.priced_runs.EntryCases.{priced-held}
 use Rattle.agreement.proofs.ForC.{returned-0}
 use Rattle.agreement.proofs.OneCallC.{LikeC, call-like}
 use Rattle.priced.specs.Demand.{PricedInput, unpriced, to_priced_run, priced_outputs, PricedAgreement}
-use Rattle.priced.specs.ForC.{PricedOutputC, by_unpriced_c, by_priced_run_c, priced_output_c}
-use Rattle.priced.specs.ForC.{PricedCallsInTurnC, none, unpriced_call, priced_call, PricedDeliveredC}
+use Rattle.priced.specs.ForC.{PricedOutputC, by_unpriced_c, by_priced_run_c, priced_output_c, PricedCallsInTurnC, none, unpriced_call}
+use Rattle.priced.specs.ForC.{priced_call, PricedDeliveredC}
 use Rattle.priced.proofs.Charts.{priced-theorem}
 use Rattle.priced.proofs.Delivered.{made_outputs, chain-asked}
 

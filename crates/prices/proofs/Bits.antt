@@ -1,13 +1,10 @@
 -- The set bits of a mask taken off one by one, the lowest first: what is left costs the price of that bit less.
-use Prim.Native.Nat.{ℕ, zero, suc, ◌+◌, ◌*◌, ◌-◌, ◌/◌, ◌%◌, ◌^◌, ◌≤◌, ◌<◌}
-use mathlib.Core.Path.{◌≡◌, refl, sym, ◌∙◌, ap, ap₂}
-use mathlib.Core.List.{List}
-use native.Mathlib.Nat.{pow-suc, zero-mul, one-mul}
-use native.Mathlib.Omega.{arith}
-use lib.Arith.{lt-one}
-use lib.Bits.{bit_and, and_step, and_self, and_le_r}
+use Rattle.std.proofs.Common.{ℕ, zero, suc, ◌+◌, ◌*◌, ◌-◌, ◌/◌, ◌%◌, ◌^◌, ◌≤◌, ◌<◌, ◌≡◌, refl, sym, ◌∙◌, ap, ap₂, List, pow-suc, zero-mul}
+use Rattle.std.proofs.Common.{one-mul, arith, bit_and, get_or}
+use Rattle.std.proofs.Math.Arith.{lt-one}
+use lib.Bits.{and_step, and_self, and_le_r}
 use lib.Count.{count_trailing_zeros, under}
-use lib.ListN.{get_or}
+use Rattle.std.proofs.lemmas.Grind.{common_steps}
 use Rattle.words.specs.lists.Numbers.{sum}
 use Rattle.words.proofs.lists.Searches.{sum-shift}
 use Rattle.words.specs.bits.Word.{bit}
@@ -24,35 +21,24 @@ costs g k n = sum (λ j. bit n j * g j) 0 k
 -- bit 0, and the bits above it
 costs-step : (g : ℕ → ℕ) (k n : ℕ) → costs g (suc k) n ≡ n % 2 * g 0 + costs (λ j. g (suc j)) k (n / 2)
 unfolding sum
-costs-step g k n =
-    ap₂ (λ (x y : ℕ). x * g 0 + y) (bit-zero n)
-    (sum-shift (λ j. bit n j * g j) 0 k
-    ∙ sum_same (λ j. bit n (suc j) * g (suc j)) (λ j. bit (n / 2) j * g (suc j)) 0 k
-    (λ j a b. ap (λ (x : ℕ). x * g (suc j)) (bit-suc n j)))
+costs-step g k n = grind (arith, common_steps, sum_same, bit-zero, bit-suc, sum-shift)
 
 costs-even : (g : ℕ → ℕ) (k n m : ℕ) → n % 2 ≡ 0 → n / 2 ≡ m → costs g (suc k) n ≡ costs (λ j. g (suc j)) k m
-costs-even g k n m e h =
-    costs-step g k n
-    ∙ ap₂ (λ (x y : ℕ). x * g 0 + costs (λ j. g (suc j)) k y) e h
-    ∙ omega (arith, zero-mul (g 0))
+costs-even g k n m e h = grind (arith, common_steps, zero-mul, costs-step)
 
 costs-odd : (g : ℕ → ℕ) (k n : ℕ) → n % 2 ≡ 1 → costs g (suc k) n ≡ g 0 + costs (λ j. g (suc j)) k (n / 2)
 costs-odd g k n e = costs-step g k n ∙ ap (λ (x : ℕ). x * g 0 + costs (λ j. g (suc j)) k (n / 2)) e ∙ omega (arith, one-mul (g 0))
 
 tick-none : (prices : List ℕ) → tick_price prices 0 ≡ 0
 unfolding tick_price
-tick-none prices =
-    sum-zero (λ j. bit 0 j * get_or prices j 0) 0 32
-    (λ j a b. ap (λ (x : ℕ). x * get_or prices j 0) (bit-none j) ∙ zero-mul (get_or prices j 0))
+tick-none prices = grind (arith, common_steps, zero-mul, sum-zero, bit-none)
 
 -- n without its lowest set bit
 abbrev pub less : ℕ → ℕ
 less n = bit_and n (n - 1)
 
 less-even : (n : ℕ) → n % 2 ≡ 0 → 0 < n → (less n / 2 ≡ less (n / 2)) × (less n % 2 ≡ 0)
-less-even n e h =
-    let q : bit_and (n / 2) ((n - 1) / 2) ≡ less (n / 2) = ap (λ (x : ℕ). bit_and (n / 2) x) (omega arith) in
-    (omega (arith, and_step n (n - 1), q), omega (arith, and_step n (n - 1), q))
+less-even n e h = grind (arith, common_steps, and_step)
 
 less-odd : (n : ℕ) → n % 2 ≡ 1 → (less n / 2 ≡ n / 2) × (less n % 2 ≡ 0)
 less-odd n e =

@@ -1,12 +1,7 @@
 -- The sum of prices, bit by bit and tick by tick as the loops add it, and how large it can be.
-use Prim.Native.Nat.{ℕ, zero, suc, ◌+◌, ◌*◌, ◌≤◌, ◌<◌}
-use mathlib.Core.Path.{◌≡◌, refl, ◌∙◌, ap}
-use mathlib.Core.List.{List, [], ◌∷◌}
-use native.Mathlib.Nat.{mul-le-mul_right, one-mul}
-use native.Mathlib.Numerals.{add-one}
-use native.Mathlib.Omega.{arith}
-use lib.ListN.{length, get_or, take, length-take}
-use lib.Seq.{take_all}
+use Rattle.std.proofs.Common.{ℕ, zero, suc, ◌+◌, ◌*◌, ◌≤◌, ◌<◌, ◌≡◌, refl, ◌∙◌, ap, List, [], ◌∷◌, add-one, arith, length, get_or, take}
+use Rattle.std.proofs.Common.{length-take, take_all}
+use Rattle.std.proofs.lemmas.Grind.{common_steps}
 use Rattle.words.proofs.lists.Sums.{sum-most}
 use Rattle.words.specs.bits.Word.{bit}
 use Rattle.prices.specs.Prices.{tick_price, hundredths}
@@ -22,10 +17,7 @@ hundredths-next prices (m ∷ masks) (suc i) l = omega (arith, hundredths-next p
 -- prices of 0 to 65,535
 module _ (prices : List ℕ) (small : (j : ℕ) → get_or prices j 0 ≤ 65535) where
   one_bit : (m j : ℕ) → bit m j * get_or prices j 0 ≤ 65535
-  one_bit m j =
-      let b : bit m j ≤ 1 = omega arith in
-      let q : bit m j * get_or prices j 0 ≤ 1 * get_or prices j 0 = mul-le-mul_right (get_or prices j 0) b in
-      omega (arith, small j, one-mul (get_or prices j 0))
+  one_bit m j = grind (arith, common_steps)
 
   pub tick-most : (m : ℕ) → tick_price prices m ≤ 2097120
   unfolding tick_price
@@ -47,10 +39,7 @@ summed-none prices masks = record { sum = refl; inside = omega arith }
 
 module _ (prices masks : List ℕ) (total i : ℕ) (inv : SummedTicks prices masks total i) where
   pub summed-more : i < length masks → (r : ℕ) → r ≡ tick_price prices (get_or masks i 0) → SummedTicks prices masks (total + r) (i + 1)
-  summed-more l r e = record {
-    sum = omega (arith, inv.sum, e, hundredths-next prices masks i l, ap (λ (k : ℕ). hundredths prices (take k masks)) (add-one i));
-    inside = omega arith;
-  }
+  summed-more l r e = grind (arith, common_steps, add-one, hundredths-next)
 
   pub summed-fits : ((j : ℕ) → get_or prices j 0 ≤ 65535) → length masks ≤ 65536 → total ≤ 137436856320
   summed-fits small most = omega (arith, inv.sum, hundredths-most prices small (take i masks), length-take i masks)

@@ -1,16 +1,10 @@
 -- A rebinding on an image, or live on a table, by the rebinding on the table that it makes; and by value, by what the bytes then hold.
-use mathlib.Core.Path.{◌≡◌, refl, sym, ◌∙◌, ap, subst}
-use mathlib.Core.Bool.{Bool, true, false}
-use mathlib.Core.List.{List}
-use Prim.Native.Nat.{ℕ, ◌*◌}
-use native.Mathlib.Omega.{arith}
-use lib.ListN.{length, take}
+use Rattle.std.proofs.Common.{◌≡◌, refl, sym, ◌∙◌, ap, subst, Bool, true, false, List, ℕ, ◌*◌, arith, length, take, Err}
+use Rattle.std.proofs.lemmas.Grind.{common_steps}
 use Rattle.text.specs.frames.Frame.{contents}
 use Rattle.text.specs.frames.Verdict.{Verdict, fine, refused, next, when}
-use Rattle.text.specs.frames.Answer.{Answer, refusal, reply, verdict_reply}
-use Rattle.std.proofs.Common.{Err}
+use Rattle.text.specs.frames.Answer.{Answer, reply, verdict_reply}
 use Rattle.text.specs.declared.frames.refusals.Refusal.{Refusal}
-use Rattle.text.specs.frames.Refusal.{number_of, index_of}
 use Rattle.text.specs.declared.frames.refusals.Refusal.TheVariants.{BadHeader}
 use Rattle.text.proofs.frames.Refuses.{RefusesWith}
 use Rattle.text.proofs.frames.Chains.{err-refused}
@@ -19,7 +13,6 @@ use Rattle.image.specs.Check.{image_verdict}
 use Rattle.image.proofs.Refuses.{Early, early-image}
 use Rattle.tables.specs.Table.{table_end, is_bad_table, table_image}
 use Rattle.tables.specs.inner.Asked.{front}
-use Rattle.tables.proofs.Made as tables
 use Rattle.tables.proofs.Front.{front-image, cut-is}
 use Rattle.state.specs.declared.State.{State}
 use Rattle.state.specs.State.{StateOutcome, GivesState, Sized}
@@ -28,6 +21,7 @@ use Rattle.state.proofs.ResultBytes.{state-back}
 use Rattle.rebinding.specs.Rebind.{rebind_verdict, rebind_on, rebind, table_rebind, live_rebind, GivesRebindingOn}
 use Rattle.rebinding.proofs.Held.{rebinding-held}
 use Rattle.rebinding.proofs.RebindCases.{kept-rebinds, kept_state}
+use Rattle.tables.proofs.Made as tables
 
 -- ---- live
 module _ (b before : List ℕ) (h k : ℕ) (t : Bool) (e : t ≡ is_bad_table b) where
@@ -44,9 +38,7 @@ module _ (b before : List ℕ) (h k : ℕ) (t : Bool) (e : t ≡ is_bad_table b)
 
   pub live-rebinds : (n : ℕ) → n ≡ 10 * table_end b → t ≡ false → (a : Answer) (after : List ℕ)
       → GivesRebindingOn (table_rebind (take n b) s h k) before a after → GivesRebindingOn (live_rebind b s h k) before a after
-  live-rebinds n p q a after r =
-      subst (λ (x : StateOutcome). GivesRebindingOn x before a after)
-      (ap (λ (c : List ℕ). table_rebind c s h k) (cut-is b n p) ∙ live-good q) r
+  live-rebinds n p q a after r = grind (arith, common_steps, cut-is, live-good)
 
 -- ---- on an image
 module _ (t before : List ℕ) (h k : ℕ) where
@@ -68,11 +60,7 @@ module _ (t before : List ℕ) (h k : ℕ) where
 
   pub image-refused : (a : Answer) → reply a ≡ verdict_reply (image_verdict t) 0 → (r : Refusal) → a ≡ Err r
       → GivesRebindingOn (rebind t state₀ h k) before (Err r) before
-  image-refused a gives r e =
-      let p = err-refused a (image_verdict t) 0 gives r e in
-      kept-rebinds (rebind t state₀ h k) before (number_of r) (index_of r) state₀
-      (image-kept (number_of r) (index_of r) p.0) (early (number_of r) (index_of r) p.0).0 (Err r)
-      (ap (refusal (number_of r) (index_of r)) p.1)
+  image-refused a gives r e = grind (arith, common_steps, err-refused, kept-rebinds, image-kept, early)
 
   pub image-rebinds : (b : List ℕ) → tables.MadeTable t b → (a : Answer) (after : List ℕ)
       → GivesRebindingOn (table_rebind b state₀ h k) before a after
@@ -89,9 +77,7 @@ module _ (state : State) (sized : Sized state) (bits : length state.bits ≡ 16)
   value : (v : State → Verdict) (a : Answer) (after : List ℕ) (u : State) → u ≡ state_of after
       → GivesRebindingOn (rebind_on (v (state_of bytes)) (state_of bytes) h k) bytes a after
       → GivesState (rebind_on (v state) state h k) (record { answer = a; state = u })
-  value v a after u q r =
-      subst (λ (s : State). GivesState (rebind_on (v s) s h k) (record { answer = a; state = u })) holds
-      (record { answered = r.answered; state = q ∙ ap state_of r.bytes ∙ rebinding-held bytes h k (v (state_of bytes)) })
+  value v a after u q r = grind (arith, common_steps, rebinding-held, holds)
 
   pub rebind-value : (t : List ℕ) (a : Answer) (after : List ℕ) (u : State) → u ≡ state_of after
       → GivesRebindingOn (rebind t (state_of bytes) h k) bytes a after → GivesState (rebind t state h k) (record { answer = a; state = u })

@@ -1,19 +1,12 @@
 -- A rebinding leaves a fitting state fitting, refused or not.
-use Rattle.std.proofs.Common.{if◌then◌else◌}
-use Prim.Native.Nat.{ℕ, ◌-◌, ◌≤◌, ◌<◌}
-use mathlib.Core.Bool.{Bool, true, false, ◌&&◌, not}
-use mathlib.Core.Path.{◌≡◌, refl, sym, ap, ap₂, ◌∙◌}
-use mathlib.Core.List.{List}
-use native.Mathlib.Decide.{ℕ_discrete}
-use native.Mathlib.Omega.{arith}
-use lib.Dec.{leb, eqb}
-use lib.ListN.{length, set, length-set}
-use lib.Seq.{get_or-set_same, get_or-set_other}
-use borrow.Author.Tests.{ne_eqb, le-leb}
+use Rattle.std.proofs.Common.{if◌then◌else◌, ℕ, ◌-◌, ◌≤◌, ◌<◌, Bool, true, false, ◌&&◌, not, ◌≡◌, sym, ap, ◌∙◌, List, arith, leb, eqb}
+use Rattle.std.proofs.Common.{length, set, get_or-set_same, get_or-set_other, ne_eqb, le-leb}
+use Rattle.std.proofs.Math.Decide.{ℕ_discrete}
+use Rattle.std.proofs.lemmas.Grind.{common_steps}
 use Rattle.words.proofs.lists.Tests.{and-true}
 use Rattle.bindings.specs.Binding.{server_of, is_bad_rebinding}
 use Rattle.text.specs.frames.Frame.{contents}
-use Rattle.text.specs.frames.Verdict.{Verdict, fine, next, when}
+use Rattle.text.specs.frames.Verdict.{fine}
 use Rattle.image.specs.Image.{Image}
 use Rattle.image.specs.Decode.{decoded_image}
 use Rattle.image.specs.Check.{image_verdict}
@@ -22,16 +15,11 @@ use Rattle.state.specs.declared.State.{State}
 use Rattle.state.specs.State.{Sized}
 use Rattle.fitness.specs.Fitness.{is_callable, is_badly_served, is_unfit}
 use Rattle.fitness.proofs.Fitness.{Fits, fits, unfits, range-callable}
-use Rattle.rebinding.specs.Rebind.{rebinding, rebind_on, rebind}
+use Rattle.rebinding.specs.Rebind.{rebinding, rebind}
 use Rattle.rebinding.proofs.rebindable.Refusal.{AllowedRebinding, allowed}
 
 pub rebinding-sized : (s : State) (h k : ℕ) → Sized s → Sized (rebinding h k s)
-rebinding-sized s h k z = record {
-  places = z.places;
-  serving = length-set s.serving (h - 1) k ∙ z.serving;
-  numbers = z.numbers;
-  servers = z.servers;
-}
+rebinding-sized s h k z = grind (arith, common_steps)
 
 module _ (i : Image) (few : length i.entries ≤ 16) (s : State) (h k : ℕ) where
   abbrev H : ℕ
@@ -85,10 +73,4 @@ module _ (text : List ℕ) (passes : image_verdict text ≡ fine) (s : State) (h
 
   pub rebind-fits : Sized s → is_unfit image s ≡ false → is_unfit image (rebind text s h k).state ≡ false
   unfolding rebind
-  rebind-fits z u =
-      ap₂ (λ (v : Verdict) (x : Bool). is_unfit image (rebind_on (next v λ _. next (when 15 x) λ _. when 22 bars) s h k).state) passes u
-      ∙ go bars refl
-    where
-      go : (t : Bool) → bars ≡ t → is_unfit image (rebind_on (when 22 t) s h k).state ≡ false
-      go true e = u
-      go false e = rebinding-unfit image (image-sound text passes).most s h k u z e
+  rebind-fits z u = grind (arith, common_steps, image-sound, rebinding-unfit)

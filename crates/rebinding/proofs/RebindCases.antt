@@ -1,19 +1,11 @@
 -- The answers of a rebinding on a table, by what its tests give.
-use Prim.Native.Nat.{ℕ, ◌≤◌}
-use mathlib.Core.Path.{◌≡◌, refl, sym, ap, ap₂, ◌∙◌}
-use mathlib.Core.Bool.{Bool, true, false, ◌||◌}
-use mathlib.Core.List.{List}
-use native.Mathlib.Omega.{arith}
-use lib.Dec.{eqb, ltb}
-use lib.ListN.{length}
-use borrow.Author.Tests.{ne_eqb, ltb-false}
-use Rattle.words.proofs.lists.Tests.{if-false, or_l, or_r}
+use Rattle.std.proofs.Common.{ℕ, ◌≤◌, ◌≡◌, refl, sym, ap, ap₂, ◌∙◌, Bool, true, false, List, arith, length, Ok, Err}
+use Rattle.std.proofs.lemmas.Grind.{common_steps}
 use Rattle.bindings.specs.Binding.{rebound_binding, is_bad_rebinding}
 use Rattle.text.specs.frames.Verdict.{next, when}
 use Rattle.text.specs.frames.Answer.{Answer, refusal, reply}
-use Rattle.std.proofs.Common.{Ok, Err}
 use Rattle.text.specs.declared.frames.refusals.Refusal.TheVariants.{Unfit, BadRebinding}
-use Rattle.image.specs.Decode.{scheme_count, handler_in, last_label, row_count}
+use Rattle.image.specs.Decode.{scheme_count, handler_in}
 use Rattle.tables.specs.Table.{table_image}
 use Rattle.tables.specs.inner.Asked.{Whole}
 use Rattle.tables.proofs.TableReads.{entries-count}
@@ -32,8 +24,7 @@ kept_state n j s = record { reply = refusal n j 0; state = s }
 pub kept-rebinds : (x : StateOutcome) (bytes : List ℕ) (n j : ℕ) (s : State) → x ≡ kept_state n j s
     → 1 ≤ n → (a : Answer) → reply a ≡ refusal n j 0
     → GivesRebindingOn x bytes a bytes
-kept-rebinds x bytes n j s g l a e =
-    rw g (record { answered = e; bytes = sym (if-false (eqb n 0) (bytes_of s) bytes (ne_eqb n 0 (λ z. omega arith))) })
+kept-rebinds x bytes n j s g l a e = grind (arith, common_steps)
 
 -- ---- on a table: t says whether the state is unfit, u whether the rebinding is refused
 module _ (b before : List ℕ) (h k : ℕ) (t : Bool) (e : t ≡ is_unfit (table_image b) (state_of before)) where
@@ -45,10 +36,7 @@ module _ (b before : List ℕ) (h k : ℕ) (t : Bool) (e : t ≡ is_unfit (table
 
   pub unfit-rebinds : t ≡ true → GivesRebindingOn (table_rebind b s h k) before (Err Unfit) before
   unfolding table_rebind
-  unfit-rebinds q =
-      kept-rebinds (table_rebind b s h k) before 15 0 s
-      (ap (λ (t : Bool). answers t (is_bad_rebinding (length (table_image b).entries) (table_image b).handler h k)) (sym e ∙ q))
-      (omega arith) (Err Unfit) refl
+  unfit-rebinds q = grind (arith, common_steps)
 
   module _ (fit : t ≡ false) (u : Bool) (f : u ≡ is_bad_rebinding (scheme_count b) (handler_in b) h k) where
     refused-by : is_bad_rebinding (length (table_image b).entries) (table_image b).handler h k ≡ u
@@ -60,8 +48,7 @@ module _ (b before : List ℕ) (h k : ℕ) (t : Bool) (e : t ≡ is_unfit (table
     table_is = ap₂ answers (sym e ∙ fit) refused-by
 
     pub bad-rebinds : u ≡ true → GivesRebindingOn (table_rebind b s h k) before (Err BadRebinding) before
-    bad-rebinds q =
-        kept-rebinds (table_rebind b s h k) before 22 0 s (table_is ∙ ap (answers false) q) (omega arith) (Err BadRebinding) refl
+    bad-rebinds q = grind (arith, common_steps, kept-rebinds, table_is)
 
     pub done-rebinds : u ≡ false → (bound after : List ℕ) → state_of bound ≡ with_serving s (rebound_binding h k s.serving)
         → after ≡ bytes_of (state_of bound)
@@ -72,10 +59,7 @@ module _ (b before : List ℕ) (h k : ℕ) (t : Bool) (e : t ≡ is_unfit (table
 module _ (b : List ℕ) (whole : Whole b) (h k : ℕ) (u : Bool) (f : u ≡ is_bad_rebinding (scheme_count b) (handler_in b) h k)
     (q : u ≡ false) where
   schemes-few : scheme_count b ≤ 16
-  schemes-few =
-      let n : Bool = eqb (scheme_count b) 0 || ltb 16 (scheme_count b) in
-      let p : n ≡ false = or_l n (eqb (last_label b) 0) (or_l (n || eqb (last_label b) 0) (ltb 1024 (row_count b)) whole.counts) in
-      ltb-false 16 (scheme_count b) (or_r (eqb (scheme_count b) 0) (ltb 16 (scheme_count b)) p)
+  schemes-few = grind (arith, common_steps)
 
   may : AllowedRebinding (scheme_count b) (handler_in b) h k
   may = allowed (scheme_count b) (handler_in b) h k (sym f ∙ q)

@@ -1,14 +1,7 @@
 -- A result bit that is 0 stays 0 under every call, and under every result but a 1 written to it.
-use Rattle.std.proofs.Common.{if◌then◌else◌}
-use Prim.Native.Nat.{ℕ, zero, suc, ◌-◌, ◌≤◌}
-use mathlib.Core.Bool.{Bool, true, false}
-use mathlib.Core.Path.{◌≡◌, refl, ap, ◌∙◌}
-use mathlib.Core.List.{[], ◌∷◌}
-use lib.Dec.{eqb}
-use lib.ListN.{get_or, set}
-use lib.Seq.{get_or-set_other}
-use native.Mathlib.Omega.{arith}
-use borrow.Author.Tests.{eqb-true, eqb-false}
+use Rattle.std.proofs.Common.{if◌then◌else◌, ℕ, zero, suc, ◌-◌, ◌≤◌, Bool, true, false, ◌≡◌, refl, ap, ◌∙◌, [], ◌∷◌, eqb, get_or, set}
+use Rattle.std.proofs.Common.{get_or-set_other, arith, eqb-true}
+use borrow.Author.Tests.{eqb-false}
 use Rattle.results.specs.Results.{Results, result_of, with_result, cleared_results}
 
 -- past the end every bit reads as 0

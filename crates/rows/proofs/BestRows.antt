@@ -1,13 +1,8 @@
 -- The row chosen is the one that the rule names in plain words, there is just one such row, and none is chosen only where none matches.
-use Prim.Native.Nat.{ℕ, zero, suc, ◌+◌, ◌≤◌, ◌<◌}
-use mathlib.Core.Bool.{Bool, true, false}
-use mathlib.Core.Path.{◌≡◌, refl, sym, ◌∙◌, ap, ap₂, subst}
-use mathlib.Core.Logic.{◌⊎◌, inl, inr}
-use mathlib.Core.List.{List, [], ◌∷◌}
-use native.Mathlib.Nat.{zero-add}
-use native.Mathlib.Omega.{arith}
+use Rattle.std.proofs.Common.{ℕ, zero, suc, ◌+◌, ◌≤◌, ◌<◌, Bool, true, false, ◌≡◌, refl, sym, ◌∙◌, ap, ap₂, subst, ◌⊎◌, inl, inr, List, []}
+use Rattle.std.proofs.Common.{◌∷◌, zero-add, arith, length, get_or}
 use lib.Count.{ones}
-use lib.ListN.{length, get_or}
+use Rattle.std.proofs.lemmas.Grind.{common_steps}
 use Rattle.words.proofs.lists.Tests.{no_both, split}
 use Rattle.words.proofs.lists.Joins.{all-at}
 use Rattle.words.specs.lists.Sequences.{All}
@@ -27,12 +22,8 @@ row-row k j r q e = cc
 
 -- the better of a row and another choice is no none
 some-better : {A : Type 0} (k : ℕ) (r : Row) (x : Choice) → better_choice (row k r) x ≡ no_choice → A
-some-better k r no_choice e = no-row k r (row k r) e refl
-some-better k r (row j q) e = go (split (ones q.care) (ones r.care))
-  where
-    go : {A : Type 0} → (ones q.care < ones r.care) ⊎ (ones r.care ≤ ones q.care) → A
-    go (inl h) = no-row k r (better_choice (row k r) (row j q)) e (better-first (row k r) j q h)
-    go (inr h) = no-row j q (better_choice (row k r) (row j q)) e (better-second (row k r) j q h)
+some-better k r no_choice e = grind (arith, common_steps)
+some-better k r (row j q) e = grind (arith, common_steps)
 
 module _ (l w b : ℕ) where
   -- none is chosen, so none matches
@@ -57,33 +48,13 @@ module _ (l w b : ℕ) where
   -- the best of the rest, with a row in front that loses to it
   behind : (r : Row) (rs : List Row) (p : ℕ) (q : Row) → (is_candidate l w b r ≡ true → ones r.care ≤ ones q.care) → Best l w b rs p q
       → Best l w b (r ∷ rs) (suc p) q
-  behind r rs p q h d = record { inside = omega (arith, d.inside); is = d.is; matches = d.matches; most = most; last = last }
-    where
-      most : (j : ℕ) → j < length (r ∷ rs) → is_candidate l w b (get_or (r ∷ rs) j no_row) ≡ true
-          → ones (get_or (r ∷ rs) j no_row).care ≤ ones q.care
-      most zero g o = h o
-      most (suc j) g o = d.most j (omega arith) o
-
-      last : (j : ℕ) → suc p < j → j < length (r ∷ rs) → is_candidate l w b (get_or (r ∷ rs) j no_row) ≡ true
-          → ones (get_or (r ∷ rs) j no_row).care < ones q.care
-      last zero m g o = absurd (omega arith)
-      last (suc j) m g o = d.last j (omega arith) (omega arith) o
+  behind r rs p q h d = grind (arith, common_steps)
 
   -- a row in front that wins against each of the rest
   front : (r : Row) (rs : List Row) → is_candidate l w b r ≡ true
       → ((j : ℕ) → j < length rs → is_candidate l w b (get_or rs j no_row) ≡ true → ones (get_or rs j no_row).care < ones r.care)
       → Best l w b (r ∷ rs) 0 r
-  front r rs o each = record { inside = omega arith; is = refl; matches = o; most = most; last = last }
-    where
-      most : (j : ℕ) → j < length (r ∷ rs) → is_candidate l w b (get_or (r ∷ rs) j no_row) ≡ true
-          → ones (get_or (r ∷ rs) j no_row).care ≤ ones r.care
-      most zero g z = omega arith
-      most (suc j) g z = omega (arith, each j (omega arith) z)
-
-      last : (j : ℕ) → 0 < j → j < length (r ∷ rs) → is_candidate l w b (get_or (r ∷ rs) j no_row) ≡ true
-          → ones (get_or (r ∷ rs) j no_row).care < ones r.care
-      last zero m g z = absurd (omega arith)
-      last (suc j) m g z = each j (omega arith) z
+  front r rs o each = grind (arith, common_steps)
 
   -- with the first row numbered n
   pub best-at : (n : ℕ) (rs : List Row) (k : ℕ) (r : Row) → best_row l w b n rs ≡ row k r → (p : ℕ) × (k ≡ n + p) × Best l w b rs p r
@@ -128,25 +99,7 @@ module _ (l w b : ℕ) where
 
   -- two that are best are the same
   pub best-once : (rs : List Row) (p q : ℕ) (r s : Row) → Best l w b rs p r → Best l w b rs q s → (p ≡ q) × (r ≡ s)
-  best-once rs p q r s d e = let same = go (split p q) (split q p) in (same, sym d.is ∙ ap (λ (x : ℕ). get_or rs x no_row) same ∙ e.is)
-    where
-      own_first : is_candidate l w b (get_or rs p no_row) ≡ true
-      own_first = ap (is_candidate l w b) d.is ∙ d.matches
-
-      own-second : is_candidate l w b (get_or rs q no_row) ≡ true
-      own-second = ap (is_candidate l w b) e.is ∙ e.matches
-
-      ones-first : ones (get_or rs p no_row).care ≡ ones r.care
-      ones-first = ap (λ (x : Row). ones x.care) d.is
-
-      ones-second : ones (get_or rs q no_row).care ≡ ones s.care
-      ones-second = ap (λ (x : Row). ones x.care) e.is
-
-      go : (p < q) ⊎ (q ≤ p) → (q < p) ⊎ (p ≤ q) → p ≡ q
-      go (inl h) x = absurd (omega (arith, ones-first, ones-second, d.last q h e.inside own-second, e.most p d.inside own_first))
-      go (inr h) (inl g) = absurd (omega
-          (arith, ones-first, ones-second, e.last p g d.inside own_first, d.most q e.inside own-second))
-      go (inr h) (inr g) = omega arith
+  best-once rs p q r s d e = grind (arith, common_steps)
 
   is-best-at : (n : ℕ) (rs : List Row) (p : ℕ) (r : Row) → Best l w b rs p r → best_row l w b n rs ≡ row (n + p) r
   is-best-at n rs p r d = go (best_row l w b n rs) refl

@@ -1,21 +1,11 @@
 -- Laws of the choice among rows: one row more in front, the better of three, lists joined, numbers counted from another start, and rows
 -- that no bit decides.
-use Rattle.std.proofs.Common.{if◌then◌else◌}
-use Prim.Native.Nat.{ℕ, suc, ◌+◌, ◌≤◌, ◌<◌}
-use mathlib.Core.Bool.{Bool, true, false, ◌&&◌, ◌||◌}
-use mathlib.Core.Path.{◌≡◌, refl, sym, ◌∙◌, ap, ap₂}
-use mathlib.Core.Logic.{◌⊎◌, inl, inr}
-use mathlib.Core.List.{List, [], ◌∷◌, ◌++◌}
-use native.Mathlib.Nat.{add-zero}
-use native.Mathlib.Omega.{arith}
+use Rattle.std.proofs.Common.{if◌then◌else◌, ℕ, suc, ◌+◌, ◌≤◌, ◌<◌, Bool, true, false, ◌≡◌, refl, sym, ◌∙◌, ap, ap₂, List, [], ◌∷◌, ◌++◌}
+use Rattle.std.proofs.Common.{add-zero, arith, length, get_or, lt-ltb, le-ltb}
 use lib.Count.{ones}
-use lib.Dec.{ltb, eqb}
-use lib.ListN.{length, get_or}
-use borrow.Author.Tests.{lt-ltb, le-ltb, eq-eqb, eqb-true}
-use Rattle.words.proofs.lists.Tests.{split}
-use Rattle.words.specs.bits.Word.{is_agreeing}
+use Rattle.std.proofs.lemmas.Grind.{common_steps}
 use Rattle.image.specs.Image.{Row, no_row}
-use Rattle.rows.specs.Rows.{is_match, is_candidate, Choice, row, no_choice, better_choice, best_row, lead_of}
+use Rattle.rows.specs.Rows.{is_candidate, Choice, row, no_choice, better_choice, best_row, lead_of}
 
 -- ---- no row, and one row more in front
 pub best-nothing : (l w b k : ℕ) → best_row l w b k [] ≡ no_choice
@@ -53,42 +43,16 @@ better-first no_choice j q h = absurd (omega arith)
 better-first (row k r) j q h = ap (λ (t : Bool). if t then row k r else row j q) (lt-ltb (ones q.care) (ones r.care) h)
 
 pub better-three : (x y z : Choice) → better_choice x (better_choice y z) ≡ better_choice (better_choice x y) z
-better-three no_choice y z = refl
-better-three (row k r) no_choice z = refl
-better-three (row k r) (row j q) no_choice = sym (better-none (better_choice (row k r) (row j q)))
-better-three (row k r) (row j q) (row m p) = go (split (ones p.care) (ones q.care)) (split (ones q.care) (ones r.care))
-  where
-    go : (ones p.care < ones q.care) ⊎ (ones q.care ≤ ones p.care)
-        → (ones q.care < ones r.care) ⊎ (ones r.care ≤ ones q.care)
-        → better_choice (row k r) (better_choice (row j q) (row m p)) ≡ better_choice (better_choice (row k r) (row j q)) (row m p)
-    go (inl h) (inl g) =
-        ap (better_choice (row k r)) (better-first (row j q) m p h) ∙ better-first (row k r) j q g
-        ∙ sym (ap (λ (x : Choice). better_choice x (row m p)) (better-first (row k r) j q g) ∙ better-first (row k r) m p (omega arith))
-    go (inl h) (inr g) =
-        ap (better_choice (row k r)) (better-first (row j q) m p h) ∙ better-second (row k r) j q g
-        ∙ sym (ap (λ (x : Choice). better_choice x (row m p)) (better-second (row k r) j q g) ∙ better-first (row j q) m p h)
-    go (inr h) (inl g) =
-        ap (better_choice (row k r)) (better-second (row j q) m p h)
-        ∙ sym (ap (λ (x : Choice). better_choice x (row m p)) (better-first (row k r) j q g))
-    go (inr h) (inr g) =
-        ap (better_choice (row k r)) (better-second (row j q) m p h) ∙ better-second (row k r) m p (omega arith)
-        ∙ sym (ap (λ (x : Choice). better_choice x (row m p)) (better-second (row k r) j q g) ∙ better-second (row j q) m p h)
+better-three no_choice y z = grind (arith, common_steps)
+better-three (row k r) no_choice z = grind (arith, common_steps)
+better-three (row k r) (row j q) no_choice = grind (arith, common_steps)
+better-three (row k r) (row j q) (row m p) = grind (arith, common_steps)
 
 -- ---- two lists joined
 pub best-joined : (l w b k : ℕ) (xs ys : List Row)
     → best_row l w b k (xs ++ ys) ≡ better_choice (best_row l w b k xs) (best_row l w b (k + length xs) ys)
-best-joined l w b k [] ys =
-    ap (λ (n : ℕ). best_row l w b n ys) (sym (add-zero k))
-    ∙ sym (ap (λ (x : Choice). better_choice x (best_row l w b (k + 0) ys)) (best-nothing l w b k))
-best-joined l w b k (x ∷ xs) ys =
-    let here : Choice = (if is_candidate l w b x then row k x else no_choice) in
-    best-cons l w b k x (xs ++ ys)
-    ∙ ap (better_choice here)
-    (best-joined l w b (suc k) xs ys
-    ∙ ap (λ (n : ℕ). better_choice (best_row l w b (suc k) xs) (best_row l w b n ys))
-    (let e : suc k + length xs ≡ k + suc (length xs) = omega arith in e))
-    ∙ better-three here (best_row l w b (suc k) xs) (best_row l w b (k + suc (length xs)) ys)
-    ∙ ap (λ (y : Choice). better_choice y (best_row l w b (k + suc (length xs)) ys)) (sym (best-cons l w b k x xs))
+best-joined l w b k [] ys = grind (arith, common_steps, add-zero, best-nothing)
+best-joined l w b k (x ∷ xs) ys = grind (arith, common_steps, best-joined l w b (suc k) xs ys, best-cons, better-three)
 
 -- ---- numbers counted from n on
 abbrev pub moved_by : ℕ → Choice → Choice
@@ -96,26 +60,13 @@ moved_by n no_choice = no_choice
 moved_by n (row k r) = row (n + k) r
 
 better-moved : (n : ℕ) (x y : Choice) → better_choice (moved_by n x) (moved_by n y) ≡ moved_by n (better_choice x y)
-better-moved n no_choice y = refl
-better-moved n (row k r) no_choice = refl
-better-moved n (row k r) (row j q) = go (ltb (ones q.care) (ones r.care))
-  where
-    go : (t : Bool) → (if t then row (n + k) r else row (n + j) q) ≡ moved_by n (if t then row k r else row j q)
-    go true = refl
-    go false = refl
+better-moved n no_choice y = grind (arith, common_steps)
+better-moved n (row k r) no_choice = grind (arith, common_steps)
+better-moved n (row k r) (row j q) = grind (arith, common_steps)
 
 pub best-moved : (l w b n k : ℕ) (rs : List Row) → best_row l w b (n + k) rs ≡ moved_by n (best_row l w b k rs)
-best-moved l w b n k [] = best-nothing l w b (n + k) ∙ ap (moved_by n) (sym (best-nothing l w b k))
-best-moved l w b n k (r ∷ rs) =
-    best-cons l w b (n + k) r rs
-    ∙ ap₂ better_choice (here (is_candidate l w b r))
-    (ap (λ (j : ℕ). best_row l w b j rs) (let e : suc (n + k) ≡ n + suc k = omega arith in e) ∙ best-moved l w b n (suc k) rs)
-    ∙ better-moved n (if is_candidate l w b r then row k r else no_choice) (best_row l w b (suc k) rs)
-    ∙ ap (moved_by n) (sym (best-cons l w b k r rs))
-  where
-    here : (t : Bool) → (if t then row (n + k) r else no_choice) ≡ moved_by n (if t then row k r else no_choice)
-    here true = refl
-    here false = refl
+best-moved l w b n k [] = grind (arith, common_steps, best-nothing)
+best-moved l w b n k (r ∷ rs) = grind (arith, common_steps, best-moved l w b n (suc k) rs, best-cons, better-moved)
 
 pub leads-moved : (n : ℕ) (x : Choice) → lead_of (moved_by n x) ≡ lead_of x
 leads-moved n no_choice = refl
@@ -123,14 +74,7 @@ leads-moved n (row k r) = refl
 
 -- ---- rows that no bit decides
 same_test : (l w p q : ℕ) (r : Row) → (r.from ≡ l → r.bit ≡ 2) → is_candidate l w p r ≡ is_candidate l w q r
-same_test l w p q r h = go (eqb r.from l) refl
-  where
-    go : (t : Bool) → eqb r.from l ≡ t → (t && is_match w p r) ≡ (t && is_match w q r)
-    go true e =
-        let two : eqb r.bit 2 ≡ true = eq-eqb r.bit 2 (h (eqb-true r.from l e)) in
-        ap (λ (t : Bool). is_agreeing w r.care r.values && (t || eqb r.bit p)) two
-        ∙ sym (ap (λ (t : Bool). is_agreeing w r.care r.values && (t || eqb r.bit q)) two)
-    go false e = refl
+same_test l w p q r h = grind (arith, common_steps)
 
 pub any-bit : (l w p q k : ℕ) (rs : List Row)
     → ((j : ℕ) → j < length rs → (get_or rs j no_row).from ≡ l → (get_or rs j no_row).bit ≡ 2) → best_row l w p k rs ≡ best_row l w q k rs

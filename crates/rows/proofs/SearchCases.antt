@@ -1,29 +1,18 @@
 -- One frame of a table as the code compares it, the better of two, the search from one frame up to another, and where the rows of a label
 -- stand.
-use Rattle.std.proofs.Common.{if◌then◌else◌}
-use Prim.Native.Nat.{ℕ, zero, suc, ◌+◌, ◌*◌, ◌-◌, ◌≤◌, ◌<◌}
-use mathlib.Core.Bool.{Bool, true, false, ◌&&◌, ◌||◌}
-use mathlib.Core.Path.{◌≡◌, refl, sym, ◌∙◌, ap, ap₂}
-use mathlib.Core.Logic.{◌⊎◌, inl, inr}
-use mathlib.Core.List.{List, [], ◌∷◌, map}
-use native.Mathlib.Decide.{ℕ_discrete}
-use native.Mathlib.Numerals.{add-one}
-use native.Mathlib.Omega.{arith}
-use lib.Bits.{bit_and}
+use Rattle.std.proofs.Common.{if◌then◌else◌, ℕ, zero, suc, ◌+◌, ◌*◌, ◌-◌, ◌≤◌, ◌<◌, Bool, true, false, ◌&&◌, ◌||◌, ◌≡◌, sym, ◌∙◌, ap, ap₂}
+use Rattle.std.proofs.Common.{◌⊎◌, inl, inr, List, [], ◌∷◌, map, add-one, arith, bit_and, ltb, eqb, get_or, lt-ltb, le-ltb, eq-eqb, ne_eqb}
 use lib.Count.{ones}
-use lib.Dec.{ltb, eqb}
-use lib.ListN.{get_or}
-use borrow.Author.Tests.{lt-ltb, le-ltb, eq-eqb, ne_eqb}
+use Rattle.std.proofs.lemmas.Grind.{common_steps}
 use Rattle.words.specs.lists.Numbers.{range}
 use Rattle.words.proofs.lists.Tests.{split, if-true, if-false}
-use Rattle.words.specs.bits.Word.{is_agreeing}
-use Rattle.text.specs.frames.Frame.{size, field, pair_at}
+use Rattle.text.specs.frames.Frame.{size, field}
 use Rattle.image.specs.Decode.{labels_from}
-use Rattle.tables.specs.Table.{table_label, first_on, end_on, row_on, rows_on, table_image}
+use Rattle.tables.specs.Table.{first_on, end_on, row_on, rows_on, table_image}
 use Rattle.tables.specs.inner.Asked.{Whole}
 use Rattle.tables.specs.inner.Labels.{NumberedLabel}
 use Rattle.tables.proofs.Front.{end-inside}
-use Rattle.rows.specs.Rows.{is_match, is_candidate, Choice, row, no_choice, better_choice, best_row, lead_of, next_of}
+use Rattle.rows.specs.Rows.{is_candidate, Choice, row, no_choice, better_choice, best_row, lead_of, next_of}
 use Rattle.rows.specs.declared.TheConstants.{NO_FRAME}
 use Rattle.rows.specs.inner.Search.{swapped_word, is_matching_frame, found_at, BetterOf, chosen_frame, Chosen, Deciding}
 use Rattle.rows.proofs.Swaps.{swap-twice, swapped-agrees}
@@ -39,18 +28,14 @@ module _ (b : List ℕ) (swapped bit f : ℕ) (small : swapped < 65536) (bytes :
   suited = eqb bit 2 || (eqb (field b f 6) 2 || eqb (field b f 6) bit)
 
   matching-by : is_matching_frame b (swapped_word swapped) bit f ≡ (agreed && suited)
-  matching-by =
-      ap (λ (t : Bool). t && suited)
-      (sym (swapped-agrees swapped (field b f 2) (field b f 3) (field b f 4) (field b f 5) small
-      (bytes (10 * f + 2)) (bytes (10 * f + 3)) (bytes (10 * f + 4)) (bytes (10 * f + 5))))
+  matching-by = grind (arith, common_steps, swapped-agrees)
 
   module _ (care values : ℕ) (p : care ≡ field b f 2 + field b f 3 * 256) (q : values ≡ field b f 4 + field b f 5 * 256) where
     read_is : eqb (bit_and swapped care) values ≡ agreed
     read_is = ap₂ (λ (m n : ℕ). eqb (bit_and swapped m) n) p q
 
     pub matching-not : (bit_and swapped care ≡ values → ⊥) → false ≡ is_matching_frame b (swapped_word swapped) bit f
-    matching-not e =
-        sym (matching-by ∙ ap (λ (t : Bool). t && suited) (sym read_is ∙ ne_eqb (bit_and swapped care) values e))
+    matching-not e = grind (arith, common_steps, ne_eqb, matching-by, read_is)
 
     agreeing : bit_and swapped care ≡ values → is_matching_frame b (swapped_word swapped) bit f ≡ suited
     agreeing e = matching-by ∙ ap (λ (t : Bool). t && suited) (sym read_is ∙ eq-eqb (bit_and swapped care) values e)
@@ -60,10 +45,7 @@ module _ (b : List ℕ) (swapped bit f : ℕ) (small : swapped < 65536) (bytes :
 
     module _ (e : bit_and swapped care ≡ values) (n : bit ≡ 2 → ⊥) (only : ℕ) (r : only ≡ field b f 6) where
       by_bit : is_matching_frame b (swapped_word swapped) bit f ≡ (eqb only 2 || eqb only bit)
-      by_bit =
-          agreeing e
-          ∙ ap (λ (t : Bool). t || (eqb (field b f 6) 2 || eqb (field b f 6) bit)) (ne_eqb bit 2 n)
-          ∙ ap (λ (n : ℕ). eqb n 2 || eqb n bit) (sym r)
+      by_bit = grind (arith, common_steps, ne_eqb, agreeing)
 
       pub matching-any : only ≡ 2 → true ≡ is_matching_frame b (swapped_word swapped) bit f
       matching-any k = sym (by_bit ∙ ap (λ (t : Bool). t || eqb only bit) (eq-eqb only 2 k))
@@ -74,23 +56,10 @@ module _ (b : List ℕ) (swapped bit f : ℕ) (small : swapped < 65536) (bytes :
 -- the row in it as one of label l's, by a bit that decides
 module _ (b : List ℕ) (l bit : ℕ) (d : Deciding b l bit) (f : ℕ) where
   pub own-bit : (eqb (row_on b l f).bit 2 || eqb (row_on b l f).bit bit) ≡ (eqb bit 2 || (eqb (field b f 6) 2 || eqb (field b f 6) bit))
-  own-bit = go (ℕ_discrete bit 2)
-    where
-      go : Dec (bit ≡ 2)
-          → (eqb (row_on b l f).bit 2 || eqb (row_on b l f).bit bit) ≡ (eqb bit 2 || (eqb (field b f 6) 2 || eqb (field b f 6) bit))
-      go (yes e) =
-          ap (λ (t : Bool). eqb (if t then field b f 6 else 2) 2 || eqb (if t then field b f 6 else 2) bit)
-          (ne_eqb (table_label b l).kind 2 (d.none e))
-          ∙ sym (ap (λ (t : Bool). t || (eqb (field b f 6) 2 || eqb (field b f 6) bit)) (eq-eqb bit 2 e))
-      go (no e) =
-          ap (λ (t : Bool). eqb (if t then field b f 6 else 2) 2 || eqb (if t then field b f 6 else 2) bit)
-          (eq-eqb (table_label b l).kind 2 (d.some e))
-          ∙ sym (ap (λ (t : Bool). t || (eqb (field b f 6) 2 || eqb (field b f 6) bit)) (ne_eqb bit 2 e))
+  own-bit = grind (arith, common_steps)
 
   own-test : (w : ℕ) → is_candidate l w bit (row_on b l f) ≡ is_matching_frame b w bit f
-  own-test w =
-      ap (λ (t : Bool). t && is_match w bit (row_on b l f)) (eq-eqb l l refl)
-      ∙ ap (λ (t : Bool). is_agreeing w (pair_at b f 2) (pair_at b f 4) && t) own-bit
+  own-test w = grind (arith, common_steps)
 
 -- ---- frames as choices, and the better of two
 module _ (b : List ℕ) (f : ℕ) where
@@ -124,19 +93,13 @@ module _ (b : List ℕ) (l w bit first end : ℕ) where
 
   module _ (f best : ℕ) (s : Searched f best) where
     pub search-over : end ≤ f → first ≡ first_on b l → end ≡ end_on b l → found_at b l best ≡ best_row l w bit (first_on b l) (rows_on b l)
-    search-over h p q =
-        let nothing : best_from f ≡ no_choice =
-        ap (λ (n : ℕ). best_row l w bit f (map (row_on b l) (range f n))) (let e : end - f ≡ 0 = omega arith in e)
-        ∙ best-nothing l w bit f in
-        sym (ap (better_choice (found_at b l best)) nothing ∙ better-none (found_at b l best)) ∙ s
-        ∙ ap₂ (λ (i j : ℕ). best_row l w bit i (map (row_on b l) (range i (j - i)))) p q
+    search-over h p q = grind (arith, common_steps, best-nothing, better-none)
 
     -- by the test that was made of frame f
     module _ (d : Deciding b l bit) (h : f < end) (swapped : ℕ) (e : swapped ≡ swapped_word w) (small : w < 65536)
         (t : Bool) (q : t ≡ is_matching_frame b (swapped_word swapped) bit f) where
       own : t ≡ is_candidate l w bit (row_on b l f)
-      own = q ∙ ap (λ (v : ℕ). is_matching_frame b v bit f) (ap (λ (v : ℕ). swapped_word v) e ∙ swap-twice w small)
-          ∙ sym (own-test b l bit d f w)
+      own = grind (arith, common_steps, swap-twice, own-test)
 
       more : best_from f ≡ best_row l w bit f (row_on b l f ∷ map (row_on b l) (range (suc f) (end - suc f)))
       more = ap (λ (n : ℕ). best_row l w bit f (map (row_on b l) (range f n))) (let z : end - f ≡ suc (end - suc f) = omega arith in z)
@@ -145,10 +108,7 @@ module _ (b : List ℕ) (l w bit first end : ℕ) where
       on = ap best_from (sym (add-one f))
 
       pub search-other : t ≡ false → Searched (f + 1) best
-      search-other n =
-          ap (better_choice (found_at b l best))
-          (sym (more ∙ best-other l w bit f (row_on b l f) (map (row_on b l) (range (suc f) (end - suc f))) (sym own ∙ n) ∙ on))
-          ∙ s
+      search-other n = grind (arith, common_steps, best-other, own, more, on)
 
       pub search-own : t ≡ true → (r : ℕ) → BetterOf b best f r → Searched (f + 1) r
       search-own y r z =
@@ -184,19 +144,7 @@ module _ (b : List ℕ) (l w bit first end : ℕ) (d : Deciding b l bit) (p : fi
         ∙ ap₂ (λ (i j : ℕ). best_row l w bit i (map (row_on b l) (range i (j - i)))) p q
 
     pub one_found : (r : ℕ) → r ≡ (if is_matching_frame b w bit first then first else NO_FRAME) → Chosen b l w bit r
-    one_found r z = z ∙ go (is_matching_frame b w bit first) refl ∙ ap chosen_frame alone
-      where
-        go : (t : Bool) → is_matching_frame b w bit first ≡ t
-            → (if is_matching_frame b w bit first then first else NO_FRAME) ≡ chosen_frame
-            (best_row l w bit first (map (row_on b l) (range first 1)))
-        go true y =
-            if-true (is_matching_frame b w bit first) first NO_FRAME y
-            ∙ sym (ap chosen_frame (best-own l w bit first (row_on b l first) [] (own-test b l bit d first w ∙ y)
-            ∙ ap (better_choice (row first (row_on b l first))) (best-nothing l w bit (suc first))))
-        go false n =
-            if-false (is_matching_frame b w bit first) first NO_FRAME n
-            ∙ sym (ap chosen_frame (best-other l w bit first (row_on b l first) [] (own-test b l bit d first w ∙ n)
-            ∙ best-nothing l w bit (suc first)))
+    one_found r z = grind (arith, common_steps, best-other, best-nothing, best-own, if-false, if-true, own-test, alone)
 
 -- ---- several rows compared
 module _ (b : List ℕ) (l w bit best : ℕ) (is : found_at b l best ≡ best_row l w bit (first_on b l) (rows_on b l)) where
@@ -246,9 +194,7 @@ module _ (b : List ℕ) (l w bit : ℕ) (x : NumberedLabel b l) (bytes : (k : �
   few = few-frames b x.whole bytes
 
   pub chosen-found : found_at b l f ≡ best_row l w bit (first_on b l) (rows_on b l)
-  chosen-found =
-      let within : end_on b l ≤ size b = end-within b l (end_on b l) x.whole refl in
-      ap (found_at b l) e ∙ held-best b l w bit few (first_on b l) (end_on b l - first_on b l) (λ h. omega arith)
+  chosen-found = grind (arith, common_steps, held-best, end-within, few)
 
   pub chosen-inside : f < NO_FRAME → f < size b
   chosen-inside h = go (split f (size b))

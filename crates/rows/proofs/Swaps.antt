@@ -1,11 +1,7 @@
 -- Words with their two bytes in the other order: twice swapped is the word itself, and two words agree where both are swapped.
-use Prim.Native.Nat.{ℕ, ◌+◌, ◌*◌, ◌/◌, ◌%◌, ◌<◌}
-use mathlib.Core.Path.{◌≡◌, sym, ◌∙◌, ap, ap₂}
-use native.Mathlib.Omega.{arith}
-use native.Mathlib.Decide.{ℕ_discrete}
-use lib.Bits.{bit_and, and_block, and_lt}
-use lib.Dec.{eqb}
-use borrow.Author.Tests.{eq-eqb, ne_eqb}
+use Rattle.std.proofs.Common.{ℕ, ◌+◌, ◌*◌, ◌/◌, ◌%◌, ◌<◌, ◌≡◌, sym, ◌∙◌, ap, ap₂, arith, bit_and, eqb}
+use lib.Bits.{and_block, and_lt}
+use Rattle.std.proofs.lemmas.Grind.{common_steps}
 use Rattle.words.specs.bits.Word.{is_agreeing}
 use Rattle.rows.specs.inner.Search.{swapped_word}
 
@@ -14,11 +10,7 @@ swap-twice w h = omega arith
 
 -- two bytes each, compared byte by byte
 same_bytes : (p q u v : ℕ) → p < 256 → q < 256 → u < 256 → v < 256 → eqb (p * 256 + q) (u + v * 256) ≡ eqb (q * 256 + p) (u * 256 + v)
-same_bytes p q u v hp hq hu hv = go (ℕ_discrete (p * 256 + q) (u + v * 256))
-  where
-    go : Dec (p * 256 + q ≡ u + v * 256) → eqb (p * 256 + q) (u + v * 256) ≡ eqb (q * 256 + p) (u * 256 + v)
-    go (yes e) = eq-eqb (p * 256 + q) (u + v * 256) e ∙ sym (eq-eqb (q * 256 + p) (u * 256 + v) (omega arith))
-    go (no e) = ne_eqb (p * 256 + q) (u + v * 256) e ∙ sym (ne_eqb (q * 256 + p) (u * 256 + v) (λ z. e (omega arith)))
+same_bytes p q u v hp hq hu hv = grind (arith, common_steps)
 
 -- care mask x and y, values u and v, the high byte first; against the swapped word t they are taken with the low byte first
 module _ (t x y u v : ℕ) (small : t < 65536) (hx : x < 256) (hy : y < 256) (hu : u < 256) (hv : v < 256) where

@@ -1,14 +1,8 @@
 -- The rows of a table: the one that a label takes of all is the one of its own, and where it leads.
-use Prim.Native.Nat.{ℕ, zero, suc, ◌+◌, ◌*◌, ◌-◌, ◌≤◌, ◌<◌}
-use mathlib.Core.Bool.{Bool, ◌&&◌}
-use mathlib.Core.Path.{◌≡◌, refl, sym, ◌∙◌, ap, ap₂}
-use mathlib.Core.List.{List, map}
-use native.Mathlib.Decide.{ℕ_discrete}
-use native.Mathlib.Nat.{add-zero}
-use native.Mathlib.Omega.{arith}
-use lib.Dec.{ltb, eqb}
-use lib.ListN.{length, get_or, length-append}
-use borrow.Author.Tests.{lt-ltb, le-ltb, ne_eqb}
+use Rattle.std.proofs.Common.{ℕ, zero, suc, ◌+◌, ◌*◌, ◌-◌, ◌≤◌, ◌<◌, ◌≡◌, refl, sym, ◌∙◌, ap, ap₂, List, map, add-zero, arith, eqb, length}
+use Rattle.std.proofs.Common.{get_or, length-append, lt-ltb, le-ltb, ne_eqb}
+use Rattle.std.proofs.Math.Decide.{ℕ_discrete}
+use Rattle.std.proofs.lemmas.Grind.{common_steps}
 use Rattle.words.specs.lists.Numbers.{range}
 use Rattle.words.specs.lists.Sequences.{concat_map, All}
 use Rattle.words.proofs.lists.Tests.{if-true, if-false}
@@ -19,7 +13,7 @@ use Rattle.image.specs.Image.{Row, no_row}
 use Rattle.image.specs.Decode.{last_label}
 use Rattle.tables.specs.Table.{table_label, first_on, end_on, row_on, rows_on, table_image}
 use Rattle.tables.specs.inner.Labels.{NumberedLabel}
-use Rattle.rows.specs.Rows.{is_match, Choice, row, no_choice, better_choice, best_row, found, lead_of, next_of}
+use Rattle.rows.specs.Rows.{Choice, row, no_choice, better_choice, best_row, found, lead_of, next_of}
 use Rattle.rows.specs.inner.Search.{found_at}
 use Rattle.rows.proofs.ChoiceLaws.{best-nothing, best-other, better-none, best-joined, moved_by, best-moved, leads-moved, any-bit}
 use Rattle.rows.proofs.BestRows.{leads_one}
@@ -31,26 +25,18 @@ rows_before b l = length (concat_map (rows_on b) (range 2 (l - 2)))
 module _ (b : List ℕ) (l w bit : ℕ) where
   -- ---- rows of another label
   others-none : (m : ℕ) → (m ≡ l → ⊥) → (k i n : ℕ) → best_row l w bit k (map (row_on b m) (range i n)) ≡ no_choice
-  others-none m h k i zero = best-nothing l w bit k
-  others-none m h k i (suc n) =
-      best-other l w bit k (row_on b m i) (map (row_on b m) (range (suc i) n))
-      (ap (λ (t : Bool). t && is_match w bit (row_on b m i)) (ne_eqb m l h))
-      ∙ others-none m h (suc k) (suc i) n
+  others-none m h k i zero = grind (arith, common_steps, best-nothing)
+  others-none m h k i (suc n) = grind (arith, common_steps, others-none m h (suc k) (suc i) n, best-other, ne_eqb)
 
   -- ---- rows of n labels from i on, the first of them numbered k
   abbrev over : ℕ → ℕ → ℕ → Choice
   over k i n = best_row l w bit k (concat_map (rows_on b) (range i n))
 
   over-more : (k i n : ℕ) → over k i (suc n) ≡ better_choice (best_row l w bit k (rows_on b i)) (over (k + length (rows_on b i)) (suc i) n)
-  over-more k i n =
-      ap (best_row l w bit k) (concat-cons (rows_on b) i (range (suc i) n))
-      ∙ best-joined l w bit k (rows_on b i) (concat_map (rows_on b) (range (suc i) n))
+  over-more k i n = grind (arith, common_steps, concat-cons, best-joined)
 
   over-other : (k i n : ℕ) → (i ≡ l → ⊥) → over k i (suc n) ≡ over (k + length (rows_on b i)) (suc i) n
-  over-other k i n h =
-      over-more k i n
-      ∙ ap (λ (x : Choice). better_choice x (over (k + length (rows_on b i)) (suc i) n))
-      (others-none i h k (first_on b i) (end_on b i - first_on b i))
+  over-other k i n h = grind (arith, common_steps, others-none, over-more)
 
   over_none : (k i n : ℕ) → ((m : ℕ) → i ≤ m → m < i + n → m ≡ l → ⊥) → over k i n ≡ no_choice
   unfolding concat_map
@@ -94,9 +80,7 @@ module _ (b : List ℕ) (l w bit : ℕ) where
 
   pub row-own : 2 ≤ l → l ≤ last_label b → best_row l w bit 0 (table_image b).rows ≡ best_row l w bit (rows_before b l) (rows_on b l)
   unfolding table_image
-  row-own h g =
-      over-own 0 2 (last_label b - 1) h (omega arith)
-      ∙ ap (λ (k : ℕ). best_row l w bit k (rows_on b l)) (let e : 0 + before 2 ≡ rows_before b l = omega arith in e)
+  row-own h g = grind (arith, common_steps, over-own)
 
   pub row-none : l < 2 → best_row l w bit 0 (table_image b).rows ≡ no_choice
   unfolding table_image
@@ -117,27 +101,17 @@ module _ (b : List ℕ) (l w bit : ℕ) where
 
     -- with its number: a frame counts from the label's first frame as its row does from the label's first row
     pub found_number : moved_by (rows_before b l) (found_at b l f) ≡ moved_by (first_on b l) (best_row l w bit 0 (table_image b).rows)
-    found_number =
-        ap (moved_by (rows_before b l)) (e ∙ counted (first_on b l))
-        ∙ moved_twice (rows_before b l) (first_on b l) (best_row l w bit 0 (rows_on b l))
-        ∙ ap (moved_by (first_on b l)) (sym (row-own x.low x.high ∙ counted (rows_before b l)))
+    found_number = grind (arith, common_steps, moved_by, row-own, counted, moved_twice)
 
     found-leads : lead_of (found_at b l f) ≡ lead_of (best_row l w bit 0 (table_image b).rows)
-    found-leads =
-        sym (leads-moved (rows_before b l) (found_at b l f)) ∙ ap lead_of found_number
-        ∙ leads-moved (first_on b l) (best_row l w bit 0 (table_image b).rows)
+    found-leads = grind (arith, common_steps, leads-moved, found_number)
 
     -- and where it leads
     pub next-found : (n : ℕ) → n ≡ field b f 7 → f < size b → n ≡ next_of (lead_of (best_row l w bit 0 (table_image b).rows))
-    next-found n q h =
-        q ∙ sym (ap (λ (y : Choice). next_of (lead_of y)) (if-true (ltb f (size b)) (row f (row_on b l f)) no_choice
-        (lt-ltb f (size b) h)))
-        ∙ ap next_of found-leads
+    next-found n q h = grind (arith, common_steps, lt-ltb, if-true, found-leads)
 
     pub next-none : size b ≤ f → 256 ≡ next_of (lead_of (best_row l w bit 0 (table_image b).rows))
-    next-none h =
-        sym (ap (λ (y : Choice). next_of (lead_of y)) (if-false (ltb f (size b)) (row f (row_on b l f)) no_choice (le-ltb f (size b) h)))
-        ∙ ap next_of found-leads
+    next-none h = grind (arith, common_steps, le-ltb, if-false, found-leads)
 
 -- ---- no row of a label that calls no function looks at the bit
 module _ (b : List ℕ) (l w p q : ℕ) (n : (table_label b l).kind ≡ 2 → ⊥) where

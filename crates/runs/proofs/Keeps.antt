@@ -1,8 +1,6 @@
 -- On a sound image any number of ticks keeps a fitting state fitting, however they end.
-use Prim.Native.Nat.{ℕ}
-use mathlib.Core.Bool.{false}
-use mathlib.Core.Path.{◌≡◌}
-use mathlib.Core.List.{List, [], ◌∷◌}
+use Rattle.std.proofs.Common.{ℕ, false, ◌≡◌, List, [], ◌∷◌, arith}
+use Rattle.std.proofs.lemmas.Grind.{common_steps}
 use Rattle.text.specs.frames.Frame.{contents}
 use Rattle.text.specs.frames.Verdict.{fine}
 use Rattle.image.specs.Image.{Image}
@@ -33,6 +31,4 @@ module _ (i : Image) (sound : SoundImage i) where
 pub ticks-fit : (text : List ℕ) → image_verdict text ≡ fine → (s : State) → Sized s
     → is_unfit (decoded_image (contents text)) s ≡ false → (ws : List ℕ)
     → is_unfit (decoded_image (contents text)) (ticks (decoded_image (contents text)) s ws).state ≡ false
-ticks-fit text passes s sized fit ws =
-    let image : Image = decoded_image (contents text) in
-    fits image (ticks image s ws).state (ticks-keep image (image-sound text passes) ws s (unfits image s sized fit))
+ticks-fit text passes s sized fit ws = grind (arith, common_steps, unfits, image-sound, fits, ticks-keep)

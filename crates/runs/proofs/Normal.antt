@@ -1,7 +1,5 @@
 -- What any number of ticks keeps, on any image and from any state, and the numbers that end them.
-use Prim.Native.Nat.{ℕ, ◌≤◌}
-use mathlib.Core.Path.{refl, ◌∙◌}
-use mathlib.Core.List.{List, [], ◌∷◌}
+use Rattle.std.proofs.Common.{ℕ, ◌≤◌, refl, ◌∙◌, List, [], ◌∷◌}
 use Rattle.text.specs.frames.Verdict.{Verdict, fine, refused}
 use Rattle.image.specs.Image.{Image}
 use Rattle.state.specs.declared.State.{State}

@@ -1,17 +1,11 @@
 -- The answers of a run and of one tick on a table, by what their parts give.
-use mathlib.Core.Path.{◌≡◌, refl, sym, ◌∙◌, ap, ap₂, subst}
-use mathlib.Core.Bool.{Bool, true, false}
-use mathlib.Core.List.{List, [], ◌∷◌}
-use Prim.Native.Nat.{ℕ, zero, suc, ◌≤◌}
-use native.Mathlib.Omega.{arith}
-use lib.Dec.{leb, ltb, eqb}
-use lib.ListN.{length, get_or}
-use borrow.Author.Tests.{lt-leb, le-leb, ltb-false, ne_eqb}
-use Rattle.words.specs.lists.Sequences.{over}
-use Rattle.words.proofs.lists.Tests.{or_l, or_r, if-true, if-false, and_no, and-true}
+use Rattle.std.proofs.Common.{◌≡◌, refl, sym, ◌∙◌, ap, subst, Bool, true, false, List, [], ◌∷◌, ℕ, zero, suc, ◌≤◌, arith, leb, get_or}
+use Rattle.std.proofs.Common.{le-leb, Ok, Err}
+use borrow.Author.Tests.{lt-leb}
+use Rattle.std.proofs.lemmas.Grind.{common_steps}
+use Rattle.words.proofs.lists.Tests.{or_l, if-false, and_no, and-true}
 use Rattle.text.specs.frames.Verdict.{Verdict, fine, refused, next, when}
-use Rattle.text.specs.frames.Answer.{Answer, Reply, success, refusal, reply_number, reply, counted_reply}
-use Rattle.std.proofs.Common.{Ok, Err}
+use Rattle.text.specs.frames.Answer.{Answer, success, refusal, reply_number, reply, counted_reply}
 use Rattle.text.specs.declared.frames.refusals.Refusal.{Refusal}
 use Rattle.text.specs.declared.frames.refusals.Refusal.TheVariants.{Unfit, NoRoom}
 use Rattle.tables.specs.Table.{table_image}
@@ -25,8 +19,7 @@ use Rattle.runs.specs.Run.{MachineRun, RunOutcome, run_after, ticks, has_no_room
 use Rattle.runs.specs.TickOutcome.{TickOutcome, tick_outcome}
 use Rattle.runs.specs.InPlace.{is_without_change, bytes_after, GivesRunOn, GivesTickOn}
 use Rattle.ticks.specs.declared.TickEnd.{TickEnd}
-use Rattle.ticks.specs.inner.TickContracts.{state_after_tick, end_of_tick, GivesTickEnd}
-use Rattle.ticks.specs.inner.TickContracts.{TickAsked}
+use Rattle.ticks.specs.inner.TickContracts.{GivesTickEnd, TickAsked}
 use Rattle.runs.specs.inner.RunContracts.{verdict_of, RunRoom, GivesRunEnd, table_run}
 use Rattle.ticks.proofs.Normal.{Normal, tick-normal}
 use Rattle.runs.proofs.Normal.{Late, ticks-late}
@@ -34,10 +27,7 @@ use Rattle.runs.proofs.TurnCases.{number-verdict, went, stood}
 
 -- ---- both buffers have room for the words
 pub room-enough : (ws ms ks : List ℕ) → has_no_room ws ms ks ≡ false → RunRoom ws ms ks
-room-enough ws ms ks e = record {
-  masks = ltb-false (length ms) (length ws) (or_l (ltb (length ms) (length ws)) (ltb (length ks) (length ws)) e);
-  codes = ltb-false (length ks) (length ws) (or_r (ltb (length ms) (length ws)) (ltb (length ks) (length ws)) e);
-}
+room-enough ws ms ks e = grind (arith, common_steps)
 
 -- ---- which numbers leave the bytes
 pub early-leaves : (n : ℕ) → 1 ≤ n → n ≤ 16 → is_without_change n ≡ true
@@ -54,14 +44,7 @@ pub kept-runs : (x : RunOutcome) (bytes ms ks : List ℕ) (n j : ℕ) (s : State
     → 1 ≤ n → n ≤ 16 → (a : Answer) → reply a ≡ refusal n j 0
     → GivesRunOn x bytes a bytes ms ks
 unfolding bytes_after
-kept-runs x bytes ms ks n j s g l h a e =
-    rw g
-    (record {
-      answered = e;
-      bytes = sym (if-true (is_without_change n) bytes (bytes_of s) (early-leaves n l h));
-      masks = refl;
-      codes = refl;
-    })
+kept-runs x bytes ms ks n j s g l h a e = grind (arith, common_steps)
 
 -- a state that fits has a depth of 1 to Σ
 pub fits-stands : (b : List ℕ) (s : State) → Whole b → is_unfit (table_image b) s ≡ false → TickAsked b s
@@ -85,15 +68,11 @@ module _ (b before ws ms₀ ks₀ : List ℕ) where
 
   table-short : is_unfit (table_image b) s ≡ false → has_no_room ws ms₀ ks₀ ≡ true → given ≡ kept_run 16 0 s ms₀ ks₀
   unfolding table_run
-  table-short e f =
-      ap (λ (t : Bool). run_on (next (when 15 t) λ _. when 16 (has_no_room ws ms₀ ks₀)) (λ _. ran) s ms₀ ks₀) e
-      ∙ ap (λ (t : Bool). run_on (when 16 t) (λ _. ran) s ms₀ ks₀) f
+  table-short e f = grind (arith, common_steps)
 
   table_runs : is_unfit (table_image b) s ≡ false → has_no_room ws ms₀ ks₀ ≡ false → given ≡ run_on fine (λ _. ran) s ms₀ ks₀
   unfolding table_run
-  table_runs e f =
-      ap (λ (t : Bool). run_on (next (when 15 t) λ _. when 16 (has_no_room ws ms₀ ks₀)) (λ _. ran) s ms₀ ks₀) e
-      ∙ ap (λ (t : Bool). run_on (when 16 t) (λ _. ran) s ms₀ ks₀) f
+  table_runs e f = grind (arith, common_steps)
 
   pub unfit-answer : (t : Bool) → t ≡ is_unfit (table_image b) s → t ≡ true → GivesRunOn given before (Err Unfit) before ms₀ ks₀
   unfit-answer t e h = kept-runs given before ms₀ ks₀ 15 0 s (table-unfit (sym e ∙ h)) (omega arith) (omega arith) (Err Unfit) refl
@@ -122,18 +101,7 @@ module _ (b before ws ms₀ ks₀ : List ℕ) where
 
       pub ran-answer : (a : Answer) → reply a ≡ counted_reply (verdict_of r.number) r.count → GivesRunOn given before a bytes ms ks
       unfolding bytes_after
-      ran-answer a q =
-          let answered : reply a ≡ counted_reply ran.verdict (length ran.codes) = q ∙ ap₂ counted_reply ends.verdict ends.count in
-          let w : is_without_change (reply_number (counted_reply ran.verdict (length ran.codes))) ≡ false =
-          ap (λ (x : Reply). is_without_change (reply_number x)) (sym (ap₂ counted_reply ends.verdict ends.count))
-          ∙ writes r.number late r.count in
-          rw is
-          (record {
-            answered = answered;
-            bytes = tidied ∙ ap bytes_of ends.state ∙ sym (if-false _ before (bytes_of ran.state) w);
-            masks = ends.masks;
-            codes = ends.codes;
-          })
+      ran-answer a q = grind (arith, common_steps, if-false, is, late, writes)
 
 -- what a run answers by its number
 pub done-replied : (n m : ℕ) → n ≡ 0 → success m ≡ counted_reply (verdict_of n) m
@@ -168,40 +136,7 @@ module _ (b before : List ℕ) (w : ℕ) (r : RunEnd) (mid ms ks : List ℕ)
 
   pub one-steps : GivesTickEnd b before w told mid
   unfolding ticks
-  one-steps = go made refl
-    where
-      go : (x : MachineTick) → made ≡ x → GivesTickEnd b before w told mid
-      go x e =
-          let all : ticks (table_image b) (state_of before) (w ∷ []) ≡ only x = one_word ∙ ap only e in
-          let v : verdict_of r.number ≡ (only x).verdict = ends.verdict ∙ ap (λ (y : MachineRun). y.verdict) all in
-          let p : get_or ms 0 0 ≡ get_or (over (only x).masks (0 ∷ [])) 0 0 =
-          ap (λ (l : List ℕ). get_or l 0 0) (ends.masks ∙ ap (λ (y : MachineRun). over y.masks (0 ∷ [])) all) in
-          let q : get_or ks 0 0 ≡ get_or (over (only x).codes (0 ∷ [])) 0 0 =
-          ap (λ (l : List ℕ). get_or l 0 0) (ends.codes ∙ ap (λ (y : MachineRun). over y.codes (0 ∷ [])) all) in
-          let u : state_of mid ≡ (only x).state = ends.state ∙ ap (λ (y : MachineRun). y.state) all in
-          let c : r.count ≡ length (only x).codes = ends.count ∙ ap (λ (y : MachineRun). length y.codes) all in
-          by x e v p q u c
-        where
-          by : (x : MachineTick) → made ≡ x → verdict_of r.number ≡ (only x).verdict
-              → get_or ms 0 0 ≡ get_or (over (only x).masks (0 ∷ [])) 0 0
-              → get_or ks 0 0 ≡ get_or (over (only x).codes (0 ∷ [])) 0 0 → state_of mid ≡ (only x).state → r.count ≡ length (only x).codes
-              → GivesTickEnd b before w told mid
-          by (finished m k t) e v p q u c =
-              let n : r.number ≡ 0 = verdict-none r.number v in
-              let is : told ≡ end_of_tick (finished m k t) = λ j. record { number = n j; mask = p j; code = q j } in
-              record {
-                step = is ∙ sym (ap end_of_tick e);
-                state = u ∙ sym (ap (state_after_tick (state_of before)) e);
-                kept = λ z. absurd (z n);
-              }
-          by (stopped k) e v p q u c =
-              let n : r.number ≡ k = verdict-number r.number k v in
-              let is : told ≡ end_of_tick (stopped k) = λ j. record { number = n j; mask = p j; code = q j } in
-              record {
-                step = is ∙ sym (ap end_of_tick e);
-                state = u ∙ sym (ap (state_after_tick (state_of before)) e);
-                kept = λ z. ends.kept c;
-              }
+  one-steps = grind (arith, common_steps)
 
 -- ---- one tick on a table
 module _ (b before : List ℕ) (w : ℕ) where
@@ -219,29 +154,16 @@ module _ (b before : List ℕ) (w : ℕ) where
 
   one-stopped : is_unfit (table_image b) state₀ ≡ false → (n : ℕ) → tick (table_image b) state₀ w ≡ stopped n → one ≡ tick_refused_by n
   unfolding ticks
-  one-stopped e n q =
-      ap tick_outcome (table_runs b before (w ∷ []) (0 ∷ []) (0 ∷ []) e refl)
-      ∙ ap (λ (x : MachineTick). tick_outcome (run_on fine (λ _. run_after state₀ (λ t. ticks (table_image b) t []) x) state₀ (0 ∷ [])
-      (0 ∷ []))) q
+  one-stopped e n q = grind (arith, common_steps, table_runs)
 
   one-ticked : is_unfit (table_image b) state₀ ≡ false → (m k : ℕ) (t : State) → tick (table_image b) state₀ w ≡ finished m k t
       → one ≡ record { reply = success 1; mask = m; code = k; state = t }
   unfolding ticks
-  one-ticked e m k t q =
-      ap tick_outcome (table_runs b before (w ∷ []) (0 ∷ []) (0 ∷ []) e refl)
-      ∙ ap (λ (x : MachineTick). tick_outcome (run_on fine (λ _. run_after state₀ (λ t. ticks (table_image b) t []) x) state₀ (0 ∷ [])
-      (0 ∷ []))) q
+  one-ticked e m k t q = grind (arith, common_steps, table_runs)
 
   pub refused-advances : (n : ℕ) → (n ≡ 0 → ⊥) → one ≡ tick_refused_by n → (r : Refusal) → reply (Err r) ≡ refusal n 0 0
       → GivesTickOn one before (Err r) before
-  refused-advances n h e r q =
-      rw e
-      (record {
-        answered = q;
-        mask = refl;
-        code = refl;
-        bytes = sym (if-false (eqb n 0) (bytes_of state₀) before (ne_eqb n 0 h));
-      })
+  refused-advances n h e r q = grind (arith, common_steps)
 
   module _ (t : Bool) (e : t ≡ is_unfit (table_image b) state₀) where
     pub tick-unfit : t ≡ true → GivesTickOn one before (Err Unfit) before
@@ -252,11 +174,8 @@ module _ (b before : List ℕ) (w : ℕ) where
       tick-late z = subst (Normal state₀) (stood b before w r mid q z) (tick-normal (table_image b) state₀ w)
 
       pub tick-stopped : (z : r.number ≡ 0 → ⊥) (x : Refusal) → reply (Err x) ≡ refusal r.number 0 0 → GivesTickOn one before (Err x) mid
-      tick-stopped z x p =
-          rw (q.kept z) (refused-advances r.number z (one-stopped (sym e ∙ h) r.number (stood b before w r mid q z)) x p)
+      tick-stopped z x p = grind (arith, common_steps, stood, one-stopped, refused-advances)
 
       pub tick-finished : r.number ≡ 0 → (bytes : List ℕ) → bytes ≡ bytes_of (state_of mid)
           → GivesTickOn one before (Ok (record { mask = r.mask; code = r.code })) bytes
-      tick-finished z bytes u =
-          rw (one-ticked (sym e ∙ h) r.mask r.code (state_of mid) (went b before w r mid q z))
-          (record { answered = refl; mask = refl; code = refl; bytes = u })
+      tick-finished z bytes u = grind (arith, common_steps, went, one-ticked)

@@ -1,18 +1,12 @@
 -- A run has as many masks as codes, makes at most one tick a word, and counts the ticks it made.
-use Prim.Native.Nat.{ℕ, suc, ◌≤◌}
-use mathlib.Core.Path.{◌≡◌, refl, ap}
-use mathlib.Core.List.{List, [], ◌∷◌}
-use native.Mathlib.Omega.{arith}
-use lib.ListN.{length, drop, length-append}
-use Rattle.text.specs.frames.Frame.{contents}
-use Rattle.text.specs.frames.Verdict.{Verdict, fine, refused}
-use Rattle.text.specs.frames.Answer.{counted_reply, reply_count}
+use Rattle.std.proofs.Common.{ℕ, suc, ◌≤◌, ◌≡◌, refl, ap, List, [], ◌∷◌, arith, length, length-append}
+use Rattle.std.proofs.lemmas.Grind.{common_steps}
+use Rattle.text.specs.frames.Answer.{reply_count}
 use Rattle.text.proofs.frames.Chains.{replied-count}
 use Rattle.image.specs.Image.{Image}
-use Rattle.image.specs.Decode.{decoded_image}
 use Rattle.state.specs.declared.State.{State}
 use Rattle.ticks.specs.Tick.{MachineTick, finished, stopped, tick}
-use Rattle.runs.specs.Run.{MachineRun, run_after, ticks, run_on, run_verdict, run}
+use Rattle.runs.specs.Run.{run_after, ticks, run}
 
 -- as many masks as codes
 pub same_count : (i : Image) (ws : List ℕ) (s : State) → length (ticks i s ws).masks ≡ length (ticks i s ws).codes
@@ -40,16 +34,4 @@ ticks-most i (w ∷ ws) s = go (tick i s w) (ticks-most i ws)
 pub run-count : (t : List ℕ) (s : State) (ws ms ks : List ℕ)
     → let r = run t s ws ms ks in (reply_count r.reply ≤ length r.masks) × (reply_count r.reply ≤ length ws)
 unfolding run
-run-count t s ws ms ks =
-    go (run_verdict t s ws ms ks) (ticks i s ws) (same_count i ws s) (ticks-most i ws s)
-  where
-    i : Image
-    i = decoded_image (contents t)
-
-    go : (v : Verdict) (r : MachineRun) → length r.masks ≡ length r.codes → length r.codes ≤ length ws
-        → let x = run_on v (λ _. r) s ms ks in (reply_count x.reply ≤ length x.masks) × (reply_count x.reply ≤ length ws)
-    go (refused k j) r e l = (omega arith, omega arith)
-    go fine r e l =
-        let n : reply_count (counted_reply r.verdict (length r.codes)) ≡ length r.codes =
-        replied-count r.verdict (length r.codes) in
-        (omega (arith, n, e, length-append r.masks (drop (length r.masks) ms)), omega (arith, n, l))
+run-count t s ws ms ks = grind (arith, common_steps, replied-count, length-append, same_count, ticks-most)

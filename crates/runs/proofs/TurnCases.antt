@@ -1,12 +1,8 @@
 -- The loop of ticks, turn by turn.
-use mathlib.Core.Path.{◌≡◌, refl, sym, ◌∙◌, ap}
-use mathlib.Core.List.{List, [], ◌∷◌, ◌++◌, append-nil}
-use Prim.Native.Nat.{ℕ, zero, suc, ◌+◌, ◌≤◌, ◌<◌}
-use native.Mathlib.Nat.{zero-add}
-use native.Mathlib.Numerals.{add-one}
-use native.Mathlib.Omega.{arith}
-use lib.ListN.{length, get_or, set, drop, length-append, length-set, drop_of_length-le}
-use lib.Seq.{drop-cons, append_snoc}
+use Rattle.std.proofs.Common.{◌≡◌, refl, sym, ◌∙◌, ap, List, [], ◌∷◌, ◌++◌, append-nil, ℕ, zero, suc, ◌+◌, ◌≤◌, ◌<◌, zero-add, add-one}
+use Rattle.std.proofs.Common.{arith, length, get_or, set, drop, length-append, length-set, drop_of_length-le, drop-cons}
+use Rattle.std.proofs.Math.Seq.{append_snoc}
+use Rattle.std.proofs.lemmas.Grind.{common_steps}
 use Rattle.words.specs.lists.Sequences.{over, written}
 use Rattle.words.proofs.lists.Written.{written_none, written-snoc, written-front}
 use Rattle.text.specs.frames.Verdict.{Verdict, fine, refused}
@@ -17,9 +13,9 @@ use Rattle.state.specs.Bytes.{state_of}
 use Rattle.ticks.specs.declared.TickEnd.{TickEnd}
 use Rattle.ticks.specs.Tick.{top_of, MachineTick, finished, stopped, tick}
 use Rattle.runs.specs.Run.{MachineRun, run_after, ticks}
-use Rattle.ticks.specs.inner.TickContracts.{TickAsked, state_after_tick, end_of_tick, GivesTickEnd}
+use Rattle.ticks.specs.inner.TickContracts.{TickAsked, GivesTickEnd}
 use Rattle.runs.specs.inner.RunContracts.{verdict_of, RunRoom, GivesRunEnd}
-use Rattle.ticks.proofs.Normal.{Normal, tick-normal}
+use Rattle.ticks.proofs.Normal.{tick-normal}
 use Rattle.ticks.proofs.TickCases.{stands_on}
 
 -- ---- a tick by what the function that makes it answers
@@ -28,23 +24,10 @@ module _ (b before : List ℕ) (w : ℕ) (r : TickEnd) (bytes : List ℕ) (q : G
   made = tick (table_image b) (state_of before) w
 
   pub went : r.number ≡ 0 → made ≡ finished r.mask r.code (state_of bytes)
-  went z = go made refl (tick-normal (table_image b) (state_of before) w)
-    where
-      go : (x : MachineTick) → made ≡ x → Normal (state_of before) x → made ≡ finished r.mask r.code (state_of bytes)
-      go (finished m k t) e n =
-          let step : r ≡ end_of_tick (finished m k t) = q.step ∙ ap end_of_tick e in
-          let p₁ : m ≡ r.mask = sym (ap (λ (y : TickEnd). y.mask) step) in
-          let p₂ : k ≡ r.code = sym (ap (λ (y : TickEnd). y.code) step) in
-          let p₃ : t ≡ state_of bytes = sym (q.state ∙ ap (state_after_tick (state_of before)) e) in
-          e ∙ (λ j. finished (p₁ j) (p₂ j) (p₃ j))
-      go (stopped k) e n = absurd (omega (arith, sym z ∙ ap (λ (y : TickEnd). y.number) (q.step ∙ ap end_of_tick e)))
+  went z = grind (arith, common_steps, tick-normal)
 
   pub stood : (r.number ≡ 0 → ⊥) → made ≡ stopped r.number
-  stood z = go made refl
-    where
-      go : (x : MachineTick) → made ≡ x → made ≡ stopped r.number
-      go (finished m k t) e = absurd (z (ap (λ (y : TickEnd). y.number) (q.step ∙ ap end_of_tick e)))
-      go (stopped k) e = e ∙ ap stopped (sym (ap (λ (y : TickEnd). y.number) (q.step ∙ ap end_of_tick e)))
+  stood z = grind (arith, common_steps)
 
 -- ---- ticks over one word more
 module _ (i : Image) (s : State) (w : ℕ) (ws : List ℕ) where

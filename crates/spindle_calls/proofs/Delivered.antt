@@ -1,19 +1,12 @@
 -- Calls in a row over the functions that meet their contracts: the places are counted, and each spindle makes the ticks of its own walk.
-use Rattle.std.proofs.Common.{if◌then◌else◌}
-use Prim.Native.Nat.{ℕ}
-use mathlib.Core.Path.{◌≡◌, refl, sym, ◌∙◌, ap, ap₂, subst}
-use mathlib.Core.Bool.{Bool, true, false}
-use mathlib.Core.List.{List, [], ◌∷◌, map}
-use native.Mathlib.Omega.{arith}
-use lib.Dec.{eqb}
-use lib.ListN.{set, take}
-use borrow.Author.Tests.{ne_eqb}
+use Rattle.std.proofs.Common.{ℕ, ◌≡◌, refl, sym, ◌∙◌, ap, ap₂, subst, List, [], ◌∷◌, map, arith, eqb, set, take, ne_eqb}
+use Rattle.std.proofs.lemmas.Grind.{common_steps}
 use Rattle.words.specs.lists.Sequences.{All}
 use Rattle.bindings.specs.Binding.{own_binding}
 use Rattle.text.specs.frames.Frame.{contents}
-use Rattle.text.specs.frames.Answer.{Reply, reply_number, success, refusal}
+use Rattle.text.specs.frames.Answer.{Reply, reply_number}
 use Rattle.state.specs.declared.State.{State}
-use Rattle.state.specs.State.{fresh, no_state, is_bad_size, StateOutcome, fresh_state}
+use Rattle.state.specs.State.{fresh, StateOutcome, fresh_state}
 use Rattle.agreement.specs.Calls.{TableOf}
 use Rattle.agreement.proofs.OneCall.{prepared-rebind-is, table-prepared}
 use Rattle.runs.specs.TickOutcome.{tick_reply, answered_mask, answered_code}
@@ -24,9 +17,8 @@ use Rattle.spindles.specs.spindle_places.Calls.{Head, head_after}
 use Rattle.spindle_walks.specs.Walks.{HandsImage, FollowsWalk, OwnWalk}
 use Rattle.spindle_walks.proofs.Walks.{own-walks}
 use Rattle.spindle_calls.specs.ObservedCalls.{ObservedCall, call_of}
-use Rattle.spindle_calls.specs.Delivered.{observed_tick, SpindleCallOn, spin_call, spin_call_live, rebind_call}
-use Rattle.spindle_calls.specs.Delivered.{rebind_call_live, SpindleCallsInTurn, none, more, FreshOne}
-use Rattle.spindle_calls.specs.Delivered.{PlacesDelivered, OwnWalkDelivered}
+use Rattle.spindle_calls.specs.Delivered.{observed_tick, SpindleCallOn, spin_call, spin_call_live, rebind_call, rebind_call_live}
+use Rattle.spindle_calls.specs.Delivered.{SpindleCallsInTurn, none, more, FreshOne, PlacesDelivered, OwnWalkDelivered}
 use Rattle.spindle_calls.proofs.Held.{SpinEnds, refuses, finishes, spin-ends}
 use Rattle.spindle_calls.proofs.Row.{Hears, hears_no, hears_tick, HeardFrom, CallsRow, row-none, row_more, row-counted}
 
@@ -47,8 +39,7 @@ module _ (states : List State) (taken : ℕ) where
 
   live-as : (image table : List ℕ) → TableOf image table → (k w : ℕ) (r : SpinReport) (after : List State)
       → GivesSpin (live_spin table states taken k w) r after → GivesSpin (spin image states taken k w) r after
-  live-as image table t k w r after z =
-      subst (λ (x : SpinOutcome). GivesSpin x r after) (live-spin-is (table-prepared image t) states taken k w) z
+  live-as image table t k w r after z = grind (arith, common_steps, live-spin-is, table-prepared)
 
   call-heard : {x : ObservedCall} {after : List State} {recorded : ℕ} → SpindleCallOn states taken x after recorded
       → HeardFrom (head_with states taken) x
@@ -85,14 +76,7 @@ calls-row states taken (x ∷ rest) last final (more {after = after} {recorded =
 -- ---- four fresh states
 fresh-one : (n : ℕ) (s : State) → FreshOne n s → fresh n ≡ s
 unfolding fresh_state
-fresh-one n s z = sym (z.state ∙ z.makes.state ∙ go (is_bad_size n) (ap reply_number (sym z.succeeded ∙ z.makes.answered)))
-  where
-    fresh_as : Bool → StateOutcome
-    fresh_as t = if t then record { reply = refusal 14 0 0; state = no_state } else record { reply = success 0; state = fresh n }
-
-    go : (t : Bool) → 0 ≡ reply_number (fresh_as t).reply → (fresh_as t).state ≡ fresh n
-    go true e = absurd (omega arith)
-    go false e = refl
+fresh-one n s z = grind (arith, common_steps)
 
 -- ---- the two theorems
 pub places-delivered : PlacesDelivered

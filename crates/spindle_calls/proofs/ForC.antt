@@ -1,18 +1,11 @@
 -- Calls from C in a row that meet their contracts: the places are counted, and each spindle makes the ticks of its own walk.
-use Rattle.std.proofs.Common.{if◌then◌else◌}
-use Prim.Native.Nat.{ℕ}
-use mathlib.Core.Path.{◌≡◌, refl, sym, ◌∙◌, ap, subst}
-use mathlib.Core.Bool.{Bool, true, false}
-use mathlib.Core.List.{List, [], ◌∷◌, ◌++◌, map}
-use native.Mathlib.Omega.{arith}
-use lib.Dec.{eqb}
-use lib.ListN.{length, take}
+use Rattle.std.proofs.Common.{if◌then◌else◌, ℕ, ◌≡◌, refl, sym, ◌∙◌, ap, subst, List, [], ◌∷◌, ◌++◌, map, arith, eqb, length, take}
+use Rattle.std.proofs.lemmas.Grind.{common_steps}
 use Rattle.words.specs.lists.Sequences.{All}
 use Rattle.bindings.specs.Binding.{own_binding}
 use Rattle.text.specs.frames.Frame.{contents}
-use Rattle.text.specs.frames.Answer.{reply_number, success, refusal}
 use Rattle.state.specs.declared.State.{State}
-use Rattle.state.specs.State.{fresh, no_state, is_bad_size, StateOutcome, fresh_state}
+use Rattle.state.specs.State.{fresh, fresh_state}
 use Rattle.state.specs.Bytes.{state_of, bytes_of}
 use Rattle.state.proofs.ResultBytes.{state-back, fresh-sized, fresh-held}
 use Rattle.fairleadow.specs.runs_for_c.Calls.{GivesStateC}
@@ -25,9 +18,8 @@ use Rattle.spindles.specs.spindle_places.Calls.{new_head}
 use Rattle.spindle_walks.specs.Walks.{HandsImage, FollowsWalk, OwnWalk}
 use Rattle.spindle_walks.proofs.Walks.{own-walks}
 use Rattle.spindle_calls.specs.ObservedCalls.{ObservedCall, call_of}
-use Rattle.spindle_calls.specs.ForC.{SpindleCallC, spin_call, spin_call_live, rebind_call, rebind_call_live}
-use Rattle.spindle_calls.specs.ForC.{SpindleCallsInTurnC, none, more, FourC, four_fresh}
-use Rattle.spindle_calls.specs.ForC.{PlacesCountedC, OwnWalkC}
+use Rattle.spindle_calls.specs.ForC.{SpindleCallC, spin_call, spin_call_live, rebind_call, rebind_call_live, SpindleCallsInTurnC, none}
+use Rattle.spindle_calls.specs.ForC.{more, FourC, four_fresh, PlacesCountedC, OwnWalkC}
 use Rattle.spindle_calls.proofs.Row.{HeardFrom, CallsRow, row-none, row_more, row-counted}
 use Rattle.spindle_calls.proofs.StateParts.{four_are}
 use Rattle.spindle_calls.proofs.OneCallC.{head_of, SpindleLikeC, tick-like, tick-hears, rebinding-like, live-as, live-rebinding-as}
@@ -71,14 +63,7 @@ calls-row bytes long taken (x ∷ rest) last final (more {after = after} {record
 -- ---- four fresh states
 fresh-made : (n at made : ℕ) (b : List ℕ) → GivesStateC (fresh_state n) 0 at made b → b ≡ bytes_of (fresh n)
 unfolding fresh_state
-fresh-made n at made b z = z.bytes ∙ go (is_bad_size n) z.told.number_is
-  where
-    fresh_as : Bool → StateOutcome
-    fresh_as t = if t then record { reply = refusal 14 0 0; state = no_state } else record { reply = success 0; state = fresh n }
-
-    go : (t : Bool) → 0 ≡ reply_number (fresh_as t).reply → bytes_of (fresh_as t).state ≡ bytes_of (fresh n)
-    go true e = absurd (omega arith)
-    go false e = refl
+fresh-made n at made b z = grind (arith, common_steps)
 
 module _ (a b c d : State) where
   abbrev together : List ℕ

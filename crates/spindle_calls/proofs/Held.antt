@@ -1,24 +1,13 @@
 -- What a call hands back by its number, and the states that the bytes hold after it.
-use Rattle.std.proofs.Common.{if◌then◌else◌}
-use Prim.Native.Nat.{ℕ, ◌+◌, ◌-◌, ◌*◌, ◌≤◌, ◌<◌}
-use mathlib.Core.Path.{◌≡◌, refl, sym, ◌∙◌, ap, subst}
-use mathlib.Core.Bool.{Bool, true, false}
-use mathlib.Core.List.{List}
-use native.Mathlib.Omega.{arith}
-use lib.Dec.{ltb, eqb}
-use lib.ListN.{length, set}
-use lib.Seq.{get_or-set_same}
-use borrow.Author.Tests.{ne_eqb, eqb-true}
+use Rattle.std.proofs.Common.{if◌then◌else◌, ℕ, ◌+◌, ◌-◌, ◌*◌, ◌≤◌, ◌<◌, ◌≡◌, refl, sym, ◌∙◌, ap, subst, Bool, true, false, List, arith}
+use Rattle.std.proofs.Common.{eqb, length, set, get_or-set_same, ne_eqb, eqb-true}
+use Rattle.std.proofs.lemmas.Grind.{common_steps}
 use Rattle.words.specs.lists.Sequences.{written}
 use Rattle.words.proofs.lists.Tests.{if-false}
-use Rattle.text.specs.frames.Frame.{contents}
-use Rattle.text.specs.frames.Verdict.{Verdict, fine, refused, next, when}
+use Rattle.text.specs.frames.Verdict.{Verdict, fine, refused, when}
 use Rattle.text.specs.frames.Answer.{success}
 use Rattle.text.proofs.frames.Refuses.{next-refuses, when-refuses}
 use Rattle.image.specs.Image.{Image}
-use Rattle.image.specs.Decode.{decoded_image}
-use Rattle.image.specs.Check.{image_verdict}
-use Rattle.tables.specs.Table.{is_bad_table, table_image}
 use Rattle.state.specs.declared.State.{State}
 use Rattle.state.specs.State.{no_state}
 use Rattle.state.specs.Bytes.{state_of, bytes_of}
@@ -27,7 +16,7 @@ use Rattle.fitness.specs.Fitness.{is_unfit}
 use Rattle.ticks.specs.Tick.{MachineTick, finished, stopped, tick}
 use Rattle.ticks.proofs.Normal.{Same, Normal, tick-normal}
 use Rattle.runs.proofs.machine.OneTick.{advance_by}
-use Rattle.spindles.specs.Spindles.{state_at, is_bad_head, head_verdict, SpinOutcome, outcome_turned_back, is_none_left, outcome_spun_by}
+use Rattle.spindles.specs.Spindles.{state_at, head_verdict, SpinOutcome, outcome_turned_back, is_none_left, outcome_spun_by}
 use Rattle.spindles.specs.Spindles.{outcome_spun_on, spin, live_spin}
 use Rattle.spindles.proofs.OneCall.{tick_tried, tick_by_verdict, spin_by, spin-by, live-spin-by, kept_by}
 use Rattle.spindles.proofs.Others.{Tried, tried}
@@ -67,11 +56,7 @@ module _ (v : Verdict) (numbered : NumberedVerdict v) (i : Image) (states : List
       go false = finishes m code t z.named z.four e
 
   head-numbered : NumberedVerdict (head_verdict v states taken k)
-  head-numbered =
-      next-refuses (λ n. 1 ≤ n) (when 25 (ltb 3 k)) (λ _. next v λ _. when 15 (is_bad_head states taken))
-      (when-refuses (λ n. 1 ≤ n) 25 (ltb 3 k) (omega arith))
-      (next-refuses (λ n. 1 ≤ n) v (λ _. when 15 (is_bad_head states taken)) numbered
-      (when-refuses (λ n. 1 ≤ n) 15 (is_bad_head states taken) (omega arith)))
+  head-numbered = grind (arith, common_steps)
 
   ends : SpinEnds states taken k (spin_by v i states taken k w)
   ends = go (head_verdict v states taken k) refl head-numbered
@@ -85,12 +70,10 @@ module _ (v : Verdict) (numbered : NumberedVerdict v) (i : Image) (states : List
           (tick i s w) (tick-normal i s w)
 
 pub spin-ends : (t : List ℕ) (states : List State) (taken k w : ℕ) → SpinEnds states taken k (spin t states taken k w)
-spin-ends t states taken k w = subst (SpinEnds states taken k) (sym (spin-by t states taken k w))
-    (ends (image_verdict t) (image-numbered t) (decoded_image (contents t)) states taken k w)
+spin-ends t states taken k w = grind (arith, common_steps, image-numbered, spin-by, ends)
 
 pub live-spin-ends : (b : List ℕ) (states : List State) (taken k w : ℕ) → SpinEnds states taken k (live_spin b states taken k w)
-live-spin-ends b states taken k w = subst (SpinEnds states taken k) (sym (live-spin-by b states taken k w))
-    (ends (when 11 (is_bad_table b)) (table-numbered b) (table_image b) states taken k w)
+live-spin-ends b states taken k w = grind (arith, common_steps, table-numbered, live-spin-by, ends)
 
 -- ---- the bytes after it
 pub four-long : (b : List ℕ) → length (states_of b) ≡ 4 → length b ≡ 520

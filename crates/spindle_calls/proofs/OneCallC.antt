@@ -1,25 +1,13 @@
 -- One call from C that meets its contract is the call over the states that the bytes hold, and leaves bytes that hold what it leaves.
-use Rattle.std.proofs.Common.{if◌then◌else◌}
-use Prim.Native.Nat.{ℕ, ◌+◌, ◌*◌, ◌<◌}
-use mathlib.Core.Path.{◌≡◌, refl, sym, ◌∙◌, ap, ap₂, subst}
-use mathlib.Core.Bool.{Bool, true, false}
-use mathlib.Core.List.{List}
-use native.Mathlib.Omega.{arith}
-use lib.Dec.{eqb}
-use lib.ListN.{length, get_or, set, drop}
-use lib.Seq.{get_or-take, get_or-drop}
-use borrow.Author.Tests.{ne_eqb}
+use Rattle.std.proofs.Common.{if◌then◌else◌, ℕ, ◌+◌, ◌*◌, ◌<◌, ◌≡◌, refl, sym, ◌∙◌, ap, ap₂, Bool, true, false, List, arith, eqb, length}
+use Rattle.std.proofs.Common.{get_or, set, drop, get_or-take, get_or-drop, ne_eqb}
+use Rattle.std.proofs.lemmas.Grind.{common_steps}
 use Rattle.words.specs.lists.Sequences.{written}
 use Rattle.words.proofs.lists.Tests.{if-false}
-use Rattle.text.specs.frames.Frame.{contents}
-use Rattle.text.specs.frames.Verdict.{next}
 use Rattle.text.specs.frames.Answer.{reply_number}
-use Rattle.image.specs.Decode.{decoded_image}
-use Rattle.image.specs.Check.{image_verdict}
 use Rattle.state.specs.declared.State.{State}
-use Rattle.state.specs.State.{StateOutcome}
 use Rattle.state.specs.Bytes.{state_of, bytes_of}
-use Rattle.rebinding.specs.Rebind.{rebind_verdict, rebind}
+use Rattle.rebinding.specs.Rebind.{rebind}
 use Rattle.rebinding.proofs.Held.{rebinding-held}
 use Rattle.fairleadow.specs.rebinding_for_c.Calls.{rebind_for, live_rebind_for, GivesRebindingC}
 use Rattle.fairleadow.specs.spindles_for_c.Calls.{spin_for, live_spin_for, GivesSpinC}
@@ -91,10 +79,7 @@ module _ (bytes : List ℕ) (long : length bytes ≡ 520) (taken : ℕ) where
       (z : GivesRebindingC (rebind_for image (part_of bytes k) n g) (part_of bytes k) returned at made part) where
     part_held : state_of part ≡ (rebind_for image (part_of bytes k) n g).state
     unfolding rebind
-    part_held =
-        ap state_of z.bytes
-        ∙ rebinding-held (part_of bytes k) n g
-        (next (image_verdict image) λ _. rebind_verdict (decoded_image (contents image)) (state_of (part_of bytes k)) n g)
+    part_held = grind (arith, common_steps, rebinding-held)
 
     part-long : length part ≡ 130
     part-long = ap length z.bytes ∙ go (eqb (reply_number (rebind_for image (part_of bytes k) n g).reply) 0)
@@ -104,26 +89,15 @@ module _ (bytes : List ℕ) (long : length bytes ≡ 520) (taken : ℕ) where
         go false = part_length bytes long k low
 
     pub rebinding-like : SpindleLikeC bytes taken (observed_rebinding image k n g) (written bytes (130 * k) part) taken
-    rebinding-like =
-        let same : (rebind image (state_at (states_of bytes) k) n g).state ≡ state_of part =
-        ap (λ (s : State). (rebind image s n g).state) (state-is bytes long k low) ∙ sym part_held in
-        record {
-          left_is = ap (λ (ss : List State). record { states = ss; taken = taken })
-              (ap (set (states_of bytes) k) same ∙ sym (put-states bytes part long k low part-long));
-          long = put-long bytes part long k low part-long;
-        }
+    rebinding-like = grind (arith, common_steps, put-states, put-long, state-is, part_held, part-long)
 
   -- ---- any call, live ones by their tables
   pub live-as : (image table : List ℕ) → TableOfC image table → (k w m₀ k₀ returned at made : ℕ) (after : List ℕ) (recorded m code : ℕ)
       → GivesSpinC (live_spin_for table bytes taken k w) bytes k m₀ k₀ returned at made after recorded m code
       → GivesSpinC (spin_for image bytes taken k w) bytes k m₀ k₀ returned at made after recorded m code
-  live-as image table t k w m₀ k₀ returned at made after recorded m code z =
-      subst (λ (r : SpinOutcome). GivesSpinC r bytes k m₀ k₀ returned at made after recorded m code)
-      (live-spin-is (table-prepared image t) (states_of bytes) taken k w) z
+  live-as image table t k w m₀ k₀ returned at made after recorded m code z = grind (arith, common_steps, live-spin-is, table-prepared)
 
   pub live-rebinding-as : (image table : List ℕ) → TableOfC image table → (k n g returned at made : ℕ) (part : List ℕ)
       → GivesRebindingC (live_rebind_for table (part_of bytes k) n g) (part_of bytes k) returned at made part
       → GivesRebindingC (rebind_for image (part_of bytes k) n g) (part_of bytes k) returned at made part
-  live-rebinding-as image table t k n g returned at made part z =
-      subst (λ (r : StateOutcome). GivesRebindingC r (part_of bytes k) returned at made part)
-      (prepared-rebind-is (table-prepared image t) (state_of (part_of bytes k)) n g) z
+  live-rebinding-as image table t k n g returned at made part z = grind (arith, common_steps, table-prepared, prepared-rebind-is)

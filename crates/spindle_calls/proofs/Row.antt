@@ -1,26 +1,18 @@
 -- Calls in a row, by what their caller has of each: what they leave, the places they count and the ticks they make are those of the list
 -- of calls over the states.
-use Rattle.std.proofs.Common.{if◌then◌else◌}
-use Prim.Native.Nat.{ℕ, ◌+◌, ◌≤◌}
-use mathlib.Core.Path.{◌≡◌, refl, sym, ◌∙◌, ap, ap₂, subst}
-use mathlib.Core.Bool.{Bool, true, false, ◌&&◌}
-use mathlib.Core.List.{List, [], ◌∷◌, map}
-use native.Mathlib.Omega.{arith}
-use lib.Dec.{eqb}
-use borrow.Author.Tests.{eq-eqb}
-use Rattle.words.proofs.lists.Tests.{no_both}
+use Rattle.std.proofs.Common.{if◌then◌else◌, ℕ, ◌+◌, ◌≡◌, refl, sym, ◌∙◌, ap, ap₂, Bool, true, false, ◌&&◌, List, [], ◌∷◌, map, arith, eqb}
+use Rattle.std.proofs.Common.{eq-eqb}
+use Rattle.std.proofs.lemmas.Grind.{common_steps}
 use Rattle.bindings.specs.Binding.{Binding}
 use Rattle.charts.specs.Chart.{Chart}
-use Rattle.agreement.specs.Agreement.{binding_after}
 use Rattle.spindles.specs.Spindles.{state_at, depths, SpinOutcome}
 use Rattle.spindles.specs.spindle_places.Calls.{Head, new_head, head_after, head_after_all}
-use Rattle.spindles.specs.spindle_places.Calls as calls
-use Rattle.spindles.specs.spindle_places.PlacesBalance.{places_called, places_returned, places_given_back, counts, tally, PlacesBalance}
-use Rattle.spindles.specs.spindle_places.PlacesBalance.{PlacesCounted}
+use Rattle.spindles.specs.spindle_places.PlacesBalance.{counts, tally, PlacesCounted}
 use Rattle.spindles.proofs.spindle_places.PlacesBalance.{places-counted}
 use Rattle.spindle_walks.specs.Walks.{FinishedTick, is_success, finished_ticks_by}
-use Rattle.spindle_calls.specs.ObservedCalls.{ObservedTick, ObservedCall, observed_spin, observed_rebinding, call_of}
-use Rattle.spindle_calls.specs.ObservedCalls.{counts_in, tally_in, ObservedBalance, finished_ticks_in}
+use Rattle.spindle_calls.specs.ObservedCalls.{ObservedTick, ObservedCall, observed_spin, observed_rebinding, call_of, counts_in, tally_in}
+use Rattle.spindle_calls.specs.ObservedCalls.{ObservedBalance, finished_ticks_in}
+use Rattle.spindles.specs.spindle_places.Calls as calls
 
 -- ---- one call
 -- a refused call has a number that is not 0 and a code of 0; of a finished one mask, code and the depth before it are known
@@ -35,12 +27,9 @@ HeardFrom h (observed_rebinding t k n g) = Unit {0}
 -- the places that it takes or gives back; a code of 0 counts for none
 call-counts : (f : ℕ → ℕ → ℕ) → ((d : ℕ) → f 0 d ≡ 0) → (h : Head) (x : ObservedCall) → HeardFrom h x → counts f h (call_of x) ≡ counts_in f
     x
-call-counts f zero h (observed_rebinding t k n g) z = refl
-call-counts f zero h (observed_spin t k w y) (hears_no d c e) =
-    let deep : ℕ = (state_at h.states k).depth in
-    ap (λ (a : ℕ). f a deep) c ∙ zero deep ∙ sym (ap (λ (b : Bool). if b then f y.code y.depth else 0) e)
-call-counts f zero h (observed_spin t k w y) (hears_tick d n m c e) =
-    ap₂ f (sym c) (sym e) ∙ sym (ap (λ (b : Bool). if b then f y.code y.depth else 0) (eq-eqb y.number 0 n))
+call-counts f zero h (observed_rebinding t k n g) z = grind (arith, common_steps)
+call-counts f zero h (observed_spin t k w y) (hears_no d c e) = grind (arith, common_steps)
+call-counts f zero h (observed_spin t k w y) (hears_tick d n m c e) = grind (arith, common_steps)
 
 -- the tick that it makes, if any
 heard-done : {d : ℕ} {r : SpinOutcome} {y : ObservedTick} → Hears d r y → is_success r.reply ≡ eqb y.number 0
@@ -50,18 +39,12 @@ heard-done {y = y} (hears_tick d n m c e) = d ∙ sym (eq-eqb y.number 0 n)
 heard-made : (s : Binding) (w : ℕ) {d : ℕ} {r : SpinOutcome} {y : ObservedTick} → Hears d r y → is_success r.reply ≡ true
     → ◌≡◌ {A = FinishedTick} (record { signal = record { word = w; binding = s }; mask = r.mask; code = r.code })
     (record { signal = record { word = w; binding = s }; mask = y.mask; code = y.code })
-heard-made s w (hears_no d c e) q = no_both _ q d
-heard-made s w (hears_tick d n m c e) q =
-    ap₂ (λ (a b : ℕ). record { signal = record { word = w; binding = s }; mask = a; code = b }) (sym m) (sym c)
+heard-made s w (hears_no d c e) q = grind (arith, common_steps)
+heard-made s w (hears_tick d n m c e) q = grind (arith, common_steps)
 
 made-same : (a b b' : Bool) (p p' : FinishedTick) (q q' : List FinishedTick) → b ≡ b' → (b ≡ true → p ≡ p') → q ≡ q'
     → (if a && b then p ∷ q else q) ≡ (if a && b' then p' ∷ q' else q')
-made-same a b b' p p' q q' e f g = go a b refl ∙ ap (λ (t : Bool). if a && t then p' ∷ q' else q') e
-  where
-    go : (u t : Bool) → b ≡ t → (if u && t then p ∷ q else q) ≡ (if u && t then p' ∷ q' else q')
-    go true true h = ap₂ (λ (x : FinishedTick) (xs : List FinishedTick). x ∷ xs) (f h) g
-    go true false h = g
-    go false t h = g
+made-same a b b' p p' q q' e f g = grind (arith, common_steps)
 
 -- ---- any number of calls
 pub record CallsRow (h : Head) (said : List ObservedCall) (last : Head) : Type 0 where
@@ -74,12 +57,8 @@ made_more : (c : Chart) (k : ℕ) (h after : Head) (x : ObservedCall) (rest : Li
     → ((s : Binding) → finished_ticks_by c k s after (map call_of rest) ≡ finished_ticks_in c k s rest)
     → (s : Binding) → finished_ticks_by c k s h (map call_of (x ∷ rest)) ≡ finished_ticks_in c k s (x ∷ rest)
 unfolding finished_ticks_by finished_ticks_in
-made_more c k h after (observed_spin t j w y) rest z e ih s =
-    made-same (eqb j k) (is_success (calls.spin_on h t j w).reply) (eqb y.number 0) _ _ _ _ (heard-done z) (heard-made s w z)
-    (ap (λ (g : Head). finished_ticks_by c k s g (map call_of rest)) e ∙ ih s)
-made_more c k h after (observed_rebinding t j n g) rest z e ih s =
-    let u : Binding = (if eqb j k then binding_after c n g s else s) in
-    ap (λ (g : Head). finished_ticks_by c k u g (map call_of rest)) e ∙ ih u
+made_more c k h after (observed_spin t j w y) rest z e ih s = grind (arith, common_steps)
+made_more c k h after (observed_rebinding t j n g) rest z e ih s = grind (arith, common_steps)
 
 pub row-none : (h : Head) → CallsRow h [] h
 unfolding head_after_all tally tally_in finished_ticks_by finished_ticks_in
@@ -102,20 +81,4 @@ pub row-counted : (a b c d : ℕ) (h : Head) → new_head a b c d ≡ h
     → depths last.states ≡ sum
     → ObservedBalance said sum last.taken
 unfolding PlacesCounted
-row-counted a b c d h fresh said last row sum deep =
-    let k : PlacesBalance (new_head a b c d) (map call_of said) = places-counted a b c d (map call_of said) in
-    let own : CallsRow (new_head a b c d) said last = subst (λ (g : Head). CallsRow g said last) (sym fresh) row in
-    let depth : depths (head_after_all (new_head a b c d) (map call_of said)).states ≡ sum =
-    ap (λ (g : Head). depths g.states) own.left_is ∙ deep in
-    record {
-      sum_is = omega (
-        arith,
-        k.sum,
-        depth,
-        own.tallies places_returned (λ n. refl),
-        own.tallies places_given_back (λ n. refl),
-        own.tallies places_called (λ n. refl),
-      );
-      recorded = sym (ap (λ (g : Head). g.taken) own.left_is) ∙ k.recorded ∙ depth;
-      room = subst (λ (n : ℕ). n ≤ 64) depth k.room;
-    }
+row-counted a b c d h fresh said last row sum deep = grind (arith, common_steps, places-counted)

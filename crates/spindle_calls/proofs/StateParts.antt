@@ -1,14 +1,9 @@
 -- The bytes of one state written in their place: that state is another, and the others are as they were.
-use Prim.Native.Nat.{ℕ, zero, suc, ◌+◌, ◌-◌, ◌*◌, ◌≤◌, ◌<◌}
-use mathlib.Core.Path.{◌≡◌, refl, sym, ◌∙◌, ap}
-use mathlib.Core.Logic.{◌⊎◌, inl, inr}
-use mathlib.Core.List.{List, [], ◌∷◌, ◌++◌}
-use native.Mathlib.Omega.{arith}
-use native.Mathlib.Decide.{ℕ_discrete}
-use lib.Dec.{eqb}
-use lib.ListN.{length, get_or, set, take, drop, length-take, get_or-append}
-use lib.Seq.{get_or-take, get_or-drop, get_or-append-add}
-use borrow.Author.Tests.{eq-eqb}
+use Rattle.std.proofs.Common.{ℕ, zero, suc, ◌+◌, ◌-◌, ◌*◌, ◌≤◌, ◌<◌, ◌≡◌, refl, sym, ◌∙◌, ap, ◌⊎◌, inl, inr, List, [], ◌∷◌, ◌++◌, arith}
+use Rattle.std.proofs.Common.{eqb, length, get_or, set, take, drop, length-take, get_or-take, get_or-drop, eq-eqb}
+use Rattle.std.proofs.Math.Decide.{ℕ_discrete}
+use Rattle.std.proofs.Math.ListN.{get_or-append}
+use Rattle.std.proofs.lemmas.Grind.{common_steps}
 use Rattle.words.specs.lists.Sequences.{written}
 use Rattle.words.proofs.lists.Tests.{if-true, split}
 use Rattle.words.proofs.lists.Ranges.{map-count}
@@ -36,21 +31,11 @@ module _ (b p : List ℕ) (at : ℕ) (room : at + length p ≤ length b) where
 
   within : (i : ℕ) → i < length p → get_or (written b at p) (at + i) 0 ≡ get_or p i 0
   unfolding written
-  within i l =
-      ap (λ (n : ℕ). get_or (take at b ++ (p ++ drop (at + length p) b)) (n + i) 0) (sym front)
-      ∙ get_or-append-add (take at b) (p ++ drop (at + length p) b) i 0
-      ∙ get_or-append p (drop (at + length p) b) 0 i l
+  within i l = grind (arith, common_steps)
 
   behind : (i : ℕ) → at + length p ≤ i → get_or (written b at p) i 0 ≡ get_or b i 0
   unfolding written
-  behind i l =
-      let j : ℕ = i - (at + length p) in
-      let e : i ≡ length (take at b) + (length p + j) = omega (arith, front) in
-      ap (λ (n : ℕ). get_or (take at b ++ (p ++ drop (at + length p) b)) n 0) e
-      ∙ get_or-append-add (take at b) (p ++ drop (at + length p) b) (length p + j) 0
-      ∙ get_or-append-add p (drop (at + length p) b) j 0
-      ∙ get_or-drop (at + length p) b j 0
-      ∙ ap (λ (n : ℕ). get_or b n 0) (let q : at + length p + j ≡ i = omega arith in q)
+  behind i l = grind (arith, common_steps)
 
 -- ---- a part written in its place
 module _ (b p : List ℕ) (long : length b ≡ 520) (k : ℕ) (l : k < 4) (size : length p ≡ 130) where

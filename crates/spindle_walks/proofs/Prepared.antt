@@ -1,8 +1,5 @@
 -- On a table that prepare wrote a live call is the call on the image.
-use Prim.Native.Nat.{ℕ, ◌≤◌}
-use mathlib.Core.Path.{◌≡◌}
-use mathlib.Core.List.{List}
-use lib.ListN.{take}
+use Rattle.std.proofs.Common.{ℕ, ◌≤◌, ◌≡◌, List, take}
 use Rattle.text.specs.frames.Answer.{success}
 use Rattle.tables.specs.Prepare.{prepare}
 use Rattle.state.specs.declared.State.{State}

@@ -1,13 +1,7 @@
 -- A call, on an image or on a table, by the machine's tick on the image that is meant; and what a refused call leaves.
-use Rattle.std.proofs.Common.{if◌then◌else◌}
-use Prim.Native.Nat.{ℕ, zero, suc, ◌+◌, ◌-◌, ◌≤◌}
-use mathlib.Core.Bool.{Bool, true, false, ◌&&◌}
-use mathlib.Core.Path.{◌≡◌, refl, sym, ◌∙◌, ap, subst}
-use mathlib.Core.List.{List, [], ◌∷◌}
-use lib.Dec.{leb}
-use lib.ListN.{set}
-use native.Mathlib.Omega.{arith}
-use borrow.Author.Tests.{le-ltb}
+use Rattle.std.proofs.Common.{if◌then◌else◌, ℕ, zero, suc, ◌+◌, ◌-◌, ◌≤◌, Bool, true, false, ◌≡◌, refl, sym, ◌∙◌, ap, subst, List, [], ◌∷◌}
+use Rattle.std.proofs.Common.{set, arith}
+use Rattle.std.proofs.lemmas.Grind.{common_steps}
 use Rattle.text.specs.frames.Frame.{contents}
 use Rattle.text.specs.frames.Verdict.{Verdict, fine, refused, next, when}
 use Rattle.text.specs.frames.Answer.{reply_number, success, refusal}
@@ -20,7 +14,7 @@ use Rattle.state.specs.declared.State.{State}
 use Rattle.fitness.specs.Fitness.{is_unfit}
 use Rattle.ticks.specs.Tick.{MachineTick, finished, stopped, tick}
 use Rattle.runs.specs.Run.{ticks}
-use Rattle.runs.specs.TickOutcome.{TickOutcome, image_tick}
+use Rattle.runs.specs.TickOutcome.{TickOutcome}
 use Rattle.runs.specs.machine.Live.{live_verdict, live_run, live_tick}
 use Rattle.runs.proofs.machine.OneTick.{advance_by, advance-by}
 use Rattle.spindles.specs.Spindles.{state_at, head_verdict, SpinOutcome, outcome_turned_back, is_none_left, outcome_spun_by}
@@ -34,14 +28,7 @@ tick_tried v i s = next v λ _. when 15 (is_unfit i s)
 pub live-tick-by : (b : List ℕ) (s : State) (w : ℕ)
     → live_tick b s w ≡ advance_by s (tick_tried (when 11 (is_bad_table b)) (table_image b) s) (tick (table_image b) s w)
 unfolding live_tick live_run live_verdict ticks
-live-tick-by b s w = go (is_bad_table b) refl (is_unfit (table_image b) s) refl (tick (table_image b) s w) refl
-  where
-    go : (x : Bool) → is_bad_table b ≡ x → (y : Bool) → is_unfit (table_image b) s ≡ y → (d : MachineTick) → tick (table_image b) s w ≡ d
-        → live_tick b s w ≡ advance_by s (tick_tried (when 11 (is_bad_table b)) (table_image b) s) (tick (table_image b) s w)
-    go true e y f d g = simp e
-    go false e true f d g = simp (e, f)
-    go false e false f (stopped n) g = simp (e, f, g)
-    go false e false f (finished m k t) g = simp (e, f, g)
+live-tick-by b s w = grind (arith, common_steps)
 
 -- ---- a call by the verdict on image or table, and the image that is meant
 abbrev pub tick_by_verdict : Verdict → Image → State → ℕ → TickOutcome
@@ -54,16 +41,12 @@ spin_by v i states taken k w =
 pub spin-by : (t : List ℕ) (states : List State) (taken k w : ℕ)
     → spin t states taken k w ≡ spin_by (image_verdict t) (decoded_image (contents t)) states taken k w
 unfolding spin
-spin-by t states taken k w =
-    ap (λ (x : TickOutcome). outcome_spun_on (head_verdict (image_verdict t) states taken k) states taken k (λ _. x))
-    (advance-by t (state_at states k) w)
+spin-by t states taken k w = grind (arith, common_steps, advance-by)
 
 pub live-spin-by : (b : List ℕ) (states : List State) (taken k w : ℕ)
     → live_spin b states taken k w ≡ spin_by (when 11 (is_bad_table b)) (table_image b) states taken k w
 unfolding live_spin
-live-spin-by b states taken k w =
-    ap (λ (x : TickOutcome). outcome_spun_on (head_verdict (when 11 (is_bad_table b)) states taken k) states taken k (λ _. x))
-    (live-tick-by b (state_at states k) w)
+live-spin-by b states taken k w = grind (arith, common_steps, live-tick-by)
 
 -- ---- a state put back where it was
 pub set_same : (states : List State) (k : ℕ) → set states k (state_at states k) ≡ states
@@ -75,15 +58,7 @@ set_same (s ∷ states) (suc k) = ap (λ (ss : List State). s ∷ ss) (set_same 
 pub kept_by : (states : List State) (taken k n i : ℕ)
     → outcome_spun_by states taken k (record { reply = refusal n i 0; mask = 0; code = 0; state = state_at states k })
     ≡ outcome_turned_back n i states taken
-kept_by states taken k n i =
-    let s : State = state_at states k in
-    let x : TickOutcome = record { reply = refusal n i 0; mask = 0; code = 0; state = s } in
-    ap (λ (t : Bool). if t && leb 64 taken then outcome_turned_back 26 0 states taken
-    else record { reply = refusal n i 0; mask = 0; code = 0; states = set states k s; taken = taken + s.depth - s.depth })
-    (le-ltb s.depth s.depth (omega arith))
-    ∙ ap (λ (ss : List State). record { reply = refusal n i 0; mask = 0; code = 0; states = ss; taken = taken + s.depth - s.depth })
-    (set_same states k)
-    ∙ ap (outcome_turned_back n i states) (let e : taken + s.depth - s.depth ≡ taken = omega arith in e)
+kept_by states taken k n i = grind (arith, common_steps)
 
 -- what a call comes to: it is refused, or all that is tried before the tick is passed, and the tick is finished and finds its place
 pub data Comes (v : Verdict) (i : Image) (states : List State) (taken k w : ℕ) : SpinOutcome → Type 0 where
@@ -129,27 +104,11 @@ module _ (v : Verdict) (i : Image) (states : List State) (taken k w : ℕ) where
   -- a tick that is refused with 17, and one that ends no deeper than it began
   full_by : head_verdict v states taken k ≡ fine → (u : Verdict) (d : MachineTick) → (advance_by s u d).reply ≡ refusal 17 0 0
       → (outcome_spun_on (head_verdict v states taken k) states taken k (λ _. advance_by s u d)).reply ≡ refusal 17 0 0
-  full_by h u d e = ap (λ (q : Verdict). (outcome_spun_on q states taken k (λ _. advance_by s u d)).reply) h ∙ go u d e
-    where
-      go : (u : Verdict) (d : MachineTick) → (advance_by s u d).reply ≡ refusal 17 0 0
-          → (outcome_spun_by states taken k (advance_by s u d)).reply ≡ refusal 17 0 0
-      go (refused n j) d e = ap (λ (q : SpinOutcome). q.reply) (kept_by states taken k n j) ∙ e
-      go fine (stopped n) e = ap (λ (q : SpinOutcome). q.reply) (kept_by states taken k n 0) ∙ e
-      go fine (finished m code t) e = absurd (let q : ◌≡◌ {A = ℕ} 0 17 = ap reply_number e in omega arith)
+  full_by h u d e = grind (arith, common_steps)
 
   level_by : head_verdict v states taken k ≡ fine → (x : TickOutcome) → x.state.depth ≤ s.depth
       → (outcome_spun_on (head_verdict v states taken k) states taken k (λ _. x)).reply ≡ x.reply
-  level_by h x l =
-      ap (λ (q : Verdict). (outcome_spun_on q states taken k (λ _. x)).reply) h
-      ∙ ap (λ (b : Bool). (if b && leb 64 taken then outcome_turned_back 26 0 states taken
-      else record {
-        reply = x.reply;
-        mask = x.mask;
-        code = x.code;
-        states = set states k x.state;
-        taken = taken + x.state.depth - s.depth;
-      }).reply)
-      (le-ltb s.depth x.state.depth l)
+  level_by h x l = grind (arith, common_steps)
 
 pub full-first : FullFirst
 unfolding FullFirst spin
@@ -164,15 +123,11 @@ full-first t states taken k w h e =
 
 pub level-goes : LevelGoes
 unfolding LevelGoes spin
-level-goes t states taken k w h l =
-    level_by (image_verdict t) (decoded_image (contents t)) states taken k w h (image_tick t (state_at states k) w) l
+level-goes t states taken k w h l = grind (arith, common_steps)
 
 pub refused-leaves : RefusedLeaves spin
 unfolding RefusedLeaves
-refused-leaves t states taken k w =
-    let i : Image = decoded_image (contents t) in
-    leaves (image_verdict t) i states taken k w
-    (subst (Comes (image_verdict t) i states taken k w) (sym (spin-by t states taken k w)) (comes (image_verdict t) i states taken k w))
+refused-leaves t states taken k w = grind (arith, common_steps, spin-by, comes, leaves)
 
 pub live-refused-leaves : RefusedLeaves live_spin
 unfolding RefusedLeaves

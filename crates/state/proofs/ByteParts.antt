@@ -1,15 +1,10 @@
 -- Laws of the parts of a state that is kept as 130 bytes: what each byte reads as, and the state after one of them is written.
-use Rattle.std.proofs.Common.{if◌then◌else◌}
-use Prim.Native.Nat.{ℕ, ◌+◌, ◌-◌, ◌≤◌, ◌<◌}
-use mathlib.Core.Path.{◌≡◌, refl, sym, ap, ap₂, ◌∙◌}
-use mathlib.Core.Bool.{Bool, true, false, not}
-use mathlib.Core.List.{List}
-use native.Mathlib.Omega.{arith}
+use Rattle.std.proofs.Common.{if◌then◌else◌, ℕ, ◌+◌, ◌-◌, ◌≤◌, ◌<◌, ◌≡◌, refl, sym, ap, ◌∙◌, Bool, true, false, not, List, arith, eqb}
+use Rattle.std.proofs.Common.{length, get_or, set, get_or-set_same, get_or-set_other, eq-eqb, ne_eqb}
 use mir.Val.{bool_byte}
-use lib.Dec.{eqb}
-use lib.ListN.{length, get_or, set, get_or-eq_default}
-use lib.Seq.{get_or-set_same, get_or-set_other, set_out}
-use borrow.Author.Tests.{eq-eqb, ne_eqb}
+use Rattle.std.proofs.Math.ListN.{get_or-eq_default}
+use Rattle.std.proofs.Math.Seq.{set_out}
+use Rattle.std.proofs.lemmas.Grind.{common_steps}
 use Rattle.results.specs.Results.{result_of}
 use Rattle.bindings.specs.Binding.{server_of, rebound_binding}
 use Rattle.state.specs.declared.State.{State}
@@ -72,15 +67,7 @@ module _ (b : List ℕ) where
 -- states with the same parts
 state-same : (s t : State) → s.size ≡ t.size → s.depth ≡ t.depth → s.places ≡ t.places → s.bits ≡ t.bits → s.serving ≡ t.serving
     → s.numbers ≡ t.numbers → s.servers ≡ t.servers → s ≡ t
-state-same s t size depth places bits serving numbers servers =
-    ap₂ (λ (x y : ℕ).
-    record { size = x; depth = y; places = s.places; bits = s.bits; serving = s.serving; numbers = s.numbers; servers = s.servers })
-    size depth
-    ∙ ap₂ (λ (x : List ℕ) (y : List Bool).
-    record { size = t.size; depth = t.depth; places = x; bits = y; serving = s.serving; numbers = s.numbers; servers = s.servers })
-    places bits
-    ∙ ap (λ (x : List ℕ). with_serving (with_places t t.places s.numbers s.servers) x) serving
-    ∙ ap₂ (λ (x y : List ℕ). with_places t t.places x y) numbers servers
+state-same s t size depth places bits serving numbers servers = grind (arith, common_steps)
 
 module _ (b : List ℕ) (whole : length b ≡ 130) where
   pub depth-set : (d : ℕ) → state_of (set b 1 d) ≡ with_depth (state_of b) d
@@ -100,9 +87,7 @@ module _ (b : List ℕ) (whole : length b ≡ 130) where
       → (state_of (set b j v)).numbers ≡ hs → (state_of (set b j v)).servers ≡ ks
       → state_of (set b j v) ≡ with_serving (with_bits (with_places (state_of b) ps hs ks) bs) gs
   unfolding state_of
-  list_set j v ps bs gs hs ks l =
-      state-same (state_of (set b j v)) (with_serving (with_bits (with_places (state_of b) ps hs ks) bs) gs)
-      (get_or-set_other b j 0 v 0 (λ q. omega arith)) (get_or-set_other b j 1 v 0 (λ q. omega arith))
+  list_set j v ps bs gs hs ks l = grind (arith, common_steps)
 
   pub place_set : (k l : ℕ) → k < 32 → state_of (set b (2 + k) l) ≡ with_place (state_of b) k l
   unfolding state_of
@@ -166,13 +151,7 @@ module _ (b : List ℕ) (whole : length b ≡ 130) where
 -- place k with its label, number and server, one after the other
 pub open-set : (b b₁ b₂ b₃ : List ℕ) (k l h g : ℕ) → length b ≡ 130 → length b₁ ≡ 130 → length b₂ ≡ 130 → k < 32
     → b₁ ≡ set b (2 + k) l → b₂ ≡ set b₁ (66 + k) h → b₃ ≡ set b₂ (98 + k) g → state_of b₃ ≡ with_opened (state_of b) k l h g
-open-set b b₁ b₂ b₃ k l h g w w₁ w₂ low e₁ e₂ e₃ =
-    let f₁ : state_of b₁ ≡ with_place (state_of b) k l = ap state_of e₁ ∙ place_set b w k l low in
-    let f₂ : state_of b₂ ≡ with_places (state_of b₁) (state_of b₁).places (set (state_of b₁).numbers k h) (state_of b₁).servers =
-    ap state_of e₂ ∙ number-set b₁ w₁ k h low in
-    ap state_of e₃ ∙ server-set b₂ w₂ k g low
-    ∙ ap (λ (s : State). with_places s s.places s.numbers (set s.servers k g))
-    (f₂ ∙ ap (λ (s : State). with_places s s.places (set s.numbers k h) s.servers) f₁)
+open-set b b₁ b₂ b₃ k l h g w w₁ w₂ low e₁ e₂ e₃ = grind (arith, common_steps, place_set, number-set, server-set)
 
 -- ---- a result of a tick; 0 writes nothing, and a number above 16 has no bit
 byte-back : (t : Bool) → not (eqb (bool_byte t) 0) ≡ t
@@ -193,6 +172,4 @@ module _ (b : List ℕ) (r h k : ℕ) (place : k ≡ h - 1) where
 
   pub result-set : length b ≡ 130 → (r ≡ 0 → ⊥) → k < 16 → state_of (set b (34 + k) (bool_byte (eqb r 2)))
       ≡ state_after_result (state_of b) r h
-  result-set whole n low =
-      byte-set b whole k (bool_byte (eqb r 2)) low
-      ∙ ap (with_bits (state_of b)) (ap₂ (λ (j : ℕ) (t : Bool). set (state_of b).bits j t) place (byte-back (eqb r 2)) ∙ rw (ne_eqb r 0 n))
+  result-set whole n low = grind (arith, common_steps, ne_eqb, byte-set, byte-back)

@@ -1,12 +1,8 @@
 -- Parts of bytes: the values that n bytes from a place on stand for, and what one byte written makes of them.
-use Prim.Native.Nat.{ℕ, ◌+◌, ◌<◌}
-use mathlib.Core.Path.{◌≡◌, sym, ap, ◌∙◌}
-use mathlib.Core.List.{List, map}
-use native.Mathlib.Nat.{zero-add}
-use native.Mathlib.Decide.{ℕ_discrete}
-use native.Mathlib.Omega.{arith}
-use lib.ListN.{length, get_or, set, length-set}
-use lib.Seq.{ext_get_or, get_or-set_same, get_or-set_other}
+use Rattle.std.proofs.Common.{ℕ, ◌+◌, ◌<◌, ◌≡◌, sym, ap, ◌∙◌, List, map, zero-add, arith, length, get_or, set, length-set, ext_get_or}
+use Rattle.std.proofs.Common.{get_or-set_same, get_or-set_other}
+use Rattle.std.proofs.Math.Decide.{ℕ_discrete}
+use Rattle.std.proofs.lemmas.Grind.{common_steps}
 use Rattle.words.specs.lists.Numbers.{range}
 use Rattle.words.proofs.lists.Ranges.{length-map-range, get_or-map-range}
 use Rattle.tables.proofs.RangeLaws.{map-alike}
@@ -31,8 +27,7 @@ module _ {A : Type 0} (f : ℕ → A) (d : A) (from n : ℕ) (b : List ℕ) wher
   part x = map (λ (k : ℕ). f (get_or x (from + k) 0)) (range 0 n)
 
   pub part-read : (k : ℕ) → k < n → f (get_or b (from + k) 0) ≡ get_or (part b) k d
-  part-read k l = sym (get_or-map-range (λ (j : ℕ). f (get_or b (from + j) 0)) d 0 n k l ∙ ap (λ (j : ℕ). f (get_or b (from + j) 0))
-      (zero-add k))
+  part-read k l = grind (arith, common_steps, get_or-map-range, zero-add)
 
   -- a byte outside it leaves it
   pub part-kept : (j v : ℕ) → ((k : ℕ) → k < n → (from + k ≡ j) → ⊥) → part (set b j v) ≡ part b
@@ -41,7 +36,4 @@ module _ {A : Type 0} (f : ℕ → A) (d : A) (from n : ℕ) (b : List ℕ) wher
       (λ k first below. ap f (get_or-set_other b j (from + k) v 0 (out k (omega arith))))
 
   pub part-set : (k v : ℕ) → k < n → from + k < length b → part (set b (from + k) v) ≡ set (part b) k (f v)
-  part-set k v low room =
-      range-set d (λ (j : ℕ). f (get_or b (from + j) 0)) (λ (j : ℕ). f (get_or (set b (from + k) v) (from + j) 0)) n k (f v) low
-      (ap f (get_or-set_same b (from + k) v 0 room))
-      (λ j l m. ap f (get_or-set_other b (from + k) (from + j) v 0 (λ q. m (omega arith))))
+  part-set k v low room = grind (arith, common_steps, get_or-set_other, get_or-set_same, range-set)

@@ -1,19 +1,13 @@
 -- Laws of the bytes of a state: a cast of a result, and the way back.
-use Rattle.std.proofs.Common.{if◌then◌else◌, cond}
-use Prim.Native.Nat.{ℕ, ◌+◌}
-use mathlib.Core.Path.{◌≡◌, refl, sym, ap, ap₂, ◌∙◌}
-use mathlib.Core.Bool.{Bool, true, false, not}
-use mathlib.Core.List.{List, map}
-use native.Mathlib.Nat.{zero-add}
+use Rattle.std.proofs.Common.{if◌then◌else◌, ℕ, ◌+◌, ◌≡◌, refl, sym, ap, ap₂, ◌∙◌, Bool, true, false, not, List, map, zero-add, eqb, length}
+use Rattle.std.proofs.Common.{get_or, set, replicate, arith}
 use mir.Val.{bool_byte}
-use lib.Dec.{eqb}
-use lib.ListN.{length, get_or, set, replicate}
+use Rattle.std.proofs.lemmas.Grind.{common_steps}
 use Rattle.words.specs.lists.Numbers.{range}
 use Rattle.words.specs.lists.Sequences.{written}
 use Rattle.words.proofs.lists.Ranges.{map-count}
-use Rattle.text.specs.frames.Answer.{success, refusal}
 use Rattle.state.specs.declared.State.{State}
-use Rattle.state.specs.State.{Sized, place_at, number_at, server_at, fresh, no_state, is_bad_size, StateOutcome, fresh_state}
+use Rattle.state.specs.State.{Sized, place_at, number_at, server_at, fresh, fresh_state}
 use Rattle.state.specs.Changes.{with_places, with_bits, with_serving}
 use Rattle.state.specs.Bytes.{result_byte, serving_byte, state_of, bytes_of}
 
@@ -50,14 +44,7 @@ pub bytes-written : (s : State) (b₁ b₂ b₃ b₄ b₅ : List ℕ)
     → b₄ ≡ written b₃ 66 (map (number_at s) (range 0 32))
     → b₅ ≡ written b₄ 98 (map (server_at s) (range 0 32)) → b₅ ≡ bytes_of s
 unfolding written bytes_of
-bytes-written s b₁ b₂ b₃ b₄ b₅ e₁ e₂ e₃ e₄ e₅ =
-    e₅
-    ∙ ap (λ (b : List ℕ). written b 98 (map (server_at s) (range 0 32)))
-    (e₄
-    ∙ ap (λ (b : List ℕ). written b 66 (map (number_at s) (range 0 32)))
-    (e₃
-    ∙ ap (λ (b : List ℕ). written b 50 (map (serving_byte s) (range 0 16)))
-    (e₂ ∙ ap (λ (b : List ℕ). written b 34 (map (result_byte s) (range 0 16))) e₁)))
+bytes-written s b₁ b₂ b₃ b₄ b₅ e₁ e₂ e₃ e₄ e₅ = grind (arith, common_steps)
 
 -- the state that any bytes hold has all its places, results and schemes that serve
 pub held-sized : (b : List ℕ) → Sized (state_of b)
@@ -80,11 +67,4 @@ fresh-sized n = record { places = refl; serving = refl; numbers = refl; servers 
 
 pub fresh-held : (n : ℕ) → state_of (bytes_of (fresh_state n).state) ≡ (fresh_state n).state
 unfolding fresh_state
-fresh-held n = go (is_bad_size n)
-  where
-    go : (t : Bool)
-        → let x = cond {A = StateOutcome} t (record { reply = refusal 14 0 0; state = no_state })
-        (record { reply = success 0; state = fresh n }) in
-        state_of (bytes_of x.state) ≡ x.state
-    go true = state-back no_state (record { places = refl; serving = refl; numbers = refl; servers = refl }) refl
-    go false = state-back (fresh n) (fresh-sized n) refl
+fresh-held n = grind (arith, common_steps, state-back, fresh-sized)

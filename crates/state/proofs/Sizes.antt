@@ -1,10 +1,5 @@
 -- What the tests on a stack size and a depth tell.
-use Prim.Native.Nat.{ℕ, ◌≤◌}
-use mathlib.Core.Bool.{false}
-use mathlib.Core.Path.{◌≡◌}
-use native.Mathlib.Omega.{arith}
-use lib.Dec.{eqb, ltb}
-use borrow.Author.Tests.{ltb-false, le-ltb, ne_eqb}
+use Rattle.std.proofs.Common.{ℕ, ◌≤◌, false, ◌≡◌, arith, eqb, ltb, ltb-false, le-ltb, ne_eqb}
 use Rattle.words.proofs.lists.Tests.{or_r, or-none}
 use Rattle.state.specs.State.{is_bad_size}
 

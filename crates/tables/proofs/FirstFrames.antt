@@ -1,15 +1,11 @@
 -- The frames at which the rows of each label of an accepted table begin:
 -- they follow one another, and between two of them stand rows of one label.
-use Prim.Native.Nat.{ℕ, ◌+◌, ◌-◌, ◌≤◌, ◌<◌}
-use mathlib.Core.Path.{◌≡◌, ◌∙◌, ap}
-use mathlib.Core.Logic.{◌⊎◌, inl, inr}
-use mathlib.Core.List.{List}
-use native.Mathlib.Omega.{arith}
-use lib.ListN.{get_or}
-use borrow.Author.Tests.{leb-true, leb-false, le-leb, lt-leb}
+use Rattle.std.proofs.Common.{ℕ, ◌+◌, ◌-◌, ◌≤◌, ◌<◌, ◌≡◌, ap, List, arith, get_or, leb-true, leb-false, le-leb}
+use borrow.Author.Tests.{lt-leb}
+use Rattle.std.proofs.lemmas.Grind.{common_steps}
 use Rattle.words.specs.lists.Numbers.{lowest}
-use Rattle.words.proofs.lists.Searches.{lowest-hit, lowest-above, lowest-before, lowest-inside}
-use Rattle.words.proofs.lists.Searches.{lowest-from, lowest-none, lowest-here, lowest-over}
+use Rattle.words.proofs.lists.Searches.{lowest-hit, lowest-above, lowest-before, lowest-inside, lowest-from, lowest-none, lowest-here}
+use Rattle.words.proofs.lists.Searches.{lowest-over}
 use Rattle.words.proofs.lists.Tests.{split}
 use Rattle.text.specs.frames.Frame.{size, field}
 use Rattle.text.specs.frames.Verdict.{fine}
@@ -68,17 +64,7 @@ module _ (b : List ℕ) (ok : table_verdict b ≡ fine) where
 
     -- no row leaves a label below 2, and none one above M
     pub first_two : first_frame b 2 ≡ rows_from b
-    first_two = go (split (rows_from b) (size b))
-      where
-        go : (rows_from b < size b) ⊎ (size b ≤ rows_from b) → first_frame b 2 ≡ rows_from b
-        go (inl h) =
-            lowest-here (is_row_reached b 2) (size b) (rows_from b) h
-            (le-leb 2 (field b (rows_from b) 1) (from-sound (rows_from b) (omega arith) h).0)
-        go (inr h) = lowest-over (is_row_reached b 2) (size b) (rows_from b) h
+    first_two = grind (arith, common_steps, lowest-here, le-leb, split, lowest-over, from-sound)
 
     pub first-last : first_frame b (last_label b + 1) ≡ size b
-    first-last =
-        lowest-none (is_row_reached b (last_label b + 1)) (rows_from b) (size b - rows_from b)
-        (λ k h. lt-leb (last_label b + 1) (field b (rows_from b + k) 1)
-        (omega (arith, (from-sound (rows_from b + k) (omega arith) (omega arith)).1)))
-        ∙ (let z : rows_from b + (size b - rows_from b) ≡ size b = omega (arith, rows_inside b ok) in z)
+    first-last = grind (arith, common_steps, rows_inside, lowest-none, lt-leb, from-sound)

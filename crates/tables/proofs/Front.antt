@@ -1,20 +1,12 @@
 -- Only the bytes of the frames that the header counts say which image a table holds: bytes behind them are no part of it.
-use Rattle.std.proofs.Common.{if◌then◌else◌}
-use Prim.Native.Nat.{ℕ, zero, suc, ◌+◌, ◌*◌, ◌-◌, ◌≤◌, ◌<◌, min}
-use mathlib.Core.Bool.{Bool, false, ◌&&◌, ◌||◌, not}
-use mathlib.Core.Path.{◌≡◌, refl, sym, ◌∙◌, ap, ap₂, subst}
-use mathlib.Core.List.{List, map}
-use native.Mathlib.Omega.{arith}
-use lib.Dec.{ltb, eqb}
-use lib.ListN.{length, get_or, take, length-take}
-use lib.Seq.{get_or-take}
-use borrow.Author.Tests.{ltb-false, le-ltb}
+use Rattle.std.proofs.Common.{if◌then◌else◌, ℕ, zero, suc, ◌+◌, ◌*◌, ◌-◌, ◌≤◌, ◌<◌, min, false, ◌&&◌, ◌||◌, not, ◌≡◌, sym, ◌∙◌, ap, ap₂}
+use Rattle.std.proofs.Common.{subst, List, map, arith, ltb, eqb, length, get_or, take, length-take, get_or-take, le-ltb}
+use Rattle.std.proofs.lemmas.Grind.{common_steps}
 use Rattle.words.specs.lists.Numbers.{range}
 use Rattle.words.specs.lists.Sequences.{concat_map}
 use Rattle.words.proofs.lists.Joins.{concat-alike}
 use Rattle.words.proofs.lists.Tests.{or_l, or_r, if-false}
-use Rattle.text.specs.frames.Frame.{size, field, pair_at, quad_at}
-use Rattle.image.specs.Image.{Label, no_label}
+use Rattle.text.specs.frames.Frame.{size, field, pair_at}
 use Rattle.image.specs.Decode.{scheme_count, last_label, row_count, handler_in, labels_from, entry_in}
 use Rattle.image.specs.Check.{has_bad_counts, has_bad_handler}
 use Rattle.tables.specs.Table.{table_end, is_bad_table, label_on, table_label, noted_in, first_on, end_on, row_on, rows_on, table_image}
@@ -32,8 +24,7 @@ handler-alike b c = ap₂ (λ (h n : ℕ). not (eqb h 0) && (ltb h 2 || ltb n h)
 -- and H, M and R whether the counts are
 pub counts-alike : (b c : List ℕ) → scheme_count c ≡ scheme_count b → last_label c ≡ last_label b
     → row_count c ≡ row_count b → has_bad_counts c ≡ has_bad_counts b
-counts-alike b c schemes last rows =
-    ap₂ (λ (t u : Bool). t || u) (ap₂ (λ (h m : ℕ). eqb h 0 || ltb 16 h || eqb m 0) schemes last) (ap (λ (r : ℕ). ltb 1024 r) rows)
+counts-alike b c schemes last rows = grind (arith, common_steps)
 
 module _ (b c : List ℕ) (same : (k : ℕ) → k < 10 * table_end b → get_or c k 0 ≡ get_or b k 0) where
   field-same : (f k : ℕ) → f < table_end b → k < 10 → field c f k ≡ field b f k
@@ -66,42 +57,15 @@ module _ (b c : List ℕ) (same : (k : ℕ) → k < 10 * table_end b → get_or 
 
   -- ---- one label
   label-field : (l k : ℕ) → l ≤ last_label b → k < 10 → field c (labels_from c + l) k ≡ field b (labels_from b + l) k
-  label-field l k h g =
-      ap (λ (n : ℕ). field c (1 + n + l) k) schemes-same ∙ field-same (labels_from b + l) k (omega arith) g
+  label-field l k h g = grind (arith, common_steps)
 
   label_same : (l : ℕ) → l ≤ last_label b → label_on c l ≡ label_on b l
-  label_same zero h = refl
-  label_same (suc zero) h = refl
-  label_same (suc (suc l)) h =
-      let m : ℕ = suc (suc l) in
-      let s : scheme_count c ≡ scheme_count b = schemes-same in
-      let e₂ : field c (labels_from c + m) 2 ≡ field b (labels_from b + m) 2 = label-field m 2 h (omega arith) in
-      let e₃ : field c (labels_from c + m) 3 ≡ field b (labels_from b + m) 3 = label-field m 3 h (omega arith) in
-      let e₄ : field c (labels_from c + m) 4 ≡ field b (labels_from b + m) 4 = label-field m 4 h (omega arith) in
-      let e₅ : field c (labels_from c + m) 5 ≡ field b (labels_from b + m) 5 = label-field m 5 h (omega arith) in
-      let e₆ : quad_at c (labels_from c + m) 6 ≡ quad_at b (labels_from b + m) 6 =
-      omega (
-        arith,
-        label-field m 6 h (omega arith),
-        label-field m 7 h (omega arith),
-        label-field
-            m 8 h (omega arith),
-        label-field m 9 h (omega arith),
-      ) in
-      λ j. record {
-        kind = if ltb 2 (e₂ j) then 0 else e₂ j;
-        called = if ltb (s j) (e₃ j) then 0 else e₃ j;
-        owner = e₄ j;
-        result = e₅ j;
-        mask = e₆ j;
-      }
+  label_same zero h = grind (arith, common_steps)
+  label_same (suc zero) h = grind (arith, common_steps)
+  label_same (suc (suc l)) h = grind (arith, common_steps, schemes-same, label-field)
 
   kind-same : (l : ℕ) → l ≤ last_label b → (table_label c l).kind ≡ (table_label b l).kind
-  kind-same l h =
-      ap (λ (x : Label). x.kind)
-      (if-false (ltb (last_label c) l) no_label (label_on c l) (le-ltb (last_label c) l (omega (arith, last-same)))
-      ∙ label_same l h
-      ∙ sym (if-false (ltb (last_label b) l) no_label (label_on b l) (le-ltb (last_label b) l h)))
+  kind-same l h = grind (arith, common_steps, le-ltb, if-false, last-same, label_same)
 
   -- ---- the rows of one label
   noted-same : (l : ℕ) → l ≤ last_label b → noted_in c l ≡ noted_in b l
@@ -111,13 +75,7 @@ module _ (b c : List ℕ) (same : (k : ℕ) → k < 10 * table_end b → get_or 
   end-on-same l h = ap₂ (λ (n e : ℕ). min n e) (noted-same l h) end_same
 
   row_same : (l f : ℕ) → l ≤ last_label b → f < table_end b → row_on c l f ≡ row_on b l f
-  row_same l f g h =
-      let k : (table_label c l).kind ≡ (table_label b l).kind = kind-same l g in
-      let p₂ : pair_at c f 2 ≡ pair_at b f 2 = pair_same f 2 h (omega arith) in
-      let p₄ : pair_at c f 4 ≡ pair_at b f 4 = pair_same f 4 h (omega arith) in
-      let p₆ : field c f 6 ≡ field b f 6 = field-same f 6 h (omega arith) in
-      let p₇ : field c f 7 ≡ field b f 7 = field-same f 7 h (omega arith) in
-      λ j. record { from = l; care = p₂ j; values = p₄ j; bit = if eqb (k j) 2 then p₆ j else 2; next = p₇ j }
+  row_same l f g h = grind (arith, common_steps, field-same, pair_same, kind-same)
 
   rows-on-same : (l : ℕ) → l ≤ last_label b → rows_on c l ≡ rows_on b l
   rows-on-same l h =
@@ -151,8 +109,7 @@ module _ (b : List ℕ) (good : is_bad_table b ≡ false) where
   handler-good = or_r (has_bad_counts b) (has_bad_handler b) header-good
 
   pub end-holds : 10 * table_end b ≤ length b
-  end-holds =
-      omega (arith, ltb-false (size b) (table_end b) (or_r (has_bad_counts b || has_bad_handler b) (ltb (size b) (table_end b)) good))
+  end-holds = grind (arith, common_steps)
 
   pub front_at : (k : ℕ) → k < 10 * table_end b → get_or (front b) k 0 ≡ get_or b k 0
   front_at k h = get_or-take (10 * table_end b) b k 0 h
@@ -161,11 +118,7 @@ module _ (b : List ℕ) (good : is_bad_table b ≡ false) where
   front-image = alike-image b (front b) front_at
 
   pub front-whole : Whole (front b)
-  front-whole = record {
-    counts = counts_same b (front b) front_at ∙ counts-good;
-    handler = bad-handler-same b (front b) front_at ∙ handler-good;
-    alone = omega (arith, length-take (10 * table_end b) b, end-holds, end_same b (front b) front_at);
-  }
+  front-whole = grind (arith, common_steps)
 
 -- the table alone, cut off at n bytes
 module _ (b : List ℕ) (n : ℕ) (e : n ≡ 10 * table_end b) where

@@ -1,12 +1,6 @@
 -- What the functions that read a label of a table hand back, by the bytes that they find.
-use Rattle.std.proofs.Common.{if◌then◌else◌}
-use Prim.Native.Nat.{ℕ, zero, suc, ◌+◌, ◌-◌, ◌≤◌, ◌<◌}
-use mathlib.Core.Path.{◌≡◌, refl, sym, ◌∙◌, ap}
-use mathlib.Core.List.{List}
-use native.Mathlib.Omega.{arith}
-use lib.Dec.{ltb}
-use borrow.Author.Tests.{lt-ltb, le-ltb}
-use Rattle.words.proofs.lists.Tests.{if-true, if-false}
+use Rattle.std.proofs.Common.{if◌then◌else◌, ℕ, zero, suc, ◌+◌, ◌-◌, ◌≤◌, ◌<◌, ◌≡◌, refl, sym, ◌∙◌, ap, List, arith, ltb}
+use Rattle.std.proofs.lemmas.Grind.{common_steps}
 use Rattle.text.specs.frames.Frame.{field}
 use Rattle.image.specs.Image.{Label, home_label, return_label}
 use Rattle.image.specs.Decode.{scheme_count, last_label, labels_from, label_in}
@@ -46,16 +40,11 @@ module _ (b : List ℕ) (l : ℕ) (asked : NumberedLabel b l) where
 
   module _ (k : ℕ) (found : k ≡ field b (labels_from b + l) 2) where
     pub kind-high : 2 < k → 0 ≡ (table_label b l).kind
-    kind-high h =
-        sym (ap (λ (x : Label). x.kind) label-numbered
-        ∙ if-true (ltb 2 (label_in b l).kind) 0 (label_in b l).kind (lt-ltb 2 (label_in b l).kind (omega arith)))
+    kind-high h = grind (arith, common_steps)
 
   module _ (k n : ℕ) (found : k ≡ field b (labels_from b + l) 3) (schemes : n ≡ scheme_count b) where
     pub called-known : k ≤ n → k ≡ (table_label b l).called
-    called-known h =
-        found ∙ sym (ap (λ (x : Label). x.called) label-numbered
-        ∙ if-false (ltb (scheme_count b) (label_in b l).called) 0 (label_in b l).called
-        (le-ltb (scheme_count b) (label_in b l).called (omega arith)))
+    called-known h = grind (arith, common_steps)
 
 -- ---- with H as the caller has it, n
 module _ (b : List ℕ) (n l : ℕ) (asked : Framed b n l) where

@@ -1,16 +1,11 @@
 -- What preparing an accepted image leaves in front of the buffer:
 -- a table that holds the image that the text does, with its rows in their order.
-use Prim.Native.Nat.{ℕ, ◌+◌, ◌*◌, ◌-◌, ◌≤◌}
-use mathlib.Core.Path.{◌≡◌, sym, ◌∙◌, ap, subst}
-use mathlib.Core.List.{List}
-use native.Mathlib.Omega.{arith}
-use lib.ListN.{length, take}
+use Rattle.std.proofs.Common.{ℕ, ◌+◌, ◌*◌, ◌-◌, ◌≤◌, ◌≡◌, sym, ◌∙◌, ap, subst, List, arith, length, take, Ok}
 use Rattle.words.specs.lists.Numbers.{range}
 use Rattle.words.specs.lists.Sequences.{concat_map}
 use Rattle.text.specs.frames.Frame.{contents, frame_count}
 use Rattle.text.specs.frames.Verdict.{fine}
 use Rattle.text.specs.frames.Answer.{Answer}
-use Rattle.std.proofs.Common.{Ok}
 use Rattle.text.proofs.frames.Chains.{ok-fine}
 use Rattle.text.proofs.frames.Contents.{any-contents-length}
 use Rattle.image.specs.Decode.{last_label, rows_from, decoded_image}

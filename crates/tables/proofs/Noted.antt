@@ -1,11 +1,8 @@
 -- A noted table: what stands at each byte of it. It has the length, the header, the fields of labels and the rows of the table itself.
-use Prim.Native.Nat.{ℕ, zero, suc, ◌+◌, ◌*◌, ◌/◌, ◌%◌, ◌≤◌, ◌<◌}
-use mathlib.Core.Path.{◌≡◌, refl, sym, ◌∙◌, ap, ap₂}
-use mathlib.Core.List.{List}
-use native.Mathlib.Decide.{ℕ_discrete}
-use native.Mathlib.Omega.{arith}
-use lib.ListN.{length, get_or, set, length-set}
-use lib.Seq.{get_or-set_same, get_or-set_other}
+use Rattle.std.proofs.Common.{ℕ, zero, suc, ◌+◌, ◌*◌, ◌/◌, ◌%◌, ◌≤◌, ◌<◌, ◌≡◌, refl, sym, ◌∙◌, ap, ap₂, List, arith, length, get_or, set}
+use Rattle.std.proofs.Common.{length-set, get_or-set_same, get_or-set_other}
+use Rattle.std.proofs.Math.Decide.{ℕ_discrete}
+use Rattle.std.proofs.lemmas.Grind.{common_steps}
 use Rattle.text.specs.frames.Frame.{size, field, pair_at, quad_at}
 use Rattle.text.specs.frames.Verdict.{fine}
 use Rattle.image.specs.Image.{Label}
@@ -31,10 +28,8 @@ Away b n p = (l : ℕ) → l < n → (p ≡ place b l → ⊥) × (p ≡ place b
 module _ (b : List ℕ) where
   pub noted-to-length : (n : ℕ) → length (noted_to b n) ≡ length b
   unfolding noted_to
-  noted-to-length zero = refl
-  noted-to-length (suc n) =
-      length-set (set (noted_to b n) (place b n) (first_frame b (n + 1) % 256)) (place b n + 1) (first_frame b (n + 1) / 256)
-      ∙ length-set (noted_to b n) (place b n) (first_frame b (n + 1) % 256) ∙ noted-to-length n
+  noted-to-length zero = grind (arith, common_steps)
+  noted-to-length (suc n) = grind (arith, common_steps, noted-to-length n, length-set)
 
   pub noted-to-other : (n p : ℕ) → Away b n p → get_or (noted_to b n) p 0 ≡ get_or b p 0
   unfolding noted_to
@@ -169,7 +164,4 @@ module _ (b : List ℕ) where
     noted-high = noted-to-high b (last_label b + 1) l (omega arith) (omega (arith, rows_inside b ok))
 
     pub noted-in : noted_in (noted_table b) l ≡ first_frame b (l + 1)
-    noted-in =
-        ap (λ (n : ℕ). field (noted_table b) (n + l) 0 + field (noted_table b) (n + l) 1 * 256) noted-labels-from
-        ∙ ap₂ (λ (x y : ℕ). x + y * 256) noted-low noted-high
-        ∙ (let e : first_frame b (l + 1) % 256 + first_frame b (l + 1) / 256 * 256 ≡ first_frame b (l + 1) = omega arith in e)
+    noted-in = grind (arith, common_steps, noted-labels-from, noted-low, noted-high)

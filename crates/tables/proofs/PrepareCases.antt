@@ -1,10 +1,6 @@
 -- The preparation of an image, by the image check's answer: what was read stays, or is noted; the table is copied where it has room.
-use Prim.Native.Nat.{ℕ, ◌*◌, ◌≤◌, ◌<◌}
-use mathlib.Core.Path.{◌≡◌, sym, ◌∙◌, ap, ap₂}
-use mathlib.Core.List.{List, ◌++◌}
-use native.Mathlib.Omega.{arith}
-use lib.ListN.{length, take, drop}
-use lib.Seq.{take_at, drop_at}
+use Rattle.std.proofs.Common.{ℕ, ◌*◌, ◌≤◌, ◌<◌, ◌≡◌, sym, ◌∙◌, ap, ap₂, List, ◌++◌, arith, length, take, drop, take_at, drop_at, Ok, Err}
+use Rattle.std.proofs.lemmas.Grind.{common_steps}
 use Rattle.words.specs.lists.Sequences.{over, written}
 use Rattle.words.proofs.lists.Written.{written-front}
 use Rattle.text.specs.frames.Frame.{frame_count, contents}
@@ -12,12 +8,11 @@ use Rattle.text.specs.frames.Verdict.{fine, refused}
 use Rattle.text.specs.frames.Answer.{Answer, reply, verdict_reply, GivesBuffer}
 use Rattle.text.specs.frames.Check.{text_verdict}
 use Rattle.text.specs.frames.Read.{read_buffer}
-use Rattle.std.proofs.Common.{Ok, Err}
 use Rattle.text.specs.declared.frames.refusals.Refusal.{Refusal}
 use Rattle.text.specs.declared.frames.refusals.Refusal.TheVariants.{NoRoom}
 use Rattle.text.specs.frames.Refusal.{number_of, index_of, ticks_of}
 use Rattle.text.proofs.frames.Verdicts.{next-first}
-use Rattle.text.proofs.frames.Chains.{err-refused, err-judged, judged-fine}
+use Rattle.text.proofs.frames.Chains.{err-refused, judged-fine}
 use Rattle.text.proofs.frames.Contents.{any-contents-length}
 use Rattle.text.proofs.frames.Reading.{read-fine}
 use Rattle.text.proofs.frames.Lent.{lent-err, lent-short, lent-done}
@@ -35,10 +30,7 @@ module _ (t : List ℕ) (a : Answer) (gives : reply a ≡ verdict_reply (image_v
 
   pub table-refused : (old out : List ℕ) → out ≡ read_buffer 29831 t old → GivesPrepared t old (Err r) out
   unfolding prepared_buffer
-  table-refused old out left = record {
-    answered = err-judged (image_verdict t) r 0 verdict.0 verdict.1;
-    written = left ∙ rw (verdict.0, prepared_buffer);
-  }
+  table-refused old out left = grind (arith, common_steps)
 
   pub image-refused : (old : List ℕ) → GivesBuffer (prepare t old) (Err r) old
   unfolding prepare
@@ -89,9 +81,7 @@ module _ (t : List ℕ) (ok : image_verdict t ≡ fine) where
   -- ---- the table at the front of the buffer that it was made in
   module _ (old made : List ℕ) (is : made ≡ prepared_buffer t old) where
     pub made-front : take long made ≡ noted_table (contents t)
-    made-front =
-        ap (λ (x : List ℕ). take long x) (is ∙ prepared-fine old)
-        ∙ take_at (noted_table (contents t)) (drop (length (noted_table (contents t))) old) long prepared-length
+    made-front = grind (arith, common_steps, take_at, prepared-fine, prepared-length)
 
     pub made-length : long ≡ length (take long made)
     made-length = sym (ap (λ (x : List ℕ). length x) made-front ∙ prepared-length)
@@ -99,10 +89,7 @@ module _ (t : List ℕ) (ok : image_verdict t ≡ fine) where
     pub image-done : (given : List ℕ) → long ≤ length given → (out : List ℕ) → out ≡ written given 0 (take long made)
         → GivesBuffer (prepare t given) (Ok long) out
     unfolding prepare
-    image-done given h out e =
-        lent-done (image_verdict t) 1 (λ _. noted_table (contents t)) given ok (omega (arith, prepared-length))
-        long (omega (arith, prepared-length)) out
-        (e ∙ ap (written given 0) made-front ∙ written-front given (noted_table (contents t)))
+    image-done given h out e = grind (arith, common_steps, written-front, lent-done, prepared-length, made-front)
 
   pub image-short : (given : List ℕ) → length given < long → GivesBuffer (prepare t given) (Err NoRoom) given
   unfolding prepare

@@ -1,16 +1,10 @@
 -- The table that is prepared from an accepted image holds the very image that the text does.
-use Rattle.std.proofs.Common.{if◌then◌else◌}
-use Prim.Native.Nat.{ℕ, zero, suc, ◌+◌, ◌*◌, ◌-◌, ◌%◌, ◌≤◌, ◌<◌}
-use mathlib.Core.Bool.{false, ◌||◌}
-use mathlib.Core.Path.{◌≡◌, sym, ◌∙◌, ap, ap₂}
-use mathlib.Core.List.{List, map}
-use native.Mathlib.Nat.{zero-add}
-use native.Mathlib.Decide.{ℕ_discrete, dec_lt}
-use native.Mathlib.Omega.{arith}
-use lib.Dec.{ltb, eqb}
-use lib.ListN.{length, take, drop, get_or, length-append, length-take, get_or-append}
-use lib.Seq.{get_or-take}
-use borrow.Author.Tests.{le-ltb, eq-eqb, ne_eqb}
+use Rattle.std.proofs.Common.{if◌then◌else◌, ℕ, zero, suc, ◌+◌, ◌*◌, ◌-◌, ◌%◌, ◌≤◌, ◌<◌, false, ◌||◌, ◌≡◌, sym, ◌∙◌, ap, ap₂, List, map}
+use Rattle.std.proofs.Common.{zero-add, arith, ltb, eqb, length, take, get_or, length-append, length-take, get_or-take, le-ltb, eq-eqb}
+use Rattle.std.proofs.Common.{ne_eqb}
+use Rattle.std.proofs.Math.Decide.{ℕ_discrete, dec_lt}
+use Rattle.std.proofs.Math.ListN.{get_or-append}
+use Rattle.std.proofs.lemmas.Grind.{common_steps}
 use Rattle.words.specs.lists.Numbers.{range}
 use Rattle.words.specs.lists.Sequences.{concat_map}
 use Rattle.words.proofs.lists.Joins.{concat-alike}
@@ -22,11 +16,11 @@ use Rattle.text.specs.frames.Answer.{success}
 use Rattle.text.proofs.frames.Lent.{Success, lent-told}
 use Rattle.text.proofs.frames.Contents.{any-contents-length}
 use Rattle.image.specs.Image.{Label, Row, nth_row}
-use Rattle.image.specs.Decode.{scheme_count, last_label, row_count, rows_from, entry_in, label_in, row_in, decoded_image, row_in_frame}
+use Rattle.image.specs.Decode.{scheme_count, last_label, row_count, rows_from, label_in, row_in, decoded_image, row_in_frame}
 use Rattle.image.specs.Check.{has_bad_counts, has_bad_handler, table_verdict, image_verdict}
 use Rattle.image.specs.inner.Sound.{SoundLabel, SoundRow, nth_label}
-use Rattle.image.proofs.Accepted.{label-read, row_read, labels-count, entries-count, rows-count}
-use Rattle.image.proofs.Accepted.{counted, accepted-sound, image-bytes, image-table}
+use Rattle.image.proofs.Accepted.{label-read, row_read, labels-count, entries-count, rows-count, counted, accepted-sound, image-bytes}
+use Rattle.image.proofs.Accepted.{image-table}
 use Rattle.tables.specs.Prepare.{first_frame, noted_table, prepare}
 use Rattle.tables.specs.Table.{table_end, is_bad_table, label_on, table_label, first_on, end_on, row_on, rows_on, table_image}
 use Rattle.tables.specs.Prepared.{PreparedEntry, PreparedOnSuccess}
@@ -34,8 +28,8 @@ use Rattle.tables.specs.inner.Asked.{Whole}
 use Rattle.tables.proofs.RangeLaws.{map-alike, map-moved, ranges-join}
 use Rattle.tables.proofs.Front.{handler-alike, counts-alike, alike-image, counts_same, bad-handler-same, end_same}
 use Rattle.tables.proofs.TableReads.{label-on}
-use Rattle.tables.proofs.Noted.{noted-length, noted-schemes, noted-last, noted-rows, noted-handler, noted-rows-from, noted-end}
-use Rattle.tables.proofs.Noted.{noted-label, noted-late, noted-pair, noted-in}
+use Rattle.tables.proofs.Noted.{noted-length, noted-schemes, noted-last, noted-rows, noted-handler, noted-rows-from, noted-end, noted-label}
+use Rattle.tables.proofs.Noted.{noted-late, noted-pair, noted-in}
 use Rattle.tables.proofs.FirstFrames.{first-low, first-inside, first-rises, first-own, first_two, first-last}
 
 module _ (b : List ℕ) (ok : table_verdict b ≡ fine) where
@@ -58,11 +52,7 @@ module _ (b : List ℕ) (ok : table_verdict b ≡ fine) where
   noted-handler-good = handler-alike b (noted_table b) (noted-handler b) (noted-schemes b) ∙ (counted b ok).handler
 
   pub noted-whole : length b % 10 ≡ 0 → Whole (noted_table b)
-  noted-whole e = record {
-    counts = noted-counts ∙ accepted-counts;
-    handler = noted-handler-good;
-    alone = omega (arith, noted-length b, noted-end b, whole-size);
-  }
+  noted-whole e = grind (arith, common_steps, noted-length, noted-end, whole-size, accepted-counts, noted-counts, noted-handler-good)
 
   module _ (bytes : (k : ℕ) → get_or b k 0 < 256) where
     -- ---- labels: what the image check lets pass is read as it stands
@@ -198,16 +188,7 @@ module _ (b : List ℕ) (ok : table_verdict b ≡ fine) where
 
     pub prepared-image : table_image (noted_table b) ≡ decoded_image b
     unfolding table_image decoded_image
-    prepared-image =
-        let e : map (entry_in (noted_table b)) (range 1 (scheme_count (noted_table b))) ≡ map (entry_in b) (range 1 (scheme_count b)) =
-        ap (λ (n : ℕ). map (entry_in (noted_table b)) (range 1 n)) (noted-schemes b)
-        ∙ map-alike (entry_in (noted_table b)) (entry_in b) 1 (scheme_count b) (λ h p q. noted-late b h 2 (omega arith) (omega arith)) in
-        let l : map (label_on (noted_table b)) (range 0 (last_label (noted_table b) + 1)) ≡ map (label_in b) (range 0 (last_label b + 1)) =
-        ap (λ (n : ℕ). map (label_on (noted_table b)) (range 0 (n + 1))) (noted-last b)
-        ∙ map-alike (label_on (noted_table b)) (label_in b) 0 (last_label b + 1) (λ k p q. label-sound k (omega arith)) in
-        let r : concat_map (rows_on (noted_table b)) (range 2 (last_label (noted_table b) - 1)) ≡ map (row_in b) (range 0 (row_count b)) =
-        ap (λ (n : ℕ). concat_map (rows_on (noted_table b)) (range 2 (n - 1))) (noted-last b) ∙ rows_all in
-        λ j. record { handler = noted-handler b j; entries = e j; labels = l j; rows = r j }
+    prepared-image = grind (arith, common_steps, noted-handler, noted-schemes, noted-last, map-alike, noted-late, label-sound, rows_all)
 
 -- ---- over the entry: what it wrote, with anything behind it
 module _ (t old : List ℕ) (n : ℕ) (e : (prepare t old).reply ≡ success n) where
@@ -232,21 +213,10 @@ module _ (t old : List ℕ) (n : ℕ) (e : (prepare t old).reply ≡ success n) 
     c = take m (prepare t old).buffer
 
     long : n ≤ length c
-    long = omega (
-      arith,
-      length-take m (prepare t old).buffer,
-      ap (λ (xs : List ℕ). length xs) told.buffer,
-      length-append (noted_table b) (drop (length (noted_table b)) old),
-      noted-length b,
-      count-is,
-    )
+    long = grind (arith, common_steps, noted-length, length-take, length-append, told, count-is)
 
     same : (k : ℕ) → k < 10 * table_end (noted_table b) → get_or c k 0 ≡ get_or (noted_table b) k 0
-    same k g =
-        get_or-take m (prepare t old).buffer k 0 (omega (arith, noted-end b, end_is))
-        ∙ ap (λ (xs : List ℕ). get_or xs k 0) told.buffer
-        ∙ get_or-append (noted_table b) (drop (length (noted_table b)) old) 0 k
-        (omega (arith, noted-end b, end_is, noted-length b, count-is))
+    same k g = grind (arith, common_steps, get_or-append, get_or-take, noted-length, noted-end, told, count-is, end_is)
 
     taken-good : is_bad_table c ≡ false
     taken-good =
@@ -260,13 +230,7 @@ module _ (t old : List ℕ) (n : ℕ) (e : (prepare t old).reply ≡ success n) 
     taken-image = alike-image (noted_table b) c same ∙ prepared-image b table-fine (image-bytes t told.accepted)
 
   pub prepared : PreparedEntry t old n
-  prepared = record {
-    accepted = told.accepted;
-    count = count-is;
-    room = omega (arith, told.fits, noted-length b, count-is);
-    good = taken-good;
-    image = taken-image;
-  }
+  prepared = grind (arith, common_steps, noted-length, told, count-is, taken-good, taken-image)
 
 pub prepared-on-success : PreparedOnSuccess
 prepared-on-success = prepared

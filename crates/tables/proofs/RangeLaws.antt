@@ -1,17 +1,13 @@
 -- Lists over ranges of numbers: functions that agree on a range, ranges moved, and ranges that follow one another.
-use Prim.Native.Nat.{ℕ, zero, suc, ◌+◌, ◌-◌, ◌≤◌, ◌<◌}
-use mathlib.Core.Path.{◌≡◌, refl, sym, ◌∙◌, ap, ap₂}
-use mathlib.Core.List.{List, ◌∷◌, ◌++◌, map}
-use native.Mathlib.Nat.{add-zero}
-use native.Mathlib.Omega.{arith}
+use Rattle.std.proofs.Common.{ℕ, zero, suc, ◌+◌, ◌-◌, ◌≤◌, ◌<◌, ◌≡◌, refl, sym, ◌∙◌, ap, ap₂, List, ◌∷◌, ◌++◌, map, add-zero, arith}
+use Rattle.std.proofs.lemmas.Grind.{common_steps}
 use Rattle.words.specs.lists.Numbers.{range}
 use Rattle.words.specs.lists.Sequences.{concat_map}
 use Rattle.words.proofs.lists.Ranges.{range-append, map-append}
 
 pub map-alike : {A : Type 0} (f g : ℕ → A) (a n : ℕ) → ((k : ℕ) → a ≤ k → k < a + n → f k ≡ g k) → map f (range a n) ≡ map g (range a n)
-map-alike f g a zero h = refl
-map-alike f g a (suc n) h =
-    ap₂ (λ x xs. x ∷ xs) (h a (omega arith) (omega arith)) (map-alike f g (suc a) n (λ k p q. h k (omega arith) (omega arith)))
+map-alike f g a zero h = grind (arith, common_steps)
+map-alike f g a (suc n) h = grind (arith, common_steps, map-alike f g (suc a) n (λ k p q. h k (omega arith) (omega arith)))
 
 pub map-moved : {A : Type 0} (f g : ℕ → A) (a c n : ℕ) → ((k : ℕ) → f (a + k) ≡ g (c + k)) → map f (range a n) ≡ map g (range c n)
 map-moved f g a c zero h = refl
@@ -26,9 +22,8 @@ module _ {A : Type 0} (g : ℕ → A) (bound : ℕ → ℕ) (up : (l : ℕ) → 
   between a c = map g (range a (c - a))
 
   bound-rises : (i n : ℕ) → bound i ≤ bound (i + n)
-  bound-rises i zero = let e : bound i ≡ bound (i + 0) = ap bound (sym (add-zero i)) in omega arith
-  bound-rises i (suc n) =
-      let e : bound (i + n + 1) ≡ bound (i + suc n) = ap bound (omega arith) in omega (arith, bound-rises i n, up (i + n))
+  bound-rises i zero = grind (arith, common_steps, add-zero)
+  bound-rises i (suc n) = grind (arith, common_steps, bound-rises i n)
 
   join : (a c e : ℕ) → a ≤ c → c ≤ e → between a c ++ between c e ≡ between a e
   join a c e h k =

@@ -1,14 +1,9 @@
 -- Changes of a state that keep it fitting a sound image:
 -- the top replaced, a scheme opened above it, the top taken off, one scheme left alone.
-use Prim.Native.Nat.{ℕ, zero, suc, ◌+◌, ◌-◌, ◌≤◌, ◌<◌}
-use mathlib.Core.Bool.{true, false, ◌&&◌, not}
-use mathlib.Core.Path.{◌≡◌, refl, ap, ap₂, ◌∙◌, sym, subst}
-use mathlib.Core.Logic.{◌⊎◌, inl, inr}
-use mathlib.Core.List.{List}
-use lib.Dec.{eqb}
-use lib.ListN.{length, get_or, set, length-set, get_or-replicate}
-use lib.Seq.{get_or-set_same, get_or-set_other}
-use native.Mathlib.Omega.{arith}
+use Rattle.std.proofs.Common.{ℕ, zero, suc, ◌+◌, ◌-◌, ◌≤◌, ◌<◌, true, false, ◌&&◌, not, ◌≡◌, refl, ap, ap₂, ◌∙◌, sym, subst, ◌⊎◌, inl, inr}
+use Rattle.std.proofs.Common.{List, eqb, length, get_or, set, length-set, get_or-set_same, get_or-set_other, arith}
+use Rattle.std.proofs.Math.ListN.{get_or-replicate}
+use Rattle.std.proofs.lemmas.Grind.{common_steps}
 use Rattle.words.proofs.lists.Tests.{split}
 use Rattle.results.specs.Results.{Results}
 use Rattle.image.specs.Image.{Image}
@@ -42,35 +37,19 @@ module _ (i : Image) (sound : SoundImage i) where
     same-carry : (k : ℕ) → place_at t k ≡ place_at s k → number_at t (k + 1) ≡ number_at s (k + 1)
         → server_at t (k + 1) ≡ server_at s (k + 1)
         → place_at t (k + 1) ≡ place_at s (k + 1) → is_carried i t k ≡ is_carried i s k
-    same-carry k a b c d =
-        ap₂ (λ (x y : ℕ). is_able_to_carry i x y (server_at t (k + 1)) (place_at t (k + 1))) a b
-        ∙ ap₂ (λ (x y : ℕ). is_able_to_carry i (place_at s k) (number_at s (k + 1)) x y) c d
+    same-carry k a b c d = grind (arith, common_steps)
 
     same-bottom : place_at t 0 ≡ place_at s 0 → number_at t 0 ≡ number_at s 0 → server_at t 0 ≡ server_at s 0
         → has_bad_bottom i t ≡ has_bad_bottom i s
-    same-bottom a b c =
-        ap (λ (x : ℕ). has_bad_bottom_by i sound x (is_own_bottom t 1) (is_own_bottom t i.handler)) a
-        ∙ ap₂ (λ (x y : ℕ). has_bad_bottom_by i sound (place_at s 0) (eqb x 1 && eqb y 1) (eqb x i.handler && eqb y i.handler)) b c
+    same-bottom a b c = grind (arith, common_steps)
 
     same-filled : (k : ℕ) → place_at t k ≡ place_at s k → number_at t k ≡ number_at s k
         → server_at t k ≡ server_at s k → is_filled_place t k ≡ is_filled_place s k
-    same-filled k a b c =
-        ap₂ (λ (x y : ℕ). not (eqb x 0 && eqb y 0 && eqb (server_at t k) 0)) a b
-        ∙ ap (λ (x : ℕ). not (eqb (place_at s k) 0 && eqb (number_at s k) 0 && eqb x 0)) c
+    same-filled k a b c = grind (arith, common_steps)
 
   -- bits are free
   pub bits_fit : (s : State) (b : Results) → Fits i s → Fits i (with_bits s b)
-  bits_fit s b f = record {
-    whole = record { places = f.whole.places; serving = f.whole.serving; numbers = f.whole.numbers; servers = f.whole.servers };
-    small = f.small;
-    some = f.some;
-    most = f.most;
-    labels = f.labels;
-    carries = f.carries;
-    bottom = f.bottom;
-    above = f.above;
-    serves = f.serves;
-  }
+  bits_fit s b f = grind (arith, common_steps)
 
   pub replaced-fits : (s : State) (u : ℕ) → Fits i s → (place_at s (s.depth - 1) ≡ 1 → ⊥)
       → Reaches i (label_at i (place_at s (s.depth - 1))).owner u → Fits i (with_place s (s.depth - 1) u)

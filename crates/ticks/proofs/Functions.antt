@@ -1,22 +1,16 @@
 -- A function's label takes its row for bit 0 if nothing writes 1 to the bit of the number called meanwhile:
 -- from the call on the bit is 0, and the label stays in its place under the top, until the call's own return.
-use Rattle.std.proofs.Common.{if◌then◌else◌}
-use Prim.Native.Nat.{ℕ, zero, suc, ◌+◌, ◌-◌, ◌≤◌, ◌<◌}
-use mathlib.Core.Bool.{Bool, true, false, ◌&&◌}
-use mathlib.Core.Path.{◌≡◌, refl, ap, ◌∙◌, sym, subst}
-use mathlib.Core.Logic.{◌⊎◌, inl, inr}
-use lib.Dec.{leb, eqb}
-use lib.ListN.{length, get_or-eq_default}
-use lib.Seq.{get_or-set_other}
-use native.Mathlib.Omega.{arith}
-use borrow.Author.Tests.{eqb-true, eqb-false, eq-eqb, lt-leb}
-use Rattle.words.proofs.lists.Tests.{no_both, or_l, or_cases, and_l, and_r, and-true, and-false, split}
+use Rattle.std.proofs.Common.{if◌then◌else◌, ℕ, zero, suc, ◌+◌, ◌-◌, ◌≤◌, ◌<◌, Bool, true, false, ◌≡◌, refl, ap, ◌∙◌, subst, ◌⊎◌, inl, inr}
+use Rattle.std.proofs.Common.{leb, eqb, length, get_or-set_other, arith, eqb-true, eq-eqb}
+use borrow.Author.Tests.{eqb-false, lt-leb}
+use Rattle.std.proofs.lemmas.Grind.{common_steps}
+use Rattle.words.proofs.lists.Tests.{no_both, or_l, or_cases, and_l, and_r, and-true, and-false}
 use Rattle.results.specs.Results.{Results, result_of, with_result, cleared_results}
 use Rattle.bindings.specs.Binding.{server_of}
-use Rattle.results.proofs.ResultLaws.{cleared-own, cleared-keeps, result-keeps}
+use Rattle.results.proofs.ResultLaws.{cleared-own, result-keeps}
 use Rattle.text.specs.frames.Frame.{contents}
 use Rattle.image.specs.Layout.{tick_kind}
-use Rattle.image.specs.Image.{Image, Label, no_label, return_label}
+use Rattle.image.specs.Image.{Image, Label, return_label}
 use Rattle.image.specs.Decode.{decoded_image}
 use Rattle.image.specs.inner.Sound.{SoundImage}
 use Rattle.image.proofs.Accepted.{image-sound}
@@ -27,10 +21,10 @@ use Rattle.state.specs.Changes.{with_bits}
 use Rattle.fitness.specs.Fitness.{is_call, is_of_handler}
 use Rattle.fitness.proofs.FitCases.{kind-call}
 use Rattle.fitness.proofs.Fitness.{Fits, unfits}
-use Rattle.ticks.specs.Tick.{row_leads, MachineTick, finished, stopped, moved_tick, state_alone, popped_state}
-use Rattle.ticks.specs.Tick.{is_full_stack_kept, pushed_tick, popped_tick, tick_by, tick, top_of}
-use Rattle.ticks.specs.Functions.{is_at_full_call, CallClears, Drop, Drops, is_machine_write_of_one, is_return_at}
-use Rattle.ticks.specs.Functions.{MachineUnwritten, none, more, binding_changed, return_tick, ZeroRow}
+use Rattle.ticks.specs.Tick.{row_leads, MachineTick, finished, stopped, moved_tick, state_alone, is_full_stack_kept, pushed_tick}
+use Rattle.ticks.specs.Tick.{popped_tick, tick_by, tick, top_of}
+use Rattle.ticks.specs.Functions.{is_at_full_call, CallClears, Drop, Drops, is_machine_write_of_one, is_return_at, MachineUnwritten, none}
+use Rattle.ticks.specs.Functions.{more, binding_changed, return_tick, ZeroRow}
 
 -- ---- a finished call
 abbrev Cleared : ℕ → MachineTick → Type 0
@@ -39,32 +33,7 @@ Cleared h (stopped n) = Unit {0}
 
 pub call-clears : CallClears
 unfolding CallClears tick
-call-clears i s call w m code t e =
-    subst (λ (r : Bool). result_of (if r then i.handler else h) t.bits ≡ false) (sym (ap (λ (c : Bool). c && leb s.size s.depth) call))
-    (subst (Cleared (if leb s.size s.depth then i.handler else h)) e (go (or_cases (eqb x.kind 1) (eqb x.kind 2) call)))
-  where
-    x : Label
-    x = label_at i (top_of s)
-
-    h : ℕ
-    h = x.called
-
-    b : Results
-    b = with_result x.result (number_at s (s.depth - 1)) s.bits
-
-    drops : (m : ℕ) (r : Bool) → Cleared i.handler (if r then stopped 17
-        else finished m 96 (state_alone s (entry_at i i.handler) i.handler (cleared_results i.handler b)))
-    drops m true = tt
-    drops m false = cleared-own i.handler b
-
-    pushes : (m code : ℕ) (r : Bool) → Cleared (if r then i.handler else h) (pushed_tick i s m code h (server_of s.serving h) b r)
-    pushes m code true = drops m (is_full_stack_kept i s)
-    pushes m code false = cleared-own h b
-
-    go : (eqb x.kind 1 ≡ true) ⊎ (eqb x.kind 2 ≡ true)
-        → Cleared (if leb s.size s.depth then i.handler else h) (tick_by i s w (top_of s) x b (tick_kind x.kind))
-    go (inl p) = rw (eqb-true x.kind 1 p) (pushes x.mask (16 + h) (leb s.size s.depth))
-    go (inr p) = rw (eqb-true x.kind 2 p) (pushes x.mask (64 + h) (leb s.size s.depth))
+call-clears i s call w m code t e = grind (arith, common_steps)
 
 -- ---- a drop
 abbrev Dropped : Image → Label → State → MachineTick → Type 0
@@ -125,45 +94,27 @@ module _ (l d h : ℕ) (some : 1 ≤ d) (deep : 2 ≤ h) where
 
   module _ (i : Image) (s : State) (y : Waits s) where
     moved-waits : (m code : ℕ) (t : State) (k : ℕ) (f : Found) → (d - 1 ≡ k → ⊥) → Waits t → After (moved_tick m code t k f)
-    moved-waits m code t k (found u) p z =
-        record { above = z.above; label = get_or-set_other t.places k (d - 1) u 0 p ∙ z.label; unset = z.unset }
-    moved-waits m code t k missing p z = tt
+    moved-waits m code t k (found u) p z = grind (arith, common_steps)
+    moved-waits m code t k missing p z = grind (arith, common_steps)
 
     bits-wait : (b : Results) → result_of h b ≡ false → Waits (with_bits s b)
     bits-wait b e = record { above = y.above; label = y.label; unset = e }
 
     pushed_waits : (m code g k : ℕ) (b : Results) → leb s.size s.depth ≡ false → result_of h b ≡ false
         → After (pushed_tick i s m code g k b (leb s.size s.depth))
-    pushed_waits m code g k b room e =
-        subst (λ (t : Bool). After (pushed_tick i s m code g k b t)) (sym room)
-        (record {
-          above = omega (arith, y.above);
-          label = get_or-set_other s.places s.depth (d - 1) (entry_at i k) 0 (λ p. omega (arith, y.above)) ∙ y.label;
-          unset = cleared-keeps g h b e;
-        })
+    pushed_waits m code g k b room e = grind (arith, common_steps)
 
     popped-waits : (w m : ℕ) (b : Results) → (s.depth ≡ suc d → ⊥) → result_of h b ≡ false → After (popped_tick i s w m b (leb s.depth 1))
-    popped-waits w m b low e =
-        subst (λ (t : Bool). After (popped_tick i s w m b t)) (sym (lt-leb s.depth 1 (omega (arith, y.above))))
-        (moved-waits m 3 (popped_state s b) (s.depth - 2) (row_leads i b (place_at s (s.depth - 2)) w) (λ p. omega (arith, y.above))
-        (record {
-          above = omega (arith, y.above);
-          label = get_or-set_other s.places (s.depth - 1) (d - 1) 0 0 (λ p. omega (arith, y.above)) ∙ y.label;
-          unset = e;
-        }))
+    popped-waits w m b low e = grind (arith, common_steps, get_or-set_other, lt-leb, moved-waits)
 
     -- by the tick kind of the top label; a call has a place free, and a return is not the call's own
     by-waits : (w k : ℕ) (x : Label) (b : Results) → result_of h b ≡ false → (1 ≤ k → k ≤ 2 → leb s.size s.depth ≡ false)
         → (k ≡ 3 → s.depth ≡ suc d → ⊥) → After (tick_by i s w (top_of s) x b (tick_kind k))
-    by-waits w zero x b e room own =
-        moved-waits x.mask 0 (with_bits s b) (s.depth - 1) (row_leads i b (top_of s) w) (λ p. omega (arith, y.above)) (bits-wait b e)
-    by-waits w (suc zero) x b e room own =
-        pushed_waits x.mask (16 + x.called) x.called (server_of s.serving x.called) b (room (omega arith) (omega arith)) e
-    by-waits w (suc (suc zero)) x b e room own =
-        pushed_waits x.mask (64 + x.called) x.called (server_of s.serving x.called) b (room (omega arith) (omega arith)) e
-    by-waits w (suc (suc (suc zero))) x b e room own = popped-waits w x.mask b (own refl) e
-    by-waits w (suc (suc (suc (suc k)))) x b e room own =
-        moved-waits x.mask 4 (with_bits s b) (s.depth - 1) (found (entry_at i 1)) (λ p. omega (arith, y.above)) (bits-wait b e)
+    by-waits w zero x b e room own = grind (arith, common_steps, moved-waits, bits-wait)
+    by-waits w (suc zero) x b e room own = grind (arith, common_steps, pushed_waits)
+    by-waits w (suc (suc zero)) x b e room own = grind (arith, common_steps, pushed_waits)
+    by-waits w (suc (suc (suc zero))) x b e room own = grind (arith, common_steps, popped-waits)
+    by-waits w (suc (suc (suc (suc k)))) x b e room own = grind (arith, common_steps, moved-waits, bits-wait)
 
     tick-waits : (w : ℕ) → is_at_full_call i s ≡ false → is_return_at i (suc d) s ≡ false → is_machine_write_of_one i h s ≡ false
         → After (tick i s w)
@@ -185,13 +136,9 @@ module _ (l d h : ℕ) (some : 1 ≤ d) (deep : 2 ≤ h) where
 module _ (i : Image) (sound : SoundImage i) where
   -- only label 1 returns
   return-is : (l : ℕ) → (label_at i l).kind ≡ 3 → label_at i l ≡ return_label
-  return-is zero k = absurd (omega (arith, ap (λ (x : Label). x.kind) sound.home))
-  return-is (suc zero) k = sound.back
-  return-is (suc (suc l)) k = absurd (go (split (suc (suc l)) (length i.labels)))
-    where
-      go : (suc (suc l) < length i.labels) ⊎ (length i.labels ≤ suc (suc l)) → ⊥
-      go (inl m) = omega (arith, (sound.others (suc (suc l)) (omega arith) m).kinds)
-      go (inr m) = omega (arith, ap (λ (x : Label). x.kind) (get_or-eq_default i.labels no_label m))
+  return-is zero k = grind (arith, common_steps)
+  return-is (suc zero) k = grind (arith, common_steps)
+  return-is (suc (suc l)) k = grind (arith, common_steps)
 
   -- a function's label calls a number of 2 up
   function-calls : (l : ℕ) → l < length i.labels → (label_at i l).kind ≡ 2 → 2 ≤ (label_at i l).called
@@ -213,17 +160,7 @@ module _ (i : Image) (sound : SoundImage i) where
     called-waits : (w m code : ℕ) (t : State) → tick i s w ≡ finished m code t → is_at_full_call i s ≡ false
         → Waits (top_of s) s.depth h f.some deep t
     unfolding tick
-    called-waits w m code t e room =
-        subst (After (top_of s) s.depth h f.some deep)
-        (ap (pushed_tick i s x.mask (64 + h) h (server_of s.serving h) (with_result x.result (number_at s (s.depth - 1)) s.bits))
-        (sym (free i s room (rw kinded)))
-        ∙ sym (ap (λ (n : ℕ). tick_by i s w (top_of s) x (with_result x.result (number_at s (s.depth - 1)) s.bits) (tick_kind n)) kinded)
-        ∙ e)
-        (record {
-          above = omega arith;
-          label = get_or-set_other s.places s.depth (s.depth - 1) (entry_at i (server_of s.serving h)) 0 (λ p. omega (arith, f.some));
-          unset = cleared-own h (with_result x.result (number_at s (s.depth - 1)) s.bits);
-        })
+    called-waits w m code t e room = grind (arith, common_steps, get_or-set_other, cleared-own, free, deep)
 
     -- its own return
     own-return : (u : State) → Waits (top_of s) s.depth h f.some deep u → is_return_at i (suc s.depth) u ≡ true

@@ -1,18 +1,12 @@
 -- On a sound image a tick keeps a fitting state fitting, however it ends.
-use Rattle.std.proofs.Common.{if◌then◌else◌}
-use Prim.Native.Nat.{ℕ, zero, suc, ◌+◌, ◌-◌, ◌≤◌, ◌<◌}
-use mathlib.Core.Bool.{Bool, true, false, ◌&&◌, ◌||◌, not}
-use mathlib.Core.Path.{◌≡◌, refl, ap, ap₂, ◌∙◌, sym, subst}
-use mathlib.Core.List.{List}
-use lib.Dec.{leb, eqb}
-use lib.ListN.{length, get_or-replicate}
-use lib.Seq.{get_or-set_other}
-use native.Mathlib.Omega.{arith}
-use borrow.Author.Tests.{eqb-false, eq-eqb, leb-true, leb-false}
-use Rattle.words.proofs.lists.Ranges.{get_or-range}
+use Rattle.std.proofs.Common.{if◌then◌else◌, ℕ, zero, suc, ◌+◌, ◌-◌, ◌≤◌, ◌<◌, Bool, true, false, ◌&&◌, ◌||◌, not, ◌≡◌, refl, ap, ap₂, ◌∙◌}
+use Rattle.std.proofs.Common.{sym, subst, List, leb, eqb, length, get_or-set_other, arith, eq-eqb, leb-false}
+use Rattle.std.proofs.Math.ListN.{get_or-replicate}
+use borrow.Author.Tests.{eqb-false}
+use Rattle.std.proofs.lemmas.Grind.{common_steps}
 use Rattle.words.proofs.lists.Tests.{and-true}
 use Rattle.results.specs.Results.{Results, with_result, cleared_results}
-use Rattle.bindings.specs.Binding.{own_binding, server_of}
+use Rattle.bindings.specs.Binding.{server_of}
 use Rattle.text.specs.frames.Frame.{contents}
 use Rattle.text.specs.frames.Verdict.{fine}
 use Rattle.image.specs.Layout.{tick_kind}
@@ -26,13 +20,12 @@ use Rattle.state.specs.declared.State.{State}
 use Rattle.state.specs.State.{fresh, label_at, entry_at, place_at, number_at, server_at, Sized}
 use Rattle.state.specs.Changes.{with_place, with_bits}
 use Rattle.fitness.specs.Fitness.{is_call, is_callable, is_of_handler, is_badly_served, is_unfit}
-use Rattle.fitness.proofs.Fitness.{Fits, fits, unfits, callable-range, range-callable, called-served}
+use Rattle.fitness.proofs.Fitness.{Fits, fits, unfits, callable-range, called-served}
 use Rattle.ticks.specs.Functions.{FreshFits, TickFits}
 use Rattle.ticks.specs.Tick.{row_leads, MachineTick, finished, stopped, moved_tick, popped_state, state_alone, full_tick, pushed_tick}
 use Rattle.ticks.specs.Tick.{popped_tick, tick_by, tick}
-use Rattle.ticks.proofs.Leads.{Sort, home_sort, return_sort, numbered_sort, sort, row-leads}
-use Rattle.ticks.proofs.Leads.{call-kind, called-range, not-return, reaches-over}
-use Rattle.ticks.proofs.Leads.{enters, carry-told, may-carry, home-bottom, handler-bottom}
+use Rattle.ticks.proofs.Leads.{Sort, home_sort, return_sort, numbered_sort, sort, row-leads, call-kind, called-range, not-return}
+use Rattle.ticks.proofs.Leads.{reaches-over, enters, carry-told, may-carry, home-bottom, handler-bottom}
 use Rattle.ticks.proofs.Changes.{only_zero, bits_fit, replaced-fits, opening-fits, dropping-fits, alone-fits}
 
 module _ (i : Image) (sound : SoundImage i) where
@@ -162,15 +155,7 @@ module _ (i : Image) (sound : SoundImage i) where
 
   -- ---- a fresh state
   own-serves : (n h : ℕ) → 2 ≤ h → h < 17 → is_badly_served i (fresh n) h ≡ false
-  own-serves n h a b =
-      let e : server_of own_binding h ≡ h = get_or-range 1 16 (h - 1) 0 (omega arith) ∙ omega arith in
-      ap (λ (k : ℕ). not (if leb h (length i.entries) && not (eqb h i.handler) then is_callable i k else eqb k h)) e
-      ∙ go (leb h (length i.entries)) refl (eqb h i.handler)
-    where
-      go : (p : Bool) → leb h (length i.entries) ≡ p → (q : Bool) → not (if p && not q then is_callable i h else eqb h h) ≡ false
-      go true e true = ap not (eq-eqb h h refl)
-      go true e false = ap not (range-callable i h a (leb-true h (length i.entries) e))
-      go false e q = ap not (eq-eqb h h refl)
+  own-serves n h a b = grind (arith, common_steps)
 
   pub fresh-fits : (n : ℕ) → 1 ≤ n → n ≤ 32 → Fits i (fresh n)
   fresh-fits n l h = record {

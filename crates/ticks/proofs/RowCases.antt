@@ -1,21 +1,15 @@
 -- Which bit decides among the rows of a label, and where a row leads.
-use Rattle.std.proofs.Common.{if◌then◌else◌}
-use mathlib.Core.Path.{◌≡◌, refl, sym, ◌∙◌, ap}
-use mathlib.Core.List.{List}
-use Prim.Native.Nat.{ℕ, ◌≤◌, ◌<◌}
-use native.Mathlib.Omega.{arith}
-use native.Mathlib.Decide.{ℕ_discrete}
-use lib.Dec.{eqb}
-use borrow.Author.Tests.{eq-eqb, ne_eqb}
-use Rattle.words.proofs.lists.Tests.{if-true, if-false, bit-low}
+use Rattle.std.proofs.Common.{if◌then◌else◌, ◌≡◌, ◌∙◌, List, ℕ, ◌≤◌, ◌<◌, arith, eqb, eq-eqb, ne_eqb}
+use Rattle.std.proofs.lemmas.Grind.{common_steps}
+use Rattle.words.proofs.lists.Tests.{if-true, if-false}
 use Rattle.results.specs.Results.{Results, result_of}
 use Rattle.image.specs.Image.{Label}
 use Rattle.tables.specs.Table.{table_label}
 use Rattle.tables.specs.inner.Labels.{as_label, NumberedLabel}
-use Rattle.tables.specs.declared.Label as declared
 use Rattle.rows.specs.Rows.{Found, found, missing, next_of}
 use Rattle.rows.specs.inner.Search.{Deciding}
 use Rattle.ticks.specs.inner.TickContracts.{bit_of}
+use Rattle.tables.specs.declared.Label as declared
 
 -- ---- the bit that decides among the rows of label l, read as z, where the result of number h is looked at
 module _ (b : List ℕ) (l : ℕ) (z : declared.Label) (read : as_label z ≡ table_label b l) (bs : Results)
@@ -27,31 +21,12 @@ module _ (b : List ℕ) (l : ℕ) (z : declared.Label) (read : as_label z ≡ ta
   bit-none k = e ∙ if-false (eqb z.kind 2) (if result_of h bs then 1 else 0) 2 (ne_eqb z.kind 2 k)
 
   pub bit-decides : NumberedLabel b l → Deciding b l bit
-  bit-decides g = go (ℕ_discrete z.kind 2)
-    where
-      kind : z.kind ≡ (table_label b l).kind
-      kind = ap (λ (x : Label). x.kind) read
-
-      go : Dec (z.kind ≡ 2) → Deciding b l bit
-      go (yes k) = record {
-        label = g;
-        none = λ m _. omega (arith, bit-called k, bit-low (result_of h bs));
-        some = λ _. sym kind ∙ k;
-      }
-      go (no k) = record { label = g; none = λ _ m. k (kind ∙ m); some = λ m. absurd (m (bit-none k)) }
+  bit-decides g = grind (arith, common_steps)
 
 -- ---- where a row leads, as the number that was found
 module _ (n : ℕ) (f : Found) (e : n ≡ next_of f) where
   pub none_found : ((u : ℕ) → f ≡ found u → u < 256) → 256 ≤ n → f ≡ missing
-  none_found small h = go f refl
-    where
-      go : (g : Found) → f ≡ g → f ≡ missing
-      go (found u) p = absurd (omega (arith, small u p, e ∙ ap next_of p))
-      go missing p = p
+  none_found small h = grind (arith, common_steps)
 
   pub one_found : n < 256 → f ≡ found n
-  one_found h = go f refl
-    where
-      go : (g : Found) → f ≡ g → f ≡ found n
-      go (found u) p = p ∙ ap found (sym (e ∙ ap next_of p))
-      go missing p = absurd (omega (arith, e ∙ ap next_of p))
+  one_found h = grind (arith, common_steps)

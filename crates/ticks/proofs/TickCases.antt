@@ -1,15 +1,9 @@
 -- One tick on any table whose header holds: what it is for each kind of the top label, and that it leaves a depth of 1 to Σ.
-use Rattle.std.proofs.Common.{if◌then◌else◌}
-use mathlib.Core.Path.{◌≡◌, refl, sym, ◌∙◌, ap, subst}
-use mathlib.Core.Bool.{Bool, true, false}
-use mathlib.Core.List.{List}
-use Prim.Native.Nat.{ℕ, zero, suc, ◌-◌, ◌≤◌, ◌<◌}
-use native.Mathlib.Omega.{arith}
-use lib.Dec.{leb}
-use lib.ListN.{get_or, set}
-use lib.Seq.{get_or-set_same}
-use borrow.Author.Tests.{le-leb, lt-leb, leb-false}
-use Rattle.results.specs.Results.{Results, with_result, cleared_results}
+use Rattle.std.proofs.Common.{◌≡◌, refl, sym, ◌∙◌, ap, subst, Bool, true, false, List, ℕ, zero, suc, ◌-◌, ◌≤◌, ◌<◌, arith, leb, set}
+use Rattle.std.proofs.Common.{get_or-set_same, le-leb, leb-false}
+use borrow.Author.Tests.{lt-leb}
+use Rattle.std.proofs.lemmas.Grind.{common_steps}
+use Rattle.results.specs.Results.{Results, with_result}
 use Rattle.bindings.specs.Binding.{server_of}
 use Rattle.image.specs.Layout.{tick_kind}
 use Rattle.image.specs.Image.{Image, Label, no_label, home_label, return_label}
@@ -21,13 +15,13 @@ use Rattle.rows.specs.Rows.{Found, found, missing, lead_of}
 use Rattle.rows.proofs.TableRows.{row-above}
 use Rattle.ticks.specs.codes.Codes.{code_of}
 use Rattle.state.specs.declared.State.{State}
-use Rattle.state.specs.State.{entry_at, place_at, number_at}
+use Rattle.state.specs.State.{entry_at, number_at}
 use Rattle.state.specs.Changes.{with_place, with_bits}
 use Rattle.state.specs.Bytes.{state_of}
 use Rattle.state.proofs.ResultBytes.{held-places}
 use Rattle.ticks.specs.declared.TickEnd.{TickEnd}
-use Rattle.ticks.specs.Tick.{top_of, row_leads, MachineTick, finished, stopped, moved_tick, popped_state, state_alone}
-use Rattle.ticks.specs.Tick.{is_full_stack_kept, full_tick, pushed_tick, popped_tick, tick_by, tick}
+use Rattle.ticks.specs.Tick.{top_of, row_leads, MachineTick, finished, stopped, moved_tick, popped_state, state_alone, full_tick}
+use Rattle.ticks.specs.Tick.{pushed_tick, popped_tick, tick_by, tick}
 use Rattle.ticks.specs.inner.TickContracts.{TickAsked, beneath, state_after_tick, end_of_tick, GivesTickEnd}
 use Rattle.fitness.proofs.Depths.{DeepState, deep-told, deep-fine}
 
@@ -41,16 +35,13 @@ module _ (b before : List ℕ) (w : ℕ) where
 
   pub steps-ticked : (m k : ℕ) (t : State) (bytes : List ℕ) → here ≡ finished m k t → state_of bytes ≡ t
       → GivesTickEnd b before w (record { number = 0; mask = m; code = k }) bytes
-  steps-ticked m k t bytes e q =
-      record { step = sym (ap end_of_tick e); state = q ∙ sym (ap (state_after_tick (state_of before)) e); kept = λ z. absurd (z refl) }
+  steps-ticked m k t bytes e q = grind (arith, common_steps)
 
 -- a label that was put in the place of the top is at the top
 pub top-put : (mid bytes : List ℕ) (k n : ℕ) → (state_of bytes).places ≡ set (state_of mid).places k n → (state_of bytes).depth - 1 ≡ k → k
     < 32
     → n ≡ top_of (state_of bytes)
-top-put mid bytes k n e d h =
-    sym (ap (place_at (state_of bytes)) d ∙ ap (λ (xs : List ℕ). get_or xs k 0) e
-    ∙ get_or-set_same (state_of mid).places k n 0 (omega (arith, held-places mid)))
+top-put mid bytes k n e d h = grind (arith, common_steps, held-places, get_or-set_same)
 
 -- ---- the numbers of a table and a state that a tick may be made on
 module _ {b : List ℕ} {s : State} (y : TickAsked b s) where
@@ -70,14 +61,7 @@ module _ {b : List ℕ} {s : State} (y : TickAsked b s) where
   called-few l = omega (arith, (label-values b l).schemes, (counts-told b y.whole.counts).most)
 
 pub kind-low : {b : List ℕ} {l : ℕ} → NumberedLabel b l → (table_label b l).kind ≤ 2
-kind-low {b = b} {l = l} y = go (table_label b l).kind refl (label-values b l).kinds
-  where
-    go : (k : ℕ) → (table_label b l).kind ≡ k → k ≤ 4 → (table_label b l).kind ≤ 2
-    go zero e h = omega arith
-    go (suc zero) e h = omega arith
-    go (suc (suc zero)) e h = omega arith
-    go (suc (suc (suc zero))) e h = absurd (omega (arith, (label-values b l).three e, y.low))
-    go (suc (suc (suc (suc k)))) e h = absurd (omega (arith, (label-values b l).four (omega arith), y.low))
+kind-low {b = b} {l = l} y = grind (arith, common_steps)
 
 -- ---- the top of a state
 module _ (b : List ℕ) (s : State) (y : TickAsked b s) where
@@ -166,24 +150,15 @@ module _ (b : List ℕ) (s : State) (y : TickAsked b s) where
     moved-deep m code t k missing h = deep
 
     full-deep : (m : ℕ) (bs : Results) → KeptDepth (full_tick i s m bs)
-    full-deep m bs = go (is_full_stack_kept i s)
-      where
-        go : (t : Bool) → KeptDepth (if t then stopped 17
-            else finished m 96 (state_alone s (entry_at i i.handler) i.handler (cleared_results i.handler bs)))
-        go true = deep
-        go false = record { some = omega arith; most = omega (arith, deep.some, deep.most); small = deep.small }
+    full-deep m bs = grind (arith, common_steps)
 
     pushed-deep : (m code h k : ℕ) (bs : Results) (t : Bool) → leb s.size s.depth ≡ t → KeptDepth (pushed_tick i s m code h k bs t)
-    pushed-deep m code h k bs true e = full-deep m bs
-    pushed-deep m code h k bs false e =
-        record { some = omega arith; most = omega (arith, leb-false s.size s.depth e); small = deep.small }
+    pushed-deep m code h k bs true e = grind (arith, common_steps)
+    pushed-deep m code h k bs false e = grind (arith, common_steps)
 
     popped-deep : (m : ℕ) (bs : Results) (t : Bool) → leb s.depth 1 ≡ t → KeptDepth (popped_tick i s w m bs t)
-    popped-deep m bs true e = record { some = omega arith; most = omega (arith, deep.some, deep.most); small = deep.small }
-    popped-deep m bs false e =
-        let two : 1 < s.depth = leb-false s.depth 1 e in
-        moved-deep m 3 (popped_state s bs) _ (row_leads i bs (place_at s (s.depth - 2)) w)
-        (record { some = omega arith; most = omega (arith, deep.most); small = deep.small })
+    popped-deep m bs true e = grind (arith, common_steps, deep)
+    popped-deep m bs false e = grind (arith, common_steps, leb-false, deep, moved-deep)
 
     tick-deep : KeptDepth (tick i s w)
     tick-deep = go x.kind refl (label-values b l).kinds
@@ -207,7 +182,4 @@ module _ (b : List ℕ) (s : State) (y : TickAsked b s) where
 -- after a tick, stopped or not, the next one may be made
 pub stands_on : {b before : List ℕ} {w : ℕ} {r : TickEnd} {bytes : List ℕ} → GivesTickEnd b before w r bytes → TickAsked b (state_of before)
     → TickAsked b (state_of bytes)
-stands_on {b = b} {before = before} {w = w} {bytes = bytes} q y = record {
-  whole = y.whole;
-  depth = deep-fine (state_of bytes) (subst DeepState (sym q.state) (tick-deep b (state_of before) y w));
-}
+stands_on {b = b} {before = before} {w = w} {bytes = bytes} q y = grind (arith, common_steps, deep-fine, tick-deep)

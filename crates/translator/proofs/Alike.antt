@@ -1,9 +1,5 @@
 -- Texts that are read alike are translated alike.
-use Prim.Native.Nat.{ℕ}
-use mathlib.Core.Path.{◌≡◌, ap₂}
-use mathlib.Core.List.{List}
-use lib.Dec.{ltb}
-use lib.ListN.{length}
+use Rattle.std.proofs.Common.{ℕ, ◌≡◌, ap₂, List, ltb, length}
 use Rattle.text.specs.frames.Verdict.{Verdict, next, when}
 use Rattle.text.specs.frames.Answer.{buffer_on}
 use Rattle.text.specs.frames.Alike.{ReadAlike}

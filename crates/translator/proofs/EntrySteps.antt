@@ -1,26 +1,16 @@
 -- The translator's returns: what the reader's answer tells of the chart, and the answer and the buffer at each return.
-use mathlib.Core.Path.{◌≡◌, refl, sym, ◌∙◌, ap, subst}
-use mathlib.Core.List.{List}
-use Prim.Native.Nat.{ℕ, ◌*◌, ◌/◌, ◌≤◌}
-use native.Mathlib.Omega.{arith}
-use lib.Dec.{ltb}
-use lib.ListN.{length, take, replicate}
+use Rattle.std.proofs.Common.{◌≡◌, refl, ◌∙◌, ap, subst, List, ℕ, ◌*◌, ◌≤◌, arith, length, take, replicate, Ok, Err}
+use Rattle.std.proofs.lemmas.Grind.{common_steps}
 use Rattle.text.specs.frames.Frame.{contents}
-use Rattle.text.specs.frames.Verdict.{Verdict, fine, refused, when}
-use Rattle.text.specs.frames.Answer.{Answer, success, refusal, reply, BufferOutcome, GivesBuffer, buffer_on}
-use Rattle.std.proofs.Common.{Ok, Err}
+use Rattle.text.specs.frames.Verdict.{Verdict, fine, refused}
+use Rattle.text.specs.frames.Answer.{Answer, refusal, reply, BufferOutcome, GivesBuffer, buffer_on}
 use Rattle.text.specs.declared.frames.refusals.Refusal.{Refusal}
 use Rattle.text.specs.frames.Refusal.{number_of, index_of, ticks_of}
-use Rattle.text.specs.frames.Check.{text_verdict}
 use Rattle.text.proofs.frames.Chains.{next-refused, next-on}
 use Rattle.text.proofs.frames.Verdicts.{next-rest}
-use Rattle.text.proofs.frames.Lent.{Success, lent_fits, lent-told, lent-err, front}
-use Rattle.charts.specs.Check.{chart_verdict}
+use Rattle.text.proofs.frames.Lent.{lent_fits, lent-told, lent-err, front}
 use Rattle.charts.specs.Entry.{read_verdict, read_chart}
 use Rattle.charts.proofs.Accepted.{Accepted, accepted, accepted-bytes}
-use Rattle.image.specs.Image.{image_text}
-use Rattle.chart_rows.specs.Rows.{rows}
-use Rattle.translator.specs.Table.{table}
 use Rattle.translator.specs.Entry.{translate_verdict, translate}
 use Rattle.chart_rows.specs.chart_labels.inner.ChartContracts.{Ready}
 use Rattle.translator.specs.inner.ImageBytes.{image_outcome}
@@ -28,11 +18,8 @@ use Rattle.translator.specs.inner.ImageBytes.{image_outcome}
 -- a refusal with room for all of it is the verdict's, and counts 0
 lent-no : (v : Verdict) (unit : ℕ) (new : Unit {0} → List ℕ) (old : List ℕ) (k i m : ℕ) → (v ≡ fine → length (new tt) ≤ length old)
     → (buffer_on v unit new old).reply ≡ refusal k i m → (v ≡ refused k i) × (m ≡ 0)
-lent-no (refused k' i') unit new old k i m h e = (cc, cc)
-lent-no fine unit new old k i m h e =
-    absurd (let q : (buffer_on fine unit new old).reply ≡ success (length (new tt) / unit) =
-    ap (λ (l : BufferOutcome). l.reply) (lent_fits unit new old (h refl)) in
-    let z : ◌≡◌ {A = ℕ} 0 1 = cc in omega arith)
+lent-no (refused k' i') unit new old k i m h e = grind (arith, common_steps)
+lent-no fine unit new old k i m h e = grind (arith, common_steps, lent_fits)
 
 chart-room : (t zeros : List ℕ) → 2560 ≤ length zeros → read_verdict t ≡ fine → length (contents t) ≤ length zeros
 chart-room t zeros h ok = let a : Accepted (contents t) = accepted t ok in omega (arith, a.whole, a.few)
@@ -41,17 +28,12 @@ module _ (t zeros : List ℕ) (room : 2560 ≤ length zeros) (a : Answer) (e : r
   -- a refusal of the reader is its verdict's, since there is room, and counts 0
   pub read_no : (r : Refusal) → a ≡ Err r → (read_verdict t ≡ refused (number_of r) (index_of r)) × (ticks_of r ≡ 0)
   unfolding read_chart
-  read_no r q =
-      lent-no (read_verdict t) 10 (λ _. contents t) zeros (number_of r) (index_of r) (ticks_of r) (chart-room t zeros room)
-      (sym e ∙ ap reply q)
+  read_no r q = grind (arith, common_steps, lent-no, chart-room)
 
   -- and the translator's
   pub read-refused : (out : List ℕ) (r : Refusal) → a ≡ Err r → GivesBuffer (translate t out) a out
   unfolding translate translate_verdict
-  read-refused out r q =
-      let p = read_no r q in
-      rw q (lent-err (translate_verdict t) 1 (λ _. image_text (table (contents t))) out r
-      (next-refused (read_verdict t) (λ _. when 10 (ltb 1024 (length (rows (contents t))))) (number_of r) (index_of r) p.0, p.1))
+  read-refused out r q = grind (arith, common_steps, next-refused, lent-err, read_no)
 
 -- the chart was accepted and stands at the front of the table
 pub record Read (t held : List ℕ) (n : ℕ) : Type 0 where
@@ -63,17 +45,7 @@ pub record Read (t held : List ℕ) (n : ℕ) : Type 0 where
 pub read_told : (t zeros : List ℕ) (a : Answer) (n : ℕ) (held : List ℕ) → reply a ≡ (read_chart t zeros).reply → a ≡ Ok n
     → held ≡ (read_chart t zeros).buffer → Read t held n
 unfolding read_chart
-read_told t zeros a n held e d b =
-    let s : Success (read_verdict t) 10 (contents t) zeros n (read_chart t zeros) =
-    lent-told (read_verdict t) 10 (λ _. contents t) zeros n (sym e ∙ ap reply d) in
-    let c : Accepted (contents t) = accepted t s.accepted in
-    let l : length (contents t) ≡ 10 * n = omega (arith, c.whole, s.count) in
-    record {
-      accepted = s.accepted;
-      few = omega (arith, c.few, s.count);
-      chart = ap (take (10 * n)) (b ∙ s.buffer) ∙ front (10 * n) (contents t) zeros (sym l);
-      long = l;
-    }
+read_told t zeros a n held e d b = grind (arith, common_steps, front, lent-told, accepted)
 
 module _ (t held : List ℕ) (n : ℕ) (r : Read t held n) where
   pub read-long : length (take (10 * n) held) ≡ 10 * n
@@ -81,22 +53,11 @@ module _ (t held : List ℕ) (n : ℕ) (r : Read t held n) where
 
   pub read-ready : Ready (take (10 * n) held)
   unfolding read_verdict
-  read-ready =
-      let a : Accepted (contents t) = accepted t r.accepted in
-      subst Ready (sym r.chart) (record {
-        whole = a.whole;
-        some = a.some;
-        few = a.few;
-        bytes = accepted-bytes t r.accepted;
-        accepted = next-rest (text_verdict 5888 t) (λ _. chart_verdict (contents t)) r.accepted;
-      })
+  read-ready = grind (arith, common_steps, next-rest, accepted, accepted-bytes)
 
   same : (out : List ℕ) → image_outcome (take (10 * n) held) out ≡ translate t out
   unfolding translate translate_verdict
-  same out =
-      ap (λ (c : List ℕ). image_outcome c out) r.chart
-      ∙ ap (λ v. buffer_on v 1 (λ _. image_text (table (contents t))) out)
-      (sym (next-on (read_verdict t) (λ _. when 10 (ltb 1024 (length (rows (contents t))))) r.accepted))
+  same out = grind (arith, common_steps, next-on, accepted)
 
   pub translated : (out out' : List ℕ) (a : Answer) → GivesBuffer (image_outcome (take (10 * n) held) out) a out'
       → GivesBuffer (translate t out) a out'

@@ -1,9 +1,6 @@
 -- The frames of an image: ten bytes each, and the text of their bytes.
-use mathlib.Core.Path.{◌≡◌, refl, sym, ◌∙◌, ap}
-use mathlib.Core.List.{List, [], ◌∷◌}
-use Prim.Native.Nat.{ℕ, suc, ◌+◌, ◌*◌, ◌/◌, ◌≤◌, ◌<◌}
-use native.Mathlib.Omega.{arith}
-use lib.ListN.{length, get_or}
+use Rattle.std.proofs.Common.{◌≡◌, refl, sym, ◌∙◌, ap, List, [], ◌∷◌, ℕ, suc, ◌+◌, ◌*◌, ◌/◌, ◌≤◌, ◌<◌, arith, length, get_or}
+use Rattle.std.proofs.lemmas.Grind.{common_steps}
 use Rattle.words.specs.lists.Numbers.{range}
 use Rattle.words.specs.lists.Sequences.{concat_map, map_from, written, All}
 use Rattle.words.proofs.lists.Ranges.{map-count}
@@ -40,9 +37,7 @@ module _ (i : Image) where
 
   pub image-length : length (image_text i) ≡ 23 * length (image_frames i)
   unfolding image_text
-  image-length =
-      length-concat frame_text 23 (image_frames i)
-      (all_of Ten (λ bs. length (frame_text bs) ≡ 23) (λ bs e. length-frame bs e) (image_frames i) frames-ten)
+  image-length = grind (arith, common_steps, all_of, length-frame, length-concat, frames-ten)
 
   frame_at : (f : ℕ) → f < length (image_frames i) → ten_bytes_at (frames_bytes (image_frames i)) (0 + f) ≡ get_or (image_frames i) f []
   frame_at f h =
@@ -63,12 +58,4 @@ module _ (i : Image) where
   pub image-spread : (out o₁ : List ℕ) (end : ℕ) → Put out 0 (frames_bytes (image_frames i)) end o₁ → 23 * (end / 10) ≤ length out
       → (o₂ : List ℕ) → o₂ ≡ written o₁ 0 (concat_map (frame_of o₁) (range 0 (end / 10)))
       → Put out 0 (image_text i) (23 * (end / 10)) o₂
-  image-spread out o₁ end put room o₂ e =
-      let n : end / 10 ≡ size (frames_bytes (image_frames i)) = omega (arith, put.ends) in
-      record {
-        ends = omega (arith, image-length, bytes-length);
-        holds =
-            text-spread (frames_bytes (image_frames i)) out o₁ (omega (arith, bytes-length)) (omega arith) put.holds o₂
-            (e ∙ ap (λ (k : ℕ). written o₁ 0 (concat_map (frame_of o₁) (range 0 k))) n)
-            ∙ ap (written out 0) text-is;
-      }
+  image-spread out o₁ end put room o₂ e = grind (arith, common_steps, text-spread, frame_of, bytes-length, image-length, text-is)

@@ -1,15 +1,10 @@
 -- The bytes of a chart's table in the parts that the functions write, and how long each part is.
-use mathlib.Core.Path.{◌≡◌, refl, sym, ◌∙◌, ap, ap₂, subst}
-use mathlib.Core.Bool.{Bool, true, false}
-use mathlib.Core.List.{List, [], ◌∷◌, ◌++◌, map, append_assoc}
-use Prim.Native.Nat.{ℕ, zero, suc, ◌+◌, ◌*◌, ◌/◌, ◌-◌, ◌≤◌, ◌<◌}
-use native.Mathlib.Nat.{zero-add, mul-suc}
-use native.Mathlib.Numerals.{add-one}
-use native.Mathlib.Decide.{dec_lt}
-use native.Mathlib.Omega.{arith}
-use lib.Dec.{ltb}
-use lib.ListN.{length, length-append}
-use borrow.Author.Tests.{lt-ltb, le-ltb}
+use Rattle.std.proofs.Common.{◌≡◌, refl, sym, ◌∙◌, ap, ap₂, subst, Bool, true, false, List, [], ◌∷◌, ◌++◌, map, append_assoc, ℕ, zero, suc}
+use Rattle.std.proofs.Common.{◌+◌, ◌*◌, ◌/◌, ◌-◌, ◌≤◌, ◌<◌, zero-add, mul-suc, add-one, arith, ltb, length, length-append, lt-ltb, le-ltb}
+use Rattle.std.proofs.Common.{Option, None, Some, Ok, Err, if◌then◌else◌, cond}
+use Rattle.std.proofs.Math.Decide.{dec_lt}
+use Rattle.std.proofs.lemmas.Option.{none-some}
+use Rattle.std.proofs.lemmas.Grind.{common_steps}
 use Rattle.words.specs.lists.Numbers.{range, count}
 use Rattle.words.specs.lists.Sequences.{concat_map, filter, map_from, written}
 use Rattle.words.proofs.lists.Tests.{if-true, if-false}
@@ -20,8 +15,6 @@ use Rattle.words.proofs.lists.Written.{written-more, written-front, written-befo
 use Rattle.text.specs.frames.Frame.{size}
 use Rattle.text.specs.frames.Verdict.{fine, when}
 use Rattle.text.specs.frames.Answer.{GivesBuffer}
-use Rattle.std.proofs.Common.{Option, None, Some, Ok, Err, if◌then◌else◌, cond}
-use Rattle.std.proofs.lemmas.Option.{none-some}
 use Rattle.text.specs.declared.frames.refusals.Refusal.{Refusal}
 use Rattle.text.specs.declared.frames.refusals.Refusal.TheVariants.{ManyRows, NoRoom}
 use Rattle.text.proofs.frames.Chains.{when-holds, when-fails}
@@ -102,16 +95,7 @@ module _ (c : Chart) where
 
   labels-joined : frames_bytes (map_from label_frame 0 (home_label ∷ return_label ∷ map (stop_label c) (numbered_nodes c)))
       ≡ fixed_bytes ++ up_to (node_label_bytes c) (size c)
-  labels-joined =
-      ap frames_bytes (map_from-cons label_frame 0 home_label (return_label ∷ map (stop_label c) (numbered_nodes c)))
-      ∙ concat-cons (λ f. f) (label_frame 0 home_label) (map_from label_frame 1 (return_label ∷ map (stop_label c) (numbered_nodes c)))
-      ∙ ap (λ (x : List ℕ). label_frame 0 home_label ++ x)
-      (ap frames_bytes (map_from-cons label_frame 1 return_label (map (stop_label c) (numbered_nodes c)))
-      ∙ concat-cons (λ f. f) (label_frame 1 return_label) (map_from label_frame 2 (map (stop_label c) (numbered_nodes c)))
-      ∙ ap (λ (x : List ℕ). label_frame 1 return_label ++ x)
-      (ap (λ (l : ℕ). frames_bytes (map_from label_frame l (map (stop_label c) (numbered_nodes c)))) (sym none_before)
-      ∙ labels_from 0 (size c)))
-      ∙ sym (append_assoc (label_frame 0 home_label) (label_frame 1 return_label) (up_to (node_label_bytes c) (size c)))
+  labels-joined = grind (arith, common_steps, concat-cons, append_assoc, map_from-cons, labels_from, none_before)
 
   -- ---- rows
   rows-each : (xs : List ℕ) → rows_bytes (concat_map (node_rows c) xs) ≡ concat_map (node_rows_bytes c) xs
@@ -310,22 +294,10 @@ module _ (c : Chart) (old : List ℕ) (highest own : ℕ) (found : Option Refusa
 
   module _ (none : found ≡ None) where
     pub image-few : length (rows c) ≤ 1024
-    image-few = go (dec_lt 1024 (length (rows c)))
-      where
-        go : Dec (1024 < length (rows c)) → length (rows c) ≤ 1024
-        go (yes h) = absurd (none-some ManyRows (sym none ∙ e ∙ sym (refusal-rows c (3 + highest + own) (length old) h)))
-        go (no h) = omega arith
+    image-few = grind (arith, common_steps, dec_lt, none-some, refusal-rows)
 
     pub image-room : 23 * (3 + highest + own + length (rows c)) ≤ length old
-    image-room = go (dec_lt (length old) (23 * (3 + highest + own + length (rows c))))
-      where
-        go : Dec (length old < 23 * (3 + highest + own + length (rows c))) → 23 * (3 + highest + own + length (rows c)) ≤ length old
-        go (yes h) = absurd (none-some NoRoom (sym none ∙ e ∙ sym (refusal-room c (3 + highest + own) (length old) image-few h)))
-        go (no h) = omega arith
+    image-room = grind (arith, common_steps, dec_lt, none-some, refusal-room, image-few)
 
     pub image-fits : (out : List ℕ) (n : ℕ) → Put old 0 (image_text (table c)) n out → GivesBuffer (image_outcome c old) (Ok n) out
-    image-fits out n put =
-        let l : length (image_text (table c)) ≡ 23 * (3 + highest + own + length (rows c)) =
-        image-long c highest own (length (rows c)) sizes in
-        lent-done (when 10 (ltb 1024 (length (rows c)))) 1 (λ _. image_text (table c)) old (allowed image-few) (omega (arith, image-room))
-        n (omega (arith, put.ends)) out (put.holds ∙ written-front old (image_text (table c)))
+    image-fits out n put = grind (arith, common_steps, written-front, lent-done, image-long, sizes, allowed, image-few, image-room)

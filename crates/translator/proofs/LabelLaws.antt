@@ -1,21 +1,14 @@
 -- The labels of a chart's table: 0 and 1, one from 2 on for each numbered stop, and the entries.
-use Rattle.std.proofs.Common.{if◌then◌else◌}
-use mathlib.Core.Path.{◌≡◌, refl, ◌∙◌, ap, subst}
-use mathlib.Core.Logic.{◌⊎◌, inl, inr}
-use mathlib.Core.Bool.{Bool, true, false, ◌&&◌, not}
-use Prim.Native.Nat.{ℕ, zero, suc, ◌+◌, ◌-◌, ◌≤◌, ◌<◌}
-use native.Mathlib.Nat.{zero-add}
-use native.Mathlib.Numerals.{add-one}
-use native.Mathlib.Omega.{arith}
-use lib.ListN.{length, get_or, length-map}
-use lib.Dec.{eqb}
-use borrow.Author.Tests.{eq-eqb}
+use Rattle.std.proofs.Common.{if◌then◌else◌, ◌≡◌, refl, ◌∙◌, ap, subst, ◌⊎◌, inl, inr, Bool, true, false, not, ℕ, zero, suc, ◌+◌, ◌-◌, ◌≤◌}
+use Rattle.std.proofs.Common.{◌<◌, zero-add, add-one, arith, length, get_or, eqb, eq-eqb}
+use Rattle.std.proofs.Math.ListN.{length-map}
+use Rattle.std.proofs.lemmas.Grind.{common_steps}
 use Rattle.words.specs.lists.Numbers.{count}
 use Rattle.words.proofs.lists.Tests.{if-true, and_no, split}
 use Rattle.words.proofs.lists.Counts.{count-le, count-below, count-apart, count_yes, count-pass, count-miss2}
 use Rattle.words.proofs.lists.Ranges.{length-map-range, get_or-map-range, length-filter, get_or-filter}
 use Rattle.text.specs.frames.Frame.{size}
-use Rattle.charts.specs.Chart.{Chart, kind, scheme, next0, is, schemes, begin, end}
+use Rattle.charts.specs.Chart.{Chart, kind, scheme, is, schemes, begin, end}
 use Rattle.walk.specs.Stops.{is_stop}
 use Rattle.walk.proofs.Facts.{Facts}
 use Rattle.walk.proofs.Follow.{stops-begin}
@@ -93,8 +86,7 @@ module _ (c : Chart) where
 
   -- the Begin and the End of scheme 1 have no label of their own, so a byte holds every label
   first-unnumbered : (v : ℕ) → kind c v ≡ 0 → scheme c v ≡ 1 → is_numbered c v ≡ false
-  first-unnumbered v k s =
-      ap (λ x. x && not (is c 1 v)) (stops-begin c v k ∙ ap (λ x. not x && is c 3 (next0 c v)) (eq-eqb (scheme c v) 1 s))
+  first-unnumbered v k s = grind (arith, common_steps, stops-begin, eq-eqb)
 
   end-unnumbered : (v : ℕ) → kind c v ≡ 1 → is_numbered c v ≡ false
   end-unnumbered v k = and_no (is_stop c v) (not (is c 1 v)) (ap not (eq-eqb (kind c v) 1 k))

@@ -1,22 +1,15 @@
 -- Which rows of a label match a word and a bit: of the paths from a node just one does, and it ends where the word leads.
-use Rattle.std.proofs.Common.{if◌then◌else◌}
-use mathlib.Core.Path.{◌≡◌, refl, sym, ◌∙◌, ap, ap₂}
-use mathlib.Core.Logic.{◌⊎◌, inl, inr}
-use mathlib.Core.Bool.{Bool, true, false, ◌&&◌, ◌||◌}
-use mathlib.Core.List.{List, [], ◌∷◌, ◌++◌, map}
-use Prim.Native.Nat.{ℕ, zero, suc, ◌+◌, ◌^◌, ◌≤◌}
-use native.Mathlib.Omega.{arith}
-use lib.Bits.{bit_and}
-use lib.Dec.{eqb}
-use borrow.Author.Tests.{eq-eqb, ne_eqb}
+use Rattle.std.proofs.Common.{if◌then◌else◌, ◌≡◌, refl, sym, ◌∙◌, ap, ap₂, ◌⊎◌, inl, inr, Bool, true, false, ◌&&◌, ◌||◌, List, [], ◌∷◌}
+use Rattle.std.proofs.Common.{◌++◌, map, ℕ, zero, suc, ◌+◌, ◌^◌, ◌≤◌, arith, bit_and, eqb, eq-eqb, ne_eqb}
+use Rattle.std.proofs.lemmas.Grind.{common_steps}
 use Rattle.words.specs.lists.Sequences.{filter, concat_map}
 use Rattle.words.proofs.lists.Tests.{and-true, cases}
 use Rattle.words.proofs.lists.Ranges.{filter-yes, filter-no, map-append}
 use Rattle.words.proofs.lists.Joins.{concat-cons}
 use Rattle.words.proofs.lists.Filters.{filter_none, filter-append}
 use Rattle.words.specs.bits.Word.{bit, is_agreeing}
-use Rattle.words.proofs.bits.BitLaws.{bit-cases, Mask, Agree, Clash, agree-match, clash-match, mask-0}
-use Rattle.words.proofs.bits.BitLaws.{mask-1, agree-0, agree-1, clash-0, clash-1, clash-here-0, clash-here-1}
+use Rattle.words.proofs.bits.BitLaws.{bit-cases, Mask, Agree, Clash, agree-match, clash-match, mask-0, mask-1, agree-0, agree-1, clash-0}
+use Rattle.words.proofs.bits.BitLaws.{clash-1, clash-here-0, clash-here-1}
 use Rattle.charts.specs.Chart.{Chart, kind, argument, next0, next1, arc_taken}
 use Rattle.charts.proofs.Accepted.{SoundChart}
 use Rattle.charts.proofs.Nodes.{Target, conditions}
@@ -44,9 +37,7 @@ module _ (l w b : ℕ) where
 
   pub targets-append : (xs ys : List Row) → targets l w b (xs ++ ys) ≡ targets l w b xs ++ targets l w b ys
   unfolding targets
-  targets-append xs ys =
-      ap (map (λ (r : Row). r.next)) (filter-append (is_matching_row l w b) xs ys)
-      ∙ map-append (λ (r : Row). r.next) (filter (is_matching_row l w b) xs) (filter (is_matching_row l w b) ys)
+  targets-append xs ys = grind (arith, common_steps, filter-append, map-append)
 
   pub targets-concat : {A : Type 0} (f : A → List Row) (xs : List A)
       → targets l w b (concat_map f xs) ≡ concat_map (λ x. targets l w b (f x)) xs

@@ -1,24 +1,18 @@
 -- For each numbered stop of a sound chart, every word and every bit just one row matches, and it leads to the label of the stop where the
 -- walk goes.
-use Rattle.std.proofs.Common.{if◌then◌else◌}
-use mathlib.Core.Path.{◌≡◌, refl, sym, ◌∙◌, ap, subst}
-use mathlib.Core.Logic.{◌⊎◌, inl, inr}
-use mathlib.Core.Bool.{Bool, true, false, ◌&&◌, ◌||◌, not}
-use mathlib.Core.List.{List, [], ◌∷◌, ◌++◌}
-use Prim.Native.Nat.{ℕ, ◌+◌, ◌^◌, ◌≤◌, ◌<◌}
-use native.Mathlib.Nat.{zero-add}
-use native.Mathlib.Decide.{ℕ_discrete}
-use native.Mathlib.Omega.{arith}
-use lib.ListN.{length, get_or, length-map}
-use lib.Dec.{eqb}
-use borrow.Author.Tests.{eqb-true, eqb-false, eq-eqb, ne_eqb}
+use Rattle.std.proofs.Common.{if◌then◌else◌, ◌≡◌, refl, sym, ◌∙◌, ap, subst, ◌⊎◌, inl, inr, Bool, true, false, ◌&&◌, ◌||◌, not, List, []}
+use Rattle.std.proofs.Common.{◌∷◌, ◌++◌, ℕ, ◌+◌, ◌^◌, ◌≤◌, ◌<◌, zero-add, arith, length, get_or, eqb, eqb-true, eq-eqb, ne_eqb}
+use Rattle.std.proofs.Math.Decide.{ℕ_discrete}
+use Rattle.std.proofs.Math.ListN.{length-map}
+use borrow.Author.Tests.{eqb-false}
+use Rattle.std.proofs.lemmas.Grind.{common_steps}
 use Rattle.words.specs.lists.Numbers.{range}
 use Rattle.words.specs.lists.Sequences.{filter}
 use Rattle.words.proofs.lists.Tests.{and_l, and_r, not-true, if-true, if-false}
 use Rattle.words.proofs.lists.Filters.{concat-only, one_passes}
 use Rattle.words.specs.bits.Word.{bit, is_agreeing}
-use Rattle.words.proofs.bits.BitLaws.{bit-none, bit-cases, Mask, Agree, Clash, mask-none, agree-none, mask-0}
-use Rattle.words.proofs.bits.BitLaws.{mask-1, agree-0, agree-1, clash-here-0, clash-here-1}
+use Rattle.words.proofs.bits.BitLaws.{bit-none, bit-cases, Mask, Agree, Clash, mask-none, agree-none, mask-0, mask-1, agree-0, agree-1}
+use Rattle.words.proofs.bits.BitLaws.{clash-here-0, clash-here-1}
 use Rattle.text.specs.frames.Frame.{size}
 use Rattle.charts.specs.Chart.{Chart, kind, scheme, argument, next0, next1, is}
 use Rattle.charts.proofs.Accepted.{SoundChart}
@@ -83,9 +77,7 @@ module _ (c : Chart) (a : SoundChart c) where
       (arc0 c a v l (eqb-false (kind c v) 1 (not-true (is c 1 v) (and_r (is_stop c v) (not (is c 1 v)) e))))
 
   pub row_plain : (v w b : ℕ) → v < size c → kind c v ≡ 2 → targets (label c v) w b (rows c) ≡ label c (by_arc c w (next0 c v)) ∷ []
-  row_plain v w b l k =
-      row-straight v w b l (numbered-stop c v (λ e. omega arith) ∙ stops-other c v (λ e. omega arith) (λ e. omega arith))
-      (λ e. omega arith) (λ e. omega arith)
+  row_plain v w b l k = grind (arith, common_steps, numbered-stop, stops-other, row-straight)
 
   -- the node after a stopping Begin is a condition that is no stop
   pub row-begin : (v w b : ℕ) → v < size c → kind c v ≡ 0 → is_stop c v ≡ true
@@ -192,26 +184,7 @@ module _ (c : Chart) (a : SoundChart c) (v w : ℕ) (b : Bool) (l : v < size c) 
   -- just one row matches, and this is where it leads
   pub one-row : targets (label c v) w (if b then 1 else 0) (rows c) ≡ label c (onward_stop c w b v) ∷ []
   unfolding onward_stop
-  one-row = go (ℕ_discrete (kind c v) 4) (ℕ_discrete (kind c v) 3)
-    where
-      go : Dec (kind c v ≡ 4) → Dec (kind c v ≡ 3)
-          → targets (label c v) w (if b then 1 else 0) (rows c) ≡ label c (onward_stop c w b v) ∷ []
-      go (yes k) x =
-          row-function c a v w b l k
-          ∙ ap (λ (u : ℕ). label c u ∷ [])
-          (sym (if-true (is c 4 v) (by_arc c w (if b then next1 c v else next0 c v)) _ (eq-eqb (kind c v) 4 k)))
-      go (no n) (yes k) =
-          row-condition c a v w (if b then 1 else 0) l k (and_l (is_stop c v) (not (is c 1 v)) e)
-          ∙ ap (λ (u : ℕ). label c u ∷ [])
-          (sym (if-false (is c 4 v) (by_arc c w (if b then next1 c v else next0 c v))
-          (if is c 3 v then by_word c w v else by_arc c w (next0 c v)) (ne_eqb (kind c v) 4 n)
-          ∙ if-true (is c 3 v) (by_word c w v) (by_arc c w (next0 c v)) (eq-eqb (kind c v) 3 k)))
-      go (no n) (no k) =
-          row-straight c a v w (if b then 1 else 0) l e n k
-          ∙ ap (λ (u : ℕ). label c u ∷ [])
-          (sym (if-false (is c 4 v) (by_arc c w (if b then next1 c v else next0 c v))
-          (if is c 3 v then by_word c w v else by_arc c w (next0 c v)) (ne_eqb (kind c v) 4 n)
-          ∙ if-false (is c 3 v) (by_word c w v) (by_arc c w (next0 c v)) (ne_eqb (kind c v) 3 k)))
+  one-row = grind (arith, common_steps, ne_eqb, if-true, targets, and_l, if-false, eq-eqb, row-straight, row-condition, row-function)
 
   -- so two rows that match are the same row
   pub same_row : (i j : ℕ) → i < length (rows c) → j < length (rows c)

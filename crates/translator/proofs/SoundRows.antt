@@ -1,17 +1,11 @@
 -- The rows of an accepted chart are sound, and their labels do not fall.
-use Rattle.std.proofs.Common.{if◌then◌else◌}
-use Prim.Native.Nat.{ℕ, zero, suc, ◌+◌, ◌^◌, ◌≤◌, ◌<◌}
-use mathlib.Core.Bool.{Bool, true, false, not}
-use mathlib.Core.Path.{◌≡◌, refl, sym, ◌∙◌, ap, subst}
-use mathlib.Core.Logic.{inl, inr}
-use mathlib.Core.List.{List, [], ◌∷◌, ◌++◌}
-use native.Mathlib.Decide.{ℕ_discrete}
-use native.Mathlib.Omega.{arith}
-use lib.ListN.{length, get_or}
-use lib.Bits.{bit_and, and_le_r, and_zero_l, and_self}
-use lib.Dec.{eqb}
-use lib.Pow.{pow-lt}
-use borrow.Author.Tests.{eqb-true, eqb-false, eq-eqb}
+use Rattle.std.proofs.Common.{if◌then◌else◌, ℕ, zero, suc, ◌+◌, ◌^◌, ◌≤◌, ◌<◌, Bool, true, false, not, ◌≡◌, refl, sym, ◌∙◌, ap, subst, List}
+use Rattle.std.proofs.Common.{[], ◌∷◌, ◌++◌, arith, length, get_or, bit_and, eqb, eqb-true, eq-eqb}
+use Rattle.std.proofs.Math.Decide.{ℕ_discrete}
+use lib.Bits.{and_le_r, and_zero_l, and_self}
+use Rattle.std.proofs.Math.Pow.{pow-lt}
+use borrow.Author.Tests.{eqb-false}
+use Rattle.std.proofs.lemmas.Grind.{common_steps}
 use Rattle.words.specs.lists.Numbers.{range, count}
 use Rattle.words.specs.lists.Sequences.{concat_map, filter, All}
 use Rattle.words.proofs.lists.Tests.{and_r, not-true}
@@ -25,7 +19,7 @@ use Rattle.walk.specs.Stops.{is_stop}
 use Rattle.walk.proofs.Facts.{Facts, Target}
 use Rattle.walk.proofs.Follow.{goes_on}
 use Rattle.image.specs.Image.{Label, Row, no_row}
-use Rattle.image.specs.inner.Sound.{nth_label, end_of, Reaches, SoundRow}
+use Rattle.image.specs.inner.Sound.{nth_label, Reaches, SoundRow}
 use Rattle.image.proofs.Rising.{Rising, rising-at}
 use Rattle.chart_rows.specs.chart_labels.Labels.{is_numbered, numbered_nodes, label, stop_label}
 use Rattle.chart_rows.proofs.chart_labels.LabelKinds.{label-function, label-owner}
@@ -46,23 +40,7 @@ pub record PathRow (c : Chart) (l f h : ℕ) (r : Row) : Type 0 where
 -- the label of a node is of its scheme, or ends it
 pub label-reaches : (c : Chart) (h v : ℕ) → v < size c → scheme c v ≡ h → Reaches (table c) h (label c v)
 unfolding label
-label-reaches c h v l e = go (is_numbered c v) refl
-  where
-    ends : (b : Bool) → (if b then 0 else 1) ≤ 1
-    ends true = omega arith
-    ends false = omega arith
-
-    go : (b : Bool) → is_numbered c v ≡ b → Reaches (table c) h (label c v)
-    go true q = record {
-      inside = label_inside c v l q;
-      belongs = inl (ap (λ (x : Label). x.owner) (label-holds c v l q) ∙ label-owner c v ∙ e);
-    }
-    go false q =
-        let p : label c v ≡ end_of (scheme c v) = rw q in
-        record {
-          inside = subst (λ (x : ℕ). x < length (table c).labels) (sym p) (omega (arith, labels-two c, ends (eqb (scheme c v) 1)));
-          belongs = inr (p ∙ ap end_of e);
-        }
+label-reaches c h v l e = grind (arith, common_steps, labels-two, label_inside, label-owner, label-holds)
 
 module _ (c : Chart) (F : Facts c) where
   if-target : (h : ℕ) (b : Bool) (u v : ℕ) → Target c h u → Target c h v → Target c h (if b then u else v)
@@ -184,9 +162,7 @@ numbered-nodes c = all_filter (λ v. v < size c) (is_numbered c) (range 0 (size 
 
 pub rows-sound : (c : Chart) → Facts c → All (SoundRow (table c)) (rows c)
 unfolding rows
-rows-sound c F = all-concat (SoundRow (table c)) (rows_of c) (numbered_nodes c)
-    (all_of (λ v. (v < size c) × (is_numbered c v ≡ true)) (λ v. All (SoundRow (table c)) (rows_of c v))
-    (λ v p. rows-of-sound c F v p.0 p.1) (numbered_nodes c) (numbered-nodes c))
+rows-sound c F = grind (arith, common_steps, all_of, all-concat, rows-of-sound, numbered-nodes)
 
 rising_down : (m n : ℕ) (rs : List Row) → m ≤ n → Rising n rs → Rising m rs
 rising_down m n [] h a = tt

@@ -1,18 +1,14 @@
 -- The table of an accepted chart of at most 1,024 rows is sound, so its text passes the image check and reads back as the table.
-use Rattle.std.proofs.Common.{if◌then◌else◌}
-use Prim.Native.Nat.{ℕ, zero, suc, ◌+◌, ◌*◌, ◌-◌, ◌≤◌, ◌<◌}
-use mathlib.Core.Bool.{Bool, true, false}
-use mathlib.Core.Path.{◌≡◌, refl, sym, ◌∙◌, ap, subst}
-use mathlib.Core.List.{List}
-use native.Mathlib.Omega.{arith}
-use lib.ListN.{length, get_or, length-map}
-use lib.Dec.{eqb}
-use borrow.Author.Tests.{eqb-true, eqb-false}
+use Rattle.std.proofs.Common.{if◌then◌else◌, ℕ, suc, ◌+◌, ◌*◌, ◌-◌, ◌≤◌, ◌<◌, Bool, true, false, ◌≡◌, sym, ◌∙◌, ap, subst, List, arith}
+use Rattle.std.proofs.Common.{length, get_or, eqb, eqb-true}
+use Rattle.std.proofs.Math.ListN.{length-map}
+use borrow.Author.Tests.{eqb-false}
+use Rattle.std.proofs.lemmas.Grind.{common_steps}
 use Rattle.words.proofs.lists.Ranges.{get_d_map}
 use Rattle.words.proofs.lists.Joins.{all-at}
 use Rattle.text.specs.frames.Frame.{contents, size}
 use Rattle.text.specs.frames.Verdict.{fine}
-use Rattle.charts.specs.Layout.{Function, kind_of}
+use Rattle.charts.specs.Layout.{Function}
 use Rattle.charts.specs.Chart.{Chart, kind, scheme, argument, result, mask, schemes}
 use Rattle.walk.specs.Stops.{start}
 use Rattle.walk.proofs.Facts.{Facts, StopOf}
@@ -35,37 +31,13 @@ module _ (c : Chart) (F : Facts c) where
 
   module _ (v : ℕ) (l : v < size c) where
     bare-sound : SoundLabel (schemes c) (bare_label (scheme c v))
-    bare-sound = record {
-      kinds = omega arith;
-      some = (F.owned v l).0;
-      most = (F.owned v l).1;
-      results = omega arith;
-      masks = omega arith;
-      plain = λ o. refl;
-      calls = λ o. absurd (o refl);
-    }
+    bare-sound = grind (arith, common_steps)
 
     operation-sound : kind c v ≡ 2 → (z : Bool) → eqb (argument c v) 0 ≡ z
         → SoundLabel (schemes c)
         (record { kind = if z then 0 else 1; called = argument c v; owner = scheme c v; result = result c v; mask = mask c v })
-    operation-sound e true g = record {
-      kinds = omega arith;
-      some = (F.owned v l).0;
-      most = (F.owned v l).1;
-      results = F.results v l e;
-      masks = mask-small v;
-      plain = λ o. eqb-true (argument c v) 0 g;
-      calls = λ o. absurd (o refl);
-    }
-    operation-sound e false g = record {
-      kinds = omega arith;
-      some = (F.owned v l).0;
-      most = (F.owned v l).1;
-      results = F.results v l e;
-      masks = mask-small v;
-      plain = λ o. absurd (omega arith);
-      calls = λ o. F.calls v l e (eqb-false (argument c v) 0 g);
-    }
+    operation-sound e true g = grind (arith, common_steps, eqb-true, mask-small)
+    operation-sound e false g = grind (arith, common_steps, eqb-false, mask-small)
 
     function-sound : kind c v ≡ 4 → SoundLabel (schemes c) (label_as c v Function)
     function-sound e = record {
@@ -79,15 +51,7 @@ module _ (c : Chart) (F : Facts c) where
     }
 
     pub label-sound : SoundLabel (schemes c) (stop_label c v)
-    label-sound = go (kind c v) refl
-      where
-        go : (k : ℕ) → kind c v ≡ k → SoundLabel (schemes c) (label_as c v (kind_of k))
-        go zero e = bare-sound
-        go (suc zero) e = bare-sound
-        go (suc (suc zero)) e = operation-sound e (eqb (argument c v) 0) refl
-        go (suc (suc (suc zero))) e = bare-sound
-        go (suc (suc (suc (suc zero)))) e = function-sound e
-        go (suc (suc (suc (suc (suc k))))) e = bare-sound
+    label-sound = grind (arith, common_steps, bare-sound, operation-sound, function-sound)
 
   label-at : (k : ℕ) → k < length (numbered_nodes c) → nth_label (table c) (suc (suc k)) ≡ stop_label c (get_or (numbered_nodes c) k 0)
   unfolding table

@@ -1,15 +1,9 @@
 -- What success of the translator tells: the chart was accepted, its rows are few, and the buffer holds the text of its table.
-use Prim.Native.Nat.{ℕ, ◌≤◌}
-use mathlib.Core.Path.{◌≡◌, sym, ◌∙◌, ap}
-use mathlib.Core.List.{List}
-use native.Mathlib.Omega.{arith}
-use lib.Dec.{ltb}
-use lib.ListN.{length, take, length-take}
-use borrow.Author.Tests.{ltb-false}
+use Rattle.std.proofs.Common.{ℕ, ◌≤◌, ◌≡◌, sym, ◌∙◌, ap, List, arith, ltb, length, take, length-take, ltb-false, Ok}
+use Rattle.std.proofs.lemmas.Grind.{common_steps}
 use Rattle.text.specs.frames.Frame.{contents}
 use Rattle.text.specs.frames.Verdict.{fine, when}
 use Rattle.text.specs.frames.Answer.{Answer, success, reply}
-use Rattle.std.proofs.Common.{Ok}
 use Rattle.text.proofs.frames.Verdicts.{next-first, next-rest, when-fine}
 use Rattle.text.proofs.frames.Lent.{Success, lent-told, front}
 use Rattle.charts.specs.Entry.{read_verdict}
@@ -25,9 +19,7 @@ module _ (t : List ℕ) (ok : translate_verdict t ≡ fine) where
 
   pub translated-few : length (rows (contents t)) ≤ 1024
   unfolding translate_verdict
-  translated-few =
-      let n : ℕ = length (rows (contents t)) in
-      ltb-false 1024 n (when-fine 10 (ltb 1024 n) (next-rest (read_verdict t) (λ _. when 10 (ltb 1024 n)) ok))
+  translated-few = grind (arith, common_steps, ltb-false, next-rest, when-fine)
 
 -- n characters were written
 module _ (t out : List ℕ) (n : ℕ) (done : (translate t out).reply ≡ success n) where
@@ -39,9 +31,7 @@ module _ (t out : List ℕ) (n : ℕ) (done : (translate t out).reply ≡ succes
   translated-fine = translate-told.accepted
 
   pub translated-image : take n (translate t out).buffer ≡ image_text (table (contents t))
-  translated-image =
-      let s : Success (translate_verdict t) 1 (image_text (table (contents t))) out n (translate t out) = translate-told in
-      ap (take n) s.buffer ∙ front n (image_text (table (contents t))) out (s.count ∙ omega arith)
+  translated-image = grind (arith, common_steps, front, translate-told)
 
 -- an answer's count is no more than the buffer has
 pub done-room : (t out : List ℕ) (a : Answer) (n : ℕ) → reply a ≡ (translate t out).reply → a ≡ Ok n → n ≤ length out

@@ -1,11 +1,6 @@
 -- A code 60 hexadecimal is made exactly at a call for which no place is free, where there is a handler and it is not the first scheme
 -- open.
-use Prim.Native.Nat.{ℕ, ◌+◌, ◌<◌}
-use mathlib.Core.Bool.{Bool, true, false, ◌&&◌}
-use mathlib.Core.Path.{◌≡◌, refl}
-use lib.Dec.{eqb}
-use native.Mathlib.Omega.{arith}
-use borrow.Author.Tests.{ne_eqb}
+use Rattle.std.proofs.Common.{ℕ, ◌+◌, ◌<◌, Bool, true, false, ◌&&◌, ◌≡◌, refl, eqb, arith, ne_eqb}
 use Rattle.text.specs.frames.Frame.{size}
 use Rattle.charts.specs.Chart.{Chart, argument}
 use Rattle.walk.specs.Stops.{Stop, plain, call, function, test, home, back, stop_at}

@@ -1,8 +1,5 @@
 -- What acceptance of a chart gives for its nodes and for the walk; the laws of the walk and of the table take this record.
-use Prim.Native.Nat.{ℕ, ◌*◌, ◌≤◌, ◌<◌}
-use mathlib.Core.Bool.{true}
-use mathlib.Core.Path.{◌≡◌}
-use lib.ListN.{length, get_or}
+use Rattle.std.proofs.Common.{ℕ, ◌*◌, ◌≤◌, ◌<◌, true, ◌≡◌, length, get_or}
 use Rattle.text.specs.frames.Frame.{size}
 use Rattle.charts.specs.Chart.{Chart, kind, scheme, argument, next0, next1, result, handler, schemes, begin, end}
 pub use Rattle.charts.proofs.Nodes.{Target}

@@ -1,15 +1,12 @@
 -- The facts that the laws of the walk stand on hold for the chart of every accepted text.
-use mathlib.Core.Path.{◌≡◌}
-use mathlib.Core.List.{List}
-use Prim.Native.Nat.{ℕ, ◌<◌}
-use lib.ListN.{get_or}
+use Rattle.std.proofs.Common.{◌≡◌, List, ℕ, ◌<◌, get_or}
 use Rattle.text.specs.frames.Frame.{contents}
 use Rattle.text.specs.frames.Verdict.{fine}
 use Rattle.charts.specs.Chart.{Chart}
 use Rattle.charts.specs.Entry.{read_verdict}
 use Rattle.charts.proofs.Accepted.{Accepted, SoundChart, accepted, accepted-bytes}
-use Rattle.charts.proofs.Nodes.{kinds, owned, schemes-most, schemes-first, conditions, results, TheNode}
-use Rattle.charts.proofs.Nodes.{begins, ends, handled, arc0, arc1, calls, functions}
+use Rattle.charts.proofs.Nodes.{kinds, owned, schemes-most, schemes-first, conditions, results, TheNode, begins, ends, handled, arc0, arc1}
+use Rattle.charts.proofs.Nodes.{calls, functions}
 use Rattle.walk.proofs.Facts.{Facts}
 use Rattle.walk.proofs.Follow.{follows, tests, starts}
 

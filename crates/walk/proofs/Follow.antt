@@ -1,12 +1,8 @@
 -- Following arcs ends at a stop of the scheme within as many steps as there are nodes, and performing a scheme starts at a stop.
-use mathlib.Core.Path.{◌≡◌, refl, sym, ◌∙◌, ap, subst}
-use mathlib.Core.Logic.{◌⊎◌, inl, inr, ⊎_elim}
-use mathlib.Core.Bool.{Bool, true, false, ◌&&◌, not}
-use Prim.Native.Nat.{ℕ, zero, suc, ◌≤◌, ◌<◌}
-use native.Mathlib.Decide.{ℕ_discrete}
-use native.Mathlib.Omega.{arith}
-use lib.Dec.{eqb}
-use borrow.Author.Tests.{eqb-true, eq-eqb, ne_eqb}
+use Rattle.std.proofs.Common.{◌≡◌, refl, sym, ◌∙◌, ap, subst, ◌⊎◌, inl, inr, Bool, true, false, ◌&&◌, not, ℕ, zero, suc, ◌≤◌, ◌<◌, arith}
+use Rattle.std.proofs.Common.{eqb, eqb-true, eq-eqb, ne_eqb}
+use Rattle.std.proofs.Math.Decide.{ℕ_discrete}
+use Rattle.std.proofs.lemmas.Grind.{common_steps}
 use Rattle.words.proofs.lists.Tests.{no_both, and-true, if-true, if-false, cases}
 use Rattle.words.specs.bits.Word.{bit}
 use Rattle.text.specs.frames.Frame.{size}
@@ -38,11 +34,7 @@ stops-begin c v e = stops-by c v 0 e
 
 -- an arc's end that is no stop is a condition
 pub goes_on : (c : Chart) (v : ℕ) → (kind c v ≡ 0 → ⊥) → is_stop c v ≡ false → kind c v ≡ 3
-goes_on c v z s = go (ℕ_discrete (kind c v) 3)
-  where
-    go : Dec (kind c v ≡ 3) → kind c v ≡ 3
-    go (yes e) = e
-    go (no e) = no_both (is_stop c v) (stops-other c v z e) s
+goes_on c v z s = grind (arith, common_steps, no_both, stops-other)
 
 -- ---- one step
 pub follow-stays : (n : ℕ) (c : Chart) (w v : ℕ) → is_stop c v ≡ true → next_stop (suc n) c w v ≡ v
@@ -62,11 +54,7 @@ takes-1 c w v o = if-false (eqb (bit w (argument c v)) 0) (next0 c v) (next1 c v
 
 -- what holds of both arcs holds of the one taken
 pub taken-by : (P : ℕ → Type 0) (c : Chart) (w v : ℕ) → P (next0 c v) → P (next1 c v) → P (arc_taken c w v)
-taken-by P c w v p q = go (eqb (bit w (argument c v)) 0) refl
-  where
-    go : (b : Bool) → eqb (bit w (argument c v)) 0 ≡ b → P (arc_taken c w v)
-    go true e = subst P (sym (if-true (eqb (bit w (argument c v)) 0) (next0 c v) (next1 c v) e)) p
-    go false e = subst P (sym (if-false (eqb (bit w (argument c v)) 0) (next0 c v) (next1 c v) e)) q
+taken-by P c w v p q = grind (arith, common_steps)
 
 pub target-as : (c : Chart) {h g u : ℕ} → h ≡ g → Target c h u → Target c g u
 target-as c e t = record { inside = t.inside; same = t.same ∙ e; entered = t.entered }
@@ -156,14 +144,4 @@ module _ (c : Chart) (a : SoundChart c) where
 
   pub starts : (h : ℕ) → 1 ≤ h → h ≤ schemes c → StopOf c h (start c h)
   unfolding start
-  starts h l m =
-      let b : TheNode c 0 h (begin c h) = begins c a h l m in
-      ⊎_elim
-      (λ (s : is_stop c (begin c h) ≡ true). subst (λ (u : ℕ). StopOf c h u)
-      (sym (if-true (is_stop c (begin c h)) (begin c h) (next0 c (begin c h)) s))
-      (record { inside = b.inside; same = b.same; stopping = s }))
-      (λ (s : is_stop c (begin c h) ≡ false). subst (λ (u : ℕ). StopOf c h u)
-      (sym (if-false (is_stop c (begin c h)) (begin c h) (next0 c (begin c h)) s))
-      (stays h (next0 c (begin c h))
-      (target-as c b.same (arc0 c a (begin c h) b.inside (λ q. omega (arith, b.kinded)))) (first-stop h (begin c h) b refl s)))
-      (cases (is_stop c (begin c h)))
+  starts h l m = grind (arith, common_steps, if-false, arc0, cases, begins, if-true, target-as, stays, first-stop)

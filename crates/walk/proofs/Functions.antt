@@ -1,18 +1,10 @@
 -- While no 1 is written to the bit of the number that it calls, a function leaves by its 0 arc: from its call on the bit is 0, and the
 -- function waits among the callers, until its own return. The bindings told do not matter.
-use Rattle.std.proofs.Common.{if◌then◌else◌}
-use Prim.Native.Nat.{ℕ, suc, ◌+◌, ◌≤◌, ◌<◌}
-use mathlib.Core.Bool.{Bool, true, false, ◌&&◌}
-use mathlib.Core.Path.{◌≡◌, refl, ap, ◌∙◌, sym, subst}
-use mathlib.Core.Logic.{◌⊎◌, inl, inr, ⊎_elim}
-use mathlib.Core.List.{List, [], ◌∷◌, ◌++◌, map}
-use lib.Dec.{eqb}
-use lib.ListN.{length, get_or, length-append, get_or-eq_default}
-use native.Mathlib.Omega.{arith}
-use native.Mathlib.Decide.{dec_lt}
-use borrow.Author.Tests.{eqb-true, eq-eqb}
+use Rattle.std.proofs.Common.{if◌then◌else◌, ℕ, suc, ◌+◌, ◌≤◌, ◌<◌, Bool, true, false, ◌&&◌, ◌≡◌, refl, ap, ◌∙◌, sym, subst, ◌⊎◌, ⊎_elim}
+use Rattle.std.proofs.Common.{List, [], ◌∷◌, ◌++◌, map, eqb, length, get_or, length-append, arith, eqb-true, eq-eqb}
+use Rattle.std.proofs.lemmas.Grind.{common_steps}
 use Rattle.words.specs.lists.Sequences.{some}
-use Rattle.words.proofs.lists.Tests.{no_both, or_l, or_r, and_l, and_r, and-true}
+use Rattle.words.proofs.lists.Tests.{no_both, or_l, or_r, and_l, and_r}
 use Rattle.words.proofs.lists.Searches.{some-cons}
 use Rattle.results.specs.Results.{Results, no_results, result_of, with_result, cleared_results}
 use Rattle.results.proofs.ResultLaws.{cleared-own, cleared-keeps, result-keeps}
@@ -24,8 +16,8 @@ use Rattle.walk.specs.Functions.{is_walk_write_of_one, is_return_to, WalkUnwritt
 use Rattle.walk.proofs.Facts.{Facts}
 use Rattle.walk.proofs.FactsHold.{facts}
 use Rattle.walk.proofs.Views.{View, a-plain, a_call, a-function, a-home, a_back, a-begin, a-condition, view, stop-function}
-use Rattle.walk.proofs.Trace.{Open, WalkPosition, at, stop_code, stop_tick, node_resumed, position_returned}
-use Rattle.walk.proofs.Trace.{position_moved, is_drop_at, tick_at, move, trace, position_at_home}
+use Rattle.walk.proofs.Trace.{Open, WalkPosition, at, stop_code, stop_tick, node_resumed, position_returned, position_moved, is_drop_at}
+use Rattle.walk.proofs.Trace.{tick_at, move, trace, position_at_home}
 use Rattle.walk.proofs.Recursion.{walk-trace}
 
 -- ---- ticks by their first
@@ -55,18 +47,13 @@ is-back d back e = refl
 
 -- ---- every number has a view, as past the last node all bytes read as 0
 inside-or-0 : (c : Chart) → Facts c → (v : ℕ) → (kind c v ≡ 0) ⊎ (v < size c)
-inside-or-0 c facts v = go (dec_lt v (size c))
-  where
-    go : Dec (v < size c) → (kind c v ≡ 0) ⊎ (v < size c)
-    go (yes l) = inr l
-    go (no l) = inl (get_or-eq_default c 0 (omega (arith, facts.whole)))
+inside-or-0 c facts v = grind (arith, common_steps)
 
 view-any : (c : Chart) → Facts c → (v : ℕ) → View c v (stop_at c v)
 view-any c facts v = view c v (⊎_elim (λ (e : kind c v ≡ 0). omega arith) (λ (l : v < size c). facts.kinds v l) (inside-or-0 c facts v))
 
 calls-deep : (c : Chart) → Facts c → (v : ℕ) → kind c v ≡ 4 → 2 ≤ argument c v
-calls-deep c facts v k = ⊎_elim (λ (e : kind c v ≡ 0). absurd (omega arith))
-    (λ (l : v < size c). (facts.functions v l k).0) (inside-or-0 c facts v)
+calls-deep c facts v k = grind (arith, common_steps)
 
 -- ---- number h called by function y, with callers ks under it
 module _ (c : Chart) (y : Open) (h : ℕ) (ks : List Open) (deep : 2 ≤ h) where
@@ -89,11 +76,8 @@ module _ (c : Chart) (y : Open) (h : ℕ) (ks : List Open) (deep : 2 ≤ h) wher
 
   all-passing : (ts : List Tick) → some is_drop ts ≡ false → some own ts ≡ false → some (is_walk_write_of_one c h) ts ≡ false
       → AllPassing ts
-  all-passing [] d r q = tt
-  all-passing (t ∷ ts) d r q = (
-    record { kept = none_first is_drop t ts d; inside = none_first own t ts r; unwritten = none_first (is_walk_write_of_one c h) t ts q },
-    all-passing ts (none_rest is_drop t ts d) (none_rest own t ts r) (none_rest (is_walk_write_of_one c h) t ts q),
-  )
+  all-passing [] d r q = grind (arith, common_steps)
+  all-passing (t ∷ ts) d r q = grind (arith, common_steps, all-passing ts, none_first, none_rest)
 
   returned-waits : (js : List Open) (w : ℕ) (b : Results) (f : Bool) → result_of h b ≡ false
       → eqb (suc (length (js ++ (y ∷ ks)))) (suc (suc (length ks))) ≡ false → Waits (position_returned c (js ++ (y ∷ ks)) w b f)
@@ -111,8 +95,7 @@ module _ (c : Chart) (y : Open) (h : ℕ) (ks : List Open) (deep : 2 ≤ h) wher
     o = suc (length (js ++ (y ∷ ks)))
 
     written-not : kind c v ≡ 2 → (eqb (kind c v) 2 && (eqb g h && eqb (result c v) 2)) ≡ false → g ≡ h → result c v ≡ 2 → ⊥
-    written-not k q s r = no_both _
-        (and-true _ _ (eq-eqb (kind c v) 2 k) (and-true _ _ (eq-eqb g h s) (eq-eqb (result c v) 2 r))) q
+    written-not k q s r = grind (arith, common_steps)
 
     waits-by : (d : Bool) → {s : Stop} → View c v s → Passing (stop_tick d o u s) → Waits (position_moved c d u (js ++ (y ∷ ks)) w b f s)
     waits-by d (a-plain k a) p = waits _ js _ f (result-keeps (result c v) g h b deep (written-not k p.unwritten) e)

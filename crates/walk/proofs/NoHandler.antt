@@ -1,29 +1,23 @@
 -- With no handler the number of places does not matter, and where every number is served by its own scheme the walk of an accepted chart
 -- is the unbounded walk.
-use Prim.Native.Nat.{ℕ, zero, suc}
-use mathlib.Core.Bool.{Bool, true, false}
-use mathlib.Core.Path.{◌≡◌, refl, ap, ◌∙◌, sym, subst}
-use mathlib.Core.List.{List, [], ◌∷◌, ◌++◌}
-use lib.ListN.{length}
-use native.Mathlib.Omega.{arith}
-use Rattle.results.specs.Results.{Results, no_results, result_of, with_result, cleared_results}
+use Rattle.std.proofs.Common.{ℕ, zero, suc, Bool, true, false, ◌≡◌, refl, ap, ◌∙◌, sym, subst, List, [], ◌∷◌, ◌++◌, length, arith}
+use Rattle.std.proofs.lemmas.Grind.{common_steps}
+use Rattle.results.specs.Results.{Results, no_results, result_of, with_result}
 use Rattle.text.specs.frames.Frame.{contents}
 use Rattle.charts.specs.Chart.{Chart, scheme, argument, next0, next1, result, mask, handler, end}
-use Rattle.walk.specs.Stops.{start, Stop, plain, call, function, test, home, back, stop_at}
+use Rattle.walk.specs.Stops.{Stop, plain, call, function, test, home, back, stop_at}
 use Rattle.walk.specs.Walk.{Signal, OpenScheme, Tick, one_tick, SchemeCall, call_by_operation, call_by_function, is_dropping}
-use Rattle.walk.specs.Unswapped.{open_at, Course, spent, ended, course_after}
-use Rattle.walk.specs.Unswapped.{Performer, resumed_course, call_course, stop_course, scheme_course, ticks_after_course, walk_from}
-use Rattle.walk.specs.Unswapped.{walk as unswapped_walk}
-use Rattle.walk.specs.Unbounded as unbounded
+use Rattle.walk.specs.Unswapped.{open_at, Course, spent, ended, course_after, Performer, resumed_course, call_course, stop_course}
+use Rattle.walk.specs.Unswapped.{scheme_course, ticks_after_course, walk_from, walk as unswapped_walk}
 use Rattle.walk.specs.Simpler.{NoHandler, AnyPlaces}
 use Rattle.walk.proofs.Facts.{StopOf, Facts}
 use Rattle.walk.proofs.FactsHold.{facts}
 use Rattle.walk.proofs.Views.{View, a-plain, a_call, a-function, a-home, a_back, a-begin, a-condition, view}
-use Rattle.walk.proofs.Trace.{WalkPosition, stop_tick, position_moved, is_drop_at, tick_at, move, trace}
-use Rattle.walk.proofs.Trace.{position_at_home, home-stop, arc-to, function_to, begin-to}
+use Rattle.walk.proofs.Trace.{WalkPosition, trace, position_at_home, home-stop, arc-to, function_to, begin-to}
 use Rattle.walk.proofs.Recursion.{walk-trace}
 use Rattle.walk.proofs.OwnBinding.{own-binding}
 use Rattle.text.specs.declared.frames.codes.TheConstants.{HOME_CODE, PLAIN_CODE}
+use Rattle.walk.specs.Unbounded as unbounded
 
 -- ---- no call drops, whatever the number of places
 no_drop : (c : Chart) → handler c ≡ 0 → (n : ℕ) (f : Bool) (o : ℕ) → is_dropping n c f o ≡ false
@@ -32,13 +26,8 @@ no_drop c h n false o = rw h refl
 
 any-trace : (c : Chart) → handler c ≡ 0 → (n m : ℕ) (ws : List Signal) (x : WalkPosition) → trace n c ws x ≡ trace m c ws x
 unfolding trace
-any-trace c h n m [] x = refl
-any-trace c h n m (w ∷ ws) x =
-    let o : ℕ = suc (length x.callers) in
-    let s : Stop = stop_at c x.now.node in
-    let e : is_drop_at n c x ≡ is_drop_at m c x = no_drop c h n x.first o ∙ sym (no_drop c h m x.first o) in
-    ap (λ (d : Bool). stop_tick d o x.now s ∷ trace n c ws (position_moved c d x.now x.callers w x.results x.first s)) e
-    ∙ ap (λ (ts : List Tick). tick_at m c x ∷ ts) (any-trace c h n m ws (move m c w x))
+any-trace c h n m [] x = grind (arith, common_steps)
+any-trace c h n m (w ∷ ws) x = grind (arith, common_steps)
 
 pub any-places : AnyPlaces
 any-places c h n m ws = walk-trace n c ws ∙ any-trace c h n m ws (position_at_home c no_results) ∙ sym (walk-trace m c ws)
@@ -68,13 +57,7 @@ module _ (go : Performer) (free : unbounded.Performer) (ih : Alike go free) (c :
   module _ (d : ℕ → Bool) (never : (o : ℕ) → d o ≡ false) where
     alike-call : (x : OpenScheme) (a : SchemeCall) (ws : List ℕ) (b : Results)
         → call_course go c x a ws b (d x.opened) ≡ alike (unbounded.call_course free c x a ws b)
-    alike-call x a ws b =
-        let y : OpenScheme = open_at c (suc x.opened) (start c a.called) in
-        let e : Results = cleared_results a.called b in
-        let ts : List Tick = one_tick x a.mask a.code in
-        ap (call_course go c x a ws b) (never x.opened)
-        ∙ ap (course_after ts) (ap (resumed_course go c x a) (ih y ws e) ∙ alike-resume x a (free y ws e))
-        ∙ alike-after ts (unbounded.resumed_course free c x a (free y ws e))
+    alike-call x a ws b = grind (arith, common_steps)
 
     alike-act : (x : OpenScheme) (w : ℕ) (ws : List ℕ) (b : Results) (s : Stop)
         → stop_course go c d x w ws b s ≡ alike (unbounded.stop_course free c x w ws b s)
@@ -113,9 +96,7 @@ module _ (c : Chart) (facts : Facts c) where
 
     endless-call : (x : OpenScheme) (a : SchemeCall) (ws : List ℕ) (b : Results) → ((w : ℕ) (b : Results) → StopOf c 1 (a.resumed w b))
         → Endless (unbounded.call_course go c x a ws b)
-    endless-call x a ws b s =
-        let r : unbounded.Course = go (open_at c (suc x.opened) (start c a.called)) ws (cleared_results a.called b) in
-        endless-after (one_tick x a.mask a.code) (unbounded.resumed_course go c x a r) (endless-resume x a s r)
+    endless-call x a ws b s = grind (arith, common_steps, endless-after, endless-resume)
 
     module _ (x : OpenScheme) (w : ℕ) (ws : List ℕ) (b : Results) (g : StopOf c 1 x.node) where
       abbrev v : ℕ

@@ -1,37 +1,30 @@
 -- Where every number is served by its own scheme, the walk of an accepted chart is the walk with no rebinding:
 -- an open scheme goes by its own number.
-use Prim.Native.Nat.{ℕ, zero, suc, ◌-◌, ◌≤◌}
-use mathlib.Core.Bool.{Bool, true, false}
-use mathlib.Core.Path.{◌≡◌, refl, ap, ◌∙◌, sym, subst}
-use mathlib.Core.List.{List, [], ◌∷◌, ◌++◌}
-use lib.ListN.{length, length-map}
-use native.Mathlib.Omega.{arith}
+use Rattle.std.proofs.Common.{ℕ, zero, suc, ◌-◌, ◌≤◌, Bool, true, false, ◌≡◌, refl, ap, ◌∙◌, sym, subst, List, [], ◌∷◌, ◌++◌, length, arith}
+use Rattle.std.proofs.Math.ListN.{length-map}
+use Rattle.std.proofs.lemmas.Grind.{common_steps}
 use Rattle.words.proofs.lists.Ranges.{get_or-range}
-use Rattle.results.specs.Results.{Results, no_results, result_of, cleared_results}
+use Rattle.results.specs.Results.{Results, result_of, cleared_results}
 use Rattle.bindings.specs.Binding.{own_binding, server_of}
-use Rattle.text.specs.frames.Frame.{contents}
-use Rattle.charts.specs.Chart.{Chart, scheme, argument, handler, schemes, end}
+use Rattle.charts.specs.Chart.{Chart, scheme, argument, handler, schemes, end, mask}
 use Rattle.walk.specs.Stops.{start, Stop}
 use Rattle.walk.specs.Walk.{Signal, signals, OpenScheme, open_at_stop, Tick, Course, spent, ended, dropped, course_after, SchemeCall}
-use Rattle.walk.specs.Walk.{Performer, resumed_course, opened_scheme, call_course, stop_course, scheme_course}
-use Rattle.walk.specs.Walk.{is_dropping, bottom, ticks_after_course, walk_from, walk}
-use Rattle.walk.specs.Unswapped as unswapped
+use Rattle.walk.specs.Walk.{Performer, resumed_course, opened_scheme, call_course, stop_course, scheme_course, is_dropping, bottom}
+use Rattle.walk.specs.Walk.{ticks_after_course, walk_from, walk, one_tick}
 use Rattle.walk.specs.Simpler.{OwnBinding}
 use Rattle.walk.proofs.Facts.{StopOf, Facts}
 use Rattle.walk.proofs.FactsHold.{facts}
 use Rattle.walk.proofs.Views.{View, a-plain, a_call, a-function, a-home, a_back, a-begin, a-condition, view}
 use Rattle.walk.proofs.Trace.{Serves, drop-handler, stop-as, home-stop, arc-to, function_to, begin-to}
-use Rattle.walk.specs.Walk.{one_tick}
 use Rattle.text.specs.declared.frames.codes.TheConstants.{HOME_CODE, PLAIN_CODE}
-use Rattle.charts.specs.Chart.{mask}
+use Rattle.walk.specs.Unswapped as unswapped
 
 -- ---- each number is served by its own scheme
 pub served-own : (h : ℕ) → 1 ≤ h → h ≤ 16 → server_of own_binding h ≡ h
 served-own h l m = get_or-range 1 16 (h - 1) 0 (omega arith) ∙ omega arith
 
 pub own-serves : (c : Chart) → Facts c → Serves c own_binding
-own-serves c facts h l m = let e : server_of own_binding h ≡ h =
-    served-own h (omega arith) (omega (arith, facts.most)) in (omega arith, omega arith)
+own-serves c facts h l m = grind (arith, common_steps)
 
 abbrev own : List ℕ → List Signal
 own = signals own_binding
@@ -58,10 +51,7 @@ module _ (c : Chart) where
       -- from another stop of its scheme
       alike-on : (x : OpenScheme) (u : ℕ) (ws : List ℕ) (b : Results) → StopOf c x.number u
           → Alike (go (open_at_stop x u) (own ws) b) (free (unswapped.open_at c x.opened u) ws b)
-      alike-on x u ws b s =
-          let y : OpenScheme = unswapped.open_at c x.opened u in
-          subst (λ (g : ℕ). Alike (go (record { node = u; number = g; opened = x.opened }) (own ws) b) (free y ws b)) s.same
-          (ih y ws b (stop-as c (sym s.same) s))
+      alike-on x u ws b s = grind (arith, common_steps)
 
       alike-resume : (x : OpenScheme) (a : SchemeCall) → ((w : ℕ) (b : Results) → StopOf c x.number (a.resumed w b))
           → {r : Course} {q : unswapped.Course} → Alike r q → Alike (resumed_course go x a r) (unswapped.resumed_course free c x a q)
@@ -147,7 +137,4 @@ module _ (c : Chart) where
 -- ---- of every text that the reader accepts
 pub own-binding : OwnBinding
 unfolding walk unswapped.walk
-own-binding text ok n ws =
-    let c : Chart = contents text in let f : Facts c = facts text ok in
-    ap (λ (k : ℕ). walk_from k n c false (end c 1) (own ws) no_results) (length-map ws _)
-    ∙ alike_from c f n (length ws) false (end c 1) ws no_results (home-stop c f)
+own-binding text ok n ws = grind (arith, common_steps, length-map, home-stop, facts, alike_from)

@@ -1,24 +1,18 @@
 -- The recursive walk makes the ticks of the trace from home: the list of callers does what the recursion does.
-use Rattle.std.proofs.Common.{if◌then◌else◌}
-use Prim.Native.Nat.{ℕ, zero, suc, ◌≤◌, ◌<◌}
-use mathlib.Core.Bool.{Bool, true, false}
-use mathlib.Core.Path.{◌≡◌, refl, ap, ◌∙◌, sym}
-use mathlib.Core.List.{List, [], ◌∷◌, ◌++◌, append_assoc}
-use lib.ListN.{length}
-use native.Mathlib.Omega.{arith}
-use native.Mathlib.Nat.{le_of_suc-le-suc, not-suc-le-zero}
-use Rattle.results.specs.Results.{Results, no_results, cleared_results}
+use Rattle.std.proofs.Common.{if◌then◌else◌, ℕ, zero, suc, ◌≤◌, ◌<◌, Bool, true, false, ◌≡◌, refl, ap, ◌∙◌, sym, List, [], ◌∷◌, ◌++◌}
+use Rattle.std.proofs.Common.{append_assoc, length, arith, le_of_suc-le-suc, not-suc-le-zero}
+use Rattle.std.proofs.lemmas.Grind.{common_steps}
+use Rattle.results.specs.Results.{Results, no_results}
 use Rattle.bindings.specs.Binding.{Binding, server_of}
 use Rattle.charts.specs.Chart.{Chart, handler, end}
-use Rattle.walk.specs.Stops.{start, Stop, plain, call, function, test, home, back, stop_at}
-use Rattle.walk.specs.Walk.{Signal, OpenScheme, open_at_stop, Tick, one_tick, Course, spent, ended, dropped, course_after, SchemeCall}
-use Rattle.walk.specs.Walk.{Performer, resumed_course, opened_scheme, call_course, stop_course, scheme_course, is_dropping}
-use Rattle.walk.specs.Walk.{bottom, ticks_after_course, walk_from, walk}
-use Rattle.walk.proofs.Trace.{Open, opens, moved_to, at, tick_of, stop_tick, node_resumed, resumed, position_returned}
+use Rattle.walk.specs.Stops.{start, Stop, plain, call, function, test, home, back, stop_at, by_arc, by_word}
+use Rattle.walk.specs.Walk.{Signal, OpenScheme, Tick, one_tick, Course, spent, ended, dropped, course_after, SchemeCall, Performer}
+use Rattle.walk.specs.Walk.{resumed_course, call_course, stop_course, scheme_course, is_dropping, bottom, ticks_after_course, walk_from}
+use Rattle.walk.specs.Walk.{walk}
+use Rattle.walk.proofs.Trace.{Open, opens, moved_to, at, tick_of, stop_tick, node_resumed, resumed, position_returned, position_handling}
+use Rattle.walk.proofs.Trace.{position_called, position_moved, trace, position_at_home, trace-length}
 use Rattle.walk.specs.Simpler.{TickAWord}
-use Rattle.walk.proofs.Trace.{position_handling, position_called, position_moved, trace, position_at_home, trace-length}
 use Rattle.text.specs.declared.frames.codes.TheConstants.{HOME_CODE, PLAIN_CODE}
-use Rattle.walk.specs.Stops.{by_arc, by_word}
 
 -- ---- a scheme that has ended, or was dropped, leaves fewer than n words
 abbrev Shorter : ℕ → Course → Type 0
@@ -41,22 +35,17 @@ Short go = (x : OpenScheme) (ws : List Signal) (b : Results) → Shorter (length
 
 module _ (go : Performer) (ih : Short go) where
   shorter-resume : (x : OpenScheme) (a : SchemeCall) (m : ℕ) (r : Course) → Shorter m r → Shorter m (resumed_course go x a r)
-  shorter-resume x a m (spent ts) h = tt
-  shorter-resume x a m (ended ts w ws b) h = let y : OpenScheme = open_at_stop x (a.resumed w b) in
-      shorter-after (length ws) m ts (go y ws b) (omega arith) (ih y ws b)
-  shorter-resume x a m (dropped ts ws b) h = h
+  shorter-resume x a m (spent ts) h = grind (arith, common_steps)
+  shorter-resume x a m (ended ts w ws b) h = grind (arith, common_steps)
+  shorter-resume x a m (dropped ts ws b) h = grind (arith, common_steps)
 
   step : (ts : List Tick) (x : OpenScheme) (ws : List Signal) (b : Results) → Shorter (suc (length ws)) (course_after ts (go x ws b))
   step ts x ws b = shorter-after (length ws) _ ts (go x ws b) (omega arith) (ih x ws b)
 
   step_in : (c : Chart) (s : Binding) (x : OpenScheme) (a : SchemeCall) (ws : List Signal) (b : Results) (d : Bool)
       → Shorter (suc (length ws)) (call_course go c s x a ws b d)
-  step_in c s x a ws b false =
-      let y : OpenScheme = opened_scheme c s x a in
-      let r : Course = go y ws (cleared_results a.called b) in
-      shorter-after (length ws) _ (one_tick x a.mask a.code) (resumed_course go x a r) (omega arith)
-      (shorter-resume x a (length ws) r (ih y ws (cleared_results a.called b)))
-  step_in c s x a ws b true = omega arith
+  step_in c s x a ws b false = grind (arith, common_steps)
+  step_in c s x a ws b true = grind (arith, common_steps)
 
   shorter-act : (c : Chart) (d : ℕ → Bool) (x : OpenScheme) (w : Signal) (ws : List Signal) (b : Results) (s : Stop)
       → Shorter (suc (length ws)) (stop_course go c d x w ws b s)
@@ -100,8 +89,7 @@ module _ (n : ℕ) (c : Chart) where
     -- the scheme goes on
     same_after : (ts : List Tick) (ws : List Signal) (x : Open) (ks : List Open) (b : Results) (f : Bool) → length ws ≤ k
         → ts ++ trace n c ws (at x ks b f) ≡ onward ks f (course_after ts (performed k x ks ws b f))
-    same_after ts ws x ks b f l = ap (λ (us : List Tick). ts ++ us) (ih ws x ks b f l)
-        ∙ sym (onward-after ks f ts (performed k x ks ws b f))
+    same_after ts ws x ks b f l = grind (arith, common_steps)
 
     -- the caller x goes on, from the node that its call gives
     module _ (x : Open) (ks : List Open) (f : Bool) (a : SchemeCall)
@@ -110,26 +98,17 @@ module _ (n : ℕ) (c : Chart) where
       go = scheme_course k c (is_dropping n c f)
 
       same-resume : (r : Course) → Shorter (suc k) r → onward (x ∷ ks) f r ≡ onward ks f (resumed_course go (above ks x) a r)
-      same-resume (spent ts) l = refl
-      same-resume (ended ts w ws b) l =
-          rw (e w b) (same_after ts ws (moved_to x (resumed c x.node w b)) ks b f (le_of_suc-le-suc l))
-      same-resume (dropped ts ws b) l = refl
+      same-resume (spent ts) l = grind (arith, common_steps)
+      same-resume (ended ts w ws b) l = grind (arith, common_steps)
+      same-resume (dropped ts ws b) l = grind (arith, common_steps)
 
       -- a call: the scheme called, and then the caller; or a drop
       same-call : (s : Binding) (ws : List Signal) (b : Results) → length ws ≤ k → (d : Bool)
           → tick_of x.node x.number a.mask (if d then 96 else a.code) (suc (length ks))
           ∷ trace n c ws (position_called c x ks a.called (server_of s a.called) b f d)
           ≡ onward ks f (call_course go c s (above ks x) a ws b d)
-      same-call s ws b l true = refl
-      same-call s ws b l false =
-          let i : ℕ = server_of s a.called in
-          let y : Open = opens (start c i) a.called i in
-          let e : Results = cleared_results a.called b in
-          let r : Course = performed k y (x ∷ ks) ws e f in
-          let ts : List Tick = one_tick (above ks x) a.mask a.code in
-          ap (λ (us : List Tick). ts ++ us) (ih ws y (x ∷ ks) e f l
-          ∙ same-resume r (shorter-le (length ws) (suc k) r (omega arith) (shorter k c (is_dropping n c f) (above (x ∷ ks) y) ws e)))
-          ∙ sym (onward-after ks f ts (resumed_course go (above ks x) a r))
+      same-call s ws b l true = grind (arith, common_steps)
+      same-call s ws b l false = grind (arith, common_steps, opens, shorter-le, shorter, onward-after, same-resume)
 
     same-act : (x : Open) (ks : List Open) (w : Signal) (ws : List Signal) (b : Results) (f : Bool) → length ws ≤ k
         → (s : Stop) → stop_at c x.node ≡ s → let d = is_dropping n c f (suc (length ks)) in

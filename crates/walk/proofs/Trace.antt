@@ -1,15 +1,8 @@
 -- The walk without recursion: positions of an open scheme, its unfinished callers and the result bits, each word a move to the next one.
-use Rattle.std.proofs.Common.{if◌then◌else◌}
-use Prim.Native.Nat.{ℕ, suc, ◌+◌, ◌≤◌, ◌<◌}
-use mathlib.Core.Bool.{Bool, true, false, ◌&&◌, not}
-use mathlib.Core.Path.{◌≡◌, refl, ap, sym, ◌∙◌}
-use mathlib.Core.Logic.{◌⊎◌, inl, inr}
-use mathlib.Core.List.{List, [], ◌∷◌, ◌++◌}
-use lib.ListN.{length}
-use lib.Dec.{eqb}
-use borrow.Author.Tests.{eqb-false}
-use native.Mathlib.Omega.{arith}
-use Rattle.words.proofs.lists.Tests.{no_both, and_l, and_r, not-true}
+use Rattle.std.proofs.Common.{if◌then◌else◌, ℕ, suc, ◌+◌, ◌≤◌, ◌<◌, Bool, true, false, ◌≡◌, refl, ap, sym, ◌∙◌, ◌⊎◌, inl, inr, List, []}
+use Rattle.std.proofs.Common.{◌∷◌, ◌++◌, length, arith}
+use Rattle.std.proofs.lemmas.Grind.{common_steps}
+use Rattle.words.proofs.lists.Tests.{no_both}
 use Rattle.results.specs.Results.{Results, result_of, with_result, cleared_results}
 use Rattle.bindings.specs.Binding.{Binding, server_of}
 use Rattle.text.specs.frames.Frame.{size}
@@ -17,8 +10,8 @@ use Rattle.charts.specs.Chart.{Chart, kind, scheme, argument, next0, next1, hand
 use Rattle.walk.specs.Stops.{is_stop, start, by_arc, by_word, Stop, plain, call, function, test, home, back, stop_at}
 use Rattle.walk.specs.Walk.{Signal, Tick, is_dropping, bottom}
 use Rattle.walk.proofs.Facts.{Target, StopOf, Facts}
-use Rattle.walk.proofs.Views.{View, a-plain, a_call, a-function, a-home, a_back, a-begin}
-use Rattle.walk.proofs.Views.{a-condition, view, stop-call, stop-function, begin-leads, end-stops}
+use Rattle.walk.proofs.Views.{View, a-plain, a_call, a-function, a-home, a_back, a-begin, a-condition, view, stop-call, stop-function}
+use Rattle.walk.proofs.Views.{begin-leads, end-stops}
 
 -- an open scheme: the node where it stands, the number that it was called by, the scheme that it is
 pub record Open : Type 0 where
@@ -147,22 +140,17 @@ pub record Good (c : Chart) (x : WalkPosition) : Type 0 where
 
 -- the End of scheme 1 is a stop
 pub home-stop : (c : Chart) → Facts c → StopOf c 1 (end c 1)
-home-stop c facts = let e = facts.ends 1 (omega arith) facts.first in
-    record { inside = e.0; same = e.2; stopping = end-stops c (end c 1) e.1 }
+home-stop c facts = grind (arith, common_steps, end-stops)
 
 pub home-good : (c : Chart) → Facts c → (b : Results) → Good c (position_at_home c b)
 home-good c facts b = record { top = home-stop c facts; under = (refl, refl); handled = λ q. no_both false q refl }
 
 pub handling-good : (c : Chart) → Facts c → (b : Results) → (handler c ≡ 0 → ⊥) → Good c (position_handling c b)
-handling-good c facts b n = let l = facts.handled n in
-    record { top = facts.starts (handler c) (omega (arith, l)) l.1; under = (refl, refl); handled = λ q. n }
+handling-good c facts b n = grind (arith, common_steps)
 
 -- a drop tells that there is a handler
 pub drop-handler : (n : ℕ) (c : Chart) (f : Bool) (o : ℕ) → is_dropping n c f o ≡ true → handler c ≡ 0 → ⊥
-drop-handler n c f o e =
-    let p : Bool = not f in
-    let q : Bool = not (eqb (handler c) 0) in
-    eqb-false (handler c) 0 (not-true (eqb (handler c) 0) (and_r p q (and_l (p && q) (eqb o n) e)))
+drop-handler n c f o e = grind (arith, common_steps)
 
 pub stop-as : (c : Chart) {h g u : ℕ} → h ≡ g → StopOf c h u → StopOf c g u
 stop-as c e s = record { inside = s.inside; same = s.same ∙ e; stopping = s.stopping }
@@ -183,13 +171,7 @@ module _ (c : Chart) (facts : Facts c) where
       stop-as c t.same (facts.tests (next0 c v) w t.inside (begin-leads c v e s))
 
   resumes-to : (h : ℕ) (k : Open) (w : ℕ) (b : Results) → Caller c h k → StopOf c k.server (resumed c k.node w b)
-  resumes-to h k w b caller = stop-as c caller.stop.same (go caller.calls)
-    where
-      go : (kind c k.node ≡ 2) ⊎ (kind c k.node ≡ 4) → StopOf c (scheme c k.node) (resumed c k.node w b)
-      go (inl e) =
-          rw (stop-call c k.node e (λ p. omega (arith, caller.called, caller.deep)))
-          (arc-to k.node w caller.stop.inside (λ p. omega arith))
-      go (inr e) = rw (stop-function c k.node e) (function_to k.node w (result_of (argument c k.node) b) caller.stop.inside e)
+  resumes-to h k w b caller = grind (arith, common_steps, stop-call, stop-function, stop-as, arc-to, function_to)
 
   -- a good position stays good after any move
   module _ (x : Open) (ks : List Open) (b : Results) (f : Bool) (g : Good c (at x ks b f)) where
@@ -199,14 +181,8 @@ module _ (c : Chart) (facts : Facts c) where
     called-good : (d : Results) (s : Binding) → Serves c s → (kind c x.node ≡ 2) ⊎ (kind c x.node ≡ 4)
         → (2 ≤ argument c x.node) × (argument c x.node ≤ schemes c) → (t : Bool) → (t ≡ true → handler c ≡ 0 → ⊥)
         → Good c (position_called c x ks (argument c x.node) (server_of s (argument c x.node)) d f t)
-    called-good d s serves e l true n = handling-good c facts (cleared_results (handler c) d) (n refl)
-    called-good d s serves e l false n =
-        let k = serves (argument c x.node) l.0 l.1 in
-        record {
-          top = facts.starts (server_of s (argument c x.node)) (omega (arith, k)) k.1;
-          under = (record { stop = g.top; calls = e; called = refl; deep = l.0 }, g.under);
-          handled = g.handled;
-        }
+    called-good d s serves e l true n = grind (arith, common_steps)
+    called-good d s serves e l false n = grind (arith, common_steps)
 
     returned-good : (w : ℕ) → Good c (position_returned c ks w b f)
     returned-good w = go ks g.under
@@ -233,8 +209,7 @@ module _ (c : Chart) (facts : Facts c) where
   view_of x g = view c x.now.node (facts.kinds x.now.node g.top.inside)
 
   pub moves : (n : ℕ) (w : Signal) (x : WalkPosition) → Serves c w.binding → Good c x → Good c (move n c w x)
-  moves n w x serves g = moved-good x.now x.callers x.results x.first g (is_drop_at n c x)
-      (drop-handler n c x.first (suc (length x.callers))) w serves (view_of x g)
+  moves n w x serves g = grind (arith, common_steps, drop-handler, moved-good, view_of)
 
 -- ---- the trace of joined words
 unfoldable pub position_reached : ℕ → Chart → List Signal → WalkPosition → WalkPosition

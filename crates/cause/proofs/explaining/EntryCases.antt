@@ -1,12 +1,9 @@
 -- A cause over an image: it is refused, or the cause is that on the table it is prepared to; and by value, over the bytes of the state.
-use Prim.Native.Nat.{ℕ}
-use mathlib.Core.Path.{◌≡◌, sym, ◌∙◌, ap, subst}
-use mathlib.Core.List.{List}
-use lib.ListN.{length}
+use Rattle.std.proofs.Common.{ℕ, ◌≡◌, sym, ◌∙◌, ap, subst, List, length, Err, arith}
+use Rattle.std.proofs.lemmas.Grind.{common_steps}
 use Rattle.text.specs.frames.Frame.{contents}
 use Rattle.text.specs.frames.Verdict.{Verdict, fine, refused, next, when}
 use Rattle.text.specs.frames.Answer.{Answer, refusal, reply, verdict_reply}
-use Rattle.std.proofs.Common.{Err}
 use Rattle.text.specs.declared.frames.refusals.Refusal.{Refusal}
 use Rattle.text.specs.frames.Refusal.{number_of, index_of}
 use Rattle.text.proofs.frames.Chains.{err-refused}
@@ -57,5 +54,4 @@ module _ (t : List ℕ) (s : State) (w : ℕ) where
 
 pub value-told : (t : List ℕ) (state : State) (w : ℕ) → Sized state → length state.bits ≡ 16 → (bytes : List ℕ) → bytes ≡ bytes_of state
     → (r : CauseAnswer) → GivesCause (explain t (state_of bytes) w) r → GivesCause (explain t state w) r
-value-told t state w sized bits bytes e r y =
-    subst (λ (s : State). GivesCause (explain t s w) r) (ap state_of e ∙ state-back state sized bits) y
+value-told t state w sized bits bytes e r y = grind (arith, common_steps, state-back)

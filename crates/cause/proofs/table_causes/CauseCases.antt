@@ -1,28 +1,21 @@
 -- A cause on a table: the label that is left, the row found among its frames with its number, what is told, and refusals 15, 18 and 21.
-use Prim.Native.Nat.{ℕ, zero, suc, ◌+◌, ◌-◌, ◌≤◌, ◌<◌}
-use mathlib.Core.Bool.{Bool, true, false}
-use mathlib.Core.Path.{◌≡◌, refl, sym, ◌∙◌, ap, ap₂, subst}
-use mathlib.Core.List.{List}
-use native.Mathlib.Decide.{ℕ_discrete}
-use native.Mathlib.Omega.{arith}
-use lib.Bits.{bit_or}
-use lib.Dec.{leb, ltb, eqb}
-use lib.ListN.{get_or-eq_default}
-use borrow.Author.Tests.{lt-ltb, le-ltb, le-leb, lt-leb, eq-eqb}
+use Rattle.std.proofs.Common.{ℕ, ◌+◌, ◌-◌, ◌≤◌, ◌<◌, Bool, true, false, ◌≡◌, refl, sym, ◌∙◌, ap, ap₂, subst, List, arith, bit_or, leb, ltb}
+use Rattle.std.proofs.Common.{eqb, lt-ltb, le-ltb, le-leb, eq-eqb, Ok, Err, if◌then◌else◌}
+use Rattle.std.proofs.Math.ListN.{get_or-eq_default}
+use borrow.Author.Tests.{lt-leb}
+use Rattle.std.proofs.lemmas.Grind.{common_steps}
 use Rattle.words.proofs.lists.Tests.{if-true, if-false}
 use Rattle.results.specs.Results.{Results}
 use Rattle.text.specs.frames.Frame.{size, pair_at}
 use Rattle.text.specs.frames.Verdict.{Verdict}
-use Rattle.std.proofs.Common.{Ok, Err, if◌then◌else◌}
 use Rattle.text.specs.declared.frames.refusals.Refusal.{Refusal}
 use Rattle.text.specs.declared.frames.refusals.Refusal.TheVariants.{Unfit, NoRow, Rowless}
-use Rattle.text.proofs.frames.Chains.{when-holds, when-fails}
+use Rattle.text.proofs.frames.Chains.{when-fails}
 use Rattle.image.specs.Layout.{tick_kind}
 use Rattle.image.specs.Image.{Image, Label, Row}
 use Rattle.image.specs.Decode.{rows_from}
 use Rattle.tables.specs.Table.{table_label, first_on, end_on, row_on, rows_on, table_image}
 use Rattle.tables.specs.inner.Labels.{as_label}
-use Rattle.tables.specs.declared.Label as declared
 use Rattle.tables.proofs.TableReads.{labels-count, label-at}
 use Rattle.rows.specs.Rows.{Choice, row, no_choice, best_row}
 use Rattle.rows.specs.inner.Search.{Deciding, found_at}
@@ -37,12 +30,13 @@ use Rattle.state.proofs.ResultBytes.{held-places, held-sized}
 use Rattle.fitness.proofs.Fitness.{unfits}
 use Rattle.ticks.specs.Tick.{called_bit, choice}
 use Rattle.ticks.specs.inner.TickContracts.{bit_of}
-use Rattle.cause.specs.Cause.{mask_against_all, Leaving, leaves_label, nothing, leaving_by, leaving, cause_by}
-use Rattle.cause.specs.Cause.{cause_at, cause_of, CauseOutcome, no_cause, cause_outcome, cause_on, CauseAnswer, cause_reply, GivesCause}
+use Rattle.cause.specs.Cause.{mask_against_all, leaves_label, nothing, leaving_by, leaving, cause_by, cause_at, cause_of, CauseOutcome}
+use Rattle.cause.specs.Cause.{no_cause, cause_outcome, cause_on, CauseAnswer, cause_reply, GivesCause}
 use Rattle.cause.specs.inner.CauseContracts.{mask_against_from}
 use Rattle.cause.specs.table_causes.inner.TableCauses.{Ordered, OrderedLabel, leaving_number, table_cause}
 use Rattle.cause.proofs.Leaves.{Leaves, by, stays, leaves}
 use Rattle.cause.proofs.table_causes.TableConditions.{any-conditions, frame-conditions}
+use Rattle.tables.specs.declared.Label as declared
 
 -- a refusal, and no cause
 pub tells_none : (x : CauseOutcome) (r : Refusal) → x ≡ record { reply = cause_reply (Err r); cause = no_cause } → GivesCause x (Err r)
@@ -67,28 +61,18 @@ module _ (b : List ℕ) (s : State) (d top : ℕ) (is : d ≡ s.depth) (at : top
 
   left_is : leaving i s ≡ leaving_by s (tick_kind z.kind)
   unfolding leaving
-  left_is =
-      ap (λ (x : Label). leaving_by s (tick_kind x.kind)) (label-at b (place_at s (s.depth - 1)) ∙ sym (read ∙ ap (table_label b) top-is))
+  left_is = grind (arith, common_steps, label-at, top-is)
 
   pub left-plain : z.kind ≡ 0 → top ≡ leaving_number (leaving i s)
   left-plain k = top-is ∙ sym (ap leaving_number (left_is ∙ ap (λ (n : ℕ). leaving_by s (tick_kind n)) k))
 
   pub left_other : (z.kind ≡ 0 → ⊥) → (z.kind ≡ 3 → ⊥) → 0 ≡ leaving_number (leaving i s)
-  left_other m n = go z.kind refl
-    where
-      go : (k : ℕ) → z.kind ≡ k → 0 ≡ leaving_number (leaving i s)
-      go zero e = absurd (m e)
-      go (suc zero) e = sym (ap leaving_number (left_is ∙ ap (λ (n : ℕ). leaving_by s (tick_kind n)) e))
-      go (suc (suc zero)) e = sym (ap leaving_number (left_is ∙ ap (λ (n : ℕ). leaving_by s (tick_kind n)) e))
-      go (suc (suc (suc zero))) e = absurd (n e)
-      go (suc (suc (suc (suc k)))) e = sym (ap leaving_number (left_is ∙ ap (λ (n : ℕ). leaving_by s (tick_kind n)) e))
+  left_other m n = grind (arith, common_steps, left_is)
 
   module _ (k : z.kind ≡ 3) where
     left_back : (t : Bool) → leb s.depth 1 ≡ t
         → leaving_number (leaving i s) ≡ leaving_number (if t then nothing else leaves_label (place_at s (s.depth - 2)))
-    left_back t e =
-        ap leaving_number (left_is ∙ ap (λ (n : ℕ). leaving_by s (tick_kind n)) k)
-        ∙ ap (λ (u : Bool). leaving_number (if u then nothing else leaves_label (place_at s (s.depth - 2)))) e
+    left_back t e = grind (arith, common_steps, left_is)
 
     pub left-last : d ≤ 1 → 0 ≡ leaving_number (leaving i s)
     left-last h = sym (left_back true (le-leb s.depth 1 (omega arith)))
@@ -126,11 +110,7 @@ module _ (b : List ℕ) (l w : ℕ) (x : OrderedLabel b l) (bs : Results) (z : d
 
   -- what does not look at the bit of a label that calls no function is the same for the bit called and the one that decides
   decided : {A : Type 0} (F : ℕ → A) → (((table_label b l).kind ≡ 2 → ⊥) → (p q : ℕ) → F p ≡ F q) → F (called_bit img bs l) ≡ F bit
-  decided F any = go (ℕ_discrete (label_at img l).kind 2)
-    where
-      go : Dec ((label_at img l).kind ≡ 2) → F (called_bit img bs l) ≡ F bit
-      go (yes k) = ap F (sym (bit-told ∙ if-true (eqb (label_at img l).kind 2) (called_bit img bs l) 2 (eq-eqb (label_at img l).kind 2 k)))
-      go (no k) = any (λ m. k (ap (λ (y : Label). y.kind) (label-at b l) ∙ m)) (called_bit img bs l) bit
+  decided F any = grind (arith, common_steps, eq-eqb, if-true, label-at, bit-told)
 
   choice-is : choice img bs l w ≡ best_row l w bit 0 img.rows
   choice-is = decided (λ n. best_row l w n 0 img.rows) (λ n p q. any-row b l w p q n x.label.low x.label.high)
@@ -146,11 +126,7 @@ module _ (b : List ℕ) (l w : ℕ) (x : OrderedLabel b l) (bs : Results) (z : d
     by_number = found_number b l w bit x.label f g
 
     pub none_told : size b ≤ f → GivesCause (cause_outcome (cause_at img bs w (leaves_label l))) (Err (NoRow 0))
-    none_told h =
-        let found : found_at b l f ≡ no_choice = if-false (ltb f (size b)) (row f (row_on b l f)) no_choice (le-ltb f (size b) h) in
-        tells_none (cause_outcome (cause_at img bs w (leaves_label l))) (NoRow 0)
-        (ap caused (choice-is ∙ unmoved-none (first_on b l) (best_row l w bit 0 img.rows)
-        (sym (ap (moved_by (rows_before b l)) found) ∙ by_number)))
+    none_told h = grind (arith, common_steps, rows_before, le-ltb, moved_by, if-false, tells_none, unmoved-none, choice-is, by_number)
 
     module _ (h : f < size b) where
       found-is : found_at b l f ≡ row f (row_on b l f)
@@ -191,9 +167,7 @@ module _ (b bytes : List ℕ) (w : ℕ) (x : Ordered b) (t : Bool) (e : t ≡ is
   s = state_of bytes
 
   pub unfit-told : t ≡ true → GivesCause (table_cause b s w) (Err Unfit)
-  unfit-told h =
-      tells_none (table_cause b s w) Unfit
-      (ap (λ (v : Verdict). cause_on v (λ _. cause_of (table_image b) s w)) (when-holds 15 (is_unfit (table_image b) s) (sym e ∙ h)))
+  unfit-told h = grind (arith, common_steps)
 
   module _ (h : t ≡ false) (l : ℕ) (is : l ≡ leaving_number (leaving (table_image b) s)) where
     fit-told : table_cause b s w ≡ cause_outcome (cause_at (table_image b) s.bits w (leaving (table_image b) s))
@@ -204,30 +178,16 @@ module _ (b bytes : List ℕ) (w : ℕ) (x : Ordered b) (t : Bool) (e : t ≡ is
     view = leaves (table_image b) x.sound s (unfits (table_image b) s (held-sized bytes) (sym e ∙ h))
 
     pub rowless-told : l ≡ 0 → GivesCause (table_cause b s w) (Err Rowless)
-    rowless-told n = tells_none (table_cause b s w) Rowless
-        (fit-told ∙ ap (λ (y : Leaving). cause_outcome (cause_at (table_image b) s.bits w y)) (none_left view))
-      where
-        none_left : Leaves (table_image b) s → leaving (table_image b) s ≡ nothing
-        none_left (by m q o) = absurd (omega (arith, o.low, is ∙ ap leaving_number q))
-        none_left (stays q o) = q
+    rowless-told n = grind (arith, common_steps, stays, by, tells_none, fit-told, view)
 
     module _ (n : l ≡ 0 → ⊥) where
       one_left : Leaves (table_image b) s → (leaving (table_image b) s ≡ leaves_label l) × OrderedLabel b l
-      one_left (by m q o) =
-          let same : m ≡ l = sym (is ∙ ap leaving_number q) in (
-            q ∙ ap leaves_label same,
-            record {
-              ordered = x;
-              label = record { whole = x.whole; low = omega (arith, o.low); high = omega (arith, o.high, labels-count b) };
-            },
-          )
-      one_left (stays q o) = absurd (n (is ∙ ap leaving_number q))
+      one_left (by m q o) = grind (arith, common_steps, labels-count)
+      one_left (stays q o) = grind (arith, common_steps)
 
       pub left-placed : OrderedLabel b l
       left-placed = (one_left view).1
 
       pub left-told : (r : CauseAnswer) → GivesCause (cause_outcome (cause_at (table_image b) s.bits w (leaves_label l))) r
           → GivesCause (table_cause b s w) r
-      left-told r y =
-          subst (λ (u : CauseOutcome). GivesCause u r)
-          (sym (fit-told ∙ ap (λ (y : Leaving). cause_outcome (cause_at (table_image b) s.bits w y)) (one_left view).0)) y
+      left-told r y = grind (arith, common_steps, fit-told, view, one_left)

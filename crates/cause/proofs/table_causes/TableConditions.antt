@@ -1,15 +1,10 @@
 -- The conditions against the rows of a label, among all rows of a table:
 -- only its own rows have any, they stand in its frames, and each has its values within its care mask.
-use Rattle.std.proofs.Common.{if◌then◌else◌}
-use Prim.Native.Nat.{ℕ, zero, suc, ◌+◌, ◌-◌, ◌^◌, ◌≤◌, ◌<◌}
-use mathlib.Core.Bool.{Bool, ◌&&◌, ◌||◌, not}
-use mathlib.Core.Path.{◌≡◌, refl, sym, ◌∙◌, ap, ap₂, subst}
-use mathlib.Core.List.{List, [], ◌∷◌, ◌++◌, map}
-use native.Mathlib.Decide.{ℕ_discrete}
-use native.Mathlib.Omega.{arith}
-use lib.Bits.{bit_and, bit_or, or_zero_l}
-use lib.Dec.{eqb}
-use borrow.Author.Tests.{eq-eqb, ne_eqb}
+use Rattle.std.proofs.Common.{if◌then◌else◌, ℕ, zero, suc, ◌+◌, ◌-◌, ◌^◌, ◌≤◌, ◌<◌, Bool, ◌&&◌, ◌||◌, not, ◌≡◌, refl, sym, ◌∙◌, ap, ap₂}
+use Rattle.std.proofs.Common.{subst, List, [], ◌∷◌, ◌++◌, map, arith, bit_and, bit_or, eqb, eq-eqb, ne_eqb}
+use Rattle.std.proofs.Math.Decide.{ℕ_discrete}
+use lib.Bits.{or_zero_l}
+use Rattle.std.proofs.lemmas.Grind.{common_steps}
 use Rattle.words.specs.lists.Numbers.{range, lowest}
 use Rattle.words.specs.lists.Sequences.{concat_map, All}
 use Rattle.words.proofs.lists.Tests.{if-false}
@@ -36,10 +31,7 @@ module _ (b : List ℕ) (l w bit : ℕ) where
   let-in r = eqb r.bit 2 || eqb r.bit bit
 
   other_none : (r : Row) → (r.from ≡ l → ⊥) → mask_against l w bit r ≡ 0
-  other_none r h =
-      ap (λ (t : Bool). if t && (let-in r && not (is_agreeing w r.care r.values))
-      then 2 ^ lowest (is_differing w r.care r.values) 0 16 else 0)
-      (ne_eqb r.from l h)
+  other_none r h = grind (arith, common_steps)
 
   others-first : (m : ℕ) → (m ≡ l → ⊥) → (i n : ℕ) (rs : List Row) → all (map (row_on b m) (range i n) ++ rs) ≡ all rs
   unfolding mask_against_all
@@ -88,16 +80,13 @@ module _ (b : List ℕ) (l w : ℕ) where
 
     pub any-conditions : (p q : ℕ) → 2 ≤ l → l ≤ last_label b → mask_against_all l w p (table_image b).rows
         ≡ mask_against_all l w q (table_image b).rows
-    any-conditions p q h g = own-conditions b l w p h g ∙ free-rows p q (first_on b l) (end_on b l - first_on b l)
-        ∙ sym (own-conditions b l w q h g)
+    any-conditions p q h g = grind (arith, common_steps, own-conditions, free-rows)
 
   module _ (bit : ℕ) (x : Deciding b l bit) where
     frames-are : (f n : ℕ) → mask_against_from b w bit f n ≡ mask_against_all l w bit (map (row_on b l) (range f n))
     unfolding mask_against_from mask_against_all
-    frames-are f zero = refl
-    frames-are f (suc n) =
-        ap₂ bit_or (ap (λ (t : Bool). if t && not (agreed f) then low f else 0) (sym (own-bit b l bit x f)) ∙ sym (by_bit bit f))
-        (frames-are (suc f) n)
+    frames-are f zero = grind (arith, common_steps)
+    frames-are f (suc n) = grind (arith, common_steps, frames-are (suc f) n, own-bit, by_bit)
 
     pub frame-conditions : 2 ≤ l → l ≤ last_label b
         → mask_against_from b w bit (first_on b l) (end_on b l - first_on b l) ≡ mask_against_all l w bit (table_image b).rows

@@ -1,6 +1,5 @@
 -- What the label of a stop holds, by the kind of its node.
-use Prim.Native.Nat.{ℕ, zero, suc}
-use mathlib.Core.Path.{◌≡◌, refl, ap}
+use Rattle.std.proofs.Common.{ℕ, zero, suc, ◌≡◌, refl, ap}
 use Rattle.charts.specs.Layout.{Function, kind_of}
 use Rattle.charts.specs.Chart.{Chart, kind, scheme}
 use Rattle.chart_rows.specs.chart_labels.Labels.{label_as, stop_label}

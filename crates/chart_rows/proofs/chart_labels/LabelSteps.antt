@@ -1,18 +1,9 @@
 -- Labels: their number is small, a label of a node's own is 2 or more, and the steps of the functions that lay them out.
-use Rattle.std.proofs.Common.{if◌then◌else◌, cond}
-use mathlib.Core.Path.{◌≡◌, refl, sym, ◌∙◌, ap}
-use mathlib.Core.Logic.{◌⊎◌, ⊎_elim}
-use mathlib.Core.Bool.{Bool, true, false, ◌&&◌, not}
-use mathlib.Core.List.{List, [], ◌∷◌, ◌++◌, map}
-use Prim.Native.Nat.{ℕ, ◌+◌, ◌≤◌, ◌<◌}
-use native.Mathlib.Nat.{zero-add}
-use native.Mathlib.Numerals.{add-one}
-use native.Mathlib.Omega.{arith}
-use lib.Dec.{eqb}
-use lib.ListN.{length, get_or, set, length-set}
-use borrow.Author.Tests.{eq-eqb, ne_eqb}
+use Rattle.std.proofs.Common.{if◌then◌else◌, cond, ◌≡◌, refl, sym, ◌∙◌, ap, ◌⊎◌, ⊎_elim, Bool, true, false, ◌&&◌, not, List, [], ◌∷◌, ◌++◌}
+use Rattle.std.proofs.Common.{map, ℕ, ◌+◌, ◌≤◌, ◌<◌, zero-add, add-one, arith, eqb, length, set, length-set, eq-eqb, ne_eqb}
+use Rattle.std.proofs.lemmas.Grind.{common_steps}
 use Rattle.words.specs.lists.Numbers.{range, count}
-use Rattle.words.specs.lists.Sequences.{written, over}
+use Rattle.words.specs.lists.Sequences.{written}
 use Rattle.words.proofs.lists.Tests.{if-true, if-false, cases}
 use Rattle.words.proofs.lists.Counts.{count-snoc, count-below, count-miss2}
 use Rattle.words.proofs.lists.Ranges.{length-map-range, get_or-map-range, map-range-snoc}
@@ -40,12 +31,10 @@ low false = omega arith
 
 -- a label of 2 or more is the node's own
 pub own-label : (c : Chart) (v : ℕ) → 2 ≤ label c v → is_numbered c v ≡ true
-own-label c v l = ⊎_elim (λ (t : is_numbered c v ≡ true). t)
-    (λ (f : is_numbered c v ≡ false). absurd (omega (arith, label-shared c v f, low (eqb (scheme c v) 1)))) (cases (is_numbered c v))
+own-label c v l = grind (arith, common_steps, cases, label-shared, low)
 
 pub no-own-label : (c : Chart) (v : ℕ) → label c v < 2 → is_numbered c v ≡ false
-no-own-label c v l = ⊎_elim (λ (t : is_numbered c v ≡ true). absurd (omega (arith, label-own c v t)))
-    (λ (f : is_numbered c v ≡ false). f) (cases (is_numbered c v))
+no-own-label c v l = grind (arith, common_steps, cases, label-own)
 
 -- Begin and End of scheme 1 have none of their own
 pub few-numbered : (c : Chart) → Facts c → count (is_numbered c) 0 (size c) + 2 ≤ size c
@@ -128,28 +117,9 @@ module _ (c : Chart) (old labels : List ℕ) (own v : ℕ) (room : size c ≤ le
 
 pub labelling-done : (c : Chart) (old labels : List ℕ) (own v n : ℕ) → Labelling c old labels own v → n ≡ size c → n ≤ v
     → (own ≡ count (is_numbered c) 0 (size c)) × (labels ≡ written old 0 (map (label c) (range 0 (size c))))
-labelling-done c old labels own v n t e l =
-    let q : v ≡ size c = omega (arith, t.within) in
-    (t.owned ∙ ap (count (is_numbered c) 0) q, t.done ∙ ap (λ (k : ℕ). written old 0 (map (label c) (range 0 k))) q)
+labelling-done c old labels own v n t e l = grind (arith, common_steps)
 
 -- what the functions that read the labels ask
 pub labelled : (c : Chart) (old labels : List ℕ) → size c ≤ length old → labels ≡ written old 0 (map (label c) (range 0 (size c)))
     → Labelled c labels
-labelled c old labels room e =
-    let xs : List ℕ = map (label c) (range 0 (size c)) in
-    let n : length (map (label c) (range 0 (size c))) ≡ size c = length-map-range (label c) 0 (size c) in
-    let q : labels ≡ over (map (label c) (range 0 (size c))) old = e ∙ written-front old (map (label c) (range 0 (size c))) in
-    record {
-      long = omega (
-        arith,
-        ap (λ (l : List ℕ). length l) q,
-        lib.ListN.length-append (map (label c) (range 0 (size c)))
-            (lib.ListN.drop (length (map (label c) (range 0 (size c)))) old),
-        lib.ListN.length-drop (length (map (label c) (range 0 (size c)))) old,
-      );
-      at = λ v l.
-          ap (λ (ls : List ℕ). get_or ls v 0) q
-          ∙ lib.ListN.get_or-append (map (label c) (range 0 (size c)))
-          (lib.ListN.drop (length (map (label c) (range 0 (size c)))) old) 0 v (omega arith)
-          ∙ get_or-map-range (label c) 0 0 (size c) v l ∙ ap (label c) (zero-add v);
-    }
+labelled c old labels room e = grind (arith, common_steps, zero-add, written-front, length-map-range, get_or-map-range)

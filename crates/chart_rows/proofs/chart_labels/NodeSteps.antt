@@ -1,14 +1,8 @@
 -- The steps of the functions on nodes, at plain values.
-use mathlib.Core.Path.{◌≡◌, refl, sym, ◌∙◌, ap}
-use mathlib.Core.List.{List}
-use mathlib.Core.Bool.{true, false, ◌&&◌}
-use Prim.Native.Nat.{ℕ, ◌*◌, ◌-◌, ◌+◌, ◌≤◌, ◌<◌}
-use native.Mathlib.Decide.{ℕ_discrete}
-use native.Mathlib.Omega.{arith}
-use lib.Dec.{eqb}
-use lib.ListN.{length, get_or, set, length-set}
-use lib.Seq.{get_or-set_same, get_or-set_other}
-use borrow.Author.Tests.{eq-eqb, ne_eqb}
+use Rattle.std.proofs.Common.{◌≡◌, sym, ◌∙◌, ap, List, true, false, ℕ, ◌*◌, ◌-◌, ◌+◌, ◌≤◌, ◌<◌, arith, eqb, length, get_or, set, length-set}
+use Rattle.std.proofs.Common.{get_or-set_same, get_or-set_other, eq-eqb, ne_eqb}
+use Rattle.std.proofs.Math.Decide.{ℕ_discrete}
+use Rattle.std.proofs.lemmas.Grind.{common_steps}
 use Rattle.words.specs.lists.Numbers.{lowest}
 use Rattle.words.proofs.lists.Searches.{lowest-here, lowest-on, lowest-over, lowest_start, Searching, searching-first}
 use Rattle.words.proofs.lists.Tests.{and-true, and_no, and_second, and_first}
@@ -32,12 +26,7 @@ pub record Noting (c : Chart) (begins : List ℕ) (n v : ℕ) : Type 0 where
   pub noted : (h : ℕ) → lowest (is_of c 0 h) v (n - v) < n → get_or begins h 0 ≡ lowest (is_of c 0 h) v (n - v)
 
 pub noting-start : (c : Chart) (begins : List ℕ) → length begins ≡ 17 → Noting c begins (size c) (size c)
-noting-start c begins l = record {
-  within = omega arith;
-  all = refl;
-  long = l;
-  noted = λ h b. absurd (omega (arith, lowest-over (is_of c 0 h) (size c) (size c) (omega arith)));
-}
+noting-start c begins l = grind (arith, common_steps, lowest-over)
 
 module _ (c : Chart) (begins : List ℕ) (n v : ℕ) (s : Noting c begins n v) (w : ℕ) (e : v ≡ w + 1) where
   -- node w is not the Begin of scheme h, and the search goes on behind it
@@ -45,15 +34,7 @@ module _ (c : Chart) (begins : List ℕ) (n v : ℕ) (s : Noting c begins n v) (
   skip h t = lowest-on (is_of c 0 h) n w (omega (arith, s.within)) t ∙ ap (λ (j : ℕ). lowest (is_of c 0 h) j (n - j)) (sym e)
 
   pub noting-other : (k : ℕ) → k ≡ kind c w → (k ≡ 0 → ⊥) → Noting c begins n w
-  noting-other k ek z = record {
-    within = omega (arith, s.within);
-    all = s.all;
-    long = s.long;
-    noted = λ h b.
-        let t : is_of c 0 h w ≡ false = ap (λ x. x && eqb (scheme c w) h) (ne_eqb (kind c w) 0 (λ q. z (ek ∙ q))) in
-        let m : lowest (is_of c 0 h) w (n - w) ≡ lowest (is_of c 0 h) v (n - v) = skip h t in
-        s.noted h (omega arith) ∙ sym m;
-  }
+  noting-other k ek z = grind (arith, common_steps, ne_eqb, skip)
 
   pub noting-begin : (k g : ℕ) → k ≡ kind c w → k ≡ 0 → g ≡ scheme c w → g < 17 → Noting c (set begins g w) n w
   noting-begin k g ek z eg l = record {
@@ -92,20 +73,14 @@ noting-done c ready begins n v s z = record {
 -- ---- stops
 pub begin-asks : (c : Chart) → Ready c → (v k : ℕ) → v < size c → k ≡ kind c v → k ≡ 0
     → (10 * v + 3 < length c) × (10 * next0 c v < length c)
-begin-asks c ready v k l e z =
-    let t = (ready-facts ready).arc0 v l (λ q. omega arith) in
-    (omega (arith, ready.whole), omega (arith, ready.whole, t.inside))
+begin-asks c ready v k l e z = grind (arith, common_steps, ready-facts)
 
 module _ (c : Chart) (v k s first : ℕ) (ek : k ≡ kind c v) (three : k ≡ 3) (es : s ≡ scheme c v) (f : first ≡ next0 c (begin c 1)) where
   pub condition-second : s ≡ 1 → eqb first v ≡ is_stop c v
-  condition-second o =
-      and_second (eqb (scheme c v) 1) (eqb (next0 c (begin c 1)) v) (eqb first v) (eq-eqb (scheme c v) 1 (sym es ∙ o))
-      (ap (λ (x : ℕ). eqb x v) f) ∙ sym (stops-condition c v (sym ek ∙ three))
+  condition-second o = grind (arith, common_steps, eq-eqb, and_second, stops-condition)
 
   pub condition-first : (s ≡ 1 → ⊥) → eqb s 1 ≡ is_stop c v
-  condition-first o =
-      and_first (eqb (scheme c v) 1) (eqb (next0 c (begin c 1)) v) (eqb s 1) (ne_eqb (scheme c v) 1 (λ q. o (es ∙ q)))
-      (ap (λ (x : ℕ). eqb x 1) es) ∙ sym (stops-condition c v (sym ek ∙ three))
+  condition-first o = grind (arith, common_steps, ne_eqb, stops-condition, and_first)
 
 pub first-asks : (c : Chart) → Ready c → (v : ℕ) → v ≡ begin c 1 → 10 * v + 3 < length c
 first-asks c ready v e = let F = ready-facts ready in omega (arith, ready.whole, (F.begins 1 (omega arith) F.first).0)

@@ -1,23 +1,15 @@
 -- How many paths go on from a node at most: each test of a new number takes one from the numbers that are untested, and at most doubles
 -- the paths.
-use Rattle.std.proofs.Common.{if◌then◌else◌}
-use mathlib.Core.Path.{◌≡◌, refl, sym, ◌∙◌, ap, subst}
-use mathlib.Core.Logic.{◌⊎◌, inl, inr, ⊎_elim}
-use mathlib.Core.Bool.{Bool, true, false, ◌&&◌}
-use mathlib.Core.List.{List, ◌++◌}
-use Prim.Native.Nat.{ℕ, zero, suc, ◌+◌, ◌-◌, ◌*◌, ◌/◌, ◌%◌, ◌^◌, ◌≤◌, ◌<◌, max}
-use native.Mathlib.Nat.{pow-suc, div-one}
-use native.Mathlib.Decide.{ℕ_discrete}
-use native.Mathlib.Numerals.{add-one}
-use native.Mathlib.Omega.{arith}
-use lib.Arith.{lt-one}
-use lib.Bits.{bit_or}
+use Rattle.std.proofs.Common.{if◌then◌else◌, ◌≡◌, refl, sym, ◌∙◌, ap, subst, ◌⊎◌, inl, inr, ⊎_elim, Bool, true, false, ◌&&◌, List, ◌++◌, ℕ}
+use Rattle.std.proofs.Common.{zero, suc, ◌+◌, ◌-◌, ◌*◌, ◌/◌, ◌%◌, ◌^◌, ◌≤◌, ◌<◌, max, pow-suc, div-one, add-one, arith, bit_or, eqb, length}
+use Rattle.std.proofs.Common.{get_or, set, replicate, length-append, length-set, pow_pos, pow_mono, shr-shr, shr_lt, shl_exact}
+use Rattle.std.proofs.Common.{get_or-set_same, get_or-set_other, eqb-true, eq-eqb, ne_eqb}
+use Rattle.std.proofs.Math.Decide.{ℕ_discrete}
+use Rattle.std.proofs.Math.Arith.{lt-one}
 use lib.Count.{ones, ones_step, ones-le}
-use lib.Dec.{eqb}
-use lib.ListN.{length, get_or, set, replicate, length-append, length-set, length-replicate, get_or-replicate}
-use lib.Pow.{pow_pos, pow_mono, shr-shr, shr_lt, shl_exact, high, ones_lt, ones_split}
-use lib.Seq.{get_or-set_same, get_or-set_other}
-use borrow.Author.Tests.{eqb-true, eq-eqb, ne_eqb}
+use Rattle.std.proofs.Math.ListN.{length-replicate, get_or-replicate}
+use Rattle.std.proofs.Math.Pow.{high, ones_lt, ones_split}
+use Rattle.std.proofs.lemmas.Grind.{common_steps}
 use Rattle.words.specs.lists.Numbers.{count}
 use Rattle.words.proofs.lists.Counts.{count-suc, count-within, count_less}
 use Rattle.words.proofs.lists.Tests.{and_l, and_r, and-true, and_no, if-true, if-false}
@@ -46,10 +38,7 @@ free mask care i = eqb (bit mask i) 1 && eqb (bit care i) 0
 
 module _ (m n : ℕ) (w : MaskWithin m n) where
   pub untested-more : (care : ℕ) → untested_count m care ≤ untested_count n care
-  untested-more care = count-within (free m care) (free n care) 0 16 (λ k a b e.
-      and-true (eqb (bit n k) 1) (eqb (bit care k) 0)
-      (eq-eqb (bit n k) 1 (w.each k (eqb-true (bit m k) 1 (and_l (eqb (bit m k) 1) (eqb (bit care k) 0) e))))
-      (and_r (eqb (bit m k) 1) (eqb (bit care k) 0) e))
+  untested-more care = grind (arith, common_steps, and_r, eq-eqb, count-within, eqb-true, and-true, and_l)
 
   pub untested-less : (care i : ℕ) → i < 16 → bit n i ≡ 1 → bit care i ≡ 0 → untested_count m (care + 2 ^ i) < untested_count n care
   untested-less care i l one z =
@@ -95,12 +84,7 @@ untested-ones m care h =
 
 -- one value for no bit, and two for each bit
 pub no-values : (m : ℕ) → m ≡ 0 → ((care : ℕ) → 2 ^ untested_count m care ≤ 1) × (1 ≤ 65536)
-no-values m e = (
-  λ care.
-      let none : untested_count m care ≤ 0 = omega (arith, untested-ones m care (omega arith), ones-le 0 m (omega arith)) in
-      omega (arith, pow_mono {i = untested_count m care} {j = 0} none),
-  omega arith,
-)
+no-values m e = grind (arith, common_steps, ones-le, pow_mono, untested-ones)
 
 pub count-values : (m : ℕ) → m < 65536
     → ((care : ℕ) → 2 ^ untested_count m care ≤ 1 * 2 ^ ones m % 18446744073709551616) × (1 * 2 ^ ones m % 18446744073709551616 ≤ 65536)
@@ -212,13 +196,7 @@ module _ (c : Chart) (ready : Ready c) where
 
 pub masked-set : (c : Chart) (masks : List ℕ) (v x : ℕ) → Masked c masks → v < size c
     → (Entered c v → FewPaths c v x) → Masked c (set masks v x)
-masked-set c masks v x k l f = record { long = omega (arith, k.long, length-set masks v x); few = λ u t. go u t (ℕ_discrete v u) }
-  where
-    go : (u : ℕ) → Entered c u → Dec (v ≡ u) → FewPaths c u (get_or (set masks v x) u 0)
-    go u t (yes q) =
-        subst (λ (w : ℕ). FewPaths c w (get_or (set masks v x) w 0)) q
-        (subst (FewPaths c v) (sym (get_or-set_same masks v x 0 (omega (arith, k.long)))) (f (subst (Entered c) (sym q) t)))
-    go u t (no q) = subst (FewPaths c u) (sym (get_or-set_other masks v u x 0 (λ e. q (sym e)))) (k.few u t)
+masked-set c masks v x k l f = grind (arith, common_steps, get_or-set_other, get_or-set_same, length-set)
 
 -- loops over the nodes write them
 pub record Masking (c : Chart) (old masks : List ℕ) (v : ℕ) : Type 0 where
@@ -229,11 +207,7 @@ pub record Masking (c : Chart) (old masks : List ℕ) (v : ℕ) : Type 0 where
 -- the mask of node w, and on to node u
 pub masking-set : (c : Chart) (old masks : List ℕ) (v w u : ℕ) → Masking c old masks v → w < size c → u ≤ size c
     → (x : ℕ) → (Entered c w → FewPaths c w x) → Masking c old (set masks w x) u
-masking-set c old masks v w u t l m x f = record {
-  within = m;
-  size = length-set masks w x ∙ t.size;
-  masked = masked-set c masks w x t.masked l f;
-}
+masking-set c old masks v w u t l m x f = grind (arith, common_steps, length-set, masked-set)
 
 -- ---- the mask of a node by those behind its arcs
 module _ (c : Chart) (notes masks : List ℕ) (v : ℕ) (node : NotedAt c notes v) (k : Masked c masks) where

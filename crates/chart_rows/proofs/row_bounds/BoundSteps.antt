@@ -1,10 +1,7 @@
 -- The steps of the functions that bound the rows of nodes, at plain values.
-use mathlib.Core.Path.{◌≡◌, sym, ◌∙◌, ap, subst}
-use mathlib.Core.List.{List}
-use Prim.Native.Nat.{ℕ, ◌+◌, ◌*◌, ◌^◌, ◌≤◌, ◌<◌}
-use native.Mathlib.Decide.{ℕ_discrete}
-use native.Mathlib.Omega.{arith}
-use lib.ListN.{length, get_or, length-append}
+use Rattle.std.proofs.Common.{◌≡◌, sym, ◌∙◌, ap, subst, List, ℕ, ◌+◌, ◌*◌, ◌^◌, ◌≤◌, ◌<◌, arith, length, get_or, length-append}
+use Rattle.std.proofs.Math.Decide.{ℕ_discrete}
+use Rattle.std.proofs.lemmas.Grind.{common_steps}
 use Rattle.words.specs.lists.Sequences.{concat_map}
 use Rattle.text.specs.frames.Frame.{size}
 use Rattle.charts.specs.Chart.{Chart, kind, argument, next0, next1}
@@ -29,13 +26,7 @@ pub record Side (masks : List ℕ) (w low : ℕ) : Type 0 where
 module _ (c : Chart) (notes masks : List ℕ) (v : ℕ) (node : NotedAt c notes v) (m : Masked c masks) (own : 2 ≤ get_or notes v 0) where
   side-paths : (w u low l f care values : ℕ) → w ≡ u → Entered c w → Side masks w low
       → length (paths_from (size c) c l f care values u) ≤ low
-  side-paths w u low l f care values e t s =
-      omega (
-        arith,
-        ap (λ (x : ℕ). length (paths_from (size c) c l f care values x)) e,
-        (m.few w t).most l f care values,
-        s.most.0 care,
-      )
+  side-paths w u low l f care values e t s = grind (arith, common_steps)
 
   module _ (w0 low : ℕ) (e0 : w0 ≡ next0 c v) where
     pub bound-inside0 : w0 < length masks
@@ -108,5 +99,4 @@ bounding-on c total v more t l e = record {
 }
 
 pub bounding-done : (c : Chart) (total v n : ℕ) → Bounding c total v → n ≡ size c → n ≤ v → length (rows c) ≤ total
-bounding-done c total v n t e h =
-    omega (arith, t.bounded, ap (λ (rs : List Row). length rs) (below_all c v (omega (arith, t.within))))
+bounding-done c total v n t e h = grind (arith, common_steps, below_all)

@@ -1,6 +1,5 @@
 -- What C is told about a code, by the case of its meaning.
-use Prim.Native.Nat.{ℕ}
-use mathlib.Core.Path.{◌≡◌, sym, ◌∙◌, ap}
+use Rattle.std.proofs.Common.{ℕ, ◌≡◌, sym, ◌∙◌, ap}
 use Rattle.ticks.specs.declared.codes.Meaning.{Meaning}
 use Rattle.ticks.specs.codes.Codes.{meaning_of, tick_kind_of, called_of}
 use Rattle.fairleadow.specs.causes_for_c.Meant.{Meant}

@@ -1,6 +1,5 @@
 -- What a priced run hands back to C, put together from what the function that is called ensures.
-use Prim.Native.Nat.{ℕ}
-use mathlib.Core.List.{List}
+use Rattle.std.proofs.Common.{ℕ, List}
 use Rattle.text.specs.frames.Answer.{reply}
 use Rattle.prices.specs.declared.priced_runs.PricedReport.{PricedReport}
 use Rattle.prices.specs.priced_runs.PricedRun.{PricedOutcome}

@@ -1,6 +1,5 @@
 -- What a run and a tick hand back to C, put together from what the functions that are called ensure.
-use Prim.Native.Nat.{ℕ}
-use mathlib.Core.List.{List}
+use Rattle.std.proofs.Common.{ℕ, List}
 use Rattle.text.specs.frames.Answer.{Answer, reply}
 use Rattle.runs.specs.Run.{RunOutcome}
 use Rattle.runs.specs.TickOutcome.{TickOutcome, TickAnswer}

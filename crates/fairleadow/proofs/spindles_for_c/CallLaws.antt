@@ -1,7 +1,5 @@
 -- What a call on four spindles hands back to C, put together from what the function that is called ensures.
-use Prim.Native.Nat.{ℕ}
-use mathlib.Core.Path.{◌≡◌}
-use mathlib.Core.List.{List}
+use Rattle.std.proofs.Common.{ℕ, ◌≡◌, List}
 use Rattle.runs.specs.TickOutcome.{tick_reply}
 use Rattle.spindles.specs.declared.SpinReport.{SpinReport}
 use Rattle.spindles.specs.Spindles.{SpinOutcome}

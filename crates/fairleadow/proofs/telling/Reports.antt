@@ -1,9 +1,5 @@
 -- What is told of a refused tick and of a finished one, and of an answer that gives an outcome.
-use Rattle.std.proofs.Common.{if◌then◌else◌}
-use Prim.Native.Nat.{ℕ}
-use mathlib.Core.Bool.{Bool}
-use mathlib.Core.Path.{◌≡◌, ◌∙◌, ap, subst}
-use lib.Dec.{eqb}
+use Rattle.std.proofs.Common.{if◌then◌else◌, ℕ, Bool, ◌≡◌, ◌∙◌, ap, subst, eqb}
 use Rattle.text.specs.frames.Answer.{Reply, reply_number}
 use Rattle.runs.specs.TickOutcome.{TickAnswer, tick_reply, answered_mask, answered_code}
 use Rattle.fairleadow.specs.telling.AnswersForC.{GivesReplyC, GivesTickAnswerC}

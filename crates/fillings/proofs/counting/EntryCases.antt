@@ -1,16 +1,11 @@
 -- The answers of the entry point to the counts, by what its parts give.
-use Prim.Native.Nat.{ℕ, ◌*◌, ◌≤◌}
-use mathlib.Core.Bool.{Bool, true, false, ◌||◌}
-use mathlib.Core.Path.{◌≡◌, refl, ◌∙◌, ap, ap₂}
-use mathlib.Core.List.{List}
-use native.Mathlib.Omega.{arith}
-use lib.Dec.{ltb, eqb}
-use borrow.Author.Tests.{ltb-false, eqb-false}
+use Rattle.std.proofs.Common.{ℕ, ◌*◌, ◌≤◌, Bool, true, false, ◌||◌, ◌≡◌, refl, ◌∙◌, ap, ap₂, List, arith, ltb, ltb-false, Ok, Err}
+use borrow.Author.Tests.{eqb-false}
+use Rattle.std.proofs.lemmas.Grind.{common_steps}
 use Rattle.words.proofs.lists.Tests.{or_l}
 use Rattle.text.specs.frames.Frame.{contents}
 use Rattle.text.specs.frames.Verdict.{Verdict, fine, refused, next, when}
-use Rattle.text.specs.frames.Answer.{Answer, success, refusal, reply, verdict_reply}
-use Rattle.std.proofs.Common.{Ok, Err, cond}
+use Rattle.text.specs.frames.Answer.{Answer, refusal, reply, verdict_reply}
 use Rattle.text.specs.declared.frames.refusals.Refusal.{Refusal}
 use Rattle.text.specs.declared.frames.refusals.Refusal.TheVariants.{BadSize, ManyLists}
 use Rattle.text.specs.frames.Refusal.{number_of, index_of, ticks_of}
@@ -21,7 +16,7 @@ use Rattle.image.specs.Check.{image_verdict}
 use Rattle.tables.specs.Table.{table_image}
 use Rattle.tables.specs.inner.Asked.{Whole}
 use Rattle.state.specs.declared.State.{State}
-use Rattle.state.specs.State.{fresh, no_state, is_bad_size, StateOutcome, fresh_state}
+use Rattle.state.specs.State.{fresh, is_bad_size, fresh_state}
 use Rattle.state.specs.Bytes.{state_of, bytes_of}
 use Rattle.state.proofs.Sizes.{size-most}
 use Rattle.state.proofs.ResultBytes.{state-back, fresh-sized}
@@ -40,16 +35,10 @@ many-not n k e = ltb-false 16 (n * k) (or_l (ltb 16 (n * k)) (ltb 16 k) (or_l (l
 pub fresh-made : (size : ℕ) → is_bad_size size ≡ false → (s : State) (bytes : List ℕ) → s ≡ (fresh_state size).state → bytes ≡ bytes_of s
     → state_of bytes ≡ fresh size
 unfolding fresh_state
-fresh-made size e s bytes q h =
-    let is : s ≡ fresh size = q ∙ ap (λ (t : Bool). (cond {A = StateOutcome} t (record { reply = refusal 14 0 0; state = no_state })
-    (record { reply = success 0; state = fresh size })).state) e in
-    ap state_of (h ∙ ap bytes_of is) ∙ state-back (fresh size) (fresh-sized size) refl
+fresh-made size e s bytes q h = grind (arith, common_steps, fresh-sized, state-back)
 
 pub fresh-stands : (b : List ℕ) (size : ℕ) (s : State) → Whole b → is_bad_size size ≡ false → s ≡ fresh size → TickAsked b s
-fresh-stands b size s whole e q =
-    let z : size ≡ 0 → ⊥ = eqb-false size 0 (or_l (eqb size 0) (ltb 32 size) e) in
-    rw q
-    (record { whole = whole; depth = deep-fine (fresh size) (record { some = omega arith; most = omega arith; small = size-most size e }) })
+fresh-stands b size s whole e q = grind (arith, common_steps, deep-fine, size-most, eqb-false, or_l)
 
 -- ---- the answers
 module _ (t : List ℕ) (size n k : ℕ) where
@@ -68,9 +57,7 @@ module _ (t : List ℕ) (size n k : ℕ) where
   pub image-tells : (a : Answer) → reply a ≡ verdict_reply (image_verdict t) 0 → (r : Refusal) → a ≡ Err r
       → GivesFillings (count_fillings t size n k) (Err r)
   unfolding count_verdict
-  image-tells a gives r e =
-      let p = err-refused a (image_verdict t) 0 gives r e in
-      refused-tells r (next-refused (image_verdict t) (λ _. sizes) (number_of r) (index_of r) p.0) p.1
+  image-tells a gives r e = grind (arith, common_steps, next-refused, err-refused, refused-tells)
 
   module _ (ok : image_verdict t ≡ fine) where
     verdict-on : count_verdict t size n k ≡ sizes

@@ -1,13 +1,8 @@
 -- The lists of one word more, by their first word: where its tick leads, and the lists of the words after it.
-use Rattle.std.proofs.Common.{if◌then◌else◌, cond}
-use Prim.Native.Nat.{ℕ, zero, suc, ◌+◌, ◌*◌, ◌^◌, ◌<◌}
-use mathlib.Core.Bool.{Bool, true, false}
-use mathlib.Core.Path.{◌≡◌, refl, sym, ◌∙◌, ap, ap₂}
-use mathlib.Core.List.{List, ◌∷◌}
-use native.Mathlib.Nat.{zero-add, add-zero, add-suc, suc-mul, zero-mul}
-use native.Mathlib.Omega.{arith}
-use lib.Dec.{eqb}
-use lib.Pow.{pow-add, high, low}
+use Rattle.std.proofs.Common.{if◌then◌else◌, cond, ℕ, zero, suc, ◌+◌, ◌*◌, ◌^◌, ◌<◌, Bool, true, false, ◌≡◌, refl, ◌∙◌, ap, ap₂, List, ◌∷◌}
+use Rattle.std.proofs.Common.{zero-add, add-zero, add-suc, suc-mul, zero-mul, arith, eqb, pow-add}
+use Rattle.std.proofs.Math.Pow.{high, low}
+use Rattle.std.proofs.lemmas.Grind.{common_steps}
 use Rattle.words.specs.lists.Numbers.{count, sum}
 use Rattle.words.proofs.lists.Counts.{count-snoc, count-all, count_none, count-alike}
 use Rattle.words.proofs.lists.Sums.{sum-add, sum-zero, sum_same}
@@ -31,20 +26,8 @@ count-block p m (suc n) =
     omega (arith, e, x, count-snoc p 0 (m + n), count-snoc (λ w. p (m + w)) 0 n, count-block p m n)
 
 by-rest : (p : ℕ → Bool) (b a : ℕ) → count p 0 (a * b) ≡ sum (λ w. count (λ q. p (q * b + w)) 0 a) 0 b
-by-rest p b zero =
-    ap (count p 0) (zero-mul b) ∙ count_none p 0 0 (λ k l h. absurd (omega arith))
-    ∙ sym (sum-zero (λ w. count (λ q. p (q * b + w)) 0 0) 0 b
-    (λ w l h. count_none (λ q. p (q * b + w)) 0 0 (λ k a c. absurd (omega arith))))
-by-rest p b (suc a) =
-    let e : count p 0 (suc a * b) ≡ count p 0 (a * b + b) = ap (count p 0) (suc-mul a b) in
-    let more : (w : ℕ) → count (λ q. p (q * b + w)) 0 (suc a) ≡ (if p (a * b + w) then 1 else 0) + count (λ q. p (q * b + w)) 0 a =
-    λ w. let x : cond {A = ℕ} (p ((0 + a) * b + w)) 1 0 ≡ (if p (a * b + w) then 1 else 0) =
-    ap (λ (k : ℕ). cond {A = ℕ} (p (k * b + w)) 1 0) (zero-add a) in
-    omega (arith, x, count-snoc (λ q. p (q * b + w)) 0 a) in
-    let s : sum (λ w. count (λ q. p (q * b + w)) 0 (suc a)) 0 b
-    ≡ count (λ w. p (a * b + w)) 0 b + sum (λ w. count (λ q. p (q * b + w)) 0 a) 0 b =
-    sum-add (λ w. p (a * b + w)) (λ w. count (λ q. p (q * b + w)) 0 (suc a)) (λ w. count (λ q. p (q * b + w)) 0 a) more 0 b in
-    omega (arith, e, s, count-block p (a * b) b, by-rest p b a)
+by-rest p b zero = grind (arith, common_steps, sum-zero, count_none, zero-mul)
+by-rest p b (suc a) = grind (arith, common_steps, by-rest p b a, sum-add, count-snoc, suc-mul, zero-add, count-block)
 
 -- ---- how many of the lists that begin alike meet a number
 abbrev pub share : Image → ℕ → ℕ → ℕ → MachineTick → ℕ

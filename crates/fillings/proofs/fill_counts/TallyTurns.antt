@@ -1,10 +1,7 @@
 -- The loops that tally, turn by turn.
-use Prim.Native.Nat.{ℕ, suc, ◌+◌, ◌*◌, ◌-◌, ◌^◌, ◌≤◌, ◌<◌}
-use mathlib.Core.Path.{◌≡◌, refl, sym, ◌∙◌, ap, subst}
-use mathlib.Core.List.{List}
-use native.Mathlib.Nat.{add-zero, mul-zero, suc-mul, pow-le-pow_right}
-use native.Mathlib.Omega.{arith}
-use lib.Dec.{eqb}
+use Rattle.std.proofs.Common.{ℕ, suc, ◌+◌, ◌*◌, ◌-◌, ◌^◌, ◌≤◌, ◌<◌, ◌≡◌, sym, ◌∙◌, ap, subst, List, add-zero, mul-zero, suc-mul, arith, eqb}
+use Rattle.std.proofs.Math.Nat.{pow-le-pow_right}
+use Rattle.std.proofs.lemmas.Grind.{common_steps}
 use Rattle.words.specs.lists.Numbers.{sum}
 use Rattle.words.proofs.lists.Counts.{count-le}
 use Rattle.words.proofs.lists.Searches.{sum-turn}
@@ -46,9 +43,7 @@ module _ (b before : List ℕ) (w : ℕ) (r : TickEnd) (bytes : List ℕ) (q : G
 
 -- ---- words that all are 0
 one_word : (i : Image) (s : State) (n number : ℕ) → count_meeting i s (suc n) 0 number ≡ share i n 0 number (tick i s 0)
-one_word i s n number =
-    let f : ℕ → ℕ = λ w. share i n 0 number (tick i s w) in
-    meeting-more i s n 0 number ∙ sum-suc f 0 0 ∙ ap (λ (m : ℕ). f 0 + m) (sum-none f 1) ∙ add-zero (f 0)
+one_word i s n number = grind (arith, common_steps, sum-none, sum-suc, meeting-more, add-zero, share)
 
 one-share : (i : Image) (s : State) (n : ℕ) → tally_of i s (suc n) 0 ≡ share_of i n 0 (tick i s 0)
 one-share i s n = same-tally (one_word i s n 0) (one_word i s n 17) (one_word i s n 18)
@@ -81,8 +76,7 @@ module _ {b bytes₀ : List ℕ} {n : ℕ} {bytes : List ℕ} {left : ℕ} (y : 
     }
 
     pub one_stood : (r.number ≡ 0 → ⊥) → (t : Tally) → t ≡ all_meet r.number 1 → t ≡ all
-    one_stood z t e =
-        e ∙ ap (all_meet r.number) (sym (one_list (left - 1))) ∙ stood-share b bytes 0 r next q (left - 1) 0 z ∙ by-share l
+    one_stood z t e = grind (arith, common_steps, stood-share, one_list, by-share)
 
   pub one-over : left ≤ 0 → (t : Tally) → t ≡ all_meet 0 1 → t ≡ all
   one-over l t e =
@@ -101,10 +95,7 @@ partly i s n k w = record {
 }
 
 partly_more : (i : Image) (s : State) (n k w : ℕ) → tally_sum (partly i s n k w) (share_of i n k (tick i s w)) ≡ partly i s n k (w + 1)
-partly_more i s n k w = same-tally
-    (sum-turn (sharing i s n k 0) _ w _ refl refl)
-    (sum-turn (sharing i s n k 17) _ w _ refl refl)
-    (sum-turn (sharing i s n k 18) _ w _ refl refl)
+partly_more i s n k w = grind (arith, common_steps, sum-turn, same-tally)
 
 partly-all : (i : Image) (s : State) (n k : ℕ) → partly i s n k (2 ^ k) ≡ tally_of i s (suc n) k
 partly-all i s n k = sym (same-tally (meeting-more i s n k 0) (meeting-more i s n k 17) (meeting-more i s n k 18))
@@ -122,9 +113,7 @@ partly-few i s n k number w l h =
     omega (arith, e, m, sum-split f 0 w (2 ^ k - w), meeting-more i s n k number, lists-few (suc n) k l)
 
 pub left-few : (n k left : ℕ) → n ≡ suc left → n * k ≤ 16 → (left * k ≤ 16) × (k ≤ 16)
-left-few n k left e l =
-    let m : n * k ≡ left * k + k = ap (λ (a : ℕ). a * k) e ∙ suc-mul left k in
-    (omega arith, omega arith)
+left-few n k left e l = grind (arith, common_steps, suc-mul)
 
 pub record Part (b bytes : List ℕ) (n k left listed words : ℕ) (tally : Tally) (word : ℕ) : Type 0 where
   pub stands : TickAsked b (state_of bytes)
@@ -138,19 +127,7 @@ pub record Part (b bytes : List ℕ) (n k left listed words : ℕ) (tally : Tall
 pub part-first : (b bytes : List ℕ) (n k left listed words : ℕ) (tally : Tally) → TickAsked b (state_of bytes)
     → n ≡ suc left → n * k ≤ 16 → listed ≡ lists left k → words ≡ 2 ^ k → tally ≡ all_meet 0 0
     → Part b bytes n k left listed words tally 0
-part-first b bytes n k left listed words tally y e l u v t =
-    let i : Image = table_image b in
-    let s : State = state_of bytes in
-    record {
-      stands = y;
-      whole = e;
-      few = l;
-      all_lists = u;
-      all_words = v;
-      low = omega arith;
-      part = t ∙ sym (same-tally (sum-none (sharing i s left k 0) 0)
-          (sum-none (sharing i s left k 17) 0) (sum-none (sharing i s left k 18) 0));
-    }
+part-first b bytes n k left listed words tally y e l u v t = grind (arith, common_steps, sum-none, same-tally)
 
 module _ {b bytes : List ℕ} {n k left listed words : ℕ} {tally : Tally} {word : ℕ}
     (y : Part b bytes n k left listed words tally word) where
@@ -166,22 +143,13 @@ module _ {b bytes : List ℕ} {n k left listed words : ℕ} {tally : Tally} {wor
     sums = ap (λ (a : Tally). tally_sum a t) y.part ∙ ap (tally_sum (partly image s left k word)) e ∙ partly_more image s left k word
 
     few-here : (number : ℕ) → sum (sharing image s left k number) 0 (word + 1) ≤ 65536
-    few-here number = partly-few image s left k number (word + 1)
-        (subst (λ (m : ℕ). m * k ≤ 16) y.whole y.few) (omega (arith, y.all_words))
+    few-here number = grind (arith, common_steps, partly-few)
 
     pub part-few : FewLists (tally_sum tally t)
     part-few = subst FewLists (sym sums) (record { ended = few-here 0; full = few-here 17; unmatched = few-here 18 })
 
     pub part-on : (t' : Tally) → t' ≡ tally_sum tally t → Part b bytes n k left listed words t' (word + 1)
-    part-on t' q = record {
-      stands = y.stands;
-      whole = y.whole;
-      few = y.few;
-      all_lists = y.all_lists;
-      all_words = y.all_words;
-      low = omega arith;
-      part = q ∙ sums;
-    }
+    part-on t' q = grind (arith, common_steps, sums)
 
   pub part-over : words ≤ word → tally ≡ tally_of image s n k
   part-over l =

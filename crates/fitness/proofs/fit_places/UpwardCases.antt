@@ -1,13 +1,8 @@
 -- The places up to the depth, looked at from the bottom up with the number that the label below calls.
-use Prim.Native.Nat.{ℕ, ◌+◌, ◌-◌, ◌≤◌, ◌<◌}
-use mathlib.Core.Bool.{Bool, true, false, ◌&&◌, ◌||◌, not}
-use mathlib.Core.Path.{◌≡◌, sym, ◌∙◌, ap, ap₂, subst}
-use mathlib.Core.Logic.{◌⊎◌, inl, inr}
-use mathlib.Core.List.{List}
-use native.Mathlib.Omega.{arith}
-use lib.Dec.{leb, ltb, eqb}
-use lib.ListN.{length}
-use borrow.Author.Tests.{lt-ltb, le-ltb, le-leb, lt-leb}
+use Rattle.std.proofs.Common.{ℕ, ◌+◌, ◌-◌, ◌≤◌, ◌<◌, Bool, true, false, ◌&&◌, ◌||◌, not, ◌≡◌, sym, ◌∙◌, ap, ap₂, subst, ◌⊎◌, inl, inr, List}
+use Rattle.std.proofs.Common.{arith, leb, ltb, eqb, length, lt-ltb, le-ltb, le-leb}
+use borrow.Author.Tests.{lt-leb}
+use Rattle.std.proofs.lemmas.Grind.{common_steps}
 use Rattle.words.specs.lists.Numbers.{any}
 use Rattle.words.proofs.lists.Tests.{or-none, or-true-l, or_true_r, and-true, and_no, split}
 use Rattle.words.proofs.lists.Searches.{any-true, any_none}
@@ -15,13 +10,13 @@ use Rattle.image.specs.Image.{Image, Label}
 use Rattle.image.specs.Decode.{scheme_count, last_label, handler_in}
 use Rattle.tables.specs.Table.{table_image, table_label}
 use Rattle.tables.specs.inner.Labels.{as_label}
-use Rattle.tables.specs.declared.Label as declared
 use Rattle.tables.proofs.TableReads.{labels-count, entries-count, label-at}
 use Rattle.state.specs.declared.State.{State}
 use Rattle.state.specs.State.{label_at, place_at, number_at, server_at}
 use Rattle.fitness.specs.Fitness.{is_call, is_callable, is_unfit_place, has_bad_bottom}
 use Rattle.fitness.specs.inner.FitnessContracts.{is_astray, is_miscalled, is_astray_at_bottom}
 use Rattle.fitness.proofs.Fitness.{is_carried}
+use Rattle.tables.specs.declared.Label as declared
 
 module _ (i : Image) (s : State) where
   -- the label at place k
@@ -61,9 +56,7 @@ module _ (i : Image) (s : State) where
   place_kept k h g e = or-none _ _ (lt-leb (length i.labels) (place_at s k) g) (carries k h true e)
 
   place-top : (k : ℕ) → s.depth ≤ k + 1 → Inside k → is_unfit_place i s k ≡ false
-  place-top k h g =
-      or-none _ _ (lt-leb (length i.labels) (place_at s k) g)
-      (ap (λ (t : Bool). t && not (is_carried i s k)) (le-ltb (k + 1) s.depth h))
+  place-top k h g = grind (arith, common_steps)
 
   -- a label that is no call is kept under none
   pub place-idle : (k : ℕ) → k + 1 < s.depth → is_call (at_place k) ≡ false → is_whole_unfit ≡ true
@@ -95,10 +88,7 @@ module _ (i : Image) (s : State) where
 
     -- whether the place below carries this one
     carried : is_carried i s (k - 1) ≡ (right number k && over k)
-    carried =
-        ap₂ (λ (t : Bool) (h : ℕ). t && eqb (number_at s (k - 1 + 1)) h && is_callable i (server_at s (k - 1 + 1)) && over (k - 1 + 1))
-        c.call c.called
-        ∙ ap (λ (j : ℕ). right number j && over j) above
+    carried = grind (arith, common_steps)
 
     pub stray : (right number k && over k) ≡ false → is_whole_unfit ≡ true
     stray e = place-loose (k - 1) (omega (arith, c.some)) (carried ∙ e)
@@ -163,19 +153,13 @@ module _ (b : List ℕ) (s : State) (k l last : ℕ) (place : l ≡ place_at s k
     module _ (first : k ≡ 0) (t : Bool) (e : t ≡ is_astray_at_bottom (handler_in b) z.owner l (number_at s 0) (server_at s 0)) where
       bottom-is : has_bad_bottom image s ≡ t
       unfolding table_image
-      bottom-is =
-          ap (λ (j : ℕ). is_astray_at_bottom (handler_in b) (label_at image (place_at s j)).owner (place_at s j) (number_at s 0)
-          (server_at s 0))
-          (sym first)
-          ∙ ap₂ (λ (o j : ℕ). is_astray_at_bottom (handler_in b) o j (number_at s 0) (server_at s 0)) owner-is (sym place) ∙ sym e
+      bottom-is = grind (arith, common_steps, owner-is)
 
       pub bottom-stray : t ≡ true → true ≡ is_whole_unfit image s
       bottom-stray q = sym (bottom-bad image s (bottom-is ∙ q))
 
       pub bottom-belongs : t ≡ false → Belongs image s k
-      bottom-belongs q =
-          subst (λ (j : ℕ). Belongs image s j) (sym first)
-          (belongs-first image s (subst (λ (j : ℕ). place_at s j < length image.labels) first held) (bottom-is ∙ q))
+      bottom-belongs q = grind (arith, common_steps, belongs-first, held, bottom-is)
 
     -- whether it is a call
     module _ (y : Belongs image s k) (u : Bool) (f : u ≡ not (eqb z.kind 1 || eqb z.kind 2)) where
@@ -199,10 +183,7 @@ module _ (b : List ℕ) (s : State) (k l last : ℕ) (place : l ≡ place_at s k
       (schemes : H ≡ scheme_count b) (number : n ≡ number_at s k)
       (server : m ≡ server_at s k) (t : Bool) (e : t ≡ is_miscalled H n called m) where
     right_is : right image s called k ≡ not t
-    right_is =
-        ap₂ (λ (h j : ℕ). eqb h called && (leb 2 j && leb j (length image.entries))) (sym number) (sym server)
-        ∙ ap (λ (h : ℕ). eqb n called && (leb 2 m && leb m h)) (entries-count b ∙ sym schemes)
-        ∙ flip (eqb n called && (leb 2 m && leb m H)) t e
+    right_is = grind (arith, common_steps, entries-count, flip)
 
     pub pass-miscalled : t ≡ true → true ≡ is_whole_unfit image s
     pass-miscalled q = sym (stray image s called k c here (ap (λ (x : Bool). x && over image s k) (right_is ∙ ap not q)))

@@ -1,14 +1,10 @@
 -- The places above the depth, looked at one after the other: their bits are gathered, and none is set where every place is 0.
-use Rattle.std.proofs.Common.{if◌then◌else◌}
-use Prim.Native.Nat.{ℕ, ◌+◌, ◌-◌, ◌≤◌, ◌<◌}
-use mathlib.Core.Bool.{true, false, ◌&&◌, not}
-use mathlib.Core.Path.{◌≡◌, refl, sym, ◌∙◌, ap}
-use mathlib.Core.Logic.{◌⊎◌, inl, inr}
-use native.Mathlib.Decide.{ℕ_discrete}
-use native.Mathlib.Omega.{arith}
-use lib.Bits.{bit_or, or_add_and, and_le_l, and_le_r}
-use lib.Dec.{leb, eqb}
-use borrow.Author.Tests.{eq-eqb, ne_eqb, le-leb, lt-leb}
+use Rattle.std.proofs.Common.{if◌then◌else◌, ℕ, ◌+◌, ◌-◌, ◌≤◌, ◌<◌, true, false, ◌&&◌, not, ◌≡◌, refl, sym, ◌∙◌, ap, ◌⊎◌, inl, inr, arith}
+use Rattle.std.proofs.Common.{bit_or, leb, eqb, eq-eqb, ne_eqb, le-leb}
+use Rattle.std.proofs.Math.Decide.{ℕ_discrete}
+use lib.Bits.{or_add_and, and_le_l, and_le_r}
+use borrow.Author.Tests.{lt-leb}
+use Rattle.std.proofs.lemmas.Grind.{common_steps}
 use Rattle.words.specs.lists.Numbers.{any}
 use Rattle.words.proofs.lists.Tests.{and-true, if-true, if-false, split}
 use Rattle.words.proofs.lists.Searches.{any_none, any-true}
@@ -82,30 +78,7 @@ module _ (s : State) where
             (filled_is k ∙ ap not (ne_eqb (place_joined s k) 0 (λ z. n (above-is d k x e q g ∙ z))))
 
     pub seen_next : Seen (bit_or bits x) (k + 1)
-    seen_next = record {
-      inside = omega arith;
-      none = λ z j a b. last z j a (split j k) b;
-      some = λ n. either n (ℕ_discrete bits 0) (ℕ_discrete x 0);
-    }
-      where
-        last : bit_or bits x ≡ 0 → (j : ℕ) → s.depth ≤ j → (j < k) ⊎ (k ≤ j) → j < k + 1 → place_joined s j ≡ 0
-        last z j a (inl g) b = t.none (none_left bits x z) j a g
-        last z j a (inr g) b =
-            let is : k ≡ j = omega arith in
-            ap (place_joined s) (sym is) ∙ here (none_right bits x z) (omega arith)
-
-        either : (bit_or bits x ≡ 0 → ⊥) → Dec (bits ≡ 0) → Dec (x ≡ 0) → found
-        either n (no a) b = t.some a
-        either n (yes a) (no b) = one b
-        either n (yes a) (yes b) = absurd (n (ap (λ (u : ℕ). bit_or u x) a ∙ ap (bit_or 0) b))
+    seen_next = grind (arith, common_steps, split, none_left, none_right, here, one)
 
   pub seen_all : (bits k : ℕ) → 32 ≤ k → Seen bits k → not (eqb bits 0) ≡ any (is_filled_place s) s.depth (32 - s.depth)
-  seen_all bits k h t = go (ℕ_discrete bits 0)
-    where
-      go : Dec (bits ≡ 0) → not (eqb bits 0) ≡ any (is_filled_place s) s.depth (32 - s.depth)
-      go (yes z) =
-          ap not (eq-eqb bits 0 z)
-          ∙ sym (any_none (is_filled_place s) s.depth (32 - s.depth)
-          (λ j g. filled_is (s.depth + j)
-          ∙ ap not (eq-eqb (place_joined s (s.depth + j)) 0 (t.none z (s.depth + j) (omega arith) (omega arith)))))
-      go (no n) = ap not (ne_eqb bits 0 n) ∙ sym (t.some n)
+  seen_all bits k h t = grind (arith, common_steps, eq-eqb, ne_eqb, any_none, filled_is)

@@ -1,9 +1,6 @@
 -- The numbers of 2 to 16, looked at one after the other with the scheme that serves each.
-use Prim.Native.Nat.{ℕ, ◌+◌, ◌-◌, ◌≤◌, ◌<◌}
-use mathlib.Core.Bool.{Bool, true, false}
-use mathlib.Core.Path.{◌≡◌, sym, ◌∙◌, ap, ap₂}
-use mathlib.Core.List.{List}
-use native.Mathlib.Omega.{arith}
+use Rattle.std.proofs.Common.{ℕ, ◌+◌, ◌-◌, ◌≤◌, ◌<◌, Bool, true, false, ◌≡◌, sym, ◌∙◌, List, arith}
+use Rattle.std.proofs.lemmas.Grind.{common_steps}
 use Rattle.words.specs.lists.Numbers.{any}
 use Rattle.words.proofs.lists.Searches.{any_here, any-on, any-over}
 use Rattle.bindings.specs.Binding.{server_of}
@@ -25,19 +22,14 @@ module _ (b : List ℕ) (s : State) (n g h k : ℕ) (schemes : n ≡ scheme_coun
     (handler : g ≡ handler_in b) (serves : k ≡ server_of s.serving h)
     (t : Bool) (tested : t ≡ is_misserved n g h k) where
   served-is : is_badly_served (table_image b) s h ≡ t
-  served-is =
-      ap₂ (λ (m f : ℕ). is_misserved m f h (server_of s.serving h)) (entries-count b ∙ sym schemes) (handler-at b ∙ sym handler)
-      ∙ ap (is_misserved n g h) (sym serves) ∙ sym tested
+  served-is = grind (arith, common_steps, entries-count, handler-at)
 
   module _ (most : h ≤ 16) (left : Left (table_image b) s h) where
     pub served-found : t ≡ true → true ≡ any (is_badly_served (table_image b) s) 2 15
     served-found e = sym (any_here (is_badly_served (table_image b) s) 17 h (omega arith) (served-is ∙ e)) ∙ left.same
 
     pub served-next : t ≡ false → Left (table_image b) s (h + 1)
-    served-next e = record {
-      low = omega (arith, left.low);
-      same = sym (any-on (is_badly_served (table_image b) s) 17 h (omega arith) (served-is ∙ e)) ∙ left.same;
-    }
+    served-next e = grind (arith, common_steps, any-on, served-is)
 
 pub served-all : (i : Image) (s : State) (h : ℕ) → 16 < h → Left i s h → false ≡ any (is_badly_served i s) 2 15
 served-all i s h l left = sym (any-over (is_badly_served i s) 17 h (omega arith)) ∙ left.same

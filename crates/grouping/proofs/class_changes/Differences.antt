@@ -1,10 +1,5 @@
 -- Two classes of a label: they differ, or not.
-use Prim.Native.Nat.{ℕ}
-use mathlib.Core.Bool.{true, false, not}
-use mathlib.Core.Path.{◌≡◌, ap}
-use mathlib.Core.List.{List}
-use lib.ListN.{get_or}
-use borrow.Author.Tests.{eq-eqb, ne_eqb}
+use Rattle.std.proofs.Common.{ℕ, true, false, not, ◌≡◌, ap, List, get_or, eq-eqb, ne_eqb}
 use Rattle.grouping.specs.inner.GroupingContracts.{has_other_class}
 
 module _ (c d : List ℕ) (l : ℕ) where

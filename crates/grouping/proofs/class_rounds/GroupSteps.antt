@@ -1,13 +1,7 @@
 -- Steps of all rounds over a table.
-use Prim.Native.Nat.{ℕ, zero, suc, ◌+◌, ◌-◌, ◌≤◌, ◌<◌}
-use mathlib.Core.Bool.{Bool, false}
-use mathlib.Core.Path.{◌≡◌, sym, ◌∙◌, ap, subst}
-use mathlib.Core.List.{List, ◌++◌, append-nil}
-use native.Mathlib.Omega.{arith}
-use lib.Dec.{eqb}
-use lib.ListN.{length, get_or, replicate, drop_of_length-le}
-use lib.Seq.{ext_get_or}
-use borrow.Author.Tests.{eqb-true}
+use Rattle.std.proofs.Common.{ℕ, zero, suc, ◌+◌, ◌-◌, ◌≤◌, ◌<◌, Bool, false, ◌≡◌, sym, ◌∙◌, ap, subst, List, ◌++◌, append-nil, arith, eqb}
+use Rattle.std.proofs.Common.{length, get_or, replicate, drop_of_length-le, ext_get_or, eqb-true}
+use Rattle.std.proofs.lemmas.Grind.{common_steps}
 use Rattle.words.specs.lists.Numbers.{any}
 use Rattle.words.specs.lists.Sequences.{written}
 use Rattle.words.proofs.lists.Tests.{not-false}
@@ -99,6 +93,4 @@ module _ (b : List ℕ) where
 
     pub rounding-all : m ≤ k → Classed b (grouping i) buffer
     unfolding grouping
-    rounding-all h =
-        let e : k ≡ n = omega (arith, t.done, t.count, labels-count b) in
-        subst (λ (j : ℕ). Classed b (classes i j) buffer) e t.now
+    rounding-all h = grind (arith, common_steps, labels-count)

@@ -1,8 +1,5 @@
 -- Cases of the comparison of two labels.
-use Prim.Native.Nat.{ℕ}
-use mathlib.Core.Bool.{Bool}
-use mathlib.Core.Path.{◌≡◌, ◌∙◌, ap₂}
-use mathlib.Core.List.{List}
+use Rattle.std.proofs.Common.{ℕ, Bool, ◌≡◌, ◌∙◌, ap₂, List}
 use Rattle.image.specs.Image.{Label}
 use Rattle.tables.specs.Table.{table_label}
 use Rattle.grouping.specs.Classes.{has_same_fields}

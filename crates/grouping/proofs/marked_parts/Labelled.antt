@@ -1,14 +1,7 @@
 -- A buffer after one write for each label: loops that make one, and the classes that are kept by the marks.
-use Rattle.std.proofs.Common.{if◌then◌else◌}
-use Prim.Native.Nat.{ℕ, zero, suc, ◌+◌, ◌≤◌, ◌<◌}
-use mathlib.Core.Path.{◌≡◌, refl, sym, ◌∙◌, ap, ap₂, subst}
-use mathlib.Core.Bool.{Bool, true, false}
-use mathlib.Core.List.{List}
-use native.Mathlib.Numerals.{add-one}
-use native.Mathlib.Omega.{arith}
-use lib.Dec.{eqb}
-use lib.ListN.{length, get_or, set, length-set}
-use borrow.Author.Tests.{eqb-true}
+use Rattle.std.proofs.Common.{if◌then◌else◌, ℕ, zero, suc, ◌+◌, ◌≤◌, ◌<◌, ◌≡◌, refl, sym, ◌∙◌, ap, subst, Bool, true, false, List, add-one}
+use Rattle.std.proofs.Common.{arith, eqb, length, get_or, set, length-set, eqb-true}
+use Rattle.std.proofs.lemmas.Grind.{common_steps}
 use Rattle.grouping.specs.inner.GroupingContracts.{KeptClasses}
 use Rattle.grouping.proofs.Marked.{kept-start, kept_on}
 use Rattle.grouping.specs.marked_parts.inner.Parts.{labelled, mark_others, PartsMarked}
@@ -27,12 +20,7 @@ module _ (place : ℕ → ℕ) (value : ℕ → List ℕ → ℕ) (xs₀ : List 
   pub labelling-turn : (xs : List ℕ) (l k v : ℕ) → Labelling place value xs₀ n xs l → l < n → k ≡ place l → v ≡ value l xs
       → Labelling place value xs₀ n (set xs k v) (l + 1)
   unfolding labelled
-  labelling-turn xs l k v t h p e = record {
-    low = omega arith;
-    long = length-set xs k v ∙ t.long;
-    is = ap₂ (set xs) p e ∙ ap (λ (ys : List ℕ). set ys (place l) (value l ys)) t.is
-        ∙ ap (λ (m : ℕ). labelled place value m xs₀) (sym (add-one l));
-  }
+  labelling-turn xs l k v t h p e = grind (arith, common_steps)
 
   pub labelling-all : (xs : List ℕ) (l : ℕ) → Labelling place value xs₀ n xs l → n ≤ l → xs ≡ labelled place value n xs₀
   labelling-all xs l t h = let e : l ≡ n = omega (arith, t.low) in t.is ∙ ap (λ (m : ℕ). labelled place value m xs₀) e
@@ -52,11 +40,8 @@ module _ (former c kept marks₀ : List ℕ) (h : length marks₀ ≡ 256) where
 
   kept-marks : (n : ℕ) → n ≤ 256 → KeptClasses n former c kept (mark_others former c kept n marks₀)
   unfolding labelled
-  kept-marks zero l = kept-start former c kept marks₀ h
-  kept-marks (suc n) l =
-      subst (λ (m : ℕ). KeptClasses m former c kept (mark_others former c kept (suc n) marks₀)) (add-one n)
-      (kept_on former c kept (mark_others former c kept n marks₀) n _ (kept-marks n (omega arith)) (omega arith)
-      (kept_of (eqb (get_or c n 0) (get_or kept (get_or former n 0) 0)) (get_or c n 0) (get_or kept (get_or former n 0) 0) refl))
+  kept-marks zero l = grind (arith, common_steps, kept-start)
+  kept-marks (suc n) l = grind (arith, common_steps, kept-marks n (omega arith), kept_on, add-one, kept_of)
 
 -- ---- what mark_parts leaves
 module _ {classes next marks₀ counts₀ kept₀ : List ℕ} {n : ℕ} {marks counts kept : List ℕ}

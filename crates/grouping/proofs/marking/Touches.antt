@@ -1,12 +1,7 @@
 -- The notes of labels 2 to M: the loop that makes them, and that they are enough with the marks.
-use Rattle.std.proofs.Common.{cond}
-use Prim.Native.Nat.{ℕ, ◌+◌, ◌-◌, ◌≤◌, ◌<◌}
-use mathlib.Core.Path.{◌≡◌, refl, sym, ◌∙◌, ap, ap₂, subst}
-use mathlib.Core.Bool.{Bool, true, false}
-use mathlib.Core.List.{List, map, ◌++◌}
-use native.Mathlib.Omega.{arith}
-use lib.ListN.{length, get_or, set, take, drop, get_or-append}
-use lib.Seq.{get_or-append-add, length-take-le}
+use Rattle.std.proofs.Common.{cond, ℕ, ◌+◌, ◌-◌, ◌≤◌, ◌<◌, ◌≡◌, refl, sym, ◌∙◌, ap, ap₂, subst, Bool, true, false, List, map, ◌++◌, arith}
+use Rattle.std.proofs.Common.{length, get_or, set, take, drop, get_or-append-add, length-take-le}
+use Rattle.std.proofs.Math.ListN.{get_or-append}
 use Rattle.words.specs.lists.Numbers.{range, any}
 use Rattle.words.specs.lists.Sequences.{written}
 use Rattle.words.proofs.lists.Ranges.{length-map-range, get_or-map-range}

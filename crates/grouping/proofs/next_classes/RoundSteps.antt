@@ -1,18 +1,11 @@
 -- Steps of one round over a table.
-use Prim.Native.Nat.{ℕ, suc, ◌+◌, ◌≤◌, ◌<◌}
-use mathlib.Core.Bool.{Bool}
-use mathlib.Core.Path.{◌≡◌, refl, sym, ◌∙◌, ap, subst}
-use mathlib.Core.List.{List}
-use native.Mathlib.Omega.{arith}
-use lib.ListN.{length, get_or, set}
-use lib.Seq.{ext_get_or}
+use Rattle.std.proofs.Common.{ℕ, suc, ◌+◌, ◌≤◌, ◌<◌, Bool, ◌≡◌, refl, sym, ◌∙◌, ap, subst, List, arith, length, get_or, set, ext_get_or}
 use Rattle.image.specs.Image.{Image}
 use Rattle.image.specs.Decode.{last_label}
 use Rattle.tables.specs.Table.{table_image}
 use Rattle.tables.proofs.TableReads.{labels-count}
 use Rattle.grouping.specs.Classes.{is_staying_with, classes_by, classes}
-use Rattle.grouping.specs.inner.GroupingContracts.{Even, Classed, Refined, OneMore, Marks, ClassAsked}
-use Rattle.grouping.specs.inner.GroupingContracts.{next_class}
+use Rattle.grouping.specs.inner.GroupingContracts.{Even, Classed, Refined, OneMore, Marks, ClassAsked, next_class}
 use Rattle.grouping.proofs.Representatives.{lowest_alike}
 use Rattle.grouping.proofs.TableRounds.{FillingClasses, fill_start, fill_on, fill-all, value-small, classes-long, class_low, class-below}
 use Rattle.grouping.proofs.TableRounds.{zero-alone, one-alone, next-is}

@@ -1,16 +1,11 @@
 -- The search for a frame that 12 or 13 refuses: part by part, and the verdict by it.
-use mathlib.Core.Path.{◌≡◌, refl, sym, ◌∙◌, ap}
-use mathlib.Core.Bool.{Bool, true, false, ◌||◌}
-use mathlib.Core.List.{List}
-use Prim.Native.Nat.{ℕ, zero, suc, ◌+◌, ◌-◌, ◌≤◌, ◌<◌}
-use native.Mathlib.Nat.{zero-add}
-use native.Mathlib.Omega.{arith}
+use Rattle.std.proofs.Common.{◌≡◌, refl, sym, ◌∙◌, ap, Bool, true, false, ◌||◌, List, ℕ, zero, suc, ◌+◌, ◌-◌, ◌≤◌, ◌<◌, zero-add, arith}
 use Rattle.words.specs.lists.Numbers.{lowest}
 use Rattle.words.proofs.lists.Searches.{lowest-on, lowest_start}
 use Rattle.text.specs.frames.Frame.{size}
 use Rattle.image.specs.Decode.{labels_from, rows_from, label_in, row_in}
-use Rattle.image.specs.Check.{Position, entry_position, label_position, row_position, position_of, is_stray_frame}
-use Rattle.image.specs.Check.{is_stray, is_bad_entry, is_bad_label, is_bad_row, is_bad_frame, has_bad_content}
+use Rattle.image.specs.Check.{Position, entry_position, label_position, row_position, position_of, is_stray_frame, is_stray, is_bad_entry}
+use Rattle.image.specs.Check.{is_bad_label, is_bad_row, is_bad_frame, has_bad_content}
 use Rattle.image_check.specs.image_faults.inner.FaultyFrames.{is_faulty}
 use Rattle.image.proofs.Accepted.{position-of-entry, position-of-label, position-of-row}
 

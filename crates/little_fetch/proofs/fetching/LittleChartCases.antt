@@ -1,19 +1,14 @@
 -- What is answered for a frame count and a number, case by case.
-use Prim.Native.Nat.{ℕ, ◌*◌, ◌-◌, ◌/◌, ◌≤◌, ◌<◌}
-use mathlib.Core.Bool.{Bool, true, false, ◌||◌}
-use mathlib.Core.Path.{◌≡◌, refl, sym, ◌∙◌, ap, ap₂, subst}
-use mathlib.Core.List.{List, []}
-use native.Mathlib.Omega.{arith}
-use lib.Dec.{leb, ltb}
-use lib.ListN.{length, get_or, take}
-use borrow.Author.Tests.{lt-ltb, le-ltb, le-leb, lt-leb, ltb-true, ltb-false}
-use Rattle.words.specs.lists.Sequences.{written, over}
-use Rattle.words.proofs.lists.Tests.{or-none, or-true-l, or_true_r}
+use Rattle.std.proofs.Common.{ℕ, ◌*◌, ◌-◌, ◌/◌, ◌≤◌, ◌<◌, Bool, true, false, ◌||◌, ◌≡◌, refl, sym, ◌∙◌, ap, subst, List, [], arith, leb}
+use Rattle.std.proofs.Common.{ltb, length, get_or, take, lt-ltb, le-leb, ltb-true, ltb-false, Ok, Err}
+use borrow.Author.Tests.{lt-leb}
+use Rattle.std.proofs.lemmas.Grind.{common_steps}
+use Rattle.words.specs.lists.Sequences.{written}
+use Rattle.words.proofs.lists.Tests.{or-true-l, or_true_r}
 use Rattle.words.proofs.lists.Written.{written-front}
 use Rattle.text.specs.frames.Frame.{size, text_of}
 use Rattle.text.specs.frames.Verdict.{fine, when}
 use Rattle.text.specs.frames.Answer.{GivesBuffer}
-use Rattle.std.proofs.Common.{Ok, Err}
 use Rattle.text.specs.declared.frames.refusals.Refusal.TheVariants.{NoRoom, NoLittleChart}
 use Rattle.text.proofs.frames.Lent.{lent-err, lent-short, lent-done}
 use Rattle.text.proofs.frames.TextLoops.{length-text}
@@ -28,8 +23,7 @@ use Rattle.little_fetch.specs.little_seek.inner.SeekContracts.{FewFrames, GivesS
 module _ (n k : ℕ) (old : List ℕ) where
   outside : (ltb n 2 || ltb 4 n) ≡ true → GivesBuffer (little_chart n k old) (Err NoLittleChart) old
   unfolding little_chart little_verdict
-  outside q = lent-err (little_verdict n k) 1 (λ _. little_text n k) old NoLittleChart
-      (ap (when 24) (or-true-l (ltb n 2 || ltb 4 n) (leb (length (little_charts n)) k) q), refl)
+  outside q = grind (arith, common_steps)
 
   pub too_few : n < 2 → GivesBuffer (little_chart n k old) (Err NoLittleChart) old
   too_few l = outside (or-true-l (ltb n 2) (ltb 4 n) (lt-ltb n 2 l))
@@ -41,15 +35,11 @@ module _ (n k : ℕ) (old : List ℕ) where
 module _ (rs₀ rs : List ℕ) (k : ℕ) (s : Sought) (few : FewFrames rs₀) (long : length rs ≡ length rs₀)
     (o : GivesSought (searched_charts (size rs₀) (size rs₀ - 0) (take (10 * 0) rs₀)) (take (10 * 0) rs₀) k s rs) where
   listed : searched_charts (size rs₀) (size rs₀ - 0) (take (10 * 0) rs₀) ≡ little_charts (size rs₀)
-  listed =
-      let z : size rs₀ - 0 ≡ size rs₀ = omega arith in
-      ap (λ (m : ℕ). searched_charts (size rs₀) m (take (10 * 0) rs₀)) z ∙ search-lists (size rs₀) few.some few.few
+  listed = grind (arith, common_steps, search-lists)
 
   verdict-by : (t : Bool) → leb (length (little_charts (size rs₀))) k ≡ t → little_verdict (size rs₀) k ≡ when 24 t
   unfolding little_verdict
-  verdict-by t e =
-      ap₂ (λ (x y : Bool). when 24 (x || y))
-      (or-none (ltb (size rs₀) 2) (ltb 4 (size rs₀)) (le-ltb (size rs₀) 2 few.some) (le-ltb 4 (size rs₀) few.few)) e
+  verdict-by t e = grind (arith, common_steps)
 
   module _ (old : List ℕ) where
     pub past-last : s.found ≡ false → GivesBuffer (little_chart (size rs₀) k old) (Err NoLittleChart) old
@@ -75,12 +65,9 @@ module _ (rs₀ rs : List ℕ) (k : ℕ) (s : Sought) (few : FewFrames rs₀) (l
 
       pub too_short : length old < count → GivesBuffer (little_chart (size rs₀) k old) (Err NoRoom) old
       unfolding little_chart
-      too_short l =
-          lent-short (little_verdict (size rs₀) k) 1 (λ _. little_text (size rs₀) k) old accepted (omega (arith, text-long))
+      too_short l = grind (arith, common_steps, lent-short, accepted, text-long)
 
       pub fetched : count ≤ length old → (out : List ℕ) → out ≡ written old 0 (text_of rs)
           → GivesBuffer (little_chart (size rs₀) k old) (Ok count) out
       unfolding little_chart
-      fetched l out w = lent-done (little_verdict (size rs₀) k) 1 (λ _. little_text (size rs₀) k) old accepted
-          (omega (arith, text-long)) count
-          (omega (arith, text-long)) out (w ∙ written-front old (text_of rs) ∙ ap (λ (xs : List ℕ). over xs old) text-is)
+      fetched l out w = grind (arith, common_steps, lent-done, written-front, accepted, text-is, text-long)

@@ -1,15 +1,11 @@
 -- What is tried of records, by the tests that the code makes.
-use Prim.Native.Nat.{ℕ}
-use mathlib.Core.Bool.{Bool, true, false, not}
-use mathlib.Core.Path.{◌≡◌, sym, ◌∙◌, ap}
-use native.Mathlib.Omega.{arith}
-use borrow.Author.Tests.{eq-eqb, ne_eqb}
+use Rattle.std.proofs.Common.{ℕ, Bool, true, false, not, ◌≡◌, sym, ◌∙◌, ap, arith, eq-eqb, ne_eqb}
 use Rattle.words.specs.lists.Numbers.{any}
 use Rattle.text.specs.frames.Frame.{size}
 use Rattle.words.proofs.lists.Tests.{or-true-l, or_true_r, or-none, or_no}
 use Rattle.charts.specs.Chart.{Chart, kind}
-use Rattle.little_charts.specs.little_search.inner.Search.{has_kind, has_arc_to, has_arc_to_begin, is_clash, is_repeat}
-use Rattle.little_charts.specs.little_search.inner.Search.{is_other_leading_to, is_lonely}
+use Rattle.little_charts.specs.little_search.inner.Search.{has_kind, has_arc_to, has_arc_to_begin, is_clash, is_repeat, is_other_leading_to}
+use Rattle.little_charts.specs.little_search.inner.Search.{is_lonely}
 
 module _ (c : Chart) (v u : ℕ) where
   pub clash-first : (r : Bool) → r ≡ has_arc_to_begin c u v → r ≡ true → is_clash c v u ≡ true

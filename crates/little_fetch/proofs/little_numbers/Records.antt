@@ -1,11 +1,7 @@
 -- Node records by number, and the numbers to try, by the tests that the code makes.
-use Rattle.std.proofs.Common.{if◌then◌else◌}
-use Prim.Native.Nat.{ℕ, ◌+◌, ◌*◌, ◌-◌, ◌/◌, ◌%◌, ◌≤◌, ◌<◌}
-use mathlib.Core.Bool.{Bool, true, false}
-use mathlib.Core.Path.{◌≡◌, sym, ◌∙◌}
-use mathlib.Core.List.{List, [], ◌∷◌}
-use lib.Dec.{ltb, eqb}
-use borrow.Author.Tests.{lt-ltb, le-ltb, eq-eqb, ne_eqb}
+use Rattle.std.proofs.Common.{if◌then◌else◌, ℕ, ◌+◌, ◌*◌, ◌-◌, ◌/◌, ◌%◌, ◌≤◌, ◌<◌, Bool, true, false, ◌≡◌, sym, ◌∙◌, List, [], ◌∷◌, ltb}
+use Rattle.std.proofs.Common.{eqb, lt-ltb, le-ltb, eq-eqb, arith}
+use Rattle.std.proofs.lemmas.Grind.{common_steps}
 use Rattle.words.proofs.lists.Tests.{if-true, if-false}
 use Rattle.little_charts.specs.little_search.inner.Search.{node_at}
 
@@ -24,14 +20,12 @@ module _ (n i : ℕ) where
     pub at-operation : i < 3 * n + 1 → let j = i - (n + 1) in
         ◌≡◌ {A = List ℕ} (2 ∷ 1 ∷ 0 ∷ j / 2 ∷ 0 ∷ 0 ∷ 0 ∷ 0 ∷ 0 ∷ j % 2 ∷ []) (node_at n i)
     unfolding node_at
-    at-operation m = sym (if-false (ltb i n) _ _ (le-ltb i n l) ∙ if-false (eqb i n) _ _ (ne_eqb i n d)
-        ∙ if-true (ltb i (3 * n + 1)) _ _ (lt-ltb i (3 * n + 1) m))
+    at-operation m = grind (arith, common_steps)
 
     pub at-condition : 3 * n + 1 ≤ i → let j = i - (3 * n + 1) in
         ◌≡◌ {A = List ℕ} (3 ∷ 1 ∷ 0 ∷ j / n ∷ j % n ∷ 0 ∷ 0 ∷ 0 ∷ 0 ∷ 0 ∷ []) (node_at n i)
     unfolding node_at
-    at-condition m = sym (if-false (ltb i n) _ _ (le-ltb i n l) ∙ if-false (eqb i n) _ _ (ne_eqb i n d)
-        ∙ if-false (ltb i (3 * n + 1)) _ _ (le-ltb i (3 * n + 1) m))
+    at-condition m = grind (arith, common_steps)
 
 -- ---- choices by a test that a call made
 pub chosen : {A : Type 0} (r t : Bool) (a b : A) → r ≡ t → r ≡ true → a ≡ (if t then a else b)

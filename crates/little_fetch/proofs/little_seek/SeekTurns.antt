@@ -1,20 +1,16 @@
 -- The turns of the search: the numbers tried before found as many charts as were passed over, and the records below place v stand.
-use Prim.Native.Nat.{ℕ, suc, ◌+◌, ◌*◌, ◌-◌, ◌≤◌, ◌<◌}
-use mathlib.Core.Bool.{Bool, true, false}
-use mathlib.Core.Path.{◌≡◌, refl, sym, ◌∙◌, ap, ap₂, subst}
-use mathlib.Core.List.{List, [], ◌++◌}
-use native.Mathlib.Omega.{arith}
-use lib.ListN.{length, get_or, take, drop, length-append, take-append-drop, get_or-append}
-use lib.Seq.{length-take-le, take-take, take_at, get_or-append-add}
-use borrow.Author.Tests.{lt-ltb, le-ltb, ltb-true, ltb-false}
+use Rattle.std.proofs.Common.{ℕ, suc, ◌+◌, ◌*◌, ◌-◌, ◌≤◌, ◌<◌, Bool, true, false, ◌≡◌, sym, ◌∙◌, ap, ap₂, subst, List, [], ◌++◌, arith}
+use Rattle.std.proofs.Common.{length, get_or, take, length-append, length-take-le, take-take, take_at, get_or-append-add, lt-ltb, le-ltb}
+use Rattle.std.proofs.Common.{ltb-true, ltb-false}
+use Rattle.std.proofs.Math.ListN.{get_or-append}
+use Rattle.std.proofs.lemmas.Grind.{common_steps}
 use Rattle.words.specs.lists.Numbers.{range}
 use Rattle.words.specs.lists.Sequences.{concat_map}
 use Rattle.words.proofs.lists.Joins.{concat-range-snoc, concat-split}
 use Rattle.text.specs.frames.Frame.{size}
 use Rattle.charts.specs.Chart.{Chart}
 use Rattle.little_charts.specs.little_search.inner.Search.{node_count, node_at, is_barred_node, first_tried, past_last, searched_charts}
-use Rattle.little_charts.proofs.little_search.Alike.{SameFields, front-alike, barred-alike, first_alike, past-alike}
-use Rattle.little_charts.proofs.little_search.Same.{first-low, past-within}
+use Rattle.little_charts.proofs.little_search.Alike.{SameFields, barred-alike, first_alike, past-alike}
 use Rattle.little_fetch.specs.declared.little_seek.Sought.{Sought}
 use Rattle.little_fetch.specs.little_seek.inner.SeekContracts.{FewFrames, RecordPlaced, GivesSought}
 
@@ -30,8 +26,7 @@ abbrev pub all_from : List ℕ → ℕ → List Chart
 all_from rs v = searched_charts (size rs) (size rs - v) (take (10 * v) rs)
 
 taken-alike : (rs : List ℕ) (v : ℕ) → 10 * v ≤ length rs → SameFields (take (10 * v) rs) rs v
-taken-alike rs v l = subst (λ (x : List ℕ). SameFields (take (10 * v) rs) x v) (take-append-drop (10 * v) rs)
-    (front-alike (take (10 * v) rs) (drop (10 * v) rs) v (omega (arith, length-take-le (10 * v) rs l)))
+taken-alike rs v l = grind (arith, common_steps)
 
 pub record Seeking (rs₀ : List ℕ) (v left n end from : ℕ) (rs : List ℕ) (i rest : ℕ) : Type 0 where
   pub few : FewFrames rs₀
@@ -54,10 +49,7 @@ module _ (rs : List ℕ) (v : ℕ) (few : FewFrames rs) (inside : v < size rs) w
   front-size = omega (arith, length-take-le (10 * v) rs room)
 
   pub range-ends : (first_tried (size rs) rs v ≤ past_last (size rs) rs v) × (past_last (size rs) rs v ≤ node_count (size rs))
-  range-ends = (
-    omega (arith, first-low (size rs) rs v, (past-within (size rs) rs v).0),
-    (past-within (size rs) rs v).1,
-  )
+  range-ends = grind (arith, common_steps)
 
   all-is : all_from rs v ≡ charts_done_before rs v (first_tried (size rs) rs v) (past_last (size rs) rs v)
   unfolding searched_charts
@@ -76,43 +68,18 @@ module _ (rs : List ℕ) (v : ℕ) (few : FewFrames rs) (inside : v < size rs) w
   pub seeking-first : (left n end from : ℕ) → n ≡ size rs → end ≡ past_last (size rs) rs v → from ≡ first_tried (size rs) rs v
       → Seeking rs v left n end from rs from left
   unfolding concat_map
-  seeking-first left n end from e f g =
-      let z : from - from ≡ 0 = omega arith in
-      let d : charts_done_before rs v from from ≡ [] = ap (λ (k : ℕ). concat_map (tried_at rs v) (range from k)) z in
-      record {
-        few = few;
-        inside = inside;
-        count = e;
-        first = g;
-        past = f;
-        long = refl;
-        front = refl;
-        low = omega arith;
-        high = omega (arith, range-ends.0);
-        passed = omega (arith, ap length d);
-        counted = omega (arith, ap length d);
-      }
+  seeking-first left n end from e f g = grind (arith, common_steps)
 
 module _ (rs₀ : List ℕ) (v left n end from : ℕ) (rs : List ℕ) (i rest : ℕ) (k : Seeking rs₀ v left n end from rs i rest) where
   pub same_size : size rs ≡ size rs₀
   same_size = omega (arith, k.long)
 
   pub still-few : FewFrames rs
-  still-few = let f : FewFrames rs₀ = k.few in
-      record { whole = omega (arith, k.long, f.whole); some = omega (arith, k.long, f.some); few = omega (arith, k.long, f.few) }
+  still-few = grind (arith, common_steps)
 
   -- all numbers were tried
   pub seeking-done : end ≤ i → GivesSought (all_from rs₀ v) (take (10 * v) rs₀) left (record { found = false; left = rest }) rs
-  seeking-done h =
-      let e : i ≡ end = omega (arith, k.high) in
-      let d : charts_done_before rs₀ v from i ≡ all_from rs₀ v = ap₂ (λ (x y : ℕ). charts_done_before rs₀ v x y) k.first (e ∙ k.past)
-      ∙ sym (all-is rs₀ v k.few k.inside) in
-      let p : length (all_from rs₀ v) ≤ left = omega (arith, ap length d, k.passed) in
-      record {
-        counted = record { told = sym (le-ltb left (length (all_from rs₀ v)) p); passed = omega (arith, ap length d, k.counted) };
-        chart = λ l. absurd (omega arith);
-        kept = λ l. ap (λ (j : ℕ). take j rs) (length-take-le (10 * v) rs₀ (room rs₀ v k.few k.inside)) ∙ k.front;
-      }
+  seeking-done h = grind (arith, common_steps, length-take-le, le-ltb, room, all-is)
 
   module _ (l : i < end) where
     pub number-low : i < node_count (size rs)
@@ -128,22 +95,7 @@ module _ (rs₀ : List ℕ) (v left n end from : ℕ) (rs : List ℕ) (i rest : 
 
     seeking-next : (rs' : List ℕ) (rest' : ℕ) → length rs' ≡ length rs → take (10 * v) rs' ≡ take (10 * v) rs₀
         → length (tried_at rs₀ v i) ≤ rest → rest' ≡ rest - length (tried_at rs₀ v i) → Seeking rs₀ v left n end from rs' (i + 1) rest'
-    seeking-next rs' rest' m f h e =
-        let d : length (charts_done_before rs₀ v from (i + 1)) ≡ length (charts_done_before rs₀ v from i) + length (tried_at rs₀ v i) =
-        ap length done_next ∙ length-append (charts_done_before rs₀ v from i) (tried_at rs₀ v i) in
-        record {
-          few = k.few;
-          inside = k.inside;
-          count = k.count;
-          first = k.first;
-          past = k.past;
-          long = m ∙ k.long;
-          front = f;
-          low = omega (arith, k.low);
-          high = omega arith;
-          passed = omega (arith, k.passed, k.counted);
-          counted = omega (arith, k.passed, k.counted);
-        }
+    seeking-next rs' rest' m f h e = grind (arith, common_steps, length-append, done_next)
 
     -- record i in its place
     module _ (rs' : List ℕ) (p : RecordPlaced rs v (node_at (size rs) i) rs') where
@@ -164,13 +116,11 @@ module _ (rs₀ : List ℕ) (v left n end from : ℕ) (rs : List ℕ) (i rest : 
           ∙ take_at (take (10 * v) rs₀) (node_at (size rs₀) i) (10 * v) (length-take-le (10 * v) rs₀ (room rs₀ v k.few k.inside))
 
       x-alike : SameFields x rs' (v + 1)
-      x-alike = subst (λ (y : List ℕ). SameFields y rs' (v + 1)) x-taken
-          (taken-alike rs' (v + 1) (omega (arith, placed-long, k.few.whole, k.inside)))
+      x-alike = grind (arith, common_steps)
 
       tried-by : (t : Bool) → t ≡ is_barred_node rs' v
           → tried_at rs₀ v i ≡ elim t [ true ↦ [] | false ↦ searched_charts (size rs₀) (size rs₀ - (v + 1)) x ]
-      tried-by t e = ap (λ (b : Bool). elim b [ true ↦ [] | false ↦ searched_charts (size rs₀) (size rs₀ - (v + 1)) x ])
-          (barred-alike x rs' v x-alike ∙ sym e)
+      tried-by t e = grind (arith, common_steps, barred-alike, x-alike)
 
       -- no chart begins so
       pub seeking-barred : (t : Bool) → t ≡ is_barred_node rs' v → t ≡ true → Seeking rs₀ v left n end from rs' (i + 1) rest
@@ -180,13 +130,7 @@ module _ (rs₀ : List ℕ) (v left n end from : ℕ) (rs : List ℕ) (i rest : 
           seeking-next rs' rest p.long placed-front (omega (arith, ap length z)) (omega (arith, ap length z))
 
       pub placed-few : FewFrames rs'
-      placed-few = let f : FewFrames rs₀ = k.few in
-          record {
-            whole = omega (arith, placed-long, f.whole);
-            some = omega (arith, placed-long, f.some);
-            few = omega
-                (arith, placed-long, f.few);
-          }
+      placed-few = grind (arith, common_steps)
 
       pub placed-inside : v + 1 ≤ size rs'
       placed-inside = omega (arith, placed-long, k.inside)
@@ -201,15 +145,7 @@ module _ (rs₀ : List ℕ) (v left n end from : ℕ) (rs : List ℕ) (i rest : 
             ∙ ap₂ (λ (j : ℕ) (y : List ℕ). searched_charts j (j - (v + 1)) y) m (sym x-taken)
 
         pub seeking-on : s.found ≡ false → Seeking rs₀ v left n end from rs'' (i + 1) s.left
-        seeking-on f =
-            let b : length (all_from rs' (v + 1)) ≤ rest = ltb-false rest (length (all_from rs' (v + 1))) (sym o.counted.told ∙ f) in
-            let w : length (take (10 * (v + 1)) rs') ≡ 10 * (v + 1) = length-take-le (10 * (v + 1)) rs'
-            (omega (arith, placed-long, k.few.whole, k.inside)) in
-            let y : take (10 * (v + 1)) rs'' ≡ take (10 * (v + 1)) rs' = ap (λ (j : ℕ). take j rs'') (sym w) ∙ o.kept b in
-            seeking-next rs'' s.left (h ∙ p.long)
-            (sym (take-take (10 * v) (10 * (v + 1)) rs'' (omega arith)) ∙ ap (take (10 * v)) y
-            ∙ take-take (10 * v) (10 * (v + 1)) rs' (omega arith) ∙ placed-front)
-            (omega (arith, ap length tried-is)) (omega (arith, ap length tried-is, o.counted.passed))
+        seeking-on f = grind (arith, common_steps, take-take, length-take-le, ltb-false, seeking-next, placed-long, placed-front, tried-is)
 
         later : List Chart
         later = concat_map (tried_at rs₀ v) (range (i + 1) (end - (i + 1)))

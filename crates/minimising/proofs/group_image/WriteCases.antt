@@ -1,11 +1,7 @@
 -- Cases of what is written: the classes in a buffer make the smaller image, whose text is as long as the counts say.
-use Prim.Native.Nat.{ℕ, ◌+◌, ◌-◌, ◌*◌, ◌≤◌, ◌<◌}
-use mathlib.Core.Path.{◌≡◌, refl, sym, ◌∙◌, ap, ap₂, subst}
-use mathlib.Core.Bool.{true}
-use mathlib.Core.List.{List, map}
-use native.Mathlib.Omega.{arith}
-use lib.Dec.{eqb}
-use lib.ListN.{length, get_or}
+use Rattle.std.proofs.Common.{ℕ, ◌+◌, ◌-◌, ◌*◌, ◌≤◌, ◌<◌, ◌≡◌, refl, sym, ◌∙◌, ap, subst, true, List, map, arith, eqb, length, get_or, Ok}
+use Rattle.std.proofs.Common.{Err}
+use Rattle.std.proofs.lemmas.Grind.{common_steps}
 use Rattle.words.specs.lists.Numbers.{range, count}
 use Rattle.words.specs.lists.Sequences.{filter, written}
 use Rattle.words.proofs.lists.Counts.{count-alike}
@@ -15,12 +11,11 @@ use Rattle.words.proofs.lists.Written.{written-front}
 use Rattle.text.specs.frames.Frame.{size, field}
 use Rattle.text.specs.frames.Verdict.{fine}
 use Rattle.text.specs.frames.Answer.{GivesBuffer}
-use Rattle.std.proofs.Common.{Ok, Err}
 use Rattle.text.specs.declared.frames.refusals.Refusal.TheVariants.{NoRoom}
 use Rattle.text.proofs.frames.Lent.{lent-short, lent-done}
 use Rattle.text.proofs.frames.Texts.{text-length}
 use Rattle.image.specs.Image.{Image, Row, image_frames, image_text}
-use Rattle.image.specs.Decode.{scheme_count, last_label, row_count, rows_from, decoded_image}
+use Rattle.image.specs.Decode.{scheme_count, last_label, rows_from, decoded_image}
 use Rattle.image.specs.inner.Sound.{SoundRow, SoundImage}
 use Rattle.image.proofs.Written.{frames-length, image-frames}
 use Rattle.image.proofs.Accepted.{entries-count, labels-count}
@@ -66,12 +61,7 @@ module _ (b buffer : List ℕ) (G : Grouped b buffer) where
   inside l k = G.classes.at l (omega (arith, labels-count b))
 
   pub buffer-lowest : (last : ℕ) → last ≡ last_label b → LowestOfClass buffer (last + 1)
-  buffer-lowest last e = record {
-    below = λ l h. let k : l < n = omega (arith, labels-count b) in omega (arith, inside l k, R.below l k);
-    own = λ l h.
-        let k : l < n = omega (arith, labels-count b) in
-        ap (λ (x : ℕ). get_or buffer x 0) (inside l k) ∙ inside (class_of c l) (omega (arith, R.below l k)) ∙ R.own l k ∙ sym (inside l k);
-  }
+  buffer-lowest last e = grind (arith, common_steps, labels-count, R, inside)
 
   first-same : (l : ℕ) → l < n → is_first buffer l ≡ is_first c l
   first-same l k = ap (λ (x : ℕ). eqb x l) (inside l k)
@@ -81,10 +71,7 @@ module _ (b buffer : List ℕ) (G : Grouped b buffer) where
       ∙ count-alike (is_first c) (is_first buffer) 0 (class_of c l) (λ m x y. first-same m (omega (arith, R.below l k)))
 
   row_same : (r : Row) → SoundRow i r × (is_first c r.from ≡ true) → renumbered_row buffer r ≡ renumbered_row c r
-  row_same r x =
-      let p : renumbered_label buffer r.from ≡ renumbered_label c r.from = number_same r.from x.0.high in
-      let q : renumbered_label buffer r.next ≡ renumbered_label c r.next = number_same r.next x.0.leading.inside in
-      λ j. record { from = p j; care = r.care; values = r.values; bit = r.bit; next = q j }
+  row_same r x = grind (arith, common_steps, inside, number_same)
 
   joined_same : joined_labels i buffer ≡ smaller_image i
   unfolding joined_labels
@@ -121,9 +108,7 @@ module _ (b buffer : List ℕ) (G : Grouped b buffer) where
     groups-is = N.is ∙ ap (λ (x : ℕ). count (is_first buffer) 0 (x + 1)) e₂
 
     rows_is : rows ≡ rows_kept b buffer
-    rows_is =
-        let m : size b - first ≡ row_count b = omega (arith, G.table.all) in
-        K.0 ∙ ap₂ (λ (x y : ℕ). count (λ f. is_first buffer (field b f 1)) x y) e₃ m
+    rows_is = grind (arith, common_steps)
 
     groups-some : 1 ≤ groups
     groups-some = omega (arith, groups-is, groups-are b buffer G.table.all, sound.two)
@@ -171,8 +156,4 @@ module _ (b buffer numbers : List ℕ) (schemes groups rows : ℕ) (C : CountedF
 
   pub smaller-done : 23 * (1 + schemes + groups + rows) ≤ length old → (out : List ℕ) → out ≡ written old 0 (all_pieces b buffer)
       → GivesBuffer (smaller_outcome b fine old) (Ok (23 * (1 + schemes + groups + rows))) out
-  smaller-done g out e =
-      let m : length (image_text (smaller_image (decoded_image b))) ≡ 23 * (1 + schemes + groups + rows) = C.long in
-      lent-done fine 1 (λ _. image_text (smaller_image (decoded_image b))) old refl (omega arith) (23 * (1 + schemes + groups + rows))
-      (omega arith) out
-      (e ∙ ap (written old 0) C.text ∙ written-front old (image_text (smaller_image (decoded_image b))))
+  smaller-done g out e = grind (arith, common_steps, lent-done, written-front)

@@ -1,7 +1,5 @@
 -- Cases, computed: small images and the images with one label a group.
-use Prim.Native.Nat.{ℕ}
-use mathlib.Core.Path.{◌≡◌, refl}
-use mathlib.Core.List.{List, [], ◌∷◌}
+use Rattle.std.proofs.Common.{ℕ, ◌≡◌, refl, List, [], ◌∷◌}
 use Rattle.words.specs.lists.Numbers.{tabulate, lowest, count}
 use Rattle.words.specs.lists.Sequences.{some, filter}
 use Rattle.image.specs.Image.{Image, Label, Row, home_label, return_label, row}

@@ -1,14 +1,8 @@
 -- Rows of the smaller image: those that match are the rows of the lowest member that match, led to the new labels, so there is just one.
-use Rattle.std.proofs.Common.{if◌then◌else◌}
-use Prim.Native.Nat.{ℕ, zero, suc, ◌≤◌, ◌<◌}
-use mathlib.Core.Bool.{Bool, true, false, ◌&&◌}
-use mathlib.Core.Path.{◌≡◌, refl, sym, ◌∙◌, ap}
-use mathlib.Core.List.{List, [], ◌∷◌, map}
-use native.Mathlib.Decide.{ℕ_discrete}
-use native.Mathlib.Omega.{arith}
-use lib.Dec.{eqb}
-use lib.ListN.{length, length-map}
-use borrow.Author.Tests.{eqb-true, eq-eqb, ne_eqb}
+use Rattle.std.proofs.Common.{if◌then◌else◌, ℕ, zero, suc, ◌≤◌, ◌<◌, Bool, true, false, ◌≡◌, sym, ◌∙◌, ap, List, [], ◌∷◌, map, arith, eqb}
+use Rattle.std.proofs.Common.{length, eqb-true, eq-eqb, ne_eqb}
+use Rattle.std.proofs.Math.ListN.{length-map}
+use Rattle.std.proofs.lemmas.Grind.{common_steps}
 use Rattle.words.specs.lists.Numbers.{count}
 use Rattle.words.specs.lists.Sequences.{filter}
 use Rattle.words.proofs.lists.Tests.{no_both}
@@ -17,7 +11,7 @@ use Rattle.words.proofs.lists.Ranges.{filter-yes, filter-no}
 use Rattle.words.proofs.lists.Filters.{filter_none}
 use Rattle.image.specs.Image.{Image, Row}
 use Rattle.image.specs.inner.Sound.{SoundImage}
-use Rattle.rows.specs.Rows.{is_match, is_candidate}
+use Rattle.rows.specs.Rows.{is_candidate}
 use Rattle.covering.specs.Matched.{hits, is_uneven}
 use Rattle.covering.proofs.Hits.{OneRow, the_row, even-of}
 use Rattle.grouping.specs.Classes.{class_of, is_first}
@@ -28,57 +22,14 @@ use Rattle.minimising.proofs.group_numbers.Numbering.{Nth, nth, class-first, cla
 
 module _ (c : List ℕ) (l w b : ℕ) (t : is_first c l ≡ true) where
   from-same : (k : ℕ) → is_first c k ≡ true → eqb (renumbered_label c k) (renumbered_label c l) ≡ eqb k l
-  from-same k e = go (ℕ_discrete k l)
-    where
-      number : (k : ℕ) → is_first c k ≡ true → renumbered_label c k ≡ count (is_first c) 0 k
-      number k e = ap (λ (x : ℕ). count (is_first c) 0 x) (eqb-true (class_of c k) k e)
-
-      go : Dec (k ≡ l) → eqb (renumbered_label c k) (renumbered_label c l) ≡ eqb k l
-      go (yes q) = eq-eqb (renumbered_label c k) (renumbered_label c l) (ap (renumbered_label c) q) ∙ sym (eq-eqb k l q)
-      go (no q) = ne_eqb (renumbered_label c k) (renumbered_label c l)
-          (λ z. q (count-apart (is_first c) k l e t (sym (number k e) ∙ z ∙ number l t)))
-          ∙ sym (ne_eqb k l q)
+  from-same k e = grind (arith, common_steps, eq-eqb, ne_eqb, eqb-true, count-apart)
 
   -- the rows that match, renumbered
   pub rows-led : (rs : List Row)
       → filter (is_candidate (renumbered_label c l) w b) (map (renumbered_row c) (filter (λ r. is_first c r.from) rs)) ≡ map
       (renumbered_row c) (filter (is_candidate l w b) rs)
-  rows-led [] =
-      ap (λ (rs : List Row). filter (is_candidate (renumbered_label c l) w b) (map (renumbered_row c) rs))
-      (filter_none (λ r. is_first c r.from))
-      ∙ filter_none (is_candidate (renumbered_label c l) w b) ∙ sym (ap (map (renumbered_row c)) (filter_none (is_candidate l w b)))
-  rows-led (r ∷ rs) = go (is_first c r.from) refl (is_candidate l w b r) refl (rows-led rs)
-    where
-      test : Row → Bool
-      test s = is_first c s.from
-
-      all : is_first c r.from ≡ true
-          → filter (is_candidate (renumbered_label c l) w b) (map (renumbered_row c) (filter test (r ∷ rs)))
-          ≡ filter (is_candidate (renumbered_label c l) w b) (renumbered_row c r ∷ map (renumbered_row c) (filter test rs))
-      all e = ap (λ (ss : List Row). filter (is_candidate (renumbered_label c l) w b) (map (renumbered_row c) ss)) (filter-yes test r rs e)
-
-      alike : is_first c r.from ≡ true → is_candidate (renumbered_label c l) w b (renumbered_row c r) ≡ is_candidate l w b r
-      alike e = ap (λ (x : Bool). x && is_match w b r) (from-same r.from e)
-
-      other : is_first c r.from ≡ false → is_candidate l w b r ≡ false
-      other e = ap (λ (x : Bool). x && is_match w b r) (ne_eqb r.from l (λ q. no_both (is_first c l) t (ap (is_first c) (sym q) ∙ e)))
-
-      go : (x : Bool) → is_first c r.from ≡ x → (y : Bool) → is_candidate l w b r ≡ y
-          → filter (is_candidate (renumbered_label c l) w b) (map (renumbered_row c) (filter test rs)) ≡ map
-          (renumbered_row c) (filter (is_candidate l w b) rs)
-          → filter (is_candidate (renumbered_label c l) w b) (map (renumbered_row c) (filter test (r ∷ rs))) ≡ map
-          (renumbered_row c) (filter (is_candidate l w b) (r ∷ rs))
-      go true e true f ih =
-          all e ∙ filter-yes (is_candidate (renumbered_label c l) w b) (renumbered_row c r) (map (renumbered_row c) (filter test rs))
-          (alike e ∙ f)
-          ∙ ap (λ (ss : List Row). renumbered_row c r ∷ ss) ih ∙ sym (ap (map (renumbered_row c)) (filter-yes (is_candidate l w b) r rs f))
-      go true e false f ih =
-          all e ∙ filter-no (is_candidate (renumbered_label c l) w b) (renumbered_row c r) (map (renumbered_row c) (filter test rs))
-          (alike e ∙ f)
-          ∙ ih ∙ sym (ap (map (renumbered_row c)) (filter-no (is_candidate l w b) r rs f))
-      go false e y f ih =
-          ap (λ (ss : List Row). filter (is_candidate (renumbered_label c l) w b) (map (renumbered_row c) ss)) (filter-no test r rs e)
-          ∙ ih ∙ sym (ap (map (renumbered_row c)) (filter-no (is_candidate l w b) r rs (other e)))
+  rows-led [] = grind (arith, common_steps, filter_none)
+  rows-led (r ∷ rs) = grind (arith, common_steps, rows-led rs, filter-no, no_both, filter-yes, ne_eqb, from-same)
 
 module _ (i : Image) (S : SoundImage i) (c : List ℕ) (R : ClassRound i c) where
   abbrev n : ℕ

@@ -1,21 +1,12 @@
 -- Cases of the functions that number the groups and count what is kept.
-use Rattle.std.proofs.Common.{if◌then◌else◌}
-use Prim.Native.Nat.{ℕ, ◌+◌, ◌≤◌, ◌<◌}
-use mathlib.Core.Path.{◌≡◌, refl, sym, ◌∙◌, ap, ap₂}
-use mathlib.Core.Bool.{Bool, true, false}
-use mathlib.Core.List.{List}
-use mathlib.Core.Logic.{◌⊎◌, inl, inr}
-use native.Mathlib.Decide.{ℕ_discrete}
-use native.Mathlib.Nat.{zero-add}
-use native.Mathlib.Numerals.{add-one}
-use native.Mathlib.Omega.{arith}
-use lib.ListN.{length, get_or, set, length-set}
-use lib.Seq.{get_or-set_same, get_or-set_other}
-use borrow.Author.Tests.{eqb-true, eqb-false, eq-eqb, ne_eqb}
+use Rattle.std.proofs.Common.{if◌then◌else◌, ℕ, ◌+◌, ◌≤◌, ◌<◌, ◌≡◌, refl, sym, ◌∙◌, ap, ap₂, Bool, true, false, List, zero-add, add-one}
+use Rattle.std.proofs.Common.{arith, length, get_or, set, length-set, get_or-set_same, get_or-set_other, eq-eqb, ne_eqb}
+use Rattle.std.proofs.Math.Decide.{ℕ_discrete}
+use Rattle.std.proofs.lemmas.Grind.{common_steps}
 use Rattle.words.specs.lists.Numbers.{count}
-use Rattle.words.proofs.lists.Tests.{if-true, if-false, split}
+use Rattle.words.proofs.lists.Tests.{if-true, if-false}
 use Rattle.words.proofs.lists.Counts.{count-snoc, count-le}
-use Rattle.grouping.specs.Classes.{class_of, is_first}
+use Rattle.grouping.specs.Classes.{is_first}
 use Rattle.minimising.specs.group_numbers.Smaller.{renumbered_label}
 use Rattle.minimising.specs.group_numbers.inner.NumberContracts.{LowestOfClass, GroupNumbers}
 
@@ -34,11 +25,7 @@ module _ (c : List ℕ) (l : ℕ) where
   number-old x y e = sym (if-false (is_first c l) x y (ne_eqb (get_or c l 0) l e))
 
 less-of : (a b : ℕ) → a ≤ b → (a ≡ b → ⊥) → a < b
-less-of a b k ne = go (split a b)
-  where
-    go : (a < b) ⊎ (b ≤ a) → a < b
-    go (inl x) = x
-    go (inr x) = absurd (ne (omega arith))
+less-of a b k ne = grind (arith, common_steps)
 
 -- ---- number_groups: the labels below l have their numbers
 pub record NumberTurn (c numbers : List ℕ) (n groups l : ℕ) : Type 0 where
@@ -49,13 +36,7 @@ pub record NumberTurn (c numbers : List ℕ) (n groups l : ℕ) : Type 0 where
   pub at : (k : ℕ) → k < l → get_or numbers k 0 ≡ renumbered_label c k
 
 pub turn-start : (c numbers : List ℕ) (n : ℕ) → length numbers ≡ 256 → NumberTurn c numbers n 0 0
-turn-start c numbers n e = record {
-  high = omega arith;
-  room = e;
-  is = sym (let z : count (is_first c) 0 0 ≡ 0 = omega (arith, count-le (is_first c) 0 0) in z);
-  few = omega arith;
-  at = λ k h. absurd (omega arith);
-}
+turn-start c numbers n e = grind (arith, common_steps, count-le)
 
 module _ (c numbers : List ℕ) (n groups l : ℕ) (low : LowestOfClass c n)
     (t : NumberTurn c numbers n groups l) (h : l < n) (small : n ≤ 256) where
@@ -63,13 +44,8 @@ module _ (c numbers : List ℕ) (n groups l : ℕ) (low : LowestOfClass c n)
   number = if is_first c l then groups else get_or numbers (get_or c l 0) 0
 
   number_is : (b : Bool) → is_first c l ≡ b → number ≡ renumbered_label c l
-  number_is true e =
-      if-true (is_first c l) groups (get_or numbers (get_or c l 0) 0) e ∙ t.is
-      ∙ ap (λ (x : ℕ). count (is_first c) 0 x) (sym (eqb-true (class_of c l) l e))
-  number_is false e =
-      if-false (is_first c l) groups (get_or numbers (get_or c l 0) 0) e
-      ∙ t.at (get_or c l 0) (less-of (get_or c l 0) l (low.below l h) (eqb-false (get_or c l 0) l e))
-      ∙ ap (λ (x : ℕ). count (is_first c) 0 x) (low.own l h)
+  number_is true e = grind (arith, common_steps)
+  number_is false e = grind (arith, common_steps)
 
   pub turn_on : (v x : ℕ) → v ≡ number → (x ≡ (if is_first c l then 1 else 0)) × (x ≤ 1)
       → NumberTurn c (set numbers l v) n (groups + x) (l + 1)
@@ -89,10 +65,4 @@ module _ (c numbers : List ℕ) (n groups l : ℕ) (low : LowestOfClass c n)
       go k j (no q) = get_or-set_other numbers l k v 0 q ∙ t.at k (less-of k l (omega arith) q)
 
 pub turn-all : (c numbers : List ℕ) (n groups l : ℕ) → NumberTurn c numbers n groups l → n ≤ l → GroupNumbers c numbers n groups
-turn-all c numbers n groups l t h =
-    let e : l ≡ n = omega (arith, t.high) in
-    record {
-      is = t.is ∙ ap (count (is_first c) 0) e;
-      few = omega (arith, t.few);
-      at = λ k j. t.at k (omega arith);
-    }
+turn-all c numbers n groups l t h = grind (arith, common_steps)

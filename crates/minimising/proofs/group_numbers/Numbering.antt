@@ -1,15 +1,8 @@
 -- The numbers of the groups, and that the image with one label a group is sound.
-use Rattle.std.proofs.Common.{if◌then◌else◌}
-use Prim.Native.Nat.{ℕ, zero, suc, ◌+◌, ◌-◌, ◌≤◌, ◌<◌}
-use mathlib.Core.Bool.{Bool, true, false}
-use mathlib.Core.Path.{◌≡◌, refl, sym, ◌∙◌, ap, subst}
-use mathlib.Core.Logic.{◌⊎◌, inl, inr}
-use mathlib.Core.List.{List, [], ◌∷◌, map}
-use native.Mathlib.Nat.{zero-add}
-use native.Mathlib.Omega.{arith}
-use lib.Dec.{eqb}
-use lib.ListN.{length, get_or, length-map}
-use borrow.Author.Tests.{eqb-true, eq-eqb}
+use Rattle.std.proofs.Common.{if◌then◌else◌, ℕ, zero, suc, ◌+◌, ◌-◌, ◌≤◌, ◌<◌, Bool, true, false, ◌≡◌, refl, sym, ◌∙◌, ap, subst, ◌⊎◌, inl}
+use Rattle.std.proofs.Common.{inr, List, [], ◌∷◌, map, zero-add, arith, length, get_or, eqb-true, eq-eqb}
+use Rattle.std.proofs.Math.ListN.{length-map}
+use Rattle.std.proofs.lemmas.Grind.{common_steps}
 use Rattle.words.specs.lists.Numbers.{range, count}
 use Rattle.words.specs.lists.Sequences.{filter, All}
 use Rattle.words.proofs.lists.Tests.{split, if-true}
@@ -18,7 +11,7 @@ use Rattle.words.proofs.lists.Ranges.{length-filter, get_or-filter, get_d_map, f
 use Rattle.words.proofs.lists.Filters.{filter_none}
 use Rattle.words.proofs.lists.Joins.{all-at, all-places, all_map, all_of, all_filter}
 use Rattle.image.specs.Image.{Image, Label, Row, no_row, nth_row}
-use Rattle.image.specs.inner.Sound.{no_label, nth_label, end_of, Reaches, SoundLabel, SoundRow, SoundImage}
+use Rattle.image.specs.inner.Sound.{nth_label, end_of, Reaches, SoundLabel, SoundRow, SoundImage}
 use Rattle.image.proofs.Rising.{Rising, rising-at}
 use Rattle.state.specs.State.{label_at}
 use Rattle.grouping.specs.Classes.{class_of, is_first}
@@ -55,12 +48,8 @@ rising-of m [] h each = tt
 rising-of m (r ∷ rs) h each = (h (omega arith), rising-of r.from rs (λ l. each 0 (omega arith)) (λ k l. each (suc k) (omega arith)))
 
 pub length-filtered : {A : Type 0} (p : A → Bool) (xs : List A) → length (filter p xs) ≤ length xs
-length-filtered p [] = omega (arith, ap (λ ys. length ys) (filter_none p))
-length-filtered p (x ∷ xs) = go (p x) refl (length-filtered p xs)
-  where
-    go : (t : Bool) → p x ≡ t → length (filter p xs) ≤ length xs → length (filter p (x ∷ xs)) ≤ suc (length xs)
-    go true e ih = omega (arith, ap (λ ys. length ys) (filter-yes p x xs e))
-    go false e ih = omega (arith, ap (λ ys. length ys) (filter-no p x xs e))
+length-filtered p [] = grind (arith, common_steps, filter_none)
+length-filtered p (x ∷ xs) = grind (arith, common_steps, length-filtered p xs, filter-no, filter-yes)
 
 module _ (i : Image) (S : SoundImage i) (c : List ℕ) (R : ClassRound i c) where
   abbrev n : ℕ
@@ -83,11 +72,7 @@ module _ (i : Image) (S : SoundImage i) (c : List ℕ) (R : ClassRound i c) wher
   class_low l h low = low_same i S (class_of c l) l (class-inside l h) h (class-label l h) low
 
   pub class-high : (l : ℕ) → l < n → 2 ≤ l → 2 ≤ class_of c l
-  class-high l h k = go (split (class_of c l) 2)
-    where
-      go : (class_of c l < 2) ⊎ (2 ≤ class_of c l) → 2 ≤ class_of c l
-      go (inl x) = absurd (omega (arith, class_low l h x))
-      go (inr x) = x
+  class-high l h k = grind (arith, common_steps, split, class_low)
 
   class-zero : class_of c 0 ≡ 0
   class-zero = omega (arith, R.below 0 (omega (arith, S.two)))
@@ -99,9 +84,7 @@ module _ (i : Image) (S : SoundImage i) (c : List ℕ) (R : ClassRound i c) wher
   count-zero = omega (arith, count-le (is_first c) 0 0)
 
   next-first : (k : ℕ) → class_of c k ≡ k → count (is_first c) 0 (suc k) ≡ suc (count (is_first c) 0 k)
-  next-first k e = count-snoc (is_first c) 0 k
-      ∙ ap (λ (x : ℕ). count (is_first c) 0 k + x) (ap (λ (x : ℕ). if is_first c x then 1 else 0) (zero-add k)
-      ∙ if-true (is_first c k) 1 0 (eq-eqb (class_of c k) k e)) ∙ omega arith
+  next-first k e = grind (arith, common_steps, eq-eqb, if-true, zero-add, count-snoc)
 
   pub new-zero : new 0 ≡ 0
   new-zero = ap (λ (x : ℕ). count (is_first c) 0 x) class-zero ∙ count-zero
@@ -138,10 +121,7 @@ module _ (i : Image) (S : SoundImage i) (c : List ℕ) (R : ClassRound i c) wher
 
   pub label-new : (l : ℕ) → l < n → label_at (joined_labels i c) (new l) ≡ label_at i l
   unfolding joined_labels
-  label-new l h =
-      get_or-filter (label_at i) no_label (is_first c) 0 n (class_of c l) (class-inside l h)
-      (ap (is_first c) (zero-add (class_of c l)) ∙ class-first l h)
-      ∙ ap (label_at i) (zero-add (class_of c l)) ∙ class-label l h
+  label-new l h = grind (arith, common_steps, zero-add, get_or-filter, class-inside, class-first, class-label)
 
   pub entry_new : (h : ℕ) → h < length i.entries → get_or (joined_labels i c).entries h 0 ≡ new (get_or i.entries h 0)
   unfolding joined_labels
@@ -149,34 +129,13 @@ module _ (i : Image) (S : SoundImage i) (c : List ℕ) (R : ClassRound i c) wher
 
   -- ---- it is sound
   end-new : (h : ℕ) → new (end_of h) ≡ end_of h
-  end-new h = go (eqb h 1)
-    where
-      go : (t : Bool) → new (if t then 0 else 1) ≡ (if t then 0 else 1)
-      go true = new-zero
-      go false = new-one
+  end-new h = grind (arith, common_steps, new-zero, new-one)
 
   pub reaches-new : (h l : ℕ) → Reaches i h l → Reaches (joined_labels i c) h (new l)
-  reaches-new h l r = record { inside = new-inside l r.inside; belongs = go r.belongs }
-    where
-      go : ((nth_label i l).owner ≡ h) ⊎ (l ≡ end_of h) → ((nth_label (joined_labels i c) (new l)).owner ≡ h) ⊎ (new l ≡ end_of h)
-      go (inl e) = inl (ap (λ (x : Label). x.owner) (label-new l r.inside) ∙ e)
-      go (inr e) = inr (ap new e ∙ end-new h)
+  reaches-new h l r = grind (arith, common_steps, new-inside, label-new, end-new)
 
   row-sound : (r : Row) → SoundRow i r × (is_first c r.from ≡ true) → SoundRow (joined_labels i c) (renumbered_row c r)
-  row-sound r x =
-      let s : SoundRow i r = x.0 in
-      let e : label_at (joined_labels i c) (new r.from) ≡ label_at i r.from = label-new r.from s.high in
-      record {
-        low = new-high r.from s.high s.low;
-        high = new-inside r.from s.high;
-        cares = s.cares;
-        small = s.small;
-        within = s.within;
-        bits = s.bits;
-        function = λ b. ap (λ (y : Label). y.kind) e ∙ s.function b;
-        leading = subst (λ (h : ℕ). Reaches (joined_labels i c) h (new r.next)) (sym (ap (λ (y : Label). y.owner) e))
-            (reaches-new (label_at i r.from).owner r.next s.leading);
-      }
+  row-sound r x = grind (arith, common_steps, new-high, new-inside, label-new, reaches-new)
 
   rows-sound : All (SoundRow (joined_labels i c)) (map (renumbered_row c) (filter (λ r. is_first c r.from) i.rows))
   rows-sound =
@@ -213,16 +172,11 @@ module _ (i : Image) (S : SoundImage i) (c : List ℕ) (R : ClassRound i c) wher
 
   pub rows-fewer : length (joined_labels i c).rows ≤ length i.rows
   unfolding joined_labels
-  rows-fewer = omega (
-    arith,
-    length-map (filter (λ r. is_first c r.from) i.rows) (renumbered_row c),
-    length-filtered (λ (r : Row). is_first c r.from) i.rows,
-  )
+  rows-fewer = grind (arith, common_steps, length-map, length-filtered)
 
   each-sound : (k : ℕ) → k < length (joined_labels i c).rows → SoundRow (joined_labels i c) (nth_row (joined_labels i c) k)
   unfolding joined_labels
-  each-sound k h = all-at (SoundRow (joined_labels i c)) no_row
-      (map (renumbered_row c) (filter (λ r. is_first c r.from) i.rows)) rows-sound k h
+  each-sound k h = grind (arith, common_steps, all-at, rows-sound)
 
   -- a member with at least two groups below it is from 2 up
   member-high : (m : ℕ) → 2 ≤ count (is_first c) 0 m → 2 ≤ m

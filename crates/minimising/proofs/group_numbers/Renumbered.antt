@@ -1,8 +1,6 @@
 -- The laws of renumbering, of any image and any classes.
-use mathlib.Core.Path.{ap}
-use Prim.Native.Nat.{ℕ}
+use Rattle.std.proofs.Common.{ap, ℕ, eqb-true}
 use Rattle.words.proofs.lists.Ranges.{get_d_map}
-use borrow.Author.Tests.{eqb-true}
 use Rattle.words.specs.lists.Numbers.{count}
 use Rattle.grouping.specs.Classes.{class_of, is_first}
 use Rattle.minimising.specs.group_numbers.Smaller.{renumbered_label, joined_labels}

@@ -1,23 +1,18 @@
 -- Cases of the functions that write the pieces.
-use Rattle.std.proofs.Common.{if◌then◌else◌}
-use Prim.Native.Nat.{ℕ, suc, ◌+◌, ◌-◌, ◌≤◌, ◌<◌}
-use mathlib.Core.Path.{◌≡◌, refl, sym, ◌∙◌, ap, ap₂, subst}
-use mathlib.Core.List.{List, []}
-use native.Mathlib.Omega.{arith}
-use lib.ListN.{length, get_or}
-use borrow.Author.Tests.{eq-eqb, ne_eqb}
+use Rattle.std.proofs.Common.{if◌then◌else◌, ℕ, suc, ◌+◌, ◌-◌, ◌≤◌, ◌<◌, ◌≡◌, refl, sym, ◌∙◌, ap, subst, List, [], arith, length, get_or}
+use Rattle.std.proofs.Common.{eq-eqb, ne_eqb}
+use Rattle.std.proofs.lemmas.Grind.{common_steps}
 use Rattle.words.specs.lists.Sequences.{written}
 use Rattle.words.proofs.lists.Tests.{if-true, if-false}
 use Rattle.text.specs.frames.Frame.{size, field, pair_at, frame_text}
 use Rattle.text.proofs.frames.FrameLoops.{length-frame}
 use Rattle.image.specs.Image.{Row, entry_frame, label_frame, row_frame}
-use Rattle.image.specs.Decode as decode
 use Rattle.image.specs.Decode.{scheme_count, last_label, row_count, handler_in, labels_from, rows_from, label_in, decoded_image}
 use Rattle.image.specs.Decode.{row_in_frame}
 use Rattle.image.specs.Check.{label_position, position_of}
 use Rattle.image.specs.inner.Sound.{SoundRow}
-use Rattle.image.proofs.Accepted.{entries-count, labels-count, rows-count, entry_read, row_read}
-use Rattle.image.proofs.Accepted.{position-of-entry, position-of-label, position-of-row}
+use Rattle.image.proofs.Accepted.{entries-count, labels-count, rows-count, entry_read, row_read, position-of-entry, position-of-label}
+use Rattle.image.proofs.Accepted.{position-of-row}
 use Rattle.translator.specs.label_text.inner.LabelBytes.{header_bytes, up_to, Put}
 use Rattle.translator.proofs.label_text.Puts.{Appended, appended-start, appended-room, appended-on, appended-done}
 use Rattle.grouping.specs.Classes.{is_first}
@@ -25,6 +20,7 @@ use Rattle.minimising.specs.group_numbers.Smaller.{renumbered_label, renumbered_
 use Rattle.minimising.specs.group_frames.inner.GroupFrames.{header_piece, row_numbered_by}
 use Rattle.minimising.specs.group_pieces.inner.Pieces.{groups_in, rows_kept, piece_at, piece, all_pieces}
 use Rattle.minimising.specs.group_pieces.inner.TextContracts.{NumberedGroups}
+use Rattle.image.specs.Decode as decode
 
 -- ---- a piece that is one frame
 module _ (t frame : List ℕ) (out : List ℕ) (at : ℕ) where
@@ -33,10 +29,7 @@ module _ (t frame : List ℕ) (out : List ℕ) (at : ℕ) where
 
   pub frame-put : t ≡ frame_text frame → length frame ≡ 10 → (out' : List ℕ)
       → out' ≡ written out at (frame_text frame) → Put out at t (at + 23) out'
-  frame-put e h out' q = record {
-    ends = omega (arith, ap (λ (xs : List ℕ). length xs) e, length-frame frame h);
-    holds = q ∙ ap (written out at) (sym e);
-  }
+  frame-put e h out' q = grind (arith, common_steps, length-frame)
 
 module _ (b c numbers : List ℕ) (N : NumberedGroups b c numbers) (f : ℕ) where
   pub table-all : size b ≡ rows_from b + row_count b
@@ -60,13 +53,10 @@ module _ (b c numbers : List ℕ) (N : NumberedGroups b c numbers) (f : ℕ) whe
     at_label = ap (position_of b) (let z : f ≡ labels_from b + l = omega arith in z) ∙ position-of-label b l label-low
 
     pub label-skip : (get_or c l 0 ≡ l → ⊥) → piece b c f ≡ []
-    label-skip n = ap (piece_at b c) at_label
-        ∙ if-false (is_first c l) (frame_text (label_frame (renumbered_label c l) (label_in b l))) [] (ne_eqb (get_or c l 0) l n)
+    label-skip n = grind (arith, common_steps, if-false, ne_eqb, at_label)
 
     pub label_kept : get_or c l 0 ≡ l → piece b c f ≡ frame_text (label_frame (get_or numbers l 0) (label_in b (f - labels_from b)))
-    label_kept q = ap (piece_at b c) at_label
-        ∙ if-true (is_first c l) (frame_text (label_frame (renumbered_label c l) (label_in b l))) [] (eq-eqb (get_or c l 0) l q)
-        ∙ ap₂ (λ (k m : ℕ). frame_text (label_frame k (label_in b m))) (sym (N.at l label-low)) (ap (λ (k : ℕ). f - k) e)
+    label_kept q = grind (arith, common_steps, eq-eqb, if-true, label-low, at_label)
 
   -- ---- put_kept_row
   module _ (low : rows_from b ≤ f) (high : f < size b) (x : ℕ) (e : x ≡ field b f 1) where
@@ -102,9 +92,7 @@ module _ (b c numbers : List ℕ) (N : NumberedGroups b c numbers) (f : ℕ) whe
         at_row ∙ if-false (is_first c x) (frame_text (row_frame (renumbered_row c (row_in_frame b f)))) [] (ne_eqb (get_or c x 0) x n)
 
     pub row_kept : get_or c x 0 ≡ x → piece b c f ≡ frame_text (row_frame (row_numbered_by numbers (row_in_frame b f)))
-    row_kept q =
-        at_row ∙ if-true (is_first c x) (frame_text (row_frame (renumbered_row c (row_in_frame b f)))) [] (eq-eqb (get_or c x 0) x q)
-        ∙ ap (λ (r : Row). frame_text (row_frame r)) (sym led-is)
+    row_kept q = grind (arith, common_steps, eq-eqb, if-true, led-is, at_row)
 
   -- ---- put_piece
   module _ (low : 1 ≤ f) (m : ℕ) (e : m ≡ labels_from b) (high : f < m) where
@@ -119,9 +107,7 @@ module _ (b c numbers : List ℕ) (N : NumberedGroups b c numbers) (f : ℕ) whe
         omega (arith, x, labels-count b, entry_read b (f - 1) g ∙ ap (λ (h : ℕ). field b h 2) z)
 
     pub entry_kept : (y : ℕ) → y ≡ field b f 2 → piece b c f ≡ frame_text (entry_frame f (get_or numbers y 0))
-    entry_kept y q =
-        ap (piece_at b c) (position-of-entry b f low (omega arith))
-        ∙ ap (λ (k : ℕ). frame_text (entry_frame f k)) (sym (ap (λ (k : ℕ). get_or numbers k 0) q ∙ N.at (field b f 2) entry-inside))
+    entry_kept y q = grind (arith, common_steps, position-of-entry, entry-inside)
 
 -- ---- put_pieces
 module _ (b c numbers : List ℕ) (N : NumberedGroups b c numbers) (s g r h : ℕ) (e₁ : s ≡ scheme_count b)
@@ -129,8 +115,7 @@ module _ (b c numbers : List ℕ) (N : NumberedGroups b c numbers) (s g r h : �
     (e₄ : h ≡ handler_in b) where
   header-kept : piece b c 0 ≡ header_piece s g r h
   unfolding position_of
-  header-kept =
-      sym (ap₂ (λ (x y : ℕ). header_piece x g r y) e₁ e₄ ∙ ap₂ (λ (x y : ℕ). header_piece (scheme_count b) x y (handler_in b)) e₂ e₃)
+  header-kept = grind (arith, common_steps)
 
   module _ (out : List ℕ) (room : length (all_pieces b c) ≤ length out) where
     some : 0 < size b

@@ -1,13 +1,8 @@
 -- The pieces of all frames, joined, are the text of the smaller image.
-use Rattle.std.proofs.Common.{if◌then◌else◌, cond}
-use Prim.Native.Nat.{ℕ, zero, suc, ◌+◌, ◌≤◌, ◌<◌}
-use mathlib.Core.Path.{◌≡◌, refl, sym, ◌∙◌, ap, ap₂}
-use mathlib.Core.Bool.{Bool, true, false}
-use mathlib.Core.List.{List, [], ◌++◌, map, append-nil}
-use native.Mathlib.Nat.{zero-add}
-use native.Mathlib.Omega.{arith}
-use lib.ListN.{length, length-map}
-use borrow.Author.Tests.{eqb-true}
+use Rattle.std.proofs.Common.{if◌then◌else◌, ℕ, zero, suc, ◌+◌, ◌≤◌, ◌<◌, ◌≡◌, refl, sym, ◌∙◌, ap, ap₂, Bool, true, false, List, [], ◌++◌}
+use Rattle.std.proofs.Common.{map, append-nil, zero-add, arith, length, eqb-true}
+use Rattle.std.proofs.Math.ListN.{length-map}
+use Rattle.std.proofs.lemmas.Grind.{common_steps}
 use Rattle.words.specs.lists.Numbers.{range, count}
 use Rattle.words.specs.lists.Sequences.{filter, concat_map, map_from}
 use Rattle.words.proofs.lists.Tests.{if-true, if-false}
@@ -21,11 +16,11 @@ use Rattle.image.specs.Decode.{scheme_count, last_label, row_count, handler_in, 
 use Rattle.image.specs.Decode.{decoded_image}
 use Rattle.image.specs.Check.{label_position, position_of}
 use Rattle.image.proofs.Accepted.{entries-count, labels-count, label-read, position-of-entry, position-of-label, position-of-row}
-use Rattle.state.specs.State as machine
 use Rattle.grouping.specs.Classes.{class_of, is_first}
 use Rattle.minimising.specs.group_numbers.Smaller.{renumbered_label, renumbered_row, joined_labels}
 use Rattle.minimising.specs.group_frames.inner.GroupFrames.{header_piece}
 use Rattle.minimising.specs.group_pieces.inner.Pieces.{groups_in, rows_kept, piece_at, piece}
+use Rattle.state.specs.State as machine
 
 -- ---- joined lists over ranges
 concat-one : (f : ℕ → List ℕ) (a : ℕ) → concat_map f (range a 1) ≡ f a
@@ -35,11 +30,8 @@ concat-one f a = append-nil (f a)
 concat-moved : {B : Type 0} (f g : ℕ → List B) (s a m : ℕ) → ((k : ℕ) → a ≤ k → k < a + m → f (s + k) ≡ g k)
     → concat_map f (range (s + a) m) ≡ concat_map g (range a m)
 unfolding concat_map
-concat-moved f g s a zero h = refl
-concat-moved f g s a (suc m) h =
-    ap₂ (λ xs ys. xs ++ ys) (h a (omega arith) (omega arith))
-    (ap (λ (x : ℕ). concat_map f (range x m)) (let e : suc (s + a) ≡ s + suc a = omega arith in e)
-    ∙ concat-moved f g s (suc a) m (λ k l u. h k (omega arith) (omega arith)))
+concat-moved f g s a zero h = grind (arith, common_steps)
+concat-moved f g s a (suc m) h = grind (arith, common_steps, concat-moved f g s (suc a) m (λ k l u. h k (omega arith) (omega arith)))
 
 module _ (c : List ℕ) where
   entries-text : (e : ℕ → ℕ) (a m : ℕ)
@@ -90,55 +82,19 @@ module _ (c : List ℕ) where
       → frames_text (map row_frame (map (renumbered_row c) (filter (λ r. is_first c r.from) (map x (range a m))))) ≡ concat_map
       (λ k. row_piece (x k)) (range a m)
   unfolding concat_map
-  rows-text x a zero =
-      ap (λ (rs : List Row). frames_text (map row_frame (map (renumbered_row c) rs))) (filter_none (λ r. is_first c r.from))
-  rows-text x a (suc m) = go (is_first c (x a).from) refl (rows-text x (suc a) m)
-    where
-      test : Row → Bool
-      test r = is_first c r.from
-
-      go : (t : Bool) → is_first c (x a).from ≡ t
-          → frames_text (map row_frame (map (renumbered_row c) (filter test (map x (range (suc a) m))))) ≡ concat_map
-          (λ k. row_piece (x k)) (range (suc a) m)
-          → frames_text (map row_frame (map (renumbered_row c) (filter test (map x (range a (suc m)))))) ≡ row_piece
-          (x a) ++ concat_map (λ k. row_piece (x k))
-          (range (suc a) m)
-      go true q ih =
-          ap (λ (rs : List Row). frames_text (map row_frame (map (renumbered_row c) rs)))
-          (filter-yes test (x a) (map x (range (suc a) m)) q)
-          ∙ ap₂ (λ (xs ys : List ℕ). xs ++ ys)
-          (sym (if-true (is_first c (x a).from) (frame_text (row_frame (renumbered_row c (x a)))) [] q)) ih
-      go false q ih =
-          ap (λ (rs : List Row). frames_text (map row_frame (map (renumbered_row c) rs))) (filter-no test (x a) (map x (range (suc a) m)) q)
-          ∙ ih ∙ ap (λ (xs : List ℕ). xs ++ concat_map (λ k. row_piece (x k)) (range (suc a) m))
-          (sym (if-false (is_first c (x a).from) (frame_text
-          (row_frame (renumbered_row c (x a)))) [] q))
+  rows-text x a zero = grind (arith, common_steps, filter_none)
+  rows-text x a (suc m) = grind (arith, common_steps, rows-text x (suc a) m, if-false, filter-no, if-true, filter-yes)
 
   rows-number : (x : ℕ → Row) (a m : ℕ)
       → length (filter (λ r. is_first c r.from) (map x (range a m))) ≡ count (λ k. is_first c (x k).from) a m
   unfolding count
-  rows-number x a zero = ap (λ (rs : List Row). length rs) (filter_none (λ r. is_first c r.from))
-  rows-number x a (suc m) = go (is_first c (x a).from) refl (rows-number x (suc a) m)
-    where
-      test : Row → Bool
-      test r = is_first c r.from
-
-      go : (t : Bool) → is_first c (x a).from ≡ t
-          → length (filter test (map x (range (suc a) m))) ≡ count (λ k. is_first c (x k).from) (suc a) m
-          → length (filter test (map x (range a (suc m))))
-          ≡ (if is_first c (x a).from then 1 else 0) + count (λ k. is_first c (x k).from) (suc a) m
-      go true q ih = ap (λ (rs : List Row). length rs) (filter-yes test (x a) (map x (range (suc a) m)) q)
-          ∙ omega (arith, ih) ∙ sym (ap (λ (t : Bool). (if t then 1 else 0) + count (λ k. is_first c (x k).from) (suc a) m) q)
-      go false q ih = ap (λ (rs : List Row). length rs) (filter-no test (x a) (map x (range (suc a) m)) q)
-          ∙ omega (arith, ih) ∙ sym (ap (λ (t : Bool). (if t then 1 else 0) + count (λ k. is_first c (x k).from) (suc a) m) q)
+  rows-number x a zero = grind (arith, common_steps, filter_none)
+  rows-number x a (suc m) = grind (arith, common_steps, rows-number x (suc a) m, filter-no, filter-yes)
 
 pub count-moved : (p q : ℕ → Bool) (s a m : ℕ) → ((k : ℕ) → a ≤ k → k < a + m → p (s + k) ≡ q k) → count p (s + a) m ≡ count q a m
 unfolding count
-count-moved p q s a zero h = refl
-count-moved p q s a (suc m) h =
-    ap₂ (λ (x y : ℕ). x + y) (ap (λ (t : Bool). cond {A = ℕ} t 1 0) (h a (omega arith) (omega arith)))
-    (ap (λ (x : ℕ). count p x m) (let e : suc (s + a) ≡ s + suc a = omega arith in e)
-    ∙ count-moved p q s (suc a) m (λ k l u. h k (omega arith) (omega arith)))
+count-moved p q s a zero h = grind (arith, common_steps)
+count-moved p q s a (suc m) h = grind (arith, common_steps, count-moved p q s (suc a) m (λ k l u. h k (omega arith) (omega arith)))
 
 module _ (b c : List ℕ) (all : size b ≡ rows_from b + row_count b) where
   abbrev i : Image
@@ -177,23 +133,15 @@ module _ (b c : List ℕ) (all : size b ≡ rows_from b + row_count b) where
 
   labels-part : frames_text (map_from label_frame 0 (joined_labels i c).labels) ≡ concat_map (piece b c) (range (labels_from b + 0) n)
   unfolding joined_labels
-  labels-part =
-      ap (λ (m : ℕ). frames_text (map_from label_frame 0 (map (machine.label_at i) (filter (is_first c) (range 0 m))))) (labels-count b)
-      ∙ labels-text c (machine.label_at i) 0 n 0 (omega (arith, count-le (is_first c) 0 0))
-      ∙ sym (concat-moved (piece b c) (kept c (machine.label_at i)) (labels_from b) 0 n (λ l a u.
-      ap (piece_at b c) (position-of-label b l (omega arith)) ∙ sym (label-piece l (omega arith))))
+  labels-part = grind (arith, common_steps, labels-count, count-le, position-of-label, concat-moved, labels-text, label-piece)
 
   rows-part : frames_text (map row_frame (joined_labels i c).rows) ≡ concat_map (piece b c) (range (rows_from b + 0) R)
   unfolding joined_labels decoded_image
-  rows-part =
-      rows-text c (row_in b) 0 R
-      ∙ sym (concat-moved (piece b c) (λ k. row_piece c (row_in b k)) (rows_from b) 0 R (λ k a u. ap (piece_at b c) (position-of-row b k)))
+  rows-part = grind (arith, common_steps, position-of-row, concat-moved, rows-text)
 
   pub groups-are : length (joined_labels i c).labels ≡ groups_in b c
   unfolding joined_labels
-  groups-are = length-map (filter (is_first c) (range 0 (length i.labels))) (machine.label_at i)
-      ∙ length-filter (is_first c) 0 (length i.labels)
-      ∙ ap (λ (m : ℕ). count (is_first c) 0 m) (labels-count b)
+  groups-are = grind (arith, common_steps, length-map, length-filter, labels-count)
 
   pub rows_are : length (joined_labels i c).rows ≡ rows_kept b c
   unfolding joined_labels decoded_image

@@ -1,25 +1,21 @@
 -- What a program printed of the front of its input that it read, where what it prints is the same for all inputs with that front.
-use Rattle.std.proofs.Common.{ℕ, ◌≡◌, ◌∙◌, ap, refl, subst, List, length, take, drop, Option, IfSome}
-use lib.Seq.{take-append_seam}
+use Rattle.std.proofs.Common.{ℕ, ◌≡◌, List, length, take, Option, IfSome, arith}
 use Rattle.std.specs.Io.KnownBytes.{Appends}
 use Rattle.std.specs.declared.io.Error.{Error}
+use Rattle.std.proofs.lemmas.Grind.{common_steps}
 use Rattle.console.specs.Input.{IsFrontOf, AppendsFront, LosesFirst, AppendsOver}
-use Rattle.console.proofs.Inputs.{of-whole}
 use Rattle.output.specs.output_lines.Prints.{Prints}
 
 -- what was printed is what is handed on
 pub printed-is : (x : List ℕ) (n : ℕ) (before after : List ℕ) → Prints x n before after → take n after ≡ x
-printed-is x n before after p =
-    ap (λ k. take k after) p.counted ∙ ap (take (length x)) p.written ∙ take-append_seam x (drop (length x) before)
+printed-is x n before after p = grind (arith, common_steps)
 
 module _ (output : List ℕ → List ℕ) (m : ℕ) (front : (xs : List ℕ) → output (take m xs) ≡ output xs) where
   -- whatever holds of what is handed on holds of the output
   handed : (P : List ℕ → Type 0) (input : Option (List ℕ)) (buffer before after : List ℕ) (n count : ℕ) → length buffer ≡ m
       → IsFrontOf input (length buffer) (take n buffer) → Prints (output (take n buffer)) count before after → P (take count after)
       → IfSome input (λ xs. P (output xs))
-  handed P input buffer before after n count full is printed p =
-      of-whole output m front input (take n buffer) _ P (subst (λ k. IsFrontOf input k (take n buffer)) full is)
-      (printed-is _ count before after printed) p
+  handed P input buffer before after n count full is printed p = grind (arith, common_steps)
 
   pub all-printed : (input old new : Option (List ℕ)) (buffer before after : List ℕ) (n count : ℕ) → length buffer ≡ m
       → IsFrontOf input (length buffer) (take n buffer) → Prints (output (take n buffer)) count before after
@@ -46,9 +42,4 @@ module _ (output : List ℕ → List ℕ) (m : ℕ) (front : (xs : List ℕ) →
   pub error-told : (writing : ℕ → Error → Type 0) (e : Error) (input : Option (List ℕ)) (buffer before after : List ℕ) (n count : ℕ)
       → length buffer ≡ m → IsFrontOf input (length buffer) (take n buffer) → Prints (output (take n buffer)) count before after
       → writing (length (take count after)) e → (k : ℕ) × IfSome input (λ xs. k ≡ length (output xs)) × writing k e
-  error-told writing e input buffer before after n count full is printed told = (
-    length (take count after),
-    handed (λ ys. length (take count after) ≡ length ys) input buffer before after n count full is printed
-        refl,
-    told,
-  )
+  error-told writing e input buffer before after n count full is printed told = grind (arith, common_steps)

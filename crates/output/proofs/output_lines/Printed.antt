@@ -1,9 +1,5 @@
 -- Lines in a lent buffer: how long they are, the loop that puts the codes there, and what a caller may hand on.
-use Prim.Native.Nat.{ℕ, ◌+◌, ◌*◌, ◌≤◌, ◌<◌}
-use mathlib.Core.Path.{◌≡◌, refl, ◌∙◌, ap, subst}
-use mathlib.Core.List.{List}
-use native.Mathlib.Omega.{arith}
-use lib.ListN.{length, get_or}
+use Rattle.std.proofs.Common.{ℕ, ◌+◌, ◌*◌, ◌≤◌, ◌<◌, ◌≡◌, refl, ◌∙◌, ap, subst, List, arith, length, get_or}
 use Rattle.words.specs.lists.Sequences.{concat_map, written}
 use Rattle.words.proofs.lists.Joins.{concat-places, length-concat, all-every}
 use Rattle.words.proofs.lists.Fills.{Pieces, pieces-turn, pieces-all}

@@ -1,14 +1,11 @@
 -- The run program: the words it counts up to, and the cases of its answer.
-use Prim.Native.Nat.{ℕ, ◌+◌, ◌*◌, ◌≤◌, ◌<◌}
-use mathlib.Core.Path.{◌≡◌, refl, sym, ◌∙◌, ap, subst}
-use mathlib.Core.List.{List, ◌++◌, append-nil}
-use native.Mathlib.Omega.{arith}
-use lib.ListN.{length, take, set, length-take, length-append, replicate}
+use Rattle.std.proofs.Common.{ℕ, ◌+◌, ◌*◌, ◌≤◌, ◌<◌, ◌≡◌, refl, sym, ◌∙◌, ap, subst, List, ◌++◌, arith, length, take, set, length-take}
+use Rattle.std.proofs.Common.{length-append, replicate, Ok, Err}
+use Rattle.std.proofs.lemmas.Grind.{common_steps}
 use Rattle.words.specs.lists.Sequences.{concat_map, over, written}
 use Rattle.words.proofs.lists.Written.{written-front, written-more}
 use Rattle.words.proofs.lists.Fills.{ValuesFrom, values-none, values-turn, values-all}
 use Rattle.text.specs.frames.Answer.{Answer, reply_count, reply}
-use Rattle.std.proofs.Common.{Ok, Err}
 use Rattle.text.specs.declared.frames.refusals.Refusal.{Refusal}
 use Rattle.text.specs.frames.Refusal.{number_of, index_of, ticks_of}
 use Rattle.state.specs.declared.State.{State}
@@ -56,13 +53,7 @@ module _ (a : Answer) (codes : List ℕ) (n : ℕ) (counts : reply_count (reply 
 
   pub codes-printed : (before after : List ℕ) → a ≡ Ok n → after ≡ written before 0 (concat_map code_line (take n codes))
       → Prints (run_lines (reply a) codes) (n * 3) before after
-  codes-printed before after d w =
-      let x : List ℕ = concat_map code_line (take n codes) in
-      let o : run_lines (reply a) codes ≡ x = ap (λ (b : Answer). run_lines (reply b) codes) d ∙ append-nil x in
-      record {
-        counted = omega (arith, taken-length, ap length o);
-        written = w ∙ written-front before x ∙ ap (λ (y : List ℕ). over y before) (sym o);
-      }
+  codes-printed before after d w = grind (arith, common_steps, written-front, taken-length)
 
   pub stop-printed : (r : Refusal) (k i : ℕ) → k ≡ number_of r → i ≡ index_of r → n ≡ ticks_of r
       → (before middle after : List ℕ) → a ≡ Err r → 215 ≤ length before

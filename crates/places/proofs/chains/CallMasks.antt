@@ -1,22 +1,13 @@
 -- The masks of the calls: one node more, and the rounds over them.
-use Rattle.std.proofs.Common.{if◌then◌else◌}
-use Prim.Native.Nat.{ℕ, zero, suc, ◌+◌, ◌-◌, ◌^◌, ◌≤◌, ◌<◌}
-use mathlib.Core.Bool.{Bool, true, false, ◌&&◌, ◌||◌}
-use mathlib.Core.Path.{◌≡◌, refl, sym, ◌∙◌, ap, ap₂}
-use mathlib.Core.Logic.{⊎_elim}
-use mathlib.Core.List.{List}
-use native.Mathlib.Decide.{ℕ_discrete}
-use native.Mathlib.Numerals.{add-one}
-use native.Mathlib.Omega.{arith}
-use lib.Bits.{bit_or, or_zero_r}
-use lib.Dec.{ltb, eqb}
-use lib.ListN.{length, get_or, set, replicate}
-use borrow.Author.Tests.{eq-eqb, ne_eqb, lt-ltb, le-ltb}
+use Rattle.std.proofs.Common.{if◌then◌else◌, ℕ, zero, suc, ◌+◌, ◌-◌, ◌^◌, ◌≤◌, ◌<◌, Bool, true, false, ◌&&◌, ◌||◌, ◌≡◌, refl, sym, ◌∙◌, ap}
+use Rattle.std.proofs.Common.{ap₂, List, add-one, arith, bit_or, ltb, eqb, length, get_or, set, replicate, eq-eqb, ne_eqb, lt-ltb, le-ltb}
+use lib.Bits.{or_zero_r}
+use Rattle.std.proofs.lemmas.Grind.{common_steps}
 use Rattle.words.specs.lists.Numbers.{any, lowest}
 use Rattle.words.specs.lists.Sequences.{some}
-use Rattle.words.proofs.lists.Tests.{cases, and-true, and_no, or_true_r, if-true, if-false}
-use Rattle.words.proofs.lists.Searches.{any_snoc, lowest-alike, lowest-none, lowest-most, Searching}
-use Rattle.words.proofs.lists.Searches.{searching-first, searching-found, searching-next, searching-over}
+use Rattle.words.proofs.lists.Tests.{and-true, and_no, or_true_r, if-true, if-false}
+use Rattle.words.proofs.lists.Searches.{any_snoc, lowest-alike, lowest-none, lowest-most, Searching, searching-first, searching-found}
+use Rattle.words.proofs.lists.Searches.{searching-next, searching-over}
 use Rattle.words.proofs.lists.Tabulated.{length-tabulate, get_d_tabulate, tabulate-alike, tabulate-set, tabulate-none}
 use Rattle.words.specs.bits.Word.{bit}
 use Rattle.words.specs.graph.Reach.{is_marked}
@@ -24,9 +15,8 @@ use Rattle.text.specs.frames.Frame.{size}
 use Rattle.charts.specs.Chart.{Chart, kind, scheme, argument}
 use Rattle.walk.proofs.Facts.{Facts}
 use Rattle.places.specs.chains.Calls.{has_call, is_call_of, is_caller, is_circular, ends_of, has_no_end, places}
-use Rattle.places.specs.chains.Chains.{Calls}
 use Rattle.places.specs.chains.inner.Masks.{called_at, mask_of, call_masks, called_by, ends_by, longest_by, longest_chain}
-use Rattle.places.proofs.chains.CallLaws.{holds-function, holds-operation, called-range}
+use Rattle.places.proofs.chains.CallLaws.{holds-function}
 use Rattle.places.proofs.chains.Longest.{ends-suc}
 use Rattle.places.proofs.chains.Circles.{circle-told, circle-long, no-circle-short}
 use Rattle.places.proofs.chains.Masks.{mask-bit, mask-alike, mask-or, mask-more, mask-empty}
@@ -51,44 +41,20 @@ if-zero false x e = e
 -- ---- the call of a node, by its kind
 module _ (c : Chart) (v k r : ℕ) (ek : k ≡ kind c v) where
   pub at-operation : k ≡ 2 → r ≡ argument c v → r ≡ called_at c v
-  at-operation e q = q ∙ go (ℕ_discrete (argument c v) 0)
-    where
-      two : kind c v ≡ 2
-      two = sym ek ∙ e
-
-      go : Dec (argument c v ≡ 0) → argument c v ≡ called_at c v
-      go (yes z) = if-zero (has_call c v) (argument c v) z
-      go (no z) = sym (ap (λ (b : Bool). if b then argument c v else 0) (holds-operation c v two z))
+  at-operation e q = grind (arith, common_steps)
 
   pub at-function : k ≡ 4 → r ≡ argument c v → r ≡ called_at c v
   at-function e q = q ∙ sym (ap (λ (b : Bool). if b then argument c v else 0) (holds-function c v (sym ek ∙ e)))
 
 module _ (c : Chart) (v r : ℕ) (e : r ≡ called_at c v) where
   pub call-some : (r ≡ 0 → ⊥) → (has_call c v ≡ true) × (r ≡ argument c v)
-  call-some n = go (has_call c v) refl
-    where
-      go : (b : Bool) → has_call c v ≡ b → (has_call c v ≡ true) × (r ≡ argument c v)
-      go true q = (q, e ∙ ap (λ (b : Bool). if b then argument c v else 0) q)
-      go false q = absurd (n (e ∙ ap (λ (b : Bool). if b then argument c v else 0) q))
+  call-some n = grind (arith, common_steps)
 
   pub call_none : Facts c → v < size c → r ≡ 0 → has_call c v ≡ false
-  call_none f l z = ⊎_elim
-      (λ (q : has_call c v ≡ true).
-      let k : Calls c (scheme c v) (argument c v) = record { node = v; inside = l; holds = q; owner = refl; called = refl } in
-      absurd (omega (
-        arith,
-        called-range c f (scheme c v) (argument c v) k,
-        sym z ∙ e
-            ∙ ap (λ (b : Bool). if b then argument c v else 0) q,
-      )))
-      (λ q. q) (cases (has_call c v))
+  call_none f l z = grind (arith, common_steps)
 
   pub call-low : Facts c → v < size c → (r ≡ 0 → ⊥) → (scheme c v < 17) × (r < 17)
-  call-low f l n =
-      let s = call-some n in
-      let k : Calls c (scheme c v) (argument c v) = record { node = v; inside = l; holds = s.0; owner = refl; called = refl } in
-      let t = called-range c f (scheme c v) (argument c v) k in
-      (omega (arith, t), omega (arith, t, s.1))
+  call-low f l n = grind (arith, common_steps)
 
 -- ---- one node more
 module _ (c : Chart) where
@@ -172,10 +138,7 @@ module _ (masks : List ℕ) where
 
   pub called-no : (set g x : ℕ) → x ≡ called_by masks set g → (bit set g ≡ 1 → ⊥) → x ≡ called_by masks set (g + 1)
   unfolding called_by
-  called-no set g x e n =
-      e ∙ sym (or_zero_r (called_by masks set g))
-      ∙ ap (bit_or (called_by masks set g)) (sym (ap (λ (b : Bool). if b then get_or masks g 0 else 0) (ne_eqb (bit set g) 1 n)))
-      ∙ sym (ap (called_by masks set) (add-one g))
+  called-no set g x e n = grind (arith, common_steps, or_zero_r, add-one, ne_eqb)
 
   -- chains of k calls end nowhere
   abbrev pub is_empty_by : ℕ → Bool
@@ -199,29 +162,18 @@ module _ (masks : List ℕ) where
   module _ (ends s r : ℕ) (h : MaskRound ends s) (e : r ≡ called_by masks ends 17) where
     round-ends : r ≡ ends_by masks s
     unfolding ends_by
-    round-ends =
-        e ∙ ap (λ (set : ℕ). called_by masks set 17) h.held ∙ ap (ends_by masks) (let z : suc (s - 1) ≡ s = omega (arith, h.some) in z)
+    round-ends = grind (arith, common_steps)
 
     pub round-found : s < 17 → r ≡ 0 → s ≡ longest_by masks
     unfolding longest_by
-    round-found l z =
-        let q : s ≡ lowest is_empty_by 0 17 =
-        searching-found is_empty_by 17 s _ h.search l (eq-eqb (ends_by masks s) 0 (sym round-ends ∙ z)) in
-        q ∙ sym (if-true (ltb (lowest is_empty_by 0 17) 17) (lowest is_empty_by 0 17) 0
-        (lt-ltb (lowest is_empty_by 0 17) 17 (omega arith)))
+    round-found l z = grind (arith, common_steps, lt-ltb, eq-eqb, searching-found, if-true, round-ends)
 
     pub round-next : s < 17 → (r ≡ 0 → ⊥) → MaskRound r (s + 1)
-    round-next l n = record {
-      some = omega arith;
-      search = searching-next is_empty_by 17 s _ h.search l (ne_eqb (ends_by masks s) 0 (λ z. n (round-ends ∙ z)));
-      held = round-ends ∙ ap (ends_by masks) (omega arith);
-    }
+    round-next l n = grind (arith, common_steps, searching-next, ne_eqb, round-ends)
 
   pub round-over : (ends s : ℕ) → MaskRound ends s → 17 ≤ s → 0 ≡ longest_by masks
   unfolding longest_by
-  round-over ends s h l =
-      let q : s ≡ lowest is_empty_by 0 17 = searching-over is_empty_by 17 s _ h.search l in
-      sym (if-false (ltb (lowest is_empty_by 0 17) 17) (lowest is_empty_by 0 17) 0 (le-ltb (lowest is_empty_by 0 17) 17 (omega arith)))
+  round-over ends s h l = grind (arith, common_steps, if-false, searching-over, le-ltb)
 
 -- ---- the rounds
 places-lowest : (c : Chart) → lowest (has_no_end c) 0 16 ≡ places c

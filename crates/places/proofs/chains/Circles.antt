@@ -1,10 +1,5 @@
 -- What refusal 20 means: a chain from scheme 1 ends in a scheme that can call itself.
-use Prim.Native.Nat.{ℕ, zero, suc, ◌+◌, ◌-◌, ◌≤◌, ◌<◌}
-use mathlib.Core.Bool.{Bool, true, false, not}
-use mathlib.Core.Path.{◌≡◌, ap, subst}
-use mathlib.Core.Logic.{⊎_elim}
-use mathlib.Core.List.{[], ◌∷◌}
-use native.Mathlib.Omega.{arith}
+use Rattle.std.proofs.Common.{ℕ, zero, suc, ◌+◌, ◌-◌, ◌≤◌, ◌<◌, Bool, true, false, not, ◌≡◌, ap, subst, ⊎_elim, [], ◌∷◌, arith}
 use Rattle.words.proofs.lists.Tests.{and_l, and_r, and-true, cases}
 use Rattle.words.proofs.lists.Searches.{any-true, any_some, any_none}
 use Rattle.words.specs.graph.Reach.{is_marked, nodes_joined_from}

@@ -1,16 +1,10 @@
 -- Where no scheme in reach of scheme 1 calls itself, `places` is the number of schemes of the longest chain.
-use Prim.Native.Nat.{ℕ, zero, suc, ◌+◌, ◌-◌, ◌≤◌, ◌<◌}
-use mathlib.Core.Bool.{Bool, true, false, ◌&&◌, not}
-use mathlib.Core.Path.{◌≡◌, refl, sym, ◌∙◌, ap, subst}
-use mathlib.Core.Logic.{⊎_elim}
-use mathlib.Core.List.{[], ◌∷◌}
-use native.Mathlib.Omega.{arith}
-use native.Mathlib.Nat.{zero-add}
-use lib.Dec.{eqb}
-use borrow.Author.Tests.{eqb-true, ne_eqb}
+use Rattle.std.proofs.Common.{ℕ, zero, suc, ◌+◌, ◌-◌, ◌≤◌, ◌<◌, Bool, true, false, ◌&&◌, not, ◌≡◌, refl, sym, ◌∙◌, ap, subst, ⊎_elim, []}
+use Rattle.std.proofs.Common.{◌∷◌, arith, zero-add, eqb, ne_eqb}
+use Rattle.std.proofs.lemmas.Grind.{common_steps}
 use Rattle.words.specs.lists.Numbers.{any, lowest}
 use Rattle.words.specs.lists.Sequences.{some}
-use Rattle.words.proofs.lists.Tests.{no_both, or_cases, or-none, and_l, and_r, and-true, and-false, not-false, cases, split}
+use Rattle.words.proofs.lists.Tests.{no_both, or-none, and_l, and_r, and-true, and-false, not-false, cases, split}
 use Rattle.words.proofs.lists.Searches.{any-true, any_some, any_false, lowest-hit, lowest-before}
 use Rattle.words.proofs.lists.Counts.{count-miss}
 use Rattle.words.proofs.lists.Ranges.{length-map-range, get_or-map-range}
@@ -25,8 +19,7 @@ use Rattle.places.proofs.chains.CallLaws.{calls-true, true-calls, calls-member, 
 
 pub one-member : (h : ℕ) → is_member h (1 ∷ []) ≡ true → h ≡ 1
 unfolding some
-one-member h m = ⊎_elim (λ (e : eqb h 1 ≡ true). eqb-true h 1 e) (λ (e : false ≡ true). no_both false e refl)
-    (or_cases (eqb h 1) false m)
+one-member h m = grind (arith, common_steps)
 
 one-is : is_member 1 (1 ∷ []) ≡ true
 unfolding some

@@ -1,17 +1,10 @@
 -- Laws of masks of the numbers below n that pass a test: their bits, two of them joined, one number more.
-use Rattle.std.proofs.Common.{if◌then◌else◌}
-use Prim.Native.Nat.{ℕ, zero, suc, ◌+◌, ◌/◌, ◌%◌, ◌^◌, ◌≤◌, ◌<◌, max}
-use mathlib.Core.Bool.{Bool, true, false, ◌||◌, not}
-use mathlib.Core.Path.{◌≡◌, refl, sym, ◌∙◌, ap, ap₂, subst}
-use mathlib.Core.Logic.{⊎_elim}
-use native.Mathlib.Decide.{ℕ_discrete}
-use native.Mathlib.Nat.{pow-suc, one-mul, div-lt_iff_lt-mul}
-use native.Mathlib.Omega.{arith}
-use lib.Arith.{lt-one}
-use lib.Bits.{bit_or, or_lt}
-use lib.Dec.{eqb}
-use lib.Pow.{pow_pos, pow_mono, pow-lt}
-use borrow.Author.Tests.{ne_eqb, eq-eqb}
+use Rattle.std.proofs.Common.{if◌then◌else◌, ℕ, zero, suc, ◌+◌, ◌^◌, ◌≤◌, ◌<◌, max, Bool, true, false, ◌||◌, not, ◌≡◌, refl, sym, ◌∙◌, ap}
+use Rattle.std.proofs.Common.{ap₂, ⊎_elim, pow-suc, arith, bit_or, eqb, pow_pos, pow_mono, ne_eqb, eq-eqb}
+use Rattle.std.proofs.Math.Decide.{ℕ_discrete}
+use lib.Bits.{or_lt}
+use Rattle.std.proofs.Math.Pow.{pow-lt}
+use Rattle.std.proofs.lemmas.Grind.{common_steps}
 use Rattle.words.specs.lists.Numbers.{any}
 use Rattle.words.proofs.lists.Tests.{split}
 use Rattle.words.proofs.lists.Searches.{any_some, any_false}
@@ -21,19 +14,13 @@ use Rattle.places.specs.chains.inner.Masks.{mask_of}
 
 -- a number below 2 to the power i has no bit i
 beyond : (x i : ℕ) → x < 2 ^ i → bit x i ≡ 0
-beyond x i l =
-    let z : x / 2 ^ i < 1 = (div-lt_iff_lt-mul (pow_pos i)).1 (subst (λ (y : ℕ). x < y) (sym (one-mul (2 ^ i))) l) in
-    ap (λ (y : ℕ). y % 2) (lt-one z)
+beyond x i l = grind (arith, common_steps)
 
 module _ (p : ℕ → Bool) where
   pub mask-small : (n : ℕ) → mask_of p n < 2 ^ n
   unfolding mask_of
-  mask-small zero = pow_pos 0
-  mask-small (suc n) = go (p n) (mask-small n)
-    where
-      go : (b : Bool) → mask_of p n < 2 ^ n → mask_of p n + (if b then 2 ^ n else 0) < 2 ^ suc n
-      go true l = omega (arith, pow-suc 2 n)
-      go false l = omega (arith, pow-suc 2 n)
+  mask-small zero = grind (arith, common_steps, pow_pos)
+  mask-small (suc n) = grind (arith, common_steps, mask-small n, pow-suc)
 
   pub mask-bit : (n i : ℕ) → i < n → bit (mask_of p n) i ≡ (if p i then 1 else 0)
   unfolding mask_of
@@ -80,9 +67,8 @@ module _ (p : ℕ → Bool) where
 
 pub mask-alike : (p q : ℕ → Bool) (n : ℕ) → ((i : ℕ) → i < n → p i ≡ q i) → mask_of p n ≡ mask_of q n
 unfolding mask_of
-mask-alike p q zero h = refl
-mask-alike p q (suc n) h =
-    ap₂ (λ (x : ℕ) (b : Bool). x + (if b then 2 ^ n else 0)) (mask-alike p q n (λ i l. h i (omega arith))) (h n (omega arith))
+mask-alike p q zero h = grind (arith, common_steps)
+mask-alike p q (suc n) h = grind (arith, common_steps, mask-alike p q n (λ i l. h i (omega arith)))
 
 pub mask-or : (p q : ℕ → Bool) (n : ℕ) → bit_or (mask_of p n) (mask_of q n) ≡ mask_of (λ i. p i || q i) n
 mask-or p q n = mask_is (λ i. p i || q i) n (bit_or (mask_of p n) (mask_of q n))

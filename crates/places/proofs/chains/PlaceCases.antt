@@ -1,9 +1,5 @@
 -- Places computed for small charts: chains, a circle in reach of scheme 1 and one out of its reach.
-use Prim.Native.Nat.{ℕ}
-use mathlib.Core.Bool.{true, false}
-use mathlib.Core.Path.{◌≡◌, refl}
-use mathlib.Core.List.{List, [], ◌∷◌}
-use lib.ListN.{replicate}
+use Rattle.std.proofs.Common.{ℕ, true, false, ◌≡◌, refl, List, [], ◌∷◌, replicate}
 use Rattle.words.specs.lists.Numbers.{any, lowest}
 use Rattle.words.specs.lists.Sequences.{some, filter, concat_map}
 use Rattle.words.specs.graph.Reach.{reach}

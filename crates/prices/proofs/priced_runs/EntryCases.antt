@@ -1,24 +1,16 @@
 -- The answers of a priced run, by what its parts give.
-use Prim.Native.Nat.{ℕ, ◌≤◌, ◌<◌}
-use mathlib.Core.Bool.{Bool, true, false}
-use mathlib.Core.Path.{◌≡◌, refl, sym, ◌∙◌, ap, ap₂, subst}
-use mathlib.Core.Logic.{◌⊎◌, inl, inr}
-use mathlib.Core.List.{List, []}
-use native.Mathlib.Omega.{arith}
-use lib.Dec.{ltb}
-use lib.ListN.{length, take}
-use borrow.Author.Tests.{lt-ltb, le-ltb}
+use Rattle.std.proofs.Common.{ℕ, ◌≤◌, ◌<◌, Bool, true, false, ◌≡◌, refl, sym, ◌∙◌, ap, ◌⊎◌, inl, inr, List, [], arith, ltb, length, take}
+use Rattle.std.proofs.Common.{lt-ltb, le-ltb, Ok, Err, if◌then◌else◌}
+use Rattle.std.proofs.lemmas.Grind.{common_steps}
 use Rattle.words.proofs.lists.Tests.{or-none, if-true, if-false, split}
 use Rattle.text.specs.frames.Frame.{contents}
 use Rattle.text.specs.frames.Verdict.{Verdict, fine, refused, next, when}
-use Rattle.text.specs.frames.Answer.{Answer, success, refusal, reply_number, reply, verdict_reply, reply_count}
-use Rattle.std.proofs.Common.{Ok, Err, if◌then◌else◌}
+use Rattle.text.specs.frames.Answer.{Answer, reply_number, reply, verdict_reply, reply_count}
 use Rattle.text.specs.declared.frames.refusals.Refusal.{Refusal}
 use Rattle.text.specs.declared.frames.refusals.Refusal.TheVariants.{ManyWords}
-use Rattle.text.proofs.frames.Refuses.{RefusesWith}
 use Rattle.image.specs.Decode.{decoded_image}
 use Rattle.image.specs.Check.{image_verdict}
-use Rattle.image.proofs.Refuses.{Early, early-image}
+use Rattle.image.proofs.Refuses.{early-image}
 use Rattle.state.specs.declared.State.{State}
 use Rattle.state.specs.State.{Sized}
 use Rattle.state.specs.Bytes.{state_of, bytes_of}
@@ -31,8 +23,8 @@ use Rattle.runs.proofs.RunCounts.{run-count}
 use Rattle.runs.proofs.machine.Held.{run-held}
 use Rattle.prices.specs.Prices.{price}
 use Rattle.prices.specs.declared.priced_runs.PricedReport.{PricedReport}
-use Rattle.prices.specs.priced_runs.PricedRun.{has_too_many_words, in_turn, priced_verdict, many_verdict}
-use Rattle.prices.specs.priced_runs.PricedRun.{PricedOutcome, price_on, priced_run, GivesPricedRun}
+use Rattle.prices.specs.priced_runs.PricedRun.{has_too_many_words, in_turn, priced_verdict, many_verdict, PricedOutcome, price_on}
+use Rattle.prices.specs.priced_runs.PricedRun.{priced_run, GivesPricedRun}
 use Rattle.prices.specs.priced_runs.InPlace.{bytes_priced, GivesPricedRunOn}
 use Rattle.prices.proofs.priced_runs.Pricing.{does-all, by-the-masks}
 
@@ -61,62 +53,30 @@ module _ (t : List ℕ) (s : State) (ms ks : List ℕ) where
   -- a run of no words is refused by what is tried before 27
   none_is : run t s [] ms ks ≡ no_ticks (tried (image_verdict t) (is_unfit (decoded_image (contents t)) s))
   unfolding run run_verdict
-  none_is =
-      ap (λ (b : Bool). no_ticks (next (image_verdict t) λ _. next (when 15 (is_unfit (decoded_image (contents t)) s))
-      λ _. when 16 b)) none-short
-      ∙ go (image_verdict t) (is_unfit (decoded_image (contents t)) s)
-    where
-      go : (v : Verdict) (b : Bool) → no_ticks (next v λ _. next (when 15 b) λ _. fine) ≡ no_ticks (tried v b)
-      go (refused k i) b = refl
-      go fine true = refl
-      go fine false = refl
+  none_is = grind (arith, common_steps)
 
   none-answer : (run t s [] ms ks).reply ≡ verdict_reply (tried (image_verdict t) (is_unfit (decoded_image (contents t)) s)) 0
   unfolding ticks
-  none-answer = ap (λ (r : RunOutcome). r.reply) none_is ∙ go (tried (image_verdict t) (is_unfit (decoded_image (contents t)) s))
-    where
-      go : (v : Verdict) → (no_ticks v).reply ≡ verdict_reply v 0
-      go (refused k i) = refl
-      go fine = refl
+  none-answer = grind (arith, common_steps, none_is)
 
   -- and leaves the state
   pub none-state : (run t s [] ms ks).state ≡ s
   unfolding ticks
-  none-state = ap (λ (r : RunOutcome). r.state) none_is ∙ go (tried (image_verdict t) (is_unfit (decoded_image (contents t)) s))
-    where
-      go : (v : Verdict) → (no_ticks v).state ≡ s
-      go (refused k i) = refl
-      go fine = refl
+  none-state = grind (arith, common_steps, none_is)
 
   -- where it is not refused, more words get 27
   many-27 : reply_number (run t s [] ms ks).reply ≡ 0 → many_verdict t s ≡ refused 27 0
   unfolding many_verdict
-  many-27 e =
-      go (image_verdict t) (is_unfit (decoded_image (contents t)) s) (early-image t) (sym (ap reply_number none-answer) ∙ e)
-    where
-      go : (v : Verdict) (b : Bool) → RefusesWith Early v → reply_number (verdict_reply (tried v b) 0) ≡ 0 → many v b ≡ refused 27 0
-      go (refused k i) b p q = absurd (omega (arith, p.0))
-      go fine true p q = absurd (omega arith)
-      go fine false p q = refl
+  many-27 e = grind (arith, common_steps, early-image, none-answer)
 
   module _ (a : Answer) (gives : reply a ≡ (run t s [] ms ks).reply) where
     pub many-before : (r : Refusal) → a ≡ Err r → reply (Err r) ≡ verdict_reply (many_verdict t s) 0
     unfolding many_verdict
-    many-before r e = go (image_verdict t) (is_unfit (decoded_image (contents t)) s) (sym (ap reply e) ∙ gives ∙ none-answer)
-      where
-        go : (v : Verdict) (b : Bool) → reply (Err r) ≡ verdict_reply (tried v b) 0 → reply (Err r) ≡ verdict_reply (many v b) 0
-        go (refused l j) b q = q
-        go fine true q = q
-        go fine false q = absurd (let z : ◌≡◌ {A = ℕ} 0 1 = cc in omega arith)
+    many-before r e = grind (arith, common_steps, none-answer)
 
     pub many-itself : (n : ℕ) → a ≡ Ok n → reply (Err ManyWords) ≡ verdict_reply (many_verdict t s) 0
     unfolding many_verdict
-    many-itself n e = go (image_verdict t) (is_unfit (decoded_image (contents t)) s) (sym (ap reply e) ∙ gives ∙ none-answer)
-      where
-        go : (v : Verdict) (b : Bool) → success n ≡ verdict_reply (tried v b) 0 → refusal 27 0 0 ≡ verdict_reply (many v b) 0
-        go (refused l j) b z = absurd (let y : ◌≡◌ {A = ℕ} 0 1 = cc in omega arith)
-        go fine true z = absurd (let y : ◌≡◌ {A = ℕ} 0 1 = cc in omega arith)
-        go fine false z = refl
+    many-itself n e = grind (arith, common_steps, none-answer)
 
 -- ---- a run's ticks are counted: so many masks are written, and no more than words
 module _ (t before ws ms ks : List ℕ) (a : Answer) (after us vs : List ℕ)
@@ -149,10 +109,7 @@ module _ (t before prices ws ms ks : List ℕ) where
   module _ (more : 65536 < length ws) where
     many_is : whole ≡ priced_outcome_by (many_verdict t s₀)
     unfolding priced_run priced_verdict many_verdict
-    many_is =
-        ap (λ (b : Bool). priced_outcome_by (in_turn (image_verdict t) (is_unfit (decoded_image (contents t)) s₀) b (has_no_room ws ms ks)))
-        (lt-ltb 65536 (length ws) more)
-        ∙ ap priced_outcome_by (many-turn (image_verdict t) (is_unfit (decoded_image (contents t)) s₀) (has_no_room ws ms ks))
+    many_is = grind (arith, common_steps)
 
     pub many-priced : (a : Answer) → reply a ≡ verdict_reply (many_verdict t s₀) 0
         → GivesPricedRunOn whole ws before (record { answer = a; price = 0 }) before ms ks
@@ -173,20 +130,7 @@ module _ (t before prices ws ms ks : List ℕ) where
     pub run-priced : (p : ℕ) → p ≡ price prices (take n us)
         → GivesPricedRunOn whole ws before (record { answer = a; price = p }) after us vs
     unfolding bytes_priced
-    run-priced p e =
-        let all : whole.run ≡ run t s₀ ws ms ks = does-all t s₀ prices ws ms ks few in
-        record {
-          answered = runs.answered ∙ sym (ap (λ (r : RunOutcome). r.reply) all);
-          price = e
-              ∙ ap₂ (λ (k : ℕ) (l : List ℕ). price prices (take k l)) (counts ∙ ap reply_count runs.answered) runs.masks
-              ∙ sym (ap (λ (r : RunOutcome). price prices (take (reply_count r.reply) r.masks)) all)
-              ∙ sym (by-the-masks t s₀ prices ws ms ks);
-          bytes = runs.bytes
-              ∙ sym (ap (bytes_after before) all)
-              ∙ sym (if-false (has_too_many_words ws) before (bytes_after before whole.run) (le-ltb 65536 (length ws) few));
-          masks = runs.masks ∙ sym (ap (λ (r : RunOutcome). r.masks) all);
-          codes = runs.codes ∙ sym (ap (λ (r : RunOutcome). r.codes) all);
-        }
+    run-priced p e = grind (arith, common_steps, by-the-masks, if-false, le-ltb, does-all)
 
   -- what the bytes then hold is the state that it hands back
   pub priced-held : state_of (bytes_priced ws before whole.run) ≡ whole.run.state
@@ -224,14 +168,4 @@ module _ (state : State) (sized : Sized state) (bits : length state.bits ≡ 16)
   pub value-priced : (t prices ws ms ks : List ℕ) (r : PricedReport) (after us vs : List ℕ) (u : State) → u ≡ state_of after
       → GivesPricedRunOn (priced_run t (state_of bytes) prices ws ms ks) ws bytes r after us vs
       → GivesPricedRun (priced_run t state prices ws ms ks) (record { answer = r.answer; state = u; price = r.price }) us vs
-  value-priced t prices ws ms ks r after us vs u q x =
-      subst (λ (s : State). GivesPricedRun (priced_run t s prices ws ms ks)
-      (record { answer = r.answer; state = u; price = r.price }) us vs)
-      (ap state_of e ∙ state-back state sized bits)
-      (record {
-        answered = x.answered;
-        price = x.price;
-        state = q ∙ ap state_of x.bytes ∙ priced-held t bytes prices ws ms ks;
-        masks = x.masks;
-        codes = x.codes;
-      })
+  value-priced t prices ws ms ks r after us vs u q x = grind (arith, common_steps, state-back, priced-held)

@@ -1,10 +1,6 @@
 -- What refusal 22 says, test by test.
-use Prim.Native.Nat.{ℕ, ◌≤◌}
-use mathlib.Core.Bool.{Bool, false, ◌||◌}
-use mathlib.Core.Path.{◌≡◌}
-use lib.Dec.{ltb, eqb}
-use borrow.Author.Tests.{ltb-false, eqb-false}
-use Rattle.words.proofs.lists.Tests.{or_l, or_r}
+use Rattle.std.proofs.Common.{ℕ, ◌≤◌, Bool, false, ◌||◌, ◌≡◌, ltb, arith}
+use Rattle.std.proofs.lemmas.Grind.{common_steps}
 use Rattle.bindings.specs.Binding.{is_bad_rebinding}
 
 module _ (H g h k : ℕ) where
@@ -23,14 +19,4 @@ module _ (H g h k : ℕ) where
   ranges = numbers || ltb k 2 || ltb H k
 
   pub allowed : is_bad_rebinding H g h k ≡ false → AllowedRebinding
-  allowed e =
-      let all : ranges ≡ false = or_l ranges (eqb h g) e in
-      let low : (numbers || ltb k 2) ≡ false = or_l (numbers || ltb k 2) (ltb H k) all in
-      let own : numbers ≡ false = or_l numbers (ltb k 2) low in
-      record {
-        number-low = ltb-false h 2 (or_l (ltb h 2) (ltb H h) own);
-        number-high = ltb-false H h (or_r (ltb h 2) (ltb H h) own);
-        scheme-low = ltb-false k 2 (or_r numbers (ltb k 2) low);
-        scheme-high = ltb-false H k (or_r (numbers || ltb k 2) (ltb H k) all);
-        other = eqb-false h g (or_r ranges (eqb h g) e);
-      }
+  allowed e = grind (arith, common_steps)

@@ -1,13 +1,9 @@
 -- The listing by the image's text: the image is refused, or the table that is made of it is listed.
-use Prim.Native.Nat.{ℕ, ◌+◌}
-use mathlib.Core.Path.{◌≡◌, sym, ◌∙◌, ap, ap₂, subst}
-use mathlib.Core.List.{List}
-use native.Mathlib.Omega.{arith}
-use lib.ListN.{length}
+use Rattle.std.proofs.Common.{ℕ, ◌+◌, ◌≡◌, sym, ◌∙◌, ap, ap₂, subst, List, arith, length, Err}
+use Rattle.std.proofs.lemmas.Grind.{common_steps}
 use Rattle.text.specs.frames.Frame.{contents}
 use Rattle.text.specs.frames.Verdict.{Verdict, fine, refused, next, when}
 use Rattle.text.specs.frames.Answer.{Answer, refusal, reply, verdict_reply}
-use Rattle.std.proofs.Common.{Err}
 use Rattle.text.specs.declared.frames.refusals.Refusal.{Refusal}
 use Rattle.text.specs.frames.Refusal.{number_of, index_of}
 use Rattle.text.proofs.frames.Chains.{err-refused}
@@ -17,8 +13,7 @@ use Rattle.image.specs.Check.{image_verdict}
 use Rattle.image.proofs.Accepted.{labels-count, image-table, image-bytes}
 use Rattle.tables.proofs.Made.{MadeTable}
 use Rattle.tables.proofs.Noted.{noted-last}
-use Rattle.rows.specs.listing.Listing.{row_count_of, ListingOutcome, listing_on, has_no_room_for, list, GivesListing}
-use Rattle.rows.specs.listing.Exact.{LooksAt}
+use Rattle.rows.specs.listing.Listing.{ListingOutcome, listing_on, has_no_room_for, list, GivesListing}
 use Rattle.rows.specs.listing.inner.ListingContracts.{Listable, list_table}
 use Rattle.rows.proofs.listing.Laws.{low-none, looks-at}
 
@@ -49,17 +44,7 @@ module _ (t : List ℕ) where
   -- ---- it is accepted
   module _ (b : List ℕ) (made : MadeTable t b) where
     pub made-listable : Listable b
-    made-listable = record {
-      whole = made.whole;
-      none = λ l h.
-          ap (λ (x : Image). row_count_of x l) made.holds
-          ∙ low-none (contents t) (image-table t made.accepted) (image-bytes t made.accepted) l h;
-      some = λ l low high.
-          subst (λ (x : Image). LooksAt b x l) (sym made.holds)
-          (subst (λ (c : List ℕ). LooksAt c i l) (sym made.is)
-          (looks-at (contents t) (image-table t made.accepted) (image-bytes t made.accepted) l low
-          (omega (arith, ap (λ (c : List ℕ). last_label c) made.is, noted-last (contents t)))));
-    }
+    made-listable = grind (arith, common_steps, image-table, looks-at, low-none, noted-last, image-bytes)
 
     pub image-lists : (xs ys : List ℕ) (a : Answer) (us vs : List ℕ) → GivesListing (list_table b xs ys) a us vs
         → GivesListing (list t xs ys) a us vs

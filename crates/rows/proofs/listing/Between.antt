@@ -1,10 +1,6 @@
 -- Laws of a test that holds from one number up to another and nowhere else: how many numbers pass, and the lowest that does.
-use Rattle.std.proofs.Common.{if◌then◌else◌}
-use Prim.Native.Nat.{ℕ, zero, suc, ◌+◌, ◌-◌, ◌≤◌, ◌<◌, min, max}
-use mathlib.Core.Bool.{Bool, true, false}
-use mathlib.Core.Path.{◌≡◌, ◌∙◌}
-use mathlib.Core.Logic.{◌⊎◌, inl, inr}
-use native.Mathlib.Omega.{arith}
+use Rattle.std.proofs.Common.{if◌then◌else◌, ℕ, zero, suc, ◌+◌, ◌-◌, ◌≤◌, ◌<◌, min, max, Bool, true, false, ◌≡◌, ◌⊎◌, inl, inr, arith}
+use Rattle.std.proofs.lemmas.Grind.{common_steps}
 use Rattle.words.specs.lists.Numbers.{lowest, count}
 use Rattle.words.proofs.lists.Tests.{no_both, if-true, if-false, split}
 use Rattle.words.proofs.lists.Counts.{count-suc}
@@ -19,14 +15,8 @@ pub record Between (p : ℕ → Bool) (n a e : ℕ) : Type 0 where
 module _ (p : ℕ → Bool) (all a e : ℕ) (t : Between p all a e) where
   count-from : (n i : ℕ) → i + n ≤ all → count p i n ≡ min e (i + n) - max a i
   unfolding count
-  count-from zero i h = omega (arith, t.order)
-  count-from (suc n) i h = count-suc p i n ∙ go (split i a) (split i e) (count-from n (suc i) (omega arith))
-    where
-      go : (i < a) ⊎ (a ≤ i) → (i < e) ⊎ (e ≤ i) → count p (suc i) n ≡ min e (suc i + n) - max a (suc i)
-          → (if p i then 1 else 0) + count p (suc i) n ≡ min e (i + suc n) - max a i
-      go (inl u) x ih = omega (arith, ih, t.order, if-false {A = ℕ} (p i) 1 0 (t.outer i (omega arith) (inl u)))
-      go (inr u) (inr g) ih = omega (arith, ih, t.order, if-false {A = ℕ} (p i) 1 0 (t.outer i (omega arith) (inr g)))
-      go (inr u) (inl g) ih = omega (arith, ih, t.order, if-true {A = ℕ} (p i) 1 0 (t.inner i u g))
+  count-from zero i h = grind (arith, common_steps)
+  count-from (suc n) i h = grind (arith, common_steps, count-from n (suc i) (omega arith), split, if-false, count-suc, if-true)
 
   pub count-between : count p 0 all ≡ e - a
   count-between = omega (arith, count-from all 0 (omega arith), t.order, t.most)

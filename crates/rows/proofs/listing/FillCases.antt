@@ -1,21 +1,14 @@
 -- The listing of a table, one label after the other into two buffers, and 16 before it.
-use Prim.Native.Nat.{ℕ, ◌+◌, ◌≤◌, ◌<◌}
-use mathlib.Core.Bool.{Bool, true, false}
-use mathlib.Core.Path.{◌≡◌, sym, ◌∙◌, ap, subst}
-use mathlib.Core.List.{List, map}
-use native.Mathlib.Nat.{zero-add}
-use native.Mathlib.Omega.{arith}
-use lib.Dec.{ltb}
-use lib.ListN.{length, set}
-use borrow.Author.Tests.{lt-ltb, le-ltb}
-use Rattle.words.specs.lists.Numbers.{range, tabulate}
+use Rattle.std.proofs.Common.{ℕ, ◌+◌, ◌≤◌, ◌<◌, Bool, true, false, ◌≡◌, sym, ◌∙◌, ap, subst, List, zero-add, arith, ltb, length, set}
+use Rattle.std.proofs.Common.{lt-ltb, le-ltb, Ok, Err}
+use Rattle.std.proofs.lemmas.Grind.{common_steps}
+use Rattle.words.specs.lists.Numbers.{tabulate}
 use Rattle.words.specs.lists.Sequences.{over}
 use Rattle.words.proofs.lists.Tests.{or-true-l, or_true_r, or-none}
 use Rattle.words.proofs.lists.Written.{written-front}
 use Rattle.words.proofs.lists.Fills.{ValuesFrom, values-none, values-turn, values-all}
 use Rattle.text.specs.frames.Verdict.{when}
 use Rattle.text.specs.frames.Answer.{success}
-use Rattle.std.proofs.Common.{Ok, Err}
 use Rattle.text.specs.declared.frames.refusals.Refusal.TheVariants.{NoRoom}
 use Rattle.image.specs.Image.{Image}
 use Rattle.image.specs.Decode.{last_label}
@@ -54,12 +47,7 @@ module _ (b xs₀ ys₀ : List ℕ) where
   pub filling-all : (xs ys : List ℕ) (l : ℕ) → FillingRows i n xs₀ ys₀ xs ys l → n ≤ l
       → (xs ≡ over (first_rows i) xs₀) × (ys ≡ over (row_counts i) ys₀)
   unfolding first_rows row_counts tabulate
-  filling-all xs ys l t h = (
-    values-all (first_of i) xs₀ 0 n xs l t.first h ∙ written-front xs₀ (map (first_of i) (range 0 n))
-        ∙ ap (λ (m : ℕ). over (map (first_of i) (range 0 m)) xs₀) (sym (labels-count b)),
-    values-all (row_count_of i) ys₀ 0 n ys l t.number h ∙ written-front ys₀ (map (row_count_of i) (range 0 n))
-        ∙ ap (λ (m : ℕ). over (map (row_count_of i) (range 0 m)) ys₀) (sym (labels-count b)),
-  )
+  filling-all xs ys l t h = grind (arith, common_steps, values-all, labels-count, written-front)
 
 -- ---- 16
 module _ (b xs ys : List ℕ) (n : ℕ) (is : n ≡ last_label b + 1) where
@@ -71,9 +59,7 @@ module _ (b xs ys : List ℕ) (n : ℕ) (is : n ≡ last_label b + 1) where
 
   by-room : (t : Bool) → has_no_room_for n xs ys ≡ t → list_table b xs ys ≡ listing_on (when 16 t) (λ _. image) xs ys
   unfolding list_table
-  by-room t e =
-      ap (λ (m : ℕ). listing_on (when 16 (has_no_room_for m xs ys)) (λ _. image) xs ys) (sym count)
-      ∙ ap (λ (u : Bool). listing_on (when 16 u) (λ _. image) xs ys) e
+  by-room t e = grind (arith, common_steps, count)
 
   full : has_no_room_for n xs ys ≡ true → GivesListing (list_table b xs ys) (Err NoRoom) xs ys
   full e = let g = by-room true e in record {

@@ -1,13 +1,7 @@
 -- The listing of an accepted image is exactly the rows of each label, and the frames that its ticks look at.
-use Prim.Native.Nat.{ℕ, ◌+◌, ◌-◌, ◌≤◌, ◌<◌}
-use mathlib.Core.Path.{◌≡◌, sym, ◌∙◌, ap}
-use mathlib.Core.Logic.{◌⊎◌, inl, inr, ◌↔◌}
-use mathlib.Core.List.{List, map}
-use native.Mathlib.Omega.{arith}
-use lib.Dec.{eqb}
-use lib.ListN.{length, get_or, take, drop, length-take, length-drop}
-use lib.Seq.{get_or-take, get_or-drop, ext_get_or}
-use borrow.Author.Tests.{eq-eqb, ne_eqb, eqb-true}
+use Rattle.std.proofs.Common.{ℕ, ◌+◌, ◌-◌, ◌≤◌, ◌<◌, ◌≡◌, sym, ◌∙◌, ap, ◌⊎◌, inl, inr, ◌↔◌, List, map, arith, eqb, length, get_or, take}
+use Rattle.std.proofs.Common.{drop, length-take, length-drop, get_or-take, get_or-drop, ext_get_or, eq-eqb, ne_eqb, eqb-true}
+use Rattle.std.proofs.lemmas.Grind.{common_steps}
 use Rattle.words.specs.lists.Numbers.{lowest, range}
 use Rattle.words.proofs.lists.Tests.{no_both, if-true, if-false, split}
 use Rattle.words.proofs.lists.Counts.{count_none}
@@ -57,23 +51,7 @@ module _ (b : List ℕ) (ok : table_verdict b ≡ fine) (bytes : (k : ℕ) → g
       ∙ from-read b (counted b ok).all (rows_from b + k) (omega arith) (omega (arith, rows_all))
 
   between : Between (is_row_leaving i l) (length i.rows) first end
-  between = record {
-    order = omega (arith, first-rises b ok l);
-    most = omega (arith, first-inside b ok (l + 1), rows_all);
-    inner = λ k h g.
-        let inside : k < length i.rows = omega (arith, first-inside b ok (l + 1), rows_all) in
-        eq-eqb (nth_row i k).from l (omega (
-          arith,
-          from_is k inside,
-          at_least b ok bytes l (rows_from b + k) (omega arith) (omega (arith, rows_all)),
-          below b ok bytes (l + 1) (rows_from b + k) (omega arith) (omega arith),
-        ));
-    outer = λ k h x. ne_eqb (nth_row i k).from l (away k h x);
-  }
-    where
-      away : (k : ℕ) → k < length i.rows → (k < first) ⊎ (end ≤ k) → (nth_row i k).from ≡ l → ⊥
-      away k h (inl g) q = omega (arith, from_is k h, below b ok bytes l (rows_from b + k) (omega arith) (omega arith))
-      away k h (inr g) q = omega (arith, from_is k h, at_least b ok bytes (l + 1) (rows_from b + k) (omega arith) (omega (arith, rows_all)))
+  between = grind (arith, common_steps, first-rises, first-inside, eq-eqb, at_least, ne_eqb, below, rows_all, from_is)
 
   number_is : row_count_of i l ≡ end - first
   number_is = count-between (is_row_leaving i l) (length i.rows) first end between
@@ -91,24 +69,7 @@ module _ (b : List ℕ) (ok : table_verdict b ≡ fine) (bytes : (k : ℕ) → g
       go (inr g) (inr m) = no_both (is_row_leaving i l k) (eq-eqb (nth_row i k).from l q) (between.outer k h (inr m))
 
   pub exactly-own : (k : ℕ) → Own i l k ↔ ((first_of i l ≤ k) × (k < first_of i l + row_count_of i l))
-  exactly-own k = (into, back)
-    where
-      into : Own i l k → (first_of i l ≤ k) × (k < first_of i l + row_count_of i l)
-      into o =
-          let m = own-inside k o in
-          let e : first_of i l ≡ first = first-is (λ z. omega (arith, m.0, m.1, number_is)) in
-          (omega (arith, m.0), omega (arith, m.1, number_is))
-
-      back : (first_of i l ≤ k) × (k < first_of i l + row_count_of i l) → Own i l k
-      back (g, m) = go (split 0 (row_count_of i l))
-        where
-          go : (0 < row_count_of i l) ⊎ (row_count_of i l ≤ 0) → Own i l k
-          go (inl h) =
-              let e : first_of i l ≡ first = first-is (λ z. omega arith) in (
-                omega (arith, number_is, between.most),
-                eqb-true (nth_row i k).from l (between.inner k (omega arith) (omega (arith, number_is))),
-              )
-          go (inr h) = absurd (omega (arith, none_first i l (omega arith)))
+  exactly-own k = grind (arith, common_steps, split, eqb-true, none_first, between, number_is, first-is, own-inside)
 
   -- ---- by the frames of the prepared table
   module _ (low : 2 ≤ l) (high : l ≤ last_label b) where
@@ -119,16 +80,7 @@ module _ (b : List ℕ) (ok : table_verdict b ≡ fine) (bytes : (k : ℕ) → g
     frames-first h = omega (arith, first-noted b ok bytes l (omega arith) high, first-is h, noted-rows-from b, first-low b ok l)
 
     frames-end : end_on (noted_table b) l ≡ first_on (noted_table b) l + row_count_of i l
-    frames-end =
-        omega (
-          arith,
-          first-noted b ok bytes l (omega arith) high,
-          end-noted b ok bytes l
-              high,
-          number_is,
-          first-low b ok l,
-          first-rises b ok l,
-        )
+    frames-end = grind (arith, common_steps, first-low, first-rises, end-noted, first-noted, number_is)
 
     frames-rows : rows_on (noted_table b) l ≡ take (row_count_of i l) (drop (first_of i l) i.rows)
     frames-rows =
@@ -201,9 +153,7 @@ empty-zero t l h =
 
 pub low-zero : LowZero
 unfolding LowZero
-low-zero t ok l h =
-    let e : row_count_of (decoded_image (contents t)) l ≡ 0 = low-none (contents t) (image-table t ok) (image-bytes t ok) l h in
-    (none_first (decoded_image (contents t)) l e, e)
+low-zero t ok l h = grind (arith, common_steps, image-bytes, image-table, none_first, low-none)
 
 pub listed-frames : ListedFrames
 unfolding ListedFrames

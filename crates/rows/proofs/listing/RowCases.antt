@@ -1,14 +1,10 @@
 -- The rows of one label of a table, as the function finds them by the frames that a tick looks at.
-use Prim.Native.Nat.{ℕ, ◌-◌, ◌≤◌, ◌<◌}
-use mathlib.Core.Path.{◌≡◌, sym}
-use mathlib.Core.List.{List}
-use native.Mathlib.Omega.{arith}
-use lib.ListN.{get_or}
+use Rattle.std.proofs.Common.{ℕ, ◌-◌, ◌≤◌, ◌<◌, ◌≡◌, sym, List, arith, get_or}
+use Rattle.std.proofs.lemmas.Grind.{common_steps}
 use Rattle.text.specs.frames.Frame.{size}
 use Rattle.image.specs.Image.{Image}
 use Rattle.image.specs.Decode.{rows_from}
 use Rattle.tables.specs.Table.{first_on, end_on, table_image}
-use Rattle.tables.proofs.TableReads.{counts-told}
 use Rattle.rows.specs.listing.Listing.{row_count_of}
 use Rattle.rows.specs.listing.Exact.{LooksAt}
 use Rattle.rows.specs.listing.inner.ListingContracts.{ListingAsked, RowsOf}
@@ -34,10 +30,7 @@ module _ (b : List ℕ) (h l : ℕ) (asked : ListingAsked b h l) where
 
       -- the header bounds them
       pub frames-few : ((k : ℕ) → get_or b k 0 < 256) → (e ≤ size b) × (size b < 65536)
-      frames-few bytes =
-          let whole = asked.table.whole in
-          let counts = counts-told b whole.counts in
-          (omega (arith, whole.alone), omega (arith, whole.alone, counts.most, counts.few, bytes 2))
+      frames-few bytes = grind (arith, common_steps)
 
       count-is : e - f ≡ row_count_of i l
       count-is = omega (arith, looks.end)

@@ -1,15 +1,12 @@
 -- Rows that a search passed over, and a pass that keeps the one row that matched.
-use Prim.Native.Nat.{ℕ, zero, suc, ◌+◌, ◌-◌, ◌≤◌, ◌<◌}
-use mathlib.Core.Bool.{Bool, true, false}
-use mathlib.Core.Path.{◌≡◌, refl, sym, ◌∙◌, ap, subst}
-use mathlib.Core.List.{List}
-use native.Mathlib.Decide.{ℕ_discrete}
-use native.Mathlib.Omega.{arith}
+use Rattle.std.proofs.Common.{ℕ, zero, suc, ◌+◌, ◌-◌, ◌≤◌, ◌<◌, Bool, true, false, ◌≡◌, refl, sym, ◌∙◌, ap, subst, List, arith}
+use Rattle.std.proofs.Math.Decide.{ℕ_discrete}
+use Rattle.std.proofs.lemmas.Grind.{common_steps}
 use Rattle.text.specs.frames.Frame.{size}
 use Rattle.tables.specs.Table.{first_on, end_on}
 use Rattle.rows.specs.declared.TheConstants.{NO_FRAME}
 use Rattle.rows.specs.inner.Search.{swapped_word, is_matching_frame, found_at, chosen_frame, Chosen, Deciding}
-use Rattle.rows.proofs.SearchCases.{Searched, search-start, search-over, search-other, search-own, better-only, frame-named, none_named}
+use Rattle.rows.proofs.SearchCases.{Searched, search-over, search-other, search-own, better-only, frame-named}
 use Rattle.rows.specs.row_search.inner.Skipped.{Unmatched, Skipped}
 
 -- ---- rows that a search passed over, none of which matches
@@ -42,11 +39,7 @@ pub record PassedRows (b : List ℕ) (l w bit first end f found : ℕ) : Type 0 
 
 module _ (b : List ℕ) (l w bit first end : ℕ) where
   pub pass-start : size b < NO_FRAME → PassedRows b l w bit first end first NO_FRAME
-  pass-start few = record {
-    table = few;
-    named = none_named b l (omega arith);
-    one = search-start b l w bit first end NO_FRAME (omega arith);
-  }
+  pass-start few = grind (arith, common_steps)
 
   pub pass-over : (f found : ℕ) → PassedRows b l w bit first end f found → end ≤ f → first ≡ first_on b l → end ≡ end_on b l
       → Chosen b l w bit found
@@ -64,12 +57,7 @@ module _ (b : List ℕ) (l w bit first end : ℕ) where
       }
 
       pub pass-own : t ≡ true → f < size b → NO_FRAME ≤ found → PassedRows b l w bit first end (f + 1) f
-      pass-own y inside k = record {
-        table = s.table;
-        named = frame-named b f l inside;
-        one = search-own b l w bit first end f found s.one d h swapped e small t q y f
-            (better-only b found f inside (omega (arith, s.table)));
-      }
+      pass-own y inside k = grind (arith, common_steps, better-only, frame-named, search-own)
 
     -- over n rows that do not match
     pass_on : (found n f r : ℕ) → r ≡ f + n → (f < r → r ≤ end)

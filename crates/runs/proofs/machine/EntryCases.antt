@@ -1,17 +1,9 @@
 -- A run or a tick on an image, or live on a table, by the run on the table that it makes.
-use mathlib.Core.Path.{◌≡◌, refl, sym, ◌∙◌, ap, subst}
-use mathlib.Core.Bool.{Bool, true, false}
-use mathlib.Core.List.{List, [], ◌∷◌}
-use Prim.Native.Nat.{ℕ, ◌*◌, ◌≤◌}
-use native.Mathlib.Omega.{arith}
-use lib.Dec.{eqb}
-use lib.ListN.{take}
-use borrow.Author.Tests.{ne_eqb}
-use Rattle.words.proofs.lists.Tests.{if-false}
+use Rattle.std.proofs.Common.{◌≡◌, refl, sym, ◌∙◌, ap, subst, Bool, true, false, List, [], ◌∷◌, ℕ, ◌*◌, ◌≤◌, arith, take, Err}
+use Rattle.std.proofs.lemmas.Grind.{common_steps}
 use Rattle.text.specs.frames.Frame.{contents}
 use Rattle.text.specs.frames.Verdict.{fine, refused}
 use Rattle.text.specs.frames.Answer.{Answer, refusal, reply, verdict_reply}
-use Rattle.std.proofs.Common.{Err}
 use Rattle.text.specs.declared.frames.refusals.Refusal.{Refusal}
 use Rattle.text.specs.declared.frames.refusals.Refusal.TheVariants.{BadHeader}
 use Rattle.text.specs.frames.Refusal.{number_of, index_of}
@@ -25,8 +17,8 @@ use Rattle.tables.specs.inner.Asked.{front}
 use Rattle.tables.proofs.Made.{MadeTable}
 use Rattle.tables.proofs.Front.{front-image, cut-is}
 use Rattle.state.specs.declared.State.{State}
-use Rattle.state.specs.Bytes.{state_of, bytes_of}
-use Rattle.runs.specs.Run.{RunOutcome, run_verdict, run}
+use Rattle.state.specs.Bytes.{state_of}
+use Rattle.runs.specs.Run.{run_verdict, run}
 use Rattle.runs.specs.TickOutcome.{TickOutcome, TickAnswer, tick_outcome, image_tick}
 use Rattle.runs.specs.machine.Live.{live_verdict, live_run, live_tick}
 use Rattle.runs.specs.InPlace.{GivesRunOn, GivesTickOn}
@@ -39,14 +31,7 @@ kept_advance n j s = record { reply = refusal n j 0; mask = 0; code = 0; state =
 
 kept-advances : (x : TickOutcome) (bytes : List ℕ) (n j : ℕ) (s : State) → x ≡ kept_advance n j s
     → 1 ≤ n → (r : Refusal) → reply (Err r) ≡ refusal n j 0 → GivesTickOn x bytes (Err r) bytes
-kept-advances x bytes n j s g l r e =
-    rw g
-    (record {
-      answered = e;
-      mask = refl;
-      code = refl;
-      bytes = sym (if-false (eqb n 0) (bytes_of s) bytes (ne_eqb n 0 (λ z. omega arith)));
-    })
+kept-advances x bytes n j s g l r e = grind (arith, common_steps)
 
 -- ---- live
 module _ (b before : List ℕ) where
@@ -70,25 +55,18 @@ module _ (b before : List ℕ) where
 
     pub live-runs : (ws ms ks : List ℕ) (n : ℕ) → n ≡ 10 * table_end b → t ≡ false → (a : Answer) (after us vs : List ℕ)
         → GivesRunOn (table_run (take n b) s ws ms ks) before a after us vs → GivesRunOn (live_run b s ws ms ks) before a after us vs
-    live-runs ws ms ks n q h a after us vs r =
-        subst (λ (x : RunOutcome). GivesRunOn x before a after us vs)
-        (ap (λ (c : List ℕ). table_run c s ws ms ks) (cut-is b n q) ∙ live-good ws ms ks (sym e ∙ h)) r
+    live-runs ws ms ks n q h a after us vs r = grind (arith, common_steps, cut-is, live-good)
 
     module _ (w : ℕ) where
       pub live-stays : t ≡ true → GivesTickOn (live_tick b s w) before (Err BadHeader) before
       unfolding live_tick
-      live-stays h =
-          kept-advances (live_tick b s w) before 11 0 s (ap tick_outcome (live-bad (w ∷ []) (0 ∷ []) (0 ∷ []) (sym e ∙ h)))
-          (omega arith) BadHeader refl
+      live-stays h = grind (arith, common_steps, kept-advances, live-bad)
 
       pub live-advances : (n : ℕ) → n ≡ 10 * table_end b → t ≡ false → (r : TickAnswer) (after : List ℕ)
           → GivesTickOn (tick_outcome (table_run (take n b) s (w ∷ []) (0 ∷ []) (0 ∷ []))) before r after
           → GivesTickOn (live_tick b s w) before r after
       unfolding live_tick
-      live-advances n q h r after x =
-          subst (λ (y : RunOutcome). GivesTickOn (tick_outcome y) before r after)
-          (ap (λ (c : List ℕ). table_run c s (w ∷ []) (0 ∷ []) (0 ∷ [])) (cut-is b n q)
-          ∙ live-good (w ∷ []) (0 ∷ []) (0 ∷ []) (sym e ∙ h)) x
+      live-advances n q h r after x = grind (arith, common_steps, cut-is, live-good)
 
 -- ---- on an image
 module _ (t before : List ℕ) where
@@ -129,20 +107,15 @@ module _ (t before : List ℕ) where
 
     pub image-stays : (w : ℕ) → GivesTickOn (image_tick t state₀ w) before (Err r) before
     unfolding image_tick
-    image-stays w =
-        kept-advances (image_tick t state₀ w) before k j state₀ (ap tick_outcome (image-kept (w ∷ []) (0 ∷ []) (0 ∷ []) k j verdict))
-        (early k j verdict).0 r told
+    image-stays w = grind (arith, common_steps, kept-advances, image-kept, early, verdict, told)
 
   module _ (b : List ℕ) (made : MadeTable t b) where
     pub image-runs : (ws ms ks : List ℕ) (a : Answer) (after us vs : List ℕ)
         → GivesRunOn (table_run b state₀ ws ms ks) before a after us vs → GivesRunOn (run t state₀ ws ms ks) before a after us vs
-    image-runs ws ms ks a after us vs r =
-        subst (λ (x : RunOutcome). GivesRunOn x before a after us vs) (table_is ws ms ks b made.accepted made.holds) r
+    image-runs ws ms ks a after us vs r = grind (arith, common_steps, table_is)
 
     pub image-advances : (w : ℕ) (r : TickAnswer) (after : List ℕ)
         → GivesTickOn (tick_outcome (table_run b state₀ (w ∷ []) (0 ∷ []) (0 ∷ []))) before r after
         → GivesTickOn (image_tick t state₀ w) before r after
     unfolding image_tick
-    image-advances w r after x =
-        subst (λ (y : RunOutcome). GivesTickOn (tick_outcome y) before r after)
-        (table_is (w ∷ []) (0 ∷ []) (0 ∷ []) b made.accepted made.holds) x
+    image-advances w r after x = grind (arith, common_steps, table_is)

@@ -1,11 +1,6 @@
 -- What the bytes hold after a run or a tick in place is the state that it hands back.
-use Rattle.std.proofs.Common.{if◌then◌else◌}
-use Prim.Native.Nat.{ℕ}
-use mathlib.Core.Path.{◌≡◌, refl, ap, ◌∙◌}
-use mathlib.Core.Bool.{Bool, true, false}
-use mathlib.Core.List.{List, [], ◌∷◌}
-use lib.Dec.{eqb}
-use lib.ListN.{length}
+use Rattle.std.proofs.Common.{if◌then◌else◌, ℕ, ◌≡◌, refl, ap, ◌∙◌, Bool, true, false, List, [], ◌∷◌, length, arith}
+use Rattle.std.proofs.lemmas.Grind.{common_steps}
 use Rattle.words.proofs.lists.Tests.{if-false}
 use Rattle.text.specs.frames.Verdict.{Verdict, fine, refused}
 use Rattle.text.specs.frames.Answer.{reply_number, counted_reply}
@@ -13,11 +8,10 @@ use Rattle.image.specs.Image.{Image}
 use Rattle.state.specs.declared.State.{State}
 use Rattle.state.specs.Bytes.{state_of, bytes_of}
 use Rattle.state.proofs.ResultBytes.{state-back, held-sized, held-bits, held_back}
-use Rattle.ticks.specs.Tick.{MachineTick, finished, stopped, tick}
-use Rattle.runs.specs.Run.{MachineRun, run_after, ticks, run_on}
+use Rattle.runs.specs.Run.{MachineRun, ticks, run_on}
 use Rattle.runs.specs.TickOutcome.{TickOutcome, tick_outcome}
 use Rattle.runs.specs.InPlace.{is_without_change, bytes_after, if_ticked}
-use Rattle.ticks.proofs.Normal.{Same, Normal, tick-normal}
+use Rattle.ticks.proofs.Normal.{Same, tick-normal}
 use Rattle.runs.proofs.Normal.{Late, ticks-same, ticks-late}
 use Rattle.runs.proofs.RunCases.{late-writes}
 
@@ -56,20 +50,5 @@ module _ (b : List ℕ) where
 
     pub tick-held : (v : Verdict) → state_of (if_ticked (one v) (bytes_of (one v).state) b) ≡ (one v).state
     unfolding ticks
-    tick-held (refused k j) = go (eqb k 0)
-      where
-        go : (t : Bool) → state_of (if t then bytes_of s else b) ≡ s
-        go true = held_back b
-        go false = refl
-    tick-held fine = go (tick i s w) (tick-normal i s w)
-      where
-        abbrev-run : MachineTick → TickOutcome
-        abbrev-run x = tick_outcome (run_on fine (λ _. run_after s (λ t. ticks i t []) x) s (0 ∷ []) (0 ∷ []))
-
-        go : (x : MachineTick) → Normal s x → state_of (if_ticked (abbrev-run x) (bytes_of (abbrev-run x).state) b) ≡ (abbrev-run x).state
-        go (finished m k t) n = back t n
-        go (stopped k) n = stay (eqb k 0)
-          where
-            stay : (t : Bool) → state_of (if t then bytes_of s else b) ≡ s
-            stay true = held_back b
-            stay false = refl
+    tick-held (refused k j) = grind (arith, common_steps, held_back)
+    tick-held fine = grind (arith, common_steps, held_back, tick-normal, back)

@@ -1,8 +1,6 @@
 -- One tick as a controller calls it: what its refusals and its success leave, read off the definition by a run.
-use Prim.Native.Nat.{ℕ}
-use mathlib.Core.Path.{◌≡◌, refl, sym, ap, ◌∙◌}
-use mathlib.Core.Bool.{Bool, true, false}
-use mathlib.Core.List.{List, [], ◌∷◌}
+use Rattle.std.proofs.Common.{ℕ, ◌≡◌, List, [], ◌∷◌, arith}
+use Rattle.std.proofs.lemmas.Grind.{common_steps}
 use Rattle.text.specs.frames.Frame.{contents}
 use Rattle.text.specs.frames.Verdict.{Verdict, fine, refused, next, when}
 use Rattle.text.specs.frames.Answer.{success, refusal}
@@ -12,7 +10,7 @@ use Rattle.state.specs.declared.State.{State}
 use Rattle.fitness.specs.Fitness.{is_unfit}
 use Rattle.ticks.specs.Tick.{MachineTick, finished, stopped, tick}
 use Rattle.runs.specs.Run.{RunOutcome, run, run_verdict, ticks}
-use Rattle.runs.specs.TickOutcome.{TickOutcome, tick_outcome, image_tick}
+use Rattle.runs.specs.TickOutcome.{TickOutcome, image_tick}
 
 -- what a run tries but 16: one word has room in one place
 abbrev pub verdict_before_16 : List ℕ → State → Verdict
@@ -33,35 +31,16 @@ run_of_word s m₀ k₀ fine (finished m k s') = record { reply = success 1; sta
 pub run-one : (t : List ℕ) (s : State) (w m₀ k₀ : ℕ)
     → run t s (w ∷ []) (m₀ ∷ []) (k₀ ∷ []) ≡ run_of_word s m₀ k₀ (verdict_before_16 t s) (tick (decoded_image (contents t)) s w)
 unfolding run run_verdict ticks
-run-one t s w m₀ k₀ = go (image_verdict t) refl (is_unfit (decoded_image (contents t)) s) refl (tick (decoded_image (contents t)) s w) refl
-  where
-    go : (v : Verdict) → image_verdict t ≡ v → (b : Bool) → is_unfit (decoded_image (contents t)) s ≡ b → (d : MachineTick)
-        → tick (decoded_image (contents t)) s w ≡ d
-        → run t s (w ∷ []) (m₀ ∷ []) (k₀ ∷ []) ≡ run_of_word s m₀ k₀ (verdict_before_16 t s) (tick (decoded_image (contents t)) s w)
-    go (refused k i) e b f d g = simp e
-    go fine e true f d g = simp (e, f)
-    go fine e false f (stopped n) g = simp (e, f, g)
-    go fine e false f (finished m k s') g = simp (e, f, g)
+run-one t s w m₀ k₀ = grind (arith, common_steps)
 
 pub advance-by : (t : List ℕ) (s : State) (w : ℕ) → image_tick t s w
     ≡ advance_by s (verdict_before_16 t s) (tick (decoded_image (contents t)) s w)
 unfolding image_tick
-advance-by t s w = ap tick_outcome (run-one t s w 0 0) ∙ go (verdict_before_16 t s) (tick (decoded_image (contents t)) s w)
-  where
-    go : (v : Verdict) (d : MachineTick) → tick_outcome (run_of_word s 0 0 v d) ≡ advance_by s v d
-    go (refused k i) d = refl
-    go fine (stopped n) = refl
-    go fine (finished m k s') = refl
+advance-by t s w = grind (arith, common_steps, run-one)
 
 -- a run of one word over 0 and 0 hands back what the tick does
 abbrev pub run_of_tick : TickOutcome → RunOutcome
 run_of_tick x = record { reply = x.reply; state = x.state; masks = x.mask ∷ []; codes = x.code ∷ [] }
 
 pub run-advance : (t : List ℕ) (s : State) (w : ℕ) → run t s (w ∷ []) (0 ∷ []) (0 ∷ []) ≡ run_of_tick (image_tick t s w)
-run-advance t s w =
-    run-one t s w 0 0 ∙ go (verdict_before_16 t s) (tick (decoded_image (contents t)) s w) ∙ sym (ap run_of_tick (advance-by t s w))
-  where
-    go : (v : Verdict) (d : MachineTick) → run_of_word s 0 0 v d ≡ run_of_tick (advance_by s v d)
-    go (refused k i) d = refl
-    go fine (stopped n) = refl
-    go fine (finished m k s') = refl
+run-advance t s w = grind (arith, common_steps, run-one, advance-by)

@@ -1,30 +1,21 @@
 -- A call on bytes, from a head that is refused or from the turn of the part that is the spindle's state.
-use Rattle.std.proofs.Common.{if◌then◌else◌}
-use Prim.Native.Nat.{ℕ, ◌*◌, ◌≤◌, ◌<◌}
-use mathlib.Core.Path.{◌≡◌, refl, sym, ◌∙◌, ap, ap₂, subst}
-use mathlib.Core.Bool.{Bool, true, false}
-use mathlib.Core.List.{List}
-use native.Mathlib.Omega.{arith}
-use lib.Dec.{ltb, eqb}
-use lib.ListN.{length}
-use lib.Seq.{get_or-set_same}
-use borrow.Author.Tests.{ne_eqb, eqb-true}
+use Rattle.std.proofs.Common.{if◌then◌else◌, ℕ, ◌*◌, ◌≤◌, ◌<◌, ◌≡◌, sym, ◌∙◌, ap, subst, Bool, true, false, List, arith, eqb, length}
+use Rattle.std.proofs.Common.{get_or-set_same}
+use Rattle.std.proofs.lemmas.Grind.{common_steps}
 use Rattle.words.specs.lists.Sequences.{written}
 use Rattle.words.proofs.lists.Tests.{if-true, if-false}
-use Rattle.text.specs.frames.Verdict.{Verdict, fine, refused, next, when}
+use Rattle.text.specs.frames.Verdict.{Verdict, fine, refused, when}
 use Rattle.text.specs.frames.Answer.{reply_number}
-use Rattle.text.proofs.frames.Refuses.{next-refuses, when-refuses}
 use Rattle.image.specs.Check.{image_verdict}
 use Rattle.tables.specs.Table.{is_bad_table}
 use Rattle.state.specs.declared.State.{State}
-use Rattle.state.specs.State.{no_state}
 use Rattle.state.specs.Bytes.{state_of, bytes_of}
 use Rattle.runs.specs.TickOutcome.{TickOutcome, image_tick}
 use Rattle.runs.specs.machine.Live.{live_tick}
 use Rattle.spindles.specs.declared.SpinReport.{SpinReport}
 use Rattle.spindles.specs.Spindles.{state_at, SpinOutcome, spin, live_spin}
-use Rattle.spindles.specs.inner.HeadAndTurn.{is_bad_spin_call, refused_head, GivesRefusedHead, TurnOutcome, turn}
-use Rattle.spindles.specs.inner.HeadAndTurn.{GivesTurnOn, four_depths, head_spun, turn_spun, spin_in_parts}
+use Rattle.spindles.specs.inner.HeadAndTurn.{is_bad_spin_call, refused_head, GivesRefusedHead, TurnOutcome, turn, GivesTurnOn, four_depths}
+use Rattle.spindles.specs.inner.HeadAndTurn.{head_spun, turn_spun, spin_in_parts}
 use Rattle.spindles.proofs.InParts.{call-four, call-named, depth-most, head-refused, spin-parts, live-spin-parts}
 use Rattle.spindles.proofs.turning.Settled.{NumberedVerdict, image-numbered, table-numbered}
 use Rattle.spindles.specs.spindle_parts.FourStates.{part_of, states_of, depths_in}
@@ -36,11 +27,7 @@ use Rattle.spindles.proofs.spindle_parts.States.{count-is, state-is, part_length
 module _ (b : List ℕ) (n k : ℕ) (counted : n ≡ state_count (length b)) (t : Bool) (tested : t ≡ is_bad_spin_call n k)
     (good : t ≡ false) where
   pub bytes-long : length b ≡ 520
-  bytes-long = go (eqb (length b) 520) refl (sym counted ∙ call-four n k (sym tested ∙ good))
-    where
-      go : (u : Bool) → eqb (length b) 520 ≡ u → ◌≡◌ {A = ℕ} (if u then 4 else 0) 4 → length b ≡ 520
-      go true e q = eqb-true (length b) 520 e
-      go false e q = absurd (omega arith)
+  bytes-long = grind (arith, common_steps)
 
   pub bytes-named : k < 4
   bytes-named = call-named n k (sym tested ∙ good)
@@ -57,31 +44,19 @@ pub part-full : (b : List ℕ) → length b ≡ 520 → (k : ℕ) → k < 4
     → GivesTurnOn y part r part'
     → 130 ≡ length part'
 unfolding bytes_of
-part-full b long k l y part part' r e z = sym (ap length z.bytes ∙ go (eqb (reply_number y.reply) 0))
-  where
-    go : (t : Bool) → length (if t then bytes_of y.state else part) ≡ 130
-    go true = refl
-    go false = ap length e ∙ part_length b long k l
+part-full b long k l y part part' r e z = grind (arith, common_steps, part_length, long)
 
 -- ---- a head that is refused
 head-numbered : (v : Verdict) (k : ℕ) → NumberedVerdict v → NumberedVerdict (refused_head v k)
 unfolding refused_head
-head-numbered v k l =
-    next-refuses (λ m. 1 ≤ m) (when 25 (ltb 3 k)) (λ _. next v λ _. refused 15 0) (when-refuses (λ m. 1 ≤ m) 25 (ltb 3 k) (omega arith))
-    (next-refuses (λ m. 1 ≤ m) v (λ _. refused 15 0) l (omega arith))
+head-numbered v k l = grind (arith, common_steps)
 
 module _ (b : List ℕ) (taken k : ℕ) (r : SpinReport) where
   head-spins : (u : Verdict) → NumberedVerdict u → (u ≡ fine → ⊥) → GivesRefusedHead u taken r
       → GivesSpinOn (head_spun u (states_of b) taken) b k r b
   unfolding bytes_spun
-  head-spins fine l told z = absurd (told refl)
-  head-spins (refused n i) l told z = record {
-    answered = z.answered;
-    mask = z.mask;
-    code = z.code;
-    taken = z.taken;
-    bytes = sym (if-false (eqb n 0) (written b (130 * k) (bytes_of (state_at (states_of b) k))) b (ne_eqb n 0 (λ m. omega arith)));
-  }
+  head-spins fine l told z = grind (arith, common_steps)
+  head-spins (refused n i) l told z = grind (arith, common_steps)
 
   -- with the count of states as it is read
   module _ (n : ℕ) (counted : n ≡ state_count (length b)) (t : Bool) (tested : t ≡ is_bad_spin_call n k) where
@@ -126,33 +101,15 @@ module _ (b : List ℕ) (taken k : ℕ) (r : SpinReport) where
       -- what is written of a turn
       put-by : (y : TurnOutcome) → part' ≡ (if eqb (reply_number y.reply) 0 then bytes_of y.state else part)
           → after ≡ (if eqb (reply_number y.reply) 0 then written b (130 * k) (bytes_of y.state) else b)
-      put-by y e = put ∙ ap (written b (130 * k)) e ∙ go (eqb (reply_number y.reply) 0)
-        where
-          go : (u : Bool) → written b (130 * k) (if u then bytes_of y.state else part)
-              ≡ (if u then written b (130 * k) (bytes_of y.state) else b)
-          go true = refl
-          go false = ap (written b (130 * k)) parted ∙ part-back b long k low
+      put-by y e = grind (arith, common_steps, part-back, long, low)
 
       turn-spins : (y : TurnOutcome) → GivesTurnOn y part r part' → GivesSpinOn (turn_spun (states_of b) k y) b k r after
       unfolding bytes_spun
-      turn-spins y z = record {
-        answered = z.answered;
-        mask = z.mask;
-        code = z.code;
-        taken = z.taken;
-        bytes = put-by y z.bytes ∙ ap (λ (u : State). if eqb (reply_number y.reply) 0 then written b (130 * k) (bytes_of u) else b)
-            (sym (get_or-set_same (states_of b) k y.state no_state
-            (omega (arith, count-is b, counted, call-four n k (sym tested ∙ good), low))));
-      }
+      turn-spins y z = grind (arith, common_steps, count-is, get_or-set_same, call-four, low, put-by)
 
       turn_by : (v : Verdict) (go : State → TickOutcome) → GivesTurnOn (turn v (state_of part) sum taken (go (state_of part))) part r part'
           → GivesSpinOn (spin_in_parts v (states_of b) taken k (go s)) b k r after
-      turn_by v go z =
-          subst (λ (y : SpinOutcome). GivesSpinOn y b k r after)
-          (ap₂ (λ (u : State) (m : ℕ). turn_spun (states_of b) k (turn v u m taken (go u))) is_held (summed ∙ sym (depths-are b long))
-          ∙ sym (if-false (is_bad_spin_call (length (states_of b)) k) (head_spun (refused_head v k) (states_of b) taken)
-          (turn_spun (states_of b) k (turn v s (four_depths (states_of b)) taken (go s))) (test-is ∙ good)))
-          (turn-spins (turn v (state_of part) sum taken (go (state_of part))) z)
+      turn_by v go z = grind (arith, common_steps, depths-are, if-false, test-is, long, is_held, turn-spins)
 
       pub image-spins : (image : List ℕ) (w : ℕ)
           → GivesTurnOn (turn (image_verdict image) (state_of part) sum taken (image_tick image (state_of part) w)) part r part'

@@ -1,14 +1,9 @@
 -- A bad head is refused with the first of 25, what the image or the table is refused for, and 15; so is the tick of a state of no places.
-use Prim.Native.Nat.{ℕ, ◌≤◌, ◌<◌}
-use mathlib.Core.Path.{◌≡◌, refl, sym, ◌∙◌, ap}
-use mathlib.Core.Bool.{Bool, true, ◌||◌}
-use mathlib.Core.List.{List, [], ◌∷◌}
-use lib.Dec.{ltb, eqb}
-use lib.ListN.{get_or}
-use borrow.Author.Tests.{lt-ltb, le-ltb}
+use Rattle.std.proofs.Common.{ℕ, ◌≤◌, ◌<◌, ◌≡◌, refl, sym, ◌∙◌, ap, Bool, true, ◌||◌, List, [], ◌∷◌, ltb, eqb, get_or, le-ltb, Ok, Err}
+use Rattle.std.proofs.Common.{arith}
+use Rattle.std.proofs.lemmas.Grind.{common_steps}
 use Rattle.text.specs.frames.Verdict.{Verdict, fine, refused, next, when}
 use Rattle.text.specs.frames.Answer.{refusal, reply, verdict_reply}
-use Rattle.std.proofs.Common.{Ok, Err}
 use Rattle.text.specs.declared.frames.refusals.Refusal.{Refusal}
 use Rattle.text.proofs.frames.Chains.{no-success}
 use Rattle.text.specs.declared.frames.refusals.Refusal.TheVariants.{BadHeader, Unfit, NoSpindle}
@@ -26,12 +21,7 @@ use Rattle.spindles.specs.inner.HeadAndTurn.{refused_head, GivesRefusedHead}
 
 refuses : (u : Verdict) (taken n i : ℕ) → u ≡ refused n i → (x : Refusal) → reply (Err x) ≡ refusal n i 0
     → GivesRefusedHead u taken (record { answer = Err x; taken = taken })
-refuses u taken n i e x f = record {
-  answered = f ∙ sym (ap (λ (v : Verdict). verdict_reply v 0) e);
-  mask = refl;
-  code = refl;
-  taken = refl;
-}
+refuses u taken n i e x f = grind (arith, common_steps)
 
 -- an answer that stands for a refusal has no mask and no code
 no-tick : (a : TickAnswer) (n i : ℕ) → tick_reply a ≡ refusal n i 0 → (answered_mask a ≡ 0) × (answered_code a ≡ 0)
@@ -41,9 +31,7 @@ no-tick (Err r) n i e = (refl, refl)
 module _ (v : Verdict) (k taken : ℕ) where
   pub no-spindle : 3 < k → GivesRefusedHead (refused_head v k) taken (record { answer = Err NoSpindle; taken = taken })
   unfolding refused_head
-  no-spindle l =
-      refuses (refused_head v k) taken 25 0 (ap (λ (t : Bool). next (when 25 t) λ _. next v λ _. refused 15 0)
-      (lt-ltb 3 k l)) NoSpindle refl
+  no-spindle l = grind (arith, common_steps)
 
   module _ (l : k ≤ 3) where
     named : refused_head v k ≡ next v λ _. refused 15 0
@@ -59,18 +47,7 @@ module _ (v : Verdict) (k taken : ℕ) where
     -- by what a tick answers that is refused with what the image is, or 15
     pub tick-refused : (a : TickAnswer) → tick_reply a ≡ verdict_reply (next v λ _. refused 15 0) 0
         → GivesRefusedHead (refused_head v k) taken (record { answer = a; taken = taken })
-    tick-refused a f =
-        let none = go v f in
-        record {
-          answered = f ∙ sym (ap (λ (u : Verdict). verdict_reply u 0) named);
-          mask = none.0;
-          code = none.1;
-          taken = refl;
-        }
-      where
-        go : (u : Verdict) → tick_reply a ≡ verdict_reply (next u λ _. refused 15 0) 0 → (answered_mask a ≡ 0) × (answered_code a ≡ 0)
-        go fine e = no-tick a 15 0 e
-        go (refused n i) e = no-tick a n i e
+    tick-refused a f = grind (arith, common_steps, no-tick, named)
 
 module _ (s : State) (masks codes : List ℕ) (go : Unit {0} → MachineRun) (last : Verdict) where
   -- a run of a state that does not fit

@@ -1,16 +1,14 @@
 -- A call over the list of states gives what its parts give: a head that is refused, or a turn put into the list.
-use Rattle.std.proofs.Common.{◌≡◌, ℕ, ◌+◌, ◌<◌, true, false, List, length, get_or, refl, ap, arith}
+use Rattle.std.proofs.Common.{◌≡◌, ℕ, ◌+◌, true, false, List, length, get_or, refl, arith}
 use Rattle.std.proofs.Math.ListN.{set}
-use Rattle.std.proofs.lemmas.List.{get_or_default}
+use Rattle.std.proofs.lemmas.Grind.{common_steps}
 use Rattle.text.specs.frames.Verdict.{Verdict, fine, refused}
 use Rattle.state.specs.declared.State.{State}
-use Rattle.state.specs.State.{no_state}
 use Rattle.runs.specs.TickOutcome.{TickOutcome}
 use Rattle.spindles.specs.declared.SpinReport.{SpinReport}
 use Rattle.spindles.specs.Spindles.{state_at, GivesSpin}
-use Rattle.spindles.specs.inner.HeadAndTurn.{is_bad_spin_call, refused_head, GivesRefusedHead, turn, GivesTurn, four_depths, head_spun}
-use Rattle.spindles.specs.inner.HeadAndTurn.{spin_in_parts}
-use Rattle.spindles.proofs.InParts.{head-refused, call-four, call-named}
+use Rattle.spindles.specs.inner.HeadAndTurn.{is_bad_spin_call, refused_head, GivesRefusedHead, turn, GivesTurn, head_spun, spin_in_parts}
+use Rattle.spindles.proofs.InParts.{head-refused}
 
 module _ (ys : List State) (taken k : ℕ) (r : SpinReport) where
   head-spun : (u : Verdict) → (u ≡ fine → ⊥) → GivesRefusedHead u taken r → GivesSpin (head_spun u ys taken) r ys
@@ -28,12 +26,4 @@ module _ (ys : List State) (taken k : ℕ) (r : SpinReport) where
         (turn v (get_or ys k d) ((get_or ys 0 d).depth + (get_or ys 1 d).depth + (get_or ys 2 d).depth + (get_or ys 3 d).depth) taken
         (f (get_or ys k d))) r s
         → GivesSpin (spin_in_parts v ys taken k (f (state_at ys k))) r (set ys k s)
-    turn-spun f d s e z =
-        let n : length ys ≡ 4 = call-four (length ys) k e in
-        let l : k < 4 = call-named (length ys) k e in
-        let at = λ (i : ℕ) (h : i < 4). get_or_default ys i no_state d (omega arith) in
-        let deep = λ (i : ℕ) (h : i < 4). ap (λ (u : State). u.depth) (at i h) in
-        let sums : four_depths ys ≡ (get_or ys 0 d).depth + (get_or ys 1 d).depth + (get_or ys 2 d).depth + (get_or ys 3 d).depth =
-        omega (arith, deep 0 (omega arith), deep 1 (omega arith), deep 2 (omega arith), deep 3 (omega arith)) in
-        let t : GivesTurn (turn v (state_at ys k) (four_depths ys) taken (f (state_at ys k))) r s = rw (at k l, sums) z in
-        rw e (record { answered = t.answered; mask = t.mask; code = t.code; taken = t.taken; states = ap (set ys k) t.state })
+    turn-spun f d s e z = grind (arith, common_steps)

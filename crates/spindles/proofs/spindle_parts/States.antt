@@ -1,14 +1,8 @@
 -- Four states in 520 bytes: how many there are, their parts and their depths.
-use Rattle.std.proofs.Common.{if◌then◌else◌}
-use Prim.Native.Nat.{ℕ, zero, suc, ◌+◌, ◌*◌, ◌<◌}
-use mathlib.Core.Path.{◌≡◌, refl, sym, ◌∙◌, ap, ap₂}
-use mathlib.Core.Bool.{Bool, true, false}
-use mathlib.Core.List.{List, [], ◌∷◌, ◌++◌, map}
-use native.Mathlib.Omega.{arith}
-use lib.Dec.{eqb}
-use lib.ListN.{length, get_or, take, drop, length-take, length-drop, take-append-drop}
-use lib.Seq.{get_or-take, get_or-drop, drop-drop}
-use borrow.Author.Tests.{eq-eqb}
+use Rattle.std.proofs.Common.{if◌then◌else◌, ℕ, zero, suc, ◌+◌, ◌*◌, ◌<◌, ◌≡◌, refl, sym, ◌∙◌, ap, ap₂, List, [], ◌∷◌, ◌++◌, map, arith}
+use Rattle.std.proofs.Common.{eqb, length, get_or, take, drop, length-take, length-drop, take-append-drop, get_or-take, get_or-drop}
+use Rattle.std.proofs.Common.{drop-drop, eq-eqb}
+use Rattle.std.proofs.lemmas.Grind.{common_steps}
 use Rattle.words.specs.lists.Numbers.{range}
 use Rattle.words.specs.lists.Sequences.{written}
 use Rattle.words.proofs.lists.Tests.{if-true}
@@ -25,11 +19,7 @@ four b = state_of (part_of b 0) ∷ state_of (part_of b 1) ∷ state_of (part_of
 
 pub count-is : (b : List ℕ) → length (states_of b) ≡ state_count (length b)
 unfolding states_of
-count-is b = go (eqb (length b) 520)
-  where
-    go : (t : Bool) → length (if t then four b else []) ≡ (if t then 4 else 0)
-    go true = refl
-    go false = refl
+count-is b = grind (arith, common_steps)
 
 module _ (b : List ℕ) (long : length b ≡ 520) where
   four_are : states_of b ≡ four b

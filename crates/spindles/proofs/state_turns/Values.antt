@@ -1,13 +1,7 @@
 -- A turn by value, by what the bytes hold after the turn on them.
-use Rattle.std.proofs.Common.{if◌then◌else◌}
-use Prim.Native.Nat.{ℕ, ◌+◌, ◌-◌, ◌≤◌}
-use mathlib.Core.Path.{◌≡◌, refl, ◌∙◌, ap, subst}
-use mathlib.Core.Bool.{Bool, true, false}
-use mathlib.Core.List.{List}
-use native.Mathlib.Omega.{arith}
-use lib.Dec.{eqb}
-use lib.ListN.{length}
-use Rattle.text.specs.frames.Verdict.{Verdict, fine, refused, next, when}
+use Rattle.std.proofs.Common.{if◌then◌else◌, ℕ, ◌-◌, ◌≤◌, ◌≡◌, ◌∙◌, ap, subst, List, arith, eqb, length}
+use Rattle.std.proofs.lemmas.Grind.{common_steps}
+use Rattle.text.specs.frames.Verdict.{Verdict, when}
 use Rattle.text.specs.frames.Answer.{reply_number}
 use Rattle.image.specs.Check.{image_verdict}
 use Rattle.tables.specs.Table.{is_bad_table}
@@ -18,40 +12,17 @@ use Rattle.state.proofs.ResultBytes.{state-back, held_back}
 use Rattle.runs.specs.TickOutcome.{TickOutcome, image_tick}
 use Rattle.runs.specs.machine.Live.{live_tick}
 use Rattle.spindles.specs.declared.SpinReport.{SpinReport}
-use Rattle.spindles.specs.Spindles.{has_no_place}
-use Rattle.spindles.specs.inner.HeadAndTurn.{is_bad_record, unchanged_turn, turn_on, turn, GivesTurn, GivesTurnOn}
+use Rattle.spindles.specs.inner.HeadAndTurn.{turn, GivesTurn, GivesTurnOn}
 use Rattle.spindles.proofs.turning.Settled.{Held, image-held, table-held}
 
 -- the bytes are those of the state, and what they then hold is handed back
 module _ (b : List ℕ) (v : Verdict) (sum taken : ℕ) (x : TickOutcome) (held : Held b x) where
   left : (n : ℕ) → state_of (if eqb n 0 then bytes_of (state_of b) else b) ≡ state_of b
-  left n = go (eqb n 0)
-    where
-      go : (t : Bool) → state_of (if t then bytes_of (state_of b) else b) ≡ state_of b
-      go true = held_back b
-      go false = refl
+  left n = grind (arith, common_steps, held_back)
 
   turn-held : let y = turn v (state_of b) sum taken x in state_of (if eqb (reply_number y.reply) 0 then bytes_of y.state else b) ≡ y.state
   unfolding turn
-  turn-held = go (next v λ _. when 15 (is_bad_record sum taken))
-    where
-      by : (t : Bool) → let y = (if t then unchanged_turn 26 0 (state_of b) taken
-          else record {
-            reply = x.reply;
-            mask = x.mask;
-            code = x.code;
-            taken =
-                taken + x.state.depth - (state_of b).depth;
-            state = x.state;
-          }) in
-          state_of (if eqb (reply_number y.reply) 0 then bytes_of y.state else b) ≡ y.state
-      by true = refl
-      by false = held
-
-      go : (u : Verdict)
-          → let y = turn_on u (state_of b) taken x in state_of (if eqb (reply_number y.reply) 0 then bytes_of y.state else b) ≡ y.state
-      go (refused n i) = left n
-      go fine = by (has_no_place taken (state_of b) x)
+  turn-held = grind (arith, common_steps, left)
 
 -- with the sum as the function has it
 module _ (state : State) (sized : Sized state) (bits : length state.bits ≡ 16) (bytes : List ℕ) (e : bytes ≡ bytes_of state)

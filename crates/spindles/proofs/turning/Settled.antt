@@ -1,19 +1,12 @@
 -- A turn on the bytes of a state by the tick that it makes, or by the head that is refused.
-use Prim.Native.Nat.{ℕ, ◌+◌, ◌-◌, ◌≤◌}
-use mathlib.Core.Path.{◌≡◌, refl, sym, ◌∙◌, ap, ap₂, subst}
-use mathlib.Core.Bool.{Bool, true, false, ◌&&◌, not}
-use mathlib.Core.List.{List, [], ◌∷◌}
-use lib.Dec.{leb, ltb, eqb}
-use native.Mathlib.Omega.{arith}
-use borrow.Author.Tests.{ne_eqb, le-ltb, eqb-true, ltb-false}
-use Rattle.words.proofs.lists.Tests.{or_l, or_r, not-false, if-true, if-false}
+use Rattle.std.proofs.Common.{ℕ, ◌+◌, ◌-◌, ◌≤◌, ◌≡◌, sym, ◌∙◌, ap, ap₂, subst, Bool, true, false, List, [], ◌∷◌, arith, Err, if◌then◌else◌}
+use Rattle.std.proofs.lemmas.Grind.{common_steps}
 use Rattle.text.specs.frames.Frame.{contents}
-use Rattle.text.specs.frames.Verdict.{Verdict, fine, refused, next, when}
-use Rattle.text.specs.frames.Answer.{refusal, verdict_reply}
-use Rattle.std.proofs.Common.{Err, if◌then◌else◌}
+use Rattle.text.specs.frames.Verdict.{Verdict, fine, refused, when}
+use Rattle.text.specs.frames.Answer.{refusal}
 use Rattle.text.specs.declared.frames.refusals.Refusal.TheVariants.{NoPlace}
 use Rattle.text.proofs.frames.Refuses.{RefusesWith, when-refuses}
-use Rattle.image.proofs.Refuses.{Early, early-image}
+use Rattle.image.proofs.Refuses.{early-image}
 use Rattle.image.specs.Image.{Image}
 use Rattle.image.specs.Decode.{decoded_image}
 use Rattle.image.specs.Check.{image_verdict}
@@ -21,17 +14,17 @@ use Rattle.tables.specs.Table.{is_bad_table, table_image}
 use Rattle.state.specs.declared.State.{State}
 use Rattle.state.specs.Bytes.{state_of, bytes_of}
 use Rattle.runs.specs.Run.{run, run_verdict}
-use Rattle.runs.specs.TickOutcome.{TickOutcome, TickAnswer, image_tick, tick_reply, answered_mask, answered_code}
+use Rattle.runs.specs.TickOutcome.{TickOutcome, TickAnswer, image_tick}
 use Rattle.runs.specs.InPlace.{if_ticked, GivesTickOn}
 use Rattle.runs.specs.machine.Live.{live_verdict, live_run, live_tick}
 use Rattle.runs.proofs.machine.Held.{tick-held}
 use Rattle.runs.proofs.machine.OneTick.{advance-by}
 use Rattle.spindles.specs.declared.SpinReport.{SpinReport}
-use Rattle.spindles.specs.Spindles.{is_none_left, has_no_place}
-use Rattle.spindles.specs.inner.HeadAndTurn as parts
+use Rattle.spindles.specs.Spindles.{is_none_left}
 use Rattle.spindles.specs.inner.HeadAndTurn.{is_bad_record, refused_head, TurnOutcome, unchanged_turn, turn_by, turn_on, turn, GivesTurnOn}
 use Rattle.spindles.proofs.OneCall.{tick_by_verdict, live-tick-by}
 use Rattle.spindles.specs.turning.inner.TurnContracts.{depth_in, GivesSettled}
+use Rattle.spindles.specs.inner.HeadAndTurn as parts
 
 -- ---- a tick leaves bytes that hold its state
 abbrev pub Held : List ℕ → TickOutcome → Type 0
@@ -48,11 +41,7 @@ table-held t b w = tick-held b (table_image t) w (live_verdict t (state_of b) (w
 -- ---- where the record holds, the turn is the tick, judged by the places left
 module _ (s : State) (sum taken : ℕ) (e : is_bad_record sum taken ≡ false) where
   stayed-by : (n i : ℕ) → unchanged_turn n i s taken ≡ turn_by s taken (record { reply = refusal n i 0; mask = 0; code = 0; state = s })
-  stayed-by n i = sym (
-      ap (λ (t : Bool). if t && leb 64 taken then unchanged_turn 26 0 s taken
-      else record { reply = refusal n i 0; mask = 0; code = 0; taken = taken + s.depth - s.depth; state = s })
-      (le-ltb s.depth s.depth (omega arith))
-      ∙ ap (unchanged_turn n i s) (let q : taken + s.depth - s.depth ≡ taken = omega arith in q))
+  stayed-by n i = grind (arith, common_steps)
 
   turn-ticks : (v : Verdict) (i : Image) (w : ℕ) → turn v s sum taken (tick_by_verdict v i s w) ≡ turn_by s taken (tick_by_verdict v i s w)
   unfolding turn
@@ -64,14 +53,11 @@ module _ (s : State) (sum taken : ℕ) (e : is_bad_record sum taken ≡ false) w
       (turn-ticks (image_verdict t) (decoded_image (contents t)) w)
 
   turn-table : (b : List ℕ) (w : ℕ) → turn (when 11 (is_bad_table b)) s sum taken (live_tick b s w) ≡ turn_by s taken (live_tick b s w)
-  turn-table b w = subst (λ (x : TickOutcome). turn (when 11 (is_bad_table b)) s sum taken x ≡ turn_by s taken x) (sym (live-tick-by b s w))
-      (turn-ticks (when 11 (is_bad_table b)) (table_image b) w)
+  turn-table b w = grind (arith, common_steps, live-tick-by, turn-ticks)
 
 -- a record that holds is the sum, and at most 64: so a depth of the sum is within it
 pub record-holds : (sum taken depth : ℕ) → is_bad_record sum taken ≡ false → depth ≤ sum → (depth ≤ taken) × (taken ≤ 64)
-record-holds sum taken depth e l =
-    let same : sum ≡ taken = eqb-true sum taken (not-false (eqb sum taken) (or_l (not (eqb sum taken)) (ltb 64 taken) e)) in
-    (omega arith, ltb-false 64 taken (or_r (not (eqb sum taken)) (ltb 64 taken) e))
+record-holds sum taken depth e l = grind (arith, common_steps)
 
 -- ---- what is settled after a tick
 -- by the depths as they are read, and the test as it comes out
@@ -81,17 +67,10 @@ module _ (before new : List ℕ) (ticked : TickAnswer) (taken d₀ d₁ : ℕ) (
   test-is = ap₂ (λ (x y : ℕ). is_none_left x y taken) (sym e₀) (sym e₁) ∙ sym tested
 
   pub settles-none : b ≡ true → GivesSettled before new ticked taken (record { answer = Err NoPlace; taken = taken }) before
-  settles-none l = record {
-    report = sym (if-true (is_none_left (depth_in before) (depth_in new) taken) _ _ (test-is ∙ l));
-    bytes = sym (if-true (is_none_left (depth_in before) (depth_in new) taken) before new (test-is ∙ l));
-  }
+  settles-none l = grind (arith, common_steps)
 
   pub settles-free : b ≡ false → GivesSettled before new ticked taken (record { answer = ticked; taken = taken + d₁ - d₀ }) new
-  settles-free l = record {
-    report = ap₂ (λ (x y : ℕ). record { answer = ticked; taken = taken + y - x }) e₀ e₁
-        ∙ sym (if-false (is_none_left (depth_in before) (depth_in new) taken) _ _ (test-is ∙ l));
-    bytes = sym (if-false (is_none_left (depth_in before) (depth_in new) taken) before new (test-is ∙ l));
-  }
+  settles-free l = grind (arith, common_steps)
 
 module _ (before new after : List ℕ) (ticked : TickAnswer) (taken : ℕ) (r : SpinReport) where
   -- with the tick in place
@@ -106,28 +85,11 @@ module _ (before new after : List ℕ) (ticked : TickAnswer) (taken : ℕ) (r : 
         → GivesTurnOn (if b then unchanged_turn 26 0 (state_of before) taken
         else record { reply = x.reply; mask = x.mask; code = x.code; taken = taken + x.state.depth - depth_in before; state = x.state })
         before r after
-    turned true e f = record {
-      answered = ap (λ (y : SpinReport). tick_reply y.answer) e;
-      mask = ap (λ (y : SpinReport). answered_mask y.answer) e;
-      code = ap (λ (y : SpinReport). answered_code y.answer) e;
-      taken = ap (λ (y : SpinReport). y.taken) e;
-      bytes = f;
-    }
-    turned false e f = record {
-      answered = ap (λ (y : SpinReport). tick_reply y.answer) e ∙ made.answered;
-      mask = ap (λ (y : SpinReport). answered_mask y.answer) e ∙ made.mask;
-      code = ap (λ (y : SpinReport). answered_code y.answer) e ∙ made.code;
-      taken = ap (λ (y : SpinReport). y.taken) e;
-      bytes = f ∙ made.bytes;
-    }
+    turned true e f = grind (arith, common_steps)
+    turned false e f = grind (arith, common_steps)
 
     settled-turns : GivesSettled before new ticked taken r after → GivesTurnOn (turn_by (state_of before) taken x) before r after
-    settled-turns z =
-        turned (has_no_place taken (state_of before) x)
-        (z.report ∙ ap
-        (λ (d : ℕ). if ltb (depth_in before) d && leb 64 taken
-        then record { answer = Err NoPlace; taken = taken } else record { answer = ticked; taken = taken + d - depth_in before }) deep)
-        (z.bytes ∙ ap (λ (d : ℕ). if ltb (depth_in before) d && leb 64 taken then before else new) deep)
+    settled-turns z = grind (arith, common_steps)
 
 -- a turn whose record holds
 module _ (t before new after : List ℕ) (ticked : TickAnswer) (sum taken w : ℕ) (r : SpinReport) (good : is_bad_record sum taken ≡ false)
@@ -140,20 +102,14 @@ module _ (t before new after : List ℕ) (ticked : TickAnswer) (sum taken w : �
 
   pub table-turns : GivesTickOn (live_tick t (state_of before) w) before ticked new
       → GivesTurnOn (turn (when 11 (is_bad_table t)) (state_of before) sum taken (live_tick t (state_of before) w)) before r after
-  table-turns made =
-      subst (λ (y : TurnOutcome). GivesTurnOn y before r after) (sym (turn-table (state_of before) sum taken good t w))
-      (settled-turns before new after ticked taken r (live_tick t (state_of before) w) (table-held t before w) made settles)
+  table-turns made = grind (arith, common_steps, table-held, turn-table, settled-turns)
 
 -- ---- a record that does not hold: the head is refused, and no number of an image or a table is 0
 abbrev pub NumberedVerdict : Verdict → Type 0
 NumberedVerdict v = RefusesWith (λ n. 1 ≤ n) v
 
 pub image-numbered : (t : List ℕ) → NumberedVerdict (image_verdict t)
-image-numbered t = go (image_verdict t) (early-image t)
-  where
-    go : (v : Verdict) → RefusesWith Early v → NumberedVerdict v
-    go fine e = tt
-    go (refused n i) e = e.0
+image-numbered t = grind (arith, common_steps, early-image)
 
 pub table-numbered : (b : List ℕ) → NumberedVerdict (when 11 (is_bad_table b))
 table-numbered b = when-refuses (λ n. 1 ≤ n) 11 (is_bad_table b) (omega arith)
@@ -162,17 +118,4 @@ pub record-refused : (v : Verdict) → NumberedVerdict v → (before : List ℕ)
     → is_bad_record sum taken ≡ true
     → parts.GivesRefusedHead (refused_head v 0) taken r → GivesTurnOn (turn v (state_of before) sum taken x) before r before
 unfolding turn refused_head
-record-refused v numbered before sum taken x r e z =
-    subst (λ (t : Bool). GivesTurnOn (turn_on (next v λ _. when 15 t) (state_of before) taken x) before r before) (sym e)
-    (go v numbered z.answered)
-  where
-    go : (u : Verdict) → NumberedVerdict u → tick_reply r.answer ≡ verdict_reply (next u λ _. refused 15 0) 0
-        → GivesTurnOn (turn_on (next u λ _. when 15 true) (state_of before) taken x) before r before
-    go fine l q = record { answered = q; mask = z.mask; code = z.code; taken = z.taken; bytes = refl }
-    go (refused n i) l q = record {
-      answered = q;
-      mask = z.mask;
-      code = z.code;
-      taken = z.taken;
-      bytes = sym (if-false (eqb n 0) (bytes_of (state_of before)) before (ne_eqb n 0 (λ m. omega arith)));
-    }
+record-refused v numbered before sum taken x r e z = grind (arith, common_steps)

@@ -1,10 +1,6 @@
 -- The loop that puts 0 in each place.
-use Prim.Native.Nat.{ℕ, ◌≤◌, ◌<◌}
-use mathlib.Core.Path.{◌≡◌, refl, sym, ap, ap₂, ◌∙◌}
-use mathlib.Core.List.{List}
-use native.Mathlib.Omega.{arith}
-use lib.ListN.{length, get_or, get_or-replicate}
-use lib.Seq.{ext_get_or}
+use Rattle.std.proofs.Common.{ℕ, ◌≤◌, ◌<◌, ◌≡◌, refl, sym, ap, ap₂, ◌∙◌, List, arith, length, get_or, ext_get_or}
+use Rattle.std.proofs.Math.ListN.{get_or-replicate}
 use Rattle.state.specs.declared.State.{State}
 use Rattle.state.specs.State.{no_places}
 use Rattle.state.specs.Changes.{with_places}

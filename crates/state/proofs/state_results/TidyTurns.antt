@@ -1,16 +1,7 @@
 -- The loop that writes each result byte as 0 or 1, and what 130 bytes have to hold to be those of a state.
-use Rattle.std.proofs.Common.{if◌then◌else◌}
-use Prim.Native.Nat.{ℕ, ◌+◌, ◌≤◌, ◌<◌}
-use mathlib.Core.Path.{◌≡◌, refl, sym, ap, ap₂, ◌∙◌}
-use mathlib.Core.Bool.{Bool, not}
-use mathlib.Core.List.{List, ◌∷◌, ◌++◌, map}
-use native.Mathlib.Nat.{zero-add}
-use native.Mathlib.Omega.{arith}
+use Rattle.std.proofs.Common.{if◌then◌else◌, ℕ, ◌+◌, ◌≤◌, ◌<◌, ◌≡◌, refl, sym, ap, ap₂, ◌∙◌, Bool, not, List, ◌∷◌, ◌++◌, map, zero-add}
+use Rattle.std.proofs.Common.{arith, below_more, eqb, length, get_or, set, length-set, get_or-set_same, get_or-set_other}
 use mir.Val.{bool_byte}
-use borrow.Author.Count.{below_more}
-use lib.Dec.{eqb}
-use lib.ListN.{length, get_or, set, length-set}
-use lib.Seq.{get_or-set_same, get_or-set_other}
 use Rattle.words.specs.lists.Numbers.{range}
 use Rattle.words.proofs.lists.Ranges.{map-count}
 use Rattle.tables.proofs.RangeLaws.{map-alike}

@@ -1,10 +1,6 @@
 -- What a call with a place free answers and leaves: of its label and its callee, as they were read, and of the bytes after each write.
 -- Which label is at the top after a call at a full stack.
-use mathlib.Core.Path.{◌≡◌, ◌∙◌, ap, ap₂}
-use mathlib.Core.List.{List}
-use Prim.Native.Nat.{ℕ, ◌+◌, ◌-◌, ◌<◌}
-use native.Mathlib.Numerals.{add-one}
-use native.Mathlib.Omega.{arith}
+use Rattle.std.proofs.Common.{◌≡◌, ◌∙◌, ap, ap₂, List, ℕ, ◌+◌, ◌-◌, ◌<◌, add-one, arith}
 use borrow.Author.Tests.{lt-leb}
 use Rattle.results.specs.Results.{Results, with_result, cleared_results}
 use Rattle.bindings.specs.Binding.{server_of}
@@ -12,7 +8,6 @@ use Rattle.image.specs.Layout.{tick_kind}
 use Rattle.image.specs.Image.{Label}
 use Rattle.tables.specs.Table.{table_label, table_image}
 use Rattle.tables.specs.inner.Labels.{as_label}
-use Rattle.tables.specs.declared.Label as declared
 use Rattle.ticks.specs.codes.Codes.{code_of}
 use Rattle.state.specs.declared.State.{State}
 use Rattle.state.specs.State.{entry_at, place_at, number_at}
@@ -24,6 +19,7 @@ use Rattle.ticks.specs.inner.TickContracts.{TopCalls, GivesTickEnd, GivesTickMov
 use Rattle.ticks.proofs.TickCases.{steps-ticked, tick-call, top-put, size-most}
 use Rattle.ticks.specs.declared.calls.Callee.{Callee}
 use Rattle.ticks.specs.calls.inner.Callees.{IsCallee}
+use Rattle.tables.specs.declared.Label as declared
 
 module _ (b before : List ℕ) (w : ℕ) where
   abbrev s : State

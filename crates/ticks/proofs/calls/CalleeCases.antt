@@ -1,9 +1,6 @@
 -- The entry of the scheme that serves, and the callee of a label, by what was read of it.
-use mathlib.Core.Path.{◌≡◌, sym, ◌∙◌, ap}
-use mathlib.Core.List.{List}
-use Prim.Native.Nat.{ℕ, ◌≤◌, ◌<◌}
-use native.Mathlib.Omega.{arith}
-use lib.ListN.{get_or-eq_default}
+use Rattle.std.proofs.Common.{◌≡◌, sym, ◌∙◌, ap, List, ℕ, ◌≤◌, ◌<◌, arith}
+use Rattle.std.proofs.Math.ListN.{get_or-eq_default}
 use Rattle.bindings.specs.Binding.{server_of}
 use Rattle.image.specs.Decode.{scheme_count}
 use Rattle.tables.specs.Table.{table_image}

@@ -1,8 +1,7 @@
 -- What each way out of the functions on codes answers.
-use mathlib.Core.Path.{◌≡◌}
-use Prim.Native.Nat.{ℕ, ◌-◌, ◌≤◌, ◌<◌}
-use native.Mathlib.Omega.{arith}
-use borrow.Author.Tests.{ne_eqb, le-leb, lt-leb}
+use Rattle.std.proofs.Common.{◌≡◌, ℕ, ◌-◌, ◌≤◌, ◌<◌, arith, ne_eqb}
+use borrow.Author.Tests.{lt-leb}
+use Rattle.std.proofs.lemmas.Grind.{common_steps}
 use Rattle.ticks.specs.declared.codes.Meaning.TheVariants.{OperationCall, FunctionCall, Unknown}
 use Rattle.ticks.specs.codes.Codes.{meaning_of}
 
@@ -10,28 +9,11 @@ use Rattle.ticks.specs.codes.Codes.{meaning_of}
 module _ (c : ℕ) where
   pub in-operations : 18 ≤ c → c < 33 → OperationCall (c - 16) ≡ meaning_of c
   unfolding meaning_of
-  in-operations l h =
-      simp (
-        ne_eqb c 0 (λ e. omega arith),
-        ne_eqb c 3 (λ e. omega arith),
-        ne_eqb c 4
-            (λ e. omega arith),
-        le-leb 18 c l,
-        le-leb c 32 (omega arith),
-      )
+  in-operations l h = grind (arith, common_steps)
 
   pub in-functions : 66 ≤ c → c < 81 → FunctionCall (c - 64) ≡ meaning_of c
   unfolding meaning_of
-  in-functions l h =
-      simp (
-        ne_eqb c 0 (λ e. omega arith),
-        ne_eqb c 3 (λ e. omega arith),
-        ne_eqb c 4 (λ e. omega arith),
-        le-leb 18 c (omega arith),
-        lt-leb c 32 (omega arith),
-        le-leb 66 c l,
-        le-leb c 80 (omega arith),
-      )
+  in-functions l h = grind (arith, common_steps)
 
   module _ (p : c ≡ 0 → ⊥) (q : c ≡ 3 → ⊥) (r : c ≡ 4 → ⊥) (t : c ≡ 96 → ⊥) where
     pub below-calls : c < 18 → Unknown ≡ meaning_of c
@@ -40,27 +22,8 @@ module _ (c : ℕ) where
 
     pub between-calls : 33 ≤ c → c < 66 → Unknown ≡ meaning_of c
     unfolding meaning_of
-    between-calls l h = simp (
-      ne_eqb c 0 p,
-      ne_eqb c 3 q,
-      ne_eqb c 4 r,
-      le-leb 18 c
-          (omega arith),
-      lt-leb c 32 l,
-      lt-leb 66 c h,
-      ne_eqb c 96 t,
-    )
+    between-calls l h = grind (arith, common_steps)
 
     pub above-calls : 81 ≤ c → Unknown ≡ meaning_of c
     unfolding meaning_of
-    above-calls h =
-        simp (
-          ne_eqb c 0 p,
-          ne_eqb c 3 q,
-          ne_eqb c 4 r,
-          le-leb 18 c (omega arith),
-          lt-leb c 32 (omega arith),
-          le-leb 66 c (omega arith),
-          lt-leb c 80 h,
-          ne_eqb c 96 t,
-        )
+    above-calls h = grind (arith, common_steps)

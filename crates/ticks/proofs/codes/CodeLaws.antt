@@ -1,29 +1,19 @@
 -- Codes and ticks turn into each other with nothing lost.
-use Rattle.std.proofs.Common.{if◌then◌else◌}
-use mathlib.Core.Path.{◌≡◌, refl, sym, ◌∙◌, ap}
-use mathlib.Core.Bool.{Bool, true, false}
-use Prim.Native.Nat.{ℕ, zero, suc, ◌+◌, ◌-◌}
-use native.Mathlib.Omega.{arith}
-use lib.Dec.{leb, eqb}
-use borrow.Author.Tests.{eqb-true, leb-true}
+use Rattle.std.proofs.Common.{if◌then◌else◌, ◌≡◌, refl, sym, ◌∙◌, ap, Bool, true, false, ℕ, zero, suc, ◌-◌, arith, leb, leb-true}
+use Rattle.std.proofs.lemmas.Grind.{common_steps}
 use Rattle.words.proofs.lists.Tests.{and_l}
 use Rattle.ticks.specs.declared.codes.Meaning.{Meaning}
-use Rattle.ticks.specs.declared.codes.Meaning.TheVariants.{Plain, OperationCall, FunctionCall, Return, Home, Drop, Unknown}
+use Rattle.ticks.specs.declared.codes.Meaning.TheVariants.{OperationCall, FunctionCall, Unknown}
 use Rattle.ticks.specs.codes.Codes.{is_call_above, meaning_of}
 use Rattle.ticks.specs.codes.CodesApart.{CodeMeans, CodesApart, DropMeans, DropApart, KindBack, Coded}
-use Rattle.ticks.proofs.codes.CodeCases.{in-operations, in-functions}
 
 pub code-means : CodeMeans
 unfolding meaning_of
-code-means zero h p = refl
-code-means (suc zero) h p =
-    let r = p (omega arith) (omega arith) in
-    sym (in-operations (16 + h) (omega (arith, r.0)) (omega (arith, r.1))) ∙ ap OperationCall (let e : 16 + h - 16 ≡ h = omega arith in e)
-code-means (suc (suc zero)) h p =
-    let r = p (omega arith) (omega arith) in
-    sym (in-functions (64 + h) (omega (arith, r.0)) (omega (arith, r.1))) ∙ ap FunctionCall (let e : 64 + h - 64 ≡ h = omega arith in e)
-code-means (suc (suc (suc zero))) h p = refl
-code-means (suc (suc (suc (suc k)))) h p = refl
+code-means zero h p = grind (arith, common_steps)
+code-means (suc zero) h p = grind (arith, common_steps)
+code-means (suc (suc zero)) h p = grind (arith, common_steps)
+code-means (suc (suc (suc zero))) h p = grind (arith, common_steps)
+code-means (suc (suc (suc (suc k)))) h p = grind (arith, common_steps)
 
 pub codes-apart : CodesApart
 codes-apart k h p j g q e = sym (code-means k h p) ∙ ap meaning_of e ∙ code-means j g q
@@ -61,10 +51,4 @@ module _ (c : ℕ) where
 
   pub meaning-coded : (meaning_of c ≡ Unknown → ⊥) → Coded c (meaning_of c)
   unfolding meaning_of
-  meaning-coded =
-      one_more (eqb c 0) Plain _ (λ e. sym (eqb-true c 0 e))
-      (one_more (eqb c 3) Return _ (λ e. sym (eqb-true c 3 e))
-      (one_more (eqb c 4) Home _ (λ e. sym (eqb-true c 4 e))
-      (one_more (is_call_above 16 c) (OperationCall (c - 16)) _ operation-coded
-      (one_more (is_call_above 64 c) (FunctionCall (c - 64)) _ function-coded
-      (one_more (eqb c 96) Drop Unknown (λ e. sym (eqb-true c 96 e)) (λ n. absurd (n refl)))))))
+  meaning-coded = grind (arith, common_steps)

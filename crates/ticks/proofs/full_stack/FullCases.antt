@@ -1,10 +1,6 @@
 -- A call that finds the stack full: whether the stack is kept, and what the call answers and leaves.
-use Prim.Native.Nat.{ℕ, ◌-◌}
-use mathlib.Core.Path.{◌≡◌, sym, ◌∙◌, ap, ap₂}
-use mathlib.Core.Bool.{Bool, true, false, ◌&&◌, ◌||◌, not}
-use mathlib.Core.List.{List}
-use lib.Dec.{eqb}
-use borrow.Author.Tests.{eq-eqb, ne_eqb}
+use Rattle.std.proofs.Common.{ℕ, ◌-◌, ◌≡◌, sym, ◌∙◌, ap, ap₂, Bool, true, false, ◌&&◌, ◌||◌, not, List, eqb, eq-eqb, ne_eqb, arith}
+use Rattle.std.proofs.lemmas.Grind.{common_steps}
 use Rattle.words.proofs.lists.Tests.{if-true, if-false}
 use Rattle.results.specs.Results.{Results, with_result, cleared_results}
 use Rattle.image.specs.Image.{Image, Label}
@@ -12,7 +8,6 @@ use Rattle.image.specs.Decode.{handler_in}
 use Rattle.tables.specs.Table.{table_label, table_image}
 use Rattle.tables.specs.inner.Asked.{entry_of}
 use Rattle.tables.specs.inner.Labels.{as_label}
-use Rattle.tables.specs.declared.Label as declared
 use Rattle.tables.proofs.TableReads.{handler-at, handler-inside, label-at, entry-at}
 use Rattle.state.specs.declared.State.{State}
 use Rattle.state.specs.State.{entry_at, place_at, number_at}
@@ -21,6 +16,7 @@ use Rattle.state.specs.Bytes.{state_of}
 use Rattle.ticks.specs.Tick.{is_full_stack_kept, finished, stopped, state_alone, top_of}
 use Rattle.ticks.specs.inner.TickContracts.{TopFull, GivesTickEnd}
 use Rattle.ticks.proofs.TickCases.{steps-stopped, steps-ticked, tick-full}
+use Rattle.tables.specs.declared.Label as declared
 
 -- ---- whether the stack is kept: h stands for the handler, l for the label at the bottom, z for what was read of it
 module _ (b : List ℕ) (s : State) (h : ℕ) (is : h ≡ handler_in b) where
@@ -28,9 +24,7 @@ module _ (b : List ℕ) (s : State) (h : ℕ) (is : h ≡ handler_in b) where
   keeps g l o = eqb g 0 || (not (eqb g 0) && (eqb l 1 || eqb o g))
 
   keeps-is : (l o : ℕ) → l ≡ place_at s 0 → o ≡ (table_label b (place_at s 0)).owner → keeps h l o ≡ is_full_stack_kept (table_image b) s
-  keeps-is l o p q =
-      ap (λ (g : ℕ). keeps g l o) (is ∙ sym (handler-at b))
-      ∙ ap₂ (keeps (table_image b).handler) p (q ∙ ap (λ (x : Label). x.owner) (sym (label-at b (place_at s 0))))
+  keeps-is l o p q = grind (arith, common_steps, handler-at, label-at)
 
   pub kept-none : h ≡ 0 → true ≡ is_full_stack_kept (table_image b) s
   kept-none e = rw (eq-eqb (table_image b).handler 0 (handler-at b ∙ sym is ∙ e))
@@ -65,10 +59,7 @@ module _ (b before : List ℕ) (w : ℕ) (y : TopFull b (state_of before)) (t : 
   dropped = state_alone s (entry_at i i.handler) i.handler (cleared_results i.handler bits)
 
   pub full-kept : t ≡ true → GivesTickEnd b before w (record { number = 17; mask = 0; code = 0 }) before
-  full-kept q =
-      steps-stopped b before w 17
-      (tick-full b s y.calls.stands w y.calls.low y.calls.high y.full
-      ∙ if-true (is_full_stack_kept i s) (stopped 17) (finished caller.mask 96 dropped) (sym e ∙ q))
+  full-kept q = grind (arith, common_steps, tick-full, if-true, steps-stopped)
 
   -- l is the top, z what was read of it, k its number, h the handler and n its entry; then the bytes after each write
   pub full-drops : t ≡ false → (l : ℕ) → l ≡ top_of s → (z : declared.Label) → as_label z ≡ table_label b l

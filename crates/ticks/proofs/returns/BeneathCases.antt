@@ -1,31 +1,26 @@
 -- Where the label beneath a return leads.
-use Rattle.std.proofs.Common.{if◌then◌else◌}
-use mathlib.Core.Path.{◌≡◌, refl, sym, ◌∙◌, ap}
-use mathlib.Core.List.{List}
-use Prim.Native.Nat.{ℕ, ◌-◌, ◌<◌}
-use native.Mathlib.Decide.{ℕ_discrete}
-use Rattle.results.specs.Results.{result_of}
+use Rattle.std.proofs.Common.{◌≡◌, refl, sym, ◌∙◌, ap, List, ℕ, ◌-◌, ◌<◌, arith}
+use Rattle.std.proofs.lemmas.Grind.{common_steps}
 use Rattle.image.specs.Image.{Label}
 use Rattle.image.specs.Decode.{last_label}
 use Rattle.tables.specs.Table.{table_label, table_image}
 use Rattle.tables.specs.inner.Labels.{as_label, NumberedLabel}
-use Rattle.tables.specs.declared.Label as declared
 use Rattle.tables.proofs.TableReads.{label-at}
 use Rattle.rows.specs.Rows.{Choice, no_choice, best_row, lead_of, next_of}
 use Rattle.rows.proofs.TableRows.{row-none, row-above, any-row}
 use Rattle.state.specs.declared.State.{State}
-use Rattle.state.specs.State.{label_at, place_at}
+use Rattle.state.specs.State.{place_at}
 use Rattle.ticks.specs.Tick.{called_bit, choice}
 use Rattle.ticks.specs.inner.TickContracts.{beneath, bit_of}
 use Rattle.ticks.proofs.RowCases.{bit-called}
+use Rattle.tables.specs.declared.Label as declared
 
 module _ (b : List ℕ) (s : State) (w l : ℕ) (at : l ≡ place_at s (s.depth - 2)) where
   abbrev row_beneath : Choice
   row_beneath = choice (table_image b) s.bits (place_at s (s.depth - 2)) w
 
   chosen : (bit : ℕ) → bit ≡ called_bit (table_image b) s.bits l → best_row l w bit 0 (table_image b).rows ≡ row_beneath
-  chosen bit e =
-      ap (λ (k : ℕ). best_row l w k 0 (table_image b).rows) e ∙ ap (λ (k : ℕ). choice (table_image b) s.bits k w) at
+  chosen bit e = grind (arith, common_steps)
 
   next-is : (x : Choice) → x ≡ row_beneath → next_of (lead_of x) ≡ next_of (beneath (table_image b) s w)
   next-is x e = ap (λ (y : Choice). next_of (lead_of y)) e
@@ -39,11 +34,4 @@ module _ (b : List ℕ) (s : State) (w l : ℕ) (at : l ≡ place_at s (s.depth 
   pub beneath-row : NumberedLabel b l → (z : declared.Label) → as_label z ≡ table_label b l
       → (bit : ℕ) → bit ≡ bit_of z.kind z.called s.bits
       → (n : ℕ) → n ≡ next_of (lead_of (best_row l w bit 0 (table_image b).rows)) → n ≡ next_of (beneath (table_image b) s w)
-  beneath-row g z read bit e n q = q ∙ next-is (best_row l w bit 0 (table_image b).rows) (go (ℕ_discrete z.kind 2))
-    where
-      called : z.called ≡ (label_at (table_image b) l).called
-      called = ap (λ (k : Label). k.called) (read ∙ sym (label-at b l))
-
-      go : Dec (z.kind ≡ 2) → best_row l w bit 0 (table_image b).rows ≡ row_beneath
-      go (yes k) = chosen bit (bit-called b l z read s.bits _ bit e k ∙ ap (λ (h : ℕ). if result_of h s.bits then 1 else 0) called)
-      go (no k) = any-row b l w bit _ (λ m. k (ap (λ (x : Label). x.kind) read ∙ m)) g.low g.high ∙ chosen _ refl
+  beneath-row g z read bit e n q = grind (arith, common_steps, bit-called, any-row, label-at, chosen, next-is)

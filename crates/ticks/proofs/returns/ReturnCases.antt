@@ -1,9 +1,5 @@
 -- What a return answers and leaves, by where the label beneath leads and by the bytes after each write.
-use mathlib.Core.Path.{◌≡◌, sym, ◌∙◌, ap, ap₂}
-use mathlib.Core.List.{List}
-use Prim.Native.Nat.{ℕ, ◌-◌, ◌≤◌, ◌<◌}
-use native.Mathlib.Omega.{arith}
-use lib.ListN.{get_or}
+use Rattle.std.proofs.Common.{◌≡◌, sym, ◌∙◌, ap, ap₂, List, ℕ, ◌-◌, ◌≤◌, ◌<◌, arith, get_or}
 use Rattle.tables.specs.Table.{table_image}
 use Rattle.rows.specs.Rows.{Found, missing, next_of}
 use Rattle.rows.proofs.TableRows.{next_small}

@@ -1,12 +1,7 @@
 -- The steps of the functions that write entries and labels, at plain values.
-use Rattle.std.proofs.Common.{if◌then◌else◌}
-use mathlib.Core.Path.{◌≡◌, refl, sym, ◌∙◌, ap, ap₂}
-use mathlib.Core.Bool.{Bool, true, false, ◌&&◌, not}
-use mathlib.Core.List.{List, [], ◌∷◌, ◌++◌}
-use Prim.Native.Nat.{ℕ, ◌+◌, ◌*◌, ◌≤◌, ◌<◌}
-use native.Mathlib.Omega.{arith}
-use lib.ListN.{length, get_or}
-use borrow.Author.Tests.{ne_eqb}
+use Rattle.std.proofs.Common.{if◌then◌else◌, ◌≡◌, refl, sym, ◌∙◌, ap, Bool, true, false, List, [], ◌∷◌, ◌++◌, ℕ, ◌+◌, ◌*◌, ◌≤◌, ◌<◌, arith}
+use Rattle.std.proofs.Common.{length, get_or, ne_eqb}
+use Rattle.std.proofs.lemmas.Grind.{common_steps}
 use Rattle.words.specs.lists.Sequences.{written}
 use Rattle.words.proofs.lists.Tests.{if-true, if-false}
 use Rattle.words.proofs.lists.Written.{written-more}
@@ -25,11 +20,7 @@ use Rattle.chart_rows.proofs.chart_labels.LabelSteps.{own-label, no-own-label}
 
 -- ---- entries
 pub numbered-stop : (c : Chart) (v : ℕ) → (kind c v ≡ 1 → ⊥) → is_numbered c v ≡ is_stop c v
-numbered-stop c v n = ap (λ x. is_stop c v && not x) (ne_eqb (kind c v) 1 n) ∙ unit (is_stop c v)
-  where
-    unit : (b : Bool) → (b && true) ≡ b
-    unit true = refl
-    unit false = refl
+numbered-stop c v n = grind (arith, common_steps, ne_eqb)
 
 module _ {c : Chart} {labels : List ℕ} {h v : ℕ} (s : OfScheme c labels h) (e : v ≡ begin c h) where
   known_facts : Facts c
@@ -88,21 +79,17 @@ pub fixed-done : (out out₁ out₂ a b : List ℕ) (at : ℕ) → length a ≡ 
 fixed-done out out₁ out₂ a b at n h e₁ e₂ = written-more out at a b out₁ out₂ (at + 10) (omega arith) (omega arith) e₁ e₂
 
 quad-bytes : (a b d e : ℕ) → a < 256 → b < 256 → d < 256 → e < 256 → quad ((a * 256 + b) * 65536 + (d * 256 + e)) ≡ a ∷ b ∷ d ∷ e ∷ []
-quad-bytes a b d e ha hb hd he =
-    ap₂ (λ (x : ℕ) (xs : List ℕ). x ∷ xs) (omega arith) (ap₂ (λ (x : ℕ) (xs : List ℕ). x ∷ xs) (omega arith)
-    (ap₂ (λ (x : ℕ) (xs : List ℕ). x ∷ xs) (omega arith) (ap₂ (λ (x : ℕ) (xs : List ℕ). x ∷ xs) (omega arith) refl)))
+quad-bytes a b d e ha hb hd he = grind (arith, common_steps)
 
 module _ {c : Chart} {labels : List ℕ} {v : ℕ} (node : AtNode c labels v) where
   read : get_or labels v 0 ≡ label c v
   read = node.chart.labelled.at v node.inside
 
   pub label-none : get_or labels v 0 < 2 → node_label_bytes c v ≡ []
-  label-none h =
-      if-false (is_numbered c v) (label_frame (label c v) (stop_label c v)) [] (no-own-label c v (omega (arith, read)))
+  label-none h = grind (arith, common_steps, no-own-label, if-false, read)
 
   label-one : 2 ≤ get_or labels v 0 → node_label_bytes c v ≡ label_frame (label c v) (stop_label c v)
-  label-one h =
-      if-true (is_numbered c v) (label_frame (label c v) (stop_label c v)) [] (own-label c v (omega (arith, read)))
+  label-one h = grind (arith, common_steps, own-label, if-true, read)
 
   label-long : 2 ≤ get_or labels v 0 → length (node_label_bytes c v) ≡ 10
   label-long h = ap (λ (x : List ℕ). length x) (label-one h)
@@ -113,7 +100,4 @@ module _ {c : Chart} {labels : List ℕ} {v : ℕ} (node : AtNode c labels v) wh
   pub label-done : 2 ≤ get_or labels v 0 → (out out' : List ℕ) (at : ℕ)
       → out' ≡ written out at (label_frame (get_or labels v 0) (stop_label c v))
       → Put out at (node_label_bytes c v) (at + 10) out'
-  label-done h out out' at e = record {
-    ends = omega (arith, label-long h);
-    holds = e ∙ ap (λ (x : ℕ). written out at (label_frame x (stop_label c v))) read ∙ ap (written out at) (sym (label-one h));
-  }
+  label-done h out out' at e = grind (arith, common_steps, read, label-one, label-long)

@@ -1,11 +1,7 @@
 -- Bytes put into a buffer one after the other, at plain values.
-use mathlib.Core.Path.{◌≡◌, refl, sym, ◌∙◌, ap, subst}
-use mathlib.Core.List.{List, [], ◌++◌}
-use Prim.Native.Nat.{ℕ, zero, suc, ◌+◌, ◌-◌, ◌≤◌, ◌<◌}
-use native.Mathlib.Nat.{zero-add, add-zero}
-use native.Mathlib.Numerals.{add-one}
-use native.Mathlib.Omega.{arith}
-use lib.ListN.{length, length-append}
+use Rattle.std.proofs.Common.{◌≡◌, refl, sym, ◌∙◌, ap, subst, List, [], ◌++◌, ℕ, zero, suc, ◌+◌, ◌-◌, ◌≤◌, ◌<◌, zero-add, add-zero, add-one}
+use Rattle.std.proofs.Common.{arith, length, length-append}
+use Rattle.std.proofs.lemmas.Grind.{common_steps}
 use Rattle.words.specs.lists.Sequences.{concat_map, written}
 use Rattle.words.proofs.lists.Joins.{concat-range-snoc}
 use Rattle.words.proofs.lists.Written.{written_none, written-length, written-more}
@@ -30,17 +26,10 @@ module _ {t a b : List ℕ} (d : Parted t a b) where
     both-second = omega (arith, lengths, p.ends, put-length (both_first at (length out) h) p)
 
     pub both-done : {out₂ : List ℕ} {r : ℕ} → Put out₁ mid b r out₂ → Put out at t r out₂
-    both-done {out₂} q = record {
-      ends = omega (arith, lengths, p.ends, q.ends);
-      holds = written-more out at a b out₁ out₂ mid p.ends (omega (arith, lengths, p.ends)) p.holds q.holds
-          ∙ ap (written out at) (sym d.parts);
-    }
+    both-done {out₂} q = grind (arith, common_steps, written-more, lengths)
 
 pub nothing_put : (out t : List ℕ) (at : ℕ) → t ≡ [] → Put out at t at out
-nothing_put out t at e = record {
-  ends = omega (arith, ap (λ (x : List ℕ). length x) e);
-  holds = sym (written_none out at) ∙ ap (written out at) (sym e);
-}
+nothing_put out t at e = grind (arith, common_steps, written_none)
 
 pub room_as : (t u : List ℕ) (at n : ℕ) → t ≡ u → at + length t ≤ n → at + length u ≤ n
 room_as t u at n e h = omega (arith, ap (λ (x : List ℕ). length x) e)

@@ -1,16 +1,10 @@
 -- The steps of the functions that write the rows of paths, at plain values.
-use mathlib.Core.Path.{◌≡◌, refl, sym, ◌∙◌, ap}
-use mathlib.Core.Bool.{Bool, true, ◌&&◌, not}
-use mathlib.Core.List.{List, [], ◌∷◌, ◌++◌, append_assoc, append-nil}
-use Prim.Native.Nat.{ℕ, ◌+◌, ◌≤◌}
-use native.Mathlib.Omega.{arith}
-use lib.Dec.{eqb}
-use lib.ListN.{length, get_or}
+use Rattle.std.proofs.Common.{◌≡◌, refl, ◌∙◌, ap, true, List, [], ◌∷◌, ◌++◌, append_assoc, append-nil, ℕ, ◌+◌, ◌≤◌, arith, length, get_or}
+use Rattle.std.proofs.lemmas.Grind.{common_steps}
 use Rattle.words.specs.lists.Sequences.{concat_map}
 use Rattle.words.proofs.lists.Joins.{concat-cons, concat-append}
-use Rattle.words.specs.bits.Word.{bit}
 use Rattle.text.specs.frames.Frame.{size}
-use Rattle.charts.specs.Chart.{Chart, argument}
+use Rattle.charts.specs.Chart.{Chart}
 use Rattle.charts.proofs.Rank.{rank}
 use Rattle.walk.specs.Stops.{is_stop}
 use Rattle.image.specs.Image.{Row, row_frame, row}
@@ -44,26 +38,16 @@ module _ (c : Chart) (labels : List ℕ) (chart : Charted c labels) (care values
 
   pub leaf-done : (out out' : List ℕ) (at r : ℕ) → Put out at (row_frame (row l care values f (get_or labels u 0))) r out'
       → Put out at (rows_bytes (paths_from (size c) c l f care values v)) r out'
-  leaf-done out out' at r p =
-      done-as _ _ out out' at r
-      (leaf-bytes ∙ ap (λ (x : ℕ). row_frame (row l care values f x)) (sym (chart.labelled.at u st.entered.inside))) p
+  leaf-done out out' at r p = grind (arith, common_steps, done-as, leaf-bytes)
 
 -- a path is settled at a stop that it comes to
 pub at-end : (c : Chart) (care values v : ℕ) → Entered c v → is_stop c v ≡ true → Settled c care values v v
-at-end c care values v t s = record {
-  entered = t;
-  lower = omega arith;
-  same = λ l f. refl;
-  fresh = ap (λ (b : Bool). not b && eqb (bit care (argument c v)) 1) s;
-}
+at-end c care values v t s = grind (arith, common_steps)
 
 module _ (c : Chart) (care values v tested valued w0 w1 : ℕ) (k : Fork c care values v tested valued w0 w1) (l f : ℕ) where
   pub fork-bytes : Parted (rows_bytes (paths_from (size c) c l f care values v)) (rows_bytes (paths_from (size c) c l f tested values w0))
       (rows_bytes (paths_from (size c) c l f tested valued w1))
-  fork-bytes = record {
-    parts =
-        ap rows_bytes (k.all l f) ∙ rows_append (paths_from (size c) c l f tested values w0) (paths_from (size c) c l f tested valued w1);
-  }
+  fork-bytes = grind (arith, common_steps, rows_append)
 
 -- ---- the loop along 1 sides: of all rows some are put, and the others are those of the paths on from node v
 pub record PutAlong (c : Chart) (notes all out₀ out : List ℕ) (at place l f top care values v : ℕ) : Type 0 where
@@ -75,13 +59,7 @@ pub record PutAlong (c : Chart) (notes all out₀ out : List ℕ) (at place l f 
 
 pub walked_start : (c : Chart) (notes out : List ℕ) (at l f top care values v : ℕ) → PathAt c notes care values v → rank c v ≡ top
     → PutAlong c notes (rows_bytes (paths_from (size c) c l f care values v)) out out at at l f top care values v
-walked_start c notes out at l f top care values v p e = record {
-  path = p;
-  below = omega arith;
-  done = [];
-  put = nothing_put out [] at refl;
-  rest = record { parts = refl };
-}
+walked_start c notes out at l f top care values v p e = grind (arith, common_steps, nothing_put)
 
 module _ {c : Chart} {notes all out₀ out : List ℕ} {at place l f top care values v : ℕ}
     (w : PutAlong c notes all out₀ out at place l f top care values v) (room : at + length all ≤ length out₀) where
@@ -103,9 +81,7 @@ module _ {c : Chart} {notes all out₀ out : List ℕ} {at place l f top care va
     low-room = both_first (fork-bytes c care values v tested valued w0 w1 k l f) place (length out) walked-room
 
     on-parts : all ≡ (w.done ++ low) ++ high
-    on-parts =
-        w.rest.parts ∙ ap (λ (x : List ℕ). w.done ++ x) (fork-bytes c care values v tested valued w0 w1 k l f).parts
-        ∙ sym (append_assoc w.done low high)
+    on-parts = grind (arith, common_steps, append_assoc, fork-bytes)
 
     on_room : at + length (w.done ++ low) ≤ length out₀
     on_room = both_first {a = w.done ++ low} {b = high} (record { parts = on-parts }) at (length out₀) room

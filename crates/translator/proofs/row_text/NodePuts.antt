@@ -1,7 +1,6 @@
 -- The rows of a node, by its kind and by its two sides, at plain values.
-use mathlib.Core.Path.{◌≡◌, refl, sym, ◌∙◌, ap, ap₂}
-use mathlib.Core.List.{List, [], ◌++◌}
-use Prim.Native.Nat.{ℕ, ◌^◌, ◌<◌}
+use Rattle.std.proofs.Common.{◌≡◌, refl, sym, ◌∙◌, ap, [], ℕ, ◌^◌, ◌<◌, arith}
+use Rattle.std.proofs.lemmas.Grind.{common_steps}
 use Rattle.words.specs.lists.Sequences.{concat_map}
 use Rattle.text.specs.frames.Frame.{size}
 use Rattle.charts.specs.Chart.{Chart, kind, argument, next0, next1}
@@ -26,16 +25,9 @@ module _ (c : Chart) (v k : ℕ) (ek : k ≡ kind c v) (own : node_rows c v ≡ 
 
   pub node-other : k < 3 → (l w : ℕ) → l ≡ label c v → w ≡ next0 c v
       → node_rows_bytes c v ≡ rows_bytes (paths_from (size c) c l 2 0 0 w)
-  node-other h l w el ew =
-      ap rows_bytes (own ∙ rows_other c v k ek h ∙ ap₂ (λ (x y : ℕ). paths_from (size c) c x 2 0 0 y) (sym el) (sym ew))
+  node-other h l w el ew = grind (arith, common_steps, rows_other)
 
 module _ (c : Chart) (v f g care values l w0 w1 : ℕ) (el : l ≡ label c v) (e0 : w0 ≡ next0 c v) (e1 : w1 ≡ next1 c v) where
   pub sides-text : Parted (rows_bytes (sides c (label c v) f g care values v)) (rows_bytes (paths_from (size c) c l f care 0 w0))
       (rows_bytes (paths_from (size c) c l g care values w1))
-  sides-text = record {
-    parts =
-        rows_append (paths_from (size c) c (label c v) f care 0 (next0 c v)) (paths_from (size c) c (label c v) g care values (next1 c v))
-        ∙ ap₂ (λ (x y : List ℕ). x ++ y)
-        (ap₂ (λ (x y : ℕ). rows_bytes (paths_from (size c) c x f care 0 y)) (sym el) (sym e0))
-        (ap₂ (λ (x y : ℕ). rows_bytes (paths_from (size c) c x g care values y)) (sym el) (sym e1));
-  }
+  sides-text = grind (arith, common_steps, rows_append)
