@@ -1,7 +1,5 @@
 -- The chain of refusals 4 to 9, with 19 after 5, as the code goes along it: what is left of the verdict after each.
-use mathlib.Core.Path.{◌≡◌, refl, ◌∙◌}
-use mathlib.Core.Bool.{Bool}
-use Prim.Native.Nat.{ℕ, ◌≤◌, ◌<◌}
+use Rattle.std.proofs.Common.{◌≡◌, refl, ◌∙◌, Bool, ℕ, ◌≤◌, ◌<◌}
 use Rattle.words.specs.lists.Numbers.{lowest, any}
 use Rattle.text.specs.frames.Frame.{size}
 use Rattle.text.specs.frames.Verdict.{Verdict, refused, next, when, at_lowest}

@@ -1,15 +1,8 @@
 -- Where refusals 4 to 6 find nothing, the nodes joined from all Begins together are, scheme by scheme, those joined from the Begin of the
 -- scheme.
-use mathlib.Core.Path.{◌≡◌, refl, sym, ◌∙◌, ap, subst}
-use mathlib.Core.Logic.{⊎_elim}
-use mathlib.Core.Bool.{Bool, true, false, ◌&&◌, not}
-use mathlib.Core.List.{List, [], ◌∷◌}
-use Prim.Native.Nat.{ℕ, ◌≤◌, ◌<◌}
-use native.Mathlib.Nat.{zero-add}
-use native.Mathlib.Omega.{arith}
-use lib.Dec.{eqb}
-use lib.ListN.{length}
-use borrow.Author.Tests.{eqb-true, eq-eqb}
+use Rattle.std.proofs.Common.{◌≡◌, refl, sym, ◌∙◌, ap, subst, Bool, true, false, ◌&&◌, not, List, [], ◌∷◌, ℕ, ◌≤◌, ◌<◌, zero-add, arith}
+use Rattle.std.proofs.Common.{eqb, length, eqb-true, eq-eqb}
+use Rattle.std.proofs.lemmas.Grind.{common_steps}
 use Rattle.words.specs.lists.Numbers.{lowest, count}
 use Rattle.words.proofs.lists.Tests.{no_both, and_l, and-true, not-false, cases}
 use Rattle.words.proofs.lists.Searches.{lowest-hit, lowest-past, lowest-alike, any_false, highest-ge, some-both}
@@ -41,10 +34,7 @@ module _ (c : Chart) (passed : Passed4To6 c) where
 
   the-begin : (v : ℕ) → v < size c → (begin c (scheme c v) < size c) × (is_of c 0 (scheme c v) (begin c (scheme c v)) ≡ true)
   unfolding node_of
-  the-begin v l =
-      let p : ℕ → Bool = is_of c 0 (scheme c v) in
-      let b : lowest p 0 (size c) < size c = count-lowest p (size c) (omega (arith, one-begin v l)) in
-      (b, lowest-hit p 0 (size c) (omega arith))
+  the-begin v l = grind (arith, common_steps, count-lowest, lowest-hit, one-begin)
 
   own-begin : (v : ℕ) → v < size c → is c 0 v ≡ true → v ≡ begin c (scheme c v)
   own-begin v l i = count-one (is_of c 0 (scheme c v)) (size c) v (begin c (scheme c v)) (one-begin v l) l (the-begin v l).0
@@ -92,14 +82,7 @@ module _ (c : Chart) (passed : Passed4To6 c) where
       (and_l (is c 0 (begin c (scheme c v))) (eqb (scheme c (begin c (scheme c v))) (scheme c v)) (the-begin v l).1))) v
 
   apart : (v : ℕ) → v < size c → not (is_marked joined v) ≡ is_cut_off c v
-  apart v l = ap not (⊎_elim
-      (λ (m : is_marked joined v ≡ true). m ∙ sym (to-own v m))
-      (λ (m : is_marked joined v ≡ false). ⊎_elim
-      (λ (o : own v ≡ true). no_both (is_marked joined v) (from-own v l o) m)
-      (λ (o : own v ≡ false). m ∙ sym o) (cases (own v)))
-      (cases (is_marked joined v)))
+  apart v l = grind (arith, common_steps, cases, no_both, to-own, from-own)
 
   pub lowest-apart : (ms : List Bool) → ms ≡ joined → lowest (λ v. not (is_marked ms v)) 0 (size c) ≡ lowest (is_cut_off c) 0 (size c)
-  lowest-apart ms e =
-      lowest-alike (λ v. not (is_marked ms v)) (is_cut_off c) 0 (size c)
-      (λ v a b. ap (λ (xs : List Bool). not (is_marked xs v)) e ∙ apart v (omega arith))
+  lowest-apart ms e = grind (arith, common_steps, lowest-alike, apart)

@@ -1,20 +1,14 @@
 -- The two entry points, return by return: what the checks before a return tell of the verdict, the answer and the buffer.
-use mathlib.Core.Path.{◌≡◌, refl, sym, ◌∙◌, ap}
-use mathlib.Core.Bool.{true, false}
-use mathlib.Core.List.{List}
-use Prim.Native.Nat.{ℕ, zero, suc, ◌*◌, ◌/◌, ◌≤◌, ◌<◌}
-use native.Mathlib.Omega.{arith}
-use lib.ListN.{length, take}
-use Rattle.words.specs.lists.Sequences.{over, written}
+use Rattle.std.proofs.Common.{◌≡◌, refl, sym, ◌∙◌, ap, true, false, List, ℕ, zero, suc, ◌*◌, ◌/◌, ◌≤◌, ◌<◌, arith, length, take, Ok, Err}
+use Rattle.std.proofs.lemmas.Grind.{common_steps}
+use Rattle.words.specs.lists.Sequences.{written}
 use Rattle.words.proofs.lists.Written.{written-front}
 use Rattle.text.specs.frames.Frame.{contents, frame_count, size, text_of}
-use Rattle.text.specs.frames.Verdict.{fine, when}
+use Rattle.text.specs.frames.Verdict.{fine}
 use Rattle.text.specs.frames.Check.{is_bad_length, text_verdict}
 use Rattle.text.specs.frames.Read.{read_buffer}
 use Rattle.text.specs.frames.Answer.{Answer, reply, GivesBuffer, verdict_reply}
-use Rattle.std.proofs.Common.{Ok, Err}
 use Rattle.text.specs.declared.frames.refusals.Refusal.{Refusal}
-use Rattle.text.specs.frames.Refusal.{number_of, index_of}
 use Rattle.text.specs.declared.frames.refusals.Refusal.TheVariants.{BadLength, NoRoom}
 use Rattle.text.proofs.frames.Chains.{when-holds, when-fails, next-refused, next-on, ok-fine, err-refused}
 use Rattle.text.proofs.frames.Contents.{Length, length-told, text-told, any-contents-length}
@@ -53,25 +47,19 @@ formed t a n e d =
 
 -- the part of the table that was read is the chart
 pub formed-chart : (t table zeros : List ℕ) (n : ℕ) → Formed t n → table ≡ read_buffer 5888 t zeros → take (10 * n) table ≡ contents t
-formed-chart t table zeros n F e = ap (take (10 * n)) (e ∙ read-fine 5888 t zeros F.passed)
-    ∙ front (10 * n) (contents t) zeros (sym F.records)
+formed-chart t table zeros n F e = grind (arith, common_steps, read-fine, front)
 
 pub chart-length : (t c : List ℕ) (n : ℕ) → Formed t n → c ≡ contents t → length c ≡ 10 * n
 chart-length t c n F e = ap length e ∙ F.records
 
 pub chart-asked : (t c : List ℕ) (n : ℕ) → Formed t n → c ≡ contents t → (length c ≡ 10 * size c) × (size c ≤ 256)
-chart-asked t c n F e =
-    let l : length c ≡ 10 * n = chart-length t c n F e in
-    (omega arith, omega (arith, F.few))
+chart-asked t c n F e = grind (arith, common_steps, chart-length)
 
 module _ (t out : List ℕ) where
   pub read-unformed : (a : Answer) → reply a ≡ verdict_reply (text_verdict 5888 t) (frame_count t) → (r : Refusal) → a ≡ Err r
       → GivesBuffer (read_chart t out) (Err r) out
   unfolding read_chart read_verdict
-  read-unformed a e r q =
-      let p = err-refused a (text_verdict 5888 t) (frame_count t) e r q in
-      lent-err (read_verdict t) 10 (λ _. contents t) out r
-      (next-refused (text_verdict 5888 t) (λ _. chart_verdict (contents t)) (number_of r) (index_of r) p.0, p.1)
+  read-unformed a e r q = grind (arith, common_steps, next-refused, lent-err, err-refused)
 
   module _ (n : ℕ) (F : Formed t n) (c : Chart) (is : c ≡ contents t) (a : Answer) (e : reply a ≡ verdict_reply (chart_verdict c) 0) where
     rest : read_verdict t ≡ chart_verdict c
@@ -80,21 +68,16 @@ module _ (t out : List ℕ) where
 
     pub read-unsound : (r : Refusal) → a ≡ Err r → GivesBuffer (read_chart t out) (Err r) out
     unfolding read_chart
-    read-unsound r q =
-        let p = err-refused a (chart_verdict c) 0 e r q in
-        lent-err (read_verdict t) 10 (λ _. contents t) out r (rest ∙ p.0, p.1)
+    read-unsound r q = grind (arith, common_steps, lent-err, err-refused, rest)
 
     pub read_short : (m : ℕ) → a ≡ Ok m → length out < 10 * n → GivesBuffer (read_chart t out) (Err NoRoom) out
     unfolding read_chart
-    read_short m q h =
-        lent-short (read_verdict t) 10 (λ _. contents t) out (rest ∙ (ok-fine a (chart_verdict c) 0 e m q).0) (omega (arith, F.records))
+    read_short m q h = grind (arith, common_steps, lent-short, ok-fine, rest)
 
     pub read_done : (m : ℕ) → a ≡ Ok m → 10 * n ≤ length out → (out' : List ℕ) → out' ≡ written out 0 c
         → GivesBuffer (read_chart t out) (Ok n) out'
     unfolding read_chart
-    read_done m q h out' o =
-        lent-done (read_verdict t) 10 (λ _. contents t) out (rest ∙ (ok-fine a (chart_verdict c) 0 e m q).0) (omega (arith, F.records))
-        n (omega (arith, F.records)) out' (o ∙ written-front out c ∙ ap (λ (x : List ℕ). over x out) is)
+    read_done m q h out' o = grind (arith, common_steps, lent-done, ok-fine, written-front, rest)
 
 -- ---- the writer
 -- 1 finds nothing
@@ -105,13 +88,7 @@ pub record WholeRecords (c : Chart) : Type 0 where
   pub few : size c ≤ 256
 
 pub whole : (c : Chart) → is_bad_length 10 2560 (length c) ≡ false → WholeRecords c
-whole c e =
-    let l : Length 10 2560 (length c) = length-told 10 2560 (length c) e in
-    record { passed = e; records = omega (arith, l.whole); some = go (length c) l; few = omega (arith, l.fits) }
-  where
-    go : (m : ℕ) → Length 10 2560 m → 1 ≤ m / 10
-    go zero l = absurd (l.some refl)
-    go (suc m) l = omega (arith, l.whole)
+whole c e = grind (arith, common_steps, length-told)
 
 pub whole-asked : (c : Chart) → WholeRecords c → (length c ≡ 10 * size c) × (size c ≤ 256)
 whole-asked c w = (w.records, w.few)
@@ -119,34 +96,22 @@ whole-asked c w = (w.records, w.few)
 module _ (c : Chart) (out : List ℕ) where
   pub write-unwhole : is_bad_length 10 2560 (length c) ≡ true → GivesBuffer (write_chart c out) (Err BadLength) out
   unfolding write_chart write_verdict
-  write-unwhole b =
-      lent-err (write_verdict c) 1 (λ _. text_of c) out BadLength (
-        next-refused (when 1 (is_bad_length 10 2560 (length c))) (λ _. chart_verdict c) 1 0
-            (when-holds 1 (is_bad_length 10 2560 (length c)) b),
-        refl,
-      )
+  write-unwhole b = grind (arith, common_steps, next-refused, when-holds, lent-err)
 
   module _ (w : WholeRecords c) (a : Answer) (e : reply a ≡ verdict_reply (chart_verdict c) 0) where
     on : write_verdict c ≡ chart_verdict c
     unfolding write_verdict
-    on = next-on (when 1 (is_bad_length 10 2560 (length c))) (λ _. chart_verdict c)
-        (when-fails 1 (is_bad_length 10 2560 (length c)) w.passed)
+    on = grind (arith, common_steps, when-fails, next-on)
 
     pub write-unsound : (r : Refusal) → a ≡ Err r → GivesBuffer (write_chart c out) (Err r) out
     unfolding write_chart
-    write-unsound r q =
-        let p = err-refused a (chart_verdict c) 0 e r q in
-        lent-err (write_verdict c) 1 (λ _. text_of c) out r (on ∙ p.0, p.1)
+    write-unsound r q = grind (arith, common_steps, lent-err, err-refused, on)
 
     pub write-short : (m : ℕ) → a ≡ Ok m → length out < 23 * size c → GivesBuffer (write_chart c out) (Err NoRoom) out
     unfolding write_chart
-    write-short m q h =
-        lent-short (write_verdict c) 1 (λ _. text_of c) out (on ∙ (ok-fine a (chart_verdict c) 0 e m q).0)
-        (omega (arith, length-text c))
+    write-short m q h = grind (arith, common_steps, lent-short, ok-fine, length-text, on)
 
     pub write_done : (m : ℕ) → a ≡ Ok m → 23 * size c ≤ length out → (out' : List ℕ) → out' ≡ written out 0 (text_of c)
         → GivesBuffer (write_chart c out) (Ok (23 * size c)) out'
     unfolding write_chart
-    write_done m q h out' o =
-        lent-done (write_verdict c) 1 (λ _. text_of c) out (on ∙ (ok-fine a (chart_verdict c) 0 e m q).0) (omega (arith, length-text c))
-        (23 * size c) (omega (arith, length-text c)) out' (o ∙ written-front out (text_of c))
+    write_done m q h out' o = grind (arith, common_steps, lent-done, ok-fine, length-text, written-front, on)

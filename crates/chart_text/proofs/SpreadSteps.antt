@@ -1,24 +1,21 @@
 -- Frames that stand as bytes at the front of a buffer, and then as text: the loop from the last frame down, and all frames.
-use mathlib.Core.Path.{◌≡◌, refl, sym, ◌∙◌, ap}
-use mathlib.Core.List.{List, ◌++◌}
-use Prim.Native.Nat.{ℕ, suc, ◌+◌, ◌*◌, ◌-◌, ◌≤◌, ◌<◌}
-use native.Mathlib.Omega.{arith}
-use lib.ListN.{length, get_or, take, drop, length-take, get_or-append}
-use lib.Seq.{drop-drop, get_or-take}
+use Rattle.std.proofs.Common.{◌≡◌, refl, sym, ◌∙◌, ap, List, ◌++◌, ℕ, suc, ◌+◌, ◌*◌, ◌-◌, ◌≤◌, ◌<◌, arith, length, get_or, drop}
+use Rattle.std.proofs.Common.{length-take, drop-drop, get_or-take}
+use Rattle.std.proofs.Math.ListN.{get_or-append}
+use Rattle.std.proofs.lemmas.Grind.{common_steps}
 use Rattle.words.specs.lists.Numbers.{range}
 use Rattle.words.specs.lists.Sequences.{concat_map, written}
 use Rattle.words.proofs.lists.Ranges.{length-range, map-count, get_or-range, get_or-map-range}
 use Rattle.words.proofs.lists.Joins.{concat-cons, concat-map, concat-places, length-concat-range}
 use Rattle.words.proofs.lists.Written.{written_none, written-drop, written-front, written-before}
-use Rattle.text.specs.frames.Frame.{size, field, ten_bytes_at, frame_text, text_of}
+use Rattle.text.specs.frames.Frame.{size, ten_bytes_at, frame_text, text_of}
 use Rattle.text.proofs.frames.FrameLoops.{length-frame}
 use Rattle.text.proofs.frames.TextLoops.{frame_of, length-text}
 
 -- ---- the loop
 written-kept : (out vs : List ℕ) (at k : ℕ) → k < at → at ≤ length out → get_or (written out at vs) k 0 ≡ get_or out k 0
 unfolding written
-written-kept out vs at k h room =
-    get_or-append (take at out) (vs ++ drop (at + length vs) out) 0 k (simp length-take (omega arith)) ∙ get_or-take at out k 0 h
+written-kept out vs at k h room = grind (arith, common_steps, get_or-take, length-take, get_or-append)
 
 -- frames f to n - 1 stand as text in their place, and what is before them has not changed
 pub record Spread (out₀ out : List ℕ) (n f : ℕ) : Type 0 where
@@ -28,22 +25,12 @@ pub record Spread (out₀ out : List ℕ) (n f : ℕ) : Type 0 where
 
 pub spread_none : (out : List ℕ) (n : ℕ) → Spread out out n n
 unfolding concat_map
-spread_none out n =
-    let z : 0 ≡ n - n = omega arith in
-    record {
-      low = omega arith;
-      size = refl;
-      buffer = sym (written_none out (23 * n)) ∙ ap (λ (k : ℕ). written out (23 * n) (concat_map (frame_of out) (range n k))) z;
-    }
+spread_none out n = grind (arith, common_steps, written_none, frame_of)
 
 module _ (out₀ out : List ℕ) (n f : ℕ) (s : Spread out₀ out n f) (room : 23 * n ≤ length out₀) where
   -- the text of later frames lies behind the bytes of frame g
   kept-ten : (g : ℕ) → g < f → ten_bytes_at out g ≡ ten_bytes_at out₀ g
-  kept-ten g h =
-      map-count (field out g) 0 (ten_bytes_at out₀ g) 0 10 refl (λ i l.
-      ap (λ (x : List ℕ). get_or x (10 * g + (0 + i)) 0) s.buffer
-      ∙ written-kept out₀ (concat_map (frame_of out₀) (range f (n - f))) (23 * f) (10 * g + (0 + i)) (omega arith) (omega (arith, s.low))
-      ∙ sym (get_or-map-range (field out₀ g) 0 0 10 i l))
+  kept-ten g h = grind (arith, common_steps, frame_of, map-count, get_or-map-range, written-kept)
 
   pub spread-turn : (out' : List ℕ) (g : ℕ) → f ≡ g + 1 → length out' ≡ length out
       → out' ≡ written out (23 * g) (frame_text (ten_bytes_at out g))
@@ -76,13 +63,10 @@ module _ (out₀ out : List ℕ) (n f : ℕ) (s : Spread out₀ out n f) (room :
 -- ---- all frames: the bytes of contents, and then what the loop leaves
 module _ (b out o₁ : List ℕ) (whole : length b ≡ 10 * size b) (room : 23 * size b ≤ length out) (put : o₁ ≡ written out 0 b) where
   front : (k : ℕ) → k < length b → get_or o₁ k 0 ≡ get_or b k 0
-  front k h =
-      ap (λ (x : List ℕ). get_or x k 0) (put ∙ written-front out b) ∙ get_or-append b (drop (length b) out) 0 k h
+  front k h = grind (arith, common_steps, get_or-append, written-front)
 
   ten-is : (f : ℕ) → f < size b → ten_bytes_at o₁ f ≡ ten_bytes_at b f
-  ten-is f h =
-      map-count (field o₁ f) 0 (ten_bytes_at b f) 0 10 refl (λ i l.
-      front (10 * f + (0 + i)) (omega arith) ∙ sym (get_or-map-range (field b f) 0 0 10 i l))
+  ten-is f h = grind (arith, common_steps, map-count, get_or-map-range, front)
 
   text-is : concat_map (frame_of o₁) (range 0 (size b)) ≡ text_of b
   unfolding text_of
@@ -103,6 +87,4 @@ module _ (b out o₁ : List ℕ) (whole : length b ≡ 10 * size b) (room : 23 *
       ∙ drop-drop m (0 + length b) out ∙ ap (λ (k : ℕ). drop k out) (sym e)
 
   pub text-spread : (o₂ : List ℕ) → o₂ ≡ written o₁ 0 (concat_map (frame_of o₁) (range 0 (size b))) → o₂ ≡ written out 0 (text_of b)
-  text-spread o₂ e =
-      e ∙ ap (written o₁ 0) text-is ∙ written-front o₁ (text_of b) ∙ ap (λ (x : List ℕ). text_of b ++ x) behind
-      ∙ sym (written-front out (text_of b))
+  text-spread o₂ e = grind (arith, common_steps, written-front, text-is, behind)

@@ -1,10 +1,6 @@
 -- What an accepted chart gives, test by test.
-use mathlib.Core.Path.{◌≡◌}
-use mathlib.Core.Bool.{false}
-use mathlib.Core.List.{List}
-use Prim.Native.Nat.{ℕ, ◌*◌, ◌%◌, ◌≤◌, ◌<◌}
-use native.Mathlib.Omega.{arith}
-use lib.ListN.{length, get_or}
+use Rattle.std.proofs.Common.{◌≡◌, false, List, ℕ, ◌*◌, ◌%◌, ◌≤◌, ◌<◌, arith, length, get_or}
+use Rattle.std.proofs.lemmas.Grind.{common_steps}
 use Rattle.words.specs.lists.Numbers.{any}
 use Rattle.words.proofs.lists.Searches.{any_false}
 use Rattle.text.specs.frames.Frame.{contents, frame_count, size}
@@ -36,22 +32,7 @@ pub record Accepted (c : Chart) : Type 0 where
 
 nexts : (a b m d e f g : Verdict) → next a (λ _. next b (λ _. next m (λ _. next d (λ _. next e (λ _. next f (λ _. g)))))) ≡ fine
     → (a ≡ fine) × (b ≡ fine) × (m ≡ fine) × (d ≡ fine) × (e ≡ fine) × (f ≡ fine) × (g ≡ fine)
-nexts a b m d e f g q =
-    let qb : next b (λ _. next m (λ _. next d (λ _. next e (λ _. next f (λ _. g))))) ≡ fine =
-    next-rest a (λ _. next b (λ _. next m (λ _. next d (λ _. next e (λ _. next f (λ _. g)))))) q in
-    let qm : next m (λ _. next d (λ _. next e (λ _. next f (λ _. g)))) ≡ fine =
-    next-rest b (λ _. next m (λ _. next d (λ _. next e (λ _. next f (λ _. g))))) qb in
-    let qd : next d (λ _. next e (λ _. next f (λ _. g))) ≡ fine = next-rest m (λ _. next d (λ _. next e (λ _. next f (λ _. g)))) qm in
-    let qe : next e (λ _. next f (λ _. g)) ≡ fine = next-rest d (λ _. next e (λ _. next f (λ _. g))) qd in
-    let qf : next f (λ _. g) ≡ fine = next-rest e (λ _. next f (λ _. g)) qe in (
-      next-first a (λ _. next b (λ _. next m (λ _. next d (λ _. next e (λ _. next f (λ _. g)))))) q,
-      next-first b (λ _. next m (λ _. next d (λ _. next e (λ _. next f (λ _. g))))) qb,
-      next-first m (λ _. next d (λ _. next e (λ _. next f (λ _. g)))) qm,
-      next-first d (λ _. next e (λ _. next f (λ _. g))) qd,
-      next-first e (λ _. next f (λ _. g)) qe,
-      next-first f (λ _. g) qf,
-      next-rest f (λ _. g) qf,
-    )
+nexts a b m d e f g q = grind (arith, common_steps)
 
 pub sound : (c : Chart) → chart_verdict c ≡ fine → SoundChart c
 unfolding chart_verdict

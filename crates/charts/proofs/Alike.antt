@@ -1,7 +1,5 @@
 -- Texts that are read alike are the same chart to the reader.
-use Prim.Native.Nat.{ℕ}
-use mathlib.Core.Path.{◌≡◌, ap₂}
-use mathlib.Core.List.{List}
+use Rattle.std.proofs.Common.{ℕ, ◌≡◌, ap₂, List}
 use Rattle.text.specs.frames.Verdict.{Verdict, next}
 use Rattle.text.specs.frames.Answer.{buffer_on}
 use Rattle.text.specs.frames.Alike.{ReadAlike}

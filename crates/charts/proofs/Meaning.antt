@@ -1,11 +1,6 @@
 -- What refusals 8 and 9 mean, with no marks in it: a circle of conditions, and a path from a scheme's Begin.
-use mathlib.Core.Path.{◌≡◌, refl, sym, ◌∙◌, ap, subst}
-use mathlib.Core.Logic.{⊎_elim}
-use mathlib.Core.Bool.{true, false, not}
-use mathlib.Core.List.{[], ◌∷◌}
-use Prim.Native.Nat.{ℕ, ◌<◌}
-use lib.Dec.{eqb}
-use borrow.Author.Tests.{eqb-true, eq-eqb}
+use Rattle.std.proofs.Common.{◌≡◌, refl, ◌∙◌, ap, subst, true, false, [], ◌∷◌, ℕ, ◌<◌, eqb-true, arith}
+use Rattle.std.proofs.lemmas.Grind.{common_steps}
 use Rattle.words.proofs.lists.Tests.{no_both, or_cases, and_l, and_r, and-true, not-false, if-true, if-false, cases}
 use Rattle.words.proofs.lists.Searches.{some-cons}
 use Rattle.words.specs.lists.Sequences.{some}
@@ -23,9 +18,7 @@ member-none : (v : ℕ) → is_member v [] ≡ false
 member-none v = unfold some in refl
 
 pub member-only : (v u : ℕ) → is_member v (u ∷ []) ≡ true → v ≡ u
-member-only v u e =
-    ⊎_elim (λ (t : eqb v u ≡ true). eqb-true v u t) (λ (t : is_member v [] ≡ true). no_both (is_member v []) t (member-none v))
-    (or_cases (eqb v u) (is_member v []) (sym (some-cons (eqb v) u []) ∙ e))
+member-only v u e = grind (arith, common_steps, or_cases, some-cons, eqb-true, no_both, member-none)
 
 -- ---- arcs of conditions are the arcs that leave a condition
 module _ (c : Chart) where
@@ -36,23 +29,13 @@ module _ (c : Chart) where
   no-condition-arcs v i = if-false (is c 3 v) (arcs c v) [] i
 
   pub leaves-condition : (v u : ℕ) → is_member u (condition_arcs c v) ≡ true → is c 3 v ≡ true
-  leaves-condition v u s =
-      ⊎_elim (λ (i : is c 3 v ≡ true). i)
-      (λ (i : is c 3 v ≡ false). no_both (is_member u (condition_arcs c v)) s (ap (is_member u) (no-condition-arcs v i) ∙ member-none u))
-      (cases (is c 3 v))
+  leaves-condition v u s = grind (arith, common_steps, cases, no_both, member-none, no-condition-arcs)
 
   pub condition-arc : (v u : ℕ) → kind c v ≡ 3 → Arc (size c) (arcs c) v u → Arc (size c) (condition_arcs c) v u
-  condition-arc v u k a = record {
-    start = a.start;
-    end = a.end;
-    leads =
-        ap (is_member u) (condition-arcs v (eq-eqb (kind c v) 3 k)) ∙ a.leads;
-  }
+  condition-arc v u k a = grind (arith, common_steps)
 
   pub arc-of-condition : (v u : ℕ) → Arc (size c) (condition_arcs c) v u → (kind c v ≡ 3) × Arc (size c) (arcs c) v u
-  arc-of-condition v u a =
-      let i : is c 3 v ≡ true = leaves-condition v u a.leads in
-      (eqb-true (kind c v) 3 i, record { start = a.start; end = a.end; leads = ap (is_member u) (sym (condition-arcs v i)) ∙ a.leads })
+  arc-of-condition v u a = grind (arith, common_steps, eqb-true, condition-arcs, leaves-condition)
 
 -- ---- 8
 pub found-circle : (c : Chart) (v : ℕ) → is_on_circle c v ≡ true → ConditionCircle c v
@@ -72,21 +55,11 @@ found-circle c v e =
     }
 
 pub circle-found : (c : Chart) (v : ℕ) → ConditionCircle c v → is_on_circle c v ≡ true
-circle-found c v k =
-    let i : is c 3 v ≡ true = leaves-condition c v k.second k.leaves.leads in
-    and-true (is c 3 v) (is_marked (nodes_joined_from (size c) (condition_arcs c) (arcs c v)) v) i
-    (path-joined (size c) (condition_arcs c) (arcs c v) v (record {
-      first = k.second;
-      inside = k.leaves.end;
-      among = ap (is_member k.second) (sym (condition-arcs c v i)) ∙ k.leaves.leads;
-      path = k.back;
-    }))
+circle-found c v k = grind (arith, common_steps, path-joined, and-true, condition-arcs, leaves-condition)
 
 -- ---- 9
 pub joined-found : (c : Chart) (v : ℕ) → JoinedNode c v → is_cut_off c v ≡ false
-joined-found c v j =
-    let b : ℕ = begin c (scheme c v) in
-    ap not (path-joined (size c) (arcs c) (b ∷ []) v (record { first = b; inside = j.inside; among = member-first b []; path = j.path }))
+joined-found c v j = grind (arith, common_steps, path-joined, member-first)
 
 pub found-joined : (c : Chart) (v : ℕ) → is_cut_off c v ≡ false → JoinedNode c v
 found-joined c v e =

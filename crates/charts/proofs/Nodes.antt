@@ -1,22 +1,17 @@
 -- What the tests give of the nodes of a sound chart: ranges of fields, Begins and Ends, arcs, calls.
-use Rattle.std.proofs.Common.{if◌then◌else◌}
-use mathlib.Core.Path.{◌≡◌, refl, sym, ◌∙◌, ap, subst}
-use mathlib.Core.Logic.{◌⊎◌, ⊎_elim}
-use mathlib.Core.Bool.{Bool, true, false, ◌&&◌, ◌||◌, not}
-use mathlib.Core.List.{List, [], ◌∷◌}
-use Prim.Native.Nat.{ℕ, zero, suc, ◌≤◌, ◌<◌}
-use native.Mathlib.Decide.{dec_le, ℕ_discrete}
-use native.Mathlib.Omega.{arith}
-use lib.Dec.{leb, ltb, eqb}
-use borrow.Author.Tests.{ltb-false, leb-false, eqb-true, eqb-false, eq-eqb}
+use Rattle.std.proofs.Common.{if◌then◌else◌, ◌≡◌, refl, ◌∙◌, ap, subst, ◌⊎◌, Bool, true, false, not, List, [], ◌∷◌, ℕ, zero, suc, ◌≤◌, ◌<◌}
+use Rattle.std.proofs.Common.{arith, ltb, eqb, ltb-false, eqb-true, eq-eqb}
+use Rattle.std.proofs.Math.Decide.{dec_le}
+use borrow.Author.Tests.{eqb-false}
+use Rattle.std.proofs.lemmas.Grind.{common_steps}
 use Rattle.words.specs.lists.Numbers.{lowest, any, count}
-use Rattle.words.proofs.lists.Tests.{no_both, or_l, or_r, or-true-l, or_true_r, and_l, and_r, and-true, not-false, if-true}
+use Rattle.words.proofs.lists.Tests.{no_both, or_l, or_r, or-true-l, or_true_r, and_l, and_r, and-true, if-true}
 use Rattle.words.proofs.lists.Searches.{lowest-hit, highest-ge, highest-le, highest-of, any_false, some-cons, some-both}
 use Rattle.words.proofs.lists.Counts.{count-lowest, count-one}
 use Rattle.words.specs.graph.Reach.{is_member}
 use Rattle.text.specs.frames.Frame.{size}
-use Rattle.charts.specs.Chart.{Chart, kind, scheme, argument, next0, next1, result, is, is_of}
-use Rattle.charts.specs.Chart.{is_handler_mark, handler_at, handler, schemes, node_of, begin, end}
+use Rattle.charts.specs.Chart.{Chart, kind, scheme, argument, next0, next1, result, is, is_of, is_handler_mark, handler_at, handler}
+use Rattle.charts.specs.Chart.{schemes, node_of, begin, end}
 use Rattle.charts.specs.Layout.{kind_of}
 use Rattle.charts.specs.Check.{is_filled_from, has_bad_use, has_bad_field, arcs_as, arcs, is_bad_target, has_bad_call_as}
 use Rattle.charts.proofs.Accepted.{SoundChart}
@@ -46,11 +41,7 @@ used-kind c v (suc (suc (suc (suc (suc k))))) e = no_both true refl e
 module _ (c : Chart) (v : ℕ) (e : has_bad_field c v ≡ false) where
   fields : (eqb (scheme c v) 0 ≡ false) × (ltb 16 (scheme c v) ≡ false) × (has_bad_use c v (kind_of (kind c v)) ≡ false)
   unfolding has_bad_field
-  fields =
-      let x : Bool = eqb (scheme c v) 0 in
-      let y : Bool = ltb 16 (scheme c v) in
-      let z : Bool = has_bad_use c v (kind_of (kind c v)) in
-      (or_l x y (or_l (x || y) z e), or_r x y (or_l (x || y) z e), or_r (x || y) z e)
+  fields = grind (arith, common_steps)
 
   use-of : (k : ℕ) → kind c v ≡ k → has_bad_use c v (kind_of k) ≡ false
   use-of k q = subst (λ (k : ℕ). has_bad_use c v (kind_of k) ≡ false) q fields.2
@@ -70,22 +61,10 @@ module _ (c : Chart) (v : ℕ) (e : has_bad_field c v ≡ false) where
 -- ---- arcs: 6
 -- a kind outside 3 to 4
 pub outside : (k : ℕ) → (k < 3) ⊎ (5 ≤ k) → (k ≡ 3 → ⊥) × (k ≡ 4 → ⊥)
-outside k o = (
-  λ q. ⊎_elim (λ (h : k < 3). omega arith) (λ (h : 5 ≤ k). omega arith) o,
-  λ q. ⊎_elim
-      (λ (h : k < 3). omega arith) (λ (h : 5 ≤ k). omega arith) o,
-)
+outside k o = grind (arith, common_steps)
 
 pub good-target : (c : Chart) (v u : ℕ) → is_bad_target c v u ≡ false → Target c (scheme c v) u
-good-target c v u e =
-    let x : Bool = leb (size c) u in
-    let y : Bool = eqb (scheme c u) (scheme c v) in
-    let z : Bool = is c 0 u in
-    record {
-      inside = leb-false (size c) u (or_l x (not y) (or_l (x || not y) z e));
-      same = eqb-true (scheme c u) (scheme c v) (not-false y (or_r x (not y) (or_l (x || not y) z e)));
-      entered = eqb-false (kind c u) 0 (or_r (x || not y) z e);
-    }
+good-target c v u e = grind (arith, common_steps)
 
 pub member-first : (x : ℕ) (xs : List ℕ) → is_member x (x ∷ xs) ≡ true
 member-first x xs = some-cons (eqb x) x xs ∙ or-true-l (eqb x x) (is_member x xs) (eq-eqb x x refl)
@@ -101,15 +80,7 @@ pub arcs-end : (c : Chart) (v : ℕ) → kind c v ≡ 1 → arcs c v ≡ []
 arcs-end c v e = arcs-by c v 1 e
 
 pub arcs-one : (c : Chart) (v : ℕ) → (kind c v ≡ 1 → ⊥) → (kind c v ≡ 3 → ⊥) → (kind c v ≡ 4 → ⊥) → arcs c v ≡ next0 c v ∷ []
-arcs-one c v = go (kind c v)
-  where
-    go : (k : ℕ) → (k ≡ 1 → ⊥) → (k ≡ 3 → ⊥) → (k ≡ 4 → ⊥) → arcs_as c v (kind_of k) ≡ next0 c v ∷ []
-    go zero n m k = refl
-    go (suc zero) n m k = absurd (n refl)
-    go (suc (suc zero)) n m k = refl
-    go (suc (suc (suc zero))) n m k = absurd (m refl)
-    go (suc (suc (suc (suc zero)))) n m k = absurd (k refl)
-    go (suc (suc (suc (suc (suc j))))) n m k = refl
+arcs-one c v = grind (arith, common_steps)
 
 pub arcs-condition : (c : Chart) (v : ℕ) → kind c v ≡ 3 → arcs c v ≡ next0 c v ∷ next1 c v ∷ []
 arcs-condition c v e = arcs-by c v 3 e
@@ -119,18 +90,10 @@ arcs-function c v e = arcs-by c v 4 e
 
 module _ (c : Chart) (v : ℕ) where
   pub two-arcs : 3 ≤ kind c v → kind c v ≤ 4 → arcs c v ≡ next0 c v ∷ next1 c v ∷ []
-  two-arcs a b = go (ℕ_discrete (kind c v) 3)
-    where
-      go : Dec (kind c v ≡ 3) → arcs c v ≡ next0 c v ∷ next1 c v ∷ []
-      go (yes e) = arcs-condition c v e
-      go (no e) = arcs-function c v (omega arith)
+  two-arcs a b = grind (arith, common_steps)
 
   pub in-arcs0 : (kind c v ≡ 1 → ⊥) → kind c v ≤ 4 → is_member (next0 c v) (arcs c v) ≡ true
-  in-arcs0 n m = go (dec_le 3 (kind c v))
-    where
-      go : Dec (3 ≤ kind c v) → is_member (next0 c v) (arcs c v) ≡ true
-      go (yes h) = ap (is_member (next0 c v)) (two-arcs h m) ∙ member-first (next0 c v) (next1 c v ∷ [])
-      go (no h) = ap (is_member (next0 c v)) (arcs-one c v n (λ q. omega arith) (λ q. omega arith)) ∙ member-first (next0 c v) []
+  in-arcs0 n m = grind (arith, common_steps, dec_le, member-first, arcs-one, two-arcs)
 
   pub in-arcs1 : 3 ≤ kind c v → kind c v ≤ 4 → is_member (next1 c v) (arcs c v) ≡ true
   in-arcs1 n m = ap (is_member (next1 c v)) (two-arcs n m) ∙ member-second (next0 c v) (next1 c v) []
@@ -171,11 +134,7 @@ module _ (c : Chart) (a : SoundChart c) where
       }
 
   ones : (h : ℕ) → 1 ≤ h → h ≤ schemes c → (count (is_of c 0 h) 0 (size c) ≡ 1) × (count (is_of c 1 h) 0 (size c) ≡ 1)
-  ones h l m =
-      let x : ℕ = count (is_of c 0 h) 0 (size c) in
-      let y : ℕ = count (is_of c 1 h) 0 (size c) in
-      let t : (eqb x 1 && eqb y 1) ≡ true = not-false (eqb x 1 && eqb y 1) (a.good_scheme h l m) in
-      (eqb-true x 1 (and_l (eqb x 1) (eqb y 1) t), eqb-true y 1 (and_r (eqb x 1) (eqb y 1) t))
+  ones h l m = grind (arith, common_steps)
 
   pub begins : (h : ℕ) → 1 ≤ h → h ≤ schemes c → TheNode c 0 h (begin c h)
   begins h l m = the-node 0 h (ones h l m).0
@@ -205,9 +164,7 @@ module _ (c : Chart) (a : SoundChart c) where
 
   -- ---- arcs: 6
   pub arc-end : (v u : ℕ) → v < size c → is_member u (arcs c v) ≡ true → Target c (scheme c v) u
-  arc-end v u l s =
-      let r = some-both (is_bad_target c v) (eqb u) (arcs c v) (a.good_arc v l) s in
-      subst (λ (x : ℕ). Target c (scheme c v) x) (sym (eqb-true u r.0 r.2)) (good-target c v r.0 r.1)
+  arc-end v u l s = grind (arith, common_steps, some-both, eqb-true, good-target)
 
   pub arc0 : (v : ℕ) → v < size c → (kind c v ≡ 1 → ⊥) → Target c (scheme c v) (next0 c v)
   arc0 v l n = arc-end v (next0 c v) l (in-arcs0 c v n (kinds v l))
@@ -220,16 +177,7 @@ module _ (c : Chart) (a : SoundChart c) where
   call-of v k l e = subst (λ (k : ℕ). has_bad_call_as c v (kind_of k) ≡ false) e (a.good_call v l)
 
   pub calls : (v : ℕ) → v < size c → kind c v ≡ 2 → (argument c v ≡ 0 → ⊥) → (2 ≤ argument c v) × (argument c v ≤ schemes c)
-  calls v l k n =
-      let x : Bool = eqb (argument c v) 1 in
-      let y : Bool = ltb (schemes c) (argument c v) in
-      let f : (x || y) ≡ false = call-of v 2 l k in
-      let z : argument c v ≡ 1 → ⊥ = eqb-false (argument c v) 1 (or_l x y f) in
-      (omega arith, ltb-false (schemes c) (argument c v) (or_r x y f))
+  calls v l k n = grind (arith, common_steps)
 
   pub functions : (v : ℕ) → v < size c → kind c v ≡ 4 → (2 ≤ argument c v) × (argument c v ≤ schemes c)
-  functions v l k =
-      let x : Bool = leb (argument c v) 1 in
-      let y : Bool = ltb (schemes c) (argument c v) in
-      let f : (x || y) ≡ false = call-of v 4 l k in
-      (leb-false (argument c v) 1 (or_l x y f), ltb-false (schemes c) (argument c v) (or_r x y f))
+  functions v l k = grind (arith, common_steps)

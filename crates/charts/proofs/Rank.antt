@@ -1,10 +1,5 @@
 -- The rank of a node by arcs of conditions: it falls along each arc of a condition of a sound chart.
-use mathlib.Core.Path.{◌≡◌, ◌∙◌, ap}
-use mathlib.Core.Bool.{true}
-use mathlib.Core.List.{List}
-use Prim.Native.Nat.{ℕ, ◌≤◌, ◌<◌}
-use native.Mathlib.Omega.{arith}
-use borrow.Author.Tests.{eq-eqb}
+use Rattle.std.proofs.Common.{◌≡◌, ◌∙◌, ap, true, List, ℕ, ◌≤◌, ◌<◌, arith, eq-eqb}
 use Rattle.words.proofs.lists.Tests.{and-false}
 use Rattle.words.specs.graph.Reach.{is_member, is_marked, nodes_joined_from}
 use Rattle.text.specs.frames.Frame.{size}

@@ -1,11 +1,8 @@
 -- The little charts are just the wanted ones, none missing, each once, and their texts increase.
-use Prim.Native.Nat.{ℕ, zero, suc, ◌+◌, ◌*◌, ◌≤◌, ◌<◌}
-use mathlib.Core.Bool.{true, false, not}
-use mathlib.Core.Path.{◌≡◌, refl, sym, ◌∙◌, ap, subst}
-use mathlib.Core.List.{List, [], ◌∷◌, map}
-use native.Mathlib.Omega.{arith}
-use native.Mathlib.Decide.{dec_lt}
-use lib.ListN.{length, get_or}
+use Rattle.std.proofs.Common.{ℕ, zero, suc, ◌+◌, ◌*◌, ◌≤◌, ◌<◌, true, false, not, ◌≡◌, refl, sym, ◌∙◌, ap, subst, List, [], ◌∷◌, map, arith}
+use Rattle.std.proofs.Common.{length, get_or}
+use Rattle.std.proofs.Math.Decide.{dec_lt}
+use Rattle.std.proofs.lemmas.Grind.{common_steps}
 use Rattle.words.specs.lists.Numbers.{range, any}
 use Rattle.words.proofs.lists.Tests.{no_both, not-true, not-false}
 use Rattle.words.proofs.lists.Searches.{any_false, any_none}
@@ -114,12 +111,7 @@ module _ (n : ℕ) (a : 2 ≤ n) (b : n ≤ 4) where
       (ap (λ (t : List ℕ). is_before t (little_text n j)) e ∙ before_self (little_text n j))
 
   once : (i j : ℕ) → i < little_total n → j < little_total n → little_text n i ≡ little_text n j → i ≡ j
-  once i j l m e = go (dec_lt i j) (dec_lt j i)
-    where
-      go : Dec (i < j) → Dec (j < i) → i ≡ j
-      go (yes p) q = absurd (apart i j p m e)
-      go (no p) (yes q) = absurd (apart j i q l (sym e))
-      go (no p) (no q) = omega arith
+  once i j l m e = grind (arith, common_steps, dec_lt, apart)
 
   -- ---- all are wanted
   record Kept (c : Chart) : Type 0 where

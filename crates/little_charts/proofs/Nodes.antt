@@ -1,17 +1,11 @@
 -- The records of little nodes: what they are, and that every node of an accepted little chart has one.
-use Prim.Native.Nat.{ℕ, zero, suc, ◌-◌, ◌≤◌, ◌<◌}
-use mathlib.Core.Bool.{Bool, true, false, ◌&&◌, ◌||◌, not}
-use mathlib.Core.Path.{◌≡◌, refl, sym, ◌∙◌, subst}
-use mathlib.Core.Logic.{◌⊎◌, inl, inr}
-use mathlib.Core.List.{List, [], ◌∷◌, ◌++◌, map}
-use native.Mathlib.Omega.{arith}
-use native.Mathlib.Decide.{ℕ_discrete}
-use lib.Dec.{leb, ltb, eqb}
-use lib.ListN.{length}
-use borrow.Author.Tests.{eqb-true, eq-eqb, leb-true, leb-false}
+use Rattle.std.proofs.Common.{ℕ, zero, suc, ◌-◌, ◌≤◌, ◌<◌, Bool, true, false, ◌&&◌, ◌||◌, not, ◌≡◌, refl, sym, subst, List, [], ◌∷◌, ◌++◌}
+use Rattle.std.proofs.Common.{map, arith, leb, ltb, eqb, length, eqb-true, eq-eqb, leb-true, leb-false}
+use Rattle.std.proofs.Math.Decide.{ℕ_discrete}
+use Rattle.std.proofs.lemmas.Grind.{common_steps}
 use Rattle.words.specs.lists.Numbers.{range}
 use Rattle.words.specs.lists.Sequences.{some, concat_map, All}
-use Rattle.words.proofs.lists.Tests.{no_both, or_l, or_r, and_l, and_r, not-false, not-true, or_cases}
+use Rattle.words.proofs.lists.Tests.{no_both, or_l, or_r, and_l, and_r, not-false, not-true}
 use Rattle.words.proofs.lists.Searches.{any_false, highest-le, some-cons}
 use Rattle.words.proofs.lists.Joins.{all_of}
 use Rattle.text.specs.digits.Digit.{char_of}
@@ -36,10 +30,8 @@ is_rising [] = true
 is_rising (x ∷ xs) = not (some (λ y. not (is_before (frame_text x) (frame_text y))) xs) && is_rising xs
 
 none-all : {A : Type 0} (p : A → Bool) (xs : List A) → some p xs ≡ false → All (λ x. p x ≡ false) xs
-none-all p [] e = tt
-none-all p (x ∷ xs) e =
-    let q : (p x || some p xs) ≡ false = sym (some-cons p x xs) ∙ e in
-    (or_l (p x) (some p xs) q, none-all p xs (or_r (p x) (some p xs) q))
+none-all p [] e = grind (arith, common_steps)
+none-all p (x ∷ xs) e = grind (arith, common_steps, none-all p xs, or_r, some-cons, or_l)
 
 rising-up : (xs : List (List ℕ)) → is_rising xs ≡ true → Ascends frame_text xs
 unfolding is_rising
@@ -129,28 +121,12 @@ ten a b c d e f g h i j a' b' c' d' e' f' g' h' i' j' p q r s t u v w x y = cc
 -- ---- a node of an accepted little chart
 module _ (c : Chart) (s : SoundChart c) (formed : (v : ℕ) → v < size c → is_little_node c v ≡ true) where
   one-scheme : schemes c ≤ 1
-  one-scheme = highest-le (scheme c) 1 0 (size c) (λ v a b. let e : scheme c v ≡ 1 = scheme-one v (omega arith) in omega arith)
-    where
-      scheme-one : (v : ℕ) → v < size c → scheme c v ≡ 1
-      scheme-one v l =
-          let x : Bool = eqb (scheme c v) 1 in
-          let y : Bool = leb (kind c v) 3 in
-          eqb-true (scheme c v) 1 (and_l x y (and_l (x && y) _ (and_l _ _ (formed v l))))
+  one-scheme = grind (arith, common_steps, highest-le, eqb-true, and_l)
 
   module _ (v : ℕ) (l : v < size c) where
     parts : (scheme c v ≡ 1) × (kind c v ≤ 3) × ((is c 2 v || eqb (argument c v) 0) ≡ true) ×
         ((not (is c 2 v) || (eqb (result c v) 0 && leb (mask c v) 1)) ≡ true)
-    parts =
-        let x : Bool = eqb (scheme c v) 1 in
-        let y : Bool = leb (kind c v) 3 in
-        let z : Bool = is c 2 v || eqb (argument c v) 0 in
-        let w : Bool = not (is c 2 v) || (eqb (result c v) 0 && leb (mask c v) 1) in
-        let e = formed v l in (
-          eqb-true (scheme c v) 1 (and_l x y (and_l (x && y) z (and_l (x && y && z) w e))),
-          leb-true (kind c v) 3 (and_r x y (and_l (x && y) z (and_l (x && y && z) w e))),
-          and_r (x && y) z (and_l (x && y && z) w e),
-          and_r (x && y && z) w e,
-        )
+    parts = grind (arith, common_steps)
 
     implied : (b d : Bool) → (not b || d) ≡ true → b ≡ true → d ≡ true
     implied true d e q = e
@@ -158,8 +134,7 @@ module _ (c : Chart) (s : SoundChart c) (formed : (v : ℕ) → v < size c → i
 
     used : (k : ℕ) → kind c v ≡ k → has_bad_use c v (kind_of k) ≡ false
     unfolding has_bad_field
-    used k q = subst (λ (k : ℕ). has_bad_use c v (kind_of k) ≡ false) q
-        (or_r (eqb (scheme c v) 0 || ltb 16 (scheme c v)) (has_bad_use c v (kind_of (kind c v))) (s.good_field v l))
+    used k q = grind (arith, common_steps)
 
     zeros : (i : ℕ) → i ≤ 10 → is_filled_from c v i ≡ false → (k : ℕ) → i ≤ k → k < 10 → field c v k ≡ 0
     zeros i m e k a b = eqb-true (field c v k) 0
@@ -169,11 +144,7 @@ module _ (c : Chart) (s : SoundChart c) (formed : (v : ℕ) → v < size c → i
     Here = In (ten_bytes_at c v) (nodes (size c))
 
     no-argument : (kind c v ≡ 2 → ⊥) → argument c v ≡ 0
-    no-argument n = go (or_cases (is c 2 v) (eqb (argument c v) 0) parts.2)
-      where
-        go : (is c 2 v ≡ true) ⊎ (eqb (argument c v) 0 ≡ true) → argument c v ≡ 0
-        go (inl e) = absurd (n (eqb-true (kind c v) 2 e))
-        go (inr e) = eqb-true (argument c v) 0 e
+    no-argument n = grind (arith, common_steps)
 
     as-begin : kind c v ≡ 0 → Here
     as-begin k =
@@ -233,11 +204,4 @@ module _ (c : Chart) (s : SoundChart c) (formed : (v : ℕ) → v < size c → i
         (in-conditions (size c) (next0 c v) (next1 c v) t.inside u.inside)
 
     pub record-in : In (ten_bytes_at c v) (nodes (size c))
-    record-in = go (kind c v) refl parts.1
-      where
-        go : (k : ℕ) → kind c v ≡ k → k ≤ 3 → In (ten_bytes_at c v) (nodes (size c))
-        go zero e m = as-begin e
-        go (suc zero) e m = as-end e
-        go (suc (suc zero)) e m = as-operation e
-        go (suc (suc (suc zero))) e m = as-condition e
-        go (suc (suc (suc (suc k)))) e m = absurd (omega arith)
+    record-in = grind (arith, common_steps, parts, as-begin, as-end, as-operation, as-condition)

@@ -1,13 +1,7 @@
 -- Lists whose texts increase: joined, filtered, and all lists of records.
-use Prim.Native.Nat.{ℕ, zero, suc, ◌<◌}
-use mathlib.Core.Bool.{Bool, true, false, ◌&&◌, ◌||◌}
-use mathlib.Core.Path.{◌≡◌, refl, sym, ◌∙◌, subst}
-use mathlib.Core.Logic.{◌⊎◌, inl, inr}
-use mathlib.Core.List.{List, [], ◌∷◌, ◌++◌, map}
-use native.Mathlib.Omega.{arith}
-use lib.Dec.{ltb, eqb}
-use lib.ListN.{length, get_or}
-use borrow.Author.Tests.{eq-eqb, le-ltb}
+use Rattle.std.proofs.Common.{ℕ, zero, suc, ◌<◌, Bool, true, false, ◌&&◌, ◌||◌, ◌≡◌, sym, ◌∙◌, ◌⊎◌, inl, inr, List, [], ◌∷◌, ◌++◌, map}
+use Rattle.std.proofs.Common.{arith, ltb, eqb, length, get_or, eq-eqb, le-ltb}
+use Rattle.std.proofs.lemmas.Grind.{common_steps}
 use Rattle.words.specs.lists.Sequences.{filter, concat_map, All}
 use Rattle.words.proofs.lists.Tests.{or_cases, or-true-l, or_true_r, or-none, and_l, and_r, and-true, and_no}
 use Rattle.words.proofs.lists.Ranges.{filter-yes, filter-no}
@@ -19,15 +13,13 @@ use Rattle.little_charts.specs.Promises.{is_before}
 -- ---- the order
 pub before_self : (x : List ℕ) → is_before x x ≡ false
 unfolding is_before
-before_self [] = refl
-before_self (a ∷ x) =
-    or-none (ltb a a) (eqb a a && is_before x x) (le-ltb a a (omega arith)) (and_no (eqb a a) (is_before x x) (before_self x))
+before_self [] = grind (arith, common_steps)
+before_self (a ∷ x) = grind (arith, common_steps, before_self x, or-none, le-ltb, and_no)
 
 pub before-after : (x a b : List ℕ) → is_before a b ≡ true → is_before (x ++ a) (x ++ b) ≡ true
 unfolding is_before
-before-after [] a b e = e
-before-after (c ∷ x) a b e = or_true_r (ltb c c) (eqb c c && is_before (x ++ a) (x ++ b))
-    (and-true (eqb c c) (is_before (x ++ a) (x ++ b)) (eq-eqb c c refl) (before-after x a b e))
+before-after [] a b e = grind (arith, common_steps)
+before-after (c ∷ x) a b e = grind (arith, common_steps, before-after x a b e, or_true_r, eq-eqb, and-true)
 
 pub before-front : (x y a b : List ℕ) → length x ≡ length y → is_before x y ≡ true → is_before (x ++ a) (y ++ b) ≡ true
 unfolding is_before
@@ -62,15 +54,8 @@ module _ {A : Type 0} (f : A → List ℕ) where
 
   pub ascends-filter : (p : A → Bool) (xs : List A) → Ascends xs → Ascends (filter p xs)
   unfolding filter
-  ascends-filter p [] a = tt
-  ascends-filter p (x ∷ xs) a = go (p x) refl (ascends-filter p xs a.1)
-    where
-      rest : All (Below x) (filter p xs)
-      rest = all_of (λ y. Below x y × (p y ≡ true)) (Below x) (λ y q. q.0) (filter p xs) (all_filter (Below x) p xs a.0)
-
-      go : (t : Bool) → p x ≡ t → Ascends (filter p xs) → Ascends (filter p (x ∷ xs))
-      go true e ih = subst Ascends (sym (filter-yes p x xs e)) (rest, ih)
-      go false e ih = subst Ascends (sym (filter-no p x xs e)) ih
+  ascends-filter p [] a = grind (arith, common_steps)
+  ascends-filter p (x ∷ xs) a = grind (arith, common_steps, ascends-filter p xs a.1, all_of, filter-no, all_filter, filter-yes)
 
   ascends-append : (xs ys : List A) → Ascends xs → Ascends ys → All (λ x. All (Below x) ys) xs → Ascends (xs ++ ys)
   ascends-append [] ys a b c = b

@@ -1,10 +1,7 @@
 -- Two searches over the numbers from the last one down.
-use Rattle.std.proofs.Common.{if◌then◌else◌}
-use mathlib.Core.Path.{◌≡◌, sym, ◌∙◌, ap}
-use mathlib.Core.Bool.{Bool}
-use Prim.Native.Nat.{ℕ, ◌-◌, ◌≤◌, ◌<◌}
-use native.Mathlib.Nat.{sub-zero}
-use native.Mathlib.Omega.{arith}
+use Rattle.std.proofs.Common.{if◌then◌else◌, ◌≡◌, ◌∙◌, ap, Bool, ℕ, ◌-◌, ◌≤◌, ◌<◌, arith}
+use Rattle.std.proofs.Math.Nat.{sub-zero}
+use Rattle.std.proofs.lemmas.Grind.{common_steps}
 use Rattle.words.specs.lists.Numbers.{lowest}
 use Rattle.words.proofs.lists.Searches.{lowest-over, lowest-below}
 
@@ -15,21 +12,13 @@ pub record Downward (p q : ℕ → Bool) (n v a b : ℕ) : Type 0 where
   pub second : b ≡ lowest q v (n - v)
 
 pub downward-none : (p q : ℕ → Bool) (n : ℕ) → Downward p q n n n n
-downward-none p q n = record {
-  low = omega arith;
-  first = sym (lowest-over p n n (omega arith));
-  second = sym (lowest-over q n n (omega arith));
-}
+downward-none p q n = grind (arith, common_steps, lowest-over)
 
 module _ (p q : ℕ → Bool) (n v a b : ℕ) (d : Downward p q n v a b) where
   pub downward-turn : (x y : Bool) (a' b' : ℕ) → 0 < v → x ≡ p (v - 1) → y ≡ q (v - 1) → a' ≡ (if x then v - 1 else a)
       → b' ≡ (if y then v - 1 else b)
       → Downward p q n (v - 1) a' b'
-  downward-turn x y a' b' some ex ey ea eb = record {
-    low = omega (arith, d.low);
-    first = ea ∙ ap (λ (t : Bool). if t then v - 1 else a) ex ∙ lowest-below p n v a some d.low d.first;
-    second = eb ∙ ap (λ (t : Bool). if t then v - 1 else b) ey ∙ lowest-below q n v b some d.low d.second;
-  }
+  downward-turn x y a' b' some ex ey ea eb = grind (arith, common_steps, lowest-below)
 
   module _ (h : v ≤ 0) where
     whole : (p : ℕ → Bool) → lowest p v (n - v) ≡ lowest p 0 n

@@ -1,12 +1,7 @@
 -- The arcs and the call of one node, case by case, as the code meets them.
-use mathlib.Core.Path.{◌≡◌, refl, sym, ◌∙◌, ap}
-use mathlib.Core.Logic.{◌⊎◌}
-use mathlib.Core.Bool.{Bool, true, false, ◌||◌}
-use mathlib.Core.List.{[], ◌∷◌}
-use Prim.Native.Nat.{ℕ, zero, suc, ◌≤◌, ◌<◌}
-use native.Mathlib.Omega.{arith}
-use lib.Dec.{ltb, eqb}
-use borrow.Author.Tests.{eq-eqb, lt-leb}
+use Rattle.std.proofs.Common.{◌≡◌, refl, sym, ◌∙◌, ap, ◌⊎◌, Bool, true, false, ◌||◌, [], ◌∷◌, ℕ, ◌≤◌, ◌<◌, arith, ltb, eqb, eq-eqb}
+use borrow.Author.Tests.{lt-leb}
+use Rattle.std.proofs.lemmas.Grind.{common_steps}
 use Rattle.words.specs.lists.Sequences.{some}
 use Rattle.words.proofs.lists.Tests.{or_no}
 use Rattle.text.specs.frames.Frame.{size}
@@ -33,13 +28,10 @@ module _ (c : Chart) (v k : ℕ) (ek : k ≡ kind c v) where
   end-arc e = sym (ap (some (is_bad_target c v)) (arcs-end c v (sym ek ∙ e)) ∙ (unfold some in refl))
 
   pub single-arc : (k ≡ 1 → ⊥) → (k < 3) ⊎ (5 ≤ k) → is_bad_target c v (next0 c v) ≡ has_bad_arc c v
-  single-arc n o =
-      sym (ap (some (is_bad_target c v)) (arcs-one c v (λ q. n (ek ∙ q)) (λ q. (outside k o).0 (ek ∙ q)) (λ q. (outside k o).1 (ek ∙ q)))
-      ∙ some_one (is_bad_target c v) (next0 c v))
+  single-arc n o = grind (arith, common_steps, arcs-one, outside, some_one)
 
   pub double-arc : 3 ≤ k → k < 5 → (is_bad_target c v (next0 c v) || is_bad_target c v (next1 c v)) ≡ has_bad_arc c v
-  double-arc a b =
-      sym (ap (some (is_bad_target c v)) (two-arcs c v (omega arith) (omega arith)) ∙ some-two (is_bad_target c v) (next0 c v) (next1 c v))
+  double-arc a b = grind (arith, common_steps, two-arcs, some-two)
 
 module _ (c : Chart) (v u : ℕ) (r : Bool) (eu : u ≡ next0 c v) (er : r ≡ is_bad_target c v u) where
   pub pair-first : r ≡ true → true ≡ (is_bad_target c v (next0 c v) || is_bad_target c v (next1 c v))
@@ -47,8 +39,7 @@ module _ (c : Chart) (v u : ℕ) (r : Bool) (eu : u ≡ next0 c v) (er : r ≡ i
 
   pub pair-second : (w : ℕ) (s : Bool) → r ≡ false → w ≡ next1 c v → s ≡ is_bad_target c v w
       → s ≡ (is_bad_target c v (next0 c v) || is_bad_target c v (next1 c v))
-  pair-second w s t ew es =
-      es ∙ ap (is_bad_target c v) ew ∙ sym (ap (λ b. b || is_bad_target c v (next1 c v)) (sym (er ∙ ap (is_bad_target c v) eu) ∙ t))
+  pair-second w s t ew es = grind (arith, common_steps)
 
 -- ---- 7
 module _ (c : Chart) (v k a h : ℕ) (ek : k ≡ kind c v) (ea : a ≡ argument c v) (eh : h ≡ schemes c) where
@@ -59,12 +50,4 @@ module _ (c : Chart) (v k a h : ℕ) (ek : k ≡ kind c v) (ea : a ≡ argument 
   operation-call e = call_by 2 e ∙ sym (rw (ea, eh))
 
   pub no_call : (k ≡ 2 → ⊥) → (k ≡ 4 → ⊥) → false ≡ has_bad_call c v
-  no_call x y = sym (go (kind c v) (λ q. x (ek ∙ q)) (λ q. y (ek ∙ q)))
-    where
-      go : (j : ℕ) → (j ≡ 2 → ⊥) → (j ≡ 4 → ⊥) → has_bad_call_as c v (kind_of j) ≡ false
-      go zero m n = refl
-      go (suc zero) m n = refl
-      go (suc (suc zero)) m n = absurd (m refl)
-      go (suc (suc (suc zero))) m n = refl
-      go (suc (suc (suc (suc zero)))) m n = absurd (n refl)
-      go (suc (suc (suc (suc (suc j))))) m n = refl
+  no_call x y = grind (arith, common_steps)

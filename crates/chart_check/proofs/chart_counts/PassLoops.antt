@@ -1,15 +1,12 @@
 -- The pass over the nodes for refusal 4 with the counts of 5.
-use mathlib.Core.Path.{◌≡◌, refl, sym, ◌∙◌, ap}
-use mathlib.Core.Bool.{Bool, true, false}
-use mathlib.Core.List.{List}
-use Prim.Native.Nat.{ℕ, ◌+◌, ◌≤◌, ◌<◌, max}
-use native.Mathlib.Omega.{arith}
-use lib.ListN.{length, replicate, length-replicate}
+use Rattle.std.proofs.Common.{◌≡◌, sym, ◌∙◌, Bool, true, false, List, ℕ, ◌+◌, ◌≤◌, ◌<◌, max, arith, length, replicate}
+use Rattle.std.proofs.Math.ListN.{length-replicate}
+use Rattle.std.proofs.lemmas.Grind.{common_steps}
 use Rattle.words.specs.lists.Numbers.{lowest, highest, any}
 use Rattle.words.proofs.lists.Searches.{Searching, searching-first, searching-found, searching-next, searching-over, highest-next}
 use Rattle.text.specs.frames.Frame.{size}
 use Rattle.charts.specs.Chart.{Chart, scheme}
-use Rattle.charts.specs.Check.{has_bad_field, is_bad_scheme}
+use Rattle.charts.specs.Check.{has_bad_field}
 use Rattle.chart_check.specs.chart_counts.inner.Counts.{counts_to, is_not_one_of_each}
 use Rattle.chart_check.specs.chart_counts.inner.Found.{CountsFound, FieldsFound}
 use Rattle.chart_check.specs.declared.chart_counts.Counted.{Counted}
@@ -28,14 +25,7 @@ pub record CountingNodes (c : Chart) (n v h : ℕ) (bs es : List ℕ) : Type 0 w
 pub counting-none : (c : Chart) (n : ℕ) (bs es : List ℕ) → n ≡ size c → bs ≡ replicate 17 0
     → es ≡ replicate 17 0 → CountingNodes c n 0 0 bs es
 unfolding highest
-counting-none c n bs es e p q = record {
-  search = searching-first _ _;
-  all = e;
-  highest = refl;
-  low = omega arith;
-  begins = counts_start c 0 bs p;
-  ends = counts_start c 1 es q;
-}
+counting-none c n bs es e p q = grind (arith, common_steps, searching-first, counts_start)
 
 module _ (c : Chart) (n v h : ℕ) (bs es : List ℕ) (d : CountingNodes c n v h bs es) where
   pub begins-long : length bs ≡ length (replicate {A = ℕ} 17 0)
@@ -53,32 +43,13 @@ module _ (c : Chart) (n v h : ℕ) (bs es : List ℕ) (d : CountingNodes c n v h
   }
 
   pub counting-stop : v < n → has_bad_field c v ≡ true → CountsFound c (record { field = v; highest = h }) bs es
-  counting-stop l bad = record {
-    field = searching-found (has_bad_field c) n v _ d.search l bad ∙ ap (lowest (has_bad_field c) 0) d.all;
-    low = d.low;
-    highest = λ m. absurd (omega (arith, d.all));
-    begins = λ m. absurd (omega (arith, d.all));
-    ends = λ m. absurd (omega (arith, d.all));
-  }
+  counting-stop l bad = grind (arith, common_steps, searching-found)
 
   pub counting-all : n ≤ v → CountsFound c (record { field = v; highest = h }) bs es
-  counting-all l =
-      let e : v ≡ size c = omega (arith, d.all, d.search.inside) in
-      record {
-        field = searching-over (has_bad_field c) n v _ d.search l ∙ ap (lowest (has_bad_field c) 0) d.all;
-        low = d.low;
-        highest = λ m. d.highest ∙ ap (highest (scheme c) 0) e;
-        begins = λ m. d.begins ∙ ap (counts_to c 0) e;
-        ends = λ m. d.ends ∙ ap (counts_to c 1) e;
-      }
+  counting-all l = grind (arith, common_steps, searching-over)
 
 -- the schemes by the counts
 pub fields-found : (c : Chart) (r : Counted) (bs es : List ℕ) (t : Bool) → CountsFound c r bs es
     → t ≡ any (is_not_one_of_each bs es) 1 r.highest
     → FieldsFound c (record { field = r.field; scheme = t; highest = r.highest })
-fields-found c r bs es t d e = record {
-  field = d.field;
-  scheme = λ l. e ∙ bad-counts c bs es r.highest (d.begins l) (d.ends l) (omega (arith, d.low))
-      ∙ ap (any (is_bad_scheme c) 1) (d.highest l);
-  highest = d.highest;
-}
+fields-found c r bs es t d e = grind (arith, common_steps, bad-counts)

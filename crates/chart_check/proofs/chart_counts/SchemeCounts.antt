@@ -1,19 +1,14 @@
 -- The counts of refusal 5: one node more, and a scheme by its counts.
-use mathlib.Core.Path.{◌≡◌, refl, sym, ◌∙◌, ap}
-use mathlib.Core.Bool.{true, false, ◌&&◌}
-use mathlib.Core.List.{List}
-use Prim.Native.Nat.{ℕ, ◌+◌, ◌≤◌, ◌<◌}
-use native.Mathlib.Omega.{arith}
-use lib.Dec.{eqb}
-use lib.ListN.{length, get_or, set, replicate}
-use borrow.Author.Tests.{eq-eqb, ne_eqb}
+use Rattle.std.proofs.Common.{◌≡◌, refl, ◌∙◌, ap, true, false, List, ℕ, ◌+◌, ◌≤◌, ◌<◌, arith, length, get_or, set, replicate, eq-eqb}
+use Rattle.std.proofs.Common.{ne_eqb}
+use Rattle.std.proofs.lemmas.Grind.{common_steps}
 use Rattle.words.specs.lists.Numbers.{any, count}
 use Rattle.words.proofs.lists.Tests.{and-true, and_no}
 use Rattle.words.proofs.lists.Counts.{count-le, count_yes, count-pass}
 use Rattle.words.proofs.lists.Searches.{any-alike}
 use Rattle.words.proofs.lists.Tabulated.{length-tabulate, get_d_tabulate, tabulate-alike, tabulate-set, tabulate-none}
 use Rattle.text.specs.frames.Frame.{size}
-use Rattle.charts.specs.Chart.{Chart, kind, scheme, is, is_of}
+use Rattle.charts.specs.Chart.{Chart, kind, scheme, is_of}
 use Rattle.charts.specs.Check.{is_bad_scheme}
 use Rattle.chart_check.specs.chart_counts.inner.Counts.{counts_to, is_not_one_of_each}
 
@@ -35,19 +30,12 @@ module _ (c : Chart) (k : ℕ) where
 
     -- a node of another kind
     pub counts-pass : (x : ℕ) → x ≡ kind c v → (x ≡ k → ⊥) → counts ≡ counts_to c k (v + 1)
-    counts-pass x p n = e ∙ tabulate-alike (λ h. count (is_of c k h) 0 v) (λ h. count (is_of c k h) 0 (v + 1)) 17
-        (λ h l. sym (count-pass (is_of c k h) v (ap (λ b. b && eqb (scheme c v) h) (ne_eqb (kind c v) k (λ q. n (p ∙ q))))))
+    counts-pass x p n = grind (arith, common_steps, ne_eqb, count-pass, tabulate-alike)
 
     -- one of this kind counts for its scheme alone
     pub counts-more : (x h : ℕ) → x ≡ kind c v → x ≡ k → h ≡ scheme c v → h < 17
         → set counts h (get_or counts h 0 + 1) ≡ counts_to c k (v + 1)
-    counts-more x h p q s l =
-        ap (λ (xs : List ℕ). set xs h (get_or counts h 0 + 1)) e
-        ∙ tabulate-set (λ h. count (is_of c k h) 0 v) (λ h. count (is_of c k h) 0 (v + 1)) 17 h (get_or counts h 0 + 1) l
-        (ap (λ (y : ℕ). y + 1) (counts-at h l)
-        ∙ sym (count_yes (is_of c k h) v
-        (and-true (is c k v) (eqb (scheme c v) h) (eq-eqb (kind c v) k (sym p ∙ q)) (eq-eqb (scheme c v) h (sym s)))))
-        (λ u n. sym (count-pass (is_of c k u) v (and_no (is c k v) (eqb (scheme c v) u) (ne_eqb (scheme c v) u (λ z. n (sym z ∙ sym s))))))
+    counts-more x h p q s l = grind (arith, common_steps, eq-eqb, ne_eqb, and_no, count-pass, and-true, tabulate-set, count_yes, counts-at)
 
 -- ---- a scheme by its counts
 module _ (begins ends : List ℕ) (h : ℕ) where
@@ -62,6 +50,4 @@ module _ (begins ends : List ℕ) (h : ℕ) where
 
 pub bad-counts : (c : Chart) (begins ends : List ℕ) (n : ℕ) → begins ≡ counts_to c 0 (size c) → ends ≡ counts_to c 1 (size c) → n < 17
     → any (is_not_one_of_each begins ends) 1 n ≡ any (is_bad_scheme c) 1 n
-bad-counts c begins ends n e f l =
-    any-alike (is_not_one_of_each begins ends) (is_bad_scheme c) 1 n
-    (λ h a b. rw (counts-at c 0 (size c) begins e h (omega arith), counts-at c 1 (size c) ends f h (omega arith)))
+bad-counts c begins ends n e f l = grind (arith, common_steps, any-alike, counts-at)

@@ -1,12 +1,7 @@
 -- The passes for the handler: its scheme by the nodes passed, and refusal 19 by the marks passed.
-use Rattle.std.proofs.Common.{if◌then◌else◌, cond}
-use mathlib.Core.Path.{◌≡◌, refl, sym, ◌∙◌, ap}
-use mathlib.Core.Bool.{Bool, true, false}
-use Prim.Native.Nat.{ℕ, ◌+◌, ◌-◌, ◌≤◌, ◌<◌, max}
-use native.Mathlib.Nat.{sub-zero}
-use native.Mathlib.Omega.{arith}
-use lib.Dec.{ltb, eqb}
-use borrow.Author.Tests.{lt-ltb, le-ltb, eq-eqb, ne_eqb}
+use Rattle.std.proofs.Common.{if◌then◌else◌, ◌≡◌, sym, ◌∙◌, ap, Bool, true, false, ℕ, ◌+◌, ◌-◌, ◌≤◌, ◌<◌, max, arith, ltb, eqb, lt-ltb}
+use Rattle.std.proofs.Common.{le-ltb, eq-eqb, ne_eqb}
+use Rattle.std.proofs.lemmas.Grind.{common_steps}
 use Rattle.words.specs.lists.Numbers.{any, count, highest}
 use Rattle.words.proofs.lists.Tests.{or-true-l, or_true_r, or-none, if-true, if-false}
 use Rattle.words.proofs.lists.Searches.{any_here, any-on, any-over, highest-next}
@@ -36,12 +31,7 @@ pub record Marking (c : Chart) (n v : ℕ) (marked : Bool) : Type 0 where
 
 pub marking-none : (c : Chart) (n : ℕ) → n ≡ size c → Marking c n 0 false
 unfolding count
-marking-none c n e = record {
-  inside = omega arith;
-  all = e;
-  left = ap (any (is_mark_on_first c) 0) (sub-zero n);
-  one = refl;
-}
+marking-none c n e = grind (arith, common_steps)
 
 module _ (c : Chart) (n v : ℕ) (marked : Bool) (d : Marking c n v marked) where
   abbrev firsts : Bool
@@ -54,23 +44,11 @@ module _ (c : Chart) (n v : ℕ) (marked : Bool) (d : Marking c n v marked) wher
   left-all = d.left ∙ ap (any (is_mark_on_first c) 0) d.all
 
   pub marking-all : n ≤ v → false ≡ has_bad_marks c
-  marking-all l =
-      let most : count (is_handler_mark c) 0 v ≤ 1 = omega (arith, d.one, low marked) in
-      let e : count (is_handler_mark c) 0 v ≡ marks = ap (count (is_handler_mark c) 0) (omega (arith, d.inside, d.all)) in
-      sym (or-none firsts (ltb 1 marks) (sym left-all ∙ any-over (is_mark_on_first c) n v l) (le-ltb 1 marks (omega arith)))
-    where
-      low : (b : Bool) → cond {A = ℕ} b 1 0 ≤ 1
-      low true = omega arith
-      low false = omega arith
+  marking-all l = grind (arith, common_steps, or-none, le-ltb, any-over, left-all)
 
   module _ (l : v < n) where
     pub marking-pass : is_handler_mark c v ≡ false → Marking c n (v + 1) marked
-    marking-pass t = record {
-      inside = omega arith;
-      all = d.all;
-      left = sym (any-on (is_mark_on_first c) n v l (ap (λ x. eqb x 1) (if-false (is_handler_mark c v) (scheme c v) 0 t))) ∙ d.left;
-      one = count-pass (is_handler_mark c) v t ∙ d.one;
-    }
+    marking-pass t = grind (arith, common_steps, any-on, count-pass, if-false)
 
     module _ (t : is_handler_mark c v ≡ true) where
       marked-scheme : handler_at c v ≡ scheme c v
@@ -82,14 +60,7 @@ module _ (c : Chart) (n v : ℕ) (marked : Bool) (d : Marking c n v marked) wher
           sym (or_true_r firsts (ltb 1 marks) (lt-ltb 1 marks (omega (arith, d.one, if-true {A = ℕ} marked 1 0 m))))
 
       pub marking-first : (s : ℕ) → s ≡ scheme c v → s ≡ 1 → true ≡ has_bad_marks c
-      marking-first s is e =
-          sym (or-true-l firsts (ltb 1 marks)
-          (sym left-all ∙ any_here (is_mark_on_first c) n v l (eq-eqb (handler_at c v) 1 (marked-scheme ∙ sym is ∙ e))))
+      marking-first s is e = grind (arith, common_steps, eq-eqb, any_here, or-true-l, left-all, marked-scheme)
 
       pub marking-mark : (s : ℕ) → s ≡ scheme c v → marked ≡ false → (s ≡ 1 → ⊥) → Marking c n (v + 1) true
-      marking-mark s is m o = record {
-        inside = omega arith;
-        all = d.all;
-        left = sym (any-on (is_mark_on_first c) n v l (ne_eqb (handler_at c v) 1 (λ q. o (is ∙ sym marked-scheme ∙ q)))) ∙ d.left;
-        one = count_yes (is_handler_mark c) v t ∙ omega (arith, d.one, if-false {A = ℕ} marked 1 0 m);
-      }
+      marking-mark s is m o = grind (arith, common_steps, ne_eqb, any-on, if-false, count_yes, marked-scheme)

@@ -1,24 +1,15 @@
 -- A depth-first search: a condition none of whose arcs leads to an unfinished one is on no circle.
-use Rattle.std.proofs.Common.{if◌then◌else◌}
-use mathlib.Core.Path.{◌≡◌, refl, sym, ◌∙◌, ap, subst}
-use mathlib.Core.Logic.{◌⊎◌, inl, inr, ⊎_elim}
-use mathlib.Core.Bool.{Bool, true, false, ◌&&◌, not}
-use mathlib.Core.List.{List, [], ◌∷◌}
-use Prim.Native.Nat.{ℕ, ◌+◌, ◌-◌, ◌≤◌, ◌<◌}
-use native.Mathlib.Decide.{ℕ_discrete}
-use native.Mathlib.Omega.{arith}
-use lib.Dec.{eqb}
-use lib.ListN.{length, get_or, set, length-set}
-use lib.Seq.{get_or-set_same, get_or-set_other}
-use borrow.Author.Tests.{eqb-true}
-use Rattle.words.proofs.lists.Tests.{no_both, not-true, or_cases, if-true, if-false, cases}
+use Rattle.std.proofs.Common.{if◌then◌else◌, ◌≡◌, sym, ◌∙◌, ap, ◌⊎◌, ⊎_elim, Bool, true, false, not, List, [], ◌∷◌, ℕ, ◌+◌, ◌-◌, ◌≤◌, ◌<◌}
+use Rattle.std.proofs.Common.{arith, eqb, length, get_or, set, length-set, eqb-true}
+use Rattle.std.proofs.lemmas.Grind.{common_steps}
+use Rattle.words.proofs.lists.Tests.{no_both, not-true, or_cases, if-false, cases}
 use Rattle.words.proofs.lists.Searches.{some-cons}
 use Rattle.words.proofs.lists.Ranges.{length-map-range}
-use Rattle.words.specs.graph.Reach.{is_member, is_marked, nodes_joined_from}
+use Rattle.words.specs.graph.Reach.{is_member, is_marked}
 use Rattle.words.proofs.graph.Closure.{Closed, marks-at, marked-below, joined-least}
 use Rattle.text.specs.frames.Frame.{size}
 use Rattle.charts.specs.Chart.{Chart, kind, next0, next1, is}
-use Rattle.charts.specs.Check.{arcs, condition_arcs, is_on_circle}
+use Rattle.charts.specs.Check.{condition_arcs, is_on_circle}
 use Rattle.charts.specs.inner.Marks.{kind_marks}
 use Rattle.charts.specs.inner.Finished.{next_unfinished, NoneAhead, Finished}
 use Rattle.charts.proofs.Nodes.{arcs-condition}
@@ -27,11 +18,7 @@ use Rattle.chart_check.proofs.node_marks.MarkCases.{no-circle}
 
 -- at first all conditions are unfinished
 pub finished-none : (c : Chart) (ms : List Bool) → ms ≡ kind_marks c 3 → Finished c ms
-finished-none c ms e = subst (λ (xs : List Bool). Finished c xs) (sym e) (record {
-  long = length-map-range (is c 3) 0 (size c);
-  ahead = λ v l m u s. no_both (is c 3 v) (leaves-condition c v u s) (sym (marks-at (is c 3) (size c) v l) ∙ m);
-  off = λ v l m. no-circle c v (sym (marks-at (is c 3) (size c) v l) ∙ m);
-})
+finished-none c ms e = grind (arith, common_steps, no_both, length-map-range, marks-at, no-circle, leaves-condition)
 
 -- ---- the next nodes, the one on a 0 first
 module _ (c : Chart) (ms : List Bool) (v : ℕ) where
@@ -40,17 +27,14 @@ module _ (c : Chart) (ms : List Bool) (v : ℕ) where
 
   module _ (a : ℕ) (p : a ≡ next0 c v) where
     pub next-first : is_marked ms a ≡ true → a ≡ next_unfinished c ms v
-    next-first m = p ∙ sym (if-true (is_marked ms (next0 c v)) (next0 c v)
-        (if is_marked ms (next1 c v) then next1 c v else size c) (ap (is_marked ms) (sym p) ∙ m))
+    next-first m = grind (arith, common_steps)
 
     module _ (m : is_marked ms a ≡ false) (b : ℕ) (q : b ≡ next1 c v) where
       pub next-second : is_marked ms b ≡ true → b ≡ next_unfinished c ms v
-      next-second t = q ∙ sym (next-other (ap (is_marked ms) (sym p) ∙ m)
-          ∙ if-true (is_marked ms (next1 c v)) (next1 c v) (size c) (ap (is_marked ms) (sym q) ∙ t))
+      next-second t = grind (arith, common_steps)
 
       pub next-none : is_marked ms b ≡ false → size c ≡ next_unfinished c ms v
-      next-none t = sym (next-other (ap (is_marked ms) (sym p) ∙ m)
-          ∙ if-false (is_marked ms (next1 c v)) (next1 c v) (size c) (ap (is_marked ms) (sym q) ∙ t))
+      next-none t = grind (arith, common_steps)
 
   none_both : is_marked ms (next0 c v) ≡ false → is_marked ms (next1 c v) ≡ false → NoneAhead c ms v
   none_both a b u s =
@@ -63,30 +47,15 @@ module _ (c : Chart) (ms : List Bool) (v : ℕ) where
       (or_cases (eqb u (next0 c v)) (is_member u (next1 c v ∷ [])) (sym (some-cons (eqb u) (next0 c v) (next1 c v ∷ [])) ∙ t))
 
   pub none_ahead : length ms ≡ size c → (r : ℕ) → r ≡ next_unfinished c ms v → size c ≤ r → NoneAhead c ms v
-  none_ahead e r q l = go (cases (is_marked ms (next0 c v))) (cases (is_marked ms (next1 c v)))
-    where
-      go : (is_marked ms (next0 c v) ≡ true) ⊎ (is_marked ms (next0 c v) ≡ false)
-          → (is_marked ms (next1 c v) ≡ true) ⊎ (is_marked ms (next1 c v) ≡ false) → NoneAhead c ms v
-      go (inl a) b = absurd (omega (arith, next-first (next0 c v) refl a, marked-below (size c) ms (next0 c v) e a))
-      go (inr a) (inl b) = absurd (omega
-          (arith, next-second (next0 c v) refl a (next1 c v) refl b, marked-below (size c) ms (next1 c v) e b))
-      go (inr a) (inr b) = none_both a b
+  none_ahead e r q l = grind (arith, common_steps, cases, marked-below, next-first, next-second, none_both)
 
 -- ---- one more is finished
 module _ (ms : List Bool) (v : ℕ) where
   clear-keeps : v < length ms → (u : ℕ) → is_marked ms u ≡ false → is_marked (set ms v false) u ≡ false
-  clear-keeps l u m = go (ℕ_discrete u v)
-    where
-      go : Dec (u ≡ v) → is_marked (set ms v false) u ≡ false
-      go (yes e) = ap (is_marked (set ms v false)) e ∙ get_or-set_same ms v false false l
-      go (no e) = get_or-set_other ms v u false false e ∙ m
+  clear-keeps l u m = grind (arith, common_steps)
 
   clear-back : (u : ℕ) → is_marked (set ms v false) u ≡ false → (u ≡ v) ⊎ (is_marked ms u ≡ false)
-  clear-back u m = go (ℕ_discrete u v)
-    where
-      go : Dec (u ≡ v) → (u ≡ v) ⊎ (is_marked ms u ≡ false)
-      go (yes e) = inl e
-      go (no e) = inr (sym (get_or-set_other ms v u false false e) ∙ m)
+  clear-back u m = grind (arith, common_steps)
 
 module _ (c : Chart) (ms : List Bool) (f : Finished c ms) where
   finished-closed : Closed (size c) (condition_arcs c) (λ u. not (is_marked ms u))
@@ -95,35 +64,13 @@ module _ (c : Chart) (ms : List Bool) (f : Finished c ms) where
   module _ (v : ℕ) (l : v < size c) (none : NoneAhead c ms v) where
     -- what an unfinished condition leads to is finished, so it does not lead back to itself
     unfinished-off : is c 3 v ≡ true → is_marked ms v ≡ true → is_on_circle c v ≡ false
-    unfinished-off i m =
-        let ahead : List Bool = nodes_joined_from (size c) (condition_arcs c) (arcs c v) in
-        ⊎_elim
-        (λ (t : is_marked ahead v ≡ true). no_both (is_marked ms v) m (not-true (is_marked ms v)
-        (joined-least (size c) (condition_arcs c) (arcs c v) (λ u. not (is_marked ms u)) finished-closed
-        (λ u lu s. ap not (none u (ap (is_member u) (condition-arcs c v i) ∙ s))) v t)))
-        (λ (t : is_marked ahead v ≡ false). ap (λ b. b && is_marked ahead v) i ∙ t)
-        (cases (is_marked ahead v))
+    unfinished-off i m = grind (arith, common_steps, cases, not-true, no_both, joined-least, condition-arcs, finished-closed)
 
     now-off : is_on_circle c v ≡ false
-    now-off = go (cases (is c 3 v)) (cases (is_marked ms v))
-      where
-        go : (is c 3 v ≡ true) ⊎ (is c 3 v ≡ false) → (is_marked ms v ≡ true) ⊎ (is_marked ms v ≡ false) → is_on_circle c v ≡ false
-        go (inr i) m = no-circle c v i
-        go (inl i) (inl m) = unfinished-off i m
-        go (inl i) (inr m) = f.off v l m
+    now-off = grind (arith, common_steps, cases, no-circle, unfinished-off)
 
     pub finished-more : Finished c (set ms v false)
-    finished-more = record {
-      long = length-set ms v false ∙ f.long;
-      ahead = λ w lw t u s. clear-keeps ms v (omega (arith, f.long)) u (⊎_elim
-          (λ (e : w ≡ v). none u (subst (λ (x : ℕ). is_member u (condition_arcs c x) ≡ true) e s))
-          (λ (e : is_marked ms w ≡ false). f.ahead w lw e u s)
-          (clear-back ms v w t));
-      off = λ w lw t. ⊎_elim
-          (λ (e : w ≡ v). subst (λ (x : ℕ). is_on_circle c x ≡ false) (sym e) now-off)
-          (λ (e : is_marked ms w ≡ false). f.off w lw e)
-          (clear-back ms v w t);
-    }
+    finished-more = grind (arith, common_steps, length-set, clear-keeps, clear-back, now-off)
 
 -- ---- where a search stands: at a node, with those that led to it on the path
 pub record Standing (c : Chart) (unfinished : List Bool) (path : List ℕ) (left depth at : ℕ) : Type 0 where
@@ -139,29 +86,11 @@ standing-first c ms path v f r l = record { finished = f; fits = r; steps = omeg
 
 module _ (c : Chart) (ms : List Bool) (path : List ℕ) (left depth at : ℕ) (s : Standing c ms path left depth at) where
   pub standing_on : (next : ℕ) → 0 < left → next < size c → Standing c ms (set path depth at) (left - 1) (depth + 1) next
-  standing_on next p l = record {
-    finished = s.finished;
-    fits = omega (arith, s.fits, length-set path depth at);
-    steps = omega (arith, s.steps);
-    here = l;
-    before = λ i b. go i b (ℕ_discrete i depth);
-  }
-    where
-      go : (i : ℕ) → i < depth + 1 → Dec (i ≡ depth) → get_or (set path depth at) i 0 < size c
-      go i b (yes e) = subst (λ (x : ℕ). x < size c)
-          (sym (ap (λ (j : ℕ). get_or (set path depth at) j 0) e ∙ get_or-set_same path depth at 0 (omega (arith, s.fits, s.steps))))
-          s.here
-      go i b (no e) = subst (λ (x : ℕ). x < size c) (sym (get_or-set_other path depth i at 0 e)) (s.before i (omega arith))
+  standing_on next p l = grind (arith, common_steps)
 
   module _ (r : ℕ) (q : r ≡ next_unfinished c ms at) (l : size c ≤ r) where
     pub standing-end : Finished c (set ms at false)
     standing-end = finished-more c ms s.finished at s.here (none_ahead c ms at s.finished.long r q l)
 
     pub standing-back : (depth ≡ 0 → ⊥) → Standing c (set ms at false) path left (depth - 1) (get_or path (depth - 1) 0)
-    standing-back n = record {
-      finished = standing-end;
-      fits = s.fits;
-      steps = omega (arith, s.steps);
-      here = s.before (depth - 1) (omega arith);
-      before = λ i b. s.before i (omega arith);
-    }
+    standing-back n = grind (arith, common_steps, standing-end)

@@ -1,20 +1,11 @@
 -- The arcs that marks follow, case by case, and the marks of Begins and of cut-off nodes.
-use Rattle.std.proofs.Common.{if◌then◌else◌}
-use mathlib.Core.Path.{◌≡◌, refl, sym, ◌∙◌, ap, subst}
-use mathlib.Core.Logic.{◌⊎◌, inl, inr}
-use mathlib.Core.Bool.{Bool, true, false, not}
-use mathlib.Core.List.{List, [], ◌∷◌, ◌++◌, map}
-use Prim.Native.Nat.{ℕ, zero, suc, ◌+◌, ◌≤◌, ◌<◌}
-use native.Mathlib.Nat.{zero-add}
-use native.Mathlib.Numerals.{add-one}
-use native.Mathlib.Decide.{ℕ_discrete}
-use native.Mathlib.Omega.{arith}
-use lib.Dec.{eqb}
-use lib.ListN.{length, get_or, set, take, drop, replicate, length-replicate}
-use lib.Seq.{drop-cons, set_at, append_snoc}
-use borrow.Author.Tests.{eq-eqb, ne_eqb}
+use Rattle.std.proofs.Common.{if◌then◌else◌, ◌≡◌, refl, sym, ◌∙◌, ap, subst, ◌⊎◌, Bool, true, false, not, List, [], ◌∷◌, ◌++◌, map, ℕ, zero}
+use Rattle.std.proofs.Common.{suc, ◌+◌, ◌≤◌, ◌<◌, zero-add, add-one, arith, eqb, length, get_or, set, take, drop, replicate, drop-cons}
+use Rattle.std.proofs.Common.{ne_eqb}
+use Rattle.std.proofs.Math.ListN.{length-replicate}
+use Rattle.std.proofs.Math.Seq.{set_at, append_snoc}
+use Rattle.std.proofs.lemmas.Grind.{common_steps}
 use Rattle.words.specs.lists.Numbers.{range, lowest}
-use Rattle.words.proofs.lists.Tests.{no_both}
 use Rattle.words.proofs.lists.Searches.{lowest-none}
 use Rattle.words.proofs.lists.Ranges.{length-map-range, map-range-snoc}
 use Rattle.words.specs.graph.Reach.{is_marked, only_marks, reach, nodes_joined_from}
@@ -26,8 +17,8 @@ use Rattle.text.specs.frames.Frame.{size}
 use Rattle.charts.specs.Chart.{Chart, kind, next0, next1, is}
 use Rattle.charts.specs.Check.{arcs, condition_arcs, is_on_circle}
 use Rattle.charts.specs.inner.Marks.{arcs_by, kind_marks}
-use Rattle.charts.proofs.Nodes.{outside, arcs-end, arcs-one, arcs-condition, arcs-function, two-arcs}
-use Rattle.charts.proofs.Meaning.{condition-arcs, no-condition-arcs}
+use Rattle.charts.proofs.Nodes.{two-arcs}
+use Rattle.charts.proofs.Meaning.{no-condition-arcs}
 use Rattle.chart_check.specs.node_marks.inner.MarkContracts.{marks_swept_to, Blank, ListedRoom}
 use Rattle.chart_check.proofs.node_marks.Sweeps.{swept_same}
 
@@ -37,11 +28,7 @@ module _ (c : Chart) (b : Bool) (v : ℕ) where
   by-none t n = ap (λ b. if b then condition_arcs c v else arcs c v) t ∙ no-condition-arcs c v (ne_eqb (kind c v) 3 n)
 
   by_all : (b ≡ true → kind c v ≡ 3) → arcs_by c b v ≡ arcs c v
-  by_all h = go b refl
-    where
-      go : (x : Bool) → b ≡ x → arcs_by c b v ≡ arcs c v
-      go true t = ap (λ b. if b then condition_arcs c v else arcs c v) t ∙ condition-arcs c v (eq-eqb (kind c v) 3 (h t))
-      go false t = ap (λ b. if b then condition_arcs c v else arcs c v) t
+  by_all h = grind (arith, common_steps)
 
   module _ (k : ℕ) (e : k ≡ kind c v) where
     long : (us : List ℕ) → arcs_by c b v ≡ us → length us ≡ length (arcs_by c b v)
@@ -58,22 +45,14 @@ module _ (c : Chart) (b : Bool) (v : ℕ) where
       count-two l m = long (next0 c v ∷ next1 c v ∷ []) (all ∙ two-arcs c v (omega arith) (omega arith))
 
       pub count-one : (k ≡ 1 → ⊥) → (k < 3) ⊎ (5 ≤ k) → 1 ≡ length (arcs_by c b v)
-      count-one n o = long (next0 c v ∷ [])
-          (all ∙ arcs-one c v (λ q. n (e ∙ q)) (λ q. (outside k o).0 (e ∙ q)) (λ q. (outside k o).1 (e ∙ q)))
+      count-one n o = grind (arith, common_steps)
 
 -- none, the first, or both
 abbrev Shape : Chart → ℕ → List ℕ → Type 0
 Shape c v us = (us ≡ []) ⊎ ((us ≡ next0 c v ∷ []) ⊎ (us ≡ next0 c v ∷ next1 c v ∷ []))
 
 shape : (c : Chart) (b : Bool) (v : ℕ) → Shape c v (arcs_by c b v)
-shape c b v = go b refl (ℕ_discrete (kind c v) 1) (ℕ_discrete (kind c v) 3) (ℕ_discrete (kind c v) 4)
-  where
-    go : (x : Bool) → b ≡ x → Dec (kind c v ≡ 1) → Dec (kind c v ≡ 3) → Dec (kind c v ≡ 4) → Shape c v (arcs_by c b v)
-    go x t p (yes q) r = inr (inr (by_all c b v (λ z. q) ∙ arcs-condition c v q))
-    go true t p (no q) r = inl (by-none c b v t q)
-    go false t (yes p) (no q) r = inl (by_all c b v (λ z. no_both b z t) ∙ arcs-end c v p)
-    go false t (no p) (no q) (yes r) = inr (inr (by_all c b v (λ z. no_both b z t) ∙ arcs-function c v r))
-    go false t (no p) (no q) (no r) = inr (inl (by_all c b v (λ z. no_both b z t) ∙ arcs-one c v p q r))
+shape c b v = grind (arith, common_steps)
 
 -- the arcs by their number
 module _ (c : Chart) (b : Bool) (v n : ℕ) (e : n ≡ length (arcs_by c b v)) where
@@ -81,28 +60,13 @@ module _ (c : Chart) (b : Bool) (v n : ℕ) (e : n ≡ length (arcs_by c b v)) w
   as_long us q = e ∙ ap (λ (xs : List ℕ). length xs) q
 
   no-arc : n ≡ 0 → arcs_by c b v ≡ []
-  no-arc z = go (shape c b v)
-    where
-      go : Shape c v (arcs_by c b v) → arcs_by c b v ≡ []
-      go (inl q) = q
-      go (inr (inl q)) = absurd (omega (arith, as_long (next0 c v ∷ []) q))
-      go (inr (inr q)) = absurd (omega (arith, as_long (next0 c v ∷ next1 c v ∷ []) q))
+  no-arc z = grind (arith, common_steps)
 
   one-arc : n ≡ 1 → arcs_by c b v ≡ next0 c v ∷ []
-  one-arc z = go (shape c b v)
-    where
-      go : Shape c v (arcs_by c b v) → arcs_by c b v ≡ next0 c v ∷ []
-      go (inl q) = absurd (omega (arith, as_long [] q))
-      go (inr (inl q)) = q
-      go (inr (inr q)) = absurd (omega (arith, as_long (next0 c v ∷ next1 c v ∷ []) q))
+  one-arc z = grind (arith, common_steps)
 
   both-arcs : (n ≡ 0 → ⊥) → (n ≡ 1 → ⊥) → arcs_by c b v ≡ next0 c v ∷ next1 c v ∷ []
-  both-arcs some more = go (shape c b v)
-    where
-      go : Shape c v (arcs_by c b v) → arcs_by c b v ≡ next0 c v ∷ next1 c v ∷ []
-      go (inl q) = absurd (some (as_long [] q))
-      go (inr (inl q)) = absurd (more (as_long (next0 c v ∷ []) q))
-      go (inr (inr q)) = q
+  both-arcs some more = grind (arith, common_steps)
 
   -- a step for each node that they lead to, as it is marked or enlisted
   module _ {S : Type 0} (all : List ℕ → S) where
@@ -115,8 +79,7 @@ module _ (c : Chart) (b : Bool) (v n : ℕ) (e : n ≡ length (arcs_by c b v)) w
 
       pub steps-both : (n ≡ 0 → ⊥) → (n ≡ 1 → ⊥) → (w : ℕ) (two : S) → w ≡ next1 c v → two ≡ step one w
           → all (u ∷ w ∷ []) ≡ step (step (all []) u) w → two ≡ all (arcs_by c b v)
-      steps-both some more w two ew et q =
-          let p : all (arcs_by c b v) ≡ all (next0 c v ∷ next1 c v ∷ []) = ap all (both-arcs some more) in cc
+      steps-both some more w two ew et q = grind (arith, common_steps)
 
 -- ---- the marks of a kind, written one after the other over old marks
 module _ (c : Chart) (k : ℕ) (old : List Bool) where
@@ -149,18 +112,11 @@ pub spread-apart : (c : Chart) (begins swept joined : List Bool) (r : ℕ) → b
     → joined ≡ reach (size c) (arcs c) (size c) swept → length joined ≡ size c
     → r ≡ lowest (λ v. not (is_marked joined v)) 0 (length joined)
     → (joined ≡ reach (size c) (arcs c) (size c) (kind_marks c 0)) × (r ≡ lowest (λ v. not (is_marked joined v)) 0 (size c))
-spread-apart c begins swept joined r first sweep spread long found = (
-  spread
-      ∙ swept_same c begins swept (ap (λ (xs : List Bool). length xs) first ∙ length-map-range (is c 0) 0 (size c)) sweep
-      ∙ ap (λ (xs : List Bool). reach (size c) (arcs c) (size c) xs) first,
-  found ∙ ap (λ (k : ℕ). lowest (λ v. not (is_marked joined v)) 0 k) long,
-)
+spread-apart c begins swept joined r first sweep spread long found = grind (arith, common_steps, swept_same, length-map-range, long)
 
 -- where as many are marked as there are, there is none without
 pub all-marked : (ms : List Bool) → many ms ≡ length ms → length ms ≡ lowest (λ v. not (is_marked ms v)) 0 (length ms)
-all-marked ms e =
-    sym (lowest-none (λ v. not (is_marked ms v)) 0 (length ms) (λ k h. ap not (full-marked ms e (0 + k) (omega arith)))
-    ∙ zero-add (length ms))
+all-marked ms e = grind (arith, common_steps, zero-add, full-marked, lowest-none)
 
 -- ---- marks that a table of 256 lends
 pub part_of : {A : Type 0} (m n : ℕ) (a : A) → n ≤ m → take n (replicate m a) ≡ replicate n a

@@ -1,13 +1,7 @@
 -- Marked nodes whose arcs are followed in the order of the nodes: a turn of the loop, and what arcs join from the marks stays the same.
-use Rattle.std.proofs.Common.{if◌then◌else◌}
-use mathlib.Core.Path.{◌≡◌, refl, sym, ◌∙◌, ap, subst}
-use mathlib.Core.Logic.{◌⊎◌, inl, inr}
-use mathlib.Core.Bool.{Bool, true, false}
-use mathlib.Core.List.{List}
-use Prim.Native.Nat.{ℕ, zero, suc, ◌+◌, ◌≤◌, ◌<◌}
-use native.Mathlib.Numerals.{add-one}
-use native.Mathlib.Omega.{arith}
-use lib.ListN.{length}
+use Rattle.std.proofs.Common.{if◌then◌else◌, ◌≡◌, refl, sym, ◌∙◌, subst, ◌⊎◌, inl, inr, Bool, true, false, List, ℕ, zero, suc, ◌+◌, ◌≤◌}
+use Rattle.std.proofs.Common.{◌<◌, arith, length}
+use Rattle.std.proofs.lemmas.Grind.{common_steps}
 use Rattle.words.proofs.lists.Tests.{cases, if-true, if-false}
 use Rattle.words.specs.graph.Reach.{is_marked, reach}
 use Rattle.words.specs.graph.inner.Listed.{mark_all}
@@ -41,12 +35,7 @@ module _ (c : Chart) (first : List Bool) where
   pub sweeping-turn : (now out : List Bool) (v : ℕ) → Sweeping c first now v → v < size c → length out ≡ length now
       → out ≡ (if is_marked now v then mark_all (arcs c v) now else now) → Sweeping c first out (v + 1)
   unfolding marks_swept_to
-  sweeping-turn now out v t h l e = record {
-    low = omega arith;
-    long = l ∙ t.long;
-    is = e ∙ ap (λ (ms : List Bool). if is_marked ms v then mark_all (arcs c v) ms else ms) t.is
-        ∙ ap (λ (m : ℕ). marks_swept_to c m first) (sym (add-one v));
-  }
+  sweeping-turn now out v t h l e = grind (arith, common_steps)
 
   -- ---- what arcs join from the marks stays the same
   swept-joining : length first ≡ size c → (v : ℕ) → Joining (size c) (arcs c) first (marks_swept_to c v first)
@@ -56,5 +45,4 @@ module _ (c : Chart) (first : List Bool) where
 
   pub swept_same : (out : List Bool) → length first ≡ size c → out ≡ marks_swept_to c (size c) first
       → reach (size c) (arcs c) (size c) out ≡ reach (size c) (arcs c) (size c) first
-  swept_same out long e = ap (reach (size c) (arcs c) (size c)) e
-      ∙ joining-same (size c) (arcs c) first long (marks_swept_to c (size c) first) (swept-joining long (size c))
+  swept_same out long e = grind (arith, common_steps, joining-same, swept-joining)

@@ -1,10 +1,7 @@
 -- What is tried of the first records is read from them alone.
-use Prim.Native.Nat.{ℕ, ◌+◌, ◌*◌, ◌≤◌, ◌<◌}
-use mathlib.Core.Path.{◌≡◌, sym, ap}
-use mathlib.Core.List.{List, ◌++◌}
-use native.Mathlib.Omega.{arith}
-use lib.Dec.{eqb}
-use lib.ListN.{length, get_or-append}
+use Rattle.std.proofs.Common.{ℕ, ◌+◌, ◌*◌, ◌≤◌, ◌<◌, ◌≡◌, sym, ap, List, ◌++◌, arith, eqb, length}
+use Rattle.std.proofs.Math.ListN.{get_or-append}
+use Rattle.std.proofs.lemmas.Grind.{common_steps}
 use Rattle.words.specs.lists.Numbers.{any}
 use Rattle.words.proofs.lists.Searches.{any-alike}
 use Rattle.text.specs.frames.Frame.{field}
@@ -21,11 +18,7 @@ module _ (c d : Chart) where
   has-alike k v a = any-alike (is c k) (is d k) 0 v (λ u x y. ap (λ (z : ℕ). eqb z k) (a.same u 0 (omega arith) (omega arith)))
 
   leads-alike : (u t v : ℕ) → u < v → SameFields c d v → has_arc_to c u t ≡ has_arc_to d u t
-  leads-alike u t v l a =
-      let e : field c u 0 ≡ field d u 0 = a.same u 0 l (omega arith) in
-      let f : field c u 3 ≡ field d u 3 = a.same u 3 l (omega arith) in
-      let g : field c u 4 ≡ field d u 4 = a.same u 4 l (omega arith) in
-      cc
+  leads-alike u t v l a = grind (arith, common_steps)
 
   pub barred-alike : (v : ℕ) → SameFields c d (v + 1) → is_barred_node c v ≡ is_barred_node d v
   unfolding is_barred_node
@@ -41,16 +34,10 @@ module _ (c d : Chart) where
       cc
 
   pub missing-alike : (v : ℕ) → SameFields c d v → missing_ends c v ≡ missing_ends d v
-  missing-alike v a =
-      let b : has_kind c 0 v ≡ has_kind d 0 v = has-alike 0 v a in
-      let e : has_kind c 1 v ≡ has_kind d 1 v = has-alike 1 v a in
-      cc
+  missing-alike v a = grind (arith, common_steps, has-alike)
 
   pub first_alike : (n v : ℕ) → SameFields c d v → first_tried n c v ≡ first_tried n d v
-  first_alike n v a =
-      let b : has_kind c 0 v ≡ has_kind d 0 v = has-alike 0 v a in
-      let e : has_kind c 1 v ≡ has_kind d 1 v = has-alike 1 v a in
-      cc
+  first_alike n v a = grind (arith, common_steps, has-alike)
 
   pub past-alike : (n v : ℕ) → SameFields c d v → past_last n c v ≡ past_last n d v
   past-alike n v a = let m : missing_ends c v ≡ missing_ends d v = missing-alike v a in cc

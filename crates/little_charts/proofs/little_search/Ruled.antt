@@ -1,15 +1,9 @@
 -- What is left out is in no accepted chart: a second Begin or End, an arc to a Begin, a condition's arc to itself, a node that no other
 -- leads to.
-use Rattle.std.proofs.Common.{if◌then◌else◌}
-use Prim.Native.Nat.{ℕ, ◌+◌, ◌-◌, ◌≤◌, ◌<◌}
-use mathlib.Core.Bool.{Bool, true, false, ◌&&◌, ◌||◌, not}
-use mathlib.Core.Path.{◌≡◌, refl, sym, ◌∙◌, ap, subst}
-use mathlib.Core.List.{[], ◌∷◌}
-use mathlib.Core.Logic.{◌⊎◌, inl, inr, ⊎_elim}
-use native.Mathlib.Omega.{arith}
-use native.Mathlib.Decide.{ℕ_discrete}
-use lib.Dec.{eqb}
-use borrow.Author.Tests.{eqb-true, eq-eqb, ne_eqb}
+use Rattle.std.proofs.Common.{ℕ, ◌-◌, ◌≤◌, ◌<◌, Bool, true, false, ◌&&◌, ◌||◌, not, ◌≡◌, refl, sym, ◌∙◌, ap, subst, [], ◌∷◌, ◌⊎◌, inl, inr}
+use Rattle.std.proofs.Common.{⊎_elim, arith, eqb, eqb-true, eq-eqb, ne_eqb}
+use Rattle.std.proofs.Math.Decide.{ℕ_discrete}
+use Rattle.std.proofs.lemmas.Grind.{common_steps}
 use Rattle.words.specs.lists.Numbers.{any}
 use Rattle.words.proofs.lists.Tests.{no_both, split, or_cases, or-none, or-true-l, or_true_r, and_l, and_r, and-true, not-true}
 use Rattle.words.proofs.lists.Searches.{any_some, any-true, any_false, some-cons}
@@ -23,7 +17,7 @@ use Rattle.charts.proofs.Accepted.{SoundChart}
 use Rattle.charts.proofs.Nodes.{TheNode, arc-end, begins, ends, arcs-end, arcs-one, arcs-condition, in-arcs0, in-arcs1, schemes-first}
 use Rattle.charts.specs.Meaning.{ConditionCircle}
 use Rattle.charts.proofs.Meaning.{member-only, circle-found, condition-arc, found-joined}
-use Rattle.little_charts.specs.little_search.inner.Search.{has_kind, has_arc_to, is_clash, is_barred_node, is_lonely, missing_ends}
+use Rattle.little_charts.specs.little_search.inner.Search.{has_kind, has_arc_to, is_barred_node, is_lonely, missing_ends}
 
 some-none : (f : ℕ → Bool) → some f [] ≡ false
 unfolding some
@@ -61,15 +55,7 @@ module _ (c : Chart) (p : Plain c) where
 
   -- an arc by its fields is one of the arcs
   leads-arc : (u t : ℕ) → u < size c → has_arc_to c u t ≡ true → is_member t (arcs c u) ≡ true
-  leads-arc u t l e =
-      let n : kind c u ≡ 1 → ⊥ = λ q. no_both (is c 1 u) (eq-eqb (kind c u) 1 q) (not-true (is c 1 u) (and_l (not (is c 1 u)) _ e)) in
-      go n (or_cases (eqb (next0 c u) t) (is c 3 u && eqb (next1 c u) t) (and_r (not (is c 1 u)) _ e))
-    where
-      go : (kind c u ≡ 1 → ⊥) → (eqb (next0 c u) t ≡ true) ⊎ ((is c 3 u && eqb (next1 c u) t) ≡ true) → is_member t (arcs c u) ≡ true
-      go n (inl q) =
-          subst (λ (t : ℕ). is_member t (arcs c u) ≡ true) (eqb-true (next0 c u) t q) (in-arcs0 c u n (omega (arith, p.kinds u l)))
-      go n (inr q) = subst (λ (t : ℕ). is_member t (arcs c u) ≡ true) (eqb-true (next1 c u) t (and_r (is c 3 u) (eqb (next1 c u) t) q))
-          (let k : kind c u ≡ 3 = of-kind 3 u (and_l (is c 3 u) (eqb (next1 c u) t) q) in in-arcs1 c u (omega arith) (omega arith))
+  leads-arc u t l e = grind (arith, common_steps, eq-eqb, in-arcs1, eqb-true, not-true, no_both, in-arcs0, or_cases, and_r, and_l, of-kind)
 
   -- and the other way round
   arc-leads : (u t : ℕ) → u < size c → is_member t (arcs c u) ≡ true → has_arc_to c u t ≡ true
@@ -130,28 +116,10 @@ module _ (c : Chart) (p : Plain c) where
 
   pub not-barred : (v : ℕ) → v < size c → is_barred_node c v ≡ false
   unfolding is_barred_node
-  not-barred v l = or-none (is c 1 v && has_kind c 1 v || is c 3 v && has_arc_to c v v) (any (is_clash c v) 0 (v + 1))
-      (or-none (is c 1 v && has_kind c 1 v) (is c 3 v && has_arc_to c v v)
-      (refuted (is c 1 v && has_kind c 1 v)
-      (λ e. second (and_l (is c 1 v) (has_kind c 1 v) e) (any_some (is c 1) 0 v (and_r (is c 1 v) (has_kind c 1 v) e))))
-      (refuted (is c 3 v && has_arc_to c v v)
-      (λ e. no-circle v l (and_l (is c 3 v) (has_arc_to c v v) e) (and_r (is c 3 v) (has_arc_to c v v) e))))
-      (refuted (any (is_clash c v) 0 (v + 1)) (λ e. clash (any_some (is_clash c v) 0 (v + 1) e)))
-    where
-      second : is c 1 v ≡ true → (k : ℕ) × (0 ≤ k) × (k < 0 + v) × (is c 1 k ≡ true) → ⊥
-      second e (k, a, b, f) = let q : v ≡ k = one_end v k l (omega arith) (of-kind 1 v e) (of-kind 1 k f) in omega arith
-
-      clash : (u : ℕ) × (0 ≤ u) × (u < 0 + (v + 1)) × (is_clash c v u ≡ true) → ⊥
-      clash (u, a, b, f) = ⊎_elim
-          (λ e. not_entered u v (omega arith) (and_r (is c 0 v) (has_arc_to c u v) e) (and_l (is c 0 v) (has_arc_to c u v) e))
-          (λ e. not_entered v u l (and_r (is c 0 u) (has_arc_to c v u) e) (and_l (is c 0 u) (has_arc_to c v u) e))
-          (or_cases (is c 0 v && has_arc_to c u v) (is c 0 u && has_arc_to c v u) f)
+  not-barred v l = grind (arith, common_steps, any_some, or-none, or_cases, and_r, and_l, refuted, of-kind, one_end, not_entered, no-circle)
 
   pub no_second : (v : ℕ) → v < size c → has_kind c 0 v ≡ true → kind c v ≡ 0 → ⊥
-  no_second v l h e = go (any_some (is c 0) 0 v h)
-    where
-      go : (k : ℕ) × (0 ≤ k) × (k < 0 + v) × (is c 0 k ≡ true) → ⊥
-      go (k, a, b, f) = let q : v ≡ k = one-begin v k l (omega arith) e (of-kind 0 k f) in omega arith
+  no_second v l h e = grind (arith, common_steps, any_some, of-kind, one-begin)
 
   -- a kind that no node below v has stands at v or above
   above : (k v u : ℕ) → has_kind c k v ≡ false → kind c u ≡ k → v ≤ u
@@ -160,22 +128,4 @@ module _ (c : Chart) (p : Plain c) where
       (λ (l : v ≤ u). l) (split u v)
 
   pub needed : (v : ℕ) → v < size c → size c - v ≤ missing_ends c v → 2 ≤ kind c v → ⊥
-  needed v l m k = go (has_kind c 0 v) (has_kind c 1 v) refl refl m
-    where
-      go : (a b : Bool) → has_kind c 0 v ≡ a → has_kind c 1 v ≡ b → size c - v ≤ (if a then 0 else 1) + (if b then 0 else 1) → ⊥
-      go true true e f h = omega arith
-      go true false e f h =
-          let x : v ≤ end c 1 = above 1 v (end c 1) f the_end.kinded in
-          let y : v ≡ end c 1 = omega (arith, the_end.inside) in
-          omega (arith, ap (kind c) y, the_end.kinded)
-      go false true e f h =
-          let x : v ≤ begin c 1 = above 0 v (begin c 1) e the-begin.kinded in
-          let y : v ≡ begin c 1 = omega (arith, the-begin.inside) in
-          omega (arith, ap (kind c) y, the-begin.kinded)
-      go false false e f h =
-          let x : v ≤ begin c 1 = above 0 v (begin c 1) e the-begin.kinded in
-          let z : v ≤ end c 1 = above 1 v (end c 1) f the_end.kinded in
-          let n : v ≡ begin c 1 → ⊥ = λ q. omega (arith, ap (kind c) q, the-begin.kinded) in
-          let m : v ≡ end c 1 → ⊥ = λ q. omega (arith, ap (kind c) q, the_end.kinded) in
-          let d : begin c 1 ≡ end c 1 → ⊥ = λ q. omega (arith, ap (kind c) q, the-begin.kinded, the_end.kinded) in
-          omega (arith, the-begin.inside, the_end.inside)
+  needed v l m k = grind (arith, common_steps, the-begin, the_end, above)

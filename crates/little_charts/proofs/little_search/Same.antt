@@ -1,20 +1,14 @@
 -- The search finds just the little charts, in their order.
-use Rattle.std.proofs.Common.{if◌then◌else◌}
-use Prim.Native.Nat.{ℕ, zero, suc, ◌+◌, ◌*◌, ◌-◌, ◌≤◌, ◌<◌}
-use mathlib.Core.Bool.{Bool, true, false, ◌&&◌}
-use mathlib.Core.Path.{◌≡◌, refl, sym, ◌∙◌, ap, ap₂, subst}
-use mathlib.Core.List.{List, [], ◌∷◌, ◌++◌, map, append_assoc, append-nil}
-use native.Mathlib.Omega.{arith}
-use lib.Dec.{leb, ltb, eqb}
-use lib.ListN.{length, get_or, length-append}
-use lib.Seq.{get_or-append-add}
-use borrow.Author.Tests.{eqb-true, leb-true, lt-ltb, le-ltb, ne_eqb}
+use Rattle.std.proofs.Common.{if◌then◌else◌, ℕ, zero, suc, ◌+◌, ◌*◌, ◌-◌, ◌≤◌, ◌<◌, Bool, true, false, ◌&&◌, ◌≡◌, refl, sym, ◌∙◌, ap, ap₂}
+use Rattle.std.proofs.Common.{subst, List, [], ◌∷◌, ◌++◌, map, append_assoc, append-nil, arith, leb, ltb, eqb, length, get_or}
+use Rattle.std.proofs.Common.{get_or-append-add, eqb-true, leb-true, lt-ltb}
+use Rattle.std.proofs.lemmas.Grind.{common_steps}
 use Rattle.words.specs.lists.Numbers.{range, any}
 use Rattle.words.specs.lists.Sequences.{filter, concat_map, All}
-use Rattle.words.proofs.lists.Tests.{no_both, and_l, and_r, if-true, if-false}
+use Rattle.words.proofs.lists.Tests.{no_both, and_l, and_r, if-true}
 use Rattle.words.proofs.lists.Searches.{any_none}
 use Rattle.words.proofs.lists.Ranges.{filter-yes, filter-no}
-use Rattle.words.proofs.lists.Joins.{all_of, all_append, all_map, length-concat, concat-append, concat-map, concat-alike}
+use Rattle.words.proofs.lists.Joins.{all_of, all_map, length-concat, concat-append, concat-map, concat-alike}
 use Rattle.words.proofs.lists.Filters.{filter_none}
 use Rattle.words.proofs.lists.Elements.{filter-nothing, map-map, map-alike, filter-concat, concat-each, concat-within}
 use Rattle.text.specs.frames.Frame.{size}
@@ -27,8 +21,8 @@ use Rattle.little_charts.specs.Little.{is_little_node, nodes, lists_of, chart_of
 use Rattle.little_charts.proofs.Members.{In, in_map, in-range, in_all}
 use Rattle.little_charts.proofs.Nodes.{Fine, nodes-fine}
 use Rattle.little_charts.proofs.Listing.{MadeOf, lists-made, made-formed, made-frames, chart-size, passes-fine}
-use Rattle.little_charts.specs.little_search.inner.Search.{node_count, operation_at, condition_at, node_at, has_kind, is_barred_node}
-use Rattle.little_charts.specs.little_search.inner.Search.{is_lonely, missing_ends, first_tried, past_last, searched_charts}
+use Rattle.little_charts.specs.little_search.inner.Search.{node_count, node_at, has_kind, is_barred_node, is_lonely, missing_ends}
+use Rattle.little_charts.specs.little_search.inner.Search.{first_tried, past_last, searched_charts}
 use Rattle.little_charts.proofs.little_search.Ruled.{Plain, not-lonely, not-barred, no_second, needed}
 use Rattle.little_charts.proofs.little_search.Alike.{SameFields, front-alike, barred-alike, has-alike, missing-alike}
 
@@ -52,28 +46,14 @@ low-kind n i l = ap (λ (t : List ℕ). get_or t 0 0) (if-true (ltb i n) _ _ (lt
 
 pub high-kind : (n i : ℕ) → n + 1 ≤ i → 2 ≤ get_or (node_at n i) 0 0
 unfolding node_at
-high-kind n i l = subst (λ (t : List ℕ). 2 ≤ get_or t 0 0)
-    (sym (if-false (ltb i n) _ _ (le-ltb i n (omega arith)) ∙ if-false (eqb i n) _ _ (ne_eqb i n (λ e. omega arith))))
-    (go (ltb i (3 * n + 1)))
-  where
-    go : (t : Bool) → 2 ≤ get_or (if t then operation_at (i - (n + 1)) else condition_at n (i - (3 * n + 1))) 0 0
-    go true = omega arith
-    go false = omega arith
+high-kind n i l = grind (arith, common_steps)
 
 -- the first number is no higher than that of the End, the last one no lower
 pub first-low : (n : ℕ) (c : Chart) (v : ℕ) → first_tried n c v ≤ n
-first-low n c v = go (has_kind c 0 v)
-  where
-    go : (t : Bool) → (if t then n else 0) ≤ n
-    go true = omega arith
-    go false = omega arith
+first-low n c v = grind (arith, common_steps)
 
 pub past-within : (n : ℕ) (c : Chart) (v : ℕ) → (n + 1 ≤ past_last n c v) × (past_last n c v ≤ node_count n)
-past-within n c v = go (leb (n - v) (missing_ends c v))
-  where
-    go : (t : Bool) → (n + 1 ≤ (if t then n + 1 else node_count n)) × ((if t then n + 1 else node_count n) ≤ node_count n)
-    go true = (omega arith, omega arith)
-    go false = (omega arith, omega arith)
+past-within n c v = grind (arith, common_steps)
 
 -- ---- lists of records joined
 pub chart-snoc : (gs : List (List ℕ)) (r : List ℕ) → chart_of (gs ++ (r ∷ [])) ≡ chart_of gs ++ r
@@ -81,10 +61,7 @@ unfolding concat_map
 chart-snoc gs r = concat-append (λ x. x) gs (r ∷ []) ∙ ap (λ (x : List ℕ). chart_of gs ++ x) (append-nil r)
 
 made-join : (rs gs fs : List (List ℕ)) (k m : ℕ) → MadeOf rs k gs → MadeOf rs m fs → MadeOf rs (k + m) (gs ++ fs)
-made-join rs gs fs k m d e = record {
-  each = all_append (λ r. In r rs) gs fs d.each e.each;
-  count = length-append gs fs ∙ ap₂ (λ (x y : ℕ). x + y) d.count e.count;
-}
+made-join rs gs fs k m d e = grind (arith, common_steps)
 
 module _ (n : ℕ) (a : 2 ≤ n) (b : n ≤ 4) where
   abbrev rs : List (List ℕ)
@@ -161,8 +138,7 @@ module _ (n : ℕ) (a : 2 ≤ n) (b : n ≤ 4) where
       more = gs ++ (r ∷ [])
 
       r-in : In r rs
-      r-in = subst (In r) (sym (nodes-at n a b))
-          (in_map (node_at n) i (range 0 (node_count n)) (in-range i 0 (node_count n) (omega arith) (omega arith)))
+      r-in = grind (arith, common_steps, in_map, in-range, nodes-at)
 
       more-made : MadeOf rs (v + 1) more
       more-made = made-join rs gs (r ∷ []) v 1 d (record { each = (r-in, tt); count = refl })
@@ -178,16 +154,13 @@ module _ (n : ℕ) (a : 2 ≤ n) (b : n ≤ 4) where
         whole_is = concat-append (λ x. x) more fs ∙ ap (λ (x : Chart). x ++ chart_of fs) (chart-snoc gs r)
 
         more-alike : SameFields (c ++ r) whole (v + 1)
-        more-alike = subst (λ (x : Chart). SameFields (c ++ r) x (v + 1)) (sym whole_is)
-            (front-alike (c ++ r) (chart_of fs) (v + 1) (omega (arith, more-long)))
+        more-alike = grind (arith, common_steps, front-alike, more-long, whole_is)
 
         first-alikes : SameFields c whole v
-        first-alikes = subst (λ (x : Chart). SameFields c x v) (sym (whole_is ∙ append_assoc c r (chart_of fs)))
-            (front-alike c (r ++ chart_of fs) v (omega (arith, c-long)))
+        first-alikes = grind (arith, common_steps, front-alike, append_assoc, c-long, whole_is)
 
         kind-is : kind whole v ≡ get_or r 0 0
-        kind-is = sym (more-alike.same v 0 (omega arith) (omega arith))
-            ∙ ap (λ (k : ℕ). get_or (c ++ r) k 0) (omega (arith, c-long)) ∙ get_or-append-add c r 0 0
+        kind-is = grind (arith, common_steps, get_or-append-add, c-long, more-alike)
 
       no_more : ((fs : List (List ℕ)) → size (whole fs) ≡ n → Plain (whole fs) → ⊥) → Rest more m ≡ []
       no_more f = refused_all more (v + 1) m (omega arith) more-made f
@@ -224,14 +197,7 @@ module _ (n : ℕ) (a : 2 ≤ n) (b : n ≤ 4) where
     tried-rest : ((i : ℕ) → i < node_count n → searched_charts n m (chart_of (gs ++ (node_at n i ∷ []))) ≡ rest i) → (i : ℕ)
         → i < node_count n
         → tried v i ≡ rest i
-    tried-rest ih i l = go (is_barred_node (c ++ node_at n i) v) refl
-      where
-        go : (t : Bool) → is_barred_node (c ++ node_at n i) v ≡ t → elim t [
-          | true ↦ []
-          | false ↦ searched_charts n m (c ++ node_at n i)
-        ] ≡ rest i
-        go true q = sym (barred-empty i l q)
-        go false q = ap (searched_charts n m) (sym (chart-snoc gs (node_at n i))) ∙ ih i l
+    tried-rest ih i l = grind (arith, common_steps, chart-snoc, barred-empty)
 
     searched-rest : ((i : ℕ) → i < node_count n → searched_charts n m (chart_of (gs ++ (node_at n i ∷ []))) ≡ rest i)
         → searched_charts n (suc m) c ≡ Rest gs (suc m)

@@ -1,8 +1,5 @@
 -- How many little charts there are of 2, 3 and 4 frames, and some of the last: the search is computed, which finds all of them.
-use mathlib.Core.Path.{◌≡◌, refl, sym, ◌∙◌, ap}
-use mathlib.Core.List.{[], ◌++◌}
-use native.Mathlib.Omega.{arith}
-use lib.ListN.{length}
+use Rattle.std.proofs.Common.{◌≡◌, refl, sym, ◌∙◌, ap, [], ◌++◌, arith, length}
 use Rattle.words.specs.lists.Numbers.{any, lowest, count, highest}
 use Rattle.words.specs.lists.Sequences.{some, concat_map}
 use Rattle.words.specs.graph.Reach.{reach}

@@ -1,16 +1,9 @@
 -- Digits and characters: each of the sixteen digits has one character, its capital where it is a letter.
-use Rattle.std.proofs.Common.{if◌then◌else◌}
-use Prim.Native.Nat.{ℕ, zero, suc, ◌+◌, ◌*◌, ◌-◌, ◌/◌, ◌%◌, ◌≤◌, ◌<◌}
-use mathlib.Core.Bool.{Bool, true, false, ◌&&◌}
-use mathlib.Core.Path.{◌≡◌, refl, sym, ◌∙◌, ap}
-use mathlib.Core.Logic.{⊎_elim, ◌⊎◌, inl, inr}
-use mathlib.Core.List.{List, [], ◌∷◌, map}
-use native.Mathlib.Omega.{arith}
+use Rattle.std.proofs.Common.{if◌then◌else◌, ℕ, zero, suc, ◌+◌, ◌*◌, ◌-◌, ◌/◌, ◌%◌, ◌≤◌, ◌<◌, true, ◌&&◌, ◌≡◌, refl, sym, ◌∙◌, ap, List, []}
+use Rattle.std.proofs.Common.{◌∷◌, map, arith, bit_and, leb, ltb, get_or, le-ltb, lt-ltb, le-leb, leb-true}
 use mir.Val.{bool_byte}
-use lib.Bits.{bit_and}
-use lib.Dec.{leb, ltb}
-use lib.ListN.{get_or}
-use borrow.Author.Tests.{le-ltb, lt-ltb, le-leb, lt-leb, leb-true}
+use borrow.Author.Tests.{lt-leb}
+use Rattle.std.proofs.lemmas.Grind.{common_steps}
 use Rattle.words.specs.lists.Numbers.{tabulate}
 use Rattle.words.proofs.lists.Tests.{and_l, and_r, split, cases, if-false}
 use Rattle.words.proofs.lists.Tabulated.{get_d_tabulate}
@@ -65,15 +58,7 @@ digit-high c h l = simp (lt-leb c 57 (omega arith), le-leb 48 c (omega arith), l
 
 pub digit-of-small : (c : ℕ) → 97 ≤ c → c ≤ 102 → digit_of c ≡ c - 87
 unfolding digit_of
-digit-of-small c h l =
-    simp (
-      lt-leb c 57 (omega arith),
-      le-leb 48 c (omega arith),
-      le-leb 65 c (omega arith),
-      lt-leb c 70 (omega arith),
-      le-leb 97 c h,
-      le-leb c 102 l,
-    )
+digit-of-small c h l = grind (arith, common_steps, lt-leb, le-leb)
 
 pub capital-of-small : (c : ℕ) → 97 ≤ c → c ≤ 102 → capital c ≡ c - 32
 unfolding capital
@@ -98,27 +83,11 @@ pub data Class (c : ℕ) : Type 0 where
 
 pub class_of : (c : ℕ) → Class c
 unfolding digit_of capital
-class_of c = go (cases (leb 48 c && leb c 57)) (cases (leb 65 c && leb c 70)) (cases (leb 97 c && leb c 102))
-  where
-    go : ((leb 48 c && leb c 57) ≡ true) ⊎ ((leb 48 c && leb c 57) ≡ false)
-        → ((leb 65 c && leb c 70) ≡ true) ⊎ ((leb 65 c && leb c 70) ≡ false)
-        → ((leb 97 c && leb c 102) ≡ true) ⊎ ((leb 97 c && leb c 102) ≡ false) → Class c
-    go (inl e) _ _ = numeral (within 48 57 c e).0 (within 48 57 c e).1
-    go (inr _) (inl e) _ = large (within 65 70 c e).0 (within 65 70 c e).1
-    go (inr _) (inr _) (inl e) = small (within 97 102 c e).0 (within 97 102 c e).1
-    go (inr d) (inr e) (inr f) = other (if-false _ _ _ d ∙ if-false _ _ _ e ∙ if-false _ _ _ f) (if-false _ _ _ f)
+class_of c = grind (arith, common_steps, if-false, cases, within)
 
 -- a character and its capital stand for the same digit
 pub digit-capital : (c : ℕ) → digit_of (capital c) ≡ digit_of c
-digit-capital c = go (class_of c)
-  where
-    go : Class c → digit_of (capital c) ≡ digit_of c
-    go (numeral h l) = ap digit_of (capital-same c (omega arith))
-    go (large h l) = ap digit_of (capital-same c (omega arith))
-    go (small h l) =
-        let e : c - 32 - 55 ≡ c - 87 = omega arith in
-        ap digit_of (capital-of-small c h l) ∙ digit-high (c - 32) (omega arith) (omega arith) ∙ e ∙ sym (digit-of-small c h l)
-    go (other d s) = ap digit_of s
+digit-capital c = grind (arith, common_steps, digit-high, digit-of-small, capital-of-small, capital-same, class_of)
 
 pub char-low : (d : ℕ) → d < 10 → char_of d ≡ 48 + d
 unfolding char_of
@@ -129,14 +98,10 @@ unfolding char_of
 char-high d h = simp (le-ltb d 10 h)
 
 pub char_made : (d : ℕ) → d + 48 + 7 * bool_byte (ltb 9 d) ≡ char_of d
-char_made d =
-    ⊎_elim (λ (l : d < 10). ap (λ (b : Bool). d + 48 + 7 * bool_byte b) (le-ltb 9 d (omega arith)) ∙ omega arith ∙ sym (char-low d l))
-    (λ (l : 10 ≤ d). ap (λ (b : Bool). d + 48 + 7 * bool_byte b) (lt-ltb 9 d (omega arith)) ∙ omega arith ∙ sym (char-high d l))
-    (split d 10)
+char_made d = grind (arith, common_steps, le-ltb, split, lt-ltb, char-low, char-high)
 
 pub char-small : (d : ℕ) → d < 16 → char_of d < 128
-char-small d h =
-    ⊎_elim (λ (l : d < 10). omega (arith, char-low d l)) (λ (l : 10 ≤ d). omega (arith, char-high d l)) (split d 10)
+char-small d h = grind (arith, common_steps, split, char-low, char-high)
 
 -- both characters of a byte by one sum: of each of the 256 computed
 abbrev pub both_digits : ℕ → ℕ
@@ -167,10 +132,7 @@ module _ (b r : ℕ) (small : b < 256) (e : r ≡ pair b) where
   pair-second = omega (arith, char-small (b / 16) (omega arith))
 
 pub digit_char : (d : ℕ) → d < 16 → digit_of (char_of d) ≡ d
-digit_char d h =
-    ⊎_elim (λ (l : d < 10). ap digit_of (char-low d l) ∙ digit_low (48 + d) (omega arith) (omega arith) ∙ omega arith)
-    (λ (l : 10 ≤ d). ap digit_of (char-high d l) ∙ digit-high (55 + d) (omega arith) (omega arith) ∙ omega arith)
-    (split d 10)
+digit_char d h = grind (arith, common_steps, split, digit_low, digit-high, char-low, char-high)
 
 -- the character of a character's digit is its capital
 pub char-digit : (c : ℕ) → digit_of c < 16 → char_of (digit_of c) ≡ capital c

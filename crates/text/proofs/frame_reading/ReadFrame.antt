@@ -1,24 +1,14 @@
 -- A frame that is read: the digits of its characters, its bytes and their sum.
-use mathlib.Core.Path.{◌≡◌, refl, sym, ◌∙◌, ap, ap₂}
-use mathlib.Core.Logic.{◌⊎◌, inl, inr, ⊎_elim}
-use mathlib.Core.Bool.{Bool, true, false, not, ◌||◌}
-use mathlib.Core.List.{List, map}
-use Prim.Native.Nat.{ℕ, ◌+◌, ◌-◌, ◌*◌, ◌%◌, ◌≤◌, ◌<◌}
-use native.Mathlib.Nat.{zero-add}
-use native.Mathlib.Numerals.{add-one}
-use native.Mathlib.Omega.{arith}
-use borrow.Author.Count.{below_more}
-use borrow.Author.Tests.{lt-ltb, le-ltb}
-use lib.Dec.{leb, ltb, eqb}
-use lib.ListN.{length, get_or, set, length-set}
-use lib.Seq.{get_or-set_same, get_or-set_other}
+use Rattle.std.proofs.Common.{◌≡◌, refl, sym, ◌∙◌, ap, ap₂, ◌⊎◌, inl, inr, ⊎_elim, Bool, true, false, not, ◌||◌, List, map, ℕ, ◌+◌, ◌-◌}
+use Rattle.std.proofs.Common.{◌*◌, ◌%◌, ◌≤◌, ◌<◌, zero-add, add-one, arith, below_more, lt-ltb, le-ltb, leb, ltb, eqb, length, get_or, set}
+use Rattle.std.proofs.Common.{length-set, get_or-set_same, get_or-set_other}
+use Rattle.std.proofs.lemmas.Grind.{common_steps}
 use Rattle.words.specs.lists.Numbers.{any, sum, range}
 use Rattle.words.specs.lists.Sequences.{written}
 use Rattle.words.proofs.lists.Tests.{cases, split, if-true, if-false, or-true-l, or_true_r, or-none}
 use Rattle.words.proofs.lists.Ranges.{get_or-map-range}
 use Rattle.words.proofs.lists.Searches.{any_some, any-true, any_false, any_none, any_snoc, sum-turn}
 use Rattle.words.proofs.lists.Fills.{ValuesFrom, values-none, values-turn, values-all}
-use Rattle.text.specs.digits.Digit.{digit_of}
 use Rattle.text.specs.frames.Frame.{byte_at}
 use Rattle.text.specs.frames.Check.{has_bad_form, has_bad_sum}
 use Rattle.text.specs.frame_reading.inner.FrameReads.{stored_bytes, digit_at, DigitsRead, place_of, value_of}
@@ -62,14 +52,7 @@ pub record Taken (t : List ℕ) (from : ℕ) (digits : List ℕ) (bad : Bool) (i
 
 pub taken_none : (t : List ℕ) (from : ℕ) (digits : List ℕ) → length digits ≡ 32 → Taken t from digits false 0
 unfolding any
-taken_none t from digits e = record {
-  low = omega arith;
-  size =
-      e;
-  front = λ j h. absurd (omega arith);
-  back = λ j h. absurd (omega arith);
-  form = refl;
-}
+taken_none t from digits e = grind (arith, common_steps)
 
 module _ (t : List ℕ) (from : ℕ) (digits : List ℕ) (bad : Bool) (i : ℕ) (done : Taken t from digits bad i) where
   pub taken-turn : (x y : ℕ) → i < 16 → x ≡ digit_at t from i → y ≡ digit_at t from (6 + i)
@@ -124,9 +107,7 @@ module _ (t : List ℕ) (f : ℕ) (r : FrameDigits) (read : DigitsRead t (23 * f
   value-is : (k i : ℕ) → place_of k ≡ i → get_or r.digits i 0 ≡ digit_at t (23 * f) (2 * k)
       → get_or r.digits (i + 1) 0 ≡ digit_at t (23 * f) (2 * k + 1)
       → value_of r.digits k ≡ stored t f k
-  value-is k i p high low =
-      sym (value_made r.digits k i (sym p))
-      ∙ ap₂ (λ (a b : ℕ). (16 * a + b) % 256) high (low ∙ ap (λ (j : ℕ). digit_of (get_or t j 0)) (omega arith))
+  value-is k i p high low = grind (arith, common_steps, value_made)
 
   pub value-stored : (k : ℕ) → k < 11 → value_of r.digits k ≡ stored t f k
   value-stored k h = ⊎_elim low high (split k 8)
@@ -164,9 +145,7 @@ stored-none t f out₀ = record { small = omega arith; added = refl; values = va
 
 -- the sum of the bytes as stored is that of the bytes, modulo 256
 sum_more : (g : ℕ → ℕ) (s k v : ℕ) → s % 256 ≡ sum g 0 k % 256 → v ≡ g k % 256 → (s + v) % 256 ≡ sum g 0 (k + 1) % 256
-sum_more g s k v e q =
-    let w : sum g 0 k + g k ≡ sum g 0 (k + 1) = sum-turn g (sum g 0 k) k (g k) refl refl in
-    omega arith
+sum_more g s k v e q = grind (arith, common_steps, sum-turn)
 
 module _ (t : List ℕ) (f : ℕ) (out₀ out : List ℕ) (total k : ℕ) (done : Stored t f out₀ out total k) where
   pub stored-turn : (v : ℕ) → 10 * f + 10 ≤ length out₀ → k < 10 → v ≡ stored t f k

@@ -1,15 +1,10 @@
 -- A text and the same text in capitals are read alike, whatever its characters are and however long it is.
-use Rattle.std.proofs.Common.{if◌then◌else◌}
-use Prim.Native.Nat.{ℕ, ◌+◌, ◌*◌, ◌/◌, ◌%◌}
-use mathlib.Core.Bool.{Bool, ◌||◌, not}
-use mathlib.Core.Path.{◌≡◌, sym, ◌∙◌, ap, ap₂, fun_ext}
-use mathlib.Core.List.{List, map}
-use native.Mathlib.Omega.{arith}
-use lib.Dec.{leb, eqb}
-use lib.ListN.{length, get_or, length-map}
-use borrow.Author.Tests.{ne_eqb}
-use Rattle.words.specs.lists.Numbers.{range, any, sum}
-use Rattle.words.specs.lists.Sequences.{concat_map, over}
+use Rattle.std.proofs.Common.{ℕ, ◌+◌, ◌*◌, ◌/◌, ◌%◌, Bool, not, ◌≡◌, sym, ◌∙◌, ap, ap₂, List, map, arith, eqb, length, get_or, ne_eqb}
+use Rattle.std.proofs.Math.Path.{fun_ext}
+use Rattle.std.proofs.Math.ListN.{length-map}
+use Rattle.std.proofs.lemmas.Grind.{common_steps}
+use Rattle.words.specs.lists.Numbers.{range, sum}
+use Rattle.words.specs.lists.Sequences.{concat_map}
 use Rattle.text.specs.digits.Digit.{digit_of, capital}
 use Rattle.text.proofs.digits.Digits.{Class, numeral, large, small, other, class_of, capital-same, capital-of-small, capital-at}
 use Rattle.text.proofs.digits.Digits.{digit-capital}
@@ -42,9 +37,7 @@ module _ (t : List ℕ) where
 
   form-same : (f : ℕ) → has_bad_form capitals f ≡ has_bad_form t f
   unfolding has_bad_form
-  form-same f =
-      ap₂ (λ (p : ℕ → Bool) (b : Bool). any p 0 22 || not b) (fun_ext λ k. ap (leb 16) (digit-same (23 * f + k)))
-      (ap (λ (c : ℕ). eqb c 10) (capital-at t (23 * f + 22)) ∙ feed-capital (get_or t (23 * f + 22) 0))
+  form-same f = grind (arith, common_steps, fun_ext, capital-at, feed-capital, digit-same)
 
   sum_same : (f : ℕ) → has_bad_sum capitals f ≡ has_bad_sum t f
   unfolding has_bad_sum
@@ -69,9 +62,7 @@ module _ (t : List ℕ) where
 
   buffer-same : (most : ℕ) (old : List ℕ) → read_buffer most capitals old ≡ read_buffer most t old
   unfolding read_buffer
-  buffer-same most old =
-      ap₂ (λ (n : ℕ) (b : List ℕ). if is_bad_length 23 most n then old else over (map (λ x. x % 256) b) old)
-      (length-map t capital) contents-same
+  buffer-same most old = grind (arith, common_steps, length-map, contents-same)
 
   pub capitals-alike : ReadAlike capitals t
   capitals-alike = record { verdict = verdict-same; contents = contents-same; buffer = buffer-same }

@@ -1,14 +1,9 @@
 -- How a function answers by a chain of verdicts: one law for each way that a link can go, and what an answer tells of its verdict.
-use mathlib.Core.Path.{◌≡◌, refl, sym, ◌∙◌, ap}
-use mathlib.Core.Bool.{Bool, true, false}
-use Prim.Native.Nat.{ℕ, ◌≤◌, ◌<◌}
-use native.Mathlib.Omega.{arith}
-use lib.Dec.{ltb}
-use borrow.Author.Tests.{lt-ltb, le-ltb}
+use Rattle.std.proofs.Common.{◌≡◌, refl, sym, ◌∙◌, ap, Bool, true, false, ℕ, ◌≤◌, ◌<◌, arith, ltb, lt-ltb, le-ltb, Ok, Err}
+use Rattle.std.proofs.lemmas.Grind.{common_steps}
 use Rattle.words.specs.lists.Numbers.{lowest}
 use Rattle.words.proofs.lists.Tests.{if-true, if-false}
 use Rattle.text.specs.frames.Verdict.{Verdict, fine, refused, next, when, at_lowest}
-use Rattle.std.proofs.Common.{Ok, Err}
 use Rattle.text.specs.declared.frames.refusals.Refusal.{Refusal}
 use Rattle.text.specs.frames.Refusal.{number_of, index_of, ticks_of}
 use Rattle.text.specs.frames.Answer.{Answer, success, refusal, reply_count, reply, counted_reply, verdict_reply}
@@ -23,8 +18,7 @@ when-fails k b e = ap (when k) e
 -- a search that ended at r, before the end or not
 module _ (k : ℕ) (p : ℕ → Bool) (n r : ℕ) (found : r ≡ lowest p 0 n) where
   pub lowest-refused : r < n → at_lowest k p n ≡ refused k r
-  lowest-refused h =
-      if-true (ltb (lowest p 0 n) n) (refused k (lowest p 0 n)) fine (lt-ltb (lowest p 0 n) n (omega arith)) ∙ ap (refused k) (sym found)
+  lowest-refused h = grind (arith, common_steps, lt-ltb, if-true)
 
   pub lowest-fine : n ≤ r → at_lowest k p n ≡ fine
   lowest-fine h = if-false (ltb (lowest p 0 n) n) (refused k (lowest p 0 n)) fine (le-ltb (lowest p 0 n) n (omega arith))
@@ -62,16 +56,7 @@ judged-fine v n e = sym (ap (λ w. verdict_reply w n) e)
 -- an answer that is Ok, or Err: what it tells of the verdict
 module _ (a : Answer) (v : Verdict) (n : ℕ) (gives : reply a ≡ verdict_reply v n) where
   pub ok-fine : (m : ℕ) → a ≡ Ok m → (v ≡ fine) × (m ≡ n)
-  ok-fine m e = go v (sym (ap reply e) ∙ gives)
-    where
-      go : (w : Verdict) → success m ≡ verdict_reply w n → (w ≡ fine) × (m ≡ n)
-      go fine q = (refl, cc)
-      go (refused k i) q = absurd (let z : ◌≡◌ {A = ℕ} 0 1 = cc in omega arith)
+  ok-fine m e = grind (arith, common_steps)
 
   pub err-refused : (r : Refusal) → a ≡ Err r → (v ≡ refused (number_of r) (index_of r)) × (ticks_of r ≡ 0)
-  err-refused r e = go v (sym (ap reply e) ∙ gives)
-    where
-      go : (w : Verdict) → refusal (number_of r) (index_of r) (ticks_of r) ≡ verdict_reply w n
-          → (w ≡ refused (number_of r) (index_of r)) × (ticks_of r ≡ 0)
-      go fine q = absurd (let z : ◌≡◌ {A = ℕ} 0 1 = cc in omega arith)
-      go (refused l j) q = (cc, cc)
+  err-refused r e = grind (arith, common_steps)

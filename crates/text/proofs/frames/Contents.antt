@@ -1,15 +1,11 @@
 -- Texts there and back: the contents of the text of records are those records, and the text of an accepted text's contents is that text
 -- in capitals.
-use Prim.Native.Nat.{ℕ, zero, suc, ◌+◌, ◌*◌, ◌/◌, ◌%◌, ◌≤◌, ◌<◌}
-use mathlib.Core.Bool.{Bool, false, ◌||◌, not}
-use mathlib.Core.Path.{◌≡◌, refl, sym, ◌∙◌, ap, ap₂, subst}
-use mathlib.Core.Logic.{⊎_elim}
-use mathlib.Core.List.{List, [], ◌∷◌, ◌++◌, map}
-use native.Mathlib.Omega.{arith}
-use lib.ListN.{length, get_or, length-append, length-map, get_or-eq_default, get_or-append}
-use lib.Seq.{ext_get_or, get_or-append-add}
-use lib.Dec.{leb, ltb, eqb}
-use borrow.Author.Tests.{ltb-false, leb-false, eqb-true, eqb-false}
+use Rattle.std.proofs.Common.{ℕ, zero, suc, ◌+◌, ◌*◌, ◌/◌, ◌%◌, ◌≤◌, ◌<◌, Bool, false, not, ◌≡◌, refl, sym, ◌∙◌, ap, subst, ⊎_elim, List}
+use Rattle.std.proofs.Common.{[], ◌∷◌, ◌++◌, map, arith, length, get_or, length-append, ext_get_or, get_or-append-add, leb, eqb, ltb-false}
+use Rattle.std.proofs.Common.{leb-false, eqb-true}
+use Rattle.std.proofs.Math.ListN.{length-map, get_or-eq_default, get_or-append}
+use borrow.Author.Tests.{eqb-false}
+use Rattle.std.proofs.lemmas.Grind.{common_steps}
 use Rattle.words.specs.lists.Numbers.{range, any, sum}
 use Rattle.words.proofs.lists.Tests.{split, or_l, or_r, not-false}
 use Rattle.words.proofs.lists.Searches.{any_false}
@@ -18,8 +14,8 @@ use Rattle.words.proofs.lists.Joins.{all_map, all-every, length-concat-range, co
 use Rattle.words.specs.lists.Sequences.{All}
 use Rattle.text.specs.digits.Digit.{digit_of, char_of, capital}
 use Rattle.text.proofs.digits.Digits.{capital-same, capital-at, char-digit}
-use Rattle.text.specs.frames.Frame.{frame_count, byte_at, contents, size, field, byte_text, total}
-use Rattle.text.specs.frames.Frame.{sum_byte, frame_text, frames_text, ten_bytes_at, text_of}
+use Rattle.text.specs.frames.Frame.{frame_count, byte_at, contents, size, field, byte_text, total, sum_byte, frame_text, frames_text}
+use Rattle.text.specs.frames.Frame.{ten_bytes_at, text_of}
 use Rattle.text.specs.frames.Verdict.{Verdict, fine, next, when, at_lowest}
 use Rattle.text.specs.frames.Check.{is_bad_length, has_bad_form, has_bad_sum, text_verdict}
 use Rattle.text.proofs.frames.Verdicts.{next-first, next-rest, when-fine, at-lowest-fine}
@@ -33,26 +29,12 @@ pub record Length (unit most n : ℕ) : Type 0 where
   pub fits : n ≤ most
 
 pub length-told : (unit most n : ℕ) → is_bad_length unit most n ≡ false → Length unit most n
-length-told unit most n e =
-    let a : Bool = eqb n 0 in
-    let b : Bool = not (eqb (n % unit) 0) in
-    let d : Bool = ltb most n in
-    let p : a || b ≡ false = or_l (a || b) d e in
-    record {
-      some = eqb-false n 0 (or_l a b p);
-      whole = eqb-true (n % unit) 0 (not-false (eqb (n % unit) 0) (or_r a b p));
-      fits = ltb-false most n (or_r (a || b) d e);
-    }
+length-told unit most n e = grind (arith, common_steps, or_r, not-false, eqb-true, ltb-false, or_l, eqb-false)
 
 -- ---- records to text and back
 module _ (b : List ℕ) (bytes : (k : ℕ) → get_or b k 0 < 256) where
   pub ten-frame : (f : ℕ) → Frame (ten_bytes_at b f)
-  ten-frame f = record {
-    ten = refl;
-    bytes = λ k. ⊎_elim (λ (h : k < 10). subst (λ (x : ℕ). x < 256)
-        (sym (get_or-map-range (field b f) 0 0 10 k h)) (bytes (10 * f + (0 + k))))
-        (λ (h : 10 ≤ k). subst (λ (x : ℕ). x < 256) (sym (get_or-eq_default (ten_bytes_at b f) 0 h)) (omega arith)) (split k 10);
-  }
+  ten-frame f = grind (arith, common_steps, split, get_or-eq_default, get_or-map-range)
 
   abbrev tens : List (List ℕ)
   tens = map (ten_bytes_at b) (range 0 (size b))
@@ -99,9 +81,7 @@ module _ (t : List ℕ) where
 
   pub any-contents-at : (f k : ℕ) → f < frame_count t → k < 10 → field (contents t) f k ≡ byte_at t f k
   unfolding contents
-  any-contents-at f k h l =
-      concat-range-at (λ f. map (byte_at t f) (range 0 10)) 10 0 (frame_count t) 0 (λ f. refl) f k h l
-      ∙ get_or-map-range (byte_at t (0 + f)) 0 0 10 k l ∙ ap₂ (byte_at t) (omega arith) (omega arith)
+  any-contents-at f k h l = grind (arith, common_steps, concat-range-at, get_or-map-range)
 
 -- ---- what acceptance of a text tells
 pub record Clean (most : ℕ) (t : List ℕ) : Type 0 where

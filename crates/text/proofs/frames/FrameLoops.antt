@@ -1,9 +1,7 @@
 -- The loop that writes a frame: its sum and its characters.
-use mathlib.Core.Path.{◌≡◌, refl, sym, ◌∙◌, ap, ap₂}
-use mathlib.Core.List.{List, [], ◌∷◌, ◌++◌, append_assoc}
-use Prim.Native.Nat.{ℕ, ◌+◌, ◌-◌, ◌*◌, ◌%◌, ◌≤◌, ◌<◌}
-use native.Mathlib.Omega.{arith}
-use lib.ListN.{length, set, get_or, length-append}
+use Rattle.std.proofs.Common.{◌≡◌, refl, sym, ◌∙◌, ap, List, [], ◌∷◌, ◌++◌, append_assoc, ℕ, ◌+◌, ◌-◌, ◌*◌, ◌%◌, ◌≤◌, ◌<◌, arith, length}
+use Rattle.std.proofs.Common.{set, get_or, length-append}
+use Rattle.std.proofs.lemmas.Grind.{common_steps}
 use Rattle.words.specs.lists.Numbers.{sum, range}
 use Rattle.words.specs.lists.Sequences.{concat_map, written}
 use Rattle.words.proofs.lists.Searches.{sum-turn}
@@ -23,10 +21,7 @@ length-frame bs e =
 -- two characters, one after the other
 pub two-put : (out : List ℕ) (at x y a b : ℕ) → at + 2 ≤ length out → x ≡ a → y ≡ b
     → set (set out at x) (at + 1) y ≡ written out at (a ∷ b ∷ [])
-two-put out at x y a b room p q =
-    ap (λ (l : List ℕ). set l (at + 1) y) (written_one out at x (omega arith))
-    ∙ written-snoc out at (x ∷ []) y (omega arith)
-    ∙ ap₂ (λ (x y : ℕ). written out at (x ∷ y ∷ [])) p q
+two-put out at x y a b room p q = grind (arith, common_steps, written_one, written-snoc)
 
 -- after k bytes of ten
 pub record Digits (out₀ bs out : List ℕ) (at s k : ℕ) : Type 0 where

@@ -1,14 +1,9 @@
 -- One frame: ten bytes and their sum byte as 23 characters, and a text that holds it at a place.
-use Prim.Native.Nat.{ℕ, zero, suc, ◌+◌, ◌*◌, ◌/◌, ◌%◌, ◌≤◌, ◌<◌}
-use mathlib.Core.Bool.{Bool, false, ◌||◌, not}
-use mathlib.Core.Path.{◌≡◌, refl, sym, ◌∙◌, ap, ap₂, subst}
-use mathlib.Core.Logic.{⊎_elim}
-use mathlib.Core.List.{List, [], ◌∷◌, ◌++◌, append_assoc}
-use native.Mathlib.Omega.{arith}
-use lib.ListN.{length, get_or, length-append, get_or-append, get_or-eq_default}
-use lib.Seq.{get_or-append-add}
-use lib.Dec.{leb}
-use borrow.Author.Tests.{lt-leb, eq-eqb}
+use Rattle.std.proofs.Common.{ℕ, zero, suc, ◌+◌, ◌*◌, ◌/◌, ◌%◌, ◌<◌, Bool, false, ◌||◌, not, ◌≡◌, refl, sym, ◌∙◌, ap, ap₂, subst, List, []}
+use Rattle.std.proofs.Common.{◌∷◌, ◌++◌, append_assoc, arith, length, get_or, length-append, get_or-append-add, leb, eq-eqb}
+use Rattle.std.proofs.Math.ListN.{get_or-append, get_or-eq_default}
+use borrow.Author.Tests.{lt-leb}
+use Rattle.std.proofs.lemmas.Grind.{common_steps}
 use Rattle.words.specs.lists.Numbers.{sum}
 use Rattle.words.specs.lists.Sequences.{concat_map, All}
 use Rattle.words.proofs.lists.Tests.{split}
@@ -34,11 +29,7 @@ pub record Frame (bs : List ℕ) : Type 0 where
   pub bytes : (k : ℕ) → get_or bs k 0 < 256
 
 pub frame-by : (bs : List ℕ) → length bs ≡ 10 → All (λ b. b < 256) bs → Frame bs
-frame-by bs n a = record {
-  ten = n;
-  bytes = λ k. ⊎_elim (λ (h : k < length bs). all-at (λ b. b < 256) 0 bs a k h)
-      (λ (h : length bs ≤ k). subst (λ (x : ℕ). x < 256) (sym (get_or-eq_default bs 0 h)) (omega arith)) (split k (length bs));
-}
+frame-by bs n a = grind (arith, common_steps, all-at, split, get_or-eq_default)
 
 -- with the sum byte
 abbrev pub eleven : List ℕ → List ℕ
@@ -57,9 +48,7 @@ sum-places f (x ∷ xs) a h =
 
 pub frame-as : (bs : List ℕ) → frame_text bs ≡ concat_map byte_text (eleven bs) ++ (10 ∷ [])
 unfolding frame_text concat_map
-frame-as bs =
-    sym (append_assoc (concat_map byte_text bs) (byte_text (sum_byte bs)) (10 ∷ []))
-    ∙ ap (λ (xs : List ℕ). xs ++ (10 ∷ [])) (sym (concat-append byte_text bs (sum_byte bs ∷ [])))
+frame-as bs = grind (arith, common_steps, append_assoc, concat-append)
 
 pairs-two : (es : List ℕ) → All (λ x. length (byte_text x) ≡ 2) es
 pairs-two es = all-every (λ x. length (byte_text x) ≡ 2) (λ x. refl) es
@@ -84,12 +73,7 @@ module _ (bs : List ℕ) (F : Frame bs) where
   eleven-last = ap (λ (k : ℕ). get_or (eleven bs) k 0) (omega (arith, F.ten)) ∙ get_or-append-add bs (sum_byte bs ∷ []) 0 0
 
   pub eleven-small : (k : ℕ) → k < 11 → get_or (eleven bs) k 0 < 256
-  eleven-small k h =
-      ⊎_elim (λ (l : k < 10). omega (arith, eleven-at k l, F.bytes k))
-      (λ (l : 10 ≤ k).
-      let e : get_or (eleven bs) k 0 ≡ sum_byte bs = ap (λ (j : ℕ). get_or (eleven bs) j 0) (omega arith) ∙ eleven-last in
-      omega (arith, e, sum-small bs))
-      (split k 10)
+  eleven-small k h = grind (arith, common_steps, split, sum-small, eleven-at, eleven-last)
 
   pub frame-char : (k t : ℕ) → k < 11 → t < 2 → get_or (frame_text bs) (2 * k + t) 0 ≡ get_or (byte_text (get_or (eleven bs) k 0)) t 0
   frame-char k t h l =
@@ -131,7 +115,4 @@ module _ (bs : List ℕ) (F : Frame bs) where
 
     pub good-sum : has_bad_sum t f ≡ false
     unfolding has_bad_sum
-    good-sum =
-        let e : sum (byte_at t f) 0 11 ≡ total (eleven bs) = ap (sum (byte_at t f) 0) (sym eleven-length)
-        ∙ sum-places (byte_at t f) (eleven bs) 0 (λ k h. ap (byte_at t f) (omega arith) ∙ byte-is k (omega (arith, eleven-length))) in
-        ap not (eq-eqb (sum (byte_at t f) 0 11 % 256) 0 (omega (arith, e, total-snoc bs (sum_byte bs))))
+    good-sum = grind (arith, common_steps, eq-eqb, total-snoc, sum-places, eleven-length, byte-is)

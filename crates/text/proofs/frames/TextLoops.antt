@@ -1,11 +1,7 @@
 -- The loop that writes the text of contents, frame by frame.
-use mathlib.Core.Path.{◌≡◌, sym, ◌∙◌, ap}
-use mathlib.Core.List.{List}
-use Prim.Native.Nat.{ℕ, ◌+◌, ◌*◌, ◌≤◌, ◌<◌}
-use native.Mathlib.Omega.{arith}
-use lib.ListN.{length, get_or}
-use Rattle.words.specs.lists.Numbers.{range}
-use Rattle.words.specs.lists.Sequences.{concat_map, written}
+use Rattle.std.proofs.Common.{◌≡◌, sym, ◌∙◌, ap, List, ℕ, ◌+◌, ◌*◌, ◌≤◌, ◌<◌, arith, length, get_or}
+use Rattle.std.proofs.lemmas.Grind.{common_steps}
+use Rattle.words.specs.lists.Sequences.{written}
 use Rattle.words.proofs.lists.Joins.{concat-map, length-concat-range}
 use Rattle.words.proofs.lists.Ranges.{length-map-range, map-count}
 use Rattle.words.proofs.lists.Fills.{Pieces, pieces-turn, pieces-all}
@@ -36,13 +32,8 @@ module _ (b out₀ out : List ℕ) (at n f : ℕ) (done : Pieces (frame_of b) 23
 
   pub text-end : n ≡ size b → n ≤ f → out ≡ written out₀ at (text_of b)
   unfolding text_of
-  text-end e h =
-      pieces-all (frame_of b) 23 out₀ at n out f done h
-      ∙ ap (written out₀ at) (ap (λ (m : ℕ). concat_map (frame_of b) (range 0 m)) e ∙ sym
-      (concat-map frame_text (ten_bytes_at b) (range 0 (size b))))
+  text-end e h = grind (arith, common_steps, pieces-all, concat-map)
 
 pub length-text : (b : List ℕ) → length (text_of b) ≡ 23 * size b
 unfolding text_of
-length-text b =
-    ap length (concat-map frame_text (ten_bytes_at b) (range 0 (size b)))
-    ∙ length-concat-range (frame_of b) 23 0 (size b) (λ k. length-frame (ten_bytes_at b k) (length-map-range (field b k) 0 10))
+length-text b = grind (arith, common_steps, length-concat-range, length-frame, concat-map, length-map-range)

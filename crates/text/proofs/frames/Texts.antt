@@ -1,17 +1,13 @@
 -- A text of frames: its length, its bytes, that it passes refusals 1 to 3, and its contents.
-use Prim.Native.Nat.{ℕ, ◌+◌, ◌*◌, ◌%◌, ◌≤◌, ◌<◌}
-use mathlib.Core.Bool.{Bool, false}
-use mathlib.Core.Path.{◌≡◌, sym, ◌∙◌, ap, ap₂}
-use mathlib.Core.List.{List, [], map}
-use native.Mathlib.Omega.{arith}
-use lib.ListN.{length, get_or}
-use borrow.Author.Tests.{le-ltb, eq-eqb, ne_eqb}
+use Rattle.std.proofs.Common.{ℕ, ◌+◌, ◌*◌, ◌%◌, ◌≤◌, ◌<◌, false, ◌≡◌, sym, ◌∙◌, ap, ap₂, List, [], map, arith, length, get_or, le-ltb}
+use Rattle.std.proofs.Common.{eq-eqb, ne_eqb}
+use Rattle.std.proofs.lemmas.Grind.{common_steps}
 use Rattle.words.specs.lists.Numbers.{range}
 use Rattle.words.specs.lists.Sequences.{concat_map, All}
 use Rattle.words.proofs.lists.Ranges.{map-count}
 use Rattle.words.proofs.lists.Joins.{all-at, all_of, length-concat, get_or-concat, concat-places}
 use Rattle.text.specs.frames.Frame.{byte_at, frame_count, contents, field, frame_text, frames_text}
-use Rattle.text.specs.frames.Verdict.{Verdict, fine, next, when, at_lowest}
+use Rattle.text.specs.frames.Verdict.{fine}
 use Rattle.text.specs.frames.Check.{is_bad_length, has_bad_form, has_bad_sum, text_verdict}
 use Rattle.text.proofs.frames.Verdicts.{at_none}
 use Rattle.text.proofs.frames.Frames.{Frame, frame-length, eleven-at, byte-is, good-form, good-sum}
@@ -55,14 +51,7 @@ module _ (fs : List (List ℕ)) (F : All Frame fs) where
 
   pub text-fine : (most : ℕ) → 1 ≤ length fs → 23 * length fs ≤ most → text_verdict most (frames_text fs) ≡ fine
   unfolding text_verdict
-  text-fine most some fits =
-      let t : List ℕ = frames_text fs in
-      ap (λ (b : Bool). next (when 1 b) λ _. next (at_lowest 2 (has_bad_form t) (frame_count t)) λ _. at_lowest 3 (has_bad_sum t)
-      (frame_count t))
-      (length-good 23 most (length t) (λ z. omega (arith, text-length)) (omega (arith, text-length)) (omega (arith, text-length)))
-      ∙ ap (λ (v : Verdict). next v λ _. at_lowest 3 (has_bad_sum t) (frame_count t))
-      (at_none 2 (has_bad_form t) (frame_count t) (λ f h. text-forms f (omega (arith, text-count))))
-      ∙ at_none 3 (has_bad_sum t) (frame_count t) (λ f h. text-sums f (omega (arith, text-count)))
+  text-fine most some fits = grind (arith, common_steps, at_none, length-good, text-length, text-count, text-forms, text-sums)
 
   -- the contents are the frames' bytes, joined
   pub text-contents : contents (frames_text fs) ≡ concat_map same fs

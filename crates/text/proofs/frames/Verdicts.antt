@@ -1,11 +1,6 @@
 -- Laws of verdicts: what it tells that no test refuses.
-use Rattle.std.proofs.Common.{if◌then◌else◌}
-use mathlib.Core.Path.{◌≡◌, refl, ◌∙◌, ap}
-use mathlib.Core.Bool.{Bool, true, false}
-use Prim.Native.Nat.{ℕ, ◌≤◌, ◌<◌}
-use native.Mathlib.Omega.{arith}
-use lib.Dec.{ltb}
-use borrow.Author.Tests.{ltb-false, le-ltb}
+use Rattle.std.proofs.Common.{if◌then◌else◌, ◌≡◌, refl, Bool, true, false, ℕ, ◌≤◌, ◌<◌, arith, ltb, ltb-false, le-ltb}
+use Rattle.std.proofs.lemmas.Grind.{common_steps}
 use Rattle.words.specs.lists.Numbers.{lowest}
 use Rattle.words.proofs.lists.Searches.{lowest-past, lowest-none}
 use Rattle.text.specs.frames.Verdict.{Verdict, fine, refused, next, when, at_lowest}
@@ -32,6 +27,4 @@ at-lowest-fine n p k e v l =
     lowest-past p 0 k (omega arith) v (omega arith) (omega arith)
 
 pub at_none : (m : ℕ) (p : ℕ → Bool) (n : ℕ) → ((k : ℕ) → k < n → p k ≡ false) → at_lowest m p n ≡ fine
-at_none m p n h =
-    let e : lowest p 0 n ≡ n = lowest-none p 0 n (λ k l. ap p (omega arith) ∙ h k l) ∙ omega arith in
-    ap (λ b. if b then refused m (lowest p 0 n) else fine) (le-ltb (lowest p 0 n) n (omega arith))
+at_none m p n h = grind (arith, common_steps, le-ltb, lowest-none)

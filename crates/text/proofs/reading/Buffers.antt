@@ -1,9 +1,6 @@
 -- What the buffer holds once every frame was stored, or none.
-use mathlib.Core.Path.{◌≡◌, refl, sym, ◌∙◌, ap}
-use mathlib.Core.Bool.{true, false}
-use mathlib.Core.List.{List, [], ◌∷◌, ◌++◌, map}
-use Prim.Native.Nat.{ℕ, ◌%◌}
-use lib.ListN.{length}
+use Rattle.std.proofs.Common.{◌≡◌, refl, sym, ◌∙◌, ap, true, false, List, [], ◌∷◌, ◌++◌, map, ℕ, ◌%◌, length, arith}
+use Rattle.std.proofs.lemmas.Grind.{common_steps}
 use Rattle.words.specs.lists.Numbers.{range}
 use Rattle.words.specs.lists.Sequences.{concat_map, over}
 use Rattle.words.proofs.lists.Tests.{if-true, if-false}
@@ -32,6 +29,4 @@ module _ (most : ℕ) (t old : List ℕ) where
   module _ (e : is_bad_length 23 most (length t) ≡ false) where
     pub read_all : (out : List ℕ) → out ≡ over (concat_map (stored_bytes t) (range 0 (frame_count t))) old → out ≡ read_buffer most t old
     unfolding read_buffer
-    read_all out q =
-        q ∙ ap (λ (xs : List ℕ). over xs old) (contents-stored t)
-        ∙ sym (if-false (is_bad_length 23 most (length t)) old (over (map (λ x. x % 256) (contents t)) old) e)
+    read_all out q = grind (arith, common_steps, if-false, contents-stored)

@@ -1,12 +1,6 @@
 -- The loop that reads a text: its frames from the last one down.
-use Rattle.std.proofs.Common.{if◌then◌else◌}
-use mathlib.Core.Path.{◌≡◌, refl, sym, ◌∙◌, ap}
-use mathlib.Core.Bool.{Bool}
-use mathlib.Core.List.{List, ◌++◌}
-use Prim.Native.Nat.{ℕ, suc, ◌+◌, ◌-◌, ◌*◌, ◌≤◌, ◌<◌}
-use native.Mathlib.Nat.{sub-zero}
-use native.Mathlib.Omega.{arith}
-use lib.ListN.{length}
+use Rattle.std.proofs.Common.{if◌then◌else◌, ◌≡◌, refl, sym, ◌∙◌, ap, Bool, List, ◌++◌, ℕ, suc, ◌+◌, ◌-◌, ◌*◌, ◌≤◌, ◌<◌, arith, length}
+use Rattle.std.proofs.Math.Nat.{sub-zero}
 use Rattle.words.specs.lists.Numbers.{range, lowest}
 use Rattle.words.specs.lists.Sequences.{concat_map, written}
 use Rattle.words.proofs.lists.Searches.{lowest-over, lowest-below}

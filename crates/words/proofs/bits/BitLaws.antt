@@ -1,26 +1,19 @@
 -- A word under a care mask equals the values just where each condition in the mask has its value.
-use mathlib.Core.Path.{◌≡◌, refl, sym, ◌∙◌, ap, subst}
-use mathlib.Core.Logic.{◌⊎◌, inl, inr, ⊎_elim}
-use Prim.Native.Nat.{ℕ, zero, suc, ◌+◌, ◌*◌, ◌/◌, ◌%◌, ◌^◌, ◌≤◌, ◌<◌, min, max}
-use native.Mathlib.Nat.{div-one, pow-suc, div_self, zero-div, mul-mod_left, mul-div_cancel}
-use native.Mathlib.Decide.{ℕ_discrete}
-use native.Mathlib.Omega.{arith}
-use native.Mathlib.Numerals.{one-add}
-use lib.Arith.{digits_mod, lt-one}
-use lib.Bits.{bit_and, bit_or, and_step, or_step, and_shr, or_shr, and_le_r, or_lt, or_disjoint}
-use lib.Dec.{lit<}
-use lib.Pow.{shr-shr, pow_pos, pow-lt}
+use Rattle.std.proofs.Common.{◌≡◌, refl, sym, ◌∙◌, ap, subst, ◌⊎◌, ⊎_elim, ℕ, zero, suc, ◌+◌, ◌*◌, ◌/◌, ◌%◌, ◌^◌, ◌≤◌, ◌<◌, min, max}
+use Rattle.std.proofs.Common.{div-one, pow-suc, mul-div_cancel, arith, one-add, bit_and, bit_or, lit<, shr-shr, pow_pos}
+use Rattle.std.proofs.Math.Nat.{div_self, zero-div, mul-mod_left}
+use Rattle.std.proofs.Math.Decide.{ℕ_discrete}
+use Rattle.std.proofs.Math.Arith.{digits_mod, lt-one}
+use lib.Bits.{and_step, or_step, and_shr, or_shr, and_le_r, or_lt, or_disjoint}
+use Rattle.std.proofs.Math.Pow.{pow-lt}
+use Rattle.std.proofs.lemmas.Grind.{common_steps}
 use Rattle.words.specs.bits.Word.{bit}
 
 pub bit-and : (a b i : ℕ) → bit (bit_and a b) i ≡ min (bit a i) (bit b i)
-bit-and a b i =
-    ap (λ (x : ℕ). x % 2) (and_shr a b i ∙ and_step (a / 2 ^ i) (b / 2 ^ i))
-    ∙ digits_mod (bit_and (a / 2 ^ i / 2) (b / 2 ^ i / 2)) (omega arith)
+bit-and a b i = grind (arith, common_steps, digits_mod, and_shr, and_step)
 
 pub bit-or : (a b i : ℕ) → bit (bit_or a b) i ≡ max (bit a i) (bit b i)
-bit-or a b i =
-    ap (λ (x : ℕ). x % 2) (or_shr a b i ∙ or_step (a / 2 ^ i) (b / 2 ^ i))
-    ∙ digits_mod (bit_or (a / 2 ^ i / 2) (b / 2 ^ i / 2)) (omega arith)
+bit-or a b i = grind (arith, common_steps, digits_mod, or_shr, or_step)
 
 -- bit 0, and the bits above it
 pub bit-zero : (a : ℕ) → bit a 0 ≡ a % 2
@@ -79,11 +72,7 @@ pub add_small : (c i : ℕ) → bit c i ≡ 0 → c < 2 ^ 16 → i ≤ 15 → c 
 add_small c i e l m = subst (λ (x : ℕ). x < 2 ^ 16) (sym (add-is-or c i e)) (or_lt 16 c (2 ^ i) l (pow-lt {i = i} {j = 16} (omega arith)))
 
 pub bit-cases : (w i : ℕ) → (bit w i ≡ 0) ⊎ (bit w i ≡ 1)
-bit-cases w i = go (ℕ_discrete (bit w i) 0)
-  where
-    go : Dec (bit w i ≡ 0) → (bit w i ≡ 0) ⊎ (bit w i ≡ 1)
-    go (yes e) = inl e
-    go (no e) = inr (omega arith)
+bit-cases w i = grind (arith, common_steps)
 
 -- ---- the mask and the values of a path
 pub record Mask (care values : ℕ) : Type 0 where
@@ -108,10 +97,7 @@ agree-match w care values m a = same_bits 16 (bit_and w care) values (omega (ari
         (λ (o : bit care i ≡ 1). omega (arith, a.agrees i o)) (bit-cases care i)
 
 pub clash-match : (w care values : ℕ) → Clash w care values → bit_and w care ≡ values → ⊥
-clash-match w care values k e =
-    let i : ℕ = k.place in
-    let p : bit values i ≡ min (bit w i) (bit care i) = ap (λ (x : ℕ). bit x i) (sym e) ∙ bit-and w care i in
-    k.differs (omega (arith, p, k.cares))
+clash-match w care values k e = grind (arith, common_steps, bit-and)
 
 pub mask-none : Mask 0 0
 mask-none = record { small = pow_pos 16; low = pow_pos 16; within = λ i e. e }
@@ -122,67 +108,30 @@ agree-none w = record { agrees = λ i e. absurd (omega (arith, bit-none i)) }
 module _ (care values i : ℕ) (free : bit care i ≡ 0) (m : Mask care values) where
   -- the 0 side keeps the values, the 1 side adds the bit
   pub mask-0 : i ≤ 15 → Mask (care + 2 ^ i) values
-  mask-0 l = record { small = add_small care i free m.small l; low = m.low; within = λ j e. go j e (ℕ_discrete i j) }
-    where
-      go : (j : ℕ) → bit (care + 2 ^ i) j ≡ 0 → Dec (i ≡ j) → bit values j ≡ 0
-      go j e (yes q) = subst (λ (n : ℕ). bit values n ≡ 0) q (m.within i free)
-      go j e (no q) = m.within j (sym (bit-add-other care i j free q) ∙ e)
+  mask-0 l = grind (arith, common_steps, bit-add-other, add_small)
 
   pub mask-1 : i ≤ 15 → Mask (care + 2 ^ i) (values + 2 ^ i)
-  mask-1 l = record {
-    small = add_small care i free m.small l;
-    low =
-        add_small values i (m.within i free) m.low l;
-    within = λ j e. go j e (ℕ_discrete i j);
-  }
-    where
-      go : (j : ℕ) → bit (care + 2 ^ i) j ≡ 0 → Dec (i ≡ j) → bit (values + 2 ^ i) j ≡ 0
-      go j e (yes q) =
-          let f : bit (care + 2 ^ i) j ≡ 1 = subst (λ (n : ℕ). bit (care + 2 ^ i) n ≡ 1) q (bit-add-same care i free) in
-          absurd (omega arith)
-      go j e (no q) = bit-add-other values i j (m.within i free) q ∙ m.within j (sym (bit-add-other care i j free q) ∙ e)
+  mask-1 l = grind (arith, common_steps, bit-add-same, bit-add-other, add_small)
 
   pub agree-0 : (w : ℕ) → Agree w care values → bit w i ≡ 0 → Agree w (care + 2 ^ i) values
-  agree-0 w a z = record { agrees = λ j e. go j e (ℕ_discrete i j) }
-    where
-      go : (j : ℕ) → bit (care + 2 ^ i) j ≡ 1 → Dec (i ≡ j) → bit w j ≡ bit values j
-      go j e (yes q) = subst (λ (n : ℕ). bit w n ≡ bit values n) q (z ∙ sym (m.within i free))
-      go j e (no q) = a.agrees j (sym (bit-add-other care i j free q) ∙ e)
+  agree-0 w a z = grind (arith, common_steps, bit-add-other)
 
   pub agree-1 : (w : ℕ) → Agree w care values → bit w i ≡ 1 → Agree w (care + 2 ^ i) (values + 2 ^ i)
-  agree-1 w a o = record { agrees = λ j e. go j e (ℕ_discrete i j) }
-    where
-      go : (j : ℕ) → bit (care + 2 ^ i) j ≡ 1 → Dec (i ≡ j) → bit w j ≡ bit (values + 2 ^ i) j
-      go j e (yes q) = subst (λ (n : ℕ). bit w n ≡ bit (values + 2 ^ i) n) q (o ∙ sym (bit-add-same values i (m.within i free)))
-      go j e (no q) = a.agrees j (sym (bit-add-other care i j free q) ∙ e) ∙ sym (bit-add-other values i j (m.within i free) q)
+  agree-1 w a o = grind (arith, common_steps, bit-add-same, bit-add-other)
 
   -- a clash stays one
   apart : (j : ℕ) → bit care j ≡ 1 → i ≡ j → ⊥
   apart j o q = let z : bit care j ≡ 0 = subst (λ (n : ℕ). bit care n ≡ 0) q free in omega arith
 
   pub clash-0 : (w : ℕ) → Clash w care values → Clash w (care + 2 ^ i) values
-  clash-0 w k = record {
-    place = k.place;
-    cares = bit-add-other care i k.place free (apart k.place k.cares)
-        ∙ k.cares;
-    differs = k.differs;
-  }
+  clash-0 w k = grind (arith, common_steps, bit-add-other, apart)
 
   pub clash-1 : (w : ℕ) → Clash w care values → Clash w (care + 2 ^ i) (values + 2 ^ i)
-  clash-1 w k = record {
-    place = k.place;
-    cares = bit-add-other care i k.place free (apart k.place k.cares) ∙ k.cares;
-    differs = λ e. k.differs (e ∙ bit-add-other values i k.place (m.within i free) (apart k.place k.cares));
-  }
+  clash-1 w k = grind (arith, common_steps, bit-add-other, apart)
 
   -- the side that the word does not take
   pub clash-here-0 : (w : ℕ) → bit w i ≡ 1 → Clash w (care + 2 ^ i) values
   clash-here-0 w o = record { place = i; cares = bit-add-same care i free; differs = λ e. omega (arith, m.within i free) }
 
   pub clash-here-1 : (w : ℕ) → bit w i ≡ 0 → Clash w (care + 2 ^ i) (values + 2 ^ i)
-  clash-here-1 w z = record {
-    place = i;
-    cares = bit-add-same care i free;
-    differs =
-        λ e. omega (arith, bit-add-same values i (m.within i free));
-  }
+  clash-here-1 w z = grind (arith, common_steps, bit-add-same)

@@ -1,11 +1,7 @@
 -- One condition more in a care mask: the mask stays below 2 ^ k, the values stay within it.
-use Prim.Native.Nat.{ℕ, zero, suc, ◌+◌, ◌/◌, ◌%◌, ◌^◌, ◌≤◌, ◌<◌, min}
-use mathlib.Core.Path.{◌≡◌, sym, ◌∙◌, ap, ap₂}
-use native.Mathlib.Nat.{pow-suc}
-use native.Mathlib.Numerals.{one-add}
-use native.Mathlib.Omega.{arith}
-use lib.Bits.{bit_and, and_step}
-use lib.Pow.{shr-shr}
+use Rattle.std.proofs.Common.{ℕ, zero, suc, ◌+◌, ◌/◌, ◌%◌, ◌^◌, ◌≤◌, ◌<◌, ◌≡◌, sym, ◌∙◌, ap, ap₂, pow-suc, one-add, arith, bit_and, shr-shr}
+use lib.Bits.{and_step}
+use Rattle.std.proofs.lemmas.Grind.{common_steps}
 use Rattle.words.specs.bits.Word.{bit}
 use Rattle.words.proofs.bits.BitLaws.{bit-zero, bit-and}
 
@@ -63,6 +59,4 @@ more-within-1 (suc a) v c n e =
 
 -- what the mask lacks the values lack
 pub within-lacks : (a v c : ℕ) → bit_and v c ≡ v → (bit c a ≡ 1 → ⊥) → bit v a ≡ 0
-within-lacks a v c e n =
-    let p : bit v a ≡ min (bit v a) (bit c a) = ap (λ (x : ℕ). bit x a) (sym e) ∙ bit-and v c a in
-    omega (arith, p)
+within-lacks a v c e n = grind (arith, common_steps, bit-and)

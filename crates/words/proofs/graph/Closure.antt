@@ -1,14 +1,9 @@
 -- As many rounds as there are nodes give the least set of marks that no arc leaves.
-use mathlib.Core.Path.{◌≡◌, refl, sym, ◌∙◌, ap, subst}
-use mathlib.Core.Logic.{◌⊎◌, inl, inr, ⊎_elim}
-use mathlib.Core.Bool.{Bool, true, false, ◌&&◌, ◌||◌}
-use mathlib.Core.List.{List, map}
-use Prim.Native.Nat.{ℕ, zero, suc, ◌≤◌, ◌<◌}
-use native.Mathlib.Nat.{zero-add}
-use native.Mathlib.Decide.{dec_le, dec_lt}
-use native.Mathlib.Omega.{arith}
-use lib.ListN.{length, get_or-eq_default}
-use lib.Seq.{ext_get_or}
+use Rattle.std.proofs.Common.{◌≡◌, refl, sym, ◌∙◌, ap, subst, ◌⊎◌, inl, inr, ⊎_elim, Bool, true, false, ◌&&◌, ◌||◌, List, map, ℕ, zero, suc}
+use Rattle.std.proofs.Common.{◌≤◌, ◌<◌, zero-add, arith, length, ext_get_or}
+use Rattle.std.proofs.Math.Decide.{dec_le, dec_lt}
+use Rattle.std.proofs.Math.ListN.{get_or-eq_default}
+use Rattle.std.proofs.lemmas.Grind.{common_steps}
 use Rattle.words.specs.lists.Numbers.{range, any, count}
 use Rattle.words.proofs.lists.Tests.{no_both, or_cases, or-true-l, or_true_r, and_l, and_r, and-true}
 use Rattle.words.proofs.lists.Searches.{any-true, any_some}
@@ -22,11 +17,7 @@ marks-at f n v l = get_or-map-range f false 0 n v l ∙ ap f (zero-add v)
 
 -- a mark stands below the length
 pub marked-below : (n : ℕ) (ms : List Bool) (v : ℕ) → length ms ≡ n → is_marked ms v ≡ true → v < n
-marked-below n ms v e t = go (dec_lt v n)
-  where
-    go : Dec (v < n) → v < n
-    go (yes l) = l
-    go (no l) = no_both (is_marked ms v) t (get_or-eq_default ms false {n = v} (omega arith))
+marked-below n ms v e t = grind (arith, common_steps, get_or-eq_default, no_both, dec_lt)
 
 pub only-long : (n : ℕ) (vs : List ℕ) → length (only_marks n vs) ≡ n
 only-long n vs = length-map-range (λ v. is_member v vs) 0 n
@@ -61,22 +52,7 @@ module _ (n : ℕ) (arcs : ℕ → List ℕ) where
     pub leads : is_member v (arcs node) ≡ true
 
   pub spread-back : (ms : List Bool) (v : ℕ) → is_marked (spread n arcs ms) v ≡ true → (v < n) × ((is_marked ms v ≡ true) ⊎ Before ms v)
-  spread-back ms v m =
-      let l : v < n = marked-below n (spread n arcs ms) v (spread-long ms) m in (
-        l,
-        ⊎_elim inl
-            (λ (x : any (from ms v) 0 n ≡ true).
-            let r = any_some (from ms v) 0 n x in
-            let u : ℕ = r.0 in
-            inr (record {
-              node = u;
-              inside = omega (arith, r.2);
-              was = and_l (is_marked ms u) (is_member v (arcs u)) r.3;
-              leads =
-                  and_r (is_marked ms u) (is_member v (arcs u)) r.3;
-            }))
-            (or_cases (is_marked ms v) (any (from ms v) 0 n) (sym (spread_at ms v l) ∙ m)),
-      )
+  spread-back ms v m = grind (arith, common_steps, and_l, and_r, or_cases, any_some, marked-below, spread_at, spread-long)
 
   -- ---- all rounds
   -- a test that goes on over every arc
@@ -120,20 +96,8 @@ module _ (n : ℕ) (arcs : ℕ → List ℕ) where
   -- each round adds a node, or no later one does
   progress : (ms : List Bool) → length ms ≡ n → (k : ℕ)
       → (spread n arcs (reach n arcs k ms) ≡ reach n arcs k ms) ⊎ (k ≤ many (reach n arcs k ms))
-  progress ms e zero = inr (omega arith)
-  progress ms e (suc k) =
-      ⊎_elim (λ f. inl (same f))
-      (λ (h : k ≤ many (reach n arcs k ms)). go h (dec_le (many (spread n arcs (reach n arcs k ms))) (many (reach n arcs k ms))))
-      (progress ms e k)
-    where
-      same : spread n arcs (reach n arcs k ms) ≡ reach n arcs k ms → spread n arcs (reach n arcs (suc k) ms) ≡ reach n arcs (suc k) ms
-      same f = ap (λ (t : List Bool). spread n arcs t) (reach-suc k ms ∙ f) ∙ sym (reach-suc k ms)
-
-      go : k ≤ many (reach n arcs k ms) → Dec (many (spread n arcs (reach n arcs k ms)) ≤ many (reach n arcs k ms))
-          → (spread n arcs (reach n arcs (suc k) ms) ≡ reach n arcs (suc k) ms) ⊎ (suc k ≤ many (reach n arcs (suc k) ms))
-      go h (yes l) = inl (same (same-marks (reach n arcs k ms) (reach-long k ms e) l))
-      go h (no l) = let q : many (reach n arcs (suc k) ms) ≡ many (spread n arcs (reach n arcs k ms)) =
-          ap (λ (t : List Bool). many t) (reach-suc k ms) in inr (omega arith)
+  progress ms e zero = grind (arith, common_steps)
+  progress ms e (suc k) = grind (arith, common_steps, progress ms e k, dec_le, reach-long, same-marks, reach-suc)
 
   pub reach-fixed : (ms : List Bool) → length ms ≡ n → spread n arcs (reach n arcs n ms) ≡ reach n arcs n ms
   reach-fixed ms e =
@@ -164,5 +128,4 @@ module _ (n : ℕ) (arcs : ℕ → List ℕ) where
 
     pub joined-least : (t : ℕ → Bool) → Closed t → ((v : ℕ) → v < n → is_member v vs ≡ true → t v ≡ true)
         → (v : ℕ) → is_marked (nodes_joined_from n arcs vs) v ≡ true → t v ≡ true
-    joined-least t c h = reach-least t c n (only_marks n vs)
-        (λ v m. let l : v < n = marked-below n (only_marks n vs) v (only-long n vs) m in h v l (sym (only_at n vs v l) ∙ m))
+    joined-least t c h = grind (arith, common_steps, marked-below, only-long, only_at, reach-least)

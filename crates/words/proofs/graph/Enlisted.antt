@@ -1,15 +1,10 @@
 -- Nodes that are enlisted: each is marked, the first of the list are the marked ones, and what stood there stays.
-use mathlib.Core.Path.{◌≡◌, refl, sym, ◌∙◌, ap, subst}
-use mathlib.Core.Logic.{◌⊎◌, inl, inr, ⊎_elim}
-use mathlib.Core.Bool.{Bool, true, false, not}
-use mathlib.Core.List.{List, [], ◌∷◌}
-use Prim.Native.Nat.{ℕ, ◌+◌, ◌≤◌, ◌<◌}
-use native.Mathlib.Decide.{ℕ_discrete}
-use native.Mathlib.Omega.{arith}
-use lib.Dec.{ltb}
-use lib.ListN.{length, get_or, set, replicate, length-set, length-replicate}
-use lib.Seq.{set_out, set-get_or, get_or-set_same, get_or-set_other}
-use borrow.Author.Tests.{ltb-true, lt-ltb, le-ltb}
+use Rattle.std.proofs.Common.{◌≡◌, refl, sym, ◌∙◌, ap, subst, ◌⊎◌, inl, inr, ⊎_elim, Bool, true, false, not, List, [], ◌∷◌, ℕ, ◌+◌, ◌≤◌}
+use Rattle.std.proofs.Common.{◌<◌, arith, ltb, length, get_or, set, replicate, length-set, get_or-set_same, get_or-set_other, ltb-true}
+use Rattle.std.proofs.Common.{lt-ltb, le-ltb}
+use Rattle.std.proofs.Math.ListN.{length-replicate}
+use Rattle.std.proofs.Math.Seq.{set_out, set-get_or}
+use Rattle.std.proofs.lemmas.Grind.{common_steps}
 use Rattle.words.proofs.lists.Tests.{no_both, and_l, and_r, and-true, and_no, not-true, cases, split}
 use Rattle.words.proofs.lists.Counts.{count-le}
 use Rattle.words.specs.graph.Reach.{is_marked, only_marks}
@@ -19,20 +14,14 @@ use Rattle.words.proofs.graph.Lists.{Longer, longer-same, longer-on, listed-none
 
 -- ---- the first k of a list and one more
 among-more : (list : List ℕ) (k v : ℕ) (x : ℕ) → Among list k v → Among (set list k x) (k + 1) v
-among-more list k v x a =
-    let l : a.place < k = a.inside in
-    record { place = a.place; inside = omega arith; found = get_or-set_other list k a.place x 0 (λ e. omega arith) ∙ a.found }
+among-more list k v x a = grind (arith, common_steps, get_or-set_other)
 
 among-last : (list : List ℕ) (k v : ℕ) → k < length list → Among (set list k v) (k + 1) v
 among-last list k v l = record { place = k; inside = omega arith; found = get_or-set_same list k v 0 l }
 
 last_or : (list : List ℕ) (k x : ℕ) (p : ℕ → Bool) → k < length list → p x ≡ true → ((i : ℕ) → i < k → p (get_or list i 0) ≡ true)
     → (i : ℕ) → i < k + 1 → p (get_or (set list k x) i 0) ≡ true
-last_or list k x p l m h i b = go (ℕ_discrete i k)
-  where
-    go : Dec (i ≡ k) → p (get_or (set list k x) i 0) ≡ true
-    go (yes e) = ap (λ (j : ℕ). p (get_or (set list k x) j 0)) e ∙ ap p (get_or-set_same list k x 0 l) ∙ m
-    go (no e) = ap p (get_or-set_other list k i x 0 e) ∙ h i (omega arith)
+last_or list k x p l m h i b = grind (arith, common_steps, get_or-set_other, get_or-set_same)
 
 -- ---- one mark more
 module _ (ms : List Bool) (u : ℕ) where
@@ -47,12 +36,7 @@ module _ (ms : List Bool) (u : ℕ) where
   mark-there m = and_no (ltb u (length ms)) (not (is_marked ms u)) (rw m)
 
   pub mark-same : is_unmarked ms u ≡ false → set ms u true ≡ ms
-  mark-same f = go (split u (length ms)) (cases (is_marked ms u))
-    where
-      go : (u < length ms) ⊎ (length ms ≤ u) → (is_marked ms u ≡ true) ⊎ (is_marked ms u ≡ false) → set ms u true ≡ ms
-      go (inr l) m = set_out ms u true l
-      go (inl l) (inl m) = ap (λ (b : Bool). set ms u b) (sym m) ∙ set-get_or ms u false
-      go (inl l) (inr m) = no_both (is_unmarked ms u) (mark-new l m) f
+  mark-same f = grind (arith, common_steps, set_out, set-get_or, no_both, split, cases, mark-new)
 
   module _ (k : ℕ) (counted : k ≡ many ms) (new : is_unmarked ms u ≡ true) where
     below : u < length ms
@@ -94,11 +78,7 @@ module _ (s : Listing) (u : ℕ) where
   enlist-same t = simp (t, mark-same s.marks u t)
 
   pub enlist-counted : (t : Listing) → t ≡ enlist s u → s.count ≡ many s.marks → t.count ≡ many t.marks
-  enlist-counted t q e = subst (λ (x : Listing). x.count ≡ many x.marks) (sym q) (go (cases (is_unmarked s.marks u)))
-    where
-      go : (is_unmarked s.marks u ≡ true) ⊎ (is_unmarked s.marks u ≡ false) → (enlist s u).count ≡ many (enlist s u).marks
-      go (inl n) = subst (λ (x : Listing). x.count ≡ many x.marks) (sym (enlist-new n)) (list_counted s.marks u s.count e n)
-      go (inr n) = subst (λ (x : Listing). x.count ≡ many x.marks) (sym (enlist-same n)) e
+  enlist-counted t q e = grind (arith, common_steps, cases, list_counted, enlist-new, enlist-same)
 
 -- nodes are enlisted one after the other: they are marked, the list has the marked nodes, and it goes on
 pub record Enlisted (s : Listing) (us : List ℕ) (t : Listing) : Type 0 where

@@ -1,12 +1,8 @@
 -- Marked nodes in a list: what is followed in the order of the list, as far as it goes, has no arc that leaves the marks.
-use mathlib.Core.Path.{◌≡◌, refl, sym, ◌∙◌, ap, subst}
-use mathlib.Core.Logic.{⊎_elim}
-use mathlib.Core.Bool.{Bool, true, false}
-use mathlib.Core.List.{List}
-use Prim.Native.Nat.{ℕ, ◌+◌, ◌≤◌, ◌<◌}
-use native.Mathlib.Decide.{ℕ_discrete}
-use native.Mathlib.Omega.{arith}
-use lib.ListN.{length, get_or, replicate, length-replicate, get_or-replicate}
+use Rattle.std.proofs.Common.{◌≡◌, refl, sym, ◌∙◌, ap, subst, ⊎_elim, Bool, true, false, List, ℕ, ◌+◌, ◌≤◌, ◌<◌, arith, length, get_or}
+use Rattle.std.proofs.Common.{replicate}
+use Rattle.std.proofs.Math.ListN.{length-replicate, get_or-replicate}
+use Rattle.std.proofs.lemmas.Grind.{common_steps}
 use Rattle.words.proofs.lists.Tests.{no_both}
 use Rattle.words.proofs.lists.Counts.{count-le, count_none}
 use Rattle.words.specs.graph.Reach.{is_member, is_marked}
@@ -24,21 +20,11 @@ pub longer-same : (list : List ℕ) (k : ℕ) → Longer list list k k
 longer-same list k = record { more = omega arith; kept = λ i l. refl }
 
 pub longer-on : (a b d : List ℕ) (i j k : ℕ) → Longer a b i j → Longer b d j k → Longer a d i k
-longer-on a b d i j k x y =
-    let p : i ≤ j = x.more in
-    let q : j ≤ k = y.more in
-    record { more = omega arith; kept = λ m l. y.kept m (omega arith) ∙ x.kept m l }
+longer-on a b d i j k x y = grind (arith, common_steps)
 
 -- ---- no mark
 pub listed-none : (n : ℕ) (list : List ℕ) → Listed (replicate n false) list 0
-listed-none n list =
-    let long : length (replicate n false) ≡ n = length-replicate n false in
-    let none : (v : ℕ) → v < n → is_marked (replicate n false) v ≡ false = λ v l. get_or-replicate n v false false l in
-    record {
-      counted = sym (count_none (is_marked (replicate n false)) 0 (length (replicate n false)) (λ k a b. none k (omega arith)));
-      are = λ i l. absurd (omega arith);
-      all = λ v m. no_both (is_marked (replicate n false) v) m (none v (marked-below n (replicate n false) v long m));
-    }
+listed-none n list = grind (arith, common_steps, get_or-replicate, no_both, marked-below, count_none, length-replicate)
 
 module _ (ms : List Bool) (list : List ℕ) (k : ℕ) (is : Listed ms list k) where
   pub list-node : (i : ℕ) → i < k → get_or list i 0 < length ms
@@ -60,17 +46,7 @@ module _ (n : ℕ) (arcs : ℕ → List ℕ) where
   pub followed-more : (ms out : List Bool) (list on : List ℕ) (i k j : ℕ) → length ms ≡ n → i < k
       → Longer list on k j → out ≡ mark_all (arcs (get_or list i 0)) ms
       → Followed n arcs ms list i → Followed n arcs out on (i + 1)
-  followed-more ms out list on i k j e b longer o f = record { led = λ m l v lv s. go m l v lv s (ℕ_discrete m i) }
-    where
-      go : (m : ℕ) → m < i + 1 → (v : ℕ) → v < n → is_member v (arcs (get_or on m 0)) ≡ true → Dec (m ≡ i) → is_marked out v ≡ true
-      go m l v lv s (yes q) =
-          let t : is_member v (arcs (get_or list i 0)) ≡ true =
-          ap (λ (x : ℕ). is_member v (arcs x)) (sym (ap (λ (x : ℕ). get_or on x 0) q ∙ longer.kept i b)) ∙ s in
-          ap (λ (xs : List Bool). is_marked xs v) o ∙ all-hit (arcs (get_or list i 0)) ms v (omega arith) t
-      go m l v lv s (no q) =
-          let t : is_member v (arcs (get_or list m 0)) ≡ true =
-          ap (λ (x : ℕ). is_member v (arcs x)) (sym (longer.kept m (omega arith))) ∙ s in
-          ap (λ (xs : List Bool). is_marked xs v) o ∙ all-grow (arcs (get_or list i 0)) ms v (f.led m (omega arith) v lv t)
+  followed-more ms out list on i k j e b longer o f = grind (arith, common_steps, all-hit, all-grow)
 
   pub followed-closed : (ms : List Bool) (list : List ℕ) (k : ℕ) → Listed ms list k → Followed n arcs ms list k
       → Closed n arcs (is_marked ms)

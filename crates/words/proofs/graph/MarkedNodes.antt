@@ -1,12 +1,8 @@
 -- The marked nodes in a list, the lowest first, as a loop over the nodes writes them.
-use mathlib.Core.Path.{◌≡◌, refl, sym, ◌∙◌, ap}
-use mathlib.Core.Bool.{Bool, true, false}
-use mathlib.Core.List.{List, [], ◌∷◌, ◌++◌, append-nil, map-id}
-use Prim.Native.Nat.{ℕ, ◌+◌, ◌≤◌, ◌<◌}
-use native.Mathlib.Nat.{zero-add}
-use native.Mathlib.Numerals.{add-one}
-use native.Mathlib.Omega.{arith}
-use lib.ListN.{length, get_or, set, drop, length-set, get_or-append}
+use Rattle.std.proofs.Common.{◌≡◌, refl, sym, ◌∙◌, ap, Bool, true, false, List, [], ◌∷◌, ◌++◌, append-nil, map-id, ℕ, ◌+◌, ◌≤◌, ◌<◌}
+use Rattle.std.proofs.Common.{zero-add, add-one, arith, length, get_or, set, drop, length-set}
+use Rattle.std.proofs.Math.ListN.{get_or-append}
+use Rattle.std.proofs.lemmas.Grind.{common_steps}
 use Rattle.words.specs.lists.Numbers.{range, count}
 use Rattle.words.specs.lists.Sequences.{filter, over, written, All}
 use Rattle.words.proofs.lists.Counts.{count-le, count-below, count_yes, count-pass}
@@ -27,10 +23,7 @@ lower_long ms v = length-filter (is_marked ms) 0 v
 
 -- one node more
 lower-more : (ms : List Bool) (v : ℕ) → lower ms (v + 1) ≡ lower ms v ++ filter (is_marked ms) (v ∷ [])
-lower-more ms v =
-    ap (λ (k : ℕ). lower ms k) (add-one v) ∙ ap (λ (us : List ℕ). filter (is_marked ms) us) (range_snoc 0 v)
-    ∙ filter-append (is_marked ms) (range 0 v) ((0 + v) ∷ [])
-    ∙ ap (λ (u : ℕ). lower ms v ++ filter (is_marked ms) (u ∷ [])) (zero-add v)
+lower-more ms v = grind (arith, common_steps, range_snoc, zero-add, add-one, filter-append)
 
 lower-yes : (ms : List Bool) (v : ℕ) → is_marked ms v ≡ true → lower ms (v + 1) ≡ lower ms v ++ (v ∷ [])
 lower-yes ms v m = lower-more ms v
@@ -77,11 +70,7 @@ pub record Writing (ms : List Bool) (old list : List ℕ) (k v : ℕ) : Type 0 w
 
 pub writing-none : (ms : List Bool) (old : List ℕ) → Writing ms old old 0 0
 unfolding count
-writing-none ms old = record {
-  size = refl;
-  counted = refl;
-  buffer = sym (ap (λ (us : List ℕ). written old 0 us) (filter_none (is_marked ms)) ∙ written_none old 0);
-}
+writing-none ms old = grind (arith, common_steps, filter_none, written_none)
 
 module _ (ms : List Bool) (old list : List ℕ) (k v : ℕ) (is : Writing ms old list k v) where
   pub writing-few : k ≤ v
@@ -99,14 +88,7 @@ module _ (ms : List Bool) (old list : List ℕ) (k v : ℕ) (is : Writing ms old
       }
 
   pub writing-no : is_marked ms v ≡ false → Writing ms old list k (v + 1)
-  writing-no m = record {
-    size = is.size;
-    counted = is.counted ∙ sym (count-pass (is_marked ms) v m);
-    buffer = is.buffer ∙ ap (λ (us : List ℕ). written old 0 us) (sym (lower-no ms v m));
-  }
+  writing-no m = grind (arith, common_steps, count-pass, lower-no)
 
   pub writing-done : v ≡ length ms → (list ≡ over (marked_nodes ms) old) × (k ≡ many ms)
-  writing-done e = (
-    is.buffer ∙ written-front old (lower ms v) ∙ ap (λ (j : ℕ). over (lower ms j) old) e,
-    is.counted ∙ ap (λ (j : ℕ). count (is_marked ms) 0 j) e,
-  )
+  writing-done e = grind (arith, common_steps, written-front)

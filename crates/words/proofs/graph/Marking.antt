@@ -1,15 +1,8 @@
 -- Marks set one after the other: between those at first and all that arcs join from them, until no arc leaves the set.
-use mathlib.Core.Path.{◌≡◌, refl, sym, ◌∙◌, ap, subst}
-use mathlib.Core.Logic.{◌⊎◌, inl, inr, ⊎_elim}
-use mathlib.Core.Bool.{Bool, true, false}
-use mathlib.Core.List.{List, [], ◌∷◌}
-use Prim.Native.Nat.{ℕ, ◌+◌, ◌<◌}
-use native.Mathlib.Decide.{ℕ_discrete}
-use native.Mathlib.Omega.{arith}
-use lib.Dec.{eqb}
-use lib.ListN.{length, set, replicate, length-set, length-replicate, get_or-replicate}
-use lib.Seq.{ext_get_or, get_or-set_same, get_or-set_other}
-use borrow.Author.Tests.{eqb-true, eq-eqb}
+use Rattle.std.proofs.Common.{◌≡◌, refl, sym, ◌∙◌, ap, subst, ◌⊎◌, inl, inr, ⊎_elim, Bool, true, false, List, [], ◌∷◌, ℕ, ◌+◌, ◌<◌, arith}
+use Rattle.std.proofs.Common.{eqb, length, set, replicate, length-set, ext_get_or, get_or-set_same, get_or-set_other, eqb-true, eq-eqb}
+use Rattle.std.proofs.Math.ListN.{length-replicate, get_or-replicate}
+use Rattle.std.proofs.lemmas.Grind.{common_steps}
 use Rattle.words.specs.lists.Numbers.{count}
 use Rattle.words.specs.lists.Sequences.{some}
 use Rattle.words.proofs.lists.Tests.{no_both, or_cases, or-true-l, or_true_r, cases}
@@ -24,19 +17,10 @@ module _ (ms : List Bool) (u : ℕ) where
   set-hit l = get_or-set_same ms u true false l
 
   pub set-grow : (v : ℕ) → is_marked ms v ≡ true → is_marked (set ms u true) v ≡ true
-  set-grow v m = go (ℕ_discrete v u)
-    where
-      go : Dec (v ≡ u) → is_marked (set ms u true) v ≡ true
-      go (yes e) = subst (λ (k : ℕ). is_marked (set ms u true) k ≡ true) (sym e)
-          (set-hit (subst (λ (k : ℕ). k < length ms) e (marked-below (length ms) ms v refl m)))
-      go (no e) = get_or-set_other ms u v true false e ∙ m
+  set-grow v m = grind (arith, common_steps, get_or-set_other, marked-below, set-hit)
 
   pub set_back : (v : ℕ) → is_marked (set ms u true) v ≡ true → (v ≡ u) ⊎ (is_marked ms v ≡ true)
-  set_back v m = go (ℕ_discrete v u)
-    where
-      go : Dec (v ≡ u) → (v ≡ u) ⊎ (is_marked ms v ≡ true)
-      go (yes e) = inl e
-      go (no e) = inr (sym (get_or-set_other ms u v true false e) ∙ m)
+  set_back v m = grind (arith, common_steps, get_or-set_other)
 
   pub set-many : u < length ms → is_marked ms u ≡ false → many (set ms u true) ≡ many ms + 1
   set-many l m =

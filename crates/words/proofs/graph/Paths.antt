@@ -1,9 +1,5 @@
 -- What marks mean, with no rounds in it: a node is marked exactly where a path of arcs leads to it.
-use mathlib.Core.Path.{◌≡◌, sym, ◌∙◌}
-use mathlib.Core.Logic.{◌⊎◌, inl, inr}
-use mathlib.Core.Bool.{true}
-use mathlib.Core.List.{List}
-use Prim.Native.Nat.{ℕ, zero, suc, ◌<◌}
+use Rattle.std.proofs.Common.{◌≡◌, sym, ◌∙◌, ◌⊎◌, inl, inr, true, List, ℕ, zero, suc, ◌<◌}
 use Rattle.words.specs.graph.Reach.{is_marked, only_marks, reach, nodes_joined_from}
 use Rattle.words.specs.graph.Paths.{Arc, Path, here, on, PathFrom}
 use Rattle.words.proofs.graph.Closure.{marked-below, only-long, only_at, Before, spread-back, joined-first, joined-closed}

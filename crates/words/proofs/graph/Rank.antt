@@ -1,12 +1,5 @@
 -- The rank of a node: how many nodes its arcs join to it, itself counted. It falls along each arc of a node on no circle.
-use mathlib.Core.Path.{◌≡◌, refl, subst}
-use mathlib.Core.Logic.{⊎_elim}
-use mathlib.Core.Bool.{Bool, true, false, ◌||◌}
-use mathlib.Core.List.{List}
-use Prim.Native.Nat.{ℕ, ◌≤◌, ◌<◌}
-use native.Mathlib.Omega.{arith}
-use lib.Dec.{eqb}
-use borrow.Author.Tests.{eqb-true, eq-eqb, ne_eqb}
+use Rattle.std.proofs.Common.{◌≡◌, refl, subst, ⊎_elim, Bool, true, false, ◌||◌, List, ℕ, ◌≤◌, ◌<◌, arith, eqb, eqb-true, eq-eqb, ne_eqb}
 use Rattle.words.specs.lists.Numbers.{count}
 use Rattle.words.proofs.lists.Tests.{no_both, or_cases, or-true-l, or_true_r, or-none, cases}
 use Rattle.words.proofs.lists.Counts.{count-le, count_less, count-some}

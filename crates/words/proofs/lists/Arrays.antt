@@ -1,11 +1,7 @@
 -- Loops that fill an array held by value, one element after the other.
-use mathlib.Core.Path.{◌≡◌, sym, ◌∙◌, ap}
-use mathlib.Core.List.{List, map}
-use Prim.Native.Nat.{ℕ, ◌+◌, ◌≤◌, ◌<◌}
-use native.Mathlib.Omega.{arith}
-use borrow.Author.Count.{below_more}
-use lib.ListN.{length, get_or, set, length-set}
-use lib.Seq.{get_or-set_same, get_or-set_other, ext_get_or}
+use Rattle.std.proofs.Common.{◌≡◌, sym, ◌∙◌, ap, List, map, ℕ, ◌+◌, ◌≤◌, ◌<◌, arith, below_more, length, get_or, set, length-set}
+use Rattle.std.proofs.Common.{get_or-set_same, get_or-set_other, ext_get_or}
+use Rattle.std.proofs.lemmas.Grind.{common_steps}
 use Rattle.words.specs.lists.Numbers.{range}
 use Rattle.words.proofs.lists.Ranges.{length-map-range, get_or-map-range}
 
@@ -20,14 +16,7 @@ module _ {A : Type 0} (f : ℕ → A) (d : A) (n : ℕ) where
   filled_none xs e = record { low = omega arith; size = e; each = λ j h. absurd (omega arith) }
 
   pub filled-turn : (xs : List A) (k : ℕ) (v : A) → Filled f d xs n k → k < n → v ≡ f k → Filled f d (set xs k v) n (k + 1)
-  filled-turn xs k v w h e =
-      record {
-        low = omega arith;
-        size = length-set xs k v ∙ w.size;
-        each = below_more (λ (j : ℕ). get_or (set xs k v) j d ≡ f j) k
-            (λ j g. get_or-set_other xs k j v d (λ q. omega arith) ∙ w.each j g)
-            (get_or-set_same xs k v d (omega arith) ∙ e);
-      }
+  filled-turn xs k v w h e = grind (arith, common_steps, below_more, get_or-set_other, length-set, get_or-set_same)
 
   pub filled-all : (xs : List A) (k : ℕ) → Filled f d xs n k → n ≤ k → xs ≡ map f (range 0 n)
   filled-all xs k w h =

@@ -1,15 +1,8 @@
 -- Laws of how many numbers pass a test.
-use Rattle.std.proofs.Common.{if◌then◌else◌, cond}
-use mathlib.Core.Path.{◌≡◌, refl, sym, ◌∙◌, ap}
-use mathlib.Core.Logic.{⊎_elim}
-use mathlib.Core.Bool.{Bool, true, false, not}
-use Prim.Native.Nat.{ℕ, zero, suc, ◌+◌, ◌-◌, ◌≤◌, ◌<◌}
-use native.Mathlib.Nat.{eq-or-lt_of_le, zero-add, add-zero}
-use native.Mathlib.Numerals.{add-one}
-use native.Mathlib.Decide.{dec_lt}
-use native.Mathlib.Omega.{arith}
-use lib.Dec.{eqb}
-use borrow.Author.Tests.{eq-eqb, ne_eqb}
+use Rattle.std.proofs.Common.{if◌then◌else◌, cond, ◌≡◌, refl, sym, ◌∙◌, ap, ⊎_elim, Bool, true, false, not, ℕ, zero, suc, ◌+◌, ◌-◌, ◌≤◌}
+use Rattle.std.proofs.Common.{◌<◌, eq-or-lt_of_le, zero-add, add-zero, add-one, arith, eqb, eq-eqb, ne_eqb}
+use Rattle.std.proofs.Math.Decide.{dec_lt}
+use Rattle.std.proofs.lemmas.Grind.{common_steps}
 use Rattle.words.specs.lists.Numbers.{lowest, count}
 use Rattle.words.proofs.lists.Tests.{no_both, if-true, if-false}
 use Rattle.words.proofs.lists.Searches.{lowest-past}
@@ -20,35 +13,19 @@ count-suc p i n = refl
 
 pub count-le : (p : ℕ → Bool) (i n : ℕ) → count p i n ≤ n
 unfolding count
-count-le p i zero = omega arith
-count-le p i (suc n) = go (p i) refl (count-le p (suc i) n)
-  where
-    go : (b : Bool) → p i ≡ b → count p (suc i) n ≤ n → (if p i then 1 else 0) + count p (suc i) n ≤ suc n
-    go true e h = rw e (omega arith)
-    go false e h = rw e (omega arith)
+count-le p i zero = grind (arith, common_steps)
+count-le p i (suc n) = grind (arith, common_steps, count-le p (suc i) n)
 
 -- one more at the far end
 pub count-snoc : (p : ℕ → Bool) (i n : ℕ) → count p i (suc n) ≡ count p i n + (if p (i + n) then 1 else 0)
 unfolding count
-count-snoc p i zero =
-    let k : cond {A = ℕ} (p i) 1 0 ≡ (if p (i + 0) then 1 else 0) = ap (λ (k : ℕ). cond {A = ℕ} (p k) 1 0) (omega arith) in
-    omega arith
-count-snoc p i (suc n) =
-    let ih : count p (suc i) (suc n) ≡ count p (suc i) n + (if p (suc i + n) then 1 else 0) = count-snoc p (suc i) n in
-    let k : cond {A = ℕ} (p (suc i + n)) 1 0 ≡ (if p (i + suc n) then 1 else 0) = ap (λ (k : ℕ). cond {A = ℕ} (p k) 1 0) (omega arith) in
-    omega (arith, ih, k)
+count-snoc p i zero = grind (arith, common_steps)
+count-snoc p i (suc n) = grind (arith, common_steps, count-snoc p (suc i) n)
 
 pub count-within : (p q : ℕ → Bool) (i n : ℕ) → ((k : ℕ) → i ≤ k → k < i + n → p k ≡ true → q k ≡ true) → count p i n ≤ count q i n
 unfolding count
-count-within p q i zero h = omega arith
-count-within p q i (suc n) h = go (p i) (q i) refl refl (count-within p q (suc i) n (λ k a b. h k (omega arith) (omega arith)))
-  where
-    go : (a b : Bool) → p i ≡ a → q i ≡ b → count p (suc i) n ≤ count q (suc i) n
-        → (if p i then 1 else 0) + count p (suc i) n ≤ (if q i then 1 else 0) + count q (suc i) n
-    go true true e f l = rw (e, f) (omega arith)
-    go true false e f l = no_both (q i) (h i (omega arith) (omega arith) e) f
-    go false true e f l = rw (e, f) (omega arith)
-    go false false e f l = rw (e, f) (omega arith)
+count-within p q i zero h = grind (arith, common_steps)
+count-within p q i (suc n) h = grind (arith, common_steps, count-within p q (suc i) n (λ k a b. h k (omega arith) (omega arith)), no_both)
 
 -- a test within another that misses one of its numbers
 pub count_less : (p q : ℕ → Bool) (i n : ℕ) → ((k : ℕ) → i ≤ k → k < i + n → p k ≡ true → q k ≡ true)
@@ -144,12 +121,7 @@ count-below p u v l e =
     omega (arith, m, s, t, count-snoc p 0 u)
 
 pub count-apart : (p : ℕ → Bool) (u v : ℕ) → p u ≡ true → p v ≡ true → count p 0 u ≡ count p 0 v → u ≡ v
-count-apart p u v a b e = go (dec_lt u v) (dec_lt v u)
-  where
-    go : Dec (u < v) → Dec (v < u) → u ≡ v
-    go (yes h) k = absurd (omega (arith, count-below p u v h a))
-    go (no h) (yes k) = absurd (omega (arith, count-below p v u k b))
-    go (no h) (no k) = omega arith
+count-apart p u v a b e = grind (arith, common_steps, dec_lt, count-below)
 
 -- one more at a loop's index that passes, or not
 pub count_yes : (p : ℕ → Bool) (n : ℕ) → p n ≡ true → count p 0 (n + 1) ≡ count p 0 n + 1
@@ -166,11 +138,7 @@ count-one p n u v e lu lv a b = count-apart p u v a b (omega (arith, count-below
 
 -- two tests that agree, and two that differ at one number alone
 pub count-alike : (p q : ℕ → Bool) (i n : ℕ) → ((k : ℕ) → i ≤ k → k < i + n → q k ≡ p k) → count q i n ≡ count p i n
-count-alike p q i n h = omega (
-  arith,
-  count-within p q i n (λ k a b t. h k a b ∙ t),
-  count-within q p i n (λ k a b t. sym (h k a b) ∙ t),
-)
+count-alike p q i n h = grind (arith, common_steps, count-within)
 
 pub count_add : (p q : ℕ → Bool) (i n u : ℕ) → i ≤ u → u < i + n → p u ≡ false → q u ≡ true → ((k : ℕ) → (k ≡ u → ⊥) → q k ≡ p k)
     → count q i n ≡ count p i n + 1

@@ -1,9 +1,7 @@
 -- Lists mapped, filtered and joined, by what holds of each element and by ranges of numbers.
-use Prim.Native.Nat.{ℕ, zero, suc, ◌+◌, ◌-◌, ◌≤◌, ◌<◌}
-use mathlib.Core.Bool.{Bool, true, false}
-use mathlib.Core.Path.{◌≡◌, refl, sym, ◌∙◌, ap, ap₂}
-use mathlib.Core.List.{List, [], ◌∷◌, ◌++◌, map, append-nil}
-use native.Mathlib.Omega.{arith}
+use Rattle.std.proofs.Common.{ℕ, zero, suc, ◌+◌, ◌-◌, ◌≤◌, ◌<◌, Bool, true, false, ◌≡◌, refl, ◌∙◌, ap, ap₂, List, [], ◌∷◌, ◌++◌, map}
+use Rattle.std.proofs.Common.{append-nil, arith}
+use Rattle.std.proofs.lemmas.Grind.{common_steps}
 use Rattle.words.specs.lists.Numbers.{range}
 use Rattle.words.specs.lists.Sequences.{filter, concat_map, All}
 use Rattle.words.proofs.lists.Ranges.{map-append, filter-yes, filter-no}
@@ -28,12 +26,8 @@ map-map f g (x ∷ xs) = ap (λ ys. g (f x) ∷ ys) (map-map f g xs)
 
 -- ---- filtered
 pub filter-all : {A : Type 0} (p q : A → Bool) (xs : List A) → All (λ x. p x ≡ q x) xs → filter p xs ≡ filter q xs
-filter-all p q [] a = filter_none p ∙ sym (filter_none q)
-filter-all p q (x ∷ xs) a = go (p x) refl (filter-all p q xs a.1)
-  where
-    go : (t : Bool) → p x ≡ t → filter p xs ≡ filter q xs → filter p (x ∷ xs) ≡ filter q (x ∷ xs)
-    go true e ih = filter-yes p x xs e ∙ ap (λ ys. x ∷ ys) ih ∙ sym (filter-yes q x xs (sym a.0 ∙ e))
-    go false e ih = filter-no p x xs e ∙ ih ∙ sym (filter-no q x xs (sym a.0 ∙ e))
+filter-all p q [] a = grind (arith, common_steps, filter_none)
+filter-all p q (x ∷ xs) a = grind (arith, common_steps, filter-all p q xs a.1, filter-yes, filter-no)
 
 pub filter-own : {A : Type 0} (p : A → Bool) (xs : List A) → All (λ x. p x ≡ true) xs → filter p xs ≡ xs
 filter-own p [] a = filter_none p
@@ -47,10 +41,8 @@ filter-nothing p (x ∷ xs) a = filter-no p x xs a.0 ∙ filter-nothing p xs a.1
 pub filter-concat : {A B C : Type 0} (p : C → Bool) (g : B → C) (h : A → List B) (xs : List A)
     → filter p (map g (concat_map h xs)) ≡ concat_map (λ x. filter p (map g (h x))) xs
 unfolding concat_map
-filter-concat p g h [] = filter_none p
-filter-concat p g h (x ∷ xs) =
-    ap (filter p) (map-append g (h x) (concat_map h xs)) ∙ filter-append p (map g (h x)) (map g (concat_map h xs))
-    ∙ ap (λ ys. filter p (map g (h x)) ++ ys) (filter-concat p g h xs)
+filter-concat p g h [] = grind (arith, common_steps, filter_none)
+filter-concat p g h (x ∷ xs) = grind (arith, common_steps, filter-concat p g h xs, map-append, filter-append)
 
 pub concat-each : {A B : Type 0} (f g : A → List B) → ((x : A) → f x ≡ g x) → (xs : List A) → concat_map f xs ≡ concat_map g xs
 unfolding concat_map

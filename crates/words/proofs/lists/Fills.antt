@@ -1,10 +1,7 @@
 -- Loops that write: one value after the other, or one piece after the other, from a place of a buffer on.
-use mathlib.Core.Path.{◌≡◌, refl, sym, ◌∙◌, ap}
-use mathlib.Core.List.{List, [], ◌∷◌, ◌++◌, map}
-use Prim.Native.Nat.{ℕ, ◌+◌, ◌*◌, ◌≤◌, ◌<◌}
-use native.Mathlib.Numerals.{add-one}
-use native.Mathlib.Omega.{arith}
-use lib.ListN.{length, set, get_or, length-set}
+use Rattle.std.proofs.Common.{◌≡◌, refl, sym, ◌∙◌, ap, List, ◌++◌, map, ℕ, ◌+◌, ◌*◌, ◌≤◌, ◌<◌, add-one, arith, length, set, get_or}
+use Rattle.std.proofs.Common.{length-set}
+use Rattle.std.proofs.lemmas.Grind.{common_steps}
 use Rattle.words.specs.lists.Numbers.{range}
 use Rattle.words.specs.lists.Sequences.{concat_map, written}
 use Rattle.words.proofs.lists.Joins.{concat-range-snoc, length-concat-range}
@@ -23,19 +20,7 @@ module _ (f : ℕ → ℕ) (out₀ : List ℕ) (at n : ℕ) where
 
   pub values-turn : (out : List ℕ) (k v : ℕ) → at + n ≤ length out₀ → ValuesFrom f out₀ out at n k → k < n
       → v ≡ f k → ValuesFrom f out₀ (set out (at + k) v) at n (k + 1)
-  values-turn out k v room w h e =
-      let l : length (map f (range 0 k)) ≡ k = length-map-range f 0 k in
-      let place : at + k ≡ at + length (map f (range 0 k)) = omega arith in
-      let z : f (0 + k) ≡ f k = ap f (omega arith) in
-      record {
-        low = omega arith;
-        size = length-set out (at + k) v ∙ w.size;
-        buffer = ap (λ (o : List ℕ). set o (at + k) v) w.buffer ∙ ap (λ (p : ℕ). set (written out₀ at (map f (range 0 k))) p v) place
-            ∙ written-snoc out₀ at (map f (range 0 k)) v (omega arith)
-            ∙ ap (λ (x : ℕ). written out₀ at (map f (range 0 k) ++ (x ∷ []))) (e ∙ sym z)
-            ∙ ap (λ (vs : List ℕ). written out₀ at vs) (sym (map-range-snoc f 0 k))
-            ∙ ap (λ (j : ℕ). written out₀ at (map f (range 0 j))) (sym (add-one k));
-      }
+  values-turn out k v room w h e = grind (arith, common_steps, length-map-range, length-set, map-range-snoc, written-snoc, add-one)
 
   pub values-all : (out : List ℕ) (k : ℕ) → ValuesFrom f out₀ out at n k → n ≤ k → out ≡ written out₀ at (map f (range 0 n))
   values-all out k w h = let e : k ≡ n = omega arith in w.buffer ∙ ap (λ (j : ℕ). written out₀ at (map f (range 0 j))) e

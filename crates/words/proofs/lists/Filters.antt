@@ -1,12 +1,7 @@
 -- Laws of filters over any elements: over joined lists, where nothing passes, and where just one does.
-use mathlib.Core.Path.{◌≡◌, refl, sym, ◌∙◌, ap, ap₂, subst}
-use mathlib.Core.Logic.{◌⊎◌, inl, inr}
-use mathlib.Core.Bool.{Bool, true, false}
-use mathlib.Core.List.{List, [], ◌∷◌, ◌++◌, append-nil}
-use Prim.Native.Nat.{ℕ, zero, suc, ◌+◌, ◌≤◌, ◌<◌}
-use native.Mathlib.Nat.{eq-or-lt_of_le}
-use native.Mathlib.Omega.{arith}
-use lib.ListN.{length, get_or}
+use Rattle.std.proofs.Common.{◌≡◌, refl, ◌∙◌, ap, ap₂, subst, ◌⊎◌, inl, inr, Bool, true, false, List, [], ◌∷◌, ◌++◌, append-nil, ℕ, zero}
+use Rattle.std.proofs.Common.{suc, ◌+◌, ◌≤◌, ◌<◌, eq-or-lt_of_le, arith, length, get_or}
+use Rattle.std.proofs.lemmas.Grind.{common_steps}
 use Rattle.words.specs.lists.Numbers.{range}
 use Rattle.words.specs.lists.Sequences.{filter, concat_map}
 use Rattle.words.proofs.lists.Tests.{no_both, cases}
@@ -19,13 +14,8 @@ module _ {A : Type 0} (p : A → Bool) where
   filter_none = refl
 
   pub filter-append : (xs ys : List A) → filter p (xs ++ ys) ≡ filter p xs ++ filter p ys
-  filter-append [] ys = ap (λ zs. zs ++ filter p ys) (sym filter_none)
-  filter-append (x ∷ xs) ys = go (filter-append xs ys) (p x) refl
-    where
-      go : filter p (xs ++ ys) ≡ filter p xs ++ filter p ys → (b : Bool) → p x ≡ b
-          → filter p (x ∷ (xs ++ ys)) ≡ filter p (x ∷ xs) ++ filter p ys
-      go ih true e = filter-yes p x (xs ++ ys) e ∙ ap (λ zs. x ∷ zs) ih ∙ ap (λ zs. zs ++ filter p ys) (sym (filter-yes p x xs e))
-      go ih false e = filter-no p x (xs ++ ys) e ∙ ih ∙ ap (λ zs. zs ++ filter p ys) (sym (filter-no p x xs e))
+  filter-append [] ys = grind (arith, common_steps, filter_none)
+  filter-append (x ∷ xs) ys = grind (arith, common_steps, filter-append xs ys, filter-yes, filter-no)
 
   -- nothing is kept, so none passes
   pub none_passes : (d : A) (xs : List A) → length (filter p xs) ≡ 0 → (i : ℕ) → i < length xs → p (get_or xs i d) ≡ false

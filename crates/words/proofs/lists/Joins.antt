@@ -1,12 +1,7 @@
 -- Laws of joined lists, and of what holds of every element.
-use mathlib.Core.Path.{◌≡◌, refl, sym, ◌∙◌, ap, ap₂, subst}
-use mathlib.Core.Bool.{Bool, true, false}
-use mathlib.Core.List.{List, [], ◌∷◌, ◌++◌, map, append_assoc, append-nil}
-use Prim.Native.Nat.{ℕ, zero, suc, ◌+◌, ◌*◌, ◌≤◌, ◌<◌}
-use native.Mathlib.Nat.{mul-suc, mul-zero}
-use native.Mathlib.Omega.{arith}
-use lib.ListN.{length, get_or, length-append, get_or-append}
-use lib.Seq.{get_or-append-add}
+use Rattle.std.proofs.Common.{◌≡◌, refl, sym, ◌∙◌, ap, ap₂, subst, Bool, true, List, [], ◌∷◌, ◌++◌, map, append_assoc, append-nil, ℕ, zero}
+use Rattle.std.proofs.Common.{suc, ◌+◌, ◌*◌, ◌≤◌, ◌<◌, mul-suc, arith, length, get_or, length-append}
+use Rattle.std.proofs.lemmas.Grind.{common_steps}
 use Rattle.words.specs.lists.Numbers.{range}
 use Rattle.words.specs.lists.Sequences.{filter, concat_map, All}
 use Rattle.words.proofs.lists.Ranges.{length-range, get_or-range, range_snoc, range-append}
@@ -75,35 +70,28 @@ concat-split f a m n = ap (concat_map f) (range-append a m n) ∙ concat-append 
 pub concat-alike : {B : Type 0} (f g : ℕ → List B) (a n : ℕ) → ((k : ℕ) → a ≤ k → k < a + n → f k ≡ g k)
     → concat_map f (range a n) ≡ concat_map g (range a n)
 unfolding concat_map
-concat-alike f g a zero h = refl
-concat-alike f g a (suc n) h =
-    ap₂ (λ xs ys. xs ++ ys) (h a (omega arith) (omega arith)) (concat-alike f g (suc a) n (λ k p q. h k (omega arith) (omega arith)))
+concat-alike f g a zero h = grind (arith, common_steps)
+concat-alike f g a (suc n) h = grind (arith, common_steps, concat-alike f g (suc a) n (λ k p q. h k (omega arith) (omega arith)))
 
 -- lists of m elements each
 module _ {A B : Type 0} (f : A → List B) (m : ℕ) where
   pub length-concat : (xs : List A) → All (λ x. length (f x) ≡ m) xs → length (concat_map f xs) ≡ m * length xs
   unfolding concat_map
-  length-concat [] a = omega arith
-  length-concat (x ∷ xs) a =
-      length-append (f x) (concat_map f xs) ∙ omega (arith, a.0, length-concat xs a.1, mul-suc m (length xs))
+  length-concat [] a = grind (arith, common_steps)
+  length-concat (x ∷ xs) a = grind (arith, common_steps, length-concat xs a.1, mul-suc, length-append)
 
   pub get_or-concat : (d : A) (e : B) (xs : List A) → All (λ x. length (f x) ≡ m) xs → (i k : ℕ) → i < length xs → k < m
       → get_or (concat_map f xs) (m * i + k) e ≡ get_or (f (get_or xs i d)) k e
   unfolding concat_map
-  get_or-concat d e [] a i k h l = absurd (omega arith)
-  get_or-concat d e (x ∷ xs) a zero k h l =
-      ap (λ (j : ℕ). get_or (f x ++ concat_map f xs) j e) (omega (arith, mul-zero m))
-      ∙ get_or-append (f x) (concat_map f xs) e k (omega (arith, a.0))
-  get_or-concat d e (x ∷ xs) a (suc i) k h l =
-      ap (λ (j : ℕ). get_or (f x ++ concat_map f xs) j e) (omega (arith, mul-suc m i, a.0))
-      ∙ get_or-append-add (f x) (concat_map f xs) (m * i + k) e ∙ get_or-concat d e xs a.1 i k (omega arith) l
+  get_or-concat d e [] a i k h l = grind (arith, common_steps)
+  get_or-concat d e (x ∷ xs) a zero k h l = grind (arith, common_steps)
+  get_or-concat d e (x ∷ xs) a (suc i) k h l = grind (arith, common_steps, get_or-concat d e xs a.1 i k (omega arith) l)
 
 pub length-concat-range : {B : Type 0} (f : ℕ → List B) (m i n : ℕ) → ((k : ℕ) → length (f k) ≡ m)
     → length (concat_map f (range i n)) ≡ m * n
 unfolding concat_map
-length-concat-range f m i zero h = omega arith
-length-concat-range f m i (suc n) h = length-append (f i) (concat_map f (range (suc i) n))
-    ∙ omega (arith, h i, length-concat-range f m (suc i) n h, mul-suc m n)
+length-concat-range f m i zero h = grind (arith, common_steps)
+length-concat-range f m i (suc n) h = grind (arith, common_steps, length-concat-range f m (suc i) n h, mul-suc, length-append)
 
 -- ---- one more at the far end
 pub concat-range-snoc : {B : Type 0} (f : ℕ → List B) (i n : ℕ) → concat_map f (range i (suc n)) ≡ concat_map f (range i n) ++ f (i + n)
@@ -125,9 +113,5 @@ all-places P d (x ∷ xs) h = (h 0 (omega arith), all-places P d xs (λ i l. h (
 
 pub all_filter : {A : Type 0} (P : A → Type 0) (p : A → Bool) (xs : List A) → All P xs → All (λ x. P x × (p x ≡ true)) (filter p xs)
 unfolding filter
-all_filter P p [] a = tt
-all_filter P p (x ∷ xs) a = go (all_filter P p xs a.1) (p x) refl
-  where
-    go : All (λ x. P x × (p x ≡ true)) (filter p xs) → (b : Bool) → p x ≡ b → All (λ x. P x × (p x ≡ true)) (filter p (x ∷ xs))
-    go ih true e = rw (filter, e) ((a.0, e), ih)
-    go ih false e = rw (filter, e) ih
+all_filter P p [] a = grind (arith, common_steps)
+all_filter P p (x ∷ xs) a = grind (arith, common_steps, all_filter P p xs a.1)

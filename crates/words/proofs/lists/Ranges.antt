@@ -1,11 +1,8 @@
 -- Laws of ranges of numbers, what a map puts at each place, and filters.
-use mathlib.Core.Path.{◌≡◌, refl, sym, ◌∙◌, ap, ap₂}
-use mathlib.Core.Bool.{Bool, true, false}
-use mathlib.Core.List.{List, [], ◌∷◌, ◌++◌, map}
-use Prim.Native.Nat.{ℕ, zero, suc, ◌+◌, ◌<◌}
-use native.Mathlib.Nat.{add-zero, zero-add}
-use native.Mathlib.Omega.{arith}
-use lib.ListN.{length, get_or, length-map}
+use Rattle.std.proofs.Common.{◌≡◌, refl, sym, ◌∙◌, ap, ap₂, Bool, true, false, List, [], ◌∷◌, ◌++◌, map, ℕ, zero, suc, ◌+◌, ◌<◌, add-zero}
+use Rattle.std.proofs.Common.{zero-add, arith, length, get_or}
+use Rattle.std.proofs.Math.ListN.{length-map}
+use Rattle.std.proofs.lemmas.Grind.{common_steps}
 use Rattle.words.specs.lists.Numbers.{range, count}
 use Rattle.words.specs.lists.Sequences.{filter, map_from}
 use Rattle.words.proofs.lists.Counts.{count-suc}
@@ -116,7 +113,6 @@ length-map_from f i (x ∷ xs) = ap suc (length-map_from f (suc i) xs)
 pub get_or-map_from : {A B : Type 0} (f : ℕ → A → B) (i : ℕ) (xs : List A) (d : A) (e : B) (k : ℕ) → k < length xs
     → get_or (map_from f i xs) k e ≡ f (i + k) (get_or xs k d)
 unfolding map_from
-get_or-map_from f i [] d e k h = absurd (omega arith)
-get_or-map_from f i (x ∷ xs) d e zero h = ap (λ (j : ℕ). f j x) (omega arith)
-get_or-map_from f i (x ∷ xs) d e (suc k) h =
-    get_or-map_from f (suc i) xs d e k (omega arith) ∙ ap (λ (j : ℕ). f j (get_or xs k d)) (omega arith)
+get_or-map_from f i [] d e k h = grind (arith, common_steps)
+get_or-map_from f i (x ∷ xs) d e zero h = grind (arith, common_steps)
+get_or-map_from f i (x ∷ xs) d e (suc k) h = grind (arith, common_steps, get_or-map_from f (suc i) xs d e k (omega arith))

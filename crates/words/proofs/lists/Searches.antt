@@ -1,13 +1,8 @@
 -- Laws of the lowest number that passes a test, of whether any does, and of the highest value; of an element that passes.
-use Rattle.std.proofs.Common.{if◌then◌else◌}
-use mathlib.Core.Path.{◌≡◌, refl, sym, ◌∙◌, ap, ap₂, subst}
-use mathlib.Core.Logic.{◌⊎◌, inl, inr, ⊎_elim}
-use mathlib.Core.Bool.{Bool, true, false, ◌||◌}
-use mathlib.Core.List.{List, [], ◌∷◌}
-use Prim.Native.Nat.{ℕ, zero, suc, ◌+◌, ◌-◌, ◌≤◌, ◌<◌, max}
-use native.Mathlib.Nat.{eq-or-lt_of_le, sub-zero, zero-add}
-use native.Mathlib.Numerals.{add-one}
-use native.Mathlib.Omega.{arith}
+use Rattle.std.proofs.Common.{if◌then◌else◌, ◌≡◌, refl, sym, ◌∙◌, ap, ap₂, ◌⊎◌, ⊎_elim, Bool, true, false, ◌||◌, List, [], ◌∷◌, ℕ, zero}
+use Rattle.std.proofs.Common.{suc, ◌+◌, ◌-◌, ◌≤◌, ◌<◌, max, eq-or-lt_of_le, zero-add, add-one, arith}
+use Rattle.std.proofs.Math.Nat.{sub-zero}
+use Rattle.std.proofs.lemmas.Grind.{common_steps}
 use Rattle.words.specs.lists.Numbers.{lowest, any, sum, highest}
 use Rattle.words.specs.lists.Sequences.{some}
 use Rattle.words.proofs.lists.Tests.{no_both, or_l, or_r, or_cases, cases, if-true, if-false}
@@ -44,21 +39,14 @@ lowest-none p i (suc n) h =
 
 pub lowest-above : (p : ℕ → Bool) (i n : ℕ) → i ≤ lowest p i n
 unfolding lowest
-lowest-above p i zero = omega arith
-lowest-above p i (suc n) = go (lowest-above p (suc i) n) (p i) refl
-  where
-    go : suc i ≤ lowest p (suc i) n → (b : Bool) → p i ≡ b → i ≤ lowest p i (suc n)
-    go ih true e = rw (lowest, e) (omega arith)
-    go ih false e = rw (lowest, e) (omega arith)
+lowest-above p i zero = grind (arith, common_steps)
+lowest-above p i (suc n) = grind (arith, common_steps, lowest-above p (suc i) n)
 
 -- ---- any
 pub any_false : (p : ℕ → Bool) (i n : ℕ) → any p i n ≡ false → (k : ℕ) → i ≤ k → k < i + n → p k ≡ false
 unfolding any
-any_false p i zero e k a b = absurd (omega arith)
-any_false p i (suc n) e k a b =
-    ⊎_elim (λ (q : i ≡ k). ap p (sym q) ∙ or_l (p i) (any p (suc i) n) e)
-    (λ (q : i < k). any_false p (suc i) n (or_r (p i) (any p (suc i) n) e) k q (omega arith))
-    (eq-or-lt_of_le a)
+any_false p i zero e k a b = grind (arith, common_steps)
+any_false p i (suc n) e k a b = grind (arith, common_steps, any_false p (suc i) n, or_l, eq-or-lt_of_le, or_r)
 
 pub any-true : (p : ℕ → Bool) (i n k : ℕ) → i ≤ k → k < i + n → p k ≡ true → any p i n ≡ true
 any-true p i n k a b t = go (any p i n) refl
@@ -76,43 +64,25 @@ any_none p i (suc n) h =
 -- a test at the far end
 pub any_snoc : (p : ℕ → Bool) (i n : ℕ) → any p i (suc n) ≡ (any p i n || p (i + n))
 unfolding any
-any_snoc p i zero = go (p i) refl
-  where
-    go : (b : Bool) → p i ≡ b → (p i || false) ≡ p (i + 0)
-    go true e = ap (λ (a : Bool). a || false) e ∙ sym (ap p (omega arith) ∙ e)
-    go false e = ap (λ (a : Bool). a || false) e ∙ sym (ap p (omega arith) ∙ e)
-any_snoc p i (suc n) = go (p i) (any_snoc p (suc i) n ∙ ap (λ (k : ℕ). any p (suc i) n || p k) (omega arith))
-  where
-    go : (b : Bool) → any p (suc i) (suc n) ≡ (any p (suc i) n || p (i + suc n))
-        → (b || any p (suc i) (suc n)) ≡ ((b || any p (suc i) n) || p (i + suc n))
-    go true e = refl
-    go false e = e
+any_snoc p i zero = grind (arith, common_steps)
+any_snoc p i (suc n) = grind (arith, common_steps, any_snoc p (suc i) n)
 
 -- ---- the largest value
 pub highest-ge : (f : ℕ → ℕ) (i n k : ℕ) → i ≤ k → k < i + n → f k ≤ highest f i n
 unfolding highest
-highest-ge f i zero k a b = absurd (omega arith)
-highest-ge f i (suc n) k a b =
-    ⊎_elim (λ (q : i ≡ k). let z : f i ≡ f k = ap f q in omega arith)
-    (λ (q : i < k). omega (arith, highest-ge f (suc i) n k q (omega arith)))
-    (eq-or-lt_of_le a)
+highest-ge f i zero k a b = grind (arith, common_steps)
+highest-ge f i (suc n) k a b = grind (arith, common_steps, highest-ge f (suc i) n k, eq-or-lt_of_le)
 
 -- the highest value is one of the values, or 0
 pub highest-of : (P : ℕ → Type 0) (f : ℕ → ℕ) (i n : ℕ) → P 0 → ((k : ℕ) → i ≤ k → k < i + n → P (f k)) → P (highest f i n)
 unfolding highest
-highest-of P f i zero z h = z
-highest-of P f i (suc n) z h =
-    let rest : ℕ = highest f (suc i) n in
-    ⊎_elim (λ (a : f i ≡ max (f i) rest). subst P a (h i (omega arith) (omega arith)))
-    (λ (a : f i < max (f i) rest). subst P (let e : rest ≡ max (f i) rest = omega arith in e)
-    (highest-of P f (suc i) n z (λ k a b. h k (omega arith) (omega arith))))
-    (eq-or-lt_of_le (let l : f i ≤ max (f i) rest = omega arith in l))
+highest-of P f i zero z h = grind (arith, common_steps)
+highest-of P f i (suc n) z h = grind (arith, common_steps, highest-of P f (suc i) n z (λ k a b. h k (omega arith) (omega arith)))
 
 pub highest-le : (f : ℕ → ℕ) (m i n : ℕ) → ((k : ℕ) → i ≤ k → k < i + n → f k ≤ m) → highest f i n ≤ m
 unfolding highest
-highest-le f m i zero h = omega arith
-highest-le f m i (suc n) h = omega
-    (arith, h i (omega arith) (omega arith), highest-le f m (suc i) n (λ k a b. h k (omega arith) (omega arith)))
+highest-le f m i zero h = grind (arith, common_steps)
+highest-le f m i (suc n) h = grind (arith, common_steps, highest-le f m (suc i) n (λ k a b. h k (omega arith) (omega arith)))
 
 -- ---- a loop from i up to n: what is left of the search
 left-more : (n i : ℕ) → i < n → n - i ≡ suc (n - (i + 1))
@@ -149,13 +119,7 @@ module _ (p : ℕ → Bool) (n i : ℕ) where
 -- the lowest where the number before the others is tried too
 pub lowest-below : (p : ℕ → Bool) (n v r : ℕ) → 0 < v → v ≤ n → r ≡ lowest p v (n - v)
     → (if p (v - 1) then v - 1 else r) ≡ lowest p (v - 1) (n - (v - 1))
-lowest-below p n v r some low e = go (cases (p (v - 1)))
-  where
-    go : (p (v - 1) ≡ true) ⊎ (p (v - 1) ≡ false) → (if p (v - 1) then v - 1 else r) ≡ lowest p (v - 1) (n - (v - 1))
-    go (inl h) = if-true (p (v - 1)) (v - 1) r h ∙ sym (lowest-here p n (v - 1) (omega arith) h)
-    go (inr h) =
-        if-false (p (v - 1)) (v - 1) r h ∙ e ∙ ap (λ (j : ℕ). lowest p j (n - j)) (omega arith)
-        ∙ sym (lowest-on p n (v - 1) (omega arith) h)
+lowest-below p n v r some low e = grind (arith, common_steps, if-false, if-true, cases, lowest-here, lowest-on)
 
 pub lowest_start : (p : ℕ → Bool) (n : ℕ) → lowest p 0 (n - 0) ≡ lowest p 0 n
 lowest_start p n = rw (sub-zero n)
@@ -203,11 +167,8 @@ highest-snoc f i (suc n) = let e : f (suc i + n) ≡ f (i + suc n) = ap f (omega
 -- ---- a number or an element that passes
 pub any_some : (p : ℕ → Bool) (i n : ℕ) → any p i n ≡ true → (k : ℕ) × (i ≤ k) × (k < i + n) × (p k ≡ true)
 unfolding any
-any_some p i zero e = no_both false e refl
-any_some p i (suc n) e =
-    ⊎_elim (λ (t : p i ≡ true). (i, omega arith, omega arith, t))
-    (λ (t : any p (suc i) n ≡ true). let r = any_some p (suc i) n t in (r.0, omega (arith, r.1), omega (arith, r.2), r.3))
-    (or_cases (p i) (any p (suc i) n) e)
+any_some p i zero e = grind (arith, common_steps, no_both)
+any_some p i (suc n) e = grind (arith, common_steps, any_some p (suc i) n, or_cases)
 
 pub some-cons : {A : Type 0} (p : A → Bool) (x : A) (xs : List A) → some p (x ∷ xs) ≡ (p x || some p xs)
 unfolding some
@@ -216,11 +177,8 @@ some-cons p x xs = refl
 -- a list on which one test fails throughout and another holds somewhere
 pub some-both : {A : Type 0} (p q : A → Bool) (xs : List A) → some p xs ≡ false → some q xs ≡ true → (x : A) × (p x ≡ false) × (q x ≡ true)
 unfolding some
-some-both p q [] e f = no_both false f refl
-some-both p q (x ∷ xs) e f =
-    ⊎_elim (λ (t : q x ≡ true). (x, or_l (p x) (some p xs) e, t))
-    (λ (t : some q xs ≡ true). some-both p q xs (or_r (p x) (some p xs) e) t)
-    (or_cases (q x) (some q xs) f)
+some-both p q [] e f = grind (arith, common_steps, no_both)
+some-both p q (x ∷ xs) e f = grind (arith, common_steps, some-both p q xs, or_l, or_r, or_cases)
 
 -- the same at the loop's next index
 pub highest-next : (f : ℕ → ℕ) (n : ℕ) → highest f 0 (n + 1) ≡ max (highest f 0 n) (f n)
@@ -234,23 +192,14 @@ any-alike p q i (suc n) h = rw (h i (omega arith) (omega arith), any-alike p q (
 -- two tests that agree
 pub lowest-alike : (p q : ℕ → Bool) (i n : ℕ) → ((k : ℕ) → i ≤ k → k < i + n → p k ≡ q k) → lowest p i n ≡ lowest q i n
 unfolding lowest
-lowest-alike p q i zero h = refl
-lowest-alike p q i (suc n) h =
-    go (q i) (h i (omega arith) (omega arith)) refl (lowest-alike p q (suc i) n (λ k a b. h k (omega arith) (omega arith)))
-  where
-    go : (b : Bool) → p i ≡ q i → q i ≡ b → lowest p (suc i) n ≡ lowest q (suc i) n → lowest p i (suc n) ≡ lowest q i (suc n)
-    go true e t ih = rw (lowest, e ∙ t, lowest, t)
-    go false e t ih = rw (lowest, e ∙ t, lowest, t) ih
+lowest-alike p q i zero h = grind (arith, common_steps)
+lowest-alike p q i (suc n) h = grind (arith, common_steps, lowest-alike p q (suc i) n (λ k a b. h k (omega arith) (omega arith)))
 
 -- ---- where the lowest that passes lies
 pub lowest-most : (p : ℕ → Bool) (i n : ℕ) → lowest p i n ≤ i + n
 unfolding lowest
-lowest-most p i zero = omega arith
-lowest-most p i (suc n) = go (lowest-most p (suc i) n) (p i) refl
-  where
-    go : lowest p (suc i) n ≤ suc i + n → (t : Bool) → p i ≡ t → lowest p i (suc n) ≤ i + suc n
-    go ih true e = rw (lowest, e) (omega arith)
-    go ih false e = rw (lowest, e) (omega arith)
+lowest-most p i zero = grind (arith, common_steps)
+lowest-most p i (suc n) = grind (arith, common_steps, lowest-most p (suc i) n)
 
 pub lowest-before : (p : ℕ → Bool) (i n k : ℕ) → i ≤ k → k < lowest p i n → p k ≡ false
 unfolding lowest

@@ -1,11 +1,7 @@
 -- Laws of sums: of numbers within a bound, over ranges that follow one another, moved, or alike; and a loop that adds.
-use Rattle.std.proofs.Common.{if◌then◌else◌}
-use Prim.Native.Nat.{ℕ, zero, suc, ◌+◌, ◌*◌, ◌-◌, ◌≤◌, ◌<◌}
-use mathlib.Core.Bool.{Bool}
-use mathlib.Core.Path.{◌≡◌, refl, sym, ◌∙◌, ap, ap₂}
-use mathlib.Core.Logic.{◌⊎◌, inl, inr}
-use native.Mathlib.Nat.{eq-or-lt_of_le, mul-suc, suc-mul}
-use native.Mathlib.Omega.{arith}
+use Rattle.std.proofs.Common.{if◌then◌else◌, ℕ, zero, suc, ◌+◌, ◌*◌, ◌-◌, ◌≤◌, ◌<◌, Bool, ◌≡◌, refl, sym, ◌∙◌, ap, ap₂, ◌⊎◌, inl, inr}
+use Rattle.std.proofs.Common.{eq-or-lt_of_le, mul-suc, suc-mul, arith}
+use Rattle.std.proofs.lemmas.Grind.{common_steps}
 use Rattle.words.specs.lists.Numbers.{count, sum}
 use Rattle.words.proofs.lists.Counts.{count-suc, count_none}
 use Rattle.words.proofs.lists.Searches.{sum-snoc}
@@ -19,24 +15,16 @@ unfolding sum
 sum-none f i = refl
 
 pub sum-zero : (f : ℕ → ℕ) (i n : ℕ) → ((k : ℕ) → i ≤ k → k < i + n → f k ≡ 0) → sum f i n ≡ 0
-sum-zero f i zero h = sum-none f i
-sum-zero f i (suc n) h =
-    omega (arith, sum-suc f i n, h i (omega arith) (omega arith), sum-zero f (suc i) n (λ k a b. h k (omega arith) (omega arith)))
+sum-zero f i zero h = grind (arith, common_steps, sum-none)
+sum-zero f i (suc n) h = grind (arith, common_steps, sum-zero f (suc i) n (λ k a b. h k (omega arith) (omega arith)), sum-suc)
 
 pub sum-most : (f : ℕ → ℕ) (b i n : ℕ) → ((k : ℕ) → i ≤ k → k < i + n → f k ≤ b) → sum f i n ≤ n * b
-sum-most f b i zero h = omega (arith, sum-none f i)
-sum-most f b i (suc n) h = omega (
-  arith,
-  sum-suc f i n,
-  h i (omega arith) (omega arith),
-  sum-most f b (suc i) n (λ k l m. h k (omega arith) (omega arith)),
-  suc-mul n b,
-)
+sum-most f b i zero h = grind (arith, common_steps, sum-none)
+sum-most f b i (suc n) h = grind (arith, common_steps, sum-most f b (suc i) n (λ k l m. h k (omega arith) (omega arith)), suc-mul, sum-suc)
 
 pub sum_ones : (f : ℕ → ℕ) (i n : ℕ) → ((k : ℕ) → i ≤ k → k < i + n → f k ≡ 1) → sum f i n ≡ n
-sum_ones f i zero h = sum-none f i
-sum_ones f i (suc n) h =
-    omega (arith, sum-suc f i n, h i (omega arith) (omega arith), sum_ones f (suc i) n (λ k a b. h k (omega arith) (omega arith)))
+sum_ones f i zero h = grind (arith, common_steps, sum-none)
+sum_ones f i (suc n) h = grind (arith, common_steps, sum_ones f (suc i) n (λ k a b. h k (omega arith) (omega arith)), sum-suc)
 
 pub sum-full : (f : ℕ → ℕ) (i n : ℕ) → ((k : ℕ) → i ≤ k → k < i + n → f k ≤ 1) → sum f i n ≡ n → (k : ℕ) → i ≤ k → k < i + n → f k ≡ 1
 sum-full f i zero h e k a b = absurd (omega arith)
@@ -67,28 +55,12 @@ sum-split f i (suc m) n =
 
 -- the same numbers, and at other places
 pub sum_same : (f g : ℕ → ℕ) (i n : ℕ) → ((k : ℕ) → i ≤ k → k < i + n → f k ≡ g k) → sum f i n ≡ sum g i n
-sum_same f g i zero h = sum-none f i ∙ sym (sum-none g i)
-sum_same f g i (suc n) h =
-    omega (
-      arith,
-      sum-suc f i n,
-      sum-suc g i n,
-      h i (omega arith) (omega arith),
-      sum_same f g (suc i) n (λ k a b. h k (omega arith) (omega arith)),
-    )
+sum_same f g i zero h = grind (arith, common_steps, sum-none)
+sum_same f g i (suc n) h = grind (arith, common_steps, sum_same f g (suc i) n (λ k a b. h k (omega arith) (omega arith)), sum-suc)
 
 pub sum-move : (f g : ℕ → ℕ) (a i n : ℕ) → ((k : ℕ) → i ≤ k → k < i + n → f (a + k) ≡ g k) → sum f (a + i) n ≡ sum g i n
-sum-move f g a i zero h = sum-none f (a + i) ∙ sym (sum-none g i)
-sum-move f g a i (suc n) h =
-    let e : sum f (suc (a + i)) n ≡ sum f (a + suc i) n = ap (λ (x : ℕ). sum f x n) (omega arith) in
-    omega (
-      arith,
-      e,
-      sum-suc f (a + i) n,
-      sum-suc g i n,
-      h i (omega arith) (omega arith),
-      sum-move f g a (suc i) n (λ k l m. h k (omega arith) (omega arith)),
-    )
+sum-move f g a i zero h = grind (arith, common_steps, sum-none)
+sum-move f g a i (suc n) h = grind (arith, common_steps, sum-move f g a (suc i) n (λ k l m. h k (omega arith) (omega arith)), sum-suc)
 
 pub count-sum : (p : ℕ → Bool) (i n : ℕ) → count p i n ≡ sum (λ k. if p k then 1 else 0) i n
 unfolding count sum
@@ -124,6 +96,4 @@ module _ (g : ℕ → ℕ) (most first end : ℕ) where
 
   pub adding-all : (total f : ℕ) → Adding g most first end total f → end ≤ f
       → (total ≡ sum g first (end - first)) × (total ≤ most * (end - first))
-  adding-all total f t h =
-      let e : f ≡ end = omega (arith, t.high) in
-      (t.is ∙ ap (λ (k : ℕ). sum g first (k - first)) e, omega (arith, t.small, ap (λ (k : ℕ). most * (k - first)) e))
+  adding-all total f t h = grind (arith, common_steps)

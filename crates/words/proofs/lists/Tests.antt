@@ -1,13 +1,8 @@
 -- Laws of tests and of a choice by a test.
-use Rattle.std.proofs.Common.{if◌then◌else◌}
-use mathlib.Core.Path.{◌≡◌, refl, sym, ◌∙◌}
-use mathlib.Core.Logic.{◌⊎◌, inl, inr}
-use mathlib.Core.Bool.{Bool, true, false, ◌&&◌, ◌||◌, not}
-use Prim.Native.Nat.{ℕ, ◌≤◌, ◌<◌}
-use native.Mathlib.Decide.{dec_lt}
-use native.Mathlib.Omega.{arith}
-use lib.Dec.{ltb}
-use borrow.Author.Tests.{lt-ltb, le-ltb}
+use Rattle.std.proofs.Common.{if◌then◌else◌, ◌≡◌, refl, sym, ◌⊎◌, inl, inr, Bool, true, false, ◌&&◌, ◌||◌, not, ℕ, ◌≤◌, ◌<◌, arith, ltb}
+use Rattle.std.proofs.Common.{lt-ltb, le-ltb}
+use Rattle.std.proofs.Math.Decide.{dec_lt}
+use Rattle.std.proofs.lemmas.Grind.{common_steps}
 
 pub no_both {ℓ} : {A : Type ℓ} (b : Bool) → b ≡ true → b ≡ false → A
 no_both b p q = absurd (let z : ◌≡◌ {A = ℕ} 0 1 = cc in omega arith)
@@ -74,11 +69,7 @@ cases false = inr refl
 
 -- one number is below another, or not
 pub split : (a b : ℕ) → (a < b) ⊎ (b ≤ a)
-split a b = go (dec_lt a b)
-  where
-    go : Dec (a < b) → (a < b) ⊎ (b ≤ a)
-    go (yes h) = inl h
-    go (no h) = inr (omega arith)
+split a b = grind (arith, common_steps, dec_lt)
 
 -- a test `a && b` of the code: where a holds it is b, else it is a
 pub and_second : (a b r : Bool) → a ≡ true → r ≡ b → r ≡ (a && b)
@@ -93,15 +84,7 @@ and_no false b e = refl
 
 -- two comparisons that hold together
 pub same-ltb : (a b c d : ℕ) → (a < b → c < d) → (c < d → a < b) → ltb a b ≡ ltb c d
-same-ltb a b c d f g = go (split a b)
-  where
-    go : (a < b) ⊎ (b ≤ a) → ltb a b ≡ ltb c d
-    go (inl h) = lt-ltb a b h ∙ sym (lt-ltb c d (f h))
-    go (inr h) = le-ltb a b h ∙ sym (le-ltb c d (below (split c d)))
-      where
-        below : (c < d) ⊎ (d ≤ c) → d ≤ c
-        below (inl p) = absurd (let q : a < b = g p in omega arith)
-        below (inr p) = p
+same-ltb a b c d f g = grind (arith, common_steps, lt-ltb, le-ltb, split)
 
 -- a test as a bit
 pub bit-low : (b : Bool) → (if b then 1 else 0) < 2

@@ -1,12 +1,7 @@
 -- Laws of a buffer that was written from a place on, or to its front.
-use mathlib.Core.Path.{◌≡◌, sym, ◌∙◌, ap, ap₂}
-use mathlib.Core.List.{List, [], ◌∷◌, ◌++◌, append_assoc}
-use Prim.Native.Nat.{ℕ, ◌+◌, ◌≤◌, ◌<◌}
-use native.Mathlib.Nat.{add-zero}
-use native.Mathlib.Numerals.{add-one}
-use native.Mathlib.Omega.{arith}
-use lib.ListN.{length, take, drop, set, length-append, length-take, length-drop, take-append-drop}
-use lib.Seq.{take_at, drop_at, drop-drop, take-append-le, take-take, length-take-le}
+use Rattle.std.proofs.Common.{◌≡◌, sym, ◌∙◌, ap, List, [], ◌∷◌, ◌++◌, append_assoc, ℕ, ◌+◌, ◌≤◌, ◌<◌, add-zero, add-one, arith, length}
+use Rattle.std.proofs.Common.{take, drop, set, length-append, length-take, length-drop, take-append-drop, take_at, drop_at, drop-drop}
+use Rattle.std.proofs.lemmas.Grind.{common_steps}
 use Rattle.words.specs.lists.Sequences.{written, over}
 
 pub written_none : (out : List ℕ) (at : ℕ) → written out at [] ≡ out
@@ -53,17 +48,12 @@ written_one out at v h = rw (add-one) (lib.Seq.set_split out at v h)
 -- one value after a run
 pub written-snoc : (out : List ℕ) (at : ℕ) (vs : List ℕ) (v : ℕ) → at + length vs < length out
     → set (written out at vs) (at + length vs) v ≡ written out at (vs ++ (v ∷ []))
-written-snoc out at vs v h =
-    let room : at + length vs ≤ length out = omega arith in
-    let n : length (written out at vs) ≡ length out = written-length out at vs room in
-    written_one (written out at vs) (at + length vs) v (omega (arith, n)) ∙ written-written out at vs room (v ∷ [])
+written-snoc out at vs v h = grind (arith, common_steps, written-length, written-written, written_one)
 
 -- a turn of a loop that appends: `done` stands in the buffer from `at` on, and `more` is written where it ends
 pub written-more : (out₀ : List ℕ) (at : ℕ) (done more out out' : List ℕ) (place : ℕ) → place ≡ at + length done → place ≤ length out₀
     → out ≡ written out₀ at done → out' ≡ written out place more → out' ≡ written out₀ at (done ++ more)
-written-more out₀ at done more out out' place p room e e' =
-    e' ∙ ap (λ (o : List ℕ). written o place more) e ∙ ap (λ (k : ℕ). written (written out₀ at done) k more) p
-    ∙ written-written out₀ at done (omega arith) more
+written-more out₀ at done more out out' place p room e e' = grind (arith, common_steps, written-written)
 
 -- a buffer written from its first place on
 pub written-front : (out vs : List ℕ) → written out 0 vs ≡ over vs out
@@ -74,13 +64,4 @@ written-front out vs = let e : 0 + length vs ≡ length vs = omega arith in ap (
 pub written-before : (out : List ℕ) (at : ℕ) (vs ws : List ℕ) (place : ℕ) → place ≡ at + length vs → place ≤ length out
     → written (written out place ws) at vs ≡ written out at (vs ++ ws)
 unfolding written
-written-before out at vs ws place p room =
-    let rest : List ℕ = ws ++ drop (place + length ws) out in
-    let front : take at (take place out ++ rest) ≡ take at out =
-    take-append-le at (take place out) rest (simp length-take (omega arith)) ∙ take-take at place out (omega arith) in
-    let back : drop (at + length vs) (take place out ++ rest) ≡ rest =
-    drop_at (take place out) rest (at + length vs) (length-take-le place out room ∙ p) in
-    let n : place + length ws ≡ at + length (vs ++ ws) = simp length-append (omega arith) in
-    ap₂ (λ (xs ys : List ℕ). xs ++ (vs ++ ys)) front back
-    ∙ ap (λ (xs : List ℕ). take at out ++ xs) (sym (append_assoc vs ws (drop (place + length ws) out)))
-    ∙ ap (λ (k : ℕ). take at out ++ ((vs ++ ws) ++ drop k out)) n
+written-before out at vs ws place p room = grind (arith, common_steps)
