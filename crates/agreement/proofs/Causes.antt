@@ -21,6 +21,7 @@ use Rattle.fairleadow.specs.causes_for_c.Calls.{GivesCauseC, cause_for}
 use Rattle.fairleadow.specs.contracts.causes_for_c.fairleadow_cause as c-cause
 use Rattle.fairleadow.proofs.causes_for_c.fairleadow_cause.Reads as c-cause-reads
 use Rattle.agreement.specs.Told.{cause_report, CauseTold, CauseToldC}
+use Rattle.agreement.proofs.Contracts.{cause-tells-c}
 use Rattle.agreement.proofs.Numbers.{cause-success}
 
 -- ---- by the records of the two calls
@@ -61,4 +62,4 @@ cause-told-c κs a r s e z =
     let o : ℕ = s.1.1.1.1.1.0.now in
     let at : ℕ = s.1.1.1.1.1.1.0.now in
     let made : ℕ = s.1.1.1.1.1.1.1.0.now in
-    cause-explains-c t b w at made k m o (subst (λ (x : ℕ). GivesCauseC (cause_for t b w) x at made k m o) z e)
+    cause-explains-c t b w at made k m o (subst (λ (x : ℕ). GivesCauseC (cause_for t b w) x at made k m o) z (cause-tells-c κs a r s e))

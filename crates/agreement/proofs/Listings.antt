@@ -17,6 +17,7 @@ use Rattle.fairleadow.specs.images_for_c.Calls.{GivesListingC}
 use Rattle.fairleadow.specs.contracts.images_for_c.fairleadow_list_rows as c-list-rows
 use Rattle.fairleadow.proofs.images_for_c.fairleadow_list_rows.Reads as c-list-rows-reads
 use Rattle.agreement.specs.Told.{RowsListed, RowsListedC}
+use Rattle.agreement.proofs.Contracts.{list-rows-lends-c}
 use Rattle.agreement.proofs.Numbers.{list-success}
 
 holding : (t xs ys : List ℕ) (n : ℕ) → (list t xs ys).reply ≡ success n → (us vs : List ℕ)
@@ -52,4 +53,4 @@ rows-listed-c κs a r s e z =
     let n : ℕ = s.1.1.1.1.0.now in
     let us : List ℕ = s.1.0.now in
     let vs : List ℕ = s.1.1.0.now in
-    rows-held-c t xs ys at n us vs (subst (λ (x : ℕ). GivesListingC (list t xs ys) x at n us vs) z e)
+    rows-held-c t xs ys at n us vs (subst (λ (x : ℕ). GivesListingC (list t xs ys) x at n us vs) z (list-rows-lends-c κs a r s e))
