@@ -136,14 +136,14 @@ fn the_trace_lists_the_edits_that_must_be_refused() {
 
 /// The lines of an edit that begin with a word, without it.
 fn told<'a>(edit: &'a str, word: &str) -> Vec<&'a str> {
-    edit.lines().filter_map(|line| line.strip_prefix(word)).map(str::trim).collect()
+    edit.lines().filter_map(|line| line.strip_prefix(word)).collect()
 }
 
 #[test]
 fn every_edit_changes_its_file() {
     for (of, name) in edits() {
         let edit = page(format!("crates/{of}/must-fail/{name}.edit"));
-        let (files, old, new) = (told(&edit, "file:"), told(&edit, "old:"), told(&edit, "new:"));
+        let (files, old, new) = (told(&edit, "file: "), told(&edit, "old: "), told(&edit, "new: "));
         assert!(files.len() == 1 && !old.is_empty() && old.len() == new.len(), "{of}/{name} is an edit");
         let before = page(format!("crates/{of}/{}", files[0]));
         let mut after = before.clone();
