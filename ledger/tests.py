@@ -184,6 +184,8 @@ class SmallProgram(unittest.TestCase):
         for edit in ((LAWS, "pub all-worth", "{-\npub all-worth"), (TOP, "{ Always → Always }", "{ {- Always → -} Always }")):
             with self.assertRaises(SystemExit):
                 Ledger(edited(TEXTS, edit))
+        marks = """const {}: [char; 2] = [' ','"'];\n"""
+        self.unseen((TOP, "/// What is always so.\n", marks.format("BEFORE")), (TOP, "{}\n", "{}\n" + marks.format("BEHIND")))
         went = self.told((STREAMS, "impl Source for", "#[cfg(test)]\nimpl Source for"))
         self.assertIn("went: the contract of low::streams::Source-for-&[u8]::next", went)
 
