@@ -11,6 +11,8 @@ WORDS = {
     "definition": "definition",
     "declared": "the type, trait or constant",
     "inner": "inner definition",
+    "sentences": "the sentences of",
+    "tests": "the tests of",
 }
 ORDER = list(WORDS)
 

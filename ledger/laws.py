@@ -48,10 +48,12 @@ def laws_of(row, program, files_with):
             near = {file for file in places if file.split("/")[0] in crates}
             named |= {(file, name) for file in near or places}
         here |= inside
+    astray = []
     for file in files - {file for file, _ in here}:
         here |= {(file, name) for name in program.file(file).public}
+        astray += [] if program.file(file).public else [f"a law of {file}"]
     named |= here
-    astray = [name for name in proved if name not in {other for _, other in named}]
+    astray += [name for name in proved if name not in {other for _, other in named}]
     for names, file in re.findall(NAMES + r" \((\w+/proofs/[\w/]+)", row):
         astray += [f"{file}.{name}" for name in names_in(names) if not program.file(file) or name not in program.file(file).items]
     program.unknown.update(f"{name}, which docs/TRACE.md names" for name in astray)

@@ -4,6 +4,7 @@ import hashlib
 import re
 from collections import namedtuple
 
+from held import sentences, tests_of
 from laws import named_laws
 from program import Program
 from scope import Scope, resolved_code
@@ -13,6 +14,7 @@ HEAD = """\
 # of all that it rests on.
 # contract: of a public function. theorem: a clause of a function without parameters. law: a statement that docs/TRACE.md names.
 # definition: to be believed. declared: a type, a trait or a constant of the code. inner: what one of these rests on beside them.
+# sentences: of a section of docs/TRACE.md. tests: which of a file are run.
 """
 
 
@@ -57,6 +59,11 @@ class Ledger:
                     yield "definition", where, name
         for where, name in named_laws(self.program):
             yield "law", where, name
+        for heading in sentences(self.program.texts["docs/TRACE.md"]):
+            yield "sentences", heading
+        for path, text in self.program.texts.items():
+            if tests_of(path, text):
+                yield "tests", path
 
     def promised_code(self, module):
         for child in module.children.values():
@@ -134,6 +141,12 @@ class Ledger:
         words, others = self.clauses_scope(block.module).resolved(block.words)
         return Line("declared", block.key() + "::ghost", text + words, names | others | {("code", item) for item in block.items})
 
+    def sentences(self, heading):
+        return Line("sentences", f"docs/TRACE.md#{heading}", sentences(self.program.texts["docs/TRACE.md"])[heading], set())
+
+    def tests(self, path):
+        return Line("tests", path, tests_of(path, self.program.texts[path]), set())
+
     # ---- all of them
     def below(self, each):
         """All that a thing rests on, beside itself."""
@@ -146,8 +159,9 @@ class Ledger:
         return reached - {each}
 
     def place(self, line):
-        """Where a line stands: by the order of crates, then by its path."""
-        return self.program.crates.index(re.match(r"\w+", line.path)[0]), line.path, line.kind
+        """Where a line stands: by the order of crates, then by its path. What is of no crate comes last."""
+        crates, first = self.program.crates, re.match(r"\w*", line.path)[0]
+        return crates.index(first) if first in crates else len(crates), line.path, line.kind
 
     def entries(self):
         """The lines in their order, by kind and path: their three digests, and the keys of what they rest on."""

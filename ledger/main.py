@@ -4,6 +4,7 @@ import sys
 from pathlib import Path
 
 from comparing import differences, written
+from held import SCRIPTS
 from lines import Ledger, page
 from steps import uncalled_steps
 
@@ -12,11 +13,15 @@ LEDGER = "docs/promises.txt"
 
 
 def texts_of(root):
-    """The texts that promise something, by their paths: code, definitions, laws, and the pages that name crates and laws."""
+    """The texts that promise something, by their paths: code, definitions, laws, tests, and the pages that name crates and laws."""
     paths = [root / "crates.txt", root / "docs/TRACE.md"]
     for part in ("src", "specs", "proofs"):
         for ending in ("rt", "antt"):
             paths += root.glob(f"crates/*/{part}/**/*.{ending}")
+    paths += [root / script for script in SCRIPTS if (root / script).exists()]
+    paths += [*root.glob("rust/Cargo.toml"), *root.glob("rust/*/Cargo.toml")]
+    for part in ("src", "tests", "examples"):
+        paths += root.glob(f"rust/*/{part}/**/*.rs")
     return {path.relative_to(root).as_posix(): path.read_text(encoding="utf-8") for path in sorted(paths)}
 
 

@@ -133,10 +133,28 @@ pub fn it_always_holds()
     ensures twice { Always → Always }
 {}
 """,
-    "docs/TRACE.md": "| a number is worth something | `Gives`; `all-worth`, `always-worth` (low/proofs/Laws) |\n",
+    "docs/TRACE.md": """\
+## Numbers
+| a number is worth something | `Gives`; `all-worth`, `always-worth` (low/proofs/Laws) |
+| that is all | `Gives` |
+""",
+    "rust/low/Cargo.toml": "[package]\nname = 'low'\n",
+    "rust/low/tests/cases.rs": """\
+mod inside;
+
+#[test]
+fn one() {}
+
+#[test]
+fn two() {
+    let two = 2;
+    assert_eq!(inside::two(), two);
+}
+""",
 }
 
 SPECS, LAWS, TRACE = "crates/low/specs/Numbers.antt", "crates/low/proofs/Laws.antt", "docs/TRACE.md"
+CASES, MANIFEST = "rust/low/tests/cases.rs", "rust/low/Cargo.toml"
 LIB, INSIDE, STREAMS, TOP = (f"crates/{name}.rt" for name in ("low/src/lib", "low/src/inside", "low/src/streams", "top/src/lib"))
 
 
@@ -163,6 +181,11 @@ class SmallProgram(unittest.TestCase):
         for hiding in ("/* /* */", 'const X: &str = r#""#;'):
             with self.assertRaises(SystemExit):
                 Ledger(edited(TEXTS, (TOP, "/// What is always so.", hiding)))
+        for edit in ((LAWS, "pub all-worth", "{-\npub all-worth"), (TOP, "{ Always → Always }", "{ {- Always → -} Always }")):
+            with self.assertRaises(SystemExit):
+                Ledger(edited(TEXTS, edit))
+        marks = """const {}: [char; 2] = [' ','"'];\n"""
+        self.unseen((TOP, "/// What is always so.\n", marks.format("BEFORE")), (TOP, "{}\n", "{}\n" + marks.format("BEHIND")))
         went = self.told((STREAMS, "impl Source for", "#[cfg(test)]\nimpl Source for"))
         self.assertIn("went: the contract of low::streams::Source-for-&[u8]::next", went)
 
@@ -209,6 +232,8 @@ class SmallProgram(unittest.TestCase):
                 "contract low::streams::two",
                 "theorem top::it_always_holds.always",
                 "theorem top::it_always_holds.twice",
+                "sentences docs/TRACE.md#numbers",
+                "tests rust/low/tests/cases.rs",
             ],
         )
 
@@ -303,6 +328,32 @@ class SmallProgram(unittest.TestCase):
         other = edited(TEXTS, (TRACE, "`always-worth`", "`ever-worth`"))
         self.assertEqual(Ledger(other).program.unknown, {"low/proofs/Laws.ever-worth, which docs/TRACE.md names"})
 
+    def test_a_file_that_the_trace_names_has_a_public_law(self):
+        private = ((LAWS, "pub all-worth", "all-worth"), (LAWS, "pub always-worth", "always-worth"))
+        other = edited(TEXTS, (TRACE, "`Gives`; `all-worth`, `always-worth` (low/proofs/Laws)", "low/proofs/Laws"), *private)
+        self.assertEqual(Ledger(other).program.unknown, {"a law of low/proofs/Laws, which docs/TRACE.md names"})
+
+    def test_a_crate_that_is_listed_no_more(self):
+        self.assertIn("went: theorem top::it_always_holds.always", self.told(("crates.txt", "top: low\n", "")))
+
+    def test_a_sentence_of_the_trace(self):
+        changed = ["changed: the sentences of docs/TRACE.md#numbers"]
+        row = "| that is all | `Gives` |\n"
+        self.assertEqual(self.told((TRACE, row, "")), changed)
+        self.assertEqual(self.told((TRACE, row, row.replace("is all", "is some"))), changed)
+        self.assertEqual(self.told((TRACE, row, row.replace("`Gives`", ""))), changed)
+        self.unseen((TRACE, row, row.replace("`Gives`", "`Gives`, `Told`")))
+
+    def test_a_test_that_is_run_no_more(self):
+        changed = [f"changed: the tests of {CASES}"]
+        self.assertEqual(self.told((CASES, "#[test]\nfn two", "fn two")), changed)
+        self.assertEqual(self.told((CASES, "#[test]\nfn two", "#[test]\n#[ignore]\nfn two")), changed)
+        self.assertEqual(self.told((CASES, "mod inside;\n", "")), changed)
+        self.unseen((CASES, "let two = 2;", "let two = 1 + 1;"))
+        renamed = {path + "_" * (path == CASES): text for path, text in TEXTS.items()}
+        self.assertIn(f"went: the tests of {CASES}", differences(Ledger(TEXTS).entries(), Ledger(renamed).entries()))
+        self.assertEqual(self.told((MANIFEST, "[package]\n", "[package]\nautotests = false\n")), [f"came: the tests of {MANIFEST}"])
+
     def test_what_rests_on_a_change_is_told_below_the_lowest(self):
         inner = ("crates/low/specs/inner/Halves.antt", "n / 2", "n / 3")
         told = differences(Ledger(TEXTS).entries(), Ledger(edited(TEXTS, inner, (SPECS, "n + MOST", "MOST + n"))).entries())
@@ -354,6 +405,9 @@ class Repository(unittest.TestCase):
         told = differences(self.ledger.entries(), Ledger(edited(self.texts, *self.edits)).entries())
         for line in self.wanted:
             self.assertIn(line, told)
+
+    def test_no_handle_is_allowed(self):
+        self.assertFalse((ROOT / "HANDLES").exists())
 
 
 if __name__ == "__main__":

@@ -4,18 +4,27 @@ import re
 
 # A field is one word with its dot: `.mask` in `t.mask`, where `. ` ends what λ binds.
 DEFINITION = re.compile(
-    r"""\s+|--[^\n]*|(?P<word>"(?:[^"\\]|\\.)*"|\[\]|\.[^\s(){}\[\];,."]+|[(){}\[\];,.]|[^\s(){}\[\];,."]+)"""
+    r"""\s+|--[^\n]*|(?P<word>"(?:[^"\\]|\\.)*"|\{-|\[\]|\.[^\s(){}\[\];,."]+|[(){}\[\];,.]|[^\s(){}\[\];,."]+)"""
 )
 CODE = re.compile(
-    r"""\s+|//[^\n]*|(?P<word>/\*|[bc]*r#*"|[bc]?"(?:[^"\\]|\\.)*"|b?'(?:\\.[^']*|[^'\\\s])'|'\w+|\w+|::|->|=>|\S)""", re.S
+    r"""\s+|//[^\n]*|(?P<word>/\*|[bc]*r#*"|[bc]?"(?:[^"\\]|\\.)*"|b?'(?:\\.[^']*|[^'\\\n])'|'\w+|\w+|::|->|=>|\S)""", re.S
 )
 
 CLOSING = {"(": ")", "[": "]", "{": "}", "<": ">"}
 CLOSERS = (")", "]", "}")
 
 
+def stop_at(unread, where):
+    """What the reader does not follow might hide a promise."""
+    if unread:
+        raise SystemExit(f"promises: {unread} stands in {where}; comments in brackets and raw strings are not read")
+
+
 def definition_words(text):
-    return [found["word"] for found in DEFINITION.finditer(text) if found["word"]]
+    """The words of definitions and clauses. A comment in brackets is not read, and may not stand there."""
+    words = [found["word"] for found in DEFINITION.finditer(text) if found["word"]]
+    stop_at("{-" if "{-" in words else None, "a definition or a clause")
+    return words
 
 
 def settled(words):
@@ -55,9 +64,7 @@ class CodeWord:
 def code_words(text):
     """The words of code. A comment in brackets, which may nest, and a raw string are not read, and may not stand there."""
     words = [CodeWord(found) for found in CODE.finditer(text) if found["word"]]
-    unread = next((word.text for word in words if re.fullmatch(r'/\*|[bc]*r#*"', word.text)), None)
-    if unread:
-        raise SystemExit(f"promises: {unread} stands in code; comments in brackets and raw strings are not read")
+    stop_at(next((word.text for word in words if re.fullmatch(r'/\*|[bc]*r#*"', word.text)), None), "code")
     return words
 
 

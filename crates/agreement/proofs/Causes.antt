@@ -15,6 +15,7 @@ use Rattle.cause.specs.Laws.{Explains}
 use Rattle.cause.proofs.Answers.{answered}
 use Rattle.fairleadow.specs.causes_for_c.Calls.{GivesCauseC, cause_for}
 use Rattle.agreement.specs.Told.{cause_report, CauseTold, CauseToldC}
+use Rattle.agreement.proofs.Contracts.{cause-tells-c}
 use Rattle.agreement.proofs.Numbers.{cause-success}
 use Rattle.cause.specs.contracts.explaining.cause_of as cause-of
 use Rattle.cause.proofs.explaining.cause_of.Reads as cause-of-reads
@@ -59,4 +60,4 @@ cause-told-c κs a r s e z =
     let o : ℕ = s.1.1.1.1.1.0.now in
     let at : ℕ = s.1.1.1.1.1.1.0.now in
     let made : ℕ = s.1.1.1.1.1.1.1.0.now in
-    cause-explains-c t b w at made k m o (subst (λ (x : ℕ). GivesCauseC (cause_for t b w) x at made k m o) z e)
+    cause-explains-c t b w at made k m o (subst (λ (x : ℕ). GivesCauseC (cause_for t b w) x at made k m o) z (cause-tells-c κs a r s e))

@@ -264,17 +264,17 @@ pub translate-lends-c : (κs : Lfts 4) (a : ArgsD c-translate.signature κs)
     (r : ResD c-translate.signature κs) (s : AtExit c-translate.ended κs)
     → c-translate-reads.Learnt κs a r s
     → GivesBufferC (translate a.0.now a.1.0.now) r s.1.1.0.now s.1.1.1.0.now s.1.0.now
-translate-lends-c κs a r s e = e
+translate-lends-c κs a r s e = record { told = e.0; written = e.1 }
 
 pub fresh-makes-c : (κs : Lfts 3) (a : ArgsD c-fresh.signature κs) (r : ResD c-fresh.signature κs) (s : AtExit c-fresh.ended κs)
     → c-fresh-reads.Learnt κs a r s → GivesStateC (fresh_state a.0) r s.1.1.0.now s.1.1.1.0.now s.1.0.now
-fresh-makes-c κs a r s e = e
+fresh-makes-c κs a r s e = record { told = e.0; bytes = e.1 }
 
 pub run-runs-c : (κs : Lfts 7) (a : ArgsD c-run.signature κs) (r : ResD c-run.signature κs) (s : AtExit c-run.ended κs)
     → c-run-reads.Learnt κs a r s
     → GivesRunC (run_for a.0.now a.1.0.now a.1.1.0.now a.1.1.1.0.now a.1.1.1.1.0.now) a.1.0.now
     r s.1.1.1.1.1.0.now s.1.1.1.1.1.1.0.now s.1.0.now s.1.1.1.0.now s.1.1.1.1.0.now
-run-runs-c κs a r s e = e
+run-runs-c κs a r s e = record { told = e.0; bytes = e.1.0; masks = e.1.1.0; codes = e.1.1.1 }
 
 pub priced-run-prices-c : (κs : Lfts 9) (a : ArgsD c-priced-run.signature κs) (r : ResD c-priced-run.signature κs)
     (s : AtExit c-priced-run.ended κs)
@@ -284,13 +284,13 @@ pub priced-run-prices-c : (κs : Lfts 9) (a : ArgsD c-priced-run.signature κs) 
     a.1.1.1.0.now a.1.0.now
     r s.1.1.1.1.1.1.1.0.now s.1.1.1.1.1.1.1.1.0.now s.1.0.now s.1.1.1.1.0.now s.1.1.1.1.1.0.now
     s.1.1.1.1.1.1.0.now
-priced-run-prices-c κs a r s e = e
+priced-run-prices-c κs a r s e = record { told = e.0; bytes = e.1.0; masks = e.1.1.0; codes = e.1.1.1.0; price = e.1.1.1.1 }
 
 pub tick-advances-c : (κs : Lfts 6) (a : ArgsD c-tick.signature κs) (r : ResD c-tick.signature κs) (s : AtExit c-tick.ended κs)
     → c-tick-reads.Learnt κs a r s
     → GivesTickC (tick_for a.0.now a.1.0.now a.1.1.0) a.1.0.now a.1.1.1.0.now a.1.1.1.1.0.now
     r s.1.1.1.1.1.0.now s.1.1.1.1.1.1.0.now s.1.0.now s.1.1.1.0.now s.1.1.1.1.0.now
-tick-advances-c κs a r s e = e
+tick-advances-c κs a r s e = record { told = e.0; bytes = e.1.0; mask = e.1.1.0; code = e.1.1.1 }
 
 pub places-answered-c : (κs : Lfts 3) (a : ArgsD c-places.signature κs) (r : ResD c-places.signature κs) (s : AtExit c-places.ended κs)
     → c-places-reads.Learnt κs a r s → GivesReplyC (places_needed a.0.now) r s.1.0.now s.1.1.0.now
@@ -299,51 +299,51 @@ places-answered-c κs a r s e = e
 pub prepare-lends-c : (κs : Lfts 4) (a : ArgsD c-prepare.signature κs) (r : ResD c-prepare.signature κs) (s : AtExit c-prepare.ended κs)
     → c-prepare-reads.Learnt κs a r s
     → GivesBufferC (prepare a.0.now a.1.0.now) r s.1.1.0.now s.1.1.1.0.now s.1.0.now
-prepare-lends-c κs a r s e = e
+prepare-lends-c κs a r s e = record { told = e.0; written = e.1 }
 
 pub minimise-lends-c : (κs : Lfts 4) (a : ArgsD c-minimise.signature κs) (r : ResD c-minimise.signature κs) (s : AtExit c-minimise.ended κs)
     → c-minimise-reads.Learnt κs a r s
     → GivesBufferC (minimise a.0.now a.1.0.now) r s.1.1.0.now s.1.1.1.0.now s.1.0.now
-minimise-lends-c κs a r s e = e
+minimise-lends-c κs a r s e = record { told = e.0; written = e.1 }
 
 pub little-chart-lends-c : (κs : Lfts 3) (a : ArgsD c-little-chart.signature κs)
     (r : ResD c-little-chart.signature κs) (s : AtExit c-little-chart.ended κs)
     → c-little-chart-reads.Learnt κs a r s
     → GivesBufferC (little_chart a.0 a.1.0 a.1.1.0.now) r s.1.1.1.0.now s.1.1.1.1.0.now s.1.1.0.now
-little-chart-lends-c κs a r s e = e
+little-chart-lends-c κs a r s e = record { told = e.0; written = e.1 }
 
 pub live-run-runs-c : (κs : Lfts 7) (a : ArgsD c-live-run.signature κs) (r : ResD c-live-run.signature κs) (s : AtExit c-live-run.ended κs)
     → c-live-run-reads.Learnt κs a r s
     → GivesRunC (live_run a.0.now (state_of a.1.0.now) a.1.1.0.now a.1.1.1.0.now a.1.1.1.1.0.now) a.1.0.now
     r s.1.1.1.1.1.0.now s.1.1.1.1.1.1.0.now s.1.0.now s.1.1.1.0.now s.1.1.1.1.0.now
-live-run-runs-c κs a r s e = e
+live-run-runs-c κs a r s e = record { told = e.0; bytes = e.1.0; masks = e.1.1.0; codes = e.1.1.1 }
 
 pub live-tick-advances-c : (κs : Lfts 6) (a : ArgsD c-live-tick.signature κs)
     (r : ResD c-live-tick.signature κs) (s : AtExit c-live-tick.ended κs)
     → c-live-tick-reads.Learnt κs a r s
     → GivesTickC (live_tick a.0.now (state_of a.1.0.now) a.1.1.0) a.1.0.now a.1.1.1.0.now a.1.1.1.1.0.now
     r s.1.1.1.1.1.0.now s.1.1.1.1.1.1.0.now s.1.0.now s.1.1.1.0.now s.1.1.1.1.0.now
-live-tick-advances-c κs a r s e = e
+live-tick-advances-c κs a r s e = record { told = e.0; bytes = e.1.0; mask = e.1.1.0; code = e.1.1.1 }
 
 pub rebind-rebinds-c : (κs : Lfts 4) (a : ArgsD c-rebind.signature κs) (r : ResD c-rebind.signature κs) (s : AtExit c-rebind.ended κs)
     → c-rebind-reads.Learnt κs a r s
     → GivesRebindingC (rebind_for a.0.now a.1.0.now a.1.1.0 a.1.1.1.0) a.1.0.now
     r s.1.1.1.1.0.now s.1.1.1.1.1.0.now s.1.0.now
-rebind-rebinds-c κs a r s e = e
+rebind-rebinds-c κs a r s e = record { told = e.0; bytes = e.1 }
 
 pub live-rebind-rebinds-c : (κs : Lfts 4) (a : ArgsD c-live-rebind.signature κs) (r : ResD c-live-rebind.signature κs)
     (s : AtExit c-live-rebind.ended κs)
     → c-live-rebind-reads.Learnt κs a r s
     → GivesRebindingC (live_rebind a.0.now (state_of a.1.0.now) a.1.1.0 a.1.1.1.0) a.1.0.now
     r s.1.1.1.1.0.now s.1.1.1.1.1.0.now s.1.0.now
-live-rebind-rebinds-c κs a r s e = e
+live-rebind-rebinds-c κs a r s e = record { told = e.0; bytes = e.1 }
 
 pub spin-spins-c : (κs : Lfts 7) (a : ArgsD c-spin.signature κs) (r : ResD c-spin.signature κs) (s : AtExit c-spin.ended κs)
     → c-spin-reads.Learnt κs a r s
     → GivesSpinC (spin_for a.1.1.1.0.now a.0.now a.1.0.now a.1.1.0 a.1.1.1.1.0) a.0.now a.1.1.0
     a.1.1.1.1.1.0.now a.1.1.1.1.1.1.0.now r s.1.1.1.1.1.1.1.0.now s.1.1.1.1.1.1.1.1.0.now
     s.0.now s.1.0.now s.1.1.1.1.1.0.now s.1.1.1.1.1.1.0.now
-spin-spins-c κs a r s e = e
+spin-spins-c κs a r s e = record { told = e.0; bytes = e.1.0; taken = e.1.1.0; mask = e.1.1.1.0; code = e.1.1.1.1 }
 
 pub live-spin-spins-c : (κs : Lfts 7) (a : ArgsD c-live-spin.signature κs)
     (r : ResD c-live-spin.signature κs) (s : AtExit c-live-spin.ended κs)
@@ -351,26 +351,26 @@ pub live-spin-spins-c : (κs : Lfts 7) (a : ArgsD c-live-spin.signature κs)
     → GivesSpinC (live_spin_for a.1.1.1.0.now a.0.now a.1.0.now a.1.1.0 a.1.1.1.1.0) a.0.now a.1.1.0
     a.1.1.1.1.1.0.now a.1.1.1.1.1.1.0.now r s.1.1.1.1.1.1.1.0.now s.1.1.1.1.1.1.1.1.0.now
     s.0.now s.1.0.now s.1.1.1.1.1.0.now s.1.1.1.1.1.1.0.now
-live-spin-spins-c κs a r s e = e
+live-spin-spins-c κs a r s e = record { told = e.0; bytes = e.1.0; taken = e.1.1.0; mask = e.1.1.1.0; code = e.1.1.1.1 }
 
 pub count-fillings-tells-c : (κs : Lfts 6) (a : ArgsD c-count-fillings.signature κs) (r : ResD c-count-fillings.signature κs)
     (s : AtExit c-count-fillings.ended κs)
     → c-count-fillings-reads.Learnt κs a r s
     → GivesFillingsC (count_fillings a.0.now a.1.0 a.1.1.0 a.1.1.1.0) r s.1.1.1.1.1.1.1.0.now
     s.1.1.1.1.1.1.1.1.0.now s.1.1.1.1.0.now s.1.1.1.1.1.0.now s.1.1.1.1.1.1.0.now
-count-fillings-tells-c κs a r s e = e
+count-fillings-tells-c κs a r s e = record { told = e.0; ended = e.1.0; full = e.1.1.0; unmatched = e.1.1.1 }
 
 pub read-chart-lends-c : (κs : Lfts 4) (a : ArgsD c-read-chart.signature κs) (r : ResD c-read-chart.signature κs)
     (s : AtExit c-read-chart.ended κs)
     → c-read-chart-reads.Learnt κs a r s
     → GivesBufferC (read_chart a.0.now a.1.0.now) r s.1.1.0.now s.1.1.1.0.now s.1.0.now
-read-chart-lends-c κs a r s e = e
+read-chart-lends-c κs a r s e = record { told = e.0; written = e.1 }
 
 pub write-chart-lends-c : (κs : Lfts 4) (a : ArgsD c-write-chart.signature κs) (r : ResD c-write-chart.signature κs)
     (s : AtExit c-write-chart.ended κs)
     → c-write-chart-reads.Learnt κs a r s
     → GivesBufferC (write_chart a.0.now a.1.0.now) r s.1.1.0.now s.1.1.1.0.now s.1.0.now
-write-chart-lends-c κs a r s e = e
+write-chart-lends-c κs a r s e = record { told = e.0; written = e.1 }
 
 pub check-image-answered-c : (κs : Lfts 3) (a : ArgsD c-check-image.signature κs) (r : ResD c-check-image.signature κs)
     (s : AtExit c-check-image.ended κs)
@@ -381,13 +381,13 @@ pub list-rows-lends-c : (κs : Lfts 5) (a : ArgsD c-list-rows.signature κs) (r 
     (s : AtExit c-list-rows.ended κs)
     → c-list-rows-reads.Learnt κs a r s
     → GivesListingC (list a.0.now a.1.0.now a.1.1.0.now) r s.1.1.1.0.now s.1.1.1.1.0.now s.1.0.now s.1.1.0.now
-list-rows-lends-c κs a r s e = e
+list-rows-lends-c κs a r s e = record { told = e.0; firsts = e.1.0; counts = e.1.1 }
 
 pub cause-tells-c : (κs : Lfts 7) (a : ArgsD c-cause.signature κs) (r : ResD c-cause.signature κs) (s : AtExit c-cause.ended κs)
     → c-cause-reads.Learnt κs a r s
     → GivesCauseC (cause_for a.0.now a.1.0.now a.1.1.0) r s.1.1.1.1.1.1.0.now s.1.1.1.1.1.1.1.0.now
     s.1.1.1.0.now s.1.1.1.1.0.now s.1.1.1.1.1.0.now
-cause-tells-c κs a r s e = e
+cause-tells-c κs a r s e = record { told = e.0; row = e.1.0; mask = e.1.1.0; bit = e.1.1.1 }
 
 pub meaning-tells-c : (κs : Lfts 1) (a : ArgsD c-meaning.signature κs) (r : ResD c-meaning.signature κs) (s : AtExit c-meaning.ended κs)
     → c-meaning-reads.Learnt κs a r s → Meant a.0 r s.1.0.now

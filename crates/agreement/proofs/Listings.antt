@@ -11,6 +11,7 @@ use Rattle.rows.specs.listing.Exact.{Held}
 use Rattle.rows.proofs.listing.Answers.{held}
 use Rattle.fairleadow.specs.images_for_c.Calls.{GivesListingC}
 use Rattle.agreement.specs.Told.{RowsListed, RowsListedC}
+use Rattle.agreement.proofs.Contracts.{list-rows-lends-c}
 use Rattle.agreement.proofs.Numbers.{list-success}
 use Rattle.rows.specs.contracts.image_rows.list_rows as list-rows
 use Rattle.rows.proofs.image_rows.list_rows.Reads as list-rows-reads
@@ -50,4 +51,4 @@ rows-listed-c κs a r s e z =
     let n : ℕ = s.1.1.1.1.0.now in
     let us : List ℕ = s.1.0.now in
     let vs : List ℕ = s.1.1.0.now in
-    rows-held-c t xs ys at n us vs (subst (λ (x : ℕ). GivesListingC (list t xs ys) x at n us vs) z e)
+    rows-held-c t xs ys at n us vs (subst (λ (x : ℕ). GivesListingC (list t xs ys) x at n us vs) z (list-rows-lends-c κs a r s e))

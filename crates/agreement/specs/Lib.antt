@@ -7,4 +7,5 @@ pub mod RunsAlone
 pub mod LiveCalls
 pub mod OneRow
 pub mod Told
+pub mod Success
 pub mod DryRuns

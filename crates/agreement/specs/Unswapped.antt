@@ -9,8 +9,8 @@ use Rattle.walk.specs.Walk.{Tick}
 use Rattle.walk.specs.Unswapped.{walk}
 use Rattle.state.specs.declared.layout.TheConstants.{PLACES}
 use Rattle.state.specs.declared.State.{State}
-use Rattle.agreement.specs.Agreement.{Translator, Maker, Runner, RunInput, RunOutput, output_of, is_short, bound, expected_output}
-use Rattle.agreement.specs.Agreement.{output_refused_short}
+use Rattle.agreement.specs.Agreement.{Translator, Maker, Runner, Rebinder, RunInput, RunOutput, output_of, is_short, bound}
+use Rattle.agreement.specs.Agreement.{expected_output, output_refused_short, Translates, Agreement}
 
 -- each run is given the image, and the state that the one before handed back
 unfoldable pub run_outputs : Runner → List ℕ → State → List RunInput → List RunOutput
@@ -36,3 +36,9 @@ RunAgreement translator fresh run =
     (text out : List ℕ) (n : ℕ) → (translator text out).reply ≡ success n
     → (size : ℕ) → 1 ≤ size → size ≤ PLACES → (asked : List RunInput)
     → run_outputs run (take n (translator text out).buffer) (fresh size).state asked ≡ walk_runs size (contents text) asked
+
+-- whatever has the agreement has it so
+abbrev pub AgreementAlone : Type 0
+AgreementAlone =
+    (translator : Translator) (fresh : Maker) (run : Runner) (rebind : Rebinder) → Translates translator
+    → Agreement translator fresh run rebind → RunAgreement translator fresh run

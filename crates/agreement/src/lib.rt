@@ -11,12 +11,14 @@ ghost use Rattle.rebinding.specs.Rebind.{rebind};
 ghost use Rattle.agreement.specs.Agreement.{Agreement};
 ghost use Rattle.agreement.specs.Calls.{Delivered};
 ghost use Rattle.agreement.specs.ForC.{DeliveredC};
-ghost use Rattle.agreement.specs.Unswapped.{RunAgreement};
+ghost use Rattle.agreement.specs.Unswapped.{RunAgreement, AgreementAlone};
 ghost use Rattle.agreement.specs.RunsAlone.{DeliveredAlone, RunsDelivered, DeliveredAloneC, RunsDeliveredC};
 ghost use Rattle.agreement.specs.DryRuns.{DryRunByWalk, DryRunByWalkC};
 ghost use Rattle.agreement.specs.LiveCalls.{PreparedActs};
 ghost use Rattle.agreement.specs.OneRow.{OneRowMatches, AnyRuleTicks, CareDecides};
 ghost use Rattle.agreement.specs.Told.{CauseTold, CauseToldC, RowsListed, RowsListedC};
+ghost use Rattle.agreement.specs.Success.{TranslateSucceeds, PrepareSucceeds, MinimiseSucceeds, LittleChartSucceeds};
+ghost use Rattle.agreement.specs.Success.{ListSucceeds, CauseSucceeds, CountsSucceed};
 ghost use Rattle.agreement.specs.Capitals.{AsInCapitals};
 
 /// The machine ticks as the walk ticks, over every list of runs and rebindings on the image of every chart that translates: of the
@@ -27,10 +29,11 @@ pub fn machine_ticks_as_walk()
     ensures calls_from_c { DeliveredC }
 {}
 
-/// With no rebinding in the list it does so by the walk of words alone: of the definitions; of runs, ticks and live calls in any mixture;
-/// of runs on the image's text; and of both from C.
+/// With no rebinding in the list it does so by the walk of words alone: of the definitions, and of any four functions that agree; of
+/// runs, ticks and live calls in any mixture; of runs on the image's text; and of both from C.
 pub fn runs_tick_as_walk()
     ensures definitions { RunAgreement translate fresh_state run }
+    ensures any_definitions { AgreementAlone }
     ensures mixtures { DeliveredAlone }
     ensures functions { RunsDelivered }
     ensures mixtures_from_c { DeliveredAloneC }
@@ -65,6 +68,18 @@ pub fn causes_and_rows_are_told()
     ensures causes_from_c { CauseToldC }
     ensures rows { RowsListed }
     ensures rows_from_c { RowsListedC }
+{}
+
+/// A call that tells C the number 0 has succeeded, since no refusal has it: of each call that makes a text, a table, a listing, a cause or
+/// counts.
+pub fn number_0_is_success()
+    ensures translations { TranslateSucceeds }
+    ensures preparations { PrepareSucceeds }
+    ensures joined_images { MinimiseSucceeds }
+    ensures little_charts { LittleChartSucceeds }
+    ensures listings { ListSucceeds }
+    ensures causes { CauseSucceeds }
+    ensures counts { CountsSucceed }
 {}
 
 /// For each text, refused or not, each entry point does what it does for the text in capitals.

@@ -20,6 +20,8 @@ pub mod Idlers
 pub mod Live
 pub mod Functions
 pub mod Listing
+pub mod Chains
+pub mod Joins
 pub mod Minimise
 pub mod Little
 pub mod Spindles

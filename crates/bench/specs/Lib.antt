@@ -8,6 +8,8 @@ pub mod LooseMask
 pub mod Outputs
 pub mod Live
 pub mod Listing
+pub mod Chains
+pub mod Joins
 pub mod Minimise
 pub mod Little
 pub mod Spindles

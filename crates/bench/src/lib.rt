@@ -10,6 +10,8 @@ ghost use Rattle.bench.specs.Causes.{CauseCases, RowCauses, AnswerCauses};
 ghost use Rattle.bench.specs.LooseMask.{LooseMask};
 ghost use Rattle.bench.specs.Listing.{ListingCases};
 ghost use Rattle.bench.specs.Swap.{ByteCases, SwapCases, RebindingCases, FitnessCases, WalkedCases};
+ghost use Rattle.bench.specs.Chains.{ChainCases};
+ghost use Rattle.bench.specs.Joins.{GroupCases, EvenCases};
 ghost use Rattle.bench.specs.Minimise.{MinimiseCases};
 ghost use Rattle.bench.specs.Little.{LittleCases};
 ghost use Rattle.bench.specs.Spindles.{SpindleCases};
@@ -61,6 +63,9 @@ pub fn the_bench_sheet_holds()
     ensures rebindings { RebindingCases }
     ensures fitness { FitnessCases }
     ensures walked { WalkedCases }
+    ensures chains { ChainCases }
+    ensures groups { GroupCases }
+    ensures even { EvenCases }
     ensures minimised { MinimiseCases }
     ensures little { LittleCases }
     ensures spindles { SpindleCases }

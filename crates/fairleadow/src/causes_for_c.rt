@@ -1,5 +1,7 @@
 // The calls from C that tell what made a tick go on, and what a tick code stands for.
-ghost use Rattle.fairleadow.specs.causes_for_c.Calls.{cause_for, GivesCauseC};
+ghost use Rattle.std.specs.Prelude.{◌≡◌};
+ghost use Rattle.fairleadow.specs.telling.AnswersForC.{GivesReplyC};
+ghost use Rattle.fairleadow.specs.causes_for_c.Calls.{cause_for};
 ghost use Rattle.fairleadow.specs.causes_for_c.Meant.{Meant};
 
 use crate::telling::tell;
@@ -20,8 +22,10 @@ pub extern "C" fn fairleadow_cause(
     at: &mut usize,
     made: &mut usize,
 ) -> u8
-    ensures { GivesCauseC (cause_for image.now state.now word) result at.new
-        made.new row.new mask.new bit.new }
+    ensures told { GivesReplyC (cause_for image.now state.now word).reply result at.new made.new }
+    ensures row { row.new ≡ (cause_for image.now state.now word).cause.row }
+    ensures mask { mask.new ≡ (cause_for image.now state.now word).cause.mask }
+    ensures bit { bit.new ≡ (cause_for image.now state.now word).cause.bit }
 {
     match cause_bytes(image, state, word) {
         Ok(cause) => {

@@ -1,8 +1,9 @@
 // The calls from C on charts: read, written, fetched by number, and how many places one needs.
+ghost use Rattle.std.specs.Prelude.{◌≡◌};
 ghost use Rattle.charts.specs.Entry.{read_chart, write_chart};
 ghost use Rattle.little_charts.specs.Little.{little_chart};
 ghost use Rattle.places.specs.Entry.{places_needed};
-ghost use Rattle.fairleadow.specs.telling.AnswersForC.{GivesReplyC, GivesBufferC};
+ghost use Rattle.fairleadow.specs.telling.AnswersForC.{GivesReplyC};
 
 use crate::telling::tell;
 
@@ -13,8 +14,8 @@ pub extern "C" fn fairleadow_read_chart(
     at: &mut usize,
     made: &mut usize,
 ) -> u8
-    ensures { GivesBufferC (read_chart text.now records.old) result
-        at.new made.new records.new }
+    ensures told { GivesReplyC (read_chart text.now records.old).reply result at.new made.new }
+    ensures written { records.new ≡ (read_chart text.now records.old).buffer }
 {
     let answer = chart_text::read_chart(text, records);
     tell(answer, at, made)
@@ -27,8 +28,8 @@ pub extern "C" fn fairleadow_write_chart(
     at: &mut usize,
     made: &mut usize,
 ) -> u8
-    ensures { GivesBufferC (write_chart records.now text.old) result
-        at.new made.new text.new }
+    ensures told { GivesReplyC (write_chart records.now text.old).reply result at.new made.new }
+    ensures written { text.new ≡ (write_chart records.now text.old).buffer }
 {
     let answer = chart_text::write_chart(records, text);
     tell(answer, at, made)
@@ -42,8 +43,8 @@ pub extern "C" fn fairleadow_little_chart(
     at: &mut usize,
     made: &mut usize,
 ) -> u8
-    ensures { GivesBufferC (little_chart frames number text.old) result at.new made.new
-        text.new }
+    ensures told { GivesReplyC (little_chart frames number text.old).reply result at.new made.new }
+    ensures written { text.new ≡ (little_chart frames number text.old).buffer }
 {
     let answer = little_fetch::fetching::little_chart(frames, number, text);
     tell(answer, at, made)

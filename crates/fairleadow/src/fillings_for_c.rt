@@ -1,6 +1,7 @@
 // The call from C that counts how often the stack fills.
+ghost use Rattle.std.specs.Prelude.{◌≡◌};
 ghost use Rattle.fillings.specs.Counts.{count_fillings};
-ghost use Rattle.fairleadow.specs.fillings_for_c.Calls.{GivesFillingsC};
+ghost use Rattle.fairleadow.specs.telling.AnswersForC.{GivesReplyC};
 
 use crate::telling::tell;
 
@@ -17,8 +18,10 @@ pub extern "C" fn fairleadow_count_fillings(
     at: &mut usize,
     made: &mut usize,
 ) -> u8
-    ensures { GivesFillingsC (count_fillings image.now size ticks conditions) result at.new
-        made.new ended.new full.new unmatched.new }
+    ensures told { GivesReplyC (count_fillings image.now size ticks conditions).reply result at.new made.new }
+    ensures ended { ended.new ≡ (count_fillings image.now size ticks conditions).ended }
+    ensures full { full.new ≡ (count_fillings image.now size ticks conditions).full }
+    ensures unmatched { unmatched.new ≡ (count_fillings image.now size ticks conditions).unmatched }
 {
     match fillings::counting::count_fillings(image, size, ticks, conditions) {
         Ok(tally) => {

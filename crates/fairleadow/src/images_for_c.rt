@@ -1,10 +1,10 @@
 // The calls from C on images: checked, listed and prepared.
+ghost use Rattle.std.specs.Prelude.{◌≡◌};
 ghost use Rattle.text.specs.frames.Answer.{verdict_reply};
 ghost use Rattle.image.specs.Check.{image_verdict};
 ghost use Rattle.rows.specs.listing.Listing.{list};
 ghost use Rattle.tables.specs.Prepare.{prepare};
-ghost use Rattle.fairleadow.specs.telling.AnswersForC.{GivesReplyC, GivesBufferC};
-ghost use Rattle.fairleadow.specs.images_for_c.Calls.{GivesListingC};
+ghost use Rattle.fairleadow.specs.telling.AnswersForC.{GivesReplyC};
 
 use crate::telling::tell;
 
@@ -24,8 +24,9 @@ pub extern "C" fn fairleadow_list_rows(
     at: &mut usize,
     made: &mut usize,
 ) -> u8
-    ensures { GivesListingC (list image.now firsts.old counts.old) result
-        at.new made.new firsts.new counts.new }
+    ensures told { GivesReplyC (list image.now firsts.old counts.old).reply result at.new made.new }
+    ensures firsts { firsts.new ≡ (list image.now firsts.old counts.old).firsts }
+    ensures counts { counts.new ≡ (list image.now firsts.old counts.old).counts }
 {
     let answer = rows::image_rows::list_rows(image, firsts, counts);
     tell(answer, at, made)
@@ -38,8 +39,8 @@ pub extern "C" fn fairleadow_prepare(
     at: &mut usize,
     made: &mut usize,
 ) -> u8
-    ensures { GivesBufferC (prepare image.now table.old) result
-        at.new made.new table.new }
+    ensures told { GivesReplyC (prepare image.now table.old).reply result at.new made.new }
+    ensures written { table.new ≡ (prepare image.now table.old).buffer }
 {
     let answer = tables::preparing::prepare(image, table);
     tell(answer, at, made)

@@ -1,6 +1,7 @@
 // The call from C that joins the labels of an image.
+ghost use Rattle.std.specs.Prelude.{◌≡◌};
 ghost use Rattle.minimising.specs.Entry.{minimise};
-ghost use Rattle.fairleadow.specs.telling.AnswersForC.{GivesBufferC};
+ghost use Rattle.fairleadow.specs.telling.AnswersForC.{GivesReplyC};
 
 use crate::telling::tell;
 
@@ -11,8 +12,8 @@ pub extern "C" fn fairleadow_minimise(
     at: &mut usize,
     made: &mut usize,
 ) -> u8
-    ensures { GivesBufferC (minimise image.now smaller.old) result at.new made.new
-        smaller.new }
+    ensures told { GivesReplyC (minimise image.now smaller.old).reply result at.new made.new }
+    ensures written { smaller.new ≡ (minimise image.now smaller.old).buffer }
 {
     let answer = minimising::minimise(image, smaller);
     tell(answer, at, made)

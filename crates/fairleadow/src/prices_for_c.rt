@@ -1,5 +1,8 @@
 // The call from C that runs and tells the price.
-ghost use Rattle.fairleadow.specs.prices_for_c.Calls.{priced_run_for, GivesPricedRunC};
+ghost use Rattle.std.specs.Prelude.{◌≡◌};
+ghost use Rattle.prices.specs.priced_runs.InPlace.{bytes_priced};
+ghost use Rattle.fairleadow.specs.telling.AnswersForC.{GivesReplyC};
+ghost use Rattle.fairleadow.specs.prices_for_c.Calls.{priced_run_for};
 
 use crate::telling::tell;
 use prices::priced_runs::priced_run_bytes;
@@ -18,10 +21,15 @@ pub extern "C" fn fairleadow_priced_run(
     at: &mut usize,
     made: &mut usize,
 ) -> u8
-    ensures { GivesPricedRunC
-        (priced_run_for image.now state.old prices.now words.now masks.old
-        codes.old) words.now state.old result at.new made.new
-        state.new masks.new codes.new price.new }
+    ensures told { GivesReplyC
+        (priced_run_for image.now state.old prices.now words.now masks.old codes.old).run.reply result at.new made.new }
+    ensures bytes { state.new ≡ bytes_priced words.now state.old
+        (priced_run_for image.now state.old prices.now words.now masks.old codes.old).run }
+    ensures masks { masks.new ≡
+        (priced_run_for image.now state.old prices.now words.now masks.old codes.old).run.masks }
+    ensures codes { codes.new ≡
+        (priced_run_for image.now state.old prices.now words.now masks.old codes.old).run.codes }
+    ensures price { price.new ≡ (priced_run_for image.now state.old prices.now words.now masks.old codes.old).price }
 {
     let done = priced_run_bytes(image, state, prices, words, masks, codes);
     *price = done.price;

@@ -1,5 +1,9 @@
 // The calls from C that have a number served by another scheme, on an image and live on a prepared table.
-ghost use Rattle.fairleadow.specs.rebinding_for_c.Calls.{rebind_for, live_rebind_for, GivesRebindingC};
+ghost use Rattle.std.specs.Prelude.{◌≡◌, eqb, if◌then◌else◌};
+ghost use Rattle.text.specs.frames.Answer.{reply_number};
+ghost use Rattle.state.specs.Bytes.{bytes_of};
+ghost use Rattle.fairleadow.specs.telling.AnswersForC.{GivesReplyC};
+ghost use Rattle.fairleadow.specs.rebinding_for_c.Calls.{rebind_for, live_rebind_for};
 
 use crate::telling::tell;
 use rebinding::{live_rebind_bytes, rebind_bytes};
@@ -15,8 +19,9 @@ pub extern "C" fn fairleadow_rebind(
     at: &mut usize,
     made: &mut usize,
 ) -> u8
-    ensures { GivesRebindingC (rebind_for image.now state.old number scheme)
-        state.old result at.new made.new state.new }
+    ensures told { GivesReplyC (rebind_for image.now state.old number scheme).reply result at.new made.new }
+    ensures bytes { state.new ≡ (if eqb (reply_number (rebind_for image.now state.old number scheme).reply) 0
+        then bytes_of (rebind_for image.now state.old number scheme).state else state.old) }
 {
     let answer = rebind_bytes(image, state, number, scheme);
     tell(answer, at, made)
@@ -31,8 +36,9 @@ pub extern "C" fn fairleadow_live_rebind(
     at: &mut usize,
     made: &mut usize,
 ) -> u8
-    ensures { GivesRebindingC (live_rebind_for table.now state.old number scheme)
-        state.old result at.new made.new state.new }
+    ensures told { GivesReplyC (live_rebind_for table.now state.old number scheme).reply result at.new made.new }
+    ensures bytes { state.new ≡ (if eqb (reply_number (live_rebind_for table.now state.old number scheme).reply) 0
+        then bytes_of (live_rebind_for table.now state.old number scheme).state else state.old) }
 {
     let answer = live_rebind_bytes(table, state, number, scheme);
     tell(answer, at, made)

@@ -1,6 +1,10 @@
 // The calls from C that make a state, run and tick, on an image and live on a prepared table; a state is 130 bytes.
+ghost use Rattle.std.specs.Prelude.{◌≡◌};
 ghost use Rattle.state.specs.State.{fresh_state};
-ghost use Rattle.fairleadow.specs.runs_for_c.Calls.{GivesStateC, run_for, live_run_for, GivesRunC, tick_for, live_tick_for, GivesTickC};
+ghost use Rattle.state.specs.Bytes.{bytes_of};
+ghost use Rattle.runs.specs.InPlace.{bytes_after, if_ticked};
+ghost use Rattle.fairleadow.specs.telling.AnswersForC.{GivesReplyC};
+ghost use Rattle.fairleadow.specs.runs_for_c.Calls.{run_for, live_run_for, tick_for, live_tick_for};
 
 use crate::telling::{tell, tell_tick};
 use runs::machine::{State, live_run_bytes, live_tick_bytes, run_bytes, tick_bytes};
@@ -14,7 +18,8 @@ pub extern "C" fn fairleadow_fresh(
     at: &mut usize,
     made: &mut usize,
 ) -> u8
-    ensures { GivesStateC (fresh_state size) result at.new made.new state.new }
+    ensures told { GivesReplyC (fresh_state size).reply result at.new made.new }
+    ensures bytes { state.new ≡ bytes_of (fresh_state size).state }
 {
     let done = State::fresh(size);
     *state = bytes_of(done.state);
@@ -31,9 +36,11 @@ pub extern "C" fn fairleadow_run(
     at: &mut usize,
     made: &mut usize,
 ) -> u8
-    ensures { GivesRunC (run_for image.now state.old words.now masks.old
-        codes.old) state.old result at.new made.new
-        state.new masks.new codes.new }
+    ensures told { GivesReplyC
+        (run_for image.now state.old words.now masks.old codes.old).reply result at.new made.new }
+    ensures bytes { state.new ≡ bytes_after state.old (run_for image.now state.old words.now masks.old codes.old) }
+    ensures masks { masks.new ≡ (run_for image.now state.old words.now masks.old codes.old).masks }
+    ensures codes { codes.new ≡ (run_for image.now state.old words.now masks.old codes.old).codes }
 {
     let answer = run_bytes(image, state, words, masks, codes);
     tell(answer, at, made)
@@ -49,9 +56,12 @@ pub extern "C" fn fairleadow_live_run(
     at: &mut usize,
     made: &mut usize,
 ) -> u8
-    ensures { GivesRunC (live_run_for table.now state.old words.now masks.old
-        codes.old) state.old result at.new made.new
-        state.new masks.new codes.new }
+    ensures told { GivesReplyC
+        (live_run_for table.now state.old words.now masks.old codes.old).reply result at.new made.new }
+    ensures bytes { state.new ≡ bytes_after state.old
+        (live_run_for table.now state.old words.now masks.old codes.old) }
+    ensures masks { masks.new ≡ (live_run_for table.now state.old words.now masks.old codes.old).masks }
+    ensures codes { codes.new ≡ (live_run_for table.now state.old words.now masks.old codes.old).codes }
 {
     let answer = live_run_bytes(table, state, words, masks, codes);
     tell(answer, at, made)
@@ -68,8 +78,13 @@ pub extern "C" fn fairleadow_tick(
     at: &mut usize,
     made: &mut usize,
 ) -> u8
-    ensures { GivesTickC (tick_for image.now state.old word) state.old mask.old
-        code.old result at.new made.new state.new mask.new code.new }
+    ensures told { GivesReplyC (tick_for image.now state.old word).reply result at.new made.new }
+    ensures bytes { state.new ≡ if_ticked (tick_for image.now state.old word)
+        (bytes_of (tick_for image.now state.old word).state) state.old }
+    ensures mask { mask.new ≡ if_ticked (tick_for image.now state.old word)
+        (tick_for image.now state.old word).mask mask.old }
+    ensures code { code.new ≡ if_ticked (tick_for image.now state.old word)
+        (tick_for image.now state.old word).code code.old }
 {
     let answer = tick_bytes(image, state, word);
     tell_tick(answer, mask, code, at, made)
@@ -86,8 +101,13 @@ pub extern "C" fn fairleadow_live_tick(
     at: &mut usize,
     made: &mut usize,
 ) -> u8
-    ensures { GivesTickC (live_tick_for table.now state.old word) state.old mask.old
-        code.old result at.new made.new state.new mask.new code.new }
+    ensures told { GivesReplyC (live_tick_for table.now state.old word).reply result at.new made.new }
+    ensures bytes { state.new ≡ if_ticked (live_tick_for table.now state.old word)
+        (bytes_of (live_tick_for table.now state.old word).state) state.old }
+    ensures mask { mask.new ≡ if_ticked (live_tick_for table.now state.old word)
+        (live_tick_for table.now state.old word).mask mask.old }
+    ensures code { code.new ≡ if_ticked (live_tick_for table.now state.old word)
+        (live_tick_for table.now state.old word).code code.old }
 {
     let answer = live_tick_bytes(table, state, word);
     tell_tick(answer, mask, code, at, made)

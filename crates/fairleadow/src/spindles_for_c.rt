@@ -1,5 +1,8 @@
 // The calls from C on four spindles, whose states are 520 bytes, on an image and live on a prepared table.
-ghost use Rattle.fairleadow.specs.spindles_for_c.Calls.{spin_for, live_spin_for, GivesSpinC};
+ghost use Rattle.std.specs.Prelude.{◌≡◌};
+ghost use Rattle.spindles.specs.spindle_bytes.Bytes.{if_spun, bytes_spun};
+ghost use Rattle.fairleadow.specs.telling.AnswersForC.{GivesReplyC};
+ghost use Rattle.fairleadow.specs.spindles_for_c.Calls.{spin_for, live_spin_for};
 
 use crate::telling::tell_tick;
 use spindles::live_spindle_bytes::live_spin_bytes;
@@ -19,9 +22,14 @@ pub extern "C" fn fairleadow_spin(
     at: &mut usize,
     made: &mut usize,
 ) -> u8
-    ensures { GivesSpinC (spin_for image.now states.old taken.old spindle word) states.old
-        spindle mask.old code.old result at.new made.new states.new
-        taken.new mask.new code.new }
+    ensures told { GivesReplyC (spin_for image.now states.old taken.old spindle word).reply result at.new made.new }
+    ensures bytes { states.new ≡ bytes_spun states.old spindle
+        (spin_for image.now states.old taken.old spindle word) }
+    ensures taken { taken.new ≡ (spin_for image.now states.old taken.old spindle word).taken }
+    ensures mask { mask.new ≡ if_spun (spin_for image.now states.old taken.old spindle word)
+        (spin_for image.now states.old taken.old spindle word).mask mask.old }
+    ensures code { code.new ≡ if_spun (spin_for image.now states.old taken.old spindle word)
+        (spin_for image.now states.old taken.old spindle word).code code.old }
 {
     let recorded = *taken;
     let report = spin_bytes(states, recorded, spindle, image, word);
@@ -41,9 +49,15 @@ pub extern "C" fn fairleadow_live_spin(
     at: &mut usize,
     made: &mut usize,
 ) -> u8
-    ensures { GivesSpinC (live_spin_for table.now states.old taken.old spindle word)
-        states.old spindle mask.old code.old result at.new made.new
-        states.new taken.new mask.new code.new }
+    ensures told { GivesReplyC
+        (live_spin_for table.now states.old taken.old spindle word).reply result at.new made.new }
+    ensures bytes { states.new ≡ bytes_spun states.old spindle
+        (live_spin_for table.now states.old taken.old spindle word) }
+    ensures taken { taken.new ≡ (live_spin_for table.now states.old taken.old spindle word).taken }
+    ensures mask { mask.new ≡ if_spun (live_spin_for table.now states.old taken.old spindle word)
+        (live_spin_for table.now states.old taken.old spindle word).mask mask.old }
+    ensures code { code.new ≡ if_spun (live_spin_for table.now states.old taken.old spindle word)
+        (live_spin_for table.now states.old taken.old spindle word).code code.old }
 {
     let recorded = *taken;
     let report = live_spin_bytes(states, recorded, spindle, table, word);

@@ -1,6 +1,8 @@
 // An answer as the three numbers that C gets, and a tick's as these with its mask and its code.
+ghost use Rattle.std.specs.Prelude.{◌≡◌, eqb, if◌then◌else◌};
 ghost use Rattle.text.specs.frames.Answer.{reply};
-ghost use Rattle.fairleadow.specs.telling.AnswersForC.{GivesReplyC, GivesTickAnswerC};
+ghost use Rattle.runs.specs.TickOutcome.{tick_reply, answered_mask, answered_code};
+ghost use Rattle.fairleadow.specs.telling.AnswersForC.{GivesReplyC};
 
 use runs::Tick;
 use text::frames::Refusal;
@@ -31,8 +33,9 @@ pub fn tell_tick(
     at: &mut usize,
     made: &mut usize,
 ) -> u8
-    ensures { GivesTickAnswerC answer mask.old code.old result at.new
-        made.new mask.new code.new }
+    ensures told { GivesReplyC (tick_reply answer) result at.new made.new }
+    ensures mask { mask.new ≡ (if eqb result 0 then answered_mask answer else mask.old) }
+    ensures code { code.new ≡ (if eqb result 0 then answered_code answer else code.old) }
 {
     match answer {
         Ok(tick) => {

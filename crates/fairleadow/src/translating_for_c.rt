@@ -1,6 +1,7 @@
 // The call from C that translates a chart.
+ghost use Rattle.std.specs.Prelude.{◌≡◌};
 ghost use Rattle.translator.specs.Entry.{translate};
-ghost use Rattle.fairleadow.specs.telling.AnswersForC.{GivesBufferC};
+ghost use Rattle.fairleadow.specs.telling.AnswersForC.{GivesReplyC};
 
 use crate::telling::tell;
 
@@ -11,8 +12,8 @@ pub extern "C" fn fairleadow_translate(
     at: &mut usize,
     made: &mut usize,
 ) -> u8
-    ensures { GivesBufferC (translate chart.now image.old) result
-        at.new made.new image.new }
+    ensures told { GivesReplyC (translate chart.now image.old).reply result at.new made.new }
+    ensures written { image.new ≡ (translate chart.now image.old).buffer }
 {
     let answer = translator::translating::translate(chart, image);
     tell(answer, at, made)

@@ -1,6 +1,6 @@
 //! docs/REFERENCE.md and docs/ARCHITECTURE.md name definitions, laws and functions that stand where they say; the first shows lines
-//! whose sums are right; docs/TRACE.md lists the edits and names the theorems; a link leads to a file and, if it names one, to a heading
-//! of it.
+//! whose sums are right; docs/TRACE.md lists the edits, each of which can be made, and names the theorems; a link leads to a file and, if
+//! it names one, to a heading of it.
 
 use std::collections::BTreeSet;
 use std::fs;
@@ -132,6 +132,27 @@ fn the_trace_lists_the_edits_that_must_be_refused() {
         })
         .collect();
     assert_eq!(listed, edits());
+}
+
+/// The lines of an edit that begin with a word, without it.
+fn told<'a>(edit: &'a str, word: &str) -> Vec<&'a str> {
+    edit.lines().filter_map(|line| line.strip_prefix(word)).collect()
+}
+
+#[test]
+fn every_edit_changes_its_file() {
+    for (of, name) in edits() {
+        let edit = page(format!("crates/{of}/must-fail/{name}.edit"));
+        let (files, old, new) = (told(&edit, "file: "), told(&edit, "old: "), told(&edit, "new: "));
+        assert!(files.len() == 1 && !old.is_empty() && old.len() == new.len(), "{of}/{name} is an edit");
+        let before = page(format!("crates/{of}/{}", files[0]));
+        let mut after = before.clone();
+        for (old, new) in old.into_iter().zip(new) {
+            assert_eq!(after.matches(old).count(), 1, "{of}/{name}: {old}");
+            after = after.replace(old, new);
+        }
+        assert_ne!(before, after, "{of}/{name} changes nothing");
+    }
 }
 
 /// The texts of a crate's code.

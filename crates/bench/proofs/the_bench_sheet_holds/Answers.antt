@@ -7,6 +7,8 @@ use Rattle.bench.proofs.Causes.{cause-cases, row-causes, answer-causes}
 use Rattle.bench.proofs.LooseMask.{loose-mask}
 use Rattle.bench.proofs.Listing.{listing-cases}
 use Rattle.bench.proofs.Swap.{byte-cases, swap-cases, rebinding-cases, fitness-cases, walked-cases}
+use Rattle.bench.proofs.Chains.{chain-cases}
+use Rattle.bench.proofs.Joins.{group-cases, even-cases}
 use Rattle.bench.proofs.Minimise.{minimise-cases}
 use Rattle.bench.proofs.Little.{little-cases}
 use Rattle.bench.proofs.Spindles.{spindle-cases}
@@ -57,6 +59,15 @@ returns-clause-fitness c = fitness-cases
 
 pub returns-clause-walked : goal.returns-clause-walked
 returns-clause-walked c = walked-cases
+
+pub returns-clause-chains : goal.returns-clause-chains
+returns-clause-chains c = chain-cases
+
+pub returns-clause-groups : goal.returns-clause-groups
+returns-clause-groups c = group-cases
+
+pub returns-clause-even : goal.returns-clause-even
+returns-clause-even c = even-cases
 
 pub returns-clause-minimised : goal.returns-clause-minimised
 returns-clause-minimised c = minimise-cases

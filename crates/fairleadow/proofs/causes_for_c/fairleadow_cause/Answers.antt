@@ -4,24 +4,26 @@ use Rattle.cause.specs.Cause.{cause_reply, cause_row, cause_mask, cause_bit}
 use Rattle.fairleadow.proofs.telling.Reports.{told-as}
 use Rattle.fairleadow.proofs.causes_for_c.fairleadow_cause.Goals as goal
 
-pub returns-in-Ok : goal.returns-in-Ok
-returns-in-Ok c =
-    let cause = c.cause_bytes.ensures in
-    let is = c.in-Ok.is in
-    record {
-      told = told-as (sym (ap cause_reply is) ∙ cause.answered) c.tell.ensures;
-      row = sym (ap cause_row is) ∙ cause.row;
-      mask = sym (ap cause_mask is) ∙ cause.mask;
-      bit = sym (ap cause_bit is) ∙ cause.bit;
-    }
+pub returns-in-Ok-clause-told : goal.returns-in-Ok-clause-told
+returns-in-Ok-clause-told c = told-as (sym (ap cause_reply c.in-Ok.is) ∙ c.cause_bytes.ensures.answered) c.tell.ensures
 
-pub returns-in-Err : goal.returns-in-Err
-returns-in-Err c =
-    let cause = c.cause_bytes.ensures in
-    let is = c.in-Err.is in
-    record {
-      told = told-as (sym (ap cause_reply is) ∙ cause.answered) c.tell-in-Err.ensures;
-      row = sym (ap cause_row is) ∙ cause.row;
-      mask = sym (ap cause_mask is) ∙ cause.mask;
-      bit = sym (ap cause_bit is) ∙ cause.bit;
-    }
+pub returns-in-Ok-clause-row : goal.returns-in-Ok-clause-row
+returns-in-Ok-clause-row c = sym (ap cause_row c.in-Ok.is) ∙ c.cause_bytes.ensures.row
+
+pub returns-in-Ok-clause-mask : goal.returns-in-Ok-clause-mask
+returns-in-Ok-clause-mask c = sym (ap cause_mask c.in-Ok.is) ∙ c.cause_bytes.ensures.mask
+
+pub returns-in-Ok-clause-bit : goal.returns-in-Ok-clause-bit
+returns-in-Ok-clause-bit c = sym (ap cause_bit c.in-Ok.is) ∙ c.cause_bytes.ensures.bit
+
+pub returns-in-Err-clause-told : goal.returns-in-Err-clause-told
+returns-in-Err-clause-told c = told-as (sym (ap cause_reply c.in-Err.is) ∙ c.cause_bytes.ensures.answered) c.tell-in-Err.ensures
+
+pub returns-in-Err-clause-row : goal.returns-in-Err-clause-row
+returns-in-Err-clause-row c = sym (ap cause_row c.in-Err.is) ∙ c.cause_bytes.ensures.row
+
+pub returns-in-Err-clause-mask : goal.returns-in-Err-clause-mask
+returns-in-Err-clause-mask c = sym (ap cause_mask c.in-Err.is) ∙ c.cause_bytes.ensures.mask
+
+pub returns-in-Err-clause-bit : goal.returns-in-Err-clause-bit
+returns-in-Err-clause-bit c = sym (ap cause_bit c.in-Err.is) ∙ c.cause_bytes.ensures.bit

@@ -2,7 +2,8 @@
 use Rattle.fairleadow.proofs.telling.Reports.{told-as}
 use Rattle.fairleadow.proofs.charts_for_c.fairleadow_little_chart.Goals as goal
 
-pub returns : goal.returns
-returns c =
-    let fetch = c.little_chart-answer in
-    record { told = told-as fetch.ensures.answered c.tell.ensures; written = fetch.ensures.written }
+pub returns-clause-told : goal.returns-clause-told
+returns-clause-told c = told-as c.little_chart-answer.ensures.answered c.tell.ensures
+
+pub returns-clause-written : goal.returns-clause-written
+returns-clause-written c = c.little_chart-answer.ensures.written

@@ -2,7 +2,8 @@
 use Rattle.fairleadow.proofs.telling.Reports.{told-as}
 use Rattle.fairleadow.proofs.charts_for_c.fairleadow_read_chart.Goals as goal
 
-pub returns : goal.returns
-returns c =
-    let read-chart = c.read_chart-answer in
-    record { told = told-as read-chart.ensures.answered c.tell.ensures; written = read-chart.ensures.written }
+pub returns-clause-told : goal.returns-clause-told
+returns-clause-told c = told-as c.read_chart-answer.ensures.answered c.tell.ensures
+
+pub returns-clause-written : goal.returns-clause-written
+returns-clause-written c = c.read_chart-answer.ensures.written

@@ -2,7 +2,8 @@
 use Rattle.fairleadow.proofs.telling.Reports.{told-as}
 use Rattle.fairleadow.proofs.charts_for_c.fairleadow_write_chart.Goals as goal
 
-pub returns : goal.returns
-returns c =
-    let write-chart = c.write_chart-answer in
-    record { told = told-as write-chart.ensures.answered c.tell.ensures; written = write-chart.ensures.written }
+pub returns-clause-told : goal.returns-clause-told
+returns-clause-told c = told-as c.write_chart-answer.ensures.answered c.tell.ensures
+
+pub returns-clause-written : goal.returns-clause-written
+returns-clause-written c = c.write_chart-answer.ensures.written

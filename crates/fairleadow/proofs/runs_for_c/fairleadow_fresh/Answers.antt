@@ -4,10 +4,8 @@ use Rattle.state.specs.Bytes.{bytes_of}
 use Rattle.fairleadow.proofs.telling.Reports.{told-as}
 use Rattle.fairleadow.proofs.runs_for_c.fairleadow_fresh.Goals as goal
 
-pub returns : goal.returns
-returns c =
-    let fresh = c.fresh-done in
-    record {
-      told = told-as fresh.ensures.answered c.tell.ensures;
-      bytes = c.bytes_of.ensures ∙ ap bytes_of fresh.ensures.state;
-    }
+pub returns-clause-told : goal.returns-clause-told
+returns-clause-told c = told-as c.fresh-done.ensures.answered c.tell.ensures
+
+pub returns-clause-bytes : goal.returns-clause-bytes
+returns-clause-bytes c = c.bytes_of.ensures ∙ ap bytes_of c.fresh-done.ensures.state

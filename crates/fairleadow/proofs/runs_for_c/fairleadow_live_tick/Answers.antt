@@ -1,6 +1,15 @@
 -- `fairleadow_live_tick` meets its contract: the tick in place, and its answer told.
-use Rattle.fairleadow.proofs.runs_for_c.CallLaws.{tick-told}
+use Rattle.fairleadow.proofs.telling.Reports.{told-as, written-as}
 use Rattle.fairleadow.proofs.runs_for_c.fairleadow_live_tick.Goals as goal
 
-pub returns : goal.returns
-returns c = tick-told c.live_tick_bytes-answer.ensures c.tell_tick.ensures
+pub returns-clause-told : goal.returns-clause-told
+returns-clause-told c = told-as c.live_tick_bytes-answer.ensures.answered c.tell_tick.ensures.told
+
+pub returns-clause-bytes : goal.returns-clause-bytes
+returns-clause-bytes c = c.live_tick_bytes-answer.ensures.bytes
+
+pub returns-clause-mask : goal.returns-clause-mask
+returns-clause-mask c = written-as _ c.live_tick_bytes-answer.ensures.answered c.tell_tick.ensures.told c.live_tick_bytes-answer.ensures.mask c.tell_tick.ensures.mask
+
+pub returns-clause-code : goal.returns-clause-code
+returns-clause-code c = written-as _ c.live_tick_bytes-answer.ensures.answered c.tell_tick.ensures.told c.live_tick_bytes-answer.ensures.code c.tell_tick.ensures.code
