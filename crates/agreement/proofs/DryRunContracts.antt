@@ -21,4 +21,4 @@ pub dry-run-gives-c : (κs : Lfts 7) (a : ArgsD c-dry-run.signature κs) (r : Re
     → c-dry-run-reads.Learnt κs a r s
     → GivesDryRunC (dry_run a.0.now a.1.0 a.1.1.0.now a.1.1.1.0.now a.1.1.1.1.0.now a.1.1.1.1.1.0.now) r
     s.1.1.1.1.1.1.0.now s.1.1.1.1.1.1.1.0.now s.1.1.0.now s.1.1.1.1.0.now s.1.1.1.1.1.0.now
-dry-run-gives-c κs a r s e = e
+dry-run-gives-c κs a r s e = record { told = e.0; image = e.1.0; masks = e.1.1.0; codes = e.1.1.1 }

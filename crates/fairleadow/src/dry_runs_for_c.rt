@@ -1,6 +1,7 @@
 // The call from C that runs a chart from its text.
+ghost use Rattle.std.specs.Prelude.{◌≡◌};
 ghost use Rattle.dry_runs.specs.DryRun.{dry_run};
-ghost use Rattle.fairleadow.specs.dry_runs_for_c.Calls.{GivesDryRunC};
+ghost use Rattle.fairleadow.specs.telling.AnswersForC.{GivesReplyC};
 
 use crate::telling::tell;
 
@@ -16,9 +17,11 @@ pub extern "C" fn fairleadow_dry_run(
     at: &mut usize,
     made: &mut usize,
 ) -> u8
-    ensures { GivesDryRunC (dry_run text.now size image.old words.now masks.old
-        codes.old) result at.new made.new image.new
-        masks.new codes.new }
+    ensures told { GivesReplyC
+        (dry_run text.now size image.old words.now masks.old codes.old).reply result at.new made.new }
+    ensures image { image.new ≡ (dry_run text.now size image.old words.now masks.old codes.old).image }
+    ensures masks { masks.new ≡ (dry_run text.now size image.old words.now masks.old codes.old).masks }
+    ensures codes { codes.new ≡ (dry_run text.now size image.old words.now masks.old codes.old).codes }
 {
     let answer = dry_runs::dry_run(text, size, image, words, masks, codes);
     tell(answer, at, made)
