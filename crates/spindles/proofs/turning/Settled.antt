@@ -1,12 +1,12 @@
 -- A turn on the bytes of a state by the tick that it makes, or by the head that is refused.
 use Prim.Native.Nat.{ℕ, ◌+◌, ◌-◌, ◌≤◌}
-use mathlib.Core.Path.{◌≡◌, refl, sym, ◌∙◌, ap, ap₂, subst}
-use mathlib.Core.Bool.{Bool, true, false, ◌&&◌, not}
+use mathlib.Core.Path.{◌≡◌, refl, sym, ◌∙◌, ap, subst}
+use mathlib.Core.Bool.{Bool, true, false, ◌&&◌}
 use mathlib.Core.List.{List, [], ◌∷◌}
 use lib.Dec.{leb, ltb, eqb}
 use native.Mathlib.Omega.{arith}
-use borrow.Author.Tests.{ne_eqb, le-ltb, eqb-true, ltb-false}
-use Rattle.words.proofs.lists.Tests.{or_l, or_r, not-false, if-true, if-false}
+use borrow.Author.Tests.{ne_eqb, le-ltb}
+use Rattle.words.proofs.lists.Tests.{if-false}
 use Rattle.text.specs.frames.Frame.{contents}
 use Rattle.text.specs.frames.Verdict.{Verdict, fine, refused, next, when}
 use Rattle.text.specs.frames.Answer.{refusal, verdict_reply}
@@ -27,7 +27,7 @@ use Rattle.runs.specs.machine.Live.{live_verdict, live_run, live_tick}
 use Rattle.runs.proofs.machine.Held.{tick-held}
 use Rattle.runs.proofs.machine.OneTick.{advance-by}
 use Rattle.spindles.specs.declared.SpinReport.{SpinReport}
-use Rattle.spindles.specs.Spindles.{is_none_left, has_no_place}
+use Rattle.spindles.specs.Spindles.{has_no_place}
 use Rattle.spindles.specs.inner.HeadAndTurn as parts
 use Rattle.spindles.specs.inner.HeadAndTurn.{is_bad_record, refused_head, TurnOutcome, unchanged_turn, turn_by, turn_on, turn, GivesTurnOn}
 use Rattle.spindles.proofs.OneCall.{tick_by_verdict, live-tick-by}
@@ -66,32 +66,6 @@ module _ (s : State) (sum taken : ℕ) (e : is_bad_record sum taken ≡ false) w
   turn-table : (b : List ℕ) (w : ℕ) → turn (when 11 (is_bad_table b)) s sum taken (live_tick b s w) ≡ turn_by s taken (live_tick b s w)
   turn-table b w = subst (λ (x : TickOutcome). turn (when 11 (is_bad_table b)) s sum taken x ≡ turn_by s taken x) (sym (live-tick-by b s w))
       (turn-ticks (when 11 (is_bad_table b)) (table_image b) w)
-
--- a record that holds is the sum, and at most 64: so a depth of the sum is within it
-pub record-holds : (sum taken depth : ℕ) → is_bad_record sum taken ≡ false → depth ≤ sum → (depth ≤ taken) × (taken ≤ 64)
-record-holds sum taken depth e l =
-    let same : sum ≡ taken = eqb-true sum taken (not-false (eqb sum taken) (or_l (not (eqb sum taken)) (ltb 64 taken) e)) in
-    (omega arith, ltb-false 64 taken (or_r (not (eqb sum taken)) (ltb 64 taken) e))
-
--- ---- what is settled after a tick
--- by the depths as they are read, and the test as it comes out
-module _ (before new : List ℕ) (ticked : TickAnswer) (taken d₀ d₁ : ℕ) (e₀ : d₀ ≡ depth_in before) (e₁ : d₁ ≡ depth_in new) (b : Bool)
-    (tested : b ≡ is_none_left d₀ d₁ taken) where
-  test-is : is_none_left (depth_in before) (depth_in new) taken ≡ b
-  test-is = ap₂ (λ (x y : ℕ). is_none_left x y taken) (sym e₀) (sym e₁) ∙ sym tested
-
-  pub settles-none : b ≡ true → GivesSettled before new ticked taken (record { answer = Err NoPlace; taken = taken }) before
-  settles-none l = record {
-    report = sym (if-true (is_none_left (depth_in before) (depth_in new) taken) _ _ (test-is ∙ l));
-    bytes = sym (if-true (is_none_left (depth_in before) (depth_in new) taken) before new (test-is ∙ l));
-  }
-
-  pub settles-free : b ≡ false → GivesSettled before new ticked taken (record { answer = ticked; taken = taken + d₁ - d₀ }) new
-  settles-free l = record {
-    report = ap₂ (λ (x y : ℕ). record { answer = ticked; taken = taken + y - x }) e₀ e₁
-        ∙ sym (if-false (is_none_left (depth_in before) (depth_in new) taken) _ _ (test-is ∙ l));
-    bytes = sym (if-false (is_none_left (depth_in before) (depth_in new) taken) before new (test-is ∙ l));
-  }
 
 module _ (before new after : List ℕ) (ticked : TickAnswer) (taken : ℕ) (r : SpinReport) where
   -- with the tick in place
