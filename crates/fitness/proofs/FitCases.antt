@@ -1,31 +1,15 @@
 -- What each way out of the functions on fitness answers.
 use Prim.Native.Nat.{ℕ, zero, suc, ◌-◌, ◌≤◌, ◌<◌}
-use mathlib.Core.Bool.{Bool, true, false, ◌&&◌, ◌||◌, not}
-use mathlib.Core.Path.{◌≡◌, refl, sym, ◌∙◌, ap}
-use mathlib.Core.Logic.{◌⊎◌, inl, inr}
+use mathlib.Core.Bool.{Bool, true, false, ◌&&◌, ◌||◌}
+use mathlib.Core.Path.{◌≡◌, refl, sym, ◌∙◌}
 use native.Mathlib.Omega.{arith}
-use lib.Dec.{leb, ltb, eqb}
-use borrow.Author.Tests.{eq-eqb, ne_eqb, eqb-false, ltb-false, lt-ltb, le-ltb, le-leb, lt-leb}
+use lib.Dec.{eqb}
+use borrow.Author.Tests.{eq-eqb}
 use Rattle.words.specs.lists.Numbers.{any}
-use Rattle.words.proofs.lists.Tests.{or_l, or_r, or-none, or_true_r, and_no, split}
 use Rattle.image.specs.Image.{Image}
 use Rattle.state.specs.declared.State.{State}
-use Rattle.state.specs.State.{is_bad_size}
-use Rattle.state.proofs.Sizes.{size-most}
 use Rattle.fitness.specs.Fitness.{is_unfit_place, is_filled_place, has_bad_bottom, is_badly_served, has_bad_depth, is_unfit}
-use Rattle.fitness.specs.inner.FitnessContracts.{is_astray, is_own, is_miscalled, is_astray_at_bottom, is_misserved}
-
-both : (a : Bool) → not a ≡ not (a && true)
-both true = refl
-both false = refl
-
--- a number above another is not at most that
-beyond : (a b : ℕ) → ltb a b ≡ not (leb b a)
-beyond a b = go (split a b)
-  where
-    go : (a < b) ⊎ (b ≤ a) → ltb a b ≡ not (leb b a)
-    go (inl l) = lt-ltb a b l ∙ sym (ap not (lt-leb b a l))
-    go (inr l) = le-ltb a b l ∙ sym (ap not (le-leb b a l))
+use Rattle.fitness.specs.inner.FitnessContracts.{is_own}
 
 -- ---- kinds 1 and 2 are calls
 pub kind-call : (k : ℕ) → 1 ≤ k → k < 3 → (eqb k 1 || eqb k 2) ≡ true
@@ -34,115 +18,10 @@ kind-call (suc zero) h l = refl
 kind-call (suc (suc zero)) h l = refl
 kind-call (suc (suc (suc k))) h l = absurd (omega arith)
 
-pub kind-none : (k : ℕ) → (1 ≤ k → k < 3 → ⊥) → (eqb k 1 || eqb k 2) ≡ false
-kind-none zero n = refl
-kind-none (suc zero) n = absurd (n (omega arith) (omega arith))
-kind-none (suc (suc zero)) n = absurd (n (omega arith) (omega arith))
-kind-none (suc (suc (suc k))) n =
-    or-none (eqb (suc (suc (suc k))) 1) (eqb (suc (suc (suc k))) 2)
-    (ne_eqb (suc (suc (suc k))) 1 (λ e. omega arith)) (ne_eqb (suc (suc (suc k))) 2 (λ e. omega arith))
-
--- ---- where a label of that owner may not stand
-module _ (owner scheme l : ℕ) where
-  pub astray-owned : owner ≡ scheme → false ≡ is_astray owner scheme l
-  astray-owned e = sym (ap not (or_true_r (eqb l 1) (eqb owner scheme) (eq-eqb owner scheme e)))
-
-  pub astray-other : (owner ≡ scheme → ⊥) → not (eqb l 1) ≡ is_astray owner scheme l
-  astray-other n = go (eqb l 1)
-    where
-      go : (t : Bool) → not t ≡ not (t || eqb owner scheme)
-      go true = refl
-      go false = sym (ap not (ne_eqb owner scheme n))
-
--- ---- number and server of a place
-module _ (number server scheme : ℕ) where
-  pub own-not : (number ≡ scheme → ⊥) → false ≡ is_own number server scheme
-  own-not n = rw (ne_eqb number scheme n)
-
-  pub own-server : number ≡ scheme → eqb server scheme ≡ is_own number server scheme
-  own-server e = rw (eq-eqb number scheme e)
-
-module _ (H number called server : ℕ) where
-  pub miscalled-number : (number ≡ called → ⊥) → true ≡ is_miscalled H number called server
-  miscalled-number n = rw (ne_eqb number called n)
-
-  module _ (e : number ≡ called) where
-    pub miscalled-low : server < 2 → true ≡ is_miscalled H number called server
-    miscalled-low l = rw (eq-eqb number called e, lt-leb 2 server l)
-
-    pub miscalled-high : 2 ≤ server → ltb H server ≡ is_miscalled H number called server
-    miscalled-high l = rw (eq-eqb number called e, le-leb 2 server l) (beyond H server)
-
 -- ---- the bottom
 module _ (owner number server : ℕ) where
-  pub first-not : (owner ≡ 1 → ⊥) → false ≡ (eqb owner 1 && is_own number server 1)
-  first-not n = rw (ne_eqb owner 1 n)
-
   pub first-own : owner ≡ 1 → is_own number server 1 ≡ (eqb owner 1 && is_own number server 1)
   first-own e = rw (eq-eqb owner 1 e)
-
--- t stands for the test that it is of scheme 1, u for the one that it is the handler's own
-module _ (handler owner l number server : ℕ) where
-  module _ (t : Bool) (is : t ≡ (eqb owner 1 && is_own number server 1)) where
-    pub bottom-first : t ≡ true → false ≡ is_astray_at_bottom handler owner l number server
-    bottom-first e = rw (sym is ∙ e)
-
-    module _ (other : t ≡ false) where
-      pub bottom-none : handler ≡ 0 → true ≡ is_astray_at_bottom handler owner l number server
-      bottom-none e = rw (sym is ∙ other, eq-eqb handler 0 e)
-
-      module _ (n : handler ≡ 0 → ⊥) (u : Bool) (by : u ≡ is_own number server handler) where
-        pub bottom-handler : u ≡ true → is_astray owner handler l ≡ is_astray_at_bottom handler owner l number server
-        bottom-handler e = rw (sym is ∙ other, ne_eqb handler 0 n, sym by ∙ e) (both (eqb l 1 || eqb owner handler))
-
-        pub bottom-called : u ≡ false → true ≡ is_astray_at_bottom handler owner l number server
-        bottom-called e = rw (sym is ∙ other, ne_eqb handler 0 n, sym by ∙ e)
-            (sym (ap not (and_no (eqb l 1 || eqb owner handler) false refl)))
-
--- ---- the depth; n and d stand for size and depth as they were read
-pub depth-most : (s : State) → has_bad_depth s ≡ false → s.depth ≤ 32
-depth-most s e =
-    let p : (is_bad_size s.size || eqb s.depth 0) ≡ false = or_l (is_bad_size s.size || eqb s.depth 0) (ltb s.size s.depth) e in
-    omega (
-      arith,
-      size-most s.size (or_l (is_bad_size s.size) (eqb s.depth 0) p),
-      ltb-false s.size s.depth (or_r (is_bad_size s.size || eqb s.depth 0) (ltb s.size s.depth) e),
-    )
-
-pub depth-some : (s : State) → has_bad_depth s ≡ false → 1 ≤ s.depth
-depth-some s e =
-    let p : (is_bad_size s.size || eqb s.depth 0) ≡ false = or_l (is_bad_size s.size || eqb s.depth 0) (ltb s.size s.depth) e in
-    let n : s.depth ≡ 0 → ⊥ = eqb-false s.depth 0 (or_r (is_bad_size s.size) (eqb s.depth 0) p) in
-    omega arith
-
-module _ (s : State) (n d : ℕ) (size : n ≡ s.size) (depth : d ≡ s.depth) (t : Bool) (refused : t ≡ is_bad_size n) where
-  sized : is_bad_size s.size ≡ t
-  sized = ap is_bad_size (sym size) ∙ sym refused
-
-  pub depth-size : t ≡ true → true ≡ has_bad_depth s
-  depth-size e = rw (sized ∙ e)
-
-  pub depth-zero : t ≡ false → d ≡ 0 → true ≡ has_bad_depth s
-  depth-zero e z = rw (sized ∙ e, eq-eqb s.depth 0 (sym depth ∙ z))
-
-  pub depth-above : t ≡ false → (d ≡ 0 → ⊥) → ltb n d ≡ has_bad_depth s
-  depth-above e z = rw (sized ∙ e, ne_eqb s.depth 0 (λ q. z (depth ∙ q)), size, depth)
-
--- ---- who serves a number
-module _ (H g h k : ℕ) where
-  pub misserved-above : H < h → not (eqb k h) ≡ is_misserved H g h k
-  misserved-above l = rw (lt-leb h H l)
-
-  module _ (low : h ≤ H) where
-    pub misserved-handler : h ≡ g → not (eqb k h) ≡ is_misserved H g h k
-    misserved-handler e = rw (le-leb h H low, eq-eqb h g e)
-
-    module _ (other : h ≡ g → ⊥) where
-      pub misserved-low : k < 2 → true ≡ is_misserved H g h k
-      misserved-low l = rw (le-leb h H low, ne_eqb h g other, lt-leb 2 k l)
-
-      pub misserved-high : 2 ≤ k → ltb H k ≡ is_misserved H g h k
-      misserved-high l = rw (le-leb h H low, ne_eqb h g other, le-leb 2 k l) (beyond H k)
 
 -- ---- the whole state: t stands for the tests of the places up to the depth and of the bottom, u for those of the places above
 module _ (i : Image) (s : State) where

@@ -1,21 +1,20 @@
 -- The answers of a rebinding on a table, by what its tests give.
 use Prim.Native.Nat.{ℕ, ◌≤◌}
 use mathlib.Core.Path.{◌≡◌, refl, sym, ap, ap₂, ◌∙◌}
-use mathlib.Core.Bool.{Bool, true, false, ◌||◌}
+use mathlib.Core.Bool.{Bool, true, false}
 use mathlib.Core.List.{List}
 use native.Mathlib.Omega.{arith}
-use lib.Dec.{eqb, ltb}
+use lib.Dec.{eqb}
 use lib.ListN.{length}
-use borrow.Author.Tests.{ne_eqb, ltb-false}
-use Rattle.words.proofs.lists.Tests.{if-false, or_l, or_r}
+use borrow.Author.Tests.{ne_eqb}
+use Rattle.words.proofs.lists.Tests.{if-false}
 use Rattle.bindings.specs.Binding.{rebound_binding, is_bad_rebinding}
 use Rattle.text.specs.frames.Verdict.{next, when}
 use Rattle.text.specs.frames.Answer.{Answer, refusal, reply}
 use Rattle.std.proofs.Common.{Ok, Err}
 use Rattle.text.specs.declared.frames.refusals.Refusal.TheVariants.{Unfit, BadRebinding}
-use Rattle.image.specs.Decode.{scheme_count, handler_in, last_label, row_count}
+use Rattle.image.specs.Decode.{scheme_count, handler_in}
 use Rattle.tables.specs.Table.{table_image}
-use Rattle.tables.specs.inner.Asked.{Whole}
 use Rattle.tables.proofs.TableReads.{entries-count}
 use Rattle.state.specs.declared.State.{State}
 use Rattle.state.specs.State.{StateOutcome}
@@ -23,7 +22,6 @@ use Rattle.state.specs.Changes.{with_serving}
 use Rattle.state.specs.Bytes.{state_of, bytes_of}
 use Rattle.fitness.specs.Fitness.{is_unfit}
 use Rattle.rebinding.specs.Rebind.{rebind_on, table_rebind, GivesRebindingOn}
-use Rattle.rebinding.proofs.rebindable.Refusal.{AllowedRebinding, allowed}
 
 -- a refusal hands back what it was given
 abbrev pub kept_state : ℕ → ℕ → State → StateOutcome
@@ -67,21 +65,3 @@ module _ (b before : List ℕ) (h k : ℕ) (t : Bool) (e : t ≡ is_unfit (table
         → after ≡ bytes_of (state_of bound)
         → GivesRebindingOn (table_rebind b s h k) before (Ok 0) after
     done-rebinds q bound after x y = rw (table_is ∙ ap (answers false) q) (record { answered = refl; bytes = y ∙ ap bytes_of x })
-
--- at most 16 schemes, so that both are bytes
-module _ (b : List ℕ) (whole : Whole b) (h k : ℕ) (u : Bool) (f : u ≡ is_bad_rebinding (scheme_count b) (handler_in b) h k)
-    (q : u ≡ false) where
-  schemes-few : scheme_count b ≤ 16
-  schemes-few =
-      let n : Bool = eqb (scheme_count b) 0 || ltb 16 (scheme_count b) in
-      let p : n ≡ false = or_l n (eqb (last_label b) 0) (or_l (n || eqb (last_label b) 0) (ltb 1024 (row_count b)) whole.counts) in
-      ltb-false 16 (scheme_count b) (or_r (eqb (scheme_count b) 0) (ltb 16 (scheme_count b)) p)
-
-  may : AllowedRebinding (scheme_count b) (handler_in b) h k
-  may = allowed (scheme_count b) (handler_in b) h k (sym f ∙ q)
-
-  pub number-within : (1 ≤ h) × (h ≤ 16)
-  number-within = (omega (arith, may.number-low), omega (arith, may.number-high, schemes-few))
-
-  pub scheme-most : k ≤ 16
-  scheme-most = omega (arith, may.scheme-high, schemes-few)

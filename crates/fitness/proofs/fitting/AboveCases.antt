@@ -2,7 +2,7 @@
 use Rattle.std.proofs.Common.{if◌then◌else◌}
 use Prim.Native.Nat.{ℕ, ◌+◌, ◌-◌, ◌≤◌, ◌<◌}
 use mathlib.Core.Bool.{true, false, ◌&&◌, not}
-use mathlib.Core.Path.{◌≡◌, refl, sym, ◌∙◌, ap}
+use mathlib.Core.Path.{◌≡◌, sym, ◌∙◌, ap}
 use mathlib.Core.Logic.{◌⊎◌, inl, inr}
 use native.Mathlib.Decide.{ℕ_discrete}
 use native.Mathlib.Omega.{arith}
@@ -64,9 +64,6 @@ module _ (s : State) where
     pub inside : k ≤ 32
     pub none : bits ≡ 0 → (j : ℕ) → s.depth ≤ j → j < k → place_joined s j ≡ 0
     pub some : (bits ≡ 0 → ⊥) → found
-
-  pub seen_first : Seen 0 0
-  seen_first = record { inside = omega arith; none = λ e j h g. absurd (omega arith); some = λ n. absurd (n refl) }
 
   module _ (bits k d x : ℕ) (e : d ≡ s.depth) (h : k < 32) (q : x ≡ (if leb d k then place_joined s k else 0)) (t : Seen bits k) where
     here : x ≡ 0 → s.depth ≤ k → place_joined s k ≡ 0
