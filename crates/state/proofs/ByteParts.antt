@@ -9,7 +9,7 @@ use mir.Val.{bool_byte}
 use lib.Dec.{eqb}
 use lib.ListN.{length, get_or, set, get_or-eq_default}
 use lib.Seq.{get_or-set_same, get_or-set_other, set_out}
-use borrow.Author.Tests.{eq-eqb, ne_eqb}
+use borrow.Author.Tests.{ne_eqb}
 use Rattle.results.specs.Results.{result_of}
 use Rattle.bindings.specs.Binding.{server_of, rebound_binding}
 use Rattle.state.specs.declared.State.{State}
@@ -178,9 +178,6 @@ open-set b b₁ b₂ b₃ k l h g w w₁ w₂ low e₁ e₂ e₃ =
 byte-back : (t : Bool) → not (eqb (bool_byte t) 0) ≡ t
 byte-back true = refl
 byte-back false = refl
-
-pub result-kept : (s : State) (r h : ℕ) → r ≡ 0 → s ≡ state_after_result s r h
-result-kept s r h e = ap (with_bits s) (rw (eq-eqb r 0 e))
 
 -- k stands for number h's place among the results
 module _ (b : List ℕ) (r h k : ℕ) (place : k ≡ h - 1) where

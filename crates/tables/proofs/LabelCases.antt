@@ -1,27 +1,18 @@
 -- What the functions that read a label of a table hand back, by the bytes that they find.
 use Rattle.std.proofs.Common.{if◌then◌else◌}
-use Prim.Native.Nat.{ℕ, zero, suc, ◌+◌, ◌-◌, ◌≤◌, ◌<◌}
+use Prim.Native.Nat.{ℕ, zero, suc, ◌+◌, ◌≤◌}
 use mathlib.Core.Path.{◌≡◌, refl, sym, ◌∙◌, ap}
 use mathlib.Core.List.{List}
 use native.Mathlib.Omega.{arith}
 use lib.Dec.{ltb}
-use borrow.Author.Tests.{lt-ltb, le-ltb}
-use Rattle.words.proofs.lists.Tests.{if-true, if-false}
+use borrow.Author.Tests.{le-ltb}
+use Rattle.words.proofs.lists.Tests.{if-false}
 use Rattle.text.specs.frames.Frame.{field}
-use Rattle.image.specs.Image.{Label, home_label, return_label}
-use Rattle.image.specs.Decode.{scheme_count, last_label, labels_from, label_in}
+use Rattle.image.specs.Image.{Label}
+use Rattle.image.specs.Decode.{scheme_count, labels_from, label_in}
 use Rattle.tables.specs.Table.{label_on, table_label}
-use Rattle.tables.specs.inner.Asked.{entry_of}
 use Rattle.tables.proofs.TableReads.{label-on}
-use Rattle.tables.specs.inner.Labels.{NumberedLabel, Framed}
-
--- ---- a label of the table
-module _ (b : List ℕ) (l : ℕ) where
-  pub label-home : l ≤ last_label b → l ≡ 0 → home_label ≡ table_label b l
-  label-home h e = sym (label-on b l h ∙ ap (label_on b) e)
-
-  pub label-return : l ≤ last_label b → l ≡ 1 → return_label ≡ table_label b l
-  label-return h e = sym (label-on b l h ∙ ap (label_on b) e)
+use Rattle.tables.specs.inner.Labels.{NumberedLabel}
 
 -- ---- a label with fields of its own
 -- its kind and its called scheme, as any table counts them
@@ -44,25 +35,9 @@ module _ (b : List ℕ) (l : ℕ) (asked : NumberedLabel b l) where
   pub label-numbered : table_label b l ≡ numbered b l
   label-numbered = label-on b l asked.high ∙ on-numbered b l asked.low
 
-  module _ (k : ℕ) (found : k ≡ field b (labels_from b + l) 2) where
-    pub kind-high : 2 < k → 0 ≡ (table_label b l).kind
-    kind-high h =
-        sym (ap (λ (x : Label). x.kind) label-numbered
-        ∙ if-true (ltb 2 (label_in b l).kind) 0 (label_in b l).kind (lt-ltb 2 (label_in b l).kind (omega arith)))
-
   module _ (k n : ℕ) (found : k ≡ field b (labels_from b + l) 3) (schemes : n ≡ scheme_count b) where
     pub called-known : k ≤ n → k ≡ (table_label b l).called
     called-known h =
         found ∙ sym (ap (λ (x : Label). x.called) label-numbered
         ∙ if-false (ltb (scheme_count b) (label_in b l).called) 0 (label_in b l).called
         (le-ltb (scheme_count b) (label_in b l).called (omega arith)))
-
--- ---- with H as the caller has it, n
-module _ (b : List ℕ) (n l : ℕ) (asked : Framed b n l) where
-  frame_at : n + l + 1 ≡ labels_from b + l
-  frame_at = omega (arith, asked.schemes)
-
--- ---- entries
-module _ (b : List ℕ) (h e : ℕ) where
-  pub entry_other : (h ≡ 0 → ⊥) → e ≡ field b h 2 → e ≡ entry_of b h
-  entry_other z p = p ∙ ap (λ (n : ℕ). field b n 2) (let q : h ≡ suc (h - 1) = omega arith in q)

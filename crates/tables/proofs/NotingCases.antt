@@ -1,22 +1,22 @@
 -- The loop that notes where the rows of each label end: the search for a label goes on where the one before it ended.
-use Prim.Native.Nat.{ℕ, ◌+◌, ◌*◌, ◌-◌, ◌/◌, ◌%◌, ◌≤◌, ◌<◌}
+use Prim.Native.Nat.{ℕ, ◌+◌, ◌-◌, ◌/◌, ◌%◌, ◌≤◌, ◌<◌}
 use mathlib.Core.Bool.{false}
 use mathlib.Core.Path.{◌≡◌, refl, sym, ◌∙◌, ap, ap₂}
 use mathlib.Core.List.{List}
 use native.Mathlib.Numerals.{add-one}
 use native.Mathlib.Omega.{arith}
 use lib.Dec.{leb}
-use lib.ListN.{length, set}
+use lib.ListN.{set}
 use borrow.Author.Tests.{leb-false, lt-leb}
 use Rattle.words.specs.lists.Numbers.{lowest}
 use Rattle.words.proofs.lists.Searches.{lowest-above, lowest-inside, lowest-from, lowest-alike}
 use Rattle.text.specs.frames.Frame.{size, field}
 use Rattle.text.specs.frames.Verdict.{fine}
-use Rattle.image.specs.Decode.{scheme_count, last_label, rows_from}
+use Rattle.image.specs.Decode.{last_label, rows_from}
 use Rattle.image.specs.Check.{table_verdict}
 use Rattle.image.proofs.Accepted.{counted}
-use Rattle.tables.specs.Prepare.{is_row_reached, first_frame, noted_to, noted_table}
-use Rattle.tables.proofs.Noted.{rows_inside, place, noted-to-length, noted-to-row}
+use Rattle.tables.specs.Prepare.{is_row_reached, first_frame, noted_to}
+use Rattle.tables.proofs.Noted.{rows_inside, place, noted-to-row}
 
 -- a row that leaves no label from l on leaves none from a higher one on
 pub below_more : (b : List ℕ) (l m : ℕ) → l ≤ m → (f : ℕ) → is_row_reached b l f ≡ false → is_row_reached b m f ≡ false
@@ -42,13 +42,6 @@ module _ (b : List ℕ) (ok : table_verdict b ≡ fine) where
   }
 
   module _ {out : List ℕ} {f l : ℕ} (t : Notes b out f l) where
-    pub notes-length : length out ≡ length b
-    notes-length = ap (λ (xs : List ℕ). length xs) t.is ∙ noted-to-length b l
-
-    -- the two bytes of the label that is next lie within the table
-    pub notes-place : (n at : ℕ) → n ≡ scheme_count b → at ≡ 10 * (1 + n + l) → l ≤ last_label b → at + 1 < length out
-    notes-place n at schemes is h = omega (arith, notes-length, rows_inside b ok)
-
     module _ {end next : ℕ} (all : end ≡ size b) (e : next ≡ lowest (is_row_reached out (l + 1)) f (end - f)) where
       -- the rows of the table are still as they were
       same_rows : next ≡ lowest (is_row_reached b (l + 1)) f (size b - f)
@@ -84,6 +77,3 @@ module _ (b : List ℕ) (ok : table_verdict b ≡ fine) where
                 ∙ lowest-from (is_row_reached b (l + 1)) f (size b) t.inside (is_row_reached b m) (below_more b (l + 1) m (omega arith))
                 ∙ t.rest m (omega arith);
           }
-
-    pub notes-all : last_label b < l → out ≡ noted_table b
-    notes-all h = t.is ∙ ap (noted_to b) (let e : l ≡ last_label b + 1 = omega (arith, t.low) in e)

@@ -3,7 +3,6 @@ use Rattle.std.proofs.Common.{if◌then◌else◌}
 use mathlib.Core.Path.{◌≡◌, sym, ◌∙◌, ap}
 use mathlib.Core.Bool.{Bool}
 use Prim.Native.Nat.{ℕ, ◌-◌, ◌≤◌, ◌<◌}
-use native.Mathlib.Nat.{sub-zero}
 use native.Mathlib.Omega.{arith}
 use Rattle.words.specs.lists.Numbers.{lowest}
 use Rattle.words.proofs.lists.Searches.{lowest-over, lowest-below}
@@ -30,7 +29,3 @@ module _ (p q : ℕ → Bool) (n v a b : ℕ) (d : Downward p q n v a b) where
     first = ea ∙ ap (λ (t : Bool). if t then v - 1 else a) ex ∙ lowest-below p n v a some d.low d.first;
     second = eb ∙ ap (λ (t : Bool). if t then v - 1 else b) ey ∙ lowest-below q n v b some d.low d.second;
   }
-
-  module _ (h : v ≤ 0) where
-    whole : (p : ℕ → Bool) → lowest p v (n - v) ≡ lowest p 0 n
-    whole p = ap (λ (j : ℕ). lowest p j (n - j)) (omega arith) ∙ ap (lowest p 0) (sub-zero n)

@@ -1,10 +1,10 @@
 -- The pass over the nodes for refusal 4 with the counts of 5.
-use mathlib.Core.Path.{◌≡◌, refl, sym, ◌∙◌, ap}
+use mathlib.Core.Path.{◌≡◌, refl, ◌∙◌, ap}
 use mathlib.Core.Bool.{Bool, true, false}
 use mathlib.Core.List.{List}
 use Prim.Native.Nat.{ℕ, ◌+◌, ◌≤◌, ◌<◌, max}
 use native.Mathlib.Omega.{arith}
-use lib.ListN.{length, replicate, length-replicate}
+use lib.ListN.{replicate}
 use Rattle.words.specs.lists.Numbers.{lowest, highest, any}
 use Rattle.words.proofs.lists.Searches.{Searching, searching-first, searching-found, searching-next, searching-over, highest-next}
 use Rattle.text.specs.frames.Frame.{size}
@@ -14,7 +14,7 @@ use Rattle.chart_check.specs.chart_counts.inner.Counts.{counts_to, is_not_one_of
 use Rattle.chart_check.specs.chart_counts.inner.Found.{CountsFound, FieldsFound}
 use Rattle.chart_check.specs.declared.chart_counts.Counted.{Counted}
 use Rattle.charts.proofs.Nodes.{field-scheme}
-use Rattle.chart_check.proofs.chart_counts.SchemeCounts.{counts_start, counts-long, bad-counts}
+use Rattle.chart_check.proofs.chart_counts.SchemeCounts.{counts_start, bad-counts}
 
 -- the nodes below v have good fields and are counted
 pub record CountingNodes (c : Chart) (n v h : ℕ) (bs es : List ℕ) : Type 0 where
@@ -38,9 +38,6 @@ counting-none c n bs es e p q = record {
 }
 
 module _ (c : Chart) (n v h : ℕ) (bs es : List ℕ) (d : CountingNodes c n v h bs es) where
-  pub begins-long : length bs ≡ length (replicate {A = ℕ} 17 0)
-  begins-long = counts-long c 0 v bs d.begins ∙ sym (length-replicate {A = ℕ} 17 0)
-
   pub counting-turn : (h' s : ℕ) (bs' es' : List ℕ) → v < n → has_bad_field c v ≡ false → s ≡ scheme c v → h' ≡ max h s
       → bs' ≡ counts_to c 0 (v + 1) → es' ≡ counts_to c 1 (v + 1) → CountingNodes c n (v + 1) h' bs' es'
   counting-turn h' s bs' es' l good is e p q = record {

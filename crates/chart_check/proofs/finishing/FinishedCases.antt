@@ -48,10 +48,6 @@ module _ (c : Chart) (ms : List Bool) (v : ℕ) where
       next-second t = q ∙ sym (next-other (ap (is_marked ms) (sym p) ∙ m)
           ∙ if-true (is_marked ms (next1 c v)) (next1 c v) (size c) (ap (is_marked ms) (sym q) ∙ t))
 
-      pub next-none : is_marked ms b ≡ false → size c ≡ next_unfinished c ms v
-      next-none t = sym (next-other (ap (is_marked ms) (sym p) ∙ m)
-          ∙ if-false (is_marked ms (next1 c v)) (next1 c v) (size c) (ap (is_marked ms) (sym q) ∙ t))
-
   none_both : is_marked ms (next0 c v) ≡ false → is_marked ms (next1 c v) ≡ false → NoneAhead c ms v
   none_both a b u s =
       let i : is c 3 v ≡ true = leaves-condition c v u s in
@@ -133,26 +129,7 @@ pub record Standing (c : Chart) (unfinished : List Bool) (path : List ℕ) (left
   pub here : at < size c
   pub before : (i : ℕ) → i < depth → get_or path i 0 < size c
 
-pub standing-first : (c : Chart) (ms : List Bool) (path : List ℕ) (v : ℕ) → Finished c ms
-    → size c ≤ length path → v < size c → Standing c ms path (size c) 0 v
-standing-first c ms path v f r l = record { finished = f; fits = r; steps = omega arith; here = l; before = λ i b. absurd (omega arith) }
-
 module _ (c : Chart) (ms : List Bool) (path : List ℕ) (left depth at : ℕ) (s : Standing c ms path left depth at) where
-  pub standing_on : (next : ℕ) → 0 < left → next < size c → Standing c ms (set path depth at) (left - 1) (depth + 1) next
-  standing_on next p l = record {
-    finished = s.finished;
-    fits = omega (arith, s.fits, length-set path depth at);
-    steps = omega (arith, s.steps);
-    here = l;
-    before = λ i b. go i b (ℕ_discrete i depth);
-  }
-    where
-      go : (i : ℕ) → i < depth + 1 → Dec (i ≡ depth) → get_or (set path depth at) i 0 < size c
-      go i b (yes e) = subst (λ (x : ℕ). x < size c)
-          (sym (ap (λ (j : ℕ). get_or (set path depth at) j 0) e ∙ get_or-set_same path depth at 0 (omega (arith, s.fits, s.steps))))
-          s.here
-      go i b (no e) = subst (λ (x : ℕ). x < size c) (sym (get_or-set_other path depth i at 0 e)) (s.before i (omega arith))
-
   module _ (r : ℕ) (q : r ≡ next_unfinished c ms at) (l : size c ≤ r) where
     pub standing-end : Finished c (set ms at false)
     standing-end = finished-more c ms s.finished at s.here (none_ahead c ms at s.finished.long r q l)

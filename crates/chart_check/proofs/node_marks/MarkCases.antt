@@ -26,7 +26,7 @@ use Rattle.text.specs.frames.Frame.{size}
 use Rattle.charts.specs.Chart.{Chart, kind, next0, next1, is}
 use Rattle.charts.specs.Check.{arcs, condition_arcs, is_on_circle}
 use Rattle.charts.specs.inner.Marks.{arcs_by, kind_marks}
-use Rattle.charts.proofs.Nodes.{outside, arcs-end, arcs-one, arcs-condition, arcs-function, two-arcs}
+use Rattle.charts.proofs.Nodes.{arcs-end, arcs-one, arcs-condition, arcs-function}
 use Rattle.charts.proofs.Meaning.{condition-arcs, no-condition-arcs}
 use Rattle.chart_check.specs.node_marks.inner.MarkContracts.{marks_swept_to, Blank, ListedRoom}
 use Rattle.chart_check.proofs.node_marks.Sweeps.{swept_same}
@@ -42,24 +42,6 @@ module _ (c : Chart) (b : Bool) (v : ℕ) where
       go : (x : Bool) → b ≡ x → arcs_by c b v ≡ arcs c v
       go true t = ap (λ b. if b then condition_arcs c v else arcs c v) t ∙ condition-arcs c v (eq-eqb (kind c v) 3 (h t))
       go false t = ap (λ b. if b then condition_arcs c v else arcs c v) t
-
-  module _ (k : ℕ) (e : k ≡ kind c v) where
-    long : (us : List ℕ) → arcs_by c b v ≡ us → length us ≡ length (arcs_by c b v)
-    long us q = sym (ap (λ (xs : List ℕ). length xs) q)
-
-    pub count_none : b ≡ true → (k ≡ 3 → ⊥) → 0 ≡ length (arcs_by c b v)
-    count_none t n = long [] (by-none t (λ q. n (e ∙ q)))
-
-    module _ (h : b ≡ true → k ≡ 3) where
-      all : arcs_by c b v ≡ arcs c v
-      all = by_all (λ t. sym e ∙ h t)
-
-      pub count-two : 3 ≤ k → k < 5 → 2 ≡ length (arcs_by c b v)
-      count-two l m = long (next0 c v ∷ next1 c v ∷ []) (all ∙ two-arcs c v (omega arith) (omega arith))
-
-      pub count-one : (k ≡ 1 → ⊥) → (k < 3) ⊎ (5 ≤ k) → 1 ≡ length (arcs_by c b v)
-      count-one n o = long (next0 c v ∷ [])
-          (all ∙ arcs-one c v (λ q. n (e ∙ q)) (λ q. (outside k o).0 (e ∙ q)) (λ q. (outside k o).1 (e ∙ q)))
 
 -- none, the first, or both
 abbrev Shape : Chart → ℕ → List ℕ → Type 0
@@ -168,9 +150,6 @@ part_of zero zero a l = refl
 part_of zero (suc n) a l = absurd (omega arith)
 part_of (suc m) zero a l = refl
 part_of (suc m) (suc n) a l = ap (λ xs. a ∷ xs) (part_of m n a (omega arith))
-
-pub part-long : {A : Type 0} (m n : ℕ) (a : A) → n ≤ m → length (take n (replicate m a)) ≡ n
-part-long m n a l = ap (λ xs. length xs) (part_of m n a l) ∙ length-replicate n a
 
 -- ---- where no node is marked, the list has none
 module _ (c : Chart) (marks : List Bool) (list : List ℕ) (blank : Blank c marks list) where

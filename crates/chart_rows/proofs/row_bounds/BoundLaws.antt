@@ -14,9 +14,8 @@ use lib.Arith.{lt-one}
 use lib.Bits.{bit_or}
 use lib.Count.{ones, ones_step, ones-le}
 use lib.Dec.{eqb}
-use lib.ListN.{length, get_or, set, replicate, length-append, length-set, length-replicate, get_or-replicate}
+use lib.ListN.{length, get_or, replicate, length-append, length-replicate, get_or-replicate}
 use lib.Pow.{pow_pos, pow_mono, shr-shr, shr_lt, shl_exact, high, ones_lt, ones_split}
-use lib.Seq.{get_or-set_same, get_or-set_other}
 use borrow.Author.Tests.{eqb-true, eq-eqb, ne_eqb}
 use Rattle.words.specs.lists.Numbers.{count}
 use Rattle.words.proofs.lists.Counts.{count-suc, count-within, count_less}
@@ -210,30 +209,11 @@ module _ (c : Chart) (ready : Ready c) where
         (few-rank (size c) v t (rank-le c v));
   }
 
-pub masked-set : (c : Chart) (masks : List ℕ) (v x : ℕ) → Masked c masks → v < size c
-    → (Entered c v → FewPaths c v x) → Masked c (set masks v x)
-masked-set c masks v x k l f = record { long = omega (arith, k.long, length-set masks v x); few = λ u t. go u t (ℕ_discrete v u) }
-  where
-    go : (u : ℕ) → Entered c u → Dec (v ≡ u) → FewPaths c u (get_or (set masks v x) u 0)
-    go u t (yes q) =
-        subst (λ (w : ℕ). FewPaths c w (get_or (set masks v x) w 0)) q
-        (subst (FewPaths c v) (sym (get_or-set_same masks v x 0 (omega (arith, k.long)))) (f (subst (Entered c) (sym q) t)))
-    go u t (no q) = subst (FewPaths c u) (sym (get_or-set_other masks v u x 0 (λ e. q (sym e)))) (k.few u t)
-
 -- loops over the nodes write them
 pub record Masking (c : Chart) (old masks : List ℕ) (v : ℕ) : Type 0 where
   pub within : v ≤ size c
   pub size : length masks ≡ length old
   pub masked : Masked c masks
-
--- the mask of node w, and on to node u
-pub masking-set : (c : Chart) (old masks : List ℕ) (v w u : ℕ) → Masking c old masks v → w < size c → u ≤ size c
-    → (x : ℕ) → (Entered c w → FewPaths c w x) → Masking c old (set masks w x) u
-masking-set c old masks v w u t l m x f = record {
-  within = m;
-  size = length-set masks w x ∙ t.size;
-  masked = masked-set c masks w x t.masked l f;
-}
 
 -- ---- the mask of a node by those behind its arcs
 module _ (c : Chart) (notes masks : List ℕ) (v : ℕ) (node : NotedAt c notes v) (k : Masked c masks) where

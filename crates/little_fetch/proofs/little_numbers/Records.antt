@@ -1,7 +1,5 @@
 -- Node records by number, and the numbers to try, by the tests that the code makes.
-use Rattle.std.proofs.Common.{if◌then◌else◌}
 use Prim.Native.Nat.{ℕ, ◌+◌, ◌*◌, ◌-◌, ◌/◌, ◌%◌, ◌≤◌, ◌<◌}
-use mathlib.Core.Bool.{Bool, true, false}
 use mathlib.Core.Path.{◌≡◌, sym, ◌∙◌}
 use mathlib.Core.List.{List, [], ◌∷◌}
 use lib.Dec.{ltb, eqb}
@@ -32,10 +30,3 @@ module _ (n i : ℕ) where
     unfolding node_at
     at-condition m = sym (if-false (ltb i n) _ _ (le-ltb i n l) ∙ if-false (eqb i n) _ _ (ne_eqb i n d)
         ∙ if-false (ltb i (3 * n + 1)) _ _ (le-ltb i (3 * n + 1) m))
-
--- ---- choices by a test that a call made
-pub chosen : {A : Type 0} (r t : Bool) (a b : A) → r ≡ t → r ≡ true → a ≡ (if t then a else b)
-chosen r t a b e q = sym (if-true t a b (sym e ∙ q))
-
-pub left : {A : Type 0} (r t : Bool) (a b : A) → r ≡ t → r ≡ false → b ≡ (if t then a else b)
-left r t a b e q = sym (if-false t a b (sym e ∙ q))

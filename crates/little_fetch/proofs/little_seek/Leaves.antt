@@ -12,28 +12,13 @@ use Rattle.words.specs.lists.Numbers.{any}
 use Rattle.words.specs.lists.Sequences.{written}
 use Rattle.words.proofs.lists.Written.{written-take}
 use Rattle.text.specs.frames.Frame.{size}
-use Rattle.text.specs.frames.Verdict.{Verdict}
-use Rattle.text.specs.frames.Answer.{Answer, reply, verdict_reply}
-use Rattle.text.proofs.frames.Chains.{ok-fine, err-refused}
-use Rattle.std.proofs.Common.{Ok, Err, if◌then◌else◌}
-use Rattle.std.specs.Prelude.{is_ok}
+use Rattle.std.proofs.Common.{if◌then◌else◌}
 use Rattle.charts.specs.Chart.{Chart}
 use Rattle.charts.specs.Check.{chart_verdict}
 use Rattle.little_charts.specs.Little.{begin_node, end_node, is_fine}
 use Rattle.little_charts.specs.little_search.inner.Search.{operation_at, condition_at, node_at, is_lonely, searched_charts}
 use Rattle.little_fetch.specs.declared.little_seek.Sought.{Sought}
 use Rattle.little_fetch.specs.little_seek.inner.SeekContracts.{FewFrames, RecordPlaced, SoughtCount, GivesSought, is_accepted}
-
--- ---- accepted or not
-pub lonely-out : (c : Chart) (t : Bool) → t ≡ any (is_lonely c) 0 (size c) → t ≡ true → false ≡ is_accepted c
-lonely-out c t e q = ap (λ (b : Bool). not b && is_fine (chart_verdict c)) (sym q ∙ e)
-
-pub checked-in : (c : Chart) (t : Bool) → t ≡ any (is_lonely c) 0 (size c) → t ≡ false → (a : Answer)
-    → reply a ≡ verdict_reply (chart_verdict c) 0 → is_ok a ≡ is_accepted c
-checked-in c t e q (Ok k) f =
-    ap₂ (λ (b : Bool) (v : Verdict). not b && is_fine v) (sym q ∙ e) (sym (ok-fine (Ok k) (chart_verdict c) 0 f k refl).0)
-checked-in c t e q (Err r) f =
-    ap₂ (λ (b : Bool) (v : Verdict). not b && is_fine v) (sym q ∙ e) (sym (err-refused (Err r) (chart_verdict c) 0 f r refl).0)
 
 -- ---- counted
 searched-leaf : (n : ℕ) (c : Chart) → searched_charts n 0 c ≡ (if is_accepted c then c ∷ [] else [])

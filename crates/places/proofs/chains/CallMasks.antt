@@ -5,7 +5,6 @@ use mathlib.Core.Bool.{Bool, true, false, ◌&&◌, ◌||◌}
 use mathlib.Core.Path.{◌≡◌, refl, sym, ◌∙◌, ap, ap₂}
 use mathlib.Core.Logic.{⊎_elim}
 use mathlib.Core.List.{List}
-use native.Mathlib.Decide.{ℕ_discrete}
 use native.Mathlib.Numerals.{add-one}
 use native.Mathlib.Omega.{arith}
 use lib.Bits.{bit_or, or_zero_r}
@@ -21,12 +20,12 @@ use Rattle.words.proofs.lists.Tabulated.{length-tabulate, get_d_tabulate, tabula
 use Rattle.words.specs.bits.Word.{bit}
 use Rattle.words.specs.graph.Reach.{is_marked}
 use Rattle.text.specs.frames.Frame.{size}
-use Rattle.charts.specs.Chart.{Chart, kind, scheme, argument}
+use Rattle.charts.specs.Chart.{Chart, scheme, argument}
 use Rattle.walk.proofs.Facts.{Facts}
 use Rattle.places.specs.chains.Calls.{has_call, is_call_of, is_caller, is_circular, ends_of, has_no_end, places}
 use Rattle.places.specs.chains.Chains.{Calls}
 use Rattle.places.specs.chains.inner.Masks.{called_at, mask_of, call_masks, called_by, ends_by, longest_by, longest_chain}
-use Rattle.places.proofs.chains.CallLaws.{holds-function, holds-operation, called-range}
+use Rattle.places.proofs.chains.CallLaws.{called-range}
 use Rattle.places.proofs.chains.Longest.{ends-suc}
 use Rattle.places.proofs.chains.Circles.{circle-told, circle-long, no-circle-short}
 use Rattle.places.proofs.chains.Masks.{mask-bit, mask-alike, mask-or, mask-more, mask-empty}
@@ -43,25 +42,6 @@ lowest-last : (p : ℕ → Bool) (i n : ℕ) → p (i + n) ≡ true → lowest p
 unfolding lowest
 lowest-last p i zero e = ap (λ (b : Bool). elim b [ true ↦ i | false ↦ suc i ]) (ap p (omega arith) ∙ e)
 lowest-last p i (suc n) e = ap (λ (k : ℕ). elim (p i) [ true ↦ i | false ↦ k ]) (lowest-last p (suc i) n (ap p (omega arith) ∙ e))
-
-if-zero : (b : Bool) (x : ℕ) → x ≡ 0 → x ≡ (if b then x else 0)
-if-zero true x e = refl
-if-zero false x e = e
-
--- ---- the call of a node, by its kind
-module _ (c : Chart) (v k r : ℕ) (ek : k ≡ kind c v) where
-  pub at-operation : k ≡ 2 → r ≡ argument c v → r ≡ called_at c v
-  at-operation e q = q ∙ go (ℕ_discrete (argument c v) 0)
-    where
-      two : kind c v ≡ 2
-      two = sym ek ∙ e
-
-      go : Dec (argument c v ≡ 0) → argument c v ≡ called_at c v
-      go (yes z) = if-zero (has_call c v) (argument c v) z
-      go (no z) = sym (ap (λ (b : Bool). if b then argument c v else 0) (holds-operation c v two z))
-
-  pub at-function : k ≡ 4 → r ≡ argument c v → r ≡ called_at c v
-  at-function e q = q ∙ sym (ap (λ (b : Bool). if b then argument c v else 0) (holds-function c v (sym ek ∙ e)))
 
 module _ (c : Chart) (v r : ℕ) (e : r ≡ called_at c v) where
   pub call-some : (r ≡ 0 → ⊥) → (has_call c v ≡ true) × (r ≡ argument c v)

@@ -1,7 +1,7 @@
 -- The loop that writes each result byte as 0 or 1, and what 130 bytes have to hold to be those of a state.
 use Rattle.std.proofs.Common.{if◌then◌else◌}
 use Prim.Native.Nat.{ℕ, ◌+◌, ◌≤◌, ◌<◌}
-use mathlib.Core.Path.{◌≡◌, refl, sym, ap, ap₂, ◌∙◌}
+use mathlib.Core.Path.{◌≡◌, sym, ap, ap₂, ◌∙◌}
 use mathlib.Core.Bool.{Bool, not}
 use mathlib.Core.List.{List, ◌∷◌, ◌++◌, map}
 use native.Mathlib.Nat.{zero-add}
@@ -54,9 +54,6 @@ pub record Tidied (b₀ b : List ℕ) (k : ℕ) : Type 0 where
   pub left : (j : ℕ) → 34 + k ≤ j → get_or b j 0 ≡ get_or b₀ j 0
 
 module _ (b₀ : List ℕ) where
-  pub tidied-none : Tidied b₀ b₀ 0
-  tidied-none = record { low = omega arith; size = refl; passed = λ j h. absurd (omega arith); before = λ j h. refl; left = λ j h. refl }
-
   byte-tidy : (k : ℕ) → k < 16 → bool_byte (not (eqb (get_or b₀ (34 + k) 0) 0)) ≡ result_byte (state_of b₀) k
   byte-tidy k l = byte-is (not (eqb (get_or b₀ (34 + k) 0) 0)) ∙ ap (λ (t : Bool). if t then 1 else 0) (bit-read b₀ k l)
 
