@@ -42,9 +42,6 @@ module _ (t : List ℕ) (s : State) (w n : ℕ) where
   unfolding explain
   answered h e = let x = succeeds e in record { fitting = record { accepted = x.passes; sized = h; fits = x.fits }; because = x.told }
 
-  pub answered-count : (explain t s w).reply ≡ success n → n ≡ 0
-  answered-count e = (succeeds e).none
-
 pub cause-told : CauseTold
 unfolding CauseTold
 cause-told = answered

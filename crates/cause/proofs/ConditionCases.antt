@@ -28,9 +28,6 @@ module _ (w care values : ℕ) where
       lowest = h ∙ ap (λ (u : Bool). if u then i - 1 else low) e ∙ lowest-below p 16 i low some x.inside x.lowest;
     }
 
-  pub passed-all : (low i : ℕ) → PassedCondition low i → i ≤ 0 → low ≡ lowest p 0 16
-  passed-all low i x h = x.lowest ∙ ap (λ (k : ℕ). lowest p k (16 - k)) (let z : i ≡ 0 = omega arith in z)
-
 -- ---- the row in frame f: its bit, care mask and values as they were read
 module _ (b : List ℕ) (f w bit : ℕ) (x : RowAsked b f) (bytes : (k : ℕ) → get_or b k 0 < 256) where
   abbrev care : ℕ
@@ -39,25 +36,10 @@ module _ (b : List ℕ) (f w bit : ℕ) (x : RowAsked b f) (bytes : (k : ℕ) �
   abbrev values : ℕ
   values = pair_at b f 4
 
-  abbrev low : ℕ
-  low = 2 ^ lowest (is_differing w care values) 0 16
-
   module _ (t : Bool) (only : ℕ) (is : only ≡ field b f 6) (e : t ≡ is_let_through only bit) where
-    let-is : t ≡ is_let_through (field b f 6) bit
-    let-is = e ∙ ap (λ (n : ℕ). is_let_through n bit) is
-
-    pub against-shut : t ≡ false → 0 ≡ mask_against_in b w bit f
-    against-shut h = sym (ap (λ (u : Bool). if u && not (is_agreeing w care values) then low else 0) (sym let-is ∙ h))
-
     module _ (h : t ≡ true) (c v : ℕ) (p : c ≡ care) (q : v ≡ values) where
       agrees-is : is_agreeing w c v ≡ is_agreeing w care values
       agrees-is = ap₂ (is_agreeing w) p q
-
-      by_word : (u : Bool) → is_agreeing w c v ≡ u → mask_against_in b w bit f ≡ (if not u then low else 0)
-      by_word u z = ap₂ (λ (m n : Bool). if m && not n then low else 0) (sym let-is ∙ h) (sym agrees-is ∙ z)
-
-      pub against-match : bit_and w c ≡ v → 0 ≡ mask_against_in b w bit f
-      against-match z = sym (by_word true (eq-eqb (bit_and w c) v z))
 
       module _ (z : bit_and w c ≡ v → ⊥) (i : ℕ) (g : i ≡ lowest (is_differing w c v) 0 16) where
         low-is : i ≡ lowest (is_differing w care values) 0 16
@@ -65,9 +47,6 @@ module _ (b : List ℕ) (f w bit : ℕ) (x : RowAsked b f) (bytes : (k : ℕ) �
 
         pub low-condition : i < 16
         low-condition = grind (arith, common_steps, low-differs, ne_eqb, agrees-is, low-is)
-
-        pub against-low : (r : ℕ) → r ≡ bit_or 0 (2 ^ i) → r ≡ mask_against_in b w bit f
-        against-low r y = y ∙ or_zero_l (2 ^ i) ∙ ap (λ (n : ℕ). 2 ^ n) low-is ∙ sym (by_word false (ne_eqb (bit_and w c) v z))
 
 -- ---- the loop over rows, from the last one down: those passed stand in the mask
 module _ (b : List ℕ) (w bit first end : ℕ) where

@@ -101,9 +101,6 @@ module _ (c : Chart) (care values v most : ℕ) where
   abbrev P : ℕ → ℕ → ℕ → ℕ → ℕ → List Row
   P a b u l f = paths_from (size c) c l f a b u
 
-  pub count_none : most ≡ 0 → (l f : ℕ) → 0 ≡ min most (length (P care values v l f))
-  count_none z l f = omega arith
-
   pub count-stop : (row : ℕ → ℕ → Row) → (most ≡ 0 → ⊥) → ((l f : ℕ) → P care values v l f ≡ row l f ∷ [])
       → (l f : ℕ) → 1 ≡ min most (length (P care values v l f))
   count-stop row n e l f = omega (arith, ap (λ (rs : List Row). length rs) (e l f))

@@ -7,7 +7,6 @@ use Rattle.text.specs.frames.Answer.{Answer, refusal, reply}
 use Rattle.text.specs.declared.frames.refusals.Refusal.TheVariants.{Unfit, BadRebinding}
 use Rattle.image.specs.Decode.{scheme_count, handler_in}
 use Rattle.tables.specs.Table.{table_image}
-use Rattle.tables.specs.inner.Asked.{Whole}
 use Rattle.tables.proofs.TableReads.{entries-count}
 use Rattle.state.specs.declared.State.{State}
 use Rattle.state.specs.State.{StateOutcome}
@@ -15,7 +14,6 @@ use Rattle.state.specs.Changes.{with_serving}
 use Rattle.state.specs.Bytes.{state_of, bytes_of}
 use Rattle.fitness.specs.Fitness.{is_unfit}
 use Rattle.rebinding.specs.Rebind.{rebind_on, table_rebind, GivesRebindingOn}
-use Rattle.rebinding.proofs.rebindable.Refusal.{AllowedRebinding, allowed}
 
 -- a refusal hands back what it was given
 abbrev pub kept_state : ℕ → ℕ → State → StateOutcome
@@ -58,14 +56,3 @@ module _ (b before : List ℕ) (h k : ℕ) (t : Bool) (e : t ≡ is_unfit (table
 -- at most 16 schemes, so that both are bytes
 module _ (b : List ℕ) (whole : Whole b) (h k : ℕ) (u : Bool) (f : u ≡ is_bad_rebinding (scheme_count b) (handler_in b) h k)
     (q : u ≡ false) where
-  schemes-few : scheme_count b ≤ 16
-  schemes-few = grind (arith, common_steps)
-
-  may : AllowedRebinding (scheme_count b) (handler_in b) h k
-  may = allowed (scheme_count b) (handler_in b) h k (sym f ∙ q)
-
-  pub number-within : (1 ≤ h) × (h ≤ 16)
-  number-within = (omega (arith, may.number-low), omega (arith, may.number-high, schemes-few))
-
-  pub scheme-most : k ≤ 16
-  scheme-most = omega (arith, may.scheme-high, schemes-few)

@@ -123,18 +123,6 @@ module _ (b : List ℕ) (l w bit first end : ℕ) where
 pub few-frames : (b : List ℕ) → Whole b → ((k : ℕ) → get_or b k 0 < 256) → size b < NO_FRAME
 few-frames b x bytes = omega (arith, x.alone, bytes 1, bytes 2, bytes 3, bytes 4)
 
--- ---- a label with one row
-module _ (b : List ℕ) (w bit f : ℕ) (small : w < 65536) (swapped : ℕ) (e : swapped ≡ swapped_word w)
-    (t : Bool) (q : t ≡ is_matching_frame b (swapped_word swapped) bit f) where
-  one-test : t ≡ is_matching_frame b w bit f
-  one-test = q ∙ ap (λ (v : ℕ). is_matching_frame b v bit f) (ap (λ (v : ℕ). swapped_word v) e ∙ swap-twice w small)
-
-  pub one-matches : t ≡ true → f ≡ (if is_matching_frame b w bit f then f else NO_FRAME)
-  one-matches y = sym (if-true (is_matching_frame b w bit f) f NO_FRAME (sym one-test ∙ y))
-
-  pub one-fails : t ≡ false → NO_FRAME ≡ (if is_matching_frame b w bit f then f else NO_FRAME)
-  one-fails n = sym (if-false (is_matching_frame b w bit f) f NO_FRAME (sym one-test ∙ n))
-
 module _ (b : List ℕ) (l w bit first end : ℕ) (d : Deciding b l bit) (p : first ≡ first_on b l) (q : end ≡ end_on b l)
     (one : end ≡ first + 1)
   where
@@ -184,9 +172,6 @@ module _ (b : List ℕ) (l w bit : ℕ) (few : size b < NO_FRAME) where
 -- ---- where the rows of label l stand
 pub end-within : (b : List ℕ) (l end : ℕ) → Whole b → end ≡ end_on b l → end ≤ size b
 end-within b l end x e = omega (arith, end-inside b l, x.alone)
-
-pub first_small : (b : List ℕ) (l : ℕ) → ((k : ℕ) → get_or b k 0 < 256) → first_on b l < 65536
-first_small b l bytes = let f : ℕ = labels_from b + (l - 1) in omega (arith, bytes (10 * f + 0), bytes (10 * f + 1))
 
 -- ---- the frame chosen holds the row that label l takes, and where it leads
 module _ (b : List ℕ) (l w bit : ℕ) (x : NumberedLabel b l) (bytes : (k : ℕ) → get_or b k 0 < 256) (f : ℕ) (e : Chosen b l w bit f) where

@@ -158,9 +158,6 @@ byte-back : (t : Bool) → not (eqb (bool_byte t) 0) ≡ t
 byte-back true = refl
 byte-back false = refl
 
-pub result-kept : (s : State) (r h : ℕ) → r ≡ 0 → s ≡ state_after_result s r h
-result-kept s r h e = ap (with_bits s) (rw (eq-eqb r 0 e))
-
 -- k stands for number h's place among the results
 module _ (b : List ℕ) (r h k : ℕ) (place : k ≡ h - 1) where
   pub result-beyond : 16 ≤ k → state_of b ≡ state_after_result (state_of b) r h

@@ -125,8 +125,5 @@ module _ (b : List ℕ) (n : ℕ) (e : n ≡ 10 * table_end b) where
   pub cut-is : take n b ≡ front b
   cut-is = ap (λ (k : ℕ). take k b) e
 
-  pub cut-length : is_bad_table b ≡ false → n ≡ length (take n b)
-  cut-length g = omega (arith, length-take n b, end-holds b g)
-
   pub cut-whole : is_bad_table b ≡ false → Whole (take n b)
   cut-whole g = subst Whole (sym cut-is) (front-whole b g)

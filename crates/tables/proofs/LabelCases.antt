@@ -2,20 +2,11 @@
 use Rattle.std.proofs.Common.{if◌then◌else◌, ℕ, zero, suc, ◌+◌, ◌-◌, ◌≤◌, ◌<◌, ◌≡◌, refl, sym, ◌∙◌, ap, List, arith, ltb}
 use Rattle.std.proofs.lemmas.Grind.{common_steps}
 use Rattle.text.specs.frames.Frame.{field}
-use Rattle.image.specs.Image.{Label, home_label, return_label}
-use Rattle.image.specs.Decode.{scheme_count, last_label, labels_from, label_in}
+use Rattle.image.specs.Image.{Label}
+use Rattle.image.specs.Decode.{scheme_count, labels_from, label_in}
 use Rattle.tables.specs.Table.{label_on, table_label}
-use Rattle.tables.specs.inner.Asked.{entry_of}
 use Rattle.tables.proofs.TableReads.{label-on}
-use Rattle.tables.specs.inner.Labels.{NumberedLabel, Framed}
-
--- ---- a label of the table
-module _ (b : List ℕ) (l : ℕ) where
-  pub label-home : l ≤ last_label b → l ≡ 0 → home_label ≡ table_label b l
-  label-home h e = sym (label-on b l h ∙ ap (label_on b) e)
-
-  pub label-return : l ≤ last_label b → l ≡ 1 → return_label ≡ table_label b l
-  label-return h e = sym (label-on b l h ∙ ap (label_on b) e)
+use Rattle.tables.specs.inner.Labels.{NumberedLabel}
 
 -- ---- a label with fields of its own
 -- its kind and its called scheme, as any table counts them
@@ -39,8 +30,6 @@ module _ (b : List ℕ) (l : ℕ) (asked : NumberedLabel b l) where
   label-numbered = label-on b l asked.high ∙ on-numbered b l asked.low
 
   module _ (k : ℕ) (found : k ≡ field b (labels_from b + l) 2) where
-    pub kind-high : 2 < k → 0 ≡ (table_label b l).kind
-    kind-high h = grind (arith, common_steps)
 
   module _ (k n : ℕ) (found : k ≡ field b (labels_from b + l) 3) (schemes : n ≡ scheme_count b) where
     pub called-known : k ≤ n → k ≡ (table_label b l).called
@@ -48,10 +37,6 @@ module _ (b : List ℕ) (l : ℕ) (asked : NumberedLabel b l) where
 
 -- ---- with H as the caller has it, n
 module _ (b : List ℕ) (n l : ℕ) (asked : Framed b n l) where
-  frame_at : n + l + 1 ≡ labels_from b + l
-  frame_at = omega (arith, asked.schemes)
 
 -- ---- entries
 module _ (b : List ℕ) (h e : ℕ) where
-  pub entry_other : (h ≡ 0 → ⊥) → e ≡ field b h 2 → e ≡ entry_of b h
-  entry_other z p = p ∙ ap (λ (n : ℕ). field b n 2) (let q : h ≡ suc (h - 1) = omega arith in q)

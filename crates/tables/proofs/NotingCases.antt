@@ -6,11 +6,11 @@ use Rattle.words.specs.lists.Numbers.{lowest}
 use Rattle.words.proofs.lists.Searches.{lowest-above, lowest-inside, lowest-from, lowest-alike}
 use Rattle.text.specs.frames.Frame.{size, field}
 use Rattle.text.specs.frames.Verdict.{fine}
-use Rattle.image.specs.Decode.{scheme_count, last_label, rows_from}
+use Rattle.image.specs.Decode.{last_label, rows_from}
 use Rattle.image.specs.Check.{table_verdict}
 use Rattle.image.proofs.Accepted.{counted}
-use Rattle.tables.specs.Prepare.{is_row_reached, first_frame, noted_to, noted_table}
-use Rattle.tables.proofs.Noted.{rows_inside, place, noted-to-length, noted-to-row}
+use Rattle.tables.specs.Prepare.{is_row_reached, first_frame, noted_to}
+use Rattle.tables.proofs.Noted.{rows_inside, place, noted-to-row}
 
 -- a row that leaves no label from l on leaves none from a higher one on
 pub below_more : (b : List ℕ) (l m : ℕ) → l ≤ m → (f : ℕ) → is_row_reached b l f ≡ false → is_row_reached b m f ≡ false
@@ -30,13 +30,6 @@ module _ (b : List ℕ) (ok : table_verdict b ≡ fine) where
   notes-start f e = grind (arith, common_steps, rows_inside)
 
   module _ {out : List ℕ} {f l : ℕ} (t : Notes b out f l) where
-    pub notes-length : length out ≡ length b
-    notes-length = ap (λ (xs : List ℕ). length xs) t.is ∙ noted-to-length b l
-
-    -- the two bytes of the label that is next lie within the table
-    pub notes-place : (n at : ℕ) → n ≡ scheme_count b → at ≡ 10 * (1 + n + l) → l ≤ last_label b → at + 1 < length out
-    notes-place n at schemes is h = omega (arith, notes-length, rows_inside b ok)
-
     module _ {end next : ℕ} (all : end ≡ size b) (e : next ≡ lowest (is_row_reached out (l + 1)) f (end - f)) where
       -- the rows of the table are still as they were
       same_rows : next ≡ lowest (is_row_reached b (l + 1)) f (size b - f)
@@ -53,6 +46,3 @@ module _ (b : List ℕ) (ok : table_verdict b ≡ fine) where
           → Notes b (set (set out at (next % 256)) (at + 1) (next / 256)) next (l + 1)
       unfolding noted_to
       notes-turn at is h = grind (arith, common_steps, place, lowest-above, lowest-from, add-one, below_more, same_rows, next-inside)
-
-    pub notes-all : last_label b < l → out ≡ noted_table b
-    notes-all h = t.is ∙ ap (noted_to b) (let e : l ≡ last_label b + 1 = omega (arith, t.low) in e)

@@ -44,9 +44,6 @@ tells_none x r e = rw e (record { answered = refl; row = refl; mask = refl; bit 
 
 -- ---- places: n below the depth d
 module _ (bytes : List ℕ) (d n : ℕ) where
-  pub place-lowest : (r : ℕ) → r ≡ place_at (state_of bytes) 0 → d < n → r ≡ place_at (state_of bytes) (d - n)
-  place-lowest r e h = e ∙ ap (place_at (state_of bytes)) (let z : 0 ≡ d - n = omega arith in z)
-
   pub place-past : 32 ≤ d - n → 0 ≡ place_at (state_of bytes) (d - n)
   place-past h = sym (get_or-eq_default (state_of bytes).places 0 (omega (arith, held-places bytes)))
 
@@ -165,9 +162,6 @@ module _ (b : List ℕ) (l w : ℕ) (x : OrderedLabel b l) (bs : Results) (z : d
 module _ (b bytes : List ℕ) (w : ℕ) (x : Ordered b) (t : Bool) (e : t ≡ is_unfit (table_image b) (state_of bytes)) where
   abbrev s : State
   s = state_of bytes
-
-  pub unfit-told : t ≡ true → GivesCause (table_cause b s w) (Err Unfit)
-  unfit-told h = grind (arith, common_steps)
 
   module _ (h : t ≡ false) (l : ℕ) (is : l ≡ leaving_number (leaving (table_image b) s)) where
     fit-told : table_cause b s w ≡ cause_outcome (cause_at (table_image b) s.bits w (leaving (table_image b) s))

@@ -21,5 +21,3 @@ module _ (p q : ℕ → Bool) (n v a b : ℕ) (d : Downward p q n v a b) where
   downward-turn x y a' b' some ex ey ea eb = grind (arith, common_steps, lowest-below)
 
   module _ (h : v ≤ 0) where
-    whole : (p : ℕ → Bool) → lowest p v (n - v) ≡ lowest p 0 n
-    whole p = ap (λ (j : ℕ). lowest p j (n - j)) (omega arith) ∙ ap (lowest p 0) (sub-zero n)

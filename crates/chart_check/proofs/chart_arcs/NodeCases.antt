@@ -5,9 +5,8 @@ use Rattle.std.proofs.lemmas.Grind.{common_steps}
 use Rattle.words.specs.lists.Sequences.{some}
 use Rattle.words.proofs.lists.Tests.{or_no}
 use Rattle.text.specs.frames.Frame.{size}
-use Rattle.charts.specs.Chart.{Chart, kind, scheme, argument, next0, next1, schemes}
-use Rattle.charts.specs.Layout.{kind_of}
-use Rattle.charts.specs.Check.{is_bad_target, has_bad_arc, has_bad_call_as, has_bad_call}
+use Rattle.charts.specs.Chart.{Chart, kind, scheme, next0, next1}
+use Rattle.charts.specs.Check.{is_bad_target, has_bad_arc}
 use Rattle.charts.proofs.Nodes.{outside, arcs-end, arcs-one, two-arcs}
 
 -- ---- 6
@@ -34,20 +33,6 @@ module _ (c : Chart) (v k : ℕ) (ek : k ≡ kind c v) where
   double-arc a b = grind (arith, common_steps, two-arcs, some-two)
 
 module _ (c : Chart) (v u : ℕ) (r : Bool) (eu : u ≡ next0 c v) (er : r ≡ is_bad_target c v u) where
-  pub pair-first : r ≡ true → true ≡ (is_bad_target c v (next0 c v) || is_bad_target c v (next1 c v))
-  pair-first t = sym (ap (λ b. b || is_bad_target c v (next1 c v)) (sym (er ∙ ap (is_bad_target c v) eu) ∙ t))
-
-  pub pair-second : (w : ℕ) (s : Bool) → r ≡ false → w ≡ next1 c v → s ≡ is_bad_target c v w
-      → s ≡ (is_bad_target c v (next0 c v) || is_bad_target c v (next1 c v))
-  pair-second w s t ew es = grind (arith, common_steps)
 
 -- ---- 7
 module _ (c : Chart) (v k a h : ℕ) (ek : k ≡ kind c v) (ea : a ≡ argument c v) (eh : h ≡ schemes c) where
-  call_by : (b : ℕ) → k ≡ b → has_bad_call c v ≡ has_bad_call_as c v (kind_of b)
-  call_by b e = ap (λ (k : ℕ). has_bad_call_as c v (kind_of k)) (sym ek ∙ e)
-
-  pub operation-call : k ≡ 2 → has_bad_call c v ≡ (eqb a 1 || ltb h a)
-  operation-call e = call_by 2 e ∙ sym (rw (ea, eh))
-
-  pub no_call : (k ≡ 2 → ⊥) → (k ≡ 4 → ⊥) → false ≡ has_bad_call c v
-  no_call x y = grind (arith, common_steps)

@@ -11,7 +11,7 @@ use Rattle.chart_check.specs.chart_counts.inner.Counts.{counts_to, is_not_one_of
 use Rattle.chart_check.specs.chart_counts.inner.Found.{CountsFound, FieldsFound}
 use Rattle.chart_check.specs.declared.chart_counts.Counted.{Counted}
 use Rattle.charts.proofs.Nodes.{field-scheme}
-use Rattle.chart_check.proofs.chart_counts.SchemeCounts.{counts_start, counts-long, bad-counts}
+use Rattle.chart_check.proofs.chart_counts.SchemeCounts.{counts_start, bad-counts}
 
 -- the nodes below v have good fields and are counted
 pub record CountingNodes (c : Chart) (n v h : ℕ) (bs es : List ℕ) : Type 0 where
@@ -28,9 +28,6 @@ unfolding highest
 counting-none c n bs es e p q = grind (arith, common_steps, searching-first, counts_start)
 
 module _ (c : Chart) (n v h : ℕ) (bs es : List ℕ) (d : CountingNodes c n v h bs es) where
-  pub begins-long : length bs ≡ length (replicate {A = ℕ} 17 0)
-  begins-long = counts-long c 0 v bs d.begins ∙ sym (length-replicate {A = ℕ} 17 0)
-
   pub counting-turn : (h' s : ℕ) (bs' es' : List ℕ) → v < n → has_bad_field c v ≡ false → s ≡ scheme c v → h' ≡ max h s
       → bs' ≡ counts_to c 0 (v + 1) → es' ≡ counts_to c 1 (v + 1) → CountingNodes c n (v + 1) h' bs' es'
   counting-turn h' s bs' es' l good is e p q = record {

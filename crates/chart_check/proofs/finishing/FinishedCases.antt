@@ -33,9 +33,6 @@ module _ (c : Chart) (ms : List Bool) (v : ℕ) where
       pub next-second : is_marked ms b ≡ true → b ≡ next_unfinished c ms v
       next-second t = grind (arith, common_steps)
 
-      pub next-none : is_marked ms b ≡ false → size c ≡ next_unfinished c ms v
-      next-none t = grind (arith, common_steps)
-
   none_both : is_marked ms (next0 c v) ≡ false → is_marked ms (next1 c v) ≡ false → NoneAhead c ms v
   none_both a b u s =
       let i : is c 3 v ≡ true = leaves-condition c v u s in
@@ -80,13 +77,7 @@ pub record Standing (c : Chart) (unfinished : List Bool) (path : List ℕ) (left
   pub here : at < size c
   pub before : (i : ℕ) → i < depth → get_or path i 0 < size c
 
-pub standing-first : (c : Chart) (ms : List Bool) (path : List ℕ) (v : ℕ) → Finished c ms
-    → size c ≤ length path → v < size c → Standing c ms path (size c) 0 v
-standing-first c ms path v f r l = record { finished = f; fits = r; steps = omega arith; here = l; before = λ i b. absurd (omega arith) }
-
 module _ (c : Chart) (ms : List Bool) (path : List ℕ) (left depth at : ℕ) (s : Standing c ms path left depth at) where
-  pub standing_on : (next : ℕ) → 0 < left → next < size c → Standing c ms (set path depth at) (left - 1) (depth + 1) next
-  standing_on next p l = grind (arith, common_steps)
 
   module _ (r : ℕ) (q : r ≡ next_unfinished c ms at) (l : size c ≤ r) where
     pub standing-end : Finished c (set ms at false)

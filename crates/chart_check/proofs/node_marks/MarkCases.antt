@@ -31,21 +31,8 @@ module _ (c : Chart) (b : Bool) (v : ℕ) where
   by_all h = grind (arith, common_steps)
 
   module _ (k : ℕ) (e : k ≡ kind c v) where
-    long : (us : List ℕ) → arcs_by c b v ≡ us → length us ≡ length (arcs_by c b v)
-    long us q = sym (ap (λ (xs : List ℕ). length xs) q)
-
-    pub count_none : b ≡ true → (k ≡ 3 → ⊥) → 0 ≡ length (arcs_by c b v)
-    count_none t n = long [] (by-none t (λ q. n (e ∙ q)))
 
     module _ (h : b ≡ true → k ≡ 3) where
-      all : arcs_by c b v ≡ arcs c v
-      all = by_all (λ t. sym e ∙ h t)
-
-      pub count-two : 3 ≤ k → k < 5 → 2 ≡ length (arcs_by c b v)
-      count-two l m = long (next0 c v ∷ next1 c v ∷ []) (all ∙ two-arcs c v (omega arith) (omega arith))
-
-      pub count-one : (k ≡ 1 → ⊥) → (k < 3) ⊎ (5 ≤ k) → 1 ≡ length (arcs_by c b v)
-      count-one n o = grind (arith, common_steps)
 
 -- none, the first, or both
 abbrev Shape : Chart → ℕ → List ℕ → Type 0
@@ -124,9 +111,6 @@ part_of zero zero a l = refl
 part_of zero (suc n) a l = absurd (omega arith)
 part_of (suc m) zero a l = refl
 part_of (suc m) (suc n) a l = ap (λ xs. a ∷ xs) (part_of m n a (omega arith))
-
-pub part-long : {A : Type 0} (m n : ℕ) (a : A) → n ≤ m → length (take n (replicate m a)) ≡ n
-part-long m n a l = ap (λ xs. length xs) (part_of m n a l) ∙ length-replicate n a
 
 -- ---- where no node is marked, the list has none
 module _ (c : Chart) (marks : List Bool) (list : List ℕ) (blank : Blank c marks list) where

@@ -115,10 +115,6 @@ module _ (c : Chart) (old labels : List ℕ) (own v : ℕ) (room : size c ≤ le
     done = labels-more;
   }
 
-pub labelling-done : (c : Chart) (old labels : List ℕ) (own v n : ℕ) → Labelling c old labels own v → n ≡ size c → n ≤ v
-    → (own ≡ count (is_numbered c) 0 (size c)) × (labels ≡ written old 0 (map (label c) (range 0 (size c))))
-labelling-done c old labels own v n t e l = grind (arith, common_steps)
-
 -- what the functions that read the labels ask
 pub labelled : (c : Chart) (old labels : List ℕ) → size c ≤ length old → labels ≡ written old 0 (map (label c) (range 0 (size c)))
     → Labelled c labels

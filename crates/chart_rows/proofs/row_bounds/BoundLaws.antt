@@ -194,20 +194,11 @@ module _ (c : Chart) (ready : Ready c) where
         (few-rank (size c) v t (rank-le c v));
   }
 
-pub masked-set : (c : Chart) (masks : List ℕ) (v x : ℕ) → Masked c masks → v < size c
-    → (Entered c v → FewPaths c v x) → Masked c (set masks v x)
-masked-set c masks v x k l f = grind (arith, common_steps, get_or-set_other, get_or-set_same, length-set)
-
 -- loops over the nodes write them
 pub record Masking (c : Chart) (old masks : List ℕ) (v : ℕ) : Type 0 where
   pub within : v ≤ size c
   pub size : length masks ≡ length old
   pub masked : Masked c masks
-
--- the mask of node w, and on to node u
-pub masking-set : (c : Chart) (old masks : List ℕ) (v w u : ℕ) → Masking c old masks v → w < size c → u ≤ size c
-    → (x : ℕ) → (Entered c w → FewPaths c w x) → Masking c old (set masks w x) u
-masking-set c old masks v w u t l m x f = grind (arith, common_steps, length-set, masked-set)
 
 -- ---- the mask of a node by those behind its arcs
 module _ (c : Chart) (notes masks : List ℕ) (v : ℕ) (node : NotedAt c notes v) (k : Masked c masks) where

@@ -61,9 +61,6 @@ module _ (s : State) where
     pub none : bits ≡ 0 → (j : ℕ) → s.depth ≤ j → j < k → place_joined s j ≡ 0
     pub some : (bits ≡ 0 → ⊥) → found
 
-  pub seen_first : Seen 0 0
-  seen_first = record { inside = omega arith; none = λ e j h g. absurd (omega arith); some = λ n. absurd (n refl) }
-
   module _ (bits k d x : ℕ) (e : d ≡ s.depth) (h : k < 32) (q : x ≡ (if leb d k then place_joined s k else 0)) (t : Seen bits k) where
     here : x ≡ 0 → s.depth ≤ k → place_joined s k ≡ 0
     here z g = sym (above-is d k x e q g) ∙ z

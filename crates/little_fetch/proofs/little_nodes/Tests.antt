@@ -2,7 +2,7 @@
 use Rattle.std.proofs.Common.{ℕ, Bool, true, false, not, ◌≡◌, sym, ◌∙◌, ap, arith, eq-eqb, ne_eqb}
 use Rattle.words.specs.lists.Numbers.{any}
 use Rattle.text.specs.frames.Frame.{size}
-use Rattle.words.proofs.lists.Tests.{or-true-l, or_true_r, or-none, or_no}
+use Rattle.words.proofs.lists.Tests.{or-true-l, or_true_r, or-none}
 use Rattle.charts.specs.Chart.{Chart, kind}
 use Rattle.little_charts.specs.little_search.inner.Search.{has_kind, has_arc_to, has_arc_to_begin, is_clash, is_repeat, is_other_leading_to}
 use Rattle.little_charts.specs.little_search.inner.Search.{is_lonely}
@@ -21,13 +21,3 @@ module _ (c : Chart) (v u : ℕ) where
 module _ (c : Chart) (v k : ℕ) (q : k ≡ kind c v) where
   pub lonely-by : (t : Bool) → (k ≡ 0 → ⊥) → t ≡ any (is_other_leading_to c v) 0 (size c) → not t ≡ is_lonely c v
   lonely-by t n e = ap not e ∙ rw (ne_eqb (kind c v) 0 (λ z. n (q ∙ z)))
-
-module _ (c : Chart) (v k : ℕ) (q : k ≡ kind c v) where
-  pub repeats-end : (r : Bool) → k ≡ 1 → r ≡ has_kind c 1 v → r ≡ is_repeat c v
-  repeats-end r e f = f ∙ rw (eq-eqb (kind c v) 1 (sym q ∙ e), ne_eqb (kind c v) 3 (λ z. omega (arith, q, e, z)), or_no (has_kind c 1 v))
-
-  pub repeats-condition : (r : Bool) → k ≡ 3 → r ≡ has_arc_to c v v → r ≡ is_repeat c v
-  repeats-condition r e f = f ∙ rw (ne_eqb (kind c v) 1 (λ z. omega (arith, q, e, z)), eq-eqb (kind c v) 3 (sym q ∙ e))
-
-  pub repeats-none : (k ≡ 1 → ⊥) → (k ≡ 3 → ⊥) → false ≡ is_repeat c v
-  repeats-none n m = rw (ne_eqb (kind c v) 1 (λ z. n (q ∙ z)), ne_eqb (kind c v) 3 (λ z. m (q ∙ z)))

@@ -28,8 +28,3 @@ module _ (n i : ℕ) where
     at-condition m = grind (arith, common_steps)
 
 -- ---- choices by a test that a call made
-pub chosen : {A : Type 0} (r t : Bool) (a b : A) → r ≡ t → r ≡ true → a ≡ (if t then a else b)
-chosen r t a b e q = sym (if-true t a b (sym e ∙ q))
-
-pub left : {A : Type 0} (r t : Bool) (a b : A) → r ≡ t → r ≡ false → b ≡ (if t then a else b)
-left r t a b e q = sym (if-false t a b (sym e ∙ q))

@@ -16,13 +16,6 @@ use Rattle.little_fetch.specs.declared.little_seek.Sought.{Sought}
 use Rattle.little_fetch.specs.little_seek.inner.SeekContracts.{FewFrames, RecordPlaced, SoughtCount, GivesSought, is_accepted}
 
 -- ---- accepted or not
-pub lonely-out : (c : Chart) (t : Bool) → t ≡ any (is_lonely c) 0 (size c) → t ≡ true → false ≡ is_accepted c
-lonely-out c t e q = ap (λ (b : Bool). not b && is_fine (chart_verdict c)) (sym q ∙ e)
-
-pub checked-in : (c : Chart) (t : Bool) → t ≡ any (is_lonely c) 0 (size c) → t ≡ false → (a : Answer)
-    → reply a ≡ verdict_reply (chart_verdict c) 0 → is_ok a ≡ is_accepted c
-checked-in c t e q (Ok k) f = grind (arith, common_steps)
-checked-in c t e q (Err r) f = grind (arith, common_steps)
 
 -- ---- counted
 searched-leaf : (n : ℕ) (c : Chart) → searched_charts n 0 c ≡ (if is_accepted c then c ∷ [] else [])

@@ -74,17 +74,11 @@ module _ (rs₀ : List ℕ) (v left n end from : ℕ) (rs : List ℕ) (i rest : 
   pub same_size : size rs ≡ size rs₀
   same_size = omega (arith, k.long)
 
-  pub still-few : FewFrames rs
-  still-few = grind (arith, common_steps)
-
   -- all numbers were tried
   pub seeking-done : end ≤ i → GivesSought (all_from rs₀ v) (take (10 * v) rs₀) left (record { found = false; left = rest }) rs
   seeking-done h = grind (arith, common_steps, length-take-le, le-ltb, room, all-is)
 
   module _ (l : i < end) where
-    pub number-low : i < node_count (size rs)
-    number-low = subst (λ (m : ℕ). i < node_count m) (sym same_size) (omega (arith, k.past, (range-ends rs₀ v k.few k.inside).1))
-
     -- one number more
     done_next : charts_done_before rs₀ v from (i + 1) ≡ charts_done_before rs₀ v from i ++ tried_at rs₀ v i
     done_next =
@@ -128,12 +122,6 @@ module _ (rs₀ : List ℕ) (v left n end from : ℕ) (rs : List ℕ) (i rest : 
           let z : tried_at rs₀ v i ≡ [] = tried-by t e
           ∙ ap (λ (b : Bool). elim b [ true ↦ [] | false ↦ searched_charts (size rs₀) (size rs₀ - (v + 1)) x ]) q in
           seeking-next rs' rest p.long placed-front (omega (arith, ap length z)) (omega (arith, ap length z))
-
-      pub placed-few : FewFrames rs'
-      placed-few = grind (arith, common_steps)
-
-      pub placed-inside : v + 1 ≤ size rs'
-      placed-inside = omega (arith, placed-long, k.inside)
 
       -- the search went on from the next place
       module _ (t : Bool) (e : t ≡ is_barred_node rs' v) (q : t ≡ false) (s : Sought) (rs'' : List ℕ) (h : length rs'' ≡ length rs')

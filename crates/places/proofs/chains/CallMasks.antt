@@ -12,7 +12,7 @@ use Rattle.words.proofs.lists.Tabulated.{length-tabulate, get_d_tabulate, tabula
 use Rattle.words.specs.bits.Word.{bit}
 use Rattle.words.specs.graph.Reach.{is_marked}
 use Rattle.text.specs.frames.Frame.{size}
-use Rattle.charts.specs.Chart.{Chart, kind, scheme, argument}
+use Rattle.charts.specs.Chart.{Chart, scheme, argument}
 use Rattle.walk.proofs.Facts.{Facts}
 use Rattle.places.specs.chains.Calls.{has_call, is_call_of, is_caller, is_circular, ends_of, has_no_end, places}
 use Rattle.places.specs.chains.inner.Masks.{called_at, mask_of, call_masks, called_by, ends_by, longest_by, longest_chain}
@@ -34,17 +34,8 @@ unfolding lowest
 lowest-last p i zero e = ap (λ (b : Bool). elim b [ true ↦ i | false ↦ suc i ]) (ap p (omega arith) ∙ e)
 lowest-last p i (suc n) e = ap (λ (k : ℕ). elim (p i) [ true ↦ i | false ↦ k ]) (lowest-last p (suc i) n (ap p (omega arith) ∙ e))
 
-if-zero : (b : Bool) (x : ℕ) → x ≡ 0 → x ≡ (if b then x else 0)
-if-zero true x e = refl
-if-zero false x e = e
-
 -- ---- the call of a node, by its kind
 module _ (c : Chart) (v k r : ℕ) (ek : k ≡ kind c v) where
-  pub at-operation : k ≡ 2 → r ≡ argument c v → r ≡ called_at c v
-  at-operation e q = grind (arith, common_steps)
-
-  pub at-function : k ≡ 4 → r ≡ argument c v → r ≡ called_at c v
-  at-function e q = q ∙ sym (ap (λ (b : Bool). if b then argument c v else 0) (holds-function c v (sym ek ∙ e)))
 
 module _ (c : Chart) (v r : ℕ) (e : r ≡ called_at c v) where
   pub call-some : (r ≡ 0 → ⊥) → (has_call c v ≡ true) × (r ≡ argument c v)

@@ -1,32 +1,9 @@
 -- `rows::compare_rows` meets its contract: the best row so far, with those still to come, is the best of all.
-use Prim.Native.Nat.{◌+◌}
-use mathlib.Core.Path.{sym, subst}
-use native.Mathlib.Omega.{arith}
-use Rattle.rows.proofs.SearchCases.{end-within, compared-some, compared-none, Searched}
-use Rattle.rows.proofs.SearchCases.{search-start, search-over, search-other, search-own}
-use Rattle.std.proofs.Common.{rules}
+use Rattle.std.proofs.Common.{◌+◌, sym, subst, rules}
+use Rattle.rows.proofs.SearchCases.{compared-some, compared-none, Searched}
+use Rattle.rows.proofs.SearchCases.{search-over, search-other, search-own}
 use Rattle.rows.proofs.compare_rows.Goals.{else-is_matching, then-is_matching}
 use Rattle.rows.proofs.compare_rows.Goals as goal
-
-pub swap-swapped-requires : goal.swap-swapped-requires
-swap-swapped-requires c = tt
-
-pub end_of-end-requires : goal.end_of-end-requires
-end_of-end-requires c = record { label = c.requires.deciding.label; schemes = c.requires.schemes_value }
-
-pub first_of-frame-requires : goal.first_of-frame-requires
-first_of-frame-requires c = record { label = c.requires.deciding.label; schemes = c.requires.schemes_value }
-
-pub loop-frame-init : goal.loop-frame-init
-loop-frame-init c =
-    let given = c.args in
-    search-start given.table.now given.l given.word given.bit c.first_of-frame.result c.end_of-end.result _ (omega arith)
-
-pub is_matching-requires : goal.is_matching-requires
-is_matching-requires c = omega (arith, end-within _ _ _ c.requires.deciding.label.whole c.end_of-end.ensures, c.loop-frame-test.true)
-
-pub better_frame-best-requires : goal.better_frame-best-requires
-better_frame-best-requires c = omega (arith, end-within _ _ _ c.requires.deciding.label.whole c.end_of-end.ensures, c.loop-frame-test.true)
 
 pub loop-frame-preserved : goal.loop-frame-preserved
 loop-frame-preserved c =

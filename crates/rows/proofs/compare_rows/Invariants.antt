@@ -1,5 +1,5 @@
 -- `rows::compare_rows` meets its contract: the best row so far, with those still to come, is the best of all.
-use Prim.Native.Nat.{◌-◌}
+use Rattle.std.proofs.Common.{◌-◌}
 use Rattle.rows.proofs.SearchCases.{Searched}
 use Rattle.rows.proofs.compare_rows.Given as goal
 

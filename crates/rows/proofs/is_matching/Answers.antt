@@ -1,7 +1,6 @@
 -- `rows::is_matching` meets its contract: the word and the bytes of the row are compared with their bytes swapped, then the function bit.
-use native.Mathlib.Omega.{arith}
+use Rattle.std.proofs.Common.{arith, rules}
 use Rattle.rows.proofs.SearchCases.{matching-not, matching-free, matching-any, matching-bit}
-use Rattle.std.proofs.Common.{rules}
 use Rattle.rows.proofs.is_matching.Goals as goal
 
 pub returns-then-swapped-low_pair : goal.returns-then-swapped-low_pair

@@ -28,9 +28,6 @@ skip-two b w bit from end f s t v p q n m h =
     subst (Unmatched b w bit from end) (let e : f + 1 + 1 ≡ f + 2 = omega arith in e)
     (skip-one b w bit from end (f + 1) (skip-one b w bit from end f s t p n (omega arith)) v q m (omega arith))
 
-pub skip-start : (b : List ℕ) (w bit from end : ℕ) → Unmatched b w bit from end from
-skip-start b w bit from end = record { on = omega arith; within = λ h. absurd (omega arith); none = λ k g h. absurd (omega arith) }
-
 -- ---- one pass that keeps the row that matched: as long as no second one does, it is the best so far
 pub record PassedRows (b : List ℕ) (l w bit first end f found : ℕ) : Type 0 where
   pub table : size b < NO_FRAME

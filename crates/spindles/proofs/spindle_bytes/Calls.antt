@@ -21,7 +21,7 @@ use Rattle.spindles.proofs.turning.Settled.{NumberedVerdict, image-numbered, tab
 use Rattle.spindles.specs.spindle_parts.FourStates.{part_of, states_of, depths_in}
 use Rattle.spindles.specs.spindle_bytes.Bytes.{bytes_spun, GivesSpinOn}
 use Rattle.spindles.specs.spindle_parts.inner.DepthBytes.{state_count}
-use Rattle.spindles.proofs.spindle_parts.States.{count-is, state-is, part_length, depths-are, part-back}
+use Rattle.spindles.proofs.spindle_parts.States.{count-is, state-is, depths-are, part-back}
 
 -- ---- what a call that is no bad one tells of the bytes
 module _ (b : List ℕ) (n k : ℕ) (counted : n ≡ state_count (length b)) (t : Bool) (tested : t ≡ is_bad_spin_call n k)
@@ -37,14 +37,6 @@ module _ (b : List ℕ) (n k : ℕ) (counted : n ≡ state_count (length b)) (t 
       let m : (state_at (states_of b) k).depth ≤ four_depths (states_of b) = depth-most (states_of b) k bytes-named in
       let d : (state_of part).depth ≡ (state_of (part_of b k)).depth = ap (λ (l : List ℕ). (state_of l).depth) f in
       omega (arith, ap (λ (s : State). s.depth) (state-is b bytes-long k bytes-named), depths-are b bytes-long)
-
--- a turn leaves as many bytes
-pub part-full : (b : List ℕ) → length b ≡ 520 → (k : ℕ) → k < 4
-    → (y : TurnOutcome) (part part' : List ℕ) (r : SpinReport) → part ≡ part_of b k
-    → GivesTurnOn y part r part'
-    → 130 ≡ length part'
-unfolding bytes_of
-part-full b long k l y part part' r e z = grind (arith, common_steps, part_length, long)
 
 -- ---- a head that is refused
 head-numbered : (v : Verdict) (k : ℕ) → NumberedVerdict v → NumberedVerdict (refused_head v k)

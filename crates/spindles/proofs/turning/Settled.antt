@@ -55,22 +55,12 @@ module _ (s : State) (sum taken : ℕ) (e : is_bad_record sum taken ≡ false) w
   turn-table : (b : List ℕ) (w : ℕ) → turn (when 11 (is_bad_table b)) s sum taken (live_tick b s w) ≡ turn_by s taken (live_tick b s w)
   turn-table b w = grind (arith, common_steps, live-tick-by, turn-ticks)
 
--- a record that holds is the sum, and at most 64: so a depth of the sum is within it
-pub record-holds : (sum taken depth : ℕ) → is_bad_record sum taken ≡ false → depth ≤ sum → (depth ≤ taken) × (taken ≤ 64)
 record-holds sum taken depth e l = grind (arith, common_steps)
 
 -- ---- what is settled after a tick
 -- by the depths as they are read, and the test as it comes out
 module _ (before new : List ℕ) (ticked : TickAnswer) (taken d₀ d₁ : ℕ) (e₀ : d₀ ≡ depth_in before) (e₁ : d₁ ≡ depth_in new) (b : Bool)
     (tested : b ≡ is_none_left d₀ d₁ taken) where
-  test-is : is_none_left (depth_in before) (depth_in new) taken ≡ b
-  test-is = ap₂ (λ (x y : ℕ). is_none_left x y taken) (sym e₀) (sym e₁) ∙ sym tested
-
-  pub settles-none : b ≡ true → GivesSettled before new ticked taken (record { answer = Err NoPlace; taken = taken }) before
-  settles-none l = grind (arith, common_steps)
-
-  pub settles-free : b ≡ false → GivesSettled before new ticked taken (record { answer = ticked; taken = taken + d₁ - d₀ }) new
-  settles-free l = grind (arith, common_steps)
 
 module _ (before new after : List ℕ) (ticked : TickAnswer) (taken : ℕ) (r : SpinReport) where
   -- with the tick in place

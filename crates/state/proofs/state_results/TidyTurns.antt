@@ -45,9 +45,6 @@ pub record Tidied (b₀ b : List ℕ) (k : ℕ) : Type 0 where
   pub left : (j : ℕ) → 34 + k ≤ j → get_or b j 0 ≡ get_or b₀ j 0
 
 module _ (b₀ : List ℕ) where
-  pub tidied-none : Tidied b₀ b₀ 0
-  tidied-none = record { low = omega arith; size = refl; passed = λ j h. absurd (omega arith); before = λ j h. refl; left = λ j h. refl }
-
   byte-tidy : (k : ℕ) → k < 16 → bool_byte (not (eqb (get_or b₀ (34 + k) 0) 0)) ≡ result_byte (state_of b₀) k
   byte-tidy k l = byte-is (not (eqb (get_or b₀ (34 + k) 0) 0)) ∙ ap (λ (t : Bool). if t then 1 else 0) (bit-read b₀ k l)
 

@@ -30,9 +30,6 @@ module _ (b : List ℕ) (s : State) (h : ℕ) (is : h ≡ handler_in b) where
   kept-none e = rw (eq-eqb (table_image b).handler 0 (handler-at b ∙ sym is ∙ e))
 
   module _ (some : h ≡ 0 → ⊥) (l : ℕ) (place : l ≡ place_at s 0) where
-    abbrev owner : ℕ
-    owner = (table_label b (place_at s 0)).owner
-
     pub kept-owner : (l ≡ 1 → ⊥) → (z : declared.Label) → as_label z ≡ table_label b l
         → eqb z.owner h ≡ is_full_stack_kept (table_image b) s
     kept-owner n z read = kept ∙ keeps-is l z.owner place (ap (λ (x : Label). x.owner) (read ∙ ap (table_label b) place))

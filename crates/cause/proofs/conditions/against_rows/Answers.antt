@@ -1,21 +1,10 @@
 -- `cause::conditions::against_rows` meets its contract: the conditions of the rows passed stand in the mask.
-use native.Mathlib.Omega.{arith}
-use Rattle.cause.proofs.ConditionCases.{joined-none, joined-more, joined-all}
 use Rattle.std.proofs.Common.{rules}
+use Rattle.cause.proofs.ConditionCases.{joined-none, joined-more, joined-all}
 use Rattle.cause.proofs.conditions.against_rows.Goals as goal
 
 pub loop-f-init : goal.loop-f-init
 loop-f-init c = joined-none _ _ _ _ _
-
-pub against_row-mask-requires : goal.against_row-mask-requires
-against_row-mask-requires c =
-    let loop = c.loop-f in
-    let asked = c.requires in
-    record {
-      inside = omega (arith, asked.inside, loop.invariant.inside);
-      kept =
-          asked.kept _ (omega arith) (omega (arith, loop.invariant.inside));
-    }
 
 pub loop-f-preserved : goal.loop-f-preserved
 loop-f-preserved c =

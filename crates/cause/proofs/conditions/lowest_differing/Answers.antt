@@ -1,9 +1,7 @@
-use native.Mathlib.Omega.{arith}
+use Rattle.std.proofs.Common.{arith, refl, sym, rules}
 use Rattle.cause.proofs.ConditionCases.{passed-turn}
-use mathlib.Core.Path.{refl, sym}
 use Rattle.words.specs.lists.Numbers.{lowest}
 use Rattle.words.proofs.lists.Tests.{if-true, if-false}
-use Rattle.std.proofs.Common.{rules}
 use Rattle.cause.proofs.conditions.lowest_differing.Goals as goal
 
 pub loop-i-init : goal.loop-i-init

@@ -1,5 +1,5 @@
 -- `cause::explaining::cause_bytes` meets its contract: the image is refused, or the cause is that on its table.
-use native.Mathlib.Omega.{arith}
+use Rattle.std.proofs.Common.{arith}
 use Rattle.tables.proofs.Made.{image-made}
 use Rattle.cause.proofs.explaining.EntryCases.{image-ordered, image-untold, image-told}
 use Rattle.std.proofs.lemmas.Result.{err_from_is_err_and}

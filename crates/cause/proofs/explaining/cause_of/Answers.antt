@@ -1,9 +1,7 @@
 -- `cause::explaining::cause_of` meets its contract: the cause over the bytes of the state.
-use mathlib.Core.Path.{◌≡◌}
-use lib.ListN.{length}
+use Rattle.std.proofs.Common.{◌≡◌, length, rules}
 use Rattle.state.specs.State.{Sized}
 use Rattle.cause.proofs.explaining.EntryCases.{value-told}
-use Rattle.std.proofs.Common.{rules}
 use Rattle.cause.proofs.explaining.cause_of.Goals as goal
 
 pub returns : goal.returns

@@ -1,6 +1,5 @@
 -- `cause::table_causes::cause_at` meets its contract: the row that the search finds among the label's frames, or none.
-use mathlib.Core.Path.{◌≡◌, refl}
-use native.Mathlib.Omega.{arith}
+use Rattle.std.proofs.Common.{◌≡◌, refl, arith}
 use Rattle.results.specs.Results.{Results}
 use Rattle.tables.specs.Table.{first_on, rows_on}
 use Rattle.rows.specs.Rows.{best_row}
@@ -11,15 +10,6 @@ use Rattle.ticks.proofs.RowCases.{bit-decides}
 use Rattle.cause.proofs.table_causes.TableConditions.{rows-kept}
 use Rattle.cause.proofs.table_causes.CauseCases.{RowNumbers, none_told, numbers, row_told}
 use Rattle.cause.proofs.table_causes.cause_at.Goals as goal
-
-pub find_row-f-requires : goal.find_row-f-requires
-find_row-f-requires c =
-    let bits : Results = (state_of c.args.bytes.now).bits in
-    let decides : Deciding c.args.table.now c.args.l c.bit_of-bit.result =
-    bit-decides _ _ _ c.label_read-read.ensures bits _ _ c.bit_of-bit.ensures c.requires.label in record {
-      deciding = decides;
-      schemes_value = c.scheme_count-schemes.ensures;
-    }
 
 pub returns-then-table-f : goal.returns-then-table-f
 returns-then-table-f c =
@@ -49,17 +39,6 @@ overflow_sub-row c =
     numbers _ _ _ c.requires bits _ c.label_read-read.ensures _ c.bit_of-bit.ensures _ found (omega (arith, c.if-table-f.false)) in
     let n = numbered in
     omega (arith, n.least, n.after, c.rows_from-from.ensures, c.first_of-first.ensures)
-
-pub overflow_cast-row : goal.overflow_cast-row
-overflow_cast-row c =
-    let bits : Results = (state_of c.args.bytes.now).bits in
-    let found : let asked = c.args in let b = asked.table.now in
-    found_at b asked.l c.find_row-f.result ≡ best_row asked.l asked.word c.bit_of-bit.result (first_on b asked.l) (rows_on b asked.l) =
-    chosen-found _ _ _ _ c.requires.label (λ k. omega (arith, c.type_inv.table k)) _ c.find_row-f.ensures in
-    let numbered : RowNumbers c.args.table.now c.args.l c.args.word c.bit_of-bit.result c.find_row-f.result =
-    numbers _ _ _ c.requires bits _ c.label_read-read.ensures _ c.bit_of-bit.ensures _ found (omega (arith, c.if-table-f.false)) in
-    let n = numbered in
-    omega (arith, n.least, n.after, n.below, n.few, c.rows_from-from.ensures, c.first_of-first.ensures)
 
 pub returns : goal.returns
 returns c =

@@ -1,9 +1,6 @@
 -- `cause::table_causes::cause_table` meets its contract: an unfit state, a tick that takes no row, or the cause at the label left.
-use Rattle.cause.proofs.table_causes.CauseCases.{unfit-told, rowless-told, left-placed, left-told}
+use Rattle.cause.proofs.table_causes.CauseCases.{rowless-told, left-placed, left-told}
 use Rattle.cause.proofs.table_causes.cause_table.Goals as goal
-
-pub returns-then-is_unfit : goal.returns-then-is_unfit
-returns-then-is_unfit c = unfit-told _ _ _ c.requires _ c.is_unfit.ensures c.if-is_unfit.true
 
 pub returns-then-l-eq0 : goal.returns-then-l-eq0
 returns-then-l-eq0 c =

@@ -1,6 +1,5 @@
 -- `chart_check::check::check_chart` meets its contract: 4 to 9 in turn, 19 after 5, and the first that refuses answers.
-use mathlib.Core.Path.{◌≡◌, sym, ◌∙◌, ap}
-use mathlib.Core.Bool.{false}
+use Rattle.std.proofs.Common.{◌≡◌, sym, ◌∙◌, ap, false}
 use Rattle.words.specs.lists.Numbers.{any}
 use Rattle.text.specs.frames.Frame.{size}
 use Rattle.text.specs.frames.Verdict.{Verdict, when}

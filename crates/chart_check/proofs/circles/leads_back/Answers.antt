@@ -1,7 +1,5 @@
 -- `chart_check::circles::leads_back` meets its contract: the marks are those of the definition, read at the node.
-use mathlib.Core.Path.{◌≡◌, refl, ◌∙◌}
-use native.Mathlib.Omega.{arith}
-use lib.ListN.{length}
+use Rattle.std.proofs.Common.{◌≡◌, refl, ◌∙◌, arith, length}
 use Rattle.words.proofs.graph.Enlisted.{enlisted-first}
 use Rattle.text.specs.frames.Frame.{size}
 use Rattle.chart_check.proofs.node_marks.MarkCases.{blank-long, blank-lent, spread-back}

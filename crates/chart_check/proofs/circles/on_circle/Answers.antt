@@ -1,8 +1,7 @@
 -- `chart_check::circles::on_circle` meets its contract: a condition, and whether it leads back.
-use mathlib.Core.Bool.{false}
+use Rattle.std.proofs.Common.{false, rules}
 use Rattle.text.specs.frames.Frame.{size}
 use Rattle.chart_check.proofs.node_marks.MarkCases.{part_of}
-use Rattle.std.proofs.Common.{rules}
 use Rattle.chart_check.proofs.circles.on_circle.Goals as goal
 
 pub leads_back-requires : goal.leads_back-requires

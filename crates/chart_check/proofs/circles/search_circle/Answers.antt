@@ -1,15 +1,8 @@
 -- `chart_check::circles::search_circle` meets its contract: the loop keeps what is left to search.
-use Prim.Native.Nat.{ℕ}
-use mathlib.Core.Path.{refl, sym, ◌∙◌, ap}
-use mathlib.Core.List.{List}
-use lib.ListN.{length}
-use Rattle.words.proofs.lists.Searches.{searching-first, searching-found, searching-next, searching-over}
-use Rattle.std.proofs.Common.{rules}
+use Rattle.std.proofs.Common.{ℕ, sym, ◌∙◌, ap, List, length, rules}
+use Rattle.words.proofs.lists.Searches.{searching-found, searching-next, searching-over}
 use Rattle.chart_check.proofs.circles.search_circle.Goals.{else-unfinished-v, then-unfinished-v+else-on_circle}
 use Rattle.chart_check.proofs.circles.search_circle.Goals as goal
-
-pub loop-v-init : goal.loop-v-init
-loop-v-init c = (refl, searching-first _ _)
 
 pub returns-then-on_circle : goal.returns-then-on_circle
 returns-then-on_circle c = searching-found _ _ _ _ c.loop-v.invariant.1 (search rules) (sym c.on_circle.ensures ∙ c.if-on_circle.true)
@@ -27,9 +20,6 @@ loop-v-preserved c =
         searching-next _ _ _ _ loop.invariant.1 (search rules) (c.requires.finished.off _ (search rules) w.if-unfinished-v.false),
       )
     ]
-
-pub shape_of-list : goal.shape_of-list
-shape_of-list c = c.loop-v.invariant.0
 
 pub returns : goal.returns
 returns c = searching-over _ _ _ _ c.loop-v.invariant.1 (search rules)

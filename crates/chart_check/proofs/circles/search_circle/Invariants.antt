@@ -1,7 +1,5 @@
 -- `chart_check::circles::search_circle` meets its contract: the loop keeps what is left to search.
-use Prim.Native.Nat.{◌-◌}
-use mathlib.Core.Path.{◌≡◌}
-use lib.ListN.{length}
+use Rattle.std.proofs.Common.{◌-◌, ◌≡◌, length}
 use Rattle.words.specs.lists.Numbers.{lowest}
 use Rattle.words.proofs.lists.Searches.{Searching}
 use Rattle.charts.specs.Check.{is_on_circle}

@@ -1,14 +1,12 @@
 -- `chart_check::joined::lowest_apart` meets its contract: the Begins are marked, the marks spread, by a sweep and then by the list; where
 -- some node has none, the lowest is found.
-use mathlib.Core.Path.{◌≡◌, sym, ◌∙◌}
-use lib.ListN.{length}
+use Rattle.std.proofs.Common.{◌≡◌, sym, ◌∙◌, length, rules}
 use Rattle.words.specs.graph.inner.Listed.{many}
 use Rattle.words.proofs.graph.Marking.{full-reach}
 use Rattle.words.proofs.graph.MarkedNodes.{listed-lowest}
 use Rattle.text.specs.frames.Frame.{size}
 use Rattle.charts.specs.Check.{arcs}
 use Rattle.chart_check.proofs.node_marks.MarkCases.{spread-apart, all-marked}
-use borrow.Author.Rules.{rules}
 use Rattle.chart_check.proofs.joined.lowest_apart.Goals as goal
 
 pub returns-then-count-marks : goal.returns-then-count-marks

@@ -1,5 +1,5 @@
 -- `chart_check::joined::lowest_cut_off` meets its contract: the marks of all Begins serve every scheme.
-use mathlib.Core.Path.{◌∙◌}
+use Rattle.std.proofs.Common.{◌∙◌}
 use Rattle.chart_check.proofs.CutOff.{lowest-apart}
 use Rattle.chart_check.proofs.joined.lowest_cut_off.Goals as goal
 

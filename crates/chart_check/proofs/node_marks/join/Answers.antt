@@ -3,7 +3,7 @@ use Rattle.std.proofs.Common.{arith, ◌≡◌, ◌∙◌, refl, ℕ, get_or, su
 use Rattle.text.specs.frames.Frame.{size}
 use Rattle.charts.specs.inner.Marks.{arcs_by}
 use Rattle.words.proofs.graph.Marking.{joining-first, joining-done}
-use Rattle.words.proofs.graph.Lists.{list-node, Followed, followed-none, followed-more, followed-closed, joining-more}
+use Rattle.words.proofs.graph.Lists.{Followed, followed-none, followed-more, followed-closed, joining-more}
 use Rattle.chart_check.proofs.node_marks.MarkCases.{turn-lent, turn-few, lent-enlisted}
 use Rattle.chart_check.proofs.node_marks.join.Goals as goal
 
@@ -18,12 +18,6 @@ loop-i-init c = record {
 
 pub bounds-list-i : goal.bounds-list-i
 bounds-list-i c = omega (arith, turn-few _ _ _ _ _ _ _ _ c.loop-i.invariant, c.loop-i.invariant.same, c.requires.room)
-
-pub follow-end-requires : goal.follow-end-requires
-follow-end-requires c = record {
-  v_bound = omega (arith, list-node _ _ _ c.loop-i.invariant.listed c.loop-i.i (omega arith), c.loop-i.invariant.joining.long);
-  listed_room = turn-lent _ _ _ _ _ _ _ _ c.requires c.loop-i.invariant;
-}
 
 pub overflow_add-i : goal.overflow_add-i
 overflow_add-i c = omega (arith, turn-few _ _ _ _ _ _ _ _ c.loop-i.invariant)

@@ -1,6 +1,6 @@
 -- `chart_rows::note_nodes`: the labels, then the numbers behind them.
 use Rattle.chart_rows.proofs.chart_labels.LabelSteps.{labelled}
-use native.Mathlib.Omega.{arith}
+use Rattle.std.proofs.Common.{arith}
 use Rattle.chart_rows.proofs.numbers.note_nodes.Goals as goal
 
 pub number_nodes-requires : goal.number_nodes-requires

@@ -1,5 +1,5 @@
 -- `chart_rows::number_of`: by the kind, then by the label.
-use mathlib.Core.Path.{sym, ◌∙◌}
+use Rattle.std.proofs.Common.{sym, ◌∙◌}
 use Rattle.chart_rows.proofs.NumberLaws.{number-stop, number-goes, own-stops, none-goes}
 use Rattle.chart_rows.proofs.numbers.number_of.Goals as goal
 

@@ -1,12 +1,8 @@
-use mathlib.Core.Path.{◌≡◌, refl}
-use lib.ListN.{get_or}
+use Rattle.std.proofs.Common.{◌≡◌, refl, get_or, arith, ◌+◌, rules}
 use Rattle.chart_rows.specs.inner.NodeRows.{tested_number}
 use Rattle.chart_rows.proofs.NumberLaws.{high-stops, low_goes, low-number}
 use Rattle.chart_rows.proofs.Settled.{Settled, is-settled}
 use Rattle.chart_rows.proofs.PathCases.{New, Fork, fork, stop-paths, count-stop, count-fork}
-use native.Mathlib.Omega.{arith}
-use Prim.Native.Nat.{◌+◌}
-use Rattle.std.proofs.Common.{rules}
 use Rattle.chart_rows.proofs.paths.+count_paths.Goals as goal
 
 pub returns-then-i-gt15 : goal.returns-then-i-gt15

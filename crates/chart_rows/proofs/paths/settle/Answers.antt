@@ -1,14 +1,10 @@
 -- `chart_rows::settle`: each turn passes one condition, and the rank falls.
-use mathlib.Core.Bool.{true}
-use mathlib.Core.Path.{◌≡◌}
-use Prim.Native.Nat.{◌+◌}
-use lib.ListN.{get_or}
+use Rattle.std.proofs.Common.{true, ◌≡◌, ◌+◌, get_or, arith}
 use Rattle.charts.specs.Chart.{arc_taken}
 use Rattle.chart_rows.specs.chart_labels.inner.ChartContracts.{Ready}
 use Rattle.chart_rows.specs.inner.NodeRows.{tested_number, is_known}
 use Rattle.chart_rows.proofs.NumberLaws.{number-most, bit-known, bit-unknown, side-taken}
 use Rattle.chart_rows.proofs.Settled.{passing-start, passing-on, passing-done, known-goes, known-falls}
-use native.Mathlib.Omega.{arith}
 use Rattle.chart_rows.proofs.paths.settle.Goals as goal
 
 pub loop-side-init : goal.loop-side-init
@@ -27,11 +23,6 @@ bit_at-side-requires c = record {
   node_bound = number-most _ c.requires.noted.chart.ready _ _ c.loop-side.invariant.entered
       (c.requires.noted.numbers _ c.loop-side.invariant.entered.inside);
 }
-
-pub field-at-requires : goal.field-at-requires
-field-at-requires c =
-    let ready : Ready c.args.records.now = c.requires.noted.chart.ready in
-    omega (arith, c.loop-side.invariant.entered.inside, ready.whole, c.bit_at-side.ensures)
 
 pub loop-side-smaller : goal.loop-side-smaller
 loop-side-smaller c =

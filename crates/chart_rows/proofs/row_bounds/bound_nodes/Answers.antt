@@ -1,6 +1,5 @@
-use mathlib.Core.Path.{refl}
+use Rattle.std.proofs.Common.{refl, rules}
 use Rattle.chart_rows.proofs.row_bounds.BoundSteps.{bounding-start, bounding-on, bounding-done}
-use Rattle.std.proofs.Common.{rules}
 use Rattle.chart_rows.proofs.row_bounds.bound_nodes.Goals as goal
 
 pub loop-v-init : goal.loop-v-init

@@ -1,5 +1,5 @@
 -- `chart_rows::row_bounds::bound_rows`: all numbers at first, then those of each node.
-use mathlib.Core.Path.{refl}
+use Rattle.std.proofs.Common.{refl}
 use Rattle.chart_rows.proofs.row_bounds.BoundLaws.{masked-full}
 use Rattle.chart_rows.proofs.row_bounds.bound_rows.Goals as goal
 

@@ -1,12 +1,10 @@
 -- `chart_rows::count_node`: by kind; a stopping condition and a function have two sides.
-use mathlib.Core.Path.{◌≡◌, refl, sym, ◌∙◌}
-use lib.Bits.{and_self}
+use Rattle.std.proofs.Common.{◌≡◌, refl, sym, ◌∙◌}
 use Rattle.chart_rows.specs.Rows.{rows_of}
 use Rattle.chart_rows.specs.inner.NodeRows.{node_rows}
 use Rattle.chart_rows.proofs.NumberLaws.{small-number}
 use Rattle.chart_rows.proofs.RowSteps.{no_rows, own-rows, own-mask, other-entered, function-kind}
 use Rattle.chart_rows.proofs.RowSteps.{count-nothing, count-function, count-condition, count-other}
-use native.Mathlib.Omega.{arith}
 use Rattle.chart_rows.proofs.rows.count_node.Goals as goal
 
 pub returns-then-notes-v-lt2 : goal.returns-then-notes-v-lt2
@@ -21,31 +19,10 @@ with_bit-own-requires c =
       kind = sym c.field.ensures ∙ c.in-3.is;
     }) c.field-in-3.ensures
 
-pub count_sides-requires : goal.count_sides-requires
-count_sides-requires c =
-    let node = c.requires in
-    record {
-      noted = node.noted;
-      inside = node.inside;
-      two = omega (arith, c.field.ensures, c.in-3.is);
-      within = and_self _;
-    }
-
 pub count_paths-requires : goal.count_paths-requires
 count_paths-requires c =
     let node = c.requires in
     record { noted = node.noted; entered = other-entered node c.if-notes-v-lt2.false c.field-in-0-to-2.ensures; within = refl }
-
-pub count_sides-requires-in_default : goal.count_sides-requires-in_default
-count_sides-requires-in_default c =
-    let node = c.requires in
-    record {
-      noted = node.noted;
-      inside = node.inside;
-      two = omega (arith, c.field.ensures, c.in_default.if-this-lt3-own.false);
-      within =
-          refl;
-    }
 
 pub returns-in-3 : goal.returns-in-3
 returns-in-3 c =

@@ -1,7 +1,6 @@
 -- `chart_rows::count_sides`: the paths of the 0 side, and those of the 1 side up to what is left of the limit.
-use mathlib.Core.Path.{refl}
+use Rattle.std.proofs.Common.{refl, arith}
 use Rattle.chart_rows.proofs.RowSteps.{side-entered0, side-entered1, count-sides}
-use native.Mathlib.Omega.{arith}
 use Rattle.chart_rows.proofs.rows.count_sides.Goals as goal
 
 pub count_paths-low-requires : goal.count_paths-low-requires

@@ -1,7 +1,5 @@
 -- `fitness::fit_places::any_unfit` meets its contract: the loop keeps what is known of the places below.
-use Prim.Native.Nat.{◌<◌}
-use mathlib.Core.Path.{refl, sym}
-use native.Mathlib.Omega.{arith}
+use Rattle.std.proofs.Common.{◌<◌, refl, sym, arith}
 use Rattle.tables.specs.Table.{table_image}
 use Rattle.state.specs.declared.State.{State}
 use Rattle.state.specs.Bytes.{state_of}

@@ -1,5 +1,5 @@
 -- `fitness::fit_places::any_unfit` meets its contract: the loop keeps what is known of the places below.
-use Prim.Native.Nat.{◌-◌}
+use Rattle.std.proofs.Common.{◌-◌}
 use Rattle.tables.specs.Table.{table_image}
 use Rattle.state.specs.Bytes.{state_of}
 use Rattle.fitness.proofs.fit_places.UpwardCases.{PassedPlaces}

@@ -1,19 +1,15 @@
 -- `fitness::fitting::any_filled` meets its contract: a full stack has no place above it; else the loop gathers the bits of all above.
-use mathlib.Core.Path.{sym}
+use Rattle.std.proofs.Common.{sym, rules}
 use Rattle.words.proofs.lists.Searches.{any-over}
 use Rattle.state.specs.Bytes.{state_of}
 use Rattle.fitness.specs.Fitness.{is_filled_place}
-use Rattle.fitness.proofs.fitting.AboveCases.{seen_first, seen_next, seen_all}
-use Rattle.std.proofs.Common.{rules}
+use Rattle.fitness.proofs.fitting.AboveCases.{seen_next, seen_all}
 use Rattle.fitness.proofs.fitting.any_filled.Goals as goal
 
 pub returns-then-depth-ge-PLACES : goal.returns-then-depth-ge-PLACES
 returns-then-depth-ge-PLACES c =
     let s = state_of c.args.bytes.now in
     sym (any-over (is_filled_place s) 32 s.depth (search rules))
-
-pub loop-k-init : goal.loop-k-init
-loop-k-init c = seen_first (state_of c.args.bytes.now)
 
 pub loop-k-preserved : goal.loop-k-preserved
 loop-k-preserved c = seen_next _ _ _ _ _ c.depth_of-depth.ensures (search rules) c.place_above-bits.ensures c.loop-k.invariant

@@ -1,15 +1,10 @@
 -- `fitness::fitting::any_misserved` meets its contract: the first number that is served amiss ends the loop.
-use mathlib.Core.Path.{refl}
-use native.Mathlib.Omega.{arith}
+use Rattle.std.proofs.Common.{rules}
 use Rattle.tables.specs.Table.{table_image}
 use Rattle.state.specs.declared.State.{State}
 use Rattle.state.specs.Bytes.{state_of}
 use Rattle.fitness.proofs.fitting.ServedCases.{served-found, served-next, served-all}
-use Rattle.std.proofs.Common.{rules}
 use Rattle.fitness.proofs.fitting.any_misserved.Goals as goal
-
-pub loop-h-init : goal.loop-h-init
-loop-h-init c = record { low = omega arith; same = refl }
 
 pub returns-then-is_misserved : goal.returns-then-is_misserved
 returns-then-is_misserved c =

@@ -1,11 +1,9 @@
 -- `fitness::fitting::is_unfit` meets its contract: the tests in turn, the first that holds settles it.
-use mathlib.Core.Bool.{false}
-use mathlib.Core.Path.{◌≡◌, sym, ◌∙◌}
+use Rattle.std.proofs.Common.{false, ◌≡◌, sym, ◌∙◌}
 use Rattle.state.specs.declared.State.{State}
 use Rattle.state.specs.Bytes.{state_of}
 use Rattle.fitness.specs.Fitness.{has_bad_depth}
-use Rattle.fitness.proofs.FitCases.{depth-some, depth-most, unfit-depth, unfit-places, unfit-above, unfit-served}
-use Rattle.std.proofs.Common.{rules}
+use Rattle.fitness.proofs.FitCases.{unfit-depth, unfit-places, unfit-above, unfit-served}
 use Rattle.fitness.proofs.fitting.is_unfit.Goals as goal
 
 pub returns-then-bad_depth : goal.returns-then-bad_depth
@@ -13,24 +11,11 @@ returns-then-bad_depth c =
     let held : State = state_of c.args.bytes.now in
     unfit-depth _ held (sym c.bad_depth.ensures ∙ c.if-bad_depth.true)
 
-pub any_unfit-requires : goal.any_unfit-requires
-any_unfit-requires c =
-    let held : State = state_of c.args.bytes.now in
-    let depth-good : has_bad_depth held ≡ false = sym c.bad_depth.ensures ∙ c.if-bad_depth.false in
-    let s = held in
-    record { whole = search rules; some = depth-some s depth-good; most = depth-most s depth-good }
-
 pub returns-then-any_unfit : goal.returns-then-any_unfit
 returns-then-any_unfit c =
     let held : State = state_of c.args.bytes.now in
     let depth-good : has_bad_depth held ≡ false = sym c.bad_depth.ensures ∙ c.if-bad_depth.false in
     unfit-places _ held _ depth-good c.any_unfit.ensures c.if-any_unfit.true
-
-pub any_filled-requires : goal.any_filled-requires
-any_filled-requires c =
-    let held : State = state_of c.args.bytes.now in
-    let depth-good : has_bad_depth held ≡ false = sym c.bad_depth.ensures ∙ c.if-bad_depth.false in
-    depth-most held depth-good
 
 pub returns-then-any_filled : goal.returns-then-any_filled
 returns-then-any_filled c =

@@ -1,5 +1,5 @@
 -- `little_fetch::fetching::fetch` meets its contract: the number is past the last chart, there is no room, or the text is written.
-use mathlib.Core.Path.{refl}
+use Rattle.std.proofs.Common.{refl}
 use Rattle.words.proofs.lists.Tests.{not-true, not-false}
 use Rattle.little_fetch.proofs.fetching.LittleChartCases.{past-last, too_short, fetched}
 use Rattle.little_fetch.proofs.fetching.fetch.Goals as goal

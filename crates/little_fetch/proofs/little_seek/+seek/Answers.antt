@@ -1,42 +1,15 @@
 use Rattle.std.proofs.Common.{rules, arith, refl}
 use Rattle.little_fetch.proofs.little_seek.Leaves.{leaf-seeks}
-use Rattle.little_fetch.proofs.little_seek.SeekTurns.{still-few, seeking-first, seeking-done, number-low, placed-few}
-use Rattle.little_fetch.proofs.little_seek.SeekTurns.{placed-inside, seeking-barred, seeking-on, seeking-found}
+use Rattle.little_fetch.proofs.little_seek.SeekTurns.{seeking-first, seeking-done}
+use Rattle.little_fetch.proofs.little_seek.SeekTurns.{seeking-barred, seeking-on, seeking-found}
 use Rattle.little_fetch.proofs.little_seek.+seek.Goals as goal
 
 pub returns-then-v-n : goal.returns-then-v-n
 returns-then-v-n t c = leaf-seeks _ _ _ _ c.requires.0 c.if-v-n.true c.count_chart.ensures
 
-pub past_number-past-requires : goal.past_number-past-requires
-past_number-past-requires t c = (omega (arith, c.requires.0.whole, c.requires.1), c.requires.0.few)
-
-pub first_number-i-requires : goal.first_number-i-requires
-first_number-i-requires t c = omega (arith, c.requires.0.whole, c.requires.1)
-
 pub loop-i-init : goal.loop-i-init
 loop-i-init t c = seeking-first _ _ c.requires.0 (omega (arith, c.requires.1, c.if-v-n.false)) _ _ _ _ refl c.past_number-past.ensures
     c.first_number-i.ensures
-
-pub place-requires : goal.place-requires
-place-requires t c =
-    let inv = c.loop-i.invariant in
-    (still-few _ _ _ _ _ _ _ _ _ inv, omega (arith, inv.long, inv.inside), number-low _ _ _ _ _ _ _ _ _ inv (search rules))
-
-pub is_barred-requires : goal.is_barred-requires
-is_barred-requires t c =
-    let inv = c.loop-i.invariant in
-    omega (arith, c.place.ensures.long, inv.long, inv.few.whole, inv.inside)
-
-pub seek-sought-requires : goal.seek-sought-requires
-seek-sought-requires t c =
-    let inv = c.loop-i.invariant in
-    let placed = c.place.ensures in (
-      omega (arith, placed.long, inv.long, inv.inside, c.decreases),
-      (
-        placed-few _ _ _ _ _ _ _ _ _ inv (search rules) _ placed,
-        placed-inside _ _ _ _ _ _ _ _ _ inv (search rules) _ placed,
-      ),
-    )
 
 pub returns-then-sought : goal.returns-then-sought
 returns-then-sought t c =

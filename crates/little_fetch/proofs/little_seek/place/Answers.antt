@@ -1,6 +1,6 @@
 -- `little_fetch::little_seek::place` meets its contract: what was put stands after the records below it.
 use Rattle.little_fetch.proofs.little_seek.Leaves.{node-ten, placed}
-use mathlib.Core.Path.{◌∙◌, ap}
+use Rattle.std.proofs.Common.{◌∙◌, ap}
 use Rattle.words.specs.lists.Sequences.{written}
 use Rattle.little_fetch.proofs.little_seek.place.Goals as goal
 

@@ -1,5 +1,5 @@
 -- `output::output_lines::put_codes` meets its contract: the lines of the codes passed stand in the buffer.
-use lib.ListN.{length}
+use Rattle.std.proofs.Common.{length}
 use Rattle.words.proofs.lists.Fills.{Pieces}
 use Rattle.output.proofs.output_lines.Printed.{line_at}
 use Rattle.output.proofs.output_lines.put_codes.Given as goal

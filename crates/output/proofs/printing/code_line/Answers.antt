@@ -1,6 +1,5 @@
 -- `output::printing::code_line` meets its contract: the two characters are those of the code's digits.
-use mathlib.Core.Path.{ap₂}
-use mathlib.Core.List.{[], ◌∷◌}
+use Rattle.std.proofs.Common.{ap₂, [], ◌∷◌}
 use Rattle.output.specs.printing.Lines.{code_line}
 use Rattle.output.proofs.printing.code_line.Goals as goal
 

@@ -1,5 +1,5 @@
 -- `output::run_output::count_up` meets its contract: each place passed holds its own number.
-use borrow.Author.Rules.{rules}
+use Rattle.std.proofs.Common.{rules}
 use Rattle.output.proofs.run_output.Runs.{counted_none, counted-turn, counted-all}
 use Rattle.output.proofs.run_output.count_up.Goals as goal
 

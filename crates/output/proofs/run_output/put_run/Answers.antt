@@ -1,6 +1,6 @@
 -- `output::run_output::put_run` meets its contract: the codes of the finished ticks stand at the front, and a refusal's frame after them.
 use Rattle.output.proofs.run_output.Runs.{done-count, refused-count, codes-printed, stop-printed}
-use borrow.Author.Rules.{rules}
+use Rattle.std.proofs.Common.{rules}
 use Rattle.output.proofs.run_output.put_run.Goals as goal
 
 pub returns-in-Ok : goal.returns-in-Ok

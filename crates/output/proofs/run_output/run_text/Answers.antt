@@ -1,5 +1,5 @@
 -- `output::run_output::run_text` meets its contract: the run that it makes is the program's, and what was printed of it is said by put_run.
-use native.Mathlib.Omega.{arith}
+use Rattle.std.proofs.Common.{arith}
 use Rattle.output.proofs.output_lines.Printed.{printed-as}
 use Rattle.output.proofs.run_output.Runs.{program-few, output-is}
 use Rattle.output.proofs.run_output.run_text.Goals as goal

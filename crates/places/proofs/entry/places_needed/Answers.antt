@@ -1,6 +1,5 @@
 -- `places::places_needed` meets its contract: the reader's refusal, 10, 20, or the number.
-use mathlib.Core.Path.{sym}
-use native.Mathlib.Omega.{arith}
+use Rattle.std.proofs.Common.{sym, arith}
 use Rattle.std.proofs.lemmas.Result.{err_from_is_err_and}
 use Rattle.translator.proofs.EntrySteps.{Read, zeros-long, read_told, read-long, read-ready}
 use Rattle.places.proofs.EntrySteps.{needed-unread, needed-wide, needed-circle, needed-done}

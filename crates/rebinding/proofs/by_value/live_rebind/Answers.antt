@@ -1,9 +1,7 @@
 -- `rebinding::by_value::live_rebind` meets its contract: the rebinding in place on the bytes of the state, read back.
-use mathlib.Core.Path.{◌≡◌}
-use lib.ListN.{length}
+use Rattle.std.proofs.Common.{◌≡◌, length, rules}
 use Rattle.state.specs.State.{Sized}
 use Rattle.rebinding.proofs.EntryCases.{live-rebind-value}
-use Rattle.std.proofs.Common.{rules}
 use Rattle.rebinding.proofs.by_value.live_rebind.Goals as goal
 
 pub returns : goal.returns

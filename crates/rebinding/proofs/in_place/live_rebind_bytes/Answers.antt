@@ -1,24 +1,12 @@
 -- `rebinding::in_place::live_rebind_bytes` meets its contract: the header is refused, or the rebinding is that on the table alone.
-use mathlib.Core.Path.{◌≡◌, sym, ◌∙◌}
-use mathlib.Core.Bool.{false}
-use native.Mathlib.Omega.{arith}
+use Rattle.std.proofs.Common.{◌≡◌, sym, ◌∙◌, false}
 use Rattle.tables.specs.Table.{is_bad_table}
-use Rattle.tables.proofs.Front.{end-holds}
-use Rattle.tables.proofs.Front.{cut-length, cut-whole}
+use Rattle.tables.proofs.Front.{cut-whole}
 use Rattle.rebinding.proofs.EntryCases.{live-refused, live-rebinds}
 use Rattle.rebinding.proofs.in_place.live_rebind_bytes.Goals as goal
 
 pub returns-then-bad_table : goal.returns-then-bad_table
 returns-then-bad_table c = live-refused _ _ _ _ _ c.bad_table.ensures c.if-bad_table.true
-
-pub table_length-n-requires : goal.table_length-n-requires
-table_length-n-requires c =
-    let long = end-holds c.args.table.now (sym c.bad_table.ensures ∙ c.if-bad_table.false) in omega (arith, long)
-
-pub slice_bounds-rebind_table-end : goal.slice_bounds-rebind_table-end
-slice_bounds-rebind_table-end c =
-    let good : is_bad_table c.args.table.now ≡ false = sym c.bad_table.ensures ∙ c.if-bad_table.false in
-    cut-length _ _ c.table_length-n.ensures good
 
 pub rebind_table-requires : goal.rebind_table-requires
 rebind_table-requires c =

@@ -1,7 +1,5 @@
 -- `rebinding::in_place::rebind_bytes` meets its contract: the image is refused, or the rebinding is that on its table.
-use Prim.Native.Nat.{◌*◌}
-use native.Mathlib.Omega.{arith}
-use lib.ListN.{take}
+use Rattle.std.proofs.Common.{◌*◌, arith, take}
 use Rattle.text.specs.frames.Frame.{frame_count}
 use Rattle.tables.proofs.Made.{MadeTable, image-made}
 use Rattle.rebinding.proofs.EntryCases.{image-refused, image-rebinds}

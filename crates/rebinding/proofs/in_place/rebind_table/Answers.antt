@@ -1,7 +1,6 @@
 -- `rebinding::in_place::rebind_table` meets its contract:
 -- the state is unfit, the rebinding is refused, or the byte of the number is written.
-use Rattle.rebinding.proofs.RebindCases.{unfit-rebinds, bad-rebinds, done-rebinds, number-within, scheme-most}
-use Rattle.std.proofs.Common.{rules}
+use Rattle.rebinding.proofs.RebindCases.{unfit-rebinds, bad-rebinds, done-rebinds}
 use Rattle.rebinding.proofs.in_place.rebind_table.Goals as goal
 
 pub returns-then-is_unfit : goal.returns-then-is_unfit
@@ -10,17 +9,6 @@ returns-then-is_unfit c = unfit-rebinds _ _ _ _ _ c.is_unfit.ensures c.if-is_unf
 pub returns-then-bad_rebinding : goal.returns-then-bad_rebinding
 returns-then-bad_rebinding c =
     bad-rebinds _ _ _ _ _ c.is_unfit.ensures c.if-is_unfit.false _ c.bad_rebinding.ensures c.if-bad_rebinding.true
-
-pub overflow_cast-scheme : goal.overflow_cast-scheme
-overflow_cast-scheme c =
-    let most = scheme-most _ c.requires c.args.number c.args.scheme _
-    c.bad_rebinding.ensures c.if-bad_rebinding.false in
-    search (rules, most)
-
-pub put_serving-requires : goal.put_serving-requires
-put_serving-requires c =
-    let within = number-within _ c.requires _ c.args.scheme _ c.bad_rebinding.ensures c.if-bad_rebinding.false in
-    record { le_h = within.0; h_bound = within.1 }
 
 pub returns : goal.returns
 returns c =

@@ -1,7 +1,5 @@
 -- `rows::image_rows::list_rows` meets its contract: the image is refused, or its table is listed.
-use Prim.Native.Nat.{◌*◌}
-use native.Mathlib.Omega.{arith}
-use lib.ListN.{take}
+use Rattle.std.proofs.Common.{◌*◌, arith, take}
 use Rattle.text.specs.frames.Frame.{frame_count}
 use Rattle.tables.proofs.Made.{MadeTable, image-made}
 use Rattle.rows.proofs.image_rows.EntryCases.{image-refused, made-listable, image-lists}

@@ -1,5 +1,5 @@
 -- `rows::listing::fill_listing` meets its contract: the labels so far stand in both buffers.
-use Prim.Native.Nat.{◌+◌}
+use Rattle.std.proofs.Common.{◌+◌}
 use Rattle.image.specs.Decode.{last_label}
 use Rattle.tables.specs.Table.{table_image}
 use Rattle.rows.proofs.listing.FillCases.{FillingRows}

@@ -1,8 +1,6 @@
 -- `rows::listing::list_table` meets its contract: no room in a buffer, or both are filled.
-use mathlib.Core.Path.{ap}
-use Prim.Native.Nat.{ℕ, ◌+◌}
+use Rattle.std.proofs.Common.{ap, ℕ, ◌+◌, rules}
 use Rattle.rows.proofs.listing.FillCases.{firsts-short, counts-short, listed}
-use Rattle.std.proofs.Common.{rules}
 use Rattle.rows.proofs.listing.list_table.Goals as goal
 
 pub returns-then-firsts-labels : goal.returns-then-firsts-labels

@@ -1,6 +1,6 @@
 -- `rows::row_search::find_row` meets its contract: the row that matched, as long as no second one does, is the best so far, and none of
 -- those passed over matches.
-use Prim.Native.Nat.{◌-◌}
+use Rattle.std.proofs.Common.{◌-◌}
 use Rattle.rows.proofs.row_search.PassCases.{PassedRows}
 use Rattle.rows.proofs.row_search.find_row.Given as goal
 

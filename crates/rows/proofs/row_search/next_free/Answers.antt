@@ -1,5 +1,5 @@
 -- `rows::row_search::next_free` meets its contract: the row taken says where it leads.
-use native.Mathlib.Omega.{arith}
+use Rattle.std.proofs.Common.{arith}
 use Rattle.rows.proofs.SearchCases.{chosen-inside, next-taken}
 use Rattle.rows.proofs.row_search.next_free.Goals as goal
 

@@ -1,6 +1,6 @@
 -- `rows::row_search::skip_rows` meets its contract: none of the rows passed so far matches, and before two that are left it stops
 -- only at one that does.
-use Prim.Native.Nat.{◌+◌, ◌-◌, ◌≤◌}
+use Rattle.std.proofs.Common.{◌+◌, ◌-◌, ◌≤◌}
 use Rattle.rows.specs.inner.Search.{swapped_word}
 use Rattle.rows.specs.row_search.inner.Skipped.{Unmatched}
 use Rattle.rows.proofs.row_search.skip_rows.Given as goal

@@ -1,31 +1,13 @@
 -- `rows::row_search::take_row` meets its contract: a single row, the one of two that matches, else what the search finds.
-use native.Mathlib.Omega.{arith}
-use Rattle.rows.proofs.SearchCases.{end-within, first_small, few-frames, one_found}
+use Rattle.std.proofs.Common.{arith, rules}
+use Rattle.rows.proofs.SearchCases.{end-within, few-frames, one_found}
 use Rattle.rows.proofs.row_search.PassCases.{first-of-two, second-of-two}
-use Rattle.std.proofs.Common.{rules}
 use Rattle.rows.proofs.row_search.take_row.Goals as goal
-
-pub overflow_add-first : goal.overflow_add-first
-overflow_add-first c =
-    let small = first_small c.args.table.now c.args.l
-    (λ k. omega (arith, c.shared_slice_known-1.given k)) in
-    let is = c.first_of-first.ensures in
-    search rules
-
-pub one_row-requires : goal.one_row-requires
-one_row-requires c = omega (arith, end-within _ _ _ c.requires.deciding.label.whole c.end_of-end.ensures, c.if-end-first.true)
 
 pub returns-then-end-first : goal.returns-then-end-first
 returns-then-end-first c =
     one_found c.args.table.now c.args.l c.args.word c.args.bit
     _ _ c.requires.deciding c.first_of-first.ensures c.end_of-end.ensures c.if-end-first.true _ c.one_row.ensures
-
-pub overflow_add-first-2 : goal.overflow_add-first-2
-overflow_add-first-2 c =
-    let small = first_small c.args.table.now c.args.l
-    (λ k. omega (arith, c.shared_slice_known-1.given k)) in
-    let is = c.first_of-first.ensures in
-    search rules
 
 pub returns-then-not-is_matching : goal.returns-then-not-is_matching
 returns-then-not-is_matching c =

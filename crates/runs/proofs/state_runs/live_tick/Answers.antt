@@ -1,9 +1,7 @@
 -- `runs::state_runs::live_tick` meets its contract: the tick in place on the bytes of the state, read back.
-use mathlib.Core.Path.{◌≡◌}
-use lib.ListN.{length}
+use Rattle.std.proofs.Common.{◌≡◌, length, rules}
 use Rattle.state.specs.State.{Sized}
 use Rattle.runs.proofs.state_runs.Values.{live-tick-value}
-use Rattle.std.proofs.Common.{rules}
 use Rattle.runs.proofs.state_runs.live_tick.Goals as goal
 
 pub returns : goal.returns

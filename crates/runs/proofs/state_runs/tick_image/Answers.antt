@@ -1,9 +1,7 @@
 -- `runs::state_runs::tick_image` meets its contract: the tick in place on the bytes of the state, read back.
-use mathlib.Core.Path.{◌≡◌}
-use lib.ListN.{length}
+use Rattle.std.proofs.Common.{◌≡◌, length, rules}
 use Rattle.state.specs.State.{Sized}
 use Rattle.runs.proofs.state_runs.Values.{tick-value}
-use Rattle.std.proofs.Common.{rules}
 use Rattle.runs.proofs.state_runs.tick_image.Goals as goal
 
 pub returns : goal.returns

@@ -1,11 +1,8 @@
 -- `runs::table_runs::run_table` meets its contract: 15 and 16 in turn, then what the ticks leave.
-use mathlib.Core.Path.{sym, ◌∙◌}
+use Rattle.std.proofs.Common.{sym, ◌∙◌}
 use Rattle.runs.proofs.RunCases.{room-enough, unfit-answer, short-answer, ran-answer, stops-late, done-replied, stopped-replied}
 use Rattle.runs.proofs.RunCases.{fits-stands}
 use Rattle.runs.proofs.table_runs.run_table.Goals as goal
-
-pub is_unfit-requires : goal.is_unfit-requires
-is_unfit-requires c = c.requires
 
 pub returns-then-is_unfit : goal.returns-then-is_unfit
 returns-then-is_unfit c = unfit-answer _ _ _ _ _ _ c.is_unfit.ensures c.if-is_unfit.true

@@ -1,10 +1,7 @@
 -- `runs::table_runs::tick_table` meets its contract: an unfit state, a tick that is stopped, or one that is finished.
-use mathlib.Core.Path.{sym, ◌∙◌}
+use Rattle.std.proofs.Common.{sym, ◌∙◌}
 use Rattle.runs.proofs.RunCases.{fits-stands, tick-unfit, tick-late, tick-stopped, tick-finished}
 use Rattle.runs.proofs.table_runs.tick_table.Goals as goal
-
-pub is_unfit-requires : goal.is_unfit-requires
-is_unfit-requires c = c.requires
 
 pub returns-then-is_unfit : goal.returns-then-is_unfit
 returns-then-is_unfit c = tick-unfit _ _ _ _ c.is_unfit.ensures c.if-is_unfit.true

@@ -1,5 +1,5 @@
 -- `spindles::spindle_heads::live_refuse_head` meets its contract, refusal by refusal.
-use mathlib.Core.Path.{sym, ◌∙◌}
+use Rattle.std.proofs.Common.{sym, ◌∙◌}
 use Rattle.text.proofs.frames.Chains.{when-holds, when-fails}
 use Rattle.spindles.proofs.spindle_heads.Heads.{no-spindle, bad-header, bad-list}
 use Rattle.spindles.proofs.spindle_heads.live_refuse_head.Goals as goal

@@ -1,5 +1,5 @@
 -- `spindles::spindle_heads::refuse_head` meets its contract, refusal by refusal.
-use mathlib.Core.Path.{refl, ◌∙◌}
+use Rattle.std.proofs.Common.{refl, ◌∙◌}
 use Rattle.spindles.proofs.spindle_heads.Heads.{no-spindle, tick-refused, no_size}
 use Rattle.spindles.proofs.spindle_heads.refuse_head.Goals as goal
 

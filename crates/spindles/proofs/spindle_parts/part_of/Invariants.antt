@@ -1,6 +1,5 @@
 -- `spindles::spindle_parts::part_of` meets its contract: the bytes passed stand in place.
-use Prim.Native.Nat.{ℕ, ◌+◌, ◌*◌}
-use lib.ListN.{get_or}
+use Rattle.std.proofs.Common.{ℕ, ◌+◌, ◌*◌, get_or}
 use Rattle.words.proofs.lists.Arrays.{Filled}
 use Rattle.spindles.proofs.spindle_parts.part_of.Given as goal
 

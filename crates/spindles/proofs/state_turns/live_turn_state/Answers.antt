@@ -1,9 +1,7 @@
 -- `spindles::state_turns::live_turn_state` meets its contract: the turn on the bytes of the state, read back.
-use mathlib.Core.Path.{◌≡◌}
-use lib.ListN.{length}
+use Rattle.std.proofs.Common.{◌≡◌, length, rules}
 use Rattle.state.specs.State.{Sized}
 use Rattle.spindles.proofs.state_turns.Values.{start-deep, table-value}
-use borrow.Author.Rules.{rules}
 use Rattle.spindles.proofs.state_turns.live_turn_state.Goals as goal
 
 pub live_turn_bytes-report-requires : goal.live_turn_bytes-report-requires

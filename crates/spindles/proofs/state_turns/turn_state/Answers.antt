@@ -1,9 +1,7 @@
 -- `spindles::state_turns::turn_state` meets its contract: the turn on the bytes of the state, read back.
-use mathlib.Core.Path.{◌≡◌}
-use lib.ListN.{length}
+use Rattle.std.proofs.Common.{◌≡◌, length, rules}
 use Rattle.state.specs.State.{Sized}
 use Rattle.spindles.proofs.state_turns.Values.{start-deep, image-value}
-use borrow.Author.Rules.{rules}
 use Rattle.spindles.proofs.state_turns.turn_state.Goals as goal
 
 pub turn_bytes-report-requires : goal.turn_bytes-report-requires

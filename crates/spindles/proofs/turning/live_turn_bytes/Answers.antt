@@ -1,18 +1,12 @@
 -- `spindles::turning::live_turn_bytes` meets its contract: the record is refused, or the tick is settled.
-use mathlib.Core.Path.{sym, ◌∙◌}
-use Rattle.spindles.proofs.turning.Settled.{record-holds, table-turns, table-numbered, record-refused}
+use Rattle.std.proofs.Common.{sym, ◌∙◌}
+use Rattle.spindles.proofs.turning.Settled.{table-turns, table-numbered, record-refused}
 use Rattle.spindles.proofs.turning.live_turn_bytes.Goals as goal
 
 pub returns-then-bad_record : goal.returns-then-bad_record
 returns-then-bad_record c =
     record-refused _ (table-numbered c.args.table.now) _ _ _ _ _ (sym c.bad_record.ensures ∙ c.if-bad_record.true)
     c.live_refuse_head.ensures
-
-pub settle-requires : goal.settle-requires
-settle-requires c =
-    let good = sym c.bad_record.ensures ∙ c.if-bad_record.false in
-    let both = record-holds c.args.sum c.args.taken _ good c.requires in
-    record { bound = both.0; taken_bound = both.1 }
 
 pub returns : goal.returns
 returns c =

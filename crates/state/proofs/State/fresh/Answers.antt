@@ -1,5 +1,5 @@
 -- `state::State::fresh` meets its contract: by whether the size is refused.
-use mathlib.Core.Path.{sym, ◌∙◌}
+use Rattle.std.proofs.Common.{sym, ◌∙◌}
 use Rattle.state.specs.State.{fresh_state}
 use Rattle.state.proofs.State.fresh.Goals as goal
 

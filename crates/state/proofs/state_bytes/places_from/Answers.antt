@@ -1,5 +1,5 @@
 -- `state::state_bytes::places_from` meets its contract: the elements passed stand in place.
-use borrow.Author.Rules.{rules}
+use Rattle.std.proofs.Common.{rules}
 use Rattle.words.proofs.lists.Arrays.{filled-all}
 use Rattle.state.proofs.state_bytes.places_from.Goals as goal
 

@@ -1,7 +1,6 @@
 -- `state::state_bytes::places_from` meets its contract: the elements passed stand in place.
-use Prim.Native.Nat.{ℕ, ◌+◌}
+use Rattle.std.proofs.Common.{ℕ, ◌+◌, get_or}
 use Rattle.words.proofs.lists.Arrays.{Filled}
-use lib.ListN.{get_or}
 use Rattle.state.proofs.state_bytes.places_from.Given as goal
 
 abbrev pub invariant-loop-k : goal.invariant-loop-k

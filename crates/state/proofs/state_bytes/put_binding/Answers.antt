@@ -1,6 +1,5 @@
 -- `state::state_bytes::put_binding` meets its contract: the elements passed stand in place.
-use borrow.Author.Rules.{rules}
-use mathlib.Core.Path.{refl}
+use Rattle.std.proofs.Common.{rules, refl}
 use Rattle.words.proofs.lists.Fills.{values-none, values-turn}
 use Rattle.state.proofs.state_bytes.put_binding.Goals as goal
 

@@ -1,7 +1,6 @@
 -- `state::state_bytes::put_places` meets its contract: the elements passed stand in place.
-use Prim.Native.Nat.{ℕ}
+use Rattle.std.proofs.Common.{ℕ, get_or}
 use Rattle.words.proofs.lists.Fills.{ValuesFrom}
-use lib.ListN.{get_or}
 use Rattle.state.proofs.state_bytes.put_places.Given as goal
 
 abbrev pub invariant-loop-k : goal.invariant-loop-k

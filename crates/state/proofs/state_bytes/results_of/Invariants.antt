@@ -1,5 +1,5 @@
 -- `state::state_bytes::results_of` meets its contract: the elements passed stand in place.
-use mathlib.Core.Bool.{false}
+use Rattle.std.proofs.Common.{false}
 use Rattle.words.proofs.lists.Arrays.{Filled}
 use Rattle.state.specs.Bytes.{result_in}
 use Rattle.state.proofs.state_bytes.results_of.Given as goal

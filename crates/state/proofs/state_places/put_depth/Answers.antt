@@ -1,8 +1,7 @@
 -- `state::state_places::put_depth` meets its contract: byte 1 is the depth.
-use mathlib.Core.Path.{ap, ◌∙◌}
+use Rattle.std.proofs.Common.{ap, ◌∙◌, rules}
 use Rattle.state.specs.Bytes.{state_of}
 use Rattle.state.proofs.ByteParts.{depth-set}
-use Rattle.std.proofs.Common.{rules}
 use Rattle.state.proofs.state_places.put_depth.Goals as goal
 
 pub returns : goal.returns

@@ -1,8 +1,7 @@
 -- `state::state_places::put_place` meets its contract: place k is byte 2 + k.
-use mathlib.Core.Path.{ap, ◌∙◌}
+use Rattle.std.proofs.Common.{ap, ◌∙◌, rules}
 use Rattle.state.specs.Bytes.{state_of}
 use Rattle.state.proofs.ByteParts.{place_set}
-use Rattle.std.proofs.Common.{rules}
 use Rattle.state.proofs.state_places.put_place.Goals as goal
 
 pub returns : goal.returns

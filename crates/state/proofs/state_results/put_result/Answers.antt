@@ -1,12 +1,8 @@
 -- `state::state_results::put_result` meets its contract: a result of 0 and a number above 16 leave the bytes, any other writes its byte.
-use mathlib.Core.Path.{ap, ◌∙◌}
+use Rattle.std.proofs.Common.{ap, ◌∙◌, rules}
 use Rattle.state.specs.Bytes.{state_of}
-use Rattle.state.proofs.ByteParts.{result-kept, result-beyond, result-set}
-use Rattle.std.proofs.Common.{rules}
+use Rattle.state.proofs.ByteParts.{result-beyond, result-set}
 use Rattle.state.proofs.state_results.put_result.Goals as goal
-
-pub returns-then-res-eq0 : goal.returns-then-res-eq0
-returns-then-res-eq0 c = result-kept _ _ _ c.if-res-eq0.true
 
 pub returns-then-k-ge-SCHEMES : goal.returns-then-k-ge-SCHEMES
 returns-then-k-ge-SCHEMES c = result-beyond _ c.args.res _ _ c.result_place-k.ensures c.if-k-ge-SCHEMES.true

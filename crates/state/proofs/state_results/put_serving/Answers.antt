@@ -1,8 +1,7 @@
 -- `state::state_results::put_serving` meets its contract: number h stands h bytes after `BEFORE_SERVING`.
-use mathlib.Core.Path.{ap, ◌∙◌}
+use Rattle.std.proofs.Common.{ap, ◌∙◌, rules}
 use Rattle.state.specs.Bytes.{state_of}
 use Rattle.state.proofs.ByteParts.{serving-set}
-use Rattle.std.proofs.Common.{rules}
 use Rattle.state.proofs.state_results.put_serving.Goals as goal
 
 pub returns : goal.returns

@@ -1,8 +1,5 @@
 -- `tables::preparing::prepare` meets its contract: the image is refused, the buffer has no room, or the table is copied to its front.
-use Prim.Native.Nat.{ℕ}
-use mathlib.Core.Path.{◌≡◌}
-use mathlib.Core.List.{List}
-use native.Mathlib.Omega.{arith}
+use Rattle.std.proofs.Common.{ℕ, ◌≡◌, List, arith}
 use Rattle.text.specs.frames.Verdict.{fine}
 use Rattle.text.proofs.frames.Chains.{ok-fine}
 use Rattle.image.specs.Check.{image_verdict}
@@ -35,13 +32,6 @@ slice_bounds-put_bytes-end c =
     let accepted : image_verdict text ≡ fine =
     (ok-fine _ _ 0 c.prepare_table.ensures.answered _ c.in_ok-prepare_table.was).0 in
     made-length text accepted _ _ c.prepare_table.ensures.written
-
-pub put_bytes-requires : goal.put_bytes-requires
-put_bytes-requires c =
-    let text : List ℕ = c.args.image.now in
-    let accepted : image_verdict text ≡ fine =
-    (ok-fine _ _ 0 c.prepare_table.ensures.answered _ c.in_ok-prepare_table.was).0 in
-    omega (arith, made-length text accepted _ _ c.prepare_table.ensures.written, c.if-table-n.false)
 
 pub returns : goal.returns
 returns c =

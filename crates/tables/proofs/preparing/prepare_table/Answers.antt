@@ -1,8 +1,5 @@
 -- `tables::preparing::prepare_table` meets its contract: the image is refused and stays as it was read, or it is noted.
-use Prim.Native.Nat.{ℕ}
-use mathlib.Core.Path.{◌≡◌}
-use mathlib.Core.List.{List}
-use native.Mathlib.Omega.{arith}
+use Rattle.std.proofs.Common.{ℕ, ◌≡◌, List, arith}
 use Rattle.text.specs.frames.Verdict.{fine}
 use Rattle.text.proofs.frames.Chains.{ok-fine}
 use Rattle.image.specs.Check.{image_verdict}

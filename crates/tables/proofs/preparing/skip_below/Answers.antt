@@ -1,10 +1,9 @@
 -- `tables::preparing::skip_below` meets its contract: the loop keeps what is left to search.
-use borrow.Author.Tests.{le-leb, lt-leb}
-use mathlib.Core.Path.{sym, ◌∙◌}
+use Rattle.std.proofs.Common.{le-leb, sym, ◌∙◌, rules}
+use borrow.Author.Tests.{lt-leb}
 use Rattle.words.proofs.lists.Searches.{lowest-here, lowest-on, lowest-over}
 use Rattle.text.specs.frames.Frame.{field}
 use Rattle.tables.specs.Prepare.{is_row_reached}
-use Rattle.std.proofs.Common.{rules}
 use Rattle.tables.proofs.preparing.skip_below.Goals as goal
 
 pub returns-then-l-byte : goal.returns-then-l-byte

@@ -1,6 +1,5 @@
 -- `tables::preparing::skip_below` meets its contract: the loop keeps what is left to search.
-use mathlib.Core.Path.{◌≡◌}
-use Prim.Native.Nat.{◌-◌, ◌≤◌}
+use Rattle.std.proofs.Common.{◌≡◌, ◌-◌, ◌≤◌}
 use Rattle.words.specs.lists.Numbers.{lowest}
 use Rattle.tables.specs.Prepare.{is_row_reached}
 use Rattle.tables.proofs.preparing.skip_below.Given as goal

@@ -1,6 +1,5 @@
 -- `ticks::calls::callee_of` meets its contract: a number that is none, a number that no scheme serves, or one that a scheme serves.
-use mathlib.Core.Path.{◌≡◌}
-use native.Mathlib.Omega.{arith}
+use Rattle.std.proofs.Common.{◌≡◌, arith}
 use Rattle.tables.specs.Table.{table_label}
 use Rattle.tables.proofs.LabelCases.{called-known}
 use Rattle.ticks.proofs.calls.CalleeCases.{first_entry, callee-read}

@@ -1,5 +1,5 @@
 -- `ticks::calls::server_entry` meets its contract: the table has the scheme, or not.
-use native.Mathlib.Omega.{arith}
+use Rattle.std.proofs.Common.{arith}
 use Rattle.ticks.proofs.calls.CalleeCases.{server-none, server-entry}
 use Rattle.ticks.proofs.calls.server_entry.Goals as goal
 

@@ -1,7 +1,5 @@
 -- `ticks::calls::tick_call` meets its contract: the stack is full, or there is a free place.
-use mathlib.Core.Path.{◌∙◌, ap}
-use Prim.Native.Nat.{ℕ, ◌-◌, ◌≤◌}
-use native.Mathlib.Omega.{arith}
+use Rattle.std.proofs.Common.{◌∙◌, ap, ℕ, ◌-◌, ◌≤◌, arith}
 use Rattle.state.specs.declared.State.{State}
 use Rattle.state.specs.State.{number_at}
 use Rattle.state.specs.Bytes.{state_of}

@@ -1,6 +1,5 @@
 -- `ticks::full_stack::tick_full` meets its contract: the stack is kept, or the handler is all that it holds.
-use mathlib.Core.Path.{◌≡◌, ◌∙◌, ap}
-use Prim.Native.Nat.{ℕ, ◌-◌}
+use Rattle.std.proofs.Common.{◌≡◌, ◌∙◌, ap, ℕ, ◌-◌}
 use Rattle.state.specs.declared.State.{State}
 use Rattle.state.specs.State.{place_at, number_at}
 use Rattle.state.specs.Bytes.{state_of}

@@ -1,7 +1,5 @@
 -- `ticks::returns::tick_back` meets its contract: the handler ends, the label beneath has no row, or it takes it and the top is dropped.
-use mathlib.Core.Path.{ap}
-use Prim.Native.Nat.{ℕ, ◌-◌, ◌≤◌}
-use native.Mathlib.Omega.{arith}
+use Rattle.std.proofs.Common.{ap, ℕ, ◌-◌, ◌≤◌, arith}
 use Rattle.state.specs.Bytes.{state_of}
 use Rattle.ticks.specs.inner.TickContracts.{TopBack}
 use Rattle.ticks.proofs.TickCases.{depth-most, size-most}
@@ -12,14 +10,6 @@ pub returns-then-depth-lt2 : goal.returns-then-depth-lt2
 returns-then-depth-lt2 c =
     last-steps _ _ _ c.requires.top_return _ c.depth_of-depth.ensures (omega (arith, c.if-depth-lt2.true)) _ c.put_alone.ensures
 
-pub next_beneath-next-requires : goal.next_beneath-next-requires
-next_beneath-next-requires c =
-    let back : TopBack c.args.table.now (state_of c.args.bytes.now) =
-    record { top = c.requires.top_return; deep = omega (arith, c.depth_of-depth.ensures, c.if-depth-lt2.false) } in record {
-      top_back = back;
-      header = c.requires.header;
-    }
-
 pub returns-then-next-ge-NO_LABEL : goal.returns-then-next-ge-NO_LABEL
 returns-then-next-ge-NO_LABEL c =
     let back : TopBack c.args.table.now (state_of c.args.bytes.now) =
@@ -27,18 +17,6 @@ returns-then-next-ge-NO_LABEL c =
     back-stop _ _ _ back _ c.next_beneath-next.ensures
     (λ k. omega (arith, c.shared_slice_known-1.given k))
     c.if-next-ge-NO_LABEL.true _ c.no_row-step.ensures
-
-pub open_place-requires : goal.open_place-requires
-open_place-requires c =
-    let most : c.depth_of-depth.result ≤ 32 = let asked = c.requires.top_return.stands in
-    omega (arith, depth-most asked, size-most asked, c.depth_of-depth.ensures) in
-    omega (arith, most, c.if-depth-lt2.false)
-
-pub put_place-requires : goal.put_place-requires
-put_place-requires c =
-    let most : c.depth_of-depth.result ≤ 32 = let asked = c.requires.top_return.stands in
-    omega (arith, depth-most asked, size-most asked, c.depth_of-depth.ensures) in
-    omega (arith, most, c.if-depth-lt2.false)
 
 pub returns : goal.returns
 returns c =

@@ -1,10 +1,7 @@
 -- `chart_check::chart_arcs::arcs::lowest_arc_and_call` meets its contract: what is known of the nodes from v on is known of all.
-use Rattle.std.proofs.Common.{if◌then◌else◌}
-use mathlib.Core.Path.{◌≡◌, sym, ◌∙◌}
-use Prim.Native.Nat.{◌-◌}
+use Rattle.std.proofs.Common.{if◌then◌else◌, ◌≡◌, sym, ◌∙◌, ◌-◌, rules}
 use Rattle.words.proofs.lists.Tests.{if-true, if-false}
 use Rattle.chart_check.proofs.chart_arcs.Downward.{downward-none, downward-turn}
-use borrow.Author.Rules.{rules}
 use Rattle.chart_check.proofs.chart_arcs.arcs.lowest_arc_and_call.Goals as goal
 use Rattle.chart_check.proofs.chart_arcs.arcs.lowest_arc_and_call.Goals.{else-bad_arc, then-bad_arc}
 

@@ -1,7 +1,5 @@
 -- `chart_check::chart_counts::counts::count_node` meets its contract: a node of the kind counts for its scheme alone.
-use native.Mathlib.Omega.{arith}
-use Prim.Native.Nat.{◌<◌}
-use lib.ListN.{length}
+use Rattle.std.proofs.Common.{arith, ◌<◌, length}
 use Rattle.chart_check.proofs.chart_counts.SchemeCounts.{counts-long, counts-low, counts-pass, counts-more}
 use Rattle.chart_check.proofs.chart_counts.counts.count_node.Goals as goal
 

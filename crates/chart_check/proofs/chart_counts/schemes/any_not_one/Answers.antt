@@ -1,9 +1,7 @@
-use Prim.Native.Nat.{◌+◌}
-use mathlib.Core.Path.{sym, ◌∙◌}
+use Rattle.std.proofs.Common.{◌+◌, sym, ◌∙◌, rules}
 use Rattle.words.proofs.lists.Searches.{any_here, any-on, any-over}
 use Rattle.chart_check.specs.chart_counts.inner.Counts.{is_not_one_of_each}
 use Rattle.chart_check.proofs.chart_counts.SchemeCounts.{one_each, not-begin, not_end}
-use Rattle.std.proofs.Common.{rules}
 use Rattle.chart_check.proofs.chart_counts.schemes.any_not_one.Goals as goal
 
 pub returns-then-begins-at-ne1 : goal.returns-then-begins-at-ne1

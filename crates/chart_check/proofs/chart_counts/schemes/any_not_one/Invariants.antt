@@ -1,6 +1,5 @@
 -- `chart_check::chart_counts::schemes::any_not_one` meets its contract: the loop keeps what is left to look at.
-use Prim.Native.Nat.{◌-◌, ◌+◌, ◌≤◌}
-use mathlib.Core.Path.{◌≡◌}
+use Rattle.std.proofs.Common.{◌-◌, ◌+◌, ◌≤◌, ◌≡◌}
 use Rattle.words.specs.lists.Numbers.{any}
 use Rattle.chart_check.specs.chart_counts.inner.Counts.{is_not_one_of_each}
 use Rattle.chart_check.proofs.chart_counts.schemes.any_not_one.Given as goal

@@ -1,7 +1,6 @@
-use Rattle.std.proofs.Common.{rules, ◌≡◌, refl, arith, ap, ◌∙◌, ℕ}
+use Rattle.std.proofs.Common.{rules, refl, arith}
 use Rattle.words.specs.lists.Numbers.{highest}
 use Rattle.words.proofs.lists.Searches.{highest-next}
-use Rattle.text.specs.frames.Frame.{size}
 use Rattle.charts.specs.Chart.{scheme}
 use Rattle.chart_check.proofs.chart_counts.schemes.highest_scheme.Goals as goal
 use Rattle.chart_check.proofs.chart_counts.schemes.highest_scheme.Goals.{then-highest-scheme, else-highest-scheme}
@@ -21,8 +20,3 @@ loop-v-preserved c =
         | else-highest-scheme w ↦ omega (arith, next, c.field-scheme.ensures)
       ];
     }
-
-pub returns : goal.returns
-returns c =
-    let e : c.loop-v.v ≡ size c.args.records.now = search rules in
-    c.loop-v.invariant.highest ∙ ap (λ (k : ℕ). highest (scheme c.args.records.now) 0 k) e

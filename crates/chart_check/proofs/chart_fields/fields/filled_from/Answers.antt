@@ -1,9 +1,5 @@
-use mathlib.Core.Path.{sym, ◌∙◌, ap}
-use mathlib.Core.Bool.{not}
-use lib.Dec.{eqb}
-use borrow.Author.Tests.{eq-eqb, ne_eqb}
+use Rattle.std.proofs.Common.{sym, ◌∙◌, ap, not, eqb, eq-eqb, ne_eqb, rules}
 use Rattle.words.proofs.lists.Searches.{any_here, any-on, any-over}
-use Rattle.std.proofs.Common.{rules}
 use Rattle.chart_check.proofs.chart_fields.fields.filled_from.Goals as goal
 
 pub returns-then-field-ne0 : goal.returns-then-field-ne0

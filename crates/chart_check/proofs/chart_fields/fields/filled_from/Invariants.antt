@@ -1,8 +1,5 @@
 -- `chart_check::chart_fields::fields::filled_from` meets its contract: the loop keeps what is left to look at.
-use Prim.Native.Nat.{◌-◌, ◌≤◌}
-use mathlib.Core.Path.{◌≡◌}
-use mathlib.Core.Bool.{not}
-use lib.Dec.{eqb}
+use Rattle.std.proofs.Common.{◌-◌, ◌≤◌, ◌≡◌, not, eqb}
 use Rattle.words.specs.lists.Numbers.{any}
 use Rattle.text.specs.frames.Frame.{field}
 use Rattle.charts.specs.Check.{is_filled_from}

@@ -1,6 +1,5 @@
 -- `chart_rows::chart_labels::labels::label_of` meets its contract: a label of its own, or 0 or 1 by the scheme.
-use native.Mathlib.Omega.{arith}
-use mathlib.Core.Path.{sym, ◌∙◌}
+use Rattle.std.proofs.Common.{arith, sym, ◌∙◌}
 use Rattle.chart_rows.proofs.chart_labels.LabelSteps.{own-small, own-done, first_done, other-done}
 use Rattle.chart_rows.proofs.chart_labels.labels.label_of.Goals as goal
 

@@ -1,7 +1,6 @@
-use mathlib.Core.Path.{refl, sym, ◌∙◌}
+use Rattle.std.proofs.Common.{refl, sym, ◌∙◌, rules}
 use Rattle.words.proofs.lists.Searches.{searching-found, searching-next, searching-over}
 use Rattle.chart_rows.proofs.chart_labels.NodeSteps.{search-start}
-use Rattle.std.proofs.Common.{rules}
 use Rattle.chart_rows.proofs.chart_labels.nodes.begin.Goals as goal
 
 pub loop-v-init : goal.loop-v-init

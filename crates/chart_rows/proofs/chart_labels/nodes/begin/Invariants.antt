@@ -1,6 +1,5 @@
 -- `chart_rows::chart_labels::begin`: what is left of the search is the whole search.
-use Prim.Native.Nat.{◌-◌}
-use mathlib.Core.Path.{◌≡◌}
+use Rattle.std.proofs.Common.{◌-◌, ◌≡◌}
 use Rattle.words.proofs.lists.Searches.{Searching}
 use Rattle.text.specs.frames.Frame.{size}
 use Rattle.charts.specs.Chart.{is_of, begin}

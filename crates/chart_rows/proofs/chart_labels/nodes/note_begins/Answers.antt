@@ -1,7 +1,4 @@
-use Prim.Native.Nat.{ℕ, ◌-◌, ◌<◌}
-use mathlib.Core.List.{List}
-use mathlib.Core.Path.{◌≡◌}
-use native.Mathlib.Omega.{arith}
+use Rattle.std.proofs.Common.{ℕ, ◌-◌, ◌<◌, List, ◌≡◌, arith}
 use Rattle.text.specs.frames.Frame.{size}
 use Rattle.charts.specs.Chart.{scheme}
 use Rattle.chart_rows.specs.chart_labels.inner.ChartContracts.{Ready}

@@ -1,8 +1,7 @@
 -- `chart_rows::chart_labels::nodes::stops` meets its contract: by the kind of the node.
-use mathlib.Core.Path.{sym, ◌∙◌}
+use Rattle.std.proofs.Common.{sym, ◌∙◌, rules}
 use Rattle.walk.proofs.Follow.{stops-begin, stops-other}
 use Rattle.chart_rows.proofs.chart_labels.NodeSteps.{begin-asks, condition-second, condition-first}
-use Rattle.std.proofs.Common.{rules}
 use Rattle.chart_rows.proofs.chart_labels.nodes.stops.Goals as goal
 
 pub begin_stops-requires-clause-v_in_bounds_2 : goal.begin_stops-requires-clause-v_in_bounds_2

@@ -1,7 +1,6 @@
-use mathlib.Core.Path.{sym, ◌∙◌}
+use Rattle.std.proofs.Common.{sym, ◌∙◌, rules}
 use Rattle.words.proofs.lists.Searches.{any_here, any-on, any-over}
 use Rattle.little_fetch.proofs.little_nodes.Tests.{clash-first, clash-second, clash-none}
-use Rattle.std.proofs.Common.{rules}
 use Rattle.little_fetch.proofs.little_nodes.tried.any_clash.Goals as goal
 
 pub returns-then-enters_begin : goal.returns-then-enters_begin

@@ -1,6 +1,5 @@
 -- `little_fetch::little_nodes::tried::any_clash` meets its contract: the loop keeps what is left to look at.
-use Prim.Native.Nat.{◌+◌, ◌-◌, ◌≤◌}
-use mathlib.Core.Path.{◌≡◌}
+use Rattle.std.proofs.Common.{◌+◌, ◌-◌, ◌≤◌, ◌≡◌}
 use Rattle.words.specs.lists.Numbers.{any}
 use Rattle.little_charts.specs.little_search.inner.Search.{is_clash}
 use Rattle.little_fetch.proofs.little_nodes.tried.any_clash.Given as goal

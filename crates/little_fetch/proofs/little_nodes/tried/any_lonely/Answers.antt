@@ -1,6 +1,5 @@
-use mathlib.Core.Path.{refl, sym, ◌∙◌}
+use Rattle.std.proofs.Common.{refl, sym, ◌∙◌, rules}
 use Rattle.words.proofs.lists.Searches.{any_here, any-on, any-over}
-use Rattle.std.proofs.Common.{rules}
 use Rattle.little_fetch.proofs.little_nodes.tried.any_lonely.Goals as goal
 
 pub returns-then-is_lonely : goal.returns-then-is_lonely

@@ -1,8 +1,5 @@
-use mathlib.Core.Path.{sym, ◌∙◌, ap}
-use lib.Dec.{eqb}
-use borrow.Author.Tests.{eq-eqb, ne_eqb}
+use Rattle.std.proofs.Common.{sym, ◌∙◌, ap, eqb, eq-eqb, ne_eqb, rules}
 use Rattle.words.proofs.lists.Searches.{any_here, any-on, any-over}
-use Rattle.std.proofs.Common.{rules}
 use Rattle.little_fetch.proofs.little_nodes.tried.has_kind.Goals as goal
 
 pub returns-then-field-kind : goal.returns-then-field-kind

@@ -1,8 +1,6 @@
-use mathlib.Core.Bool.{true, false}
-use mathlib.Core.Path.{refl, sym, ◌∙◌}
+use Rattle.std.proofs.Common.{true, false, refl, sym, ◌∙◌, rules}
 use Rattle.words.proofs.lists.Searches.{any_here, any-on, any-over}
 use Rattle.little_fetch.proofs.little_nodes.Tests.{lonely-by}
-use Rattle.std.proofs.Common.{rules}
 use Rattle.little_fetch.proofs.little_nodes.tried.is_lonely.Goals as goal
 
 pub returns-then-leads_other : goal.returns-then-leads_other

@@ -1,12 +1,5 @@
 -- `places::chains::calls::note_call`: the mask of the node's scheme gets the bit of the scheme called.
-use mathlib.Core.Path.{◌∙◌, ap}
-use Prim.Native.Nat.{ℕ, ◌^◌, ◌<◌}
-use native.Mathlib.Nat.{one-mul}
-use native.Mathlib.Omega.{arith}
-use lib.Bits.{bit_or}
-use lib.Dec.{lit<}
-use lib.ListN.{length, get_or, set}
-use lib.Pow.{shl_exact}
+use Rattle.std.proofs.Common.{◌∙◌, ap, ℕ, ◌^◌, ◌<◌, one-mul, arith, bit_or, lit<, length, get_or, set, shl_exact}
 use Rattle.chart_rows.proofs.chart_labels.ReadyLaws.{ready-facts}
 use Rattle.places.proofs.chains.CallMasks.{call-some, call_none, call-low, masks-long, masks-same, masks-more}
 use Rattle.places.proofs.chains.calls.note_call.Goals as goal

@@ -1,4 +1,4 @@
-use native.Mathlib.Omega.{arith}
+use Rattle.std.proofs.Common.{arith}
 use Rattle.places.proofs.chains.CallMasks.{masks-start}
 use Rattle.places.proofs.chains.calls.note_calls.Goals as goal
 

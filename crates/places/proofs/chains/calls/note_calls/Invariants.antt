@@ -1,6 +1,5 @@
 -- `places::chains::calls::note_calls`: the nodes before v are noted.
-use mathlib.Core.Path.{◌≡◌}
-use Prim.Native.Nat.{◌≤◌}
+use Rattle.std.proofs.Common.{◌≡◌, ◌≤◌}
 use Rattle.places.specs.chains.inner.Masks.{call_masks}
 use Rattle.places.proofs.chains.calls.note_calls.Given as goal
 

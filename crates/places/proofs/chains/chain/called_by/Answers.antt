@@ -1,9 +1,7 @@
 -- `places::chains::chain::called_by`: the masks of the schemes below g are joined.
-use mathlib.Core.Path.{refl, ap, ◌∙◌}
-use native.Mathlib.Omega.{arith}
+use Rattle.std.proofs.Common.{refl, ◌∙◌, arith, rules}
 use Rattle.places.specs.chains.inner.Masks.{called_by}
 use Rattle.places.proofs.chains.CallMasks.{called-yes, called-no}
-use Rattle.std.proofs.Common.{rules}
 use Rattle.places.proofs.chains.chain.called_by.Goals.{else-set-g-eq1, then-set-g-eq1}
 use Rattle.places.proofs.chains.chain.called_by.Goals as goal
 
@@ -20,6 +18,3 @@ loop-g-preserved c =
             w.called-is ∙ called-no _ _ _ _ held.1 w.if-set-g-eq1.false
       ],
     )
-
-pub returns : goal.returns
-returns c = c.loop-g.invariant.1 ∙ ap (called_by _ _) (omega (arith, c.loop-g.invariant.0))

@@ -1,6 +1,5 @@
 -- `places::chains::chain::called_by`: the masks of the schemes below g are joined.
-use mathlib.Core.Path.{◌≡◌}
-use Prim.Native.Nat.{◌≤◌}
+use Rattle.std.proofs.Common.{◌≡◌, ◌≤◌}
 use Rattle.places.specs.chains.inner.Masks.{called_by}
 use Rattle.places.proofs.chains.chain.called_by.Given as goal
 

@@ -1,5 +1,5 @@
 -- `places::chains::chain::longest_chain`: by the masks of all nodes' calls.
-use mathlib.Core.Path.{◌∙◌}
+use Rattle.std.proofs.Common.{◌∙◌}
 use Rattle.chart_rows.proofs.chart_labels.ReadyLaws.{ready-facts}
 use Rattle.places.proofs.chains.CallMasks.{longest-by}
 use Rattle.places.proofs.chains.chain.longest_chain.Goals as goal

@@ -1,24 +1,12 @@
 -- `runs::machine::in_place::live_tick_bytes` meets its contract: the header is refused, or the tick is that on the table alone.
-use mathlib.Core.Path.{◌≡◌, sym, ◌∙◌}
-use mathlib.Core.Bool.{false}
-use native.Mathlib.Omega.{arith}
+use Rattle.std.proofs.Common.{◌≡◌, sym, ◌∙◌, false}
 use Rattle.tables.specs.Table.{is_bad_table}
-use Rattle.tables.proofs.Front.{end-holds}
-use Rattle.tables.proofs.Front.{cut-length, cut-whole}
+use Rattle.tables.proofs.Front.{cut-whole}
 use Rattle.runs.proofs.machine.EntryCases.{live-stays, live-advances}
 use Rattle.runs.proofs.machine.in_place.live_tick_bytes.Goals as goal
 
 pub returns-then-bad_table : goal.returns-then-bad_table
 returns-then-bad_table c = live-stays _ _ _ c.bad_table.ensures _ c.if-bad_table.true
-
-pub table_length-end-requires : goal.table_length-end-requires
-table_length-end-requires c =
-    let long = end-holds c.args.table.now (sym c.bad_table.ensures ∙ c.if-bad_table.false) in omega (arith, long)
-
-pub slice_bounds-tick_table-end : goal.slice_bounds-tick_table-end
-slice_bounds-tick_table-end c =
-    let good : is_bad_table c.args.table.now ≡ false = sym c.bad_table.ensures ∙ c.if-bad_table.false in
-    cut-length _ _ c.table_length-end.ensures good
 
 pub tick_table-requires : goal.tick_table-requires
 tick_table-requires c =

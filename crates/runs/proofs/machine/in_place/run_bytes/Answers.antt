@@ -1,5 +1,5 @@
 -- `runs::machine::in_place::run_bytes` meets its contract: the image is refused, or the run is that on its table.
-use native.Mathlib.Omega.{arith}
+use Rattle.std.proofs.Common.{arith}
 use Rattle.tables.proofs.Made.{image-made}
 use Rattle.runs.proofs.machine.EntryCases.{image-refused, image-runs}
 use Rattle.std.proofs.lemmas.Result.{err_from_is_err_and}
