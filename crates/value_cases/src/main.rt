@@ -9,7 +9,7 @@ use cause::explaining::cause_of;
 use edits::report;
 use output::printing::code_line;
 use prices::priced_states::priced_run;
-use rebinding::by_value::{live_rebind, rebind};
+use rebinding::{live_rebind, rebind};
 use runs::Tick;
 use runs::kept_states::tick;
 use runs::state_runs::{live_run, live_tick, tick_image};
