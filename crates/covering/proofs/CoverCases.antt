@@ -1,11 +1,11 @@
 -- Cases of the functions that try rows by their frames.
 use Rattle.std.proofs.Common.{if◌then◌else◌}
-use Prim.Native.Nat.{ℕ, ◌-◌, ◌*◌, ◌^◌, ◌%◌, ◌≤◌, ◌<◌}
+use Prim.Native.Nat.{ℕ, ◌-◌, ◌*◌, ◌^◌, ◌%◌, ◌≤◌}
 use mathlib.Core.Path.{◌≡◌, refl, sym, ◌∙◌, ap, ap₂}
 use mathlib.Core.Bool.{Bool, true, false, ◌||◌, not}
 use mathlib.Core.List.{List}
 use native.Mathlib.Omega.{arith}
-use lib.Count.{ones, ones-le}
+use lib.Count.{ones}
 use lib.Dec.{eqb}
 use lib.Pow.{pow_mono}
 use borrow.Author.Tests.{eq-eqb, ne_eqb}
@@ -33,9 +33,6 @@ module _ (b : List ℕ) (f bit : ℕ) where
   abbrev asked : ℕ → Bool
   asked x = eqb x 2 || eqb x bit
 
-  pub words-off : (x : ℕ) (t : Bool) → x ≡ field b f 6 → t ≡ asked x → t ≡ false → 0 ≡ words_with bit (row_in_frame b f)
-  words-off x t e h z = sym (ap (λ (u : Bool). if u then 2 ^ (16 - ones (pair_at b f 2)) else 0) (ap asked (sym e) ∙ sym h ∙ z))
-
   pub words-on : (x p : ℕ) (t : Bool) → x ≡ field b f 6 → t ≡ asked x → t ≡ true → p ≡ pair_at b f 2
       → (1 * 2 ^ (16 - ones p) % 4294967296 ≡ words_with bit (row_in_frame b f)) × (1 * 2 ^ (16 - ones p) % 4294967296 ≤ 65536)
   words-on x p t e h z q = let s = shifted p (16 - ones p) refl in (
@@ -43,9 +40,6 @@ module _ (b : List ℕ) (f bit : ℕ) where
         ∙ sym (ap (λ (u : Bool). if u then 2 ^ (16 - ones (pair_at b f 2)) else 0) (ap asked (sym e) ∙ sym h ∙ z)),
     s.1,
   )
-
-pub few_ones : (x : ℕ) → x < 65536 → ones x ≤ 16
-few_ones x h = ones-le 16 x h
 
 -- ---- rows_end
 module _ (b : List ℕ) (l f x : ℕ) (e : x ≡ field b f 1) where

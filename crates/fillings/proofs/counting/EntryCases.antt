@@ -3,9 +3,8 @@ use Prim.Native.Nat.{ℕ, ◌*◌, ◌≤◌}
 use mathlib.Core.Bool.{Bool, true, false, ◌||◌}
 use mathlib.Core.Path.{◌≡◌, refl, ◌∙◌, ap, ap₂}
 use mathlib.Core.List.{List}
-use native.Mathlib.Omega.{arith}
-use lib.Dec.{ltb, eqb}
-use borrow.Author.Tests.{ltb-false, eqb-false}
+use lib.Dec.{ltb}
+use borrow.Author.Tests.{ltb-false}
 use Rattle.words.proofs.lists.Tests.{or_l}
 use Rattle.text.specs.frames.Frame.{contents}
 use Rattle.text.specs.frames.Verdict.{Verdict, fine, refused, next, when}
@@ -19,14 +18,10 @@ use Rattle.image.specs.Image.{Image}
 use Rattle.image.specs.Decode.{decoded_image}
 use Rattle.image.specs.Check.{image_verdict}
 use Rattle.tables.specs.Table.{table_image}
-use Rattle.tables.specs.inner.Asked.{Whole}
 use Rattle.state.specs.declared.State.{State}
 use Rattle.state.specs.State.{fresh, no_state, is_bad_size, StateOutcome, fresh_state}
 use Rattle.state.specs.Bytes.{state_of, bytes_of}
-use Rattle.state.proofs.Sizes.{size-most}
 use Rattle.state.proofs.ResultBytes.{state-back, fresh-sized}
-use Rattle.ticks.specs.inner.TickContracts.{TickAsked}
-use Rattle.fitness.proofs.Depths.{deep-fine}
 use Rattle.fillings.specs.Counts.{has_too_many_lists, count_verdict, count_fillings}
 use Rattle.fillings.specs.declared.fill_counts.Tally.{Tally}
 use Rattle.fillings.specs.fill_counts.inner.TallyContracts.{tally_of}
@@ -44,12 +39,6 @@ fresh-made size e s bytes q h =
     let is : s ≡ fresh size = q ∙ ap (λ (t : Bool). (cond {A = StateOutcome} t (record { reply = refusal 14 0 0; state = no_state })
     (record { reply = success 0; state = fresh size })).state) e in
     ap state_of (h ∙ ap bytes_of is) ∙ state-back (fresh size) (fresh-sized size) refl
-
-pub fresh-stands : (b : List ℕ) (size : ℕ) (s : State) → Whole b → is_bad_size size ≡ false → s ≡ fresh size → TickAsked b s
-fresh-stands b size s whole e q =
-    let z : size ≡ 0 → ⊥ = eqb-false size 0 (or_l (eqb size 0) (ltb 32 size) e) in
-    rw q
-    (record { whole = whole; depth = deep-fine (fresh size) (record { some = omega arith; most = omega arith; small = size-most size e }) })
 
 -- ---- the answers
 module _ (t : List ℕ) (size n k : ℕ) where

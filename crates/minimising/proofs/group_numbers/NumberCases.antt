@@ -11,27 +11,13 @@ use native.Mathlib.Numerals.{add-one}
 use native.Mathlib.Omega.{arith}
 use lib.ListN.{length, get_or, set, length-set}
 use lib.Seq.{get_or-set_same, get_or-set_other}
-use borrow.Author.Tests.{eqb-true, eqb-false, eq-eqb, ne_eqb}
+use borrow.Author.Tests.{eqb-true, eqb-false}
 use Rattle.words.specs.lists.Numbers.{count}
 use Rattle.words.proofs.lists.Tests.{if-true, if-false, split}
 use Rattle.words.proofs.lists.Counts.{count-snoc, count-le}
 use Rattle.grouping.specs.Classes.{class_of, is_first}
 use Rattle.minimising.specs.group_numbers.Smaller.{renumbered_label}
-use Rattle.minimising.specs.group_numbers.inner.NumberContracts.{LowestOfClass, GroupNumbers}
-
--- ---- first_at, number_at
-module _ (c : List ℕ) (l : ℕ) where
-  pub first_one : get_or c l 0 ≡ l → (◌≡◌ {A = ℕ} 1 (if is_first c l then 1 else 0)) × (1 ≤ 1)
-  first_one e = (sym (if-true (is_first c l) 1 0 (eq-eqb (get_or c l 0) l e)), omega arith)
-
-  pub first-none : (get_or c l 0 ≡ l → ⊥) → (◌≡◌ {A = ℕ} 0 (if is_first c l then 1 else 0)) × (0 ≤ 1)
-  first-none e = (sym (if-false (is_first c l) 1 0 (ne_eqb (get_or c l 0) l e)), omega arith)
-
-  pub number-new : (x y : ℕ) → get_or c l 0 ≡ l → x ≡ (if is_first c l then x else y)
-  number-new x y e = sym (if-true (is_first c l) x y (eq-eqb (get_or c l 0) l e))
-
-  pub number-old : (x y : ℕ) → (get_or c l 0 ≡ l → ⊥) → y ≡ (if is_first c l then x else y)
-  number-old x y e = sym (if-false (is_first c l) x y (ne_eqb (get_or c l 0) l e))
+use Rattle.minimising.specs.group_numbers.inner.NumberContracts.{LowestOfClass}
 
 less-of : (a b : ℕ) → a ≤ b → (a ≡ b → ⊥) → a < b
 less-of a b k ne = go (split a b)
@@ -87,12 +73,3 @@ module _ (c numbers : List ℕ) (n groups l : ℕ) (low : LowestOfClass c n)
       go k j (yes q) = ap (λ (m : ℕ). get_or (set numbers l v) m 0) q ∙ get_or-set_same numbers l v 0 (omega (arith, t.room)) ∙ e
           ∙ number_is (is_first c l) refl ∙ ap (renumbered_label c) (sym q)
       go k j (no q) = get_or-set_other numbers l k v 0 q ∙ t.at k (less-of k l (omega arith) q)
-
-pub turn-all : (c numbers : List ℕ) (n groups l : ℕ) → NumberTurn c numbers n groups l → n ≤ l → GroupNumbers c numbers n groups
-turn-all c numbers n groups l t h =
-    let e : l ≡ n = omega (arith, t.high) in
-    record {
-      is = t.is ∙ ap (count (is_first c) 0) e;
-      few = omega (arith, t.few);
-      at = λ k j. t.at k (omega arith);
-    }
