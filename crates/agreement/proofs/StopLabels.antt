@@ -1,12 +1,11 @@
 -- What the table of a chart holds at the label of a stop.
 use Rattle.std.proofs.Common.{if◌then◌else◌}
-use Prim.Native.Nat.{ℕ, ◌+◌, ◌<◌}
+use Prim.Native.Nat.{ℕ, ◌+◌}
 use mathlib.Core.Bool.{Bool, true, false, ◌&&◌, not}
-use mathlib.Core.Path.{◌≡◌, refl, ap, ◌∙◌, sym, subst}
-use lib.ListN.{length}
+use mathlib.Core.Path.{◌≡◌, refl, ap, ◌∙◌}
 use lib.Dec.{eqb}
 use native.Mathlib.Omega.{arith}
-use borrow.Author.Tests.{eqb-true, eqb-false, ne_eqb}
+use borrow.Author.Tests.{ne_eqb}
 use Rattle.words.specs.lists.Numbers.{count}
 use Rattle.charts.specs.Chart.{Chart, kind, scheme, argument}
 use Rattle.walk.specs.Stops.{is_stop, Stop, plain, call, function, test, home, back}
@@ -58,14 +57,3 @@ module _ (c : Chart) (v : ℕ) where
     held (a_back e s) = ap (label_at (table c)) (label-back e s) ∙ facts.labels1
     held (a-begin e) = of_node (λ p. omega arith) ∙ rw e
     held (a-condition e) = of_node (λ p. omega arith) ∙ rw e
-
-    pub label-low : label c v < length (table c).labels
-    label-low = go (eqb (kind c v) 1) refl
-      where
-        low : (t : Bool) → (if t then 0 else 1) < length (table c).labels
-        low true = omega (arith, facts.highest)
-        low false = omega (arith, facts.highest)
-
-        go : (t : Bool) → eqb (kind c v) 1 ≡ t → label c v < length (table c).labels
-        go true e = subst (λ (l : ℕ). l < length (table c).labels) (sym (label-end (eqb-true (kind c v) 1 e))) (low (eqb (scheme c v) 1))
-        go false e = (facts.numbers v stop.inside (is-numbered (eqb-false (kind c v) 1 e))).1

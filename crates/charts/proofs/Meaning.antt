@@ -49,11 +49,6 @@ module _ (c : Chart) where
         ap (is_member u) (condition-arcs v (eq-eqb (kind c v) 3 k)) ∙ a.leads;
   }
 
-  pub arc-of-condition : (v u : ℕ) → Arc (size c) (condition_arcs c) v u → (kind c v ≡ 3) × Arc (size c) (arcs c) v u
-  arc-of-condition v u a =
-      let i : is c 3 v ≡ true = leaves-condition v u a.leads in
-      (eqb-true (kind c v) 3 i, record { start = a.start; end = a.end; leads = ap (is_member u) (sym (condition-arcs v i)) ∙ a.leads })
-
 -- ---- 8
 pub found-circle : (c : Chart) (v : ℕ) → is_on_circle c v ≡ true → ConditionCircle c v
 found-circle c v e =

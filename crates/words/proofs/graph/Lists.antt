@@ -41,9 +41,6 @@ listed-none n list =
     }
 
 module _ (ms : List Bool) (list : List ℕ) (k : ℕ) (is : Listed ms list k) where
-  pub list-node : (i : ℕ) → i < k → get_or list i 0 < length ms
-  list-node i b = marked-below (length ms) ms (get_or list i 0) refl (is.are i b)
-
   pub list-few : k ≤ length ms
   list-few = omega (arith, is.counted, count-le (is_marked ms) 0 (length ms))
 
