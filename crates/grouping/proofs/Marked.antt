@@ -119,19 +119,6 @@ module _ (b c : List ℕ) where
         ap₂ (λ (u v : ℕ). any (λ g. has_marked_next b marks least g && is_parting_any b c g u v) f (last - f)) p q
         ∙ ap₂ (λ (u v : ℕ). any (marked least l) u (v - u)) s r
 
-    pub marked-not : (least f next first end : ℕ) → next ≡ field b f 7 → get_or marks next 0 < least
-        → false ≡ (has_marked_next b marks least f && is_parting_any b c f first end)
-    marked-not least f next first end e h =
-        sym (ap (λ (t : Bool). t && is_parting_any b c f first end)
-        (ap (λ (x : ℕ). leb least (get_or marks x 0)) (sym e) ∙ lt-leb least (get_or marks next 0) h))
-
-    pub marked_by : (least f next first end : ℕ) → next ≡ field b f 7 → least ≤ get_or marks next 0
-        → (t : Bool) → t ≡ is_parting_any b c f first end
-        → t ≡ (has_marked_next b marks least f && is_parting_any b c f first end)
-    marked_by least f next first end e h t q =
-        q ∙ sym (ap (λ (t : Bool). t && is_parting_any b c f first end)
-        (ap (λ (x : ℕ). leb least (get_or marks x 0)) (sym e) ∙ le-leb least (get_or marks next 0) h))
-
     module _ (touched : List ℕ) (M : Marks b c marks touched) (m l : ℕ) (am : 2 ≤ m) (hm : m ≤ last_label b) where
       pub by-none : get_or touched m 0 ≡ 0 → (least : ℕ) → 1 ≤ least → false ≡ is_parted_by b c marks least m l
       by-none z least h = sym (any_none (marked least l) (first_on b m) (end_on b m - first_on b m) (λ k u.

@@ -1,7 +1,7 @@
 -- Whether rows part two labels, by the frames of a table: each label's rows stand in frames of its own.
 use Prim.Native.Nat.{ℕ, zero, suc, ◌-◌, ◌≤◌, ◌<◌}
 use mathlib.Core.Bool.{Bool, true, false, ◌&&◌, ◌||◌, not}
-use mathlib.Core.Path.{◌≡◌, refl, sym, ◌∙◌, ap, ap₂}
+use mathlib.Core.Path.{◌≡◌, refl, ◌∙◌, ap, ap₂}
 use mathlib.Core.List.{List, [], ◌∷◌, ◌++◌, map}
 use native.Mathlib.Omega.{arith}
 use lib.Bits.{bit_and}
@@ -14,20 +14,12 @@ use Rattle.words.proofs.lists.Tests.{or-none}
 use Rattle.words.proofs.lists.Searches.{any-alike}
 use Rattle.text.specs.frames.Frame.{field, pair_at}
 use Rattle.image.specs.Image.{Row}
-use Rattle.image.specs.Decode.{last_label, row_in_frame}
+use Rattle.image.specs.Decode.{last_label}
 use Rattle.tables.specs.Table.{first_on, end_on, row_on, rows_on, table_image}
 use Rattle.tables.proofs.OwnRows.{own_alone}
 use Rattle.covering.specs.Matched.{is_together}
 use Rattle.grouping.specs.Classes.{class_of, is_parting, is_parted}
 use Rattle.grouping.specs.inner.GroupingContracts.{Even, is_parting_in, is_parting_any, is_parted_on}
-
--- ---- parts, parts_any
-module _ (b c : List ℕ) (f g : ℕ) where
-  pub parts-not : (class next : ℕ) → class ≡ get_or c (field b f 7) 0 → next ≡ field b g 7 → class ≡ get_or c next 0 → false ≡ is_parting_in
-      b c f g
-  parts-not class next p q e =
-      sym (ap (λ (t : Bool). not t && is_together (row_in_frame b f) (row_in_frame b g))
-      (eq-eqb (get_or c (field b f 7) 0) (get_or c (field b g 7) 0) (sym p ∙ e ∙ ap (λ (x : ℕ). get_or c x 0) q)))
 
 -- ---- lists
 some-range : {A : Type 0} (p : A → Bool) (f : ℕ → A) (a n : ℕ) → some p (map f (range a n)) ≡ any (λ k. p (f k)) a n
