@@ -33,14 +33,17 @@ def declares(program, file, name):
     return name in items and items[name].kind == "law"
 
 
-def laws_of(row, program, files_with):
-    """The laws that a row names. A name is a law's if a file of the row declares it, if it has a dash, or if it stands behind `proved as`.
-    It stands in a file of the row, else in a crate of the row, else anywhere. A file that a row names with none of its laws stands for
-    all of them."""
+def proved_as(row):
+    return set(names_in(" ".join(re.findall("(?:proved|computed) as " + NAMES, row))))
+
+
+def laws_in(row, program, files_with):
+    """The laws that a row of a page names. A name is a law's if a file of the row declares it, if it has a dash, or if it stands behind
+    `proved as`. It stands in a file of the row, else in a crate of the row, else anywhere. A file that a row names with none of its laws
+    stands for all of them."""
     files, named = files_of(row, program), set()
     crates = set(re.findall(r"(\w+)/(?:specs|proofs|src)/", row))
-    proved = set(names_in(" ".join(re.findall("(?:proved|computed) as " + NAMES, row))))
-    here = set()
+    proved, here = proved_as(row), set()
     for name in names_in(row):
         inside = {(file, name) for file in files if declares(program, file, name)}
         if not inside and ("-" in name or name in proved):
@@ -52,8 +55,13 @@ def laws_of(row, program, files_with):
     for file in files - {file for file, _ in here}:
         here |= {(file, name) for name in program.file(file).public}
         astray += [] if program.file(file).public else [f"a law of {file}"]
-    named |= here
-    astray += [name for name in proved if name not in {other for _, other in named}]
+    return named | here
+
+
+def laws_of(row, program, files_with):
+    """The same of a row of docs/TRACE.md, where a name that stands for no law is told."""
+    named = laws_in(row, program, files_with)
+    astray += [name for name in proved_as(row) if name not in {other for _, other in named}]
     for names, file in re.findall(NAMES + r" \((\w+/proofs/[\w/]+)", row):
         astray += [f"{file}.{name}" for name in names_in(names) if not program.file(file) or name not in program.file(file).items]
     program.unknown.update(f"{name}, which docs/TRACE.md names" for name in astray)

@@ -7,6 +7,7 @@ from comparing import differences, written
 from held import SCRIPTS
 from lines import Ledger, page
 from steps import uncalled_steps
+from uncited import uncited
 
 ROOT = Path(__file__).resolve().parent.parent
 LEDGER = "docs/promises.txt"
@@ -14,7 +15,7 @@ LEDGER = "docs/promises.txt"
 
 def texts_of(root):
     """The texts that promise something, by their paths: code, definitions, laws, tests, and the pages that name crates and laws."""
-    paths = [root / "crates.txt", root / "docs/TRACE.md"]
+    paths = [root / "crates.txt", *root.glob("*.md"), *root.glob("controller/*.md"), *root.glob("docs/**/*.md")]
     for part in ("src", "specs", "proofs"):
         for ending in ("rt", "antt"):
             paths += root.glob(f"crates/*/{part}/**/*.{ending}")
@@ -42,6 +43,11 @@ def main(arguments):
         print(line)
     if steps:
         return "docs/TRACE.md names as promises what a reader cannot tell from the definitions to believe"
+    needless = uncited(ledger)
+    for line in needless:
+        print(line)
+    if needless:
+        return "proofs say what no answer, law or page cites"
     if not arguments:
         (ROOT / LEDGER).write_text(page(entries), encoding="utf-8")
     elif page(entries) != old:

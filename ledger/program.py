@@ -129,7 +129,7 @@ class Program:
         if self.is_folder("/".join([crate, part] + rest)):
             return None
         # what the check writes of a function, in place of a file: the function's contract says it all
-        function = rest[:-1] if rest[-1] in ("Reads", "Goals") else rest
+        function = [each.lstrip("+") for each in rest if each not in ("Reads", "Goals", "Given")]
         return Meaning(".".join(path), self.declared(crate, function).rests)
 
     def is_folder(self, path):

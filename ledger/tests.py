@@ -7,6 +7,7 @@ from comparing import differences
 from lines import Ledger, page
 from main import ROOT, texts_of
 from steps import uncalled_steps
+from uncited import uncited
 
 NUMBERS = """\
 -- Numbers, and what is told of them.
@@ -205,6 +206,41 @@ class SmallProgram(unittest.TestCase):
         self.assertEqual(self.uncalled("| a | by the step `always-worth` (low/proofs/Laws) |", *edits), [])
         self.assertEqual(self.uncalled("| Step | Law |\n|---|---|\n| a | `always-worth` (low/proofs/Laws) |", *edits), [])
         self.assertEqual(self.uncalled("| a | `all-worth`, `always-worth` (low/proofs/Laws) |"), [])
+
+    def needless(self, *edits, **more):
+        """What nothing cites after edits, with further files of proofs of the crate low, by their names."""
+        texts = {**edited(TEXTS, *edits), **{f"crates/low/proofs/{name}.antt": text for name, text in more.items()}}
+        return [line.split("/")[-1] for line in uncited(Ledger(texts))]
+
+    def test_what_nothing_cites_is_told(self):
+        planted = "pub planted : (n : ℕ) → Gives n n\nplanted n = always-worth n\n\n"
+        plant = (LAWS, "pub all-worth : Always", planted + "pub all-worth : Always")
+        self.assertEqual(self.needless(), [])
+        self.assertEqual(self.needless(plant), ["Laws.planted"])
+        self.assertEqual(self.needless(plant, (LAWS, "all-worth n = always-worth n", "all-worth n = planted n")), [])
+        self.assertEqual(self.needless(plant, (TRACE, "`always-worth`", "`always-worth`, `planted`")), [])
+        self.assertEqual(self.needless((TRACE, ", `always-worth`", "")), [])
+        self.assertEqual(self.needless((TRACE, "`all-worth`, ", ""), (LAWS, "= by_hand", "= by_hand all-worth")), [])
+        self.assertEqual(self.needless((TRACE, "`all-worth`, ", "")), ["Laws.all-worth"])
+
+    def test_what_cites_itself_or_stands_behind_what_nothing_cites_is_told(self):
+        again = "pub first : (n : ℕ) → Gives n n\nfirst n = second n\n\npub second : (n : ℕ) → Gives n n\nsecond n = first n\n"
+        self.assertEqual(self.needless(Again=again), ["Again.first", "Again.second"])
+        self.assertEqual(self.needless(Again="pub record Held (n : ℕ) : Type 0 where\n  pub low : n ≤ 9\n"), ["Again.Held"])
+
+    def test_what_an_answer_cites_is_told_by_its_file(self):
+        law = "pub low : (n : ℕ) → n ≤ 9\nlow n = omega arith\n"
+        answer = "use Rattle.low.proofs.worth.Goals as goal\n\npub returns : goal.returns\nreturns c = low c.args.n\n"
+        answer = "use Rattle.low.proofs.One.{low}\n" + answer
+        self.assertEqual(self.needless(One=law, Other=law, **{"worth/Answers": answer}), ["Other.low"])
+        self.assertEqual(self.needless(One=law, **{"worth/Answers": answer.replace("returns c = low", "returns low = low")}), ["One.low"])
+        measure = answer.replace("Goals", "Given").replace("pub returns", "abbrev pub decreases").replace("returns c", "decreases c")
+        self.assertEqual(self.needless(One=law, **{"worth/Invariants": measure}), [])
+
+    def test_a_computed_case_stands_for_itself(self):
+        case = "third : worth 3 ≡ 1\nunfolding worth\nthird = refl\n"
+        self.assertEqual(self.needless(Cases=case), [])
+        self.assertEqual(self.needless(Cases=case.replace("third :", "third : (n : ℕ) →")), ["Cases.third"])
 
     def test_each_promise_has_a_line(self):
         self.assertEqual(

@@ -46,10 +46,6 @@ module _ (f : Rule) (i : Image) (s : State) (w : ℕ) where
   unfolding tick
   same-tick top beneath = grind (arith, common_steps)
 
--- by the machine's own rule it is the machine's tick, on any image
-pub own-rule : (i : Image) (s : State) (w : ℕ) → tick_with (λ l w b rs. best_row l w b 0 rs) i s w ≡ tick i s w
-own-rule i s w = same-tick (λ l w b rs. best_row l w b 0 rs) i s w (λ e b. refl) (λ h b. refl)
-
 -- ---- on the image that the translator wrote
 module _ (text out : List ℕ) (n : ℕ) (done : (translate text out).reply ≡ success n) (f : Rule) (takes : TakesMatching f) where
   abbrev i : Image

@@ -47,6 +47,3 @@ module _ (c : Chart) (v : ℕ) where
     held (a_back e s) = ap (label_at (table c)) (label-back e s) ∙ facts.labels1
     held (a-begin e) = of_node (λ p. omega arith) ∙ rw e
     held (a-condition e) = of_node (λ p. omega arith) ∙ rw e
-
-    pub label-low : label c v < length (table c).labels
-    label-low = grind (arith, common_steps, eqb-false, eqb-true, label-end, is-numbered)

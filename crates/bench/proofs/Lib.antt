@@ -28,4 +28,3 @@ pub mod Spindles
 pub mod Prices
 pub mod Fillings
 pub mod DryRuns
-pub mod Numbers

@@ -34,9 +34,6 @@ module _ (c : Chart) where
   pub condition-arc : (v u : ℕ) → kind c v ≡ 3 → Arc (size c) (arcs c) v u → Arc (size c) (condition_arcs c) v u
   condition-arc v u k a = grind (arith, common_steps)
 
-  pub arc-of-condition : (v u : ℕ) → Arc (size c) (condition_arcs c) v u → (kind c v ≡ 3) × Arc (size c) (arcs c) v u
-  arc-of-condition v u a = grind (arith, common_steps, eqb-true, condition-arcs, leaves-condition)
-
 -- ---- 8
 pub found-circle : (c : Chart) (v : ℕ) → is_on_circle c v ≡ true → ConditionCircle c v
 found-circle c v e =

@@ -25,15 +25,9 @@ module _ (b : List ℕ) (f bit : ℕ) where
   abbrev asked : ℕ → Bool
   asked x = eqb x 2 || eqb x bit
 
-  pub words-off : (x : ℕ) (t : Bool) → x ≡ field b f 6 → t ≡ asked x → t ≡ false → 0 ≡ words_with bit (row_in_frame b f)
-  words-off x t e h z = sym (ap (λ (u : Bool). if u then 2 ^ (16 - ones (pair_at b f 2)) else 0) (ap asked (sym e) ∙ sym h ∙ z))
-
   pub words-on : (x p : ℕ) (t : Bool) → x ≡ field b f 6 → t ≡ asked x → t ≡ true → p ≡ pair_at b f 2
       → (1 * 2 ^ (16 - ones p) % 4294967296 ≡ words_with bit (row_in_frame b f)) × (1 * 2 ^ (16 - ones p) % 4294967296 ≤ 65536)
   words-on x p t e h z q = grind (arith, common_steps, shifted)
-
-pub few_ones : (x : ℕ) → x < 65536 → ones x ≤ 16
-few_ones x h = ones-le 16 x h
 
 -- ---- rows_end
 module _ (b : List ℕ) (l f x : ℕ) (e : x ≡ field b f 1) where

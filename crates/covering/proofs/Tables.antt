@@ -36,9 +36,6 @@ module _ (b : List ℕ) where
       λ j. record { handler = e₁ j; entries = e₂ j; labels = e₃ j; rows = e₄ j }
 
   module _ (ok : table_verdict b ≡ fine) (bytes : (k : ℕ) → get_or b k 0 < 256) where
-    pub read_table : SoundTable b
-    read_table = record { image = accepted-sound b ok bytes; all = (counted b ok).all }
-
     pub noted-table : SoundTable (noted_table b)
     noted-table = record {
       image = subst SoundImage (sym noted-decoded) (accepted-sound b ok bytes);

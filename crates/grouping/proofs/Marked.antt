@@ -112,15 +112,6 @@ module _ (b c : List ℕ) where
         → any (λ f. has_marked_next b marks least f && is_parting_any b c f first end) f (last - f) ≡ is_parted_by b c marks least m l
     by-told least m l first end last f p q r s = grind (arith, common_steps)
 
-    pub marked-not : (least f next first end : ℕ) → next ≡ field b f 7 → get_or marks next 0 < least
-        → false ≡ (has_marked_next b marks least f && is_parting_any b c f first end)
-    marked-not least f next first end e h = grind (arith, common_steps)
-
-    pub marked_by : (least f next first end : ℕ) → next ≡ field b f 7 → least ≤ get_or marks next 0
-        → (t : Bool) → t ≡ is_parting_any b c f first end
-        → t ≡ (has_marked_next b marks least f && is_parting_any b c f first end)
-    marked_by least f next first end e h t q = grind (arith, common_steps)
-
     module _ (touched : List ℕ) (M : Marks b c marks touched) (m l : ℕ) (am : 2 ≤ m) (hm : m ≤ last_label b) where
       pub by-none : get_or touched m 0 ≡ 0 → (least : ℕ) → 1 ≤ least → false ≡ is_parted_by b c marks least m l
       by-none z least h = sym (any_none (marked least l) (first_on b m) (end_on b m - first_on b m) (λ k u.

@@ -17,9 +17,6 @@ use Rattle.grouping.specs.inner.GroupingContracts.{Even, is_parting_in, is_parti
 
 -- ---- parts, parts_any
 module _ (b c : List ℕ) (f g : ℕ) where
-  pub parts-not : (class next : ℕ) → class ≡ get_or c (field b f 7) 0 → next ≡ field b g 7 → class ≡ get_or c next 0 → false ≡ is_parting_in
-      b c f g
-  parts-not class next p q e = grind (arith, common_steps)
 
 -- ---- lists
 some-range : {A : Type 0} (p : A → Bool) (f : ℕ → A) (a n : ℕ) → some p (map f (range a n)) ≡ any (λ k. p (f k)) a n

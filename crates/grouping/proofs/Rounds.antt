@@ -4,7 +4,7 @@ use Rattle.std.proofs.Common.{eqb, length, eqb-true, eq-eqb}
 use Rattle.std.proofs.lemmas.Grind.{common_steps}
 use Rattle.words.specs.lists.Numbers.{tabulate, count}
 use Rattle.words.proofs.lists.Tests.{and_l, and_r, and-true, not-true, split}
-use Rattle.words.proofs.lists.Counts.{count-within, count_same, count-le, count-some}
+use Rattle.words.proofs.lists.Counts.{count_same, count-le, count-some}
 use Rattle.words.proofs.lists.Ranges.{map-count, length-map-range}
 use Rattle.image.specs.Image.{Image}
 use Rattle.image.specs.inner.Sound.{SoundImage}
@@ -124,9 +124,6 @@ module _ (i : Image) where
           let m : ℕ = class_of next_classes l in
           let e : class_of c m ≡ l = next-lowest l h ∙ eqb-true (class_of c l) l t in
           eq-eqb m l (omega (arith, next-round.below l h, R.below m (omega (arith, next-round.below l h))))
-
-      pub grows : count (is_first c) 0 n ≤ count (is_first next_classes) 0 n
-      grows = count-within (is_first c) (is_first next_classes) 0 n (λ k a b t. stays-first k (omega arith) t)
 
       -- a round with no more groups changes nothing
       pub settled : count (is_first next_classes) 0 n ≤ count (is_first c) 0 n → next_classes ≡ c

@@ -43,9 +43,6 @@ module _ (b : List ℕ) where
   abbrev n : ℕ
   n = length i.labels
 
-  abbrev last : ℕ
-  last = last_label b
-
   -- a buffer whose first l places hold what a test gives
   pub record FillingClasses (alike : ℕ → ℕ → Bool) (buffer : List ℕ) (m l : ℕ) : Type 0 where
     pub long : length buffer ≡ 256

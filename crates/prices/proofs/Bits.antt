@@ -84,9 +84,6 @@ pub record CountedBits (prices : List ℕ) (mask total rest : ℕ) : Type 0 wher
   pub sum : total + tick_price prices rest ≡ tick_price prices mask
   pub low : rest < 2 ^ 32
 
-pub counted_none : (prices : List ℕ) (mask : ℕ) → mask < 2 ^ 32 → CountedBits prices mask 0 mask
-counted_none prices mask l = record { sum = omega arith; low = l }
-
 module _ (prices : List ℕ) (mask total rest : ℕ) (inv : CountedBits prices mask total rest) where
   abbrev j : ℕ
   j = count_trailing_zeros 32 rest

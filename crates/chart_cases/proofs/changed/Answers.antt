@@ -1,5 +1,5 @@
 -- `chart_cases::changed` keeps its count below its index.
-use native.Mathlib.Omega.{arith}
+use Rattle.std.proofs.Common.{arith}
 use Rattle.chart_cases.proofs.changed.Goals.{else-out-i, then-out-i}
 use Rattle.chart_cases.proofs.changed.Goals as goal
 

@@ -1,6 +1,5 @@
 -- `chart_cases::changed` keeps its count below its index.
-use Prim.Native.Nat.{◌≤◌}
-use lib.ListN.{length}
+use Rattle.std.proofs.Common.{◌≤◌, length}
 use Rattle.chart_cases.proofs.changed.Given as goal
 
 abbrev pub invariant-loop-i : goal.invariant-loop-i

@@ -1,6 +1,5 @@
 -- `chart_cases::record_each` lends pairs that are all within the edits.
-use Prim.Native.Nat.{◌*◌, ◌≤◌}
-use lib.ListN.{length}
+use Rattle.std.proofs.Common.{◌*◌, ◌≤◌, length}
 use Rattle.chart_cases.proofs.record_each.Given as goal
 
 abbrev pub invariant-loop-i : goal.invariant-loop-i

@@ -1,9 +1,7 @@
-use mathlib.Core.Path.{sym, ◌∙◌}
-use Prim.Native.Nat.{◌-◌}
+use Rattle.std.proofs.Common.{sym, ◌∙◌, ◌-◌, rules}
 use Rattle.words.proofs.lists.Searches.{any_here, any-on, any-over}
 use Rattle.image.specs.Decode.{row_in_frame}
 use Rattle.covering.specs.inner.CoveringContracts.{is_together_with_some}
-use Rattle.std.proofs.Common.{rules}
 use Rattle.covering.proofs.any_together.Goals as goal
 
 pub returns-then-meets_before : goal.returns-then-meets_before

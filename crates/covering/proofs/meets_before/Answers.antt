@@ -1,9 +1,8 @@
-use mathlib.Core.Path.{sym, ◌∙◌}
+use Rattle.std.proofs.Common.{sym, ◌∙◌, rules}
 use Rattle.words.proofs.lists.Searches.{any_here, any-on, any-over}
 use Rattle.image.specs.Decode.{row_in_frame}
 use Rattle.covering.specs.Matched.{is_together}
 use Rattle.covering.proofs.CoverCases.{read-row}
-use Rattle.std.proofs.Common.{rules}
 use Rattle.covering.proofs.meets_before.Goals as goal
 
 pub returns-then-meets : goal.returns-then-meets

@@ -1,6 +1,5 @@
 -- `covering::meets_before` meets its contract: the loop keeps what is left of the search.
-use mathlib.Core.Path.{◌≡◌}
-use Prim.Native.Nat.{◌-◌, ◌≤◌}
+use Rattle.std.proofs.Common.{◌≡◌, ◌-◌, ◌≤◌}
 use Rattle.words.specs.lists.Numbers.{any}
 use Rattle.image.specs.Decode.{row_in_frame}
 use Rattle.covering.specs.Matched.{is_together}

@@ -1,9 +1,8 @@
-use mathlib.Core.Path.{sym, ◌∙◌}
+use Rattle.std.proofs.Common.{sym, ◌∙◌, rules}
 use Rattle.text.specs.frames.Frame.{size}
 use Rattle.words.proofs.lists.Searches.{lowest-here, lowest-on, lowest-over}
 use Rattle.covering.specs.inner.CoveringContracts.{is_other}
 use Rattle.covering.proofs.CoverCases.{other-yes, other-no}
-use Rattle.std.proofs.Common.{rules}
 use Rattle.covering.proofs.rows_end.Goals as goal
 
 pub returns-then-byte-label : goal.returns-then-byte-label

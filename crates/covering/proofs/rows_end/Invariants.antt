@@ -1,6 +1,5 @@
 -- `covering::rows_end` meets its contract: the loop keeps what is left of the search.
-use mathlib.Core.Path.{◌≡◌}
-use Prim.Native.Nat.{◌-◌, ◌≤◌}
+use Rattle.std.proofs.Common.{◌≡◌, ◌-◌, ◌≤◌}
 use Rattle.words.specs.lists.Numbers.{lowest}
 use Rattle.covering.specs.inner.CoveringContracts.{is_other}
 use Rattle.covering.proofs.rows_end.Given as goal

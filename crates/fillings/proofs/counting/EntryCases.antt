@@ -14,14 +14,10 @@ use Rattle.image.specs.Image.{Image}
 use Rattle.image.specs.Decode.{decoded_image}
 use Rattle.image.specs.Check.{image_verdict}
 use Rattle.tables.specs.Table.{table_image}
-use Rattle.tables.specs.inner.Asked.{Whole}
 use Rattle.state.specs.declared.State.{State}
 use Rattle.state.specs.State.{fresh, is_bad_size, fresh_state}
 use Rattle.state.specs.Bytes.{state_of, bytes_of}
-use Rattle.state.proofs.Sizes.{size-most}
 use Rattle.state.proofs.ResultBytes.{state-back, fresh-sized}
-use Rattle.ticks.specs.inner.TickContracts.{TickAsked}
-use Rattle.fitness.proofs.Depths.{deep-fine}
 use Rattle.fillings.specs.Counts.{has_too_many_lists, count_verdict, count_fillings}
 use Rattle.fillings.specs.declared.fill_counts.Tally.{Tally}
 use Rattle.fillings.specs.fill_counts.inner.TallyContracts.{tally_of}
@@ -36,9 +32,6 @@ pub fresh-made : (size : ℕ) → is_bad_size size ≡ false → (s : State) (by
     → state_of bytes ≡ fresh size
 unfolding fresh_state
 fresh-made size e s bytes q h = grind (arith, common_steps, fresh-sized, state-back)
-
-pub fresh-stands : (b : List ℕ) (size : ℕ) (s : State) → Whole b → is_bad_size size ≡ false → s ≡ fresh size → TickAsked b s
-fresh-stands b size s whole e q = grind (arith, common_steps, deep-fine, size-most, eqb-false, or_l)
 
 -- ---- the answers
 module _ (t : List ℕ) (size n k : ℕ) where

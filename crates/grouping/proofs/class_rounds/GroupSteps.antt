@@ -12,7 +12,7 @@ use Rattle.image.specs.Decode.{last_label}
 use Rattle.tables.specs.Table.{table_image}
 use Rattle.tables.proofs.TableReads.{labels-count}
 use Rattle.grouping.specs.Classes.{is_staying_with, classes_by, classes, grouping}
-use Rattle.grouping.specs.inner.GroupingContracts.{Classed, Refined, OneMore, Marks, has_other_class}
+use Rattle.grouping.specs.inner.GroupingContracts.{Classed, OneMore, Marks, has_other_class}
 use Rattle.grouping.proofs.TableRounds.{classes-long}
 use Rattle.grouping.proofs.Marked.{first_marks}
 
@@ -54,9 +54,6 @@ module _ (b : List ℕ) where
   }
 
   module _ (buffer next marks touched kept : List ℕ) (m k : ℕ) (t : Rounding buffer next marks touched kept m k) where
-    pub rounding-refined : Refined b buffer
-    rounding-refined = record { rounds = k; now = t.now }
-
     module _ (next' : List ℕ) (r : OneMore b buffer next') where
       pub rounding-room : length next' ≡ 256
       rounding-room = (r k t.now).long

@@ -22,9 +22,6 @@ module _ (place : ℕ → ℕ) (value : ℕ → List ℕ → ℕ) (xs₀ : List 
   unfolding labelled
   labelling-turn xs l k v t h p e = grind (arith, common_steps)
 
-  pub labelling-all : (xs : List ℕ) (l : ℕ) → Labelling place value xs₀ n xs l → n ≤ l → xs ≡ labelled place value n xs₀
-  labelling-all xs l t h = let e : l ≡ n = omega (arith, t.low) in t.is ∙ ap (λ (m : ℕ). labelled place value m xs₀) e
-
 -- the writes keep the length
 module _ (place : ℕ → ℕ) (value : ℕ → List ℕ → ℕ) (xs₀ : List ℕ) where
   labelled-long : (m : ℕ) → length (labelled place value m xs₀) ≡ length xs₀

@@ -6,7 +6,7 @@ use Rattle.words.specs.lists.Numbers.{range, any}
 use Rattle.words.specs.lists.Sequences.{written}
 use Rattle.words.proofs.lists.Ranges.{length-map-range, get_or-map-range}
 use Rattle.words.proofs.lists.Written.{written-length}
-use Rattle.words.proofs.lists.Fills.{ValuesFrom, values-none, values-turn, values-all}
+use Rattle.words.proofs.lists.Fills.{ValuesFrom, values-none, values-turn}
 use Rattle.image.specs.Decode.{last_label}
 use Rattle.tables.specs.Table.{first_on, end_on}
 use Rattle.grouping.specs.inner.GroupingContracts.{Even, Refined, OneMore, has_marked_next, Touched}
@@ -44,9 +44,6 @@ module _ (b marks old : List ℕ) where
 
       is : v ≡ note (l - 2)
       is = e ∙ ap₂ (touch_in b marks) p q ∙ ap (λ (m : ℕ). touch_in b marks (first_on b m) (end_on b m)) (sym at)
-
-  pub touching-all : (out : List ℕ) (l : ℕ) → Touching out l → last_label b < l → out ≡ touches b marks old
-  touching-all out l t h = values-all note old 2 (last_label b - 1) out (l - 2) t.values (omega arith)
 
   -- ---- what the notes say
   module _ (long : length old ≡ 256) (few : last_label b < 256) (out : List ℕ) (e : out ≡ touches b marks old) where

@@ -8,21 +8,7 @@ use Rattle.words.proofs.lists.Tests.{if-true, if-false}
 use Rattle.words.proofs.lists.Counts.{count-snoc, count-le}
 use Rattle.grouping.specs.Classes.{is_first}
 use Rattle.minimising.specs.group_numbers.Smaller.{renumbered_label}
-use Rattle.minimising.specs.group_numbers.inner.NumberContracts.{LowestOfClass, GroupNumbers}
-
--- ---- first_at, number_at
-module _ (c : List ℕ) (l : ℕ) where
-  pub first_one : get_or c l 0 ≡ l → (◌≡◌ {A = ℕ} 1 (if is_first c l then 1 else 0)) × (1 ≤ 1)
-  first_one e = (sym (if-true (is_first c l) 1 0 (eq-eqb (get_or c l 0) l e)), omega arith)
-
-  pub first-none : (get_or c l 0 ≡ l → ⊥) → (◌≡◌ {A = ℕ} 0 (if is_first c l then 1 else 0)) × (0 ≤ 1)
-  first-none e = (sym (if-false (is_first c l) 1 0 (ne_eqb (get_or c l 0) l e)), omega arith)
-
-  pub number-new : (x y : ℕ) → get_or c l 0 ≡ l → x ≡ (if is_first c l then x else y)
-  number-new x y e = sym (if-true (is_first c l) x y (eq-eqb (get_or c l 0) l e))
-
-  pub number-old : (x y : ℕ) → (get_or c l 0 ≡ l → ⊥) → y ≡ (if is_first c l then x else y)
-  number-old x y e = sym (if-false (is_first c l) x y (ne_eqb (get_or c l 0) l e))
+use Rattle.minimising.specs.group_numbers.inner.NumberContracts.{LowestOfClass}
 
 less-of : (a b : ℕ) → a ≤ b → (a ≡ b → ⊥) → a < b
 less-of a b k ne = grind (arith, common_steps)
@@ -63,6 +49,3 @@ module _ (c numbers : List ℕ) (n groups l : ℕ) (low : LowestOfClass c n)
       go k j (yes q) = ap (λ (m : ℕ). get_or (set numbers l v) m 0) q ∙ get_or-set_same numbers l v 0 (omega (arith, t.room)) ∙ e
           ∙ number_is (is_first c l) refl ∙ ap (renumbered_label c) (sym q)
       go k j (no q) = get_or-set_other numbers l k v 0 q ∙ t.at k (less-of k l (omega arith) q)
-
-pub turn-all : (c numbers : List ℕ) (n groups l : ℕ) → NumberTurn c numbers n groups l → n ≤ l → GroupNumbers c numbers n groups
-turn-all c numbers n groups l t h = grind (arith, common_steps)

@@ -43,9 +43,6 @@ module _ (b c numbers : List ℕ) (N : NumberedGroups b c numbers) (f : ℕ) whe
     pub label-low : l ≤ last_label b
     label-low = omega arith
 
-    pub label_small : ((k : ℕ) → get_or b k 0 < 256) → l < 256
-    label_small bytes = omega (arith, bytes 2)
-
     pub label-frame : f < size b
     label-frame = omega (arith, table-all)
 
@@ -96,9 +93,6 @@ module _ (b c numbers : List ℕ) (N : NumberedGroups b c numbers) (f : ℕ) whe
 
   -- ---- put_piece
   module _ (low : 1 ≤ f) (m : ℕ) (e : m ≡ labels_from b) (high : f < m) where
-    pub entry-frame : f < size b
-    entry-frame = omega (arith, table-all)
-
     entry-inside : field b f 2 ≤ last_label b
     entry-inside =
         let z : suc (f - 1) ≡ f = omega arith in

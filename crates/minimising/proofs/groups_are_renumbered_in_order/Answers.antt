@@ -1,8 +1,5 @@
 use Rattle.minimising.proofs.groups_are_renumbered_in_order.Goals as goal
-use Rattle.minimising.proofs.group_numbers.Renumbered.{first-numbered, entries-led, rows-led}
-
-pub returns-clause-first_numbered : goal.returns-clause-first_numbered
-returns-clause-first_numbered c = first-numbered
+use Rattle.minimising.proofs.group_numbers.Renumbered.{entries-led, rows-led}
 
 pub returns-clause-entries_led : goal.returns-clause-entries_led
 returns-clause-entries_led c = entries-led

@@ -1,7 +1,5 @@
 -- `minimising::minimise` meets its contract: the image is refused, or its table is made smaller.
-use Prim.Native.Nat.{◌*◌}
-use native.Mathlib.Omega.{arith}
-use lib.ListN.{take}
+use Rattle.std.proofs.Common.{◌*◌, arith, take}
 use Rattle.text.specs.frames.Frame.{frame_count}
 use Rattle.tables.proofs.Made.{MadeTable, image-made}
 use Rattle.minimising.proofs.EntryCases.{image-refused, made-prepared, image-made-smaller}

@@ -1,7 +1,5 @@
-use Prim.Native.Nat.{◌+◌}
-use native.Mathlib.Omega.{arith}
+use Rattle.std.proofs.Common.{◌+◌, arith, rules}
 use Rattle.prices.proofs.Sums.{SummedTicks, summed-none, summed-more, summed-fits, summed-all}
-use Rattle.std.proofs.Common.{rules}
 use Rattle.prices.proofs.hundredths_of.Goals as goal
 
 pub loop-i-init : goal.loop-i-init

@@ -1,4 +1,4 @@
-use native.Mathlib.Omega.{arith}
+use Rattle.std.proofs.Common.{arith}
 use Rattle.prices.proofs.Bits.{bit-fits, counted-more, counted-all}
 use Rattle.prices.proofs.tick_price.Goals as goal
 

@@ -1,6 +1,5 @@
 -- `run_cases::check_each` lends pairs that are all within the edits.
-use Prim.Native.Nat.{◌*◌, ◌≤◌}
-use lib.ListN.{length}
+use Rattle.std.proofs.Common.{◌*◌, ◌≤◌, length}
 use Rattle.run_cases.proofs.check_each.Given as goal
 
 abbrev pub invariant-loop-i : goal.invariant-loop-i

@@ -1,5 +1,5 @@
 -- `run_cases::print_ticks` reads eight masks and eight codes.
-use Prim.Native.Nat.{◌-◌, ◌≤◌}
+use Rattle.std.proofs.Common.{◌-◌, ◌≤◌}
 use Rattle.run_cases.proofs.print_ticks.Given as goal
 
 abbrev pub invariant-loop-i : goal.invariant-loop-i

@@ -45,9 +45,6 @@ joined_is = each joined digit_of joined-each
 pub within : (a b c : ℕ) → (leb a c && leb c b) ≡ true → (a ≤ c) × (c ≤ b)
 within a b c h = (leb-true a c (and_l (leb a c) (leb c b) h), leb-true c b (and_r (leb a c) (leb c b) h))
 
-pub above : (k a b c : ℕ) → (leb a c && leb c b) ≡ true → leb k a ≡ true → k ≤ c
-above k a b c h l = omega (arith, (within a b c h).0, leb-true k a l)
-
 pub digit_low : (c : ℕ) → 48 ≤ c → c ≤ 57 → digit_of c ≡ c - 48
 unfolding digit_of
 digit_low c h l = simp (le-leb 48 c h, le-leb c 57 l)

@@ -1,5 +1,5 @@
 -- `run_all`: each chart ends after the place where it begins.
-use Prim.Native.Nat.{◌+◌, ◌-◌, ◌≤◌}
+use Rattle.std.proofs.Common.{◌+◌, ◌-◌, ◌≤◌}
 use Rattle.translate_cases.proofs.run_all.Given as goal
 
 abbrev pub invariant-loop-start : goal.invariant-loop-start

@@ -6,7 +6,7 @@ use Rattle.words.specs.lists.Sequences.{written}
 use Rattle.words.proofs.lists.Tests.{if-true, if-false}
 use Rattle.words.proofs.lists.Written.{written-more}
 use Rattle.words.proofs.lists.Fills.{Pieces, pieces-turn}
-use Rattle.text.specs.frames.Frame.{size, quad}
+use Rattle.text.specs.frames.Frame.{size}
 use Rattle.charts.specs.Chart.{Chart, kind, next0, begin}
 use Rattle.walk.specs.Stops.{is_stop, start}
 use Rattle.walk.proofs.Facts.{Facts}
@@ -77,9 +77,6 @@ entries-turn c out₀ out out' at n k place l w h p room s m e =
 pub fixed-done : (out out₁ out₂ a b : List ℕ) (at : ℕ) → length a ≡ 10 → at + 20 ≤ length out
     → out₁ ≡ written out at a → out₂ ≡ written out₁ (at + 10) b → out₂ ≡ written out at (a ++ b)
 fixed-done out out₁ out₂ a b at n h e₁ e₂ = written-more out at a b out₁ out₂ (at + 10) (omega arith) (omega arith) e₁ e₂
-
-quad-bytes : (a b d e : ℕ) → a < 256 → b < 256 → d < 256 → e < 256 → quad ((a * 256 + b) * 65536 + (d * 256 + e)) ≡ a ∷ b ∷ d ∷ e ∷ []
-quad-bytes a b d e ha hb hd he = grind (arith, common_steps)
 
 module _ {c : Chart} {labels : List ℕ} {v : ℕ} (node : AtNode c labels v) where
   read : get_or labels v 0 ≡ label c v

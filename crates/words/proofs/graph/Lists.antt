@@ -27,9 +27,6 @@ pub listed-none : (n : ℕ) (list : List ℕ) → Listed (replicate n false) lis
 listed-none n list = grind (arith, common_steps, get_or-replicate, no_both, marked-below, count_none, length-replicate)
 
 module _ (ms : List Bool) (list : List ℕ) (k : ℕ) (is : Listed ms list k) where
-  pub list-node : (i : ℕ) → i < k → get_or list i 0 < length ms
-  list-node i b = marked-below (length ms) ms (get_or list i 0) refl (is.are i b)
-
   pub list-few : k ≤ length ms
   list-few = omega (arith, is.counted, count-le (is_marked ms) 0 (length ms))
 

@@ -12,11 +12,6 @@ pub record Filled {A : Type 0} (f : ℕ → A) (d : A) (xs : List A) (n k : ℕ)
   pub each : (j : ℕ) → j < k → get_or xs j d ≡ f j
 
 module _ {A : Type 0} (f : ℕ → A) (d : A) (n : ℕ) where
-  pub filled_none : (xs : List A) → length xs ≡ n → Filled f d xs n 0
-  filled_none xs e = record { low = omega arith; size = e; each = λ j h. absurd (omega arith) }
-
-  pub filled-turn : (xs : List A) (k : ℕ) (v : A) → Filled f d xs n k → k < n → v ≡ f k → Filled f d (set xs k v) n (k + 1)
-  filled-turn xs k v w h e = grind (arith, common_steps, below_more, get_or-set_other, length-set, get_or-set_same)
 
   pub filled-all : (xs : List A) (k : ℕ) → Filled f d xs n k → n ≤ k → xs ≡ map f (range 0 n)
   filled-all xs k w h =

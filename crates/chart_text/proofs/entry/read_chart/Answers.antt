@@ -1,6 +1,5 @@
 -- `chart_text::entry::read_chart` meets its contract: each return is a case of the definition.
-use mathlib.Core.Path.{sym}
-use native.Mathlib.Omega.{arith}
+use Rattle.std.proofs.Common.{sym, arith}
 use Rattle.chart_text.proofs.Entries.{Formed, formed, formed-chart, chart-length, chart-asked}
 use Rattle.chart_text.proofs.Entries.{read-unformed, read-unsound, read_short, read_done}
 use Rattle.std.proofs.lemmas.Result.{err_from_is_err_and}

@@ -1,6 +1,5 @@
 -- `chart_text::entry::write_chart` meets its contract: each return is a case of the definition.
-use mathlib.Core.Path.{sym, ◌∙◌}
-use native.Mathlib.Omega.{arith}
+use Rattle.std.proofs.Common.{sym, ◌∙◌, arith}
 use Rattle.chart_text.proofs.Entries.{WholeRecords, whole, whole-asked, write-unwhole, write-unsound, write-short, write_done}
 use Rattle.std.proofs.lemmas.Result.{err_from_is_err_and}
 use Rattle.chart_text.proofs.entry.write_chart.Goals as goal

@@ -1,7 +1,5 @@
 -- `fillings::counting::count_fillings` meets its contract: what refuses first, or the tally on the table of the image.
-use mathlib.Core.Bool.{false}
-use mathlib.Core.Path.{◌≡◌, sym, ◌∙◌}
-use native.Mathlib.Omega.{arith}
+use Rattle.std.proofs.Common.{false, ◌≡◌, sym, ◌∙◌, arith}
 use Rattle.tables.proofs.Made.{image-made}
 use Rattle.state.specs.State.{is_bad_size}
 use Rattle.fillings.specs.Counts.{has_too_many_lists}

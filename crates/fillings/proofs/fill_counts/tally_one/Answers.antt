@@ -1,14 +1,7 @@
 -- `fillings::fill_counts::tally_one` meets its contract: the words that are left tally as all of them do.
-use mathlib.Core.Path.{refl}
-use Rattle.fillings.proofs.fill_counts.TallyTurns.{one_on, one_stood, one-over}
 use Rattle.std.proofs.Common.{rules}
+use Rattle.fillings.proofs.fill_counts.TallyTurns.{one_on, one_stood, one-over}
 use Rattle.fillings.proofs.fill_counts.tally_one.Goals as goal
-
-pub loop-left-init : goal.loop-left-init
-loop-left-init c = record { stands = c.requires; same = refl }
-
-pub tick_word-done-requires : goal.tick_word-done-requires
-tick_word-done-requires c = c.loop-left.invariant.stands
 
 pub returns-then-number-ne0 : goal.returns-then-number-ne0
 returns-then-number-ne0 c =

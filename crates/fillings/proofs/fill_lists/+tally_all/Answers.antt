@@ -1,6 +1,4 @@
-use Prim.Native.Nat.{ℕ, ◌-◌}
-use mathlib.Core.Path.{◌≡◌, ◌∙◌, sym, ap}
-use native.Mathlib.Omega.{arith}
+use Rattle.std.proofs.Common.{ℕ, ◌-◌, ◌≡◌, ◌∙◌, sym, ap, arith, rules}
 use Rattle.tables.specs.Table.{table_image}
 use Rattle.state.specs.Bytes.{state_of}
 use Rattle.ticks.specs.Tick.{tick}
@@ -9,7 +7,6 @@ use Rattle.fillings.specs.fill_counts.inner.TallyContracts.{tally_of, all_meet}
 use Rattle.fillings.proofs.fill_counts.TallyTurns.{share_of, tally-none, went-share, stood-share, left-few}
 use Rattle.fillings.proofs.fill_counts.TallyTurns.{part-first, part-few, part-on, part-over}
 use Rattle.ticks.proofs.TickCases.{stands_on}
-use Rattle.std.proofs.Common.{rules}
 use Rattle.fillings.proofs.fill_lists.+tally_all.Goals as goal
 
 pub returns-then-n-eq0 : goal.returns-then-n-eq0

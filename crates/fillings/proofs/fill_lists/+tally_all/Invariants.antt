@@ -1,5 +1,5 @@
 -- `fillings::fill_lists::tally_all`: in the loop the first words below one are tallied. The measure is the number of words.
-use Prim.Native.Nat.{◌-◌}
+use Rattle.std.proofs.Common.{◌-◌}
 use Rattle.fillings.proofs.fill_counts.TallyTurns.{Part}
 use Rattle.fillings.proofs.fill_lists.+tally_all.Given as goal
 

@@ -1,16 +1,8 @@
 -- `grouping::class_changes::differ` meets its contract: the loop keeps what is left of the search.
-use mathlib.Core.Path.{sym, ◌∙◌, ap}
-use Prim.Native.Nat.{ℕ}
-use native.Mathlib.Nat.{sub-zero}
-use Rattle.words.specs.lists.Numbers.{any}
+use Rattle.std.proofs.Common.{sym, ◌∙◌, rules}
 use Rattle.words.proofs.lists.Searches.{any_here, any-on, any-over}
-use Rattle.grouping.specs.inner.GroupingContracts.{has_other_class}
 use Rattle.grouping.proofs.class_changes.Differences.{differs-yes, differs-no}
-use Rattle.std.proofs.Common.{rules}
 use Rattle.grouping.proofs.class_changes.differ.Goals as goal
-
-pub loop-l-init : goal.loop-l-init
-loop-l-init c = (search rules, ap (λ (k : ℕ). any (has_other_class c.args.classes.now c.args.next.now) 0 k) (sub-zero c.args.n))
 
 pub returns-then-classes-l : goal.returns-then-classes-l
 returns-then-classes-l c =

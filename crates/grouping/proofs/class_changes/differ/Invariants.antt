@@ -1,6 +1,5 @@
 -- `grouping::class_changes::differ` meets its contract: the loop keeps what is left of the search.
-use mathlib.Core.Path.{◌≡◌}
-use Prim.Native.Nat.{◌-◌, ◌≤◌}
+use Rattle.std.proofs.Common.{◌≡◌, ◌-◌, ◌≤◌}
 use Rattle.words.specs.lists.Numbers.{any}
 use Rattle.grouping.specs.inner.GroupingContracts.{has_other_class}
 use Rattle.grouping.proofs.class_changes.differ.Given as goal

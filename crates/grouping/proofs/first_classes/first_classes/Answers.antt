@@ -1,7 +1,5 @@
-use mathlib.Core.Path.{◌∙◌}
-use native.Mathlib.Omega.{arith}
+use Rattle.std.proofs.Common.{◌∙◌, arith, rules}
 use Rattle.grouping.proofs.TableRounds.{fill_on, value-small, same_alike, first-all}
-use Rattle.std.proofs.Common.{rules}
 use Rattle.grouping.proofs.first_classes.first_classes.Goals as goal
 
 pub overflow_cast-classes : goal.overflow_cast-classes

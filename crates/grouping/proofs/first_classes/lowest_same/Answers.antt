@@ -1,8 +1,7 @@
-use mathlib.Core.Path.{sym, ◌∙◌}
+use Rattle.std.proofs.Common.{sym, ◌∙◌, rules}
 use Rattle.words.proofs.lists.Searches.{lowest-here, lowest-on, lowest-over}
 use Rattle.grouping.specs.inner.GroupingContracts.{has_same_fields_on}
 use Rattle.grouping.proofs.first_classes.SameCases.{same-told}
-use Rattle.std.proofs.Common.{rules}
 use Rattle.grouping.proofs.first_classes.lowest_same.Goals as goal
 
 pub returns-then-is_same : goal.returns-then-is_same

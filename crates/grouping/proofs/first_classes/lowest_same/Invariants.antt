@@ -1,6 +1,5 @@
 -- `grouping::first_classes::lowest_same` meets its contract: the loop keeps what is left of the search.
-use mathlib.Core.Path.{◌≡◌}
-use Prim.Native.Nat.{◌-◌, ◌≤◌}
+use Rattle.std.proofs.Common.{◌≡◌, ◌-◌, ◌≤◌}
 use Rattle.words.specs.lists.Numbers.{lowest}
 use Rattle.grouping.specs.inner.GroupingContracts.{has_same_fields_on}
 use Rattle.grouping.proofs.first_classes.lowest_same.Given as goal

@@ -1,5 +1,5 @@
 -- `grouping::marked_parts::count_members` meets its contract: a step for each label.
-use lib.ListN.{get_or}
+use Rattle.std.proofs.Common.{get_or}
 use Rattle.grouping.specs.marked_parts.inner.Parts.{member_count}
 use Rattle.grouping.proofs.marked_parts.Labelled.{Labelling}
 use Rattle.grouping.proofs.marked_parts.count_members.Given as goal

@@ -1,5 +1,5 @@
 -- `grouping::marked_parts::keep_largest` meets its contract: one write for each label.
-use lib.ListN.{get_or}
+use Rattle.std.proofs.Common.{get_or}
 use Rattle.grouping.specs.marked_parts.inner.Parts.{larger_part}
 use Rattle.grouping.proofs.marked_parts.Labelled.{Labelling}
 use Rattle.grouping.proofs.marked_parts.keep_largest.Given as goal

@@ -1,5 +1,5 @@
 -- `grouping::marked_parts::mark` meets its contract: one write for each label.
-use lib.ListN.{get_or}
+use Rattle.std.proofs.Common.{get_or}
 use Rattle.grouping.specs.marked_parts.inner.Parts.{mark_of}
 use Rattle.grouping.proofs.marked_parts.Labelled.{Labelling}
 use Rattle.grouping.proofs.marked_parts.mark.Given as goal

@@ -1,5 +1,5 @@
 -- `grouping::marking::mark_parted` meets its contract: by those of its two steps.
-use native.Mathlib.Omega.{arith}
+use Rattle.std.proofs.Common.{arith}
 use Rattle.grouping.proofs.marking.Touches.{round-marked}
 use Rattle.grouping.proofs.marking.mark_parted.Goals as goal
 

@@ -1,6 +1,6 @@
 -- `grouping::marking::touch` meets its contract: it holds of the labels before l.
-use native.Mathlib.Omega.{arith}
-use Rattle.grouping.proofs.marking.Touches.{touching-start, touching-turn, touching-all}
+use Rattle.std.proofs.Common.{arith}
+use Rattle.grouping.proofs.marking.Touches.{touching-start, touching-turn}
 use Rattle.grouping.proofs.marking.touch.Goals as goal
 
 pub loop-l-init : goal.loop-l-init
@@ -11,9 +11,3 @@ loop-l-preserved c =
     touching-turn _ _ _ (omega (arith, c.requires.marks_len.1, c.type_inv.table 2)) _ _ _ _ _ c.loop-l.invariant
     (omega (arith, c.last_label-last.ensures, c.loop-l-test.true)) c.first_of-first.ensures c.end_of-end.ensures
     c.touch_of.ensures
-
-pub shape_of-touched : goal.shape_of-touched
-shape_of-touched c = c.loop-l.invariant.values.size
-
-pub returns : goal.returns
-returns c = touching-all _ _ _ _ _ c.loop-l.invariant (omega (arith, c.last_label-last.ensures, c.loop-l-test.false))

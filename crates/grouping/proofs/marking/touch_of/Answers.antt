@@ -1,13 +1,8 @@
 -- `grouping::marking::touch_of` meets its contract: the loop keeps what is left of the search.
-use mathlib.Core.Bool.{Bool}
-use mathlib.Core.Path.{refl, sym, ◌∙◌, ap}
+use Rattle.std.proofs.Common.{Bool, sym, ◌∙◌, ap, rules, if◌then◌else◌}
 use Rattle.words.proofs.lists.Searches.{any_here, any-on, any-over}
 use Rattle.grouping.proofs.Marked.{leads-marked, leads-unmarked}
-use Rattle.std.proofs.Common.{rules, if◌then◌else◌}
 use Rattle.grouping.proofs.marking.touch_of.Goals as goal
-
-pub loop-f-init : goal.loop-f-init
-loop-f-init c = refl
 
 pub returns-then-marks-next-ge1 : goal.returns-then-marks-next-ge1
 returns-then-marks-next-ge1 c =

@@ -1,6 +1,5 @@
 -- `grouping::marking::touch_of` meets its contract: the loop keeps what is left of the search.
-use mathlib.Core.Path.{◌≡◌}
-use Prim.Native.Nat.{◌-◌}
+use Rattle.std.proofs.Common.{◌≡◌, ◌-◌}
 use Rattle.words.specs.lists.Numbers.{any}
 use Rattle.grouping.specs.inner.GroupingContracts.{has_marked_next}
 use Rattle.grouping.proofs.marking.touch_of.Given as goal

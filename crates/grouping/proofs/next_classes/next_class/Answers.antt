@@ -1,6 +1,5 @@
-use mathlib.Core.Path.{sym, ◌∙◌}
+use Rattle.std.proofs.Common.{sym, ◌∙◌, rules}
 use Rattle.words.proofs.lists.Searches.{lowest-here, lowest-on, lowest-over}
-use Rattle.std.proofs.Common.{rules}
 use Rattle.grouping.proofs.next_classes.next_class.Goals as goal
 
 pub returns-then-leads_class : goal.returns-then-leads_class

@@ -1,7 +1,5 @@
 -- `grouping::next_classes::next_class` meets its contract: the loop keeps what is left of the search.
-use mathlib.Core.Path.{◌≡◌}
-use Prim.Native.Nat.{◌-◌, ◌≤◌}
-use lib.ListN.{get_or}
+use Rattle.std.proofs.Common.{◌≡◌, ◌-◌, ◌≤◌, get_or}
 use Rattle.words.specs.lists.Numbers.{lowest}
 use Rattle.grouping.specs.inner.GroupingContracts.{is_class_leader, next_class}
 use Rattle.grouping.proofs.next_classes.next_class.Given as goal

@@ -1,23 +1,8 @@
 -- `grouping::next_classes::refine` meets its contract: the next classes of the labels before l stand in the buffer.
-use mathlib.Core.Path.{sym, ◌∙◌}
-use native.Mathlib.Omega.{arith}
-use lib.ListN.{length-set}
+use Rattle.std.proofs.Common.{arith, rules}
 use Rattle.grouping.proofs.next_classes.RoundSteps.{refining-start, refining-asks, refining-below}
 use Rattle.grouping.proofs.next_classes.RoundSteps.{refining-small, refining-on, refining-all}
-use Rattle.std.proofs.Common.{rules}
 use Rattle.grouping.proofs.next_classes.refine.Goals as goal
-
-pub scheme_count-schemes-requires : goal.scheme_count-schemes-requires
-scheme_count-schemes-requires c = c.requires.even.whole
-
-pub last_label-last-requires : goal.last_label-last-requires
-last_label-last-requires c = c.requires.even.whole
-
-pub bounds-next-0 : goal.bounds-next-0
-bounds-next-0 c = omega (arith, c.requires.refined.1)
-
-pub bounds-next-1 : goal.bounds-next-1
-bounds-next-1 c = omega (arith, c.requires.refined.1, length-set c.args.next.now 0 0)
 
 pub loop-l-init : goal.loop-l-init
 loop-l-init c =
@@ -36,21 +21,8 @@ next_class-requires c =
 pub overflow_cast-next : goal.overflow_cast-next
 overflow_cast-next c = omega (arith, refining-small _ c.requires.even _ _ _ _ c.loop-l.invariant (search rules) _ c.next_class.ensures)
 
-pub bounds-next-l : goal.bounds-next-l
-bounds-next-l c =
-    omega (
-      arith,
-      c.loop-l.invariant.filled.long,
-      c.loop-l.invariant.filled.small,
-    )
-
 pub loop-l-preserved : goal.loop-l-preserved
 loop-l-preserved c = refining-on _ c.requires.even _ _ _ _ c.loop-l.invariant (search rules) _ c.next_class.ensures
-
-pub shape_of-next : goal.shape_of-next
-shape_of-next c =
-    c.loop-l.invariant.filled.long
-    ∙ sym c.requires.refined.1
 
 pub returns : goal.returns
 returns c =

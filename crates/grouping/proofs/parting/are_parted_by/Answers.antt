@@ -1,8 +1,7 @@
 -- `grouping::parting::are_parted_by` meets its contract: the loop keeps what is left of the search.
-use mathlib.Core.Path.{sym, ◌∙◌}
+use Rattle.std.proofs.Common.{sym, ◌∙◌, rules}
 use Rattle.words.proofs.lists.Searches.{any_here, any-on, any-over}
 use Rattle.grouping.proofs.Marked.{by-none, by-told}
-use Rattle.std.proofs.Common.{rules}
 use Rattle.grouping.proofs.parting.are_parted_by.Goals as goal
 
 pub returns-then-touched-m-eq0 : goal.returns-then-touched-m-eq0

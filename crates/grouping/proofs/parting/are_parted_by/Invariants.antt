@@ -1,7 +1,5 @@
 -- `grouping::parting::are_parted_by` meets its contract: the loop keeps what is left of the search.
-use mathlib.Core.Bool.{◌&&◌}
-use mathlib.Core.Path.{◌≡◌}
-use Prim.Native.Nat.{◌-◌}
+use Rattle.std.proofs.Common.{◌&&◌, ◌≡◌, ◌-◌}
 use Rattle.words.specs.lists.Numbers.{any}
 use Rattle.grouping.specs.inner.GroupingContracts.{has_marked_next, is_parting_any}
 use Rattle.grouping.proofs.parting.are_parted_by.Given as goal

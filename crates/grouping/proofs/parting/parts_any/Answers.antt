@@ -1,6 +1,5 @@
-use mathlib.Core.Path.{sym, ◌∙◌}
+use Rattle.std.proofs.Common.{sym, ◌∙◌, rules}
 use Rattle.words.proofs.lists.Searches.{any_here, any-on, any-over}
-use Rattle.std.proofs.Common.{rules}
 use Rattle.grouping.proofs.parting.parts_any.Goals as goal
 
 pub returns-then-parts : goal.returns-then-parts

@@ -1,6 +1,5 @@
 -- `grouping::parting::parts_any` meets its contract: the loop keeps what is left of the search.
-use mathlib.Core.Path.{◌≡◌}
-use Prim.Native.Nat.{◌-◌}
+use Rattle.std.proofs.Common.{◌≡◌, ◌-◌}
 use Rattle.words.specs.lists.Numbers.{any}
 use Rattle.grouping.specs.inner.GroupingContracts.{is_parting_in, is_parting_any}
 use Rattle.grouping.proofs.parting.parts_any.Given as goal

@@ -1,7 +1,6 @@
-use mathlib.Core.Path.{sym, ◌∙◌}
+use Rattle.std.proofs.Common.{sym, ◌∙◌, rules}
 use Rattle.words.proofs.lists.Searches.{any_here, any-on, any-over}
 use Rattle.image.proofs.HeaderCases.{unequal, equal}
-use Rattle.std.proofs.Common.{rules}
 use Rattle.image.proofs.table.filled_to.Goals as goal
 
 pub returns-then-byte-ne0 : goal.returns-then-byte-ne0

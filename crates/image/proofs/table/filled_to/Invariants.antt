@@ -1,6 +1,5 @@
 -- `image::table::filled_to` meets its contract: the loop keeps what is left to look at.
-use mathlib.Core.Path.{◌≡◌}
-use Prim.Native.Nat.{◌-◌, ◌≤◌}
+use Rattle.std.proofs.Common.{◌≡◌, ◌-◌, ◌≤◌}
 use Rattle.image.specs.Check.{is_filled}
 use Rattle.image.proofs.table.filled_to.Given as goal
 

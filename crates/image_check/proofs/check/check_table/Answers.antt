@@ -1,10 +1,7 @@
 -- `image_check::check::check_table` meets its contract: 11, then one pass for 12 and 13; where it finds a frame, 12 goes before 13.
-use mathlib.Core.Path.{◌≡◌, sym, ◌∙◌}
-use mathlib.Core.Bool.{false}
-use native.Mathlib.Omega.{arith}
+use Rattle.std.proofs.Common.{◌≡◌, sym, ◌∙◌, false, arith, rules}
 use Rattle.image.specs.Check.{is_bad_header}
 use Rattle.image_check.proofs.TableCases.{header-size, table-header, table-stray, table-bad, table-good}
-use Rattle.std.proofs.Common.{rules}
 use Rattle.image_check.proofs.check.check_table.Goals as goal
 
 pub returns-then-bad_header : goal.returns-then-bad_header

@@ -1,13 +1,9 @@
-use native.Mathlib.Omega.{arith}
+use Rattle.std.proofs.Common.{arith, ◌≡◌, ◌||◌, ◌<◌, rules}
 use Rattle.image_check.specs.image_faults.inner.FaultyFrames.{is_faulty}
 use Rattle.image_check.proofs.image_faults.FaultSearch.{first_holds}
 use Rattle.image_check.proofs.image_faults.FaultSearch.{second-tells, entry-tests}
 use Rattle.words.proofs.lists.Searches.{searching-found, searching-next, searching-over}
-use mathlib.Core.Path.{◌≡◌}
-use mathlib.Core.Bool.{◌||◌}
-use Prim.Native.Nat.{◌<◌}
 use Rattle.image.specs.Check.{entry_position, is_stray_frame, is_bad_entry}
-use Rattle.std.proofs.Common.{rules}
 use Rattle.image_check.proofs.image_faults.lowest_entry.Goals as goal
 
 pub returns-then-stray_entry : goal.returns-then-stray_entry

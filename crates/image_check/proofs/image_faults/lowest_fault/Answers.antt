@@ -1,11 +1,9 @@
 -- `image_check::image_faults::lowest_fault` meets its contract: the parts in turn, each search goes on where the one before ended.
-use mathlib.Core.Path.{◌≡◌, ◌∙◌}
-use Prim.Native.Nat.{◌-◌}
+use Rattle.std.proofs.Common.{◌≡◌, ◌∙◌, ◌-◌, rules}
 use Rattle.words.specs.lists.Numbers.{lowest}
 use Rattle.text.specs.frames.Frame.{size}
 use Rattle.image_check.specs.image_faults.inner.FaultyFrames.{is_faulty}
 use Rattle.image_check.proofs.image_faults.FaultSearch.{part-found, part-past, all-entries}
-use Rattle.std.proofs.Common.{rules}
 use Rattle.image_check.proofs.image_faults.lowest_fault.Goals as goal
 
 pub returns-then-entry-labels : goal.returns-then-entry-labels

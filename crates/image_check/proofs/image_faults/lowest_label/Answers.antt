@@ -1,15 +1,10 @@
-use native.Mathlib.Omega.{arith}
-use Prim.Native.Nat.{◌-◌}
+use Rattle.std.proofs.Common.{arith, ◌-◌, ◌≡◌, ◌||◌, ◌+◌, ◌<◌, rules}
 use Rattle.image_check.specs.image_faults.inner.FaultyFrames.{is_faulty}
 use Rattle.image_check.proofs.image_faults.FaultSearch.{first_holds}
 use Rattle.image_check.proofs.image_faults.FaultSearch.{second-tells, label-tests}
 use Rattle.words.proofs.lists.Searches.{searching-found, searching-next, searching-over}
-use mathlib.Core.Path.{◌≡◌}
-use mathlib.Core.Bool.{◌||◌}
-use Prim.Native.Nat.{◌+◌, ◌<◌}
 use Rattle.image.specs.Decode.{labels_from, label_in}
 use Rattle.image.specs.Check.{label_position, is_stray_frame, is_bad_label}
-use Rattle.std.proofs.Common.{rules}
 use Rattle.image_check.proofs.image_faults.lowest_label.Goals as goal
 
 pub returns-then-stray_label : goal.returns-then-stray_label

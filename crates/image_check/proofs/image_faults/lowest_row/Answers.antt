@@ -1,14 +1,10 @@
-use Prim.Native.Nat.{◌-◌}
+use Rattle.std.proofs.Common.{◌-◌, ◌≡◌, ◌||◌, ◌+◌, ◌<◌, rules}
 use Rattle.image_check.specs.image_faults.inner.FaultyFrames.{is_faulty}
 use Rattle.image_check.proofs.image_faults.FaultSearch.{first_holds}
 use Rattle.image_check.proofs.image_faults.FaultSearch.{second-tells, row-tests}
 use Rattle.words.proofs.lists.Searches.{searching-found, searching-next, searching-over}
-use mathlib.Core.Path.{◌≡◌}
-use mathlib.Core.Bool.{◌||◌}
-use Prim.Native.Nat.{◌+◌, ◌<◌}
 use Rattle.image.specs.Decode.{rows_from, row_in}
 use Rattle.image.specs.Check.{row_position, is_stray_frame, is_bad_row}
-use Rattle.std.proofs.Common.{rules}
 use Rattle.image_check.proofs.image_faults.lowest_row.Goals as goal
 
 pub returns-then-stray_row : goal.returns-then-stray_row

@@ -1,11 +1,7 @@
 -- `image_check::positions::lowest_stray` meets its contract: the loop keeps what is left to search.
-use mathlib.Core.Path.{sym, ◌∙◌}
-use Rattle.words.proofs.lists.Searches.{searching-first, searching-found, searching-next, searching-over}
-use Rattle.std.proofs.Common.{rules}
+use Rattle.std.proofs.Common.{sym, ◌∙◌, rules}
+use Rattle.words.proofs.lists.Searches.{searching-found, searching-next, searching-over}
 use Rattle.image_check.proofs.positions.lowest_stray.Goals as goal
-
-pub loop-f-init : goal.loop-f-init
-loop-f-init c = searching-first _ _
 
 pub returns-then-stray_at : goal.returns-then-stray_at
 returns-then-stray_at c = searching-found _ _ _ _ c.loop-f.invariant (search rules) (sym c.stray_at.ensures ∙ c.if-stray_at.true)

@@ -1,7 +1,6 @@
 -- `image_check::positions::stray_at` meets its contract: by the kind that the position asks for.
-use native.Mathlib.Omega.{arith}
+use Rattle.std.proofs.Common.{arith, rules}
 use Rattle.image_check.proofs.PositionCases.{label-above, row-above, stray-entry, stray-label, stray-row, stray-header}
-use Rattle.std.proofs.Common.{rules}
 use Rattle.image_check.proofs.positions.stray_at.Goals as goal
 
 pub overflow_sub-f : goal.overflow_sub-f

@@ -1,7 +1,5 @@
 -- `image_check::read::read_image` meets its contract: the answer is the text's refusal or the table's, and the buffer is as it was read.
-use Prim.Native.Nat.{ℕ}
-use mathlib.Core.List.{List}
-use native.Mathlib.Omega.{arith}
+use Rattle.std.proofs.Common.{ℕ, List, arith}
 use Rattle.image_check.proofs.ReadCases.{GoodText, read-good, read-refused, front-size, front_length, read_done}
 use Rattle.std.proofs.lemmas.Result.{err_from_is_err_and}
 use Rattle.image_check.proofs.read.read_image.Goals as goal
@@ -13,12 +11,6 @@ returns-in_err-frames c =
       result_value = rw (p.1, p.2) (read-refused _ _ c.read_text.ensures.result_value _ c.in_err-frames.was);
       table_after = c.read_text.ensures.out_after;
     }
-
-pub overflow_mul-n : goal.overflow_mul-n
-overflow_mul-n c =
-    let text : List ℕ = c.args.text.now in
-    let good : GoodText text _ = read-good text _ c.read_text.ensures.result_value _ c.in_ok-frames.was in
-    omega (arith, good.most)
 
 pub slice_bounds-check_table-end : goal.slice_bounds-check_table-end
 slice_bounds-check_table-end c =

@@ -1,8 +1,6 @@
 -- `minimising::group_image::write_groups` meets its contract: no room for the text, or all of it is written.
-use mathlib.Core.Path.{◌∙◌}
-use native.Mathlib.Omega.{arith}
+use Rattle.std.proofs.Common.{◌∙◌, rules}
 use Rattle.minimising.proofs.group_image.WriteCases.{CountedFirst, buffer-lowest, counts, smaller-short, pieces_room, smaller-done}
-use Rattle.std.proofs.Common.{rules}
 use Rattle.minimising.proofs.group_image.write_groups.Goals as goal
 
 pub number_groups-groups-requires : goal.number_groups-groups-requires
@@ -11,14 +9,6 @@ number_groups-groups-requires c = record {
   n_bound = search rules;
   lowest_of_class = buffer-lowest _ _ c.requires.grouped _ c.byte-last.ensures;
 }
-
-pub overflow_mul-need : goal.overflow_mul-need
-overflow_mul-need c =
-    let told : let n = c.number_groups-groups in
-    CountedFirst c.args.table.now c.args.classes.now n.new.numbers c.byte-schemes.result n.result c.count_kept-rows.result =
-    counts _ _ c.requires.grouped _ _ _ _ _ _ c.byte-schemes.ensures c.byte-last.ensures c.rows_from.ensures
-    c.number_groups-groups.ensures c.count_kept-rows.ensures in
-    omega (arith, told.sixteen, told.bounds)
 
 pub returns-then-out-need : goal.returns-then-out-need
 returns-then-out-need c =

@@ -1,11 +1,8 @@
 -- `minimising::group_numbers::count_kept` meets its contract: the count over the rows before f.
 use Rattle.grouping.specs.Classes.{is_first}
 use Rattle.text.specs.frames.Frame.{field}
-use native.Mathlib.Omega.{arith}
-use mathlib.Core.Path.{sym, ◌∙◌, ap}
+use Rattle.std.proofs.Common.{arith, sym, ◌∙◌, ap, ℕ, rules, if◌then◌else◌}
 use Rattle.words.proofs.lists.Sums.{adding-start, adding-on, adding-all, count-sum}
-use Prim.Native.Nat.{ℕ}
-use Rattle.std.proofs.Common.{rules, if◌then◌else◌}
 use Rattle.minimising.proofs.group_numbers.count_kept.Goals as goal
 
 pub loop-f-init : goal.loop-f-init

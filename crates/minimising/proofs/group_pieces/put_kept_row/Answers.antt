@@ -1,12 +1,8 @@
 -- `minimising::group_pieces::put_kept_row` meets its contract: nothing, or one frame.
-use mathlib.Core.Path.{refl}
-use native.Mathlib.Omega.{arith}
+use Rattle.std.proofs.Common.{refl}
 use Rattle.translator.proofs.label_text.Puts.{nothing_put}
 use Rattle.minimising.proofs.group_pieces.PieceCases.{row-skip, row_kept, frame-room, frame-put}
 use Rattle.minimising.proofs.group_pieces.put_kept_row.Goals as goal
-
-pub overflow_cast-classes : goal.overflow_cast-classes
-overflow_cast-classes c = omega (arith, c.type_inv.classes c.byte-from.result)
 
 pub returns-then-classes-from : goal.returns-then-classes-from
 returns-then-classes-from c =

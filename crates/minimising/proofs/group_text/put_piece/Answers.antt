@@ -1,5 +1,5 @@
 -- `minimising::group_text::put_piece` meets its contract: entry, label or row, by the frame number.
-use mathlib.Core.Path.{refl}
+use Rattle.std.proofs.Common.{refl}
 use Rattle.minimising.proofs.group_pieces.PieceCases.{entry_kept, frame-room, frame-put}
 use Rattle.minimising.proofs.group_text.put_piece.Goals as goal
 

@@ -3,7 +3,7 @@ use Rattle.text.specs.frames.Frame.{size}
 use Rattle.translator.proofs.label_text.Puts.{Appended}
 use Rattle.minimising.specs.group_pieces.inner.Pieces.{piece}
 use Rattle.minimising.proofs.group_pieces.PieceCases.{header-first, header-room, rest-room, rest-on, rest_all}
-use borrow.Author.Rules.{rules}
+use Rattle.std.proofs.Common.{rules}
 use Rattle.minimising.proofs.group_text.put_pieces.Goals as goal
 
 pub put_header-requires : goal.put_header-requires

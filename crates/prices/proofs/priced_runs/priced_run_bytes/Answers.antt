@@ -1,10 +1,7 @@
 -- `prices::priced_runs::priced_run_bytes` meets its contract:
 -- more words than are priced are refused, else the run is made and its masks are priced.
 use Rattle.prices.proofs.priced_runs.EntryCases.{many-priced, counted-inside, counted-few, run-priced}
-use Prim.Native.Nat.{◌≤◌}
-use native.Mathlib.Omega.{arith}
-use lib.ListN.{length, length-take}
-use Rattle.std.proofs.Common.{rules}
+use Rattle.std.proofs.Common.{◌≤◌, arith, length, length-take, rules}
 use Rattle.prices.proofs.priced_runs.priced_run_bytes.Goals as goal
 
 pub returns-then-words-gt65536 : goal.returns-then-words-gt65536

@@ -1,9 +1,7 @@
 -- `prices::priced_states::priced_run` meets its contract: the priced run in place on the bytes of the state, read back.
-use mathlib.Core.Path.{◌≡◌}
-use lib.ListN.{length}
+use Rattle.std.proofs.Common.{◌≡◌, length, rules}
 use Rattle.state.specs.State.{Sized}
 use Rattle.prices.proofs.priced_runs.EntryCases.{value-priced}
-use Rattle.std.proofs.Common.{rules}
 use Rattle.prices.proofs.priced_states.priced_run.Goals as goal
 
 pub returns : goal.returns

@@ -1,8 +1,6 @@
 -- `text::digits::digit` meets its contract: what the two give, joined, was computed for every character.
-use mathlib.Core.Path.{◌∙◌, ap₂}
-use lib.Bits.{bit_and}
+use Rattle.std.proofs.Common.{◌∙◌, ap₂, bit_and, rules}
 use Rattle.text.proofs.digits.Digits.{joined_is}
-use Rattle.std.proofs.Common.{rules}
 use Rattle.text.proofs.digits.digit.Goals as goal
 
 pub returns : goal.returns

@@ -1,8 +1,7 @@
 -- `text::digits::letter_digit` meets its contract: the rule on the letter's capital, which was computed for every character.
-use mathlib.Core.Path.{sym, ◌∙◌}
+use Rattle.std.proofs.Common.{sym, ◌∙◌, rules}
 use Rattle.words.proofs.lists.Tests.{if-true, if-false}
 use Rattle.text.proofs.digits.Digits.{masked-is}
-use Rattle.std.proofs.Common.{rules}
 use Rattle.text.proofs.digits.letter_digit.Goals as goal
 
 pub returns-then-letter : goal.returns-then-letter

@@ -1,6 +1,5 @@
-use mathlib.Core.Path.{refl}
+use Rattle.std.proofs.Common.{refl, rules}
 use Rattle.text.proofs.frame_reading.ReadFrame.{taken_none, taken-turn, taken-all}
-use Rattle.std.proofs.Common.{rules}
 use Rattle.text.proofs.frame_reading.read_digits.Goals as goal
 
 pub loop-i-init : goal.loop-i-init

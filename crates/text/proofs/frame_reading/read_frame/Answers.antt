@@ -1,8 +1,5 @@
-use mathlib.Core.Path.{◌≡◌}
-use Prim.Native.Nat.{ℕ, ◌<◌}
-use lib.ListN.{get_or}
+use Rattle.std.proofs.Common.{◌≡◌, ℕ, ◌<◌, get_or, rules}
 use Rattle.text.proofs.frame_reading.ReadFrame.{stored, values-at, form-end, stored-none, stored-turn, sum-end, stored-end}
-use Rattle.std.proofs.Common.{rules}
 use Rattle.text.proofs.frame_reading.read_frame.Goals as goal
 
 pub loop-k-init : goal.loop-k-init

@@ -1,23 +1,13 @@
 -- `translator::label_text::entry_of`: a Begin is a stop where its label is its own.
-use mathlib.Core.Path.{◌≡◌}
-use lib.ListN.{get_or}
+use Rattle.std.proofs.Common.{◌≡◌, get_or, arith}
 use Rattle.charts.specs.Chart.{begin}
 use Rattle.chart_rows.proofs.chart_labels.ReadyLaws.{ready-facts}
 use Rattle.translator.proofs.label_text.LabelPuts.{entry_read, entry-field, entry_next, entry-own, entry_other}
-use native.Mathlib.Omega.{arith}
 use Rattle.translator.proofs.entry_text.entry_of.Goals as goal
 
 pub bounds-begins-scheme : goal.bounds-begins-scheme
 bounds-begins-scheme c =
     omega (arith, c.requires.begun.long, c.requires.of_scheme.high, (ready-facts c.requires.of_scheme.chart.ready).most)
-
-pub overflow_cast-v-2 : goal.overflow_cast-v-2
-overflow_cast-v-2 c =
-    let noted : let a = c.args in
-    get_or a.begins.now a.scheme 0 ≡ begin a.records.now a.scheme =
-    c.requires.begun.at c.args.scheme c.requires.of_scheme.low c.requires.of_scheme.high in
-    let ready = c.requires.of_scheme.chart.ready in
-    omega (arith, noted, ((ready-facts ready).begins c.args.scheme c.requires.of_scheme.low c.requires.of_scheme.high).0, ready.few)
 
 pub bounds-labels-v : goal.bounds-labels-v
 bounds-labels-v c =

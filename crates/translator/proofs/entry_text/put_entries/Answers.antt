@@ -1,7 +1,6 @@
-use mathlib.Core.Path.{refl}
+use Rattle.std.proofs.Common.{refl, rules}
 use Rattle.words.proofs.lists.Fills.{pieces_none}
 use Rattle.translator.proofs.label_text.LabelPuts.{entries-turn}
-use Rattle.std.proofs.Common.{rules}
 use Rattle.translator.proofs.entry_text.put_entries.Goals as goal
 
 pub loop-k-init : goal.loop-k-init

@@ -1,6 +1,4 @@
-use mathlib.Core.Bool.{true}
-use mathlib.Core.Path.{◌≡◌, refl}
-use lib.ListN.{get_or}
+use Rattle.std.proofs.Common.{true, ◌≡◌, refl, get_or, arith, ◌+◌, rules}
 use Rattle.walk.specs.Stops.{is_stop}
 use Rattle.chart_rows.specs.inner.NodeRows.{tested_number}
 use Rattle.chart_rows.proofs.NumberLaws.{high-stops, low_goes, low-number}
@@ -8,9 +6,6 @@ use Rattle.chart_rows.proofs.Settled.{Settled, is-settled}
 use Rattle.chart_rows.proofs.PathCases.{New, Fork, fork}
 use Rattle.translator.proofs.path_text.RowPuts.{leaf_room, leaf-done, at-end, walked_start, walked-room}
 use Rattle.translator.proofs.path_text.RowPuts.{walked-done, low-room, walked_on}
-use native.Mathlib.Omega.{arith}
-use Prim.Native.Nat.{◌+◌}
-use Rattle.std.proofs.Common.{rules}
 use Rattle.translator.proofs.path_text.+put_forks.Goals as goal
 
 pub loop-out-init : goal.loop-out-init

@@ -1,6 +1,5 @@
 -- `translator::path_text::put_paths`: a stop is one row, and the paths on from another node are walked.
-use mathlib.Core.Bool.{true}
-use mathlib.Core.Path.{◌≡◌}
+use Rattle.std.proofs.Common.{true, ◌≡◌}
 use Rattle.walk.specs.Stops.{is_stop}
 use Rattle.chart_rows.proofs.NumberLaws.{high-stops}
 use Rattle.chart_rows.proofs.Settled.{Settled}

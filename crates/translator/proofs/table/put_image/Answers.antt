@@ -1,10 +1,8 @@
 -- `translator::put_image`: the bytes of the table's frames, and then their text.
-use Prim.Native.Nat.{◌*◌, ◌/◌, ◌≤◌}
-use lib.ListN.{length}
+use Rattle.std.proofs.Common.{◌*◌, ◌/◌, ◌≤◌, length, arith}
 use Rattle.translator.specs.Table.{table}
 use Rattle.translator.proofs.ImageSteps.{bytes-long}
 use Rattle.translator.proofs.ImageBytes.{image-spread}
-use native.Mathlib.Omega.{arith}
 use Rattle.translator.proofs.table.put_image.Goals as goal
 
 pub spread-requires : goal.spread-requires

@@ -1,10 +1,8 @@
 -- `translator::put_table`: entries, labels 0 and 1, the other labels, rows, each where the one before ends; then the header.
-use mathlib.Core.Path.{◌≡◌, ◌∙◌}
-use lib.ListN.{length}
+use Rattle.std.proofs.Common.{◌≡◌, ◌∙◌, length, arith}
 use Rattle.chart_rows.proofs.chart_labels.ReadyLaws.{ready-facts}
 use Rattle.chart_rows.proofs.chart_labels.LabelSteps.{few-numbered}
 use Rattle.translator.proofs.ImageSteps.{labels-long, rows_long, rows-put, table-put}
-use native.Mathlib.Omega.{arith}
 use Rattle.translator.proofs.table.put_table.Goals as goal
 
 pub put_labels-requires : goal.put_labels-requires

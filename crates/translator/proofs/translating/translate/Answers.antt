@@ -1,7 +1,6 @@
 -- `translator::translating::translate` meets its contract: the reader's refusal, or what the table's text gives for the chart that it read.
-use mathlib.Core.Path.{sym}
+use Rattle.std.proofs.Common.{sym, arith}
 use Rattle.translator.proofs.EntrySteps.{Read, zeros-long, read-refused, read_told, read-long, read-ready, translated}
-use native.Mathlib.Omega.{arith}
 use Rattle.translator.proofs.translating.translate.Goals as goal
 
 pub returns-in_default : goal.returns-in_default

@@ -1,10 +1,8 @@
 -- `translator::translating::write_image`: 10 or 16, else the whole image.
-use mathlib.Core.Path.{refl}
-use Prim.Native.Nat.{◌+◌, ◌≤◌}
+use Rattle.std.proofs.Common.{◌+◌, ◌≤◌, arith}
 use Rattle.chart_rows.proofs.chart_labels.ReadyLaws.{ready-facts}
 use Rattle.chart_rows.proofs.chart_labels.LabelSteps.{few-numbered}
-use Rattle.translator.proofs.ImageSteps.{image-refused, image-few, image-room, image-fits}
-use native.Mathlib.Omega.{arith}
+use Rattle.translator.proofs.ImageSteps.{image-refused, image-fits}
 use Rattle.translator.proofs.translating.write_image.Goals as goal
 
 pub overflow_add-highest-2 : goal.overflow_add-highest-2
@@ -24,18 +22,6 @@ size_refusal-requires c =
 pub returns-in-Some : goal.returns-in-Some
 returns-in-Some c =
     image-refused _ _ _ _ _ c.requires.highest_value c.note_nodes-own.ensures.0 c.size_refusal.ensures _ c.in-Some.is
-
-pub put_image-requires : goal.put_image-requires
-put_image-requires c =
-    let schemed = c.requires.highest_value in
-    let owned = c.note_nodes-own.ensures.0 in
-    let settled = c.size_refusal.ensures in
-    record {
-      noted = c.note_nodes-own.ensures.1;
-      sizes = record { schemed = schemed; owned = owned; rowed = refl };
-      few = image-few _ c.args.out.now _ _ _ schemed owned settled c.in_default.is;
-      room = image-room _ c.args.out.now _ _ _ schemed owned settled c.in_default.is;
-    }
 
 pub returns : goal.returns
 returns c =

@@ -1,8 +1,6 @@
 -- `words::graph::enlist` meets its contract: a mark that is there already, or out of range, changes nothing.
-use mathlib.Core.Path.{sym}
-use native.Mathlib.Omega.{arith}
+use Rattle.std.proofs.Common.{sym, arith, rules}
 use Rattle.words.proofs.graph.Enlisted.{mark-new, mark-out, mark-there, list-room, enlist-new, enlist-same}
-use Rattle.std.proofs.Common.{rules}
 use Rattle.words.proofs.graph.enlist.Goals as goal
 
 pub returns-then-marks-v : goal.returns-then-marks-v

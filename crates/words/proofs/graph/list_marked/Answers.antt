@@ -1,10 +1,6 @@
-use Prim.Native.Nat.{ℕ, ◌+◌}
-use mathlib.Core.Path.{refl, sym, subst}
-use mathlib.Core.List.{List}
-use native.Mathlib.Omega.{arith}
+use Rattle.std.proofs.Common.{ℕ, ◌+◌, refl, sym, subst, List, arith, rules}
 use Rattle.words.proofs.graph.MarkedNodes.{Writing, writing-none, writing-few, writing-yes, writing-no, writing-done}
 use Rattle.words.proofs.graph.list_marked.Goals.{then-marks-v, else-marks-v}
-use Rattle.std.proofs.Common.{rules}
 use Rattle.words.proofs.graph.list_marked.Goals as goal
 
 pub loop-v-init : goal.loop-v-init

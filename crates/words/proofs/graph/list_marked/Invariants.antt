@@ -1,7 +1,5 @@
 -- `words::graph::list_marked` meets its contract: the marked nodes passed are written, in their order.
-use Prim.Native.Nat.{◌≤◌}
-use mathlib.Core.Path.{◌≡◌}
-use lib.ListN.{length}
+use Rattle.std.proofs.Common.{◌≤◌, ◌≡◌, length}
 use Rattle.words.proofs.graph.MarkedNodes.{Writing}
 use Rattle.words.proofs.graph.list_marked.Given as goal
 

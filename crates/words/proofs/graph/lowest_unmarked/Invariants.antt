@@ -1,7 +1,5 @@
 -- `words::graph::lowest_unmarked` meets its contract: the loop keeps what is left to search.
-use Prim.Native.Nat.{◌-◌}
-use mathlib.Core.Bool.{not}
-use lib.ListN.{length}
+use Rattle.std.proofs.Common.{◌-◌, not, length}
 use Rattle.words.specs.lists.Numbers.{lowest}
 use Rattle.words.proofs.lists.Searches.{Searching}
 use Rattle.words.specs.graph.Reach.{is_marked}

@@ -1,6 +1,5 @@
-use mathlib.Core.Path.{refl}
+use Rattle.std.proofs.Common.{refl, rules}
 use Rattle.words.proofs.lists.Fills.{values-none, values-turn, values-list}
-use Rattle.std.proofs.Common.{rules}
 use Rattle.text.proofs.frames.write.put_bytes.Goals as goal
 
 pub loop-k-init : goal.loop-k-init

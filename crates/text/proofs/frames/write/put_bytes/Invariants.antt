@@ -1,5 +1,5 @@
 -- `text::frames::write::put_bytes` meets its contract: the bytes passed stand in the buffer.
-use lib.ListN.{length, get_or}
+use Rattle.std.proofs.Common.{length, get_or}
 use Rattle.words.proofs.lists.Fills.{ValuesFrom}
 use Rattle.text.proofs.frames.write.put_bytes.Given as goal
 

@@ -1,9 +1,6 @@
-use Prim.Native.Nat.{◌<◌}
-use native.Mathlib.Omega.{arith}
-use lib.ListN.{get_or}
+use Rattle.std.proofs.Common.{◌<◌, arith, get_or, rules}
 use Rattle.text.proofs.frames.FrameLoops.{digits-none, digits-turn, digits-end}
 use Rattle.text.proofs.frames.TextLoops.{frame-put}
-use Rattle.std.proofs.Common.{rules}
 use Rattle.text.proofs.frames.write.put_nth.Goals as goal
 
 pub loop-k-init : goal.loop-k-init

@@ -1,7 +1,6 @@
-use mathlib.Core.Path.{refl}
+use Rattle.std.proofs.Common.{refl, rules}
 use Rattle.words.proofs.lists.Fills.{pieces_none}
 use Rattle.text.proofs.frames.TextLoops.{text-turn, text-end}
-use Rattle.std.proofs.Common.{rules}
 use Rattle.text.proofs.frames.write.put_text.Goals as goal
 
 pub loop-f-init : goal.loop-f-init

@@ -1,5 +1,5 @@
 -- `translator::label_text::put_fixed`: two frames, one after the other.
-use mathlib.Core.Path.{refl}
+use Rattle.std.proofs.Common.{refl}
 use Rattle.translator.proofs.label_text.LabelPuts.{fixed-done}
 use Rattle.translator.proofs.label_text.label_frames.put_fixed.Goals as goal
 

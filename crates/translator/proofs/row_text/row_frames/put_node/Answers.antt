@@ -1,7 +1,6 @@
 -- `translator::row_text::put_node`: by kind, as the rows are counted.
-use mathlib.Core.Path.{◌≡◌, refl, sym, ◌∙◌}
+use Rattle.std.proofs.Common.{◌≡◌, refl, sym, ◌∙◌, get_or, arith}
 use lib.Bits.{and_self}
-use lib.ListN.{get_or}
 use Rattle.text.specs.frames.Frame.{size}
 use Rattle.chart_rows.specs.chart_labels.Labels.{label}
 use Rattle.chart_rows.specs.Rows.{rows_of}
@@ -12,7 +11,6 @@ use Rattle.chart_rows.proofs.NumberLaws.{small-number}
 use Rattle.chart_rows.proofs.RowSteps.{no_rows, own-rows, own-mask, other-entered, function-kind}
 use Rattle.translator.proofs.label_text.Puts.{nothing_put, room_as, done-as}
 use Rattle.translator.proofs.row_text.NodePuts.{node-none, node-function, node-condition, node-other}
-use native.Mathlib.Omega.{arith}
 use Rattle.translator.proofs.row_text.row_frames.put_node.Goals as goal
 
 pub returns-then-from-lt2 : goal.returns-then-from-lt2

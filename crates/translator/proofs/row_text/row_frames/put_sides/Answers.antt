@@ -1,6 +1,5 @@
 -- `translator::row_text::put_sides`: the rows of the 0 side, then those of the 1 side.
-use mathlib.Core.Path.{refl}
-use lib.ListN.{get_or}
+use Rattle.std.proofs.Common.{refl, get_or}
 use Rattle.text.specs.frames.Frame.{size}
 use Rattle.chart_rows.specs.chart_labels.Labels.{label}
 use Rattle.translator.specs.path_text.inner.RowBytes.{rows_bytes}
