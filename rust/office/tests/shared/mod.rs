@@ -4,6 +4,7 @@
 
 pub mod browser;
 pub mod called;
+pub mod played;
 pub mod sheets;
 
 use std::path::{Path, PathBuf};
