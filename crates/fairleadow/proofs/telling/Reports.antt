@@ -1,7 +1,6 @@
 -- What is told of a refused tick and of a finished one, and of an answer that gives an outcome.
 use Rattle.std.proofs.Common.{if◌then◌else◌}
 use Prim.Native.Nat.{ℕ}
-use mathlib.Core.Bool.{Bool}
 use mathlib.Core.Path.{◌≡◌, ◌∙◌, ap, subst}
 use lib.Dec.{eqb}
 use Rattle.text.specs.frames.Answer.{Reply, reply_number}
