@@ -1,4 +1,3 @@
-pub mod CoveringCases
 pub mod Together
 pub mod Hits
 pub mod WordCount

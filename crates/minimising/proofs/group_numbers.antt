@@ -2,4 +2,3 @@ pub mod Numbering
 pub mod Led
 pub mod Renumbered
 pub mod NumberCases
-pub mod GroupCases

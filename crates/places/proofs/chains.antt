@@ -3,4 +3,3 @@ pub mod Longest
 pub mod Circles
 pub mod Masks
 pub mod CallMasks
-pub mod PlaceCases
