@@ -51,16 +51,15 @@ def laws_in(row, program, files_with):
             near = {file for file in places if file.split("/")[0] in crates}
             named |= {(file, name) for file in near or places}
         here |= inside
-    astray = []
     for file in files - {file for file, _ in here}:
         here |= {(file, name) for name in program.file(file).public}
-        astray += [] if program.file(file).public else [f"a law of {file}"]
     return named | here
 
 
 def laws_of(row, program, files_with):
-    """The same of a row of docs/TRACE.md, where a name that stands for no law is told."""
+    """The same of a row of docs/TRACE.md, where a name that stands for no law is told, and a file without one."""
     named = laws_in(row, program, files_with)
+    astray = [f"a law of {file}" for file in files_of(row, program) - {file for file, _ in named}]
     astray += [name for name in proved_as(row) if name not in {other for _, other in named}]
     for names, file in re.findall(NAMES + r" \((\w+/proofs/[\w/]+)", row):
         astray += [f"{file}.{name}" for name in names_in(names) if not program.file(file) or name not in program.file(file).items]

@@ -7,7 +7,7 @@ is cited is told from the other; a name that an item binds itself cites nothing.
 from laws import declaring, laws_in
 
 # the history of the port tells what it found, and not what is there
-HISTORY = "docs/PORT.md"
+HISTORY = "docs/landings/port.md"
 # what ends the names behind a word, and what does where the word binds them
 ENDS = {"(", ")", "{", "}", ":", ";", ",", "=", "\n", "λ", "→", "↦", "|"}
 BINDING = {"(": ":", "{": ":", "|": "↦", "\n": ":=", "let": ":=", "λ": ""}
