@@ -12,11 +12,6 @@ use Rattle.walk.proofs.Trace.{Open, WalkPosition, stop_tick, tick_at, Good, view
 use Rattle.walk.proofs.Drops.{is_call_stop}
 use Rattle.agreement.specs.Agreement.{is_full_call}
 
--- a code k of a call, where the handler is first (f), there is none (z), as many are open as places (e)
-made : (k : ℕ) → 16 < k → (k ≡ 96 → ⊥) → (f z e : Bool)
-    → let code = (if not f && not z && e then 96 else k) in (leb 16 code && not (eqb code 96) && e) ≡ ((f || z) && e)
-made k l other f z e = grind (arith, common_steps)
-
 module _ (c : Chart) (facts : Facts c) (n : ℕ) where
   full_by : (x : Open) (o : ℕ) (f : Bool) → x.node < size c → {s : Stop} → View c x.node s
       → is_full_call n (stop_tick (is_dropping n c f o) o x s) ≡ (is_call_stop s && ((f || eqb (handler c) 0) && eqb o n))

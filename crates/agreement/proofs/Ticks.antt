@@ -37,9 +37,6 @@ abbrev pub run_from_position : Chart → ℕ → Binding → List ℕ → WalkPo
 run_from_position c n s ws x =
     let us = signals s ws in run_by_ticks c n s (bound n (trace n c us x)) (trace n c us x) (stand c n us x) (length ws)
 
-abbrev ran : List ℕ → List ℕ → State → Verdict → MachineRun
-ran ms ks s v = record { masks = ms; codes = ks; state = s; verdict = v }
-
 -- the walk stands at a good position, with room for its node
 pub record StandsWell (c : Chart) (n : ℕ) (x : WalkPosition) : Type 0 where
   pub low : length x.callers < n
@@ -47,15 +44,6 @@ pub record StandsWell (c : Chart) (n : ℕ) (x : WalkPosition) : Type 0 where
 
 module _ (c : Chart) (n : ℕ) (s : Binding) where
   -- ---- a tick that is no call at a full stack leaves room for the node's label
-  deep_back : (ks : List Open) (w : ℕ) (b : Results) (f : Bool) → length ks < n → length (position_returned c ks w b f).callers < n
-  deep_back [] w b f low = low
-  deep_back (k ∷ ks) w b f low = omega arith
-
-  deep-call : (x : Open) (ks : List Open) (h k code : ℕ) (d : Results) (f : Bool) → length ks < n → 16 ≤ code → (code ≡ 96 → ⊥) → (t : Bool)
-      → (leb 16 (if t then 96 else code) && not (eqb (if t then 96 else code) 96) && eqb (suc (length ks)) n) ≡ false
-      → length (position_called c x ks h k d f t).callers < n
-  deep-call x ks h k code d f low l other true q = grind (arith, common_steps)
-  deep-call x ks h k code d f low l other false q = grind (arith, common_steps)
 
   deep-by : Facts c → (x : Open) (ks : List Open) (b : Results) (f : Bool) (w : Signal)
       → x.node < size c → length ks < n → (t : Bool) → {z : Stop}

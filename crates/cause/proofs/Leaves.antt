@@ -134,14 +134,6 @@ module _ (i : Image) (sound : SoundImage i) (s : State) (f : Fits i s) where
   }
 
   -- ---- a call, and home
-  full-other : (m : ℕ) (t : Bool) → Other (if t then stopped 17
-      else finished m 96 (state_alone s (entry_at i i.handler) i.handler (cleared_results i.handler bits)))
-  full-other m true = λ e. omega arith
-  full-other m false = tt
-
-  pushed-other : (m code h k : ℕ) (t : Bool) → Other (pushed_tick i s m code h k bits t)
-  pushed-other m code h k true = full-other m (eqb i.handler 0 || is_of_handler i (place_at s 0))
-  pushed-other m code h k false = tt
 
   calls : (code : ℕ) → is_call x ≡ true
       → ((w : ℕ) → tick i s w ≡ pushed_tick i s x.mask code x.called (server_of s.serving x.called) bits (leb s.size s.depth))

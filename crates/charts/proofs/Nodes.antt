@@ -173,8 +173,6 @@ module _ (c : Chart) (a : SoundChart c) where
   arc1 v l n = arc-end v (next1 c v) l (in-arcs1 c v n (kinds v l))
 
   -- ---- calls: 7
-  call-of : (v k : ℕ) → v < size c → kind c v ≡ k → has_bad_call_as c v (kind_of k) ≡ false
-  call-of v k l e = subst (λ (k : ℕ). has_bad_call_as c v (kind_of k) ≡ false) e (a.good_call v l)
 
   pub calls : (v : ℕ) → v < size c → kind c v ≡ 2 → (argument c v ≡ 0 → ⊥) → (2 ≤ argument c v) × (argument c v ≤ schemes c)
   calls v l k n = grind (arith, common_steps)

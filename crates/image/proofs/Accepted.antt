@@ -68,12 +68,6 @@ pub fields-same : (x y : Label)
     && eqb x.mask y.mask) ≡ true → x ≡ y
 fields-same x y e = grind (arith, common_steps)
 
-called-told : (b : List ℕ) (x : Label) → has_bad_called b x ≡ false → (x.kind ≡ 0 → ⊥) → (2 ≤ x.called) × (x.called ≤ scheme_count b)
-called-told b x e n = grind (arith, common_steps)
-
-plain-told : (b : List ℕ) (x : Label) → has_bad_called b x ≡ false → x.kind ≡ 0 → x.called ≡ 0
-plain-told b x e k = grind (arith, common_steps)
-
 label-told : (b : List ℕ) (l : ℕ) (x : Label) → x.mask < 4294967296 → is_bad_label b (suc (suc l)) x ≡ false → SoundLabel (scheme_count b) x
 label-told b l x small e = grind (arith, common_steps)
 

@@ -119,9 +119,6 @@ module _ (i : Image) (b : List ℕ) (S : SoundImage i) (R : Reads i b) where
       (empty b (suc h) 3 7 (λ k m. R.entry h (3 + k) l (omega arith) ∙ zeros (16 ∷ suc h ∷ get_or i.entries h 0 ∷ []) 7 k m))
       (ap not (ap (is_within b (suc h)) (R.entry h 2 l (omega arith)) ∙ within-true (suc h) (get_or i.entries h 0) (S.starts h l)))
 
-  called-fine : (x : Label) → SoundLabel (length i.entries) x → has_bad_called b x ≡ false
-  called-fine x L = grind (arith, common_steps)
-
   label-fine : (l : ℕ) → l < length i.labels → is_bad_label b l (nth_label i l) ≡ false
   label-fine zero h = grind (arith, common_steps)
   label-fine (suc zero) h = grind (arith, common_steps)

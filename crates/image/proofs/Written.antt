@@ -58,8 +58,6 @@ module _ (i : Image) where
       ∙ get_d_map row_frame i.rows k no_row [] h
 
 -- ---- ten bytes each
-called-small : (n : ℕ) (x : Label) → n ≤ 16 → SoundLabel n x → x.called < 256
-called-small n x h L = grind (arith, common_steps)
 
 handler-small : (i : Image) → SoundImage i → i.handler < 256
 handler-small i S = grind (arith, common_steps)

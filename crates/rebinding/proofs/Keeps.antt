@@ -68,9 +68,6 @@ module _ (text : List ℕ) (passes : image_verdict text ≡ fine) (s : State) (h
   abbrev image : Image
   image = decoded_image (contents text)
 
-  abbrev bars : Bool
-  bars = is_bad_rebinding (length image.entries) image.handler h k
-
   pub rebind-fits : Sized s → is_unfit image s ≡ false → is_unfit image (rebind text s h k).state ≡ false
   unfolding rebind
   rebind-fits z u = grind (arith, common_steps, image-sound, rebinding-unfit)

@@ -72,9 +72,6 @@ module _ (b : List ℕ) (f : ℕ) where
   pub frame-named : (l : ℕ) → f < size b → chosen_frame (found_at b l f) ≡ f
   frame-named l h = ap chosen_frame (at-frame l h)
 
-pub none_named : (b : List ℕ) (l : ℕ) → size b ≤ NO_FRAME → chosen_frame (found_at b l NO_FRAME) ≡ NO_FRAME
-none_named b l h = ap chosen_frame (past-table b NO_FRAME l h)
-
 module _ (b : List ℕ) (best f : ℕ) (inside : f < size b) where
   pub better-only : size b ≤ best → BetterOf b best f f
   better-only h l = at-frame b f l inside ∙ sym (ap (λ (x : Choice). better_choice x (row f (row_on b l f))) (past-table b best l h))
@@ -87,9 +84,6 @@ module _ (b : List ℕ) (l w bit first end : ℕ) where
 
   abbrev pub Searched : ℕ → ℕ → Type 0
   Searched f best = better_choice (found_at b l best) (best_from f) ≡ best_from first
-
-  pub search-start : (best : ℕ) → size b ≤ best → Searched first best
-  search-start best h = ap (λ (x : Choice). better_choice x (best_from first)) (past-table b best l h)
 
   module _ (f best : ℕ) (s : Searched f best) where
     pub search-over : end ≤ f → first ≡ first_on b l → end ≡ end_on b l → found_at b l best ≡ best_row l w bit (first_on b l) (rows_on b l)

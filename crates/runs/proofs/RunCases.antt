@@ -30,8 +30,6 @@ pub room-enough : (ws ms ks : List ℕ) → has_no_room ws ms ks ≡ false → R
 room-enough ws ms ks e = grind (arith, common_steps)
 
 -- ---- which numbers leave the bytes
-pub early-leaves : (n : ℕ) → 1 ≤ n → n ≤ 16 → is_without_change n ≡ true
-early-leaves n l h = and-true (leb 1 n) _ (le-leb 1 n l) (le-leb n _ (omega arith))
 
 pub late-writes : (n : ℕ) → 17 ≤ n → is_without_change n ≡ false
 late-writes n h = and_no (leb 1 n) _ (lt-leb n _ (omega arith))
@@ -111,25 +109,9 @@ pub stopped-replied : (n m : ℕ) → (n ≡ 0 → ⊥) → refusal n 0 m ≡ co
 stopped-replied n m h = sym (ap (λ (v : Verdict). counted_reply v m) (number-verdict n h))
 
 -- ---- one tick by the loop over one word
-verdict-number : (k n : ℕ) → verdict_of k ≡ refused n 0 → k ≡ n
-verdict-number zero n v = let d : ◌≡◌ {A = ℕ} 0 1 = cc in absurd (omega arith)
-verdict-number (suc k) n v = cc
-
-verdict-none : (k : ℕ) → verdict_of k ≡ fine → k ≡ 0
-verdict-none zero v = refl
-verdict-none (suc k) v = let d : ◌≡◌ {A = ℕ} 0 1 = cc in absurd (omega arith)
 
 module _ (b before : List ℕ) (w : ℕ) (r : RunEnd) (mid ms ks : List ℕ)
     (ends : GivesRunEnd b before (w ∷ []) (0 ∷ []) (0 ∷ []) r mid ms ks) where
-  abbrev made : MachineTick
-  made = tick (table_image b) (state_of before) w
-
-  abbrev only : MachineTick → MachineRun
-  only x = run_after (state_of before) (λ t. ticks (table_image b) t []) x
-
-  one_word : ticks (table_image b) (state_of before) (w ∷ []) ≡ only made
-  unfolding ticks
-  one_word = refl
 
   abbrev told : TickEnd
   told = record { number = r.number; mask = get_or ms 0 0; code = get_or ks 0 0 }

@@ -24,14 +24,6 @@ use Rattle.spindles.proofs.spindle_places.Depths.{Deepens, called-few, tick-deep
 use Rattle.spindle_calls.specs.NoPlace.{NoPlaceExactly}
 use Rattle.runs.proofs.machine.OneTick as one
 
--- ---- a finished tick ends deeper exactly where it is a call
-module _ (code d after : ℕ) (deepens : after + places_returned code d + places_given_back code d ≡ d + places_called code d) where
-  call-deeper : places_called code d ≡ 1 → d < after
-  call-deeper e = grind (arith, common_steps)
-
-  deeper-call : d < after → places_called code d ≡ 1
-  deeper-call l = grind (arith, common_steps)
-
 -- ---- the reply by what the tick is found to be
 module _ (states : List State) (taken k : ℕ) (room : taken ≤ 64) where
   abbrev s : State

@@ -31,21 +31,6 @@ call-counts f zero h (observed_rebinding t k n g) z = grind (arith, common_steps
 call-counts f zero h (observed_spin t k w y) (hears_no d c e) = grind (arith, common_steps)
 call-counts f zero h (observed_spin t k w y) (hears_tick d n m c e) = grind (arith, common_steps)
 
--- the tick that it makes, if any
-heard-done : {d : ℕ} {r : SpinOutcome} {y : ObservedTick} → Hears d r y → is_success r.reply ≡ eqb y.number 0
-heard-done {y = y} (hears_no d c e) = d ∙ sym e
-heard-done {y = y} (hears_tick d n m c e) = d ∙ sym (eq-eqb y.number 0 n)
-
-heard-made : (s : Binding) (w : ℕ) {d : ℕ} {r : SpinOutcome} {y : ObservedTick} → Hears d r y → is_success r.reply ≡ true
-    → ◌≡◌ {A = FinishedTick} (record { signal = record { word = w; binding = s }; mask = r.mask; code = r.code })
-    (record { signal = record { word = w; binding = s }; mask = y.mask; code = y.code })
-heard-made s w (hears_no d c e) q = grind (arith, common_steps)
-heard-made s w (hears_tick d n m c e) q = grind (arith, common_steps)
-
-made-same : (a b b' : Bool) (p p' : FinishedTick) (q q' : List FinishedTick) → b ≡ b' → (b ≡ true → p ≡ p') → q ≡ q'
-    → (if a && b then p ∷ q else q) ≡ (if a && b' then p' ∷ q' else q')
-made-same a b b' p p' q q' e f g = grind (arith, common_steps)
-
 -- ---- any number of calls
 pub record CallsRow (h : Head) (said : List ObservedCall) (last : Head) : Type 0 where
   pub left_is : head_after_all h (map call_of said) ≡ last

@@ -49,10 +49,6 @@ unfolding live_spin
 live-spin-by b states taken k w = grind (arith, common_steps, live-tick-by)
 
 -- ---- a state put back where it was
-pub set_same : (states : List State) (k : ℕ) → set states k (state_at states k) ≡ states
-set_same [] k = refl
-set_same (s ∷ states) zero = refl
-set_same (s ∷ states) (suc k) = ap (λ (ss : List State). s ∷ ss) (set_same states k)
 
 -- a tick that is refused takes no place and leaves all
 pub kept_by : (states : List State) (taken k n i : ℕ)
@@ -105,10 +101,6 @@ module _ (v : Verdict) (i : Image) (states : List State) (taken k w : ℕ) where
   full_by : head_verdict v states taken k ≡ fine → (u : Verdict) (d : MachineTick) → (advance_by s u d).reply ≡ refusal 17 0 0
       → (outcome_spun_on (head_verdict v states taken k) states taken k (λ _. advance_by s u d)).reply ≡ refusal 17 0 0
   full_by h u d e = grind (arith, common_steps)
-
-  level_by : head_verdict v states taken k ≡ fine → (x : TickOutcome) → x.state.depth ≤ s.depth
-      → (outcome_spun_on (head_verdict v states taken k) states taken k (λ _. x)).reply ≡ x.reply
-  level_by h x l = grind (arith, common_steps)
 
 pub full-first : FullFirst
 unfolding FullFirst spin

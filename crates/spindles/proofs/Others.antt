@@ -21,15 +21,6 @@ pub record Tried (v : Verdict) (states : List State) (taken k : ℕ) : Type 0 wh
 pub tried : (v : Verdict) (states : List State) (taken k : ℕ) → head_verdict v states taken k ≡ fine → Tried v states taken k
 tried v states taken k e = grind (arith, common_steps)
 
--- ---- a call of another spindle leaves this one's state
-module _ (k : ℕ) (states : List State) (taken j : ℕ) (ne : k ≡ j → ⊥) where
-  other-by : (x : TickOutcome) → state_at (outcome_spun_by states taken j x).states k ≡ state_at states k
-  other-by x = grind (arith, common_steps)
-
-  other-on : (v : Verdict) (x : TickOutcome) → state_at (outcome_spun_on v states taken j (λ _. x)).states k ≡ state_at states k
-  other-on (refused n i) x = refl
-  other-on fine x = other-by x
-
 pub others-left : OthersLeft spin
 unfolding OthersLeft spin
 others-left t states taken k w j ne = grind (arith, common_steps)
@@ -41,11 +32,6 @@ live-others-left b states taken k w j ne = grind (arith, common_steps)
 -- ---- two lists that differ in other states alone, but for their depths
 module _ (v : Verdict) (go : State → TickOutcome) (states states' : List State) (taken k : ℕ) (l : length states ≡ length states')
     (d : depths states ≡ depths states') (s : state_at states k ≡ state_at states' k) where
-  same-verdict : head_verdict v states taken k ≡ head_verdict v states' taken k
-  same-verdict = grind (arith, common_steps)
-
-  alike-by : k < length states → (x : TickOutcome) → AlikeSpins k (outcome_spun_by states taken k x) (outcome_spun_by states' taken k x)
-  alike-by m x = grind (arith, common_steps)
 
   alike : AlikeSpins k (outcome_spun_on (head_verdict v states taken k) states taken k (λ _. go (state_at states k)))
       (outcome_spun_on (head_verdict v states' taken k) states' taken k (λ _. go (state_at states' k)))

@@ -54,8 +54,6 @@ module _ (b : List ℕ) where
   entry-at e h k = grind (arith, common_steps, get_or-map-range, counts-told)
 
 -- ---- which values the fields have
-clipped : (most x : ℕ) → (if ltb most x then 0 else x) ≤ most
-clipped most x = grind (arith, common_steps)
 
 -- of label l in an image of n schemes
 pub record LabelValues (n l : ℕ) (x : Label) : Type 0 where
@@ -63,11 +61,6 @@ pub record LabelValues (n l : ℕ) (x : Label) : Type 0 where
   pub three : x.kind ≡ 3 → l ≡ 1
   pub four : 4 ≤ x.kind → l ≡ 0
   pub schemes : x.called ≤ n
-
-values-on : (b : List ℕ) (l : ℕ) → LabelValues (scheme_count b) l (label_on b l)
-values-on b zero = grind (arith, common_steps)
-values-on b (suc zero) = grind (arith, common_steps)
-values-on b (suc (suc l)) = grind (arith, common_steps)
 
 pub label-values : (b : List ℕ) (l : ℕ) → LabelValues (scheme_count b) l (table_label b l)
 label-values b l = grind (arith, common_steps)

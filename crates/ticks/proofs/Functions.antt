@@ -27,9 +27,6 @@ use Rattle.ticks.specs.Functions.{is_at_full_call, CallClears, Drop, Drops, is_m
 use Rattle.ticks.specs.Functions.{more, binding_changed, return_tick, ZeroRow}
 
 -- ---- a finished call
-abbrev Cleared : ℕ → MachineTick → Type 0
-Cleared h (finished m code t) = result_of h t.bits ≡ false
-Cleared h (stopped n) = Unit {0}
 
 pub call-clears : CallClears
 unfolding CallClears tick

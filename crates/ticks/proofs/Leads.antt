@@ -53,9 +53,6 @@ module _ (i : Image) (sound : SoundImage i) where
   pub not-return : (l : ℕ) → l < length i.labels → ((label_at i l).kind ≡ 3 → ⊥) → l ≡ 1 → ⊥
   not-return l m k e = grind (arith, common_steps)
 
-  end-other : (h : ℕ) → 2 ≤ h → end_of h ≡ 1
-  end-other h l = ap (λ (t : Bool). if t then 0 else 1) (ne_eqb h 1 (λ p. omega arith))
-
   -- what a scheme of 2 and up may lead to may stand above a call that it serves
   abbrev pub is_able_to_stand_over : ℕ → ℕ → Bool
   is_able_to_stand_over k u = eqb u 1 || eqb (label_at i u).owner k
@@ -63,18 +60,12 @@ module _ (i : Image) (sound : SoundImage i) where
   pub reaches-over : (k u : ℕ) → 2 ≤ k → Reaches i k u → is_able_to_stand_over k u ≡ true
   reaches-over k u l r = grind (arith, common_steps)
 
-  over-owned : (k l : ℕ) → (l ≡ 1 → ⊥) → is_able_to_stand_over k l ≡ true → (label_at i l).owner ≡ k
-  over-owned k l n e = grind (arith, common_steps)
-
   -- ---- schemes that may be called
   pub enters : (k : ℕ) → 2 ≤ k → k ≤ length i.entries → Reaches i k (entry_at i k)
   enters k two most = grind (arith, common_steps)
 
   -- ---- a label under the one above it: number h is called, scheme k serves, and a is its label
   module _ (l h k a : ℕ) where
-    abbrev calls : Bool
-    calls = is_call (label_at i l) && eqb h (label_at i l).called
-
     pub carry-told : is_able_to_carry i l h k a ≡ true
         → (is_call (label_at i l) ≡ true) × (h ≡ (label_at i l).called) × (is_callable i k ≡ true) × (is_able_to_stand_over k a ≡ true)
     carry-told e = grind (arith, common_steps)
@@ -87,10 +78,6 @@ module _ (i : Image) (sound : SoundImage i) where
   pub carry-leads : (l h k a u : ℕ) → (a ≡ 1 → ⊥) → is_able_to_carry i l h k a ≡ true → Reaches i (label_at i a).owner u
       → is_able_to_carry i l h k u ≡ true
   carry-leads l h k a u n e r = grind (arith, common_steps)
-
-  -- and what scheme 1 may lead to is owned by it
-  reaches-first : (u : ℕ) → Reaches i 1 u → (label_at i u).owner ≡ 1
-  reaches-first u r = grind (arith, common_steps)
 
   -- ---- the bottom: what scheme 1 leads to, and what the handler leads to;
   -- p and q say whether number and server are those of the one or the other
@@ -106,9 +93,6 @@ module _ (i : Image) (sound : SoundImage i) where
 
   pub home-bottom : (q : Bool) → has_bad_bottom_by 0 true q ≡ false
   home-bottom q = first-bottom 0 true q (ap (λ (x : Label). x.owner) sound.home) refl
-
-  handler-deep : (l : ℕ) → is_of_handler i l ≡ true → (2 ≤ i.handler) × (i.handler ≤ length i.entries)
-  handler-deep l e = grind (arith, common_steps)
 
   pub bottom-leads : (l u : ℕ) (p q : Bool) → (l ≡ 1 → ⊥) → has_bad_bottom_by l p q ≡ false
       → Reaches i (label_at i l).owner u → has_bad_bottom_by u p q ≡ false

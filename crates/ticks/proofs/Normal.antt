@@ -26,33 +26,7 @@ Normal s (finished m k t) = Same s t
 Normal s (stopped n) = (17 ≤ n) × (n ≤ 18)
 
 module _ (i : Image) (s : State) where
-  -- one label moved in what is already the same
-  moved-normal : (m code : ℕ) (t : State) (k : ℕ) (f : Found) → Same s t → Normal s (moved_tick m code t k f)
-  moved-normal m code t k (found l) e = grind (arith, common_steps)
-  moved-normal m code t k missing e = grind (arith, common_steps)
-
   module _ (b : Results) (e : length b ≡ length s.bits) where
-    bits-same : Same s (with_bits s b)
-    bits-same = grind (arith, common_steps)
-
-    alone-same : (l h : ℕ) → Same s (state_alone s l h b)
-    alone-same l h = grind (arith, common_steps)
-
-    dropping-same : Same s (popped_state s b)
-    dropping-same = grind (arith, common_steps)
-
-  full-normal : (m : ℕ) (b : Results) → length b ≡ length s.bits → Normal s (full_tick i s m b)
-  full-normal m b e = grind (arith, common_steps)
-
-  module _ (b : Results) (e : length b ≡ length s.bits) where
-    pushed-normal : (m code h k : ℕ) (t : Bool) → Normal s (pushed_tick i s m code h k b t)
-    pushed-normal m code h k true = grind (arith, common_steps)
-    pushed-normal m code h k false = grind (arith, common_steps)
-
-    popped-normal : (w m : ℕ) (t : Bool) → Normal s (popped_tick i s w m b t)
-    popped-normal w m true = alone-same b e 0 1
-    popped-normal w m false = moved-normal m 3 _ (s.depth - 2) (row_leads i b (place_at s (s.depth - 2)) w) (dropping-same b e)
-
     by-normal : (w l : ℕ) (x : Label) (k : ℕ) → Normal s (tick_by i s w l x b (tick_kind k))
     by-normal w l x zero = grind (arith, common_steps)
     by-normal w l x (suc zero) = grind (arith, common_steps)

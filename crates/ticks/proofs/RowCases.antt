@@ -17,9 +17,6 @@ module _ (b : List ℕ) (l : ℕ) (z : declared.Label) (read : as_label z ≡ ta
   pub bit-called : z.kind ≡ 2 → bit ≡ (if result_of h bs then 1 else 0)
   bit-called k = e ∙ if-true (eqb z.kind 2) (if result_of h bs then 1 else 0) 2 (eq-eqb z.kind 2 k)
 
-  bit-none : (z.kind ≡ 2 → ⊥) → bit ≡ 2
-  bit-none k = e ∙ if-false (eqb z.kind 2) (if result_of h bs then 1 else 0) 2 (ne_eqb z.kind 2 k)
-
   pub bit-decides : NumberedLabel b l → Deciding b l bit
   bit-decides g = grind (arith, common_steps)
 

@@ -149,9 +149,6 @@ module _ (b : List ℕ) (s : State) (y : TickAsked b s) where
     moved-deep m code t k (found u) h = record { some = h.some; most = h.most; small = h.small }
     moved-deep m code t k missing h = deep
 
-    full-deep : (m : ℕ) (bs : Results) → KeptDepth (full_tick i s m bs)
-    full-deep m bs = grind (arith, common_steps)
-
     pushed-deep : (m code h k : ℕ) (bs : Results) (t : Bool) → leb s.size s.depth ≡ t → KeptDepth (pushed_tick i s m code h k bs t)
     pushed-deep m code h k bs true e = grind (arith, common_steps)
     pushed-deep m code h k bs false e = grind (arith, common_steps)

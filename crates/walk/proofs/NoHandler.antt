@@ -49,11 +49,6 @@ module _ (go : Performer) (free : unbounded.Performer) (ih : Alike go free) (c :
       → course_after ts (go x ws b) ≡ alike (unbounded.course_after ts (free x ws b))
   alike-on ts x ws b = ap (course_after ts) (ih x ws b) ∙ alike-after ts (free x ws b)
 
-  alike-resume : (x : OpenScheme) (a : SchemeCall) (r : unbounded.Course)
-      → resumed_course go c x a (alike r) ≡ alike (unbounded.resumed_course free c x a r)
-  alike-resume x a (unbounded.spent ts) = refl
-  alike-resume x a (unbounded.ended ts w ws b) = alike-on ts (open_at c x.opened (a.resumed w b)) ws b
-
   module _ (d : ℕ → Bool) (never : (o : ℕ) → d o ≡ false) where
     alike-call : (x : OpenScheme) (a : SchemeCall) (ws : List ℕ) (b : Results)
         → call_course go c x a ws b (d x.opened) ≡ alike (unbounded.call_course free c x a ws b)

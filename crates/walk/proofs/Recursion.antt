@@ -34,11 +34,6 @@ abbrev Short : Performer → Type 0
 Short go = (x : OpenScheme) (ws : List Signal) (b : Results) → Shorter (length ws) (go x ws b)
 
 module _ (go : Performer) (ih : Short go) where
-  shorter-resume : (x : OpenScheme) (a : SchemeCall) (m : ℕ) (r : Course) → Shorter m r → Shorter m (resumed_course go x a r)
-  shorter-resume x a m (spent ts) h = grind (arith, common_steps)
-  shorter-resume x a m (ended ts w ws b) h = grind (arith, common_steps)
-  shorter-resume x a m (dropped ts ws b) h = grind (arith, common_steps)
-
   step : (ts : List Tick) (x : OpenScheme) (ws : List Signal) (b : Results) → Shorter (suc (length ws)) (course_after ts (go x ws b))
   step ts x ws b = shorter-after (length ws) _ ts (go x ws b) (omega arith) (ih x ws b)
 

@@ -27,9 +27,6 @@ module _ (b : List ℕ) (l w bit : ℕ) where
   abbrev all : List Row → ℕ
   all = mask_against_all l w bit
 
-  abbrev let-in : Row → Bool
-  let-in r = eqb r.bit 2 || eqb r.bit bit
-
   other_none : (r : Row) → (r.from ≡ l → ⊥) → mask_against l w bit r ≡ 0
   other_none r h = grind (arith, common_steps)
 

@@ -22,9 +22,6 @@ finished-none c ms e = grind (arith, common_steps, no_both, length-map-range, ma
 
 -- ---- the next nodes, the one on a 0 first
 module _ (c : Chart) (ms : List Bool) (v : ℕ) where
-  next-other : is_marked ms (next0 c v) ≡ false → next_unfinished c ms v ≡ (if is_marked ms (next1 c v) then next1 c v else size c)
-  next-other m = if-false (is_marked ms (next0 c v)) (next0 c v) (if is_marked ms (next1 c v) then next1 c v else size c) m
-
   module _ (a : ℕ) (p : a ≡ next0 c v) where
     pub next-first : is_marked ms a ≡ true → a ≡ next_unfinished c ms v
     next-first m = grind (arith, common_steps)
@@ -78,7 +75,6 @@ pub record Standing (c : Chart) (unfinished : List Bool) (path : List ℕ) (left
   pub before : (i : ℕ) → i < depth → get_or path i 0 < size c
 
 module _ (c : Chart) (ms : List Bool) (path : List ℕ) (left depth at : ℕ) (s : Standing c ms path left depth at) where
-
   module _ (r : ℕ) (q : r ≡ next_unfinished c ms at) (l : size c ≤ r) where
     pub standing-end : Finished c (set ms at false)
     standing-end = finished-more c ms s.finished at s.here (none_ahead c ms at s.finished.long r q l)

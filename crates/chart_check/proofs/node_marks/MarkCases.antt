@@ -22,38 +22,13 @@ use Rattle.charts.proofs.Meaning.{no-condition-arcs}
 use Rattle.chart_check.specs.node_marks.inner.MarkContracts.{marks_swept_to, Blank, ListedRoom}
 use Rattle.chart_check.proofs.node_marks.Sweeps.{swept_same}
 
--- ---- arcs
-module _ (c : Chart) (b : Bool) (v : ℕ) where
-  by-none : b ≡ true → (kind c v ≡ 3 → ⊥) → arcs_by c b v ≡ []
-  by-none t n = ap (λ b. if b then condition_arcs c v else arcs c v) t ∙ no-condition-arcs c v (ne_eqb (kind c v) 3 n)
-
-  by_all : (b ≡ true → kind c v ≡ 3) → arcs_by c b v ≡ arcs c v
-  by_all h = grind (arith, common_steps)
-
-  module _ (k : ℕ) (e : k ≡ kind c v) where
-
-    module _ (h : b ≡ true → k ≡ 3) where
-
--- none, the first, or both
-abbrev Shape : Chart → ℕ → List ℕ → Type 0
-Shape c v us = (us ≡ []) ⊎ ((us ≡ next0 c v ∷ []) ⊎ (us ≡ next0 c v ∷ next1 c v ∷ []))
-
-shape : (c : Chart) (b : Bool) (v : ℕ) → Shape c v (arcs_by c b v)
-shape c b v = grind (arith, common_steps)
-
 -- the arcs by their number
 module _ (c : Chart) (b : Bool) (v n : ℕ) (e : n ≡ length (arcs_by c b v)) where
-  as_long : (us : List ℕ) → arcs_by c b v ≡ us → n ≡ length us
-  as_long us q = e ∙ ap (λ (xs : List ℕ). length xs) q
-
   no-arc : n ≡ 0 → arcs_by c b v ≡ []
   no-arc z = grind (arith, common_steps)
 
   one-arc : n ≡ 1 → arcs_by c b v ≡ next0 c v ∷ []
   one-arc z = grind (arith, common_steps)
-
-  both-arcs : (n ≡ 0 → ⊥) → (n ≡ 1 → ⊥) → arcs_by c b v ≡ next0 c v ∷ next1 c v ∷ []
-  both-arcs some more = grind (arith, common_steps)
 
   -- a step for each node that they lead to, as it is marked or enlisted
   module _ {S : Type 0} (all : List ℕ → S) where

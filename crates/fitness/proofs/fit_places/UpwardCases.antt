@@ -83,9 +83,6 @@ module _ (i : Image) (s : State) where
   belongs-first g e = record { held = g; lower = λ j l. absurd (omega arith); bottom = e }
 
   module _ (number k : ℕ) (c : PassedPlaces number k) (here : k < s.depth) where
-    above : k - 1 + 1 ≡ k
-    above = omega (arith, c.some)
-
     -- whether the place below carries this one
     carried : is_carried i s (k - 1) ≡ (right number k && over k)
     carried = grind (arith, common_steps)

@@ -48,9 +48,6 @@ module _ (rs : List ℕ) (v : ℕ) (few : FewFrames rs) (inside : v < size rs) w
   front-size : size (take (10 * v) rs) ≡ v
   front-size = omega (arith, length-take-le (10 * v) rs room)
 
-  pub range-ends : (first_tried (size rs) rs v ≤ past_last (size rs) rs v) × (past_last (size rs) rs v ≤ node_count (size rs))
-  range-ends = grind (arith, common_steps)
-
   all-is : all_from rs v ≡ charts_done_before rs v (first_tried (size rs) rs v) (past_last (size rs) rs v)
   unfolding searched_charts
   all-is =

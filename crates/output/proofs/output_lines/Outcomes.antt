@@ -6,10 +6,6 @@ use Rattle.std.proofs.lemmas.Grind.{common_steps}
 use Rattle.console.specs.Input.{IsFrontOf, AppendsFront, LosesFirst, AppendsOver}
 use Rattle.output.specs.output_lines.Prints.{Prints}
 
--- what was printed is what is handed on
-pub printed-is : (x : List ℕ) (n : ℕ) (before after : List ℕ) → Prints x n before after → take n after ≡ x
-printed-is x n before after p = grind (arith, common_steps)
-
 module _ (output : List ℕ → List ℕ) (m : ℕ) (front : (xs : List ℕ) → output (take m xs) ≡ output xs) where
   -- whatever holds of what is handed on holds of the output
   handed : (P : List ℕ → Type 0) (input : Option (List ℕ)) (buffer before after : List ℕ) (n count : ℕ) → length buffer ≡ m

@@ -44,9 +44,6 @@ many-turn fine false true = refl
 many-turn fine false false = refl
 
 module _ (t : List ℕ) (s : State) (ms ks : List ℕ) where
-  none-short : has_no_room [] ms ks ≡ false
-  none-short = or-none (ltb (length ms) 0) (ltb (length ks) 0) (le-ltb (length ms) 0 (omega arith)) (le-ltb (length ks) 0 (omega arith))
-
   abbrev no_ticks : Verdict → RunOutcome
   no_ticks v = run_on v (λ _. ticks (decoded_image (contents t)) s []) s ms ks
 

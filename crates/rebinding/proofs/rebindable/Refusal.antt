@@ -12,11 +12,5 @@ module _ (H g h k : ℕ) where
     pub scheme-high : k ≤ H
     pub other : h ≡ g → ⊥
 
-  abbrev numbers : Bool
-  numbers = ltb h 2 || ltb H h
-
-  abbrev ranges : Bool
-  ranges = numbers || ltb k 2 || ltb H k
-
   pub allowed : is_bad_rebinding H g h k ≡ false → AllowedRebinding
   allowed e = grind (arith, common_steps)

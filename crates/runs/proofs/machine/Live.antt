@@ -10,10 +10,6 @@ use Rattle.runs.specs.TickOutcome.{tick_outcome, image_tick}
 use Rattle.runs.specs.machine.Live.{live_verdict, live_run, live_tick}
 use Rattle.runs.specs.machine.Prepared.{PreparedTable}
 
--- refusals 15 and 16
-abbrev tried : Image → State → List ℕ → List ℕ → List ℕ → Verdict
-tried i s words masks codes = next (when 15 (is_unfit i s)) λ _. when 16 (has_no_room words masks codes)
-
 module _ {t b : List ℕ} (p : PreparedTable t b) where
   pub live-run-is : (s : State) (ws ms ks : List ℕ) → live_run b s ws ms ks ≡ run t s ws ms ks
   unfolding live_run live_verdict run run_verdict

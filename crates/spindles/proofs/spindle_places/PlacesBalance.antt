@@ -50,10 +50,6 @@ module _ (h : Head) (q : KeptHead h) (k : ℕ) (l : k < 4) where
   abbrev put : State → Head
   put t = record { states = set h.states k t; taken = h.taken + t.depth - s.depth }
 
-  one : (p : Bool) → (if p then 1 else 0) ≤ 1
-  one true = omega arith
-  one false = omega arith
-
   put-room : (m code : ℕ) (t : State) → Deepens s.depth (finished m code t) → is_none_left s.depth t.depth h.taken ≡ false
       → h.taken + t.depth - s.depth ≤ 64
   put-room m code t d free = grind (arith, common_steps)

@@ -55,29 +55,10 @@ module _ (s : State) (sum taken : ℕ) (e : is_bad_record sum taken ≡ false) w
   turn-table : (b : List ℕ) (w : ℕ) → turn (when 11 (is_bad_table b)) s sum taken (live_tick b s w) ≡ turn_by s taken (live_tick b s w)
   turn-table b w = grind (arith, common_steps, live-tick-by, turn-ticks)
 
-record-holds sum taken depth e l = grind (arith, common_steps)
-
--- ---- what is settled after a tick
--- by the depths as they are read, and the test as it comes out
-module _ (before new : List ℕ) (ticked : TickAnswer) (taken d₀ d₁ : ℕ) (e₀ : d₀ ≡ depth_in before) (e₁ : d₁ ≡ depth_in new) (b : Bool)
-    (tested : b ≡ is_none_left d₀ d₁ taken) where
 
 module _ (before new after : List ℕ) (ticked : TickAnswer) (taken : ℕ) (r : SpinReport) where
   -- with the tick in place
   module _ (x : TickOutcome) (held : Held before x) (made : GivesTickOn x before ticked new) where
-    deep : depth_in new ≡ x.state.depth
-    deep = ap (λ (b : List ℕ). (state_of b).depth) made.bytes ∙ ap (λ (s : State). s.depth) held
-
-    turned : (b : Bool)
-        → r ≡ (if b then record { answer = Err NoPlace; taken = taken }
-        else record { answer = ticked; taken = taken + x.state.depth - depth_in before })
-        → after ≡ (if b then before else new)
-        → GivesTurnOn (if b then unchanged_turn 26 0 (state_of before) taken
-        else record { reply = x.reply; mask = x.mask; code = x.code; taken = taken + x.state.depth - depth_in before; state = x.state })
-        before r after
-    turned true e f = grind (arith, common_steps)
-    turned false e f = grind (arith, common_steps)
-
     settled-turns : GivesSettled before new ticked taken r after → GivesTurnOn (turn_by (state_of before) taken x) before r after
     settled-turns z = grind (arith, common_steps)
 

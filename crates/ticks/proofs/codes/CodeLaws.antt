@@ -38,17 +38,6 @@ kind-back (suc (suc (suc (suc zero)))) h l = refl
 kind-back (suc (suc (suc (suc (suc k))))) h l = absurd (omega arith)
 
 module _ (c : ℕ) where
-  one_more : (t : Bool) (m rest : Meaning) → (t ≡ true → Coded c m) → ((rest ≡ Unknown → ⊥) → Coded c rest)
-      → ((if t then m else rest) ≡ Unknown → ⊥) → Coded c (if t then m else rest)
-  one_more true m rest p q n = p refl
-  one_more false m rest p q n = q n
-
-  operation-coded : is_call_above 16 c ≡ true → Coded c (OperationCall (c - 16))
-  operation-coded e = omega (arith, leb-true 18 c (and_l (leb 18 c) (leb c 32) e))
-
-  function-coded : is_call_above 64 c ≡ true → Coded c (FunctionCall (c - 64))
-  function-coded e = omega (arith, leb-true 66 c (and_l (leb 66 c) (leb c 80) e))
-
   pub meaning-coded : (meaning_of c ≡ Unknown → ⊥) → Coded c (meaning_of c)
   unfolding meaning_of
   meaning-coded = grind (arith, common_steps)
