@@ -59,11 +59,6 @@ formed-chart t table zeros n F e = ap (take (10 * n)) (e ∙ read-fine 5888 t ze
 pub chart-length : (t c : List ℕ) (n : ℕ) → Formed t n → c ≡ contents t → length c ≡ 10 * n
 chart-length t c n F e = ap length e ∙ F.records
 
-pub chart-asked : (t c : List ℕ) (n : ℕ) → Formed t n → c ≡ contents t → (length c ≡ 10 * size c) × (size c ≤ 256)
-chart-asked t c n F e =
-    let l : length c ≡ 10 * n = chart-length t c n F e in
-    (omega arith, omega (arith, F.few))
-
 module _ (t out : List ℕ) where
   pub read-unformed : (a : Answer) → reply a ≡ verdict_reply (text_verdict 5888 t) (frame_count t) → (r : Refusal) → a ≡ Err r
       → GivesBuffer (read_chart t out) (Err r) out
@@ -112,9 +107,6 @@ whole c e =
     go : (m : ℕ) → Length 10 2560 m → 1 ≤ m / 10
     go zero l = absurd (l.some refl)
     go (suc m) l = omega (arith, l.whole)
-
-pub whole-asked : (c : Chart) → WholeRecords c → (length c ≡ 10 * size c) × (size c ≤ 256)
-whole-asked c w = (w.records, w.few)
 
 module _ (c : Chart) (out : List ℕ) where
   pub write-unwhole : is_bad_length 10 2560 (length c) ≡ true → GivesBuffer (write_chart c out) (Err BadLength) out
