@@ -52,9 +52,6 @@ formed-chart t table zeros n F e = grind (arith, common_steps, read-fine, front)
 pub chart-length : (t c : List ℕ) (n : ℕ) → Formed t n → c ≡ contents t → length c ≡ 10 * n
 chart-length t c n F e = ap length e ∙ F.records
 
-pub chart-asked : (t c : List ℕ) (n : ℕ) → Formed t n → c ≡ contents t → (length c ≡ 10 * size c) × (size c ≤ 256)
-chart-asked t c n F e = grind (arith, common_steps, chart-length)
-
 module _ (t out : List ℕ) where
   pub read-unformed : (a : Answer) → reply a ≡ verdict_reply (text_verdict 5888 t) (frame_count t) → (r : Refusal) → a ≡ Err r
       → GivesBuffer (read_chart t out) (Err r) out
@@ -89,9 +86,6 @@ pub record WholeRecords (c : Chart) : Type 0 where
 
 pub whole : (c : Chart) → is_bad_length 10 2560 (length c) ≡ false → WholeRecords c
 whole c e = grind (arith, common_steps, length-told)
-
-pub whole-asked : (c : Chart) → WholeRecords c → (length c ≡ 10 * size c) × (size c ≤ 256)
-whole-asked c w = (w.records, w.few)
 
 module _ (c : Chart) (out : List ℕ) where
   pub write-unwhole : is_bad_length 10 2560 (length c) ≡ true → GivesBuffer (write_chart c out) (Err BadLength) out

@@ -1,9 +1,9 @@
 -- The loop that writes the text of contents, frame by frame.
-use Rattle.std.proofs.Common.{◌≡◌, sym, ◌∙◌, ap, List, ℕ, ◌+◌, ◌*◌, ◌≤◌, ◌<◌, arith, length, get_or}
+use Rattle.std.proofs.Common.{◌≡◌, sym, ◌∙◌, ap, List, ℕ, ◌+◌, ◌*◌, ◌≤◌, ◌<◌, arith, length}
 use Rattle.std.proofs.lemmas.Grind.{common_steps}
 use Rattle.words.specs.lists.Sequences.{written}
 use Rattle.words.proofs.lists.Joins.{concat-map, length-concat-range}
-use Rattle.words.proofs.lists.Ranges.{length-map-range, map-count}
+use Rattle.words.proofs.lists.Ranges.{length-map-range}
 use Rattle.words.proofs.lists.Fills.{Pieces, pieces-turn, pieces-all}
 use Rattle.text.specs.frames.Frame.{size, field, ten_bytes_at, frame_text, text_of}
 use Rattle.text.proofs.frames.FrameLoops.{length-frame}
@@ -14,13 +14,6 @@ frame_of b f = frame_text (ten_bytes_at b f)
 pub frame-put : (b ten out out' : List ℕ) (at f : ℕ) → ten ≡ ten_bytes_at b f
     → out' ≡ written out at (frame_text ten) → out' ≡ written out at (frame_of b f)
 frame-put b ten out out' at f e q = q ∙ ap (λ (xs : List ℕ). written out at (frame_text xs)) e
-
--- ten bytes are their own frame 0
-pub frame-alone : (bs out out' : List ℕ) (at : ℕ) → length bs ≡ 10
-    → out' ≡ written out at (frame_of bs 0) → out' ≡ written out at (frame_text bs)
-frame-alone bs out out' at ten e =
-    e ∙ ap (λ (xs : List ℕ). written out at (frame_text xs))
-    (map-count (field bs 0) 0 bs 0 10 (sym ten) (λ i l. ap (λ (j : ℕ). get_or bs j 0) (omega arith)))
 
 module _ (b out₀ out : List ℕ) (at n f : ℕ) (done : Pieces (frame_of b) 23 out₀ out at n f) where
   pub text-turn : (out' : List ℕ) → at + 23 * n ≤ length out₀ → f < n → length out' ≡ length out

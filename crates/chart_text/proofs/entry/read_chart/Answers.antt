@@ -1,6 +1,6 @@
 -- `chart_text::entry::read_chart` meets its contract: each return is a case of the definition.
 use Rattle.std.proofs.Common.{sym, arith}
-use Rattle.chart_text.proofs.Entries.{Formed, formed, formed-chart, chart-length, chart-asked}
+use Rattle.chart_text.proofs.Entries.{Formed, formed, formed-chart, chart-length}
 use Rattle.chart_text.proofs.Entries.{read-unformed, read-unsound, read_short, read_done}
 use Rattle.std.proofs.lemmas.Result.{err_from_is_err_and}
 use Rattle.chart_text.proofs.entry.read_chart.Goals as goal
@@ -9,11 +9,6 @@ pub returns-in_err-count : goal.returns-in_err-count
 returns-in_err-count c =
     let p = err_from_is_err_and c.from_residual.result c.from_residual.ensures.1 in
     rw (p.1, p.2) (read-unformed _ _ _ c.read_text.ensures.result_value _ c.in_err-count.was)
-
-pub overflow_mul-end : goal.overflow_mul-end
-overflow_mul-end c =
-    let known : Formed c.args.text.now _ = formed _ _ _ c.read_text.ensures.result_value c.in_ok-count.was in
-    omega (arith, known.few)
 
 pub slice_bounds-table-end : goal.slice_bounds-table-end
 slice_bounds-table-end c =
@@ -25,12 +20,6 @@ slice_bounds-records-end c =
     let known : Formed c.args.text.now _ = formed _ _ _ c.read_text.ensures.result_value c.in_ok-count.was in
     let chart = formed-chart _ _ _ _ known c.read_text.ensures.out_after in
     sym (chart-length _ _ _ known chart)
-
-pub check_chart-requires : goal.check_chart-requires
-check_chart-requires c =
-    let known : Formed c.args.text.now _ = formed _ _ _ c.read_text.ensures.result_value c.in_ok-count.was in
-    let chart = formed-chart _ _ _ _ known c.read_text.ensures.out_after in
-    chart-asked _ _ _ known chart
 
 pub returns-in_err-check_chart : goal.returns-in_err-check_chart
 returns-in_err-check_chart c =
@@ -45,12 +34,6 @@ returns-then-out-end c =
     let chart = formed-chart _ _ _ _ known c.read_text.ensures.out_after in
     read_short _ _ _ known _ chart _ c.check_chart.ensures _
     c.in_ok-check_chart.was c.if-out-end.true
-
-pub put_bytes-requires : goal.put_bytes-requires
-put_bytes-requires c =
-    let known : Formed c.args.text.now _ = formed _ _ _ c.read_text.ensures.result_value c.in_ok-count.was in
-    let chart = formed-chart _ _ _ _ known c.read_text.ensures.out_after in
-    omega (arith, chart-length _ _ _ known chart, c.if-out-end.false)
 
 pub returns : goal.returns
 returns c =
