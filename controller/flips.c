@@ -10,9 +10,9 @@
 #include "host.h"
 #include "processor.h"
 
-/* A run has so many ticks. A bit is flipped before one of some ticks from FIRST on, so many as the table has parts: before each of them
- * another part is the next. */
-enum { RUN = 64, FIRST = 16 };
+/* A run has so many ticks. A bit is flipped before each of some ticks from FIRST on, one in each run, so many as the table has parts:
+ * before each of them another part is the next. A call, a return and a home tick are among those that follow. */
+enum { RUN = 64, FIRST = 13 };
 
 /* What came of a flip: the firmware stopped before it made a tick on what had changed, after ticks that were right, or after a wrong one;
  * the run was right to its end; or it stopped too late or never. */

@@ -7,7 +7,9 @@
 #include "fairleadow.h"
 
 /* The bytes of a part: with more of them a tick takes longer, and a change is noticed sooner. */
+#ifndef GUARD_PART
 #define GUARD_PART 64
+#endif
 #define GUARD_PARTS ((FAIRLEADOW_TABLE + GUARD_PART - 1) / GUARD_PART)
 
 typedef struct {

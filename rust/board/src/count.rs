@@ -19,7 +19,7 @@ pub struct Count {
 impl Count {
     /// By a plain model: a cycle an instruction, one more for an access to memory, two for a jump, six for a division, three
     /// for a long product; a Cortex-M0 has neither of the last two.
-    fn read(line: &str) -> Count {
+    pub fn read(line: &str) -> Count {
         let numbers: Vec<u64> = line.split(' ').map(|word| word.parse().expect("a number")).collect();
         let [instructions, accesses, jumps, divisions, products, short_products] = numbers[..] else {
             panic!("six numbers a line: {line}")
