@@ -34,6 +34,15 @@ pub fn milliseconds(cycles: u64) -> f64 {
     cycles as f64 / 16_000.0
 }
 
+pub fn with_commas(number: u64) -> String {
+    let digits = number.to_string();
+    let comma = |(at, digit)| {
+        let more = if at > 0 && (digits.len() - at) % 3 == 0 { "," } else { "" };
+        format!("{more}{digit}")
+    };
+    digits.chars().enumerate().map(comma).collect()
+}
+
 /// Whether the processor that BOARD names is also made with the slow multiplier.
 pub fn may_be_slow() -> bool {
     env::var("BOARD").is_ok_and(|processor| processor.starts_with("thumbv6m"))

@@ -9,7 +9,7 @@ use std::collections::BTreeMap;
 use std::io::{Read, Write};
 use std::process::{Child, ChildStdin, ChildStdout, Command, Stdio};
 
-pub use count::{may_be_slow, milliseconds, Count, Counting};
+pub use count::{may_be_slow, milliseconds, with_commas, Count, Counting};
 use interface::{
     Answer, CauseReport, FillingsReport, Library, Meaning, PricedReport, Prices, State, TickReport,
     PRICED_WORDS,
