@@ -190,7 +190,18 @@ fn joined(image: &mut Image) {
 }
 
 impl Library for Faulty {
-    as_the_reference!(places, priced_run, cause, list_rows, minimise, count_fillings, prepare, live_run);
+    as_the_reference!(
+        places,
+        priced_run,
+        cause,
+        list_rows,
+        minimise,
+        count_fillings,
+        prepare,
+        check_table,
+        sum,
+        live_run
+    );
     as_the_reference!(rebindings, spins, meaning, little_chart);
 
     fn read_chart(&self, text: &[u8], out: &mut [u8]) -> Answer {

@@ -205,6 +205,8 @@ impl Library for Faulty {
         prepare,
         priced_run,
         live_run,
+        check_table,
+        sum,
         rebindings,
         spins,
         value_calls,
