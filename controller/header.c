@@ -21,10 +21,11 @@ typedef uint8_t (*fetches)(size_t, size_t, uint8_t *, size_t, size_t *, size_t *
 typedef uint8_t (*counts)(const uint8_t *, size_t, size_t, size_t, size_t, uint32_t *, uint32_t *, uint32_t *, size_t *, size_t *);
 typedef uint8_t (*means)(uint8_t, uint8_t *);
 typedef uint32_t (*numbers)(void);
+typedef uint32_t (*sums)(uint32_t, const uint8_t *, size_t);
 
 struct every_function {
     writes read_chart, write_chart, translate, prepare, minimise;
-    checks places, check_image;
+    checks places, check_image, check_table;
     makes fresh;
     runs run, live_run;
     dry_runs dry_run;
@@ -38,6 +39,7 @@ struct every_function {
     counts count_fillings;
     means meaning;
     numbers version;
+    sums sum;
 };
 
 struct every_function every_function(void);
@@ -45,10 +47,11 @@ struct every_function every_function(void);
 struct every_function every_function(void) {
     struct every_function all = {
         fairleadow_read_chart, fairleadow_write_chart, fairleadow_translate, fairleadow_prepare,   fairleadow_minimise,
-        fairleadow_places,     fairleadow_check_image, fairleadow_fresh,     fairleadow_run,       fairleadow_live_run,
-        fairleadow_dry_run,    fairleadow_priced_run,  fairleadow_tick,      fairleadow_live_tick, fairleadow_rebind,
-        fairleadow_live_rebind, fairleadow_spin,       fairleadow_live_spin, fairleadow_cause,     fairleadow_list_rows,
-        fairleadow_little_chart, fairleadow_count_fillings, fairleadow_meaning, fairleadow_version,
+        fairleadow_places,     fairleadow_check_image, fairleadow_check_table,
+        fairleadow_fresh,      fairleadow_run,         fairleadow_live_run,  fairleadow_dry_run,
+        fairleadow_priced_run, fairleadow_tick,        fairleadow_live_tick, fairleadow_rebind,    fairleadow_live_rebind,
+        fairleadow_spin,       fairleadow_live_spin,   fairleadow_cause,     fairleadow_list_rows, fairleadow_little_chart,
+        fairleadow_count_fillings, fairleadow_meaning, fairleadow_version,   fairleadow_sum,
     };
     return all;
 }

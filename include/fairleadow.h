@@ -1,7 +1,7 @@
 /* Fairleadow: charts read, written, translated and run. Link with libfairleadow.a.
  *
- * Every function answers for everything that it is handed. All but fairleadow_meaning and fairleadow_version return 0, or the number of a
- * refusal, and write
+ * Every function answers for everything that it is handed. All but fairleadow_meaning, fairleadow_sum and fairleadow_version return 0, or
+ * the number of a refusal, and write
  *   *index   the frame (a line or a record) that the refusal names, from 0; only 2, 3, 4, 6 to 9, 12 and 13 name one, else it is 0
  *   *count   records, characters, labels, bytes of a table or ticks written, or places needed; with refusals 1 to 16 and 19 to 28
  *            it is 0, with 17 and 18 the ticks finished before
@@ -307,6 +307,17 @@ uint8_t fairleadow_count_fillings(const uint8_t *image, size_t image_len, size_t
 /* An image's lines to a table, ten bytes a line, for live runs, ticks and rebindings: the image is checked here and not again, and its
  * lines are not needed afterwards. Tries what the image check tries, then 16; counts bytes. */
 uint8_t fairleadow_prepare(const uint8_t *image, size_t image_len, uint8_t *table, size_t table_len, size_t *index, size_t *count);
+
+/* Whether a table is exactly what fairleadow_prepare writes for some image, so that live calls on it are those on that image; it takes
+ * no buffer of its own and can be made between two ticks. table_len is what fairleadow_prepare counted: bytes behind the table are refused
+ * with 11. A change that makes it the table of another image, as in a mask, is not told here but by fairleadow_sum.
+ * Tries 11 to 13 as the image check does, and then 13 at the lowest label in whose line another place of its rows is noted; counts 0. */
+uint8_t fairleadow_check_table(const uint8_t *table, size_t table_len, size_t *index, size_t *count);
+
+/* The CRC-32 (ISO-HDLC, as in zlib, PNG and Ethernet) of bytes whose sum is to go on from `sum`, that of the bytes before them; 0 to begin
+ * with, so that a table can be summed a part in each tick. Bytes that differ in one of them, by however many bits, have different sums.
+ * Refuses nothing. */
+uint32_t fairleadow_sum(uint32_t sum, const uint8_t *bytes, size_t bytes_len);
 
 /* A run on a table. On one that fairleadow_prepare wrote it answers what fairleadow_run answers on the image; the buffer may be
  * longer than the table. Any other bytes are taken for a table too, so that damage does no more than other ticks (their codes may

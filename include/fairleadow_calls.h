@@ -41,6 +41,8 @@ uint32_t fairleadow_count_fillings(const uint8_t *image, uint64_t image_len, uin
                                    uint32_t *ended, uint32_t *full, uint32_t *unmatched, uint64_t *index, uint64_t *count);
 uint32_t fairleadow_prepare(const uint8_t *image, uint64_t image_len, uint8_t *table, uint64_t table_len,
                             uint64_t *index, uint64_t *count);
+uint32_t fairleadow_check_table(const uint8_t *table, uint64_t table_len, uint64_t *index, uint64_t *count);
+uint32_t fairleadow_sum(uint32_t sum, const uint8_t *bytes, uint64_t bytes_len);
 uint32_t fairleadow_live_run(const uint8_t *table, uint64_t table_len, fairleadow_state *state, const uint16_t *words,
                              uint64_t words_len, uint32_t *masks, uint64_t masks_len, uint8_t *codes, uint64_t codes_len,
                              uint64_t *index, uint64_t *count);
@@ -209,6 +211,16 @@ static inline uint8_t fairleadow_c_prepare(const uint8_t *image, size_t image_le
     return fairleadow_tell(number, &told, index, count);
 }
 
+static inline uint8_t fairleadow_c_check_table(const uint8_t *table, size_t table_len, size_t *index, size_t *count) {
+    fairleadow_told told;
+    uint32_t number = fairleadow_check_table(table, table_len, &told.index, &told.count);
+    return fairleadow_tell(number, &told, index, count);
+}
+
+static inline uint32_t fairleadow_c_sum(uint32_t sum, const uint8_t *bytes, size_t bytes_len) {
+    return fairleadow_sum(sum, bytes, bytes_len);
+}
+
 static inline uint8_t fairleadow_c_live_run(const uint8_t *table, size_t table_len, fairleadow_state *state, const uint16_t *words,
                                             size_t words_len, uint32_t *masks, size_t masks_len, uint8_t *codes, size_t codes_len,
                                             size_t *index, size_t *count) {
@@ -265,6 +277,8 @@ static inline uint8_t fairleadow_c_meaning(uint8_t code, uint8_t *called) {
 #define fairleadow_little_chart fairleadow_c_little_chart
 #define fairleadow_count_fillings fairleadow_c_count_fillings
 #define fairleadow_prepare fairleadow_c_prepare
+#define fairleadow_check_table fairleadow_c_check_table
+#define fairleadow_sum fairleadow_c_sum
 #define fairleadow_live_run fairleadow_c_live_run
 #define fairleadow_live_tick fairleadow_c_live_tick
 #define fairleadow_live_rebind fairleadow_c_live_rebind

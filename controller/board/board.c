@@ -27,6 +27,8 @@ enum {
     REBIND,
     SPIN,
     PREPARE,
+    CHECK_TABLE,
+    SUM,
     LIVE_RUN,
     LIVE_TICK,
     LIVE_REBIND,
@@ -41,7 +43,8 @@ typedef struct {
     uint32_t call;
     uint32_t masks, words, codes, output, input; /* how many of each */
     uint32_t value;                              /* a stack's size, a code, how many firsts a list has, a number to rebind, how many
-                                                  * words of the flash are run, a little chart's number, or a spindle */
+                                                  * words of the flash are run, a little chart's number, a spindle, or a
+                                                  * sum, which comes back in its place */
     uint32_t scheme;                             /* the scheme that is to serve it, how many frames a little chart has, or how many
                                                   * ticks the lists have that are counted */
     uint32_t taken;                              /* the places that the spindles have taken, or how many conditions the lists have */
@@ -195,6 +198,12 @@ __attribute__((noinline)) static void make_call(void) {
         break;
     case PREPARE:
         number = fairleadow_prepare(input, head.input, output, head.output, &index, &count);
+        break;
+    case CHECK_TABLE:
+        number = fairleadow_check_table(input, head.input, &index, &count);
+        break;
+    case SUM:
+        head.value = fairleadow_sum(head.value, input, head.input);
         break;
     case LIVE_RUN:
         number = fairleadow_live_run(input, head.input, &head.state, words, head.words, masks, head.masks, codes, head.codes,

@@ -1,8 +1,9 @@
 /* The program of a controller: prepares the image that lies in its flash, once, and then makes a tick for each word of the probes and
  * switches the outputs by the tick's mask. Between two ticks the operator may give a number to another scheme to serve. Whatever cannot
- * be done stops it, and so does a word that does not come in time: all outputs are off, and the operator is told why; only a swap that the
- * chart does not allow is told and left. */
+ * be done stops it, and so do a word that does not come in time and a table or a state that has changed in memory: all outputs are off, and
+ * the operator is told why; only a swap that the chart does not allow is told and left. */
 #include "fairleadow.h"
+#include "guard.h"
 #include "port.h"
 
 #define PLACES 3
@@ -13,6 +14,7 @@ extern const uint8_t image_start[], image_end[];
 static uint8_t table[FAIRLEADOW_TABLE];
 static size_t table_length;
 static fairleadow_state state;
+static guard sums;
 static uint32_t ticks;
 
 /* The outputs are off before anything is told, which takes time. */
@@ -39,6 +41,22 @@ void fault(void) {
     stop("fault of the processor", 0, NULL);
 }
 
+/* Whether the table is one that a preparation writes. It takes longer than a tick, so it is asked where the machine stands. */
+static void check_table(void) {
+    size_t index;
+    uint8_t number = fairleadow_check_table(table, table_length, &index, NULL);
+    if (number)
+        stop("the table is wrong at line", (uint32_t)index, fairleadow_refusal_text(number));
+}
+
+/* What has changed since it was written is not used. */
+static void compare(void) {
+    if (guard_state_changed(&sums, &state))
+        stop("the state has changed since tick", ticks, NULL);
+    if (guard_table_changed(&sums, table, table_length))
+        stop("the table has changed in part", (uint32_t)sums.next, NULL);
+}
+
 static void load(void) {
     size_t index;
     uint8_t number = fairleadow_prepare(image_start, (size_t)(image_end - image_start), table, sizeof table, &index, &table_length);
@@ -48,17 +66,23 @@ static void load(void) {
         port_tell("\n");
         stop_refused(number);
     }
+    guard_take_table(&sums, table, table_length);
+    check_table();
     number = fairleadow_fresh(PLACES, &state, NULL, NULL);
     if (number)
         stop_refused(number);
+    guard_take_state(&sums, &state);
 }
 
+/* At a home tick a block is done, and all outputs are off. */
 static void tick(uint16_t word) {
     uint32_t mask;
     uint8_t code;
+    compare();
     uint8_t number = fairleadow_live_tick(table, table_length, &state, word, &mask, &code, NULL, NULL);
     if (number)
         stop_refused(number);
+    guard_take_state(&sums, &state);
     ticks++;
     port_tell("word ");
     port_tell_hex(word, 4);
@@ -66,13 +90,17 @@ static void tick(uint16_t word) {
     port_tell_hex(code, 2);
     port_tell(", ");
     port_set_outputs(mask);
+    if (code == FAIRLEADOW_HOME_CODE)
+        check_table();
 }
 
 /* A refused swap leaves the state as it was: the operator asked for one that there is not, and the ticks go on. */
 static void swap(uint8_t number, uint8_t scheme) {
+    compare();
     uint8_t refusal = fairleadow_live_rebind(table, table_length, &state, number, scheme, NULL, NULL);
     if (refusal && refusal != FAIRLEADOW_BAD_REBINDING)
         stop_refused(refusal);
+    guard_take_state(&sums, &state);
     port_tell("number ");
     port_tell_number(number);
     port_tell(refusal ? " not given to scheme " : " given to scheme ");

@@ -21,30 +21,47 @@ static int digit(int c) {
     return -1;
 }
 
-/* A word is a line of one to four digits; after a = the first of two digits is a number and the second a scheme, so that this
- * port names 0 to 15 and not 16. */
-int port_next(uint16_t *word, uint8_t *number, uint8_t *scheme) {
-    uint32_t value = 0;
-    int digits = 0;
+/* A line that came: the character before its digits, or 0, and the digits' value and count. */
+typedef struct {
+    int mark, digits;
+    uint32_t value;
+} line;
+
+/* Whether a line came, PORT_LATE or PORT_NOTHING. */
+static int read_line(line *read) {
     int c = serial_receive(&left);
-    int kind = c == '=' ? PORT_SWAP : PORT_WORD;
-    if (kind == PORT_SWAP)
+    *read = (line){c == '=' || c == '!' ? c : 0, 0, 0};
+    if (read->mark)
         c = serial_receive(&left);
     for (; c != '\n'; c = serial_receive(&left)) {
         if (c < 0)
             return PORT_LATE;
-        if (digit(c) < 0 || ++digits > 4)
+        if (digit(c) < 0 || ++read->digits > 8)
             return PORT_NOTHING;
-        value = value << 4 | (uint32_t)digit(c);
+        read->value = read->value << 4 | (uint32_t)digit(c);
     }
-    if (digits == 0 || (kind == PORT_SWAP && digits != 2))
+    return PORT_WORD;
+}
+
+/* A word is a line of one to four digits; after a = the first of two digits is a number and the second a scheme, so that this
+ * port names 0 to 15 and not 16. After a ! stand the eight digits of an address in memory: a bit flips there, which on another board
+ * happens by itself. */
+int port_next(uint16_t *word, uint8_t *number, uint8_t *scheme) {
+    line read;
+    int came = read_line(&read);
+    for (; came == PORT_WORD && read.mark == '!' && read.digits == 8; came = read_line(&read))
+        *(volatile uint8_t *)(uintptr_t)read.value ^= 1;
+    if (came != PORT_WORD)
+        return came;
+    *word = (uint16_t)read.value;
+    *number = (uint8_t)(read.value >> 4);
+    *scheme = (uint8_t)(read.value & 15);
+    if (read.mark == '=')
+        return read.digits == 2 ? PORT_SWAP : PORT_NOTHING;
+    if (read.mark || read.digits == 0 || read.digits > 4)
         return PORT_NOTHING;
-    *word = (uint16_t)value;
-    *number = (uint8_t)(value >> 4);
-    *scheme = (uint8_t)(value & 15);
-    if (kind == PORT_WORD)
-        left = PORT_WAIT;
-    return kind;
+    left = PORT_WAIT;
+    return PORT_WORD;
 }
 
 void port_tell(const char *text) {

@@ -2,7 +2,7 @@
  * counts its places, translates it, checks the image, runs eight words from a fresh state of three places, makes the same ticks one by
  * one, both on the image and on the table prepared from it, and once more from the chart's text, runs them with prices, rebinds each number up to 3 to its own
  * scheme, makes
- * the ticks on each of four spindles, and tells what each code stands for, which signals made each tick go on and which
+ * the ticks on each of four spindles, tells whether the table is as it was prepared and its sum, and tells what each code stands for, which signals made each tick go on and which
  * rows each label
  * has, and joins the labels that act alike, and counts how often stacks of one to three places fill. Then it fetches
  * every little chart.
@@ -284,6 +284,18 @@ static int spin(size_t length, size_t prepared) {
     return 0;
 }
 
+/* The last byte of a row's line is 0; a 1 there is told at that line. The sum is made in two parts. */
+static void tell_damage(size_t prepared) {
+    size_t index, count, half = prepared / 2;
+    uint8_t number = fairleadow_check_table(table, prepared, &index, &count);
+    printf("the table as it was prepared: %u, sum %08lX\n", number,
+           (unsigned long)fairleadow_sum(fairleadow_sum(0, table, half), table + half, prepared - half));
+    table[prepared - 1] ^= 1;
+    number = fairleadow_check_table(table, prepared, &index, &count);
+    printf("with one bit turned: %u at line %zu, sum %08lX\n", number, index, (unsigned long)fairleadow_sum(0, table, prepared));
+    table[prepared - 1] ^= 1;
+}
+
 int main(void) {
     outcome all;
     size_t index, count, prepared, none;
@@ -305,6 +317,7 @@ int main(void) {
     if ((number = fairleadow_prepare(image, count, table, sizeof table, &index, &prepared)))
         return refused(number, index);
     printf("bytes of the table: %zu\n", prepared);
+    tell_damage(prepared);
     if (run_and_tick(count, &all) || live_run_and_tick(prepared, &all) || run_dry(length, count, &all) || run_with_prices(count, &all)
         || rebind(count, prepared) || spin(count, prepared))
         return 1;

@@ -19,4 +19,11 @@ static inline uint32_t *processor_stack(void) {
     return here;
 }
 
+/* Goes on with a function, on an empty stack. */
+__attribute__((noreturn)) static inline void processor_restart(void (*with)(void)) {
+    extern uint32_t stack_top[];
+    __asm volatile("mov sp, %0\n\tbx %1" : : "r"(stack_top), "r"(with) : "memory");
+    __builtin_unreachable();
+}
+
 #endif

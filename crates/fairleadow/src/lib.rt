@@ -5,6 +5,7 @@
 
 pub mod causes_for_c;
 pub mod charts_for_c;
+pub mod damage_for_c;
 pub mod dry_runs_for_c;
 pub mod fillings_for_c;
 pub mod images_for_c;

@@ -10,4 +10,5 @@ pub mod image_strays;
 mod positions;
 mod read;
 
+pub use positions::bad_header;
 pub use read::{check_image, read_image};

@@ -15,7 +15,7 @@ use text::frames::sizes::{FRAME, LINE, TABLE};
 use text::frames::{Refusal, put_bytes};
 
 // The lowest frame from first up to end whose row leaves label l or one above it, or end.
-fn skip_below(table: &[u8], first: usize, end: usize, l: usize) -> usize
+pub fn skip_below(table: &[u8], first: usize, end: usize, l: usize) -> usize
     requires { (first ≤ end) × (end ≤ size table.now) }
     ensures { result ≡ lowest (is_row_reached table.now l) first (end - first) }
 {

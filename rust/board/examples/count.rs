@@ -4,7 +4,7 @@
 
 use std::env;
 
-use board::{may_be_slow, milliseconds, Count, Counting};
+use board::{may_be_slow, milliseconds, with_commas, Count, Counting};
 use reference::entry_point::EntryPoint;
 use reference::prepare::is_table;
 use reference::samples::worst::{candidates, Candidate, Origin};
@@ -29,15 +29,6 @@ fn print_line(call: &str, (candidate, number, count): &Counted) {
         "| {call} | {name} | {how} | {number} | {instructions} | {:.2} |{slow}",
         milliseconds(count.cycles)
     );
-}
-
-fn with_commas(number: u64) -> String {
-    let digits = number.to_string();
-    let comma = |(at, digit)| {
-        let more = if at > 0 && (digits.len() - at) % 3 == 0 { "," } else { "" };
-        format!("{more}{digit}")
-    };
-    digits.chars().enumerate().map(comma).collect()
 }
 
 /// The input of some that took longest; where a slow multiplier makes it another one, that too.

@@ -19,7 +19,7 @@ pub struct Count {
 impl Count {
     /// By a plain model: a cycle an instruction, one more for an access to memory, two for a jump, six for a division, three
     /// for a long product; a Cortex-M0 has neither of the last two.
-    fn read(line: &str) -> Count {
+    pub fn read(line: &str) -> Count {
         let numbers: Vec<u64> = line.split(' ').map(|word| word.parse().expect("a number")).collect();
         let [instructions, accesses, jumps, divisions, products, short_products] = numbers[..] else {
             panic!("six numbers a line: {line}")
@@ -32,6 +32,15 @@ impl Count {
 /// At 16 MHz.
 pub fn milliseconds(cycles: u64) -> f64 {
     cycles as f64 / 16_000.0
+}
+
+pub fn with_commas(number: u64) -> String {
+    let digits = number.to_string();
+    let comma = |(at, digit)| {
+        let more = if at > 0 && (digits.len() - at) % 3 == 0 { "," } else { "" };
+        format!("{more}{digit}")
+    };
+    digits.chars().enumerate().map(comma).collect()
 }
 
 /// Whether the processor that BOARD names is also made with the slow multiplier.

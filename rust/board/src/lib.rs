@@ -9,7 +9,7 @@ use std::collections::BTreeMap;
 use std::io::{Read, Write};
 use std::process::{Child, ChildStdin, ChildStdout, Command, Stdio};
 
-pub use count::{may_be_slow, milliseconds, Count, Counting};
+pub use count::{may_be_slow, milliseconds, with_commas, Count, Counting};
 use interface::{
     Answer, CauseReport, FillingsReport, Library, Meaning, PricedReport, Prices, State, TickReport,
     PRICED_WORDS,
@@ -125,6 +125,14 @@ impl<'a> Board<'a> {
         let told = self.made(&mut message)?;
         out.copy_from_slice(&message.output);
         Some(told.answer())
+    }
+
+    /// The sum goes there and comes back as the value.
+    fn summed(&self, sum: u32, bytes: &[u8]) -> Option<u32> {
+        let mut message = Message::new(Call::Sum, bytes);
+        message.value = sum;
+        self.made(&mut message)?;
+        Some(message.value)
     }
 
     fn ran(
@@ -403,6 +411,14 @@ impl Library for Board<'_> {
 
     fn prepare(&self, image: &[u8], table: &mut [u8]) -> Answer {
         self.written(Call::Prepare, image, table).unwrap_or_else(|| self.instead.prepare(image, table))
+    }
+
+    fn check_table(&self, table: &[u8]) -> Answer {
+        self.read(Call::CheckTable, table).unwrap_or_else(|| self.instead.check_table(table))
+    }
+
+    fn sum(&self, sum: u32, bytes: &[u8]) -> u32 {
+        self.summed(sum, bytes).unwrap_or_else(|| self.instead.sum(sum, bytes))
     }
 
     fn live_run(

@@ -24,6 +24,8 @@ pub enum Call {
     Rebind,
     Spin,
     Prepare,
+    CheckTable,
+    Sum,
     LiveRun,
     LiveTick,
     LiveRebind,
@@ -124,7 +126,7 @@ impl Message {
     pub fn take(&mut self, head: &[u8], buffers: &[u8]) -> Told {
         let number = |place: usize| u32::from_le_bytes(four(&head[4 * place..]));
         take_state(&mut self.state, &head[STATE..]);
-        self.taken = number(8);
+        (self.value, self.taken) = (number(6), number(8));
         let (masks, rest) = buffers.split_at(4 * self.masks.len());
         let (words, rest) = rest.split_at(2 * self.words.len());
         let (codes, rest) = rest.split_at(self.codes.len());

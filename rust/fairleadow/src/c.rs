@@ -264,6 +264,13 @@ extern "C" {
         index: *mut usize,
         count: *mut usize,
     ) -> u8;
+    pub fn fairleadow_check_table(
+        table: *const u8,
+        table_len: usize,
+        index: *mut usize,
+        count: *mut usize,
+    ) -> u8;
+    pub fn fairleadow_sum(sum: u32, bytes: *const u8, bytes_len: usize) -> u32;
     pub fn fairleadow_live_run(
         table: *const u8,
         table_len: usize,

@@ -421,6 +421,14 @@ impl Library for Proved {
         written(c::fairleadow_prepare, image, table)
     }
 
+    fn check_table(&self, table: &[u8]) -> Answer {
+        read(c::fairleadow_check_table, table)
+    }
+
+    fn sum(&self, sum: u32, bytes: &[u8]) -> u32 {
+        unsafe { c::fairleadow_sum(sum, bytes.as_ptr(), bytes.len()) }
+    }
+
     fn live_run(
         &self,
         table: &[u8],

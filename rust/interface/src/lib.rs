@@ -201,6 +201,13 @@ pub trait Library {
     /// counts bytes.
     fn prepare(&self, image: &[u8], table: &mut [u8]) -> Answer;
 
+    /// Whether a table, without anything behind it, is exactly what the preparation writes for some image. Tries 11 to 13, and then 13 of
+    /// the notes.
+    fn check_table(&self, table: &[u8]) -> Answer;
+
+    /// The CRC-32 (ISO-HDLC) of bytes behind those whose sum is `sum`; 0 to begin with.
+    fn sum(&self, sum: u32, bytes: &[u8]) -> u32;
+
     /// A run on a table; on one that was prepared from an image it is the run on that image. The table may be followed by
     /// anything, and any bytes are answered for. Tries 11, then 15 to 18; counts ticks.
     fn live_run(

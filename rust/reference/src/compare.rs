@@ -230,7 +230,7 @@ impl<'a> Case<'a> {
             6 => self.tick(),
             7 => self.calls("runs", false),
             8 => self.prepare().and_then(|()| self.count_fillings()),
-            9 | 10 => self.live_run(),
+            9 | 10 => self.live_run().and_then(|()| self.check_table()).and_then(|()| self.sum()),
             11 | 12 => self.live_tick(),
             13 => self.calls("live_runs", true),
             14 => self.cause(),

@@ -13,7 +13,7 @@ use crate::live::Held;
 use crate::machine::{self, Advanced};
 use crate::minimise::{joined, uneven};
 use crate::places::longest_chain;
-use crate::prepare::table_of;
+use crate::prepare::{prepared, table_of};
 use crate::price::{price, Prices, PRICED_WORDS};
 use crate::row_list::row_list;
 use crate::spindles::Head;
@@ -255,6 +255,11 @@ pub fn list_rows(image: &[u8], firsts: &mut [u16], counts: &mut [u16]) -> Answer
 /// Refusals 1 to 3, 11 to 13 and 16; counts bytes.
 pub fn prepare(image: &[u8], out: &mut [u8]) -> Answer {
     written(image_from_text(image).map(|image| table_of(&image).concat()), out)
+}
+
+/// Refusals 11 to 13; counts 0.
+pub fn check_table(table: &[u8]) -> Answer {
+    answered(prepared(table).map(|_| 0))
 }
 
 /// The text of the image with its alike labels joined: refusals 1 to 3, 11 to 13 and 23.

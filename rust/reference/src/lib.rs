@@ -8,6 +8,7 @@ pub mod chart;
 pub mod check;
 pub mod codes;
 pub mod compare;
+mod crc;
 pub mod entry;
 pub mod entry_point;
 pub mod expectation;

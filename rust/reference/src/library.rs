@@ -1,6 +1,6 @@
 //! The reference as a library.
 
-use crate::{codes, entry};
+use crate::{codes, crc, entry};
 pub use interface::{
     Answer, CauseReport, FillingsReport, Library, Meaning, PricedReport, Prices, State, TickReport,
 };
@@ -105,6 +105,14 @@ impl Library for Reference {
 
     fn prepare(&self, image: &[u8], table: &mut [u8]) -> Answer {
         entry::prepare(image, table)
+    }
+
+    fn check_table(&self, table: &[u8]) -> Answer {
+        entry::check_table(table)
+    }
+
+    fn sum(&self, sum: u32, bytes: &[u8]) -> u32 {
+        crc::sum(sum, bytes)
     }
 
     fn live_run(

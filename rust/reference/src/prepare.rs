@@ -1,7 +1,9 @@
 //! An image prepared for ticks: the bytes of its frames, each label's with a note of where its rows end.
 
+use crate::answer::{refuse_if, refuse_lowest, Refusal};
 use crate::frames::Frame;
 use crate::image::{image_of, Image};
+use interface::FRAME;
 
 /// The frames of the table of an accepted image.
 pub fn table_of(image: &Image) -> Vec<Frame> {
@@ -20,12 +22,22 @@ fn first_row_above(image: &Image, label: usize) -> usize {
     1 + image.entries.len() + image.labels.len() + before
 }
 
-/// Whether these frames are the table of some accepted image.
-pub fn is_table(frames: &[Frame]) -> bool {
-    let mut image = frames.to_vec();
+/// The image whose table these bytes are: refusals 11 to 13 of the frames with the notes taken back, then 13 where another note stands.
+pub fn prepared(bytes: &[u8]) -> Result<Image, Refusal> {
+    refuse_if(11, bytes.is_empty() || !bytes.len().is_multiple_of(FRAME))?;
+    let frames: Vec<Frame> = bytes.chunks(FRAME).map(|f| Frame::try_from(f).expect("ten bytes")).collect();
+    let mut image = frames.clone();
     let labels = image.iter_mut().skip(1 + usize::from(frames[0][1])).take(1 + usize::from(frames[0][2]));
     for (number, label) in labels.enumerate() {
         label[..2].copy_from_slice(&[0x11, number as u8]);
     }
-    image_of(&image).is_ok_and(|image| table_of(&image) == frames)
+    let image = image_of(&image)?;
+    let table = table_of(&image);
+    refuse_lowest(13, frames.len(), |f| frames[f] != table[f])?;
+    Ok(image)
+}
+
+/// Whether these frames are the table of some accepted image.
+pub fn is_table(frames: &[Frame]) -> bool {
+    prepared(&frames.concat()).is_ok()
 }

@@ -13,7 +13,7 @@ use reference::translator;
 use reference::{Reference, State};
 
 /// Which refusals each call may give; 0 is success.
-const TRIED: [(&str, &[u8]); 26] = [
+const TRIED: [(&str, &[u8]); 28] = [
     ("read_chart", &[0, 1, 2, 3, 4, 5, 6, 7, 8, 9, 16, 19]),
     ("write_chart", &[0, 1, 4, 5, 6, 7, 8, 9, 16, 19]),
     ("translate", &[0, 1, 2, 3, 4, 5, 6, 7, 8, 9, 10, 16, 19]),
@@ -26,6 +26,8 @@ const TRIED: [(&str, &[u8]); 26] = [
     ("tick", &[0, 1, 2, 3, 11, 12, 13, 15, 17, 18]),
     ("runs", &[0, 16, 17, 22, 27]),
     ("prepare", &[0, 1, 2, 3, 11, 12, 13, 16]),
+    ("check_table", &[0, 11, 12, 13]),
+    ("sum", &[0]),
     ("cause", &[0, 1, 2, 3, 11, 12, 13, 15, 18, 21]),
     ("list_rows", &[0, 1, 2, 3, 11, 12, 13, 16]),
     ("minimise", &[0, 1, 2, 3, 11, 12, 13, 16, 23]),

@@ -199,6 +199,8 @@ impl Library for Faulty {
         minimise,
         count_fillings,
         prepare,
+        check_table,
+        sum,
         live_run
     );
     as_the_reference!(rebindings, spins, meaning, little_chart);

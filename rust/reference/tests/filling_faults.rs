@@ -244,7 +244,7 @@ impl Faulty {
 }
 
 impl Library for Faulty {
-    as_the_reference!(chart_calls, check_image, cause, list_rows, minimise, prepare);
+    as_the_reference!(chart_calls, check_image, cause, list_rows, minimise, prepare, check_table, sum);
     as_the_reference!(run_calls, rebindings, spins, value_calls);
 
     fn count_fillings(&self, text: &[u8], size: usize, ticks: usize, conditions: usize) -> FillingsReport {

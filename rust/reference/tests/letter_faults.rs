@@ -29,7 +29,7 @@ impl Misreading {
 }
 
 impl Library for Misreading {
-    as_the_reference!(write_chart, live_run, live_rebind, spins, value_calls);
+    as_the_reference!(write_chart, check_table, sum, live_run, live_rebind, spins, value_calls);
 
     fn read_chart(&self, text: &[u8], out: &mut [u8]) -> Answer {
         Reference.read_chart(&self.read(text), out)

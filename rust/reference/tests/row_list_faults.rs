@@ -102,6 +102,8 @@ impl Library for Faulty {
         count_fillings,
         prepare,
         run_calls,
+        check_table,
+        sum,
         rebindings,
         spins,
         value_calls,

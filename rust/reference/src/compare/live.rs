@@ -2,9 +2,11 @@
 
 use super::ticks::Ground;
 use super::{Case, Compared};
+use crate::answer::Answer;
+use crate::entry;
 use crate::frames::{text_of, CHARACTERS};
 use crate::generate::{images, letters, runs, states, tables};
-use crate::library::Library;
+use crate::library::{Library, Reference};
 use crate::prepare::table_of;
 use crate::show;
 
@@ -19,6 +21,38 @@ impl<'a> Case<'a> {
         self.summary.note_letters("prepare", &text);
         let needed = text.len() / CHARACTERS * 10;
         self.written("prepare", <dyn Library>::prepare, &text, needed, show::text)
+    }
+
+    /// A table as it was prepared, with one byte changed, or as live calls get it: damaged, cut off, with bytes behind it.
+    pub(super) fn check_table(&mut self) -> Compared {
+        let table = match self.random.below(4) {
+            0 => table_of(&images::accepted(&mut self.random)).concat(),
+            1 => {
+                let mut table = table_of(&images::small(&mut self.random)).concat();
+                let at = self.random.below(table.len());
+                table[at] ^= self.random.within(1, 255) as u8;
+                table
+            }
+            _ => tables::table_and_state(&mut self.random).0,
+        };
+        let answer = entry::check_table(&table);
+        let got = self.library.check_table(&table);
+        self.hold("check_table", answer, &answer, &got, || show::bytes(&table))
+    }
+
+    /// Any bytes, in two parts.
+    pub(super) fn sum(&mut self) -> Compared {
+        let (begun, length) = (self.random.number() as u32, self.random.below(300));
+        let bytes = runs::bytes(&mut self.random, length);
+        let (first, rest) = bytes.split_at(self.random.below(length + 1));
+        let sums = |library: &dyn Library| {
+            let part = library.sum(begun, first);
+            (part, library.sum(part, rest), library.sum(begun, &bytes))
+        };
+        let (wanted, got) = (sums(&Reference), sums(self.library));
+        self.hold("sum", Answer::Done(0), &wanted, &got, || {
+            format!("from {begun:08X}, {}", show::bytes(&bytes))
+        })
     }
 
     pub(super) fn live_run(&mut self) -> Compared {

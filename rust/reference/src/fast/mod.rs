@@ -332,6 +332,14 @@ impl Library for Fast {
         FillingsReport { answer: answered(counted.map(|_| 0)), ended, full, unmatched }
     }
 
+    fn check_table(&self, table: &[u8]) -> Answer {
+        crate::entry::check_table(table)
+    }
+
+    fn sum(&self, sum: u32, bytes: &[u8]) -> u32 {
+        crate::crc::sum(sum, bytes)
+    }
+
     fn prepare(&self, image: &[u8], table: &mut [u8]) -> Answer {
         answered(put_table(image, table))
     }

@@ -25,7 +25,7 @@ macro_rules! faults {
 macro_rules! as_the_reference {
     ($($call:ident),* $(,)?) => { $(as_the_reference!(@$call);)* };
     (@chart_calls) => { as_the_reference!(read_chart, write_chart, translate, places, dry_run); };
-    (@image_calls) => { as_the_reference!(check_image, cause, list_rows, minimise, count_fillings, prepare); };
+    (@image_calls) => { as_the_reference!(check_image, cause, list_rows, minimise, count_fillings, prepare, check_table, sum); };
     (@run_calls) => { as_the_reference!(run, priced_run, live_run); };
     (@rebindings) => { as_the_reference!(rebind, live_rebind); };
     (@spins) => { as_the_reference!(spin, live_spin); };
@@ -74,6 +74,8 @@ macro_rules! as_the_reference {
         ) -> reference::FillingsReport);
     };
     (@prepare) => { as_the_reference!(@fn prepare(image: &[u8], table: &mut [u8]) -> reference::Answer); };
+    (@check_table) => { as_the_reference!(@fn check_table(table: &[u8]) -> reference::Answer); };
+    (@sum) => { as_the_reference!(@fn sum(sum: u32, bytes: &[u8]) -> u32); };
     (@live_run) => { as_the_reference!(@run live_run); };
     (@rebind) => { as_the_reference!(@rebind rebind); };
     (@live_rebind) => { as_the_reference!(@rebind live_rebind); };

@@ -206,6 +206,8 @@ impl Library for Faulty {
         prepare,
         priced_run,
         live_run,
+        check_table,
+        sum,
         rebindings,
         spins,
         value_calls,

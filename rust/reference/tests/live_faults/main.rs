@@ -282,6 +282,8 @@ impl Library for Faulty {
         list_rows,
         minimise,
         count_fillings,
+        check_table,
+        sum,
         run,
         priced_run,
         rebindings,

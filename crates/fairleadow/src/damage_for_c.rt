@@ -1,0 +1,23 @@
+// The calls from C that tell whether bytes changed: of a prepared table, and of any bytes.
+ghost use Rattle.std.specs.Prelude.{◌≡◌};
+ghost use Rattle.text.specs.frames.Answer.{verdict_reply};
+ghost use Rattle.table_check.specs.TableCheck.{prepared_verdict};
+ghost use Rattle.crc.specs.Crc.{crc};
+ghost use Rattle.fairleadow.specs.telling.AnswersForC.{GivesReplyC};
+
+use crate::telling::tell;
+
+#[unsafe(no_mangle)]
+pub extern "C" fn fairleadow_check_table(table: &[u8], at: &mut usize, made: &mut usize) -> u8
+    ensures { GivesReplyC (verdict_reply (prepared_verdict table.now) 0) result at.new made.new }
+{
+    let answer = table_check::check_table(table);
+    tell(answer, at, made)
+}
+
+#[unsafe(no_mangle)]
+pub extern "C" fn fairleadow_sum(sum: u32, bytes: &[u8]) -> u32
+    ensures { result ≡ crc sum bytes.now }
+{
+    crc::sum(sum, bytes)
+}

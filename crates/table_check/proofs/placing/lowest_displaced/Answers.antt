@@ -1,0 +1,17 @@
+-- `table_check::placing::lowest_displaced` meets its contract: the loop keeps what is left to search.
+use mathlib.Core.Path.{sym, ◌∙◌}
+use Rattle.words.proofs.lists.Searches.{searching-first, searching-found, searching-next, searching-over}
+use Rattle.std.proofs.Common.{rules}
+use Rattle.table_check.proofs.placing.lowest_displaced.Goals as goal
+
+pub loop-f-init : goal.loop-f-init
+loop-f-init c = searching-first _ _
+
+pub returns-then-displaced : goal.returns-then-displaced
+returns-then-displaced c = searching-found _ _ _ _ c.loop-f.invariant (search rules) (sym c.displaced.ensures ∙ c.if-displaced.true)
+
+pub loop-f-preserved : goal.loop-f-preserved
+loop-f-preserved c = searching-next _ _ _ _ c.loop-f.invariant (search rules) (sym c.displaced.ensures ∙ c.if-displaced.false)
+
+pub returns : goal.returns
+returns c = searching-over _ _ _ _ c.loop-f.invariant (search rules)

@@ -1,0 +1,2 @@
+pub mod TableCheck
+pub mod Laws
