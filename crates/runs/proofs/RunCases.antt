@@ -112,7 +112,6 @@ stopped-replied n m h = sym (ap (λ (v : Verdict). counted_reply v m) (number-ve
 
 module _ (b before : List ℕ) (w : ℕ) (r : RunEnd) (mid ms ks : List ℕ)
     (ends : GivesRunEnd b before (w ∷ []) (0 ∷ []) (0 ∷ []) r mid ms ks) where
-
   abbrev told : TickEnd
   told = record { number = r.number; mask = get_or ms 0 0; code = get_or ks 0 0 }
 

@@ -32,7 +32,6 @@ live-others-left b states taken k w j ne = grind (arith, common_steps)
 -- ---- two lists that differ in other states alone, but for their depths
 module _ (v : Verdict) (go : State → TickOutcome) (states states' : List State) (taken k : ℕ) (l : length states ≡ length states')
     (d : depths states ≡ depths states') (s : state_at states k ≡ state_at states' k) where
-
   alike : AlikeSpins k (outcome_spun_on (head_verdict v states taken k) states taken k (λ _. go (state_at states k)))
       (outcome_spun_on (head_verdict v states' taken k) states' taken k (λ _. go (state_at states' k)))
   alike = grind (arith, common_steps)

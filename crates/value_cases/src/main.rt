@@ -87,7 +87,14 @@ fn run_priced(image: &[u8], size: usize, first: u16, second: u16) {
     prices[1] = second;
     let mut masks = [119u32; 4];
     let mut codes = [170u8; 4];
-    let ran = priced_run(image, fresh(size), &prices, &[0, 0, 1, 0], &mut masks, &mut codes);
+    let ran = priced_run(
+        image,
+        fresh(size),
+        &prices,
+        &[0, 0, 1, 0],
+        &mut masks,
+        &mut codes,
+    );
     report(0x16, ran.answer, ran.price as usize);
     print_ticks(masks, codes);
 }

@@ -55,7 +55,6 @@ module _ (s : State) (sum taken : ℕ) (e : is_bad_record sum taken ≡ false) w
   turn-table : (b : List ℕ) (w : ℕ) → turn (when 11 (is_bad_table b)) s sum taken (live_tick b s w) ≡ turn_by s taken (live_tick b s w)
   turn-table b w = grind (arith, common_steps, live-tick-by, turn-ticks)
 
-
 module _ (before new after : List ℕ) (ticked : TickAnswer) (taken : ℕ) (r : SpinReport) where
   -- with the tick in place
   module _ (x : TickOutcome) (held : Held before x) (made : GivesTickOn x before ticked new) where

@@ -12,7 +12,6 @@ pub record Filled {A : Type 0} (f : ℕ → A) (d : A) (xs : List A) (n k : ℕ)
   pub each : (j : ℕ) → j < k → get_or xs j d ≡ f j
 
 module _ {A : Type 0} (f : ℕ → A) (d : A) (n : ℕ) where
-
   pub filled-all : (xs : List A) (k : ℕ) → Filled f d xs n k → n ≤ k → xs ≡ map f (range 0 n)
   filled-all xs k w h =
       ext_get_or d xs (map f (range 0 n)) (w.size ∙ sym (length-map-range f 0 n))
