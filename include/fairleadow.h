@@ -224,8 +224,8 @@ uint8_t fairleadow_fresh(size_t size, fairleadow_state *state, size_t *index, si
 uint8_t fairleadow_run(const uint8_t *image, size_t image_len, fairleadow_state *state, const uint16_t *words, size_t words_len,
                        uint32_t *masks, size_t masks_len, uint8_t *codes, size_t codes_len, size_t *index, size_t *count);
 
-/* A chart run from its text, in one call: translated to `image`, and run from a fresh state of `size` places, with a mask and a code for
- * each tick as in fairleadow_run. They are what the chart's walk over the words gives. The size is as wide as a length, so that none is
+/* A chart run from its text, in one call: translated to `image`, and run from a fresh state of `size` places, each tick with its
+ * mask and its code as in fairleadow_run. They are what the chart's walk over the words gives. The size is as wide as a length, so that none is
  * cut off before it is tried. It is a call for the office: the state is not handed out, and of the image's length nothing is told.
  * Tries what fairleadow_translate tries, then 14, 16 for masks and codes, and 17; counts ticks. Once the chart is translated `image` holds
  * its lines, also with 14, 16 and 17. */
