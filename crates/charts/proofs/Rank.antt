@@ -8,22 +8,23 @@ use Rattle.charts.specs.Check.{arcs, condition_arcs}
 use Rattle.charts.proofs.Accepted.{SoundChart}
 use Rattle.charts.proofs.Nodes.{arc-end, in-arcs0, in-arcs1}
 use Rattle.charts.proofs.Meaning.{condition-arcs}
+use Rattle.words.proofs.graph.Rank as joined
 
 abbrev pub rank : Chart → ℕ → ℕ
-rank c v = Rattle.words.proofs.graph.Rank.rank (size c) (condition_arcs c) v
+rank c v = joined.rank (size c) (condition_arcs c) v
 
 pub rank-le : (c : Chart) (v : ℕ) → rank c v ≤ size c
-rank-le c v = Rattle.words.proofs.graph.Rank.rank-le (size c) (condition_arcs c) v
+rank-le c v = joined.rank-le (size c) (condition_arcs c) v
 
 pub rank-some : (c : Chart) (v : ℕ) → v < size c → 1 ≤ rank c v
-rank-some c v l = Rattle.words.proofs.graph.Rank.rank-some (size c) (condition_arcs c) v l
+rank-some c v l = joined.rank-some (size c) (condition_arcs c) v l
 
 module _ (c : Chart) (a : SoundChart c) (v : ℕ) (l : v < size c) (k : kind c v ≡ 3) where
   pub rank_falls : (u : ℕ) → is_member u (arcs c v) ≡ true → rank c u < rank c v
   rank_falls u s =
       let i : is c 3 v ≡ true = eq-eqb (kind c v) 3 k in
       let e : condition_arcs c v ≡ arcs c v = condition-arcs c v i in
-      Rattle.words.proofs.graph.Rank.rank_falls (size c) (condition_arcs c) v u l (arc-end c a v u l s).inside (ap (is_member u) e ∙ s)
+      joined.rank_falls (size c) (condition_arcs c) v u l (arc-end c a v u l s).inside (ap (is_member u) e ∙ s)
       (ap (λ (us : List ℕ). is_marked (nodes_joined_from (size c) (condition_arcs c) us) v) e
       ∙ and-false (is c 3 v) (is_marked (nodes_joined_from (size c) (condition_arcs c) (arcs c v)) v) (a.no_circle v l) i)
 

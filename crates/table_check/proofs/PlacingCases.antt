@@ -37,9 +37,6 @@ module _ (b : List ℕ) (f : ℕ) where
     unfolding has_bad_content
     content_at = ap (is_bad_frame b f) is
 
-  pub displaced_noted : labels_from b ≤ f → f < rows_from b → false ≡ is_displaced b f
-  displaced_noted h l = sym (ap (λ (y : Bool). not y && is_stray b f) (noted_yes h l))
-
   -- ---- where it stands
   pub at_header : f ≡ 0 → position_of b f ≡ header_position
   unfolding position_of

@@ -2,7 +2,7 @@
 use Rattle.std.proofs.Common.{◌≡◌, refl, subst, ⊎_elim, Bool, true, false, ◌||◌, List, ℕ, ◌≤◌, ◌<◌, arith, eqb, eqb-true, eq-eqb, ne_eqb}
 use Rattle.words.specs.lists.Numbers.{count}
 use Rattle.words.proofs.lists.Tests.{no_both, or_cases, or-true-l, or_true_r, or-none, cases}
-use Rattle.words.proofs.lists.Counts.{count_less, count-some}
+use Rattle.words.proofs.lists.Counts.{count-le, count_less, count-some}
 use Rattle.words.specs.graph.Reach.{is_member, is_marked, nodes_joined_from}
 use Rattle.words.proofs.graph.Closure.{joined-first, joined-closed, joined-least}
 
@@ -25,6 +25,10 @@ module _ (n : ℕ) (arcs : ℕ → List ℕ) where
 
   pub with-self : (v : ℕ) → with v v ≡ true
   with-self v = or-true-l (eqb v v) (is_marked (marks_after_arcs v) v) (eq-eqb v v refl)
+
+  pub rank-le : (v : ℕ) → rank v ≤ n
+  unfolding rank
+  rank-le v = count-le (with v) 0 n
 
   pub rank-some : (v : ℕ) → v < n → 1 ≤ rank v
   unfolding rank
