@@ -18,34 +18,10 @@ kind-call (suc zero) h l = refl
 kind-call (suc (suc zero)) h l = refl
 kind-call (suc (suc (suc k))) h l = absurd (omega arith)
 
--- ---- where a label of that owner may not stand
-module _ (owner scheme l : ℕ) where
-
--- ---- number and server of a place
-module _ (number server scheme : ℕ) where
-
-module _ (H number called server : ℕ) where
-  module _ (e : number ≡ called) where
-
 -- ---- the bottom
 module _ (owner number server : ℕ) where
   pub first-own : owner ≡ 1 → is_own number server 1 ≡ (eqb owner 1 && is_own number server 1)
   first-own e = rw (eq-eqb owner 1 e)
-
--- t stands for the test that it is of scheme 1, u for the one that it is the handler's own
-module _ (handler owner l number server : ℕ) where
-  module _ (t : Bool) (is : t ≡ (eqb owner 1 && is_own number server 1)) where
-    module _ (other : t ≡ false) where
-      module _ (n : handler ≡ 0 → ⊥) (u : Bool) (by : u ≡ is_own number server handler) where
-
--- ---- the depth; n and d stand for size and depth as they were read
-
-module _ (s : State) (n d : ℕ) (size : n ≡ s.size) (depth : d ≡ s.depth) (t : Bool) (refused : t ≡ is_bad_size n) where
-
--- ---- who serves a number
-module _ (H g h k : ℕ) where
-  module _ (low : h ≤ H) where
-    module _ (other : h ≡ g → ⊥) where
 
 -- ---- the whole state: t stands for the tests of the places up to the depth and of the bottom, u for those of the places above
 module _ (i : Image) (s : State) where

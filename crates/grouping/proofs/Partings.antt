@@ -15,9 +15,6 @@ use Rattle.covering.specs.Matched.{is_together}
 use Rattle.grouping.specs.Classes.{class_of, is_parting, is_parted}
 use Rattle.grouping.specs.inner.GroupingContracts.{Even, is_parting_in, is_parting_any, is_parted_on}
 
--- ---- parts, parts_any
-module _ (b c : List ℕ) (f g : ℕ) where
-
 -- ---- lists
 some-range : {A : Type 0} (p : A → Bool) (f : ℕ → A) (a n : ℕ) → some p (map f (range a n)) ≡ any (λ k. p (f k)) a n
 unfolding some any

@@ -20,8 +20,6 @@ use Rattle.places.specs.chains.inner.Masks.{longest_chain}
 use Rattle.places.proofs.chains.Longest.{places-some}
 use Rattle.places.specs.Entry.{places_verdict, places_needed}
 
--- ---- rows counted up to 1025
-
 -- ---- what the code's number tells
 module _ (c : Chart) (f : Facts c) (n : ℕ) (e : n ≡ longest_chain c) where
   circle-when : (b : Bool) → is_circular c ≡ b → n ≡ (if b then 0 else places c)

@@ -52,7 +52,3 @@ module _ (b before : List ℕ) (h k : ℕ) (t : Bool) (e : t ≡ is_unfit (table
         → after ≡ bytes_of (state_of bound)
         → GivesRebindingOn (table_rebind b s h k) before (Ok 0) after
     done-rebinds q bound after x y = rw (table_is ∙ ap (answers false) q) (record { answered = refl; bytes = y ∙ ap bytes_of x })
-
--- at most 16 schemes, so that both are bytes
-module _ (b : List ℕ) (whole : Whole b) (h k : ℕ) (u : Bool) (f : u ≡ is_bad_rebinding (scheme_count b) (handler_in b) h k)
-    (q : u ≡ false) where

@@ -19,5 +19,3 @@ module _ (p q : ℕ → Bool) (n v a b : ℕ) (d : Downward p q n v a b) where
       → b' ≡ (if y then v - 1 else b)
       → Downward p q n (v - 1) a' b'
   downward-turn x y a' b' some ex ey ea eb = grind (arith, common_steps, lowest-below)
-
-  module _ (h : v ≤ 0) where

@@ -31,8 +31,3 @@ module _ (c : Chart) (v k : ℕ) (ek : k ≡ kind c v) where
 
   pub double-arc : 3 ≤ k → k < 5 → (is_bad_target c v (next0 c v) || is_bad_target c v (next1 c v)) ≡ has_bad_arc c v
   double-arc a b = grind (arith, common_steps, two-arcs, some-two)
-
-module _ (c : Chart) (v u : ℕ) (r : Bool) (eu : u ≡ next0 c v) (er : r ≡ is_bad_target c v u) where
-
--- ---- 7
-module _ (c : Chart) (v k a h : ℕ) (ek : k ≡ kind c v) (ea : a ≡ argument c v) (eh : h ≡ schemes c) where

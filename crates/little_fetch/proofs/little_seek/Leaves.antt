@@ -15,8 +15,6 @@ use Rattle.little_charts.specs.little_search.inner.Search.{node_at, is_lonely, s
 use Rattle.little_fetch.specs.declared.little_seek.Sought.{Sought}
 use Rattle.little_fetch.specs.little_seek.inner.SeekContracts.{FewFrames, RecordPlaced, SoughtCount, GivesSought, is_accepted}
 
--- ---- accepted or not
-
 -- ---- counted
 searched-leaf : (n : ℕ) (c : Chart) → searched_charts n 0 c ≡ (if is_accepted c then c ∷ [] else [])
 unfolding searched_charts

@@ -34,9 +34,6 @@ unfolding lowest
 lowest-last p i zero e = ap (λ (b : Bool). elim b [ true ↦ i | false ↦ suc i ]) (ap p (omega arith) ∙ e)
 lowest-last p i (suc n) e = ap (λ (k : ℕ). elim (p i) [ true ↦ i | false ↦ k ]) (lowest-last p (suc i) n (ap p (omega arith) ∙ e))
 
--- ---- the call of a node, by its kind
-module _ (c : Chart) (v k r : ℕ) (ek : k ≡ kind c v) where
-
 module _ (c : Chart) (v r : ℕ) (e : r ≡ called_at c v) where
   pub call-some : (r ≡ 0 → ⊥) → (has_call c v ≡ true) × (r ≡ argument c v)
   call-some n = grind (arith, common_steps)
