@@ -260,9 +260,9 @@ uint8_t fairleadow_rebind(const uint8_t *image, size_t image_len, fairleadow_sta
  * places, a return or a drop gives its places back. All that is read of the other three states is their depths, and nothing of them is
  * changed. Tries 25, then what the image check tries, then 15: the list is not of four states, their depths do not sum to *taken, that is
  * above 64, or the spindle's own state does not fit; then 17, 26 and 18. A drop needs no place, and on a full stack a call is a drop or
- * gets 17, never 26. Counts 1. A refused tick counts 0 and leaves the states, *taken, *mask and *code as they were: after 26 the same tick may be
- * tried again when another spindle has given back a place. A state of the list may also be rebound (fairleadow_rebind); to tick it by
- * itself, or to make it fresh, would leave *taken wrong. */
+ * gets 17, never 26. Counts 1. A refused tick counts 0 and leaves the states, *taken, *mask and *code as they were: after 26 the same tick
+ * may be tried again when another spindle has given back a place. A state of the list may also be rebound (fairleadow_rebind); to tick it
+ * by itself, or to make it fresh, would leave *taken wrong. */
 uint8_t fairleadow_spin(fairleadow_state *states, size_t states_len, size_t *taken, size_t spindle, const uint8_t *image,
                         size_t image_len, uint16_t word, uint32_t *mask, uint8_t *code, size_t *index, size_t *count);
 
@@ -296,11 +296,11 @@ uint8_t fairleadow_minimise(const uint8_t *image, size_t image_len, uint8_t *sma
 uint8_t fairleadow_little_chart(size_t frames, size_t number, uint8_t *text, size_t text_len, size_t *index, size_t *count);
 
 /* How often the stack fills. Of all lists of `ticks` words in which only the `conditions` lowest conditions are ever 1, each run from a
- * fresh state of `size` places: *ended tells how many come to their end, *full how many get 17 and *unmatched how many get 18. No ticks
- * is one empty list, which ends, and no conditions one list of zeros; together the three are 2 to the power of ticks times conditions. A
- * drop stops no list. On an image that the translator wrote *unmatched is 0. All three are written in every case, as 0 with a refusal. Size, ticks and conditions are as
- * wide as a length, so that none is cut off before it is tried. It is a call for the office: with 16 ticks times conditions there are
- * 65,536 lists. Tries what the image check tries, then 14 and 28; counts 0. */
+ * fresh state of `size` places: *ended tells how many come to their end, *full how many get 17 and *unmatched how many get 18. No ticks is
+ * one empty list, which ends, and no conditions one list of zeros; together the three are 2 to the power of ticks times conditions. A drop
+ * stops no list. On an image that the translator wrote *unmatched is 0. All three are written in every case, as 0 with a refusal. Size,
+ * ticks and conditions are as wide as a length, so that none is cut off before it is tried. It is a call for the office: with 16 ticks
+ * times conditions there are 65,536 lists. Tries what the image check tries, then 14 and 28; counts 0. */
 uint8_t fairleadow_count_fillings(const uint8_t *image, size_t image_len, size_t size, size_t ticks, size_t conditions,
                                   uint32_t *ended, uint32_t *full, uint32_t *unmatched, size_t *index, size_t *count);
 
