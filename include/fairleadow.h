@@ -220,7 +220,7 @@ uint8_t fairleadow_fresh(size_t size, fairleadow_state *state, size_t *index, si
  * Codes: 0x00 plain, 0x03 return, 0x04 home, 0x10 + h an operation's call of number h, 0x40 + h a function's, 0x60 a drop: a call
  * found the stack full, all open schemes are closed, and the handler starts at the next tick. A return may be the handler's, after
  * which comes a home tick.
- * Tries all that the image check tries, then 15 to 18; counts ticks. With 17 and 18 the state is that after the ticks counted. */
+ * Tries all of the image check, then 15 to 18; counts ticks. With 17 and 18 the state is that after the ticks counted. */
 uint8_t fairleadow_run(const uint8_t *image, size_t image_len, fairleadow_state *state, const uint16_t *words, size_t words_len,
                        uint32_t *masks, size_t masks_len, uint8_t *codes, size_t codes_len, size_t *index, size_t *count);
 

@@ -113,7 +113,7 @@ pub trait Library {
     /// A fresh state for a stack of so many places. Tries 14, and then every number of the state is 0.
     fn fresh(&self, size: usize) -> (Answer, State);
 
-    /// One tick a word, with its mask and its code, and the state after them. Tries all that the image check tries, then 15 to 18;
+    /// One tick a word, with its mask and its code, and the state after them. Tries all of the image check, then 15 to 18;
     /// counts ticks.
     fn run(
         &self,
