@@ -6,7 +6,8 @@
  *   *count   records, characters, labels, bytes of a table or ticks written, or places needed; with refusals 1 to 16 and 19 to 28
  *            it is 0, with 17 and 18 the ticks finished before
  * With refusals 1 to 16 and 19 to 28 no buffer and no state is changed; only 14 writes a state, of zeros, and fairleadow_dry_run leaves
- * an image that it has written before. With success, and with 17 and 18, nothing past the count is changed in a buffer.
+ * an image that it has written before. With success, and with 17 and 18, nothing past the count is changed in a buffer, and in that of
+ * a dry run's image, which is not counted, nothing past its lines.
  * A buffer is a pointer and how many elements it has; the pointer may be NULL where there are none. `index` and `count` may be NULL for
  * a caller who needs neither, and no other pointer. Nothing that a call writes may overlap anything else that the call is given. Nothing is
  * allocated and nothing is kept between calls: calls may be made at once from several threads, tasks or interrupts, as long as what one of
