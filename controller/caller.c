@@ -42,6 +42,7 @@ static int read_nothing(void) {
         fairleadow_places(NULL, 0, NULL, NULL) != FAIRLEADOW_BAD_LENGTH ||
         fairleadow_check_image(NULL, 0, NULL, NULL) != FAIRLEADOW_BAD_LENGTH ||
         fairleadow_prepare(NULL, 0, NULL, 0, NULL, NULL) != FAIRLEADOW_BAD_LENGTH ||
+        fairleadow_check_table(NULL, 0, NULL, NULL) != FAIRLEADOW_BAD_HEADER || fairleadow_sum(0, NULL, 0) != 0 ||
         fairleadow_minimise(NULL, 0, NULL, 0, NULL, NULL) != FAIRLEADOW_BAD_LENGTH)
         return 5;
     if (fairleadow_tick(NULL, 0, states, 0, &mask, &code, NULL, NULL) != FAIRLEADOW_BAD_LENGTH ||

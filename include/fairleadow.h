@@ -1,12 +1,13 @@
 /* Fairleadow: charts read, written, translated and run. Link with libfairleadow.a.
  *
- * Every function answers for everything that it is handed. All but fairleadow_meaning, fairleadow_sum and fairleadow_version return 0, or
- * the number of a refusal, and write
+ * Every function answers for everything that it is handed. All but fairleadow_meaning, fairleadow_sum and fairleadow_version, which
+ * refuse nothing, return 0, or the number of a refusal, and write
  *   *index   the frame (a line or a record) that the refusal names, from 0; only 2, 3, 4, 6 to 9, 12 and 13 name one, else it is 0
  *   *count   records, characters, labels, bytes of a table or ticks written, or places needed; with refusals 1 to 16 and 19 to 28
  *            it is 0, with 17 and 18 the ticks finished before
  * With refusals 1 to 16 and 19 to 28 no buffer and no state is changed; only 14 writes a state, of zeros, and fairleadow_dry_run leaves
- * an image that it has written before. With success, and with 17 and 18, nothing past the count is changed in a buffer.
+ * an image that it has written before. With success, and with 17 and 18, nothing past the count is changed in a buffer, and in that of
+ * a dry run's image, which is not counted, nothing past its lines.
  * A buffer is a pointer and how many elements it has; the pointer may be NULL where there are none. `index` and `count` may be NULL for
  * a caller who needs neither, and no other pointer. Nothing that a call writes may overlap anything else that the call is given. Nothing is
  * allocated and nothing is kept between calls: calls may be made at once from several threads, tasks or interrupts, as long as what one of
@@ -31,8 +32,8 @@
 #include <stddef.h>
 #include <stdint.h>
 
-/* The version of this header. It rises where a function, a number or the state's bytes change their meaning, and where any is added. A
- * program that begins with fairleadow_version() == FAIRLEADOW_VERSION was compiled with the header of its archive. */
+/* The version of this header. It rises where a function, a number or the state's bytes change their meaning, and where any is added. Where
+ * fairleadow_version() is another, the program was compiled with the header of another archive: ask at its beginning. */
 #define FAIRLEADOW_VERSION 2
 
 #ifdef __cplusplus
@@ -220,15 +221,15 @@ uint8_t fairleadow_fresh(size_t size, fairleadow_state *state, size_t *index, si
  * Codes: 0x00 plain, 0x03 return, 0x04 home, 0x10 + h an operation's call of number h, 0x40 + h a function's, 0x60 a drop: a call
  * found the stack full, all open schemes are closed, and the handler starts at the next tick. A return may be the handler's, after
  * which comes a home tick.
- * Refuses all that the image check refuses, then 15 to 18; counts ticks. With 17 and 18 the state is that after the ticks counted. */
+ * Tries all of the image check, then 15 to 18; counts ticks. With 17 and 18 the state is that after the ticks counted. */
 uint8_t fairleadow_run(const uint8_t *image, size_t image_len, fairleadow_state *state, const uint16_t *words, size_t words_len,
                        uint32_t *masks, size_t masks_len, uint8_t *codes, size_t codes_len, size_t *index, size_t *count);
 
-/* A chart run from its text, in one call: translated to `image`, and run from a fresh state of `size` places, each tick with its
- * mask and its code as in fairleadow_run. They are what the chart's walk over the words gives. The size is as wide as a length, so that none is
- * cut off before it is tried. It is a call for the office: the state is not handed out, and of the image's length nothing is told.
- * Tries what fairleadow_translate tries, then 14, 16 for masks and codes, and 17; counts ticks. Once the chart is translated `image` holds
- * its lines, also with 14, 16 and 17. */
+/* A chart run from its text, in one call: translated to `image`, and run from a fresh state of `size` places, each tick with its mask and
+ * its code as in fairleadow_run. They are what the chart's walk over the words gives. The size is as wide as a length, so that none is cut
+ * off before it is tried. It is a call for the office: the state is not handed out, and of the image's length nothing is told.
+ * Tries what fairleadow_translate tries, then 14, 16 for masks and codes, and 17; counts ticks. Once the chart is translated `image`
+ * holds the image's lines, also with 14, with 16 for masks and codes, and with 17. */
 uint8_t fairleadow_dry_run(const uint8_t *text, size_t text_len, size_t size, uint8_t *image, size_t image_len, const uint16_t *words,
                            size_t words_len, uint32_t *masks, size_t masks_len, uint8_t *codes, size_t codes_len, size_t *index,
                            size_t *count);
@@ -257,20 +258,20 @@ uint8_t fairleadow_rebind(const uint8_t *image, size_t image_len, fairleadow_sta
 
 /* One tick of spindle `spindle`, 0 to 3, by its own image. The four states stand in one list, `states_len` tells how many there are, and
  * *taken how many places they have taken together: 4 when all are fresh, and then what the last call left there. A call takes one of 64
- * places, a return or a drop gives its places back. All that is read of the other three states is their depths, and nothing is changed. Tries 25,
- * then what the image check tries, then 15: the list is not of four states, their depths do not sum to *taken, that is above 64, or the
- * spindle's own state does not fit; then 17, 26 and 18. A drop needs no place, and on a full stack a call is a drop or gets 17, never
- * 26. Counts 1. A refused tick counts 0 and leaves the states, *taken, *mask and *code as they were: after 26 the same tick may be
- * tried again when another spindle has given back a place. A state of the list may also be rebound (fairleadow_rebind); to tick it by
- * itself, or to make it fresh, would leave *taken wrong. */
+ * places, a return or a drop gives its places back. All that is read of the other three states is their depths, and nothing of them is
+ * changed. Tries 25, then what the image check tries, then 15: the list is not of four states, their depths do not sum to *taken, that is
+ * above 64, or the spindle's own state does not fit; then 17, 26 and 18. A drop needs no place, and on a full stack a call is a drop or
+ * gets 17, never 26. Counts 1. A refused tick counts 0 and leaves the states, *taken, *mask and *code as they were: after 26 the same tick
+ * may be tried again when another spindle has given back a place. A state of the list may also be rebound (fairleadow_rebind); to tick it
+ * by itself, or to make it fresh, would leave *taken wrong. */
 uint8_t fairleadow_spin(fairleadow_state *states, size_t states_len, size_t *taken, size_t spindle, const uint8_t *image,
                         size_t image_len, uint16_t word, uint32_t *mask, uint8_t *code, size_t *index, size_t *count);
 
-/* What makes the tick of a state by a word go where it goes: the row that it takes, told by its number among the image's rows (0 is
- * the first); a mask of the conditions that decide, so that every word which agrees with this one on them takes the same row; and the result bit
- * of the number called where the row is a function's, else 2. No tick is made, and the state is only read. A home tick, a call and a
- * handler's return at depth 1 take no row: they get 21. Tries what the image check tries, then 15, 21 and 18; counts 0. With a
- * refusal row, mask and bit are 0. */
+/* What makes the tick of a state by a word go where it goes: the row that it takes, told by its number among the image's rows (0 is the
+ * first); a mask of the conditions that decide, so that every word which agrees with this one on them takes the same row; and the result
+ * bit of the number called where the row is a function's, else 2. No tick is made, and the state is only read. A home tick, a call and a
+ * handler's return at depth 1 take no row: they get 21. Tries what the image check tries, then 15, 21 and 18; counts 0. With a refusal
+ * row, mask and bit are 0. */
 uint8_t fairleadow_cause(const uint8_t *image, size_t image_len, const fairleadow_state *state, uint16_t word,
                          uint16_t *row, uint16_t *mask, uint8_t *bit, size_t *index, size_t *count);
 
@@ -295,12 +296,12 @@ uint8_t fairleadow_minimise(const uint8_t *image, size_t image_len, uint8_t *sma
  * characters, 23 a frame. */
 uint8_t fairleadow_little_chart(size_t frames, size_t number, uint8_t *text, size_t text_len, size_t *index, size_t *count);
 
-/* How often the stack fills. Of all lists of `ticks` words, in which only the `conditions` lowest conditions are ever 1: how
- * many are run to the end, get 17 and get 18, each from a fresh state of `size` places. No ticks is one empty list, which
- * ends, and no conditions one list of zeros; together the three are 2 to the power of ticks times conditions. A drop stops no list. On an image
- * that the translator wrote *unmatched is 0. All three are written in every case, as 0 with a refusal. Size, ticks and conditions are as
- * wide as a length, so that none is cut off before it is tried. It is a call for the office: with 16 ticks times conditions there are
- * 65,536 lists. Tries what the image check tries, then 14 and 28; counts 0. */
+/* How often the stack fills. Of all lists of `ticks` words in which only the `conditions` lowest conditions are ever 1, each run from a
+ * fresh state of `size` places: *ended tells how many come to their end, *full how many get 17 and *unmatched how many get 18. No ticks is
+ * one empty list, which ends, and no conditions one list of zeros; together the three are 2 to the power of ticks times conditions. A drop
+ * stops no list. On an image that the translator wrote *unmatched is 0. All three are written in every case, as 0 with a refusal. Size,
+ * ticks and conditions are as wide as a length, so that none is cut off before it is tried. It is a call for the office: with 16 ticks
+ * times conditions there are 65,536 lists. Tries what the image check tries, then 14 and 28; counts 0. */
 uint8_t fairleadow_count_fillings(const uint8_t *image, size_t image_len, size_t size, size_t ticks, size_t conditions,
                                   uint32_t *ended, uint32_t *full, uint32_t *unmatched, size_t *index, size_t *count);
 
@@ -308,15 +309,15 @@ uint8_t fairleadow_count_fillings(const uint8_t *image, size_t image_len, size_t
  * lines are not needed afterwards. Tries what the image check tries, then 16; counts bytes. */
 uint8_t fairleadow_prepare(const uint8_t *image, size_t image_len, uint8_t *table, size_t table_len, size_t *index, size_t *count);
 
-/* Whether a table is exactly what fairleadow_prepare writes for some image, so that live calls on it are those on that image; it takes
- * no buffer of its own and can be made between two ticks. table_len is what fairleadow_prepare counted: bytes behind the table are refused
+/* Whether a table is exactly what fairleadow_prepare writes for some image that is in order, so that live calls on it are those on that
+ * image. It needs no buffer, and takes longer than a tick. table_len is what fairleadow_prepare counted: bytes behind the table are refused
  * with 11. A change that makes it the table of another image, as in a mask, is not told here but by fairleadow_sum.
- * Tries 11 to 13 as the image check does, and then 13 at the lowest label in whose line another place of its rows is noted; counts 0. */
+ * Tries 11 to 13 as the image check does, and then 13 at the lowest label whose line does not note where its rows end; counts 0. */
 uint8_t fairleadow_check_table(const uint8_t *table, size_t table_len, size_t *index, size_t *count);
 
-/* The CRC-32 (ISO-HDLC, as in zlib, PNG and Ethernet) of bytes whose sum is to go on from `sum`, that of the bytes before them; 0 to begin
- * with, so that a table can be summed a part in each tick. Bytes that differ in one of them, by however many bits, have different sums.
- * Refuses nothing. */
+/* The CRC-32 (ISO-HDLC, as in zlib, PNG and Ethernet) of bytes, which goes on from `sum`, that of the bytes before them, 0 where there are
+ * none: so a table can be summed a part in each tick. Bytes that differ in a single one of them, by however many bits, have different
+ * sums. Refuses nothing. */
 uint32_t fairleadow_sum(uint32_t sum, const uint8_t *bytes, size_t bytes_len);
 
 /* A run on a table. On one that fairleadow_prepare wrote it answers what fairleadow_run answers on the image; the buffer may be
@@ -341,10 +342,9 @@ uint8_t fairleadow_live_rebind(const uint8_t *table, size_t table_len, fairleado
 uint8_t fairleadow_live_spin(fairleadow_state *states, size_t states_len, size_t *taken, size_t spindle, const uint8_t *table,
                              size_t table_len, uint16_t word, uint32_t *mask, uint8_t *code, size_t *index, size_t *count);
 
-/* What a tick's code stands for. Returns the tick kind as an image has it (FAIRLEADOW_PLAIN to
- * FAIRLEADOW_HOME), 5 for a drop, or 255 for a code that no tick of an accepted image has
- * (a damaged table's ticks may have such), and writes the number called, 2 to 16, or 0 where none is. Refuses
- * nothing. */
+/* What a tick's code stands for. Returns the tick kind as an image has it (FAIRLEADOW_PLAIN to FAIRLEADOW_HOME), FAIRLEADOW_DROP for a
+ * drop, or FAIRLEADOW_NO_CODE for a code that no tick of an accepted image has (a damaged table's ticks may have such), and writes the
+ * number called, 2 to 16, or 0 where none is. Refuses nothing. */
 uint8_t fairleadow_meaning(uint8_t code, uint8_t *called);
 
 /* The version of the archive; that of this header is FAIRLEADOW_VERSION. Refuses nothing. */

@@ -1,7 +1,8 @@
 /* How the functions of fairleadow.h reach the archive; to be included by that file alone. Whatever the processor, the archive takes
  * lengths, numbers to rebind, numbers of little charts, spindles' numbers, sizes of stacks and the ticks and conditions of a count, and
- * writes index, count and the places taken as 64 bits, and of what it returns only the low eight bits have a meaning. The functions
- * below have the types of fairleadow.h, and from there on its names stand for them. Only fairleadow_version is in the archive as fairleadow.h has it. */
+ * writes index, count and the places taken as 64 bits. Of what it returns only the low eight bits have a meaning, but of a sum and of the
+ * version all 32. The functions below have the types of fairleadow.h, and from there on its names stand for them. Only fairleadow_version
+ * is in the archive as fairleadow.h has it. */
 #ifndef FAIRLEADOW_CALLS_H
 #define FAIRLEADOW_CALLS_H
 

@@ -1,6 +1,6 @@
-/* Notices that the table or the state in memory is no longer what the library wrote: a bit flipped, or something else wrote there. Each part
- * of the table has a sum, and one part is compared in each tick, so that a change is noticed within as many ticks as the table has parts.
- * The state has a sum too, which is taken after each call that writes it and compared before the next. */
+/* Notices that the table or the state in memory is no longer what the library wrote: a bit flipped, or something else wrote there. Each
+ * part of the table has a sum, and one part is compared in each tick, so that a change is noticed within as many ticks as the table has
+ * parts. The state has a sum too, which is taken after each call that writes it and compared before the next. */
 #ifndef GUARD_H
 #define GUARD_H
 

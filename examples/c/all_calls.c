@@ -1,12 +1,9 @@
 /* Sees that the header is that of the library, and makes every call of it on the chart on standard input: reads it and writes it back,
- * counts its places, translates it, checks the image, runs eight words from a fresh state of three places, makes the same ticks one by
- * one, both on the image and on the table prepared from it, and once more from the chart's text, runs them with prices, rebinds each number up to 3 to its own
- * scheme, makes
- * the ticks on each of four spindles, tells whether the table is as it was prepared and its sum, and tells what each code stands for, which signals made each tick go on and which
- * rows each label
- * has, and joins the labels that act alike, and counts how often stacks of one to three places fill. Then it fetches
- * every little chart.
- * Prints what came of each. */
+ * counts its places, translates it and checks the image. It prepares a table, and tells whether that is as it was prepared and its sum.
+ * From a fresh state of three places it runs eight words and makes the same ticks one by one, both on the image and on the table, and runs
+ * them once more from the chart's text, and with prices. It rebinds each number up to 3 to its own scheme, and makes the ticks on each of
+ * four spindles. It tells what each code stands for, which signals made each tick go on and which rows each label has, joins the labels
+ * that act alike, counts how often stacks of one to three places fill, and fetches every little chart. Prints what came of each. */
 #include <stdio.h>
 #include <string.h>
 

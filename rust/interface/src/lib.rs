@@ -102,9 +102,9 @@ pub trait Library {
     /// Chart lines to the image's lines. Tries 1 to 10, with 19 after 5, and 16; counts characters.
     fn translate(&self, text: &[u8], out: &mut [u8]) -> Answer;
 
-    /// How many places a chart's calls need at most, 1 to 16: as many as schemes in the longest chain of calls that begins at scheme 1, which counts. With so
-    /// many or more, from a fresh state, no call gets 17 or drops, as long as every number is served by its own scheme. Tries 1 to
-    /// 10, with 19 after 5, and 20; counts places.
+    /// How many places a chart's calls need at most, 1 to 16: as many as there are schemes in the longest chain of calls that begins at
+    /// scheme 1, which counts. With so many or more, from a fresh state, no call gets 17 or drops, as long as every number is served by
+    /// its own scheme. Tries 1 to 10, with 19 after 5, and 20; counts places.
     fn places(&self, text: &[u8]) -> Answer;
 
     /// Whether an image is in order. Tries 1 to 3 and 11 to 13.
@@ -113,8 +113,8 @@ pub trait Library {
     /// A fresh state for a stack of so many places. Tries 14, and then every number of the state is 0.
     fn fresh(&self, size: usize) -> (Answer, State);
 
-    /// One tick a word, with its mask and its code, and the state after them. Refuses all that the image check refuses,
-    /// then 15 to 18; counts ticks.
+    /// One tick a word, with its mask and its code, and the state after them. Tries all of the image check, then 15 to 18;
+    /// counts ticks.
     fn run(
         &self,
         image: &[u8],

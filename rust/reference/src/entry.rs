@@ -121,7 +121,7 @@ fn roomy(words: &[u16], masks: &[u32], codes: &[u8]) -> Result<(), Refusal> {
     refuse_if(16, masks.len() < words.len() || codes.len() < words.len())
 }
 
-/// Refuses all that the image check refuses, then 15 to 18; counts ticks.
+/// Tries all of the image check, then 15 to 18; counts ticks.
 pub fn run(
     image: &[u8],
     state: &State,
