@@ -1,8 +1,9 @@
-//! The calls by value, behind a reference and over a list of states, which no call from C makes: ticks, live runs, rebindings, priced runs,
-//! causes and spindles, over the image of the bench sheet's chart and over one with a scheme to swap.
-//! Each call prints a frame: 10 for a tick, 11 for one by value, 12 for a live tick, 13 for a live run, 14 and 15 for a rebinding and a live
-//! one, 16 for a priced run, 17 for a cause, 18 and 19 for a spindle's tick and live tick; then the number or 00, the index, the count, and
-//! the price, the row or the places taken. A tick's mask and code, a run's masks and codes and a cause's mask and bit follow, a byte a line.
+//! The calls by value, behind a reference and over a list of states, which no call from C makes: ticks, live runs, rebindings, priced
+//! runs, causes and spindles, over the image of the bench sheet's chart and over one with a scheme to swap.
+//! Each call prints a frame: 00 for a translation or a preparation, 10 for a tick, 11 for one by value, 12 for a live tick, 13 for a live
+//! run, 14 and 15 for a rebinding and a live one, 16 for a priced run, 17 for a cause, 18 and 19 for a spindle's tick and live tick; then
+//! the number or 00, the index, the count, and the price, the row or the places taken. A tick's mask and code, a run's masks and codes
+//! and a cause's mask and bit follow, a byte a line.
 #![tactic(auto)]
 
 use cause::explaining::cause_of;
@@ -46,7 +47,7 @@ fn fresh(size: usize) -> State {
     State::fresh(size).state
 }
 
-// Ticks by the words 0, 0, 1, 0, by each of the three calls, then one more on a stack of one place, where the call is refused.
+// Ticks by the words 0, 0, 1, 0, by each of the three calls; then on a stack of one place, where the second tick is a call and refused.
 fn ticks(image: &[u8], table: &[u8]) {
     let words = [0, 0, 1, 0];
     let mut kept = fresh(3);
@@ -62,19 +63,24 @@ fn ticks(image: &[u8], table: &[u8]) {
         live = ticked.state;
     }
     let mut short = fresh(1);
-    report_tick(0x10, tick(&mut short, image, 0), 0);
-    report_tick(0x11, tick_image(image, short, 0).answer, 0);
-    report_tick(0x12, live_tick(table, short, 0).answer, 0);
+    for _ in 0..2 {
+        report_tick(0x10, tick(&mut short, image, 0), 0);
+        report_tick(0x11, tick_image(image, short, 0).answer, 0);
+        report_tick(0x12, live_tick(table, short, 0).answer, 0);
+    }
 }
 
-// A live run of four words, with room for so many codes.
+// A live run of four words, with room for so many codes, four at most.
 fn run_live(table: &[u8], state: State, room: usize) -> State {
     let mut masks = [119u32; 4];
     let mut codes = [170u8; 4];
-    if 4 < room {
-        return state;
-    }
-    let ran = live_run(table, state, &[0, 0, 1, 0], &mut masks, &mut codes[..room]);
+    let ran = live_run(
+        table,
+        state,
+        &[0, 0, 1, 0],
+        &mut masks,
+        &mut codes[..room.min(4)],
+    );
     report(0x13, ran.answer, 0);
     print_ticks(masks, codes);
     ran.state
@@ -99,7 +105,7 @@ fn run_priced(image: &[u8], size: usize, first: u16, second: u16) {
     print_ticks(masks, codes);
 }
 
-// What makes the ticks of the words 0, 0, 1, 0 go where they go, then one of a state that takes no row.
+// What makes the ticks of the words 0, 0, 1, 0 go where they go, from a fresh state on, whose first takes no row where it is a call.
 fn causes(image: &[u8]) {
     let words = [0, 0, 1, 0];
     let mut state = fresh(3);
@@ -116,7 +122,7 @@ fn causes(image: &[u8]) {
     }
 }
 
-// Number 2 given to scheme 3 between two walks through the chart, by either call, then what is refused.
+// Four ticks with each number served by its own scheme, and four with number 2 given to scheme 3, by either call; then what is refused.
 fn rebindings(image: &[u8], table: &[u8]) {
     let mut state = fresh(2);
     let given = rebind(image, state, 2, 3);
@@ -138,26 +144,29 @@ fn rebindings(image: &[u8], table: &[u8]) {
     }
     report(0x14, rebind(image, state, 1, 2).answer, 0);
     report(0x15, live_rebind(table, state, 2, 4).answer, 0);
-    report(0x15, live_rebind(&table[..9], state, 2, 3).answer, 0);
+    report(0x15, live_rebind(&[0u8; 9], state, 2, 3).answer, 0);
 }
 
-// Four spindles by turns on one list, each two ticks, spindle 2 by live ticks; then a spindle that there is not, and a record that is wrong.
+// Four spindles by turns on one list, each two ticks, spindle 2 by live ticks; then a spindle that there is not, and a record that is
+// wrong.
 fn spindles(image: &[u8], table: &[u8]) {
     let mut states = [fresh(3); 4];
     let mut taken: usize = 4;
     for turn in 0..8 {
         let spindle = turn % 4;
-        let spun = if spindle == 2 {
-            live_spin(&mut states, taken, spindle, table, 0)
+        if spindle == 2 {
+            let spun = live_spin(&mut states, taken, spindle, table, 0);
+            taken = spun.taken;
+            report_tick(0x19, spun.answer, taken);
         } else {
-            spin(&mut states, taken, spindle, image, 0)
-        };
-        taken = spun.taken;
-        report_tick(0x18 + (spindle / 2 % 2) as u8, spun.answer, taken);
+            let spun = spin(&mut states, taken, spindle, image, 0);
+            taken = spun.taken;
+            report_tick(0x18, spun.answer, taken);
+        }
     }
     let spun = spin(&mut states, taken, 4, image, 0);
     report_tick(0x18, spun.answer, spun.taken);
-    let spun = live_spin(&mut states, taken + 1, 0, table, 0);
+    let spun = live_spin(&mut states, 65, 0, table, 0);
     report_tick(0x19, spun.answer, spun.taken);
 }
 
@@ -178,7 +187,7 @@ fn main() {
     let left = run_live(&table, left, 4);
     run_live(&table, left, 3);
     run_live(&table, fresh(1), 4);
-    run_live(&table[..100], fresh(3), 4);
+    run_live(&[0u8; 100], fresh(3), 4);
     run_priced(&image, 3, 100, 25);
     run_priced(&image, 1, 100, 25);
     causes(&image);
@@ -192,8 +201,8 @@ fn main() {
         00030007000000000000F6\n\
         02030008000000000004EF\n\
         01030000000000000000FC\n";
-    let mut image = [0u8; 322];
-    let mut table = [0u8; 140];
+    let mut image = [0u8; 276];
+    let mut table = [0u8; 120];
     report(0, translate(&swapped, &mut image), 0);
     report(0, prepare(&image, &mut table), 0);
     rebindings(&image, &table);
