@@ -308,15 +308,20 @@ uint8_t fairleadow_count_fillings(const uint8_t *image, size_t image_len, size_t
  * lines are not needed afterwards. Tries what the image check tries, then 16; counts bytes. */
 uint8_t fairleadow_prepare(const uint8_t *image, size_t image_len, uint8_t *table, size_t table_len, size_t *index, size_t *count);
 
-/* Whether a table is exactly what fairleadow_prepare writes for some image, so that live calls on it are those on that image; it takes
- * no buffer of its own and can be made between two ticks. table_len is what fairleadow_prepare counted: bytes behind the table are refused
- * with 11. A change that makes it the table of another image, as in a mask, is not told here but by fairleadow_sum.
- * Tries 11 to 13 as the image check does, and then 13 at the lowest label in whose line another place of its rows is noted; counts 0. */
+/* Whether a table is exactly what fairleadow_prepare writes for some image, so that live calls on it are those on that image. It takes
+ * no buffer of its own and can be made between two ticks; it reads the whole table, for longer than a tick takes. table_len is what
+ * fairleadow_prepare counted, not the size of the buffer: where there are more bytes, or fewer, 11 is given. Which image it is the table of
+ * is not told: one bit of a mask makes it that of another image, and the answer is 0. That a table is still the one of before only
+ * fairleadow_sum tells, against a sum that was taken then; what was wrong by then only this call tells. So a program makes both: this one
+ * behind the preparation and where the machine stands, sums while it runs (controller/firmware does).
+ * Tries 11 to 13 as the image check does, but that a label's line notes in bytes 0 and 1 where its rows end, which is tried last: 13 at the
+ * lowest label that notes anything else. With 12 and 13 *index is the line, of ten bytes; counts 0. */
 uint8_t fairleadow_check_table(const uint8_t *table, size_t table_len, size_t *index, size_t *count);
 
-/* The CRC-32 (ISO-HDLC, as in zlib, PNG and Ethernet) of bytes whose sum is to go on from `sum`, that of the bytes before them; 0 to begin
- * with, so that a table can be summed a part in each tick. Bytes that differ in one of them, by however many bits, have different sums.
- * Refuses nothing. */
+/* The CRC-32 (ISO-HDLC, as in zlib, PNG and Ethernet) of bytes. `sum` is that of the bytes before these, or 0 where there are none before
+ * them: so the sum of a whole may be taken in parts, one in each tick, each with the sum that the part before it gave. Bytes that differ in
+ * a single one of them, by however many of its bits, have different sums; where more bytes differ the sums may be equal. Refuses nothing;
+ * of no bytes the answer is `sum`. */
 uint32_t fairleadow_sum(uint32_t sum, const uint8_t *bytes, size_t bytes_len);
 
 /* A run on a table. On one that fairleadow_prepare wrote it answers what fairleadow_run answers on the image; the buffer may be
