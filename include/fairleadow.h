@@ -24,6 +24,7 @@
  *    fresh             136   minimise       14,920   meaning           136
  *    run            13,504   little_chart    1,568   dry_run        20,160
  *    priced_run     13,648   count_fillings 18,240   version           136
+ *    check_table       264   sum               136
  */
 #ifndef FAIRLEADOW_H
 #define FAIRLEADOW_H
