@@ -25,6 +25,7 @@
  *    fresh             136   minimise       14,920   meaning           136
  *    run            13,504   little_chart    1,568   dry_run        20,160
  *    priced_run     13,648   count_fillings 18,240   version           136
+ *    check_table       264   sum               136
  */
 #ifndef FAIRLEADOW_H
 #define FAIRLEADOW_H
@@ -310,14 +311,17 @@ uint8_t fairleadow_count_fillings(const uint8_t *image, size_t image_len, size_t
 uint8_t fairleadow_prepare(const uint8_t *image, size_t image_len, uint8_t *table, size_t table_len, size_t *index, size_t *count);
 
 /* Whether a table is exactly what fairleadow_prepare writes for some image that is in order, so that live calls on it are those on that
- * image. It needs no buffer, and takes longer than a tick. table_len is what fairleadow_prepare counted: bytes behind the table are refused
- * with 11. A change that makes it the table of another image, as in a mask, is not told here but by fairleadow_sum.
- * Tries 11 to 13 as the image check does, and then 13 at the lowest label whose line does not note where its rows end; counts 0. */
+ * image. It needs no buffer, reads the whole table and so takes longer than a tick. table_len is what fairleadow_prepare counted, not the
+ * size of the buffer: where there are more bytes, or fewer, 11 is given. Which image it is the table of is not told: one bit of a mask makes
+ * it that of another one, and the answer is 0. Whether a table is still the one of before only fairleadow_sum tells, against a sum that was
+ * taken then. So a program makes both: this call behind the preparation and where the machine stands, sums while it runs.
+ * Tries 11 to 13 as the image check does, but last of all whether each label's line notes in bytes 0 and 1 where its rows end: 13 at the
+ * lowest that does not. With 12 and 13 *index is the line, of ten bytes; counts 0. */
 uint8_t fairleadow_check_table(const uint8_t *table, size_t table_len, size_t *index, size_t *count);
 
-/* The CRC-32 (ISO-HDLC, as in zlib, PNG and Ethernet) of bytes, which goes on from `sum`, that of the bytes before them, 0 where there are
- * none: so a table can be summed a part in each tick. Bytes that differ in a single one of them, by however many bits, have different
- * sums. Refuses nothing. */
+/* The CRC-32 (ISO-HDLC, as in zlib, PNG and Ethernet) of bytes. `sum` is that of the bytes before these, or 0 where there are none before
+ * them: so a whole may be summed in parts, one in each tick. Bytes that differ in a single one of them, by however many of its bits, have
+ * different sums; where more differ the sums may be equal. Refuses nothing; of no bytes the answer is `sum`. */
 uint32_t fairleadow_sum(uint32_t sum, const uint8_t *bytes, size_t bytes_len);
 
 /* A run on a table. On one that fairleadow_prepare wrote it answers what fairleadow_run answers on the image; the buffer may be

@@ -13,6 +13,10 @@ use Rattle.image_check.specs.contracts.check_image as check-image
 use Rattle.image_check.proofs.check_image.Reads as check-image-reads
 use Rattle.tables.specs.contracts.preparing.prepare as prepare
 use Rattle.tables.proofs.preparing.prepare.Reads as prepare-reads
+use Rattle.table_check.specs.contracts.check_table as check-table
+use Rattle.table_check.proofs.check_table.Reads as check-table-reads
+use Rattle.crc.specs.contracts.sum as sum
+use Rattle.crc.proofs.sum.Reads as sum-reads
 use Rattle.rows.specs.contracts.image_rows.list_rows as list-rows
 use Rattle.rows.proofs.image_rows.list_rows.Reads as list-rows-reads
 use Rattle.minimising.specs.contracts.minimise as minimise
@@ -77,6 +81,10 @@ use Rattle.fairleadow.specs.contracts.version_for_c.fairleadow_version as c-vers
 use Rattle.fairleadow.proofs.version_for_c.fairleadow_version.Reads as c-version-reads
 use Rattle.fairleadow.specs.contracts.images_for_c.fairleadow_prepare as c-prepare
 use Rattle.fairleadow.proofs.images_for_c.fairleadow_prepare.Reads as c-prepare-reads
+use Rattle.fairleadow.specs.contracts.damage_for_c.fairleadow_check_table as c-check-table
+use Rattle.fairleadow.proofs.damage_for_c.fairleadow_check_table.Reads as c-check-table-reads
+use Rattle.fairleadow.specs.contracts.damage_for_c.fairleadow_sum as c-sum
+use Rattle.fairleadow.proofs.damage_for_c.fairleadow_sum.Reads as c-sum-reads
 use Rattle.fairleadow.specs.contracts.runs_for_c.fairleadow_live_run as c-live-run
 use Rattle.fairleadow.proofs.runs_for_c.fairleadow_live_run.Reads as c-live-run-reads
 use Rattle.fairleadow.specs.contracts.runs_for_c.fairleadow_live_tick as c-live-tick
@@ -119,6 +127,12 @@ check-image-asks-nothing κs a = tt
 
 pub prepare-asks-nothing : (κs : Lfts 2) (a : ArgsD prepare.signature κs) → prepare-reads.Asked κs a
 prepare-asks-nothing κs a = tt
+
+pub check-table-asks-nothing : (κs : Lfts 1) (a : ArgsD check-table.signature κs) → check-table-reads.Asked κs a
+check-table-asks-nothing κs a = tt
+
+pub sum-asks-nothing : (κs : Lfts 1) (a : ArgsD sum.signature κs) → sum-reads.Asked κs a
+sum-asks-nothing κs a = tt
 
 pub fresh-asks-nothing : (κs : Lfts 0) (a : ArgsD fresh.signature κs) → fresh-reads.Asked κs a
 fresh-asks-nothing κs a = tt
@@ -216,6 +230,12 @@ c-version-asks-nothing κs a = tt
 
 pub c-prepare-asks-nothing : (κs : Lfts 4) (a : ArgsD c-prepare.signature κs) → c-prepare-reads.Asked κs a
 c-prepare-asks-nothing κs a = tt
+
+pub c-check-table-asks-nothing : (κs : Lfts 3) (a : ArgsD c-check-table.signature κs) → c-check-table-reads.Asked κs a
+c-check-table-asks-nothing κs a = tt
+
+pub c-sum-asks-nothing : (κs : Lfts 1) (a : ArgsD c-sum.signature κs) → c-sum-reads.Asked κs a
+c-sum-asks-nothing κs a = tt
 
 pub c-live-run-asks-nothing : (κs : Lfts 7) (a : ArgsD c-live-run.signature κs) → c-live-run-reads.Asked κs a
 c-live-run-asks-nothing κs a = tt

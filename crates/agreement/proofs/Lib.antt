@@ -23,6 +23,7 @@ pub mod RunsAlone
 pub mod DryRuns
 pub mod Contracts
 pub mod DryRunContracts
+pub mod DamageContracts
 pub mod Causes
 pub mod Listings
 pub mod Capitals

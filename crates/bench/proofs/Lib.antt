@@ -28,3 +28,4 @@ pub mod Spindles
 pub mod Prices
 pub mod Fillings
 pub mod DryRuns
+pub mod Sums

@@ -16,6 +16,7 @@ pub mod Spindles
 pub mod Prices
 pub mod Fillings
 pub mod DryRuns
+pub mod Sums
 pub mod Numbers
 pub mod Idlers
 pub mod Variants

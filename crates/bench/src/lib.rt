@@ -20,6 +20,7 @@ ghost use Rattle.bench.specs.Fillings.{FillingCases};
 ghost use Rattle.bench.specs.Live.{LiveCases};
 ghost use Rattle.bench.specs.Outputs.{PrintedCases};
 ghost use Rattle.bench.specs.DryRuns.{DryRunCases};
+ghost use Rattle.bench.specs.Sums.{SumCases};
 ghost use Rattle.bench.specs.Numbers.{RefusalNumbers, TickCodes, Meanings, Sizes, NodeLayout, ImageLayout, StateLayout, HeadSizes};
 ghost use Rattle.bench.specs.Idlers.{TurnsBackFails, OneImageFails, AlwaysFullFails, AlwaysHomeFails, PlainAfterCallFails};
 ghost use Rattle.bench.specs.Idlers.{StaysInHandlerFails, HomeAfterDropFails, WritesNothingFails, KeepsStateFails};
@@ -74,6 +75,7 @@ pub fn the_bench_sheet_holds()
     ensures live { LiveCases }
     ensures printed { PrintedCases }
     ensures dry_runs { DryRunCases }
+    ensures sums { SumCases }
 {}
 
 /// No function that does too little meets the translator's equation or the agreement, and whatever meets the agreement does what the

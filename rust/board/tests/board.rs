@@ -16,7 +16,7 @@ use reference::{fresh_state, Reference};
 const CASES: u64 = 20_000;
 
 /// The calls, as controller/README.md names them.
-const CALLS: [(Call, &str); 23] = [
+const CALLS: [(Call, &str); 24] = [
     (Call::ReadChart, "read_chart"),
     (Call::WriteChart, "write_chart"),
     (Call::Translate, "translate"),

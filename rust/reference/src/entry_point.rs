@@ -16,6 +16,8 @@ pub enum EntryPoint {
     Places,
     CheckImage,
     Prepare,
+    CheckTable,
+    Sum,
     Tick,
     Run,
     DryRun,
@@ -43,7 +45,7 @@ pub struct Input {
     pub state: State,
     pub words: Vec<u16>,
     pub prices: Prices,
-    /// A stack's size, a code, how many frames a little chart has, or the number of a spindle.
+    /// A stack's size, a code, how many frames a little chart has, the number of a spindle, or the sum of the bytes before.
     pub value: usize,
     /// A little chart's number.
     pub chart: usize,
@@ -71,7 +73,8 @@ impl Input {
     }
 }
 
-/// What a call answers, and what it leaves in the buffers and the state that it was lent. The three counts of lists go to the masks.
+/// What a call answers, and what it leaves in the buffers and the state that it was lent. The three counts of lists and the sum go to the
+/// masks.
 #[derive(Debug, PartialEq, Eq)]
 pub struct Made {
     pub answer: Answer,
@@ -87,13 +90,15 @@ pub struct Made {
 }
 
 impl EntryPoint {
-    pub const ALL: [EntryPoint; 23] = [
+    pub const ALL: [EntryPoint; 25] = [
         EntryPoint::ReadChart,
         EntryPoint::WriteChart,
         EntryPoint::Translate,
         EntryPoint::Places,
         EntryPoint::CheckImage,
         EntryPoint::Prepare,
+        EntryPoint::CheckTable,
+        EntryPoint::Sum,
         EntryPoint::Tick,
         EntryPoint::Run,
         EntryPoint::DryRun,
@@ -121,6 +126,8 @@ impl EntryPoint {
             EntryPoint::Places => "places",
             EntryPoint::CheckImage => "check_image",
             EntryPoint::Prepare => "prepare",
+            EntryPoint::CheckTable => "check_table",
+            EntryPoint::Sum => "sum",
             EntryPoint::Tick => "tick",
             EntryPoint::Run => "run",
             EntryPoint::DryRun => "dry_run",
@@ -152,6 +159,11 @@ impl EntryPoint {
             EntryPoint::Places => answered(library.places(&text())),
             EntryPoint::CheckImage => answered(library.check_image(&text())),
             EntryPoint::Prepare => written(TABLE, |out| library.prepare(&text(), out)),
+            EntryPoint::CheckTable => answered(library.check_table(&bytes())),
+            EntryPoint::Sum => {
+                let sum = library.sum(*value as u32, &bytes());
+                Made { masks: vec![sum], ..answered(Answer::Done(0)) }
+            }
             EntryPoint::Tick => ticked(state, |after| library.tick(&text(), after, words[0])),
             EntryPoint::LiveTick => ticked(state, |after| library.live_tick(&bytes(), after, words[0])),
             EntryPoint::Run => {

@@ -17,6 +17,7 @@ use Rattle.bench.proofs.Fillings.{filling-cases}
 use Rattle.bench.proofs.Live.{live-cases}
 use Rattle.bench.proofs.Outputs.{printed-cases}
 use Rattle.bench.proofs.DryRuns.{dry-run-cases}
+use Rattle.bench.proofs.Sums.{sum-cases}
 
 pub returns-clause-bench_sheet : goal.returns-clause-bench_sheet
 returns-clause-bench_sheet c = bench-sheet
@@ -92,3 +93,6 @@ returns-clause-printed c = printed-cases
 
 pub returns-clause-dry_runs : goal.returns-clause-dry_runs
 returns-clause-dry_runs c = dry-run-cases
+
+pub returns-clause-sums : goal.returns-clause-sums
+returns-clause-sums c = sum-cases
