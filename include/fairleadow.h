@@ -311,10 +311,10 @@ uint8_t fairleadow_count_fillings(const uint8_t *image, size_t image_len, size_t
 uint8_t fairleadow_prepare(const uint8_t *image, size_t image_len, uint8_t *table, size_t table_len, size_t *index, size_t *count);
 
 /* Whether a table is exactly what fairleadow_prepare writes for some image that is in order, so that live calls on it are those on that
- * image. It needs no buffer, reads the whole table and so takes longer than a tick. table_len is what fairleadow_prepare counted, not the
- * size of the buffer: where there are more bytes, or fewer, 11 is given. Which image it is the table of is not told: one bit of a mask makes
- * it that of another one, and the answer is 0. Whether a table is still the one of before only fairleadow_sum tells, against a sum that was
- * taken then. So a program makes both: this call behind the preparation and where the machine stands, sums while it runs.
+ * image. It needs no buffer, reads the whole table and so takes longer than a tick. table_len is what fairleadow_prepare counted, not
+ * the size of the buffer: where there are more bytes, or fewer, 11 is given. Which image it is the table of is not told: one bit of a
+ * mask makes it that of another one, and the answer is 0. Whether a table is still the one of before only fairleadow_sum tells, against a
+ * sum that was taken then. So a program makes both: this call behind the preparation and where the machine stands, sums while it runs.
  * Tries 11 to 13 as the image check does, but last of all whether each label's line notes in bytes 0 and 1 where its rows end: 13 at the
  * lowest that does not. With 12 and 13 *index is the line, of ten bytes; counts 0. */
 uint8_t fairleadow_check_table(const uint8_t *table, size_t table_len, size_t *index, size_t *count);

@@ -1,4 +1,5 @@
--- No refusal has the number 0: of each call whose answer C tells success by, 0 in the place of the number is success.
+-- No refusal has the number 0: of a translation, a preparation, a joined image, a little chart, a listing, a cause and
+-- a count of full stacks, 0 in the place of the number is success.
 use Rattle.std.specs.Prelude.{ℕ, ◌≡◌, List}
 use Rattle.text.specs.frames.Answer.{success, reply_number, reply_count}
 use Rattle.translator.specs.Entry.{translate}

@@ -70,8 +70,8 @@ pub fn causes_and_rows_are_told()
     ensures rows_from_c { RowsListedC }
 {}
 
-/// A call that tells C the number 0 has succeeded, since no refusal has it: of each call that makes a text, a table, a listing, a cause or
-/// counts.
+/// A call that tells C the number 0 has succeeded, since no refusal has it: of translations, preparations, joined images, little charts,
+/// listings, causes and counts of full stacks.
 pub fn number_0_is_success()
     ensures translations { TranslateSucceeds }
     ensures preparations { PrepareSucceeds }
