@@ -27,6 +27,8 @@ pub enum EntryPoint {
     CountFillings,
     Rebind,
     Spin,
+    CheckTable,
+    Sum,
     LiveTick,
     LiveRun,
     LiveRebind,
@@ -71,7 +73,7 @@ impl Input {
     }
 }
 
-/// What a call answers, and what it leaves in the buffers and the state that it was lent. The three counts of lists go to the masks.
+/// What a call answers, and what it leaves in the buffers and the state that it was lent. The three counts of lists, and a sum, go to the masks.
 #[derive(Debug, PartialEq, Eq)]
 pub struct Made {
     pub answer: Answer,
@@ -87,7 +89,7 @@ pub struct Made {
 }
 
 impl EntryPoint {
-    pub const ALL: [EntryPoint; 23] = [
+    pub const ALL: [EntryPoint; 25] = [
         EntryPoint::ReadChart,
         EntryPoint::WriteChart,
         EntryPoint::Translate,
@@ -105,6 +107,8 @@ impl EntryPoint {
         EntryPoint::CountFillings,
         EntryPoint::Rebind,
         EntryPoint::Spin,
+        EntryPoint::CheckTable,
+        EntryPoint::Sum,
         EntryPoint::LiveTick,
         EntryPoint::LiveRun,
         EntryPoint::LiveRebind,
@@ -132,6 +136,8 @@ impl EntryPoint {
             EntryPoint::CountFillings => "count_fillings",
             EntryPoint::Rebind => "rebind",
             EntryPoint::Spin => "spin",
+            EntryPoint::CheckTable => "check_table",
+            EntryPoint::Sum => "sum",
             EntryPoint::LiveTick => "live_tick",
             EntryPoint::LiveRun => "live_run",
             EntryPoint::LiveRebind => "live_rebind",
@@ -203,6 +209,8 @@ impl EntryPoint {
             EntryPoint::Spin => {
                 spun(state, *value, |states, taken| library.spin(states, taken, *value, &text(), words[0]))
             }
+            EntryPoint::CheckTable => answered(library.check_table(&bytes())),
+            EntryPoint::Sum => Made { masks: vec![library.sum(0, &bytes())], ..answered(Answer::Done(0)) },
             EntryPoint::LiveSpin => spun(state, *value, |states, taken| {
                 library.live_spin(states, taken, *value, &bytes(), words[0])
             }),

@@ -22,7 +22,12 @@ pub fn drawn(random: &mut Random, entry: EntryPoint) -> Input {
         EntryPoint::DryRun => {
             Input { value: random.within(1, 32), words, ..Input::of(charts::chart(random)) }
         }
-        EntryPoint::LiveTick | EntryPoint::LiveRun | EntryPoint::LiveRebind | EntryPoint::LiveSpin => {
+        EntryPoint::CheckTable
+        | EntryPoint::Sum
+        | EntryPoint::LiveTick
+        | EntryPoint::LiveRun
+        | EntryPoint::LiveRebind
+        | EntryPoint::LiveSpin => {
             let (bytes, state) = tables::table_and_state(random);
             Input { state, words, ..Input::of(bytes.as_chunks::<10>().0.to_vec()) }
         }
@@ -51,9 +56,12 @@ fn change(random: &mut Random, entry: EntryPoint, input: &mut Input) {
             1 => word(random, &mut input.words),
             _ => chart(random, &mut input.frames),
         },
-        EntryPoint::CheckImage | EntryPoint::Prepare | EntryPoint::ListRows | EntryPoint::Minimise => {
-            image(random, &mut input.frames)
-        }
+        EntryPoint::CheckImage
+        | EntryPoint::Prepare
+        | EntryPoint::ListRows
+        | EntryPoint::Minimise
+        | EntryPoint::CheckTable
+        | EntryPoint::Sum => image(random, &mut input.frames),
         EntryPoint::Tick
         | EntryPoint::Run
         | EntryPoint::PricedRun
