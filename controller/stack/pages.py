@@ -17,7 +17,7 @@ SHORT = "README.md"
 # the lathe's memory, the longest image, the largest table, a line and a state, in bytes
 MEMORY, IMAGE_TEXT, TABLE, LINE, STATE, SPINDLES = 65_536, 29_831, 12_970, 23, 130, 4
 # calls that docs/MEASUREMENTS.md names otherwise than with spaces in their names
-NAMES = {"list of rows": "list_rows", "count of fillings": "count_fillings"}
+NAMES = {"list of rows": "list_rows", "count of fillings": "count_fillings", "check of a table": "check_table"}
 
 
 def number(cell):

@@ -16,7 +16,7 @@ use reference::{fresh_state, Reference};
 const CASES: u64 = 20_000;
 
 /// The calls, as controller/README.md names them.
-const CALLS: [(Call, &str); 24] = [
+const CALLS: [(Call, &str); 26] = [
     (Call::ReadChart, "read_chart"),
     (Call::WriteChart, "write_chart"),
     (Call::Translate, "translate"),
@@ -35,6 +35,8 @@ const CALLS: [(Call, &str); 24] = [
     (Call::Rebind, "rebind"),
     (Call::Spin, "spin"),
     (Call::Prepare, "prepare"),
+    (Call::CheckTable, "check_table"),
+    (Call::Sum, "sum"),
     (Call::LiveRun, "live_run"),
     (Call::LiveTick, "live_tick"),
     (Call::LiveRebind, "live_rebind"),

@@ -16,8 +16,6 @@ pub enum EntryPoint {
     Places,
     CheckImage,
     Prepare,
-    CheckTable,
-    Sum,
     Tick,
     Run,
     DryRun,
@@ -29,6 +27,8 @@ pub enum EntryPoint {
     CountFillings,
     Rebind,
     Spin,
+    CheckTable,
+    Sum,
     LiveTick,
     LiveRun,
     LiveRebind,
@@ -45,7 +45,7 @@ pub struct Input {
     pub state: State,
     pub words: Vec<u16>,
     pub prices: Prices,
-    /// A stack's size, a code, how many frames a little chart has, the number of a spindle, or the sum of the bytes before.
+    /// A stack's size, a code, how many frames a little chart has, or the number of a spindle.
     pub value: usize,
     /// A little chart's number.
     pub chart: usize,
@@ -73,8 +73,7 @@ impl Input {
     }
 }
 
-/// What a call answers, and what it leaves in the buffers and the state that it was lent. The three counts of lists and the sum go to the
-/// masks.
+/// What a call answers, and what it leaves in the buffers and the state that it was lent. The three counts of lists, and a sum, go to the masks.
 #[derive(Debug, PartialEq, Eq)]
 pub struct Made {
     pub answer: Answer,
@@ -97,8 +96,6 @@ impl EntryPoint {
         EntryPoint::Places,
         EntryPoint::CheckImage,
         EntryPoint::Prepare,
-        EntryPoint::CheckTable,
-        EntryPoint::Sum,
         EntryPoint::Tick,
         EntryPoint::Run,
         EntryPoint::DryRun,
@@ -110,6 +107,8 @@ impl EntryPoint {
         EntryPoint::CountFillings,
         EntryPoint::Rebind,
         EntryPoint::Spin,
+        EntryPoint::CheckTable,
+        EntryPoint::Sum,
         EntryPoint::LiveTick,
         EntryPoint::LiveRun,
         EntryPoint::LiveRebind,
@@ -126,8 +125,6 @@ impl EntryPoint {
             EntryPoint::Places => "places",
             EntryPoint::CheckImage => "check_image",
             EntryPoint::Prepare => "prepare",
-            EntryPoint::CheckTable => "check_table",
-            EntryPoint::Sum => "sum",
             EntryPoint::Tick => "tick",
             EntryPoint::Run => "run",
             EntryPoint::DryRun => "dry_run",
@@ -139,6 +136,8 @@ impl EntryPoint {
             EntryPoint::CountFillings => "count_fillings",
             EntryPoint::Rebind => "rebind",
             EntryPoint::Spin => "spin",
+            EntryPoint::CheckTable => "check_table",
+            EntryPoint::Sum => "sum",
             EntryPoint::LiveTick => "live_tick",
             EntryPoint::LiveRun => "live_run",
             EntryPoint::LiveRebind => "live_rebind",
@@ -159,11 +158,6 @@ impl EntryPoint {
             EntryPoint::Places => answered(library.places(&text())),
             EntryPoint::CheckImage => answered(library.check_image(&text())),
             EntryPoint::Prepare => written(TABLE, |out| library.prepare(&text(), out)),
-            EntryPoint::CheckTable => answered(library.check_table(&bytes())),
-            EntryPoint::Sum => {
-                let sum = library.sum(*value as u32, &bytes());
-                Made { masks: vec![sum], ..answered(Answer::Done(0)) }
-            }
             EntryPoint::Tick => ticked(state, |after| library.tick(&text(), after, words[0])),
             EntryPoint::LiveTick => ticked(state, |after| library.live_tick(&bytes(), after, words[0])),
             EntryPoint::Run => {
@@ -215,6 +209,8 @@ impl EntryPoint {
             EntryPoint::Spin => {
                 spun(state, *value, |states, taken| library.spin(states, taken, *value, &text(), words[0]))
             }
+            EntryPoint::CheckTable => answered(library.check_table(&bytes())),
+            EntryPoint::Sum => Made { masks: vec![library.sum(0, &bytes())], ..answered(Answer::Done(0)) },
             EntryPoint::LiveSpin => spun(state, *value, |states, taken| {
                 library.live_spin(states, taken, *value, &bytes(), words[0])
             }),

@@ -2,6 +2,7 @@
 //! lathe has 64 kilobytes: each call has to leave room for the chart's text and the image's, a preparation for the image's
 //! text and the table, a live call for the table; a call that makes an image smaller for as much of both texts as there is room for.
 
+mod damage;
 mod dry_runs;
 mod fillings;
 mod little;

@@ -58,10 +58,10 @@ fn change(random: &mut Random, entry: EntryPoint, input: &mut Input) {
         },
         EntryPoint::CheckImage
         | EntryPoint::Prepare
-        | EntryPoint::CheckTable
-        | EntryPoint::Sum
         | EntryPoint::ListRows
-        | EntryPoint::Minimise => image(random, &mut input.frames),
+        | EntryPoint::Minimise
+        | EntryPoint::CheckTable
+        | EntryPoint::Sum => image(random, &mut input.frames),
         EntryPoint::Tick
         | EntryPoint::Run
         | EntryPoint::PricedRun

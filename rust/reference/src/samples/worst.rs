@@ -65,7 +65,7 @@ pub fn known(entry: EntryPoint) -> Vec<Candidate> {
         }
         EntryPoint::DryRun => dry_runs(),
         EntryPoint::CheckImage | EntryPoint::Prepare | EntryPoint::ListRows => images(),
-        EntryPoint::CheckTable | EntryPoint::Sum => prepared_images(),
+        EntryPoint::CheckTable | EntryPoint::Sum => of_images(table_of),
         EntryPoint::Minimise => smaller_images(),
         EntryPoint::LittleChart => little_charts(),
         EntryPoint::CountFillings => fillings(),
@@ -147,29 +147,18 @@ fn sample_images() -> Vec<(String, Origin, Image)> {
 }
 
 fn images() -> Vec<Candidate> {
+    of_images(Image::frames)
+}
+
+/// Images, with what is made of an image.
+fn of_images(frames: fn(&Image) -> Vec<Frame>) -> Vec<Candidate> {
     let mut all: Vec<Candidate> = sample_images()
         .into_iter()
-        .map(|(name, origin, image)| Candidate::new(&name, origin, Input::of(image.frames())))
+        .map(|(name, origin, image)| Candidate::new(&name, origin, Input::of(frames(&image))))
         .collect();
     let constructed = worst_images().into_iter();
     all.extend(
-        constructed.map(|(name, it)| Candidate::new(name, Origin::Construction, Input::of(it.frames()))),
-    );
-    all
-}
-
-/// The same, prepared, and a table that no preparation makes.
-fn prepared_images() -> Vec<Candidate> {
-    let images = sample_images().into_iter();
-    let constructed =
-        worst_images().into_iter().map(|(name, it)| (name.to_string(), Origin::Construction, it));
-    let mut all: Vec<Candidate> = images
-        .chain(constructed)
-        .map(|(name, origin, image)| Candidate::new(&name, origin, Input::of(table_of(&image))))
-        .collect();
-    let tables = worst_tables().into_iter();
-    all.extend(
-        tables.map(|(name, frames, ..)| Candidate::new(name, Origin::Construction, Input::of(frames))),
+        constructed.map(|(name, it)| Candidate::new(name, Origin::Construction, Input::of(frames(&it)))),
     );
     all
 }
