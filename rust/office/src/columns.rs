@@ -35,6 +35,10 @@ const WIDE: [(u32, u32); 13] = [
 
 /// How many columns of a terminal a text takes.
 pub fn width(text: &str) -> usize {
+    // what a table mostly holds: nothing to look up
+    if text.is_ascii() {
+        return text.len();
+    }
     let within =
         |ranges: &[(u32, u32)], code| ranges.iter().any(|(low, high)| (*low..=*high).contains(&code));
     let of_one = |character: char| match u32::from(character) {

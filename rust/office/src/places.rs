@@ -29,16 +29,19 @@ pub fn needed(bytes: &[u8]) -> Result<String, Problem> {
 
 /// What an accepted chart needs, in words.
 pub fn told(source: &Source) -> Result<String, Problem> {
-    let plan = Plan::read(source.clone())?;
-    match held(Proved.places(&source.text), Calls::of(&plan.nodes))? {
+    of_plan(&Plan::read(source.clone())?)
+}
+
+fn of_plan(plan: &Plan) -> Result<String, Problem> {
+    match held(Proved.places(&plan.source.text), Calls::of(&plan.nodes))? {
         (Answer::Done(places), Calls::Chain(schemes)) => {
             let names: Vec<String> = schemes.iter().map(|scheme| plan.names.scheme(*scheme)).collect();
             Ok(format!("needs {}: {}", counted(places, "place"), names.join(" > ")))
         }
         (Answer::Refused { number: 20, .. }, Calls::Circle(nodes)) => {
-            Ok(format!("may need any number of places: {}", round(&plan, &nodes)))
+            Ok(format!("may need any number of places: {}", round(plan, &nodes)))
         }
-        (answer, _) => Err(source.problem(answer)),
+        (answer, _) => Err(plan.source.problem(answer)),
     }
 }
 
@@ -80,6 +83,18 @@ fn round(plan: &Plan, nodes: &[usize]) -> String {
 #[cfg(test)]
 mod tests {
     use super::*;
+    use crate::source::from_bytes;
+
+    /// The places of one chart are not told with the calls of another.
+    #[test]
+    fn the_calls_told_are_held_to_the_places() {
+        let read = |text: &[u8]| Plan::read(from_bytes(text)).expect("an accepted chart");
+        let mut plan = read(include_bytes!("../../../examples/bore.chart"));
+        assert_eq!(of_plan(&plan).as_deref(), Ok("needs 2 places: s1 > s2"));
+        plan.nodes = read(include_bytes!("../../../examples/home.chart")).nodes;
+        let told = "internal error: a chain of 1 scheme is found, and the library says 2 places";
+        assert_eq!(of_plan(&plan).expect_err("they differ").words, told);
+    }
 
     #[test]
     fn chains_and_circles_that_the_library_does_not_bear_out_are_told() {

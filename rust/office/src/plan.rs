@@ -30,18 +30,23 @@ impl Plan {
             Answer::Done(count) => {
                 let nodes = nodes(&records[..RECORD * count]);
                 let marking = Marking::of(&nodes);
-                let image = translated(&source).map(Image::accepted);
-                if let Ok(image) = &image {
-                    held::to_image(&nodes, &marking, image)?;
-                }
-                let tested = nodes.iter().fold(0, |tested, node| match node {
-                    Node::Condition { number, .. } => tested | 1 << number,
-                    _ => tested,
-                });
-                Ok(Plan { names: source.names.clone(), source, nodes, marking, tested, image })
+                Plan::marked(source, nodes, marking)
             }
             refused => Err(source.problem(refused)),
         }
+    }
+
+    /// The plan of an accepted chart, with labels that are held to its image.
+    fn marked(source: Source, nodes: Vec<Node>, marking: Marking) -> Result<Plan, Problem> {
+        let image = translated(&source).map(Image::accepted);
+        if let Ok(image) = &image {
+            held::to_image(&nodes, &marking, image)?;
+        }
+        let tested = nodes.iter().fold(0, |tested, node| match node {
+            Node::Condition { number, .. } => tested | 1 << number,
+            _ => tested,
+        });
+        Ok(Plan { names: source.names.clone(), source, nodes, marking, tested, image })
     }
 
     pub fn schemes(&self) -> u8 {
@@ -61,5 +66,21 @@ impl Plan {
     /// How many arcs the chart has.
     pub fn arc_count(&self) -> usize {
         self.nodes.iter().map(|node| node.arcs().len()).sum()
+    }
+}
+
+#[cfg(test)]
+mod tests {
+    use super::*;
+    use crate::source::from_bytes;
+
+    /// A chart whose labels are found otherwise than the library's image has them is told, and is no plan.
+    #[test]
+    fn a_plan_has_the_labels_of_its_image() {
+        let chart = from_bytes(include_bytes!("../../../examples/bore.chart"));
+        let plan = Plan::read(chart.clone()).expect("an accepted chart");
+        let other = Plan::read(from_bytes(include_bytes!("../../../examples/paper.chart"))).expect("another");
+        let told = Plan::marked(chart, plan.nodes, other.marking).expect_err("labels of another chart");
+        assert!(told.words.starts_with("internal error: the labels of the nodes are not those"), "{told}");
     }
 }

@@ -62,6 +62,19 @@ fn check_warns_of_what_was_likely_not_meant() {
         let out = fairleadow(&["check", "-"], chart.as_bytes()).1;
         assert_eq!(out.lines().skip(1).collect::<Vec<&str>>(), [format!("  warning: {warning}")]);
     }
+    // what holds before a calling box and after it is off in the box's own tick where it is not among its outputs, and over two functions
+    // in turn, which are told once
+    let held = "output 0 clamp\noutput 1 drill\nscheme 1\nbegin -> a\na: do clamp -> b\nb: do drill; call sub -> c\nc: do clamp -> d\n\
+                 d: if call sub then e else f\ne: if call sub then f else g\nf: do drill -> end\ng: do clamp -> end\nend\n\
+                 scheme 2 sub\nbegin -> yes\nyes: write 1 -> end\nend\n";
+    let out = fairleadow(&["check", "-"], held.as_bytes()).1;
+    let warnings = [
+        "line 6 (node b): clamp is on in a (line 5) and again in c (line 7), and off between them, in this box's own tick at least",
+        "line 8 (node d): clamp is on in c (line 7) and again in g (line 11), and off between them, in the function's own tick at \
+         least",
+    ];
+    let warnings = warnings.map(|words| format!("  warning: {words}"));
+    assert_eq!(out.lines().skip(1).collect::<Vec<&str>>(), warnings);
     // two schemes that only call each other, and one that only they call; what the handler calls is open when the stack is full
     let circle = "scheme 1\nbegin -> end\nend\nscheme 2 there\nbegin -> a\na: do nothing; call back -> end\nend\n\
                   scheme 3 back\nbegin -> b\nb: do nothing; call there -> c\nc: do nothing; call only -> end\nend\n\

@@ -191,6 +191,37 @@ fn titles_are_the_shops_names() {
     assert!(!svg.contains("<title>cluster"));
 }
 
+/// A number after a text in a piece of a drawing.
+fn number(text: &str, before: &str) -> Option<f64> {
+    text.split_once(before)?.1.split(['"', ' ', ',']).next()?.parse().ok()
+}
+
+/// An underscore reaches below its line: the next line stands further down, and the first one below the upper edge.
+#[test]
+fn lines_of_a_box_have_room() {
+    let svg = drawn("bore.txt", &["--svg"]).printed;
+    if svg.is_empty() {
+        return missing();
+    }
+    let nodes: Vec<&str> = svg.split("<g id=\"").filter(|group| group.contains("class=\"node")).collect();
+    assert_eq!(nodes.len(), 10);
+    for node in nodes {
+        let corners =
+            node.split_once("points=\"").map_or("", |(_, rest)| rest.split('"').next().unwrap_or(""));
+        let heights = corners.split(' ').filter_map(|corner| corner.split_once(',')?.1.parse().ok());
+        let mut above = heights.min_by(f64::total_cmp).map(|edge| (edge, 1.2));
+        for text in node.split("<text ").skip(1) {
+            let (line, size) =
+                (number(text, " y=\"").expect("a height"), number(text, "font-size=\"").expect("a size"));
+            // a line may be in pieces
+            if let Some((above, room)) = above.filter(|(above, _)| *above != line) {
+                assert!(line - above >= room * size, "{node}");
+            }
+            above = Some((line, 1.3));
+        }
+    }
+}
+
 /// Random charts: dot takes each drawing, and every node, arc and call has its group.
 #[test]
 fn dot_takes_every_drawing() {

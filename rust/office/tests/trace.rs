@@ -5,6 +5,7 @@ mod shared;
 use std::time::{Duration, Instant};
 
 use fairleadow::{Library, Proved};
+use office::chart::Node;
 use office::plan::Plan;
 use office::{source, trace};
 use shared::{example, file, run, Ran};
@@ -258,6 +259,21 @@ fn ticks_are_made_on_a_prepared_table() {
     let ((table, table_masks), (text, text_masks)) = (least(on_table), least(on_text));
     assert_eq!(table_masks, text_masks);
     assert!(table * 2 < text, "{table:?} and {text:?}");
+}
+
+/// Arcs that end elsewhere than the library's state stands are told, and make no trace.
+#[test]
+fn arcs_that_lead_astray_are_an_internal_error() {
+    let mut plan = source::load(&example("bore.txt")).and_then(Plan::read).expect("an accepted chart");
+    assert!(trace::trace(&plan, 32, &[0; 9], &[]).is_ok());
+    for node in &mut plan.nodes {
+        if let Node::Condition { next0, next1, .. } = node {
+            std::mem::swap(next0, next1);
+        }
+    }
+    let told = trace::trace(&plan, 32, &[0; 9], &[]).expect_err("another node").words;
+    let start = "internal error: by word 0x0000 the arcs lead to node yes";
+    assert!(told.starts_with(start) && told.ends_with("the library's state stands at another"), "{told}");
 }
 
 /// The words of a table are given to another run as they stand, and make the same table.

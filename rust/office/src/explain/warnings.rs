@@ -21,12 +21,9 @@ pub fn warnings(plan: &Plan) -> Vec<String> {
         None => Voice::Lines,
     };
     let of_nodes = (0..plan.nodes.len()).flat_map(|at| {
-        [
-            one_target(plan, at, voice),
-            never_1(plan, at, voice),
-            unreached(plan, at, voice),
-            off_between(plan, at, voice),
-        ]
+        let [own, across] = off_between(plan, at, voice);
+        let others = [one_target(plan, at, voice), never_1(plan, at, voice), unreached(plan, at, voice)];
+        others.into_iter().chain([own, across])
     });
     let mut all: Vec<Problem> =
         of_nodes.flatten().chain(notation.into_iter().flat_map(|own| unused(plan, own))).collect();
@@ -81,32 +78,43 @@ fn reached(plan: &Plan) -> Vec<u8> {
     reached
 }
 
-/// Outputs that are on in the box before a call or a function and again in the box after it. A call stands in a box with outputs of
-/// its own, or by itself after other boxes. Between them is at least a tick of an End, and that of the function or of the call by
-/// itself, in which no output is on.
-fn off_between(plan: &Plan, at: usize, voice: Voice) -> Option<Problem> {
-    let (before, between) = match plan.nodes[at] {
-        Node::Operation { called: 1.., mask: 0, .. } => {
-            (boxes_before(plan, at), "in this box's own tick at least")
-        }
-        Node::Operation { called: 1.., .. } => (vec![at], "in the tick of the called scheme's End at least"),
-        Node::Function { .. } => (boxes_before(plan, at), "in the function's own tick at least"),
-        _ => return None,
+/// Outputs that are on before and after what a node calls, and off between: its own, which are off in the tick of an End at least, and
+/// those of the boxes before it, which are off in its own tick already.
+fn off_between(plan: &Plan, at: usize, voice: Voice) -> [Option<Problem>; 2] {
+    let own_tick = match plan.nodes[at] {
+        Node::Operation { called: 1.., .. } => "in this box's own tick at least",
+        Node::Function { .. } => "in the function's own tick at least",
+        _ => return [None, None],
     };
-    let after = stops_after(plan, at);
-    let both = masks(plan, &before) & masks(plan, &after);
-    if both == 0 {
-        return None;
-    }
+    let off = |before: &[usize], after: &[usize], outputs: u32, between: &str| {
+        let both = masks(plan, before) & masks(plan, after) & outputs;
+        (both != 0)
+            .then(|| voice.problem(at, ARGUMENT, &on_again(plan, voice, at, (before, after), both, between)))
+    };
+    let own = mask(plan, at);
+    [
+        off(&[at], &stops_after(plan, at), own, "in the tick of the called scheme's End at least"),
+        off(&boxes_before(plan, at), &boxes_after(plan, at), !own, own_tick),
+    ]
+}
+
+/// Outputs that are on in boxes before a node and again in boxes after it, in words.
+fn on_again(
+    plan: &Plan,
+    voice: Voice,
+    at: usize,
+    (before, after): (&[usize], &[usize]),
+    outputs: u32,
+    between: &str,
+) -> String {
     let name = |node: usize| if node == at { "here".to_string() } else { format!("in {}", voice.node(node)) };
     let named = |nodes: &[usize]| {
-        let on = nodes.iter().filter(|node| mask(plan, **node) & both != 0);
+        let on = nodes.iter().filter(|node| mask(plan, **node) & outputs != 0);
         listed(&on.map(|node| name(*node)).collect::<Vec<String>>())
     };
-    let (outputs, are) = (plan.operations(both), if both.is_power_of_two() { "is" } else { "are" });
-    let (outputs, before, after) = (listed(&outputs), named(&before), named(&after));
-    let what = format!("{outputs} {are} on {before} and again {after}, and off between them, {between}");
-    Some(voice.problem(at, ARGUMENT, &what))
+    let are = if outputs.is_power_of_two() { "is" } else { "are" };
+    let (outputs, before, after) = (listed(&plan.operations(outputs)), named(before), named(after));
+    format!("{outputs} {are} on {before} and again {after}, and off between them, {between}")
 }
 
 /// The outputs of a node.
@@ -135,6 +143,21 @@ fn stops_after(plan: &Plan, at: usize) -> Vec<usize> {
     }
     stops.sort_unstable();
     stops
+}
+
+/// The nodes that take the next tick after a node's, and after theirs where they call and put nothing out.
+fn boxes_after(plan: &Plan, at: usize) -> Vec<usize> {
+    let mut after = stops_after(plan, at);
+    let mut next = 0;
+    while let Some(stop) = after.get(next).copied() {
+        if called(&plan.nodes[stop]) != 0 && mask(plan, stop) == 0 {
+            let new = stops_after(plan, stop).into_iter().filter(|stop| !after.contains(stop));
+            after.extend(new.collect::<Vec<usize>>());
+        }
+        next += 1;
+    }
+    after.sort_unstable();
+    after
 }
 
 /// The operations whose next tick may be a node's, when what they call is done.
