@@ -132,7 +132,7 @@
     const walker = document.createTreeWalker(document.body, NodeFilter.SHOW_TEXT);
     while (walker.nextNode()) {
       const one = walker.currentNode.parentElement;
-      if (!walker.currentNode.textContent.trim() || one.closest("script, title, noscript, :disabled")) continue;
+      if (!walker.currentNode.textContent.trim() || one.closest("script, title, noscript")) continue;
       const style = getComputedStyle(one);
       const pair = [light(one.closest("svg") ? style.fill : style.color), light(ground(one))].sort((a, b) => b - a);
       const ratio = (pair[0] + 0.05) / (pair[1] + 0.05);

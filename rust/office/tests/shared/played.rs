@@ -121,9 +121,12 @@ impl Repository {
 
     /// The script on two processors, started from another folder, where there is nothing but the stand-ins and what it is written with.
     pub fn command(&self, args: &[&str]) -> Command {
-        let mut command = Command::new(self.root.join("dry_run"));
+        // the script cannot hear a signal that was ignored where it is started, as nohup does
+        let mut command = Command::new(self.root.join("tools/env"));
         let path = format!("{0}/kit/bin:{0}/tools", self.root.display());
         command
+            .arg("--default-signal=HUP,INT,TERM")
+            .arg(self.root.join("dry_run"))
             .args(args)
             .env("PATH", path)
             .env("TMPDIR", self.root.join("room"))
