@@ -432,7 +432,9 @@ class Repository(unittest.TestCase):
         path, match = self.first(r"^unfoldable pub (\w+) : Type 0\n\1 =", "/specs/")
         where = path[len("crates/") : -len(".antt")]
         self.edit(path, match[0], match[0] + " ⊤ ⊎", f"changed: definition {where}.{match[1]}")
-        path, match = self.first(r"^pub const (\w+): u8 = (\d+);\n+pub const (\w+): u8 = (\d+);", "/frames/refusals.rt")
+        path, match = self.first(
+            r"^pub const (\w+): u8 = (\d+);\n+(?:///.*\n)*pub const (\w+): u8 = (\d+);", "/frames/refusals.rt"
+        )
         swapped = f"pub const {match[1]}: u8 = {match[4]}; pub const {match[3]}: u8 = {match[2]};"
         constants = (f"changed: the type, trait or constant text::frames::refusals::{match[at]}" for at in (1, 3))
         self.edit(path, match[0], swapped, *constants)

@@ -1,5 +1,5 @@
 -- Whatever rule chooses among the rows that match: on the image of a chart the machine makes the same ticks by it.
-use Rattle.std.proofs.Common.{◌≡◌, refl, sym, ◌∙◌, ap, ap₂, subst, true, false, List, ℕ, ◌+◌, ◌-◌, ◌≤◌, ◌<◌, arith, length, get_or}
+use Rattle.std.proofs.Common.{◌≡◌, sym, ◌∙◌, ap, ap₂, subst, true, false, List, ℕ, ◌+◌, ◌-◌, ◌≤◌, ◌<◌, arith, length, slice_index_or}
 use Rattle.std.proofs.lemmas.Grind.{common_steps}
 use Rattle.words.proofs.lists.Tests.{no_both}
 use Rattle.results.specs.Results.{Results}
@@ -30,11 +30,11 @@ only-taken l w b rs o x m = go x m ∙ sym o.taken
     best = best-is l w b rs o.number o.one o.taken
 
     go : (x : Choice) → Matching l w b rs x → x ≡ row o.number o.one
-    go no_choice m = no_both (is_candidate l w b (get_or rs o.number no_row))
+    go no_choice m = no_both (is_candidate l w b (slice_index_or rs o.number no_row))
         (ap (is_candidate l w b) best.is ∙ best.matches) (m o.number best.inside)
     go (row k r) m =
         let same : k ≡ o.number = o.only k m.0 (ap (is_candidate l w b) m.1 ∙ m.2) in
-        ap₂ row same (sym m.1 ∙ ap (λ (j : ℕ). get_or rs j no_row) same ∙ best.is)
+        ap₂ row same (sym m.1 ∙ ap (λ (j : ℕ). slice_index_or rs j no_row) same ∙ best.is)
 
 -- where the rule takes the machine's row, for the label at the top or beneath a return, it makes the machine's tick
 module _ (f : Rule) (i : Image) (s : State) (w : ℕ) where

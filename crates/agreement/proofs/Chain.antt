@@ -1,5 +1,5 @@
 -- A list of runs and rebindings on the image of a chart hands back what the walk of the joined words gives.
-use Rattle.std.proofs.Common.{if◌then◌else◌, ℕ, ◌≤◌, Bool, true, false, ◌≡◌, refl, ap, ap₂, ◌∙◌, sym, subst, List, [], ◌∷◌, map, ltb}
+use Rattle.std.proofs.Common.{if◌then◌else◌, ℕ, ◌≤◌, Bool, true, false, ◌≡◌, refl, ap, ap₂, ◌∙◌, sym, subst, List, [], ◌∷◌, map, nat_lt}
 use Rattle.std.proofs.Common.{length, take, arith}
 use Rattle.std.proofs.lemmas.Grind.{common_steps}
 use Rattle.words.specs.lists.Sequences.{over}
@@ -37,24 +37,24 @@ use Rattle.agreement.proofs.Bounds.{stand}
 use Rattle.agreement.proofs.Ticks.{run_from_position, StandsWell, stand-stands, ticks-are}
 use Rattle.agreement.proofs.Joins.{joined-short, joined-long, Due, joins}
 use Rattle.agreement.proofs.Images.{run-image, rebind-image}
-use Rattle.agreement.proofs.Expected.{all_short}
+use Rattle.agreement.proofs.Expected.{all-short}
 
 -- ---- one run on an image that is accepted and decodes to i, from a state that fits
 module _ (text : List ℕ) (i : Image) (passes : image_verdict text ≡ fine) (decodes : decoded_image (contents text) ≡ i) where
-  pub run_is : (s : State) (ws ms ks : List ℕ) → Fits i s
+  pub run-is : (s : State) (ws ms ks : List ℕ) → Fits i s
       → run text s ws ms ks ≡ run_on (when 16 (has_no_room ws ms ks)) (λ _. ticks i s ws) s ms ks
-  run_is s ws ms ks f = grind (arith, common_steps, fits, run-image)
+  run-is s ws ms ks f = grind (arith, common_steps, fits, run-image)
 
   chain-short : (s : State) (a : RunInput) (rest : List CallInput) → Fits i s → is_short a ≡ true
       → call_outputs run rebind text s (to_run a ∷ rest) ≡ by_run (output_refused_short a) ∷ call_outputs run rebind text s rest
   unfolding call_outputs
-  chain-short s a rest f e = grind (arith, common_steps, run_is)
+  chain-short s a rest f e = grind (arith, common_steps, run-is)
 
   chain-long : (s : State) (a : RunInput) (rest : List CallInput) → Fits i s → is_short a ≡ false → {r : MachineRun} → ticks i s a.words ≡ r
       → call_outputs run rebind text s (to_run a ∷ rest) ≡ by_run (output_of (run_on fine (λ _. r) s a.masks a.codes)) ∷ call_outputs
       run rebind text r.state rest
   unfolding call_outputs
-  chain-long s a rest f e q = grind (arith, common_steps, run_is)
+  chain-long s a rest f e q = grind (arith, common_steps, run-is)
 
   -- ---- one rebinding, which 22 refuses where t is true
   pub rebind-is : (s : State) (h k : ℕ) → Fits i s → {t : Bool} → is_bad_rebinding (length i.entries) i.handler h k ≡ t
@@ -105,7 +105,7 @@ module _ (c : Chart) (facts : Facts c) (table_facts : TableFacts c) (text : List
           ≡ Due c n s x (to_run a ∷ rest)
       go true e = chain-short text (table c) passes decodes (state_of_position c n s x) a rest f e
           ∙ ap (λ (l : List CallOutput). by_run (output_refused_short a) ∷ l) (ih s x z f)
-          ∙ sym (all_short c _ _ 0 a rest e)
+          ∙ sym (all-short c _ _ 0 a rest e)
           ∙ sym (ap (λ (js : List Signal). let ts = trace n c js x in expected_outputs c (bound n ts) ts 0 (to_run a ∷ rest))
           (joined-short c s a rest e))
       go false e =
@@ -124,7 +124,7 @@ module _ (c : Chart) (facts : Facts c) (table_facts : TableFacts c) (text : List
             masks = over (map (λ (t : Tick). t.mask) (take b ts)) a.masks;
             codes = over (map (λ (t : Tick). t.code) (take b ts)) a.codes;
           }) ∷ l)
-          (replied-by (ltb b (length a.words)) (length (map (λ (t : Tick). t.code) (take b ts))))
+          (replied-by (nat_lt b (length a.words)) (length (map (λ (t : Tick). t.code) (take b ts))))
           (ih s y (stand-stands c n s facts served a.words x z) kept)
           ∙ joins c n s a rest x e
           ∙ sym (ap (λ (js : List Signal). let us = trace n c js x in expected_outputs c (bound n us) us 0 (to_run a ∷ rest))
@@ -163,8 +163,8 @@ module _ (c : Chart) (facts : Facts c) (table_facts : TableFacts c) (text : List
       → let ts = walk n c (joined_words c own_binding given) in
       call_outputs run rebind text (fresh_state n).state given ≡ expected_outputs c (bound n ts) ts 0 given
   calls-agree l given =
-      let at_home : fresh n ≡ state_of_position c n own_binding (position_at_home c no_results) = home-is c facts n in
-      ap (λ (s : State). call_outputs run rebind text s given) (fresh-is n l n≤ ∙ at_home)
+      let at-home : fresh n ≡ state_of_position c n own_binding (position_at_home c no_results) = home-is c facts n in
+      ap (λ (s : State). call_outputs run rebind text s given) (fresh-is n l n≤ ∙ at-home)
       ∙ chain-is given own_binding (position_at_home c no_results) (record { low = l; good = home-good c facts no_results })
-      (subst (Fits (table c)) at_home (fresh-fits (table c) sound n l n≤))
+      (subst (Fits (table c)) at-home (fresh-fits (table c) sound n l n≤))
       ∙ sym (ap (λ (ts : List Tick). expected_outputs c (bound n ts) ts 0 given) (walk-trace n c (joined_words c own_binding given)))

@@ -7,7 +7,7 @@ use Rattle.rebinding.specs.Rebind.{rebind}
 use Rattle.agreement.specs.Agreement.{CallInput, CallOutput, call_outputs, Agreement}
 use Rattle.agreement.specs.Calls.{CallsInTurn, none, more, Delivered}
 use Rattle.agreement.proofs.Demand.{theorem}
-use Rattle.agreement.proofs.OneCall.{Like, call-like, chain_more}
+use Rattle.agreement.proofs.OneCall.{Like, call-like, chain-more}
 
 pub calls-chain : (image : List ℕ) (s : State) (given : List CallInput) (handed : List CallOutput) → CallsInTurn image s given handed
     → handed ≡ call_outputs run rebind image s given
@@ -19,7 +19,7 @@ calls-chain image s (g ∷ rest) (d ∷ handed) (more {after = after} c cs) =
     let like : Like image s g d after = call-like image s c in
     ap₂ (λ (x : CallOutput) (l : List CallOutput). x ∷ l) like.handed-is
     (calls-chain image after rest handed cs ∙ ap (λ (z : State). call_outputs run rebind image z rest) like.state-is)
-    ∙ sym (chain_more image s g rest)
+    ∙ sym (chain-more image s g rest)
 
 pub delivered : Delivered
 unfolding Delivered Agreement

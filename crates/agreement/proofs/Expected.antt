@@ -1,5 +1,5 @@
 -- What is expected of a list of runs and rebindings: moved along the ticks, and after the bound.
-use Rattle.std.proofs.Common.{if◌then◌else◌, ℕ, ◌+◌, ◌-◌, ◌≤◌, Bool, true, false, ◌≡◌, refl, ap, ◌∙◌, sym, List, [], ◌∷◌, ◌++◌, map, ltb}
+use Rattle.std.proofs.Common.{if◌then◌else◌, ℕ, ◌+◌, ◌≤◌, Bool, true, false, ◌≡◌, refl, ap, ◌∙◌, sym, List, [], ◌∷◌, ◌++◌, map, nat_lt}
 use Rattle.std.proofs.Common.{length, arith}
 use Rattle.std.proofs.Math.Seq.{drop-append-add}
 use Rattle.std.proofs.lemmas.Grind.{common_steps}
@@ -20,10 +20,10 @@ output_told_by stopped done ts a = record {
 }
 
 module _ (c : Chart) (b : ℕ) (ts : List Tick) (p : ℕ) (a : RunInput) (rest : List CallInput) where
-  pub all_short : is_short a ≡ true → expected_outputs c b ts p (to_run a ∷ rest)
+  pub all-short : is_short a ≡ true → expected_outputs c b ts p (to_run a ∷ rest)
       ≡ by_run (output_refused_short a) ∷ expected_outputs c b ts p rest
   unfolding expected_outputs
-  all_short e = rw (e, expected_outputs)
+  all-short e = rw (e, expected_outputs)
 
   pub all-long : is_short a ≡ false
       → expected_outputs c b ts p (to_run a ∷ rest) ≡ by_run (expected_output b ts p a) ∷ expected_outputs c b ts (p + length a.words) rest
@@ -35,7 +35,7 @@ same-all : (c : Chart) (b : ℕ) (ts : List Tick) (p b' : ℕ) (ts' : List Tick)
     → expected_output b ts p a ≡ expected_output b' ts' p' a → expected_outputs c b ts p rest ≡ expected_outputs c b' ts' p' rest
     → expected_outputs c b ts (p + length a.words) rest ≡ expected_outputs c b' ts' (p' + length a.words) rest
     → expected_outputs c b ts p (to_run a ∷ rest) ≡ expected_outputs c b' ts' p' (to_run a ∷ rest)
-same-all c b ts p b' ts' p' a rest one here on = grind (arith, common_steps, all_short, all-long)
+same-all c b ts p b' ts' p' a rest one here on = grind (arith, common_steps, all-short, all-long)
 
 -- ticks in front of all others, made already
 module _ (us : List Tick) (b : ℕ) (ts : List Tick) where
@@ -54,7 +54,7 @@ module _ (us : List Tick) (b : ℕ) (ts : List Tick) where
 
 -- after the bound nothing depends on the ticks
 expected-halted : (b : ℕ) (ts : List Tick) (p : ℕ) (a : RunInput) → b ≤ p
-    → expected_output b ts p a ≡ output_told_by (ltb 0 (length a.words)) 0 [] a
+    → expected_output b ts p a ≡ output_told_by (nat_lt 0 (length a.words)) 0 [] a
 expected-halted b ts p a h = grind (arith, common_steps)
 
 pub halted : (c : Chart) (b : ℕ) (ts : List Tick) (p b' : ℕ) (ts' : List Tick) (p' : ℕ) (rest : List CallInput) → b ≤ p → b' ≤ p'

@@ -13,7 +13,7 @@ use Rattle.agreement.specs.Agreement.{CallInput, call_outputs, Agreement}
 use Rattle.agreement.specs.ForC.{CallOutputC, call_output_c, CallsInTurnC, none, more, DeliveredC}
 use Rattle.agreement.proofs.Numbers.{translate-success}
 use Rattle.agreement.proofs.Demand.{theorem}
-use Rattle.agreement.proofs.OneCall.{chain_more}
+use Rattle.agreement.proofs.OneCall.{chain-more}
 use Rattle.agreement.proofs.OneCallC.{LikeC, call-like}
 
 -- a call of fairleadow_translate that returned 0 succeeded with the count that it wrote
@@ -33,7 +33,7 @@ calls-chain image bytes (g ∷ rest) (d ∷ handed) (more {after = after} c cs) 
     let like : LikeC image bytes g d after = call-like image bytes c in
     ap₂ (λ (x : CallOutputC) (l : List CallOutputC). x ∷ l) like.handed-is
     (calls-chain image after rest handed cs ∙ ap (λ (s : State). map call_output_c (call_outputs run rebind image s rest)) like.state-is)
-    ∙ sym (ap (map call_output_c) (chain_more image (state_of bytes) g rest))
+    ∙ sym (ap (map call_output_c) (chain-more image (state_of bytes) g rest))
 
 pub delivered-c : DeliveredC
 unfolding DeliveredC Agreement

@@ -1,6 +1,6 @@
 -- The first run and the later ones: what is expected of each from its own ticks is what the ticks of the joined words let expect.
-use Rattle.std.proofs.Common.{if◌then◌else◌, ℕ, ◌+◌, ◌-◌, ◌≤◌, ◌<◌, min, Bool, true, false, ◌&&◌, ◌≡◌, ap, ap₂, ◌∙◌, sym, List, [], ◌∷◌}
-use Rattle.std.proofs.Common.{◌++◌, map, ltb, length, take, arith, lt-ltb, le-ltb, ltb-true, ltb-false}
+use Rattle.std.proofs.Common.{if◌then◌else◌, ℕ, ◌+◌, ◌≤◌, ◌<◌, min, Bool, true, false, ◌&&◌, ◌≡◌, ap, ap₂, ◌∙◌, sym, List, [], ◌∷◌, nat_lt}
+use Rattle.std.proofs.Common.{◌++◌, map, length, take, arith, lt-ltb, le-ltb, ltb-true, ltb-false}
 use Rattle.std.proofs.Math.ListN.{length-map}
 use Rattle.std.proofs.lemmas.Grind.{common_steps}
 use Rattle.bindings.specs.Binding.{Binding}
@@ -23,11 +23,11 @@ module _ (c : Chart) (s : Binding) (a : RunInput) (rest : List CallInput) where
 
 -- ---- the first run, which makes the ticks up to the bound b of its own
 abbrev pub first_told : ℕ → List Tick → RunInput → RunOutput
-first_told b ts a = output_told_by (ltb b (length a.words)) (length (map (λ (t : Tick). t.code) (take b ts))) (take b ts) a
+first_told b ts a = output_told_by (nat_lt b (length a.words)) (length (map (λ (t : Tick). t.code) (take b ts))) (take b ts) a
 
 -- with B the bound of all ticks
 first : (b B : ℕ) (ts us : List Tick) (a : RunInput) → b ≤ length ts → min (length a.words) B ≡ b
-    → (ltb B (0 + length a.words) && ltb 0 (length a.words)) ≡ ltb b (length a.words)
+    → (nat_lt B (0 + length a.words) && nat_lt 0 (length a.words)) ≡ nat_lt b (length a.words)
     → first_told b ts a ≡ expected_output B (ts ++ us) 0 a
 first b B ts us a l e q = grind (arith, common_steps)
 
@@ -63,7 +63,7 @@ module _ (c : Chart) (n : ℕ) (s : Binding) where
         let z : length mine + 0 ≡ 0 + m = omega arith in
         ap₂ (λ (t : RunOutput) (ts : List CallOutput). by_run t ∷ ts)
         (first (bound n mine) B mine us a (bound-le n mine) (omega arith)
-        (ap (λ (t : Bool). t && ltb 0 m) (le-ltb B (0 + m) (omega arith)) ∙ sym (le-ltb (bound n mine) m (omega arith))))
+        (ap (λ (t : Bool). t && nat_lt 0 m) (le-ltb B (0 + m) (omega arith)) ∙ sym (le-ltb (bound n mine) m (omega arith))))
         (sym (shift mine (bound n us) us c 0 rest) ∙ ap (λ (p : ℕ). expected_outputs c B (mine ++ us) p rest) z)
         ∙ sym (all-long c B (mine ++ us) 0 a rest e)
         ∙ sym (ap (λ (k : ℕ). expected_outputs c k (mine ++ us) 0 (to_run a ∷ rest)) (bound-full n mine us (h ∙ sym l)))

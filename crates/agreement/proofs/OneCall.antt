@@ -1,6 +1,6 @@
 -- One call of any kind that meets its contract hands back what a run or a rebinding on the image's text does:
 -- a tick is a run of one word, and live calls are those on the text.
-use Rattle.std.proofs.Common.{ℕ, ◌≤◌, ◌≡◌, refl, sym, ◌∙◌, subst, List, [], ◌∷◌, take, arith}
+use Rattle.std.proofs.Common.{ℕ, ◌≤◌, ◌≡◌, refl, sym, ◌∙◌, subst, List, ◌∷◌, take, arith}
 use Rattle.std.proofs.lemmas.Grind.{common_steps}
 use Rattle.text.specs.frames.Answer.{success}
 use Rattle.tables.specs.Prepare.{prepare}
@@ -60,11 +60,11 @@ abbrev pub state_after : List ℕ → State → CallInput → State
 state_after image s (to_run a) = (run_asked image s a).state
 state_after image s (to_rebind h k) = (rebind image s h k).state
 
-pub chain_more : (image : List ℕ) (s : State) (g : CallInput) (rest : List CallInput)
+pub chain-more : (image : List ℕ) (s : State) (g : CallInput) (rest : List CallInput)
     → call_outputs run rebind image s (g ∷ rest) ≡ handed_output image s g ∷ call_outputs run rebind image (state_after image s g) rest
 unfolding call_outputs
-chain_more image s (to_run a) rest = refl
-chain_more image s (to_rebind h k) rest = refl
+chain-more image s (to_run a) rest = refl
+chain-more image s (to_rebind h k) rest = refl
 
 -- ---- one call
 pub record Like (image : List ℕ) (s : State) (g : CallInput) (d : CallOutput) (after : State) : Type 0 where

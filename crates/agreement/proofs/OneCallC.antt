@@ -1,6 +1,6 @@
 -- One call from C of any kind that meets its contract hands back what a run or a rebinding on the image's text does, and leaves bytes
 -- that hold its state.
-use Rattle.std.proofs.Common.{if◌then◌else◌, ℕ, ◌≡◌, refl, sym, ◌∙◌, ap, subst, List, [], ◌∷◌, arith, eqb, take}
+use Rattle.std.proofs.Common.{if◌then◌else◌, ℕ, ◌≡◌, refl, sym, ◌∙◌, ap, subst, List, [], ◌∷◌, arith, take, ◌==◌}
 use Rattle.std.proofs.lemmas.Grind.{common_steps}
 use Rattle.text.specs.frames.Frame.{contents}
 use Rattle.text.specs.frames.Verdict.{Verdict, fine, refused, next}
@@ -81,7 +81,7 @@ module _ (image bytes : List ℕ) where
   ticked-holds w = tick-held bytes (decoded_image (contents image)) w (run_verdict image (state_of bytes) (w ∷ []) (0 ∷ []) (0 ∷ []))
 
   rebound-holds : (h k : ℕ) → let x = rebind_for image bytes h k in
-      state_of (if eqb (reply_number x.reply) 0 then bytes_of x.state else bytes) ≡ x.state
+      state_of (if reply_number x.reply == 0 then bytes_of x.state else bytes) ≡ x.state
   unfolding rebind
   rebound-holds h k = rebinding-held bytes h k (next (image_verdict image) λ _. rebind_verdict (decoded_image (contents image))
       (state_of bytes) h k)

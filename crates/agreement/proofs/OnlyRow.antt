@@ -13,8 +13,8 @@ use Rattle.chart_rows.specs.chart_labels.Labels.{is_numbered, label}
 use Rattle.chart_rows.specs.Rows.{rows}
 use Rattle.translator.specs.Table.{table}
 use Rattle.translator.specs.Entry.{translate}
-use Rattle.translator.proofs.LabelLaws.{Bearer, bearer, rows_are}
-use Rattle.translator.proofs.RowLaws.{onward_stop, one-row, same_row}
+use Rattle.translator.proofs.LabelLaws.{Bearer, bearer, rows-are}
+use Rattle.translator.proofs.RowLaws.{onward_stop, one-row, same-row}
 use Rattle.translator.proofs.Translated.{translated-read, translated-fine, translated-image}
 use Rattle.rows.specs.Rows.{is_candidate, Choice, row, no_choice, best_row, found, missing, lead_of}
 use Rattle.rows.specs.Choices.{Best}
@@ -23,9 +23,9 @@ use Rattle.agreement.specs.OneRow.{translated_image, Only, OneRowMatches}
 use Rattle.agreement.proofs.TableFactsHold.{best-only}
 use Rattle.agreement.proofs.Images.{translated-decoded}
 
-pub only_row : (c : Chart) → SoundChart c → (v w : ℕ) (b : Bool) → v < size c
+pub only-row : (c : Chart) → SoundChart c → (v w : ℕ) (b : Bool) → v < size c
     → is_numbered c v ≡ true → Only (label c v) w (if b then 1 else 0) (rows c)
-only_row c a v w b l e = go (best_row (label c v) w (if b then 1 else 0) 0 (rows c)) refl
+only-row c a v w b l e = go (best_row (label c v) w (if b then 1 else 0) 0 (rows c)) refl
   where
     leading : lead_of (best_row (label c v) w (if b then 1 else 0) 0 (rows c)) ≡ found (label c (onward_stop c w b v))
     leading = best-only (label c v) w (if b then 1 else 0) 0 (label c (onward_stop c w b v)) (rows c) (one-row c a v w b l e)
@@ -40,7 +40,7 @@ only_row c a v w b l e = go (best_row (label c v) w (if b then 1 else 0) 0 (rows
           number = k;
           one = r;
           taken = q;
-          only = λ j h o. same_row c a v w b l e j k h best.inside o
+          only = λ j h o. same-row c a v w b l e j k h best.inside o
               (ap (is_candidate (label c v) w (if b then 1 else 0)) best.is ∙ best.matches);
         }
 
@@ -63,8 +63,8 @@ module _ (text out : List ℕ) (n : ℕ) (done : (translate text out).reply ≡ 
       let c : Chart = contents text in
       let x : Bearer c (size c) l = bearer c l low (subst (λ (i : Image). l < length i.labels) image-is high) in
       subst (λ (m : ℕ). Only m w (if b then 1 else 0) image.rows) x.is
-      (subst (Only (label c x.node) w (if b then 1 else 0)) (sym (ap (λ (i : Image). i.rows) image-is ∙ rows_are c))
-      (only_row c (accepted text read).sound x.node w b x.inside x.own))
+      (subst (Only (label c x.node) w (if b then 1 else 0)) (sym (ap (λ (i : Image). i.rows) image-is ∙ rows-are c))
+      (only-row c (accepted text read).sound x.node w b x.inside x.own))
 
 pub one-row-matches : OneRowMatches
 unfolding OneRowMatches

@@ -1,6 +1,6 @@
 -- The state of the machine at a position of the walk:
 -- of each open scheme, the bottom first, the label of its node, the number of its call and the scheme that it is, then zeros.
-use Rattle.std.proofs.Common.{ℕ, suc, ◌+◌, ◌-◌, ◌<◌, ◌≡◌, refl, ap, ◌∙◌, sym, List, [], ◌∷◌, length, get_or, set, replicate, arith}
+use Rattle.std.proofs.Common.{ℕ, suc, ◌+◌, ◌-◌, ◌<◌, ◌≡◌, refl, ap, ◌∙◌, sym, List, [], ◌∷◌, length, set, replicate, arith, slice_index}
 use Rattle.results.specs.Results.{Results}
 use Rattle.bindings.specs.Binding.{Binding}
 use Rattle.charts.specs.Chart.{Chart}
@@ -44,15 +44,15 @@ bottom_of x [] = x
 bottom_of x (k ∷ ks) = bottom_of k ks
 
 module _ (f : Open → ℕ) where
-  pub get-bottom : (x : Open) (ks : List Open) (ls : List ℕ) → get_or (below f ks (f x ∷ ls)) 0 0 ≡ f (bottom_of x ks)
+  pub get-bottom : (x : Open) (ks : List Open) (ls : List ℕ) → slice_index (below f ks (f x ∷ ls)) 0 ≡ f (bottom_of x ks)
   unfolding below
   get-bottom x [] ls = refl
   get-bottom x (k ∷ ks) ls = get-bottom k ks (f x ∷ ls)
 
-  below_get : (ks : List Open) (ls : List ℕ) (i : ℕ) → get_or (below f ks ls) (length ks + i) 0 ≡ get_or ls i 0
+  below_get : (ks : List Open) (ls : List ℕ) (i : ℕ) → slice_index (below f ks ls) (length ks + i) ≡ slice_index ls i
   unfolding below
-  below_get [] ls i = ap (λ (j : ℕ). get_or ls j 0) (omega arith)
-  below_get (k ∷ ks) ls i = ap (λ (j : ℕ). get_or (below f ks (f k ∷ ls)) j 0) (omega arith) ∙ below_get ks (f k ∷ ls) (suc i)
+  below_get [] ls i = ap (λ (j : ℕ). slice_index ls j) (omega arith)
+  below_get (k ∷ ks) ls i = ap (λ (j : ℕ). slice_index (below f ks (f k ∷ ls)) j) (omega arith) ∙ below_get ks (f k ∷ ls) (suc i)
 
   below_set : (ks : List Open) (ls : List ℕ) (i l : ℕ) → set (below f ks ls) (length ks + i) l ≡ below f ks (set ls i l)
   unfolding below
@@ -60,12 +60,12 @@ module _ (f : Open → ℕ) where
   below_set (k ∷ ks) ls i l = ap (λ (j : ℕ). set (below f ks (f k ∷ ls)) j l) (omega arith) ∙ below_set ks (f k ∷ ls) (suc i) l
 
   -- the top, and the place under it
-  pub get-top : (ks : List Open) (l : ℕ) (ls : List ℕ) → get_or (below f ks (l ∷ ls)) (suc (length ks) - 1) 0 ≡ l
-  get-top ks l ls = ap (λ (j : ℕ). get_or (below f ks (l ∷ ls)) j 0) (omega arith) ∙ below_get ks (l ∷ ls) 0
+  pub get-top : (ks : List Open) (l : ℕ) (ls : List ℕ) → slice_index (below f ks (l ∷ ls)) (suc (length ks) - 1) ≡ l
+  get-top ks l ls = ap (λ (j : ℕ). slice_index (below f ks (l ∷ ls)) j) (omega arith) ∙ below_get ks (l ∷ ls) 0
 
-  pub get-under : (k : Open) (ks : List Open) (l : ℕ) (ls : List ℕ) → get_or (below f (k ∷ ks) (l ∷ ls)) (suc (suc (length ks)) - 2) 0 ≡ f k
+  pub get-under : (k : Open) (ks : List Open) (l : ℕ) (ls : List ℕ) → slice_index (below f (k ∷ ks) (l ∷ ls)) (suc (suc (length ks)) - 2) ≡ f k
   unfolding below
-  get-under k ks l ls = ap (λ (j : ℕ). get_or (below f ks (f k ∷ l ∷ ls)) j 0) (omega arith) ∙ below_get ks (f k ∷ l ∷ ls) 0
+  get-under k ks l ls = ap (λ (j : ℕ). slice_index (below f ks (f k ∷ l ∷ ls)) j) (omega arith) ∙ below_get ks (f k ∷ l ∷ ls) 0
 
   -- a plain tick, a call and a return, on the places
   pub set-top : (ks : List Open) (l : ℕ) (ls : List ℕ) (m : ℕ) → set (below f ks (l ∷ ls)) (suc (length ks) - 1) m ≡ below f ks (m ∷ ls)

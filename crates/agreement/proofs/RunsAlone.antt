@@ -1,8 +1,7 @@
 -- With no rebinding in the list, the agreement is one over lists of runs and the walk of words alone.
-use Rattle.std.proofs.Common.{ℕ, ◌+◌, Bool, true, false, ◌≡◌, refl, sym, ap, ◌∙◌, List, [], ◌∷◌, map, length, take, arith}
+use Rattle.std.proofs.Common.{ℕ, ◌+◌, Bool, true, false, ◌≡◌, refl, sym, ap, ◌∙◌, List, [], ◌∷◌, map, length, take, arith, flat_map}
 use mathlib.Core.List.{map-append}
 use Rattle.std.proofs.lemmas.Grind.{common_steps}
-use Rattle.words.specs.lists.Sequences.{concat_map}
 use Rattle.bindings.specs.Binding.{Binding, own_binding}
 use Rattle.text.specs.frames.Frame.{contents}
 use Rattle.text.specs.frames.Verdict.{fine}
@@ -20,7 +19,7 @@ use Rattle.rebinding.specs.Rebind.{rebind}
 use Rattle.agreement.specs.Agreement.{Translator, Maker, Runner, Rebinder, RunInput, RunOutput, output_of, to_run, CallOutput, by_run}
 use Rattle.agreement.specs.Agreement.{by_rebinding, call_outputs, is_short, joined_words, bound, expected_output, output_refused_short}
 use Rattle.agreement.specs.Agreement.{expected_outputs, walk_outputs, Agreement, Translates}
-use Rattle.agreement.proofs.Expected.{all_short, all-long}
+use Rattle.agreement.proofs.Expected.{all-short, all-long}
 use Rattle.agreement.proofs.Demand.{theorem}
 use Rattle.agreement.proofs.Delivered.{delivered}
 use Rattle.agreement.proofs.ForC.{returned-0, delivered-c}
@@ -40,7 +39,7 @@ chain-alone run rebind image s (a ∷ rest) =
 
 pub joined-alone : (c : Chart) (s : Binding) (asked : List RunInput)
     → joined_words c s (map to_run asked) ≡ signals s (unswapped.joined_run_words asked)
-unfolding joined_words concat_map
+unfolding joined_words
 joined-alone c s [] = grind (arith, common_steps)
 joined-alone c s (a ∷ rest) = grind (arith, common_steps, joined-alone c s rest, map-append)
 
@@ -56,7 +55,7 @@ expected-alone c b ts p (a ∷ rest) = go (expected-alone c b ts p rest) (expect
         → (t : Bool) → is_short a ≡ t → expected_outputs c b ts p (to_run a ∷ map to_run rest) ≡ map
         by_run (unswapped.expected_runs b ts p (a ∷ rest))
     go here on true e =
-        all_short c b ts p a (map to_run rest) e ∙ ap (λ (l : List CallOutput). by_run (output_refused_short a) ∷ l) here
+        all-short c b ts p a (map to_run rest) e ∙ ap (λ (l : List CallOutput). by_run (output_refused_short a) ∷ l) here
         ∙ rw (e, unswapped.expected_runs)
     go here on false e =
         all-long c b ts p a (map to_run rest) e ∙ ap (λ (l : List CallOutput). by_run (expected_output b ts p a) ∷ l) on
@@ -77,13 +76,12 @@ abbrev outputs_of_run : CallOutput → List RunOutput
 outputs_of_run (by_run t) = t ∷ []
 outputs_of_run (by_rebinding r) = []
 
-told_back : (ts : List RunOutput) → concat_map outputs_of_run (map by_run ts) ≡ ts
-unfolding concat_map
+told_back : (ts : List RunOutput) → flat_map outputs_of_run (map by_run ts) ≡ ts
 told_back [] = refl
 told_back (t ∷ ts) = ap (λ (l : List RunOutput). t ∷ l) (told_back ts)
 
 pub same-told : (ts us : List RunOutput) → map by_run ts ≡ map by_run us → ts ≡ us
-same-told ts us e = sym (told_back ts) ∙ ap (concat_map outputs_of_run) e ∙ told_back us
+same-told ts us e = sym (told_back ts) ∙ ap (flat_map outputs_of_run) e ∙ told_back us
 
 pub agreement-alone : (translator : Translator) (fresh : Maker) (run : Runner) (rebind : Rebinder) → Translates translator
     → Agreement translator fresh run rebind → unswapped.RunAgreement translator fresh run
@@ -140,8 +138,7 @@ abbrev outputs_of_run_c : c.CallOutputC → List c.RunOutputC
 outputs_of_run_c (c.by_run_c t) = t ∷ []
 outputs_of_run_c (c.by_rebinding_c number index count) = []
 
-told-back-c : (ts : List c.RunOutputC) → concat_map outputs_of_run_c (map c.by_run_c ts) ≡ ts
-unfolding concat_map
+told-back-c : (ts : List c.RunOutputC) → flat_map outputs_of_run_c (map c.by_run_c ts) ≡ ts
 told-back-c [] = refl
 told-back-c (t ∷ ts) = ap (λ (l : List c.RunOutputC). t ∷ l) (told-back-c ts)
 
@@ -149,7 +146,7 @@ pub runs-delivered-c : alone.RunsDeliveredC
 unfolding alone.RunsDeliveredC alone.DeliveredAloneC
 runs-delivered-c text before after at n l size low high returned at' made bytes m asked tolds rs =
     sym (told-back-c tolds)
-    ∙ ap (concat_map outputs_of_run_c) (delivered-alone-c text before after at n l size low high returned at' made bytes m asked
+    ∙ ap (flat_map outputs_of_run_c) (delivered-alone-c text before after at n l size low high returned at' made bytes m asked
     (map c.by_run_c tolds)
     (runs-are-calls-c rs))
     ∙ told-back-c (map c.run_output_c (unswapped.walk_runs size (contents text) asked))

@@ -1,9 +1,10 @@
 -- One tick of the machine on the table of a chart is one tick of the walk, but for a call at a full stack, which stops it with 17.
-use Rattle.std.proofs.Common.{if◌then◌else◌, ℕ, suc, ◌+◌, ◌-◌, ◌≤◌, ◌<◌, Bool, true, false, ◌&&◌, ◌||◌, not, ◌≡◌, refl, ap, ap₂, ◌∙◌, sym}
-use Rattle.std.proofs.Common.{◌⊎◌, inl, inr, List, [], ◌∷◌, leb, eqb, length, set, arith, eqb-true, ne_eqb, leb-true, leb-false}
+use Rattle.std.proofs.Common.{if◌then◌else◌, ℕ, suc, ◌+◌, ◌-◌, ◌≤◌, ◌<◌, Bool, true, false, ◌&&◌, ◌||◌, not, ◌≡◌, refl, ap, ap₂, ◌∙◌, sym, nat_le, ◌==◌}
+use Rattle.std.proofs.Common.{◌⊎◌, inl, inr, List, [], ◌∷◌, length, set, arith, eqb-true, ne_eqb, leb-true, leb-false}
 use borrow.Author.Tests.{lt-leb}
 use Rattle.std.proofs.lemmas.Grind.{common_steps}
-use Rattle.words.proofs.lists.Tests.{and_no, and_r, if-false}
+use Rattle.std.proofs.lemmas.Bool.{cond-false}
+use Rattle.words.proofs.lists.Tests.{and-no, and-r}
 use Rattle.text.specs.frames.Frame.{size}
 use Rattle.results.specs.Results.{Results, result_of, with_result, cleared_results}
 use Rattle.bindings.specs.Binding.{Binding, server_of}
@@ -13,7 +14,7 @@ use Rattle.walk.specs.Walk.{Tick, is_dropping, bottom}
 use Rattle.walk.proofs.Facts.{StopOf, Facts}
 use Rattle.walk.proofs.Views.{View, a-plain, a_call, a-function, a-home, a_back, a-begin, a-condition, stop-call, stop-function}
 use Rattle.walk.proofs.Trace.{Open, moved_to, WalkPosition, at, tick_of, stop_tick, node_resumed, resumed, position_returned}
-use Rattle.walk.proofs.Trace.{position_called, position_moved, tick_at, move, Serves, Caller, Under, Good, view_of}
+use Rattle.walk.proofs.Trace.{position_called, position_moved, tick_at, move, Serves, Caller, Under, Good, view-of}
 use Rattle.image.specs.Layout.{tick_kind}
 use Rattle.image.specs.Image.{Image, Label}
 use Rattle.chart_rows.specs.chart_labels.Labels.{is_numbered, label}
@@ -88,7 +89,7 @@ module _ (c : Chart) (n : ℕ) (n≤ : n ≤ 32) (serving : Binding) where
     bottom-scheme g x (k ∷ ks) s call (caller, under) = grind (arith, common_steps, bottom-scheme g k ks)
 
     keeps : (f : Bool) (o l : ℕ) → 2 ≤ l → (label_at (table c) l).owner ≡ bottom c f → (f ≡ true → handler c ≡ 0 → ⊥) → o ≡ n
-        → (eqb (table c).handler 0 || is_of_handler (table c) l) ≡ not (is_dropping n c f o)
+        → ((table c).handler == 0 || is_of_handler (table c) l) ≡ not (is_dropping n c f o)
     unfolding table
     keeps true o l two own handled e = grind (arith, common_steps)
     keeps false o l two own handled e = grind (arith, common_steps)
@@ -101,7 +102,7 @@ module _ (c : Chart) (n : ℕ) (n≤ : n ≤ 32) (serving : Binding) where
           let holds = table_facts.numbers u under.0 under.1 in
           let owned : (label_at (table c) (label c u)).owner ≡ bottom c f =
           ap (λ (y : Label). y.owner) holds.2 ∙ label-owner c u ∙ under.2 in
-          ap (λ (l : ℕ). eqb (table c).handler 0 || is_of_handler (table c) l) (get-bottom (labelled c) x ks (zeros_over ks))
+          ap (λ (l : ℕ). (table c).handler == 0 || is_of_handler (table c) l) (get-bottom (labelled c) x ks (zeros_over ks))
           ∙ keeps f (suc (length ks)) (label c u) holds.0 owned g.handled e
 
       -- a call of number h: the entry of the scheme that serves it is put above the top; at a full stack the places are dropped, or it is
@@ -123,7 +124,7 @@ module _ (c : Chart) (n : ℕ) (n≤ : n ≤ 32) (serving : Binding) where
 
         room : (t : Bool) → is_dropping n c f (suc (length ks)) ≡ t → suc (length ks) < n → Goal false t
         room true q e = absurd (let z : suc (length ks) ≡ n =
-            eqb-true (suc (length ks)) n (and_r (not f && not (eqb (handler c) 0)) (eqb (suc (length ks)) n) q) in omega arith)
+            eqb-true (suc (length ks)) n (and-r (not f && not (handler c == 0)) (suc (length ks) == n) q) in omega arith)
         room false q e =
             let k : ℕ = server_of serving h in
             let l = serves h some most in
@@ -137,13 +138,13 @@ module _ (c : Chart) (n : ℕ) (n≤ : n ≤ 32) (serving : Binding) where
             (below (labelled c) (x ∷ ks) (label c (start c k) ∷ zeros_over (x ∷ ks)))
             (below open_number (x ∷ ks) (h ∷ zeros_over (x ∷ ks))) zs))
             (set-push open_server x ks k (omega arith))
-            ∙ sym (if-false (is_full_call n (made (j + h))) (stopped 17) _
-            (and_no (leb 16 (j + h) && not (eqb (j + h) 96)) (eqb (suc (length ks)) n) (ne_eqb (suc (length ks)) n (λ z. omega arith))))
+            ∙ sym (cond-false (is_full_call n (made (j + h))) (stopped 17) _
+            (and-no (nat_le 16 (j + h) && not (j + h == 96)) (suc (length ks) == n) (ne_eqb (suc (length ks)) n (λ z. omega arith))))
 
-        to-push : length ks < n → Goal (leb n (suc (length ks))) (is_dropping n c f (suc (length ks)))
-        to-push deep = go (leb n (suc (length ks))) refl
+        to-push : length ks < n → Goal (nat_le n (suc (length ks))) (is_dropping n c f (suc (length ks)))
+        to-push deep = go (nat_le n (suc (length ks))) refl
           where
-            go : (t : Bool) → leb n (suc (length ks)) ≡ t → Goal t (is_dropping n c f (suc (length ks)))
+            go : (t : Bool) → nat_le n (suc (length ks)) ≡ t → Goal t (is_dropping n c f (suc (length ks)))
             go true t =
                 let e : suc (length ks) ≡ n = omega (arith, leb-true n (suc (length ks)) t) in
                 at-full (is_dropping n c f (suc (length ks))) refl e (full-kept e)
@@ -165,7 +166,7 @@ module _ (c : Chart) (n : ℕ) (n≤ : n ≤ 32) (serving : Binding) where
             ∙ ap (λ (s : Stop). found (label c (node_resumed c k.node w b s))) (sym (stop-function c k.node e))
 
     tick-back : (x : Open) (ks : List Open) (b : Results) (f : Bool) (w : ℕ) → length ks < n → Good c (at x ks b f)
-        → let s = state x ks b f in popped_tick (table c) s w 0 b (leb s.depth 1) ≡ finished 0 3
+        → let s = state x ks b f in popped_tick (table c) s w 0 b (nat_le s.depth 1) ≡ finished 0 3
         (state_of_position c n serving (position_returned c ks w b f))
     unfolding below
     tick-back x [] b f w low g =
@@ -201,10 +202,10 @@ module _ (c : Chart) (n : ℕ) (n≤ : n ≤ 32) (serving : Binding) where
     tick-by x ks b f w low g (a-condition e) =
         to-top 0 0 (by_word c w x.node) x ks b b f _ (table_facts.row_condition x.node w _ g.top.inside e g.top.stopping)
 
-    pub tick_is : (w : ℕ) (x : WalkPosition) → length x.callers < n → Good c x
+    pub tick-is : (w : ℕ) (x : WalkPosition) → length x.callers < n → Good c x
         → let y = move n c (record { word = w; binding = serving }) x in
         tick (table c) (state_of_position c n serving x) w ≡ answer n (tick_at n c x) (state_of_position c n serving y)
-    tick_is w x low g = let v = view_of c facts x g in
+    tick-is w x low g = let v = view-of c facts x g in
         tick-at (table c) (state_of_position c n serving x) w (labelled c x.now) x.now.number _
         (get-top (labelled c) x.callers (labelled c x.now) (zeros_over x.callers))
         (get-top open_number x.callers x.now.number (zeros_over x.callers))

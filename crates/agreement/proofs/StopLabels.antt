@@ -1,6 +1,5 @@
 -- What the table of a chart holds at the label of a stop.
-use Rattle.std.proofs.Common.{if◌then◌else◌, ℕ, ◌<◌, Bool, true, ◌≡◌, ap, ◌∙◌, length, eqb, arith, eqb-true, ne_eqb}
-use borrow.Author.Tests.{eqb-false}
+use Rattle.std.proofs.Common.{if◌then◌else◌, ℕ, Bool, true, ◌≡◌, ap, ◌∙◌, arith, ne_eqb, ◌==◌}
 use Rattle.std.proofs.lemmas.Grind.{common_steps}
 use Rattle.charts.specs.Chart.{Chart, kind, scheme, argument}
 use Rattle.walk.specs.Stops.{Stop, plain, call, function, test, home, back}
@@ -22,12 +21,12 @@ label_held_by c v back = return_label
 
 module _ (c : Chart) (v : ℕ) where
   -- an End has label 0 in scheme 1 and 1 elsewhere
-  label-end : kind c v ≡ 1 → label c v ≡ (if eqb (scheme c v) 1 then 0 else 1)
+  label-end : kind c v ≡ 1 → label c v ≡ (if scheme c v == 1 then 0 else 1)
   unfolding label
   label-end e = grind (arith, common_steps)
 
   pub label-home : kind c v ≡ 1 → scheme c v ≡ 1 → label c v ≡ 0
-  label-home e s = label-end e ∙ ap (λ (h : ℕ). if eqb h 1 then 0 else 1) s
+  label-home e s = label-end e ∙ ap (λ (h : ℕ). if h == 1 then 0 else 1) s
 
   pub label-back : kind c v ≡ 1 → (scheme c v ≡ 1 → ⊥) → label c v ≡ 1
   label-back e s = label-end e ∙ ap (λ (t : Bool). if t then 0 else 1) (ne_eqb (scheme c v) 1 s)

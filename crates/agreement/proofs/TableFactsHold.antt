@@ -1,8 +1,7 @@
 -- The facts that the simulation takes of a chart's table hold for every accepted text.
-use Rattle.std.proofs.Common.{◌≡◌, refl, sym, ◌∙◌, ap, Bool, true, false, List, [], ◌∷◌, ℕ, suc, ◌-◌, arith, length, drop, get_or}
+use Rattle.std.proofs.Common.{◌≡◌, refl, sym, ◌∙◌, ap, Bool, true, false, List, [], ◌∷◌, ℕ, suc, ◌-◌, arith, length, drop, slice_index, filter}
 use Rattle.std.proofs.Math.ListN.{length-map}
-use Rattle.words.specs.lists.Sequences.{filter}
-use Rattle.words.proofs.lists.Filters.{none_passes}
+use Rattle.words.proofs.lists.Filters.{none-passes}
 use Rattle.text.specs.frames.Frame.{contents}
 use Rattle.text.specs.frames.Verdict.{fine}
 use Rattle.charts.specs.Chart.{Chart}
@@ -12,21 +11,21 @@ use Rattle.walk.proofs.Facts.{Facts}
 use Rattle.walk.proofs.FactsHold.{facts}
 use Rattle.image.specs.Image.{Row, no_row}
 use Rattle.chart_rows.specs.chart_labels.Labels.{entry}
-use Rattle.translator.proofs.LabelLaws.{label-low, label_inside, label-holds, labels_apart, label-home, label-return, labels-two}
+use Rattle.translator.proofs.LabelLaws.{label-low, label-inside, label-holds, labels-apart, label-home, label-return, labels-two}
 use Rattle.translator.proofs.LabelLaws.{labels-few, entry-holds}
 use Rattle.translator.proofs.Matching.{is_matching_row, targets, targets-none, targets-own, targets-other}
 use Rattle.translator.proofs.RowLaws.{row_plain, row-begin, row-condition, row-function}
 use Rattle.rows.specs.Rows.{row, no_choice, better_choice, best_row, found, lead_of}
 use Rattle.rows.proofs.ChoiceLaws.{best-own, best-other}
-use Rattle.rows.proofs.BestRows.{best_none}
+use Rattle.rows.proofs.BestRows.{best-none}
 use Rattle.agreement.proofs.TableFacts.{TableFacts}
 
 -- no row matches, so none is taken
 none-taken : (l w b k : ℕ) (rs : List Row) → targets l w b rs ≡ [] → best_row l w b k rs ≡ no_choice
 unfolding targets
 none-taken l w b k rs e =
-    best_none l w b k rs
-    (none_passes (is_matching_row l w b) no_row rs
+    best-none l w b k rs
+    (none-passes (is_matching_row l w b) no_row rs
     (sym (length-map (filter (is_matching_row l w b) rs) (λ (r : Row). r.next)) ∙ ap (λ (us : List ℕ). length us) e))
 
 -- just one row matches, so it is taken
@@ -40,7 +39,7 @@ best-only l w b k u (r ∷ rs) e = go (is_matching_row l w b r) refl (best-only 
         let p : r.next ∷ targets l w b rs ≡ u ∷ [] = sym (targets-own l w b r rs m) ∙ e in
         let rest : targets l w b rs ≡ [] = ap (λ (us : List ℕ). drop 1 us) p in
         ap lead_of (best-own l w b k r rs m ∙ ap (better_choice (row k r)) (none-taken l w b (suc k) rs rest))
-        ∙ ap found (ap (λ (us : List ℕ). get_or us 0 0) p)
+        ∙ ap found (ap (λ (us : List ℕ). slice_index us 0) p)
     go false m ih = ap lead_of (best-other l w b k r rs m) ∙ ih (sym (targets-other l w b r rs m) ∙ e)
 
 pub table-facts-of : (c : Chart) → SoundChart c → Facts c → TableFacts c
@@ -48,8 +47,8 @@ table-facts-of c s f = record {
   highest = (labels-two c, labels-few c f);
   labels0 = label-home c;
   labels1 = label-return c;
-  numbers = λ v l e. (label-low c v e, label_inside c v l e, label-holds c v l e);
-  apart = λ u v lu lv a b e. labels_apart c u v a b e;
+  numbers = λ v l e. (label-low c v e, label-inside c v l e, label-holds c v l e);
+  apart = λ u v lu lv a b e. labels-apart c u v a b e;
   entries = λ h l m. entry-holds c (h - 1) (omega arith) ∙ ap (entry c) (omega arith);
   row_plain = λ v w b l k. best-only _ w b 0 _ _ (row_plain c s v w b l k);
   row_begin = λ v w b l k t. best-only _ w b 0 _ _ (row-begin c s v w b l k t);

@@ -1,26 +1,26 @@
 -- Many ticks of the machine are those of the trace up to its bound.
-use Rattle.std.proofs.Common.{if◌then◌else◌, ℕ, suc, ◌≤◌, ◌<◌, Bool, true, false, ◌&&◌, not, ◌≡◌, refl, ap, ◌∙◌, sym, subst, List, [], ◌∷◌}
-use Rattle.std.proofs.Common.{map, leb, ltb, eqb, length, take, arith, lt-ltb}
+use Rattle.std.proofs.Common.{if◌then◌else◌, ℕ, suc, ◌≤◌, ◌<◌, Bool, true, false, ◌≡◌, refl, ap, ◌∙◌, sym, subst, List, [], ◌∷◌, nat_lt}
+use Rattle.std.proofs.Common.{map, length, take, arith, lt-ltb}
 use Rattle.std.proofs.Math.Dec.{leb-suc-suc}
 use Rattle.std.proofs.lemmas.Grind.{common_steps}
 use Rattle.results.specs.Results.{Results}
 use Rattle.bindings.specs.Binding.{Binding}
 use Rattle.text.specs.frames.Frame.{size}
-use Rattle.text.specs.frames.Verdict.{Verdict, fine, refused}
+use Rattle.text.specs.frames.Verdict.{fine, refused}
 use Rattle.charts.specs.Chart.{Chart}
 use Rattle.walk.specs.Stops.{Stop}
 use Rattle.walk.specs.Walk.{Signal, signals, Tick}
 use Rattle.walk.proofs.Facts.{Facts}
 use Rattle.walk.proofs.Views.{View, a-plain, a_call, a-function, a-home, a_back, a-begin, a-condition}
-use Rattle.walk.proofs.Trace.{Open, WalkPosition, stop_tick, position_returned, position_called, position_moved, is_drop_at, tick_at, move}
-use Rattle.walk.proofs.Trace.{trace, Serves, Good, view_of, moves}
+use Rattle.walk.proofs.Trace.{Open, WalkPosition, stop_tick, position_moved, is_drop_at, tick_at, move}
+use Rattle.walk.proofs.Trace.{trace, Serves, Good, view-of, moves}
 use Rattle.translator.specs.Table.{table}
 use Rattle.state.specs.declared.State.{State}
 use Rattle.runs.specs.Run.{MachineRun, run_after, ticks}
 use Rattle.agreement.specs.Agreement.{is_full_call, bound}
 use Rattle.agreement.proofs.TableFacts.{TableFacts}
 use Rattle.agreement.proofs.Places.{state_of_position}
-use Rattle.agreement.proofs.Simulation.{answer, tick_is}
+use Rattle.agreement.proofs.Simulation.{answer, tick-is}
 use Rattle.agreement.proofs.Bounds.{bound-stop, bound-go, stand, stand-stop, stand-go}
 
 -- what is run with a binding when b of the ticks ts of m words are made, and the walk stands at y
@@ -29,7 +29,7 @@ run_by_ticks c n s b ts y m = record {
   masks = map (λ (t : Tick). t.mask) (take b ts);
   codes = map (λ (t : Tick). t.code) (take b ts);
   state = state_of_position c n s y;
-  verdict = if ltb b m then refused 17 0 else fine;
+  verdict = if nat_lt b m then refused 17 0 else fine;
 }
 
 -- what is run of all the words, from x on
@@ -83,7 +83,7 @@ module _ (c : Chart) (n : ℕ) (s : Binding) where
     pub moves-on : (w : ℕ) (x : WalkPosition) → StandsWell c n x → is_full_call n (tick_at n c x) ≡ false → StandsWell c n (next w x)
     moves-on w x z e = record {
       low = deep-by facts x.now x.callers x.results x.first (signal w) z.good.top.inside z.low (is_drop_at n c x)
-          (view_of c facts x z.good) e;
+          (view-of c facts x z.good) e;
       good = moves c facts n (signal w) x serves z.good;
     }
 
@@ -103,7 +103,7 @@ module _ (c : Chart) (n : ℕ) (s : Binding) where
     unfolding ticks trace bound stand
     ticks-are n≤ table_facts [] x z = refl
     ticks-are n≤ table_facts (w ∷ ws) x z =
-        ap (run_after (state x) (λ t. ticks (table c) t ws)) (tick_is c n n≤ s facts table_facts serves w x z.low z.good)
+        ap (run_after (state x) (λ t. ticks (table c) t ws)) (tick-is c n n≤ s facts table_facts serves w x z.low z.good)
         ∙ go (ticks-are n≤ table_facts ws (next w x)) (is_full_call n (tick_at n c x)) refl
       where
         go : (StandsWell c n (next w x) → ticks (table c) (state (next w x)) ws ≡ run_from_position c n s ws (next w x))

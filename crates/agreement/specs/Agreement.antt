@@ -1,6 +1,6 @@
 -- The agreement: what a whole list of runs and rebindings hands back, against what the walk of the joined words gives.
-use Rattle.std.specs.Prelude.{ℕ, suc, ◌+◌, ◌-◌, ◌≤◌, min, Bool, true, false, ◌&&◌, not, ◌≡◌, List, [], ◌∷◌, ◌++◌, map, leb, ltb}
-use Rattle.std.specs.Prelude.{eqb, if◌then◌else◌}
+use Rattle.std.specs.Prelude.{ℕ, suc, ◌+◌, ◌-◌, ◌≤◌, min, Bool, true, false, ◌&&◌, not, ◌≡◌, List, [], ◌∷◌, ◌++◌, map, nat_lt, nat_le, ◌==◌}
+use Rattle.std.specs.Prelude.{if◌then◌else◌}
 use Rattle.std.specs.Prelude.{length, take, drop}
 use Rattle.words.specs.lists.Sequences.{over}
 use Rattle.bindings.specs.Binding.{Binding, own_binding, rebound_binding, is_bad_rebinding}
@@ -83,7 +83,7 @@ joined_words c s (to_rebind h k ∷ rest) = joined_words c (binding_after c h k 
 
 -- a call, of an operation or of a function, that finds n schemes open and is made: with a handler, one that finds it first of them
 abbrev pub is_full_call : ℕ → Tick → Bool
-is_full_call n t = leb OPERATION_CALL_CODE t.code && not (is_drop t) && eqb t.opened n
+is_full_call n t = nat_le OPERATION_CALL_CODE t.code && not (is_drop t) && t.opened == n
 
 -- how many ticks come before the first of these
 unfoldable pub bound : ℕ → List Tick → ℕ
@@ -98,7 +98,7 @@ expected_output b ts p a =
     let done = min end b - min p b in
     let mine = take done (drop p ts) in
     record {
-      reply = if ltb b end && ltb 0 (length a.words) then refusal FULL 0 done else success done;
+      reply = if nat_lt b end && nat_lt 0 (length a.words) then refusal FULL 0 done else success done;
       masks = over (map (λ (t : Tick). t.mask) mine) a.masks;
       codes = over (map (λ (t : Tick). t.code) mine) a.codes;
     }

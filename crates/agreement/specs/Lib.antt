@@ -9,3 +9,4 @@ pub mod OneRow
 pub mod Told
 pub mod Success
 pub mod DryRuns
+pub mod FullCalls

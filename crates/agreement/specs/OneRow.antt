@@ -1,6 +1,6 @@
 -- On the image of a chart just one row matches each label, word and bit. So whatever rule chooses among the rows that match, the machine
 -- makes the same ticks there, and the care mask of the row taken decides it.
-use Rattle.std.specs.Prelude.{ℕ, ◌-◌, ◌≤◌, ◌<◌, Bool, true, false, ◌≡◌, List, leb, length, get_or, take, bit_and, if◌then◌else◌}
+use Rattle.std.specs.Prelude.{ℕ, ◌-◌, ◌≤◌, ◌<◌, Bool, true, false, ◌≡◌, List, length, take, bit_and, if◌then◌else◌, nat_le, slice_index_or}
 use Rattle.results.specs.Results.{Results, with_result}
 use Rattle.text.specs.declared.frames.codes.TheConstants.{PLAIN_CODE, RETURN_CODE}
 use Rattle.text.specs.frames.Frame.{contents}
@@ -27,7 +27,7 @@ pub record Only (l w b : ℕ) (rs : List Row) : Type 0 where
   pub number : ℕ
   pub one : Row
   pub taken : best_row l w b 0 rs ≡ row number one
-  pub only : (j : ℕ) → j < length rs → is_candidate l w b (get_or rs j no_row) ≡ true → j ≡ number
+  pub only : (j : ℕ) → j < length rs → is_candidate l w b (slice_index_or rs j no_row) ≡ true → j ≡ number
 
 unfoldable pub OneRowMatches : Type 0
 OneRowMatches =
@@ -39,8 +39,8 @@ abbrev pub Rule : Type 0
 Rule = ℕ → ℕ → ℕ → List Row → Choice
 
 abbrev pub Matching : ℕ → ℕ → ℕ → List Row → Choice → Type 0
-Matching l w b rs no_choice = (j : ℕ) → j < length rs → is_candidate l w b (get_or rs j no_row) ≡ false
-Matching l w b rs (row k r) = (k < length rs) × (get_or rs k no_row ≡ r) × (is_candidate l w b r ≡ true)
+Matching l w b rs no_choice = (j : ℕ) → j < length rs → is_candidate l w b (slice_index_or rs j no_row) ≡ false
+Matching l w b rs (row k r) = (k < length rs) × (slice_index_or rs k no_row ≡ r) × (is_candidate l w b r ≡ true)
 
 abbrev pub TakesMatching : Rule → Type 0
 TakesMatching f = (l w b : ℕ) (rs : List Row) → Matching l w b rs (f l w b rs)
@@ -57,7 +57,7 @@ abbrev pub tick_by_rule : Rule → Image → State → ℕ → ℕ → Label →
 tick_by_rule f i s w l x b plain = moved_tick x.mask PLAIN_CODE (with_bits s b) (s.depth - 1) (row_by f i b l w)
 tick_by_rule f i s w l x b operation_call = tick_by i s w l x b operation_call
 tick_by_rule f i s w l x b function_call = tick_by i s w l x b function_call
-tick_by_rule f i s w l x b return = popped_tick_by f i s w x.mask b (leb s.depth 1)
+tick_by_rule f i s w l x b return = popped_tick_by f i s w x.mask b (nat_le s.depth 1)
 tick_by_rule f i s w l x b home = tick_by i s w l x b home
 
 abbrev pub tick_with : Rule → Image → State → ℕ → MachineTick

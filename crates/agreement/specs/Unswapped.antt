@@ -1,7 +1,6 @@
 -- The agreement with no rebinding in the list, over the walk of words alone.
 -- Only the laws of runs alone speak of it.
-use Rattle.std.specs.Prelude.{ℕ, ◌+◌, ◌≤◌, true, false, ◌≡◌, List, [], ◌∷◌, length, take, if◌then◌else◌}
-use Rattle.words.specs.lists.Sequences.{concat_map}
+use Rattle.std.specs.Prelude.{ℕ, ◌+◌, ◌≤◌, true, false, ◌≡◌, List, [], ◌∷◌, length, take, if◌then◌else◌, flat_map}
 use Rattle.text.specs.frames.Frame.{contents}
 use Rattle.text.specs.frames.Answer.{success}
 use Rattle.charts.specs.Chart.{Chart}
@@ -19,7 +18,7 @@ run_outputs run image s (a ∷ rest) = let r = run image s a.words a.masks a.cod
     output_of r ∷ run_outputs run image r.state rest
 
 abbrev pub joined_run_words : List RunInput → List ℕ
-joined_run_words = concat_map (λ a. if is_short a then [] else a.words)
+joined_run_words = flat_map (λ a. if is_short a then [] else a.words)
 
 unfoldable pub expected_runs : ℕ → List Tick → ℕ → List RunInput → List RunOutput
 expected_runs b ts p [] = []

@@ -20,6 +20,7 @@ ghost use Rattle.agreement.specs.Told.{CauseTold, CauseToldC, RowsListed, RowsLi
 ghost use Rattle.agreement.specs.Success.{TranslateSucceeds, PrepareSucceeds, MinimiseSucceeds, LittleChartSucceeds};
 ghost use Rattle.agreement.specs.Success.{ListSucceeds, CauseSucceeds, CountsSucceed};
 ghost use Rattle.agreement.specs.Capitals.{AsInCapitals};
+ghost use Rattle.agreement.specs.FullCalls.{HandlerFirst};
 
 /// The machine ticks as the walk ticks, over every list of runs and rebindings on the image of every chart that translates: of the
 /// definitions; of calls of the functions, live ones and ticks among them, each known by its contract alone; and of calls from C.
@@ -85,4 +86,10 @@ pub fn number_0_is_success()
 /// For each text, refused or not, each entry point does what it does for the text in capitals.
 pub fn small_letters_are_capitals()
     ensures every_text { (t : List ℕ) → AsInCapitals t }
+{}
+
+/// A call that is made with as many schemes open as there are places, at which the ticks that are compared end, is one with the handler
+/// first of them, where there is a handler.
+pub fn full_calls_have_the_handler_first()
+    ensures every_scheme { HandlerFirst }
 {}

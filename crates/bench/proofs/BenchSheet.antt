@@ -1,17 +1,20 @@
 -- The bench sheet holds, as one list.
-use Rattle.std.proofs.Common.{◌≡◌, refl, ◌∙◌, ap, List, [], ℕ, ◌≤◌, arith, replicate}
+use Rattle.std.proofs.Common.{◌≡◌, refl, ◌∙◌, ap, List, [], ◌∷◌, ℕ, ◌≤◌, arith, take, replicate}
+use Rattle.bindings.specs.Binding.{own_binding}
+use Rattle.text.specs.frames.Frame.{contents}
 use Rattle.text.specs.frames.Verdict.{fine}
 use Rattle.text.specs.frames.Answer.{refusal, BufferOutcome}
+use Rattle.walk.specs.Walk.{signals, walk}
 use Rattle.translator.specs.Entry.{translate}
 use Rattle.state.specs.State.{fresh}
 use Rattle.ticks.specs.Tick.{tick}
 use Rattle.rows.specs.Rows.{best_row}
 use Rattle.runs.specs.Run.{RunOutcome, ticks, run_on}
 use Rattle.bench.specs.Bench.{BenchSheet, chart_p, image_p, bench_words, chart_home, chart_small, chart_mixed, chart_circle, chart_function}
-use Rattle.bench.specs.Bench.{chart_bore, bore_words, chart_again, fresh_run, image_of}
-use Rattle.bench.proofs.Computing.{framing, translating}
-use Rattle.bench.proofs.Tables.{table_p, of-P, image_home, of-home, image_function, of_function, table_bore, image_bore, of-bore}
-use Rattle.bench.proofs.Tables.{table_again, image_again, of-again}
+use Rattle.bench.specs.Bench.{chart_bore, bore_words, chart_again, chart_stops, image_stops, stops_words, fresh_run, image_of, tick_of}
+use Rattle.bench.proofs.Computing.{framing, walking, translating}
+use Rattle.bench.proofs.Tables.{table_p, of-P, image_home, of-home, image_function, of-function, table_bore, image_bore, of-bore}
+use Rattle.bench.proofs.Tables.{table_again, image_again, of-again, table_stops, of-stops}
 use Rattle.bench.proofs.Rounds.{blank, fresh-run, home-walk, home-run, function-run}
 
 refused-texts : (out : List ℕ) → (translate [] out ≡ record { reply = refusal 1 0 0; buffer = out })
@@ -35,7 +38,7 @@ image-home = ap (λ (l : BufferOutcome). l.buffer) (of-home.translated (replicat
 
 image-function : image_of 276 chart_function ≡ image_function
 unfolding framing image_function
-image-function = ap (λ (l : BufferOutcome). l.buffer) (of_function.translated (replicate 276 0))
+image-function = ap (λ (l : BufferOutcome). l.buffer) (of-function.translated (replicate 276 0))
 
 on-function : (size : ℕ) (ws : List ℕ) → fresh_run (image_of 276 chart_function) size ws ≡ fresh_run image_function size ws
 on-function size ws = ap (λ (image : List ℕ). fresh_run image size ws) image-function
@@ -55,8 +58,19 @@ run-again ws =
     ap (λ (l : BufferOutcome). fresh_run l.buffer 3 ws) (of-again.translated (replicate 253 0))
     ∙ fresh-run of-again 3 (omega arith) (omega arith) ws
 
+-- ---- which nodes stop
+walk-stops : walk 2 (contents chart_stops) (signals own_binding stops_words)
+    ≡ tick_of 4 1 0 4 1 ∷ tick_of 1 1 0 66 1 ∷ tick_of 9 2 0 0 2 ∷ tick_of 6 2 4 0 2 ∷ tick_of 7 2 8 0 2 ∷ tick_of 8 2 0 3 2
+    ∷ tick_of 2 1 2 0 1 ∷ tick_of 4 1 0 4 1 ∷ []
+unfolding walking chart_stops stops_words
+walk-stops = refl
+
+run-stops : (ws : List ℕ)
+    → fresh_run image_stops 2 ws ≡ run_on fine (λ _. ticks table_stops (fresh 2) ws) (fresh 2) (blank ws) (blank ws)
+run-stops = fresh-run of-stops 2 (omega arith) (omega arith)
+
 pub bench-sheet : BenchSheet
-unfolding ticks tick best_row table_p bench_words table_bore bore_words table_again
+unfolding ticks tick best_row table_p bench_words table_bore bore_words table_again table_stops stops_words
 bench-sheet = record {
   b1 = of-P.translated;
   b2 = let e = run-P 3 (omega arith) (omega arith) bench_words in
@@ -81,4 +95,10 @@ bench-sheet = record {
   );
   own_call = ap (λ (r : RunOutcome). r.state.bits) (run-again (replicate 4 0));
   full_call = let e = run-again (replicate 6 0) in (ap (λ (r : RunOutcome). r.reply) e, ap (λ (r : RunOutcome). r.state.bits) e);
+  stops-image = of-stops.translated;
+  stops-walk = walk-stops;
+  stops-run = let e = run-stops stops_words in
+      (ap (λ (r : RunOutcome). r.reply) e, ap (λ (r : RunOutcome). r.codes) e, ap (λ (r : RunOutcome). r.masks) e);
+  writes-one = ap (λ (r : RunOutcome). r.state.bits) (run-stops (take 4 stops_words));
+  writes-zero = ap (λ (r : RunOutcome). r.state.bits) (run-stops (take 5 stops_words));
 }

@@ -1,11 +1,10 @@
 -- The cases of places hold, computed.
 use mathlib.Core.Path.{refl}
 use Rattle.words.specs.lists.Numbers.{any, lowest}
-use Rattle.words.specs.lists.Sequences.{some, filter, concat_map}
 use Rattle.words.specs.graph.Reach.{reach}
 use Rattle.places.specs.chains.Calls.{is_caller, is_circular, ends_of, places}
 use Rattle.bench.specs.Chains.{ChainCases}
 
 pub chain-cases : ChainCases
-unfolding any lowest some filter concat_map reach is_caller is_circular ends_of places
+unfolding any lowest reach is_caller is_circular ends_of places
 chain-cases = record { three_places = (refl, refl); itself_circular = refl; around_circular = refl; apart_places = (refl, refl) }

@@ -1,6 +1,6 @@
 -- What a computation has to open, under one name each: to unfold the name is to unfold every definition on its line.
 use Rattle.words.specs.lists.Numbers.{lowest, any, count, sum, highest}
-use Rattle.words.specs.lists.Sequences.{some, filter, concat_map, map_from}
+use Rattle.words.specs.lists.Sequences.{map_from}
 use Rattle.words.specs.graph.Reach.{reach}
 use Rattle.text.specs.digits.Digit.{digit_of, char_of}
 use Rattle.text.specs.frames.Frame.{contents, total, frame_text, text_of}
@@ -28,7 +28,7 @@ use Rattle.bench.specs.Bench.{characters}
 
 -- texts of frames, read and written
 unfoldable pub framing : Unit {0}
-unfolding lowest any sum some concat_map digit_of char_of contents total frame_text text_of has_bad_form has_bad_sum text_verdict characters
+unfolding lowest any sum digit_of char_of contents total frame_text text_of has_bad_form has_bad_sum text_verdict characters
 framing = tt
 
 -- charts
@@ -41,7 +41,7 @@ unfolding charting is_stop start next_stop stop_at scheme_course walk_from walk
 walking = tt
 
 unfoldable pub translating : Unit {0}
-unfolding charting filter map_from is_stop start label paths rows_of rows table image_frames image_text translate_verdict translate
+unfolding charting map_from is_stop start label paths rows_of rows table image_frames image_text translate_verdict translate
 translating = tt
 
 -- places needed

@@ -10,13 +10,13 @@ use Rattle.bindings.specs.Binding.{own_binding}
 use Rattle.walk.specs.Walk.{signals, Tick, walk}
 use Rattle.walk.specs.Functions.{is_walk_write_of_one, WalkUnwritten, ZeroArc}
 use Rattle.walk.proofs.Functions.{zero-arc}
-use Rattle.words.specs.lists.Sequences.{some}
+use Rattle.std.specs.List.{list_any}
 use Rattle.image.specs.Decode.{decoded_image}
 use Rattle.state.specs.State.{fresh, Sized}
 use Rattle.fitness.specs.Fitness.{is_unfit}
 use Rattle.ticks.specs.Tick.{finished, tick}
 use Rattle.ticks.specs.Functions.{MachineUnwritten, none, more, ZeroRow}
-use Rattle.ticks.proofs.Functions.{zero_row}
+use Rattle.ticks.proofs.Functions.{zero-row}
 use Rattle.runs.specs.Run.{ticks}
 use Rattle.bench.specs.Bench.{chart_bore, bore_words, tick_of}
 use Rattle.bench.proofs.Computing.{walking, running}
@@ -35,7 +35,7 @@ unfolding walking chart_bore bore_words
 bore-walk = refl
 
 bore-unwritten : WalkUnwritten (contents chart_bore) (tick_of 1 1 0 66 1) (tick_of 5 2 0 0 2 ∷ []) (tick_of 8 2 0 3 2)
-unfolding walking some chart_bore
+unfolding walking chart_bore
 bore-unwritten = record { function = refl; made = refl; kept = refl; inside = refl; own = refl; unwritten = refl }
 
 bore-read : read_verdict chart_bore ≡ fine
@@ -50,8 +50,8 @@ bore-says-no =
     bore-walk bore-unwritten
 
 -- in the first block the operation of scheme 2, called by number 2, does write 1
-pub bore-writes : some (is_walk_write_of_one (contents chart_bore) 2) first_block ≡ true
-unfolding walking some chart_bore
+pub bore-writes : list_any (is_walk_write_of_one (contents chart_bore) 2) first_block ≡ true
+unfolding walking chart_bore
 bore-writes = refl
 
 -- ---- the machine with two places
@@ -74,6 +74,6 @@ bore-unwritten-ticks = more 0 refl refl refl refl none
 pub bore-takes-zero : tick (decoded_image (contents image_bore)) (two_places 2 2 2 1 false) 0 ≡ finished 0 3 (two_places 2 1 3 0 false)
 unfolding ZeroRow running image_bore
 bore-takes-zero =
-    zero_row image_bore of-bore.passes (two_places 2 1 2 0 true) bore-sized bore-fits refl 0 0
+    zero-row image_bore of-bore.passes (two_places 2 1 2 0 true) bore-sized bore-fits refl 0 0
     66 (two_places 2 2 2 5 false) (two_places 2 2 2 1 false) refl refl
     bore-unwritten-ticks refl 0

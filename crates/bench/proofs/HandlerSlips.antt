@@ -17,7 +17,7 @@ use Rattle.bench.specs.HandlerSlips.{KeepsBeneathFails, ReturnsToCallerFails, Ta
 use Rattle.bench.specs.HandlerSlips.{KeepsHandlerBitFails, ForgetsResultFails, ClearsFirstFails}
 use Rattle.bench.proofs.Computing.{running}
 use Rattle.bench.proofs.Tables.{table_handler, of-handler}
-use Rattle.bench.proofs.Instances.{alone_input, run_alone, second_output, at_drop, at-bottom, at-ordinary, at_parted}
+use Rattle.bench.proofs.Instances.{alone_input, run_alone, second_output, at-drop, at-bottom, at-ordinary, at-parted}
 use Rattle.bench.specs.Variants.{StepRule, ticks_by_rule, run_by}
 use Rattle.bench.proofs.Variants.{decoded_run_by, by-table, made, chain-made, code_at}
 
@@ -25,14 +25,14 @@ pub never-drops-fails : NeverDropsFails
 unfolding running ticks_by_rule table_handler drop_words
 never-drops-fails g claim =
     let z : ◌≡◌ {A = ℕ} 7 96 =
-    ap (code_at 3) (made of-handler never_drops 2 drop_words (at_drop (run_by never_drops) g claim)) in
+    ap (code_at 3) (made of-handler never_drops 2 drop_words (at-drop (run_by never_drops) g claim)) in
     omega arith
 
 pub drops-early-fails : DropsEarlyFails
 unfolding running ticks_by_rule table_handler drop_words
 drops-early-fails g claim =
     let z : ◌≡◌ {A = ℕ} 96 66 =
-    ap (code_at 1) (made of-handler drops_early 2 drop_words (at_drop (run_by drops_early) g claim)) in
+    ap (code_at 1) (made of-handler drops_early 2 drop_words (at-drop (run_by drops_early) g claim)) in
     omega arith
 
 pub drops-again-fails : DropsAgainFails
@@ -60,28 +60,28 @@ pub keeps-beneath-fails : KeepsBeneathFails
 unfolding running ticks_by_rule table_handler drop_words
 keeps-beneath-fails g claim =
     let z : ◌≡◌ {A = ℕ} 19 4 =
-    ap (code_at 6) (made of-handler keeps_beneath 2 drop_words (at_drop (run_by keeps_beneath) g claim)) in
+    ap (code_at 6) (made of-handler keeps_beneath 2 drop_words (at-drop (run_by keeps_beneath) g claim)) in
     omega arith
 
 pub returns-to-caller-fails : ReturnsToCallerFails
 unfolding running ticks_by_rule table_handler drop_words
 returns-to-caller-fails g claim =
     let z : ◌≡◌ {A = ℕ} 3 4 =
-    ap (code_at 6) (made of-handler returns_to_caller 2 drop_words (at_drop (run_by returns_to_caller) g claim)) in
+    ap (code_at 6) (made of-handler returns_to_caller 2 drop_words (at-drop (run_by returns_to_caller) g claim)) in
     omega arith
 
 pub takes-row-fails : TakesRowFails
 unfolding running ticks_by_rule table_handler drop_words
 takes-row-fails g claim =
     let z : ◌≡◌ {A = ℕ} 7 3 =
-    ap (code_at 5) (made of-handler takes_row 2 drop_words (at_drop (run_by takes_row) g claim)) in
+    ap (code_at 5) (made of-handler takes_row 2 drop_words (at-drop (run_by takes_row) g claim)) in
     omega arith
 
 pub leaves-places-fails : LeavesPlacesFails
 unfolding running ticks_by_rule table_handler call_outputs
 leaves-places-fails g claim =
     let given : List CallInput = run_alone (0 ∷ 0 ∷ 1 ∷ 0 ∷ []) ∷ run_alone (0 ∷ []) ∷ [] in
-    let handed = sym (chain-made of-handler leaves_places g (fresh 2) given) ∙ at_parted (run_by leaves_places) g claim in
+    let handed = sym (chain-made of-handler leaves_places g (fresh 2) given) ∙ at-parted (run_by leaves_places) g claim in
     let z : ◌≡◌ {A = ℕ} 15 0 = ap (λ (ds : List CallOutput). reply_number (second_output ds).reply) handed in
     omega arith
 

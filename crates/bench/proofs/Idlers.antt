@@ -1,6 +1,6 @@
 -- Functions that do too little: none that has one of these properties meets the translator's equation or the agreement.
-use Rattle.std.proofs.Common.{if◌then◌else◌, ◌≡◌, refl, ◌∙◌, ap, sym, true, false, ◌&&◌, List, [], ◌∷◌, ℕ, arith, leb, eqb, length, take}
-use Rattle.std.proofs.Common.{get_or, replicate}
+use Rattle.std.proofs.Common.{if◌then◌else◌, ◌≡◌, refl, ◌∙◌, ap, sym, true, false, ◌&&◌, List, [], ◌∷◌, ℕ, arith, length, take, nat_le, ◌==◌, slice_index}
+use Rattle.std.proofs.Common.{replicate}
 use Rattle.words.specs.lists.Sequences.{over}
 use Rattle.text.specs.frames.Answer.{BufferOutcome, buffer_on, reply_number, reply_count}
 use Rattle.text.proofs.frames.Lent.{Success, lent-told, front}
@@ -18,7 +18,7 @@ use Rattle.bench.specs.Idlers.{is_refusal, WritesOnly, TurnsBackFails, OneImageF
 use Rattle.bench.specs.Idlers.{StaysInHandlerFails, HomeAfterDropFails, WritesNothingFails, KeepsStateFails, MiscountsFails, OnlyThese}
 use Rattle.bench.proofs.Computing.{translating, running}
 use Rattle.bench.proofs.Tables.{table_p, of-P, image_home, table_handler, of-handler}
-use Rattle.bench.proofs.Instances.{first_output, second_output, at_home, at-deep, at-twice, at_drop}
+use Rattle.bench.proofs.Instances.{first_output, second_output, at-home, at-deep, at-twice, at-drop}
 use Rattle.bench.specs.Variants.{StepRule, ticks_by_rule, run_by}
 use Rattle.bench.proofs.Variants.{made, code_at}
 
@@ -53,7 +53,7 @@ pub always-full-fails : AlwaysFullFails
 unfolding running image_home
 always-full-fails f g idle claim =
     let z : ◌≡◌ {A = ℕ} 17 0 =
-    sym (idle image_home (fresh 1) 0 [] (7 ∷ []) (7 ∷ []) refl) ∙ ap (λ (t : RunOutput). reply_number t.reply) (at_home f g claim) in
+    sym (idle image_home (fresh 1) 0 [] (7 ∷ []) (7 ∷ []) refl) ∙ ap (λ (t : RunOutput). reply_number t.reply) (at-home f g claim) in
     omega arith
 
 pub always-home-fails : AlwaysHomeFails
@@ -62,7 +62,7 @@ always-home-fails f g idle claim =
     let told = at-deep f g claim in
     let held : List ℕ = replicate 8 7 in
     let homes = idle image_p (fresh 3) bench_words held held ∙ ap (λ (t : RunOutput). over (replicate (reply_count t.reply) 4) held) told in
-    let z : ◌≡◌ {A = ℕ} 4 18 = sym (ap (λ (ks : List ℕ). get_or ks 1 0) homes) ∙ ap (code_at 1) told in
+    let z : ◌≡◌ {A = ℕ} 4 18 = sym (ap (λ (ks : List ℕ). slice_index ks 1) homes) ∙ ap (code_at 1) told in
     omega arith
 
 pub plain-after-call-fails : PlainAfterCallFails
@@ -72,14 +72,14 @@ plain-after-call-fails f g idle claim =
     let held : List ℕ = replicate 8 7 in
     let r : RunOutcome = f image_p (fresh 3) bench_words held held in
     let counted : reply_count r.reply ≡ 8 = ap (λ (t : RunOutput). reply_count t.reply) told in
-    let called : get_or r.codes 1 0 ≡ 18 = ap (code_at 1) told in
+    let called : slice_index r.codes 1 ≡ 18 = ap (code_at 1) told in
     let z : ◌≡◌ {A = ℕ} 18 0 = sym (ap (code_at 3) told)
     ∙ idle image_p (fresh 3) bench_words held held 1 3 (omega arith) (omega arith) (omega arith) in
     omega arith
 
 -- such a run: the machine's ticks as long as one scheme is open, and then plain ones
 abbrev pub plain_after_call : StepRule
-plain_after_call i s w = if eqb s.depth 1 then tick i s w else finished 0 0 s
+plain_after_call i s w = if s.depth == 1 then tick i s w else finished 0 0 s
 
 pub plain-run-fails : (g : Rebinder) → Agreement translate fresh_state (run_by plain_after_call) g → ⊥
 unfolding running ticks_by_rule table_p bench_words
@@ -91,7 +91,7 @@ plain-run-fails g claim =
 pub stays-in-handler-fails : StaysInHandlerFails
 unfolding drop_words
 stays-in-handler-fails f g idle claim =
-    let told = at_drop f g claim in
+    let told = at-drop f g claim in
     let held : List ℕ = replicate 10 7 in
     let r : RunOutcome = f image_handler (fresh 2) drop_words held held in
     let counted : reply_count r.reply ≡ 10 = ap (λ (t : RunOutput). reply_count t.reply) told in
@@ -99,20 +99,20 @@ stays-in-handler-fails f g idle claim =
 
 -- such a run: the handler's return at the bottom starts the handler again
 abbrev pub stays_in_handler : StepRule
-stays_in_handler i s w = if leb s.depth 1 && eqb (place_at s 0) 1
+stays_in_handler i s w = if nat_le s.depth 1 && place_at s 0 == 1
     then finished 0 3 (with_place s 0 (entry_at i i.handler))
     else tick i s w
 
 pub handler-run-fails : (g : Rebinder) → Agreement translate fresh_state (run_by stays_in_handler) g → ⊥
 unfolding running ticks_by_rule table_handler drop_words
 handler-run-fails g claim =
-    let z : ◌≡◌ {A = ℕ} 0 4 = ap (code_at 6) (made of-handler stays_in_handler 2 drop_words (at_drop (run_by stays_in_handler) g claim)) in
+    let z : ◌≡◌ {A = ℕ} 0 4 = ap (code_at 6) (made of-handler stays_in_handler 2 drop_words (at-drop (run_by stays_in_handler) g claim)) in
     omega arith
 
 pub home-after-drop-fails : HomeAfterDropFails
 unfolding drop_words
 home-after-drop-fails f g idle claim =
-    let told = at_drop f g claim in
+    let told = at-drop f g claim in
     let held : List ℕ = replicate 10 7 in
     let r : RunOutcome = f image_handler (fresh 2) drop_words held held in
     let counted : reply_count r.reply ≡ 10 = ap (λ (t : RunOutput). reply_count t.reply) told in
@@ -123,14 +123,14 @@ home-after-drop-fails f g idle claim =
 pub writes-nothing-fails : WritesNothingFails
 writes-nothing-fails f g idle claim =
     let z : ◌≡◌ {A = ℕ} 7 4 =
-    sym (ap (λ (ks : List ℕ). get_or ks 0 0) (idle image_home (fresh 1) (0 ∷ []) (7 ∷ []) (7 ∷ []))) ∙ ap (code_at 0) (at_home f g claim) in
+    sym (ap (λ (ks : List ℕ). slice_index ks 0) (idle image_home (fresh 1) (0 ∷ []) (7 ∷ []) (7 ∷ []))) ∙ ap (code_at 0) (at-home f g claim) in
     omega arith
 
 pub keeps-state-fails : KeepsStateFails
 unfolding call_outputs
 keeps-state-fails f g idle claim =
     let told = at-twice f g claim in
-    let same = ap (λ (s : State). get_or (f image_p s (0 ∷ []) (7 ∷ []) (7 ∷ [])).codes 0 0)
+    let same = ap (λ (s : State). slice_index (f image_p s (0 ∷ []) (7 ∷ []) (7 ∷ [])).codes 0)
     (idle image_p (fresh 3) (0 ∷ []) (7 ∷ []) (7 ∷ [])) in
     let z : ◌≡◌ {A = ℕ} 18 4 =
     sym (ap (λ (ds : List CallOutput). code_at 0 (second_output ds)) told) ∙ same
@@ -138,14 +138,14 @@ keeps-state-fails f g idle claim =
     omega arith
 
 one_written : (ks : List ℕ) → over ks (7 ∷ []) ≡ 4 ∷ [] → length ks ≡ 1
-one_written [] e = let z : ◌≡◌ {A = ℕ} 7 4 = ap (λ (xs : List ℕ). get_or xs 0 0) e in absurd (omega arith)
+one_written [] e = let z : ◌≡◌ {A = ℕ} 7 4 = ap (λ (xs : List ℕ). slice_index xs 0) e in absurd (omega arith)
 one_written (k ∷ []) e = refl
 one_written (k ∷ j ∷ ks) e = let z = ap length e in absurd (omega arith)
 
 pub miscounts-fails : MiscountsFails
 unfolding running image_home
 miscounts-fails f g idle claim =
-    let told = at_home f g claim in
+    let told = at-home f g claim in
     let m = idle image_home (fresh 1) 0 [] (7 ∷ []) (7 ∷ []) refl in
     m.differs (ap (λ (t : RunOutput). reply_count t.reply) told
     ∙ sym (one_written m.written (sym m.buffer ∙ ap (λ (t : RunOutput). t.codes) told)))

@@ -3,7 +3,7 @@ use Rattle.std.proofs.Common.{◌≡◌, refl, ◌∙◌, ap, ap₂, sym, List, 
 use Rattle.std.proofs.Math.ListN.{length-replicate}
 use Rattle.text.specs.frames.Frame.{contents}
 use Rattle.text.specs.frames.Answer.{success, refusal, BufferOutcome, buffer_filled_with}
-use Rattle.text.proofs.frames.Lent.{lent_fits, front}
+use Rattle.text.proofs.frames.Lent.{lent-fits, front}
 use Rattle.bindings.specs.Binding.{own_binding}
 use Rattle.walk.specs.Walk.{Tick, walk}
 use Rattle.image.specs.Image.{Image}
@@ -17,8 +17,8 @@ use Rattle.bench.specs.Bench.{chart_p, image_p, bench_words, chart_home, chart_f
 use Rattle.bench.specs.Handler.{chart_handler, image_handler, drop_words, bottom_words, ordinary_words}
 use Rattle.bench.specs.Swap.{chart_swap, image_swap}
 use Rattle.bench.proofs.Computing.{walking}
-use Rattle.bench.proofs.Tables.{TranslatesTo, of-P, image_home, of-home, image_function, of_function, chart_choice, image_choice, of-choice}
-use Rattle.bench.proofs.Tables.{image_bore, of-bore, of-handler, of-swap, chart_inner, image_inner, of_inner}
+use Rattle.bench.proofs.Tables.{TranslatesTo, of-P, image_home, of-home, image_function, of-function, chart_choice, image_choice, of-choice}
+use Rattle.bench.proofs.Tables.{image_bore, of-bore, of-handler, of-swap, chart_inner, image_inner, of-inner}
 
 -- one run with just room for its words; 7 is no code
 abbrev pub alone_input : List ℕ → RunInput
@@ -55,7 +55,7 @@ module _ (run : Runner) (rebind : Rebinder) (claim : Agreement translate fresh_s
       let out : List ℕ = replicate n 0 in
       let fits : n ≤ length out = simp length-replicate (omega arith) in
       let whole : n / 1 ≡ n = omega arith in
-      let made : translate chart out ≡ buffer_filled_with 1 image out = known.translated out ∙ lent_fits 1 (λ _. image) out fits in
+      let made : translate chart out ≡ buffer_filled_with 1 image out = known.translated out ∙ lent-fits 1 (λ _. image) out fits in
       let written : take n (translate chart out).buffer ≡ image = ap (λ (x : BufferOutcome). take n x.buffer) made
       ∙ front n image out refl in
       sym (ap₂ (λ (x : List ℕ) (s : State). call_outputs run rebind x s given) written (fresh-is size l h))
@@ -86,9 +86,9 @@ module _ (run : Runner) (rebind : Rebinder) (claim : Agreement translate fresh_s
   unfolding walking chart_p call_outputs joined_words bound expected_outputs
   at-twice = at-chart of-P 3 (omega arith) (omega arith) (run_alone (0 ∷ []) ∷ run_alone (0 ∷ []) ∷ []) _ refl
 
-  pub at_home : one_run_output run image_home 1 (0 ∷ []) ≡ record { reply = success 1; masks = 0 ∷ []; codes = 4 ∷ [] }
+  pub at-home : one_run_output run image_home 1 (0 ∷ []) ≡ record { reply = success 1; masks = 0 ∷ []; codes = 4 ∷ [] }
   unfolding walking chart_home call_outputs joined_words bound expected_outputs
-  at_home = ap first_output (at-chart of-home 1 (omega arith) (omega arith) (run_alone (0 ∷ []) ∷ []) _ refl)
+  at-home = ap first_output (at-chart of-home 1 (omega arith) (omega arith) (run_alone (0 ∷ []) ∷ []) _ refl)
 
   pub at-function : one_run_output run image_function 2 (replicate 6 0) ≡ record {
     reply = success 6;
@@ -96,7 +96,7 @@ module _ (run : Runner) (rebind : Rebinder) (claim : Agreement translate fresh_s
     codes = 4 ∷ 66 ∷ 0 ∷ 3 ∷ 0 ∷ 4 ∷ [];
   }
   unfolding walking chart_function call_outputs joined_words bound expected_outputs
-  at-function = ap first_output (at-chart of_function 2 (omega arith) (omega arith) (run_alone (replicate 6 0) ∷ []) _ refl)
+  at-function = ap first_output (at-chart of-function 2 (omega arith) (omega arith) (run_alone (replicate 6 0) ∷ []) _ refl)
 
   pub at-choice : one_run_output run image_choice 2 (0 ∷ 0 ∷ 0 ∷ 1 ∷ 0 ∷ []) ≡ record {
     reply = success 5;
@@ -115,13 +115,13 @@ module _ (run : Runner) (rebind : Rebinder) (claim : Agreement translate fresh_s
   at-bore = ap first_output (at-chart of-bore 2 (omega arith) (omega arith) (run_alone bore_words ∷ []) _ refl)
 
   -- the chart with a handler and two places: two drops, 17 with the handler at the bottom, and a drop where the handler's scheme was called
-  pub at_drop : one_run_output run image_handler 2 drop_words ≡ record {
+  pub at-drop : one_run_output run image_handler 2 drop_words ≡ record {
     reply = success 10;
     masks = 0 ∷ 0 ∷ 0 ∷ 2 ∷ 4 ∷ 0 ∷ 0 ∷ 0 ∷ 0 ∷ 2 ∷ [];
     codes = 4 ∷ 66 ∷ 0 ∷ 96 ∷ 0 ∷ 3 ∷ 4 ∷ 66 ∷ 0 ∷ 96 ∷ [];
   }
   unfolding walking chart_handler drop_words call_outputs joined_words bound expected_outputs
-  at_drop = ap first_output (at-chart of-handler 2 (omega arith) (omega arith) (run_alone drop_words ∷ []) _ refl)
+  at-drop = ap first_output (at-chart of-handler 2 (omega arith) (omega arith) (run_alone drop_words ∷ []) _ refl)
 
   pub at-bottom : one_run_output run image_handler 2 bottom_words ≡ record {
     reply = refusal 17 0 7;
@@ -140,18 +140,18 @@ module _ (run : Runner) (rebind : Rebinder) (claim : Agreement translate fresh_s
   at-ordinary = ap first_output (at-chart of-handler 2 (omega arith) (omega arith) (run_alone ordinary_words ∷ []) _ refl)
 
   -- a run that ends with the drop, and one of a word after it
-  pub at_parted : call_outputs run rebind image_handler (fresh 2) (run_alone (0 ∷ 0 ∷ 1 ∷ 0 ∷ []) ∷ run_alone (0 ∷ []) ∷ [])
+  pub at-parted : call_outputs run rebind image_handler (fresh 2) (run_alone (0 ∷ 0 ∷ 1 ∷ 0 ∷ []) ∷ run_alone (0 ∷ []) ∷ [])
       ≡ by_run (record { reply = success 4; masks = 0 ∷ 0 ∷ 0 ∷ 2 ∷ []; codes = 4 ∷ 66 ∷ 0 ∷ 96 ∷ [] })
       ∷ by_run (record { reply = success 1; masks = 4 ∷ []; codes = 0 ∷ [] }) ∷ []
   unfolding walking chart_handler call_outputs joined_words bound expected_outputs
-  at_parted = at-chart of-handler 2 (omega arith) (omega arith) (run_alone (0 ∷ 0 ∷ 1 ∷ 0 ∷ []) ∷ run_alone (0 ∷ []) ∷ []) _ refl
+  at-parted = at-chart of-handler 2 (omega arith) (omega arith) (run_alone (0 ∷ 0 ∷ 1 ∷ 0 ∷ []) ∷ run_alone (0 ∷ []) ∷ []) _ refl
 
   -- the chart whose schemes are swapped, with two places: no rebinding, number 2 served by scheme 3, the same while scheme 2 is open, and
   -- rebindings that are refused
-  pub at_own : one_run_output run image_swap 2 (replicate 3 0)
+  pub at-own : one_run_output run image_swap 2 (replicate 3 0)
       ≡ record { reply = success 3; masks = 0 ∷ 1 ∷ 4 ∷ []; codes = 4 ∷ 18 ∷ 0 ∷ [] }
   unfolding walking chart_swap call_outputs joined_words bound expected_outputs
-  at_own = ap first_output (at-chart of-swap 2 (omega arith) (omega arith) (run_alone (replicate 3 0) ∷ []) _ refl)
+  at-own = ap first_output (at-chart of-swap 2 (omega arith) (omega arith) (run_alone (replicate 3 0) ∷ []) _ refl)
 
   pub at-served : second_output (call_outputs run rebind image_swap (fresh 2) (to_rebind 2 3 ∷ run_alone (replicate 3 0) ∷ []))
       ≡ record { reply = success 3; masks = 0 ∷ 1 ∷ 8 ∷ []; codes = 4 ∷ 18 ∷ 0 ∷ [] }
@@ -183,9 +183,9 @@ module _ (run : Runner) (rebind : Rebinder) (claim : Agreement translate fresh_s
       (at-chart of-swap 2 (omega arith) (omega arith) (to_rebind 4 2 ∷ []) _ refl)
 
   -- scheme 2 is open and calls its own number, which scheme 3 serves by then
-  pub at_inner : third (call_outputs run rebind image_inner (fresh 3)
+  pub at-inner : third (call_outputs run rebind image_inner (fresh 3)
       (run_alone (0 ∷ 0 ∷ []) ∷ to_rebind 2 3 ∷ run_alone (replicate 5 0) ∷ []))
       ≡ record { reply = success 5; masks = 2 ∷ 4 ∷ 0 ∷ 0 ∷ 1 ∷ []; codes = 18 ∷ 0 ∷ 3 ∷ 3 ∷ 0 ∷ [] }
   unfolding walking chart_inner call_outputs joined_words bound expected_outputs
-  at_inner = ap third (at-chart of_inner 3 (omega arith) (omega arith)
+  at-inner = ap third (at-chart of-inner 3 (omega arith) (omega arith)
       (run_alone (0 ∷ 0 ∷ []) ∷ to_rebind 2 3 ∷ run_alone (replicate 5 0) ∷ []) _ refl)

@@ -2,7 +2,7 @@
 use mathlib.Core.Path.{◌≡◌, refl, sym, subst}
 use lib.Count.{ones, ones_in}
 use Rattle.words.specs.lists.Numbers.{tabulate, lowest, any, count, sum}
-use Rattle.words.specs.lists.Sequences.{some, filter, map_from}
+use Rattle.words.specs.lists.Sequences.{map_from}
 use Rattle.text.specs.frames.Frame.{contents}
 use Rattle.text.specs.frames.Verdict.{fine}
 use Rattle.image.specs.Image.{Image, image_frames, image_text}
@@ -19,7 +19,7 @@ use Rattle.bench.specs.Joins.{GroupCases, even_image, gap_image, twice_image, bi
 use Rattle.bench.proofs.Computing.{checking}
 
 pub group-cases : GroupCases
-unfolding joined_labels grouping classes is_parted tabulate lowest count some filter
+unfolding joined_labels grouping classes is_parted tabulate lowest count
 group-cases = record { two_alike = refl; parted_later = refl; crosswise = refl; tests_kept = refl; lowest_first = refl }
 
 -- of an image whose text is accepted and is read back as it is

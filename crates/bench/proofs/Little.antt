@@ -1,14 +1,14 @@
 -- The cases of the little charts hold: those of two and three frames are computed by the search, those of four follow from its samples.
-use Rattle.std.proofs.Common.{ℕ, ◌||◌, ◌≡◌, refl, sym, ◌∙◌, ap, ap₂, List, [], ◌∷◌, ◌++◌, map, arith, leb, ltb, length, get_or, replicate}
+use Rattle.std.proofs.Common.{ℕ, ◌||◌, ◌≡◌, refl, sym, ◌∙◌, ap, ap₂, List, [], ◌∷◌, ◌++◌, map, arith, length, replicate, nat_lt, nat_le, slice_index_or}
 use Rattle.text.specs.frames.Frame.{text_of}
 use Rattle.text.specs.frames.Verdict.{when}
 use Rattle.text.specs.frames.Answer.{BufferOutcome, buffer_on}
 use Rattle.charts.specs.Chart.{Chart}
 use Rattle.little_charts.specs.Little.{begin_node, end_node, operation_node, condition_node, little_charts, little_text, little_verdict}
 use Rattle.little_charts.specs.Little.{little_chart}
-use Rattle.little_charts.specs.little_search.inner.Search.{node_at, is_barred_node, searched_charts}
+use Rattle.little_charts.specs.inner.Search.{node_at, is_barred_node, searched_charts}
 use Rattle.little_charts.proofs.little_search.Same.{search-lists}
-use Rattle.little_charts.specs.little_totals.inner.Samples.{Samples, samples}
+use Rattle.little_charts.specs.inner.Samples.{Samples, samples}
 use Rattle.little_charts.proofs.little_totals.Totals.{samples-four, total-four}
 use Rattle.bench.specs.Little.{LittleCases, texts_two, texts_three, first_four, middle_four, last_four}
 use Rattle.bench.proofs.Computing.{charting}
@@ -48,7 +48,7 @@ three-listed = sym (search-lists 3 (omega arith) (omega arith)) ∙ refl
 
 -- what is lent, by the list of charts
 abbrev given : ℕ → ℕ → List Chart → List ℕ → BufferOutcome
-given n k xs out = buffer_on (when 24 (ltb n 2 || ltb 4 n || leb (length xs) k)) 1 (λ _. text_of (get_or xs k [])) out
+given n k xs out = buffer_on (when 24 (nat_lt n 2 || nat_lt 4 n || nat_le (length xs) k)) 1 (λ _. text_of (slice_index_or xs k [])) out
 
 of_two : (k : ℕ) (out : List ℕ) → little_chart 2 k out ≡ given 2 k two out
 unfolding little_verdict little_chart
@@ -71,9 +71,9 @@ text-last : little_text 4 647 ≡ last_four
 unfolding charting samples last_four
 text-last = ap (λ (s : Samples). text_of s.last) samples-four
 
-of_four : (k : ℕ) (t out : List ℕ) → little_text 4 k ≡ t → little_chart 4 k out ≡ buffer_on (when 24 (leb 648 k)) 1 (λ _. t) out
+of_four : (k : ℕ) (t out : List ℕ) → little_text 4 k ≡ t → little_chart 4 k out ≡ buffer_on (when 24 (nat_le 648 k)) 1 (λ _. t) out
 unfolding little_verdict little_chart
-of_four k t out e = ap₂ (λ (n : ℕ) (xs : List ℕ). buffer_on (when 24 (leb n k)) 1 (λ _. xs) out) total-four e
+of_four k t out e = ap₂ (λ (n : ℕ) (xs : List ℕ). buffer_on (when 24 (nat_le n k)) 1 (λ _. xs) out) total-four e
 
 pub little-cases : LittleCases
 unfolding charting little_verdict little_chart two three texts_two texts_three

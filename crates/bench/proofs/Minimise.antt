@@ -2,7 +2,7 @@
 use Rattle.std.proofs.Common.{ℕ, Bool, ◌≡◌, refl, sym, ap, List, replicate}
 use lib.Count.{ones, ones_in}
 use Rattle.words.specs.lists.Numbers.{tabulate, lowest, count}
-use Rattle.words.specs.lists.Sequences.{filter, map_from}
+use Rattle.words.specs.lists.Sequences.{map_from}
 use Rattle.text.specs.frames.Frame.{contents}
 use Rattle.text.specs.frames.Verdict.{fine, next, when}
 use Rattle.text.specs.frames.Answer.{BufferOutcome, buffer_on}
@@ -34,7 +34,7 @@ by-sizes t old e =
     (sym (sizes-decide (decoded_image (contents t)) (image-sound t e)))
 
 pub minimise-cases : MinimiseCases
-unfolding checking tabulate lowest count filter map_from ones ones_in image_frames image_text
+unfolding checking tabulate lowest count map_from ones ones_in image_frames image_text
     has_overlap covered_count is_uneven_by_sizes is_uneven is_parted classes grouping
     joined_labels minimise_verdict minimise image_p image_rowless image_branches image_joined
 minimise-cases = record {

@@ -11,14 +11,14 @@ use Rattle.ticks.specs.Tick.{choice, tick}
 use Rattle.runs.specs.Run.{RunOutcome, ticks, run_on}
 use Rattle.bench.specs.Bench.{fresh_run}
 use Rattle.bench.specs.Patched.{image_plain, image_special, image_equal, answer_words, PatchedCases}
-use Rattle.bench.proofs.Tables.{table_plain, of_plain, table_special, of-special, table_equal, of-equal}
+use Rattle.bench.proofs.Tables.{table_plain, of-plain, table_special, of-special, table_equal, of-equal}
 use Rattle.bench.proofs.Rounds.{blank, fresh-run, image-run}
 
 abbrev Ran : List ℕ → Image → List ℕ → Type 0
 Ran image i ws = fresh_run image 2 ws ≡ run_on fine (λ _. ticks i (fresh 2) ws) (fresh 2) (blank ws) (blank ws)
 
 plain : (ws : List ℕ) → Ran image_plain table_plain ws
-plain = fresh-run of_plain 2 (omega arith) (omega arith)
+plain = fresh-run of-plain 2 (omega arith) (omega arith)
 
 special : (ws : List ℕ) → Ran image_special table_special ws
 special = image-run of-special 2 (omega arith) (omega arith)
@@ -35,7 +35,7 @@ masks r = r.masks
 pub patched-cases : PatchedCases
 unfolding ticks tick best_row ones ones_in table_plain table_special table_equal answer_words
 patched-cases = record {
-  translated = of_plain.translated;
+  translated = of-plain.translated;
   accepted = (of-special.passes, of-equal.passes);
   plain-clear = ap masks (plain _);
   plain-set = ap codes (plain _);

@@ -1,6 +1,6 @@
 -- Runs from a fresh state on the image of a chart, for every list of words: B6 and B10.
-use Rattle.std.proofs.Common.{◌≡◌, refl, ◌∙◌, ap, ap₂, subst, Bool, true, false, List, [], ◌∷◌, ◌++◌, map, append-nil, ℕ, zero, suc, ◌%◌}
-use Rattle.std.proofs.Common.{◌≤◌, arith, le-ltb, length, get_or, replicate, drop_of_length-le}
+use Rattle.std.proofs.Common.{◌≡◌, refl, ◌∙◌, ap, ap₂, subst, Bool, true, false, List, [], ◌∷◌, ◌++◌, map, append-nil, ℕ, zero, suc, ◌%◌, slice_index}
+use Rattle.std.proofs.Common.{◌≤◌, arith, le-ltb, length, replicate, drop_of_length-le}
 use borrow.Author.Tests.{lt-leb}
 use lib.Bits.{and_zero_r}
 use Rattle.std.proofs.Math.ListN.{length-replicate, length-map}
@@ -28,7 +28,7 @@ use Rattle.agreement.proofs.Images.{run-image}
 use Rattle.agreement.proofs.Chain.{fresh-is}
 use Rattle.bench.specs.Bench.{chart_home, fresh_run, tick_of, beside, repeated_list}
 use Rattle.bench.proofs.Computing.{walking}
-use Rattle.bench.proofs.Tables.{Holds, held, TranslatesTo, image_home, table_home, of-home, image_function, table_function, of_function}
+use Rattle.bench.proofs.Tables.{Holds, held, TranslatesTo, image_home, table_home, of-home, image_function, table_function, of-function}
 
 -- ---- a run from a fresh state is what its ticks on the table make
 abbrev pub blank : List ℕ → List ℕ
@@ -109,7 +109,7 @@ turn k = omega arith
 
 repeats : (a b c d e n : ℕ) → let xs = a ∷ b ∷ c ∷ d ∷ e ∷ [] in repeated_list xs (suc (suc (suc (suc (suc n))))) ≡ xs ++ repeated_list xs n
 repeats a b c d e n = let xs : List ℕ = a ∷ b ∷ c ∷ d ∷ e ∷ [] in
-    ap (λ (ys : List ℕ). xs ++ ys) (again (λ k. get_or xs (k % 5) 0) (λ k. ap (λ (j : ℕ). get_or xs j 0) (turn k)) 0 n)
+    ap (λ (ys : List ℕ). xs ++ ys) (again (λ k. slice_index xs (k % 5)) (λ k. ap (λ (j : ℕ). slice_index xs j) (turn k)) 0 n)
 
 abbrev codes5 : List ℕ
 codes5 = 4 ∷ 66 ∷ 0 ∷ 3 ∷ 0 ∷ []
@@ -186,10 +186,10 @@ pub function-run : (size : ℕ) → 2 ≤ size → size ≤ 32 → (ws : List �
 function-run size l h ws =
     let n : ℕ = length ws in
     let made = rounds size l false ws in
-    let e = fresh-run of_function size (omega arith) h ws
+    let e = fresh-run of-function size (omega arith) h ws
     ∙ finished-run (ticks table_function (fresh size) ws) (fresh size) ws made.verdict
-    (ap length made.masks ∙ length-map-range (λ k. get_or masks5 (k % 5) 0) 0 n)
-    (ap length made.codes ∙ length-map-range (λ k. get_or codes5 (k % 5) 0) 0 n) in (
+    (ap length made.masks ∙ length-map-range (λ k. slice_index masks5 (k % 5)) 0 n)
+    (ap length made.codes ∙ length-map-range (λ k. slice_index codes5 (k % 5)) 0 n) in (
       ap (λ (r : RunOutcome). r.reply) e,
       ap (λ (r : RunOutcome). r.codes) e
           ∙ made.codes,

@@ -1,8 +1,8 @@
 -- Slips of the rule by which a row is taken, each shown to run a patched image otherwise than the definition, which a run's contract
 -- rules out. On the image of a chart they are no slips: just one row matches there. So it is with the rule that takes the first row that
 -- matches.
-use Rattle.std.proofs.Common.{if◌then◌else◌, ◌≡◌, refl, sym, ◌∙◌, ap, Bool, true, false, List, [], ◌∷◌, ℕ, zero, suc, ◌+◌, ◌<◌, arith}
-use Rattle.std.proofs.Common.{length, get_or}
+use Rattle.std.proofs.Common.{if◌then◌else◌, ◌≡◌, refl, sym, ◌∙◌, ap, Bool, true, false, List, [], ◌∷◌, ℕ, zero, suc, ◌+◌, ◌<◌, arith, slice_index, slice_index_or}
+use Rattle.std.proofs.Common.{length}
 use lib.Count.{ones, ones_in}
 use Rattle.image.specs.Image.{Image, Row, no_row}
 use Rattle.rows.specs.Rows.{is_candidate, Choice, row, no_choice}
@@ -28,10 +28,10 @@ runs-made {image} {i} known step claim ws =
     ∙ run-image image i known.passes known.decodes (fresh 2) ws (blank ws) (blank ws)
 
 abbrev code_at : ℕ → RunOutcome → ℕ
-code_at k r = get_or r.codes k 0
+code_at k r = slice_index r.codes k
 
 abbrev mask_at : ℕ → RunOutcome → ℕ
-mask_at k r = get_or r.masks k 0
+mask_at k r = slice_index r.masks k
 
 pub first-match-fails : FirstMatchFails
 unfolding running ticks_by_rule kept_choice ones ones_in table_special
@@ -67,13 +67,13 @@ counts-bit-fails claim =
 module _ (l w b : ℕ) where
   -- among rows whose first has number k
   abbrev From : ℕ → List Row → Choice → Type 0
-  From k rs no_choice = (j : ℕ) → j < length rs → is_candidate l w b (get_or rs j no_row) ≡ false
-  From k rs (row n r) = (p : ℕ) × (n ≡ k + p) × (p < length rs) × (get_or rs p no_row ≡ r) × (is_candidate l w b r ≡ true)
+  From k rs no_choice = (j : ℕ) → j < length rs → is_candidate l w b (slice_index_or rs j no_row) ≡ false
+  From k rs (row n r) = (p : ℕ) × (n ≡ k + p) × (p < length rs) × (slice_index_or rs p no_row ≡ r) × (is_candidate l w b r ≡ true)
 
   behind : (k : ℕ) (r : Row) (rs : List Row) → is_candidate l w b r ≡ false → (x : Choice) → From (suc k) rs x → From k (r ∷ rs) x
   behind k r rs o no_choice h = go
     where
-      go : (j : ℕ) → j < length (r ∷ rs) → is_candidate l w b (get_or (r ∷ rs) j no_row) ≡ false
+      go : (j : ℕ) → j < length (r ∷ rs) → is_candidate l w b (slice_index_or (r ∷ rs) j no_row) ≡ false
       go zero m = o
       go (suc j) m = h j (omega arith)
   behind k r rs o (row n q) h = (suc h.0, omega (arith, h.1), omega (arith, h.2), h.3, h.4)
@@ -88,13 +88,13 @@ module _ (l w b : ℕ) where
       go true e ih = (0, omega arith, omega arith, refl, e)
       go false e ih = behind k r rs e (kept_choice earlier l w b (suc k) rs) ih
 
-pub first_matches : TakesMatching first_match
-first_matches l w b rs = go (first_match l w b rs) (first-from l w b 0 rs)
+pub first-matches : TakesMatching first_match
+first-matches l w b rs = go (first_match l w b rs) (first-from l w b 0 rs)
   where
     go : (x : Choice) → From l w b 0 rs x → Matching l w b rs x
     go no_choice h = h
-    go (row n r) h = let e : h.0 ≡ n = omega (arith, h.1) in (omega (arith, h.2), ap (λ (j : ℕ). get_or rs j no_row) (sym e) ∙ h.3, h.4)
+    go (row n r) h = let e : h.0 ≡ n = omega (arith, h.1) in (omega (arith, h.2), ap (λ (j : ℕ). slice_index_or rs j no_row) (sym e) ∙ h.3, h.4)
 
 -- the first row that matches makes the machine's ticks on the image that the translator wrote
 pub former-tick : FormerTick
-former-tick text out n done = any-tick text out n done first_match first_matches
+former-tick text out n done = any-tick text out n done first_match first-matches

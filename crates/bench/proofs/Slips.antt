@@ -7,9 +7,9 @@ use Rattle.bench.specs.Slips.{calls_again, reads_at_call, chooses_by_call, keeps
 use Rattle.bench.specs.Slips.{CallsAgainFails, ReadsAtCallFails, ChoosesByCallFails, KeepsBitFails, ReturnsHomeFails, RefusesEarlyFails}
 use Rattle.bench.specs.Slips.{JoinsRowsFails}
 use Rattle.bench.proofs.Computing.{translating, running}
-use Rattle.bench.proofs.Tables.{table_p, of-P, table_home, of-home, table_function, of_function, table_choice, of-choice, table_bore}
+use Rattle.bench.proofs.Tables.{table_p, of-P, table_home, of-home, table_function, of-function, table_choice, of-choice, table_bore}
 use Rattle.bench.proofs.Tables.{of-bore}
-use Rattle.bench.proofs.Instances.{at_home, at-deep, at-shallow, at-function, at-choice, at-bore}
+use Rattle.bench.proofs.Instances.{at-home, at-deep, at-shallow, at-function, at-choice, at-bore}
 use Rattle.bench.specs.Variants.{ticks_by_rule, run_by}
 use Rattle.bench.proofs.Variants.{made, code_at, mask_at}
 
@@ -24,7 +24,7 @@ pub reads-at-call-fails : ReadsAtCallFails
 unfolding running ticks_by_rule table_function
 reads-at-call-fails g claim =
     let z : ◌≡◌ {A = ℕ} 4 0 =
-    ap (code_at 4) (made of_function reads_at_call 2 (replicate 6 0) (at-function (run_by reads_at_call) g claim)) in
+    ap (code_at 4) (made of-function reads_at_call 2 (replicate 6 0) (at-function (run_by reads_at_call) g claim)) in
     omega arith
 
 pub chooses-by-call-fails : ChoosesByCallFails
@@ -45,7 +45,7 @@ pub returns-home-fails : ReturnsHomeFails
 unfolding running ticks_by_rule table_home
 returns-home-fails g claim =
     let z : ◌≡◌ {A = ℕ} 3 4 =
-    ap (code_at 0) (made of-home returns_home 1 (0 ∷ []) (at_home (run_by returns_home) g claim)) in
+    ap (code_at 0) (made of-home returns_home 1 (0 ∷ []) (at-home (run_by returns_home) g claim)) in
     omega arith
 
 pub refuses-early-fails : RefusesEarlyFails

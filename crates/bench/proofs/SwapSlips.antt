@@ -1,6 +1,6 @@
 -- Slips of a rebinding, and of a run under one, each shown not to meet the agreement.
-use Rattle.std.proofs.Common.{◌≡◌, ◌∙◌, ap, sym, List, [], ◌∷◌, ℕ, arith, eqb, length, replicate}
-use Rattle.words.specs.lists.Sequences.{some}
+use Rattle.std.proofs.Common.{◌≡◌, ◌∙◌, ap, sym, List, [], ◌∷◌, ℕ, arith, length, replicate, nat_eq}
+use Rattle.std.specs.List.{list_any}
 use Rattle.text.specs.frames.Frame.{contents}
 use Rattle.text.specs.frames.Answer.{reply_number}
 use Rattle.image.specs.Image.{Image}
@@ -17,9 +17,9 @@ use Rattle.bench.specs.SwapSlips.{kept_by_server, shows_server, ActsLaterFails, 
 use Rattle.bench.specs.SwapSlips.{SwapsOpenFails, BindsRefusedFails, WritesByServerFails, ReadsByServerFails, KeptByServerFails}
 use Rattle.bench.specs.SwapSlips.{ShowsServerFails}
 use Rattle.bench.proofs.Computing.{ticking}
-use Rattle.bench.proofs.Tables.{TranslatesTo, held, table_swap, of-swap, table_inner, of_inner}
-use Rattle.bench.proofs.Instances.{run_alone, second_output, third, at_own, at-served, at-answer, at-within, at-barred, at-handler}
-use Rattle.bench.proofs.Instances.{at_inner}
+use Rattle.bench.proofs.Tables.{TranslatesTo, held, table_swap, of-swap, table_inner, of-inner}
+use Rattle.bench.proofs.Instances.{run_alone, second_output, third, at-own, at-served, at-answer, at-within, at-barred, at-handler}
+use Rattle.bench.proofs.Instances.{at-inner}
 use Rattle.bench.proofs.Rebindings.{rebind-image, rebind-by, chain-alike}
 use Rattle.bench.specs.Variants.{StepRule, ticks_by_rule, run_by}
 use Rattle.bench.proofs.Variants.{decoded_run_by, by-table, code_at, mask_at}
@@ -28,11 +28,11 @@ abbrev word3 : List ℕ
 word3 = replicate 3 0
 
 pub acts-later-fails : ActsLaterFails
-unfolding call_outputs some
+unfolding call_outputs
 acts-later-fails f g late claim =
-    let own = at_own f g claim in
+    let own = at-own f g claim in
     let lent : List ℕ = replicate 3 7 in
-    let quiet = ap (λ (t : RunOutput). some (eqb 3) t.codes) own in
+    let quiet = ap (λ (t : RunOutput). list_any (nat_eq 3) t.codes) own in
     let z : ◌≡◌ {A = ℕ} 8 4 = sym (ap (mask_at 2) (at-served f g claim))
     ∙ ap (mask_at 2) (late image_swap (fresh 2) 2 3 word3 lent lent quiet ∙ own) in
     omega arith
@@ -118,7 +118,7 @@ unfolding call_outputs ticking ticks_by_rule table_inner
 kept-by-server-fails claim =
     let given : List CallInput = run_alone (0 ∷ 0 ∷ []) ∷ to_rebind 2 3 ∷ run_alone (replicate 5 0) ∷ [] in
     let z : ◌≡◌ {A = ℕ} 4 0 =
-    ap (code_at 4) (sym (ap third (with-run of_inner kept_by_server (fresh 3) given)) ∙ at_inner (run_by kept_by_server) rebind claim) in
+    ap (code_at 4) (sym (ap third (with-run of-inner kept_by_server (fresh 3) given)) ∙ at-inner (run_by kept_by_server) rebind claim) in
     omega arith
 
 pub shows-server-fails : ShowsServerFails

@@ -8,7 +8,7 @@ use Rattle.image.specs.Decode.{decoded_image}
 use Rattle.image.specs.Check.{image_verdict}
 use Rattle.chart_rows.specs.chart_labels.Labels.{home_label, return_label}
 use Rattle.translator.specs.Entry.{translate}
-use Rattle.bench.specs.Bench.{lines, chart_p, image_p, chart_home, chart_function, chart_bore, chart_again}
+use Rattle.bench.specs.Bench.{lines, chart_p, image_p, chart_home, chart_function, chart_bore, chart_again, chart_stops, image_stops}
 use Rattle.bench.specs.Handler.{chart_handler, image_handler}
 use Rattle.bench.specs.Swap.{chart_swap, image_swap}
 use Rattle.bench.specs.Patched.{chart_plain, image_plain, image_special, image_equal}
@@ -67,9 +67,9 @@ table_function = record {
   rows = row 2 0 0 0 0 ∷ row 2 0 0 1 3 ∷ row 3 0 0 2 0 ∷ row 4 0 0 2 1 ∷ [];
 }
 
-pub of_function : TranslatesTo chart_function image_function table_function
+pub of-function : TranslatesTo chart_function image_function table_function
 unfolding translating checking chart_function image_function table_function
-of_function = record { translated = λ out. refl; passes = refl; decodes = refl }
+of-function = record { translated = λ out. refl; passes = refl; decodes = refl }
 
 -- ---- an operation that calls scheme 2 and, after it, a condition: on 0 End, on 1 an operation with mask 1
 unfoldable pub chart_choice : List ℕ
@@ -136,6 +136,21 @@ pub of-again : TranslatesTo chart_again image_again table_again
 unfolding translating checking chart_again image_again table_again
 of-again = record { translated = λ out. refl; passes = refl; decodes = refl }
 
+-- ---- a chart that tells which nodes stop
+unfoldable pub table_stops : Image
+table_stops = record {
+  handler = 0;
+  entries = 2 ∷ 7 ∷ [];
+  labels = home_label ∷ return_label ∷ label_with 2 2 1 0 0 ∷ label_with 0 0 1 0 2 ∷ label_with 0 0 1 0 1 ∷ label_with 0 0 2 2 4
+      ∷ label_with 0 0 2 1 8 ∷ label_with 0 0 2 0 0 ∷ [];
+  rows = row 2 0 0 0 3 ∷ row 2 0 0 1 4 ∷ row 3 0 0 2 0 ∷ row 4 0 0 2 0 ∷ row 5 1 0 2 5 ∷ row 5 1 1 2 6 ∷ row 6 0 0 2 1 ∷ row 7 1 0 2 5
+      ∷ row 7 1 1 2 6 ∷ [];
+}
+
+pub of-stops : TranslatesTo chart_stops image_stops table_stops
+unfolding translating checking chart_stops image_stops table_stops
+of-stops = record { translated = λ out. refl; passes = refl; decodes = refl }
+
 -- ---- a chart with a handler
 unfoldable pub table_handler : Image
 table_handler = record {
@@ -190,9 +205,9 @@ table_inner = record {
   rows = row 2 0 0 0 0 ∷ row 2 0 0 1 3 ∷ row 3 0 0 2 0 ∷ row 4 0 0 2 1 ∷ row 5 0 0 2 1 ∷ [];
 }
 
-pub of_inner : TranslatesTo chart_inner image_inner table_inner
+pub of-inner : TranslatesTo chart_inner image_inner table_inner
 unfolding translating checking chart_inner image_inner table_inner
-of_inner = record { translated = λ out. refl; passes = refl; decodes = refl }
+of-inner = record { translated = λ out. refl; passes = refl; decodes = refl }
 
 -- ---- a chart, and its image patched once and twice
 abbrev labels_plain : List Label
@@ -206,9 +221,9 @@ table_plain = record {
   rows = row 2 1 0 2 3 ∷ row 2 1 1 2 4 ∷ row 3 0 0 2 0 ∷ row 4 0 0 0 0 ∷ row 4 0 0 1 3 ∷ row 5 0 0 2 1 ∷ [];
 }
 
-pub of_plain : TranslatesTo chart_plain image_plain table_plain
+pub of-plain : TranslatesTo chart_plain image_plain table_plain
 unfolding translating checking chart_plain image_plain table_plain
-of_plain = record { translated = λ out. refl; passes = refl; decodes = refl }
+of-plain = record { translated = λ out. refl; passes = refl; decodes = refl }
 
 unfoldable pub table_special : Image
 table_special = record {

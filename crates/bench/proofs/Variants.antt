@@ -1,5 +1,5 @@
 -- Runs with another tick in the place of the machine's, and what they hand back.
-use Rattle.std.proofs.Common.{◌≡◌, refl, ◌∙◌, ap, ap₂, sym, List, ℕ, get_or}
+use Rattle.std.proofs.Common.{◌≡◌, refl, ◌∙◌, ap, ap₂, sym, List, ℕ, slice_index}
 use Rattle.text.specs.frames.Verdict.{Verdict, next}
 use Rattle.image.specs.Image.{Image}
 use Rattle.state.specs.declared.State.{State}
@@ -39,7 +39,7 @@ module _ {chart image : List ℕ} {i : Image} (known : TranslatesTo chart image 
   chain-made rebind = chain-alike image (run_by step) (decoded_run_by i step) rebind rebind by-table (λ s h k. refl)
 
 abbrev pub code_at : ℕ → RunOutput → ℕ
-code_at k t = get_or t.codes k 0
+code_at k t = slice_index t.codes k
 
 abbrev pub mask_at : ℕ → RunOutput → ℕ
-mask_at k t = get_or t.masks k 0
+mask_at k t = slice_index t.masks k

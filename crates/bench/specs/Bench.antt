@@ -1,15 +1,16 @@
--- The bench sheet: its charts, words and answers, B1 to B8 and B10, said about the definitions, and calls that clear a result bit.
+-- The bench sheet: its charts, words and answers, B1 to B8 and B10, said about the definitions, calls that clear a result bit, and a chart
+-- that tells which nodes stop.
 -- (B9 is run by a program.)
-use Rattle.std.specs.Prelude.{ℕ, ◌-◌, ◌%◌, ◌≤◌, true, false, ◌≡◌, List, [], ◌∷◌, ◌++◌, map, length, get_or, take, replicate}
+use Rattle.std.specs.Prelude.{ℕ, ◌-◌, ◌%◌, ◌≤◌, true, false, ◌≡◌, List, [], ◌∷◌, ◌++◌, map, length, take, replicate, slice_index, flat_map}
 use Prim.Native.Char.{code}
 use Prim.Native.String.{String, [] as none, ◌∷◌ as more}
 use Rattle.text.specs.frames.Verdict.{fine}
 use Rattle.text.specs.frames.Answer.{success, refusal, buffer_on}
 use Rattle.words.specs.lists.Numbers.{range}
-use Rattle.words.specs.lists.Sequences.{concat_map}
 use Rattle.text.specs.frames.Frame.{contents}
 use Rattle.results.specs.Results.{no_results}
-use Rattle.walk.specs.Walk.{Signal, Tick, walk}
+use Rattle.bindings.specs.Binding.{own_binding}
+use Rattle.walk.specs.Walk.{Signal, signals, Tick, walk}
 use Rattle.translator.specs.Entry.{translate}
 use Rattle.state.specs.State.{fresh, fresh_state}
 use Rattle.runs.specs.Run.{RunOutcome, run}
@@ -20,7 +21,7 @@ characters (more c s) = code c ∷ characters s
 
 -- a text by its lines
 abbrev pub lines : List String → List ℕ
-lines = concat_map (λ s. characters s ++ (10 ∷ []))
+lines = flat_map (λ s. characters s ++ (10 ∷ []))
 
 unfoldable pub chart_p : List ℕ
 chart_p = lines (
@@ -77,6 +78,26 @@ chart_again = lines (
     "00010001000000000000FE" ∷ "02010202000000000000F9" ∷ "01010000000000000000FE" ∷ "00020004000000000000FA"
     ∷ "02020005000200000000F5" ∷ "02020206000200000000F2" ∷ "01020000000000000000FD" ∷ [])
 
+-- it tells which nodes stop: function 2, on 1 mask 1, on 0 mask 2; scheme 2, its Begin the last frame: condition 0, on 0 an operation that
+-- writes 1 and leads to the condition again, on 1 one that writes 0
+unfoldable pub chart_stops : List ℕ
+chart_stops = lines (
+    "00010001000000000000FE" ∷ "04010202030000000000F4" ∷ "02010004000000000002F7" ∷ "02010004000000000001F8"
+    ∷ "01010000000000000000FE" ∷ "03020006070000000000EE" ∷ "02020005000200000004F1" ∷ "02020008000100000008EB"
+    ∷ "01020000000000000000FD" ∷ "00020005000000000000F9" ∷ [])
+
+unfoldable pub image_stops : List ℕ
+image_stops = lines (
+    "0F020700090000000000DF" ∷ "10010200000000000000ED" ∷ "10020700000000000000E7" ∷ "11000400010000000000EA"
+    ∷ "11010300000000000000EB" ∷ "11020202010000000000E8" ∷ "11030000010000000002E9" ∷ "11040000010000000001E9"
+    ∷ "11050000020200000004E2" ∷ "11060000020100000008DE" ∷ "11070000020000000000E6" ∷ "12020000000000030000E9"
+    ∷ "12020000000001040000E7" ∷ "12030000000002000000E9" ∷ "12040000000002000000E8" ∷ "12050001000002050000E1"
+    ∷ "12050001000102060000DF" ∷ "12060000000002010000E5" ∷ "12070001000002050000DF" ∷ "12070001000102060000DD" ∷ [])
+
+-- on 0 the operation that writes 1, and from it on 1 the one that writes 0
+unfoldable pub stops_words : List ℕ
+stops_words = 0 ∷ 0 ∷ 0 ∷ 1 ∷ 0 ∷ 0 ∷ 0 ∷ 0 ∷ []
+
 -- what the translator writes to a buffer of that many characters
 abbrev pub image_of : ℕ → List ℕ → List ℕ
 image_of n text = (translate text (replicate n 0)).buffer
@@ -95,7 +116,7 @@ beside d xs = take d xs ++ replicate (32 - d) 0
 
 -- the first n of xs repeated without end
 abbrev pub repeated_list : List ℕ → ℕ → List ℕ
-repeated_list xs n = map (λ k. get_or xs (k % length xs) 0) (range 0 n)
+repeated_list xs n = map (λ k. slice_index xs (k % length xs)) (range 0 n)
 
 pub record BenchSheet : Type 0 where
   -- chart P gives its image, whatever buffer is lent
@@ -135,3 +156,15 @@ pub record BenchSheet : Type 0 where
   -- the sixth would do so again, but gets 17 and leaves the 1 that the fifth wrote
   pub full_call : let r = fresh_run (image_of 253 chart_again) 3 (replicate 6 0) in
       (r.reply ≡ refusal 17 0 5) × (r.state.bits ≡ false ∷ true ∷ replicate 14 false)
+  -- of scheme 2 the Begin stops and its condition does not, whence it is met again too: labels and entries go by that
+  pub stops-image : (out : List ℕ) → translate chart_stops out ≡ buffer_on fine 1 (λ _. image_stops) out
+  pub stops-walk : walk 2 (contents chart_stops) (signals own_binding stops_words)
+      ≡ tick_of 4 1 0 4 1 ∷ tick_of 1 1 0 66 1 ∷ tick_of 9 2 0 0 2 ∷ tick_of 6 2 4 0 2 ∷ tick_of 7 2 8 0 2 ∷ tick_of 8 2 0 3 2
+      ∷ tick_of 2 1 2 0 1 ∷ tick_of 4 1 0 4 1 ∷ []
+  pub stops-run : let r = fresh_run image_stops 2 stops_words in
+      (r.reply ≡ success 8)
+      × (r.codes ≡ 4 ∷ 66 ∷ 0 ∷ 0 ∷ 0 ∷ 3 ∷ 0 ∷ 4 ∷ [])
+      × (r.masks ≡ 0 ∷ 0 ∷ 0 ∷ 4 ∷ 8 ∷ 0 ∷ 2 ∷ 0 ∷ [])
+  -- its fifth tick writes 0 to a bit that the fourth has made 1, so the function then takes its 0 arc
+  pub writes-one : (fresh_run image_stops 2 (take 4 stops_words)).state.bits ≡ false ∷ true ∷ replicate 14 false
+  pub writes-zero : (fresh_run image_stops 2 (take 5 stops_words)).state.bits ≡ no_results

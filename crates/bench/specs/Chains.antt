@@ -1,6 +1,5 @@
 -- Cases of places needed, of charts as records: a chain, circles in reach of scheme 1, and one out of its reach.
-use Rattle.std.specs.Prelude.{ℕ, true, false, ◌≡◌, List, [], ◌∷◌, replicate}
-use Rattle.words.specs.lists.Sequences.{concat_map}
+use Rattle.std.specs.Prelude.{ℕ, true, false, ◌≡◌, List, [], ◌∷◌, replicate, flat_map}
 use Rattle.charts.specs.Chart.{Chart}
 use Rattle.places.specs.chains.Calls.{is_circular, places}
 
@@ -9,7 +8,7 @@ abbrev pub node : ℕ → ℕ → ℕ → ℕ → ℕ → List ℕ
 node k h a u₀ u₁ = k ∷ h ∷ a ∷ u₀ ∷ u₁ ∷ replicate 5 0
 
 abbrev pub chart : List (List ℕ) → Chart
-chart = concat_map (λ r. r)
+chart = flat_map (λ r. r)
 
 pub record ChainCases : Type 0 where
   -- 1 calls 2 and 3, and a function of 2 calls 3

@@ -1,6 +1,6 @@
 -- Slips of a drop, each a tick in the place of the machine's. Most do not meet the agreement; those in the result bits that a drop leaves,
 -- which never show in a tick, hand back another state than the definition.
-use Rattle.std.specs.Prelude.{ℕ, suc, ◌-◌, ◌&&◌, not, ◌≡◌, List, leb, eqb, set, if◌then◌else◌}
+use Rattle.std.specs.Prelude.{ℕ, suc, ◌-◌, ◌&&◌, not, ◌≡◌, List, set, if◌then◌else◌, nat_le, ◌==◌}
 use Rattle.results.specs.Results.{Results, with_result, cleared_results}
 use Rattle.image.specs.Image.{Image, Label}
 use Rattle.translator.specs.Entry.{translate}
@@ -23,7 +23,7 @@ written i s = with_result (top_label i s).result (top_number s) s.bits
 
 -- the machine's tick, but after a drop the state is what f makes of the states before and after it
 abbrev pub altered_tick : (State → State) → MachineTick → MachineTick
-altered_tick f (finished m code t) = finished m code (if eqb code 96 then f t else t)
+altered_tick f (finished m code t) = finished m code (if code == 96 then f t else t)
 altered_tick f (stopped n) = stopped n
 
 abbrev pub after_drop : (Image → State → State → State) → StepRule
@@ -39,7 +39,7 @@ NeverDropsFails = (g : Rebinder) → Agreement translate fresh_state (run_by nev
 -- ---- a drop at depth Σ - 1
 abbrev pub drops_early : StepRule
 drops_early i s w =
-    if is_call (top_label i s) && leb (s.size - 1) s.depth then full_tick i s (top_label i s).mask (written i s) else tick i s w
+    if is_call (top_label i s) && nat_le (s.size - 1) s.depth then full_tick i s (top_label i s).mask (written i s) else tick i s w
 
 abbrev pub DropsEarlyFails : Type 0
 DropsEarlyFails = (g : Rebinder) → Agreement translate fresh_state (run_by drops_early) g → ⊥
@@ -92,7 +92,7 @@ KeepsBeneathFails = (g : Rebinder) → Agreement translate fresh_state (run_by k
 
 -- ---- a handler that returns to the dropped caller: a drop keeps the caller's label above the handler, and the return takes its row
 abbrev pub returns_to_caller : StepRule
-returns_to_caller i s w = if eqb (top_label i s).kind 3 && leb s.depth 1 && not (eqb (place_at s 1) 0)
+returns_to_caller i s w = if (top_label i s).kind == 3 && nat_le s.depth 1 && not (place_at s 1 == 0)
     then moved_tick 0 3 (state_alone s 0 1 s.bits) 0 (row_leads i s.bits (place_at s 1) w)
     else after_drop (λ i s t. with_place t 1 (top_of s)) i s w
 
@@ -102,7 +102,7 @@ ReturnsToCallerFails = (g : Rebinder) → Agreement translate fresh_state (run_b
 -- ---- the handler's return at depth 1 takes a row, of which label 1 has none
 abbrev pub takes_row : StepRule
 takes_row i s w =
-    if eqb (top_label i s).kind 3 then return_tick s (row_leads i s.bits (place_at s (s.depth - 2)) w) else tick i s w
+    if (top_label i s).kind == 3 then return_tick s (row_leads i s.bits (place_at s (s.depth - 2)) w) else tick i s w
 
 abbrev pub TakesRowFails : Type 0
 TakesRowFails = (g : Rebinder) → Agreement translate fresh_state (run_by takes_row) g → ⊥

@@ -1,5 +1,5 @@
 -- Functions that do too little: none that has one of these properties meets the translator's equation or the agreement.
-use Rattle.std.specs.Prelude.{ℕ, ◌≤◌, ◌<◌, Bool, true, false, ◌≡◌, List, ◌∷◌, take, length, get_or, replicate}
+use Rattle.std.specs.Prelude.{ℕ, ◌≤◌, ◌<◌, Bool, true, false, ◌≡◌, List, ◌∷◌, take, length, replicate, slice_index}
 use Rattle.words.specs.lists.Sequences.{over}
 use Rattle.text.specs.frames.Verdict.{fine}
 use Rattle.text.specs.frames.Answer.{Reply, success, refusal, reply_number, reply_count}
@@ -50,7 +50,7 @@ AlwaysHomeFails = (f : Runner) (g : Rebinder) → AlwaysHome f → Agreement tra
 -- after a call all ticks that it counts are plain
 abbrev pub PlainAfterCall : Runner → Type 0
 PlainAfterCall f = (image : List ℕ) (s : State) (ws masks codes : List ℕ) → let r = f image s ws masks codes in
-    (j k : ℕ) → j < k → k < reply_count r.reply → 16 ≤ get_or r.codes j 0 → get_or r.codes k 0 ≡ 0
+    (j k : ℕ) → j < k → k < reply_count r.reply → 16 ≤ slice_index r.codes j → slice_index r.codes k ≡ 0
 
 abbrev pub PlainAfterCallFails : Type 0
 PlainAfterCallFails = (f : Runner) (g : Rebinder) → PlainAfterCall f → Agreement translate fresh_state f g → ⊥
@@ -58,7 +58,7 @@ PlainAfterCallFails = (f : Runner) (g : Rebinder) → PlainAfterCall f → Agree
 -- after a drop no tick that it counts is a home tick
 abbrev pub StaysInHandler : Runner → Type 0
 StaysInHandler f = (image : List ℕ) (s : State) (ws masks codes : List ℕ) → let r = f image s ws masks codes in
-    (j k : ℕ) → j < k → k < reply_count r.reply → get_or r.codes j 0 ≡ 96 → get_or r.codes k 0 ≡ 4 → ⊥
+    (j k : ℕ) → j < k → k < reply_count r.reply → slice_index r.codes j ≡ 96 → slice_index r.codes k ≡ 4 → ⊥
 
 abbrev pub StaysInHandlerFails : Type 0
 StaysInHandlerFails = (f : Runner) (g : Rebinder) → StaysInHandler f → Agreement translate fresh_state f g → ⊥
@@ -66,7 +66,7 @@ StaysInHandlerFails = (f : Runner) (g : Rebinder) → StaysInHandler f → Agree
 -- after a drop all ticks that it counts are home ticks
 abbrev pub HomeAfterDrop : Runner → Type 0
 HomeAfterDrop f = (image : List ℕ) (s : State) (ws masks codes : List ℕ) → let r = f image s ws masks codes in
-    (j k : ℕ) → j < k → k < reply_count r.reply → get_or r.codes j 0 ≡ 96 → get_or r.codes k 0 ≡ 4
+    (j k : ℕ) → j < k → k < reply_count r.reply → slice_index r.codes j ≡ 96 → slice_index r.codes k ≡ 4
 
 abbrev pub HomeAfterDropFails : Type 0
 HomeAfterDropFails = (f : Runner) (g : Rebinder) → HomeAfterDrop f → Agreement translate fresh_state f g → ⊥

@@ -1,5 +1,5 @@
 -- Cases of the little charts: both of two frames, all of three, some of four, and what 24 and 16 refuse.
-use Rattle.std.specs.Prelude.{ℕ, ◌≡◌, List, [], ◌∷◌, map, get_or, replicate}
+use Rattle.std.specs.Prelude.{ℕ, ◌≡◌, List, [], ◌∷◌, map, replicate, slice_index_or}
 use Rattle.text.specs.frames.Frame.{text_of}
 use Rattle.text.specs.frames.Verdict.{fine}
 use Rattle.text.specs.frames.Answer.{buffer_on}
@@ -50,8 +50,8 @@ pub record LittleCases : Type 0 where
   pub three : map text_of (little_charts 3) ≡ texts_three
   pub four : (little_text 4 0 ≡ first_four) × (little_text 4 324 ≡ middle_four) × (little_text 4 647 ≡ last_four)
   -- the last of each frame count is written
-  pub last_two : (out : List ℕ) → little_chart 2 1 out ≡ buffer_on fine 1 (λ _. get_or texts_two 1 []) out
-  pub last_three : (out : List ℕ) → little_chart 3 17 out ≡ buffer_on fine 1 (λ _. get_or texts_three 17 []) out
+  pub last_two : (out : List ℕ) → little_chart 2 1 out ≡ buffer_on fine 1 (λ _. slice_index_or texts_two 1 []) out
+  pub last_three : (out : List ℕ) → little_chart 3 17 out ≡ buffer_on fine 1 (λ _. slice_index_or texts_three 17 []) out
   pub last_of_four : (out : List ℕ) → little_chart 4 647 out ≡ buffer_on fine 1 (λ _. last_four) out
   -- and the next number is past it
   pub past_two : (out : List ℕ) → little_chart 2 2 out ≡ kept_smaller 24 out

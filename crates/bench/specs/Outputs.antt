@@ -1,6 +1,5 @@
 -- What the two programs print, on charts and images small enough to be computed.
-use Rattle.std.specs.Prelude.{ℕ, ◌≡◌, List, [], ◌∷◌, ◌++◌, replicate}
-use Rattle.words.specs.lists.Sequences.{concat_map}
+use Rattle.std.specs.Prelude.{ℕ, ◌≡◌, List, [], ◌∷◌, ◌++◌, replicate, flat_map}
 use Rattle.text.specs.frames.Frame.{text_of}
 use Rattle.output.specs.printing.Lines.{refusal_line}
 use Rattle.output.specs.translate_output.TranslateProgram.{translate_output}
@@ -34,10 +33,10 @@ pub record PrintedCases : Type 0 where
   -- a frame index of more than one byte
   pub high-index : refusal_line 13 1290 ≡ lines ("FF0D050A000000000000E5" ∷ [])
   -- sixteen turns of four ticks
-  pub run-p : run_output image_p ≡ lines (concat_map (λ r. r) (replicate 16 ("04" ∷ "12" ∷ "00" ∷ "03" ∷ [])))
+  pub run-p : run_output image_p ≡ lines (flat_map (λ r. r) (replicate 16 ("04" ∷ "12" ∷ "00" ∷ "03" ∷ [])))
   -- the words from 32 on have bit 5
   pub run-held : run_output (translate_output chart_held) ≡ lines
-      (concat_map (λ r. r) (replicate 16 ("04" ∷ "00" ∷ [])) ++ ("04" ∷ replicate 31 "00"))
+      (flat_map (λ r. r) (replicate 16 ("04" ∷ "00" ∷ [])) ++ ("04" ∷ replicate 31 "00"))
   -- a home tick and 31 calls fill the stack, and 17 follows
   pub run-endless : run_output (translate_output chart_endless) ≡ lines ("04" ∷ replicate 31 "12" ++ ("FF110000000000000000F0" ∷ []))
   -- with a handler a drop follows them, the handler with its return, and home again

@@ -1,7 +1,6 @@
 -- One small chart, image or state, made by hand, for each refusal 1 to 20; those of 21 stand in Causes, those of 22 in Swap.
-use Rattle.std.specs.Prelude.{ℕ, ◌+◌, ◌*◌, false, ◌≡◌, List, [], ◌∷◌, ◌++◌, length, replicate, set, take}
+use Rattle.std.specs.Prelude.{ℕ, ◌+◌, ◌*◌, false, ◌≡◌, List, [], ◌∷◌, ◌++◌, length, replicate, set, take, flat_map}
 use Rattle.words.specs.lists.Numbers.{range}
-use Rattle.words.specs.lists.Sequences.{concat_map}
 use Rattle.bindings.specs.Binding.{own_binding}
 use Rattle.text.specs.frames.Verdict.{fine, refused}
 use Rattle.text.specs.frames.Answer.{success, refusal}
@@ -37,16 +36,16 @@ abbrev pub condition : ℕ → ℕ → ℕ → ℕ → List ℕ
 condition h i u₀ u₁ = 3 ∷ h ∷ i ∷ u₀ ∷ u₁ ∷ replicate 5 0
 
 abbrev pub chart : List (List ℕ) → Chart
-chart = concat_map (λ r. r)
+chart = flat_map (λ r. r)
 
 -- an operation and n conditions of different numbers, each with both arcs to the next: 2 to the power n rows
 abbrev pub doubling_chart : ℕ → Chart
-doubling_chart n = begins 1 1 ++ (operation 1 0 2 1 ++ (concat_map (λ i. condition 1 i (i + 3) (i + 3)) (range 0 n) ++ ends_with 1))
+doubling_chart n = begins 1 1 ++ (operation 1 0 2 1 ++ (flat_map (λ i. condition 1 i (i + 3) (i + 3)) (range 0 n) ++ ends_with 1))
 
 -- the same with one more plain operation before it
 abbrev pub one_more_row : ℕ → Chart
 one_more_row n = begins 1 1 ++ (operation 1 0 2
-    1 ++ (operation 1 0 3 1 ++ (concat_map (λ i. condition 1 i (i + 4) (i + 4)) (range 0 n) ++ ends_with 1)))
+    1 ++ (operation 1 0 3 1 ++ (flat_map (λ i. condition 1 i (i + 4) (i + 4)) (range 0 n) ++ ends_with 1)))
 
 -- ---- chart P and its image with byte k of frame f changed to x, sums made right
 abbrev pub changed_chart : ℕ → ℕ → ℕ → List ℕ

@@ -1,6 +1,6 @@
 -- Slips of the rule by which a row is taken: each runs a patched image otherwise than the definition, which a run's contract rules out.
 -- On the image of a chart they are no slips, since just one row matches there: so it is with the rule that takes the first that matches.
-use Rattle.std.specs.Prelude.{ℕ, suc, ◌+◌, ◌≡◌, false, List, [], ◌∷◌, leb, ltb, eqb, if◌then◌else◌}
+use Rattle.std.specs.Prelude.{ℕ, suc, ◌+◌, ◌≡◌, false, List, [], ◌∷◌, if◌then◌else◌, nat_lt, nat_le, ◌==◌}
 use Rattle.std.specs.Int.Count.{ones}
 use Rattle.text.specs.frames.Answer.{success}
 use Rattle.image.specs.Image.{Row}
@@ -29,12 +29,12 @@ earlier (row k r) y = row k r
 abbrev pub heavier_choice : (Row → ℕ) → Choice → Choice → Choice
 heavier_choice weight no_choice y = y
 heavier_choice weight (row k r) no_choice = row k r
-heavier_choice weight (row k r) (row j q) = if ltb (weight q) (weight r) then row k r else row j q
+heavier_choice weight (row k r) (row j q) = if nat_lt (weight q) (weight r) then row k r else row j q
 
 abbrev pub firmer_choice : (Row → ℕ) → Choice → Choice → Choice
 firmer_choice weight no_choice y = y
 firmer_choice weight (row k r) no_choice = row k r
-firmer_choice weight (row k r) (row j q) = if leb (weight q) (weight r) then row k r else row j q
+firmer_choice weight (row k r) (row j q) = if nat_le (weight q) (weight r) then row k r else row j q
 
 -- ---- a run that hands back what the definition's does, on any image
 abbrev pub RunsAs : Runner → Type 0
@@ -70,7 +70,7 @@ OnesOfValuesFails = RunsAs (run_by (tick_with ones_of_values)) → ⊥
 
 -- ---- the function bit counted as a condition
 abbrev pub counts_bit : Rule
-counts_bit l w b rs = kept_choice (heavier_choice (λ r. ones r.care + (if eqb r.bit 2 then 0 else 1))) l w b 0 rs
+counts_bit l w b rs = kept_choice (heavier_choice (λ r. ones r.care + (if r.bit == 2 then 0 else 1))) l w b 0 rs
 
 abbrev pub CountsBitFails : Type 0
 CountsBitFails = RunsAs (run_by (tick_with counts_bit)) → ⊥

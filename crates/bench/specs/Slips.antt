@@ -1,6 +1,6 @@
 -- The six slips of the bench sheet, and a call that clears no bit: the machine, or the table, with one of them does not meet its statement.
-use Rattle.std.specs.Prelude.{ℕ, zero, suc, ◌-◌, Bool, true, false, ◌&&◌, List, [], ◌∷◌, leb, eqb, get_or, set, if◌then◌else◌}
-use Rattle.words.specs.bits.Word.{bit}
+use Rattle.std.specs.Prelude.{ℕ, zero, suc, ◌-◌, Bool, true, false, ◌&&◌, List, [], ◌∷◌, set, if◌then◌else◌, nat_le, ◌==◌, slice_index_or}
+use Rattle.std.specs.Int.{bit_at}
 use Rattle.results.specs.Results.{result_of, with_result}
 use Rattle.text.specs.frames.Frame.{contents}
 use Rattle.text.specs.frames.Answer.{buffer_on}
@@ -28,7 +28,7 @@ without_top s = popped_state s s.bits
 
 -- ---- the call issued again on return: the label beneath stays and calls once more
 abbrev pub calls_again : StepRule
-calls_again i s w = if eqb (kind_of i s) 3 then finished 0 3 (without_top s) else tick i s w
+calls_again i s w = if kind_of i s == 3 then finished 0 3 (without_top s) else tick i s w
 
 abbrev pub CallsAgainFails : Type 0
 CallsAgainFails = (g : Rebinder) → Agreement translate fresh_state (run_by calls_again) g → ⊥
@@ -40,22 +40,22 @@ remembered_tick k x (stopped n) = stopped n
 
 abbrev pub is_call_kind : ℕ → Bool
 is_call_kind zero = false
-is_call_kind (suc k) = leb k 1
+is_call_kind (suc k) = nat_le k 1
 
 -- ---- the result bit read at the call
 abbrev pub reads_at_call : StepRule
-reads_at_call i s w = if eqb (kind_of i s) 3
-    then return_tick s (lead_of (best_row (beneath s) w (if get_or s.bits 15 false then 1 else 0) 0 i.rows))
-    else if eqb (kind_of i s) 2 then remembered_tick 15 (result_of (label_at i (top_of s)).called s.bits) (tick i s w) else tick i s w
+reads_at_call i s w = if kind_of i s == 3
+    then return_tick s (lead_of (best_row (beneath s) w (if slice_index_or s.bits 15 false then 1 else 0) 0 i.rows))
+    else if kind_of i s == 2 then remembered_tick 15 (result_of (label_at i (top_of s)).called s.bits) (tick i s w) else tick i s w
 
 abbrev pub ReadsAtCallFails : Type 0
 ReadsAtCallFails = (g : Rebinder) → Agreement translate fresh_state (run_by reads_at_call) g → ⊥
 
 -- ---- after a return the choice by the call's word
 abbrev pub chooses_by_call : StepRule
-chooses_by_call i s w = if eqb (kind_of i s) 3
-    then return_tick s (row_leads i s.bits (beneath s) (if get_or s.bits 15 false then 1 else 0))
-    else if is_call_kind (kind_of i s) then remembered_tick 15 (eqb (bit w 0) 1) (tick i s w) else tick i s w
+chooses_by_call i s w = if kind_of i s == 3
+    then return_tick s (row_leads i s.bits (beneath s) (if slice_index_or s.bits 15 false then 1 else 0))
+    else if is_call_kind (kind_of i s) then remembered_tick 15 (bit_at w 0 == 1) (tick i s w) else tick i s w
 
 abbrev pub ChoosesByCallFails : Type 0
 ChoosesByCallFails = (g : Rebinder) → Agreement translate fresh_state (run_by chooses_by_call) g → ⊥
@@ -73,21 +73,21 @@ KeepsBitFails = (g : Rebinder) → Agreement translate fresh_state (run_by keeps
 
 -- ---- a return from scheme 1
 abbrev pub returns_home : StepRule
-returns_home i s w = if eqb (kind_of i s) 4 then finished 0 3 (without_top s) else tick i s w
+returns_home i s w = if kind_of i s == 4 then finished 0 3 (without_top s) else tick i s w
 
 abbrev pub ReturnsHomeFails : Type 0
 ReturnsHomeFails = (g : Rebinder) → Agreement translate fresh_state (run_by returns_home) g → ⊥
 
 -- ---- a call at depth Σ - 1 refused
 abbrev pub refuses_early : StepRule
-refuses_early i s w = if is_call_kind (kind_of i s) && leb (s.size - 1) s.depth then stopped 17 else tick i s w
+refuses_early i s w = if is_call_kind (kind_of i s) && nat_le (s.size - 1) s.depth then stopped 17 else tick i s w
 
 abbrev pub RefusesEarlyFails : Type 0
 RefusesEarlyFails = (g : Rebinder) → Agreement translate fresh_state (run_by refuses_early) g → ⊥
 
 -- ---- rows with equal targets joined: two neighbours of one label, bit and next label become one that cares for nothing
 abbrev pub is_alike : Row → Row → Bool
-is_alike r q = eqb r.from q.from && eqb r.bit q.bit && eqb r.next q.next
+is_alike r q = r.from == q.from && r.bit == q.bit && r.next == q.next
 
 unfoldable pub joined_rows : List Row → List Row
 joined_rows [] = []

@@ -1,8 +1,8 @@
 -- Slips of a rebinding, and of a run under one: none meets the agreement.
-use Rattle.std.specs.Prelude.{ℕ, ◌+◌, ◌-◌, ◌*◌, ◌/◌, ◌%◌, ◌≤◌, false, ◌&&◌, ◌≡◌, List, map, ltb, eqb, length, get_or, set}
+use Rattle.std.specs.Prelude.{ℕ, ◌+◌, ◌-◌, ◌*◌, ◌/◌, ◌%◌, ◌≤◌, false, ◌&&◌, ◌≡◌, List, map, length, set, nat_lt, nat_eq, ◌==◌, slice_index}
 use Rattle.std.specs.Prelude.{if◌then◌else◌}
 use Rattle.words.specs.lists.Numbers.{range}
-use Rattle.words.specs.lists.Sequences.{some}
+use Rattle.std.specs.List.{list_any}
 use Rattle.results.specs.Results.{result_of, with_result, cleared_results}
 use Rattle.bindings.specs.Binding.{server_of, rebound_binding}
 use Rattle.text.specs.frames.Frame.{contents}
@@ -27,7 +27,7 @@ use Rattle.bench.specs.Variants.{StepRule, run_by}
 
 -- ---- a rebinding that does not count before the next return: a run with no return hands back what it does without the rebinding
 abbrev pub ActsLater : Runner → Rebinder → Type 0
-ActsLater f g = (image : List ℕ) (s : State) (h k : ℕ) (ws ms ks : List ℕ) → some (eqb 3) (f image s ws ms ks).codes ≡ false
+ActsLater f g = (image : List ℕ) (s : State) (h k : ℕ) (ws ms ks : List ℕ) → list_any (nat_eq 3) (f image s ws ms ks).codes ≡ false
     → output_of (f image (g image s h k).state ws ms ks) ≡ output_of (f image s ws ms ks)
 
 abbrev pub ActsLaterFails : Type 0
@@ -61,18 +61,18 @@ rebind_by f t s h k = checked (image_verdict t) s (f (decoded_image (contents t)
 
 -- ---- one that acts later: it is noted where number 1 stands, which nothing calls, and counts from the next return on
 abbrev pub state_where_done : StateOutcome → State → State → State
-state_where_done r t s = if eqb (reply_number r.reply) 0 then t else s
+state_where_done r t s = if reply_number r.reply == 0 then t else s
 
 abbrev pub notes : Swapper
 notes i s h k = let r = rebind_on (rebind_verdict i s h k) s h k in
     record { reply = r.reply; state = state_where_done r (with_serving s (set s.serving 0 (32 * h + k))) s }
 
 abbrev pub counted_state : State → State
-counted_state s = let n = get_or s.serving 0 0 in if ltb n 32 then s
+counted_state s = let n = slice_index s.serving 0 in if nat_lt n 32 then s
     else with_serving s (rebound_binding (n / 32) (n % 32) (set s.serving 0 1))
 
 abbrev pub later : MachineTick → MachineTick
-later (finished m code t) = finished m code (if eqb code 3 then counted_state t else t)
+later (finished m code t) = finished m code (if code == 3 then counted_state t else t)
 later (stopped n) = stopped n
 
 abbrev pub counts_at_return : StepRule
@@ -84,9 +84,9 @@ CountsAtReturnFails = Agreement translate fresh_state (run_by counts_at_return) 
 -- ---- the open schemes that number h called are swapped too: each starts anew as scheme k
 abbrev pub reopened_state : Image → ℕ → ℕ → State → State
 reopened_state i h k s = with_places s
-    (map (λ j. if eqb (number_at s j) h then entry_at i k else place_at s j) (range 0 32))
+    (map (λ j. if number_at s j == h then entry_at i k else place_at s j) (range 0 32))
     s.numbers
-    (map (λ j. if eqb (number_at s j) h then k else server_at s j) (range 0 32))
+    (map (λ j. if number_at s j == h then k else server_at s j) (range 0 32))
 
 abbrev pub swaps_open : Swapper
 swaps_open i s h k = let r = rebind_on (rebind_verdict i s h k) s h k in
@@ -115,7 +115,7 @@ WritesByServerFails = Agreement translate fresh_state (run_by writes_by_server) 
 
 -- ---- results read at the bit of the scheme that served
 abbrev pub reads_by_server : StepRule
-reads_by_server i s w = if eqb (label_at i (top_of s)).kind 3
+reads_by_server i s w = if (label_at i (top_of s)).kind == 3
     then return_tick s (lead_of (best_row (place_at s (s.depth - 2)) w (if result_of (top_server s) s.bits then 1 else 0) 0 i.rows))
     else tick i s w
 
@@ -128,16 +128,16 @@ kept_by_server i s w =
     let x = label_at i (top_of s) in
     let b = with_result x.result (top_server s) s.bits in
     let k = server_of s.serving x.called in
-    if is_call x && ltb s.depth s.size
-    then finished x.mask ((if eqb x.kind 1 then 16 else 64) + x.called) (opened_state s (entry_at i k) x.called k (cleared_results k b))
-    else if eqb x.kind 3 then reads_by_server i s w else writes_by_server i s w
+    if is_call x && nat_lt s.depth s.size
+    then finished x.mask ((if x.kind == 1 then 16 else 64) + x.called) (opened_state s (entry_at i k) x.called k (cleared_results k b))
+    else if x.kind == 3 then reads_by_server i s w else writes_by_server i s w
 
 abbrev pub KeptByServerFails : Type 0
 KeptByServerFails = Agreement translate fresh_state (run_by kept_by_server) rebind → ⊥
 
 -- ---- codes that show the scheme that serves
 abbrev pub shown_tick : ℕ → ℕ → MachineTick → MachineTick
-shown_tick h k (finished m code t) = finished m (if eqb code 96 then code else code - h + k) t
+shown_tick h k (finished m code t) = finished m (if code == 96 then code else code - h + k) t
 shown_tick h k (stopped n) = stopped n
 
 abbrev pub shows_server : StepRule

@@ -1,7 +1,6 @@
 -- The functions that find the conditions against the rows of a label, test by test and row by row.
-use Rattle.std.proofs.Common.{if◌then◌else◌, ℕ, suc, ◌-◌, ◌^◌, ◌≤◌, ◌<◌, min, Bool, true, false, ◌&&◌, not, ◌≡◌, sym, ◌∙◌, ap, ap₂, List}
-use Rattle.std.proofs.Common.{arith, bit_and, bit_or, get_or, eq-eqb, ne_eqb}
-use lib.Bits.{or_zero_l}
+use Rattle.std.proofs.Common.{if◌then◌else◌, ℕ, suc, ◌-◌, ◌≤◌, ◌<◌, min, Bool, true, ◌≡◌, ◌∙◌, ap, ap₂, List, slice_index}
+use Rattle.std.proofs.Common.{arith, bit_and, bit_or, ne_eqb}
 use Rattle.std.proofs.lemmas.Grind.{common_steps}
 use Rattle.words.specs.lists.Numbers.{lowest}
 use Rattle.words.proofs.lists.Searches.{lowest-below}
@@ -29,7 +28,7 @@ module _ (w care values : ℕ) where
     }
 
 -- ---- the row in frame f: its bit, care mask and values as they were read
-module _ (b : List ℕ) (f w bit : ℕ) (x : RowAsked b f) (bytes : (k : ℕ) → get_or b k 0 < 256) where
+module _ (b : List ℕ) (f w bit : ℕ) (x : RowAsked b f) (bytes : (k : ℕ) → slice_index b k < 256) where
   abbrev care : ℕ
   care = pair_at b f 2
 

@@ -1,7 +1,7 @@
 -- A cause and the tick that it explains: the mask decides the row and with it the tick, the row is the one that the tick takes, and a
 -- refusal says that it takes none.
-use Rattle.std.proofs.Common.{if◌then◌else◌, ℕ, ◌≡◌, refl, sym, ◌∙◌, ap, subst, inl, inr, List, arith, bit_and, bit_or, eqb}
-use Rattle.words.specs.bits.Word.{bit}
+use Rattle.std.proofs.Common.{if◌then◌else◌, ℕ, ◌≡◌, refl, sym, ◌∙◌, ap, subst, inl, inr, List, arith, bit_and, bit_or, ◌==◌}
+use Rattle.std.specs.Int.{bit_at}
 use Rattle.text.specs.frames.Frame.{contents}
 use Rattle.image.specs.Image.{Image, Row, nth_row}
 use Rattle.image.specs.Decode.{decoded_image}
@@ -15,7 +15,7 @@ use Rattle.fitness.proofs.Fitness.{Fits, unfits}
 use Rattle.ticks.specs.Tick.{called_bit, choice, MachineTick, stopped, tick}
 use Rattle.cause.specs.Cause.{mask_against_all, Leaving, leaves_label, nothing, leaving, Cause, Caused, because, unexplained, cause_by}
 use Rattle.cause.specs.Cause.{cause_at, cause_of}
-use Rattle.cause.specs.Laws.{Fitting, taken_row_from, taken_row, SameRow, SameTick, Arrives, RowTaken, CareNeeded, RefusedCause}
+use Rattle.cause.specs.Laws.{Fitting, taken_row_from, taken_row, SameRow, SameTick, Arrives, RowTaken, RowLeads, CareNeeded, RefusedCause}
 use Rattle.cause.specs.Laws.{RefusedExactly}
 use Rattle.cause.proofs.Masks.{mask-decides, care-tells}
 use Rattle.cause.proofs.Leaves.{Goes, Leaves, by, stays, leaves, rowless-stays}
@@ -76,7 +76,7 @@ module _ (i : Image) (s : State) (w : ℕ) where
               let d : Cause = record {
                 row = k;
                 mask = bit_or r.care (mask_against_all l w (called_bit i s.bits l) i.rows);
-                bit = if eqb (label_at i l).kind 2 then called_bit i s.bits l else 2;
+                bit = if (label_at i l).kind == 2 then called_bit i s.bits l else 2;
               } in
               let same : d ≡ c = cause-same d c (sym (cause-row l q k r p) ∙ e) in
               subst (TakenApart i s w) same (record { from = l; left = q; one = r; chosen = p; masked = refl })
@@ -89,11 +89,11 @@ module _ (i : Image) (sound : SoundImage i) (s : State) (f : Fits i s) (w : ℕ)
   abbrev b : ℕ
   b = called_bit i s.bits g.from
 
-  pub row_is : nth_row i c.row ≡ g.one
-  row_is = (best-is g.from w b i.rows c.row g.one g.chosen).is
+  pub row-is : nth_row i c.row ≡ g.one
+  row-is = (best-is g.from w b i.rows c.row g.one g.chosen).is
 
-  pub taken_is : (v : ℕ) → taken_row i s v ≡ choice i s.bits g.from v
-  taken_is v = ap (taken_row_from i s v) g.left
+  pub taken-is : (v : ℕ) → taken_row i s v ≡ choice i s.bits g.from v
+  taken-is v = ap (taken_row_from i s v) g.left
 
   pub goes : Goes i s g.from
   goes = at (leaves i sound s f)
@@ -108,7 +108,7 @@ module _ (i : Image) (sound : SoundImage i) (s : State) (f : Fits i s) (w : ℕ)
         (subst (λ (m : ℕ). bit_and v m ≡ bit_and w m) g.masked a)
 
     row_same : taken_row i s v ≡ row c.row (nth_row i c.row)
-    row_same = taken_is v ∙ chosen-too ∙ ap (row c.row) (sym row_is)
+    row_same = taken-is v ∙ chosen-too ∙ ap (row c.row) (sym row-is)
 
     tick-same : tick i s v ≡ tick i s w
     tick-same = goes.ticks v ∙ ap (λ (x : Choice). goes.go (lead_of x)) (chosen-too ∙ sym g.chosen) ∙ sym (goes.ticks w)
@@ -118,14 +118,14 @@ module _ (i : Image) (sound : SoundImage i) (s : State) (f : Fits i s) (w : ℕ)
       subst (λ (x : MachineTick). Arrives x (nth_row i c.row).next)
       (sym (goes.ticks w ∙ ap (λ (x : Choice). goes.go (lead_of x)) g.chosen))
       (subst (λ (u : ℕ). Arrives (goes.go (found g.one.next)) u)
-      (sym (ap (λ (r : Row). r.next) row_is)) (goes.arrives g.one.next))
+      (sym (ap (λ (r : Row). r.next) row-is)) (goes.arrives g.one.next))
 
-  needed : (j : ℕ) → bit (nth_row i c.row).care j ≡ 1 → (v : ℕ) → (bit v j ≡ bit w j → ⊥)
+  needed : (j : ℕ) → bit_at (nth_row i c.row).care j ≡ 1 → (v : ℕ) → (bit_at v j ≡ bit_at w j → ⊥)
       → (r : Row) → taken_row i s v ≡ row c.row r → ⊥
   needed j o v d r z =
-      let chosen : choice i s.bits g.from v ≡ row c.row r = sym (taken_is v) ∙ z in
-      let same : r ≡ g.one = sym (best-is g.from v b i.rows c.row r chosen).is ∙ row_is in
-      care-tells i g.from w b c.row g.one g.chosen v j (subst (λ (x : Row). bit x.care j ≡ 1) row_is o) d
+      let chosen : choice i s.bits g.from v ≡ row c.row r = sym (taken-is v) ∙ z in
+      let same : r ≡ g.one = sym (best-is g.from v b i.rows c.row r chosen).is ∙ row-is in
+      care-tells i g.from w b c.row g.one g.chosen v j (subst (λ (x : Row). bit_at x.care j ≡ 1) row-is o) d
       (chosen ∙ ap (row c.row) same)
 
 -- ---- refusals
@@ -139,7 +139,7 @@ module _ (i : Image) (sound : SoundImage i) (s : State) (f : Fits i s) (w : ℕ)
           let x : Cause = record {
             row = k;
             mask = bit_or r.care (mask_against_all l w (called_bit i s.bits l) i.rows);
-            bit = if eqb (label_at i l).kind 2 then called_bit i s.bits l else 2;
+            bit = if (label_at i l).kind == 2 then called_bit i s.bits l else 2;
           } in
           let told : cause_of i s w ≡ because x = cause-row i s w l q k r p in
           let at : tick i s w ≡ o.go (found r.next) = o.ticks w ∙ ap (λ (y : Choice). o.go (lead_of y)) p in
@@ -192,9 +192,9 @@ module _ {text : List ℕ} {s : State} (y : Fitting text s) where
   pub state : Fits (decoded_image (contents text)) s
   state = unfits (decoded_image (contents text)) s y.sized y.fits
 
-pub same_row : SameRow
+pub same-row : SameRow
 unfolding SameRow
-same_row text s w c x v a = row_same (decoded_image (contents text)) (image x.fitting) s (state x.fitting) w c x.because v a
+same-row text s w c x v a = row_same (decoded_image (contents text)) (image x.fitting) s (state x.fitting) w c x.because v a
 
 pub same-tick : SameTick
 unfolding SameTick
@@ -202,7 +202,11 @@ same-tick text s w c x v a = tick-same (decoded_image (contents text)) (image x.
 
 pub row-taken : RowTaken
 unfolding RowTaken
-row-taken text s w c x = arrived (decoded_image (contents text)) (image x.fitting) s (state x.fitting) w c x.because
+row-taken text s w c x = row_same (decoded_image (contents text)) (image x.fitting) s (state x.fitting) w c x.because w refl
+
+pub row-leads : RowLeads
+unfolding RowLeads
+row-leads text s w c x = arrived (decoded_image (contents text)) (image x.fitting) s (state x.fitting) w c x.because
 
 pub care-needed : CareNeeded
 unfolding CareNeeded

@@ -1,11 +1,11 @@
 -- How a tick goes on from a state that fits: by the row of the label that it leaves and nothing else of the word, or without a row.
-use Rattle.std.proofs.Common.{if◌then◌else◌, ℕ, zero, suc, ◌+◌, ◌-◌, ◌≤◌, ◌<◌, Bool, true, false, ◌||◌, ◌≡◌, refl, sym, ◌∙◌, ap, ◌⊎◌, inl}
-use Rattle.std.proofs.Common.{inr, arith, leb, eqb, length, get_or, set, length-set, get_or-set_same, le-leb, leb-true, leb-false, eqb-true}
+use Rattle.std.proofs.Common.{if◌then◌else◌, ℕ, zero, suc, ◌+◌, ◌-◌, ◌≤◌, ◌<◌, Bool, true, false, ◌≡◌, refl, sym, ◌∙◌, ap, ◌⊎◌, inl, nat_le, ◌==◌, slice_index}
+use Rattle.std.proofs.Common.{inr, arith, length, set, length-set, get_or-set_same, le-leb, leb-true, leb-false, eqb-true}
 use Rattle.std.proofs.Common.{eq-eqb}
 use Rattle.std.proofs.Math.Decide.{dec_lt}
 use Rattle.std.proofs.lemmas.Grind.{common_steps}
-use Rattle.words.proofs.lists.Tests.{or_cases, or-true-l, or_true_r}
-use Rattle.results.specs.Results.{Results, with_result, cleared_results}
+use Rattle.words.proofs.lists.Tests.{or-cases, or-true-l, or-true-r}
+use Rattle.results.specs.Results.{Results, with_result}
 use Rattle.bindings.specs.Binding.{server_of}
 use Rattle.image.specs.Image.{Image, Label, return_label, nth_row}
 use Rattle.image.specs.inner.Sound.{SoundImage}
@@ -13,11 +13,11 @@ use Rattle.image.specs.Layout.{tick_kind}
 use Rattle.rows.specs.Rows.{Choice, Found, found, missing, lead_of}
 use Rattle.rows.proofs.ChoiceLaws.{any-bit}
 use Rattle.state.specs.declared.State.{State}
-use Rattle.state.specs.State.{label_at, entry_at, place_at, number_at, server_at}
+use Rattle.state.specs.State.{label_at, place_at, number_at, server_at}
 use Rattle.state.specs.Changes.{with_bits}
-use Rattle.fitness.specs.Fitness.{is_call, is_of_handler}
+use Rattle.fitness.specs.Fitness.{is_call}
 use Rattle.fitness.proofs.Fitness.{Fits}
-use Rattle.ticks.specs.Tick.{called_bit, choice, MachineTick, finished, stopped, moved_tick, popped_state, state_alone, pushed_tick}
+use Rattle.ticks.specs.Tick.{called_bit, choice, MachineTick, finished, stopped, moved_tick, popped_state, pushed_tick}
 use Rattle.ticks.specs.Tick.{popped_tick, tick_by, tick, top_of}
 use Rattle.ticks.proofs.Leads.{Sort, home_sort, return_sort, numbered_sort, sort, call-kind, kind-high, carry-told}
 use Rattle.cause.specs.Cause.{leaves_label, nothing, leaving_by, leaving}
@@ -103,11 +103,11 @@ module _ (i : Image) (sound : SoundImage i) (s : State) (f : Fits i s) where
   return-is : x.kind ≡ 3 → (top_of s ≡ 1) × (x ≡ return_label)
   return-is e = grind (arith, common_steps)
 
-  returns : x.kind ≡ 3 → (w : ℕ) → tick i s w ≡ popped_tick i s w 0 s.bits (leb s.depth 1)
+  returns : x.kind ≡ 3 → (w : ℕ) → tick i s w ≡ popped_tick i s w 0 s.bits (nat_le s.depth 1)
   unfolding tick
   returns e w = grind (arith, common_steps)
 
-  back : x.kind ≡ 3 → leb s.depth 1 ≡ false → Goes i s (place_at s (s.depth - 2))
+  back : x.kind ≡ 3 → nat_le s.depth 1 ≡ false → Goes i s (place_at s (s.depth - 2))
   back e t = let two : 1 < s.depth = leb-false s.depth 1 t in record {
     low = kind-high i sound (place_at s (s.depth - 2)) (under_low two) (call-kind i sound (place_at s (s.depth - 2))
         (carry-told i sound _ (number_at s (s.depth - 2 + 1)) (server_at s (s.depth - 2 + 1)) (place_at s (s.depth - 2 + 1))
@@ -116,17 +116,17 @@ module _ (i : Image) (sound : SoundImage i) (s : State) (f : Fits i s) where
     go = moved_tick 0 3 (popped_state s s.bits) (s.depth - 2);
     ticks = λ w. returns e w ∙ ap (popped_tick i s w 0 s.bits) t;
     arrives = λ u.
-        ap (λ (n : ℕ). get_or (set (set s.places (s.depth - 1) 0) (s.depth - 2) u) n 0)
+        ap (λ (n : ℕ). slice_index (set (set s.places (s.depth - 1) 0) (s.depth - 2) u) n)
         (let z : s.depth - 1 - 1 ≡ s.depth - 2 = omega arith in z)
         ∙ get_or-set_same (set s.places (s.depth - 1) 0) (s.depth - 2) u 0
         (omega (arith, length-set s.places (s.depth - 1) 0, f.whole.places, f.most, f.small));
     stops = refl;
   }
 
-  last-tick : x.kind ≡ 3 → leb s.depth 1 ≡ true → (w : ℕ) → tick i s w ≡ popped_tick i s 0 0 s.bits true
+  last-tick : x.kind ≡ 3 → nat_le s.depth 1 ≡ true → (w : ℕ) → tick i s w ≡ popped_tick i s 0 0 s.bits true
   last-tick e t w = returns e w ∙ ap (popped_tick i s w 0 s.bits) t
 
-  ends : x.kind ≡ 3 → leb s.depth 1 ≡ true → StaysPut i s
+  ends : x.kind ≡ 3 → nat_le s.depth 1 ≡ true → StaysPut i s
   ends e t = record {
     rowless = at_last_return (return-is e).0 (let one : s.depth ≤ 1 = leb-true s.depth 1 t in omega (arith, f.some));
     same = λ v w. last-tick e t v ∙ sym (last-tick e t w);
@@ -136,7 +136,7 @@ module _ (i : Image) (sound : SoundImage i) (s : State) (f : Fits i s) where
   -- ---- a call, and home
 
   calls : (code : ℕ) → is_call x ≡ true
-      → ((w : ℕ) → tick i s w ≡ pushed_tick i s x.mask code x.called (server_of s.serving x.called) bits (leb s.size s.depth))
+      → ((w : ℕ) → tick i s w ≡ pushed_tick i s x.mask code x.called (server_of s.serving x.called) bits (nat_le s.size s.depth))
       → StaysPut i s
   calls code e go = grind (arith, common_steps)
 
@@ -155,7 +155,7 @@ module _ (i : Image) (sound : SoundImage i) (s : State) (f : Fits i s) where
   pub leaves : Leaves i s
   leaves = go x.kind refl
     where
-      beneath : x.kind ≡ 3 → (t : Bool) → leb s.depth 1 ≡ t → Leaves i s
+      beneath : x.kind ≡ 3 → (t : Bool) → nat_le s.depth 1 ≡ t → Leaves i s
       beneath e true t = stays (leaving-by 3 e ∙ ap (λ (b : Bool). if b then nothing else leaves_label (place_at s (s.depth - 2))) t)
           (ends e t)
       beneath e false t =
@@ -166,19 +166,19 @@ module _ (i : Image) (sound : SoundImage i) (s : State) (f : Fits i s) where
       go : (k : ℕ) → x.kind ≡ k → Leaves i s
       go zero e = by (top_of s) (leaving-by 0 e) (plain e)
       go (suc zero) e =
-          stays (leaving-by 1 e) (calls (16 + x.called) (or-true-l (eqb x.kind 1) (eqb x.kind 2) (eq-eqb x.kind 1 e))
+          stays (leaving-by 1 e) (calls (16 + x.called) (or-true-l (x.kind == 1) (x.kind == 2) (eq-eqb x.kind 1 e))
           (λ w. tick-by w 1 e))
       go (suc (suc zero)) e =
-          stays (leaving-by 2 e) (calls (64 + x.called) (or_true_r (eqb x.kind 1) (eqb x.kind 2) (eq-eqb x.kind 2 e))
+          stays (leaving-by 2 e) (calls (64 + x.called) (or-true-r (x.kind == 1) (x.kind == 2) (eq-eqb x.kind 2 e))
           (λ w. tick-by w 2 e))
-      go (suc (suc (suc zero))) e = beneath e (leb s.depth 1) refl
+      go (suc (suc (suc zero))) e = beneath e (nat_le s.depth 1) refl
       go (suc (suc (suc (suc k)))) e = stays (leaving-by (suc (suc (suc (suc k)))) e) (starts k e)
 
   pub rowless-stays : Rowless i s → leaving i s ≡ nothing
   rowless-stays (at_home_label e) = leaving-by 4 (ap (λ (l : ℕ). (label_at i l).kind) e ∙ ap (λ (y : Label). y.kind) sound.home)
-  rowless-stays (at_call_label e) = go (or_cases (eqb x.kind 1) (eqb x.kind 2) e)
+  rowless-stays (at_call_label e) = go (or-cases (x.kind == 1) (x.kind == 2) e)
     where
-      go : (eqb x.kind 1 ≡ true) ⊎ (eqb x.kind 2 ≡ true) → leaving i s ≡ nothing
+      go : ((x.kind == 1) ≡ true) ⊎ ((x.kind == 2) ≡ true) → leaving i s ≡ nothing
       go (inl p) = leaving-by 1 (eqb-true x.kind 1 p)
       go (inr p) = leaving-by 2 (eqb-true x.kind 2 p)
   rowless-stays (at_last_return e d) =

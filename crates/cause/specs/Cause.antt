@@ -1,8 +1,9 @@
 -- What sends a tick on: the row that it takes, the conditions that decide it, and the result bit; refusals 21 and 18.
-use Rattle.std.specs.Prelude.{ℕ, ◌-◌, ◌^◌, Bool, ◌&&◌, ◌||◌, not, ◌≡◌, List, [], ◌∷◌, leb, eqb, Result, Ok, Err, if◌then◌else◌}
+use Rattle.std.specs.Prelude.{ℕ, ◌-◌, ◌^◌, Bool, ◌&&◌, ◌||◌, not, ◌≡◌, List, [], ◌∷◌, Result, Ok, Err, if◌then◌else◌, nat_le, ◌==◌}
 use Rattle.std.specs.Int.Bits.{bit_or}
 use Rattle.words.specs.lists.Numbers.{lowest}
-use Rattle.words.specs.bits.Word.{bit, is_agreeing}
+use Rattle.std.specs.Int.{bit_at}
+use Rattle.words.specs.bits.Word.{is_agreeing}
 use Rattle.results.specs.Results.{Results}
 use Rattle.text.specs.declared.frames.refusals.TheConstants.{UNFIT, NO_ROW, ROWLESS}
 use Rattle.text.specs.declared.frames.refusals.Refusal.{Refusal}
@@ -23,11 +24,11 @@ use Rattle.cause.specs.declared.Cause as declared
 
 -- condition i is in the care mask and has another value in the word
 abbrev pub is_differing : ℕ → ℕ → ℕ → ℕ → Bool
-is_differing w care values i = eqb (bit care i) 1 && not (eqb (bit w i) (bit values i))
+is_differing w care values i = bit_at care i == 1 && not (bit_at w i == bit_at values i)
 
 -- a row of label l that the bit lets through and the word contradicts
 abbrev pub is_contradicted : ℕ → ℕ → ℕ → Row → Bool
-is_contradicted l w b r = eqb r.from l && ((eqb r.bit NO_BIT || eqb r.bit b) && not (is_agreeing w r.care r.values))
+is_contradicted l w b r = r.from == l && ((r.bit == NO_BIT || r.bit == b) && not (is_agreeing w r.care r.values))
 
 -- the lowest contradicting condition of such a row, as a mask; those of all rows, joined:
 -- the row taken and a matching row that loses add none
@@ -48,7 +49,7 @@ abbrev pub leaving_by : State → TickKind → Leaving
 leaving_by s plain = leaves_label (place_at s (s.depth - 1))
 leaving_by s operation_call = nothing
 leaving_by s function_call = nothing
-leaving_by s return = if leb s.depth 1 then nothing else leaves_label (place_at s (s.depth - 2))
+leaving_by s return = if nat_le s.depth 1 then nothing else leaves_label (place_at s (s.depth - 2))
 leaving_by s home = nothing
 
 unfoldable pub leaving : Image → State → Leaving
@@ -70,7 +71,7 @@ abbrev pub cause_by : List Row → ℕ → ℕ → ℕ → ℕ → Choice → Ca
 cause_by rs kind l w b (row k r) = because (record {
   row = k;
   mask = bit_or r.care (mask_against_all l w b rs);
-  bit = if eqb kind FUNCTION_CALL then b else NO_BIT;
+  bit = if kind == FUNCTION_CALL then b else NO_BIT;
 })
 cause_by rs kind l w b no_choice = unexplained NO_ROW
 

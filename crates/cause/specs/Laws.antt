@@ -1,7 +1,7 @@
 -- What a cause says of the tick that it explains: on every accepted image and from every state that fits it.
 use Rattle.std.specs.Prelude.{ℕ, true, false, ◌≡◌, ◌↔◌, ◌⊎◌, List}
 use Rattle.std.specs.Int.Bits.{bit_and}
-use Rattle.words.specs.bits.Word.{bit}
+use Rattle.std.specs.Int.{bit_at}
 use Rattle.text.specs.declared.frames.refusals.TheConstants.{NO_ROW, ROWLESS}
 use Rattle.text.specs.frames.Frame.{contents}
 use Rattle.text.specs.frames.Verdict.{fine}
@@ -52,9 +52,15 @@ abbrev pub Arrives : MachineTick → ℕ → Type 0
 Arrives (finished m code t) l = top_of t ≡ l
 Arrives (stopped n) l = ⊥
 
--- the row reported is the one that the tick takes: it leads to the label that is then on top
+-- the row reported is the one that the tick takes, with its number
 unfoldable pub RowTaken : Type 0
 RowTaken =
+    (text : List ℕ) (s : State) (w : ℕ) (c : Cause) → Explains text s w c
+    → let i = decoded_image (contents text) in taken_row i s w ≡ row c.row (nth_row i c.row)
+
+-- and it leads to the label that is then on top
+unfoldable pub RowLeads : Type 0
+RowLeads =
     (text : List ℕ) (s : State) (w : ℕ) (c : Cause) → Explains text s w c
     → let i = decoded_image (contents text) in Arrives (tick i s w) (nth_row i c.row).next
 
@@ -62,7 +68,7 @@ RowTaken =
 unfoldable pub CareNeeded : Type 0
 CareNeeded =
     (text : List ℕ) (s : State) (w : ℕ) (c : Cause) → Explains text s w c
-    → let i = decoded_image (contents text) in (j : ℕ) → bit (nth_row i c.row).care j ≡ 1 → (v : ℕ) → (bit v j ≡ bit w j → ⊥)
+    → let i = decoded_image (contents text) in (j : ℕ) → bit_at (nth_row i c.row).care j ≡ 1 → (v : ℕ) → (bit_at v j ≡ bit_at w j → ⊥)
     → (r : Row) → taken_row i s v ≡ row c.row r → ⊥
 
 -- a tick that takes no row: at home, at a call, whether the stack is full or not, and on the handler's return

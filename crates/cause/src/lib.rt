@@ -2,7 +2,7 @@
 //! `conditions` finds these, `table_causes` tells them of a tick on a prepared table, and `explaining` is the entry point, with refusal 21.
 #![tactic(auto)]
 
-ghost use Rattle.cause.specs.Laws.{SameRow, SameTick, RowTaken, CareNeeded, RefusedExactly, CauseTold};
+ghost use Rattle.cause.specs.Laws.{SameRow, SameTick, RowTaken, RowLeads, CareNeeded, RefusedExactly, CauseTold};
 
 mod conditions;
 pub mod explaining;
@@ -24,6 +24,7 @@ pub fn a_cause_is_exact()
     ensures same_row { SameRow }
     ensures same_tick { SameTick }
     ensures row_taken { RowTaken }
+    ensures row_leads { RowLeads }
     ensures care_needed { CareNeeded }
     ensures refused_exactly { RefusedExactly }
     ensures told { CauseTold }

@@ -1,11 +1,11 @@
 -- Where refusals 4 to 6 find nothing, the nodes joined from all Begins together are, scheme by scheme, those joined from the Begin of the
 -- scheme.
-use Rattle.std.proofs.Common.{◌≡◌, refl, sym, ◌∙◌, ap, subst, Bool, true, false, ◌&&◌, not, List, [], ◌∷◌, ℕ, ◌≤◌, ◌<◌, zero-add, arith}
-use Rattle.std.proofs.Common.{eqb, length, eqb-true, eq-eqb}
+use Rattle.std.proofs.Common.{◌≡◌, refl, sym, ◌∙◌, ap, subst, Bool, true, false, ◌&&◌, not, List, [], ◌∷◌, ℕ, ◌≤◌, ◌<◌, zero-add, arith, nat_eq, ◌==◌}
+use Rattle.std.proofs.Common.{length, eqb-true, eq-eqb}
 use Rattle.std.proofs.lemmas.Grind.{common_steps}
 use Rattle.words.specs.lists.Numbers.{lowest, count}
-use Rattle.words.proofs.lists.Tests.{no_both, and_l, and-true, not-false, cases}
-use Rattle.words.proofs.lists.Searches.{lowest-hit, lowest-past, lowest-alike, any_false, highest-ge, some-both}
+use Rattle.words.proofs.lists.Tests.{no_both, and-l, and-true, not-false, cases}
+use Rattle.words.proofs.lists.Searches.{lowest-hit, lowest-past, lowest-alike, any-false, highest-ge, some-both}
 use Rattle.words.proofs.lists.Counts.{count-lowest, count-one}
 use Rattle.words.proofs.lists.Ranges.{length-map-range, get_or-map-range}
 use Rattle.words.specs.graph.Reach.{is_member, is_marked, reach, nodes_joined_from}
@@ -27,10 +27,10 @@ module _ (c : Chart) (passed : Passed4To6 c) where
       let f : has_bad_field c v ≡ false = lowest-past (has_bad_field c) 0 (size c) (omega arith) v (omega arith) (omega arith) in
       let a : 1 ≤ scheme c v = (field-scheme c v f).0 in
       let b : scheme c v ≤ schemes c = highest-ge (scheme c) 0 (size c) v (omega arith) (omega arith) in
-      let g : is_bad_scheme c h ≡ false = any_false (is_bad_scheme c) 1 (schemes c) passed.counts h a (omega arith) in
+      let g : is_bad_scheme c h ≡ false = any-false (is_bad_scheme c) 1 (schemes c) passed.counts h a (omega arith) in
       let x : ℕ = count (is_of c 0 h) 0 (size c) in
       let y : ℕ = count (is_of c 1 h) 0 (size c) in
-      eqb-true x 1 (and_l (eqb x 1) (eqb y 1) (not-false (eqb x 1 && eqb y 1) g))
+      eqb-true x 1 (and-l (x == 1) (y == 1) (not-false (x == 1 && y == 1) g))
 
   the-begin : (v : ℕ) → v < size c → (begin c (scheme c v) < size c) × (is_of c 0 (scheme c v) (begin c (scheme c v)) ≡ true)
   unfolding node_of
@@ -38,12 +38,12 @@ module _ (c : Chart) (passed : Passed4To6 c) where
 
   own-begin : (v : ℕ) → v < size c → is c 0 v ≡ true → v ≡ begin c (scheme c v)
   own-begin v l i = count-one (is_of c 0 (scheme c v)) (size c) v (begin c (scheme c v)) (one-begin v l) l (the-begin v l).0
-      (and-true (is c 0 v) (eqb (scheme c v) (scheme c v)) i (eq-eqb (scheme c v) (scheme c v) refl)) (the-begin v l).1
+      (and-true (is c 0 v) (scheme c v == scheme c v) i (eq-eqb (scheme c v) (scheme c v) refl)) (the-begin v l).1
 
   same-scheme : (v u : ℕ) → v < size c → is_member u (arcs c v) ≡ true → scheme c u ≡ scheme c v
   same-scheme v u l s =
       let g : has_bad_arc c v ≡ false = lowest-past (has_bad_arc c) 0 (size c) (omega arith) v (omega arith) (omega arith) in
-      let r = some-both (is_bad_target c v) (eqb u) (arcs c v) g s in
+      let r = some-both (is_bad_target c v) (nat_eq u) (arcs c v) g s in
       ap (scheme c) (eqb-true u r.0 r.2) ∙ (good-target c v r.0 r.1).same
 
   -- ---- joined from all Begins, and from one
@@ -79,7 +79,7 @@ module _ (c : Chart) (passed : Passed4To6 c) where
       (reach-closed (size c) (arcs c) (kind_marks c 0) begins-long)
       (λ w lw s. reach-grow (size c) (arcs c) (size c) (kind_marks c 0) begins-long w
       (begins-at w lw ∙ subst (λ (b : ℕ). is c 0 b ≡ true) (sym (member-only w (begin c (scheme c v)) s))
-      (and_l (is c 0 (begin c (scheme c v))) (eqb (scheme c (begin c (scheme c v))) (scheme c v)) (the-begin v l).1))) v
+      (and-l (is c 0 (begin c (scheme c v))) (scheme c (begin c (scheme c v)) == scheme c v) (the-begin v l).1))) v
 
   apart : (v : ℕ) → v < size c → not (is_marked joined v) ≡ is_cut_off c v
   apart v l = grind (arith, common_steps, cases, no_both, to-own, from-own)

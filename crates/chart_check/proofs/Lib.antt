@@ -1,2 +1,1 @@
 pub mod CutOff
-pub mod Chain

@@ -1,1 +1,6 @@
 pub mod CheckContracts
+pub mod FieldContracts
+pub mod Counts
+pub mod ArcContracts
+pub mod FinishContracts
+pub mod MarkContracts

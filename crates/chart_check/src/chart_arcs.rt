@@ -1,12 +1,106 @@
-// What refusals 6 and 7 try of each node: where its arcs lead, and which scheme it calls.
+// Refusals 6 and 7: where arcs lead, and which schemes are called.
+ghost use Rattle.std.specs.Prelude.{◌≡◌, ◌||◌, ◌+◌, ◌*◌, ◌≤◌, ◌<◌, length};
+ghost use Rattle.text.specs.frames.Answer.{reply, verdict_reply};
+ghost use Rattle.charts.specs.Chart.{next0, next1, schemes};
+ghost use Rattle.charts.specs.Check.{is_bad_target, has_bad_arc, has_bad_call};
+ghost use Rattle.chart_check.specs.inner.ArcContracts.{FaultsFound, arcs_verdict};
 
-mod arcs;
+use charts::field;
+use charts::layout::*;
+use text::frames::Refusal;
+use text::frames::sizes::RECORD;
 
-pub use arcs::lowest_arc_and_call;
+// An arc of node v to u leads nowhere, into another scheme or to a Begin.
+fn bad_target(records: &[u8], v: usize, u: usize) -> bool
+    requires { RECORD * v + RECORD ≤ length records.now }
+    ensures { result ≡ is_bad_target records.now v u }
+{
+    records.len() / RECORD <= u
+        || field(records, u, SCHEME) != field(records, v, SCHEME)
+        || field(records, u, KIND) == BEGIN
+}
 
-// The lowest node that 6 refuses and the lowest that 7 refuses, or the number of nodes.
+// One of the two arcs of node v leads where none may.
+fn bad_pair(records: &[u8], v: usize) -> bool
+    requires { RECORD * v + RECORD ≤ length records.now }
+    ensures { result ≡ (is_bad_target records.now v (next0 records.now v)
+        || is_bad_target records.now v (next1 records.now v)) }
+{
+    bad_target(records, v, field(records, v, NEXT0) as usize)
+        || bad_target(records, v, field(records, v, NEXT1) as usize)
+}
+
+// 6: an arc of node v leads where none may. An End has none, a condition and a function have two.
+fn bad_arc(records: &[u8], v: usize) -> bool
+    requires { RECORD * v + RECORD ≤ length records.now }
+    ensures { result ≡ has_bad_arc records.now v }
+{
+    match field(records, v, KIND) {
+        END => false,
+        CONDITION..=FUNCTION => bad_pair(records, v),
+        _ => bad_target(records, v, field(records, v, NEXT0) as usize),
+    }
+}
+
+// 7: node v calls scheme 1 or one above the highest, or is a function that calls 0.
+fn bad_call(records: &[u8], highest: u8, v: usize) -> bool
+    requires whole_record { RECORD * v + RECORD ≤ length records.now }
+    requires highest { highest ≡ schemes records.now }
+    ensures { result ≡ has_bad_call records.now v }
+{
+    let called = field(records, v, ARGUMENT);
+    match field(records, v, KIND) {
+        OPERATION => {
+            if called == 1 {
+                return true;
+            }
+            highest < called
+        }
+        FUNCTION => {
+            if called <= 1 {
+                return true;
+            }
+            highest < called
+        }
+        _ => false,
+    }
+}
+
+// The lowest node that 6 refuses and the lowest that 7 refuses.
 #[derive(Drop)]
-pub struct LowestFaults {
-    pub arc: usize,
-    pub call: usize,
+struct LowestFaults {
+    arc: Option<usize>,
+    call: Option<usize>,
+}
+
+// 6 and 7 tried on each node, from the last one down: the node found last is the lowest.
+fn lowest_faults(records: &[u8], highest: u8) -> LowestFaults
+    requires { highest ≡ schemes records.now }
+    ensures { FaultsFound records.now result }
+{
+    let n = records.len() / RECORD;
+    let mut arc = None;
+    let mut call = None;
+    let mut v = n;
+    while 0 < v {
+        v -= 1;
+        arc = bad_arc(records, v).then_some(v).or(arc);
+        call = bad_call(records, highest, v).then_some(v).or(call);
+    }
+    LowestFaults { arc, call }
+}
+
+/// Refusals 6 and 7 of nodes with at most `highest` schemes, each before the other for all nodes. Counts 0.
+pub fn check_arcs(records: &[u8], highest: u8) -> Result<usize, Refusal>
+    requires { highest ≡ schemes records.now }
+    ensures { reply result ≡ verdict_reply (arcs_verdict records.now) 0 }
+{
+    let faults = lowest_faults(records, highest);
+    if let Some(v) = faults.arc {
+        return Err(Refusal::BadArc(v));
+    }
+    if let Some(v) = faults.call {
+        return Err(Refusal::BadCall(v));
+    }
+    Ok(0)
 }

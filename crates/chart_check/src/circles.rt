@@ -4,8 +4,8 @@ ghost use Rattle.words.specs.lists.Numbers.{lowest};
 ghost use Rattle.words.specs.graph.Reach.{is_marked, nodes_joined_from};
 ghost use Rattle.text.specs.frames.Frame.{size};
 ghost use Rattle.charts.specs.Check.{arcs, condition_arcs, is_on_circle};
-ghost use Rattle.chart_check.specs.node_marks.inner.MarkContracts.{NodeRoom, Blank};
-ghost use Rattle.chart_check.specs.finishing.inner.FinishContracts.{DepthFirst};
+ghost use Rattle.chart_check.specs.inner.MarkContracts.{NodeRoom, Blank};
+ghost use Rattle.chart_check.specs.inner.FinishContracts.{DepthFirst};
 
 use crate::finishing::finish_all;
 use crate::node_marks::{follow, join, mark_kind};
@@ -15,10 +15,11 @@ use text::frames::sizes::{NODES, RECORD};
 
 // The nodes that arcs of conditions join from the next nodes of v are marked; whether v is one of them.
 fn leads_back(records: &[u8], v: usize, marks: &mut [bool], list: &mut [u8]) -> bool
-    requires v_bound { v < size records.now }
+    requires inside { v < size records.now }
     requires blank { Blank records.now marks.old list.old }
-    ensures { (marks.new ≡ nodes_joined_from (size records.now) (condition_arcs records.now)
-        (arcs records.now v)) × (result ≡ is_marked marks.new v) }
+    ensures marks { marks.new ≡ nodes_joined_from (size records.now) (condition_arcs records.now)
+        (arcs records.now v) }
+    ensures led_back { result ≡ is_marked marks.new v }
 {
     let count = follow(records, false, v, marks, list, 0);
     join(records, true, marks, list, count);
@@ -27,7 +28,7 @@ fn leads_back(records: &[u8], v: usize, marks: &mut [bool], list: &mut [u8]) -> 
 
 // 8: node v is a condition on a circle of conditions.
 fn on_circle(records: &[u8], v: usize, list: &mut [u8]) -> bool
-    requires v_bound { v < size records.now }
+    requires inside { v < size records.now }
     requires node_room { NodeRoom records.now list.old }
     ensures { result ≡ is_on_circle records.now v }
 {
@@ -57,7 +58,7 @@ fn search_circle(records: &[u8], unfinished: &[bool], list: &mut [u8]) -> usize
 // The lowest node that 8 refuses, or the number of nodes: at first all conditions are unfinished, then a search finishes what it can.
 // The list serves both as the path and for marks.
 pub fn lowest_circle(records: &[u8], unfinished: &mut [bool], list: &mut [u8]) -> usize
-    requires unfinished_len { length unfinished.old ≡ size records.now }
+    requires mark_each { length unfinished.old ≡ size records.now }
     requires node_room { NodeRoom records.now list.old }
     ensures { result ≡ lowest (is_on_circle records.now) 0 (size records.now) }
 {

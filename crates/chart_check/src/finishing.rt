@@ -2,7 +2,7 @@
 ghost use Rattle.std.specs.Prelude.{◌≡◌, ◌<◌};
 ghost use Rattle.text.specs.frames.Frame.{size};
 ghost use Rattle.charts.specs.inner.Finished.{next_unfinished, Finished};
-ghost use Rattle.chart_check.specs.finishing.inner.FinishContracts.{DepthFirst};
+ghost use Rattle.chart_check.specs.inner.FinishContracts.{DepthFirst};
 
 use charts::field;
 use charts::layout::{NEXT0, NEXT1};
@@ -27,7 +27,7 @@ fn next_unfinished(records: &[u8], unfinished: &[bool], v: usize) -> usize
 // The path goes on from node v as long as an unfinished node is next; where none is, the node is finished and the path goes back by one.
 // It ends where v is finished, or after as many steps onward as there are nodes, which only a circle allows.
 fn finish_from(records: &[u8], unfinished: &mut [bool], path: &mut [u8], v: usize)
-    requires v_bound { v < size records.now }
+    requires inside { v < size records.now }
     requires depth_first { DepthFirst records.now unfinished.old path.old }
     ensures { Finished records.now unfinished.new }
 {

@@ -6,7 +6,7 @@ ghost use Rattle.text.specs.frames.Frame.{size};
 ghost use Rattle.text.specs.frames.Answer.{reply, verdict_reply};
 ghost use Rattle.charts.specs.Check.{arcs, is_cut_off};
 ghost use Rattle.charts.specs.inner.Marks.{kind_marks};
-ghost use Rattle.chart_check.specs.node_marks.inner.MarkContracts.{NodeRoom};
+ghost use Rattle.chart_check.specs.inner.MarkContracts.{NodeRoom};
 ghost use Rattle.chart_check.specs.inner.CheckContracts.{Passed4To6, joined_verdict};
 
 use crate::circles::lowest_circle;
@@ -18,11 +18,11 @@ use text::frames::sizes::{NODES, RECORD};
 // The nodes that arcs join from some Begin are marked; the lowest other one, or the number of nodes. It is looked for only where not all
 // are marked.
 fn lowest_apart(records: &[u8], marks: &mut [bool], list: &mut [u8]) -> usize
-    requires marks_len { length marks.old ≡ size records.now }
+    requires mark_each { length marks.old ≡ size records.now }
     requires node_room { NodeRoom records.now list.old }
-    ensures { (marks.new ≡ reach (size records.now) (arcs records.now) (size records.now)
-        (kind_marks records.now BEGIN))
-        × (result ≡ lowest (λ v. not (is_marked marks.new v)) 0 (size records.now)) }
+    ensures marks { marks.new ≡ reach (size records.now) (arcs records.now) (size records.now)
+        (kind_marks records.now BEGIN) }
+    ensures lowest { result ≡ lowest (λ v. not (is_marked marks.new v)) 0 (size records.now) }
 {
     mark_kind(records, BEGIN, marks);
     sweep(records, marks);
@@ -39,7 +39,8 @@ fn lowest_apart(records: &[u8], marks: &mut [bool], list: &mut [u8]) -> usize
 
 // The lowest node that 9 refuses, or the number of nodes. Arcs stay within a scheme, so the marks of all Begins serve every scheme.
 fn lowest_cut_off(records: &[u8], marks: &mut [bool], list: &mut [u8]) -> usize
-    requires marks_len { (length marks.old ≡ size records.now) × Passed4To6 records.now }
+    requires passed { Passed4To6 records.now }
+    requires mark_each { length marks.old ≡ size records.now }
     requires node_room { NodeRoom records.now list.old }
     ensures { result ≡ lowest (is_cut_off records.now) 0 (size records.now) }
 {
@@ -48,7 +49,8 @@ fn lowest_cut_off(records: &[u8], marks: &mut [bool], list: &mut [u8]) -> usize
 
 // 8 and 9; marks and list serve both.
 fn try_joined(records: &[u8], marks: &mut [bool], list: &mut [u8]) -> Result<usize, Refusal>
-    requires marks_len { (length marks.old ≡ size records.now) × Passed4To6 records.now }
+    requires passed { Passed4To6 records.now }
+    requires mark_each { length marks.old ≡ size records.now }
     requires node_room { NodeRoom records.now list.old }
     ensures { reply result ≡ verdict_reply (joined_verdict records.now) 0 }
 {

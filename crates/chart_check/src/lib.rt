@@ -4,14 +4,16 @@
 //! arcs join from their Begin (9); marks that spread over arcs are in `node_marks`.
 #![tactic(auto)]
 
-pub mod chart_arcs;
-pub mod chart_counts;
-pub mod chart_fields;
-pub mod chart_handler;
+mod chart_arcs;
+mod chart_counts;
+mod chart_fields;
+mod chart_handler;
 mod check;
-pub mod circles;
-pub mod finishing;
+mod circles;
+mod finishing;
 mod joined;
-pub mod node_marks;
+mod node_marks;
 
+pub use chart_counts::highest_scheme;
+pub use chart_handler::handler_scheme;
 pub use check::check_chart;

@@ -5,7 +5,7 @@ ghost use Rattle.words.specs.graph.inner.Listed.{many, mark_all, listing, enlist
 ghost use Rattle.text.specs.frames.Frame.{size};
 ghost use Rattle.charts.specs.Check.{arcs};
 ghost use Rattle.charts.specs.inner.Marks.{arcs_by, kind_marks};
-ghost use Rattle.chart_check.specs.node_marks.inner.MarkContracts.{marks_swept_to, ListedRoom};
+ghost use Rattle.chart_check.specs.inner.MarkContracts.{marks_swept_to, ListedRoom};
 
 use charts::field;
 use charts::layout::*;
@@ -38,7 +38,7 @@ pub fn follow(
     list: &mut [u8],
     count: usize,
 ) -> usize
-    requires v_bound { v < size records.now }
+    requires inside { v < size records.now }
     requires listed_room { ListedRoom records.now marks.old list.old count }
     ensures { listing marks.new list.new result ≡ enlist_all (listing marks.old list.old count)
         (arcs_by records.now conditions v) }
@@ -63,8 +63,9 @@ pub fn join(
     count: usize,
 ) -> usize
     requires { ListedRoom records.now marks.old list.old count }
-    ensures { (marks.new ≡ reach (size records.now) (arcs_by records.now conditions)
-        (size records.now) marks.old) × (result ≡ many marks.new) }
+    ensures marks { marks.new ≡ reach (size records.now) (arcs_by records.now conditions)
+        (size records.now) marks.old }
+    ensures many { result ≡ many marks.new }
 {
     let mut end = count;
     let mut i: usize = 0;
@@ -102,7 +103,8 @@ fn mark_next(records: &[u8], v: usize, marks: &mut [bool])
 
 // The same where node v is marked itself.
 fn mark_on(records: &[u8], v: usize, marks: &mut [bool])
-    requires { (v < size records.now) × (length marks.old ≡ size records.now) }
+    requires inside { v < size records.now }
+    requires mark_each { length marks.old ≡ size records.now }
     ensures { marks.new ≡ (if is_marked marks.old v
         then mark_all (arcs records.now v) marks.old else marks.old) }
 {

@@ -1,3 +1,4 @@
+pub mod Parts
 pub mod NumberLaws
 pub mod PathSteps
 pub mod Settled

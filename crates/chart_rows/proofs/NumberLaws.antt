@@ -1,10 +1,11 @@
 -- The numbers of the conditions that paths test, at plain values: which nodes have one, what a word's bit at it tells, and how a loop
 -- writes them behind the labels.
-use Rattle.std.proofs.Common.{◌≡◌, refl, sym, ◌∙◌, ap, ⊎_elim, true, false, ◌&&◌, not, List, ℕ, ◌+◌, ◌≤◌, ◌<◌, arith, length, get_or, set}
+use Rattle.std.proofs.Common.{◌≡◌, refl, sym, ◌∙◌, ap, ⊎_elim, true, false, ◌&&◌, not, List, ℕ, ◌+◌, ◌≤◌, ◌<◌, arith, length, set, slice_index}
 use Rattle.std.proofs.Common.{length-set, get_or-set_same, get_or-set_other, eqb-true, eq-eqb, ne_eqb}
 use Rattle.std.proofs.lemmas.Grind.{common_steps}
-use Rattle.words.proofs.lists.Tests.{no_both, and_l, and-true, if-true, if-false, cases, and_no}
-use Rattle.words.specs.bits.Word.{bit}
+use Rattle.std.proofs.lemmas.Bool.{cond-true, cond-false}
+use Rattle.words.proofs.lists.Tests.{no_both, and-l, and-true, cases, and-no}
+use Rattle.std.specs.Int.{bit_at}
 use Rattle.text.specs.frames.Frame.{size, field}
 use Rattle.charts.specs.Chart.{Chart, kind, argument, is, arc_taken}
 use Rattle.walk.specs.Stops.{is_stop}
@@ -19,24 +20,24 @@ use Rattle.chart_rows.specs.inner.PathContracts.{Noted, Entered}
 -- ---- the number of a node
 module _ (c : Chart) (v : ℕ) where
   pub number-none : (is c 3 v && not (is_stop c v)) ≡ false → 16 ≡ tested_number c v
-  number-none e = sym (if-false (is c 3 v && not (is_stop c v)) (argument c v) 16 e)
+  number-none e = sym (cond-false (is c 3 v && not (is_stop c v)) (argument c v) 16 e)
 
   pub number-other : (kind c v ≡ 3 → ⊥) → 16 ≡ tested_number c v
   number-other n = number-none (ap (λ x. x && not (is_stop c v)) (ne_eqb (kind c v) 3 n))
 
   pub number-stop : is_stop c v ≡ true → 16 ≡ tested_number c v
-  number-stop s = number-none (and_no (is c 3 v) (not (is_stop c v)) (ap not s))
+  number-stop s = number-none (and-no (is c 3 v) (not (is_stop c v)) (ap not s))
 
   pub number-goes : kind c v ≡ 3 → is_stop c v ≡ false → tested_number c v ≡ argument c v
-  number-goes k s = grind (arith, common_steps, eq-eqb, if-true, and-true)
+  number-goes k s = grind (arith, common_steps, eq-eqb, cond-true, and-true)
 
   pub low-condition : (i : ℕ) → i ≡ tested_number c v → i ≤ 15 → kind c v ≡ 3
-  low-condition i e h = grind (arith, common_steps, eqb-true, cases, and_l, number-none)
+  low-condition i e h = grind (arith, common_steps, eqb-true, cases, and-l, number-none)
 
 -- a condition stops where it has a label of its own
 module _ (c : Chart) (v own : ℕ) (e : own ≡ label c v) where
   pub own-stops : 2 ≤ own → is_stop c v ≡ true
-  own-stops h = and_l (is_stop c v) (not (is c 1 v)) (own-label c v (omega arith))
+  own-stops h = and-l (is_stop c v) (not (is c 1 v)) (own-label c v (omega arith))
 
   pub none-goes : kind c v ≡ 3 → own < 2 → is_stop c v ≡ false
   none-goes k h = ⊎_elim
@@ -61,14 +62,14 @@ module _ (c : Chart) (ready : Ready c) (v i : ℕ) (t : Entered c v) (e : i ≡ 
   pub high-stops : 15 < i → is_stop c v ≡ true
   high-stops h = grind (arith, common_steps, cases, goes_small)
 
-  pub low_goes : i ≤ 15 → is_stop c v ≡ false
-  low_goes h = grind (arith, common_steps, cases, number-stop)
+  pub low-goes : i ≤ 15 → is_stop c v ≡ false
+  low-goes h = grind (arith, common_steps, cases, number-stop)
 
   pub low-number : i ≤ 15 → i ≡ argument c v
-  low-number h = (goes_small (low_goes h)).0
+  low-number h = (goes_small (low-goes h)).0
 
   -- the bit of a mask tells whether the condition was met before: at a stop it is bit 16, which a word has not
-  module _ (care b : ℕ) (small : care < 65536) (eb : b ≡ bit care i) where
+  module _ (care b : ℕ) (small : care < 65536) (eb : b ≡ bit_at care i) where
     pub bit-known : b ≡ 1 → is_known c care v ≡ true
     bit-known o = grind (arith, common_steps, eq-eqb, and-true, cases, number-stop, goes_small)
 
@@ -76,7 +77,7 @@ module _ (c : Chart) (ready : Ready c) (v i : ℕ) (t : Entered c v) (e : i ≡ 
     bit-unknown n = grind (arith, common_steps, ne_eqb, cases, goes_small)
 
   -- the arc of a condition by the bit of the values
-  pub side-taken : is_stop c v ≡ false → (values b r : ℕ) → b ≡ bit values i → r ≡ field c v (3 + b) → r ≡ arc_taken c values v
+  pub side-taken : is_stop c v ≡ false → (values b r : ℕ) → b ≡ bit_at values i → r ≡ field c v (3 + b) → r ≡ arc_taken c values v
   side-taken s values b r eb er = grind (arith, common_steps, takes-1, takes-0, goes_small)
 
 -- ---- the numbers of the first v nodes
@@ -84,10 +85,10 @@ pub record Numbering (c : Chart) (old notes : List ℕ) (v : ℕ) : Type 0 where
   pub within : v ≤ size c
   pub size : length notes ≡ length old
   pub chart : Charted c notes
-  pub numbers : (u : ℕ) → u < v → get_or notes (256 + u) 0 ≡ tested_number c u
+  pub numbers : (u : ℕ) → u < v → slice_index notes (256 + u) ≡ tested_number c u
 
-pub numbering_start : (c : Chart) (notes : List ℕ) → Charted c notes → Numbering c notes notes 0
-numbering_start c notes chart = record { within = omega arith; size = refl; chart = chart; numbers = λ u l. absurd (omega arith) }
+pub numbering-start : (c : Chart) (notes : List ℕ) → Charted c notes → Numbering c notes notes 0
+numbering-start c notes chart = record { within = omega arith; size = refl; chart = chart; numbers = λ u l. absurd (omega arith) }
 
 module _ (c : Chart) (old notes : List ℕ) (v : ℕ) (long : 512 ≤ length old) (t : Numbering c old notes v) where
   pub numbering-on : v < size c → (x : ℕ) → x ≡ tested_number c v → Numbering c old (set notes (256 + v) x) (v + 1)

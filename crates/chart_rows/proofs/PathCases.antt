@@ -1,11 +1,11 @@
 -- The steps of the functions that follow paths, at plain values: how the paths from a stop and from a new condition are made up, and how
 -- many they are.
-use Rattle.std.proofs.Common.{◌≡◌, sym, ◌∙◌, ap, ap₂, subst, true, false, List, [], ◌∷◌, ◌++◌, ℕ, ◌+◌, ◌-◌, ◌^◌, ◌<◌, min, arith, bit_and}
+use Rattle.std.proofs.Common.{◌≡◌, sym, ◌∙◌, ap, ap₂, subst, true, false, List, [], ◌∷◌, ◌++◌, ℕ, ◌+◌, ◌-◌, ◌^◌, ◌≤◌, ◌<◌, min, arith, bit_and, slice_index}
 use Rattle.std.proofs.Common.{bit_or, length, length-append}
 use borrow.Author.Tests.{eqb-false}
 use Rattle.std.proofs.lemmas.Grind.{common_steps}
 use Rattle.words.proofs.lists.Tests.{and-false}
-use Rattle.words.specs.bits.Word.{bit}
+use Rattle.std.specs.Int.{bit_at}
 use Rattle.words.proofs.bits.BitLaws.{add-is-or}
 use Rattle.words.proofs.bits.MaskLaws.{more-within-0, more-within-1, within-lacks}
 use Rattle.text.specs.frames.Frame.{size}
@@ -15,11 +15,12 @@ use Rattle.walk.specs.Stops.{is_stop}
 use Rattle.image.specs.Image.{Row}
 use Rattle.walk.proofs.Follow.{goes_on}
 use Rattle.chart_rows.specs.chart_labels.inner.ChartContracts.{Ready}
-use Rattle.chart_rows.specs.inner.PathContracts.{Entered}
-use Rattle.chart_rows.specs.inner.NodeRows.{paths_from}
+use Rattle.chart_rows.specs.inner.PathContracts.{Entered, PathAt}
+use Rattle.chart_rows.specs.inner.NodeRows.{paths_from, tested_number, settled_node}
 use Rattle.chart_rows.proofs.chart_labels.ReadyLaws.{ready-sound}
-use Rattle.chart_rows.proofs.PathSteps.{path_row, entered0, entered1, at-stop, at_new}
-use Rattle.chart_rows.proofs.Settled.{Settled}
+use Rattle.chart_rows.proofs.PathSteps.{path_row, entered0, entered1, at-stop, at-new}
+use Rattle.chart_rows.proofs.Settled.{Settled, is-settled}
+use Rattle.chart_rows.proofs.NumberLaws.{high-stops, low-goes, low-number}
 
 -- a new condition: where its two sides go on, with which mask and values
 pub record Fork (c : Chart) (care values v tested valued w0 w1 : ℕ) : Type 0 where
@@ -49,14 +50,14 @@ module _ (c : Chart) (care values v u i : ℕ) (new : New c care values v u i) w
   condition : kind c u ≡ 3
   condition = goes_on c u new.settled.entered.no_begin new.goes
 
-  untested : bit care (argument c u) ≡ 1 → ⊥
+  untested : bit_at care (argument c u) ≡ 1 → ⊥
   untested = grind (arith, common_steps, eqb-false, and-false)
 
-  lacks-care : bit care i ≡ 0
-  lacks-care = let n : bit care i ≡ 1 → ⊥ = λ q. untested (ap (bit care) (sym new.number) ∙ q) in omega arith
+  lacks-care : bit_at care i ≡ 0
+  lacks-care = let n : bit_at care i ≡ 1 → ⊥ = λ q. untested (ap (bit_at care) (sym new.number) ∙ q) in omega arith
 
-  lacks-values : bit values i ≡ 0
-  lacks-values = within-lacks i values care new.within (λ q. untested (ap (bit care) (sym new.number) ∙ q))
+  lacks-values : bit_at values i ≡ 0
+  lacks-values = within-lacks i values care new.within (λ q. untested (ap (bit_at care) (sym new.number) ∙ q))
 
   module _ (tested valued : ℕ) (et : tested ≡ bit_or care (2 ^ i)) (ev : valued ≡ bit_or values (2 ^ i)) where
     tested-is : tested ≡ care + 2 ^ i
@@ -81,7 +82,7 @@ module _ (c : Chart) (care values v u i : ℕ) (new : New c care values v u i) w
           let t : care + 2 ^ argument c u ≡ tested = ap (λ (j : ℕ). care + 2 ^ j) (sym new.number) ∙ sym tested-is in
           let x : values + 2 ^ argument c u ≡ valued = ap (λ (j : ℕ). values + 2 ^ j) (sym new.number) ∙ sym valued-is in
           new.settled.same l f
-          ∙ at_new c new.ready l f care values u new.settled.entered new.goes untested
+          ∙ at-new c new.ready l f care values u new.settled.entered new.goes untested
           ∙ simp (t, x, e0, e1)
 
       pub fork : Fork c care values v tested valued w0 w1
@@ -95,6 +96,39 @@ module _ (c : Chart) (care values v u i : ℕ) (new : New c care values v u i) w
             within1 = fork-within1;
             all = fork-paths;
           }
+
+-- ---- a path by the notes: it ends at a node with number 16, and else goes on by both sides of a new condition
+module _ {c : Chart} {notes : List ℕ} {care values v u : ℕ} (path : PathAt c notes care values v)
+    (arrives : u ≡ settled_node (size c) c care values v) where
+  arrived : Settled c care values v u
+  arrived = is-settled c path.noted.chart.ready care values v u path.entered arrives
+
+  pub arrived-inside : u < size c
+  arrived-inside = arrived.entered.inside
+
+  number : slice_index notes (256 + u) ≡ tested_number c u
+  number = path.noted.numbers u arrived-inside
+
+  pub paths-end : 15 < slice_index notes (256 + u) → (l f : ℕ) → paths_from (size c) c l f care values v ≡ path_row c l f care values u ∷ []
+  paths-end high l f =
+      let ready = path.noted.chart.ready in
+      stop-paths c ready care values v u arrived (high-stops c ready u (slice_index notes (256 + u)) arrived.entered number high) l f
+
+  module _ (low : slice_index notes (256 + u) ≤ 15) where
+    new-condition : New c care values v u (slice_index notes (256 + u))
+    new-condition =
+        let ready = path.noted.chart.ready in record {
+          ready = ready;
+          settled = arrived;
+          goes = low-goes c ready u (slice_index notes (256 + u)) arrived.entered number low;
+          within = path.within;
+          number = low-number c ready u (slice_index notes (256 + u)) arrived.entered number low;
+        }
+
+    pub paths-fork : (tested valued : ℕ) → tested ≡ bit_or care (2 ^ slice_index notes (256 + u))
+        → valued ≡ bit_or values (2 ^ slice_index notes (256 + u))
+        → (w0 w1 : ℕ) → w0 ≡ next0 c u → w1 ≡ next1 c u → Fork c care values v tested valued w0 w1
+    paths-fork = fork c care values v u (slice_index notes (256 + u)) new-condition
 
 -- ---- how many paths there are, counted up to a limit
 module _ (c : Chart) (care values v most : ℕ) where

@@ -3,7 +3,7 @@
 use Rattle.std.proofs.Common.{◌≡◌, refl, sym, ◌∙◌, ap₂, Bool, true, false, List, [], ◌∷◌, ◌++◌, ℕ, zero, suc, ◌+◌, ◌^◌, ◌≤◌, ◌<◌, arith}
 use Rattle.std.proofs.Common.{eq-eqb, ne_eqb}
 use Rattle.std.proofs.Math.Decide.{ℕ_discrete}
-use Rattle.words.specs.bits.Word.{bit}
+use Rattle.std.specs.Int.{bit_at}
 use Rattle.text.specs.frames.Frame.{size}
 use Rattle.charts.specs.Chart.{Chart, kind, argument, next0, next1, arc_taken}
 use Rattle.charts.proofs.Rank.{rank, rank-le, rank-some, rank-falls0, rank-falls1}
@@ -25,17 +25,17 @@ module _ (n : ℕ) (c : Chart) (l f care values v : ℕ) where
   unfolding paths
   paths-stop e = rw (paths, e)
 
-  pub paths-known : is_stop c v ≡ false → bit care (argument c v) ≡ 1
+  pub paths-known : is_stop c v ≡ false → bit_at care (argument c v) ≡ 1
       → paths_from (suc n) c l f care values v ≡ paths_from n c l f care values (arc_taken c values v)
   unfolding paths
-  paths-known e k = rw (paths, e, eq-eqb (bit care (argument c v)) 1 k)
+  paths-known e k = rw (paths, e, eq-eqb (bit_at care (argument c v)) 1 k)
 
-  pub paths-new : is_stop c v ≡ false → (bit care (argument c v) ≡ 1 → ⊥)
+  pub paths-new : is_stop c v ≡ false → (bit_at care (argument c v) ≡ 1 → ⊥)
       → paths_from (suc n) c l f care values v
       ≡ paths_from n c l f (care + 2 ^ argument c v) values (next0 c v)
       ++ paths_from n c l f (care + 2 ^ argument c v) (values + 2 ^ argument c v) (next1 c v)
   unfolding paths
-  paths-new e k = rw (paths, e, ne_eqb (bit care (argument c v)) 1 k)
+  paths-new e k = rw (paths, e, ne_eqb (bit_at care (argument c v)) 1 k)
 
 module _ (c : Chart) (ready : Ready c) where
   -- the arcs of a condition
@@ -56,9 +56,9 @@ module _ (c : Chart) (ready : Ready c) where
     same : (n m care values v : ℕ) → Entered c v → rank c v ≤ n → rank c v ≤ m → P n care values v ≡ P m care values v
     same zero m care values v t a b = absurd (omega (arith, rank-some c v t.inside))
     same (suc n) zero care values v t a b = absurd (omega (arith, rank-some c v t.inside))
-    same (suc n) (suc m) care values v t a b = go (is_stop c v) refl (ℕ_discrete (bit care (argument c v)) 1) (same n m)
+    same (suc n) (suc m) care values v t a b = go (is_stop c v) refl (ℕ_discrete (bit_at care (argument c v)) 1) (same n m)
       where
-        go : (s : Bool) → is_stop c v ≡ s → Dec (bit care (argument c v) ≡ 1)
+        go : (s : Bool) → is_stop c v ≡ s → Dec (bit_at care (argument c v) ≡ 1)
             → ((care values v : ℕ) → Entered c v → rank c v ≤ n → rank c v ≤ m → P n care values v ≡ P m care values v)
             → P (suc n) care values v ≡ P (suc m) care values v
         go true s d ih = paths-stop n c l f care values v s ∙ sym (paths-stop m c l f care values v s)
@@ -86,12 +86,12 @@ module _ (c : Chart) (ready : Ready c) where
       pub at-stop : is_stop c v ≡ true → P (size c) care values v ≡ path_row c l f care values v ∷ []
       at-stop s = more ∙ paths-stop (size c) c l f care values v s
 
-      pub at-known : is_stop c v ≡ false → bit care (argument c v) ≡ 1
+      pub at-known : is_stop c v ≡ false → bit_at care (argument c v) ≡ 1
           → P (size c) care values v ≡ P (size c) care values (arc_taken c values v)
       at-known s k = more ∙ paths-known (size c) c l f care values v s k
 
-      pub at_new : is_stop c v ≡ false → (bit care (argument c v) ≡ 1 → ⊥)
+      pub at-new : is_stop c v ≡ false → (bit_at care (argument c v) ≡ 1 → ⊥)
           → P (size c) care values v
           ≡ P (size c) (care + 2 ^ argument c v) values (next0 c v) ++ P (size c)
           (care + 2 ^ argument c v) (values + 2 ^ argument c v) (next1 c v)
-      at_new s k = more ∙ paths-new (size c) c l f care values v s k
+      at-new s k = more ∙ paths-new (size c) c l f care values v s k

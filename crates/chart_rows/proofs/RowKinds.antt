@@ -25,8 +25,8 @@ module _ (c : Chart) (v : ℕ) where
       ++ paths_from (size c) c (label c v) 2 x x (next1 c v))
       (zero-add (2 ^ argument c v))
 
-  pub plain_rows : (kind c v ≡ 4 → ⊥) → (kind c v ≡ 3 → ⊥) → rows_of c v ≡ paths_from (size c) c (label c v) 2 0 0 (next0 c v)
-  plain_rows n m = go (kind c v) refl n m
+  pub plain-rows : (kind c v ≡ 4 → ⊥) → (kind c v ≡ 3 → ⊥) → rows_of c v ≡ paths_from (size c) c (label c v) 2 0 0 (next0 c v)
+  plain-rows n m = go (kind c v) refl n m
     where
       go : (k : ℕ) → kind c v ≡ k → (k ≡ 4 → ⊥) → (k ≡ 3 → ⊥) → rows_of c v ≡ paths_from (size c) c (label c v) 2 0 0 (next0 c v)
       go zero e n m = rows-by 0 e

@@ -1,11 +1,11 @@
 -- The steps of the functions that count and write the rows of labels, at plain values.
-use Rattle.std.proofs.Common.{if◌then◌else◌, ◌≡◌, refl, sym, ◌∙◌, ap, ap₂, subst, Bool, true, false, List, [], ◌++◌, ℕ, zero, suc, ◌+◌, ◌-◌}
-use Rattle.std.proofs.Common.{◌^◌, ◌≤◌, ◌<◌, min, zero-add, add-one, arith, bit_or, length, get_or, length-append}
+use Rattle.std.proofs.Common.{if◌then◌else◌, ◌≡◌, refl, sym, ◌∙◌, ap, ap₂, subst, Bool, true, false, List, [], ◌++◌, ℕ, zero, suc, ◌+◌, ◌-◌, slice_index, flat_map, filter}
+use Rattle.std.proofs.Common.{◌^◌, ◌≤◌, ◌<◌, min, zero-add, add-one, arith, bit_or, length, length-append}
 use borrow.Author.Tests.{eqb-false}
 use Rattle.std.proofs.lemmas.Grind.{common_steps}
 use Rattle.words.specs.lists.Numbers.{range}
-use Rattle.words.specs.lists.Sequences.{concat_map, filter}
-use Rattle.words.proofs.lists.Tests.{and_r, not-true, if-true, if-false}
+use Rattle.std.proofs.lemmas.Bool.{cond-true, cond-false}
+use Rattle.words.proofs.lists.Tests.{and-r, not-true}
 use Rattle.words.proofs.lists.Ranges.{filter-yes, filter-no}
 use Rattle.words.proofs.lists.Joins.{concat-cons, concat-range-snoc}
 use Rattle.words.proofs.bits.BitLaws.{add-is-or, bit-none}
@@ -18,7 +18,7 @@ use Rattle.chart_rows.specs.inner.PathContracts.{NotedAt, Entered, SidesAt}
 use Rattle.chart_rows.specs.inner.NodeRows.{paths_from, sides, node_rows}
 use Rattle.chart_rows.proofs.chart_labels.ReadyLaws.{ready-facts}
 use Rattle.chart_rows.proofs.chart_labels.LabelSteps.{own-label, no-own-label}
-use Rattle.chart_rows.proofs.RowKinds.{function-rows, condition-rows, plain_rows}
+use Rattle.chart_rows.proofs.RowKinds.{function-rows, condition-rows, plain-rows}
 use Rattle.chart_rows.proofs.PathSteps.{entered0, entered1}
 
 -- ---- both arcs of a node
@@ -54,8 +54,8 @@ module _ (c : Chart) (v k : ℕ) (ek : k ≡ kind c v) where
   pub rows-condition : k ≡ 3 → rows_of c v ≡ sides c (label c v) 2 2 (2 ^ argument c v) (2 ^ argument c v) v
   rows-condition e = condition-rows c v (sym ek ∙ e)
 
-  pub rows_other : k < 3 → rows_of c v ≡ paths_from (size c) c (label c v) 2 0 0 (next0 c v)
-  rows_other h = plain_rows c v (λ q. omega arith) (λ q. omega arith)
+  pub rows-other : k < 3 → rows_of c v ≡ paths_from (size c) c (label c v) 2 0 0 (next0 c v)
+  rows-other h = plain-rows c v (λ q. omega arith) (λ q. omega arith)
 
 -- the mask of a stopping condition's own test
 pub own-mask : (c : Chart) (v i own : ℕ) → i ≡ argument c v → own ≡ bit_or 0 (2 ^ i) → own ≡ 2 ^ argument c v
@@ -74,24 +74,24 @@ module _ (c : Chart) (v k most r : ℕ) (ek : k ≡ kind c v) (own : node_rows c
 
   pub count-other : k < 3 → (w : ℕ) → w ≡ next0 c v
       → ((l f : ℕ) → r ≡ min most (length (paths_from (size c) c l f 0 0 w))) → r ≡ min most (length (node_rows c v))
-  count-other h w e q = grind (arith, common_steps, rows_other, counted)
+  count-other h w e q = grind (arith, common_steps, rows-other, counted)
 
 -- ---- a node without a label of its own, and one with it
 module _ {c : Chart} {notes : List ℕ} {v : ℕ} (node : NotedAt c notes v) where
-  read : get_or notes v 0 ≡ label c v
+  read : slice_index notes v ≡ label c v
   read = node.noted.chart.labelled.at v node.inside
 
-  own-number : 2 ≤ get_or notes v 0 → is_numbered c v ≡ true
+  own-number : 2 ≤ slice_index notes v → is_numbered c v ≡ true
   own-number h = own-label c v (omega (arith, read))
 
-  pub no_rows : get_or notes v 0 < 2 → node_rows c v ≡ []
-  no_rows h = if-false (is_numbered c v) (rows_of c v) [] (no-own-label c v (omega (arith, read)))
+  pub no-rows : slice_index notes v < 2 → node_rows c v ≡ []
+  no-rows h = cond-false (is_numbered c v) (rows_of c v) [] (no-own-label c v (omega (arith, read)))
 
-  pub own-rows : 2 ≤ get_or notes v 0 → node_rows c v ≡ rows_of c v
-  own-rows h = if-true (is_numbered c v) (rows_of c v) [] (own-number h)
+  pub own-rows : 2 ≤ slice_index notes v → node_rows c v ≡ rows_of c v
+  own-rows h = cond-true (is_numbered c v) (rows_of c v) [] (own-number h)
 
-  pub other-entered : 2 ≤ get_or notes v 0 → {w : ℕ} → w ≡ next0 c v → Entered c w
-  other-entered h e = grind (arith, common_steps, not-true, and_r, entered0, eqb-false, own-number)
+  pub other-entered : 2 ≤ slice_index notes v → {w : ℕ} → w ≡ next0 c v → Entered c w
+  other-entered h e = grind (arith, common_steps, not-true, and-r, entered0, eqb-false, own-number)
 
   -- the kind after a condition's is a function's
   pub function-kind : {k : ℕ} → k ≡ kind c v → 3 ≤ k → (k ≡ 3 → ⊥) → k ≡ 4
@@ -102,7 +102,7 @@ count-nothing c v most e = omega (arith, ap (λ (rs : List Row). length rs) e)
 
 -- ---- the rows of the nodes below v
 abbrev pub rows_below : Chart → ℕ → List Row
-rows_below c v = concat_map (node_rows c) (range 0 v)
+rows_below c v = flat_map (node_rows c) (range 0 v)
 
 pub below_more : (c : Chart) (v : ℕ) → rows_below c (v + 1) ≡ rows_below c v ++ node_rows c v
 below_more c v = ap (rows_below c) (add-one v) ∙ concat-range-snoc (node_rows c) 0 v
@@ -110,22 +110,22 @@ below_more c v = ap (rows_below c) (add-one v) ∙ concat-range-snoc (node_rows 
 
 -- the nodes without a label add nothing
 picked : {A : Type 0} (p : ℕ → Bool) (f : ℕ → List A) (i n : ℕ)
-    → concat_map (λ v. if p v then f v else []) (range i n) ≡ concat_map f (filter p (range i n))
-picked p f i zero = unfold concat_map filter in refl
+    → flat_map (λ v. if p v then f v else []) (range i n) ≡ flat_map f (filter p (range i n))
+picked p f i zero = refl
 picked {A} p f i (suc n) = go (p i) refl (picked p f (suc i) n)
   where
-    go : (b : Bool) → p i ≡ b → concat_map (λ v. if p v then f v else []) (range (suc i) n) ≡ concat_map f (filter p (range (suc i) n))
-        → concat_map (λ v. if p v then f v else []) (range i (suc n)) ≡ concat_map f (filter p (range i (suc n)))
+    go : (b : Bool) → p i ≡ b → flat_map (λ v. if p v then f v else []) (range (suc i) n) ≡ flat_map f (filter p (range (suc i) n))
+        → flat_map (λ v. if p v then f v else []) (range i (suc n)) ≡ flat_map f (filter p (range i (suc n)))
     go true e ih =
-        concat-cons (λ v. if p v then f v else []) i (range (suc i) n) ∙ ap₂ (λ (x y : List A). x ++ y) (if-true (p i) (f i) [] e) ih
-        ∙ sym (ap (concat_map f) (filter-yes p i (range (suc i) n) e) ∙ concat-cons f i (filter p (range (suc i) n)))
+        concat-cons (λ v. if p v then f v else []) i (range (suc i) n) ∙ ap₂ (λ (x y : List A). x ++ y) (cond-true (p i) (f i) [] e) ih
+        ∙ sym (ap (flat_map f) (filter-yes p i (range (suc i) n) e) ∙ concat-cons f i (filter p (range (suc i) n)))
     go false e ih =
-        concat-cons (λ v. if p v then f v else []) i (range (suc i) n) ∙ ap₂ (λ (x y : List A). x ++ y) (if-false (p i) (f i) [] e) ih
-        ∙ sym (ap (concat_map f) (filter-no p i (range (suc i) n) e))
+        concat-cons (λ v. if p v then f v else []) i (range (suc i) n) ∙ ap₂ (λ (x y : List A). x ++ y) (cond-false (p i) (f i) [] e) ih
+        ∙ sym (ap (flat_map f) (filter-no p i (range (suc i) n) e))
 
-pub below_all : (c : Chart) (v : ℕ) → v ≡ size c → rows_below c v ≡ rows c
+pub below-all : (c : Chart) (v : ℕ) → v ≡ size c → rows_below c v ≡ rows c
 unfolding rows
-below_all c v e = ap (rows_below c) e ∙ picked (is_numbered c) (rows_of c) 0 (size c)
+below-all c v e = ap (rows_below c) e ∙ picked (is_numbered c) (rows_of c) 0 (size c)
 
 pub record CountingRows (c : Chart) (most total v : ℕ) : Type 0 where
   pub within : v ≤ size c
@@ -133,7 +133,7 @@ pub record CountingRows (c : Chart) (most total v : ℕ) : Type 0 where
   pub counted : total ≡ min most (length (rows_below c v))
 
 pub counting-start : (c : Chart) (most : ℕ) → CountingRows c most 0 0
-counting-start c most = record { within = omega arith; limited = omega arith; counted = unfold concat_map in omega arith }
+counting-start c most = record { within = omega arith; limited = omega arith; counted = omega arith }
 
 pub counting-on : (c : Chart) (most total v more : ℕ) → CountingRows c most total v → v < size c
     → more ≡ min (most - total) (length (node_rows c v)) → CountingRows c most (total + more) (v + 1)
@@ -144,4 +144,4 @@ counting-on c most total v more t l e = record {
 }
 
 pub counting-done : (c : Chart) (most total v n : ℕ) → CountingRows c most total v → n ≡ size c → n ≤ v → total ≡ min most (length (rows c))
-counting-done c most total v n t e h = t.counted ∙ ap (λ (rs : List Row). min most (length rs)) (below_all c v (omega (arith, t.within)))
+counting-done c most total v n t e h = t.counted ∙ ap (λ (rs : List Row). min most (length rs)) (below-all c v (omega (arith, t.within)))

@@ -1,9 +1,9 @@
 -- The node where a path goes on past the conditions that it has met before: what holds of it, and how a loop comes to it.
 -- The rank falls with each condition that is passed, so the bound on their number never shows.
-use Rattle.std.proofs.Common.{◌≡◌, refl, sym, ◌∙◌, ap, subst, Bool, true, false, not, ℕ, zero, suc, ◌≤◌, ◌<◌, arith, eqb, eqb-true}
+use Rattle.std.proofs.Common.{◌≡◌, refl, sym, ◌∙◌, ap, subst, Bool, true, false, not, ℕ, zero, suc, ◌≤◌, ◌<◌, arith, eqb-true, ◌==◌}
 use Rattle.std.proofs.lemmas.Grind.{common_steps}
-use Rattle.words.proofs.lists.Tests.{and_l, and_r, not-true}
-use Rattle.words.specs.bits.Word.{bit}
+use Rattle.words.proofs.lists.Tests.{and-l, and-r, not-true}
+use Rattle.std.specs.Int.{bit_at}
 use Rattle.text.specs.frames.Frame.{size}
 use Rattle.charts.specs.Chart.{Chart, kind, argument, arc_taken}
 use Rattle.charts.proofs.Rank.{rank, rank-le, rank-some}
@@ -29,7 +29,7 @@ module _ (c : Chart) (care values v : ℕ) where
 -- a condition that was met before is passed along an arc, to a node of lower rank
 module _ (c : Chart) (care v : ℕ) (t : Entered c v) (k : is_known c care v ≡ true) where
   pub known-goes : is_stop c v ≡ false
-  known-goes = not-true (is_stop c v) (and_l (not (is_stop c v)) (eqb (bit care (argument c v)) 1) k)
+  known-goes = not-true (is_stop c v) (and-l (not (is_stop c v)) (bit_at care (argument c v) == 1) k)
 
   known-condition : kind c v ≡ 3
   known-condition = goes_on c v t.no_begin known-goes
@@ -42,7 +42,7 @@ module _ (c : Chart) (care v : ℕ) (t : Entered c v) (k : is_known c care v ≡
     known-entered w e = subst (Entered c) (sym e) (entered-taken c ready values v t.inside known-condition)
 
     known-paths : (l f : ℕ) → paths_from (size c) c l f care values v ≡ paths_from (size c) c l f care values (arc_taken c values v)
-    known-paths l f = grind (arith, common_steps, and_r, eqb-true, at-known, known-goes)
+    known-paths l f = grind (arith, common_steps, and-r, eqb-true, at-known, known-goes)
 
 -- ---- what holds of the node: it is a stop or a new condition, and the paths on from it are the same
 pub record Settled (c : Chart) (care values v u : ℕ) : Type 0 where

@@ -1,7 +1,6 @@
 -- The rows of a chart's labels: one for each path through conditions that take no tick.
-use Rattle.std.specs.Prelude.{ℕ, zero, suc, ◌+◌, ◌^◌, true, false, List, [], ◌∷◌, ◌++◌, eqb}
-use Rattle.words.specs.lists.Sequences.{concat_map}
-use Rattle.words.specs.bits.Word.{bit}
+use Rattle.std.specs.Prelude.{ℕ, zero, suc, ◌+◌, ◌^◌, true, false, List, [], ◌∷◌, ◌++◌, ◌==◌, flat_map}
+use Rattle.std.specs.Int.{bit_at}
 use Rattle.text.specs.frames.Frame.{size}
 use Rattle.charts.specs.Layout.{Kind, Begin, End, Operation, Condition, Function, Unknown, kind_of}
 use Rattle.charts.specs.Chart.{Chart, kind, argument, next0, next1, arc_taken}
@@ -33,7 +32,7 @@ unfoldable pub paths : ℕ → Chart → Path → ℕ → List Row
 paths zero c p v = []
 paths (suc n) c p v = elim (is_stop c v) [
   | true ↦ record { from = p.from; care = p.care; values = p.values; bit = p.bit; next = label c v } ∷ []
-  | false ↦ elim (eqb (bit p.care (argument c v)) 1) [
+  | false ↦ elim (bit_at p.care (argument c v) == 1) [
     | true ↦ paths n c p (arc_taken c p.values v)
     | false ↦ paths n c (side0 p (argument c v)) (next0 c v) ++ paths n c (side1 p (argument c v)) (next1 c v)
   ]
@@ -57,4 +56,4 @@ unfoldable pub rows_of : Chart → ℕ → List Row
 rows_of c v = rows_as c v (kind_of (kind c v))
 
 unfoldable pub rows : Chart → List Row
-rows c = concat_map (rows_of c) (numbered_nodes c)
+rows c = flat_map (rows_of c) (numbered_nodes c)

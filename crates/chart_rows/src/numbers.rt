@@ -1,6 +1,7 @@
 // Notes on the nodes: their labels, and the numbers of the conditions that paths test.
-ghost use Rattle.std.specs.Prelude.{◌≡◌, ◌*◌, ◌≤◌, length};
-ghost use Rattle.words.specs.lists.Numbers.{count};
+ghost use Rattle.std.specs.Prelude.{◌≡◌, ◌*◌, ◌≤◌, length, map};
+ghost use Rattle.words.specs.lists.Numbers.{range, count};
+ghost use Rattle.words.specs.lists.Sequences.{written};
 ghost use Rattle.text.specs.frames.Frame.{size};
 ghost use Rattle.chart_rows.specs.chart_labels.Labels.{is_numbered, label};
 ghost use Rattle.chart_rows.specs.chart_labels.inner.ChartContracts.{Ready, Charted, Inner};
@@ -15,7 +16,7 @@ use text::frames::sizes::{NODES, RECORD};
 // The number of the condition that a path tests at a node. A condition with a label of its own ends a path.
 fn number_of(records: &[u8], v: usize, own: u8) -> u8
     requires inner { Inner records.now v }
-    requires own_value { own ≡ label records.now v }
+    requires own_label { own ≡ label records.now v }
     ensures { result ≡ tested_number records.now v }
 {
     if field(records, v, KIND) != CONDITION {
@@ -30,8 +31,10 @@ fn number_of(records: &[u8], v: usize, own: u8) -> u8
 // Writes the numbers of all nodes behind their labels.
 fn number_nodes(records: &[u8], notes: &mut [u8])
     requires charted { Charted records.now notes.old }
-    requires in_bounds { 2 * NODES ≤ length notes.old }
-    ensures { Noted records.now notes.new }
+    requires room { 2 * NODES ≤ length notes.old }
+    ensures noted { Noted records.now notes.new }
+    ensures notes { notes.new ≡ written notes.old NODES
+        (map (tested_number records.now) (range 0 (size records.now))) }
 {
     let n = records.len() / RECORD;
     for v in 0..n {
@@ -40,12 +43,16 @@ fn number_nodes(records: &[u8], notes: &mut [u8])
     }
 }
 
-// Writes the notes on all nodes, and returns how many nodes have a label of their own.
+/// Writes the notes on the nodes of an accepted chart: their labels from the first place on, and from place 256 on the number of the
+/// condition that a path tests at each, 16 where a path ends; the rest of the buffer stays. How many nodes have a label of their own.
 pub fn note_nodes(records: &[u8], notes: &mut [u8]) -> usize
     requires ready { Ready records.now }
-    requires in_bounds { 2 * NODES ≤ length notes.old }
-    ensures { (result ≡ count (is_numbered records.now) 0 (size records.now))
-        × Noted records.now notes.new }
+    requires room { 2 * NODES ≤ length notes.old }
+    ensures own { result ≡ count (is_numbered records.now) 0 (size records.now) }
+    ensures noted { Noted records.now notes.new }
+    ensures notes { notes.new ≡ written
+        (written notes.old 0 (map (label records.now) (range 0 (size records.now)))) NODES
+        (map (tested_number records.now) (range 0 (size records.now))) }
 {
     let own = label_nodes(records, notes);
     number_nodes(records, notes);

@@ -92,7 +92,7 @@ fn bound_nodes(records: &[u8], notes: &[u8], masks: &[u16]) -> usize
     total
 }
 
-// A number of rows that the chart does not exceed. No path is walked for it.
+/// A number of rows that an accepted chart does not exceed, by the notes on its nodes. No path is walked for it.
 pub fn bound_rows(records: &[u8], notes: &[u8]) -> usize
     requires { Noted records.now notes.now }
     ensures { length (rows records.now) ≤ result }

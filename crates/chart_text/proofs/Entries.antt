@@ -1,5 +1,5 @@
 -- The two entry points, return by return: what the checks before a return tell of the verdict, the answer and the buffer.
-use Rattle.std.proofs.Common.{◌≡◌, refl, sym, ◌∙◌, ap, true, false, List, ℕ, zero, suc, ◌*◌, ◌/◌, ◌≤◌, ◌<◌, arith, length, take, Ok, Err}
+use Rattle.std.proofs.Common.{◌≡◌, refl, sym, ◌∙◌, ap, false, List, ℕ, zero, suc, ◌*◌, ◌/◌, ◌≤◌, ◌<◌, arith, length, take, Ok, Err}
 use Rattle.std.proofs.lemmas.Grind.{common_steps}
 use Rattle.words.specs.lists.Sequences.{written}
 use Rattle.words.proofs.lists.Written.{written-front}
@@ -9,8 +9,8 @@ use Rattle.text.specs.frames.Check.{is_bad_length, text_verdict}
 use Rattle.text.specs.frames.Read.{read_buffer}
 use Rattle.text.specs.frames.Answer.{Answer, reply, GivesBuffer, verdict_reply}
 use Rattle.text.specs.declared.frames.refusals.Refusal.{Refusal}
-use Rattle.text.specs.declared.frames.refusals.Refusal.TheVariants.{BadLength, NoRoom}
-use Rattle.text.proofs.frames.Chains.{when-holds, when-fails, next-refused, next-on, ok-fine, err-refused}
+use Rattle.text.specs.declared.frames.refusals.Refusal.TheVariants.{NoRoom}
+use Rattle.text.proofs.frames.Chains.{when-fails, next-refused, next-on, ok-fine, err-refused}
 use Rattle.text.proofs.frames.Contents.{Length, length-told, text-told, any-contents-length}
 use Rattle.text.proofs.frames.Reading.{read-fine}
 use Rattle.text.proofs.frames.Lent.{lent-err, lent-short, lent-done, front}
@@ -67,14 +67,14 @@ module _ (t out : List ℕ) where
     unfolding read_chart
     read-unsound r q = grind (arith, common_steps, lent-err, err-refused, rest)
 
-    pub read_short : (m : ℕ) → a ≡ Ok m → length out < 10 * n → GivesBuffer (read_chart t out) (Err NoRoom) out
+    pub read-short : (m : ℕ) → a ≡ Ok m → length out < 10 * n → GivesBuffer (read_chart t out) (Err NoRoom) out
     unfolding read_chart
-    read_short m q h = grind (arith, common_steps, lent-short, ok-fine, rest)
+    read-short m q h = grind (arith, common_steps, lent-short, ok-fine, rest)
 
-    pub read_done : (m : ℕ) → a ≡ Ok m → 10 * n ≤ length out → (out' : List ℕ) → out' ≡ written out 0 c
+    pub read-done : (m : ℕ) → a ≡ Ok m → 10 * n ≤ length out → (out' : List ℕ) → out' ≡ written out 0 c
         → GivesBuffer (read_chart t out) (Ok n) out'
     unfolding read_chart
-    read_done m q h out' o = grind (arith, common_steps, lent-done, ok-fine, written-front, rest)
+    read-done m q h out' o = grind (arith, common_steps, lent-done, ok-fine, written-front, rest)
 
 -- ---- the writer
 -- 1 finds nothing
@@ -88,24 +88,16 @@ pub whole : (c : Chart) → is_bad_length 10 2560 (length c) ≡ false → Whole
 whole c e = grind (arith, common_steps, length-told)
 
 module _ (c : Chart) (out : List ℕ) where
-  pub write-unwhole : is_bad_length 10 2560 (length c) ≡ true → GivesBuffer (write_chart c out) (Err BadLength) out
-  unfolding write_chart write_verdict
-  write-unwhole b = grind (arith, common_steps, next-refused, when-holds, lent-err)
-
   module _ (w : WholeRecords c) (a : Answer) (e : reply a ≡ verdict_reply (chart_verdict c) 0) where
     on : write_verdict c ≡ chart_verdict c
     unfolding write_verdict
     on = grind (arith, common_steps, when-fails, next-on)
 
-    pub write-unsound : (r : Refusal) → a ≡ Err r → GivesBuffer (write_chart c out) (Err r) out
-    unfolding write_chart
-    write-unsound r q = grind (arith, common_steps, lent-err, err-refused, on)
-
     pub write-short : (m : ℕ) → a ≡ Ok m → length out < 23 * size c → GivesBuffer (write_chart c out) (Err NoRoom) out
     unfolding write_chart
     write-short m q h = grind (arith, common_steps, lent-short, ok-fine, length-text, on)
 
-    pub write_done : (m : ℕ) → a ≡ Ok m → 23 * size c ≤ length out → (out' : List ℕ) → out' ≡ written out 0 (text_of c)
+    pub write-done : (m : ℕ) → a ≡ Ok m → 23 * size c ≤ length out → (out' : List ℕ) → out' ≡ written out 0 (text_of c)
         → GivesBuffer (write_chart c out) (Ok (23 * size c)) out'
     unfolding write_chart
-    write_done m q h out' o = grind (arith, common_steps, lent-done, ok-fine, length-text, written-front, on)
+    write-done m q h out' o = grind (arith, common_steps, lent-done, ok-fine, length-text, written-front, on)

@@ -1,5 +1,5 @@
 -- Charts there and back, through the buffers of reader and writer: nothing is lost but the size of letters.
-use Rattle.std.specs.Prelude.{ℕ, ◌*◌, ◌≤◌, ◌<◌, ◌≡◌, List, map, length, get_or, take}
+use Rattle.std.specs.Prelude.{ℕ, ◌*◌, ◌≤◌, ◌<◌, ◌≡◌, List, map, length, take, slice_index}
 use Rattle.text.specs.digits.Digit.{capital}
 use Rattle.text.specs.frames.Frame.{text_of}
 use Rattle.text.specs.frames.Verdict.{fine}
@@ -10,7 +10,7 @@ use Rattle.charts.specs.Entry.{read_chart, write_verdict, write_chart}
 -- n characters were written; given room, the reader turns them into the records again
 abbrev pub ReadOfWrite : Type 0
 ReadOfWrite =
-    (c : Chart) → ((k : ℕ) → get_or c k 0 < 256) → (out out' : List ℕ) (n : ℕ)
+    (c : Chart) → ((k : ℕ) → slice_index c k < 256) → (out out' : List ℕ) (n : ℕ)
     → (write_chart c out).reply ≡ success n → length c ≤ length out'
     → read_chart (take n (write_chart c out).buffer) out' ≡ buffer_filled_with 10 c out'
 
@@ -28,4 +28,4 @@ WriteOfCapitals =
 
 -- what is written is in capitals
 abbrev pub WrittenCapitals : Type 0
-WrittenCapitals = (c : Chart) → ((k : ℕ) → get_or c k 0 < 256) → write_verdict c ≡ fine → map capital (text_of c) ≡ text_of c
+WrittenCapitals = (c : Chart) → ((k : ℕ) → slice_index c k < 256) → write_verdict c ≡ fine → map capital (text_of c) ≡ text_of c

@@ -7,7 +7,8 @@ use text::frames::sizes::*;
 use text::frames::{Refusal, bad_length, put_bytes, put_text};
 use text::reading::read_text;
 
-// A chart's text to its node records, ten bytes each: refusals 1 to 9, 19 after 5, and 16, else the number of records.
+/// Reads a chart's text to its node records, ten bytes each, at the front of the buffer, and counts them. 1 to 9, with 19 after 5, and then
+/// 16 refuse, and leave the buffer as it was.
 pub fn read_chart(text: &[u8], out: &mut [u8]) -> Result<usize, Refusal>
     ensures { GivesBuffer (read_chart text.now out.old) result out.new }
 {
@@ -23,7 +24,9 @@ pub fn read_chart(text: &[u8], out: &mut [u8]) -> Result<usize, Refusal>
     Ok(count)
 }
 
-// Node records to the chart's text: refusals 1, 4 to 9, 19 after 5, and 16, else the number of characters.
+/// Writes node records as the chart's text, in capitals, at the front of the buffer, and counts its characters. 1, 4 to 9, with 19 after 5,
+/// and then 16 refuse, and leave the buffer as it was.
+#[tactic(auto, unfolding(charts::specs::Entry::write_chart, charts::specs::Entry::write_verdict))]
 pub fn write_chart(records: &[u8], out: &mut [u8]) -> Result<usize, Refusal>
     ensures { GivesBuffer (write_chart records.now out.old) result out.new }
 {

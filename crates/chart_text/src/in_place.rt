@@ -1,8 +1,8 @@
 // Frames made into text where they stand, as the translator needs it: their bytes at the front of a buffer, ten of each, give way to their
 // characters.
-ghost use Rattle.std.specs.Prelude.{◌≡◌, ◌+◌, ◌*◌, ◌≤◌, length};
+ghost use Rattle.std.specs.Prelude.{◌≡◌, ◌+◌, ◌*◌, ◌≤◌, length, flat_map};
 ghost use Rattle.words.specs.lists.Numbers.{range};
-ghost use Rattle.words.specs.lists.Sequences.{concat_map, written};
+ghost use Rattle.words.specs.lists.Sequences.{written};
 ghost use Rattle.text.specs.frames.Frame.{ten_bytes_at, frame_text};
 
 use text::frames::sizes::LINE;
@@ -17,11 +17,11 @@ fn spread_frame(out: &mut [u8], f: usize)
     put_frame(out, LINE * f, &ten);
 }
 
-// The last frame first: its text lies behind the bytes of the frames before it.
+/// Makes the first n frames text, each of its ten bytes. The last frame goes first: its text lies behind the bytes of the frames before it.
 pub fn spread(out: &mut [u8], n: usize)
     requires { LINE * n ≤ length out.old }
     ensures { out.new ≡ written out.old 0
-        (concat_map (λ f. frame_text (ten_bytes_at out.old f)) (range 0 n)) }
+        (flat_map (λ f. frame_text (ten_bytes_at out.old f)) (range 0 n)) }
 {
     let mut f = n;
     while 0 < f {

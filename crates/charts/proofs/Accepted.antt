@@ -1,8 +1,8 @@
 -- What an accepted chart gives, test by test.
-use Rattle.std.proofs.Common.{◌≡◌, false, List, ℕ, ◌*◌, ◌%◌, ◌≤◌, ◌<◌, arith, length, get_or}
+use Rattle.std.proofs.Common.{◌≡◌, false, List, ℕ, ◌*◌, ◌%◌, ◌≤◌, ◌<◌, arith, length, slice_index}
 use Rattle.std.proofs.lemmas.Grind.{common_steps}
 use Rattle.words.specs.lists.Numbers.{any}
-use Rattle.words.proofs.lists.Searches.{any_false}
+use Rattle.words.proofs.lists.Searches.{any-false}
 use Rattle.text.specs.frames.Frame.{contents, frame_count, size}
 use Rattle.text.specs.frames.Verdict.{Verdict, fine, next, when, at_lowest}
 use Rattle.text.specs.frames.Check.{is_bad_length, text_verdict}
@@ -43,7 +43,7 @@ sound c e =
     record {
       good_field = at-lowest-fine 4 (has_bad_field c) (size c) q.0;
       good_scheme =
-          λ h l m. any_false (is_bad_scheme c) 1 (schemes c) (when-fine 5 (any (is_bad_scheme c) 1 (schemes c)) q.1) h l (omega arith);
+          λ h l m. any-false (is_bad_scheme c) 1 (schemes c) (when-fine 5 (any (is_bad_scheme c) 1 (schemes c)) q.1) h l (omega arith);
       good_marks = when-fine 19 (has_bad_marks c) q.2;
       good_arc = at-lowest-fine 6 (has_bad_arc c) (size c) q.3;
       good_call = at-lowest-fine 7 (has_bad_call c) (size c) q.4;
@@ -71,7 +71,7 @@ accepted t e =
       sound = sound (contents t) (next-rest (text_verdict 5888 t) (λ _. chart_verdict (contents t)) e);
     }
 
-pub accepted-bytes : (t : List ℕ) → read_verdict t ≡ fine → (k : ℕ) → get_or (contents t) k 0 < 256
+pub accepted-bytes : (t : List ℕ) → read_verdict t ≡ fine → (k : ℕ) → slice_index (contents t) k < 256
 accepted-bytes t e = contents-bytes t (read-text t e).forms
 
 -- ---- by the writer

@@ -1,9 +1,9 @@
 -- What refusals 8 and 9 mean, with no marks in it: a circle of conditions, and a path from a scheme's Begin.
 use Rattle.std.proofs.Common.{◌≡◌, refl, ◌∙◌, ap, subst, true, false, [], ◌∷◌, ℕ, ◌<◌, eqb-true, arith}
 use Rattle.std.proofs.lemmas.Grind.{common_steps}
-use Rattle.words.proofs.lists.Tests.{no_both, or_cases, and_l, and_r, and-true, not-false, if-true, if-false, cases}
+use Rattle.std.proofs.lemmas.Bool.{cond-true, cond-false}
+use Rattle.words.proofs.lists.Tests.{no_both, or-cases, and-l, and-r, and-true, not-false, cases}
 use Rattle.words.proofs.lists.Searches.{some-cons}
-use Rattle.words.specs.lists.Sequences.{some}
 use Rattle.words.specs.graph.Reach.{is_member, is_marked, nodes_joined_from}
 use Rattle.words.proofs.graph.Closure.{joined-below}
 use Rattle.words.specs.graph.Paths.{Arc, Path, PathFrom}
@@ -15,18 +15,18 @@ use Rattle.charts.specs.Meaning.{ConditionCircle, JoinedNode, CircleMeans, CutOf
 use Rattle.charts.proofs.Nodes.{member-first}
 
 member-none : (v : ℕ) → is_member v [] ≡ false
-member-none v = unfold some in refl
+member-none v = refl
 
 pub member-only : (v u : ℕ) → is_member v (u ∷ []) ≡ true → v ≡ u
-member-only v u e = grind (arith, common_steps, or_cases, some-cons, eqb-true, no_both, member-none)
+member-only v u e = grind (arith, common_steps, or-cases, some-cons, eqb-true, no_both, member-none)
 
 -- ---- arcs of conditions are the arcs that leave a condition
 module _ (c : Chart) where
   pub condition-arcs : (v : ℕ) → is c 3 v ≡ true → condition_arcs c v ≡ arcs c v
-  condition-arcs v i = if-true (is c 3 v) (arcs c v) [] i
+  condition-arcs v i = cond-true (is c 3 v) (arcs c v) [] i
 
   pub no-condition-arcs : (v : ℕ) → is c 3 v ≡ false → condition_arcs c v ≡ []
-  no-condition-arcs v i = if-false (is c 3 v) (arcs c v) [] i
+  no-condition-arcs v i = cond-false (is c 3 v) (arcs c v) [] i
 
   pub leaves-condition : (v u : ℕ) → is_member u (condition_arcs c v) ≡ true → is c 3 v ≡ true
   leaves-condition v u s = grind (arith, common_steps, cases, no_both, member-none, no-condition-arcs)
@@ -38,8 +38,8 @@ module _ (c : Chart) where
 pub found-circle : (c : Chart) (v : ℕ) → is_on_circle c v ≡ true → ConditionCircle c v
 found-circle c v e =
     let ahead = nodes_joined_from (size c) (condition_arcs c) (arcs c v) in
-    let i : is c 3 v ≡ true = and_l (is c 3 v) (is_marked ahead v) e in
-    let m : is_marked ahead v ≡ true = and_r (is c 3 v) (is_marked ahead v) e in
+    let i : is c 3 v ≡ true = and-l (is c 3 v) (is_marked ahead v) e in
+    let m : is_marked ahead v ≡ true = and-r (is c 3 v) (is_marked ahead v) e in
     let p : PathFrom (size c) (condition_arcs c) (arcs c v) v = joined-path (size c) (condition_arcs c) (arcs c v) v m in
     record {
       second = p.first;

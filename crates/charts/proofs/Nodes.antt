@@ -1,19 +1,20 @@
 -- What the tests give of the nodes of a sound chart: ranges of fields, Begins and Ends, arcs, calls.
-use Rattle.std.proofs.Common.{if◌then◌else◌, ◌≡◌, refl, ◌∙◌, ap, subst, ◌⊎◌, Bool, true, false, not, List, [], ◌∷◌, ℕ, zero, suc, ◌≤◌, ◌<◌}
-use Rattle.std.proofs.Common.{arith, ltb, eqb, ltb-false, eqb-true, eq-eqb}
+use Rattle.std.proofs.Common.{if◌then◌else◌, ◌≡◌, refl, ◌∙◌, ap, subst, ◌⊎◌, Bool, true, false, not, List, [], ◌∷◌, ℕ, zero, suc, ◌≤◌, ◌<◌, nat_lt, nat_eq, ◌==◌}
+use Rattle.std.proofs.Common.{arith, ltb-false, eqb-true, eq-eqb}
 use Rattle.std.proofs.Math.Decide.{dec_le}
 use borrow.Author.Tests.{eqb-false}
 use Rattle.std.proofs.lemmas.Grind.{common_steps}
 use Rattle.words.specs.lists.Numbers.{lowest, any, count}
-use Rattle.words.proofs.lists.Tests.{no_both, or_l, or_r, or-true-l, or_true_r, and_l, and_r, and-true, if-true}
-use Rattle.words.proofs.lists.Searches.{lowest-hit, highest-ge, highest-le, highest-of, any_false, some-cons, some-both}
+use Rattle.std.proofs.lemmas.Bool.{cond-true}
+use Rattle.words.proofs.lists.Tests.{no_both, or-l, or-r, or-true-l, or-true-r, and-l, and-r, and-true}
+use Rattle.words.proofs.lists.Searches.{lowest-hit, highest-ge, highest-le, highest-of, any-false, some-cons, some-both}
 use Rattle.words.proofs.lists.Counts.{count-lowest, count-one}
 use Rattle.words.specs.graph.Reach.{is_member}
 use Rattle.text.specs.frames.Frame.{size}
 use Rattle.charts.specs.Chart.{Chart, kind, scheme, argument, next0, next1, result, is, is_of, is_handler_mark, handler_at, handler}
 use Rattle.charts.specs.Chart.{schemes, node_of, begin, end}
 use Rattle.charts.specs.Layout.{kind_of}
-use Rattle.charts.specs.Check.{is_filled_from, has_bad_use, has_bad_field, arcs_as, arcs, is_bad_target, has_bad_call_as}
+use Rattle.charts.specs.Check.{is_filled_from, has_bad_use, has_bad_field, arcs_as, arcs, is_bad_target}
 use Rattle.charts.proofs.Accepted.{SoundChart}
 
 -- an arc may lead to node u in scheme h
@@ -39,7 +40,7 @@ used-kind c v (suc (suc (suc (suc zero)))) e = omega arith
 used-kind c v (suc (suc (suc (suc (suc k))))) e = no_both true refl e
 
 module _ (c : Chart) (v : ℕ) (e : has_bad_field c v ≡ false) where
-  fields : (eqb (scheme c v) 0 ≡ false) × (ltb 16 (scheme c v) ≡ false) × (has_bad_use c v (kind_of (kind c v)) ≡ false)
+  fields : ((scheme c v == 0) ≡ false) × (nat_lt 16 (scheme c v) ≡ false) × (has_bad_use c v (kind_of (kind c v)) ≡ false)
   unfolding has_bad_field
   fields = grind (arith, common_steps)
 
@@ -53,10 +54,10 @@ module _ (c : Chart) (v : ℕ) (e : has_bad_field c v ≡ false) where
   field-scheme = let n : scheme c v ≡ 0 → ⊥ = eqb-false (scheme c v) 0 fields.0 in (omega arith, ltb-false 16 (scheme c v) fields.1)
 
   pub field-condition : kind c v ≡ 3 → argument c v ≤ 15
-  field-condition k = ltb-false 15 (argument c v) (or_l (ltb 15 (argument c v)) (is_filled_from c v 5) (use-of 3 k))
+  field-condition k = ltb-false 15 (argument c v) (or-l (nat_lt 15 (argument c v)) (is_filled_from c v 5) (use-of 3 k))
 
   pub field-result : kind c v ≡ 2 → result c v ≤ 2
-  field-result k = ltb-false 2 (result c v) (or_r (not (eqb (next1 c v) 0)) (ltb 2 (result c v)) (use-of 2 k))
+  field-result k = ltb-false 2 (result c v) (or-r (not (next1 c v == 0)) (nat_lt 2 (result c v)) (use-of 2 k))
 
 -- ---- arcs: 6
 -- a kind outside 3 to 4
@@ -67,10 +68,10 @@ pub good-target : (c : Chart) (v u : ℕ) → is_bad_target c v u ≡ false → 
 good-target c v u e = grind (arith, common_steps)
 
 pub member-first : (x : ℕ) (xs : List ℕ) → is_member x (x ∷ xs) ≡ true
-member-first x xs = some-cons (eqb x) x xs ∙ or-true-l (eqb x x) (is_member x xs) (eq-eqb x x refl)
+member-first x xs = some-cons (nat_eq x) x xs ∙ or-true-l (x == x) (is_member x xs) (eq-eqb x x refl)
 
 pub member-second : (x y : ℕ) (xs : List ℕ) → is_member y (x ∷ y ∷ xs) ≡ true
-member-second x y xs = some-cons (eqb y) x (y ∷ xs) ∙ or_true_r (eqb y x) (is_member y (y ∷ xs)) (member-first y xs)
+member-second x y xs = some-cons (nat_eq y) x (y ∷ xs) ∙ or-true-r (y == x) (is_member y (y ∷ xs)) (member-first y xs)
 
 -- the arcs of a node by its kind
 arcs-by : (c : Chart) (v k : ℕ) → kind c v ≡ k → arcs c v ≡ arcs_as c v (kind_of k)
@@ -127,10 +128,10 @@ module _ (c : Chart) (a : SoundChart c) where
       let t : p v ≡ true = lowest-hit p 0 (size c) (omega arith) in
       record {
         inside = l;
-        kinded = eqb-true (kind c v) k (and_l (is c k v) (eqb (scheme c v) h) t);
-        same = eqb-true (scheme c v) h (and_r (is c k v) (eqb (scheme c v) h) t);
+        kinded = eqb-true (kind c v) k (and-l (is c k v) (scheme c v == h) t);
+        same = eqb-true (scheme c v) h (and-r (is c k v) (scheme c v == h) t);
         alone = λ u lu x y. count-one p (size c) u v e lu l
-            (and-true (is c k u) (eqb (scheme c u) h) (eq-eqb (kind c u) k x) (eq-eqb (scheme c u) h y)) t;
+            (and-true (is c k u) (scheme c u == h) (eq-eqb (kind c u) k x) (eq-eqb (scheme c u) h y)) t;
       }
 
   ones : (h : ℕ) → 1 ≤ h → h ≤ schemes c → (count (is_of c 0 h) 0 (size c) ≡ 1) × (count (is_of c 1 h) 0 (size c) ≡ 1)
@@ -145,12 +146,12 @@ module _ (c : Chart) (a : SoundChart c) where
   -- ---- the handler: 19
   marked-deep : (v : ℕ) → v < size c → is_handler_mark c v ≡ true → 2 ≤ scheme c v
   marked-deep v l e =
-      let p : ℕ → Bool = λ u. eqb (handler_at c u) 1 in
+      let p : ℕ → Bool = λ u. handler_at c u == 1 in
       let f : p v ≡ false =
-      any_false p 0 (size c) (or_l (any p 0 (size c)) (ltb 1 (count (is_handler_mark c) 0 (size c))) a.good_marks)
+      any-false p 0 (size c) (or-l (any p 0 (size c)) (nat_lt 1 (count (is_handler_mark c) 0 (size c))) a.good_marks)
       v (omega arith) (omega arith) in
       let n : handler_at c v ≡ 1 → ⊥ = eqb-false (handler_at c v) 1 f in
-      omega (arith, owned v l, if-true (is_handler_mark c v) (scheme c v) 0 e)
+      omega (arith, owned v l, cond-true (is_handler_mark c v) (scheme c v) 0 e)
 
   pub handled : (handler c ≡ 0 → ⊥) → (2 ≤ handler c) × (handler c ≤ schemes c)
   unfolding handler

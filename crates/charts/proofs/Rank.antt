@@ -20,16 +20,16 @@ pub rank-some : (c : Chart) (v : ℕ) → v < size c → 1 ≤ rank c v
 rank-some c v l = joined.rank-some (size c) (condition_arcs c) v l
 
 module _ (c : Chart) (a : SoundChart c) (v : ℕ) (l : v < size c) (k : kind c v ≡ 3) where
-  pub rank_falls : (u : ℕ) → is_member u (arcs c v) ≡ true → rank c u < rank c v
-  rank_falls u s =
+  pub rank-falls : (u : ℕ) → is_member u (arcs c v) ≡ true → rank c u < rank c v
+  rank-falls u s =
       let i : is c 3 v ≡ true = eq-eqb (kind c v) 3 k in
       let e : condition_arcs c v ≡ arcs c v = condition-arcs c v i in
-      joined.rank_falls (size c) (condition_arcs c) v u l (arc-end c a v u l s).inside (ap (is_member u) e ∙ s)
+      joined.rank-falls (size c) (condition_arcs c) v u l (arc-end c a v u l s).inside (ap (is_member u) e ∙ s)
       (ap (λ (us : List ℕ). is_marked (nodes_joined_from (size c) (condition_arcs c) us) v) e
       ∙ and-false (is c 3 v) (is_marked (nodes_joined_from (size c) (condition_arcs c) (arcs c v)) v) (a.no_circle v l) i)
 
   pub rank-falls0 : rank c (next0 c v) < rank c v
-  rank-falls0 = rank_falls (next0 c v) (in-arcs0 c v (λ q. omega arith) (omega arith))
+  rank-falls0 = rank-falls (next0 c v) (in-arcs0 c v (λ q. omega arith) (omega arith))
 
   pub rank-falls1 : rank c (next1 c v) < rank c v
-  rank-falls1 = rank_falls (next1 c v) (in-arcs1 c v (omega arith) (omega arith))
+  rank-falls1 = rank-falls (next1 c v) (in-arcs1 c v (omega arith) (omega arith))

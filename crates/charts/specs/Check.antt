@@ -1,7 +1,7 @@
 -- Why a chart is refused: refusals 4 to 9 and 19.
-use Rattle.std.specs.Prelude.{ℕ, ◌-◌, Bool, true, false, ◌&&◌, ◌||◌, not, List, [], ◌∷◌, leb, ltb, eqb, if◌then◌else◌}
+use Rattle.std.specs.Prelude.{ℕ, ◌-◌, Bool, true, false, ◌&&◌, ◌||◌, not, List, [], ◌∷◌, if◌then◌else◌, nat_lt, nat_le, ◌==◌}
 use Rattle.words.specs.lists.Numbers.{any, count}
-use Rattle.words.specs.lists.Sequences.{some}
+use Rattle.std.specs.List.{list_any}
 use Rattle.words.specs.graph.Reach.{is_marked, nodes_joined_from}
 use Rattle.text.specs.declared.frames.sizes.TheConstants.{RECORD, SCHEMES}
 use Rattle.text.specs.declared.frames.refusals.TheConstants.{BAD_FIELD, BAD_SCHEME, BAD_ARC, BAD_CALL, CIRCLE, CUT_OFF, BAD_MARKS}
@@ -13,27 +13,28 @@ use Rattle.charts.specs.Chart.{Chart, kind, scheme, argument, next0, next1, resu
 
 -- 4. A byte of i to 9 is not 0.
 abbrev pub is_filled_from : Chart → ℕ → ℕ → Bool
-is_filled_from c v i = any (λ k. not (eqb (field c v k) 0)) i (RECORD - i)
+is_filled_from c v i = any (λ k. not (field c v k == 0)) i (RECORD - i)
 
 -- By the kind: a byte that it has no use for is not 0, or a Begin's mark, a condition's number or an operation's result is too large.
 abbrev pub has_bad_use : Chart → ℕ → Kind → Bool
-has_bad_use c v Begin = ltb 1 (argument c v) || is_filled_from c v NEXT1
+has_bad_use c v Begin = nat_lt 1 (argument c v) || is_filled_from c v NEXT1
 has_bad_use c v End = is_filled_from c v ARGUMENT
-has_bad_use c v Operation = not (eqb (next1 c v) 0) || ltb 2 (result c v)
-has_bad_use c v Condition = ltb 15 (argument c v) || is_filled_from c v RESULT
+has_bad_use c v Operation = not (next1 c v == 0) || nat_lt 2 (result c v)
+has_bad_use c v Condition = nat_lt 15 (argument c v) || is_filled_from c v RESULT
 has_bad_use c v Function = is_filled_from c v RESULT
 has_bad_use c v Unknown = true
 
+-- a scheme outside 1 to 16, or a byte that the kind does not allow
 unfoldable pub has_bad_field : Chart → ℕ → Bool
-has_bad_field c v = eqb (scheme c v) 0 || ltb SCHEMES (scheme c v) || has_bad_use c v (kind_of (kind c v))
+has_bad_field c v = scheme c v == 0 || nat_lt SCHEMES (scheme c v) || has_bad_use c v (kind_of (kind c v))
 
 -- 5. Scheme h has not exactly one Begin and one End.
 abbrev pub is_bad_scheme : Chart → ℕ → Bool
-is_bad_scheme c h = not (eqb (count (is_of c BEGIN h) 0 (size c)) 1 && eqb (count (is_of c END h) 0 (size c)) 1)
+is_bad_scheme c h = not (count (is_of c BEGIN h) 0 (size c) == 1 && count (is_of c END h) 0 (size c) == 1)
 
 -- 19. Scheme 1 is marked, or a scheme beside one marked before.
 abbrev pub has_bad_marks : Chart → Bool
-has_bad_marks c = any (λ v. eqb (handler_at c v) 1) 0 (size c) || ltb 1 (count (is_handler_mark c) 0 (size c))
+has_bad_marks c = any (λ v. handler_at c v == 1) 0 (size c) || nat_lt 1 (count (is_handler_mark c) 0 (size c))
 
 -- 6. The nodes that the arcs of a node lead to, by its kind; one that is no node, of another scheme or a Begin.
 abbrev pub arcs_as : Chart → ℕ → Kind → List ℕ
@@ -44,24 +45,28 @@ arcs_as c v Condition = next0 c v ∷ next1 c v ∷ []
 arcs_as c v Function = next0 c v ∷ next1 c v ∷ []
 arcs_as c v Unknown = next0 c v ∷ []
 
+-- the nodes that the arcs of node v lead to
 abbrev pub arcs : Chart → ℕ → List ℕ
 arcs c v = arcs_as c v (kind_of (kind c v))
 
+-- node u is none, of another scheme than v, or a Begin
 abbrev pub is_bad_target : Chart → ℕ → ℕ → Bool
-is_bad_target c v u = leb (size c) u || not (eqb (scheme c u) (scheme c v)) || is c BEGIN u
+is_bad_target c v u = nat_le (size c) u || not (scheme c u == scheme c v) || is c BEGIN u
 
+-- one of them is none to lead to
 abbrev pub has_bad_arc : Chart → ℕ → Bool
-has_bad_arc c v = some (is_bad_target c v) (arcs c v)
+has_bad_arc c v = list_any (is_bad_target c v) (arcs c v)
 
 -- 7. By the kind: a call of scheme 1 or of one above H, or of 0 by a function.
 abbrev pub has_bad_call_as : Chart → ℕ → Kind → Bool
 has_bad_call_as c v Begin = false
 has_bad_call_as c v End = false
-has_bad_call_as c v Operation = eqb (argument c v) 1 || ltb (schemes c) (argument c v)
+has_bad_call_as c v Operation = argument c v == 1 || nat_lt (schemes c) (argument c v)
 has_bad_call_as c v Condition = false
-has_bad_call_as c v Function = leb (argument c v) 1 || ltb (schemes c) (argument c v)
+has_bad_call_as c v Function = nat_le (argument c v) 1 || nat_lt (schemes c) (argument c v)
 has_bad_call_as c v Unknown = false
 
+-- what node v calls is none to call
 abbrev pub has_bad_call : Chart → ℕ → Bool
 has_bad_call c v = has_bad_call_as c v (kind_of (kind c v))
 
@@ -69,6 +74,7 @@ has_bad_call c v = has_bad_call_as c v (kind_of (kind c v))
 abbrev pub condition_arcs : Chart → ℕ → List ℕ
 condition_arcs c v = if is c CONDITION v then arcs c v else []
 
+-- condition v, where marks spread along conditions come back
 abbrev pub is_on_circle : Chart → ℕ → Bool
 is_on_circle c v = is c CONDITION v && is_marked (nodes_joined_from (size c) (condition_arcs c) (arcs c v)) v
 
@@ -76,6 +82,7 @@ is_on_circle c v = is c CONDITION v && is_marked (nodes_joined_from (size c) (co
 abbrev pub is_cut_off : Chart → ℕ → Bool
 is_cut_off c v = not (is_marked (nodes_joined_from (size c) (arcs c) (begin c (scheme c v) ∷ [])) v)
 
+-- in the order in which they are tried
 unfoldable pub chart_verdict : Chart → Verdict
 chart_verdict c =
     next (at_lowest BAD_FIELD (has_bad_field c) (size c)) λ _.

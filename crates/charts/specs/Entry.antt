@@ -13,6 +13,7 @@ use Rattle.charts.specs.Check.{chart_verdict}
 unfoldable pub read_verdict : List ℕ → Verdict
 read_verdict t = next (text_verdict CHART_TEXT t) λ _. chart_verdict (contents t)
 
+-- what the reader answers and leaves: the records, counted
 unfoldable pub read_chart : List ℕ → List ℕ → BufferOutcome
 read_chart t old = buffer_on (read_verdict t) RECORD (λ _. contents t) old
 
@@ -20,5 +21,6 @@ read_chart t old = buffer_on (read_verdict t) RECORD (λ _. contents t) old
 unfoldable pub write_verdict : Chart → Verdict
 write_verdict c = next (when BAD_LENGTH (is_bad_length RECORD RECORDS (length c))) λ _. chart_verdict c
 
+-- what the writer answers and leaves: the text, its characters counted
 unfoldable pub write_chart : Chart → List ℕ → BufferOutcome
 write_chart c old = buffer_on (write_verdict c) 1 (λ _. text_of c) old

@@ -10,6 +10,7 @@ pub data Kind : Type 0 where
   Function : Kind
   Unknown : Kind
 
+-- the kind by the byte that tells it
 abbrev pub kind_of : ℕ → Kind
 kind_of zero = Begin
 kind_of (suc zero) = End

@@ -12,15 +12,16 @@ ghost use Rattle.console.specs.Memory.{written_front, unwritten_rest, HasNoRoom}
 use std::alloc::Allocator;
 use std::io::{self, Cursor, ErrorKind, Read, Write};
 
+/// What gives bytes, and which errors it can have.
 pub trait Reader {
-    // The bytes that reads will give from here on, where they are known.
+    /// The bytes that reads will give from here on, where they are known.
     ghost remaining: { Self → Option (List ℕ) };
 
-    // The errors that a read can give.
+    /// The errors that a read can give.
     ghost fails: { Error → Type 0 };
 
-    // Reads some bytes to the front of the buffer, none only at the end of the input. What stands behind them stays, and after a
-    // failure all.
+    /// Reads some bytes to the front of the buffer, none only at the end of the input. What stands behind them stays, and after a
+    /// failure all.
     fn read_some(&mut self, buffer: &mut [u8]) -> io::Result<usize>
         ensures bound { ReadsAtMost result buffer.new }
         ensures bytes { ReadConsumes (remaining self.old) (remaining self.new) result buffer.new }
@@ -29,17 +30,18 @@ pub trait Reader {
         ensures error { IfErr result fails };
 }
 
+/// What takes bytes, and which errors it can have.
 pub trait Writer {
-    // The bytes that the writer holds, where they are known.
+    /// The bytes that the writer holds, where they are known.
     ghost contents: { Self → Option (List ℕ) };
 
-    // The bytes that writes will go over from here on, where they are known.
+    /// The bytes that writes will go over from here on, where they are known.
     ghost overwritten: { Self → Option (List ℕ) };
 
-    // The errors that can come before so many bytes are written.
+    /// The errors that can come before so many bytes are written.
     ghost fails: { Self → ℕ → Error → Type 0 };
 
-    // Writes a front of the text, at least a byte of it unless it is empty, over as many bytes and no others.
+    /// Writes a front of the text, at least a byte of it unless it is empty, over as many bytes and no others.
     fn write_some(&mut self, text: &[u8]) -> io::Result<usize>
         ensures bound { WritesAtMost result text.now }
         ensures bytes { WriteAppends (contents self.old) (contents self.new) result text.now }
@@ -88,7 +90,8 @@ impl Writer for Cursor<&mut [u8]> {
 fn at_least_one(written: io::Result<usize>, text: &[u8]) -> io::Result<usize>
     ensures same { IfOk result (λ n. written ≡ Ok n) }
     ensures some { IfOk result (λ n. 0 < length text.now → 0 < n) }
-    ensures none { OnErr result (IfOk written (λ n. (n ≡ 0) × (0 < length text.now))) }
+    ensures none { OnErr result (IfOk written (λ n. n ≡ 0)) }
+    ensures unless_empty { OnErr result (IfOk written (λ _. 0 < length text.now)) }
 {
     match written {
         Ok(0) if !text.is_empty() => Err(io::Error::new(
@@ -102,13 +105,14 @@ fn at_least_one(written: io::Result<usize>, text: &[u8]) -> io::Result<usize>
 // How many bytes are asked of a reader at once.
 const CHUNK: usize = 4096;
 
-// A reader or a writer of the library's, which may fail at any time.
+/// A reader or a writer of the library's, which may fail at any time.
 #[derive(Drop)]
 pub struct Stream<S> {
     inner: S,
 }
 
 impl<S> Stream<S> {
+    /// Over a reader or a writer.
     pub fn new(inner: S) -> Stream<S>
         ensures { result.inner ≡ inner }
     {

@@ -1,16 +1,16 @@
 -- 23 by sizes says what 23 says: the words that the rows of a label match, counted word by word and row by row, are as many.
-use Rattle.std.proofs.Common.{if◌then◌else◌, ℕ, zero, suc, ◌+◌, ◌-◌, ◌^◌, ◌≤◌, ◌<◌, Bool, true, false, ◌&&◌, ◌||◌, not, ◌≡◌, refl, sym, ◌∙◌}
-use Rattle.std.proofs.Common.{ap, ap₂, List, [], ◌∷◌, arith, eqb, length, get_or, eqb-true, eq-eqb}
+use Rattle.std.proofs.Common.{if◌then◌else◌, ℕ, zero, suc, ◌+◌, ◌-◌, ◌^◌, ◌≤◌, ◌<◌, Bool, true, false, ◌&&◌, ◌||◌, not, ◌≡◌, refl, sym, ◌∙◌, ◌==◌, slice_index_or, filter}
+use Rattle.std.proofs.Common.{ap, ap₂, List, [], ◌∷◌, arith, length, eqb-true, eq-eqb}
 use lib.Count.{ones}
 use Rattle.std.proofs.lemmas.Grind.{common_steps}
 use Rattle.words.specs.lists.Numbers.{any, count, sum}
-use Rattle.words.specs.lists.Sequences.{filter, All}
-use Rattle.words.proofs.lists.Tests.{no_both, and_l, and_r, and-true, or_l, or_r, or-none, not-false, bit-low}
-use Rattle.words.proofs.lists.Searches.{sum-shift, any_false, any_none}
-use Rattle.words.proofs.lists.Counts.{count-alike, count_none}
+use Rattle.std.specs.List.{AllByRecursion}
+use Rattle.words.proofs.lists.Tests.{no_both, and-l, and-r, and-true, or-l, or-r, or-none, not-false, bit-low}
+use Rattle.words.proofs.lists.Searches.{sum-shift, any-false, any-none}
+use Rattle.words.proofs.lists.Counts.{count-alike, count-none}
 use Rattle.words.proofs.lists.Ranges.{filter-yes, filter-no}
-use Rattle.words.proofs.lists.Filters.{filter_none, one_passes, few-pass}
-use Rattle.words.proofs.lists.Sums.{sum-suc, sum-none, sum-zero, sum_ones, sum-full, sum-add}
+use Rattle.words.proofs.lists.Filters.{filter-none, one-passes, few-pass}
+use Rattle.words.proofs.lists.Sums.{sum-suc, sum-none, sum-zero, sum-ones, sum-full, sum-add}
 use Rattle.words.proofs.lists.Joins.{all-places}
 use Rattle.words.specs.bits.Word.{is_agreeing}
 use Rattle.image.specs.Image.{Image, Row, no_row, nth_row}
@@ -21,12 +21,12 @@ use Rattle.covering.specs.inner.Sizes.{is_overlap, has_overlap, words_matched, c
 use Rattle.covering.specs.Common.{Common}
 use Rattle.covering.proofs.Together.{common-together, together-common, together-turned}
 use Rattle.covering.proofs.Hits.{even-low, even-of}
-use Rattle.covering.proofs.WordCount.{words_count}
+use Rattle.covering.proofs.WordCount.{words-count}
 
 -- ---- words and rows
 module _ (l b : ℕ) where
   abbrev asks : Row → Bool
-  asks r = eqb r.from l && (eqb r.bit 2 || eqb r.bit b)
+  asks r = r.from == l && (r.bit == 2 || r.bit == b)
 
   abbrev kept : List Row → ℕ → ℕ
   kept rs w = length (filter (is_candidate l w b) rs)
@@ -44,13 +44,13 @@ module _ (l b : ℕ) where
       go : (t : Bool) → asks r ≡ t → count (λ w. is_candidate l w b r) 0 65536 ≡ (if asks r then 2 ^ (16 - ones r.care) else 0)
       go true e =
           count-alike (λ w. is_agreeing w r.care r.values) (λ w. is_candidate l w b r) 0 65536 (λ w m k.
-          split-own (eqb r.from l) (is_agreeing w r.care r.values) (eqb r.bit 2 || eqb r.bit b)
+          split-own (r.from == l) (is_agreeing w r.care r.values) (r.bit == 2 || r.bit == b)
           ∙ ap (λ (t : Bool). if t then is_agreeing w r.care r.values else false) e)
-          ∙ words_count 16 r.care r.values s.cares s.within
+          ∙ words-count 16 r.care r.values s.cares s.within
           ∙ sym (ap (λ (t : Bool). if t then 2 ^ (16 - ones r.care) else 0) e)
       go false e =
-          count_none (λ w. is_candidate l w b r) 0 65536 (λ w m k.
-          split-own (eqb r.from l) (is_agreeing w r.care r.values) (eqb r.bit 2 || eqb r.bit b)
+          count-none (λ w. is_candidate l w b r) 0 65536 (λ w m k.
+          split-own (r.from == l) (is_agreeing w r.care r.values) (r.bit == 2 || r.bit == b)
           ∙ ap (λ (t : Bool). if t then is_agreeing w r.care r.values else false) e)
           ∙ sym (ap (λ (t : Bool). if t then 2 ^ (16 - ones r.care) else 0) e)
 
@@ -58,19 +58,19 @@ module _ (l b : ℕ) where
   kept_more r rs w = grind (arith, common_steps, filter-yes, filter-no)
 
   -- word by word, row by row
-  all_words : (i : Image) (rs : List Row) → All (SoundRow i) rs
-      → sum (kept rs) 0 65536 ≡ sum (λ k. words_matched l b (get_or rs k no_row)) 0 (length rs)
+  all_words : (i : Image) (rs : List Row) → AllByRecursion (SoundRow i) rs
+      → sum (kept rs) 0 65536 ≡ sum (λ k. words_matched l b (slice_index_or rs k no_row)) 0 (length rs)
   all_words i [] a =
-      sum-zero (kept []) 0 65536 (λ w m k. ap (λ (xs : List Row). length xs) (filter_none (is_candidate l w b)))
-      ∙ sym (sum-none (λ k. words_matched l b (get_or [] k no_row)) 0)
+      sum-zero (kept []) 0 65536 (λ w m k. ap (λ (xs : List Row). length xs) (filter-none (is_candidate l w b)))
+      ∙ sym (sum-none (λ k. words_matched l b (slice_index_or [] k no_row)) 0)
   all_words i (r ∷ rs) a =
       sum-add (λ w. is_candidate l w b r) (kept (r ∷ rs)) (kept rs) (kept_more r rs) 0 65536
       ∙ ap₂ ◌+◌ (row_words {i = i} r a.0) (all_words i rs a.1)
-      ∙ sym (sum-suc (λ k. words_matched l b (get_or (r ∷ rs) k no_row)) 0 (length rs)
-      ∙ ap (λ (x : ℕ). words_matched l b r + x) (sum-shift (λ k. words_matched l b (get_or (r ∷ rs) k no_row)) 0 (length rs)))
+      ∙ sym (sum-suc (λ k. words_matched l b (slice_index_or (r ∷ rs) k no_row)) 0 (length rs)
+      ∙ ap (λ (x : ℕ). words_matched l b r + x) (sum-shift (λ k. words_matched l b (slice_index_or (r ∷ rs) k no_row)) 0 (length rs)))
 
 module _ (i : Image) (S : SoundImage i) where
-  pub sound-rows : All (SoundRow i) i.rows
+  pub sound-rows : AllByRecursion (SoundRow i) i.rows
   sound-rows = all-places (SoundRow i) no_row i.rows S.each
 
   words_are : (l b : ℕ) → sum (λ w. hits i l w b) 0 65536 ≡ covered_count i l b
@@ -97,12 +97,12 @@ module _ (i : Image) (S : SoundImage i) where
               let C : Common r s = together-common r s (S.each j hj) (S.each k hk) e in
               let b : ℕ = (if C.bit then 1 else 0) in
               let few : hits i l C.word b ≡ 1 = one C.word b C.low (bit-low C.bit) in
-              absurd (n (one_passes (is_candidate l C.word b) no_row i.rows (omega arith) j k hj hk
-              (and-true (eqb r.from l) (is_match C.word b r) (eq-eqb r.from l p) C.first)
-              (and-true (eqb s.from l) (is_match C.word b s) (eq-eqb s.from l q) C.second)))
+              absurd (n (one-passes (is_candidate l C.word b) no_row i.rows (omega arith) j k hj hk
+              (and-true (r.from == l) (is_match C.word b r) (eq-eqb r.from l p) C.first)
+              (and-true (s.from == l) (is_match C.word b s) (eq-eqb s.from l q) C.second)))
 
       pub full : (b : ℕ) → b < 2 → covered_count i l b ≡ 65536
-      full b h = sym (words_are l b) ∙ sum_ones (λ w. hits i l w b) 0 65536 (λ w a k. one w b (omega arith) h)
+      full b h = sym (words_are l b) ∙ sum-ones (λ w. hits i l w b) 0 65536 (λ w a k. one w b (omega arith) h)
 
     -- ---- where no two rows of label l can match together
     module _ (apart : (j k : ℕ) → j < length i.rows → k < j → (nth_row i j).from ≡ l → (nth_row i k).from ≡ l
@@ -113,9 +113,9 @@ module _ (i : Image) (S : SoundImage i) where
           let s : Row = nth_row i k in
           no_both (is_together r s)
           (common-together r s w b (S.each j hj).small (S.each k (omega arith)).small
-          (and_r (eqb r.from l) (is_match w b r) p) (and_r (eqb s.from l) (is_match w b s) q))
-          (apart j k hj hk (eqb-true r.from l (and_l (eqb r.from l) (is_match w b r) p))
-          (eqb-true s.from l (and_l (eqb s.from l) (is_match w b s) q))))
+          (and-r (r.from == l) (is_match w b r) p) (and-r (s.from == l) (is_match w b s) q))
+          (apart j k hj hk (eqb-true r.from l (and-l (r.from == l) (is_match w b r) p))
+          (eqb-true s.from l (and-l (s.from == l) (is_match w b s) q))))
 
       -- and where their sizes sum up to all words
       one_hit : (b : ℕ) → covered_count i l b ≡ 65536 → (w : ℕ) → w < 65536 → hits i l w b ≡ 1
@@ -135,25 +135,25 @@ module _ (i : Image) (S : SoundImage i) where
 
   sizes-even : is_uneven i ≡ false → is_uneven_by_sizes i ≡ false
   unfolding is_uneven_by_sizes has_overlap
-  sizes-even e = grind (arith, common_steps, any_none, or-none, no-overlap, no_gaps)
+  sizes-even e = grind (arith, common_steps, any-none, or-none, no-overlap, no_gaps)
 
   even-sizes : is_uneven_by_sizes i ≡ false → is_uneven i ≡ false
   unfolding is_uneven_by_sizes has_overlap
   even-sizes e = even-of i (λ l w b low high hw hb.
       let x : Bool = has_overlap i in
       let y : Bool = any (has_gap i) 2 (length i.labels - 2) in
-      let g : has_gap i l ≡ false = any_false (has_gap i) 2 (length i.labels - 2) (or_r x y e) l low (omega arith) in
-      let g₀ : Bool = eqb (covered_count i l 0) 65536 in
-      let g₁ : Bool = eqb (covered_count i l 1) 65536 in
+      let g : has_gap i l ≡ false = any-false (has_gap i) 2 (length i.labels - 2) (or-r x y e) l low (omega arith) in
+      let g₀ : Bool = covered_count i l 0 == 65536 in
+      let g₁ : Bool = covered_count i l 1 == 65536 in
       one-hits l (λ j k hj hk p q.
       let u : any (λ k. is_overlap (nth_row i k) (nth_row i j)) 0 j ≡ false =
-      any_false (λ j. any (λ k. is_overlap (nth_row i k) (nth_row i j)) 0 j) 0 (length i.rows) (or_l x y e) j (omega arith) (omega arith) in
+      any-false (λ j. any (λ k. is_overlap (nth_row i k) (nth_row i j)) 0 j) 0 (length i.rows) (or-l x y e) j (omega arith) (omega arith) in
       let v : is_overlap (nth_row i k) (nth_row i j) ≡ false =
-      any_false (λ k. is_overlap (nth_row i k) (nth_row i j)) 0 j u k (omega arith) (omega arith) in
+      any-false (λ k. is_overlap (nth_row i k) (nth_row i j)) 0 j u k (omega arith) (omega arith) in
       together-turned (nth_row i k) (nth_row i j) (sym (ap (λ (t : Bool). t && is_together (nth_row i k) (nth_row i j))
       (eq-eqb (nth_row i k).from (nth_row i j).from (q ∙ sym p))) ∙ v))
-      (eqb-true (covered_count i l 0) 65536 (not-false g₀ (or_l (not g₀) (not g₁) g)))
-      (eqb-true (covered_count i l 1) 65536 (not-false g₁ (or_r (not g₀) (not g₁) g)))
+      (eqb-true (covered_count i l 0) 65536 (not-false g₀ (or-l (not g₀) (not g₁) g)))
+      (eqb-true (covered_count i l 1) 65536 (not-false g₁ (or-r (not g₀) (not g₁) g)))
       w b hw hb)
 
   -- 23 is decided by the sizes

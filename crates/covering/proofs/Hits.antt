@@ -1,12 +1,12 @@
 -- Where 23 does not apply, each label from 2 up has just one row for each word and bit, and the machine takes it.
-use Rattle.std.proofs.Common.{if◌then◌else◌, ℕ, suc, ◌-◌, ◌%◌, ◌≤◌, ◌<◌, Bool, true, false, ◌&&◌, not, ◌≡◌, refl, sym, ◌∙◌, ap, List, []}
-use Rattle.std.proofs.Common.{◌∷◌, arith, eqb, length, get_or, eqb-true, eq-eqb}
+use Rattle.std.proofs.Common.{if◌then◌else◌, ℕ, suc, ◌-◌, ◌%◌, ◌≤◌, ◌<◌, Bool, true, false, ◌&&◌, not, ◌≡◌, refl, sym, ◌∙◌, ap, List, [], ◌==◌, slice_index_or, filter}
+use Rattle.std.proofs.Common.{◌∷◌, arith, length, eqb-true, eq-eqb}
 use Rattle.std.proofs.lemmas.Grind.{common_steps}
-use Rattle.words.specs.lists.Sequences.{filter, All}
+use Rattle.std.specs.List.{AllByRecursion}
 use Rattle.words.proofs.lists.Tests.{not-false, bit-low}
-use Rattle.words.proofs.lists.Searches.{any_false, any_none}
+use Rattle.words.proofs.lists.Searches.{any-false, any-none}
 use Rattle.words.proofs.lists.Ranges.{filter-yes, filter-no}
-use Rattle.words.proofs.lists.Filters.{filter_none, one_passes}
+use Rattle.words.proofs.lists.Filters.{filter-none, one-passes}
 use Rattle.words.proofs.lists.Joins.{all-places}
 use Rattle.image.specs.Image.{Image, Row, no_row}
 use Rattle.image.specs.inner.Sound.{SoundImage}
@@ -29,10 +29,10 @@ module _ (l w b : ℕ) where
       go false q ih = best-other l w b k r rs q ∙ ih (sym (filter-no (is_candidate l w b) r rs q) ∙ e) (suc k)
 
   -- it is the one that a label takes; nothing else is used of how a label chooses among its rows
-  pub only_row : (s : Row) (k : ℕ) (rs : List Row) → filter (is_candidate l w b) rs ≡ s ∷ [] → lead_of (best_row l w b k rs) ≡ found s.next
-  only_row s k [] e = absurd (let q : [] ≡ s ∷ [] = sym (filter_none (is_candidate l w b))
+  pub only-row : (s : Row) (k : ℕ) (rs : List Row) → filter (is_candidate l w b) rs ≡ s ∷ [] → lead_of (best_row l w b k rs) ≡ found s.next
+  only-row s k [] e = absurd (let q : [] ≡ s ∷ [] = sym (filter-none (is_candidate l w b))
       ∙ e in let z : ◌≡◌ {A = ℕ} 0 1 = cc in omega arith)
-  only_row s k (r ∷ rs) e = go (is_candidate l w b r) refl (only_row s (suc k) rs)
+  only-row s k (r ∷ rs) e = go (is_candidate l w b r) refl (only-row s (suc k) rs)
     where
       go : (t : Bool) → is_candidate l w b r ≡ t
           → (filter (is_candidate l w b) rs ≡ s ∷ [] → lead_of (best_row l w b (suc k) rs) ≡ found s.next)
@@ -49,12 +49,12 @@ module _ (l w b : ℕ) where
   pub record Hit (s : Row) (rs : List Row) : Type 0 where
     pub place : ℕ
     pub inside : place < length rs
-    pub is : get_or rs place no_row ≡ s
-    pub holding : is_candidate l w b (get_or rs place no_row) ≡ true
+    pub is : slice_index_or rs place no_row ≡ s
+    pub holding : is_candidate l w b (slice_index_or rs place no_row) ≡ true
 
   pub the-place : (s : Row) (rs : List Row) → filter (is_candidate l w b) rs ≡ s ∷ [] → Hit s rs
   the-place s [] e =
-      absurd (let q : [] ≡ s ∷ [] = sym (filter_none (is_candidate l w b)) ∙ e in let z : ◌≡◌ {A = ℕ} 0 1 = cc in omega arith)
+      absurd (let q : [] ≡ s ∷ [] = sym (filter-none (is_candidate l w b)) ∙ e in let z : ◌≡◌ {A = ℕ} 0 1 = cc in omega arith)
   the-place s (r ∷ rs) e = go (is_candidate l w b r) refl (the-place s rs)
     where
       go : (t : Bool) → is_candidate l w b r ≡ t → (filter (is_candidate l w b) rs ≡ s ∷ [] → Hit s rs) → Hit s (r ∷ rs)
@@ -67,23 +67,23 @@ module _ (l w b : ℕ) where
 
   -- a row that matches is the only one
   pub hit-is : (s : Row) (rs : List Row) → filter (is_candidate l w b) rs ≡ s ∷ [] → (j : ℕ)
-      → j < length rs → is_candidate l w b (get_or rs j no_row) ≡ true
-      → get_or rs j no_row ≡ s
+      → j < length rs → is_candidate l w b (slice_index_or rs j no_row) ≡ true
+      → slice_index_or rs j no_row ≡ s
   hit-is s rs e j h t =
       let x : Hit s rs = the-place s rs e in
       let few : length (filter (is_candidate l w b) rs) ≤ 1 = omega (arith, ap (λ (xs : List Row). length xs) e) in
-      ap (λ (k : ℕ). get_or rs k no_row) (one_passes (is_candidate l w b) no_row rs few j x.place h x.inside t x.holding) ∙ x.is
+      ap (λ (k : ℕ). slice_index_or rs k no_row) (one-passes (is_candidate l w b) no_row rs few j x.place h x.inside t x.holding) ∙ x.is
 
 -- words above 16 bits are as their low 16 bits
 module _ (l w b : ℕ) where
   low_alike : (r : Row) → r.care < 65536 → is_candidate l w b r ≡ is_candidate l (w % 65536) b r
-  low_alike r h = ap (λ (t : Bool). eqb r.from l && t) (matches-low w b r h)
+  low_alike r h = ap (λ (t : Bool). r.from == l && t) (matches-low w b r h)
 
-  pub low-hits : (rs : List Row) → All (λ r. r.care < 65536) rs → filter (is_candidate l w b) rs ≡ filter (is_candidate l (w % 65536) b) rs
-  low-hits [] a = grind (arith, common_steps, filter_none)
+  pub low-hits : (rs : List Row) → AllByRecursion (λ r. r.care < 65536) rs → filter (is_candidate l w b) rs ≡ filter (is_candidate l (w % 65536) b) rs
+  low-hits [] a = grind (arith, common_steps, filter-none)
   low-hits (r ∷ rs) a = grind (arith, common_steps, low-hits rs a.1, filter-yes, filter-no, low_alike)
 
-pub all-cares : (i : Image) → SoundImage i → All (λ r. r.care < 65536) i.rows
+pub all-cares : (i : Image) → SoundImage i → AllByRecursion (λ r. r.care < 65536) i.rows
 all-cares i S = all-places (λ r. r.care < 65536) no_row i.rows (λ k h. (S.each k h).cares)
 
 -- ---- 23 does not apply: every word and bit, of any size, match one row of each label from 2 up
@@ -93,20 +93,20 @@ OneRow i = (l w : ℕ) (b : Bool) → 2 ≤ l → l < length i.labels → hits i
 module _ (i : Image) where
   pub label-low : (l : ℕ) → is_uneven_label i l ≡ false → (w b : ℕ) → w < 65536 → b < 2 → hits i l w b ≡ 1
   label-low l e w b hw hb =
-      let y : is_uneven_word i l w ≡ false = any_false (is_uneven_word i l) 0 65536 e w (omega arith) (omega arith) in
-      eqb-true (hits i l w b) 1 (not-false (eqb (hits i l w b) 1)
-      (any_false (λ b. not (eqb (hits i l w b) 1)) 0 2 y b (omega arith) (omega arith)))
+      let y : is_uneven_word i l w ≡ false = any-false (is_uneven_word i l) 0 65536 e w (omega arith) (omega arith) in
+      eqb-true (hits i l w b) 1 (not-false (hits i l w b == 1)
+      (any-false (λ b. not (hits i l w b == 1)) 0 2 y b (omega arith) (omega arith)))
 
   pub label_of : (l : ℕ) → ((w b : ℕ) → w < 65536 → b < 2 → hits i l w b ≡ 1) → is_uneven_label i l ≡ false
-  label_of l h = grind (arith, common_steps, any_none, eq-eqb)
+  label_of l h = grind (arith, common_steps, any-none, eq-eqb)
 
   pub even-low : is_uneven i ≡ false → (l w b : ℕ) → 2 ≤ l → l < length i.labels → w < 65536 → b < 2 → hits i l w b ≡ 1
   unfolding is_uneven
-  even-low e l w b low high = label-low l (any_false (is_uneven_label i) 2 (length i.labels - 2) e l low (omega arith)) w b
+  even-low e l w b low high = label-low l (any-false (is_uneven_label i) 2 (length i.labels - 2) e l low (omega arith)) w b
 
   pub even-of : ((l w b : ℕ) → 2 ≤ l → l < length i.labels → w < 65536 → b < 2 → hits i l w b ≡ 1) → is_uneven i ≡ false
   unfolding is_uneven
-  even-of h = grind (arith, common_steps, any_none, label_of)
+  even-of h = grind (arith, common_steps, any-none, label_of)
 
   -- the row itself
   pub the_row : OneRow i → (l w : ℕ) (b : Bool) → 2 ≤ l → l < length i.labels

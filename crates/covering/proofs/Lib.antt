@@ -6,3 +6,4 @@ pub mod LabelRows
 pub mod CoverCases
 pub mod LoopCases
 pub mod Tables
+pub mod Chains

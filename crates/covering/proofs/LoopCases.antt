@@ -1,16 +1,18 @@
 -- 23 label by label: the loop over the labels, whose rows stand one after the other.
-use Rattle.std.proofs.Common.{ℕ, ◌+◌, ◌-◌, ◌≤◌, ◌<◌, ◌≡◌, sym, ◌∙◌, ap, Bool, true, false, List, arith, eqb-true, eq-eqb, eqb}
+use Rattle.std.proofs.Common.{ℕ, ◌+◌, ◌-◌, ◌≤◌, ◌<◌, ◌≡◌, sym, ◌∙◌, ap, Bool, true, false, List, arith, eqb-true, eq-eqb, Option, find, unwrap_or, ◌==◌}
 use Rattle.std.proofs.lemmas.Grind.{common_steps}
+use Rattle.std.specs.List.{range_with_len}
 use Rattle.words.specs.lists.Numbers.{any, lowest}
 use Rattle.words.proofs.lists.Tests.{no_both, not-false, not-true, split}
-use Rattle.words.proofs.lists.Searches.{any_here, any-on, any-over, lowest-hit, lowest-above, lowest-most, lowest-before}
+use Rattle.words.proofs.lists.Searches.{any-here, any-on, any-over, lowest-hit, lowest-above, lowest-most, lowest-before}
 use Rattle.text.specs.frames.Frame.{size, field}
 use Rattle.image.specs.Decode.{last_label, rows_from, decoded_image}
 use Rattle.image.proofs.Accepted.{labels-count, rows-count}
 use Rattle.image.proofs.Rising.{rises-on}
 use Rattle.covering.specs.Matched.{is_uneven_label, is_uneven}
 use Rattle.covering.specs.inner.CoveringContracts.{SoundTable, has_uneven_rows, is_other}
-use Rattle.covering.proofs.LabelRows.{from_low, rows-decide}
+use Rattle.covering.proofs.Chains.{lowest-chain}
+use Rattle.covering.proofs.LabelRows.{from-low, rows-decide}
 
 -- labels below l are tried, and the rows of the others begin at frame first
 pub record Trying (b : List ℕ) (last first l : ℕ) : Type 0 where
@@ -25,23 +27,31 @@ pub record Trying (b : List ℕ) (last first l : ℕ) : Type 0 where
   pub after : (f : ℕ) → first ≤ f → f < size b → l ≤ field b f 1
   pub left : any (is_uneven_label (decoded_image b)) l (last + 1 - l) ≡ is_uneven (decoded_image b)
 
-pub trying_start : (b : List ℕ) → SoundTable b → (last first : ℕ) → last ≡ last_label b → first ≡ rows_from b → Trying b last first 2
+pub trying-start : (b : List ℕ) → SoundTable b → (last first : ℕ) → last ≡ last_label b → first ≡ rows_from b → Trying b last first 2
 unfolding is_uneven
-trying_start b T last first e q = grind (arith, common_steps, from_low, labels-count)
+trying-start b T last first e q = grind (arith, common_steps, from-low, labels-count)
 
-module _ (b : List ℕ) (last first l : ℕ) (t : Trying b last first l) (h : l ≤ last) (end : ℕ)
-    (e : end ≡ lowest (is_other b l) first (size b - first)) where
+-- the first row behind those of a label is of a label above
+behind : (b : List ℕ) (l first end : ℕ) → end ≡ lowest (is_other b l) first (size b - first) → first ≤ end
+    → ((f : ℕ) → first ≤ f → f < size b → l ≤ field b f 1) → end < size b → l < field b end 1
+behind b l first end e from after h = grind (arith, common_steps, not-true, lowest-hit, eq-eqb, no_both)
+
+module _ (b : List ℕ) (last first l : ℕ) (t : Trying b last first l) (h : l ≤ last) (other : Option ℕ)
+    (found : other ≡ find (is_other b l) (range_with_len first (size b - first))) (end : ℕ) (or-all : end ≡ unwrap_or other (size b)) where
   abbrev n : ℕ
   n = end - first
 
   first_to : first ≤ size b
   first_to = t.to
 
+  e : end ≡ lowest (is_other b l) first (size b - first)
+  e = grind (arith, common_steps, lowest-chain (is_other b l) first (size b - first), first_to)
+
   first-from : rows_from b ≤ first
   first-from = t.from
 
-  pub end_after : first ≤ end
-  end_after = omega (arith, e, lowest-above (is_other b l) first (size b - first))
+  pub end-after : first ≤ end
+  end-after = omega (arith, e, lowest-above (is_other b l) first (size b - first))
 
   pub end-inside : end ≤ size b
   end-inside = omega (arith, e, first_to, lowest-most (is_other b l) first (size b - first))
@@ -51,11 +61,7 @@ module _ (b : List ℕ) (last first l : ℕ) (t : Trying b last first l) (h : l 
 
   own : (f : ℕ) → first ≤ f → f < end → field b f 1 ≡ l
   own f p q = eqb-true (field b f 1) l
-      (not-false (eqb (field b f 1) l) (lowest-before (is_other b l) first (size b - first) f p (omega (arith, e))))
-
-  -- the first row behind them is of a label above
-  behind : end < size b → l < field b end 1
-  behind q = grind (arith, common_steps, not-true, lowest-hit, eq-eqb, no_both, first_to, end_after)
+      (not-false (field b f 1 == l) (lowest-before (is_other b l) first (size b - first) f p (omega (arith, e))))
 
   beyond : (f : ℕ) → end ≤ f → f < size b → l < field b f 1
   beyond f p q =
@@ -63,19 +69,19 @@ module _ (b : List ℕ) (last first l : ℕ) (t : Trying b last first l) (h : l 
       omega (
         arith,
         same,
-        behind (omega arith),
-        rises-on b t.table.all t.table.image end (f - end) (omega (arith, end_after, first-from)) (omega arith),
+        behind b l first end e end-after t.after (omega arith),
+        rises-on b t.table.all t.table.image end (f - end) (omega (arith, end-after, first-from)) (omega arith),
       )
 
-  label_is : has_uneven_rows b first n ≡ is_uneven_label (decoded_image b) l
-  label_is = grind (arith, common_steps, rows-decide, split, first-from, end_after, end-inside, own, beyond)
+  label-is : has_uneven_rows b first n ≡ is_uneven_label (decoded_image b) l
+  label-is = grind (arith, common_steps, rows-decide, split, first-from, end-after, end-inside, own, beyond)
 
   module _ (u : Bool) (g : u ≡ has_uneven_rows b first (end - first)) where
     pub trying-hit : u ≡ true → true ≡ is_uneven (decoded_image b)
-    trying-hit z = sym (any_here (is_uneven_label (decoded_image b)) (last + 1) l (omega arith) (sym label_is ∙ sym g ∙ z)) ∙ t.left
+    trying-hit z = sym (any-here (is_uneven_label (decoded_image b)) (last + 1) l (omega arith) (sym label-is ∙ sym g ∙ z)) ∙ t.left
 
     pub trying-on : u ≡ false → Trying b last end (l + 1)
-    trying-on z = grind (arith, common_steps, split, any-on, first-from, end_after, end-inside, own, beyond, label_is)
+    trying-on z = grind (arith, common_steps, split, any-on, first-from, end-after, end-inside, own, beyond, label-is)
 
 pub trying-over : (b : List ℕ) (last first l : ℕ) → Trying b last first l → last < l → false ≡ is_uneven (decoded_image b)
 trying-over b last first l t h = sym (any-over (is_uneven_label (decoded_image b)) (last + 1) l (omega arith)) ∙ t.left

@@ -1,5 +1,5 @@
 -- A table of an accepted image, as it is read and as it is prepared for ticks, is sound and holds the image that the text does.
-use Rattle.std.proofs.Common.{ℕ, ◌+◌, ◌<◌, ◌≡◌, sym, ◌∙◌, ap, ap₂, subst, List, map, arith, get_or}
+use Rattle.std.proofs.Common.{ℕ, ◌+◌, ◌<◌, ◌≡◌, sym, ◌∙◌, ap, ap₂, subst, List, map, arith, slice_index}
 use Rattle.std.proofs.lemmas.Grind.{common_steps}
 use Rattle.words.specs.lists.Numbers.{range}
 use Rattle.text.specs.frames.Frame.{contents}
@@ -35,7 +35,7 @@ module _ (b : List ℕ) where
       ∙ map-alike (row_in (noted_table b)) (row_in b) 0 (row_count b) (λ k _ _. row_same k) in
       λ j. record { handler = e₁ j; entries = e₂ j; labels = e₃ j; rows = e₄ j }
 
-  module _ (ok : table_verdict b ≡ fine) (bytes : (k : ℕ) → get_or b k 0 < 256) where
+  module _ (ok : table_verdict b ≡ fine) (bytes : (k : ℕ) → slice_index b k < 256) where
     pub noted-table : SoundTable (noted_table b)
     noted-table = record {
       image = subst SoundImage (sym noted-decoded) (accepted-sound b ok bytes);
@@ -43,8 +43,8 @@ module _ (b : List ℕ) where
     }
 
 module _ (t b : List ℕ) (made : MadeTable t b) where
-  pub made_table : SoundTable b
-  made_table = subst SoundTable (sym made.is)
+  pub made-table : SoundTable b
+  made-table = subst SoundTable (sym made.is)
       (noted-table (contents t) (image-table t made.accepted) (image-bytes t made.accepted))
 
   pub made-uneven : is_uneven (decoded_image b) ≡ is_uneven (decoded_image (contents t))

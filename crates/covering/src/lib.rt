@@ -2,8 +2,8 @@
 //! together, and for each bit the numbers of words that its rows match sum up to 65,536.
 #![tactic(auto)]
 
-ghost use Rattle.std.specs.Prelude.{◌≡◌, ◌||◌, ◌-◌, ◌≤◌, ◌<◌, eqb};
-ghost use Rattle.words.specs.lists.Numbers.{lowest};
+ghost use Rattle.std.specs.Prelude.{◌≡◌, ◌||◌, ◌-◌, ◌≤◌, ◌<◌, find, ◌==◌};
+ghost use Rattle.std.specs.List.{range_with_len};
 ghost use Rattle.text.specs.declared.frames.sizes.TheConstants.{ROWS};
 ghost use Rattle.text.specs.frames.Frame.{size};
 ghost use Rattle.image.specs.Decode.{decoded_image, row_in_frame};
@@ -27,9 +27,10 @@ fn meets(table: &[u8], g: usize, care: u16, values: u16, bit: u8) -> bool
     mine == other && (bit == NO_BIT || second == NO_BIT || bit == second)
 }
 
-// Whether some word and bit match the rows in frames f and g.
+/// Whether some word and bit match the rows in frames f and g of a table: by their care masks, values and function bits alone.
 pub fn are_together(table: &[u8], f: usize, g: usize) -> bool
-    requires { (f < size table.now) × (g < size table.now) }
+    requires first_inside { f < size table.now }
+    requires second_inside { g < size table.now }
     ensures { result ≡ is_together (row_in_frame table.now f) (row_in_frame table.now g) }
 {
     let care = pair(table, f, CARE);
@@ -40,36 +41,28 @@ pub fn are_together(table: &[u8], f: usize, g: usize) -> bool
 
 // Whether some word and bit match the row in frame f and one in the frames from first up to it.
 fn meets_before(table: &[u8], first: usize, f: usize) -> bool
-    requires { (first ≤ f) × (f < size table.now) }
+    requires in_order { first ≤ f }
+    requires inside { f < size table.now }
     ensures { result ≡ is_together_with_some table.now (row_in_frame table.now f) first (f - first) }
 {
     let care = pair(table, f, CARE);
     let values = pair(table, f, VALUES);
     let bit = byte(table, f, FUNCTION_BIT);
-    for g in first..f {
-        if meets(table, g, care, values, bit) {
-            return true;
-        }
-    }
-    false
+    (first..f).any(|g| meets(table, g, care, values, bit))
 }
 
 // Whether some word and bit match two of the rows in frames from first up to end.
 fn any_together(table: &[u8], first: usize, end: usize) -> bool
-    requires { (first ≤ end) × (end ≤ size table.now) }
+    requires in_order { first ≤ end }
+    requires inside { end ≤ size table.now }
     ensures { result ≡ has_any_together table.now first (end - first) }
 {
-    for f in first..end {
-        if meets_before(table, first, f) {
-            return true;
-        }
-    }
-    false
+    (first..end).any(|f| meets_before(table, first, f))
 }
 
 // Whether a row with this function bit may match with the bit.
 fn suits(only: u8, bit: u8) -> bool
-    ensures { result ≡ (eqb only NO_BIT || eqb only bit) }
+    ensures { result ≡ (only == NO_BIT || only == bit) }
 {
     only == NO_BIT || only == bit
 }
@@ -77,7 +70,8 @@ fn suits(only: u8, bit: u8) -> bool
 // How many words the row in frame f matches with a bit.
 fn words_of(table: &[u8], f: usize, bit: u8) -> u32
     requires { f < size table.now }
-    ensures { (result ≡ words_with bit (row_in_frame table.now f)) × (result ≤ 65536) }
+    ensures number { result ≡ words_with bit (row_in_frame table.now f) }
+    ensures most { result ≤ 65536 }
 {
     if !suits(byte(table, f, FUNCTION_BIT), bit) {
         return 0;
@@ -89,8 +83,9 @@ fn words_of(table: &[u8], f: usize, bit: u8) -> u32
 
 // The sum over the rows in frames from first up to end.
 fn words_in(table: &[u8], first: usize, end: usize, bit: u8) -> u32
-    requires first_le_end { (first ≤ end) × (end ≤ size table.now) }
-    requires first_bound { end - first ≤ ROWS }
+    requires in_order { first ≤ end }
+    requires inside { end ≤ size table.now }
+    requires few { end - first ≤ ROWS }
     ensures { result ≡ words_in table.now bit first (end - first) }
 {
     let mut total: u32 = 0;
@@ -103,8 +98,9 @@ fn words_in(table: &[u8], first: usize, end: usize, bit: u8) -> u32
 // Whether the rows in frames from first up to end, those of one label, leave a word out or match one twice. Pairs of rows are tried last:
 // they are the most.
 fn uneven_rows(table: &[u8], first: usize, end: usize) -> bool
-    requires first_le_end { (first ≤ end) × (end ≤ size table.now) }
-    requires first_bound { end - first ≤ ROWS }
+    requires in_order { first ≤ end }
+    requires inside { end ≤ size table.now }
+    requires few { end - first ≤ ROWS }
     ensures { result ≡ has_uneven_rows table.now first (end - first) }
 {
     words_in(table, first, end, 0) != 65536
@@ -112,31 +108,25 @@ fn uneven_rows(table: &[u8], first: usize, end: usize) -> bool
         || any_together(table, first, end)
 }
 
-// The first frame from f on without a row of the label, or the end of the table.
-fn rows_end(table: &[u8], f: usize, label: u8) -> usize
+// The first frame from f on without a row of the label, if there is one.
+fn rows_end(table: &[u8], f: usize, label: u8) -> Option<usize>
     requires { f ≤ size table.now }
-    ensures { result ≡ lowest (is_other table.now label) f (size table.now - f) }
+    ensures { result ≡ find (is_other table.now label) (range_with_len f (size table.now - f)) }
 {
-    let end = table.len() / FRAME;
-    let mut g = f;
-    while g < end {
-        if byte(table, g, FROM) != label {
-            return g;
-        }
-        g += 1;
-    }
-    g
+    (f..table.len() / FRAME).find(|g| byte(table, *g, FROM) != label)
 }
 
-// 23. The rows stand in the order of their labels, so those of a label begin where those of the label before end.
+/// Refusal 23: whether some label from 2 up leaves a word out, with one of the two bits, or has two rows for one. The rows stand in the order
+/// of their labels, so those of a label begin where those of the label before end.
 pub fn is_uneven(table: &[u8]) -> bool
     requires { SoundTable table.now }
     ensures { result ≡ is_uneven (decoded_image table.now) }
 {
     let last = byte(table, 0, LAST_LABEL) as usize;
+    let rows = table.len() / FRAME;
     let mut first = rows_from(table);
     for l in 2..last + 1 {
-        let end = rows_end(table, first, l as u8);
+        let end = rows_end(table, first, l as u8).unwrap_or(rows);
         if uneven_rows(table, first, end) {
             return true;
         }

@@ -71,8 +71,8 @@ bits-one (suc n) r s hr hs e =
 with-byte : (r x : ℕ) → Fits r → x < 256 → Fits (bit_xor r x)
 with-byte r x h b = xor_lt 32 r x h (omega arith)
 
-pub byte_fits : (r x : ℕ) → Fits r → x < 256 → Fits (after_byte r x)
-byte_fits r x h b = bits-fit 8 (bit_xor r x) (with-byte r x h b)
+pub byte-fits : (r x : ℕ) → Fits r → x < 256 → Fits (after_byte r x)
+byte-fits r x h b = bits-fit 8 (bit_xor r x) (with-byte r x h b)
 
 byte-one : (r s x y : ℕ) → Fits r → Fits s → x < 256 → y < 256 → after_byte r x ≡ after_byte s y → bit_xor r x ≡ bit_xor s y
 byte-one r s x y hr hs hx hy e = bits-one 8 (bit_xor r x) (bit_xor s y) (with-byte r x hr hx) (with-byte s y hs hy) e
@@ -83,16 +83,16 @@ first-byte x xs b = b 0 0 (omega arith)
 later-bytes : (x : ℕ) (xs : List ℕ) → Bytes (x ∷ xs) → Bytes xs
 later-bytes x xs b k d h = b (suc k) d (omega arith)
 
-pub bytes_fit : (r : ℕ) (xs : List ℕ) → Fits r → Bytes xs → Fits (fold after_byte r xs)
-bytes_fit r [] h b = h
-bytes_fit r (x ∷ xs) h b = bytes_fit (after_byte r x) xs (byte_fits r x h (first-byte x xs b)) (later-bytes x xs b)
+pub bytes-fit : (r : ℕ) (xs : List ℕ) → Fits r → Bytes xs → Fits (fold after_byte r xs)
+bytes-fit r [] h b = h
+bytes-fit r (x ∷ xs) h b = bytes-fit (after_byte r x) xs (byte-fits r x h (first-byte x xs b)) (later-bytes x xs b)
 
 bytes-one : (r s : ℕ) (xs : List ℕ) → Fits r → Fits s → Bytes xs → fold after_byte r xs ≡ fold after_byte s xs → r ≡ s
 bytes-one r s [] hr hs b e = e
 bytes-one r s (x ∷ xs) hr hs b e =
     let small : x < 256 = first-byte x xs b in
     xor-left r s x (byte-one r s x x hr hs small small
-    (bytes-one (after_byte r x) (after_byte s x) xs (byte_fits r x hr small) (byte_fits s x hs small) (later-bytes x xs b) e))
+    (bytes-one (after_byte r x) (after_byte s x) xs (byte-fits r x hr small) (byte-fits s x hs small) (later-bytes x xs b) e))
 
 fold-on : (r : ℕ) (xs ys : List ℕ) → fold after_byte r (xs ++ ys) ≡ fold after_byte (fold after_byte r xs) ys
 fold-on r [] ys = refl
@@ -109,7 +109,7 @@ pub goes-on : GoesOn
 unfolding crc
 goes-on s xs ys b =
     let r : ℕ = fold after_byte (turned s) xs in
-    let small : Fits r = bytes_fit (turned s) xs (begun s) b in
+    let small : Fits r = bytes-fit (turned s) xs (begun s) b in
     let back : turned (turned r) ≡ r = omega arith in
     ap turned (ap (λ (q : ℕ). fold after_byte q ys) back ∙ sym (fold-on (turned s) xs ys))
 
@@ -117,12 +117,12 @@ pub tells-change : TellsChange
 unfolding crc
 tells-change s xs x y zs bx hx hy bz other e =
     let r : ℕ = fold after_byte (turned s) xs in
-    let small : Fits r = bytes_fit (turned s) xs (begun s) bx in
+    let small : Fits r = bytes-fit (turned s) xs (begun s) bx in
     let one : ℕ = after_byte r x in
     let two : ℕ = after_byte r y in
-    let first : Fits one = byte_fits r x small hx in
-    let second : Fits two = byte_fits r y small hy in
+    let first : Fits one = byte-fits r x small hx in
+    let second : Fits two = byte-fits r y small hy in
     let ends : fold after_byte one zs ≡ fold after_byte two zs =
-    turned-one (fold after_byte one zs) (fold after_byte two zs) (bytes_fit one zs first bz) (bytes_fit two zs second bz)
+    turned-one (fold after_byte one zs) (fold after_byte two zs) (bytes-fit one zs first bz) (bytes-fit two zs second bz)
     (ap turned (sym (fold-on (turned s) xs (x ∷ zs))) ∙ e ∙ ap turned (fold-on (turned s) xs (y ∷ zs))) in
     other (xor-right r x y (byte-one r r x y small small hx hy (bytes-one one two zs first second bz ends)))

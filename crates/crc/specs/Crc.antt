@@ -1,11 +1,12 @@
 -- CRC-32 (ISO-HDLC): division by a polynomial over bits, the lowest bit of each byte first, in a register of 32 bits.
-use Rattle.std.specs.Prelude.{ℕ, zero, suc, ◌-◌, ◌/◌, ◌%◌, List, bit_xor, eqb, fold, if◌then◌else◌}
+use Rattle.std.specs.Prelude.{ℕ, zero, suc, ◌-◌, ◌/◌, ◌%◌, List, bit_xor, fold, if◌then◌else◌, ◌==◌}
 use Rattle.crc.specs.declared.TheConstants.{POLYNOMIAL, BITS}
 
 -- the lowest bit falls out; where it is a 1 the polynomial is added, bit by bit without a carry
 abbrev pub after_bit : ℕ → ℕ
-after_bit r = if eqb (r % 2) 1 then bit_xor (r / 2) POLYNOMIAL else r / 2
+after_bit r = if r % 2 == 1 then bit_xor (r / 2) POLYNOMIAL else r / 2
 
+-- so many bits after one another
 unfoldable pub after_bits : ℕ → ℕ → ℕ
 after_bits zero r = r
 after_bits (suc n) r = after_bit (after_bits n r)

@@ -2,6 +2,7 @@
 use Rattle.std.specs.Prelude.{ℕ, ◌<◌, ◌≡◌, ◌≢◌, List, ◌∷◌, ◌++◌, All}
 use Rattle.crc.specs.Crc.{crc}
 
+-- all of them below 256
 abbrev pub Bytes : List ℕ → Type 0
 Bytes xs = All (λ x. x < 256) xs
 

@@ -1,1 +1,2 @@
 pub mod Patch
+pub mod Report

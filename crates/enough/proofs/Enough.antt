@@ -1,7 +1,7 @@
 -- With as many places as a chart needs, no call gets 17 or makes a drop: over the functions, and for C.
 use Rattle.std.proofs.Common.{ℕ, ◌≤◌, ◌≡◌, refl, sym, ◌∙◌, ap, ap₂, subst, List, [], ◌∷◌, map, arith}
 use Rattle.std.proofs.lemmas.Grind.{common_steps}
-use Rattle.words.specs.lists.Sequences.{All}
+use Rattle.std.specs.List.{AllByRecursion}
 use Rattle.bindings.specs.Binding.{own_binding}
 use Rattle.text.specs.frames.Frame.{contents}
 use Rattle.text.specs.frames.Verdict.{Verdict, fine, refused}
@@ -20,7 +20,7 @@ use Rattle.agreement.proofs.ForC.{delivered-c}
 use Rattle.agreement.proofs.Numbers.{Positive, translate-positive}
 use Rattle.enough.specs.Enough.{OwnServed, all_made, reply_of, IsDropless, AllMade, Enough, number_of_c, count_of_c, IsDroplessC, AllMadeC}
 use Rattle.enough.specs.Enough.{EnoughC}
-use Rattle.enough.proofs.CalmWalk.{calm_walk}
+use Rattle.enough.proofs.CalmWalk.{calm-walk}
 use Rattle.enough.proofs.Made.{expected-made}
 
 -- ---- what the agreement expects is then a tick for every word
@@ -31,7 +31,7 @@ module _ (text : List ℕ) (k : ℕ) (needed : places_needed text ≡ success k)
       let c : Chart = contents text in
       let ws : List Signal = joined_words c own_binding given in
       let ts : List Tick = walk size c ws in
-      let q = calm_walk c (needed-facts text k needed) (needed-calm text k needed) size (omega (arith, needed-is text k needed)) ws own in
+      let q = calm-walk c (needed-facts text k needed) (needed-calm text k needed) size (omega (arith, needed-is text k needed)) ws own in
       expected-made (bound size ts) ts (bound-le size ts) q.1 c given own_binding 0 (omega (arith, q.0))
 
   some-place : 1 ≤ size
@@ -81,7 +81,7 @@ module _ (c : Chart) where
       through f [] = refl
       through f (g ∷ rest) = ap (λ (xs : List ℕ). f (all_made c g) ∷ xs) (through f rest)
 
-      quiet : (ds : List CallOutput) → All IsDropless ds → All IsDroplessC (map call_output_c ds)
+      quiet : (ds : List CallOutput) → AllByRecursion IsDropless ds → AllByRecursion IsDroplessC (map call_output_c ds)
       quiet [] a = tt
       quiet (by_run t ∷ ds) a = (a.0, quiet ds a.1)
       quiet (by_rebinding r ∷ ds) a = (tt, quiet ds a.1)

@@ -5,8 +5,8 @@ use Rattle.std.proofs.Common.{◌∷◌, map, length, take, drop, length-append,
 use Rattle.std.proofs.Math.ListN.{length-map}
 use borrow.Author.Tests.{eqb-false}
 use Rattle.std.proofs.lemmas.Grind.{common_steps}
-use Rattle.words.proofs.lists.Joins.{all_map, all_of}
-use Rattle.words.specs.lists.Sequences.{All}
+use Rattle.words.proofs.lists.Joins.{all-map, all-of}
+use Rattle.std.specs.List.{AllByRecursion}
 use Rattle.bindings.specs.Binding.{Binding}
 use Rattle.text.specs.frames.Answer.{Reply, success, refusal, reply_count}
 use Rattle.text.proofs.frames.Lent.{front}
@@ -15,16 +15,16 @@ use Rattle.walk.specs.Walk.{signals, Tick, is_drop}
 use Rattle.agreement.specs.Agreement.{RunInput, CallInput, to_run, to_rebind, CallOutput, by_run, by_rebinding, is_short, joined_words}
 use Rattle.agreement.specs.Agreement.{binding_after, reply_to, output_refused_short, expected_output, expected_outputs}
 use Rattle.agreement.proofs.Joins.{joined-short, joined-long}
-use Rattle.agreement.proofs.Expected.{all_short, all-long}
+use Rattle.agreement.proofs.Expected.{all-short, all-long}
 use Rattle.enough.specs.Enough.{all_made, HasNoDrop, reply_of, IsDropless, AllMade}
 
 module _ {A : Type 0} (P : A → Type 0) where
-  all_take : (n : ℕ) (xs : List A) → All P xs → All P (take n xs)
+  all_take : (n : ℕ) (xs : List A) → AllByRecursion P xs → AllByRecursion P (take n xs)
   all_take zero xs a = tt
   all_take (suc n) [] a = tt
   all_take (suc n) (x ∷ xs) a = (a.0, all_take n xs a.1)
 
-  all_drop : (n : ℕ) (xs : List A) → All P xs → All P (drop n xs)
+  all_drop : (n : ℕ) (xs : List A) → AllByRecursion P xs → AllByRecursion P (drop n xs)
   all_drop zero xs a = a
   all_drop (suc n) [] a = tt
   all_drop (suc n) (x ∷ xs) a = all_drop n xs a.1
@@ -33,7 +33,7 @@ length-codes : (us : List Tick) → length (map (λ (t : Tick). t.code) us) ≡ 
 length-codes [] = refl
 length-codes (u ∷ us) = ap suc (length-codes us)
 
-module _ (b : ℕ) (ts : List Tick) (long : b ≤ length ts) (quiet : All (λ (t : Tick). is_drop t ≡ false) ts) where
+module _ (b : ℕ) (ts : List Tick) (long : b ≤ length ts) (quiet : AllByRecursion (λ (t : Tick). is_drop t ≡ false) ts) where
   -- ---- one run
   module _ (p : ℕ) (a : RunInput) (l : p + length a.words ≤ b) where
     reply-made : (expected_output b ts p a).reply ≡ success (length a.words)
@@ -48,13 +48,13 @@ module _ (b : ℕ) (ts : List Tick) (long : b ≤ length ts) (quiet : All (λ (t
         let e : done ≡ m = omega arith in
         let z : length (drop p ts) ≡ length ts - p = length-drop p ts in
         let n : length mine ≡ done = length-take done (drop p ts) ∙ omega arith in
-        let calm : All (λ (t : Tick). is_drop t ≡ false) mine =
+        let calm : AllByRecursion (λ (t : Tick). is_drop t ≡ false) mine =
         all_take (λ (t : Tick). is_drop t ≡ false) done (drop p ts) (all_drop (λ (t : Tick). is_drop t ≡ false) p ts quiet) in
-        subst (All (λ (code : ℕ). code ≡ 96 → ⊥))
+        subst (AllByRecursion (λ (code : ℕ). code ≡ 96 → ⊥))
         (sym (front (reply_count (expected_output b ts p a).reply) codes a.codes
         (ap reply_count reply-made ∙ sym e ∙ sym n ∙ sym (length-codes mine))))
-        (all_map (λ (code : ℕ). code ≡ 96 → ⊥) (λ (t : Tick). t.code) mine
-        (all_of (λ (t : Tick). is_drop t ≡ false) (λ (t : Tick). t.code ≡ 96 → ⊥) (λ t q. eqb-false t.code 96 q) mine calm))
+        (all-map (λ (code : ℕ). code ≡ 96 → ⊥) (λ (t : Tick). t.code) mine
+        (all-of (λ (t : Tick). is_drop t ≡ false) (λ (t : Tick). t.code ≡ 96 → ⊥) (λ t q. eqb-false t.code 96 q) mine calm))
 
   -- ---- one call more
   module _ (c : Chart) where
@@ -79,7 +79,7 @@ module _ (b : ℕ) (ts : List Tick) (long : b ≤ length ts) (quiet : All (λ (t
             → AllMade c (to_run a ∷ rest) (expected_outputs c b ts p (to_run a ∷ rest))
         go ih true e =
             let j : length (joined_words c s (to_run a ∷ rest)) ≡ length (joined_words c s rest) = ap length (joined-short c s a rest e) in
-            subst (AllMade c (to_run a ∷ rest)) (sym (all_short c b ts p a rest e))
+            subst (AllMade c (to_run a ∷ rest)) (sym (all-short c b ts p a rest e))
             (more-made (to_run a) rest (by_run (output_refused_short a)) _ (sym (ap made e)) tt (ih p (omega arith)))
         go ih false e =
             let n : length (signals s a.words) ≡ length a.words = length-map a.words _ in

@@ -1,9 +1,9 @@
 -- The chart whose call no words lead to: it goes from home to its first condition and back, whatever the words and the bindings.
-use Rattle.std.proofs.Common.{if◌then◌else◌, ℕ, suc, Bool, true, false, ◌≡◌, refl, sym, ◌∙◌, ap, subst, List, [], ◌∷◌, eqb, length, arith}
+use Rattle.std.proofs.Common.{if◌then◌else◌, ℕ, suc, Bool, true, false, ◌≡◌, refl, sym, ◌∙◌, ap, subst, List, [], ◌∷◌, length, arith, ◌==◌}
 use Rattle.std.proofs.lemmas.Grind.{common_steps}
 use Rattle.words.specs.lists.Numbers.{lowest, any, count, sum, highest}
-use Rattle.words.specs.lists.Sequences.{some, filter, concat_map, All}
-use Rattle.words.specs.bits.Word.{bit}
+use Rattle.std.specs.List.{AllByRecursion}
+use Rattle.std.specs.Int.{bit_at}
 use Rattle.results.specs.Results.{Results, no_results}
 use Rattle.words.specs.graph.Reach.{reach}
 use Rattle.text.specs.digits.Digit.{digit_of, char_of}
@@ -29,7 +29,7 @@ use Rattle.enough.proofs.Made.{expected-made}
 
 -- what the computation opens
 unfoldable accepting : Unit {0}
-unfolding lowest any count sum highest some filter concat_map reach digit_of char_of contents total frame_text text_of has_bad_form
+unfolding lowest any count sum highest reach digit_of char_of contents total frame_text text_of has_bad_form
     has_bad_sum text_verdict
 accepting = tt
 
@@ -45,9 +45,9 @@ number-2 = refl
 -- ---- from the first condition every word leads to End
 leads-home : (w : ℕ) → by_word chart_never w 1 ≡ 4
 unfolding next_stop is_stop node_of lowest
-leads-home w = go (eqb (bit w 0) 0) refl
+leads-home w = go (bit_at w 0 == 0) refl
   where
-    go : (b : Bool) → eqb (bit w 0) 0 ≡ b → by_word chart_never w 1 ≡ 4
+    go : (b : Bool) → (bit_at w 0 == 0) ≡ b → by_word chart_never w 1 ≡ 4
     go true e = ap (λ (t : Bool). next_stop 7 chart_never w (if t then 4 else 2)) e
     go false e = ap (λ (t : Bool). next_stop 7 chart_never w (if t then 4 else 2)) e
         ∙ ap (λ (t : Bool). next_stop 6 chart_never w (if t then 3 else 4)) e
@@ -68,7 +68,7 @@ quiet-move w x homes = tests
 quiet-move w x (tests {b}) = subst (λ (v : ℕ). Quiet (at (opens v 1 1) [] b false)) (sym (leads-home w.word)) homes
 
 quiet-trace : (ws : List Signal) (x : WalkPosition) → Quiet x
-    → (bound 1 (trace 1 chart_never ws x) ≡ length ws) × All (λ (t : Tick). is_drop t ≡ false) (trace 1 chart_never ws x)
+    → (bound 1 (trace 1 chart_never ws x) ≡ length ws) × AllByRecursion (λ (t : Tick). is_drop t ≡ false) (trace 1 chart_never ws x)
 unfolding trace bound
 quiet-trace [] x q = (refl, tt)
 quiet-trace (w ∷ ws) x q =

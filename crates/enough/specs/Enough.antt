@@ -2,7 +2,7 @@
 -- with that many or more, no call of any list from a fresh state gets 17 or makes a drop, as long as every number is served by its own
 -- scheme. Said over the functions, and for a caller from C; each call is known by its contract alone.
 use Rattle.std.specs.Prelude.{ℕ, ◌≤◌, ◌≡◌, List, map, length, take, if◌then◌else◌}
-use Rattle.words.specs.lists.Sequences.{All}
+use Rattle.std.specs.List.{AllByRecursion}
 use Rattle.bindings.specs.Binding.{own_binding}
 use Rattle.text.specs.declared.frames.codes.TheConstants.{DROP_CODE}
 use Rattle.text.specs.declared.frames.refusals.TheConstants.{NO_ROOM}
@@ -24,7 +24,7 @@ use Rattle.agreement.specs.ForC as for-c
 
 -- every word of the list is told that each number is served by its own scheme
 abbrev pub OwnServed : Chart → List CallInput → Type 0
-OwnServed c given = All (λ (w : Signal). w.binding ≡ own_binding) (joined_words c own_binding given)
+OwnServed c given = AllByRecursion (λ (w : Signal). w.binding ≡ own_binding) (joined_words c own_binding given)
 
 -- a run makes a tick for every word, or gets 16 for want of room; a rebinding is made, or gets 22
 abbrev pub all_made : Chart → CallInput → Reply
@@ -33,7 +33,7 @@ all_made c (to_rebind h k) = reply_to c h k
 
 -- no code of a drop among those that were written
 abbrev pub HasNoDrop : ℕ → List ℕ → Type 0
-HasNoDrop n codes = All (λ (code : ℕ). code ≡ DROP_CODE → ⊥) (take n codes)
+HasNoDrop n codes = AllByRecursion (λ (code : ℕ). code ≡ DROP_CODE → ⊥) (take n codes)
 
 abbrev pub reply_of : CallOutput → Reply
 reply_of (by_run t) = t.reply
@@ -45,7 +45,7 @@ IsDropless (by_rebinding r) = Unit {0}
 
 pub record AllMade (c : Chart) (given : List CallInput) (handed : List CallOutput) : Type 0 where
   pub replies : map reply_of handed ≡ map (all_made c) given
-  pub drops : All IsDropless handed
+  pub drops : AllByRecursion IsDropless handed
 
 -- places_needed answered success with k
 unfoldable pub Enough : Type 0
@@ -72,7 +72,7 @@ IsDroplessC (for-c.by_rebinding_c n i k) = Unit {0}
 pub record AllMadeC (c : Chart) (given : List CallInput) (handed : List for-c.CallOutputC) : Type 0 where
   pub numbers : map number_of_c handed ≡ map (λ g. reply_number (all_made c g)) given
   pub counts : map count_of_c handed ≡ map (λ g. reply_count (all_made c g)) given
-  pub drops : All IsDroplessC handed
+  pub drops : AllByRecursion IsDroplessC handed
 
 -- fairleadow_places returned 0 with count k
 unfoldable pub EnoughC : Type 0

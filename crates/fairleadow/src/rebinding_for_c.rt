@@ -1,5 +1,5 @@
 // The calls from C that have a number served by another scheme, on an image and live on a prepared table.
-ghost use Rattle.std.specs.Prelude.{◌≡◌, eqb, if◌then◌else◌};
+ghost use Rattle.std.specs.Prelude.{◌≡◌, if◌then◌else◌, ◌==◌};
 ghost use Rattle.text.specs.frames.Answer.{reply_number};
 ghost use Rattle.state.specs.Bytes.{bytes_of};
 ghost use Rattle.fairleadow.specs.telling.AnswersForC.{GivesReplyC};
@@ -20,7 +20,7 @@ pub extern "C" fn fairleadow_rebind(
     made: &mut usize,
 ) -> u8
     ensures told { GivesReplyC (rebind_for image.now state.old number scheme).reply result at.new made.new }
-    ensures bytes { state.new ≡ (if eqb (reply_number (rebind_for image.now state.old number scheme).reply) 0
+    ensures bytes { state.new ≡ (if reply_number (rebind_for image.now state.old number scheme).reply == 0
         then bytes_of (rebind_for image.now state.old number scheme).state else state.old) }
 {
     let answer = rebind_bytes(image, state, number, scheme);
@@ -37,7 +37,7 @@ pub extern "C" fn fairleadow_live_rebind(
     made: &mut usize,
 ) -> u8
     ensures told { GivesReplyC (live_rebind_for table.now state.old number scheme).reply result at.new made.new }
-    ensures bytes { state.new ≡ (if eqb (reply_number (live_rebind_for table.now state.old number scheme).reply) 0
+    ensures bytes { state.new ≡ (if reply_number (live_rebind_for table.now state.old number scheme).reply == 0
         then bytes_of (live_rebind_for table.now state.old number scheme).state else state.old) }
 {
     let answer = live_rebind_bytes(table, state, number, scheme);

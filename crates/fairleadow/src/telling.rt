@@ -1,5 +1,5 @@
 // An answer as the three numbers that C gets, and a tick's as these with its mask and its code.
-ghost use Rattle.std.specs.Prelude.{◌≡◌, eqb, if◌then◌else◌};
+ghost use Rattle.std.specs.Prelude.{◌≡◌, if◌then◌else◌, ◌==◌};
 ghost use Rattle.text.specs.frames.Answer.{reply};
 ghost use Rattle.runs.specs.TickOutcome.{tick_reply, answered_mask, answered_code};
 ghost use Rattle.fairleadow.specs.telling.AnswersForC.{GivesReplyC};
@@ -34,8 +34,8 @@ pub fn tell_tick(
     made: &mut usize,
 ) -> u8
     ensures told { GivesReplyC (tick_reply answer) result at.new made.new }
-    ensures mask { mask.new ≡ (if eqb result 0 then answered_mask answer else mask.old) }
-    ensures code { code.new ≡ (if eqb result 0 then answered_code answer else code.old) }
+    ensures mask { mask.new ≡ (if result == 0 then answered_mask answer else mask.old) }
+    ensures code { code.new ≡ (if result == 0 then answered_code answer else code.old) }
 {
     match answer {
         Ok(tick) => {

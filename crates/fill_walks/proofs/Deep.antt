@@ -1,13 +1,12 @@
 -- On the image of a chart no list of words meets 18, and one meets 17 exactly where its walk goes too deep.
-use Rattle.std.proofs.Common.{if◌then◌else◌, ℕ, suc, ◌≤◌, Bool, true, false, ◌≡◌, refl, sym, ◌∙◌, ap, ap₂, List, [], ◌∷◌, ltb, eqb, length}
+use Rattle.std.proofs.Common.{if◌then◌else◌, ℕ, suc, ◌≤◌, Bool, true, false, ◌≡◌, refl, sym, ◌∙◌, ap, ap₂, List, [], ◌∷◌, length, nat_lt, ◌==◌}
 use Rattle.std.proofs.Common.{take, arith, lt-ltb}
 use Rattle.std.proofs.Math.Dec.{leb-suc-suc}
 use borrow.Author.Tests.{eqb-false}
 use Rattle.std.proofs.lemmas.Grind.{common_steps}
 use Rattle.words.specs.lists.Numbers.{count}
-use Rattle.words.specs.lists.Sequences.{some}
-use Rattle.words.proofs.lists.Tests.{or_l}
-use Rattle.words.proofs.lists.Counts.{count_none, count-alike}
+use Rattle.words.proofs.lists.Tests.{or-l}
+use Rattle.words.proofs.lists.Counts.{count-none, count-alike}
 use Rattle.words.proofs.lists.Searches.{some-cons}
 use Rattle.results.specs.Results.{no_results}
 use Rattle.bindings.specs.Binding.{own_binding}
@@ -45,8 +44,8 @@ use Rattle.walk.proofs.OwnBinding.{own-serves}
 use Rattle.agreement.proofs.Chain.{home-is}
 
 -- some tick is a call at a full stack exactly where the bound is before the end
-pub deep-bound : (n : ℕ) (ts : List Tick) → is_too_deep n ts ≡ ltb (bound n ts) (length ts)
-unfolding some bound
+pub deep-bound : (n : ℕ) (ts : List Tick) → is_too_deep n ts ≡ nat_lt (bound n ts) (length ts)
+unfolding bound
 deep-bound n [] = grind (arith, common_steps)
 deep-bound n (t ∷ ts) = grind (arith, common_steps, deep-bound n ts, some-cons, lt-ltb, bound-go, leb-suc-suc, bound-stop)
 
@@ -54,11 +53,11 @@ signals-length : (ws : List ℕ) → length (signals own_binding ws) ≡ length 
 signals-length [] = refl
 signals-length (w ∷ ws) = ap suc (signals-length ws)
 
-seventeen : (b : Bool) → eqb (number_of (if b then refused 17 0 else fine)) 17 ≡ b
+seventeen : (b : Bool) → (number_of (if b then refused 17 0 else fine) == 17) ≡ b
 seventeen true = refl
 seventeen false = refl
 
-never-18 : (b : Bool) → eqb (number_of (if b then refused 17 0 else fine)) 18 ≡ false
+never-18 : (b : Bool) → (number_of (if b then refused 17 0 else fine) == 18) ≡ false
 never-18 true = refl
 never-18 false = refl
 
@@ -70,7 +69,7 @@ module _ (c : Chart) (f : Facts c) (table_facts : TableFacts c) (size : ℕ) (lo
       ∙ ap (λ (r : MachineRun). number_of r.verdict)
       (ticks-are c size own_binding f (own-serves c f) high table_facts ws (position_at_home c no_results)
       (record { low = low; good = home-good c f no_results }))
-      ∙ ap (λ (m : ℕ). number_of (if ltb (bound size ts) m then refused 17 0 else fine))
+      ∙ ap (λ (m : ℕ). number_of (if nat_lt (bound size ts) m then refused 17 0 else fine))
       (sym (trace-length size c (signals own_binding ws) (position_at_home c no_results) ∙ signals-length ws))
       ∙ ap (λ (b : Bool). number_of (if b then refused 17 0 else fine)) (sym (deep-bound size ts))
       ∙ ap (λ (us : List Tick). number_of (if is_too_deep size us then refused 17 0 else fine))
@@ -78,7 +77,7 @@ module _ (c : Chart) (f : Facts c) (table_facts : TableFacts c) (size : ℕ) (lo
 
   no-18 : (n k : ℕ) → count_meeting (table c) (fresh size) n k 18 ≡ 0
   unfolding count_meeting
-  no-18 n k = grind (arith, common_steps, count_none, never-18, met-is)
+  no-18 n k = grind (arith, common_steps, count-none, never-18, met-is)
 
   deep-17 : (n k : ℕ) → count_meeting (table c) (fresh size) n k 17 ≡ count (λ x. is_walk_too_deep size c (words_of n k x)) 0 (lists n k)
   unfolding count_meeting
@@ -115,7 +114,7 @@ by-the-walk text out m translated size n k e =
     let d : i ≡ table c = ap (λ (t : List ℕ). decoded_image (contents t)) (translated-image text out m translated)
     ∙ translated-decoded text ok f in
     let s : is_bad_size size ≡ false = size-told image size n k v in
-    let z : size ≡ 0 → ⊥ = eqb-false size 0 (or_l (eqb size 0) (ltb 32 size) s) in
+    let z : size ≡ 0 → ⊥ = eqb-false size 0 (or-l (size == 0) (nat_lt 32 size) s) in
     let is : fillings_on i size n k (count_verdict image size n k) ≡ fillings_on (table c) size n k fine =
     ap₂ (λ (j : Image) (w : Verdict). fillings_on j size n k w) d v in (
       ap (λ (r : FillingsOutcome). r.unmatched) is ∙ no-18 c f (table-facts text read) size (omega arith) (size-most size s) n k,

@@ -1,7 +1,7 @@
 -- What the counts are on the image of a chart: no list meets 18, and those that meet 17 are the ones whose walk goes too deep.
 use Rattle.std.specs.Prelude.{ℕ, Bool, false, ◌≡◌, List, take}
 use Rattle.words.specs.lists.Numbers.{count}
-use Rattle.words.specs.lists.Sequences.{some}
+use Rattle.std.specs.List.{list_any}
 use Rattle.bindings.specs.Binding.{own_binding}
 use Rattle.text.specs.frames.Frame.{contents}
 use Rattle.text.specs.frames.Answer.{success}
@@ -14,7 +14,7 @@ use Rattle.fillings.specs.Counts.{words_of, lists, has_too_many_lists, count_fil
 
 -- a call of the walk finds as many schemes open as there are places; one that drops them does not count
 abbrev pub is_too_deep : ℕ → List Tick → Bool
-is_too_deep size ts = some (is_full_call size) ts
+is_too_deep size ts = list_any (is_full_call size) ts
 
 abbrev pub is_walk_too_deep : ℕ → Chart → List ℕ → Bool
 is_walk_too_deep size c words = is_too_deep size (walk size c (signals own_binding words))

@@ -1,5 +1,5 @@
 -- Every run ends, meets 17 or meets 18, so that the three counts are all lists.
-use Rattle.std.proofs.Common.{if◌then◌else◌, ℕ, zero, suc, ◌+◌, ◌-◌, Bool, true, false, ◌≡◌, refl, ◌∙◌, ap, List, [], ◌∷◌, eqb, arith}
+use Rattle.std.proofs.Common.{if◌then◌else◌, ℕ, zero, suc, ◌+◌, ◌-◌, Bool, true, false, ◌≡◌, refl, ◌∙◌, ap, List, [], ◌∷◌, arith, ◌==◌}
 use Rattle.std.proofs.lemmas.Grind.{common_steps}
 use Rattle.words.specs.lists.Numbers.{count}
 use Rattle.results.specs.Results.{Results, cleared_results}
@@ -72,15 +72,15 @@ ticks-end i (w ∷ ws) s = go (tick i s w) (tick-stops i s w) (ticks-end i ws)
 -- ---- three counts
 module _ (f : ℕ → ℕ) (e : (x : ℕ) → EndsBy (f x)) where
   abbrev here : ℕ → ℕ → ℕ
-  here x number = if eqb (f x) number then 1 else 0
+  here x number = if f x == number then 1 else 0
 
-  one_each : (x : ℕ) → here x 0 + here x 17 + here x 18 ≡ 1
-  one_each x = grind (arith, common_steps)
+  one-each : (x : ℕ) → here x 0 + here x 17 + here x 18 ≡ 1
+  one-each x = grind (arith, common_steps)
 
-  all_three : (i n : ℕ) → count (λ x. eqb (f x) 0) i n + count (λ x. eqb (f x) 17) i n + count (λ x. eqb (f x) 18) i n ≡ n
+  all_three : (i n : ℕ) → count (λ x. f x == 0) i n + count (λ x. f x == 17) i n + count (λ x. f x == 18) i n ≡ n
   unfolding count
   all_three i zero = refl
-  all_three i (suc n) = omega (arith, one_each i, all_three (suc i) n)
+  all_three i (suc n) = omega (arith, one-each i, all_three (suc i) n)
 
 pub counted-fine : (i : Image) (size n k : ℕ) (v : Verdict) → (fillings_on i size n k v).reply ≡ success 0 → v ≡ fine
 counted-fine i size n k fine e = refl

@@ -1,5 +1,5 @@
 -- How often the stack fills: how the runs end over all lists of n words in which only the k lowest conditions are ever 1.
-use Rattle.std.specs.Prelude.{ℕ, zero, suc, ◌*◌, ◌/◌, ◌%◌, ◌^◌, Bool, ◌||◌, List, [], ◌∷◌, ltb, eqb}
+use Rattle.std.specs.Prelude.{ℕ, zero, suc, ◌*◌, ◌/◌, ◌%◌, ◌^◌, Bool, ◌||◌, List, [], ◌∷◌, nat_lt, ◌==◌}
 use Rattle.words.specs.lists.Numbers.{count}
 use Rattle.text.specs.frames.Sizes.{CONDITIONS, WORDS}
 use Rattle.text.specs.declared.frames.refusals.TheConstants.{BAD_SIZE, FULL, NO_ROW, MANY_LISTS}
@@ -32,11 +32,11 @@ number_met i s words = number_of (ticks i s words).verdict
 
 -- how many lists meet a number
 unfoldable pub count_meeting : Image → State → ℕ → ℕ → ℕ → ℕ
-count_meeting i s n k number = count (λ x. eqb (number_met i s (words_of n k x)) number) 0 (lists n k)
+count_meeting i s n k number = count (λ x. number_met i s (words_of n k x) == number) 0 (lists n k)
 
 -- 28
 abbrev pub has_too_many_lists : ℕ → ℕ → Bool
-has_too_many_lists n k = ltb CONDITIONS (n * k) || ltb CONDITIONS k || ltb WORDS n
+has_too_many_lists n k = nat_lt CONDITIONS (n * k) || nat_lt CONDITIONS k || nat_lt WORDS n
 
 -- what the image check tries, 14 and 28
 unfoldable pub count_verdict : List ℕ → ℕ → ℕ → ℕ → Verdict

@@ -1,13 +1,13 @@
 -- What the counts promise of every image: the lists counted are all lists, each once, and the three counts are together as many.
 use Rattle.std.specs.Prelude.{ℕ, ◌+◌, ◌^◌, ◌<◌, ◌≡◌, List, length}
-use Rattle.words.specs.lists.Sequences.{All}
+use Rattle.std.specs.List.{AllByRecursion}
 use Rattle.text.specs.frames.Answer.{success}
 use Rattle.fillings.specs.Counts.{words_of, lists, count_fillings}
 
 -- n words below 2 ^ k
 pub record Words (n k : ℕ) (words : List ℕ) : Type 0 where
   pub many : length words ≡ n
-  pub low : All (λ (w : ℕ). w < 2 ^ k) words
+  pub low : AllByRecursion (λ (w : ℕ). w < 2 ^ k) words
 
 -- a list that has just one number below their count
 pub record NumberedList (n k : ℕ) (words : List ℕ) : Type 0 where

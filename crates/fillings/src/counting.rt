@@ -35,8 +35,8 @@ fn fresh_bytes(size: usize) -> [u8; STATE_BYTES]
 // Words without conditions are one list, however long it is; else there are at most 16 words.
 fn tally(table: &[u8], size: usize, n: usize, k: usize) -> Tally
     requires whole { Whole table.now }
-    requires size_value { is_bad_size size ≡ false }
-    requires k_bound { n * k ≤ 16 }
+    requires good_size { is_bad_size size ≡ false }
+    requires few_bits { n * k ≤ 16 }
     ensures { result ≡ tally_of (table_image table.now) (fresh size) n k }
 {
     let bytes = fresh_bytes(size);
@@ -46,7 +46,10 @@ fn tally(table: &[u8], size: usize, n: usize, k: usize) -> Tally
     tally_all(table, &bytes, n, k)
 }
 
-// What the image check tries, then 14 and 28.
+/// Of all lists of n words in which no condition but the first k is set, each run from a fresh state of `size` places, 1 to 32: how many run to
+/// their end, meet 17 and meet 18.
+///
+/// Refuses what the image check does, then 14, then 28: more than 16 conditions, more than 65,536 words, or a product of both above 16.
 pub fn count_fillings(image: &[u8], size: usize, n: usize, k: usize) -> Result<Tally, Refusal>
     ensures { GivesFillings (count_fillings image.now size n k) result }
 {

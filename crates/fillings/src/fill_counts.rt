@@ -9,7 +9,7 @@ use runs::tick_word;
 use state::layout::STATE_BYTES;
 use text::frames::refusals::{FULL, NO_ROW};
 
-// Of some lists: how many run to their end, meet 17 and meet 18.
+/// Of some lists: how many run to their end, meet 17 and meet 18.
 #[derive(Drop)]
 pub struct Tally {
     pub ended: u32,
@@ -17,6 +17,7 @@ pub struct Tally {
     pub unmatched: u32,
 }
 
+/// 2 to the power k.
 pub fn power(k: usize) -> u32
     requires { k ≤ 16 }
     ensures { result ≡ 2 ^ k }
@@ -33,7 +34,7 @@ fn only_if(here: bool, lists: u32) -> u32
     0
 }
 
-// That many lists, all of which meet one number; 0 stands for their end.
+/// That many lists, all of which meet one number; 0 stands for their end.
 pub fn all_meet(number: u8, lists: u32) -> Tally
     ensures { result ≡ all_meet number lists }
 {
@@ -44,6 +45,7 @@ pub fn all_meet(number: u8, lists: u32) -> Tally
     }
 }
 
+/// Two tallies together.
 pub fn add(a: Tally, b: Tally) -> Tally
     requires { FewLists (tally_sum a b) }
     ensures { result ≡ tally_sum a b }
@@ -55,7 +57,7 @@ pub fn add(a: Tally, b: Tally) -> Tally
     }
 }
 
-// Words that all are 0: one list, tick by tick.
+/// Words that all are 0: one list, tick by tick.
 pub fn tally_one(table: &[u8], bytes: [u8; STATE_BYTES], n: usize) -> Tally
     requires { TickAsked table.now (state_of bytes) }
     ensures { result ≡ tally_of (table_image table.now) (state_of bytes) n 0 }

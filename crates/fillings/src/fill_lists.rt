@@ -9,11 +9,11 @@ use crate::fill_counts::{Tally, add, all_meet, power};
 use runs::tick_word;
 use state::layout::STATE_BYTES;
 
-// Each first word has its tick once, and then the rest of the words are tallied from there; a word that is stopped stops all lists that
-// begin so.
+/// Each first word has its tick once, and then the rest of the words are tallied from there; a word that is stopped stops all lists that
+/// begin so.
 pub fn tally_all(table: &[u8], bytes: &[u8; STATE_BYTES], n: usize, k: usize) -> Tally
     requires tick_asked { TickAsked table.now (state_of bytes.now) }
-    requires k_bound { n * k ≤ 16 }
+    requires few_bits { n * k ≤ 16 }
     ensures { result ≡ tally_of (table_image table.now) (state_of bytes.now) n k }
 {
     if n == 0 {

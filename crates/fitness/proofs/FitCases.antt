@@ -1,18 +1,14 @@
 -- What each way out of the functions on fitness answers.
-use Rattle.std.proofs.Common.{ℕ, zero, suc, ◌-◌, ◌≤◌, ◌<◌, Bool, true, false, ◌&&◌, ◌||◌, not, ◌≡◌, refl, sym, ◌∙◌, ap, arith, leb, ltb}
-use Rattle.std.proofs.Common.{eqb, eq-eqb, ne_eqb, le-leb}
-use borrow.Author.Tests.{lt-leb}
-use Rattle.std.proofs.lemmas.Grind.{common_steps}
+use Rattle.std.proofs.Common.{ℕ, zero, suc, ◌-◌, ◌≤◌, ◌<◌, Bool, true, false, ◌&&◌, ◌||◌, ◌≡◌, refl, sym, ◌∙◌, arith, ◌==◌}
+use Rattle.std.proofs.Common.{eq-eqb}
 use Rattle.words.specs.lists.Numbers.{any}
-use Rattle.words.proofs.lists.Tests.{or_true_r}
 use Rattle.image.specs.Image.{Image}
 use Rattle.state.specs.declared.State.{State}
-use Rattle.state.specs.State.{is_bad_size}
 use Rattle.fitness.specs.Fitness.{is_unfit_place, is_filled_place, has_bad_bottom, is_badly_served, has_bad_depth, is_unfit}
-use Rattle.fitness.specs.inner.FitnessContracts.{is_astray, is_own, is_miscalled, is_astray_at_bottom, is_misserved}
+use Rattle.fitness.specs.inner.FitnessContracts.{is_own}
 
 -- ---- kinds 1 and 2 are calls
-pub kind-call : (k : ℕ) → 1 ≤ k → k < 3 → (eqb k 1 || eqb k 2) ≡ true
+pub kind-call : (k : ℕ) → 1 ≤ k → k < 3 → (k == 1 || k == 2) ≡ true
 kind-call zero h l = absurd (omega arith)
 kind-call (suc zero) h l = refl
 kind-call (suc (suc zero)) h l = refl
@@ -20,7 +16,7 @@ kind-call (suc (suc (suc k))) h l = absurd (omega arith)
 
 -- ---- the bottom
 module _ (owner number server : ℕ) where
-  pub first-own : owner ≡ 1 → is_own number server 1 ≡ (eqb owner 1 && is_own number server 1)
+  pub first-own : owner ≡ 1 → is_own number server 1 ≡ (owner == 1 && is_own number server 1)
   first-own e = rw (eq-eqb owner 1 e)
 
 -- ---- the whole state: t stands for the tests of the places up to the depth and of the bottom, u for those of the places above

@@ -1,10 +1,10 @@
 -- What it says that a state fits an image (refusal 15), test by test.
-use Rattle.std.proofs.Common.{ℕ, ◌+◌, ◌-◌, ◌≤◌, ◌<◌, Bool, true, false, ◌&&◌, ◌||◌, not, ◌≡◌, leb, ltb, length, arith, lt-ltb, le-leb}
+use Rattle.std.proofs.Common.{ℕ, ◌+◌, ◌-◌, ◌≤◌, ◌<◌, Bool, true, false, ◌&&◌, ◌||◌, not, ◌≡◌, length, arith, lt-ltb, le-leb, nat_lt, nat_le}
 use Rattle.std.proofs.Common.{leb-false}
 use Rattle.std.proofs.lemmas.Grind.{common_steps}
 use Rattle.words.specs.lists.Numbers.{any}
-use Rattle.words.proofs.lists.Tests.{or_r, or_l, and-true, and-false, not-false}
-use Rattle.words.proofs.lists.Searches.{any_false, any_none}
+use Rattle.words.proofs.lists.Tests.{or-r, or-l, and-true, and-false, not-false}
+use Rattle.words.proofs.lists.Searches.{any-false, any-none}
 use Rattle.bindings.specs.Binding.{server_of}
 use Rattle.image.specs.Image.{Image}
 use Rattle.state.specs.declared.State.{State}
@@ -35,7 +35,7 @@ none_of a b c d e p = grind (arith, common_steps)
 module _ (i : Image) (s : State) where
   -- place k may not carry the one above it
   abbrev strays : ℕ → Bool
-  strays k = ltb (k + 1) s.depth && not (is_carried i s k)
+  strays k = nat_lt (k + 1) s.depth && not (is_carried i s k)
 
   fits-place : Fits i s → (k : ℕ) → k < s.depth → is_unfit_place i s k ≡ false
   fits-place f k l = grind (arith, common_steps)
@@ -44,10 +44,10 @@ module _ (i : Image) (s : State) where
   unfolding is_unfit
   fits f = rw (
     deep-fine s (record { some = f.some; most = f.most; small = f.small }),
-    any_none (is_unfit_place i s) 0 s.depth (λ k l. fits-place f (0 + k) (omega arith)),
+    any-none (is_unfit_place i s) 0 s.depth (λ k l. fits-place f (0 + k) (omega arith)),
     f.bottom,
-    any_none (is_filled_place s) s.depth (32 - s.depth) (λ k l. f.above (s.depth + k) (omega arith) (omega arith)),
-    any_none (is_badly_served i s) 2 15 (λ k l. f.serves (2 + k) (omega arith) (omega arith)),
+    any-none (is_filled_place s) s.depth (32 - s.depth) (λ k l. f.above (s.depth + k) (omega arith) (omega arith)),
+    any-none (is_badly_served i s) 2 15 (λ k l. f.serves (2 + k) (omega arith) (omega arith)),
   )
 
   pub unfits : Sized s → is_unfit i s ≡ false → Fits i s
@@ -63,18 +63,18 @@ module _ (i : Image) (s : State) where
         some = deep.some;
         most = deep.most;
         labels = λ k l. leb-false (length i.labels) (place_at s k) (place none.1 k l).0;
-        carries = λ k l. not-false _ (and-false (ltb (k + 1) s.depth) _
+        carries = λ k l. not-false _ (and-false (nat_lt (k + 1) s.depth) _
             (place none.1 k (omega arith)).1 (lt-ltb (k + 1) s.depth l));
         bottom = none.2;
-        above = λ k l m. any_false (is_filled_place s) s.depth (32 - s.depth) none.3 k l (omega arith);
-        serves = λ h l m. any_false (is_badly_served i s) 2 15 none.4 h l (omega arith);
+        above = λ k l m. any-false (is_filled_place s) s.depth (32 - s.depth) none.3 k l (omega arith);
+        serves = λ h l m. any-false (is_badly_served i s) 2 15 none.4 h l (omega arith);
       }
     where
       place : any (is_unfit_place i s) 0 s.depth ≡ false → (k : ℕ) → k < s.depth
-          → (leb (length i.labels) (place_at s k) ≡ false) × (strays k ≡ false)
+          → (nat_le (length i.labels) (place_at s k) ≡ false) × (strays k ≡ false)
       place q k l =
-          let p : is_unfit_place i s k ≡ false = any_false (is_unfit_place i s) 0 s.depth q k (omega arith) (omega arith) in
-          (or_l (leb (length i.labels) (place_at s k)) (strays k) p, or_r (leb (length i.labels) (place_at s k)) (strays k) p)
+          let p : is_unfit_place i s k ≡ false = any-false (is_unfit_place i s) 0 s.depth q k (omega arith) (omega arith) in
+          (or-l (nat_le (length i.labels) (place_at s k)) (strays k) p, or-r (nat_le (length i.labels) (place_at s k)) (strays k) p)
 
 -- ---- who may be called, and who serves
 module _ (i : Image) where
@@ -82,7 +82,7 @@ module _ (i : Image) where
   callable-range k e = grind (arith, common_steps)
 
   pub range-callable : (k : ℕ) → 2 ≤ k → k ≤ length i.entries → is_callable i k ≡ true
-  range-callable k a b = and-true (leb 2 k) (leb k (length i.entries)) (le-leb 2 k a) (le-leb k (length i.entries) b)
+  range-callable k a b = and-true (nat_le 2 k) (nat_le k (length i.entries)) (le-leb 2 k a) (le-leb k (length i.entries) b)
 
   -- every number of 2 to H is served by a scheme of 2 to H
   pub called-served : length i.entries ≤ 16 → (s : State) → Fits i s → (h : ℕ) → 2 ≤ h → h ≤ length i.entries

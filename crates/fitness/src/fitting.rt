@@ -1,5 +1,5 @@
 // Whether a state, kept as 130 bytes, fits the image that a prepared table holds: refusal 15.
-ghost use Rattle.std.specs.Prelude.{◌≡◌, ◌-◌, ◌≤◌, ◌<◌, leb, if◌then◌else◌};
+ghost use Rattle.std.specs.Prelude.{◌≡◌, ◌-◌, ◌≤◌, ◌<◌, if◌then◌else◌, nat_le};
 ghost use Rattle.std.specs.Int.Bits.{bit_or};
 ghost use Rattle.words.specs.lists.Numbers.{any};
 ghost use Rattle.tables.specs.Table.{table_image};
@@ -20,7 +20,7 @@ use tables::{handler_of, scheme_count};
 // Label, number and server of place k, joined, where it lies above the depth, and 0 where it does not.
 fn place_above(bytes: &[u8; STATE_BYTES], depth: usize, k: usize) -> u8
     requires { k < PLACES }
-    ensures { result ≡ (if leb depth k
+    ensures { result ≡ (if nat_le depth k
         then bit_or (bit_or (place_at (state_of bytes.now) k) (number_at (state_of bytes.now) k))
         (server_at (state_of bytes.now) k) else 0) }
 {

@@ -2,7 +2,7 @@
 //! Here the numbers of one place are tried; `fit_places` tries the open places from the bottom up.
 #![tactic(auto)]
 
-ghost use Rattle.std.specs.Prelude.{◌≡◌, ◌&&◌, ◌||◌, not, eqb};
+ghost use Rattle.std.specs.Prelude.{◌≡◌, ◌&&◌, ◌||◌, not, ◌==◌};
 ghost use Rattle.fitness.specs.inner.FitnessContracts.{is_astray, is_own, is_miscalled, is_misserved};
 
 pub mod fit_places;
@@ -12,7 +12,7 @@ use image::layout::{FUNCTION_CALL, OPERATION_CALL};
 
 // Whether a label of that kind may not be kept under another: only a call may.
 pub fn calls_none(kind: u8) -> bool
-    ensures { result ≡ not (eqb kind OPERATION_CALL || eqb kind FUNCTION_CALL) }
+    ensures { result ≡ not (kind == OPERATION_CALL || kind == FUNCTION_CALL) }
 {
     match kind {
         OPERATION_CALL..=FUNCTION_CALL => false,
@@ -42,7 +42,7 @@ pub fn is_own(number: u8, server: u8, scheme: u8) -> bool
 
 // Whether a bottom of that owner is of scheme 1, by its own number.
 pub fn is_first(owner: u8, number: u8, server: u8) -> bool
-    ensures { result ≡ (eqb owner 1 && is_own number server 1) }
+    ensures { result ≡ (owner == 1 && is_own number server 1) }
 {
     if owner != 1 {
         return false;

@@ -1,11 +1,11 @@
 -- The grouping meets the rule, every grouping that meets the rule is within it, and none of these has fewer groups.
-use Rattle.std.proofs.Common.{if◌then◌else◌, ℕ, zero, suc, ◌+◌, ◌≤◌, ◌<◌, Bool, true, false, not, ◌≡◌, refl, sym, ◌∙◌, ap, subst, ◌⊎◌, inl}
-use Rattle.std.proofs.Common.{inr, arith, eqb, length, eqb-true, eq-eqb, ne_eqb}
+use Rattle.std.proofs.Common.{if◌then◌else◌, ℕ, zero, suc, ◌+◌, ◌≤◌, ◌<◌, Bool, true, false, not, ◌≡◌, refl, sym, ◌∙◌, ap, subst, ◌⊎◌, inl, ◌==◌}
+use Rattle.std.proofs.Common.{inr, arith, length, eqb-true, eq-eqb, ne_eqb}
 use borrow.Author.Tests.{eqb-false}
 use Rattle.std.proofs.lemmas.Grind.{common_steps}
 use Rattle.words.specs.lists.Numbers.{any, count}
-use Rattle.words.proofs.lists.Tests.{and_l, split, not-true, bit-low}
-use Rattle.words.proofs.lists.Searches.{any_false, any_none}
+use Rattle.words.proofs.lists.Tests.{and-l, split, not-true, bit-low}
+use Rattle.words.proofs.lists.Searches.{any-false, any-none}
 use Rattle.words.proofs.lists.Counts.{count-within}
 use Rattle.text.specs.frames.Frame.{contents}
 use Rattle.image.specs.Image.{Image, nth_row}
@@ -19,8 +19,8 @@ use Rattle.covering.proofs.Hits.{OneRow, one-row}
 use Rattle.grouping.specs.Rule.{Grouping, Meets, is_lowest, groups}
 use Rattle.grouping.specs.Classes.{class_of, is_first, is_staying_with, classes, grouping}
 use Rattle.grouping.specs.Fewest.{GroupsMeet, GroupsCoarsest, GroupsFewest}
-use Rattle.grouping.proofs.Onward.{same-fields, onward_label, onward-inside, low_same, onward-is, the-hit}
-use Rattle.grouping.proofs.Rounds.{has_same_fields_at, first_alike, class_same, stays-made, stays-alike, rounds, group-round, group-leads}
+use Rattle.grouping.proofs.Onward.{same-fields, onward_label, onward-inside, low-same, onward-is, the-hit}
+use Rattle.grouping.proofs.Rounds.{has_same_fields_at, first_alike, class-same, stays-made, stays-alike, rounds, group-round, group-leads}
 
 pub bit-of : (b : ℕ) → b < 2 → (t : Bool) × ((if t then 1 else 0) ≡ b)
 bit-of zero h = (false, refl)
@@ -35,7 +35,7 @@ module _ (i : Image) (S : SoundImage i) (one : OneRow i) where
   row-leads : (l w b j : ℕ) → j < length i.rows → is_candidate l w b (nth_row i j) ≡ true → (t : Bool)
       → (if t then 1 else 0) ≡ b → (nth_row i j).next ≡ onward_label i l w t
   row-leads l w b j h e t q =
-      let f : (nth_row i j).from ≡ l = eqb-true (nth_row i j).from l (and_l (eqb (nth_row i j).from l) (is_match w b (nth_row i j)) e) in
+      let f : (nth_row i j).from ≡ l = eqb-true (nth_row i j).from l (and-l ((nth_row i j).from == l) (is_match w b (nth_row i j)) e) in
       sym (onward-is i S one l w t (omega (arith, (S.each j h).low)) (omega (arith, (S.each j h).high)) j h
       (subst (λ (x : ℕ). is_candidate l w x (nth_row i j) ≡ true) (sym q) e))
 
@@ -60,8 +60,8 @@ module _ (i : Image) (S : SoundImage i) (one : OneRow i) where
         low q = ap (λ (x : ℕ). g (onward_label i x w b)) q
 
         go : (l < 2) ⊎ (2 ≤ l) → (m < 2) ⊎ (2 ≤ m) → g (onward_label i l w b) ≡ g (onward_label i m w b)
-        go (inl x) y = low (low_same i S l m hl hm (M.same l m hl hm e) x)
-        go (inr x) (inl y) = low (sym (low_same i S m l hm hl (sym (M.same l m hl hm e)) y))
+        go (inl x) y = low (low-same i S l m hl hm (M.same l m hl hm e) x)
+        go (inr x) (inl y) = low (sym (low-same i S m l hm hl (sym (M.same l m hl hm e)) y))
         go (inr x) (inr y) =
             let p = the-hit i S one l w b x hl in
             let q = the-hit i S one m w b y hm in
@@ -72,9 +72,9 @@ module _ (i : Image) (S : SoundImage i) (one : OneRow i) where
     within-classes : (k l m : ℕ) → l < n → m < n → g l ≡ g m → class_of (classes i k) l ≡ class_of (classes i k) m
     unfolding classes
     within-classes zero l m hl hm e =
-        class_same i (has_same_fields_at i) (first_alike i) l m hl hm (same-fields (label_at i l) (label_at i m) (M.same l m hl hm e))
+        class-same i (has_same_fields_at i) (first_alike i) l m hl hm (same-fields (label_at i l) (label_at i m) (M.same l m hl hm e))
     within-classes (suc k) l m hl hm e =
-        class_same i (is_staying_with i (classes i k)) (stays-alike i S one (classes i k) (rounds i S one k)) l m hl hm
+        class-same i (is_staying_with i (classes i k)) (stays-alike i S one (classes i k) (rounds i S one k)) l m hl hm
         (stays-made i S one (classes i k) (rounds i S one k) l m (within-classes k l m hl hm e) (λ w b hw.
         within-classes k (onward_label i l w b) (onward_label i m w b) (onward-inside i S l w b hl) (onward-inside i S m w b hm)
         (meets-onward l m hl hm e w b hw)))
@@ -86,24 +86,24 @@ module _ (i : Image) (S : SoundImage i) (one : OneRow i) where
     -- (ii) the lowest member of a group of the coarsest grouping is the lowest of its own group
     pub fewest : groups (class_of (grouping i)) n ≤ groups g n
     fewest = count-within (is_lowest (class_of (grouping i))) (is_lowest g) 0 n (λ l a h t.
-        let p : any (λ k. eqb (class_of (grouping i) k) (class_of (grouping i) l)) 0 l ≡ false =
-        not-true (any (λ k. eqb (class_of (grouping i) k) (class_of (grouping i) l)) 0 l) t in
-        ap not (any_none (λ k. eqb (g k) (g l)) 0 l (λ k m. ne_eqb (g (0 + k)) (g l) (λ e.
+        let p : any (λ k. class_of (grouping i) k == class_of (grouping i) l) 0 l ≡ false =
+        not-true (any (λ k. class_of (grouping i) k == class_of (grouping i) l) 0 l) t in
+        ap not (any-none (λ k. g k == g l) 0 l (λ k m. ne_eqb (g (0 + k)) (g l) (λ e.
         eqb-false (class_of (grouping i) (0 + k)) (class_of (grouping i) l)
-        (any_false (λ k. eqb (class_of (grouping i) k) (class_of (grouping i) l)) 0 l p (0 + k) (omega arith) (omega arith))
+        (any-false (λ k. class_of (grouping i) k == class_of (grouping i) l) 0 l p (0 + k) (omega arith) (omega arith))
         (within-grouping (0 + k) l (omega arith) (omega arith) e)))))
 
   -- ---- the groups are counted by the labels that are their own class
   first-lowest : (l : ℕ) → l < n → is_first (grouping i) l ≡ true → is_lowest (class_of (grouping i)) l ≡ true
-  first-lowest l h t = grind (arith, common_steps, eqb-true, any_none, group-round, ne_eqb)
+  first-lowest l h t = grind (arith, common_steps, eqb-true, any-none, group-round, ne_eqb)
 
   lowest-first : (l : ℕ) → l < n → is_lowest (class_of (grouping i)) l ≡ true → is_first (grouping i) l ≡ true
   lowest-first l h t = eq-eqb (class_of (grouping i) l) l (go (split (class_of (grouping i) l) l))
     where
       go : (class_of (grouping i) l < l) ⊎ (l ≤ class_of (grouping i) l) → class_of (grouping i) l ≡ l
       go (inl x) = absurd (eqb-false (class_of (grouping i) (class_of (grouping i) l)) (class_of (grouping i) l)
-          (any_false (λ k. eqb (class_of (grouping i) k) (class_of (grouping i) l)) 0 l
-          (not-true (any (λ k. eqb (class_of (grouping i) k) (class_of (grouping i) l)) 0 l) t)
+          (any-false (λ k. class_of (grouping i) k == class_of (grouping i) l) 0 l
+          (not-true (any (λ k. class_of (grouping i) k == class_of (grouping i) l) 0 l) t)
           (class_of (grouping i) l) (omega arith) (omega arith))
           ((group-round i S one).own l h))
       go (inr x) = omega (arith, (group-round i S one).below l h)

@@ -6,3 +6,7 @@ pub mod Partings
 pub mod TableRounds
 pub mod Marked
 pub mod Prepared
+pub mod Labelled
+pub mod Touches
+pub mod RoundSteps
+pub mod GroupSteps

@@ -1,15 +1,14 @@
 -- Rows that lead to marked labels are enough to look at: two labels of one class are parted by them, or by none.
-use Rattle.std.proofs.Common.{ℕ, suc, ◌+◌, ◌*◌, ◌-◌, ◌≤◌, ◌<◌, Bool, true, false, ◌&&◌, ◌||◌, not, ◌≡◌, refl, sym, ◌∙◌, ap, ◌⊎◌, inl, inr}
-use Rattle.std.proofs.Common.{List, arith, eqb, ltb, leb, length, get_or, set, replicate, eq-eqb, ne_eqb, eqb-true, lt-ltb, le-leb}
+use Rattle.std.proofs.Common.{ℕ, suc, ◌+◌, ◌*◌, ◌-◌, ◌≤◌, ◌<◌, Bool, true, false, ◌&&◌, ◌||◌, not, ◌≡◌, refl, sym, ◌∙◌, ap, ap₂, ◌⊎◌, inl, inr, nat_lt, ◌==◌, slice_index, slice_index_or}
+use Rattle.std.proofs.Common.{List, arith, length, set, replicate, eq-eqb, ne_eqb, eqb-true, lt-ltb, le-leb}
 use Rattle.std.proofs.Common.{ltb-true, leb-false}
 use Rattle.std.proofs.Math.ListN.{length-replicate, get_or-replicate}
 use borrow.Author.Tests.{lt-leb}
 use Rattle.std.proofs.lemmas.Grind.{common_steps}
-use Rattle.words.specs.lists.Numbers.{any}
-use Rattle.words.specs.lists.Sequences.{some}
-use Rattle.words.proofs.lists.Tests.{no_both, and_l, and_r, and-true, and-false, and_no, not-true, not-false, or_cases, or-true-l}
-use Rattle.words.proofs.lists.Tests.{or_true_r}
-use Rattle.words.proofs.lists.Searches.{any_false, any-true, any_some, any_none}
+use Rattle.std.specs.List.{list_any}
+use Rattle.words.proofs.lists.Tests.{no_both, and-l, and-r, and-true, and-false, and-no, not-true, not-false, or-cases, or-true-l}
+use Rattle.words.proofs.lists.Tests.{or-true-r}
+use Rattle.words.proofs.lists.Searches.{any-false}
 use Rattle.text.specs.frames.Frame.{field}
 use Rattle.image.specs.Image.{Image, Row, no_row}
 use Rattle.image.specs.Decode.{last_label, row_in_frame}
@@ -20,6 +19,7 @@ use Rattle.covering.proofs.Together.{together-turned}
 use Rattle.grouping.specs.Classes.{classes}
 use Rattle.grouping.specs.inner.GroupingContracts.{Even, Classed, is_parting_in, is_parting_any, is_parted_on, has_marked_next}
 use Rattle.grouping.specs.inner.GroupingContracts.{is_parted_by, Marks, Touched, KeptClasses}
+use Rattle.covering.proofs.Chains.{chain-false, chain-none, chain-true, chain-some}
 use Rattle.grouping.proofs.Onward.{some-none}
 use Rattle.grouping.proofs.Partings.{some-own}
 use Rattle.grouping.proofs.TableRounds.{unparted-before}
@@ -33,24 +33,24 @@ same_truth false false f g = refl
 module _ (b c : List ℕ) where
   parts-turned : (f g : ℕ) → is_parting_in b c f g ≡ true → is_parting_in b c g f ≡ true
   parts-turned f g e =
-      and-true (not (eqb y x)) (is_together (row_in_frame b g) (row_in_frame b f)) (apart (and_l (not (eqb x y)) t e))
+      and-true (not (y == x)) (is_together (row_in_frame b g) (row_in_frame b f)) (apart (and-l (not (x == y)) t e))
       (go (is_together (row_in_frame b g) (row_in_frame b f)) refl)
     where
       x : ℕ
-      x = get_or c (field b f 7) 0
+      x = slice_index c (field b f 7)
 
       y : ℕ
-      y = get_or c (field b g 7) 0
+      y = slice_index c (field b g 7)
 
       t : Bool
       t = is_together (row_in_frame b f) (row_in_frame b g)
 
-      apart : not (eqb x y) ≡ true → not (eqb y x) ≡ true
-      apart h = ap not (ne_eqb y x (λ z. no_both (eqb x y) (eq-eqb x y (sym z)) (not-true (eqb x y) h)))
+      apart : not (x == y) ≡ true → not (y == x) ≡ true
+      apart h = ap not (ne_eqb y x (λ z. no_both (x == y) (eq-eqb x y (sym z)) (not-true (x == y) h)))
 
       go : (u : Bool) → is_together (row_in_frame b g) (row_in_frame b f) ≡ u → is_together (row_in_frame b g) (row_in_frame b f) ≡ true
       go true h = h
-      go false h = no_both t (and_r (not (eqb x y)) t e) (together-turned (row_in_frame b g) (row_in_frame b f) h)
+      go false h = no_both t (and-r (not (x == y)) t e) (together-turned (row_in_frame b g) (row_in_frame b f) h)
 
   -- rows that part two labels
   record Parting (m l : ℕ) : Type 0 where
@@ -64,8 +64,8 @@ module _ (b c : List ℕ) where
 
   found : (m l : ℕ) → is_parted_on b c m l ≡ true → Parting m l
   found m l e =
-      let p = any_some (λ f. is_parting_any b c f (first_on b l) (end_on b l)) (first_on b m) (end_on b m - first_on b m) e in
-      let q = any_some (is_parting_in b c p.0) (first_on b l) (end_on b l - first_on b l) p.3 in
+      let p = chain-some (λ f. is_parting_any b c f (first_on b l) (end_on b l)) (first_on b m) (end_on b m - first_on b m) e in
+      let q = chain-some (is_parting_in b c p.0) (first_on b l) (end_on b l - first_on b l) p.3 in
       record {
         f = p.0;
         g = q.0;
@@ -78,12 +78,12 @@ module _ (b c : List ℕ) where
 
   parts-one : (l f g : ℕ) → first_on b l ≤ g → g < end_on b l → is_parting_in b c f g ≡ true
       → is_parting_any b c f (first_on b l) (end_on b l) ≡ true
-  parts-one l f g u v e = any-true (is_parting_in b c f) (first_on b l) (end_on b l - first_on b l) g u (omega arith) e
+  parts-one l f g u v e = chain-true (is_parting_in b c f) (first_on b l) (end_on b l - first_on b l) g u (omega arith) e
 
   parted-one : (m l f : ℕ) → first_on b m ≤ f → f < end_on b m → is_parting_any b c f (first_on b l) (end_on b l) ≡ true
       → is_parted_on b c m l ≡ true
   parted-one m l f u v e =
-      any-true (λ f. is_parting_any b c f (first_on b l) (end_on b l)) (first_on b m) (end_on b m - first_on b m) f u (omega arith) e
+      chain-true (λ f. is_parting_any b c f (first_on b l) (end_on b l)) (first_on b m) (end_on b m - first_on b m) f u (omega arith) e
 
   turned : (m l : ℕ) → is_parted_on b c l m ≡ true → is_parted_on b c m l ≡ true
   turned m l e =
@@ -98,88 +98,76 @@ module _ (b c : List ℕ) where
     by_one : (least m l f : ℕ) → first_on b m ≤ f → f < end_on b m → has_marked_next b marks least f ≡ true
         → is_parting_any b c f (first_on b l) (end_on b l) ≡ true → is_parted_by b c marks least m l ≡ true
     by_one least m l f u v s e =
-        any-true (marked least l) (first_on b m) (end_on b m - first_on b m) f u (omega arith)
+        chain-true (marked least l) (first_on b m) (end_on b m - first_on b m) f u (omega arith)
         (and-true (has_marked_next b marks least f) (is_parting_any b c f (first_on b l) (end_on b l)) s e)
 
     by_parts : (least m l : ℕ) → is_parted_by b c marks least m l ≡ true → is_parted_on b c m l ≡ true
     by_parts least m l e =
-        let p = any_some (marked least l) (first_on b m) (end_on b m - first_on b m) e in
+        let p = chain-some (marked least l) (first_on b m) (end_on b m - first_on b m) e in
         parted-one m l p.0 p.1 (omega (arith, p.1, p.2))
-        (and_r (has_marked_next b marks least p.0) (is_parting_any b c p.0 (first_on b l) (end_on b l)) p.3)
+        (and-r (has_marked_next b marks least p.0) (is_parting_any b c p.0 (first_on b l) (end_on b l)) p.3)
 
     -- ---- are_parted_by
-    pub by-told : (least m l first end last f : ℕ) → first ≡ first_on b l → end ≡ end_on b l → last ≡ end_on b m → f ≡ first_on b m
-        → any (λ f. has_marked_next b marks least f && is_parting_any b c f first end) f (last - f) ≡ is_parted_by b c marks least m l
-    by-told least m l first end last f p q r s = grind (arith, common_steps)
-
     module _ (touched : List ℕ) (M : Marks b c marks touched) (m l : ℕ) (am : 2 ≤ m) (hm : m ≤ last_label b) where
-      pub by-none : get_or touched m 0 ≡ 0 → (least : ℕ) → 1 ≤ least → false ≡ is_parted_by b c marks least m l
-      by-none z least h = sym (any_none (marked least l) (first_on b m) (end_on b m - first_on b m) (λ k u.
+      pub by-none : slice_index touched m ≡ 0 → (least : ℕ) → 1 ≤ least → false ≡ is_parted_by b c marks least m l
+      by-none z least h = sym (chain-none (marked least l) (first_on b m) (end_on b m - first_on b m) (λ k u.
           let f : ℕ = first_on b m + k in
           let low : has_marked_next b marks 1 f ≡ false =
-          any_false (has_marked_next b marks 1) (first_on b m) (end_on b m - first_on b m) (M.untouched m am hm z) f (omega arith)
+          chain-false (has_marked_next b marks 1) (first_on b m) (end_on b m - first_on b m) (M.untouched m am hm z) f (omega arith)
           (omega arith) in
           ap (λ (t : Bool). t && is_parting_any b c f (first_on b l) (end_on b l))
-          (lt-leb least (get_or marks (field b f 7) 0) (omega (arith, leb-false 1 (get_or marks (field b f 7) 0) low)))))
+          (lt-leb least (slice_index marks (field b f 7)) (omega (arith, leb-false 1 (slice_index marks (field b f 7)) low)))))
 
       -- ---- are_parted
-      module _ (al : 2 ≤ l) (hl : l ≤ last_label b) (e : get_or c m 0 ≡ get_or c l 0) where
+      module _ (al : 2 ≤ l) (hl : l ≤ last_label b) (e : slice_index c m ≡ slice_index c l) where
         by-marks : is_parted_on b c m l ≡ true → (is_parted_by b c marks 1 m l || is_parted_by b c marks 2 l m) ≡ true
         by-marks t =
             let p : Parting m l = found m l t in
-            go p (or_cases (has_marked_next b marks 1 p.f) (has_marked_next b marks 2 p.g)
+            go p (or-cases (has_marked_next b marks 1 p.f) (has_marked_next b marks 2 p.g)
             (M.seen m l p.f p.g am hm al hl e p.low-f p.high-f p.low-g p.high-g p.parting))
           where
             go : (p : Parting m l) → (has_marked_next b marks 1 p.f ≡ true) ⊎ (has_marked_next b marks 2 p.g ≡ true)
                 → (is_parted_by b c marks 1 m l || is_parted_by b c marks 2 l m) ≡ true
             go p (inl s) = or-true-l (is_parted_by b c marks 1 m l) (is_parted_by b c marks 2 l m)
                 (by_one 1 m l p.f p.low-f p.high-f s (parts-one l p.f p.g p.low-g p.high-g p.parting))
-            go p (inr s) = or_true_r (is_parted_by b c marks 1 m l) (is_parted_by b c marks 2 l m)
+            go p (inr s) = or-true-r (is_parted_by b c marks 1 m l) (is_parted_by b c marks 2 l m)
                 (by_one 2 l m p.g p.low-g p.high-g s
                 (parts-one m p.g p.f p.low-f p.high-f (parts-turned p.f p.g p.parting)))
 
-        pub parted-first : (t : Bool) → t ≡ is_parted_by b c marks 1 m l → t ≡ true → true ≡ is_parted_on b c m l
-        parted-first t q s = sym (by_parts 1 m l (sym q ∙ s))
-
-        pub parted-second : (s : Bool) → s ≡ is_parted_by b c marks 1 m l → s ≡ false → (t : Bool) → t ≡ is_parted_by b c marks 2 l m
-            → t ≡ is_parted_on b c m l
-        parted-second s q z t r = grind (arith, common_steps, no_both, or_cases, same_truth, turned, by_parts, by-marks)
+        pub parted-by : (is_parted_by b c marks 1 m l || is_parted_by b c marks 2 l m) ≡ is_parted_on b c m l
+        parted-by = same_truth (is_parted_by b c marks 1 m l || is_parted_by b c marks 2 l m) (is_parted_on b c m l) back by-marks
+          where
+            back : (is_parted_by b c marks 1 m l || is_parted_by b c marks 2 l m) ≡ true → is_parted_on b c m l ≡ true
+            back t = grind (arith, common_steps, or-cases, turned, by_parts)
 
 -- ---- the marks before the first round
 pub ones-long : (xs : List ℕ) → xs ≡ replicate 256 1 → length xs ≡ 256
 ones-long xs e = ap length e ∙ length-replicate {A = ℕ} 256 1
 
-pub first_marks : (b c : List ℕ) → ((k : ℕ) → get_or b k 0 < 256) → (marks touched : List ℕ)
+pub first-marks : (b c : List ℕ) → ((k : ℕ) → slice_index b k < 256) → (marks touched : List ℕ)
     → marks ≡ replicate 256 1 → touched ≡ replicate 256 1
     → Marks b c marks touched
-first_marks b c bytes marks touched p q = record {
+first-marks b c bytes marks touched p q = record {
   long = ones-long marks p;
   room = ones-long touched q;
   seen = λ m l f g am hm al hl e uf vf ug vg t.
       or-true-l (has_marked_next b marks 1 f) (has_marked_next b marks 2 g)
-      (le-leb 1 (get_or marks (field b f 7) 0) (omega (arith, one marks p (field b f 7) (bytes (10 * f + 7)))));
+      (le-leb 1 (slice_index marks (field b f 7)) (omega (arith, one marks p (field b f 7) (bytes (10 * f + 7)))));
   untouched = λ l al hl z. absurd (omega (arith, one touched q l (omega (arith, bytes 2))));
 }
   where
-    one : (xs : List ℕ) → xs ≡ replicate 256 1 → (k : ℕ) → k < 256 → get_or xs k 0 ≡ 1
-    one xs e k h = ap (λ (ys : List ℕ). get_or ys k 0) e ∙ get_or-replicate 256 k 1 0 h
+    one : (xs : List ℕ) → xs ≡ replicate 256 1 → (k : ℕ) → k < 256 → slice_index xs k ≡ 1
+    one xs e k h = ap (λ (ys : List ℕ). slice_index ys k) e ∙ get_or-replicate 256 k 1 0 h
 
--- ---- mark, touch_of
+-- ---- mark
 module _ (former c kept : List ℕ) where
   pub kept-start : (marks : List ℕ) → length marks ≡ 256 → KeptClasses 0 former c kept marks
   kept-start marks h = record { long = h; one = λ l z. absurd (omega arith) }
 
-  pub kept_on : (marks : List ℕ) (l v : ℕ) → KeptClasses l former c kept marks → l < 256
-      → (v < 2 → get_or c l 0 ≡ get_or kept (get_or former l 0) 0)
+  pub kept-on : (marks : List ℕ) (l v : ℕ) → KeptClasses l former c kept marks → l < 256
+      → (v < 2 → slice_index c l ≡ slice_index kept (slice_index former l))
       → KeptClasses (l + 1) former c kept (set marks l v)
-  kept_on marks l v K h e = grind (arith, common_steps)
-
-module _ (b marks : List ℕ) where
-  pub leads-marked : (f next : ℕ) → next ≡ field b f 7 → 1 ≤ get_or marks next 0 → has_marked_next b marks 1 f ≡ true
-  leads-marked f next e h = ap (λ (x : ℕ). leb 1 (get_or marks x 0)) (sym e) ∙ le-leb 1 (get_or marks next 0) h
-
-  pub leads-unmarked : (f next : ℕ) → next ≡ field b f 7 → get_or marks next 0 < 1 → has_marked_next b marks 1 f ≡ false
-  leads-unmarked f next e h = ap (λ (x : ℕ). leb 1 (get_or marks x 0)) (sym e) ∙ lt-leb 1 (get_or marks next 0) h
+  kept-on marks l v K h e = grind (arith, common_steps)
 
 -- ---- the marks after a round
 module _ (b : List ℕ) (x : Even b) where
@@ -188,28 +176,41 @@ module _ (b : List ℕ) (x : Even b) where
 
   next-inside : (m f : ℕ) → 2 ≤ m → m ≤ last_label b → first_on b m ≤ f → f < end_on b m → field b f 7 ≤ last_label b
   next-inside m f am hm u v =
-      let none : some outside i.rows ≡ false = some-none outside no_row i.rows (λ j h.
-      and_no (eqb (get_or i.rows j no_row).from m) (not (ltb (get_or i.rows j no_row).next (length i.labels)))
-      (ap not (lt-ltb (get_or i.rows j no_row).next (length i.labels) (x.sound.each j h).leading.inside))) in
+      let none : list_any outside i.rows ≡ false = some-none outside no_row i.rows (λ j h.
+      and-no ((slice_index_or i.rows j no_row).from == m) (not (nat_lt (slice_index_or i.rows j no_row).next (length i.labels)))
+      (ap not (lt-ltb (slice_index_or i.rows j no_row).next (length i.labels) (x.sound.each j h).leading.inside))) in
       let here : outside (row_on b m f) ≡ false =
-      any_false (λ f. outside (row_on b m f)) (first_on b m) (end_on b m - first_on b m)
-      (sym (some-own b outside m (λ k g h. ap (λ (t : Bool). t && not (ltb (field b g 7) (length i.labels))) (ne_eqb k m h)) am hm)
+      any-false (λ f. outside (row_on b m f)) (first_on b m) (end_on b m - first_on b m)
+      (sym (some-own b outside m (λ k g h. ap (λ (t : Bool). t && not (nat_lt (field b g 7) (length i.labels))) (ne_eqb k m h)) am hm)
       ∙ none)
       f u (omega arith) in
       omega (
         arith,
         labels-count b,
-        ltb-true (field b f 7) (length i.labels) (not-false (ltb (field b f 7) (length i.labels))
-            (and-false (eqb m m) (not (ltb (field b f 7) (length i.labels))) here (eq-eqb m m refl))),
+        ltb-true (field b f 7) (length i.labels) (not-false (nat_lt (field b f 7) (length i.labels))
+            (and-false (m == m) (not (nat_lt (field b f 7) (length i.labels))) here (eq-eqb m m refl))),
       )
     where
       outside : Row → Bool
-      outside r = eqb r.from m && not (ltb r.next (length i.labels))
+      outside r = r.from == m && not (nat_lt r.next (length i.labels))
+
+  -- classes that are the same are parted by the same rows
+  pub marks-alike : (c d marks touched : List ℕ) → ((l : ℕ) → l ≤ last_label b → slice_index d l ≡ slice_index c l) → Marks b c marks touched
+      → Marks b d marks touched
+  marks-alike c d marks touched e M = record {
+    long = M.long;
+    room = M.room;
+    seen = λ m l f g am hm al hl q uf vf ug vg t.
+        M.seen m l f g am hm al hl (sym (e m hm) ∙ q ∙ e l hl) uf vf ug vg
+        (ap₂ (λ (y z : ℕ). not (y == z) && is_together (row_in_frame b f) (row_in_frame b g)) (sym (e (field b f 7) (next-inside m f am hm uf vf)))
+        (sym (e (field b g 7) (next-inside l g al hl ug vg))) ∙ t);
+    untouched = M.untouched;
+  }
 
   module _ (k : ℕ) (former : List ℕ) (h : Classed b (classes i k) former) (c : List ℕ) (h' : Classed b (classes i (suc k)) c)
       (n : ℕ) (count : n ≡ last_label b + 1) (kept marks : List ℕ) (K : KeptClasses n former c kept marks) where
     -- rows that match one word and bit led to one class before: where they part labels now, one of the two next labels is marked
-    seen : (m l f g : ℕ) → 2 ≤ m → m ≤ last_label b → 2 ≤ l → l ≤ last_label b → get_or c m 0 ≡ get_or c l 0
+    seen : (m l f g : ℕ) → 2 ≤ m → m ≤ last_label b → 2 ≤ l → l ≤ last_label b → slice_index c m ≡ slice_index c l
         → first_on b m ≤ f → f < end_on b m → first_on b l ≤ g → g < end_on b l → is_parting_in b c f g ≡ true
         → (has_marked_next b marks 1 f || has_marked_next b marks 2 g) ≡ true
     seen m l f g am hm al hl e uf vf ug vg p = go (has_marked_next b marks 1 f) (has_marked_next b marks 2 g) refl refl
@@ -225,34 +226,34 @@ module _ (b : List ℕ) (x : Even b) where
 
         before : is_parting_in b former f g ≡ false
         before =
-            any_false (is_parting_in b former f) (first_on b l) (end_on b l - first_on b l)
-            (any_false (λ f. is_parting_any b former f (first_on b l) (end_on b l)) (first_on b m) (end_on b m - first_on b m)
+            chain-false (is_parting_in b former f) (first_on b l) (end_on b l - first_on b l)
+            (chain-false (λ f. is_parting_any b former f (first_on b l) (end_on b l)) (first_on b m) (end_on b m - first_on b m)
             (unparted-before b x k former h m l am hm al hl (sym (h'.at m hm) ∙ e ∙ h'.at l hl)) f uf (omega arith)) g ug (omega arith)
 
         first : (s t : Bool) → (s && t) ≡ false → t ≡ true → s ≡ false
         first true t q r = no_both t r q
         first false t q r = refl
 
-        same : get_or former y 0 ≡ get_or former z 0
+        same : slice_index former y ≡ slice_index former z
         same =
-            eqb-true (get_or former y 0) (get_or former z 0) (not-false (eqb (get_or former y 0) (get_or former z 0))
-            (first (not (eqb (get_or former y 0) (get_or former z 0))) meet before
-            (and_r (not (eqb (get_or c y 0) (get_or c z 0))) meet p)))
+            eqb-true (slice_index former y) (slice_index former z) (not-false (slice_index former y == slice_index former z)
+            (first (not (slice_index former y == slice_index former z)) meet before
+            (and-r (not (slice_index c y == slice_index c z)) meet p)))
 
         go : (s t : Bool) → has_marked_next b marks 1 f ≡ s → has_marked_next b marks 2 g ≡ t → (s || t) ≡ true
         go true t q r = refl
         go false true q r = refl
         go false false q r =
-            let u : get_or c y 0 ≡ get_or kept (get_or former y 0) 0 =
-            K.one y (omega (arith, count, next-inside m f am hm uf vf)) (omega (arith, leb-false 1 (get_or marks y 0) q)) in
-            let v : get_or c z 0 ≡ get_or kept (get_or former z 0) 0 =
-            K.one z (omega (arith, count, next-inside l g al hl ug vg)) (omega (arith, leb-false 2 (get_or marks z 0) r)) in
-            no_both (eqb (get_or c y 0) (get_or c z 0)) (eq-eqb (get_or c y 0) (get_or c z 0)
-            (u ∙ ap (λ (w : ℕ). get_or kept w 0) same ∙ sym v))
-            (not-true (eqb (get_or c y 0) (get_or c z 0)) (and_l (not (eqb (get_or c y 0) (get_or c z 0))) meet p))
+            let u : slice_index c y ≡ slice_index kept (slice_index former y) =
+            K.one y (omega (arith, count, next-inside m f am hm uf vf)) (omega (arith, leb-false 1 (slice_index marks y) q)) in
+            let v : slice_index c z ≡ slice_index kept (slice_index former z) =
+            K.one z (omega (arith, count, next-inside l g al hl ug vg)) (omega (arith, leb-false 2 (slice_index marks z) r)) in
+            no_both (slice_index c y == slice_index c z) (eq-eqb (slice_index c y) (slice_index c z)
+            (u ∙ ap (λ (w : ℕ). slice_index kept w) same ∙ sym v))
+            (not-true (slice_index c y == slice_index c z) (and-l (not (slice_index c y == slice_index c z)) meet p))
 
-    pub next_marks : (touched : List ℕ) → Touched b marks (last_label b + 1) touched → Marks b c marks touched
-    next_marks touched T = record {
+    pub next-marks : (touched : List ℕ) → Touched b marks (last_label b + 1) touched → Marks b c marks touched
+    next-marks touched T = record {
       long = K.long;
       room = T.long;
       seen = seen;

@@ -1,10 +1,10 @@
 -- Where a label's row leads by a word and a bit, and when a list of classes parts two labels.
-use Rattle.std.proofs.Common.{if◌then◌else◌, ℕ, zero, suc, ◌≤◌, ◌<◌, Bool, true, false, ◌&&◌, ◌||◌, not, ◌≡◌, refl, sym, ◌∙◌, ap, ap₂, List}
-use Rattle.std.proofs.Common.{[], ◌∷◌, arith, eqb, length, get_or, eqb-true, eq-eqb}
+use Rattle.std.proofs.Common.{if◌then◌else◌, ℕ, zero, suc, ◌≤◌, ◌<◌, Bool, true, false, ◌&&◌, ◌||◌, not, ◌≡◌, refl, sym, ◌∙◌, ap, ap₂, List, ◌==◌, slice_index_or, filter}
+use Rattle.std.proofs.Common.{[], ◌∷◌, arith, length, eqb-true, eq-eqb}
 use Rattle.std.proofs.lemmas.Grind.{common_steps}
-use Rattle.words.specs.lists.Sequences.{some, filter, All}
-use Rattle.words.proofs.lists.Tests.{no_both, and_l, and_r, and-true, and-false, or_l, or_r, not-false}
-use Rattle.words.proofs.lists.Joins.{all-places, all_filter}
+use Rattle.std.specs.List.{list_any, AllByRecursion}
+use Rattle.words.proofs.lists.Tests.{no_both, and-l, and-r, and-true, and-false, or-l, or-r, not-false}
+use Rattle.words.proofs.lists.Joins.{all-places, all-filter}
 use Rattle.image.specs.Image.{Image, Label, Row, no_row, nth_row}
 use Rattle.image.specs.inner.Sound.{SoundRow, SoundImage}
 use Rattle.state.specs.State.{label_at}
@@ -13,18 +13,16 @@ use Rattle.covering.specs.Matched.{is_together}
 use Rattle.grouping.specs.Classes.{has_same_fields, class_of, is_parting, is_parted}
 use Rattle.covering.specs.Common.{Common}
 use Rattle.covering.proofs.Together.{common-together, together-common}
-use Rattle.covering.proofs.Hits.{Hit, OneRow, only_row, the-place, hit-is, the_row}
+use Rattle.covering.proofs.Hits.{Hit, OneRow, only-row, the-place, hit-is, the_row}
 
 -- ---- lists
-pub some_at : {A : Type 0} (p : A → Bool) (d : A) (xs : List A) → some p xs ≡ false → (j : ℕ) → j < length xs → p (get_or xs j d) ≡ false
-unfolding some
-some_at p d [] e j h = absurd (omega arith)
-some_at p d (x ∷ xs) e zero h = or_l (p x) (some p xs) e
-some_at p d (x ∷ xs) e (suc j) h = some_at p d xs (or_r (p x) (some p xs) e) j (omega arith)
+pub some-at : {A : Type 0} (p : A → Bool) (d : A) (xs : List A) → list_any p xs ≡ false → (j : ℕ) → j < length xs → p (slice_index_or xs j d) ≡ false
+some-at p d [] e j h = absurd (omega arith)
+some-at p d (x ∷ xs) e zero h = or-l (p x) (list_any p xs) e
+some-at p d (x ∷ xs) e (suc j) h = some-at p d xs (or-r (p x) (list_any p xs) e) j (omega arith)
 
-pub some-none : {A : Type 0} (p : A → Bool) (d : A) (xs : List A) → ((j : ℕ) → j < length xs → p (get_or xs j d) ≡ false) → some p xs ≡
+pub some-none : {A : Type 0} (p : A → Bool) (d : A) (xs : List A) → ((j : ℕ) → j < length xs → p (slice_index_or xs j d) ≡ false) → list_any p xs ≡
     false
-unfolding some
 some-none p d [] h = refl
 some-none p d (x ∷ xs) h = ap₂ ◌||◌ (h 0 (omega arith)) (some-none p d xs (λ j l. h (suc j) (omega arith)))
 
@@ -47,15 +45,15 @@ module _ (i : Image) (S : SoundImage i) where
   pub onward-inside : (l w : ℕ) (b : Bool) → l < n → onward_label i l w b < n
   onward-inside l w b h =
       go (filter (is_candidate l w (if b then 1 else 0)) i.rows)
-      (all_filter (SoundRow i) (is_candidate l w (if b then 1 else 0)) i.rows (all-places (SoundRow i) no_row i.rows S.each))
+      (all-filter (SoundRow i) (is_candidate l w (if b then 1 else 0)) i.rows (all-places (SoundRow i) no_row i.rows S.each))
     where
-      go : (rs : List Row) → All (λ r. SoundRow i r × (is_candidate l w (if b then 1 else 0) r ≡ true)) rs → label_led_to l rs < n
+      go : (rs : List Row) → AllByRecursion (λ r. SoundRow i r × (is_candidate l w (if b then 1 else 0) r ≡ true)) rs → label_led_to l rs < n
       go [] a = h
       go (r ∷ rs) a = a.0.0.leading.inside
 
   -- labels 0 and 1 hold what no other label holds
-  pub low_same : (l m : ℕ) → l < n → m < n → label_at i l ≡ label_at i m → l < 2 → l ≡ m
-  low_same l m hl hm e low = grind (arith, common_steps)
+  pub low-same : (l m : ℕ) → l < n → m < n → label_at i l ≡ label_at i m → l < 2 → l ≡ m
+  low-same l m hl hm e low = grind (arith, common_steps)
 
   module _ (one : OneRow i) where
     -- a row of a label that matches is the one that leads on
@@ -73,7 +71,7 @@ module _ (i : Image) (S : SoundImage i) where
     pub best-found : (l w : ℕ) (b : Bool) → 2 ≤ l → l < n → (k : ℕ)
         → lead_of (best_row l w (if b then 1 else 0) k i.rows) ≡ found (onward_label i l w b)
     best-found l w b low high k = let x = the_row i one l w b low high in
-        only_row l w (if b then 1 else 0) x.0 k i.rows x.1 ∙ ap found (sym (ap (label_led_to l) x.1))
+        only-row l w (if b then 1 else 0) x.0 k i.rows x.1 ∙ ap found (sym (ap (label_led_to l) x.1))
 
     module _ (c : List ℕ) where
       pub unparted : (l m : ℕ) → 2 ≤ l → l < n → 2 ≤ m → m < n → is_parted i c l m ≡ false
@@ -84,20 +82,20 @@ module _ (i : Image) (S : SoundImage i) where
           let y = the-hit m w b am hm in
           let r : Row = nth_row i x.place in
           let s : Row = nth_row i y.place in
-          let p : some (is_parting c l m r) i.rows ≡ false =
-          some_at (λ r. some (is_parting c l m r) i.rows) no_row i.rows e x.place x.inside in
-          let q : is_parting c l m r s ≡ false = some_at (is_parting c l m r) no_row i.rows p y.place y.inside in
-          let f : eqb r.from l ≡ true = and_l (eqb r.from l) (is_match w (if b then 1 else 0) r) x.holding in
-          let g : eqb s.from m ≡ true = and_l (eqb s.from m) (is_match w (if b then 1 else 0) s) y.holding in
+          let p : list_any (is_parting c l m r) i.rows ≡ false =
+          some-at (λ r. list_any (is_parting c l m r) i.rows) no_row i.rows e x.place x.inside in
+          let q : is_parting c l m r s ≡ false = some-at (is_parting c l m r) no_row i.rows p y.place y.inside in
+          let f : (r.from == l) ≡ true = and-l (r.from == l) (is_match w (if b then 1 else 0) r) x.holding in
+          let g : (s.from == m) ≡ true = and-l (s.from == m) (is_match w (if b then 1 else 0) s) y.holding in
           let t : is_together r s ≡ true =
           common-together r s w (if b then 1 else 0) (S.each x.place x.inside).small (S.each y.place y.inside).small
-          (and_r (eqb r.from l) (is_match w (if b then 1 else 0) r) x.holding)
-          (and_r (eqb s.from m) (is_match w (if b then 1 else 0) s) y.holding) in
-          let z : not (eqb (class_of c r.next) (class_of c s.next)) ≡ false =
-          and-false (eqb r.from l && eqb s.from m && is_together r s) (not (eqb (class_of c r.next) (class_of c s.next))) q
-          (and-true (eqb r.from l && eqb s.from m) (is_together r s) (and-true (eqb r.from l) (eqb s.from m) f g) t) in
+          (and-r (r.from == l) (is_match w (if b then 1 else 0) r) x.holding)
+          (and-r (s.from == m) (is_match w (if b then 1 else 0) s) y.holding) in
+          let z : not (class_of c r.next == class_of c s.next) ≡ false =
+          and-false (r.from == l && s.from == m && is_together r s) (not (class_of c r.next == class_of c s.next)) q
+          (and-true (r.from == l && s.from == m) (is_together r s) (and-true (r.from == l) (s.from == m) f g) t) in
           ap (class_of c) (onward-is l w b al hl x.place x.inside x.holding)
-          ∙ eqb-true (class_of c r.next) (class_of c s.next) (not-false (eqb (class_of c r.next) (class_of c s.next)) z)
+          ∙ eqb-true (class_of c r.next) (class_of c s.next) (not-false (class_of c r.next == class_of c s.next) z)
           ∙ ap (class_of c) (sym (onward-is m w b am hm y.place y.inside y.holding))
 
       parts-not : (l m j k : ℕ) → j < length i.rows → k < length i.rows
@@ -114,26 +112,26 @@ module _ (i : Image) (S : SoundImage i) where
           go : (t : Bool) → is_parting c l m (nth_row i j) (nth_row i k) ≡ t → is_parting c l m (nth_row i j) (nth_row i k) ≡ false
           go false e = e
           go true e =
-              let x : Bool = eqb r.from l in
-              let y : Bool = eqb s.from m in
-              let z : Bool = not (eqb (class_of c r.next) (class_of c s.next)) in
-              let e₁ : (x && y && is_together r s) ≡ true = and_l (x && y && is_together r s) z e in
-              let e₂ : (x && y) ≡ true = and_l (x && y) (is_together r s) e₁ in
-              let f : r.from ≡ l = eqb-true r.from l (and_l x y e₂) in
-              let g : s.from ≡ m = eqb-true s.from m (and_r x y e₂) in
-              let C : Common r s = together-common r s (S.each j hj) (S.each k hk) (and_r (x && y) (is_together r s) e₁) in
+              let x : Bool = r.from == l in
+              let y : Bool = s.from == m in
+              let z : Bool = not (class_of c r.next == class_of c s.next) in
+              let e₁ : (x && y && is_together r s) ≡ true = and-l (x && y && is_together r s) z e in
+              let e₂ : (x && y) ≡ true = and-l (x && y) (is_together r s) e₁ in
+              let f : r.from ≡ l = eqb-true r.from l (and-l x y e₂) in
+              let g : s.from ≡ m = eqb-true s.from m (and-r x y e₂) in
+              let C : Common r s = together-common r s (S.each j hj) (S.each k hk) (and-r (x && y) (is_together r s) e₁) in
               let p : onward_label i l C.word C.bit ≡ r.next =
               onward-is l C.word C.bit (omega (arith, (S.each j hj).low)) (omega (arith, (S.each j hj).high)) j hj
-              (and-true x (is_match C.word (if C.bit then 1 else 0) r) (and_l x y e₂) C.first) in
+              (and-true x (is_match C.word (if C.bit then 1 else 0) r) (and-l x y e₂) C.first) in
               let q : onward_label i m C.word C.bit ≡ s.next =
               onward-is m C.word C.bit (omega (arith, (S.each k hk).low)) (omega (arith, (S.each k hk).high)) k hk
-              (and-true y (is_match C.word (if C.bit then 1 else 0) s) (and_r x y e₂) C.second) in
+              (and-true y (is_match C.word (if C.bit then 1 else 0) s) (and-r x y e₂) C.second) in
               let same : class_of c r.next ≡ class_of c s.next =
               ap (class_of c) (sym p) ∙ h C.word C.bit C.low ∙ ap (class_of c) q in
-              no_both z (and_r (x && y && is_together r s) z e) (ap not (eq-eqb (class_of c r.next) (class_of c s.next) same))
+              no_both z (and-r (x && y && is_together r s) z e) (ap not (eq-eqb (class_of c r.next) (class_of c s.next) same))
 
       pub not-parted : (l m : ℕ) → ((w : ℕ) (b : Bool) → w < 65536 → class_of c (onward_label i l w b) ≡ class_of c (onward_label i m w b))
           → is_parted i c l m ≡ false
       unfolding is_parted
-      not-parted l m h = some-none (λ r. some (is_parting c l m r) i.rows) no_row i.rows (λ j hj.
+      not-parted l m h = some-none (λ r. list_any (is_parting c l m r) i.rows) no_row i.rows (λ j hj.
           some-none (is_parting c l m (nth_row i j)) no_row i.rows (λ k hk. parts-not l m j k hj hk h))

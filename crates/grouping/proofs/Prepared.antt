@@ -1,5 +1,5 @@
 -- The table of an accepted image to which 23 does not apply is one that labels are grouped on.
-use Rattle.std.proofs.Common.{ℕ, ◌+◌, ◌-◌, ◌%◌, ◌≤◌, ◌<◌, false, ◌≡◌, sym, ◌∙◌, ap, subst, List, map, arith, length, get_or}
+use Rattle.std.proofs.Common.{ℕ, ◌+◌, ◌-◌, ◌%◌, ◌≤◌, ◌<◌, false, ◌≡◌, sym, ◌∙◌, ap, subst, List, map, arith, length, slice_index, slice_index_or}
 use Rattle.std.proofs.lemmas.Grind.{common_steps}
 use Rattle.words.specs.lists.Numbers.{range}
 use Rattle.words.proofs.lists.Ranges.{get_or-map-range}
@@ -19,7 +19,7 @@ use Rattle.tables.proofs.Made.{MadeTable}
 use Rattle.covering.specs.Matched.{is_uneven}
 use Rattle.grouping.specs.inner.GroupingContracts.{Even}
 
-module _ (b : List ℕ) (ok : table_verdict b ≡ fine) (bytes : (k : ℕ) → get_or b k 0 < 256) where
+module _ (b : List ℕ) (ok : table_verdict b ≡ fine) (bytes : (k : ℕ) → slice_index b k < 256) where
   noted-bits : (l f : ℕ) → 2 ≤ l → l ≤ last_label (noted_table b) → first_on (noted_table b) l ≤ f → f < end_on (noted_table b) l
       → (row_on (noted_table b) l f).bit ≡ field (noted_table b) f 6
   noted-bits l f a h low high =
@@ -27,16 +27,16 @@ module _ (b : List ℕ) (ok : table_verdict b ≡ fine) (bytes : (k : ℕ) → g
       let first : first_on (noted_table b) l ≡ first_frame b l = first-noted b ok bytes l (omega arith) hl in
       let end : end_on (noted_table b) l ≡ first_frame b (l + 1) = end-noted b ok bytes l hl in
       let k : ℕ = f - first_on (noted_table b) l in
-      let mine : get_or (rows_on (noted_table b) l) k no_row ≡ row_on (noted_table b) l (first_on (noted_table b) l + k) =
+      let mine : slice_index_or (rows_on (noted_table b) l) k no_row ≡ row_on (noted_table b) l (first_on (noted_table b) l + k) =
       get_or-map-range (row_on (noted_table b) l) no_row (first_on (noted_table b) l)
       (end_on (noted_table b) l - first_on (noted_table b) l) k (omega arith) in
-      let its : get_or (map (row_in_frame b) (range (first_frame b l) (first_frame b (l + 1) - first_frame b l)))
+      let its : slice_index_or (map (row_in_frame b) (range (first_frame b l) (first_frame b (l + 1) - first_frame b l)))
       k no_row ≡ row_in_frame b (first_frame b l + k) =
       get_or-map-range (row_in_frame b) no_row (first_frame b l) (first_frame b (l + 1) - first_frame b l) k (omega arith) in
       let at : first_on (noted_table b) l + k ≡ f = omega arith in
       let at' : first_frame b l + k ≡ f = omega arith in
       ap (λ (r : Row). r.bit)
-      (ap (row_on (noted_table b) l) (sym at) ∙ sym mine ∙ ap (λ (rs : List Row). get_or rs k no_row)
+      (ap (row_on (noted_table b) l) (sym at) ∙ sym mine ∙ ap (λ (rs : List Row). slice_index_or rs k no_row)
       (rows-own b ok bytes l (omega arith) hl) ∙ its
       ∙ ap (row_in_frame b) at')
       ∙ sym (noted-late b f 6 (omega arith) (omega arith))

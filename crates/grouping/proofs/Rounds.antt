@@ -1,10 +1,10 @@
 -- Rounds of parting: each list of classes is an equivalence, each round parts further, and after as many rounds as labels nothing changes.
-use Rattle.std.proofs.Common.{ℕ, zero, suc, ◌≤◌, ◌<◌, Bool, true, false, not, ◌≡◌, refl, sym, ◌∙◌, ap, subst, ◌⊎◌, inl, inr, List, arith}
-use Rattle.std.proofs.Common.{eqb, length, eqb-true, eq-eqb}
+use Rattle.std.proofs.Common.{ℕ, zero, suc, ◌≤◌, ◌<◌, Bool, true, false, not, ◌≡◌, refl, sym, ◌∙◌, ap, subst, ◌⊎◌, inl, inr, List, arith, ◌==◌}
+use Rattle.std.proofs.Common.{length, eqb-true, eq-eqb}
 use Rattle.std.proofs.lemmas.Grind.{common_steps}
 use Rattle.words.specs.lists.Numbers.{tabulate, count}
-use Rattle.words.proofs.lists.Tests.{and_l, and_r, and-true, not-true, split}
-use Rattle.words.proofs.lists.Counts.{count_same, count-le, count-some}
+use Rattle.words.proofs.lists.Tests.{and-l, and-r, and-true, not-true, split}
+use Rattle.words.proofs.lists.Counts.{count-same, count-le, count-some}
 use Rattle.words.proofs.lists.Ranges.{map-count, length-map-range}
 use Rattle.image.specs.Image.{Image}
 use Rattle.image.specs.inner.Sound.{SoundImage}
@@ -13,7 +13,7 @@ use Rattle.state.specs.State.{label_at}
 use Rattle.grouping.specs.Classes.{has_same_fields, class_of, is_first, is_parted, is_staying_with, classes_by, classes, grouping}
 use Rattle.grouping.proofs.Representatives.{lowest_alike, alike-le, tabulated, AlikeBelow, same-lowest, lowest-same, lowest-own}
 use Rattle.covering.proofs.Hits.{OneRow}
-use Rattle.grouping.proofs.Onward.{same-fields, onward_label, low_same, unparted, not-parted}
+use Rattle.grouping.proofs.Onward.{same-fields, onward_label, low-same, unparted, not-parted}
 
 -- ---- what holds of every list of classes
 pub record ClassRound (i : Image) (c : List ℕ) : Type 0 where
@@ -31,19 +31,19 @@ module _ (i : Image) where
     pub class-is : (l : ℕ) → l < n → class_of (classes_by i alike) l ≡ lowest_alike alike l
     class-is l h = tabulated alike n l h
 
-    pub class_same : (l m : ℕ) → l < n → m < n → alike l m ≡ true → class_of (classes_by i alike) l ≡ class_of (classes_by i alike) m
-    class_same l m hl hm t = class-is l hl ∙ same-lowest n alike a l m hl hm t ∙ sym (class-is m hm)
+    pub class-same : (l m : ℕ) → l < n → m < n → alike l m ≡ true → class_of (classes_by i alike) l ≡ class_of (classes_by i alike) m
+    class-same l m hl hm t = class-is l hl ∙ same-lowest n alike a l m hl hm t ∙ sym (class-is m hm)
 
-    pub same_class : (l m : ℕ) → l < n → m < n → class_of (classes_by i alike) l ≡ class_of (classes_by i alike) m → alike l m ≡ true
-    same_class l m hl hm e = lowest-same n alike a l m hl hm (sym (class-is l hl) ∙ e ∙ class-is m hm)
+    pub same-class : (l m : ℕ) → l < n → m < n → class_of (classes_by i alike) l ≡ class_of (classes_by i alike) m → alike l m ≡ true
+    same-class l m hl hm e = lowest-same n alike a l m hl hm (sym (class-is l hl) ∙ e ∙ class-is m hm)
 
-    pub round_by : ((l m : ℕ) → l < n → m < n → alike l m ≡ true → label_at i l ≡ label_at i m) → ClassRound i (classes_by i alike)
-    round_by h = record {
+    pub round-by : ((l m : ℕ) → l < n → m < n → alike l m ≡ true → label_at i l ≡ label_at i m) → ClassRound i (classes_by i alike)
+    round-by h = record {
       long = unfold tabulate in length-map-range (lowest_alike alike) 0 n;
       below = λ l k. omega (arith, class-is l k, alike-le alike l);
       own = λ l k. ap (class_of (classes_by i alike)) (class-is l k) ∙ class-is (lowest_alike alike l) (omega (arith, alike-le alike l))
           ∙ lowest-own n alike a l k ∙ sym (class-is l k);
-      same = λ l m hl hm e. h l m hl hm (same_class l m hl hm e);
+      same = λ l m hl hm e. h l m hl hm (same-class l m hl hm e);
     }
 
   -- ---- the first classes
@@ -59,8 +59,8 @@ module _ (i : Image) where
         u);
   }
 
-  pub first_round : ClassRound i (classes_by i has_same_fields_at)
-  first_round = round_by has_same_fields_at first_alike (λ l m hl hm t. fields-same (label_at i l) (label_at i m) t)
+  pub first-round : ClassRound i (classes_by i has_same_fields_at)
+  first-round = round-by has_same_fields_at first_alike (λ l m hl hm t. fields-same (label_at i l) (label_at i m) t)
 
   module _ (S : SoundImage i) (one : OneRow i) where
     module _ (c : List ℕ) (R : ClassRound i c) where
@@ -72,10 +72,10 @@ module _ (i : Image) where
       pub stays-told : (l m : ℕ) → l < n → m < n → is_staying_with i c l m ≡ true → StaysTogether l m
       stays-told l m hl hm t =
           let e : class_of c l ≡ class_of c m =
-          eqb-true (class_of c l) (class_of c m) (and_l (eqb (class_of c l) (class_of c m)) (not (is_parted i c l m)) t) in
+          eqb-true (class_of c l) (class_of c m) (and-l (class_of c l == class_of c m) (not (is_parted i c l m)) t) in
           record {
             now = e;
-            then = go e (not-true (is_parted i c l m) (and_r (eqb (class_of c l) (class_of c m)) (not (is_parted i c l m)) t))
+            then = go e (not-true (is_parted i c l m) (and-r (class_of c l == class_of c m) (not (is_parted i c l m)) t))
                 (split l 2) (split m 2);
           }
         where
@@ -84,8 +84,8 @@ module _ (i : Image) where
 
           go : class_of c l ≡ class_of c m → is_parted i c l m ≡ false → (l < 2) ⊎ (2 ≤ l) → (m < 2) ⊎ (2 ≤ m)
               → (w : ℕ) (b : Bool) → class_of c (onward_label i l w b) ≡ class_of c (onward_label i m w b)
-          go e p (inl x) y = low (low_same i S l m hl hm (R.same l m hl hm e) x)
-          go e p (inr x) (inl y) = low (sym (low_same i S m l hm hl (sym (R.same l m hl hm e)) y))
+          go e p (inl x) y = low (low-same i S l m hl hm (R.same l m hl hm e) x)
+          go e p (inr x) (inl y) = low (sym (low-same i S m l hm hl (sym (R.same l m hl hm e)) y))
           go e p (inr x) (inr y) = unparted i S one c l m x hl y hm p
 
       pub stays-made : (l m : ℕ) → class_of c l ≡ class_of c m
@@ -108,11 +108,11 @@ module _ (i : Image) where
       next_classes = classes_by i (is_staying_with i c)
 
       pub next-round : ClassRound i next_classes
-      next-round = round_by (is_staying_with i c) stays-alike (λ l m hl hm t. R.same l m hl hm (stays-told l m hl hm t).now)
+      next-round = round-by (is_staying_with i c) stays-alike (λ l m hl hm t. R.same l m hl hm (stays-told l m hl hm t).now)
 
       -- labels of one class after a round
       pub next-told : (l m : ℕ) → l < n → m < n → class_of next_classes l ≡ class_of next_classes m → StaysTogether l m
-      next-told l m hl hm e = stays-told l m hl hm (same_class (is_staying_with i c) stays-alike l m hl hm e)
+      next-told l m hl hm e = stays-told l m hl hm (same-class (is_staying_with i c) stays-alike l m hl hm e)
 
       -- the lowest one was of the same class before
       next-lowest : (l : ℕ) → l < n → class_of c (class_of next_classes l) ≡ class_of c l
@@ -134,7 +134,7 @@ module _ (i : Image) where
           let hm : m < n = omega (arith, next-round.below l hl) in
           let t : is_first next_classes m ≡ true = eq-eqb (class_of next_classes m) m (next-round.own l hl) in
           let u : is_first c m ≡ true =
-          sym (count_same (is_first c) (is_first next_classes) 0 n (λ j a b t. stays-first j (omega arith) t) h m (omega arith)
+          sym (count-same (is_first c) (is_first next_classes) 0 n (λ j a b t. stays-first j (omega arith) t) h m (omega arith)
           (omega arith))
           ∙ t in
           ap (lowest_alike (is_staying_with i c)) (omega arith) ∙ sym (class-is (is_staying_with i c) stays-alike l hl)
@@ -143,7 +143,7 @@ module _ (i : Image) where
     -- ---- all rounds
     pub rounds : (k : ℕ) → ClassRound i (classes i k)
     unfolding classes
-    rounds zero = first_round
+    rounds zero = first-round
     rounds (suc k) = next-round (classes i k) (rounds k)
 
     pub more : (k : ℕ) → classes i (suc k) ≡ next_classes (classes i k) (rounds k)
@@ -173,8 +173,8 @@ module _ (i : Image) where
         go (inr x) (inr y) = inl (again (more k ∙ settled (classes i k) (rounds k)
             (subst (λ (c : List ℕ). count (is_first c) 0 n ≤ size_at k) (more k) y)))
 
-    pub at_rest : classes i (suc n) ≡ classes i n
-    at_rest = go (progress n)
+    pub at-rest : classes i (suc n) ≡ classes i n
+    at-rest = go (progress n)
       where
         go : (classes i (suc n) ≡ classes i n) ⊎ (n < size_at n) → classes i (suc n) ≡ classes i n
         go (inl e) = e
@@ -190,4 +190,4 @@ module _ (i : Image) where
     unfolding grouping
     group-leads l m hl hm e =
         (next-told (classes i n) (rounds n) l m hl hm
-        (subst (λ (c : List ℕ). class_of c l ≡ class_of c m) (sym at_rest ∙ more n) e)).then
+        (subst (λ (c : List ℕ). class_of c l ≡ class_of c m) (sym at-rest ∙ more n) e)).then

@@ -1,10 +1,14 @@
 -- Steps of the functions that find the classes of a table's labels, round after round.
-use Rattle.std.proofs.Common.{ℕ, zero, suc, ◌+◌, ◌-◌, ◌≤◌, ◌<◌, Bool, true, false, ◌&&◌, ◌||◌, not, ◌≡◌, refl, sym, ◌∙◌, ap, ap₂, subst}
-use Rattle.std.proofs.Common.{◌⊎◌, inl, inr, List, [], ◌∷◌, arith, eqb, length, get_or, set, eq-eqb, eqb-true}
+use Rattle.std.proofs.Common.{ℕ, zero, suc, ◌+◌, ◌-◌, ◌≤◌, ◌<◌, Bool, true, false, ◌&&◌, ◌||◌, not, ◌≡◌, refl, sym, ◌∙◌, ap, ap₂, subst, ◌==◌, slice_index, slice_index_or}
+use Rattle.std.proofs.Common.{◌⊎◌, inl, inr, List, [], ◌∷◌, arith, length, set, eq-eqb, eqb-true, map, drop, Option, find, unwrap_or}
 use Rattle.std.proofs.lemmas.Grind.{common_steps}
-use Rattle.words.specs.lists.Numbers.{lowest}
-use Rattle.words.specs.lists.Sequences.{some}
-use Rattle.words.proofs.lists.Tests.{no_both, and_l, and_r, and-true, not-true, split}
+use Rattle.std.proofs.Math.ListN.{get_or-append}
+use Rattle.std.specs.List.{range_with_len, list_any}
+use Rattle.words.specs.lists.Numbers.{range, tabulate, lowest}
+use Rattle.words.specs.lists.Sequences.{over, written}
+use Rattle.words.proofs.lists.Written.{written-front}
+use Rattle.words.proofs.lists.Fills.{ValuesFrom, values-none, values-turn, values-all}
+use Rattle.words.proofs.lists.Tests.{no_both, and-l, and-r, and-true, not-true, split}
 use Rattle.words.proofs.lists.Searches.{lowest-hit, lowest-above, lowest-most, lowest-before, lowest-alike}
 use Rattle.words.proofs.lists.Tabulated.{length-tabulate}
 use Rattle.image.specs.Image.{Image, Row, no_row}
@@ -12,12 +16,13 @@ use Rattle.image.specs.Decode.{last_label}
 use Rattle.tables.specs.Table.{table_image}
 use Rattle.tables.proofs.TableReads.{labels-count, label-at}
 use Rattle.covering.specs.Matched.{is_together}
+use Rattle.covering.proofs.Chains.{lowest-chain}
 use Rattle.covering.proofs.Hits.{OneRow, one-row}
 use Rattle.grouping.specs.Classes.{class_of, is_parting, is_parted, is_staying_with, classes_by, classes}
-use Rattle.grouping.specs.inner.GroupingContracts.{Even, Classed, has_same_fields_on, is_parted_on, is_class_leader, next_class}
-use Rattle.grouping.proofs.Representatives.{lowest_alike, alike-le, tabulated, lowest-own}
-use Rattle.grouping.proofs.Onward.{low_same}
-use Rattle.grouping.proofs.Rounds.{ClassRound, has_same_fields_at, same_class, rounds, stays-alike}
+use Rattle.grouping.specs.inner.GroupingContracts.{Even, Classed, has_same_fields_on, is_parted_on, is_class_leader}
+use Rattle.grouping.proofs.Representatives.{lowest_alike, alike-le, lowest-own}
+use Rattle.grouping.proofs.Onward.{low-same}
+use Rattle.grouping.proofs.Rounds.{ClassRound, has_same_fields_at, same-class, rounds, stays-alike}
 use Rattle.grouping.proofs.Partings.{parted-is}
 
 -- ---- the first number that passes, told by what stands before it
@@ -30,9 +35,8 @@ lowest-is p i n x a b hit before = go (split (lowest p i n) x) (split x (lowest 
     go (inr h) (inl g) = no_both (p x) (hit (omega (arith, lowest-most p i n))) (lowest-before p i n x a g)
     go (inr h) (inr g) = omega arith
 
-some_same : {A : Type 0} (p q : A → Bool) (d : A) (xs : List A) → ((j : ℕ) → j < length xs → p (get_or xs j d) ≡ q (get_or xs j d))
-    → some p xs ≡ some q xs
-unfolding some
+some_same : {A : Type 0} (p q : A → Bool) (d : A) (xs : List A) → ((j : ℕ) → j < length xs → p (slice_index_or xs j d) ≡ q (slice_index_or xs j d))
+    → list_any p xs ≡ list_any q xs
 some_same p q d [] e = refl
 some_same p q d (x ∷ xs) e = ap₂ ◌||◌ (e 0 (omega arith)) (some_same p q d xs (λ j l. e (suc j) (omega arith)))
 
@@ -43,35 +47,69 @@ module _ (b : List ℕ) where
   abbrev n : ℕ
   n = length i.labels
 
-  -- a buffer whose first l places hold what a test gives
-  pub record FillingClasses (alike : ℕ → ℕ → Bool) (buffer : List ℕ) (m l : ℕ) : Type 0 where
-    pub long : length buffer ≡ 256
+  -- a buffer whose first l places hold what a test gives, the others what they held
+  pub record FillingClasses (alike : ℕ → ℕ → Bool) (old buffer : List ℕ) (m l : ℕ) : Type 0 where
+    pub room : length old ≡ 256
     pub small : m < 256
     pub is : m ≡ last_label b
-    pub high : l ≤ m + 1
-    pub each : (k : ℕ) → k < l → get_or buffer k 0 ≡ lowest_alike alike k
+    pub filled : ValuesFrom (lowest_alike alike) old buffer 0 (m + 1) l
+    pub each : (k : ℕ) → k < l → slice_index buffer k ≡ lowest_alike alike k
 
-  module _ (alike : ℕ → ℕ → Bool) (buffer : List ℕ) (m : ℕ) where
-    pub fill_start : ((k : ℕ) → get_or b k 0 < 256) → length buffer ≡ 256 → m ≡ last_label b → FillingClasses alike buffer m 0
-    fill_start bytes h e = grind (arith, common_steps)
+  module _ (alike : ℕ → ℕ → Bool) (old : List ℕ) where
+    pub fill-start : length old ≡ 256 → (m : ℕ) → m < 256 → m ≡ last_label b → FillingClasses alike old old m 0
+    fill-start h m g e = record {
+      room = h;
+      small = g;
+      is = e;
+      filled = values-none (lowest_alike alike) old 0 (m + 1);
+      each = λ k z. absurd (omega arith);
+    }
 
-    module _ (l : ℕ) (t : FillingClasses alike buffer m l) where
+    module _ (buffer : List ℕ) (m l : ℕ) (t : FillingClasses alike old buffer m l) where
       pub value-small : l ≤ m → (x : ℕ) → x ≡ lowest_alike alike l → x < 256
       value-small h x e = omega (arith, alike-le alike l, t.small)
 
-      pub fill_on : l ≤ m → (x : ℕ) → x ≡ lowest_alike alike l → FillingClasses alike (set buffer l x) m (l + 1)
-      fill_on h x e = grind (arith, common_steps)
+      pub fill-on : l ≤ m → (x : ℕ) → x ≡ lowest_alike alike l → FillingClasses alike old (set buffer l x) m (l + 1)
+      fill-on h x e = record {
+        room = t.room;
+        small = t.small;
+        is = t.is;
+        filled = subst (λ (j : ℕ). ValuesFrom (lowest_alike alike) old (set buffer j x) 0 (m + 1) (l + 1)) (let z : 0 + l ≡ l = omega arith in z)
+            (values-turn (lowest_alike alike) old 0 (m + 1) buffer l x (omega (arith, t.room, t.small)) t.filled (omega arith) e);
+        each = each-on;
+      }
+        where
+          each-on : (k : ℕ) → k < l + 1 → slice_index (set buffer l x) k ≡ lowest_alike alike k
+          each-on k g = grind (arith, common_steps)
 
-      pub fill-all : m < l → Classed b (classes_by i alike) buffer
-      fill-all h = grind (arith, common_steps, labels-count, tabulated)
+      -- all places are filled
+      pub fill-all : m < l → buffer ≡ over (classes_by i alike) old
+      unfolding tabulate
+      fill-all h =
+          let count : m + 1 ≡ n = omega (arith, t.is, labels-count b) in
+          values-all (lowest_alike alike) old 0 (m + 1) buffer l t.filled (omega arith)
+          ∙ ap (λ (k : ℕ). written old 0 (map (lowest_alike alike) (range 0 k))) count ∙ written-front old (classes_by i alike)
+
+  -- the first places of such a buffer
+  pub over-classed : (c old buffer : List ℕ) → length c ≡ n → buffer ≡ over c old → length buffer ≡ 256 → Classed b c buffer
+  over-classed c old buffer h e g = record {
+    long = g;
+    at = λ l z. ap (λ (xs : List ℕ). slice_index xs l) e ∙ get_or-append c (drop (length c) old) 0 l (omega (arith, labels-count b));
+  }
 
   -- ---- first_classes
-  pub same_alike : (l : ℕ) → lowest_alike (has_same_fields_on b) l ≡ lowest_alike (has_same_fields_at i) l
-  same_alike l = grind (arith, common_steps, lowest-alike, has_same_fields_at, label-at)
+  pub first-is : (l x : ℕ) (r : Option ℕ) → r ≡ find (λ m. has_same_fields_on b m l) (range_with_len 0 l) → x ≡ unwrap_or r l
+      → x ≡ lowest_alike (has_same_fields_at i) l
+  first-is l x r e u =
+      u ∙ ap₂ unwrap_or e (let z : l ≡ 0 + l = omega arith in z) ∙ lowest-chain (λ m. has_same_fields_on b m l) 0 l ∙ same-alike l
+    where
+      same-alike : (l : ℕ) → lowest_alike (has_same_fields_on b) l ≡ lowest_alike (has_same_fields_at i) l
+      same-alike l = grind (arith, common_steps, lowest-alike, has_same_fields_at, label-at)
 
-  pub first-all : (buffer : List ℕ) (m l : ℕ) → FillingClasses (has_same_fields_at i) buffer m l → m < l → Classed b (classes i 0) buffer
+  pub first-all : (old buffer : List ℕ) (m l : ℕ) → FillingClasses (has_same_fields_at i) old buffer m l → m < l
+      → buffer ≡ over (classes i 0) old
   unfolding classes
-  first-all buffer m l t h = fill-all (has_same_fields_at i) buffer m l t h
+  first-all old buffer m l t h = fill-all (has_same_fields_at i) old buffer m l t h
 
   pub classes-long : (k : ℕ) → length (classes i k) ≡ n
   unfolding classes
@@ -87,45 +125,45 @@ module _ (b : List ℕ) where
       abbrev c : List ℕ
       c = classes i k
 
-      inside : (l : ℕ) → l < n → get_or buffer l 0 ≡ class_of c l
+      inside : (l : ℕ) → l < n → slice_index buffer l ≡ class_of c l
       inside l z = h.at l (omega (arith, labels-count b))
 
       R : ClassRound i c
       R = rounds i x.sound one k
 
       -- classes of labels from 2 up are from 2 up
-      pub class_low : (l : ℕ) → 2 ≤ l → l ≤ last_label b → 2 ≤ get_or buffer l 0
-      class_low l a z = go (split (get_or buffer l 0) 2)
+      pub class-low : (l : ℕ) → 2 ≤ l → l ≤ last_label b → 2 ≤ slice_index buffer l
+      class-low l a z = go (split (slice_index buffer l) 2)
         where
           hl : l < n
           hl = omega (arith, labels-count b)
 
-          go : (get_or buffer l 0 < 2) ⊎ (2 ≤ get_or buffer l 0) → 2 ≤ get_or buffer l 0
+          go : (slice_index buffer l < 2) ⊎ (2 ≤ slice_index buffer l) → 2 ≤ slice_index buffer l
           go (inr p) = p
           go (inl p) =
               let y : ℕ = class_of c l in
               let hy : y < n = omega (arith, R.below l hl, hl) in
-              let e : y ≡ l = low_same i x.sound y l hy hl (R.same y l hy hl (R.own l hl)) (omega (arith, inside l hl)) in
+              let e : y ≡ l = low-same i x.sound y l hy hl (R.same y l hy hl (R.own l hl)) (omega (arith, inside l hl)) in
               absurd (omega (arith, inside l hl))
 
-      pub class-below : (l : ℕ) → l ≤ last_label b → get_or buffer l 0 ≤ l
+      pub class-below : (l : ℕ) → l ≤ last_label b → slice_index buffer l ≤ l
       class-below l z = omega (arith, inside l (omega (arith, labels-count b)), R.below l (omega (arith, labels-count b)))
 
       -- the buffer parts as the classes do
       parts_same : (l m j g : ℕ) → j < length i.rows → g < length i.rows
-          → is_parting buffer l m (get_or i.rows j no_row) (get_or i.rows g no_row) ≡ is_parting c l
-          m (get_or i.rows j no_row) (get_or i.rows g no_row)
+          → is_parting buffer l m (slice_index_or i.rows j no_row) (slice_index_or i.rows g no_row) ≡ is_parting c l
+          m (slice_index_or i.rows j no_row) (slice_index_or i.rows g no_row)
       parts_same l m j g hj hg =
-          let r : Row = get_or i.rows j no_row in
-          let s : Row = get_or i.rows g no_row in
-          ap₂ (λ (x y : ℕ). eqb r.from l && eqb s.from m && is_together r s && not (eqb x y))
+          let r : Row = slice_index_or i.rows j no_row in
+          let s : Row = slice_index_or i.rows g no_row in
+          ap₂ (λ (x y : ℕ). r.from == l && s.from == m && is_together r s && not (x == y))
           (inside r.next (x.sound.each j hj).leading.inside) (inside s.next (x.sound.each g hg).leading.inside)
 
       parted-same : (m l : ℕ) → is_parted i buffer m l ≡ is_parted i c m l
       unfolding is_parted
       parted-same m l =
-          some_same (λ r. some (is_parting buffer m l r) i.rows) (λ r. some (is_parting c m l r) i.rows) no_row i.rows (λ j hj.
-          some_same (is_parting buffer m l (get_or i.rows j no_row)) (is_parting c m l (get_or i.rows j no_row)) no_row i.rows (λ g hg.
+          some_same (λ r. list_any (is_parting buffer m l r) i.rows) (λ r. list_any (is_parting c m l r) i.rows) no_row i.rows (λ j hj.
+          some_same (is_parting buffer m l (slice_index_or i.rows j no_row)) (is_parting c m l (slice_index_or i.rows j no_row)) no_row i.rows (λ g hg.
           parts_same m l j g hj hg))
 
       abbrev stays : ℕ → ℕ → Bool
@@ -137,9 +175,9 @@ module _ (b : List ℕ) where
       unfolding classes
       unparted-before m l am hm al hl e =
           let t : stays m l ≡ true =
-          same_class i stays (stays-alike i x.sound one c R) m l (omega (arith, labels-count b)) (omega (arith, labels-count b)) e in
+          same-class i stays (stays-alike i x.sound one c R) m l (omega (arith, labels-count b)) (omega (arith, labels-count b)) e in
           sym (parted-is b buffer x m l am hm al hl) ∙ parted-same m l
-          ∙ not-true (is_parted i c m l) (and_r (eqb (class_of c m) (class_of c l)) (not (is_parted i c m l)) t)
+          ∙ not-true (is_parted i c m l) (and-r (class_of c m == class_of c l) (not (is_parted i c m l)) t)
 
       -- labels 0 and 1 stay alone
       pub zero-alone : 0 ≡ lowest_alike stays 0
@@ -157,14 +195,14 @@ module _ (b : List ℕ) where
               let z : lowest_alike stays 1 ≡ 0 = omega arith in
               let t : stays 0 1 ≡ true = subst (λ (y : ℕ). stays y 1 ≡ true) z (lowest-hit (λ m. stays m 1) 0 1 (omega arith)) in
               let e : class_of c 0 ≡ class_of c 1 =
-              eqb-true (class_of c 0) (class_of c 1) (and_l (eqb (class_of c 0) (class_of c 1)) (not (is_parted i c 0 1)) t) in
+              eqb-true (class_of c 0) (class_of c 1) (and-l (class_of c 0 == class_of c 1) (not (is_parted i c 0 1)) t) in
               let h₀ : 0 < n = omega (arith, two) in
               let h₁ : 1 < n = omega (arith, two) in
-              absurd (omega (arith, low_same i x.sound 0 1 h₀ h₁ (R.same 0 1 h₀ h₁ e) (omega arith)))
+              absurd (omega (arith, low-same i x.sound 0 1 h₀ h₁ (R.same 0 1 h₀ h₁ e) (omega arith)))
 
       -- the lowest of the next class is found among those that are lowest of theirs
       module _ (next : List ℕ) (l : ℕ) (a : 2 ≤ l) (z : l ≤ last_label b)
-          (each : (m : ℕ) → m < l → get_or next m 0 ≡ lowest_alike stays m) where
+          (each : (m : ℕ) → m < l → slice_index next m ≡ lowest_alike stays m) where
         hl : l < n
         hl = omega (arith, labels-count b)
 
@@ -184,37 +222,41 @@ module _ (b : List ℕ) where
         stay p = lowest-hit (λ m. stays m l) 0 l (omega arith)
 
         same : y < l → class_of c y ≡ class_of c l
-        same p = eqb-true (class_of c y) (class_of c l) (and_l (eqb (class_of c y) (class_of c l)) (not (is_parted i c y l)) (stay p))
+        same p = eqb-true (class_of c y) (class_of c l) (and-l (class_of c y == class_of c l) (not (is_parted i c y l)) (stay p))
 
-        low : get_or buffer l 0 ≤ y
+        low : slice_index buffer l ≤ y
         low = go (split y l)
           where
-            go : (y < l) ⊎ (l ≤ y) → get_or buffer l 0 ≤ y
+            go : (y < l) ⊎ (l ≤ y) → slice_index buffer l ≤ y
             go (inl p) = omega (arith, inside l hl, same p, R.below y hy)
             go (inr p) = omega (arith, class-below l z)
 
         leading : y < l → is_class_leader b buffer next l y ≡ true
         leading p =
-            and-true (eqb (get_or buffer y 0) (get_or buffer l 0) && eqb (get_or next y 0) y) (not (is_parted_on b buffer y l))
-            (and-true (eqb (get_or buffer y 0) (get_or buffer l 0)) (eqb (get_or next y 0) y)
-            (eq-eqb (get_or buffer y 0) (get_or buffer l 0) (inside y hy ∙ same p ∙ sym (inside l hl)))
-            (eq-eqb (get_or next y 0) y (each y p ∙ lowest-own n stays (stays-alike i x.sound one c R) l hl)))
-            (not-parted y (omega (arith, class_low l a z, low)) p
-            ∙ and_r (eqb (class_of c y) (class_of c l)) (not (is_parted i c y l)) (stay p))
+            and-true (slice_index buffer y == slice_index buffer l && slice_index next y == y) (not (is_parted_on b buffer y l))
+            (and-true (slice_index buffer y == slice_index buffer l) (slice_index next y == y)
+            (eq-eqb (slice_index buffer y) (slice_index buffer l) (inside y hy ∙ same p ∙ sym (inside l hl)))
+            (eq-eqb (slice_index next y) y (each y p ∙ lowest-own n stays (stays-alike i x.sound one c R) l hl)))
+            (not-parted y (omega (arith, class-low l a z, low)) p
+            ∙ and-r (class_of c y == class_of c l) (not (is_parted i c y l)) (stay p))
 
         -- one below that led a class would stay with l
-        led : (m : ℕ) → get_or buffer l 0 ≤ m → m < l → is_class_leader b buffer next l m ≡ true → stays m l ≡ true
-        led m u p e = grind (arith, common_steps, and-true, eq-eqb, and_l, and_r, eqb-true, inside, class_low, hl, not-parted)
+        led : (m : ℕ) → slice_index buffer l ≤ m → m < l → is_class_leader b buffer next l m ≡ true → stays m l ≡ true
+        led m u p e = grind (arith, common_steps, and-true, eq-eqb, and-l, and-r, eqb-true, inside, class-low, hl, not-parted)
 
-        before : (m : ℕ) → get_or buffer l 0 ≤ m → m < y → is_class_leader b buffer next l m ≡ false
+        before : (m : ℕ) → slice_index buffer l ≤ m → m < y → is_class_leader b buffer next l m ≡ false
         before m u v = go (is_class_leader b buffer next l m) refl
           where
             go : (t : Bool) → is_class_leader b buffer next l m ≡ t → is_class_leader b buffer next l m ≡ false
             go false e = e
             go true e = no_both (stays m l) (led m u (omega (arith, most)) e) (lowest-before (λ m. stays m l) 0 l m (omega arith) v)
 
-        pub next-is : next_class b buffer next l ≡ lowest_alike stays l
-        next-is =
-            lowest-is (is_class_leader b buffer next l) (get_or buffer l 0) (l - get_or buffer l 0) y low
+        pub next-is : (v : ℕ) (r : Option ℕ)
+            → r ≡ find (is_class_leader b buffer next l) (range_with_len (slice_index buffer l) (l - slice_index buffer l)) → v ≡ unwrap_or r l
+            → v ≡ lowest_alike stays l
+        next-is v r e u =
+            u ∙ ap₂ unwrap_or e (let w : l ≡ slice_index buffer l + (l - slice_index buffer l) = omega (arith, class-below l z) in w)
+            ∙ lowest-chain (is_class_leader b buffer next l) (slice_index buffer l) (l - slice_index buffer l)
+            ∙ lowest-is (is_class_leader b buffer next l) (slice_index buffer l) (l - slice_index buffer l) y low
             (omega (arith, most, class-below l z))
             (λ q. leading (omega (arith, class-below l z))) before

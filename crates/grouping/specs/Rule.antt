@@ -1,5 +1,5 @@
 -- The rule for a grouping of an image's labels, and how many groups a grouping has.
-use Rattle.std.specs.Prelude.{ℕ, ◌<◌, Bool, true, not, ◌≡◌, eqb, length}
+use Rattle.std.specs.Prelude.{ℕ, ◌<◌, Bool, true, not, ◌≡◌, length, ◌==◌}
 use Rattle.words.specs.lists.Numbers.{any, count}
 use Rattle.text.specs.frames.Sizes.{WORDS}
 use Rattle.image.specs.Image.{Image, nth_row}
@@ -19,7 +19,7 @@ pub record Meets (i : Image) (g : Grouping) : Type 0 where
 
 -- a group is counted at its lowest member
 abbrev pub is_lowest : Grouping → ℕ → Bool
-is_lowest g l = not (any (λ k. eqb (g k) (g l)) 0 l)
+is_lowest g l = not (any (λ k. g k == g l) 0 l)
 
 abbrev pub groups : Grouping → ℕ → ℕ
 groups g n = count (is_lowest g) 0 n

@@ -1,1 +1,3 @@
 pub mod GroupingContracts
+pub mod Parts
+pub mod Touches

@@ -1,70 +1,50 @@
 // The classes one round later: for each label the lowest one of its next class.
-ghost use Rattle.std.specs.Prelude.{◌≡◌, ◌≤◌, ◌<◌, length, get_or};
-ghost use Rattle.text.specs.declared.frames.sizes.TheConstants.{LABELS};
+ghost use Rattle.std.specs.Prelude.{◌≡◌, ◌-◌, ◌≤◌, ◌<◌, find, slice_index};
+ghost use Rattle.std.specs.List.{range_with_len};
 ghost use Rattle.image.specs.Decode.{scheme_count};
-ghost use Rattle.grouping.specs.inner.GroupingContracts.{Even, Refined, OneMore, Marks, ClassAsked};
-ghost use Rattle.grouping.specs.inner.GroupingContracts.{is_class_leader, next_class};
+ghost use Rattle.grouping.specs.inner.GroupingContracts.{Even, Refined, OneMore, Marks, ClassAsked, is_class_leader};
 
-use crate::parting::are_parted;
-use tables::{last_label, scheme_count};
+use crate::parting::Round;
+use tables::last_label;
+use text::frames::sizes::LABELS;
 
 // Whether label m, below l, is of the same class, the lowest of its next class, and not parted from l.
-fn leads_class(
-    table: &[u8],
-    schemes: u8,
-    classes: &[u8],
-    next: &[u8],
-    marks: &[u8],
-    touched: &[u8],
-    m: usize,
-    l: usize,
-) -> bool
-    requires class_asked { ClassAsked table.now classes.now next.now marks.now touched.now l }
-    requires schemes_value { (schemes ≡ scheme_count table.now) × (2 ≤ m) × (m < l) × (l < LABELS) }
-    ensures { result ≡ is_class_leader table.now classes.now next.now l m }
+fn leads_class(round: &Round, next: &[u8; LABELS], m: usize, l: usize) -> bool
+    requires asked { ClassAsked round.now.table.now round.now.classes.now round.now.marks.now round.now.touched.now l }
+    requires schemes_read { round.now.schemes ≡ scheme_count round.now.table.now }
+    requires numbered { 2 ≤ m }
+    requires below { m < l }
+    requires inside { l < LABELS }
+    ensures { result ≡ is_class_leader round.now.table.now round.now.classes.now next.now l m }
 {
-    classes[m] == classes[l]
-        && next[m] as usize == m
-        && !are_parted(table, schemes, classes, marks, touched, m, l)
+    round.classes[m] == round.classes[l] && next[m] as usize == m && !round.are_parted(m, l)
 }
 
-// The lowest label of the next class of label l. Whether labels stay together is an equivalence where 23 does not apply, so only the lowest
-// of each next class is compared, from the lowest of l's class on.
-fn next_class(
-    table: &[u8],
-    schemes: u8,
-    classes: &[u8],
-    next: &[u8],
-    marks: &[u8],
-    touched: &[u8],
-    l: usize,
-) -> usize
-    requires class_asked { ClassAsked table.now classes.now next.now marks.now touched.now l }
-    requires schemes_value { (schemes ≡ scheme_count table.now) × (get_or classes.now l 0 ≤ l) × (l < LABELS) }
-    ensures { result ≡ next_class table.now classes.now next.now l }
+// The lowest label below l of its next class, if there is one. Whether labels stay together is an equivalence where 23 does not apply, so only
+// the lowest of each next class is compared, from the lowest of l's class on.
+fn class_leader(round: &Round, next: &[u8; LABELS], l: usize) -> Option<usize>
+    requires asked { ClassAsked round.now.table.now round.now.classes.now round.now.marks.now round.now.touched.now l }
+    requires schemes_read { round.now.schemes ≡ scheme_count round.now.table.now }
+    requires inside { l < LABELS }
+    ensures { result ≡ find (is_class_leader round.now.table.now round.now.classes.now next.now l)
+        (range_with_len (slice_index round.now.classes.now l) (l - slice_index round.now.classes.now l)) }
 {
-    let mut m = classes[l] as usize;
-    while m < l {
-        if leads_class(table, schemes, classes, next, marks, touched, m, l) {
-            return m;
-        }
-        m += 1;
-    }
-    m
+    (round.classes[l] as usize..l).find(|m| leads_class(round, next, *m, l))
 }
 
-// One round. Labels 0 and 1 are alone in their classes.
-pub fn refine(table: &[u8], classes: &[u8], marks: &[u8], touched: &[u8], next: &mut [u8])
-    requires even { Even table.now }
-    requires refined { (Refined table.now classes.now) × (length next.old ≡ LABELS) }
-    requires marks { Marks table.now classes.now marks.now touched.now }
-    ensures { OneMore table.now classes.now next.new }
+/// One round: the next classes of labels 0 to M, in the first places of the buffer; those behind them stay. Labels 0 and 1 are alone in their
+/// classes.
+pub fn refine(round: &Round, next: &mut [u8; LABELS])
+    requires even { Even round.now.table.now }
+    requires schemes_read { round.now.schemes ≡ scheme_count round.now.table.now }
+    requires refined { Refined round.now.table.now round.now.classes.now }
+    requires marked { Marks round.now.table.now round.now.classes.now round.now.marks.now round.now.touched.now }
+    ensures { OneMore round.now.table.now round.now.classes.now next.old next.new }
 {
-    let schemes = scheme_count(table);
-    let last = last_label(table) as usize;
+    let last = last_label(round.table) as usize;
     next[0] = 0;
     next[1] = 1;
     for l in 2..last + 1 {
-        next[l] = next_class(table, schemes, classes, next, marks, touched, l) as u8;
+        next[l] = class_leader(round, next, l).unwrap_or(l) as u8;
     }
 }

@@ -1,9 +1,9 @@
 -- What it gives that the image check accepts: the counts and the handler of the header hold, and the image that the contents hold is sound.
-use Rattle.std.proofs.Common.{ℕ, zero, suc, ◌+◌, ◌*◌, ◌≤◌, ◌<◌, Bool, true, false, ◌&&◌, ◌||◌, not, ◌≡◌, sym, ◌∙◌, ap, subst, List, arith}
-use Rattle.std.proofs.Common.{length, get_or, bit_and, ltb, eqb, lt-ltb, ne_eqb, eqb-true, ltb-false, leb-true}
+use Rattle.std.proofs.Common.{ℕ, zero, suc, ◌+◌, ◌*◌, ◌≤◌, ◌<◌, Bool, true, false, ◌&&◌, ◌||◌, not, ◌≡◌, sym, ◌∙◌, ap, subst, List, arith, nat_lt, ◌==◌, slice_index}
+use Rattle.std.proofs.Common.{length, bit_and, lt-ltb, ne_eqb, eqb-true, ltb-false, leb-true}
 use borrow.Author.Tests.{eqb-false}
 use Rattle.std.proofs.lemmas.Grind.{common_steps}
-use Rattle.words.proofs.lists.Tests.{or_l, or_r, or_cases, and_l, and_r, and-false, not-false}
+use Rattle.words.proofs.lists.Tests.{or-l, or-r, or-cases, and-l, and-r, and-false, not-false}
 use Rattle.words.proofs.lists.Ranges.{length-map-range, get_or-map-range}
 use Rattle.text.specs.frames.Frame.{size, field, pair_at, contents}
 use Rattle.text.specs.frames.Verdict.{fine, next, at_lowest}
@@ -14,7 +14,7 @@ use Rattle.image.specs.Image.{Label, Row, no_row, nth_row, home_label, return_la
 use Rattle.image.specs.Decode.{scheme_count, last_label, row_count, handler_in, labels_from, rows_from, entry_in, label_in, row_in}
 use Rattle.image.specs.Decode.{decoded_image}
 use Rattle.image.specs.Check.{is_filled, has_bad_handler, has_bad_counts, is_bad_header, entry_position, label_position, row_position}
-use Rattle.image.specs.Check.{position_of, is_falling, is_stray_frame, is_stray, is_within, is_label, is_bad_entry, has_bad_called}
+use Rattle.image.specs.Check.{position_of, is_falling, is_stray_frame, is_stray, is_within, is_label, is_bad_entry}
 use Rattle.image.specs.Check.{is_bad_label, has_bad_bit, is_bad_row, is_bad_frame, has_bad_content, table_verdict, image_verdict}
 use Rattle.image.specs.inner.Sound.{no_label, nth_label, Reaches, SoundLabel, SoundRow, SoundImage}
 
@@ -33,17 +33,17 @@ module _ (b : List ℕ) where
   rows-count = length-map-range (row_in b) 0 (row_count b)
 
   -- the entry of scheme h + 1
-  pub entry_read : (h : ℕ) → h < scheme_count b → get_or (decoded_image b).entries h 0 ≡ entry_in b (suc h)
+  pub entry-read : (h : ℕ) → h < scheme_count b → slice_index (decoded_image b).entries h ≡ entry_in b (suc h)
   unfolding decoded_image
-  entry_read h l = get_or-map-range (entry_in b) 0 1 (scheme_count b) h l ∙ ap (entry_in b) (omega arith)
+  entry-read h l = get_or-map-range (entry_in b) 0 1 (scheme_count b) h l ∙ ap (entry_in b) (omega arith)
 
   pub label-read : (l : ℕ) → l ≤ last_label b → nth_label (decoded_image b) l ≡ label_in b l
   unfolding decoded_image
   label-read l h = get_or-map-range (label_in b) no_label 0 (last_label b + 1) l (omega arith) ∙ ap (label_in b) (omega arith)
 
-  pub row_read : (k : ℕ) → k < row_count b → nth_row (decoded_image b) k ≡ row_in b k
+  pub row-read : (k : ℕ) → k < row_count b → nth_row (decoded_image b) k ≡ row_in b k
   unfolding decoded_image
-  row_read k h = get_or-map-range (row_in b) no_row 0 (row_count b) k h ∙ ap (row_in b) (omega arith)
+  row-read k h = get_or-map-range (row_in b) no_row 0 (row_count b) k h ∙ ap (row_in b) (omega arith)
 
   -- ---- the place of each frame
   pub position-of-entry : (h : ℕ) → 1 ≤ h → h ≤ scheme_count b → position_of b h ≡ entry_position h
@@ -60,49 +60,49 @@ module _ (b : List ℕ) where
 
   -- a label that passes for scheme h is one that h reaches
   pub within-reaches : (h l : ℕ) → is_within b h l ≡ true → Reaches (decoded_image b) h l
-  within-reaches h l e = grind (arith, common_steps, and_l, leb-true, eqb-true, or_cases, and_r, labels-count, label-read)
+  within-reaches h l e = grind (arith, common_steps, and-l, leb-true, eqb-true, or-cases, and-r, labels-count, label-read)
 
 -- ---- labels that hold the same
 pub fields-same : (x y : Label)
-    → (eqb x.kind y.kind && eqb x.called y.called && eqb x.owner y.owner && eqb x.result y.result
-    && eqb x.mask y.mask) ≡ true → x ≡ y
+    → (x.kind == y.kind && x.called == y.called && x.owner == y.owner && x.result == y.result
+    && x.mask == y.mask) ≡ true → x ≡ y
 fields-same x y e = grind (arith, common_steps)
 
 label-told : (b : List ℕ) (l : ℕ) (x : Label) → x.mask < 4294967296 → is_bad_label b (suc (suc l)) x ≡ false → SoundLabel (scheme_count b) x
 label-told b l x small e = grind (arith, common_steps)
 
 -- ---- a row
-row_told : (b : List ℕ) (f : ℕ) (r : Row) → r.care < 65536 → r.values < 65536 → is_bad_row b f r ≡ false → SoundRow (decoded_image b) r
-row_told b f r small tiny e =
-    let a₁ : Bool = ltb r.from 2 in
-    let a₂ : Bool = ltb (last_label b) r.from in
-    let a₃ : Bool = not (eqb (bit_and r.values r.care) r.values) in
+row-told : (b : List ℕ) (f : ℕ) (r : Row) → r.care < 65536 → r.values < 65536 → is_bad_row b f r ≡ false → SoundRow (decoded_image b) r
+row-told b f r small tiny e =
+    let a₁ : Bool = nat_lt r.from 2 in
+    let a₂ : Bool = nat_lt (last_label b) r.from in
+    let a₃ : Bool = not (bit_and r.values r.care == r.values) in
     let a₄ : Bool = has_bad_bit b r in
     let a₅ : Bool = not (is_within b (label_in b r.from).owner r.next) in
     let a₆ : Bool = is_filled b f 8 2 in
-    let e₁ : (a₁ || a₂ || a₃ || a₄ || a₅) ≡ false = or_l (a₁ || a₂ || a₃ || a₄ || a₅) a₆ e in
-    let e₂ : (a₁ || a₂ || a₃ || a₄) ≡ false = or_l (a₁ || a₂ || a₃ || a₄) a₅ e₁ in
-    let e₃ : (a₁ || a₂ || a₃) ≡ false = or_l (a₁ || a₂ || a₃) a₄ e₂ in
-    let e₄ : (a₁ || a₂) ≡ false = or_l (a₁ || a₂) a₃ e₃ in
-    let bit : a₄ ≡ false = or_r (a₁ || a₂ || a₃) a₄ e₂ in
-    let last : r.from ≤ last_label b = ltb-false (last_label b) r.from (or_r a₁ a₂ e₄) in
+    let e₁ : (a₁ || a₂ || a₃ || a₄ || a₅) ≡ false = or-l (a₁ || a₂ || a₃ || a₄ || a₅) a₆ e in
+    let e₂ : (a₁ || a₂ || a₃ || a₄) ≡ false = or-l (a₁ || a₂ || a₃ || a₄) a₅ e₁ in
+    let e₃ : (a₁ || a₂ || a₃) ≡ false = or-l (a₁ || a₂ || a₃) a₄ e₂ in
+    let e₄ : (a₁ || a₂) ≡ false = or-l (a₁ || a₂) a₃ e₃ in
+    let bit : a₄ ≡ false = or-r (a₁ || a₂ || a₃) a₄ e₂ in
+    let last : r.from ≤ last_label b = ltb-false (last_label b) r.from (or-r a₁ a₂ e₄) in
     let same : nth_label (decoded_image b) r.from ≡ label_in b r.from = label-read b r.from last in
     record {
-      low = ltb-false r.from 2 (or_l a₁ a₂ e₄);
+      low = ltb-false r.from 2 (or-l a₁ a₂ e₄);
       high = omega (arith, labels-count b);
       cares = small;
       small = tiny;
       within = eqb-true (bit_and r.values r.care) r.values
-          (not-false (eqb (bit_and r.values r.care) r.values) (or_r (a₁ || a₂) a₃ e₃));
-      bits = ltb-false 2 r.bit (or_l (ltb 2 r.bit) (ltb r.bit 2 && not (eqb (label_in b r.from).kind 2)) bit);
+          (not-false (bit_and r.values r.care == r.values) (or-r (a₁ || a₂) a₃ e₃));
+      bits = ltb-false 2 r.bit (or-l (nat_lt 2 r.bit) (nat_lt r.bit 2 && not ((label_in b r.from).kind == 2)) bit);
       function = λ h.
           ap (λ (x : Label). x.kind) same
-          ∙ eqb-true (label_in b r.from).kind 2 (not-false (eqb (label_in b r.from).kind 2)
-          (and-false (ltb r.bit 2) (not (eqb (label_in b r.from).kind 2))
-          (or_r (ltb 2 r.bit) (ltb r.bit 2 && not (eqb (label_in b r.from).kind 2)) bit) (lt-ltb r.bit 2 h)));
+          ∙ eqb-true (label_in b r.from).kind 2 (not-false ((label_in b r.from).kind == 2)
+          (and-false (nat_lt r.bit 2) (not ((label_in b r.from).kind == 2))
+          (or-r (nat_lt 2 r.bit) (nat_lt r.bit 2 && not ((label_in b r.from).kind == 2)) bit) (lt-ltb r.bit 2 h)));
       leading = subst (λ (h : ℕ). Reaches (decoded_image b) h r.next) (sym (ap (λ (x : Label). x.owner) same))
           (within-reaches b (label_in b r.from).owner r.next
-          (not-false (is_within b (label_in b r.from).owner r.next) (or_r (a₁ || a₂ || a₃ || a₄) a₅ e₁)));
+          (not-false (is_within b (label_in b r.from).owner r.next) (or-r (a₁ || a₂ || a₃ || a₄) a₅ e₁)));
     }
 
 -- ---- the handler is 0 or a scheme of 2 to H
@@ -138,26 +138,26 @@ module _ (b : List ℕ) (ok : table_verdict b ≡ fine) where
   pub counted : CountedTable b
   unfolding is_bad_header
   counted =
-      let k : Bool = not (eqb (field b 0 0) 15) in
-      let n : Bool = not (eqb (size b) (rows_from b + row_count b)) in
-      let h : Bool = eqb (scheme_count b) 0 in
-      let i : Bool = ltb 16 (scheme_count b) in
-      let m : Bool = eqb (last_label b) 0 in
-      let r : Bool = ltb 1024 (row_count b) in
+      let k : Bool = not (field b 0 0 == 15) in
+      let n : Bool = not (size b == rows_from b + row_count b) in
+      let h : Bool = scheme_count b == 0 in
+      let i : Bool = nat_lt 16 (scheme_count b) in
+      let m : Bool = last_label b == 0 in
+      let r : Bool = nat_lt 1024 (row_count b) in
       let z : Bool = is_filled b 0 6 4 in
       let a : (k || z || has_bad_handler b || has_bad_counts b) ≡ false =
-      or_l (k || z || has_bad_handler b || has_bad_counts b) n header-good in
-      let e : has_bad_counts b ≡ false = or_r (k || z || has_bad_handler b) (has_bad_counts b) a in
-      let e₁ : (h || i || m) ≡ false = or_l (h || i || m) r e in
-      let e₂ : (h || i) ≡ false = or_l (h || i) m e₁ in
+      or-l (k || z || has_bad_handler b || has_bad_counts b) n header-good in
+      let e : has_bad_counts b ≡ false = or-r (k || z || has_bad_handler b) (has_bad_counts b) a in
+      let e₁ : (h || i || m) ≡ false = or-l (h || i || m) r e in
+      let e₂ : (h || i) ≡ false = or-l (h || i) m e₁ in
       record {
-        first = omega (arith, eqb-false (scheme_count b) 0 (or_l h i e₂));
-        most = ltb-false 16 (scheme_count b) (or_r h i e₂);
-        two = omega (arith, eqb-false (last_label b) 0 (or_r (h || i) m e₁));
-        few = ltb-false 1024 (row_count b) (or_r (h || i || m) r e);
-        handler = or_r (k || z) (has_bad_handler b) (or_l (k || z || has_bad_handler b) (has_bad_counts b) a);
+        first = omega (arith, eqb-false (scheme_count b) 0 (or-l h i e₂));
+        most = ltb-false 16 (scheme_count b) (or-r h i e₂);
+        two = omega (arith, eqb-false (last_label b) 0 (or-r (h || i) m e₁));
+        few = ltb-false 1024 (row_count b) (or-r (h || i || m) r e);
+        handler = or-r (k || z) (has_bad_handler b) (or-l (k || z || has_bad_handler b) (has_bad_counts b) a);
         all = eqb-true (size b) (rows_from b + row_count b)
-            (not-false (eqb (size b) (rows_from b + row_count b)) (or_r (k || z || has_bad_handler b || has_bad_counts b) n header-good));
+            (not-false (size b == rows_from b + row_count b) (or-r (k || z || has_bad_handler b || has_bad_counts b) n header-good));
       }
 
   entry-good : (h : ℕ) → 1 ≤ h → h ≤ scheme_count b → Reaches (decoded_image b) h (entry_in b h)
@@ -166,7 +166,7 @@ module _ (b : List ℕ) (ok : table_verdict b ≡ fine) where
       let e : is_bad_entry b h ≡ false =
       sym (ap (is_bad_frame b h) (position-of-entry b h l m)) ∙ none-bad h (omega (arith, counted.all)) in
       within-reaches b h (entry_in b h) (not-false (is_within b h (entry_in b h))
-      (or_r (is_filled b h 3 7) (not (is_within b h (entry_in b h))) e))
+      (or-r (is_filled b h 3 7) (not (is_within b h (entry_in b h))) e))
 
   label-good : (l : ℕ) → l ≤ last_label b → is_bad_label b l (label_in b l) ≡ false
   unfolding has_bad_content
@@ -181,12 +181,12 @@ module _ (b : List ℕ) (ok : table_verdict b ≡ fine) where
   unfolding is_stray
   row-rises k h =
       let f : ℕ = rows_from b + suc k in
-      let e : (not (eqb (field b f 0) 18) || is_falling b (suc k)) ≡ false =
+      let e : (not (field b f 0 == 18) || is_falling b (suc k)) ≡ false =
       sym (ap (is_stray_frame b f) (position-of-row b (suc k))) ∙ none-stray f (omega (arith, counted.all)) in
-      ltb-false (row_in b (suc k)).from (row_in b k).from (or_r (not (eqb (field b f 0) 18)) (is_falling b (suc k)) e)
+      ltb-false (row_in b (suc k)).from (row_in b k).from (or-r (not (field b f 0 == 18)) (is_falling b (suc k)) e)
 
   -- with bytes below 256 the image is sound
-  module _ (bytes : (k : ℕ) → get_or b k 0 < 256) where
+  module _ (bytes : (k : ℕ) → slice_index b k < 256) where
     pair_small : (f k : ℕ) → pair_at b f k < 65536
     pair_small f k = omega (arith, bytes (10 * f + k), bytes (10 * f + (k + 1)))
 
@@ -216,7 +216,7 @@ module _ (b : List ℕ) (ok : table_verdict b ≡ fine) where
           last = omega (arith, bytes 2);
           few = omega (arith, counted.few);
           handled = handled n;
-          starts = λ h l. subst (λ (e : ℕ). Reaches (decoded_image b) (suc h) e) (sym (entry_read b h (omega arith)))
+          starts = λ h l. subst (λ (e : ℕ). Reaches (decoded_image b) (suc h) e) (sym (entry-read b h (omega arith)))
               (entry-good (suc h) (omega arith) (omega arith));
           home = label-read b 0 (omega arith)
               ∙ fields-same (label_in b 0) home_label (not-false (is_label 4 1 (label_in b 0)) (label-good 0 (omega arith)));
@@ -224,18 +224,18 @@ module _ (b : List ℕ) (ok : table_verdict b ≡ fine) where
               ∙ fields-same (label_in b 1) return_label (not-false (is_label 3 0 (label_in b 1)) (label-good 1 counted.two));
           others = λ l h k. subst (λ (x : Label). SoundLabel (length (decoded_image b).entries) x) (sym (label-read b l (omega arith)))
               (subst (λ (c : ℕ). SoundLabel c (label_in b l)) (sym n) (other-good l h (omega arith)));
-          each = λ k h. subst (λ (x : Row). SoundRow (decoded_image b) x) (sym (row_read b k (omega arith)))
-              (row_told b (rows_from b + k) (row_in b k) (pair_small (rows_from b + k) 2)
+          each = λ k h. subst (λ (x : Row). SoundRow (decoded_image b) x) (sym (row-read b k (omega arith)))
+              (row-told b (rows_from b + k) (row_in b k) (pair_small (rows_from b + k) 2)
               (pair_small (rows_from b + k) 4) (row-good k (omega arith)));
           rising = λ k h.
-              let p : (nth_row (decoded_image b) k).from ≡ (row_in b k).from = ap (λ (x : Row). x.from) (row_read b k (omega arith)) in
+              let p : (nth_row (decoded_image b) k).from ≡ (row_in b k).from = ap (λ (x : Row). x.from) (row-read b k (omega arith)) in
               let q : (nth_row (decoded_image b) (suc k)).from ≡ (row_in b (suc k)).from =
-              ap (λ (x : Row). x.from) (row_read b (suc k) (omega arith)) in
+              ap (λ (x : Row). x.from) (row-read b (suc k) (omega arith)) in
               omega (arith, row-rises k (omega arith));
         }
 
 -- ---- by the text
-pub image-bytes : (t : List ℕ) → image_verdict t ≡ fine → (k : ℕ) → get_or (contents t) k 0 < 256
+pub image-bytes : (t : List ℕ) → image_verdict t ≡ fine → (k : ℕ) → slice_index (contents t) k < 256
 unfolding image_verdict
 image-bytes t e = contents-bytes t (text-told 29831 t (next-first (text_verdict 29831 t) (λ _. table_verdict (contents t)) e)).forms
 

@@ -1,5 +1,5 @@
 -- The text of a sound image reads back as that image.
-use Rattle.std.proofs.Common.{ℕ, ◌+◌, ◌-◌, ◌<◌, ◌≡◌, ◌∙◌, ap, List, map, arith, length, get_or}
+use Rattle.std.proofs.Common.{ℕ, ◌+◌, ◌-◌, ◌<◌, ◌≡◌, ◌∙◌, ap, List, map, arith, length, slice_index}
 use Rattle.std.proofs.lemmas.Grind.{common_steps}
 use Rattle.words.specs.lists.Numbers.{range}
 use Rattle.words.proofs.lists.Ranges.{map-count}
@@ -17,23 +17,23 @@ module _ (i : Image) (b : List ℕ) (S : SoundImage i) (R : Reads i b) where
   pub last-is : last_label b ≡ length i.labels - 1
   last-is = R.head 2 (omega arith)
 
-  pub rows_is : row_count b ≡ length i.rows
-  rows_is = omega (arith, R.head 3 (omega arith), R.head 4 (omega arith))
+  pub rows-is : row_count b ≡ length i.rows
+  rows-is = omega (arith, R.head 3 (omega arith), R.head 4 (omega arith))
 
   pub handler-is : handler_in b ≡ i.handler
   handler-is = R.head 5 (omega arith)
 
-  label-at : (l k : ℕ) → l < length i.labels → k < 10 → field b (labels_from b + l) k ≡ get_or (label_frame l (nth_label i l)) k 0
+  label-at : (l k : ℕ) → l < length i.labels → k < 10 → field b (labels_from b + l) k ≡ slice_index (label_frame l (nth_label i l)) k
   label-at l k h m = ap (λ (f : ℕ). field b f k) (omega (arith, schemes-is)) ∙ R.label l k h m
 
-  row_at : (j k : ℕ) → j < length i.rows → k < 10 → field b (rows_from b + j) k ≡ get_or (row_frame (nth_row i j)) k 0
-  row_at j k h m = ap (λ (f : ℕ). field b f k) (omega (arith, schemes-is, last-is, S.two)) ∙ R.row j k h m
+  row-at : (j k : ℕ) → j < length i.rows → k < 10 → field b (rows_from b + j) k ≡ slice_index (row_frame (nth_row i j)) k
+  row-at j k h m = ap (λ (f : ℕ). field b f k) (omega (arith, schemes-is, last-is, S.two)) ∙ R.row j k h m
 
-  pub label_is : (l : ℕ) → l < length i.labels → label_in b l ≡ nth_label i l
-  label_is l h = grind (arith, common_steps, label-at)
+  pub label-is : (l : ℕ) → l < length i.labels → label_in b l ≡ nth_label i l
+  label-is l h = grind (arith, common_steps, label-at)
 
-  pub row_is : (k : ℕ) → k < length i.rows → row_in b k ≡ nth_row i k
-  row_is k h = grind (arith, common_steps, row_at)
+  pub row-is : (k : ℕ) → k < length i.rows → row_in b k ≡ nth_row i k
+  row-is k h = grind (arith, common_steps, row-at)
 
   decoded-is : decoded_image b ≡ i
   unfolding decoded_image
@@ -43,9 +43,9 @@ module _ (i : Image) (b : List ℕ) (S : SoundImage i) (R : Reads i b) where
       ap (entry_in b) (omega arith) ∙ R.entry h 2 l (omega arith)) in
       let l : map (label_in b) (range 0 (last_label b + 1)) ≡ i.labels =
       map-count (label_in b) no_label i.labels 0 (last_label b + 1) (omega (arith, last-is, S.two))
-      (λ l h. ap (label_in b) (omega arith) ∙ label_is l h) in
+      (λ l h. ap (label_in b) (omega arith) ∙ label-is l h) in
       let r : map (row_in b) (range 0 (row_count b)) ≡ i.rows =
-      map-count (row_in b) no_row i.rows 0 (row_count b) rows_is (λ k h. ap (row_in b) (omega arith) ∙ row_is k h) in
+      map-count (row_in b) no_row i.rows 0 (row_count b) rows-is (λ k h. ap (row_in b) (omega arith) ∙ row-is k h) in
       λ j. record { handler = handler-is j; entries = e j; labels = l j; rows = r j }
 
 pub image-decoded : (i : Image) → SoundImage i → decoded_image (contents (image_text i)) ≡ i

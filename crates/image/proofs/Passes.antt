@@ -1,31 +1,31 @@
 -- The text of a sound image passes the image check.
-use Rattle.std.proofs.Common.{ℕ, zero, suc, ◌+◌, ◌-◌, ◌≤◌, ◌<◌, Bool, true, false, ◌&&◌, ◌||◌, not, ◌≡◌, refl, ◌∙◌, ap, ap₂, subst, ⊎_elim}
-use Rattle.std.proofs.Common.{◌⊎◌, inl, inr, List, [], ◌∷◌, ◌++◌, arith, length, get_or, replicate, get_or-append-add, eqb, bit_and, le-ltb}
+use Rattle.std.proofs.Common.{ℕ, zero, suc, ◌+◌, ◌-◌, ◌≤◌, ◌<◌, Bool, true, false, ◌&&◌, ◌||◌, not, ◌≡◌, refl, ◌∙◌, ap, ap₂, subst, ⊎_elim, ◌==◌, slice_index}
+use Rattle.std.proofs.Common.{◌⊎◌, inl, inr, List, [], ◌∷◌, ◌++◌, arith, length, replicate, get_or-append-add, bit_and, le-ltb}
 use Rattle.std.proofs.Common.{lt-ltb, le-leb, eq-eqb, ne_eqb}
 use Rattle.std.proofs.Math.ListN.{get_or-replicate}
 use Rattle.std.proofs.lemmas.Grind.{common_steps}
-use Rattle.words.proofs.lists.Tests.{split, or-none, or-true-l, or_true_r}
-use Rattle.words.proofs.lists.Searches.{any_none}
+use Rattle.words.proofs.lists.Tests.{split, or-none, or-true-l, or-true-r}
+use Rattle.words.proofs.lists.Searches.{any-none}
 use Rattle.text.specs.frames.Frame.{size, field, pair}
 use Rattle.text.specs.frames.Verdict.{Verdict, fine, next, when, at_lowest}
-use Rattle.text.proofs.frames.Verdicts.{at_none}
+use Rattle.text.proofs.frames.Verdicts.{at-none}
 use Rattle.image.specs.Image.{Image, Label, Row, image_text, nth_row}
 use Rattle.image.specs.Decode.{scheme_count, last_label, row_count, rows_from, label_in, row_in}
 use Rattle.image.specs.Check.{is_filled, has_bad_handler, has_bad_counts, is_bad_header, entry_position, label_position, row_position}
-use Rattle.image.specs.Check.{position_of, is_falling, is_stray_frame, is_stray, is_within, is_bad_entry, has_bad_called, is_bad_label}
+use Rattle.image.specs.Check.{position_of, is_falling, is_stray_frame, is_stray, is_within, is_bad_entry, is_bad_label}
 use Rattle.image.specs.Check.{has_bad_bit, is_bad_row, is_bad_frame, has_bad_content, table_verdict, image_verdict}
-use Rattle.image.specs.inner.Sound.{nth_label, end_of, Reaches, SoundLabel, SoundRow, SoundImage}
+use Rattle.image.specs.inner.Sound.{nth_label, end_of, Reaches, SoundRow, SoundImage}
 use Rattle.image.proofs.Written.{Reads, image-reads, image-text-fine}
 use Rattle.image.proofs.Accepted.{position-of-entry, position-of-label, position-of-row}
 use Rattle.image.proofs.HeaderCases.{equal}
-use Rattle.image.proofs.Decoded.{schemes-is, last-is, rows_is, handler-is, label_is, row_is}
+use Rattle.image.proofs.Decoded.{schemes-is, last-is, rows-is, handler-is, label-is, row-is}
 
 -- the n bytes behind xs are 0
-zeros : (xs : List ℕ) (n k : ℕ) → k < n → get_or (xs ++ replicate n 0) (length xs + k) 0 ≡ 0
+zeros : (xs : List ℕ) (n k : ℕ) → k < n → slice_index (xs ++ replicate n 0) (length xs + k) ≡ 0
 zeros xs n k h = get_or-append-add xs (replicate n 0) k 0 ∙ get_or-replicate n k 0 0 h
 
 empty : (b : List ℕ) (f k n : ℕ) → ((j : ℕ) → j < n → field b f (k + j) ≡ 0) → is_filled b f k n ≡ false
-empty b f k n h = any_none (λ j. not (eqb (field b f j) 0)) k n (λ j l. equal (field b f (k + j)) 0 (h j l))
+empty b f k n h = any-none (λ j. not (field b f j == 0)) k n (λ j l. equal (field b f (k + j)) 0 (h j l))
 
 -- a frame is the header, an entry, a label or a row
 frame-cases : (P : ℕ → Type 0) (e l r : ℕ) → P 0 → ((h : ℕ) → h < e → P (suc h)) → ((k : ℕ) → k < l → P (suc (e + k)))
@@ -53,7 +53,7 @@ module _ (i : Image) (b : List ℕ) (S : SoundImage i) (R : Reads i b) where
       (ne_eqb (scheme_count b) 0 (λ z. omega (arith, schemes-is i b S R, S.first)))
       (le-ltb 16 (scheme_count b) (omega (arith, schemes-is i b S R, S.most))))
       (ne_eqb (last_label b) 0 (λ z. omega (arith, last-is i b S R, S.two))))
-      (le-ltb 1024 (row_count b) (omega (arith, rows_is i b S R, S.few)))
+      (le-ltb 1024 (row_count b) (omega (arith, rows-is i b S R, S.few)))
 
   handler-fine : has_bad_handler b ≡ false
   handler-fine = grind (arith, common_steps, schemes-is, le-ltb, or-none, ne_eqb, handler-is)
@@ -67,7 +67,7 @@ module _ (i : Image) (b : List ℕ) (S : SoundImage i) (R : Reads i b) where
       ∙ zeros (15 ∷ length i.entries ∷ (length i.labels - 1) ∷ pair (length i.rows) ++ (i.handler ∷ [])) 4 k h)))
       handler-fine)
       counts-fine)
-      (equal (size b) (rows_from b + row_count b) (omega (arith, R.count, schemes-is i b S R, last-is i b S R, rows_is i b S R, S.two)))
+      (equal (size b) (rows_from b + row_count b) (omega (arith, R.count, schemes-is i b S R, last-is i b S R, rows-is i b S R, S.two)))
 
   -- the place of each frame
   position-entry : (h : ℕ) → h < length i.entries → position_of b (suc h) ≡ entry_position (suc h)
@@ -83,11 +83,11 @@ module _ (i : Image) (b : List ℕ) (S : SoundImage i) (R : Reads i b) where
   rows-rise : (k : ℕ) → k < length i.rows → is_falling b k ≡ false
   rows-rise zero h = refl
   rows-rise (suc k) h =
-      let p : (row_in b (suc k)).from ≡ (nth_row i (suc k)).from = ap (λ (r : Row). r.from) (row_is i b S R (suc k) h) in
-      let q : (row_in b k).from ≡ (nth_row i k).from = ap (λ (r : Row). r.from) (row_is i b S R k (omega arith)) in
+      let p : (row_in b (suc k)).from ≡ (nth_row i (suc k)).from = ap (λ (r : Row). r.from) (row-is i b S R (suc k) h) in
+      let q : (row_in b k).from ≡ (nth_row i k).from = ap (λ (r : Row). r.from) (row-is i b S R k (omega arith)) in
       le-ltb (row_in b (suc k)).from (row_in b k).from (omega (arith, p, q, S.rising k h))
 
-  numbered : (a x n y : ℕ) → a ≡ x → n ≡ y → not (eqb a x && eqb n y) ≡ false
+  numbered : (a x n y : ℕ) → a ≡ x → n ≡ y → not (a == x && n == y) ≡ false
   numbered a x n y e f = ap not (ap₂ ◌&&◌ (eq-eqb a x e) (eq-eqb n y f))
 
   stray-none : (f : ℕ) → f < size b → is_stray b f ≡ false
@@ -107,17 +107,17 @@ module _ (i : Image) (b : List ℕ) (S : SoundImage i) (R : Reads i b) where
   within-true : (h l : ℕ) → Reaches i h l → is_within b h l ≡ true
   within-true h l r = ap₂ ◌&&◌ (le-leb l (last_label b) (omega (arith, r.inside, last-is i b S R))) (go r.belongs)
     where
-      go : ((nth_label i l).owner ≡ h) ⊎ (l ≡ end_of h) → (eqb (label_in b l).owner h || eqb l (end_of h)) ≡ true
+      go : ((nth_label i l).owner ≡ h) ⊎ (l ≡ end_of h) → ((label_in b l).owner == h || l == end_of h) ≡ true
       go (inl e) =
-          or-true-l (eqb (label_in b l).owner h) (eqb l (end_of h))
-          (eq-eqb (label_in b l).owner h (ap (λ (x : Label). x.owner) (label_is i b S R l r.inside) ∙ e))
-      go (inr e) = or_true_r (eqb (label_in b l).owner h) (eqb l (end_of h)) (eq-eqb l (end_of h) e)
+          or-true-l ((label_in b l).owner == h) (l == end_of h)
+          (eq-eqb (label_in b l).owner h (ap (λ (x : Label). x.owner) (label-is i b S R l r.inside) ∙ e))
+      go (inr e) = or-true-r ((label_in b l).owner == h) (l == end_of h) (eq-eqb l (end_of h) e)
 
   entry-fine : (h : ℕ) → h < length i.entries → is_bad_entry b (suc h) ≡ false
   entry-fine h l =
       ap₂ ◌||◌
-      (empty b (suc h) 3 7 (λ k m. R.entry h (3 + k) l (omega arith) ∙ zeros (16 ∷ suc h ∷ get_or i.entries h 0 ∷ []) 7 k m))
-      (ap not (ap (is_within b (suc h)) (R.entry h 2 l (omega arith)) ∙ within-true (suc h) (get_or i.entries h 0) (S.starts h l)))
+      (empty b (suc h) 3 7 (λ k m. R.entry h (3 + k) l (omega arith) ∙ zeros (16 ∷ suc h ∷ slice_index i.entries h ∷ []) 7 k m))
+      (ap not (ap (is_within b (suc h)) (R.entry h 2 l (omega arith)) ∙ within-true (suc h) (slice_index i.entries h) (S.starts h l)))
 
   label-fine : (l : ℕ) → l < length i.labels → is_bad_label b l (nth_label i l) ≡ false
   label-fine zero h = grind (arith, common_steps)
@@ -127,7 +127,7 @@ module _ (i : Image) (b : List ℕ) (S : SoundImage i) (R : Reads i b) where
   -- a row is judged by the label that it leaves
   module _ (r : Row) (s : SoundRow i r) where
     from_is : label_in b r.from ≡ nth_label i r.from
-    from_is = label_is i b S R r.from s.high
+    from_is = label-is i b S R r.from s.high
 
     bit-fine : has_bad_bit b r ≡ false
     bit-fine = grind (arith, common_steps, equal, split, le-ltb, lt-ltb, from_is)
@@ -157,8 +157,8 @@ module _ (i : Image) (b : List ℕ) (S : SoundImage i) (R : Reads i b) where
       frame-cases (λ f. has_bad_content b f ≡ false) (length i.entries) (length i.labels) (length i.rows)
       (unfold position_of in refl)
       (λ h l. ap (is_bad_frame b (suc h)) (position-entry h l) ∙ entry-fine h l)
-      (λ l h. ap (is_bad_frame b (label_from l)) (position-label l h) ∙ ap (is_bad_label b l) (label_is i b S R l h) ∙ label-fine l h)
-      (λ k h. ap (is_bad_frame b (row_from k)) (position-row k h) ∙ ap (is_bad_row b (row_from k)) (row_is i b S R k h)
+      (λ l h. ap (is_bad_frame b (label_from l)) (position-label l h) ∙ ap (is_bad_label b l) (label-is i b S R l h) ∙ label-fine l h)
+      (λ k h. ap (is_bad_frame b (row_from k)) (position-row k h) ∙ ap (is_bad_row b (row_from k)) (row-is i b S R k h)
       ∙ row_fine (nth_row i k) (S.each k h) (row_from k) (tail-empty k h))
       f (omega (arith, R.count))
 
@@ -167,8 +167,8 @@ module _ (i : Image) (b : List ℕ) (S : SoundImage i) (R : Reads i b) where
   table-fine =
       ap (λ (t : Bool). next (when 11 t) λ _. next (at_lowest 12 (is_stray b) (size b)) λ _. at_lowest 13 (has_bad_content b)
       (size b)) header-fine
-      ∙ ap (λ (v : Verdict). next v λ _. at_lowest 13 (has_bad_content b) (size b)) (at_none 12 (is_stray b) (size b) stray-none)
-      ∙ at_none 13 (has_bad_content b) (size b) content-good
+      ∙ ap (λ (v : Verdict). next v λ _. at_lowest 13 (has_bad_content b) (size b)) (at-none 12 (is_stray b) (size b) stray-none)
+      ∙ at-none 13 (has_bad_content b) (size b) content-good
 
 pub image-fine : (i : Image) → SoundImage i → image_verdict (image_text i) ≡ fine
 unfolding image_verdict

@@ -1,5 +1,5 @@
 -- The image (the paper's word for the table that the machine steps through): the handler, entries, labels and rows, and its frames.
-use Rattle.std.specs.Prelude.{ℕ, ◌-◌, List, [], ◌∷◌, ◌++◌, map, length, get_or, replicate}
+use Rattle.std.specs.Prelude.{ℕ, ◌-◌, List, [], ◌∷◌, ◌++◌, map, length, replicate, slice_index_or}
 use Rattle.words.specs.lists.Sequences.{map_from}
 use Rattle.text.specs.frames.Frame.{pair, quad, frames_text}
 use Rattle.image.specs.declared.layout.TheConstants.{HEADER, ENTRY, LABEL, ROW, PLAIN, RETURN, HOME}
@@ -20,10 +20,11 @@ label_with k g o r m = record { kind = k; called = g; owner = o; result = r; mas
 abbrev pub no_label : Label
 no_label = record { kind = PLAIN; called = 0; owner = 0; result = 0; mask = 0 }
 
--- labels 0 and 1 of every image
+-- label 0 of every image: home
 abbrev pub home_label : Label
 home_label = record { kind = HOME; called = 0; owner = 1; result = 0; mask = 0 }
 
+-- label 1 of every image: a return
 abbrev pub return_label : Label
 return_label = record { kind = RETURN; called = 0; owner = 0; result = 0; mask = 0 }
 
@@ -50,24 +51,30 @@ pub record Image : Type 0 where
   pub labels : List Label
   pub rows : List Row
 
+-- row k
 abbrev pub nth_row : Image → ℕ → Row
-nth_row i k = get_or i.rows k no_row
+nth_row i k = slice_index_or i.rows k no_row
 
 -- ---- its frames, ten bytes each
 abbrev pub header_frame : Image → List ℕ
 header_frame i = HEADER ∷ length i.entries ∷ (length i.labels - 1) ∷ pair (length i.rows) ++ (i.handler ∷ replicate 4 0)
 
+-- the entry of scheme h, label l
 abbrev pub entry_frame : ℕ → ℕ → List ℕ
 entry_frame h l = ENTRY ∷ h ∷ l ∷ replicate 7 0
 
+-- label l
 abbrev pub label_frame : ℕ → Label → List ℕ
 label_frame l x = LABEL ∷ l ∷ x.kind ∷ x.called ∷ x.owner ∷ x.result ∷ quad x.mask
 
+-- a row
 abbrev pub row_frame : Row → List ℕ
 row_frame r = ROW ∷ r.from ∷ pair r.care ++ (pair r.values ++ (r.bit ∷ r.next ∷ 0 ∷ 0 ∷ []))
 
+-- header, entries, labels, rows
 unfoldable pub image_frames : Image → List (List ℕ)
 image_frames i = header_frame i ∷ map_from entry_frame 1 i.entries ++ (map_from label_frame 0 i.labels ++ map row_frame i.rows)
 
+-- the text of an image
 unfoldable pub image_text : Image → List ℕ
 image_text i = frames_text (image_frames i)

@@ -9,6 +9,7 @@ pub data TickKind : Type 0 where
   return : TickKind
   home : TickKind
 
+-- the tick kind by the byte that tells it
 abbrev pub tick_kind : ℕ → TickKind
 tick_kind zero = plain
 tick_kind (suc zero) = operation_call

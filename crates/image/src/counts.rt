@@ -9,7 +9,7 @@ use crate::table::{byte, pair};
 // ROWS, in the two bytes of the header's count.
 const MOST_ROWS: u16 = 1024;
 
-// H is not 1 to 16, M is 0, or there are more than 1,024 rows.
+/// 11 refuses the counts: H is not 1 to 16, M is 0, or there are more than 1,024 rows.
 pub fn bad_counts(table: &[u8]) -> bool
     requires { 0 < size table.now }
     ensures { result ≡ has_bad_counts table.now }
@@ -21,7 +21,7 @@ pub fn bad_counts(table: &[u8]) -> bool
         || MOST_ROWS < pair(table, 0, ROW_COUNT)
 }
 
-// The handler is neither 0 nor a scheme of 2 to H.
+/// 11 refuses the handler: it is neither 0 nor a scheme of 2 to H.
 pub fn bad_handler(table: &[u8]) -> bool
     requires { 0 < size table.now }
     ensures { result ≡ has_bad_handler table.now }

@@ -1,5 +1,5 @@
 -- The cases of refusal 12, as the code meets them.
-use Rattle.std.proofs.Common.{if◌then◌else◌, ◌≡◌, refl, sym, ◌∙◌, ap, Bool, true, false, List, ℕ, ◌+◌, ◌-◌, ◌≤◌, ◌<◌, arith, ltb, eqb}
+use Rattle.std.proofs.Common.{if◌then◌else◌, ◌≡◌, refl, sym, ◌∙◌, ap, Bool, true, false, List, ℕ, ◌+◌, ◌-◌, ◌≤◌, ◌<◌, arith, nat_lt, ◌==◌}
 use Rattle.std.proofs.Common.{eq-eqb, ne_eqb, lt-ltb, le-ltb, ltb-false}
 use Rattle.image.specs.Decode.{labels_from, rows_from}
 use Rattle.image.specs.Check.{Position, header_position, entry_position, label_position, row_position, position_of, is_stray_frame}
@@ -24,9 +24,9 @@ module _ (b : List ℕ) (f : ℕ) where
   unfolding position_of
   kind-label n h l = simp (ne_eqb f 0 n, le-ltb f (labels_from b) h, lt-ltb f (rows_from b) l)
 
-  pub kind_row : (f ≡ 0 → ⊥) → rows_from b ≤ f → 18 ≡ position_kind (position_of b f)
+  pub kind-row : (f ≡ 0 → ⊥) → rows_from b ≤ f → 18 ≡ position_kind (position_of b f)
   unfolding position_of
-  kind_row n h = simp (ne_eqb f 0 n, le-ltb f (labels_from b) (omega arith), le-ltb f (rows_from b) h)
+  kind-row n h = simp (ne_eqb f 0 n, le-ltb f (labels_from b) (omega arith), le-ltb f (rows_from b) h)
 
   placed-entry : (x y z : Bool) → position_kind (placed x y z b f) ≡ 16 → placed x y z b f ≡ entry_position f
   placed-entry true y z e = absurd (omega arith)
@@ -56,28 +56,28 @@ module _ (b : List ℕ) (f : ℕ) where
 
   pub position-entry : position_kind (position_of b f) ≡ 16 → position_of b f ≡ entry_position f
   unfolding position_of
-  position-entry = placed-entry (eqb f 0) (ltb f (labels_from b)) (ltb f (rows_from b))
+  position-entry = placed-entry (f == 0) (nat_lt f (labels_from b)) (nat_lt f (rows_from b))
 
   pub position-label : position_kind (position_of b f) ≡ 17 → position_of b f ≡ label_position (f - labels_from b)
   unfolding position_of
-  position-label e = (placed-label (eqb f 0) (ltb f (labels_from b)) (ltb f (rows_from b)) e).0
+  position-label e = (placed-label (f == 0) (nat_lt f (labels_from b)) (nat_lt f (rows_from b)) e).0
 
   pub label-above : position_kind (position_of b f) ≡ 17 → labels_from b ≤ f
   unfolding position_of
-  label-above e = ltb-false f (labels_from b) (placed-label (eqb f 0) (ltb f (labels_from b)) (ltb f (rows_from b)) e).1
+  label-above e = ltb-false f (labels_from b) (placed-label (f == 0) (nat_lt f (labels_from b)) (nat_lt f (rows_from b)) e).1
 
   pub position-row : position_kind (position_of b f) ≡ 18 → position_of b f ≡ row_position (f - rows_from b)
   unfolding position_of
-  position-row e = (placed_row (eqb f 0) (ltb f (labels_from b)) (ltb f (rows_from b)) e).0
+  position-row e = (placed_row (f == 0) (nat_lt f (labels_from b)) (nat_lt f (rows_from b)) e).0
 
   pub row-above : position_kind (position_of b f) ≡ 18 → rows_from b ≤ f
   unfolding position_of
-  row-above e = ltb-false f (rows_from b) (placed_row (eqb f 0) (ltb f (labels_from b)) (ltb f (rows_from b)) e).1
+  row-above e = ltb-false f (rows_from b) (placed_row (f == 0) (nat_lt f (labels_from b)) (nat_lt f (rows_from b)) e).1
 
   pub position-header : (position_kind (position_of b f) ≡ 16 → ⊥) → (position_kind (position_of b f) ≡ 17 → ⊥)
       → (position_kind (position_of b f) ≡ 18 → ⊥) → position_of b f ≡ header_position
   unfolding position_of
-  position-header = placed-header (eqb f 0) (ltb f (labels_from b)) (ltb f (rows_from b))
+  position-header = placed-header (f == 0) (nat_lt f (labels_from b)) (nat_lt f (rows_from b))
 
 -- ---- 12
 module _ (b : List ℕ) (f : ℕ) where

@@ -56,12 +56,12 @@ module _ (t old table : List ℕ) (m : ℕ) (g : GoodText t m) (e : table ≡ re
   pub front-size : size (take (10 * m) table) ≡ m
   front-size = ap (λ (l : List ℕ). length l / 10) front-contents ∙ omega (arith, contents-count)
 
-  pub front_length : 10 * m ≡ length (take (10 * m) table)
-  front_length = sym (ap (λ (l : List ℕ). length l) front-contents ∙ contents-count)
+  pub front-length : 10 * m ≡ length (take (10 * m) table)
+  front-length = sym (ap (λ (l : List ℕ). length l) front-contents ∙ contents-count)
 
-  pub read_done : (a : Answer) → reply a ≡ verdict_reply (table_verdict (take (10 * m) table)) 0
+  pub read-done : (a : Answer) → reply a ≡ verdict_reply (table_verdict (take (10 * m) table)) 0
       → reply a ≡ verdict_reply (image_verdict t) 0
   unfolding image_verdict
-  read_done a r =
+  read-done a r =
       r ∙ ap (λ (l : List ℕ). verdict_reply (table_verdict l) 0) front-contents
       ∙ sym (ap (λ w. verdict_reply w 0) (next-on (text_verdict 29831 t) (λ _. table_verdict (contents t)) g.verdict))

@@ -1,7 +1,7 @@
 -- The verdict on a table, as the code comes to it; what acceptance of one gives first.
-use Rattle.std.proofs.Common.{◌≡◌, ◌∙◌, ap, Bool, true, false, ◌||◌, not, List, ℕ, ◌+◌, ◌≤◌, ◌<◌, arith, eqb, lt-ltb, le-ltb, eqb-true}
+use Rattle.std.proofs.Common.{◌≡◌, ◌∙◌, ap, Bool, true, false, ◌||◌, not, List, ℕ, ◌+◌, ◌≤◌, ◌<◌, arith, lt-ltb, le-ltb, eqb-true, ◌==◌}
 use Rattle.words.specs.lists.Numbers.{lowest}
-use Rattle.words.proofs.lists.Tests.{or_l, or_r, not-false}
+use Rattle.words.proofs.lists.Tests.{or-l, or-r, not-false}
 use Rattle.words.proofs.lists.Searches.{lowest-past, lowest-none, lowest-alike}
 use Rattle.text.specs.frames.Frame.{size, field}
 use Rattle.text.specs.frames.Answer.{success, refusal, verdict_reply}
@@ -14,9 +14,9 @@ pub header-size : (b : List ℕ) → is_bad_header b ≡ false → size b ≡ ro
 unfolding is_bad_header
 header-size b e =
     eqb-true (size b) (rows_from b + row_count b)
-    (not-false (eqb (size b) (rows_from b + row_count b))
-    (or_r (not (eqb (field b 0 0) 15) || is_filled b 0 6 4 || has_bad_handler b || has_bad_counts b)
-    (not (eqb (size b) (rows_from b + row_count b))) e))
+    (not-false (size b == rows_from b + row_count b)
+    (or-r (not (field b 0 0 == 15) || is_filled b 0 6 4 || has_bad_handler b || has_bad_counts b)
+    (not (size b == rows_from b + row_count b)) e))
 
 module _ (b : List ℕ) where
   pub table-header : is_bad_header b ≡ true → refusal 11 0 0 ≡ verdict_reply (table_verdict b) 0
@@ -31,9 +31,9 @@ module _ (b : List ℕ) where
     unfolding table_verdict
     table-good l =
         let s : lowest (is_stray b) 0 (size b) ≡ 0 + size b =
-        lowest-none (is_stray b) 0 (size b) (λ k m. or_l (is_stray b (0 + k)) (has_bad_content b (0 + k)) (none l (0 + k) (omega arith))) in
+        lowest-none (is_stray b) 0 (size b) (λ k m. or-l (is_stray b (0 + k)) (has_bad_content b (0 + k)) (none l (0 + k) (omega arith))) in
         let c : lowest (has_bad_content b) 0 (size b) ≡ 0 + size b =
-        lowest-none (has_bad_content b) 0 (size b) (λ k m. or_r (is_stray b (0 + k)) (has_bad_content b (0 + k))
+        lowest-none (has_bad_content b) 0 (size b) (λ k m. or-r (is_stray b (0 + k)) (has_bad_content b (0 + k))
         (none l (0 + k) (omega arith))) in
         simp (
           h,

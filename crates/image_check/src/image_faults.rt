@@ -12,7 +12,8 @@ use text::frames::sizes::FRAME;
 
 // The lowest entry at fault, or the first label; frames are counted.
 fn lowest_entry(table: &[u8], end: usize) -> usize
-    requires { (rows_from table.now ≤ size table.now) × (end ≡ labels_from table.now) }
+    requires labels { rows_from table.now ≤ size table.now }
+    requires end { end ≡ labels_from table.now }
     ensures { result ≡ lowest (is_faulty table.now) 1 (end - 1) }
 {
     let mut f: usize = 1;
@@ -30,7 +31,9 @@ fn lowest_entry(table: &[u8], end: usize) -> usize
 
 // The lowest label at fault, or the first row.
 fn lowest_label(table: &[u8], first: usize, end: usize) -> usize
-    requires { (end ≤ size table.now) × (first ≡ labels_from table.now) × (end ≡ rows_from table.now) }
+    requires inside { end ≤ size table.now }
+    requires first { first ≡ labels_from table.now }
+    requires end { end ≡ rows_from table.now }
     ensures { result ≡ lowest (is_faulty table.now) first (end - first) }
 {
     let mut f = first;
@@ -48,7 +51,9 @@ fn lowest_label(table: &[u8], first: usize, end: usize) -> usize
 
 // The lowest row at fault, or the number of frames.
 fn lowest_row(table: &[u8], first: usize, end: usize) -> usize
-    requires { (end ≤ size table.now) × (first ≡ rows_from table.now) × (first ≤ end) }
+    requires inside { end ≤ size table.now }
+    requires first { first ≡ rows_from table.now }
+    requires up { first ≤ end }
     ensures { result ≡ lowest (is_faulty table.now) first (end - first) }
 {
     let mut f = first;
@@ -64,7 +69,7 @@ fn lowest_row(table: &[u8], first: usize, end: usize) -> usize
     f
 }
 
-// The lowest frame that 12 or 13 refuses, or the number of frames.
+/// The lowest frame that 12 or 13 refuses, or the number of frames.
 pub fn lowest_fault(table: &[u8]) -> usize
     requires { rows_from table.now ≤ size table.now }
     ensures { result ≡ lowest (is_faulty table.now) 0 (size table.now) }

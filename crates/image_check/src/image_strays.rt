@@ -7,7 +7,7 @@ ghost use Rattle.image.specs.Check.{entry_position, label_position, row_position
 use image::layout::*;
 use image::{byte, label_byte, row_byte};
 
-// The frame of scheme h's entry has another kind or number.
+/// 12 refuses the entry of scheme h: its frame has another kind or number.
 pub fn stray_entry(table: &[u8], h: usize) -> bool
     requires { h < size table.now }
     ensures { result ≡ is_stray_frame table.now h (entry_position h) }
@@ -15,7 +15,7 @@ pub fn stray_entry(table: &[u8], h: usize) -> bool
     byte(table, h, FRAME_KIND) != ENTRY || (byte(table, h, NUMBER) as usize) != h
 }
 
-// The frame of label l has another kind or number.
+/// 12 refuses label l: its frame has another kind or number.
 pub fn stray_label(table: &[u8], l: usize) -> bool
     requires { labels_from table.now + l < size table.now }
     ensures { result ≡ is_stray_frame table.now (labels_from table.now + l) (label_position l) }
@@ -23,7 +23,7 @@ pub fn stray_label(table: &[u8], l: usize) -> bool
     label_byte(table, l, FRAME_KIND) != LABEL || (label_byte(table, l, NUMBER) as usize) != l
 }
 
-// The frame of row k has another kind, or the row leaves a label below that of the row before it.
+/// 12 refuses row k: its frame has another kind, or it leaves a label below that of the row before it.
 pub fn stray_row(table: &[u8], k: usize) -> bool
     requires { rows_from table.now + k < size table.now }
     ensures { result ≡ is_stray_frame table.now (rows_from table.now + k) (row_position k) }

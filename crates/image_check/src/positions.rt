@@ -10,7 +10,7 @@ use image::layout::*;
 use image::{bad_counts, bad_handler, byte, filled_to, labels_from, pair, rows_from};
 use text::frames::sizes::FRAME;
 
-// 11
+/// 11 refuses the header: its kind, its counts, its handler, a byte that is to be 0, or the number of frames.
 #[tactic(auto, unfolding(image::specs::Check::is_bad_header))]
 pub fn bad_header(table: &[u8]) -> bool
     requires { 0 < size table.now }
@@ -40,7 +40,7 @@ fn kind_at(table: &[u8], f: usize) -> u8
     ROW
 }
 
-// 12, of one frame
+// 12 refuses frame f.
 fn stray_at(table: &[u8], f: usize) -> bool
     requires { f < size table.now }
     ensures { result ≡ is_stray table.now f }
@@ -54,7 +54,7 @@ fn stray_at(table: &[u8], f: usize) -> bool
     }
 }
 
-// The lowest of n frames that 12 refuses, or n.
+/// The lowest of n frames that 12 refuses, or n.
 pub fn lowest_stray(table: &[u8], n: usize) -> usize
     requires { n ≤ size table.now }
     ensures { result ≡ lowest (is_stray table.now) 0 n }

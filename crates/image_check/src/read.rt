@@ -9,19 +9,19 @@ use text::frames::Refusal;
 use text::frames::sizes::{FRAME, IMAGE_TEXT, TABLE};
 use text::reading::read_text;
 
-// The table, ten bytes a frame, is written to the front of the lent buffer; only 1 leaves the buffer as it was.
-// No entry point: the caller lends scratch space, as the image check below and a run do.
+/// Tries an image's text, 1 to 3 before 11 to 13, and leaves the table that was read, ten bytes a frame, at the front of the lent buffer.
+/// No entry point: the buffer is scratch space, which only 1 leaves as it was.
 pub fn read_image(text: &[u8], table: &mut [u8]) -> Result<usize, Refusal>
     requires { TABLE ≤ length table.old }
-    ensures result_value { reply result ≡ verdict_reply (image_verdict text.now) 0 }
-    ensures table_after { table.new ≡ read_buffer IMAGE_TEXT text.now table.old }
+    ensures answered { reply result ≡ verdict_reply (image_verdict text.now) 0 }
+    ensures stored { table.new ≡ read_buffer IMAGE_TEXT text.now table.old }
 {
     let frames = read_text(text, IMAGE_TEXT, table)?;
     let n = FRAME * frames;
     check_table(&table[..n])
 }
 
-// What the image check tries, and nothing else.
+/// Tries an image's text, of up to 29,831 characters, and nothing else: 1 to 3 before 11 to 13. Success counts 0.
 pub fn check_image(text: &[u8]) -> Result<usize, Refusal>
     ensures { reply result ≡ verdict_reply (image_verdict text.now) 0 }
 {

@@ -1,13 +1,12 @@
 -- The smaller image joined again is itself.
-use Rattle.std.proofs.Common.{if◌then◌else◌, ℕ, ◌+◌, ◌≤◌, ◌<◌, Bool, true, false, ◌≡◌, sym, ◌∙◌, ap, subst, List, map, zero-add, arith, eqb}
-use Rattle.std.proofs.Common.{length, get_or, eqb-true, eq-eqb}
+use Rattle.std.proofs.Common.{if◌then◌else◌, ℕ, ◌+◌, ◌≤◌, ◌<◌, Bool, true, false, ◌≡◌, sym, ◌∙◌, ap, subst, List, map, zero-add, arith, ◌==◌, slice_index, filter}
+use Rattle.std.proofs.Common.{length, eqb-true, eq-eqb}
 use Rattle.words.specs.lists.Numbers.{range, count}
-use Rattle.words.specs.lists.Sequences.{filter}
-use Rattle.words.proofs.lists.Tests.{and_l}
+use Rattle.words.proofs.lists.Tests.{and-l}
 use Rattle.words.proofs.lists.Counts.{count-alike, count-all}
 use Rattle.words.proofs.lists.Ranges.{map-places}
 use Rattle.words.proofs.lists.Elements.{map-own, filter-own}
-use Rattle.words.proofs.lists.Joins.{all-places, all_of, all-range}
+use Rattle.words.proofs.lists.Joins.{all-places, all-of, all-range}
 use Rattle.text.specs.frames.Frame.{contents}
 use Rattle.text.specs.frames.Verdict.{fine, when}
 use Rattle.text.proofs.frames.Verdicts.{next-first, next-rest, when-fine}
@@ -55,15 +54,15 @@ module _ (i : Image) (S : SoundImage i) (c : List ℕ) (alone : (l : ℕ) → l 
   joined-own =
       let e : map (renumbered_label c) i.entries ≡ i.entries =
       map-own (renumbered_label c) i.entries (all-places (λ l. renumbered_label c l ≡ l) 0 i.entries
-      (λ k h. number-own (get_or i.entries k 0) (S.starts k h).inside)) in
+      (λ k h. number-own (slice_index i.entries k) (S.starts k h).inside)) in
       let l : map (label_at i) (filter (is_first c) (range 0 n)) ≡ i.labels =
       ap (map (label_at i)) (filter-own (is_first c) (range 0 n)
       (all-range (λ l. is_first c l ≡ true) 0 n (λ k h. first-own (0 + k) (omega arith))))
       ∙ map-places (label_at i) no_label i.labels 0 (λ k h. ap (label_at i) (zero-add k)) in
       let r : map (renumbered_row c) (filter (λ r. is_first c r.from) i.rows) ≡ i.rows =
       ap (map (renumbered_row c)) (filter-own (λ r. is_first c r.from) i.rows
-      (all_of (SoundRow i) (λ r. is_first c r.from ≡ true) (λ r x. first-own r.from x.high) i.rows (sound-rows i S)))
-      ∙ map-own (renumbered_row c) i.rows (all_of (SoundRow i) (λ r. renumbered_row c r ≡ r) row-own i.rows (sound-rows i S)) in
+      (all-of (SoundRow i) (λ r. is_first c r.from ≡ true) (λ r x. first-own r.from x.high) i.rows (sound-rows i S)))
+      ∙ map-own (renumbered_row c) i.rows (all-of (SoundRow i) (λ r. renumbered_row c r ≡ r) row-own i.rows (sound-rows i S)) in
       λ j. record { handler = i.handler; entries = e j; labels = l j; rows = r j }
 
 -- ---- the labels of the smaller image are alone in their groups
@@ -101,7 +100,7 @@ module _ (i : Image) (S : SoundImage i) (even : is_uneven i ≡ false) where
 
   module _ (l w b k : ℕ) (h : k < length i.rows) (own : is_candidate l w b (nth_row i k) ≡ true) where
     from_is : (nth_row i k).from ≡ l
-    from_is = eqb-true (nth_row i k).from l (and_l (eqb (nth_row i k).from l) (is_match w b (nth_row i k)) own)
+    from_is = eqb-true (nth_row i k).from l (and-l ((nth_row i k).from == l) (is_match w b (nth_row i k)) own)
 
     next-whole : (t : Bool) → (if t then 1 else 0) ≡ b → whole (nth_row i k).next
         ≡ class_of d (onward_label (smaller_image i) (renumbered_label c l) w t)

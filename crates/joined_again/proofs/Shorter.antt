@@ -6,7 +6,7 @@ use Rattle.text.specs.frames.Verdict.{Verdict, fine}
 use Rattle.text.specs.frames.Answer.{success, BufferOutcome, buffer_on}
 use Rattle.text.proofs.frames.Contents.{any-contents-length}
 use Rattle.text.proofs.frames.Texts.{text-length}
-use Rattle.text.proofs.frames.Lent.{lent-told, lent_fits}
+use Rattle.text.proofs.frames.Lent.{lent-told, lent-fits}
 use Rattle.image.specs.Image.{Image, image_frames, image_text}
 use Rattle.image.specs.Decode.{decoded_image}
 use Rattle.image.specs.Check.{image_verdict}
@@ -67,7 +67,7 @@ module _ (t : List ℕ) (ok : minimise_verdict t ≡ fine) where
   unfolding minimise
   room-enough room h =
       ap (λ (v : Verdict). (buffer_on v 1 (λ _. small) room).reply) ok
-      ∙ ap (λ (x : BufferOutcome). x.reply) (lent_fits 1 (λ _. small) room (omega (arith, never-longer)))
+      ∙ ap (λ (x : BufferOutcome). x.reply) (lent-fits 1 (λ _. small) room (omega (arith, never-longer)))
 
 pub minimise-shorter : (t room : List ℕ) (m : ℕ) → (minimise t room).reply ≡ success m → m ≤ length t
 unfolding minimise

@@ -5,7 +5,7 @@ use Rattle.words.specs.lists.Sequences.{over}
 use Rattle.text.specs.frames.Frame.{contents}
 use Rattle.text.specs.frames.Verdict.{Verdict, fine, next, when}
 use Rattle.text.specs.frames.Answer.{success, buffer_on}
-use Rattle.text.proofs.frames.Lent.{lent-told, lent_fits, front}
+use Rattle.text.proofs.frames.Lent.{lent-told, lent-fits, front}
 use Rattle.image.specs.Image.{Image, image_text}
 use Rattle.image.specs.Decode.{decoded_image}
 use Rattle.image.specs.Check.{image_verdict}
@@ -61,7 +61,7 @@ text-again i S even old h =
     (λ _. image_text (smaller_image (decoded_image (contents (image_text (smaller_image i)))))) old) (smaller-passes i S even)
     ∙ ap (λ (j : Image). buffer_on (when 23 (is_uneven j)) 1 (λ _. image_text (smaller_image j)) old) (smaller-decoded i S even)
     ∙ ap₂ (λ (t : Bool) (j : Image). buffer_on (when 23 t) 1 (λ _. image_text j) old) (smaller-even i S even) (smaller-again i S even)
-    ∙ lent_fits 1 (λ _. image_text (smaller_image i)) old h
+    ∙ lent-fits 1 (λ _. image_text (smaller_image i)) old h
 
 pub minimise-again : (t old : List ℕ) (n : ℕ) → (minimise t old).reply ≡ success n → (again : List ℕ) → n ≤ length again
     → let u = take n (minimise t old).buffer in minimise u again ≡ record { reply = success n; buffer = over u again }

@@ -1,5 +1,5 @@
 -- What the list of little charts promises: each is accepted and of the form, none is missing, and their texts increase.
-use Rattle.std.specs.Prelude.{ℕ, ◌≤◌, ◌<◌, Bool, true, false, ◌&&◌, ◌||◌, ◌≡◌, List, [], ◌∷◌, map, ltb, eqb, length}
+use Rattle.std.specs.Prelude.{ℕ, ◌≤◌, ◌<◌, Bool, true, false, ◌&&◌, ◌||◌, ◌≡◌, List, [], ◌∷◌, map, length, nat_lt, ◌==◌}
 use Rattle.text.specs.digits.Digit.{capital}
 use Rattle.text.specs.frames.Frame.{contents, frame_count, text_of}
 use Rattle.text.specs.frames.Verdict.{fine}
@@ -11,7 +11,7 @@ unfoldable pub is_before : List ℕ → List ℕ → Bool
 is_before [] [] = false
 is_before [] (y ∷ ys) = true
 is_before (x ∷ xs) [] = false
-is_before (x ∷ xs) (y ∷ ys) = ltb x y || (eqb x y && is_before xs ys)
+is_before (x ∷ xs) (y ∷ ys) = nat_lt x y || (x == y && is_before xs ys)
 
 abbrev pub little_total : ℕ → ℕ
 little_total n = length (little_charts n)

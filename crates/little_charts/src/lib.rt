@@ -1,4 +1,4 @@
-//! All the little charts, listed, a search that finds the same list (`little_search`), and how many there are (`little_totals`);
+//! All the little charts, listed, a search that finds the same list (specs/inner/Search), and how many there are (specs/Promises);
 //! definitions and laws, with what they promise as a contract.
 #![tactic(auto)]
 

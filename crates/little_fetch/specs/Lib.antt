@@ -1,1 +1,1 @@
-pub mod little_seek
+pub mod inner

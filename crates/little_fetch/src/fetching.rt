@@ -2,7 +2,7 @@
 ghost use Rattle.text.specs.frames.Frame.{size};
 ghost use Rattle.text.specs.frames.Answer.{GivesBuffer};
 ghost use Rattle.little_charts.specs.Little.{little_chart};
-ghost use Rattle.little_fetch.specs.little_seek.inner.SeekContracts.{FewFrames};
+ghost use Rattle.little_fetch.specs.inner.SeekContracts.{FewFrames};
 
 use crate::little_seek::seek;
 use text::frames::sizes::{LINE, RECORD};
@@ -25,7 +25,8 @@ fn fetch(records: &mut [u8], number: usize, text: &mut [u8]) -> Result<usize, Re
     Ok(count)
 }
 
-// A frame count outside 2 to 4 is 24 too. Counts characters; a refusal leaves the buffer as it was.
+/// The text of the little chart of a number, counted from 0 among those with as many frames. A frame count outside 2 to 4 and a number past
+/// the last one are 24, then a buffer without room is 16. Counts characters; a refusal leaves the buffer as it was.
 pub fn little_chart(frames: usize, number: usize, text: &mut [u8]) -> Result<usize, Refusal>
     ensures { GivesBuffer (little_chart frames number text.old) result text.new }
 {

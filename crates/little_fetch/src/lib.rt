@@ -4,6 +4,6 @@
 #![tactic(auto)]
 
 pub mod fetching;
-pub mod little_nodes;
-pub mod little_numbers;
-pub mod little_seek;
+mod little_nodes;
+mod little_numbers;
+mod little_seek;

@@ -1,7 +1,7 @@
 // Node records by number, and the numbers that are tried at a place.
 ghost use Rattle.std.specs.Prelude.{◌≡◌, ◌+◌, ◌*◌, ◌≤◌, ◌<◌, length};
 ghost use Rattle.text.specs.frames.Frame.{size};
-ghost use Rattle.little_charts.specs.little_search.inner.Search.{node_count, node_at, absent_count, missing_ends, first_tried, past_last};
+ghost use Rattle.little_charts.specs.inner.Search.{node_count, node_at, absent_count, missing_ends, first_tried, past_last};
 
 use crate::little_nodes::has_kind;
 use charts::layout::*;
@@ -9,7 +9,9 @@ use text::frames::sizes::RECORD;
 
 // Record i of those that nodes of a chart of n frames can have.
 pub fn node(n: usize, i: usize) -> [u8; RECORD]
-    requires { (1 ≤ n) × (n ≤ 4) × (i < node_count n) }
+    requires some { 1 ≤ n }
+    requires few { n ≤ 4 }
+    requires number { i < node_count n }
     ensures { result ≡ node_at n i }
 {
     if i < n {
@@ -60,7 +62,8 @@ fn missing_count(records: &[u8], v: usize) -> usize
 
 // The number after the last one.
 pub fn past_number(records: &[u8], v: usize) -> usize
-    requires { (RECORD * v ≤ length records.now) × (size records.now ≤ 4) }
+    requires inside { RECORD * v ≤ length records.now }
+    requires few { size records.now ≤ 4 }
     ensures { result ≡ past_last (size records.now) records.now v }
 {
     let n = records.len() / RECORD;

@@ -1,8 +1,8 @@
 // A little chart sought by its number: node records are tried place by place, and the charts that are found are counted down.
 ghost use Rattle.std.specs.Prelude.{◌≡◌, ◌*◌, ◌-◌, ◌≤◌, ◌<◌, take};
 ghost use Rattle.text.specs.frames.Frame.{size};
-ghost use Rattle.little_charts.specs.little_search.inner.Search.{node_count, node_at, searched_charts};
-ghost use Rattle.little_fetch.specs.little_seek.inner.SeekContracts.{FewFrames, RecordPlaced, SoughtCount, GivesSought, is_accepted};
+ghost use Rattle.little_charts.specs.inner.Search.{node_count, node_at, searched_charts};
+ghost use Rattle.little_fetch.specs.inner.SeekContracts.{FewFrames, RecordPlaced, SoughtCount, GivesSought, is_accepted};
 
 use crate::little_nodes::{any_lonely, is_barred};
 use crate::little_numbers::{first_number, node, past_number};
@@ -47,7 +47,9 @@ fn count_chart(records: &[u8], left: usize) -> Sought
 
 // Record i at place v.
 fn place(records: &mut [u8], v: usize, i: usize)
-    requires { (FewFrames records.old) × (v < size records.old) × (i < node_count (size records.old)) }
+    requires few { FewFrames records.old }
+    requires inside { v < size records.old }
+    requires number { i < node_count (size records.old) }
     ensures { RecordPlaced records.old v (node_at (size records.old) i) records.new }
 {
     let ten = node(records.len() / RECORD, i);
@@ -56,7 +58,8 @@ fn place(records: &mut [u8], v: usize, i: usize)
 
 // From place v on all records are tried that may stand there, and the rest after each.
 pub fn seek(records: &mut [u8], v: usize, left: usize) -> Sought
-    requires { (FewFrames records.old) × (v ≤ size records.old) }
+    requires few { FewFrames records.old }
+    requires inside { v ≤ size records.old }
     ensures { GivesSought (searched_charts (size records.old) (size records.old - v)
         (take (RECORD * v) records.old)) (take (RECORD * v) records.old) left result records.new }
 {

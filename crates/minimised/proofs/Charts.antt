@@ -1,11 +1,10 @@
 -- The image of a translated chart: 23 never applies, and runs and rebindings on its smaller image agree with the walk.
-use Rattle.std.proofs.Common.{if◌then◌else◌, ℕ, zero, suc, ◌≤◌, ◌<◌, true, false, ◌≡◌, sym, ◌∙◌, ap, subst, List, arith, length, take}
+use Rattle.std.proofs.Common.{if◌then◌else◌, ℕ, zero, suc, ◌≤◌, ◌<◌, true, false, ◌≡◌, sym, ◌∙◌, ap, subst, List, arith, length, take, filter}
 use Rattle.std.proofs.Common.{length-take}
 use Rattle.std.proofs.Math.ListN.{length-map}
 use Rattle.std.proofs.lemmas.Grind.{common_steps}
-use Rattle.words.specs.lists.Sequences.{filter}
 use Rattle.text.specs.frames.Frame.{contents, size}
-use Rattle.text.specs.frames.Verdict.{fine, next}
+use Rattle.text.specs.frames.Verdict.{fine}
 use Rattle.text.specs.frames.Answer.{success}
 use Rattle.text.proofs.frames.Lent.{Success, lent-told, front}
 use Rattle.charts.specs.Chart.{Chart}
@@ -18,7 +17,7 @@ use Rattle.chart_rows.specs.chart_labels.Labels.{label}
 use Rattle.chart_rows.specs.Rows.{rows}
 use Rattle.translator.specs.Table.{table}
 use Rattle.translator.specs.Entry.{translate_verdict, translate}
-use Rattle.translator.proofs.LabelLaws.{Bearer, bearer, rows_are}
+use Rattle.translator.proofs.LabelLaws.{Bearer, bearer, rows-are}
 use Rattle.translator.proofs.Matching.{targets, is_matching_row}
 use Rattle.translator.proofs.RowLaws.{one-row}
 use Rattle.translator.proofs.SoundTable.{table-sound}
@@ -44,7 +43,7 @@ module _ (c : Chart) (a : SoundChart c) where
   unfolding targets
   table-one-row l w b low high =
       let x : Bearer c (size c) l = bearer c l low high in
-      ap (λ (rs : List Row). length (filter (is_candidate l w (if b then 1 else 0)) rs)) (rows_are c)
+      ap (λ (rs : List Row). length (filter (is_candidate l w (if b then 1 else 0)) rs)) (rows-are c)
       ∙ ap (λ (k : ℕ). length (filter (is_candidate k w (if b then 1 else 0)) (rows c))) (sym x.is)
       ∙ sym (length-map (filter (is_matching_row (label c x.node) w (if b then 1 else 0)) (rows c)) (λ (r : Row). r.next))
       ∙ ap (λ (us : List ℕ). length us) (one-row c a x.node w b x.inside x.own)

@@ -1,8 +1,8 @@
 -- A state that fits an image fits, with its labels renumbered, the smaller image.
-use Rattle.std.proofs.Common.{ℕ, ◌+◌, ◌<◌, Bool, false, ◌&&◌, ◌||◌, ◌≡◌, sym, ◌∙◌, ap, ap₂, subst, List, arith, leb, eqb, length, eqb-true}
+use Rattle.std.proofs.Common.{ℕ, ◌+◌, ◌<◌, Bool, false, ◌&&◌, ◌||◌, ◌≡◌, sym, ◌∙◌, ap, ap₂, subst, List, arith, length, eqb-true, nat_le, ◌==◌}
 use Rattle.std.proofs.Math.ListN.{length-map}
 use Rattle.std.proofs.lemmas.Grind.{common_steps}
-use Rattle.words.proofs.lists.Tests.{and_l, not-false}
+use Rattle.words.proofs.lists.Tests.{and-l, not-false}
 use Rattle.image.specs.Image.{Image, Label}
 use Rattle.image.specs.inner.Sound.{SoundImage}
 use Rattle.state.specs.declared.State.{State}
@@ -13,10 +13,10 @@ use Rattle.grouping.proofs.Rounds.{ClassRound}
 use Rattle.minimising.specs.group_numbers.Smaller.{renumbered_label, joined_labels}
 use Rattle.minimising.proofs.group_numbers.Numbering.{new-zero, new-inside, label-new, entries-count}
 use Rattle.minimised.specs.Renamed.{renumbered_state}
-use Rattle.minimised.proofs.Renumbered.{same-handler, place-new, one_same}
+use Rattle.minimised.proofs.Renumbered.{same-handler, place-new, one-same}
 
-pub sized_new : (c : List ℕ) (s : State) → Sized s → Sized (renumbered_state c s)
-sized_new c s z = grind (arith, common_steps, length-map)
+pub sized-new : (c : List ℕ) (s : State) → Sized s → Sized (renumbered_state c s)
+sized-new c s z = grind (arith, common_steps, length-map)
 
 module _ (i : Image) (S : SoundImage i) (c : List ℕ) (R : ClassRound i c) where
   abbrev new : ℕ → ℕ
@@ -27,12 +27,12 @@ module _ (i : Image) (S : SoundImage i) (c : List ℕ) (R : ClassRound i c) wher
 
   -- ---- each test of a state's fitness says the same of the renumbered labels
   callable-new : (k : ℕ) → is_callable small k ≡ is_callable i k
-  callable-new k = ap (λ (h : ℕ). leb 2 k && leb k h) (entries-count i S c R)
+  callable-new k = ap (λ (h : ℕ). nat_le 2 k && nat_le k h) (entries-count i S c R)
 
   -- label 1, or one of scheme k
   stands-new : (l k : ℕ) → l < length i.labels
-      → (eqb (new l) 1 || eqb (label_at small (new l)).owner k) ≡ (eqb l 1 || eqb (label_at i l).owner k)
-  stands-new l k h = ap₂ (λ (t : Bool) (x : Label). t || eqb x.owner k) (one_same i S c R l h) (label-new i S c R l h)
+      → (new l == 1 || (label_at small (new l)).owner == k) ≡ (l == 1 || (label_at i l).owner == k)
+  stands-new l k h = ap₂ (λ (t : Bool) (x : Label). t || x.owner == k) (one-same i S c R l h) (label-new i S c R l h)
 
   carry-new : (l h k a : ℕ) → l < length i.labels → a < length i.labels
       → is_able_to_carry small (new l) h k (new a) ≡ is_able_to_carry i l h k a
@@ -49,11 +49,11 @@ module _ (i : Image) (S : SoundImage i) (c : List ℕ) (R : ClassRound i c) wher
     bottom-new = grind (arith, common_steps, same-handler, place-new, label-new, of-handler-new)
 
     above_new : (k : ℕ) → is_filled_place s k ≡ false → is_filled_place (renumbered_state c s) k ≡ false
-    above_new k e = grind (arith, common_steps, eqb-true, not-false, place-new, and_l, new-zero)
+    above_new k e = grind (arith, common_steps, eqb-true, not-false, place-new, and-l, new-zero)
 
     pub fits-new : Fits small (renumbered_state c s)
     fits-new = record {
-      whole = sized_new c s f.whole;
+      whole = sized-new c s f.whole;
       small = f.small;
       some = f.some;
       most = f.most;

@@ -1,6 +1,6 @@
 -- The parts of the smaller image and of a renumbered state are those of the given ones, with each label's group in its place.
-use Rattle.std.proofs.Common.{if◌then◌else◌, ℕ, zero, suc, ◌-◌, ◌≤◌, ◌<◌, Bool, ◌≡◌, refl, sym, ◌∙◌, ap, ap₂, List, [], ◌∷◌, map, arith}
-use Rattle.std.proofs.Common.{eqb, length, get_or, set, replicate, ne_eqb}
+use Rattle.std.proofs.Common.{if◌then◌else◌, ℕ, zero, suc, ◌-◌, ◌≤◌, ◌<◌, Bool, ◌≡◌, refl, sym, ◌∙◌, ap, ap₂, List, [], ◌∷◌, map, arith, ◌==◌, slice_index_or}
+use Rattle.std.proofs.Common.{length, set, replicate, ne_eqb}
 use Rattle.std.proofs.Math.ListN.{get_or-map}
 use Rattle.std.proofs.lemmas.Grind.{common_steps}
 use Rattle.results.specs.Results.{Results, result_of}
@@ -42,10 +42,10 @@ module _ (i : Image) (S : SoundImage i) (c : List ℕ) (R : ClassRound i c) wher
   -- a number that has no scheme has label 0 for its entry in both
   pub entry-at : (h : ℕ) → entry_at (joined_labels i c) h ≡ new (entry_at i h)
   unfolding joined_labels
-  entry-at h = ap (λ (d : ℕ). get_or (map new i.entries) (h - 1) d) (sym (new-zero i S c R)) ∙ get_or-map new i.entries (h - 1) 0
+  entry-at h = ap (λ (d : ℕ). slice_index_or (map new i.entries) (h - 1) d) (sym (new-zero i S c R)) ∙ get_or-map new i.entries (h - 1) 0
 
   pub place-new : (s : State) (k : ℕ) → place_at (renumbered_state c s) k ≡ new (place_at s k)
-  place-new s k = ap (λ (d : ℕ). get_or (map new s.places) k d) (sym (new-zero i S c R)) ∙ get_or-map new s.places k 0
+  place-new s k = ap (λ (d : ℕ). slice_index_or (map new s.places) k d) (sym (new-zero i S c R)) ∙ get_or-map new s.places k 0
 
   pub nothing-new : map new no_places ≡ no_places
   nothing-new = map-zeros new (new-zero i S c R) 32
@@ -54,10 +54,10 @@ module _ (i : Image) (S : SoundImage i) (c : List ℕ) (R : ClassRound i c) wher
   only-new l = ap (λ (ps : List ℕ). set ps 0 (new l)) (sym nothing-new) ∙ map-set new no_places 0 l
 
   -- label 1 alone has number 1
-  pub one_same : (l : ℕ) → l < n → eqb (new l) 1 ≡ eqb l 1
-  one_same zero h = grind (arith, common_steps, new-zero)
-  one_same (suc zero) h = grind (arith, common_steps, new-one)
-  one_same (suc (suc l)) h = grind (arith, common_steps, new-high, ne_eqb)
+  pub one-same : (l : ℕ) → l < n → (new l == 1) ≡ (l == 1)
+  one-same zero h = grind (arith, common_steps, new-zero)
+  one-same (suc zero) h = grind (arith, common_steps, new-one)
+  one-same (suc (suc l)) h = grind (arith, common_steps, new-high, ne_eqb)
 
 -- ---- where a label leads
 abbrev pub renamed_found : List ℕ → Found → Found
@@ -76,9 +76,9 @@ module _ (i : Image) (S : SoundImage i) (one : OneRow i) (d : Results) (l w : �
   pub row-some : row_leads i d l w ≡ found (onward_label i l w (result_of (label_at i l).called d))
   row-some = best-found i S one l w (result_of (label_at i l).called d) low h 0
 
-  pub row_new : (c : List ℕ) → ClassRound i c → GroupLeads i c
+  pub row-new : (c : List ℕ) → ClassRound i c → GroupLeads i c
       → row_leads (joined_labels i c) d (renumbered_label c l) w ≡ renamed_found c (row_leads i d l w)
-  row_new c R g =
+  row-new c R g =
       let k : ℕ = renumbered_label c l in
       ap (λ (x : Label). lead_of (best_row k w (if result_of x.called d then 1 else 0) 0 (joined_labels i c).rows)) (label-new i S c R l h)
       ∙ best-found (joined_labels i c) (joined-sound i S c R) (one-new i S c R one) k w bit

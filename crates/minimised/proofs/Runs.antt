@@ -19,7 +19,7 @@ use Rattle.runs.proofs.Keeps.{ticks-keep}
 use Rattle.rebinding.specs.Rebind.{rebind_on, rebind}
 use Rattle.rebinding.proofs.Keeps.{rebinding-fits}
 use Rattle.agreement.specs.Agreement.{CallInput, to_run, to_rebind, call_outputs}
-use Rattle.agreement.proofs.Chain.{run_is, rebind-is, fresh-is}
+use Rattle.agreement.proofs.Chain.{run-is, rebind-is, fresh-is}
 use Rattle.covering.specs.Matched.{is_uneven}
 use Rattle.covering.proofs.Hits.{OneRow, one-row}
 use Rattle.grouping.specs.Classes.{grouping}
@@ -75,7 +75,7 @@ module _ (i : Image) (S : SoundImage i) (even : is_uneven i ≡ false) where
 
     pub run-new : (s : State) (ws ms ks : List ℕ) → Fits i s
         → run text' (renumbered_state (grouping i) s) ws ms ks ≡ renamed_run (grouping i) (run text s ws ms ks)
-    run-new s ws ms ks f = grind (arith, common_steps, smaller-passes, run_is, smaller-decoded, run-on-new, smaller-fits, smaller-ticks)
+    run-new s ws ms ks f = grind (arith, common_steps, smaller-passes, run-is, smaller-decoded, run-on-new, smaller-fits, smaller-ticks)
 
     pub rebind-new : (s : State) (h k : ℕ) → Fits i s
         → rebind text' (renumbered_state (grouping i) s) h k ≡ renamed_state_outcome (grouping i) (rebind text s h k)
@@ -84,7 +84,7 @@ module _ (i : Image) (S : SoundImage i) (even : is_uneven i ≡ false) where
     -- ---- what they hand back fits
     run_fits : (s : State) (ws ms ks : List ℕ) → Fits i s → Fits i (run text s ws ms ks).state
     run_fits s ws ms ks f = subst (λ (r : RunOutcome). Fits i r.state)
-        (sym (run_is text i passes decodes s ws ms ks f)) (go (has_no_room ws ms ks))
+        (sym (run-is text i passes decodes s ws ms ks f)) (go (has_no_room ws ms ks))
       where
         go : (t : Bool) → Fits i (run_on (when 16 t) (λ _. ticks i s ws) s ms ks).state
         go true = f

@@ -1,6 +1,6 @@
 -- One tick on the smaller image is the tick on the given one, its labels renumbered; so are any number of ticks.
-use Rattle.std.proofs.Common.{if◌then◌else◌, ℕ, zero, suc, ◌+◌, ◌-◌, ◌≤◌, ◌<◌, Bool, true, false, ◌≡◌, refl, sym, ◌∙◌, ap, ap₂, subst, List}
-use Rattle.std.proofs.Common.{[], ◌∷◌, map, arith, leb, length, set, leb-false}
+use Rattle.std.proofs.Common.{if◌then◌else◌, ℕ, zero, suc, ◌+◌, ◌-◌, ◌≤◌, ◌<◌, Bool, true, false, ◌≡◌, refl, sym, ◌∙◌, ap, ap₂, subst, List, nat_le}
+use Rattle.std.proofs.Common.{[], ◌∷◌, map, arith, length, set, leb-false}
 use Rattle.std.proofs.lemmas.Grind.{common_steps}
 use Rattle.results.specs.Results.{Results, with_result, cleared_results}
 use Rattle.bindings.specs.Binding.{server_of}
@@ -23,7 +23,7 @@ use Rattle.minimising.specs.group_numbers.Smaller.{renumbered_label, joined_labe
 use Rattle.minimising.proofs.group_numbers.Numbering.{new-zero, label-new}
 use Rattle.minimised.specs.Alike.{Stops17}
 use Rattle.minimised.specs.Renamed.{renumbered_state, renamed_tick, renamed_machine_run}
-use Rattle.minimised.proofs.Renumbered.{map-set, same-handler, entry-at, place-new, only-new, renamed_found, GroupLeads, row-some, row_new}
+use Rattle.minimised.proofs.Renumbered.{map-set, same-handler, entry-at, place-new, only-new, renamed_found, GroupLeads, row-some, row-new}
 use Rattle.minimised.proofs.Fitting.{of-handler-new}
 
 -- the tick of a label that is known
@@ -102,10 +102,10 @@ module _ (i : Image) (S : SoundImage i) (one : OneRow i) where
     top-inside : top < length i.labels
     top-inside = f.labels (s.depth - 1) (omega (arith, f.some))
 
-    under-inside : leb s.depth 1 ≡ false → under < length i.labels
+    under-inside : nat_le s.depth 1 ≡ false → under < length i.labels
     under-inside e = f.labels (s.depth - 2) (omega (arith, leb-false s.depth 1 e))
 
-    under-high : leb s.depth 1 ≡ false → 2 ≤ under
+    under-high : nat_le s.depth 1 ≡ false → 2 ≤ under
     under-high e = grind (arith, common_steps, kind-high, carry-told, leb-false, call-kind, under-inside)
 
     -- ---- no tick misses a row
@@ -116,7 +116,7 @@ module _ (i : Image) (S : SoundImage i) (one : OneRow i) where
     pushed-some m code h k b true = grind (arith, common_steps)
     pushed-some m code h k b false = grind (arith, common_steps)
 
-    popped-some : (w m : ℕ) (b : Results) (t : Bool) → leb s.depth 1 ≡ t → Stops17 (popped_tick i s w m b t)
+    popped-some : (w m : ℕ) (b : Results) (t : Bool) → nat_le s.depth 1 ≡ t → Stops17 (popped_tick i s w m b t)
     popped-some w m b true e = grind (arith, common_steps)
     popped-some w m b false e = grind (arith, common_steps, row-some, under-inside, under-high, moved-some)
 
@@ -133,7 +133,7 @@ module _ (i : Image) (S : SoundImage i) (one : OneRow i) where
 
   -- ---- one tick
   module _ (c : List ℕ) (R : ClassRound i c) (leads : GroupLeads i c) where
-    popped-new : (s : State) → Fits i s → (w m : ℕ) (b : Results) (t : Bool) → leb s.depth 1 ≡ t
+    popped-new : (s : State) → Fits i s → (w m : ℕ) (b : Results) (t : Bool) → nat_le s.depth 1 ≡ t
         → popped_tick (joined_labels i c) (renumbered_state c s) w m b t ≡ renamed_tick c (popped_tick i s w m b t)
     popped-new s f w m b true e =
         ap (λ (l : ℕ). finished m 3 (state_alone (renumbered_state c s) l 1 b)) (sym (new-zero i S c R))
@@ -143,7 +143,7 @@ module _ (i : Image) (S : SoundImage i) (one : OneRow i) where
         ap₂ (λ (t : State) (l : ℕ). moved_tick m 3 t k (row_leads (joined_labels i c) b l w)) (dropping-new i S c R s b)
         (place-new i S c R s k)
         ∙ ap (moved_tick m 3 (renumbered_state c (popped_state s b)) k)
-        (row_new i S one b (under s f) w (under-high s f e) (under-inside s f e) c R leads)
+        (row-new i S one b (under s f) w (under-high s f e) (under-inside s f e) c R leads)
         ∙ moved_new i S c R m 3 (popped_state s b) k (row_leads i b (under s f) w)
 
     tick-by : (s : State) (f : Fits i s) (w : ℕ) (b : Results) (k : ℕ) → (label_at i (top s f)).kind ≡ k
@@ -153,15 +153,15 @@ module _ (i : Image) (S : SoundImage i) (one : OneRow i) where
         let l : ℕ = top s f in
         let k : ℕ = s.depth - 1 in
         ap (moved_tick (label_at i l).mask 0 (renumbered_state c (with_bits s b)) k)
-        (row_new i S one b l w (kind-high i S l (top-inside s f) (omega arith)) (top-inside s f) c R leads)
+        (row-new i S one b l w (kind-high i S l (top-inside s f) (omega arith)) (top-inside s f) c R leads)
         ∙ moved_new i S c R (label_at i l).mask 0 (with_bits s b) k (row_leads i b l w)
     tick-by s f w b (suc zero) e = let h : ℕ = (label_at i (top s f)).called in
         pushed-new i S c R s (f.labels 0 f.some) (label_at i (top s f)).mask (16 + h)
-        h (server_of s.serving h) b (leb s.size s.depth)
+        h (server_of s.serving h) b (nat_le s.size s.depth)
     tick-by s f w b (suc (suc zero)) e = let h : ℕ = (label_at i (top s f)).called in
         pushed-new i S c R s (f.labels 0 f.some) (label_at i (top s f)).mask (64 + h)
-        h (server_of s.serving h) b (leb s.size s.depth)
-    tick-by s f w b (suc (suc (suc zero))) e = popped-new s f w (label_at i (top s f)).mask b (leb s.depth 1) refl
+        h (server_of s.serving h) b (nat_le s.size s.depth)
+    tick-by s f w b (suc (suc (suc zero))) e = popped-new s f w (label_at i (top s f)).mask b (nat_le s.depth 1) refl
     tick-by s f w b (suc (suc (suc (suc k)))) e =
         let m : ℕ = (label_at i (top s f)).mask in
         ap (λ (u : ℕ). moved_tick m 4 (renumbered_state c (with_bits s b)) (s.depth - 1) (found u)) (entry-at i S c R 1)

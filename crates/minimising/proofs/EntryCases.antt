@@ -1,5 +1,5 @@
 -- Cases of the entry point: the image is refused, or the table that is made of it is made smaller.
-use Rattle.std.proofs.Common.{◌≡◌, sym, ◌∙◌, ap, List, ℕ, Err, arith}
+use Rattle.std.proofs.Common.{◌≡◌, sym, ◌∙◌, ap, subst, false, length, List, ℕ, Err, arith}
 use Rattle.std.proofs.lemmas.Grind.{common_steps}
 use Rattle.text.specs.frames.Frame.{contents}
 use Rattle.text.specs.frames.Verdict.{when}
@@ -9,9 +9,15 @@ use Rattle.image.specs.Decode.{decoded_image}
 use Rattle.image.specs.Check.{image_verdict}
 use Rattle.tables.proofs.Made.{MadeTable}
 use Rattle.covering.specs.Matched.{is_uneven}
-use Rattle.covering.proofs.Tables.{noted-decoded, made_table, made-uneven}
+use Rattle.covering.proofs.Tables.{noted-decoded, made-table, made-uneven}
+use Rattle.words.specs.lists.Sequences.{over}
+use Rattle.image.specs.Image.{Image}
+use Rattle.tables.specs.Table.{table_image}
+use Rattle.grouping.specs.Classes.{grouping}
+use Rattle.grouping.specs.inner.GroupingContracts.{Classed}
+use Rattle.grouping.proofs.GroupSteps.{group-classed}
 use Rattle.grouping.proofs.Prepared.{made-even}
-use Rattle.minimising.specs.group_image.inner.WriteContracts.{smaller_outcome}
+use Rattle.minimising.specs.group_image.inner.WriteContracts.{Grouped, smaller_outcome}
 use Rattle.minimising.specs.joining.inner.JoiningContracts.{ReadableTable}
 use Rattle.minimising.specs.Entry.{minimise_verdict, minimise}
 
@@ -27,7 +33,7 @@ module _ (t : List ℕ) where
 
     pub made-prepared : ReadableTable b
     made-prepared = record {
-      table = made_table t b made;
+      table = made-table t b made;
       holds = made.holds ∙ sym same;
       even = λ e. made-even t b made (sym (made-uneven t b made) ∙ e);
     }
@@ -37,3 +43,12 @@ module _ (t : List ℕ) where
         → GivesBuffer (minimise t old) a out
     unfolding minimise minimise_verdict
     image-made-smaller old a out x = grind (arith, common_steps, same)
+
+-- the classes that the grouping leaves
+pub table-grouped : (b : List ℕ) → ReadableTable b → is_uneven (decoded_image b) ≡ false → (old buffer : List ℕ)
+    → buffer ≡ over (grouping (table_image b)) old → length buffer ≡ 256 → Grouped b buffer
+table-grouped b r e old buffer q h = record {
+  table = r.table;
+  even = e;
+  classes = subst (λ (i : Image). Classed b (grouping i) buffer) r.holds (group-classed b old buffer q h);
+}

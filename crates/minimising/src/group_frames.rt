@@ -1,7 +1,7 @@
 // One frame of the smaller image, written with the numbers of groups.
 ghost use Rattle.std.specs.Prelude.{◌≡◌, ◌+◌, ◌-◌, ◌≤◌, ◌<◌, length};
 ghost use Rattle.words.specs.lists.Sequences.{written};
-ghost use Rattle.text.specs.declared.frames.sizes.TheConstants.{LINE, LABELS, ROWS};
+ghost use Rattle.text.specs.declared.frames.sizes.TheConstants.{LINE, ROWS};
 ghost use Rattle.text.specs.frames.Frame.{size, frame_text};
 ghost use Rattle.image.specs.Image.{entry_frame, label_frame, row_frame};
 ghost use Rattle.image.specs.Decode.{labels_from, label_in, row_in_frame};
@@ -10,11 +10,14 @@ ghost use Rattle.minimising.specs.group_frames.inner.GroupFrames.{header_piece, 
 use image::byte;
 use image::layout::*;
 use text::frames::put_frame;
+use text::frames::sizes::LABELS;
 
+/// The header, with the number of groups in place of that of labels.
 pub fn put_header(out: &mut [u8], schemes: u8, groups: usize, rows: usize, handler: u8)
-    requires in_bounds { LINE ≤ length out.old }
-    requires le_groups { (1 ≤ groups) × (groups ≤ LABELS) }
-    requires rows_bound { rows ≤ ROWS }
+    requires room { LINE ≤ length out.old }
+    requires some_group { 1 ≤ groups }
+    requires few_groups { groups ≤ LABELS }
+    requires few_rows { rows ≤ ROWS }
     ensures { out.new ≡ written out.old 0 (header_piece schemes groups rows handler) }
 {
     let last = (groups - 1) as u8;
@@ -24,6 +27,7 @@ pub fn put_header(out: &mut [u8], schemes: u8, groups: usize, rows: usize, handl
     put_frame(out, 0, &bytes);
 }
 
+/// The entry of a scheme.
 pub fn put_entry(out: &mut [u8], at: usize, scheme: u8, label: u8)
     requires { at + LINE ≤ length out.old }
     ensures { out.new ≡ written out.old at (frame_text (entry_frame scheme label)) }
@@ -32,10 +36,11 @@ pub fn put_entry(out: &mut [u8], at: usize, scheme: u8, label: u8)
     put_frame(out, at, &bytes);
 }
 
-// The label in frame f, with another number.
+/// The label in frame f, with another number.
 pub fn put_label(table: &[u8], f: usize, number: u8, out: &mut [u8], at: usize)
-    requires table_bound { (labels_from table.now ≤ f) × (f < size table.now) }
-    requires at_in_bounds { at + LINE ≤ length out.old }
+    requires label_frame { labels_from table.now ≤ f }
+    requires inside { f < size table.now }
+    requires room { at + LINE ≤ length out.old }
     ensures { out.new ≡ written out.old at
         (frame_text (label_frame number (label_in table.now (f - labels_from table.now)))) }
 {
@@ -53,10 +58,10 @@ pub fn put_label(table: &[u8], f: usize, number: u8, out: &mut [u8], at: usize)
     put_frame(out, at, &bytes);
 }
 
-// The row in frame f, led to the groups' numbers.
-pub fn put_row(table: &[u8], numbers: &[u8], f: usize, out: &mut [u8], at: usize)
-    requires f_bound { (f < size table.now) × (length numbers.now ≡ LABELS) }
-    requires at_in_bounds { at + LINE ≤ length out.old }
+/// The row in frame f, led to the groups' numbers.
+pub fn put_row(table: &[u8], numbers: &[u8; LABELS], f: usize, out: &mut [u8], at: usize)
+    requires inside { f < size table.now }
+    requires room { at + LINE ≤ length out.old }
     ensures { out.new ≡ written out.old at
         (frame_text (row_frame (row_numbered_by numbers.now (row_in_frame table.now f)))) }
 {

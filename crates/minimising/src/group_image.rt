@@ -1,5 +1,4 @@
 // The smaller image of labels that are grouped: written where there is room for all of it.
-ghost use Rattle.std.specs.Prelude.{◌≡◌, length};
 ghost use Rattle.text.specs.frames.Verdict.{fine};
 ghost use Rattle.text.specs.frames.Answer.{GivesBuffer};
 ghost use Rattle.minimising.specs.group_image.inner.WriteContracts.{Grouped, smaller_outcome};
@@ -11,25 +10,20 @@ use image::{byte, rows_from};
 use text::frames::Refusal;
 use text::frames::sizes::*;
 
-// 16, else all of it is written.
-pub fn write_groups(
-    table: &[u8],
-    classes: &[u8],
-    numbers: &mut [u8],
-    out: &mut [u8],
-) -> Result<usize, Refusal>
-    requires grouped { Grouped table.now classes.now }
-    requires numbers_len { length numbers.old ≡ LABELS }
+/// Refusal 16, else all of the smaller image is written; counts characters.
+pub fn write_groups(table: &[u8], classes: &[u8; LABELS], out: &mut [u8]) -> Result<usize, Refusal>
+    requires { Grouped table.now classes.now }
     ensures { GivesBuffer (smaller_outcome table.now fine out.old) result out.new }
 {
     let schemes = byte(table, 0, SCHEME_COUNT) as usize;
     let last = byte(table, 0, LAST_LABEL) as usize;
-    let groups = number_groups(classes, numbers, last + 1);
+    let mut numbers = [0u8; LABELS];
+    let groups = number_groups(classes, &mut numbers, last + 1);
     let rows = count_kept(table, classes, rows_from(table), table.len() / FRAME);
     let need = LINE * (1 + schemes + groups + rows);
     if out.len() < need {
         return Err(Refusal::NoRoom);
     }
-    put_pieces(table, classes, numbers, groups, rows, out);
+    put_pieces(table, classes, &numbers, groups, rows, out);
     Ok(need)
 }

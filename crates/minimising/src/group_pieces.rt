@@ -9,19 +9,21 @@ ghost use Rattle.minimising.specs.group_pieces.inner.TextContracts.{NumberedGrou
 use crate::group_frames::{put_label, put_row};
 use image::layout::FROM;
 use image::{byte, labels_from};
-use text::frames::sizes::LINE;
+use text::frames::sizes::{LABELS, LINE};
 
+/// The label in frame f where it is the lowest of its group, else nothing; answers the offset after it.
 pub fn put_kept_label(
     table: &[u8],
-    classes: &[u8],
-    numbers: &[u8],
+    classes: &[u8; LABELS],
+    numbers: &[u8; LABELS],
     f: usize,
     out: &mut [u8],
     at: usize,
 ) -> usize
     requires numbered_groups { NumberedGroups table.now classes.now numbers.now }
-    requires table_bound { (labels_from table.now ≤ f) × (f < rows_from table.now) }
-    requires f_in_bounds { at + length (piece table.now classes.now f) ≤ length out.old }
+    requires label_frame { labels_from table.now ≤ f }
+    requires before_rows { f < rows_from table.now }
+    requires room { at + length (piece table.now classes.now f) ≤ length out.old }
     ensures { Put out.old at (piece table.now classes.now f) result out.new }
 {
     let l = f - labels_from(table);
@@ -32,17 +34,19 @@ pub fn put_kept_label(
     at + LINE
 }
 
+/// The row in frame f where its label is the lowest of its group, else nothing; answers the offset after it.
 pub fn put_kept_row(
     table: &[u8],
-    classes: &[u8],
-    numbers: &[u8],
+    classes: &[u8; LABELS],
+    numbers: &[u8; LABELS],
     f: usize,
     out: &mut [u8],
     at: usize,
 ) -> usize
     requires numbered_groups { NumberedGroups table.now classes.now numbers.now }
-    requires table_bound { (rows_from table.now ≤ f) × (f < size table.now) }
-    requires f_in_bounds { at + length (piece table.now classes.now f) ≤ length out.old }
+    requires row_frame { rows_from table.now ≤ f }
+    requires inside { f < size table.now }
+    requires room { at + length (piece table.now classes.now f) ≤ length out.old }
     ensures { Put out.old at (piece table.now classes.now f) result out.new }
 {
     let from = byte(table, f, FROM) as usize;

@@ -1,7 +1,7 @@
 // The smaller image, written frame by frame of the given one.
 ghost use Rattle.std.specs.Prelude.{◌≡◌, ◌+◌, ◌≤◌, ◌<◌, length};
 ghost use Rattle.words.specs.lists.Sequences.{written};
-ghost use Rattle.text.specs.declared.frames.sizes.TheConstants.{LABELS, ROWS};
+ghost use Rattle.text.specs.declared.frames.sizes.TheConstants.{ROWS};
 ghost use Rattle.text.specs.frames.Frame.{size};
 ghost use Rattle.translator.specs.label_text.inner.LabelBytes.{Put};
 ghost use Rattle.minimising.specs.group_pieces.inner.Pieces.{groups_in, rows_kept, piece, all_pieces};
@@ -11,20 +11,21 @@ use crate::group_frames::{put_entry, put_header};
 use crate::group_pieces::{put_kept_label, put_kept_row};
 use image::layout::*;
 use image::{byte, labels_from, rows_from};
-use text::frames::sizes::{FRAME, LINE};
+use text::frames::sizes::{FRAME, LABELS, LINE};
 
 // The piece of a frame after the header, and the offset after it.
 fn put_piece(
     table: &[u8],
-    classes: &[u8],
-    numbers: &[u8],
+    classes: &[u8; LABELS],
+    numbers: &[u8; LABELS],
     f: usize,
     out: &mut [u8],
     at: usize,
 ) -> usize
     requires numbered_groups { NumberedGroups table.now classes.now numbers.now }
-    requires le_f { (1 ≤ f) × (f < size table.now) }
-    requires f_in_bounds { at + length (piece table.now classes.now f) ≤ length out.old }
+    requires after_header { 1 ≤ f }
+    requires inside { f < size table.now }
+    requires room { at + length (piece table.now classes.now f) ≤ length out.old }
     ensures { Put out.old at (piece table.now classes.now f) result out.new }
 {
     if f < labels_from(table) {
@@ -38,18 +39,22 @@ fn put_piece(
     put_kept_row(table, classes, numbers, f, out, at)
 }
 
+/// The header, and after it the pieces of all frames.
 pub fn put_pieces(
     table: &[u8],
-    classes: &[u8],
-    numbers: &[u8],
+    classes: &[u8; LABELS],
+    numbers: &[u8; LABELS],
     groups: usize,
     rows: usize,
     out: &mut [u8],
 )
     requires numbered_groups { NumberedGroups table.now classes.now numbers.now }
-    requires groups_value { (groups ≡ groups_in table.now classes.now) × (rows ≡ rows_kept table.now classes.now) }
-    requires le_groups { (1 ≤ groups) × (groups ≤ LABELS) × (rows ≤ ROWS) }
-    requires classes_in_bounds { length (all_pieces table.now classes.now) ≤ length out.old }
+    requires groups_counted { groups ≡ groups_in table.now classes.now }
+    requires rows_counted { rows ≡ rows_kept table.now classes.now }
+    requires some_group { 1 ≤ groups }
+    requires few_groups { groups ≤ LABELS }
+    requires few_rows { rows ≤ ROWS }
+    requires room { length (all_pieces table.now classes.now) ≤ length out.old }
     ensures { out.new ≡ written out.old 0 (all_pieces table.now classes.now) }
 {
     let n = table.len() / FRAME;

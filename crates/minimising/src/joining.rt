@@ -1,5 +1,4 @@
 // The labels of a table joined: 23, the grouping, and the smaller image of its groups.
-ghost use Rattle.std.specs.Prelude.{◌≡◌, false, length};
 ghost use Rattle.text.specs.declared.frames.refusals.TheConstants.{UNEVEN};
 ghost use Rattle.text.specs.frames.Verdict.{fine, when};
 ghost use Rattle.text.specs.frames.Answer.{GivesBuffer};
@@ -14,22 +13,7 @@ use grouping::refining::group;
 use text::frames::Refusal;
 use text::frames::sizes::LABELS;
 
-// The grouping, then what it gives.
-fn minimise_in(
-    table: &[u8],
-    classes: &mut [u8],
-    numbers: &mut [u8],
-    out: &mut [u8],
-) -> Result<usize, Refusal>
-    requires readable_table { (ReadableTable table.now) × (is_uneven (decoded_image table.now) ≡ false) }
-    requires classes_len { (length classes.old ≡ LABELS) × (length numbers.old ≡ LABELS) }
-    ensures { GivesBuffer (smaller_outcome table.now fine out.old) result out.new }
-{
-    group(table, classes);
-    write_groups(table, classes, numbers, out)
-}
-
-// 23, then 16.
+/// Refusals 23 and 16, else the smaller image is written; counts characters.
 pub fn minimise_table(table: &[u8], out: &mut [u8]) -> Result<usize, Refusal>
     requires { ReadableTable table.now }
     ensures { GivesBuffer (smaller_outcome table.now
@@ -40,6 +24,6 @@ pub fn minimise_table(table: &[u8], out: &mut [u8]) -> Result<usize, Refusal>
         return Err(Refusal::Uneven);
     }
     let mut classes = [0u8; LABELS];
-    let mut numbers = [0u8; LABELS];
-    minimise_in(table, &mut classes, &mut numbers, out)
+    group(table, &mut classes);
+    write_groups(table, &classes, out)
 }

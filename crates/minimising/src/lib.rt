@@ -7,19 +7,19 @@ ghost use Rattle.text.specs.frames.Answer.{GivesBuffer};
 ghost use Rattle.minimising.specs.Entry.{minimise};
 ghost use Rattle.minimising.specs.group_numbers.Renumbered.{FirstNumbered, EntriesLed, RowsLed};
 
-pub mod group_frames;
-pub mod group_image;
+mod group_frames;
+mod group_image;
 pub mod group_numbers;
-pub mod group_pieces;
-pub mod group_text;
-pub mod joining;
+mod group_pieces;
+mod group_text;
+mod joining;
 
 use crate::joining::minimise_table;
 use tables::preparing::prepare_table;
 use text::frames::Refusal;
 use text::frames::sizes::*;
 
-// What the image check tries, then 23 and 16; counts characters. A refusal leaves the buffer as it was.
+/// What the image check tries, then 23 and 16; counts characters. A refusal leaves the buffer as it was.
 pub fn minimise(image: &[u8], out: &mut [u8]) -> Result<usize, Refusal>
     ensures { GivesBuffer (minimise image.now out.old) result out.new }
 {

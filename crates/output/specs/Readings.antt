@@ -4,16 +4,18 @@ use Rattle.text.specs.digits.Digit.{capital}
 use Rattle.output.specs.translate_output.TranslateProgram.{translate_output}
 use Rattle.output.specs.run_output.RunProgram.{run_output}
 
--- read no more than one character past the longest chart, and past the longest image
+-- read no more than one character past the longest chart
 abbrev pub TranslateFront : Type 0
 TranslateFront = (t : List ℕ) → translate_output (take 5889 t) ≡ translate_output t
 
+-- read no more than one character past the longest image
 abbrev pub RunFront : Type 0
 RunFront = (t : List ℕ) → run_output (take 29832 t) ≡ run_output t
 
--- in letters of both sizes
+-- a chart in letters of both sizes
 abbrev pub TranslateCapitals : Type 0
 TranslateCapitals = (t : List ℕ) → translate_output (map capital t) ≡ translate_output t
 
+-- an image in letters of both sizes
 abbrev pub RunCapitals : Type 0
 RunCapitals = (t : List ℕ) → run_output (map capital t) ≡ run_output t

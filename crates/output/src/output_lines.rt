@@ -1,15 +1,15 @@
 // Lines put into a lent buffer.
-ghost use Rattle.std.specs.Prelude.{◌≡◌, ◌+◌, ◌*◌, ◌≤◌, length};
-ghost use Rattle.words.specs.lists.Sequences.{concat_map, written};
+ghost use Rattle.std.specs.Prelude.{◌≡◌, ◌+◌, ◌*◌, ◌≤◌, length, flat_map};
+ghost use Rattle.words.specs.lists.Sequences.{written};
 ghost use Rattle.text.specs.declared.frames.sizes.TheConstants.{LINE};
 ghost use Rattle.output.specs.printing.Lines.{code_line, refusal_line};
 
 use text::frames::put_bytes;
 
-// A line for each code, from the front on.
+/// Writes a line for each code, three characters, from the front on.
 pub fn put_codes(out: &mut [u8], codes: &[u8])
     requires { 3 * length codes.now ≤ length out.old }
-    ensures { out.new ≡ written out.old 0 (concat_map code_line codes.now) }
+    ensures { out.new ≡ written out.old 0 (flat_map code_line codes.now) }
 {
     for i in 0..codes.len() {
         let line = crate::printing::code_line(codes[i]);
@@ -17,7 +17,7 @@ pub fn put_codes(out: &mut [u8], codes: &[u8])
     }
 }
 
-// The frame of a refusal, from an offset on.
+/// Writes the frame of a refusal, 23 characters, from an offset on.
 pub fn put_refusal(out: &mut [u8], at: usize, number: u8, index: usize)
     requires { at + LINE ≤ length out.old }
     ensures { out.new ≡ written out.old at (refusal_line number index) }

@@ -6,7 +6,7 @@ use text::digits::character;
 use text::frames::put_frame;
 use text::frames::sizes::{LINE, LINE_FEED};
 
-// FF, the number and the index as a frame.
+/// The frame that tells a refusal: FF, its number and its index modulo 65,536.
 pub fn refusal_line(number: u8, index: usize) -> [u8; LINE]
     ensures { result ≡ refusal_line number index }
 {
@@ -27,7 +27,7 @@ pub fn refusal_line(number: u8, index: usize) -> [u8; LINE]
     line
 }
 
-// Two digits and a line feed.
+/// The line of a tick's code: two digits and a line feed.
 pub fn code_line(code: u8) -> [u8; 3]
     ensures { result ≡ code_line code }
 {

@@ -5,7 +5,7 @@ ghost use Rattle.output.specs.output_lines.Prints.{Prints};
 ghost use Rattle.output.specs.run_output.RunProgram.{program_words, run_lines, run_output};
 ghost use Rattle.std.specs.Io.Cursor.{cursor_position, cursor_inner};
 ghost use Rattle.console.specs.Memory.{written_front, unwritten_rest, HasNoRoom};
-ghost use Rattle.console.specs.Outcome.{PrintsFor, WritesOver, TellsErrors, PrintsWhereItFits};
+ghost use Rattle.console.specs.Outcome.{PrintsFor, WritesOver, ReadsUpTo, TellsErrors, PrintsWhereItFits};
 
 use crate::output_lines::{put_codes, put_refusal};
 use console::streams::{Reader, Writer};
@@ -15,10 +15,10 @@ use std::io::Cursor;
 use text::frames::Refusal;
 use text::frames::sizes::{IMAGE_TEXT, LINE};
 
-// One character more than the longest image: of a longer text no more needs to be read.
+/// One character more than the longest image: of a longer text no more needs to be read.
 pub const IMAGE_READ: usize = IMAGE_TEXT + 1;
 
-// A line for each of 64 ticks, and the frame of a refusal.
+/// The most that a run prints, in characters: a line for each of 64 ticks, and the frame of a refusal.
 pub const RUN_PRINTS: usize = 64 * 3 + LINE;
 
 // The words 0 to 63.
@@ -34,7 +34,8 @@ fn count_up() -> [u16; 64]
 
 // The codes of the finished ticks, then the refusal if there is one.
 fn put_run(answer: Result<usize, Refusal>, codes: &[u8], out: &mut [u8; RUN_PRINTS]) -> usize
-    requires { (reply_count (reply answer) ≤ length codes.now) × (length codes.now ≤ 64) }
+    requires ticked { reply_count (reply answer) ≤ length codes.now }
+    requires few { length codes.now ≤ 64 }
     ensures { Prints (run_lines (reply answer) codes.now) result out.old out.new }
 {
     match answer {
@@ -51,7 +52,7 @@ fn put_run(answer: Result<usize, Refusal>, codes: &[u8], out: &mut [u8; RUN_PRIN
     }
 }
 
-// What a run of the words 0 to 63 from a fresh state with 32 places prints; how many characters that is.
+/// Writes what a run of the words 0 to 63 from a fresh state with 32 places prints, at the front of the buffer, and counts its characters.
 pub fn run_text(input: &[u8], out: &mut [u8; RUN_PRINTS]) -> usize
     ensures { Prints (run_output input.now) result out.old out.new }
 {
@@ -65,11 +66,12 @@ pub fn run_text(input: &[u8], out: &mut [u8; RUN_PRINTS]) -> usize
     put_run(answer, &codes, out)
 }
 
-// Reads an image and prints what its run prints.
+/// Reads an image and prints what its run prints. What stands behind the longest image and one character more is left to the reader.
 pub fn run_image<R: Reader, W: Writer>(reader: &mut R, writer: &mut W) -> Outcome
     ensures prints { PrintsFor run_output (R.remaining reader.old) (W.contents writer.old) (W.contents writer.new) result }
     ensures over { WritesOver run_output (R.remaining reader.old) (W.contents writer.old) (W.contents writer.new)
         (W.overwritten writer.old) (W.overwritten writer.new) result }
+    ensures left { ReadsUpTo IMAGE_READ (R.remaining reader.old) (R.remaining reader.new) result }
     ensures errors { TellsErrors run_output (R.remaining reader.old) R.fails (W.fails writer.old) result }
 {
     let mut text = [0u8; IMAGE_READ];
@@ -85,8 +87,8 @@ pub fn run_image<R: Reader, W: Writer>(reader: &mut R, writer: &mut W) -> Outcom
     }
 }
 
-// The program over memory, where no read fails: what it prints stands from the cursor on, all of it where that has room, and else a front
-// is written and the failure told. Behind it the buffer stays. Of a cursor past the end of its buffer nothing more is promised.
+/// The program over memory, where no read fails: what it prints stands from the cursor on, all of it where that has room, and else a front
+/// is written and the failure told. Behind it the buffer stays. Of a cursor past the end of its buffer nothing more is promised.
 pub fn run_image_in_memory(image: &[u8], out: &mut Cursor<&mut [u8]>) -> Outcome
     ensures prints { PrintsFor run_output (Some image.now) (written_front (cursor_position out.old) (cursor_inner out.old).now)
         (written_front (cursor_position out.new) (cursor_inner out.new).now) result }

@@ -1,5 +1,5 @@
 -- The answer at each return of the entry point.
-use Rattle.std.proofs.Common.{ℕ, ◌*◌, ◌≤◌, Bool, true, false, ◌≡◌, sym, ◌∙◌, ap, subst, List, arith, ltb, length, take, Err, if◌then◌else◌}
+use Rattle.std.proofs.Common.{ℕ, ◌*◌, ◌≤◌, Bool, true, false, ◌≡◌, sym, ◌∙◌, ap, subst, List, arith, length, take, Err, if◌then◌else◌, nat_lt}
 use Rattle.std.proofs.lemmas.Grind.{common_steps}
 use Rattle.words.proofs.lists.Tests.{cases}
 use Rattle.text.specs.frames.Frame.{contents}
@@ -14,7 +14,7 @@ use Rattle.walk.proofs.Facts.{Facts}
 use Rattle.chart_rows.proofs.chart_labels.ReadyLaws.{ready-facts}
 use Rattle.chart_rows.specs.Rows.{rows}
 use Rattle.translator.specs.Entry.{translate_verdict}
-use Rattle.translator.proofs.EntrySteps.{read_no, Read, read-ready}
+use Rattle.translator.proofs.EntrySteps.{read-no, Read, read-ready}
 use Rattle.places.specs.chains.Calls.{is_circular, places}
 use Rattle.places.specs.chains.inner.Masks.{longest_chain}
 use Rattle.places.proofs.chains.Longest.{places-some}
@@ -45,20 +45,20 @@ module _ (t : List ℕ) where
       → reply a ≡ (read_chart t zeros).reply → (r : Refusal) → a ≡ Err r → reply (Err r) ≡ places_needed t
   unfolding translate_verdict
   needed-unread zeros room a e r q =
-      let p = read_no t zeros room a e r q in
+      let p = read-no t zeros room a e r q in
       ap (refusal (number_of r) (index_of r)) p.1
       ∙ refused-before (number_of r) (index_of r)
-      (next-refused (read_verdict t) (λ _. when 10 (ltb 1024 (length (rows (contents t))))) (number_of r) (index_of r) p.0)
+      (next-refused (read_verdict t) (λ _. when 10 (nat_lt 1024 (length (rows (contents t))))) (number_of r) (index_of r) p.0)
 
   module _ (held : List ℕ) (n : ℕ) (r : Read t held n) where
-    by_rows : (b : Bool) → b ≡ ltb 1024 (length (rows (take (10 * n) held))) → translate_verdict t ≡ when 10 b
+    by_rows : (b : Bool) → b ≡ nat_lt 1024 (length (rows (take (10 * n) held))) → translate_verdict t ≡ when 10 b
     unfolding translate_verdict
     by_rows b e = grind (arith, common_steps)
 
-    pub needed-wide : (b : Bool) → b ≡ ltb 1024 (length (rows (take (10 * n) held))) → b ≡ true → refusal 10 0 0 ≡ places_needed t
+    pub needed-wide : (b : Bool) → b ≡ nat_lt 1024 (length (rows (take (10 * n) held))) → b ≡ true → refusal 10 0 0 ≡ places_needed t
     needed-wide b e q = refused-before 10 0 (by_rows b e ∙ ap (when 10) q)
 
-    module _ (b : Bool) (e : b ≡ ltb 1024 (length (rows (take (10 * n) held)))) (few : b ≡ false)
+    module _ (b : Bool) (e : b ≡ nat_lt 1024 (length (rows (take (10 * n) held)))) (few : b ≡ false)
         (k : ℕ) (is : k ≡ longest_chain (take (10 * n) held)) where
       by-calls : places_verdict t ≡ when 20 (is_circular (contents t))
       unfolding places_verdict

@@ -15,7 +15,7 @@ use Rattle.translator.proofs.Refuses.{OfChart, translate-refuses}
 use Rattle.translator.proofs.Translated.{translated-read}
 use Rattle.places.specs.chains.Calls.{is_circular, places}
 use Rattle.places.specs.chains.Chains.{Circle, Longest}
-use Rattle.places.proofs.chains.Longest.{chain-some, chain-few, no_longer, as_long}
+use Rattle.places.proofs.chains.Longest.{chain-some, chain-few, no-longer, as-long}
 use Rattle.places.proofs.chains.Circles.{circle-told, circle-refused}
 use Rattle.places.specs.Entry.{places_verdict, places_needed}
 use Rattle.places.specs.Reported.{Reported}
@@ -49,8 +49,8 @@ module _ (text : List ℕ) where
     pub needed-longest : Longest (contents text) n
     needed-longest =
         let c : Chart = contents text in
-        let r = as_long c needed-facts needed-calm in
-        subst (Longest c) (sym needed-is) (record { end = r.end; chain = r.chain; most = no_longer c needed-facts needed-calm })
+        let r = as-long c needed-facts needed-calm in
+        subst (Longest c) (sym needed-is) (record { end = r.end; chain = r.chain; most = no-longer c needed-facts needed-calm })
 
     pub needed-few : (1 ≤ n) × (n ≤ 16)
     needed-few = grind (arith, common_steps, chain-few, chain-some, needed-calm, needed-facts, needed-longest)

@@ -1,13 +1,12 @@
 // The places that a chart needs, by its text. There is no buffer.
-ghost use Rattle.std.specs.Prelude.{◌≡◌, ltb, length};
+ghost use Rattle.std.specs.Prelude.{◌≡◌, length, nat_lt};
 ghost use Rattle.text.specs.frames.Answer.{reply};
 ghost use Rattle.chart_rows.specs.chart_labels.inner.ChartContracts.{Ready};
 ghost use Rattle.chart_rows.specs.Rows.{rows};
 ghost use Rattle.places.specs.Entry.{places_needed};
 
 use crate::chains::longest_chain;
-use chart_rows::row_bounds::bound_rows;
-use chart_rows::{COUNTED, NOTES, count_rows, note_nodes};
+use chart_rows::{COUNTED, NOTES, bound_rows, count_rows, note_nodes};
 use chart_text::read_chart;
 use text::frames::Refusal;
 use text::frames::sizes::*;
@@ -15,14 +14,15 @@ use text::frames::sizes::*;
 // 10: there are more rows than an image has. Where a bound on the rows excludes it, the paths are not walked to count them.
 fn too_many_rows(records: &[u8]) -> bool
     requires { Ready records.now }
-    ensures { result ≡ ltb ROWS (length (rows records.now)) }
+    ensures { result ≡ nat_lt ROWS (length (rows records.now)) }
 {
     let mut notes = [0u8; NOTES];
     note_nodes(records, &mut notes);
     ROWS < bound_rows(records, &notes) && ROWS < count_rows(records, &notes, COUNTED)
 }
 
-// Refusals 1 to 10, with 19 after 5, and 20 where a circle of calls can be reached; else the number of schemes of the longest chain.
+/// How many places the chart of a text needs: the number of schemes, 1 to 16, of the longest chain of calls that begins at scheme 1.
+/// Refusals 1 to 10, with 19 after 5, then 20 where a circle of calls can be reached.
 pub fn places_needed(text: &[u8]) -> Result<usize, Refusal>
     ensures { reply result ≡ places_needed text.now }
 {

@@ -3,7 +3,7 @@ use Rattle.std.proofs.Common.{if◌then◌else◌, cond, ℕ, ◌+◌, ◌-◌, 
 use Rattle.std.proofs.Common.{◌∷◌, map, arith, length, take, length-drop, length-take-le, le-ltb}
 use Rattle.std.proofs.Math.ListN.{length-map}
 use Rattle.std.proofs.lemmas.Grind.{common_steps}
-use Rattle.words.proofs.lists.Tests.{no_both, or-none, and_no}
+use Rattle.words.proofs.lists.Tests.{no_both, or-none, and-no}
 use Rattle.bindings.specs.Binding.{Binding}
 use Rattle.text.specs.frames.Answer.{reply_number, reply_count}
 use Rattle.text.proofs.frames.Lent.{front}
@@ -14,7 +14,7 @@ use Rattle.prices.specs.priced_runs.PricedRun.{has_too_many_words}
 use Rattle.prices.proofs.priced_runs.Pricing.{no-price}
 use Rattle.agreement.specs.Agreement.{RunInput, CallInput, to_run, to_rebind, CallOutput, by_run, by_rebinding, is_short, expected_output}
 use Rattle.agreement.specs.Agreement.{output_refused_short, reply_to}
-use Rattle.agreement.proofs.Expected.{all_short, all-long}
+use Rattle.agreement.proofs.Expected.{all-short, all-long}
 use Rattle.priced.specs.Demand.{PricedInput, unpriced, to_priced_run, PricedOutput, by_unpriced, by_priced_run, joined_priced_words}
 use Rattle.priced.specs.Demand.{ticks_falling_on, output_refused_many, expected_priced_outputs}
 use Rattle.agreement.specs.Agreement as agreed
@@ -63,12 +63,12 @@ module _ (c : Chart) where
   none-joined true = refl
   none-joined false = refl
 
-  pub joined_as : (given : List PricedInput) (s : Binding) → joined_priced_words c s given ≡ agreed.joined_words c s (map as_run given)
+  pub joined-as : (given : List PricedInput) (s : Binding) → joined_priced_words c s given ≡ agreed.joined_words c s (map as_run given)
   unfolding joined_priced_words agreed.joined_words
-  joined_as [] s = grind (arith, common_steps)
-  joined_as (unpriced (to_run a) ∷ rest) s = grind (arith, common_steps, joined_as rest s)
-  joined_as (unpriced (to_rebind h k) ∷ rest) s = grind (arith, common_steps, joined_as rest)
-  joined_as (to_priced_run list a ∷ rest) s = grind (arith, common_steps, joined_as rest s, none-joined)
+  joined-as [] s = grind (arith, common_steps)
+  joined-as (unpriced (to_run a) ∷ rest) s = grind (arith, common_steps, joined-as rest s)
+  joined-as (unpriced (to_rebind h k) ∷ rest) s = grind (arith, common_steps, joined-as rest)
+  joined-as (to_priced_run list a ∷ rest) s = grind (arith, common_steps, joined-as rest s, none-joined)
 
   -- ---- what is expected
   module _ (b : ℕ) (ts : List Tick) (low : b ≤ length ts) where
@@ -128,11 +128,11 @@ module _ (c : Chart) where
       as_short e =
           run_short p a rest e
           ∙ ap (λ (l : List PricedOutput). by_unpriced (by_run (output_refused_short a)) ∷ l) here
-          ∙ sym (ap (with_prices (unpriced (to_run a) ∷ rest)) (all_short c b ts p a (map as_run rest) e))
+          ∙ sym (ap (with_prices (unpriced (to_run a) ∷ rest)) (all-short c b ts p a (map as_run rest) e))
 
-      as_long : is_short a ≡ false → As p (unpriced (to_run a) ∷ rest)
+      as-long : is_short a ≡ false → As p (unpriced (to_run a) ∷ rest)
       unfolding with_prices
-      as_long e =
+      as-long e =
           run_long p a rest e
           ∙ ap (λ (l : List PricedOutput). by_unpriced (by_run (expected_output b ts p a)) ∷ l) on
           ∙ sym (ap (with_prices (unpriced (to_run a) ∷ rest)) (all-long c b ts p a (map as_run rest) e))
@@ -142,7 +142,7 @@ module _ (c : Chart) where
         where
           go : (t : Bool) → is_short a ≡ t → As p (unpriced (to_run a) ∷ rest)
           go true e = as_short e
-          go false e = as_long e
+          go false e = as-long e
 
       module _ (list : List ℕ) where
         abbrev as_runs : Bool → List CallOutput
@@ -182,7 +182,7 @@ module _ (c : Chart) where
             all-refused p list a rest e f
             ∙ ap₂ (λ (n : ℕ) (l : List PricedOutput). by_priced_run (output_refused_short a) n ∷ l) (sym (no-price list)) here
             ∙ sym (few-is e (output_refused_short a) (plain p rest))
-            ∙ sym (ap (with_prices (to_priced_run list a ∷ rest)) (few-plain e ∙ all_short c b ts p a (map as_run rest) f))
+            ∙ sym (ap (with_prices (to_priced_run list a ∷ rest)) (few-plain e ∙ all-short c b ts p a (map as_run rest) f))
         as-few e false f =
             all-priced p list a rest e f
             ∙ ap₂ (λ (n : ℕ) (l : List PricedOutput). by_priced_run (expected_output b ts p a) n ∷ l) (price-of list p a) on
@@ -206,14 +206,14 @@ module _ (c : Chart) where
 
     -- ---- a run of no words is expected to succeed
     none-stopped : (p : ℕ) (a : RunInput) → reply_number (expected_output b ts p (no_words a)).reply ≡ 0
-    none-stopped p a = grind (arith, common_steps, and_no)
+    none-stopped p a = grind (arith, common_steps, and-no)
 
     abbrev Fine : ℕ → List PricedInput → Type 0
     Fine p given = AllSucceed given (plain p given)
 
     module _ (p : ℕ) (a : RunInput) (rest : List PricedInput) (here : (q : ℕ) → Fine q rest) where
       run-fine : (t : Bool) → is_short a ≡ t → Fine p (unpriced (to_run a) ∷ rest)
-      run-fine true e = subst (AllSucceed (unpriced (to_run a) ∷ rest)) (sym (all_short c b ts p a (map as_run rest) e)) (tt, here p)
+      run-fine true e = subst (AllSucceed (unpriced (to_run a) ∷ rest)) (sym (all-short c b ts p a (map as_run rest) e)) (tt, here p)
       run-fine false e = subst (AllSucceed (unpriced (to_run a) ∷ rest))
           (sym (all-long c b ts p a (map as_run rest) e)) (tt, here (p + length a.words))
 
@@ -225,7 +225,7 @@ module _ (c : Chart) where
 
         few-fine : has_too_many_words a.words ≡ false → (t : Bool) → is_short a ≡ t → FineAs false
         few-fine e true f =
-            subst (AllSucceed (to_priced_run list a ∷ rest)) (sym (all_short c b ts p a (map as_run rest) f))
+            subst (AllSucceed (to_priced_run list a ∷ rest)) (sym (all-short c b ts p a (map as_run rest) f))
             (λ q. no_both (has_too_many_words a.words) q e, here p)
         few-fine e false f =
             subst (AllSucceed (to_priced_run list a ∷ rest)) (sym (all-long c b ts p a (map as_run rest) f))

@@ -20,7 +20,7 @@ use Rattle.agreement.proofs.Demand.{theorem}
 use Rattle.priced.specs.Demand.{PricedInput, to_priced_run, PricedOutput, by_priced_run, priced_outputs, joined_priced_words}
 use Rattle.priced.specs.Demand.{priced_walk_outputs, expected_priced_outputs, PricedAgreement}
 use Rattle.priced.specs.FreshRun.{PricedByTheWalk}
-use Rattle.priced.proofs.AsRuns.{as_run, with_prices, AllSucceed, joined_as, expected-as, expected-fine, expected-count, all-many}
+use Rattle.priced.proofs.AsRuns.{as_run, with_prices, AllSucceed, joined-as, expected-as, expected-fine, expected-count, all-many}
 use Rattle.priced.proofs.AsRuns.{all-refused, all-priced}
 use Rattle.priced.proofs.Chain.{chain-as}
 use Rattle.agreement.specs.Agreement as agreed
@@ -39,7 +39,7 @@ priced-theorem text out n done size low high given =
     ∙ ap (with_prices given) e
     ∙ sym (expected-as c b ts (bound-le size ts) given 0)
     ∙ sym (ap (λ (js : List Signal). let us = walk size c js in expected_priced_outputs c (bound size us) us 0 given)
-    (joined_as c given own_binding))
+    (joined-as c given own_binding))
 
 -- ---- one priced run
 module _ (size : ℕ) (c : Chart) (list : List ℕ) (a : RunInput) (r : PricedOutcome) where

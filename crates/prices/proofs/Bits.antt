@@ -1,14 +1,14 @@
 -- The set bits of a mask taken off one by one, the lowest first: what is left costs the price of that bit less.
-use Rattle.std.proofs.Common.{ℕ, zero, suc, ◌+◌, ◌*◌, ◌-◌, ◌/◌, ◌%◌, ◌^◌, ◌≤◌, ◌<◌, ◌≡◌, refl, sym, ◌∙◌, ap, ap₂, List, pow-suc, zero-mul}
-use Rattle.std.proofs.Common.{one-mul, arith, bit_and, get_or}
+use Rattle.std.proofs.Common.{ℕ, zero, suc, ◌+◌, ◌*◌, ◌-◌, ◌/◌, ◌%◌, ◌^◌, ◌≤◌, ◌<◌, ◌≡◌, refl, sym, ◌∙◌, ap, ap₂, List, pow-suc, zero-mul, slice_index}
+use Rattle.std.proofs.Common.{one-mul, arith, bit_and}
 use Rattle.std.proofs.Math.Arith.{lt-one}
 use lib.Bits.{and_step, and_self, and_le_r}
 use lib.Count.{count_trailing_zeros, under}
 use Rattle.std.proofs.lemmas.Grind.{common_steps}
 use Rattle.words.specs.lists.Numbers.{sum}
 use Rattle.words.proofs.lists.Searches.{sum-shift}
-use Rattle.words.specs.bits.Word.{bit}
-use Rattle.words.proofs.lists.Sums.{sum_same, sum-zero}
+use Rattle.std.specs.Int.{bit_at}
+use Rattle.words.proofs.lists.Sums.{sum-same, sum-zero}
 use Rattle.words.proofs.bits.BitLaws.{bit-zero, bit-none}
 use Rattle.words.proofs.bits.MaskLaws.{bit-suc}
 use Rattle.prices.specs.Prices.{tick_price}
@@ -16,12 +16,12 @@ use Rattle.prices.proofs.Sums.{tick-most}
 
 -- ---- the lowest k bits of n, each at its price
 abbrev costs : (ℕ → ℕ) → ℕ → ℕ → ℕ
-costs g k n = sum (λ j. bit n j * g j) 0 k
+costs g k n = sum (λ j. bit_at n j * g j) 0 k
 
 -- bit 0, and the bits above it
 costs-step : (g : ℕ → ℕ) (k n : ℕ) → costs g (suc k) n ≡ n % 2 * g 0 + costs (λ j. g (suc j)) k (n / 2)
 unfolding sum
-costs-step g k n = grind (arith, common_steps, sum_same, bit-zero, bit-suc, sum-shift)
+costs-step g k n = grind (arith, common_steps, sum-same, bit-zero, bit-suc, sum-shift)
 
 costs-even : (g : ℕ → ℕ) (k n m : ℕ) → n % 2 ≡ 0 → n / 2 ≡ m → costs g (suc k) n ≡ costs (λ j. g (suc j)) k m
 costs-even g k n m e h = grind (arith, common_steps, zero-mul, costs-step)
@@ -89,18 +89,18 @@ module _ (prices : List ℕ) (mask total rest : ℕ) (inv : CountedBits prices m
   j = count_trailing_zeros 32 rest
 
   module _ (h : rest ≡ 0 → ⊥) where
-    off : LowestBit (λ i. get_or prices i 0) 32 rest
-    off = lowest-off (λ i. get_or prices i 0) 32 rest (omega arith) inv.low
+    off : LowestBit (λ i. slice_index prices i) 32 rest
+    off = lowest-off (λ i. slice_index prices i) 32 rest (omega arith) inv.low
 
     pub less-falls : less rest < rest
     less-falls = omega (arith, and_le_r rest (rest - 1))
 
-    pub counted-more : CountedBits prices mask (total + get_or prices j 0) (less rest)
+    pub counted-more : CountedBits prices mask (total + slice_index prices j) (less rest)
     unfolding tick_price
     counted-more = record { sum = omega (arith, inv.sum, off.cost); low = omega (arith, inv.low, less-falls) }
 
     -- a part of the whole sum
-    pub bit-fits : ((i : ℕ) → get_or prices i 0 ≤ 65535) → total + get_or prices j 0 ≤ 2097120
+    pub bit-fits : ((i : ℕ) → slice_index prices i ≤ 65535) → total + slice_index prices j ≤ 2097120
     bit-fits small = omega (arith, counted-more.sum, tick-most prices small mask)
 
   pub counted-all : rest ≡ 0 → total ≡ tick_price prices mask

@@ -1,11 +1,11 @@
 -- The price of ticks: a price list gives each micro operation, mask bit 0 first, hundredths of a cent a tick.
-use Rattle.std.specs.Prelude.{ℕ, ◌+◌, ◌*◌, ◌/◌, List, [], ◌∷◌, get_or}
+use Rattle.std.specs.Prelude.{ℕ, ◌+◌, ◌*◌, ◌/◌, List, [], ◌∷◌, slice_index}
 use Rattle.words.specs.lists.Numbers.{sum}
-use Rattle.words.specs.bits.Word.{bit}
+use Rattle.std.specs.Int.{bit_at}
 
 -- of one tick: the prices of its mask's set bits
 unfoldable pub tick_price : List ℕ → ℕ → ℕ
-tick_price prices mask = sum (λ j. bit mask j * get_or prices j 0) 0 32
+tick_price prices mask = sum (λ j. bit_at mask j * slice_index prices j) 0 32
 
 unfoldable pub hundredths : List ℕ → List ℕ → ℕ
 hundredths prices [] = 0

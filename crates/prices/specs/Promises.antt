@@ -1,5 +1,5 @@
 -- What prices promise: a priced run is the run, its price is that of the masks written, and the sums stay small.
-use Rattle.std.specs.Prelude.{ℕ, ◌*◌, ◌≤◌, ◌≡◌, List, length, get_or, take}
+use Rattle.std.specs.Prelude.{ℕ, ◌*◌, ◌≤◌, ◌≡◌, List, length, take, slice_index}
 use Rattle.text.specs.frames.Sizes.{WORDS}
 use Rattle.text.specs.frames.Answer.{reply_count}
 use Rattle.state.specs.declared.State.{State}
@@ -29,8 +29,8 @@ PricedBytesHold =
 
 -- by prices of 0 to 65,535 a tick costs at most 32 times as much, and ticks as often that as they are
 abbrev pub TickMost : Type 0
-TickMost = (prices : List ℕ) → ((j : ℕ) → get_or prices j 0 ≤ 65535) → (m : ℕ) → tick_price prices m ≤ 2097120
+TickMost = (prices : List ℕ) → ((j : ℕ) → slice_index prices j ≤ 65535) → (m : ℕ) → tick_price prices m ≤ 2097120
 
 abbrev pub HundredthsMost : Type 0
 HundredthsMost =
-    (prices : List ℕ) → ((j : ℕ) → get_or prices j 0 ≤ 65535) → (masks : List ℕ) → hundredths prices masks ≤ 2097120 * length masks
+    (prices : List ℕ) → ((j : ℕ) → slice_index prices j ≤ 65535) → (masks : List ℕ) → hundredths prices masks ≤ 2097120 * length masks

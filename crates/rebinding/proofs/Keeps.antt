@@ -1,5 +1,5 @@
 -- A rebinding leaves a fitting state fitting, refused or not.
-use Rattle.std.proofs.Common.{if◌then◌else◌, ℕ, ◌-◌, ◌≤◌, ◌<◌, Bool, true, false, ◌&&◌, not, ◌≡◌, sym, ap, ◌∙◌, List, arith, leb, eqb}
+use Rattle.std.proofs.Common.{if◌then◌else◌, ℕ, ◌-◌, ◌≤◌, ◌<◌, Bool, true, false, ◌&&◌, not, ◌≡◌, sym, ap, ◌∙◌, List, arith, nat_le, ◌==◌}
 use Rattle.std.proofs.Common.{length, set, get_or-set_same, get_or-set_other, ne_eqb, le-leb}
 use Rattle.std.proofs.Math.Decide.{ℕ_discrete}
 use Rattle.std.proofs.lemmas.Grind.{common_steps}
@@ -27,7 +27,7 @@ module _ (i : Image) (few : length i.entries ≤ 16) (s : State) (h k : ℕ) whe
 
   -- whether the scheme that serves number g may not serve it
   abbrev bad : ℕ → Bool → ℕ → Bool
-  bad g t j = not (if t then is_callable i j else eqb j g)
+  bad g t j = not (if t then is_callable i j else j == g)
 
   pub rebinding-fits : Fits i s → is_bad_rebinding H i.handler h k ≡ false → Fits i (rebinding h k s)
   rebinding-fits f e = record {
@@ -50,13 +50,13 @@ module _ (i : Image) (few : length i.entries ≤ 16) (s : State) (h k : ℕ) whe
           let same : server_of (set s.serving (h - 1) k) g ≡ k =
           ap (server_of (set s.serving (h - 1) k)) q
           ∙ get_or-set_same s.serving (h - 1) k 0 (omega (arith, f.whole.serving, may.number-low, may.number-high)) in
-          let free : (leb g H && not (eqb g i.handler)) ≡ true =
-          and-true (leb g H) (not (eqb g i.handler)) (le-leb g H (omega (arith, may.number-high)))
+          let free : (nat_le g H && not (g == i.handler)) ≡ true =
+          and-true (nat_le g H) (not (g == i.handler)) (le-leb g H (omega (arith, may.number-high)))
           (ap not (ne_eqb g i.handler (λ p. may.other (sym q ∙ p)))) in
-          ap (bad g (leb g H && not (eqb g i.handler))) same ∙ ap (λ (t : Bool). bad g t k) free
+          ap (bad g (nat_le g H && not (g == i.handler))) same ∙ ap (λ (t : Bool). bad g t k) free
           ∙ ap not (range-callable i k may.scheme-low may.scheme-high)
       serves g a b (no q) =
-          ap (bad g (leb g H && not (eqb g i.handler)))
+          ap (bad g (nat_le g H && not (g == i.handler)))
           (get_or-set_other s.serving (h - 1) (g - 1) k 0 (λ p. q (omega (arith, may.number-low))))
           ∙ f.serves g a b
 

@@ -1,5 +1,5 @@
 -- A rebinding between ticks: number h is served by scheme k from then on; refusal 22.
-use Rattle.std.specs.Prelude.{ℕ, ◌≡◌, List, eqb, length, if◌then◌else◌}
+use Rattle.std.specs.Prelude.{ℕ, ◌≡◌, List, length, if◌then◌else◌, ◌==◌}
 use Rattle.bindings.specs.Binding.{rebound_binding, is_bad_rebinding}
 use Rattle.text.specs.declared.frames.refusals.TheConstants.{BAD_HEADER, UNFIT, BAD_REBINDING}
 use Rattle.text.specs.frames.Frame.{contents}
@@ -44,4 +44,4 @@ live_rebind b s h k = rebind_on (next (when BAD_HEADER (is_bad_table b)) λ _. r
 -- what a function that rebinds in the bytes of a state promises: a refusal leaves them as they were
 pub record GivesRebindingOn (x : StateOutcome) (before : List ℕ) (answer : Answer) (after : List ℕ) : Type 0 where
   pub answered : reply answer ≡ x.reply
-  pub bytes : after ≡ (if eqb (reply_number x.reply) 0 then bytes_of x.state else before)
+  pub bytes : after ≡ (if reply_number x.reply == 0 then bytes_of x.state else before)

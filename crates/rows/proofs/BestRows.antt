@@ -1,11 +1,11 @@
 -- The row chosen is the one that the rule names in plain words, there is just one such row, and none is chosen only where none matches.
-use Rattle.std.proofs.Common.{ℕ, zero, suc, ◌+◌, ◌≤◌, ◌<◌, Bool, true, false, ◌≡◌, refl, sym, ◌∙◌, ap, ap₂, subst, ◌⊎◌, inl, inr, List, []}
-use Rattle.std.proofs.Common.{◌∷◌, zero-add, arith, length, get_or}
+use Rattle.std.proofs.Common.{ℕ, zero, suc, ◌+◌, ◌≤◌, ◌<◌, Bool, true, false, ◌≡◌, refl, sym, ◌∙◌, ap, ap₂, subst, ◌⊎◌, inl, inr, List, [], slice_index_or}
+use Rattle.std.proofs.Common.{◌∷◌, zero-add, arith, length}
 use lib.Count.{ones}
 use Rattle.std.proofs.lemmas.Grind.{common_steps}
 use Rattle.words.proofs.lists.Tests.{no_both, split}
 use Rattle.words.proofs.lists.Joins.{all-at}
-use Rattle.words.specs.lists.Sequences.{All}
+use Rattle.std.specs.List.{AllByRecursion}
 use Rattle.image.specs.Image.{Row, no_row}
 use Rattle.rows.specs.Rows.{is_candidate, Choice, row, no_choice, better_choice, best_row, found, missing, lead_of}
 use Rattle.rows.specs.Choices.{Best}
@@ -14,8 +14,8 @@ use Rattle.rows.proofs.ChoiceLaws.{best-nothing, best-own, best-other, better-fi
 no-row : {A : Type 0} (k : ℕ) (r : Row) (x : Choice) → x ≡ no_choice → x ≡ row k r → A
 no-row k r x p q = absurd (let z : ◌≡◌ {A = ℕ} 0 1 = cc in omega arith)
 
-pub row_number : (k j : ℕ) (r q : Row) → row k r ≡ row j q → k ≡ j
-row_number k j r q e = cc
+pub row-number : (k j : ℕ) (r q : Row) → row k r ≡ row j q → k ≡ j
+row-number k j r q e = cc
 
 row-row : (k j : ℕ) (r q : Row) → row k r ≡ row j q → r ≡ q
 row-row k j r q e = cc
@@ -28,22 +28,22 @@ some-better k r (row j q) e = grind (arith, common_steps)
 module _ (l w b : ℕ) where
   -- none is chosen, so none matches
   pub none-matches : (n : ℕ) (rs : List Row) → best_row l w b n rs ≡ no_choice → (j : ℕ)
-      → j < length rs → is_candidate l w b (get_or rs j no_row) ≡ false
+      → j < length rs → is_candidate l w b (slice_index_or rs j no_row) ≡ false
   none-matches n [] e j h = absurd (omega arith)
   none-matches n (r ∷ rs) e j h = go (is_candidate l w b r) refl j h (none-matches (suc n) rs)
     where
       go : (t : Bool) → is_candidate l w b r ≡ t → (j : ℕ) → j < length (r ∷ rs)
-          → (best_row l w b (suc n) rs ≡ no_choice → (j : ℕ) → j < length rs → is_candidate l w b (get_or rs j no_row) ≡ false)
-          → is_candidate l w b (get_or (r ∷ rs) j no_row) ≡ false
+          → (best_row l w b (suc n) rs ≡ no_choice → (j : ℕ) → j < length rs → is_candidate l w b (slice_index_or rs j no_row) ≡ false)
+          → is_candidate l w b (slice_index_or (r ∷ rs) j no_row) ≡ false
       go true o j h ih = some-better n r (best_row l w b (suc n) rs) (sym (best-own l w b n r rs o) ∙ e)
       go false o zero h ih = o
       go false o (suc j) h ih = ih (sym (best-other l w b n r rs o) ∙ e) j (omega arith)
 
   -- and where none matches, none is chosen
-  pub best_none : (k : ℕ) (rs : List Row) → ((j : ℕ) → j < length rs → is_candidate l w b (get_or rs j no_row) ≡ false)
+  pub best-none : (k : ℕ) (rs : List Row) → ((j : ℕ) → j < length rs → is_candidate l w b (slice_index_or rs j no_row) ≡ false)
       → best_row l w b k rs ≡ no_choice
-  best_none k [] h = best-nothing l w b k
-  best_none k (r ∷ rs) h = best-other l w b k r rs (h 0 (omega arith)) ∙ best_none (suc k) rs (λ j g. h (suc j) (omega arith))
+  best-none k [] h = best-nothing l w b k
+  best-none k (r ∷ rs) h = best-other l w b k r rs (h 0 (omega arith)) ∙ best-none (suc k) rs (λ j g. h (suc j) (omega arith))
 
   -- the best of the rest, with a row in front that loses to it
   behind : (r : Row) (rs : List Row) (p : ℕ) (q : Row) → (is_candidate l w b r ≡ true → ones r.care ≤ ones q.care) → Best l w b rs p q
@@ -52,7 +52,7 @@ module _ (l w b : ℕ) where
 
   -- a row in front that wins against each of the rest
   front : (r : Row) (rs : List Row) → is_candidate l w b r ≡ true
-      → ((j : ℕ) → j < length rs → is_candidate l w b (get_or rs j no_row) ≡ true → ones (get_or rs j no_row).care < ones r.care)
+      → ((j : ℕ) → j < length rs → is_candidate l w b (slice_index_or rs j no_row) ≡ true → ones (slice_index_or rs j no_row).care < ones r.care)
       → Best l w b (r ∷ rs) 0 r
   front r rs o each = grind (arith, common_steps)
 
@@ -69,9 +69,9 @@ module _ (l w b : ℕ) where
           (suc d.0, omega (arith, d.1), behind r rs d.0 q (λ z. no_both (is_candidate l w b r) z o) d.2)
       go true o no_choice y ih =
           let same : row n r ≡ row k q = sym (best-own l w b n r rs o ∙ ap (better_choice (row n r)) y) ∙ e in
-          let number : n ≡ k = row_number n k r q same in
+          let number : n ≡ k = row-number n k r q same in
           let here : Best l w b (r ∷ rs) 0 r =
-          front r rs o (λ j g z. no_both (is_candidate l w b (get_or rs j no_row)) z (none-matches (suc n) rs y j g)) in
+          front r rs o (λ j g z. no_both (is_candidate l w b (slice_index_or rs j no_row)) z (none-matches (suc n) rs y j g)) in
           (0, omega arith, subst (Best l w b (r ∷ rs) 0) (row-row n k r q same) here)
       go true o (row m p) y ih = some (split (ones p.care) (ones r.care))
         where
@@ -82,13 +82,13 @@ module _ (l w b : ℕ) where
           some (inl h) =
               let d = ih m p y in
               let same : row n r ≡ row k q = sym (whole ∙ better-first (row n r) m p h) ∙ e in
-              let number : n ≡ k = row_number n k r q same in
+              let number : n ≡ k = row-number n k r q same in
               let here : Best l w b (r ∷ rs) 0 r = front r rs o (λ j g z. omega (arith, d.2.most j g z)) in
               (0, omega arith, subst (Best l w b (r ∷ rs) 0) (row-row n k r q same) here)
           some (inr h) =
               let d = ih m p y in
               let same : row m p ≡ row k q = sym (whole ∙ better-second (row n r) m p h) ∙ e in
-              let number : m ≡ k = row_number m k p q same in
+              let number : m ≡ k = row-number m k p q same in
               let here : Best l w b (r ∷ rs) (suc d.0) p = behind r rs d.0 p (λ _. h) d.2 in
               (suc d.0, omega (arith, d.1), subst (Best l w b (r ∷ rs) (suc d.0)) (row-row m k p q same) here)
 
@@ -105,7 +105,7 @@ module _ (l w b : ℕ) where
   is-best-at n rs p r d = go (best_row l w b n rs) refl
     where
       go : (x : Choice) → best_row l w b n rs ≡ x → x ≡ row (n + p) r
-      go no_choice e = no_both (is_candidate l w b (get_or rs p no_row)) (ap (is_candidate l w b) d.is ∙ d.matches)
+      go no_choice e = no_both (is_candidate l w b (slice_index_or rs p no_row)) (ap (is_candidate l w b) d.is ∙ d.matches)
           (none-matches n rs e p d.inside)
       go (row k q) e =
           let f = best-at n rs k q e in
@@ -116,8 +116,8 @@ module _ (l w b : ℕ) where
   is-best rs k r d = is-best-at 0 rs k r d ∙ ap (λ (x : ℕ). row x r) (zero-add k)
 
   -- where the row chosen leads, some row of the list leads
-  pub leads_one : (P : ℕ → Type 0) (rs : List Row) → All (λ r. P r.next) rs → (n : ℕ) → lead_of (best_row l w b 0 rs) ≡ found n → P n
-  leads_one P rs a n e = go (best_row l w b 0 rs) refl
+  pub leads-one : (P : ℕ → Type 0) (rs : List Row) → AllByRecursion (λ r. P r.next) rs → (n : ℕ) → lead_of (best_row l w b 0 rs) ≡ found n → P n
+  leads-one P rs a n e = go (best_row l w b 0 rs) refl
     where
       go : (x : Choice) → best_row l w b 0 rs ≡ x → P n
       go no_choice q = absurd (let p : missing ≡ found n = sym (ap lead_of q) ∙ e in let z : ◌≡◌ {A = ℕ} 0 1 = cc in omega arith)

@@ -1,7 +1,7 @@
 -- Laws of the choice among rows: one row more in front, the better of three, lists joined, numbers counted from another start, and rows
 -- that no bit decides.
-use Rattle.std.proofs.Common.{if◌then◌else◌, ℕ, suc, ◌+◌, ◌≤◌, ◌<◌, Bool, true, false, ◌≡◌, refl, sym, ◌∙◌, ap, ap₂, List, [], ◌∷◌, ◌++◌}
-use Rattle.std.proofs.Common.{add-zero, arith, length, get_or, lt-ltb, le-ltb}
+use Rattle.std.proofs.Common.{if◌then◌else◌, ℕ, suc, ◌+◌, ◌≤◌, ◌<◌, Bool, true, false, ◌≡◌, refl, sym, ◌∙◌, ap, ap₂, List, [], ◌∷◌, ◌++◌, slice_index_or}
+use Rattle.std.proofs.Common.{add-zero, arith, length, lt-ltb, le-ltb}
 use lib.Count.{ones}
 use Rattle.std.proofs.lemmas.Grind.{common_steps}
 use Rattle.image.specs.Image.{Row, no_row}
@@ -77,7 +77,7 @@ same_test : (l w p q : ℕ) (r : Row) → (r.from ≡ l → r.bit ≡ 2) → is_
 same_test l w p q r h = grind (arith, common_steps)
 
 pub any-bit : (l w p q k : ℕ) (rs : List Row)
-    → ((j : ℕ) → j < length rs → (get_or rs j no_row).from ≡ l → (get_or rs j no_row).bit ≡ 2) → best_row l w p k rs ≡ best_row l w q k rs
+    → ((j : ℕ) → j < length rs → (slice_index_or rs j no_row).from ≡ l → (slice_index_or rs j no_row).bit ≡ 2) → best_row l w p k rs ≡ best_row l w q k rs
 any-bit l w p q k [] h = best-nothing l w p k ∙ sym (best-nothing l w q k)
 any-bit l w p q k (r ∷ rs) h =
     best-cons l w p k r rs

@@ -1,11 +1,12 @@
 -- One frame of a table as the code compares it, the better of two, the search from one frame up to another, and where the rows of a label
 -- stand.
-use Rattle.std.proofs.Common.{if◌then◌else◌, ℕ, zero, suc, ◌+◌, ◌*◌, ◌-◌, ◌≤◌, ◌<◌, Bool, true, false, ◌&&◌, ◌||◌, ◌≡◌, sym, ◌∙◌, ap, ap₂}
-use Rattle.std.proofs.Common.{◌⊎◌, inl, inr, List, [], ◌∷◌, map, add-one, arith, bit_and, ltb, eqb, get_or, lt-ltb, le-ltb, eq-eqb, ne_eqb}
+use Rattle.std.proofs.Common.{if◌then◌else◌, ℕ, zero, suc, ◌+◌, ◌*◌, ◌-◌, ◌≤◌, ◌<◌, Bool, true, false, ◌&&◌, ◌||◌, ◌≡◌, sym, ◌∙◌, ap, ap₂, nat_lt, ◌==◌, slice_index}
+use Rattle.std.proofs.Common.{◌⊎◌, inl, inr, List, [], ◌∷◌, map, add-one, arith, bit_and, lt-ltb, le-ltb, eq-eqb, ne_eqb}
 use lib.Count.{ones}
 use Rattle.std.proofs.lemmas.Grind.{common_steps}
 use Rattle.words.specs.lists.Numbers.{range}
-use Rattle.words.proofs.lists.Tests.{split, if-true, if-false}
+use Rattle.std.proofs.lemmas.Bool.{cond-true, cond-false}
+use Rattle.words.proofs.lists.Tests.{split}
 use Rattle.text.specs.frames.Frame.{size, field}
 use Rattle.image.specs.Decode.{labels_from}
 use Rattle.tables.specs.Table.{first_on, end_on, row_on, rows_on, table_image}
@@ -20,19 +21,19 @@ use Rattle.rows.proofs.ChoiceLaws.{best-nothing, best-own, best-other, better-no
 use Rattle.rows.proofs.TableRows.{next-found, next-none}
 
 -- ---- one frame: care mask, values and function bit as they were read
-module _ (b : List ℕ) (swapped bit f : ℕ) (small : swapped < 65536) (bytes : (k : ℕ) → get_or b k 0 < 256) where
+module _ (b : List ℕ) (swapped bit f : ℕ) (small : swapped < 65536) (bytes : (k : ℕ) → slice_index b k < 256) where
   abbrev agreed : Bool
-  agreed = eqb (bit_and swapped (field b f 2 + field b f 3 * 256)) (field b f 4 + field b f 5 * 256)
+  agreed = bit_and swapped (field b f 2 + field b f 3 * 256) == field b f 4 + field b f 5 * 256
 
   abbrev suited : Bool
-  suited = eqb bit 2 || (eqb (field b f 6) 2 || eqb (field b f 6) bit)
+  suited = bit == 2 || (field b f 6 == 2 || field b f 6 == bit)
 
   matching-by : is_matching_frame b (swapped_word swapped) bit f ≡ (agreed && suited)
   matching-by = grind (arith, common_steps, swapped-agrees)
 
   module _ (care values : ℕ) (p : care ≡ field b f 2 + field b f 3 * 256) (q : values ≡ field b f 4 + field b f 5 * 256) where
-    read_is : eqb (bit_and swapped care) values ≡ agreed
-    read_is = ap₂ (λ (m n : ℕ). eqb (bit_and swapped m) n) p q
+    read_is : (bit_and swapped care == values) ≡ agreed
+    read_is = ap₂ (λ (m n : ℕ). bit_and swapped m == n) p q
 
     pub matching-not : (bit_and swapped care ≡ values → ⊥) → false ≡ is_matching_frame b (swapped_word swapped) bit f
     matching-not e = grind (arith, common_steps, ne_eqb, matching-by, read_is)
@@ -41,21 +42,21 @@ module _ (b : List ℕ) (swapped bit f : ℕ) (small : swapped < 65536) (bytes :
     agreeing e = matching-by ∙ ap (λ (t : Bool). t && suited) (sym read_is ∙ eq-eqb (bit_and swapped care) values e)
 
     pub matching-free : bit_and swapped care ≡ values → bit ≡ 2 → true ≡ is_matching_frame b (swapped_word swapped) bit f
-    matching-free e k = sym (agreeing e ∙ ap (λ (t : Bool). t || (eqb (field b f 6) 2 || eqb (field b f 6) bit)) (eq-eqb bit 2 k))
+    matching-free e k = sym (agreeing e ∙ ap (λ (t : Bool). t || (field b f 6 == 2 || field b f 6 == bit)) (eq-eqb bit 2 k))
 
     module _ (e : bit_and swapped care ≡ values) (n : bit ≡ 2 → ⊥) (only : ℕ) (r : only ≡ field b f 6) where
-      by_bit : is_matching_frame b (swapped_word swapped) bit f ≡ (eqb only 2 || eqb only bit)
+      by_bit : is_matching_frame b (swapped_word swapped) bit f ≡ (only == 2 || only == bit)
       by_bit = grind (arith, common_steps, ne_eqb, agreeing)
 
       pub matching-any : only ≡ 2 → true ≡ is_matching_frame b (swapped_word swapped) bit f
-      matching-any k = sym (by_bit ∙ ap (λ (t : Bool). t || eqb only bit) (eq-eqb only 2 k))
+      matching-any k = sym (by_bit ∙ ap (λ (t : Bool). t || only == bit) (eq-eqb only 2 k))
 
-      pub matching-bit : (only ≡ 2 → ⊥) → eqb only bit ≡ is_matching_frame b (swapped_word swapped) bit f
-      matching-bit k = sym (by_bit ∙ ap (λ (t : Bool). t || eqb only bit) (ne_eqb only 2 k))
+      pub matching-bit : (only ≡ 2 → ⊥) → (only == bit) ≡ is_matching_frame b (swapped_word swapped) bit f
+      matching-bit k = sym (by_bit ∙ ap (λ (t : Bool). t || only == bit) (ne_eqb only 2 k))
 
 -- the row in it as one of label l's, by a bit that decides
 module _ (b : List ℕ) (l bit : ℕ) (d : Deciding b l bit) (f : ℕ) where
-  pub own-bit : (eqb (row_on b l f).bit 2 || eqb (row_on b l f).bit bit) ≡ (eqb bit 2 || (eqb (field b f 6) 2 || eqb (field b f 6) bit))
+  pub own-bit : ((row_on b l f).bit == 2 || (row_on b l f).bit == bit) ≡ (bit == 2 || (field b f 6 == 2 || field b f 6 == bit))
   own-bit = grind (arith, common_steps)
 
   own-test : (w : ℕ) → is_candidate l w bit (row_on b l f) ≡ is_matching_frame b w bit f
@@ -64,10 +65,10 @@ module _ (b : List ℕ) (l bit : ℕ) (d : Deciding b l bit) (f : ℕ) where
 -- ---- frames as choices, and the better of two
 module _ (b : List ℕ) (f : ℕ) where
   at-frame : (l : ℕ) → f < size b → found_at b l f ≡ row f (row_on b l f)
-  at-frame l h = if-true (ltb f (size b)) (row f (row_on b l f)) no_choice (lt-ltb f (size b) h)
+  at-frame l h = cond-true (nat_lt f (size b)) (row f (row_on b l f)) no_choice (lt-ltb f (size b) h)
 
   past-table : (l : ℕ) → size b ≤ f → found_at b l f ≡ no_choice
-  past-table l h = if-false (ltb f (size b)) (row f (row_on b l f)) no_choice (le-ltb f (size b) h)
+  past-table l h = cond-false (nat_lt f (size b)) (row f (row_on b l f)) no_choice (le-ltb f (size b) h)
 
   pub frame-named : (l : ℕ) → f < size b → chosen_frame (found_at b l f) ≡ f
   frame-named l h = ap chosen_frame (at-frame l h)
@@ -114,7 +115,7 @@ module _ (b : List ℕ) (l w bit first end : ℕ) where
           ∙ s
 
 -- a table has fewer frames
-pub few-frames : (b : List ℕ) → Whole b → ((k : ℕ) → get_or b k 0 < 256) → size b < NO_FRAME
+pub few-frames : (b : List ℕ) → Whole b → ((k : ℕ) → slice_index b k < 256) → size b < NO_FRAME
 few-frames b x bytes = omega (arith, x.alone, bytes 1, bytes 2, bytes 3, bytes 4)
 
 module _ (b : List ℕ) (l w bit first end : ℕ) (d : Deciding b l bit) (p : first ≡ first_on b l) (q : end ≡ end_on b l)
@@ -125,8 +126,8 @@ module _ (b : List ℕ) (l w bit first end : ℕ) (d : Deciding b l bit) (p : fi
         ap (λ (n : ℕ). best_row l w bit first (map (row_on b l) (range first n))) (let z : 1 ≡ end - first = omega arith in z)
         ∙ ap₂ (λ (i j : ℕ). best_row l w bit i (map (row_on b l) (range i (j - i)))) p q
 
-    pub one_found : (r : ℕ) → r ≡ (if is_matching_frame b w bit first then first else NO_FRAME) → Chosen b l w bit r
-    one_found r z = grind (arith, common_steps, best-other, best-nothing, best-own, if-false, if-true, own-test, alone)
+    pub one-found : (r : ℕ) → r ≡ (if is_matching_frame b w bit first then first else NO_FRAME) → Chosen b l w bit r
+    one-found r z = grind (arith, common_steps, best-other, best-nothing, best-own, cond-false, cond-true, own-test, alone)
 
 -- ---- several rows compared
 module _ (b : List ℕ) (l w bit best : ℕ) (is : found_at b l best ≡ best_row l w bit (first_on b l) (rows_on b l)) where
@@ -151,7 +152,7 @@ module _ (b : List ℕ) (l w bit : ℕ) (few : size b < NO_FRAME) where
   held-better : (x y : Choice) → Held x → Held y → Held (better_choice x y)
   held-better no_choice y p q = q
   held-better (row k r) no_choice p q = p
-  held-better (row k r) (row j s) p q = held-if (ltb (ones s.care) (ones r.care)) (row k r) (row j s) p q
+  held-better (row k r) (row j s) p q = held-if (nat_lt (ones s.care) (ones r.care)) (row k r) (row j s) p q
 
   held-best : (f n : ℕ) → (0 < n → f + n ≤ size b) → Held (best_row l w bit f (map (row_on b l) (range f n)))
   unfolding best_row
@@ -168,7 +169,7 @@ pub end-within : (b : List ℕ) (l end : ℕ) → Whole b → end ≡ end_on b l
 end-within b l end x e = omega (arith, end-inside b l, x.alone)
 
 -- ---- the frame chosen holds the row that label l takes, and where it leads
-module _ (b : List ℕ) (l w bit : ℕ) (x : NumberedLabel b l) (bytes : (k : ℕ) → get_or b k 0 < 256) (f : ℕ) (e : Chosen b l w bit f) where
+module _ (b : List ℕ) (l w bit : ℕ) (x : NumberedLabel b l) (bytes : (k : ℕ) → slice_index b k < 256) (f : ℕ) (e : Chosen b l w bit f) where
   few : size b < NO_FRAME
   few = few-frames b x.whole bytes
 
@@ -182,13 +183,13 @@ module _ (b : List ℕ) (l w bit : ℕ) (x : NumberedLabel b l) (bytes : (k : �
       go (inl k) = k
       go (inr k) = absurd (omega (arith, e ∙ ap chosen_frame (sym chosen-found ∙ past-table b f l k)))
 
-  pub next-taken : (n : ℕ) → n ≡ (if ltb f NO_FRAME then field b f 7 else 256)
+  pub next-taken : (n : ℕ) → n ≡ (if nat_lt f NO_FRAME then field b f 7 else 256)
       → n ≡ next_of (lead_of (best_row l w bit 0 (table_image b).rows))
   next-taken n q = go (split f NO_FRAME)
     where
       go : (f < NO_FRAME) ⊎ (NO_FRAME ≤ f) → n ≡ next_of (lead_of (best_row l w bit 0 (table_image b).rows))
       go (inl h) =
-          next-found b l w bit x f chosen-found n (q ∙ if-true (ltb f NO_FRAME) (field b f 7) 256 (lt-ltb f NO_FRAME h)) (chosen-inside h)
+          next-found b l w bit x f chosen-found n (q ∙ cond-true (nat_lt f NO_FRAME) (field b f 7) 256 (lt-ltb f NO_FRAME h)) (chosen-inside h)
       go (inr h) =
-          q ∙ if-false (ltb f NO_FRAME) (field b f 7) 256 (le-ltb f NO_FRAME h)
+          q ∙ cond-false (nat_lt f NO_FRAME) (field b f 7) 256 (le-ltb f NO_FRAME h)
           ∙ next-none b l w bit x f chosen-found (omega (arith, few))

@@ -1,13 +1,13 @@
 -- The rows of a table: the one that a label takes of all is the one of its own, and where it leads.
-use Rattle.std.proofs.Common.{ℕ, zero, suc, ◌+◌, ◌*◌, ◌-◌, ◌≤◌, ◌<◌, ◌≡◌, refl, sym, ◌∙◌, ap, ap₂, List, map, add-zero, arith, eqb, length}
-use Rattle.std.proofs.Common.{get_or, length-append, lt-ltb, le-ltb, ne_eqb}
+use Rattle.std.proofs.Common.{ℕ, zero, suc, ◌+◌, ◌*◌, ◌-◌, ◌≤◌, ◌<◌, ◌≡◌, refl, sym, ◌∙◌, ap, ap₂, List, map, add-zero, arith, length, ◌==◌, slice_index, slice_index_or, flat_map}
+use Rattle.std.proofs.Common.{length-append, lt-ltb, le-ltb, ne_eqb}
 use Rattle.std.proofs.Math.Decide.{ℕ_discrete}
 use Rattle.std.proofs.lemmas.Grind.{common_steps}
 use Rattle.words.specs.lists.Numbers.{range}
-use Rattle.words.specs.lists.Sequences.{concat_map, All}
-use Rattle.words.proofs.lists.Tests.{if-true, if-false}
+use Rattle.std.specs.List.{AllByRecursion}
+use Rattle.std.proofs.lemmas.Bool.{cond-true, cond-false}
 use Rattle.words.proofs.lists.Ranges.{length-map-range, get_or-map-range}
-use Rattle.words.proofs.lists.Joins.{all-every, all_map, all-concat, concat-cons}
+use Rattle.words.proofs.lists.Joins.{all-every, all-map, all-concat, concat-cons}
 use Rattle.text.specs.frames.Frame.{size, field}
 use Rattle.image.specs.Image.{Row, no_row}
 use Rattle.image.specs.Decode.{last_label}
@@ -16,11 +16,11 @@ use Rattle.tables.specs.inner.Labels.{NumberedLabel}
 use Rattle.rows.specs.Rows.{Choice, row, no_choice, better_choice, best_row, found, lead_of, next_of}
 use Rattle.rows.specs.inner.Search.{found_at}
 use Rattle.rows.proofs.ChoiceLaws.{best-nothing, best-other, better-none, best-joined, moved_by, best-moved, leads-moved, any-bit}
-use Rattle.rows.proofs.BestRows.{leads_one}
+use Rattle.rows.proofs.BestRows.{leads-one}
 
 -- how many rows of the table stand before those of label l
 abbrev pub rows_before : List ℕ → ℕ → ℕ
-rows_before b l = length (concat_map (rows_on b) (range 2 (l - 2)))
+rows_before b l = length (flat_map (rows_on b) (range 2 (l - 2)))
 
 module _ (b : List ℕ) (l w bit : ℕ) where
   -- ---- rows of another label
@@ -30,7 +30,7 @@ module _ (b : List ℕ) (l w bit : ℕ) where
 
   -- ---- rows of n labels from i on, the first of them numbered k
   abbrev over : ℕ → ℕ → ℕ → Choice
-  over k i n = best_row l w bit k (concat_map (rows_on b) (range i n))
+  over k i n = best_row l w bit k (flat_map (rows_on b) (range i n))
 
   over-more : (k i n : ℕ) → over k i (suc n) ≡ better_choice (best_row l w bit k (rows_on b i)) (over (k + length (rows_on b i)) (suc i) n)
   over-more k i n = grind (arith, common_steps, concat-cons, best-joined)
@@ -39,7 +39,6 @@ module _ (b : List ℕ) (l w bit : ℕ) where
   over-other k i n h = grind (arith, common_steps, others-none, over-more)
 
   over_none : (k i n : ℕ) → ((m : ℕ) → i ≤ m → m < i + n → m ≡ l → ⊥) → over k i n ≡ no_choice
-  unfolding concat_map
   over_none k i zero h = best-nothing l w bit k
   over_none k i (suc n) h =
       over-other k i n (h i (omega arith) (omega arith))
@@ -47,17 +46,16 @@ module _ (b : List ℕ) (l w bit : ℕ) where
 
   -- how many stand from label i on before those of label l
   abbrev before : ℕ → ℕ
-  before i = length (concat_map (rows_on b) (range i (l - i)))
+  before i = length (flat_map (rows_on b) (range i (l - i)))
 
   before_more : (i : ℕ) → i < l → length (rows_on b i) + before (suc i) ≡ before i
   before_more i h =
-      sym (ap (λ (n : ℕ). length (concat_map (rows_on b) (range i n))) (let e : l - i ≡ suc (l - suc i) = omega arith in e)
+      sym (ap (λ (n : ℕ). length (flat_map (rows_on b) (range i n))) (let e : l - i ≡ suc (l - suc i) = omega arith in e)
       ∙ ap (λ (rs : List Row). length rs) (concat-cons (rows_on b) i (range (suc i) (l - suc i)))
-      ∙ length-append (rows_on b i) (concat_map (rows_on b) (range (suc i) (l - suc i))))
+      ∙ length-append (rows_on b i) (flat_map (rows_on b) (range (suc i) (l - suc i))))
 
   before-all : (i : ℕ) → i ≡ l → before i ≡ 0
-  unfolding concat_map
-  before-all i h = ap (λ (n : ℕ). length (concat_map (rows_on b) (range i n))) (let e : l - i ≡ 0 = omega arith in e)
+  before-all i h = ap (λ (n : ℕ). length (flat_map (rows_on b) (range i n))) (let e : l - i ≡ 0 = omega arith in e)
 
   over-own : (k i n : ℕ) → i ≤ l → l < i + n → over k i n ≡ best_row l w bit (k + before i) (rows_on b l)
   over-own k i zero p q = absurd (omega arith)
@@ -100,18 +98,18 @@ module _ (b : List ℕ) (l w bit : ℕ) where
     moved_twice m n (row k r) = ap (λ (j : ℕ). row j r) (omega arith)
 
     -- with its number: a frame counts from the label's first frame as its row does from the label's first row
-    pub found_number : moved_by (rows_before b l) (found_at b l f) ≡ moved_by (first_on b l) (best_row l w bit 0 (table_image b).rows)
-    found_number = grind (arith, common_steps, moved_by, row-own, counted, moved_twice)
+    pub found-number : moved_by (rows_before b l) (found_at b l f) ≡ moved_by (first_on b l) (best_row l w bit 0 (table_image b).rows)
+    found-number = grind (arith, common_steps, moved_by, row-own, counted, moved_twice)
 
     found-leads : lead_of (found_at b l f) ≡ lead_of (best_row l w bit 0 (table_image b).rows)
-    found-leads = grind (arith, common_steps, leads-moved, found_number)
+    found-leads = grind (arith, common_steps, leads-moved, found-number)
 
     -- and where it leads
     pub next-found : (n : ℕ) → n ≡ field b f 7 → f < size b → n ≡ next_of (lead_of (best_row l w bit 0 (table_image b).rows))
-    next-found n q h = grind (arith, common_steps, lt-ltb, if-true, found-leads)
+    next-found n q h = grind (arith, common_steps, lt-ltb, cond-true, found-leads)
 
     pub next-none : size b ≤ f → 256 ≡ next_of (lead_of (best_row l w bit 0 (table_image b).rows))
-    next-none h = grind (arith, common_steps, le-ltb, if-false, found-leads)
+    next-none h = grind (arith, common_steps, le-ltb, cond-false, found-leads)
 
 -- ---- no row of a label that calls no function looks at the bit
 module _ (b : List ℕ) (l w p q : ℕ) (n : (table_label b l).kind ≡ 2 → ⊥) where
@@ -121,24 +119,24 @@ module _ (b : List ℕ) (l w p q : ℕ) (n : (table_label b l).kind ≡ 2 → �
   abbrev count : ℕ
   count = end_on b l - first
 
-  free-bit : (k : ℕ) → k < length (rows_on b l) → (get_or (rows_on b l) k no_row).bit ≡ 2
+  free-bit : (k : ℕ) → k < length (rows_on b l) → (slice_index_or (rows_on b l) k no_row).bit ≡ 2
   free-bit k h =
       ap (λ (r : Row). r.bit) (get_or-map-range (row_on b l) no_row first count k
       (omega (arith, length-map-range (row_on b l) first count)))
-      ∙ if-false (eqb (table_label b l).kind 2) (field b (first + k) 6) 2 (ne_eqb (table_label b l).kind 2 n)
+      ∙ cond-false ((table_label b l).kind == 2) (field b (first + k) 6) 2 (ne_eqb (table_label b l).kind 2 n)
 
   pub any-row : 2 ≤ l → l ≤ last_label b → best_row l w p 0 (table_image b).rows ≡ best_row l w q 0 (table_image b).rows
   any-row h g = row-own b l w p h g ∙ any-bit l w p q (rows_before b l) (rows_on b l) (λ k m e. free-bit k m) ∙ sym (row-own b l w q h g)
 
 -- ---- where rows lead
-pub next_small : (b : List ℕ) → ((k : ℕ) → get_or b k 0 < 256) → (l w bit n : ℕ)
+pub next-small : (b : List ℕ) → ((k : ℕ) → slice_index b k < 256) → (l w bit n : ℕ)
     → lead_of (best_row l w bit 0 (table_image b).rows) ≡ found n → n < 256
 unfolding table_image
-next_small b bytes l w bit n e =
-    leads_one l w bit (λ n. n < 256) (table_image b).rows
+next-small b bytes l w bit n e =
+    leads-one l w bit (λ n. n < 256) (table_image b).rows
     (all-concat (λ (r : Row). r.next < 256) (rows_on b) (range 2 (last_label b - 1))
-    (all-every (λ m. All (λ (r : Row). r.next < 256) (rows_on b m))
-    (λ m. all_map (λ (r : Row). r.next < 256) (row_on b m) (range (first_on b m) (end_on b m - first_on b m))
+    (all-every (λ m. AllByRecursion (λ (r : Row). r.next < 256) (rows_on b m))
+    (λ m. all-map (λ (r : Row). r.next < 256) (row_on b m) (range (first_on b m) (end_on b m - first_on b m))
     (all-every (λ f. (row_on b m f).next < 256) (λ f. bytes (10 * f + 7)) (range (first_on b m) (end_on b m - first_on b m))))
     (range 2 (last_label b - 1))))
     n e

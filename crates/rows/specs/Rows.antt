@@ -1,5 +1,5 @@
 -- Which row a label takes.
-use Rattle.std.specs.Prelude.{ℕ, suc, Bool, ◌&&◌, ◌||◌, List, [], ◌∷◌, ltb, eqb, if◌then◌else◌}
+use Rattle.std.specs.Prelude.{ℕ, suc, Bool, ◌&&◌, ◌||◌, List, [], ◌∷◌, if◌then◌else◌, nat_lt, ◌==◌}
 use Rattle.std.specs.Int.Count.{ones}
 use Rattle.words.specs.bits.Word.{is_agreeing}
 use Rattle.image.specs.declared.layout.TheConstants.{NO_BIT, NO_LABEL}
@@ -7,11 +7,11 @@ use Rattle.image.specs.Image.{Row}
 
 -- a row matches a word and the bit of the number that its label calls
 abbrev pub is_match : ℕ → ℕ → Row → Bool
-is_match w b r = is_agreeing w r.care r.values && (eqb r.bit NO_BIT || eqb r.bit b)
+is_match w b r = is_agreeing w r.care r.values && (r.bit == NO_BIT || r.bit == b)
 
 -- a row of label l that matches
 abbrev pub is_candidate : ℕ → ℕ → ℕ → Row → Bool
-is_candidate l w b r = eqb r.from l && is_match w b r
+is_candidate l w b r = r.from == l && is_match w b r
 
 -- a row with its number, or none
 pub data Choice : Type 0 where
@@ -22,7 +22,7 @@ pub data Choice : Type 0 where
 abbrev pub better_choice : Choice → Choice → Choice
 better_choice no_choice y = y
 better_choice (row k r) no_choice = row k r
-better_choice (row k r) (row j q) = if ltb (ones q.care) (ones r.care) then row k r else row j q
+better_choice (row k r) (row j q) = if nat_lt (ones q.care) (ones r.care) then row k r else row j q
 
 -- of the rows of label l that match, the one that asks for most conditions, the last of these where several do; the first row has number k
 unfoldable pub best_row : ℕ → ℕ → ℕ → ℕ → List Row → Choice

@@ -1,5 +1,5 @@
 // The row of a prepared table that a label takes, found by the word and a result bit, and where it leads.
-ghost use Rattle.std.specs.Prelude.{◌≡◌, ◌≤◌, ◌<◌, ltb, if◌then◌else◌};
+ghost use Rattle.std.specs.Prelude.{◌≡◌, ◌≤◌, ◌<◌, if◌then◌else◌, nat_lt};
 ghost use Rattle.text.specs.frames.Frame.{size, field};
 ghost use Rattle.image.specs.Decode.{scheme_count};
 ghost use Rattle.tables.specs.Table.{table_image};
@@ -93,7 +93,7 @@ fn take_row(table: &[u8], schemes: u8, l: usize, word: u16, bit: u8) -> usize
 // Where the row in frame f leads, or NO_LABEL where that is none.
 fn next_in(table: &[u8], f: usize) -> u16
     requires { f < NO_FRAME → f < size table.now }
-    ensures { result ≡ (if ltb f NO_FRAME then field table.now f NEXT else NO_LABEL) }
+    ensures { result ≡ (if nat_lt f NO_FRAME then field table.now f NEXT else NO_LABEL) }
 {
     if f < NO_FRAME {
         return byte(table, f, NEXT) as u16;

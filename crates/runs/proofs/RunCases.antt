@@ -1,9 +1,10 @@
 -- The answers of a run and of one tick on a table, by what their parts give.
-use Rattle.std.proofs.Common.{◌≡◌, refl, sym, ◌∙◌, ap, subst, Bool, true, false, List, [], ◌∷◌, ℕ, zero, suc, ◌≤◌, arith, leb, get_or}
+use Rattle.std.proofs.Common.{◌≡◌, refl, sym, ◌∙◌, ap, subst, Bool, true, false, List, [], ◌∷◌, ℕ, zero, suc, ◌≤◌, arith, nat_le, slice_index}
 use Rattle.std.proofs.Common.{le-leb, Ok, Err}
 use borrow.Author.Tests.{lt-leb}
 use Rattle.std.proofs.lemmas.Grind.{common_steps}
-use Rattle.words.proofs.lists.Tests.{or_l, if-false, and_no, and-true}
+use Rattle.std.proofs.lemmas.Bool.{cond-false}
+use Rattle.words.proofs.lists.Tests.{or-l, and-no, and-true}
 use Rattle.text.specs.frames.Verdict.{Verdict, fine, refused, next, when}
 use Rattle.text.specs.frames.Answer.{Answer, success, refusal, reply_number, reply, counted_reply}
 use Rattle.text.specs.declared.frames.refusals.Refusal.{Refusal}
@@ -32,7 +33,7 @@ room-enough ws ms ks e = grind (arith, common_steps)
 -- ---- which numbers leave the bytes
 
 pub late-writes : (n : ℕ) → 17 ≤ n → is_without_change n ≡ false
-late-writes n h = and_no (leb 1 n) _ (lt-leb n _ (omega arith))
+late-writes n h = and-no (nat_le 1 n) _ (lt-leb n _ (omega arith))
 
 -- a run that is refused before its first tick keeps what it was given
 abbrev pub kept_run : ℕ → ℕ → State → List ℕ → List ℕ → RunOutcome
@@ -47,7 +48,7 @@ kept-runs x bytes ms ks n j s g l h a e = grind (arith, common_steps)
 -- a state that fits has a depth of 1 to Σ
 pub fits-stands : (b : List ℕ) (s : State) → Whole b → is_unfit (table_image b) s ≡ false → TickAsked b s
 unfolding is_unfit
-fits-stands b s whole e = record { whole = whole; depth = or_l (has_bad_depth s) _ (or_l _ _ (or_l _ _ (or_l _ _ e))) }
+fits-stands b s whole e = record { whole = whole; depth = or-l (has_bad_depth s) _ (or-l _ _ (or-l _ _ (or-l _ _ e))) }
 
 -- ---- a run on a table
 module _ (b before ws ms₀ ks₀ : List ℕ) where
@@ -99,7 +100,7 @@ module _ (b before ws ms₀ ks₀ : List ℕ) where
 
       pub ran-answer : (a : Answer) → reply a ≡ counted_reply (verdict_of r.number) r.count → GivesRunOn given before a bytes ms ks
       unfolding bytes_after
-      ran-answer a q = grind (arith, common_steps, if-false, is, late, writes)
+      ran-answer a q = grind (arith, common_steps, cond-false, is, late, writes)
 
 -- what a run answers by its number
 pub done-replied : (n m : ℕ) → n ≡ 0 → success m ≡ counted_reply (verdict_of n) m
@@ -113,7 +114,7 @@ stopped-replied n m h = sym (ap (λ (v : Verdict). counted_reply v m) (number-ve
 module _ (b before : List ℕ) (w : ℕ) (r : RunEnd) (mid ms ks : List ℕ)
     (ends : GivesRunEnd b before (w ∷ []) (0 ∷ []) (0 ∷ []) r mid ms ks) where
   abbrev told : TickEnd
-  told = record { number = r.number; mask = get_or ms 0 0; code = get_or ks 0 0 }
+  told = record { number = r.number; mask = slice_index ms 0; code = slice_index ks 0 }
 
   pub one-steps : GivesTickEnd b before w told mid
   unfolding ticks

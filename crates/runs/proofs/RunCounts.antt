@@ -9,10 +9,10 @@ use Rattle.ticks.specs.Tick.{MachineTick, finished, stopped, tick}
 use Rattle.runs.specs.Run.{run_after, ticks, run}
 
 -- as many masks as codes
-pub same_count : (i : Image) (ws : List ℕ) (s : State) → length (ticks i s ws).masks ≡ length (ticks i s ws).codes
+pub same-count : (i : Image) (ws : List ℕ) (s : State) → length (ticks i s ws).masks ≡ length (ticks i s ws).codes
 unfolding ticks
-same_count i [] s = refl
-same_count i (w ∷ ws) s = go (tick i s w) (same_count i ws)
+same-count i [] s = refl
+same-count i (w ∷ ws) s = go (tick i s w) (same-count i ws)
   where
     go : (t : MachineTick) → ((u : State) → length (ticks i u ws).masks ≡ length (ticks i u ws).codes)
         → length (run_after s (λ u. ticks i u ws) t).masks ≡ length (run_after s (λ u. ticks i u ws) t).codes
@@ -34,4 +34,4 @@ ticks-most i (w ∷ ws) s = go (tick i s w) (ticks-most i ws)
 pub run-count : (t : List ℕ) (s : State) (ws ms ks : List ℕ)
     → let r = run t s ws ms ks in (reply_count r.reply ≤ length r.masks) × (reply_count r.reply ≤ length ws)
 unfolding run
-run-count t s ws ms ks = grind (arith, common_steps, replied-count, length-append, same_count, ticks-most)
+run-count t s ws ms ks = grind (arith, common_steps, replied-count, length-append, same-count, ticks-most)

@@ -1,10 +1,10 @@
 -- The loop of ticks, turn by turn.
-use Rattle.std.proofs.Common.{◌≡◌, refl, sym, ◌∙◌, ap, List, [], ◌∷◌, ◌++◌, append-nil, ℕ, zero, suc, ◌+◌, ◌≤◌, ◌<◌, zero-add, add-one}
-use Rattle.std.proofs.Common.{arith, length, get_or, set, drop, length-append, length-set, drop_of_length-le, drop-cons}
+use Rattle.std.proofs.Common.{◌≡◌, refl, sym, ◌∙◌, ap, List, [], ◌∷◌, ◌++◌, append-nil, ℕ, zero, suc, ◌+◌, ◌≤◌, ◌<◌, zero-add, add-one, slice_index}
+use Rattle.std.proofs.Common.{arith, length, set, drop, length-append, length-set, drop_of_length-le, drop-cons}
 use Rattle.std.proofs.Math.Seq.{append_snoc}
 use Rattle.std.proofs.lemmas.Grind.{common_steps}
 use Rattle.words.specs.lists.Sequences.{over, written}
-use Rattle.words.proofs.lists.Written.{written_none, written-snoc, written-front}
+use Rattle.words.proofs.lists.Written.{written-none, written-snoc, written-front}
 use Rattle.text.specs.frames.Verdict.{Verdict, fine, refused}
 use Rattle.image.specs.Image.{Image}
 use Rattle.tables.specs.Table.{table_image}
@@ -16,7 +16,7 @@ use Rattle.runs.specs.Run.{MachineRun, run_after, ticks}
 use Rattle.ticks.specs.inner.TickContracts.{TickAsked, GivesTickEnd}
 use Rattle.runs.specs.inner.RunContracts.{verdict_of, RunRoom, GivesRunEnd}
 use Rattle.ticks.proofs.Normal.{tick-normal}
-use Rattle.ticks.proofs.TickCases.{stands_on}
+use Rattle.ticks.proofs.TickCases.{stands-on}
 
 -- ---- a tick by what the function that makes it answers
 module _ (b before : List ℕ) (w : ℕ) (r : TickEnd) (bytes : List ℕ) (q : GivesTickEnd b before w r bytes) where
@@ -81,8 +81,8 @@ turn-start b bytes ws ms ks l y e = record {
   long_codes = refl;
   size_masks = refl;
   size_codes = refl;
-  masks = sym (written_none ms 0);
-  codes = sym (written_none ks 0);
+  masks = sym (written-none ms 0);
+  codes = sym (written-none ks 0);
   whole = refl;
   same = λ e. refl;
 }
@@ -130,15 +130,15 @@ module _ {b bytes₀ ws ms₀ ks₀ bytes ms ks : List ℕ} {l i : ℕ} (t : Run
     kept = λ e. k ∙ t.same e;
   }
 
-  module _ (h : i < length ws) (r : TickEnd) (next : List ℕ) (q : GivesTickEnd b bytes (get_or ws i 0) r next) where
+  module _ (h : i < length ws) (r : TickEnd) (next : List ℕ) (q : GivesTickEnd b bytes (slice_index ws i) r next) where
     pub turn_on : r.number ≡ 0 → (m : ℕ) → m ≡ top_of (state_of next)
         → RunTurn b bytes₀ ws ms₀ ks₀ next (set ms i r.mask) (set ks i r.code) m (i + 1)
     turn_on z m top =
-        let e : tick image s (get_or ws i 0) ≡ finished r.mask r.code (state_of next) = went b bytes (get_or ws i 0) r next q z in
+        let e : tick image s (slice_index ws i) ≡ finished r.mask r.code (state_of next) = went b bytes (slice_index ws i) r next q z in
         let on : MachineRun = ticks image (state_of next) (drop (suc i) ws) in
         record {
           low = omega arith;
-          stands = stands_on q t.stands;
+          stands = stands-on q t.stands;
           label = top;
           past_masks = t.past_masks ++ (r.mask ∷ []);
           past_codes = t.past_codes ++ (r.code ∷ []);
@@ -157,7 +157,7 @@ module _ {b bytes₀ ws ms₀ ks₀ bytes ms ks : List ℕ} {l i : ℕ} (t : Run
                 state = on.state;
                 verdict = on.verdict;
               })
-              ∙ ap before (sym (ticks-went image s (get_or ws i 0) (drop (suc i) ws) r.mask r.code (state_of next) e))
+              ∙ ap before (sym (ticks-went image s (slice_index ws i) (drop (suc i) ws) r.mask r.code (state_of next) e))
               ∙ ap (λ (l : List ℕ). before (ticks image s l)) (sym (drop-cons ws i 0 h)) ∙ t.whole;
           same = λ e. absurd (omega arith);
         }
@@ -166,7 +166,7 @@ module _ {b bytes₀ ws ms₀ ks₀ bytes ms ks : List ℕ} {l i : ℕ} (t : Run
     pub turn-stood : (r.number ≡ 0 → ⊥) → GivesRunEnd b bytes₀ ws ms₀ ks₀ (record { number = r.number; count = i }) next ms ks
     turn-stood z =
         let all : before (record { masks = []; codes = []; state = s; verdict = refused r.number 0 }) ≡ ticks image s₀ ws =
-        ap before (sym (ticks-stood image s (get_or ws i 0) (drop (suc i) ws) r.number (stood b bytes (get_or ws i 0) r next q z)))
+        ap before (sym (ticks-stood image s (slice_index ws i) (drop (suc i) ws) r.number (stood b bytes (slice_index ws i) r next q z)))
         ∙ ap (λ (l : List ℕ). before (ticks image s l)) (sym (drop-cons ws i 0 h)) ∙ t.whole in
         ended r.number s next (refused r.number 0) (number-verdict r.number z) (ap state_of (q.kept z)) (q.kept z) all
 

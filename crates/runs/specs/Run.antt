@@ -1,5 +1,5 @@
 -- A run: ticks over a list of words; what it answers, the state it hands back and what the two buffers then hold.
-use Rattle.std.specs.Prelude.{ℕ, Bool, ◌||◌, ◌≡◌, List, [], ◌∷◌, ltb, length}
+use Rattle.std.specs.Prelude.{ℕ, Bool, ◌||◌, ◌≡◌, List, [], ◌∷◌, length, nat_lt}
 use Rattle.words.specs.lists.Sequences.{over}
 use Rattle.text.specs.declared.frames.refusals.TheConstants.{UNFIT, NO_ROOM}
 use Rattle.text.specs.frames.Frame.{contents}
@@ -43,7 +43,7 @@ pub record GivesRun (x : RunOutcome) (r : StateReport) (ms ks : List ℕ) : Type
 
 -- less room in a buffer than words
 abbrev pub has_no_room : List ℕ → List ℕ → List ℕ → Bool
-has_no_room words masks codes = ltb (length masks) (length words) || ltb (length codes) (length words)
+has_no_room words masks codes = nat_lt (length masks) (length words) || nat_lt (length codes) (length words)
 
 -- what the image check tries, then 15 and 16
 unfoldable pub run_verdict : List ℕ → State → List ℕ → List ℕ → List ℕ → Verdict

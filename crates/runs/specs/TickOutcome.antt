@@ -1,5 +1,5 @@
 -- One tick as a controller calls it: a run of one word, with room for one mask and one code.
-use Rattle.std.specs.Prelude.{ℕ, ◌≡◌, List, [], ◌∷◌, get_or, Result, Ok, Err}
+use Rattle.std.specs.Prelude.{ℕ, ◌≡◌, List, [], ◌∷◌, Result, Ok, Err, slice_index}
 use Rattle.text.specs.declared.frames.refusals.Refusal.{Refusal}
 use Rattle.text.specs.frames.Answer.{Reply, success, reply}
 use Rattle.state.specs.declared.State.{State}
@@ -15,7 +15,7 @@ pub record TickOutcome : Type 0 where
 
 -- what a run of one word gives
 abbrev pub tick_outcome : RunOutcome → TickOutcome
-tick_outcome r = record { reply = r.reply; mask = get_or r.masks 0 0; code = get_or r.codes 0 0; state = r.state }
+tick_outcome r = record { reply = r.reply; mask = slice_index r.masks 0; code = slice_index r.codes 0; state = r.state }
 
 unfoldable pub image_tick : List ℕ → State → ℕ → TickOutcome
 image_tick t s w = tick_outcome (run t s (w ∷ []) (0 ∷ []) (0 ∷ []))

@@ -1,7 +1,7 @@
 -- Calls in a row over the functions that meet their contracts: the places are counted, and each spindle makes the ticks of its own walk.
-use Rattle.std.proofs.Common.{ℕ, ◌≡◌, refl, sym, ◌∙◌, ap, ap₂, subst, List, [], ◌∷◌, map, arith, eqb, set, take, ne_eqb}
+use Rattle.std.proofs.Common.{ℕ, ◌≡◌, refl, sym, ◌∙◌, ap, ap₂, subst, List, [], ◌∷◌, map, arith, set, take, ne_eqb, ◌==◌}
 use Rattle.std.proofs.lemmas.Grind.{common_steps}
-use Rattle.words.specs.lists.Sequences.{All}
+use Rattle.std.specs.List.{AllByRecursion}
 use Rattle.bindings.specs.Binding.{own_binding}
 use Rattle.text.specs.frames.Frame.{contents}
 use Rattle.text.specs.frames.Answer.{Reply, reply_number}
@@ -20,7 +20,7 @@ use Rattle.spindle_calls.specs.ObservedCalls.{ObservedCall, call_of}
 use Rattle.spindle_calls.specs.Delivered.{observed_tick, SpindleCallOn, spin_call, spin_call_live, rebind_call, rebind_call_live}
 use Rattle.spindle_calls.specs.Delivered.{SpindleCallsInTurn, none, more, FreshOne, PlacesDelivered, OwnWalkDelivered}
 use Rattle.spindle_calls.proofs.Held.{SpinEnds, refuses, finishes, spin-ends}
-use Rattle.spindle_calls.proofs.Row.{Hears, hears_no, hears_tick, HeardFrom, CallsRow, row-none, row_more, row-counted}
+use Rattle.spindle_calls.proofs.Row.{Hears, hears_no, hears_tick, HeardFrom, CallsRow, row-none, row-more, row-counted}
 
 abbrev head_with : List State → ℕ → Head
 head_with states taken = record { states = states; taken = taken }
@@ -30,7 +30,7 @@ module _ (states : List State) (taken : ℕ) where
   hears-by : (k : ℕ) (r : SpinReport) {x : SpinOutcome} → SpinEnds states taken k x → tick_reply r.answer ≡ x.reply
       → answered_mask r.answer ≡ x.mask → answered_code r.answer ≡ x.code
       → Hears (state_at states k).depth x (observed_tick states k r)
-  hears-by k r (refuses n j l) e f g = hears_no refl refl (ap (λ (a : Reply). eqb (reply_number a) 0) e ∙ ne_eqb n 0 (λ q. omega arith))
+  hears-by k r (refuses n j l) e f g = hears_no refl refl (ap (λ (a : Reply). reply_number a == 0) e ∙ ne_eqb n 0 (λ q. omega arith))
   hears-by k r (finishes m code t low length-is same) e f g = hears_tick refl (ap reply_number e) f g refl
 
   tick-heard : (image : List ℕ) (k w : ℕ) (r : SpinReport) (after : List State) → GivesSpin (spin image states taken k w) r after
@@ -70,7 +70,7 @@ pub calls-row : (states : List State) (taken : ℕ) (said : List ObservedCall) (
     → CallsRow (head_with states taken) said (head_with last final)
 calls-row states taken [] last final none = row-none (head_with states taken)
 calls-row states taken (x ∷ rest) last final (more {after = after} {recorded = recorded} c cs) =
-    row_more (head_with states taken) (head_with after recorded) (head_with last final) x rest (call-heard states taken c)
+    row-more (head_with states taken) (head_with after recorded) (head_with last final) x rest (call-heard states taken c)
     (call-left states taken c) (calls-row after recorded rest last final cs)
 
 -- ---- four fresh states
@@ -91,4 +91,4 @@ unfolding OwnWalkDelivered OwnWalk
 own-walks-delivered text before after answer c n e size low high k states inside made m at taken said last final cs hands =
     subst (FollowsWalk size (contents text)) ((calls-row states taken said last final cs).made (contents text) k own_binding)
     (own-walks text before n (sym c.answered ∙ e) size low high k (head_with states taken) inside (at ∙ m.state) (map call_of said)
-    (subst (λ (b : List ℕ). All (HandsImage k (take n b)) (map call_of said)) c.written hands))
+    (subst (λ (b : List ℕ). AllByRecursion (HandsImage k (take n b)) (map call_of said)) c.written hands))

@@ -1,7 +1,7 @@
 -- Calls from C in a row that meet their contracts: the places are counted, and each spindle makes the ticks of its own walk.
-use Rattle.std.proofs.Common.{if◌then◌else◌, ℕ, ◌≡◌, refl, sym, ◌∙◌, ap, subst, List, [], ◌∷◌, ◌++◌, map, arith, eqb, length, take}
+use Rattle.std.proofs.Common.{if◌then◌else◌, ℕ, ◌≡◌, refl, sym, ◌∙◌, ap, subst, List, [], ◌∷◌, ◌++◌, map, arith, length, take, ◌==◌}
 use Rattle.std.proofs.lemmas.Grind.{common_steps}
-use Rattle.words.specs.lists.Sequences.{All}
+use Rattle.std.specs.List.{AllByRecursion}
 use Rattle.bindings.specs.Binding.{own_binding}
 use Rattle.text.specs.frames.Frame.{contents}
 use Rattle.state.specs.declared.State.{State}
@@ -20,8 +20,8 @@ use Rattle.spindle_walks.proofs.Walks.{own-walks}
 use Rattle.spindle_calls.specs.ObservedCalls.{ObservedCall, call_of}
 use Rattle.spindle_calls.specs.ForC.{SpindleCallC, spin_call, spin_call_live, rebind_call, rebind_call_live, SpindleCallsInTurnC, none}
 use Rattle.spindle_calls.specs.ForC.{more, FourC, four_fresh, PlacesCountedC, OwnWalkC}
-use Rattle.spindle_calls.proofs.Row.{HeardFrom, CallsRow, row-none, row_more, row-counted}
-use Rattle.spindle_calls.proofs.StateParts.{four_are}
+use Rattle.spindle_calls.proofs.Row.{HeardFrom, CallsRow, row-none, row-more, row-counted}
+use Rattle.spindle_calls.proofs.StateParts.{four-are}
 use Rattle.spindle_calls.proofs.OneCallC.{head_of, SpindleLikeC, tick-like, tick-hears, rebinding-like, live-as, live-rebinding-as}
 
 -- ---- one call
@@ -55,7 +55,7 @@ calls-row bytes long taken (x ∷ rest) last final (more {after = after} {record
     let like : SpindleLikeC bytes taken x after recorded = call-like bytes long taken c in
     let r : RowC after recorded rest last final = calls-row after like.long recorded rest last final cs in
     record {
-      row = row_more (head_of bytes taken) (head_of after recorded) (head_of last final) x rest (call-heard bytes long taken c)
+      row = row-more (head_of bytes taken) (head_of after recorded) (head_of last final) x rest (call-heard bytes long taken c)
           like.left_is r.row;
       long = r.long;
     }
@@ -101,12 +101,12 @@ fresh-four {a} {b} {c} {d} _ (four_fresh {x = x} {y = y} {z = z} {u = u} p q r s
         let e₁ : state_of (part_of whole 1) ≡ fresh b = ap state_of e.1 ∙ back b in
         let e₂ : state_of (part_of whole 2) ≡ fresh c = ap state_of e.2 ∙ back c in
         let e₃ : state_of (part_of whole 3) ≡ fresh d = ap state_of e.3 ∙ back d in
-        four_are whole long ∙ (λ i. e₀ i ∷ e₁ i ∷ e₂ i ∷ e₃ i ∷ [])
+        four-are whole long ∙ (λ i. e₀ i ∷ e₁ i ∷ e₂ i ∷ e₃ i ∷ [])
 
 -- ---- the two theorems
 depths-read : (b : List ℕ) → length b ≡ 520 → depths (states_of b) ≡ depths_in b
 depths-read b long =
-    four-depths (states_of b) (count-is b ∙ ap (λ (n : ℕ). if eqb n 520 then 4 else 0) long) ∙ depths-are b long
+    four-depths (states_of b) (count-is b ∙ ap (λ (n : ℕ). if n == 520 then 4 else 0) long) ∙ depths-are b long
 
 pub places-counted-c : PlacesCountedC
 unfolding PlacesCountedC
@@ -120,8 +120,8 @@ pub own-walks-c : OwnWalkC
 unfolding OwnWalkC OwnWalk
 own-walks-c text before after at n c size low high k named bytes long returned at' made m taken said last final cs hands =
     let r : RowC bytes taken said last final = calls-row bytes long taken said last final cs in
-    let four-states : length (states_of bytes) ≡ 4 = count-is bytes ∙ ap (λ (l : ℕ). if eqb l 520 then 4 else 0) long in
+    let four-states : length (states_of bytes) ≡ 4 = count-is bytes ∙ ap (λ (l : ℕ). if l == 520 then 4 else 0) long in
     subst (FollowsWalk size (contents text)) (r.row.made (contents text) k own_binding)
     (own-walks text before n (returned-0 text before after at n c) size low high k (head_of bytes taken) (omega (arith, four-states))
     (state-is bytes long k named ∙ ap state_of m.bytes ∙ fresh-held size) (map call_of said)
-    (subst (λ (b : List ℕ). All (HandsImage k (take n b)) (map call_of said)) c.written hands))
+    (subst (λ (b : List ℕ). AllByRecursion (HandsImage k (take n b)) (map call_of said)) c.written hands))

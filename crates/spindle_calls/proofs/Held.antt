@@ -1,9 +1,9 @@
 -- What a call hands back by its number, and the states that the bytes hold after it.
-use Rattle.std.proofs.Common.{if◌then◌else◌, ℕ, ◌+◌, ◌-◌, ◌*◌, ◌≤◌, ◌<◌, ◌≡◌, refl, sym, ◌∙◌, ap, subst, Bool, true, false, List, arith}
-use Rattle.std.proofs.Common.{eqb, length, set, get_or-set_same, ne_eqb, eqb-true}
+use Rattle.std.proofs.Common.{if◌then◌else◌, ℕ, ◌+◌, ◌-◌, ◌*◌, ◌≤◌, ◌<◌, ◌≡◌, refl, sym, ◌∙◌, ap, subst, Bool, true, false, List, arith, ◌==◌}
+use Rattle.std.proofs.Common.{length, set, get_or-set_same, ne_eqb, eqb-true}
 use Rattle.std.proofs.lemmas.Grind.{common_steps}
 use Rattle.words.specs.lists.Sequences.{written}
-use Rattle.words.proofs.lists.Tests.{if-false}
+use Rattle.std.proofs.lemmas.Bool.{cond-false}
 use Rattle.text.specs.frames.Verdict.{Verdict, fine, refused, when}
 use Rattle.text.specs.frames.Answer.{success}
 use Rattle.text.proofs.frames.Refuses.{next-refuses, when-refuses}
@@ -18,7 +18,7 @@ use Rattle.ticks.proofs.Normal.{Same, Normal, tick-normal}
 use Rattle.runs.proofs.machine.OneTick.{advance_by}
 use Rattle.spindles.specs.Spindles.{state_at, head_verdict, SpinOutcome, outcome_turned_back, is_none_left, outcome_spun_by}
 use Rattle.spindles.specs.Spindles.{outcome_spun_on, spin, live_spin}
-use Rattle.spindles.proofs.OneCall.{tick_tried, tick_by_verdict, spin_by, spin-by, live-spin-by, kept_by}
+use Rattle.spindles.proofs.OneCall.{tick_tried, tick_by_verdict, spin_by, spin-by, live-spin-by, kept-by}
 use Rattle.spindles.proofs.Others.{Tried, tried}
 use Rattle.spindles.proofs.turning.Settled.{NumberedVerdict, image-numbered, table-numbered}
 use Rattle.spindles.specs.spindle_parts.FourStates.{part_of, states_of}
@@ -46,8 +46,8 @@ module _ (v : Verdict) (numbered : NumberedVerdict v) (i : Image) (states : List
 
   ends_by : Tried v states taken k → (u : Verdict) → NumberedVerdict u → (d : MachineTick) → Normal s d
       → SpinEnds states taken k (outcome_spun_by states taken k (advance_by s u d))
-  ends_by z (refused n j) l d e = subst (SpinEnds states taken k) (sym (kept_by states taken k n j)) (refuses n j l)
-  ends_by z fine l (stopped n) e = subst (SpinEnds states taken k) (sym (kept_by states taken k n 0)) (refuses n 0 (omega arith))
+  ends_by z (refused n j) l d e = subst (SpinEnds states taken k) (sym (kept-by states taken k n j)) (refuses n j l)
+  ends_by z fine l (stopped n) e = subst (SpinEnds states taken k) (sym (kept-by states taken k n 0)) (refuses n 0 (omega arith))
   ends_by z fine l (finished m code t) e = go (is_none_left s.depth t.depth taken)
     where
       go : (b : Bool) → SpinEnds states taken k (if b then outcome_turned_back 26 0 states taken
@@ -77,9 +77,9 @@ live-spin-ends b states taken k w = grind (arith, common_steps, table-numbered, 
 
 -- ---- the bytes after it
 pub four-long : (b : List ℕ) → length (states_of b) ≡ 4 → length b ≡ 520
-four-long b e = go (eqb (length b) 520) refl (sym (count-is b) ∙ e)
+four-long b e = go (length b == 520) refl (sym (count-is b) ∙ e)
   where
-    go : (t : Bool) → eqb (length b) 520 ≡ t → ◌≡◌ {A = ℕ} (if t then 4 else 0) 4 → length b ≡ 520
+    go : (t : Bool) → (length b == 520) ≡ t → ◌≡◌ {A = ℕ} (if t then 4 else 0) 4 → length b ≡ 520
     go true f q = eqb-true (length b) 520 f
     go false f q = absurd (omega arith)
 
@@ -90,7 +90,7 @@ bytes-length u = refl
 pub bytes-held : (b : List ℕ) (taken k : ℕ) {x : SpinOutcome} → SpinEnds (states_of b) taken k x → states_of (bytes_spun b k x) ≡ x.states
 unfolding bytes_spun
 bytes-held b taken k (refuses n j l) =
-    ap states_of (if-false (eqb n 0) (written b (130 * k) (bytes_of (state_at (states_of b) k))) b (ne_eqb n 0 (λ e. omega arith)))
+    ap states_of (cond-false (n == 0) (written b (130 * k) (bytes_of (state_at (states_of b) k))) b (ne_eqb n 0 (λ e. omega arith)))
 bytes-held b taken k (finishes m code t low length-is same) =
     let long : length b ≡ 520 = four-long b length-is in
     let held : state_at (states_of b) k ≡ state_of (part_of b k) = state-is b long k low in

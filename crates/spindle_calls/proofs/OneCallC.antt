@@ -1,9 +1,9 @@
 -- One call from C that meets its contract is the call over the states that the bytes hold, and leaves bytes that hold what it leaves.
-use Rattle.std.proofs.Common.{if◌then◌else◌, ℕ, ◌+◌, ◌*◌, ◌<◌, ◌≡◌, refl, sym, ◌∙◌, ap, ap₂, Bool, true, false, List, arith, eqb, length}
-use Rattle.std.proofs.Common.{get_or, set, drop, get_or-take, get_or-drop, ne_eqb}
+use Rattle.std.proofs.Common.{if◌then◌else◌, ℕ, ◌+◌, ◌*◌, ◌<◌, ◌≡◌, refl, sym, ◌∙◌, ap, ap₂, Bool, true, false, List, arith, length, ◌==◌, slice_index}
+use Rattle.std.proofs.Common.{set, drop, get_or-take, get_or-drop, ne_eqb}
 use Rattle.std.proofs.lemmas.Grind.{common_steps}
 use Rattle.words.specs.lists.Sequences.{written}
-use Rattle.words.proofs.lists.Tests.{if-false}
+use Rattle.std.proofs.lemmas.Bool.{cond-false}
 use Rattle.text.specs.frames.Answer.{reply_number}
 use Rattle.state.specs.declared.State.{State}
 use Rattle.state.specs.Bytes.{state_of, bytes_of}
@@ -18,7 +18,7 @@ use Rattle.spindles.specs.Spindles.{state_at, SpinOutcome}
 use Rattle.spindles.proofs.Live.{live-spin-is}
 use Rattle.spindles.specs.spindle_parts.FourStates.{part_of, states_of}
 use Rattle.spindles.specs.spindle_bytes.Bytes.{if_spun, bytes_spun}
-use Rattle.spindles.proofs.spindle_parts.States.{part_length, state-is}
+use Rattle.spindles.proofs.spindle_parts.States.{part-length, state-is}
 use Rattle.spindles.specs.spindle_places.Calls.{Head, head_after}
 use Rattle.spindle_calls.specs.ObservedCalls.{ObservedCall, observed_spin, observed_rebinding, call_of}
 use Rattle.spindle_calls.specs.ForC.{observed_tick_c}
@@ -35,7 +35,7 @@ pub record SpindleLikeC (bytes : List ℕ) (taken : ℕ) (x : ObservedCall) (aft
   pub long : length after ≡ 520
 
 module _ (bytes : List ℕ) (long : length bytes ≡ 520) (taken : ℕ) where
-  depth-byte : (k : ℕ) → k < 4 → get_or bytes (130 * k + 1) 0 ≡ (state_at (states_of bytes) k).depth
+  depth-byte : (k : ℕ) → k < 4 → slice_index bytes (130 * k + 1) ≡ (state_at (states_of bytes) k).depth
   unfolding state_of
   depth-byte k l =
       sym (get_or-take 130 (drop (130 * k) bytes) 1 0 (omega arith) ∙ get_or-drop (130 * k) bytes 1 0)
@@ -51,7 +51,7 @@ module _ (bytes : List ℕ) (long : length bytes ≡ 520) (taken : ℕ) where
     unfolding bytes_spun
     spun-long (refuses n j l) =
         ap length
-        (if-false (eqb n 0) (written bytes (130 * k) (bytes_of (state_at (states_of bytes) k))) bytes (ne_eqb n 0 (λ e. omega arith)))
+        (cond-false (n == 0) (written bytes (130 * k) (bytes_of (state_at (states_of bytes) k))) bytes (ne_eqb n 0 (λ e. omega arith)))
         ∙ long
     spun-long (finishes m code t low length-is same) =
         put-long bytes (bytes_of (state_at (set (states_of bytes) k t) k)) long k low
@@ -68,7 +68,7 @@ module _ (bytes : List ℕ) (long : length bytes ≡ 520) (taken : ℕ) where
 
     hears-by : (r : SpinOutcome) → SpinEnds (states_of bytes) taken k r → returned ≡ reply_number r.reply → m ≡ if_spun r r.mask m₀
         → code ≡ if_spun r r.code k₀ → Hears (state_at (states_of bytes) k).depth r (observed_tick_c bytes k returned m code)
-    hears-by _ (refuses n j l) e f g = hears_no refl refl (ap (λ (a : ℕ). eqb a 0) e ∙ ne_eqb n 0 (λ q. omega arith))
+    hears-by _ (refuses n j l) e f g = hears_no refl refl (ap (λ (a : ℕ). a == 0) e ∙ ne_eqb n 0 (λ q. omega arith))
     hears-by _ (finishes m' code' t low length-is same) e f g = hears_tick refl e f g (depth-byte k low)
 
     pub tick-hears : Hears (state_at (states_of bytes) k).depth x (observed_tick_c bytes k returned m code)
@@ -82,11 +82,11 @@ module _ (bytes : List ℕ) (long : length bytes ≡ 520) (taken : ℕ) where
     part_held = grind (arith, common_steps, rebinding-held)
 
     part-long : length part ≡ 130
-    part-long = ap length z.bytes ∙ go (eqb (reply_number (rebind_for image (part_of bytes k) n g).reply) 0)
+    part-long = ap length z.bytes ∙ go (reply_number (rebind_for image (part_of bytes k) n g).reply == 0)
       where
         go : (t : Bool) → length (if t then bytes_of (rebind_for image (part_of bytes k) n g).state else part_of bytes k) ≡ 130
         go true = bytes-length (rebind_for image (part_of bytes k) n g).state
-        go false = part_length bytes long k low
+        go false = part-length bytes long k low
 
     pub rebinding-like : SpindleLikeC bytes taken (observed_rebinding image k n g) (written bytes (130 * k) part) taken
     rebinding-like = grind (arith, common_steps, put-states, put-long, state-is, part_held, part-long)

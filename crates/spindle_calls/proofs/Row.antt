@@ -1,6 +1,6 @@
 -- Calls in a row, by what their caller has of each: what they leave, the places they count and the ticks they make are those of the list
 -- of calls over the states.
-use Rattle.std.proofs.Common.{if◌then◌else◌, ℕ, ◌+◌, ◌≡◌, refl, sym, ◌∙◌, ap, ap₂, Bool, true, false, ◌&&◌, List, [], ◌∷◌, map, arith, eqb}
+use Rattle.std.proofs.Common.{if◌then◌else◌, ℕ, ◌+◌, ◌≡◌, refl, sym, ◌∙◌, ap, ap₂, Bool, true, false, ◌&&◌, List, [], ◌∷◌, map, arith, ◌==◌}
 use Rattle.std.proofs.Common.{eq-eqb}
 use Rattle.std.proofs.lemmas.Grind.{common_steps}
 use Rattle.bindings.specs.Binding.{Binding}
@@ -17,7 +17,7 @@ use Rattle.spindles.specs.spindle_places.Calls as calls
 -- ---- one call
 -- a refused call has a number that is not 0 and a code of 0; of a finished one mask, code and the depth before it are known
 pub data Hears (depth : ℕ) (r : SpinOutcome) (y : ObservedTick) : Type 0 where
-  hears_no : is_success r.reply ≡ false → r.code ≡ 0 → eqb y.number 0 ≡ false → Hears depth r y
+  hears_no : is_success r.reply ≡ false → r.code ≡ 0 → (y.number == 0) ≡ false → Hears depth r y
   hears_tick : is_success r.reply ≡ true → y.number ≡ 0 → y.mask ≡ r.mask → y.code ≡ r.code → y.depth ≡ depth → Hears depth r y
 
 abbrev pub HeardFrom : Head → ObservedCall → Type 0
@@ -49,11 +49,11 @@ pub row-none : (h : Head) → CallsRow h [] h
 unfolding head_after_all tally tally_in finished_ticks_by finished_ticks_in
 row-none h = record { left_is = refl; tallies = λ f zero. refl; made = λ c k s. refl }
 
-pub row_more : (h after last : Head) (x : ObservedCall) (rest : List ObservedCall) → HeardFrom h x
+pub row-more : (h after last : Head) (x : ObservedCall) (rest : List ObservedCall) → HeardFrom h x
     → head_after h (call_of x) ≡ after → CallsRow after rest last
     → CallsRow h (x ∷ rest) last
 unfolding head_after_all tally tally_in
-row_more h after last x rest z e row = record {
+row-more h after last x rest z e row = record {
   left_is = ap (λ (g : Head). head_after_all g (map call_of rest)) e ∙ row.left_is;
   tallies = λ f zero. ap₂ (λ (a b : ℕ). a + b) (call-counts f zero h x z)
       (ap (λ (g : Head). tally f g (map call_of rest)) e ∙ row.tallies f zero);

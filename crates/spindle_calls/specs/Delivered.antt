@@ -2,7 +2,7 @@
 -- rebind and live_rebind on one of the states, put back in its place. Each call is known by its contract alone, which is the record that
 -- the function's `ensures` cites.
 use Rattle.std.specs.Prelude.{ℕ, ◌≤◌, ◌<◌, ◌≡◌, List, [], ◌∷◌, map, length, set, take}
-use Rattle.words.specs.lists.Sequences.{All}
+use Rattle.std.specs.List.{AllByRecursion}
 use Rattle.bindings.specs.Binding.{own_binding}
 use Rattle.text.specs.frames.Frame.{contents}
 use Rattle.text.specs.frames.Answer.{Answer, reply, reply_number, success, GivesBuffer}
@@ -71,5 +71,5 @@ OwnWalkDelivered =
     → (size : ℕ) → 1 ≤ size → size ≤ PLACES → (k : ℕ) (states : List State) → k < length states
     → (made : StateReport) → GivesState (fresh_state size) made → state_at states k ≡ made.state
     → (taken : ℕ) (said : List ObservedCall) (last : List State) (final : ℕ) → SpindleCallsInTurn states taken said last final
-    → All (HandsImage k (take n after)) (map call_of said)
+    → AllByRecursion (HandsImage k (take n after)) (map call_of said)
     → FollowsWalk size (contents text) (finished_ticks_in (contents text) k own_binding said)

@@ -1,8 +1,9 @@
 -- Calls of four spindles in a row, as a caller from C makes them: fairleadow_spin and fairleadow_live_spin on the 520 bytes and the record
 -- that the call before left, fairleadow_rebind and fairleadow_live_rebind on the 130 bytes of one spindle. Each call is known by its
 -- contract alone, which is the record that the function's `ensures` cites.
-use Rattle.std.specs.Prelude.{ℕ, ◌+◌, ◌*◌, ◌≤◌, ◌<◌, ◌≡◌, List, [], ◌∷◌, ◌++◌, map, length, get_or, take}
-use Rattle.words.specs.lists.Sequences.{written, All}
+use Rattle.std.specs.Prelude.{ℕ, ◌+◌, ◌*◌, ◌≤◌, ◌<◌, ◌≡◌, List, [], ◌∷◌, ◌++◌, map, length, take, slice_index}
+use Rattle.std.specs.List.{AllByRecursion}
+use Rattle.words.specs.lists.Sequences.{written}
 use Rattle.bindings.specs.Binding.{own_binding}
 use Rattle.text.specs.frames.Frame.{contents}
 use Rattle.translator.specs.Entry.{translate}
@@ -22,7 +23,7 @@ use Rattle.spindle_calls.specs.ObservedCalls.{call_of, ObservedBalance, finished
 -- the depth before a tick is a byte of the spindle's state
 abbrev pub observed_tick_c : List ℕ → ℕ → ℕ → ℕ → ℕ → ObservedTick
 observed_tick_c bytes k returned m code =
-    record { depth = get_or bytes (STATE_BYTES * k + DEPTH) 0; number = returned; mask = m; code = code }
+    record { depth = slice_index bytes (STATE_BYTES * k + DEPTH); number = returned; mask = m; code = code }
 
 -- one call on these bytes and this record, and what both are after it; a live one is handed a table that fairleadow_prepare made of the
 -- image; a rebinding is handed the bytes of one spindle where they stand, and the record stays
@@ -68,5 +69,5 @@ OwnWalkC =
     → (size : ℕ) → 1 ≤ size → size ≤ PLACES → (k : ℕ) → k < SPINDLES → (bytes : List ℕ) → length bytes ≡ HEAD_BYTES
     → (returned at made : ℕ) → GivesStateC (fresh_state size) returned at made (part_of bytes k)
     → (taken : ℕ) (said : List ObservedCall) (last : List ℕ) (final : ℕ) → SpindleCallsInTurnC bytes taken said last final
-    → All (HandsImage k (take n after)) (map call_of said)
+    → AllByRecursion (HandsImage k (take n after)) (map call_of said)
     → FollowsWalk size (contents text) (finished_ticks_in (contents text) k own_binding said)

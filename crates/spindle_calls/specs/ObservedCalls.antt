@@ -1,5 +1,5 @@
 -- Calls of four spindles with what their caller has of them: the places that they take and give back, and the ticks of each spindle.
-use Rattle.std.specs.Prelude.{ℕ, ◌+◌, ◌≤◌, ◌&&◌, ◌≡◌, List, [], ◌∷◌, eqb, if◌then◌else◌}
+use Rattle.std.specs.Prelude.{ℕ, ◌+◌, ◌≤◌, ◌&&◌, ◌≡◌, List, [], ◌∷◌, if◌then◌else◌, ◌==◌}
 use Rattle.bindings.specs.Binding.{Binding}
 use Rattle.charts.specs.Chart.{Chart}
 use Rattle.spindles.specs.declared.layout.TheConstants.{STORE}
@@ -26,7 +26,7 @@ call_of (observed_rebinding t k n g) = rebinds t k n g
 
 -- ---- places: those that ticks take or give back, by the codes of the finished ones
 abbrev pub counts_in : (ℕ → ℕ → ℕ) → ObservedCall → ℕ
-counts_in f (observed_spin t k w y) = if eqb y.number 0 then f y.code y.depth else 0
+counts_in f (observed_spin t k w y) = if y.number == 0 then f y.code y.depth else 0
 counts_in f (observed_rebinding t k n g) = 0
 
 unfoldable pub tally_in : (ℕ → ℕ → ℕ) → List ObservedCall → ℕ
@@ -44,5 +44,5 @@ unfoldable pub finished_ticks_in : Chart → ℕ → Binding → List ObservedCa
 finished_ticks_in c k s [] = []
 finished_ticks_in c k s (observed_spin t j w y ∷ rest) =
     let more = finished_ticks_in c k s rest in
-    if eqb j k && eqb y.number 0 then record { signal = record { word = w; binding = s }; mask = y.mask; code = y.code } ∷ more else more
-finished_ticks_in c k s (observed_rebinding t j n g ∷ rest) = finished_ticks_in c k (if eqb j k then binding_after c n g s else s) rest
+    if j == k && y.number == 0 then record { signal = record { word = w; binding = s }; mask = y.mask; code = y.code } ∷ more else more
+finished_ticks_in c k s (observed_rebinding t j n g ∷ rest) = finished_ticks_in c k (if j == k then binding_after c n g s else s) rest

@@ -1,8 +1,8 @@
 -- The finished ticks of a spindle are those of its own walk over their words, over every list of calls.
-use Rattle.std.proofs.Common.{if◌then◌else◌, ℕ, ◌≤◌, ◌<◌, Bool, true, false, ◌&&◌, ◌≡◌, refl, sym, ◌∙◌, ap, ap₂, subst, List, [], ◌∷◌, map}
-use Rattle.std.proofs.Common.{eqb, length, take, eq-eqb, ne_eqb}
+use Rattle.std.proofs.Common.{if◌then◌else◌, ℕ, ◌≤◌, ◌<◌, Bool, true, false, ◌&&◌, ◌≡◌, refl, sym, ◌∙◌, ap, ap₂, subst, List, [], ◌∷◌, map, ◌==◌}
+use Rattle.std.proofs.Common.{length, take, eq-eqb, ne_eqb}
 use Rattle.std.proofs.Math.Decide.{ℕ_discrete}
-use Rattle.words.specs.lists.Sequences.{All}
+use Rattle.std.specs.List.{AllByRecursion}
 use Rattle.results.specs.Results.{no_results}
 use Rattle.bindings.specs.Binding.{Binding, own_binding}
 use Rattle.text.specs.frames.Frame.{contents}
@@ -31,7 +31,7 @@ use Rattle.agreement.proofs.Chain.{fresh-is, home-is, sound}
 use Rattle.spindles.specs.Spindles.{state_at, SpinOutcome}
 use Rattle.spindles.specs.spindle_places.Calls.{Head, SpindleCall, spins, rebinds, spin_on, head_after}
 use Rattle.spindle_walks.specs.Walks.{FinishedTick, is_success, finished_ticks_by, HandsImage, FollowsWalk, OwnWalk}
-use Rattle.spindle_walks.proofs.WatchedCalls.{At, signal_told, Turned, stays, steps, turned, passed_over, bound-over, bound-own}
+use Rattle.spindle_walks.proofs.WatchedCalls.{At, signal_told, Turned, stays, steps, turned, passed-over, bound-over, bound-own}
 
 abbrev signals : List FinishedTick → List Signal
 signals = map (λ (m : FinishedTick). m.signal)
@@ -74,22 +74,22 @@ module _ (c : Chart) (facts : Facts c) (table_facts : TableFacts c) (image : Lis
   after-spin t j w rest hand s h ih x z = go (ℕ_discrete k j)
     where
       mine : k ≡ j → Turned c facts table_facts image passes decodes n n≤ k h s x w (spin_on h t j w)
-          → Traced x (with s h t j w rest (eqb j k && is_success (spin_on h t j w).reply))
-      mine e (stays d a) = subst (λ (b : Bool). Traced x (with s h t j w rest (eqb j k && b))) (sym d)
+          → Traced x (with s h t j w rest (j == k && is_success (spin_on h t j w).reply))
+      mine e (stays d a) = subst (λ (b : Bool). Traced x (with s h t j w rest (j == k && b))) (sym d)
           (subst (λ (b : Bool). Traced x (with s h t j w rest (b && false))) (sym (eq-eqb j k (sym e))) (ih x a))
-      mine e (steps d m o a) = subst (λ (b : Bool). Traced x (with s h t j w rest (eqb j k && b))) (sym d)
+      mine e (steps d m o a) = subst (λ (b : Bool). Traced x (with s h t j w rest (j == k && b))) (sym d)
           (subst (λ (b : Bool). Traced x (with s h t j w rest (b && true))) (sym (eq-eqb j k (sym e)))
           (one_more x (tick_made s w (spin_on h t j w)) (finished_ticks_by c k s (head_after h (spins t j w)) rest)
           m o (ih (move n c (signal_told s w) x) a)))
 
       go : Dec (k ≡ j)
-          → Traced x (with s h t j w rest (eqb j k && is_success (spin_on h t j w).reply))
+          → Traced x (with s h t j w rest (j == k && is_success (spin_on h t j w).reply))
       go (yes e) = mine e
           (subst (λ (i : ℕ). Turned c facts table_facts image passes decodes n n≤ k h s x w (spin_on h t i w)) e
           (subst (λ (u : List ℕ). Turned c facts table_facts image passes decodes n n≤ k h s x w (spin_on h u k w)) (sym (hand (sym e)))
           (turned c facts table_facts image passes decodes n n≤ k h s x w z)))
       go (no e) = subst (λ (b : Bool). Traced x (with s h t j w rest (b && is_success (spin_on h t j w).reply)))
-          (sym (ne_eqb j k (λ q. e (sym q)))) (ih x (passed_over c facts table_facts image passes decodes n n≤ k h s x z t j w e))
+          (sym (ne_eqb j k (λ q. e (sym q)))) (ih x (passed-over c facts table_facts image passes decodes n n≤ k h s x z t j w e))
 
   -- ---- one rebinding, and the calls after it
   after-rebinding : (t : List ℕ) (j m g : ℕ) (rest : List SpindleCall) → (j ≡ k → t ≡ image) → (s : Binding) (h : Head)
@@ -102,7 +102,7 @@ module _ (c : Chart) (facts : Facts c) (table_facts : TableFacts c) (image : Lis
           (subst (λ (u : List ℕ). Stood (head_after h (rebinds u k m g)) (binding_after c m g s) x) (sym (hand (sym e)))
           (bound-own c facts table_facts image passes decodes n n≤ k h s x z m g))
 
-      go : Dec (k ≡ j) → Traced x (finished_ticks_by c k (if eqb j k then binding_after c m g s else s)
+      go : Dec (k ≡ j) → Traced x (finished_ticks_by c k (if j == k then binding_after c m g s else s)
           (head_after h (rebinds t j m g)) rest)
       go (yes e) =
           subst (λ (b : Bool). Traced x (finished_ticks_by c k (if b then binding_after c m g s else s)
@@ -113,7 +113,7 @@ module _ (c : Chart) (facts : Facts c) (table_facts : TableFacts c) (image : Lis
           (head_after h (rebinds t j m g)) rest))
           (sym (ne_eqb j k (λ q. e (sym q)))) (ih s x (bound-over c facts table_facts image passes decodes n n≤ k h s x z t j m g e))
 
-  own-walk : (calls : List SpindleCall) → All (HandsImage k image) calls → (s : Binding) (h : Head) → More s h calls
+  own-walk : (calls : List SpindleCall) → AllByRecursion (HandsImage k image) calls → (s : Binding) (h : Head) → More s h calls
   unfolding finished_ticks_by trace
   own-walk [] hands s h x z = record { masks = refl; codes = refl }
   own-walk (spins t j w ∷ rest) hands s h x z =
@@ -122,7 +122,7 @@ module _ (c : Chart) (facts : Facts c) (table_facts : TableFacts c) (image : Lis
       after-rebinding t j m g rest hands.0 s h (λ u. own-walk rest hands.1 u (head_after h (rebinds t j m g))) x z
 
   pub walk-own : 1 ≤ n → (h : Head) → k < length h.states → state_at h.states k ≡ (fresh_state n).state → (calls : List SpindleCall)
-      → All (HandsImage k image) calls
+      → AllByRecursion (HandsImage k image) calls
       → FollowsWalk n c (finished_ticks_by c k own_binding h calls)
   walk-own low h inside at calls hands =
       let made : List FinishedTick = finished_ticks_by c k own_binding h calls in

@@ -23,7 +23,7 @@ use Rattle.rebinding.proofs.Keeps.{rebinding-fits}
 use Rattle.agreement.specs.Agreement.{is_barred_rebinding, is_full_call, binding_after}
 use Rattle.agreement.proofs.TableFacts.{TableFacts}
 use Rattle.agreement.proofs.Places.{state_of_position}
-use Rattle.agreement.proofs.Simulation.{answer, tick_is}
+use Rattle.agreement.proofs.Simulation.{answer, tick-is}
 use Rattle.agreement.proofs.Ticks.{StandsWell, moves-on}
 use Rattle.agreement.proofs.Chain.{sound, serves, same-bar, rebind-is}
 use Rattle.spindles.specs.Spindles.{state_at, SpinOutcome, spin}
@@ -94,7 +94,7 @@ module _ (c : Chart) (facts : Facts c) (table_facts : TableFacts c) (image : Lis
     tick-at : tick (table c) (state_at h.states k) w ≡ answer n (tick_at n c x) (state_of_position c n s y)
     tick-at =
         ap (λ (u : State). tick (table c) u w) z.at
-        ∙ tick_is c n n≤ s facts table_facts serving w x z.stands.low z.stands.good
+        ∙ tick-is c n n≤ s facts table_facts serving w x z.stands.low z.stands.good
 
     kept : (m code : ℕ) (t : State) → tick (table c) (state_at h.states k) w ≡ finished m code t → Fits (table c) t
     kept m code t e =
@@ -145,9 +145,9 @@ module _ (c : Chart) (facts : Facts c) (table_facts : TableFacts c) (image : Lis
         (comes (image_verdict image) (decoded_image (contents image)) h.states h.taken k w)))
 
   -- ---- a call of another
-  pub passed_over : (h : Head) (s : Binding) (x : WalkPosition) → At h s x → (t : List ℕ) (j w : ℕ) → (k ≡ j → ⊥)
+  pub passed-over : (h : Head) (s : Binding) (x : WalkPosition) → At h s x → (t : List ℕ) (j w : ℕ) → (k ≡ j → ⊥)
       → At (head_after h (spins t j w)) s x
-  passed_over h s x z t j w other = record {
+  passed-over h s x z t j w other = record {
     inside = subst (λ (l : ℕ). k < l) (sym (spin-length t h.states h.taken j w)) z.inside;
     at = left_alone t h.states h.taken j w k other ∙ z.at;
     stands = z.stands;

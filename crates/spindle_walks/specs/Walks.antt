@@ -1,7 +1,7 @@
 -- What a spindle's finished ticks emit is what a walk of its own emits over the words of just these ticks, whatever the other spindles
 -- are handed meanwhile.
-use Rattle.std.specs.Prelude.{ℕ, ◌≤◌, ◌<◌, Bool, true, false, ◌&&◌, ◌≡◌, List, [], ◌∷◌, map, eqb, length, take, if◌then◌else◌}
-use Rattle.words.specs.lists.Sequences.{All}
+use Rattle.std.specs.Prelude.{ℕ, ◌≤◌, ◌<◌, Bool, true, false, ◌&&◌, ◌≡◌, List, [], ◌∷◌, map, length, take, if◌then◌else◌, ◌==◌}
+use Rattle.std.specs.List.{AllByRecursion}
 use Rattle.bindings.specs.Binding.{Binding, own_binding}
 use Rattle.text.specs.frames.Frame.{contents}
 use Rattle.text.specs.frames.Answer.{Reply, success, refusal}
@@ -30,10 +30,10 @@ finished_ticks_by c k s h [] = []
 finished_ticks_by c k s h (spins t j w ∷ rest) =
     let r = spin_on h t j w in
     let more = finished_ticks_by c k s (head_after h (spins t j w)) rest in
-    if eqb j k && is_success r.reply
+    if j == k && is_success r.reply
     then record { signal = record { word = w; binding = s }; mask = r.mask; code = r.code } ∷ more else more
 finished_ticks_by c k s h (rebinds t j n g ∷ rest) =
-    finished_ticks_by c k (if eqb j k then binding_after c n g s else s) (head_after h (rebinds t j n g)) rest
+    finished_ticks_by c k (if j == k then binding_after c n g s else s) (head_after h (rebinds t j n g)) rest
 
 -- each call of spindle k is handed the image
 abbrev pub HandsImage : ℕ → List ℕ → SpindleCall → Type 0
@@ -50,5 +50,5 @@ unfoldable pub OwnWalk : Type 0
 OwnWalk =
     (text out : List ℕ) (n : ℕ) → (translate text out).reply ≡ success n
     → (size : ℕ) → 1 ≤ size → size ≤ PLACES → (k : ℕ) (h : Head) → k < length h.states → state_at h.states k ≡ (fresh_state size).state
-    → (calls : List SpindleCall) → All (HandsImage k (take n (translate text out).buffer)) calls
+    → (calls : List SpindleCall) → AllByRecursion (HandsImage k (take n (translate text out).buffer)) calls
     → FollowsWalk size (contents text) (finished_ticks_by (contents text) k own_binding h calls)

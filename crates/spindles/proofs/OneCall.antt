@@ -51,10 +51,10 @@ live-spin-by b states taken k w = grind (arith, common_steps, live-tick-by)
 -- ---- a state put back where it was
 
 -- a tick that is refused takes no place and leaves all
-pub kept_by : (states : List State) (taken k n i : ℕ)
+pub kept-by : (states : List State) (taken k n i : ℕ)
     → outcome_spun_by states taken k (record { reply = refusal n i 0; mask = 0; code = 0; state = state_at states k })
     ≡ outcome_turned_back n i states taken
-kept_by states taken k n i = grind (arith, common_steps)
+kept-by states taken k n i = grind (arith, common_steps)
 
 -- what a call comes to: it is refused, or all that is tried before the tick is passed, and the tick is finished and finds its place
 pub data Comes (v : Verdict) (i : Image) (states : List State) (taken k w : ℕ) : SpinOutcome → Type 0 where
@@ -75,8 +75,8 @@ module _ (v : Verdict) (i : Image) (states : List State) (taken k w : ℕ) where
 
   comes-by : head_verdict v states taken k ≡ fine → (u : Verdict) → tick_tried v i s ≡ u → (d : MachineTick) → tick i s w ≡ d
       → Comes v i states taken k w (outcome_spun_by states taken k (advance_by s u d))
-  comes-by h (refused n j) f d e = subst (Comes v i states taken k w) (sym (kept_by states taken k n j)) (turns_back n j)
-  comes-by h fine f (stopped n) e = subst (Comes v i states taken k w) (sym (kept_by states taken k n 0)) (turns_back n 0)
+  comes-by h (refused n j) f d e = subst (Comes v i states taken k w) (sym (kept-by states taken k n j)) (turns_back n j)
+  comes-by h fine f (stopped n) e = subst (Comes v i states taken k w) (sym (kept-by states taken k n 0)) (turns_back n 0)
   comes-by h fine f (finished m code t) e = go (is_none_left s.depth t.depth taken) refl
     where
       go : (b : Bool) → is_none_left s.depth t.depth taken ≡ b

@@ -1,5 +1,5 @@
 -- Four spindles that share 64 places: a call makes one tick of the spindle that it names. Refusals 25 and 26.
-use Rattle.std.specs.Prelude.{ℕ, ◌+◌, ◌-◌, Bool, ◌&&◌, ◌||◌, not, ◌≡◌, List, [], ◌∷◌, leb, ltb, eqb, length, get_or, set, if◌then◌else◌}
+use Rattle.std.specs.Prelude.{ℕ, ◌+◌, ◌-◌, Bool, ◌&&◌, ◌||◌, not, ◌≡◌, List, [], ◌∷◌, length, set, if◌then◌else◌, nat_lt, nat_le, ◌==◌, slice_index_or}
 use Rattle.text.specs.declared.frames.refusals.TheConstants.{BAD_HEADER, UNFIT, NO_SPINDLE, NO_PLACE}
 use Rattle.text.specs.frames.Verdict.{Verdict, fine, refused, next, when}
 use Rattle.text.specs.frames.Answer.{Reply, refusal}
@@ -13,7 +13,7 @@ use Rattle.spindles.specs.declared.layout.TheConstants.{SPINDLES, STORE}
 use Rattle.spindles.specs.declared.SpinReport.{SpinReport}
 
 abbrev pub state_at : List State → ℕ → State
-state_at states k = get_or states k no_state
+state_at states k = slice_index_or states k no_state
 
 unfoldable pub depths : List State → ℕ
 depths [] = 0
@@ -21,12 +21,12 @@ depths (s ∷ states) = s.depth + depths states
 
 -- 15: not four states, or the places recorded as taken are not their depths, or are more than 64
 abbrev pub is_bad_head : List State → ℕ → Bool
-is_bad_head states taken = not (eqb (length states) SPINDLES) || not (eqb (depths states) taken) || ltb STORE taken
+is_bad_head states taken = not (length states == SPINDLES) || not (depths states == taken) || nat_lt STORE taken
 
 -- 25, what the image or the table is refused for, and 15 by the list and the record
 abbrev pub head_verdict : Verdict → List State → ℕ → ℕ → Verdict
 head_verdict v states taken k =
-    next (when NO_SPINDLE (ltb 3 k)) λ _.
+    next (when NO_SPINDLE (nat_lt 3 k)) λ _.
     next v λ _.
     when UNFIT (is_bad_head states taken)
 
@@ -45,7 +45,7 @@ outcome_turned_back n i states taken = record { reply = refusal n i 0; mask = 0;
 -- 26, by the depths before and after the tick: it ends deeper than it began, which of all ticks a call alone does, and no place is left;
 -- such a call got no 17, and none gets 18
 abbrev pub is_none_left : ℕ → ℕ → ℕ → Bool
-is_none_left before after taken = ltb before after && leb STORE taken
+is_none_left before after taken = nat_lt before after && nat_le STORE taken
 
 abbrev pub has_no_place : ℕ → State → TickOutcome → Bool
 has_no_place taken s x = is_none_left s.depth x.state.depth taken

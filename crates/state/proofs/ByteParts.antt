@@ -1,6 +1,6 @@
 -- Laws of the parts of a state that is kept as 130 bytes: what each byte reads as, and the state after one of them is written.
-use Rattle.std.proofs.Common.{if◌then◌else◌, ℕ, ◌+◌, ◌-◌, ◌≤◌, ◌<◌, ◌≡◌, refl, sym, ap, ◌∙◌, Bool, true, false, not, List, arith, eqb}
-use Rattle.std.proofs.Common.{length, get_or, set, get_or-set_same, get_or-set_other, eq-eqb, ne_eqb}
+use Rattle.std.proofs.Common.{if◌then◌else◌, ℕ, ◌+◌, ◌-◌, ◌≤◌, ◌<◌, ◌≡◌, refl, sym, ap, ◌∙◌, Bool, true, false, not, List, arith, ◌==◌, slice_index, slice_index_or}
+use Rattle.std.proofs.Common.{length, set, get_or-set_same, get_or-set_other, eq-eqb, ne_eqb}
 use mir.Val.{bool_byte}
 use Rattle.std.proofs.Math.ListN.{get_or-eq_default}
 use Rattle.std.proofs.Math.Seq.{set_out}
@@ -18,47 +18,47 @@ abbrev same : ℕ → ℕ
 same x = x
 
 abbrev truth : ℕ → Bool
-truth x = not (eqb x 0)
+truth x = not (x == 0)
 
 -- ---- what is read
 module _ (b : List ℕ) where
-  pub size-read : get_or b 0 0 ≡ (state_of b).size
+  pub size-read : slice_index b 0 ≡ (state_of b).size
   unfolding state_of
   size-read = refl
 
-  pub depth-read : get_or b 1 0 ≡ (state_of b).depth
+  pub depth-read : slice_index b 1 ≡ (state_of b).depth
   unfolding state_of
   depth-read = refl
 
-  pub place_read : (k : ℕ) → k < 32 → get_or b (2 + k) 0 ≡ place_at (state_of b) k
+  pub place-read : (k : ℕ) → k < 32 → slice_index b (2 + k) ≡ place_at (state_of b) k
   unfolding state_of
-  place_read k l = part-read same 0 2 32 b k l
+  place-read k l = part-read same 0 2 32 b k l
 
-  pub number_read : (k : ℕ) → k < 32 → get_or b (66 + k) 0 ≡ number_at (state_of b) k
+  pub number-read : (k : ℕ) → k < 32 → slice_index b (66 + k) ≡ number_at (state_of b) k
   unfolding state_of
-  number_read k l = part-read same 0 66 32 b k l
+  number-read k l = part-read same 0 66 32 b k l
 
-  pub server-read : (k : ℕ) → k < 32 → get_or b (98 + k) 0 ≡ server_at (state_of b) k
+  pub server-read : (k : ℕ) → k < 32 → slice_index b (98 + k) ≡ server_at (state_of b) k
   unfolding state_of
   server-read k l = part-read same 0 98 32 b k l
 
-  pub bit-read : (k : ℕ) → k < 16 → not (eqb (get_or b (34 + k) 0) 0) ≡ get_or (state_of b).bits k false
+  pub bit-read : (k : ℕ) → k < 16 → not (slice_index b (34 + k) == 0) ≡ slice_index_or (state_of b).bits k false
   unfolding state_of
   bit-read k l = part-read truth false 34 16 b k l
 
-  binding-read : (k : ℕ) → k < 16 → get_or b (50 + k) 0 ≡ get_or (state_of b).serving k 0
+  binding-read : (k : ℕ) → k < 16 → slice_index b (50 + k) ≡ slice_index (state_of b).serving k
   unfolding state_of
   binding-read k l = part-read same 0 50 16 b k l
 
-  pub serving-read : (h : ℕ) → 1 ≤ h → h ≤ 16 → get_or b (49 + h) 0 ≡ server_of (state_of b).serving h
+  pub serving-read : (h : ℕ) → 1 ≤ h → h ≤ 16 → slice_index b (49 + h) ≡ server_of (state_of b).serving h
   serving-read h l m =
       let e : 49 + h ≡ 50 + (h - 1) = omega arith in
-      ap (λ (j : ℕ). get_or b j 0) e ∙ binding-read (h - 1) (omega arith)
+      ap (λ (j : ℕ). slice_index b j) e ∙ binding-read (h - 1) (omega arith)
 
   -- k stands for number h's place among the results
   module _ (h k : ℕ) (place : k ≡ h - 1) where
-    pub result-read : k < 16 → not (eqb (get_or b (34 + k) 0) 0) ≡ result_of h (state_of b).bits
-    result-read l = bit-read k l ∙ ap (λ (j : ℕ). get_or (state_of b).bits j false) place
+    pub result-read : k < 16 → not (slice_index b (34 + k) == 0) ≡ result_of h (state_of b).bits
+    result-read l = bit-read k l ∙ ap (λ (j : ℕ). slice_index_or (state_of b).bits j false) place
 
     pub result-none : 16 ≤ k → false ≡ result_of h (state_of b).bits
     result-none l = sym (get_or-eq_default (state_of b).bits false (omega (arith, held-bits b)))
@@ -89,9 +89,9 @@ module _ (b : List ℕ) (whole : length b ≡ 130) where
   unfolding state_of
   list_set j v ps bs gs hs ks l = grind (arith, common_steps)
 
-  pub place_set : (k l : ℕ) → k < 32 → state_of (set b (2 + k) l) ≡ with_place (state_of b) k l
+  pub place-set : (k l : ℕ) → k < 32 → state_of (set b (2 + k) l) ≡ with_place (state_of b) k l
   unfolding state_of
-  place_set k l low =
+  place-set k l low =
       list_set (2 + k) l _ _ _ _ _ (omega arith)
       (part-set same 0 2 32 b k l low (omega arith))
       (part-kept truth false 34 16 b (2 + k) l (λ i h q. omega arith))
@@ -122,7 +122,7 @@ module _ (b : List ℕ) (whole : length b ≡ 130) where
       (part-set same 0 98 32 b k g low (omega arith))
 
   -- result k as a byte that is not 0 where it is true
-  pub byte-set : (k v : ℕ) → k < 16 → state_of (set b (34 + k) v) ≡ with_bits (state_of b) (set (state_of b).bits k (not (eqb v 0)))
+  pub byte-set : (k v : ℕ) → k < 16 → state_of (set b (34 + k) v) ≡ with_bits (state_of b) (set (state_of b).bits k (not (v == 0)))
   unfolding state_of
   byte-set k v low =
       list_set (34 + k) v _ _ _ _ _ (omega arith)
@@ -151,22 +151,22 @@ module _ (b : List ℕ) (whole : length b ≡ 130) where
 -- place k with its label, number and server, one after the other
 pub open-set : (b b₁ b₂ b₃ : List ℕ) (k l h g : ℕ) → length b ≡ 130 → length b₁ ≡ 130 → length b₂ ≡ 130 → k < 32
     → b₁ ≡ set b (2 + k) l → b₂ ≡ set b₁ (66 + k) h → b₃ ≡ set b₂ (98 + k) g → state_of b₃ ≡ with_opened (state_of b) k l h g
-open-set b b₁ b₂ b₃ k l h g w w₁ w₂ low e₁ e₂ e₃ = grind (arith, common_steps, place_set, number-set, server-set)
+open-set b b₁ b₂ b₃ k l h g w w₁ w₂ low e₁ e₂ e₃ = grind (arith, common_steps, place-set, number-set, server-set)
 
 -- ---- a result of a tick; 0 writes nothing, and a number above 16 has no bit
-byte-back : (t : Bool) → not (eqb (bool_byte t) 0) ≡ t
+byte-back : (t : Bool) → not (bool_byte t == 0) ≡ t
 byte-back true = refl
 byte-back false = refl
 
 -- k stands for number h's place among the results
 module _ (b : List ℕ) (r h k : ℕ) (place : k ≡ h - 1) where
   pub result-beyond : 16 ≤ k → state_of b ≡ state_after_result (state_of b) r h
-  result-beyond l = ap (with_bits (state_of b)) (go (eqb r 0))
+  result-beyond l = ap (with_bits (state_of b)) (go (r == 0))
     where
-      go : (t : Bool) → (state_of b).bits ≡ (if t then (state_of b).bits else set (state_of b).bits (h - 1) (eqb r 2))
+      go : (t : Bool) → (state_of b).bits ≡ (if t then (state_of b).bits else set (state_of b).bits (h - 1) (r == 2))
       go true = refl
-      go false = sym (set_out (state_of b).bits (h - 1) (eqb r 2) (omega (arith, held-bits b)))
+      go false = sym (set_out (state_of b).bits (h - 1) (r == 2) (omega (arith, held-bits b)))
 
-  pub result-set : length b ≡ 130 → (r ≡ 0 → ⊥) → k < 16 → state_of (set b (34 + k) (bool_byte (eqb r 2)))
+  pub result-set : length b ≡ 130 → (r ≡ 0 → ⊥) → k < 16 → state_of (set b (34 + k) (bool_byte (r == 2)))
       ≡ state_after_result (state_of b) r h
   result-set whole n low = grind (arith, common_steps, ne_eqb, byte-set, byte-back)

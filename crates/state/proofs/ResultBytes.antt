@@ -1,6 +1,6 @@
 -- Laws of the bytes of a state: a cast of a result, and the way back.
-use Rattle.std.proofs.Common.{if◌then◌else◌, ℕ, ◌+◌, ◌≡◌, refl, sym, ap, ap₂, ◌∙◌, Bool, true, false, not, List, map, zero-add, eqb, length}
-use Rattle.std.proofs.Common.{get_or, set, replicate, arith}
+use Rattle.std.proofs.Common.{if◌then◌else◌, ℕ, ◌+◌, ◌≡◌, refl, sym, ap, ap₂, ◌∙◌, Bool, true, false, not, List, map, zero-add, length, ◌==◌, slice_index, slice_index_or}
+use Rattle.std.proofs.Common.{set, replicate, arith}
 use mir.Val.{bool_byte}
 use Rattle.std.proofs.lemmas.Grind.{common_steps}
 use Rattle.words.specs.lists.Numbers.{range}
@@ -16,25 +16,25 @@ pub byte-is : (b : Bool) → bool_byte b ≡ (if b then 1 else 0)
 byte-is true = refl
 byte-is false = refl
 
-bit-back : (b : Bool) → not (eqb (if b then 1 else 0) 0) ≡ b
+bit-back : (b : Bool) → not ((if b then 1 else 0) == 0) ≡ b
 bit-back true = refl
 bit-back false = refl
 
 -- a list is what is read at each of its places
-read_back : (xs : List ℕ) (n : ℕ) → length xs ≡ n → map (λ (k : ℕ). get_or xs k 0) (range 0 n) ≡ xs
-read_back xs n e = map-count (λ (k : ℕ). get_or xs k 0) 0 xs 0 n (sym e) (λ i h. ap (λ (k : ℕ). get_or xs k 0) (zero-add i))
+read-back : (xs : List ℕ) (n : ℕ) → length xs ≡ n → map (λ (k : ℕ). slice_index xs k) (range 0 n) ≡ xs
+read-back xs n e = map-count (λ (k : ℕ). slice_index xs k) 0 xs 0 n (sym e) (λ i h. ap (λ (k : ℕ). slice_index xs k) (zero-add i))
 
 -- a state that was written as bytes is read back as itself
 pub state-back : (s : State) → Sized s → length s.bits ≡ 16 → state_of (bytes_of s) ≡ s
 unfolding state_of bytes_of
 state-back s z b =
-    let bits : map (λ (k : ℕ). not (eqb (result_byte s k) 0)) (range 0 16) ≡ s.bits =
-    map-count (λ (k : ℕ). not (eqb (result_byte s k) 0)) false s.bits 0 16 (sym b)
-    (λ i h. bit-back (get_or s.bits (0 + i) false) ∙ ap (λ (k : ℕ). get_or s.bits k false) (zero-add i)) in
-    ap₂ (λ (x : List Bool) (y : List ℕ). with_serving (with_bits (state_of (bytes_of s)) x) y) bits (read_back s.serving 16 z.serving)
+    let bits : map (λ (k : ℕ). not (result_byte s k == 0)) (range 0 16) ≡ s.bits =
+    map-count (λ (k : ℕ). not (result_byte s k == 0)) false s.bits 0 16 (sym b)
+    (λ i h. bit-back (slice_index_or s.bits (0 + i) false) ∙ ap (λ (k : ℕ). slice_index_or s.bits k false) (zero-add i)) in
+    ap₂ (λ (x : List Bool) (y : List ℕ). with_serving (with_bits (state_of (bytes_of s)) x) y) bits (read-back s.serving 16 z.serving)
     ∙ ap (λ (x : List ℕ). with_places s x (state_of (bytes_of s)).numbers (state_of (bytes_of s)).servers)
-    (read_back s.places 32 z.places)
-    ∙ ap₂ (λ (x y : List ℕ). with_places s s.places x y) (read_back s.numbers 32 z.numbers) (read_back s.servers 32 z.servers)
+    (read-back s.places 32 z.places)
+    ∙ ap₂ (λ (x y : List ℕ). with_places s s.places x y) (read-back s.numbers 32 z.numbers) (read-back s.servers 32 z.servers)
 
 -- the five lists of a state written one after the other, behind its size and depth
 pub bytes-written : (s : State) (b₁ b₂ b₃ b₄ b₅ : List ℕ)
@@ -58,8 +58,8 @@ pub held-bits : (b : List ℕ) → length (state_of b).bits ≡ 16
 unfolding state_of
 held-bits b = refl
 
-pub held_back : (b : List ℕ) → state_of (bytes_of (state_of b)) ≡ state_of b
-held_back b = state-back (state_of b) (held-sized b) (held-bits b)
+pub held-back : (b : List ℕ) → state_of (bytes_of (state_of b)) ≡ state_of b
+held-back b = state-back (state_of b) (held-sized b) (held-bits b)
 
 -- a fresh state, refused or not
 pub fresh-sized : (n : ℕ) → Sized (fresh n)

@@ -1,7 +1,7 @@
 -- The 130 bytes by which C keeps a state:
 -- size, depth, 32 places, 16 results, the 16 schemes that serve, and for each place the number that its scheme was called by, then the
 -- scheme that served it.
-use Rattle.std.specs.Prelude.{ℕ, ◌+◌, Bool, false, not, List, ◌∷◌, ◌++◌, map, eqb, get_or, if◌then◌else◌}
+use Rattle.std.specs.Prelude.{ℕ, ◌+◌, Bool, false, not, List, ◌∷◌, ◌++◌, map, if◌then◌else◌, ◌==◌, slice_index, slice_index_or}
 use Rattle.words.specs.lists.Numbers.{range}
 use Rattle.text.specs.declared.frames.sizes.TheConstants.{SCHEMES}
 use Rattle.state.specs.declared.layout.TheConstants.{PLACES, SIZE, DEPTH, PLACES_FROM, RESULTS_FROM, SERVING_FROM, NUMBERS_FROM}
@@ -10,25 +10,25 @@ use Rattle.state.specs.declared.State.{State}
 use Rattle.state.specs.State.{place_at, number_at, server_at}
 
 abbrev pub place_in : List ℕ → ℕ → ℕ
-place_in b k = get_or b (PLACES_FROM + k) 0
+place_in b k = slice_index b (PLACES_FROM + k)
 
 -- a result byte of 0 is false, any other is true
 abbrev pub result_in : List ℕ → ℕ → Bool
-result_in b k = not (eqb (get_or b (RESULTS_FROM + k) 0) 0)
+result_in b k = not (slice_index b (RESULTS_FROM + k) == 0)
 
 abbrev pub serving_in : List ℕ → ℕ → ℕ
-serving_in b k = get_or b (SERVING_FROM + k) 0
+serving_in b k = slice_index b (SERVING_FROM + k)
 
 abbrev pub number_in : List ℕ → ℕ → ℕ
-number_in b k = get_or b (NUMBERS_FROM + k) 0
+number_in b k = slice_index b (NUMBERS_FROM + k)
 
 abbrev pub server_in : List ℕ → ℕ → ℕ
-server_in b k = get_or b (SERVERS_FROM + k) 0
+server_in b k = slice_index b (SERVERS_FROM + k)
 
 unfoldable pub state_of : List ℕ → State
 state_of b = record {
-  size = get_or b SIZE 0;
-  depth = get_or b DEPTH 0;
+  size = slice_index b SIZE;
+  depth = slice_index b DEPTH;
   places = map (place_in b) (range 0 PLACES);
   bits = map (result_in b) (range 0 SCHEMES);
   serving = map (serving_in b) (range 0 SCHEMES);
@@ -38,10 +38,10 @@ state_of b = record {
 
 -- the byte of a result, 0 or 1
 abbrev pub result_byte : State → ℕ → ℕ
-result_byte s k = if get_or s.bits k false then 1 else 0
+result_byte s k = if slice_index_or s.bits k false then 1 else 0
 
 abbrev pub serving_byte : State → ℕ → ℕ
-serving_byte s k = get_or s.serving k 0
+serving_byte s k = slice_index s.serving k
 
 unfoldable pub bytes_of : State → List ℕ
 bytes_of s =

@@ -1,5 +1,5 @@
 -- The state, and a fresh one (refusal 14).
-use Rattle.std.specs.Prelude.{ℕ, ◌-◌, Bool, ◌||◌, ◌≡◌, List, ltb, eqb, length, get_or, set, replicate, if◌then◌else◌}
+use Rattle.std.specs.Prelude.{ℕ, ◌-◌, Bool, ◌||◌, ◌≡◌, List, length, set, replicate, if◌then◌else◌, nat_lt, ◌==◌, slice_index, slice_index_or}
 use Rattle.results.specs.Results.{no_results}
 use Rattle.bindings.specs.Binding.{own_binding}
 use Rattle.text.specs.declared.frames.sizes.TheConstants.{SCHEMES}
@@ -44,7 +44,7 @@ no_state = record {
 
 -- 14, and in a state 15
 abbrev pub is_bad_size : ℕ → Bool
-is_bad_size n = eqb n 0 || ltb PLACES n
+is_bad_size n = n == 0 || nat_lt PLACES n
 
 pub record StateOutcome : Type 0 where
   pub reply : Reply
@@ -61,20 +61,20 @@ fresh_state n =
 
 -- ---- what an image has, by number
 abbrev pub label_at : Image → ℕ → Label
-label_at i l = get_or i.labels l no_label
+label_at i l = slice_index_or i.labels l no_label
 
 abbrev pub entry_at : Image → ℕ → ℕ
-entry_at i h = get_or i.entries (h - 1) 0
+entry_at i h = slice_index i.entries (h - 1)
 
 abbrev pub place_at : State → ℕ → ℕ
-place_at s k = get_or s.places k 0
+place_at s k = slice_index s.places k
 
 -- of the scheme open at a place, the number of its call and the scheme that serves it there
 abbrev pub number_at : State → ℕ → ℕ
-number_at s k = get_or s.numbers k 0
+number_at s k = slice_index s.numbers k
 
 abbrev pub server_at : State → ℕ → ℕ
-server_at s k = get_or s.servers k 0
+server_at s k = slice_index s.servers k
 
 -- as many of each part that a place or a number is looked up in as the type has
 pub record Sized (s : State) : Type 0 where

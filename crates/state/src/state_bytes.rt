@@ -1,5 +1,5 @@
 // A state as the 130 bytes by which C keeps it: taken apart and put together.
-ghost use Rattle.std.specs.Prelude.{◌≡◌, map, ◌+◌, ◌≤◌, length, get_or};
+ghost use Rattle.std.specs.Prelude.{◌≡◌, map, ◌+◌, ◌≤◌, length, slice_index};
 ghost use Rattle.words.specs.lists.Numbers.{range};
 ghost use Rattle.words.specs.lists.Sequences.{written};
 ghost use Rattle.state.specs.Bytes.{serving_in, serving_byte, result_in, result_byte, state_of, bytes_of};
@@ -11,7 +11,7 @@ use text::frames::sizes::SCHEMES;
 // The 32 bytes from byte `from` on, one for each place.
 fn places_from(bytes: [u8; STATE_BYTES], from: usize) -> [u8; PLACES]
     requires { from ≤ SERVERS_FROM }
-    ensures { result ≡ map (λ k. get_or bytes (from + k) 0) (range 0 PLACES) }
+    ensures { result ≡ map (λ k. slice_index bytes (from + k)) (range 0 PLACES) }
 {
     let mut places = [0u8; PLACES];
     for k in 0..PLACES {
@@ -63,7 +63,7 @@ pub fn state_of(bytes: [u8; STATE_BYTES]) -> State
 fn put_places(out: &mut [u8], from: usize, values: [u8; PLACES])
     requires out_len { length out.old ≡ STATE_BYTES }
     requires from_bound { from ≤ SERVERS_FROM }
-    ensures { out.new ≡ written out.old from (map (λ k. get_or values k 0) (range 0 PLACES)) }
+    ensures { out.new ≡ written out.old from (map (λ k. slice_index values k) (range 0 PLACES)) }
 {
     for k in 0..PLACES {
         out[from + k] = values[k];

@@ -1,5 +1,5 @@
 -- Tables that differ in the notes of labels alone: the same frames are in place, with the same fields, and rows end at the same frames.
-use Rattle.std.proofs.Common.{if◌then◌else◌}
+use Rattle.std.proofs.Common.{if◌then◌else◌, nat_lt, nat_le, ◌==◌}
 use Prim.Native.Nat.{ℕ, zero, suc, ◌+◌, ◌*◌, ◌-◌, ◌/◌, ◌≤◌, ◌<◌}
 use mathlib.Core.Bool.{Bool, true, false, ◌&&◌, ◌||◌, not}
 use mathlib.Core.Path.{◌≡◌, refl, sym, ◌∙◌, ap, ap₂}
@@ -7,7 +7,6 @@ use mathlib.Core.Logic.{◌⊎◌, inl, inr}
 use mathlib.Core.List.{List}
 use native.Mathlib.Omega.{arith}
 use lib.Bits.{bit_and}
-use lib.Dec.{leb, ltb, eqb}
 use lib.ListN.{length}
 use borrow.Author.Tests.{le-leb, lt-ltb}
 use Rattle.words.specs.lists.Numbers.{lowest}
@@ -49,8 +48,8 @@ module _ (b c : List ℕ) (S : Alike b c) where
 
   filled-alike : (f k n : ℕ) → 2 ≤ k → k + n ≤ 10 → is_filled c f k n ≡ is_filled b f k n
   filled-alike f k n h l =
-      any-alike (λ j. not (eqb (field c f j) 0)) (λ j. not (eqb (field b f j) 0)) k n
-      (λ j p q. ap (λ (x : ℕ). not (eqb x 0)) (late f j (omega arith) (omega arith)))
+      any-alike (λ j. not (field c f j == 0)) (λ j. not (field b f j == 0)) k n
+      (λ j p q. ap (λ (x : ℕ). not (x == 0)) (late f j (omega arith) (omega arith)))
 
   -- ---- the header
   pub schemes-alike : scheme_count c ≡ scheme_count b
@@ -72,21 +71,21 @@ module _ (b c : List ℕ) (S : Alike b c) where
   unfolding is_bad_header
   header-alike =
       ap₂ ◌||◌ (ap₂ ◌||◌ (ap₂ ◌||◌ (ap₂ ◌||◌
-      (ap (λ (x : ℕ). not (eqb x 15)) (front 0 0 (omega arith) (omega arith)))
+      (ap (λ (x : ℕ). not (x == 15)) (front 0 0 (omega arith) (omega arith)))
       (filled-alike 0 6 4 (omega arith) (omega arith)))
       (handler-alike b c (late 0 5 (omega arith) (omega arith)) schemes-alike))
       (counts-alike b c schemes-alike last-alike count-alike))
-      (ap₂ (λ (m n : ℕ). not (eqb m n)) size-alike (ap₂ ◌+◌ rows-from-alike count-alike))
+      (ap₂ (λ (m n : ℕ). not (m == n)) size-alike (ap₂ ◌+◌ rows-from-alike count-alike))
 
   -- ---- the place of a frame
   pub noted-alike : (f : ℕ) → is_noted c f ≡ is_noted b f
-  noted-alike f = ap₂ (λ (m n : ℕ). leb m f && ltb f n) labels-from-alike rows-from-alike
+  noted-alike f = ap₂ (λ (m n : ℕ). nat_le m f && nat_lt f n) labels-from-alike rows-from-alike
 
   position-alike : (f : ℕ) → position_of c f ≡ position_of b f
   unfolding position_of
   position-alike f =
-      ap₂ (λ (m n : ℕ). if eqb f 0 then header_position
-      else if ltb f m then entry_position f else if ltb f n then label_position (f - m) else row_position (f - n))
+      ap₂ (λ (m n : ℕ). if f == 0 then header_position
+      else if nat_lt f m then entry_position f else if nat_lt f n then label_position (f - m) else row_position (f - n))
       labels-from-alike rows-from-alike
 
   -- ---- labels and rows
@@ -129,7 +128,7 @@ module _ (b c : List ℕ) (S : Alike b c) where
   -- ---- 12
   falling-alike : (k : ℕ) → is_falling c k ≡ is_falling b k
   falling-alike zero = refl
-  falling-alike (suc k) = ap₂ (λ (r s : Row). ltb r.from s.from) (row_alike (suc k)) (row_alike k)
+  falling-alike (suc k) = ap₂ (λ (r s : Row). nat_lt r.from s.from) (row_alike (suc k)) (row_alike k)
 
   -- a frame without a note
   module _ (f : ℕ) (other : is_noted b f ≡ false) where
@@ -139,15 +138,15 @@ module _ (b c : List ℕ) (S : Alike b c) where
     same : (k : ℕ) → k < 10 → field c f k ≡ field b f k
     same k h = S.fields f k h (λ l m. absurd (omega (arith, apart l m)))
 
-    numbered-alike : (kind n : ℕ) → not (eqb (field c f 0) kind && eqb (field c f 1) n) ≡ not (eqb (field b f 0) kind && eqb (field b f 1) n)
-    numbered-alike kind n = ap₂ (λ (x y : ℕ). not (eqb x kind && eqb y n)) (same 0 (omega arith)) (same 1 (omega arith))
+    numbered-alike : (kind n : ℕ) → not (field c f 0 == kind && field c f 1 == n) ≡ not (field b f 0 == kind && field b f 1 == n)
+    numbered-alike kind n = ap₂ (λ (x y : ℕ). not (x == kind && y == n)) (same 0 (omega arith)) (same 1 (omega arith))
 
     stray-frame-alike : (p : Position) → is_stray_frame c f p ≡ is_stray_frame b f p
     stray-frame-alike header_position = refl
     stray-frame-alike (entry_position h) = numbered-alike 16 h
     stray-frame-alike (label_position l) = numbered-alike 17 l
     stray-frame-alike (row_position k) =
-        ap₂ ◌||◌ (ap (λ (x : ℕ). not (eqb x 18)) (same 0 (omega arith))) (falling-alike k)
+        ap₂ ◌||◌ (ap (λ (x : ℕ). not (x == 18)) (same 0 (omega arith))) (falling-alike k)
 
     pub stray-alike : is_stray c f ≡ is_stray b f
     unfolding is_stray
@@ -164,7 +163,7 @@ module _ (b c : List ℕ) (S : Alike b c) where
   -- ---- 13
   within-alike : (h l : ℕ) → is_within c h l ≡ is_within b h l
   within-alike h l =
-      ap₂ (λ (m : ℕ) (x : Label). leb l m && (eqb x.owner h || eqb l (if eqb h 1 then 0 else 1))) last-alike (label-alike l)
+      ap₂ (λ (m : ℕ) (x : Label). nat_le l m && (x.owner == h || l == (if h == 1 then 0 else 1))) last-alike (label-alike l)
 
   entry-alike : (h : ℕ) → is_bad_entry c h ≡ is_bad_entry b h
   entry-alike h =
@@ -175,16 +174,16 @@ module _ (b c : List ℕ) (S : Alike b c) where
   bad-label-alike zero = ap (λ (x : Label). is_bad_label b zero x) (label-alike zero)
   bad-label-alike (suc zero) = ap (λ (x : Label). is_bad_label b (suc zero) x) (label-alike (suc zero))
   bad-label-alike (suc (suc l)) =
-      ap₂ (λ (n : ℕ) (x : Label). ltb 2 x.kind || eqb x.owner 0 || ltb n x.owner || ltb 2 x.result
-      || (if eqb x.kind 0 then not (eqb x.called 0) else ltb x.called 2 || ltb n x.called)) schemes-alike (label-alike (suc (suc l)))
+      ap₂ (λ (n : ℕ) (x : Label). nat_lt 2 x.kind || x.owner == 0 || nat_lt n x.owner || nat_lt 2 x.result
+      || (if x.kind == 0 then not (x.called == 0) else nat_lt x.called 2 || nat_lt n x.called)) schemes-alike (label-alike (suc (suc l)))
 
   bad-bit-alike : (r : Row) → has_bad_bit c r ≡ has_bad_bit b r
-  bad-bit-alike r = ap (λ (x : Label). ltb 2 r.bit || (ltb r.bit 2 && not (eqb x.kind 2))) (label-alike r.from)
+  bad-bit-alike r = ap (λ (x : Label). nat_lt 2 r.bit || (nat_lt r.bit 2 && not (x.kind == 2))) (label-alike r.from)
 
   bad-row-alike : (f : ℕ) (r : Row) → is_bad_row c f r ≡ is_bad_row b f r
   bad-row-alike f r =
       ap₂ ◌||◌ (ap₂ ◌||◌ (ap₂ ◌||◌
-      (ap (λ (m : ℕ). ltb r.from 2 || ltb m r.from || not (eqb (bit_and r.values r.care) r.values)) last-alike)
+      (ap (λ (m : ℕ). nat_lt r.from 2 || nat_lt m r.from || not (bit_and r.values r.care == r.values)) last-alike)
       (bad-bit-alike r))
       (ap (λ (x : Label). not (is_within c x.owner r.next)) (label-alike r.from)
       ∙ ap not (within-alike (label_in b r.from).owner r.next)))
@@ -205,4 +204,4 @@ module _ (b c : List ℕ) (S : Alike b c) where
   first-alike l =
       ap₂ (λ (i n : ℕ). lowest (is_row_reached c l) i (n - i)) rows-from-alike size-alike
       ∙ lowest-alike (is_row_reached c l) (is_row_reached b l) (rows_from b) (size b - rows_from b)
-      (λ f p q. ap (λ (x : ℕ). leb l x) (behind f 1 p (omega arith)))
+      (λ f p q. ap (λ (x : ℕ). nat_le l x) (behind f 1 p (omega arith)))

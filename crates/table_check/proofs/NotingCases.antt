@@ -4,11 +4,11 @@ use mathlib.Core.Path.{◌≡◌, sym, ◌∙◌, ap, ap₂}
 use mathlib.Core.List.{List}
 use Prim.Native.Nat.{ℕ, ◌+◌, ◌*◌, ◌-◌, ◌≤◌, ◌<◌}
 use native.Mathlib.Omega.{arith}
-use lib.Dec.{eqb}
+use Rattle.std.proofs.Common.{nat_eq, ◌==◌}
 use borrow.Author.Tests.{eq-eqb, ne_eqb}
 use Rattle.words.specs.lists.Numbers.{lowest}
 use Rattle.words.proofs.lists.Searches.{Searching, searching-found, searching-next, lowest-inside, lowest-above, lowest-from}
-use Rattle.words.proofs.lists.Searches.{lowest-none, lowest_start}
+use Rattle.words.proofs.lists.Searches.{lowest-none, lowest-start}
 use Rattle.text.specs.frames.Frame.{size, field}
 use Rattle.image.specs.Decode.{labels_from, rows_from}
 use Rattle.image_check.proofs.image_faults.FaultSearch.{part-past}
@@ -16,7 +16,7 @@ use Rattle.tables.specs.Prepare.{is_row_reached, first_frame}
 use Rattle.tables.specs.Table.{noted_in}
 use Rattle.tables.proofs.NotingCases.{below_more}
 use Rattle.table_check.specs.TableCheck.{is_noted, is_misnoted}
-use Rattle.table_check.proofs.PlacingCases.{noted_yes, noted_before, noted_behind}
+use Rattle.table_check.proofs.PlacingCases.{noted-yes, noted-before, noted-behind}
 
 -- the loop has come to frame f, and no row before frame end leaves a label from that of f on
 pub record Noting (b : List ℕ) (n f end : ℕ) : Type 0 where
@@ -29,18 +29,18 @@ pub record Noting (b : List ℕ) (n f end : ℕ) : Type 0 where
 
 module _ (b : List ℕ) (n : ℕ) (all : n ≡ size b) (fits : rows_from b ≤ n) where
   unnoted-false : (f : ℕ) → is_noted b f ≡ false → is_misnoted b f ≡ false
-  unnoted-false f e = ap (λ (x : Bool). x && not (eqb (noted_in b (f - labels_from b)) (first_frame b (f - labels_from b + 1)))) e
+  unnoted-false f e = ap (λ (x : Bool). x && not (noted_in b (f - labels_from b) == first_frame b (f - labels_from b + 1))) e
 
   pub noting-first : (f end : ℕ) → f ≡ labels_from b → end ≡ rows_from b → Noting b n f end
   noting-first f end is last =
       let none : lowest (is_misnoted b) 0 (f - 0) ≡ f =
-      lowest-none (is_misnoted b) 0 (f - 0) (λ k l. unnoted-false (0 + k) (noted_before b (0 + k) (omega arith))) ∙ omega arith in
+      lowest-none (is_misnoted b) 0 (f - 0) (λ k l. unnoted-false (0 + k) (noted-before b (0 + k) (omega arith))) ∙ omega arith in
       record {
         low = omega arith;
         high = omega arith;
         search = record {
           inside = omega arith;
-          left = part-past (is_misnoted b) 0 f n f (omega arith) (omega arith) (sym none) (omega arith) ∙ lowest_start (is_misnoted b) n;
+          left = part-past (is_misnoted b) 0 f n f (omega arith) (omega arith) (sym none) (omega arith) ∙ lowest-start (is_misnoted b) n;
         };
         behind = omega arith;
         inside = omega arith;
@@ -57,10 +57,10 @@ module _ (b : List ℕ) (n : ℕ) (all : n ≡ size b) (fits : rows_from b ≤ n
       noted-is = read
           ∙ ap (λ (m : ℕ). field b m 0 + field b m 1 * 256) (let q : f ≡ labels_from b + (f - labels_from b) = omega (arith, N.low) in q)
 
-      tested : (x : Bool) → eqb note next ≡ x → is_misnoted b f ≡ not x
+      tested : (x : Bool) → (note == next) ≡ x → is_misnoted b f ≡ not x
       tested x t =
-          ap₂ (λ (y z : Bool). y && not z) (noted_yes b f N.low inside)
-          (ap₂ eqb (sym noted-is) (sym first-is) ∙ t)
+          ap₂ (λ (y z : Bool). y && not z) (noted-yes b f N.low inside)
+          (ap₂ nat_eq (sym noted-is) (sym first-is) ∙ t)
 
       pub noting-found : (note ≡ next → ⊥) → f ≡ lowest (is_misnoted b) 0 n
       noting-found other =
@@ -83,6 +83,6 @@ module _ (b : List ℕ) (n : ℕ) (all : n ≡ size b) (fits : rows_from b ≤ n
 
   pub noting-over : (f end : ℕ) → Noting b n f end → rows_from b ≤ f → n ≡ lowest (is_misnoted b) 0 n
   noting-over f end N h =
-      sym (lowest-none (is_misnoted b) f (n - f) (λ k l. unnoted-false (f + k) (noted_behind b (f + k) (omega arith)))
+      sym (lowest-none (is_misnoted b) f (n - f) (λ k l. unnoted-false (f + k) (noted-behind b (f + k) (omega arith)))
       ∙ (let q : f + (n - f) ≡ n = omega (arith, N.search.inside) in q))
       ∙ N.search.left

@@ -4,20 +4,20 @@ use mathlib.Core.Bool.{Bool, true, false, not}
 use mathlib.Core.List.{List, [], ◌∷◌}
 use Prim.Native.Nat.{ℕ, ◌+◌, ◌%◌, ◌<◌}
 use native.Mathlib.Omega.{arith}
-use lib.Dec.{eqb}
+use Rattle.std.proofs.Common.{◌==◌}
 use lib.ListN.{length}
 use borrow.Author.Tests.{eqb-true, eq-eqb}
-use Rattle.words.proofs.lists.Tests.{or_l, or_r, or-none, not-false}
+use Rattle.words.proofs.lists.Tests.{or-l, or-r, or-none, not-false}
 use Rattle.text.specs.frames.Frame.{size}
 use Rattle.text.specs.frames.Verdict.{Verdict, fine, next, when, at_lowest}
-use Rattle.text.proofs.frames.Verdicts.{next-first, next-rest, when-fine, at-lowest-fine, at_none}
+use Rattle.text.proofs.frames.Verdicts.{next-first, next-rest, when-fine, at-lowest-fine, at-none}
 use Rattle.image.specs.Decode.{row_count, rows_from}
 use Rattle.image.specs.Check.{is_bad_header, has_bad_content}
 use Rattle.image_check.proofs.TableCases.{header-size}
 use Rattle.table_check.specs.TableCheck.{is_no_table, is_displaced, is_misnoted, prepared_verdict}
 
 pub header-tells : (b : List ℕ) → is_no_table b ≡ false → size b ≡ rows_from b + row_count b
-header-tells b e = header-size b (or_r (not (eqb (length b % 10) 0)) (is_bad_header b) e)
+header-tells b e = header-size b (or-r (not (length b % 10 == 0)) (is_bad_header b) e)
 
 pub empty-no-table : (b : List ℕ) → length b ≡ 0 → true ≡ is_no_table b
 unfolding is_bad_header
@@ -51,9 +51,9 @@ module _ (b : List ℕ) where
       let frames : frames_tried ≡ fine = next-rest (when 11 (is_no_table b)) (λ _. frames_tried) e in
       let fields : fields_tried ≡ fine = next-rest (at_lowest 12 (is_displaced b) (size b)) (λ _. fields_tried) frames in
       record {
-        whole = eqb-true (length b % 10) 0 (not-false (eqb (length b % 10) 0)
-            (or_l (not (eqb (length b % 10) 0)) (is_bad_header b) header));
-        header = or_r (not (eqb (length b % 10) 0)) (is_bad_header b) header;
+        whole = eqb-true (length b % 10) 0 (not-false (length b % 10 == 0)
+            (or-l (not (length b % 10 == 0)) (is_bad_header b) header));
+        header = or-r (not (length b % 10 == 0)) (is_bad_header b) header;
         placed = at-lowest-fine 12 (is_displaced b) (size b)
             (next-first (at_lowest 12 (is_displaced b) (size b)) (λ _. fields_tried) frames);
         contents = at-lowest-fine 13 (has_bad_content b) (size b)
@@ -66,7 +66,7 @@ module _ (b : List ℕ) where
   unfolding prepared_verdict fields_tried frames_tried notes_tried
   passed-fine p =
       ap (λ (t : Bool). next (when 11 t) λ _. frames_tried)
-      (or-none (not (eqb (length b % 10) 0)) (is_bad_header b) (ap not (eq-eqb (length b % 10) 0 p.whole)) p.header)
-      ∙ ap (λ (v : Verdict). next v λ _. fields_tried) (at_none 12 (is_displaced b) (size b) p.placed)
-      ∙ ap (λ (v : Verdict). next v λ _. notes_tried) (at_none 13 (has_bad_content b) (size b) p.contents)
-      ∙ at_none 13 (is_misnoted b) (size b) p.notes
+      (or-none (not (length b % 10 == 0)) (is_bad_header b) (ap not (eq-eqb (length b % 10) 0 p.whole)) p.header)
+      ∙ ap (λ (v : Verdict). next v λ _. fields_tried) (at-none 12 (is_displaced b) (size b) p.placed)
+      ∙ ap (λ (v : Verdict). next v λ _. notes_tried) (at-none 13 (has_bad_content b) (size b) p.contents)
+      ∙ at-none 13 (is_misnoted b) (size b) p.notes

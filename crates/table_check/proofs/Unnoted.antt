@@ -6,8 +6,8 @@ use mathlib.Core.Logic.{⊎_elim}
 use mathlib.Core.List.{List, map}
 use native.Mathlib.Decide.{ℕ_discrete}
 use native.Mathlib.Omega.{arith}
-use lib.Dec.{eqb}
-use lib.ListN.{length, get_or, get_or-eq_default}
+use Rattle.std.proofs.Common.{◌==◌, slice_index}
+use lib.ListN.{length, get_or-eq_default}
 use lib.Seq.{ext_get_or}
 use borrow.Author.Tests.{eq-eqb, eqb-true}
 use Rattle.words.specs.lists.Numbers.{range}
@@ -15,7 +15,7 @@ use Rattle.words.proofs.lists.Tests.{split, and-false, not-false}
 use Rattle.words.proofs.lists.Ranges.{length-map-range, get_or-map-range}
 use Rattle.text.specs.frames.Frame.{size, field, contents, text_of}
 use Rattle.text.specs.frames.Verdict.{Verdict, fine, next, when, at_lowest}
-use Rattle.text.proofs.frames.Verdicts.{at_none}
+use Rattle.text.proofs.frames.Verdicts.{at-none}
 use Rattle.text.proofs.frames.Contents.{text_of-fine, text_of-contents}
 use Rattle.image.specs.Decode.{last_label, row_count, labels_from, rows_from}
 use Rattle.image.specs.Check.{Position, header_position, entry_position, label_position, row_position, position_of}
@@ -28,7 +28,7 @@ use Rattle.tables.proofs.Noted.{noted-length, noted-front, noted-late, noted-row
 use Rattle.table_check.specs.TableCheck.{is_noted}
 use Rattle.table_check.proofs.Alike.{Alike, size-alike, last-alike, labels-from-alike, rows-from-alike, header-alike, stray-alike}
 use Rattle.table_check.proofs.Alike.{content-alike, first-alike}
-use Rattle.table_check.proofs.PlacingCases.{noted_yes, noted_before, noted_behind, at_label, at_row, at_header, at_entry}
+use Rattle.table_check.proofs.PlacingCases.{noted-yes, noted-before, noted-behind, at-label, at-row, at-header, at-entry}
 use Rattle.table_check.proofs.Passed.{Passed}
 
 -- byte k of a frame of an image, where a table has x
@@ -50,7 +50,7 @@ byte_kept (row_position r) k x h = refl
 
 module _ (b : List ℕ) where
   unnoted_byte : ℕ → ℕ
-  unnoted_byte p = image_byte (position_of b (p / 10)) (p % 10) (get_or b p 0)
+  unnoted_byte p = image_byte (position_of b (p / 10)) (p % 10) (slice_index b p)
 
   pub unnoted : List ℕ
   unnoted = map unnoted_byte (range 0 (length b))
@@ -74,13 +74,13 @@ module _ (b : List ℕ) where
       ⊎_elim (λ (m : f < labels_from b). go (ℕ_discrete f 0) m)
       (λ (m : labels_from b ≤ f).
       ⊎_elim (λ (n : f < rows_from b). byte_kept (position_of b f) k x (c m n))
-      (λ (n : rows_from b ≤ f). ap (λ (p : Position). image_byte p k x) (at_row b f n))
+      (λ (n : rows_from b ≤ f). ap (λ (p : Position). image_byte p k x) (at-row b f n))
       (split f (rows_from b)))
       (split f (labels_from b))
     where
       go : Dec (f ≡ 0) → f < labels_from b → image_byte (position_of b f) k x ≡ x
-      go (yes e) m = ap (λ (p : Position). image_byte p k x) (at_header b f e)
-      go (no e) m = ap (λ (p : Position). image_byte p k x) (at_entry b f e m)
+      go (yes e) m = ap (λ (p : Position). image_byte p k x) (at-header b f e)
+      go (no e) m = ap (λ (p : Position). image_byte p k x) (at-entry b f e m)
 
   pub unnoted-alike : Alike b unnoted
   unnoted-alike = record {
@@ -92,7 +92,7 @@ module _ (b : List ℕ) where
         (split (10 * f + k) (length b));
   }
 
-  module _ (good : Passed b) (bytes : (k : ℕ) → get_or b k 0 < 256) where
+  module _ (good : Passed b) (bytes : (k : ℕ) → slice_index b k < 256) where
     abbrev alike : Alike b unnoted
     alike = unnoted-alike
 
@@ -103,17 +103,17 @@ module _ (b : List ℕ) where
     module _ (f : ℕ) (low : labels_from b ≤ f) (high : f < rows_from b) where
       kind_back : field unnoted f 0 ≡ 17
       kind_back =
-          unnoted-field f 0 (omega arith) (omega (arith, rows-fit)) ∙ ap (λ (p : Position). image_byte p 0 (field b f 0)) (at_label b f low high)
+          unnoted-field f 0 (omega arith) (omega (arith, rows-fit)) ∙ ap (λ (p : Position). image_byte p 0 (field b f 0)) (at-label b f low high)
 
       number_back : field unnoted f 1 ≡ f - labels_from b
       number_back =
-          unnoted-field f 1 (omega arith) (omega (arith, rows-fit)) ∙ ap (λ (p : Position). image_byte p 1 (field b f 1)) (at_label b f low high)
+          unnoted-field f 1 (omega arith) (omega (arith, rows-fit)) ∙ ap (λ (p : Position). image_byte p 1 (field b f 1)) (at-label b f low high)
 
       label-placed : is_stray unnoted f ≡ false
       unfolding is_stray
       label-placed =
           ap (is_stray_frame unnoted f)
-          (at_label unnoted f (omega (arith, labels-from-alike b unnoted alike)) (omega (arith, rows-from-alike b unnoted alike)))
+          (at-label unnoted f (omega (arith, labels-from-alike b unnoted alike)) (omega (arith, rows-from-alike b unnoted alike)))
           ∙ ap not (ap₂ ◌&&◌ (eq-eqb (field unnoted f 0) 17 kind_back)
           (eq-eqb (field unnoted f 1) (f - labels_from unnoted) (omega (arith, number_back, labels-from-alike b unnoted alike))))
 
@@ -123,9 +123,9 @@ module _ (b : List ℕ) where
 
     none-stray : (f : ℕ) → f < size b → is_stray unnoted f ≡ false
     none-stray f h =
-        ⊎_elim (λ (m : f < labels_from b). other-placed f h (noted_before b f m))
+        ⊎_elim (λ (m : f < labels_from b). other-placed f h (noted-before b f m))
         (λ (m : labels_from b ≤ f).
-        ⊎_elim (λ (n : f < rows_from b). label-placed f m n) (λ (n : rows_from b ≤ f). other-placed f h (noted_behind b f n))
+        ⊎_elim (λ (n : f < rows_from b). label-placed f m n) (λ (n : rows_from b ≤ f). other-placed f h (noted-behind b f n))
         (split f (rows_from b)))
         (split f (labels_from b))
 
@@ -135,8 +135,8 @@ module _ (b : List ℕ) where
         ap (λ (t : Bool). next (when 11 t) λ _. next (at_lowest 12 (is_stray unnoted) (size unnoted)) λ _.
         at_lowest 13 (has_bad_content unnoted) (size unnoted)) (header-alike b unnoted alike ∙ good.header)
         ∙ ap (λ (v : Verdict). next v λ _. at_lowest 13 (has_bad_content unnoted) (size unnoted))
-        (at_none 12 (is_stray unnoted) (size unnoted) (λ f h. none-stray f (omega (arith, size-alike b unnoted alike))))
-        ∙ at_none 13 (has_bad_content unnoted) (size unnoted)
+        (at-none 12 (is_stray unnoted) (size unnoted) (λ f h. none-stray f (omega (arith, size-alike b unnoted alike))))
+        ∙ at-none 13 (has_bad_content unnoted) (size unnoted)
         (λ f h. content-alike b unnoted alike f ∙ good.contents f (omega (arith, size-alike b unnoted alike)))
 
     -- ---- the text of what it holds then
@@ -144,7 +144,7 @@ module _ (b : List ℕ) where
     byte-small f k x h =
         ⊎_elim (λ (m : f < labels_from b). plain (omega arith))
         (λ (m : labels_from b ≤ f).
-        ⊎_elim (λ (n : f < rows_from b). subst (λ (p : Position). image_byte p k x < 256) (sym (at_label b f m n)) (label k m n))
+        ⊎_elim (λ (n : f < rows_from b). subst (λ (p : Position). image_byte p k x < 256) (sym (at-label b f m n)) (label k m n))
         (λ (n : rows_from b ≤ f). plain (omega arith))
         (split f (rows_from b)))
         (split f (labels_from b))
@@ -157,12 +157,12 @@ module _ (b : List ℕ) where
         label (suc zero) m n = omega (arith, bytes 2)
         label (suc (suc k)) m n = h
 
-    unnoted-bytes : (p : ℕ) → get_or unnoted p 0 < 256
+    unnoted-bytes : (p : ℕ) → slice_index unnoted p < 256
     unfolding unnoted unnoted_byte
     unnoted-bytes p =
         ⊎_elim (λ (l : p < length b).
         subst (λ (x : ℕ). x < 256) (sym (get_or-map-range unnoted_byte 0 0 (length b) p l))
-        (byte-small ((0 + p) / 10) ((0 + p) % 10) (get_or b (0 + p) 0) (bytes (0 + p))))
+        (byte-small ((0 + p) / 10) ((0 + p) % 10) (slice_index b (0 + p)) (bytes (0 + p))))
         (λ (l : length b ≤ p). subst (λ (x : ℕ). x < 256) (sym (get_or-eq_default unnoted 0 (omega (arith, unnoted-length)))) (omega arith))
         (split p (length b))
 
@@ -188,9 +188,9 @@ module _ (b : List ℕ) where
       note_is =
           ap (λ (n : ℕ). field b n 0 + field b n 1 * 256) (let e : f ≡ labels_from b + label_of = omega arith in e)
           ∙ eqb-true (noted_in b label_of) (first_frame b (label_of + 1))
-          (not-false (eqb (noted_in b label_of) (first_frame b (label_of + 1)))
-          (and-false (is_noted b f) (not (eqb (noted_in b label_of) (first_frame b (label_of + 1))))
-          (good.notes f (omega (arith, rows-fit))) (noted_yes b f low high)))
+          (not-false (noted_in b label_of == first_frame b (label_of + 1))
+          (and-false (is_noted b f) (not (noted_in b label_of == first_frame b (label_of + 1)))
+          (good.notes f (omega (arith, rows-fit))) (noted-yes b f low high)))
 
       again : first_frame unnoted (label_of + 1) ≡ field b f 0 + field b f 1 * 256
       again = first-alike b unnoted alike (label_of + 1) ∙ sym note_is
@@ -232,6 +232,6 @@ module _ (b : List ℕ) where
     noted-back =
         ext_get_or 0 (noted_table unnoted) b (noted-length unnoted ∙ unnoted-length)
         (λ p h.
-        ap (λ (i : ℕ). get_or (noted_table unnoted) i 0) (let e : p ≡ 10 * (p / 10) + p % 10 = omega arith in e)
+        ap (λ (i : ℕ). slice_index (noted_table unnoted) i) (let e : p ≡ 10 * (p / 10) + p % 10 = omega arith in e)
         ∙ noted_field (p / 10) (p % 10) (omega arith)
-        ∙ ap (λ (i : ℕ). get_or b i 0) (let e : 10 * (p / 10) + p % 10 ≡ p = omega arith in e))
+        ∙ ap (λ (i : ℕ). slice_index b i) (let e : 10 * (p / 10) + p % 10 ≡ p = omega arith in e))

@@ -9,9 +9,10 @@ use image::{labels_from, rows_from};
 use tables::preparing::skip_below;
 use tables::row_ranges::low_pair;
 
-// The lowest frame of a label that does not note where its rows end, or how many frames there are, n.
+/// The lowest frame of a label that does not note where its rows end, or how many frames there are, n.
 pub fn lowest_misnoted(table: &[u8], n: usize) -> usize
-    requires { (n ≡ size table.now) × (rows_from table.now ≤ n) }
+    requires all_frames { n ≡ size table.now }
+    requires rows_inside { rows_from table.now ≤ n }
     ensures { result ≡ lowest (is_misnoted table.now) 0 n }
 {
     let labels = labels_from(table);

@@ -30,7 +30,8 @@ fn displaced(table: &[u8], f: usize) -> bool
 
 // 13, of the fields of one frame
 fn bad_content(table: &[u8], f: usize) -> bool
-    requires { (rows_from table.now ≤ size table.now) × (f < size table.now) }
+    requires rows_inside { rows_from table.now ≤ size table.now }
+    requires inside { f < size table.now }
     ensures { result ≡ has_bad_content table.now f }
 {
     if f == 0 {
@@ -47,7 +48,7 @@ fn bad_content(table: &[u8], f: usize) -> bool
     bad_row(table, f - rows)
 }
 
-// The lowest of n frames that stands in a wrong place, or n.
+/// The lowest of n frames that stands in a wrong place, or n.
 pub fn lowest_displaced(table: &[u8], n: usize) -> usize
     requires { n ≤ size table.now }
     ensures { result ≡ lowest (is_displaced table.now) 0 n }
@@ -62,9 +63,10 @@ pub fn lowest_displaced(table: &[u8], n: usize) -> usize
     f
 }
 
-// The lowest of n frames with a field that no image has, or n.
+/// The lowest of n frames with a field that no image has, or n.
 pub fn lowest_bad(table: &[u8], n: usize) -> usize
-    requires { (rows_from table.now ≤ size table.now) × (n ≤ size table.now) }
+    requires rows_inside { rows_from table.now ≤ size table.now }
+    requires inside { n ≤ size table.now }
     ensures { result ≡ lowest (has_bad_content table.now) 0 n }
 {
     let mut f: usize = 0;

@@ -1,6 +1,6 @@
 -- The frames at which the rows of each label of an accepted table begin:
 -- they follow one another, and between two of them stand rows of one label.
-use Rattle.std.proofs.Common.{ℕ, ◌+◌, ◌-◌, ◌≤◌, ◌<◌, ◌≡◌, ap, List, arith, get_or, leb-true, leb-false, le-leb}
+use Rattle.std.proofs.Common.{ℕ, ◌+◌, ◌-◌, ◌≤◌, ◌<◌, ◌≡◌, ap, List, arith, leb-true, leb-false, le-leb, slice_index}
 use borrow.Author.Tests.{lt-leb}
 use Rattle.std.proofs.lemmas.Grind.{common_steps}
 use Rattle.words.specs.lists.Numbers.{lowest}
@@ -16,7 +16,7 @@ use Rattle.image.specs.inner.Sound.{SoundRow}
 use Rattle.image.proofs.Accepted.{rows-count, labels-count, counted, accepted-sound}
 use Rattle.image.proofs.Rising.{from-read, rises-on}
 use Rattle.tables.specs.Prepare.{is_row_reached, first_frame}
-use Rattle.tables.proofs.Noted.{rows_inside}
+use Rattle.tables.proofs.Noted.{rows-inside}
 use Rattle.tables.proofs.NotingCases.{below_more}
 
 module _ (b : List ℕ) (ok : table_verdict b ≡ fine) where
@@ -24,16 +24,16 @@ module _ (b : List ℕ) (ok : table_verdict b ≡ fine) where
   first-low l = lowest-above (is_row_reached b l) (rows_from b) (size b - rows_from b)
 
   pub first-inside : (l : ℕ) → first_frame b l ≤ size b
-  first-inside l = lowest-inside (is_row_reached b l) (rows_from b) (size b) (rows_inside b ok)
+  first-inside l = lowest-inside (is_row_reached b l) (rows_from b) (size b) (rows-inside b ok)
 
   pub first-rises : (l : ℕ) → first_frame b l ≤ first_frame b (l + 1)
   first-rises l =
       let on : lowest (is_row_reached b (l + 1)) (first_frame b l) (size b - first_frame b l) ≡ first_frame b (l + 1) =
-      lowest-from (is_row_reached b l) (rows_from b) (size b) (rows_inside b ok) (is_row_reached b (l + 1))
+      lowest-from (is_row_reached b l) (rows_from b) (size b) (rows-inside b ok) (is_row_reached b (l + 1))
       (below_more b l (l + 1) (omega arith)) in
       omega (arith, lowest-above (is_row_reached b (l + 1)) (first_frame b l) (size b - first_frame b l))
 
-  module _ (bytes : (k : ℕ) → get_or b k 0 < 256) where
+  module _ (bytes : (k : ℕ) → slice_index b k < 256) where
     -- 13: a row leaves a label of 2 to M
     from-sound : (f : ℕ) → rows_from b ≤ f → f < size b → (2 ≤ field b f 1) × (field b f 1 ≤ last_label b)
     from-sound f h g =
@@ -43,12 +43,12 @@ module _ (b : List ℕ) (ok : table_verdict b ≡ fine) where
         (omega (arith, is, s.low), omega (arith, is, s.high, labels-count b))
 
     -- from the first frame of label l on no row leaves a lower label, and before it none leaves l or a higher one
-    pub at_least : (l f : ℕ) → first_frame b l ≤ f → f < size b → l ≤ field b f 1
-    at_least l f h g =
+    pub at-least : (l f : ℕ) → first_frame b l ≤ f → f < size b → l ≤ field b f 1
+    at-least l f h g =
         let first : ℕ = first_frame b l in
         let hit : l ≤ field b first 1 =
         leb-true l (field b first 1) (lowest-hit (is_row_reached b l) (rows_from b) (size b - rows_from b)
-        (omega (arith, rows_inside b ok))) in
+        (omega (arith, rows-inside b ok))) in
         let up : field b first 1 ≤ field b (first + (f - first)) 1 =
         rises-on b (counted b ok).all (accepted-sound b ok bytes) first (f - first) (first-low l) (omega arith) in
         let e : field b (first + (f - first)) 1 ≡ field b f 1 = ap (λ (i : ℕ). field b i 1) (omega arith) in
@@ -60,11 +60,11 @@ module _ (b : List ℕ) (ok : table_verdict b ≡ fine) where
     -- frames from the first of label l up to that of the next label hold rows of label l
     pub first-own : (l f : ℕ) → first_frame b l ≤ f → f < first_frame b (l + 1) → field b f 1 ≡ l
     first-own l f h g =
-        omega (arith, at_least l f h (omega (arith, first-inside (l + 1))), below (l + 1) f (omega (arith, first-low l)) g)
+        omega (arith, at-least l f h (omega (arith, first-inside (l + 1))), below (l + 1) f (omega (arith, first-low l)) g)
 
     -- no row leaves a label below 2, and none one above M
-    pub first_two : first_frame b 2 ≡ rows_from b
-    first_two = grind (arith, common_steps, lowest-here, le-leb, split, lowest-over, from-sound)
+    pub first-two : first_frame b 2 ≡ rows_from b
+    first-two = grind (arith, common_steps, lowest-here, le-leb, split, lowest-over, from-sound)
 
     pub first-last : first_frame b (last_label b + 1) ≡ size b
-    first-last = grind (arith, common_steps, rows_inside, lowest-none, lt-leb, from-sound)
+    first-last = grind (arith, common_steps, rows-inside, lowest-none, lt-leb, from-sound)

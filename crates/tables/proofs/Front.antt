@@ -1,12 +1,11 @@
 -- Only the bytes of the frames that the header counts say which image a table holds: bytes behind them are no part of it.
-use Rattle.std.proofs.Common.{if◌then◌else◌, ℕ, zero, suc, ◌+◌, ◌*◌, ◌-◌, ◌≤◌, ◌<◌, min, false, ◌&&◌, ◌||◌, not, ◌≡◌, sym, ◌∙◌, ap, ap₂}
-use Rattle.std.proofs.Common.{subst, List, map, arith, ltb, eqb, length, get_or, take, length-take, get_or-take, le-ltb}
+use Rattle.std.proofs.Common.{ℕ, zero, suc, ◌+◌, ◌*◌, ◌-◌, ◌≤◌, ◌<◌, min, false, ◌&&◌, ◌||◌, not, ◌≡◌, sym, ◌∙◌, ap, ap₂, subst, List, map}
+use Rattle.std.proofs.Common.{arith, take, get_or-take, le-ltb, nat_lt, ◌==◌, slice_index, flat_map}
 use Rattle.std.proofs.lemmas.Grind.{common_steps}
 use Rattle.words.specs.lists.Numbers.{range}
-use Rattle.words.specs.lists.Sequences.{concat_map}
 use Rattle.words.proofs.lists.Joins.{concat-alike}
-use Rattle.words.proofs.lists.Tests.{or_l, or_r, if-false}
-use Rattle.text.specs.frames.Frame.{size, field, pair_at}
+use Rattle.text.specs.frames.Frame.{field, pair_at}
+use Rattle.std.proofs.lemmas.Bool.{cond-false}
 use Rattle.image.specs.Decode.{scheme_count, last_label, row_count, handler_in, labels_from, entry_in}
 use Rattle.image.specs.Check.{has_bad_counts, has_bad_handler}
 use Rattle.tables.specs.Table.{table_end, is_bad_table, label_on, table_label, noted_in, first_on, end_on, row_on, rows_on, table_image}
@@ -19,14 +18,14 @@ end-inside b l = omega arith
 
 -- the handler and H decide whether the handler is good
 pub handler-alike : (b c : List ℕ) → handler_in c ≡ handler_in b → scheme_count c ≡ scheme_count b → has_bad_handler c ≡ has_bad_handler b
-handler-alike b c = ap₂ (λ (h n : ℕ). not (eqb h 0) && (ltb h 2 || ltb n h))
+handler-alike b c = ap₂ (λ (h n : ℕ). not (h == 0) && (nat_lt h 2 || nat_lt n h))
 
 -- and H, M and R whether the counts are
 pub counts-alike : (b c : List ℕ) → scheme_count c ≡ scheme_count b → last_label c ≡ last_label b
     → row_count c ≡ row_count b → has_bad_counts c ≡ has_bad_counts b
 counts-alike b c schemes last rows = grind (arith, common_steps)
 
-module _ (b c : List ℕ) (same : (k : ℕ) → k < 10 * table_end b → get_or c k 0 ≡ get_or b k 0) where
+module _ (b c : List ℕ) (same : (k : ℕ) → k < 10 * table_end b → slice_index c k ≡ slice_index b k) where
   field-same : (f k : ℕ) → f < table_end b → k < 10 → field c f k ≡ field b f k
   field-same f k h g = same (10 * f + k) (omega arith)
 
@@ -46,11 +45,11 @@ module _ (b c : List ℕ) (same : (k : ℕ) → k < 10 * table_end b → get_or 
   handler-same : handler_in c ≡ handler_in b
   handler-same = field-same 0 5 (omega arith) (omega arith)
 
-  pub end_same : table_end c ≡ table_end b
-  end_same = omega (arith, schemes-same, last-same, rows_same)
+  pub end-same : table_end c ≡ table_end b
+  end-same = omega (arith, schemes-same, last-same, rows_same)
 
-  pub counts_same : has_bad_counts c ≡ has_bad_counts b
-  counts_same = counts-alike b c schemes-same last-same rows_same
+  pub counts-same : has_bad_counts c ≡ has_bad_counts b
+  counts-same = counts-alike b c schemes-same last-same rows_same
 
   pub bad-handler-same : has_bad_handler c ≡ has_bad_handler b
   bad-handler-same = handler-alike b c handler-same schemes-same
@@ -65,14 +64,14 @@ module _ (b c : List ℕ) (same : (k : ℕ) → k < 10 * table_end b → get_or 
   label_same (suc (suc l)) h = grind (arith, common_steps, schemes-same, label-field)
 
   kind-same : (l : ℕ) → l ≤ last_label b → (table_label c l).kind ≡ (table_label b l).kind
-  kind-same l h = grind (arith, common_steps, le-ltb, if-false, last-same, label_same)
+  kind-same l h = grind (arith, common_steps, le-ltb, cond-false, last-same, label_same)
 
   -- ---- the rows of one label
   noted-same : (l : ℕ) → l ≤ last_label b → noted_in c l ≡ noted_in b l
   noted-same l h = ap₂ (λ (x y : ℕ). x + y * 256) (label-field l 0 h (omega arith)) (label-field l 1 h (omega arith))
 
   end-on-same : (l : ℕ) → l ≤ last_label b → end_on c l ≡ end_on b l
-  end-on-same l h = ap₂ (λ (n e : ℕ). min n e) (noted-same l h) end_same
+  end-on-same l h = ap₂ (λ (n e : ℕ). min n e) (noted-same l h) end-same
 
   row_same : (l f : ℕ) → l ≤ last_label b → f < table_end b → row_on c l f ≡ row_on b l f
   row_same l f g h = grind (arith, common_steps, field-same, pair_same, kind-same)
@@ -92,30 +91,18 @@ module _ (b c : List ℕ) (same : (k : ℕ) → k < 10 * table_end b → get_or 
       let l : map (label_on c) (range 0 (last_label c + 1)) ≡ map (label_on b) (range 0 (last_label b + 1)) =
       ap (λ (n : ℕ). map (label_on c) (range 0 (n + 1))) last-same
       ∙ map-alike (label_on c) (label_on b) 0 (last_label b + 1) (λ k p q. label_same k (omega arith)) in
-      let r : concat_map (rows_on c) (range 2 (last_label c - 1)) ≡ concat_map (rows_on b) (range 2 (last_label b - 1)) =
-      ap (λ (n : ℕ). concat_map (rows_on c) (range 2 (n - 1))) last-same
+      let r : flat_map (rows_on c) (range 2 (last_label c - 1)) ≡ flat_map (rows_on b) (range 2 (last_label b - 1)) =
+      ap (λ (n : ℕ). flat_map (rows_on c) (range 2 (n - 1))) last-same
       ∙ concat-alike (rows_on c) (rows_on b) 2 (last_label b - 1) (λ k p q. rows-on-same k (omega arith)) in
       λ j. record { handler = handler-same j; entries = e j; labels = l j; rows = r j }
 
 -- ---- the front of a table
 module _ (b : List ℕ) (good : is_bad_table b ≡ false) where
-  header-good : (has_bad_counts b || has_bad_handler b) ≡ false
-  header-good = or_l (has_bad_counts b || has_bad_handler b) (ltb (size b) (table_end b)) good
-
-  pub counts-good : has_bad_counts b ≡ false
-  counts-good = or_l (has_bad_counts b) (has_bad_handler b) header-good
-
-  pub handler-good : has_bad_handler b ≡ false
-  handler-good = or_r (has_bad_counts b) (has_bad_handler b) header-good
-
-  pub end-holds : 10 * table_end b ≤ length b
-  end-holds = grind (arith, common_steps)
-
-  pub front_at : (k : ℕ) → k < 10 * table_end b → get_or (front b) k 0 ≡ get_or b k 0
-  front_at k h = get_or-take (10 * table_end b) b k 0 h
+  pub front-at : (k : ℕ) → k < 10 * table_end b → slice_index (front b) k ≡ slice_index b k
+  front-at k h = get_or-take (10 * table_end b) b k 0 h
 
   pub front-image : table_image (front b) ≡ table_image b
-  front-image = alike-image b (front b) front_at
+  front-image = alike-image b (front b) front-at
 
   pub front-whole : Whole (front b)
   front-whole = grind (arith, common_steps)

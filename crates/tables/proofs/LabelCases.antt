@@ -1,11 +1,9 @@
 -- What the functions that read a label of a table hand back, by the bytes that they find.
-use Rattle.std.proofs.Common.{if◌then◌else◌, ℕ, zero, suc, ◌+◌, ◌-◌, ◌≤◌, ◌<◌, ◌≡◌, refl, sym, ◌∙◌, ap, List, arith, ltb}
+use Rattle.std.proofs.Common.{ℕ, ◌+◌, ◌≤◌, ◌≡◌, List, arith}
 use Rattle.std.proofs.lemmas.Grind.{common_steps}
 use Rattle.text.specs.frames.Frame.{field}
-use Rattle.image.specs.Image.{Label}
-use Rattle.image.specs.Decode.{scheme_count, labels_from, label_in}
-use Rattle.tables.specs.Table.{label_on, table_label}
-use Rattle.tables.proofs.TableReads.{label-on}
+use Rattle.image.specs.Decode.{scheme_count, labels_from}
+use Rattle.tables.specs.Table.{table_label}
 use Rattle.tables.specs.inner.Labels.{NumberedLabel}
 
 -- ---- a label with fields of its own

@@ -1,8 +1,7 @@
 -- What preparing an accepted image leaves in front of the buffer:
 -- a table that holds the image that the text does, with its rows in their order.
-use Rattle.std.proofs.Common.{ℕ, ◌+◌, ◌*◌, ◌-◌, ◌≤◌, ◌≡◌, sym, ◌∙◌, ap, subst, List, arith, length, take, Ok}
+use Rattle.std.proofs.Common.{ℕ, ◌+◌, ◌*◌, ◌-◌, ◌≤◌, ◌≡◌, sym, ◌∙◌, ap, subst, List, arith, length, take, Ok, flat_map}
 use Rattle.words.specs.lists.Numbers.{range}
-use Rattle.words.specs.lists.Sequences.{concat_map}
 use Rattle.text.specs.frames.Frame.{contents, frame_count}
 use Rattle.text.specs.frames.Verdict.{fine}
 use Rattle.text.specs.frames.Answer.{Answer}
@@ -20,7 +19,7 @@ use Rattle.tables.proofs.PreparedImage.{noted-whole, prepared-starts, prepared-i
 
 -- the rows of each label begin behind those of the labels below it
 abbrev pub RowsBehind : List ℕ → Type 0
-RowsBehind b = (l : ℕ) → 2 ≤ l → l ≤ last_label b → first_on b l ≡ rows_from b + length (concat_map (rows_on b) (range 2 (l - 2)))
+RowsBehind b = (l : ℕ) → 2 ≤ l → l ≤ last_label b → first_on b l ≡ rows_from b + length (flat_map (rows_on b) (range 2 (l - 2)))
 
 pub record MadeTable (t b : List ℕ) : Type 0 where
   pub accepted : image_verdict t ≡ fine

@@ -1,5 +1,5 @@
 -- A noted table: what stands at each byte of it. It has the length, the header, the fields of labels and the rows of the table itself.
-use Rattle.std.proofs.Common.{ℕ, zero, suc, ◌+◌, ◌*◌, ◌/◌, ◌%◌, ◌≤◌, ◌<◌, ◌≡◌, refl, sym, ◌∙◌, ap, ap₂, List, arith, length, get_or, set}
+use Rattle.std.proofs.Common.{ℕ, zero, suc, ◌+◌, ◌*◌, ◌/◌, ◌%◌, ◌≤◌, ◌<◌, ◌≡◌, refl, sym, ◌∙◌, ap, ap₂, List, arith, length, set, slice_index}
 use Rattle.std.proofs.Common.{length-set, get_or-set_same, get_or-set_other}
 use Rattle.std.proofs.Math.Decide.{ℕ_discrete}
 use Rattle.std.proofs.lemmas.Grind.{common_steps}
@@ -13,8 +13,8 @@ use Rattle.tables.specs.Prepare.{first_frame, noted_to, noted_table}
 use Rattle.tables.specs.Table.{table_end, noted_in}
 
 -- every label of an accepted table has its frame within it
-pub rows_inside : (b : List ℕ) → table_verdict b ≡ fine → rows_from b ≤ size b
-rows_inside b ok = omega (arith, (counted b ok).all)
+pub rows-inside : (b : List ℕ) → table_verdict b ≡ fine → rows_from b ≤ size b
+rows-inside b ok = omega (arith, (counted b ok).all)
 
 -- the place of label l's frame
 abbrev pub place : List ℕ → ℕ → ℕ
@@ -31,7 +31,7 @@ module _ (b : List ℕ) where
   noted-to-length zero = grind (arith, common_steps)
   noted-to-length (suc n) = grind (arith, common_steps, noted-to-length n, length-set)
 
-  pub noted-to-other : (n p : ℕ) → Away b n p → get_or (noted_to b n) p 0 ≡ get_or b p 0
+  pub noted-to-other : (n p : ℕ) → Away b n p → slice_index (noted_to b n) p ≡ slice_index b p
   unfolding noted_to
   noted-to-other zero p a = refl
   noted-to-other (suc n) p a =
@@ -40,17 +40,17 @@ module _ (b : List ℕ) where
       ∙ get_or-set_other (noted_to b n) (place b n) p (first_frame b (n + 1) % 256) 0 (a n (omega arith)).0
       ∙ noted-to-other n p (λ l h. a l (omega arith))
 
-  noted-to-low : (n l : ℕ) → l < n → place b l < length b → get_or (noted_to b n) (place b l) 0 ≡ first_frame b (l + 1) % 256
+  noted-to-low : (n l : ℕ) → l < n → place b l < length b → slice_index (noted_to b n) (place b l) ≡ first_frame b (l + 1) % 256
   unfolding noted_to
   noted-to-low zero l h g = absurd (omega arith)
   noted-to-low (suc n) l h g = go (ℕ_discrete l n) (noted-to-low n l)
     where
-      go : Dec (l ≡ n) → (l < n → place b l < length b → get_or (noted_to b n) (place b l) 0 ≡ first_frame b (l + 1) % 256)
-          → get_or (noted_to b (suc n)) (place b l) 0 ≡ first_frame b (l + 1) % 256
+      go : Dec (l ≡ n) → (l < n → place b l < length b → slice_index (noted_to b n) (place b l) ≡ first_frame b (l + 1) % 256)
+          → slice_index (noted_to b (suc n)) (place b l) ≡ first_frame b (l + 1) % 256
       go (yes e) ih =
           get_or-set_other (set (noted_to b n) (place b n) (first_frame b (n + 1) % 256)) (place b n + 1)
           (place b l) (first_frame b (n + 1) / 256) 0 (λ z. omega arith)
-          ∙ ap (λ (p : ℕ). get_or (set (noted_to b n) (place b n) (first_frame b (n + 1) % 256)) p 0) (ap (place b) e)
+          ∙ ap (λ (p : ℕ). slice_index (set (noted_to b n) (place b n) (first_frame b (n + 1) % 256)) p) (ap (place b) e)
           ∙ get_or-set_same (noted_to b n) (place b n) (first_frame b (n + 1) % 256) 0 (omega (arith, noted-to-length n))
           ∙ ap (λ (m : ℕ). first_frame b (m + 1) % 256) (sym e)
       go (no e) ih =
@@ -59,16 +59,16 @@ module _ (b : List ℕ) where
           ∙ get_or-set_other (noted_to b n) (place b n) (place b l) (first_frame b (n + 1) % 256) 0 (λ z. e (omega arith))
           ∙ ih (omega arith) g
 
-  noted-to-high : (n l : ℕ) → l < n → place b l + 1 < length b → get_or (noted_to b n) (place b l + 1) 0 ≡ first_frame b (l + 1) / 256
+  noted-to-high : (n l : ℕ) → l < n → place b l + 1 < length b → slice_index (noted_to b n) (place b l + 1) ≡ first_frame b (l + 1) / 256
   unfolding noted_to
   noted-to-high zero l h g = absurd (omega arith)
   noted-to-high (suc n) l h g = go (ℕ_discrete l n) (noted-to-high n l)
     where
-      go : Dec (l ≡ n) → (l < n → place b l + 1 < length b → get_or (noted_to b n) (place b l + 1) 0 ≡ first_frame b (l + 1) / 256)
-          → get_or (noted_to b (suc n)) (place b l + 1) 0 ≡ first_frame b (l + 1) / 256
+      go : Dec (l ≡ n) → (l < n → place b l + 1 < length b → slice_index (noted_to b n) (place b l + 1) ≡ first_frame b (l + 1) / 256)
+          → slice_index (noted_to b (suc n)) (place b l + 1) ≡ first_frame b (l + 1) / 256
       go (yes e) ih =
-          ap (λ (p : ℕ). get_or (set (set (noted_to b n) (place b n) (first_frame b (n + 1) % 256))
-          (place b n + 1) (first_frame b (n + 1) / 256)) p 0)
+          ap (λ (p : ℕ). slice_index (set (set (noted_to b n) (place b n) (first_frame b (n + 1) % 256))
+          (place b n + 1) (first_frame b (n + 1) / 256)) p)
           (ap (λ (m : ℕ). place b m + 1) e)
           ∙ get_or-set_same (set (noted_to b n) (place b n) (first_frame b (n + 1) % 256)) (place b n + 1) (first_frame b (n + 1) / 256) 0
           (omega (arith, noted-to-length n, length-set (noted_to b n) (place b n) (first_frame b (n + 1) % 256)))
@@ -93,15 +93,15 @@ module _ (b : List ℕ) where
   noted-size = ap (λ (n : ℕ). n / 10) noted-length
 
   -- a byte that is none of the first two of a label's frame
-  pub noted_other : (p : ℕ) → Away b (last_label b + 1) p → get_or (noted_table b) p 0 ≡ get_or b p 0
-  noted_other = noted-to-other b (last_label b + 1)
+  pub noted-other : (p : ℕ) → Away b (last_label b + 1) p → slice_index (noted_table b) p ≡ slice_index b p
+  noted-other = noted-to-other b (last_label b + 1)
 
   -- a field of the header or of an entry, a byte from 2 on of any frame, a field of a row
   pub noted-front : (f k : ℕ) → f < labels_from b → k < 10 → field (noted_table b) f k ≡ field b f k
-  noted-front f k h g = noted_other (10 * f + k) (λ l m. ((λ z. omega arith), (λ z. omega arith)))
+  noted-front f k h g = noted-other (10 * f + k) (λ l m. ((λ z. omega arith), (λ z. omega arith)))
 
   pub noted-late : (f k : ℕ) → 2 ≤ k → k < 10 → field (noted_table b) f k ≡ field b f k
-  noted-late f k h g = noted_other (10 * f + k) (λ l m. ((λ z. omega arith), (λ z. omega arith)))
+  noted-late f k h g = noted-other (10 * f + k) (λ l m. ((λ z. omega arith), (λ z. omega arith)))
 
   pub noted-row : (f k : ℕ) → rows_from b ≤ f → k < 10 → field (noted_table b) f k ≡ field b f k
   noted-row f k = noted-to-row b (last_label b + 1) f k (omega arith)
@@ -157,11 +157,11 @@ module _ (b : List ℕ) where
   module _ (ok : table_verdict b ≡ fine) (l : ℕ) (h : l ≤ last_label b) where
     pub noted-low : field (noted_table b) (labels_from b + l) 0 ≡ first_frame b (l + 1) % 256
     noted-low =
-        ap (λ (p : ℕ). get_or (noted_table b) p 0) (let e : place b l + 0 ≡ place b l = omega arith in e)
-        ∙ noted-to-low b (last_label b + 1) l (omega arith) (omega (arith, rows_inside b ok))
+        ap (λ (p : ℕ). slice_index (noted_table b) p) (let e : place b l + 0 ≡ place b l = omega arith in e)
+        ∙ noted-to-low b (last_label b + 1) l (omega arith) (omega (arith, rows-inside b ok))
 
     pub noted-high : field (noted_table b) (labels_from b + l) 1 ≡ first_frame b (l + 1) / 256
-    noted-high = noted-to-high b (last_label b + 1) l (omega arith) (omega (arith, rows_inside b ok))
+    noted-high = noted-to-high b (last_label b + 1) l (omega arith) (omega (arith, rows-inside b ok))
 
     pub noted-in : noted_in (noted_table b) l ≡ first_frame b (l + 1)
     noted-in = grind (arith, common_steps, noted-labels-from, noted-low, noted-high)

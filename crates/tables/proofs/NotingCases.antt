@@ -1,5 +1,5 @@
 -- The loop that notes where the rows of each label end: the search for a label goes on where the one before it ended.
-use Rattle.std.proofs.Common.{ℕ, ◌+◌, ◌*◌, ◌-◌, ◌/◌, ◌%◌, ◌≤◌, ◌<◌, false, ◌≡◌, ◌∙◌, ap, List, add-one, arith, length, set, leb-false}
+use Rattle.std.proofs.Common.{ℕ, ◌+◌, ◌-◌, ◌/◌, ◌%◌, ◌≤◌, ◌<◌, false, ◌≡◌, List, add-one, arith, set, leb-false}
 use borrow.Author.Tests.{lt-leb}
 use Rattle.std.proofs.lemmas.Grind.{common_steps}
 use Rattle.words.specs.lists.Numbers.{lowest}
@@ -10,7 +10,7 @@ use Rattle.image.specs.Decode.{last_label, rows_from}
 use Rattle.image.specs.Check.{table_verdict}
 use Rattle.image.proofs.Accepted.{counted}
 use Rattle.tables.specs.Prepare.{is_row_reached, first_frame, noted_to}
-use Rattle.tables.proofs.Noted.{rows_inside, place, noted-to-row}
+use Rattle.tables.proofs.Noted.{rows-inside, place, noted-to-row}
 
 -- a row that leaves no label from l on leaves none from a higher one on
 pub below_more : (b : List ℕ) (l m : ℕ) → l ≤ m → (f : ℕ) → is_row_reached b l f ≡ false → is_row_reached b m f ≡ false
@@ -27,7 +27,7 @@ pub record Notes (b out : List ℕ) (f l : ℕ) : Type 0 where
 module _ (b : List ℕ) (ok : table_verdict b ≡ fine) where
   pub notes-start : (f : ℕ) → f ≡ rows_from b → Notes b b f 0
   unfolding noted_to
-  notes-start f e = grind (arith, common_steps, rows_inside)
+  notes-start f e = grind (arith, common_steps, rows-inside)
 
   module _ {out : List ℕ} {f l : ℕ} (t : Notes b out f l) where
     module _ {end next : ℕ} (all : end ≡ size b) (e : next ≡ lowest (is_row_reached out (l + 1)) f (end - f)) where

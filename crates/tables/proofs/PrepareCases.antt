@@ -18,7 +18,7 @@ use Rattle.text.proofs.frames.Reading.{read-fine}
 use Rattle.text.proofs.frames.Lent.{lent-err, lent-short, lent-done}
 use Rattle.image.specs.Check.{table_verdict, image_verdict}
 use Rattle.image.proofs.Accepted.{image-table}
-use Rattle.image_check.proofs.ReadCases.{good-text, front-contents, front_length}
+use Rattle.image_check.proofs.ReadCases.{good-text, front-contents, front-length}
 use Rattle.tables.specs.Prepare.{noted_table, prepare}
 use Rattle.tables.specs.inner.Prepares.{prepared_buffer, GivesPrepared}
 use Rattle.tables.proofs.Noted.{noted-length}
@@ -61,8 +61,8 @@ module _ (t : List ℕ) (ok : image_verdict t ≡ fine) where
     read-front : take long table ≡ contents t
     read-front = front-contents t old table (frame_count t) (good-text t passes) left
 
-    pub read_length : long ≡ length (take long table)
-    read_length = front_length t old table (frame_count t) (good-text t passes) left
+    pub read-length : long ≡ length (take long table)
+    read-length = front-length t old table (frame_count t) (good-text t passes) left
 
     pub read-accepted : table_verdict (take long table) ≡ fine
     read-accepted = ap table_verdict read-front ∙ image-table t ok

@@ -1,8 +1,7 @@
 -- Lists over ranges of numbers: functions that agree on a range, ranges moved, and ranges that follow one another.
-use Rattle.std.proofs.Common.{ℕ, zero, suc, ◌+◌, ◌-◌, ◌≤◌, ◌<◌, ◌≡◌, refl, sym, ◌∙◌, ap, ap₂, List, ◌∷◌, ◌++◌, map, add-zero, arith}
+use Rattle.std.proofs.Common.{ℕ, zero, suc, ◌+◌, ◌-◌, ◌≤◌, ◌<◌, ◌≡◌, refl, sym, ◌∙◌, ap, ap₂, List, ◌∷◌, ◌++◌, map, add-zero, arith, flat_map}
 use Rattle.std.proofs.lemmas.Grind.{common_steps}
 use Rattle.words.specs.lists.Numbers.{range}
-use Rattle.words.specs.lists.Sequences.{concat_map}
 use Rattle.words.proofs.lists.Ranges.{range-append, map-append}
 
 pub map-alike : {A : Type 0} (f g : ℕ → A) (a n : ℕ) → ((k : ℕ) → a ≤ k → k < a + n → f k ≡ g k) → map f (range a n) ≡ map g (range a n)
@@ -34,8 +33,7 @@ module _ {A : Type 0} (g : ℕ → A) (bound : ℕ → ℕ) (up : (l : ℕ) → 
       ∙ ap (λ (i : ℕ). range a (c - a) ++ range i (e - c)) (let z : a + (c - a) ≡ c = omega arith in z)
       ))
 
-  pub ranges-join : (i n : ℕ) → concat_map (λ l. between (bound l) (bound (l + 1))) (range i n) ≡ between (bound i) (bound (i + n))
-  unfolding concat_map
+  pub ranges-join : (i n : ℕ) → flat_map (λ l. between (bound l) (bound (l + 1))) (range i n) ≡ between (bound i) (bound (i + n))
   ranges-join i zero =
       let e : bound (i + 0) ≡ bound i = ap bound (add-zero i) in
       let z : bound (i + 0) - bound i ≡ 0 = omega arith in

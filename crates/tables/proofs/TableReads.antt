@@ -1,9 +1,10 @@
 -- The image that a table holds, label by label and entry by entry, and which values the fields of a label can have.
-use Rattle.std.proofs.Common.{if◌then◌else◌, ℕ, zero, suc, ◌+◌, ◌-◌, ◌≤◌, ◌<◌, false, ◌≡◌, refl, List, zero-add, arith, ltb, length, get_or}
+use Rattle.std.proofs.Common.{ℕ, ◌+◌, ◌-◌, ◌≤◌, ◌<◌, false, ◌≡◌, refl, List, zero-add, arith, length, nat_lt, slice_index, slice_index_or}
 use Rattle.std.proofs.Common.{lt-ltb, le-ltb}
 use Rattle.std.proofs.Math.ListN.{get_or-eq_default}
 use Rattle.std.proofs.lemmas.Grind.{common_steps}
-use Rattle.words.proofs.lists.Tests.{if-true, if-false, split}
+use Rattle.std.proofs.lemmas.Bool.{cond-true, cond-false}
+use Rattle.words.proofs.lists.Tests.{split}
 use Rattle.words.proofs.lists.Ranges.{length-map-range, get_or-map-range}
 use Rattle.image.specs.Image.{Label, no_label}
 use Rattle.image.specs.Decode.{scheme_count, last_label, row_count, handler_in, entry_in}
@@ -40,16 +41,16 @@ module _ (b : List ℕ) where
   handler-at = refl
 
   pub label-on : (l : ℕ) → l ≤ last_label b → table_label b l ≡ label_on b l
-  label-on l h = if-false (ltb (last_label b) l) no_label (label_on b l) (le-ltb (last_label b) l h)
+  label-on l h = cond-false (nat_lt (last_label b) l) no_label (label_on b l) (le-ltb (last_label b) l h)
 
   pub label-above : (l : ℕ) → last_label b < l → table_label b l ≡ no_label
-  label-above l h = if-true (ltb (last_label b) l) no_label (label_on b l) (lt-ltb (last_label b) l h)
+  label-above l h = cond-true (nat_lt (last_label b) l) no_label (label_on b l) (lt-ltb (last_label b) l h)
 
-  pub label-at : (l : ℕ) → get_or (table_image b).labels l no_label ≡ table_label b l
+  pub label-at : (l : ℕ) → slice_index_or (table_image b).labels l no_label ≡ table_label b l
   unfolding table_image
   label-at l = grind (arith, common_steps, get_or-eq_default, split, get_or-map-range, length-map-range, zero-add, label-on, label-above)
 
-  pub entry-at : has_bad_counts b ≡ false → (h : ℕ) → h ≤ scheme_count b → get_or (table_image b).entries (h - 1) 0 ≡ entry_of b h
+  pub entry-at : has_bad_counts b ≡ false → (h : ℕ) → h ≤ scheme_count b → slice_index (table_image b).entries (h - 1) ≡ entry_of b h
   unfolding table_image
   entry-at e h k = grind (arith, common_steps, get_or-map-range, counts-told)
 

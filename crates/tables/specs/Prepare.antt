@@ -1,5 +1,5 @@
 -- An image prepared for ticks: its table, and in the frame of each label where the rows of that label end.
-use Rattle.std.specs.Prelude.{ℕ, zero, suc, ◌+◌, ◌*◌, ◌-◌, ◌/◌, ◌%◌, Bool, List, leb, set}
+use Rattle.std.specs.Prelude.{ℕ, zero, suc, ◌+◌, ◌*◌, ◌-◌, ◌/◌, ◌%◌, Bool, List, set, nat_le}
 use Rattle.words.specs.lists.Numbers.{lowest}
 use Rattle.text.specs.declared.frames.sizes.TheConstants.{FRAME}
 use Rattle.text.specs.frames.Frame.{size, field, contents}
@@ -10,7 +10,7 @@ use Rattle.image.specs.Check.{image_verdict}
 
 -- the row in frame f leaves label l or one above it; the first such frame, or the end of the table
 abbrev pub is_row_reached : List ℕ → ℕ → ℕ → Bool
-is_row_reached b l f = leb l (field b f FROM)
+is_row_reached b l f = nat_le l (field b f FROM)
 
 abbrev pub first_frame : List ℕ → ℕ → ℕ
 first_frame b l = lowest (is_row_reached b l) (rows_from b) (size b - rows_from b)

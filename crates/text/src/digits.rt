@@ -25,14 +25,14 @@ fn letter_digit(c: u8) -> u8
     NONE
 }
 
-// The digit that a character stands for, or 255. One of the two is 255, which has every bit, so that the other is left.
+/// The digit that a character stands for, 0 to 15, or 255. One of the two is 255, which has every bit, so that the other is left.
 pub fn digit(c: u8) -> u8
     ensures { result ≡ digit_of c }
 {
     numeral_digit(c) & letter_digit(c)
 }
 
-// The character of a digit.
+/// The character of a digit, a capital from ten on.
 pub fn character(d: u8) -> u8
     requires { d < 16 }
     ensures { result ≡ char_of d }
@@ -40,8 +40,8 @@ pub fn character(d: u8) -> u8
     d + 48 + 7 * ((9 < d) as u8)
 }
 
-// The two characters of a byte as one number, the first one low. Both are made at once, a byte of the number each: six more than a digit
-// is sixteen or more where its character is a letter, and letters begin seven places behind the numerals.
+/// The two characters of a byte as one number, the first one low. Both are made at once, a byte of the number each: six more than a digit
+/// is sixteen or more where its character is a letter, and letters begin seven places behind the numerals.
 pub fn characters(b: u8) -> u16
     ensures { result ≡ char_of (b / 16) + 256 * char_of (b % 16) }
 {

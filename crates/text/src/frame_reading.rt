@@ -13,7 +13,7 @@ struct FrameDigits {
     form: bool,
 }
 
-// What 2 and 3 find at a frame: a character that the form excludes, a sum that is not 0 modulo 256.
+/// What 2 and 3 find at a frame: a character that the form excludes, a sum that is not 0 modulo 256.
 #[derive(Drop)]
 pub struct Faults {
     pub form: bool,
@@ -40,8 +40,8 @@ fn read_digits(text: &[u8], from: usize) -> FrameDigits
 // Where the digits of byte k stand.
 fn place_of(k: usize) -> usize
     requires { k < BYTES }
-    ensures value { result ≡ place_of k }
-    ensures result_bound { result + 1 < 32 }
+    ensures place { result ≡ place_of k }
+    ensures both_digits { result + 1 < 32 }
 {
     if k < 8 {
         return 2 * k;
@@ -64,7 +64,7 @@ fn values_of(digits: &[u8]) -> [u8; BYTES]
     values
 }
 
-// Frame f: its eleven bytes and its line feed looked at, the first ten stored.
+/// Reads frame f: its eleven bytes and its line feed are looked at, and the first ten stored at its place among the frames.
 pub fn read_frame(text: &[u8], f: usize, out: &mut [u8]) -> Faults
     requires { FrameAsked text.now f out.old }
     ensures { FrameRead text.now f out.old result out.new }

@@ -20,8 +20,8 @@ struct Lowest {
 
 // Each of n frames, from the last one down: the fault found last is the lowest.
 fn read_frames(text: &[u8], n: usize, out: &mut [u8]) -> Lowest
-    requires n_in_bounds { LINE * n ≤ length text.now }
-    requires n_in_bounds_2 { FRAME * n ≤ length out.old }
+    requires whole { LINE * n ≤ length text.now }
+    requires room { FRAME * n ≤ length out.old }
     ensures { FramesRead text.now n out.old result out.new }
 {
     let mut form = n;
@@ -40,12 +40,14 @@ fn read_frames(text: &[u8], n: usize, out: &mut [u8]) -> Lowest
     Lowest { form, sum }
 }
 
-// 1 to 3, else the number of frames. A fault of form in any frame goes before a wrong sum in any.
-// No entry point: the caller lends scratch space, which 2 and 3 leave changed.
+/// Reads a text of up to `most` characters: its frames are counted, and their bytes stored, ten of each, at the front of the buffer.
+/// 1, 2 and 3 refuse; a fault of form in any frame goes before a wrong sum in any. No entry point: the buffer is scratch space, which 2 and
+/// 3 leave changed.
+#[tactic(auto, unfolding(crate::specs::frames::Check::text_verdict, crate::specs::frames::Read::read_buffer))]
 pub fn read_text(text: &[u8], most: usize, out: &mut [u8]) -> Result<usize, Refusal>
     requires { FRAME * most ≤ LINE * length out.old }
-    ensures result_value { reply result ≡ verdict_reply (text_verdict most text.now) (frame_count text.now) }
-    ensures out_after { out.new ≡ read_buffer most text.now out.old }
+    ensures answered { reply result ≡ verdict_reply (text_verdict most text.now) (frame_count text.now) }
+    ensures stored { out.new ≡ read_buffer most text.now out.old }
 {
     if bad_length(LINE, most, text.len()) {
         return Err(Refusal::BadLength);

@@ -1,7 +1,7 @@
 -- Changes of a state that keep it fitting a sound image:
 -- the top replaced, a scheme opened above it, the top taken off, one scheme left alone.
-use Rattle.std.proofs.Common.{ℕ, zero, suc, ◌+◌, ◌-◌, ◌≤◌, ◌<◌, true, false, ◌&&◌, not, ◌≡◌, refl, ap, ap₂, ◌∙◌, sym, subst, ◌⊎◌, inl, inr}
-use Rattle.std.proofs.Common.{List, eqb, length, get_or, set, length-set, get_or-set_same, get_or-set_other, arith}
+use Rattle.std.proofs.Common.{ℕ, zero, suc, ◌+◌, ◌-◌, ◌≤◌, ◌<◌, true, false, ◌&&◌, not, ◌≡◌, refl, ap, ap₂, ◌∙◌, sym, subst, ◌⊎◌, inl, inr, ◌==◌, slice_index}
+use Rattle.std.proofs.Common.{List, length, set, length-set, get_or-set_same, get_or-set_other, arith}
 use Rattle.std.proofs.Math.ListN.{get_or-replicate}
 use Rattle.std.proofs.lemmas.Grind.{common_steps}
 use Rattle.words.proofs.lists.Tests.{split}
@@ -18,18 +18,18 @@ use Rattle.ticks.proofs.Leads.{carry-leads, has_bad_bottom_by, bottom-leads}
 
 -- a list of 32 with one element set, at that place and at others
 module _ (xs : List ℕ) (d x : ℕ) where
-  set_same : length xs ≡ 32 → d < 32 → get_or (set xs d x) d 0 ≡ x
+  set_same : length xs ≡ 32 → d < 32 → slice_index (set xs d x) d ≡ x
   set_same e l = get_or-set_same xs d x 0 (omega arith)
 
-  set_at : length xs ≡ 32 → d < 32 → (k : ℕ) → k ≡ d → get_or (set xs d x) k 0 ≡ x
-  set_at e l k q = ap (λ (j : ℕ). get_or (set xs d x) j 0) q ∙ set_same e l
+  set_at : length xs ≡ 32 → d < 32 → (k : ℕ) → k ≡ d → slice_index (set xs d x) k ≡ x
+  set_at e l k q = ap (λ (j : ℕ). slice_index (set xs d x) j) q ∙ set_same e l
 
-  set_other : (k : ℕ) → (k ≡ d → ⊥) → get_or (set xs d x) k 0 ≡ get_or xs k 0
+  set_other : (k : ℕ) → (k ≡ d → ⊥) → slice_index (set xs d x) k ≡ slice_index xs k
   set_other k ne = get_or-set_other xs d k x 0 ne
 
-pub only_zero : (l k : ℕ) → 1 ≤ k → k < 32 → get_or (bottom_alone l) k 0 ≡ 0
-only_zero l zero a b = absurd (omega arith)
-only_zero l (suc k) a b = get_or-replicate 31 k 0 0 (omega arith)
+pub only-zero : (l k : ℕ) → 1 ≤ k → k < 32 → slice_index (bottom_alone l) k ≡ 0
+only-zero l zero a b = absurd (omega arith)
+only-zero l (suc k) a b = get_or-replicate 31 k 0 0 (omega arith)
 
 module _ (i : Image) (sound : SoundImage i) where
   -- ---- states that hold the same at some places
@@ -199,22 +199,22 @@ module _ (i : Image) (sound : SoundImage i) where
 
       zero-at : (k : ℕ) → k < 32 → (k < s.depth) ⊎ (s.depth ≤ k) → d ≤ k → is_filled_place t k ≡ false
       zero-at k m (inl p) l = let q : k ≡ d = omega arith in
-          ap₂ (λ (x y : ℕ). not (eqb x 0 && eqb y 0 && eqb (server_at t k) 0))
+          ap₂ (λ (x y : ℕ). not (x == 0 && y == 0 && server_at t k == 0))
           (set_at s.places d 0 f.whole.places deep k q) (set_at s.numbers d 0 f.whole.numbers deep k q)
-          ∙ ap (λ (x : ℕ). not (eqb x 0)) (set_at s.servers d 0 f.whole.servers deep k q)
+          ∙ ap (λ (x : ℕ). not (x == 0)) (set_at s.servers d 0 f.whole.servers deep k q)
       zero-at k m (inr p) l = same-filled s t k (place k (λ q. omega arith)) (number k (λ q. omega arith)) (server k (λ q. omega arith))
           ∙ f.above k p m
 
   pub alone-fits : (s : State) (l h : ℕ) (b : Results) → Fits i s → l < length i.labels
-      → has_bad_bottom_by i sound l (eqb h 1 && eqb h 1) (eqb h i.handler && eqb h i.handler) ≡ false → Fits i (state_alone s l h b)
+      → has_bad_bottom_by i sound l (h == 1 && h == 1) (h == i.handler && h == i.handler) ≡ false → Fits i (state_alone s l h b)
   alone-fits s l h b f low o = record {
     whole = record { places = refl; serving = f.whole.serving; numbers = refl; servers = refl };
     small = f.small;
     some = omega arith;
     most = omega (arith, f.some, f.most);
-    labels = λ k m. subst (λ (j : ℕ). get_or (bottom_alone l) j 0 < length i.labels) (let z : 0 ≡ k = omega arith in z) low;
+    labels = λ k m. subst (λ (j : ℕ). slice_index (bottom_alone l) j < length i.labels) (let z : 0 ≡ k = omega arith in z) low;
     carries = λ k m. absurd (omega arith);
     bottom = o;
-    above = λ k a m. ap₂ (λ (x y : ℕ). not (eqb x 0 && eqb y 0 && eqb y 0)) (only_zero l k a m) (only_zero h k a m);
+    above = λ k a m. ap₂ (λ (x y : ℕ). not (x == 0 && y == 0 && y == 0)) (only-zero l k a m) (only-zero h k a m);
     serves = f.serves;
   }

@@ -1,10 +1,10 @@
 -- A function's label takes its row for bit 0 if nothing writes 1 to the bit of the number called meanwhile:
 -- from the call on the bit is 0, and the label stays in its place under the top, until the call's own return.
-use Rattle.std.proofs.Common.{if◌then◌else◌, ℕ, zero, suc, ◌+◌, ◌-◌, ◌≤◌, ◌<◌, Bool, true, false, ◌≡◌, refl, ap, ◌∙◌, subst, ◌⊎◌, inl, inr}
-use Rattle.std.proofs.Common.{leb, eqb, length, get_or-set_other, arith, eqb-true, eq-eqb}
+use Rattle.std.proofs.Common.{if◌then◌else◌, ℕ, zero, suc, ◌+◌, ◌-◌, ◌≤◌, ◌<◌, Bool, true, false, ◌≡◌, refl, ap, ◌∙◌, subst, ◌⊎◌, inl, inr, nat_le, ◌==◌}
+use Rattle.std.proofs.Common.{length, get_or-set_other, arith, eqb-true, eq-eqb}
 use borrow.Author.Tests.{eqb-false, lt-leb}
 use Rattle.std.proofs.lemmas.Grind.{common_steps}
-use Rattle.words.proofs.lists.Tests.{no_both, or_l, or_cases, and_l, and_r, and-true, and-false}
+use Rattle.words.proofs.lists.Tests.{no_both, or-l, or-cases, and-l, and-r, and-true, and-false}
 use Rattle.results.specs.Results.{Results, result_of, with_result, cleared_results}
 use Rattle.bindings.specs.Binding.{server_of}
 use Rattle.results.proofs.ResultLaws.{cleared-own, result-keeps}
@@ -40,7 +40,7 @@ Dropped i x s (stopped n) = Unit {0}
 pub drops : Drops
 unfolding Drops tick
 drops i s full w m code t e = subst (Dropped i x s) e
-    (go (or_cases (eqb x.kind 1) (eqb x.kind 2) (and_l (is_call x) (leb s.size s.depth) full)))
+    (go (or-cases (x.kind == 1) (x.kind == 2) (and-l (is_call x) (nat_le s.size s.depth) full)))
   where
     x : Label
     x = label_at i (top_of s)
@@ -60,7 +60,7 @@ drops i s full w m code t e = subst (Dropped i x s) e
       servers = refl;
       serving = refl;
       cleared = cleared-own i.handler b;
-      kept = λ h l other. let z : i.handler ≡ 0 → ⊥ = eqb-false i.handler 0 (or_l (eqb i.handler 0) (is_of_handler i (place_at s 0)) q) in
+      kept = λ h l other. let z : i.handler ≡ 0 → ⊥ = eqb-false i.handler 0 (or-l (i.handler == 0) (is_of_handler i (place_at s 0)) q) in
           get_or-set_other b (i.handler - 1) (h - 1) false false (λ k. other (omega arith));
     }
 
@@ -68,15 +68,15 @@ drops i s full w m code t e = subst (Dropped i x s) e
     pushes code true q = dropped (is_full_stack_kept i s) refl
     pushes code false q = no_both false q refl
 
-    go : (eqb x.kind 1 ≡ true) ⊎ (eqb x.kind 2 ≡ true) → Dropped i x s (tick_by i s w (top_of s) x b (tick_kind x.kind))
+    go : ((x.kind == 1) ≡ true) ⊎ ((x.kind == 2) ≡ true) → Dropped i x s (tick_by i s w (top_of s) x b (tick_kind x.kind))
     go (inl p) = rw (eqb-true x.kind 1 p)
-        (pushes (16 + x.called) (leb s.size s.depth) (and_r (is_call x) (leb s.size s.depth) full))
+        (pushes (16 + x.called) (nat_le s.size s.depth) (and-r (is_call x) (nat_le s.size s.depth) full))
     go (inr p) = rw (eqb-true x.kind 2 p)
-        (pushes (64 + x.called) (leb s.size s.depth) (and_r (is_call x) (leb s.size s.depth) full))
+        (pushes (64 + x.called) (nat_le s.size s.depth) (and-r (is_call x) (nat_le s.size s.depth) full))
 
 -- a call that does not find the stack full has a place free
-free : (i : Image) (s : State) → is_at_full_call i s ≡ false → is_call (label_at i (top_of s)) ≡ true → leb s.size s.depth ≡ false
-free i s e call = and-false (is_call (label_at i (top_of s))) (leb s.size s.depth) e call
+free : (i : Image) (s : State) → is_at_full_call i s ≡ false → is_call (label_at i (top_of s)) ≡ true → nat_le s.size s.depth ≡ false
+free i s e call = and-false (is_call (label_at i (top_of s))) (nat_le s.size s.depth) e call
 
 -- ---- label l at place d - 1 under the top, and the bit of number h 0
 module _ (l d h : ℕ) (some : 1 ≤ d) (deep : 2 ≤ h) where
@@ -97,15 +97,15 @@ module _ (l d h : ℕ) (some : 1 ≤ d) (deep : 2 ≤ h) where
     bits-wait : (b : Results) → result_of h b ≡ false → Waits (with_bits s b)
     bits-wait b e = record { above = y.above; label = y.label; unset = e }
 
-    pushed_waits : (m code g k : ℕ) (b : Results) → leb s.size s.depth ≡ false → result_of h b ≡ false
-        → After (pushed_tick i s m code g k b (leb s.size s.depth))
+    pushed_waits : (m code g k : ℕ) (b : Results) → nat_le s.size s.depth ≡ false → result_of h b ≡ false
+        → After (pushed_tick i s m code g k b (nat_le s.size s.depth))
     pushed_waits m code g k b room e = grind (arith, common_steps)
 
-    popped-waits : (w m : ℕ) (b : Results) → (s.depth ≡ suc d → ⊥) → result_of h b ≡ false → After (popped_tick i s w m b (leb s.depth 1))
+    popped-waits : (w m : ℕ) (b : Results) → (s.depth ≡ suc d → ⊥) → result_of h b ≡ false → After (popped_tick i s w m b (nat_le s.depth 1))
     popped-waits w m b low e = grind (arith, common_steps, get_or-set_other, lt-leb, moved-waits)
 
     -- by the tick kind of the top label; a call has a place free, and a return is not the call's own
-    by-waits : (w k : ℕ) (x : Label) (b : Results) → result_of h b ≡ false → (1 ≤ k → k ≤ 2 → leb s.size s.depth ≡ false)
+    by-waits : (w k : ℕ) (x : Label) (b : Results) → result_of h b ≡ false → (1 ≤ k → k ≤ 2 → nat_le s.size s.depth ≡ false)
         → (k ≡ 3 → s.depth ≡ suc d → ⊥) → After (tick_by i s w (top_of s) x b (tick_kind k))
     by-waits w zero x b e room own = grind (arith, common_steps, moved-waits, bits-wait)
     by-waits w (suc zero) x b e room own = grind (arith, common_steps, pushed_waits)
@@ -166,8 +166,8 @@ module _ (i : Image) (sound : SoundImage i) where
     own-return u y own v =
         let z : Label = label_at i (top_of u) in
         let d : u.depth ≡ suc s.depth =
-        eqb-true u.depth (suc s.depth) (and_r (eqb z.kind 3) (eqb u.depth (suc s.depth)) own) in
-        let k : z.kind ≡ 3 = eqb-true z.kind 3 (and_l (eqb z.kind 3) (eqb u.depth (suc s.depth)) own) in
+        eqb-true u.depth (suc s.depth) (and-r (z.kind == 3) (u.depth == suc s.depth) own) in
+        let k : z.kind ≡ 3 = eqb-true z.kind 3 (and-l (z.kind == 3) (u.depth == suc s.depth) own) in
         let p : u.depth - 2 ≡ s.depth - 1 = omega arith in
         ap (λ (c : Label). tick_by i u v (top_of u) c (with_result c.result (number_at u (u.depth - 1)) u.bits) (tick_kind c.kind))
         (return-is (top_of u) k)
@@ -175,9 +175,9 @@ module _ (i : Image) (sound : SoundImage i) where
         ∙ ap (λ (l : ℕ). return_tick u (row_leads i u.bits l v)) (ap (place_at u) p ∙ y.label)
         ∙ ap (λ (t : Bool). return_tick u (lead_of (best_row (top_of s) v (if t then 1 else 0) 0 i.rows))) y.unset
 
-pub zero_row : ZeroRow
+pub zero-row : ZeroRow
 unfolding ZeroRow
-zero_row text passes s sized fit kinded w m code t u e room ticks own v =
+zero-row text passes s sized fit kinded w m code t u e room ticks own v =
     let i : Image = decoded_image (contents text) in
     let sound : SoundImage i = image-sound text passes in
     let f : Fits i s = unfits i s sized fit in

@@ -1,6 +1,6 @@
 -- On a sound image a tick keeps a fitting state fitting, however it ends.
-use Rattle.std.proofs.Common.{if◌then◌else◌, ℕ, zero, suc, ◌+◌, ◌-◌, ◌≤◌, ◌<◌, Bool, true, false, ◌&&◌, ◌||◌, not, ◌≡◌, refl, ap, ap₂, ◌∙◌}
-use Rattle.std.proofs.Common.{sym, subst, List, leb, eqb, length, get_or-set_other, arith, eq-eqb, leb-false}
+use Rattle.std.proofs.Common.{if◌then◌else◌, ℕ, zero, suc, ◌+◌, ◌-◌, ◌≤◌, ◌<◌, Bool, true, false, ◌&&◌, ◌||◌, not, ◌≡◌, refl, ap, ap₂, ◌∙◌, nat_le, ◌==◌}
+use Rattle.std.proofs.Common.{sym, subst, List, length, get_or-set_other, arith, eq-eqb, leb-false}
 use Rattle.std.proofs.Math.ListN.{get_or-replicate}
 use borrow.Author.Tests.{eqb-false}
 use Rattle.std.proofs.lemmas.Grind.{common_steps}
@@ -26,7 +26,7 @@ use Rattle.ticks.specs.Tick.{row_leads, MachineTick, finished, stopped, moved_ti
 use Rattle.ticks.specs.Tick.{popped_tick, tick_by, tick}
 use Rattle.ticks.proofs.Leads.{Sort, home_sort, return_sort, numbered_sort, sort, row-leads, call-kind, called-range, not-return}
 use Rattle.ticks.proofs.Leads.{reaches-over, enters, carry-told, may-carry, home-bottom, handler-bottom}
-use Rattle.ticks.proofs.Changes.{only_zero, bits_fit, replaced-fits, opening-fits, dropping-fits, alone-fits}
+use Rattle.ticks.proofs.Changes.{only-zero, bits_fit, replaced-fits, opening-fits, dropping-fits, alone-fits}
 
 module _ (i : Image) (sound : SoundImage i) where
   -- ---- one tick
@@ -39,8 +39,8 @@ module _ (i : Image) (sound : SoundImage i) where
   moved_keeps m code t k (found u) h = h u refl
   moved_keeps m code t k missing h = tt
 
-  own-true : (h : ℕ) → (eqb h h && eqb h h) ≡ true
-  own-true h = and-true (eqb h h) (eqb h h) (eq-eqb h h refl) (eq-eqb h h refl)
+  own-true : (h : ℕ) → (h == h && h == h) ≡ true
+  own-true h = and-true (h == h) (h == h) (eq-eqb h h refl) (eq-eqb h h refl)
 
   module _ (s : State) (f : Fits i s) where
     abbrev top : ℕ
@@ -55,12 +55,12 @@ module _ (i : Image) (sound : SoundImage i) where
         (row-leads i sound top w _ u q))
 
     full-keeps : (m : ℕ) (b : Results) → Keeps (full_tick i s m b)
-    full-keeps m b = go (eqb i.handler 0) refl (is_of_handler i (place_at s 0))
+    full-keeps m b = go (i.handler == 0) refl (is_of_handler i (place_at s 0))
       where
         h : ℕ
         h = i.handler
 
-        go : (t : Bool) → eqb i.handler 0 ≡ t → (r : Bool)
+        go : (t : Bool) → (i.handler == 0) ≡ t → (r : Bool)
             → Keeps (if t || r then stopped 17 else finished m 96 (state_alone s (entry_at i i.handler) i.handler
             (cleared_results i.handler b)))
         go true e r = tt
@@ -69,11 +69,11 @@ module _ (i : Image) (sound : SoundImage i) where
             let range : (2 ≤ h) × (h ≤ length i.entries) = sound.handled (eqb-false i.handler 0 e) in
             let into : Reaches i h (entry_at i h) = enters i sound h range.0 range.1 in
             alone-fits i sound s (entry_at i h) h (cleared_results h b) f into.inside
-            (handler-bottom i sound (entry_at i h) (eqb h 1 && eqb h 1) (eqb h h && eqb h h) range.0 into (own-true h))
+            (handler-bottom i sound (entry_at i h) (h == 1 && h == 1) (h == h && h == h) range.0 into (own-true h))
 
     call-keeps : (m code : ℕ) (b : Results) → is_call (label_at i top) ≡ true
-        → Keeps (pushed_tick i s m code (label_at i top).called (server_of s.serving (label_at i top).called) b (leb s.size s.depth))
-    call-keeps m code b e = go (leb s.size s.depth) refl
+        → Keeps (pushed_tick i s m code (label_at i top).called (server_of s.serving (label_at i top).called) b (nat_le s.size s.depth))
+    call-keeps m code b e = go (nat_le s.size s.depth) refl
       where
         h : ℕ
         h = (label_at i top).called
@@ -90,14 +90,14 @@ module _ (i : Image) (sound : SoundImage i) where
         into : Reaches i k (entry_at i k)
         into = enters i sound k (callable-range i k may).0 (callable-range i k may).1
 
-        go : (t : Bool) → leb s.size s.depth ≡ t
+        go : (t : Bool) → nat_le s.size s.depth ≡ t
             → Keeps (pushed_tick i s m code (label_at i top).called (server_of s.serving (label_at i top).called) b t)
         go true q = full-keeps m b
         go false q = opening-fits i sound s (entry_at i k) h k (cleared_results h b) f (leb-false s.size s.depth q) into.inside
             (may-carry i sound top h k (entry_at i k) e refl may (reaches-over i sound k (entry_at i k) (callable-range i k may).0 into))
 
-    return-keeps : (m w : ℕ) (b : Results) → Keeps (popped_tick i s w m b (leb s.depth 1))
-    return-keeps m w b = go (leb s.depth 1) refl
+    return-keeps : (m w : ℕ) (b : Results) → Keeps (popped_tick i s w m b (nat_le s.depth 1))
+    return-keeps m w b = go (nat_le s.depth 1) refl
       where
         t : State
         t = popped_state s b
@@ -120,7 +120,7 @@ module _ (i : Image) (sound : SoundImage i) where
             (λ q. not-return i sound under (f.labels (s.depth - 2) (omega arith)) (λ p. omega arith) (sym same ∙ q))
             (subst (λ (l : ℕ). Reaches i (label_at i l).owner u) (sym same) r))
 
-        go : (t : Bool) → leb s.depth 1 ≡ t → Keeps (popped_tick i s w m b t)
+        go : (t : Bool) → nat_le s.depth 1 ≡ t → Keeps (popped_tick i s w m b t)
         go true q = alone-fits i sound s 0 1 b f (omega (arith, sound.two)) (home-bottom i sound _)
         go false q = moved_keeps m 3 (popped_state s b) _ (row_leads i b (place_at s (s.depth - 2)) w)
             (λ u p. back (leb-false s.depth 1 q) u (row-leads i sound (place_at s (s.depth - 2)) w _ u p))
@@ -166,7 +166,7 @@ module _ (i : Image) (sound : SoundImage i) where
     labels = λ k m. subst (λ (x : ℕ). x < length i.labels) (sym (zero-at k (omega arith))) (omega (arith, sound.two));
     carries = λ k m. absurd (omega arith);
     bottom = home-bottom i sound _;
-    above = λ k m j. ap₂ (λ (x y : ℕ). not (eqb x 0 && eqb y 0 && eqb y 0)) (zero-at k j) (only_zero 1 k m j);
+    above = λ k m j. ap₂ (λ (x y : ℕ). not (x == 0 && y == 0 && y == 0)) (zero-at k j) (only-zero 1 k m j);
     serves = own-serves n;
   }
     where

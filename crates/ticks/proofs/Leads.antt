@@ -1,8 +1,8 @@
 -- On a sound image: labels by their kind, and where the rows and the entry of a scheme lead.
-use Rattle.std.proofs.Common.{if◌then◌else◌, ℕ, zero, suc, ◌-◌, ◌≤◌, ◌<◌, Bool, true, false, ◌&&◌, ◌||◌, not, ◌≡◌, refl, ap, ◌∙◌, sym}
-use Rattle.std.proofs.Common.{subst, eqb, length, arith, eqb-true, ne_eqb}
+use Rattle.std.proofs.Common.{if◌then◌else◌, ℕ, zero, suc, ◌-◌, ◌≤◌, ◌<◌, Bool, true, false, ◌&&◌, ◌||◌, not, ◌≡◌, refl, ap, ◌∙◌, sym, ◌==◌}
+use Rattle.std.proofs.Common.{subst, length, arith, eqb-true, ne_eqb}
 use Rattle.std.proofs.lemmas.Grind.{common_steps}
-use Rattle.words.proofs.lists.Tests.{and_l}
+use Rattle.words.proofs.lists.Tests.{and-l}
 use Rattle.image.specs.Image.{Image, Label, Row, nth_row}
 use Rattle.image.specs.inner.Sound.{end_of, Reaches, SoundImage}
 use Rattle.state.specs.State.{label_at, entry_at}
@@ -20,7 +20,7 @@ module _ (i : Image) (sound : SoundImage i) where
       go no_choice q = absurd (let p : missing ≡ found u = sym (ap lead_of q) ∙ e in let z : ◌≡◌ {A = ℕ} 0 1 = cc in omega arith)
       go (row k r) q =
           let best : Best l w b i.rows k r = best-is l w b i.rows k r q in
-          let from : r.from ≡ l = eqb-true r.from l (and_l (eqb r.from l) (is_match w b r) best.matches) in
+          let from : r.from ≡ l = eqb-true r.from l (and-l (r.from == l) (is_match w b r) best.matches) in
           let p : found r.next ≡ found u = sym (ap lead_of q) ∙ e in
           let next : r.next ≡ u = cc in
           subst (Reaches i (label_at i l).owner) (ap (λ (x : Row). x.next) best.is ∙ next)
@@ -55,7 +55,7 @@ module _ (i : Image) (sound : SoundImage i) where
 
   -- what a scheme of 2 and up may lead to may stand above a call that it serves
   abbrev pub is_able_to_stand_over : ℕ → ℕ → Bool
-  is_able_to_stand_over k u = eqb u 1 || eqb (label_at i u).owner k
+  is_able_to_stand_over k u = u == 1 || (label_at i u).owner == k
 
   pub reaches-over : (k u : ℕ) → 2 ≤ k → Reaches i k u → is_able_to_stand_over k u ≡ true
   reaches-over k u l r = grind (arith, common_steps)
@@ -82,7 +82,7 @@ module _ (i : Image) (sound : SoundImage i) where
   -- ---- the bottom: what scheme 1 leads to, and what the handler leads to;
   -- p and q say whether number and server are those of the one or the other
   abbrev pub has_bad_bottom_by : ℕ → Bool → Bool → Bool
-  has_bad_bottom_by l p q = not ((eqb (label_at i l).owner 1 && p) || (is_of_handler i l && q))
+  has_bad_bottom_by l p q = not (((label_at i l).owner == 1 && p) || (is_of_handler i l && q))
 
   module _ (l : ℕ) (p q : Bool) where
     first-bottom : (label_at i l).owner ≡ 1 → p ≡ true → has_bad_bottom_by l p q ≡ false

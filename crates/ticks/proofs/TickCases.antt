@@ -1,5 +1,5 @@
 -- One tick on any table whose header holds: what it is for each kind of the top label, and that it leaves a depth of 1 to Σ.
-use Rattle.std.proofs.Common.{◌≡◌, refl, sym, ◌∙◌, ap, subst, Bool, true, false, List, ℕ, zero, suc, ◌-◌, ◌≤◌, ◌<◌, arith, leb, set}
+use Rattle.std.proofs.Common.{◌≡◌, refl, sym, ◌∙◌, ap, subst, Bool, true, false, List, ℕ, zero, suc, ◌-◌, ◌≤◌, ◌<◌, arith, set, nat_le}
 use Rattle.std.proofs.Common.{get_or-set_same, le-leb, leb-false}
 use borrow.Author.Tests.{lt-leb}
 use Rattle.std.proofs.lemmas.Grind.{common_steps}
@@ -97,23 +97,23 @@ module _ (b : List ℕ) (s : State) (y : TickAsked b s) where
     abbrev bits : Results
     bits = with_result x.result number s.bits
 
-    tick_is : tick i s w ≡ tick_by i s w l x bits (tick_kind x.kind)
+    tick-is : tick i s w ≡ tick_by i s w l x bits (tick_kind x.kind)
     unfolding tick
-    tick_is = ap (λ (z : Label). tick_by i s w l z (with_result z.result number s.bits) (tick_kind z.kind)) (label-at b l)
+    tick-is = ap (λ (z : Label). tick_by i s w l z (with_result z.result number s.bits) (tick_kind z.kind)) (label-at b l)
 
     -- the same of a label that is known
     tick-as : (z : Label) → x ≡ z → tick i s w ≡ tick_by i s w l z (with_result z.result number s.bits) (tick_kind z.kind)
-    tick-as z e = tick_is ∙ ap (λ (y : Label). tick_by i s w l y (with_result y.result number s.bits) (tick_kind y.kind)) e
+    tick-as z e = tick-is ∙ ap (λ (y : Label). tick_by i s w l y (with_result y.result number s.bits) (tick_kind y.kind)) e
 
     pub tick-plain : x.kind ≡ 0 → tick i s w ≡ moved_tick x.mask 0 (with_bits s bits) (s.depth - 1) (row_leads i bits l w)
-    tick-plain k = tick_is ∙ ap (λ (n : ℕ). tick_by i s w l x bits (tick_kind n)) k
+    tick-plain k = tick-is ∙ ap (λ (n : ℕ). tick_by i s w l x bits (tick_kind n)) k
 
     -- a label above M holds nothing and has no row
     pub tick-high : last_label b < l → tick i s w ≡ stopped 18
     tick-high h = tick-as no_label (label-above b l h)
         ∙ ap (moved_tick 0 0 (with_bits s s.bits) (s.depth - 1)) (ap lead_of (row-above b l w _ h))
 
-    tick-return : l ≡ 1 → tick i s w ≡ popped_tick i s w 0 s.bits (leb s.depth 1)
+    tick-return : l ≡ 1 → tick i s w ≡ popped_tick i s w 0 s.bits (nat_le s.depth 1)
     tick-return e = tick-as return_label (is-return e)
 
     pub tick-back : l ≡ 1 → 2 ≤ s.depth
@@ -126,7 +126,7 @@ module _ (b : List ℕ) (s : State) (y : TickAsked b s) where
 
     by_call : (z : Label) (bs : Results) (k : ℕ) → 1 ≤ k → k ≤ 2
         → tick_by i s w l z bs (tick_kind k)
-        ≡ pushed_tick i s z.mask (code_of (tick_kind k) z.called) z.called (server_of s.serving z.called) bs (leb s.size s.depth)
+        ≡ pushed_tick i s z.mask (code_of (tick_kind k) z.called) z.called (server_of s.serving z.called) bs (nat_le s.size s.depth)
     by_call z bs zero h m = absurd (omega arith)
     by_call z bs (suc zero) h m = refl
     by_call z bs (suc (suc zero)) h m = refl
@@ -134,8 +134,8 @@ module _ (b : List ℕ) (s : State) (y : TickAsked b s) where
 
     pub tick-call : 1 ≤ x.kind → x.kind ≤ 2
         → tick i s w ≡ pushed_tick i s x.mask (code_of (tick_kind x.kind) x.called) x.called (server_of s.serving x.called) bits
-        (leb s.size s.depth)
-    tick-call h k = tick_is ∙ by_call x bits x.kind h k
+        (nat_le s.size s.depth)
+    tick-call h k = tick-is ∙ by_call x bits x.kind h k
 
     pub tick-full : 1 ≤ x.kind → x.kind ≤ 2 → s.size ≤ s.depth → tick i s w ≡ full_tick i s x.mask bits
     tick-full h k f = tick-call h k ∙ ap (pushed_tick i s x.mask _ x.called _ bits) (le-leb s.size s.depth f)
@@ -149,11 +149,11 @@ module _ (b : List ℕ) (s : State) (y : TickAsked b s) where
     moved-deep m code t k (found u) h = record { some = h.some; most = h.most; small = h.small }
     moved-deep m code t k missing h = deep
 
-    pushed-deep : (m code h k : ℕ) (bs : Results) (t : Bool) → leb s.size s.depth ≡ t → KeptDepth (pushed_tick i s m code h k bs t)
+    pushed-deep : (m code h k : ℕ) (bs : Results) (t : Bool) → nat_le s.size s.depth ≡ t → KeptDepth (pushed_tick i s m code h k bs t)
     pushed-deep m code h k bs true e = grind (arith, common_steps)
     pushed-deep m code h k bs false e = grind (arith, common_steps)
 
-    popped-deep : (m : ℕ) (bs : Results) (t : Bool) → leb s.depth 1 ≡ t → KeptDepth (popped_tick i s w m bs t)
+    popped-deep : (m : ℕ) (bs : Results) (t : Bool) → nat_le s.depth 1 ≡ t → KeptDepth (popped_tick i s w m bs t)
     popped-deep m bs true e = grind (arith, common_steps, deep)
     popped-deep m bs false e = grind (arith, common_steps, leb-false, deep, moved-deep)
 
@@ -166,17 +166,17 @@ module _ (b : List ℕ) (s : State) (y : TickAsked b s) where
         go : (k : ℕ) → x.kind ≡ k → k ≤ 4 → KeptDepth (tick i s w)
         go zero e h = subst KeptDepth (sym (tick-plain e)) (moved-deep _ _ _ _ (row_leads i bits l w) same)
         go (suc zero) e h = subst KeptDepth (sym (tick-call (omega arith) (omega arith)))
-            (pushed-deep _ _ _ _ bits (leb s.size s.depth) refl)
+            (pushed-deep _ _ _ _ bits (nat_le s.size s.depth) refl)
         go (suc (suc zero)) e h = subst KeptDepth (sym (tick-call (omega arith) (omega arith)))
-            (pushed-deep _ _ _ _ bits (leb s.size s.depth) refl)
+            (pushed-deep _ _ _ _ bits (nat_le s.size s.depth) refl)
         go (suc (suc (suc zero))) e h =
-            subst KeptDepth (sym (tick-return (return-one e))) (popped-deep 0 s.bits (leb s.depth 1) refl)
+            subst KeptDepth (sym (tick-return (return-one e))) (popped-deep 0 s.bits (nat_le s.depth 1) refl)
         go (suc (suc (suc (suc zero)))) e h =
             subst KeptDepth (sym (tick-home ((label-values b l).four (omega arith))))
             (record { some = deep.some; most = deep.most; small = deep.small })
         go (suc (suc (suc (suc (suc k))))) e h = absurd (omega arith)
 
 -- after a tick, stopped or not, the next one may be made
-pub stands_on : {b before : List ℕ} {w : ℕ} {r : TickEnd} {bytes : List ℕ} → GivesTickEnd b before w r bytes → TickAsked b (state_of before)
+pub stands-on : {b before : List ℕ} {w : ℕ} {r : TickEnd} {bytes : List ℕ} → GivesTickEnd b before w r bytes → TickAsked b (state_of before)
     → TickAsked b (state_of bytes)
-stands_on {b = b} {before = before} {w = w} {bytes = bytes} q y = grind (arith, common_steps, deep-fine, tick-deep)
+stands-on {b = b} {before = before} {w = w} {bytes = bytes} q y = grind (arith, common_steps, deep-fine, tick-deep)

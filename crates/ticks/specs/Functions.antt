@@ -1,6 +1,6 @@
 -- A call leaves the bit of the number called 0, and a function's label takes its row for bit 0 if nothing writes 1 to that bit between
 -- its call and its return: said of the machine's ticks, on any accepted image.
-use Rattle.std.specs.Prelude.{ℕ, suc, ◌-◌, ◌≤◌, Bool, true, false, ◌&&◌, ◌≡◌, List, leb, eqb, if◌then◌else◌}
+use Rattle.std.specs.Prelude.{ℕ, suc, ◌-◌, ◌≤◌, Bool, true, false, ◌&&◌, ◌≡◌, List, if◌then◌else◌, nat_le, ◌==◌}
 use Rattle.results.specs.Results.{result_of, with_result}
 use Rattle.bindings.specs.Binding.{Binding}
 use Rattle.text.specs.declared.frames.codes.TheConstants.{RETURN_CODE, DROP_CODE}
@@ -19,7 +19,7 @@ use Rattle.ticks.specs.Tick.{MachineTick, finished, moved_tick, popped_state, ti
 
 -- the tick on s drops all open schemes or is refused: it is made at a call that finds the stack full
 abbrev pub is_at_full_call : Image → State → Bool
-is_at_full_call i s = is_call (label_at i (top_of s)) && leb s.size s.depth
+is_at_full_call i s = is_call (label_at i (top_of s)) && nat_le s.size s.depth
 
 -- a call that is made, of an operation or of a function, leaves the bit of the number called 0; one that drops leaves that of the handler 0
 unfoldable pub CallClears : Type 0
@@ -49,11 +49,11 @@ Drops =
 
 -- the tick on s writes 1 to the bit of number h: it is made at a label with result 2 of a scheme that h called
 abbrev pub is_machine_write_of_one : Image → ℕ → State → Bool
-is_machine_write_of_one i h s = eqb (number_at s (s.depth - 1)) h && eqb (label_at i (top_of s)).result 2
+is_machine_write_of_one i h s = number_at s (s.depth - 1) == h && (label_at i (top_of s)).result == 2
 
 -- the tick on s is a return at depth d
 abbrev pub is_return_at : Image → ℕ → State → Bool
-is_return_at i d s = eqb (label_at i (top_of s)).kind RETURN && eqb s.depth d
+is_return_at i d s = (label_at i (top_of s)).kind == RETURN && s.depth == d
 
 -- finished ticks, and rebindings between them, lead from one state to another; none is a drop or a return at depth d, and none writes 1
 -- to the bit of number h

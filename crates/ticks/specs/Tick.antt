@@ -1,5 +1,5 @@
 -- One tick of the machine over an image; refusals 17 and 18.
-use Rattle.std.specs.Prelude.{ℕ, suc, ◌+◌, ◌-◌, Bool, true, false, ◌||◌, leb, eqb, if◌then◌else◌}
+use Rattle.std.specs.Prelude.{ℕ, suc, ◌+◌, ◌-◌, Bool, true, false, ◌||◌, if◌then◌else◌, nat_le, ◌==◌}
 use Rattle.results.specs.Results.{Results, result_of, with_result, cleared_results}
 use Rattle.bindings.specs.Binding.{server_of}
 use Rattle.text.specs.declared.frames.codes.TheConstants.{PLAIN_CODE, RETURN_CODE, HOME_CODE, OPERATION_CALL_CODE, FUNCTION_CALL_CODE}
@@ -51,7 +51,7 @@ opened_state s l h k b = with_depth (with_opened (with_bits s b) s.depth l h k) 
 
 -- a full stack is kept: there is no handler, or it is at the bottom
 abbrev pub is_full_stack_kept : Image → State → Bool
-is_full_stack_kept i s = eqb i.handler 0 || is_of_handler i (place_at s 0)
+is_full_stack_kept i s = i.handler == 0 || is_of_handler i (place_at s 0)
 
 -- a call at depth Σ is refused where the stack is kept, and nothing is done; else all places are dropped, and the handler starts at the
 -- bottom with its bit cleared
@@ -73,10 +73,10 @@ popped_tick i s w m b false = moved_tick m RETURN_CODE (popped_state s b) (s.dep
 abbrev pub tick_by : Image → State → ℕ → ℕ → Label → Results → TickKind → MachineTick
 tick_by i s w l x b plain = moved_tick x.mask PLAIN_CODE (with_bits s b) (s.depth - 1) (row_leads i b l w)
 tick_by i s w l x b operation_call =
-    pushed_tick i s x.mask (OPERATION_CALL_CODE + x.called) x.called (server_of s.serving x.called) b (leb s.size s.depth)
+    pushed_tick i s x.mask (OPERATION_CALL_CODE + x.called) x.called (server_of s.serving x.called) b (nat_le s.size s.depth)
 tick_by i s w l x b function_call =
-    pushed_tick i s x.mask (FUNCTION_CALL_CODE + x.called) x.called (server_of s.serving x.called) b (leb s.size s.depth)
-tick_by i s w l x b return = popped_tick i s w x.mask b (leb s.depth 1)
+    pushed_tick i s x.mask (FUNCTION_CALL_CODE + x.called) x.called (server_of s.serving x.called) b (nat_le s.size s.depth)
+tick_by i s w l x b return = popped_tick i s w x.mask b (nat_le s.depth 1)
 tick_by i s w l x b home = moved_tick x.mask HOME_CODE (with_bits s b) (s.depth - 1) (found (entry_at i 1))
 
 -- a result goes to the bit of the number that the top's scheme was called by

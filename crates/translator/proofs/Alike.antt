@@ -1,5 +1,5 @@
 -- Texts that are read alike are translated alike.
-use Rattle.std.proofs.Common.{ℕ, ◌≡◌, ap₂, List, ltb, length}
+use Rattle.std.proofs.Common.{ℕ, ◌≡◌, ap₂, List, length, nat_lt}
 use Rattle.text.specs.frames.Verdict.{Verdict, next, when}
 use Rattle.text.specs.frames.Answer.{buffer_on}
 use Rattle.text.specs.frames.Alike.{ReadAlike}
@@ -13,7 +13,7 @@ module _ (t u : List ℕ) (A : ReadAlike t u) where
   pub translate-verdict : translate_verdict t ≡ translate_verdict u
   unfolding translate_verdict
   translate-verdict =
-      ap₂ (λ (v : Verdict) (c : List ℕ). next v λ _. when 10 (ltb 1024 (length (rows c)))) (read-verdict t u A) A.contents
+      ap₂ (λ (v : Verdict) (c : List ℕ). next v λ _. when 10 (nat_lt 1024 (length (rows c)))) (read-verdict t u A) A.contents
 
   pub translates : (out : List ℕ) → translate t out ≡ translate u out
   unfolding translate

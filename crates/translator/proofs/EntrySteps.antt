@@ -8,7 +8,7 @@ use Rattle.text.specs.declared.frames.refusals.Refusal.{Refusal}
 use Rattle.text.specs.frames.Refusal.{number_of, index_of, ticks_of}
 use Rattle.text.proofs.frames.Chains.{next-refused, next-on}
 use Rattle.text.proofs.frames.Verdicts.{next-rest}
-use Rattle.text.proofs.frames.Lent.{lent_fits, lent-told, lent-err, front}
+use Rattle.text.proofs.frames.Lent.{lent-fits, lent-told, lent-err, front}
 use Rattle.charts.specs.Entry.{read_verdict, read_chart}
 use Rattle.charts.proofs.Accepted.{Accepted, accepted, accepted-bytes}
 use Rattle.translator.specs.Entry.{translate_verdict, translate}
@@ -19,21 +19,21 @@ use Rattle.translator.specs.inner.ImageBytes.{image_outcome}
 lent-no : (v : Verdict) (unit : ℕ) (new : Unit {0} → List ℕ) (old : List ℕ) (k i m : ℕ) → (v ≡ fine → length (new tt) ≤ length old)
     → (buffer_on v unit new old).reply ≡ refusal k i m → (v ≡ refused k i) × (m ≡ 0)
 lent-no (refused k' i') unit new old k i m h e = grind (arith, common_steps)
-lent-no fine unit new old k i m h e = grind (arith, common_steps, lent_fits)
+lent-no fine unit new old k i m h e = grind (arith, common_steps, lent-fits)
 
 chart-room : (t zeros : List ℕ) → 2560 ≤ length zeros → read_verdict t ≡ fine → length (contents t) ≤ length zeros
 chart-room t zeros h ok = let a : Accepted (contents t) = accepted t ok in omega (arith, a.whole, a.few)
 
 module _ (t zeros : List ℕ) (room : 2560 ≤ length zeros) (a : Answer) (e : reply a ≡ (read_chart t zeros).reply) where
   -- a refusal of the reader is its verdict's, since there is room, and counts 0
-  pub read_no : (r : Refusal) → a ≡ Err r → (read_verdict t ≡ refused (number_of r) (index_of r)) × (ticks_of r ≡ 0)
+  pub read-no : (r : Refusal) → a ≡ Err r → (read_verdict t ≡ refused (number_of r) (index_of r)) × (ticks_of r ≡ 0)
   unfolding read_chart
-  read_no r q = grind (arith, common_steps, lent-no, chart-room)
+  read-no r q = grind (arith, common_steps, lent-no, chart-room)
 
   -- and the translator's
   pub read-refused : (out : List ℕ) (r : Refusal) → a ≡ Err r → GivesBuffer (translate t out) a out
   unfolding translate translate_verdict
-  read-refused out r q = grind (arith, common_steps, next-refused, lent-err, read_no)
+  read-refused out r q = grind (arith, common_steps, next-refused, lent-err, read-no)
 
 -- the chart was accepted and stands at the front of the table
 pub record Read (t held : List ℕ) (n : ℕ) : Type 0 where
@@ -42,10 +42,10 @@ pub record Read (t held : List ℕ) (n : ℕ) : Type 0 where
   pub chart : take (10 * n) held ≡ contents t
   pub long : length (contents t) ≡ 10 * n
 
-pub read_told : (t zeros : List ℕ) (a : Answer) (n : ℕ) (held : List ℕ) → reply a ≡ (read_chart t zeros).reply → a ≡ Ok n
+pub read-told : (t zeros : List ℕ) (a : Answer) (n : ℕ) (held : List ℕ) → reply a ≡ (read_chart t zeros).reply → a ≡ Ok n
     → held ≡ (read_chart t zeros).buffer → Read t held n
 unfolding read_chart
-read_told t zeros a n held e d b = grind (arith, common_steps, front, lent-told, accepted)
+read-told t zeros a n held e d b = grind (arith, common_steps, front, lent-told, accepted)
 
 module _ (t held : List ℕ) (n : ℕ) (r : Read t held n) where
   pub read-long : length (take (10 * n) held) ≡ 10 * n

@@ -1,13 +1,13 @@
 -- The bytes of a chart's table in the parts that the functions write, and how long each part is.
-use Rattle.std.proofs.Common.{◌≡◌, refl, sym, ◌∙◌, ap, ap₂, subst, Bool, true, false, List, [], ◌∷◌, ◌++◌, map, append_assoc, ℕ, zero, suc}
-use Rattle.std.proofs.Common.{◌+◌, ◌*◌, ◌/◌, ◌-◌, ◌≤◌, ◌<◌, zero-add, mul-suc, add-one, arith, ltb, length, length-append, lt-ltb, le-ltb}
+use Rattle.std.proofs.Common.{◌≡◌, refl, sym, ◌∙◌, ap, ap₂, subst, Bool, true, false, List, [], ◌∷◌, ◌++◌, map, append_assoc, ℕ, zero, suc, nat_lt, flat_map, filter}
+use Rattle.std.proofs.Common.{◌+◌, ◌*◌, ◌/◌, ◌-◌, ◌≤◌, ◌<◌, zero-add, mul-suc, add-one, arith, length, length-append, lt-ltb, le-ltb}
 use Rattle.std.proofs.Common.{Option, None, Some, Ok, Err, if◌then◌else◌, cond}
 use Rattle.std.proofs.Math.Decide.{dec_lt}
 use Rattle.std.proofs.lemmas.Option.{none-some}
 use Rattle.std.proofs.lemmas.Grind.{common_steps}
 use Rattle.words.specs.lists.Numbers.{range, count}
-use Rattle.words.specs.lists.Sequences.{concat_map, filter, map_from, written}
-use Rattle.words.proofs.lists.Tests.{if-true, if-false}
+use Rattle.words.specs.lists.Sequences.{map_from, written}
+use Rattle.std.proofs.lemmas.Bool.{cond-true, cond-false}
 use Rattle.words.proofs.lists.Counts.{count-suc, count-snoc}
 use Rattle.words.proofs.lists.Ranges.{map_from-cons, filter-yes, filter-no}
 use Rattle.words.proofs.lists.Joins.{concat-cons, concat-map, concat-append, length-concat-range}
@@ -33,13 +33,13 @@ use Rattle.translator.specs.inner.TranslatorContracts.{Sizes}
 use Rattle.translator.proofs.LabelLaws.{length-labels, length-entries}
 use Rattle.translator.proofs.ImageBytes.{bytes-length, image-length}
 use Rattle.chart_rows.proofs.chart_labels.LabelSteps.{label-own}
-use Rattle.chart_rows.proofs.RowSteps.{below_all}
-use Rattle.translator.proofs.path_text.RowPuts.{rows_append}
+use Rattle.chart_rows.proofs.RowSteps.{below-all}
+use Rattle.translator.proofs.path_text.RowPuts.{rows-append}
 
 -- ---- entries
 entries_from : (c : Chart) (i n : ℕ)
-    → frames_bytes (map_from entry_frame (suc i) (map (entry c) (range (suc i) n))) ≡ concat_map (entry_bytes c) (range i n)
-entries_from c i zero = unfold map_from concat_map in refl
+    → frames_bytes (map_from entry_frame (suc i) (map (entry c) (range (suc i) n))) ≡ flat_map (entry_bytes c) (range i n)
+entries_from c i zero = unfold map_from in refl
 entries_from c i (suc n) =
     ap frames_bytes (map_from-cons entry_frame (suc i) (entry c (suc i)) (map (entry c) (range (suc (suc i)) n)))
     ∙ concat-cons (λ f. f) (entry_frame (suc i) (entry c (suc i)))
@@ -51,20 +51,20 @@ entries_from c i (suc n) =
 module _ (c : Chart) where
   labels_from : (i n : ℕ)
       → frames_bytes (map_from label_frame (2 + count (is_numbered c) 0 i) (map (stop_label c) (filter (is_numbered c) (range i n))))
-      ≡ concat_map (node_label_bytes c) (range i n)
-  labels_from i zero = unfold map_from concat_map filter in refl
+      ≡ flat_map (node_label_bytes c) (range i n)
+  labels_from i zero = unfold map_from in refl
   labels_from i (suc n) = go (is_numbered c i) refl (labels_from (suc i) n)
     where
       go : (b : Bool) → is_numbered c i ≡ b
           → frames_bytes (map_from label_frame (2 + count (is_numbered c) 0 (suc i))
           (map (stop_label c) (filter (is_numbered c) (range (suc i) n))))
-          ≡ concat_map (node_label_bytes c) (range (suc i) n)
+          ≡ flat_map (node_label_bytes c) (range (suc i) n)
           → frames_bytes (map_from label_frame (2 + count (is_numbered c) 0 i)
           (map (stop_label c) (filter (is_numbered c) (range i (suc n)))))
-          ≡ concat_map (node_label_bytes c) (range i (suc n))
+          ≡ flat_map (node_label_bytes c) (range i (suc n))
       go true e ih =
           let p : cond {A = ℕ} (is_numbered c (0 + i)) 1 0 ≡ 1 =
-          ap (λ (j : ℕ). cond {A = ℕ} (is_numbered c j) 1 0) (zero-add i) ∙ if-true (is_numbered c i) 1 0 e in
+          ap (λ (j : ℕ). cond {A = ℕ} (is_numbered c j) 1 0) (zero-add i) ∙ cond-true (is_numbered c i) 1 0 e in
           let s : suc (2 + count (is_numbered c) 0 i) ≡ 2 + count (is_numbered c) 0 (suc i) =
           omega (arith, count-snoc (is_numbered c) 0 i, p) in
           ap (λ (vs : List ℕ). frames_bytes (map_from label_frame (2 + count (is_numbered c) 0 i) (map (stop_label c) vs)))
@@ -75,19 +75,19 @@ module _ (c : Chart) where
           (map_from label_frame (suc (2 + count (is_numbered c) 0 i)) (map (stop_label c) (filter (is_numbered c) (range (suc i) n))))
           ∙ ap₂ (λ (x y : List ℕ). x ++ y)
           (ap (λ (l : ℕ). label_frame l (stop_label c i)) (sym (label-own c i e))
-          ∙ sym (if-true (is_numbered c i) (label_frame (label c i) (stop_label c i)) [] e))
+          ∙ sym (cond-true (is_numbered c i) (label_frame (label c i) (stop_label c i)) [] e))
           (ap (λ (l : ℕ). frames_bytes (map_from label_frame l (map (stop_label c) (filter (is_numbered c) (range (suc i) n))))) s ∙ ih)
           ∙ sym (concat-cons (node_label_bytes c) i (range (suc i) n))
       go false e ih =
           let p : cond {A = ℕ} (is_numbered c (0 + i)) 1 0 ≡ 0 =
-          ap (λ (j : ℕ). cond {A = ℕ} (is_numbered c j) 1 0) (zero-add i) ∙ if-false (is_numbered c i) 1 0 e in
+          ap (λ (j : ℕ). cond {A = ℕ} (is_numbered c j) 1 0) (zero-add i) ∙ cond-false (is_numbered c i) 1 0 e in
           let s : 2 + count (is_numbered c) 0 i ≡ 2 + count (is_numbered c) 0 (suc i) = omega (arith, count-snoc (is_numbered c) 0 i, p) in
           ap (λ (vs : List ℕ). frames_bytes (map_from label_frame (2 + count (is_numbered c) 0 i) (map (stop_label c) vs)))
           (filter-no (is_numbered c) i (range (suc i) n) e)
           ∙ ap (λ (l : ℕ). frames_bytes (map_from label_frame l (map (stop_label c) (filter (is_numbered c) (range (suc i) n))))) s ∙ ih
           ∙ sym (concat-cons (node_label_bytes c) i (range (suc i) n)
-          ∙ ap (λ (x : List ℕ). x ++ concat_map (node_label_bytes c) (range (suc i) n))
-          (if-false (is_numbered c i) (label_frame (label c i) (stop_label c i)) [] e))
+          ∙ ap (λ (x : List ℕ). x ++ flat_map (node_label_bytes c) (range (suc i) n))
+          (cond-false (is_numbered c i) (label_frame (label c i) (stop_label c i)) [] e))
 
   none_before : 2 + count (is_numbered c) 0 0 ≡ 2
   unfolding count
@@ -98,14 +98,14 @@ module _ (c : Chart) where
   labels-joined = grind (arith, common_steps, concat-cons, append_assoc, map_from-cons, labels_from, none_before)
 
   -- ---- rows
-  rows-each : (xs : List ℕ) → rows_bytes (concat_map (node_rows c) xs) ≡ concat_map (node_rows_bytes c) xs
-  rows-each [] = unfold concat_map in refl
+  rows-each : (xs : List ℕ) → rows_bytes (flat_map (node_rows c) xs) ≡ flat_map (node_rows_bytes c) xs
+  rows-each [] = refl
   rows-each (x ∷ xs) =
-      ap rows_bytes (concat-cons (node_rows c) x xs) ∙ rows_append (node_rows c x) (concat_map (node_rows c) xs)
+      ap rows_bytes (concat-cons (node_rows c) x xs) ∙ rows-append (node_rows c x) (flat_map (node_rows c) xs)
       ∙ ap (λ (y : List ℕ). node_rows_bytes c x ++ y) (rows-each xs) ∙ sym (concat-cons (node_rows_bytes c) x xs)
 
   rows-parted : rows_bytes (rows c) ≡ up_to (node_rows_bytes c) (size c)
-  rows-parted = ap rows_bytes (sym (below_all c (size c) refl)) ∙ rows-each (range 0 (size c))
+  rows-parted = ap rows_bytes (sym (below-all c (size c) refl)) ∙ rows-each (range 0 (size c))
 
   -- ---- the whole
   abbrev pub image_parts : ℕ → ℕ → ℕ → List ℕ
@@ -121,9 +121,11 @@ module _ (c : Chart) where
       ≡ header_bytes highest (own + 1) n (handler c) =
       ap (λ (k : ℕ). header_bytes k (length (table c).labels - 1) (length (table c).rows) (handler c)) (length-entries c ∙ sym eh)
       ∙ ap₂ (λ (k m : ℕ). header_bytes highest k m (handler c)) (omega (arith, length-labels c)) (sym en) in
-      concat-cons (λ f. f) _ _
+      concat-cons (λ f. f) (header_bytes (length (table c).entries) (length (table c).labels - 1) (length (table c).rows) (handler c))
+      (map_from entry_frame 1 (table c).entries ++ (map_from label_frame 0 (table c).labels ++ map row_frame (table c).rows))
       ∙ ap₂ (λ (x y : List ℕ). x ++ y) h
-      (concat-append (λ f. f) (map_from entry_frame 1 (map (entry c) (range 1 (schemes c)))) _
+      (concat-append (λ f. f) (map_from entry_frame 1 (map (entry c) (range 1 (schemes c))))
+      (map_from label_frame 0 (home_label ∷ return_label ∷ map (stop_label c) (numbered_nodes c)) ++ map row_frame (rows c))
       ∙ ap₂ (λ (x y : List ℕ). x ++ y) (entries_from c 0 (schemes c) ∙ ap (up_to (entry_bytes c)) (sym eh))
       (concat-append (λ f. f) (map_from label_frame 0 (home_label ∷ return_label ∷ map (stop_label c) (numbered_nodes c)))
       (map row_frame (rows c))
@@ -134,40 +136,40 @@ module _ (c : Chart) where
   pub entries-long : (n : ℕ) → length (up_to (entry_bytes c) n) ≡ 10 * n
   entries-long n = length-concat-range (entry_bytes c) 10 0 n (λ k. refl)
 
-  labels_length : (i n : ℕ) → length (concat_map (node_label_bytes c) (range i n)) ≡ 10 * count (is_numbered c) i n
-  labels_length i zero = unfold concat_map count in refl
+  labels_length : (i n : ℕ) → length (flat_map (node_label_bytes c) (range i n)) ≡ 10 * count (is_numbered c) i n
+  labels_length i zero = unfold count in refl
   labels_length i (suc n) =
       go (is_numbered c i) refl (labels_length (suc i) n)
     where
-      go : (b : Bool) → is_numbered c i ≡ b → length (concat_map (node_label_bytes c) (range (suc i) n))
+      go : (b : Bool) → is_numbered c i ≡ b → length (flat_map (node_label_bytes c) (range (suc i) n))
           ≡ 10 * count (is_numbered c) (suc i) n
-          → length (concat_map (node_label_bytes c) (range i (suc n))) ≡ 10 * count (is_numbered c) i (suc n)
+          → length (flat_map (node_label_bytes c) (range i (suc n))) ≡ 10 * count (is_numbered c) i (suc n)
       go true e ih =
           let p : length (node_label_bytes c i) ≡ 10 =
-          ap (λ (x : List ℕ). length x) (if-true (is_numbered c i) (label_frame (label c i) (stop_label c i)) [] e) in
-          let q : cond {A = ℕ} (is_numbered c i) 1 0 ≡ 1 = if-true (is_numbered c i) 1 0 e in
+          ap (λ (x : List ℕ). length x) (cond-true (is_numbered c i) (label_frame (label c i) (stop_label c i)) [] e) in
+          let q : cond {A = ℕ} (is_numbered c i) 1 0 ≡ 1 = cond-true (is_numbered c i) 1 0 e in
           ap (λ (x : List ℕ). length x) (concat-cons (node_label_bytes c) i (range (suc i) n))
-          ∙ length-append (node_label_bytes c i) (concat_map (node_label_bytes c) (range (suc i) n))
+          ∙ length-append (node_label_bytes c i) (flat_map (node_label_bytes c) (range (suc i) n))
           ∙ omega (arith, p, q, ih, count-suc (is_numbered c) i n)
       go false e ih =
           let p : length (node_label_bytes c i) ≡ 0 =
-          ap (λ (x : List ℕ). length x) (if-false (is_numbered c i) (label_frame (label c i) (stop_label c i)) [] e) in
-          let q : cond {A = ℕ} (is_numbered c i) 1 0 ≡ 0 = if-false (is_numbered c i) 1 0 e in
+          ap (λ (x : List ℕ). length x) (cond-false (is_numbered c i) (label_frame (label c i) (stop_label c i)) [] e) in
+          let q : cond {A = ℕ} (is_numbered c i) 1 0 ≡ 0 = cond-false (is_numbered c i) 1 0 e in
           ap (λ (x : List ℕ). length x) (concat-cons (node_label_bytes c) i (range (suc i) n))
-          ∙ length-append (node_label_bytes c i) (concat_map (node_label_bytes c) (range (suc i) n))
+          ∙ length-append (node_label_bytes c i) (flat_map (node_label_bytes c) (range (suc i) n))
           ∙ omega (arith, p, q, ih, count-suc (is_numbered c) i n)
 
   pub labels-long : length (up_to (node_label_bytes c) (size c)) ≡ 10 * count (is_numbered c) 0 (size c)
   labels-long = labels_length 0 (size c)
 
   rows-length : (rs : List Row) → length (rows_bytes rs) ≡ 10 * length rs
-  rows-length [] = unfold concat_map in refl
+  rows-length [] = refl
   rows-length (r ∷ rs) =
       ap (λ (x : List ℕ). length x) (concat-cons row_frame r rs) ∙ length-append (row_frame r) (rows_bytes rs)
       ∙ omega (arith, rows-length rs, mul-suc 10 (length rs))
 
-  pub rows_long : length (up_to (node_rows_bytes c) (size c)) ≡ 10 * length (rows c)
-  rows_long = ap (λ (x : List ℕ). length x) (sym rows-parted) ∙ rows-length (rows c)
+  pub rows-long : length (up_to (node_rows_bytes c) (size c)) ≡ 10 * length (rows c)
+  rows-long = ap (λ (x : List ℕ). length x) (sym rows-parted) ∙ rows-length (rows c)
 
 fixed-long : length fixed_bytes ≡ 20
 fixed-long = refl
@@ -204,7 +206,7 @@ module _ (c : Chart) (highest own n : ℕ) (s : Sizes c highest own n) where
         fixed-long,
         entries-long c highest,
         labels-long c,
-        rows_long c,
+        rows-long c,
         s.owned,
         s.rowed,
       )
@@ -214,7 +216,7 @@ module _ (c : Chart) (highest own n : ℕ) (s : Sizes c highest own n) where
 
   -- the parts, the header last; so many rows as their bytes are frames
   pub rows-put : (row end : ℕ) → end ≡ row + length (up_to (node_rows_bytes c) (size c)) → (end - row) / 10 ≡ n
-  rows-put row end e = omega (arith, rows_long c, s.rowed)
+  rows-put row end e = omega (arith, rows-long c, s.rowed)
 
   module _ (out o₁ o₂ o₃ o₄ o₅ : List ℕ) (end m h : ℕ) (room : 23 * (3 + highest + own + n) ≤ length out) (em : m ≡ n)
       (eh : h ≡ handler c) where
@@ -226,7 +228,7 @@ module _ (c : Chart) (highest own n : ℕ) (s : Sizes c highest own n) where
         let a : length (header_bytes highest (own + 1) n (handler c)) ≡ 10 = refl in
         let b : length (up_to (entry_bytes c) highest) ≡ 10 * highest = entries-long c highest in
         let d : length (up_to (node_label_bytes c) (size c)) ≡ 10 * own = labels-long c ∙ ap (λ (k : ℕ). 10 * k) (sym s.owned) in
-        let e : length (up_to (node_rows_bytes c) (size c)) ≡ 10 * n = rows_long c ∙ ap (λ (k : ℕ). 10 * k) (sym s.rowed) in
+        let e : length (up_to (node_rows_bytes c) (size c)) ≡ 10 * n = rows-long c ∙ ap (λ (k : ℕ). 10 * k) (sym s.rowed) in
         record {
           ends = omega (arith, put.ends, bytes-long);
           holds =
@@ -241,31 +243,31 @@ module _ (c : Chart) (highest own n : ℕ) (s : Sizes c highest own n) where
 -- ---- 10 and 16
 module _ (c : Chart) (before room : ℕ) where
   abbrev many : Bool
-  many = ltb 1024 (length (rows c))
+  many = nat_lt 1024 (length (rows c))
 
   abbrev short : Bool
-  short = ltb room (23 * (before + length (rows c)))
+  short = nat_lt room (23 * (before + length (rows c)))
 
   pub refusal-rows : 1024 < length (rows c) → Some ManyRows ≡ size_refusal c before room
-  refusal-rows h = sym (if-true many (Some ManyRows) (if short then Some NoRoom else None) (lt-ltb 1024 (length (rows c)) h))
+  refusal-rows h = sym (cond-true many (Some ManyRows) (if short then Some NoRoom else None) (lt-ltb 1024 (length (rows c)) h))
 
   module _ (few : length (rows c) ≤ 1024) where
     rest : size_refusal c before room ≡ (if short then Some NoRoom else None)
-    rest = if-false many (Some ManyRows) (if short then Some NoRoom else None) (le-ltb 1024 (length (rows c)) few)
+    rest = cond-false many (Some ManyRows) (if short then Some NoRoom else None) (le-ltb 1024 (length (rows c)) few)
 
     pub refusal-room : room < 23 * (before + length (rows c)) → Some NoRoom ≡ size_refusal c before room
-    refusal-room h = sym (rest ∙ if-true short (Some NoRoom) None (lt-ltb room (23 * (before + length (rows c))) h))
+    refusal-room h = sym (rest ∙ cond-true short (Some NoRoom) None (lt-ltb room (23 * (before + length (rows c))) h))
 
     pub refusal-none : 23 * (before + length (rows c)) ≤ room → None ≡ size_refusal c before room
-    refusal-none h = sym (rest ∙ if-false short (Some NoRoom) None (le-ltb room (23 * (before + length (rows c))) h))
+    refusal-none h = sym (rest ∙ cond-false short (Some NoRoom) None (le-ltb room (23 * (before + length (rows c))) h))
 
 module _ (c : Chart) (old : List ℕ) (highest own : ℕ) (found : Option Refusal) (eh : highest ≡ schemes c)
     (eo : own ≡ count (is_numbered c) 0 (size c)) (e : found ≡ size_refusal c (3 + highest + own) (length old)) where
   sizes : Sizes c highest own (length (rows c))
   sizes = record { schemed = eh; owned = eo; rowed = refl }
 
-  allowed : length (rows c) ≤ 1024 → when 10 (ltb 1024 (length (rows c))) ≡ fine
-  allowed few = when-fails 10 (ltb 1024 (length (rows c))) (le-ltb 1024 (length (rows c)) few)
+  allowed : length (rows c) ≤ 1024 → when 10 (nat_lt 1024 (length (rows c))) ≡ fine
+  allowed few = when-fails 10 (nat_lt 1024 (length (rows c))) (le-ltb 1024 (length (rows c)) few)
 
   pub image-refused : (r : Refusal) → found ≡ Some r → GivesBuffer (image_outcome c old) (Err r) old
   image-refused r is = go (dec_lt 1024 (length (rows c))) (dec_lt (length old) (23 * (3 + highest + own + length (rows c))))
@@ -281,12 +283,12 @@ module _ (c : Chart) (old : List ℕ) (highest own : ℕ) (found : Option Refusa
           → GivesBuffer (image_outcome c old) (Err r) old
       go (yes h) d =
           same ManyRows (refusal-rows c (3 + highest + own) (length old) h)
-          (lent-err (when 10 (ltb 1024 (length (rows c)))) 1 (λ _. image_text (table c)) old ManyRows
-          (when-holds 10 (ltb 1024 (length (rows c))) (lt-ltb 1024 (length (rows c)) h), refl))
+          (lent-err (when 10 (nat_lt 1024 (length (rows c)))) 1 (λ _. image_text (table c)) old ManyRows
+          (when-holds 10 (nat_lt 1024 (length (rows c))) (lt-ltb 1024 (length (rows c)) h), refl))
       go (no h) (yes d) =
           let few : length (rows c) ≤ 1024 = omega arith in
           same NoRoom (refusal-room c (3 + highest + own) (length old) few d)
-          (lent-short (when 10 (ltb 1024 (length (rows c)))) 1 (λ _. image_text (table c)) old (allowed few)
+          (lent-short (when 10 (nat_lt 1024 (length (rows c)))) 1 (λ _. image_text (table c)) old (allowed few)
           (omega (arith, image-long c highest own (length (rows c)) sizes)))
       go (no h) (no d) =
           let p : None ≡ Some r = refusal-none c (3 + highest + own) (length old) (omega arith) (omega arith) ∙ sym e ∙ is in

@@ -1,11 +1,12 @@
 -- The labels of a chart's table: 0 and 1, one from 2 on for each numbered stop, and the entries.
-use Rattle.std.proofs.Common.{if◌then◌else◌, ◌≡◌, refl, ◌∙◌, ap, subst, ◌⊎◌, inl, inr, Bool, true, false, not, ℕ, zero, suc, ◌+◌, ◌-◌, ◌≤◌}
-use Rattle.std.proofs.Common.{◌<◌, zero-add, add-one, arith, length, get_or, eqb, eq-eqb}
+use Rattle.std.proofs.Common.{if◌then◌else◌, ◌≡◌, refl, ◌∙◌, ap, subst, ◌⊎◌, inl, inr, Bool, true, false, not, ℕ, zero, suc, ◌+◌, ◌-◌, ◌≤◌, ◌==◌, slice_index}
+use Rattle.std.proofs.Common.{◌<◌, zero-add, add-one, arith, length, eq-eqb}
 use Rattle.std.proofs.Math.ListN.{length-map}
 use Rattle.std.proofs.lemmas.Grind.{common_steps}
 use Rattle.words.specs.lists.Numbers.{count}
-use Rattle.words.proofs.lists.Tests.{if-true, and_no, split}
-use Rattle.words.proofs.lists.Counts.{count-le, count-below, count-apart, count_yes, count-pass, count-miss2}
+use Rattle.std.proofs.lemmas.Bool.{cond-true}
+use Rattle.words.proofs.lists.Tests.{and-no, split}
+use Rattle.words.proofs.lists.Counts.{count-le, count-below, count-apart, count-yes, count-pass, count-miss2}
 use Rattle.words.proofs.lists.Ranges.{length-map-range, get_or-map-range, length-filter, get_or-filter}
 use Rattle.text.specs.frames.Frame.{size}
 use Rattle.charts.specs.Chart.{Chart, kind, scheme, is, schemes, begin, end}
@@ -25,30 +26,30 @@ pub record Bearer (c : Chart) (n l : ℕ) : Type 0 where
   pub is : label c node ≡ l
 
 module _ (c : Chart) where
-  pub label_is : (v : ℕ) → is_numbered c v ≡ true → label c v ≡ suc (suc (count (is_numbered c) 0 v))
+  pub label-is : (v : ℕ) → is_numbered c v ≡ true → label c v ≡ suc (suc (count (is_numbered c) 0 v))
   unfolding label
-  label_is v e = if-true (is_numbered c v) (2 + count (is_numbered c) 0 v) (if eqb (scheme c v) 1 then 0 else 1) e ∙ omega arith
+  label-is v e = cond-true (is_numbered c v) (2 + count (is_numbered c) 0 v) (if scheme c v == 1 then 0 else 1) e ∙ omega arith
 
   pub length-labels : length (table c).labels ≡ suc (suc (count (is_numbered c) 0 (size c)))
   unfolding table
   length-labels = ap (λ (n : ℕ). suc (suc n)) (length-map (numbered_nodes c) (stop_label c) ∙ length-filter (is_numbered c) 0 (size c))
 
   pub label-low : (v : ℕ) → is_numbered c v ≡ true → 2 ≤ label c v
-  label-low v e = omega (arith, label_is v e)
+  label-low v e = omega (arith, label-is v e)
 
-  pub label_inside : (v : ℕ) → v < size c → is_numbered c v ≡ true → label c v < length (table c).labels
-  label_inside v l e = omega (arith, label_is v e, length-labels, count-below (is_numbered c) v (size c) l e)
+  pub label-inside : (v : ℕ) → v < size c → is_numbered c v ≡ true → label c v < length (table c).labels
+  label-inside v l e = omega (arith, label-is v e, length-labels, count-below (is_numbered c) v (size c) l e)
 
   pub label-holds : (v : ℕ) → v < size c → is_numbered c v ≡ true → nth_label (table c) (label c v) ≡ stop_label c v
-  label-holds v l e = ap (nth_label (table c)) (label_is v e) ∙ at
+  label-holds v l e = ap (nth_label (table c)) (label-is v e) ∙ at
     where
       at : nth_label (table c) (suc (suc (count (is_numbered c) 0 v))) ≡ stop_label c v
       at = unfold table in
           get_or-filter (stop_label c) no_label (is_numbered c) 0 (size c) v l (ap (is_numbered c) (zero-add v) ∙ e)
           ∙ ap (stop_label c) (zero-add v)
 
-  pub labels_apart : (u v : ℕ) → is_numbered c u ≡ true → is_numbered c v ≡ true → label c u ≡ label c v → u ≡ v
-  labels_apart u v a b e = count-apart (is_numbered c) u v a b (omega (arith, label_is u a, label_is v b, e))
+  pub labels-apart : (u v : ℕ) → is_numbered c u ≡ true → is_numbered c v ≡ true → label c u ≡ label c v → u ≡ v
+  labels-apart u v a b e = count-apart (is_numbered c) u v a b (omega (arith, label-is u a, label-is v b, e))
 
   -- from 2 up each label is that of a stop
   bearer-below : (n k : ℕ) → k < count (is_numbered c) 0 n → Bearer c n (suc (suc k))
@@ -65,8 +66,8 @@ module _ (c : Chart) where
         node = n;
         inside = omega arith;
         own = e;
-        is = label_is n e
-            ∙ omega (arith, next, count_yes (is_numbered c) n e);
+        is = label-is n e
+            ∙ omega (arith, next, count-yes (is_numbered c) n e);
       }
       go (inr g) false e ih = absurd (omega (arith, next, count-pass (is_numbered c) n e))
 
@@ -89,7 +90,7 @@ module _ (c : Chart) where
   first-unnumbered v k s = grind (arith, common_steps, stops-begin, eq-eqb)
 
   end-unnumbered : (v : ℕ) → kind c v ≡ 1 → is_numbered c v ≡ false
-  end-unnumbered v k = and_no (is_stop c v) (not (is c 1 v)) (ap not (eq-eqb (kind c v) 1 k))
+  end-unnumbered v k = and-no (is_stop c v) (not (is c 1 v)) (ap not (eq-eqb (kind c v) 1 k))
 
   pub labels-few : Facts c → length (table c).labels ≤ 256
   labels-few F =
@@ -104,10 +105,10 @@ module _ (c : Chart) where
   unfolding table
   length-entries = length-map-range (entry c) 1 (schemes c)
 
-  pub entry-holds : (h : ℕ) → h < schemes c → get_or (table c).entries h 0 ≡ entry c (suc h)
+  pub entry-holds : (h : ℕ) → h < schemes c → slice_index (table c).entries h ≡ entry c (suc h)
   unfolding table
   entry-holds h l = get_or-map-range (entry c) 0 1 (schemes c) h l ∙ ap (entry c) (omega arith)
 
-  pub rows_are : (table c).rows ≡ rows c
+  pub rows-are : (table c).rows ≡ rows c
   unfolding table
-  rows_are = refl
+  rows-are = refl

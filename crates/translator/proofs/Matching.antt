@@ -1,13 +1,13 @@
 -- Which rows of a label match a word and a bit: of the paths from a node just one does, and it ends where the word leads.
-use Rattle.std.proofs.Common.{if◌then◌else◌, ◌≡◌, refl, sym, ◌∙◌, ap, ap₂, ◌⊎◌, inl, inr, Bool, true, false, ◌&&◌, ◌||◌, List, [], ◌∷◌}
-use Rattle.std.proofs.Common.{◌++◌, map, ℕ, zero, suc, ◌+◌, ◌^◌, ◌≤◌, arith, bit_and, eqb, eq-eqb, ne_eqb}
+use Rattle.std.proofs.Common.{if◌then◌else◌, ◌≡◌, refl, sym, ◌∙◌, ap, ap₂, ◌⊎◌, inl, inr, Bool, true, false, ◌&&◌, ◌||◌, List, [], ◌∷◌, ◌==◌, flat_map, filter}
+use Rattle.std.proofs.Common.{◌++◌, map, ℕ, zero, suc, ◌+◌, ◌^◌, ◌≤◌, arith, bit_and, eq-eqb, ne_eqb}
 use Rattle.std.proofs.lemmas.Grind.{common_steps}
-use Rattle.words.specs.lists.Sequences.{filter, concat_map}
 use Rattle.words.proofs.lists.Tests.{and-true, cases}
 use Rattle.words.proofs.lists.Ranges.{filter-yes, filter-no, map-append}
 use Rattle.words.proofs.lists.Joins.{concat-cons}
-use Rattle.words.proofs.lists.Filters.{filter_none, filter-append}
-use Rattle.words.specs.bits.Word.{bit, is_agreeing}
+use Rattle.words.proofs.lists.Filters.{filter-none, filter-append}
+use Rattle.std.specs.Int.{bit_at}
+use Rattle.words.specs.bits.Word.{is_agreeing}
 use Rattle.words.proofs.bits.BitLaws.{bit-cases, Mask, Agree, Clash, agree-match, clash-match, mask-0, mask-1, agree-0, agree-1, clash-0}
 use Rattle.words.proofs.bits.BitLaws.{clash-1, clash-here-0, clash-here-1}
 use Rattle.charts.specs.Chart.{Chart, kind, argument, next0, next1, arc_taken}
@@ -24,7 +24,7 @@ use Rattle.chart_rows.proofs.PathSteps.{path_row, paths-stop, paths-known, paths
 
 -- a row of label l that matches word w and bit b
 abbrev pub is_matching_row : ℕ → ℕ → ℕ → Row → Bool
-is_matching_row l w b r = eqb r.from l && (is_agreeing w r.care r.values && (eqb r.bit 2 || eqb r.bit b))
+is_matching_row l w b r = r.from == l && (is_agreeing w r.care r.values && (r.bit == 2 || r.bit == b))
 
 -- where the rows lead that match, in their order
 unfoldable pub targets : ℕ → ℕ → ℕ → List Row → List ℕ
@@ -33,18 +33,18 @@ targets l w b rs = map (λ (r : Row). r.next) (filter (is_matching_row l w b) rs
 module _ (l w b : ℕ) where
   pub targets-none : targets l w b [] ≡ []
   unfolding targets
-  targets-none = ap (map (λ (r : Row). r.next)) (filter_none (is_matching_row l w b))
+  targets-none = ap (map (λ (r : Row). r.next)) (filter-none (is_matching_row l w b))
 
   pub targets-append : (xs ys : List Row) → targets l w b (xs ++ ys) ≡ targets l w b xs ++ targets l w b ys
   unfolding targets
   targets-append xs ys = grind (arith, common_steps, filter-append, map-append)
 
   pub targets-concat : {A : Type 0} (f : A → List Row) (xs : List A)
-      → targets l w b (concat_map f xs) ≡ concat_map (λ x. targets l w b (f x)) xs
-  targets-concat f [] = unfold concat_map in targets-none
+      → targets l w b (flat_map f xs) ≡ flat_map (λ x. targets l w b (f x)) xs
+  targets-concat f [] = targets-none
   targets-concat f (x ∷ xs) =
       ap (targets l w b) (concat-cons f x xs)
-      ∙ targets-append (f x) (concat_map f xs)
+      ∙ targets-append (f x) (flat_map f xs)
       ∙ ap (λ (ys : List ℕ). targets l w b (f x) ++ ys) (targets-concat f xs)
       ∙ sym (concat-cons (λ x. targets l w b (f x)) x xs)
 
@@ -76,7 +76,7 @@ pub paths-none : (n : ℕ) (c : Chart) (l m w f b : ℕ) → ((r : Row) → r.fr
 paths-none zero c l m w f b q care values v = unfold paths in targets-none m w b
 paths-none (suc n) c l m w f b q care values v = go (cases (is_stop c v)) (bit-cases care (argument c v)) (paths-none n c l m w f b q)
   where
-    go : (is_stop c v ≡ true) ⊎ (is_stop c v ≡ false) → (bit care (argument c v) ≡ 0) ⊎ (bit care (argument c v) ≡ 1)
+    go : (is_stop c v ≡ true) ⊎ (is_stop c v ≡ false) → (bit_at care (argument c v) ≡ 0) ⊎ (bit_at care (argument c v) ≡ 1)
         → ((care values v : ℕ) → targets m w b (paths_from n c l f care values v) ≡ [])
         → targets m w b (paths_from (suc n) c l f care values v) ≡ []
     go (inl s) x ih =
@@ -97,12 +97,12 @@ module _ (c : Chart) (a : SoundChart c) (l w f b : ℕ) where
   paths-miss zero h care values v t m k = unfold paths in targets-none l w b
   paths-miss (suc n) h care values v t m k = go (cases (is_stop c v)) (bit-cases care (argument c v)) (paths-miss n h)
     where
-      go : (is_stop c v ≡ true) ⊎ (is_stop c v ≡ false) → (bit care (argument c v) ≡ 0) ⊎ (bit care (argument c v) ≡ 1)
+      go : (is_stop c v ≡ true) ⊎ (is_stop c v ≡ false) → (bit_at care (argument c v) ≡ 0) ⊎ (bit_at care (argument c v) ≡ 1)
           → ((care values v : ℕ) → Target c h v → Mask care values → Clash w care values
           → targets l w b (paths_from n c l f care values v) ≡ [])
           → targets l w b (paths_from (suc n) c l f care values v) ≡ []
       go (inl s) x ih =
-          let q : eqb (bit_and w care) values ≡ false = ne_eqb (bit_and w care) values (clash-match w care values k) in
+          let q : (bit_and w care == values) ≡ false = ne_eqb (bit_and w care) values (clash-match w care values k) in
           ap (targets l w b) (paths-stop n c l f care values v s) ∙ one-no l w b (path_row c l f care values v) (rw (eq-eqb l l refl, q))
       go (inr s) (inr o) ih =
           ap (targets l w b) (paths-known n c l f care values v s o)
@@ -120,7 +120,7 @@ module _ (c : Chart) (a : SoundChart c) (l w f b : ℕ) where
           (mask-1 care values i z m small) (clash-1 care values i z m w k))
 
   -- a word that has them matches one row: that of the stop which following the arcs reaches
-  pub paths-hit : (eqb f 2 || eqb f b) ≡ true → (n h care values v : ℕ) → Target c h v
+  pub paths-hit : (f == 2 || f == b) ≡ true → (n h care values v : ℕ) → Target c h v
       → rank c v ≤ n → Mask care values → Agree w care values
       → targets l w b (paths_from n c l f care values v) ≡ label c (next_stop n c w v) ∷ []
   paths-hit suits zero h care values v t r m g = absurd (omega (arith, rank-some c v t.inside))
@@ -133,22 +133,22 @@ module _ (c : Chart) (a : SoundChart c) (l w f b : ℕ) where
       lower : kind c v ≡ 3 → (u : ℕ) → arc_taken c w v ≡ u → rank c u ≤ n
       lower e u q = omega (arith, ap (rank c) q, taken-falls c a w v t.inside e)
 
-      go : (is_stop c v ≡ true) ⊎ (is_stop c v ≡ false) → (bit care (argument c v) ≡ 0) ⊎ (bit care (argument c v) ≡ 1)
-          → (bit w (argument c v) ≡ 0) ⊎ (bit w (argument c v) ≡ 1)
+      go : (is_stop c v ≡ true) ⊎ (is_stop c v ≡ false) → (bit_at care (argument c v) ≡ 0) ⊎ (bit_at care (argument c v) ≡ 1)
+          → (bit_at w (argument c v) ≡ 0) ⊎ (bit_at w (argument c v) ≡ 1)
           → ((care values v : ℕ) → Target c h v → rank c v ≤ n → Mask care values → Agree w care values
           → targets l w b (paths_from n c l f care values v) ≡ label c (next_stop n c w v) ∷ [])
           → targets l w b (paths_from (suc n) c l f care values v) ≡ label c (next_stop (suc n) c w v) ∷ []
       go (inl s) x y ih =
           let z : is_matching_row l w b (path_row c l f care values v) ≡ true =
-          and-true (eqb l l) (is_agreeing w care values && (eqb f 2 || eqb f b)) (eq-eqb l l refl)
-          (and-true (is_agreeing w care values) (eqb f 2 || eqb f b) (eq-eqb (bit_and w care) values
+          and-true (l == l) (is_agreeing w care values && (f == 2 || f == b)) (eq-eqb l l refl)
+          (and-true (is_agreeing w care values) (f == 2 || f == b) (eq-eqb (bit_and w care) values
           (agree-match w care values m g)) suits) in
           ap (targets l w b) (paths-stop n c l f care values v s) ∙ one-yes l w b (path_row c l f care values v) z
           ∙ ap (λ (u : ℕ). label c u ∷ []) (sym (follow-stays n c w v s))
       go (inr s) (inr o) y ih =
           let e : kind c v ≡ 3 = goes_on c v t.entered s in
           let q : arc_taken c w v ≡ arc_taken c values v =
-          ap (λ (x : ℕ). if eqb x 0 then next0 c v else next1 c v) (g.agrees (argument c v) o) in
+          ap (λ (x : ℕ). if x == 0 then next0 c v else next1 c v) (g.agrees (argument c v) o) in
           ap (targets l w b) (paths-known n c l f care values v s o)
           ∙ ih care values (arc_taken c values v) (taken-end c a h values v t e) (lower e (arc_taken c values v) q) m g
           ∙ on s (arc_taken c values v) q

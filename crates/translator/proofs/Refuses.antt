@@ -1,5 +1,5 @@
 -- The numbers that the translator refuses with: 1 to 10 and 19.
-use Rattle.std.proofs.Common.{ℕ, ◌≤◌, List, arith, ltb, length}
+use Rattle.std.proofs.Common.{ℕ, ◌≤◌, List, arith, length, nat_lt}
 use Rattle.std.proofs.lemmas.Grind.{common_steps}
 use Rattle.text.specs.frames.Frame.{contents}
 use Rattle.text.specs.frames.Check.{text_verdict}
@@ -25,4 +25,4 @@ translate-refuses t =
     (next-refuses OfChart (text_verdict 5888 t) _
     (text-refuses OfChart (omega arith, omega arith) (omega arith, omega arith) (omega arith, omega arith) 5888 t)
     (chart-refuses (contents t)))
-    (when-refuses OfChart 10 (ltb 1024 (length (rows (contents t)))) (omega arith, omega arith))
+    (when-refuses OfChart 10 (nat_lt 1024 (length (rows (contents t)))) (omega arith, omega arith))

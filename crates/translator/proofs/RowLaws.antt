@@ -1,16 +1,17 @@
 -- For each numbered stop of a sound chart, every word and every bit just one row matches, and it leads to the label of the stop where the
 -- walk goes.
-use Rattle.std.proofs.Common.{if◌then◌else◌, ◌≡◌, refl, sym, ◌∙◌, ap, subst, ◌⊎◌, inl, inr, Bool, true, false, ◌&&◌, ◌||◌, not, List, []}
-use Rattle.std.proofs.Common.{◌∷◌, ◌++◌, ℕ, ◌+◌, ◌^◌, ◌≤◌, ◌<◌, zero-add, arith, length, get_or, eqb, eqb-true, eq-eqb, ne_eqb}
+use Rattle.std.proofs.Common.{if◌then◌else◌, ◌≡◌, refl, sym, ◌∙◌, ap, subst, ◌⊎◌, inl, inr, Bool, true, false, ◌&&◌, ◌||◌, not, List, [], ◌==◌, slice_index_or, filter}
+use Rattle.std.proofs.Common.{◌∷◌, ◌++◌, ℕ, ◌+◌, ◌^◌, ◌≤◌, ◌<◌, zero-add, arith, length, eqb-true, eq-eqb, ne_eqb}
 use Rattle.std.proofs.Math.Decide.{ℕ_discrete}
 use Rattle.std.proofs.Math.ListN.{length-map}
 use borrow.Author.Tests.{eqb-false}
 use Rattle.std.proofs.lemmas.Grind.{common_steps}
 use Rattle.words.specs.lists.Numbers.{range}
-use Rattle.words.specs.lists.Sequences.{filter}
-use Rattle.words.proofs.lists.Tests.{and_l, and_r, not-true, if-true, if-false}
-use Rattle.words.proofs.lists.Filters.{concat-only, one_passes}
-use Rattle.words.specs.bits.Word.{bit, is_agreeing}
+use Rattle.std.proofs.lemmas.Bool.{cond-true, cond-false}
+use Rattle.words.proofs.lists.Tests.{and-l, and-r, not-true}
+use Rattle.words.proofs.lists.Filters.{concat-only, one-passes}
+use Rattle.std.specs.Int.{bit_at}
+use Rattle.words.specs.bits.Word.{is_agreeing}
 use Rattle.words.proofs.bits.BitLaws.{bit-none, bit-cases, Mask, Agree, Clash, mask-none, agree-none, mask-0, mask-1, agree-0, agree-1}
 use Rattle.words.proofs.bits.BitLaws.{clash-here-0, clash-here-1}
 use Rattle.text.specs.frames.Frame.{size}
@@ -23,19 +24,19 @@ use Rattle.walk.proofs.Follow.{stops-other, stops-condition, stops-begin, follow
 use Rattle.image.specs.Image.{Row, no_row}
 use Rattle.chart_rows.specs.chart_labels.Labels.{is_numbered, label}
 use Rattle.chart_rows.specs.Rows.{rows_of, rows}
-use Rattle.chart_rows.proofs.RowKinds.{function-rows, condition-rows, plain_rows}
+use Rattle.chart_rows.proofs.RowKinds.{function-rows, condition-rows, plain-rows}
 use Rattle.chart_rows.specs.inner.NodeRows.{paths_from}
 use Rattle.translator.proofs.label_text.LabelPuts.{numbered-stop}
-use Rattle.translator.proofs.LabelLaws.{labels_apart}
+use Rattle.translator.proofs.LabelLaws.{labels-apart}
 use Rattle.translator.proofs.Matching.{is_matching_row, targets, targets-concat, in-first, in-second, paths-none, paths-miss, paths-hit}
 
 -- rows of another node's label match nothing
-rows_other : (c : Chart) (u m w b : ℕ) → (label c u ≡ m → ⊥) → targets m w b (rows_of c u) ≡ []
-rows_other c u m w b ne = go (ℕ_discrete (kind c u) 4) (ℕ_discrete (kind c u) 3)
+rows-other : (c : Chart) (u m w b : ℕ) → (label c u ≡ m → ⊥) → targets m w b (rows_of c u) ≡ []
+rows-other c u m w b ne = go (ℕ_discrete (kind c u) 4) (ℕ_discrete (kind c u) 3)
   where
     elsewhere : (r : Row) → r.from ≡ label c u → is_matching_row m w b r ≡ false
     elsewhere r e =
-        ap (λ (x : Bool). x && (is_agreeing w r.care r.values && (eqb r.bit 2 || eqb r.bit b)))
+        ap (λ (x : Bool). x && (is_agreeing w r.care r.values && (r.bit == 2 || r.bit == b)))
         (ne_eqb r.from m (λ q. ne (sym e ∙ q)))
 
     none : (f care values v : ℕ) → targets m w b (paths_from (size c) c (label c u) f care values v) ≡ []
@@ -51,7 +52,7 @@ rows_other c u m w b ne = go (ℕ_discrete (kind c u) 4) (ℕ_discrete (kind c u
         ap (targets m w b) (condition-rows c u k)
         ∙ in-second m w b (paths_from (size c) c (label c u) 2 p 0 (next0 c u)) (paths_from (size c) c (label c u) 2 p p (next1 c u)) []
         (none 2 p 0 (next0 c u)) (none 2 p p (next1 c u))
-    go (no n) (no k) = ap (targets m w b) (plain_rows c u n k) ∙ none 2 0 0 (next0 c u)
+    go (no n) (no k) = ap (targets m w b) (plain-rows c u n k) ∙ none 2 0 0 (next0 c u)
 
 -- so among all rows those of the node itself decide
 pub rows-here : (c : Chart) (v w b : ℕ) → v < size c → is_numbered c v ≡ true
@@ -60,11 +61,11 @@ unfolding rows
 rows-here c v w b l e =
     targets-concat (label c v) w b (rows_of c) (filter (is_numbered c) (range 0 (size c)))
     ∙ concat-only (λ u. targets (label c v) w b (rows_of c u)) (is_numbered c) v 0 (size c) (omega arith) (omega arith) e
-    (λ u x y n ne. rows_other c u (label c v) w b (λ q. ne (labels_apart c u v n e q)))
+    (λ u x y n ne. rows-other c u (label c v) w b (λ q. ne (labels-apart c u v n e q)))
 
 module _ (c : Chart) (a : SoundChart c) where
   -- all paths from an arc's end, with nothing tested yet
-  from-arc : (l w f b : ℕ) → (eqb f 2 || eqb f b) ≡ true → (h u : ℕ) → Target c h u
+  from-arc : (l w f b : ℕ) → (f == 2 || f == b) ≡ true → (h u : ℕ) → Target c h u
       → targets l w b (paths_from (size c) c l f 0 0 u) ≡ label c (by_arc c w u) ∷ []
   from-arc l w f b suits h u t = paths-hit c a l w f b suits (size c) h 0 0 u t (rank-le c u) mask-none (agree-none w)
 
@@ -72,9 +73,9 @@ module _ (c : Chart) (a : SoundChart c) where
   row-straight : (v w b : ℕ) → v < size c → is_numbered c v ≡ true → (kind c v ≡ 4 → ⊥) → (kind c v ≡ 3 → ⊥)
       → targets (label c v) w b (rows c) ≡ label c (by_arc c w (next0 c v)) ∷ []
   row-straight v w b l e n k =
-      rows-here c v w b l e ∙ ap (targets (label c v) w b) (plain_rows c v n k)
+      rows-here c v w b l e ∙ ap (targets (label c v) w b) (plain-rows c v n k)
       ∙ from-arc (label c v) w 2 b refl (scheme c v) (next0 c v)
-      (arc0 c a v l (eqb-false (kind c v) 1 (not-true (is c 1 v) (and_r (is_stop c v) (not (is c 1 v)) e))))
+      (arc0 c a v l (eqb-false (kind c v) 1 (not-true (is c 1 v) (and-r (is_stop c v) (not (is c 1 v)) e))))
 
   pub row_plain : (v w b : ℕ) → v < size c → kind c v ≡ 2 → targets (label c v) w b (rows c) ≡ label c (by_arc c w (next0 c v)) ∷ []
   row_plain v w b l k = grind (arith, common_steps, numbered-stop, stops-other, row-straight)
@@ -84,10 +85,10 @@ module _ (c : Chart) (a : SoundChart c) where
       → targets (label c v) w b (rows c) ≡ label c (by_word c w (next0 c v)) ∷ []
   row-begin v w b l k s =
       let t : Target c (scheme c v) (next0 c v) = arc0 c a v l (λ e. omega arith) in
-      let x : (not (eqb (scheme c v) 1) && is c 3 (next0 c v)) ≡ true = sym (stops-begin c v k) ∙ s in
-      let one : eqb (scheme c v) 1 ≡ false = not-true (eqb (scheme c v) 1) (and_l (not (eqb (scheme c v) 1)) (is c 3 (next0 c v)) x) in
-      let k₃ : kind c (next0 c v) ≡ 3 = eqb-true (kind c (next0 c v)) 3 (and_r (not (eqb (scheme c v) 1)) (is c 3 (next0 c v)) x) in
-      let one' : eqb (scheme c (next0 c v)) 1 ≡ false = ap (λ (h : ℕ). eqb h 1) t.same ∙ one in
+      let x : (not (scheme c v == 1) && is c 3 (next0 c v)) ≡ true = sym (stops-begin c v k) ∙ s in
+      let one : (scheme c v == 1) ≡ false = not-true (scheme c v == 1) (and-l (not (scheme c v == 1)) (is c 3 (next0 c v)) x) in
+      let k₃ : kind c (next0 c v) ≡ 3 = eqb-true (kind c (next0 c v)) 3 (and-r (not (scheme c v == 1)) (is c 3 (next0 c v)) x) in
+      let one' : (scheme c (next0 c v) == 1) ≡ false = ap (λ (h : ℕ). h == 1) t.same ∙ one in
       let on : is_stop c (next0 c v) ≡ false = stops-condition c (next0 c v) k₃ ∙ rw one' in
       row-straight v w b l (numbered-stop c v (λ e. omega arith) ∙ s) (λ e. omega arith) (λ e. omega arith)
       ∙ ap (λ (u : ℕ). label c u ∷ []) (follow-condition c a (next0 c v) w t.inside k₃ on)
@@ -110,7 +111,7 @@ module _ (c : Chart) (a : SoundChart c) where
       small : argument c v ≤ 15
       small = conditions c a v l k
 
-      free : bit 0 (argument c v) ≡ 0
+      free : bit_at 0 (argument c v) ≡ 0
       free = bit-none (argument c v)
 
       mask₀ : Mask (2 ^ argument c v) 0
@@ -119,7 +120,7 @@ module _ (c : Chart) (a : SoundChart c) where
       mask₁ : Mask (2 ^ argument c v) (2 ^ argument c v)
       mask₁ = subst (λ (x : ℕ). Mask x x) two (mask-1 0 0 (argument c v) free mask-none small)
 
-      go : (bit w (argument c v) ≡ 0) ⊎ (bit w (argument c v) ≡ 1)
+      go : (bit_at w (argument c v) ≡ 0) ⊎ (bit_at w (argument c v) ≡ 1)
           → targets (label c v) w b (paths_from (size c) c (label c v) 2 (2 ^ argument c v) 0 (next0 c v)
           ++ paths_from (size c) c (label c v) 2 (2 ^ argument c v) (2 ^ argument c v) (next1 c v))
           ≡ label c (by_word c w v) ∷ []
@@ -154,11 +155,11 @@ module _ (c : Chart) (a : SoundChart c) where
       none true false = refl
       none false y = refl
 
-      off : (f x : ℕ) → (eqb f 2 || eqb f x) ≡ false → (r : Row) → r.from ≡ label c v → r.bit ≡ f
+      off : (f x : ℕ) → (f == 2 || f == x) ≡ false → (r : Row) → r.from ≡ label c v → r.bit ≡ f
           → is_matching_row (label c v) w x r ≡ false
       off f x q r e g =
-          ap (λ (y : Bool). eqb r.from (label c v) && (is_agreeing w r.care r.values && y)) (ap (λ (y : ℕ). eqb y 2 || eqb y x) g ∙ q)
-          ∙ none (eqb r.from (label c v)) (is_agreeing w r.care r.values)
+          ap (λ (y : Bool). r.from == label c v && (is_agreeing w r.care r.values && y)) (ap (λ (y : ℕ). y == 2 || y == x) g ∙ q)
+          ∙ none (r.from == label c v) (is_agreeing w r.care r.values)
 
       go : (b : Bool) → targets (label c v) w (if b then 1 else 0)
           (paths_from (size c) c (label c v) 0 0 0 (next0 c v) ++ paths_from (size c) c (label c v) 1 0 0 (next1 c v))
@@ -184,14 +185,14 @@ module _ (c : Chart) (a : SoundChart c) (v w : ℕ) (b : Bool) (l : v < size c) 
   -- just one row matches, and this is where it leads
   pub one-row : targets (label c v) w (if b then 1 else 0) (rows c) ≡ label c (onward_stop c w b v) ∷ []
   unfolding onward_stop
-  one-row = grind (arith, common_steps, ne_eqb, if-true, targets, and_l, if-false, eq-eqb, row-straight, row-condition, row-function)
+  one-row = grind (arith, common_steps, ne_eqb, cond-true, targets, and-l, cond-false, eq-eqb, row-straight, row-condition, row-function)
 
   -- so two rows that match are the same row
-  pub same_row : (i j : ℕ) → i < length (rows c) → j < length (rows c)
-      → is_matching_row (label c v) w (if b then 1 else 0) (get_or (rows c) i no_row) ≡ true
-      → is_matching_row (label c v) w (if b then 1 else 0) (get_or (rows c) j no_row) ≡ true → i ≡ j
+  pub same-row : (i j : ℕ) → i < length (rows c) → j < length (rows c)
+      → is_matching_row (label c v) w (if b then 1 else 0) (slice_index_or (rows c) i no_row) ≡ true
+      → is_matching_row (label c v) w (if b then 1 else 0) (slice_index_or (rows c) j no_row) ≡ true → i ≡ j
   unfolding targets
-  same_row = one_passes (is_matching_row (label c v) w (if b then 1 else 0)) no_row (rows c)
+  same-row = one-passes (is_matching_row (label c v) w (if b then 1 else 0)) no_row (rows c)
       (omega (
         arith,
         sym (length-map (filter (is_matching_row (label c v) w (if b then 1 else 0)) (rows c)) (λ (r : Row). r.next))

@@ -1,10 +1,10 @@
 -- The table of an accepted chart of at most 1,024 rows is sound, so its text passes the image check and reads back as the table.
-use Rattle.std.proofs.Common.{if◌then◌else◌, ℕ, suc, ◌+◌, ◌*◌, ◌-◌, ◌≤◌, ◌<◌, Bool, true, false, ◌≡◌, sym, ◌∙◌, ap, subst, List, arith}
-use Rattle.std.proofs.Common.{length, get_or, eqb, eqb-true}
+use Rattle.std.proofs.Common.{if◌then◌else◌, ℕ, suc, ◌+◌, ◌*◌, ◌-◌, ◌≤◌, ◌<◌, Bool, true, false, ◌≡◌, sym, ◌∙◌, ap, subst, List, arith, ◌==◌, slice_index, slice_index_or}
+use Rattle.std.proofs.Common.{length, eqb-true}
 use Rattle.std.proofs.Math.ListN.{length-map}
 use borrow.Author.Tests.{eqb-false}
 use Rattle.std.proofs.lemmas.Grind.{common_steps}
-use Rattle.words.proofs.lists.Ranges.{get_d_map}
+use Rattle.words.proofs.lists.Ranges.{get_d-map}
 use Rattle.words.proofs.lists.Joins.{all-at}
 use Rattle.text.specs.frames.Frame.{contents, size}
 use Rattle.text.specs.frames.Verdict.{fine}
@@ -21,7 +21,7 @@ use Rattle.image.proofs.Passes.{image-fine}
 use Rattle.chart_rows.specs.chart_labels.Labels.{is_numbered, numbered_nodes, bare_label, label_as, stop_label}
 use Rattle.chart_rows.specs.Rows.{rows}
 use Rattle.translator.specs.Table.{table}
-use Rattle.translator.proofs.LabelLaws.{label-home, label-return, labels-two, labels-few, length-entries, entry-holds, rows_are}
+use Rattle.translator.proofs.LabelLaws.{label-home, label-return, labels-two, labels-few, length-entries, entry-holds, rows-are}
 use Rattle.translator.proofs.SoundRows.{label-reaches, numbered-nodes, rows-sound, rows-rising}
 
 module _ (c : Chart) (F : Facts c) where
@@ -33,7 +33,7 @@ module _ (c : Chart) (F : Facts c) where
     bare-sound : SoundLabel (schemes c) (bare_label (scheme c v))
     bare-sound = grind (arith, common_steps)
 
-    operation-sound : kind c v ≡ 2 → (z : Bool) → eqb (argument c v) 0 ≡ z
+    operation-sound : kind c v ≡ 2 → (z : Bool) → (argument c v == 0) ≡ z
         → SoundLabel (schemes c)
         (record { kind = if z then 0 else 1; called = argument c v; owner = scheme c v; result = result c v; mask = mask c v })
     operation-sound e true g = grind (arith, common_steps, eqb-true, mask-small)
@@ -53,9 +53,9 @@ module _ (c : Chart) (F : Facts c) where
     pub label-sound : SoundLabel (schemes c) (stop_label c v)
     label-sound = grind (arith, common_steps, bare-sound, operation-sound, function-sound)
 
-  label-at : (k : ℕ) → k < length (numbered_nodes c) → nth_label (table c) (suc (suc k)) ≡ stop_label c (get_or (numbered_nodes c) k 0)
+  label-at : (k : ℕ) → k < length (numbered_nodes c) → nth_label (table c) (suc (suc k)) ≡ stop_label c (slice_index (numbered_nodes c) k)
   unfolding table
-  label-at k l = get_d_map (stop_label c) (numbered_nodes c) k 0 no_label l
+  label-at k l = get_d-map (stop_label c) (numbered_nodes c) k 0 no_label l
 
   labels-count : length (table c).labels ≡ suc (suc (length (numbered_nodes c)))
   unfolding table
@@ -64,7 +64,7 @@ module _ (c : Chart) (F : Facts c) where
   others-sound : (l : ℕ) → 2 ≤ l → l < length (table c).labels → SoundLabel (schemes c) (nth_label (table c) l)
   others-sound l h k =
       let m : l - 2 < length (numbered_nodes c) = omega (arith, labels-count) in
-      let v : ℕ = get_or (numbered_nodes c) (l - 2) 0 in
+      let v : ℕ = slice_index (numbered_nodes c) (l - 2) in
       let e : nth_label (table c) l ≡ stop_label c v = ap (nth_label (table c)) (omega arith) ∙ label-at (l - 2) m in
       let g : (v < size c) × (is_numbered c v ≡ true) =
       all-at (λ v. (v < size c) × (is_numbered c v ≡ true)) 0 (numbered_nodes c) (numbered-nodes c) (l - 2) m in
@@ -82,7 +82,7 @@ module _ (c : Chart) (F : Facts c) where
       most = omega (arith, length-entries c, F.most);
       two = labels-two c;
       last = labels-few c F;
-      few = subst (λ (rs : List Row). length rs ≤ 1024) (sym (rows_are c)) few;
+      few = subst (λ (rs : List Row). length rs ≤ 1024) (sym (rows-are c)) few;
       handled = table-handled;
       starts = λ h l.
           let m : h < schemes c = omega (arith, length-entries c) in
@@ -93,11 +93,11 @@ module _ (c : Chart) (F : Facts c) where
       back = label-return c;
       others = λ l h k. subst (λ (n : ℕ). SoundLabel n (nth_label (table c) l)) (sym (length-entries c)) (others-sound l h k);
       each = λ k l.
-          subst (λ (rs : List Row). SoundRow (table c) (get_or rs k no_row)) (sym (rows_are c))
-          (all-at (SoundRow (table c)) no_row (rows c) (rows-sound c F) k (subst (λ (rs : List Row). k < length rs) (rows_are c) l));
+          subst (λ (rs : List Row). SoundRow (table c) (slice_index_or rs k no_row)) (sym (rows-are c))
+          (all-at (SoundRow (table c)) no_row (rows c) (rows-sound c F) k (subst (λ (rs : List Row). k < length rs) (rows-are c) l));
       rising = λ k l.
-          subst (λ (rs : List Row). (get_or rs k no_row).from ≤ (get_or rs (suc k) no_row).from) (sym (rows_are c))
-          (rows-rising c F k (subst (λ (rs : List Row). suc k < length rs) (rows_are c) l));
+          subst (λ (rs : List Row). (slice_index_or rs k no_row).from ≤ (slice_index_or rs (suc k) no_row).from) (sym (rows-are c))
+          (rows-rising c F k (subst (λ (rs : List Row). suc k < length rs) (rows-are c) l));
     }
 
     pub table-fine : image_verdict (image_text (table c)) ≡ fine

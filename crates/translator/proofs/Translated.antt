@@ -1,5 +1,5 @@
 -- What success of the translator tells: the chart was accepted, its rows are few, and the buffer holds the text of its table.
-use Rattle.std.proofs.Common.{ℕ, ◌≤◌, ◌≡◌, sym, ◌∙◌, ap, List, arith, ltb, length, take, length-take, ltb-false, Ok}
+use Rattle.std.proofs.Common.{ℕ, ◌≤◌, ◌≡◌, sym, ◌∙◌, ap, List, arith, length, take, length-take, ltb-false, Ok, nat_lt}
 use Rattle.std.proofs.lemmas.Grind.{common_steps}
 use Rattle.text.specs.frames.Frame.{contents}
 use Rattle.text.specs.frames.Verdict.{fine, when}
@@ -15,7 +15,7 @@ use Rattle.translator.specs.Entry.{translate_verdict, translate}
 module _ (t : List ℕ) (ok : translate_verdict t ≡ fine) where
   pub translated-read : read_verdict t ≡ fine
   unfolding translate_verdict
-  translated-read = next-first (read_verdict t) (λ _. when 10 (ltb 1024 (length (rows (contents t))))) ok
+  translated-read = next-first (read_verdict t) (λ _. when 10 (nat_lt 1024 (length (rows (contents t))))) ok
 
   pub translated-few : length (rows (contents t)) ≤ 1024
   unfolding translate_verdict

@@ -15,9 +15,10 @@ use image::layout::{ENTRY, HEADER};
 use text::frames::put_bytes;
 use text::frames::sizes::FRAME;
 
+/// The header's frame at the front of `out`, for schemes 1 to `highest`, labels 0 to `last` and so many rows; `handler` is 0 or the handler's scheme.
 pub fn put_header(out: &mut [u8], highest: u8, last: u8, rows: usize, handler: u8)
-    requires in_bounds { FRAME ≤ length out.old }
-    requires rows_bound { rows ≤ ROWS }
+    requires room { FRAME ≤ length out.old }
+    requires rows_fit { rows ≤ ROWS }
     ensures { out.new ≡ written out.old 0 (header_bytes highest last rows handler) }
 {
     let rows0 = (rows / 256) as u8;
@@ -48,9 +49,10 @@ fn put_entry(out: &mut [u8], at: usize, scheme: u8, label: u8)
     put_bytes(out, at, &bytes);
 }
 
+/// The frames of entries 1 to `highest` from `at` on, each the label where performing the scheme starts.
 pub fn put_entries(records: &[u8], labels: &[u8], highest: u8, out: &mut [u8], at: usize)
     requires schemed { Schemed records.now labels.now highest }
-    requires highest_in_bounds { at + FRAME * highest ≤ length out.old }
+    requires room { at + FRAME * highest ≤ length out.old }
     ensures { out.new ≡ written out.old at (up_to (entry_bytes records.now) highest) }
 {
     let mut begins = [0u8; 17];

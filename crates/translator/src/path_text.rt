@@ -29,8 +29,7 @@ fn put_row(out: &mut [u8], at: usize, from: u8, care: u16, values: u16, bit: u8,
     at + FRAME
 }
 
-// The paths on from a node, the 0 side of each new condition first: those of a 0 side by recursion, unless it ends at once; then the path
-// goes on along the 1 side.
+// The paths on from a node, the 0 side of each new condition first. A 0 side that ends at once is one row and needs no call.
 fn put_forks(
     records: &[u8],
     notes: &[u8],
@@ -43,35 +42,30 @@ fn put_forks(
     at: usize,
 ) -> usize
     requires path_at { PathAt records.now notes.now care values node }
-    requires node_in_bounds { at + length (rows_bytes (paths_from (size records.now) records.now from bit care values node)) ≤ length out.old }
+    requires room { at + length (rows_bytes (paths_from (size records.now) records.now from bit care values node)) ≤ length out.old }
     ensures { Put out.old at
         (rows_bytes (paths_from (size records.now) records.now from bit care values node)) result out.new }
 {
-    let mut place = at;
-    let mut tested = care;
-    let mut valued = values;
-    let mut next = node;
-    loop {
-        let v = settle(records, notes, next, tested, valued) as usize;
-        let i = notes[NODES + v];
-        if i > 15 {
-            return put_row(out, place, from, tested, valued, bit, notes[v]);
-        }
-        tested = with_bit(tested, i);
-        let side = with_bit(valued, i);
-        next = field(records, v, NEXT1);
-        let low = field(records, v, NEXT0);
-        let end = low as usize;
-        if notes[NODES + end] > 15 {
-            place = put_row(out, place, from, tested, valued, bit, notes[end]);
-        } else {
-            place = put_forks(records, notes, low, tested, valued, from, bit, out, place);
-        }
-        valued = side;
+    let v = settle(records, notes, node, care, values) as usize;
+    let i = notes[NODES + v];
+    if i > 15 {
+        return put_row(out, at, from, care, values, bit, notes[v]);
     }
+    let tested = with_bit(care, i);
+    let valued = with_bit(values, i);
+    let low = field(records, v, NEXT0);
+    let high = field(records, v, NEXT1);
+    let end = low as usize;
+    let place = if notes[NODES + end] > 15 {
+        put_row(out, at, from, tested, values, bit, notes[end])
+    } else {
+        put_forks(records, notes, low, tested, values, from, bit, out, at)
+    };
+    put_forks(records, notes, high, tested, valued, from, bit, out, place)
 }
 
-// The paths on from a node: one row where it is a stop.
+/// The rows of the paths on from a node, with the care mask and the values of what they tested so far: one where it is a stop. They leave
+/// label `from` with function bit `bit`, and are written to `out` from `at` on; the offset after them.
 pub fn put_paths(
     records: &[u8],
     notes: &[u8],
@@ -84,7 +78,7 @@ pub fn put_paths(
     at: usize,
 ) -> usize
     requires path_at { PathAt records.now notes.now care values node }
-    requires node_in_bounds { at + length (rows_bytes (paths_from (size records.now) records.now from bit care values node)) ≤ length out.old }
+    requires room { at + length (rows_bytes (paths_from (size records.now) records.now from bit care values node)) ≤ length out.old }
     ensures { Put out.old at
         (rows_bytes (paths_from (size records.now) records.now from bit care values node)) result out.new }
 {

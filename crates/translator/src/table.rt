@@ -10,18 +10,17 @@ ghost use Rattle.translator.specs.inner.ImageBytes.{table_bytes, size_refusal};
 use crate::entry_text::{put_entries, put_header};
 use crate::label_text::{put_fixed, put_labels};
 use crate::row_text::put_rows;
-use chart_check::chart_handler::handler_scheme;
-use chart_rows::row_bounds::bound_rows;
-use chart_rows::{COUNTED, count_rows};
+use chart_check::handler_scheme;
+use chart_rows::{COUNTED, bound_rows, count_rows};
 use chart_text::spread;
 use text::frames::Refusal;
 use text::frames::sizes::*;
 
-// 10, or 16 where there is no room for so many frames before the rows and for the rows. Where a bound on the rows excludes both,
-// the paths are not walked to count them.
+/// 10, or 16 where there is no room for so many frames before the rows and for the rows. Where a bound on the rows excludes both,
+/// the paths are not walked to count them.
 pub fn size_refusal(records: &[u8], notes: &[u8], before: usize, room: usize) -> Option<Refusal>
     requires noted { Noted records.now notes.now }
-    requires before_bound { before ≤ 1024 }
+    requires before_fits { before ≤ 1024 }
     ensures { result ≡ size_refusal records.now before room }
 {
     let bound = bound_rows(records, notes);
@@ -57,7 +56,7 @@ fn put_table(records: &[u8], notes: &[u8], highest: u8, own: usize, out: &mut [u
     end
 }
 
-// The bytes first, and then all of them made into text in one pass, which the compiler makes of many characters at once.
+/// The image's text, and how many characters it has. The bytes first, and then all of them made into text in one pass, which the compiler makes of many characters at once.
 pub fn put_image(records: &[u8], notes: &[u8], highest: u8, own: usize, out: &mut [u8]) -> usize
     requires { ImageRoom records.now notes.now highest own out.old }
     ensures { Put out.old 0 (image_text (table records.now)) result out.new }

@@ -7,7 +7,7 @@ ghost use Rattle.translator.specs.Entry.{translate};
 ghost use Rattle.translator.specs.inner.ImageBytes.{image_outcome};
 
 use crate::{put_image, size_refusal};
-use chart_check::chart_counts::highest_scheme;
+use chart_check::highest_scheme;
 use chart_rows::{NOTES, note_nodes};
 use chart_text::read_chart;
 use text::frames::Refusal;
@@ -16,7 +16,7 @@ use text::frames::sizes::{RECORD, RECORDS};
 // The image of an accepted chart: 10 and 16 are settled before anything is written.
 fn write_image(records: &[u8], highest: u8, out: &mut [u8]) -> Result<usize, Refusal>
     requires ready { Ready records.now }
-    requires highest_value { highest ≡ schemes records.now }
+    requires all_schemes { highest ≡ schemes records.now }
     ensures { GivesBuffer (image_outcome records.now out.old) result out.new }
 {
     let mut notes = [0u8; NOTES];
@@ -27,7 +27,8 @@ fn write_image(records: &[u8], highest: u8, out: &mut [u8]) -> Result<usize, Ref
     Ok(put_image(records, &notes, highest, own, out))
 }
 
-// Refusals 1 to 10, 19 after 5, and 16, else the number of characters. Nothing is written before every refusal is settled.
+/// The image of a chart's text. Refusals 1 to 10, 19 after 5, and 16, else the number of characters. Nothing is written before every refusal
+/// is settled.
 pub fn translate(text: &[u8], out: &mut [u8]) -> Result<usize, Refusal>
     ensures { GivesBuffer (translate text.now out.old) result out.new }
 {

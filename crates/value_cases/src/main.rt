@@ -105,7 +105,7 @@ fn run_priced(image: &[u8], size: usize, first: u16, second: u16) {
     print_ticks(masks, codes);
 }
 
-// What makes the ticks of the words 0, 0, 1, 0 go where they go, from a fresh state on, whose first takes no row where it is a call.
+// What makes the ticks of the words 0, 0, 1, 0 go where they go, from a fresh state on. A tick from label 0 takes no row, nor does a call.
 fn causes(image: &[u8]) {
     let words = [0, 0, 1, 0];
     let mut state = fresh(3);

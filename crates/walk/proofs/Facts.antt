@@ -1,5 +1,5 @@
 -- What acceptance of a chart gives for its nodes and for the walk; the laws of the walk and of the table take this record.
-use Rattle.std.proofs.Common.{ℕ, ◌*◌, ◌≤◌, ◌<◌, true, ◌≡◌, length, get_or}
+use Rattle.std.proofs.Common.{ℕ, ◌*◌, ◌≤◌, ◌<◌, true, ◌≡◌, length, slice_index}
 use Rattle.text.specs.frames.Frame.{size}
 use Rattle.charts.specs.Chart.{Chart, kind, scheme, argument, next0, next1, result, handler, schemes, begin, end}
 pub use Rattle.charts.proofs.Nodes.{Target}
@@ -16,7 +16,7 @@ pub record Facts (c : Chart) : Type 0 where
   pub whole : length c ≡ 10 * size c
   pub some : 1 ≤ size c
   pub few : size c ≤ 256
-  pub bytes : (k : ℕ) → get_or c k 0 < 256
+  pub bytes : (k : ℕ) → slice_index c k < 256
   pub kinds : (v : ℕ) → v < size c → kind c v ≤ 4
   pub conditions : (v : ℕ) → v < size c → kind c v ≡ 3 → argument c v ≤ 15
   pub results : (v : ℕ) → v < size c → kind c v ≡ 2 → result c v ≤ 2

@@ -1,5 +1,5 @@
 -- The facts that the laws of the walk stand on hold for the chart of every accepted text.
-use Rattle.std.proofs.Common.{◌≡◌, List, ℕ, ◌<◌, get_or}
+use Rattle.std.proofs.Common.{◌≡◌, List, ℕ, ◌<◌, slice_index}
 use Rattle.text.specs.frames.Frame.{contents}
 use Rattle.text.specs.frames.Verdict.{fine}
 use Rattle.charts.specs.Chart.{Chart}
@@ -10,7 +10,7 @@ use Rattle.charts.proofs.Nodes.{calls, functions}
 use Rattle.walk.proofs.Facts.{Facts}
 use Rattle.walk.proofs.Follow.{follows, tests, starts}
 
-pub facts-of : (c : Chart) → Accepted c → ((k : ℕ) → get_or c k 0 < 256) → Facts c
+pub facts-of : (c : Chart) → Accepted c → ((k : ℕ) → slice_index c k < 256) → Facts c
 facts-of c a bytes =
     let s : SoundChart c = a.sound in
     record {

@@ -1,10 +1,11 @@
 -- Following arcs ends at a stop of the scheme within as many steps as there are nodes, and performing a scheme starts at a stop.
-use Rattle.std.proofs.Common.{◌≡◌, refl, sym, ◌∙◌, ap, subst, ◌⊎◌, inl, inr, Bool, true, false, ◌&&◌, not, ℕ, zero, suc, ◌≤◌, ◌<◌, arith}
-use Rattle.std.proofs.Common.{eqb, eqb-true, eq-eqb, ne_eqb}
+use Rattle.std.proofs.Common.{◌≡◌, refl, sym, ◌∙◌, ap, subst, ◌⊎◌, inl, inr, Bool, true, false, ◌&&◌, not, ℕ, zero, suc, ◌≤◌, ◌<◌, arith, ◌==◌}
+use Rattle.std.proofs.Common.{eqb-true, eq-eqb, ne_eqb}
 use Rattle.std.proofs.Math.Decide.{ℕ_discrete}
 use Rattle.std.proofs.lemmas.Grind.{common_steps}
-use Rattle.words.proofs.lists.Tests.{no_both, and-true, if-true, if-false, cases}
-use Rattle.words.specs.bits.Word.{bit}
+use Rattle.std.proofs.lemmas.Bool.{cond-true, cond-false}
+use Rattle.words.proofs.lists.Tests.{no_both, and-true, cases}
+use Rattle.std.specs.Int.{bit_at}
 use Rattle.text.specs.frames.Frame.{size}
 use Rattle.charts.specs.Chart.{Chart, kind, scheme, argument, next0, next1, is, schemes, begin, arc_taken}
 use Rattle.charts.proofs.Accepted.{SoundChart}
@@ -26,10 +27,10 @@ stops-other c v z n = go (kind c v) refl z n
     go (suc (suc (suc (suc zero)))) e z n = stops-by c v 4 e
     go (suc (suc (suc (suc (suc k))))) e z n = stops-by c v (suc (suc (suc (suc (suc k))))) e
 
-pub stops-condition : (c : Chart) (v : ℕ) → kind c v ≡ 3 → is_stop c v ≡ (eqb (scheme c v) 1 && eqb (next0 c (begin c 1)) v)
+pub stops-condition : (c : Chart) (v : ℕ) → kind c v ≡ 3 → is_stop c v ≡ (scheme c v == 1 && next0 c (begin c 1) == v)
 stops-condition c v e = stops-by c v 3 e
 
-pub stops-begin : (c : Chart) (v : ℕ) → kind c v ≡ 0 → is_stop c v ≡ (not (eqb (scheme c v) 1) && is c 3 (next0 c v))
+pub stops-begin : (c : Chart) (v : ℕ) → kind c v ≡ 0 → is_stop c v ≡ (not (scheme c v == 1) && is c 3 (next0 c v))
 stops-begin c v e = stops-by c v 0 e
 
 -- an arc's end that is no stop is a condition
@@ -46,11 +47,11 @@ unfolding next_stop
 follow-goes n c w v e = rw (next_stop, e)
 
 -- the arc that a word takes, by the bit of the condition
-pub takes-0 : (c : Chart) (w v : ℕ) → bit w (argument c v) ≡ 0 → arc_taken c w v ≡ next0 c v
-takes-0 c w v z = if-true (eqb (bit w (argument c v)) 0) (next0 c v) (next1 c v) (eq-eqb (bit w (argument c v)) 0 z)
+pub takes-0 : (c : Chart) (w v : ℕ) → bit_at w (argument c v) ≡ 0 → arc_taken c w v ≡ next0 c v
+takes-0 c w v z = cond-true (bit_at w (argument c v) == 0) (next0 c v) (next1 c v) (eq-eqb (bit_at w (argument c v)) 0 z)
 
-pub takes-1 : (c : Chart) (w v : ℕ) → bit w (argument c v) ≡ 1 → arc_taken c w v ≡ next1 c v
-takes-1 c w v o = if-false (eqb (bit w (argument c v)) 0) (next0 c v) (next1 c v) (ne_eqb (bit w (argument c v)) 0 (λ q. omega arith))
+pub takes-1 : (c : Chart) (w v : ℕ) → bit_at w (argument c v) ≡ 1 → arc_taken c w v ≡ next1 c v
+takes-1 c w v o = cond-false (bit_at w (argument c v) == 0) (next0 c v) (next1 c v) (ne_eqb (bit_at w (argument c v)) 0 (λ q. omega arith))
 
 -- what holds of both arcs holds of the one taken
 pub taken-by : (P : ℕ → Type 0) (c : Chart) (w v : ℕ) → P (next0 c v) → P (next1 c v) → P (arc_taken c w v)
@@ -127,21 +128,25 @@ module _ (c : Chart) (a : SoundChart c) where
   -- the node after a Begin that is no stop
   first-stop : (h v : ℕ) → TheNode c 0 h v → v ≡ begin c h → is_stop c v ≡ false → is_stop c (next0 c v) ≡ true
   first-stop h v b e s = go (arc0 c a v b.inside (λ q. omega (arith, b.kinded)))
-      (ℕ_discrete (kind c (next0 c v)) 3) (cases (eqb (scheme c v) 1))
+      (ℕ_discrete (kind c (next0 c v)) 3) (cases (scheme c v == 1))
     where
       go : Target c (scheme c v) (next0 c v) → Dec (kind c (next0 c v) ≡ 3)
-          → (eqb (scheme c v) 1 ≡ true) ⊎ (eqb (scheme c v) 1 ≡ false) → is_stop c (next0 c v) ≡ true
+          → ((scheme c v == 1) ≡ true) ⊎ ((scheme c v == 1) ≡ false) → is_stop c (next0 c v) ≡ true
       go t (no n) x = stops-other c (next0 c v) t.entered n
       go t (yes k) (inl x) =
           let one : scheme c v ≡ 1 = eqb-true (scheme c v) 1 x in
-          stops-condition c (next0 c v) k ∙ and-true (eqb (scheme c (next0 c v)) 1) (eqb (next0 c (begin c 1)) (next0 c v))
+          stops-condition c (next0 c v) k ∙ and-true (scheme c (next0 c v) == 1) (next0 c (begin c 1) == next0 c v)
           (eq-eqb (scheme c (next0 c v)) 1 (t.same ∙ one))
           (eq-eqb (next0 c (begin c 1)) (next0 c v) (ap (next0 c) (ap (begin c) (sym one ∙ b.same) ∙ sym e)))
       go t (yes k) (inr x) =
           no_both (is_stop c v) (stops-begin c v b.kinded
-          ∙ and-true (not (eqb (scheme c v) 1)) (is c 3 (next0 c v)) (ap not x) (eq-eqb (kind c (next0 c v)) 3 k))
+          ∙ and-true (not (scheme c v == 1)) (is c 3 (next0 c v)) (ap not x) (eq-eqb (kind c (next0 c v)) 3 k))
           s
 
   pub starts : (h : ℕ) → 1 ≤ h → h ≤ schemes c → StopOf c h (start c h)
   unfolding start
-  starts h l m = grind (arith, common_steps, if-false, arc0, cases, begins, if-true, target-as, stays, first-stop)
+  starts h l m = go (is_stop c (begin c h)) refl
+    where
+      go : (x : Bool) → is_stop c (begin c h) ≡ x → StopOf c h (start c h)
+      go true s = grind (arith, common_steps, cond-true, begins)
+      go false s = grind (arith, common_steps, cond-false, arc0, begins, target-as, stays, first-stop)

@@ -1,10 +1,10 @@
 -- While no 1 is written to the bit of the number that it calls, a function leaves by its 0 arc: from its call on the bit is 0, and the
 -- function waits among the callers, until its own return. The bindings told do not matter.
-use Rattle.std.proofs.Common.{if◌then◌else◌, ℕ, suc, ◌+◌, ◌≤◌, ◌<◌, Bool, true, false, ◌&&◌, ◌≡◌, refl, ap, ◌∙◌, sym, subst, ◌⊎◌, ⊎_elim}
-use Rattle.std.proofs.Common.{List, [], ◌∷◌, ◌++◌, map, eqb, length, get_or, length-append, arith, eqb-true, eq-eqb}
+use Rattle.std.proofs.Common.{if◌then◌else◌, ℕ, suc, ◌+◌, ◌≤◌, ◌<◌, Bool, true, false, ◌&&◌, ◌≡◌, refl, ap, ◌∙◌, sym, subst, ◌⊎◌, ⊎_elim, ◌==◌, slice_index}
+use Rattle.std.proofs.Common.{List, [], ◌∷◌, ◌++◌, map, length, length-append, arith, eqb-true, eq-eqb}
 use Rattle.std.proofs.lemmas.Grind.{common_steps}
-use Rattle.words.specs.lists.Sequences.{some}
-use Rattle.words.proofs.lists.Tests.{no_both, or_l, or_r, and_l, and_r}
+use Rattle.std.specs.List.{list_any}
+use Rattle.words.proofs.lists.Tests.{no_both, or-l, or-r, and-l, and-r}
 use Rattle.words.proofs.lists.Searches.{some-cons}
 use Rattle.results.specs.Results.{Results, no_results, result_of, with_result, cleared_results}
 use Rattle.results.proofs.ResultLaws.{cleared-own, cleared-keeps, result-keeps}
@@ -21,11 +21,11 @@ use Rattle.walk.proofs.Trace.{tick_at, move, trace, position_at_home}
 use Rattle.walk.proofs.Recursion.{walk-trace}
 
 -- ---- ticks by their first
-none_first : (p : Tick → Bool) (t : Tick) (ts : List Tick) → some p (t ∷ ts) ≡ false → p t ≡ false
-none_first p t ts e = or_l (p t) (some p ts) (sym (some-cons p t ts) ∙ e)
+none-first : (p : Tick → Bool) (t : Tick) (ts : List Tick) → list_any p (t ∷ ts) ≡ false → p t ≡ false
+none-first p t ts e = or-l (p t) (list_any p ts) (sym (some-cons p t ts) ∙ e)
 
-none_rest : (p : Tick → Bool) (t : Tick) (ts : List Tick) → some p (t ∷ ts) ≡ false → some p ts ≡ false
-none_rest p t ts e = or_r (p t) (some p ts) (sym (some-cons p t ts) ∙ e)
+none_rest : (p : Tick → Bool) (t : Tick) (ts : List Tick) → list_any p (t ∷ ts) ≡ false → list_any p ts ≡ false
+none_rest p t ts e = or-r (p t) (list_any p ts) (sym (some-cons p t ts) ∙ e)
 
 some-tick : {A : Type 0} (t : Tick) (ts us : List Tick) → [] ≡ ts ++ (t ∷ us) → A
 some-tick t [] us e = absurd (let z : ◌≡◌ {A = ℕ} 0 1 = cc in omega arith)
@@ -74,13 +74,13 @@ module _ (c : Chart) (y : Open) (h : ℕ) (ks : List Open) (deep : 2 ≤ h) wher
   AllPassing [] = Unit {0}
   AllPassing (t ∷ ts) = Passing t × AllPassing ts
 
-  all-passing : (ts : List Tick) → some is_drop ts ≡ false → some own ts ≡ false → some (is_walk_write_of_one c h) ts ≡ false
+  all-passing : (ts : List Tick) → list_any is_drop ts ≡ false → list_any own ts ≡ false → list_any (is_walk_write_of_one c h) ts ≡ false
       → AllPassing ts
   all-passing [] d r q = grind (arith, common_steps)
-  all-passing (t ∷ ts) d r q = grind (arith, common_steps, all-passing ts, none_first, none_rest)
+  all-passing (t ∷ ts) d r q = grind (arith, common_steps, all-passing ts, none-first, none_rest)
 
   returned-waits : (js : List Open) (w : ℕ) (b : Results) (f : Bool) → result_of h b ≡ false
-      → eqb (suc (length (js ++ (y ∷ ks)))) (suc (suc (length ks))) ≡ false → Waits (position_returned c (js ++ (y ∷ ks)) w b f)
+      → (suc (length (js ++ (y ∷ ks))) == suc (suc (length ks))) ≡ false → Waits (position_returned c (js ++ (y ∷ ks)) w b f)
   returned-waits [] w b f e q = no_both _ (eq-eqb (suc (suc (length ks))) (suc (suc (length ks))) refl) q
   returned-waits (j ∷ js) w b f e q = waits _ js b f e
 
@@ -94,7 +94,7 @@ module _ (c : Chart) (y : Open) (h : ℕ) (ks : List Open) (deep : 2 ≤ h) wher
     abbrev o : ℕ
     o = suc (length (js ++ (y ∷ ks)))
 
-    written-not : kind c v ≡ 2 → (eqb (kind c v) 2 && (eqb g h && eqb (result c v) 2)) ≡ false → g ≡ h → result c v ≡ 2 → ⊥
+    written-not : kind c v ≡ 2 → (kind c v == 2 && (g == h && result c v == 2)) ≡ false → g ≡ h → result c v ≡ 2 → ⊥
     written-not k q s r = grind (arith, common_steps)
 
     waits-by : (d : Bool) → {s : Stop} → View c v s → Passing (stop_tick d o u s) → Waits (position_moved c d u (js ++ (y ∷ ks)) w b f s)
@@ -112,9 +112,9 @@ module _ (c : Chart) (y : Open) (h : ℕ) (ks : List Open) (deep : 2 ≤ h) wher
 
   module _ (n : ℕ) (facts : Facts c) (kinded : kind c y.node ≡ 4) (called : argument c y.node ≡ h) where
     -- the call itself, which is no drop
-    called-waits : (w : Signal) (b : Results) (f d : Bool) → eqb (stop_code d (stop_at c y.node)) 96 ≡ false
+    called-waits : (w : Signal) (b : Results) (f d : Bool) → (stop_code d (stop_at c y.node) == 96) ≡ false
         → Waits (position_moved c d y ks w b f (stop_at c y.node))
-    called-waits w b f true q = no_both _ (ap (λ (s : Stop). eqb (stop_code true s) 96) (stop-function c y.node kinded)) q
+    called-waits w b f true q = no_both _ (ap (λ (s : Stop). stop_code true s == 96) (stop-function c y.node kinded)) q
     called-waits w b f false q = subst (λ (s : Stop). Waits (position_moved c false y ks w b f s)) (sym (stop-function c y.node kinded))
         (waits _ [] (cleared_results (argument c y.node) b) f (ap (λ (k : ℕ). result_of h (cleared_results k b)) called ∙ cleared-own h b))
 
@@ -126,7 +126,7 @@ module _ (c : Chart) (y : Open) (h : ℕ) (ks : List Open) (deep : 2 ≤ h) wher
         → (move n c w x).now.node ≡ by_arc c w.word (next0 c y.node)
     own-return w x (waits u [] b f e) q =
         ap (λ (s : Stop). (position_moved c (is_drop_at n c x) u (y ∷ ks) w b f s).now.node)
-        (is-back (is_drop_at n c x) (stop_at c u.node) (eqb-true _ _ (and_l _ _ q)))
+        (is-back (is_drop_at n c x) (stop_at c u.node) (eqb-true _ _ (and-l _ _ q)))
         ∙ ap (node_resumed c y.node w.word b) (stop-function c y.node kinded)
         ∙ ap (λ (t : Bool). by_arc c w.word (if t then next1 c y.node else next0 c y.node)) (ap (λ (k : ℕ). result_of k b) called ∙ e)
     own-return w x (waits u (j ∷ js) b f e) q =
@@ -134,13 +134,13 @@ module _ (c : Chart) (y : Open) (h : ℕ) (ks : List Open) (deep : 2 ≤ h) wher
         absurd (omega (
           arith,
           eqb-true o (suc (suc (length ks)))
-              (and_r (eqb (stop_code (is_drop_at n c x) (stop_at c u.node)) 3) (eqb o (suc (suc (length ks)))) q),
+              (and-r (stop_code (is_drop_at n c x) (stop_at c u.node) == 3) (o == suc (suc (length ks))) q),
           length-append js (y ∷ ks),
         ))
 
     goes_on : (between : List Tick) (ws : List Signal) (x : WalkPosition) (last next : Tick) (rest : List Tick) → Waits x
         → trace n c ws x ≡ between ++ (last ∷ (next ∷ rest)) → AllPassing between → own last ≡ true
-        → next.node ≡ by_arc c (get_or (words_of ws) (length between) 0) (next0 c y.node)
+        → next.node ≡ by_arc c (slice_index (words_of ws) (length between)) (next0 c y.node)
     unfolding trace
     goes_on between [] x last next rest k q passing end = some-tick last between (next ∷ rest) q
     goes_on [] (w ∷ []) x last next rest k q passing end =
@@ -158,7 +158,7 @@ module _ (n : ℕ) (c : Chart) (facts : Facts c) where
   -- from the call on
   from-call : (ws : List Signal) (x : WalkPosition) (between rest : List Tick) (first last next : Tick)
       → trace n c ws x ≡ first ∷ (between ++ (last ∷ (next ∷ rest))) → WalkUnwritten c first between last
-      → next.node ≡ by_arc c (get_or (words_of ws) (suc (length between)) 0) (next0 c first.node)
+      → next.node ≡ by_arc c (slice_index (words_of ws) (suc (length between))) (next0 c first.node)
   unfolding trace
   from-call [] x between rest first last next q u = some-tick first [] _ q
   from-call (w ∷ ws) x between rest first last next q u =
@@ -170,21 +170,21 @@ module _ (n : ℕ) (c : Chart) (facts : Facts c) where
       goes_on c y h ks deep n facts at_call.function refl between ws (move n c w x) last next rest
       (called-waits c y h ks deep n facts at_call.function refl w x.results x.first (is_drop_at n c x) at_call.made) d
       (all-passing c y h ks deep between at_call.kept at_call.inside at_call.unwritten) at_call.own
-      ∙ ap (λ (t : Tick). by_arc c (get_or (words_of ws) (length between) 0) (next0 c t.node)) (sym e)
+      ∙ ap (λ (t : Tick). by_arc c (slice_index (words_of ws) (length between)) (next0 c t.node)) (sym e)
 
   from_start : (before : List Tick) (ws : List Signal) (x : WalkPosition) (between rest : List Tick) (first last next : Tick)
       → trace n c ws x ≡ before ++ (first ∷ (between ++ (last ∷ (next ∷ rest)))) → WalkUnwritten c first between last
-      → next.node ≡ by_arc c (get_or (words_of ws) (length before + suc (length between)) 0) (next0 c first.node)
+      → next.node ≡ by_arc c (slice_index (words_of ws) (length before + suc (length between))) (next0 c first.node)
   unfolding trace
   from_start [] ws x between rest first last next q u =
       let k : suc (length between) ≡ 0 + suc (length between) = omega arith in
-      from-call ws x between rest first last next q u ∙ ap (λ (k : ℕ). by_arc c (get_or (words_of ws) k 0) (next0 c first.node)) k
+      from-call ws x between rest first last next q u ∙ ap (λ (k : ℕ). by_arc c (slice_index (words_of ws) k) (next0 c first.node)) k
   from_start (t ∷ ts) [] x between rest first last next q u = some-tick t [] _ q
   from_start (t ∷ ts) (w ∷ ws) x between rest first last next q u =
       let d : trace n c ws (move n c w x) ≡ ts ++ (first ∷ (between ++ (last ∷ (next ∷ rest)))) = cc in
       let k : suc (length ts + suc (length between)) ≡ suc (length ts) + suc (length between) = omega arith in
       from_start ts ws (move n c w x) between rest first last next d u
-      ∙ ap (λ (k : ℕ). by_arc c (get_or (words_of (w ∷ ws)) k 0) (next0 c first.node)) k
+      ∙ ap (λ (k : ℕ). by_arc c (slice_index (words_of (w ∷ ws)) k) (next0 c first.node)) k
 
 pub zero-arc : ZeroArc
 unfolding ZeroArc

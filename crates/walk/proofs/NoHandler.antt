@@ -13,7 +13,7 @@ use Rattle.walk.specs.Simpler.{NoHandler, AnyPlaces}
 use Rattle.walk.proofs.Facts.{StopOf, Facts}
 use Rattle.walk.proofs.FactsHold.{facts}
 use Rattle.walk.proofs.Views.{View, a-plain, a_call, a-function, a-home, a_back, a-begin, a-condition, view}
-use Rattle.walk.proofs.Trace.{WalkPosition, trace, position_at_home, home-stop, arc-to, function_to, begin-to}
+use Rattle.walk.proofs.Trace.{WalkPosition, trace, position_at_home, home-stop, arc-to, function-to, begin-to}
 use Rattle.walk.proofs.Recursion.{walk-trace}
 use Rattle.walk.proofs.OwnBinding.{own-binding}
 use Rattle.text.specs.declared.frames.codes.TheConstants.{HOME_CODE, PLAIN_CODE}
@@ -108,7 +108,7 @@ module _ (c : Chart) (facts : Facts c) where
           (λ y z. own _ (arc-to c facts v y g.inside (λ p. omega arith)))
       endless-act (a-function e) =
           endless-call x (call_by_function c (argument c v) (next0 c v) (next1 c v)) ws b
-          (λ y z. own _ (function_to c facts v y (result_of (argument c v) z) g.inside e))
+          (λ y z. own _ (function-to c facts v y (result_of (argument c v) z) g.inside e))
       endless-act (a-home e s) = endless-on (one_tick x 0 HOME_CODE) _ ws b (facts.starts 1 (omega arith) facts.first)
       endless-act (a_back e s) = absurd (s g.same)
       endless-act (a-begin e) = endless-on (one_tick x 0 PLAIN_CODE) _ ws b (own _ (begin-to c facts v w g.inside e g.stopping))

@@ -15,7 +15,7 @@ use Rattle.walk.specs.Simpler.{OwnBinding}
 use Rattle.walk.proofs.Facts.{StopOf, Facts}
 use Rattle.walk.proofs.FactsHold.{facts}
 use Rattle.walk.proofs.Views.{View, a-plain, a_call, a-function, a-home, a_back, a-begin, a-condition, view}
-use Rattle.walk.proofs.Trace.{Serves, drop-handler, stop-as, home-stop, arc-to, function_to, begin-to}
+use Rattle.walk.proofs.Trace.{Serves, drop-handler, stop-as, home-stop, arc-to, function-to, begin-to}
 use Rattle.text.specs.declared.frames.codes.TheConstants.{HOME_CODE, PLAIN_CODE}
 use Rattle.walk.specs.Unswapped as unswapped
 
@@ -89,7 +89,7 @@ module _ (c : Chart) where
             alike-call x _ ws _ (λ y z. here (arc-to c facts v y g.inside (λ p. omega arith)))
             (facts.calls v g.inside e a) (d x.opened) (handled x.opened)
         alike-act (a-function e) =
-            alike-call x _ ws b (λ y z. here (function_to c facts v y (result_of (argument c v) z) g.inside e))
+            alike-call x _ ws b (λ y z. here (function-to c facts v y (result_of (argument c v) z) g.inside e))
             (facts.functions v g.inside e) (d x.opened) (handled x.opened)
         alike-act (a-home e s) =
             alike-after (one_tick x 0 HOME_CODE) (alike-on x _ ws b (here (stop-as c (sym s) (facts.starts 1 (omega arith) facts.first))))

@@ -160,10 +160,10 @@ module _ (c : Chart) (facts : Facts c) where
   pub arc-to : (v w : ℕ) → v < size c → (kind c v ≡ 1 → ⊥) → StopOf c (scheme c v) (by_arc c w (next0 c v))
   arc-to v w l e = facts.follows (scheme c v) (next0 c v) w (facts.arc0 v l e)
 
-  pub function_to : (v w : ℕ) (t : Bool) → v < size c → kind c v ≡ 4
+  pub function-to : (v w : ℕ) (t : Bool) → v < size c → kind c v ≡ 4
       → StopOf c (scheme c v) (by_arc c w (if t then next1 c v else next0 c v))
-  function_to v w true l e = facts.follows (scheme c v) (next1 c v) w (facts.arc1 v l (omega arith))
-  function_to v w false l e = arc-to v w l (λ p. omega arith)
+  function-to v w true l e = facts.follows (scheme c v) (next1 c v) w (facts.arc1 v l (omega arith))
+  function-to v w false l e = arc-to v w l (λ p. omega arith)
 
   pub begin-to : (v w : ℕ) → v < size c → kind c v ≡ 0 → is_stop c v ≡ true → StopOf c (scheme c v) (by_word c w (next0 c v))
   begin-to v w l e s =
@@ -171,7 +171,7 @@ module _ (c : Chart) (facts : Facts c) where
       stop-as c t.same (facts.tests (next0 c v) w t.inside (begin-leads c v e s))
 
   resumes-to : (h : ℕ) (k : Open) (w : ℕ) (b : Results) → Caller c h k → StopOf c k.server (resumed c k.node w b)
-  resumes-to h k w b caller = grind (arith, common_steps, stop-call, stop-function, stop-as, arc-to, function_to)
+  resumes-to h k w b caller = grind (arith, common_steps, stop-call, stop-function, stop-as, arc-to, function-to)
 
   -- a good position stays good after any move
   module _ (x : Open) (ks : List Open) (b : Results) (f : Bool) (g : Good c (at x ks b f)) where
@@ -205,11 +205,11 @@ module _ (c : Chart) (facts : Facts c) where
     moved-good d n w serves (a-begin e) = stays _ b (begin-to x.node w.word g.top.inside e g.top.stopping)
     moved-good d n w serves (a-condition e) = stays _ b (facts.tests x.node w.word g.top.inside e)
 
-  pub view_of : (x : WalkPosition) → Good c x → View c x.now.node (stop_at c x.now.node)
-  view_of x g = view c x.now.node (facts.kinds x.now.node g.top.inside)
+  pub view-of : (x : WalkPosition) → Good c x → View c x.now.node (stop_at c x.now.node)
+  view-of x g = view c x.now.node (facts.kinds x.now.node g.top.inside)
 
   pub moves : (n : ℕ) (w : Signal) (x : WalkPosition) → Serves c w.binding → Good c x → Good c (move n c w x)
-  moves n w x serves g = grind (arith, common_steps, drop-handler, moved-good, view_of)
+  moves n w x serves g = grind (arith, common_steps, drop-handler, moved-good, view-of)
 
 -- ---- the trace of joined words
 unfoldable pub position_reached : ℕ → Chart → List Signal → WalkPosition → WalkPosition

@@ -1,5 +1,5 @@
 -- Stops (the paper's word for the nodes that take a tick) and the way from one to the next.
-use Rattle.std.specs.Prelude.{ℕ, zero, suc, Bool, true, false, ◌&&◌, not, eqb, if◌then◌else◌}
+use Rattle.std.specs.Prelude.{ℕ, zero, suc, Bool, true, false, ◌&&◌, not, if◌then◌else◌, ◌==◌}
 use Rattle.text.specs.frames.Frame.{size}
 use Rattle.charts.specs.declared.layout.TheConstants.{CONDITION}
 use Rattle.charts.specs.Layout.{Kind, Begin, End, Operation, Condition, Function, Unknown, kind_of}
@@ -7,10 +7,10 @@ use Rattle.charts.specs.Chart.{Chart, kind, scheme, argument, next0, next1, resu
 
 -- by the kind of a node: a condition stops only as the first node of scheme 1; a Begin only before a condition, and not in scheme 1
 abbrev pub is_stop_as : Chart → ℕ → Kind → Bool
-is_stop_as c v Begin = not (eqb (scheme c v) 1) && is c CONDITION (next0 c v)
+is_stop_as c v Begin = not (scheme c v == 1) && is c CONDITION (next0 c v)
 is_stop_as c v End = true
 is_stop_as c v Operation = true
-is_stop_as c v Condition = eqb (scheme c v) 1 && eqb (next0 c (begin c 1)) v
+is_stop_as c v Condition = scheme c v == 1 && next0 c (begin c 1) == v
 is_stop_as c v Function = true
 is_stop_as c v Unknown = true
 
@@ -49,8 +49,8 @@ pub data Stop : Type 0 where
 
 abbrev pub stop_as : Chart → ℕ → Kind → Stop
 stop_as c v Begin = test (next0 c v)
-stop_as c v End = if eqb (scheme c v) 1 then home else back
-stop_as c v Operation = if eqb (argument c v) 0 then plain (mask c v) (result c v) (next0 c v)
+stop_as c v End = if scheme c v == 1 then home else back
+stop_as c v Operation = if argument c v == 0 then plain (mask c v) (result c v) (next0 c v)
     else call (mask c v) (result c v) (argument c v) (next0 c v)
 stop_as c v Condition = test v
 stop_as c v Function = function (argument c v) (next0 c v) (next1 c v)

@@ -1,6 +1,6 @@
 -- The walk (the paper's word for what a chart does by itself): schemes performed recursively, one tick a word.
 -- It knows charts, the number of places and the binding that is told before each word, and nothing of labels, rows or a stack.
-use Rattle.std.specs.Prelude.{ℕ, zero, suc, ◌+◌, Bool, true, false, ◌&&◌, not, List, [], ◌∷◌, ◌++◌, map, eqb, length, if◌then◌else◌}
+use Rattle.std.specs.Prelude.{ℕ, zero, suc, ◌+◌, Bool, true, false, ◌&&◌, not, List, [], ◌∷◌, ◌++◌, map, length, if◌then◌else◌, ◌==◌}
 use Rattle.results.specs.Results.{Results, no_results, result_of, with_result, cleared_results}
 use Rattle.bindings.specs.Binding.{Binding, server_of}
 use Rattle.text.specs.declared.frames.codes.TheConstants.{PLAIN_CODE, RETURN_CODE, HOME_CODE, OPERATION_CALL_CODE, FUNCTION_CALL_CODE}
@@ -42,7 +42,7 @@ one_tick x m k = record { node = x.node; number = x.number; mask = m; code = k; 
 
 -- a call that was not made: all open schemes were dropped, code 60 hexadecimal
 abbrev pub is_drop : Tick → Bool
-is_drop t = eqb t.code DROP_CODE
+is_drop t = t.code == DROP_CODE
 
 -- performing a scheme: the words ran out after these ticks; or its End was reached:
 -- the ticks, the End's word, the words left, the result bits; or all open schemes were dropped: the ticks, the words left, the result
@@ -114,7 +114,7 @@ scheme_course (suc k) c d x (w ∷ ws) b = stop_course (scheme_course k c d) c d
 
 -- with n places a call that finds n schemes open drops them where the chart has a handler, unless the handler is the first of them
 abbrev pub is_dropping : ℕ → Chart → Bool → ℕ → Bool
-is_dropping n c first o = not first && not (eqb (handler c) 0) && eqb o n
+is_dropping n c first o = not first && not (handler c == 0) && o == n
 
 -- the first open scheme, the handler where `first` is true and else scheme 1; it goes by its own number
 abbrev pub bottom : Chart → Bool → ℕ

@@ -1,12 +1,12 @@
 // Words of bits: a condition's bit, care masks and values.
 ghost use Rattle.std.specs.Prelude.{◌≡◌, ◌<◌, ◌^◌};
 ghost use Rattle.std.specs.Int.Bits.{bit_or};
-ghost use Rattle.words.specs.bits.Word.{bit};
+ghost use Rattle.std.specs.Int.{bit_at};
 
 // Bit i of a word: the value of condition i.
 pub fn bit(word: u16, i: u8) -> u16
     requires { i < 16 }
-    ensures { result ≡ bit word i }
+    ensures { result ≡ bit_at word i }
 {
     (word >> i) % 2
 }

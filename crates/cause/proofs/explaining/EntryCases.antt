@@ -20,7 +20,7 @@ use Rattle.state.specs.Bytes.{state_of, bytes_of}
 use Rattle.state.proofs.ResultBytes.{state-back}
 use Rattle.cause.specs.Cause.{cause_of, CauseOutcome, no_cause, cause_on, explain, CauseAnswer, GivesCause}
 use Rattle.cause.specs.table_causes.inner.TableCauses.{Ordered, table_cause}
-use Rattle.cause.proofs.table_causes.CauseCases.{tells_none}
+use Rattle.cause.proofs.table_causes.CauseCases.{tells-none}
 
 pub image-ordered : (t b : List ℕ) → MadeTable t b → Ordered b
 image-ordered t b made = record {
@@ -43,7 +43,7 @@ module _ (t : List ℕ) (s : State) (w : ℕ) where
       → GivesCause (explain t s w) (Err r)
   image-untold a gives r e =
       let p = err-refused a (image_verdict t) 0 gives r e in
-      tells_none (explain t s w) r
+      tells-none (explain t s w) r
       (explain-by (refused (number_of r) (index_of r)) p.0
       ∙ ap (λ (n : ℕ). record { reply = refusal (number_of r) (index_of r) n; cause = no_cause }) (sym p.1))
 

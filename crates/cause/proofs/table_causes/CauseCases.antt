@@ -1,15 +1,15 @@
 -- A cause on a table: the label that is left, the row found among its frames with its number, what is told, and refusals 15, 18 and 21.
-use Rattle.std.proofs.Common.{ℕ, ◌+◌, ◌-◌, ◌≤◌, ◌<◌, Bool, true, false, ◌≡◌, refl, sym, ◌∙◌, ap, ap₂, subst, List, arith, bit_or, leb, ltb}
-use Rattle.std.proofs.Common.{eqb, lt-ltb, le-ltb, le-leb, eq-eqb, Ok, Err, if◌then◌else◌}
+use Rattle.std.proofs.Common.{ℕ, ◌+◌, ◌-◌, ◌≤◌, ◌<◌, Bool, true, false, ◌≡◌, refl, sym, ◌∙◌, ap, ap₂, subst, List, arith, bit_or, nat_lt, nat_le, ◌==◌}
+use Rattle.std.proofs.Common.{lt-ltb, le-ltb, le-leb, eq-eqb, Ok, Err, if◌then◌else◌}
 use Rattle.std.proofs.Math.ListN.{get_or-eq_default}
 use borrow.Author.Tests.{lt-leb}
 use Rattle.std.proofs.lemmas.Grind.{common_steps}
-use Rattle.words.proofs.lists.Tests.{if-true, if-false}
+use Rattle.std.proofs.lemmas.Bool.{cond-true, cond-false}
 use Rattle.results.specs.Results.{Results}
 use Rattle.text.specs.frames.Frame.{size, pair_at}
 use Rattle.text.specs.frames.Verdict.{Verdict}
 use Rattle.text.specs.declared.frames.refusals.Refusal.{Refusal}
-use Rattle.text.specs.declared.frames.refusals.Refusal.TheVariants.{Unfit, NoRow, Rowless}
+use Rattle.text.specs.declared.frames.refusals.Refusal.TheVariants.{NoRow, Rowless}
 use Rattle.text.proofs.frames.Chains.{when-fails}
 use Rattle.image.specs.Layout.{tick_kind}
 use Rattle.image.specs.Image.{Image, Label, Row}
@@ -21,7 +21,7 @@ use Rattle.rows.specs.Rows.{Choice, row, no_choice, best_row}
 use Rattle.rows.specs.inner.Search.{Deciding, found_at}
 use Rattle.rows.proofs.ChoiceLaws.{moved_by}
 use Rattle.rows.proofs.BestRows.{best-at, best-is}
-use Rattle.rows.proofs.TableRows.{rows_before, found_number, any-row}
+use Rattle.rows.proofs.TableRows.{rows_before, found-number, any-row}
 use Rattle.state.specs.declared.State.{State}
 use Rattle.state.specs.State.{label_at, place_at}
 use Rattle.fitness.specs.Fitness.{is_unfit}
@@ -39,8 +39,8 @@ use Rattle.cause.proofs.table_causes.TableConditions.{any-conditions, frame-cond
 use Rattle.tables.specs.declared.Label as declared
 
 -- a refusal, and no cause
-pub tells_none : (x : CauseOutcome) (r : Refusal) → x ≡ record { reply = cause_reply (Err r); cause = no_cause } → GivesCause x (Err r)
-tells_none x r e = rw e (record { answered = refl; row = refl; mask = refl; bit = refl })
+pub tells-none : (x : CauseOutcome) (r : Refusal) → x ≡ record { reply = cause_reply (Err r); cause = no_cause } → GivesCause x (Err r)
+tells-none x r e = rw e (record { answered = refl; row = refl; mask = refl; bit = refl })
 
 -- ---- places: n below the depth d
 module _ (bytes : List ℕ) (d n : ℕ) where
@@ -63,11 +63,11 @@ module _ (b : List ℕ) (s : State) (d top : ℕ) (is : d ≡ s.depth) (at : top
   pub left-plain : z.kind ≡ 0 → top ≡ leaving_number (leaving i s)
   left-plain k = top-is ∙ sym (ap leaving_number (left_is ∙ ap (λ (n : ℕ). leaving_by s (tick_kind n)) k))
 
-  pub left_other : (z.kind ≡ 0 → ⊥) → (z.kind ≡ 3 → ⊥) → 0 ≡ leaving_number (leaving i s)
-  left_other m n = grind (arith, common_steps, left_is)
+  pub left-other : (z.kind ≡ 0 → ⊥) → (z.kind ≡ 3 → ⊥) → 0 ≡ leaving_number (leaving i s)
+  left-other m n = grind (arith, common_steps, left_is)
 
   module _ (k : z.kind ≡ 3) where
-    left_back : (t : Bool) → leb s.depth 1 ≡ t
+    left_back : (t : Bool) → nat_le s.depth 1 ≡ t
         → leaving_number (leaving i s) ≡ leaving_number (if t then nothing else leaves_label (place_at s (s.depth - 2)))
     left_back t e = grind (arith, common_steps, left_is)
 
@@ -99,15 +99,15 @@ module _ (b : List ℕ) (l w : ℕ) (x : OrderedLabel b l) (bs : Results) (z : d
   abbrev img : Image
   img = table_image b
 
-  label_is : as_label z ≡ label_at img l
-  label_is = read ∙ sym (label-at b l)
+  label-is : as_label z ≡ label_at img l
+  label-is = read ∙ sym (label-at b l)
 
-  pub bit-told : bit ≡ (if eqb (label_at img l).kind 2 then called_bit img bs l else 2)
-  bit-told = e ∙ ap (λ (y : Label). bit_of y.kind y.called bs) label_is
+  pub bit-told : bit ≡ (if (label_at img l).kind == 2 then called_bit img bs l else 2)
+  bit-told = e ∙ ap (λ (y : Label). bit_of y.kind y.called bs) label-is
 
   -- what does not look at the bit of a label that calls no function is the same for the bit called and the one that decides
   decided : {A : Type 0} (F : ℕ → A) → (((table_label b l).kind ≡ 2 → ⊥) → (p q : ℕ) → F p ≡ F q) → F (called_bit img bs l) ≡ F bit
-  decided F any = grind (arith, common_steps, eq-eqb, if-true, label-at, bit-told)
+  decided F any = grind (arith, common_steps, eq-eqb, cond-true, label-at, bit-told)
 
   choice-is : choice img bs l w ≡ best_row l w bit 0 img.rows
   choice-is = decided (λ n. best_row l w n 0 img.rows) (λ n p q. any-row b l w p q n x.label.low x.label.high)
@@ -120,14 +120,14 @@ module _ (b : List ℕ) (l w : ℕ) (x : OrderedLabel b l) (bs : Results) (z : d
 
   module _ (f : ℕ) (g : found_at b l f ≡ best_row l w bit (first_on b l) (rows_on b l)) where
     by_number : moved_by (rows_before b l) (found_at b l f) ≡ moved_by (first_on b l) (best_row l w bit 0 img.rows)
-    by_number = found_number b l w bit x.label f g
+    by_number = found-number b l w bit x.label f g
 
-    pub none_told : size b ≤ f → GivesCause (cause_outcome (cause_at img bs w (leaves_label l))) (Err (NoRow 0))
-    none_told h = grind (arith, common_steps, rows_before, le-ltb, moved_by, if-false, tells_none, unmoved-none, choice-is, by_number)
+    pub none-told : size b ≤ f → GivesCause (cause_outcome (cause_at img bs w (leaves_label l))) (Err (NoRow 0))
+    none-told h = grind (arith, common_steps, rows_before, le-ltb, moved_by, cond-false, tells-none, unmoved-none, choice-is, by_number)
 
     module _ (h : f < size b) where
       found-is : found_at b l f ≡ row f (row_on b l f)
-      found-is = if-true (ltb f (size b)) (row f (row_on b l f)) no_choice (lt-ltb f (size b) h)
+      found-is = cond-true (nat_lt f (size b)) (row f (row_on b l f)) no_choice (lt-ltb f (size b) h)
 
       pub numbers : RowNumbers b l w bit f
       numbers =
@@ -145,11 +145,11 @@ module _ (b : List ℕ) (l w : ℕ) (x : OrderedLabel b l) (bs : Results) (z : d
             chosen = u.1 ∙ ap (λ (k : ℕ). row k (row_on b l f)) number;
           }
 
-      pub row_told : (first end care others from k : ℕ) → first ≡ first_on b l → end ≡ end_on b l → care ≡ pair_at b f 2
+      pub row-told : (first end care others from k : ℕ) → first ≡ first_on b l → end ≡ end_on b l → care ≡ pair_at b f 2
           → Deciding b l bit → others ≡ mask_against_from b w bit first (end - first) → from ≡ rows_from b → k ≡ f - from
           → GivesCause (cause_outcome (cause_at img bs w (leaves_label l)))
           (Ok (record { row = k; mask = bit_or care others; bit = bit }))
-      row_told first end care others from k p q r y o u v =
+      row-told first end care others from k p q r y o u v =
           let same : cause_outcome (cause_at img bs w (leaves_label l)) ≡ caused (row (f - rows_from b) (row_on b l f)) =
           ap caused (choice-is ∙ numbers.chosen) in
           let joined : others ≡ mask_against_all l w (called_bit img bs l) img.rows =
@@ -172,7 +172,7 @@ module _ (b bytes : List ℕ) (w : ℕ) (x : Ordered b) (t : Bool) (e : t ≡ is
     view = leaves (table_image b) x.sound s (unfits (table_image b) s (held-sized bytes) (sym e ∙ h))
 
     pub rowless-told : l ≡ 0 → GivesCause (table_cause b s w) (Err Rowless)
-    rowless-told n = grind (arith, common_steps, stays, by, tells_none, fit-told, view)
+    rowless-told n = grind (arith, common_steps, stays, by, tells-none, fit-told, view)
 
     module _ (n : l ≡ 0 → ⊥) where
       one_left : Leaves (table_image b) s → (leaving (table_image b) s ≡ leaves_label l) × OrderedLabel b l

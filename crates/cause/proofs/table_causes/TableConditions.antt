@@ -1,13 +1,13 @@
 -- The conditions against the rows of a label, among all rows of a table:
 -- only its own rows have any, they stand in its frames, and each has its values within its care mask.
-use Rattle.std.proofs.Common.{if◌then◌else◌, ℕ, zero, suc, ◌+◌, ◌-◌, ◌^◌, ◌≤◌, ◌<◌, Bool, ◌&&◌, ◌||◌, not, ◌≡◌, refl, sym, ◌∙◌, ap, ap₂}
-use Rattle.std.proofs.Common.{subst, List, [], ◌∷◌, ◌++◌, map, arith, bit_and, bit_or, eqb, eq-eqb, ne_eqb}
+use Rattle.std.proofs.Common.{if◌then◌else◌, ℕ, zero, suc, ◌+◌, ◌-◌, ◌^◌, ◌≤◌, ◌<◌, Bool, ◌&&◌, ◌||◌, not, ◌≡◌, refl, sym, ◌∙◌, ap, ap₂, ◌==◌, flat_map}
+use Rattle.std.proofs.Common.{subst, List, [], ◌∷◌, ◌++◌, map, arith, bit_and, bit_or, eq-eqb, ne_eqb}
 use Rattle.std.proofs.Math.Decide.{ℕ_discrete}
 use lib.Bits.{or_zero_l}
 use Rattle.std.proofs.lemmas.Grind.{common_steps}
 use Rattle.words.specs.lists.Numbers.{range, lowest}
-use Rattle.words.specs.lists.Sequences.{concat_map, All}
-use Rattle.words.proofs.lists.Tests.{if-false}
+use Rattle.std.specs.List.{AllByRecursion}
+use Rattle.std.proofs.lemmas.Bool.{cond-false}
 use Rattle.words.proofs.lists.Ranges.{length-map-range, get_or-map-range}
 use Rattle.words.proofs.lists.Joins.{all-at, all-places, concat-cons}
 use Rattle.words.specs.bits.Word.{is_agreeing}
@@ -16,7 +16,7 @@ use Rattle.image.specs.Image.{Row, no_row}
 use Rattle.image.specs.Decode.{last_label}
 use Rattle.image.specs.inner.Sound.{SoundImage}
 use Rattle.tables.specs.Table.{table_label, first_on, end_on, row_on, rows_on, table_image}
-use Rattle.tables.proofs.OwnRows.{own_alone}
+use Rattle.tables.proofs.OwnRows.{own-alone}
 use Rattle.rows.specs.inner.Search.{Deciding}
 use Rattle.rows.proofs.SearchCases.{own-bit}
 use Rattle.cause.specs.Cause.{is_differing, mask_against, mask_against_all}
@@ -42,7 +42,7 @@ module _ (b : List ℕ) (l w bit : ℕ) where
 
   pub own-conditions : 2 ≤ l → l ≤ last_label b → mask_against_all l w bit (table_image b).rows ≡ mask_against_all l w bit (rows_on b l)
   unfolding mask_against_all
-  own-conditions = own_alone b l all (λ m h rs. others-first m h (first_on b m) (end_on b m - first_on b m) rs) none_last
+  own-conditions = own-alone b l all (λ m h rs. others-first m h (first_on b m) (end_on b m - first_on b m) rs) none_last
 
 -- ---- one of its own rows, by its frame
 module _ (b : List ℕ) (l w : ℕ) where
@@ -58,16 +58,16 @@ module _ (b : List ℕ) (l w : ℕ) where
   abbrev low : ℕ → ℕ
   low f = 2 ^ lowest (is_differing w (pair_at b f 2) (pair_at b f 4)) 0 16
 
-  by_bit : (bit f : ℕ) → mask_against l w bit (row_on b l f) ≡ (if (eqb (only f) 2 || eqb (only f) bit) && not (agreed f) then low f else 0)
-  by_bit bit f = ap (λ (t : Bool). if t && ((eqb (only f) 2 || eqb (only f) bit) && not (agreed f)) then low f else 0) (eq-eqb l l refl)
+  by_bit : (bit f : ℕ) → mask_against l w bit (row_on b l f) ≡ (if (only f == 2 || only f == bit) && not (agreed f) then low f else 0)
+  by_bit bit f = ap (λ (t : Bool). if t && ((only f == 2 || only f == bit) && not (agreed f)) then low f else 0) (eq-eqb l l refl)
 
   -- no row of a label that calls no function looks at the bit
   module _ (n : kind ≡ 2 → ⊥) where
     free : (f : ℕ) → only f ≡ 2
-    free f = if-false (eqb kind 2) (field b f 6) 2 (ne_eqb kind 2 n)
+    free f = cond-false (kind == 2) (field b f 6) 2 (ne_eqb kind 2 n)
 
     free-lets : (bit f : ℕ) → mask_against l w bit (row_on b l f) ≡ (if not (agreed f) then low f else 0)
-    free-lets bit f = by_bit bit f ∙ ap (λ (k : ℕ). if (eqb k 2 || eqb k bit) && not (agreed f) then low f else 0) (free f)
+    free-lets bit f = by_bit bit f ∙ ap (λ (k : ℕ). if (k == 2 || k == bit) && not (agreed f) then low f else 0) (free f)
 
     free-rows : (p q f n : ℕ) → mask_against_all l w p (map (row_on b l) (range f n))
         ≡ mask_against_all l w q (map (row_on b l) (range f n))
@@ -90,7 +90,7 @@ module _ (b : List ℕ) (l w : ℕ) where
     frame-conditions h g = frames-are (first_on b l) (end_on b l - first_on b l) ∙ sym (own-conditions b l w bit h g)
 
 -- ---- on a sound image every row has its values within its care mask
-all_split : (P : Row → Type 0) (xs ys : List Row) → All P (xs ++ ys) → All P xs × All P ys
+all_split : (P : Row → Type 0) (xs ys : List Row) → AllByRecursion P (xs ++ ys) → AllByRecursion P xs × AllByRecursion P ys
 all_split P [] ys a = (tt, a)
 all_split P (x ∷ xs) ys (p, a) = let r = all_split P xs ys a in ((p, r.0), r.1)
 
@@ -98,17 +98,17 @@ module _ (b : List ℕ) (l : ℕ) where
   abbrev Within : Row → Type 0
   Within r = bit_and r.values r.care ≡ r.values
 
-  own-within : (i n : ℕ) → i ≤ l → l < i + n → All Within (concat_map (rows_on b) (range i n)) → All Within (rows_on b l)
+  own-within : (i n : ℕ) → i ≤ l → l < i + n → AllByRecursion Within (flat_map (rows_on b) (range i n)) → AllByRecursion Within (rows_on b l)
   own-within i zero p q a = absurd (omega arith)
   own-within i (suc n) p q a = go (ℕ_discrete i l) (own-within (suc i) n)
     where
-      parts : All Within (rows_on b i) × All Within (concat_map (rows_on b) (range (suc i) n))
-      parts = all_split Within (rows_on b i) (concat_map (rows_on b) (range (suc i) n))
-          (subst (All Within) (concat-cons (rows_on b) i (range (suc i) n)) a)
+      parts : AllByRecursion Within (rows_on b i) × AllByRecursion Within (flat_map (rows_on b) (range (suc i) n))
+      parts = all_split Within (rows_on b i) (flat_map (rows_on b) (range (suc i) n))
+          (subst (AllByRecursion Within) (concat-cons (rows_on b) i (range (suc i) n)) a)
 
-      go : Dec (i ≡ l) → (suc i ≤ l → l < suc i + n → All Within (concat_map (rows_on b) (range (suc i) n)) → All Within (rows_on b l))
-          → All Within (rows_on b l)
-      go (yes e) ih = subst (λ (m : ℕ). All Within (rows_on b m)) e parts.0
+      go : Dec (i ≡ l) → (suc i ≤ l → l < suc i + n → AllByRecursion Within (flat_map (rows_on b) (range (suc i) n)) → AllByRecursion Within (rows_on b l))
+          → AllByRecursion Within (rows_on b l)
+      go (yes e) ih = subst (λ (m : ℕ). AllByRecursion Within (rows_on b m)) e parts.0
       go (no e) ih = ih (omega arith) (omega arith) parts.1
 
   pub rows-kept : SoundImage (table_image b) → 2 ≤ l → l ≤ last_label b → (f : ℕ) → first_on b l ≤ f → f < end_on b l → ValuesWithin b f
@@ -116,7 +116,7 @@ module _ (b : List ℕ) (l : ℕ) where
   rows-kept sound h g f p q =
       let first : ℕ = first_on b l in
       let count : ℕ = end_on b l - first in
-      let own : All Within (rows_on b l) =
+      let own : AllByRecursion Within (rows_on b l) =
       own-within 2 (last_label b - 1) h (omega arith) (all-places Within no_row (table_image b).rows (λ k m. (sound.each k m).within)) in
       subst Within
       (get_or-map-range (row_on b l) no_row first count (f - first) (omega arith)

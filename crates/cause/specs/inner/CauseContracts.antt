@@ -1,5 +1,5 @@
 -- What the functions that find the conditions against rows ask of a prepared table and promise.
-use Rattle.std.specs.Prelude.{ℕ, zero, suc, ◌^◌, ◌≤◌, ◌<◌, Bool, ◌&&◌, ◌||◌, not, ◌≡◌, List, eqb, if◌then◌else◌}
+use Rattle.std.specs.Prelude.{ℕ, zero, suc, ◌^◌, ◌≤◌, ◌<◌, Bool, ◌&&◌, ◌||◌, not, ◌≡◌, List, if◌then◌else◌, ◌==◌}
 use Rattle.std.specs.Int.Bits.{bit_and, bit_or}
 use Rattle.words.specs.lists.Numbers.{lowest}
 use Rattle.words.specs.bits.Word.{is_agreeing}
@@ -21,7 +21,7 @@ pub record RowsAsked (b : List ℕ) (first end : ℕ) : Type 0 where
 
 -- a row that asks for this bit is let through; bit 2 says that no bit decides
 abbrev pub is_let_through : ℕ → ℕ → Bool
-is_let_through only bit = eqb bit NO_BIT || (eqb only NO_BIT || eqb only bit)
+is_let_through only bit = bit == NO_BIT || (only == NO_BIT || only == bit)
 
 -- the condition against the row in frame f as a mask, and those against n rows, joined
 abbrev pub mask_against_in : List ℕ → ℕ → ℕ → ℕ → ℕ

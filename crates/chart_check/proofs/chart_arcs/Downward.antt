@@ -1,21 +1,27 @@
--- Two searches over the numbers from the last one down.
-use Rattle.std.proofs.Common.{if◌then◌else◌, ◌≡◌, ◌∙◌, ap, Bool, ℕ, ◌-◌, ◌≤◌, ◌<◌, arith}
+-- Two searches over the numbers from the last one down: what is found last is the lowest.
+use Rattle.std.proofs.Common.{if◌then◌else◌, ◌≡◌, Bool, ℕ, ◌-◌, ◌≤◌, ◌<◌, arith, Option, None, Some, lt-ltb, nat_lt}
 use Rattle.std.proofs.Math.Nat.{sub-zero}
 use Rattle.std.proofs.lemmas.Grind.{common_steps}
 use Rattle.words.specs.lists.Numbers.{lowest}
-use Rattle.words.proofs.lists.Searches.{lowest-over, lowest-below}
+use Rattle.words.proofs.lists.Searches.{lowest-over, lowest-below, lowest-here, lowest-on}
+use Rattle.text.specs.frames.Verdict.{Verdict, fine, refused, at_lowest}
+use Rattle.chart_check.specs.inner.ArcContracts.{found_verdict}
 
 -- the numbers from v up to n are tried
-pub record Downward (p q : ℕ → Bool) (n v a b : ℕ) : Type 0 where
+abbrev pub at_from : ℕ → (ℕ → Bool) → ℕ → ℕ → Verdict
+at_from k p v n = let i = lowest p v (n - v) in if nat_lt i n then refused k i else fine
+
+pub record Downward (p : ℕ → Bool) (k n v : ℕ) (a : Option ℕ) : Type 0 where
   pub low : v ≤ n
-  pub first : a ≡ lowest p v (n - v)
-  pub second : b ≡ lowest q v (n - v)
+  pub found : found_verdict k a ≡ at_from k p v n
 
-pub downward-none : (p q : ℕ → Bool) (n : ℕ) → Downward p q n n n n
-downward-none p q n = grind (arith, common_steps, lowest-over)
+pub downward-none : (p : ℕ → Bool) (k n : ℕ) → Downward p k n n None
+downward-none p k n = grind (arith, common_steps, lowest-over)
 
-module _ (p q : ℕ → Bool) (n v a b : ℕ) (d : Downward p q n v a b) where
-  pub downward-turn : (x y : Bool) (a' b' : ℕ) → 0 < v → x ≡ p (v - 1) → y ≡ q (v - 1) → a' ≡ (if x then v - 1 else a)
-      → b' ≡ (if y then v - 1 else b)
-      → Downward p q n (v - 1) a' b'
-  downward-turn x y a' b' some ex ey ea eb = grind (arith, common_steps, lowest-below)
+pub downward-turn : (p : ℕ → Bool) (k n v : ℕ) (a a' : Option ℕ) (x : Bool) → Downward p k n v a → 0 < v → x ≡ p (v - 1)
+    → a' ≡ (if x then Some (v - 1) else a)
+    → Downward p k n (v - 1) a'
+downward-turn p k n v a a' x d some ex ea = grind (arith, common_steps, lowest-below, lowest-here, lowest-on, lt-ltb)
+
+pub downward-all : (p : ℕ → Bool) (k n v : ℕ) (a : Option ℕ) → Downward p k n v a → v ≤ 0 → found_verdict k a ≡ at_lowest k p n
+downward-all p k n v a d z = grind (arith, common_steps, sub-zero)

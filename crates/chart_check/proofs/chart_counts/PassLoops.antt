@@ -1,17 +1,17 @@
 -- The pass over the nodes for refusal 4 with the counts of 5.
-use Rattle.std.proofs.Common.{◌≡◌, sym, ◌∙◌, Bool, true, false, List, ℕ, ◌+◌, ◌≤◌, ◌<◌, max, arith, length, replicate}
-use Rattle.std.proofs.Math.ListN.{length-replicate}
+use Rattle.std.proofs.Common.{◌≡◌, true, false, List, ℕ, ◌+◌, ◌≤◌, ◌<◌, max, arith, replicate}
 use Rattle.std.proofs.lemmas.Grind.{common_steps}
-use Rattle.words.specs.lists.Numbers.{lowest, highest, any}
+use Rattle.words.specs.lists.Numbers.{lowest, highest}
 use Rattle.words.proofs.lists.Searches.{Searching, searching-first, searching-found, searching-next, searching-over, highest-next}
 use Rattle.text.specs.frames.Frame.{size}
-use Rattle.charts.specs.Chart.{Chart, scheme}
+use Rattle.charts.specs.Chart.{Chart, scheme, schemes}
 use Rattle.charts.specs.Check.{has_bad_field}
-use Rattle.chart_check.specs.chart_counts.inner.Counts.{counts_to, is_not_one_of_each}
-use Rattle.chart_check.specs.chart_counts.inner.Found.{CountsFound, FieldsFound}
-use Rattle.chart_check.specs.declared.chart_counts.Counted.{Counted}
+use Rattle.chart_check.specs.inner.Counts.{counts_to}
+use Rattle.text.specs.frames.Answer.{success, refusal, verdict_reply}
+use Rattle.text.specs.frames.Verdict.{at_lowest}
+use Rattle.text.proofs.frames.Chains.{lowest-refused, lowest-fine, judged-refused, judged-fine}
 use Rattle.charts.proofs.Nodes.{field-scheme}
-use Rattle.chart_check.proofs.chart_counts.SchemeCounts.{counts_start, bad-counts}
+use Rattle.chart_check.proofs.chart_counts.SchemeCounts.{counts-start}
 
 -- the nodes below v have good fields and are counted
 pub record CountingNodes (c : Chart) (n v h : ℕ) (bs es : List ℕ) : Type 0 where
@@ -22,10 +22,17 @@ pub record CountingNodes (c : Chart) (n v h : ℕ) (bs es : List ℕ) : Type 0 w
   pub begins : bs ≡ counts_to c 0 v
   pub ends : es ≡ counts_to c 1 v
 
+-- all nodes passed
+pub record CountsTold (c : Chart) (h : ℕ) (bs es : List ℕ) : Type 0 where
+  pub told : success h ≡ verdict_reply (at_lowest 4 (has_bad_field c) (size c)) (schemes c)
+  pub low : h ≤ 16
+  pub begins : bs ≡ counts_to c 0 (size c)
+  pub ends : es ≡ counts_to c 1 (size c)
+
 pub counting-none : (c : Chart) (n : ℕ) (bs es : List ℕ) → n ≡ size c → bs ≡ replicate 17 0
     → es ≡ replicate 17 0 → CountingNodes c n 0 0 bs es
 unfolding highest
-counting-none c n bs es e p q = grind (arith, common_steps, searching-first, counts_start)
+counting-none c n bs es e p q = grind (arith, common_steps, searching-first, counts-start)
 
 module _ (c : Chart) (n v h : ℕ) (bs es : List ℕ) (d : CountingNodes c n v h bs es) where
   pub counting-turn : (h' s : ℕ) (bs' es' : List ℕ) → v < n → has_bad_field c v ≡ false → s ≡ scheme c v → h' ≡ max h s
@@ -39,14 +46,8 @@ module _ (c : Chart) (n v h : ℕ) (bs es : List ℕ) (d : CountingNodes c n v h
     ends = q;
   }
 
-  pub counting-stop : v < n → has_bad_field c v ≡ true → CountsFound c (record { field = v; highest = h }) bs es
-  counting-stop l bad = grind (arith, common_steps, searching-found)
+  pub counting-stop : (m : ℕ) → v < n → has_bad_field c v ≡ true → refusal 4 v 0 ≡ verdict_reply (at_lowest 4 (has_bad_field c) (size c)) m
+  counting-stop m l bad = grind (arith, common_steps, searching-found, lowest-refused, judged-refused)
 
-  pub counting-all : n ≤ v → CountsFound c (record { field = v; highest = h }) bs es
-  counting-all l = grind (arith, common_steps, searching-over)
-
--- the schemes by the counts
-pub fields-found : (c : Chart) (r : Counted) (bs es : List ℕ) (t : Bool) → CountsFound c r bs es
-    → t ≡ any (is_not_one_of_each bs es) 1 r.highest
-    → FieldsFound c (record { field = r.field; scheme = t; highest = r.highest })
-fields-found c r bs es t d e = grind (arith, common_steps, bad-counts)
+  pub counting-all : n ≤ v → v ≤ n → CountsTold c h bs es
+  counting-all l z = grind (arith, common_steps, searching-over, lowest-fine, judged-fine)

@@ -1,8 +1,8 @@
 -- A depth-first search: a condition none of whose arcs leads to an unfinished one is on no circle.
-use Rattle.std.proofs.Common.{if◌then◌else◌, ◌≡◌, sym, ◌∙◌, ap, ◌⊎◌, ⊎_elim, Bool, true, false, not, List, [], ◌∷◌, ℕ, ◌+◌, ◌-◌, ◌≤◌, ◌<◌}
-use Rattle.std.proofs.Common.{arith, eqb, length, get_or, set, length-set, eqb-true}
+use Rattle.std.proofs.Common.{◌≡◌, sym, ◌∙◌, ap, ◌⊎◌, ⊎_elim, Bool, true, false, not, List, [], ◌∷◌, ℕ, ◌+◌, ◌-◌, ◌≤◌, ◌<◌, nat_eq, ◌==◌, slice_index}
+use Rattle.std.proofs.Common.{arith, length, set, length-set, eqb-true}
 use Rattle.std.proofs.lemmas.Grind.{common_steps}
-use Rattle.words.proofs.lists.Tests.{no_both, not-true, or_cases, if-false, cases}
+use Rattle.words.proofs.lists.Tests.{no_both, not-true, or-cases, cases}
 use Rattle.words.proofs.lists.Searches.{some-cons}
 use Rattle.words.proofs.lists.Ranges.{length-map-range}
 use Rattle.words.specs.graph.Reach.{is_member, is_marked}
@@ -36,12 +36,12 @@ module _ (c : Chart) (ms : List Bool) (v : ℕ) where
       let t : is_member u (next0 c v ∷ next1 c v ∷ []) ≡ true =
       ap (is_member u) (sym (condition-arcs c v i ∙ arcs-condition c v (eqb-true (kind c v) 3 i))) ∙ s in
       ⊎_elim
-      (λ (e : eqb u (next0 c v) ≡ true). ap (is_marked ms) (eqb-true u (next0 c v) e) ∙ a)
+      (λ (e : (u == next0 c v) ≡ true). ap (is_marked ms) (eqb-true u (next0 c v) e) ∙ a)
       (λ (e : is_member u (next1 c v ∷ []) ≡ true). ap (is_marked ms) (member-only u (next1 c v) e) ∙ b)
-      (or_cases (eqb u (next0 c v)) (is_member u (next1 c v ∷ [])) (sym (some-cons (eqb u) (next0 c v) (next1 c v ∷ [])) ∙ t))
+      (or-cases (u == next0 c v) (is_member u (next1 c v ∷ [])) (sym (some-cons (nat_eq u) (next0 c v) (next1 c v ∷ [])) ∙ t))
 
-  pub none_ahead : length ms ≡ size c → (r : ℕ) → r ≡ next_unfinished c ms v → size c ≤ r → NoneAhead c ms v
-  none_ahead e r q l = grind (arith, common_steps, cases, marked-below, next-first, next-second, none_both)
+  pub none-ahead : length ms ≡ size c → (r : ℕ) → r ≡ next_unfinished c ms v → size c ≤ r → NoneAhead c ms v
+  none-ahead e r q l = grind (arith, common_steps, cases, marked-below, next-first, next-second, none_both)
 
 -- ---- one more is finished
 module _ (ms : List Bool) (v : ℕ) where
@@ -72,12 +72,12 @@ pub record Standing (c : Chart) (unfinished : List Bool) (path : List ℕ) (left
   pub fits : size c ≤ length path
   pub steps : depth + left ≤ size c
   pub here : at < size c
-  pub before : (i : ℕ) → i < depth → get_or path i 0 < size c
+  pub before : (i : ℕ) → i < depth → slice_index path i < size c
 
 module _ (c : Chart) (ms : List Bool) (path : List ℕ) (left depth at : ℕ) (s : Standing c ms path left depth at) where
   module _ (r : ℕ) (q : r ≡ next_unfinished c ms at) (l : size c ≤ r) where
     pub standing-end : Finished c (set ms at false)
-    standing-end = finished-more c ms s.finished at s.here (none_ahead c ms at s.finished.long r q l)
+    standing-end = finished-more c ms s.finished at s.here (none-ahead c ms at s.finished.long r q l)
 
-    pub standing-back : (depth ≡ 0 → ⊥) → Standing c (set ms at false) path left (depth - 1) (get_or path (depth - 1) 0)
+    pub standing-back : (depth ≡ 0 → ⊥) → Standing c (set ms at false) path left (depth - 1) (slice_index path (depth - 1))
     standing-back n = grind (arith, common_steps, standing-end)

@@ -1,7 +1,6 @@
 -- The arcs that marks follow, case by case, and the marks of Begins and of cut-off nodes.
-use Rattle.std.proofs.Common.{if◌then◌else◌, ◌≡◌, refl, sym, ◌∙◌, ap, subst, ◌⊎◌, Bool, true, false, not, List, [], ◌∷◌, ◌++◌, map, ℕ, zero}
-use Rattle.std.proofs.Common.{suc, ◌+◌, ◌≤◌, ◌<◌, zero-add, add-one, arith, eqb, length, get_or, set, take, drop, replicate, drop-cons}
-use Rattle.std.proofs.Common.{ne_eqb}
+use Rattle.std.proofs.Common.{◌≡◌, refl, sym, ◌∙◌, ap, subst, Bool, false, not, List, [], ◌∷◌, ◌++◌, map, ℕ, zero, ◌==◌, slice_index_or}
+use Rattle.std.proofs.Common.{suc, ◌+◌, ◌≤◌, ◌<◌, zero-add, add-one, arith, length, set, take, drop, replicate, drop-cons}
 use Rattle.std.proofs.Math.ListN.{length-replicate}
 use Rattle.std.proofs.Math.Seq.{set_at, append_snoc}
 use Rattle.std.proofs.lemmas.Grind.{common_steps}
@@ -17,10 +16,8 @@ use Rattle.text.specs.frames.Frame.{size}
 use Rattle.charts.specs.Chart.{Chart, kind, next0, next1, is}
 use Rattle.charts.specs.Check.{arcs, condition_arcs, is_on_circle}
 use Rattle.charts.specs.inner.Marks.{arcs_by, kind_marks}
-use Rattle.charts.proofs.Nodes.{two-arcs}
-use Rattle.charts.proofs.Meaning.{no-condition-arcs}
-use Rattle.chart_check.specs.node_marks.inner.MarkContracts.{marks_swept_to, Blank, ListedRoom}
-use Rattle.chart_check.proofs.node_marks.Sweeps.{swept_same}
+use Rattle.chart_check.specs.inner.MarkContracts.{marks_swept_to, Blank, ListedRoom}
+use Rattle.chart_check.proofs.node_marks.Sweeps.{swept-same}
 
 -- the arcs by their number
 module _ (c : Chart) (b : Bool) (v n : ℕ) (e : n ≡ length (arcs_by c b v)) where
@@ -49,13 +46,13 @@ module _ (c : Chart) (k : ℕ) (old : List Bool) where
   front v = map (is c k) (range 0 v)
 
   pub kinds-more : (v x : ℕ) (ms : List Bool) → v < length old → ms ≡ map (is c k) (range 0 v) ++ drop v old → x ≡ kind c v
-      → set ms v (eqb x k) ≡ map (is c k) (range 0 (v + 1)) ++ drop (v + 1) old
+      → set ms v (x == k) ≡ map (is c k) (range 0 (v + 1)) ++ drop (v + 1) old
   kinds-more v x ms l e q =
-      let d : drop v old ≡ get_or old v false ∷ drop (suc v) old = drop-cons old v false l in
-      ap (λ (xs : List Bool). set xs v (eqb x k)) (e ∙ ap (λ (xs : List Bool). front v ++ xs) d)
-      ∙ set_at (front v) (get_or old v false) (drop (suc v) old) (eqb x k) v (length-map-range (is c k) 0 v)
-      ∙ sym (append_snoc (front v) (eqb x k) (drop (suc v) old))
-      ∙ ap (λ b. (front v ++ (b ∷ [])) ++ drop (suc v) old) (ap (λ (y : ℕ). eqb y k) q ∙ ap (is c k) (omega arith))
+      let d : drop v old ≡ slice_index_or old v false ∷ drop (suc v) old = drop-cons old v false l in
+      ap (λ (xs : List Bool). set xs v (x == k)) (e ∙ ap (λ (xs : List Bool). front v ++ xs) d)
+      ∙ set_at (front v) (slice_index_or old v false) (drop (suc v) old) (x == k) v (length-map-range (is c k) 0 v)
+      ∙ sym (append_snoc (front v) (x == k) (drop (suc v) old))
+      ∙ ap (λ b. (front v ++ (b ∷ [])) ++ drop (suc v) old) (ap (λ (y : ℕ). y == k) q ∙ ap (is c k) (omega arith))
       ∙ ap (λ (xs : List Bool). xs ++ drop (suc v) old) (sym (map-range-snoc (is c k) 0 v))
       ∙ ap (λ (j : ℕ). map (is c k) (range 0 j) ++ drop j old) (sym (add-one v))
 
@@ -74,7 +71,7 @@ pub spread-apart : (c : Chart) (begins swept joined : List Bool) (r : ℕ) → b
     → joined ≡ reach (size c) (arcs c) (size c) swept → length joined ≡ size c
     → r ≡ lowest (λ v. not (is_marked joined v)) 0 (length joined)
     → (joined ≡ reach (size c) (arcs c) (size c) (kind_marks c 0)) × (r ≡ lowest (λ v. not (is_marked joined v)) 0 (size c))
-spread-apart c begins swept joined r first sweep spread long found = grind (arith, common_steps, swept_same, length-map-range, long)
+spread-apart c begins swept joined r first sweep spread long found = grind (arith, common_steps, swept-same, length-map-range, long)
 
 -- where as many are marked as there are, there is none without
 pub all-marked : (ms : List Bool) → many ms ≡ length ms → length ms ≡ lowest (λ v. not (is_marked ms v)) 0 (length ms)

@@ -1,13 +1,14 @@
 -- Labels: their number is small, a label of a node's own is 2 or more, and the steps of the functions that lay them out.
-use Rattle.std.proofs.Common.{if◌then◌else◌, cond, ◌≡◌, refl, sym, ◌∙◌, ap, ◌⊎◌, ⊎_elim, Bool, true, false, ◌&&◌, not, List, [], ◌∷◌, ◌++◌}
-use Rattle.std.proofs.Common.{map, ℕ, ◌+◌, ◌≤◌, ◌<◌, zero-add, add-one, arith, eqb, length, set, length-set, eq-eqb, ne_eqb}
+use Rattle.std.proofs.Common.{if◌then◌else◌, cond, ◌≡◌, refl, sym, ◌∙◌, ap, ◌⊎◌, ⊎_elim, Bool, true, false, ◌&&◌, not, List, [], ◌∷◌, ◌++◌, ◌==◌}
+use Rattle.std.proofs.Common.{map, ℕ, ◌+◌, ◌≤◌, ◌<◌, zero-add, add-one, arith, length, set, length-set, eq-eqb, ne_eqb}
 use Rattle.std.proofs.lemmas.Grind.{common_steps}
 use Rattle.words.specs.lists.Numbers.{range, count}
 use Rattle.words.specs.lists.Sequences.{written}
-use Rattle.words.proofs.lists.Tests.{if-true, if-false, cases}
+use Rattle.std.proofs.lemmas.Bool.{cond-true, cond-false}
+use Rattle.words.proofs.lists.Tests.{cases}
 use Rattle.words.proofs.lists.Counts.{count-snoc, count-below, count-miss2}
 use Rattle.words.proofs.lists.Ranges.{length-map-range, get_or-map-range, map-range-snoc}
-use Rattle.words.proofs.lists.Written.{written_none, written-snoc, written-front}
+use Rattle.words.proofs.lists.Written.{written-none, written-snoc, written-front}
 use Rattle.text.specs.frames.Frame.{size}
 use Rattle.charts.specs.Chart.{Chart, kind, scheme, next0, is, begin, end}
 use Rattle.walk.specs.Stops.{is_stop}
@@ -19,11 +20,11 @@ use Rattle.walk.proofs.Follow.{stops-begin}
 
 pub label-own : (c : Chart) (v : ℕ) → is_numbered c v ≡ true → label c v ≡ 2 + count (is_numbered c) 0 v
 unfolding label
-label-own c v e = if-true (is_numbered c v) (2 + count (is_numbered c) 0 v) (if eqb (scheme c v) 1 then 0 else 1) e
+label-own c v e = cond-true (is_numbered c v) (2 + count (is_numbered c) 0 v) (if scheme c v == 1 then 0 else 1) e
 
-pub label-shared : (c : Chart) (v : ℕ) → is_numbered c v ≡ false → label c v ≡ (if eqb (scheme c v) 1 then 0 else 1)
+pub label-shared : (c : Chart) (v : ℕ) → is_numbered c v ≡ false → label c v ≡ (if scheme c v == 1 then 0 else 1)
 unfolding label
-label-shared c v e = if-false (is_numbered c v) (2 + count (is_numbered c) 0 v) (if eqb (scheme c v) 1 then 0 else 1) e
+label-shared c v e = cond-false (is_numbered c v) (2 + count (is_numbered c) 0 v) (if scheme c v == 1 then 0 else 1) e
 
 low : (b : Bool) → cond {A = ℕ} b 0 1 < 2
 low true = omega arith
@@ -63,11 +64,11 @@ module _ (c : Chart) (v : ℕ) where
   pub own-done : (own : ℕ) → own ≡ count (is_numbered c) 0 v → is_numbered c v ≡ true → own + 2 ≡ label c v
   own-done own e t = omega (arith, label-own c v t)
 
-  pub first_done : is_numbered c v ≡ false → scheme c v ≡ 1 → 0 ≡ label c v
-  first_done f e = sym (label-shared c v f ∙ if-true (eqb (scheme c v) 1) 0 1 (eq-eqb (scheme c v) 1 e))
+  pub first-done : is_numbered c v ≡ false → scheme c v ≡ 1 → 0 ≡ label c v
+  first-done f e = sym (label-shared c v f ∙ cond-true (scheme c v == 1) 0 1 (eq-eqb (scheme c v) 1 e))
 
   pub other-done : is_numbered c v ≡ false → (scheme c v ≡ 1 → ⊥) → 1 ≡ label c v
-  other-done f e = sym (label-shared c v f ∙ if-false (eqb (scheme c v) 1) 0 1 (ne_eqb (scheme c v) 1 e))
+  other-done f e = sym (label-shared c v f ∙ cond-false (scheme c v == 1) 0 1 (ne_eqb (scheme c v) 1 e))
 
 -- ---- the labels of the first v nodes
 pub record Labelling (c : Chart) (old labels : List ℕ) (own v : ℕ) : Type 0 where
@@ -84,7 +85,7 @@ labelling-start c old = record {
   few =
       omega arith;
   long = refl;
-  done = sym (written_none old 0);
+  done = sym (written-none old 0);
 }
 
 module _ (c : Chart) (old labels : List ℕ) (own v : ℕ) (room : size c ≤ length old) (t : Labelling c old labels own v)

@@ -1,15 +1,19 @@
 -- The steps of the functions on nodes, at plain values.
-use Rattle.std.proofs.Common.{◌≡◌, sym, ◌∙◌, ap, List, true, false, ℕ, ◌*◌, ◌-◌, ◌+◌, ◌≤◌, ◌<◌, arith, eqb, length, get_or, set, length-set}
+use Rattle.std.proofs.Common.{◌≡◌, sym, ◌∙◌, ap, List, map, false, ℕ, ◌*◌, ◌-◌, ◌+◌, ◌≤◌, ◌<◌, arith, length, set, length-set, ◌==◌, slice_index}
 use Rattle.std.proofs.Common.{get_or-set_same, get_or-set_other, eq-eqb, ne_eqb}
 use Rattle.std.proofs.Math.Decide.{ℕ_discrete}
 use Rattle.std.proofs.lemmas.Grind.{common_steps}
-use Rattle.words.specs.lists.Numbers.{lowest}
-use Rattle.words.proofs.lists.Searches.{lowest-here, lowest-on, lowest-over, lowest_start, Searching, searching-first}
-use Rattle.words.proofs.lists.Tests.{and-true, and_no, and_second, and_first}
+use Rattle.words.specs.lists.Numbers.{lowest, range}
+use Rattle.words.specs.lists.Sequences.{written}
+use Rattle.words.proofs.lists.Ranges.{length-map-range, get_or-map-range}
+use Rattle.words.proofs.lists.Written.{written-length}
+use Rattle.words.proofs.lists.Searches.{lowest-here, lowest-on, lowest-over, lowest-none, lowest-start, Searching, searching-first}
+use Rattle.words.proofs.lists.Tests.{and-true, and-no, and-second, and-first}
 use Rattle.text.specs.frames.Frame.{size}
-use Rattle.charts.specs.Chart.{Chart, kind, scheme, next0, is, is_of, begin, node_of}
+use Rattle.charts.specs.Chart.{Chart, kind, scheme, schemes, next0, is, is_of, begin, node_of}
 use Rattle.walk.specs.Stops.{is_stop}
 use Rattle.chart_rows.specs.chart_labels.inner.ChartContracts.{Ready, Begun}
+use Rattle.chart_rows.proofs.Parts.{written-is, part-within}
 use Rattle.chart_rows.proofs.chart_labels.ReadyLaws.{ready-facts}
 use Rattle.walk.proofs.Follow.{stops-condition}
 
@@ -19,56 +23,92 @@ unfolding node_of
 search-start c h = searching-first (is_of c 0 h) (size c)
 
 -- ---- the Begins of all schemes: of each that has one from node v on, the lowest is noted
-pub record Noting (c : Chart) (begins : List ℕ) (n v : ℕ) : Type 0 where
+pub record Noting (c : Chart) (old begins : List ℕ) (n v : ℕ) : Type 0 where
   pub within : v ≤ n
   pub all : n ≡ size c
   pub long : length begins ≡ 17
-  pub noted : (h : ℕ) → lowest (is_of c 0 h) v (n - v) < n → get_or begins h 0 ≡ lowest (is_of c 0 h) v (n - v)
+  pub kept : (h : ℕ) → n ≤ lowest (is_of c 0 h) v (n - v) → slice_index begins h ≡ slice_index old h
+  pub noted : (h : ℕ) → lowest (is_of c 0 h) v (n - v) < n → slice_index begins h ≡ lowest (is_of c 0 h) v (n - v)
 
-pub noting-start : (c : Chart) (begins : List ℕ) → length begins ≡ 17 → Noting c begins (size c) (size c)
+pub noting-start : (c : Chart) (begins : List ℕ) → length begins ≡ 17 → Noting c begins begins (size c) (size c)
 noting-start c begins l = grind (arith, common_steps, lowest-over)
 
-module _ (c : Chart) (begins : List ℕ) (n v : ℕ) (s : Noting c begins n v) (w : ℕ) (e : v ≡ w + 1) where
+module _ (c : Chart) (old begins : List ℕ) (n v : ℕ) (s : Noting c old begins n v) (w : ℕ) (e : v ≡ w + 1) where
   -- node w is not the Begin of scheme h, and the search goes on behind it
   skip : (h : ℕ) → is_of c 0 h w ≡ false → lowest (is_of c 0 h) w (n - w) ≡ lowest (is_of c 0 h) v (n - v)
   skip h t = lowest-on (is_of c 0 h) n w (omega (arith, s.within)) t ∙ ap (λ (j : ℕ). lowest (is_of c 0 h) j (n - j)) (sym e)
 
-  pub noting-other : (k : ℕ) → k ≡ kind c w → (k ≡ 0 → ⊥) → Noting c begins n w
+  pub noting-other : (k : ℕ) → k ≡ kind c w → (k ≡ 0 → ⊥) → Noting c old begins n w
   noting-other k ek z = grind (arith, common_steps, ne_eqb, skip)
 
-  pub noting-begin : (k g : ℕ) → k ≡ kind c w → k ≡ 0 → g ≡ scheme c w → g < 17 → Noting c (set begins g w) n w
+  pub noting-begin : (k g : ℕ) → k ≡ kind c w → k ≡ 0 → g ≡ scheme c w → g < 17 → Noting c old (set begins g w) n w
   noting-begin k g ek z eg l = record {
     within = omega (arith, s.within);
     all = s.all;
     long = length-set begins g w ∙ s.long;
+    kept = λ h b. stays h b (ℕ_discrete h g);
     noted = λ h b. go h b (ℕ_discrete h g);
   }
     where
-      go : (h : ℕ) → lowest (is_of c 0 h) w (n - w) < n → Dec (h ≡ g) → get_or (set begins g w) h 0 ≡ lowest (is_of c 0 h) w (n - w)
-      go h b (yes q) =
-          let t : is_of c 0 h w ≡ true = and-true (is c 0 w) (eqb (scheme c w) h) (eq-eqb (kind c w) 0 (sym ek ∙ z))
-          (eq-eqb (scheme c w) h (sym eg ∙ sym q)) in
-          ap (λ (j : ℕ). get_or (set begins g w) j 0) q ∙ get_or-set_same begins g w 0 (omega (arith, s.long))
-          ∙ sym (lowest-here (is_of c 0 h) n w (omega (arith, s.within)) t)
-      go h b (no q) =
-          let t : is_of c 0 h w ≡ false = and_no (is c 0 w) (eqb (scheme c w) h) (ne_eqb (scheme c w) h (λ r. q (sym r ∙ sym eg))) in
-          let m : lowest (is_of c 0 h) w (n - w) ≡ lowest (is_of c 0 h) v (n - v) = skip h t in
-          get_or-set_other begins g h w 0 q ∙ s.noted h (omega arith) ∙ sym m
+      here : (h : ℕ) → h ≡ g → lowest (is_of c 0 h) w (n - w) ≡ w
+      here h q =
+          lowest-here (is_of c 0 h) n w (omega (arith, s.within))
+          (and-true (is c 0 w) (scheme c w == h) (eq-eqb (kind c w) 0 (sym ek ∙ z)) (eq-eqb (scheme c w) h (sym eg ∙ sym q)))
 
-pub noting-done : (c : Chart) → Ready c → (begins : List ℕ) (n v : ℕ) → Noting c begins n v → v ≤ 0 → Begun c begins
-unfolding node_of
-noting-done c ready begins n v s z = record {
-  long = s.long;
-  at = λ h a b.
-      let f = ((ready-facts ready).begins h a b).0 in
-      let m : lowest (is_of c 0 h) v (n - v) ≡ begin c h = whole h in
-      s.noted h (omega (arith, s.all)) ∙ m;
-}
+      past : (h : ℕ) → (h ≡ g → ⊥) → lowest (is_of c 0 h) w (n - w) ≡ lowest (is_of c 0 h) v (n - v)
+      past h q = skip h (and-no (is c 0 w) (scheme c w == h) (ne_eqb (scheme c w) h (λ r. q (sym r ∙ sym eg))))
+
+      stays : (h : ℕ) → n ≤ lowest (is_of c 0 h) w (n - w) → Dec (h ≡ g) → slice_index (set begins g w) h ≡ slice_index old h
+      stays h b (yes q) = absurd (omega (arith, here h q, s.within))
+      stays h b (no q) = get_or-set_other begins g h w 0 q ∙ s.kept h (omega (arith, past h q))
+
+      go : (h : ℕ) → lowest (is_of c 0 h) w (n - w) < n → Dec (h ≡ g) → slice_index (set begins g w) h ≡ lowest (is_of c 0 h) w (n - w)
+      go h b (yes q) =
+          ap (λ (j : ℕ). slice_index (set begins g w) j) q ∙ get_or-set_same begins g w 0 (omega (arith, s.long)) ∙ sym (here h q)
+      go h b (no q) = get_or-set_other begins g h w 0 q ∙ s.noted h (omega (arith, past h q)) ∙ sym (past h q)
+
+-- a node of a scheme, were it above the largest
+no-scheme : (c : Chart) → Ready c → (h : ℕ) → (1 ≤ h → h ≤ schemes c → ⊥) → size c ≤ lowest (is_of c 0 h) 0 (size c)
+no-scheme c ready h out =
+    let none : lowest (is_of c 0 h) 0 (size c) ≡ 0 + size c = lowest-none (is_of c 0 h) 0 (size c) (λ k l. other k l) in
+    omega arith
   where
-    whole : (h : ℕ) → lowest (is_of c 0 h) v (n - v) ≡ begin c h
-    whole h =
-        let v0 : v ≡ 0 = omega arith in
-        ap (λ (j : ℕ). lowest (is_of c 0 h) j (n - j)) v0 ∙ lowest_start (is_of c 0 h) n ∙ ap (lowest (is_of c 0 h) 0) s.all
+    other : (k : ℕ) → k < size c → is_of c 0 h (0 + k) ≡ false
+    other k l =
+        let owned = (ready-facts ready).owned (0 + k) (omega arith) in
+        and-no (is c 0 (0 + k)) (scheme c (0 + k) == h) (ne_eqb (scheme c (0 + k)) h (λ e. out (omega (arith, owned.0)) (omega (arith, owned.1))))
+
+module _ (c : Chart) (ready : Ready c) (old begins : List ℕ) (long : length old ≡ 17) where
+  noted-long : length (map (begin c) (range 1 (schemes c))) ≡ schemes c
+  noted-long = length-map-range (begin c) 1 (schemes c)
+
+  pub noting-done : (n v : ℕ) → Noting c old begins n v → v ≤ 0 → begins ≡ written old 1 (map (begin c) (range 1 (schemes c)))
+  unfolding node_of
+  noting-done n v s z =
+      written-is old (map (begin c) (range 1 (schemes c))) 1 (omega (arith, noted-long, (ready-facts ready).most)) begins (s.long ∙ sym long)
+      (λ k l. let f = ((ready-facts ready).begins (1 + k) (omega arith) (omega (arith, noted-long))).0 in
+      s.noted (1 + k) (omega (arith, whole (1 + k), s.all)) ∙ whole (1 + k)
+      ∙ sym (get_or-map-range (begin c) 0 1 (schemes c) k (omega (arith, noted-long))))
+      (λ k out. s.kept k (omega (arith, whole k, s.all, no-scheme c ready k (λ a b. out a (omega (arith, noted-long))))))
+    where
+      whole : (h : ℕ) → lowest (is_of c 0 h) v (n - v) ≡ lowest (is_of c 0 h) 0 (size c)
+      whole h =
+          let v0 : v ≡ 0 = omega arith in
+          ap (λ (j : ℕ). lowest (is_of c 0 h) j (n - j)) v0 ∙ lowest-start (is_of c 0 h) n ∙ ap (lowest (is_of c 0 h) 0) s.all
+
+  -- what the functions that read them ask
+  pub begun : begins ≡ written old 1 (map (begin c) (range 1 (schemes c))) → Begun c begins
+  begun e = record {
+    long = ap (λ (xs : List ℕ). length xs) e ∙ written-length old 1 (map (begin c) (range 1 (schemes c))) room ∙ long;
+    at = λ h a b.
+        let j : 1 + (h - 1) ≡ h = omega arith in
+        ap (λ (xs : List ℕ). slice_index xs h) e ∙ ap (λ (i : ℕ). slice_index (written old 1 (map (begin c) (range 1 (schemes c)))) i) (sym j)
+        ∙ part-within old (map (begin c) (range 1 (schemes c))) 1 room (h - 1) (omega (arith, noted-long))
+        ∙ get_or-map-range (begin c) 0 1 (schemes c) (h - 1) (omega arith) ∙ ap (begin c) j;
+  }
+    where
+      room : 1 + length (map (begin c) (range 1 (schemes c))) ≤ length old
+      room = omega (arith, noted-long, (ready-facts ready).most)
 
 -- ---- stops
 pub begin-asks : (c : Chart) → Ready c → (v k : ℕ) → v < size c → k ≡ kind c v → k ≡ 0
@@ -76,11 +116,11 @@ pub begin-asks : (c : Chart) → Ready c → (v k : ℕ) → v < size c → k �
 begin-asks c ready v k l e z = grind (arith, common_steps, ready-facts)
 
 module _ (c : Chart) (v k s first : ℕ) (ek : k ≡ kind c v) (three : k ≡ 3) (es : s ≡ scheme c v) (f : first ≡ next0 c (begin c 1)) where
-  pub condition-second : s ≡ 1 → eqb first v ≡ is_stop c v
-  condition-second o = grind (arith, common_steps, eq-eqb, and_second, stops-condition)
+  pub condition-second : s ≡ 1 → (first == v) ≡ is_stop c v
+  condition-second o = grind (arith, common_steps, eq-eqb, and-second, stops-condition)
 
-  pub condition-first : (s ≡ 1 → ⊥) → eqb s 1 ≡ is_stop c v
-  condition-first o = grind (arith, common_steps, ne_eqb, stops-condition, and_first)
+  pub condition-first : (s ≡ 1 → ⊥) → (s == 1) ≡ is_stop c v
+  condition-first o = grind (arith, common_steps, ne_eqb, stops-condition, and-first)
 
 pub first-asks : (c : Chart) → Ready c → (v : ℕ) → v ≡ begin c 1 → 10 * v + 3 < length c
 first-asks c ready v e = let F = ready-facts ready in omega (arith, ready.whole, (F.begins 1 (omega arith) F.first).0)

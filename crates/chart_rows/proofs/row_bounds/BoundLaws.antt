@@ -1,9 +1,9 @@
 -- How many paths go on from a node at most: each test of a new number takes one from the numbers that are untested, and at most doubles
 -- the paths.
-use Rattle.std.proofs.Common.{if◌then◌else◌, ◌≡◌, refl, sym, ◌∙◌, ap, subst, ◌⊎◌, inl, inr, ⊎_elim, Bool, true, false, ◌&&◌, List, ◌++◌, ℕ}
-use Rattle.std.proofs.Common.{zero, suc, ◌+◌, ◌-◌, ◌*◌, ◌/◌, ◌%◌, ◌^◌, ◌≤◌, ◌<◌, max, pow-suc, div-one, add-one, arith, bit_or, eqb, length}
-use Rattle.std.proofs.Common.{get_or, set, replicate, length-append, length-set, pow_pos, pow_mono, shr-shr, shr_lt, shl_exact}
-use Rattle.std.proofs.Common.{get_or-set_same, get_or-set_other, eqb-true, eq-eqb, ne_eqb}
+use Rattle.std.proofs.Common.{if◌then◌else◌, ◌≡◌, refl, sym, ◌∙◌, ap, subst, ◌⊎◌, inl, inr, ⊎_elim, Bool, true, false, ◌&&◌, List, ◌++◌, ℕ, ◌==◌, slice_index}
+use Rattle.std.proofs.Common.{zero, suc, ◌+◌, ◌-◌, ◌*◌, ◌/◌, ◌%◌, ◌^◌, ◌≤◌, ◌<◌, max, pow-suc, div-one, add-one, arith, bit_or, length}
+use Rattle.std.proofs.Common.{replicate, length-append, pow_pos, pow_mono, shr-shr, shr_lt, shl_exact}
+use Rattle.std.proofs.Common.{eqb-true, eq-eqb, ne_eqb}
 use Rattle.std.proofs.Math.Decide.{ℕ_discrete}
 use Rattle.std.proofs.Math.Arith.{lt-one}
 use lib.Count.{ones, ones_step, ones-le}
@@ -11,9 +11,10 @@ use Rattle.std.proofs.Math.ListN.{length-replicate, get_or-replicate}
 use Rattle.std.proofs.Math.Pow.{high, ones_lt, ones_split}
 use Rattle.std.proofs.lemmas.Grind.{common_steps}
 use Rattle.words.specs.lists.Numbers.{count}
-use Rattle.words.proofs.lists.Counts.{count-suc, count-within, count_less}
-use Rattle.words.proofs.lists.Tests.{and_l, and_r, and-true, and_no, if-true, if-false}
-use Rattle.words.specs.bits.Word.{bit}
+use Rattle.words.proofs.lists.Counts.{count-suc, count-within, count-less}
+use Rattle.std.proofs.lemmas.Bool.{cond-true, cond-false}
+use Rattle.words.proofs.lists.Tests.{and-l, and-r, and-true, and-no}
+use Rattle.std.specs.Int.{bit_at}
 use Rattle.words.proofs.bits.BitLaws.{bit-or, bit-pow-same, bit-add-same, bit-add-other, bit-cases}
 use Rattle.text.specs.frames.Frame.{size}
 use Rattle.charts.specs.Chart.{Chart, kind, argument, next0, next1, arc_taken}
@@ -25,61 +26,61 @@ use Rattle.chart_rows.specs.chart_labels.inner.ChartContracts.{Ready}
 use Rattle.chart_rows.proofs.chart_labels.ReadyLaws.{ready-sound}
 use Rattle.chart_rows.specs.inner.NodeRows.{paths_from, tested_number, untested_count}
 use Rattle.chart_rows.specs.inner.PathContracts.{NotedAt, Entered, FewPaths, Masked}
-use Rattle.chart_rows.proofs.PathSteps.{entered0, entered1, at-stop, at-known, at_new}
-use Rattle.chart_rows.proofs.NumberLaws.{small-number, high-stops, low-condition, low_goes, low-number}
+use Rattle.chart_rows.proofs.PathSteps.{entered0, entered1, at-stop, at-known, at-new}
+use Rattle.chart_rows.proofs.NumberLaws.{small-number, high-stops, low-condition, low-goes, low-number}
 
 -- ---- the numbers of a mask that are untested
 -- each number of the first mask is one of the second
 pub record MaskWithin (m n : ℕ) : Type 0 where
-  pub each : (i : ℕ) → bit m i ≡ 1 → bit n i ≡ 1
+  pub each : (i : ℕ) → bit_at m i ≡ 1 → bit_at n i ≡ 1
 
 abbrev free : ℕ → ℕ → ℕ → Bool
-free mask care i = eqb (bit mask i) 1 && eqb (bit care i) 0
+free mask care i = bit_at mask i == 1 && bit_at care i == 0
 
 module _ (m n : ℕ) (w : MaskWithin m n) where
   pub untested-more : (care : ℕ) → untested_count m care ≤ untested_count n care
-  untested-more care = grind (arith, common_steps, and_r, eq-eqb, count-within, eqb-true, and-true, and_l)
+  untested-more care = grind (arith, common_steps, and-r, eq-eqb, count-within, eqb-true, and-true, and-l)
 
-  pub untested-less : (care i : ℕ) → i < 16 → bit n i ≡ 1 → bit care i ≡ 0 → untested_count m (care + 2 ^ i) < untested_count n care
+  pub untested-less : (care i : ℕ) → i < 16 → bit_at n i ≡ 1 → bit_at care i ≡ 0 → untested_count m (care + 2 ^ i) < untested_count n care
   untested-less care i l one z =
-      count_less (free m (care + 2 ^ i)) (free n care) 0 16 (λ k a b e. go k e (ℕ_discrete i k)) i (omega arith) (omega arith) here
-      (and-true (eqb (bit n i) 1) (eqb (bit care i) 0) (eq-eqb (bit n i) 1 one) (eq-eqb (bit care i) 0 z))
+      count-less (free m (care + 2 ^ i)) (free n care) 0 16 (λ k a b e. go k e (ℕ_discrete i k)) i (omega arith) (omega arith) here
+      (and-true (bit_at n i == 1) (bit_at care i == 0) (eq-eqb (bit_at n i) 1 one) (eq-eqb (bit_at care i) 0 z))
     where
       here : free m (care + 2 ^ i) i ≡ false
-      here = ap (λ (x : ℕ). eqb (bit m i) 1 && eqb x 0) (bit-add-same care i z) ∙ and_no (eqb (bit m i) 1) false refl
+      here = ap (λ (x : ℕ). bit_at m i == 1 && x == 0) (bit-add-same care i z) ∙ and-no (bit_at m i == 1) false refl
 
       go : (k : ℕ) → free m (care + 2 ^ i) k ≡ true → Dec (i ≡ k) → free n care k ≡ true
       go k e (yes q) =
-          let o : bit (care + 2 ^ i) k ≡ 1 = ap (bit (care + 2 ^ i)) (sym q) ∙ bit-add-same care i z in
-          let y : bit (care + 2 ^ i) k ≡ 0 = eqb-true (bit (care + 2 ^ i) k) 0 (and_r (eqb (bit m k) 1) (eqb (bit (care + 2 ^ i) k) 0) e) in
+          let o : bit_at (care + 2 ^ i) k ≡ 1 = ap (bit_at (care + 2 ^ i)) (sym q) ∙ bit-add-same care i z in
+          let y : bit_at (care + 2 ^ i) k ≡ 0 = eqb-true (bit_at (care + 2 ^ i) k) 0 (and-r (bit_at m k == 1) (bit_at (care + 2 ^ i) k == 0) e) in
           absurd (omega arith)
       go k e (no q) =
-          and-true (eqb (bit n k) 1) (eqb (bit care k) 0)
-          (eq-eqb (bit n k) 1 (w.each k (eqb-true (bit m k) 1 (and_l (eqb (bit m k) 1) (eqb (bit (care + 2 ^ i) k) 0) e))))
-          (eq-eqb (bit care k) 0 (sym (bit-add-other care i k z q)
-          ∙ eqb-true (bit (care + 2 ^ i) k) 0 (and_r (eqb (bit m k) 1) (eqb (bit (care + 2 ^ i) k) 0) e)))
+          and-true (bit_at n k == 1) (bit_at care k == 0)
+          (eq-eqb (bit_at n k) 1 (w.each k (eqb-true (bit_at m k) 1 (and-l (bit_at m k == 1) (bit_at (care + 2 ^ i) k == 0) e))))
+          (eq-eqb (bit_at care k) 0 (sym (bit-add-other care i k z q)
+          ∙ eqb-true (bit_at (care + 2 ^ i) k) 0 (and-r (bit_at m k == 1) (bit_at (care + 2 ^ i) k == 0) e)))
 
 -- no more of them than bits in the mask
-ones-count : (k i m : ℕ) → m < 2 ^ (i + k) → ones (m / 2 ^ i) ≡ count (λ j. eqb (bit m j) 1) i k
+ones-count : (k i m : ℕ) → m < 2 ^ (i + k) → ones (m / 2 ^ i) ≡ count (λ j. bit_at m j == 1) i k
 ones-count zero i m h =
     unfold count ones in ap ones (lt-one (shr_lt {n = m} 0 i (subst (λ (x : ℕ). m < 2 ^ x) (omega arith) h)))
 ones-count (suc k) i m h =
-    ones_step (m / 2 ^ i) ∙ ap (λ (x : ℕ). bit m i + ones x) (shr-shr m i 1)
-    ∙ ap (λ (x : ℕ). bit m i + x) (ap (λ (x : ℕ). ones (m / 2 ^ x)) (add-one i)
+    ones_step (m / 2 ^ i) ∙ ap (λ (x : ℕ). bit_at m i + ones x) (shr-shr m i 1)
+    ∙ ap (λ (x : ℕ). bit_at m i + x) (ap (λ (x : ℕ). ones (m / 2 ^ x)) (add-one i)
     ∙ ones-count k (suc i) m (subst (λ (x : ℕ). m < 2 ^ x) (omega arith) h))
-    ∙ ap (λ (x : ℕ). x + count (λ j. eqb (bit m j) 1) (suc i) k) (digit (bit-cases m i))
-    ∙ sym (count-suc (λ j. eqb (bit m j) 1) i k)
+    ∙ ap (λ (x : ℕ). x + count (λ j. bit_at m j == 1) (suc i) k) (digit (bit-cases m i))
+    ∙ sym (count-suc (λ j. bit_at m j == 1) i k)
   where
-    digit : (bit m i ≡ 0) ⊎ (bit m i ≡ 1) → bit m i ≡ (if eqb (bit m i) 1 then 1 else 0)
+    digit : (bit_at m i ≡ 0) ⊎ (bit_at m i ≡ 1) → bit_at m i ≡ (if bit_at m i == 1 then 1 else 0)
     digit = ⊎_elim
-        (λ (z : bit m i ≡ 0). z ∙ sym (if-false (eqb (bit m i) 1) 1 0 (ne_eqb (bit m i) 1 (λ q. omega arith))))
-        (λ (o : bit m i ≡ 1). o ∙ sym (if-true (eqb (bit m i) 1) 1 0 (eq-eqb (bit m i) 1 o)))
+        (λ (z : bit_at m i ≡ 0). z ∙ sym (cond-false (bit_at m i == 1) 1 0 (ne_eqb (bit_at m i) 1 (λ q. omega arith))))
+        (λ (o : bit_at m i ≡ 1). o ∙ sym (cond-true (bit_at m i == 1) 1 0 (eq-eqb (bit_at m i) 1 o)))
 
 pub untested-ones : (m care : ℕ) → m < 65536 → untested_count m care ≤ ones m
 untested-ones m care h =
-    let o : ones m ≡ count (λ j. eqb (bit m j) 1) 0 16 = ap ones (sym (div-one m)) ∙ ones-count 16 0 m h in
-    let w : untested_count m care ≤ count (λ j. eqb (bit m j) 1) 0 16 =
-    count-within (free m care) (λ j. eqb (bit m j) 1) 0 16 (λ k a b e. and_l (eqb (bit m k) 1) (eqb (bit care k) 0) e) in
+    let o : ones m ≡ count (λ j. bit_at m j == 1) 0 16 = ap ones (sym (div-one m)) ∙ ones-count 16 0 m h in
+    let w : untested_count m care ≤ count (λ j. bit_at m j == 1) 0 16 =
+    count-within (free m care) (λ j. bit_at m j == 1) 0 16 (λ k a b e. and-l (bit_at m k == 1) (bit_at care k == 0) e) in
     omega arith
 
 -- one value for no bit, and two for each bit
@@ -108,7 +109,7 @@ module _ (c : Chart) (ready : Ready c) where
   -- by the masks behind the two arcs
   pub few-goes : (v i a b m : ℕ) → Entered c v → is_stop c v ≡ false → i ≡ argument c v → FewPaths c (next0 c v) a
       → FewPaths c (next1 c v) b
-      → bit m i ≡ 1 → MaskWithin a m → MaskWithin b m → FewPaths c v m
+      → bit_at m i ≡ 1 → MaskWithin a m → MaskWithin b m → FewPaths c v m
   few-goes v i a b m t s e p q one wa wb = record { most = λ l f care values. go l f care values (bit-cases care i) }
     where
       three : kind c v ≡ 3
@@ -126,7 +127,7 @@ module _ (c : Chart) (ready : Ready c) where
                 (untested-more x m within care),
           )
 
-      half : (l f care values w x : ℕ) → FewPaths c w x → MaskWithin x m → bit care i ≡ 0
+      half : (l f care values w x : ℕ) → FewPaths c w x → MaskWithin x m → bit_at care i ≡ 0
           → length (P l f (care + 2 ^ i) values w) * 2 ≤ 2 ^ untested_count m care
       half l f care values w x few within z =
           let less : suc (untested_count x (care + 2 ^ i)) ≤ untested_count m care = untested-less x m within care i small one z in
@@ -137,18 +138,18 @@ module _ (c : Chart) (ready : Ready c) where
             pow_mono {i = suc (untested_count x (care + 2 ^ i))} {j = untested_count m care} less,
           )
 
-      go : (l f care values : ℕ) → (bit care i ≡ 0) ⊎ (bit care i ≡ 1) → length (P l f care values v) ≤ 2 ^ untested_count m care
+      go : (l f care values : ℕ) → (bit_at care i ≡ 0) ⊎ (bit_at care i ≡ 1) → length (P l f care values v) ≤ 2 ^ untested_count m care
       go l f care values (inr o) =
           let known : P l f care values v ≡ P l f care values (arc_taken c values v) =
-          at-known c ready l f care values v t s (ap (bit care) (sym e) ∙ o) in
+          at-known c ready l f care values v t s (ap (bit_at care) (sym e) ∙ o) in
           let bound : length (P l f care values (arc_taken c values v)) ≤ 2 ^ untested_count m care =
           taken-by (λ w. length (P l f care values w) ≤ 2 ^ untested_count m care) c values v
           (side l f care values (next0 c v) a p wa) (side l f care values (next1 c v) b q wb) in
           omega (arith, ap (λ (rs : List Row). length rs) known)
       go l f care values (inl z) =
-          let n : bit care (argument c v) ≡ 1 → ⊥ = λ o. omega (arith, ap (bit care) e ∙ o) in
+          let n : bit_at care (argument c v) ≡ 1 → ⊥ = λ o. omega (arith, ap (bit_at care) e ∙ o) in
           let x : P l f care values v ≡ P l f (care + 2 ^ i) values (next0 c v) ++ P l f (care + 2 ^ i) (values + 2 ^ i) (next1 c v) =
-          at_new c ready l f care values v t s n
+          at-new c ready l f care values v t s n
           ∙ ap (λ (j : ℕ). P l f (care + 2 ^ j) values (next0 c v) ++ P l f (care + 2 ^ j) (values + 2 ^ j) (next1 c v)) (sym e) in
           omega (
             arith,
@@ -162,7 +163,7 @@ module _ (c : Chart) (ready : Ready c) where
   every : (m : ℕ) → MaskWithin m m
   every m = record { each = λ i o. o }
 
-  full : (i : ℕ) → i < 16 → bit 65535 i ≡ 1
+  full : (i : ℕ) → i < 16 → bit_at 65535 i ≡ 1
   full i l =
       let k : 16 ≡ suc (15 - i) + i = omega arith in
       let e : 65535 ≡ 2 ^ (suc (15 - i) + i) - 1 = ap (λ (k : ℕ). 2 ^ k - 1) k in
@@ -190,7 +191,7 @@ module _ (c : Chart) (ready : Ready c) where
   masked-full masks e = record {
     long = omega (arith, ready.few, ap (λ (ms : List ℕ). length ms) e ∙ length-replicate {A = ℕ} 256 65535);
     few = λ v t. subst (FewPaths c v)
-        (sym (ap (λ (ms : List ℕ). get_or ms v 0) e ∙ get_or-replicate 256 v 65535 0 (omega (arith, ready.few, t.inside))))
+        (sym (ap (λ (ms : List ℕ). slice_index ms v) e ∙ get_or-replicate 256 v 65535 0 (omega (arith, ready.few, t.inside))))
         (few-rank (size c) v t (rank-le c v));
   }
 
@@ -205,15 +206,15 @@ module _ (c : Chart) (notes masks : List ℕ) (v : ℕ) (node : NotedAt c notes 
   ready : Ready c
   ready = node.noted.chart.ready
 
-  read : get_or notes (256 + v) 0 ≡ tested_number c v
+  read : slice_index notes (256 + v) ≡ tested_number c v
   read = node.noted.numbers v node.inside
 
-  pub mask-stop : 15 < get_or notes (256 + v) 0 → Entered c v → FewPaths c v 0
-  mask-stop h t = few-stop c ready v 0 t (high-stops c ready v (get_or notes (256 + v) 0) t read h)
+  pub mask-stop : 15 < slice_index notes (256 + v) → Entered c v → FewPaths c v 0
+  mask-stop h t = few-stop c ready v 0 t (high-stops c ready v (slice_index notes (256 + v)) t read h)
 
-  module _ (low : get_or notes (256 + v) 0 ≤ 15) where
+  module _ (low : slice_index notes (256 + v) ≤ 15) where
     condition : kind c v ≡ 3
-    condition = low-condition c v (get_or notes (256 + v) 0) read low
+    condition = low-condition c v (slice_index notes (256 + v)) read low
 
     here : Entered c v
     here = record { inside = node.inside; no_begin = λ q. omega (arith, condition) }
@@ -225,17 +226,17 @@ module _ (c : Chart) (notes masks : List ℕ) (v : ℕ) (node : NotedAt c notes 
     mask-side1 w e = omega (arith, k.long, (entered1 c ready v node.inside (omega (arith, condition))).inside)
 
     pub mask-goes : (w0 w1 m : ℕ) → w0 ≡ next0 c v → w1 ≡ next1 c v
-        → m ≡ bit_or (bit_or (get_or masks w0 0) (get_or masks w1 0)) (2 ^ get_or notes (256 + v) 0) → FewPaths c v m
+        → m ≡ bit_or (bit_or (slice_index masks w0) (slice_index masks w1)) (2 ^ slice_index notes (256 + v)) → FewPaths c v m
     mask-goes w0 w1 m e0 e1 em =
-        few-goes c ready v (get_or notes (256 + v) 0) (get_or masks w0 0) (get_or masks w1 0) m here
-        (low_goes c ready v (get_or notes (256 + v) 0) here read low) (low-number c ready v (get_or notes (256 + v) 0) here read low)
-        (subst (λ (w : ℕ). FewPaths c w (get_or masks w0 0)) e0
+        few-goes c ready v (slice_index notes (256 + v)) (slice_index masks w0) (slice_index masks w1) m here
+        (low-goes c ready v (slice_index notes (256 + v)) here read low) (low-number c ready v (slice_index notes (256 + v)) here read low)
+        (subst (λ (w : ℕ). FewPaths c w (slice_index masks w0)) e0
         (k.few w0 (subst (Entered c) (sym e0) (entered0 c ready v node.inside (λ q. omega (arith, condition))))))
-        (subst (λ (w : ℕ). FewPaths c w (get_or masks w1 0)) e1
+        (subst (λ (w : ℕ). FewPaths c w (slice_index masks w1)) e1
         (k.few w1 (subst (Entered c) (sym e1) (entered1 c ready v node.inside (omega (arith, condition))))))
-        (each (get_or notes (256 + v) 0) ∙ omega (arith, bit-pow-same (get_or notes (256 + v) 0)))
-        (record { each = λ i o. each i ∙ omega (arith, bit-or (get_or masks w0 0) (get_or masks w1 0) i) })
-        (record { each = λ i o. each i ∙ omega (arith, bit-or (get_or masks w0 0) (get_or masks w1 0) i) })
+        (each (slice_index notes (256 + v)) ∙ omega (arith, bit-pow-same (slice_index notes (256 + v))))
+        (record { each = λ i o. each i ∙ omega (arith, bit-or (slice_index masks w0) (slice_index masks w1) i) })
+        (record { each = λ i o. each i ∙ omega (arith, bit-or (slice_index masks w0) (slice_index masks w1) i) })
       where
-        each : (i : ℕ) → bit m i ≡ max (bit (bit_or (get_or masks w0 0) (get_or masks w1 0)) i) (bit (2 ^ get_or notes (256 + v) 0) i)
-        each i = ap (λ (x : ℕ). bit x i) em ∙ bit-or (bit_or (get_or masks w0 0) (get_or masks w1 0)) (2 ^ get_or notes (256 + v) 0) i
+        each : (i : ℕ) → bit_at m i ≡ max (bit_at (bit_or (slice_index masks w0) (slice_index masks w1)) i) (bit_at (2 ^ slice_index notes (256 + v)) i)
+        each i = ap (λ (x : ℕ). bit_at x i) em ∙ bit-or (bit_or (slice_index masks w0) (slice_index masks w1)) (2 ^ slice_index notes (256 + v)) i

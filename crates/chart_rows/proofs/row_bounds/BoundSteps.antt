@@ -1,8 +1,7 @@
 -- The steps of the functions that bound the rows of nodes, at plain values.
-use Rattle.std.proofs.Common.{◌≡◌, sym, ◌∙◌, ap, subst, List, ℕ, ◌+◌, ◌*◌, ◌^◌, ◌≤◌, ◌<◌, arith, length, get_or, length-append}
+use Rattle.std.proofs.Common.{◌≡◌, sym, ◌∙◌, ap, subst, List, ℕ, ◌+◌, ◌*◌, ◌^◌, ◌≤◌, ◌<◌, arith, length, length-append, slice_index}
 use Rattle.std.proofs.Math.Decide.{ℕ_discrete}
 use Rattle.std.proofs.lemmas.Grind.{common_steps}
-use Rattle.words.specs.lists.Sequences.{concat_map}
 use Rattle.text.specs.frames.Frame.{size}
 use Rattle.charts.specs.Chart.{Chart, kind, argument, next0, next1}
 use Rattle.image.specs.Image.{Row}
@@ -11,19 +10,19 @@ use Rattle.chart_rows.specs.Rows.{rows}
 use Rattle.chart_rows.specs.inner.NodeRows.{paths_from, untested_count, sides, node_rows}
 use Rattle.chart_rows.specs.inner.PathContracts.{NotedAt, Entered, Masked}
 use Rattle.chart_rows.proofs.PathSteps.{entered1}
-use Rattle.chart_rows.proofs.RowSteps.{rows-function, rows-condition, rows_other, no_rows, own-rows, other-entered, function-kind}
-use Rattle.chart_rows.proofs.RowSteps.{rows_below, below_more, below_all}
+use Rattle.chart_rows.proofs.RowSteps.{rows-function, rows-condition, rows-other, no-rows, own-rows, other-entered, function-kind}
+use Rattle.chart_rows.proofs.RowSteps.{rows_below, below_more, below-all}
 
 -- ---- the rows of one node
-pub bound-none : {c : Chart} {notes : List ℕ} {v : ℕ} → NotedAt c notes v → get_or notes v 0 < 2 → (length (node_rows c v) ≤ 0) ×
+pub bound-none : {c : Chart} {notes : List ℕ} {v : ℕ} → NotedAt c notes v → slice_index notes v < 2 → (length (node_rows c v) ≤ 0) ×
     (0 ≤ 131072)
-bound-none node h = (omega (arith, ap (λ (rs : List Row). length rs) (no_rows node h)), omega arith)
+bound-none node h = (omega (arith, ap (λ (rs : List Row). length rs) (no-rows node h)), omega arith)
 
 -- a bound on the paths that go on along an arc
 pub record Side (masks : List ℕ) (w low : ℕ) : Type 0 where
-  pub most : ((care : ℕ) → 2 ^ untested_count (get_or masks w 0) care ≤ low) × (low ≤ 65536)
+  pub most : ((care : ℕ) → 2 ^ untested_count (slice_index masks w) care ≤ low) × (low ≤ 65536)
 
-module _ (c : Chart) (notes masks : List ℕ) (v : ℕ) (node : NotedAt c notes v) (m : Masked c masks) (own : 2 ≤ get_or notes v 0) where
+module _ (c : Chart) (notes masks : List ℕ) (v : ℕ) (node : NotedAt c notes v) (m : Masked c masks) (own : 2 ≤ slice_index notes v) where
   side-paths : (w u low l f care values : ℕ) → w ≡ u → Entered c w → Side masks w low
       → length (paths_from (size c) c l f care values u) ≤ low
   side-paths w u low l f care values e t s = grind (arith, common_steps)
@@ -37,7 +36,7 @@ module _ (c : Chart) (notes masks : List ℕ) (v : ℕ) (node : NotedAt c notes 
       bound-other h = (
         omega (
           arith,
-          ap (λ (rs : List Row). length rs) (own-rows node own ∙ rows_other c v k ek h),
+          ap (λ (rs : List Row). length rs) (own-rows node own ∙ rows-other c v k ek h),
           side-paths w0 (next0 c v) low (label c v) 2 0 0 e0 (other-entered node own e0) s0,
         ),
         omega (arith, s0.most.1),
@@ -87,7 +86,7 @@ pub record Bounding (c : Chart) (total v : ℕ) : Type 0 where
   pub bounded : length (rows_below c v) ≤ total
 
 pub bounding-start : (c : Chart) → Bounding c 0 0
-bounding-start c = record { within = omega arith; limited = omega arith; bounded = unfold concat_map in omega arith }
+bounding-start c = record { within = omega arith; limited = omega arith; bounded = omega arith }
 
 pub bounding-on : (c : Chart) (total v more : ℕ) → Bounding c total v → v < size c → (length (node_rows c v) ≤ more) × (more ≤ 131072)
     → Bounding c (total + more) (v + 1)
@@ -99,4 +98,4 @@ bounding-on c total v more t l e = record {
 }
 
 pub bounding-done : (c : Chart) (total v n : ℕ) → Bounding c total v → n ≡ size c → n ≤ v → length (rows c) ≤ total
-bounding-done c total v n t e h = grind (arith, common_steps, below_all)
+bounding-done c total v n t e h = grind (arith, common_steps, below-all)

@@ -1,7 +1,6 @@
 -- The labels of a chart's stops.
-use Rattle.std.specs.Prelude.{ℕ, ◌+◌, Bool, ◌&&◌, not, List, eqb, if◌then◌else◌}
+use Rattle.std.specs.Prelude.{ℕ, ◌+◌, Bool, ◌&&◌, not, List, if◌then◌else◌, ◌==◌, filter}
 use Rattle.words.specs.lists.Numbers.{range, count}
-use Rattle.words.specs.lists.Sequences.{filter}
 use Rattle.text.specs.frames.Frame.{size}
 use Rattle.charts.specs.declared.layout.TheConstants.{END}
 use Rattle.charts.specs.Layout.{Kind, Begin, End, Operation, Condition, Function, Unknown, kind_of}
@@ -20,7 +19,7 @@ numbered_nodes c = filter (is_numbered c) (range 0 (size c))
 
 -- the numbered stops have 2, 3, .., all other nodes 0 in scheme 1 and 1 elsewhere; of these only Begin and End are read as labels
 unfoldable pub label : Chart → ℕ → ℕ
-label c v = if is_numbered c v then 2 + count (is_numbered c) 0 v else if eqb (scheme c v) 1 then 0 else 1
+label c v = if is_numbered c v then 2 + count (is_numbered c) 0 v else if scheme c v == 1 then 0 else 1
 
 -- the label where performing scheme h starts
 abbrev pub entry : Chart → ℕ → ℕ
@@ -35,7 +34,7 @@ abbrev pub label_as : Chart → ℕ → Kind → Label
 label_as c v Begin = bare_label (scheme c v)
 label_as c v End = bare_label (scheme c v)
 label_as c v Operation = record {
-  kind = if eqb (argument c v) 0 then PLAIN else OPERATION_CALL;
+  kind = if argument c v == 0 then PLAIN else OPERATION_CALL;
   called = argument c v;
   owner = scheme c v;
   result = result c v;

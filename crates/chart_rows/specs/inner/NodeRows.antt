@@ -1,7 +1,7 @@
 -- Parts of the rows, as the functions that count and write them have them, node by node.
-use Rattle.std.specs.Prelude.{ℕ, zero, suc, Bool, true, false, ◌&&◌, not, List, [], ◌++◌, eqb, if◌then◌else◌}
+use Rattle.std.specs.Prelude.{ℕ, zero, suc, Bool, true, false, ◌&&◌, not, List, [], ◌++◌, if◌then◌else◌, ◌==◌}
 use Rattle.words.specs.lists.Numbers.{count}
-use Rattle.words.specs.bits.Word.{bit}
+use Rattle.std.specs.Int.{bit_at}
 use Rattle.text.specs.frames.Frame.{size}
 use Rattle.charts.specs.declared.layout.TheConstants.{CONDITION}
 use Rattle.charts.specs.Chart.{Chart, argument, next0, next1, is, arc_taken}
@@ -16,11 +16,11 @@ tested_number c v = if is c CONDITION v && not (is_stop c v) then argument c v e
 
 -- how many numbers of a mask a path with this care mask has not tested
 abbrev pub untested_count : ℕ → ℕ → ℕ
-untested_count mask care = count (λ i. eqb (bit mask i) 1 && eqb (bit care i) 0) 0 16
+untested_count mask care = count (λ i. bit_at mask i == 1 && bit_at care i == 0) 0 16
 
 -- whether a path comes at node v to a condition whose number it has met before
 abbrev pub is_known : Chart → ℕ → ℕ → Bool
-is_known c care v = not (is_stop c v) && eqb (bit care (argument c v)) 1
+is_known c care v = not (is_stop c v) && bit_at care (argument c v) == 1
 
 -- the node where a path that comes to node v goes on, past the conditions that it has met before, at most n of them
 unfoldable pub settled_node : ℕ → Chart → ℕ → ℕ → ℕ → ℕ

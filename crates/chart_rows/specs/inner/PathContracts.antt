@@ -1,5 +1,5 @@
 -- What the functions on paths ask of their arguments: nodes that a path may come to, and its care mask and values there.
-use Rattle.std.specs.Prelude.{ℕ, ◌+◌, ◌*◌, ◌^◌, ◌≤◌, ◌<◌, ◌≡◌, List, length, get_or}
+use Rattle.std.specs.Prelude.{ℕ, ◌+◌, ◌*◌, ◌^◌, ◌≤◌, ◌<◌, ◌≡◌, List, length, slice_index}
 use Rattle.std.specs.Int.Bits.{bit_and}
 use Rattle.text.specs.declared.frames.sizes.TheConstants.{NODES}
 use Rattle.text.specs.frames.Frame.{size}
@@ -12,7 +12,7 @@ use Rattle.chart_rows.specs.inner.NodeRows.{paths_from, tested_number, untested_
 pub record Noted (c : Chart) (notes : List ℕ) : Type 0 where
   pub chart : Charted c notes
   pub long : 2 * NODES ≤ length notes
-  pub numbers : (v : ℕ) → v < size c → get_or notes (NODES + v) 0 ≡ tested_number c v
+  pub numbers : (v : ℕ) → v < size c → slice_index notes (NODES + v) ≡ tested_number c v
 
 pub record NotedAt (c : Chart) (notes : List ℕ) (v : ℕ) : Type 0 where
   pub noted : Noted c notes
@@ -46,4 +46,4 @@ pub record FewPaths (c : Chart) (v mask : ℕ) : Type 0 where
 
 pub record Masked (c : Chart) (masks : List ℕ) : Type 0 where
   pub long : size c ≤ length masks
-  pub few : (v : ℕ) → Entered c v → FewPaths c v (get_or masks v 0)
+  pub few : (v : ℕ) → Entered c v → FewPaths c v (slice_index masks v)

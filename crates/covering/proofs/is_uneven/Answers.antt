@@ -1,28 +1,26 @@
-use Rattle.covering.proofs.LoopCases.{trying_start, end_after, end-inside}
+use Rattle.covering.proofs.LoopCases.{trying-start, end-after, end-inside}
 use Rattle.covering.proofs.LoopCases.{end-near, trying-hit, trying-on, trying-over}
 use Rattle.std.proofs.Common.{rules}
 use Rattle.covering.proofs.is_uneven.Goals as goal
 
 pub loop-l-init : goal.loop-l-init
-loop-l-init c = trying_start _ c.requires _ _ c.byte-last.ensures c.rows_from-first.ensures
+loop-l-init c = trying-start _ c.requires _ _ c.byte-last.ensures c.rows_from-first.ensures
 
 pub uneven_rows-requires : goal.uneven_rows-requires
 uneven_rows-requires c =
     record {
-      first_le_end = (
-        end_after _ _ _ _ c.loop-l.invariant (search rules) _ c.rows_end-end.ensures,
-        end-inside _ _ _ _ c.loop-l.invariant (search rules) _ c.rows_end-end.ensures,
-      );
-      first_bound = end-near _ _ _ _ c.loop-l.invariant (search rules) _ c.rows_end-end.ensures;
+      in_order = end-after _ _ _ _ c.loop-l.invariant (search rules) _ c.rows_end.ensures _ c.unwrap_or-end.ensures;
+      inside = end-inside _ _ _ _ c.loop-l.invariant (search rules) _ c.rows_end.ensures _ c.unwrap_or-end.ensures;
+      few = end-near _ _ _ _ c.loop-l.invariant (search rules) _ c.rows_end.ensures _ c.unwrap_or-end.ensures;
     }
 
 pub returns-then-uneven_rows : goal.returns-then-uneven_rows
 returns-then-uneven_rows c =
-    trying-hit _ _ _ _ c.loop-l.invariant (search rules) _ c.rows_end-end.ensures _ c.uneven_rows.ensures c.if-uneven_rows.true
+    trying-hit _ _ _ _ c.loop-l.invariant (search rules) _ c.rows_end.ensures _ c.unwrap_or-end.ensures _ c.uneven_rows.ensures c.if-uneven_rows.true
 
 pub loop-l-preserved : goal.loop-l-preserved
 loop-l-preserved c =
-    trying-on _ _ _ _ c.loop-l.invariant (search rules) _ c.rows_end-end.ensures _ c.uneven_rows.ensures c.if-uneven_rows.false
+    trying-on _ _ _ _ c.loop-l.invariant (search rules) _ c.rows_end.ensures _ c.unwrap_or-end.ensures _ c.uneven_rows.ensures c.if-uneven_rows.false
 
 pub returns : goal.returns
 returns c = trying-over _ _ _ _ c.loop-l.invariant (search rules)

@@ -10,4 +10,4 @@ loop-f-init c = adding-start (λ k. words_with c.args.bit (row_in_frame c.args.t
 pub loop-f-preserved : goal.loop-f-preserved
 loop-f-preserved c =
     adding-on (λ k. words_with c.args.bit (row_in_frame c.args.table.now k)) 65536 c.args.first c.args.end c.loop-f.total c.loop-f.f _
-    c.loop-f.invariant (search rules) c.words_of-total.ensures
+    c.loop-f.invariant (search rules) (c.words_of-total.ensures.number, c.words_of-total.ensures.most)

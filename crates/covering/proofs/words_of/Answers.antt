@@ -5,5 +5,5 @@ use Rattle.covering.proofs.words_of.Goals as goal
 pub returns : goal.returns
 returns c =
     let given = c.args in
-    words-on given.table.now given.f given.bit _ _ _ c.byte.ensures c.suits.ensures
-    c.if-not-suits.false c.pair-care.ensures
+    let words = words-on given.table.now given.f given.bit _ _ _ c.byte.ensures c.suits.ensures c.if-not-suits.false c.pair-care.ensures in
+    record { number = words.0; most = words.1 }

@@ -1,8 +1,7 @@
 -- The answers of the entry point to the counts, by what its parts give.
-use Rattle.std.proofs.Common.{ℕ, ◌*◌, ◌≤◌, Bool, true, false, ◌||◌, ◌≡◌, refl, ◌∙◌, ap, ap₂, List, arith, ltb, ltb-false, Ok, Err}
-use borrow.Author.Tests.{eqb-false}
+use Rattle.std.proofs.Common.{ℕ, ◌*◌, ◌≤◌, Bool, true, false, ◌||◌, ◌≡◌, refl, ◌∙◌, ap, ap₂, List, arith, ltb-false, Ok, Err, nat_lt}
 use Rattle.std.proofs.lemmas.Grind.{common_steps}
-use Rattle.words.proofs.lists.Tests.{or_l}
+use Rattle.words.proofs.lists.Tests.{or-l}
 use Rattle.text.specs.frames.Frame.{contents}
 use Rattle.text.specs.frames.Verdict.{Verdict, fine, refused, next, when}
 use Rattle.text.specs.frames.Answer.{Answer, refusal, reply, verdict_reply}
@@ -25,7 +24,7 @@ use Rattle.fillings.specs.counting.CountingContracts.{GivesFillings}
 
 -- ---- 28
 pub many-not : (n k : ℕ) → has_too_many_lists n k ≡ false → n * k ≤ 16
-many-not n k e = ltb-false 16 (n * k) (or_l (ltb 16 (n * k)) (ltb 16 k) (or_l (ltb 16 (n * k) || ltb 16 k) (ltb 65536 n) e))
+many-not n k e = ltb-false 16 (n * k) (or-l (nat_lt 16 (n * k)) (nat_lt 16 k) (or-l (nat_lt 16 (n * k) || nat_lt 16 k) (nat_lt 65536 n) e))
 
 -- ---- the fresh state in its bytes
 pub fresh-made : (size : ℕ) → is_bad_size size ≡ false → (s : State) (bytes : List ℕ) → s ≡ (fresh_state size).state → bytes ≡ bytes_of s
@@ -68,10 +67,10 @@ module _ (t : List ℕ) (size n k : ℕ) where
       pub many-tells : has_too_many_lists n k ≡ true → GivesFillings (count_fillings t size n k) (Err ManyLists)
       many-tells z = refused-tells ManyLists (verdict-last true z) refl
 
-      pub all_tell : (b : List ℕ) → table_image b ≡ image → has_too_many_lists n k ≡ false
+      pub all-tell : (b : List ℕ) → table_image b ≡ image → has_too_many_lists n k ≡ false
           → (r : Tally) → r ≡ tally_of (table_image b) (fresh size) n k → GivesFillings (count_fillings t size n k) (Ok r)
       unfolding count_fillings
-      all_tell b h z r e =
+      all-tell b h z r e =
           let is : r ≡ tally_of image (fresh size) n k = e ∙ ap (λ (i : Image). tally_of i (fresh size) n k) h in
           rw (verdict-last false z)
           (record {

@@ -1,11 +1,11 @@
 -- The lists of one word more, by their first word: where its tick leads, and the lists of the words after it.
-use Rattle.std.proofs.Common.{if◌then◌else◌, cond, ℕ, zero, suc, ◌+◌, ◌*◌, ◌^◌, ◌<◌, Bool, true, false, ◌≡◌, refl, ◌∙◌, ap, ap₂, List, ◌∷◌}
-use Rattle.std.proofs.Common.{zero-add, add-zero, add-suc, suc-mul, zero-mul, arith, eqb, pow-add}
+use Rattle.std.proofs.Common.{if◌then◌else◌, cond, ℕ, zero, suc, ◌+◌, ◌*◌, ◌^◌, ◌<◌, Bool, true, false, ◌≡◌, refl, ◌∙◌, ap, ap₂, List, ◌∷◌, ◌==◌}
+use Rattle.std.proofs.Common.{zero-add, add-zero, add-suc, suc-mul, zero-mul, arith, pow-add}
 use Rattle.std.proofs.Math.Pow.{high, low}
 use Rattle.std.proofs.lemmas.Grind.{common_steps}
 use Rattle.words.specs.lists.Numbers.{count, sum}
-use Rattle.words.proofs.lists.Counts.{count-snoc, count-all, count_none, count-alike}
-use Rattle.words.proofs.lists.Sums.{sum-add, sum-zero, sum_same}
+use Rattle.words.proofs.lists.Counts.{count-snoc, count-all, count-none, count-alike}
+use Rattle.words.proofs.lists.Sums.{sum-add, sum-zero, sum-same}
 use Rattle.image.specs.Image.{Image}
 use Rattle.state.specs.declared.State.{State}
 use Rattle.ticks.specs.Tick.{MachineTick, finished, stopped, tick}
@@ -17,7 +17,7 @@ use Rattle.fillings.proofs.Lists.{lists-suc}
 count-block : (p : ℕ → Bool) (m n : ℕ) → count p 0 (m + n) ≡ count p 0 m + count (λ w. p (m + w)) 0 n
 count-block p m zero =
     let e : count p 0 (m + 0) ≡ count p 0 m = ap (count p 0) (add-zero m) in
-    let z : count (λ w. p (m + w)) 0 0 ≡ 0 = count_none (λ w. p (m + w)) 0 0 (λ k a b. absurd (omega arith)) in
+    let z : count (λ w. p (m + w)) 0 0 ≡ 0 = count-none (λ w. p (m + w)) 0 0 (λ k a b. absurd (omega arith)) in
     omega arith
 count-block p m (suc n) =
     let e : count p 0 (m + suc n) ≡ count p 0 (suc (m + n)) = ap (count p 0) (add-suc m n) in
@@ -26,21 +26,21 @@ count-block p m (suc n) =
     omega (arith, e, x, count-snoc p 0 (m + n), count-snoc (λ w. p (m + w)) 0 n, count-block p m n)
 
 by-rest : (p : ℕ → Bool) (b a : ℕ) → count p 0 (a * b) ≡ sum (λ w. count (λ q. p (q * b + w)) 0 a) 0 b
-by-rest p b zero = grind (arith, common_steps, sum-zero, count_none, zero-mul)
+by-rest p b zero = grind (arith, common_steps, sum-zero, count-none, zero-mul)
 by-rest p b (suc a) = grind (arith, common_steps, by-rest p b a, sum-add, count-snoc, suc-mul, zero-add, count-block)
 
 -- ---- how many of the lists that begin alike meet a number
 abbrev pub share : Image → ℕ → ℕ → ℕ → MachineTick → ℕ
 share i n k number (finished m c t) = count_meeting i t n k number
-share i n k number (stopped m) = if eqb m number then lists n k else 0
+share i n k number (stopped m) = if m == number then lists n k else 0
 
 all-or-none : (b : Bool) (m : ℕ) → count (λ q. b) 0 m ≡ (if b then m else 0)
 all-or-none true m = count-all 0 m
-all-or-none false m = count_none (λ q. false) 0 m (λ k l h. refl)
+all-or-none false m = count-none (λ q. false) 0 m (λ k l h. refl)
 
 module _ (i : Image) (s : State) (n k number : ℕ) where
   abbrev meets : List ℕ → Bool
-  meets ws = eqb (number_met i s ws) number
+  meets ws = number_met i s ws == number
 
   words_more : (q w : ℕ) → w < 2 ^ k → words_of (suc n) k (q * 2 ^ k + w) ≡ w ∷ words_of n k q
   unfolding words_of
@@ -49,24 +49,24 @@ module _ (i : Image) (s : State) (n k number : ℕ) where
   by-tick : (w : ℕ) (x : MachineTick) → tick i s w ≡ x → count (λ q. meets (w ∷ words_of n k q)) 0 (lists n k) ≡ share i n k number x
   unfolding ticks count_meeting
   by-tick w (finished m c t) e =
-      count-alike (λ q. eqb (number_met i t (words_of n k q)) number) (λ q. meets (w ∷ words_of n k q)) 0 (lists n k)
-      (λ q l h. ap (λ (y : MachineTick). eqb (number_of (run_after s (λ u. ticks i u (words_of n k q)) y).verdict) number) e)
+      count-alike (λ q. number_met i t (words_of n k q) == number) (λ q. meets (w ∷ words_of n k q)) 0 (lists n k)
+      (λ q l h. ap (λ (y : MachineTick). number_of (run_after s (λ u. ticks i u (words_of n k q)) y).verdict == number) e)
   by-tick w (stopped m) e =
-      count-alike (λ q. eqb m number) (λ q. meets (w ∷ words_of n k q)) 0 (lists n k)
-      (λ q l h. ap (λ (y : MachineTick). eqb (number_of (run_after s (λ u. ticks i u (words_of n k q)) y).verdict) number) e)
-      ∙ all-or-none (eqb m number) (lists n k)
+      count-alike (λ q. m == number) (λ q. meets (w ∷ words_of n k q)) 0 (lists n k)
+      (λ q l h. ap (λ (y : MachineTick). number_of (run_after s (λ u. ticks i u (words_of n k q)) y).verdict == number) e)
+      ∙ all-or-none (m == number) (lists n k)
 
   pub meeting-more : count_meeting i s (suc n) k number ≡ sum (λ w. share i n k number (tick i s w)) 0 (2 ^ k)
   unfolding count_meeting
   meeting-more =
       ap (count (λ x. meets (words_of (suc n) k x)) 0) (lists-suc n k ∙ pow-add 2 (n * k) k)
       ∙ by-rest (λ x. meets (words_of (suc n) k x)) (2 ^ k) (lists n k)
-      ∙ sum_same (λ w. count (λ q. meets (words_of (suc n) k (q * 2 ^ k + w))) 0 (lists n k))
+      ∙ sum-same (λ w. count (λ q. meets (words_of (suc n) k (q * 2 ^ k + w))) 0 (lists n k))
       (λ w. share i n k number (tick i s w)) 0 (2 ^ k)
       (λ w a l. count-alike (λ q. meets (w ∷ words_of n k q)) (λ q. meets (words_of (suc n) k (q * 2 ^ k + w))) 0 (lists n k)
       (λ q b h. ap meets (words_more q w (omega arith))) ∙ by-tick w (tick i s w) refl)
 
 -- no word is left: the one list has come to its end
-pub meeting-none : (i : Image) (s : State) (k number : ℕ) → count_meeting i s 0 k number ≡ (if eqb 0 number then 1 else 0)
+pub meeting-none : (i : Image) (s : State) (k number : ℕ) → count_meeting i s 0 k number ≡ (if 0 == number then 1 else 0)
 unfolding count_meeting words_of ticks
-meeting-none i s k number = ap (λ (m : ℕ). count (λ x. eqb 0 number) 0 (2 ^ m)) (zero-mul k) ∙ all-or-none (eqb 0 number) 1
+meeting-none i s k number = ap (λ (m : ℕ). count (λ x. 0 == number) 0 (2 ^ m)) (zero-mul k) ∙ all-or-none (0 == number) 1

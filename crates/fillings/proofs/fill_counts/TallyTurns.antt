@@ -1,5 +1,5 @@
 -- The loops that tally, turn by turn.
-use Rattle.std.proofs.Common.{ℕ, suc, ◌+◌, ◌*◌, ◌-◌, ◌^◌, ◌≤◌, ◌<◌, ◌≡◌, sym, ◌∙◌, ap, subst, List, add-zero, mul-zero, suc-mul, arith, eqb}
+use Rattle.std.proofs.Common.{ℕ, suc, ◌+◌, ◌*◌, ◌-◌, ◌^◌, ◌≤◌, ◌<◌, ◌≡◌, sym, ◌∙◌, ap, subst, List, add-zero, mul-zero, suc-mul, arith, ◌==◌}
 use Rattle.std.proofs.Math.Nat.{pow-le-pow_right}
 use Rattle.std.proofs.lemmas.Grind.{common_steps}
 use Rattle.words.specs.lists.Numbers.{sum}
@@ -13,7 +13,7 @@ use Rattle.state.specs.Bytes.{state_of}
 use Rattle.ticks.specs.declared.TickEnd.{TickEnd}
 use Rattle.ticks.specs.Tick.{MachineTick, tick}
 use Rattle.ticks.specs.inner.TickContracts.{TickAsked, GivesTickEnd}
-use Rattle.ticks.proofs.TickCases.{stands_on}
+use Rattle.ticks.proofs.TickCases.{stands-on}
 use Rattle.runs.proofs.TurnCases.{went, stood}
 use Rattle.fillings.specs.Counts.{words_of, lists, number_met, count_meeting}
 use Rattle.fillings.specs.declared.fill_counts.Tally.{Tally}
@@ -69,14 +69,14 @@ module _ {b bytes₀ : List ℕ} {n : ℕ} {bytes : List ℕ} {left : ℕ} (y : 
       sym (one-share i (state_of bytes) (left - 1)) ∙ ap (λ (m : ℕ). tally_of i (state_of bytes) m 0) e ∙ y.same
 
   module _ (l : 0 < left) (r : TickEnd) (next : List ℕ) (q : GivesTickEnd b bytes 0 r next) where
-    pub one_on : r.number ≡ 0 → One b bytes₀ n next (left - 1)
-    one_on z = record {
-      stands = stands_on q y.stands;
+    pub one-on : r.number ≡ 0 → One b bytes₀ n next (left - 1)
+    one-on z = record {
+      stands = stands-on q y.stands;
       same = went-share b bytes 0 r next q (left - 1) 0 z ∙ by-share l;
     }
 
-    pub one_stood : (r.number ≡ 0 → ⊥) → (t : Tally) → t ≡ all_meet r.number 1 → t ≡ all
-    one_stood z t e = grind (arith, common_steps, stood-share, one_list, by-share)
+    pub one-stood : (r.number ≡ 0 → ⊥) → (t : Tally) → t ≡ all_meet r.number 1 → t ≡ all
+    one-stood z t e = grind (arith, common_steps, stood-share, one_list, by-share)
 
   pub one-over : left ≤ 0 → (t : Tally) → t ≡ all_meet 0 1 → t ≡ all
   one-over l t e =
@@ -109,7 +109,7 @@ partly-few i s n k number w l h =
     let f : ℕ → ℕ = sharing i s n k number in
     let e : sum f 0 (w + (2 ^ k - w)) ≡ sum f 0 (2 ^ k) = ap (sum f 0) (omega arith) in
     let m : count_meeting i s (suc n) k number ≤ lists (suc n) k =
-    count-le (λ x. eqb (number_met i s (words_of (suc n) k x)) number) 0 (lists (suc n) k) in
+    count-le (λ x. number_met i s (words_of (suc n) k x) == number) 0 (lists (suc n) k) in
     omega (arith, e, m, sum-split f 0 w (2 ^ k - w), meeting-more i s n k number, lists-few (suc n) k l)
 
 pub left-few : (n k left : ℕ) → n ≡ suc left → n * k ≤ 16 → (left * k ≤ 16) × (k ≤ 16)

@@ -1,11 +1,11 @@
 -- The places up to the depth, looked at from the bottom up with the number that the label below calls.
-use Rattle.std.proofs.Common.{ℕ, ◌+◌, ◌-◌, ◌≤◌, ◌<◌, Bool, true, false, ◌&&◌, ◌||◌, not, ◌≡◌, sym, ◌∙◌, ap, ap₂, subst, ◌⊎◌, inl, inr, List}
-use Rattle.std.proofs.Common.{arith, leb, ltb, eqb, length, lt-ltb, le-ltb, le-leb}
+use Rattle.std.proofs.Common.{ℕ, ◌+◌, ◌-◌, ◌≤◌, ◌<◌, Bool, true, false, ◌&&◌, ◌||◌, not, ◌≡◌, sym, ◌∙◌, ap, ap₂, subst, ◌⊎◌, inl, inr, List, nat_lt, nat_le, ◌==◌}
+use Rattle.std.proofs.Common.{arith, length, lt-ltb, le-ltb, le-leb}
 use borrow.Author.Tests.{lt-leb}
 use Rattle.std.proofs.lemmas.Grind.{common_steps}
 use Rattle.words.specs.lists.Numbers.{any}
-use Rattle.words.proofs.lists.Tests.{or-none, or-true-l, or_true_r, and-true, and_no, split}
-use Rattle.words.proofs.lists.Searches.{any-true, any_none}
+use Rattle.words.proofs.lists.Tests.{or-none, or-true-l, or-true-r, and-true, and-no, split}
+use Rattle.words.proofs.lists.Searches.{any-true, any-none}
 use Rattle.image.specs.Image.{Image, Label}
 use Rattle.image.specs.Decode.{scheme_count, last_label, handler_in}
 use Rattle.tables.specs.Table.{table_image, table_label}
@@ -28,10 +28,10 @@ module _ (i : Image) (s : State) where
 
   -- the label at place k is of the scheme that served there, or label 1; the place is one of the number called
   abbrev over : ℕ → Bool
-  over k = eqb (place_at s k) 1 || eqb (at_place k).owner (server_at s k)
+  over k = place_at s k == 1 || (at_place k).owner == server_at s k
 
   abbrev right : ℕ → ℕ → Bool
-  right called k = eqb (number_at s k) called && is_callable i (server_at s k)
+  right called k = number_at s k == called && is_callable i (server_at s k)
 
   -- ---- one place
   one-unfit : (k : ℕ) → k < s.depth → is_unfit_place i s k ≡ true → is_whole_unfit ≡ true
@@ -46,11 +46,11 @@ module _ (i : Image) (s : State) where
   place-high k h g = one-unfit k h (or-true-l _ _ (le-leb (length i.labels) (place_at s k) g))
 
   carries : (k : ℕ) → k + 1 < s.depth → (t : Bool) → is_carried i s k ≡ t
-      → (ltb (k + 1) s.depth && not (is_carried i s k)) ≡ not t
+      → (nat_lt (k + 1) s.depth && not (is_carried i s k)) ≡ not t
   carries k h t e = rw (lt-ltb (k + 1) s.depth h, e)
 
   place-loose : (k : ℕ) → k + 1 < s.depth → is_carried i s k ≡ false → is_whole_unfit ≡ true
-  place-loose k h e = one-unfit k (omega arith) (or_true_r (leb (length i.labels) (place_at s k)) _ (carries k h false e))
+  place-loose k h e = one-unfit k (omega arith) (or-true-r (nat_le (length i.labels) (place_at s k)) _ (carries k h false e))
 
   place_kept : (k : ℕ) → k + 1 < s.depth → Inside k → is_carried i s k ≡ true → is_unfit_place i s k ≡ false
   place_kept k h g e = or-none _ _ (lt-leb (length i.labels) (place_at s k) g) (carries k h true e)
@@ -62,10 +62,10 @@ module _ (i : Image) (s : State) where
   pub place-idle : (k : ℕ) → k + 1 < s.depth → is_call (at_place k) ≡ false → is_whole_unfit ≡ true
   place-idle k h e =
       place-loose k h
-      (ap (λ (t : Bool). t && eqb (number_at s (k + 1)) (at_place k).called && is_callable i (server_at s (k + 1)) && over (k + 1)) e)
+      (ap (λ (t : Bool). t && number_at s (k + 1) == (at_place k).called && is_callable i (server_at s (k + 1)) && over (k + 1)) e)
 
   bottom-bad : has_bad_bottom i s ≡ true → is_whole_unfit ≡ true
-  bottom-bad e = or_true_r (any (is_unfit_place i s) 0 s.depth) (has_bad_bottom i s) e
+  bottom-bad e = or-true-r (any (is_unfit_place i s) 0 s.depth) (has_bad_bottom i s) e
 
   -- ---- what is known once the label at place k was found to belong there, and when the place above a call is reached
   pub record Belongs (k : ℕ) : Type 0 where
@@ -104,7 +104,7 @@ module _ (i : Image) (s : State) where
     pub top-fits : s.depth ≤ k + 1 → is_whole_unfit ≡ false
     top-fits h =
         or-none (any (is_unfit_place i s) 0 s.depth) (has_bad_bottom i s)
-        (any_none (is_unfit_place i s) 0 s.depth (λ j b. each (0 + j) (split (0 + j) k) (omega arith))) y.bottom
+        (any-none (is_unfit_place i s) 0 s.depth (λ j b. each (0 + j) (split (0 + j) k) (omega arith))) y.bottom
       where
         each : (j : ℕ) → (j < k) ⊎ (k ≤ j) → j < s.depth → is_unfit_place i s j ≡ false
         each j (inl a) b = y.lower j a
@@ -140,11 +140,11 @@ module _ (b : List ℕ) (s : State) (k l last : ℕ) (place : l ≡ place_at s k
     held : place_at s k < length image.labels
     held = omega (arith, labels-count b)
 
-    label_is : at_place image s k ≡ as_label z
-    label_is = ap (label_at image) (sym place) ∙ label-at b l ∙ sym read
+    label-is : at_place image s k ≡ as_label z
+    label-is = ap (label_at image) (sym place) ∙ label-at b l ∙ sym read
 
     owner-is : (at_place image s k).owner ≡ z.owner
-    owner-is = ap (λ (x : Label). x.owner) label_is
+    owner-is = ap (λ (x : Label). x.owner) label-is
 
     -- at the bottom
     module _ (first : k ≡ 0) (t : Bool) (e : t ≡ is_astray_at_bottom (handler_in b) z.owner l (number_at s 0) (server_at s 0)) where
@@ -159,20 +159,20 @@ module _ (b : List ℕ) (s : State) (k l last : ℕ) (place : l ≡ place_at s k
       bottom-belongs q = grind (arith, common_steps, belongs-first, held, bottom-is)
 
     -- whether it is a call
-    module _ (y : Belongs image s k) (u : Bool) (f : u ≡ not (eqb z.kind 1 || eqb z.kind 2)) where
+    module _ (y : Belongs image s k) (u : Bool) (f : u ≡ not (z.kind == 1 || z.kind == 2)) where
       call-is : is_call (at_place image s k) ≡ not u
-      call-is = ap is_call label_is ∙ flip (eqb z.kind 1 || eqb z.kind 2) u f
+      call-is = ap is_call label-is ∙ flip (z.kind == 1 || z.kind == 2) u f
 
-      pub pass-top : (depth : ℕ) → depth ≡ s.depth → u ≡ true → ltb (k + 1) depth ≡ is_whole_unfit image s
+      pub pass-top : (depth : ℕ) → depth ≡ s.depth → u ≡ true → nat_lt (k + 1) depth ≡ is_whole_unfit image s
       pass-top depth deep q = go (split (k + 1) depth)
         where
-          go : (k + 1 < depth) ⊎ (depth ≤ k + 1) → ltb (k + 1) depth ≡ is_whole_unfit image s
+          go : (k + 1 < depth) ⊎ (depth ≤ k + 1) → nat_lt (k + 1) depth ≡ is_whole_unfit image s
           go (inl h) = lt-ltb (k + 1) depth h ∙ sym (place-idle image s k (omega arith) (call-is ∙ ap not q))
           go (inr h) = le-ltb (k + 1) depth h ∙ sym (top-fits image s k y (omega arith))
 
       pub pass-next : u ≡ false → PassedPlaces image s z.called (k + 1)
       pass-next q =
-          subst (λ (h : ℕ). PassedPlaces image s h (k + 1)) (ap (λ (x : Label). x.called) label_is)
+          subst (λ (h : ℕ). PassedPlaces image s h (k + 1)) (ap (λ (x : Label). x.called) label-is)
           (passed-next image s k y (call-is ∙ ap not q))
 
   -- above a call of that number: n and m were read as the place's number and server
@@ -189,11 +189,11 @@ module _ (b : List ℕ) (s : State) (k l last : ℕ) (place : l ≡ place_at s k
         (f : u ≡ is_astray z.owner m l) where
       over-is : over image s k ≡ not u
       over-is =
-          ap₂ (λ (j o : ℕ). eqb j 1 || eqb o (server_at s k)) (sym place) (owner-is low z read)
-          ∙ ap (λ (j : ℕ). eqb l 1 || eqb z.owner j) (sym server) ∙ flip (eqb l 1 || eqb z.owner m) u f
+          ap₂ (λ (j o : ℕ). j == 1 || o == server_at s k) (sym place) (owner-is low z read)
+          ∙ ap (λ (j : ℕ). l == 1 || z.owner == j) (sym server) ∙ flip (l == 1 || z.owner == m) u f
 
       pub pass-stray : u ≡ true → true ≡ is_whole_unfit image s
-      pass-stray q = sym (stray image s called k c here (and_no (right image s called k) (over image s k) (over-is ∙ ap not q)))
+      pass-stray q = sym (stray image s called k c here (and-no (right image s called k) (over image s k) (over-is ∙ ap not q)))
 
       pub pass-belongs : u ≡ false → Belongs image s k
       pass-belongs q = belongs-above image s called k c here (right_is ∙ ap not served) (over-is ∙ ap not q) (held low z read)

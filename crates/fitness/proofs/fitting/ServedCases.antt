@@ -2,7 +2,7 @@
 use Rattle.std.proofs.Common.{ℕ, ◌+◌, ◌-◌, ◌≤◌, ◌<◌, Bool, true, false, ◌≡◌, sym, ◌∙◌, List, arith}
 use Rattle.std.proofs.lemmas.Grind.{common_steps}
 use Rattle.words.specs.lists.Numbers.{any}
-use Rattle.words.proofs.lists.Searches.{any_here, any-on, any-over}
+use Rattle.words.proofs.lists.Searches.{any-here, any-on, any-over}
 use Rattle.bindings.specs.Binding.{server_of}
 use Rattle.image.specs.Image.{Image}
 use Rattle.image.specs.Decode.{scheme_count, handler_in}
@@ -26,7 +26,7 @@ module _ (b : List ℕ) (s : State) (n g h k : ℕ) (schemes : n ≡ scheme_coun
 
   module _ (most : h ≤ 16) (left : Left (table_image b) s h) where
     pub served-found : t ≡ true → true ≡ any (is_badly_served (table_image b) s) 2 15
-    served-found e = sym (any_here (is_badly_served (table_image b) s) 17 h (omega arith) (served-is ∙ e)) ∙ left.same
+    served-found e = sym (any-here (is_badly_served (table_image b) s) 17 h (omega arith) (served-is ∙ e)) ∙ left.same
 
     pub served-next : t ≡ false → Left (table_image b) s (h + 1)
     served-next e = grind (arith, common_steps, any-on, served-is)

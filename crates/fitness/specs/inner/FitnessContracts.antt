@@ -1,5 +1,5 @@
 -- What the tests of a state's fitness ask and promise.
-use Rattle.std.specs.Prelude.{ℕ, ◌≤◌, Bool, ◌&&◌, ◌||◌, not, List, leb, eqb, if◌then◌else◌}
+use Rattle.std.specs.Prelude.{ℕ, ◌≤◌, Bool, ◌&&◌, ◌||◌, not, List, if◌then◌else◌, nat_le, ◌==◌}
 use Rattle.tables.specs.inner.Asked.{Whole}
 use Rattle.state.specs.declared.layout.TheConstants.{PLACES}
 use Rattle.state.specs.declared.State.{State}
@@ -12,22 +12,22 @@ pub record DeepTable (b : List ℕ) (s : State) : Type 0 where
 
 -- label l of that owner may not stand where one of that scheme is open
 abbrev pub is_astray : ℕ → ℕ → ℕ → Bool
-is_astray owner scheme l = not (eqb l 1 || eqb owner scheme)
+is_astray owner scheme l = not (l == 1 || owner == scheme)
 
 -- number and server of a place are both h
 abbrev pub is_own : ℕ → ℕ → ℕ → Bool
-is_own number server h = eqb number h && eqb server h
+is_own number server h = number == h && server == h
 
 -- with H schemes, number h, which was called as that number, or scheme k, which served it, may not stand
 abbrev pub is_miscalled : ℕ → ℕ → ℕ → ℕ → Bool
-is_miscalled H h called k = not (eqb h called && (leb 2 k && leb k H))
+is_miscalled H h called k = not (h == called && (nat_le 2 k && nat_le k H))
 
 -- label l of that owner may not stand at the bottom with that handler, where number and server stand beside it
 abbrev pub is_astray_at_bottom : ℕ → ℕ → ℕ → ℕ → ℕ → Bool
 is_astray_at_bottom handler owner l number server =
-    not ((eqb owner 1 && is_own number server 1) || ((not (eqb handler 0) && (eqb l 1 || eqb owner handler))
+    not ((owner == 1 && is_own number server 1) || ((not (handler == 0) && (l == 1 || owner == handler))
     && is_own number server handler))
 
 -- with H schemes and handler g, scheme k may not serve number h
 abbrev pub is_misserved : ℕ → ℕ → ℕ → ℕ → Bool
-is_misserved H g h k = not (if leb h H && not (eqb h g) then leb 2 k && leb k H else eqb k h)
+is_misserved H g h k = not (if nat_le h H && not (h == g) then nat_le 2 k && nat_le k H else k == h)

@@ -1,6 +1,7 @@
 -- What the functions that find the groups ask of a prepared table and promise.
-use Rattle.std.specs.Prelude.{ℕ, suc, ◌-◌, ◌≤◌, ◌<◌, Bool, true, false, ◌&&◌, ◌||◌, not, ◌≡◌, List, eqb, leb, length, get_or}
-use Rattle.words.specs.lists.Numbers.{any, lowest}
+use Rattle.std.specs.Prelude.{ℕ, suc, ◌-◌, ◌≤◌, ◌<◌, Bool, true, false, ◌&&◌, ◌||◌, not, ◌≡◌, List, length, nat_le, ◌==◌, slice_index}
+use Rattle.std.specs.List.{list_any, range_with_len}
+use Rattle.words.specs.lists.Sequences.{over}
 use Rattle.text.specs.declared.frames.sizes.TheConstants.{LABELS}
 use Rattle.text.specs.frames.Frame.{field}
 use Rattle.image.specs.declared.layout.TheConstants.{FUNCTION_BIT, NEXT}
@@ -21,7 +22,7 @@ pub record Even (b : List ℕ) : Type 0 where
 -- a buffer that begins with the classes of labels 0 to M
 pub record Classed (b c buffer : List ℕ) : Type 0 where
   pub long : length buffer ≡ LABELS
-  pub at : (l : ℕ) → l ≤ last_label b → get_or buffer l 0 ≡ class_of c l
+  pub at : (l : ℕ) → l ≤ last_label b → slice_index buffer l ≡ class_of c l
 
 -- the classes after k rounds
 abbrev pub After : List ℕ → ℕ → List ℕ → Type 0
@@ -33,75 +34,80 @@ has_same_fields_on b m l = has_same_fields (table_label b m) (table_label b l)
 -- the rows in frames f and g match one word and bit and lead to different classes
 abbrev pub is_parting_in : List ℕ → List ℕ → ℕ → ℕ → Bool
 is_parting_in b c f g =
-    not (eqb (get_or c (field b f NEXT) 0) (get_or c (field b g NEXT) 0)) && is_together (row_in_frame b f) (row_in_frame b g)
+    not (slice_index c (field b f NEXT) == slice_index c (field b g NEXT)) && is_together (row_in_frame b f) (row_in_frame b g)
 
 -- the row in frame f parts its label from the one whose rows stand from frame first up to end
 abbrev pub is_parting_any : List ℕ → List ℕ → ℕ → ℕ → ℕ → Bool
-is_parting_any b c f first end = any (is_parting_in b c f) first (end - first)
+is_parting_any b c f first end = list_any (is_parting_in b c f) (range_with_len first (end - first))
 
 -- some row of label m parts it from label l
 abbrev pub is_parted_on : List ℕ → List ℕ → ℕ → ℕ → Bool
-is_parted_on b c m l = any (λ f. is_parting_any b c f (first_on b l) (end_on b l)) (first_on b m) (end_on b m - first_on b m)
+is_parted_on b c m l =
+    list_any (λ f. is_parting_any b c f (first_on b l) (end_on b l)) (range_with_len (first_on b m) (end_on b m - first_on b m))
 
 -- the row in frame f leads to a label with at least this mark
 abbrev pub has_marked_next : List ℕ → List ℕ → ℕ → ℕ → Bool
-has_marked_next b marks least f = leb least (get_or marks (field b f NEXT) 0)
+has_marked_next b marks least f = nat_le least (slice_index marks (field b f NEXT))
 
 -- some row of label m that leads to such a label parts it from label l
 abbrev pub is_parted_by : List ℕ → List ℕ → List ℕ → ℕ → ℕ → ℕ → Bool
 is_parted_by b c marks least m l =
-    any (λ f. has_marked_next b marks least f && is_parting_any b c f (first_on b l) (end_on b l)) (first_on b m)
-    (end_on b m - first_on b m)
+    list_any (λ f. has_marked_next b marks least f && is_parting_any b c f (first_on b l) (end_on b l))
+    (range_with_len (first_on b m) (end_on b m - first_on b m))
 
 -- no row of label l leads to a marked label
 abbrev pub Unmarked : List ℕ → List ℕ → ℕ → Type 0
-Unmarked b marks l = any (has_marked_next b marks 1) (first_on b l) (end_on b l - first_on b l) ≡ false
+Unmarked b marks l = list_any (has_marked_next b marks 1) (range_with_len (first_on b l) (end_on b l - first_on b l)) ≡ false
 
 -- Which rows a round need look at: where rows part labels m and l of one class, that of m leads to a marked label, or that of l to one with
 -- mark 2. A label with 0 in the second buffer has no row to a marked label.
 pub record Marks (b c marks touched : List ℕ) : Type 0 where
   pub long : length marks ≡ LABELS
   pub room : length touched ≡ LABELS
-  pub seen : (m l f g : ℕ) → 2 ≤ m → m ≤ last_label b → 2 ≤ l → l ≤ last_label b → get_or c m 0 ≡ get_or c l 0
+  pub seen : (m l f g : ℕ) → 2 ≤ m → m ≤ last_label b → 2 ≤ l → l ≤ last_label b → slice_index c m ≡ slice_index c l
       → first_on b m ≤ f → f < end_on b m → first_on b l ≤ g → g < end_on b l → is_parting_in b c f g ≡ true
       → (has_marked_next b marks 1 f || has_marked_next b marks 2 g) ≡ true
-  pub untouched : (l : ℕ) → 2 ≤ l → l ≤ last_label b → get_or touched l 0 ≡ 0 → Unmarked b marks l
+  pub untouched : (l : ℕ) → 2 ≤ l → l ≤ last_label b → slice_index touched l ≡ 0 → Unmarked b marks l
 
 -- the second of these buffers, for labels below n
 pub record Touched (b marks : List ℕ) (n : ℕ) (touched : List ℕ) : Type 0 where
   pub long : length touched ≡ LABELS
-  pub none : (l : ℕ) → 2 ≤ l → l < n → get_or touched l 0 ≡ 0 → Unmarked b marks l
+  pub none : (l : ℕ) → 2 ≤ l → l < n → slice_index touched l ≡ 0 → Unmarked b marks l
 
 -- of the labels of one former class, those with a mark below 2 are in one class: the one that is kept for it
 pub record KeptClasses (n : ℕ) (former c kept marks : List ℕ) : Type 0 where
   pub long : length marks ≡ LABELS
-  pub one : (l : ℕ) → l < n → get_or marks l 0 < 2 → get_or c l 0 ≡ get_or kept (get_or former l 0) 0
+  pub one : (l : ℕ) → l < n → slice_index marks l < 2 → slice_index c l ≡ slice_index kept (slice_index former l)
 
 -- label m is of the same class as label l, the lowest of its next class, and not parted from l
 abbrev pub is_class_leader : List ℕ → List ℕ → List ℕ → ℕ → ℕ → Bool
-is_class_leader b c next l m = eqb (get_or c m 0) (get_or c l 0) && eqb (get_or next m 0) m && not (is_parted_on b c m l)
-
--- the first such label from the lowest of l's class on, or l itself
-abbrev pub next_class : List ℕ → List ℕ → List ℕ → ℕ → ℕ
-next_class b c next l = let first = get_or c l 0 in lowest (is_class_leader b c next l) first (l - first)
+is_class_leader b c next l m = slice_index c m == slice_index c l && slice_index next m == m && not (is_parted_on b c m l)
 
 -- a buffer with the classes after some round
 pub record Refined (b buffer : List ℕ) : Type 0 where
   pub rounds : ℕ
   pub now : After b rounds buffer
 
--- the classes one round later
-abbrev pub OneMore : List ℕ → List ℕ → List ℕ → Type 0
-OneMore b buffer next = (k : ℕ) → After b k buffer → After b (suc k) next
+-- a buffer after the classes after k rounds were written to its front
+abbrev pub classes_over : List ℕ → ℕ → List ℕ → List ℕ
+classes_over b k old = over (classes (table_image b) k) old
+
+-- the classes one round later, written to the front of a buffer
+abbrev pub OneMore : List ℕ → List ℕ → List ℕ → List ℕ → Type 0
+OneMore b buffer old next = (k : ℕ) → After b k buffer → next ≡ classes_over b (suc k) old
+
+-- a buffer with the classes after some round, and one with those after the next
+pub record Advanced (b buffer next : List ℕ) : Type 0 where
+  pub rounds : ℕ
+  pub before : After b rounds buffer
+  pub after : After b (suc rounds) next
 
 -- what the search for the next class of label l asks: classes of labels from 2 up are from 2 up
-pub record ClassAsked (b c next marks touched : List ℕ) (l : ℕ) : Type 0 where
+pub record ClassAsked (b c marks touched : List ℕ) (l : ℕ) : Type 0 where
   pub whole : Whole b
-  pub long : length c ≡ LABELS
-  pub room : length next ≡ LABELS
   pub marked : Marks b c marks touched
-  pub low : 2 ≤ get_or c l 0
+  pub low : 2 ≤ slice_index c l
   pub high : l ≤ last_label b
 
 abbrev pub has_other_class : List ℕ → List ℕ → ℕ → Bool
-has_other_class c d l = not (eqb (get_or c l 0) (get_or d l 0))
+has_other_class c d l = not (slice_index c l == slice_index d l)

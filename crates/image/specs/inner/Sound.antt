@@ -1,5 +1,5 @@
 -- A sound image: the plain facts that let its text be read back and pass the image check.
-use Rattle.std.specs.Prelude.{ℕ, suc, ◌≤◌, ◌<◌, ◌≡◌, ◌⊎◌, length, get_or, eqb, if◌then◌else◌}
+use Rattle.std.specs.Prelude.{ℕ, suc, ◌≤◌, ◌<◌, ◌≡◌, ◌⊎◌, length, if◌then◌else◌, ◌==◌, slice_index, slice_index_or}
 use Rattle.std.specs.Int.Bits.{bit_and}
 use Rattle.text.specs.declared.frames.sizes.TheConstants.{SCHEMES, LABELS, ROWS}
 use Rattle.text.specs.frames.Sizes.{WORDS}
@@ -7,11 +7,11 @@ use Rattle.image.specs.Image.{Image, Label, Row, home_label, return_label, nth_r
 pub use Rattle.image.specs.Image.{no_label}
 
 abbrev pub nth_label : Image → ℕ → Label
-nth_label i l = get_or i.labels l no_label
+nth_label i l = slice_index_or i.labels l no_label
 
 -- the label where scheme h ends
 abbrev pub end_of : ℕ → ℕ
-end_of h = if eqb h 1 then 0 else 1
+end_of h = if h == 1 then 0 else 1
 
 -- a label that a row or an entry of scheme h may lead to
 pub record Reaches (i : Image) (h l : ℕ) : Type 0 where
@@ -45,7 +45,7 @@ pub record SoundImage (i : Image) : Type 0 where
   pub last : length i.labels ≤ LABELS
   pub few : length i.rows ≤ ROWS
   pub handled : (i.handler ≡ 0 → ⊥) → (2 ≤ i.handler) × (i.handler ≤ length i.entries)
-  pub starts : (h : ℕ) → h < length i.entries → Reaches i (suc h) (get_or i.entries h 0)
+  pub starts : (h : ℕ) → h < length i.entries → Reaches i (suc h) (slice_index i.entries h)
   pub home : nth_label i 0 ≡ home_label
   pub back : nth_label i 1 ≡ return_label
   pub others : (l : ℕ) → 2 ≤ l → l < length i.labels → SoundLabel (length i.entries) (nth_label i l)

@@ -1,7 +1,7 @@
 -- The search for a frame that 12 or 13 refuses: part by part, and the verdict by it.
 use Rattle.std.proofs.Common.{◌≡◌, refl, sym, ◌∙◌, ap, Bool, true, false, ◌||◌, List, ℕ, zero, suc, ◌+◌, ◌-◌, ◌≤◌, ◌<◌, zero-add, arith}
 use Rattle.words.specs.lists.Numbers.{lowest}
-use Rattle.words.proofs.lists.Searches.{lowest-on, lowest_start}
+use Rattle.words.proofs.lists.Searches.{lowest-on, lowest-start}
 use Rattle.text.specs.frames.Frame.{size}
 use Rattle.image.specs.Decode.{labels_from, rows_from, label_in, row_in}
 use Rattle.image.specs.Check.{Position, entry_position, label_position, row_position, position_of, is_stray_frame, is_stray, is_bad_entry}
@@ -11,8 +11,8 @@ use Rattle.image.proofs.Accepted.{position-of-entry, position-of-label, position
 
 -- ---- two tests in turn, the first that holds settles it
 module _ (x s t u : Bool) (is : x ≡ s) (both : (s || t) ≡ u) where
-  pub first_holds : x ≡ true → u ≡ true
-  first_holds h = sym both ∙ ap (λ (a : Bool). a || t) (sym is ∙ h)
+  pub first-holds : x ≡ true → u ≡ true
+  first-holds h = sym both ∙ ap (λ (a : Bool). a || t) (sym is ∙ h)
 
   module _ (h : x ≡ false) (y : Bool) (two : y ≡ t) where
     second : t ≡ u
@@ -82,4 +82,4 @@ module _ (p : ℕ → Bool) (i m n r : ℕ) (low : i ≤ m) (high : m ≤ n) (e 
 module _ (b : List ℕ) (some : 0 < size b) where
   pub all-entries : lowest (is_faulty b) 1 (size b - 1) ≡ lowest (is_faulty b) 0 (size b)
   unfolding is_stray has_bad_content position_of
-  all-entries = sym (lowest-on (is_faulty b) (size b) 0 some refl) ∙ lowest_start (is_faulty b) (size b)
+  all-entries = sym (lowest-on (is_faulty b) (size b) 0 some refl) ∙ lowest-start (is_faulty b) (size b)

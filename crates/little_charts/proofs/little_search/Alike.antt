@@ -1,13 +1,13 @@
 -- What is tried of the first records is read from them alone.
-use Rattle.std.proofs.Common.{ℕ, ◌+◌, ◌*◌, ◌≤◌, ◌<◌, ◌≡◌, sym, ap, List, ◌++◌, arith, eqb, length}
+use Rattle.std.proofs.Common.{ℕ, ◌+◌, ◌*◌, ◌≤◌, ◌<◌, ◌≡◌, sym, ap, List, ◌++◌, arith, length, ◌==◌}
 use Rattle.std.proofs.Math.ListN.{get_or-append}
 use Rattle.std.proofs.lemmas.Grind.{common_steps}
 use Rattle.words.specs.lists.Numbers.{any}
 use Rattle.words.proofs.lists.Searches.{any-alike}
 use Rattle.text.specs.frames.Frame.{field}
 use Rattle.charts.specs.Chart.{Chart, is}
-use Rattle.little_charts.specs.little_search.inner.Search.{has_kind, has_arc_to, is_clash, is_barred_node, missing_ends, first_tried}
-use Rattle.little_charts.specs.little_search.inner.Search.{past_last}
+use Rattle.little_charts.specs.inner.Search.{has_kind, has_arc_to, is_clash, is_barred_node, missing_ends, first_tried}
+use Rattle.little_charts.specs.inner.Search.{past_last}
 
 -- the first v nodes have the same fields
 pub record SameFields (c d : Chart) (v : ℕ) : Type 0 where
@@ -15,7 +15,7 @@ pub record SameFields (c d : Chart) (v : ℕ) : Type 0 where
 
 module _ (c d : Chart) where
   pub has-alike : (k v : ℕ) → SameFields c d v → has_kind c k v ≡ has_kind d k v
-  has-alike k v a = any-alike (is c k) (is d k) 0 v (λ u x y. ap (λ (z : ℕ). eqb z k) (a.same u 0 (omega arith) (omega arith)))
+  has-alike k v a = any-alike (is c k) (is d k) 0 v (λ u x y. ap (λ (z : ℕ). z == k) (a.same u 0 (omega arith) (omega arith)))
 
   leads-alike : (u t v : ℕ) → u < v → SameFields c d v → has_arc_to c u t ≡ has_arc_to d u t
   leads-alike u t v l a = grind (arith, common_steps)

@@ -1,13 +1,13 @@
 -- What is left out is in no accepted chart: a second Begin or End, an arc to a Begin, a condition's arc to itself, a node that no other
 -- leads to.
-use Rattle.std.proofs.Common.{ℕ, ◌-◌, ◌≤◌, ◌<◌, Bool, true, false, ◌&&◌, ◌||◌, not, ◌≡◌, refl, sym, ◌∙◌, ap, subst, [], ◌∷◌, ◌⊎◌, inl, inr}
-use Rattle.std.proofs.Common.{⊎_elim, arith, eqb, eqb-true, eq-eqb, ne_eqb}
+use Rattle.std.proofs.Common.{ℕ, ◌+◌, ◌-◌, ◌≤◌, ◌<◌, Bool, true, false, ◌&&◌, ◌||◌, not, ◌≡◌, refl, sym, ◌∙◌, ap, subst, [], ◌∷◌, ◌⊎◌, inl, inr, nat_eq, ◌==◌}
+use Rattle.std.proofs.Common.{⊎_elim, arith, eqb-true, eq-eqb, ne_eqb}
 use Rattle.std.proofs.Math.Decide.{ℕ_discrete}
 use Rattle.std.proofs.lemmas.Grind.{common_steps}
 use Rattle.words.specs.lists.Numbers.{any}
-use Rattle.words.proofs.lists.Tests.{no_both, split, or_cases, or-none, or-true-l, or_true_r, and_l, and_r, and-true, not-true}
-use Rattle.words.proofs.lists.Searches.{any_some, any-true, any_false, some-cons}
-use Rattle.words.specs.lists.Sequences.{some}
+use Rattle.words.proofs.lists.Tests.{no_both, split, or-cases, or-none, or-true-l, or-true-r, and-l, and-r, and-true, not-true}
+use Rattle.words.proofs.lists.Searches.{any-some, any-true, any-false, some-cons}
+use Rattle.std.specs.List.{list_any}
 use Rattle.words.specs.graph.Reach.{is_member}
 use Rattle.words.specs.graph.Paths.{Arc, Path, here, on}
 use Rattle.text.specs.frames.Frame.{size}
@@ -17,10 +17,9 @@ use Rattle.charts.proofs.Accepted.{SoundChart}
 use Rattle.charts.proofs.Nodes.{TheNode, arc-end, begins, ends, arcs-end, arcs-one, arcs-condition, in-arcs0, in-arcs1, schemes-first}
 use Rattle.charts.specs.Meaning.{ConditionCircle}
 use Rattle.charts.proofs.Meaning.{member-only, circle-found, condition-arc, found-joined}
-use Rattle.little_charts.specs.little_search.inner.Search.{has_kind, has_arc_to, is_barred_node, is_lonely, missing_ends}
+use Rattle.little_charts.specs.inner.Search.{has_kind, has_arc_to, is_repeat, is_clash, is_barred_node, is_lonely, missing_ends}
 
-some-none : (f : ℕ → Bool) → some f [] ≡ false
-unfolding some
+some-none : (f : ℕ → Bool) → list_any f [] ≡ false
 some-none f = refl
 
 refuted : (b : Bool) → (b ≡ true → ⊥) → b ≡ false
@@ -55,26 +54,26 @@ module _ (c : Chart) (p : Plain c) where
 
   -- an arc by its fields is one of the arcs
   leads-arc : (u t : ℕ) → u < size c → has_arc_to c u t ≡ true → is_member t (arcs c u) ≡ true
-  leads-arc u t l e = grind (arith, common_steps, eq-eqb, in-arcs1, eqb-true, not-true, no_both, in-arcs0, or_cases, and_r, and_l, of-kind)
+  leads-arc u t l e = grind (arith, common_steps, eq-eqb, in-arcs1, eqb-true, not-true, no_both, in-arcs0, or-cases, and-r, and-l, of-kind)
 
   -- and the other way round
   arc-leads : (u t : ℕ) → u < size c → is_member t (arcs c u) ≡ true → has_arc_to c u t ≡ true
   arc-leads u t l e = go (ℕ_discrete (kind c u) 1) (ℕ_discrete (kind c u) 3)
     where
-      made : (kind c u ≡ 1 → ⊥) → (eqb (next0 c u) t || (is c 3 u && eqb (next1 c u) t)) ≡ true → has_arc_to c u t ≡ true
-      made n q = and-true (not (is c 1 u)) (eqb (next0 c u) t || (is c 3 u && eqb (next1 c u) t)) (ap not (ne_eqb (kind c u) 1 n)) q
+      made : (kind c u ≡ 1 → ⊥) → (next0 c u == t || (is c 3 u && next1 c u == t)) ≡ true → has_arc_to c u t ≡ true
+      made n q = and-true (not (is c 1 u)) (next0 c u == t || (is c 3 u && next1 c u == t)) (ap not (ne_eqb (kind c u) 1 n)) q
 
-      two : kind c u ≡ 3 → (eqb t (next0 c u) ≡ true) ⊎ (is_member t (next1 c u ∷ []) ≡ true)
-          → (eqb (next0 c u) t || (is c 3 u && eqb (next1 c u) t)) ≡ true
-      two k (inl q) = or-true-l (eqb (next0 c u) t) (is c 3 u && eqb (next1 c u) t) (eq-eqb (next0 c u) t (sym (eqb-true t (next0 c u) q)))
-      two k (inr q) = or_true_r (eqb (next0 c u) t) (is c 3 u && eqb (next1 c u) t)
-          (and-true (is c 3 u) (eqb (next1 c u) t) (eq-eqb (kind c u) 3 k) (eq-eqb (next1 c u) t (sym (member-only t (next1 c u) q))))
+      two : kind c u ≡ 3 → ((t == next0 c u) ≡ true) ⊎ (is_member t (next1 c u ∷ []) ≡ true)
+          → (next0 c u == t || (is c 3 u && next1 c u == t)) ≡ true
+      two k (inl q) = or-true-l (next0 c u == t) (is c 3 u && next1 c u == t) (eq-eqb (next0 c u) t (sym (eqb-true t (next0 c u) q)))
+      two k (inr q) = or-true-r (next0 c u == t) (is c 3 u && next1 c u == t)
+          (and-true (is c 3 u) (next1 c u == t) (eq-eqb (kind c u) 3 k) (eq-eqb (next1 c u) t (sym (member-only t (next1 c u) q))))
 
       go : Dec (kind c u ≡ 1) → Dec (kind c u ≡ 3) → has_arc_to c u t ≡ true
-      go (yes k) d = no_both (is_member t (arcs c u)) e (ap (is_member t) (arcs-end c u k) ∙ some-none (eqb t))
-      go (no k) (yes m) = made k (two m (or_cases (eqb t (next0 c u)) (is_member t (next1 c u ∷ []))
-          (sym (some-cons (eqb t) (next0 c u) (next1 c u ∷ [])) ∙ sym (ap (is_member t) (arcs-condition c u m)) ∙ e)))
-      go (no k) (no m) = made k (or-true-l (eqb (next0 c u) t) (is c 3 u && eqb (next1 c u) t) (eq-eqb (next0 c u) t
+      go (yes k) d = no_both (is_member t (arcs c u)) e (ap (is_member t) (arcs-end c u k) ∙ some-none (nat_eq t))
+      go (no k) (yes m) = made k (two m (or-cases (t == next0 c u) (is_member t (next1 c u ∷ []))
+          (sym (some-cons (nat_eq t) (next0 c u) (next1 c u ∷ [])) ∙ sym (ap (is_member t) (arcs-condition c u m)) ∙ e)))
+      go (no k) (no m) = made k (or-true-l (next0 c u == t) (is c 3 u && next1 c u == t) (eq-eqb (next0 c u) t
           (sym (member-only t (next0 c u) (sym (ap (is_member t) (arcs-one c u k m (λ q. omega (arith, p.kinds u l)))) ∙ e)))))
 
   -- no arc leads to a Begin, none of a condition to itself
@@ -104,27 +103,29 @@ module _ (c : Chart) (p : Plain c) where
 
   pub not-lonely : (v : ℕ) → v < size c → is_lonely c v ≡ false
   not-lonely v l = refuted (is_lonely c v) λ e.
-      let others : ℕ → Bool = λ u. not (eqb u v) && has_arc_to c u v in
+      let others : ℕ → Bool = λ u. not (u == v) && has_arc_to c u v in
       let b : begin c (scheme c v) ≡ v → ⊥ = λ q. no_both (is c 0 v)
       (eq-eqb (kind c v) 0 (subst (λ (u : ℕ). kind c u ≡ 0) (sym (ap (begin c) (p.one v l)) ∙ q) the-begin.kinded))
-      (not-true (is c 0 v) (and_l (not (is c 0 v)) (not (any others 0 (size c))) e)) in
+      (not-true (is c 0 v) (and-l (not (is c 0 v)) (not (any others 0 (size c))) e)) in
       let x : Entry v = last-arc (begin c (scheme c v)) v b (found-joined c v (s.joined v l)).path in
       no_both (any others 0 (size c))
       (any-true others 0 (size c) x.node (omega arith) (omega (arith, x.inside))
-      (and-true (not (eqb x.node v)) (has_arc_to c x.node v) (ap not (ne_eqb x.node v x.other)) x.leads))
-      (not-true (any others 0 (size c)) (and_r (not (is c 0 v)) (not (any others 0 (size c))) e))
+      (and-true (not (x.node == v)) (has_arc_to c x.node v) (ap not (ne_eqb x.node v x.other)) x.leads))
+      (not-true (any others 0 (size c)) (and-r (not (is c 0 v)) (not (any others 0 (size c))) e))
 
   pub not-barred : (v : ℕ) → v < size c → is_barred_node c v ≡ false
   unfolding is_barred_node
-  not-barred v l = grind (arith, common_steps, any_some, or-none, or_cases, and_r, and_l, refuted, of-kind, one_end, not_entered, no-circle)
+  not-barred v l = or-none (is_repeat c v) (any (is_clash c v) 0 (v + 1))
+      (refuted (is_repeat c v) (λ e. grind (arith, common_steps, any-some, or-cases, and-r, and-l, of-kind, one_end, no-circle)))
+      (refuted (any (is_clash c v) 0 (v + 1)) (λ e. grind (arith, common_steps, any-some, or-cases, and-r, and-l, not_entered)))
 
-  pub no_second : (v : ℕ) → v < size c → has_kind c 0 v ≡ true → kind c v ≡ 0 → ⊥
-  no_second v l h e = grind (arith, common_steps, any_some, of-kind, one-begin)
+  pub no-second : (v : ℕ) → v < size c → has_kind c 0 v ≡ true → kind c v ≡ 0 → ⊥
+  no-second v l h e = grind (arith, common_steps, any-some, of-kind, one-begin)
 
   -- a kind that no node below v has stands at v or above
   above : (k v u : ℕ) → has_kind c k v ≡ false → kind c u ≡ k → v ≤ u
   above k v u h e = ⊎_elim
-      (λ (l : u < v). no_both (is c k u) (eq-eqb (kind c u) k e) (any_false (is c k) 0 v h u (omega arith) (omega arith)))
+      (λ (l : u < v). no_both (is c k u) (eq-eqb (kind c u) k e) (any-false (is c k) 0 v h u (omega arith) (omega arith)))
       (λ (l : v ≤ u). l) (split u v)
 
   pub needed : (v : ℕ) → v < size c → size c - v ≤ missing_ends c v → 2 ≤ kind c v → ⊥

@@ -6,7 +6,7 @@ use Rattle.text.proofs.frames.Contents.{any-contents-length}
 use Rattle.text.proofs.frames.TextLoops.{length-text}
 use Rattle.little_charts.specs.Little.{little_text}
 use Rattle.little_charts.specs.Promises.{little_total, Wanted, AllWanted, ShorterFirst}
-use Rattle.little_charts.proofs.Listing.{all_wanted}
+use Rattle.little_charts.proofs.Listing.{all-wanted}
 
 module _ (n k : ℕ) (low : 2 ≤ n) (high : n ≤ 4) (inside : k < little_total n) where
   unfolded : AllWanted → Wanted n (little_text n k) × (text_of (contents (little_text n k)) ≡ little_text n k)
@@ -14,7 +14,7 @@ module _ (n k : ℕ) (low : 2 ≤ n) (high : n ≤ 4) (inside : k < little_total
   unfolded all = all n k low high inside
 
   pub text-long : length (little_text n k) ≡ 23 * n
-  text-long = grind (arith, common_steps, all_wanted, any-contents-length, length-text, unfolded)
+  text-long = grind (arith, common_steps, all-wanted, any-contents-length, length-text, unfolded)
 
 pub shorter-first : ShorterFirst
 unfolding ShorterFirst

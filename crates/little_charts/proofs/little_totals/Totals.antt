@@ -1,22 +1,21 @@
 -- How many little charts there are of 2, 3 and 4 frames, and some of the last: the search is computed, which finds all of them.
 use Rattle.std.proofs.Common.{◌≡◌, refl, sym, ◌∙◌, ap, [], ◌++◌, arith, length}
 use Rattle.words.specs.lists.Numbers.{any, lowest, count, highest}
-use Rattle.words.specs.lists.Sequences.{some, concat_map}
 use Rattle.words.specs.graph.Reach.{reach}
 use Rattle.charts.specs.Chart.{node_of}
 use Rattle.charts.specs.Check.{has_bad_field, chart_verdict}
 use Rattle.little_charts.specs.Little.{begin_node, end_node, operation_node, condition_node, little_charts}
 use Rattle.little_charts.specs.Promises.{little_total, Totals}
-use Rattle.little_charts.specs.little_search.inner.Search.{node_at, is_barred_node, searched_charts}
+use Rattle.little_charts.specs.inner.Search.{node_at, is_barred_node, searched_charts}
 use Rattle.little_charts.proofs.little_search.Same.{search-lists}
-use Rattle.little_charts.specs.little_totals.inner.Samples.{Samples, samples}
+use Rattle.little_charts.specs.inner.Samples.{Samples, samples}
 
 found-two : length (searched_charts 2 2 []) ≡ 2
-unfolding any lowest count highest some concat_map reach node_of has_bad_field chart_verdict node_at is_barred_node searched_charts
+unfolding any lowest count highest reach node_of has_bad_field chart_verdict node_at is_barred_node searched_charts
 found-two = refl
 
 found-three : length (searched_charts 3 3 []) ≡ 18
-unfolding any lowest count highest some concat_map reach node_of has_bad_field chart_verdict node_at is_barred_node searched_charts
+unfolding any lowest count highest reach node_of has_bad_field chart_verdict node_at is_barred_node searched_charts
 found-three = refl
 
 abbrev pub four : Samples
@@ -28,7 +27,7 @@ four = record {
 }
 
 found-four : samples 324 647 (searched_charts 4 4 []) ≡ four
-unfolding any lowest count highest some concat_map reach node_of has_bad_field chart_verdict node_at is_barred_node searched_charts samples
+unfolding any lowest count highest reach node_of has_bad_field chart_verdict node_at is_barred_node searched_charts samples
 found-four = refl
 
 pub total-two : little_total 2 ≡ 2

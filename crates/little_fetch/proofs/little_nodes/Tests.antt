@@ -1,18 +1,18 @@
 -- What is tried of records, by the tests that the code makes.
-use Rattle.std.proofs.Common.{ℕ, Bool, true, false, not, ◌≡◌, sym, ◌∙◌, ap, arith, eq-eqb, ne_eqb}
+use Rattle.std.proofs.Common.{ℕ, Bool, true, false, not, ◌≡◌, sym, ◌∙◌, ap, ne_eqb}
 use Rattle.words.specs.lists.Numbers.{any}
 use Rattle.text.specs.frames.Frame.{size}
-use Rattle.words.proofs.lists.Tests.{or-true-l, or_true_r, or-none}
+use Rattle.words.proofs.lists.Tests.{or-true-l, or-true-r, or-none}
 use Rattle.charts.specs.Chart.{Chart, kind}
-use Rattle.little_charts.specs.little_search.inner.Search.{has_kind, has_arc_to, has_arc_to_begin, is_clash, is_repeat, is_other_leading_to}
-use Rattle.little_charts.specs.little_search.inner.Search.{is_lonely}
+use Rattle.little_charts.specs.inner.Search.{has_arc_to_begin, is_clash, is_other_leading_to}
+use Rattle.little_charts.specs.inner.Search.{is_lonely}
 
 module _ (c : Chart) (v u : ℕ) where
   pub clash-first : (r : Bool) → r ≡ has_arc_to_begin c u v → r ≡ true → is_clash c v u ≡ true
   clash-first r e q = or-true-l (has_arc_to_begin c u v) (has_arc_to_begin c v u) (sym e ∙ q)
 
   pub clash-second : (r : Bool) → r ≡ has_arc_to_begin c v u → r ≡ true → is_clash c v u ≡ true
-  clash-second r e q = or_true_r (has_arc_to_begin c u v) (has_arc_to_begin c v u) (sym e ∙ q)
+  clash-second r e q = or-true-r (has_arc_to_begin c u v) (has_arc_to_begin c v u) (sym e ∙ q)
 
   pub clash-none : (r s : Bool) → r ≡ has_arc_to_begin c u v → s ≡ has_arc_to_begin c v u → r ≡ false → s ≡ false → is_clash c v u ≡ false
   clash-none r s e f q p = or-none (has_arc_to_begin c u v) (has_arc_to_begin c v u) (sym e ∙ q) (sym f ∙ p)

@@ -1,19 +1,15 @@
 -- All records stand: what is found then; and a record put in its place.
-use Rattle.std.proofs.Common.{ℕ, ◌*◌, ◌-◌, ◌<◌, Bool, true, false, ◌&&◌, not, ◌≡◌, refl, sym, ◌∙◌, ap, subst, List, [], ◌∷◌, arith, length}
-use Rattle.std.proofs.Common.{get_or, take, take_all, lt-ltb, le-ltb, Ok, Err, if◌then◌else◌, is_ok}
+use Rattle.std.proofs.Common.{ℕ, ◌*◌, ◌-◌, ◌<◌, Bool, true, false, ◌≡◌, refl, sym, ◌∙◌, ap, subst, List, [], ◌∷◌, arith, length, slice_index_or}
+use Rattle.std.proofs.Common.{take, take_all, lt-ltb, le-ltb, if◌then◌else◌}
 use Rattle.std.proofs.Math.Seq.{take-length}
 use Rattle.std.proofs.lemmas.Grind.{common_steps}
-use Rattle.words.specs.lists.Numbers.{any}
 use Rattle.words.specs.lists.Sequences.{written}
 use Rattle.words.proofs.lists.Written.{written-take}
 use Rattle.text.specs.frames.Frame.{size}
-use Rattle.text.specs.frames.Answer.{Answer, reply, verdict_reply}
 use Rattle.charts.specs.Chart.{Chart}
-use Rattle.charts.specs.Check.{chart_verdict}
-use Rattle.little_charts.specs.Little.{is_fine}
-use Rattle.little_charts.specs.little_search.inner.Search.{node_at, is_lonely, searched_charts}
+use Rattle.little_charts.specs.inner.Search.{node_at, searched_charts}
 use Rattle.little_fetch.specs.declared.little_seek.Sought.{Sought}
-use Rattle.little_fetch.specs.little_seek.inner.SeekContracts.{FewFrames, RecordPlaced, SoughtCount, GivesSought, is_accepted}
+use Rattle.little_fetch.specs.inner.SeekContracts.{FewFrames, RecordPlaced, SoughtCount, GivesSought, is_accepted}
 
 -- ---- counted
 searched-leaf : (n : ℕ) (c : Chart) → searched_charts n 0 c ≡ (if is_accepted c then c ∷ [] else [])
@@ -24,8 +20,8 @@ module _ (n : ℕ) (c : Chart) (left : ℕ) (r : Bool) (e : r ≡ is_accepted c)
   found-by : (b : Bool) → r ≡ b → searched_charts n 0 c ≡ (if b then c ∷ [] else [])
   found-by b q = searched-leaf n c ∙ ap (λ (t : Bool). if t then c ∷ [] else []) (sym e ∙ q)
 
-  pub count_none : r ≡ false → SoughtCount (searched_charts n 0 c) left (record { found = false; left = left })
-  count_none q = subst (λ (xs : List Chart). SoughtCount xs left (record { found = false; left = left })) (sym (found-by false q))
+  pub count-none : r ≡ false → SoughtCount (searched_charts n 0 c) left (record { found = false; left = left })
+  count-none q = subst (λ (xs : List Chart). SoughtCount xs left (record { found = false; left = left })) (sym (found-by false q))
       (record { told = sym (le-ltb left 0 (omega arith)); passed = omega arith })
 
   pub count-here : r ≡ true → left ≡ 0 → SoughtCount (searched_charts n 0 c) left (record { found = true; left = left })
@@ -37,7 +33,7 @@ module _ (n : ℕ) (c : Chart) (left : ℕ) (r : Bool) (e : r ≡ is_accepted c)
       (record { told = sym (le-ltb left 1 (omega arith)); passed = refl })
 
 -- the one that is found is the chart itself
-leaf-chart : (n : ℕ) (c : Chart) (left : ℕ) → left < length (searched_charts n 0 c) → c ≡ get_or (searched_charts n 0 c) left []
+leaf-chart : (n : ℕ) (c : Chart) (left : ℕ) → left < length (searched_charts n 0 c) → c ≡ slice_index_or (searched_charts n 0 c) left []
 leaf-chart n c left l = grind (arith, common_steps, searched-leaf)
 
 pub leaf-seeks : (rs : List ℕ) (v left : ℕ) (r : Sought) → FewFrames rs → v ≡ size rs → SoughtCount (searched_charts (size rs) 0 rs) left r

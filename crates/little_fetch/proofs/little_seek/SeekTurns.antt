@@ -1,18 +1,17 @@
 -- The turns of the search: the numbers tried before found as many charts as were passed over, and the records below place v stand.
-use Rattle.std.proofs.Common.{ℕ, suc, ◌+◌, ◌*◌, ◌-◌, ◌≤◌, ◌<◌, Bool, true, false, ◌≡◌, sym, ◌∙◌, ap, ap₂, subst, List, [], ◌++◌, arith}
-use Rattle.std.proofs.Common.{length, get_or, take, length-append, length-take-le, take-take, take_at, get_or-append-add, lt-ltb, le-ltb}
+use Rattle.std.proofs.Common.{ℕ, suc, ◌+◌, ◌*◌, ◌-◌, ◌≤◌, ◌<◌, Bool, true, false, ◌≡◌, sym, ◌∙◌, ap, ap₂, List, [], ◌++◌, arith, slice_index_or, flat_map}
+use Rattle.std.proofs.Common.{length, take, length-append, length-take-le, take-take, take_at, get_or-append-add, lt-ltb, le-ltb}
 use Rattle.std.proofs.Common.{ltb-true, ltb-false}
 use Rattle.std.proofs.Math.ListN.{get_or-append}
 use Rattle.std.proofs.lemmas.Grind.{common_steps}
 use Rattle.words.specs.lists.Numbers.{range}
-use Rattle.words.specs.lists.Sequences.{concat_map}
 use Rattle.words.proofs.lists.Joins.{concat-range-snoc, concat-split}
 use Rattle.text.specs.frames.Frame.{size}
 use Rattle.charts.specs.Chart.{Chart}
-use Rattle.little_charts.specs.little_search.inner.Search.{node_count, node_at, is_barred_node, first_tried, past_last, searched_charts}
+use Rattle.little_charts.specs.inner.Search.{node_at, is_barred_node, first_tried, past_last, searched_charts}
 use Rattle.little_charts.proofs.little_search.Alike.{SameFields, barred-alike, first_alike, past-alike}
 use Rattle.little_fetch.specs.declared.little_seek.Sought.{Sought}
-use Rattle.little_fetch.specs.little_seek.inner.SeekContracts.{FewFrames, RecordPlaced, GivesSought}
+use Rattle.little_fetch.specs.inner.SeekContracts.{FewFrames, RecordPlaced, GivesSought}
 
 -- the charts that begin with the records below place v and have record i there
 abbrev pub tried_at : List ℕ → ℕ → ℕ → List Chart
@@ -20,7 +19,7 @@ tried_at rs v i = let x = take (10 * v) rs ++ node_at (size rs) i in
     elim (is_barred_node x v) [ true ↦ [] | false ↦ searched_charts (size rs) (size rs - (v + 1)) x ]
 
 abbrev pub charts_done_before : List ℕ → ℕ → ℕ → ℕ → List Chart
-charts_done_before rs v from i = concat_map (tried_at rs v) (range from (i - from))
+charts_done_before rs v from i = flat_map (tried_at rs v) (range from (i - from))
 
 abbrev pub all_from : List ℕ → ℕ → List Chart
 all_from rs v = searched_charts (size rs) (size rs - v) (take (10 * v) rs)
@@ -55,7 +54,7 @@ module _ (rs : List ℕ) (v : ℕ) (few : FewFrames rs) (inside : v < size rs) w
       let c : List ℕ = take (10 * v) rs in
       let m : n - v ≡ suc (n - (v + 1)) = omega arith in
       let a : SameFields c rs v = taken-alike rs v room in
-      let g : ℕ → ℕ → ℕ → List Chart = λ w from end. concat_map
+      let g : ℕ → ℕ → ℕ → List Chart = λ w from end. flat_map
       (λ i. let x = c ++ node_at n i in elim (is_barred_node x w) [ true ↦ [] | false ↦ searched_charts n (n - (v + 1)) x ])
       (range from (end - from)) in
       ap (λ (k : ℕ). searched_charts n k c) m
@@ -64,12 +63,11 @@ module _ (rs : List ℕ) (v : ℕ) (few : FewFrames rs) (inside : v < size rs) w
 
   pub seeking-first : (left n end from : ℕ) → n ≡ size rs → end ≡ past_last (size rs) rs v → from ≡ first_tried (size rs) rs v
       → Seeking rs v left n end from rs from left
-  unfolding concat_map
   seeking-first left n end from e f g = grind (arith, common_steps)
 
 module _ (rs₀ : List ℕ) (v left n end from : ℕ) (rs : List ℕ) (i rest : ℕ) (k : Seeking rs₀ v left n end from rs i rest) where
-  pub same_size : size rs ≡ size rs₀
-  same_size = omega (arith, k.long)
+  pub same-size : size rs ≡ size rs₀
+  same-size = omega (arith, k.long)
 
   -- all numbers were tried
   pub seeking-done : end ≤ i → GivesSought (all_from rs₀ v) (take (10 * v) rs₀) left (record { found = false; left = rest }) rs
@@ -81,7 +79,7 @@ module _ (rs₀ : List ℕ) (v left n end from : ℕ) (rs : List ℕ) (i rest : 
     done_next =
         let a : i + 1 - from ≡ suc (i - from) = omega (arith, k.low) in
         let b : from + (i - from) ≡ i = omega (arith, k.low) in
-        ap (λ (j : ℕ). concat_map (tried_at rs₀ v) (range from j)) a ∙ concat-range-snoc (tried_at rs₀ v) from (i - from)
+        ap (λ (j : ℕ). flat_map (tried_at rs₀ v) (range from j)) a ∙ concat-range-snoc (tried_at rs₀ v) from (i - from)
         ∙ ap (λ (j : ℕ). charts_done_before rs₀ v from i ++ tried_at rs₀ v j) b
 
     seeking-next : (rs' : List ℕ) (rest' : ℕ) → length rs' ≡ length rs → take (10 * v) rs' ≡ take (10 * v) rs₀
@@ -97,7 +95,7 @@ module _ (rs₀ : List ℕ) (v left n end from : ℕ) (rs : List ℕ) (i rest : 
       placed-long = p.long ∙ k.long
 
       x-front : take (10 * v + 10) rs' ≡ x
-      x-front = p.front ∙ ap₂ (λ (a : List ℕ) (m : ℕ). a ++ node_at m i) k.front same_size
+      x-front = p.front ∙ ap₂ (λ (a : List ℕ) (m : ℕ). a ++ node_at m i) k.front same-size
 
       x-taken : take (10 * (v + 1)) rs' ≡ x
       x-taken = let e : 10 * (v + 1) ≡ 10 * v + 10 = omega arith in ap (λ (j : ℕ). take j rs') e ∙ x-front
@@ -133,20 +131,20 @@ module _ (rs₀ : List ℕ) (v left n end from : ℕ) (rs : List ℕ) (i rest : 
         seeking-on f = grind (arith, common_steps, take-take, length-take-le, ltb-false, seeking-next, placed-long, placed-front, tried-is)
 
         later : List Chart
-        later = concat_map (tried_at rs₀ v) (range (i + 1) (end - (i + 1)))
+        later = flat_map (tried_at rs₀ v) (range (i + 1) (end - (i + 1)))
 
         all_split : all_from rs₀ v ≡ charts_done_before rs₀ v from i ++ (tried_at rs₀ v i ++ later)
-        unfolding concat_map later
+        unfolding later
         all_split =
             let a : end - from ≡ i - from + suc (end - (i + 1)) = omega (arith, k.low) in
             let b : from + (i - from) ≡ i = omega (arith, k.low) in
             let d : suc i ≡ i + 1 = omega arith in
             all-is rs₀ v k.few k.inside ∙ sym (ap₂ (λ (x y : ℕ). charts_done_before rs₀ v x y) k.first k.past)
-            ∙ ap (λ (j : ℕ). concat_map (tried_at rs₀ v) (range from j)) a
+            ∙ ap (λ (j : ℕ). flat_map (tried_at rs₀ v) (range from j)) a
             ∙ concat-split (tried_at rs₀ v) from (i - from) (suc (end - (i + 1)))
-            ∙ ap (λ (j : ℕ). charts_done_before rs₀ v from i ++ concat_map (tried_at rs₀ v) (range j (suc (end - (i + 1))))) b
+            ∙ ap (λ (j : ℕ). charts_done_before rs₀ v from i ++ flat_map (tried_at rs₀ v) (range j (suc (end - (i + 1))))) b
             ∙ ap (λ (j : ℕ). charts_done_before rs₀ v from i ++ (tried_at rs₀ v i
-            ++ concat_map (tried_at rs₀ v) (range j (end - (i + 1))))) d
+            ++ flat_map (tried_at rs₀ v) (range j (end - (i + 1))))) d
 
         pub seeking-found : s.found ≡ true → GivesSought (all_from rs₀ v) (take (10 * v) rs₀) left s rs''
         seeking-found f =
@@ -159,9 +157,9 @@ module _ (rs₀ : List ℕ) (v left n end from : ℕ) (rs : List ℕ) (i rest : 
             let r : left ≡ length (charts_done_before rs₀ v from i) + rest = omega (arith, k.passed, k.counted) in
             record {
               counted = record { told = f ∙ sym (lt-ltb left (length (all_from rs₀ v)) m); passed = omega (arith, o.counted.passed) };
-              chart = λ u. o.chart b ∙ ap (λ (xs : List Chart). get_or xs rest []) (sym tried-is)
+              chart = λ u. o.chart b ∙ ap (λ (xs : List Chart). slice_index_or xs rest []) (sym tried-is)
                   ∙ sym (get_or-append (tried_at rs₀ v i) later [] rest (omega arith))
                   ∙ sym (get_or-append-add (charts_done_before rs₀ v from i) (tried_at rs₀ v i ++ later) rest [])
-                  ∙ ap₂ (λ (xs : List Chart) (j : ℕ). get_or xs j []) (sym all_split) (sym r);
+                  ∙ ap₂ (λ (xs : List Chart) (j : ℕ). slice_index_or xs j []) (sym all_split) (sym r);
               kept = λ u. absurd (omega arith);
             }

@@ -1,14 +1,13 @@
 -- Rows of the smaller image: those that match are the rows of the lowest member that match, led to the new labels, so there is just one.
-use Rattle.std.proofs.Common.{if◌then◌else◌, ℕ, zero, suc, ◌≤◌, ◌<◌, Bool, true, false, ◌≡◌, sym, ◌∙◌, ap, List, [], ◌∷◌, map, arith, eqb}
+use Rattle.std.proofs.Common.{if◌then◌else◌, ℕ, zero, suc, ◌≤◌, ◌<◌, Bool, true, false, ◌≡◌, sym, ◌∙◌, ap, List, [], ◌∷◌, map, arith, ◌==◌, filter}
 use Rattle.std.proofs.Common.{length, eqb-true, eq-eqb, ne_eqb}
 use Rattle.std.proofs.Math.ListN.{length-map}
 use Rattle.std.proofs.lemmas.Grind.{common_steps}
 use Rattle.words.specs.lists.Numbers.{count}
-use Rattle.words.specs.lists.Sequences.{filter}
 use Rattle.words.proofs.lists.Tests.{no_both}
 use Rattle.words.proofs.lists.Counts.{count-le, count-apart}
 use Rattle.words.proofs.lists.Ranges.{filter-yes, filter-no}
-use Rattle.words.proofs.lists.Filters.{filter_none}
+use Rattle.words.proofs.lists.Filters.{filter-none}
 use Rattle.image.specs.Image.{Image, Row}
 use Rattle.image.specs.inner.Sound.{SoundImage}
 use Rattle.rows.specs.Rows.{is_candidate}
@@ -21,14 +20,14 @@ use Rattle.minimising.specs.group_numbers.Smaller.{renumbered_label, renumbered_
 use Rattle.minimising.proofs.group_numbers.Numbering.{Nth, nth, class-first, class-high, new-first, labels-count}
 
 module _ (c : List ℕ) (l w b : ℕ) (t : is_first c l ≡ true) where
-  from-same : (k : ℕ) → is_first c k ≡ true → eqb (renumbered_label c k) (renumbered_label c l) ≡ eqb k l
+  from-same : (k : ℕ) → is_first c k ≡ true → (renumbered_label c k == renumbered_label c l) ≡ (k == l)
   from-same k e = grind (arith, common_steps, eq-eqb, ne_eqb, eqb-true, count-apart)
 
   -- the rows that match, renumbered
   pub rows-led : (rs : List Row)
       → filter (is_candidate (renumbered_label c l) w b) (map (renumbered_row c) (filter (λ r. is_first c r.from) rs)) ≡ map
       (renumbered_row c) (filter (is_candidate l w b) rs)
-  rows-led [] = grind (arith, common_steps, filter_none)
+  rows-led [] = grind (arith, common_steps, filter-none)
   rows-led (r ∷ rs) = grind (arith, common_steps, rows-led rs, filter-no, no_both, filter-yes, ne_eqb, from-same)
 
 module _ (i : Image) (S : SoundImage i) (c : List ℕ) (R : ClassRound i c) where

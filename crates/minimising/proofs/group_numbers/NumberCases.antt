@@ -1,51 +1,74 @@
 -- Cases of the functions that number the groups and count what is kept.
-use Rattle.std.proofs.Common.{if◌then◌else◌, ℕ, ◌+◌, ◌≤◌, ◌<◌, ◌≡◌, refl, sym, ◌∙◌, ap, ap₂, Bool, true, false, List, zero-add, add-one}
-use Rattle.std.proofs.Common.{arith, length, get_or, set, length-set, get_or-set_same, get_or-set_other, eq-eqb, ne_eqb}
+use Rattle.std.proofs.Common.{if◌then◌else◌, ℕ, ◌+◌, ◌≤◌, ◌<◌, ◌≡◌, refl, sym, ◌∙◌, ap, ap₂, Bool, true, false, List, zero-add, add-one, slice_index}
+use Rattle.std.proofs.Common.{arith, length, set, subst, drop, get_or-set_same, get_or-set_other}
 use Rattle.std.proofs.Math.Decide.{ℕ_discrete}
 use Rattle.std.proofs.lemmas.Grind.{common_steps}
 use Rattle.words.specs.lists.Numbers.{count}
-use Rattle.words.proofs.lists.Tests.{if-true, if-false}
+use Rattle.words.specs.lists.Sequences.{over}
+use Rattle.words.proofs.lists.Fills.{ValuesFrom, values-none, values-turn, values-all}
+use Rattle.words.proofs.lists.Written.{written-front}
+use Rattle.words.proofs.lists.Ranges.{length-map-range, get_or-map-range}
+use Rattle.std.proofs.Math.ListN.{get_or-append}
 use Rattle.words.proofs.lists.Counts.{count-snoc, count-le}
 use Rattle.grouping.specs.Classes.{is_first}
 use Rattle.minimising.specs.group_numbers.Smaller.{renumbered_label}
-use Rattle.minimising.specs.group_numbers.inner.NumberContracts.{LowestOfClass}
+use Rattle.minimising.specs.group_numbers.inner.NumberContracts.{LowestOfClass, group_numbers}
 
 less-of : (a b : ℕ) → a ≤ b → (a ≡ b → ⊥) → a < b
 less-of a b k ne = grind (arith, common_steps)
 
 -- ---- number_groups: the labels below l have their numbers
-pub record NumberTurn (c numbers : List ℕ) (n groups l : ℕ) : Type 0 where
-  pub high : l ≤ n
-  pub room : length numbers ≡ 256
+pub record NumberTurn (c old numbers : List ℕ) (n groups l : ℕ) : Type 0 where
+  pub room : length old ≡ 256
+  pub filled : ValuesFrom (renumbered_label c) old numbers 0 n l
   pub is : groups ≡ count (is_first c) 0 l
   pub few : groups ≤ l
-  pub at : (k : ℕ) → k < l → get_or numbers k 0 ≡ renumbered_label c k
+  pub at : (k : ℕ) → k < l → slice_index numbers k ≡ renumbered_label c k
 
-pub turn-start : (c numbers : List ℕ) (n : ℕ) → length numbers ≡ 256 → NumberTurn c numbers n 0 0
-turn-start c numbers n e = grind (arith, common_steps, count-le)
+pub turn-start : (c old : List ℕ) (n : ℕ) → length old ≡ 256 → NumberTurn c old old n 0 0
+turn-start c old n e = record {
+  room = e;
+  filled = values-none (renumbered_label c) old 0 n;
+  is = omega (arith, count-le (is_first c) 0 0);
+  few = omega arith;
+  at = λ k h. absurd (omega arith);
+}
 
-module _ (c numbers : List ℕ) (n groups l : ℕ) (low : LowestOfClass c n)
-    (t : NumberTurn c numbers n groups l) (h : l < n) (small : n ≤ 256) where
+module _ (c old numbers : List ℕ) (n groups l : ℕ) (low : LowestOfClass c n)
+    (t : NumberTurn c old numbers n groups l) (h : l < n) (small : n ≤ 256) where
   abbrev number : ℕ
-  number = if is_first c l then groups else get_or numbers (get_or c l 0) 0
+  number = if is_first c l then groups else slice_index numbers (slice_index c l)
 
   number_is : (b : Bool) → is_first c l ≡ b → number ≡ renumbered_label c l
   number_is true e = grind (arith, common_steps)
   number_is false e = grind (arith, common_steps)
 
-  pub turn_on : (v x : ℕ) → v ≡ number → (x ≡ (if is_first c l then 1 else 0)) × (x ≤ 1)
-      → NumberTurn c (set numbers l v) n (groups + x) (l + 1)
-  turn_on v x e w = record {
-    high = omega arith;
-    room = length-set numbers l v ∙ t.room;
-    is = ap₂ ◌+◌ t.is w.0
+  pub turn-on : (v x : ℕ) → v ≡ number → x ≡ (if is_first c l then 1 else 0) → x ≤ 1
+      → NumberTurn c old (set numbers l v) n (groups + x) (l + 1)
+  turn-on v x e w most = record {
+    room = t.room;
+    filled = subst (λ (j : ℕ). ValuesFrom (renumbered_label c) old (set numbers j v) 0 n (l + 1)) (let z : 0 + l ≡ l = omega arith in z)
+        (values-turn (renumbered_label c) old 0 n numbers l v (omega (arith, t.room)) t.filled h (e ∙ number_is (is_first c l) refl));
+    is = ap₂ ◌+◌ t.is w
         ∙ sym (ap (count (is_first c) 0) (add-one l) ∙ count-snoc (is_first c) 0 l
         ∙ ap (λ (k : ℕ). count (is_first c) 0 l + (if is_first c k then 1 else 0)) (zero-add l));
-    few = omega (arith, t.few, w.1);
+    few = omega (arith, t.few, most);
     at = λ k j. go k j (ℕ_discrete k l);
   }
     where
-      go : (k : ℕ) → k < l + 1 → Dec (k ≡ l) → get_or (set numbers l v) k 0 ≡ renumbered_label c k
-      go k j (yes q) = ap (λ (m : ℕ). get_or (set numbers l v) m 0) q ∙ get_or-set_same numbers l v 0 (omega (arith, t.room)) ∙ e
+      go : (k : ℕ) → k < l + 1 → Dec (k ≡ l) → slice_index (set numbers l v) k ≡ renumbered_label c k
+      go k j (yes q) = ap (λ (m : ℕ). slice_index (set numbers l v) m) q
+          ∙ get_or-set_same numbers l v 0 (omega (arith, t.room, t.filled.size)) ∙ e
           ∙ number_is (is_first c l) refl ∙ ap (renumbered_label c) (sym q)
       go k j (no q) = get_or-set_other numbers l k v 0 q ∙ t.at k (less-of k l (omega arith) q)
+
+module _ (c old numbers : List ℕ) (n : ℕ) where
+  pub turn-all : (groups l : ℕ) → NumberTurn c old numbers n groups l → n ≤ l → numbers ≡ over (group_numbers c n) old
+  turn-all groups l t h = values-all (renumbered_label c) old 0 n numbers l t.filled h ∙ written-front old (group_numbers c n)
+
+  pub number-at : numbers ≡ over (group_numbers c n) old → (l : ℕ) → l < n → slice_index numbers l ≡ renumbered_label c l
+  number-at e l h =
+      ap (λ (xs : List ℕ). slice_index xs l) e
+      ∙ get_or-append (group_numbers c n) (drop (length (group_numbers c n)) old) 0 l
+      (omega (arith, length-map-range (renumbered_label c) 0 n))
+      ∙ get_or-map-range (renumbered_label c) 0 0 n l h ∙ ap (renumbered_label c) (let z : 0 + l ≡ l = omega arith in z)

@@ -1,22 +1,23 @@
 -- The numbers of the groups, and that the image with one label a group is sound.
-use Rattle.std.proofs.Common.{if◌then◌else◌, ℕ, zero, suc, ◌+◌, ◌-◌, ◌≤◌, ◌<◌, Bool, true, false, ◌≡◌, refl, sym, ◌∙◌, ap, subst, ◌⊎◌, inl}
-use Rattle.std.proofs.Common.{inr, List, [], ◌∷◌, map, zero-add, arith, length, get_or, eqb-true, eq-eqb}
+use Rattle.std.proofs.Common.{if◌then◌else◌, ℕ, zero, suc, ◌+◌, ◌-◌, ◌≤◌, ◌<◌, Bool, true, false, ◌≡◌, refl, sym, ◌∙◌, ap, subst, ◌⊎◌, inl, slice_index, slice_index_or, filter}
+use Rattle.std.proofs.Common.{inr, List, [], ◌∷◌, map, zero-add, arith, length, eqb-true, eq-eqb}
 use Rattle.std.proofs.Math.ListN.{length-map}
 use Rattle.std.proofs.lemmas.Grind.{common_steps}
 use Rattle.words.specs.lists.Numbers.{range, count}
-use Rattle.words.specs.lists.Sequences.{filter, All}
-use Rattle.words.proofs.lists.Tests.{split, if-true}
+use Rattle.std.specs.List.{AllByRecursion}
+use Rattle.std.proofs.lemmas.Bool.{cond-true}
+use Rattle.words.proofs.lists.Tests.{split}
 use Rattle.words.proofs.lists.Counts.{count-snoc, count-le, count-mono, count-below}
-use Rattle.words.proofs.lists.Ranges.{length-filter, get_or-filter, get_d_map, filter-yes, filter-no}
-use Rattle.words.proofs.lists.Filters.{filter_none}
-use Rattle.words.proofs.lists.Joins.{all-at, all-places, all_map, all_of, all_filter}
+use Rattle.words.proofs.lists.Ranges.{length-filter, get_or-filter, get_d-map, filter-yes, filter-no}
+use Rattle.words.proofs.lists.Filters.{filter-none}
+use Rattle.words.proofs.lists.Joins.{all-at, all-places, all-map, all-of, all-filter}
 use Rattle.image.specs.Image.{Image, Label, Row, no_row, nth_row}
 use Rattle.image.specs.inner.Sound.{nth_label, end_of, Reaches, SoundLabel, SoundRow, SoundImage}
 use Rattle.image.proofs.Rising.{Rising, rising-at}
 use Rattle.state.specs.State.{label_at}
 use Rattle.grouping.specs.Classes.{class_of, is_first}
 use Rattle.minimising.specs.group_numbers.Smaller.{renumbered_label, renumbered_row, joined_labels}
-use Rattle.grouping.proofs.Onward.{low_same}
+use Rattle.grouping.proofs.Onward.{low-same}
 use Rattle.grouping.proofs.Rounds.{ClassRound}
 
 -- ---- the number that passes with k others below it
@@ -42,13 +43,13 @@ nth p (suc n) k h = go (p n) refl (split k (count p 0 n)) (nth p n k)
     go false e (inr x) ih = absurd (omega (arith, tail false e))
 
 -- ---- rows in rising order
-rising-of : (m : ℕ) (rs : List Row) → (0 < length rs → m ≤ (get_or rs 0 no_row).from)
-    → ((k : ℕ) → suc k < length rs → (get_or rs k no_row).from ≤ (get_or rs (suc k) no_row).from) → Rising m rs
+rising-of : (m : ℕ) (rs : List Row) → (0 < length rs → m ≤ (slice_index_or rs 0 no_row).from)
+    → ((k : ℕ) → suc k < length rs → (slice_index_or rs k no_row).from ≤ (slice_index_or rs (suc k) no_row).from) → Rising m rs
 rising-of m [] h each = tt
 rising-of m (r ∷ rs) h each = (h (omega arith), rising-of r.from rs (λ l. each 0 (omega arith)) (λ k l. each (suc k) (omega arith)))
 
 pub length-filtered : {A : Type 0} (p : A → Bool) (xs : List A) → length (filter p xs) ≤ length xs
-length-filtered p [] = grind (arith, common_steps, filter_none)
+length-filtered p [] = grind (arith, common_steps, filter-none)
 length-filtered p (x ∷ xs) = grind (arith, common_steps, length-filtered p xs, filter-no, filter-yes)
 
 module _ (i : Image) (S : SoundImage i) (c : List ℕ) (R : ClassRound i c) where
@@ -68,23 +69,23 @@ module _ (i : Image) (S : SoundImage i) (c : List ℕ) (R : ClassRound i c) wher
   class-label l h = R.same (class_of c l) l (class-inside l h) h (R.own l h)
 
   -- labels 0 and 1 are alone in their groups
-  pub class_low : (l : ℕ) → l < n → class_of c l < 2 → class_of c l ≡ l
-  class_low l h low = low_same i S (class_of c l) l (class-inside l h) h (class-label l h) low
+  pub class-low : (l : ℕ) → l < n → class_of c l < 2 → class_of c l ≡ l
+  class-low l h low = low-same i S (class_of c l) l (class-inside l h) h (class-label l h) low
 
   pub class-high : (l : ℕ) → l < n → 2 ≤ l → 2 ≤ class_of c l
-  class-high l h k = grind (arith, common_steps, split, class_low)
+  class-high l h k = grind (arith, common_steps, split, class-low)
 
   class-zero : class_of c 0 ≡ 0
   class-zero = omega (arith, R.below 0 (omega (arith, S.two)))
 
   class-one : class_of c 1 ≡ 1
-  class-one = class_low 1 (omega (arith, S.two)) (omega (arith, R.below 1 (omega (arith, S.two))))
+  class-one = class-low 1 (omega (arith, S.two)) (omega (arith, R.below 1 (omega (arith, S.two))))
 
   count-zero : count (is_first c) 0 0 ≡ 0
   count-zero = omega (arith, count-le (is_first c) 0 0)
 
   next-first : (k : ℕ) → class_of c k ≡ k → count (is_first c) 0 (suc k) ≡ suc (count (is_first c) 0 k)
-  next-first k e = grind (arith, common_steps, eq-eqb, if-true, zero-add, count-snoc)
+  next-first k e = grind (arith, common_steps, eq-eqb, cond-true, zero-add, count-snoc)
 
   pub new-zero : new 0 ≡ 0
   new-zero = ap (λ (x : ℕ). count (is_first c) 0 x) class-zero ∙ count-zero
@@ -123,9 +124,9 @@ module _ (i : Image) (S : SoundImage i) (c : List ℕ) (R : ClassRound i c) wher
   unfolding joined_labels
   label-new l h = grind (arith, common_steps, zero-add, get_or-filter, class-inside, class-first, class-label)
 
-  pub entry_new : (h : ℕ) → h < length i.entries → get_or (joined_labels i c).entries h 0 ≡ new (get_or i.entries h 0)
+  pub entry-new : (h : ℕ) → h < length i.entries → slice_index (joined_labels i c).entries h ≡ new (slice_index i.entries h)
   unfolding joined_labels
-  entry_new h l = get_d_map new i.entries h 0 0 l
+  entry-new h l = get_d-map new i.entries h 0 0 l
 
   -- ---- it is sound
   end-new : (h : ℕ) → new (end_of h) ≡ end_of h
@@ -137,16 +138,16 @@ module _ (i : Image) (S : SoundImage i) (c : List ℕ) (R : ClassRound i c) wher
   row-sound : (r : Row) → SoundRow i r × (is_first c r.from ≡ true) → SoundRow (joined_labels i c) (renumbered_row c r)
   row-sound r x = grind (arith, common_steps, new-high, new-inside, label-new, reaches-new)
 
-  rows-sound : All (SoundRow (joined_labels i c)) (map (renumbered_row c) (filter (λ r. is_first c r.from) i.rows))
+  rows-sound : AllByRecursion (SoundRow (joined_labels i c)) (map (renumbered_row c) (filter (λ r. is_first c r.from) i.rows))
   rows-sound =
-      all_map (SoundRow (joined_labels i c)) (renumbered_row c) (filter (λ r. is_first c r.from) i.rows)
-      (all_of (λ r. SoundRow i r × (is_first c r.from ≡ true)) (λ r. SoundRow (joined_labels i c) (renumbered_row c r)) row-sound
+      all-map (SoundRow (joined_labels i c)) (renumbered_row c) (filter (λ r. is_first c r.from) i.rows)
+      (all-of (λ r. SoundRow i r × (is_first c r.from ≡ true)) (λ r. SoundRow (joined_labels i c) (renumbered_row c r)) row-sound
       (filter (λ r. is_first c r.from) i.rows)
-      (all_filter (SoundRow i) (λ r. is_first c r.from) i.rows (all-places (SoundRow i) no_row i.rows S.each)))
+      (all-filter (SoundRow i) (λ r. is_first c r.from) i.rows (all-places (SoundRow i) no_row i.rows S.each)))
 
   rising-led : (m k : ℕ) (rs : List Row) → Rising m rs → ((x : ℕ) → m ≤ x → is_first c x ≡ true → k ≤ new x)
       → Rising k (map (renumbered_row c) (filter (λ r. is_first c r.from) rs))
-  rising-led m k [] a h = subst (λ (rs : List Row). Rising k (map (renumbered_row c) rs)) (sym (filter_none (λ r. is_first c r.from))) tt
+  rising-led m k [] a h = subst (λ (rs : List Row). Rising k (map (renumbered_row c) rs)) (sym (filter-none (λ r. is_first c r.from))) tt
   rising-led m k (r ∷ rs) a h = go (is_first c r.from) refl (rising-led r.from (new r.from) rs a.1)
       (rising-led r.from k rs a.1)
     where
@@ -206,8 +207,8 @@ module _ (i : Image) (S : SoundImage i) (c : List ℕ) (R : ClassRound i c) wher
     few = omega (arith, rows-fewer, S.few);
     handled = handler-new;
     starts = λ h l. let m : h < length i.entries = omega (arith, entries-count) in
-        subst (λ (x : ℕ). Reaches (joined_labels i c) (suc h) x) (sym (entry_new h m))
-        (reaches-new (suc h) (get_or i.entries h 0) (S.starts h m));
+        subst (λ (x : ℕ). Reaches (joined_labels i c) (suc h) x) (sym (entry-new h m))
+        (reaches-new (suc h) (slice_index i.entries h) (S.starts h m));
     home = ap (nth_label (joined_labels i c)) (sym new-zero) ∙ label-new 0 (omega (arith, S.two)) ∙ S.home;
     back = ap (nth_label (joined_labels i c)) (sym new-one) ∙ label-new 1 (omega (arith, S.two)) ∙ S.back;
     others = label-sound;

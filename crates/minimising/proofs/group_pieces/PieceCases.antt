@@ -1,9 +1,9 @@
 -- Cases of the functions that write the pieces.
-use Rattle.std.proofs.Common.{if◌then◌else◌, ℕ, suc, ◌+◌, ◌-◌, ◌≤◌, ◌<◌, ◌≡◌, refl, sym, ◌∙◌, ap, subst, List, [], arith, length, get_or}
+use Rattle.std.proofs.Common.{if◌then◌else◌, ℕ, suc, ◌+◌, ◌-◌, ◌≤◌, ◌<◌, ◌≡◌, refl, sym, ◌∙◌, ap, subst, List, [], arith, length, slice_index}
 use Rattle.std.proofs.Common.{eq-eqb, ne_eqb}
 use Rattle.std.proofs.lemmas.Grind.{common_steps}
 use Rattle.words.specs.lists.Sequences.{written}
-use Rattle.words.proofs.lists.Tests.{if-true, if-false}
+use Rattle.std.proofs.lemmas.Bool.{cond-true, cond-false}
 use Rattle.text.specs.frames.Frame.{size, field, pair_at, frame_text}
 use Rattle.text.proofs.frames.FrameLoops.{length-frame}
 use Rattle.image.specs.Image.{Row, entry_frame, label_frame, row_frame}
@@ -11,7 +11,7 @@ use Rattle.image.specs.Decode.{scheme_count, last_label, row_count, handler_in, 
 use Rattle.image.specs.Decode.{row_in_frame}
 use Rattle.image.specs.Check.{label_position, position_of}
 use Rattle.image.specs.inner.Sound.{SoundRow}
-use Rattle.image.proofs.Accepted.{entries-count, labels-count, rows-count, entry_read, row_read, position-of-entry, position-of-label}
+use Rattle.image.proofs.Accepted.{entries-count, labels-count, rows-count, entry-read, row-read, position-of-entry, position-of-label}
 use Rattle.image.proofs.Accepted.{position-of-row}
 use Rattle.translator.specs.label_text.inner.LabelBytes.{header_bytes, up_to, Put}
 use Rattle.translator.proofs.label_text.Puts.{Appended, appended-start, appended-room, appended-on, appended-done}
@@ -46,14 +46,14 @@ module _ (b c numbers : List ℕ) (N : NumberedGroups b c numbers) (f : ℕ) whe
     pub label-frame : f < size b
     label-frame = omega (arith, table-all)
 
-    at_label : position_of b f ≡ label_position l
-    at_label = ap (position_of b) (let z : f ≡ labels_from b + l = omega arith in z) ∙ position-of-label b l label-low
+    at-label : position_of b f ≡ label_position l
+    at-label = ap (position_of b) (let z : f ≡ labels_from b + l = omega arith in z) ∙ position-of-label b l label-low
 
-    pub label-skip : (get_or c l 0 ≡ l → ⊥) → piece b c f ≡ []
-    label-skip n = grind (arith, common_steps, if-false, ne_eqb, at_label)
+    pub label-skip : (slice_index c l ≡ l → ⊥) → piece b c f ≡ []
+    label-skip n = grind (arith, common_steps, cond-false, ne_eqb, at-label)
 
-    pub label_kept : get_or c l 0 ≡ l → piece b c f ≡ frame_text (label_frame (get_or numbers l 0) (label_in b (f - labels_from b)))
-    label_kept q = grind (arith, common_steps, eq-eqb, if-true, label-low, at_label)
+    pub label-kept : slice_index c l ≡ l → piece b c f ≡ frame_text (label_frame (slice_index numbers l) (label_in b (f - labels_from b)))
+    label-kept q = grind (arith, common_steps, eq-eqb, cond-true, label-low, at-label)
 
   -- ---- put_kept_row
   module _ (low : rows_from b ≤ f) (high : f < size b) (x : ℕ) (e : x ≡ field b f 1) where
@@ -63,33 +63,33 @@ module _ (b c numbers : List ℕ) (N : NumberedGroups b c numbers) (f : ℕ) whe
     inside : k < row_count b
     inside = omega (arith, table-all)
 
-    row_is : decode.row_in b k ≡ row_in_frame b f
-    row_is = ap (row_in_frame b) (let z : rows_from b + k ≡ f = omega arith in z)
+    row-is : decode.row_in b k ≡ row_in_frame b f
+    row-is = ap (row_in_frame b) (let z : rows_from b + k ≡ f = omega arith in z)
 
     sound-row : SoundRow (decoded_image b) (row_in_frame b f)
     sound-row =
-        subst (SoundRow (decoded_image b)) (row_read b k inside ∙ row_is) (N.table.image.each k (omega (arith, inside, rows-count b)))
+        subst (SoundRow (decoded_image b)) (row-read b k inside ∙ row-is) (N.table.image.each k (omega (arith, inside, rows-count b)))
 
     led-is : row_numbered_by numbers (row_in_frame b f) ≡ renumbered_row c (row_in_frame b f)
     led-is =
-        let p : get_or numbers (field b f 1) 0 ≡ renumbered_label c (field b f 1) =
+        let p : slice_index numbers (field b f 1) ≡ renumbered_label c (field b f 1) =
         N.at (field b f 1) (omega (arith, sound-row.high, labels-count b)) in
-        let q : get_or numbers (field b f 7) 0 ≡ renumbered_label c (field b f 7) = N.at (field b f 7)
+        let q : slice_index numbers (field b f 7) ≡ renumbered_label c (field b f 7) = N.at (field b f 7)
         (omega (arith, sound-row.leading.inside, labels-count b)) in
         λ j. record { from = p j; care = pair_at b f 2; values = pair_at b f 4; bit = field b f 6; next = q j }
 
-    at_row : piece_at b c (position_of b f) ≡ (if is_first c x then frame_text (row_frame (renumbered_row c (row_in_frame b f))) else [])
-    at_row =
+    at-row : piece_at b c (position_of b f) ≡ (if is_first c x then frame_text (row_frame (renumbered_row c (row_in_frame b f))) else [])
+    at-row =
         ap (piece_at b c) (ap (position_of b) (let z : f ≡ rows_from b + k = omega arith in z) ∙ position-of-row b k)
-        ∙ ap (λ (r : Row). if is_first c r.from then frame_text (row_frame (renumbered_row c r)) else []) row_is
+        ∙ ap (λ (r : Row). if is_first c r.from then frame_text (row_frame (renumbered_row c r)) else []) row-is
         ∙ ap (λ (y : ℕ). if is_first c y then frame_text (row_frame (renumbered_row c (row_in_frame b f))) else []) (sym e)
 
-    pub row-skip : (get_or c x 0 ≡ x → ⊥) → piece b c f ≡ []
+    pub row-skip : (slice_index c x ≡ x → ⊥) → piece b c f ≡ []
     row-skip n =
-        at_row ∙ if-false (is_first c x) (frame_text (row_frame (renumbered_row c (row_in_frame b f)))) [] (ne_eqb (get_or c x 0) x n)
+        at-row ∙ cond-false (is_first c x) (frame_text (row_frame (renumbered_row c (row_in_frame b f)))) [] (ne_eqb (slice_index c x) x n)
 
-    pub row_kept : get_or c x 0 ≡ x → piece b c f ≡ frame_text (row_frame (row_numbered_by numbers (row_in_frame b f)))
-    row_kept q = grind (arith, common_steps, eq-eqb, if-true, led-is, at_row)
+    pub row-kept : slice_index c x ≡ x → piece b c f ≡ frame_text (row_frame (row_numbered_by numbers (row_in_frame b f)))
+    row-kept q = grind (arith, common_steps, eq-eqb, cond-true, led-is, at-row)
 
   -- ---- put_piece
   module _ (low : 1 ≤ f) (m : ℕ) (e : m ≡ labels_from b) (high : f < m) where
@@ -98,10 +98,10 @@ module _ (b c numbers : List ℕ) (N : NumberedGroups b c numbers) (f : ℕ) whe
         let z : suc (f - 1) ≡ f = omega arith in
         let g : f - 1 < scheme_count b = omega arith in
         let x = (N.table.image.starts (f - 1) (omega (arith, entries-count b))).inside in
-        omega (arith, x, labels-count b, entry_read b (f - 1) g ∙ ap (λ (h : ℕ). field b h 2) z)
+        omega (arith, x, labels-count b, entry-read b (f - 1) g ∙ ap (λ (h : ℕ). field b h 2) z)
 
-    pub entry_kept : (y : ℕ) → y ≡ field b f 2 → piece b c f ≡ frame_text (entry_frame f (get_or numbers y 0))
-    entry_kept y q = grind (arith, common_steps, position-of-entry, entry-inside)
+    pub entry-kept : (y : ℕ) → y ≡ field b f 2 → piece b c f ≡ frame_text (entry_frame f (slice_index numbers y))
+    entry-kept y q = grind (arith, common_steps, position-of-entry, entry-inside)
 
 -- ---- put_pieces
 module _ (b c numbers : List ℕ) (N : NumberedGroups b c numbers) (s g r h : ℕ) (e₁ : s ≡ scheme_count b)
@@ -147,5 +147,5 @@ module _ (piece : ℕ → List ℕ) (out₀ out : List ℕ) (place n f : ℕ) (t
       done = λ other x. appended-on piece other out 0 place n f (t.done other x) h (omega (arith, x.size, a.size)) out' place' p;
     }
 
-  pub rest_all : n ≤ f → out ≡ written old 0 (up_to piece n)
-  rest_all h = appended-done piece old out 0 place n f (t.done old a) h
+  pub rest-all : n ≤ f → out ≡ written old 0 (up_to piece n)
+  rest-all h = appended-done piece old out 0 place n f (t.done old a) h

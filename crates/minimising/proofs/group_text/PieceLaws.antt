@@ -1,14 +1,14 @@
 -- The pieces of all frames, joined, are the text of the smaller image.
-use Rattle.std.proofs.Common.{if◌then◌else◌, ℕ, zero, suc, ◌+◌, ◌≤◌, ◌<◌, ◌≡◌, refl, sym, ◌∙◌, ap, ap₂, Bool, true, false, List, [], ◌++◌}
+use Rattle.std.proofs.Common.{if◌then◌else◌, ℕ, zero, suc, ◌+◌, ◌≤◌, ◌<◌, ◌≡◌, refl, sym, ◌∙◌, ap, ap₂, Bool, true, false, List, [], ◌++◌, flat_map, filter}
 use Rattle.std.proofs.Common.{map, append-nil, zero-add, arith, length, eqb-true}
 use Rattle.std.proofs.Math.ListN.{length-map}
 use Rattle.std.proofs.lemmas.Grind.{common_steps}
 use Rattle.words.specs.lists.Numbers.{range, count}
-use Rattle.words.specs.lists.Sequences.{filter, concat_map, map_from}
-use Rattle.words.proofs.lists.Tests.{if-true, if-false}
+use Rattle.words.specs.lists.Sequences.{map_from}
+use Rattle.std.proofs.lemmas.Bool.{cond-true, cond-false}
 use Rattle.words.proofs.lists.Counts.{count-snoc, count-le}
 use Rattle.words.proofs.lists.Ranges.{filter-yes, filter-no, length-filter}
-use Rattle.words.proofs.lists.Filters.{filter_none}
+use Rattle.words.proofs.lists.Filters.{filter-none}
 use Rattle.words.proofs.lists.Joins.{concat-cons, concat-append, concat-split}
 use Rattle.text.specs.frames.Frame.{size, field, frame_text, frames_text}
 use Rattle.image.specs.Image.{Image, Label, Row, header_frame, entry_frame, label_frame, row_frame, image_frames, image_text}
@@ -23,22 +23,20 @@ use Rattle.minimising.specs.group_pieces.inner.Pieces.{groups_in, rows_kept, pie
 use Rattle.state.specs.State as machine
 
 -- ---- joined lists over ranges
-concat-one : (f : ℕ → List ℕ) (a : ℕ) → concat_map f (range a 1) ≡ f a
-unfolding concat_map
+concat-one : (f : ℕ → List ℕ) (a : ℕ) → flat_map f (range a 1) ≡ f a
 concat-one f a = append-nil (f a)
 
 concat-moved : {B : Type 0} (f g : ℕ → List B) (s a m : ℕ) → ((k : ℕ) → a ≤ k → k < a + m → f (s + k) ≡ g k)
-    → concat_map f (range (s + a) m) ≡ concat_map g (range a m)
-unfolding concat_map
+    → flat_map f (range (s + a) m) ≡ flat_map g (range a m)
 concat-moved f g s a zero h = grind (arith, common_steps)
 concat-moved f g s a (suc m) h = grind (arith, common_steps, concat-moved f g s (suc a) m (λ k l u. h k (omega arith) (omega arith)))
 
 module _ (c : List ℕ) where
   entries-text : (e : ℕ → ℕ) (a m : ℕ)
-      → frames_text (map_from entry_frame a (map (renumbered_label c) (map e (range a m)))) ≡ concat_map
+      → frames_text (map_from entry_frame a (map (renumbered_label c) (map e (range a m)))) ≡ flat_map
       (λ h. frame_text (entry_frame h (renumbered_label c (e h))))
       (range a m)
-  unfolding map_from concat_map
+  unfolding map_from
   entries-text e a zero = refl
   entries-text e a (suc m) = ap (λ (t : List ℕ). frame_text (entry_frame a (renumbered_label c (e a))) ++ t) (entries-text e (suc a) m)
 
@@ -46,9 +44,9 @@ module _ (c : List ℕ) where
   kept x l = if is_first c l then frame_text (label_frame (count (is_first c) 0 l) (x l)) else []
 
   labels-text : (x : ℕ → Label) (a m s : ℕ) → s ≡ count (is_first c) 0 a
-      → frames_text (map_from label_frame s (map x (filter (is_first c) (range a m)))) ≡ concat_map (kept x) (range a m)
-  unfolding concat_map map_from
-  labels-text x a zero s e = ap (λ (ls : List ℕ). frames_text (map_from label_frame s (map x ls))) (filter_none (is_first c))
+      → frames_text (map_from label_frame s (map x (filter (is_first c) (range a m)))) ≡ flat_map (kept x) (range a m)
+  unfolding map_from
+  labels-text x a zero s e = ap (λ (ls : List ℕ). frames_text (map_from label_frame s (map x ls))) (filter-none (is_first c))
   labels-text x a (suc m) s e = go (is_first c a) refl (labels-text x (suc a) m (suc s)) (labels-text x (suc a) m s)
     where
       tail : (t : Bool) → is_first c a ≡ t → count (is_first c) 0 (suc a) ≡ count (is_first c) 0 a + (if t then 1 else 0)
@@ -58,37 +56,36 @@ module _ (c : List ℕ) where
       go : (t : Bool) → is_first c a ≡ t
           → (suc s ≡ count (is_first c) 0 (suc a)
           → frames_text (map_from label_frame (suc s) (map x (filter (is_first c) (range (suc a) m))))
-          ≡ concat_map (kept x) (range (suc a) m))
+          ≡ flat_map (kept x) (range (suc a) m))
           → (s ≡ count (is_first c) 0 (suc a)
-          → frames_text (map_from label_frame s (map x (filter (is_first c) (range (suc a) m)))) ≡ concat_map (kept x) (range (suc a) m))
+          → frames_text (map_from label_frame s (map x (filter (is_first c) (range (suc a) m)))) ≡ flat_map (kept x) (range (suc a) m))
           → frames_text (map_from label_frame s (map x (filter (is_first c) (range a (suc m))))) ≡ kept
-          x a ++ concat_map (kept x) (range (suc a) m)
+          x a ++ flat_map (kept x) (range (suc a) m)
       go true q ih _ =
           ap (λ (ls : List ℕ). frames_text (map_from label_frame s (map x ls))) (filter-yes (is_first c) a (range (suc a) m) q)
           ∙ ap₂ (λ (xs ys : List ℕ). xs ++ ys)
           (ap (λ (k : ℕ). frame_text (label_frame k (x a))) e
-          ∙ sym (if-true (is_first c a) (frame_text (label_frame (count (is_first c) 0 a) (x a))) [] q))
+          ∙ sym (cond-true (is_first c a) (frame_text (label_frame (count (is_first c) 0 a) (x a))) [] q))
           (ih (omega (arith, tail true q)))
       go false q _ ih =
           ap (λ (ls : List ℕ). frames_text (map_from label_frame s (map x ls))) (filter-no (is_first c) a (range (suc a) m) q)
           ∙ ih (omega (arith, tail false q))
-          ∙ ap (λ (xs : List ℕ). xs ++ concat_map (kept x) (range (suc a) m)) (sym (if-false (is_first c a) (frame_text
+          ∙ ap (λ (xs : List ℕ). xs ++ flat_map (kept x) (range (suc a) m)) (sym (cond-false (is_first c a) (frame_text
           (label_frame (count (is_first c) 0 a) (x a))) [] q))
 
   abbrev row_piece : Row → List ℕ
   row_piece r = if is_first c r.from then frame_text (row_frame (renumbered_row c r)) else []
 
   rows-text : (x : ℕ → Row) (a m : ℕ)
-      → frames_text (map row_frame (map (renumbered_row c) (filter (λ r. is_first c r.from) (map x (range a m))))) ≡ concat_map
+      → frames_text (map row_frame (map (renumbered_row c) (filter (λ r. is_first c r.from) (map x (range a m))))) ≡ flat_map
       (λ k. row_piece (x k)) (range a m)
-  unfolding concat_map
-  rows-text x a zero = grind (arith, common_steps, filter_none)
-  rows-text x a (suc m) = grind (arith, common_steps, rows-text x (suc a) m, if-false, filter-no, if-true, filter-yes)
+  rows-text x a zero = grind (arith, common_steps, filter-none)
+  rows-text x a (suc m) = grind (arith, common_steps, rows-text x (suc a) m, cond-false, filter-no, cond-true, filter-yes)
 
   rows-number : (x : ℕ → Row) (a m : ℕ)
       → length (filter (λ r. is_first c r.from) (map x (range a m))) ≡ count (λ k. is_first c (x k).from) a m
   unfolding count
-  rows-number x a zero = grind (arith, common_steps, filter_none)
+  rows-number x a zero = grind (arith, common_steps, filter-none)
   rows-number x a (suc m) = grind (arith, common_steps, rows-number x (suc a) m, filter-no, filter-yes)
 
 pub count-moved : (p q : ℕ → Bool) (s a m : ℕ) → ((k : ℕ) → a ≤ k → k < a + m → p (s + k) ≡ q k) → count p (s + a) m ≡ count q a m
@@ -110,7 +107,7 @@ module _ (b c : List ℕ) (all : size b ≡ rows_from b + row_count b) where
   R = row_count b
 
   -- ---- the four parts of the text
-  entries-part : frames_text (map_from entry_frame 1 (joined_labels i c).entries) ≡ concat_map (piece b c) (range 1 H)
+  entries-part : frames_text (map_from entry_frame 1 (joined_labels i c).entries) ≡ flat_map (piece b c) (range 1 H)
   unfolding joined_labels decoded_image
   entries-part =
       entries-text c (entry_in b) 1 H
@@ -122,20 +119,20 @@ module _ (b c : List ℕ) (all : size b ≡ rows_from b + row_count b) where
     where
       go : (t : Bool) → is_first c l ≡ t → kept c (machine.label_at i) l ≡ piece_at b c (label_position l)
       go true q =
-          if-true (is_first c l) (frame_text (label_frame (count (is_first c) 0 l) (machine.label_at i l))) [] q
+          cond-true (is_first c l) (frame_text (label_frame (count (is_first c) 0 l) (machine.label_at i l))) [] q
           ∙ ap₂ (λ (k : ℕ) (x : Label). frame_text (label_frame k x))
           (ap (λ (k : ℕ). count (is_first c) 0 k) (sym (eqb-true (class_of c l) l q)))
           (label-read b l h)
-          ∙ sym (if-true (is_first c l) (frame_text (label_frame (renumbered_label c l) (label_in b l))) [] q)
+          ∙ sym (cond-true (is_first c l) (frame_text (label_frame (renumbered_label c l) (label_in b l))) [] q)
       go false q =
-          if-false (is_first c l) (frame_text (label_frame (count (is_first c) 0 l) (machine.label_at i l))) [] q
-          ∙ sym (if-false (is_first c l) (frame_text (label_frame (renumbered_label c l) (label_in b l))) [] q)
+          cond-false (is_first c l) (frame_text (label_frame (count (is_first c) 0 l) (machine.label_at i l))) [] q
+          ∙ sym (cond-false (is_first c l) (frame_text (label_frame (renumbered_label c l) (label_in b l))) [] q)
 
-  labels-part : frames_text (map_from label_frame 0 (joined_labels i c).labels) ≡ concat_map (piece b c) (range (labels_from b + 0) n)
+  labels-part : frames_text (map_from label_frame 0 (joined_labels i c).labels) ≡ flat_map (piece b c) (range (labels_from b + 0) n)
   unfolding joined_labels
   labels-part = grind (arith, common_steps, labels-count, count-le, position-of-label, concat-moved, labels-text, label-piece)
 
-  rows-part : frames_text (map row_frame (joined_labels i c).rows) ≡ concat_map (piece b c) (range (rows_from b + 0) R)
+  rows-part : frames_text (map row_frame (joined_labels i c).rows) ≡ flat_map (piece b c) (range (rows_from b + 0) R)
   unfolding joined_labels decoded_image
   rows-part = grind (arith, common_steps, position-of-row, concat-moved, rows-text)
 
@@ -143,9 +140,9 @@ module _ (b c : List ℕ) (all : size b ≡ rows_from b + row_count b) where
   unfolding joined_labels
   groups-are = grind (arith, common_steps, length-map, length-filter, labels-count)
 
-  pub rows_are : length (joined_labels i c).rows ≡ rows_kept b c
+  pub rows-are : length (joined_labels i c).rows ≡ rows_kept b c
   unfolding joined_labels decoded_image
-  rows_are = length-map (filter (λ r. is_first c r.from) (map (row_in b) (range 0 R))) (renumbered_row c) ∙ rows-number c (row_in b) 0 R
+  rows-are = length-map (filter (λ r. is_first c r.from) (map (row_in b) (range 0 R))) (renumbered_row c) ∙ rows-number c (row_in b) 0 R
       ∙ sym (ap (λ (x : ℕ). count (λ f. is_first c (field b f 1)) x R) (let e : rows_from b ≡ rows_from b + 0 = omega arith in e)
       ∙ count-moved (λ f. is_first c (field b f 1)) (λ k. is_first c (row_in b k).from) (rows_from b) 0 R (λ k a u. refl))
 
@@ -157,23 +154,23 @@ module _ (b c : List ℕ) (all : size b ≡ rows_from b + row_count b) where
   unfolding position_of joined_labels decoded_image
   header-part =
       ap (λ (k : ℕ). header_piece k (length (joined_labels i c).labels) (length (joined_labels i c).rows) (handler_in b)) entries-are
-      ∙ ap₂ (λ (g r : ℕ). header_piece H g r (handler_in b)) groups-are rows_are
+      ∙ ap₂ (λ (g r : ℕ). header_piece H g r (handler_in b)) groups-are rows-are
 
   -- ---- all of it
-  pub pieces_are : concat_map (piece b c) (range 0 (size b)) ≡ image_text (joined_labels i c)
+  pub pieces-are : flat_map (piece b c) (range 0 (size b)) ≡ image_text (joined_labels i c)
   unfolding image_text image_frames
-  pieces_are =
+  pieces-are =
       let p : ℕ → List ℕ = piece b c in
-      ap (λ (m : ℕ). concat_map p (range 0 m)) (let e : size b ≡ 1 + (H + (n + R)) = omega (arith, all) in e)
+      ap (λ (m : ℕ). flat_map p (range 0 m)) (let e : size b ≡ 1 + (H + (n + R)) = omega (arith, all) in e)
       ∙ concat-split p 0 1 (H + (n + R))
       ∙ ap₂ (λ (xs ys : List ℕ). xs ++ ys) (concat-one p 0 ∙ sym header-part)
-      (ap (λ (x : ℕ). concat_map p (range x (H + (n + R)))) (let e : 0 + 1 ≡ 1 = omega arith in e)
+      (ap (λ (x : ℕ). flat_map p (range x (H + (n + R)))) (let e : 0 + 1 ≡ 1 = omega arith in e)
       ∙ concat-split p 1 H (n + R)
       ∙ ap₂ (λ (xs ys : List ℕ). xs ++ ys) (sym entries-part)
       (concat-split p (1 + H) n R
       ∙ ap₂ (λ (xs ys : List ℕ). xs ++ ys)
-      (ap (λ (x : ℕ). concat_map p (range x n)) (let e : 1 + H ≡ labels_from b + 0 = omega arith in e) ∙ sym labels-part)
-      (ap (λ (x : ℕ). concat_map p (range x R)) (let e : 1 + H + n ≡ rows_from b + 0 = omega arith in e) ∙ sym rows-part)
+      (ap (λ (x : ℕ). flat_map p (range x n)) (let e : 1 + H ≡ labels_from b + 0 = omega arith in e) ∙ sym labels-part)
+      (ap (λ (x : ℕ). flat_map p (range x R)) (let e : 1 + H + n ≡ rows_from b + 0 = omega arith in e) ∙ sym rows-part)
       ∙ sym (concat-append frame_text (map_from label_frame 0 (joined_labels i c).labels) (map row_frame (joined_labels i c).rows)))
       ∙ sym (concat-append frame_text (map_from entry_frame 1 (joined_labels i c).entries)
       (map_from label_frame 0 (joined_labels i c).labels ++ map row_frame

@@ -1,7 +1,6 @@
 -- What renumbering the groups comes to: in order of their lowest members, with entries and rows led to the new labels.
-use Rattle.std.specs.Prelude.{ℕ, ◌<◌, true, ◌≡◌, List, map, length, get_or}
+use Rattle.std.specs.Prelude.{ℕ, ◌<◌, true, ◌≡◌, List, map, length, slice_index, filter}
 use Rattle.words.specs.lists.Numbers.{count}
-use Rattle.words.specs.lists.Sequences.{filter}
 use Rattle.image.specs.Image.{Image, Row}
 use Rattle.rows.specs.Rows.{is_candidate}
 use Rattle.grouping.specs.Classes.{is_first}
@@ -14,7 +13,7 @@ FirstNumbered = (c : List ℕ) (l : ℕ) → is_first c l ≡ true → renumbere
 abbrev pub EntriesLed : Type 0
 EntriesLed =
     (i : Image) (c : List ℕ) (h : ℕ) → h < length i.entries
-    → get_or (joined_labels i c).entries h 0 ≡ renumbered_label c (get_or i.entries h 0)
+    → slice_index (joined_labels i c).entries h ≡ renumbered_label c (slice_index i.entries h)
 
 -- of such a label the rows that match a word and bit are those that matched, renumbered
 abbrev pub RowsLed : Type 0

@@ -1,8 +1,7 @@
 -- The image with one label a group and the handler as it is: the group with the lower lowest member has the lower number, and each has
 -- its lowest member's rows, in their order.
-use Rattle.std.specs.Prelude.{ℕ, List, map, length}
+use Rattle.std.specs.Prelude.{ℕ, List, map, length, filter}
 use Rattle.words.specs.lists.Numbers.{range, count}
-use Rattle.words.specs.lists.Sequences.{filter}
 use Rattle.image.specs.Image.{Image, Row}
 use Rattle.state.specs.State.{label_at}
 use Rattle.grouping.specs.Classes.{class_of, is_first, grouping}

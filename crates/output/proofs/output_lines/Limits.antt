@@ -6,9 +6,9 @@ use Rattle.text.specs.frames.Verdict.{refused}
 use Rattle.text.specs.frames.Check.{text_verdict}
 
 -- 1 refuses every text that is longer than the most
-pub too_long : (most : ℕ) (t : List ℕ) → most < length t → text_verdict most t ≡ refused 1 0
+pub too-long : (most : ℕ) (t : List ℕ) → most < length t → text_verdict most t ≡ refused 1 0
 unfolding text_verdict
-too_long most t h = grind (arith, common_steps)
+too-long most t h = grind (arith, common_steps)
 
 -- a function of texts that is the same for all longer ones needs no more than one character past the most
 module _ (f : List ℕ → List ℕ) (n : ℕ) (x : List ℕ) (long : (t : List ℕ) → n ≤ length t → f t ≡ x) where

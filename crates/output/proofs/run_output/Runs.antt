@@ -1,8 +1,8 @@
 -- The run program: the words it counts up to, and the cases of its answer.
-use Rattle.std.proofs.Common.{ℕ, ◌+◌, ◌*◌, ◌≤◌, ◌<◌, ◌≡◌, refl, sym, ◌∙◌, ap, subst, List, ◌++◌, arith, length, take, set, length-take}
+use Rattle.std.proofs.Common.{ℕ, ◌+◌, ◌*◌, ◌≤◌, ◌<◌, ◌≡◌, refl, sym, ◌∙◌, ap, subst, List, ◌++◌, arith, length, take, set, length-take, flat_map}
 use Rattle.std.proofs.Common.{length-append, replicate, Ok, Err}
 use Rattle.std.proofs.lemmas.Grind.{common_steps}
-use Rattle.words.specs.lists.Sequences.{concat_map, over, written}
+use Rattle.words.specs.lists.Sequences.{over, written}
 use Rattle.words.proofs.lists.Written.{written-front, written-more}
 use Rattle.words.proofs.lists.Fills.{ValuesFrom, values-none, values-turn, values-all}
 use Rattle.text.specs.frames.Answer.{Answer, reply_count, reply}
@@ -21,8 +21,8 @@ use Rattle.output.specs.run_output.RunProgram.{program_words, run_lines, run_out
 abbrev pub CountedWords : List ℕ → ℕ → Type 0
 CountedWords all i = ValuesFrom (λ k. k) (replicate 64 0) all 0 64 i
 
-pub counted_none : CountedWords (replicate 64 0) 0
-counted_none = values-none (λ k. k) (replicate 64 0) 0 64
+pub counted-none : CountedWords (replicate 64 0) 0
+counted-none = values-none (λ k. k) (replicate 64 0) 0 64
 
 module _ (all : List ℕ) (i : ℕ) (w : CountedWords all i) where
   pub counted-turn : i < 64 → CountedWords (set all i i) (i + 1)
@@ -44,29 +44,29 @@ refused-count a r n e t = ap (λ (b : Answer). reply_count (reply b)) e ∙ sym 
 
 -- n ticks were finished, and their codes are there
 module _ (a : Answer) (codes : List ℕ) (n : ℕ) (counts : reply_count (reply a) ≡ n)
-    (within : (reply_count (reply a) ≤ length codes) × (length codes ≤ 64)) where
+    (ticked : reply_count (reply a) ≤ length codes) where
   pub finished-part : n ≡ length (take n codes)
-  finished-part = simp length-take (omega (arith, within.0))
+  finished-part = simp length-take (omega (arith, ticked))
 
-  taken-length : length (concat_map code_line (take n codes)) ≡ 3 * n
+  taken-length : length (flat_map code_line (take n codes)) ≡ 3 * n
   taken-length = codes-length (take n codes) ∙ omega (arith, finished-part)
 
-  pub codes-printed : (before after : List ℕ) → a ≡ Ok n → after ≡ written before 0 (concat_map code_line (take n codes))
+  pub codes-printed : (before after : List ℕ) → a ≡ Ok n → after ≡ written before 0 (flat_map code_line (take n codes))
       → Prints (run_lines (reply a) codes) (n * 3) before after
   codes-printed before after d w = grind (arith, common_steps, written-front, taken-length)
 
-  pub stop-printed : (r : Refusal) (k i : ℕ) → k ≡ number_of r → i ≡ index_of r → n ≡ ticks_of r
+  pub stop-printed : (r : Refusal) (k i : ℕ) → length codes ≤ 64 → k ≡ number_of r → i ≡ index_of r → n ≡ ticks_of r
       → (before middle after : List ℕ) → a ≡ Err r → 215 ≤ length before
-      → middle ≡ written before 0 (concat_map code_line (take n codes)) → after ≡ written middle (n * 3) (refusal_line k i)
+      → middle ≡ written before 0 (flat_map code_line (take n codes)) → after ≡ written middle (n * 3) (refusal_line k i)
       → Prints (run_lines (reply a) codes) (n * 3 + 23) before after
-  stop-printed r k i p q t before middle after d room m w =
-      let x : List ℕ = concat_map code_line (take n codes) in
+  stop-printed r k i few p q t before middle after d room m w =
+      let x : List ℕ = flat_map code_line (take n codes) in
       let o : run_lines (reply a) codes ≡ x ++ refusal_line k i = ap (λ (b : Answer). run_lines (reply b) codes) d
-      ∙ sym (λ j. concat_map code_line (take (t j) codes) ++ refusal_line (p j) (q j)) in
+      ∙ sym (λ j. flat_map code_line (take (t j) codes) ++ refusal_line (p j) (q j)) in
       record {
         counted = omega (arith, taken-length, refusal-line-length k i, length-append x (refusal_line k i), ap length o);
         written = written-more before 0 x (refusal_line k i) middle after (n * 3) (omega (arith, taken-length))
-            (omega (arith, within.0, within.1)) m w
+            (omega (arith, ticked, few)) m w
             ∙ written-front before (x ++ refusal_line k i) ∙ ap (λ (y : List ℕ). over y before) (sym o);
       }
 

@@ -10,7 +10,7 @@ use Rattle.text.specs.frames.Answer.{Answer, reply}
 use Rattle.text.specs.declared.frames.refusals.Refusal.{Refusal}
 use Rattle.text.specs.frames.Refusal.{number_of, index_of}
 use Rattle.text.proofs.frames.Verdicts.{next-first}
-use Rattle.text.proofs.frames.Lent.{lent_fits}
+use Rattle.text.proofs.frames.Lent.{lent-fits}
 use Rattle.walk.proofs.FactsHold.{facts}
 use Rattle.image.specs.Image.{image_text}
 use Rattle.image.specs.Check.{table_verdict, image_verdict}
@@ -46,7 +46,7 @@ module _ (t old : List ℕ) (a : Answer) (e : reply a ≡ (translate t old).repl
   pub refusal-told : (r : Refusal) → a ≡ Err r → 29831 ≤ length old → (k i : ℕ) → k ≡ number_of r → i ≡ index_of r
       → (translate_output t ≡ refusal_line k i) × ((translate t old).buffer ≡ old)
   unfolding translate translate_output
-  refusal-told r d room k i p q = grind (arith, common_steps, lent_fits, image-fits)
+  refusal-told r d room k i p q = grind (arith, common_steps, lent-fits, image-fits)
 
   pub refusal-printed : (r : Refusal) → a ≡ Err r → 29831 ≤ length old → (k i : ℕ) → k ≡ number_of r → i ≡ index_of r
       → (middle after : List ℕ) → middle ≡ (translate t old).buffer → after ≡ written middle 0 (refusal_line k i)

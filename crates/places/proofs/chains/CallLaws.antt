@@ -1,11 +1,10 @@
 -- What the list of a scheme's calls holds, and which schemes call and are called in an accepted chart.
-use Rattle.std.proofs.Common.{ℕ, zero, suc, ◌+◌, ◌≤◌, ◌<◌, Bool, true, ◌&&◌, not, ◌≡◌, ◌∙◌, List, [], ◌∷◌, eq-or-lt_of_le, arith, eqb}
+use Rattle.std.proofs.Common.{ℕ, zero, suc, ◌+◌, ◌≤◌, ◌<◌, Bool, true, ◌&&◌, not, ◌≡◌, sym, ◌∙◌, List, [], ◌∷◌, eq-or-lt_of_le, arith, ◌==◌, filter}
 use Rattle.std.proofs.Common.{eqb-true, eq-eqb, ne_eqb}
 use Rattle.std.proofs.lemmas.Grind.{common_steps}
 use Rattle.words.specs.lists.Numbers.{range}
-use Rattle.words.specs.lists.Sequences.{some, filter}
-use Rattle.words.proofs.lists.Tests.{or-true-l, or_true_r, and_l, and_r, and-true, and_no}
-use Rattle.words.proofs.lists.Searches.{any-true, any_some}
+use Rattle.words.proofs.lists.Tests.{or-true-l, or-true-r, and-l, and-r, and-true, and-no}
+use Rattle.words.proofs.lists.Searches.{any-true, any-some}
 use Rattle.words.proofs.lists.Ranges.{filter-yes, filter-no}
 use Rattle.words.specs.graph.Reach.{is_member}
 use Rattle.text.specs.frames.Frame.{size}
@@ -16,13 +15,11 @@ use Rattle.places.specs.chains.Chains.{Calls}
 
 -- ---- a member of the numbers that pass
 range-member : (h i n : ℕ) → i ≤ h → h < i + n → is_member h (range i n) ≡ true
-unfolding some
 range-member h i zero a b = grind (arith, common_steps)
-range-member h i (suc n) a b = grind (arith, common_steps, range-member h (suc i) n, eq-eqb, or-true-l, or_true_r, eq-or-lt_of_le)
+range-member h i (suc n) a b = grind (arith, common_steps, range-member h (suc i) n, eq-eqb, or-true-l, or-true-r, eq-or-lt_of_le)
 
 filter-member : (p : ℕ → Bool) (h : ℕ) (xs : List ℕ) → is_member h (filter p xs) ≡ (p h && is_member h xs)
-unfolding some filter
-filter-member p h [] = grind (arith, common_steps, and_no)
+filter-member p h [] = grind (arith, common_steps, and-no)
 filter-member p h (x ∷ xs) = grind (arith, common_steps, filter-member p h xs, filter-no, eq-eqb, and-true, or-true-l, filter-yes, ne_eqb)
 
 -- ---- calls
@@ -32,22 +29,22 @@ module _ (c : Chart) where
   calls-true g h k =
       let v : ℕ = k.node in
       any-true (is_call_of c g h) 0 (size c) v (omega arith) (omega (arith, k.inside))
-      (and-true (has_call c v) (eqb (scheme c v) g && eqb (argument c v) h) k.holds
-      (and-true (eqb (scheme c v) g) (eqb (argument c v) h) (eq-eqb (scheme c v) g k.owner) (eq-eqb (argument c v) h k.called)))
+      (and-true (has_call c v) (scheme c v == g && argument c v == h) k.holds
+      (and-true (scheme c v == g) (argument c v == h) (eq-eqb (scheme c v) g k.owner) (eq-eqb (argument c v) h k.called)))
 
   pub true-calls : (g h : ℕ) → is_caller c g h ≡ true → Calls c g h
   unfolding is_caller
   true-calls g h e =
-      let r = any_some (is_call_of c g h) 0 (size c) e in
+      let r = any-some (is_call_of c g h) 0 (size c) e in
       let v : ℕ = r.0 in
-      let m : (eqb (scheme c v) g && eqb (argument c v) h) ≡ true =
-      and_r (has_call c v) (eqb (scheme c v) g && eqb (argument c v) h) r.3 in
+      let m : (scheme c v == g && argument c v == h) ≡ true =
+      and-r (has_call c v) (scheme c v == g && argument c v == h) r.3 in
       record {
         node = v;
         inside = omega (arith, r.2);
-        holds = and_l (has_call c v) (eqb (scheme c v) g && eqb (argument c v) h) r.3;
-        owner = eqb-true (scheme c v) g (and_l (eqb (scheme c v) g) (eqb (argument c v) h) m);
-        called = eqb-true (argument c v) h (and_r (eqb (scheme c v) g) (eqb (argument c v) h) m);
+        holds = and-l (has_call c v) (scheme c v == g && argument c v == h) r.3;
+        owner = eqb-true (scheme c v) g (and-l (scheme c v == g) (argument c v == h) m);
+        called = eqb-true (argument c v) h (and-r (scheme c v == g) (argument c v == h) m);
       }
 
   pub calls-member : (g h : ℕ) → h < 17 → Calls c g h → is_member h (calls_of c g) ≡ true
@@ -56,11 +53,12 @@ module _ (c : Chart) where
       ∙ and-true (is_caller c g h) (is_member h (range 0 17)) (calls-true g h k) (range-member h 0 17 (omega arith) (omega arith))
 
   pub member-calls : (g h : ℕ) → is_member h (calls_of c g) ≡ true → Calls c g h
-  member-calls g h m = grind (arith, common_steps, and_l, filter-member, true-calls)
+  member-calls g h m =
+      true-calls g h (and-l (is_caller c g h) (is_member h (range 0 17)) (sym (filter-member (is_caller c g) h (range 0 17)) ∙ m))
 
   -- a node of kind 4, or of kind 2 that calls
   pub holds-function : (v : ℕ) → kind c v ≡ 4 → has_call c v ≡ true
-  holds-function v e = or-true-l (is c 4 v) (is c 2 v && not (eqb (argument c v) 0)) (eq-eqb (kind c v) 4 e)
+  holds-function v e = or-true-l (is c 4 v) (is c 2 v && not (argument c v == 0)) (eq-eqb (kind c v) 4 e)
 
   pub holds-operation : (v : ℕ) → kind c v ≡ 2 → (argument c v ≡ 0 → ⊥) → has_call c v ≡ true
   holds-operation v e a = grind (arith, common_steps)

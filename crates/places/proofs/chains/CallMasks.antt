@@ -1,28 +1,27 @@
 -- The masks of the calls: one node more, and the rounds over them.
-use Rattle.std.proofs.Common.{if◌then◌else◌, ℕ, zero, suc, ◌+◌, ◌-◌, ◌^◌, ◌≤◌, ◌<◌, Bool, true, false, ◌&&◌, ◌||◌, ◌≡◌, refl, sym, ◌∙◌, ap}
-use Rattle.std.proofs.Common.{ap₂, List, add-one, arith, bit_or, ltb, eqb, length, get_or, set, replicate, eq-eqb, ne_eqb, lt-ltb, le-ltb}
+use Rattle.std.proofs.Common.{if◌then◌else◌, ℕ, zero, suc, ◌+◌, ◌-◌, ◌^◌, ◌≤◌, ◌<◌, Bool, true, false, ◌&&◌, ◌||◌, ◌≡◌, refl, sym, ◌∙◌, ap, nat_lt, ◌==◌, slice_index}
+use Rattle.std.proofs.Common.{ap₂, List, add-one, arith, bit_or, length, set, replicate, eq-eqb, ne_eqb, lt-ltb, le-ltb}
 use lib.Bits.{or_zero_r}
 use Rattle.std.proofs.lemmas.Grind.{common_steps}
 use Rattle.words.specs.lists.Numbers.{any, lowest}
-use Rattle.words.specs.lists.Sequences.{some}
-use Rattle.words.proofs.lists.Tests.{and-true, and_no, or_true_r, if-true, if-false}
-use Rattle.words.proofs.lists.Searches.{any_snoc, lowest-alike, lowest-none, lowest-most, Searching, searching-first, searching-found}
+use Rattle.std.proofs.lemmas.Bool.{cond-true, cond-false}
+use Rattle.words.proofs.lists.Tests.{and-true, and-no, or-true-r}
+use Rattle.words.proofs.lists.Searches.{any-snoc, lowest-alike, lowest-none, lowest-most, Searching, searching-first, searching-found}
 use Rattle.words.proofs.lists.Searches.{searching-next, searching-over}
-use Rattle.words.proofs.lists.Tabulated.{length-tabulate, get_d_tabulate, tabulate-alike, tabulate-set, tabulate-none}
-use Rattle.words.specs.bits.Word.{bit}
+use Rattle.words.proofs.lists.Tabulated.{length-tabulate, get_d-tabulate, tabulate-alike, tabulate-set, tabulate-none}
+use Rattle.std.specs.Int.{bit_at}
 use Rattle.words.specs.graph.Reach.{is_marked}
 use Rattle.text.specs.frames.Frame.{size}
 use Rattle.charts.specs.Chart.{Chart, scheme, argument}
 use Rattle.walk.proofs.Facts.{Facts}
 use Rattle.places.specs.chains.Calls.{has_call, is_call_of, is_caller, is_circular, ends_of, has_no_end, places}
 use Rattle.places.specs.chains.inner.Masks.{called_at, mask_of, call_masks, called_by, ends_by, longest_by, longest_chain}
-use Rattle.places.proofs.chains.CallLaws.{holds-function}
 use Rattle.places.proofs.chains.Longest.{ends-suc}
 use Rattle.places.proofs.chains.Circles.{circle-told, circle-long, no-circle-short}
 use Rattle.places.proofs.chains.Masks.{mask-bit, mask-alike, mask-or, mask-more, mask-empty}
 
 any_next : (p : ℕ → Bool) (n : ℕ) → any p 0 (n + 1) ≡ (any p 0 n || p n)
-any_next p n = ap (any p 0) (add-one n) ∙ any_snoc p 0 n ∙ ap (λ (k : ℕ). any p 0 n || p k) (omega arith)
+any_next p n = ap (any p 0) (add-one n) ∙ any-snoc p 0 n ∙ ap (λ (k : ℕ). any p 0 n || p k) (omega arith)
 
 or_right : (a b : Bool) → b ≡ false → a ≡ (a || b)
 or_right true b e = refl
@@ -38,8 +37,8 @@ module _ (c : Chart) (v r : ℕ) (e : r ≡ called_at c v) where
   pub call-some : (r ≡ 0 → ⊥) → (has_call c v ≡ true) × (r ≡ argument c v)
   call-some n = grind (arith, common_steps)
 
-  pub call_none : Facts c → v < size c → r ≡ 0 → has_call c v ≡ false
-  call_none f l z = grind (arith, common_steps)
+  pub call-none : Facts c → v < size c → r ≡ 0 → has_call c v ≡ false
+  call-none f l z = grind (arith, common_steps)
 
   pub call-low : Facts c → v < size c → (r ≡ 0 → ⊥) → (scheme c v < 17) × (r < 17)
   call-low f l n = grind (arith, common_steps)
@@ -54,8 +53,8 @@ module _ (c : Chart) where
     pub masks-long : length masks ≡ 17
     masks-long = ap (λ (xs : List ℕ). length xs) e ∙ length-tabulate (λ g. mask_of (λ h. any (is_call_of c g h) 0 v) 17) 17
 
-    masks-at : (g : ℕ) → g < 17 → get_or masks g 0 ≡ mask_of (λ h. any (is_call_of c g h) 0 v) 17
-    masks-at g l = ap (λ (xs : List ℕ). get_or xs g 0) e ∙ get_d_tabulate (λ g. mask_of (λ h. any (is_call_of c g h) 0 v) 17) 17 g l
+    masks-at : (g : ℕ) → g < 17 → slice_index masks g ≡ mask_of (λ h. any (is_call_of c g h) 0 v) 17
+    masks-at g l = ap (λ (xs : List ℕ). slice_index xs g) e ∙ get_d-tabulate (λ g. mask_of (λ h. any (is_call_of c g h) 0 v) 17) 17 g l
 
     no_more : (g h : ℕ) → is_call_of c g h v ≡ false → any (is_call_of c g h) 0 v ≡ any (is_call_of c g h) 0 (v + 1)
     no_more g h n = or_right (any (is_call_of c g h) 0 v) (is_call_of c g h v) n ∙ sym (any_next (is_call_of c g h) v)
@@ -64,29 +63,29 @@ module _ (c : Chart) where
     pub masks-same : has_call c v ≡ false → masks ≡ call_masks c (v + 1)
     masks-same n = e ∙ tabulate-alike (λ g. mask_of (λ h. any (is_call_of c g h) 0 v) 17)
         (λ g. mask_of (λ h. any (is_call_of c g h) 0 (v + 1)) 17) 17
-        (λ g l. mask-alike _ _ 17 (λ h m. no_more g h (ap (λ (b : Bool). b && (eqb (scheme c v) g && eqb (argument c v) h)) n)))
+        (λ g l. mask-alike _ _ 17 (λ h m. no_more g h (ap (λ (b : Bool). b && (scheme c v == g && argument c v == h)) n)))
 
     -- a node of scheme g that calls scheme k
     pub masks-more : (g k : ℕ) → has_call c v ≡ true → g ≡ scheme c v → k ≡ argument c v → g < 17 → k < 17
-        → set masks g (bit_or (get_or masks g 0) (2 ^ k)) ≡ call_masks c (v + 1)
+        → set masks g (bit_or (slice_index masks g) (2 ^ k)) ≡ call_masks c (v + 1)
     masks-more g k holds eg ek lg lk =
-        ap (λ (xs : List ℕ). set xs g (bit_or (get_or masks g 0) (2 ^ k))) e
+        ap (λ (xs : List ℕ). set xs g (bit_or (slice_index masks g) (2 ^ k))) e
         ∙ tabulate-set (λ g. mask_of (λ h. any (is_call_of c g h) 0 v) 17) (λ g. mask_of (λ h. any (is_call_of c g h) 0 (v + 1)) 17) 17 g
-        (bit_or (get_or masks g 0) (2 ^ k)) lg
+        (bit_or (slice_index masks g) (2 ^ k)) lg
         (ap (λ (x : ℕ). bit_or x (2 ^ k)) (masks-at g lg)
         ∙ mask-more (λ h. any (is_call_of c g h) 0 v) (λ h. any (is_call_of c g h) 0 (v + 1)) 17 k lk
-        (any_next (is_call_of c g k) v ∙ or_true_r (any (is_call_of c g k) 0 v) (is_call_of c g k v) here)
-        (λ h n. no_more g h (and_no (has_call c v) (eqb (scheme c v) g && eqb (argument c v) h)
-        (and_no (eqb (scheme c v) g) (eqb (argument c v) h) (ne_eqb (argument c v) h (λ z. n (ek ∙ z)))))))
-        (λ u n. mask-alike _ _ 17 (λ h m. no_more u h (and_no (has_call c v) (eqb (scheme c v) u && eqb (argument c v) h)
-        (ap (λ (b : Bool). b && eqb (argument c v) h) (ne_eqb (scheme c v) u (λ z. n (sym z ∙ sym eg)))))))
+        (any_next (is_call_of c g k) v ∙ or-true-r (any (is_call_of c g k) 0 v) (is_call_of c g k v) here)
+        (λ h n. no_more g h (and-no (has_call c v) (scheme c v == g && argument c v == h)
+        (and-no (scheme c v == g) (argument c v == h) (ne_eqb (argument c v) h (λ z. n (ek ∙ z)))))))
+        (λ u n. mask-alike _ _ 17 (λ h m. no_more u h (and-no (has_call c v) (scheme c v == u && argument c v == h)
+        (ap (λ (b : Bool). b && argument c v == h) (ne_eqb (scheme c v) u (λ z. n (sym z ∙ sym eg)))))))
       where
         here : is_call_of c g k v ≡ true
-        here = and-true (has_call c v) (eqb (scheme c v) g && eqb (argument c v) k) holds
-            (and-true (eqb (scheme c v) g) (eqb (argument c v) k) (eq-eqb (scheme c v) g (sym eg)) (eq-eqb (argument c v) k (sym ek)))
+        here = and-true (has_call c v) (scheme c v == g && argument c v == k) holds
+            (and-true (scheme c v == g) (argument c v == k) (eq-eqb (scheme c v) g (sym eg)) (eq-eqb (argument c v) k (sym ek)))
 
 -- ---- one call more
-module _ (p : ℕ → ℕ → Bool) (s : ℕ → Bool) (masks : List ℕ) (are : (g : ℕ) → g < 17 → get_or masks g 0 ≡ mask_of (p g) 17) where
+module _ (p : ℕ → ℕ → Bool) (s : ℕ → Bool) (masks : List ℕ) (are : (g : ℕ) → g < 17 → slice_index masks g ≡ mask_of (p g) 17) where
   -- one of the first n schemes of the set calls scheme h
   abbrev by : ℕ → ℕ → Bool
   by n h = any (λ g. s g && p g h) 0 n
@@ -96,41 +95,41 @@ module _ (p : ℕ → ℕ → Bool) (s : ℕ → Bool) (masks : List ℕ) (are :
   called-by zero l = unfold mask_of any in refl
   called-by (suc n) l = go (s n) refl (called-by n (omega arith))
     where
-      bit_is : (b : Bool) → s n ≡ b → eqb (bit (mask_of s 17) n) 1 ≡ b
-      bit_is true e = eq-eqb (bit (mask_of s 17) n) 1 (mask-bit s 17 n (omega arith) ∙ ap (λ (b : Bool). if b then 1 else 0) e)
-      bit_is false e = ne_eqb (bit (mask_of s 17) n) 1
-          (λ z. let o : bit (mask_of s 17) n ≡ 0 = mask-bit s 17 n (omega arith) ∙ ap (λ (b : Bool). if b then 1 else 0) e in omega arith)
+      bit_is : (b : Bool) → s n ≡ b → (bit_at (mask_of s 17) n == 1) ≡ b
+      bit_is true e = eq-eqb (bit_at (mask_of s 17) n) 1 (mask-bit s 17 n (omega arith) ∙ ap (λ (b : Bool). if b then 1 else 0) e)
+      bit_is false e = ne_eqb (bit_at (mask_of s 17) n) 1
+          (λ z. let o : bit_at (mask_of s 17) n ≡ 0 = mask-bit s 17 n (omega arith) ∙ ap (λ (b : Bool). if b then 1 else 0) e in omega arith)
 
       with-one : (b : Bool) → s n ≡ b → (h : ℕ) → by (suc n) h ≡ (by n h || (b && p n h))
-      with-one b e h = any_snoc (λ g. s g && p g h) 0 n ∙ ap (λ (k : ℕ). by n h || (s k && p k h)) (omega arith)
+      with-one b e h = any-snoc (λ g. s g && p g h) 0 n ∙ ap (λ (k : ℕ). by n h || (s k && p k h)) (omega arith)
           ∙ ap (λ (b : Bool). by n h || (b && p n h)) e
 
       go : (b : Bool) → s n ≡ b → called_by masks (mask_of s 17) n ≡ mask_of (by n) 17
-          → bit_or (called_by masks (mask_of s 17) n) (if eqb (bit (mask_of s 17) n) 1 then get_or masks n 0 else 0)
+          → bit_or (called_by masks (mask_of s 17) n) (if bit_at (mask_of s 17) n == 1 then slice_index masks n else 0)
           ≡ mask_of (by (suc n)) 17
       go true e ih =
-          ap₂ bit_or ih (ap (λ (b : Bool). if b then get_or masks n 0 else 0) (bit_is true e) ∙ are n (omega arith))
+          ap₂ bit_or ih (ap (λ (b : Bool). if b then slice_index masks n else 0) (bit_is true e) ∙ are n (omega arith))
           ∙ mask-or (by n) (p n) 17
           ∙ mask-alike (λ h. by n h || p n h) (by (suc n)) 17 (λ h m. sym (with-one true e h))
       go false e ih =
-          ap₂ bit_or ih (ap (λ (b : Bool). if b then get_or masks n 0 else 0) (bit_is false e)) ∙ or_zero_r (mask_of (by n) 17)
+          ap₂ bit_or ih (ap (λ (b : Bool). if b then slice_index masks n else 0) (bit_is false e)) ∙ or_zero_r (mask_of (by n) 17)
           ∙ mask-alike (by n) (by (suc n)) 17 (λ h m. or_right (by n h) false refl ∙ sym (with-one false e h))
 
 -- ---- the loops over the masks
 module _ (masks : List ℕ) where
-  pub called-yes : (set g x : ℕ) → x ≡ called_by masks set g → bit set g ≡ 1 → bit_or x (get_or masks g 0) ≡ called_by masks set (g + 1)
+  pub called-yes : (set g x : ℕ) → x ≡ called_by masks set g → bit_at set g ≡ 1 → bit_or x (slice_index masks g) ≡ called_by masks set (g + 1)
   unfolding called_by
   called-yes set g x e o =
-      ap₂ bit_or e (sym (ap (λ (b : Bool). if b then get_or masks g 0 else 0) (eq-eqb (bit set g) 1 o))) ∙ sym
+      ap₂ bit_or e (sym (ap (λ (b : Bool). if b then slice_index masks g else 0) (eq-eqb (bit_at set g) 1 o))) ∙ sym
       (ap (called_by masks set) (add-one g))
 
-  pub called-no : (set g x : ℕ) → x ≡ called_by masks set g → (bit set g ≡ 1 → ⊥) → x ≡ called_by masks set (g + 1)
+  pub called-no : (set g x : ℕ) → x ≡ called_by masks set g → (bit_at set g ≡ 1 → ⊥) → x ≡ called_by masks set (g + 1)
   unfolding called_by
   called-no set g x e n = grind (arith, common_steps, or_zero_r, add-one, ne_eqb)
 
   -- chains of k calls end nowhere
   abbrev pub is_empty_by : ℕ → Bool
-  is_empty_by k = eqb (ends_by masks k) 0
+  is_empty_by k = ends_by masks k == 0
 
   -- the chains of fewer than s calls end somewhere, those of s - 1 in these schemes
   pub record MaskRound (ends s : ℕ) : Type 0 where
@@ -154,14 +153,14 @@ module _ (masks : List ℕ) where
 
     pub round-found : s < 17 → r ≡ 0 → s ≡ longest_by masks
     unfolding longest_by
-    round-found l z = grind (arith, common_steps, lt-ltb, eq-eqb, searching-found, if-true, round-ends)
+    round-found l z = grind (arith, common_steps, lt-ltb, eq-eqb, searching-found, cond-true, round-ends)
 
     pub round-next : s < 17 → (r ≡ 0 → ⊥) → MaskRound r (s + 1)
     round-next l n = grind (arith, common_steps, searching-next, ne_eqb, round-ends)
 
   pub round-over : (ends s : ℕ) → MaskRound ends s → 17 ≤ s → 0 ≡ longest_by masks
   unfolding longest_by
-  round-over ends s h l = grind (arith, common_steps, if-false, searching-over, le-ltb)
+  round-over ends s h l = grind (arith, common_steps, cond-false, searching-over, le-ltb)
 
 -- ---- the rounds
 places-lowest : (c : Chart) → lowest (has_no_end c) 0 16 ≡ places c
@@ -171,7 +170,7 @@ places-lowest c = refl
 module _ (c : Chart) (masks : List ℕ) (e : masks ≡ call_masks c (size c)) where
   pub ends-by : (k : ℕ) → ends_by masks k ≡ mask_of (is_marked (ends_of c k)) 17
   unfolding ends_by
-  ends-by zero = unfold mask_of ends_of some in refl
+  ends-by zero = unfold mask_of ends_of in refl
   ends-by (suc k) =
       ap (λ (set : ℕ). called_by masks set 17) (ends-by k)
       ∙ called-by (is_caller c) (is_marked (ends_of c k)) masks (λ g l. masks-at c (size c) masks e g l ∙ (unfold is_caller in refl)) 17
@@ -179,20 +178,20 @@ module _ (c : Chart) (masks : List ℕ) (e : masks ≡ call_masks c (size c)) wh
       ∙ mask-alike (λ h. any (λ g. is_marked (ends_of c k) g && is_caller c g h) 0 17)
       (is_marked (ends_of c (suc k))) 17 (λ h l. sym (ends-suc c k h l))
 
-  none-by : (k : ℕ) → eqb (ends_by masks k) 0 ≡ has_no_end c k
-  none-by k = ap (λ (x : ℕ). eqb x 0) (ends-by k) ∙ mask-empty (is_marked (ends_of c k)) 17
+  none-by : (k : ℕ) → (ends_by masks k == 0) ≡ has_no_end c k
+  none-by k = ap (λ (x : ℕ). x == 0) (ends-by k) ∙ mask-empty (is_marked (ends_of c k)) 17
 
   pub longest-by : Facts c → longest_by masks ≡ longest_chain c
   unfolding longest_by
-  longest-by f = ap (λ (k : ℕ). if ltb k 17 then k else 0)
-      (lowest-alike (λ k. eqb (ends_by masks k) 0) (has_no_end c) 0 17 (λ k a b. none-by k))
+  longest-by f = ap (λ (k : ℕ). if nat_lt k 17 then k else 0)
+      (lowest-alike (λ k. ends_by masks k == 0) (has_no_end c) 0 17 (λ k a b. none-by k))
       ∙ go (is_circular c) refl
     where
-      go : (b : Bool) → is_circular c ≡ b → (if ltb (lowest (has_no_end c) 0 17) 17 then lowest (has_no_end c) 0 17 else 0)
+      go : (b : Bool) → is_circular c ≡ b → (if nat_lt (lowest (has_no_end c) 0 17) 17 then lowest (has_no_end c) 0 17 else 0)
           ≡ longest_chain c
       go true q =
           let k : lowest (has_no_end c) 0 17 ≡ 17 = lowest-none (has_no_end c) 0 17 (λ k l. circle-long c f (circle-told c q) (0 + k)) in
-          ap (λ (k : ℕ). if ltb k 17 then k else 0) k ∙ sym (ap (λ (b : Bool). if b then 0 else places c) q)
+          ap (λ (k : ℕ). if nat_lt k 17 then k else 0) k ∙ sym (ap (λ (b : Bool). if b then 0 else places c) q)
       go false q =
           let k : lowest (has_no_end c) 0 17 ≡ lowest (has_no_end c) 0 16 = lowest-last (has_no_end c) 0 16 (no-circle-short c f q) in
           ap (λ (b : Bool). if b then lowest (has_no_end c) 0 17 else 0)

@@ -1,7 +1,7 @@
 -- What refusal 20 means: a chain from scheme 1 ends in a scheme that can call itself.
 use Rattle.std.proofs.Common.{ℕ, zero, suc, ◌+◌, ◌-◌, ◌≤◌, ◌<◌, Bool, true, false, not, ◌≡◌, ap, subst, ⊎_elim, [], ◌∷◌, arith}
-use Rattle.words.proofs.lists.Tests.{and_l, and_r, and-true, cases}
-use Rattle.words.proofs.lists.Searches.{any-true, any_some, any_none}
+use Rattle.words.proofs.lists.Tests.{and-l, and-r, and-true, cases}
+use Rattle.words.proofs.lists.Searches.{any-true, any-some, any-none}
 use Rattle.words.specs.graph.Reach.{is_marked, nodes_joined_from}
 use Rattle.words.proofs.graph.Closure.{joined-first, joined-closed}
 use Rattle.words.specs.graph.Paths.{Path, here, on as further, PathFrom}
@@ -31,12 +31,12 @@ module _ (c : Chart) where
   pub circle-told : is_circular c ≡ true → Circle c
   unfolding is_circular
   circle-told e =
-      let r = any_some (is_calling_itself c) 1 16 e in
+      let r = any-some (is_calling_itself c) 1 16 e in
       let h : ℕ = r.0 in
       let reached : Bool = is_marked (nodes_joined_from 17 (calls_of c) (1 ∷ [])) h in
       let back : Bool = is_marked (nodes_joined_from 17 (calls_of c) (calls_of c h)) h in
-      let p : PathFrom 17 (calls_of c) (1 ∷ []) h = joined-path 17 (calls_of c) (1 ∷ []) h (and_l reached back r.3) in
-      let q : PathFrom 17 (calls_of c) (calls_of c h) h = joined-path 17 (calls_of c) (calls_of c h) h (and_r reached back r.3) in
+      let p : PathFrom 17 (calls_of c) (1 ∷ []) h = joined-path 17 (calls_of c) (1 ∷ []) h (and-l reached back r.3) in
+      let q : PathFrom 17 (calls_of c) (calls_of c h) h = joined-path 17 (calls_of c) (calls_of c h) h (and-r reached back r.3) in
       let s : ChainTo h = path-chain (subst (λ (g : ℕ). Path 17 (calls_of c) g h) (one-member p.first p.among) p.path) in
       record {
         scheme = h;
@@ -99,6 +99,6 @@ module _ (c : Chart) (f : Facts c) where
       filled c f k t.end t.chain
 
   pub no-circle-short : is_circular c ≡ false → has_no_end c 16 ≡ true
-  no-circle-short calm = ap not (any_none (is_marked (ends_of c 16)) 0 17 (λ h l. ⊎_elim
+  no-circle-short calm = ap not (any-none (is_marked (ends_of c 16)) 0 17 (λ h l. ⊎_elim
       (λ (m : is_marked (ends_of c 16) (0 + h) ≡ true). absurd (omega (arith, chain-few c f calm 17 (0 + h) (end-chain c 16 (0 + h) m))))
       (λ m. m) (cases (is_marked (ends_of c 16) (0 + h)))))

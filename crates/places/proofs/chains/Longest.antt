@@ -1,16 +1,15 @@
 -- Where no scheme in reach of scheme 1 calls itself, `places` is the number of schemes of the longest chain.
-use Rattle.std.proofs.Common.{ℕ, zero, suc, ◌+◌, ◌-◌, ◌≤◌, ◌<◌, Bool, true, false, ◌&&◌, not, ◌≡◌, refl, sym, ◌∙◌, ap, subst, ⊎_elim, []}
-use Rattle.std.proofs.Common.{◌∷◌, arith, zero-add, eqb, ne_eqb}
+use Rattle.std.proofs.Common.{ℕ, zero, suc, ◌+◌, ◌-◌, ◌≤◌, ◌<◌, Bool, true, false, ◌&&◌, not, ◌≡◌, refl, sym, ◌∙◌, ap, subst, ⊎_elim, [], ◌==◌}
+use Rattle.std.proofs.Common.{◌∷◌, arith, zero-add, ne_eqb}
 use Rattle.std.proofs.lemmas.Grind.{common_steps}
 use Rattle.words.specs.lists.Numbers.{any, lowest}
-use Rattle.words.specs.lists.Sequences.{some}
-use Rattle.words.proofs.lists.Tests.{no_both, or-none, and_l, and_r, and-true, and-false, not-false, cases, split}
-use Rattle.words.proofs.lists.Searches.{any-true, any_some, any_false, lowest-hit, lowest-before}
+use Rattle.words.proofs.lists.Tests.{no_both, or-none, and-l, and-r, and-true, and-false, not-false, cases, split}
+use Rattle.words.proofs.lists.Searches.{any-true, any-some, any-false, lowest-hit, lowest-before}
 use Rattle.words.proofs.lists.Counts.{count-miss}
 use Rattle.words.proofs.lists.Ranges.{length-map-range, get_or-map-range}
 use Rattle.words.specs.graph.Reach.{is_member, is_marked, nodes_joined_from}
-use Rattle.words.proofs.graph.Closure.{marked-below, only-long, only_at, joined-first, joined-closed, joined-least, Closed}
-use Rattle.words.proofs.graph.Rank.{rank, rank-some, rank_falls, marks_after_arcs, with}
+use Rattle.words.proofs.graph.Closure.{marked-below, only-long, only-at, joined-first, joined-closed, joined-least, Closed}
+use Rattle.words.proofs.graph.Rank.{rank, rank-some, rank-falls, marks_after_arcs, with}
 use Rattle.charts.specs.Chart.{Chart}
 use Rattle.walk.proofs.Facts.{Facts}
 use Rattle.places.specs.chains.Calls.{is_caller, calls_of, is_calling_itself, is_circular, ends_of, has_no_end, places}
@@ -18,11 +17,9 @@ use Rattle.places.specs.chains.Chains.{Chain, first, on}
 use Rattle.places.proofs.chains.CallLaws.{calls-true, true-calls, calls-member, member-calls, called-range}
 
 pub one-member : (h : ℕ) → is_member h (1 ∷ []) ≡ true → h ≡ 1
-unfolding some
 one-member h m = grind (arith, common_steps)
 
 one-is : is_member 1 (1 ∷ []) ≡ true
-unfolding some
 one-is = refl
 
 pub chain-some : (c : Chart) {n h : ℕ} → Chain c n h → 1 ≤ n
@@ -49,19 +46,19 @@ module _ (c : Chart) where
   unfolding ends_of
   end-chain zero h m =
       let l : h < 17 = ends-below 0 h m in
-      subst (Chain c 1) (sym (one-member h (sym (only_at 17 (1 ∷ []) h l) ∙ m))) first
+      subst (Chain c 1) (sym (one-member h (sym (only-at 17 (1 ∷ []) h l) ∙ m))) first
   end-chain (suc k) h m =
       let l : h < 17 = ends-below (suc k) h m in
-      let r = any_some (is_end_calling k h) 0 17 (sym (ends-suc k h l) ∙ m) in
+      let r = any-some (is_end_calling k h) 0 17 (sym (ends-suc k h l) ∙ m) in
       let g : ℕ = r.0 in
-      on (end-chain k g (and_l (is_marked (ends_of c k) g) (is_caller c g h) r.3))
-      (true-calls c g h (and_r (is_marked (ends_of c k) g) (is_caller c g h) r.3))
+      on (end-chain k g (and-l (is_marked (ends_of c k) g) (is_caller c g h) r.3))
+      (true-calls c g h (and-r (is_marked (ends_of c k) g) (is_caller c g h) r.3))
 
   module _ (f : Facts c) where
     -- and every chain has its end marked
     pub chain-end : (k h : ℕ) → Chain c (suc k) h → is_marked (ends_of c k) h ≡ true
     unfolding ends_of
-    chain-end zero h first = only_at 17 (1 ∷ []) 1 (omega arith) ∙ one-is
+    chain-end zero h first = only-at 17 (1 ∷ []) 1 (omega arith) ∙ one-is
     chain-end zero h (on s k) = absurd (omega (arith, chain-some c s))
     chain-end (suc k) h (on {m} {g} s call) =
         let r = called-range c f g h call in
@@ -102,7 +99,7 @@ module _ (c : Chart) where
         (chain-reached m g s) (calls-member c g h (omega (arith, r)) call)
 
     abbrev nonzero : ℕ → Bool
-    nonzero h = not (eqb h 0)
+    nonzero h = not (h == 0)
 
     never-zero : Closed 17 (calls_of c) nonzero
     never-zero = record {
@@ -122,20 +119,20 @@ module _ (c : Chart) where
     unfolding rank
     rank_most =
         let l : rank 17 (calls_of c) 1 < 17 = count-miss (with 17 (calls_of c) 1) 17 0 (omega arith)
-        (or-none (eqb 1 0) (is_marked (marks_after_arcs 17 (calls_of c) 1) 0) refl (unjoined 1)) in omega arith
+        (or-none (1 == 0) (is_marked (marks_after_arcs 17 (calls_of c) 1) 0) refl (unjoined 1)) in omega arith
 
     module _ (calm : is_circular c ≡ false) where
       no_return : (h : ℕ) → 1 ≤ h → h ≤ 16 → reached h ≡ true → is_marked (marks_after_arcs 17 (calls_of c) h) h ≡ false
       unfolding is_circular
       no_return h a b m = and-false (reached h) (is_marked (marks_after_arcs 17 (calls_of c) h) h)
-          (any_false (is_calling_itself c) 1 16 calm h a (omega arith)) m
+          (any-false (is_calling_itself c) 1 16 calm h a (omega arith)) m
 
       falls : (n h : ℕ) → Chain c n h → rank 17 (calls_of c) h + n ≤ rank 17 (calls_of c) 1 + 1
       falls n h first = omega arith
       falls n h (on {m} {g} s call) =
           let r = called-range c f g h call in
           let l : rank 17 (calls_of c) h < rank 17 (calls_of c) g =
-          rank_falls 17 (calls_of c) g h (omega (arith, r)) (omega (arith, r)) (calls-member c g h (omega (arith, r)) call)
+          rank-falls 17 (calls_of c) g h (omega (arith, r)) (omega (arith, r)) (calls-member c g h (omega (arith, r)) call)
           (no_return g r.0 r.1 (chain-reached m g s)) in
           omega (arith, falls m g s)
 
@@ -152,9 +149,9 @@ module _ (c : Chart) where
           (ap (has_no_end c) z ∙ filled 0 1 first))
           (split 0 (lowest (has_no_end c) 0 16))
 
-      pub no_longer : (n h : ℕ) → Chain c n h → n ≤ places c
+      pub no-longer : (n h : ℕ) → Chain c n h → n ≤ places c
       unfolding places
-      no_longer n h s = ⊎_elim
+      no-longer n h s = ⊎_elim
           (λ (l : lowest (has_no_end c) 0 16 < n).
           let e : n ≡ suc (lowest (has_no_end c) 0 16) + (n - suc (lowest (has_no_end c) 0 16)) = omega arith in
           let t : Front (suc (lowest (has_no_end c) 0 16)) =
@@ -164,11 +161,11 @@ module _ (c : Chart) where
           (filled (lowest (has_no_end c) 0 16) t.end t.chain))
           (λ l. l) (split (lowest (has_no_end c) 0 16) n)
 
-      pub as_long : Front (places c)
+      pub as-long : Front (places c)
       unfolding places
-      as_long =
+      as-long =
           let k : ℕ = places c - 1 in
           let e : suc k ≡ places c = omega (arith, places-some) in
-          let r = any_some (is_marked (ends_of c k)) 0 17 (not-false (any (is_marked (ends_of c k)) 0 17)
+          let r = any-some (is_marked (ends_of c k)) 0 17 (not-false (any (is_marked (ends_of c k)) 0 17)
           (lowest-before (has_no_end c) 0 16 k (omega arith) (omega (arith, places-some)))) in
           record { end = r.0; chain = subst (λ (m : ℕ). Chain c m r.0) e (end-chain k r.0 r.3) }

@@ -1,7 +1,6 @@
 -- Which schemes call which; the longest chain of their calls that begins at scheme 1, and refusal 20.
-use Rattle.std.specs.Prelude.{ℕ, zero, suc, Bool, ◌&&◌, ◌||◌, not, List, [], ◌∷◌, map, eqb}
+use Rattle.std.specs.Prelude.{ℕ, zero, suc, Bool, ◌&&◌, ◌||◌, not, List, [], ◌∷◌, map, ◌==◌, filter}
 use Rattle.words.specs.lists.Numbers.{range, lowest, any}
-use Rattle.words.specs.lists.Sequences.{filter}
 use Rattle.words.specs.graph.Reach.{is_marked, only_marks, nodes_joined_from}
 use Rattle.text.specs.declared.frames.sizes.TheConstants.{SCHEMES}
 use Rattle.text.specs.frames.Frame.{size}
@@ -10,10 +9,10 @@ use Rattle.charts.specs.Chart.{Chart, scheme, argument, is}
 
 -- a function, or an operation that calls a scheme
 abbrev pub has_call : Chart → ℕ → Bool
-has_call c v = is c FUNCTION v || (is c OPERATION v && not (eqb (argument c v) 0))
+has_call c v = is c FUNCTION v || (is c OPERATION v && not (argument c v == 0))
 
 abbrev pub is_call_of : Chart → ℕ → ℕ → ℕ → Bool
-is_call_of c g h v = has_call c v && (eqb (scheme c v) g && eqb (argument c v) h)
+is_call_of c g h v = has_call c v && (scheme c v == g && argument c v == h)
 
 -- a node of scheme g holds a call of scheme h, whether or not words lead to it
 unfoldable pub is_caller : Chart → ℕ → ℕ → Bool

@@ -1,8 +1,9 @@
 -- The answers of a priced run, by what its parts give.
-use Rattle.std.proofs.Common.{ℕ, ◌≤◌, ◌<◌, Bool, true, false, ◌≡◌, refl, sym, ◌∙◌, ap, ◌⊎◌, inl, inr, List, [], arith, ltb, length, take}
+use Rattle.std.proofs.Common.{ℕ, ◌≤◌, ◌<◌, Bool, true, false, ◌≡◌, refl, sym, ◌∙◌, ap, ◌⊎◌, inl, inr, List, [], arith, length, take}
 use Rattle.std.proofs.Common.{lt-ltb, le-ltb, Ok, Err, if◌then◌else◌}
 use Rattle.std.proofs.lemmas.Grind.{common_steps}
-use Rattle.words.proofs.lists.Tests.{or-none, if-true, if-false, split}
+use Rattle.std.proofs.lemmas.Bool.{cond-true, cond-false}
+use Rattle.words.proofs.lists.Tests.{or-none, split}
 use Rattle.text.specs.frames.Frame.{contents}
 use Rattle.text.specs.frames.Verdict.{Verdict, fine, refused, next, when}
 use Rattle.text.specs.frames.Answer.{Answer, reply_number, reply, verdict_reply, reply_count}
@@ -114,7 +115,7 @@ module _ (t before prices ws ms ks : List ℕ) where
     many-priced a e = rw many_is (go (image_verdict t) (is_unfit (decoded_image (contents t)) s₀) e)
       where
         kept : (r : RunOutcome) → before ≡ (if has_too_many_words ws then before else bytes_after before r)
-        kept r = sym (if-true (has_too_many_words ws) before (bytes_after before r) (lt-ltb 65536 (length ws) more))
+        kept r = sym (cond-true (has_too_many_words ws) before (bytes_after before r) (lt-ltb 65536 (length ws) more))
 
         go : (v : Verdict) (b : Bool) → reply a ≡ verdict_reply (many v b) 0
             → GivesPricedRunOn (priced_outcome_by (many v b)) ws before (record { answer = a; price = 0 }) before ms ks
@@ -127,7 +128,7 @@ module _ (t before prices ws ms ks : List ℕ) where
     pub run-priced : (p : ℕ) → p ≡ price prices (take n us)
         → GivesPricedRunOn whole ws before (record { answer = a; price = p }) after us vs
     unfolding bytes_priced
-    run-priced p e = grind (arith, common_steps, by-the-masks, if-false, le-ltb, does-all)
+    run-priced p e = grind (arith, common_steps, by-the-masks, cond-false, le-ltb, does-all)
 
   -- what the bytes then hold is the state that it hands back
   pub priced-held : state_of (bytes_priced ws before whole.run) ≡ whole.run.state
@@ -138,7 +139,7 @@ module _ (t before prices ws ms ks : List ℕ) where
       old r = bytes_after before r
 
       go : (65536 < length ws) ⊎ (length ws ≤ 65536) → state_of (if has_too_many_words ws then before else old whole.run) ≡ whole.run.state
-      go (inl more) = ap state_of (if-true (has_too_many_words ws) before (old whole.run) (lt-ltb 65536 (length ws) more))
+      go (inl more) = ap state_of (cond-true (has_too_many_words ws) before (old whole.run) (lt-ltb 65536 (length ws) more))
           ∙ sym (ap (λ (x : PricedOutcome). x.run.state) (many_is more) ∙ kept (image_verdict t) (is_unfit (decoded_image (contents t)) s₀))
         where
           kept : (v : Verdict) (b : Bool) → (priced_outcome_by (many v b)).run.state ≡ s₀
@@ -146,7 +147,7 @@ module _ (t before prices ws ms ks : List ℕ) where
           kept fine true = refl
           kept fine false = refl
       go (inr few) =
-          ap state_of (if-false (has_too_many_words ws) before (old whole.run) (le-ltb 65536 (length ws) few))
+          ap state_of (cond-false (has_too_many_words ws) before (old whole.run) (le-ltb 65536 (length ws) few))
           ∙ run-held before (decoded_image (contents t)) ws ms ks (priced_verdict t s₀ ws ms ks)
 
 -- ---- more words than are priced, where a run of none succeeds

@@ -9,7 +9,7 @@ use Rattle.text.proofs.frames.Chains.{replied-count}
 use Rattle.image.specs.Decode.{decoded_image}
 use Rattle.state.specs.declared.State.{State}
 use Rattle.runs.specs.Run.{MachineRun, ticks, run_on, run_verdict, run}
-use Rattle.runs.proofs.RunCounts.{same_count}
+use Rattle.runs.proofs.RunCounts.{same-count}
 use Rattle.prices.specs.Prices.{hundredths, price}
 use Rattle.prices.specs.priced_runs.PricedRun.{priced_verdict, price_on, priced_run}
 use Rattle.prices.specs.Promises.{DoesAll, ByTheMasks}
@@ -35,4 +35,4 @@ pub by-the-masks : ByTheMasks
 unfolding priced_run
 by-the-masks t s prices words masks codes =
     masks-by prices s masks codes (priced_verdict t s words masks codes) (ticks (decoded_image (contents t)) s words)
-    (same_count (decoded_image (contents t)) words s)
+    (same-count (decoded_image (contents t)) words s)

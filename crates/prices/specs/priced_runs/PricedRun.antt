@@ -1,5 +1,5 @@
 -- A priced run: a run of at most 65,536 words, and the price of the masks that its ticks have.
-use Rattle.std.specs.Prelude.{ℕ, Bool, ◌≡◌, List, ltb, length}
+use Rattle.std.specs.Prelude.{ℕ, Bool, ◌≡◌, List, length, nat_lt}
 use Rattle.text.specs.frames.Sizes.{WORDS}
 use Rattle.text.specs.declared.frames.refusals.TheConstants.{UNFIT, NO_ROOM, MANY_WORDS}
 use Rattle.text.specs.frames.Frame.{contents}
@@ -15,7 +15,7 @@ use Rattle.prices.specs.declared.priced_runs.PricedStateReport.{PricedStateRepor
 
 -- more words than are priced
 abbrev pub has_too_many_words : List ℕ → Bool
-has_too_many_words words = ltb WORDS (length words)
+has_too_many_words words = nat_lt WORDS (length words)
 
 -- what a run tries before 16, then 27, then 16
 abbrev pub in_turn : Verdict → Bool → Bool → Bool → Verdict

@@ -5,10 +5,11 @@ use mathlib.Core.Path.{◌≡◌, refl, sym, ◌∙◌, subst}
 use mathlib.Core.Logic.{◌↔◌}
 use mathlib.Core.List.{List}
 use native.Mathlib.Omega.{arith}
-use lib.ListN.{length, get_or, drop, get_or-append}
+use Rattle.std.proofs.Common.{slice_index}
+use lib.ListN.{length, drop, get_or-append}
 use Rattle.words.specs.lists.Numbers.{tabulate}
 use Rattle.words.specs.lists.Sequences.{over}
-use Rattle.words.proofs.lists.Tabulated.{length-tabulate, get_d_tabulate}
+use Rattle.words.proofs.lists.Tabulated.{length-tabulate, get_d-tabulate}
 use Rattle.text.specs.frames.Frame.{contents}
 use Rattle.text.specs.frames.Verdict.{Verdict, fine, refused, next, when}
 use Rattle.text.specs.frames.Answer.{success}
@@ -20,9 +21,9 @@ use Rattle.rows.specs.listing.Listing.{row_count_of, first_of, first_rows, row_c
 use Rattle.rows.specs.listing.Exact.{Own, Exactly, Held, HeldOnSuccess}
 use Rattle.rows.proofs.listing.Laws.{exactly}
 
-front : (f : ℕ → ℕ) (n : ℕ) (old : List ℕ) (l : ℕ) → l < n → get_or (over (tabulate f n) old) l 0 ≡ f l
+front : (f : ℕ → ℕ) (n : ℕ) (old : List ℕ) (l : ℕ) → l < n → slice_index (over (tabulate f n) old) l ≡ f l
 front f n old l h =
-    get_or-append (tabulate f n) (drop (length (tabulate f n)) old) 0 l (omega (arith, length-tabulate f n)) ∙ get_d_tabulate f n l h
+    get_or-append (tabulate f n) (drop (length (tabulate f n)) old) 0 l (omega (arith, length-tabulate f n)) ∙ get_d-tabulate f n l h
 
 -- the image check's verdict, and whether a buffer has too little room
 abbrev answer : Image → List ℕ → List ℕ → Verdict → Bool → ListingOutcome
@@ -31,8 +32,8 @@ answer i xs ys v u = listing_on (next v λ _. when 16 u) (λ _. i) xs ys
 record Succeeded (i : Image) (v : Verdict) (x : ListingOutcome) (n : ℕ) : Type 0 where
   passes : v ≡ fine
   labels : n ≡ length i.labels
-  first : (l : ℕ) → l < n → get_or x.firsts l 0 ≡ first_of i l
-  number : (l : ℕ) → l < n → get_or x.counts l 0 ≡ row_count_of i l
+  first : (l : ℕ) → l < n → slice_index x.firsts l ≡ first_of i l
+  number : (l : ℕ) → l < n → slice_index x.counts l ≡ row_count_of i l
 
 succeeded : (i : Image) (xs ys : List ℕ) (v : Verdict) (u : Bool) (n : ℕ) → (answer i xs ys v u).reply ≡ success n
     → Succeeded i v (answer i xs ys v u) n
@@ -69,7 +70,7 @@ module _ (t xs ys : List ℕ) (n : ℕ) where
         labels = x.labels;
         first = x.first;
         number = x.number;
-        exactly = λ l k h. subst (λ (f : ℕ). Own i l k ↔ ((f ≤ k) × (k < f + get_or (list t xs ys).counts l 0))) (sym (x.first l h))
+        exactly = λ l k h. subst (λ (f : ℕ). Own i l k ↔ ((f ≤ k) × (k < f + slice_index (list t xs ys).counts l))) (sym (x.first l h))
             (subst (λ (m : ℕ). Own i l k ↔ ((first_of i l ≤ k) × (k < first_of i l + m))) (sym (x.number l h)) (own x.passes l k));
       }
 

@@ -2,7 +2,8 @@
 use Rattle.std.proofs.Common.{if◌then◌else◌, ℕ, zero, suc, ◌+◌, ◌-◌, ◌≤◌, ◌<◌, min, max, Bool, true, false, ◌≡◌, ◌⊎◌, inl, inr, arith}
 use Rattle.std.proofs.lemmas.Grind.{common_steps}
 use Rattle.words.specs.lists.Numbers.{lowest, count}
-use Rattle.words.proofs.lists.Tests.{no_both, if-true, if-false, split}
+use Rattle.std.proofs.lemmas.Bool.{cond-true, cond-false}
+use Rattle.words.proofs.lists.Tests.{no_both, split}
 use Rattle.words.proofs.lists.Counts.{count-suc}
 use Rattle.words.proofs.lists.Searches.{lowest-hit, lowest-before}
 
@@ -16,7 +17,7 @@ module _ (p : ℕ → Bool) (all a e : ℕ) (t : Between p all a e) where
   count-from : (n i : ℕ) → i + n ≤ all → count p i n ≡ min e (i + n) - max a i
   unfolding count
   count-from zero i h = grind (arith, common_steps)
-  count-from (suc n) i h = grind (arith, common_steps, count-from n (suc i) (omega arith), split, if-false, count-suc, if-true)
+  count-from (suc n) i h = grind (arith, common_steps, count-from n (suc i) (omega arith), split, cond-false, count-suc, cond-true)
 
   pub count-between : count p 0 all ≡ e - a
   count-between = omega (arith, count-from all 0 (omega arith), t.order, t.most)

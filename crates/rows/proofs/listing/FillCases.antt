@@ -1,10 +1,10 @@
 -- The listing of a table, one label after the other into two buffers, and 16 before it.
-use Rattle.std.proofs.Common.{ℕ, ◌+◌, ◌≤◌, ◌<◌, Bool, true, false, ◌≡◌, sym, ◌∙◌, ap, subst, List, zero-add, arith, ltb, length, set}
+use Rattle.std.proofs.Common.{ℕ, ◌+◌, ◌≤◌, ◌<◌, Bool, true, false, ◌≡◌, sym, ◌∙◌, ap, subst, List, zero-add, arith, length, set, nat_lt}
 use Rattle.std.proofs.Common.{lt-ltb, le-ltb, Ok, Err}
 use Rattle.std.proofs.lemmas.Grind.{common_steps}
 use Rattle.words.specs.lists.Numbers.{tabulate}
 use Rattle.words.specs.lists.Sequences.{over}
-use Rattle.words.proofs.lists.Tests.{or-true-l, or_true_r, or-none}
+use Rattle.words.proofs.lists.Tests.{or-true-l, or-true-r, or-none}
 use Rattle.words.proofs.lists.Written.{written-front}
 use Rattle.words.proofs.lists.Fills.{ValuesFrom, values-none, values-turn, values-all}
 use Rattle.text.specs.frames.Verdict.{when}
@@ -69,15 +69,15 @@ module _ (b xs ys : List ℕ) (n : ℕ) (is : n ≡ last_label b + 1) where
   }
 
   pub firsts-short : length xs < n → GivesListing (list_table b xs ys) (Err NoRoom) xs ys
-  firsts-short h = full (or-true-l (ltb (length xs) n) (ltb (length ys) n) (lt-ltb (length xs) n h))
+  firsts-short h = full (or-true-l (nat_lt (length xs) n) (nat_lt (length ys) n) (lt-ltb (length xs) n h))
 
   pub counts-short : length ys < n → GivesListing (list_table b xs ys) (Err NoRoom) xs ys
-  counts-short h = full (or_true_r (ltb (length xs) n) (ltb (length ys) n) (lt-ltb (length ys) n h))
+  counts-short h = full (or-true-r (nat_lt (length xs) n) (nat_lt (length ys) n) (lt-ltb (length ys) n h))
 
   pub listed : n ≤ length xs → n ≤ length ys → (xs' ys' : List ℕ) → (xs' ≡ over (first_rows image) xs) × (ys' ≡ over (row_counts image) ys)
       → GivesListing (list_table b xs ys) (Ok n) xs' ys'
   listed p q xs' ys' (x, y) =
-      let g = by-room false (or-none (ltb (length xs) n) (ltb (length ys) n) (le-ltb (length xs) n p) (le-ltb (length ys) n q)) in
+      let g = by-room false (or-none (nat_lt (length xs) n) (nat_lt (length ys) n) (le-ltb (length xs) n p) (le-ltb (length ys) n q)) in
       record {
         answered = ap success count ∙ sym (ap (λ (x : ListingOutcome). x.reply) g);
         firsts = x ∙ sym (ap (λ (x : ListingOutcome). x.firsts) g);

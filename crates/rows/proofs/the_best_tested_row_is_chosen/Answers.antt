@@ -1,5 +1,5 @@
 use Rattle.rows.proofs.the_best_tested_row_is_chosen.Goals as goal
-use Rattle.rows.proofs.BestRows.{best-is, is-best, none-matches, best_none}
+use Rattle.rows.proofs.BestRows.{best-is, is-best, none-matches, best-none}
 
 pub returns-clause-chosen_is_best : goal.returns-clause-chosen_is_best
 returns-clause-chosen_is_best c = best-is
@@ -11,4 +11,4 @@ pub returns-clause-none_matches : goal.returns-clause-none_matches
 returns-clause-none_matches c = none-matches
 
 pub returns-clause-none_chosen : goal.returns-clause-none_chosen
-returns-clause-none_chosen c l w b k rs = best_none l w b k rs
+returns-clause-none_chosen c l w b k rs = best-none l w b k rs

@@ -1,5 +1,5 @@
 -- What the search for a row among the frames of a table asks and promises.
-use Rattle.std.specs.Prelude.{ℕ, ◌+◌, ◌*◌, ◌/◌, ◌%◌, Bool, ◌&&◌, ◌||◌, ◌≡◌, List, ltb, eqb, if◌then◌else◌}
+use Rattle.std.specs.Prelude.{ℕ, ◌+◌, ◌*◌, ◌/◌, ◌%◌, Bool, ◌&&◌, ◌||◌, ◌≡◌, List, if◌then◌else◌, nat_lt, ◌==◌}
 use Rattle.words.specs.bits.Word.{is_agreeing}
 use Rattle.text.specs.frames.Frame.{size, field, pair_at}
 use Rattle.image.specs.declared.layout.TheConstants.{CARE, VALUES, FUNCTION_BIT, NO_BIT, FUNCTION_CALL}
@@ -15,11 +15,11 @@ swapped_word w = w % 256 * 256 + w / 256
 -- the row in frame f matches, whatever label it leaves; bit 2 says that no bit decides
 abbrev pub is_matching_frame : List ℕ → ℕ → ℕ → ℕ → Bool
 is_matching_frame b w bit f = is_agreeing w (pair_at b f CARE) (pair_at b f VALUES)
-    && (eqb bit NO_BIT || (eqb (field b f FUNCTION_BIT) NO_BIT || eqb (field b f FUNCTION_BIT) bit))
+    && (bit == NO_BIT || (field b f FUNCTION_BIT == NO_BIT || field b f FUNCTION_BIT == bit))
 
 -- what a search among the rows of label l chose: the row in frame f, or none where that is past the table
 abbrev pub found_at : List ℕ → ℕ → ℕ → Choice
-found_at b l f = if ltb f (size b) then row f (row_on b l f) else no_choice
+found_at b l f = if nat_lt f (size b) then row f (row_on b l f) else no_choice
 
 -- r is the better of the row in frame best, none where that is past the table, and the later one in frame f, whatever label they leave
 abbrev pub BetterOf : List ℕ → ℕ → ℕ → ℕ → Type 0

@@ -1,5 +1,5 @@
 -- What the listing is, said without a count or a search, of every accepted image; and by the frames of the table that its ticks look at.
-use Rattle.std.specs.Prelude.{ℕ, ◌+◌, ◌≤◌, ◌<◌, ◌≡◌, ◌↔◌, List, length, get_or, take, drop}
+use Rattle.std.specs.Prelude.{ℕ, ◌+◌, ◌≤◌, ◌<◌, ◌≡◌, ◌↔◌, List, length, take, drop, slice_index}
 use Rattle.text.specs.frames.Frame.{contents}
 use Rattle.text.specs.frames.Verdict.{fine}
 use Rattle.text.specs.frames.Answer.{success}
@@ -35,10 +35,10 @@ LowZero = (t : List ℕ) → image_verdict t ≡ fine → (l : ℕ) → l < 2 �
 pub record Held (t firsts counts : List ℕ) (n : ℕ) : Type 0 where
   pub accepted : image_verdict t ≡ fine
   pub labels : n ≡ length (decoded_image (contents t)).labels
-  pub first : (l : ℕ) → l < n → get_or firsts l 0 ≡ first_of (decoded_image (contents t)) l
-  pub number : (l : ℕ) → l < n → get_or counts l 0 ≡ row_count_of (decoded_image (contents t)) l
+  pub first : (l : ℕ) → l < n → slice_index firsts l ≡ first_of (decoded_image (contents t)) l
+  pub number : (l : ℕ) → l < n → slice_index counts l ≡ row_count_of (decoded_image (contents t)) l
   pub exactly : (l k : ℕ) → l < n
-      → Own (decoded_image (contents t)) l k ↔ ((get_or firsts l 0 ≤ k) × (k < get_or firsts l 0 + get_or counts l 0))
+      → Own (decoded_image (contents t)) l k ↔ ((slice_index firsts l ≤ k) × (k < slice_index firsts l + slice_index counts l))
 
 -- so they are whenever the entry point succeeds
 unfoldable pub HeldOnSuccess : Type 0

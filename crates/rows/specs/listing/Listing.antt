@@ -1,5 +1,5 @@
 -- The rows of each label of an image: the first one's number and how many there are; refusal 16.
-use Rattle.std.specs.Prelude.{ℕ, ◌+◌, Bool, ◌||◌, ◌≡◌, List, ltb, eqb, length, if◌then◌else◌}
+use Rattle.std.specs.Prelude.{ℕ, ◌+◌, Bool, ◌||◌, ◌≡◌, List, length, if◌then◌else◌, nat_lt, ◌==◌}
 use Rattle.words.specs.lists.Numbers.{tabulate, lowest, count}
 use Rattle.words.specs.lists.Sequences.{over}
 use Rattle.text.specs.declared.frames.refusals.TheConstants.{NO_ROOM}
@@ -12,13 +12,13 @@ use Rattle.image.specs.Check.{image_verdict}
 
 -- row k leaves label l
 abbrev pub is_row_leaving : Image → ℕ → ℕ → Bool
-is_row_leaving i l k = eqb (nth_row i k).from l
+is_row_leaving i l k = (nth_row i k).from == l
 
 abbrev pub row_count_of : Image → ℕ → ℕ
 row_count_of i l = count (is_row_leaving i l) 0 (length i.rows)
 
 abbrev pub first_of : Image → ℕ → ℕ
-first_of i l = if eqb (row_count_of i l) 0 then 0 else lowest (is_row_leaving i l) 0 (length i.rows)
+first_of i l = if row_count_of i l == 0 then 0 else lowest (is_row_leaving i l) 0 (length i.rows)
 
 -- of the labels 0 to M
 unfoldable pub first_rows : Image → List ℕ
@@ -43,7 +43,7 @@ listing_on fine go old₁ old₂ = let i = go tt in record {
 
 -- less room in a buffer than labels
 abbrev pub has_no_room_for : ℕ → List ℕ → List ℕ → Bool
-has_no_room_for n old₁ old₂ = ltb (length old₁) n || ltb (length old₂) n
+has_no_room_for n old₁ old₂ = nat_lt (length old₁) n || nat_lt (length old₂) n
 
 -- what the image check tries, then 16
 unfoldable pub list : List ℕ → List ℕ → List ℕ → ListingOutcome

@@ -1,13 +1,13 @@
 -- What the bytes hold after a run or a tick in place is the state that it hands back.
 use Rattle.std.proofs.Common.{if◌then◌else◌, ℕ, ◌≡◌, refl, ap, ◌∙◌, Bool, true, false, List, [], ◌∷◌, length, arith}
 use Rattle.std.proofs.lemmas.Grind.{common_steps}
-use Rattle.words.proofs.lists.Tests.{if-false}
+use Rattle.std.proofs.lemmas.Bool.{cond-false}
 use Rattle.text.specs.frames.Verdict.{Verdict, fine, refused}
 use Rattle.text.specs.frames.Answer.{reply_number, counted_reply}
 use Rattle.image.specs.Image.{Image}
 use Rattle.state.specs.declared.State.{State}
 use Rattle.state.specs.Bytes.{state_of, bytes_of}
-use Rattle.state.proofs.ResultBytes.{state-back, held-sized, held-bits, held_back}
+use Rattle.state.proofs.ResultBytes.{state-back, held-sized, held-bits, held-back}
 use Rattle.runs.specs.Run.{MachineRun, ticks, run_on}
 use Rattle.runs.specs.TickOutcome.{TickOutcome, tick_outcome}
 use Rattle.runs.specs.InPlace.{is_without_change, bytes_after, if_ticked}
@@ -22,7 +22,7 @@ module _ (b : List ℕ) where
   -- the bytes as they were, or those of the state that they hold
   left : (t : Bool) → state_of (if t then b else bytes_of s) ≡ s
   left true = refl
-  left false = held_back b
+  left false = held-back b
 
   -- a state whose lists are as long
   back : (t : State) → Same s t → state_of (bytes_of t) ≡ t
@@ -36,7 +36,7 @@ module _ (b : List ℕ) where
         → state_of (if is_without_change (reply_number (counted_reply v n)) then b else bytes_of ran.state) ≡ ran.state
     ran-held fine l n = back ran.state (ticks-same i ws s)
     ran-held (refused k j) l n =
-        ap state_of (if-false (is_without_change k) b (bytes_of ran.state) (late-writes k l.0)) ∙ back ran.state (ticks-same i ws s)
+        ap state_of (cond-false (is_without_change k) b (bytes_of ran.state) (late-writes k l.0)) ∙ back ran.state (ticks-same i ws s)
 
     pub run-held : (v : Verdict) → state_of (bytes_after b (run_on v (λ _. ran) s ms ks)) ≡ (run_on v (λ _. ran) s ms ks).state
     unfolding bytes_after
@@ -50,5 +50,5 @@ module _ (b : List ℕ) where
 
     pub tick-held : (v : Verdict) → state_of (if_ticked (one v) (bytes_of (one v).state) b) ≡ (one v).state
     unfolding ticks
-    tick-held (refused k j) = grind (arith, common_steps, held_back)
-    tick-held fine = grind (arith, common_steps, held_back, tick-normal, back)
+    tick-held (refused k j) = grind (arith, common_steps, held-back)
+    tick-held fine = grind (arith, common_steps, held-back, tick-normal, back)

@@ -50,11 +50,11 @@ module _ (state : State) (sized : Sized state) (bits : length state.bits ≡ 16)
           state = q ∙ ap state_of x.bytes ∙ tick-held bytes i w (v (state_of bytes));
         })
 
-    pub run_value : (t ws ms ks : List ℕ) (a : Answer) (after us vs : List ℕ) (u : State) → u ≡ state_of after
+    pub run-value : (t ws ms ks : List ℕ) (a : Answer) (after us vs : List ℕ) (u : State) → u ≡ state_of after
         → GivesRunOn (run t (state_of bytes) ws ms ks) bytes a after us vs
         → GivesRun (run t state ws ms ks) (record { answer = a; state = u }) us vs
     unfolding run
-    run_value t ws ms ks = value-run (decoded_image (contents t)) (λ s. run_verdict t s ws ms ks) ws ms ks
+    run-value t ws ms ks = value-run (decoded_image (contents t)) (λ s. run_verdict t s ws ms ks) ws ms ks
 
     pub live-run-value : (b ws ms ks : List ℕ) (a : Answer) (after us vs : List ℕ) (u : State) → u ≡ state_of after
         → GivesRunOn (live_run b (state_of bytes) ws ms ks) bytes a after us vs

@@ -1,9 +1,9 @@
 -- A call on bytes, from a head that is refused or from the turn of the part that is the spindle's state.
-use Rattle.std.proofs.Common.{if◌then◌else◌, ℕ, ◌*◌, ◌≤◌, ◌<◌, ◌≡◌, sym, ◌∙◌, ap, subst, Bool, true, false, List, arith, eqb, length}
+use Rattle.std.proofs.Common.{if◌then◌else◌, ℕ, ◌*◌, ◌≤◌, ◌<◌, ◌≡◌, sym, ◌∙◌, ap, subst, Bool, true, false, List, arith, length, ◌==◌}
 use Rattle.std.proofs.Common.{get_or-set_same}
 use Rattle.std.proofs.lemmas.Grind.{common_steps}
 use Rattle.words.specs.lists.Sequences.{written}
-use Rattle.words.proofs.lists.Tests.{if-true, if-false}
+use Rattle.std.proofs.lemmas.Bool.{cond-true, cond-false}
 use Rattle.text.specs.frames.Verdict.{Verdict, fine, refused, when}
 use Rattle.text.specs.frames.Answer.{reply_number}
 use Rattle.image.specs.Check.{image_verdict}
@@ -59,7 +59,7 @@ module _ (b : List ℕ) (taken k : ℕ) (r : SpinReport) where
         → GivesSpinOn (spin_in_parts v (states_of b) taken k x) b k r b
     head-by bad v l x z =
         subst (λ (y : SpinOutcome). GivesSpinOn y b k r b)
-        (sym (if-true (is_bad_spin_call (length (states_of b)) k) (head_spun (refused_head v k) (states_of b) taken)
+        (sym (cond-true (is_bad_spin_call (length (states_of b)) k) (head_spun (refused_head v k) (states_of b) taken)
         (turn_spun (states_of b) k (turn v (state_at (states_of b) k) (four_depths (states_of b)) taken x)) (test-is ∙ bad)))
         (head-spins (refused_head v k) (head-numbered v k l) (head-refused v k) z)
 
@@ -91,8 +91,8 @@ module _ (b : List ℕ) (taken k : ℕ) (r : SpinReport) where
       is_held = ap state_of parted ∙ sym (state-is b long k low)
 
       -- what is written of a turn
-      put-by : (y : TurnOutcome) → part' ≡ (if eqb (reply_number y.reply) 0 then bytes_of y.state else part)
-          → after ≡ (if eqb (reply_number y.reply) 0 then written b (130 * k) (bytes_of y.state) else b)
+      put-by : (y : TurnOutcome) → part' ≡ (if reply_number y.reply == 0 then bytes_of y.state else part)
+          → after ≡ (if reply_number y.reply == 0 then written b (130 * k) (bytes_of y.state) else b)
       put-by y e = grind (arith, common_steps, part-back, long, low)
 
       turn-spins : (y : TurnOutcome) → GivesTurnOn y part r part' → GivesSpinOn (turn_spun (states_of b) k y) b k r after
@@ -101,7 +101,7 @@ module _ (b : List ℕ) (taken k : ℕ) (r : SpinReport) where
 
       turn_by : (v : Verdict) (go : State → TickOutcome) → GivesTurnOn (turn v (state_of part) sum taken (go (state_of part))) part r part'
           → GivesSpinOn (spin_in_parts v (states_of b) taken k (go s)) b k r after
-      turn_by v go z = grind (arith, common_steps, depths-are, if-false, test-is, long, is_held, turn-spins)
+      turn_by v go z = grind (arith, common_steps, depths-are, cond-false, test-is, long, is_held, turn-spins)
 
       pub image-spins : (image : List ℕ) (w : ℕ)
           → GivesTurnOn (turn (image_verdict image) (state_of part) sum taken (image_tick image (state_of part) w)) part r part'

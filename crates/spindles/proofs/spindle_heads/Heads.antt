@@ -1,5 +1,5 @@
 -- A bad head is refused with the first of 25, what the image or the table is refused for, and 15; so is the tick of a state of no places.
-use Rattle.std.proofs.Common.{ℕ, ◌≤◌, ◌<◌, ◌≡◌, refl, sym, ◌∙◌, ap, Bool, true, ◌||◌, List, [], ◌∷◌, ltb, eqb, get_or, le-ltb, Ok, Err}
+use Rattle.std.proofs.Common.{ℕ, ◌≤◌, ◌<◌, ◌≡◌, refl, sym, ◌∙◌, ap, Bool, true, ◌||◌, List, [], ◌∷◌, le-ltb, Ok, Err, nat_lt, ◌==◌, slice_index}
 use Rattle.std.proofs.Common.{arith}
 use Rattle.std.proofs.lemmas.Grind.{common_steps}
 use Rattle.text.specs.frames.Verdict.{Verdict, fine, refused, next, when}
@@ -57,11 +57,11 @@ module _ (s : State) (masks codes : List ℕ) (go : Unit {0} → MachineRun) (la
   ran-unfit fine u e = ap (λ (b : Bool). (run_on (next (when 15 b) λ _. last) go s masks codes).reply) e
 
 -- a state of no places fits no image
-pub no_size : (t b : List ℕ) (w : ℕ) → get_or b 0 0 ≡ 0
+pub no-size : (t b : List ℕ) (w : ℕ) → slice_index b 0 ≡ 0
     → (image_tick t (state_of b) w).reply ≡ verdict_reply (next (image_verdict t) λ _. refused 15 0) 0
 unfolding image_tick run run_verdict state_of
-no_size t b w e =
+no-size t b w e =
     let s = state_of b in
-    let bad : has_bad_depth s ≡ true = ap (λ (n : ℕ). is_bad_size n || eqb s.depth 0 || ltb n s.depth) e in
+    let bad : has_bad_depth s ≡ true = ap (λ (n : ℕ). is_bad_size n || s.depth == 0 || nat_lt n s.depth) e in
     ran-unfit s (0 ∷ []) (0 ∷ []) _ _ (image_verdict t) (is_unfit (decoded_image (contents t)) s)
     (sym (unfit-depth (decoded_image (contents t)) s bad))

@@ -1,5 +1,5 @@
 -- A call over the list of states gives what its parts give: a head that is refused, or a turn put into the list.
-use Rattle.std.proofs.Common.{◌≡◌, ℕ, ◌+◌, true, false, List, length, get_or, refl, arith}
+use Rattle.std.proofs.Common.{◌≡◌, ℕ, ◌+◌, true, false, List, length, refl, arith, slice_index_or}
 use Rattle.std.proofs.Math.ListN.{set}
 use Rattle.std.proofs.lemmas.Grind.{common_steps}
 use Rattle.text.specs.frames.Verdict.{Verdict, fine, refused}
@@ -23,7 +23,7 @@ module _ (ys : List State) (taken k : ℕ) (r : SpinReport) where
     -- the code reads a state with a default of its own
     pub turn-spun : (f : State → TickOutcome) (d s : State) → is_bad_spin_call (length ys) k ≡ false
         → GivesTurn
-        (turn v (get_or ys k d) ((get_or ys 0 d).depth + (get_or ys 1 d).depth + (get_or ys 2 d).depth + (get_or ys 3 d).depth) taken
-        (f (get_or ys k d))) r s
+        (turn v (slice_index_or ys k d) ((slice_index_or ys 0 d).depth + (slice_index_or ys 1 d).depth + (slice_index_or ys 2 d).depth + (slice_index_or ys 3 d).depth) taken
+        (f (slice_index_or ys k d))) r s
         → GivesSpin (spin_in_parts v ys taken k (f (state_at ys k))) r (set ys k s)
     turn-spun f d s e z = grind (arith, common_steps)

@@ -1,5 +1,5 @@
 -- What one finished tick does to the depth of a fitting state, and one state put in its place to the sum of the depths.
-use Rattle.std.proofs.Common.{ℕ, zero, suc, ◌+◌, ◌-◌, ◌≤◌, ◌<◌, Bool, true, false, ◌≡◌, refl, ap, List, [], ◌∷◌, leb, length, set, arith}
+use Rattle.std.proofs.Common.{ℕ, zero, suc, ◌+◌, ◌-◌, ◌≤◌, ◌<◌, Bool, true, false, ◌≡◌, refl, ap, List, [], ◌∷◌, length, set, arith, nat_le}
 use Rattle.std.proofs.Common.{le-leb, ne_eqb}
 use Rattle.std.proofs.lemmas.Grind.{common_steps}
 use Rattle.results.specs.Results.{Results}
@@ -32,7 +32,7 @@ pushed-deepens : (i : Image) (s : State) (m code h k : ℕ) (b : Results) (t : B
 pushed-deepens i s m code h k b true d l n = full-deepens i s m b d
 pushed-deepens i s m code h k b false d l n = rw (le-leb 16 code l, ne_eqb code 3 (λ q. omega arith), ne_eqb code 96 n) (omega arith)
 
-popped-deepens : (i : Image) (s : State) (w m : ℕ) (b : Results) (t : Bool) → leb s.depth 1 ≡ t → 1 ≤ s.depth
+popped-deepens : (i : Image) (s : State) (w m : ℕ) (b : Results) (t : Bool) → nat_le s.depth 1 ≡ t → 1 ≤ s.depth
     → Deepens s.depth (popped_tick i s w m b t)
 popped-deepens i s w m b true e l = grind (arith, common_steps)
 popped-deepens i s w m b false e l = grind (arith, common_steps)

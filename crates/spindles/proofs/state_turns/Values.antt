@@ -1,5 +1,5 @@
 -- A turn by value, by what the bytes hold after the turn on them.
-use Rattle.std.proofs.Common.{if◌then◌else◌, ℕ, ◌-◌, ◌≤◌, ◌≡◌, ◌∙◌, ap, subst, List, arith, eqb, length}
+use Rattle.std.proofs.Common.{if◌then◌else◌, ℕ, ◌-◌, ◌≤◌, ◌≡◌, ◌∙◌, ap, subst, List, arith, length, ◌==◌}
 use Rattle.std.proofs.lemmas.Grind.{common_steps}
 use Rattle.text.specs.frames.Verdict.{Verdict, when}
 use Rattle.text.specs.frames.Answer.{reply_number}
@@ -8,7 +8,7 @@ use Rattle.tables.specs.Table.{is_bad_table}
 use Rattle.state.specs.declared.State.{State}
 use Rattle.state.specs.State.{Sized}
 use Rattle.state.specs.Bytes.{state_of, bytes_of}
-use Rattle.state.proofs.ResultBytes.{state-back, held_back}
+use Rattle.state.proofs.ResultBytes.{state-back, held-back}
 use Rattle.runs.specs.TickOutcome.{TickOutcome, image_tick}
 use Rattle.runs.specs.machine.Live.{live_tick}
 use Rattle.spindles.specs.declared.SpinReport.{SpinReport}
@@ -17,10 +17,10 @@ use Rattle.spindles.proofs.turning.Settled.{Held, image-held, table-held}
 
 -- the bytes are those of the state, and what they then hold is handed back
 module _ (b : List ℕ) (v : Verdict) (sum taken : ℕ) (x : TickOutcome) (held : Held b x) where
-  left : (n : ℕ) → state_of (if eqb n 0 then bytes_of (state_of b) else b) ≡ state_of b
-  left n = grind (arith, common_steps, held_back)
+  left : (n : ℕ) → state_of (if n == 0 then bytes_of (state_of b) else b) ≡ state_of b
+  left n = grind (arith, common_steps, held-back)
 
-  turn-held : let y = turn v (state_of b) sum taken x in state_of (if eqb (reply_number y.reply) 0 then bytes_of y.state else b) ≡ y.state
+  turn-held : let y = turn v (state_of b) sum taken x in state_of (if reply_number y.reply == 0 then bytes_of y.state else b) ≡ y.state
   unfolding turn
   turn-held = grind (arith, common_steps, left)
 

@@ -1,5 +1,5 @@
 -- A call in parts, as the functions have it: a head that is refused before any state is looked at, and one spindle's turn by its own state.
-use Rattle.std.specs.Prelude.{ℕ, ◌+◌, ◌-◌, Bool, ◌||◌, not, ◌≡◌, List, ltb, eqb, length, set, if◌then◌else◌}
+use Rattle.std.specs.Prelude.{ℕ, ◌+◌, ◌-◌, Bool, ◌||◌, not, ◌≡◌, List, length, set, if◌then◌else◌, nat_lt, ◌==◌}
 use Rattle.text.specs.declared.frames.refusals.TheConstants.{UNFIT, NO_SPINDLE, NO_PLACE}
 use Rattle.text.specs.frames.Verdict.{Verdict, fine, refused, next, when}
 use Rattle.text.specs.frames.Answer.{Reply, refusal, reply_number, verdict_reply}
@@ -12,16 +12,16 @@ use Rattle.spindles.specs.Spindles.{state_at, SpinOutcome, outcome_turned_back, 
 
 -- not four states, or no such spindle
 abbrev pub is_bad_spin_call : ℕ → ℕ → Bool
-is_bad_spin_call n k = not (eqb n SPINDLES) || ltb 3 k
+is_bad_spin_call n k = not (n == SPINDLES) || nat_lt 3 k
 
 -- the depths do not sum to the record, or it is above 64
 abbrev pub is_bad_record : ℕ → ℕ → Bool
-is_bad_record sum taken = not (eqb sum taken) || ltb STORE taken
+is_bad_record sum taken = not (sum == taken) || nat_lt STORE taken
 
 -- what a bad head is refused for: 25, then what the image or the table is, then 15
 unfoldable pub refused_head : Verdict → ℕ → Verdict
 refused_head v k =
-    next (when NO_SPINDLE (ltb 3 k)) λ _.
+    next (when NO_SPINDLE (nat_lt 3 k)) λ _.
     next v λ _.
     refused UNFIT 0
 
@@ -69,7 +69,7 @@ pub record GivesTurnOn (x : TurnOutcome) (before : List ℕ) (r : SpinReport) (a
   pub mask : answered_mask r.answer ≡ x.mask
   pub code : answered_code r.answer ≡ x.code
   pub taken : r.taken ≡ x.taken
-  pub bytes : after ≡ (if eqb (reply_number x.reply) 0 then bytes_of x.state else before)
+  pub bytes : after ≡ (if reply_number x.reply == 0 then bytes_of x.state else before)
 
 -- ---- the two parts of a call
 abbrev pub depth_at : List State → ℕ → ℕ

@@ -1,5 +1,5 @@
 -- The places taken after every list of calls: four, and those of the finished calls, less those that returns and drops gave back.
-use Rattle.std.specs.Prelude.{ℕ, ◌+◌, ◌-◌, ◌≤◌, ◌&&◌, not, ◌≡◌, List, [], ◌∷◌, leb, ltb, eqb, if◌then◌else◌}
+use Rattle.std.specs.Prelude.{ℕ, ◌+◌, ◌-◌, ◌≤◌, ◌&&◌, not, ◌≡◌, List, [], ◌∷◌, if◌then◌else◌, nat_lt, nat_le, ◌==◌}
 use Rattle.text.specs.declared.frames.codes.TheConstants.{RETURN_CODE, OPERATION_CALL_CODE, DROP_CODE}
 use Rattle.spindles.specs.declared.layout.TheConstants.{STORE}
 use Rattle.spindles.specs.Spindles.{state_at, depths}
@@ -8,13 +8,13 @@ use Rattle.spindles.specs.spindle_places.Calls.{Head, new_head, SpindleCall, spi
 -- the places that a tick takes or gives back, by its code and the depth before it: a finished call (code 60 hexadecimal is none), a
 -- return above depth 1, a drop; a refused call stands for code 0
 abbrev pub places_called : ℕ → ℕ → ℕ
-places_called code d = if leb OPERATION_CALL_CODE code && not (eqb code DROP_CODE) then 1 else 0
+places_called code d = if nat_le OPERATION_CALL_CODE code && not (code == DROP_CODE) then 1 else 0
 
 abbrev pub places_returned : ℕ → ℕ → ℕ
-places_returned code d = if eqb code RETURN_CODE && ltb 1 d then 1 else 0
+places_returned code d = if code == RETURN_CODE && nat_lt 1 d then 1 else 0
 
 abbrev pub places_given_back : ℕ → ℕ → ℕ
-places_given_back code d = if eqb code DROP_CODE then d - 1 else 0
+places_given_back code d = if code == DROP_CODE then d - 1 else 0
 
 -- their sum over a list of calls; a rebinding takes none and gives none back
 abbrev pub counts : (ℕ → ℕ → ℕ) → Head → SpindleCall → ℕ

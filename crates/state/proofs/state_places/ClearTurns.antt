@@ -1,5 +1,5 @@
 -- The loop that puts 0 in each place.
-use Rattle.std.proofs.Common.{ℕ, ◌≤◌, ◌<◌, ◌≡◌, refl, sym, ap, ap₂, ◌∙◌, List, arith, length, get_or, ext_get_or}
+use Rattle.std.proofs.Common.{ℕ, ◌≤◌, ◌<◌, ◌≡◌, refl, sym, ap, ap₂, ◌∙◌, List, arith, length, ext_get_or, slice_index}
 use Rattle.std.proofs.Math.ListN.{get_or-replicate}
 use Rattle.state.specs.declared.State.{State}
 use Rattle.state.specs.State.{no_places}
@@ -10,7 +10,7 @@ use Rattle.state.proofs.ResultBytes.{held-sized}
 -- the first k of 32 are 0
 pub record Zeros (xs : List ℕ) (k : ℕ) : Type 0 where
   pub whole : length xs ≡ 32
-  pub passed : (j : ℕ) → j < k → get_or xs j 0 ≡ 0
+  pub passed : (j : ℕ) → j < k → slice_index xs j ≡ 0
 
 zeros-none : (xs : List ℕ) → length xs ≡ 32 → Zeros xs 0
 zeros-none xs e = record { whole = e; passed = λ j h. absurd (omega arith) }

@@ -1,12 +1,13 @@
 -- Digits and characters: each of the sixteen digits has one character, its capital where it is a letter.
-use Rattle.std.proofs.Common.{if◌then◌else◌, ℕ, zero, suc, ◌+◌, ◌*◌, ◌-◌, ◌/◌, ◌%◌, ◌≤◌, ◌<◌, true, ◌&&◌, ◌≡◌, refl, sym, ◌∙◌, ap, List, []}
-use Rattle.std.proofs.Common.{◌∷◌, map, arith, bit_and, leb, ltb, get_or, le-ltb, lt-ltb, le-leb, leb-true}
+use Rattle.std.proofs.Common.{if◌then◌else◌, ℕ, zero, suc, ◌+◌, ◌*◌, ◌-◌, ◌/◌, ◌%◌, ◌≤◌, ◌<◌, true, ◌&&◌, ◌≡◌, refl, sym, ◌∙◌, ap, List, [], nat_lt, nat_le, slice_index}
+use Rattle.std.proofs.Common.{◌∷◌, map, arith, bit_and, le-ltb, lt-ltb, le-leb, leb-true}
 use mir.Val.{bool_byte}
 use borrow.Author.Tests.{lt-leb}
 use Rattle.std.proofs.lemmas.Grind.{common_steps}
 use Rattle.words.specs.lists.Numbers.{tabulate}
-use Rattle.words.proofs.lists.Tests.{and_l, and_r, split, cases, if-false}
-use Rattle.words.proofs.lists.Tabulated.{get_d_tabulate}
+use Rattle.std.proofs.lemmas.Bool.{cond-false}
+use Rattle.words.proofs.lists.Tests.{and-l, and-r, split, cases}
+use Rattle.words.proofs.lists.Tabulated.{get_d-tabulate}
 use Rattle.text.specs.digits.Digit.{numeral_of, letter_of, digit_of, char_of, capital}
 use Rattle.text.specs.digits.EachDigit.{EachDigit}
 
@@ -17,11 +18,11 @@ digit-each = refl
 
 -- functions that give the same of each of the 256
 each : (f g : ℕ → ℕ) → tabulate f 256 ≡ tabulate g 256 → (c : ℕ) → c < 256 → f c ≡ g c
-each f g e c h = sym (get_d_tabulate f 256 c h) ∙ ap (λ (xs : List ℕ). get_or xs c 0) e ∙ get_d_tabulate g 256 c h
+each f g e c h = sym (get_d-tabulate f 256 c h) ∙ ap (λ (xs : List ℕ). slice_index xs c) e ∙ get_d-tabulate g 256 c h
 
 -- a letter's digit by its capital: without the bit of 32 none but the twelve letters are between A and F; each of the 256 computed
 abbrev masked : ℕ → ℕ
-masked c = let letter = bit_and c 223 in if leb 65 letter && leb letter 70 then letter - 55 else 255
+masked c = let letter = bit_and c 223 in if nat_le 65 letter && nat_le letter 70 then letter - 55 else 255
 
 masked-each : tabulate masked 256 ≡ tabulate letter_of 256
 unfolding tabulate
@@ -38,16 +39,16 @@ joined-each : tabulate joined 256 ≡ tabulate digit_of 256
 unfolding tabulate digit_of
 joined-each = refl
 
-pub joined_is : (c : ℕ) → c < 256 → joined c ≡ digit_of c
-joined_is = each joined digit_of joined-each
+pub joined-is : (c : ℕ) → c < 256 → joined c ≡ digit_of c
+joined-is = each joined digit_of joined-each
 
 -- a test of two bounds
-pub within : (a b c : ℕ) → (leb a c && leb c b) ≡ true → (a ≤ c) × (c ≤ b)
-within a b c h = (leb-true a c (and_l (leb a c) (leb c b) h), leb-true c b (and_r (leb a c) (leb c b) h))
+pub within : (a b c : ℕ) → (nat_le a c && nat_le c b) ≡ true → (a ≤ c) × (c ≤ b)
+within a b c h = (leb-true a c (and-l (nat_le a c) (nat_le c b) h), leb-true c b (and-r (nat_le a c) (nat_le c b) h))
 
-pub digit_low : (c : ℕ) → 48 ≤ c → c ≤ 57 → digit_of c ≡ c - 48
+pub digit-low : (c : ℕ) → 48 ≤ c → c ≤ 57 → digit_of c ≡ c - 48
 unfolding digit_of
-digit_low c h l = simp (le-leb 48 c h, le-leb c 57 l)
+digit-low c h l = simp (le-leb 48 c h, le-leb c 57 l)
 
 pub digit-high : (c : ℕ) → 65 ≤ c → c ≤ 70 → digit_of c ≡ c - 55
 unfolding digit_of
@@ -66,7 +67,7 @@ unfolding capital
 capital-same c h = simp (lt-leb 97 c h)
 
 -- a text in capitals, by place; past its end too
-pub capital-at : (t : List ℕ) (i : ℕ) → get_or (map capital t) i 0 ≡ capital (get_or t i 0)
+pub capital-at : (t : List ℕ) (i : ℕ) → slice_index (map capital t) i ≡ capital (slice_index t i)
 capital-at [] i = sym (capital-same 0 (omega arith))
 capital-at (c ∷ t) zero = refl
 capital-at (c ∷ t) (suc i) = capital-at t i
@@ -80,7 +81,7 @@ pub data Class (c : ℕ) : Type 0 where
 
 pub class_of : (c : ℕ) → Class c
 unfolding digit_of capital
-class_of c = grind (arith, common_steps, if-false, cases, within)
+class_of c = grind (arith, common_steps, cond-false, cases, within)
 
 -- a character and its capital stand for the same digit
 pub digit-capital : (c : ℕ) → digit_of (capital c) ≡ digit_of c
@@ -94,8 +95,8 @@ pub char-high : (d : ℕ) → 10 ≤ d → char_of d ≡ 55 + d
 unfolding char_of
 char-high d h = simp (le-ltb d 10 h)
 
-pub char_made : (d : ℕ) → d + 48 + 7 * bool_byte (ltb 9 d) ≡ char_of d
-char_made d = grind (arith, common_steps, le-ltb, split, lt-ltb, char-low, char-high)
+pub char-made : (d : ℕ) → d + 48 + 7 * bool_byte (nat_lt 9 d) ≡ char_of d
+char-made d = grind (arith, common_steps, le-ltb, split, lt-ltb, char-low, char-high)
 
 pub char-small : (d : ℕ) → d < 16 → char_of d < 128
 char-small d h = grind (arith, common_steps, split, char-low, char-high)
@@ -117,8 +118,8 @@ pair-each : tabulate summed 256 ≡ tabulate pair 256
 unfolding tabulate char_of
 pair-each = refl
 
-pub pair_made : (b : ℕ) → b < 256 → summed b ≡ pair b
-pair_made = each summed pair pair-each
+pub pair-made : (b : ℕ) → b < 256 → summed b ≡ pair b
+pair-made = each summed pair pair-each
 
 -- each of the two again
 module _ (b r : ℕ) (small : b < 256) (e : r ≡ pair b) where
@@ -128,8 +129,8 @@ module _ (b r : ℕ) (small : b < 256) (e : r ≡ pair b) where
   pub pair-second : r / 256 ≡ char_of (b % 16)
   pair-second = omega (arith, char-small (b / 16) (omega arith))
 
-pub digit_char : (d : ℕ) → d < 16 → digit_of (char_of d) ≡ d
-digit_char d h = grind (arith, common_steps, split, digit_low, digit-high, char-low, char-high)
+pub digit-char : (d : ℕ) → d < 16 → digit_of (char_of d) ≡ d
+digit-char d h = grind (arith, common_steps, split, digit-low, digit-high, char-low, char-high)
 
 -- the character of a character's digit is its capital
 pub char-digit : (c : ℕ) → digit_of c < 16 → char_of (digit_of c) ≡ capital c
@@ -137,7 +138,7 @@ char-digit c h = go (class_of c)
   where
     go : Class c → char_of (digit_of c) ≡ capital c
     go (numeral a b) =
-        ap char_of (digit_low c a b) ∙ char-low (c - 48) (omega arith) ∙ omega (arith, capital-same c (omega arith))
+        ap char_of (digit-low c a b) ∙ char-low (c - 48) (omega arith) ∙ omega (arith, capital-same c (omega arith))
     go (large a b) =
         ap char_of (digit-high c a b) ∙ char-high (c - 55) (omega arith) ∙ omega (arith, capital-same c (omega arith))
     go (small a b) =

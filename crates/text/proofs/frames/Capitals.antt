@@ -1,10 +1,9 @@
 -- A text and the same text in capitals are read alike, whatever its characters are and however long it is.
-use Rattle.std.proofs.Common.{ℕ, ◌+◌, ◌*◌, ◌/◌, ◌%◌, Bool, not, ◌≡◌, sym, ◌∙◌, ap, ap₂, List, map, arith, eqb, length, get_or, ne_eqb}
+use Rattle.std.proofs.Common.{ℕ, ◌+◌, ◌*◌, ◌/◌, ◌%◌, Bool, not, ◌≡◌, sym, ◌∙◌, ap, ap₂, List, map, arith, length, ne_eqb, ◌==◌, slice_index, flat_map}
 use Rattle.std.proofs.Math.Path.{fun_ext}
 use Rattle.std.proofs.Math.ListN.{length-map}
 use Rattle.std.proofs.lemmas.Grind.{common_steps}
 use Rattle.words.specs.lists.Numbers.{range, sum}
-use Rattle.words.specs.lists.Sequences.{concat_map}
 use Rattle.text.specs.digits.Digit.{digit_of, capital}
 use Rattle.text.proofs.digits.Digits.{Class, numeral, large, small, other, class_of, capital-same, capital-of-small, capital-at}
 use Rattle.text.proofs.digits.Digits.{digit-capital}
@@ -15,22 +14,22 @@ use Rattle.text.specs.frames.Read.{read_buffer}
 use Rattle.text.specs.frames.Alike.{ReadAlike}
 
 -- a capital is no line feed where the character is none
-feed-capital : (c : ℕ) → eqb (capital c) 10 ≡ eqb c 10
+feed-capital : (c : ℕ) → (capital c == 10) ≡ (c == 10)
 feed-capital c = go (class_of c)
   where
-    go : Class c → eqb (capital c) 10 ≡ eqb c 10
-    go (numeral h l) = ap (λ (x : ℕ). eqb x 10) (capital-same c (omega arith))
-    go (large h l) = ap (λ (x : ℕ). eqb x 10) (capital-same c (omega arith))
+    go : Class c → (capital c == 10) ≡ (c == 10)
+    go (numeral h l) = ap (λ (x : ℕ). x == 10) (capital-same c (omega arith))
+    go (large h l) = ap (λ (x : ℕ). x == 10) (capital-same c (omega arith))
     go (small h l) =
         ne_eqb (capital c) 10 (λ e. omega (arith, capital-of-small c h l)) ∙ sym (ne_eqb c 10 (λ e. omega arith))
-    go (other d s) = ap (λ (x : ℕ). eqb x 10) s
+    go (other d s) = ap (λ (x : ℕ). x == 10) s
 
 module _ (t : List ℕ) where
   abbrev capitals : List ℕ
   capitals = map capital t
 
-  digit-same : (i : ℕ) → digit_of (get_or capitals i 0) ≡ digit_of (get_or t i 0)
-  digit-same i = ap digit_of (capital-at t i) ∙ digit-capital (get_or t i 0)
+  digit-same : (i : ℕ) → digit_of (slice_index capitals i) ≡ digit_of (slice_index t i)
+  digit-same i = ap digit_of (capital-at t i) ∙ digit-capital (slice_index t i)
 
   byte-same : (f k : ℕ) → byte_at capitals f k ≡ byte_at t f k
   byte-same f k = ap₂ (λ (x y : ℕ). 16 * x + y) (digit-same (23 * f + 2 * k)) (digit-same (23 * f + 2 * k + 1))
@@ -39,14 +38,14 @@ module _ (t : List ℕ) where
   unfolding has_bad_form
   form-same f = grind (arith, common_steps, fun_ext, capital-at, feed-capital, digit-same)
 
-  sum_same : (f : ℕ) → has_bad_sum capitals f ≡ has_bad_sum t f
+  sum-same : (f : ℕ) → has_bad_sum capitals f ≡ has_bad_sum t f
   unfolding has_bad_sum
-  sum_same f = ap (λ (b : ℕ → ℕ). not (eqb (sum b 0 11 % 256) 0)) (fun_ext (byte-same f))
+  sum-same f = ap (λ (b : ℕ → ℕ). not (sum b 0 11 % 256 == 0)) (fun_ext (byte-same f))
 
   contents-same : contents capitals ≡ contents t
   unfolding contents
   contents-same =
-      ap₂ (λ (b : ℕ → ℕ → ℕ) (n : ℕ). concat_map (λ f. map (b f) (range 0 10)) (range 0 (n / 23)))
+      ap₂ (λ (b : ℕ → ℕ → ℕ) (n : ℕ). flat_map (λ f. map (b f) (range 0 10)) (range 0 (n / 23)))
       (fun_ext λ f. fun_ext (byte-same f)) (length-map t capital)
 
   verdict-same : (most : ℕ) → text_verdict most capitals ≡ text_verdict most t
@@ -55,7 +54,7 @@ module _ (t : List ℕ) where
       ap₂ (λ (form : ℕ → Bool) (sum : ℕ → Bool).
       next (when 1 (is_bad_length 23 most (length capitals))) λ _. next
       (at_lowest 2 form (length capitals / 23)) λ _. at_lowest 3 sum (length capitals / 23))
-      (fun_ext form-same) (fun_ext sum_same)
+      (fun_ext form-same) (fun_ext sum-same)
       ∙ ap (λ (n : ℕ).
       next (when 1 (is_bad_length 23 most n)) λ _. next (at_lowest 2 (has_bad_form t) (n / 23)) λ _. at_lowest 3 (has_bad_sum t) (n / 23))
       (length-map t capital)

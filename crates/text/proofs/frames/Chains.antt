@@ -1,8 +1,8 @@
 -- How a function answers by a chain of verdicts: one law for each way that a link can go, and what an answer tells of its verdict.
-use Rattle.std.proofs.Common.{◌≡◌, refl, sym, ◌∙◌, ap, Bool, true, false, ℕ, ◌≤◌, ◌<◌, arith, ltb, lt-ltb, le-ltb, Ok, Err}
+use Rattle.std.proofs.Common.{◌≡◌, refl, sym, ◌∙◌, ap, Bool, true, false, ℕ, ◌≤◌, ◌<◌, arith, lt-ltb, le-ltb, Ok, Err, nat_lt}
 use Rattle.std.proofs.lemmas.Grind.{common_steps}
 use Rattle.words.specs.lists.Numbers.{lowest}
-use Rattle.words.proofs.lists.Tests.{if-true, if-false}
+use Rattle.std.proofs.lemmas.Bool.{cond-true, cond-false}
 use Rattle.text.specs.frames.Verdict.{Verdict, fine, refused, next, when, at_lowest}
 use Rattle.text.specs.declared.frames.refusals.Refusal.{Refusal}
 use Rattle.text.specs.frames.Refusal.{number_of, index_of, ticks_of}
@@ -18,10 +18,10 @@ when-fails k b e = ap (when k) e
 -- a search that ended at r, before the end or not
 module _ (k : ℕ) (p : ℕ → Bool) (n r : ℕ) (found : r ≡ lowest p 0 n) where
   pub lowest-refused : r < n → at_lowest k p n ≡ refused k r
-  lowest-refused h = grind (arith, common_steps, lt-ltb, if-true)
+  lowest-refused h = grind (arith, common_steps, lt-ltb, cond-true)
 
   pub lowest-fine : n ≤ r → at_lowest k p n ≡ fine
-  lowest-fine h = if-false (ltb (lowest p 0 n) n) (refused k (lowest p 0 n)) fine (le-ltb (lowest p 0 n) n (omega arith))
+  lowest-fine h = cond-false (nat_lt (lowest p 0 n) n) (refused k (lowest p 0 n)) fine (le-ltb (lowest p 0 n) n (omega arith))
 
 -- ---- the chain
 module _ (v : Verdict) (rest : Unit {0} → Verdict) where

@@ -1,17 +1,17 @@
 -- Texts there and back: the contents of the text of records are those records, and the text of an accepted text's contents is that text
 -- in capitals.
-use Rattle.std.proofs.Common.{ℕ, zero, suc, ◌+◌, ◌*◌, ◌/◌, ◌%◌, ◌≤◌, ◌<◌, Bool, false, not, ◌≡◌, refl, sym, ◌∙◌, ap, subst, ⊎_elim, List}
-use Rattle.std.proofs.Common.{[], ◌∷◌, ◌++◌, map, arith, length, get_or, length-append, ext_get_or, get_or-append-add, leb, eqb, ltb-false}
+use Rattle.std.proofs.Common.{ℕ, zero, suc, ◌+◌, ◌*◌, ◌/◌, ◌%◌, ◌≤◌, ◌<◌, Bool, false, not, ◌≡◌, refl, sym, ◌∙◌, ap, subst, ⊎_elim, List, nat_le, ◌==◌, slice_index, slice_index_or}
+use Rattle.std.proofs.Common.{[], ◌∷◌, ◌++◌, map, arith, length, length-append, ext_get_or, get_or-append-add, ltb-false}
 use Rattle.std.proofs.Common.{leb-false, eqb-true}
 use Rattle.std.proofs.Math.ListN.{length-map, get_or-eq_default, get_or-append}
 use borrow.Author.Tests.{eqb-false}
 use Rattle.std.proofs.lemmas.Grind.{common_steps}
 use Rattle.words.specs.lists.Numbers.{range, any, sum}
-use Rattle.words.proofs.lists.Tests.{split, or_l, or_r, not-false}
-use Rattle.words.proofs.lists.Searches.{any_false}
+use Rattle.words.proofs.lists.Tests.{split, or-l, or-r, not-false}
+use Rattle.words.proofs.lists.Searches.{any-false}
 use Rattle.words.proofs.lists.Ranges.{length-map-range, get_or-map-range}
-use Rattle.words.proofs.lists.Joins.{all_map, all-every, length-concat-range, concat-range-at}
-use Rattle.words.specs.lists.Sequences.{All}
+use Rattle.words.proofs.lists.Joins.{all-map, all-every, length-concat-range, concat-range-at}
+use Rattle.std.specs.List.{AllByRecursion}
 use Rattle.text.specs.digits.Digit.{digit_of, char_of, capital}
 use Rattle.text.proofs.digits.Digits.{capital-same, capital-at, char-digit}
 use Rattle.text.specs.frames.Frame.{frame_count, byte_at, contents, size, field, byte_text, total, sum_byte, frame_text, frames_text}
@@ -29,23 +29,23 @@ pub record Length (unit most n : ℕ) : Type 0 where
   pub fits : n ≤ most
 
 pub length-told : (unit most n : ℕ) → is_bad_length unit most n ≡ false → Length unit most n
-length-told unit most n e = grind (arith, common_steps, or_r, not-false, eqb-true, ltb-false, or_l, eqb-false)
+length-told unit most n e = grind (arith, common_steps, or-r, not-false, eqb-true, ltb-false, or-l, eqb-false)
 
 -- ---- records to text and back
-module _ (b : List ℕ) (bytes : (k : ℕ) → get_or b k 0 < 256) where
+module _ (b : List ℕ) (bytes : (k : ℕ) → slice_index b k < 256) where
   pub ten-frame : (f : ℕ) → Frame (ten_bytes_at b f)
   ten-frame f = grind (arith, common_steps, split, get_or-eq_default, get_or-map-range)
 
   abbrev tens : List (List ℕ)
   tens = map (ten_bytes_at b) (range 0 (size b))
 
-  pub ten-frames : All Frame tens
-  ten-frames = all_map Frame (ten_bytes_at b) (range 0 (size b)) (all-every (λ f. Frame (ten_bytes_at b f)) ten-frame (range 0 (size b)))
+  pub ten-frames : AllByRecursion Frame tens
+  ten-frames = all-map Frame (ten_bytes_at b) (range 0 (size b)) (all-every (λ f. Frame (ten_bytes_at b f)) ten-frame (range 0 (size b)))
 
   tens-count : length tens ≡ size b
   tens-count = length-map-range (ten_bytes_at b) 0 (size b)
 
-  tens-at : (f : ℕ) → f < size b → get_or tens f [] ≡ ten_bytes_at b f
+  tens-at : (f : ℕ) → f < size b → slice_index_or tens f [] ≡ ten_bytes_at b f
   tens-at f h = get_or-map-range (ten_bytes_at b) [] 0 (size b) f h ∙ ap (ten_bytes_at b) (omega arith)
 
   pub text_of-length : length (text_of b) ≡ 23 * size b
@@ -56,10 +56,10 @@ module _ (b : List ℕ) (bytes : (k : ℕ) → get_or b k 0 < 256) where
   unfolding text_of
   text_of-fine most some fits = text-fine tens ten-frames most (omega (arith, tens-count)) (omega (arith, tens-count))
 
-  pub text_of-here : (f k : ℕ) → f < size b → k < 23 → get_or (text_of b) (23 * f + k) 0 ≡ get_or (frame_text (ten_bytes_at b f)) k 0
+  pub text_of-here : (f k : ℕ) → f < size b → k < 23 → slice_index (text_of b) (23 * f + k) ≡ slice_index (frame_text (ten_bytes_at b f)) k
   unfolding text_of
   text_of-here f k h l =
-      text-here tens ten-frames f (omega (arith, tens-count)) k l ∙ ap (λ (bs : List ℕ). get_or (frame_text bs) k 0) (tens-at f h)
+      text-here tens ten-frames f (omega (arith, tens-count)) k l ∙ ap (λ (bs : List ℕ). slice_index (frame_text bs) k) (tens-at f h)
 
   pub text_of-contents : length b % 10 ≡ 0 → contents (text_of b) ≡ b
   unfolding text_of
@@ -67,11 +67,11 @@ module _ (b : List ℕ) (bytes : (k : ℕ) → get_or b k 0 < 256) where
       let t : List ℕ = frames_text tens in
       let n : length (contents t) ≡ length b = contents-length tens ten-frames ∙ omega (arith, tens-count) in
       ext_get_or 0 (contents t) b n (λ i h.
-      ap (λ (j : ℕ). get_or (contents t) j 0) (omega arith)
+      ap (λ (j : ℕ). slice_index (contents t) j) (omega arith)
       ∙ contents-at tens ten-frames (i / 10) (i % 10) (omega (arith, tens-count)) (omega arith)
-      ∙ ap (λ (bs : List ℕ). get_or bs (i % 10) 0) (tens-at (i / 10) (omega arith))
+      ∙ ap (λ (bs : List ℕ). slice_index bs (i % 10)) (tens-at (i / 10) (omega arith))
       ∙ get_or-map-range (field b (i / 10)) 0 0 10 (i % 10) (omega arith)
-      ∙ ap (λ (j : ℕ). get_or b j 0) (omega arith))
+      ∙ ap (λ (j : ℕ). slice_index b j) (omega arith))
 
 -- ---- the contents of any text, by place
 module _ (t : List ℕ) where
@@ -105,40 +105,40 @@ text-told most t e =
 -- ---- text to records and back
 -- a frame without a wrong character
 module _ (t : List ℕ) (f : ℕ) (form : has_bad_form t f ≡ false) where
-  pub digit-small : (k : ℕ) → k < 22 → digit_of (get_or t (23 * f + k) 0) < 16
+  pub digit-small : (k : ℕ) → k < 22 → digit_of (slice_index t (23 * f + k)) < 16
   unfolding has_bad_form
   digit-small k l =
-      let p : ℕ → Bool = λ k. leb 16 (digit_of (get_or t (23 * f + k) 0)) in
-      leb-false 16 (digit_of (get_or t (23 * f + k) 0))
-      (any_false p 0 22 (or_l (any p 0 22) (not (eqb (get_or t (23 * f + 22) 0) 10)) form) k (omega arith) (omega arith))
+      let p : ℕ → Bool = λ k. nat_le 16 (digit_of (slice_index t (23 * f + k))) in
+      leb-false 16 (digit_of (slice_index t (23 * f + k)))
+      (any-false p 0 22 (or-l (any p 0 22) (not (slice_index t (23 * f + 22) == 10)) form) k (omega arith) (omega arith))
 
-  pub feed-is : get_or t (23 * f + 22) 0 ≡ 10
+  pub feed-is : slice_index t (23 * f + 22) ≡ 10
   unfolding has_bad_form
   feed-is =
-      eqb-true (get_or t (23 * f + 22) 0) 10 (not-false (eqb (get_or t (23 * f + 22) 0) 10)
-      (or_r (any (λ k. leb 16 (digit_of (get_or t (23 * f + k) 0))) 0 22) (not (eqb (get_or t (23 * f + 22) 0) 10)) form))
+      eqb-true (slice_index t (23 * f + 22)) 10 (not-false (slice_index t (23 * f + 22) == 10)
+      (or-r (any (λ k. nat_le 16 (digit_of (slice_index t (23 * f + k)))) 0 22) (not (slice_index t (23 * f + 22) == 10)) form))
 
-  high : (k : ℕ) → k < 11 → digit_of (get_or t (23 * f + 2 * k) 0) < 16
+  high : (k : ℕ) → k < 11 → digit_of (slice_index t (23 * f + 2 * k)) < 16
   high k l = digit-small (2 * k) (omega arith)
 
-  low : (k : ℕ) → k < 11 → digit_of (get_or t (23 * f + 2 * k + 1) 0) < 16
-  low k l = subst (λ (j : ℕ). digit_of (get_or t j 0) < 16) (omega arith) (digit-small (2 * k + 1) (omega arith))
+  low : (k : ℕ) → k < 11 → digit_of (slice_index t (23 * f + 2 * k + 1)) < 16
+  low k l = subst (λ (j : ℕ). digit_of (slice_index t j) < 16) (omega arith) (digit-small (2 * k + 1) (omega arith))
 
   pub byte_small : (k : ℕ) → k < 11 → byte_at t f k < 256
   byte_small k l = omega (arith, high k l, low k l)
 
   -- a byte's characters are the text's, in capitals
-  pair-back : (k s : ℕ) → k < 11 → s < 2 → get_or (byte_text (byte_at t f k)) s 0 ≡ capital (get_or t (23 * f + (2 * k + s)) 0)
+  pair-back : (k s : ℕ) → k < 11 → s < 2 → slice_index (byte_text (byte_at t f k)) s ≡ capital (slice_index t (23 * f + (2 * k + s)))
   pair-back k zero l m =
-      let e : byte_at t f k / 16 ≡ digit_of (get_or t (23 * f + 2 * k) 0) = omega (arith, high k l, low k l) in
-      ap char_of e ∙ char-digit (get_or t (23 * f + 2 * k) 0) (high k l) ∙ ap (λ (j : ℕ). capital (get_or t j 0)) (omega arith)
+      let e : byte_at t f k / 16 ≡ digit_of (slice_index t (23 * f + 2 * k)) = omega (arith, high k l, low k l) in
+      ap char_of e ∙ char-digit (slice_index t (23 * f + 2 * k)) (high k l) ∙ ap (λ (j : ℕ). capital (slice_index t j)) (omega arith)
   pair-back k (suc zero) l m =
-      let e : byte_at t f k % 16 ≡ digit_of (get_or t (23 * f + 2 * k + 1) 0) = omega (arith, high k l, low k l) in
-      ap char_of e ∙ char-digit (get_or t (23 * f + 2 * k + 1) 0) (low k l) ∙ ap (λ (j : ℕ). capital (get_or t j 0)) (omega arith)
+      let e : byte_at t f k % 16 ≡ digit_of (slice_index t (23 * f + 2 * k + 1)) = omega (arith, high k l, low k l) in
+      ap char_of e ∙ char-digit (slice_index t (23 * f + 2 * k + 1)) (low k l) ∙ ap (λ (j : ℕ). capital (slice_index t j)) (omega arith)
   pair-back k (suc (suc s)) l m = absurd (omega arith)
 
   -- ten bytes that are the frame's first ten, where the sum is right
-  module _ (good : has_bad_sum t f ≡ false) (bs : List ℕ) (F : Frame bs) (same : (k : ℕ) → k < 10 → get_or bs k 0 ≡ byte_at t f k) where
+  module _ (good : has_bad_sum t f ≡ false) (bs : List ℕ) (F : Frame bs) (same : (k : ℕ) → k < 10 → slice_index bs k ≡ byte_at t f k) where
     sum_back : sum_byte bs ≡ byte_at t f 10
     unfolding has_bad_sum
     sum_back =
@@ -150,38 +150,38 @@ module _ (t : List ℕ) (f : ℕ) (form : has_bad_form t f ≡ false) where
         (λ (h : 10 ≤ i).
         let j : i ≡ length bs + 0 = omega (arith, l, m, F.ten) in
         let o : 0 + i ≡ 10 = omega (arith, F.ten) in
-        ap (byte_at t f) o ∙ sym (ap (λ (k : ℕ). get_or (bs ++ (x ∷ [])) k 0) j ∙ get_or-append-add bs (x ∷ []) 0 0))
+        ap (byte_at t f) o ∙ sym (ap (λ (k : ℕ). slice_index (bs ++ (x ∷ [])) k) j ∙ get_or-append-add bs (x ∷ []) 0 0))
         (split i 10)) in
-        let z : s % 256 ≡ 0 = eqb-true (s % 256) 0 (not-false (eqb (s % 256) 0) good) in
+        let z : s % 256 ≡ 0 = eqb-true (s % 256) 0 (not-false (s % 256 == 0) good) in
         let q : sum (byte_at t f) 0 (length (bs ++ (x ∷ []))) ≡ s = ap (sum (byte_at t f) 0) m in
         omega (arith, e, z, q, total-snoc bs x, byte_small 10 (omega arith))
 
-    eleven-back : (k : ℕ) → k < 11 → get_or (eleven bs) k 0 ≡ byte_at t f k
+    eleven-back : (k : ℕ) → k < 11 → slice_index (eleven bs) k ≡ byte_at t f k
     eleven-back k l =
         ⊎_elim (λ (m : k < 10). eleven-at bs F k m ∙ same k m)
         (λ (m : 10 ≤ k).
         let j : k ≡ 10 = omega arith in
-        ap (λ (i : ℕ). get_or (eleven bs) i 0) j ∙ eleven-last bs F ∙ sum_back ∙ ap (byte_at t f) (sym j))
+        ap (λ (i : ℕ). slice_index (eleven bs) i) j ∙ eleven-last bs F ∙ sum_back ∙ ap (byte_at t f) (sym j))
         (split k 10)
 
-    pub frame_back : (k : ℕ) → k < 23 → get_or (frame_text bs) k 0 ≡ capital (get_or t (23 * f + k) 0)
-    frame_back k l =
+    pub frame-back : (k : ℕ) → k < 23 → slice_index (frame_text bs) k ≡ capital (slice_index t (23 * f + k))
+    frame-back k l =
         ⊎_elim (λ (m : k < 22).
-        ap (λ (j : ℕ). get_or (frame_text bs) j 0) (omega arith) ∙ frame-char bs F (k / 2) (k % 2) (omega arith) (omega arith)
-        ∙ ap (λ (b : ℕ). get_or (byte_text b) (k % 2) 0) (eleven-back (k / 2) (omega arith))
-        ∙ pair-back (k / 2) (k % 2) (omega arith) (omega arith) ∙ ap (λ (j : ℕ). capital (get_or t j 0)) (omega arith))
+        ap (λ (j : ℕ). slice_index (frame_text bs) j) (omega arith) ∙ frame-char bs F (k / 2) (k % 2) (omega arith) (omega arith)
+        ∙ ap (λ (b : ℕ). slice_index (byte_text b) (k % 2)) (eleven-back (k / 2) (omega arith))
+        ∙ pair-back (k / 2) (k % 2) (omega arith) (omega arith) ∙ ap (λ (j : ℕ). capital (slice_index t j)) (omega arith))
         (λ (m : 22 ≤ k).
         let j : k ≡ 22 = omega arith in
-        ap (λ (i : ℕ). get_or (frame_text bs) i 0) j ∙ frame-feed bs F ∙ sym (ap capital feed-is ∙ capital-same 10 (omega arith))
-        ∙ ap (λ (i : ℕ). capital (get_or t (23 * f + i) 0)) (sym j))
+        ap (λ (i : ℕ). slice_index (frame_text bs) i) j ∙ frame-feed bs F ∙ sym (ap capital feed-is ∙ capital-same 10 (omega arith))
+        ∙ ap (λ (i : ℕ). capital (slice_index t (23 * f + i))) (sym j))
         (split k 22)
 
-pub contents-bytes : (t : List ℕ) → ((f : ℕ) → f < frame_count t → has_bad_form t f ≡ false) → (k : ℕ) → get_or (contents t) k 0 < 256
+pub contents-bytes : (t : List ℕ) → ((f : ℕ) → f < frame_count t → has_bad_form t f ≡ false) → (k : ℕ) → slice_index (contents t) k < 256
 contents-bytes t forms k =
     let n : length (contents t) ≡ 10 * frame_count t = any-contents-length t in
     ⊎_elim (λ (h : k < length (contents t)).
     subst (λ (x : ℕ). x < 256)
-    (sym (ap (λ (j : ℕ). get_or (contents t) j 0) (omega arith) ∙ any-contents-at t (k / 10) (k % 10) (omega arith) (omega arith)))
+    (sym (ap (λ (j : ℕ). slice_index (contents t) j) (omega arith) ∙ any-contents-at t (k / 10) (k % 10) (omega arith) (omega arith)))
     (byte_small t (k / 10) (forms (k / 10) (omega arith)) (k % 10) (omega arith)))
     (λ (h : length (contents t) ≤ k). subst (λ (x : ℕ). x < 256) (sym (get_or-eq_default (contents t) 0 h)) (omega arith))
     (split k (length (contents t)))
@@ -189,23 +189,23 @@ contents-bytes t forms k =
 pub text-back : (most : ℕ) (t : List ℕ) → Clean most t → text_of (contents t) ≡ map capital t
 text-back most t C =
     let b : List ℕ = contents t in
-    let bytes : (k : ℕ) → get_or b k 0 < 256 = contents-bytes t C.forms in
+    let bytes : (k : ℕ) → slice_index b k < 256 = contents-bytes t C.forms in
     let m : size b ≡ frame_count t = omega (arith, any-contents-length t) in
     let w : length t % 23 ≡ 0 = C.length.whole in
     let n : length (text_of b) ≡ length t = text_of-length b bytes ∙ omega arith in
     ext_get_or 0 (text_of b) (map capital t) (n ∙ sym (length-map t capital)) (λ i h.
-    ap (λ (j : ℕ). get_or (text_of b) j 0) (omega arith)
+    ap (λ (j : ℕ). slice_index (text_of b) j) (omega arith)
     ∙ text_of-here b bytes (i / 23) (i % 23) (omega (arith, m, n, h)) (omega arith)
-    ∙ frame_back t (i / 23) (C.forms (i / 23) (omega (arith, n, h))) (C.sums (i / 23) (omega (arith, n, h)))
+    ∙ frame-back t (i / 23) (C.forms (i / 23) (omega (arith, n, h))) (C.sums (i / 23) (omega (arith, n, h)))
     (ten_bytes_at b (i / 23)) (ten-frame b bytes (i / 23)) (λ k l.
-    get_or-map-range (field b (i / 23)) 0 0 10 k l ∙ ap (λ (j : ℕ). get_or b j 0) (omega arith)
+    get_or-map-range (field b (i / 23)) 0 0 10 k l ∙ ap (λ (j : ℕ). slice_index b j) (omega arith)
     ∙ any-contents-at t (i / 23) k (omega (arith, n, h)) l)
     (i % 23) (omega arith)
-    ∙ ap (λ (j : ℕ). capital (get_or t j 0)) (omega arith)
+    ∙ ap (λ (j : ℕ). capital (slice_index t j)) (omega arith)
     ∙ sym (capital-at t i))
 
 -- what is written is in capitals
-pub text_of-capitals : (b : List ℕ) → ((k : ℕ) → get_or b k 0 < 256) → 1 ≤ size b → length b % 10 ≡ 0 → map capital (text_of b) ≡ text_of b
+pub text_of-capitals : (b : List ℕ) → ((k : ℕ) → slice_index b k < 256) → 1 ≤ size b → length b % 10 ≡ 0 → map capital (text_of b) ≡ text_of b
 text_of-capitals b bytes some whole =
     sym (text-back (23 * size b) (text_of b) (text-told (23 * size b) (text_of b) (text_of-fine b bytes (23 * size b) some (omega arith))))
     ∙ ap text_of (text_of-contents b bytes whole)

@@ -1,45 +1,45 @@
 -- The loop that writes a frame: its sum and its characters.
-use Rattle.std.proofs.Common.{◌≡◌, refl, sym, ◌∙◌, ap, List, [], ◌∷◌, ◌++◌, append_assoc, ℕ, ◌+◌, ◌-◌, ◌*◌, ◌%◌, ◌≤◌, ◌<◌, arith, length}
-use Rattle.std.proofs.Common.{set, get_or, length-append}
+use Rattle.std.proofs.Common.{◌≡◌, refl, sym, ◌∙◌, ap, List, [], ◌∷◌, ◌++◌, append_assoc, ℕ, ◌+◌, ◌-◌, ◌*◌, ◌%◌, ◌≤◌, ◌<◌, arith, length, slice_index, flat_map}
+use Rattle.std.proofs.Common.{set, length-append}
 use Rattle.std.proofs.lemmas.Grind.{common_steps}
 use Rattle.words.specs.lists.Numbers.{sum, range}
-use Rattle.words.specs.lists.Sequences.{concat_map, written}
+use Rattle.words.specs.lists.Sequences.{written}
 use Rattle.words.proofs.lists.Searches.{sum-turn}
 use Rattle.words.proofs.lists.Joins.{concat-places, length-concat, all-every}
-use Rattle.words.proofs.lists.Written.{written_one, written-more, written-snoc}
-use Rattle.words.proofs.lists.Fills.{Pieces, pieces_none, pieces-turn, pieces-all}
+use Rattle.words.proofs.lists.Written.{written-one, written-more, written-snoc}
+use Rattle.words.proofs.lists.Fills.{Pieces, pieces-none, pieces-turn, pieces-all}
 use Rattle.text.specs.frames.Frame.{byte_text, total, sum_byte, frame_text}
 use Rattle.text.proofs.frames.Frames.{sum-places}
 
 pub length-frame : (bs : List ℕ) → length bs ≡ 10 → length (frame_text bs) ≡ 23
 unfolding frame_text
 length-frame bs e =
-    let l : length (concat_map byte_text bs) ≡ 2 * length bs =
+    let l : length (flat_map byte_text bs) ≡ 2 * length bs =
     length-concat byte_text 2 bs (all-every (λ b. length (byte_text b) ≡ 2) (λ b. refl) bs) in
     simp length-append (omega arith)
 
 -- two characters, one after the other
 pub two-put : (out : List ℕ) (at x y a b : ℕ) → at + 2 ≤ length out → x ≡ a → y ≡ b
     → set (set out at x) (at + 1) y ≡ written out at (a ∷ b ∷ [])
-two-put out at x y a b room p q = grind (arith, common_steps, written_one, written-snoc)
+two-put out at x y a b room p q = grind (arith, common_steps, written-one, written-snoc)
 
 -- after k bytes of ten
 pub record Digits (out₀ bs out : List ℕ) (at s k : ℕ) : Type 0 where
   pub small : s ≤ k * 255
-  pub added : s ≡ sum (λ i. get_or bs i 0) 0 k
-  pub pieces : Pieces (λ i. byte_text (get_or bs i 0)) 2 out₀ out at 10 k
+  pub added : s ≡ sum (λ i. slice_index bs i) 0 k
+  pub pieces : Pieces (λ i. byte_text (slice_index bs i)) 2 out₀ out at 10 k
 
 pub digits-none : (out₀ bs : List ℕ) (at : ℕ) → Digits out₀ bs out₀ at 0 0
 unfolding sum
-digits-none out₀ bs at = record { small = omega arith; added = refl; pieces = pieces_none _ _ _ _ _ }
+digits-none out₀ bs at = record { small = omega arith; added = refl; pieces = pieces-none _ _ _ _ _ }
 
 module _ (out₀ bs out out' : List ℕ) (at s k : ℕ) (room : at + 23 ≤ length out₀) (d : Digits out₀ bs out at s k) where
-  pub digits-turn : k < 10 → get_or bs k 0 < 256 → length out' ≡ length out → out' ≡ written out (at + k * 2) (byte_text (get_or bs k 0))
-      → Digits out₀ bs out' at (s + get_or bs k 0) (k + 1)
+  pub digits-turn : k < 10 → slice_index bs k < 256 → length out' ≡ length out → out' ≡ written out (at + k * 2) (byte_text (slice_index bs k))
+      → Digits out₀ bs out' at (s + slice_index bs k) (k + 1)
   digits-turn h byte n e = record {
     small = omega arith;
-    added = sum-turn (λ i. get_or bs i 0) s k (get_or bs k 0) d.added refl;
-    pieces = pieces-turn (λ i. byte_text (get_or bs i 0)) 2 out₀ at 10 (λ k. refl) out out' k
+    added = sum-turn (λ i. slice_index bs i) s k (slice_index bs k) d.added refl;
+    pieces = pieces-turn (λ i. byte_text (slice_index bs i)) 2 out₀ at 10 (λ k. refl) out out' k
         (at + k * 2) d.pieces h (omega arith) (omega arith) n e;
   }
 
@@ -48,20 +48,20 @@ module _ (out₀ bs out out' : List ℕ) (at s k : ℕ) (room : at + 23 ≤ leng
   unfolding frame_text
   digits-end ten h e =
       let k10 : k ≡ length bs = omega (arith, d.pieces.low) in
-      let t : s ≡ total bs = d.added ∙ ap (sum (λ i. get_or bs i 0) 0) k10
-      ∙ sum-places (λ i. get_or bs i 0) bs 0 (λ k l. ap (λ (j : ℕ). get_or bs j 0) (omega arith)) in
-      let b : out ≡ written out₀ at (concat_map byte_text bs) =
-      pieces-all (λ i. byte_text (get_or bs i 0)) 2 out₀ at 10 out k d.pieces h
-      ∙ ap (λ (n : ℕ). written out₀ at (concat_map (λ i. byte_text (get_or bs i 0)) (range 0 n))) (sym ten)
-      ∙ ap (written out₀ at) (concat-places (λ i. byte_text (get_or bs i 0)) byte_text 0 bs 0
-      (λ i l. ap (λ (j : ℕ). byte_text (get_or bs j 0)) (omega arith))) in
-      let vs : List ℕ = concat_map byte_text bs ++ byte_text (sum_byte bs) in
-      let l : length (concat_map byte_text bs) ≡ 2 * length bs =
+      let t : s ≡ total bs = d.added ∙ ap (sum (λ i. slice_index bs i) 0) k10
+      ∙ sum-places (λ i. slice_index bs i) bs 0 (λ k l. ap (λ (j : ℕ). slice_index bs j) (omega arith)) in
+      let b : out ≡ written out₀ at (flat_map byte_text bs) =
+      pieces-all (λ i. byte_text (slice_index bs i)) 2 out₀ at 10 out k d.pieces h
+      ∙ ap (λ (n : ℕ). written out₀ at (flat_map (λ i. byte_text (slice_index bs i)) (range 0 n))) (sym ten)
+      ∙ ap (written out₀ at) (concat-places (λ i. byte_text (slice_index bs i)) byte_text 0 bs 0
+      (λ i l. ap (λ (j : ℕ). byte_text (slice_index bs j)) (omega arith))) in
+      let vs : List ℕ = flat_map byte_text bs ++ byte_text (sum_byte bs) in
+      let l : length (flat_map byte_text bs) ≡ 2 * length bs =
       length-concat byte_text 2 bs (all-every (λ b. length (byte_text b) ≡ 2) (λ b. refl) bs) in
       let n : length vs ≡ 22 = simp length-append (omega arith) in
       let e' : out' ≡ written out (at + 20) (byte_text (sum_byte bs)) = rw t at e in
       let all : out' ≡ written out₀ at vs =
-      written-more out₀ at (concat_map byte_text bs) (byte_text (sum_byte bs)) out out' (at + 20) (omega arith) (omega arith) b e' in
+      written-more out₀ at (flat_map byte_text bs) (byte_text (sum_byte bs)) out out' (at + 20) (omega arith) (omega arith) b e' in
       let place : at + 22 ≡ at + length vs = omega arith in
       rw (all, place) (written-snoc out₀ at vs 10 (omega arith)
-      ∙ ap (written out₀ at) (append_assoc (concat_map byte_text bs) (byte_text (sum_byte bs)) (10 ∷ [])))
+      ∙ ap (written out₀ at) (append_assoc (flat_map byte_text bs) (byte_text (sum_byte bs)) (10 ∷ [])))

@@ -8,9 +8,9 @@ use Rattle.text.specs.declared.frames.refusals.Refusal.TheVariants.{NoRoom}
 use Rattle.text.specs.frames.Refusal.{number_of, index_of, ticks_of}
 use Rattle.text.specs.frames.Answer.{Answer, success, refusal, reply, BufferOutcome, GivesBuffer, buffer_on, buffer_filled_with}
 
-pub lent_fits : (unit : ℕ) (new : Unit {0} → List ℕ) (old : List ℕ) → length (new tt) ≤ length old
+pub lent-fits : (unit : ℕ) (new : Unit {0} → List ℕ) (old : List ℕ) → length (new tt) ≤ length old
     → buffer_on fine unit new old ≡ buffer_filled_with unit (new tt) old
-lent_fits unit new old h = grind (arith, common_steps, le-ltb)
+lent-fits unit new old h = grind (arith, common_steps, le-ltb)
 
 pub record Success (v : Verdict) (unit : ℕ) (xs old : List ℕ) (n : ℕ) (r : BufferOutcome) : Type 0 where
   pub accepted : v ≡ fine
@@ -41,4 +41,4 @@ module _ (v : Verdict) (unit : ℕ) (new : Unit {0} → List ℕ) (old : List �
 
   pub lent-done : v ≡ fine → length (new tt) ≤ length old → (n : ℕ) → n ≡ length (new tt) / unit → (out : List ℕ) → out ≡ over (new tt) old
       → GivesBuffer (buffer_on v unit new old) (Ok n) out
-  lent-done e h n m out o = grind (arith, common_steps, lent_fits)
+  lent-done e h n m out o = grind (arith, common_steps, lent-fits)

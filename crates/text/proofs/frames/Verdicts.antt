@@ -1,5 +1,5 @@
 -- Laws of verdicts: what it tells that no test refuses.
-use Rattle.std.proofs.Common.{if◌then◌else◌, ◌≡◌, refl, Bool, true, false, ℕ, ◌≤◌, ◌<◌, arith, ltb, ltb-false, le-ltb}
+use Rattle.std.proofs.Common.{if◌then◌else◌, ◌≡◌, refl, Bool, true, false, ℕ, ◌≤◌, ◌<◌, arith, ltb-false, le-ltb, nat_lt}
 use Rattle.std.proofs.lemmas.Grind.{common_steps}
 use Rattle.words.specs.lists.Numbers.{lowest}
 use Rattle.words.proofs.lists.Searches.{lowest-past, lowest-none}
@@ -23,8 +23,8 @@ picked-fine n i true e = absurd (let z : ◌≡◌ {A = ℕ} 0 1 = cc in omega a
 
 pub at-lowest-fine : (n : ℕ) (p : ℕ → Bool) (k : ℕ) → at_lowest n p k ≡ fine → (v : ℕ) → v < k → p v ≡ false
 at-lowest-fine n p k e v l =
-    let h : k ≤ lowest p 0 k = ltb-false (lowest p 0 k) k (picked-fine n (lowest p 0 k) (ltb (lowest p 0 k) k) e) in
+    let h : k ≤ lowest p 0 k = ltb-false (lowest p 0 k) k (picked-fine n (lowest p 0 k) (nat_lt (lowest p 0 k) k) e) in
     lowest-past p 0 k (omega arith) v (omega arith) (omega arith)
 
-pub at_none : (m : ℕ) (p : ℕ → Bool) (n : ℕ) → ((k : ℕ) → k < n → p k ≡ false) → at_lowest m p n ≡ fine
-at_none m p n h = grind (arith, common_steps, le-ltb, lowest-none)
+pub at-none : (m : ℕ) (p : ℕ → Bool) (n : ℕ) → ((k : ℕ) → k < n → p k ≡ false) → at_lowest m p n ≡ fine
+at-none m p n h = grind (arith, common_steps, le-ltb, lowest-none)

@@ -1,23 +1,23 @@
 -- The loop that reads a text: its frames from the last one down.
-use Rattle.std.proofs.Common.{if◌then◌else◌, ◌≡◌, refl, sym, ◌∙◌, ap, Bool, List, ◌++◌, ℕ, suc, ◌+◌, ◌-◌, ◌*◌, ◌≤◌, ◌<◌, arith, length}
+use Rattle.std.proofs.Common.{if◌then◌else◌, ◌≡◌, refl, sym, ◌∙◌, ap, Bool, List, ◌++◌, ℕ, suc, ◌+◌, ◌-◌, ◌*◌, ◌≤◌, ◌<◌, arith, length, flat_map}
 use Rattle.std.proofs.Math.Nat.{sub-zero}
 use Rattle.words.specs.lists.Numbers.{range, lowest}
-use Rattle.words.specs.lists.Sequences.{concat_map, written}
+use Rattle.words.specs.lists.Sequences.{written}
 use Rattle.words.proofs.lists.Searches.{lowest-over, lowest-below}
 use Rattle.words.proofs.lists.Joins.{concat-cons}
-use Rattle.words.proofs.lists.Written.{written_none, written-front, written-before}
+use Rattle.words.proofs.lists.Written.{written-none, written-front, written-before}
 use Rattle.text.specs.frames.Check.{has_bad_form, has_bad_sum}
 use Rattle.text.specs.frame_reading.inner.FrameReads.{stored_bytes, FrameRead}
 use Rattle.text.specs.reading.inner.Reads.{FramesRead}
 use Rattle.text.specs.declared.frame_reading.Faults.{Faults}
 
 stored-before : (t : List ℕ) (n f : ℕ) → 0 < f → f ≤ n
-    → concat_map (stored_bytes t) (range (f - 1) (n - (f - 1))) ≡ stored_bytes t (f - 1) ++ concat_map (stored_bytes t) (range f (n - f))
+    → flat_map (stored_bytes t) (range (f - 1) (n - (f - 1))) ≡ stored_bytes t (f - 1) ++ flat_map (stored_bytes t) (range f (n - f))
 stored-before t n f some low =
     let more : n - (f - 1) ≡ suc (n - f) = omega arith in
-    ap (λ (m : ℕ). concat_map (stored_bytes t) (range (f - 1) m)) more
+    ap (λ (m : ℕ). flat_map (stored_bytes t) (range (f - 1) m)) more
     ∙ concat-cons (stored_bytes t) (f - 1) (range (suc (f - 1)) (n - f))
-    ∙ ap (λ (j : ℕ). stored_bytes t (f - 1) ++ concat_map (stored_bytes t) (range j (n - f))) (omega arith)
+    ∙ ap (λ (j : ℕ). stored_bytes t (f - 1) ++ flat_map (stored_bytes t) (range j (n - f))) (omega arith)
 
 -- the frames from f up to n are read
 pub record Frames (t out₀ out : List ℕ) (n f bad wrong : ℕ) : Type 0 where
@@ -25,10 +25,9 @@ pub record Frames (t out₀ out : List ℕ) (n f bad wrong : ℕ) : Type 0 where
   pub form : bad ≡ lowest (has_bad_form t) f (n - f)
   pub sum : wrong ≡ lowest (has_bad_sum t) f (n - f)
   pub size : length out ≡ length out₀
-  pub buffer : out ≡ written out₀ (10 * f) (concat_map (stored_bytes t) (range f (n - f)))
+  pub buffer : out ≡ written out₀ (10 * f) (flat_map (stored_bytes t) (range f (n - f)))
 
 pub frames-none : (t out₀ : List ℕ) (n : ℕ) → Frames t out₀ out₀ n n n n
-unfolding concat_map
 frames-none t out₀ n =
     let z : n - n ≡ 0 = omega arith in
     record {
@@ -36,7 +35,7 @@ frames-none t out₀ n =
       form = sym (lowest-over (has_bad_form t) n n (omega arith));
       sum = sym (lowest-over (has_bad_sum t) n n (omega arith));
       size = refl;
-      buffer = sym (ap (λ (m : ℕ). written out₀ (10 * n) (concat_map (stored_bytes t) (range n m))) z ∙ written_none out₀ (10 * n));
+      buffer = sym (ap (λ (m : ℕ). written out₀ (10 * n) (flat_map (stored_bytes t) (range n m))) z ∙ written-none out₀ (10 * n));
     }
 
 module _ (t out₀ out : List ℕ) (n f bad wrong : ℕ) (done : Frames t out₀ out n f bad wrong) where
@@ -51,7 +50,7 @@ module _ (t out₀ out : List ℕ) (n f bad wrong : ℕ) (done : Frames t out₀
         sum = y ∙ ap (λ (c : Bool). if c then f - 1 else wrong) read.sum ∙ lowest-below (has_bad_sum t) n f wrong some done.low done.sum;
         size = s ∙ done.size;
         buffer = read.buffer ∙ ap (λ (o : List ℕ). written o (10 * (f - 1)) (stored_bytes t (f - 1))) done.buffer
-            ∙ written-before out₀ (10 * (f - 1)) (stored_bytes t (f - 1)) (concat_map (stored_bytes t) (range f (n - f)))
+            ∙ written-before out₀ (10 * (f - 1)) (stored_bytes t (f - 1)) (flat_map (stored_bytes t) (range f (n - f)))
             (10 * f) place (omega (arith, done.low))
             ∙ ap (written out₀ (10 * (f - 1))) (sym (stored-before t n f some done.low));
       }
@@ -67,6 +66,6 @@ module _ (t out₀ out : List ℕ) (n f bad wrong : ℕ) (done : Frames t out₀
     frames-all = record {
       form = done.form ∙ whole (lowest (has_bad_form t));
       sum = done.sum ∙ whole (lowest (has_bad_sum t));
-      buffer = done.buffer ∙ whole (λ i m. written out₀ (10 * i) (concat_map (stored_bytes t) (range i m)))
-          ∙ written-front out₀ (concat_map (stored_bytes t) (range 0 n));
+      buffer = done.buffer ∙ whole (λ i m. written out₀ (10 * i) (flat_map (stored_bytes t) (range i m)))
+          ∙ written-front out₀ (flat_map (stored_bytes t) (range 0 n));
     }

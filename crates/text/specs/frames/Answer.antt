@@ -1,5 +1,5 @@
 -- What an entry point answers and leaves in the buffer lent to it, in the paper's numbers.
-use Rattle.std.specs.Prelude.{ℕ, ◌/◌, ◌≡◌, List, ltb, length, Result, Ok, Err, if◌then◌else◌}
+use Rattle.std.specs.Prelude.{ℕ, ◌/◌, ◌≡◌, List, length, Result, Ok, Err, if◌then◌else◌, nat_lt}
 use Rattle.words.specs.lists.Sequences.{over}
 use Rattle.text.specs.declared.frames.refusals.TheConstants.{NO_ROOM}
 use Rattle.text.specs.frames.Verdict.{Verdict, fine, refused}
@@ -20,15 +20,17 @@ abbrev pub reply : Answer → Reply
 reply (Ok n) = success n
 reply (Err r) = refusal (number_of r) (index_of r) (ticks_of r)
 
--- the number that C gets, 0 for success, and the values beside it
+-- the number that C gets, 0 for success
 abbrev pub reply_number : Reply → ℕ
 reply_number (success n) = 0
 reply_number (refusal k i n) = k
 
+-- the index of a frame or a node, 0 for none
 abbrev pub reply_index : Reply → ℕ
 reply_index (success n) = 0
 reply_index (refusal k i n) = i
 
+-- what was made, or how many ticks were finished
 abbrev pub reply_count : Reply → ℕ
 reply_count (success n) = n
 reply_count (refusal k i n) = n
@@ -43,6 +45,7 @@ abbrev pub verdict_reply : Verdict → ℕ → Reply
 verdict_reply fine n = success n
 verdict_reply (refused k i) n = refusal k i 0
 
+-- an answer, and what the lent buffer then holds
 pub record BufferOutcome : Type 0 where
   pub reply : Reply
   pub buffer : List ℕ
@@ -56,7 +59,7 @@ pub record GivesBuffer (x : BufferOutcome) (answer : Answer) (after : List ℕ) 
 abbrev pub buffer_on : Verdict → ℕ → (Unit {0} → List ℕ) → List ℕ → BufferOutcome
 buffer_on (refused k i) unit new old = record { reply = refusal k i 0; buffer = old }
 buffer_on fine unit new old = let xs = new tt in
-    if ltb (length old) (length xs) then record { reply = refusal NO_ROOM 0 0; buffer = old }
+    if nat_lt (length old) (length xs) then record { reply = refusal NO_ROOM 0 0; buffer = old }
     else record { reply = success (length xs / unit); buffer = over xs old }
 
 -- all of xs stands at the front, counted by units

@@ -8,6 +8,7 @@ use Rattle.text.specs.declared.frames.refusals.Refusal.TheVariants.{Unfit, NoRoo
 use Rattle.text.specs.declared.frames.refusals.Refusal.TheVariants.{BadRebinding, Uneven, NoLittleChart, NoSpindle, NoPlace}
 use Rattle.text.specs.declared.frames.refusals.Refusal.TheVariants.{ManyWords, ManyLists}
 
+-- its number, 1 to 28
 abbrev pub number_of : Refusal → ℕ
 number_of BadLength = constant.BAD_LENGTH
 number_of (BadCharacter f) = constant.BAD_CHARACTER

@@ -1,7 +1,8 @@
 -- Verdicts: no test refuses, or the number of the first one that does and the frame index that it carries.
-use Rattle.std.specs.Prelude.{ℕ, Bool, true, false, ltb, if◌then◌else◌}
+use Rattle.std.specs.Prelude.{ℕ, Bool, true, false, if◌then◌else◌, nat_lt}
 use Rattle.words.specs.lists.Numbers.{lowest}
 
+-- what is found, by number and index
 pub data Verdict : Type 0 where
   fine : Verdict
   refused : ℕ → ℕ → Verdict
@@ -18,4 +19,4 @@ when n false = fine
 
 -- refused with number n at the lowest of k frames where the test holds
 abbrev pub at_lowest : ℕ → (ℕ → Bool) → ℕ → Verdict
-at_lowest n p k = let i = lowest p 0 k in if ltb i k then refused n i else fine
+at_lowest n p k = let i = lowest p 0 k in if nat_lt i k then refused n i else fine

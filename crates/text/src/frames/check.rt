@@ -2,7 +2,7 @@
 ghost use Rattle.std.specs.Prelude.{◌≡◌, ◌<◌};
 ghost use Rattle.text.specs.frames.Check.{is_bad_length};
 
-// 1: a length that is 0, no multiple of the unit, or over the most.
+/// 1 refuses a length: it is 0, no multiple of the unit, or above the most.
 pub fn bad_length(unit: usize, most: usize, n: usize) -> bool
     requires { 0 < unit }
     ensures { result ≡ is_bad_length unit most n }

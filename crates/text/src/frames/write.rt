@@ -6,7 +6,7 @@ ghost use Rattle.text.specs.frames.Frame.{byte_text, frame_text, ten_bytes_at, t
 use crate::digits::{character, characters};
 use crate::frames::sizes::*;
 
-// Bytes as they are, from an offset on.
+/// Writes bytes as they are, from an offset on.
 pub fn put_bytes(out: &mut [u8], at: usize, bytes: &[u8])
     requires { at + length bytes.now ≤ length out.old }
     ensures { out.new ≡ written out.old at bytes.now }
@@ -37,7 +37,7 @@ fn put_sum(out: &mut [u8], at: usize, b: u8)
     out[at + 1] = character(b % 16);
 }
 
-// The ten bytes of frame f of contents.
+/// The ten bytes of frame f, where contents have ten a frame.
 pub fn ten_at(bytes: &[u8], f: usize) -> [u8; FRAME]
     requires { FRAME * f + FRAME ≤ length bytes.now }
     ensures { result ≡ ten_bytes_at bytes.now f }
@@ -52,8 +52,8 @@ pub fn ten_at(bytes: &[u8], f: usize) -> [u8; FRAME]
 // Frame f of contents as text, from an offset on. All ten bytes are taken before a character is written: what is written might lie where
 // they are read, for all that the compiler sees, and it makes several characters at once only where that cannot be.
 fn put_nth(out: &mut [u8], at: usize, bytes: &[u8], f: usize)
-    requires at_in_bounds { at + LINE ≤ length out.old }
-    requires f_in_bounds { FRAME * f + FRAME ≤ length bytes.now }
+    requires room { at + LINE ≤ length out.old }
+    requires whole { FRAME * f + FRAME ≤ length bytes.now }
     ensures { out.new ≡ written out.old at (frame_text (ten_bytes_at bytes.now f)) }
 {
     let ten = ten_at(bytes, f);
@@ -67,16 +67,16 @@ fn put_nth(out: &mut [u8], at: usize, bytes: &[u8], f: usize)
     out[at + DIGITS] = LINE_FEED;
 }
 
-// Ten bytes as a frame, from an offset on.
+/// Writes ten bytes as a frame from an offset on: 23 characters, the digits in capitals.
 pub fn put_frame(out: &mut [u8], at: usize, bytes: &[u8])
-    requires at_in_bounds { at + LINE ≤ length out.old }
-    requires bytes_len { length bytes.now ≡ FRAME }
+    requires room { at + LINE ≤ length out.old }
+    requires ten { length bytes.now ≡ FRAME }
     ensures { out.new ≡ written out.old at (frame_text bytes.now) }
 {
     put_nth(out, at, bytes, 0);
 }
 
-// The text of contents, from an offset on.
+/// Writes the text of contents, ten bytes a frame, from an offset on.
 pub fn put_text(out: &mut [u8], at: usize, bytes: &[u8])
     requires { at + LINE * size bytes.now ≤ length out.old }
     ensures { out.new ≡ written out.old at (text_of bytes.now) }

@@ -19,8 +19,8 @@ module _ (b : List ℕ) (k : ℕ) where
   server-entry y h n e = e ∙ sym (entry-at b y.counts k h)
 
   -- no scheme counts as the first
-  pub first_entry : Whole b → k ≡ 0 → (n : ℕ) → n ≡ entry_of b 1 → n ≡ entry_at (table_image b) k
-  first_entry y z n e = e ∙ sym (ap (entry_at (table_image b)) z ∙ entry-at b y.counts 0 (omega arith))
+  pub first-entry : Whole b → k ≡ 0 → (n : ℕ) → n ≡ entry_of b 1 → n ≡ entry_at (table_image b) k
+  first-entry y z n e = e ∙ sym (ap (entry_at (table_image b)) z ∙ entry-at b y.counts 0 (omega arith))
 
 -- ---- the callee
 

@@ -1,7 +1,7 @@
 -- A call that finds the stack full: whether the stack is kept, and what the call answers and leaves.
-use Rattle.std.proofs.Common.{ℕ, ◌-◌, ◌≡◌, sym, ◌∙◌, ap, ap₂, Bool, true, false, ◌&&◌, ◌||◌, not, List, eqb, eq-eqb, ne_eqb, arith}
+use Rattle.std.proofs.Common.{ℕ, ◌-◌, ◌≡◌, sym, ◌∙◌, ap, ap₂, Bool, true, false, ◌&&◌, ◌||◌, not, List, eq-eqb, ne_eqb, arith, ◌==◌}
 use Rattle.std.proofs.lemmas.Grind.{common_steps}
-use Rattle.words.proofs.lists.Tests.{if-true, if-false}
+use Rattle.std.proofs.lemmas.Bool.{cond-true, cond-false}
 use Rattle.results.specs.Results.{Results, with_result, cleared_results}
 use Rattle.image.specs.Image.{Image, Label}
 use Rattle.image.specs.Decode.{handler_in}
@@ -21,7 +21,7 @@ use Rattle.tables.specs.declared.Label as declared
 -- ---- whether the stack is kept: h stands for the handler, l for the label at the bottom, z for what was read of it
 module _ (b : List ℕ) (s : State) (h : ℕ) (is : h ≡ handler_in b) where
   abbrev keeps : ℕ → ℕ → ℕ → Bool
-  keeps g l o = eqb g 0 || (not (eqb g 0) && (eqb l 1 || eqb o g))
+  keeps g l o = g == 0 || (not (g == 0) && (l == 1 || o == g))
 
   keeps-is : (l o : ℕ) → l ≡ place_at s 0 → o ≡ (table_label b (place_at s 0)).owner → keeps h l o ≡ is_full_stack_kept (table_image b) s
   keeps-is l o p q = grind (arith, common_steps, handler-at, label-at)
@@ -31,10 +31,10 @@ module _ (b : List ℕ) (s : State) (h : ℕ) (is : h ≡ handler_in b) where
 
   module _ (some : h ≡ 0 → ⊥) (l : ℕ) (place : l ≡ place_at s 0) where
     pub kept-owner : (l ≡ 1 → ⊥) → (z : declared.Label) → as_label z ≡ table_label b l
-        → eqb z.owner h ≡ is_full_stack_kept (table_image b) s
+        → (z.owner == h) ≡ is_full_stack_kept (table_image b) s
     kept-owner n z read = kept ∙ keeps-is l z.owner place (ap (λ (x : Label). x.owner) (read ∙ ap (table_label b) place))
       where
-        kept : eqb z.owner h ≡ keeps h l z.owner
+        kept : (z.owner == h) ≡ keeps h l z.owner
         kept = rw (ne_eqb h 0 some, ne_eqb l 1 n)
 
 -- ---- what the call answers and leaves, with t for whether the stack is kept
@@ -56,7 +56,7 @@ module _ (b before : List ℕ) (w : ℕ) (y : TopFull b (state_of before)) (t : 
   dropped = state_alone s (entry_at i i.handler) i.handler (cleared_results i.handler bits)
 
   pub full-kept : t ≡ true → GivesTickEnd b before w (record { number = 17; mask = 0; code = 0 }) before
-  full-kept q = grind (arith, common_steps, tick-full, if-true, steps-stopped)
+  full-kept q = grind (arith, common_steps, tick-full, cond-true, steps-stopped)
 
   -- l is the top, z what was read of it, k its number, h the handler and n its entry; then the bytes after each write
   pub full-drops : t ≡ false → (l : ℕ) → l ≡ top_of s → (z : declared.Label) → as_label z ≡ table_label b l
@@ -80,4 +80,4 @@ module _ (b before : List ℕ) (w : ℕ) (y : TopFull b (state_of before)) (t : 
       rw m
       (steps-ticked b before w caller.mask 96 dropped bytes
       (tick-full b s y.calls.stands w y.calls.low y.calls.high y.full
-      ∙ if-false (is_full_stack_kept i s) (stopped 17) (finished caller.mask 96 dropped) (sym e ∙ q)) left)
+      ∙ cond-false (is_full_stack_kept i s) (stopped 17) (finished caller.mask 96 dropped) (sym e ∙ q)) left)

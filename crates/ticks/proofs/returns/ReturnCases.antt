@@ -1,8 +1,8 @@
 -- What a return answers and leaves, by where the label beneath leads and by the bytes after each write.
-use Rattle.std.proofs.Common.{◌≡◌, sym, ◌∙◌, ap, ap₂, List, ℕ, ◌-◌, ◌≤◌, ◌<◌, arith, get_or}
+use Rattle.std.proofs.Common.{◌≡◌, sym, ◌∙◌, ap, ap₂, List, ℕ, ◌-◌, ◌≤◌, ◌<◌, arith, slice_index}
 use Rattle.tables.specs.Table.{table_image}
 use Rattle.rows.specs.Rows.{Found, missing, next_of}
-use Rattle.rows.proofs.TableRows.{next_small}
+use Rattle.rows.proofs.TableRows.{next-small}
 use Rattle.state.specs.declared.State.{State}
 use Rattle.state.specs.Changes.{with_depth, with_place, with_opened, with_alone}
 use Rattle.state.specs.Bytes.{state_of}
@@ -10,7 +10,7 @@ use Rattle.ticks.specs.declared.TickEnd.{TickEnd}
 use Rattle.ticks.specs.Tick.{top_of, stopped, moved_tick}
 use Rattle.ticks.specs.inner.TickContracts.{TopReturn, TopBack, beneath, end_of_tick, GivesTickMove}
 use Rattle.ticks.proofs.TickCases.{steps-stopped, steps-ticked, tick-back, tick-last, top-put}
-use Rattle.ticks.proofs.RowCases.{none_found, one_found}
+use Rattle.ticks.proofs.RowCases.{none-found, one-found}
 
 module _ (b before : List ℕ) (w : ℕ) where
   abbrev s : State
@@ -27,10 +27,10 @@ module _ (b before : List ℕ) (w : ℕ) where
     abbrev under : Found
     under = beneath (table_image b) s w
 
-    pub back-stop : ((k : ℕ) → get_or b k 0 < 256) → 256 ≤ n → (r : TickEnd) → r ≡ end_of_tick (stopped 18)
+    pub back-stop : ((k : ℕ) → slice_index b k < 256) → 256 ≤ n → (r : TickEnd) → r ≡ end_of_tick (stopped 18)
         → GivesTickMove b before w (record { step = r; label = 1 }) before
     back-stop bytes h r q =
-        let none : under ≡ missing = none_found n under e (λ u p. next_small b bytes _ w _ u p) h in
+        let none : under ≡ missing = none-found n under e (λ u p. next-small b bytes _ w _ u p) h in
         record {
           steps = rw q
               (steps-stopped b before w 18
@@ -44,7 +44,7 @@ module _ (b before : List ℕ) (w : ℕ) where
         → GivesTickMove b before w (record { step = record { number = 0; mask = 0; code = 3 }; label = n }) bytes
     back-steps h d k q r low first second bytes e₁ e₂ e₃ = record {
       steps = steps-ticked b before w 0 3 _ bytes
-          (tick-back b s y.top.stands w y.top.label y.deep ∙ ap (moved_tick 0 3 _ _) (one_found n under e h))
+          (tick-back b s y.top.stands w y.top.label y.deep ∙ ap (moved_tick 0 3 _ _) (one-found n under e h))
           (e₃ ∙ ap₂ with_depth (e₂ ∙ ap₂ (λ (u : State) (j : ℕ). with_place u j n) (e₁ ∙ ap (λ (j : ℕ). with_opened s j 0 0 0) q) r) q);
       label = top-put first bytes k n (ap (λ (u : State). u.places) e₃ ∙ ap (λ (u : State). u.places) e₂)
           (ap (λ (u : State). u.depth - 1) e₃ ∙ omega (arith, q, r)) low;

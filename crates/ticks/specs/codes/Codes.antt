@@ -1,6 +1,6 @@
 -- Tick codes: which code a tick has, and what a code stands for. Tick kinds are numbered as an image has them; a drop is none of them and
 -- has 5.
-use Rattle.std.specs.Prelude.{ℕ, ◌+◌, ◌-◌, Bool, ◌&&◌, leb, eqb, if◌then◌else◌}
+use Rattle.std.specs.Prelude.{ℕ, ◌+◌, ◌-◌, Bool, ◌&&◌, if◌then◌else◌, nat_le, ◌==◌}
 use Rattle.text.specs.declared.frames.sizes.TheConstants.{SCHEMES}
 use Rattle.text.specs.declared.frames.codes.TheConstants.{PLAIN_CODE, RETURN_CODE, HOME_CODE, OPERATION_CALL_CODE, FUNCTION_CALL_CODE}
 use Rattle.text.specs.declared.frames.codes.TheConstants.{DROP_CODE}
@@ -28,16 +28,16 @@ meaning_by home h = Home
 -- ---- what a code stands for
 -- base + h for a scheme h that can be called
 abbrev pub is_call_above : ℕ → ℕ → Bool
-is_call_above base code = leb (base + 2) code && leb code (base + SCHEMES)
+is_call_above base code = nat_le (base + 2) code && nat_le code (base + SCHEMES)
 
 unfoldable pub meaning_of : ℕ → Meaning
 meaning_of code =
-    if eqb code PLAIN_CODE then Plain
-    else if eqb code RETURN_CODE then Return
-    else if eqb code HOME_CODE then Home
+    if code == PLAIN_CODE then Plain
+    else if code == RETURN_CODE then Return
+    else if code == HOME_CODE then Home
     else if is_call_above OPERATION_CALL_CODE code then OperationCall (code - OPERATION_CALL_CODE)
     else if is_call_above FUNCTION_CALL_CODE code then FunctionCall (code - FUNCTION_CALL_CODE)
-    else if eqb code DROP_CODE then Drop
+    else if code == DROP_CODE then Drop
     else Unknown
 
 -- its tick kind, 5 for a call that dropped all open schemes, 255 for a code that no tick has, and the number called, 0 for none

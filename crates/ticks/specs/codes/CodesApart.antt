@@ -1,5 +1,5 @@
 -- Codes and ticks turn into each other with nothing lost: no two ticks share a code.
-use Rattle.std.specs.Prelude.{ℕ, ◌≤◌, ◌≡◌, eqb, if◌then◌else◌}
+use Rattle.std.specs.Prelude.{ℕ, ◌≤◌, ◌≡◌, if◌then◌else◌, ◌==◌}
 use Rattle.image.specs.Layout.{tick_kind}
 use Rattle.ticks.specs.declared.codes.Meaning.{Meaning}
 use Rattle.ticks.specs.declared.codes.Meaning.TheVariants.{Drop, Unknown}
@@ -31,7 +31,7 @@ KindBack = (k h : ℕ) → k ≤ 4 → tick_kind_of (meaning_by (tick_kind k) h)
 
 -- a code that stands for a tick is that tick's, which is 96 for a drop
 abbrev pub Coded : ℕ → Meaning → Type 0
-Coded c m = (if eqb (tick_kind_of m) 5 then 96 else code_of (tick_kind (tick_kind_of m)) (called_of m)) ≡ c
+Coded c m = (if tick_kind_of m == 5 then 96 else code_of (tick_kind (tick_kind_of m)) (called_of m)) ≡ c
 
 abbrev pub MeaningCoded : Type 0
 MeaningCoded = (c : ℕ) → (meaning_of c ≡ Unknown → ⊥) → Coded c (meaning_of c)

@@ -1,5 +1,5 @@
 -- What the functions of a tick on a prepared table and on the bytes of a state ask and promise.
-use Rattle.std.specs.Prelude.{ℕ, ◌-◌, ◌≤◌, false, ◌≡◌, List, eqb, if◌then◌else◌}
+use Rattle.std.specs.Prelude.{ℕ, ◌-◌, ◌≤◌, false, ◌≡◌, List, if◌then◌else◌, ◌==◌}
 use Rattle.results.specs.Results.{Results, result_of}
 use Rattle.image.specs.declared.layout.TheConstants.{NO_BIT, PLAIN, OPERATION_CALL, FUNCTION_CALL}
 use Rattle.image.specs.Image.{Image}
@@ -71,7 +71,7 @@ beneath i s w = row_leads i s.bits (place_at s (s.depth - 2)) w
 
 -- the bit that decides among the rows of a label of that kind, or 2 where none does
 abbrev pub bit_of : ℕ → ℕ → Results → ℕ
-bit_of kind called b = if eqb kind FUNCTION_CALL then (if result_of called b then 1 else 0) else NO_BIT
+bit_of kind called b = if kind == FUNCTION_CALL then (if result_of called b then 1 else 0) else NO_BIT
 
 -- ---- after a tick of s: the state, and what is answered
 abbrev pub state_after_tick : State → MachineTick → State

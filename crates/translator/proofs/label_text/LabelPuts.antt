@@ -1,9 +1,9 @@
 -- The steps of the functions that write entries and labels, at plain values.
-use Rattle.std.proofs.Common.{if◌then◌else◌, ◌≡◌, refl, sym, ◌∙◌, ap, Bool, true, false, List, [], ◌∷◌, ◌++◌, ℕ, ◌+◌, ◌*◌, ◌≤◌, ◌<◌, arith}
-use Rattle.std.proofs.Common.{length, get_or, ne_eqb}
+use Rattle.std.proofs.Common.{if◌then◌else◌, ◌≡◌, refl, sym, ◌∙◌, ap, Bool, true, false, List, [], ◌∷◌, ◌++◌, ℕ, ◌+◌, ◌*◌, ◌≤◌, ◌<◌, arith, slice_index}
+use Rattle.std.proofs.Common.{length, ne_eqb}
 use Rattle.std.proofs.lemmas.Grind.{common_steps}
 use Rattle.words.specs.lists.Sequences.{written}
-use Rattle.words.proofs.lists.Tests.{if-true, if-false}
+use Rattle.std.proofs.lemmas.Bool.{cond-true, cond-false}
 use Rattle.words.proofs.lists.Written.{written-more}
 use Rattle.words.proofs.lists.Fills.{Pieces, pieces-turn}
 use Rattle.text.specs.frames.Frame.{size}
@@ -38,14 +38,14 @@ module _ {c : Chart} {labels : List ℕ} {h v : ℕ} (s : OfScheme c labels h) (
   next-inside : next0 c v < size c
   next-inside = (known_facts.arc0 v begin-inside (λ z. omega (arith, begin-kind))).inside
 
-  pub entry_read : v < length labels
-  entry_read = omega (arith, ok.long, begin-inside)
+  pub entry-read : v < length labels
+  entry-read = omega (arith, ok.long, begin-inside)
 
   pub entry-field : 10 * v + 3 < length c
   entry-field = omega (arith, known_facts.whole, begin-inside)
 
-  pub entry_next : (w : ℕ) → w ≡ next0 c v → w < length labels
-  entry_next w q = omega (arith, ok.long, next-inside)
+  pub entry-next : (w : ℕ) → w ≡ next0 c v → w < length labels
+  entry-next w q = omega (arith, ok.long, next-inside)
 
   starts : (b : Bool) → is_stop c v ≡ b → start c h ≡ (if b then v else next0 c v)
   unfolding start
@@ -54,15 +54,15 @@ module _ {c : Chart} {labels : List ℕ} {h v : ℕ} (s : OfScheme c labels h) (
   stop-by : is_numbered c v ≡ is_stop c v
   stop-by = numbered-stop c v (λ z. omega (arith, begin-kind))
 
-  pub entry-own : 2 ≤ get_or labels v 0 → get_or labels v 0 ≡ entry c h
+  pub entry-own : 2 ≤ slice_index labels v → slice_index labels v ≡ entry c h
   entry-own g =
-      let m : get_or labels v 0 ≡ label c v = ok.at v begin-inside in
+      let m : slice_index labels v ≡ label c v = ok.at v begin-inside in
       m ∙ ap (label c) (sym (starts true (sym stop-by ∙ own-label c v (omega arith))))
 
-  pub entry_other : get_or labels v 0 < 2 → (w : ℕ) → w ≡ next0 c v → get_or labels w 0 ≡ entry c h
-  entry_other g w q =
-      let m : get_or labels v 0 ≡ label c v = ok.at v begin-inside in
-      ap (λ (x : ℕ). get_or labels x 0) q ∙ ok.at (next0 c v) next-inside
+  pub entry-other : slice_index labels v < 2 → (w : ℕ) → w ≡ next0 c v → slice_index labels w ≡ entry c h
+  entry-other g w q =
+      let m : slice_index labels v ≡ label c v = ok.at v begin-inside in
+      ap (λ (x : ℕ). slice_index labels x) q ∙ ok.at (next0 c v) next-inside
       ∙ ap (label c) (sym (starts false (sym stop-by ∙ no-own-label c v (omega arith))))
 
 pub entries-turn : (c : Chart) (out₀ out out' : List ℕ) (at n k place l : ℕ) → Pieces (entry_bytes c) 10 out₀ out at n k → k < n
@@ -79,22 +79,22 @@ pub fixed-done : (out out₁ out₂ a b : List ℕ) (at : ℕ) → length a ≡ 
 fixed-done out out₁ out₂ a b at n h e₁ e₂ = written-more out at a b out₁ out₂ (at + 10) (omega arith) (omega arith) e₁ e₂
 
 module _ {c : Chart} {labels : List ℕ} {v : ℕ} (node : AtNode c labels v) where
-  read : get_or labels v 0 ≡ label c v
+  read : slice_index labels v ≡ label c v
   read = node.chart.labelled.at v node.inside
 
-  pub label-none : get_or labels v 0 < 2 → node_label_bytes c v ≡ []
-  label-none h = grind (arith, common_steps, no-own-label, if-false, read)
+  pub label-none : slice_index labels v < 2 → node_label_bytes c v ≡ []
+  label-none h = grind (arith, common_steps, no-own-label, cond-false, read)
 
-  label-one : 2 ≤ get_or labels v 0 → node_label_bytes c v ≡ label_frame (label c v) (stop_label c v)
-  label-one h = grind (arith, common_steps, own-label, if-true, read)
+  label-one : 2 ≤ slice_index labels v → node_label_bytes c v ≡ label_frame (label c v) (stop_label c v)
+  label-one h = grind (arith, common_steps, own-label, cond-true, read)
 
-  label-long : 2 ≤ get_or labels v 0 → length (node_label_bytes c v) ≡ 10
+  label-long : 2 ≤ slice_index labels v → length (node_label_bytes c v) ≡ 10
   label-long h = ap (λ (x : List ℕ). length x) (label-one h)
 
-  pub label-room : 2 ≤ get_or labels v 0 → (at n : ℕ) → at + length (node_label_bytes c v) ≤ n → at + 10 ≤ n
+  pub label-room : 2 ≤ slice_index labels v → (at n : ℕ) → at + length (node_label_bytes c v) ≤ n → at + 10 ≤ n
   label-room h at n r = omega (arith, label-long h)
 
-  pub label-done : 2 ≤ get_or labels v 0 → (out out' : List ℕ) (at : ℕ)
-      → out' ≡ written out at (label_frame (get_or labels v 0) (stop_label c v))
+  pub label-done : 2 ≤ slice_index labels v → (out out' : List ℕ) (at : ℕ)
+      → out' ≡ written out at (label_frame (slice_index labels v) (stop_label c v))
       → Put out at (node_label_bytes c v) (at + 10) out'
   label-done h out out' at e = grind (arith, common_steps, read, label-one, label-long)

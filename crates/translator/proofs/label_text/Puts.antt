@@ -2,9 +2,9 @@
 use Rattle.std.proofs.Common.{◌≡◌, refl, sym, ◌∙◌, ap, subst, List, [], ◌++◌, ℕ, zero, suc, ◌+◌, ◌-◌, ◌≤◌, ◌<◌, zero-add, add-zero, add-one}
 use Rattle.std.proofs.Common.{arith, length, length-append}
 use Rattle.std.proofs.lemmas.Grind.{common_steps}
-use Rattle.words.specs.lists.Sequences.{concat_map, written}
+use Rattle.words.specs.lists.Sequences.{written}
 use Rattle.words.proofs.lists.Joins.{concat-range-snoc}
-use Rattle.words.proofs.lists.Written.{written_none, written-length, written-more}
+use Rattle.words.proofs.lists.Written.{written-none, written-length, written-more}
 use Rattle.translator.specs.label_text.inner.LabelBytes.{up_to, Put}
 
 -- ---- bytes put, and others put after them
@@ -18,21 +18,24 @@ module _ {t a b : List ℕ} (d : Parted t a b) where
   lengths : length t ≡ length a + length b
   lengths = ap (λ (x : List ℕ). length x) d.parts ∙ length-append a b
 
-  pub both_first : (at n : ℕ) → at + length t ≤ n → at + length a ≤ n
-  both_first at n h = omega (arith, lengths)
+  pub both-first : (at n : ℕ) → at + length t ≤ n → at + length a ≤ n
+  both-first at n h = omega (arith, lengths)
 
   module _ {out out₁ : List ℕ} {at mid : ℕ} (h : at + length t ≤ length out) (p : Put out at a mid out₁) where
     pub both-second : mid + length b ≤ length out₁
-    both-second = omega (arith, lengths, p.ends, put-length (both_first at (length out) h) p)
+    both-second = omega (arith, lengths, p.ends, put-length (both-first at (length out) h) p)
 
     pub both-done : {out₂ : List ℕ} {r : ℕ} → Put out₁ mid b r out₂ → Put out at t r out₂
     both-done {out₂} q = grind (arith, common_steps, written-more, lengths)
 
-pub nothing_put : (out t : List ℕ) (at : ℕ) → t ≡ [] → Put out at t at out
-nothing_put out t at e = grind (arith, common_steps, written_none)
+pub nothing-put : (out t : List ℕ) (at : ℕ) → t ≡ [] → Put out at t at out
+nothing-put out t at e = grind (arith, common_steps, written-none)
 
-pub room_as : (t u : List ℕ) (at n : ℕ) → t ≡ u → at + length t ≤ n → at + length u ≤ n
-room_as t u at n e h = omega (arith, ap (λ (x : List ℕ). length x) e)
+pub put-as : {out out' out'' t : List ℕ} {at r r' : ℕ} → r' ≡ r → out'' ≡ out' → Put out at t r out' → Put out at t r' out''
+put-as e q p = record { ends = e ∙ p.ends; holds = q ∙ p.holds }
+
+pub room-as : (t u : List ℕ) (at n : ℕ) → t ≡ u → at + length t ≤ n → at + length u ≤ n
+room-as t u at n e h = omega (arith, ap (λ (x : List ℕ). length x) e)
 
 pub done-as : (t u out out' : List ℕ) (at r : ℕ) → t ≡ u → Put out at u r out' → Put out at t r out'
 done-as t u out out' at r e q = subst (λ (x : List ℕ). Put out at x r out') (sym e) q
@@ -56,8 +59,7 @@ module _ (piece : ℕ → List ℕ) where
       omega (arith, up-mono u d, ap (λ (x : List ℕ). length x) (e ∙ up_more (u + d)) ∙ length-append (up_to piece (u + d)) (piece (u + d)))
 
   pub appended-start : (out : List ℕ) (at n : ℕ) → Appended piece out out at at n 0
-  unfolding concat_map
-  appended-start out at n = record { within = omega arith; size = refl; here = omega arith; buffer = sym (written_none out at) }
+  appended-start out at n = record { within = omega arith; size = refl; here = omega arith; buffer = sym (written-none out at) }
 
   module _ (out₀ out : List ℕ) (at place n v : ℕ) (t : Appended piece out₀ out at place n v) where
     module _ (l : v < n) (room : at + length (up_to piece n) ≤ length out₀) where

@@ -2,20 +2,20 @@
 use Rattle.std.proofs.Common.{ℕ, zero, suc, ◌+◌, ◌/◌, ◌%◌, ◌^◌, ◌≤◌, ◌<◌, ◌≡◌, sym, ◌∙◌, ap, ap₂, pow-suc, one-add, arith, bit_and, shr-shr}
 use lib.Bits.{and_step}
 use Rattle.std.proofs.lemmas.Grind.{common_steps}
-use Rattle.words.specs.bits.Word.{bit}
+use Rattle.std.specs.Int.{bit_at}
 use Rattle.words.proofs.bits.BitLaws.{bit-zero, bit-and}
 
-pub bit-suc : (c a : ℕ) → bit c (suc a) ≡ bit (c / 2) a
+pub bit-suc : (c a : ℕ) → bit_at c (suc a) ≡ bit_at (c / 2) a
 bit-suc c a = ap (λ (n : ℕ). c / 2 ^ n % 2) (sym (one-add a)) ∙ sym (ap (λ (x : ℕ). x % 2) (shr-shr c 1 a))
 
 pub half-power : (c a : ℕ) → (c + 2 ^ suc a) / 2 ≡ c / 2 + 2 ^ a
 half-power c a = omega (arith, pow-suc 2 a)
 
-pub odd_power : (c a : ℕ) → (c + 2 ^ suc a) % 2 ≡ c % 2
-odd_power c a = omega (arith, pow-suc 2 a)
+pub odd-power : (c a : ℕ) → (c + 2 ^ suc a) % 2 ≡ c % 2
+odd-power c a = omega (arith, pow-suc 2 a)
 
 -- the mask stays small
-pub more-small : (a k c : ℕ) → a < k → c < 2 ^ k → (bit c a ≡ 1 → ⊥) → c + 2 ^ a < 2 ^ k
+pub more-small : (a k c : ℕ) → a < k → c < 2 ^ k → (bit_at c a ≡ 1 → ⊥) → c + 2 ^ a < 2 ^ k
 more-small zero zero c l h n = absurd (omega arith)
 more-small zero (suc k) c l h n =
     let z : c % 2 ≡ 1 → ⊥ = λ o. n (bit-zero c ∙ o) in
@@ -32,7 +32,7 @@ within-half v c e = (omega (arith, e, and_step v c), omega (arith, e, and_step v
 pub half-within : (v c : ℕ) → bit_and (v / 2) (c / 2) ≡ v / 2 → v % 2 ≤ c % 2 → bit_and v c ≡ v
 half-within v c e l = and_step v c ∙ omega (arith, e)
 
-pub more-within-0 : (a v c : ℕ) → (bit c a ≡ 1 → ⊥) → bit_and v c ≡ v → bit_and v (c + 2 ^ a) ≡ v
+pub more-within-0 : (a v c : ℕ) → (bit_at c a ≡ 1 → ⊥) → bit_and v c ≡ v → bit_and v (c + 2 ^ a) ≡ v
 more-within-0 zero v c n e =
     let z : c % 2 ≡ 1 → ⊥ = λ o. n (bit-zero c ∙ o) in
     let w : (bit_and (v / 2) (c / 2) ≡ v / 2) × (v % 2 ≤ c % 2) = within-half v c e in
@@ -41,9 +41,9 @@ more-within-0 (suc a) v c n e =
     let w : (bit_and (v / 2) (c / 2) ≡ v / 2) × (v % 2 ≤ c % 2) = within-half v c e in
     half-within v (c + 2 ^ suc a)
     (ap (bit_and (v / 2)) (half-power c a) ∙ more-within-0 a (v / 2) (c / 2) (λ o. n (bit-suc c a ∙ o)) w.0)
-    (omega (arith, odd_power c a))
+    (omega (arith, odd-power c a))
 
-pub more-within-1 : (a v c : ℕ) → (bit c a ≡ 1 → ⊥) → bit_and v c ≡ v → bit_and (v + 2 ^ a) (c + 2 ^ a) ≡ v + 2 ^ a
+pub more-within-1 : (a v c : ℕ) → (bit_at c a ≡ 1 → ⊥) → bit_and v c ≡ v → bit_and (v + 2 ^ a) (c + 2 ^ a) ≡ v + 2 ^ a
 more-within-1 zero v c n e =
     let z : c % 2 ≡ 1 → ⊥ = λ o. n (bit-zero c ∙ o) in
     let w : (bit_and (v / 2) (c / 2) ≡ v / 2) × (v % 2 ≤ c % 2) = within-half v c e in
@@ -55,8 +55,8 @@ more-within-1 (suc a) v c n e =
     half-within (v + 2 ^ suc a) (c + 2 ^ suc a)
     (ap₂ bit_and (half-power v a) (half-power c a) ∙ more-within-1 a (v / 2) (c / 2) (λ o. n (bit-suc c a ∙ o)) w.0
     ∙ sym (half-power v a))
-    (omega (arith, odd_power c a, odd_power v a))
+    (omega (arith, odd-power c a, odd-power v a))
 
 -- what the mask lacks the values lack
-pub within-lacks : (a v c : ℕ) → bit_and v c ≡ v → (bit c a ≡ 1 → ⊥) → bit v a ≡ 0
+pub within-lacks : (a v c : ℕ) → bit_and v c ≡ v → (bit_at c a ≡ 1 → ⊥) → bit_at v a ≡ 0
 within-lacks a v c e n = grind (arith, common_steps, bit-and)

@@ -5,9 +5,9 @@ use Rattle.std.proofs.Math.Decide.{dec_le, dec_lt}
 use Rattle.std.proofs.Math.ListN.{get_or-eq_default}
 use Rattle.std.proofs.lemmas.Grind.{common_steps}
 use Rattle.words.specs.lists.Numbers.{range, any, count}
-use Rattle.words.proofs.lists.Tests.{no_both, or_cases, or-true-l, or_true_r, and_l, and_r, and-true}
-use Rattle.words.proofs.lists.Searches.{any-true, any_some}
-use Rattle.words.proofs.lists.Counts.{count-le, count_same}
+use Rattle.words.proofs.lists.Tests.{no_both, or-cases, or-true-l, or-true-r, and-l, and-r, and-true}
+use Rattle.words.proofs.lists.Searches.{any-true, any-some}
+use Rattle.words.proofs.lists.Counts.{count-le, count-same}
 use Rattle.words.proofs.lists.Ranges.{length-map-range, get_or-map-range}
 use Rattle.words.specs.graph.Reach.{is_member, is_marked, only_marks, spread, reach, nodes_joined_from}
 
@@ -22,26 +22,26 @@ marked-below n ms v e t = grind (arith, common_steps, get_or-eq_default, no_both
 pub only-long : (n : ℕ) (vs : List ℕ) → length (only_marks n vs) ≡ n
 only-long n vs = length-map-range (λ v. is_member v vs) 0 n
 
-pub only_at : (n : ℕ) (vs : List ℕ) (v : ℕ) → v < n → is_marked (only_marks n vs) v ≡ is_member v vs
-only_at n vs v l = marks-at (λ v. is_member v vs) n v l
+pub only-at : (n : ℕ) (vs : List ℕ) (v : ℕ) → v < n → is_marked (only_marks n vs) v ≡ is_member v vs
+only-at n vs v l = marks-at (λ v. is_member v vs) n v l
 
 module _ (n : ℕ) (arcs : ℕ → List ℕ) where
   -- ---- one round
   abbrev pub from : List Bool → ℕ → ℕ → Bool
   from ms v u = is_marked ms u && is_member v (arcs u)
 
-  pub spread_at : (ms : List Bool) (v : ℕ) → v < n → is_marked (spread n arcs ms) v ≡ (is_marked ms v || any (from ms v) 0 n)
-  spread_at ms v l = marks-at (λ v. is_marked ms v || any (from ms v) 0 n) n v l
+  pub spread-at : (ms : List Bool) (v : ℕ) → v < n → is_marked (spread n arcs ms) v ≡ (is_marked ms v || any (from ms v) 0 n)
+  spread-at ms v l = marks-at (λ v. is_marked ms v || any (from ms v) 0 n) n v l
 
   pub spread-long : (ms : List Bool) → length (spread n arcs ms) ≡ n
   spread-long ms = length-map-range (λ v. is_marked ms v || any (from ms v) 0 n) 0 n
 
   pub spread-grow : (ms : List Bool) → length ms ≡ n → (v : ℕ) → is_marked ms v ≡ true → is_marked (spread n arcs ms) v ≡ true
-  spread-grow ms e v t = spread_at ms v (marked-below n ms v e t) ∙ or-true-l (is_marked ms v) (any (from ms v) 0 n) t
+  spread-grow ms e v t = spread-at ms v (marked-below n ms v e t) ∙ or-true-l (is_marked ms v) (any (from ms v) 0 n) t
 
   pub spread-arc : (ms : List Bool) (u v : ℕ) → u < n → v < n → is_marked ms u ≡ true → is_member v (arcs u) ≡ true
       → is_marked (spread n arcs ms) v ≡ true
-  spread-arc ms u v lu lv m s = spread_at ms v lv ∙ or_true_r (is_marked ms v) (any (from ms v) 0 n)
+  spread-arc ms u v lu lv m s = spread-at ms v lv ∙ or-true-r (is_marked ms v) (any (from ms v) 0 n)
       (any-true (from ms v) 0 n u (omega arith) (omega arith) (and-true (is_marked ms u) (is_member v (arcs u)) m s))
 
   -- a node that one round marks was marked, or an arc of a marked one leads to it
@@ -52,7 +52,7 @@ module _ (n : ℕ) (arcs : ℕ → List ℕ) where
     pub leads : is_member v (arcs node) ≡ true
 
   pub spread-back : (ms : List Bool) (v : ℕ) → is_marked (spread n arcs ms) v ≡ true → (v < n) × ((is_marked ms v ≡ true) ⊎ Before ms v)
-  spread-back ms v m = grind (arith, common_steps, and_l, and_r, or_cases, any_some, marked-below, spread_at, spread-long)
+  spread-back ms v m = grind (arith, common_steps, and-l, and-r, or-cases, any-some, marked-below, spread-at, spread-long)
 
   -- ---- all rounds
   -- a test that goes on over every arc
@@ -86,7 +86,7 @@ module _ (n : ℕ) (arcs : ℕ → List ℕ) where
   -- a round that adds nothing changes nothing
   same-marks : (ms : List Bool) → length ms ≡ n → many (spread n arcs ms) ≤ many ms → spread n arcs ms ≡ ms
   same-marks ms e l = ext_get_or false (spread n arcs ms) ms (spread-long ms ∙ sym e)
-      (λ v h. count_same (is_marked ms) (is_marked (spread n arcs ms)) 0 n (λ v x y m. spread-grow ms e v m)
+      (λ v h. count-same (is_marked ms) (is_marked (spread n arcs ms)) 0 n (λ v x y m. spread-grow ms e v m)
       l v (omega arith) (omega (arith, spread-long ms)))
 
   reach-suc : (k : ℕ) (ms : List Bool) → reach n arcs (suc k) ms ≡ spread n arcs (reach n arcs k ms)
@@ -121,11 +121,11 @@ module _ (n : ℕ) (arcs : ℕ → List ℕ) where
     joined-below v m = marked-below n (nodes_joined_from n arcs vs) v joined-long m
 
     pub joined-first : (v : ℕ) → v < n → is_member v vs ≡ true → is_marked (nodes_joined_from n arcs vs) v ≡ true
-    joined-first v l s = reach-grow n (only_marks n vs) (only-long n vs) v (only_at n vs v l ∙ s)
+    joined-first v l s = reach-grow n (only_marks n vs) (only-long n vs) v (only-at n vs v l ∙ s)
 
     pub joined-closed : Closed (is_marked (nodes_joined_from n arcs vs))
     joined-closed = reach-closed (only_marks n vs) (only-long n vs)
 
     pub joined-least : (t : ℕ → Bool) → Closed t → ((v : ℕ) → v < n → is_member v vs ≡ true → t v ≡ true)
         → (v : ℕ) → is_marked (nodes_joined_from n arcs vs) v ≡ true → t v ≡ true
-    joined-least t c h = grind (arith, common_steps, marked-below, only-long, only_at, reach-least)
+    joined-least t c h = grind (arith, common_steps, marked-below, only-long, only-at, reach-least)

@@ -1,15 +1,15 @@
 -- Nodes that are enlisted: each is marked, the first of the list are the marked ones, and what stood there stays.
-use Rattle.std.proofs.Common.{◌≡◌, refl, sym, ◌∙◌, ap, subst, ◌⊎◌, inl, inr, ⊎_elim, Bool, true, false, not, List, [], ◌∷◌, ℕ, ◌+◌, ◌≤◌}
-use Rattle.std.proofs.Common.{◌<◌, arith, ltb, length, get_or, set, replicate, length-set, get_or-set_same, get_or-set_other, ltb-true}
+use Rattle.std.proofs.Common.{◌≡◌, refl, sym, ◌∙◌, ap, subst, ◌⊎◌, inl, inr, ⊎_elim, Bool, true, false, not, List, [], ◌∷◌, ℕ, ◌+◌, ◌≤◌, nat_lt, slice_index}
+use Rattle.std.proofs.Common.{◌<◌, arith, length, set, replicate, length-set, get_or-set_same, get_or-set_other, ltb-true}
 use Rattle.std.proofs.Common.{lt-ltb, le-ltb}
 use Rattle.std.proofs.Math.ListN.{length-replicate}
 use Rattle.std.proofs.Math.Seq.{set_out, set-get_or}
 use Rattle.std.proofs.lemmas.Grind.{common_steps}
-use Rattle.words.proofs.lists.Tests.{no_both, and_l, and_r, and-true, and_no, not-true, cases, split}
+use Rattle.words.proofs.lists.Tests.{no_both, and-l, and-r, and-true, and-no, not-true, cases, split}
 use Rattle.words.proofs.lists.Counts.{count-le}
 use Rattle.words.specs.graph.Reach.{is_marked, only_marks}
 use Rattle.words.specs.graph.inner.Listed.{many, mark_all, Listing, listing, is_unmarked, enlist, enlist_all, Among, Listed}
-use Rattle.words.proofs.graph.Marking.{set-hit, set-grow, set_back, set-many, all-only}
+use Rattle.words.proofs.graph.Marking.{set-hit, set-grow, set-back, set-many, all-only}
 use Rattle.words.proofs.graph.Lists.{Longer, longer-same, longer-on, listed-none}
 
 -- ---- the first k of a list and one more
@@ -19,49 +19,49 @@ among-more list k v x a = grind (arith, common_steps, get_or-set_other)
 among-last : (list : List ℕ) (k v : ℕ) → k < length list → Among (set list k v) (k + 1) v
 among-last list k v l = record { place = k; inside = omega arith; found = get_or-set_same list k v 0 l }
 
-last_or : (list : List ℕ) (k x : ℕ) (p : ℕ → Bool) → k < length list → p x ≡ true → ((i : ℕ) → i < k → p (get_or list i 0) ≡ true)
-    → (i : ℕ) → i < k + 1 → p (get_or (set list k x) i 0) ≡ true
+last_or : (list : List ℕ) (k x : ℕ) (p : ℕ → Bool) → k < length list → p x ≡ true → ((i : ℕ) → i < k → p (slice_index list i) ≡ true)
+    → (i : ℕ) → i < k + 1 → p (slice_index (set list k x) i) ≡ true
 last_or list k x p l m h i b = grind (arith, common_steps, get_or-set_other, get_or-set_same)
 
 -- ---- one mark more
 module _ (ms : List Bool) (u : ℕ) where
   -- a node without a mark, and the two other cases
   pub mark-new : u < length ms → is_marked ms u ≡ false → is_unmarked ms u ≡ true
-  mark-new l m = and-true (ltb u (length ms)) (not (is_marked ms u)) (lt-ltb u (length ms) l) (rw m)
+  mark-new l m = and-true (nat_lt u (length ms)) (not (is_marked ms u)) (lt-ltb u (length ms) l) (rw m)
 
   pub mark-out : length ms ≤ u → is_unmarked ms u ≡ false
   mark-out l = rw (le-ltb u (length ms) l)
 
   pub mark-there : is_marked ms u ≡ true → is_unmarked ms u ≡ false
-  mark-there m = and_no (ltb u (length ms)) (not (is_marked ms u)) (rw m)
+  mark-there m = and-no (nat_lt u (length ms)) (not (is_marked ms u)) (rw m)
 
   pub mark-same : is_unmarked ms u ≡ false → set ms u true ≡ ms
   mark-same f = grind (arith, common_steps, set_out, set-get_or, no_both, split, cases, mark-new)
 
   module _ (k : ℕ) (counted : k ≡ many ms) (new : is_unmarked ms u ≡ true) where
     below : u < length ms
-    below = ltb-true u (length ms) (and_l (ltb u (length ms)) (not (is_marked ms u)) new)
+    below = ltb-true u (length ms) (and-l (nat_lt u (length ms)) (not (is_marked ms u)) new)
 
     bare : is_marked ms u ≡ false
-    bare = not-true (is_marked ms u) (and_r (ltb u (length ms)) (not (is_marked ms u)) new)
+    bare = not-true (is_marked ms u) (and-r (nat_lt u (length ms)) (not (is_marked ms u)) new)
 
-    pub list_counted : k + 1 ≡ many (set ms u true)
-    list_counted = ap (λ (j : ℕ). j + 1) counted ∙ sym (set-many ms u below bare)
+    pub list-counted : k + 1 ≡ many (set ms u true)
+    list-counted = ap (λ (j : ℕ). j + 1) counted ∙ sym (set-many ms u below bare)
 
     pub list-room : k < length ms
-    list-room = omega (arith, list_counted, count-le (is_marked (set ms u true)) 0 (length (set ms u true)), length-set ms u true)
+    list-room = omega (arith, list-counted, count-le (is_marked (set ms u true)) 0 (length (set ms u true)), length-set ms u true)
 
     module _ (list : List ℕ) (fits : length ms ≤ length list) where
       pub list-new : Listed ms list k → Listed (set ms u true) (set list k u) (k + 1)
       list-new is =
           let r : k < length list = omega (arith, list-room) in
           record {
-            counted = list_counted;
-            are = last_or list k u (is_marked (set ms u true)) r (set-hit ms u below) (λ i b. set-grow ms u (get_or list i 0) (is.are i b));
+            counted = list-counted;
+            are = last_or list k u (is_marked (set ms u true)) r (set-hit ms u below) (λ i b. set-grow ms u (slice_index list i) (is.are i b));
             all = λ v t. ⊎_elim
                 (λ (e : v ≡ u). subst (λ (x : ℕ). Among (set list k u) (k + 1) x) (sym e) (among-last list k u r))
                 (λ (t : is_marked ms v ≡ true). among-more list k v u (is.all v t))
-                (set_back ms u v t);
+                (set-back ms u v t);
           }
 
       pub longer-new : Longer list (set list k u) k (k + 1)
@@ -78,7 +78,7 @@ module _ (s : Listing) (u : ℕ) where
   enlist-same t = simp (t, mark-same s.marks u t)
 
   pub enlist-counted : (t : Listing) → t ≡ enlist s u → s.count ≡ many s.marks → t.count ≡ many t.marks
-  enlist-counted t q e = grind (arith, common_steps, cases, list_counted, enlist-new, enlist-same)
+  enlist-counted t q e = grind (arith, common_steps, cases, list-counted, enlist-new, enlist-same)
 
 -- nodes are enlisted one after the other: they are marked, the list has the marked nodes, and it goes on
 pub record Enlisted (s : Listing) (us : List ℕ) (t : Listing) : Type 0 where

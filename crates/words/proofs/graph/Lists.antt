@@ -1,20 +1,20 @@
 -- Marked nodes in a list: what is followed in the order of the list, as far as it goes, has no arc that leaves the marks.
-use Rattle.std.proofs.Common.{◌≡◌, refl, sym, ◌∙◌, ap, subst, ⊎_elim, Bool, true, false, List, ℕ, ◌+◌, ◌≤◌, ◌<◌, arith, length, get_or}
+use Rattle.std.proofs.Common.{◌≡◌, refl, sym, ◌∙◌, ap, subst, ⊎_elim, Bool, true, false, List, ℕ, ◌+◌, ◌≤◌, ◌<◌, arith, length, slice_index}
 use Rattle.std.proofs.Common.{replicate}
 use Rattle.std.proofs.Math.ListN.{length-replicate, get_or-replicate}
 use Rattle.std.proofs.lemmas.Grind.{common_steps}
 use Rattle.words.proofs.lists.Tests.{no_both}
-use Rattle.words.proofs.lists.Counts.{count-le, count_none}
+use Rattle.words.proofs.lists.Counts.{count-le, count-none}
 use Rattle.words.specs.graph.Reach.{is_member, is_marked}
 use Rattle.words.specs.graph.inner.Listed.{mark_all, Among, Listed}
 use Rattle.words.proofs.graph.Closure.{marked-below, Closed, reach-closed}
-use Rattle.words.proofs.graph.Marking.{all-long, all-grow, all-hit, all_back, Joining}
+use Rattle.words.proofs.graph.Marking.{all-long, all-grow, all-hit, all-back, Joining}
 
 -- ---- a list that stays
 -- the list goes on: its first k stay, and j, not fewer, now count
 pub record Longer (list on : List ℕ) (k j : ℕ) : Type 0 where
   pub more : k ≤ j
-  pub kept : (i : ℕ) → i < k → get_or on i 0 ≡ get_or list i 0
+  pub kept : (i : ℕ) → i < k → slice_index on i ≡ slice_index list i
 
 pub longer-same : (list : List ℕ) (k : ℕ) → Longer list list k k
 longer-same list k = record { more = omega arith; kept = λ i l. refl }
@@ -24,7 +24,7 @@ longer-on a b d i j k x y = grind (arith, common_steps)
 
 -- ---- no mark
 pub listed-none : (n : ℕ) (list : List ℕ) → Listed (replicate n false) list 0
-listed-none n list = grind (arith, common_steps, get_or-replicate, no_both, marked-below, count_none, length-replicate)
+listed-none n list = grind (arith, common_steps, get_or-replicate, no_both, marked-below, count-none, length-replicate)
 
 module _ (ms : List Bool) (list : List ℕ) (k : ℕ) (is : Listed ms list k) where
   pub list-few : k ≤ length ms
@@ -33,7 +33,7 @@ module _ (ms : List Bool) (list : List ℕ) (k : ℕ) (is : Listed ms list k) wh
 -- ---- a list that is followed
 -- the arcs of the first i nodes lead to marked ones
 pub record Followed (n : ℕ) (arcs : ℕ → List ℕ) (ms : List Bool) (list : List ℕ) (i : ℕ) : Type 0 where
-  pub led : (j : ℕ) → j < i → (v : ℕ) → v < n → is_member v (arcs (get_or list j 0)) ≡ true → is_marked ms v ≡ true
+  pub led : (j : ℕ) → j < i → (v : ℕ) → v < n → is_member v (arcs (slice_index list j)) ≡ true → is_marked ms v ≡ true
 
 module _ (n : ℕ) (arcs : ℕ → List ℕ) where
   pub followed-none : (ms : List Bool) (list : List ℕ) → Followed n arcs ms list 0
@@ -41,7 +41,7 @@ module _ (n : ℕ) (arcs : ℕ → List ℕ) where
 
   -- one node more
   pub followed-more : (ms out : List Bool) (list on : List ℕ) (i k j : ℕ) → length ms ≡ n → i < k
-      → Longer list on k j → out ≡ mark_all (arcs (get_or list i 0)) ms
+      → Longer list on k j → out ≡ mark_all (arcs (slice_index list i)) ms
       → Followed n arcs ms list i → Followed n arcs out on (i + 1)
   followed-more ms out list on i k j e b longer o f = grind (arith, common_steps, all-hit, all-grow)
 
@@ -65,5 +65,5 @@ module _ (n : ℕ) (arcs : ℕ → List ℕ) where
             (λ (s : is_member v (arcs u) ≡ true). (reach-closed n arcs first e).goes u v (marked-below n now u l m)
             (marked-below n (mark_all (arcs u) now) v long t) (j.within u m) s)
             (λ (s : is_marked now v ≡ true). j.within v s)
-            (all_back (arcs u) now v t);
+            (all-back (arcs u) now v t);
       })

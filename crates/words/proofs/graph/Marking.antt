@@ -1,15 +1,14 @@
 -- Marks set one after the other: between those at first and all that arcs join from them, until no arc leaves the set.
-use Rattle.std.proofs.Common.{◌≡◌, refl, sym, ◌∙◌, ap, subst, ◌⊎◌, inl, inr, ⊎_elim, Bool, true, false, List, [], ◌∷◌, ℕ, ◌+◌, ◌<◌, arith}
-use Rattle.std.proofs.Common.{eqb, length, set, replicate, length-set, ext_get_or, get_or-set_same, get_or-set_other, eqb-true, eq-eqb}
+use Rattle.std.proofs.Common.{◌≡◌, refl, sym, ◌∙◌, ap, subst, ◌⊎◌, inl, inr, ⊎_elim, Bool, true, false, List, [], ◌∷◌, ℕ, ◌+◌, ◌<◌, arith, ◌==◌}
+use Rattle.std.proofs.Common.{length, set, replicate, length-set, ext_get_or, get_or-set_same, get_or-set_other, eqb-true, eq-eqb}
 use Rattle.std.proofs.Math.ListN.{length-replicate, get_or-replicate}
 use Rattle.std.proofs.lemmas.Grind.{common_steps}
 use Rattle.words.specs.lists.Numbers.{count}
-use Rattle.words.specs.lists.Sequences.{some}
-use Rattle.words.proofs.lists.Tests.{no_both, or_cases, or-true-l, or_true_r, cases}
-use Rattle.words.proofs.lists.Counts.{count_add, count-miss}
+use Rattle.words.proofs.lists.Tests.{no_both, or-cases, or-true-l, or-true-r, cases}
+use Rattle.words.proofs.lists.Counts.{count-add, count-miss}
 use Rattle.words.specs.graph.Reach.{is_member, is_marked, only_marks, reach}
 use Rattle.words.specs.graph.inner.Listed.{many, mark_all}
-use Rattle.words.proofs.graph.Closure.{marked-below, only-long, only_at, Closed, reach-long, reach-grow, reach-least, reach-closed}
+use Rattle.words.proofs.graph.Closure.{marked-below, only-long, only-at, Closed, reach-long, reach-grow, reach-least, reach-closed}
 
 -- ---- one mark
 module _ (ms : List Bool) (u : ℕ) where
@@ -19,13 +18,13 @@ module _ (ms : List Bool) (u : ℕ) where
   pub set-grow : (v : ℕ) → is_marked ms v ≡ true → is_marked (set ms u true) v ≡ true
   set-grow v m = grind (arith, common_steps, get_or-set_other, marked-below, set-hit)
 
-  pub set_back : (v : ℕ) → is_marked (set ms u true) v ≡ true → (v ≡ u) ⊎ (is_marked ms v ≡ true)
-  set_back v m = grind (arith, common_steps, get_or-set_other)
+  pub set-back : (v : ℕ) → is_marked (set ms u true) v ≡ true → (v ≡ u) ⊎ (is_marked ms v ≡ true)
+  set-back v m = grind (arith, common_steps, get_or-set_other)
 
   pub set-many : u < length ms → is_marked ms u ≡ false → many (set ms u true) ≡ many ms + 1
   set-many l m =
       ap (λ (n : ℕ). count (is_marked (set ms u true)) 0 n) (length-set ms u true)
-      ∙ count_add (is_marked ms) (is_marked (set ms u true)) 0 (length ms) u (omega arith) (omega arith)
+      ∙ count-add (is_marked ms) (is_marked (set ms u true)) 0 (length ms) u (omega arith) (omega arith)
       m (set-hit l) (λ k n. get_or-set_other ms u k true false n)
 
 -- ---- the nodes of a list
@@ -39,21 +38,18 @@ unfolding mark_all
 all-grow [] ms v m = m
 all-grow (u ∷ us) ms v m = all-grow us (set ms u true) v (set-grow ms u v m)
 
-some_first : (v u : ℕ) (us : List ℕ) → v ≡ u → is_member v (u ∷ us) ≡ true
-unfolding some
-some_first v u us e = or-true-l (eqb v u) (is_member v us) (eq-eqb v u e)
+some-first : (v u : ℕ) (us : List ℕ) → v ≡ u → is_member v (u ∷ us) ≡ true
+some-first v u us e = or-true-l (v == u) (is_member v us) (eq-eqb v u e)
 
 some-later : (v u : ℕ) (us : List ℕ) → is_member v us ≡ true → is_member v (u ∷ us) ≡ true
-unfolding some
-some-later v u us e = or_true_r (eqb v u) (is_member v us) e
+some-later v u us e = or-true-r (v == u) (is_member v us) e
 
 some-cons : (v u : ℕ) (us : List ℕ) → is_member v (u ∷ us) ≡ true → (v ≡ u) ⊎ (is_member v us ≡ true)
-unfolding some
-some-cons v u us s = ⊎_elim (λ (e : eqb v u ≡ true). inl (eqb-true v u e)) inr (or_cases (eqb v u) (is_member v us) s)
+some-cons v u us s = ⊎_elim (λ (e : (v == u) ≡ true). inl (eqb-true v u e)) inr (or-cases (v == u) (is_member v us) s)
 
 pub all-hit : (us : List ℕ) (ms : List Bool) (v : ℕ) → v < length ms → is_member v us ≡ true → is_marked (mark_all us ms) v ≡ true
 unfolding mark_all
-all-hit [] ms v l s = no_both (is_member v []) s (unfold some in refl)
+all-hit [] ms v l s = no_both (is_member v []) s refl
 all-hit (u ∷ us) ms v l s = go (some-cons v u us s) (all-hit us (set ms u true) v (omega (arith, length-set ms u true)))
   where
     go : (v ≡ u) ⊎ (is_member v us ≡ true) → (is_member v us ≡ true → is_marked (mark_all us (set ms u true)) v ≡ true)
@@ -61,15 +57,15 @@ all-hit (u ∷ us) ms v l s = go (some-cons v u us s) (all-hit us (set ms u true
     go (inl e) ih = all-grow us (set ms u true) v (subst (λ (k : ℕ). is_marked (set ms k true) v ≡ true) e (set-hit ms v l))
     go (inr t) ih = ih t
 
-pub all_back : (us : List ℕ) (ms : List Bool) (v : ℕ) → is_marked (mark_all us ms) v ≡ true
+pub all-back : (us : List ℕ) (ms : List Bool) (v : ℕ) → is_marked (mark_all us ms) v ≡ true
     → (is_member v us ≡ true) ⊎ (is_marked ms v ≡ true)
 unfolding mark_all
-all_back [] ms v m = inr m
-all_back (u ∷ us) ms v m =
+all-back [] ms v m = inr m
+all-back (u ∷ us) ms v m =
     ⊎_elim (λ (t : is_member v us ≡ true). inl (some-later v u us t))
-    (λ (t : is_marked (set ms u true) v ≡ true). ⊎_elim (λ (e : v ≡ u). inl (some_first v u us e))
-    (λ (x : is_marked ms v ≡ true). inr x) (set_back ms u v t))
-    (all_back us (set ms u true) v m)
+    (λ (t : is_marked (set ms u true) v ≡ true). ⊎_elim (λ (e : v ≡ u). inl (some-first v u us e))
+    (λ (x : is_marked ms v ≡ true). inr x) (set-back ms u v t))
+    (all-back us (set ms u true) v m)
 
 -- on no marks at all
 pub all-only : (n : ℕ) (us : List ℕ) → mark_all us (replicate n false) ≡ only_marks n us
@@ -81,12 +77,12 @@ all-only n us = ext_get_or false (mark_all us (replicate n false)) (only_marks n
 
     same : (v : ℕ) → v < n → (is_member v us ≡ true) ⊎ (is_member v us ≡ false)
         → is_marked (mark_all us (replicate n false)) v ≡ is_marked (only_marks n us) v
-    same v l (inl t) = all-hit us (replicate n false) v (omega (arith, length-replicate n false)) t ∙ sym (only_at n us v l ∙ t)
+    same v l (inl t) = all-hit us (replicate n false) v (omega (arith, length-replicate n false)) t ∙ sym (only-at n us v l ∙ t)
     same v l (inr t) = ⊎_elim
         (λ (m : is_marked (mark_all us (replicate n false)) v ≡ true). ⊎_elim (λ (x : is_member v us ≡ true). no_both (is_member v us) x t)
         (λ (x : is_marked (replicate n false) v ≡ true). no_both (is_marked (replicate n false) v) x (get_or-replicate n v false false l))
-        (all_back us (replicate n false) v m))
-        (λ (m : is_marked (mark_all us (replicate n false)) v ≡ false). m ∙ sym (only_at n us v l ∙ t))
+        (all-back us (replicate n false) v m))
+        (λ (m : is_marked (mark_all us (replicate n false)) v ≡ false). m ∙ sym (only-at n us v l ∙ t))
         (cases (is_marked (mark_all us (replicate n false)) v))
 
 -- ---- marks that spread

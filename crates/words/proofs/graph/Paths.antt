@@ -2,7 +2,7 @@
 use Rattle.std.proofs.Common.{◌≡◌, sym, ◌∙◌, ◌⊎◌, inl, inr, true, List, ℕ, zero, suc, ◌<◌}
 use Rattle.words.specs.graph.Reach.{is_marked, only_marks, reach, nodes_joined_from}
 use Rattle.words.specs.graph.Paths.{Arc, Path, here, on, PathFrom}
-use Rattle.words.proofs.graph.Closure.{marked-below, only-long, only_at, Before, spread-back, joined-first, joined-closed}
+use Rattle.words.proofs.graph.Closure.{marked-below, only-long, only-at, Before, spread-back, joined-first, joined-closed}
 
 module _ (n : ℕ) (arcs : ℕ → List ℕ) (vs : List ℕ) where
   longer : {v w : ℕ} → PathFrom n arcs vs v → Arc n arcs v w → PathFrom n arcs vs w
@@ -12,7 +12,7 @@ module _ (n : ℕ) (arcs : ℕ → List ℕ) (vs : List ℕ) where
   unfolding reach
   rounds-path zero v m =
       let l : v < n = marked-below n (only_marks n vs) v (only-long n vs) m in
-      record { first = v; inside = l; among = sym (only_at n vs v l) ∙ m; path = here }
+      record { first = v; inside = l; among = sym (only-at n vs v l) ∙ m; path = here }
   rounds-path (suc k) v m = go (spread-back n arcs (reach n arcs k (only_marks n vs)) v m) (rounds-path k)
     where
       go : (v < n) × ((is_marked (reach n arcs k (only_marks n vs)) v ≡ true) ⊎ Before n arcs (reach n arcs k (only_marks n vs)) v)

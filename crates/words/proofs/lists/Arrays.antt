@@ -1,5 +1,5 @@
 -- Loops that fill an array held by value, one element after the other.
-use Rattle.std.proofs.Common.{◌≡◌, sym, ◌∙◌, ap, List, map, ℕ, ◌+◌, ◌≤◌, ◌<◌, arith, below_more, length, get_or, set, length-set}
+use Rattle.std.proofs.Common.{◌≡◌, sym, ◌∙◌, ap, List, map, ℕ, ◌+◌, ◌≤◌, ◌<◌, arith, below_more, length, set, length-set, slice_index_or}
 use Rattle.std.proofs.Common.{get_or-set_same, get_or-set_other, ext_get_or}
 use Rattle.std.proofs.lemmas.Grind.{common_steps}
 use Rattle.words.specs.lists.Numbers.{range}
@@ -9,7 +9,7 @@ use Rattle.words.proofs.lists.Ranges.{length-map-range, get_or-map-range}
 pub record Filled {A : Type 0} (f : ℕ → A) (d : A) (xs : List A) (n k : ℕ) : Type 0 where
   pub low : k ≤ n
   pub size : length xs ≡ n
-  pub each : (j : ℕ) → j < k → get_or xs j d ≡ f j
+  pub each : (j : ℕ) → j < k → slice_index_or xs j d ≡ f j
 
 module _ {A : Type 0} (f : ℕ → A) (d : A) (n : ℕ) where
   pub filled-all : (xs : List A) (k : ℕ) → Filled f d xs n k → n ≤ k → xs ≡ map f (range 0 n)

@@ -4,8 +4,9 @@ use Rattle.std.proofs.Common.{suc, ◌+◌, ◌-◌, ◌≤◌, ◌<◌, max, eq
 use Rattle.std.proofs.Math.Nat.{sub-zero}
 use Rattle.std.proofs.lemmas.Grind.{common_steps}
 use Rattle.words.specs.lists.Numbers.{lowest, any, sum, highest}
-use Rattle.words.specs.lists.Sequences.{some}
-use Rattle.words.proofs.lists.Tests.{no_both, or_l, or_r, or_cases, cases, if-true, if-false}
+use Rattle.std.specs.List.{list_any}
+use Rattle.std.proofs.lemmas.Bool.{cond-true, cond-false}
+use Rattle.words.proofs.lists.Tests.{no_both, or-l, or-r, or-cases, cases}
 
 -- ---- the lowest that passes
 pub lowest-hit : (p : ℕ → Bool) (i n : ℕ) → lowest p i n < i + n → p (lowest p i n) ≡ true
@@ -43,29 +44,29 @@ lowest-above p i zero = grind (arith, common_steps)
 lowest-above p i (suc n) = grind (arith, common_steps, lowest-above p (suc i) n)
 
 -- ---- any
-pub any_false : (p : ℕ → Bool) (i n : ℕ) → any p i n ≡ false → (k : ℕ) → i ≤ k → k < i + n → p k ≡ false
+pub any-false : (p : ℕ → Bool) (i n : ℕ) → any p i n ≡ false → (k : ℕ) → i ≤ k → k < i + n → p k ≡ false
 unfolding any
-any_false p i zero e k a b = grind (arith, common_steps)
-any_false p i (suc n) e k a b = grind (arith, common_steps, any_false p (suc i) n, or_l, eq-or-lt_of_le, or_r)
+any-false p i zero e k a b = grind (arith, common_steps)
+any-false p i (suc n) e k a b = grind (arith, common_steps, any-false p (suc i) n, or-l, eq-or-lt_of_le, or-r)
 
 pub any-true : (p : ℕ → Bool) (i n k : ℕ) → i ≤ k → k < i + n → p k ≡ true → any p i n ≡ true
 any-true p i n k a b t = go (any p i n) refl
   where
     go : (x : Bool) → any p i n ≡ x → any p i n ≡ true
     go true e = e
-    go false e = no_both (p k) t (any_false p i n e k a b)
+    go false e = no_both (p k) t (any-false p i n e k a b)
 
-pub any_none : (p : ℕ → Bool) (i n : ℕ) → ((k : ℕ) → k < n → p (i + k) ≡ false) → any p i n ≡ false
+pub any-none : (p : ℕ → Bool) (i n : ℕ) → ((k : ℕ) → k < n → p (i + k) ≡ false) → any p i n ≡ false
 unfolding any
-any_none p i zero h = refl
-any_none p i (suc n) h =
-    ap₂ ◌||◌ (ap p (omega arith) ∙ h 0 (omega arith)) (any_none p (suc i) n (λ k l. ap p (omega arith) ∙ h (suc k) (omega arith)))
+any-none p i zero h = refl
+any-none p i (suc n) h =
+    ap₂ ◌||◌ (ap p (omega arith) ∙ h 0 (omega arith)) (any-none p (suc i) n (λ k l. ap p (omega arith) ∙ h (suc k) (omega arith)))
 
 -- a test at the far end
-pub any_snoc : (p : ℕ → Bool) (i n : ℕ) → any p i (suc n) ≡ (any p i n || p (i + n))
+pub any-snoc : (p : ℕ → Bool) (i n : ℕ) → any p i (suc n) ≡ (any p i n || p (i + n))
 unfolding any
-any_snoc p i zero = grind (arith, common_steps)
-any_snoc p i (suc n) = grind (arith, common_steps, any_snoc p (suc i) n)
+any-snoc p i zero = grind (arith, common_steps)
+any-snoc p i (suc n) = grind (arith, common_steps, any-snoc p (suc i) n)
 
 -- ---- the largest value
 pub highest-ge : (f : ℕ → ℕ) (i n k : ℕ) → i ≤ k → k < i + n → f k ≤ highest f i n
@@ -104,9 +105,9 @@ module _ (p : ℕ → Bool) (n i : ℕ) where
   unfolding lowest
   lowest-over h = rw (left-none n i h)
 
-  pub any_here : i < n → p i ≡ true → any p i (n - i) ≡ true
+  pub any-here : i < n → p i ≡ true → any p i (n - i) ≡ true
   unfolding any
-  any_here h t = rw (left-more n i h, any, t)
+  any-here h t = rw (left-more n i h, any, t)
 
   pub any-on : i < n → p i ≡ false → any p i (n - i) ≡ any p (i + 1) (n - (i + 1))
   unfolding any
@@ -119,10 +120,10 @@ module _ (p : ℕ → Bool) (n i : ℕ) where
 -- the lowest where the number before the others is tried too
 pub lowest-below : (p : ℕ → Bool) (n v r : ℕ) → 0 < v → v ≤ n → r ≡ lowest p v (n - v)
     → (if p (v - 1) then v - 1 else r) ≡ lowest p (v - 1) (n - (v - 1))
-lowest-below p n v r some low e = grind (arith, common_steps, if-false, if-true, cases, lowest-here, lowest-on)
+lowest-below p n v r list_any low e = grind (arith, common_steps, cond-false, cond-true, cases, lowest-here, lowest-on)
 
-pub lowest_start : (p : ℕ → Bool) (n : ℕ) → lowest p 0 (n - 0) ≡ lowest p 0 n
-lowest_start p n = rw (sub-zero n)
+pub lowest-start : (p : ℕ → Bool) (n : ℕ) → lowest p 0 (n - 0) ≡ lowest p 0 n
+lowest-start p n = rw (sub-zero n)
 
 -- the loop has come to i, and what is sought is the lowest of those left
 pub record Searching (p : ℕ → Bool) (n i found : ℕ) : Type 0 where
@@ -130,7 +131,7 @@ pub record Searching (p : ℕ → Bool) (n i found : ℕ) : Type 0 where
   pub left : lowest p i (n - i) ≡ found
 
 pub searching-first : (p : ℕ → Bool) (n : ℕ) → Searching p n 0 (lowest p 0 n)
-searching-first p n = record { inside = omega arith; left = lowest_start p n }
+searching-first p n = record { inside = omega arith; left = lowest-start p n }
 
 module _ (p : ℕ → Bool) (n i found : ℕ) (s : Searching p n i found) where
   pub searching-found : i < n → p i ≡ true → i ≡ found
@@ -165,20 +166,18 @@ highest-snoc f i zero = let e : f i ≡ f (i + 0) = ap f (omega arith) in omega 
 highest-snoc f i (suc n) = let e : f (suc i + n) ≡ f (i + suc n) = ap f (omega arith) in omega (arith, highest-snoc f (suc i) n)
 
 -- ---- a number or an element that passes
-pub any_some : (p : ℕ → Bool) (i n : ℕ) → any p i n ≡ true → (k : ℕ) × (i ≤ k) × (k < i + n) × (p k ≡ true)
+pub any-some : (p : ℕ → Bool) (i n : ℕ) → any p i n ≡ true → (k : ℕ) × (i ≤ k) × (k < i + n) × (p k ≡ true)
 unfolding any
-any_some p i zero e = grind (arith, common_steps, no_both)
-any_some p i (suc n) e = grind (arith, common_steps, any_some p (suc i) n, or_cases)
+any-some p i zero e = grind (arith, common_steps, no_both)
+any-some p i (suc n) e = grind (arith, common_steps, any-some p (suc i) n, or-cases)
 
-pub some-cons : {A : Type 0} (p : A → Bool) (x : A) (xs : List A) → some p (x ∷ xs) ≡ (p x || some p xs)
-unfolding some
+pub some-cons : {A : Type 0} (p : A → Bool) (x : A) (xs : List A) → list_any p (x ∷ xs) ≡ (p x || list_any p xs)
 some-cons p x xs = refl
 
 -- a list on which one test fails throughout and another holds somewhere
-pub some-both : {A : Type 0} (p q : A → Bool) (xs : List A) → some p xs ≡ false → some q xs ≡ true → (x : A) × (p x ≡ false) × (q x ≡ true)
-unfolding some
+pub some-both : {A : Type 0} (p q : A → Bool) (xs : List A) → list_any p xs ≡ false → list_any q xs ≡ true → (x : A) × (p x ≡ false) × (q x ≡ true)
 some-both p q [] e f = grind (arith, common_steps, no_both)
-some-both p q (x ∷ xs) e f = grind (arith, common_steps, some-both p q xs, or_l, or_r, or_cases)
+some-both p q (x ∷ xs) e f = grind (arith, common_steps, some-both p q xs, or-l, or-r, or-cases)
 
 -- the same at the loop's next index
 pub highest-next : (f : ℕ → ℕ) (n : ℕ) → highest f 0 (n + 1) ≡ max (highest f 0 n) (f n)

@@ -3,7 +3,7 @@ use Rattle.std.proofs.Common.{if◌then◌else◌, ℕ, zero, suc, ◌+◌, ◌*
 use Rattle.std.proofs.Common.{eq-or-lt_of_le, mul-suc, suc-mul, arith}
 use Rattle.std.proofs.lemmas.Grind.{common_steps}
 use Rattle.words.specs.lists.Numbers.{count, sum}
-use Rattle.words.proofs.lists.Counts.{count-suc, count_none}
+use Rattle.words.proofs.lists.Counts.{count-suc, count-none}
 use Rattle.words.proofs.lists.Searches.{sum-snoc}
 
 pub sum-suc : (f : ℕ → ℕ) (i n : ℕ) → sum f i (suc n) ≡ f i + sum f (suc i) n
@@ -22,9 +22,9 @@ pub sum-most : (f : ℕ → ℕ) (b i n : ℕ) → ((k : ℕ) → i ≤ k → k 
 sum-most f b i zero h = grind (arith, common_steps, sum-none)
 sum-most f b i (suc n) h = grind (arith, common_steps, sum-most f b (suc i) n (λ k l m. h k (omega arith) (omega arith)), suc-mul, sum-suc)
 
-pub sum_ones : (f : ℕ → ℕ) (i n : ℕ) → ((k : ℕ) → i ≤ k → k < i + n → f k ≡ 1) → sum f i n ≡ n
-sum_ones f i zero h = grind (arith, common_steps, sum-none)
-sum_ones f i (suc n) h = grind (arith, common_steps, sum_ones f (suc i) n (λ k a b. h k (omega arith) (omega arith)), sum-suc)
+pub sum-ones : (f : ℕ → ℕ) (i n : ℕ) → ((k : ℕ) → i ≤ k → k < i + n → f k ≡ 1) → sum f i n ≡ n
+sum-ones f i zero h = grind (arith, common_steps, sum-none)
+sum-ones f i (suc n) h = grind (arith, common_steps, sum-ones f (suc i) n (λ k a b. h k (omega arith) (omega arith)), sum-suc)
 
 pub sum-full : (f : ℕ → ℕ) (i n : ℕ) → ((k : ℕ) → i ≤ k → k < i + n → f k ≤ 1) → sum f i n ≡ n → (k : ℕ) → i ≤ k → k < i + n → f k ≡ 1
 sum-full f i zero h e k a b = absurd (omega arith)
@@ -41,7 +41,7 @@ sum-full f i (suc n) h e k a b =
 
 pub sum-add : (p : ℕ → Bool) (f g : ℕ → ℕ) → ((k : ℕ) → f k ≡ (if p k then 1 else 0) + g k) → (i n : ℕ)
     → sum f i n ≡ count p i n + sum g i n
-sum-add p f g h i zero = omega (arith, sum-none f i, sum-none g i, count_none p i 0 (λ k a b. absurd (omega arith)))
+sum-add p f g h i zero = omega (arith, sum-none f i, sum-none g i, count-none p i 0 (λ k a b. absurd (omega arith)))
 sum-add p f g h i (suc n) = omega (arith, sum-suc f i n, sum-suc g i n, count-suc p i n, h i, sum-add p f g h (suc i) n)
 
 pub sum-split : (f : ℕ → ℕ) (i m n : ℕ) → sum f i (m + n) ≡ sum f i m + sum f (i + m) n
@@ -54,18 +54,13 @@ sum-split f i (suc m) n =
     omega (arith, e, g, sum-suc f i (m + n), sum-suc f i m, sum-split f (suc i) m n)
 
 -- the same numbers, and at other places
-pub sum_same : (f g : ℕ → ℕ) (i n : ℕ) → ((k : ℕ) → i ≤ k → k < i + n → f k ≡ g k) → sum f i n ≡ sum g i n
-sum_same f g i zero h = grind (arith, common_steps, sum-none)
-sum_same f g i (suc n) h = grind (arith, common_steps, sum_same f g (suc i) n (λ k a b. h k (omega arith) (omega arith)), sum-suc)
+pub sum-same : (f g : ℕ → ℕ) (i n : ℕ) → ((k : ℕ) → i ≤ k → k < i + n → f k ≡ g k) → sum f i n ≡ sum g i n
+sum-same f g i zero h = grind (arith, common_steps, sum-none)
+sum-same f g i (suc n) h = grind (arith, common_steps, sum-same f g (suc i) n (λ k a b. h k (omega arith) (omega arith)), sum-suc)
 
 pub sum-move : (f g : ℕ → ℕ) (a i n : ℕ) → ((k : ℕ) → i ≤ k → k < i + n → f (a + k) ≡ g k) → sum f (a + i) n ≡ sum g i n
 sum-move f g a i zero h = grind (arith, common_steps, sum-none)
 sum-move f g a i (suc n) h = grind (arith, common_steps, sum-move f g a (suc i) n (λ k l m. h k (omega arith) (omega arith)), sum-suc)
-
-pub count-sum : (p : ℕ → Bool) (i n : ℕ) → count p i n ≡ sum (λ k. if p k then 1 else 0) i n
-unfolding count sum
-count-sum p i zero = refl
-count-sum p i (suc n) = ap (λ (m : ℕ). (if p i then 1 else 0) + m) (count-sum p (suc i) n)
 
 -- ---- a loop from first up to end that adds a number, at most `most`, in each turn
 pub record Adding (g : ℕ → ℕ) (most first end total f : ℕ) : Type 0 where
@@ -93,7 +88,3 @@ module _ (g : ℕ → ℕ) (most first end : ℕ) where
         is = ap₂ ◌+◌ t.is (w.0 ∙ ap g (sym k)) ∙ sym (ap (sum g first) e ∙ sum-snoc g first (f - first));
         small = omega (arith, t.small, w.1, more);
       }
-
-  pub adding-all : (total f : ℕ) → Adding g most first end total f → end ≤ f
-      → (total ≡ sum g first (end - first)) × (total ≤ most * (end - first))
-  adding-all total f t h = grind (arith, common_steps)

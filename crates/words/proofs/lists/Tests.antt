@@ -1,5 +1,5 @@
 -- Laws of tests and of a choice by a test.
-use Rattle.std.proofs.Common.{if◌then◌else◌, ◌≡◌, refl, sym, ◌⊎◌, inl, inr, Bool, true, false, ◌&&◌, ◌||◌, not, ℕ, ◌≤◌, ◌<◌, arith, ltb}
+use Rattle.std.proofs.Common.{if◌then◌else◌, ◌≡◌, refl, sym, ◌⊎◌, inl, inr, Bool, true, false, ◌&&◌, ◌||◌, not, ℕ, ◌≤◌, ◌<◌, arith, nat_lt}
 use Rattle.std.proofs.Common.{lt-ltb, le-ltb}
 use Rattle.std.proofs.Math.Decide.{dec_lt}
 use Rattle.std.proofs.lemmas.Grind.{common_steps}
@@ -7,39 +7,39 @@ use Rattle.std.proofs.lemmas.Grind.{common_steps}
 pub no_both {ℓ} : {A : Type ℓ} (b : Bool) → b ≡ true → b ≡ false → A
 no_both b p q = absurd (let z : ◌≡◌ {A = ℕ} 0 1 = cc in omega arith)
 
-pub or_l : (a b : Bool) → (a || b) ≡ false → a ≡ false
-or_l true b e = e
-or_l false b e = refl
+pub or-l : (a b : Bool) → (a || b) ≡ false → a ≡ false
+or-l true b e = e
+or-l false b e = refl
 
-pub or_r : (a b : Bool) → (a || b) ≡ false → b ≡ false
-or_r true b e = no_both true refl e
-or_r false b e = e
+pub or-r : (a b : Bool) → (a || b) ≡ false → b ≡ false
+or-r true b e = no_both true refl e
+or-r false b e = e
 
-pub or_cases : (a b : Bool) → (a || b) ≡ true → (a ≡ true) ⊎ (b ≡ true)
-or_cases true b e = inl refl
-or_cases false b e = inr e
+pub or-cases : (a b : Bool) → (a || b) ≡ true → (a ≡ true) ⊎ (b ≡ true)
+or-cases true b e = inl refl
+or-cases false b e = inr e
 
 pub or-true-l : (a b : Bool) → a ≡ true → (a || b) ≡ true
 or-true-l a b e = rw e
 
-pub or_true_r : (a b : Bool) → b ≡ true → (a || b) ≡ true
-or_true_r true b e = refl
-or_true_r false b e = e
+pub or-true-r : (a b : Bool) → b ≡ true → (a || b) ≡ true
+or-true-r true b e = refl
+or-true-r false b e = e
 
 pub or-none : (a b : Bool) → a ≡ false → b ≡ false → (a || b) ≡ false
 or-none a b p q = rw p q
 
-pub or_no : (a : Bool) → (a || false) ≡ a
-or_no true = refl
-or_no false = refl
+pub or-no : (a : Bool) → (a || false) ≡ a
+or-no true = refl
+or-no false = refl
 
-pub and_l : (a b : Bool) → (a && b) ≡ true → a ≡ true
-and_l true b e = refl
-and_l false b e = no_both false e refl
+pub and-l : (a b : Bool) → (a && b) ≡ true → a ≡ true
+and-l true b e = refl
+and-l false b e = no_both false e refl
 
-pub and_r : (a b : Bool) → (a && b) ≡ true → b ≡ true
-and_r true b e = e
-and_r false b e = no_both false e refl
+pub and-r : (a b : Bool) → (a && b) ≡ true → b ≡ true
+and-r true b e = e
+and-r false b e = no_both false e refl
 
 pub and-true : (a b : Bool) → a ≡ true → b ≡ true → (a && b) ≡ true
 and-true a b p q = rw p q
@@ -57,12 +57,6 @@ pub not-true : (a : Bool) → not a ≡ true → a ≡ false
 not-true true e = sym e
 not-true false e = refl
 
-pub if-true : {A : Type 0} (t : Bool) (a b : A) → t ≡ true → (if t then a else b) ≡ a
-if-true t a b e = rw e
-
-pub if-false : {A : Type 0} (t : Bool) (a b : A) → t ≡ false → (if t then a else b) ≡ b
-if-false t a b e = rw e
-
 pub cases : (b : Bool) → (b ≡ true) ⊎ (b ≡ false)
 cases true = inl refl
 cases false = inr refl
@@ -72,18 +66,18 @@ pub split : (a b : ℕ) → (a < b) ⊎ (b ≤ a)
 split a b = grind (arith, common_steps, dec_lt)
 
 -- a test `a && b` of the code: where a holds it is b, else it is a
-pub and_second : (a b r : Bool) → a ≡ true → r ≡ b → r ≡ (a && b)
-and_second a b r p q = rw p q
+pub and-second : (a b r : Bool) → a ≡ true → r ≡ b → r ≡ (a && b)
+and-second a b r p q = rw p q
 
-pub and_first : (a b r : Bool) → a ≡ false → r ≡ a → r ≡ (a && b)
-and_first a b r p q = rw p (rw p at q)
+pub and-first : (a b r : Bool) → a ≡ false → r ≡ a → r ≡ (a && b)
+and-first a b r p q = rw p (rw p at q)
 
-pub and_no : (a b : Bool) → b ≡ false → (a && b) ≡ false
-and_no true b e = e
-and_no false b e = refl
+pub and-no : (a b : Bool) → b ≡ false → (a && b) ≡ false
+and-no true b e = e
+and-no false b e = refl
 
 -- two comparisons that hold together
-pub same-ltb : (a b c d : ℕ) → (a < b → c < d) → (c < d → a < b) → ltb a b ≡ ltb c d
+pub same-ltb : (a b c d : ℕ) → (a < b → c < d) → (c < d → a < b) → nat_lt a b ≡ nat_lt c d
 same-ltb a b c d f g = grind (arith, common_steps, lt-ltb, le-ltb, split)
 
 -- a test as a bit

@@ -4,9 +4,9 @@ use Rattle.std.proofs.Common.{take, drop, set, length-append, length-take, lengt
 use Rattle.std.proofs.lemmas.Grind.{common_steps}
 use Rattle.words.specs.lists.Sequences.{written, over}
 
-pub written_none : (out : List ℕ) (at : ℕ) → written out at [] ≡ out
+pub written-none : (out : List ℕ) (at : ℕ) → written out at [] ≡ out
 unfolding written
-written_none out at = rw (add-zero at) (take-append-drop at out)
+written-none out at = rw (add-zero at) (take-append-drop at out)
 
 module _ (out : List ℕ) (at : ℕ) (vs : List ℕ) (room : at + length vs ≤ length out) where
   head-length : length (take at out ++ vs) ≡ at + length vs
@@ -41,14 +41,14 @@ module _ (out : List ℕ) (at : ℕ) (vs : List ℕ) (room : at + length vs ≤ 
       ∙ ap (λ (k : ℕ). take at out ++ ((vs ++ ws) ++ drop k out)) n
 
 -- one value
-pub written_one : (out : List ℕ) (at v : ℕ) → at < length out → set out at v ≡ written out at (v ∷ [])
+pub written-one : (out : List ℕ) (at v : ℕ) → at < length out → set out at v ≡ written out at (v ∷ [])
 unfolding written
-written_one out at v h = rw (add-one) (lib.Seq.set_split out at v h)
+written-one out at v h = rw (add-one) (lib.Seq.set_split out at v h)
 
 -- one value after a run
 pub written-snoc : (out : List ℕ) (at : ℕ) (vs : List ℕ) (v : ℕ) → at + length vs < length out
     → set (written out at vs) (at + length vs) v ≡ written out at (vs ++ (v ∷ []))
-written-snoc out at vs v h = grind (arith, common_steps, written-length, written-written, written_one)
+written-snoc out at vs v h = grind (arith, common_steps, written-length, written-written, written-one)
 
 -- a turn of a loop that appends: `done` stands in the buffer from `at` on, and `more` is written where it ends
 pub written-more : (out₀ : List ℕ) (at : ℕ) (done more out out' : List ℕ) (place : ℕ) → place ≡ at + length done → place ≤ length out₀

@@ -1,13 +1,13 @@
 -- Marks on n nodes that spread over arcs; `arcs u` lists the nodes that the arcs of u lead to.
-use Rattle.std.specs.Prelude.{ℕ, zero, suc, Bool, false, ◌&&◌, ◌||◌, List, map, eqb, get_or}
+use Rattle.std.specs.Prelude.{ℕ, zero, suc, Bool, false, ◌&&◌, ◌||◌, List, map, nat_eq, slice_index_or}
 use Rattle.words.specs.lists.Numbers.{range, any}
-use Rattle.words.specs.lists.Sequences.{some}
+use Rattle.std.specs.List.{list_any}
 
 abbrev pub is_member : ℕ → List ℕ → Bool
-is_member v vs = some (eqb v) vs
+is_member v vs = list_any (nat_eq v) vs
 
 abbrev pub is_marked : List Bool → ℕ → Bool
-is_marked ms v = get_or ms v false
+is_marked ms v = slice_index_or ms v false
 
 -- just these nodes
 abbrev pub only_marks : ℕ → List ℕ → List Bool

@@ -8,7 +8,7 @@ use Rattle.rows.proofs.SearchCases.{end-within, chosen-found}
 use Rattle.state.specs.Bytes.{state_of}
 use Rattle.ticks.proofs.RowCases.{bit-decides}
 use Rattle.cause.proofs.table_causes.TableConditions.{rows-kept}
-use Rattle.cause.proofs.table_causes.CauseCases.{RowNumbers, none_told, numbers, row_told}
+use Rattle.cause.proofs.table_causes.CauseCases.{RowNumbers, none-told, numbers, row-told}
 use Rattle.cause.proofs.table_causes.cause_at.Goals as goal
 
 pub returns-then-table-f : goal.returns-then-table-f
@@ -17,7 +17,7 @@ returns-then-table-f c =
     let found : let asked = c.args in let b = asked.table.now in
     found_at b asked.l c.find_row-f.result ≡ best_row asked.l asked.word c.bit_of-bit.result (first_on b asked.l) (rows_on b asked.l) =
     chosen-found _ _ _ _ c.requires.label (λ k. omega (arith, c.type_inv.table k)) _ c.find_row-f.ensures in
-    none_told _ _ _ c.requires bits _ c.label_read-read.ensures _ c.bit_of-bit.ensures _ found (omega (arith, c.if-table-f.true))
+    none-told _ _ _ c.requires bits _ c.label_read-read.ensures _ c.bit_of-bit.ensures _ found (omega (arith, c.if-table-f.true))
 
 pub against_rows-others-requires : goal.against_rows-others-requires
 against_rows-others-requires c =
@@ -48,7 +48,7 @@ returns c =
     let found : let asked = c.args in let b = asked.table.now in
     found_at b asked.l c.find_row-f.result ≡ best_row asked.l asked.word c.bit_of-bit.result (first_on b asked.l) (rows_on b asked.l) =
     chosen-found _ _ _ _ c.requires.label (λ k. omega (arith, c.type_inv.table k)) _ c.find_row-f.ensures in
-    row_told _ _ _ c.requires bits _ c.label_read-read.ensures _
+    row-told _ _ _ c.requires bits _ c.label_read-read.ensures _
     c.bit_of-bit.ensures _ found
     (omega (arith, c.if-table-f.false)) _ _ _ _ _ _ c.first_of-first.ensures
     c.end_of-end.ensures c.pair-care.ensures

@@ -1,5 +1,5 @@
 -- `cause::table_causes::leaving_label` meets its contract: by the tick kind of the top, and by the depth on a return.
-use Rattle.cause.proofs.table_causes.CauseCases.{left-plain, left_other, left-last, left-beneath}
+use Rattle.cause.proofs.table_causes.CauseCases.{left-plain, left-other, left-last, left-beneath}
 use Rattle.cause.proofs.table_causes.leaving_label.Goals as goal
 
 pub returns-then-kind-eq-PLAIN : goal.returns-then-kind-eq-PLAIN
@@ -8,7 +8,7 @@ returns-then-kind-eq-PLAIN c =
 
 pub returns-then-kind-ne-RETURN : goal.returns-then-kind-ne-RETURN
 returns-then-kind-ne-RETURN c =
-    left_other _ _ _ _ c.depth_of-depth.ensures c.place_below-top.ensures _
+    left-other _ _ _ _ c.depth_of-depth.ensures c.place_below-top.ensures _
     c.label_of-label.ensures c.if-kind-eq-PLAIN.false c.if-kind-ne-RETURN.true
 
 pub returns-then-depth-le1 : goal.returns-then-depth-le1

@@ -1,7 +1,6 @@
 -- What the functions that find a cause ask of a prepared table and promise.
-use Rattle.std.specs.Prelude.{ℕ, ◌+◌, ◌-◌, ◌≤◌, ◌≡◌, List, length}
+use Rattle.std.specs.Prelude.{ℕ, ◌+◌, ◌-◌, ◌≤◌, ◌≡◌, List, length, flat_map}
 use Rattle.words.specs.lists.Numbers.{range}
-use Rattle.words.specs.lists.Sequences.{concat_map}
 use Rattle.text.specs.declared.frames.refusals.TheConstants.{UNFIT}
 use Rattle.text.specs.frames.Verdict.{when}
 use Rattle.image.specs.Decode.{last_label, rows_from}
@@ -18,7 +17,7 @@ use Rattle.cause.specs.Cause.{Leaving, leaves_label, nothing, cause_of, CauseOut
 pub record Ordered (b : List ℕ) : Type 0 where
   pub whole : Whole b
   pub sound : SoundImage (table_image b)
-  pub starts : (l : ℕ) → 2 ≤ l → l ≤ last_label b → first_on b l ≡ rows_from b + length (concat_map (rows_on b) (range 2 (l - 2)))
+  pub starts : (l : ℕ) → 2 ≤ l → l ≤ last_label b → first_on b l ≡ rows_from b + length (flat_map (rows_on b) (range 2 (l - 2)))
 
 -- the same with a label of 2 to M
 pub record OrderedLabel (b : List ℕ) (l : ℕ) : Type 0 where

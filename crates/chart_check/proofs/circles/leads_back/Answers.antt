@@ -1,5 +1,5 @@
 -- `chart_check::circles::leads_back` meets its contract: the marks are those of the definition, read at the node.
-use Rattle.std.proofs.Common.{◌≡◌, refl, ◌∙◌, arith, length}
+use Rattle.std.proofs.Common.{◌≡◌, ◌∙◌, arith, length}
 use Rattle.words.proofs.graph.Enlisted.{enlisted-first}
 use Rattle.text.specs.frames.Frame.{size}
 use Rattle.chart_check.proofs.node_marks.MarkCases.{blank-long, blank-lent, spread-back}
@@ -8,7 +8,7 @@ use Rattle.chart_check.proofs.circles.leads_back.Goals as goal
 pub follow-count-requires : goal.follow-count-requires
 follow-count-requires c =
     record {
-      v_bound = c.requires.v_bound;
+      inside = c.requires.inside;
       listed_room = blank-lent _ _ _ c.requires.blank;
     }
 
@@ -22,7 +22,7 @@ join-requires c =
           c.requires.blank.room c.follow-count.ensures).1;
     }
 
-pub returns : goal.returns
-returns c =
+pub returns-clause-marks : goal.returns-clause-marks
+returns-clause-marks c =
     let marks = (enlisted-first _ _ _ _ _ c.requires.blank.none c.requires.blank.room c.follow-count.ensures).0 in
-    (spread-back c.args.records.now c.args.v _ _ marks c.join.ensures.0, refl)
+    spread-back c.args.records.now c.args.v _ _ marks c.join.ensures.marks

@@ -7,6 +7,6 @@ use Rattle.chart_check.proofs.circles.on_circle.Goals as goal
 pub leads_back-requires : goal.leads_back-requires
 leads_back-requires c =
     record {
-      v_bound = search rules;
+      inside = search rules;
       blank = record { none = part_of 256 (size c.args.records.now) false (search rules); room = search rules };
     }

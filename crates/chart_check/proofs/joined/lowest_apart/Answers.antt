@@ -12,12 +12,13 @@ use Rattle.chart_check.proofs.joined.lowest_apart.Goals as goal
 pub returns-then-count-marks : goal.returns-then-count-marks
 returns-then-count-marks c =
     let long : length c.sweep.new.marks ≡ size c.args.records.now =
-    c.sweep.auto.marks ∙ c.mark_kind.auto.marks ∙ c.requires.marks_len in
+    c.sweep.auto.marks ∙ c.mark_kind.auto.marks ∙ c.requires.mark_each in
     let records = c.args.records.now in
     let full : many c.sweep.new.marks ≡ length c.sweep.new.marks = sym c.list_marked-count.ensures.1 ∙ c.if-count-marks.true in
-    spread-apart records _ _ _ _ c.mark_kind.ensures c.sweep.ensures
+    let both = spread-apart records _ _ _ _ c.mark_kind.ensures c.sweep.ensures
     (full-reach _ full (size records) (arcs records) long) long
-    (c.if-count-marks.true ∙ all-marked c.sweep.new.marks full)
+    (c.if-count-marks.true ∙ all-marked c.sweep.new.marks full) in
+    record { marks = both.0; lowest = both.1 }
 
 pub join-joined-requires : goal.join-joined-requires
 join-joined-requires c =
@@ -30,15 +31,17 @@ join-joined-requires c =
 pub returns-then-joined-marks : goal.returns-then-joined-marks
 returns-then-joined-marks c =
     let long : length c.sweep.new.marks ≡ size c.args.records.now =
-    c.sweep.auto.marks ∙ c.mark_kind.auto.marks ∙ c.requires.marks_len in
+    c.sweep.auto.marks ∙ c.mark_kind.auto.marks ∙ c.requires.mark_each in
     let join = c.join-joined in
-    spread-apart c.args.records.now _ _ _ _ c.mark_kind.ensures c.sweep.ensures join.ensures.0
-    (join.auto.marks ∙ long) (c.if-joined-marks.true ∙ all-marked join.new.marks (sym join.ensures.1 ∙ c.if-joined-marks.true))
+    let both = spread-apart c.args.records.now _ _ _ _ c.mark_kind.ensures c.sweep.ensures join.ensures.marks
+    (join.auto.marks ∙ long) (c.if-joined-marks.true ∙ all-marked join.new.marks (sym join.ensures.many ∙ c.if-joined-marks.true)) in
+    record { marks = both.0; lowest = both.1 }
 
 pub returns : goal.returns
 returns c =
     let long : length c.sweep.new.marks ≡ size c.args.records.now =
-    c.sweep.auto.marks ∙ c.mark_kind.auto.marks ∙ c.requires.marks_len in
+    c.sweep.auto.marks ∙ c.mark_kind.auto.marks ∙ c.requires.mark_each in
     let join = c.join-joined in
-    spread-apart c.args.records.now _ _ _ _ c.mark_kind.ensures c.sweep.ensures join.ensures.0
-    (join.auto.marks ∙ long) c.lowest_unmarked.ensures
+    let both = spread-apart c.args.records.now _ _ _ _ c.mark_kind.ensures c.sweep.ensures join.ensures.marks
+    (join.auto.marks ∙ long) c.lowest_unmarked.ensures in
+    record { marks = both.0; lowest = both.1 }

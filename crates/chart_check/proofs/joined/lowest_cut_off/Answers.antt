@@ -5,4 +5,4 @@ use Rattle.chart_check.proofs.joined.lowest_cut_off.Goals as goal
 
 pub returns : goal.returns
 returns c =
-    c.lowest_apart.ensures.1 ∙ lowest-apart c.args.records.now c.requires.marks_len.1 _ c.lowest_apart.ensures.0
+    c.lowest_apart.ensures.lowest ∙ lowest-apart c.args.records.now c.requires.passed _ c.lowest_apart.ensures.marks

@@ -1,5 +1,5 @@
 -- `chart_check::node_marks::join`: once the list is followed to its end, all are reached.
-use Rattle.std.proofs.Common.{arith, ◌≡◌, ◌∙◌, refl, ℕ, get_or, subst}
+use Rattle.std.proofs.Common.{arith, ◌≡◌, ◌∙◌, refl, ℕ, subst, slice_index}
 use Rattle.text.specs.frames.Frame.{size}
 use Rattle.charts.specs.inner.Marks.{arcs_by}
 use Rattle.words.proofs.graph.Marking.{joining-first, joining-done}
@@ -32,7 +32,7 @@ loop-i-preserved c =
     record {
       inside = omega (arith, left.longer.more);
       same = c.follow-end.auto.list ∙ inv.same;
-      joining = joining-more _ _ _ _ _ (get_or c.loop-i.list c.loop-i.i 0) c.requires.long
+      joining = joining-more _ _ _ _ _ (slice_index c.loop-i.list c.loop-i.i) c.requires.long
           (inv.listed.are c.loop-i.i (omega arith)) left.marks inv.joining;
       listed = left.listed;
       followed = followed-more _ _ c.loop-i.marks _ c.loop-i.list _ c.loop-i.i c.loop-i.end _ inv.joining.long
@@ -43,10 +43,10 @@ pub returns : goal.returns
 returns c =
     let loop = c.loop-i in
     let inv = loop.invariant in
-    let e : loop.i ≡ loop.end = omega arith in (
-      joining-done _ _ _ c.requires.long loop.marks inv.joining
+    let e : loop.i ≡ loop.end = omega arith in record {
+      marks = joining-done _ _ _ c.requires.long loop.marks inv.joining
           (followed-closed _ _ loop.marks loop.list loop.end inv.listed
           (subst (λ (k : ℕ). Followed (size c.args.records.now) (arcs_by c.args.records.now c.args.conditions) loop.marks loop.list k) e
-          inv.followed)),
-      inv.listed.counted,
-    )
+          inv.followed));
+      many = inv.listed.counted;
+    }

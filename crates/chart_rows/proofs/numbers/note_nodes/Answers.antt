@@ -8,8 +8,8 @@ number_nodes-requires c =
     record {
       charted = record {
         ready = c.requires.ready;
-        labelled = labelled _ _ _ (omega (arith, c.requires.in_bounds, c.requires.ready.few))
-            c.label_nodes-own.ensures.1;
+        labelled = labelled _ _ _ (omega (arith, c.requires.room, c.requires.ready.few))
+            c.label_nodes-own.ensures.labels;
       };
-      in_bounds = omega (arith, c.requires.in_bounds, c.label_nodes-own.auto.labels);
+      room = omega (arith, c.requires.room, c.label_nodes-own.auto.labels);
     }

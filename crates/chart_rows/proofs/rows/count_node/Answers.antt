@@ -3,12 +3,12 @@ use Rattle.std.proofs.Common.{◌≡◌, refl, sym, ◌∙◌}
 use Rattle.chart_rows.specs.Rows.{rows_of}
 use Rattle.chart_rows.specs.inner.NodeRows.{node_rows}
 use Rattle.chart_rows.proofs.NumberLaws.{small-number}
-use Rattle.chart_rows.proofs.RowSteps.{no_rows, own-rows, own-mask, other-entered, function-kind}
+use Rattle.chart_rows.proofs.RowSteps.{no-rows, own-rows, own-mask, other-entered, function-kind}
 use Rattle.chart_rows.proofs.RowSteps.{count-nothing, count-function, count-condition, count-other}
 use Rattle.chart_rows.proofs.rows.count_node.Goals as goal
 
 pub returns-then-notes-v-lt2 : goal.returns-then-notes-v-lt2
-returns-then-notes-v-lt2 c = count-nothing _ _ _ (no_rows c.requires c.if-notes-v-lt2.true)
+returns-then-notes-v-lt2 c = count-nothing _ _ _ (no-rows c.requires c.if-notes-v-lt2.true)
 
 pub with_bit-own-requires : goal.with_bit-own-requires
 with_bit-own-requires c =

@@ -1,5 +1,5 @@
 -- What functions on an accepted chart ask of their arguments: that it was accepted, one of its nodes, labels laid out by node.
-use Rattle.std.specs.Prelude.{ℕ, ◌*◌, ◌≤◌, ◌<◌, ◌≡◌, List, length, get_or}
+use Rattle.std.specs.Prelude.{ℕ, ◌*◌, ◌≤◌, ◌<◌, ◌≡◌, List, length, slice_index}
 use Rattle.text.specs.declared.frames.sizes.TheConstants.{RECORD, NODES}
 use Rattle.text.specs.frames.Frame.{size}
 use Rattle.text.specs.frames.Verdict.{fine}
@@ -12,18 +12,18 @@ pub record Ready (c : Chart) : Type 0 where
   pub whole : length c ≡ RECORD * size c
   pub some : 1 ≤ size c
   pub few : size c ≤ NODES
-  pub bytes : (k : ℕ) → get_or c k 0 < 256
+  pub bytes : (k : ℕ) → slice_index c k < 256
   pub accepted : chart_verdict c ≡ fine
 
 -- the labels of all nodes, by node
 pub record Labelled (c : Chart) (labels : List ℕ) : Type 0 where
   pub long : size c ≤ length labels
-  pub at : (v : ℕ) → v < size c → get_or labels v 0 ≡ label c v
+  pub at : (v : ℕ) → v < size c → slice_index labels v ≡ label c v
 
 -- the Begin of each scheme, by scheme
 pub record Begun (c : Chart) (begins : List ℕ) : Type 0 where
   pub long : length begins ≡ 17
-  pub at : (h : ℕ) → 1 ≤ h → h ≤ schemes c → get_or begins h 0 ≡ begin c h
+  pub at : (h : ℕ) → 1 ≤ h → h ≤ schemes c → slice_index begins h ≡ begin c h
 
 -- a node, beside `first`, the node that the Begin of scheme 1 leads to
 pub record Beside (c : Chart) (first v : ℕ) : Type 0 where

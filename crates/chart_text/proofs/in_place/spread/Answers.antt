@@ -1,9 +1,9 @@
-use Rattle.chart_text.proofs.SpreadSteps.{spread_none, spread-turn}
+use Rattle.chart_text.proofs.SpreadSteps.{spread-none, spread-turn}
 use Rattle.std.proofs.Common.{rules}
 use Rattle.chart_text.proofs.in_place.spread.Goals as goal
 
 pub loop-f-init : goal.loop-f-init
-loop-f-init c = spread_none _ _
+loop-f-init c = spread-none _ _
 
 pub loop-f-preserved : goal.loop-f-preserved
 loop-f-preserved c =

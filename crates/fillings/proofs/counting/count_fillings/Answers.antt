@@ -3,7 +3,7 @@ use Rattle.std.proofs.Common.{false, ◌≡◌, sym, ◌∙◌, arith}
 use Rattle.tables.proofs.Made.{image-made}
 use Rattle.state.specs.State.{is_bad_size}
 use Rattle.fillings.specs.Counts.{has_too_many_lists}
-use Rattle.fillings.proofs.counting.EntryCases.{many-not, image-tells, size-tells, many-tells, all_tell}
+use Rattle.fillings.proofs.counting.EntryCases.{many-not, image-tells, size-tells, many-tells, all-tell}
 use Rattle.std.proofs.lemmas.Result.{err_from_is_err_and}
 use Rattle.fillings.proofs.counting.count_fillings.Goals as goal
 
@@ -37,11 +37,11 @@ tally-requires c =
     let few : let a = c.args in has_too_many_lists a.n a.k ≡ false = sym c.too_many.ensures ∙ c.if-too_many.false in
     let made = image-made _ _ _ _ c.prepare_table.ensures _ c.in_ok-prepare_table.was in
     let size-good : is_bad_size c.args.size ≡ false = sym c.bad_size.ensures ∙ c.if-bad_size.false in
-    record { whole = made.whole; size_value = size-good; k_bound = many-not _ _ few }
+    record { whole = made.whole; good_size = size-good; few_bits = many-not _ _ few }
 
 pub returns : goal.returns
 returns c =
     let few : let a = c.args in has_too_many_lists a.n a.k ≡ false = sym c.too_many.ensures ∙ c.if-too_many.false in
     let made = image-made _ _ _ _ c.prepare_table.ensures _ c.in_ok-prepare_table.was in
     let size-good : is_bad_size c.args.size ≡ false = sym c.bad_size.ensures ∙ c.if-bad_size.false in
-    all_tell _ _ _ _ made.accepted size-good _ made.holds few _ c.tally.ensures
+    all-tell _ _ _ _ made.accepted size-good _ made.holds few _ c.tally.ensures

@@ -6,7 +6,7 @@ use Rattle.fillings.specs.declared.fill_counts.Tally.{Tally}
 use Rattle.fillings.specs.fill_counts.inner.TallyContracts.{tally_of, all_meet}
 use Rattle.fillings.proofs.fill_counts.TallyTurns.{share_of, tally-none, went-share, stood-share, left-few}
 use Rattle.fillings.proofs.fill_counts.TallyTurns.{part-first, part-few, part-on, part-over}
-use Rattle.ticks.proofs.TickCases.{stands_on}
+use Rattle.ticks.proofs.TickCases.{stands-on}
 use Rattle.fillings.proofs.fill_lists.+tally_all.Goals as goal
 
 pub returns-then-n-eq0 : goal.returns-then-n-eq0
@@ -17,7 +17,7 @@ returns-then-n-eq0 t c =
 
 pub loop-word-init : goal.loop-word-init
 loop-word-init t c =
-    part-first _ _ _ _ _ _ _ _ c.requires.tick_asked (search rules) c.requires.k_bound c.power-lists.ensures
+    part-first _ _ _ _ _ _ _ _ c.requires.tick_asked (search rules) c.requires.few_bits c.power-lists.ensures
     c.power-words.ensures c.all_meet-tally.ensures
 
 pub tally_all-more-requires : goal.tally_all-more-requires
@@ -25,7 +25,7 @@ tally_all-more-requires t c =
     let inv = c.loop-word.invariant in (
       omega (arith, inv.whole, c.decreases),
       (
-        stands_on c.tick_word-done.ensures inv.stands,
+        stands-on c.tick_word-done.ensures inv.stands,
         (left-few _ _ _ inv.whole inv.few).0,
       ),
     )

@@ -1,5 +1,5 @@
 -- What the functions that tally lists of words ask and promise.
-use Rattle.std.specs.Prelude.{ℕ, ◌+◌, ◌≤◌, eqb, if◌then◌else◌}
+use Rattle.std.specs.Prelude.{ℕ, ◌+◌, ◌≤◌, if◌then◌else◌, ◌==◌}
 use Rattle.text.specs.declared.frames.refusals.TheConstants.{FULL, NO_ROW}
 use Rattle.image.specs.Image.{Image}
 use Rattle.state.specs.declared.State.{State}
@@ -13,9 +13,9 @@ tally_of i s n k = record { ended = count_meeting i s n k 0; full = count_meetin
 -- m lists, all of which meet one number
 abbrev pub all_meet : ℕ → ℕ → Tally
 all_meet number m = record {
-  ended = if eqb number 0 then m else 0;
-  full = if eqb number FULL then m else 0;
-  unmatched = if eqb number NO_ROW then m else 0;
+  ended = if number == 0 then m else 0;
+  full = if number == FULL then m else 0;
+  unmatched = if number == NO_ROW then m else 0;
 }
 
 abbrev pub tally_sum : Tally → Tally → Tally

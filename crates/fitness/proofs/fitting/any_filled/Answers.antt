@@ -3,7 +3,7 @@ use Rattle.std.proofs.Common.{sym, rules}
 use Rattle.words.proofs.lists.Searches.{any-over}
 use Rattle.state.specs.Bytes.{state_of}
 use Rattle.fitness.specs.Fitness.{is_filled_place}
-use Rattle.fitness.proofs.fitting.AboveCases.{seen_next, seen_all}
+use Rattle.fitness.proofs.fitting.AboveCases.{seen-next, seen-all}
 use Rattle.fitness.proofs.fitting.any_filled.Goals as goal
 
 pub returns-then-depth-ge-PLACES : goal.returns-then-depth-ge-PLACES
@@ -12,7 +12,7 @@ returns-then-depth-ge-PLACES c =
     sym (any-over (is_filled_place s) 32 s.depth (search rules))
 
 pub loop-k-preserved : goal.loop-k-preserved
-loop-k-preserved c = seen_next _ _ _ _ _ c.depth_of-depth.ensures (search rules) c.place_above-bits.ensures c.loop-k.invariant
+loop-k-preserved c = seen-next _ _ _ _ _ c.depth_of-depth.ensures (search rules) c.place_above-bits.ensures c.loop-k.invariant
 
 pub returns : goal.returns
-returns c = seen_all _ _ _ (search rules) c.loop-k.invariant
+returns c = seen-all _ _ _ (search rules) c.loop-k.invariant

@@ -5,4 +5,4 @@ use Rattle.grouping.proofs.TableRounds.{FillingClasses}
 use Rattle.grouping.proofs.first_classes.first_classes.Given as goal
 
 abbrev pub invariant-loop-l : goal.invariant-loop-l
-invariant-loop-l l = FillingClasses l.table (has_same_fields_at (table_image l.table)) l.classes l.last l.l
+invariant-loop-l l = FillingClasses l.table (has_same_fields_at (table_image l.table)) l.fn.classes l.classes l.last l.l

@@ -1,6 +1,6 @@
 -- `grouping::marked_parts::count_members` meets its contract: a step for each label.
 use Rattle.std.proofs.Common.{refl, rules}
-use Rattle.grouping.proofs.marked_parts.Labelled.{labelling-none, labelling-turn}
+use Rattle.grouping.proofs.Labelled.{labelling-none, labelling-turn}
 use Rattle.grouping.proofs.marked_parts.count_members.Goals as goal
 
 pub loop-l-init : goal.loop-l-init

@@ -1,5 +1,5 @@
 -- `grouping::marking::touch` meets its contract: it holds of the labels before l.
-use Rattle.grouping.proofs.marking.Touches.{Touching}
+use Rattle.grouping.proofs.Touches.{Touching}
 use Rattle.grouping.proofs.marking.touch.Given as goal
 
 abbrev pub invariant-loop-l : goal.invariant-loop-l

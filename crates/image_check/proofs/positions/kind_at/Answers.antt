@@ -1,5 +1,5 @@
 -- `image_check::positions::kind_at` meets its contract: by where entries, labels and rows begin.
-use Rattle.image_check.proofs.PositionCases.{kind-header, kind-entry, kind-label, kind_row}
+use Rattle.image_check.proofs.PositionCases.{kind-header, kind-entry, kind-label, kind-row}
 use Rattle.std.proofs.Common.{rules}
 use Rattle.image_check.proofs.positions.kind_at.Goals as goal
 
@@ -13,4 +13,4 @@ pub returns-then-f-rows_from : goal.returns-then-f-rows_from
 returns-then-f-rows_from c = kind-label _ _ (search rules) (search rules) (search rules)
 
 pub returns : goal.returns
-returns c = kind_row _ _ (search rules) (search rules)
+returns c = kind-row _ _ (search rules) (search rules)

@@ -5,10 +5,10 @@ use Rattle.little_fetch.proofs.little_seek.SeekTurns.{seeking-barred, seeking-on
 use Rattle.little_fetch.proofs.little_seek.+seek.Goals as goal
 
 pub returns-then-v-n : goal.returns-then-v-n
-returns-then-v-n t c = leaf-seeks _ _ _ _ c.requires.0 c.if-v-n.true c.count_chart.ensures
+returns-then-v-n t c = leaf-seeks _ _ _ _ c.requires.few c.if-v-n.true c.count_chart.ensures
 
 pub loop-i-init : goal.loop-i-init
-loop-i-init t c = seeking-first _ _ c.requires.0 (omega (arith, c.requires.1, c.if-v-n.false)) _ _ _ _ refl c.past_number-past.ensures
+loop-i-init t c = seeking-first _ _ c.requires.few (omega (arith, c.requires.inside, c.if-v-n.false)) _ _ _ _ refl c.past_number-past.ensures
     c.first_number-i.ensures
 
 pub returns-then-sought : goal.returns-then-sought

@@ -6,5 +6,5 @@ use Rattle.little_fetch.proofs.little_seek.place.Goals as goal
 
 pub returns : goal.returns
 returns c =
-    placed _ _ _ _ c.requires.0 c.requires.1 (node-ten _ _) c.put_bytes.auto.out
+    placed _ _ _ _ c.requires.few c.requires.inside (node-ten _ _) c.put_bytes.auto.out
     (c.put_bytes.ensures ∙ ap (written _ _) c.node-ten.ensures)

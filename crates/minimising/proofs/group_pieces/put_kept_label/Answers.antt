@@ -1,31 +1,28 @@
 -- `minimising::group_pieces::put_kept_label` meets its contract: nothing, or one frame.
 use Rattle.std.proofs.Common.{refl}
-use Rattle.translator.proofs.label_text.Puts.{nothing_put}
-use Rattle.minimising.proofs.group_pieces.PieceCases.{label-frame, label-skip, label_kept, frame-room, frame-put}
+use Rattle.translator.proofs.label_text.Puts.{nothing-put}
+use Rattle.minimising.proofs.group_pieces.PieceCases.{label-frame, label-skip, label-kept, frame-room, frame-put}
 use Rattle.minimising.proofs.group_pieces.put_kept_label.Goals as goal
 
 pub returns-then-classes-l : goal.returns-then-classes-l
 returns-then-classes-l c =
     let m = c.labels_from in
-    nothing_put _ _ _ (label-skip _ _ _ c.requires.numbered_groups c.args.f c.requires.table_bound.0
-    c.requires.table_bound.1 m.result m.ensures c.if-classes-l.true)
+    nothing-put _ _ _ (label-skip _ _ _ c.requires.numbered_groups c.args.f c.requires.label_frame
+    c.requires.before_rows m.result m.ensures c.if-classes-l.true)
 
 pub put_label-requires : goal.put_label-requires
 put_label-requires c =
     let m = c.labels_from in
-    let kept = label_kept _ _ _ c.requires.numbered_groups c.args.f c.requires.table_bound.0 c.requires.table_bound.1 m.result m.ensures
+    let kept = label-kept _ _ _ c.requires.numbered_groups c.args.f c.requires.label_frame c.requires.before_rows m.result m.ensures
     c.if-classes-l.false in record {
-      table_bound = (
-        c.requires.table_bound.0,
-        label-frame _ _ _ c.requires.numbered_groups c.args.f c.requires.table_bound.0
-            c.requires.table_bound.1 m.result m.ensures,
-      );
-      at_in_bounds = frame-room _ _ c.args.out.now _ kept refl _ c.requires.f_in_bounds;
+      label_frame = c.requires.label_frame;
+      inside = label-frame _ _ _ c.requires.numbered_groups c.args.f c.requires.label_frame c.requires.before_rows m.result m.ensures;
+      room = frame-room _ _ c.args.out.now _ kept refl _ c.requires.room;
     }
 
 pub returns : goal.returns
 returns c =
     let m = c.labels_from in
-    let kept = label_kept _ _ _ c.requires.numbered_groups c.args.f c.requires.table_bound.0 c.requires.table_bound.1 m.result m.ensures
+    let kept = label-kept _ _ _ c.requires.numbered_groups c.args.f c.requires.label_frame c.requires.before_rows m.result m.ensures
     c.if-classes-l.false in
     frame-put _ _ _ _ kept refl _ c.put_label.ensures

@@ -1,5 +1,5 @@
 -- The frames that are written with the numbers of groups.
-use Rattle.std.specs.Prelude.{ℕ, ◌-◌, List, get_or}
+use Rattle.std.specs.Prelude.{ℕ, ◌-◌, List, slice_index}
 use Rattle.text.specs.frames.Frame.{frame_text}
 use Rattle.image.specs.Image.{Row}
 use Rattle.translator.specs.label_text.inner.LabelBytes.{header_bytes}
@@ -10,4 +10,4 @@ header_piece schemes groups rows handler = frame_text (header_bytes schemes (gro
 -- a row with the numbers that a buffer has
 abbrev pub row_numbered_by : List ℕ → Row → Row
 row_numbered_by numbers r =
-    record { from = get_or numbers r.from 0; care = r.care; values = r.values; bit = r.bit; next = get_or numbers r.next 0 }
+    record { from = slice_index numbers r.from; care = r.care; values = r.values; bit = r.bit; next = slice_index numbers r.next }

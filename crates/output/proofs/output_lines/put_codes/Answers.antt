@@ -1,10 +1,10 @@
-use Rattle.words.proofs.lists.Fills.{pieces_none}
+use Rattle.words.proofs.lists.Fills.{pieces-none}
 use Rattle.output.proofs.output_lines.Printed.{codes-turn, codes-end}
 use Rattle.std.proofs.Common.{rules}
 use Rattle.output.proofs.output_lines.put_codes.Goals as goal
 
 pub loop-i-init : goal.loop-i-init
-loop-i-init c = pieces_none _ _ _ _ _
+loop-i-init c = pieces-none _ _ _ _ _
 
 pub loop-i-preserved : goal.loop-i-preserved
 loop-i-preserved c =

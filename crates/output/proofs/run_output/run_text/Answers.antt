@@ -4,23 +4,18 @@ use Rattle.output.proofs.output_lines.Printed.{printed-as}
 use Rattle.output.proofs.run_output.Runs.{program-few, output-is}
 use Rattle.output.proofs.run_output.run_text.Goals as goal
 
-pub put_run-requires : goal.put_run-requires
-put_run-requires c =
-    let count-up = c.count_up-all in
-    let fresh = c.fresh-fresh in
+pub put_run-requires-clause-ticked : goal.put_run-requires-clause-ticked
+put_run-requires-clause-ticked c =
     let run = c.run-ran in
-    let state = fresh.ensures.state in
-    let answered = run.ensures.answered in
-    let codes = run.ensures.codes in
-    let few = program-few _ _ _ run.result.answer _ count-up.ensures state answered codes in
-    (omega (arith, few, run.auto.codes), omega (arith, run.auto.codes))
+    omega (
+      arith,
+      run.auto.codes,
+      program-few _ _ _ run.result.answer _
+          c.count_up-all.ensures c.fresh-fresh.ensures.state run.ensures.answered run.ensures.codes,
+    )
 
 pub returns : goal.returns
 returns c =
-    let count-up = c.count_up-all in
-    let fresh = c.fresh-fresh in
     let run = c.run-ran in
-    let state = fresh.ensures.state in
-    let answered = run.ensures.answered in
-    let codes = run.ensures.codes in
-    printed-as _ _ _ _ _ (output-is _ _ _ run.result.answer _ count-up.ensures state answered codes) c.put_run.ensures
+    printed-as _ _ _ _ _ (output-is _ _ _ run.result.answer _
+    c.count_up-all.ensures c.fresh-fresh.ensures.state run.ensures.answered run.ensures.codes) c.put_run.ensures

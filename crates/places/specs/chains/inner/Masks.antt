@@ -1,8 +1,8 @@
 -- Calls as the functions keep them: sets of schemes as masks, bit h for scheme h.
-use Rattle.std.specs.Prelude.{ℕ, zero, suc, ◌+◌, ◌^◌, ◌<◌, Bool, ◌≡◌, List, ltb, eqb, get_or, if◌then◌else◌}
+use Rattle.std.specs.Prelude.{ℕ, zero, suc, ◌+◌, ◌^◌, ◌<◌, Bool, ◌≡◌, List, if◌then◌else◌, nat_lt, ◌==◌, slice_index}
 use Rattle.std.specs.Int.Bits.{bit_or}
 use Rattle.words.specs.lists.Numbers.{tabulate, any, lowest}
-use Rattle.words.specs.bits.Word.{bit}
+use Rattle.std.specs.Int.{bit_at}
 use Rattle.text.specs.declared.frames.sizes.TheConstants.{SCHEMES}
 use Rattle.text.specs.frames.Frame.{size}
 use Rattle.charts.specs.Chart.{Chart, argument}
@@ -25,7 +25,7 @@ call_masks c v = tabulate (λ g. mask_of (λ h. any (is_call_of c g h) 0 v) (suc
 -- the schemes that those of a set call, by the masks of the first n
 unfoldable pub called_by : List ℕ → ℕ → ℕ → ℕ
 called_by masks set zero = 0
-called_by masks set (suc g) = bit_or (called_by masks set g) (if eqb (bit set g) 1 then get_or masks g 0 else 0)
+called_by masks set (suc g) = bit_or (called_by masks set g) (if bit_at set g == 1 then slice_index masks g else 0)
 
 -- the schemes that chains of k calls from scheme 1 end in
 unfoldable pub ends_by : List ℕ → ℕ → ℕ
@@ -34,7 +34,7 @@ ends_by masks (suc k) = called_by masks (ends_by masks k) (suc SCHEMES)
 
 -- the lowest number of calls that no chain has, or 0 where there are chains of 16 calls: of 17 schemes
 unfoldable pub longest_by : List ℕ → ℕ
-longest_by masks = let k = lowest (λ k. eqb (ends_by masks k) 0) 0 (suc SCHEMES) in if ltb k (suc SCHEMES) then k else 0
+longest_by masks = let k = lowest (λ k. ends_by masks k == 0) 0 (suc SCHEMES) in if nat_lt k (suc SCHEMES) then k else 0
 
 -- how many schemes the longest chain has, or 0 where a circle of calls can be reached
 abbrev pub longest_chain : Chart → ℕ

@@ -1,12 +1,12 @@
 -- `rows::row_search::take_row` meets its contract: a single row, the one of two that matches, else what the search finds.
 use Rattle.std.proofs.Common.{arith, rules}
-use Rattle.rows.proofs.SearchCases.{end-within, few-frames, one_found}
+use Rattle.rows.proofs.SearchCases.{end-within, few-frames, one-found}
 use Rattle.rows.proofs.row_search.PassCases.{first-of-two, second-of-two}
 use Rattle.rows.proofs.row_search.take_row.Goals as goal
 
 pub returns-then-end-first : goal.returns-then-end-first
 returns-then-end-first c =
-    one_found c.args.table.now c.args.l c.args.word c.args.bit
+    one-found c.args.table.now c.args.l c.args.word c.args.bit
     _ _ c.requires.deciding c.first_of-first.ensures c.end_of-end.ensures c.if-end-first.true _ c.one_row.ensures
 
 pub returns-then-not-is_matching : goal.returns-then-not-is_matching

@@ -1,6 +1,6 @@
 -- `spindles::spindle_heads::refuse_head` meets its contract, refusal by refusal.
 use Rattle.std.proofs.Common.{refl, ◌∙◌}
-use Rattle.spindles.proofs.spindle_heads.Heads.{no-spindle, tick-refused, no_size}
+use Rattle.spindles.proofs.spindle_heads.Heads.{no-spindle, tick-refused, no-size}
 use Rattle.spindles.proofs.spindle_heads.refuse_head.Goals as goal
 
 pub returns-then-spindle-gt3 : goal.returns-then-spindle-gt3
@@ -8,4 +8,4 @@ returns-then-spindle-gt3 c = no-spindle _ _ _ c.if-spindle-gt3.true
 
 pub returns : goal.returns
 returns c =
-    tick-refused _ _ _ c.if-spindle-gt3.false _ (c.tick_bytes-answer.ensures.answered ∙ no_size _ _ 0 refl)
+    tick-refused _ _ _ c.if-spindle-gt3.false _ (c.tick_bytes-answer.ensures.answered ∙ no-size _ _ 0 refl)

@@ -1,5 +1,5 @@
 -- `table_check::notes::lowest_misnoted` meets its contract: each search for rows goes on where that for the label before it ended.
-use Prim.Native.Nat.{◌-◌}
+use Rattle.std.proofs.Common.{◌-◌}
 use Rattle.table_check.proofs.NotingCases.{Noting}
 use Rattle.table_check.proofs.notes.lowest_misnoted.Given as goal
 

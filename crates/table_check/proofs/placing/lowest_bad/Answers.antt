@@ -1,7 +1,6 @@
 -- `table_check::placing::lowest_bad` meets its contract: the loop keeps what is left to search.
-use mathlib.Core.Path.{sym, ◌∙◌}
 use Rattle.words.proofs.lists.Searches.{searching-first, searching-found, searching-next, searching-over}
-use Rattle.std.proofs.Common.{rules}
+use Rattle.std.proofs.Common.{sym, ◌∙◌, rules}
 use Rattle.table_check.proofs.placing.lowest_bad.Goals as goal
 
 pub loop-f-init : goal.loop-f-init

@@ -1,5 +1,5 @@
 -- `table_check::placing::lowest_bad` meets its contract: the loop keeps what is left to search.
-use Prim.Native.Nat.{◌-◌}
+use Rattle.std.proofs.Common.{◌-◌}
 use Rattle.words.specs.lists.Numbers.{lowest}
 use Rattle.words.proofs.lists.Searches.{Searching}
 use Rattle.image.specs.Check.{has_bad_content}

@@ -1,17 +1,17 @@
 -- `tables::preparing::note_rows` meets its contract: the search for a label goes on where that for the label before it ended.
 use Rattle.std.proofs.Common.{refl, ap, ℕ, ◌+◌, ◌*◌, ◌<◌, arith}
-use Rattle.tables.proofs.Noted.{rows_inside}
+use Rattle.tables.proofs.Noted.{rows-inside}
 use Rattle.tables.proofs.NotingCases.{notes-start, notes-small, notes-turn}
 use Rattle.tables.proofs.preparing.note_rows.Goals as goal
 
 pub byte-requires : goal.byte-requires
-byte-requires c = omega (arith, rows_inside c.args.table.now c.requires)
+byte-requires c = omega (arith, rows-inside c.args.table.now c.requires)
 
 pub byte-last-requires : goal.byte-last-requires
-byte-last-requires c = omega (arith, rows_inside c.args.table.now c.requires)
+byte-last-requires c = omega (arith, rows-inside c.args.table.now c.requires)
 
 pub rows_from-f-requires : goal.rows_from-f-requires
-rows_from-f-requires c = omega (arith, rows_inside c.args.table.now c.requires)
+rows_from-f-requires c = omega (arith, rows-inside c.args.table.now c.requires)
 
 pub loop-l-init : goal.loop-l-init
 loop-l-init c = notes-start _ c.requires _ c.rows_from-f.ensures

@@ -1,9 +1,9 @@
 use Rattle.std.proofs.Common.{refl, rules}
-use Rattle.text.proofs.frame_reading.ReadFrame.{taken_none, taken-turn, taken-all}
+use Rattle.text.proofs.frame_reading.ReadFrame.{taken-none, taken-turn, taken-all}
 use Rattle.text.proofs.frame_reading.read_digits.Goals as goal
 
 pub loop-i-init : goal.loop-i-init
-loop-i-init c = taken_none _ _ _ refl
+loop-i-init c = taken-none _ _ _ refl
 
 pub loop-i-preserved : goal.loop-i-preserved
 loop-i-preserved c =

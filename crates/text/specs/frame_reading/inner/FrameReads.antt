@@ -1,5 +1,5 @@
 -- What the functions that read one frame ask and promise, by the names of the parts.
-use Rattle.std.specs.Prelude.{ℕ, ◌+◌, ◌*◌, ◌%◌, ◌≤◌, ◌<◌, ◌≡◌, List, map, leb, ltb, length, get_or, if◌then◌else◌}
+use Rattle.std.specs.Prelude.{ℕ, ◌+◌, ◌*◌, ◌%◌, ◌≤◌, ◌<◌, ◌≡◌, List, map, length, if◌then◌else◌, nat_lt, nat_le, slice_index}
 use Rattle.words.specs.lists.Numbers.{any, range}
 use Rattle.words.specs.lists.Sequences.{written}
 use Rattle.text.specs.digits.Digit.{digit_of}
@@ -11,21 +11,21 @@ use Rattle.text.specs.declared.frame_reading.Faults.{Faults}
 
 -- the digit of character k from an offset on
 abbrev pub digit_at : List ℕ → ℕ → ℕ → ℕ
-digit_at t from k = digit_of (get_or t (from + k) 0)
+digit_at t from k = digit_of (slice_index t (from + k))
 
 -- the digits of characters 0 to 15, then of 6 to 21, and whether one of these is no digit
 pub record DigitsRead (t : List ℕ) (from : ℕ) (r : FrameDigits) : Type 0 where
   pub size : length r.digits ≡ 32
-  pub front : (i : ℕ) → i < 16 → get_or r.digits i 0 ≡ digit_at t from i
-  pub back : (i : ℕ) → i < 16 → get_or r.digits (16 + i) 0 ≡ digit_at t from (6 + i)
-  pub form : r.form ≡ any (λ k. leb 16 (digit_at t from k)) 0 DIGITS
+  pub front : (i : ℕ) → i < 16 → slice_index r.digits i ≡ digit_at t from i
+  pub back : (i : ℕ) → i < 16 → slice_index r.digits (16 + i) ≡ digit_at t from (6 + i)
+  pub form : r.form ≡ any (λ k. nat_le 16 (digit_at t from k)) 0 DIGITS
 
 -- where the digits of byte k stand among these, and the byte, as it is stored
 abbrev pub place_of : ℕ → ℕ
-place_of k = if ltb k 8 then 2 * k else 2 * k + 10
+place_of k = if nat_lt k 8 then 2 * k else 2 * k + 10
 
 abbrev pub value_of : List ℕ → ℕ → ℕ
-value_of digits k = (16 * get_or digits (place_of k) 0 + get_or digits (place_of k + 1) 0) % 256
+value_of digits k = (16 * slice_index digits (place_of k) + slice_index digits (place_of k + 1)) % 256
 
 -- frame f, and the ten bytes that are stored of it; they are its own where 2 does not refuse it
 abbrev pub stored_bytes : List ℕ → ℕ → List ℕ

@@ -3,14 +3,14 @@ use Rattle.std.proofs.Common.{◌∙◌, ap, ℕ, ◌-◌, ◌≤◌, arith}
 use Rattle.state.specs.declared.State.{State}
 use Rattle.state.specs.State.{number_at}
 use Rattle.state.specs.Bytes.{state_of}
-use Rattle.ticks.proofs.TickCases.{depth-some, depth-most, size-most, stands_on}
+use Rattle.ticks.proofs.TickCases.{depth-some, depth-most, size-most, stands-on}
 use Rattle.ticks.proofs.calls.CallCases.{call-steps}
 use Rattle.ticks.proofs.calls.tick_call.Goals as goal
 
 pub overflow_sub-depth_of : goal.overflow_sub-depth_of
 overflow_sub-depth_of c =
     let left : (1 ≤ c.depth_of.result) × (c.depth_of.result ≤ 32) =
-    let stands = stands_on c.tick_full-step.ensures c.requires.top_calls.stands in
+    let stands = stands-on c.tick_full-step.ensures c.requires.top_calls.stands in
     let is = c.depth_of.ensures in
     (omega (arith, depth-some stands, is), omega (arith, depth-most stands, size-most stands, is)) in
     left.0
@@ -18,7 +18,7 @@ overflow_sub-depth_of c =
 pub place_of-label-requires : goal.place_of-label-requires
 place_of-label-requires c =
     let left : (1 ≤ c.depth_of.result) × (c.depth_of.result ≤ 32) =
-    let stands = stands_on c.tick_full-step.ensures c.requires.top_calls.stands in
+    let stands = stands-on c.tick_full-step.ensures c.requires.top_calls.stands in
     let is = c.depth_of.ensures in
     (omega (arith, depth-some stands, is), omega (arith, depth-most stands, size-most stands, is)) in
     omega (arith, left.0, left.1)

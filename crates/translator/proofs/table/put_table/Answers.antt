@@ -2,7 +2,7 @@
 use Rattle.std.proofs.Common.{◌≡◌, ◌∙◌, length, arith}
 use Rattle.chart_rows.proofs.chart_labels.ReadyLaws.{ready-facts}
 use Rattle.chart_rows.proofs.chart_labels.LabelSteps.{few-numbered}
-use Rattle.translator.proofs.ImageSteps.{labels-long, rows_long, rows-put, table-put}
+use Rattle.translator.proofs.ImageSteps.{labels-long, rows-long, rows-put, table-put}
 use Rattle.translator.proofs.table.put_table.Goals as goal
 
 pub put_labels-requires : goal.put_labels-requires
@@ -10,7 +10,7 @@ put_labels-requires c =
     let long : length c.put_fixed.new.out ≡ length c.args.out.now = c.put_fixed.auto.out ∙ c.put_entries.auto.out in
     let pre = c.requires in record {
       charted = pre.noted.chart;
-      records_in_bounds = omega (arith, labels-long c.args.records.now, pre.sizes.owned, pre.room, long);
+      room = omega (arith, labels-long c.args.records.now, pre.sizes.owned, pre.room, long);
     }
 
 pub put_rows-end-requires : goal.put_rows-end-requires
@@ -18,7 +18,7 @@ put_rows-end-requires c =
     let long : length c.put_fixed.new.out ≡ length c.args.out.now = c.put_fixed.auto.out ∙ c.put_entries.auto.out in
     let pre = c.requires in record {
       noted = pre.noted;
-      records_in_bounds = omega (arith, rows_long c.args.records.now, pre.room, long, c.put_labels.auto.out);
+      room = omega (arith, rows-long c.args.records.now, pre.room, long, c.put_labels.auto.out);
     }
 
 pub overflow_cast-own : goal.overflow_cast-own
@@ -32,8 +32,8 @@ put_header-requires c =
     let long : length c.put_fixed.new.out ≡ length c.args.out.now = c.put_fixed.auto.out ∙ c.put_entries.auto.out in
     let longer : length c.put_rows-end.new.out ≡ length c.args.out.now = c.put_rows-end.auto.out ∙ c.put_labels.auto.out ∙ long in
     let pre = c.requires in record {
-      in_bounds = omega (arith, longer, pre.room);
-      rows_bound = omega (arith, rows-put _ _ _ _ pre.sizes _ _ c.put_rows-end.ensures.ends, pre.few);
+      room = omega (arith, longer, pre.room);
+      rows_fit = omega (arith, rows-put _ _ _ _ pre.sizes _ _ c.put_rows-end.ensures.ends, pre.few);
     }
 
 pub returns : goal.returns

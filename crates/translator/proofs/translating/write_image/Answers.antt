@@ -8,22 +8,22 @@ use Rattle.translator.proofs.translating.write_image.Goals as goal
 pub overflow_add-highest-2 : goal.overflow_add-highest-2
 overflow_add-highest-2 c =
     let small : c.note_nodes-own.result + 2 ≤ 256 = let ready = c.requires.ready in
-    omega (arith, few-numbered _ (ready-facts ready), ready.few, c.note_nodes-own.ensures.0) in
+    omega (arith, few-numbered _ (ready-facts ready), ready.few, c.note_nodes-own.ensures.own) in
     omega (arith, small)
 
 pub size_refusal-requires : goal.size_refusal-requires
 size_refusal-requires c =
     let small : c.note_nodes-own.result + 2 ≤ 256 = let ready = c.requires.ready in
-    omega (arith, few-numbered _ (ready-facts ready), ready.few, c.note_nodes-own.ensures.0) in record {
-      noted = c.note_nodes-own.ensures.1;
-      before_bound = omega (arith, small, c.well_formed.1.0);
+    omega (arith, few-numbered _ (ready-facts ready), ready.few, c.note_nodes-own.ensures.own) in record {
+      noted = c.note_nodes-own.ensures.noted;
+      before_fits = omega (arith, small, c.well_formed.1.0);
     }
 
 pub returns-in-Some : goal.returns-in-Some
 returns-in-Some c =
-    image-refused _ _ _ _ _ c.requires.highest_value c.note_nodes-own.ensures.0 c.size_refusal.ensures _ c.in-Some.is
+    image-refused _ _ _ _ _ c.requires.all_schemes c.note_nodes-own.ensures.own c.size_refusal.ensures _ c.in-Some.is
 
 pub returns : goal.returns
 returns c =
-    image-fits _ _ _ _ _ c.requires.highest_value c.note_nodes-own.ensures.0 c.size_refusal.ensures c.in_default.is _ _
+    image-fits _ _ _ _ _ c.requires.all_schemes c.note_nodes-own.ensures.own c.size_refusal.ensures c.in_default.is _ _
     c.put_image.ensures

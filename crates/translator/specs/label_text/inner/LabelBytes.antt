@@ -1,7 +1,7 @@
 -- Parts of an image's bytes before its rows, as the functions that write them have them, node by node or scheme by scheme.
-use Rattle.std.specs.Prelude.{ℕ, ◌+◌, ◌≡◌, List, [], ◌∷◌, ◌++◌, length, replicate, if◌then◌else◌}
+use Rattle.std.specs.Prelude.{ℕ, ◌+◌, ◌≡◌, List, [], ◌∷◌, ◌++◌, length, replicate, if◌then◌else◌, flat_map}
 use Rattle.words.specs.lists.Numbers.{range}
-use Rattle.words.specs.lists.Sequences.{concat_map, written}
+use Rattle.words.specs.lists.Sequences.{written}
 use Rattle.text.specs.frames.Frame.{pair}
 use Rattle.charts.specs.Chart.{Chart}
 use Rattle.image.specs.declared.layout.TheConstants.{HEADER}
@@ -23,7 +23,7 @@ node_label_bytes c v = if is_numbered c v then label_frame (label c v) (stop_lab
 
 -- those of the nodes or schemes below n, joined
 abbrev pub up_to : (ℕ → List ℕ) → ℕ → List ℕ
-up_to bytes n = concat_map bytes (range 0 n)
+up_to bytes n = flat_map bytes (range 0 n)
 
 -- bytes that were written at an offset of a buffer, and the offset after them
 pub record Put (old : List ℕ) (at : ℕ) (bytes : List ℕ) (after : ℕ) (new : List ℕ) : Type 0 where

@@ -1,7 +1,6 @@
 -- Nodes marked one after the other, and marked nodes in a list: one listed as it is marked, and all of them, the lowest first.
-use Rattle.std.specs.Prelude.{ℕ, ◌+◌, ◌<◌, ◌≡◌, Bool, true, not, ◌&&◌, List, [], ◌∷◌, ltb, length, get_or, set, if◌then◌else◌}
+use Rattle.std.specs.Prelude.{ℕ, ◌+◌, ◌<◌, ◌≡◌, Bool, true, not, ◌&&◌, List, [], ◌∷◌, length, set, if◌then◌else◌, nat_lt, slice_index, filter}
 use Rattle.words.specs.lists.Numbers.{range, count}
-use Rattle.words.specs.lists.Sequences.{filter}
 use Rattle.words.specs.graph.Reach.{is_marked}
 
 -- how many are marked
@@ -24,7 +23,7 @@ listing ms us k = record { marks = ms; list = us; count = k }
 
 -- u is a node, and has no mark
 abbrev pub is_unmarked : List Bool → ℕ → Bool
-is_unmarked ms u = ltb u (length ms) && not (is_marked ms u)
+is_unmarked ms u = nat_lt u (length ms) && not (is_marked ms u)
 
 -- node u is marked, if it is one, and listed after the first that count, if it had no mark
 unfoldable pub enlist : Listing → ℕ → Listing
@@ -47,10 +46,10 @@ marked_nodes ms = filter (is_marked ms) (range 0 (length ms))
 pub record Among (list : List ℕ) (k v : ℕ) : Type 0 where
   pub place : ℕ
   pub inside : place < k
-  pub found : get_or list place 0 ≡ v
+  pub found : slice_index list place ≡ v
 
 -- the first k of the list are the marked nodes, in any order, as many as there are
 pub record Listed (marks : List Bool) (list : List ℕ) (k : ℕ) : Type 0 where
   pub counted : k ≡ many marks
-  pub are : (i : ℕ) → i < k → is_marked marks (get_or list i 0) ≡ true
+  pub are : (i : ℕ) → i < k → is_marked marks (slice_index list i) ≡ true
   pub all : (v : ℕ) → is_marked marks v ≡ true → Among list k v

@@ -1,7 +1,7 @@
 -- `places::chains::calls::note_call`: the mask of the node's scheme gets the bit of the scheme called.
-use Rattle.std.proofs.Common.{◌∙◌, ap, ℕ, ◌^◌, ◌<◌, one-mul, arith, bit_or, lit<, length, get_or, set, shl_exact}
+use Rattle.std.proofs.Common.{◌∙◌, ap, ℕ, ◌^◌, ◌<◌, one-mul, arith, bit_or, lit<, length, set, shl_exact, slice_index}
 use Rattle.chart_rows.proofs.chart_labels.ReadyLaws.{ready-facts}
-use Rattle.places.proofs.chains.CallMasks.{call-some, call_none, call-low, masks-long, masks-same, masks-more}
+use Rattle.places.proofs.chains.CallMasks.{call-some, call-none, call-low, masks-long, masks-same, masks-more}
 use Rattle.places.proofs.chains.calls.note_call.Goals as goal
 
 pub overflow_shl-masks : goal.overflow_shl-masks
@@ -36,7 +36,7 @@ returns-then-called-ne0 c =
     (omega (arith, l, c.field-scheme.ensures), l.1) in
     let call = call-some c.args.records.now c.args.v _ c.called_at-called.ensures c.if-called-ne0.true in
     let k = c.called_at-called.result in
-    ap (λ (x : ℕ). set c.args.masks.now c.field-scheme.result (bit_or (get_or c.args.masks.now c.field-scheme.result 0) x))
+    ap (λ (x : ℕ). set c.args.masks.now c.field-scheme.result (bit_or (slice_index c.args.masks.now c.field-scheme.result) x))
     (shl_exact 1 k 32 (lit< tt) (omega (arith, low)) ∙ one-mul (2 ^ k))
     ∙ masks-more c.args.records.now c.args.v _ c.requires.noted _ _ call.0
     c.field-scheme.ensures call.1 low.0 low.1
@@ -44,5 +44,5 @@ returns-then-called-ne0 c =
 pub returns-else-called-ne0 : goal.returns-else-called-ne0
 returns-else-called-ne0 c =
     masks-same c.args.records.now c.args.v _ c.requires.noted
-    (call_none c.args.records.now c.args.v _ c.called_at-called.ensures
+    (call-none c.args.records.now c.args.v _ c.called_at-called.ensures
     (ready-facts c.requires.ready) c.requires.inside c.if-called-ne0.false)

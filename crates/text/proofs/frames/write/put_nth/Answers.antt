@@ -1,4 +1,4 @@
-use Rattle.std.proofs.Common.{◌<◌, arith, get_or, rules}
+use Rattle.std.proofs.Common.{◌<◌, arith, rules, slice_index}
 use Rattle.text.proofs.frames.FrameLoops.{digits-none, digits-turn, digits-end}
 use Rattle.text.proofs.frames.TextLoops.{frame-put}
 use Rattle.text.proofs.frames.write.put_nth.Goals as goal
@@ -8,7 +8,7 @@ loop-k-init c = digits-none _ _ _
 
 pub loop-k-preserved : goal.loop-k-preserved
 loop-k-preserved c =
-    let small : get_or c.ten_at-ten.result c.loop-k.k 0 < 256 = omega (arith, c.ten_at-ten.type_inv) in
+    let small : slice_index c.ten_at-ten.result c.loop-k.k < 256 = omega (arith, c.ten_at-ten.type_inv) in
     digits-turn _ _ _ _ _ _ _ (search rules) c.loop-k.invariant (search rules) small
     c.put_byte.auto.out c.put_byte.ensures
 

@@ -1,10 +1,10 @@
 use Rattle.std.proofs.Common.{refl, rules}
-use Rattle.words.proofs.lists.Fills.{pieces_none}
+use Rattle.words.proofs.lists.Fills.{pieces-none}
 use Rattle.text.proofs.frames.TextLoops.{text-turn, text-end}
 use Rattle.text.proofs.frames.write.put_text.Goals as goal
 
 pub loop-f-init : goal.loop-f-init
-loop-f-init c = pieces_none _ _ _ _ _
+loop-f-init c = pieces-none _ _ _ _ _
 
 pub loop-f-preserved : goal.loop-f-preserved
 loop-f-preserved c =

@@ -1,2 +1,0 @@
--- The search for little charts.
-pub mod inner

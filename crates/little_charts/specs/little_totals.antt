@@ -1,2 +1,0 @@
--- How many little charts there are; no function.
-pub mod inner
