@@ -1,0 +1,306 @@
+// The run: its conditions, its ticks, and the tick that is shown.
+const run = (() => {
+  let state = null;
+  let shown = -1;
+  let held = 0;
+  let once = 0;
+  let restored = "";
+  const none = 0xffffffff;
+  let changes = 0;
+  const undone = [];
+  const changed = [];
+
+  const word = () => (held | once) & 0xffff;
+  const exists = () => state !== null && state.problem === undefined;
+  const rows = () => (exists() ? state.rows : 0);
+  const sheet = find("sheet");
+  const group = (id) => sheet.querySelector("#" + id);
+
+  // the run as it can be made again
+  const script = () => ({ words: bench.text("words"), swaps: exists() ? state.swaps : restored, places: Number(find("places").value) });
+
+  // what the module says of the run after a change; a problem alone leaves the run as it is
+  function take(answer) {
+    changes += 1;
+    if (answer.problem !== undefined) {
+      say(answer.problem);
+      state = bench.ask("state");
+    } else {
+      state = answer;
+    }
+    if (!exists()) say(state.problem);
+  }
+
+  function remember(left = script()) {
+    undone.push(left);
+    if (undone.length > 50) undone.shift();
+    find("undo").disabled = false;
+  }
+
+  function buttons() {
+    const one = (name, kind, number, at) => {
+      const bit = 1 << number;
+      const button = made("button", kind === "held" ? name : "once", { "aria-pressed": String(((kind === "held" ? held : once) & bit) !== 0) });
+      button.dataset.condition = String(number);
+      button.dataset.kind = kind;
+      const key = at < 10 ? (kind === "held" ? "" : "Alt+") + ((at + 1) % 10) : "";
+      button.setAttribute("aria-label", kind === "held" ? name + ", held" : name + ", for the next tick");
+      button.title = (kind === "held" ? "held at 1 until it is let go" : "at 1 for the next tick alone") + (key ? " (" + key + ")" : "");
+      button.addEventListener("click", () => press(kind, number));
+      return button;
+    };
+    const conditions = chart.accepted() ? chart.accepted().conditions : [];
+    const groups = conditions.map(({ number, name }, at) => {
+      const both = made("span", undefined, { class: "condition", role: "group", "aria-label": name });
+      both.append(one(name, "held", number, at), one(name, "once", number, at));
+      return both;
+    });
+    const place = find("conditions");
+    const focus = document.activeElement;
+    const [kind, number] = place.contains(focus) ? [focus.dataset.kind, focus.dataset.condition] : [];
+    place.replaceChildren(...groups);
+    if (!groups.length) place.textContent = chart.accepted() ? "The chart tests no condition." : "";
+    if (number !== undefined) place.querySelector("[data-kind='" + kind + "'][data-condition='" + number + "']")?.focus();
+    find("word").textContent = groups.length ? "the next word: 0x" + word().toString(16).toUpperCase().padStart(4, "0") : "";
+  }
+
+  function press(kind, number) {
+    if (kind === "held") held ^= 1 << number;
+    else once ^= 1 << number;
+    buttons();
+    changed.forEach((tell) => tell());
+  }
+
+  // a new tick by the conditions, at the end of the run
+  function tick(times = 1) {
+    if (!exists()) return;
+    if (state.refusal !== null) {
+      say("The run has ended: " + state.refusal.split("\n")[0]);
+      return;
+    }
+    take(bench.ask("tick", word(), times));
+    once = 0;
+    buttons();
+    show(rows() - 1, true);
+  }
+
+  function step() {
+    if (shown < rows() - 1) show(shown + 1);
+    else tick();
+  }
+
+  // scrolls the drawing, and nothing else, until a node stands in it with some room around
+  function bring(node) {
+    const [outer, inner] = [sheet.getBoundingClientRect(), node.getBoundingClientRect()];
+    const room = Math.min(130, outer.width / 4, outer.height / 4);
+    const by = (start, end, from, to) => Math.min(start - from - room, 0) || Math.max(end - to + room, 0);
+    sheet.scrollLeft += by(inner.left, inner.right, outer.left, outer.right);
+    sheet.scrollTop += by(inner.top, inner.bottom, outer.top, outer.bottom);
+  }
+
+  function light(told) {
+    sheet.querySelectorAll(".lit, .open, .now, .next").forEach((one) => one.classList.remove("lit", "open", "now", "next"));
+    const mark = (id, kind) => {
+      const one = group(id);
+      if (one) one.classList.add(kind);
+      return one;
+    };
+    if (exists() && shown === rows() - 1 && state.node) mark(state.node, "next");
+    if (!told) return;
+    told.waiting.forEach((id) => mark(id, "open"));
+    told.taken.forEach((id) => mark(id, "now"));
+    const node = mark(told.node, "lit");
+    if (node) {
+      node.classList.remove("open", "next");
+      bring(node);
+    }
+  }
+
+  function lamps(mask) {
+    const outputs = chart.accepted() ? chart.accepted().outputs : [];
+    find("lamps").replaceChildren(...outputs.map(({ number, name }) => {
+      const on = ((mask >>> number) & 1) === 1;
+      return made("li", name + (on ? " on" : " off"), { class: on ? "on" : "off", "data-output": String(number) });
+    }));
+    if (!outputs.length) find("lamps").append(made("li", "the chart has none"));
+  }
+
+  // the tick itself is told above; of one that takes no row its sentence is enough
+  function reason({ done, text }) {
+    const [first, ...others] = text.split("\n");
+    return done ? others.join("\n") : first.replace(/^tick [^:]*: /, "");
+  }
+
+  // shows a row of the run, -1 for none yet
+  function show(wanted, speak = true) {
+    // where there is no run for a while the place is kept
+    if (exists()) shown = Math.max(-1, Math.min(wanted, rows() - 1));
+    const told = shown >= 0 && exists() ? bench.ask("row", shown) : null;
+    const cells = told ? told.cells : Array(9).fill("–");
+    find("happens").textContent = cells[5];
+    find("node").textContent = told ? cells[4] + " of " + cells[3] : "–";
+    find("ones").textContent = cells[2];
+    find("results").textContent = cells[8];
+    find("stands").textContent = exists() ? state.at : "–";
+    lamps(told ? told.mask : 0);
+    find("stack").replaceChildren(...(told ? told.open : []).map(({ scheme, node }, at) => {
+      const item = made("li");
+      item.append(made("b", scheme), made("span", (at === 0 ? "at " : "waits at ") + node));
+      return item;
+    }));
+    const refused = told && told.refusal !== null;
+    find("refusal").hidden = !refused;
+    find("refusal").textContent = refused ? told.refusal : "";
+    const why = told ? bench.ask("why", shown) : null;
+    find("why").textContent = why ? reason(why) : "–";
+    light(told);
+    document.body.dataset.tick = String(shown);
+    document.body.dataset.node = told ? told.node : "";
+    const last = rows() - 1;
+    find("slider").max = String(Math.max(last, 0));
+    find("slider").value = String(Math.max(shown, 0));
+    find("slider").disabled = last < 1;
+    find("slider").setAttribute("aria-valuetext", shown < 0 ? "no tick yet" : "tick " + shown + ": " + cells[5] + " at " + cells[4]);
+    find("counter").textContent = shown < 0 ? "no tick yet" : "tick " + shown + " of " + last;
+    find("back").disabled = find("first").disabled = shown <= 0;
+    find("last").disabled = shown >= last;
+    find("step").disabled = !exists() || (shown >= last && state.refusal !== null);
+    find("anew").disabled = shown < 0 || shown >= last;
+    find("clear").disabled = last < 0;
+    if (speak) {
+      const outputs = cells[6] === "-" ? "no output" : cells[6];
+      say(shown < 0 ? "The run stands at its beginning: set conditions, and make a step." : "tick " + shown + ": " + cells[5] + " at " + cells[4] + ", " + outputs + (shown === last && !refused ? "; the run now stands at " + state.at : ""));
+    }
+    changed.forEach((tell) => tell());
+  }
+
+  // after the chart has changed: all ticks are made again on it
+  function remade() {
+    const place = shown;
+    changes += 1;
+    state = bench.ask("state");
+    if (!exists()) say(state.problem);
+    buttons();
+    schemes();
+    show(place, false);
+  }
+
+  function schemes() {
+    const { swapped, servers } = chart.accepted() ?? { swapped: [], servers: [] };
+    const option = ({ number, name }) => new Option(name, String(number));
+    for (const [id, offered] of [["number", swapped], ["server", servers]]) {
+      const kept = find(id).value;
+      find(id).replaceChildren(...offered.map(option));
+      if (offered.some(({ number }) => String(number) === kept)) find(id).value = kept;
+    }
+    find("swap").disabled = find("number").options.length < 1 || find("server").options.length < 2;
+  }
+
+  function cut(ticks) {
+    remember();
+    take(bench.ask("cut", ticks));
+    show(ticks - 1);
+  }
+
+  function undo() {
+    const script = undone.pop();
+    find("undo").disabled = undone.length === 0;
+    if (script) restore(script);
+  }
+
+  function restore(script, place = Infinity) {
+    restored = script.swaps;
+    find("places").value = String(script.places);
+    bench.give(script.words + "\n" + script.swaps);
+    changes += 1;
+    state = bench.ask("restore", script.places);
+    show(place);
+    if (!exists()) say(state.problem);
+  }
+
+  // a run without ticks on so many places
+  function fresh(places) {
+    remember();
+    restore({ words: "", swaps: "", places }, -1);
+  }
+
+  // words after those that were run, by numbers or names; what is wrong with them is returned
+  function feed(words, times = 0) {
+    bench.give(words);
+    const answer = bench.ask("feed", times);
+    take(answer);
+    show(rows() - 1, answer.problem === undefined);
+    return answer.problem;
+  }
+
+  // a run by a scenario; one that is at fault leaves the run as it is
+  function play() {
+    const left = script();
+    bench.give(find("scenario").value);
+    const answer = bench.ask("play");
+    const words = answer.problem ?? answer.told;
+    find("played").textContent = words;
+    find("played").className = answer.passed ? "passed" : "refused";
+    if (answer.problem === undefined) {
+      remember(left);
+      changes += 1;
+    }
+    find("played").dataset.of = String(changes);
+    if (answer.problem === undefined) {
+      state = bench.ask("state");
+      find("places").value = String(state.places);
+      show(rows() - 1);
+    }
+    say("The scenario: " + words.split("\n")[0]);
+  }
+
+  function seek(event, forward) {
+    if (!rows()) return;
+    const found = bench.ask("seek", event, shown < 0 ? none : shown, forward ? 1 : 0);
+    const name = ["call", "drop", "refusal", "change of outputs"][event];
+    if (found === null) say("There is no " + name + (forward ? " after" : " before") + " this tick.");
+    else show(found);
+  }
+
+  // a click on a node leads to its next tick, or the first one
+  function nextAt(id) {
+    const found = rows() ? bench.ask("visit", Number(id.slice(1)), shown < 0 ? none : shown) : null;
+    if (found === null) say("No tick of the run is at this node.");
+    else show(found);
+  }
+
+  find("step").addEventListener("click", step);
+  find("back").addEventListener("click", () => show(shown - 1));
+  find("first").addEventListener("click", () => show(0));
+  find("last").addEventListener("click", () => show(rows() - 1));
+  find("slider").addEventListener("input", (event) => show(Number(event.target.value)));
+  find("find").addEventListener("click", () => seek(Number(find("wanted").value), true));
+  find("anew").addEventListener("click", () => cut(shown + 1));
+  find("clear").addEventListener("click", () => cut(0));
+  find("undo").addEventListener("click", undo);
+  find("many").addEventListener("click", () => tick(Math.max(1, Math.trunc(Number(find("times").value)) || 1)));
+  find("fed").addEventListener("click", () => feed(find("feed").value.trim(), Math.max(0, Math.trunc(Number(find("feed-times").value)) || 0)));
+  find("play").addEventListener("click", play);
+  find("places").addEventListener("change", (event) => {
+    changes += 1;
+    state = bench.ask("begin", Math.max(0, Math.trunc(Number(event.target.value)) || 0));
+    show(shown);
+    if (!exists()) say(state.problem);
+  });
+  find("swap").addEventListener("click", () => {
+    const answer = bench.ask("swap", Number(find("number").value), Number(find("server").value));
+    take(answer);
+    if (answer.problem === undefined) show(rows() - 1);
+  });
+  const isNode = (event) => event.target.closest("#sheet g.node");
+  find("sheet").addEventListener("click", (event) => isNode(event) && nextAt(isNode(event).id));
+  find("sheet").addEventListener("keydown", (event) => {
+    if ((event.key !== "Enter" && event.key !== " ") || !isNode(event)) return;
+    event.preventDefault();
+    nextAt(isNode(event).id);
+  });
+  return {
+    remade, show, step, tick, cut, undo, restore, fresh, feed, play, seek, press, script, rows, changes: () => changes,
+    state: () => state, shown: () => shown, exists, held: () => held, hold: (word) => { held = word; }, onChange: (tell) => changed.push(tell),
+  };
+})();

@@ -1,0 +1,110 @@
+// The chart's text: checked at each key, with its lines numbered, and drawn where it is accepted.
+const chart = (() => {
+  const field = find("text");
+  const sheet = find("sheet");
+  let accepted = null;
+  let acceptedText = "";
+  let problem = null;
+  let drawn = "";
+  let chosen = false;
+
+  function number() {
+    const count = field.value.split("\n").length;
+    const wrong = problem && problem.line;
+    const lines = Array.from({ length: count }, (_, at) => String(at + 1));
+    const numbers = find("numbers");
+    if (numbers.dataset.shown === count + " " + wrong) return;
+    numbers.dataset.shown = count + " " + wrong;
+    numbers.replaceChildren();
+    if (!wrong || wrong > count) {
+      numbers.textContent = lines.join("\n");
+      return;
+    }
+    numbers.append(lines.slice(0, wrong - 1).map((line) => line + "\n").join(""), made("b", "!" + wrong));
+    numbers.append("\n" + lines.slice(wrong).join("\n"));
+  }
+
+  function draw(svg) {
+    if (svg === drawn) return;
+    const before = drawn.split("\n");
+    drawn = svg;
+    if (patched(before, svg.split("\n"))) return;
+    // asked before, so that nothing is laid out twice
+    const [wide, high] = [sheet.clientWidth, sheet.clientHeight];
+    sheet.innerHTML = svg;
+    const drawing = sheet.firstElementChild;
+    drawing.setAttribute("role", "group");
+    // whole as long as it can be read so, until somebody chooses
+    const [width, height] = ["width", "height"].map((name) => Number(drawing.getAttribute(name)));
+    if (!chosen) fit(Math.min(wide / width, high / height) > 0.5);
+  }
+
+  // a letter moves few things: each stands on a line, and where their number is that of before those that differ alone are made anew,
+  // as most of a key's time is the browser's for texts that it has not laid out yet
+  function patched(before, now) {
+    const drawing = sheet.firstElementChild;
+    const ends = 2;
+    if (!drawing || before.length !== now.length || drawing.children.length !== now.length - 1 - ends) return false;
+    const places = Array.from(drawing.children, (_, at) => at).filter((at) => before[at + 1] !== now[at + 1]);
+    const fresh = made("div");
+    fresh.innerHTML = now[0] + places.map((at) => now[at + 1]).join("") + "</svg>";
+    const others = Array.from(fresh.firstElementChild.children);
+    if (others.length !== places.length) return false;
+    const left = places.map((at) => drawing.children[at]);
+    left.forEach((one, at) => one.replaceWith(others[at]));
+    for (const { name, value } of fresh.firstElementChild.attributes) {
+      if (drawing.getAttribute(name) !== value) drawing.setAttribute(name, value);
+    }
+    return true;
+  }
+
+  function fit(whole) {
+    find("fit").checked = whole;
+    sheet.classList.toggle("fit", whole);
+  }
+
+  // takes the text as it stands; returns whether there is another accepted chart now
+  function check() {
+    bench.give(field.value);
+    const answer = bench.ask("check");
+    const refused = answer.problem !== undefined;
+    problem = refused ? answer : null;
+    find("checked").textContent = refused ? answer.problem : answer.words;
+    find("checked").className = refused ? "refused" : "";
+    find("go").hidden = !(refused && answer.line);
+    const image = !refused && answer.chart === null;
+    if (image) find("checked").textContent += "\nAn image has labels and rows, and no nodes that can be drawn or stepped through here.";
+    number();
+    if (!refused && !image) {
+      accepted = answer.chart;
+      acceptedText = field.value;
+      draw(answer.chart.drawing);
+    }
+    const stale = accepted !== null && (refused || image);
+    find("stale").hidden = !stale;
+    sheet.classList.toggle("stale", stale);
+    return !refused && !image;
+  }
+
+  // the place that the problem names is selected
+  function go() {
+    if (!problem || !problem.line) return;
+    const lines = field.value.split("\n");
+    const line = Math.min(problem.line, lines.length) - 1;
+    const start = lines.slice(0, line).join("\n").length + (line ? 1 : 0);
+    const column = Math.min((problem.column ?? 1) - 1, lines[line].length);
+    field.focus();
+    field.setSelectionRange(start + column, start + Math.max(lines[line].length, column));
+    field.scrollTop = Math.max(0, (line - 4) * (field.scrollHeight / lines.length));
+  }
+
+  field.addEventListener("scroll", () => {
+    find("numbers").scrollTop = field.scrollTop;
+  });
+  find("go").addEventListener("click", go);
+  find("fit").addEventListener("change", (event) => {
+    chosen = true;
+    fit(event.target.checked);
+  });
+  return { check, field, accepted: () => accepted, acceptedText: () => acceptedText };
+})();
