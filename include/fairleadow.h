@@ -17,13 +17,13 @@
  * `./archive` makes is code for x86-64 and calls memcpy and memset and nothing else; there a call takes at most so many bytes of stack,
  * its return address and what it uses below its stack with them; memcpy and memset count as functions without a frame, and what a
  * dynamic linker takes to find them at their first call is not counted (docs/MEASUREMENTS.md has the deepest that was seen beside it):
- *    read_chart      3,456   tick           13,488   prepare        13,384
- *    write_chart       912   rebind         13,400   live_run          480
+ *    read_chart      3,472   tick           13,488   prepare        13,384
+ *    write_chart       928   rebind         13,400   live_run          480
  *    translate       6,912   spin           13,856   live_tick         416
  *    places          6,784   cause          13,368   live_rebind       288
  *    check_image    13,352   list_rows      13,416   live_spin         704
- *    fresh             136   minimise       14,984   meaning           136
- *    run            13,504   little_chart    1,568   dry_run        20,160
+ *    fresh             136   minimise       14,728   meaning           136
+ *    run            13,504   little_chart    1,584   dry_run        20,160
  *    priced_run     13,648   count_fillings 18,240   version           136
  *    check_table       264   sum               136
  */

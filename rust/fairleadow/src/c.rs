@@ -55,267 +55,256 @@ impl From<&State> for interface::State {
 }
 
 /// A call that writes into one lent buffer: what is read, the buffer, index and count.
-pub type Write = unsafe extern "C" fn(*const u8, usize, *mut u8, usize, *mut usize, *mut usize) -> u8;
+pub type Write = unsafe extern "C" fn(*const u8, u64, *mut u8, u64, *mut u64, *mut u64) -> u32;
 
 /// A call that only reads: what is read, index and count.
-pub type Read = unsafe extern "C" fn(*const u8, usize, *mut usize, *mut usize) -> u8;
+pub type Read = unsafe extern "C" fn(*const u8, u64, *mut u64, *mut u64) -> u32;
 
 /// A run: an image or a table, the state, words, masks, codes, index and count.
 pub type Run = unsafe extern "C" fn(
     *const u8,
-    usize,
+    u64,
     *mut State,
     *const u16,
-    usize,
+    u64,
     *mut u32,
-    usize,
+    u64,
     *mut u8,
-    usize,
-    *mut usize,
-    *mut usize,
-) -> u8;
+    u64,
+    *mut u64,
+    *mut u64,
+) -> u32;
 
 /// A tick: an image or a table, the state, the word, mask, code, index and count.
 pub type Tick =
-    unsafe extern "C" fn(*const u8, usize, *mut State, u16, *mut u32, *mut u8, *mut usize, *mut usize) -> u8;
+    unsafe extern "C" fn(*const u8, u64, *mut State, u16, *mut u32, *mut u8, *mut u64, *mut u64) -> u32;
 
 /// A rebinding: an image or a table, the state, the number, the scheme, index and count.
-pub type Rebind =
-    unsafe extern "C" fn(*const u8, usize, *mut State, usize, usize, *mut usize, *mut usize) -> u8;
+pub type Rebind = unsafe extern "C" fn(*const u8, u64, *mut State, u64, u64, *mut u64, *mut u64) -> u32;
 
 /// The tick of a spindle: the states, how many bytes they have, the record of places taken, the spindle's number, an image or a table,
 /// the word, mask, code, index and count. The header has how many states there are, the archive how many bytes.
 pub type Spin = unsafe extern "C" fn(
-    *mut State,
-    usize,
-    *mut usize,
-    usize,
+    *mut u8,
+    u64,
+    *mut u64,
+    u64,
     *const u8,
-    usize,
+    u64,
     u16,
     *mut u32,
     *mut u8,
-    *mut usize,
-    *mut usize,
-) -> u8;
+    *mut u64,
+    *mut u64,
+) -> u32;
 
 extern "C" {
     pub fn fairleadow_read_chart(
         text: *const u8,
-        text_len: usize,
+        text_len: u64,
         records: *mut u8,
-        records_len: usize,
-        index: *mut usize,
-        count: *mut usize,
-    ) -> u8;
+        records_len: u64,
+        index: *mut u64,
+        count: *mut u64,
+    ) -> u32;
     pub fn fairleadow_write_chart(
         records: *const u8,
-        records_len: usize,
+        records_len: u64,
         text: *mut u8,
-        text_len: usize,
-        index: *mut usize,
-        count: *mut usize,
-    ) -> u8;
+        text_len: u64,
+        index: *mut u64,
+        count: *mut u64,
+    ) -> u32;
     pub fn fairleadow_translate(
         chart: *const u8,
-        chart_len: usize,
+        chart_len: u64,
         image: *mut u8,
-        image_len: usize,
-        index: *mut usize,
-        count: *mut usize,
-    ) -> u8;
-    pub fn fairleadow_places(chart: *const u8, chart_len: usize, index: *mut usize, count: *mut usize) -> u8;
-    pub fn fairleadow_check_image(
-        image: *const u8,
-        image_len: usize,
-        index: *mut usize,
-        count: *mut usize,
-    ) -> u8;
-    pub fn fairleadow_fresh(size: usize, state: *mut State, index: *mut usize, count: *mut usize) -> u8;
+        image_len: u64,
+        index: *mut u64,
+        count: *mut u64,
+    ) -> u32;
+    pub fn fairleadow_places(chart: *const u8, chart_len: u64, index: *mut u64, count: *mut u64) -> u32;
+    pub fn fairleadow_check_image(image: *const u8, image_len: u64, index: *mut u64, count: *mut u64) -> u32;
+    pub fn fairleadow_fresh(size: u64, state: *mut State, index: *mut u64, count: *mut u64) -> u32;
     pub fn fairleadow_run(
         image: *const u8,
-        image_len: usize,
+        image_len: u64,
         state: *mut State,
         words: *const u16,
-        words_len: usize,
+        words_len: u64,
         masks: *mut u32,
-        masks_len: usize,
+        masks_len: u64,
         codes: *mut u8,
-        codes_len: usize,
-        index: *mut usize,
-        count: *mut usize,
-    ) -> u8;
+        codes_len: u64,
+        index: *mut u64,
+        count: *mut u64,
+    ) -> u32;
     pub fn fairleadow_dry_run(
         text: *const u8,
-        text_len: usize,
-        size: usize,
+        text_len: u64,
+        size: u64,
         image: *mut u8,
-        image_len: usize,
+        image_len: u64,
         words: *const u16,
-        words_len: usize,
+        words_len: u64,
         masks: *mut u32,
-        masks_len: usize,
+        masks_len: u64,
         codes: *mut u8,
-        codes_len: usize,
-        index: *mut usize,
-        count: *mut usize,
-    ) -> u8;
+        codes_len: u64,
+        index: *mut u64,
+        count: *mut u64,
+    ) -> u32;
     pub fn fairleadow_priced_run(
         image: *const u8,
-        image_len: usize,
+        image_len: u64,
         state: *mut State,
-        prices: *const [u16; 32],
+        prices: *const u16,
         words: *const u16,
-        words_len: usize,
+        words_len: u64,
         masks: *mut u32,
-        masks_len: usize,
+        masks_len: u64,
         codes: *mut u8,
-        codes_len: usize,
+        codes_len: u64,
         price: *mut u64,
-        index: *mut usize,
-        count: *mut usize,
-    ) -> u8;
+        index: *mut u64,
+        count: *mut u64,
+    ) -> u32;
     pub fn fairleadow_tick(
         image: *const u8,
-        image_len: usize,
+        image_len: u64,
         state: *mut State,
         word: u16,
         mask: *mut u32,
         code: *mut u8,
-        index: *mut usize,
-        count: *mut usize,
-    ) -> u8;
+        index: *mut u64,
+        count: *mut u64,
+    ) -> u32;
     pub fn fairleadow_rebind(
         image: *const u8,
-        image_len: usize,
+        image_len: u64,
         state: *mut State,
-        number: usize,
-        scheme: usize,
-        index: *mut usize,
-        count: *mut usize,
-    ) -> u8;
+        number: u64,
+        scheme: u64,
+        index: *mut u64,
+        count: *mut u64,
+    ) -> u32;
     pub fn fairleadow_spin(
-        states: *mut State,
-        states_bytes: usize,
-        taken: *mut usize,
-        spindle: usize,
+        states: *mut u8,
+        states_bytes: u64,
+        taken: *mut u64,
+        spindle: u64,
         image: *const u8,
-        image_len: usize,
+        image_len: u64,
         word: u16,
         mask: *mut u32,
         code: *mut u8,
-        index: *mut usize,
-        count: *mut usize,
-    ) -> u8;
+        index: *mut u64,
+        count: *mut u64,
+    ) -> u32;
     pub fn fairleadow_cause(
         image: *const u8,
-        image_len: usize,
+        image_len: u64,
         state: *const State,
         word: u16,
         row: *mut u16,
         mask: *mut u16,
         bit: *mut u8,
-        index: *mut usize,
-        count: *mut usize,
-    ) -> u8;
+        index: *mut u64,
+        count: *mut u64,
+    ) -> u32;
     pub fn fairleadow_list_rows(
         image: *const u8,
-        image_len: usize,
+        image_len: u64,
         firsts: *mut u16,
-        firsts_len: usize,
+        firsts_len: u64,
         counts: *mut u16,
-        counts_len: usize,
-        index: *mut usize,
-        count: *mut usize,
-    ) -> u8;
+        counts_len: u64,
+        index: *mut u64,
+        count: *mut u64,
+    ) -> u32;
     pub fn fairleadow_minimise(
         image: *const u8,
-        image_len: usize,
+        image_len: u64,
         smaller: *mut u8,
-        smaller_len: usize,
-        index: *mut usize,
-        count: *mut usize,
-    ) -> u8;
+        smaller_len: u64,
+        index: *mut u64,
+        count: *mut u64,
+    ) -> u32;
     pub fn fairleadow_little_chart(
-        frames: usize,
-        number: usize,
+        frames: u64,
+        number: u64,
         text: *mut u8,
-        text_len: usize,
-        index: *mut usize,
-        count: *mut usize,
-    ) -> u8;
+        text_len: u64,
+        index: *mut u64,
+        count: *mut u64,
+    ) -> u32;
     pub fn fairleadow_count_fillings(
         image: *const u8,
-        image_len: usize,
-        size: usize,
-        ticks: usize,
-        conditions: usize,
+        image_len: u64,
+        size: u64,
+        ticks: u64,
+        conditions: u64,
         ended: *mut u32,
         full: *mut u32,
         unmatched: *mut u32,
-        index: *mut usize,
-        count: *mut usize,
-    ) -> u8;
+        index: *mut u64,
+        count: *mut u64,
+    ) -> u32;
     pub fn fairleadow_prepare(
         image: *const u8,
-        image_len: usize,
+        image_len: u64,
         table: *mut u8,
-        table_len: usize,
-        index: *mut usize,
-        count: *mut usize,
-    ) -> u8;
-    pub fn fairleadow_check_table(
-        table: *const u8,
-        table_len: usize,
-        index: *mut usize,
-        count: *mut usize,
-    ) -> u8;
-    pub fn fairleadow_sum(sum: u32, bytes: *const u8, bytes_len: usize) -> u32;
+        table_len: u64,
+        index: *mut u64,
+        count: *mut u64,
+    ) -> u32;
+    pub fn fairleadow_check_table(table: *const u8, table_len: u64, index: *mut u64, count: *mut u64) -> u32;
+    pub fn fairleadow_sum(sum: u32, bytes: *const u8, bytes_len: u64) -> u32;
     pub fn fairleadow_live_run(
         table: *const u8,
-        table_len: usize,
+        table_len: u64,
         state: *mut State,
         words: *const u16,
-        words_len: usize,
+        words_len: u64,
         masks: *mut u32,
-        masks_len: usize,
+        masks_len: u64,
         codes: *mut u8,
-        codes_len: usize,
-        index: *mut usize,
-        count: *mut usize,
-    ) -> u8;
+        codes_len: u64,
+        index: *mut u64,
+        count: *mut u64,
+    ) -> u32;
     pub fn fairleadow_live_tick(
         table: *const u8,
-        table_len: usize,
+        table_len: u64,
         state: *mut State,
         word: u16,
         mask: *mut u32,
         code: *mut u8,
-        index: *mut usize,
-        count: *mut usize,
-    ) -> u8;
+        index: *mut u64,
+        count: *mut u64,
+    ) -> u32;
     pub fn fairleadow_live_rebind(
         table: *const u8,
-        table_len: usize,
+        table_len: u64,
         state: *mut State,
-        number: usize,
-        scheme: usize,
-        index: *mut usize,
-        count: *mut usize,
-    ) -> u8;
+        number: u64,
+        scheme: u64,
+        index: *mut u64,
+        count: *mut u64,
+    ) -> u32;
     pub fn fairleadow_live_spin(
-        states: *mut State,
-        states_bytes: usize,
-        taken: *mut usize,
-        spindle: usize,
+        states: *mut u8,
+        states_bytes: u64,
+        taken: *mut u64,
+        spindle: u64,
         table: *const u8,
-        table_len: usize,
+        table_len: u64,
         word: u16,
         mask: *mut u32,
         code: *mut u8,
-        index: *mut usize,
-        count: *mut usize,
-    ) -> u8;
-    pub fn fairleadow_meaning(code: u8, called: *mut u8) -> u8;
+        index: *mut u64,
+        count: *mut u64,
+    ) -> u32;
+    pub fn fairleadow_meaning(code: u8, called: *mut u8) -> u32;
     pub fn fairleadow_version() -> u32;
 }

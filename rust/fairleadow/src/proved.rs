@@ -139,23 +139,31 @@ impl Proved {
 }
 
 /// Calls with room for index and count, and puts the answer together.
-fn answered(call: impl FnOnce(*mut usize, *mut usize) -> u8) -> Answer {
-    let (mut index, mut count) = (usize::MAX, usize::MAX);
-    match call(&mut index, &mut count) {
+fn answered(call: impl FnOnce(*mut u64, *mut u64) -> u32) -> Answer {
+    let (mut index, mut count) = (u64::MAX, u64::MAX);
+    // the number stands in the low eight bits
+    let number = call(&mut index, &mut count) as u8;
+    let (index, count) = (index as usize, count as usize);
+    match number {
         0 => Answer::Done(count),
         number => Answer::Refused { number, index, count },
     }
 }
 
+/// How many elements there are, as the archive counts on every processor.
+fn length<T>(of: &[T]) -> u64 {
+    of.len() as u64
+}
+
 /// A call that only reads.
 fn read(call: c::Read, text: &[u8]) -> Answer {
-    answered(|index, count| unsafe { call(text.as_ptr(), text.len(), index, count) })
+    answered(|index, count| unsafe { call(text.as_ptr(), length(text), index, count) })
 }
 
 /// A call that writes into one lent buffer.
 fn written(call: c::Write, text: &[u8], out: &mut [u8]) -> Answer {
     answered(|index, count| unsafe {
-        call(text.as_ptr(), text.len(), out.as_mut_ptr(), out.len(), index, count)
+        call(text.as_ptr(), length(text), out.as_mut_ptr(), length(out), index, count)
     })
 }
 
@@ -172,14 +180,14 @@ fn ran(
     let answer = answered(|index, count| unsafe {
         call(
             image.as_ptr(),
-            image.len(),
+            length(image),
             &mut kept,
             words.as_ptr(),
-            words.len(),
+            length(words),
             masks.as_mut_ptr(),
-            masks.len(),
+            length(masks),
             codes.as_mut_ptr(),
-            codes.len(),
+            length(codes),
             index,
             count,
         )
@@ -192,7 +200,7 @@ fn ticked(call: c::Tick, image: &[u8], state: &mut State, word: u16) -> TickRepo
     let mut kept = c::State::from(&*state);
     let (mut mask, mut code) = (0, 0);
     let answer = answered(|index, count| unsafe {
-        call(image.as_ptr(), image.len(), &mut kept, word, &mut mask, &mut code, index, count)
+        call(image.as_ptr(), length(image), &mut kept, word, &mut mask, &mut code, index, count)
     });
     *state = State::from(&kept);
     TickReport { answer, mask, code }
@@ -208,15 +216,16 @@ fn spun(
     word: u16,
 ) -> TickReport {
     let mut kept: Vec<c::State> = states.iter().map(c::State::from).collect();
+    let mut record = *taken as u64;
     let (mut mask, mut code) = (0, 0);
     let answer = answered(|index, count| unsafe {
         call(
-            kept.as_mut_ptr(),
-            size_of_val(kept.as_slice()),
-            taken,
-            spindle,
+            kept.as_mut_ptr().cast(),
+            size_of_val(kept.as_slice()) as u64,
+            &mut record,
+            spindle as u64,
             image.as_ptr(),
-            image.len(),
+            length(image),
             word,
             &mut mask,
             &mut code,
@@ -224,6 +233,7 @@ fn spun(
             count,
         )
     });
+    *taken = record as usize;
     states.iter_mut().zip(&kept).for_each(|(state, kept)| *state = State::from(kept));
     TickReport { answer, mask, code }
 }
@@ -232,7 +242,7 @@ fn spun(
 fn rebound(call: c::Rebind, image: &[u8], state: &mut State, number: usize, scheme: usize) -> Answer {
     let mut kept = c::State::from(&*state);
     let answer = answered(|index, count| unsafe {
-        call(image.as_ptr(), image.len(), &mut kept, number, scheme, index, count)
+        call(image.as_ptr(), length(image), &mut kept, number as u64, scheme as u64, index, count)
     });
     *state = State::from(&kept);
     answer
@@ -261,7 +271,8 @@ impl Library for Proved {
 
     fn fresh(&self, size: usize) -> (Answer, State) {
         let mut state = c::State::filled(0xFF);
-        let answer = answered(|index, count| unsafe { c::fairleadow_fresh(size, &mut state, index, count) });
+        let answer =
+            answered(|index, count| unsafe { c::fairleadow_fresh(size as u64, &mut state, index, count) });
         (answer, State::from(&state))
     }
 
@@ -288,16 +299,16 @@ impl Library for Proved {
         answered(|index, count| unsafe {
             c::fairleadow_dry_run(
                 text.as_ptr(),
-                text.len(),
-                size,
+                length(text),
+                size as u64,
                 image.as_mut_ptr(),
-                image.len(),
+                length(image),
                 words.as_ptr(),
-                words.len(),
+                length(words),
                 masks.as_mut_ptr(),
-                masks.len(),
+                length(masks),
                 codes.as_mut_ptr(),
-                codes.len(),
+                length(codes),
                 index,
                 count,
             )
@@ -318,15 +329,15 @@ impl Library for Proved {
         let answer = answered(|index, count| unsafe {
             c::fairleadow_priced_run(
                 image.as_ptr(),
-                image.len(),
+                length(image),
                 &mut kept,
-                prices,
+                prices.as_ptr(),
                 words.as_ptr(),
-                words.len(),
+                length(words),
                 masks.as_mut_ptr(),
-                masks.len(),
+                length(masks),
                 codes.as_mut_ptr(),
-                codes.len(),
+                length(codes),
                 &mut price,
                 index,
                 count,
@@ -360,7 +371,7 @@ impl Library for Proved {
         let answer = answered(|index, count| unsafe {
             c::fairleadow_cause(
                 image.as_ptr(),
-                image.len(),
+                length(image),
                 &kept,
                 word,
                 &mut row,
@@ -377,11 +388,11 @@ impl Library for Proved {
         answered(|index, count| unsafe {
             c::fairleadow_list_rows(
                 image.as_ptr(),
-                image.len(),
+                length(image),
                 firsts.as_mut_ptr(),
-                firsts.len(),
+                length(firsts),
                 counts.as_mut_ptr(),
-                counts.len(),
+                length(counts),
                 index,
                 count,
             )
@@ -394,7 +405,14 @@ impl Library for Proved {
 
     fn little_chart(&self, frames: usize, number: usize, text: &mut [u8]) -> Answer {
         answered(|index, count| unsafe {
-            c::fairleadow_little_chart(frames, number, text.as_mut_ptr(), text.len(), index, count)
+            c::fairleadow_little_chart(
+                frames as u64,
+                number as u64,
+                text.as_mut_ptr(),
+                length(text),
+                index,
+                count,
+            )
         })
     }
 
@@ -403,10 +421,10 @@ impl Library for Proved {
         let answer = answered(|index, count| unsafe {
             c::fairleadow_count_fillings(
                 image.as_ptr(),
-                image.len(),
-                size,
-                ticks,
-                conditions,
+                length(image),
+                size as u64,
+                ticks as u64,
+                conditions as u64,
                 &mut ended,
                 &mut full,
                 &mut unmatched,
@@ -426,7 +444,7 @@ impl Library for Proved {
     }
 
     fn sum(&self, sum: u32, bytes: &[u8]) -> u32 {
-        unsafe { c::fairleadow_sum(sum, bytes.as_ptr(), bytes.len()) }
+        unsafe { c::fairleadow_sum(sum, bytes.as_ptr(), length(bytes)) }
     }
 
     fn live_run(
@@ -461,7 +479,7 @@ impl Library for Proved {
 
     fn meaning(&self, code: u8) -> Meaning {
         let mut called = 0;
-        match unsafe { c::fairleadow_meaning(code, &mut called) } {
+        match unsafe { c::fairleadow_meaning(code, &mut called) } as u8 {
             0 => Meaning::Plain,
             1 => Meaning::OperationCall(called),
             2 => Meaning::FunctionCall(called),

@@ -27,7 +27,7 @@ fn numbers(meaning: Meaning) -> (u8, u8) {
 fn c_is_told_the_kind_and_the_scheme_called() {
     for code in 0..=255 {
         let mut called = 77;
-        let kind = unsafe { c::fairleadow_meaning(code, &mut called) };
+        let kind = unsafe { c::fairleadow_meaning(code, &mut called) } as u8;
         assert_eq!((kind, called), numbers(Reference.meaning(code)), "code {code:02X}");
     }
 }

@@ -12,15 +12,15 @@ use reference::samples::{chart_p, with_handler};
 use reference::{FillingsReport, Reference};
 
 /// Number, index and count, and the three counts, which are filled before.
-type Told = ((u8, usize, usize), [u32; 3]);
+type Told = ((u8, u64, u64), [u32; 3]);
 
-fn counted(image: &[u8], size: usize, ticks: usize, conditions: usize) -> Told {
+fn counted(image: &[u8], size: u64, ticks: u64, conditions: u64) -> Told {
     let (mut index, mut count, mut counts) = (9, 9, [u32::MAX; 3]);
     let [ended, full, unmatched] = &mut counts;
     let number = unsafe {
         c::fairleadow_count_fillings(
             image.as_ptr(),
-            image.len(),
+            image.len() as u64,
             size,
             ticks,
             conditions,
@@ -30,7 +30,7 @@ fn counted(image: &[u8], size: usize, ticks: usize, conditions: usize) -> Told {
             &mut index,
             &mut count,
         )
-    };
+    } as u8;
     ((number, index, count), counts)
 }
 
@@ -80,14 +80,14 @@ fn a_refusal_counts_nothing() {
         ((1 << 63) + 1, 2),
         (1 << 60, 16),
         (1 << 32, 1 << 32),
-        (0, usize::MAX),
-        (usize::MAX, 0),
-        (usize::MAX, usize::MAX),
+        (0, u64::MAX),
+        (u64::MAX, 0),
+        (u64::MAX, u64::MAX),
         ((1 << 32) + 4, 1),
         (4, (1 << 32) + 1),
     ] {
         assert_eq!(counted(&image, 2, ticks, conditions), refused(28), "{ticks} {conditions}");
-        for size in [0, 33, 258, (1 << 32) + 2, usize::MAX] {
+        for size in [0, 33, 258, (1 << 32) + 2, u64::MAX] {
             assert_eq!(counted(&image, size, ticks, conditions), refused(14), "{size}");
             assert_eq!(counted(&image[1..], size, ticks, conditions), refused(1), "{size}");
         }

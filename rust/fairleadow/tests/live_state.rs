@@ -7,20 +7,20 @@ use reference::frames::text_of;
 use reference::samples::{chart_p, largest_image};
 
 /// The number, and the index and count written.
-type Said = (u8, usize, usize);
+type Said = (u8, u64, u64);
 
 fn prepare(image: &[u8], table: &mut [u8]) -> Said {
     let (mut index, mut count) = (9, 9);
     let number = unsafe {
         c::fairleadow_prepare(
             image.as_ptr(),
-            image.len(),
+            image.len() as u64,
             table.as_mut_ptr(),
-            table.len(),
+            table.len() as u64,
             &mut index,
             &mut count,
         )
-    };
+    } as u8;
     (number, index, count)
 }
 
@@ -43,18 +43,18 @@ fn live_run(table: &[u8], state: &mut c::State, words: &[u16], room: usize) -> S
     let number = unsafe {
         c::fairleadow_live_run(
             table.as_ptr(),
-            table.len(),
+            table.len() as u64,
             state,
             words.as_ptr(),
-            words.len(),
+            words.len() as u64,
             masks.as_mut_ptr(),
-            room,
+            room as u64,
             codes.as_mut_ptr(),
-            room,
+            room as u64,
             &mut index,
             &mut count,
         )
-    };
+    } as u8;
     (number, index, count)
 }
 
@@ -64,7 +64,7 @@ fn live_tick(table: &[u8], state: &mut c::State, word: u16) -> (Said, u32, u8) {
     let number = unsafe {
         c::fairleadow_live_tick(
             table.as_ptr(),
-            table.len(),
+            table.len() as u64,
             state,
             word,
             &mut mask,
@@ -72,7 +72,7 @@ fn live_tick(table: &[u8], state: &mut c::State, word: u16) -> (Said, u32, u8) {
             &mut index,
             &mut count,
         )
-    };
+    } as u8;
     ((number, index, count), mask, code)
 }
 
@@ -146,6 +146,6 @@ fn the_largest_table_has_the_size_of_the_header() {
     let image = text_of(&largest_image());
     assert_eq!(image.len(), IMAGE_TEXT);
     let mut table = vec![0xAB; TABLE + 5];
-    assert_eq!(prepare(&image, &mut table[..TABLE]), (0, 0, TABLE));
+    assert_eq!(prepare(&image, &mut table[..TABLE]), (0, 0, TABLE as u64));
     assert_eq!(table[TABLE..], [0xAB; 5]);
 }

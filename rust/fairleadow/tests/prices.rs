@@ -8,7 +8,7 @@ use reference::samples::{chart_p, one_label};
 const MOST: usize = 65_536;
 
 /// What a call answered and left: number, index, count and price, the state, and both buffers.
-type Told = ((u8, usize, usize, u64), c::State, Vec<u32>, Vec<u8>);
+type Told = ((u8, u64, u64, u64), c::State, Vec<u32>, Vec<u8>);
 
 /// A priced run with room for so many ticks; what it is lent for writing is filled before.
 fn priced(image: &[u8], start: &c::State, prices: &[u16; 32], words: &[u16], room: [usize; 2]) -> Told {
@@ -18,27 +18,27 @@ fn priced(image: &[u8], start: &c::State, prices: &[u16; 32], words: &[u16], roo
     let number = unsafe {
         c::fairleadow_priced_run(
             image.as_ptr(),
-            image.len(),
+            image.len() as u64,
             &mut state,
-            prices,
+            prices.as_ptr(),
             words.as_ptr(),
-            words.len(),
+            words.len() as u64,
             masks.as_mut_ptr(),
-            masks.len(),
+            masks.len() as u64,
             codes.as_mut_ptr(),
-            codes.len(),
+            codes.len() as u64,
             &mut price,
             &mut index,
             &mut count,
         )
-    };
+    } as u8;
     assert_eq!(*prices, kept, "prices are only read");
     ((number, index, count, price), state, masks, codes)
 }
 
-fn fresh(size: usize) -> c::State {
+fn fresh(size: u64) -> c::State {
     let mut state = c::State::NONE;
-    assert_eq!(unsafe { c::fairleadow_fresh(size, &mut state, &mut 9, &mut 9) }, 0);
+    assert_eq!(unsafe { c::fairleadow_fresh(size, &mut state, &mut 9, &mut 9) } as u8, 0);
     state
 }
 
@@ -114,7 +114,7 @@ fn the_largest_price() {
     let words = vec![0; MOST];
     let image = text_of(&image.frames());
     let (answer, after, masks, codes) = priced(&image, &state, &[u16::MAX; 32], &words, [MOST, MOST]);
-    assert_eq!(answer, (0, 0, MOST, 1_374_368_563));
+    assert_eq!(answer, (0, 0, MOST as u64, 1_374_368_563));
     assert_eq!(after, state);
     assert!(masks.iter().all(|mask| *mask == u32::MAX) && codes.iter().all(|code| *code == 0));
 }

@@ -21,15 +21,11 @@ fn prepared(image: &[u8]) -> Vec<u8> {
 }
 
 /// The number, index and count of a rebinding in the bytes of a state.
-fn rebind(
-    call: c::Rebind,
-    ground: &[u8],
-    state: &mut c::State,
-    number: usize,
-    scheme: usize,
-) -> (u8, usize, usize) {
+fn rebind(call: c::Rebind, ground: &[u8], state: &mut c::State, number: u64, scheme: u64) -> (u8, u64, u64) {
     let (mut index, mut count) = (9, 9);
-    let said = unsafe { call(ground.as_ptr(), ground.len(), state, number, scheme, &mut index, &mut count) };
+    let said =
+        unsafe { call(ground.as_ptr(), ground.len() as u64, state, number, scheme, &mut index, &mut count) }
+            as u8;
     (said, index, count)
 }
 

@@ -11,7 +11,7 @@ use reference::{fresh_state, Reference, State};
 const BYTES: usize = 130;
 
 /// The number, index and count written, the record of places, and what *mask and *code, 123 and 45 before, hold then.
-type Said = ((u8, usize, usize), usize, u32, u8);
+type Said = ((u8, u64, u64), u64, u32, u8);
 
 /// Two schemes that call whatever the word is, and a handler.
 fn image() -> Vec<u8> {
@@ -33,35 +33,28 @@ fn calls() -> [(c::Spin, Vec<u8>, u8); 2] {
 }
 
 /// A tick by word 0, on the first bytes of a list.
-fn spin(
-    call: c::Spin,
-    ground: &[u8],
-    list: &mut [c::State],
-    bytes: usize,
-    taken: usize,
-    spindle: usize,
-) -> Said {
+fn spin(call: c::Spin, ground: &[u8], list: &mut [c::State], bytes: usize, taken: u64, spindle: u64) -> Said {
     assert!(bytes <= size_of_val(list));
     let (mut mask, mut code, mut index, mut count, mut record) = (123, 45, 9, 9, taken);
     let number = unsafe {
         call(
-            list.as_mut_ptr(),
-            bytes,
+            list.as_mut_ptr().cast(),
+            bytes as u64,
             &mut record,
             spindle,
             ground.as_ptr(),
-            ground.len(),
+            ground.len() as u64,
             0,
             &mut mask,
             &mut code,
             &mut index,
             &mut count,
         )
-    };
+    } as u8;
     ((number, index, count), record, mask, code)
 }
 
-fn refused(number: u8, taken: usize) -> Said {
+fn refused(number: u8, taken: u64) -> Said {
     ((number, 0, 0), taken, 123, 45)
 }
 
@@ -84,11 +77,11 @@ fn result_bytes_of_the_spindle_come_back_as_0_or_1_and_no_other_byte_changes() {
             let mut wanted = all.clone();
             wanted[1 + spindle].results = [1; 16];
             wanted[1 + spindle].places[0] = 2;
-            let said = spin(call, &ground, &mut all[1..], 4 * BYTES, 4, spindle);
+            let said = spin(call, &ground, &mut all[1..], 4 * BYTES, 4, spindle as u64);
             assert_eq!(said, ((0, 0, 1), 4, 0, 0x04));
             assert_eq!(all, wanted);
             // the call takes a place: the bit of number 1 is written, that of number 2 cleared
-            let said = spin(call, &ground, &mut all[1..], 4 * BYTES, 4, spindle);
+            let said = spin(call, &ground, &mut all[1..], 4 * BYTES, 4, spindle as u64);
             assert_eq!(said, ((0, 0, 1), 5, 1, 0x12));
             let own = &mut wanted[1 + spindle];
             (own.depth, own.places[1], own.results[1]) = (2, 3, 0);
@@ -109,7 +102,7 @@ fn refusals_leave_every_byte() {
             assert_eq!(said, refused(wanted, taken), "{bytes} bytes, {taken} taken, spindle {spindle}");
             assert!(all == kept);
         };
-        for spindle in [4, 5, 255, 256, 258, 65_538, (1 << 32) + 2, usize::MAX - 1, usize::MAX] {
+        for spindle in [4, 5, 255, 256, 258, 65_538, (1 << 32) + 2, u64::MAX - 1, u64::MAX] {
             tried(&[], 3, 99, spindle, 25);
         }
         tried(&ground[..ground.len() - 1], 3, 99, 2, number);
@@ -117,7 +110,7 @@ fn refusals_leave_every_byte() {
         for bytes in (0..=5 * BYTES).filter(|bytes| *bytes != 4 * BYTES) {
             tried(&ground, bytes, 4, 2, 15);
         }
-        for taken in [0, 3, 5, 64, 65, 260, 65_540, (1 << 32) + 4, usize::MAX - 3, usize::MAX] {
+        for taken in [0, 3, 5, 64, 65, 260, 65_540, (1 << 32) + 4, u64::MAX - 3, u64::MAX] {
             tried(&ground, 4 * BYTES, taken, 2, 15);
         }
         // the others do not fit

@@ -12,33 +12,33 @@ fn image_p() -> Vec<u8> {
     translated(&text_of(&chart_p())).expect("a valid chart")
 }
 
-fn fresh(size: usize) -> c::State {
+fn fresh(size: u64) -> c::State {
     let (mut index, mut count) = (9, 9);
     let mut state = c::State::NONE;
-    assert_eq!(unsafe { c::fairleadow_fresh(size, &mut state, &mut index, &mut count) }, 0);
+    assert_eq!(unsafe { c::fairleadow_fresh(size, &mut state, &mut index, &mut count) } as u8, 0);
     assert_eq!((index, count), (0, 0));
     state
 }
 
 /// The number, and the index and count written.
-fn run(image: &[u8], state: &mut c::State, words: &[u16], room: usize) -> (u8, usize, usize) {
+fn run(image: &[u8], state: &mut c::State, words: &[u16], room: usize) -> (u8, u64, u64) {
     let (mut masks, mut codes) = (vec![0u32; room], vec![0u8; room]);
     let (mut index, mut count) = (9, 9);
     let number = unsafe {
         c::fairleadow_run(
             image.as_ptr(),
-            image.len(),
+            image.len() as u64,
             state,
             words.as_ptr(),
-            words.len(),
+            words.len() as u64,
             masks.as_mut_ptr(),
-            room,
+            room as u64,
             codes.as_mut_ptr(),
-            room,
+            room as u64,
             &mut index,
             &mut count,
         )
-    };
+    } as u8;
     (number, index, count)
 }
 
@@ -78,7 +78,7 @@ fn a_refused_tick_leaves_the_state_the_mask_and_the_code() {
     let number = unsafe {
         c::fairleadow_tick(
             image.as_ptr(),
-            image.len(),
+            image.len() as u64,
             &mut state,
             0,
             &mut mask,
@@ -86,7 +86,7 @@ fn a_refused_tick_leaves_the_state_the_mask_and_the_code() {
             &mut index,
             &mut count,
         )
-    };
+    } as u8;
     assert_eq!((number, index, count, mask, code), (17, 0, 0, 123, 45));
     assert_eq!(state, kept);
 }
@@ -115,7 +115,7 @@ fn a_cause_reads_every_byte_but_0_as_a_1() {
         let number = unsafe {
             c::fairleadow_cause(
                 image.as_ptr(),
-                image.len(),
+                image.len() as u64,
                 &state,
                 0xFFFF,
                 &mut row,
@@ -124,17 +124,17 @@ fn a_cause_reads_every_byte_but_0_as_a_1() {
                 &mut index,
                 &mut count,
             )
-        };
+        } as u8;
         assert_eq!(((number, row, mask, bit), index, count), (wanted, 0, 0), "{byte}");
     }
 }
 
 #[test]
 fn a_bad_size_gives_a_state_of_zeros() {
-    for size in [0, 33, 256, usize::MAX] {
+    for size in [0, 33, 256, u64::MAX] {
         let (mut index, mut count) = (9, 9);
         let mut state = c::State::filled(3);
-        assert_eq!(unsafe { c::fairleadow_fresh(size, &mut state, &mut index, &mut count) }, 14);
+        assert_eq!(unsafe { c::fairleadow_fresh(size, &mut state, &mut index, &mut count) } as u8, 14);
         assert_eq!((index, count, state), (0, 0, c::State::NONE));
     }
 }
@@ -159,7 +159,7 @@ fn a_fresh_state_is_written_whole() {
     for size in 1..=32 {
         let (mut index, mut count) = (9, 9);
         let mut state = c::State::filled(0xAB);
-        assert_eq!(unsafe { c::fairleadow_fresh(size, &mut state, &mut index, &mut count) }, 0);
+        assert_eq!(unsafe { c::fairleadow_fresh(size, &mut state, &mut index, &mut count) } as u8, 0);
         let mut wanted = c::State { size: size as u8, depth: 1, ..c::State::NONE };
         wanted.serving = std::array::from_fn(|k| k as u8 + 1);
         (wanted.numbers[0], wanted.servers[0]) = (1, 1);

@@ -87,6 +87,18 @@ impl Given {
         self.values.get(option).map(OsString::as_os_str)
     }
 
+    /// The two files that a command takes.
+    pub fn two_files(&self, [first, second]: [&str; 2]) -> Result<[&OsStr; 2], Failure> {
+        match self.operands.as_slice() {
+            [] => Err(Failure::Usage(format!("{first} and {second} are missing"))),
+            [_] => Err(Failure::Usage(format!("{second} is missing"))),
+            [one, other] => Ok([one, other]),
+            [_, _, third, ..] => {
+                Err(Failure::Usage(format!("two files only, and {} is one more", shown_name(third))))
+            }
+        }
+    }
+
     /// The one file that a command takes.
     pub fn one_file(&self, what: &str) -> Result<&OsStr, Failure> {
         match self.operands.as_slice() {

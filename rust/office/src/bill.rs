@@ -7,8 +7,8 @@ use fairleadow::{Answer, Library, PricedReport, Prices, Proved, OPERATIONS};
 use crate::columns::aligned;
 use crate::names::Names;
 use crate::problem::{counted, thousands, Problem};
+use crate::subject::Subject;
 use crate::trace::fresh;
-use crate::why::Subject;
 
 /// A priced run from a fresh state: its answer, the masks of the ticks made, and the price in cents.
 pub struct Bill {
@@ -39,7 +39,7 @@ impl Bill {
     }
 
     /// What all lines cost, in hundredths of a cent.
-    fn sum(&self) -> u64 {
+    pub fn sum(&self) -> u64 {
         (0..OPERATIONS).map(|operation| self.ticks(operation) * u64::from(self.prices[operation])).sum()
     }
 
@@ -48,13 +48,24 @@ impl Bill {
         self.masks.iter().filter(|mask| **mask >> operation & 1 == 1).count() as u64
     }
 
+    /// How many ticks were made, and the price of all in cents.
+    pub fn total(&self) -> (usize, u64) {
+        (self.masks.len(), self.price)
+    }
+
+    /// The outputs that were on, each with its ticks and its price a tick in hundredths of a cent.
+    pub fn lines(&self) -> impl Iterator<Item = (u8, u64, u64)> + '_ {
+        let line =
+            |operation: usize| (operation as u8, self.ticks(operation), u64::from(self.prices[operation]));
+        (0..OPERATIONS).map(line).filter(|(_, ticks, _)| *ticks > 0)
+    }
+
     /// A line for each output that was on, their sum, and what the ticks cost.
     pub fn report(&self, names: &Names) -> String {
         let heading = ["output", "ticks on", "cents a tick", "cents"].map(str::to_string);
         let mut rows = vec![heading];
-        for operation in (0..OPERATIONS).filter(|operation| self.ticks(*operation) > 0) {
-            let (ticks, price) = (self.ticks(operation), u64::from(self.prices[operation]));
-            let name = names.operation(operation as u8);
+        for (operation, ticks, price) in self.lines() {
+            let name = names.operation(operation);
             rows.push([name, thousands(ticks as usize), cents(price), cents(ticks * price)]);
         }
         rows.push(["sum".to_string(), String::new(), String::new(), cents(self.sum())]);

@@ -2,7 +2,7 @@
 //! and what it never took is grey.
 
 pub mod dot;
-mod labels;
+pub mod labels;
 
 use crate::chart::Node;
 use crate::escape::escaped;
@@ -11,7 +11,7 @@ use crate::plan::Plan;
 use crate::trace::{Arc, Coverage};
 
 /// The attributes that hold for all of a drawing.
-const COMMON: &str = r##"    graph [fontname="DejaVu Sans", fontsize=12, ranksep=0.35, nodesep=0.35, bgcolor="#ffffff"];
+pub(crate) const COMMON: &str = r##"    graph [fontname="DejaVu Sans", fontsize=12, ranksep=0.35, nodesep=0.35, bgcolor="#ffffff"];
     node [fontname="DejaVu Sans", fontsize=11, fontcolor="#1f2630", color="#37404d"];
     node [shape=box, style=filled, fillcolor="#ffffff", margin="0.12,0.06"];
     edge [fontname="DejaVu Sans", fontsize=10, arrowsize=0.7, color="#37404d"];
@@ -43,20 +43,25 @@ pub fn call_id(plan: &Plan, at: usize, server: u8) -> String {
 
 /// The drawing as SVG, laid out by dot, whose titles, shown beside a pointer, are in the shop's words.
 pub fn svg(plan: &Plan, drawing: &str) -> Result<String, String> {
+    titled_svg(drawing, |id, title| titled(plan, id, title))
+}
+
+/// A drawing as SVG with titles by the identifiers of its parts, and dot's own where there is none.
+pub fn titled_svg(drawing: &str, titled: impl Fn(&str, &str) -> Option<String>) -> Result<String, String> {
     let svg = dot::svg(drawing)?;
     let mut pieces = svg.split("<title>");
     let mut named = pieces.next().unwrap_or("").to_string();
     for piece in pieces {
         let (title, rest) = piece.split_once("</title>").unwrap_or((piece, ""));
         let id = named.rsplit_once("<g id=\"").and_then(|(_, group)| group.split('"').next()).unwrap_or("");
-        let title = titled(plan, id, title).map_or(title.to_string(), |title| escaped(&title));
+        let title = titled(id, title).map_or(title.to_string(), |title| escaped(&title));
         named.push_str(&format!("<title>{title}</title>{rest}"));
     }
     Ok(named)
 }
 
 /// A node, an arc, a call or a cluster by its identifier, or by dot's own title where it has none.
-fn titled(plan: &Plan, id: &str, title: &str) -> Option<String> {
+pub fn titled(plan: &Plan, id: &str, title: &str) -> Option<String> {
     if let Some(scheme) = title.strip_prefix("cluster_") {
         return Some(format!("scheme {}", plan.names.scheme(scheme.parse().ok()?)));
     }
@@ -96,13 +101,18 @@ pub fn drawing(plan: &Plan, coverage: Option<&Coverage>, caption: &str) -> Strin
     text
 }
 
-/// The nodes of one scheme.
-fn cluster(plan: &Plan, coverage: Option<&Coverage>, scheme: u8) -> String {
-    let title = quoted(&format!("scheme {}", plan.names.scheme(scheme)));
-    let mut text = format!(
+/// How the frame of a scheme begins.
+pub(crate) fn frame(scheme: u8, name: &str) -> String {
+    let title = quoted(&format!("scheme {name}"));
+    format!(
         "    subgraph cluster_{scheme} {{\n        graph [label={title}, labeljust=l, style=\"filled,rounded\", \
          fillcolor=\"#f3f5f8\", color=\"#cdd3db\"];\n"
-    );
+    )
+}
+
+/// The nodes of one scheme.
+fn cluster(plan: &Plan, coverage: Option<&Coverage>, scheme: u8) -> String {
+    let mut text = frame(scheme, &plan.names.scheme(scheme));
     let own = (0..plan.nodes.len()).filter(|at| plan.nodes[*at].scheme() == scheme);
     for at in own {
         text.push_str(&node(plan, coverage, at));
@@ -164,7 +174,7 @@ fn call(plan: &Plan, coverage: Option<&Coverage>, at: usize, server: u8) -> Stri
 
 /// The identifier and class of a node or a line, and how it looks: lines are bold where they were taken, and what never
 /// was is grey.
-fn marks(id: &str, kind: &str, taken: Option<bool>) -> String {
+pub(crate) fn marks(id: &str, kind: &str, taken: Option<bool>) -> String {
     let (class, look) = match taken {
         None => ("", ""),
         Some(true) if kind.is_empty() => ("taken", ""),
@@ -180,7 +190,7 @@ fn marks(id: &str, kind: &str, taken: Option<bool>) -> String {
 const LONGEST_LINE: usize = 70;
 
 /// A caption in lines that are not too long: broken at spaces where there are some, else anywhere.
-fn broken(caption: &str) -> String {
+pub(crate) fn broken(caption: &str) -> String {
     let mut lines = Vec::new();
     for line in caption.lines() {
         let mut open: Vec<char> = Vec::new();
@@ -200,6 +210,6 @@ fn broken(caption: &str) -> String {
 }
 
 /// A text between quotation marks.
-fn quoted(text: &str) -> String {
+pub(crate) fn quoted(text: &str) -> String {
     format!("\"{}\"", text.replace('\\', "\\\\").replace('"', "\\\"").replace('\n', "\\n"))
 }

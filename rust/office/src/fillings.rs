@@ -9,7 +9,9 @@ use crate::image::Image;
 use crate::names::Names;
 use crate::problem::{counted, listed, thousands, Problem};
 
-use drops::{drops, Drops};
+use drops::drops;
+
+pub use drops::Drops;
 
 /// The marks of a bar that stands for all lists.
 const WIDTH: u64 = 50;
@@ -62,6 +64,21 @@ impl Drawing {
         Ok(self)
     }
 
+    /// Which lists were counted.
+    pub fn lists(&self) -> Lists {
+        self.lists
+    }
+
+    /// What was counted of each stack, that of 1 place first; no drops where there is no handler.
+    pub fn stacks(&self) -> impl Iterator<Item = (&FillingsReport, Drops)> {
+        self.stacks.iter().enumerate().map(|(at, stack)| (stack, self.drops_of(at)))
+    }
+
+    fn drops_of(&self, at: usize) -> Drops {
+        let full = self.stacks[at].full;
+        self.drops.get(at).copied().unwrap_or(Drops { dropped: 0, found_full: full })
+    }
+
     /// How many lists there are, and which conditions they vary.
     pub fn title(&self, image: &Image, names: &Names) -> String {
         let Lists { ticks, conditions } = self.lists;
@@ -93,8 +110,7 @@ impl Drawing {
         for (at, stack) in self.stacks.iter().enumerate() {
             let lists = stack.ended + stack.full + stack.unmatched;
             let number = |count: u32| thousands(count as usize);
-            let of_stack =
-                self.drops.get(at).copied().unwrap_or(Drops { dropped: 0, found_full: stack.full });
+            let of_stack = self.drops_of(at);
             let (share, bar) = (share(of_stack.found_full, lists), bar(of_stack.found_full, lists));
             let counts = [stack.full, stack.unmatched, of_stack.dropped].map(number);
             let [full, unmatched, dropped] = counts;

@@ -3,8 +3,9 @@
 use fairleadow::{Answer, Library, Proved, State, TABLE};
 
 use crate::explain;
-use crate::explain::image::{Frame, Header};
+use crate::explain::image::{Frame, Header, Part};
 use crate::kind::Kind;
+use crate::other;
 use crate::problem::Problem;
 
 /// The text of an accepted image, and its lines.
@@ -26,11 +27,30 @@ pub struct Row {
     pub next: u8,
 }
 
-/// A label of a state's stack, with the scheme that is open there.
+/// A label of a state's stack, with the scheme that is open there and the number that it was called by.
 #[derive(Clone, Copy, Debug, PartialEq, Eq)]
 pub struct Open {
     pub label: u8,
     pub scheme: u8,
+    pub number: u8,
+}
+
+/// What a label holds.
+#[derive(Clone, Copy, Debug, PartialEq, Eq)]
+pub struct Fields {
+    pub kind: u8,
+    pub called: u8,
+    pub owner: u8,
+    pub result: u8,
+    pub mask: u32,
+}
+
+/// The kind of a label that calls a function.
+pub const FUNCTION_CALL: u8 = 2;
+
+/// The label that stands for the End of a scheme.
+pub fn end_of(scheme: u8) -> u8 {
+    u8::from(scheme != 1)
 }
 
 impl Row {
@@ -38,6 +58,27 @@ impl Row {
         let pair = |at: usize| u16::from_be_bytes([frame[at], frame[at + 1]]);
         Row { from: frame[1], care: pair(2), values: pair(4), result: frame[6], next: frame[7] }
     }
+
+    /// As it stands in an image.
+    pub fn frame(&self) -> Frame {
+        let ([a, b], [c, d]) = (self.care.to_be_bytes(), self.values.to_be_bytes());
+        [0x12, self.from, a, b, c, d, self.result, self.next, 0, 0]
+    }
+
+    /// Whether it leaves the same label as another and asks for the same.
+    pub fn asks_as(&self, other: &Row) -> bool {
+        Row { next: other.next, ..*self } == *other
+    }
+}
+
+/// The lines of frames, each with its sum.
+fn text_of(frames: &[Frame]) -> Vec<u8> {
+    let line = |frame: &Frame| {
+        let sum = frame.iter().fold(0u8, |sum, byte| sum.wrapping_sub(*byte));
+        let digits: String = frame.iter().chain([&sum]).map(|byte| format!("{byte:02X}")).collect();
+        digits + "\n"
+    };
+    frames.iter().map(line).collect::<String>().into_bytes()
 }
 
 impl Image {
@@ -47,9 +88,54 @@ impl Image {
         Image { header: Header::of(&frames[0]), frames, text }
     }
 
+    /// From the bytes of a file that looks like an image, or why the library refuses it.
+    pub fn read(text: Vec<u8>) -> Result<Image, Problem> {
+        other::refused(&text, "an image")?;
+        match Proved.check_image(&text) {
+            Answer::Done(_) => Ok(Image::accepted(text)),
+            answer => Err(explain::refusal(&text, Kind::Image, answer)),
+        }
+    }
+
+    /// The text of this image with other rows, as many as the header then counts. Whether it is an image is for the library to say.
+    pub fn with_rows(&self, rows: &[Row]) -> Vec<u8> {
+        let mut frames = self.frames[..self.header.first_row()].to_vec();
+        let [high, low] = (rows.len() as u16).to_be_bytes();
+        (frames[0][3], frames[0][4]) = (high, low);
+        frames.extend(rows.iter().map(Row::frame));
+        text_of(&frames)
+    }
+
+    /// An image with the labels and rows of this one, all of scheme 1, so that a state may stand at each of them: every row leads where
+    /// it led, and to the End of scheme 1 in the place of another End. Every other scheme is empty, and there is no handler.
+    pub fn in_one_scheme(&self) -> Result<Image, Problem> {
+        let mut frames = self.frames.clone();
+        frames[0][5] = 0;
+        for (index, frame) in frames.iter_mut().enumerate().skip(1) {
+            match self.header.part(index) {
+                Part::Entry(scheme) => frame[2] = end_of(scheme as u8),
+                Part::Label(2..) => frame[4] = 1,
+                Part::Row if frame[7] == 1 => frame[7] = 0,
+                _ => {}
+            }
+        }
+        Image::read(text_of(&frames))
+    }
+
+    /// How many schemes it has.
+    pub fn schemes(&self) -> u8 {
+        self.header.schemes as u8
+    }
+
     /// The number that a label calls, 0 for none.
     pub fn called(&self, label: u8) -> u8 {
-        self.header.label(&self.frames, label).expect("a state's labels are in its image")[3]
+        self.label(label).called
+    }
+
+    /// What a label of the image holds.
+    pub fn label(&self, label: u8) -> Fields {
+        let [kind, called, owner, result, mask @ ..] = self.fields(label);
+        Fields { kind, called, owner, result, mask: u32::from_be_bytes(mask) }
     }
 
     /// Its table for live ticks and rebindings: the text is read and checked for it once, and no more in each tick.
@@ -107,7 +193,11 @@ impl Image {
 
     /// The open labels of a fitting state, the bottom first, each with the scheme that the state remembers for it.
     pub fn open(&self, state: &State) -> Vec<Open> {
-        let open = |at: usize| Open { label: state.places[at], scheme: state.servers[at] };
+        let open = |at: usize| Open {
+            label: state.places[at],
+            scheme: state.servers[at],
+            number: state.numbers[at],
+        };
         (0..usize::from(state.depth)).map(open).collect()
     }
 }

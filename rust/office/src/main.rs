@@ -8,11 +8,13 @@ use std::io::{self, Write};
 use std::process::ExitCode;
 
 use fairleadow::Proved;
-use office::arguments::unknown;
+use office::arguments::{unknown, Given};
 use office::command::{Command, Failure, Run};
-use office::commands::{bill, draw, fillings, minimise, page, trace, wall, why};
+use office::commands::{
+    bill, diff, draw, files, fillings, minimise, page, patch, test, trace, translate, wall, watch, why,
+};
 use office::printed::{Closed, Printed};
-use office::{check, compose, places};
+use office::{completion, manual};
 
 const fn command(name: &'static str, arguments: &'static str, help: &'static str, run: Run) -> Command {
     Command { name, arguments, help, details: &[], run }
@@ -21,38 +23,69 @@ const fn command(name: &'static str, arguments: &'static str, help: &'static str
 /// Every command, one line each.
 #[rustfmt::skip]
 const COMMANDS: &[Command] = &[
-    command("check", "FILE ...", "tells whether a chart or an image is accepted, and why not", check::run),
-    command("compose", "FILE", "turns the readable notation into chart lines with their sums", compose::compose),
-    command("show", "FILE", "turns chart lines into the readable notation", compose::show),
-    command("places", "FILE ...", "tells how many places of the stack a chart needs, and by which calls", places::run),
+    files::CHECK,
+    command("compose", "FILE", "turns the readable notation into chart lines with their sums", files::compose),
+    command("show", "FILE [--names CHART]", "turns chart lines into the readable notation, and lists an image", files::show),
+    translate::COMMAND,
+    patch::COMMAND,
+    diff::COMMAND,
+    files::PLACES,
     trace::COMMAND,
+    test::COMMAND,
     why::COMMAND,
     bill::COMMAND,
     fillings::COMMAND,
     minimise::COMMAND,
     draw::COMMAND,
     page::COMMAND,
+    watch::COMMAND,
     wall::COMMAND,
+    command("completion", "bash", "prints what has the shell complete a call: source <(fairleadow completion bash)", complete),
 ];
 
-fn line(command: &Command) -> String {
-    format!("usage: fairleadow {} {}", command.name, command.arguments)
+/// No line of a help text is longer.
+const WIDEST: usize = 120;
+
+/// A call with its arguments, which go on in the next line, behind a margin, where they would be too long for one.
+fn broken(call: &str, margin: usize) -> String {
+    let mut parts = call.split(" [");
+    let mut text = parts.next().unwrap_or_default().to_string();
+    let mut wide = text.len();
+    for part in parts {
+        let part = format!("[{part}");
+        let between =
+            if wide + 1 + part.len() > WIDEST { format!("\n{:margin$}", "") } else { " ".to_string() };
+        wide = if between == " " { wide + 1 } else { margin } + part.len();
+        text = text + &between + &part;
+    }
+    text
 }
+
+fn line(command: &Command) -> String {
+    broken(&format!("usage: fairleadow {} {}", command.name, command.arguments), 8)
+}
+
+/// What is the same of all commands.
+const COMMON: &str = "\
+A FILE or CHART holds chart lines or the readable notation, and but for compose, translate, places and test it may also
+be an image; - is standard input. The CHART of --names is a chart.
+`fairleadow help COMMAND` tells of one command, --version of the program. An option's value may stand after a = too,
+and what stands after -- is no option. Status 1 means refused, a scenario's step that
+reached its limit, in `test` what is not as expected, and in `diff` a difference; 2 is a wrong call. `trace --scenario`
+tells what is not as expected and ends with 0.
+`fairleadow help --man` prints all of it as a man page.
+";
 
 /// The help of the whole program.
 fn help() -> String {
     let mut text = String::from("usage: fairleadow COMMAND ARGUMENTS\n\n");
     for command in COMMANDS {
-        let call = format!("{} {}", command.name, command.arguments);
-        let gap = if call.len() > 16 { format!("\n{:19}", "") } else { " ".repeat(17 - call.len()) };
-        text.push_str(&format!("  {call}{gap}{}\n", command.help));
+        let call = broken(&format!("  {} {}", command.name, command.arguments), 6);
+        let gap = if call.len() > 18 { format!("\n{:19}", "") } else { " ".repeat(19 - call.len()) };
+        text.push_str(&format!("{call}{gap}{}\n", command.help));
     }
-    text.push_str("\nA FILE or CHART holds chart lines or the readable notation, for check, why, bill, fillings and minimise ");
-    text.push_str("also an image; - is standard input.\n");
-    text.push_str(
-        "`fairleadow help COMMAND` tells of one command, --version of the program. An option's value may stand after a = too,\n\
-         and what stands after -- is no option. Status 1 means refused, 2 a wrong call.\n",
-    );
+    text.push('\n');
+    text.push_str(COMMON);
     text
 }
 
@@ -74,6 +107,16 @@ fn help_of(command: &Command, out: &mut dyn Write) -> Result<(), Failure> {
     Ok(command.details.iter().try_for_each(|part| writeln!(out, "{part}"))?)
 }
 
+/// The completion of calls for a shell.
+fn complete(args: &[OsString], out: &mut dyn Write) -> Result<(), Failure> {
+    match Given::of(args, &[], &[])?.one_file("shell")? {
+        shell if shell == "bash" => Ok(out.write_all(completion::bash(COMMANDS).as_bytes())?),
+        other => {
+            Err(Failure::Usage(unknown("completion for", &other.to_string_lossy(), ["bash"].into_iter())))
+        }
+    }
+}
+
 /// Runs what was asked for.
 fn run(arguments: &[OsString], out: &mut dyn Write) -> Result<(), Failure> {
     let Some((name, rest)) = arguments.split_first() else {
@@ -83,6 +126,10 @@ fn run(arguments: &[OsString], out: &mut dyn Write) -> Result<(), Failure> {
         (Some("--help" | "-h" | "help"), []) => return Ok(out.write_all(help().as_bytes())?),
         (Some("--help" | "-h" | "help"), [word, ..]) if word == "help" || is_help(word) => {
             return Ok(out.write_all(help().as_bytes())?)
+        }
+        (Some("--help" | "-h" | "help"), [word, ..]) if word == "--man" => {
+            let page = manual::page(COMMANDS, COMMON, env!("CARGO_PKG_VERSION"));
+            return Ok(out.write_all(page.as_bytes())?);
         }
         (Some("--help" | "-h" | "help"), [command, ..]) => return help_of(named(command)?, out),
         (Some("--version"), _) => {

@@ -8,19 +8,27 @@ use std::path::{Path, PathBuf};
 
 use crate::command::Failure;
 use crate::kind::Kind;
+use crate::other::Other;
 use crate::problem::shown_name;
+use crate::scenario::is_scenario;
 use crate::source;
 
-/// Refuses a file that the command reads, by whatever name, and one that looks like a chart, an image or notation, unless it may be lost.
+/// Refuses a file that the command reads, by whatever name, and one that looks like what somebody wrote, unless it may be lost.
 pub fn may_write(file: &OsStr, read: &[&OsStr], force: bool) -> Result<(), Failure> {
     let lost = |why: &str| Failure::Usage(format!("{} {why}", shown_name(file)));
     if read.iter().any(|own| is_same(own, file)) {
         return Err(lost("is read by this command: it would be lost"));
     }
     let held = Path::new(file).is_file().then(|| source::read(file).ok()).flatten();
-    match held.and_then(|bytes| Kind::held(&bytes)) {
+    let named = |bytes: Vec<u8>| match Other::of(&bytes) {
+        Some(other) => Some(other.named()),
+        None => Kind::held(&bytes)
+            .map(Kind::named)
+            .or_else(|| is_scenario(&bytes).then_some(Other::Scenario.named())),
+    };
+    match held.and_then(named) {
         Some(kind) if !force => {
-            Err(lost(&format!("looks like {}, which would be lost; --force writes over it", kind.named())))
+            Err(lost(&format!("looks like {kind}, which would be lost; --force writes over it")))
         }
         _ => Ok(()),
     }

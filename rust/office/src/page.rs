@@ -1,32 +1,73 @@
 //! A trace as one page: the drawing, the ticks, and a slider and keys that step through them. Nothing is loaded: style,
 //! script and drawing stand in the page.
 
-mod rows;
+pub mod rows;
 
 use crate::escape::escaped;
 use crate::plan::Plan;
-use crate::trace::table::{never_taken, problem};
+use crate::trace::table::{never_taken, problem, HEADINGS};
 use crate::trace::Trace;
 
 const STYLE: &str = include_str!("page/page.css");
 const SCRIPT: &str = include_str!("page/page.js");
 const BODY: &str = include_str!("page/page.html");
 
-/// The whole page, from the drawing as dot printed it.
+/// What a page is made of: of a chart by its nodes, or of an image by its labels.
+pub struct Sheet<'a> {
+    pub title: &'a str,
+    pub summary: &'a str,
+    /// As dot printed it.
+    pub svg: &'a str,
+    /// What a tick stands at, and the heading of the list of all of them.
+    pub place: [&'static str; 2],
+    pub refusal: Option<String>,
+    /// How many rows the table of ticks has.
+    pub ticks: usize,
+    pub places: usize,
+    pub headings: Vec<String>,
+    pub rows: String,
+    /// How much was never taken, then what.
+    pub never: Vec<String>,
+    pub nodes: String,
+}
+
+/// The whole page of a chart, from the drawing as dot printed it.
 pub fn page(plan: &Plan, trace: &Trace, title: &str, summary: &str, svg: &str) -> String {
+    let refusal = trace.stopped.as_ref().map(|stopped| problem(plan, trace, stopped).to_string());
+    written(&Sheet {
+        title,
+        summary,
+        svg,
+        place: ["node", "Nodes"],
+        refusal,
+        ticks: trace.ticks.len() + usize::from(trace.stopped.is_some()),
+        places: trace.places,
+        headings: HEADINGS.map(str::to_string).to_vec(),
+        rows: rows::ticks(plan, trace),
+        never: never_taken(plan, trace),
+        nodes: rows::nodes(plan, trace),
+    })
+}
+
+/// The whole page.
+pub fn written(sheet: &Sheet) -> String {
+    let heading = |heading: &String| format!("<th scope=\"col\">{heading}</th>");
+    let refusal = |words: &String| format!("<p id=\"refusal\">{}</p>", escaped(words));
     let parts = [
         ("STYLE", STYLE.to_string()),
         ("SCRIPT", SCRIPT.to_string()),
-        ("TITLE", escaped(title)),
-        ("SUMMARY", escaped(summary)),
-        ("REFUSAL", refusal(plan, trace)),
-        ("LAST", (trace.ticks.len() + usize::from(trace.stopped.is_some()) - 1).to_string()),
-        ("PLACES", trace.places.to_string()),
-        ("DRAWING", inline(svg).to_string()),
-        ("HEADINGS", rows::headings()),
-        ("TICKS", rows::ticks(plan, trace)),
-        ("NEVER", never(plan, trace)),
-        ("NODES", rows::nodes(plan, trace)),
+        ("TITLE", escaped(sheet.title)),
+        ("SUMMARY", escaped(sheet.summary)),
+        ("REFUSAL", sheet.refusal.as_ref().map(refusal).unwrap_or_default()),
+        ("LAST", (sheet.ticks - 1).to_string()),
+        ("PLACES", sheet.places.to_string()),
+        ("PLACE", sheet.place[0].to_string()),
+        ("DRAWING", inline(sheet.svg).to_string()),
+        ("HEADINGS", sheet.headings.iter().map(heading).collect()),
+        ("TICKS", sheet.rows.clone()),
+        ("NEVER", never(&sheet.never)),
+        ("NODES_HEADING", sheet.place[1].to_string()),
+        ("NODES", sheet.nodes.clone()),
     ];
     filled(BODY, &parts)
 }
@@ -49,15 +90,8 @@ fn inline(svg: &str) -> &str {
     svg.find("<svg").map_or("", |start| &svg[start..])
 }
 
-fn refusal(plan: &Plan, trace: &Trace) -> String {
-    let told =
-        |stopped| format!("<p id=\"refusal\">{}</p>", escaped(&problem(plan, trace, stopped).to_string()));
-    trace.stopped.as_ref().map(told).unwrap_or_default()
-}
-
 /// What was never taken: how many, and a list.
-fn never(plan: &Plan, trace: &Trace) -> String {
-    let lines = never_taken(plan, trace);
+fn never(lines: &[String]) -> String {
     let mut text = format!("<p id=\"never\">{}</p>", escaped(&lines[0]));
     if lines.len() > 1 {
         let items = lines[1..].iter().map(|line| format!("<li>{}</li>", escaped(line.trim())));

@@ -1,28 +1,37 @@
 //! `places`: how many places of the stack a chart needs. The number is the library's; the chain or the circle of calls is
 //! looked for here and held to it.
 
-use std::ffi::OsString;
-use std::io::Write;
-
 use fairleadow::{Answer, Library, Proved};
 
 use crate::calls::Calls;
-use crate::check::each;
-use crate::command::Failure;
+use crate::kind::Kind;
 use crate::plan::Plan;
 use crate::problem::{counted, listed, Problem};
 use crate::source::{self, Source};
 
-/// What each chart needs; those that are refused are told together at the end.
-pub fn run(args: &[OsString], out: &mut dyn Write) -> Result<(), Failure> {
-    each(args, out, needed)
-}
-
 /// How many places a chart needs, with a longest chain of calls, or why that cannot be told.
 pub fn needed(bytes: &[u8]) -> Result<String, Problem> {
+    told(&counted_by_library(bytes)?)
+}
+
+/// The names of the schemes of a longest chain of calls, each of which takes a place, or why there is none.
+pub fn chain(bytes: &[u8]) -> Result<Vec<String>, Problem> {
+    let plan = Plan::read(counted_by_library(bytes)?)?;
+    match held(Proved.places(&plan.source.text), Calls::of(&plan.nodes))? {
+        (Answer::Done(_), Calls::Chain(schemes)) => Ok(named(&plan, &schemes)),
+        (answer, _) => Err(plan.source.problem(answer)),
+    }
+}
+
+/// The chart whose places the library counts, or why it does not.
+fn counted_by_library(bytes: &[u8]) -> Result<Source, Problem> {
+    if Kind::of(bytes) == Kind::Image {
+        return Err(Problem::new("this is an image; the places needed are told of a chart, by the calls of its schemes")
+            .advice("the chart that it was made of; `fairleadow fillings` tells of an image how often stacks of 1 to 32 places fill"));
+    }
     let source = source::from_either(bytes)?;
     match Proved.places(&source.text) {
-        Answer::Done(_) => told(&source),
+        Answer::Done(_) => Ok(source),
         answer => Err(source.problem(answer)),
     }
 }
@@ -35,8 +44,7 @@ pub fn told(source: &Source) -> Result<String, Problem> {
 fn of_plan(plan: &Plan) -> Result<String, Problem> {
     match held(Proved.places(&plan.source.text), Calls::of(&plan.nodes))? {
         (Answer::Done(places), Calls::Chain(schemes)) => {
-            let names: Vec<String> = schemes.iter().map(|scheme| plan.names.scheme(*scheme)).collect();
-            Ok(format!("needs {}: {}", counted(places, "place"), names.join(" > ")))
+            Ok(format!("needs {}: {}", counted(places, "place"), named(plan, &schemes).join(" > ")))
         }
         (Answer::Refused { number: 20, .. }, Calls::Circle(nodes)) => {
             Ok(format!("may need any number of places: {}", round(plan, &nodes)))
@@ -68,6 +76,10 @@ fn answered(answer: Answer) -> String {
         Answer::Done(places) => format!("says {}", counted(places, "place")),
         Answer::Refused { number, .. } => format!("refuses with {number}"),
     }
+}
+
+fn named(plan: &Plan, schemes: &[u8]) -> Vec<String> {
+    schemes.iter().map(|scheme| plan.names.scheme(*scheme)).collect()
 }
 
 /// A circle of calls by the names of its schemes.

@@ -157,9 +157,14 @@ const LONGEST_LIST: usize = 60;
 
 /// A list with commas between its pieces; a long one is cut, with how many pieces there are of this thing.
 pub fn shortened(list: &str, thing: &str) -> String {
+    shortened_to(list, list.split(',').count(), thing)
+}
+
+/// A list that stands for so many things, cut where it is long.
+pub fn shortened_to(list: &str, count: usize, thing: &str) -> String {
     let Some((end, _)) = list.char_indices().nth(LONGEST_LIST) else { return list.to_string() };
     let kept = list[..end].rfind(',').unwrap_or(end);
-    format!("{},... ({})", &list[..kept], counted(list.split(',').count(), thing))
+    format!("{},... ({})", &list[..kept], counted(count, thing))
 }
 
 /// `a`, `a and b`, `a, b and c`.

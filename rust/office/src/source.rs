@@ -10,6 +10,7 @@ use crate::explain;
 use crate::kind::Kind;
 use crate::names::Names;
 use crate::notation::Notation;
+use crate::other;
 use crate::problem::{thousands, Problem};
 
 /// The text that goes to the library, and the shop's names.
@@ -55,11 +56,14 @@ pub fn text_of(bytes: &[u8]) -> Result<&str, Problem> {
     })
 }
 
-/// From the bytes of a file of either sort, told apart by what stands in it.
+/// From the bytes of a file of either sort, told apart by what stands in it; an image is none.
 pub fn from_either(bytes: &[u8]) -> Result<Source, Problem> {
+    other::refused(bytes, "a chart")?;
     match Kind::of(bytes) {
         Kind::Notation => from_notation(text_of(bytes)?),
-        _ => Ok(from_bytes(bytes)),
+        Kind::Chart => Ok(from_bytes(bytes)),
+        Kind::Image => Err(Problem::new("this is an image; a chart is asked for here")
+            .advice("the chart that the image was made of")),
     }
 }
 
@@ -69,15 +73,19 @@ pub fn load(path: impl AsRef<OsStr>) -> Result<Source, Problem> {
 }
 
 /// No chart, image or notation is longer.
-const LONGEST: usize = 1 << 20;
+pub const LONGEST: usize = 1 << 20;
 const _: () = assert!(CHART_TEXT < LONGEST && IMAGE_TEXT < LONGEST);
 
 /// The bytes of a file; `-` is standard input.
 pub fn read(path: impl AsRef<OsStr>) -> Result<Vec<u8>, Problem> {
     let path = path.as_ref();
     let bytes = if path == "-" { limited(io::stdin()) } else { file(path) };
-    let bytes = bytes.map_err(|error| Problem::new(unreadable(&error)))?;
-    if bytes.len() > LONGEST {
+    bytes.map_err(|error| Problem::new(unreadable(&error))).and_then(not_too_long)
+}
+
+/// The bytes themselves, or that no chart, image or notation has so many.
+pub fn not_too_long<B: AsRef<[u8]>>(bytes: B) -> Result<B, Problem> {
+    if bytes.as_ref().len() > LONGEST {
         let words = format!("the file has more than {} characters", thousands(LONGEST));
         return Err(Problem::new(words).advice("the wrong file"));
     }

@@ -9,4 +9,4 @@ pub mod words;
 
 pub use arcs::Arc;
 pub use coverage::Coverage;
-pub use ticks::{fresh, trace, Happening, Opened, Stopped, Tick, Trace};
+pub use ticks::{fresh, trace, Happening, Opened, Run, Stopped, Tick, Trace};

@@ -1,17 +1,16 @@
 //! What made a tick go where it went: the library's cause of the tick, and what is told of it.
 
-mod subject;
 mod told;
 
 use fairleadow::{Answer, CauseReport, Library, Proved, State, TickReport};
 
 use crate::plan::Plan;
 use crate::problem::Problem;
+use crate::subject::Subject;
 use crate::trace::swaps::{self, Swap};
-use crate::trace::{fresh, Tick, Trace};
+use crate::trace::{fresh, Trace};
 
-pub use subject::Subject;
-pub use told::told;
+pub use told::{sort, told, Sort};
 
 /// A tick that is asked about, with the states before and after it. A refused tick leaves the state as it was.
 pub struct Asked {
@@ -55,15 +54,24 @@ pub fn asked(
 
 /// What made each tick of a trace go where it went, or why it took no row.
 pub fn reasons(plan: &Plan, trace: &Trace) -> Result<Vec<String>, Problem> {
-    let subject = Subject::of(plan)?;
+    let ticks = trace.ticks.iter().map(|tick| (tick.swaps.as_slice(), tick.word));
+    reasons_of(&Subject::of(plan)?, trace.places, ticks)
+}
+
+/// What made each tick from a fresh state go where it went, by the swaps before it and its word.
+pub fn reasons_of<'a>(
+    subject: &Subject,
+    places: usize,
+    ticks: impl Iterator<Item = (&'a [Swap], u16)>,
+) -> Result<Vec<String>, Problem> {
     let (image, table) = (&subject.image.text, subject.image.prepared()?);
-    let mut state = fresh(trace.places)?;
-    let reason = |(number, tick): (usize, &Tick)| {
-        swaps::make(&tick.swaps, number, &table, &mut state)?;
-        let (before, word) = (state, tick.word);
+    let mut state = fresh(places)?;
+    let reason = |(number, (swaps, word)): (usize, (&[Swap], u16))| {
+        swaps::make(swaps, number, &table, &mut state)?;
+        let before = state;
         let ticked = Proved.live_tick(&table, &mut state, word);
         let cause = Proved.cause(image, &before, word);
-        let told = told(&subject, &Asked { number, word, before, ticked, after: state, cause });
+        let told = told(subject, &Asked { number, word, before, ticked, after: state, cause });
         // the tick itself is told elsewhere
         Ok(match told {
             Ok(words) => words.split_once('\n').map_or(String::new(), |(_, words)| words.to_string()),
@@ -73,7 +81,7 @@ pub fn reasons(plan: &Plan, trace: &Trace) -> Result<Vec<String>, Problem> {
             }
         })
     };
-    trace.ticks.iter().enumerate().map(reason).collect()
+    ticks.enumerate().map(reason).collect()
 }
 
 /// The library's live runs from one swap to the next, with room for each tick; counts the ticks of all.

@@ -1,6 +1,7 @@
 //! Nodes, arcs, words, masks and ticks in the shop's words.
 
 use crate::chart::Node;
+use crate::names::Names;
 use crate::plan::Plan;
 use crate::trace::swaps::Swap;
 use crate::trace::{Arc, Happening, Opened, Tick};
@@ -60,59 +61,34 @@ impl Plan {
 
     /// The conditions that are 1 in a word, of those that the chart tests.
     pub fn conditions(&self, word: u16) -> Vec<String> {
-        let ones = (0..16).filter(|number| (word & self.tested) >> number & 1 == 1);
-        ones.map(|number| self.names.condition(number)).collect()
+        self.names.conditions(word & self.tested)
     }
 
     /// The outputs of a mask.
     pub fn operations(&self, mask: u32) -> Vec<String> {
-        (0..32).filter(|bit| mask >> bit & 1 == 1).map(|bit| self.names.operation(bit)).collect()
+        self.names.operations(mask)
     }
 
     /// The schemes whose numbers' result bits are 1.
     pub fn results(&self, results: &[bool; 16]) -> Vec<String> {
-        let ones = (1..=16).filter(|scheme| results[usize::from(*scheme) - 1]);
-        ones.map(|scheme| self.names.scheme(scheme)).collect()
+        self.names.results(results)
     }
 
     /// A swap that was made, by the names of its schemes.
     pub fn swapped(&self, swap: &Swap) -> String {
-        let name = |number: usize| self.names.scheme(number as u8);
-        match swap.number == swap.scheme {
-            true => format!("{} now serves its own calls", name(swap.scheme)),
-            false => format!("{} now serves {}", name(swap.scheme), name(swap.number)),
-        }
+        self.names.swapped(swap)
     }
 
     /// The swaps made right before a tick, and what it does. Which schemes a drop drops is told by those that are open.
     pub fn happening(&self, tick: &Tick) -> String {
-        let swaps = tick.swaps.iter().map(|swap| self.swapped(swap));
-        swaps.chain([self.own_happening(tick)]).collect::<Vec<String>>().join("; ")
-    }
-
-    fn own_happening(&self, tick: &Tick) -> String {
-        match (tick.happening(), tick.stack.len()) {
-            (Happening::Plain, _) => "plain".to_string(),
-            (Happening::Return, 1) => "return to home".to_string(),
-            (Happening::Return, _) => "return".to_string(),
-            (Happening::Home, _) => "home".to_string(),
-            (Happening::Call(number), _) if tick.server != number => {
-                let (number, server) = (self.names.scheme(number), self.names.scheme(tick.server));
-                format!("call of {number}, served by {server}")
-            }
-            (Happening::Call(number), _) => format!("call of {}", self.names.scheme(number)),
-            (Happening::Drop, open) => {
-                format!("drop of {open}, start of {}", self.names.scheme(self.handler()))
-            }
-        }
+        happening(&self.names, &tick.swaps, tick.happening(), tick.stack.len(), tick.server, self.handler())
     }
 
     /// How many schemes are open, and which, the bottom first; equal ones in a row are named once, with their number. One that
     /// serves another's number is named with it.
     pub fn open_schemes(&self, stack: &[Opened]) -> String {
         let schemes: Vec<(u8, u8)> = stack.iter().map(|opened| self.opened(opened)).collect();
-        let groups: Vec<String> = schemes.chunk_by(|a, b| a == b).map(|group| self.repeated(group)).collect();
-        format!("{}: {}", stack.len(), groups.join(" > "))
+        self.names.open_schemes(&schemes)
     }
 
     /// An open scheme, and the number that it was called by.
@@ -122,21 +98,30 @@ impl Plan {
 
     /// An open scheme by its name, and what it serves where that is another's number.
     pub fn open_scheme(&self, opened: &Opened) -> String {
-        self.served(self.opened(opened))
+        self.names.served(self.opened(opened))
     }
+}
 
-    fn served(&self, (scheme, number): (u8, u8)) -> String {
-        match scheme == number {
-            true => self.names.scheme(scheme),
-            false => format!("{} for {}", self.names.scheme(scheme), self.names.scheme(number)),
+/// The swaps made right before a tick, and what it does, with so many schemes open before it, the scheme that serves its call, and the
+/// handler.
+pub fn happening(
+    names: &Names,
+    swaps: &[Swap],
+    happening: Happening,
+    open: usize,
+    server: u8,
+    handler: u8,
+) -> String {
+    let own = match (happening, open) {
+        (Happening::Plain, _) => "plain".to_string(),
+        (Happening::Return, 1) => "return to home".to_string(),
+        (Happening::Return, _) => "return".to_string(),
+        (Happening::Home, _) => "home".to_string(),
+        (Happening::Call(number), _) if server != number => {
+            format!("call of {}, served by {}", names.scheme(number), names.scheme(server))
         }
-    }
-
-    fn repeated(&self, group: &[(u8, u8)]) -> String {
-        let name = self.served(group[0]);
-        match group.len() {
-            1 => name,
-            count => format!("{name} x{count}"),
-        }
-    }
+        (Happening::Call(number), _) => format!("call of {}", names.scheme(number)),
+        (Happening::Drop, open) => format!("drop of {open}, start of {}", names.scheme(handler)),
+    };
+    swaps.iter().map(|swap| names.swapped(swap)).chain([own]).collect::<Vec<String>>().join("; ")
 }

@@ -3,7 +3,7 @@
 mod shared;
 
 use office::bill::Bill;
-use office::why::Subject;
+use office::subject::Subject;
 use reference::check::chart_of;
 use reference::frames::text_of;
 use reference::generate::{images, prices, runs, Random};

@@ -57,7 +57,8 @@ impl Case {
         args.extend(swaps.into_iter().flat_map(|swaps| ["--swap", swaps]));
         let made = run(&args);
         let plan = load(&path).and_then(Plan::read).expect("an accepted chart");
-        let words = Words::given(words).expect("words").take(Some(ticks.parse().expect("a number")));
+        let words =
+            Words::given(words, &plan.names).expect("words").take(Some(ticks.parse().expect("a number")));
         let swaps =
             swaps.map_or(Vec::new(), |text| swaps::given(text, words.len(), &plan.names).expect("swaps"));
         let places = places.parse().expect("a number");

@@ -115,7 +115,7 @@ fn each_picture_is_made_by_the_command() {
     let command = fs::read_to_string(top().join("docs/pictures/draw")).expect("the command");
     let shown: Vec<&str> =
         page.split("](pictures/").skip(1).filter_map(|rest| rest.split(')').next()).collect();
-    assert_eq!(shown, ["bore.svg", "bore-traced.svg", "page.png", "phone.png", "paper.png"]);
+    assert_eq!(shown, ["bore.svg", "bore-traced.svg", "page.png", "phone.png", "paper.png", "workbench.png"]);
     for picture in shown {
         let made = format!("docs/pictures/{}", picture.strip_suffix(".png").unwrap_or(picture));
         assert!(command.contains(&made), "{picture}");

@@ -13,11 +13,17 @@ fn help_and_wrong_calls() {
     let (status, help, none) = fairleadow(&["--help"], b"");
     assert_eq!((status, none.as_str()), (0, ""));
     assert!(help.starts_with("usage: fairleadow COMMAND ARGUMENTS\n"));
-    for name in ["check FILE", "compose FILE", "show FILE", "places FILE"] {
+    assert!(
+        help.contains("\n  show FILE [--names CHART]\n                   turns chart lines into"),
+        "{help}"
+    );
+    for name in ["check FILE", "compose FILE", "places FILE"] {
         assert!(help.lines().any(|line| line.trim_start().starts_with(name) && line.len() > 30), "{name}");
     }
     assert!(
-        help.contains("for check, why, bill, fillings and minimise also an image; - is standard input.\n"),
+        help.contains(
+            "but for compose, translate, places and test it may also\nbe an image; - is standard input. The CHART of --names is a chart.\n"
+        ),
         "{help}"
     );
     assert_eq!(fairleadow(&["-h"], b"").1, help);
@@ -27,13 +33,31 @@ fn help_and_wrong_calls() {
     assert_eq!(told, format!("no command chekc; did you mean check?\n{help}"));
 }
 
+/// Every line of help, and of the usage that a wrong call is told, fits a window of 120 columns.
+#[test]
+fn help_fits_a_window() {
+    let (_, help, _) = fairleadow(&["--help"], b"");
+    let names: Vec<&str> = help
+        .lines()
+        .filter(|line| line.starts_with("  ") && !line.starts_with("   "))
+        .filter_map(|line| line.split_whitespace().next())
+        .collect();
+    assert!(names.len() == 18 && names.contains(&"patch"), "{names:?}");
+    let texts = names
+        .iter()
+        .flat_map(|name| [fairleadow(&[name, "--help"], b"").1, fairleadow(&[name, "--no-such"], b"").2]);
+    for text in texts.chain([help.clone()]) {
+        assert!(text.lines().all(|line| line.chars().count() <= 120), "{text}");
+    }
+}
+
 #[test]
 fn each_command_has_a_usage_line() {
-    for name in ["check", "compose", "show", "places"] {
+    for (name, lines) in [("check", 7), ("compose", 2), ("show", 2), ("places", 4)] {
         let (status, out, _) = fairleadow(&[name, "--help"], b"");
         assert_eq!(status, 0);
         assert!(
-            out.starts_with(&format!("usage: fairleadow {name} FILE")) && out.lines().count() == 2,
+            out.starts_with(&format!("usage: fairleadow {name} FILE")) && out.lines().count() == lines,
             "{out}"
         );
         let usage = out.lines().next().unwrap();
@@ -50,7 +74,7 @@ fn each_command_has_a_usage_line() {
     }
     let (status, _, told) = fairleadow(&["minimise", &path("paper.chart"), "-o", ""], b"");
     assert!(status == 2 && told.starts_with("-o is given, and nothing stands after it\n"), "{told}");
-    let told = "one file only, and b is one more\nusage: fairleadow show FILE\n";
+    let told = "one file only, and b is one more\nusage: fairleadow show FILE [--names CHART]\n";
     assert_eq!(fairleadow(&["show", "a", "b"], b""), (2, String::new(), told.to_string()));
 }
 

@@ -130,13 +130,15 @@ fn long_names_go_through_every_command() {
              scheme 2 {scheme}\nbegin -> end\nend\n"
         )
     };
-    let prices = written("long.prices", "y0 1\n");
+    let (prices, scenario) =
+        (written("long.prices", "y0 1\n"), written("long.scenario", "4 * 20; expect at last y0\n"));
     let (longest, longer) = (written("longest.txt", &chart(64)), written("longer.txt", &chart(65_536)));
     for (command, rest) in [
         ("check", vec![]),
         ("places", vec![]),
         ("trace", vec!["--words", "4", "--ticks", "20"]),
         ("bill", vec!["--prices", &prices, "--words", "4", "--ticks", "20"]),
+        ("trace", vec!["--scenario", &scenario, "--save", "-", "--expect"]),
         ("draw", vec!["--svg"]),
         ("page", vec!["-o", "-", "--words", "4"]),
     ] {
@@ -148,7 +150,7 @@ fn long_names_go_through_every_command() {
         assert!(told.contains("longer.txt: line 1, column 13: the name 'cwwww"), "{command}: {told}");
         assert!(told.contains("...' has 65,536 characters, and 64 are the most\n"), "{command}: {told}");
     }
-    for path in [prices, longest, longer] {
+    for path in [prices, scenario, longest, longer] {
         fs::remove_file(path).expect("it was written");
     }
 }
@@ -188,17 +190,17 @@ fn show_tells_what_is_refused() {
         fairleadow(&["show", "-"], file("paper.chart").replace('\n', "\r\n").as_bytes());
     assert_eq!((status, out.as_str()), (1, ""));
     assert!(told.starts_with("standard input: line 1 ends with a carriage return, and so do 6 more\n"));
-    let image = "10010000000000000000EF\n".repeat(1_024);
+    let image = "10010000000000000000EF\n".repeat(1_297);
     let (status, _, told) = fairleadow(&["show", "-"], format!("0F010100000000000000EF\n{image}").as_bytes());
     assert_eq!(status, 1);
     assert!(
-        told.starts_with("standard input: the file has 1,025 lines, and a chart has at most 256\n"),
+        told.starts_with("standard input: the file has 1,298 lines, and an image has at most 1,297\n"),
         "{told}"
     );
-    assert!(told.ends_with("  look for: an image in place of a chart\n"), "{told}");
-    let (status, _, told) = fairleadow(&["show", &path("paper.image")], b"");
-    assert_eq!(status, 1);
-    assert!(told.contains("0F, 10, 11 and 12 begin the lines of an image, not of a chart"), "{told}");
+    let damaged = file("paper.image").replace("E7\n", "E8\n");
+    let (status, out, told) = fairleadow(&["show", "-"], damaged.as_bytes());
+    assert_eq!((status, out.as_str()), (1, ""));
+    assert!(told.contains(": line 1, column 21: the sum should be E7, not E8\n"), "{told}");
 }
 
 #[test]

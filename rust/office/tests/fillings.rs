@@ -5,7 +5,7 @@ mod shared;
 use fairleadow::{Library, Proved};
 use office::fillings::{Drawing, Lists};
 use office::image::Image;
-use office::why::Subject;
+use office::subject::Subject;
 use reference::check::chart_of;
 use reference::fillings::walked;
 use reference::frames::{frames_of, CHART_TEXT};
@@ -220,7 +220,8 @@ fn what_cannot_be_counted_is_refused() {
 
 #[test]
 fn a_wrong_call_is_told() {
-    let usage = "usage: fairleadow fillings CHART [--ticks N] [--conditions K]\n";
+    let usage =
+        "usage: fairleadow fillings CHART [--ticks N] [--conditions K] [--names CHART] [--format FORMAT]\n";
     for (args, words) in [
         (vec![], "a chart is missing"),
         (vec!["x", "--ticks"], "--ticks needs a value"),

@@ -11,8 +11,8 @@ use shared::example;
 
 /// The ticks of an example by random words, each with the names of its outputs.
 fn ticks(chart: &str, swaps: &str) -> Vec<Vec<String>> {
-    let plan = load(&example(chart)).and_then(Plan::read).expect("an accepted chart");
-    let words = Words::given("random:7").expect("words").take(Some(5_000));
+    let plan = load(example(chart)).and_then(Plan::read).expect("an accepted chart");
+    let words = Words::given("random:7", &plan.names).expect("words").take(Some(5_000));
     let swaps =
         if swaps.is_empty() { Vec::new() } else { given(swaps, words.len(), &plan.names).expect("swaps") };
     let trace = trace(&plan, 32, &words, &swaps).expect("an accepted chart");

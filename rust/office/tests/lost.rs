@@ -24,17 +24,35 @@ fn a_full_device_is_told_and_keeps_the_status() {
 }
 
 /// Each command by its name, with arguments by which it prints something.
-fn printing() -> [Vec<String>; 12] {
-    let (chart, prices) = (path("roughing.txt"), path("roughing.prices"));
+fn printing() -> [Vec<String>; 16] {
+    let (chart, image, prices) = (path("roughing.txt"), path("roughing.image"), path("roughing.prices"));
+    let (patch, scenario) = (written("lost.patch", "at 4 when x2 and x6 go to 6\n"), path("bore.scenario"));
     let words = |line: &str| {
-        line.split(' ').map(|word| word.replace("CHART", &chart).replace("PRICES", &prices)).collect()
+        let files = [
+            ("CHART", &chart),
+            ("IMAGE", &image),
+            ("PRICES", &prices),
+            ("PATCH", &patch),
+            ("SCENARIO", &scenario),
+        ];
+        let named = |word: &str| {
+            files
+                .iter()
+                .find(|(name, _)| *name == word)
+                .map_or(word.to_string(), |(_, file)| file.to_string())
+        };
+        line.split(' ').map(named).collect()
     };
     [
         "check CHART",
         "compose CHART",
         "show CHART",
+        "translate CHART",
+        "patch IMAGE PATCH",
+        "diff CHART IMAGE",
         "places PLACES",
         "trace CHART",
+        "test PLACES SCENARIO",
         "why CHART --words 0,0,4",
         "bill CHART --prices PRICES",
         "fillings CHART",

@@ -127,7 +127,8 @@ fn names_are_the_shops() {
 #[test]
 fn faults_of_a_line() {
     let what = "where one of: begin, end, do, write, call, if belongs";
-    let first = "where a name and a colon, or one of: begin, end, condition, output, scheme, belongs";
+    let first =
+        "where a name and a colon, or one of: begin, end, condition, output, scheme, never, always, belongs";
     let cases = [
         ("more: if wod then start else end", "column 10: no condition is named 'wod'; 'wood' is near to it"),
         ("more: if wood then strat else end", "column 20: no node is named 'strat'; 'start' is near to it"),

@@ -203,3 +203,72 @@ fn a_folder_that_takes_no_file_is_named() {
     let ran = shop.minimise("/sys/new.image", &[]);
     assert!(ran.status == 1 && ran.said.contains(" the folder /sys"), "{}", ran.said);
 }
+
+/// A scenario is saved as other files are: not over what is read, over a chart or a scenario only when that is asked for, whole or not at
+/// all, and nothing where the run is not made.
+#[test]
+fn a_scenario_is_saved_whole_or_not_at_all() {
+    let shop = Shop::new("saved");
+    let chart = shop.path("branches.txt");
+    let save = |file: &str, more: &[&str]| run(&[&["trace", &chart, "--save", file], more].concat());
+    let file = shop.path("new.scenario");
+    let ran = save(&file, &["--words", "-*2,hard*3"]);
+    assert_eq!((ran.status, ran.said.as_str()), (0, ""));
+    assert_eq!(ran.printed, run(&["trace", &chart, "--words", "-*2,hard*3"]).printed);
+    let saved =
+        "# branches.txt, words -*2,hard*3\nplaces 32\n\n- * 2     # ticks 0 to 1\nhard * 3  # ticks 2 to 4\n";
+    assert_eq!(shop.read("new.scenario"), saved);
+    let ran = save("-", &["--words", "-*2,hard*3"]);
+    assert_eq!((ran.status, ran.printed.as_str(), ran.said.as_str()), (0, saved, ""));
+    for (file, more, told) in [
+        (
+            &file,
+            vec!["--words", "0"],
+            "new.scenario looks like a scenario, which would be lost; --force writes over it\n",
+        ),
+        (&file, vec!["--scenario", &file], "new.scenario is read by this command: it would be lost\n"),
+        (
+            &file,
+            vec!["--scenario", &file, "--force"],
+            "new.scenario is read by this command: it would be lost\n",
+        ),
+        (&chart, vec!["--words", "0", "--force"], "branches.txt is read by this command: it would be lost\n"),
+    ] {
+        let ran = save(file, &more);
+        assert_eq!((ran.status, ran.printed.as_str()), (2, ""));
+        assert!(
+            ran.said.lines().next().is_some_and(|line| format!("{line}\n").ends_with(told)),
+            "{}",
+            ran.said
+        );
+        assert_eq!(shop.read("new.scenario"), saved);
+    }
+    assert_eq!(save(&file, &["--words", "0", "--force"]).status, 0);
+    assert_eq!(shop.read("new.scenario"), "# branches.txt, words 0\nplaces 32\n\n-  # tick 0\n");
+    // where nothing was run nothing is written
+    for (more, status) in [
+        (vec!["--words", "hrad"], 2),
+        (vec!["--places", "33"], 1),
+        (vec!["--swap", "0:2=3"], 1),
+        (vec!["--scenario", "no/such.scenario"], 1),
+        (vec!["--words", "0", "--ticks", "65537"], 1),
+    ] {
+        let ran = save(&shop.path("none.scenario"), &more);
+        assert_eq!((ran.status, ran.printed.as_str()), (status, ""), "{more:?}: {}", ran.said);
+    }
+    let ran = save(&shop.path("none.scenario"), &["--words", "0", "--ticks", "65537"]);
+    assert!(
+        ran.said.ends_with(": the scenario cannot be written: a scenario has at most 65,536 ticks\n"),
+        "{}",
+        ran.said
+    );
+    let ran = save(&shop.path("no/such.scenario"), &["--words", "0"]);
+    assert!(ran.said.ends_with(&format!("there is no folder {}\n", shop.path("no"))), "{}", ran.said);
+    for (option, told) in
+        [("--force", "--force goes with --save\n"), ("--expect", "--expect goes with --save\n")]
+    {
+        let ran = run(&["trace", &chart, option]);
+        assert!(ran.status == 2 && ran.said.starts_with(told), "{}", ran.said);
+    }
+    assert_eq!(shop.files(), ["branches.txt", "new.scenario"]);
+}

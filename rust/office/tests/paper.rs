@@ -76,7 +76,7 @@ impl Case {
         let options = ["--places", &stack, "--words", "random:1", "--ticks", "64", "-o", &file];
         let made = run(&[&["page", &path], &options[..]].concat());
         let plan = load(chart).and_then(Plan::read).expect("an accepted chart");
-        let words = Words::given("random:1").expect("words").take(Some(64));
+        let words = Words::given("random:1", &plan.names).expect("words").take(Some(64));
         let trace = trace(&plan, places, &words, &[]).expect("an accepted chart");
         assert_eq!(made.status, i32::from(trace.stopped.is_some()), "{}", made.said);
         Case { page, plan, trace }

@@ -264,7 +264,7 @@ fn ticks_are_made_on_a_prepared_table() {
 /// Arcs that end elsewhere than the library's state stands are told, and make no trace.
 #[test]
 fn arcs_that_lead_astray_are_an_internal_error() {
-    let mut plan = source::load(&example("bore.txt")).and_then(Plan::read).expect("an accepted chart");
+    let mut plan = source::load(example("bore.txt")).and_then(Plan::read).expect("an accepted chart");
     assert!(trace::trace(&plan, 32, &[0; 9], &[]).is_ok());
     for node in &mut plan.nodes {
         if let Node::Condition { next0, next1, .. } = node {
@@ -388,7 +388,7 @@ fn wrong_arguments_get_the_usage() {
     let ran = run(&["trace", &chart, "--words", ""]);
     assert!(ran.said.starts_with("--words is given, and nothing stands after it\n"), "{}", ran.said);
     let ran = run(&["trace", &chart, "--words", "0,x"]);
-    assert!(ran.said.starts_with("in the words 0,x: 'x' is no word"), "{}", ran.said);
+    assert!(ran.said.starts_with("in the words 0,x: no condition is named 'x'\n"), "{}", ran.said);
     let ran = run(&["trace", "--help"]);
     assert_eq!((ran.status, ran.said.as_str()), (0, ""));
     assert!(ran.printed.starts_with("usage: fairleadow trace CHART "));

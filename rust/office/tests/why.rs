@@ -4,7 +4,8 @@ mod shared;
 
 use std::collections::BTreeMap;
 
-use office::why::{asked, told, Asked, Subject};
+use office::subject::Subject;
+use office::why::{asked, told, Asked};
 use reference::frames::text_of;
 use reference::generate::{charts, images, runs, Random};
 use reference::{Library, Reference, State};
@@ -295,7 +296,7 @@ fn a_tick_after_a_swap_is_that_of_the_scheme_that_serves() {
 fn wrong_arguments_get_the_usage() {
     let chart = example("bore.txt");
     let usage =
-        "\nusage: fairleadow why CHART [--places N] [--words WORDS] [--ticks N] [--swap SWAPS] [--tick N]\n";
+        "\nusage: fairleadow why CHART [--places N] [--words WORDS] [--ticks N] [--swap SWAPS] [--scenario FILE] [--tick N]\n        [--names CHART] [--format FORMAT]\n";
     for (rest, told) in [
         (
             vec!["--words", BLOCKS, "--tick", "12"],

@@ -115,9 +115,9 @@ fn prepare_line(input: &Rc<Input>) -> Line {
             black_box(unsafe {
                 c::fairleadow_prepare(
                     image.as_ptr(),
-                    image.len(),
+                    image.len() as u64,
                     table.as_mut_ptr(),
-                    table.len(),
+                    table.len() as u64,
                     &mut index,
                     &mut count,
                 )
@@ -141,14 +141,14 @@ fn run_line(input: &Rc<Input>, count: usize, room: &Rc<RefCell<Room>>) -> Line {
             black_box(unsafe {
                 c::fairleadow_live_run(
                     input.table.as_ptr(),
-                    input.table.len(),
+                    input.table.len() as u64,
                     &mut state,
                     room.words.as_ptr(),
-                    count,
+                    count as u64,
                     room.masks.as_mut_ptr(),
-                    count,
+                    count as u64,
                     room.codes.as_mut_ptr(),
-                    count,
+                    count as u64,
                     &mut index,
                     &mut ticks,
                 )
@@ -180,7 +180,7 @@ fn tick_line(input: &Rc<Input>, name: &str, start: State, word: u16) -> Line {
             black_box(unsafe {
                 c::fairleadow_live_tick(
                     table.as_ptr(),
-                    table.len(),
+                    table.len() as u64,
                     &mut state,
                     word,
                     &mut mask,
@@ -211,16 +211,16 @@ fn spin_line(input: &Rc<Input>, name: &str, start: State, word: u16) -> Line {
     let (c_states, taken) = (states.each_ref().map(c::State::from), SPINDLES - 1 + usize::from(start.depth));
     let sides: Vec<Call> = vec![
         Box::new(move || {
-            let (table, mut states, mut taken) = (&for_library.table, c_states, taken);
+            let (table, mut states, mut taken) = (&for_library.table, c_states, taken as u64);
             let (mut mask, mut code, mut index, mut count) = (0, 0, 0, 0);
             black_box(unsafe {
                 c::fairleadow_live_spin(
-                    states.as_mut_ptr(),
-                    size_of_val(&states),
+                    states.as_mut_ptr().cast(),
+                    size_of_val(&states) as u64,
                     &mut taken,
                     0,
                     table.as_ptr(),
-                    table.len(),
+                    table.len() as u64,
                     word,
                     &mut mask,
                     &mut code,
@@ -252,7 +252,7 @@ fn rebind_line(input: &Rc<Input>) -> Line {
             black_box(unsafe {
                 c::fairleadow_live_rebind(
                     table.as_ptr(),
-                    table.len(),
+                    table.len() as u64,
                     &mut state,
                     2,
                     2,

@@ -14,12 +14,13 @@ struct Checked {
 
 extern "C" fn check_table(job: &mut Checked) {
     let (mut index, mut count) = (0, 0);
-    job.number =
-        unsafe { c::fairleadow_check_table(job.table.as_ptr(), job.table.len(), &mut index, &mut count) };
+    job.number = unsafe {
+        c::fairleadow_check_table(job.table.as_ptr(), job.table.len() as u64, &mut index, &mut count)
+    } as u8;
 }
 
 extern "C" fn sum(job: &mut Checked) {
-    job.sum = unsafe { c::fairleadow_sum(0, job.table.as_ptr(), job.table.len()) };
+    job.sum = unsafe { c::fairleadow_sum(0, job.table.as_ptr(), job.table.len() as u64) };
 }
 
 /// Each table as it was prepared, and with its last row leading nowhere.

@@ -20,20 +20,20 @@ extern "C" fn dry_run(job: &mut DryRun) {
     job.number = unsafe {
         c::fairleadow_dry_run(
             job.chart.as_ptr(),
-            job.chart.len(),
+            job.chart.len() as u64,
             32,
             job.image.as_mut_ptr(),
-            job.image.len(),
+            job.image.len() as u64,
             job.words.as_ptr(),
-            job.words.len(),
+            job.words.len() as u64,
             job.masks.as_mut_ptr(),
-            job.masks.len(),
+            job.masks.len() as u64,
             job.codes.as_mut_ptr(),
-            job.codes.len(),
+            job.codes.len() as u64,
             &mut index,
             &mut count,
         )
-    };
+    } as u8;
 }
 
 #[test]

@@ -10,7 +10,7 @@ use super::MEMORY;
 
 struct Count {
     image: Vec<u8>,
-    lists: (usize, usize),
+    lists: (u64, u64),
     counts: [u32; 3],
     number: u8,
 }
@@ -21,8 +21,8 @@ extern "C" fn count(job: &mut Count) {
     job.number = unsafe {
         c::fairleadow_count_fillings(
             job.image.as_ptr(),
-            job.image.len(),
-            PLACES,
+            job.image.len() as u64,
+            PLACES as u64,
             ticks,
             conditions,
             ended,
@@ -31,7 +31,7 @@ extern "C" fn count(job: &mut Count) {
             &mut index,
             &mut made,
         )
-    };
+    } as u8;
 }
 
 /// Images of all sizes, with many short lists and with few long ones.

@@ -9,8 +9,8 @@ use super::stack::depth;
 use super::MEMORY;
 
 struct Fetch {
-    frames: usize,
-    chart: usize,
+    frames: u64,
+    chart: u64,
     text: [u8; LITTLE_TEXT],
     number: u8,
 }
@@ -19,8 +19,15 @@ extern "C" fn little_chart(job: &mut Fetch) {
     let (mut index, mut count) = (0, 0);
     let (frames, chart, text) = (job.frames, job.chart, &mut job.text);
     job.number = unsafe {
-        c::fairleadow_little_chart(frames, chart, text.as_mut_ptr(), text.len(), &mut index, &mut count)
-    };
+        c::fairleadow_little_chart(
+            frames,
+            chart,
+            text.as_mut_ptr(),
+            text.len() as u64,
+            &mut index,
+            &mut count,
+        )
+    } as u8;
 }
 
 /// Every little chart, and those that there are not.
@@ -29,7 +36,7 @@ fn a_little_chart_fits_beside_both_texts() {
     let (mut deepest, mut answered) = (0, [0; 2]);
     for candidate in candidates(EntryPoint::LittleChart) {
         let (frames, chart) = (candidate.input.value, candidate.input.chart);
-        let mut job = Fetch { frames, chart, text: [0; LITTLE_TEXT], number: 0 };
+        let mut job = Fetch { frames: frames as u64, chart: chart as u64, text: [0; LITTLE_TEXT], number: 0 };
         deepest = deepest.max(depth(&mut job, little_chart));
         answered[usize::from(job.number == 24)] += 1;
     }

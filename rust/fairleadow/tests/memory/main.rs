@@ -34,13 +34,13 @@ extern "C" fn translate(job: &mut Translation) {
     job.number = unsafe {
         c::fairleadow_translate(
             chart.as_ptr(),
-            chart.len(),
+            chart.len() as u64,
             image.as_mut_ptr(),
-            image.len(),
+            image.len() as u64,
             &mut index,
             &mut count,
         )
-    };
+    } as u8;
 }
 
 struct Counting {
@@ -50,14 +50,16 @@ struct Counting {
 
 extern "C" fn places(job: &mut Counting) {
     let (mut index, mut count) = (0, 0);
-    job.number = unsafe { c::fairleadow_places(job.chart.as_ptr(), job.chart.len(), &mut index, &mut count) };
+    job.number =
+        unsafe { c::fairleadow_places(job.chart.as_ptr(), job.chart.len() as u64, &mut index, &mut count) }
+            as u8;
 }
 
 struct Preparation {
     image: Vec<u8>,
     table: Vec<u8>,
     number: u8,
-    count: usize,
+    count: u64,
 }
 
 /// The table's place holds the smaller text.
@@ -67,13 +69,13 @@ extern "C" fn minimise(job: &mut Preparation) {
     job.number = unsafe {
         c::fairleadow_minimise(
             image.as_ptr(),
-            image.len(),
+            image.len() as u64,
             smaller.as_mut_ptr(),
-            smaller.len(),
+            smaller.len() as u64,
             &mut index,
             &mut job.count,
         )
-    };
+    } as u8;
 }
 
 extern "C" fn prepare(job: &mut Preparation) {
@@ -82,13 +84,13 @@ extern "C" fn prepare(job: &mut Preparation) {
     job.number = unsafe {
         c::fairleadow_prepare(
             image.as_ptr(),
-            image.len(),
+            image.len() as u64,
             table.as_mut_ptr(),
-            table.len(),
+            table.len() as u64,
             &mut index,
             &mut job.count,
         )
-    };
+    } as u8;
 }
 
 /// Runs and ticks on an image's text or on a table.
@@ -109,18 +111,18 @@ macro_rules! run_job {
             job.number = unsafe {
                 $function(
                     job.ground.as_ptr(),
-                    job.ground.len(),
+                    job.ground.len() as u64,
                     &mut job.state,
                     job.words.as_ptr(),
-                    job.words.len(),
+                    job.words.len() as u64,
                     job.masks.as_mut_ptr(),
-                    job.masks.len(),
+                    job.masks.len() as u64,
                     job.codes.as_mut_ptr(),
-                    job.codes.len(),
+                    job.codes.len() as u64,
                     &mut index,
                     &mut count,
                 )
-            };
+            } as u8;
         }
     };
 }
@@ -131,20 +133,20 @@ extern "C" fn priced_run(job: &mut Ticks) {
     job.number = unsafe {
         c::fairleadow_priced_run(
             job.ground.as_ptr(),
-            job.ground.len(),
+            job.ground.len() as u64,
             &mut job.state,
-            &[u16::MAX; OPERATIONS],
+            [u16::MAX; OPERATIONS].as_ptr(),
             job.words.as_ptr(),
-            job.words.len(),
+            job.words.len() as u64,
             job.masks.as_mut_ptr(),
-            job.masks.len(),
+            job.masks.len() as u64,
             job.codes.as_mut_ptr(),
-            job.codes.len(),
+            job.codes.len() as u64,
             &mut price,
             &mut index,
             &mut count,
         )
-    };
+    } as u8;
 }
 
 /// A job that hands its first word to a tick.
@@ -155,7 +157,7 @@ macro_rules! tick_job {
             job.number = unsafe {
                 $function(
                     job.ground.as_ptr(),
-                    job.ground.len(),
+                    job.ground.len() as u64,
                     &mut job.state,
                     job.words[0],
                     &mut job.masks[0],
@@ -163,7 +165,7 @@ macro_rules! tick_job {
                     &mut index,
                     &mut count,
                 )
-            };
+            } as u8;
         }
     };
 }
@@ -173,7 +175,7 @@ extern "C" fn cause(job: &mut Ticks) {
     job.number = unsafe {
         c::fairleadow_cause(
             job.ground.as_ptr(),
-            job.ground.len(),
+            job.ground.len() as u64,
             &job.state,
             job.words[0],
             &mut row,
@@ -182,7 +184,7 @@ extern "C" fn cause(job: &mut Ticks) {
             &mut index,
             &mut count,
         )
-    };
+    } as u8;
 }
 
 /// A job that rebinds number 2 to its own scheme.
@@ -191,8 +193,16 @@ macro_rules! rebind_job {
         extern "C" fn $name(job: &mut Ticks) {
             let (mut index, mut count) = (0, 0);
             job.number = unsafe {
-                $function(job.ground.as_ptr(), job.ground.len(), &mut job.state, 2, 2, &mut index, &mut count)
-            };
+                $function(
+                    job.ground.as_ptr(),
+                    job.ground.len() as u64,
+                    &mut job.state,
+                    2,
+                    2,
+                    &mut index,
+                    &mut count,
+                )
+            } as u8;
         }
     };
 }
@@ -209,15 +219,15 @@ extern "C" fn list_rows(job: &mut Listing) {
     job.number = unsafe {
         c::fairleadow_list_rows(
             job.image.as_ptr(),
-            job.image.len(),
+            job.image.len() as u64,
             job.firsts.as_mut_ptr(),
-            LABELS,
+            LABELS as u64,
             job.counts.as_mut_ptr(),
-            LABELS,
+            LABELS as u64,
             &mut index,
             &mut count,
         )
-    };
+    } as u8;
 }
 
 run_job!(run, c::fairleadow_run);
@@ -237,7 +247,7 @@ fn worst_charts() -> Vec<Vec<Frame>> {
 fn fresh(size: usize) -> c::State {
     let (mut index, mut count) = (0, 0);
     let mut state = c::State::NONE;
-    unsafe { c::fairleadow_fresh(size, &mut state, &mut index, &mut count) };
+    unsafe { c::fairleadow_fresh(size as u64, &mut state, &mut index, &mut count) };
     state
 }
 
@@ -416,7 +426,7 @@ fn worst_tables() -> Vec<Vec<u8>> {
     let table = |image: Vec<u8>| {
         let mut job = Preparation { image, table: vec![0; TABLE], number: 0, count: 0 };
         prepare(&mut job);
-        job.table.truncate(job.count);
+        job.table.truncate(job.count as usize);
         job.table
     };
     worst_images().into_iter().map(table).collect()

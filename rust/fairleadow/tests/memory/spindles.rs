@@ -9,7 +9,7 @@ use super::{depth, fresh, worst_images, worst_tables, MEMORY};
 struct Spinning {
     ground: Vec<u8>,
     states: [c::State; SPINDLES],
-    taken: usize,
+    taken: u64,
     code: u8,
     number: u8,
 }
@@ -20,19 +20,19 @@ macro_rules! spin_job {
             let (mut mask, mut index, mut count) = (0, 0, 0);
             job.number = unsafe {
                 $function(
-                    job.states.as_mut_ptr(),
-                    size_of_val(&job.states),
+                    job.states.as_mut_ptr().cast(),
+                    size_of_val(&job.states) as u64,
                     &mut job.taken,
                     0,
                     job.ground.as_ptr(),
-                    job.ground.len(),
+                    job.ground.len() as u64,
                     0,
                     &mut mask,
                     &mut job.code,
                     &mut index,
                     &mut count,
                 )
-            };
+            } as u8;
         }
     };
 }
@@ -46,7 +46,7 @@ fn deepest_spin(grounds: &[Vec<u8>], spin: extern "C" fn(&mut Spinning)) -> usiz
     for (ground, full) in grounds.iter().flat_map(|ground| [(ground, false), (ground, true)]) {
         let mut states = [fresh(8); SPINDLES];
         states[1].depth = if full { 61 } else { 1 };
-        let taken = states.iter().map(|state| usize::from(state.depth)).sum();
+        let taken = states.iter().map(|state| u64::from(state.depth)).sum();
         let mut job = Spinning { ground: ground.clone(), states, taken, code: 0, number: 0 };
         for _ in 0..12 {
             deepest = deepest.max(depth(&mut job, spin));

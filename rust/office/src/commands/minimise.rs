@@ -12,7 +12,7 @@ use crate::explain::image::Header;
 use crate::kind::Kind;
 use crate::output;
 use crate::problem::{counted, thousands, Problem};
-use crate::why::Subject;
+use crate::subject::Subject;
 
 pub const COMMAND: Command = Command {
     name: "minimise",
@@ -31,7 +31,7 @@ image that was patched by hand some word may match no row of a label, or two.
 
 fn run(args: &[OsString], out: &mut dyn Write) -> Result<(), Failure> {
     let arguments = Arguments::of(args, &["-o"], &["--force"])?;
-    let file = arguments.written()?;
+    let file = arguments.written("-o")?;
     let failure = |problem| arguments.failure(problem);
     let image = Subject::read(arguments.bytes()?).map_err(failure)?.image.text;
     let smaller = minimised(&image).map_err(failure)?;

@@ -9,8 +9,13 @@ use crate::wording::kind;
 /// The longest line of outputs, in characters; a longer list is broken.
 const LONGEST: usize = 26;
 
-/// The lines of a node, as graphviz writes them: its name, what it does, and its label in small.
+/// The lines of a node, as graphviz writes them.
 pub fn label(plan: &Plan, at: usize) -> String {
+    in_table(&lines(plan, at))
+}
+
+/// Its name in bold, what it does, and its label in small, with graphviz's marks for these.
+pub fn lines(plan: &Plan, at: usize) -> Vec<String> {
     let name = escaped(&plan.names.node(at));
     let mut lines = match plan.nodes[at] {
         Node::Begin { handler: true, .. } => {
@@ -28,6 +33,11 @@ pub fn label(plan: &Plan, at: usize) -> String {
     if let Some(label) = plan.label(at) {
         lines.push(small(&format!("label {label}")));
     }
+    lines
+}
+
+/// Lines below each other, as graphviz writes them.
+pub fn in_table(lines: &[String]) -> String {
     let rows: String = lines.iter().map(|line| format!("<TR><TD>{line}</TD></TR>")).collect();
     format!("<<TABLE BORDER=\"0\" CELLBORDER=\"0\" CELLSPACING=\"0\" CELLPADDING=\"1\">{rows}</TABLE>>")
 }
@@ -55,12 +65,13 @@ fn operation(plan: &Plan, at: usize, name: &str) -> Vec<String> {
     lines
 }
 
-fn small(text: &str) -> String {
+/// A line in small letters.
+pub fn small(text: &str) -> String {
     format!("<FONT POINT-SIZE=\"8\">{text}</FONT>")
 }
 
 /// Names in lines that are not too long.
-fn broken(names: &[String]) -> Vec<String> {
+pub fn broken(names: &[String]) -> Vec<String> {
     let mut lines: Vec<String> = Vec::new();
     for name in names {
         match lines.last_mut() {

@@ -13,7 +13,7 @@ use super::voice::Voice;
 const WRITES_1: u8 = 2;
 
 /// All warnings of a chart, in the order of their lines.
-pub fn warnings(plan: &Plan) -> Vec<String> {
+pub fn warnings(plan: &Plan) -> Vec<Problem> {
     let notation = plan.source.notation.as_ref();
     let lines = notation.map(Notation::node_lines).unwrap_or_default();
     let voice = match notation {
@@ -28,7 +28,7 @@ pub fn warnings(plan: &Plan) -> Vec<String> {
     let mut all: Vec<Problem> =
         of_nodes.flatten().chain(notation.into_iter().flat_map(|own| unused(plan, own))).collect();
     all.sort_by_key(|warning| warning.line);
-    all.into_iter().map(|warning| warning.words).collect()
+    all
 }
 
 /// A condition or a function whose two arcs lead to one node.

@@ -4,14 +4,15 @@ use crate::chart::{nodes, Node};
 use crate::columns;
 use crate::names::Names;
 
-use super::{Line, Notation, Part, WHEN_FULL};
+use super::{Interlock, Line, Notation, Part, WHEN_FULL};
 
 /// Labels longer than this push their line out.
 const WIDEST: usize = 20;
 
 /// The text of a notation.
 pub fn layout(notation: &Notation) -> String {
-    let page = Page { nodes: nodes(&notation.records), names: &notation.names };
+    let (nodes, names) = (nodes(&notation.records), &notation.names);
+    let page = Page { nodes, names, interlocks: &notation.interlocks };
     let width = (0..page.nodes.len()).filter_map(|node| page.label(node)).map(|label| columns::width(&label));
     let width = width.max().unwrap_or(0).min(WIDEST) + 1;
     let mut text = String::new();
@@ -22,9 +23,15 @@ pub fn layout(notation: &Notation) -> String {
     text
 }
 
+/// What a node says behind its name.
+pub fn said(node: &Node, names: &Names) -> String {
+    Page { nodes: Vec::new(), names, interlocks: &[] }.step(node)
+}
+
 struct Page<'a> {
     nodes: Vec<Node>,
     names: &'a Names,
+    interlocks: &'a [Interlock],
 }
 
 impl Page<'_> {
@@ -34,6 +41,7 @@ impl Page<'_> {
             Part::Condition(number) => format!("condition {number} {}", self.names.condition(number)),
             Part::Output(number) => format!("output {number} {}", self.names.operation(number)),
             Part::Scheme(number) => self.scheme(number),
+            Part::Interlock(number) => self.interlocks[number].said(self.names),
             Part::Node(node) => {
                 let label = self.label(node).map_or(String::new(), |label| format!("{label}:"));
                 let pad = width.saturating_sub(columns::width(&label));

@@ -20,6 +20,9 @@
 //! The lines of nodes stand in the order of the chart's lines. Outputs are the micro operations of the mask. What has no
 //! name is called by its number: x2 is condition 2, y0 output 0, s2 scheme 2.
 //!
+//! `never cutter_in with cutter_back`, `always clamp while drill` and `drill only after clamp` are interlocks, which `check` tries. They
+//! are no part of the chart's lines.
+//!
 //! `begin when the stack is full -> back` marks a scheme as the handler. It stands on the Begin because the chart has its
 //! mark there, so a line of either stays a line of the other, and what the library refuses is told by this line. It says
 //! when the scheme begins, so nobody needs to know the word, and it takes no name away: these words mean nothing elsewhere.
@@ -37,17 +40,61 @@ use crate::explain;
 use crate::names::Names;
 use crate::problem::{Problem, LONE_RETURNS};
 
+pub use layout::said;
 pub use near::nearest;
-pub use resolve::{output, scheme, unknown};
+pub use resolve::{condition, output, scheme, unknown};
+pub(crate) use statement::Reader;
 use statement::Statement;
-pub use words::Word;
+pub use words::{words, Word, Words, RESERVED};
 
 /// What the Begin of the handler says.
 pub const WHEN_FULL: &str = "when the stack is full";
 
 /// The first words of statements, by which a file is known as notation.
-pub const KEYWORDS: [&str; 9] =
-    ["condition", "output", "scheme", "begin", "end", "do", "write", "call", "if"];
+pub const KEYWORDS: [&str; 11] =
+    ["condition", "output", "scheme", "never", "always", "begin", "end", "do", "write", "call", "if"];
+
+/// What two outputs must not do: be on in one tick, or the second without the first, or the first before the second was.
+#[derive(Clone, Copy, Debug, PartialEq, Eq)]
+pub enum InterlockKind {
+    Never,
+    Always,
+    After,
+}
+
+impl InterlockKind {
+    /// The words between the two outputs.
+    pub fn between(self) -> &'static str {
+        match self {
+            InterlockKind::Never => "with",
+            InterlockKind::Always => "while",
+            InterlockKind::After => "only after",
+        }
+    }
+}
+
+/// An interlock by the numbers of its outputs, with where it stands.
+#[derive(Clone, Copy, Debug, PartialEq, Eq)]
+pub struct Interlock {
+    pub line: usize,
+    pub column: usize,
+    pub kind: InterlockKind,
+    pub first: u8,
+    pub second: u8,
+}
+
+impl Interlock {
+    /// As it is written.
+    pub fn said(&self, names: &Names) -> String {
+        let lead = match self.kind {
+            InterlockKind::Never => "never ",
+            InterlockKind::Always => "always ",
+            InterlockKind::After => "",
+        };
+        let [first, second] = [self.first, self.second].map(|number| names.operation(number));
+        format!("{lead}{first} {} {second}", self.kind.between())
+    }
+}
 
 /// What stands on a line.
 #[derive(Clone, Debug, PartialEq, Eq)]
@@ -56,6 +103,7 @@ enum Part {
     Condition(u8),
     Output(u8),
     Scheme(u8),
+    Interlock(usize),
     Node(usize),
 }
 
@@ -70,6 +118,7 @@ struct Line {
 pub struct Notation {
     pub records: Vec<u8>,
     pub names: Names,
+    pub interlocks: Vec<Interlock>,
     lines: Vec<Line>,
     /// As it was read.
     text: String,
@@ -84,7 +133,7 @@ impl Notation {
     }
 
     fn parsed(text: &str) -> Result<Notation, Problem> {
-        let (mut lines, mut statements, mut nodes) = (Vec::new(), Vec::new(), 0);
+        let (mut lines, mut statements, mut counts) = (Vec::new(), Vec::new(), Counts::default());
         for (at, line) in text.lines().enumerate() {
             if let Some((before, _)) = line.trim_end_matches('\r').split_once('\r') {
                 let column = before.chars().count() + 1;
@@ -94,11 +143,11 @@ impl Notation {
             }
             let words = words::words(line);
             let statement = statement::statement(&words, at + 1)?;
-            lines.push(Line { part: part(statement.as_ref(), &mut nodes), comment: words.comment });
+            lines.push(Line { part: part(statement.as_ref(), &mut counts), comment: words.comment });
             statements.extend(statement.map(|statement| (at + 1, statement)));
         }
-        let (records, names) = resolve::resolved(&statements)?;
-        Ok(Notation { records, names, lines, text: text.to_string() })
+        let (records, names, interlocks) = resolve::resolved(&statements)?;
+        Ok(Notation { records, names, interlocks, lines, text: text.to_string() })
     }
 
     /// The notation of records that the library's reader handed out, with no names.
@@ -120,9 +169,15 @@ impl Notation {
             }
             lines.push(line(Part::Node(index)));
         }
-        let mut notation = Notation { records: records.to_vec(), names, lines, text: String::new() };
+        let (records, interlocks) = (records.to_vec(), Vec::new());
+        let mut notation = Notation { records, names, interlocks, lines, text: String::new() };
         notation.text = notation.layout();
         notation
+    }
+
+    /// The text as it was read.
+    pub fn text(&self) -> &str {
+        &self.text
     }
 
     /// The text, laid out anew: names in place of numbers where there are names, comments kept.
@@ -188,16 +243,27 @@ fn call_column(line: &str) -> Option<usize> {
     words::words(line).words.iter().find(|word| word.text == "call").map(|word| word.column)
 }
 
-/// What a statement is on its line; nodes are counted on.
-fn part(statement: Option<&Statement>, nodes: &mut usize) -> Part {
+/// How many interlocks and nodes stand above a line.
+#[derive(Default)]
+struct Counts {
+    interlocks: usize,
+    nodes: usize,
+}
+
+/// What a statement is on its line; interlocks and nodes are counted on.
+fn part(statement: Option<&Statement>, counts: &mut Counts) -> Part {
     match statement {
         None => Part::Nothing,
         Some(Statement::Condition { number, .. }) => Part::Condition(*number),
         Some(Statement::Output { number, .. }) => Part::Output(*number),
         Some(Statement::Scheme { number, .. }) => Part::Scheme(*number),
+        Some(Statement::Interlock { .. }) => {
+            counts.interlocks += 1;
+            Part::Interlock(counts.interlocks - 1)
+        }
         Some(Statement::Node { .. }) => {
-            *nodes += 1;
-            Part::Node(*nodes - 1)
+            counts.nodes += 1;
+            Part::Node(counts.nodes - 1)
         }
     }
 }

@@ -11,23 +11,30 @@ use crate::problem::Problem;
 use super::near::nearest;
 use super::statement::{Statement, Step};
 use super::words::Word;
+use super::{Interlock, InterlockKind};
 
 /// A statement and its line.
 pub type Numbered = (usize, Statement);
 
-/// The records and names of these statements.
-pub fn resolved(statements: &[Numbered]) -> Result<(Vec<u8>, Names), Problem> {
+/// The records, names and interlocks of these statements.
+pub fn resolved(statements: &[Numbered]) -> Result<(Vec<u8>, Names, Vec<Interlock>), Problem> {
     let mut tables = Tables::default();
     for (line, statement) in statements {
         tables.note(*line, statement)?;
     }
-    let mut records = Vec::new();
+    let (mut records, mut interlocks) = (Vec::new(), Vec::new());
     for (line, statement) in statements {
-        if let Statement::Node { step, .. } = statement {
-            records.extend(tables.record(*line, records.len() / RECORD, step)?);
+        match statement {
+            Statement::Node { step, .. } => {
+                records.extend(tables.record(*line, records.len() / RECORD, step)?);
+            }
+            Statement::Interlock { column, kind, first, second } => {
+                interlocks.push(tables.interlock(*line, *column, *kind, [first, second])?);
+            }
+            _ => {}
         }
     }
-    Ok((records, tables.names()))
+    Ok((records, tables.names(), interlocks))
 }
 
 /// Names of one kind: the number of each, with the line that gives it.
@@ -131,6 +138,12 @@ pub fn scheme(names: &Names, name: &str) -> Option<u8> {
     given.or_else(|| SCHEME.own_number(name))
 }
 
+/// The number of a condition by its name, or by one that stands for its number.
+pub fn condition(names: &Names, name: &str) -> Option<u8> {
+    let given = names.conditions.iter().find(|(_, own)| *own == name).map(|(number, _)| *number);
+    given.or_else(|| CONDITION.own_number(name))
+}
+
 /// The number of an output by its name, or by one that stands for its number.
 pub fn output(names: &Names, name: &str) -> Option<u8> {
     let given = names.operations.iter().find(|(_, own)| *own == name).map(|(number, _)| *number);
@@ -162,7 +175,27 @@ impl Tables {
                 self.current = Some(*number);
                 name.as_ref().map_or(Ok(()), |name| self.schemes.declare(&SCHEME, *number, name, line))
             }
+            Statement::Interlock { .. } => Ok(()),
             Statement::Node { label, step } => self.note_node(line, label.as_ref(), step),
+        }
+    }
+
+    /// Two different outputs.
+    fn interlock(
+        &self,
+        line: usize,
+        column: usize,
+        kind: InterlockKind,
+        [first, second]: [&Word; 2],
+    ) -> Result<Interlock, Problem> {
+        let output = |name: &Word| self.outputs.number(&OUTPUT, name, line);
+        let interlock = Interlock { line, column, kind, first: output(first)?, second: output(second)? };
+        match interlock.first == interlock.second {
+            true => {
+                Err(Problem::at(line, second.column, format!("'{}' stands on both sides", second.shown()))
+                    .advice("two different outputs"))
+            }
+            false => Ok(interlock),
         }
     }
 

@@ -3,18 +3,22 @@
 use crate::problem::{counted, visible, Problem};
 
 use super::words::{Word, Words, LONGEST_NAME};
-use super::WHEN_FULL;
+use super::{InterlockKind, WHEN_FULL};
 
 #[derive(Clone, Debug, PartialEq, Eq)]
 pub enum Statement {
     Condition { number: u8, name: Word },
     Output { number: u8, name: Word },
     Scheme { number: u8, name: Option<Word> },
+    Interlock { column: usize, kind: InterlockKind, first: Word, second: Word },
     Node { label: Option<Word>, step: Step },
 }
 
 /// The first words of what a node does.
 const STEPS: [&str; 6] = ["begin", "end", "do", "write", "call", "if"];
+
+/// What belongs where an output is named.
+const OUTPUT_NAME: &str = "the name of an output";
 
 /// The signs between words.
 const SIGNS: [&str; 4] = [":", ",", ";", "->"];
@@ -31,33 +35,40 @@ pub enum Step {
 
 /// The statement of a line; none where the line has a comment or nothing at all.
 pub fn statement(words: &Words, line: usize) -> Result<Option<Statement>, Problem> {
-    let mut reader = Reader { words: &words.words, at: 0, line, end: words.end };
+    let mut reader = Reader::of(words, line);
     if reader.peek().is_none() {
         return Ok(None);
     }
-    reader.names()?;
+    reader.names(&SIGNS)?;
     let statement = reader.statement()?;
     reader.finished()?;
     Ok(Some(statement))
 }
 
-struct Reader<'a> {
-    words: &'a [Word],
-    at: usize,
-    line: usize,
+/// The words of a line, taken one after the other.
+pub(crate) struct Reader<'a> {
+    pub words: &'a [Word],
+    pub at: usize,
+    pub line: usize,
     end: usize,
 }
 
+impl<'a> Reader<'a> {
+    pub fn of(words: &'a Words, line: usize) -> Reader<'a> {
+        Reader { words: &words.words, at: 0, line, end: words.end }
+    }
+}
+
 impl Reader<'_> {
-    fn peek(&self) -> Option<&str> {
+    pub fn peek(&self) -> Option<&str> {
         self.words.get(self.at).map(|word| word.text.as_str())
     }
 
-    /// Refused where a sign that the notation does not know joins two words, as in a name that has a hyphen.
-    fn names(&self) -> Result<(), Problem> {
+    /// Refused where a sign that is none of these joins two words, as in a name that has a hyphen.
+    pub fn names(&self, signs: &[&str]) -> Result<(), Problem> {
         let joins = |before: &Word, after: &Word| before.column + before.text.chars().count() == after.column;
         let is_name = |[before, sign, after]: &[&Word; 3]| {
-            let known = SIGNS.contains(&sign.text.as_str());
+            let known = signs.contains(&sign.text.as_str());
             !known && before.is_letters() && after.is_letters() && joins(before, sign) && joins(sign, after)
         };
         let triples = self.words.windows(3).map(|words| [&words[0], &words[1], &words[2]]);
@@ -72,7 +83,7 @@ impl Reader<'_> {
     }
 
     /// Says what belongs at the place reached.
-    fn wanted(&self, what: &str) -> Problem {
+    pub fn wanted(&self, what: &str) -> Problem {
         match self.words.get(self.at) {
             Some(word) => {
                 Problem::at(self.line, word.column, format!("'{}', where {what} belongs", word.shown()))
@@ -82,13 +93,13 @@ impl Reader<'_> {
     }
 
     /// Takes this word if it comes next.
-    fn take(&mut self, text: &str) -> bool {
+    pub fn take(&mut self, text: &str) -> bool {
         let taken = self.peek() == Some(text);
         self.at += usize::from(taken);
         taken
     }
 
-    fn expect(&mut self, text: &str) -> Result<(), Problem> {
+    pub fn expect(&mut self, text: &str) -> Result<(), Problem> {
         if self.take(text) {
             Ok(())
         } else {
@@ -96,7 +107,7 @@ impl Reader<'_> {
         }
     }
 
-    fn name(&mut self, what: &str) -> Result<Word, Problem> {
+    pub fn name(&mut self, what: &str) -> Result<Word, Problem> {
         match self.words.get(self.at) {
             Some(word) if word.is_name() => {
                 self.fits(word)?;
@@ -140,7 +151,7 @@ impl Reader<'_> {
         }
     }
 
-    fn finished(&self) -> Result<(), Problem> {
+    pub fn finished(&self) -> Result<(), Problem> {
         match self.words.get(self.at) {
             None => Ok(()),
             Some(word) => {
@@ -161,8 +172,30 @@ impl Reader<'_> {
             let name = if self.peek().is_some() { Some(self.name("a name")?) } else { None };
             Ok(Statement::Scheme { number, name })
         } else {
-            self.node()
+            match self.interlock()? {
+                Some(interlock) => Ok(interlock),
+                None => self.node(),
+            }
         }
+    }
+
+    /// What outputs must not do; a node may be called by the first word of it.
+    fn interlock(&mut self) -> Result<Option<Statement>, Problem> {
+        let second = self.words.get(self.at + 1).map_or("", |word| word.text.as_str());
+        let kind = match self.peek() {
+            _ if second == ":" => None,
+            _ if second == "only" => Some(InterlockKind::After),
+            Some("never") => Some(InterlockKind::Never),
+            Some("always") => Some(InterlockKind::Always),
+            _ => None,
+        };
+        let Some(kind) = kind else { return Ok(None) };
+        let column = self.words[self.at].column;
+        self.at += usize::from(kind != InterlockKind::After);
+        let first = self.name(OUTPUT_NAME)?;
+        kind.between().split(' ').try_for_each(|word| self.expect(word))?;
+        let second = self.name(OUTPUT_NAME)?;
+        Ok(Some(Statement::Interlock { column, kind, first, second }))
     }
 
     fn node(&mut self) -> Result<Statement, Problem> {
@@ -198,7 +231,9 @@ impl Reader<'_> {
             Some("if") => self.choice(),
             Some("do" | "write" | "call") => self.operation(),
             _ if labelled => Err(self.wanted(&format!("one of: {}", STEPS.join(", ")))),
-            _ => Err(self.wanted("a name and a colon, or one of: begin, end, condition, output, scheme,")),
+            _ => Err(self.wanted(
+                "a name and a colon, or one of: begin, end, condition, output, scheme, never, always,",
+            )),
         }
     }
 

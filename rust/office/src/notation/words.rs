@@ -18,7 +18,7 @@ pub struct Words {
 }
 
 /// Words that the notation itself uses; no name may be one of them.
-const RESERVED: [&str; 12] =
+pub const RESERVED: [&str; 12] =
     ["condition", "output", "scheme", "begin", "end", "do", "nothing", "write", "call", "if", "then", "else"];
 
 /// The most characters of a name.

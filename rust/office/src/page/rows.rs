@@ -3,15 +3,9 @@
 use crate::draw::{arc_id, call_id, node_id};
 use crate::escape::escaped;
 use crate::plan::Plan;
-use crate::trace::table::HEADINGS;
 use crate::trace::{Happening, Opened, Stopped, Tick, Trace};
 use crate::why::reasons;
 use crate::wording::{kind, word};
-
-/// The headings of the table of ticks.
-pub fn headings() -> String {
-    HEADINGS.iter().map(|heading| format!("<th scope=\"col\">{heading}</th>")).collect()
-}
 
 /// A row a tick, with the identifiers of what it lights, and one for the tick that was refused.
 pub fn ticks(plan: &Plan, trace: &Trace) -> String {
@@ -67,11 +61,15 @@ fn table_row(
     cells: [String; 9],
     marks: &str,
 ) -> String {
+    let open: Vec<String> = stack.iter().map(|opened| node_id(opened.node)).collect();
+    with_cells(number, &open, lines, &(serving(plan, stack) + marks), cells)
+}
+
+/// The row of a tick: the identifiers of what is open and of the lines that it takes, other marks, and its cells.
+pub fn with_cells(number: usize, open: &[String], lines: &str, marks: &str, cells: [String; 9]) -> String {
     let cells: String = cells.iter().map(|cell| format!("<td>{cell}</td>")).collect();
-    let serving = serving(plan, stack);
-    let stack: Vec<String> = stack.iter().map(|opened| node_id(opened.node)).collect();
-    let stack = stack.join(" ");
-    format!("<tr id=\"tick-{number}\" data-stack=\"{stack}\" data-lines=\"{lines}\"{serving}{marks}>{cells}</tr>\n")
+    let open = open.join(" ");
+    format!("<tr id=\"tick-{number}\" data-stack=\"{open}\" data-lines=\"{lines}\"{marks}>{cells}</tr>\n")
 }
 
 /// The open schemes as they are named, where one of them serves another's number; elsewhere each is that of its node.
@@ -93,7 +91,7 @@ fn lines(plan: &Plan, tick: &Tick) -> Vec<String> {
 }
 
 /// Names, each in a frame of its own; a dash for none.
-fn chips(names: &[String]) -> String {
+pub fn chips(names: &[String]) -> String {
     if names.is_empty() {
         return "<span class=\"none\">\u{2013}</span>".to_string();
     }

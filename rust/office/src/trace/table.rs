@@ -2,7 +2,7 @@
 
 use fairleadow::Answer;
 
-use super::{Stopped, Tick, Trace};
+use super::{Coverage, Stopped, Tick, Trace};
 use crate::columns::aligned;
 use crate::marking::called;
 use crate::plan::Plan;
@@ -75,7 +75,8 @@ pub fn problem(plan: &Plan, trace: &Trace, stopped: &Stopped) -> Problem {
     Problem { words, ..told }
 }
 
-fn in_use(places: usize) -> String {
+/// How many places a full stack has.
+pub fn in_use(places: usize) -> String {
     match places {
         1 => "its one place in use".to_string(),
         _ => format!("all {places} places in use"),
@@ -106,8 +107,14 @@ pub fn never_taken(plan: &Plan, trace: &Trace) -> Vec<String> {
         arcs.len(),
         counted(all_arcs, "arc")
     );
-    let nodes =
-        nodes.into_iter().map(|at| format!("  node {} of {}", plan.node_title(at), plan.scheme_of(at)));
-    let arcs = arcs.into_iter().map(|arc| format!("  arc {}", plan.arc_title(arc)));
-    std::iter::once(head).chain(nodes).chain(arcs).collect()
+    let left = left(plan, &trace.coverage).into_iter().map(|line| format!("  {line}"));
+    std::iter::once(head).chain(left).collect()
+}
+
+/// The nodes and arcs that were never taken.
+pub fn left(plan: &Plan, coverage: &Coverage) -> Vec<String> {
+    let nodes = coverage.nodes_left().into_iter();
+    let nodes = nodes.map(|at| format!("node {} of {}", plan.node_title(at), plan.scheme_of(at)));
+    let arcs = coverage.arcs_left().into_iter().map(|arc| format!("arc {}", plan.arc_title(arc)));
+    nodes.chain(arcs).collect()
 }

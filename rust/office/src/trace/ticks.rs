@@ -85,27 +85,59 @@ pub struct Trace {
     pub coverage: Coverage,
 }
 
+/// A trace that is being made: the chart's table, and the state that the next tick finds.
+#[derive(Clone, Debug)]
+pub struct Run {
+    table: Vec<u8>,
+    state: State,
+    pub trace: Trace,
+}
+
+impl Run {
+    /// Prepares the chart's image once for all ticks, or tells why chart or stack size are refused.
+    pub fn begin(plan: &Plan, places: usize) -> Result<Run, Problem> {
+        let table = plan.image.as_ref().map_err(Problem::clone)?.prepared()?;
+        let trace = Trace { places, ticks: Vec::new(), stopped: None, coverage: Coverage::none(plan) };
+        Ok(Run { table, state: fresh(places)?, trace })
+    }
+
+    /// Makes the swaps of this tick and ticks once, or tells why a swap is refused. After a refused tick there is none.
+    pub fn tick(&mut self, plan: &Plan, word: u16, swaps: &[Swap]) -> Result<(), Problem> {
+        if self.trace.stopped.is_some() {
+            return Ok(());
+        }
+        let number = self.trace.ticks.len();
+        self.may_swap(swaps).map(|state| self.state = state)?;
+        let swaps = swaps::of_tick(swaps, number).copied().collect();
+        match tick(plan, &self.table, &mut self.state, swaps, word)? {
+            Ok(tick) => {
+                self.trace.coverage.note(&tick);
+                self.trace.ticks.push(tick);
+            }
+            Err(stopped) => self.trace.stopped = Some(stopped),
+        }
+        Ok(())
+    }
+
+    /// The state after the swaps of the next tick, or why one is refused.
+    pub fn may_swap(&self, swaps: &[Swap]) -> Result<State, Problem> {
+        let mut state = self.state;
+        swaps::make(swaps, self.trace.ticks.len(), &self.table, &mut state)?;
+        Ok(state)
+    }
+
+    /// What is open now, the bottom first.
+    pub fn open(&self, plan: &Plan) -> Vec<Opened> {
+        stack(plan, &self.state)
+    }
+}
+
 /// Prepares the chart's image once and ticks it over the words, with swaps before some of them, or tells why chart, stack size or a swap
 /// are refused.
 pub fn trace(plan: &Plan, places: usize, words: &[u16], swaps: &[Swap]) -> Result<Trace, Problem> {
-    let table = plan.image.as_ref().map_err(Problem::clone)?.prepared()?;
-    let mut state = fresh(places)?;
-    let mut trace = Trace { places, ticks: Vec::new(), stopped: None, coverage: Coverage::none(plan) };
-    for (number, word) in words.iter().enumerate() {
-        swaps::make(swaps, number, &table, &mut state)?;
-        let swaps = swaps::of_tick(swaps, number).copied().collect();
-        match tick(plan, &table, &mut state, swaps, *word)? {
-            Ok(tick) => {
-                trace.coverage.note(&tick);
-                trace.ticks.push(tick);
-            }
-            Err(stopped) => {
-                trace.stopped = Some(stopped);
-                break;
-            }
-        }
-    }
-    Ok(trace)
+    let mut run = Run::begin(plan, places)?;
+    words.iter().try_for_each(|word| run.tick(plan, *word, swaps))?;
+    Ok(run.trace)
 }
 
 /// A fresh state, or why there is none of so many places.

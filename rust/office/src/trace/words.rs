@@ -4,11 +4,22 @@ use std::ffi::OsStr;
 use std::path::Path;
 
 use crate::command::Failure;
-use crate::problem::{shortened, shown_name, visible, Problem};
+use crate::names::Names;
+use crate::notation::{condition, nearest, Word};
+use crate::problem::{shortened, shown_name, thousands, visible, Problem};
 use crate::source;
 
 /// How many ticks are made where the words have no end of their own.
 pub const TICKS: usize = 64;
+
+/// The most words of a list or of a scenario.
+pub const MOST_WORDS: usize = 65_536;
+
+/// How a word without any condition is written.
+pub const NO_CONDITION: &str = "-";
+
+/// What stands before the seed of random words.
+const RANDOM: &str = "random:";
 
 /// Where words come from.
 #[derive(Clone, Debug, PartialEq, Eq)]
@@ -19,34 +30,48 @@ pub enum Words {
 }
 
 impl Words {
-    /// From what was given: `random:SEED`, `count`, a list that begins with a digit, or the name of a file, where `-`
-    /// is standard input.
-    pub fn given(text: impl AsRef<OsStr>) -> Result<Words, Failure> {
+    /// From what was given: `random:SEED`, `count`, a list that begins with a digit or is of these names alone, or the name of a file,
+    /// where `-` is standard input.
+    pub fn given(text: impl AsRef<OsStr>, names: &Names) -> Result<Words, Failure> {
         let file = text.as_ref();
         // what is no text can only be a file
         let text = file.to_str().unwrap_or("");
+        let begins_list = |first: char| first.is_ascii_digit();
+        match Words::written(text, names) {
+            _ if text == NO_CONDITION => {}
+            Ok(words) => return Ok(words),
+            Err(message) if text.starts_with(RANDOM) || text.starts_with(begins_list) => {
+                return Err(Failure::Usage(message));
+            }
+            Err(message) if is_like_a_list(text) && !Path::new(file).exists() => {
+                let is_list = text.contains(['*', '+']) || text.starts_with(NO_CONDITION);
+                let no_file = format!("there is no file {}, and ", repeated(text));
+                return Err(Failure::Usage(if is_list { message } else { no_file + &message }));
+            }
+            Err(_) => {}
+        }
+        let forms =
+            "words are random:SEED, count, a list such as 0,1,0x8004 or wood*3,wood+bore,-, or a file";
+        let bytes = source::read(file).map_err(|problem| problem.advice(forms));
+        bytes.and_then(|bytes| lines(&bytes, names)).map_err(|problem| Failure::of(file, problem))
+    }
+
+    /// From what is written out, without a file: `random:SEED`, `count`, or a list by numbers and these names.
+    pub fn written(text: &str, names: &Names) -> Result<Words, String> {
         if text == "count" {
             return Ok(Words::Counted);
         }
-        if let Some(seed) = text.strip_prefix("random:") {
-            let told = |_| {
-                let seed = visible(text);
-                Failure::Usage(format!("the seed of {seed} is no number from 0 to {}", u64::MAX))
-            };
-            return seed.parse().map(Words::Random).map_err(told);
-        }
-        if text.starts_with(|first: char| first.is_ascii_digit()) {
-            return listed(text).map_err(Failure::Usage);
-        }
-        let is_word = |piece: &str| is_hexadecimal(piece) || word(piece).is_ok();
-        if !Path::new(file).exists() && text.split(',').map(str::trim).all(is_word) {
-            let told =
-                |message| Failure::Usage(format!("there is no file {}, and {message}", repeated(text)));
-            return listed(text).map_err(told);
-        }
-        let forms = "words are random:SEED, count, a list such as 0,1,0x8004, or a file";
-        let bytes = source::read(file).map_err(|problem| problem.advice(forms));
-        bytes.and_then(|bytes| lines(&bytes)).map_err(|problem| Failure::of(file, problem))
+        let Some(seed) = text.strip_prefix(RANDOM) else {
+            return listed(text, names).map(Words::List);
+        };
+        let told = |_| format!("the seed of {} is no number from 0 to {}", visible(text), u64::MAX);
+        seed.parse().map(Words::Random).map_err(told)
+    }
+
+    /// How many words a list has that stands in the call; none where it is no list.
+    pub fn listed(text: &OsStr, names: &Names) -> Option<usize> {
+        let text = text.to_str().filter(|text| *text != NO_CONDITION)?;
+        listed(text, names).ok().map(|list| list.len())
     }
 
     /// So many words. A list is taken once where no number is given, and begins again where the number is larger.
@@ -59,25 +84,50 @@ impl Words {
     }
 }
 
+/// Whether there is nothing in it but what a list is made of.
+fn is_like_a_list(text: &str) -> bool {
+    !text.is_empty() && text.chars().all(|c| c.is_alphanumeric() || "_,+*- ".contains(c))
+}
+
 /// A list as it was given, as it can be seen and cut where it is long.
 fn repeated(list: &str) -> String {
     shortened(&shown_name(list), "word")
 }
 
 /// Words with commas between them.
-fn listed(text: &str) -> Result<Words, String> {
-    let list: Result<Vec<u16>, String> = text.split(',').map(|piece| word(piece.trim())).collect();
-    list.map(Words::List).map_err(|message| format!("in the words {}: {message}", repeated(text)))
+fn listed(text: &str, names: &Names) -> Result<Vec<u16>, String> {
+    let told = |message: String| format!("in the words {}: {message}", repeated(text));
+    let mut list = Vec::new();
+    for piece in text.split(',') {
+        let (word, times) = repeats(piece.trim(), names).map_err(told)?;
+        if list.len() + times > MOST_WORDS {
+            return Err(told(format!("a list has at most {} words", thousands(MOST_WORDS))));
+        }
+        list.extend(std::iter::repeat_n(word, times));
+    }
+    Ok(list)
 }
 
-/// One word a line; what stands after a # is a comment.
-fn lines(bytes: &[u8]) -> Result<Words, Problem> {
+/// One word a line, perhaps more than once; what stands after a # is a comment.
+fn lines(bytes: &[u8], names: &Names) -> Result<Words, Problem> {
     let text = String::from_utf8_lossy(bytes);
     let mut list = Vec::new();
     for (at, line) in text.trim_start_matches('\u{FEFF}').lines().enumerate() {
         let piece = line.split('#').next().unwrap_or("").trim();
         if !piece.is_empty() {
-            list.push(word(piece).map_err(|message| Problem::new(format!("line {}: {message}", at + 1)))?);
+            let told = |message: String| {
+                let advice =
+                    if is_of_a_scenario(piece) { "a scenario, which is given by --scenario" } else { "" };
+                Problem::new(format!("line {}: {message}", at + 1)).advice(advice)
+            };
+            let (word, times) = repeats(piece, names).map_err(told)?;
+            if times > 1 && list.len() + times > MOST_WORDS {
+                return Err(told(format!(
+                    "with this line there are more than {} words",
+                    thousands(MOST_WORDS)
+                )));
+            }
+            list.extend(std::iter::repeat_n(word, times));
         }
     }
     if list.is_empty() {
@@ -86,13 +136,71 @@ fn lines(bytes: &[u8]) -> Result<Words, Problem> {
     Ok(Words::List(list))
 }
 
+/// Whether a line says more than a word.
+pub fn is_of_a_scenario(line: &str) -> bool {
+    let first = line.split_whitespace().next();
+    line.contains(';') || line.contains(" until ") || matches!(first, Some("swap" | "places"))
+}
+
+/// A word, and how often it is given: `wood*3` is three times.
+fn repeats(piece: &str, names: &Names) -> Result<(u16, usize), String> {
+    let Some((word, count)) = piece.rsplit_once('*') else { return Ok((self::word(piece, names)?, 1)) };
+    Ok((self::word(word.trim_end(), names)?, times(count.trim_start())?))
+}
+
+/// How often a word is given.
+pub fn times(count: &str) -> Result<usize, String> {
+    let is_number = !count.is_empty() && count.bytes().all(|digit| digit.is_ascii_digit());
+    let number = is_number.then(|| count.parse::<usize>().unwrap_or(usize::MAX));
+    match number {
+        Some(number) if (1..=MOST_WORDS).contains(&number) => Ok(number),
+        _ => Err(format!("'{}', where a number from 1 to {MOST_WORDS} belongs after *", visible(count))),
+    }
+}
+
+/// A word: a number, or the names of the conditions that are 1 with + between them, or - where none is.
+fn word(piece: &str, names: &Names) -> Result<u16, String> {
+    if piece == NO_CONDITION {
+        return Ok(0);
+    }
+    if !piece.starts_with(|first: char| first.is_alphabetic() || first == '_') {
+        return number(piece);
+    }
+    piece.split('+').try_fold(0, |word, name| joined(word, name.trim(), names))
+}
+
+/// A word with one condition more.
+pub fn joined(word: u16, name: &str, names: &Names) -> Result<u16, String> {
+    let bit = bit(name, names)?;
+    match word & bit {
+        0 => Ok(word | bit),
+        _ => Err(format!("'{}' stands twice", visible(name))),
+    }
+}
+
+/// The word of one condition by its name.
+fn bit(name: &str, names: &Names) -> Result<u16, String> {
+    let own = Word { text: name.to_string(), column: 1 };
+    let is_name = own.is_name() && own.is_letters();
+    if let Some(number) = condition(names, name) {
+        return Ok(1 << number);
+    }
+    let near = nearest(name, names.conditions.values().map(String::as_str));
+    match near {
+        Some(near) => Err(format!("no condition is named '{}'; '{near}' is near to it", visible(name))),
+        None if is_name && is_hexadecimal(name) => number(name),
+        None if is_name => Err(format!("no condition is named '{}'", visible(name))),
+        None => Err(format!("'{}' is no name of a condition", visible(name))),
+    }
+}
+
 /// Whether this could be a word in hexadecimal without its 0x.
 fn is_hexadecimal(piece: &str) -> bool {
     (1..=4).contains(&piece.len()) && piece.bytes().all(|digit| digit.is_ascii_hexdigit())
 }
 
 /// A word in decimal, or in hexadecimal after 0x. What could be read as either, or as hexadecimal alone, is told so.
-fn word(piece: &str) -> Result<u16, String> {
+pub fn number(piece: &str) -> Result<u16, String> {
     let too_large = |_| format!("'{}' is more than 65535, the largest word", visible(piece));
     let (digits, radix) = match piece.strip_prefix("0x") {
         Some(digits) => (digits, 16),
@@ -136,7 +244,7 @@ mod tests {
 
     #[test]
     fn words_are_decimal_or_hexadecimal() {
-        let given = |text: &str| Words::given(text).expect("words");
+        let given = |text: &str| Words::given(text, &Names::default()).expect("words");
         assert_eq!(given("0,1, 0x8004,65535"), Words::List(vec![0, 1, 0x8004, 65535]));
         assert_eq!(given("count"), Words::Counted);
         assert_eq!(given("random:7"), Words::Random(7));
@@ -145,7 +253,7 @@ mod tests {
     #[test]
     fn a_piece_that_is_no_word_is_named() {
         for (given, told) in [
-            ("0,zz", "in the words 0,zz: 'zz' is no word"),
+            ("0,zz", "in the words 0,zz: no condition is named 'zz'"),
             ("0,,1", "in the words 0,,1: '' is no word"),
             ("0x", "in the words 0x: '0x' is no word"),
             ("0,65536", "in the words 0,65536: '65536' is more than 65535"),
@@ -161,22 +269,26 @@ mod tests {
             ("FFFF", "there is no file FFFF, and in the words FFFF: 'FFFF' could only be hexadecimal: write 0xFFFF"),
             ("F, 10", "there is no file F, 10, and in the words F, 10: 'F' could only be hexadecimal: write 0xF"),
             ("FFFF,0x10", "there is no file FFFF,0x10, and in the words FFFF,0x10: 'FFFF' could only be hexadecimal: "),
+            ("random", "there is no file random, and in the words random: no condition is named 'random'"),
+            ("ABCDE", "there is no file ABCDE, and in the words ABCDE: no condition is named 'ABCDE'"),
             ("random:x", "the seed of random:x is no number from 0 to 18446744073709551615"),
             ("random:\u{1B}[31m", "the seed of random:\\u{1b}[31m is no number"),
             ("0,\u{1B}[31m", "in the words 0,\\u{1b}[31m: '\\u{1b}[31m' is no word"),
         ] {
-            let Err(Failure::Usage(error)) = Words::given(given) else { panic!("{given} is no wrong call") };
+            let Err(Failure::Usage(error)) = Words::given(given, &Names::default()) else { panic!("{given} is no wrong call") };
             assert!(error.starts_with(told), "{given}: {error}");
         }
         for long in [format!("0{}x", ",0".repeat(9_000)), format!("FFFF{}", ",F".repeat(9_000))] {
-            let Err(Failure::Usage(error)) = Words::given(long) else {
+            let Err(Failure::Usage(error)) = Words::given(long, &Names::default()) else {
                 panic!("a long list is no wrong call")
             };
             assert!(error.contains(",... (9,001 words): ") && error.len() < 300, "{error}");
         }
-        for given in ["random", "no/such/file", "ABCDE"] {
-            let Err(Failure::Refused(error)) = Words::given(given) else { panic!("{given} is a file") };
-            let told = "there is no such file\n  look for: words are random:SEED, count, a list such as 0,1,0x8004, or";
+        for given in ["no/such/file", "words.txt", "./random"] {
+            let Err(Failure::Refused(error)) = Words::given(given, &Names::default()) else {
+                panic!("{given} is a file")
+            };
+            let told = "there is no such file\n  look for: words are random:SEED, count, a list such as 0,1,0x8004 or";
             assert!(error.starts_with(&format!("{given}: {told}")), "{error}");
         }
     }
@@ -184,9 +296,9 @@ mod tests {
     #[test]
     fn a_file_has_one_word_a_line_with_comments() {
         let text = b"# a rehearsal\n0\n0x10 # feeler\n\n65535\n";
-        assert_eq!(lines(text), Ok(Words::List(vec![0, 16, 65535])));
-        assert_eq!(lines(b"\xEF\xBB\xBF7\r\n8\r\n"), Ok(Words::List(vec![7, 8])));
-        let told = |bytes: &[u8]| lines(bytes).expect_err("a fault").words;
+        assert_eq!(lines(text, &Names::default()), Ok(Words::List(vec![0, 16, 65535])));
+        assert_eq!(lines(b"\xEF\xBB\xBF7\r\n8\r\n", &Names::default()), Ok(Words::List(vec![7, 8])));
+        let told = |bytes: &[u8]| lines(bytes, &Names::default()).expect_err("a fault").words;
         assert_eq!(told(b"# nothing\n"), "there is no word in it");
         assert_eq!(told(b"0\n1\n2 3\n"), "line 3: '2 3' is no word: write 0 to 65535, or 0x0 to 0xFFFF");
         assert_eq!(told(b"70000\n"), "line 1: '70000' is more than 65535, the largest word");

@@ -2,11 +2,12 @@
 
 use fairleadow::Answer;
 
-use super::{Asked, Subject};
+use super::Asked;
 use crate::explain;
 use crate::image::{Open, Row};
 use crate::kind::Kind;
 use crate::problem::{counted, Problem};
+use crate::subject::Subject;
 use crate::trace::Happening;
 use crate::wording::word;
 
@@ -88,7 +89,7 @@ fn conditions(subject: &Subject, asked: &Asked, mask: u16) -> Vec<String> {
 }
 
 /// Whether the row taken asks for the result, or another row of the label was shut out by it, or neither.
-enum Sort {
+pub enum Sort {
     Own,
     Other,
     Idle,
@@ -96,17 +97,22 @@ enum Sort {
 
 /// The result that was read, where the label is a function's.
 fn result(subject: &Subject, asked: &Asked, row: &Row) -> Option<(String, Sort)> {
+    let sort = sort(subject, asked, row)?;
+    Some((subject.result(subject.image.called(row.from), asked.cause.bit), sort))
+}
+
+/// What part the result had that was read, where the label is a function's.
+pub fn sort(subject: &Subject, asked: &Asked, row: &Row) -> Option<Sort> {
     let bit = asked.cause.bit;
     if bit == 2 {
         return None;
     }
     let shuts_out = |other: Row| other.result != 2 && other.result != bit;
-    let sort = match row.result {
+    Some(match row.result {
         2 if subject.image.rows_of(row.from).any(shuts_out) => Sort::Other,
         2 => Sort::Idle,
         _ => Sort::Own,
-    };
-    Some((subject.result(subject.image.called(row.from), bit), sort))
+    })
 }
 
 /// Refusal 18: the label whose rows the tick looked at.

@@ -5,6 +5,7 @@
 pub mod browser;
 pub mod called;
 pub mod played;
+pub mod readers;
 pub mod sheets;
 
 use std::path::{Path, PathBuf};
