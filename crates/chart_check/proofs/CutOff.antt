@@ -1,11 +1,13 @@
 -- Where refusals 4 to 6 find nothing, the nodes joined from all Begins together are, scheme by scheme, those joined from the Begin of the
 -- scheme.
-use Rattle.std.proofs.Common.{◌≡◌, refl, sym, ◌∙◌, ap, subst, Bool, true, false, ◌&&◌, not, List, [], ◌∷◌, ℕ, ◌≤◌, ◌<◌, zero-add, arith, nat_eq, ◌==◌}
+use Rattle.std.proofs.Common.{◌≡◌, refl, sym, ◌∙◌, ap, subst, Bool, true, false, ◌&&◌, not, List, [], ◌∷◌, ℕ, ◌≤◌, ◌<◌, zero-add, arith}
+use Rattle.std.proofs.Common.{nat_eq, ◌==◌, find}
 use Rattle.std.proofs.Common.{length, eqb-true, eq-eqb}
 use Rattle.std.proofs.lemmas.Grind.{common_steps}
-use Rattle.words.specs.lists.Numbers.{lowest, count}
+use Rattle.std.specs.List.{range_with_len}
+use Rattle.words.specs.lists.Numbers.{count}
 use Rattle.words.proofs.lists.Tests.{no_both, and-l, and-true, not-false, cases}
-use Rattle.words.proofs.lists.Searches.{lowest-hit, lowest-past, lowest-alike, any-false, highest-ge, some-both}
+use Rattle.words.proofs.lists.Searches.{lowest-hit, lowest-past, any-false, highest-ge, some-both}
 use Rattle.words.proofs.lists.Counts.{count-lowest, count-one}
 use Rattle.words.proofs.lists.Ranges.{length-map-range, get_or-map-range}
 use Rattle.words.specs.graph.Reach.{is_member, is_marked, reach, nodes_joined_from}
@@ -15,6 +17,7 @@ use Rattle.text.specs.frames.Frame.{size}
 use Rattle.charts.specs.Chart.{Chart, scheme, is, is_of, schemes, node_of, begin}
 use Rattle.charts.specs.Check.{has_bad_field, is_bad_scheme, arcs, is_bad_target, has_bad_arc, is_cut_off}
 use Rattle.charts.specs.inner.Marks.{kind_marks}
+use Rattle.chart_check.proofs.Found.{found-alike}
 use Rattle.charts.proofs.Nodes.{field-scheme, good-target, member-first}
 use Rattle.charts.proofs.Meaning.{member-only}
 use Rattle.chart_check.specs.inner.CheckContracts.{Passed4To6}
@@ -84,5 +87,6 @@ module _ (c : Chart) (passed : Passed4To6 c) where
   apart : (v : ℕ) → v < size c → not (is_marked joined v) ≡ is_cut_off c v
   apart v l = grind (arith, common_steps, cases, no_both, to-own, from-own)
 
-  pub lowest-apart : (ms : List Bool) → ms ≡ joined → lowest (λ v. not (is_marked ms v)) 0 (size c) ≡ lowest (is_cut_off c) 0 (size c)
-  lowest-apart ms e = grind (arith, common_steps, lowest-alike, apart)
+  pub lowest-apart : (ms : List Bool) → ms ≡ joined
+      → find (λ v. not (is_marked ms v)) (range_with_len 0 (size c)) ≡ find (is_cut_off c) (range_with_len 0 (size c))
+  lowest-apart ms e = grind (arith, common_steps, found-alike, apart)

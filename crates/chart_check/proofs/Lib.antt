@@ -1,1 +1,2 @@
 pub mod CutOff
+pub mod Found

@@ -1,2 +1,2 @@
 pub mod NodeCases
-pub mod Downward
+pub mod FaultCases

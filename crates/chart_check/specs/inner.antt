@@ -1,6 +1,5 @@
 pub mod CheckContracts
 pub mod FieldContracts
 pub mod Counts
-pub mod ArcContracts
 pub mod FinishContracts
 pub mod MarkContracts

@@ -1,9 +1,11 @@
 // Refusals 6 and 7: where arcs lead, and which schemes are called.
-ghost use Rattle.std.specs.Prelude.{◌≡◌, ◌||◌, ◌+◌, ◌*◌, ◌≤◌, ◌<◌, length};
+ghost use Rattle.std.specs.Prelude.{◌≡◌, ◌||◌, ◌+◌, ◌*◌, ◌≤◌, length, find};
+ghost use Rattle.std.specs.List.{range_with_len};
+ghost use Rattle.text.specs.frames.Frame.{size};
 ghost use Rattle.text.specs.frames.Answer.{reply, verdict_reply};
 ghost use Rattle.charts.specs.Chart.{next0, next1, schemes};
 ghost use Rattle.charts.specs.Check.{is_bad_target, has_bad_arc, has_bad_call};
-ghost use Rattle.chart_check.specs.inner.ArcContracts.{FaultsFound, arcs_verdict};
+ghost use Rattle.chart_check.specs.inner.CheckContracts.{arcs_verdict};
 
 use charts::field;
 use charts::layout::*;
@@ -66,28 +68,20 @@ fn bad_call(records: &[u8], highest: u8, v: usize) -> bool
     }
 }
 
-// The lowest node that 6 refuses and the lowest that 7 refuses.
-#[derive(Drop)]
-struct LowestFaults {
-    arc: Option<usize>,
-    call: Option<usize>,
+// The lowest node that 6 or 7 refuses, if there is one: all that an accepted chart is asked here.
+fn lowest_fault(records: &[u8], highest: u8) -> Option<usize>
+    requires { highest ≡ schemes records.now }
+    ensures { result ≡ find (λ v. has_bad_arc records.now v || has_bad_call records.now v)
+        (range_with_len 0 (size records.now)) }
+{
+    (0..records.len() / RECORD).find(|v| bad_arc(records, *v) || bad_call(records, highest, *v))
 }
 
-// 6 and 7 tried on each node, from the last one down: the node found last is the lowest.
-fn lowest_faults(records: &[u8], highest: u8) -> LowestFaults
-    requires { highest ≡ schemes records.now }
-    ensures { FaultsFound records.now result }
+// The lowest node that 6 refuses, if there is one.
+fn lowest_bad_arc(records: &[u8]) -> Option<usize>
+    ensures { result ≡ find (has_bad_arc records.now) (range_with_len 0 (size records.now)) }
 {
-    let n = records.len() / RECORD;
-    let mut arc = None;
-    let mut call = None;
-    let mut v = n;
-    while 0 < v {
-        v -= 1;
-        arc = bad_arc(records, v).then_some(v).or(arc);
-        call = bad_call(records, highest, v).then_some(v).or(call);
-    }
-    LowestFaults { arc, call }
+    (0..records.len() / RECORD).find(|v| bad_arc(records, *v))
 }
 
 /// Refusals 6 and 7 of nodes with at most `highest` schemes, each before the other for all nodes. Counts 0.
@@ -95,12 +89,12 @@ pub fn check_arcs(records: &[u8], highest: u8) -> Result<usize, Refusal>
     requires { highest ≡ schemes records.now }
     ensures { reply result ≡ verdict_reply (arcs_verdict records.now) 0 }
 {
-    let faults = lowest_faults(records, highest);
-    if let Some(v) = faults.arc {
-        return Err(Refusal::BadArc(v));
-    }
-    if let Some(v) = faults.call {
-        return Err(Refusal::BadCall(v));
+    if let Some(fault) = lowest_fault(records, highest) {
+        // where no arc is bad, the lowest fault is a call
+        return match lowest_bad_arc(records) {
+            Some(v) => Err(Refusal::BadArc(v)),
+            None => Err(Refusal::BadCall(fault)),
+        };
     }
     Ok(0)
 }

@@ -60,7 +60,7 @@ fn bad_use(records: &[u8], v: usize, kind: u8) -> bool
     }
 }
 
-// 4: node v has a field outside its values.
+/// 4: node v has a field outside its values.
 #[tactic(auto, unfolding(charts::specs::Check::has_bad_field))]
 pub fn bad_field(records: &[u8], v: usize) -> bool
     requires { RECORD * v + RECORD ≤ length records.now }

@@ -1,4 +1,4 @@
-// The handler, the scheme that is performed when the stack is full, and refusal 19: scheme 1 is marked, or a scheme beside one marked before.
+// The handler, the scheme that is performed when the stack is full; and refusal 19: scheme 1 is marked, or one beside another.
 ghost use Rattle.std.specs.Prelude.{◌≡◌, ◌+◌, ◌*◌, ◌≤◌, length};
 ghost use Rattle.charts.specs.Chart.{is_handler_mark, handler};
 ghost use Rattle.charts.specs.Check.{has_bad_marks};
@@ -32,7 +32,7 @@ pub fn handler_scheme(records: &[u8]) -> u8
     highest
 }
 
-// 19: scheme 1 is marked, or a second Begin is.
+/// 19: scheme 1 is marked, or a second Begin is.
 pub fn bad_marks(records: &[u8]) -> bool
     ensures { result ≡ has_bad_marks records.now }
 {

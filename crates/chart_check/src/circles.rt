@@ -1,6 +1,6 @@
 // Refusal 8: a circle of conditions.
-ghost use Rattle.std.specs.Prelude.{◌≡◌, ◌<◌, length};
-ghost use Rattle.words.specs.lists.Numbers.{lowest};
+ghost use Rattle.std.specs.Prelude.{◌≡◌, ◌<◌, length, find};
+ghost use Rattle.std.specs.List.{range_with_len};
 ghost use Rattle.words.specs.graph.Reach.{is_marked, nodes_joined_from};
 ghost use Rattle.text.specs.frames.Frame.{size};
 ghost use Rattle.charts.specs.Check.{arcs, condition_arcs, is_on_circle};
@@ -37,30 +37,25 @@ fn on_circle(records: &[u8], v: usize, list: &mut [u8]) -> bool
     field(records, v, KIND) == CONDITION && leads_back(records, v, &mut marks[..n], list)
 }
 
-// The lowest node on a circle, or the number of nodes. A finished node is on none, so only the others are tried.
-fn search_circle(records: &[u8], unfinished: &[bool], list: &mut [u8]) -> usize
+// The lowest node on a circle, if there is one. A finished node is on none, so only the others are tried.
+fn search_circle(records: &[u8], unfinished: &[bool], list: &mut [u8]) -> Option<usize>
     requires { DepthFirst records.now unfinished.now list.old }
-    ensures { result ≡ lowest (is_on_circle records.now) 0 (size records.now) }
+    ensures { result ≡ find (is_on_circle records.now) (range_with_len 0 (size records.now)) }
 {
-    let n = records.len() / RECORD;
-    let mut v: usize = 0;
-    while v < n {
-        if unfinished[v] {
-            if on_circle(records, v, list) {
-                return v;
-            }
+    for v in 0..unfinished.len() {
+        if unfinished[v] && on_circle(records, v, list) {
+            return Some(v);
         }
-        v += 1;
     }
-    v
+    None
 }
 
-// The lowest node that 8 refuses, or the number of nodes: at first all conditions are unfinished, then a search finishes what it can.
-// The list serves both as the path and for marks.
-pub fn lowest_circle(records: &[u8], unfinished: &mut [bool], list: &mut [u8]) -> usize
+/// The lowest node that 8 refuses, if there is one: at first all conditions are unfinished, then a search finishes what it can. The list
+/// serves both as the path and for marks.
+pub fn lowest_circle(records: &[u8], unfinished: &mut [bool], list: &mut [u8]) -> Option<usize>
     requires mark_each { length unfinished.old ≡ size records.now }
     requires node_room { NodeRoom records.now list.old }
-    ensures { result ≡ lowest (is_on_circle records.now) 0 (size records.now) }
+    ensures { result ≡ find (is_on_circle records.now) (range_with_len 0 (size records.now)) }
 {
     mark_kind(records, CONDITION, unfinished);
     finish_all(records, unfinished, list);

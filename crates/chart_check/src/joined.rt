@@ -1,6 +1,6 @@
 // Refusal 9, nodes that no arcs join from the Begin of their scheme; 8 and 9 in turn.
-ghost use Rattle.std.specs.Prelude.{◌≡◌, not, length};
-ghost use Rattle.words.specs.lists.Numbers.{lowest};
+ghost use Rattle.std.specs.Prelude.{◌≡◌, not, length, find};
+ghost use Rattle.std.specs.List.{range_with_len};
 ghost use Rattle.words.specs.graph.Reach.{is_marked, reach};
 ghost use Rattle.text.specs.frames.Frame.{size};
 ghost use Rattle.text.specs.frames.Answer.{reply, verdict_reply};
@@ -15,34 +15,35 @@ use charts::layout::BEGIN;
 use text::frames::Refusal;
 use text::frames::sizes::{NODES, RECORD};
 
-// The nodes that arcs join from some Begin are marked; the lowest other one, or the number of nodes. It is looked for only where not all
-// are marked.
-fn lowest_apart(records: &[u8], marks: &mut [bool], list: &mut [u8]) -> usize
+// The nodes that arcs join from some Begin are marked; the lowest other one, if there is one. It is looked for only where not all are
+// marked.
+fn lowest_apart(records: &[u8], marks: &mut [bool], list: &mut [u8]) -> Option<usize>
     requires mark_each { length marks.old ≡ size records.now }
     requires node_room { NodeRoom records.now list.old }
     ensures marks { marks.new ≡ reach (size records.now) (arcs records.now) (size records.now)
         (kind_marks records.now BEGIN) }
-    ensures lowest { result ≡ lowest (λ v. not (is_marked marks.new v)) 0 (size records.now) }
+    ensures lowest { result ≡ find (λ v. not (is_marked marks.new v)) (range_with_len 0 (size records.now)) }
 {
     mark_kind(records, BEGIN, marks);
     sweep(records, marks);
     let count = words::graph::list_marked(marks, list);
     if count == marks.len() {
-        return count;
+        return None;
     }
     let joined = join(records, false, marks, list, count);
     if joined == marks.len() {
-        return joined;
+        return None;
     }
-    words::graph::lowest_unmarked(marks)
+    let lowest = words::graph::lowest_unmarked(marks);
+    (lowest < marks.len()).then_some(lowest)
 }
 
-// The lowest node that 9 refuses, or the number of nodes. Arcs stay within a scheme, so the marks of all Begins serve every scheme.
-fn lowest_cut_off(records: &[u8], marks: &mut [bool], list: &mut [u8]) -> usize
+// The lowest node that 9 refuses, if there is one. Arcs stay within a scheme, so the marks of all Begins serve every scheme.
+fn lowest_cut_off(records: &[u8], marks: &mut [bool], list: &mut [u8]) -> Option<usize>
     requires passed { Passed4To6 records.now }
     requires mark_each { length marks.old ≡ size records.now }
     requires node_room { NodeRoom records.now list.old }
-    ensures { result ≡ lowest (is_cut_off records.now) 0 (size records.now) }
+    ensures { result ≡ find (is_cut_off records.now) (range_with_len 0 (size records.now)) }
 {
     lowest_apart(records, marks, list)
 }
@@ -54,19 +55,16 @@ fn try_joined(records: &[u8], marks: &mut [bool], list: &mut [u8]) -> Result<usi
     requires node_room { NodeRoom records.now list.old }
     ensures { reply result ≡ verdict_reply (joined_verdict records.now) 0 }
 {
-    let n = records.len() / RECORD;
-    let circle = lowest_circle(records, marks, list);
-    if circle < n {
-        return Err(Refusal::Circle(circle));
+    if let Some(v) = lowest_circle(records, marks, list) {
+        return Err(Refusal::Circle(v));
     }
-    let cut_off = lowest_cut_off(records, marks, list);
-    if cut_off < n {
-        return Err(Refusal::CutOff(cut_off));
+    if let Some(v) = lowest_cut_off(records, marks, list) {
+        return Err(Refusal::CutOff(v));
     }
     Ok(0)
 }
 
-// The same, with room for 256 nodes.
+/// Refusals 8 and 9 of nodes that 4, 5 and 6 pass, 8 before 9 for all nodes; each names the lowest such node. Counts 0.
 pub fn check_joined(records: &[u8]) -> Result<usize, Refusal>
     requires { Passed4To6 records.now }
     ensures { reply result ≡ verdict_reply (joined_verdict records.now) 0 }

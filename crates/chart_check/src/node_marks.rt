@@ -29,7 +29,7 @@ fn arc_count(records: &[u8], conditions: bool, v: usize) -> usize
     }
 }
 
-// The nodes that the arcs of node v lead to are marked, and listed in their order where they were not; how many are listed then.
+/// The nodes that the arcs of node v lead to are marked, and listed in their order where they were not; how many are listed then.
 pub fn follow(
     records: &[u8],
     conditions: bool,
@@ -54,7 +54,7 @@ pub fn follow(
     words::graph::enlist(marks, list, first, field(records, v, NEXT1))
 }
 
-// Every node that arcs join from a marked one is marked; the first of the list are the marked ones. How many are marked then.
+/// Every node that arcs join from a marked one is marked; the first of the list are the marked ones. How many are marked then.
 pub fn join(
     records: &[u8],
     conditions: bool,
@@ -114,10 +114,10 @@ fn mark_on(records: &[u8], v: usize, marks: &mut [bool])
     mark_next(records, v, marks);
 }
 
-// The arcs of each marked node are followed once, the lowest node first: a node that is marked on the way has its turn too, if it is a
-// higher one. Where to each node without a mark an arc leads from a lower one, all are marked then. What arcs join from the marks has not
-// changed. In a line of nodes `join` takes each from the list just after it was written there, and waits for it; here the next node is
-// known.
+/// The arcs of each marked node are followed once, the lowest node first: a node that is marked on the way has its turn too, if it is a
+/// higher one. Where to each node without a mark an arc leads from a lower one, all are marked then. What arcs join from the marks has not
+/// changed. In a line of nodes `join` takes each from the list just after it was written there, and waits for it; here the next node is
+/// known.
 pub fn sweep(records: &[u8], marks: &mut [bool])
     requires { length marks.old ≡ size records.now }
     ensures { marks.new ≡ marks_swept_to records.now (size records.now) marks.old }
@@ -128,7 +128,7 @@ pub fn sweep(records: &[u8], marks: &mut [bool])
     }
 }
 
-// The nodes of a kind are marked, and no others.
+/// The nodes of a kind are marked, and no others.
 pub fn mark_kind(records: &[u8], kind: u8, marks: &mut [bool])
     requires { length marks.old ≡ size records.now }
     ensures { marks.new ≡ kind_marks records.now kind }

@@ -7,6 +7,7 @@ use Rattle.text.specs.frames.Frame.{size}
 use Rattle.charts.specs.Chart.{Chart, scheme, schemes}
 use Rattle.charts.specs.Check.{has_bad_field}
 use Rattle.chart_check.specs.inner.Counts.{counts_to}
+use Rattle.chart_check.specs.inner.FieldContracts.{NodeAsked}
 use Rattle.text.specs.frames.Answer.{success, refusal, verdict_reply}
 use Rattle.text.specs.frames.Verdict.{at_lowest}
 use Rattle.text.proofs.frames.Chains.{lowest-refused, lowest-fine, judged-refused, judged-fine}
@@ -33,6 +34,12 @@ pub counting-none : (c : Chart) (n : ℕ) (bs es : List ℕ) → n ≡ size c �
     → es ≡ replicate 17 0 → CountingNodes c n 0 0 bs es
 unfolding highest
 counting-none c n bs es e p q = grind (arith, common_steps, searching-first, counts-start)
+
+-- a node with good fields may be counted
+pub node-asked : (c : Chart) (v k : ℕ) (counts : List ℕ) → counts ≡ counts_to c k v → v < size c → size c ≤ 256 → has_bad_field c v ≡ false
+    → NodeAsked c v k counts
+node-asked c v k counts e l few good =
+    record { few = omega arith; whole = omega arith; low = (field-scheme c v good).1; counted = e }
 
 module _ (c : Chart) (n v h : ℕ) (bs es : List ℕ) (d : CountingNodes c n v h bs es) where
   pub counting-turn : (h' s : ℕ) (bs' es' : List ℕ) → v < n → has_bad_field c v ≡ false → s ≡ scheme c v → h' ≡ max h s

@@ -1,5 +1,6 @@
 -- The counts of refusal 5: one node more, and a scheme by its counts.
-use Rattle.std.proofs.Common.{◌≡◌, refl, ◌∙◌, ap, Bool, List, ℕ, zero, suc, ◌+◌, ◌≤◌, ◌<◌, arith, length, set, replicate, eq-eqb, slice_index}
+use Rattle.std.proofs.Common.{◌≡◌, refl, ◌∙◌, ap, Bool, List, ℕ, zero, suc, ◌+◌, ◌≤◌, ◌<◌, arith, length, set, replicate, eq-eqb}
+use Rattle.std.proofs.Common.{slice_index}
 use Rattle.std.proofs.Common.{ne_eqb}
 use Rattle.std.proofs.lemmas.Grind.{common_steps}
 use Rattle.std.specs.List.{list_any, range_with_len}
@@ -33,6 +34,10 @@ module _ (c : Chart) (k : ℕ) where
 
     pub counts-low : (h : ℕ) → h < 17 → slice_index counts h ≤ v
     counts-low h l = omega (arith, counts-at h l, count-le (is_of c k h) 0 v)
+
+    -- the scheme of a good node has its place
+    pub counts-inside : (h : ℕ) → h ≡ scheme c v → scheme c v ≤ 16 → h < length counts
+    counts-inside h s l = omega (arith, counts-long)
 
     -- a node of another kind
     pub counts-pass : (x : ℕ) → x ≡ kind c v → (x ≡ k → ⊥) → counts ≡ counts_to c k (v + 1)

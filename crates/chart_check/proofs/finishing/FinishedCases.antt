@@ -1,5 +1,6 @@
 -- A depth-first search: a condition none of whose arcs leads to an unfinished one is on no circle.
-use Rattle.std.proofs.Common.{◌≡◌, sym, ◌∙◌, ap, ◌⊎◌, ⊎_elim, Bool, true, false, not, List, [], ◌∷◌, ℕ, ◌+◌, ◌-◌, ◌≤◌, ◌<◌, nat_eq, ◌==◌, slice_index}
+use Rattle.std.proofs.Common.{◌≡◌, sym, ◌∙◌, ap, ◌⊎◌, ⊎_elim, Bool, true, false, not, List, [], ◌∷◌, ℕ, ◌+◌, ◌-◌, ◌≤◌, ◌<◌, nat_eq, ◌==◌}
+use Rattle.std.proofs.Common.{slice_index, Option, None, Some, find}
 use Rattle.std.proofs.Common.{arith, length, set, length-set, eqb-true}
 use Rattle.std.proofs.lemmas.Grind.{common_steps}
 use Rattle.words.proofs.lists.Tests.{no_both, not-true, or-cases, cases}
@@ -11,7 +12,7 @@ use Rattle.text.specs.frames.Frame.{size}
 use Rattle.charts.specs.Chart.{Chart, kind, next0, next1, is}
 use Rattle.charts.specs.Check.{condition_arcs, is_on_circle}
 use Rattle.charts.specs.inner.Marks.{kind_marks}
-use Rattle.charts.specs.inner.Finished.{next_unfinished, NoneAhead, Finished}
+use Rattle.charts.specs.inner.Finished.{NoneAhead, Finished}
 use Rattle.charts.proofs.Nodes.{arcs-condition}
 use Rattle.charts.proofs.Meaning.{condition-arcs, leaves-condition, member-only}
 use Rattle.chart_check.proofs.node_marks.MarkCases.{no-circle}
@@ -22,13 +23,8 @@ finished-none c ms e = grind (arith, common_steps, no_both, length-map-range, ma
 
 -- ---- the next nodes, the one on a 0 first
 module _ (c : Chart) (ms : List Bool) (v : ℕ) where
-  module _ (a : ℕ) (p : a ≡ next0 c v) where
-    pub next-first : is_marked ms a ≡ true → a ≡ next_unfinished c ms v
-    next-first m = grind (arith, common_steps)
-
-    module _ (m : is_marked ms a ≡ false) (b : ℕ) (q : b ≡ next1 c v) where
-      pub next-second : is_marked ms b ≡ true → b ≡ next_unfinished c ms v
-      next-second t = grind (arith, common_steps)
+  abbrev pub ahead : Option ℕ
+  ahead = find (is_marked ms) (next0 c v ∷ next1 c v ∷ [])
 
   none_both : is_marked ms (next0 c v) ≡ false → is_marked ms (next1 c v) ≡ false → NoneAhead c ms v
   none_both a b u s =
@@ -40,8 +36,11 @@ module _ (c : Chart) (ms : List Bool) (v : ℕ) where
       (λ (e : is_member u (next1 c v ∷ []) ≡ true). ap (is_marked ms) (member-only u (next1 c v) e) ∙ b)
       (or-cases (u == next0 c v) (is_member u (next1 c v ∷ [])) (sym (some-cons (nat_eq u) (next0 c v) (next1 c v ∷ [])) ∙ t))
 
-  pub none-ahead : length ms ≡ size c → (r : ℕ) → r ≡ next_unfinished c ms v → size c ≤ r → NoneAhead c ms v
-  none-ahead e r q l = grind (arith, common_steps, cases, marked-below, next-first, next-second, none_both)
+  pub none-ahead : ahead ≡ None → NoneAhead c ms v
+  none-ahead e = grind (arith, common_steps, cases, none_both)
+
+  pub some-ahead : length ms ≡ size c → (u : ℕ) → ahead ≡ Some u → u < size c
+  some-ahead e u s = grind (arith, common_steps, cases, marked-below)
 
 -- ---- one more is finished
 module _ (ms : List Bool) (v : ℕ) where
@@ -75,9 +74,12 @@ pub record Standing (c : Chart) (unfinished : List Bool) (path : List ℕ) (left
   pub before : (i : ℕ) → i < depth → slice_index path i < size c
 
 module _ (c : Chart) (ms : List Bool) (path : List ℕ) (left depth at : ℕ) (s : Standing c ms path left depth at) where
-  module _ (r : ℕ) (q : r ≡ next_unfinished c ms at) (l : size c ≤ r) where
+  module _ (none : ahead c ms at ≡ None) where
     pub standing-end : Finished c (set ms at false)
-    standing-end = finished-more c ms s.finished at s.here (none-ahead c ms at s.finished.long r q l)
+    standing-end = finished-more c ms s.finished at s.here (none-ahead c ms at none)
 
     pub standing-back : (depth ≡ 0 → ⊥) → Standing c (set ms at false) path left (depth - 1) (slice_index path (depth - 1))
     standing-back n = grind (arith, common_steps, standing-end)
+
+  pub standing-on : (u : ℕ) → ahead c ms at ≡ Some u → 0 < left → Standing c ms (set path depth at) (left - 1) (depth + 1) u
+  standing-on u e l = grind (arith, common_steps, some-ahead, length-set)

@@ -1,10 +1,12 @@
 -- The arcs that marks follow, case by case, and the marks of Begins and of cut-off nodes.
 use Rattle.std.proofs.Common.{◌≡◌, refl, sym, ◌∙◌, ap, subst, Bool, false, not, List, [], ◌∷◌, ◌++◌, map, ℕ, zero, ◌==◌, slice_index_or}
+use Rattle.std.proofs.Common.{None, find, lt-ltb, le-ltb}
 use Rattle.std.proofs.Common.{suc, ◌+◌, ◌≤◌, ◌<◌, zero-add, add-one, arith, length, set, take, drop, replicate, drop-cons}
 use Rattle.std.proofs.Math.ListN.{length-replicate}
 use Rattle.std.proofs.Math.Seq.{set_at, append_snoc}
 use Rattle.std.proofs.lemmas.Grind.{common_steps}
-use Rattle.words.specs.lists.Numbers.{range, lowest}
+use Rattle.std.specs.List.{range_with_len}
+use Rattle.words.specs.lists.Numbers.{range}
 use Rattle.words.proofs.lists.Searches.{lowest-none}
 use Rattle.words.proofs.lists.Ranges.{length-map-range, map-range-snoc}
 use Rattle.words.specs.graph.Reach.{is_marked, only_marks, reach, nodes_joined_from}
@@ -17,6 +19,7 @@ use Rattle.charts.specs.Chart.{Chart, kind, next0, next1, is}
 use Rattle.charts.specs.Check.{arcs, condition_arcs, is_on_circle}
 use Rattle.charts.specs.inner.Marks.{arcs_by, kind_marks}
 use Rattle.chart_check.specs.inner.MarkContracts.{marks_swept_to, Blank, ListedRoom}
+use Rattle.chart_check.proofs.Found.{lowest-found}
 use Rattle.chart_check.proofs.node_marks.Sweeps.{swept-same}
 
 -- the arcs by their number
@@ -65,17 +68,14 @@ pub spread-back : (c : Chart) (v : ℕ) (first joined : List Bool) → first ≡
     → joined ≡ reach (size c) (condition_arcs c) (size c) first → joined ≡ nodes_joined_from (size c) (condition_arcs c) (arcs c v)
 spread-back c v first joined marks spread = spread ∙ ap (λ (xs : List Bool). reach (size c) (condition_arcs c) (size c) xs) marks
 
--- ---- the marks of all Begins, spread by a sweep and then all the way, and the lowest node without one
-pub spread-apart : (c : Chart) (begins swept joined : List Bool) (r : ℕ) → begins ≡ kind_marks c 0
-    → swept ≡ marks_swept_to c (size c) begins
-    → joined ≡ reach (size c) (arcs c) (size c) swept → length joined ≡ size c
-    → r ≡ lowest (λ v. not (is_marked joined v)) 0 (length joined)
-    → (joined ≡ reach (size c) (arcs c) (size c) (kind_marks c 0)) × (r ≡ lowest (λ v. not (is_marked joined v)) 0 (size c))
-spread-apart c begins swept joined r first sweep spread long found = grind (arith, common_steps, swept-same, length-map-range, long)
+-- ---- the marks of all Begins, spread by a sweep and then all the way
+pub spread-apart : (c : Chart) (begins swept joined : List Bool) → begins ≡ kind_marks c 0 → swept ≡ marks_swept_to c (size c) begins
+    → joined ≡ reach (size c) (arcs c) (size c) swept → joined ≡ reach (size c) (arcs c) (size c) (kind_marks c 0)
+spread-apart c begins swept joined first sweep spread = grind (arith, common_steps, swept-same, length-map-range)
 
 -- where as many are marked as there are, there is none without
-pub all-marked : (ms : List Bool) → many ms ≡ length ms → length ms ≡ lowest (λ v. not (is_marked ms v)) 0 (length ms)
-all-marked ms e = grind (arith, common_steps, zero-add, full-marked, lowest-none)
+pub all-marked : (ms : List Bool) (n : ℕ) → length ms ≡ n → many ms ≡ n → None ≡ find (λ v. not (is_marked ms v)) (range_with_len 0 n)
+all-marked ms n long e = grind (arith, common_steps, zero-add, full-marked, lowest-none, lowest-found, lt-ltb, le-ltb)
 
 -- ---- marks that a table of 256 lends
 pub part_of : {A : Type 0} (m n : ℕ) (a : A) → n ≤ m → take n (replicate m a) ≡ replicate n a

@@ -2,11 +2,15 @@
 use Rattle.std.specs.Prelude.{◌≤◌, ◌≡◌, false}
 use Rattle.words.specs.lists.Numbers.{lowest, any}
 use Rattle.text.specs.declared.frames.sizes.TheConstants.{NODES}
-use Rattle.text.specs.declared.frames.refusals.TheConstants.{CIRCLE, CUT_OFF}
+use Rattle.text.specs.declared.frames.refusals.TheConstants.{BAD_ARC, BAD_CALL, CIRCLE, CUT_OFF}
 use Rattle.text.specs.frames.Frame.{size}
 use Rattle.text.specs.frames.Verdict.{Verdict, next, at_lowest}
 use Rattle.charts.specs.Chart.{Chart, schemes}
-use Rattle.charts.specs.Check.{has_bad_field, is_bad_scheme, has_bad_arc, is_on_circle, is_cut_off}
+use Rattle.charts.specs.Check.{has_bad_field, is_bad_scheme, has_bad_arc, has_bad_call, is_on_circle, is_cut_off}
+
+-- 6 and 7
+abbrev pub arcs_verdict : Chart → Verdict
+arcs_verdict c = next (at_lowest BAD_ARC (has_bad_arc c) (size c)) λ _. at_lowest BAD_CALL (has_bad_call c) (size c)
 
 -- 8 and 9
 abbrev pub joined_verdict : Chart → Verdict

@@ -1,14 +1,9 @@
 -- Conditions that a depth-first search has finished, so that they are known to be on no circle; the others are marked as unfinished.
-use Rattle.std.specs.Prelude.{ℕ, ◌<◌, ◌≡◌, Bool, true, false, List, length, if◌then◌else◌}
+use Rattle.std.specs.Prelude.{ℕ, ◌<◌, ◌≡◌, Bool, true, false, List, length}
 use Rattle.words.specs.graph.Reach.{is_member, is_marked}
 use Rattle.text.specs.frames.Frame.{size}
-use Rattle.charts.specs.Chart.{Chart, next0, next1}
+use Rattle.charts.specs.Chart.{Chart}
 use Rattle.charts.specs.Check.{condition_arcs, is_on_circle}
-
--- an unfinished next node of condition v, the one on a 0 first, or the number of nodes
-abbrev pub next_unfinished : Chart → List Bool → ℕ → ℕ
-next_unfinished c unfinished v =
-    if is_marked unfinished (next0 c v) then next0 c v else if is_marked unfinished (next1 c v) then next1 c v else size c
 
 -- no arc of condition v leads to an unfinished node
 abbrev pub NoneAhead : Chart → List Bool → ℕ → Type 0

@@ -1,7 +1,6 @@
-use Rattle.std.proofs.Common.{rules, ◌≡◌, false, sym, ◌∙◌, arith, max}
-use Rattle.charts.specs.Check.{has_bad_field}
-use Rattle.charts.proofs.Nodes.{field-scheme}
-use Rattle.chart_check.proofs.chart_counts.PassLoops.{counting-none, counting-turn, counting-stop, counting-all}
+-- `chart_check::chart_counts::count_schemes` meets its contract: each node passed has good fields and is counted.
+use Rattle.std.proofs.Common.{rules, ◌≡◌, sym, ◌∙◌, arith, max}
+use Rattle.chart_check.proofs.chart_counts.PassLoops.{counting-none, counting-turn, counting-stop, counting-all, node-asked}
 use Rattle.chart_check.proofs.chart_counts.count_schemes.Goals as goal
 use Rattle.chart_check.proofs.chart_counts.count_schemes.Goals.{then-highest-scheme, else-highest-scheme}
 
@@ -14,23 +13,20 @@ returns-then-bad_field-clause-told c =
 
 pub count_node-requires : goal.count_node-requires
 count_node-requires c =
-    let good : has_bad_field c.args.records.now c.loop-v.v ≡ false = sym c.bad_field.ensures ∙ c.if-bad_field.false in
-    record { few = search rules; whole = search rules; low = (field-scheme _ _ good).1; counted = c.loop-v.invariant.begins }
+    node-asked _ _ _ _ c.loop-v.invariant.begins (search rules) c.requires.few (sym c.bad_field.ensures ∙ c.if-bad_field.false)
 
 pub count_node-requires-in-loop-v : goal.count_node-requires-in-loop-v
 count_node-requires-in-loop-v c =
-    let good : has_bad_field c.args.records.now c.loop-v.v ≡ false = sym c.bad_field.ensures ∙ c.if-bad_field.false in
-    record { few = search rules; whole = search rules; low = (field-scheme _ _ good).1; counted = c.loop-v.invariant.ends }
+    node-asked _ _ _ _ c.loop-v.invariant.ends (search rules) c.requires.few (sym c.bad_field.ensures ∙ c.if-bad_field.false)
 
 pub loop-v-preserved : goal.loop-v-preserved
 loop-v-preserved c =
-    let good : has_bad_field c.args.records.now c.loop-v.v ≡ false = sym c.bad_field.ensures ∙ c.if-bad_field.false in
     let highest : c.if-highest-scheme.highest ≡ max c.loop-v.highest c.field-scheme.result = elim c.if-highest-scheme.branch [
       | then-highest-scheme w ↦ omega (arith, w.highest-is, w.if-highest-scheme.true)
       | else-highest-scheme w ↦ omega (arith, w.highest-is, w.if-highest-scheme.false)
     ] in
-    counting-turn _ _ _ _ _ _ c.loop-v.invariant _ _ _ _ (search rules) good c.field-scheme.ensures highest
-    c.count_node.ensures c.count_node-in-loop-v.ensures
+    counting-turn _ _ _ _ _ _ c.loop-v.invariant _ _ _ _ (search rules) (sym c.bad_field.ensures ∙ c.if-bad_field.false)
+    c.field-scheme.ensures highest c.count_node.ensures c.count_node-in-loop-v.ensures
 
 pub returns : goal.returns
 returns c =

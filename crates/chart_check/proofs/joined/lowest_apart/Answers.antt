@@ -1,24 +1,24 @@
 -- `chart_check::joined::lowest_apart` meets its contract: the Begins are marked, the marks spread, by a sweep and then by the list; where
 -- some node has none, the lowest is found.
-use Rattle.std.proofs.Common.{◌≡◌, sym, ◌∙◌, length, rules}
+use Rattle.std.proofs.Common.{◌≡◌, sym, ◌∙◌, length, rules, arith}
+use Rattle.std.proofs.lemmas.Grind.{common_steps}
 use Rattle.words.specs.graph.inner.Listed.{many}
 use Rattle.words.proofs.graph.Marking.{full-reach}
 use Rattle.words.proofs.graph.MarkedNodes.{listed-lowest}
 use Rattle.text.specs.frames.Frame.{size}
 use Rattle.charts.specs.Check.{arcs}
+use Rattle.chart_check.proofs.Found.{found-below}
 use Rattle.chart_check.proofs.node_marks.MarkCases.{spread-apart, all-marked}
 use Rattle.chart_check.proofs.joined.lowest_apart.Goals as goal
 
-pub returns-then-count-marks : goal.returns-then-count-marks
-returns-then-count-marks c =
-    let long : length c.sweep.new.marks ≡ size c.args.records.now =
-    c.sweep.auto.marks ∙ c.mark_kind.auto.marks ∙ c.requires.mark_each in
+pub returns-then-count-marks-clause-marks : goal.returns-then-count-marks-clause-marks
+returns-then-count-marks-clause-marks c =
     let records = c.args.records.now in
     let full : many c.sweep.new.marks ≡ length c.sweep.new.marks = sym c.list_marked-count.ensures.1 ∙ c.if-count-marks.true in
-    let both = spread-apart records _ _ _ _ c.mark_kind.ensures c.sweep.ensures
-    (full-reach _ full (size records) (arcs records) long) long
-    (c.if-count-marks.true ∙ all-marked c.sweep.new.marks full) in
-    record { marks = both.0; lowest = both.1 }
+    spread-apart records _ _ _ c.mark_kind.ensures c.sweep.ensures (full-reach _ full (size records) (arcs records) (search rules))
+
+pub returns-then-count-marks-clause-lowest : goal.returns-then-count-marks-clause-lowest
+returns-then-count-marks-clause-lowest c = all-marked c.sweep.new.marks (size c.args.records.now) (search rules) (search rules)
 
 pub join-joined-requires : goal.join-joined-requires
 join-joined-requires c =
@@ -28,20 +28,16 @@ join-joined-requires c =
       listed = listed-lowest _ _ _ _ c.list_marked-count.ensures;
     }
 
-pub returns-then-joined-marks : goal.returns-then-joined-marks
-returns-then-joined-marks c =
-    let long : length c.sweep.new.marks ≡ size c.args.records.now =
-    c.sweep.auto.marks ∙ c.mark_kind.auto.marks ∙ c.requires.mark_each in
-    let join = c.join-joined in
-    let both = spread-apart c.args.records.now _ _ _ _ c.mark_kind.ensures c.sweep.ensures join.ensures.marks
-    (join.auto.marks ∙ long) (c.if-joined-marks.true ∙ all-marked join.new.marks (sym join.ensures.many ∙ c.if-joined-marks.true)) in
-    record { marks = both.0; lowest = both.1 }
+pub returns-then-joined-marks-clause-marks : goal.returns-then-joined-marks-clause-marks
+returns-then-joined-marks-clause-marks c =
+    spread-apart c.args.records.now _ _ _ c.mark_kind.ensures c.sweep.ensures c.join-joined.ensures.marks
 
-pub returns : goal.returns
-returns c =
-    let long : length c.sweep.new.marks ≡ size c.args.records.now =
-    c.sweep.auto.marks ∙ c.mark_kind.auto.marks ∙ c.requires.mark_each in
-    let join = c.join-joined in
-    let both = spread-apart c.args.records.now _ _ _ _ c.mark_kind.ensures c.sweep.ensures join.ensures.marks
-    (join.auto.marks ∙ long) c.lowest_unmarked.ensures in
-    record { marks = both.0; lowest = both.1 }
+pub returns-then-joined-marks-clause-lowest : goal.returns-then-joined-marks-clause-lowest
+returns-then-joined-marks-clause-lowest c = all-marked c.join-joined.new.marks (size c.args.records.now) (search rules) (search rules)
+
+pub returns-clause-marks : goal.returns-clause-marks
+returns-clause-marks c =
+    spread-apart c.args.records.now _ _ _ c.mark_kind.ensures c.sweep.ensures c.join-joined.ensures.marks
+
+pub returns-clause-lowest : goal.returns-clause-lowest
+returns-clause-lowest c = grind (arith, common_steps, found-below)
