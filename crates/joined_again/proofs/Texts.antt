@@ -1,7 +1,8 @@
 -- What holds of every text that is made smaller:
 -- its groups meet the rule and are the fewest, what is written is accepted, and given back it is written again.
-use Rattle.std.proofs.Common.{ℕ, ◌/◌, ◌≤◌, Bool, false, ◌≡◌, sym, ◌∙◌, ap, ap₂, List, arith, length, take}
+use Rattle.std.proofs.Common.{ℕ, ◌/◌, ◌≤◌, Bool, false, ◌≡◌, sym, ◌∙◌, ap, ap₂, List, arith, length, map, take}
 use Rattle.words.specs.lists.Sequences.{over}
+use Rattle.text.specs.digits.Digit.{capital}
 use Rattle.text.specs.frames.Frame.{contents}
 use Rattle.text.specs.frames.Verdict.{Verdict, fine, next, when}
 use Rattle.text.specs.frames.Answer.{success, buffer_on}
@@ -11,6 +12,7 @@ use Rattle.image.specs.Decode.{decoded_image}
 use Rattle.image.specs.Check.{image_verdict}
 use Rattle.image.specs.inner.Sound.{SoundImage}
 use Rattle.image.proofs.Accepted.{image-sound}
+use Rattle.translator.proofs.Capitals.{image-capitals}
 use Rattle.covering.specs.Matched.{is_uneven}
 use Rattle.grouping.specs.Rule.{Grouping, Meets, groups}
 use Rattle.grouping.specs.Classes.{class_of, grouping}
@@ -18,7 +20,7 @@ use Rattle.grouping.proofs.Coarsest.{even-meets, even-fewest}
 use Rattle.minimising.specs.group_numbers.Smaller.{smaller_image}
 use Rattle.minimising.specs.Entry.{minimise_verdict, minimise}
 use Rattle.joined_again.proofs.Shorter.{fewest-labels}
-use Rattle.joined_again.proofs.Again.{smaller-even, smaller-again, smaller-passes, smaller-decoded, AllowedImage, minimise-allowed}
+use Rattle.joined_again.proofs.Again.{smaller-even, smaller-again, smaller-passes, smaller-sound, smaller-decoded, AllowedImage, minimise-allowed}
 
 module _ (t : List ℕ) (ok : minimise_verdict t ≡ fine) where
   abbrev image : Image
@@ -48,6 +50,9 @@ module _ (t : List ℕ) (ok : minimise_verdict t ≡ fine) where
 
   pub text-same : smaller_image (smaller_image image) ≡ smaller_image image
   text-same = smaller-again image sound allowed.even
+
+  pub text-capitals : map capital (image_text (smaller_image image)) ≡ image_text (smaller_image image)
+  text-capitals = image-capitals (smaller_image image) (smaller-sound image sound allowed.even)
 
 -- ---- given back
 text-again : (i : Image) (S : SoundImage i) (even : is_uneven i ≡ false) (old : List ℕ) → length (image_text (smaller_image i)) ≤ length old

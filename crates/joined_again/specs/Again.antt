@@ -1,7 +1,8 @@
 -- Of every image that nothing but 16 refuses to make smaller: the smaller image is accepted, 23 does not refuse it, and made smaller again
--- it is itself.
-use Rattle.std.specs.Prelude.{ℕ, ◌≤◌, false, ◌≡◌, List, length, take}
+-- it is itself; its text is in capitals.
+use Rattle.std.specs.Prelude.{ℕ, ◌≤◌, false, ◌≡◌, List, length, map, take}
 use Rattle.words.specs.lists.Sequences.{over}
+use Rattle.text.specs.digits.Digit.{capital}
 use Rattle.text.specs.frames.Frame.{contents}
 use Rattle.text.specs.frames.Verdict.{fine}
 use Rattle.text.specs.frames.Answer.{success}
@@ -30,3 +31,9 @@ abbrev pub MinimiseAgain : Type 0
 MinimiseAgain =
     (t old : List ℕ) (n : ℕ) → (minimise t old).reply ≡ success n → (again : List ℕ) → n ≤ length again
     → let u = take n (minimise t old).buffer in minimise u again ≡ record { reply = success n; buffer = over u again }
+
+-- whatever letters the image given has
+abbrev pub SmallerCapitals : Type 0
+SmallerCapitals =
+    (t : List ℕ) → minimise_verdict t ≡ fine
+    → let u = image_text (smaller_image (decoded_image (contents t))) in map capital u ≡ u

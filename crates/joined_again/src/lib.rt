@@ -3,7 +3,7 @@
 #![tactic(auto)]
 
 ghost use Rattle.joined_again.specs.Fewest.{FewestLabels, NeverLonger, CountNoLonger};
-ghost use Rattle.joined_again.specs.Again.{SmallerPasses, SmallerEven, SmallerAgain, MinimiseAgain};
+ghost use Rattle.joined_again.specs.Again.{SmallerPasses, SmallerEven, SmallerAgain, MinimiseAgain, SmallerCapitals};
 
 /// Of every image that nothing but 16 refuses to make smaller: the smaller image has no more labels than any grouping by the rule has
 /// groups, and its text is never longer than the one given.
@@ -13,10 +13,12 @@ pub fn joined_image_is_smallest()
     ensures count { CountNoLonger }
 {}
 
-/// The smaller image is accepted, 23 does not refuse it, and joined again it is itself, as an image and as the text that `minimise` writes.
+/// The smaller image is accepted, 23 does not refuse it, and joined again it is itself, as an image and as the text that `minimise` writes,
+/// which is in capitals.
 pub fn joined_again_is_itself()
     ensures accepted { SmallerPasses }
     ensures even { SmallerEven }
     ensures image { SmallerAgain }
     ensures text { MinimiseAgain }
+    ensures capitals { SmallerCapitals }
 {}

@@ -2,6 +2,7 @@ pub mod LabelLaws
 pub mod SoundRows
 pub mod SoundTable
 pub mod Translated
+pub mod Capitals
 pub mod ImageBytes
 pub mod ImageSteps
 pub mod Matching

@@ -1,5 +1,6 @@
 pub mod Table
 pub mod Entry
+pub mod Capitals
 pub mod inner
 pub mod label_text
 pub mod path_text

@@ -3,6 +3,8 @@
 //! laws of the table stand in its proofs: what the translator writes is accepted, and its rows lead where the walk goes.
 #![tactic(auto)]
 
+ghost use Rattle.translator.specs.Capitals.{ImageCapitals};
+
 pub mod entry_text;
 pub mod label_text;
 pub mod path_text;
@@ -11,3 +13,8 @@ mod table;
 pub mod translating;
 
 pub use table::{put_image, size_refusal};
+
+/// An image is written in capitals, whatever letters its chart has.
+pub fn an_image_is_in_capitals()
+    ensures { ImageCapitals }
+{}

@@ -1,4 +1,4 @@
-use Rattle.std.proofs.Common.{◌≡◌, refl, arith, rules}
+use Rattle.std.proofs.Common.{refl, arith, rules}
 use Rattle.text.specs.frames.Frame.{size}
 use Rattle.chart_rows.specs.inner.NodeRows.{paths_from}
 use Rattle.translator.specs.label_text.inner.LabelBytes.{Put}
