@@ -57,5 +57,7 @@ struct every_function every_function(void) {
 }
 
 typedef char a_state_has_130_bytes[sizeof(fairleadow_state) == 130 ? 1 : -1];
-typedef char the_new_bytes_come_last[offsetof(fairleadow_state, serving) == 50 && offsetof(fairleadow_state, numbers) == 66 &&
-                                     offsetof(fairleadow_state, servers) == 98 ? 1 : -1];
+typedef char its_fields_stand_in_their_order[offsetof(fairleadow_state, size) == 0 && offsetof(fairleadow_state, depth) == 1 &&
+                                             offsetof(fairleadow_state, places) == 2 && offsetof(fairleadow_state, results) == 34 &&
+                                             offsetof(fairleadow_state, serving) == 50 && offsetof(fairleadow_state, numbers) == 66 &&
+                                             offsetof(fairleadow_state, servers) == 98 ? 1 : -1];

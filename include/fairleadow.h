@@ -19,9 +19,9 @@
  * dynamic linker takes to find them at their first call is not counted (docs/MEASUREMENTS.md has the deepest that was seen beside it):
  *    read_chart      3,472   tick           13,488   prepare        13,384
  *    write_chart       928   rebind         13,400   live_run          480
- *    translate       6,912   spin           13,856   live_tick         416
- *    places          6,784   cause          13,368   live_rebind       288
- *    check_image    13,352   list_rows      13,416   live_spin         704
+ *    translate       6,912   spin           13,680   live_tick         416
+ *    places          6,784   cause          13,496   live_rebind       296
+ *    check_image    13,352   list_rows      13,416   live_spin         576
  *    fresh             136   minimise       14,728   meaning           136
  *    run            13,504   little_chart    1,584   dry_run        20,160
  *    priced_run     13,648   count_fillings 18,240   version           136
@@ -35,14 +35,17 @@
 
 /* The version of this header. It rises where a function, a number or the state's bytes change their meaning, and where any is added. Where
  * fairleadow_version() is another, the program was compiled with the header of another archive: ask at its beginning. */
-#define FAIRLEADOW_VERSION 2
+#define FAIRLEADOW_VERSION 3
+
+/* The release that this header is of, whose middle number is the version (CHANGELOG.md). */
+#define FAIRLEADOW_RELEASE "0.3.0"
 
 #ifdef __cplusplus
 extern "C" {
 #endif
 
-/* The refusals, tried in this order, but 19 directly after 5, 21 before 18, 22 and 27 after 15, 23 after 13, 24 before 16, 25 first of
- * all, 26 after 17 and 28 after 14 (docs/REFUSALS.md tells what to look for; H is how many schemes there are). */
+/* The refusals. Each function below says which it tries, in the order in which it does (docs/REFUSALS.md tells what to look for; H is how
+ * many schemes there are). */
 enum {
     FAIRLEADOW_DONE = 0,
     FAIRLEADOW_BAD_LENGTH = 1,        /* the length of the text or of the records */
@@ -195,42 +198,42 @@ static inline const char *fairleadow_refusal_text(uint8_t number) {
 /* Chart lines to node records of ten bytes each: 0 the kind (0 Begin, 1 End, 2 operation, 3 condition, 4 function), 1 the scheme,
  * 2 the scheme called, the condition's number or, in a Begin, 1 where its scheme is the handler, 3 the next node, or that on a 0,
  * 4 the next node on a 1, 5 the result that an operation writes (0 none, 1 a 0, 2 a 1), 6 to 9 its mask, the high byte first.
- * Tries 1 to 9, 19 and 16; counts records. */
+ * Tries 1 to 5, 19, 6 to 9, 16; counts records. */
 uint8_t fairleadow_read_chart(const uint8_t *text, size_t text_len, uint8_t *records, size_t records_len,
                               size_t *index, size_t *count);
 
-/* Node records to chart lines. Tries 1, 4 to 9, 19 and 16; counts characters. */
+/* Node records to chart lines. Tries 1, 4, 5, 19, 6 to 9, 16; counts characters. */
 uint8_t fairleadow_write_chart(const uint8_t *records, size_t records_len, uint8_t *text, size_t text_len,
                                size_t *index, size_t *count);
 
-/* Chart lines to the image's lines. Tries 1 to 10, 19 and 16; counts characters. */
+/* Chart lines to the image's lines. Tries 1 to 5, 19, 6 to 10, 16; counts characters. */
 uint8_t fairleadow_translate(const uint8_t *chart, size_t chart_len, uint8_t *image, size_t image_len,
                              size_t *index, size_t *count);
 
 /* How many places a chart's calls need at most, 1 to 16: from a fresh state with so many or more no call gets 17 or
- * drops, as long as every number is served by its own scheme (fairleadow_rebind). Tries 1 to 10, 19 and 20; counts places. */
+ * drops, as long as every number is served by its own scheme (fairleadow_rebind). Tries 1 to 5, 19, 6 to 10, 20; counts places. */
 uint8_t fairleadow_places(const uint8_t *chart, size_t chart_len, size_t *index, size_t *count);
 
-/* Whether an image is in order. Tries 1 to 3 and 11 to 13; counts 0. */
+/* Whether an image is in order. Tries 1 to 3, 11 to 13; counts 0. */
 uint8_t fairleadow_check_image(const uint8_t *image, size_t image_len, size_t *index, size_t *count);
 
-/* A fresh state for a stack of `size` places: scheme 1 is open, and each number is served by its own scheme. Tries 14, and then every
- * number of the state is 0; counts 0. */
+/* A fresh state for a stack of `size` places: scheme 1 is open, and each number is served by its own scheme. Tries 14; counts 0. With 14
+ * every number of the state is 0. */
 uint8_t fairleadow_fresh(size_t size, fairleadow_state *state, size_t *index, size_t *count);
 
 /* One tick a word, with its mask and its code. Bit i of a word is condition i, bit i of a mask micro operation i.
  * Codes: 0x00 plain, 0x03 return, 0x04 home, 0x10 + h an operation's call of number h, 0x40 + h a function's, 0x60 a drop: a call
  * found the stack full, all open schemes are closed, and the handler starts at the next tick. A return may be the handler's, after
  * which comes a home tick.
- * Tries all of the image check, then 15 to 18; counts ticks. With 17 and 18 the state is that after the ticks counted. */
+ * Tries 1 to 3, 11 to 13, 15, 16, then 17 and 18 tick by tick; counts ticks. With 17 and 18 the state is that after the ticks counted. */
 uint8_t fairleadow_run(const uint8_t *image, size_t image_len, fairleadow_state *state, const uint16_t *words, size_t words_len,
                        uint32_t *masks, size_t masks_len, uint8_t *codes, size_t codes_len, size_t *index, size_t *count);
 
 /* A chart run from its text, in one call: translated to `image`, and run from a fresh state of `size` places, each tick with its mask and
  * its code as in fairleadow_run. They are what the chart's walk over the words gives. The size is as wide as a length, so that none is cut
  * off before it is tried. It is a call for the office: the state is not handed out, and of the image's length nothing is told.
- * Tries what fairleadow_translate tries, then 14, 16 for masks and codes, and 17; counts ticks. Once the chart is translated `image`
- * holds the image's lines, also with 14, with 16 for masks and codes, and with 17. */
+ * Tries 1 to 5, 19, 6 to 10, 16 by the image, 14, 16 by masks or codes, then 17 tick by tick; counts ticks. Once the chart is translated
+ * `image` holds the image's lines, also with 14, with 16 by masks or codes, and with 17. */
 uint8_t fairleadow_dry_run(const uint8_t *text, size_t text_len, size_t size, uint8_t *image, size_t image_len, const uint16_t *words,
                            size_t words_len, uint32_t *masks, size_t masks_len, uint8_t *codes, size_t codes_len, size_t *index,
                            size_t *count);
@@ -238,12 +241,13 @@ uint8_t fairleadow_dry_run(const uint8_t *text, size_t text_len, size_t size, ui
 /* A run that tells what it costs. Price i is that of micro operation i for each tick that it is on, in hundredths of a cent, 0 to 65,535;
  * *price is in cents: what the ticks counted cost in all, rounded once, a half upward. It is written in every case: with 17 and 18 it
  * is that of the ticks finished before, with other refusals 0. All else is as in fairleadow_run. The prices are a pointer to 32.
- * Tries what the image check tries, then 15, 27 (more than 65,536 words, whatever room there is for them), and 16 to 18; counts ticks. */
+ * 27 is given for more than 65,536 words, whatever room there is for them.
+ * Tries 1 to 3, 11 to 13, 15, 27, 16, then 17 and 18 tick by tick; counts ticks. */
 uint8_t fairleadow_priced_run(const uint8_t *image, size_t image_len, fairleadow_state *state,
                               const uint16_t prices[FAIRLEADOW_OPERATIONS], const uint16_t *words, size_t words_len, uint32_t *masks,
                               size_t masks_len, uint8_t *codes, size_t codes_len, uint64_t *price, size_t *index, size_t *count);
 
-/* One tick. Tries what a run tries but 16; counts 1. A refused tick counts 0 and leaves the state, *mask and *code as they were.
+/* One tick. Tries 1 to 3, 11 to 13, 15, 17, 18; counts 1. A refused tick counts 0 and leaves the state, *mask and *code as they were.
  * The image is checked anew at each tick, which takes most of its time; where several words are at hand, a run checks it once,
  * and a controller prepares its image and makes live ticks. */
 uint8_t fairleadow_tick(const uint8_t *image, size_t image_len, fairleadow_state *state, uint16_t word,
@@ -252,33 +256,33 @@ uint8_t fairleadow_tick(const uint8_t *image, size_t image_len, fairleadow_state
 /* From now on number `number` is served by scheme `scheme`: each later call of the number opens it. What is open goes on as it is, with
  * its own scheme. Bits and codes go by the number, whichever scheme serves it. Both are as wide as a length, so that none is cut off
  * before it is tried. To bind a number to what serves it already is allowed, and so is the handler's scheme for another number; the
- * handler's own number is never rebound, not even to itself. Tries what the image check tries, then 15 and 22; counts 0. A refused
- * rebinding leaves the state as it was. */
+ * handler's own number is never rebound, not even to itself. Tries 1 to 3, 11 to 13, 15, 22; counts 0. A refused rebinding leaves the
+ * state as it was. */
 uint8_t fairleadow_rebind(const uint8_t *image, size_t image_len, fairleadow_state *state, size_t number, size_t scheme,
                           size_t *index, size_t *count);
 
 /* One tick of spindle `spindle`, 0 to 3, by its own image. The four states stand in one list, `states_len` tells how many there are, and
  * *taken how many places they have taken together: 4 when all are fresh, and then what the last call left there. A call takes one of 64
  * places, a return or a drop gives its places back. All that is read of the other three states is their depths, and nothing of them is
- * changed. Tries 25, then what the image check tries, then 15: the list is not of four states, their depths do not sum to *taken, that is
- * above 64, or the spindle's own state does not fit; then 17, 26 and 18. A drop needs no place, and on a full stack a call is a drop or
- * gets 17, never 26. Counts 1. A refused tick counts 0 and leaves the states, *taken, *mask and *code as they were: after 26 the same tick
- * may be tried again when another spindle has given back a place. A state of the list may also be rebound (fairleadow_rebind); to tick it
- * by itself, or to make it fresh, would leave *taken wrong. */
+ * changed. Tries 25, 1 to 3, 11 to 13, 15, 17, 26, 18; counts 1. 15 is given where the list is not of four states, their depths do not sum
+ * to *taken, that is above 64, or the spindle's own state does not fit. A drop needs no place, and on a full stack a call is a drop or
+ * gets 17, never 26. A refused tick counts 0 and leaves the states, *taken, *mask and *code as they were: after 26 the same tick may be
+ * tried again when another spindle has given back a place. A state of the list may also be rebound (fairleadow_rebind); to tick it by
+ * itself, or to make it fresh, would leave *taken wrong. */
 uint8_t fairleadow_spin(fairleadow_state *states, size_t states_len, size_t *taken, size_t spindle, const uint8_t *image,
                         size_t image_len, uint16_t word, uint32_t *mask, uint8_t *code, size_t *index, size_t *count);
 
 /* What makes the tick of a state by a word go where it goes: the row that it takes, told by its number among the image's rows (0 is the
  * first); a mask of the conditions that decide, so that every word which agrees with this one on them takes the same row; and the result
  * bit of the number called where the row is a function's, else 2. No tick is made, and the state is only read. A home tick, a call and a
- * handler's return at depth 1 take no row: they get 21. Tries what the image check tries, then 15, 21 and 18; counts 0. With a refusal
- * row, mask and bit are 0. */
+ * handler's return at depth 1 take no row: they get 21. Tries 1 to 3, 11 to 13, 15, 21, 18; counts 0. With a refusal row, mask and bit
+ * are 0. */
 uint8_t fairleadow_cause(const uint8_t *image, size_t image_len, const fairleadow_state *state, uint16_t word,
                          uint16_t *row, uint16_t *mask, uint8_t *bit, size_t *index, size_t *count);
 
 /* For each label of an image, from 0 on, the number of its first row among the image's rows, from 0, and how many rows it has, 0 and
- * 0 where it has none: the rows of a label stand one after the other, and a tick looks at those of one label alone. Tries what the
- * image check tries, then 16, for either buffer; counts labels. */
+ * 0 where it has none: the rows of a label stand one after the other, and a tick looks at those of one label alone. 16 is given where
+ * either buffer is too short. Tries 1 to 3, 11 to 13, 16; counts labels. */
 uint8_t fairleadow_list_rows(const uint8_t *image, size_t image_len, uint16_t *firsts, size_t firsts_len,
                              uint16_t *counts, size_t counts_len, size_t *index, size_t *count);
 
@@ -286,15 +290,15 @@ uint8_t fairleadow_list_rows(const uint8_t *image, size_t image_len, uint16_t *f
  * labels do where tick kind, scheme called, owner, result and mask are equal and, for every word and bit, the labels that they lead to
  * act alike again; no grouping by this rule has fewer groups. The labels kept are the lowest of each group, in their order, with their
  * own rows; the handler stays. The text is never longer than the one given. In 64 kilobytes of memory both texts fit beside the stack up
- * to 1,090 lines each; a longer image is handed over from flash. Tries what the image check tries, then 23 and 16; counts characters. */
+ * to 1,090 lines each; a longer image is handed over from flash. Tries 1 to 3, 11 to 13, 23, 16; counts characters. */
 uint8_t fairleadow_minimise(const uint8_t *image, size_t image_len, uint8_t *smaller, size_t smaller_len,
                             size_t *index, size_t *count);
 
 /* The lines of little chart `number`, from 0, of `frames` frames. Little charts are all accepted charts that have one scheme in 2 to 4
  * frames and, besides Begin and End, only operations of mask 0 or 1 that write no result, and conditions of number 0. There are 2 of 2
  * frames, 18 of 3 and 648 of 4; those of one frame count are numbered in increasing order of their texts as fairleadow_write_chart
- * writes them, each once. Both are as wide as a length, so that none is cut off before it is tried. Tries 24, then 16; counts
- * characters, 23 a frame. */
+ * writes them, each once. Both are as wide as a length, so that none is cut off before it is tried. Tries 24, 16; counts characters,
+ * 23 a frame. */
 uint8_t fairleadow_little_chart(size_t frames, size_t number, uint8_t *text, size_t text_len, size_t *index, size_t *count);
 
 /* How often the stack fills. Of all lists of `ticks` words in which only the `conditions` lowest conditions are ever 1, each run from a
@@ -302,12 +306,12 @@ uint8_t fairleadow_little_chart(size_t frames, size_t number, uint8_t *text, siz
  * one empty list, which ends, and no conditions one list of zeros; together the three are 2 to the power of ticks times conditions. A drop
  * stops no list. On an image that the translator wrote *unmatched is 0. All three are written in every case, as 0 with a refusal. Size,
  * ticks and conditions are as wide as a length, so that none is cut off before it is tried. It is a call for the office: with 16 ticks
- * times conditions there are 65,536 lists. Tries what the image check tries, then 14 and 28; counts 0. */
+ * times conditions there are 65,536 lists. Tries 1 to 3, 11 to 13, 14, 28; counts 0. */
 uint8_t fairleadow_count_fillings(const uint8_t *image, size_t image_len, size_t size, size_t ticks, size_t conditions,
                                   uint32_t *ended, uint32_t *full, uint32_t *unmatched, size_t *index, size_t *count);
 
 /* An image's lines to a table, ten bytes a line, for live runs, ticks and rebindings: the image is checked here and not again, and its
- * lines are not needed afterwards. Tries what the image check tries, then 16; counts bytes. */
+ * lines are not needed afterwards. Tries 1 to 3, 11 to 13, 16; counts bytes. */
 uint8_t fairleadow_prepare(const uint8_t *image, size_t image_len, uint8_t *table, size_t table_len, size_t *index, size_t *count);
 
 /* Whether a table is exactly what fairleadow_prepare writes for some image that is in order, so that live calls on it are those on that
@@ -315,8 +319,8 @@ uint8_t fairleadow_prepare(const uint8_t *image, size_t image_len, uint8_t *tabl
  * the size of the buffer: where there are more bytes, or fewer, 11 is given. Which image it is the table of is not told: one bit of a
  * mask makes it that of another one, and the answer is 0. Whether a table is still the one of before only fairleadow_sum tells, against a
  * sum that was taken then. So a program makes both: this call behind the preparation and where the machine stands, sums while it runs.
- * Tries 11 to 13 as the image check does, but last of all whether each label's line notes in bytes 0 and 1 where its rows end: 13 at the
- * lowest that does not. With 12 and 13 *index is the line, of ten bytes; counts 0. */
+ * Tries 11 to 13; counts 0. They are tried as the image check does, but last of all whether each label's line notes in bytes 0 and 1 where
+ * its rows end: 13 at the lowest that does not. With 12 and 13 *index is the line, of ten bytes. */
 uint8_t fairleadow_check_table(const uint8_t *table, size_t table_len, size_t *index, size_t *count);
 
 /* The CRC-32 (ISO-HDLC, as in zlib, PNG and Ethernet) of bytes. `sum` is that of the bytes before these, or 0 where there are none before
@@ -328,20 +332,20 @@ uint32_t fairleadow_sum(uint32_t sum, const uint8_t *bytes, size_t bytes_len);
  * longer than the table. Any other bytes are taken for a table too, so that damage does no more than other ticks (their codes may
  * be such as fairleadow_meaning does not know) or one of the refusals below; 11 is given where the counts or the handler of their
  * header are out of bounds, or the counts ask for more bytes than there are.
- * Tries 11, then 15 to 18; counts ticks. With 17 and 18 the state is that after the ticks counted. */
+ * Tries 11, 15, 16, then 17 and 18 tick by tick; counts ticks. With 17 and 18 the state is that after the ticks counted. */
 uint8_t fairleadow_live_run(const uint8_t *table, size_t table_len, fairleadow_state *state, const uint16_t *words, size_t words_len,
                             uint32_t *masks, size_t masks_len, uint8_t *codes, size_t codes_len, size_t *index, size_t *count);
 
-/* One tick on a table, likewise. Tries 11, 15, 17 and 18; counts 1. A refused tick counts 0 and leaves the state, *mask and *code
- * as they were. */
+/* One tick on a table, likewise. Tries 11, 15, 17, 18; counts 1. A refused tick counts 0 and leaves the state, *mask and *code as
+ * they were. */
 uint8_t fairleadow_live_tick(const uint8_t *table, size_t table_len, fairleadow_state *state, uint16_t word,
                              uint32_t *mask, uint8_t *code, size_t *index, size_t *count);
 
-/* A rebinding by a table, likewise. Tries 11, 15 and 22; counts 0. A refused rebinding leaves the state as it was. */
+/* A rebinding by a table, likewise. Tries 11, 15, 22; counts 0. A refused rebinding leaves the state as it was. */
 uint8_t fairleadow_live_rebind(const uint8_t *table, size_t table_len, fairleadow_state *state, size_t number, size_t scheme,
                                size_t *index, size_t *count);
 
-/* One tick of a spindle by its own table, likewise. Tries 25, 11, 15, 17, 26 and 18; counts 1. A refused tick counts 0 and leaves the
+/* One tick of a spindle by its own table, likewise. Tries 25, 11, 15, 17, 26, 18; counts 1. A refused tick counts 0 and leaves the
  * states, *taken, *mask and *code as they were. */
 uint8_t fairleadow_live_spin(fairleadow_state *states, size_t states_len, size_t *taken, size_t spindle, const uint8_t *table,
                              size_t table_len, uint16_t word, uint32_t *mask, uint8_t *code, size_t *index, size_t *count);

@@ -28,7 +28,7 @@ uint32_t fairleadow_tick(const uint8_t *image, uint64_t image_len, fairleadow_st
                          uint32_t *mask, uint8_t *code, uint64_t *index, uint64_t *count);
 uint32_t fairleadow_rebind(const uint8_t *image, uint64_t image_len, fairleadow_state *state, uint64_t number, uint64_t scheme,
                            uint64_t *index, uint64_t *count);
-uint32_t fairleadow_spin(uint8_t *states, uint64_t states_bytes, uint64_t *taken, uint64_t spindle, const uint8_t *image,
+uint32_t fairleadow_spin(fairleadow_state *states, uint64_t states_len, uint64_t *taken, uint64_t spindle, const uint8_t *image,
                          uint64_t image_len, uint16_t word, uint32_t *mask, uint8_t *code, uint64_t *index, uint64_t *count);
 uint32_t fairleadow_cause(const uint8_t *image, uint64_t image_len, const fairleadow_state *state, uint16_t word,
                           uint16_t *row, uint16_t *mask, uint8_t *bit, uint64_t *index, uint64_t *count);
@@ -51,7 +51,7 @@ uint32_t fairleadow_live_tick(const uint8_t *table, uint64_t table_len, fairlead
                               uint32_t *mask, uint8_t *code, uint64_t *index, uint64_t *count);
 uint32_t fairleadow_live_rebind(const uint8_t *table, uint64_t table_len, fairleadow_state *state, uint64_t number, uint64_t scheme,
                                 uint64_t *index, uint64_t *count);
-uint32_t fairleadow_live_spin(uint8_t *states, uint64_t states_bytes, uint64_t *taken, uint64_t spindle, const uint8_t *table,
+uint32_t fairleadow_live_spin(fairleadow_state *states, uint64_t states_len, uint64_t *taken, uint64_t spindle, const uint8_t *table,
                               uint64_t table_len, uint16_t word, uint32_t *mask, uint8_t *code, uint64_t *index, uint64_t *count);
 uint32_t fairleadow_meaning(uint8_t code, uint8_t *called);
 
@@ -150,20 +150,14 @@ static inline uint8_t fairleadow_c_rebind(const uint8_t *image, size_t image_len
     return fairleadow_tell(refusal, &told, index, count);
 }
 
-/* How many bytes the archive is told that a list of states has. Of more states than a head has spindles it is told of one more, so that no
- * count of them wraps around to the bytes of four. */
-static inline uint64_t fairleadow_states_bytes(size_t states_len) {
-    return sizeof(fairleadow_state) * (uint64_t)(states_len > FAIRLEADOW_SPINDLES ? FAIRLEADOW_SPINDLES + 1 : states_len);
-}
-
 /* A record of places that a tick changes is at most 64, and another comes back as it was: it fits a size_t. */
 static inline uint8_t fairleadow_c_spin(fairleadow_state *states, size_t states_len, size_t *taken, size_t spindle,
                                         const uint8_t *image, size_t image_len, uint16_t word, uint32_t *mask, uint8_t *code,
                                         size_t *index, size_t *count) {
     fairleadow_told told;
     uint64_t places = *taken;
-    uint32_t number = fairleadow_spin((uint8_t *)states, fairleadow_states_bytes(states_len), &places, spindle, image, image_len, word,
-                                      mask, code, &told.index, &told.count);
+    uint32_t number = fairleadow_spin(states, states_len, &places, spindle, image, image_len, word, mask, code, &told.index,
+                                      &told.count);
     *taken = (size_t)places;
     return fairleadow_tell(number, &told, index, count);
 }
@@ -250,8 +244,8 @@ static inline uint8_t fairleadow_c_live_spin(fairleadow_state *states, size_t st
                                              size_t *index, size_t *count) {
     fairleadow_told told;
     uint64_t places = *taken;
-    uint32_t number = fairleadow_live_spin((uint8_t *)states, fairleadow_states_bytes(states_len), &places, spindle, table, table_len,
-                                           word, mask, code, &told.index, &told.count);
+    uint32_t number = fairleadow_live_spin(states, states_len, &places, spindle, table, table_len, word, mask, code, &told.index,
+                                           &told.count);
     *taken = (size_t)places;
     return fairleadow_tell(number, &told, index, count);
 }

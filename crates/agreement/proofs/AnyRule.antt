@@ -14,8 +14,7 @@ use Rattle.translator.proofs.Translated.{translated-fine, translated-few}
 use Rattle.rows.specs.Rows.{is_candidate, Choice, row, no_choice, best_row}
 use Rattle.rows.specs.Choices.{Best}
 use Rattle.rows.proofs.BestRows.{best-is}
-use Rattle.state.specs.declared.State.{State}
-use Rattle.state.specs.State.{label_at, place_at, number_at, server_at, Sized}
+use Rattle.state.specs.State.{State, label_at, place_at, number_at, server_at, Sized}
 use Rattle.fitness.specs.Fitness.{is_call, is_unfit}
 use Rattle.fitness.proofs.Fitness.{Fits, unfits}
 use Rattle.ticks.specs.Tick.{called_bit, choice, tick, top_of}

@@ -43,10 +43,6 @@ use Rattle.rebinding.specs.contracts.rebind as rebind
 use Rattle.rebinding.proofs.rebind.Reads as rebind-reads
 use Rattle.rebinding.specs.contracts.live_rebind as live-rebind
 use Rattle.rebinding.proofs.live_rebind.Reads as live-rebind-reads
-use Rattle.spindles.specs.contracts.spindle_bytes.spin_bytes as spin-bytes
-use Rattle.spindles.proofs.spindle_bytes.spin_bytes.Reads as spin-bytes-reads
-use Rattle.spindles.specs.contracts.live_spindle_bytes.live_spin_bytes as live-spin-bytes
-use Rattle.spindles.proofs.live_spindle_bytes.live_spin_bytes.Reads as live-spin-bytes-reads
 use Rattle.fairleadow.specs.contracts.charts_for_c.fairleadow_read_chart as c-read-chart
 use Rattle.fairleadow.proofs.charts_for_c.fairleadow_read_chart.Reads as c-read-chart-reads
 use Rattle.fairleadow.specs.contracts.charts_for_c.fairleadow_write_chart as c-write-chart
@@ -167,17 +163,11 @@ minimise-asks-nothing κs a = tt
 pub little-chart-asks-nothing : (κs : Lfts 1) (a : ArgsD little-chart.signature κs) → little-chart-reads.Asked κs a
 little-chart-asks-nothing κs a = tt
 
-pub cause-of-asks-nothing : (κs : Lfts 1) (a : ArgsD cause-of.signature κs) → cause-of-reads.Asked κs a
+pub cause-of-asks-nothing : (κs : Lfts 2) (a : ArgsD cause-of.signature κs) → cause-of-reads.Asked κs a
 cause-of-asks-nothing κs a = tt
 
 pub count-fillings-asks-nothing : (κs : Lfts 1) (a : ArgsD count-fillings.signature κs) → count-fillings-reads.Asked κs a
 count-fillings-asks-nothing κs a = tt
-
-pub spin-bytes-asks-nothing : (κs : Lfts 2) (a : ArgsD spin-bytes.signature κs) → spin-bytes-reads.Asked κs a
-spin-bytes-asks-nothing κs a = tt
-
-pub live-spin-bytes-asks-nothing : (κs : Lfts 2) (a : ArgsD live-spin-bytes.signature κs) → live-spin-bytes-reads.Asked κs a
-live-spin-bytes-asks-nothing κs a = tt
 
 pub tick-asks-nothing : (κs : Lfts 2) (a : ArgsD tick.signature κs) → tick-reads.Asked κs a
 tick-asks-nothing κs a = tt

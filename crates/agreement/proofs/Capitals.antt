@@ -4,7 +4,7 @@ use Rattle.std.proofs.lemmas.Grind.{common_steps}
 use Rattle.text.specs.digits.Digit.{capital}
 use Rattle.text.proofs.frames.Capitals.{capitals-alike}
 use Rattle.image.specs.Check.{image_verdict}
-use Rattle.state.specs.declared.State.{State}
+use Rattle.state.specs.State.{State}
 use Rattle.runs.specs.TickOutcome.{image_tick}
 use Rattle.spindles.specs.Spindles.{spin}
 use Rattle.agreement.specs.Capitals.{AsInCapitals}

@@ -6,10 +6,9 @@ use denote.Triple.Clauses.{AtExit}
 use borrow.Fn.World.{ArgsD, ResD}
 use contract.Lifetimes.{Lfts}
 use Rattle.text.specs.frames.Answer.{success, reply_count}
-use Rattle.state.specs.declared.State.{State}
-use Rattle.state.specs.State.{Sized}
-use Rattle.state.specs.Bytes.{state_of}
-use Rattle.state.proofs.ResultBytes.{held-sized}
+use Rattle.state.specs.declared.State.{State as Kept}
+use Rattle.state.specs.State.{State, Sized}
+use Rattle.state.specs.Kept.{view}
 use Rattle.cause.specs.Cause.{explain, cause_reply, cause_row, cause_mask, cause_bit}
 use Rattle.cause.specs.Laws.{Explains}
 use Rattle.cause.proofs.Answers.{answered}
@@ -31,33 +30,32 @@ explained t s w n h e k m b p q o =
 
 pub cause-explains : CauseTold
 unfolding CauseTold
-cause-explains t s w r c h n d = explained t s w n h (sym c.answered ∙ d) (cause_row r) (cause_mask r) (cause_bit r) c.row c.mask c.bit
+cause-explains t s w r c h n d = explained t (view s) w n h (sym c.answered ∙ d) (cause_row r) (cause_mask r) (cause_bit r) c.row c.mask c.bit
 
 pub cause-explains-c : CauseToldC
 unfolding CauseToldC
-cause-explains-c t b w at made k m o c =
-    explained t (state_of b) w (reply_count (explain t (state_of b) w).reply) (held-sized b)
-    (cause-success t (state_of b) w (sym c.told.number_is)) k m o c.row c.mask c.bit
+cause-explains-c t s w at made k m o c =
+    explained t (view s) w (reply_count (explain t (view s) w).reply) c.sized (cause-success t (view s) w (sym c.told.number_is)) k m o
+    c.row c.mask c.bit
 
 -- ---- by what the contracts let a caller learn
-pub cause-told : (κs : Lfts 1) (a : ArgsD cause-of.signature κs) (r : ResD cause-of.signature κs) (s : AtExit cause-of.ended κs)
-    → cause-of-reads.Learnt κs a r s → Sized a.1.0 → (n : ℕ) → cause_reply r ≡ success n
-    → Explains a.0.now a.1.0 a.1.1.0 (cause_report (cause_row r) (cause_mask r) (cause_bit r))
+pub cause-told : (κs : Lfts 2) (a : ArgsD cause-of.signature κs) (r : ResD cause-of.signature κs) (s : AtExit cause-of.ended κs)
+    → cause-of-reads.Learnt κs a r s → Sized (view a.1.0.now) → (n : ℕ) → cause_reply r ≡ success n
+    → Explains a.0.now (view a.1.0.now) a.1.1.0 (cause_report (cause_row r) (cause_mask r) (cause_bit r))
 unfolding CauseTold
-cause-told κs a r s e h n d = cause-explains a.0.now a.1.0 a.1.1.0 r e h n d
+cause-told κs a r s e h n d = cause-explains a.0.now a.1.0.now a.1.1.0 r e h n d
 
 pub cause-told-c : (κs : Lfts 7) (a : ArgsD c-cause.signature κs) (r : ResD c-cause.signature κs) (s : AtExit c-cause.ended κs)
     → c-cause-reads.Learnt κs a r s → r ≡ 0
-    → Explains a.0.now (state_of a.1.0.now) a.1.1.0
-    (cause_report s.1.1.1.0.now s.1.1.1.1.0.now s.1.1.1.1.1.0.now)
+    → Explains a.0.now (view a.1.0.now) a.1.1.0 (cause_report s.1.1.1.0.now s.1.1.1.1.0.now s.1.1.1.1.1.0.now)
 unfolding CauseToldC
 cause-told-c κs a r s e z =
     let t : List ℕ = a.0.now in
-    let b : List ℕ = a.1.0.now in
+    let b : Kept = a.1.0.now in
     let w : ℕ = a.1.1.0 in
     let k : ℕ = s.1.1.1.0.now in
     let m : ℕ = s.1.1.1.1.0.now in
     let o : ℕ = s.1.1.1.1.1.0.now in
     let at : ℕ = s.1.1.1.1.1.1.0.now in
     let made : ℕ = s.1.1.1.1.1.1.1.0.now in
-    cause-explains-c t b w at made k m o (subst (λ (x : ℕ). GivesCauseC (cause_for t b w) x at made k m o) z (cause-tells-c κs a r s e))
+    cause-explains-c t b w at made k m o (subst (λ (x : ℕ). GivesCauseC b (cause_for t b w) x at made k m o) z (cause-tells-c κs a r s e))

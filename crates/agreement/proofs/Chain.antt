@@ -20,8 +20,7 @@ use Rattle.image.specs.inner.Sound.{SoundImage}
 use Rattle.image.proofs.Accepted.{image-sound}
 use Rattle.translator.specs.Table.{table}
 use Rattle.translator.proofs.LabelLaws.{length-entries}
-use Rattle.state.specs.declared.State.{State}
-use Rattle.state.specs.State.{fresh, fresh_state}
+use Rattle.state.specs.State.{State, fresh, fresh_state}
 use Rattle.runs.specs.Run.{MachineRun, ticks, has_no_room, run_on, run}
 use Rattle.rebinding.specs.Rebind.{rebind_on, rebind}
 use Rattle.fitness.proofs.Fitness.{Fits, fits, fits-serves}

@@ -1,7 +1,7 @@
 -- The calls that Calls and ForC speak of are those of the functions:
 -- what a caller learns of a call by the function's contract is the very record.
 -- `a` has the arguments, `r` the result, and `s` the arguments at exit, each in the order of the function's parameters.
-use Rattle.std.proofs.Common.{◌≡◌}
+use Rattle.std.proofs.Common.{◌≡◌, map}
 use denote.Triple.Clauses.{AtExit}
 use borrow.Fn.World.{ArgsD, ResD}
 use contract.Lifetimes.{Lfts}
@@ -11,15 +11,17 @@ use Rattle.places.specs.Entry.{places_needed}
 use Rattle.tables.specs.Prepare.{prepare}
 use Rattle.minimising.specs.Entry.{minimise}
 use Rattle.little_charts.specs.Little.{little_chart}
-use Rattle.state.specs.State.{fresh_state, GivesState}
-use Rattle.runs.specs.Run.{run, GivesRun}
-use Rattle.runs.specs.TickOutcome.{image_tick, GivesTick}
+use Rattle.state.specs.State.{fresh_state}
+use Rattle.state.specs.Kept.{view, GivesState}
+use Rattle.runs.specs.Run.{run}
+use Rattle.runs.specs.TickOutcome.{image_tick}
 use Rattle.runs.specs.machine.Live.{live_run, live_tick}
-use Rattle.prices.specs.priced_runs.PricedRun.{priced_run, GivesPricedRun}
-use Rattle.rebinding.specs.Rebind.{rebind, live_rebind}
+use Rattle.runs.specs.InPlace.{GivesRunOn, GivesTickOn}
+use Rattle.prices.specs.priced_runs.PricedRun.{priced_run}
+use Rattle.prices.specs.priced_runs.InPlace.{GivesPricedRunOn}
+use Rattle.rebinding.specs.Rebind.{rebind, live_rebind, GivesRebindingOn}
 use Rattle.fillings.specs.Counts.{count_fillings}
 use Rattle.fillings.specs.counting.CountingContracts.{GivesFillings}
-use Rattle.state.specs.Bytes.{state_of}
 use Rattle.fairleadow.specs.telling.AnswersForC.{GivesReplyC, GivesBufferC}
 use Rattle.fairleadow.specs.runs_for_c.Calls.{GivesStateC, run_for, GivesRunC, tick_for, GivesTickC}
 use Rattle.fairleadow.specs.prices_for_c.Calls.{priced_run_for, GivesPricedRunC}
@@ -32,8 +34,6 @@ use Rattle.rows.specs.listing.Listing.{list, GivesListing}
 use Rattle.cause.specs.Cause.{explain, GivesCause}
 use Rattle.ticks.specs.codes.Codes.{meaning_of}
 use Rattle.spindles.specs.Spindles.{spin, live_spin, GivesSpin}
-use Rattle.spindles.specs.spindle_parts.FourStates.{states_of}
-use Rattle.spindles.specs.spindle_bytes.Bytes.{GivesSpinOn}
 use Rattle.fairleadow.specs.images_for_c.Calls.{GivesListingC}
 use Rattle.fairleadow.specs.causes_for_c.Calls.{cause_for, GivesCauseC}
 use Rattle.fairleadow.specs.causes_for_c.Meant.{Meant}
@@ -115,10 +115,6 @@ use Rattle.spindles.specs.contracts.spindle_list.spin as list-spin
 use Rattle.spindles.proofs.spindle_list.spin.Reads as list-spin-reads
 use Rattle.spindles.specs.contracts.spindle_list.live_spin as list-live-spin
 use Rattle.spindles.proofs.spindle_list.live_spin.Reads as list-live-spin-reads
-use Rattle.spindles.specs.contracts.spindle_bytes.spin_bytes as spin-bytes
-use Rattle.spindles.proofs.spindle_bytes.spin_bytes.Reads as spin-bytes-reads
-use Rattle.spindles.specs.contracts.live_spindle_bytes.live_spin_bytes as live-spin-bytes
-use Rattle.spindles.proofs.live_spindle_bytes.live_spin_bytes.Reads as live-spin-bytes-reads
 use Rattle.fairleadow.specs.contracts.charts_for_c.fairleadow_read_chart as c-read-chart
 use Rattle.fairleadow.proofs.charts_for_c.fairleadow_read_chart.Reads as c-read-chart-reads
 use Rattle.fairleadow.specs.contracts.charts_for_c.fairleadow_write_chart as c-write-chart
@@ -164,43 +160,43 @@ fresh-makes κs a r s e = e
 
 pub run-runs : (κs : Lfts 4) (a : ArgsD machine-run.signature κs) (r : ResD machine-run.signature κs) (s : AtExit machine-run.ended κs)
     → machine-run-reads.Learnt κs a r s
-    → GivesRun (run a.0.now a.1.0 a.1.1.0.now a.1.1.1.0.now a.1.1.1.1.0.now)
-    r s.1.1.1.0.now s.1.1.1.1.0.now
+    → GivesRunOn (run a.0.now (view a.1.0) a.1.1.0.now a.1.1.1.0.now a.1.1.1.1.0.now)
+    a.1.0 r.answer r.state s.1.1.1.0.now s.1.1.1.1.0.now
 run-runs κs a r s e = e
 
 pub priced-run-prices : (κs : Lfts 5) (a : ArgsD priced-run.signature κs)
     (r : ResD priced-run.signature κs) (s : AtExit priced-run.ended κs)
     → priced-run-reads.Learnt κs a r s
-    → GivesPricedRun (priced_run a.0.now a.1.0 a.1.1.0.now a.1.1.1.0.now
+    → GivesPricedRunOn (priced_run a.0.now (view a.1.0) a.1.1.0.now a.1.1.1.0.now
     a.1.1.1.1.0.now a.1.1.1.1.1.0.now)
-    r s.1.1.1.1.0.now s.1.1.1.1.1.0.now
+    a.1.1.1.0.now a.1.0 r.answer r.price r.state s.1.1.1.1.0.now s.1.1.1.1.1.0.now
 priced-run-prices κs a r s e = e
 
 pub tick-advances : (κs : Lfts 1) (a : ArgsD machine-tick.signature κs)
     (r : ResD machine-tick.signature κs) (s : AtExit machine-tick.ended κs)
-    → machine-tick-reads.Learnt κs a r s → GivesTick (image_tick a.0.now a.1.0 a.1.1.0) r.answer r.state
+    → machine-tick-reads.Learnt κs a r s → GivesTickOn (image_tick a.0.now (view a.1.0) a.1.1.0) a.1.0 r.answer r.state
 tick-advances κs a r s e = e
 
 pub live-run-runs : (κs : Lfts 4) (a : ArgsD machine-live-run.signature κs) (r : ResD machine-live-run.signature κs)
     (s : AtExit machine-live-run.ended κs)
     → machine-live-run-reads.Learnt κs a r s
-    → GivesRun (live_run a.0.now a.1.0 a.1.1.0.now a.1.1.1.0.now a.1.1.1.1.0.now)
-    r s.1.1.1.0.now s.1.1.1.1.0.now
+    → GivesRunOn (live_run a.0.now (view a.1.0) a.1.1.0.now a.1.1.1.0.now a.1.1.1.1.0.now)
+    a.1.0 r.answer r.state s.1.1.1.0.now s.1.1.1.1.0.now
 live-run-runs κs a r s e = e
 
 pub live-tick-advances : (κs : Lfts 1) (a : ArgsD machine-live-tick.signature κs) (r : ResD machine-live-tick.signature κs)
     (s : AtExit machine-live-tick.ended κs)
-    → machine-live-tick-reads.Learnt κs a r s → GivesTick (live_tick a.0.now a.1.0 a.1.1.0) r.answer r.state
+    → machine-live-tick-reads.Learnt κs a r s → GivesTickOn (live_tick a.0.now (view a.1.0) a.1.1.0) a.1.0 r.answer r.state
 live-tick-advances κs a r s e = e
 
 pub rebind-makes : (κs : Lfts 1) (a : ArgsD rebinding-rebind.signature κs) (r : ResD rebinding-rebind.signature κs)
     (s : AtExit rebinding-rebind.ended κs)
-    → rebinding-rebind-reads.Learnt κs a r s → GivesState (rebind a.0.now a.1.0 a.1.1.0 a.1.1.1.0) r
+    → rebinding-rebind-reads.Learnt κs a r s → GivesRebindingOn (rebind a.0.now (view a.1.0) a.1.1.0 a.1.1.1.0) a.1.0 r.answer r.state
 rebind-makes κs a r s e = e
 
 pub live-rebind-makes : (κs : Lfts 1) (a : ArgsD rebinding-live-rebind.signature κs) (r : ResD rebinding-live-rebind.signature κs)
     (s : AtExit rebinding-live-rebind.ended κs)
-    → rebinding-live-rebind-reads.Learnt κs a r s → GivesState (live_rebind a.0.now a.1.0 a.1.1.0 a.1.1.1.0) r
+    → rebinding-live-rebind-reads.Learnt κs a r s → GivesRebindingOn (live_rebind a.0.now (view a.1.0) a.1.1.0 a.1.1.1.0) a.1.0 r.answer r.state
 live-rebind-makes κs a r s e = e
 
 pub count-fillings-tells : (κs : Lfts 1) (a : ArgsD counting-count-fillings.signature κs) (r : ResD counting-count-fillings.signature κs)
@@ -227,8 +223,8 @@ pub list-rows-lends : (κs : Lfts 3) (a : ArgsD list-rows.signature κs) (r : Re
     → list-rows-reads.Learnt κs a r s → GivesListing (list a.0.now a.1.0.now a.1.1.0.now) r s.1.0.now s.1.1.0.now
 list-rows-lends κs a r s e = e
 
-pub cause-of-tells : (κs : Lfts 1) (a : ArgsD cause-of.signature κs) (r : ResD cause-of.signature κs) (s : AtExit cause-of.ended κs)
-    → cause-of-reads.Learnt κs a r s → GivesCause (explain a.0.now a.1.0 a.1.1.0) r
+pub cause-of-tells : (κs : Lfts 2) (a : ArgsD cause-of.signature κs) (r : ResD cause-of.signature κs) (s : AtExit cause-of.ended κs)
+    → cause-of-reads.Learnt κs a r s → GivesCause (explain a.0.now (view a.1.0.now) a.1.1.0) r
 cause-of-tells κs a r s e = e
 
 pub meaning-of-tells : (κs : Lfts 0) (a : ArgsD meaning-of.signature κs) (r : ResD meaning-of.signature κs) (s : AtExit meaning-of.ended κs)
@@ -236,28 +232,17 @@ pub meaning-of-tells : (κs : Lfts 0) (a : ArgsD meaning-of.signature κs) (r : 
 meaning-of-tells κs a r s e = e
 
 pub kept-tick-advances : (κs : Lfts 2) (a : ArgsD kept-tick.signature κs) (r : ResD kept-tick.signature κs) (s : AtExit kept-tick.ended κs)
-    → kept-tick-reads.Learnt κs a r s → GivesTick (image_tick a.1.0.now a.0.now a.1.1.0) r s.0.now
+    → kept-tick-reads.Learnt κs a r s → GivesTickOn (image_tick a.1.0.now (view a.0.now) a.1.1.0) a.0.now r s.0.now
 kept-tick-advances κs a r s e = e
 
 pub spin-spins : (κs : Lfts 2) (a : ArgsD list-spin.signature κs) (r : ResD list-spin.signature κs) (s : AtExit list-spin.ended κs)
-    → list-spin-reads.Learnt κs a r s → GivesSpin (spin a.1.1.1.0.now a.0.now a.1.0 a.1.1.0 a.1.1.1.1.0) r s.0.now
+    → list-spin-reads.Learnt κs a r s → GivesSpin (spin a.1.1.1.0.now (map view a.0.now) a.1.0 a.1.1.0 a.1.1.1.1.0) a.0.now a.1.1.0 r s.0.now
 spin-spins κs a r s e = e
 
 pub live-spin-spins : (κs : Lfts 2) (a : ArgsD list-live-spin.signature κs) (r : ResD list-live-spin.signature κs)
     (s : AtExit list-live-spin.ended κs)
-    → list-live-spin-reads.Learnt κs a r s → GivesSpin (live_spin a.1.1.1.0.now a.0.now a.1.0 a.1.1.0 a.1.1.1.1.0) r s.0.now
+    → list-live-spin-reads.Learnt κs a r s → GivesSpin (live_spin a.1.1.1.0.now (map view a.0.now) a.1.0 a.1.1.0 a.1.1.1.1.0) a.0.now a.1.1.0 r s.0.now
 live-spin-spins κs a r s e = e
-
-pub spin-bytes-spins : (κs : Lfts 2) (a : ArgsD spin-bytes.signature κs) (r : ResD spin-bytes.signature κs) (s : AtExit spin-bytes.ended κs)
-    → spin-bytes-reads.Learnt κs a r s
-    → GivesSpinOn (spin a.1.1.1.0.now (states_of a.0.now) a.1.0 a.1.1.0 a.1.1.1.1.0) a.0.now a.1.1.0 r s.0.now
-spin-bytes-spins κs a r s e = e
-
-pub live-spin-bytes-spins : (κs : Lfts 2) (a : ArgsD live-spin-bytes.signature κs) (r : ResD live-spin-bytes.signature κs)
-    (s : AtExit live-spin-bytes.ended κs)
-    → live-spin-bytes-reads.Learnt κs a r s
-    → GivesSpinOn (live_spin a.1.1.1.0.now (states_of a.0.now) a.1.0 a.1.1.0 a.1.1.1.1.0) a.0.now a.1.1.0 r s.0.now
-live-spin-bytes-spins κs a r s e = e
 
 -- ---- the functions for C
 pub translate-lends-c : (κs : Lfts 4) (a : ArgsD c-translate.signature κs)
@@ -268,13 +253,13 @@ translate-lends-c κs a r s e = record { told = e.0; written = e.1 }
 
 pub fresh-makes-c : (κs : Lfts 3) (a : ArgsD c-fresh.signature κs) (r : ResD c-fresh.signature κs) (s : AtExit c-fresh.ended κs)
     → c-fresh-reads.Learnt κs a r s → GivesStateC (fresh_state a.0) r s.1.1.0.now s.1.1.1.0.now s.1.0.now
-fresh-makes-c κs a r s e = record { told = e.0; bytes = e.1 }
+fresh-makes-c κs a r s e = record { told = e.0; state = e.1 }
 
 pub run-runs-c : (κs : Lfts 7) (a : ArgsD c-run.signature κs) (r : ResD c-run.signature κs) (s : AtExit c-run.ended κs)
     → c-run-reads.Learnt κs a r s
     → GivesRunC (run_for a.0.now a.1.0.now a.1.1.0.now a.1.1.1.0.now a.1.1.1.1.0.now) a.1.0.now
     r s.1.1.1.1.1.0.now s.1.1.1.1.1.1.0.now s.1.0.now s.1.1.1.0.now s.1.1.1.1.0.now
-run-runs-c κs a r s e = record { told = e.0; bytes = e.1.0; masks = e.1.1.0; codes = e.1.1.1 }
+run-runs-c κs a r s e = record { told = e.0; state = e.1.0; masks = e.1.1.0; codes = e.1.1.1 }
 
 pub priced-run-prices-c : (κs : Lfts 9) (a : ArgsD c-priced-run.signature κs) (r : ResD c-priced-run.signature κs)
     (s : AtExit c-priced-run.ended κs)
@@ -284,13 +269,13 @@ pub priced-run-prices-c : (κs : Lfts 9) (a : ArgsD c-priced-run.signature κs) 
     a.1.1.1.0.now a.1.0.now
     r s.1.1.1.1.1.1.1.0.now s.1.1.1.1.1.1.1.1.0.now s.1.0.now s.1.1.1.1.0.now s.1.1.1.1.1.0.now
     s.1.1.1.1.1.1.0.now
-priced-run-prices-c κs a r s e = record { told = e.0; bytes = e.1.0; masks = e.1.1.0; codes = e.1.1.1.0; price = e.1.1.1.1 }
+priced-run-prices-c κs a r s e = record { told = e.0; state = e.1.0; masks = e.1.1.0; codes = e.1.1.1.0; price = e.1.1.1.1 }
 
 pub tick-advances-c : (κs : Lfts 6) (a : ArgsD c-tick.signature κs) (r : ResD c-tick.signature κs) (s : AtExit c-tick.ended κs)
     → c-tick-reads.Learnt κs a r s
     → GivesTickC (tick_for a.0.now a.1.0.now a.1.1.0) a.1.0.now a.1.1.1.0.now a.1.1.1.1.0.now
     r s.1.1.1.1.1.0.now s.1.1.1.1.1.1.0.now s.1.0.now s.1.1.1.0.now s.1.1.1.1.0.now
-tick-advances-c κs a r s e = record { told = e.0; bytes = e.1.0; mask = e.1.1.0; code = e.1.1.1 }
+tick-advances-c κs a r s e = record { told = e.0; state = e.1.0; mask = e.1.1.0; code = e.1.1.1 }
 
 pub places-answered-c : (κs : Lfts 3) (a : ArgsD c-places.signature κs) (r : ResD c-places.signature κs) (s : AtExit c-places.ended κs)
     → c-places-reads.Learnt κs a r s → GivesReplyC (places_needed a.0.now) r s.1.0.now s.1.1.0.now
@@ -314,36 +299,36 @@ little-chart-lends-c κs a r s e = record { told = e.0; written = e.1 }
 
 pub live-run-runs-c : (κs : Lfts 7) (a : ArgsD c-live-run.signature κs) (r : ResD c-live-run.signature κs) (s : AtExit c-live-run.ended κs)
     → c-live-run-reads.Learnt κs a r s
-    → GivesRunC (live_run a.0.now (state_of a.1.0.now) a.1.1.0.now a.1.1.1.0.now a.1.1.1.1.0.now) a.1.0.now
+    → GivesRunC (live_run a.0.now (view a.1.0.now) a.1.1.0.now a.1.1.1.0.now a.1.1.1.1.0.now) a.1.0.now
     r s.1.1.1.1.1.0.now s.1.1.1.1.1.1.0.now s.1.0.now s.1.1.1.0.now s.1.1.1.1.0.now
-live-run-runs-c κs a r s e = record { told = e.0; bytes = e.1.0; masks = e.1.1.0; codes = e.1.1.1 }
+live-run-runs-c κs a r s e = record { told = e.0; state = e.1.0; masks = e.1.1.0; codes = e.1.1.1 }
 
 pub live-tick-advances-c : (κs : Lfts 6) (a : ArgsD c-live-tick.signature κs)
     (r : ResD c-live-tick.signature κs) (s : AtExit c-live-tick.ended κs)
     → c-live-tick-reads.Learnt κs a r s
-    → GivesTickC (live_tick a.0.now (state_of a.1.0.now) a.1.1.0) a.1.0.now a.1.1.1.0.now a.1.1.1.1.0.now
+    → GivesTickC (live_tick a.0.now (view a.1.0.now) a.1.1.0) a.1.0.now a.1.1.1.0.now a.1.1.1.1.0.now
     r s.1.1.1.1.1.0.now s.1.1.1.1.1.1.0.now s.1.0.now s.1.1.1.0.now s.1.1.1.1.0.now
-live-tick-advances-c κs a r s e = record { told = e.0; bytes = e.1.0; mask = e.1.1.0; code = e.1.1.1 }
+live-tick-advances-c κs a r s e = record { told = e.0; state = e.1.0; mask = e.1.1.0; code = e.1.1.1 }
 
 pub rebind-rebinds-c : (κs : Lfts 4) (a : ArgsD c-rebind.signature κs) (r : ResD c-rebind.signature κs) (s : AtExit c-rebind.ended κs)
     → c-rebind-reads.Learnt κs a r s
     → GivesRebindingC (rebind_for a.0.now a.1.0.now a.1.1.0 a.1.1.1.0) a.1.0.now
     r s.1.1.1.1.0.now s.1.1.1.1.1.0.now s.1.0.now
-rebind-rebinds-c κs a r s e = record { told = e.0; bytes = e.1 }
+rebind-rebinds-c κs a r s e = record { told = e.0; state = e.1 }
 
 pub live-rebind-rebinds-c : (κs : Lfts 4) (a : ArgsD c-live-rebind.signature κs) (r : ResD c-live-rebind.signature κs)
     (s : AtExit c-live-rebind.ended κs)
     → c-live-rebind-reads.Learnt κs a r s
-    → GivesRebindingC (live_rebind a.0.now (state_of a.1.0.now) a.1.1.0 a.1.1.1.0) a.1.0.now
+    → GivesRebindingC (live_rebind a.0.now (view a.1.0.now) a.1.1.0 a.1.1.1.0) a.1.0.now
     r s.1.1.1.1.0.now s.1.1.1.1.1.0.now s.1.0.now
-live-rebind-rebinds-c κs a r s e = record { told = e.0; bytes = e.1 }
+live-rebind-rebinds-c κs a r s e = record { told = e.0; state = e.1 }
 
 pub spin-spins-c : (κs : Lfts 7) (a : ArgsD c-spin.signature κs) (r : ResD c-spin.signature κs) (s : AtExit c-spin.ended κs)
     → c-spin-reads.Learnt κs a r s
     → GivesSpinC (spin_for a.1.1.1.0.now a.0.now a.1.0.now a.1.1.0 a.1.1.1.1.0) a.0.now a.1.1.0
     a.1.1.1.1.1.0.now a.1.1.1.1.1.1.0.now r s.1.1.1.1.1.1.1.0.now s.1.1.1.1.1.1.1.1.0.now
     s.0.now s.1.0.now s.1.1.1.1.1.0.now s.1.1.1.1.1.1.0.now
-spin-spins-c κs a r s e = record { told = e.0; bytes = e.1.0; taken = e.1.1.0; mask = e.1.1.1.0; code = e.1.1.1.1 }
+spin-spins-c κs a r s e = record { told = e.0; states = e.1.0; taken = e.1.1.0; mask = e.1.1.1.0; code = e.1.1.1.1 }
 
 pub live-spin-spins-c : (κs : Lfts 7) (a : ArgsD c-live-spin.signature κs)
     (r : ResD c-live-spin.signature κs) (s : AtExit c-live-spin.ended κs)
@@ -351,7 +336,7 @@ pub live-spin-spins-c : (κs : Lfts 7) (a : ArgsD c-live-spin.signature κs)
     → GivesSpinC (live_spin_for a.1.1.1.0.now a.0.now a.1.0.now a.1.1.0 a.1.1.1.1.0) a.0.now a.1.1.0
     a.1.1.1.1.1.0.now a.1.1.1.1.1.1.0.now r s.1.1.1.1.1.1.1.0.now s.1.1.1.1.1.1.1.1.0.now
     s.0.now s.1.0.now s.1.1.1.1.1.0.now s.1.1.1.1.1.1.0.now
-live-spin-spins-c κs a r s e = record { told = e.0; bytes = e.1.0; taken = e.1.1.0; mask = e.1.1.1.0; code = e.1.1.1.1 }
+live-spin-spins-c κs a r s e = record { told = e.0; states = e.1.0; taken = e.1.1.0; mask = e.1.1.1.0; code = e.1.1.1.1 }
 
 pub count-fillings-tells-c : (κs : Lfts 6) (a : ArgsD c-count-fillings.signature κs) (r : ResD c-count-fillings.signature κs)
     (s : AtExit c-count-fillings.ended κs)
@@ -385,9 +370,9 @@ list-rows-lends-c κs a r s e = record { told = e.0; firsts = e.1.0; counts = e.
 
 pub cause-tells-c : (κs : Lfts 7) (a : ArgsD c-cause.signature κs) (r : ResD c-cause.signature κs) (s : AtExit c-cause.ended κs)
     → c-cause-reads.Learnt κs a r s
-    → GivesCauseC (cause_for a.0.now a.1.0.now a.1.1.0) r s.1.1.1.1.1.1.0.now s.1.1.1.1.1.1.1.0.now
+    → GivesCauseC a.1.0.now (cause_for a.0.now a.1.0.now a.1.1.0) r s.1.1.1.1.1.1.0.now s.1.1.1.1.1.1.1.0.now
     s.1.1.1.0.now s.1.1.1.1.0.now s.1.1.1.1.1.0.now
-cause-tells-c κs a r s e = record { told = e.0; row = e.1.0; mask = e.1.1.0; bit = e.1.1.1 }
+cause-tells-c κs a r s e = record { told = e.0; row = e.1.0; mask = e.1.1.0; bit = e.1.1.1.0; sized = e.1.1.1.1 }
 
 pub meaning-tells-c : (κs : Lfts 1) (a : ArgsD c-meaning.signature κs) (r : ResD c-meaning.signature κs) (s : AtExit c-meaning.ended κs)
     → c-meaning-reads.Learnt κs a r s → Meant a.0 r s.1.0.now

@@ -2,13 +2,13 @@
 use Rattle.std.proofs.Common.{ℕ, ◌≡◌, refl, sym, ◌∙◌, ap, ap₂, List, [], ◌∷◌, map, take}
 use Rattle.text.specs.frames.Answer.{success}
 use Rattle.translator.specs.Entry.{translate}
-use Rattle.state.specs.declared.State.{State}
-use Rattle.state.specs.State.{fresh_state}
-use Rattle.state.specs.Bytes.{state_of}
+use Rattle.state.specs.State.{State, fresh_state}
+use Rattle.state.specs.declared.State.{State as Kept}
+use Rattle.state.specs.Kept.{view}
 use Rattle.runs.specs.Run.{run}
 use Rattle.rebinding.specs.Rebind.{rebind}
 use Rattle.fairleadow.specs.telling.AnswersForC.{GivesBufferC}
-use Rattle.state.proofs.ResultBytes.{fresh-held}
+use Rattle.state.proofs.Stored.{state-back}
 use Rattle.agreement.specs.Agreement.{CallInput, call_outputs, Agreement}
 use Rattle.agreement.specs.ForC.{CallOutputC, call_output_c, CallsInTurnC, none, more, DeliveredC}
 use Rattle.agreement.proofs.Numbers.{translate-success}
@@ -22,23 +22,24 @@ pub returned-0 : (text before after : List ℕ) (at n : ℕ) → GivesBufferC (t
 returned-0 text before after at n c =
     translate-success text before (sym c.told.number_is) ∙ ap success (sym c.told.count-is)
 
--- after each call the bytes hold the state that the same call on states hands back
-pub calls-chain : (image bytes : List ℕ) (given : List CallInput) (handed : List CallOutputC) → CallsInTurnC image bytes given handed
-    → handed ≡ map call_output_c (call_outputs run rebind image (state_of bytes) given)
+-- each call leaves the state that the same call of the definitions hands back
+pub calls-chain : (image : List ℕ) (s : Kept) (given : List CallInput) (handed : List CallOutputC) → CallsInTurnC image s given handed
+    → handed ≡ map call_output_c (call_outputs run rebind image (view s) given)
 unfolding call_outputs
-calls-chain image bytes [] [] none = refl
-calls-chain image bytes [] (d ∷ handed) x = elim x [ ]
-calls-chain image bytes (g ∷ rest) [] x = elim x [ ]
-calls-chain image bytes (g ∷ rest) (d ∷ handed) (more {after = after} c cs) =
-    let like : LikeC image bytes g d after = call-like image bytes c in
+calls-chain image s [] [] none = refl
+calls-chain image s [] (d ∷ handed) x = elim x [ ]
+calls-chain image s (g ∷ rest) [] x = elim x [ ]
+calls-chain image s (g ∷ rest) (d ∷ handed) (more {after = after} c cs) =
+    let like : LikeC image s g d after = call-like image s c in
     ap₂ (λ (x : CallOutputC) (l : List CallOutputC). x ∷ l) like.handed-is
-    (calls-chain image after rest handed cs ∙ ap (λ (s : State). map call_output_c (call_outputs run rebind image s rest)) like.state-is)
-    ∙ sym (ap (map call_output_c) (chain-more image (state_of bytes) g rest))
+    (calls-chain image after rest handed cs ∙ ap (λ (z : State). map call_output_c (call_outputs run rebind image z rest)) like.state-is)
+    ∙ sym (ap (map call_output_c) (chain-more image (view s) g rest))
 
 pub delivered-c : DeliveredC
 unfolding DeliveredC Agreement
-delivered-c text before after at n c size low high returned at' made bytes m given handed cs =
-    calls-chain (take n after) bytes given handed cs
-    ∙ ap (λ (s : State). map call_output_c (call_outputs run rebind (take n after) s given)) (ap state_of m.bytes ∙ fresh-held size)
+delivered-c text before after at n c size low high returned at' made s m given handed cs =
+    calls-chain (take n after) s given handed cs
+    ∙ ap (λ (z : State). map call_output_c (call_outputs run rebind (take n after) z given))
+    (ap view m.state ∙ state-back (fresh_state size).state)
     ∙ ap (λ (b : List ℕ). map call_output_c (call_outputs run rebind (take n b) (fresh_state size).state given)) c.written
     ∙ ap (map call_output_c) (theorem text before n (returned-0 text before after at n c) size low high given)

@@ -11,8 +11,7 @@ use Rattle.translator.specs.Table.{table}
 use Rattle.translator.specs.Entry.{translate_verdict}
 use Rattle.translator.proofs.SoundTable.{table-fine, table-decoded}
 use Rattle.translator.proofs.Translated.{translated-few}
-use Rattle.state.specs.declared.State.{State}
-use Rattle.state.specs.State.{StateOutcome}
+use Rattle.state.specs.State.{State, StateOutcome}
 use Rattle.fitness.specs.Fitness.{is_unfit}
 use Rattle.runs.specs.Run.{RunOutcome, has_no_room, ticks, run_on, run_verdict, run}
 use Rattle.rebinding.specs.Rebind.{rebind_verdict, rebind_on, rebind}

@@ -18,8 +18,7 @@ use Rattle.translator.proofs.Refuses.{OfChart, translate-refuses}
 use Rattle.rows.specs.listing.Listing.{listing_on, list}
 use Rattle.results.specs.Results.{Results}
 use Rattle.rows.specs.Rows.{Choice, row, no_choice}
-use Rattle.state.specs.declared.State.{State}
-use Rattle.state.specs.State.{label_at}
+use Rattle.state.specs.State.{State, label_at}
 use Rattle.ticks.specs.Tick.{called_bit, choice}
 use Rattle.fillings.specs.Counts.{count_verdict, fillings_on, count_fillings}
 use Rattle.cause.specs.Cause.{Leaving, leaves_label, nothing, leaving, Caused, because, unexplained, cause_by, cause_at, cause_of, cause_on}

@@ -1,15 +1,22 @@
 -- One call of any kind that meets its contract hands back what a run or a rebinding on the image's text does:
 -- a tick is a run of one word, and live calls are those on the text.
-use Rattle.std.proofs.Common.{ℕ, ◌≤◌, ◌≡◌, refl, sym, ◌∙◌, subst, List, ◌∷◌, take, arith}
+use Rattle.std.proofs.Common.{if◌then◌else◌, ℕ, ◌≤◌, ◌≡◌, refl, sym, ◌∙◌, subst, List, [], ◌∷◌, take, arith, ◌==◌}
 use Rattle.std.proofs.lemmas.Grind.{common_steps}
-use Rattle.text.specs.frames.Answer.{success}
+use Rattle.text.specs.frames.Frame.{contents}
+use Rattle.text.specs.frames.Verdict.{next}
+use Rattle.text.specs.frames.Answer.{Answer, success, reply_number}
+use Rattle.image.specs.Decode.{decoded_image}
+use Rattle.image.specs.Check.{image_verdict}
 use Rattle.tables.specs.Prepare.{prepare}
-use Rattle.state.specs.declared.State.{State}
-use Rattle.state.specs.declared.StateReport.{StateReport}
-use Rattle.state.specs.State.{StateOutcome, GivesState}
-use Rattle.runs.specs.Run.{RunOutcome, run, GivesRun}
-use Rattle.runs.specs.TickOutcome.{TickOutcome, image_tick, GivesTick, TickAnswer}
-use Rattle.rebinding.specs.Rebind.{rebind, live_rebind}
+use Rattle.state.specs.declared.State.{State as Kept}
+use Rattle.state.specs.State.{State, StateOutcome}
+use Rattle.state.specs.Kept.{view, stored}
+use Rattle.runs.specs.Run.{RunOutcome, run_verdict, run}
+use Rattle.runs.specs.TickOutcome.{TickOutcome, image_tick, TickAnswer}
+use Rattle.runs.specs.InPlace.{state_after, if_ticked, GivesRunOn, GivesTickOn}
+use Rattle.runs.proofs.machine.Held.{run-held, tick-held}
+use Rattle.rebinding.specs.Rebind.{rebind_verdict, rebind, live_rebind, GivesRebindingOn}
+use Rattle.rebinding.proofs.Held.{rebinding-held}
 use Rattle.rebinding.proofs.Live.{live-rebind-is}
 use Rattle.runs.specs.machine.Live.{live_run, live_tick}
 use Rattle.runs.proofs.machine.OneTick.{run_of_tick, run-advance}
@@ -56,43 +63,58 @@ abbrev pub handed_output : List ℕ → State → CallInput → CallOutput
 handed_output image s (to_run a) = by_run (output_of (run_asked image s a))
 handed_output image s (to_rebind h k) = by_rebinding (rebind image s h k).reply
 
-abbrev pub state_after : List ℕ → State → CallInput → State
-state_after image s (to_run a) = (run_asked image s a).state
-state_after image s (to_rebind h k) = (rebind image s h k).state
+abbrev pub handed_state : List ℕ → State → CallInput → State
+handed_state image s (to_run a) = (run_asked image s a).state
+handed_state image s (to_rebind h k) = (rebind image s h k).state
 
 pub chain-more : (image : List ℕ) (s : State) (g : CallInput) (rest : List CallInput)
-    → call_outputs run rebind image s (g ∷ rest) ≡ handed_output image s g ∷ call_outputs run rebind image (state_after image s g) rest
+    → call_outputs run rebind image s (g ∷ rest) ≡ handed_output image s g ∷ call_outputs run rebind image (handed_state image s g) rest
 unfolding call_outputs
 chain-more image s (to_run a) rest = refl
 chain-more image s (to_rebind h k) rest = refl
 
 -- ---- one call
-pub record Like (image : List ℕ) (s : State) (g : CallInput) (d : CallOutput) (after : State) : Type 0 where
-  pub handed-is : d ≡ handed_output image s g
-  pub state-is : after ≡ state_after image s g
+pub record Like (image : List ℕ) (s : Kept) (g : CallInput) (d : CallOutput) (after : Kept) : Type 0 where
+  pub handed-is : d ≡ handed_output image (view s) g
+  pub state-is : view after ≡ handed_state image (view s) g
 
 -- a call of prepare that succeeded
 pub table-prepared : (image : List ℕ) {table : List ℕ} → TableOf image table → PreparedTable image table
 table-prepared image (prepared before after answer c n e k h) =
     subst (λ (b : List ℕ). PreparedTable image (take k b)) (sym c.written) (prepared-holds image before n (sym c.answered ∙ e) k h)
 
-module _ (image : List ℕ) (s : State) where
-  run-like : (a : RunInput) {x : RunOutcome} {r : StateReport} {masks codes : List ℕ} → x ≡ run_asked image s a → GivesRun x r masks codes
-      → Like image s (to_run a) (output_of_run r masks codes) r.state
-  run-like a {x} {r} {masks} {codes} e c = grind (arith, common_steps)
+module _ (image : List ℕ) (s : Kept) where
+  -- after a run, a tick and a rebinding the state kept is the one that it hands back
+  pub ran-holds : (a : RunInput) → view (state_after s (run_asked image (view s) a)) ≡ (run_asked image (view s) a).state
+  unfolding run
+  ran-holds a = let ws : List ℕ = a.words in let ms : List ℕ = a.masks in let ks : List ℕ = a.codes in
+      run-held s (decoded_image (contents image)) ws ms ks (run_verdict image (view s) ws ms ks)
 
-  tick-like : (w : ℕ) {x : TickOutcome} {r : TickAnswer} {after : State} → x ≡ image_tick image s w → GivesTick x r after
+  pub ticked-holds : (w : ℕ) → let x = image_tick image (view s) w in view (if_ticked x (stored x.state) s) ≡ x.state
+  unfolding image_tick run
+  ticked-holds w = tick-held s (decoded_image (contents image)) w (run_verdict image (view s) (w ∷ []) (0 ∷ []) (0 ∷ []))
+
+  pub rebound-holds : (h k : ℕ) → let x = rebind image (view s) h k in
+      view (if reply_number x.reply == 0 then stored x.state else s) ≡ x.state
+  unfolding rebind
+  rebound-holds h k = rebinding-held s h k (next (image_verdict image) λ _. rebind_verdict (decoded_image (contents image)) (view s) h k)
+
+  run-like : (a : RunInput) {x : RunOutcome} {r : Answer} {after : Kept} {masks codes : List ℕ} → x ≡ run_asked image (view s) a
+      → GivesRunOn x s r after masks codes → Like image s (to_run a) (output_of_run r masks codes) after
+  run-like a {x} {r} {after} {masks} {codes} e c = grind (arith, common_steps, ran-holds)
+
+  tick-like : (w : ℕ) {x : TickOutcome} {r : TickAnswer} {after : Kept} → x ≡ image_tick image (view s) w → GivesTickOn x s r after
       → Like image s (one_word w 0 0) (output_of_tick r) after
-  tick-like w {x} {r} {after} e c = grind (arith, common_steps, run_of_tick, run-advance)
+  tick-like w {x} {r} {after} e c = grind (arith, common_steps, run_of_tick, run-advance, ticked-holds)
 
-  rebinding-like : (h k : ℕ) {x : StateOutcome} {r : StateReport} → x ≡ rebind image s h k → GivesState x r
-      → Like image s (to_rebind h k) (output_of_rebinding r) r.state
-  rebinding-like h k {x} {r} e c = grind (arith, common_steps)
+  rebinding-like : (h k : ℕ) {x : StateOutcome} {r : Answer} {after : Kept} → x ≡ rebind image (view s) h k
+      → GivesRebindingOn x s r after → Like image s (to_rebind h k) (output_of_rebinding r) after
+  rebinding-like h k {x} {r} {after} e c = grind (arith, common_steps, rebound-holds)
 
-  pub call-like : {g : CallInput} {d : CallOutput} {after : State} → Call image s g d after → Like image s g d after
+  pub call-like : {g : CallInput} {d : CallOutput} {after : Kept} → Call image s g d after → Like image s g d after
   call-like (run_call {a = a} c) = run-like a refl c
-  call-like (run_call_live {a = a} t c) = run-like a (live-run-is (table-prepared image t) s a.words a.masks a.codes) c
+  call-like (run_call_live {a = a} t c) = run-like a (live-run-is (table-prepared image t) (view s) a.words a.masks a.codes) c
   call-like (tick_call {w = w} c) = tick-like w refl c
-  call-like (tick_call_live {w = w} t c) = tick-like w (live-tick-is (table-prepared image t) s w) c
+  call-like (tick_call_live {w = w} t c) = tick-like w (live-tick-is (table-prepared image t) (view s) w) c
   call-like (rebind_call {h = h} {k = k} c) = rebinding-like h k refl c
-  call-like (rebind_call_live {h = h} {k = k} t c) = rebinding-like h k (prepared-rebind-is (table-prepared image t) s h k) c
+  call-like (rebind_call_live {h = h} {k = k} t c) = rebinding-like h k (prepared-rebind-is (table-prepared image t) (view s) h k) c

@@ -1,26 +1,23 @@
--- One call from C of any kind that meets its contract hands back what a run or a rebinding on the image's text does, and leaves bytes
--- that hold its state.
-use Rattle.std.proofs.Common.{if◌then◌else◌, ℕ, ◌≡◌, refl, sym, ◌∙◌, ap, subst, List, [], ◌∷◌, arith, take, ◌==◌}
+-- One call from C of any kind that meets its contract hands back what a run or a rebinding on the image's text does, and leaves its
+-- state.
+use Rattle.std.proofs.Common.{ℕ, ◌≡◌, refl, sym, ◌∙◌, ap, subst, List, [], ◌∷◌, arith, take}
 use Rattle.std.proofs.lemmas.Grind.{common_steps}
 use Rattle.text.specs.frames.Frame.{contents}
-use Rattle.text.specs.frames.Verdict.{Verdict, fine, refused, next}
-use Rattle.text.specs.frames.Answer.{refusal, success, reply_number}
+use Rattle.text.specs.frames.Verdict.{Verdict, fine, refused}
+use Rattle.text.specs.frames.Answer.{refusal, success}
 use Rattle.text.proofs.frames.Refuses.{RefusesWith, next-refuses, when-refuses}
 use Rattle.image.specs.Decode.{decoded_image}
 use Rattle.image.specs.Check.{image_verdict}
-use Rattle.state.specs.declared.State.{State}
-use Rattle.state.specs.State.{StateOutcome}
-use Rattle.state.specs.Bytes.{state_of, bytes_of}
+use Rattle.state.specs.declared.State.{State as Kept}
+use Rattle.state.specs.State.{State, StateOutcome}
+use Rattle.state.specs.Kept.{view}
 use Rattle.fitness.specs.Fitness.{is_unfit}
-use Rattle.runs.specs.Run.{RunOutcome, run_verdict, run}
+use Rattle.runs.specs.Run.{RunOutcome, run}
 use Rattle.runs.specs.TickOutcome.{TickOutcome, image_tick}
-use Rattle.runs.specs.InPlace.{bytes_after, if_ticked}
+use Rattle.runs.specs.InPlace.{if_ticked}
 use Rattle.ticks.proofs.Normal.{Normal, tick-normal}
-use Rattle.runs.proofs.machine.Held.{run-held, tick-held}
 use Rattle.runs.specs.machine.Prepared.{PreparedTable}
 use Rattle.runs.proofs.machine.Live.{live-run-is, live-tick-is}
-use Rattle.rebinding.specs.Rebind.{rebind_verdict, rebind}
-use Rattle.rebinding.proofs.Held.{rebinding-held}
 use Rattle.fairleadow.specs.runs_for_c.Calls.{GivesRunC, tick_for, GivesTickC}
 use Rattle.fairleadow.specs.rebinding_for_c.Calls.{rebind_for, GivesRebindingC}
 use Rattle.agreement.specs.Agreement.{RunInput, CallInput, to_run, to_rebind}
@@ -28,7 +25,7 @@ use Rattle.agreement.specs.Calls.{one_word}
 use Rattle.agreement.specs.ForC.{RunOutputC, CallOutputC, by_run_c, by_rebinding_c, call_output_c, output_of_tick_c, TableOfC, prepared}
 use Rattle.agreement.specs.ForC.{CallC, run_call, run_call_live, tick_call, tick_call_live, rebind_call, rebind_call_live}
 use Rattle.agreement.proofs.Numbers.{Positive, image-positive, prepare-success}
-use Rattle.agreement.proofs.OneCall.{prepared-rebind-is, prepared-holds, run_asked, handed_output, state_after}
+use Rattle.agreement.proofs.OneCall.{prepared-rebind-is, prepared-holds, run_asked, handed_output, handed_state, ran-holds, ticked-holds, rebound-holds}
 use Rattle.ticks.specs.Tick as machine
 use Rattle.runs.proofs.machine.OneTick as one
 
@@ -58,9 +55,9 @@ module _ (s : State) (m₀ k₀ : ℕ) where
       ∙ sym (ap (run_over m₀ k₀) (one.advance-by t s w))
 
 -- ---- one call
-pub record LikeC (image bytes : List ℕ) (g : CallInput) (d : CallOutputC) (after : List ℕ) : Type 0 where
-  pub handed-is : d ≡ call_output_c (handed_output image (state_of bytes) g)
-  pub state-is : state_of after ≡ state_after image (state_of bytes) g
+pub record LikeC (image : List ℕ) (s : Kept) (g : CallInput) (d : CallOutputC) (after : Kept) : Type 0 where
+  pub handed-is : d ≡ call_output_c (handed_output image (view s) g)
+  pub state-is : view after ≡ handed_state image (view s) g
 
 -- a call of fairleadow_prepare that returned 0 succeeded with the count that it wrote
 pub table-prepared : (image : List ℕ) {table : List ℕ} → TableOfC image table → PreparedTable image table
@@ -68,29 +65,12 @@ table-prepared image (prepared before after at n c k h) =
     subst (λ (b : List ℕ). PreparedTable image (take k b)) (sym c.written)
     (prepared-holds image before n (prepare-success image before (sym c.told.number_is) ∙ ap success (sym c.told.count-is)) k h)
 
-module _ (image bytes : List ℕ) where
-  -- after a run, a tick and a rebinding the bytes hold the state that it hands back
-  ran-holds : (a : RunInput) → state_of (bytes_after bytes (run_asked image (state_of bytes) a))
-      ≡ (run_asked image (state_of bytes) a).state
-  unfolding run
-  ran-holds a = let ws : List ℕ = a.words in let ms : List ℕ = a.masks in let ks : List ℕ = a.codes in
-      run-held bytes (decoded_image (contents image)) ws ms ks (run_verdict image (state_of bytes) ws ms ks)
-
-  ticked-holds : (w : ℕ) → let x = tick_for image bytes w in state_of (if_ticked x (bytes_of x.state) bytes) ≡ x.state
-  unfolding image_tick run
-  ticked-holds w = tick-held bytes (decoded_image (contents image)) w (run_verdict image (state_of bytes) (w ∷ []) (0 ∷ []) (0 ∷ []))
-
-  rebound-holds : (h k : ℕ) → let x = rebind_for image bytes h k in
-      state_of (if reply_number x.reply == 0 then bytes_of x.state else bytes) ≡ x.state
-  unfolding rebind
-  rebound-holds h k = rebinding-held bytes h k (next (image_verdict image) λ _. rebind_verdict (decoded_image (contents image))
-      (state_of bytes) h k)
-
-  run-like : (a : RunInput) {x : RunOutcome} {t : RunOutputC} {after : List ℕ} → x ≡ run_asked image (state_of bytes) a
-      → GivesRunC x bytes t.number t.index t.count after t.masks t.codes → LikeC image bytes (to_run a) (by_run_c t) after
+module _ (image : List ℕ) (s : Kept) where
+  run-like : (a : RunInput) {x : RunOutcome} {t : RunOutputC} {after : Kept} → x ≡ run_asked image (view s) a
+      → GivesRunC x s t.number t.index t.count after t.masks t.codes → LikeC image s (to_run a) (by_run_c t) after
   run-like a {x} {t} {after} e d =
-      let c : GivesRunC (run_asked image (state_of bytes) a) bytes t.number t.index t.count after t.masks t.codes =
-      subst (λ (y : RunOutcome). GivesRunC y bytes t.number t.index t.count after t.masks t.codes) e d in
+      let c : GivesRunC (run_asked image (view s) a) s t.number t.index t.count after t.masks t.codes =
+      subst (λ (y : RunOutcome). GivesRunC y s t.number t.index t.count after t.masks t.codes) e d in
       record {
         handed-is = λ j. by_run_c (record {
           number = c.told.number_is j;
@@ -99,22 +79,22 @@ module _ (image bytes : List ℕ) where
           masks = c.masks j;
           codes = c.codes j;
         });
-        state-is = ap state_of c.bytes ∙ ran-holds a;
+        state-is = ap view c.state ∙ ran-holds image s a;
       }
 
-  tick-like : (w : ℕ) {x : TickOutcome} {m₀ k₀ returned at made m k : ℕ} {after : List ℕ} → x ≡ tick_for image bytes w
-      → GivesTickC x bytes m₀ k₀ returned at made after m k
-      → LikeC image bytes (one_word w m₀ k₀) (output_of_tick_c returned at made m k) after
+  tick-like : (w : ℕ) {x : TickOutcome} {m₀ k₀ returned at made m k : ℕ} {after : Kept} → x ≡ tick_for image s w
+      → GivesTickC x s m₀ k₀ returned at made after m k
+      → LikeC image s (one_word w m₀ k₀) (output_of_tick_c returned at made m k) after
   tick-like w {x} {m₀} {k₀} {returned} {at} {made} {m} {k} {after} e d = grind (arith, common_steps, run-over, ticked-holds)
 
-  rebinding-like : (h k : ℕ) {x : StateOutcome} {returned at made : ℕ} {after : List ℕ} → x ≡ rebind_for image bytes h k
-      → GivesRebindingC x bytes returned at made after → LikeC image bytes (to_rebind h k) (by_rebinding_c returned at made) after
+  rebinding-like : (h k : ℕ) {x : StateOutcome} {returned at made : ℕ} {after : Kept} → x ≡ rebind_for image s h k
+      → GivesRebindingC x s returned at made after → LikeC image s (to_rebind h k) (by_rebinding_c returned at made) after
   rebinding-like h k {x} {returned} {at} {made} {after} e d = grind (arith, common_steps, rebound-holds)
 
-  pub call-like : {g : CallInput} {d : CallOutputC} {after : List ℕ} → CallC image bytes g d after → LikeC image bytes g d after
+  pub call-like : {g : CallInput} {d : CallOutputC} {after : Kept} → CallC image s g d after → LikeC image s g d after
   call-like (run_call {a = a} c) = run-like a refl c
-  call-like (run_call_live {a = a} t c) = run-like a (live-run-is (table-prepared image t) (state_of bytes) a.words a.masks a.codes) c
+  call-like (run_call_live {a = a} t c) = run-like a (live-run-is (table-prepared image t) (view s) a.words a.masks a.codes) c
   call-like (tick_call {w = w} c) = tick-like w refl c
-  call-like (tick_call_live {w = w} t c) = tick-like w (live-tick-is (table-prepared image t) (state_of bytes) w) c
+  call-like (tick_call_live {w = w} t c) = tick-like w (live-tick-is (table-prepared image t) (view s) w) c
   call-like (rebind_call {h = h} {k = k} c) = rebinding-like h k refl c
-  call-like (rebind_call_live {h = h} {k = k} t c) = rebinding-like h k (prepared-rebind-is (table-prepared image t) (state_of bytes) h k) c
+  call-like (rebind_call_live {h = h} {k = k} t c) = rebinding-like h k (prepared-rebind-is (table-prepared image t) (view s) h k) c

@@ -6,7 +6,7 @@ use Rattle.bindings.specs.Binding.{Binding}
 use Rattle.charts.specs.Chart.{Chart}
 use Rattle.walk.proofs.Trace.{Open, WalkPosition}
 use Rattle.chart_rows.specs.chart_labels.Labels.{label}
-use Rattle.state.specs.declared.State.{State}
+use Rattle.state.specs.State.{State}
 
 -- f of the callers, in front of what is given
 unfoldable pub below : (Open → ℕ) → List Open → List ℕ → List ℕ

@@ -12,8 +12,8 @@ use Rattle.walk.specs.Walk.{signals, Tick, walk}
 use Rattle.walk.proofs.OwnBinding.{own-binding}
 use Rattle.translator.specs.Entry.{translate}
 use Rattle.translator.proofs.Translated.{translated-read, translated-fine}
-use Rattle.state.specs.declared.State.{State}
-use Rattle.state.specs.State.{fresh_state}
+use Rattle.state.specs.declared.State.{State as Kept}
+use Rattle.state.specs.State.{State, fresh_state}
 use Rattle.runs.specs.Run.{RunOutcome, run}
 use Rattle.rebinding.specs.Rebind.{rebind}
 use Rattle.agreement.specs.Agreement.{Translator, Maker, Runner, Rebinder, RunInput, RunOutput, output_of, to_run, CallOutput, by_run}
@@ -105,10 +105,10 @@ delivered-alone text before after answer l n e size low high made m asked handed
     ∙ walked-alone text (translated-read text (translated-fine text before n (sym l.answered ∙ e))) size asked
 
 -- are among the lists of calls: no call of prepare is asked for
-pub runs-are-calls : {image : List ℕ} {s : State} {asked : List RunInput} {tolds : List RunOutput} → alone.RunCalls image s asked tolds
+pub runs-are-calls : {image : List ℕ} {s : Kept} {asked : List RunInput} {tolds : List RunOutput} → alone.RunCalls image s asked tolds
     → calls.CallsInTurn image s (map to_run asked) (map by_run tolds)
 runs-are-calls alone.none = calls.none
-runs-are-calls (alone.more ran masks codes r rs) = calls.more (calls.run_call r) (runs-are-calls rs)
+runs-are-calls (alone.more answer after masks codes r rs) = calls.more (calls.run_call r) (runs-are-calls rs)
 
 pub runs-delivered : alone.RunsDelivered
 unfolding alone.RunsDelivered alone.DeliveredAlone
@@ -123,14 +123,14 @@ handed-told (t ∷ ts) = ap (λ (l : List c.CallOutputC). c.by_run_c (c.run_outp
 
 pub delivered-alone-c : alone.DeliveredAloneC
 unfolding alone.DeliveredAloneC c.DeliveredC
-delivered-alone-c text before after at n l size low high returned at' made bytes m asked handed cs =
-    delivered-c text before after at n l size low high returned at' made bytes m (map to_run asked) handed cs
+delivered-alone-c text before after at n l size low high returned at' made s m asked handed cs =
+    delivered-c text before after at n l size low high returned at' made s m (map to_run asked) handed cs
     ∙ ap (map c.call_output_c)
     (walked-alone text (translated-read text (translated-fine text before n (returned-0 text before after at n l))) size asked)
     ∙ handed-told (unswapped.walk_runs size (contents text) asked)
 
-pub runs-are-calls-c : {image bytes : List ℕ} {asked : List RunInput} {tolds : List c.RunOutputC} → alone.RunCallsC image bytes asked tolds
-    → c.CallsInTurnC image bytes (map to_run asked) (map c.by_run_c tolds)
+pub runs-are-calls-c : {image : List ℕ} {s : Kept} {asked : List RunInput} {tolds : List c.RunOutputC} → alone.RunCallsC image s asked tolds
+    → c.CallsInTurnC image s (map to_run asked) (map c.by_run_c tolds)
 runs-are-calls-c alone.none = c.none
 runs-are-calls-c (alone.more after r rs) = c.more (c.run_call r) (runs-are-calls-c rs)
 
@@ -144,9 +144,9 @@ told-back-c (t ∷ ts) = ap (λ (l : List c.RunOutputC). t ∷ l) (told-back-c t
 
 pub runs-delivered-c : alone.RunsDeliveredC
 unfolding alone.RunsDeliveredC alone.DeliveredAloneC
-runs-delivered-c text before after at n l size low high returned at' made bytes m asked tolds rs =
+runs-delivered-c text before after at n l size low high returned at' made s m asked tolds rs =
     sym (told-back-c tolds)
-    ∙ ap (flat_map outputs_of_run_c) (delivered-alone-c text before after at n l size low high returned at' made bytes m asked
+    ∙ ap (flat_map outputs_of_run_c) (delivered-alone-c text before after at n l size low high returned at' made s m asked
     (map c.by_run_c tolds)
     (runs-are-calls-c rs))
     ∙ told-back-c (map c.run_output_c (unswapped.walk_runs size (contents text) asked))

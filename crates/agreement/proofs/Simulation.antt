@@ -21,8 +21,7 @@ use Rattle.chart_rows.specs.chart_labels.Labels.{is_numbered, label}
 use Rattle.chart_rows.proofs.chart_labels.LabelKinds.{label-owner}
 use Rattle.chart_rows.specs.Rows.{rows}
 use Rattle.translator.specs.Table.{table}
-use Rattle.state.specs.declared.State.{State}
-use Rattle.state.specs.State.{bottom_alone, label_at, place_at, number_at}
+use Rattle.state.specs.State.{State, bottom_alone, label_at, place_at, number_at}
 use Rattle.state.specs.Changes.{with_bits}
 use Rattle.fitness.specs.Fitness.{is_of_handler}
 use Rattle.ticks.specs.Tick.{row_leads, MachineTick, finished, stopped, moved_tick, popped_state, is_full_stack_kept, pushed_tick}

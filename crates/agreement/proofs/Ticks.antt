@@ -15,7 +15,7 @@ use Rattle.walk.proofs.Views.{View, a-plain, a_call, a-function, a-home, a_back,
 use Rattle.walk.proofs.Trace.{Open, WalkPosition, stop_tick, position_moved, is_drop_at, tick_at, move}
 use Rattle.walk.proofs.Trace.{trace, Serves, Good, view-of, moves}
 use Rattle.translator.specs.Table.{table}
-use Rattle.state.specs.declared.State.{State}
+use Rattle.state.specs.State.{State}
 use Rattle.runs.specs.Run.{MachineRun, run_after, ticks}
 use Rattle.agreement.specs.Agreement.{is_full_call, bound}
 use Rattle.agreement.proofs.TableFacts.{TableFacts}

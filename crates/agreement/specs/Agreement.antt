@@ -12,8 +12,7 @@ use Rattle.charts.specs.Chart.{Chart, schemes, handler}
 use Rattle.walk.specs.Walk.{Signal, signals, Tick, is_drop, walk}
 use Rattle.translator.specs.Entry.{translate}
 use Rattle.state.specs.declared.layout.TheConstants.{PLACES}
-use Rattle.state.specs.declared.State.{State}
-use Rattle.state.specs.State.{StateOutcome}
+use Rattle.state.specs.State.{State, StateOutcome}
 use Rattle.runs.specs.Run.{RunOutcome, has_no_room}
 
 -- ---- the four functions that the demand speaks of

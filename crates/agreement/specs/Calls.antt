@@ -7,12 +7,14 @@ use Rattle.text.specs.frames.Answer.{Answer, reply, success, GivesBuffer}
 use Rattle.translator.specs.Entry.{translate}
 use Rattle.tables.specs.Prepare.{prepare}
 use Rattle.state.specs.declared.layout.TheConstants.{PLACES}
-use Rattle.state.specs.declared.State.{State}
+use Rattle.state.specs.declared.State.{State as Kept}
 use Rattle.state.specs.declared.StateReport.{StateReport}
-use Rattle.state.specs.State.{fresh_state, GivesState}
-use Rattle.runs.specs.Run.{run, GivesRun}
-use Rattle.runs.specs.TickOutcome.{image_tick, TickAnswer, tick_reply, answered_mask, answered_code, GivesTick}
-use Rattle.rebinding.specs.Rebind.{rebind, live_rebind}
+use Rattle.state.specs.State.{fresh_state}
+use Rattle.state.specs.Kept.{view, GivesState}
+use Rattle.runs.specs.Run.{run}
+use Rattle.runs.specs.TickOutcome.{image_tick, TickAnswer, tick_reply, answered_mask, answered_code}
+use Rattle.runs.specs.InPlace.{GivesRunOn, GivesTickOn}
+use Rattle.rebinding.specs.Rebind.{rebind, live_rebind, GivesRebindingOn}
 use Rattle.runs.specs.machine.Live.{live_run, live_tick}
 use Rattle.agreement.specs.Agreement.{RunInput, CallInput, to_run, to_rebind, CallOutput, by_run, by_rebinding, walk_outputs}
 
@@ -23,11 +25,11 @@ pub data TableOf (image : List ℕ) : List ℕ → Type 0 where
       → (k : ℕ) → n ≤ k → TableOf image (take k after)
 
 -- what a run and a rebinding hand back beside the state
-abbrev pub output_of_run : StateReport → List ℕ → List ℕ → CallOutput
-output_of_run r masks codes = by_run (record { reply = reply r.answer; masks = masks; codes = codes })
+abbrev pub output_of_run : Answer → List ℕ → List ℕ → CallOutput
+output_of_run r masks codes = by_run (record { reply = reply r; masks = masks; codes = codes })
 
-abbrev pub output_of_rebinding : StateReport → CallOutput
-output_of_rebinding r = by_rebinding (reply r.answer)
+abbrev pub output_of_rebinding : Answer → CallOutput
+output_of_rebinding r = by_rebinding (reply r)
 
 -- a tick counts as a run of one word, with one place for its mask and one for its code, which hold m and k before it; the answer of a
 -- refused one stands for 0 and 0, as if the places had held these
@@ -38,25 +40,27 @@ abbrev pub output_of_tick : TickAnswer → CallOutput
 output_of_tick a = by_run (record { reply = tick_reply a; masks = answered_mask a ∷ []; codes = answered_code a ∷ [] })
 
 -- one call that is handed the image, or a table of it, and the state s: what else it is given, what it hands back, and the state after it
-pub data Call (image : List ℕ) (s : State) : CallInput → CallOutput → State → Type 0 where
-  run_call : {a : RunInput} {r : StateReport} {masks codes : List ℕ} → GivesRun (run image s a.words a.masks a.codes) r masks codes
-      → Call image s (to_run a) (output_of_run r masks codes) r.state
-  run_call_live : {table : List ℕ} {a : RunInput} {r : StateReport} {masks codes : List ℕ} → TableOf image table
-      → GivesRun (live_run table s a.words a.masks a.codes) r masks codes
-      → Call image s (to_run a) (output_of_run r masks codes) r.state
-  tick_call : {w : ℕ} {a : TickAnswer} {after : State} → GivesTick (image_tick image s w) a after
-      → Call image s (one_word w 0 0) (output_of_tick a) after
-  tick_call_live : {table : List ℕ} {w : ℕ} {a : TickAnswer} {after : State} → TableOf image table
-      → GivesTick (live_tick table s w) a after → Call image s (one_word w 0 0) (output_of_tick a) after
-  rebind_call : {h k : ℕ} {r : StateReport} → GivesState (rebind image s h k) r
-      → Call image s (to_rebind h k) (output_of_rebinding r) r.state
-  rebind_call_live : {table : List ℕ} {h k : ℕ} {r : StateReport} → TableOf image table → GivesState (live_rebind table s h k) r
-      → Call image s (to_rebind h k) (output_of_rebinding r) r.state
+pub data Call (image : List ℕ) (s : Kept) : CallInput → CallOutput → Kept → Type 0 where
+  run_call : {a : RunInput} {r : Answer} {after : Kept} {masks codes : List ℕ}
+      → GivesRunOn (run image (view s) a.words a.masks a.codes) s r after masks codes
+      → Call image s (to_run a) (output_of_run r masks codes) after
+  run_call_live : {table : List ℕ} {a : RunInput} {r : Answer} {after : Kept} {masks codes : List ℕ} → TableOf image table
+      → GivesRunOn (live_run table (view s) a.words a.masks a.codes) s r after masks codes
+      → Call image s (to_run a) (output_of_run r masks codes) after
+  tick_call : {w : ℕ} {r : TickAnswer} {after : Kept} → GivesTickOn (image_tick image (view s) w) s r after
+      → Call image s (one_word w 0 0) (output_of_tick r) after
+  tick_call_live : {table : List ℕ} {w : ℕ} {r : TickAnswer} {after : Kept} → TableOf image table
+      → GivesTickOn (live_tick table (view s) w) s r after → Call image s (one_word w 0 0) (output_of_tick r) after
+  rebind_call : {h k : ℕ} {r : Answer} {after : Kept} → GivesRebindingOn (rebind image (view s) h k) s r after
+      → Call image s (to_rebind h k) (output_of_rebinding r) after
+  rebind_call_live : {table : List ℕ} {h k : ℕ} {r : Answer} {after : Kept} → TableOf image table
+      → GivesRebindingOn (live_rebind table (view s) h k) s r after
+      → Call image s (to_rebind h k) (output_of_rebinding r) after
 
 -- calls in a row, each given the state that the one before handed back
-pub data CallsInTurn (image : List ℕ) : State → List CallInput → List CallOutput → Type 0 where
-  none : {s : State} → CallsInTurn image s [] []
-  more : {s after : State} {g : CallInput} {d : CallOutput} {rest : List CallInput} {handed : List CallOutput} → Call image s g d after
+pub data CallsInTurn (image : List ℕ) : Kept → List CallInput → List CallOutput → Type 0 where
+  none : {s : Kept} → CallsInTurn image s [] []
+  more : {s after : Kept} {g : CallInput} {d : CallOutput} {rest : List CallInput} {handed : List CallOutput} → Call image s g d after
       → CallsInTurn image after rest handed → CallsInTurn image s (g ∷ rest) (d ∷ handed)
 
 -- where translate succeeded with n characters, whatever the calls handed back is what the walk of the joined words gives

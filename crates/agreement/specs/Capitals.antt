@@ -10,7 +10,7 @@ use Rattle.rows.specs.listing.Listing.{list}
 use Rattle.minimising.specs.Entry.{minimise}
 use Rattle.translator.specs.Entry.{translate}
 use Rattle.places.specs.Entry.{places_needed}
-use Rattle.state.specs.declared.State.{State}
+use Rattle.state.specs.State.{State}
 use Rattle.cause.specs.Cause.{explain}
 use Rattle.rebinding.specs.Rebind.{rebind}
 use Rattle.prices.specs.priced_runs.PricedRun.{priced_run}

@@ -2,7 +2,7 @@
 use Rattle.std.specs.Prelude.{ℕ, ◌≤◌, ◌≡◌, List, take}
 use Rattle.text.specs.frames.Answer.{success}
 use Rattle.tables.specs.Prepare.{prepare}
-use Rattle.state.specs.declared.State.{State}
+use Rattle.state.specs.State.{State}
 use Rattle.runs.specs.Run.{run}
 use Rattle.runs.specs.TickOutcome.{image_tick}
 use Rattle.runs.specs.machine.Live.{live_run, live_tick}

@@ -10,8 +10,7 @@ use Rattle.image.specs.Image.{Image, Label, Row, no_row, nth_row}
 use Rattle.image.specs.Decode.{decoded_image}
 use Rattle.translator.specs.Entry.{translate}
 use Rattle.rows.specs.Rows.{is_candidate, Choice, row, no_choice, best_row, Found, lead_of}
-use Rattle.state.specs.declared.State.{State}
-use Rattle.state.specs.State.{label_at, place_at, number_at, Sized}
+use Rattle.state.specs.State.{State, label_at, place_at, number_at, Sized}
 use Rattle.state.specs.Changes.{with_bits}
 use Rattle.fitness.specs.Fitness.{is_unfit}
 use Rattle.ticks.specs.Tick.{called_bit, MachineTick, moved_tick, popped_state, popped_tick, tick_by, tick, top_of}

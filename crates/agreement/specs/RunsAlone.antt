@@ -5,10 +5,12 @@ use Rattle.text.specs.frames.Frame.{contents}
 use Rattle.text.specs.frames.Answer.{Answer, reply, success, GivesBuffer}
 use Rattle.translator.specs.Entry.{translate}
 use Rattle.state.specs.declared.layout.TheConstants.{PLACES}
-use Rattle.state.specs.declared.State.{State}
+use Rattle.state.specs.declared.State.{State as Kept}
 use Rattle.state.specs.declared.StateReport.{StateReport}
-use Rattle.state.specs.State.{fresh_state, GivesState}
-use Rattle.runs.specs.Run.{run, GivesRun}
+use Rattle.state.specs.State.{fresh_state}
+use Rattle.state.specs.Kept.{view, GivesState}
+use Rattle.runs.specs.Run.{run}
+use Rattle.runs.specs.InPlace.{GivesRunOn}
 use Rattle.fairleadow.specs.telling.AnswersForC.{GivesBufferC}
 use Rattle.fairleadow.specs.runs_for_c.Calls.{GivesStateC, run_for, GivesRunC}
 use Rattle.agreement.specs.Agreement.{RunInput, to_run, RunOutput, CallOutput, by_run}
@@ -26,11 +28,11 @@ DeliveredAlone =
     → handed ≡ map by_run (walk_runs size (contents text) asked)
 
 -- calls of run in a row, each given the state that the one before returned
-pub data RunCalls (image : List ℕ) : State → List RunInput → List RunOutput → Type 0 where
-  none : {s : State} → RunCalls image s [] []
-  more : {s : State} {a : RunInput} {rest : List RunInput} {tolds : List RunOutput} (ran : StateReport) (masks codes : List ℕ)
-      → GivesRun (run image s a.words a.masks a.codes) ran masks codes → RunCalls image ran.state rest tolds
-      → RunCalls image s (a ∷ rest) (record { reply = reply ran.answer; masks = masks; codes = codes } ∷ tolds)
+pub data RunCalls (image : List ℕ) : Kept → List RunInput → List RunOutput → Type 0 where
+  none : {s : Kept} → RunCalls image s [] []
+  more : {s : Kept} {a : RunInput} {rest : List RunInput} {tolds : List RunOutput} (r : Answer) (after : Kept) (masks codes : List ℕ)
+      → GivesRunOn (run image (view s) a.words a.masks a.codes) s r after masks codes → RunCalls image after rest tolds
+      → RunCalls image s (a ∷ rest) (record { reply = reply r; masks = masks; codes = codes } ∷ tolds)
 
 unfoldable pub RunsDelivered : Type 0
 RunsDelivered =
@@ -43,22 +45,22 @@ RunsDelivered =
 unfoldable pub DeliveredAloneC : Type 0
 DeliveredAloneC =
     (text before after : List ℕ) (at n : ℕ) → GivesBufferC (translate text before) 0 at n after
-    → (size : ℕ) → 1 ≤ size → size ≤ PLACES → (returned at made : ℕ) (bytes : List ℕ)
-    → GivesStateC (fresh_state size) returned at made bytes
-    → (asked : List RunInput) (handed : List CallOutputC) → CallsInTurnC (take n after) bytes (map to_run asked) handed
+    → (size : ℕ) → 1 ≤ size → size ≤ PLACES → (returned at made : ℕ) (s : Kept)
+    → GivesStateC (fresh_state size) returned at made s
+    → (asked : List RunInput) (handed : List CallOutputC) → CallsInTurnC (take n after) s (map to_run asked) handed
     → handed ≡ map by_run_c (map run_output_c (walk_runs size (contents text) asked))
 
-pub data RunCallsC (image : List ℕ) : List ℕ → List RunInput → List RunOutputC → Type 0 where
-  none : {bytes : List ℕ} → RunCallsC image bytes [] []
-  more : {bytes : List ℕ} {a : RunInput} {rest : List RunInput} {t : RunOutputC} {tolds : List RunOutputC} (after : List ℕ)
-      → GivesRunC (run_for image bytes a.words a.masks a.codes) bytes t.number t.index t.count after t.masks t.codes
+pub data RunCallsC (image : List ℕ) : Kept → List RunInput → List RunOutputC → Type 0 where
+  none : {s : Kept} → RunCallsC image s [] []
+  more : {s : Kept} {a : RunInput} {rest : List RunInput} {t : RunOutputC} {tolds : List RunOutputC} (after : Kept)
+      → GivesRunC (run_for image s a.words a.masks a.codes) s t.number t.index t.count after t.masks t.codes
       → RunCallsC image after rest tolds
-      → RunCallsC image bytes (a ∷ rest) (t ∷ tolds)
+      → RunCallsC image s (a ∷ rest) (t ∷ tolds)
 
 unfoldable pub RunsDeliveredC : Type 0
 RunsDeliveredC =
     (text before after : List ℕ) (at n : ℕ) → GivesBufferC (translate text before) 0 at n after
-    → (size : ℕ) → 1 ≤ size → size ≤ PLACES → (returned at made : ℕ) (bytes : List ℕ)
-    → GivesStateC (fresh_state size) returned at made bytes
-    → (asked : List RunInput) (tolds : List RunOutputC) → RunCallsC (take n after) bytes asked tolds
+    → (size : ℕ) → 1 ≤ size → size ≤ PLACES → (returned at made : ℕ) (s : Kept)
+    → GivesStateC (fresh_state size) returned at made s
+    → (asked : List RunInput) (tolds : List RunOutputC) → RunCallsC (take n after) s asked tolds
     → tolds ≡ map run_output_c (walk_runs size (contents text) asked)

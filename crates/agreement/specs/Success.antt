@@ -7,7 +7,7 @@ use Rattle.tables.specs.Prepare.{prepare}
 use Rattle.minimising.specs.Entry.{minimise}
 use Rattle.little_charts.specs.Little.{little_chart}
 use Rattle.rows.specs.listing.Listing.{list}
-use Rattle.state.specs.declared.State.{State}
+use Rattle.state.specs.State.{State}
 use Rattle.cause.specs.Cause.{explain}
 use Rattle.fillings.specs.Counts.{count_fillings}
 

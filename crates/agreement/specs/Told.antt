@@ -4,9 +4,9 @@ use Rattle.std.specs.Prelude.{ℕ, ◌≡◌, List}
 use Rattle.text.specs.frames.Answer.{Answer, reply, success}
 use Rattle.rows.specs.listing.Listing.{list, GivesListing}
 use Rattle.rows.specs.listing.Exact.{Held}
-use Rattle.state.specs.declared.State.{State}
+use Rattle.state.specs.declared.State.{State as Kept}
 use Rattle.state.specs.State.{Sized}
-use Rattle.state.specs.Bytes.{state_of}
+use Rattle.state.specs.Kept.{view}
 use Rattle.cause.specs.Cause.{Cause, CauseAnswer, explain, cause_reply, cause_row, cause_mask, cause_bit, GivesCause}
 use Rattle.cause.specs.Laws.{Explains}
 use Rattle.fairleadow.specs.images_for_c.Calls.{GivesListingC}
@@ -17,14 +17,14 @@ cause_report k m b = record { row = k; mask = m; bit = b }
 
 unfoldable pub CauseTold : Type 0
 CauseTold =
-    (text : List ℕ) (s : State) (w : ℕ) (answer : CauseAnswer) → GivesCause (explain text s w) answer → Sized s
+    (text : List ℕ) (s : Kept) (w : ℕ) (answer : CauseAnswer) → GivesCause (explain text (view s) w) answer → Sized (view s)
     → (n : ℕ) → cause_reply answer ≡ success n
-    → Explains text s w (cause_report (cause_row answer) (cause_mask answer) (cause_bit answer))
+    → Explains text (view s) w (cause_report (cause_row answer) (cause_mask answer) (cause_bit answer))
 
 unfoldable pub CauseToldC : Type 0
 CauseToldC =
-    (text bytes : List ℕ) (w at made k m b : ℕ) → GivesCauseC (cause_for text bytes w) 0 at made k m b
-    → Explains text (state_of bytes) w (cause_report k m b)
+    (text : List ℕ) (s : Kept) (w at made k m b : ℕ) → GivesCauseC s (cause_for text s w) 0 at made k m b
+    → Explains text (view s) w (cause_report k m b)
 
 unfoldable pub RowsListed : Type 0
 RowsListed =

@@ -7,7 +7,7 @@ use Rattle.charts.specs.Chart.{Chart}
 use Rattle.walk.specs.Walk.{Tick}
 use Rattle.walk.specs.Unswapped.{walk}
 use Rattle.state.specs.declared.layout.TheConstants.{PLACES}
-use Rattle.state.specs.declared.State.{State}
+use Rattle.state.specs.State.{State}
 use Rattle.agreement.specs.Agreement.{Translator, Maker, Runner, Rebinder, RunInput, RunOutput, output_of, is_short, bound}
 use Rattle.agreement.specs.Agreement.{expected_output, output_refused_short, Translates, Agreement}
 

@@ -4,8 +4,7 @@
 use Rattle.std.proofs.Common.{if◌then◌else◌, ◌≡◌, ◌∙◌, ap, sym, List, [], ◌∷◌, ℕ, arith, take}
 use Rattle.results.specs.Results.{result_of}
 use Rattle.text.specs.frames.Answer.{reply_number}
-use Rattle.state.specs.declared.State.{State}
-use Rattle.state.specs.State.{fresh}
+use Rattle.state.specs.State.{State, fresh}
 use Rattle.runs.specs.Run.{RunOutcome}
 use Rattle.agreement.specs.Agreement.{CallInput, CallOutput, call_outputs}
 use Rattle.agreement.proofs.Images.{run_image, run-image}

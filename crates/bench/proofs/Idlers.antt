@@ -5,8 +5,7 @@ use Rattle.words.specs.lists.Sequences.{over}
 use Rattle.text.specs.frames.Answer.{BufferOutcome, buffer_on, reply_number, reply_count}
 use Rattle.text.proofs.frames.Lent.{Success, lent-told, front}
 use Rattle.translator.specs.Entry.{translate_verdict, translate}
-use Rattle.state.specs.declared.State.{State}
-use Rattle.state.specs.State.{entry_at, place_at, fresh, fresh_state}
+use Rattle.state.specs.State.{State, entry_at, place_at, fresh, fresh_state}
 use Rattle.state.specs.Changes.{with_place}
 use Rattle.ticks.specs.Tick.{finished, tick}
 use Rattle.runs.specs.Run.{RunOutcome}

@@ -8,8 +8,7 @@ use Rattle.bindings.specs.Binding.{own_binding}
 use Rattle.walk.specs.Walk.{Tick, walk}
 use Rattle.image.specs.Image.{Image}
 use Rattle.translator.specs.Entry.{translate}
-use Rattle.state.specs.declared.State.{State}
-use Rattle.state.specs.State.{fresh, fresh_state}
+use Rattle.state.specs.State.{State, fresh, fresh_state}
 use Rattle.agreement.specs.Agreement.{Runner, Rebinder, RunInput, RunOutput, output_of, CallInput, to_run, to_rebind, CallOutput, by_run}
 use Rattle.agreement.specs.Agreement.{by_rebinding, joined_words, call_outputs, bound, expected_outputs, Agreement}
 use Rattle.agreement.proofs.Chain.{fresh-is}

@@ -2,8 +2,7 @@
 use Rattle.std.proofs.Common.{◌≡◌, refl, ◌∙◌, ap, ap₂, List, [], ◌∷◌, ℕ}
 use Rattle.text.specs.frames.Verdict.{Verdict, next}
 use Rattle.image.specs.Image.{Image}
-use Rattle.state.specs.declared.State.{State}
-use Rattle.state.specs.State.{StateOutcome}
+use Rattle.state.specs.State.{State, StateOutcome}
 use Rattle.runs.specs.Run.{RunOutcome, run}
 use Rattle.rebinding.specs.Rebind.{rebind_verdict, rebind_on, rebind}
 use Rattle.agreement.specs.Agreement.{Runner, Rebinder, output_of, CallInput, to_run, to_rebind, CallOutput, by_run, by_rebinding}

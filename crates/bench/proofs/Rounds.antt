@@ -17,8 +17,7 @@ use Rattle.walk.specs.Walk.{walk}
 use Rattle.image.specs.Image.{Image}
 use Rattle.image.specs.inner.Sound.{SoundImage}
 use Rattle.image.proofs.Accepted.{image-sound}
-use Rattle.state.specs.declared.State.{State}
-use Rattle.state.specs.State.{fresh}
+use Rattle.state.specs.State.{State, fresh}
 use Rattle.ticks.specs.Tick.{MachineTick, finished, pushed_tick, tick}
 use Rattle.rows.specs.Rows.{best_row}
 use Rattle.runs.specs.Run.{RunOutcome, MachineRun, run_after, ticks, has_no_room, run_on, run}

@@ -3,9 +3,7 @@ use Rattle.std.proofs.Common.{◌≡◌, refl, ◌∙◌, ap, sym, List, [], ◌
 use Rattle.text.specs.frames.Frame.{contents}
 use Rattle.text.specs.frames.Answer.{success, refusal}
 use Rattle.walk.specs.Walk.{Tick}
-use Rattle.state.specs.declared.State.{State}
-use Rattle.state.specs.State.{fresh, fresh_state}
-use Rattle.state.specs.Bytes.{bytes_of}
+use Rattle.state.specs.State.{State, fresh, fresh_state}
 use Rattle.runs.specs.Run.{RunOutcome}
 use Rattle.rebinding.specs.Rebind.{rebind}
 use Rattle.agreement.specs.Agreement.{CallInput, to_rebind, CallOutput, by_rebinding, call_outputs, joined_words, bound, expected_outputs}
@@ -35,7 +33,7 @@ listed : (n : ℕ) (given : List CallInput)
 listed n = chain-image (held of-swap) (fresh n)
 
 pub byte-cases : ByteCases
-unfolding fresh_state bytes_of
+unfolding fresh_state
 byte-cases = record { new = refl; zeros = refl }
 
 pub swap-cases : SwapCases

@@ -5,8 +5,7 @@ use Rattle.text.specs.frames.Frame.{contents}
 use Rattle.text.specs.frames.Answer.{reply_number}
 use Rattle.image.specs.Image.{Image}
 use Rattle.image.specs.Decode.{decoded_image}
-use Rattle.state.specs.declared.State.{State}
-use Rattle.state.specs.State.{fresh}
+use Rattle.state.specs.State.{State, fresh}
 use Rattle.runs.specs.Run.{run}
 use Rattle.rebinding.specs.Rebind.{rebind}
 use Rattle.agreement.specs.Agreement.{RunOutput, output_of, CallInput, to_rebind, call_outputs}

@@ -2,8 +2,7 @@
 use Rattle.std.proofs.Common.{◌≡◌, refl, ◌∙◌, ap, ap₂, sym, List, ℕ, slice_index}
 use Rattle.text.specs.frames.Verdict.{Verdict, next}
 use Rattle.image.specs.Image.{Image}
-use Rattle.state.specs.declared.State.{State}
-use Rattle.state.specs.State.{fresh}
+use Rattle.state.specs.State.{State, fresh}
 use Rattle.runs.specs.Run.{run_verdict, run_on}
 use Rattle.agreement.specs.Agreement.{Runner, Rebinder, RunOutput, output_of, CallInput, call_outputs}
 use Rattle.agreement.proofs.Images.{state_verdict}

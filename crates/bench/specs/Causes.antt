@@ -3,7 +3,7 @@
 use Rattle.std.specs.Prelude.{ℕ, Bool, true, false, ◌≡◌, List, [], ◌∷◌, set, take}
 use Rattle.text.specs.frames.Frame.{contents, text_of}
 use Rattle.text.specs.frames.Answer.{success, refusal}
-use Rattle.state.specs.declared.State.{State}
+use Rattle.state.specs.State.{State}
 use Rattle.state.specs.Changes.{with_bits}
 use Rattle.cause.specs.Cause.{CauseOutcome, no_cause, explain}
 use Rattle.bench.specs.Bench.{lines, image_p}

@@ -7,7 +7,7 @@ use Rattle.text.specs.frames.Frame.{contents, text_of}
 use Rattle.walk.specs.Walk.{signals, Tick, walk}
 use Rattle.image.specs.Check.{image_verdict}
 use Rattle.translator.specs.Entry.{translate}
-use Rattle.state.specs.declared.State.{State}
+use Rattle.state.specs.State.{State}
 use Rattle.runs.specs.Run.{run}
 use Rattle.bench.specs.Bench.{lines, tick_of, fresh_run}
 

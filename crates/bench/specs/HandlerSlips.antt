@@ -4,8 +4,7 @@ use Rattle.std.specs.Prelude.{ℕ, suc, ◌-◌, ◌&&◌, not, ◌≡◌, List,
 use Rattle.results.specs.Results.{Results, with_result, cleared_results}
 use Rattle.image.specs.Image.{Image, Label}
 use Rattle.translator.specs.Entry.{translate}
-use Rattle.state.specs.declared.State.{State}
-use Rattle.state.specs.State.{label_at, entry_at, place_at, fresh_state}
+use Rattle.state.specs.State.{State, label_at, entry_at, place_at, fresh_state}
 use Rattle.state.specs.Changes.{with_places, with_place, with_opened, with_bits}
 use Rattle.fitness.specs.Fitness.{is_call, is_of_handler}
 use Rattle.ticks.specs.Tick.{row_leads, MachineTick, finished, stopped, moved_tick, state_alone, full_tick, tick, top_of}

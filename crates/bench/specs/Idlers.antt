@@ -5,8 +5,7 @@ use Rattle.text.specs.frames.Verdict.{fine}
 use Rattle.text.specs.frames.Answer.{Reply, success, refusal, reply_number, reply_count}
 use Rattle.charts.specs.Entry.{read_verdict}
 use Rattle.translator.specs.Entry.{translate}
-use Rattle.state.specs.declared.State.{State}
-use Rattle.state.specs.State.{fresh_state}
+use Rattle.state.specs.State.{State, fresh_state}
 use Rattle.runs.specs.Run.{RunOutcome, run_verdict, run}
 use Rattle.rebinding.specs.Rebind.{rebind}
 use Rattle.agreement.specs.Agreement.{Runner, Rebinder, Translator, CallInput, call_outputs, Agreement, Translates}

@@ -5,7 +5,7 @@ use Rattle.text.specs.frames.Answer.{success, refusal}
 use Rattle.image.specs.Decode.{decoded_image}
 use Rattle.tables.specs.Prepare.{prepare}
 use Rattle.tables.specs.Table.{table_image}
-use Rattle.state.specs.declared.State.{State}
+use Rattle.state.specs.State.{State}
 use Rattle.runs.specs.TickOutcome.{TickOutcome}
 use Rattle.runs.specs.machine.Live.{live_tick}
 use Rattle.bench.specs.Bench.{image_p}

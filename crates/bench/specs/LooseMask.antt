@@ -5,8 +5,7 @@ use Rattle.text.specs.frames.Verdict.{fine}
 use Rattle.image.specs.Image.{nth_row}
 use Rattle.translator.specs.Table.{table}
 use Rattle.translator.specs.Entry.{translate_verdict}
-use Rattle.state.specs.declared.State.{State}
-use Rattle.state.specs.State.{fresh}
+use Rattle.state.specs.State.{State, fresh}
 use Rattle.state.specs.Changes.{with_place}
 use Rattle.cause.specs.Cause.{because, cause_of}
 use Rattle.bench.specs.Bench.{lines}

@@ -126,20 +126,8 @@ pub record ImageLayout : Type 0 where
   pub no_bit : image.NO_BIT ≡ 2
   pub no_label : image.NO_LABEL ≡ 256
 
--- a state: its places, its bytes, and which byte holds what
-pub record StateLayout : Type 0 where
+-- the places of a state, the spindles of a head, and their places together
+pub record StackSizes : Type 0 where
   pub places : state.PLACES ≡ 32
-  pub state_bytes : state.STATE_BYTES ≡ 130
-  pub size : state.SIZE ≡ 0
-  pub depth : state.DEPTH ≡ 1
-  pub places_from : state.PLACES_FROM ≡ 2
-  pub results_from : state.RESULTS_FROM ≡ 34
-  pub serving_from : state.SERVING_FROM ≡ 50
-  pub numbers_from : state.NUMBERS_FROM ≡ 66
-  pub servers_from : state.SERVERS_FROM ≡ 98
-
--- the spindles of a head, their places together, and the bytes of their states
-pub record HeadSizes : Type 0 where
   pub spindles : head.SPINDLES ≡ 4
   pub store : head.STORE ≡ 64
-  pub head_bytes : head.HEAD_BYTES ≡ 520

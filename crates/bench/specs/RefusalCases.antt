@@ -11,8 +11,7 @@ use Rattle.chart_rows.specs.Rows.{rows}
 use Rattle.translator.specs.Entry.{translate_verdict}
 use Rattle.places.specs.Entry.{places_needed}
 use Rattle.image.specs.Check.{image_verdict}
-use Rattle.state.specs.declared.State.{State}
-use Rattle.state.specs.State.{fresh_state, fresh, no_state}
+use Rattle.state.specs.State.{State, fresh_state, fresh, no_state}
 use Rattle.runs.specs.Run.{RunOutcome, run}
 use Rattle.bench.specs.Bench.{chart_p, image_p, bench_words, chart_function, fresh_run, beside}
 

@@ -6,8 +6,7 @@ use Rattle.text.specs.frames.Answer.{success}
 use Rattle.image.specs.Image.{Row}
 use Rattle.translator.specs.Entry.{translate}
 use Rattle.rows.specs.Rows.{is_candidate, Choice, row, no_choice}
-use Rattle.state.specs.declared.State.{State}
-use Rattle.state.specs.State.{Sized}
+use Rattle.state.specs.State.{State, Sized}
 use Rattle.fitness.specs.Fitness.{is_unfit}
 use Rattle.ticks.specs.Tick.{tick}
 use Rattle.runs.specs.Run.{run}

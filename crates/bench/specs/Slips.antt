@@ -7,8 +7,7 @@ use Rattle.text.specs.frames.Answer.{buffer_on}
 use Rattle.image.specs.Image.{Image, Label, Row, image_text}
 use Rattle.translator.specs.Table.{table}
 use Rattle.translator.specs.Entry.{translate_verdict, translate}
-use Rattle.state.specs.declared.State.{State}
-use Rattle.state.specs.State.{label_at, place_at, fresh_state}
+use Rattle.state.specs.State.{State, label_at, place_at, fresh_state}
 use Rattle.state.specs.Changes.{with_bits}
 use Rattle.ticks.specs.Tick.{MachineTick, finished, stopped, row_leads, popped_state, tick, top_of}
 use Rattle.ticks.specs.Functions.{return_tick}

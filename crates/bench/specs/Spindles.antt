@@ -3,8 +3,7 @@ use Rattle.std.specs.Prelude.{ℕ, ◌-◌, ◌≡◌, List, [], ◌∷◌, ◌+
 use Rattle.results.specs.Results.{no_results}
 use Rattle.bindings.specs.Binding.{own_binding}
 use Rattle.text.specs.frames.Answer.{reply_number}
-use Rattle.state.specs.declared.State.{State}
-use Rattle.state.specs.State.{no_state}
+use Rattle.state.specs.State.{State, no_state}
 use Rattle.state.specs.Changes.{with_depth}
 use Rattle.spindles.specs.Spindles.{SpinOutcome, spin, live_spin}
 use Rattle.bench.specs.Bench.{image_p}

@@ -9,10 +9,10 @@ use Rattle.text.specs.frames.Verdict.{fine}
 use Rattle.text.specs.frames.Answer.{Reply, success, refusal, buffer_on}
 use Rattle.walk.specs.Walk.{Tick, walk}
 use Rattle.translator.specs.Entry.{translate}
-use Rattle.state.specs.declared.State.{State}
-use Rattle.state.specs.State.{fresh, fresh_state}
+use Rattle.state.specs.State.{State, fresh, fresh_state}
 use Rattle.state.specs.Changes.{with_serving}
-use Rattle.state.specs.Bytes.{bytes_of}
+use Rattle.state.specs.declared.State.{State as Kept}
+use Rattle.state.specs.Kept.{stored}
 use Rattle.runs.specs.Run.{RunOutcome, run}
 use Rattle.rebinding.specs.Rebind.{rebind}
 use Rattle.agreement.specs.Agreement.{CallInput, to_run, to_rebind, CallOutput, by_run, by_rebinding, call_outputs, joined_words}
@@ -102,10 +102,14 @@ IsFit s = (run_of 1 s).reply ≡ success 1
 abbrev pub IsUnfit : State → Type 0
 IsUnfit s = run_of 1 s ≡ record { reply = refusal 15 0 0; state = s; masks = 7 ∷ []; codes = 7 ∷ [] }
 
--- ---- a fresh state and the one of 14, by their bytes
+-- ---- a fresh state and the one of 14, as C keeps them: 130 bytes in the order of the fields
+abbrev pub kept_bytes : Kept → List ℕ
+kept_bytes s = s.size ∷ s.depth ∷ (s.places ++ s.results ++ s.serving ++ s.numbers ++ s.servers)
+
 pub record ByteCases : Type 0 where
-  pub new : bytes_of (fresh_state 2).state ≡ 2 ∷ 1 ∷ replicate 48 0 ++ (range 1 16 ++ (1 ∷ replicate 31 0 ++ (1 ∷ replicate 31 0)))
-  pub zeros : bytes_of (fresh_state 33).state ≡ replicate 130 0
+  pub new : kept_bytes (stored (fresh_state 2).state)
+      ≡ 2 ∷ 1 ∷ replicate 48 0 ++ (range 1 16 ++ (1 ∷ replicate 31 0 ++ (1 ∷ replicate 31 0)))
+  pub zeros : kept_bytes (stored (fresh_state 33).state) ≡ replicate 130 0
 
 pub record SwapCases : Type 0 where
   pub translated : (out : List ℕ) → translate chart_swap out ≡ buffer_on fine 1 (λ _. image_swap) out

@@ -13,8 +13,7 @@ use Rattle.image.specs.Image.{Image}
 use Rattle.image.specs.Decode.{decoded_image}
 use Rattle.image.specs.Check.{image_verdict}
 use Rattle.translator.specs.Entry.{translate}
-use Rattle.state.specs.declared.State.{State}
-use Rattle.state.specs.State.{label_at, entry_at, place_at, number_at, server_at, StateOutcome, fresh_state}
+use Rattle.state.specs.State.{State, label_at, entry_at, place_at, number_at, server_at, StateOutcome, fresh_state}
 use Rattle.state.specs.Changes.{with_places, with_serving}
 use Rattle.fitness.specs.Fitness.{is_call}
 use Rattle.rows.specs.Rows.{best_row, lead_of}

@@ -4,8 +4,7 @@ use Rattle.text.specs.frames.Verdict.{fine}
 use Rattle.text.specs.frames.Frame.{contents}
 use Rattle.image.specs.Image.{Image}
 use Rattle.image.specs.Decode.{decoded_image}
-use Rattle.state.specs.declared.State.{State}
-use Rattle.state.specs.State.{number_at}
+use Rattle.state.specs.State.{State, number_at}
 use Rattle.ticks.specs.Tick.{MachineTick}
 use Rattle.runs.specs.Run.{MachineRun, run_after, run_verdict, run_on}
 use Rattle.agreement.specs.Agreement.{Runner}

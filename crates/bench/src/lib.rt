@@ -21,7 +21,7 @@ ghost use Rattle.bench.specs.Live.{LiveCases};
 ghost use Rattle.bench.specs.Outputs.{PrintedCases};
 ghost use Rattle.bench.specs.DryRuns.{DryRunCases};
 ghost use Rattle.bench.specs.Sums.{SumCases};
-ghost use Rattle.bench.specs.Numbers.{RefusalNumbers, TickCodes, Meanings, Sizes, NodeLayout, ImageLayout, StateLayout, HeadSizes};
+ghost use Rattle.bench.specs.Numbers.{RefusalNumbers, TickCodes, Meanings, Sizes, NodeLayout, ImageLayout, StackSizes};
 ghost use Rattle.bench.specs.Idlers.{TurnsBackFails, OneImageFails, AlwaysFullFails, AlwaysHomeFails, PlainAfterCallFails};
 ghost use Rattle.bench.specs.Idlers.{StaysInHandlerFails, HomeAfterDropFails, WritesNothingFails, KeepsStateFails};
 ghost use Rattle.bench.specs.Idlers.{MiscountsFails, OnlyThese};
@@ -44,8 +44,7 @@ pub fn constants_are_the_numbers_of_the_paper()
     ensures sizes { Sizes }
     ensures node_layout { NodeLayout }
     ensures image_layout { ImageLayout }
-    ensures state_layout { StateLayout }
-    ensures head_sizes { HeadSizes }
+    ensures stack_sizes { StackSizes }
 {}
 
 /// What the bench sheet says, and cases of each request, computed on the definitions.

@@ -4,7 +4,7 @@ use Rattle.text.specs.frames.Verdict.{Verdict, next, when}
 use Rattle.text.specs.frames.Alike.{ReadAlike}
 use Rattle.image.specs.Decode.{decoded_image}
 use Rattle.image.proofs.Alike.{image-verdict}
-use Rattle.state.specs.declared.State.{State}
+use Rattle.state.specs.State.{State}
 use Rattle.fitness.specs.Fitness.{is_unfit}
 use Rattle.cause.specs.Cause.{cause_on, cause_of, explain}
 

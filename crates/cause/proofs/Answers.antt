@@ -10,8 +10,7 @@ use Rattle.text.specs.frames.Answer.{success}
 use Rattle.text.proofs.frames.Chains.{no-success}
 use Rattle.image.specs.Decode.{decoded_image}
 use Rattle.image.specs.Check.{image_verdict}
-use Rattle.state.specs.declared.State.{State}
-use Rattle.state.specs.State.{Sized}
+use Rattle.state.specs.State.{State, Sized}
 use Rattle.fitness.specs.Fitness.{is_unfit}
 use Rattle.cause.specs.Cause.{Caused, because, unexplained, CauseOutcome, cause_on, cause_of, explain}
 use Rattle.cause.specs.Laws.{Explains, CauseTold}

@@ -9,8 +9,7 @@ use Rattle.image.specs.inner.Sound.{SoundImage}
 use Rattle.image.proofs.Accepted.{image-sound}
 use Rattle.rows.specs.Rows.{Choice, row, no_choice, found, lead_of}
 use Rattle.rows.proofs.BestRows.{best-is}
-use Rattle.state.specs.declared.State.{State}
-use Rattle.state.specs.State.{label_at}
+use Rattle.state.specs.State.{State, label_at}
 use Rattle.fitness.proofs.Fitness.{Fits, unfits}
 use Rattle.ticks.specs.Tick.{called_bit, choice, MachineTick, stopped, tick}
 use Rattle.cause.specs.Cause.{mask_against_all, Leaving, leaves_label, nothing, leaving, Cause, Caused, because, unexplained, cause_by}

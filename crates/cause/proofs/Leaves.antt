@@ -12,8 +12,7 @@ use Rattle.image.specs.inner.Sound.{SoundImage}
 use Rattle.image.specs.Layout.{tick_kind}
 use Rattle.rows.specs.Rows.{Choice, Found, found, missing, lead_of}
 use Rattle.rows.proofs.ChoiceLaws.{any-bit}
-use Rattle.state.specs.declared.State.{State}
-use Rattle.state.specs.State.{label_at, place_at, number_at, server_at}
+use Rattle.state.specs.State.{State, label_at, place_at, number_at, server_at}
 use Rattle.state.specs.Changes.{with_bits}
 use Rattle.fitness.specs.Fitness.{is_call}
 use Rattle.fitness.proofs.Fitness.{Fits}

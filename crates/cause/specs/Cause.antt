@@ -16,8 +16,7 @@ use Rattle.image.specs.Image.{Image, Row}
 use Rattle.image.specs.Decode.{decoded_image}
 use Rattle.image.specs.Check.{image_verdict}
 use Rattle.rows.specs.Rows.{Choice, row, no_choice}
-use Rattle.state.specs.declared.State.{State}
-use Rattle.state.specs.State.{label_at, place_at}
+use Rattle.state.specs.State.{State, label_at, place_at}
 use Rattle.fitness.specs.Fitness.{is_unfit}
 use Rattle.ticks.specs.Tick.{called_bit, choice}
 use Rattle.cause.specs.declared.Cause as declared

@@ -10,8 +10,7 @@ use Rattle.image.specs.Image.{Image, Row, nth_row}
 use Rattle.image.specs.Decode.{decoded_image}
 use Rattle.image.specs.Check.{image_verdict}
 use Rattle.rows.specs.Rows.{Choice, row, no_choice}
-use Rattle.state.specs.declared.State.{State}
-use Rattle.state.specs.State.{label_at, Sized}
+use Rattle.state.specs.State.{State, label_at, Sized}
 use Rattle.fitness.specs.Fitness.{is_call, is_unfit}
 use Rattle.ticks.specs.Tick.{choice, MachineTick, finished, stopped, tick, top_of}
 use Rattle.cause.specs.Cause.{Leaving, leaves_label, nothing, leaving, Cause, because, unexplained, cause_of, explain}

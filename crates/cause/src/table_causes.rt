@@ -3,7 +3,7 @@ ghost use Rattle.std.specs.Prelude.{◌≡◌, ◌-◌};
 ghost use Rattle.tables.specs.Table.{table_image};
 ghost use Rattle.tables.specs.inner.Asked.{Whole};
 ghost use Rattle.state.specs.State.{place_at};
-ghost use Rattle.state.specs.Bytes.{state_of};
+ghost use Rattle.state.specs.Kept.{view};
 ghost use Rattle.cause.specs.Cause.{leaves_label, leaving, cause_at, cause_outcome, GivesCause};
 ghost use Rattle.cause.specs.table_causes.inner.TableCauses.{Ordered, OrderedLabel, leaving_number, table_cause};
 
@@ -14,34 +14,32 @@ use image::{pair, rows_from};
 use rows::row_search::find_row;
 use rows::{end_of, first_of};
 use state::State;
-use state::layout::STATE_BYTES;
-use state::state_places::{depth_of, place_of};
 use tables::{label_of, label_read, scheme_count};
 use text::frames::Refusal;
 use text::frames::sizes::FRAME;
 use ticks::bit_of;
 
 // The label n places below that depth, whatever the state: the lowest place where there are fewer, and 0 past the highest.
-fn place_below(bytes: &[u8; STATE_BYTES], depth: u8, n: u8) -> u8
-    ensures { result ≡ place_at (state_of bytes.now) (depth - n) }
+fn place_below(state: &State, depth: u8, n: u8) -> u8
+    ensures { result ≡ place_at (view state.now) (depth - n) }
 {
     if depth < n {
-        return place_of(bytes, 0);
+        return state.places[0];
     }
     let k = (depth - n) as usize;
     if State::PLACES <= k {
         return 0;
     }
-    place_of(bytes, k)
+    state.places[k]
 }
 
 // The label whose row a tick takes, whatever the state: the top of a plain tick, the one beneath on a return, and 0 where it takes none.
-fn leaving_label(table: &[u8], bytes: &[u8; STATE_BYTES]) -> u8
+fn leaving_label(table: &[u8], state: &State) -> u8
     requires { Whole table.now }
-    ensures { result ≡ leaving_number (leaving (table_image table.now) (state_of bytes.now)) }
+    ensures { result ≡ leaving_number (leaving (table_image table.now) (view state.now)) }
 {
-    let depth = depth_of(bytes);
-    let top = place_below(bytes, depth, 1);
+    let depth = state.depth;
+    let top = place_below(state, depth, 1);
     let label = label_of(table, top);
     let kind = label.kind;
     if kind == PLAIN {
@@ -53,18 +51,18 @@ fn leaving_label(table: &[u8], bytes: &[u8; STATE_BYTES]) -> u8
     if depth <= 1 {
         return 0;
     }
-    place_below(bytes, depth, 2)
+    place_below(state, depth, 2)
 }
 
 // The row that label l takes, the conditions that decide it and the bit; 18 where no row matches.
-fn cause_at(table: &[u8], bytes: &[u8; STATE_BYTES], l: u8, word: u16) -> Result<Cause, Refusal>
+fn cause_at(table: &[u8], state: &State, l: u8, word: u16) -> Result<Cause, Refusal>
     requires { OrderedLabel table.now l }
     ensures { GivesCause (cause_outcome
-        (cause_at (table_image table.now) (state_of bytes.now).bits word (leaves_label l))) result }
+        (cause_at (table_image table.now) (view state.now).bits word (leaves_label l))) result }
 {
     let schemes = scheme_count(table);
     let read = label_read(table, schemes, l as usize);
-    let bit = bit_of(bytes, read.kind, read.called);
+    let bit = bit_of(state, read.kind, read.called);
     let f = find_row(table, schemes, l as usize, word, bit);
     if table.len() / FRAME <= f {
         return Err(Refusal::NoRow { ticks: 0 });
@@ -83,16 +81,16 @@ fn cause_at(table: &[u8], bytes: &[u8; STATE_BYTES], l: u8, word: u16) -> Result
 }
 
 // A cause on a prepared table: 15, then 21, then 18.
-pub fn cause_table(table: &[u8], bytes: &[u8; STATE_BYTES], word: u16) -> Result<Cause, Refusal>
+pub fn cause_table(table: &[u8], state: State, word: u16) -> Result<Cause, Refusal>
     requires { Ordered table.now }
-    ensures { GivesCause (table_cause table.now (state_of bytes.now) word) result }
+    ensures { GivesCause (table_cause table.now (view state) word) result }
 {
-    if is_unfit(table, bytes) {
+    if is_unfit(table, &state) {
         return Err(Refusal::Unfit);
     }
-    let l = leaving_label(table, bytes);
+    let l = leaving_label(table, &state);
     if l == 0 {
         return Err(Refusal::Rowless);
     }
-    cause_at(table, bytes, l, word)
+    cause_at(table, &state, l, word)
 }

@@ -8,8 +8,12 @@ use Rattle.text.specs.frames.Answer.{Answer, reply, success, GivesBuffer}
 use Rattle.text.specs.declared.frames.refusals.Refusal.{Refusal}
 use Rattle.translator.specs.Entry.{translate}
 use Rattle.state.specs.declared.StateReport.{StateReport}
-use Rattle.state.specs.State.{fresh_state, GivesState}
-use Rattle.runs.specs.Run.{run, GivesRun}
+use Rattle.state.specs.declared.State.{State as Kept}
+use Rattle.state.specs.State.{fresh_state}
+use Rattle.state.specs.Kept.{view, GivesState}
+use Rattle.state.proofs.Stored.{state-back}
+use Rattle.runs.specs.Run.{run}
+use Rattle.runs.specs.InPlace.{GivesRunOn}
 use Rattle.dry_runs.specs.DryRun.{dry_run, GivesDryRun}
 
 module _ (text before after : List ℕ) (size : ℕ) (ws ms ks : List ℕ) (answer : Answer)
@@ -36,10 +40,12 @@ module _ (text before after : List ℕ) (size : ℕ) (ws ms ks : List ℕ) (answ
         rw (is, ← written, ← refused) (record { answered = refl; image = gives.written; masks = refl; codes = refl })
 
     -- or the run made
-    pub ran : (told : StateReport) (masks codes : List ℕ) → GivesRun (run (take n after) made.state ws ms ks) told masks codes
-        → (m : ℕ) → made.answer ≡ Ok m → GivesDryRun (dry_run text size before ws ms ks) told.answer after masks codes
+    pub ran : (told : Answer) (last : Kept) (masks codes : List ℕ)
+        → GivesRunOn (run (take n after) (view made.state) ws ms ks) made.state told last masks codes
+        → (m : ℕ) → made.answer ≡ Ok m → GivesDryRun (dry_run text size before ws ms ks) told after masks codes
     unfolding dry_run
-    ran told masks codes runs m e =
+    ran told last masks codes runs m e =
         let succeeds : reply (Ok m) ≡ (fresh_state size).reply = sym (ap reply e) ∙ fresh.answered in
-        rw (← written, ← succeeds, ← gives.written, ← fresh.state)
+        let stands : view made.state ≡ (fresh_state size).state = ap view fresh.state ∙ state-back (fresh_state size).state in
+        rw (← written, ← succeeds, ← gives.written, ← stands)
         (record { answered = runs.answered; image = refl; masks = runs.masks; codes = runs.codes })

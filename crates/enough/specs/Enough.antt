@@ -13,8 +13,10 @@ use Rattle.walk.specs.Walk.{Signal}
 use Rattle.translator.specs.Entry.{translate}
 use Rattle.places.specs.Entry.{places_needed}
 use Rattle.state.specs.declared.layout.TheConstants.{PLACES}
+use Rattle.state.specs.declared.State.{State as Kept}
 use Rattle.state.specs.declared.StateReport.{StateReport}
-use Rattle.state.specs.State.{fresh_state, GivesState}
+use Rattle.state.specs.State.{fresh_state}
+use Rattle.state.specs.Kept.{GivesState}
 use Rattle.fairleadow.specs.telling.AnswersForC.{GivesReplyC}
 use Rattle.fairleadow.specs.telling.AnswersForC.{GivesBufferC}
 use Rattle.fairleadow.specs.runs_for_c.Calls.{GivesStateC}
@@ -79,7 +81,7 @@ unfoldable pub EnoughC : Type 0
 EnoughC =
     (text before after : List ℕ) (at n : ℕ) → GivesBufferC (translate text before) 0 at n after
     → (at k : ℕ) → GivesReplyC (places_needed text) 0 at k
-    → (size : ℕ) → k ≤ size → size ≤ PLACES → (returned at made : ℕ) (bytes : List ℕ)
-    → GivesStateC (fresh_state size) returned at made bytes
+    → (size : ℕ) → k ≤ size → size ≤ PLACES → (returned at made : ℕ) (s : Kept)
+    → GivesStateC (fresh_state size) returned at made s
     → (given : List CallInput) → OwnServed (contents text) given
-    → (handed : List for-c.CallOutputC) → for-c.CallsInTurnC (take n after) bytes given handed → AllMadeC (contents text) given handed
+    → (handed : List for-c.CallOutputC) → for-c.CallsInTurnC (take n after) s given handed → AllMadeC (contents text) given handed

@@ -1,20 +1,27 @@
 // The calls from C that tell what made a tick go on, and what a tick code stands for.
 ghost use Rattle.std.specs.Prelude.{◌≡◌};
+ghost use Rattle.state.specs.State.{Sized};
+ghost use Rattle.state.specs.Kept.{view};
 ghost use Rattle.fairleadow.specs.telling.AnswersForC.{GivesReplyC};
 ghost use Rattle.fairleadow.specs.causes_for_c.Calls.{cause_for};
 ghost use Rattle.fairleadow.specs.causes_for_c.Meant.{Meant};
 
 use crate::telling::tell;
-use cause::explaining::cause_bytes;
+use cause::explaining::cause_of;
 use image::layout::*;
-use state::layout::STATE_BYTES;
+use state::State;
 use ticks::codes::{DROP, Meaning, UNKNOWN, meaning_of};
+
+// The arrays of a state are as long as its type says; of one that is lent the caller learns it so.
+fn sized(state: State)
+    ensures { Sized (view state) }
+{}
 
 // What made a tick go on: writes the row's number, the conditions that decide it and the result bit, each 0 with a refusal.
 #[unsafe(no_mangle)]
 pub extern "C" fn fairleadow_cause(
     image: &[u8],
-    state: &[u8; STATE_BYTES],
+    state: &State,
     word: u16,
     row: &mut u16,
     mask: &mut u16,
@@ -26,8 +33,10 @@ pub extern "C" fn fairleadow_cause(
     ensures row { row.new ≡ (cause_for image.now state.now word).cause.row }
     ensures mask { mask.new ≡ (cause_for image.now state.now word).cause.mask }
     ensures bit { bit.new ≡ (cause_for image.now state.now word).cause.bit }
+    ensures sized { Sized (view state.now) }
 {
-    match cause_bytes(image, state, word) {
+    sized(*state);
+    match cause_of(image, state, word) {
         Ok(cause) => {
             *row = cause.row;
             *mask = cause.mask;

@@ -1,5 +1,5 @@
-//! The entry points for C, as the header has them: a slice is a pointer and a length, a reference is a pointer, and a state is 130 bytes.
-//! Each stands in the module of its subject (`.._for_c`); `telling` turns answers into the header's number, index (`at`) and count
+//! The entry points for C, as the header has them: a slice is a pointer and a length, a reference is a pointer, and a state is the header's
+//! struct. Each stands in the module of its subject (`.._for_c`); `telling` turns answers into the header's number, index (`at`) and count
 //! (`made`). The static library is made of this crate.
 #![tactic(auto)]
 

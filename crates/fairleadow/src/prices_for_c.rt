@@ -1,18 +1,18 @@
 // The call from C that runs and tells the price.
 ghost use Rattle.std.specs.Prelude.{◌≡◌};
-ghost use Rattle.prices.specs.priced_runs.InPlace.{bytes_priced};
+ghost use Rattle.prices.specs.priced_runs.InPlace.{state_priced};
 ghost use Rattle.fairleadow.specs.telling.AnswersForC.{GivesReplyC};
 ghost use Rattle.fairleadow.specs.prices_for_c.Calls.{priced_run_for};
 
 use crate::telling::tell;
-use prices::priced_runs::priced_run_bytes;
-use state::layout::STATE_BYTES;
+use prices::priced_runs;
+use state::State;
 
 // A run, and its price: the price is written in every case, 0 with every refusal but 17 and 18.
 #[unsafe(no_mangle)]
 pub extern "C" fn fairleadow_priced_run(
     image: &[u8],
-    state: &mut [u8; STATE_BYTES],
+    state: &mut State,
     prices: &[u16; 32],
     words: &[u16],
     masks: &mut [u32],
@@ -23,7 +23,7 @@ pub extern "C" fn fairleadow_priced_run(
 ) -> u8
     ensures told { GivesReplyC
         (priced_run_for image.now state.old prices.now words.now masks.old codes.old).run.reply result at.new made.new }
-    ensures bytes { state.new ≡ bytes_priced words.now state.old
+    ensures state { state.new ≡ state_priced words.now state.old
         (priced_run_for image.now state.old prices.now words.now masks.old codes.old).run }
     ensures masks { masks.new ≡
         (priced_run_for image.now state.old prices.now words.now masks.old codes.old).run.masks }
@@ -31,7 +31,7 @@ pub extern "C" fn fairleadow_priced_run(
         (priced_run_for image.now state.old prices.now words.now masks.old codes.old).run.codes }
     ensures price { price.new ≡ (priced_run_for image.now state.old prices.now words.now masks.old codes.old).price }
 {
-    let done = priced_run_bytes(image, state, prices, words, masks, codes);
+    let done = priced_runs::priced_run(image, state, prices, words, masks, codes);
     *price = done.price;
     tell(done.answer, at, made)
 }

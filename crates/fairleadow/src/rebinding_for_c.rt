@@ -1,45 +1,45 @@
 // The calls from C that have a number served by another scheme, on an image and live on a prepared table.
 ghost use Rattle.std.specs.Prelude.{◌≡◌, if◌then◌else◌, ◌==◌};
 ghost use Rattle.text.specs.frames.Answer.{reply_number};
-ghost use Rattle.state.specs.Bytes.{bytes_of};
+ghost use Rattle.state.specs.Kept.{stored};
 ghost use Rattle.fairleadow.specs.telling.AnswersForC.{GivesReplyC};
 ghost use Rattle.fairleadow.specs.rebinding_for_c.Calls.{rebind_for, live_rebind_for};
 
 use crate::telling::tell;
-use rebinding::{live_rebind_bytes, rebind_bytes};
-use state::layout::STATE_BYTES;
+use rebinding::in_place;
+use state::State;
 
 // Number `number` is served by scheme `scheme` from then on; a refusal writes no state.
 #[unsafe(no_mangle)]
 pub extern "C" fn fairleadow_rebind(
     image: &[u8],
-    state: &mut [u8; STATE_BYTES],
+    state: &mut State,
     number: usize,
     scheme: usize,
     at: &mut usize,
     made: &mut usize,
 ) -> u8
     ensures told { GivesReplyC (rebind_for image.now state.old number scheme).reply result at.new made.new }
-    ensures bytes { state.new ≡ (if reply_number (rebind_for image.now state.old number scheme).reply == 0
-        then bytes_of (rebind_for image.now state.old number scheme).state else state.old) }
+    ensures state { state.new ≡ (if reply_number (rebind_for image.now state.old number scheme).reply == 0
+        then stored (rebind_for image.now state.old number scheme).state else state.old) }
 {
-    let answer = rebind_bytes(image, state, number, scheme);
+    let answer = in_place::rebind(image, state, number, scheme);
     tell(answer, at, made)
 }
 
 #[unsafe(no_mangle)]
 pub extern "C" fn fairleadow_live_rebind(
     table: &[u8],
-    state: &mut [u8; STATE_BYTES],
+    state: &mut State,
     number: usize,
     scheme: usize,
     at: &mut usize,
     made: &mut usize,
 ) -> u8
     ensures told { GivesReplyC (live_rebind_for table.now state.old number scheme).reply result at.new made.new }
-    ensures bytes { state.new ≡ (if reply_number (live_rebind_for table.now state.old number scheme).reply == 0
-        then bytes_of (live_rebind_for table.now state.old number scheme).state else state.old) }
+    ensures state { state.new ≡ (if reply_number (live_rebind_for table.now state.old number scheme).reply == 0
+        then stored (live_rebind_for table.now state.old number scheme).state else state.old) }
 {
-    let answer = live_rebind_bytes(table, state, number, scheme);
+    let answer = in_place::live_rebind(table, state, number, scheme);
     tell(answer, at, made)
 }

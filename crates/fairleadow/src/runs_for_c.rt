@@ -1,35 +1,34 @@
-// The calls from C that make a state, run and tick, on an image and live on a prepared table; a state is 130 bytes.
+// The calls from C that make a state, run and tick, on an image and live on a prepared table.
 ghost use Rattle.std.specs.Prelude.{◌≡◌};
 ghost use Rattle.state.specs.State.{fresh_state};
-ghost use Rattle.state.specs.Bytes.{bytes_of};
-ghost use Rattle.runs.specs.InPlace.{bytes_after, if_ticked};
+ghost use Rattle.state.specs.Kept.{stored};
+ghost use Rattle.runs.specs.InPlace.{state_after, if_ticked};
 ghost use Rattle.fairleadow.specs.telling.AnswersForC.{GivesReplyC};
 ghost use Rattle.fairleadow.specs.runs_for_c.Calls.{run_for, live_run_for, tick_for, live_tick_for};
 
 use crate::telling::{tell, tell_tick};
-use runs::machine::{State, live_run_bytes, live_tick_bytes, run_bytes, tick_bytes};
-use state::layout::STATE_BYTES;
-use state::state_bytes::bytes_of;
+use runs::machine;
+use state::State;
 
 #[unsafe(no_mangle)]
 pub extern "C" fn fairleadow_fresh(
     size: usize,
-    state: &mut [u8; STATE_BYTES],
+    state: &mut State,
     at: &mut usize,
     made: &mut usize,
 ) -> u8
     ensures told { GivesReplyC (fresh_state size).reply result at.new made.new }
-    ensures bytes { state.new ≡ bytes_of (fresh_state size).state }
+    ensures state { state.new ≡ stored (fresh_state size).state }
 {
     let done = State::fresh(size);
-    *state = bytes_of(done.state);
+    *state = done.state;
     tell(done.answer, at, made)
 }
 
 #[unsafe(no_mangle)]
 pub extern "C" fn fairleadow_run(
     image: &[u8],
-    state: &mut [u8; STATE_BYTES],
+    state: &mut State,
     words: &[u16],
     masks: &mut [u32],
     codes: &mut [u8],
@@ -38,18 +37,18 @@ pub extern "C" fn fairleadow_run(
 ) -> u8
     ensures told { GivesReplyC
         (run_for image.now state.old words.now masks.old codes.old).reply result at.new made.new }
-    ensures bytes { state.new ≡ bytes_after state.old (run_for image.now state.old words.now masks.old codes.old) }
+    ensures state { state.new ≡ state_after state.old (run_for image.now state.old words.now masks.old codes.old) }
     ensures masks { masks.new ≡ (run_for image.now state.old words.now masks.old codes.old).masks }
     ensures codes { codes.new ≡ (run_for image.now state.old words.now masks.old codes.old).codes }
 {
-    let answer = run_bytes(image, state, words, masks, codes);
+    let answer = machine::run(image, state, words, masks, codes);
     tell(answer, at, made)
 }
 
 #[unsafe(no_mangle)]
 pub extern "C" fn fairleadow_live_run(
     table: &[u8],
-    state: &mut [u8; STATE_BYTES],
+    state: &mut State,
     words: &[u16],
     masks: &mut [u32],
     codes: &mut [u8],
@@ -58,12 +57,12 @@ pub extern "C" fn fairleadow_live_run(
 ) -> u8
     ensures told { GivesReplyC
         (live_run_for table.now state.old words.now masks.old codes.old).reply result at.new made.new }
-    ensures bytes { state.new ≡ bytes_after state.old
+    ensures state { state.new ≡ state_after state.old
         (live_run_for table.now state.old words.now masks.old codes.old) }
     ensures masks { masks.new ≡ (live_run_for table.now state.old words.now masks.old codes.old).masks }
     ensures codes { codes.new ≡ (live_run_for table.now state.old words.now masks.old codes.old).codes }
 {
-    let answer = live_run_bytes(table, state, words, masks, codes);
+    let answer = machine::live_run(table, state, words, masks, codes);
     tell(answer, at, made)
 }
 
@@ -71,7 +70,7 @@ pub extern "C" fn fairleadow_live_run(
 #[unsafe(no_mangle)]
 pub extern "C" fn fairleadow_tick(
     image: &[u8],
-    state: &mut [u8; STATE_BYTES],
+    state: &mut State,
     word: u16,
     mask: &mut u32,
     code: &mut u8,
@@ -79,14 +78,14 @@ pub extern "C" fn fairleadow_tick(
     made: &mut usize,
 ) -> u8
     ensures told { GivesReplyC (tick_for image.now state.old word).reply result at.new made.new }
-    ensures bytes { state.new ≡ if_ticked (tick_for image.now state.old word)
-        (bytes_of (tick_for image.now state.old word).state) state.old }
+    ensures state { state.new ≡ if_ticked (tick_for image.now state.old word)
+        (stored (tick_for image.now state.old word).state) state.old }
     ensures mask { mask.new ≡ if_ticked (tick_for image.now state.old word)
         (tick_for image.now state.old word).mask mask.old }
     ensures code { code.new ≡ if_ticked (tick_for image.now state.old word)
         (tick_for image.now state.old word).code code.old }
 {
-    let answer = tick_bytes(image, state, word);
+    let answer = machine::tick(image, state, word);
     tell_tick(answer, mask, code, at, made)
 }
 
@@ -94,7 +93,7 @@ pub extern "C" fn fairleadow_tick(
 #[unsafe(no_mangle)]
 pub extern "C" fn fairleadow_live_tick(
     table: &[u8],
-    state: &mut [u8; STATE_BYTES],
+    state: &mut State,
     word: u16,
     mask: &mut u32,
     code: &mut u8,
@@ -102,13 +101,13 @@ pub extern "C" fn fairleadow_live_tick(
     made: &mut usize,
 ) -> u8
     ensures told { GivesReplyC (live_tick_for table.now state.old word).reply result at.new made.new }
-    ensures bytes { state.new ≡ if_ticked (live_tick_for table.now state.old word)
-        (bytes_of (live_tick_for table.now state.old word).state) state.old }
+    ensures state { state.new ≡ if_ticked (live_tick_for table.now state.old word)
+        (stored (live_tick_for table.now state.old word).state) state.old }
     ensures mask { mask.new ≡ if_ticked (live_tick_for table.now state.old word)
         (live_tick_for table.now state.old word).mask mask.old }
     ensures code { code.new ≡ if_ticked (live_tick_for table.now state.old word)
         (live_tick_for table.now state.old word).code code.old }
 {
-    let answer = live_tick_bytes(table, state, word);
+    let answer = machine::live_tick(table, state, word);
     tell_tick(answer, mask, code, at, made)
 }

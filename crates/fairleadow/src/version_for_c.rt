@@ -2,7 +2,7 @@
 ghost use Rattle.std.specs.Prelude.{◌≡◌};
 
 /// The version of these entry points. It rises where a function, a number or a state's bytes change their meaning, and where any is added.
-pub const VERSION: u32 = 2;
+pub const VERSION: u32 = 3;
 
 #[unsafe(no_mangle)]
 pub extern "C" fn fairleadow_version() -> u32

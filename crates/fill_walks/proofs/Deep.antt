@@ -26,8 +26,7 @@ use Rattle.image.specs.Check.{image_verdict}
 use Rattle.translator.specs.Table.{table}
 use Rattle.translator.specs.Entry.{translate_verdict, translate}
 use Rattle.translator.proofs.Translated.{translated-read, translated-fine, translated-image}
-use Rattle.state.specs.declared.State.{State}
-use Rattle.state.specs.State.{fresh, is_bad_size}
+use Rattle.state.specs.State.{State, fresh, is_bad_size}
 use Rattle.runs.specs.Run.{MachineRun, ticks}
 use Rattle.state.proofs.Sizes.{size-most}
 use Rattle.agreement.specs.Agreement.{bound}

@@ -10,8 +10,7 @@ use Rattle.image.specs.Layout.{tick_kind}
 use Rattle.image.specs.Image.{Image, Label}
 use Rattle.image.specs.Decode.{decoded_image}
 use Rattle.rows.specs.Rows.{Found, found, missing}
-use Rattle.state.specs.declared.State.{State}
-use Rattle.state.specs.State.{fresh, entry_at, place_at}
+use Rattle.state.specs.State.{State, fresh, entry_at, place_at}
 use Rattle.ticks.specs.Tick.{row_leads, MachineTick, finished, stopped, moved_tick, popped_state, state_alone, is_full_stack_kept}
 use Rattle.ticks.specs.Tick.{full_tick, pushed_tick, popped_tick, tick_by, tick}
 use Rattle.runs.specs.Run.{run_after, ticks}

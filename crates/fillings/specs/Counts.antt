@@ -9,8 +9,7 @@ use Rattle.text.specs.frames.Answer.{Reply, success, refusal}
 use Rattle.image.specs.Image.{Image}
 use Rattle.image.specs.Decode.{decoded_image}
 use Rattle.image.specs.Check.{image_verdict}
-use Rattle.state.specs.declared.State.{State}
-use Rattle.state.specs.State.{fresh, is_bad_size}
+use Rattle.state.specs.State.{State, fresh, is_bad_size}
 use Rattle.runs.specs.Run.{ticks}
 
 -- list x of n words: its first word is the lowest k bits of x, the others are those of the bits above

@@ -3,15 +3,13 @@ ghost use Rattle.std.specs.Prelude.{false, ◌≡◌, ◌*◌, ◌≤◌};
 ghost use Rattle.tables.specs.Table.{table_image};
 ghost use Rattle.tables.specs.inner.Asked.{Whole};
 ghost use Rattle.state.specs.State.{fresh, is_bad_size};
-ghost use Rattle.state.specs.Bytes.{state_of};
+ghost use Rattle.state.specs.Kept.{view};
 ghost use Rattle.fillings.specs.Counts.{has_too_many_lists, count_fillings};
 ghost use Rattle.fillings.specs.fill_counts.inner.TallyContracts.{tally_of};
 ghost use Rattle.fillings.specs.counting.CountingContracts.{GivesFillings};
 
 use crate::fill_counts::{Tally, tally_one};
 use crate::fill_lists::tally_all;
-use state::layout::STATE_BYTES;
-use state::state_bytes::bytes_of;
 use state::{State, bad_size};
 use tables::preparing::prepare_table;
 use text::frames::Refusal;
@@ -24,12 +22,11 @@ fn too_many(n: usize, k: usize) -> bool
     16 < k || 65536 < n || 16 < n * k
 }
 
-fn fresh_bytes(size: usize) -> [u8; STATE_BYTES]
+fn fresh_of(size: usize) -> State
     requires { is_bad_size size ≡ false }
-    ensures { state_of result ≡ fresh size }
+    ensures { view result ≡ fresh size }
 {
-    let made = State::fresh(size);
-    bytes_of(made.state)
+    State::fresh(size).state
 }
 
 // Words without conditions are one list, however long it is; else there are at most 16 words.
@@ -39,11 +36,11 @@ fn tally(table: &[u8], size: usize, n: usize, k: usize) -> Tally
     requires few_bits { n * k ≤ 16 }
     ensures { result ≡ tally_of (table_image table.now) (fresh size) n k }
 {
-    let bytes = fresh_bytes(size);
+    let state = fresh_of(size);
     if k == 0 {
-        return tally_one(table, bytes, n);
+        return tally_one(table, state, n);
     }
-    tally_all(table, &bytes, n, k)
+    tally_all(table, &state, n, k)
 }
 
 /// Of all lists of n words in which no condition but the first k is set, each run from a fresh state of `size` places, 1 to 32: how many run to

@@ -1,12 +1,12 @@
 // How runs end, in tallies: of lists that all end alike, of two tallies together, and of one list of words on a prepared table.
 ghost use Rattle.std.specs.Prelude.{◌≡◌, ◌^◌, ◌≤◌, if◌then◌else◌};
 ghost use Rattle.tables.specs.Table.{table_image};
-ghost use Rattle.state.specs.Bytes.{state_of};
+ghost use Rattle.state.specs.Kept.{view};
 ghost use Rattle.ticks.specs.inner.TickContracts.{TickAsked};
 ghost use Rattle.fillings.specs.fill_counts.inner.TallyContracts.{tally_of, all_meet, tally_sum, FewLists};
 
 use runs::tick_word;
-use state::layout::STATE_BYTES;
+use state::State;
 use text::frames::refusals::{FULL, NO_ROW};
 
 /// Of some lists: how many run to their end, meet 17 and meet 18.
@@ -58,11 +58,11 @@ pub fn add(a: Tally, b: Tally) -> Tally
 }
 
 /// Words that all are 0: one list, tick by tick.
-pub fn tally_one(table: &[u8], bytes: [u8; STATE_BYTES], n: usize) -> Tally
-    requires { TickAsked table.now (state_of bytes) }
-    ensures { result ≡ tally_of (table_image table.now) (state_of bytes) n 0 }
+pub fn tally_one(table: &[u8], start: State, n: usize) -> Tally
+    requires { TickAsked table.now (view start) }
+    ensures { result ≡ tally_of (table_image table.now) (view start) n 0 }
 {
-    let mut state = bytes;
+    let mut state = start;
     let mut left = n;
     while 0 < left {
         let done = tick_word(table, &mut state, 0);

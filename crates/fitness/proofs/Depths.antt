@@ -1,7 +1,7 @@
 -- A depth of 1 to Σ, with Σ of 1 to 32: what passes the first test of refusal 15.
 use Rattle.std.proofs.Common.{◌≤◌, false, ◌≡◌, arith}
 use Rattle.std.proofs.lemmas.Grind.{common_steps}
-use Rattle.state.specs.declared.State.{State}
+use Rattle.state.specs.State.{State}
 use Rattle.fitness.specs.Fitness.{has_bad_depth}
 
 pub record DeepState (s : State) : Type 0 where

@@ -3,7 +3,7 @@ use Rattle.std.proofs.Common.{ℕ, zero, suc, ◌-◌, ◌≤◌, ◌<◌, Bool,
 use Rattle.std.proofs.Common.{eq-eqb}
 use Rattle.words.specs.lists.Numbers.{any}
 use Rattle.image.specs.Image.{Image}
-use Rattle.state.specs.declared.State.{State}
+use Rattle.state.specs.State.{State}
 use Rattle.fitness.specs.Fitness.{is_unfit_place, is_filled_place, has_bad_bottom, is_badly_served, has_bad_depth, is_unfit}
 use Rattle.fitness.specs.inner.FitnessContracts.{is_own}
 

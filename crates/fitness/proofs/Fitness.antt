@@ -7,8 +7,7 @@ use Rattle.words.proofs.lists.Tests.{or-r, or-l, and-true, and-false, not-false}
 use Rattle.words.proofs.lists.Searches.{any-false, any-none}
 use Rattle.bindings.specs.Binding.{server_of}
 use Rattle.image.specs.Image.{Image}
-use Rattle.state.specs.declared.State.{State}
-use Rattle.state.specs.State.{place_at, number_at, server_at, Sized}
+use Rattle.state.specs.State.{State, place_at, number_at, server_at, Sized}
 use Rattle.fitness.proofs.Depths.{deep-told, deep-fine}
 use Rattle.fitness.specs.Fitness.{is_callable, is_able_to_carry, is_unfit_place, is_filled_place, has_bad_bottom, is_badly_served}
 use Rattle.fitness.specs.Fitness.{has_bad_depth, is_unfit}

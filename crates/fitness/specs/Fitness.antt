@@ -6,8 +6,7 @@ use Rattle.text.specs.declared.frames.sizes.TheConstants.{SCHEMES}
 use Rattle.image.specs.declared.layout.TheConstants.{OPERATION_CALL, FUNCTION_CALL}
 use Rattle.image.specs.Image.{Image, Label}
 use Rattle.state.specs.declared.layout.TheConstants.{PLACES}
-use Rattle.state.specs.declared.State.{State}
-use Rattle.state.specs.State.{is_bad_size, label_at, place_at, number_at, server_at}
+use Rattle.state.specs.State.{State, is_bad_size, label_at, place_at, number_at, server_at}
 
 -- a label that is kept under the one it calls
 abbrev pub is_call : Label → Bool

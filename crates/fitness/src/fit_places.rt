@@ -5,23 +5,22 @@ ghost use Rattle.image.specs.Decode.{handler_in};
 ghost use Rattle.tables.specs.Table.{table_image};
 ghost use Rattle.tables.specs.inner.Asked.{Whole};
 ghost use Rattle.state.specs.State.{number_at, server_at};
-ghost use Rattle.state.specs.Bytes.{state_of};
+ghost use Rattle.state.specs.Kept.{view};
 ghost use Rattle.fitness.specs.Fitness.{is_unfit_place, has_bad_bottom};
 ghost use Rattle.fitness.specs.inner.FitnessContracts.{is_astray_at_bottom, DeepTable};
 
 use crate::{calls_none, is_astray, is_first, is_miscalled, is_own};
-use state::layout::STATE_BYTES;
-use state::state_places::{depth_of, number_of, place_of, server_of};
+use state::State;
 use tables::{handler_of, label_of, last_label, scheme_count};
 
 // Whether the bottom is not of scheme 1 or the handler by its own number. The handler is read only where it decides.
-fn is_astray_at_bottom(table: &[u8], bytes: &[u8; STATE_BYTES], owner: u8, l: u8) -> bool
+fn is_astray_at_bottom(table: &[u8], state: &State, owner: u8, l: u8) -> bool
     requires { Whole table.now }
-    ensures { result ≡ is_astray_at_bottom (handler_in table.now) owner l (number_at (state_of bytes.now) 0)
-        (server_at (state_of bytes.now) 0) }
+    ensures { result ≡ is_astray_at_bottom (handler_in table.now) owner l (number_at (view state.now) 0)
+        (server_at (view state.now) 0) }
 {
-    let number = number_of(bytes, 0);
-    let server = server_of(bytes, 0);
+    let number = state.numbers[0];
+    let server = state.servers[0];
     if is_first(owner, number, server) {
         return false;
     }
@@ -37,20 +36,20 @@ fn is_astray_at_bottom(table: &[u8], bytes: &[u8; STATE_BYTES], owner: u8, l: u8
 
 // Whether some place up to the depth does not fit, or the bottom does not.
 // Each label is read once, from the bottom up, with the number that the one below calls.
-pub fn any_unfit(table: &[u8], bytes: &[u8; STATE_BYTES]) -> bool
-    requires { DeepTable table.now (state_of bytes.now) }
-    ensures { result ≡ (any (is_unfit_place (table_image table.now) (state_of bytes.now)) 0
-        (state_of bytes.now).depth || has_bad_bottom (table_image table.now) (state_of bytes.now)) }
+pub fn any_unfit(table: &[u8], state: &State) -> bool
+    requires { DeepTable table.now (view state.now) }
+    ensures { result ≡ (any (is_unfit_place (table_image table.now) (view state.now)) 0
+        (view state.now).depth || has_bad_bottom (table_image table.now) (view state.now)) }
 {
     let schemes = scheme_count(table);
     let last = last_label(table);
-    let depth = depth_of(bytes) as usize;
-    let bottom = place_of(bytes, 0);
+    let depth = state.depth as usize;
+    let bottom = state.places[0];
     if last < bottom {
         return true;
     }
     let first = label_of(table, bottom);
-    if is_astray_at_bottom(table, bytes, first.owner, bottom) {
+    if is_astray_at_bottom(table, state, first.owner, bottom) {
         return true;
     }
     if calls_none(first.kind) {
@@ -59,12 +58,12 @@ pub fn any_unfit(table: &[u8], bytes: &[u8; STATE_BYTES]) -> bool
     let mut called = first.called;
     let mut k: usize = 1;
     while k < depth {
-        let l = place_of(bytes, k);
+        let l = state.places[k];
         if last < l {
             return true;
         }
-        let server = server_of(bytes, k);
-        if is_miscalled(schemes, number_of(bytes, k), called, server) {
+        let server = state.servers[k];
+        if is_miscalled(schemes, state.numbers[k], called, server) {
             return true;
         }
         let label = label_of(table, l);

@@ -1,4 +1,4 @@
-// Whether a state, kept as 130 bytes, fits the image that a prepared table holds: refusal 15.
+// Whether a state fits the image that a prepared table holds: refusal 15.
 ghost use Rattle.std.specs.Prelude.{◌≡◌, ◌-◌, ◌≤◌, ◌<◌, if◌then◌else◌, nat_le};
 ghost use Rattle.std.specs.Int.Bits.{bit_or};
 ghost use Rattle.words.specs.lists.Numbers.{any};
@@ -6,56 +6,53 @@ ghost use Rattle.tables.specs.Table.{table_image};
 ghost use Rattle.tables.specs.inner.Asked.{Whole};
 ghost use Rattle.state.specs.declared.layout.TheConstants.{PLACES};
 ghost use Rattle.state.specs.State.{place_at, number_at, server_at};
-ghost use Rattle.state.specs.Bytes.{state_of};
+ghost use Rattle.state.specs.Kept.{view};
 ghost use Rattle.fitness.specs.Fitness.{is_filled_place, is_badly_served, has_bad_depth, is_unfit};
 
 use crate::fit_places::any_unfit;
 use crate::is_misserved;
-use state::layout::STATE_BYTES;
-use state::state_places::{depth_of, number_of, place_of, server_of, size_of};
-use state::state_results::serving_at;
 use state::{State, bad_size};
 use tables::{handler_of, scheme_count};
 
 // Label, number and server of place k, joined, where it lies above the depth, and 0 where it does not.
-fn place_above(bytes: &[u8; STATE_BYTES], depth: usize, k: usize) -> u8
+fn place_above(state: &State, depth: usize, k: usize) -> u8
     requires { k < PLACES }
     ensures { result ≡ (if nat_le depth k
-        then bit_or (bit_or (place_at (state_of bytes.now) k) (number_at (state_of bytes.now) k))
-        (server_at (state_of bytes.now) k) else 0) }
+        then bit_or (bit_or (place_at (view state.now) k) (number_at (view state.now) k))
+        (server_at (view state.now) k) else 0) }
 {
     if depth <= k {
-        return place_of(bytes, k) | number_of(bytes, k) | server_of(bytes, k);
+        return state.places[k] | state.numbers[k] | state.servers[k];
     }
     0
 }
 
 // Whether some place above the depth is not 0. No place ends the loop, so that it can be unrolled.
-fn any_filled(bytes: &[u8; STATE_BYTES]) -> bool
-    requires { (state_of bytes.now).depth ≤ PLACES }
-    ensures { result ≡ any (is_filled_place (state_of bytes.now)) (state_of bytes.now).depth
-        (PLACES - (state_of bytes.now).depth) }
+fn any_filled(state: &State) -> bool
+    requires { (view state.now).depth ≤ PLACES }
+    ensures { result ≡ any (is_filled_place (view state.now)) (view state.now).depth
+        (PLACES - (view state.now).depth) }
 {
-    let depth = depth_of(bytes) as usize;
+    let depth = state.depth as usize;
     if State::PLACES <= depth {
         return false;
     }
     let mut bits: u8 = 0;
     for k in 0..State::PLACES {
-        bits = bits | place_above(bytes, depth, k);
+        bits = bits | place_above(state, depth, k);
     }
     bits != 0
 }
 
 // Whether some number of 2 to 16 is served by a scheme that may not serve it.
-fn any_misserved(table: &[u8], bytes: &[u8; STATE_BYTES]) -> bool
+fn any_misserved(table: &[u8], state: &State) -> bool
     requires { Whole table.now }
-    ensures { result ≡ any (is_badly_served (table_image table.now) (state_of bytes.now)) 2 15 }
+    ensures { result ≡ any (is_badly_served (table_image table.now) (view state.now)) 2 15 }
 {
     let schemes = scheme_count(table);
     let handler = handler_of(table);
     for h in 2..17 {
-        if is_misserved(schemes, handler, h, serving_at(bytes, h)) {
+        if is_misserved(schemes, handler, h, state.serving_at(h)) {
             return true;
         }
     }
@@ -63,11 +60,11 @@ fn any_misserved(table: &[u8], bytes: &[u8; STATE_BYTES]) -> bool
 }
 
 // Whether the stack size is refused, or the depth lies outside 1 to it.
-fn bad_depth(bytes: &[u8; STATE_BYTES]) -> bool
-    ensures { result ≡ has_bad_depth (state_of bytes.now) }
+fn bad_depth(state: &State) -> bool
+    ensures { result ≡ has_bad_depth (view state.now) }
 {
-    let size = size_of(bytes);
-    let depth = depth_of(bytes);
+    let size = state.size;
+    let depth = state.depth;
     if bad_size(size as usize) {
         return true;
     }
@@ -78,18 +75,18 @@ fn bad_depth(bytes: &[u8; STATE_BYTES]) -> bool
 }
 
 // Refusal 15.
-pub fn is_unfit(table: &[u8], bytes: &[u8; STATE_BYTES]) -> bool
+pub fn is_unfit(table: &[u8], state: &State) -> bool
     requires { Whole table.now }
-    ensures { result ≡ is_unfit (table_image table.now) (state_of bytes.now) }
+    ensures { result ≡ is_unfit (table_image table.now) (view state.now) }
 {
-    if bad_depth(bytes) {
+    if bad_depth(state) {
         return true;
     }
-    if any_unfit(table, bytes) {
+    if any_unfit(table, state) {
         return true;
     }
-    if any_filled(bytes) {
+    if any_filled(state) {
         return true;
     }
-    any_misserved(table, bytes)
+    any_misserved(table, state)
 }

@@ -5,10 +5,9 @@ use Rattle.text.specs.frames.Frame.{contents}
 use Rattle.text.specs.frames.Answer.{success}
 use Rattle.translator.specs.Entry.{translate}
 use Rattle.minimising.specs.Entry.{minimise}
-use Rattle.state.specs.declared.State.{State}
-use Rattle.state.specs.State.{fresh_state}
-use Rattle.state.specs.Bytes.{state_of}
-use Rattle.state.proofs.ResultBytes.{fresh-held}
+use Rattle.state.specs.State.{State, fresh_state}
+use Rattle.state.specs.Kept.{view}
+use Rattle.state.proofs.Stored.{state-back}
 use Rattle.runs.specs.Run.{run}
 use Rattle.rebinding.specs.Rebind.{rebind}
 use Rattle.agreement.specs.Agreement.{CallInput, call_outputs, walk_outputs}
@@ -35,15 +34,16 @@ pub smaller-delivered : SmallerDelivered
 unfolding SmallerDelivered
 smaller-delivered text before after answer w n e room smaller told x m f size low high made z given handed cs =
     calls-chain (take m smaller) made.state given handed cs
-    ∙ ap (λ (s : State). call_outputs run rebind (take m smaller) s given) z.state
+    ∙ ap (λ (x : State). call_outputs run rebind (take m smaller) x given) (ap view z.state ∙ state-back (fresh_state size).state)
     ∙ ap (λ (b : List ℕ). call_outputs run rebind (take m b) (fresh_state size).state given) x.written
     ∙ chain-smaller text before after n w.written (sym w.answered ∙ e) room m (sym x.answered ∙ f) size low high given
 
 pub smaller-delivered-c : SmallerDeliveredC
 unfolding SmallerDeliveredC
-smaller-delivered-c text before after at n w room smaller at' m x size low high returned at'' made bytes z given handed cs =
-    c.calls-chain (take m smaller) bytes given handed cs
-    ∙ ap (λ (s : State). map call_output_c (call_outputs run rebind (take m smaller) s given)) (ap state_of z.bytes ∙ fresh-held size)
+smaller-delivered-c text before after at n w room smaller at' m x size low high returned at'' made s z given handed cs =
+    c.calls-chain (take m smaller) s given handed cs
+    ∙ ap (λ (x : State). map call_output_c (call_outputs run rebind (take m smaller) x given))
+    (ap view z.state ∙ state-back (fresh_state size).state)
     ∙ ap (λ (b : List ℕ). map call_output_c (call_outputs run rebind (take m b) (fresh_state size).state given)) x.written
     ∙ ap (map call_output_c) (chain-smaller text before after n w.written (returned-0 text before after at n w) room m
     (minimise-success (take n after) room (sym x.told.number_is) ∙ ap success (sym x.told.count-is)) size low high given)

@@ -5,8 +5,7 @@ use Rattle.std.proofs.lemmas.Grind.{common_steps}
 use Rattle.words.proofs.lists.Tests.{and-l, not-false}
 use Rattle.image.specs.Image.{Image, Label}
 use Rattle.image.specs.inner.Sound.{SoundImage}
-use Rattle.state.specs.declared.State.{State}
-use Rattle.state.specs.State.{label_at, place_at, number_at, server_at, Sized}
+use Rattle.state.specs.State.{State, label_at, place_at, number_at, server_at, Sized}
 use Rattle.fitness.specs.Fitness.{is_callable, is_able_to_carry, is_filled_place, is_of_handler, has_bad_bottom, is_badly_served}
 use Rattle.fitness.proofs.Fitness.{Fits}
 use Rattle.grouping.proofs.Rounds.{ClassRound}

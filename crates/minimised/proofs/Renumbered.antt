@@ -7,8 +7,7 @@ use Rattle.results.specs.Results.{Results, result_of}
 use Rattle.image.specs.Image.{Image, Label}
 use Rattle.image.specs.inner.Sound.{SoundImage}
 use Rattle.rows.specs.Rows.{best_row, Found, found, missing, lead_of}
-use Rattle.state.specs.declared.State.{State}
-use Rattle.state.specs.State.{no_places, bottom_alone, label_at, entry_at, place_at}
+use Rattle.state.specs.State.{State, no_places, bottom_alone, label_at, entry_at, place_at}
 use Rattle.ticks.specs.Tick.{row_leads}
 use Rattle.covering.proofs.Hits.{OneRow}
 use Rattle.grouping.specs.Classes.{class_of}

@@ -9,8 +9,7 @@ use Rattle.image.specs.Image.{Image, image_text}
 use Rattle.image.specs.Decode.{decoded_image}
 use Rattle.image.specs.Check.{image_verdict}
 use Rattle.image.specs.inner.Sound.{SoundImage}
-use Rattle.state.specs.declared.State.{State}
-use Rattle.state.specs.State.{fresh, StateOutcome, fresh_state}
+use Rattle.state.specs.State.{State, fresh, StateOutcome, fresh_state}
 use Rattle.fitness.proofs.Fitness.{Fits}
 use Rattle.ticks.specs.Tick.{tick}
 use Rattle.ticks.proofs.Keeps.{fresh-fits}

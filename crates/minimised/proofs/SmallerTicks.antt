@@ -8,8 +8,7 @@ use Rattle.image.specs.Layout.{tick_kind}
 use Rattle.image.specs.Image.{Image, Label}
 use Rattle.image.specs.inner.Sound.{SoundImage}
 use Rattle.rows.specs.Rows.{Found, found, missing}
-use Rattle.state.specs.declared.State.{State}
-use Rattle.state.specs.State.{label_at, entry_at, place_at, number_at}
+use Rattle.state.specs.State.{State, label_at, entry_at, place_at, number_at}
 use Rattle.state.specs.Changes.{with_places, with_depth, with_bits}
 use Rattle.fitness.proofs.Fitness.{Fits}
 use Rattle.ticks.specs.Tick.{row_leads, MachineTick, finished, stopped, moved_tick, popped_state, state_alone, opened_state}

@@ -6,8 +6,10 @@ use Rattle.text.specs.frames.Answer.{Answer, reply, success, GivesBuffer}
 use Rattle.translator.specs.Entry.{translate}
 use Rattle.state.specs.declared.layout.TheConstants.{PLACES}
 use Rattle.minimising.specs.Entry.{minimise}
+use Rattle.state.specs.declared.State.{State as Kept}
 use Rattle.state.specs.declared.StateReport.{StateReport}
-use Rattle.state.specs.State.{fresh_state, GivesState}
+use Rattle.state.specs.State.{fresh_state}
+use Rattle.state.specs.Kept.{GivesState}
 use Rattle.fairleadow.specs.telling.AnswersForC.{GivesBufferC}
 use Rattle.fairleadow.specs.runs_for_c.Calls.{GivesStateC}
 use Rattle.agreement.specs.Agreement.{CallInput, CallOutput, walk_outputs}
@@ -26,7 +28,7 @@ unfoldable pub SmallerDeliveredC : Type 0
 SmallerDeliveredC =
     (text before after : List ℕ) (at n : ℕ) → GivesBufferC (translate text before) 0 at n after
     → (room smaller : List ℕ) (at m : ℕ) → GivesBufferC (minimise (take n after) room) 0 at m smaller
-    → (size : ℕ) → 1 ≤ size → size ≤ PLACES → (returned at made : ℕ) (bytes : List ℕ)
-    → GivesStateC (fresh_state size) returned at made bytes
-    → (given : List CallInput) (handed : List CallOutputC) → CallsInTurnC (take m smaller) bytes given handed
+    → (size : ℕ) → 1 ≤ size → size ≤ PLACES → (returned at made : ℕ) (s : Kept)
+    → GivesStateC (fresh_state size) returned at made s
+    → (given : List CallInput) (handed : List CallOutputC) → CallsInTurnC (take m smaller) s given handed
     → handed ≡ map call_output_c (walk_outputs size (contents text) given)

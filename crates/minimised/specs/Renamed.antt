@@ -1,7 +1,6 @@
 -- What a run on the smaller image has in place of a label: its group's number.
 use Rattle.std.specs.Prelude.{ℕ, List, map}
-use Rattle.state.specs.declared.State.{State}
-use Rattle.state.specs.State.{StateOutcome}
+use Rattle.state.specs.State.{State, StateOutcome}
 use Rattle.state.specs.Changes.{with_places}
 use Rattle.ticks.specs.Tick.{MachineTick, finished, stopped}
 use Rattle.runs.specs.Run.{MachineRun, RunOutcome}

@@ -1,6 +1,8 @@
--- What the two programs print goes by no more than the longest text and one character, and is the same for a text in capitals.
-use Rattle.std.specs.Prelude.{ℕ, ◌≡◌, List, map, take}
+-- What the two programs print goes by no more than the longest text and one character, is the same for a text in capitals, and is in
+-- capitals.
+use Rattle.std.specs.Prelude.{ℕ, ◌<◌, ◌≡◌, List, map, take}
 use Rattle.text.specs.digits.Digit.{capital}
+use Rattle.output.specs.printing.Lines.{refusal_line, code_line}
 use Rattle.output.specs.translate_output.TranslateProgram.{translate_output}
 use Rattle.output.specs.run_output.RunProgram.{run_output}
 
@@ -19,3 +21,11 @@ TranslateCapitals = (t : List ℕ) → translate_output (map capital t) ≡ tran
 -- an image in letters of both sizes
 abbrev pub RunCapitals : Type 0
 RunCapitals = (t : List ℕ) → run_output (map capital t) ≡ run_output t
+
+-- the frame of a refusal is written in capitals
+abbrev pub RefusalCapitals : Type 0
+RefusalCapitals = (number index : ℕ) → number < 256 → map capital (refusal_line number index) ≡ refusal_line number index
+
+-- the line of a code too
+abbrev pub CodeCapitals : Type 0
+CodeCapitals = (code : ℕ) → code < 256 → map capital (code_line code) ≡ code_line code

@@ -3,6 +3,7 @@
 #![tactic(auto)]
 
 ghost use Rattle.output.specs.Readings.{TranslateFront, RunFront, TranslateCapitals, RunCapitals};
+ghost use Rattle.output.specs.Readings.{RefusalCapitals, CodeCapitals};
 
 pub mod output_lines;
 pub mod printing;
@@ -15,4 +16,10 @@ pub fn programs_print_by_what_is_read()
     ensures run_front { RunFront }
     ensures translate_capitals { TranslateCapitals }
     ensures run_capitals { RunCapitals }
+{}
+
+/// The lines that are printed beside an image are in capitals, as the image is.
+pub fn lines_are_in_capitals()
+    ensures refusal { RefusalCapitals }
+    ensures code { CodeCapitals }
 {}

@@ -2,7 +2,7 @@
 use Rattle.std.proofs.Common.{if◌then◌else◌, ℕ, Bool, true, false, ◌≡◌, refl, sym, ◌∙◌, ap, List, [], ◌∷◌, map, length, take, ltb-true}
 use Rattle.std.proofs.Common.{ltb-false}
 use Rattle.text.specs.frames.Answer.{reply_number, reply_count}
-use Rattle.state.specs.declared.State.{State}
+use Rattle.state.specs.State.{State}
 use Rattle.runs.specs.Run.{RunOutcome, run}
 use Rattle.rebinding.specs.Rebind.{rebind}
 use Rattle.prices.specs.Prices.{price}

@@ -7,8 +7,7 @@ use Rattle.text.specs.frames.Answer.{reply_count}
 use Rattle.charts.specs.Chart.{Chart}
 use Rattle.walk.specs.Walk.{Signal, signals, Tick, walk}
 use Rattle.translator.specs.Entry.{translate}
-use Rattle.state.specs.declared.State.{State}
-use Rattle.state.specs.State.{fresh_state}
+use Rattle.state.specs.State.{State, fresh_state}
 use Rattle.runs.specs.Run.{run}
 use Rattle.rebinding.specs.Rebind.{rebind}
 use Rattle.prices.specs.Prices.{price}

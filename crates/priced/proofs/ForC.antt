@@ -1,9 +1,9 @@
 -- Calls from C in a row that meet their contracts, priced runs among them, hand back what the agreement with prices says.
 use Rattle.std.proofs.Common.{ℕ, ◌≡◌, refl, sym, ◌∙◌, ap, ap₂, List, [], ◌∷◌, map, take}
-use Rattle.state.specs.declared.State.{State}
-use Rattle.state.specs.State.{fresh_state}
-use Rattle.state.specs.Bytes.{state_of}
-use Rattle.state.proofs.ResultBytes.{fresh-held}
+use Rattle.state.specs.State.{State, fresh_state}
+use Rattle.state.specs.declared.State.{State as Kept}
+use Rattle.state.specs.Kept.{view}
+use Rattle.state.proofs.Stored.{state-back}
 use Rattle.prices.proofs.priced_runs.EntryCases.{priced-held}
 use Rattle.agreement.proofs.ForC.{returned-0}
 use Rattle.agreement.proofs.OneCallC.{LikeC, call-like}
@@ -13,23 +13,23 @@ use Rattle.priced.specs.ForC.{priced_call, PricedDeliveredC}
 use Rattle.priced.proofs.Charts.{priced-theorem}
 use Rattle.priced.proofs.Delivered.{made_outputs, chain-asked}
 
--- after each call the bytes hold the state that the same call on states hands back
-pub calls-chain : (image bytes : List ℕ) (given : List PricedInput) (handed : List PricedOutputC)
-    → PricedCallsInTurnC image bytes given handed
-    → handed ≡ map priced_output_c (made_outputs image (state_of bytes) given)
+-- each call leaves the state that the same call of the definitions hands back
+pub calls-chain : (image : List ℕ) (s : Kept) (given : List PricedInput) (handed : List PricedOutputC)
+    → PricedCallsInTurnC image s given handed
+    → handed ≡ map priced_output_c (made_outputs image (view s) given)
 unfolding priced_outputs
-calls-chain image bytes [] [] none = refl
-calls-chain image bytes [] (d ∷ handed) x = elim x [ ]
-calls-chain image bytes (unpriced g ∷ rest) [] x = elim x [ ]
-calls-chain image bytes (unpriced g ∷ rest) (by_unpriced_c d ∷ handed) (unpriced_call {after = after} c cs) =
-    let like : LikeC image bytes g d after = call-like image bytes c in
+calls-chain image s [] [] none = refl
+calls-chain image s [] (d ∷ handed) x = elim x [ ]
+calls-chain image s (unpriced g ∷ rest) [] x = elim x [ ]
+calls-chain image s (unpriced g ∷ rest) (by_unpriced_c d ∷ handed) (unpriced_call {after = after} c cs) =
+    let like : LikeC image s g d after = call-like image s c in
     ap₂ (λ (x : PricedOutputC) (l : List PricedOutputC). x ∷ l) (ap by_unpriced_c like.handed-is)
-    (calls-chain image after rest handed cs ∙ ap (λ (s : State). map priced_output_c (made_outputs image s rest)) like.state-is)
-    ∙ sym (ap (map priced_output_c) (chain-asked image (state_of bytes) g rest))
-calls-chain image bytes (unpriced g ∷ rest) (by_priced_run_c t cents ∷ handed) x = elim x [ ]
-calls-chain image bytes (to_priced_run list a ∷ rest) [] x = elim x [ ]
-calls-chain image bytes (to_priced_run list a ∷ rest) (by_unpriced_c d ∷ handed) x = elim x [ ]
-calls-chain image bytes (to_priced_run list a ∷ rest) (by_priced_run_c t cents ∷ handed) (priced_call {after = after} c cs) =
+    (calls-chain image after rest handed cs ∙ ap (λ (z : State). map priced_output_c (made_outputs image z rest)) like.state-is)
+    ∙ sym (ap (map priced_output_c) (chain-asked image (view s) g rest))
+calls-chain image s (unpriced g ∷ rest) (by_priced_run_c t cents ∷ handed) x = elim x [ ]
+calls-chain image s (to_priced_run list a ∷ rest) [] x = elim x [ ]
+calls-chain image s (to_priced_run list a ∷ rest) (by_unpriced_c d ∷ handed) x = elim x [ ]
+calls-chain image s (to_priced_run list a ∷ rest) (by_priced_run_c t cents ∷ handed) (priced_call {after = after} c cs) =
     ap₂ (λ (x : PricedOutputC) (l : List PricedOutputC). x ∷ l)
     (λ j. by_priced_run_c (record {
       number = c.told.number_is j;
@@ -39,13 +39,13 @@ calls-chain image bytes (to_priced_run list a ∷ rest) (by_priced_run_c t cents
       codes = c.codes j;
     }) (c.price j))
     (calls-chain image after rest handed cs
-    ∙ ap (λ (s : State). map priced_output_c (made_outputs image s rest))
-    (ap state_of c.bytes ∙ priced-held image bytes list a.words a.masks a.codes))
+    ∙ ap (λ (z : State). map priced_output_c (made_outputs image z rest))
+    (ap view c.state ∙ priced-held image s list a.words a.masks a.codes))
 
 pub priced-delivered-c : PricedDeliveredC
 unfolding PricedDeliveredC PricedAgreement
-priced-delivered-c text before after at n c size low high returned at' m bytes x given handed cs =
-    calls-chain (take n after) bytes given handed cs
-    ∙ ap (λ (s : State). map priced_output_c (made_outputs (take n after) s given)) (ap state_of x.bytes ∙ fresh-held size)
+priced-delivered-c text before after at n c size low high returned at' m s x given handed cs =
+    calls-chain (take n after) s given handed cs
+    ∙ ap (λ (z : State). map priced_output_c (made_outputs (take n after) z given)) (ap view x.state ∙ state-back (fresh_state size).state)
     ∙ ap (λ (b : List ℕ). map priced_output_c (made_outputs (take n b) (fresh_state size).state given)) c.written
     ∙ ap (map priced_output_c) (priced-theorem text before n (returned-0 text before after at n c) size low high given)

@@ -7,7 +7,7 @@ use Rattle.text.specs.frames.Answer.{success, refusal}
 use Rattle.charts.specs.Chart.{Chart}
 use Rattle.walk.specs.Walk.{Signal, signals, Tick, walk}
 use Rattle.state.specs.declared.layout.TheConstants.{PLACES}
-use Rattle.state.specs.declared.State.{State}
+use Rattle.state.specs.State.{State}
 use Rattle.prices.specs.Prices.{price}
 use Rattle.prices.specs.priced_runs.PricedRun.{has_too_many_words, PricedOutcome}
 use Rattle.agreement.specs.Agreement.{Translator, Maker, Runner, Rebinder, RunInput, RunOutput, output_of}

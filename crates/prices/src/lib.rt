@@ -1,10 +1,10 @@
-//! What ticks cost by a price list: a sum over the bits of their masks, in cents. `priced_runs` makes a run with its price on the bytes of
-//! a state, `priced_states` on a state by value, of at most 65,536 words (27).
+//! What ticks cost by a price list: a sum over the bits of their masks, in cents. `priced_runs` makes a run with its price on a
+//! state in place, `priced_states` on a state by value, of at most 65,536 words (27).
 #![tactic(auto)]
 
 ghost use Rattle.std.specs.Prelude.{◌≡◌, ◌≤◌, length};
 ghost use Rattle.prices.specs.Prices.{tick_price, hundredths, price};
-ghost use Rattle.prices.specs.Promises.{DoesAll, ByTheMasks, PricedBytesHold, TickMost, HundredthsMost};
+ghost use Rattle.prices.specs.Promises.{DoesAll, ByTheMasks, PricedStateStands, TickMost, HundredthsMost};
 
 pub mod priced_runs;
 pub mod priced_states;
@@ -45,11 +45,11 @@ pub fn price_of(prices: &[u16; 32], masks: &[u32]) -> u64
 }
 
 /// A priced run of at most 65,536 words does all that a run does, and its price is that of the masks written, as many as its answer counts,
-/// whatever the image, the state, the price list and the words. The bytes that it leaves hold the state that it hands back.
+/// whatever the image, the state, the price list and the words. The state that it leaves stands for the one that a run gives.
 pub fn priced_runs_are_runs()
     ensures run { DoesAll }
     ensures price { ByTheMasks }
-    ensures bytes { PricedBytesHold }
+    ensures state { PricedStateStands }
 {}
 
 /// By prices of 0 to 65,535 a tick costs at most 2,097,120 hundredths of a cent, and ticks as often that as they are.

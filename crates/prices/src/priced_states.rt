@@ -1,9 +1,11 @@
 // A run with a price, on a state by value.
-ghost use Rattle.prices.specs.priced_runs.PricedRun.{priced_run, GivesPricedRun};
+ghost use Rattle.state.specs.Kept.{view};
+ghost use Rattle.prices.specs.priced_runs.PricedRun.{priced_run};
+ghost use Rattle.prices.specs.priced_runs.InPlace.{GivesPricedRunOn};
 
-use crate::priced_runs::{PricedStateReport, priced_run_bytes};
+use crate::priced_runs;
+use crate::priced_runs::PricedStateReport;
 use state::State;
-use state::state_bytes::{bytes_of, state_of};
 
 // The same on a state that is taken and handed back.
 pub fn priced_run(
@@ -14,18 +16,15 @@ pub fn priced_run(
     masks: &mut [u32],
     codes: &mut [u8],
 ) -> PricedStateReport
-    ensures { GivesPricedRun
-        (priced_run image.now state prices.now words.now masks.old codes.old)
-        result masks.new codes.new }
+    ensures { GivesPricedRunOn
+        (priced_run image.now (view state) prices.now words.now masks.old codes.old)
+        words.now state result.answer result.price result.state masks.new codes.new }
 {
-    let mut bytes = bytes_of(state);
-    let done = priced_run_bytes(image, &mut bytes, prices, words, masks, codes);
-    let answer = done.answer;
-    let price = done.price;
-    let after = state_of(bytes);
+    let mut after = state;
+    let done = priced_runs::priced_run(image, &mut after, prices, words, masks, codes);
     PricedStateReport {
-        answer,
+        answer: done.answer,
         state: after,
-        price,
+        price: done.price,
     }
 }

@@ -4,7 +4,7 @@ use Rattle.text.specs.frames.Verdict.{Verdict, next}
 use Rattle.text.specs.frames.Alike.{ReadAlike}
 use Rattle.image.specs.Decode.{decoded_image}
 use Rattle.image.proofs.Alike.{image-verdict}
-use Rattle.state.specs.declared.State.{State}
+use Rattle.state.specs.State.{State}
 use Rattle.rebinding.specs.Rebind.{rebind_verdict, rebind_on, rebind}
 
 pub rebinds : (t u : List ℕ) → ReadAlike t u → (s : State) (number scheme : ℕ) → rebind t s number scheme ≡ rebind u s number scheme

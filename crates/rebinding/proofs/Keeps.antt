@@ -11,8 +11,7 @@ use Rattle.image.specs.Image.{Image}
 use Rattle.image.specs.Decode.{decoded_image}
 use Rattle.image.specs.Check.{image_verdict}
 use Rattle.image.proofs.Accepted.{image-sound}
-use Rattle.state.specs.declared.State.{State}
-use Rattle.state.specs.State.{Sized}
+use Rattle.state.specs.State.{State, Sized}
 use Rattle.fitness.specs.Fitness.{is_callable, is_badly_served, is_unfit}
 use Rattle.fitness.proofs.Fitness.{Fits, fits, unfits, range-callable}
 use Rattle.rebinding.specs.Rebind.{rebinding, rebind}

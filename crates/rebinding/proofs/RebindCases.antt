@@ -8,10 +8,10 @@ use Rattle.text.specs.declared.frames.refusals.Refusal.TheVariants.{Unfit, BadRe
 use Rattle.image.specs.Decode.{scheme_count, handler_in}
 use Rattle.tables.specs.Table.{table_image}
 use Rattle.tables.proofs.TableReads.{entries-count}
-use Rattle.state.specs.declared.State.{State}
-use Rattle.state.specs.State.{StateOutcome}
+use Rattle.state.specs.declared.State.{State as Kept}
+use Rattle.state.specs.State.{State, StateOutcome}
 use Rattle.state.specs.Changes.{with_serving}
-use Rattle.state.specs.Bytes.{state_of, bytes_of}
+use Rattle.state.specs.Kept.{view, stored}
 use Rattle.fitness.specs.Fitness.{is_unfit}
 use Rattle.rebinding.specs.Rebind.{rebind_on, table_rebind, GivesRebindingOn}
 
@@ -19,15 +19,15 @@ use Rattle.rebinding.specs.Rebind.{rebind_on, table_rebind, GivesRebindingOn}
 abbrev pub kept_state : ℕ → ℕ → State → StateOutcome
 kept_state n j s = record { reply = refusal n j 0; state = s }
 
-pub kept-rebinds : (x : StateOutcome) (bytes : List ℕ) (n j : ℕ) (s : State) → x ≡ kept_state n j s
+pub kept-rebinds : (x : StateOutcome) (before : Kept) (n j : ℕ) (s : State) → x ≡ kept_state n j s
     → 1 ≤ n → (a : Answer) → reply a ≡ refusal n j 0
-    → GivesRebindingOn x bytes a bytes
-kept-rebinds x bytes n j s g l a e = grind (arith, common_steps)
+    → GivesRebindingOn x before a before
+kept-rebinds x before n j s g l a e = grind (arith, common_steps)
 
 -- ---- on a table: t says whether the state is unfit, u whether the rebinding is refused
-module _ (b before : List ℕ) (h k : ℕ) (t : Bool) (e : t ≡ is_unfit (table_image b) (state_of before)) where
+module _ (b : List ℕ) (before : Kept) (h k : ℕ) (t : Bool) (e : t ≡ is_unfit (table_image b) (view before)) where
   abbrev s : State
-  s = state_of before
+  s = view before
 
   abbrev answers : Bool → Bool → StateOutcome
   answers t u = rebind_on (next (when 15 t) λ _. when 22 u) s h k
@@ -48,7 +48,7 @@ module _ (b before : List ℕ) (h k : ℕ) (t : Bool) (e : t ≡ is_unfit (table
     pub bad-rebinds : u ≡ true → GivesRebindingOn (table_rebind b s h k) before (Err BadRebinding) before
     bad-rebinds q = grind (arith, common_steps, kept-rebinds, table_is)
 
-    pub done-rebinds : u ≡ false → (bound after : List ℕ) → state_of bound ≡ with_serving s (rebound_binding h k s.serving)
-        → after ≡ bytes_of (state_of bound)
+    pub done-rebinds : u ≡ false → (bound after : Kept) → view bound ≡ with_serving s (rebound_binding h k s.serving)
+        → after ≡ stored (view bound)
         → GivesRebindingOn (table_rebind b s h k) before (Ok 0) after
-    done-rebinds q bound after x y = rw (table_is ∙ ap (answers false) q) (record { answered = refl; bytes = y ∙ ap bytes_of x })
+    done-rebinds q bound after x y = rw (table_is ∙ ap (answers false) q) (record { answered = refl; state = y ∙ ap stored x })

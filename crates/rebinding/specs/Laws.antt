@@ -5,8 +5,7 @@ use Rattle.text.specs.frames.Verdict.{fine}
 use Rattle.image.specs.Decode.{decoded_image}
 use Rattle.image.specs.Check.{image_verdict}
 use Rattle.tables.specs.Table.{is_bad_table, table_image}
-use Rattle.state.specs.declared.State.{State}
-use Rattle.state.specs.State.{Sized}
+use Rattle.state.specs.State.{State, Sized}
 use Rattle.fitness.specs.Fitness.{is_unfit}
 use Rattle.rebinding.specs.Rebind.{rebind, live_rebind}
 

@@ -9,10 +9,10 @@ use Rattle.image.specs.Image.{Image}
 use Rattle.image.specs.Decode.{decoded_image}
 use Rattle.image.specs.Check.{image_verdict}
 use Rattle.tables.specs.Table.{is_bad_table, table_image}
-use Rattle.state.specs.declared.State.{State}
-use Rattle.state.specs.State.{StateOutcome}
+use Rattle.state.specs.declared.State.{State as Kept}
+use Rattle.state.specs.State.{State, StateOutcome}
 use Rattle.state.specs.Changes.{with_serving}
-use Rattle.state.specs.Bytes.{bytes_of}
+use Rattle.state.specs.Kept.{stored}
 use Rattle.fitness.specs.Fitness.{is_unfit}
 
 -- open schemes go on as they are; only later calls find the new binding
@@ -41,7 +41,7 @@ table_rebind b s h k = rebind_on (rebind_verdict (table_image b) s h k) s h k
 unfoldable pub live_rebind : List ℕ → State → ℕ → ℕ → StateOutcome
 live_rebind b s h k = rebind_on (next (when BAD_HEADER (is_bad_table b)) λ _. rebind_verdict (table_image b) s h k) s h k
 
--- what a function that rebinds in the bytes of a state promises: a refusal leaves them as they were
-pub record GivesRebindingOn (x : StateOutcome) (before : List ℕ) (answer : Answer) (after : List ℕ) : Type 0 where
+-- what a function that rebinds promises: a refusal leaves the state just as it was lent
+pub record GivesRebindingOn (x : StateOutcome) (before : Kept) (answer : Answer) (after : Kept) : Type 0 where
   pub answered : reply answer ≡ x.reply
-  pub bytes : after ≡ (if reply_number x.reply == 0 then bytes_of x.state else before)
+  pub state : after ≡ (if reply_number x.reply == 0 then stored x.state else before)

@@ -1,12 +1,11 @@
-// Rebindings in the bytes of a state that the caller keeps.
+// Rebindings in a state that the caller keeps.
 ghost use Rattle.tables.specs.inner.Asked.{Whole};
-ghost use Rattle.state.specs.Bytes.{state_of};
+ghost use Rattle.state.specs.Kept.{view};
 ghost use Rattle.rebinding.specs.Rebind.{rebind, table_rebind, live_rebind, GivesRebindingOn};
 
 use crate::rebindable::bad_rebinding;
 use fitness::fitting::is_unfit;
-use state::layout::STATE_BYTES;
-use state::state_results::{put_serving, tidy_results};
+use state::State;
 use tables::preparing::prepare_table;
 use tables::{bad_table, table_length};
 use text::frames::Refusal;
@@ -15,54 +14,54 @@ use text::frames::sizes::{FRAME, LINE, TABLE};
 // A rebinding on a prepared table: 15, then 22.
 fn rebind_table(
     table: &[u8],
-    bytes: &mut [u8; STATE_BYTES],
+    state: &mut State,
     number: usize,
     scheme: usize,
 ) -> Result<usize, Refusal>
     requires { Whole table.now }
-    ensures { GivesRebindingOn (table_rebind table.now (state_of bytes.old) number scheme)
-        bytes.old result bytes.new }
+    ensures { GivesRebindingOn (table_rebind table.now (view state.old) number scheme)
+        state.old result state.new }
 {
-    if is_unfit(table, bytes) {
+    if is_unfit(table, state) {
         return Err(Refusal::Unfit);
     }
     if bad_rebinding(table, number, scheme) {
         return Err(Refusal::BadRebinding);
     }
-    put_serving(bytes, number, scheme as u8);
-    tidy_results(bytes);
+    state.put_serving(number, scheme as u8);
+    state.tidy();
     Ok(0)
 }
 
 // What the image check tries, then 15 and 22.
-pub fn rebind_bytes(
+pub fn rebind(
     image: &[u8],
-    bytes: &mut [u8; STATE_BYTES],
+    state: &mut State,
     number: usize,
     scheme: usize,
 ) -> Result<usize, Refusal>
-    ensures { GivesRebindingOn (rebind image.now (state_of bytes.old) number scheme)
-        bytes.old result bytes.new }
+    ensures { GivesRebindingOn (rebind image.now (view state.old) number scheme)
+        state.old result state.new }
 {
     let mut table = [0u8; TABLE];
     prepare_table(image, &mut table)?;
     let n = FRAME * (image.len() / LINE);
-    rebind_table(&table[..n], bytes, number, scheme)
+    rebind_table(&table[..n], state, number, scheme)
 }
 
 // On a prepared table: 11, then 15 and 22.
-pub fn live_rebind_bytes(
+pub fn live_rebind(
     table: &[u8],
-    bytes: &mut [u8; STATE_BYTES],
+    state: &mut State,
     number: usize,
     scheme: usize,
 ) -> Result<usize, Refusal>
-    ensures { GivesRebindingOn (live_rebind table.now (state_of bytes.old) number scheme)
-        bytes.old result bytes.new }
+    ensures { GivesRebindingOn (live_rebind table.now (view state.old) number scheme)
+        state.old result state.new }
 {
     if bad_table(table) {
         return Err(Refusal::BadHeader);
     }
     let n = table_length(table);
-    rebind_table(&table[..n], bytes, number, scheme)
+    rebind_table(&table[..n], state, number, scheme)
 }

@@ -1,15 +1,14 @@
 //! A rebinding between ticks: a number is served by another scheme from then on. `rebindable` tries it (22); it is made by value
-//! (`by_value`) or in the bytes of a state (`in_place`), on an image or live on a prepared table.
+//! (`by_value`) or in place (`in_place`), on an image or live on a prepared table.
 #![tactic(auto)]
 
 ghost use Rattle.rebinding.specs.Laws.{LiveRebindIs, RebindFits};
 
 mod by_value;
-mod in_place;
+pub mod in_place;
 pub mod rebindable;
 
 pub use by_value::{live_rebind, rebind};
-pub use in_place::{live_rebind_bytes, rebind_bytes};
 
 /// A live rebinding on a prepared table is the rebinding on the image that it was prepared from, and a rebinding leaves a fitting state
 /// fitting, on every accepted image.

@@ -140,7 +140,7 @@ fn state_case(text: [u8; 276], size: u8, depth: u8, edits: &[u8], schemes: &[u8]
     patch(&mut places, edits);
     let mut numbers = [0u8; 32];
     patch(&mut numbers, schemes);
-    let bits = [true; 16];
+    let results = [1u8; 16];
     let serving = [1, 2, 3, 4, 5, 6, 7, 8, 9, 10, 11, 12, 13, 14, 15, 16];
     rest(
         text,
@@ -148,7 +148,7 @@ fn state_case(text: [u8; 276], size: u8, depth: u8, edits: &[u8], schemes: &[u8]
             size,
             depth,
             places,
-            bits,
+            results,
             serving,
             numbers,
             servers: numbers,

@@ -3,7 +3,7 @@ use Rattle.std.proofs.Common.{ℕ, ◌≡◌, ap, List, [], ◌∷◌, arith}
 use Rattle.std.proofs.lemmas.Grind.{common_steps}
 use Rattle.text.specs.frames.Alike.{ReadAlike}
 use Rattle.image.proofs.Alike.{image-verdict}
-use Rattle.state.specs.declared.State.{State}
+use Rattle.state.specs.State.{State}
 use Rattle.runs.specs.Run.{RunOutcome, run_verdict, run}
 use Rattle.runs.specs.TickOutcome.{tick_outcome, image_tick}
 

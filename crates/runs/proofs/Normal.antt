@@ -2,7 +2,7 @@
 use Rattle.std.proofs.Common.{ℕ, ◌≤◌, refl, ◌∙◌, List, [], ◌∷◌}
 use Rattle.text.specs.frames.Verdict.{Verdict, fine, refused}
 use Rattle.image.specs.Image.{Image}
-use Rattle.state.specs.declared.State.{State}
+use Rattle.state.specs.State.{State}
 use Rattle.ticks.specs.Tick.{MachineTick, finished, stopped, tick}
 use Rattle.ticks.proofs.Normal.{Same, Normal, tick-normal}
 use Rattle.runs.specs.Run.{run_after, ticks}

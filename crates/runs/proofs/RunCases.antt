@@ -1,24 +1,25 @@
 -- The answers of a run and of one tick on a table, by what their parts give.
 use Rattle.std.proofs.Common.{◌≡◌, refl, sym, ◌∙◌, ap, subst, Bool, true, false, List, [], ◌∷◌, ℕ, zero, suc, ◌≤◌, arith, nat_le, slice_index}
-use Rattle.std.proofs.Common.{le-leb, Ok, Err}
+use Rattle.std.proofs.Common.{Ok, Err}
 use borrow.Author.Tests.{lt-leb}
 use Rattle.std.proofs.lemmas.Grind.{common_steps}
 use Rattle.std.proofs.lemmas.Bool.{cond-false}
-use Rattle.words.proofs.lists.Tests.{or-l, and-no, and-true}
-use Rattle.text.specs.frames.Verdict.{Verdict, fine, refused, next, when}
+use Rattle.words.proofs.lists.Tests.{or-l, and-no}
+use Rattle.text.specs.frames.Verdict.{Verdict, fine, next, when}
 use Rattle.text.specs.frames.Answer.{Answer, success, refusal, reply_number, reply, counted_reply}
 use Rattle.text.specs.declared.frames.refusals.Refusal.{Refusal}
 use Rattle.text.specs.declared.frames.refusals.Refusal.TheVariants.{Unfit, NoRoom}
 use Rattle.tables.specs.Table.{table_image}
 use Rattle.tables.specs.inner.Asked.{Whole}
-use Rattle.state.specs.declared.State.{State}
-use Rattle.state.specs.Bytes.{state_of, bytes_of}
+use Rattle.state.specs.State.{State}
+use Rattle.state.specs.declared.State.{State as Kept}
+use Rattle.state.specs.Kept.{view, stored}
 use Rattle.fitness.specs.Fitness.{has_bad_depth, is_unfit}
 use Rattle.runs.specs.declared.RunEnd.{RunEnd}
-use Rattle.ticks.specs.Tick.{MachineTick, finished, stopped, tick}
-use Rattle.runs.specs.Run.{MachineRun, RunOutcome, run_after, ticks, has_no_room, run_on}
+use Rattle.ticks.specs.Tick.{finished, stopped, tick}
+use Rattle.runs.specs.Run.{MachineRun, RunOutcome, ticks, has_no_room, run_on}
 use Rattle.runs.specs.TickOutcome.{TickOutcome, tick_outcome}
-use Rattle.runs.specs.InPlace.{is_without_change, bytes_after, GivesRunOn, GivesTickOn}
+use Rattle.runs.specs.InPlace.{is_without_change, state_after, GivesRunOn, GivesTickOn}
 use Rattle.ticks.specs.declared.TickEnd.{TickEnd}
 use Rattle.ticks.specs.inner.TickContracts.{GivesTickEnd, TickAsked}
 use Rattle.runs.specs.inner.RunContracts.{verdict_of, RunRoom, GivesRunEnd, table_run}
@@ -30,7 +31,7 @@ use Rattle.runs.proofs.TurnCases.{number-verdict, went, stood}
 pub room-enough : (ws ms ks : List ℕ) → has_no_room ws ms ks ≡ false → RunRoom ws ms ks
 room-enough ws ms ks e = grind (arith, common_steps)
 
--- ---- which numbers leave the bytes
+-- ---- which numbers leave the state
 
 pub late-writes : (n : ℕ) → 17 ≤ n → is_without_change n ≡ false
 late-writes n h = and-no (nat_le 1 n) _ (lt-leb n _ (omega arith))
@@ -39,11 +40,11 @@ late-writes n h = and-no (nat_le 1 n) _ (lt-leb n _ (omega arith))
 abbrev pub kept_run : ℕ → ℕ → State → List ℕ → List ℕ → RunOutcome
 kept_run n j s ms ks = record { reply = refusal n j 0; state = s; masks = ms; codes = ks }
 
-pub kept-runs : (x : RunOutcome) (bytes ms ks : List ℕ) (n j : ℕ) (s : State) → x ≡ kept_run n j s ms ks
+pub kept-runs : (x : RunOutcome) (before : Kept) (ms ks : List ℕ) (n j : ℕ) (s : State) → x ≡ kept_run n j s ms ks
     → 1 ≤ n → n ≤ 16 → (a : Answer) → reply a ≡ refusal n j 0
-    → GivesRunOn x bytes a bytes ms ks
-unfolding bytes_after
-kept-runs x bytes ms ks n j s g l h a e = grind (arith, common_steps)
+    → GivesRunOn x before a before ms ks
+unfolding state_after
+kept-runs x before ms ks n j s g l h a e = grind (arith, common_steps)
 
 -- a state that fits has a depth of 1 to Σ
 pub fits-stands : (b : List ℕ) (s : State) → Whole b → is_unfit (table_image b) s ≡ false → TickAsked b s
@@ -51,9 +52,9 @@ unfolding is_unfit
 fits-stands b s whole e = record { whole = whole; depth = or-l (has_bad_depth s) _ (or-l _ _ (or-l _ _ (or-l _ _ e))) }
 
 -- ---- a run on a table
-module _ (b before ws ms₀ ks₀ : List ℕ) where
+module _ (b : List ℕ) (before : Kept) (ws ms₀ ks₀ : List ℕ) where
   abbrev s : State
-  s = state_of before
+  s = view before
 
   abbrev given : RunOutcome
   given = table_run b s ws ms₀ ks₀
@@ -81,15 +82,15 @@ module _ (b before ws ms₀ ks₀ : List ℕ) where
     short-answer g = kept-runs given before ms₀ ks₀ 16 0 s (table-short (sym e ∙ h) (sym f ∙ g))
         (omega arith) (omega arith) (Err NoRoom) refl
 
-    module _ (g : u ≡ false) (r : RunEnd) (mid bytes ms ks : List ℕ) (ends : GivesRunEnd b before ws ms₀ ks₀ r mid ms ks)
-        (tidied : bytes ≡ bytes_of (state_of mid)) where
+    module _ (g : u ≡ false) (r : RunEnd) (mid after : Kept) (ms ks : List ℕ) (ends : GivesRunEnd b before ws ms₀ ks₀ r mid ms ks)
+        (tidied : after ≡ stored (view mid)) where
       is : given ≡ run_on fine (λ _. ran) s ms₀ ks₀
       is = table_runs (sym e ∙ h) (sym f ∙ g)
 
       late : Late (verdict_of r.number)
       late = subst Late (sym ends.verdict) (ticks-late (table_image b) ws s)
 
-      -- neither success nor 17 and 18 leave the bytes
+      -- neither success nor 17 and 18 leave the state
       writes : (n : ℕ) → Late (verdict_of n) → (m : ℕ) → is_without_change (reply_number (counted_reply (verdict_of n) m)) ≡ false
       writes zero l m = refl
       writes (suc n) l m = late-writes (suc n) l.0
@@ -98,8 +99,8 @@ module _ (b before ws ms₀ ks₀ : List ℕ) where
       pub stops-late : (r.number ≡ 0 → ⊥) → (17 ≤ r.number) × (r.number ≤ 18)
       stops-late z = subst Late (number-verdict r.number z) late
 
-      pub ran-answer : (a : Answer) → reply a ≡ counted_reply (verdict_of r.number) r.count → GivesRunOn given before a bytes ms ks
-      unfolding bytes_after
+      pub ran-answer : (a : Answer) → reply a ≡ counted_reply (verdict_of r.number) r.count → GivesRunOn given before a after ms ks
+      unfolding state_after
       ran-answer a q = grind (arith, common_steps, cond-false, is, late, writes)
 
 -- what a run answers by its number
@@ -111,7 +112,7 @@ stopped-replied n m h = sym (ap (λ (v : Verdict). counted_reply v m) (number-ve
 
 -- ---- one tick by the loop over one word
 
-module _ (b before : List ℕ) (w : ℕ) (r : RunEnd) (mid ms ks : List ℕ)
+module _ (b : List ℕ) (before : Kept) (w : ℕ) (r : RunEnd) (mid : Kept) (ms ks : List ℕ)
     (ends : GivesRunEnd b before (w ∷ []) (0 ∷ []) (0 ∷ []) r mid ms ks) where
   abbrev told : TickEnd
   told = record { number = r.number; mask = slice_index ms 0; code = slice_index ks 0 }
@@ -121,9 +122,9 @@ module _ (b before : List ℕ) (w : ℕ) (r : RunEnd) (mid ms ks : List ℕ)
   one-steps = grind (arith, common_steps)
 
 -- ---- one tick on a table
-module _ (b before : List ℕ) (w : ℕ) where
+module _ (b : List ℕ) (before : Kept) (w : ℕ) where
   abbrev state₀ : State
-  state₀ = state_of before
+  state₀ = view before
 
   abbrev one : TickOutcome
   one = tick_outcome (table_run b state₀ (w ∷ []) (0 ∷ []) (0 ∷ []))
@@ -151,13 +152,13 @@ module _ (b before : List ℕ) (w : ℕ) where
     pub tick-unfit : t ≡ true → GivesTickOn one before (Err Unfit) before
     tick-unfit h = refused-advances 15 (λ z. omega arith) (one-unfit (sym e ∙ h)) Unfit refl
 
-    module _ (h : t ≡ false) (r : TickEnd) (mid : List ℕ) (q : GivesTickEnd b before w r mid) where
+    module _ (h : t ≡ false) (r : TickEnd) (mid : Kept) (q : GivesTickEnd b before w r mid) where
       pub tick-late : (r.number ≡ 0 → ⊥) → (17 ≤ r.number) × (r.number ≤ 18)
       tick-late z = subst (Normal state₀) (stood b before w r mid q z) (tick-normal (table_image b) state₀ w)
 
       pub tick-stopped : (z : r.number ≡ 0 → ⊥) (x : Refusal) → reply (Err x) ≡ refusal r.number 0 0 → GivesTickOn one before (Err x) mid
       tick-stopped z x p = grind (arith, common_steps, stood, one-stopped, refused-advances)
 
-      pub tick-finished : r.number ≡ 0 → (bytes : List ℕ) → bytes ≡ bytes_of (state_of mid)
-          → GivesTickOn one before (Ok (record { mask = r.mask; code = r.code })) bytes
-      tick-finished z bytes u = grind (arith, common_steps, went, one-ticked)
+      pub tick-finished : r.number ≡ 0 → (after : Kept) → after ≡ stored (view mid)
+          → GivesTickOn one before (Ok (record { mask = r.mask; code = r.code })) after
+      tick-finished z after u = grind (arith, common_steps, went, one-ticked)

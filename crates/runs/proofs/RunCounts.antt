@@ -4,7 +4,7 @@ use Rattle.std.proofs.lemmas.Grind.{common_steps}
 use Rattle.text.specs.frames.Answer.{reply_count}
 use Rattle.text.proofs.frames.Chains.{replied-count}
 use Rattle.image.specs.Image.{Image}
-use Rattle.state.specs.declared.State.{State}
+use Rattle.state.specs.State.{State}
 use Rattle.ticks.specs.Tick.{MachineTick, finished, stopped, tick}
 use Rattle.runs.specs.Run.{run_after, ticks, run}
 

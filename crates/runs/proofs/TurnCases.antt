@@ -8,8 +8,9 @@ use Rattle.words.proofs.lists.Written.{written-none, written-snoc, written-front
 use Rattle.text.specs.frames.Verdict.{Verdict, fine, refused}
 use Rattle.image.specs.Image.{Image}
 use Rattle.tables.specs.Table.{table_image}
-use Rattle.state.specs.declared.State.{State}
-use Rattle.state.specs.Bytes.{state_of}
+use Rattle.state.specs.State.{State}
+use Rattle.state.specs.declared.State.{State as Kept}
+use Rattle.state.specs.Kept.{view}
 use Rattle.ticks.specs.declared.TickEnd.{TickEnd}
 use Rattle.ticks.specs.Tick.{top_of, MachineTick, finished, stopped, tick}
 use Rattle.runs.specs.Run.{MachineRun, run_after, ticks}
@@ -19,11 +20,11 @@ use Rattle.ticks.proofs.Normal.{tick-normal}
 use Rattle.ticks.proofs.TickCases.{stands-on}
 
 -- ---- a tick by what the function that makes it answers
-module _ (b before : List ℕ) (w : ℕ) (r : TickEnd) (bytes : List ℕ) (q : GivesTickEnd b before w r bytes) where
+module _ (b : List ℕ) (before : Kept) (w : ℕ) (r : TickEnd) (after : Kept) (q : GivesTickEnd b before w r after) where
   abbrev made : MachineTick
-  made = tick (table_image b) (state_of before) w
+  made = tick (table_image b) (view before) w
 
-  pub went : r.number ≡ 0 → made ≡ finished r.mask r.code (state_of bytes)
+  pub went : r.number ≡ 0 → made ≡ finished r.mask r.code (view after)
   went z = grind (arith, common_steps, tick-normal)
 
   pub stood : (r.number ≡ 0 → ⊥) → made ≡ stopped r.number
@@ -54,10 +55,10 @@ abbrev joined : List ℕ → List ℕ → MachineRun → MachineRun
 joined ms ks r = record { masks = ms ++ r.masks; codes = ks ++ r.codes; state = r.state; verdict = r.verdict }
 
 -- after i words
-pub record RunTurn (b bytes₀ ws ms₀ ks₀ bytes ms ks : List ℕ) (l i : ℕ) : Type 0 where
+pub record RunTurn (b : List ℕ) (start : Kept) (ws ms₀ ks₀ : List ℕ) (state : Kept) (ms ks : List ℕ) (l i : ℕ) : Type 0 where
   pub low : i ≤ length ws
-  pub stands : TickAsked b (state_of bytes)
-  pub label : l ≡ top_of (state_of bytes)
+  pub stands : TickAsked b (view state)
+  pub label : l ≡ top_of (view state)
   pub past_masks : List ℕ
   pub past_codes : List ℕ
   pub long_masks : length past_masks ≡ i
@@ -66,12 +67,12 @@ pub record RunTurn (b bytes₀ ws ms₀ ks₀ bytes ms ks : List ℕ) (l i : ℕ
   pub size_codes : length ks ≡ length ks₀
   pub masks : ms ≡ written ms₀ 0 past_masks
   pub codes : ks ≡ written ks₀ 0 past_codes
-  pub whole : joined past_masks past_codes (ticks (table_image b) (state_of bytes) (drop i ws)) ≡ ticks (table_image b) (state_of bytes₀) ws
-  pub same : i ≡ 0 → bytes ≡ bytes₀
+  pub whole : joined past_masks past_codes (ticks (table_image b) (view state) (drop i ws)) ≡ ticks (table_image b) (view start) ws
+  pub same : i ≡ 0 → state ≡ start
 
-pub turn-start : (b bytes ws ms ks : List ℕ) (l : ℕ) → TickAsked b (state_of bytes) → l ≡ top_of (state_of bytes)
-    → RunTurn b bytes ws ms ks bytes ms ks l 0
-turn-start b bytes ws ms ks l y e = record {
+pub turn-start : (b : List ℕ) (state : Kept) (ws ms ks : List ℕ) (l : ℕ) → TickAsked b (view state) → l ≡ top_of (view state)
+    → RunTurn b state ws ms ks state ms ks l 0
+turn-start b state ws ms ks l y e = record {
   low = omega arith;
   stands = y;
   label = e;
@@ -101,13 +102,13 @@ pub number-verdict : (n : ℕ) → (n ≡ 0 → ⊥) → verdict_of n ≡ refuse
 number-verdict zero h = absurd (h refl)
 number-verdict (suc n) h = refl
 
-module _ {b bytes₀ ws ms₀ ks₀ bytes ms ks : List ℕ} {l i : ℕ} (t : RunTurn b bytes₀ ws ms₀ ks₀ bytes ms ks l i)
+module _ {b ws ms₀ ks₀ ms ks : List ℕ} {start state : Kept} {l i : ℕ} (t : RunTurn b start ws ms₀ ks₀ state ms ks l i)
     (room : RunRoom ws ms₀ ks₀) where
   abbrev s : State
-  s = state_of bytes
+  s = view state
 
   abbrev s₀ : State
-  s₀ = state_of bytes₀
+  s₀ = view start
 
   abbrev image : Image
   image = table_image b
@@ -116,9 +117,9 @@ module _ {b bytes₀ ws ms₀ ks₀ bytes ms ks : List ℕ} {l i : ℕ} (t : Run
   abbrev before : MachineRun → MachineRun
   before = joined t.past_masks t.past_codes
 
-  ended : (n : ℕ) (u : State) (left : List ℕ) (v : Verdict) → verdict_of n ≡ v → state_of left ≡ u → left ≡ bytes
+  ended : (n : ℕ) (u : State) (left : Kept) (v : Verdict) → verdict_of n ≡ v → view left ≡ u → left ≡ state
       → before (record { masks = []; codes = []; state = u; verdict = v }) ≡ ticks image s₀ ws
-      → GivesRunEnd b bytes₀ ws ms₀ ks₀ (record { number = n; count = i }) left ms ks
+      → GivesRunEnd b start ws ms₀ ks₀ (record { number = n; count = i }) left ms ks
   ended n u left v p q k all = record {
     verdict = p ∙ ap (λ (x : MachineRun). x.verdict) all;
     count = sym t.long_codes ∙ ap (λ (l : List ℕ). length l) (sym (append-nil t.past_codes) ∙ ap (λ (x : MachineRun). x.codes) all);
@@ -130,12 +131,12 @@ module _ {b bytes₀ ws ms₀ ks₀ bytes ms ks : List ℕ} {l i : ℕ} (t : Run
     kept = λ e. k ∙ t.same e;
   }
 
-  module _ (h : i < length ws) (r : TickEnd) (next : List ℕ) (q : GivesTickEnd b bytes (slice_index ws i) r next) where
-    pub turn_on : r.number ≡ 0 → (m : ℕ) → m ≡ top_of (state_of next)
-        → RunTurn b bytes₀ ws ms₀ ks₀ next (set ms i r.mask) (set ks i r.code) m (i + 1)
+  module _ (h : i < length ws) (r : TickEnd) (next : Kept) (q : GivesTickEnd b state (slice_index ws i) r next) where
+    pub turn_on : r.number ≡ 0 → (m : ℕ) → m ≡ top_of (view next)
+        → RunTurn b start ws ms₀ ks₀ next (set ms i r.mask) (set ks i r.code) m (i + 1)
     turn_on z m top =
-        let e : tick image s (slice_index ws i) ≡ finished r.mask r.code (state_of next) = went b bytes (slice_index ws i) r next q z in
-        let on : MachineRun = ticks image (state_of next) (drop (suc i) ws) in
+        let e : tick image s (slice_index ws i) ≡ finished r.mask r.code (view next) = went b state (slice_index ws i) r next q z in
+        let on : MachineRun = ticks image (view next) (drop (suc i) ws) in
         record {
           low = omega arith;
           stands = stands-on q t.stands;
@@ -150,29 +151,29 @@ module _ {b bytes₀ ws ms₀ ks₀ bytes ms ks : List ℕ} {l i : ℕ} (t : Run
           codes = grown ks₀ ks t.past_codes i r.code t.codes t.long_codes (omega (arith, room.codes));
           whole =
               ap (λ (n : ℕ). joined (t.past_masks ++ (r.mask ∷ [])) (t.past_codes ++ (r.code ∷ []))
-              (ticks image (state_of next) (drop n ws))) (add-one i)
+              (ticks image (view next) (drop n ws))) (add-one i)
               ∙ (λ j. record {
                 masks = append_snoc t.past_masks r.mask on.masks j;
                 codes = append_snoc t.past_codes r.code on.codes j;
                 state = on.state;
                 verdict = on.verdict;
               })
-              ∙ ap before (sym (ticks-went image s (slice_index ws i) (drop (suc i) ws) r.mask r.code (state_of next) e))
+              ∙ ap before (sym (ticks-went image s (slice_index ws i) (drop (suc i) ws) r.mask r.code (view next) e))
               ∙ ap (λ (l : List ℕ). before (ticks image s l)) (sym (drop-cons ws i 0 h)) ∙ t.whole;
           same = λ e. absurd (omega arith);
         }
 
     -- a tick that is stopped ends the run
-    pub turn-stood : (r.number ≡ 0 → ⊥) → GivesRunEnd b bytes₀ ws ms₀ ks₀ (record { number = r.number; count = i }) next ms ks
+    pub turn-stood : (r.number ≡ 0 → ⊥) → GivesRunEnd b start ws ms₀ ks₀ (record { number = r.number; count = i }) next ms ks
     turn-stood z =
         let all : before (record { masks = []; codes = []; state = s; verdict = refused r.number 0 }) ≡ ticks image s₀ ws =
-        ap before (sym (ticks-stood image s (slice_index ws i) (drop (suc i) ws) r.number (stood b bytes (slice_index ws i) r next q z)))
+        ap before (sym (ticks-stood image s (slice_index ws i) (drop (suc i) ws) r.number (stood b state (slice_index ws i) r next q z)))
         ∙ ap (λ (l : List ℕ). before (ticks image s l)) (sym (drop-cons ws i 0 h)) ∙ t.whole in
-        ended r.number s next (refused r.number 0) (number-verdict r.number z) (ap state_of (q.kept z)) (q.kept z) all
+        ended r.number s next (refused r.number 0) (number-verdict r.number z) (ap view (q.kept z)) (q.kept z) all
 
   -- no word is left
-  pub turn-over : length ws ≤ i → GivesRunEnd b bytes₀ ws ms₀ ks₀ (record { number = 0; count = i }) bytes ms ks
+  pub turn-over : length ws ≤ i → GivesRunEnd b start ws ms₀ ks₀ (record { number = 0; count = i }) state ms ks
   turn-over h =
       let all : before (record { masks = []; codes = []; state = s; verdict = fine }) ≡ ticks image s₀ ws =
       ap before (sym (ticks-none image s)) ∙ ap (λ (l : List ℕ). before (ticks image s l)) (sym (drop_of_length-le ws h)) ∙ t.whole in
-      ended 0 s bytes fine refl refl refl all
+      ended 0 s state fine refl refl refl all

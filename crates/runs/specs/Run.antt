@@ -1,15 +1,14 @@
 -- A run: ticks over a list of words; what it answers, the state it hands back and what the two buffers then hold.
-use Rattle.std.specs.Prelude.{ℕ, Bool, ◌||◌, ◌≡◌, List, [], ◌∷◌, length, nat_lt}
+use Rattle.std.specs.Prelude.{ℕ, Bool, ◌||◌, List, [], ◌∷◌, length, nat_lt}
 use Rattle.words.specs.lists.Sequences.{over}
 use Rattle.text.specs.declared.frames.refusals.TheConstants.{UNFIT, NO_ROOM}
 use Rattle.text.specs.frames.Frame.{contents}
 use Rattle.text.specs.frames.Verdict.{Verdict, fine, refused, next, when}
-use Rattle.text.specs.frames.Answer.{Reply, refusal, reply, counted_reply}
+use Rattle.text.specs.frames.Answer.{Reply, refusal, counted_reply}
 use Rattle.image.specs.Image.{Image}
 use Rattle.image.specs.Decode.{decoded_image}
 use Rattle.image.specs.Check.{image_verdict}
-use Rattle.state.specs.declared.State.{State}
-use Rattle.state.specs.declared.StateReport.{StateReport}
+use Rattle.state.specs.State.{State}
 use Rattle.fitness.specs.Fitness.{is_unfit}
 use Rattle.ticks.specs.Tick.{MachineTick, finished, stopped, tick}
 
@@ -33,13 +32,6 @@ pub record RunOutcome : Type 0 where
   pub state : State
   pub masks : List ℕ
   pub codes : List ℕ
-
--- what a function that runs promises: its answer, the state handed back, and what the two buffers then hold
-pub record GivesRun (x : RunOutcome) (r : StateReport) (ms ks : List ℕ) : Type 0 where
-  pub answered : reply r.answer ≡ x.reply
-  pub state : r.state ≡ x.state
-  pub masks : ms ≡ x.masks
-  pub codes : ks ≡ x.codes
 
 -- less room in a buffer than words
 abbrev pub has_no_room : List ℕ → List ℕ → List ℕ → Bool

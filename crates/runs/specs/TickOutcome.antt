@@ -1,8 +1,8 @@
 -- One tick as a controller calls it: a run of one word, with room for one mask and one code.
-use Rattle.std.specs.Prelude.{ℕ, ◌≡◌, List, [], ◌∷◌, Result, Ok, Err, slice_index}
+use Rattle.std.specs.Prelude.{ℕ, List, [], ◌∷◌, Result, Ok, Err, slice_index}
 use Rattle.text.specs.declared.frames.refusals.Refusal.{Refusal}
 use Rattle.text.specs.frames.Answer.{Reply, success, reply}
-use Rattle.state.specs.declared.State.{State}
+use Rattle.state.specs.State.{State}
 use Rattle.runs.specs.declared.Tick.{Tick}
 use Rattle.runs.specs.Run.{RunOutcome, run}
 
@@ -36,10 +36,3 @@ answered_mask (Err r) = 0
 abbrev pub answered_code : TickAnswer → ℕ
 answered_code (Ok t) = t.code
 answered_code (Err r) = 0
-
--- what a function that makes one tick promises: its answer, and the state after it
-pub record GivesTick (x : TickOutcome) (answer : TickAnswer) (after : State) : Type 0 where
-  pub answered : tick_reply answer ≡ x.reply
-  pub mask : answered_mask answer ≡ x.mask
-  pub code : answered_code answer ≡ x.code
-  pub state : after ≡ x.state

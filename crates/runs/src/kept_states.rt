@@ -1,5 +1,7 @@
-// A tick on a state behind a reference, for a caller that keeps the state.
-ghost use Rattle.runs.specs.TickOutcome.{image_tick, GivesTick};
+// A tick on a state behind a reference, after the core by value.
+ghost use Rattle.state.specs.Kept.{view};
+ghost use Rattle.runs.specs.TickOutcome.{image_tick};
+ghost use Rattle.runs.specs.InPlace.{GivesTickOn};
 
 use crate::Tick;
 use crate::state_runs::tick_image;
@@ -8,7 +10,7 @@ use text::frames::Refusal;
 
 // One tick on a state that the caller keeps: a refused tick leaves it as it was.
 pub fn tick(state: &mut State, image: &[u8], word: u16) -> Result<Tick, Refusal>
-    ensures { GivesTick (image_tick image.now state.old word) result state.new }
+    ensures { GivesTickOn (image_tick image.now (view state.old) word) state.old result state.new }
 {
     let old = *state;
     let done = tick_image(image, old, word);

@@ -1,6 +1,6 @@
 //! Ticks over the words of a run, one a word up to the first that is refused (`runs`), once 15 and 16 are tried (`table_runs`).
-//! `machine` makes runs and ticks on the bytes of a state, over an image and live on a prepared table; `state_runs` makes them on a state
-//! by value, and `kept_states` a tick on a state behind a reference.
+//! `machine` makes runs and ticks on a state in place, over an image and live on a prepared table; `state_runs` makes them on a state by
+//! value, and `kept_states` a tick on a state behind a reference by the one by value.
 #![tactic(auto)]
 
 ghost use Rattle.runs.specs.machine.Prepared.{LiveRunIs, LiveTickIs};

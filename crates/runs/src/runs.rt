@@ -1,11 +1,10 @@
 // Ticks on a prepared table, one or one for each word.
-ghost use Rattle.state.specs.Bytes.{state_of};
+ghost use Rattle.state.specs.Kept.{view};
 ghost use Rattle.ticks.specs.inner.TickContracts.{TickAsked, GivesTickEnd};
 ghost use Rattle.runs.specs.inner.RunContracts.{RunAsked, GivesRunEnd};
 
 use super::RunEnd;
-use state::layout::STATE_BYTES;
-use state::state_places::{depth_of, place_of};
+use state::State;
 use tables::{last_label, scheme_count};
 use ticks::TickEnd;
 use ticks::stepping::tick_on;
@@ -13,21 +12,21 @@ use ticks::stepping::tick_on;
 // One tick a word, until one is stopped.
 pub fn tick_all(
     table: &[u8],
-    bytes: &mut [u8; STATE_BYTES],
+    state: &mut State,
     words: &[u16],
     masks: &mut [u32],
     codes: &mut [u8],
 ) -> RunEnd
-    requires { RunAsked table.now (state_of bytes.old) words.now masks.old codes.old }
-    ensures { GivesRunEnd table.now bytes.old words.now masks.old
-        codes.old result bytes.new masks.new codes.new }
+    requires { RunAsked table.now (view state.old) words.now masks.old codes.old }
+    ensures { GivesRunEnd table.now state.old words.now masks.old
+        codes.old result state.new masks.new codes.new }
 {
     let schemes = scheme_count(table);
     let last = last_label(table);
-    let mut label = place_of(bytes, (depth_of(bytes) as usize) - 1);
+    let mut label = state.places[(state.depth as usize) - 1];
     let mut i: usize = 0;
     while i < words.len() {
-        let moved = tick_on(table, schemes, last, bytes, label, words[i]);
+        let moved = tick_on(table, schemes, last, state, label, words[i]);
         let done = moved.step;
         let number = done.number;
         if number != 0 {
@@ -46,14 +45,14 @@ pub fn tick_all(
 
 // One tick by the loop of a run: so the tick stands in that loop alone, and the compiler takes it in. A tick that is stopped writes no mask
 // and no code.
-pub fn tick_word(table: &[u8], bytes: &mut [u8; STATE_BYTES], word: u16) -> TickEnd
-    requires { TickAsked table.now (state_of bytes.old) }
-    ensures { GivesTickEnd table.now bytes.old word result bytes.new }
+pub fn tick_word(table: &[u8], state: &mut State, word: u16) -> TickEnd
+    requires { TickAsked table.now (view state.old) }
+    ensures { GivesTickEnd table.now state.old word result state.new }
 {
     let words = [word];
     let mut masks = [0u32; 1];
     let mut codes = [0u8; 1];
-    let ended = tick_all(table, bytes, &words, &mut masks, &mut codes);
+    let ended = tick_all(table, state, &words, &mut masks, &mut codes);
     let number = ended.number;
     let mask = masks[0];
     let code = codes[0];

@@ -1,11 +1,11 @@
 // Runs and ticks that take a state and hand one back.
-ghost use Rattle.runs.specs.Run.{run, GivesRun};
-ghost use Rattle.runs.specs.TickOutcome.{image_tick, GivesTick};
+ghost use Rattle.state.specs.Kept.{view};
+ghost use Rattle.runs.specs.Run.{run};
+ghost use Rattle.runs.specs.TickOutcome.{image_tick};
 ghost use Rattle.runs.specs.machine.Live.{live_run, live_tick};
+ghost use Rattle.runs.specs.InPlace.{GivesRunOn, GivesTickOn};
 
-use crate::Tick;
-use crate::machine::{live_run_bytes, live_tick_bytes, run_bytes, tick_bytes};
-use state::state_bytes::{bytes_of, state_of};
+use crate::{Tick, machine};
 use state::{State, StateReport};
 use text::frames::Refusal;
 
@@ -24,12 +24,11 @@ pub fn run(
     masks: &mut [u32],
     codes: &mut [u8],
 ) -> StateReport
-    ensures { GivesRun (run image.now state words.now masks.old codes.old)
-        result masks.new codes.new }
+    ensures { GivesRunOn (run image.now (view state) words.now masks.old codes.old)
+        state result.answer result.state masks.new codes.new }
 {
-    let mut bytes = bytes_of(state);
-    let answer = run_bytes(image, &mut bytes, words, masks, codes);
-    let after = state_of(bytes);
+    let mut after = state;
+    let answer = machine::run(image, &mut after, words, masks, codes);
     StateReport {
         answer,
         state: after,
@@ -38,11 +37,10 @@ pub fn run(
 
 // A run of one word; refused, it hands back the state as it was.
 pub fn tick_image(image: &[u8], state: State, word: u16) -> TickStateReport
-    ensures { GivesTick (image_tick image.now state word) result.answer result.state }
+    ensures { GivesTickOn (image_tick image.now (view state) word) state result.answer result.state }
 {
-    let mut bytes = bytes_of(state);
-    let answer = tick_bytes(image, &mut bytes, word);
-    let after = state_of(bytes);
+    let mut after = state;
+    let answer = machine::tick(image, &mut after, word);
     TickStateReport {
         answer,
         state: after,
@@ -57,12 +55,11 @@ pub fn live_run(
     masks: &mut [u32],
     codes: &mut [u8],
 ) -> StateReport
-    ensures { GivesRun (live_run table.now state words.now masks.old codes.old)
-        result masks.new codes.new }
+    ensures { GivesRunOn (live_run table.now (view state) words.now masks.old codes.old)
+        state result.answer result.state masks.new codes.new }
 {
-    let mut bytes = bytes_of(state);
-    let answer = live_run_bytes(table, &mut bytes, words, masks, codes);
-    let after = state_of(bytes);
+    let mut after = state;
+    let answer = machine::live_run(table, &mut after, words, masks, codes);
     StateReport {
         answer,
         state: after,
@@ -71,11 +68,10 @@ pub fn live_run(
 
 // One tick on a prepared table.
 pub fn live_tick(table: &[u8], state: State, word: u16) -> TickStateReport
-    ensures { GivesTick (live_tick table.now state word) result.answer result.state }
+    ensures { GivesTickOn (live_tick table.now (view state) word) state result.answer result.state }
 {
-    let mut bytes = bytes_of(state);
-    let answer = live_tick_bytes(table, &mut bytes, word);
-    let after = state_of(bytes);
+    let mut after = state;
+    let answer = machine::live_tick(table, &mut after, word);
     TickStateReport {
         answer,
         state: after,

@@ -3,7 +3,7 @@ ghost use Rattle.std.specs.Prelude.{◌≡◌, ◌≤◌, [], ◌∷◌, Err};
 ghost use Rattle.text.specs.declared.frames.refusals.TheConstants.{FULL, NO_ROW};
 ghost use Rattle.text.specs.frames.Answer.{refusal, reply};
 ghost use Rattle.tables.specs.inner.Asked.{Whole};
-ghost use Rattle.state.specs.Bytes.{state_of};
+ghost use Rattle.state.specs.Kept.{view};
 ghost use Rattle.runs.specs.Run.{has_no_room};
 ghost use Rattle.runs.specs.TickOutcome.{tick_outcome};
 ghost use Rattle.runs.specs.InPlace.{GivesRunOn, GivesTickOn};
@@ -11,8 +11,7 @@ ghost use Rattle.runs.specs.inner.RunContracts.{table_run};
 
 use crate::{Tick, tick_all, tick_word};
 use fitness::fitting::is_unfit;
-use state::layout::STATE_BYTES;
-use state::state_results::tidy_results;
+use state::State;
 use text::frames::Refusal;
 use text::frames::refusals::FULL;
 
@@ -37,43 +36,43 @@ fn stop_after(number: u8, ticks: usize) -> Refusal
 // A run: 15 and 16, then the ticks.
 pub fn run_table(
     table: &[u8],
-    bytes: &mut [u8; STATE_BYTES],
+    state: &mut State,
     words: &[u16],
     masks: &mut [u32],
     codes: &mut [u8],
 ) -> Result<usize, Refusal>
     requires { Whole table.now }
-    ensures { GivesRunOn (table_run table.now (state_of bytes.old) words.now masks.old
-        codes.old) bytes.old result bytes.new masks.new codes.new }
+    ensures { GivesRunOn (table_run table.now (view state.old) words.now masks.old
+        codes.old) state.old result state.new masks.new codes.new }
 {
-    if is_unfit(table, bytes) {
+    if is_unfit(table, state) {
         return Err(Refusal::Unfit);
     }
     if no_room(words, masks, codes) {
         return Err(Refusal::NoRoom);
     }
-    let ended = tick_all(table, bytes, words, masks, codes);
-    tidy_results(bytes);
+    let ended = tick_all(table, state, words, masks, codes);
+    state.tidy();
     if ended.number == 0 {
         return Ok(ended.count);
     }
     Err(stop_after(ended.number, ended.count))
 }
 
-// One tick: 15, then a tick for one word; a refused one leaves the bytes as they were.
-pub fn tick_table(table: &[u8], bytes: &mut [u8; STATE_BYTES], word: u16) -> Result<Tick, Refusal>
+// One tick: 15, then a tick for one word; a refused one leaves the state as it was.
+pub fn tick_table(table: &[u8], state: &mut State, word: u16) -> Result<Tick, Refusal>
     requires { Whole table.now }
-    ensures { GivesTickOn (tick_outcome (table_run table.now (state_of bytes.old) (word ∷ []) (0 ∷ []) (0 ∷ [])))
-        bytes.old result bytes.new }
+    ensures { GivesTickOn (tick_outcome (table_run table.now (view state.old) (word ∷ []) (0 ∷ []) (0 ∷ [])))
+        state.old result state.new }
 {
-    if is_unfit(table, bytes) {
+    if is_unfit(table, state) {
         return Err(Refusal::Unfit);
     }
-    let done = tick_word(table, bytes, word);
+    let done = tick_word(table, state, word);
     if done.number != 0 {
         return Err(stop_after(done.number, 0));
     }
-    tidy_results(bytes);
+    state.tidy();
     Ok(Tick {
         mask: done.mask,
         code: done.code,

@@ -1,127 +1,111 @@
 -- Calls from C in a row that meet their contracts: the places are counted, and each spindle makes the ticks of its own walk.
-use Rattle.std.proofs.Common.{if◌then◌else◌, ℕ, ◌≡◌, refl, sym, ◌∙◌, ap, subst, List, [], ◌∷◌, ◌++◌, map, arith, length, take, ◌==◌}
+use Rattle.std.proofs.Common.{ℕ, ◌≡◌, refl, sym, ◌∙◌, ap, subst, List, [], ◌∷◌, map, arith, take, ne_eqb, ◌==◌}
 use Rattle.std.proofs.lemmas.Grind.{common_steps}
+use Rattle.std.proofs.lemmas.List.{length-map}
 use Rattle.std.specs.List.{AllByRecursion}
 use Rattle.bindings.specs.Binding.{own_binding}
 use Rattle.text.specs.frames.Frame.{contents}
-use Rattle.state.specs.declared.State.{State}
-use Rattle.state.specs.State.{fresh, fresh_state}
-use Rattle.state.specs.Bytes.{state_of, bytes_of}
-use Rattle.state.proofs.ResultBytes.{state-back, fresh-sized, fresh-held}
+use Rattle.text.specs.frames.Answer.{reply_number}
+use Rattle.state.specs.declared.State.{State as Kept}
+use Rattle.state.specs.State.{State, fresh, fresh_state}
+use Rattle.state.specs.Kept.{view}
+use Rattle.state.proofs.Stored.{state-back}
 use Rattle.fairleadow.specs.runs_for_c.Calls.{GivesStateC}
+use Rattle.fairleadow.specs.rebinding_for_c.Calls.{rebind_for, live_rebind_for, GivesRebindingC}
+use Rattle.fairleadow.specs.spindles_for_c.Calls.{spin_for, live_spin_for, GivesSpinC}
+use Rattle.agreement.specs.ForC.{TableOfC}
 use Rattle.agreement.proofs.ForC.{returned-0}
-use Rattle.spindles.specs.Spindles.{depths}
-use Rattle.spindles.proofs.InParts.{four-depths}
-use Rattle.spindles.specs.spindle_parts.FourStates.{part_of, states_of, depths_in}
-use Rattle.spindles.proofs.spindle_parts.States.{count-is, state-is, depths-are}
-use Rattle.spindles.specs.spindle_places.Calls.{new_head}
+use Rattle.agreement.proofs.OneCall.{prepared-rebind-is}
+use Rattle.agreement.proofs.OneCallC.{table-prepared}
+use Rattle.spindles.specs.Spindles.{state_at, depths, SpinOutcome, if_spun}
+use Rattle.spindles.proofs.Live.{live-spin-is}
+use Rattle.spindles.specs.spindle_places.Calls.{Head, new_head, head_after}
 use Rattle.spindle_walks.specs.Walks.{HandsImage, FollowsWalk, OwnWalk}
 use Rattle.spindle_walks.proofs.Walks.{own-walks}
 use Rattle.spindle_calls.specs.ObservedCalls.{ObservedCall, call_of}
-use Rattle.spindle_calls.specs.ForC.{SpindleCallC, spin_call, spin_call_live, rebind_call, rebind_call_live, SpindleCallsInTurnC, none}
-use Rattle.spindle_calls.specs.ForC.{more, FourC, four_fresh, PlacesCountedC, OwnWalkC}
-use Rattle.spindle_calls.proofs.Row.{HeardFrom, CallsRow, row-none, row-more, row-counted}
-use Rattle.spindle_calls.proofs.StateParts.{four-are}
-use Rattle.spindle_calls.proofs.OneCallC.{head_of, SpindleLikeC, tick-like, tick-hears, rebinding-like, live-as, live-rebinding-as}
+use Rattle.spindle_calls.specs.Delivered.{kept_at}
+use Rattle.spindle_calls.specs.ForC.{observed_tick_c, SpindleCallC, spin_call, spin_call_live, rebind_call, rebind_call_live, none, more}
+use Rattle.spindle_calls.specs.ForC.{SpindleCallsInTurnC, FourC, four_fresh, PlacesCountedC, OwnWalkC}
+use Rattle.spindle_calls.proofs.KeptHeads.{head_of, view-at, spun-left, rebound-left}
+use Rattle.spindle_calls.proofs.Held.{SpinEnds, refuses, finishes, spin-ends}
+use Rattle.spindle_calls.proofs.Row.{Hears, hears_no, hears_tick, HeardFrom, CallsRow, row-none, row-more, row-counted}
 
--- ---- one call
-pub call-like : (bytes : List ℕ) → length bytes ≡ 520 → (taken : ℕ) {x : ObservedCall} {after : List ℕ} {recorded : ℕ}
-    → SpindleCallC bytes taken x after recorded → SpindleLikeC bytes taken x after recorded
-call-like bytes long taken (spin_call z) = tick-like bytes long taken _ _ _ _ _ _ _ _ _ _ _ _ z
-call-like bytes long taken (spin_call_live t z) =
-    tick-like bytes long taken _ _ _ _ _ _ _ _ _ _ _ _ (live-as bytes long taken _ _ t _ _ _ _ _ _ _ _ _ _ _ z)
-call-like bytes long taken (rebind_call {k = k} {n = n} {g = g} l z) = rebinding-like bytes long taken _ k n g _ _ _ _ l z
-call-like bytes long taken (rebind_call_live {k = k} {n = n} {g = g} t l z) =
-    rebinding-like bytes long taken _ k n g _ _ _ _ l (live-rebinding-as bytes long taken _ _ t k n g _ _ _ _ z)
+module _ (states : List Kept) (taken : ℕ) where
+  -- ---- live calls, by their tables
+  live-as : (image table : List ℕ) → TableOfC image table → (k w m₀ k₀ returned at made : ℕ) (after : List Kept) (recorded m code : ℕ)
+      → GivesSpinC (live_spin_for table states taken k w) states k m₀ k₀ returned at made after recorded m code
+      → GivesSpinC (spin_for image states taken k w) states k m₀ k₀ returned at made after recorded m code
+  live-as image table t k w m₀ k₀ returned at made after recorded m code z = grind (arith, common_steps, live-spin-is, table-prepared)
 
--- of a tick what C has is what the call over the states hands back
-call-heard : (bytes : List ℕ) → length bytes ≡ 520 → (taken : ℕ) {x : ObservedCall} {after : List ℕ} {recorded : ℕ}
-    → SpindleCallC bytes taken x after recorded → HeardFrom (head_of bytes taken) x
-call-heard bytes long taken (spin_call z) = tick-hears bytes long taken _ _ _ _ _ _ _ _ _ _ _ _ z
-call-heard bytes long taken (spin_call_live t z) =
-    tick-hears bytes long taken _ _ _ _ _ _ _ _ _ _ _ _ (live-as bytes long taken _ _ t _ _ _ _ _ _ _ _ _ _ _ z)
-call-heard bytes long taken (rebind_call l z) = tt
-call-heard bytes long taken (rebind_call_live t l z) = tt
+  live-rebinding-as : (image table : List ℕ) → TableOfC image table → (s : Kept) (n g returned at made : ℕ) (after : Kept)
+      → GivesRebindingC (live_rebind_for table s n g) s returned at made after
+      → GivesRebindingC (rebind_for image s n g) s returned at made after
+  live-rebinding-as image table t s n g returned at made after z = grind (arith, common_steps, table-prepared, prepared-rebind-is)
+
+  -- ---- what is heard of a tick
+  hears-by : (k returned m₀ k₀ m code : ℕ) {x : SpinOutcome} → SpinEnds (map view states) taken k x → returned ≡ reply_number x.reply
+      → m ≡ if_spun x x.mask m₀ → code ≡ if_spun x x.code k₀
+      → Hears (state_at (map view states) k).depth x (observed_tick_c states k returned m code)
+  hears-by k returned m₀ k₀ m code (refuses n j l) e f g = hears_no refl refl (ap (λ (a : ℕ). a == 0) e ∙ ne_eqb n 0 (λ q. omega arith))
+  hears-by k returned m₀ k₀ m code (finishes m' code' t) e f g = hears_tick refl e f g (ap (λ (s : State). s.depth) (view-at states k))
+
+  tick-heard : (image : List ℕ) (k w m₀ k₀ returned at made : ℕ) (after : List Kept) (recorded m code : ℕ)
+      → GivesSpinC (spin_for image states taken k w) states k m₀ k₀ returned at made after recorded m code
+      → Hears (state_at (map view states) k).depth (spin_for image states taken k w) (observed_tick_c states k returned m code)
+  tick-heard image k w m₀ k₀ returned at made after recorded m code z =
+      hears-by k returned m₀ k₀ m code (spin-ends image (map view states) taken k w) z.told.number_is z.mask z.code
+
+  call-heard : {x : ObservedCall} {after : List Kept} {recorded : ℕ} → SpindleCallC states taken x after recorded
+      → HeardFrom (head_of states taken) x
+  call-heard (spin_call z) = tick-heard _ _ _ _ _ _ _ _ _ _ _ _ z
+  call-heard (spin_call_live t z) = tick-heard _ _ _ _ _ _ _ _ _ _ _ _ (live-as _ _ t _ _ _ _ _ _ _ _ _ _ _ z)
+  call-heard (rebind_call z) = tt
+  call-heard (rebind_call_live t z) = tt
+
+  -- ---- what a call leaves
+  call-left : {x : ObservedCall} {after : List Kept} {recorded : ℕ} → SpindleCallC states taken x after recorded
+      → head_after (head_of states taken) (call_of x) ≡ head_of after recorded
+  call-left (spin_call {image = image} {after = after} {k = k} {w = w} {recorded = recorded} z) =
+      spun-left states taken image k w after recorded z.states z.taken
+  call-left (spin_call_live {image = image} {after = after} {k = k} {w = w} {recorded = recorded} t z) =
+      let y = live-as image _ t k w _ _ _ _ _ after recorded _ _ z in spun-left states taken image k w after recorded y.states y.taken
+  call-left (rebind_call {image = image} {after = after} {k = k} {n = n} {g = g} z) =
+      rebound-left states taken image k n g after z.state
+  call-left (rebind_call_live {image = image} {after = after} {k = k} {n = n} {g = g} t z) =
+      rebound-left states taken image k n g after (live-rebinding-as image _ t (kept_at states k) n g _ _ _ after z).state
 
 -- ---- any number of calls
-pub record RowC (bytes : List ℕ) (taken : ℕ) (said : List ObservedCall) (last : List ℕ) (final : ℕ) : Type 0 where
-  pub row : CallsRow (head_of bytes taken) said (head_of last final)
-  pub long : length last ≡ 520
-
-pub calls-row : (bytes : List ℕ) → length bytes ≡ 520 → (taken : ℕ) (said : List ObservedCall) (last : List ℕ) (final : ℕ)
-    → SpindleCallsInTurnC bytes taken said last final → RowC bytes taken said last final
-calls-row bytes long taken [] last final none = record { row = row-none (head_of bytes taken); long = long }
-calls-row bytes long taken (x ∷ rest) last final (more {after = after} {recorded = recorded} c cs) =
-    let like : SpindleLikeC bytes taken x after recorded = call-like bytes long taken c in
-    let r : RowC after recorded rest last final = calls-row after like.long recorded rest last final cs in
-    record {
-      row = row-more (head_of bytes taken) (head_of after recorded) (head_of last final) x rest (call-heard bytes long taken c)
-          like.left_is r.row;
-      long = r.long;
-    }
+pub calls-row : (states : List Kept) (taken : ℕ) (said : List ObservedCall) (last : List Kept) (final : ℕ)
+    → SpindleCallsInTurnC states taken said last final
+    → CallsRow (head_of states taken) said (head_of last final)
+calls-row states taken [] last final none = row-none (head_of states taken)
+calls-row states taken (x ∷ rest) last final (more {after = after} {recorded = recorded} c cs) =
+    row-more (head_of states taken) (head_of after recorded) (head_of last final) x rest (call-heard states taken c)
+    (call-left states taken c) (calls-row after recorded rest last final cs)
 
 -- ---- four fresh states
-fresh-made : (n at made : ℕ) (b : List ℕ) → GivesStateC (fresh_state n) 0 at made b → b ≡ bytes_of (fresh n)
+fresh-made : (n at made : ℕ) (s : Kept) → GivesStateC (fresh_state n) 0 at made s → fresh n ≡ view s
 unfolding fresh_state
-fresh-made n at made b z = grind (arith, common_steps)
+fresh-made n at made s z = grind (arith, common_steps, state-back)
 
-module _ (a b c d : State) where
-  abbrev together : List ℕ
-  together = bytes_of a ++ (bytes_of b ++ (bytes_of c ++ bytes_of d))
-
-  together-long : length together ≡ 520
-  unfolding bytes_of
-  together-long = refl
-
-  parts_are : (part_of together 0 ≡ bytes_of a) × (part_of together 1 ≡ bytes_of b) × (part_of together 2 ≡ bytes_of c)
-      × (part_of together 3 ≡ bytes_of d)
-  unfolding bytes_of
-  parts_are = (refl, refl, refl, refl)
-
--- the bytes hold them
-fresh-four : {a b c d : ℕ} (bytes : List ℕ) → FourC a b c d bytes → (length bytes ≡ 520) × (states_of bytes ≡ (new_head a b c d).states)
-fresh-four {a} {b} {c} {d} _ (four_fresh {x = x} {y = y} {z = z} {u = u} p q r s) = (ap length same ∙ long, ap states_of same ∙ held)
-  where
-    whole : List ℕ
-    whole = together (fresh a) (fresh b) (fresh c) (fresh d)
-
-    same : x ++ (y ++ (z ++ u)) ≡ whole
-    same = λ i. fresh-made a _ _ x p i ++ (fresh-made b _ _ y q i ++ (fresh-made c _ _ z r i ++ fresh-made d _ _ u s i))
-
-    long : length whole ≡ 520
-    long = together-long (fresh a) (fresh b) (fresh c) (fresh d)
-
-    back : (n : ℕ) → state_of (bytes_of (fresh n)) ≡ fresh n
-    back n = state-back (fresh n) (fresh-sized n) refl
-
-    held : states_of whole ≡ (new_head a b c d).states
-    held =
-        let e = parts_are (fresh a) (fresh b) (fresh c) (fresh d) in
-        let e₀ : state_of (part_of whole 0) ≡ fresh a = ap state_of e.0 ∙ back a in
-        let e₁ : state_of (part_of whole 1) ≡ fresh b = ap state_of e.1 ∙ back b in
-        let e₂ : state_of (part_of whole 2) ≡ fresh c = ap state_of e.2 ∙ back c in
-        let e₃ : state_of (part_of whole 3) ≡ fresh d = ap state_of e.3 ∙ back d in
-        four-are whole long ∙ (λ i. e₀ i ∷ e₁ i ∷ e₂ i ∷ e₃ i ∷ [])
+fresh-four : {a b c d : ℕ} (states : List Kept) → FourC a b c d states → new_head a b c d ≡ head_of states 4
+fresh-four {a} {b} {c} {d} _ (four_fresh {x = x} {y = y} {z = z} {u = u} p q r s) = λ i. record {
+  states = fresh-made a _ _ x p i ∷ fresh-made b _ _ y q i ∷ fresh-made c _ _ z r i ∷ fresh-made d _ _ u s i ∷ [];
+  taken = 4;
+}
 
 -- ---- the two theorems
-depths-read : (b : List ℕ) → length b ≡ 520 → depths (states_of b) ≡ depths_in b
-depths-read b long =
-    four-depths (states_of b) (count-is b ∙ ap (λ (n : ℕ). if n == 520 then 4 else 0) long) ∙ depths-are b long
-
 pub places-counted-c : PlacesCountedC
 unfolding PlacesCountedC
-places-counted-c a b c d bytes fours said last final cs =
-    let f = fresh-four bytes fours in
-    let r : RowC bytes 4 said last final = calls-row bytes f.0 4 said last final cs in
-    row-counted a b c d (head_of bytes 4) (ap (λ (ss : List State). record { states = ss; taken = 4 }) (sym f.1)) said
-    (head_of last final) r.row (depths_in last) (depths-read last r.long)
+places-counted-c a b c d states fours said last final cs =
+    row-counted a b c d (head_of states 4) (fresh-four states fours) said (head_of last final) (calls-row states 4 said last final cs)
+    (depths (map view last)) refl
 
 pub own-walks-c : OwnWalkC
 unfolding OwnWalkC OwnWalk
-own-walks-c text before after at n c size low high k named bytes long returned at' made m taken said last final cs hands =
-    let r : RowC bytes taken said last final = calls-row bytes long taken said last final cs in
-    let four-states : length (states_of bytes) ≡ 4 = count-is bytes ∙ ap (λ (l : ℕ). if l == 520 then 4 else 0) long in
-    subst (FollowsWalk size (contents text)) (r.row.made (contents text) k own_binding)
-    (own-walks text before n (returned-0 text before after at n c) size low high k (head_of bytes taken) (omega (arith, four-states))
-    (state-is bytes long k named ∙ ap state_of m.bytes ∙ fresh-held size) (map call_of said)
+own-walks-c text before after at n c size low high k states inside returned at' made m taken said last final cs hands =
+    subst (FollowsWalk size (contents text)) ((calls-row states taken said last final cs).made (contents text) k own_binding)
+    (own-walks text before n (returned-0 text before after at n c) size low high k (head_of states taken)
+    (omega (arith, inside, length-map states view))
+    (sym (view-at states k) ∙ ap view m.state ∙ state-back (fresh_state size).state) (map call_of said)
     (subst (λ (b : List ℕ). AllByRecursion (HandsImage k (take n b)) (map call_of said)) c.written hands))

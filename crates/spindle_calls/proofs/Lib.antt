@@ -1,7 +1,6 @@
-pub mod StateParts
+pub mod KeptHeads
 pub mod Held
 pub mod NoPlace
 pub mod Row
 pub mod Delivered
-pub mod OneCallC
 pub mod ForC

@@ -10,8 +10,7 @@ use Rattle.image.specs.Decode.{decoded_image}
 use Rattle.image.specs.Check.{image_verdict}
 use Rattle.image.specs.inner.Sound.{SoundImage}
 use Rattle.image.proofs.Accepted.{image-sound}
-use Rattle.state.specs.declared.State.{State}
-use Rattle.state.specs.State.{place_at}
+use Rattle.state.specs.State.{State, place_at}
 use Rattle.fitness.specs.Fitness.{is_unfit}
 use Rattle.fitness.proofs.Fitness.{Fits, unfits}
 use Rattle.ticks.specs.Tick.{MachineTick, finished, stopped, tick}

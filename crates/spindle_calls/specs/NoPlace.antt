@@ -5,8 +5,7 @@ use Rattle.text.specs.declared.frames.refusals.TheConstants.{NO_PLACE}
 use Rattle.text.specs.frames.Verdict.{fine}
 use Rattle.text.specs.frames.Answer.{success, refusal}
 use Rattle.image.specs.Check.{image_verdict}
-use Rattle.state.specs.declared.State.{State}
-use Rattle.state.specs.State.{Sized}
+use Rattle.state.specs.State.{State, Sized}
 use Rattle.runs.specs.TickOutcome.{image_tick}
 use Rattle.spindles.specs.declared.layout.TheConstants.{STORE}
 use Rattle.spindles.specs.Spindles.{state_at, head_verdict, spin}

@@ -1,9 +1,9 @@
-//! Four spindles and their walks, as a caller knows them by the contracts: of calls of the functions over a list of states, and of calls
-//! from C on 520 bytes; definitions, and theorems as contracts.
+//! Four spindles and their walks, as a caller knows them by the contracts: of calls of the functions and of calls from C, over a list of
+//! states; definitions, and theorems as contracts.
 #![tactic(auto)]
 
 ghost use Rattle.fairleadow.specs.spindles_for_c.Calls.{spin_for, live_spin_for};
-ghost use Rattle.spindle_calls.specs.Held.{BytesHold};
+ghost use Rattle.spindle_calls.specs.Held.{ListHolds};
 ghost use Rattle.spindle_calls.specs.NoPlace.{NoPlaceExactly};
 ghost use Rattle.spindle_calls.specs.Delivered.{PlacesDelivered, OwnWalkDelivered};
 ghost use Rattle.spindle_calls.specs.ForC.{PlacesCountedC, OwnWalkC};
@@ -29,8 +29,8 @@ pub fn no_place_is_told_exactly()
     ensures spin { NoPlaceExactly }
 {}
 
-/// After a call from C the 520 bytes hold the states after it, whatever they held before.
-pub fn bytes_hold_the_states()
-    ensures spin { BytesHold spin_for }
-    ensures live_spin { BytesHold live_spin_for }
+/// After a call from C the list that it was lent has the states after it, whatever result bytes it had before.
+pub fn list_holds_the_states()
+    ensures spin { ListHolds spin_for }
+    ensures live_spin { ListHolds live_spin_for }
 {}

@@ -2,7 +2,7 @@
 use Rattle.std.proofs.Common.{ℕ, ◌≤◌, ◌≡◌, List, take}
 use Rattle.text.specs.frames.Answer.{success}
 use Rattle.tables.specs.Prepare.{prepare}
-use Rattle.state.specs.declared.State.{State}
+use Rattle.state.specs.State.{State}
 use Rattle.agreement.proofs.OneCall.{prepared-holds}
 use Rattle.spindles.specs.Spindles.{spin, live_spin}
 use Rattle.spindles.proofs.Live.{live-spin-is}

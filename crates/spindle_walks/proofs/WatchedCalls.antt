@@ -13,8 +13,7 @@ use Rattle.image.specs.Image.{Image}
 use Rattle.image.specs.Decode.{decoded_image}
 use Rattle.image.specs.Check.{image_verdict}
 use Rattle.translator.specs.Table.{table}
-use Rattle.state.specs.declared.State.{State}
-use Rattle.state.specs.State.{no_state, StateOutcome}
+use Rattle.state.specs.State.{State, no_state, StateOutcome}
 use Rattle.fitness.proofs.Fitness.{Fits}
 use Rattle.ticks.specs.Tick.{MachineTick, finished, stopped, tick}
 use Rattle.ticks.proofs.Keeps.{Keeps, tick-keeps}

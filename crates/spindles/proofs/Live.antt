@@ -1,7 +1,7 @@
 -- On the table that was prepared from an image, a call is the call on the image.
 use Rattle.std.proofs.Common.{ℕ, ◌≡◌, List, arith}
 use Rattle.std.proofs.lemmas.Grind.{common_steps}
-use Rattle.state.specs.declared.State.{State}
+use Rattle.state.specs.State.{State}
 use Rattle.runs.specs.machine.Prepared.{PreparedTable}
 use Rattle.runs.proofs.machine.Live.{live-tick-is}
 use Rattle.spindles.specs.Spindles.{spin, live_spin}

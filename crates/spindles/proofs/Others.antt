@@ -1,13 +1,13 @@
 -- A call leaves the states of the other spindles as they were, and reads no more of them than their depths.
-use Rattle.std.proofs.Common.{ℕ, ◌-◌, ◌≤◌, ◌<◌, ◌≡◌, refl, List, length, arith}
+use Rattle.std.proofs.Common.{ℕ, ◌≤◌, ◌<◌, ◌≡◌, List, length, arith}
 use Rattle.std.proofs.lemmas.Grind.{common_steps}
-use Rattle.text.specs.frames.Verdict.{Verdict, fine, refused, when}
+use Rattle.text.specs.frames.Verdict.{Verdict, fine, when}
 use Rattle.image.specs.Check.{image_verdict}
 use Rattle.tables.specs.Table.{is_bad_table}
-use Rattle.state.specs.declared.State.{State}
+use Rattle.state.specs.State.{State}
 use Rattle.runs.specs.TickOutcome.{TickOutcome, image_tick}
 use Rattle.runs.specs.machine.Live.{live_tick}
-use Rattle.spindles.specs.Spindles.{state_at, depths, head_verdict, outcome_spun_by, outcome_spun_on, spin, live_spin}
+use Rattle.spindles.specs.Spindles.{state_at, depths, head_verdict, outcome_spun_on, spin, live_spin}
 use Rattle.spindles.specs.Laws.{OthersLeft, AlikeSpins, OnlyDepths}
 
 -- ---- what the tests before a tick tell

@@ -4,7 +4,7 @@ use Rattle.text.specs.declared.frames.refusals.TheConstants.{FULL}
 use Rattle.text.specs.frames.Verdict.{fine}
 use Rattle.text.specs.frames.Answer.{reply_number, refusal}
 use Rattle.image.specs.Check.{image_verdict}
-use Rattle.state.specs.declared.State.{State}
+use Rattle.state.specs.State.{State}
 use Rattle.runs.specs.TickOutcome.{image_tick}
 use Rattle.spindles.specs.Spindles.{state_at, depths, head_verdict, SpinOutcome, spin}
 

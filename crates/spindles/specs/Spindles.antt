@@ -2,11 +2,12 @@
 use Rattle.std.specs.Prelude.{ℕ, ◌+◌, ◌-◌, Bool, ◌&&◌, ◌||◌, not, ◌≡◌, List, [], ◌∷◌, length, set, if◌then◌else◌, nat_lt, nat_le, ◌==◌, slice_index_or}
 use Rattle.text.specs.declared.frames.refusals.TheConstants.{BAD_HEADER, UNFIT, NO_SPINDLE, NO_PLACE}
 use Rattle.text.specs.frames.Verdict.{Verdict, fine, refused, next, when}
-use Rattle.text.specs.frames.Answer.{Reply, refusal}
+use Rattle.text.specs.frames.Answer.{Reply, refusal, reply_number}
 use Rattle.image.specs.Check.{image_verdict}
 use Rattle.tables.specs.Table.{is_bad_table}
-use Rattle.state.specs.declared.State.{State}
-use Rattle.state.specs.State.{no_state}
+use Rattle.state.specs.State.{State, no_state}
+use Rattle.state.specs.Kept.{stored}
+use Rattle.state.specs.declared.State.{State as Kept}
 use Rattle.runs.specs.TickOutcome.{TickOutcome, image_tick, tick_reply, answered_mask, answered_code}
 use Rattle.runs.specs.machine.Live.{live_tick}
 use Rattle.spindles.specs.declared.layout.TheConstants.{SPINDLES, STORE}
@@ -76,10 +77,18 @@ unfoldable pub live_spin : List ℕ → List State → ℕ → ℕ → ℕ → S
 live_spin b states taken k w =
     outcome_spun_on (head_verdict (when BAD_HEADER (is_bad_table b)) states taken k) states taken k (λ _. live_tick b (state_at states k) w)
 
--- what a function over the list of states promises: its report, and the list after it
-pub record GivesSpin (x : SpinOutcome) (r : SpinReport) (after : List State) : Type 0 where
+-- ---- the list of states as it is kept, with its result bytes
+-- a finished tick of spindle k writes its state and no other; a refused one leaves all as they were
+abbrev pub if_spun : {A : Type 0} → SpinOutcome → A → A → A
+if_spun x new old = if reply_number x.reply == 0 then new else old
+
+abbrev pub states_spun : List Kept → ℕ → SpinOutcome → List Kept
+states_spun before k x = if_spun x (set before k (stored (state_at x.states k))) before
+
+-- what a function over the list promises: its report, and the list after it
+pub record GivesSpin (x : SpinOutcome) (before : List Kept) (k : ℕ) (r : SpinReport) (after : List Kept) : Type 0 where
   pub answered : tick_reply r.answer ≡ x.reply
   pub mask : answered_mask r.answer ≡ x.mask
   pub code : answered_code r.answer ≡ x.code
   pub taken : r.taken ≡ x.taken
-  pub states : after ≡ x.states
+  pub states : after ≡ states_spun before k x

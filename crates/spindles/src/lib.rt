@@ -1,18 +1,13 @@
 //! Four spindles that share 64 places: a call ticks one, or is refused, and leaves the others as they are.
 //! Here are its report and what it tries of spindle and record, in `spindle_heads` what refuses it before any state; `turning` makes the
-//! turn on the bytes of one state, `state_turns` by value. `spindle_bytes` and `live_spindle_bytes` turn one part of 520 bytes
-//! (`spindle_parts`), `spindle_list` one state of a list. By the theorem of `spindle_places` the record is what calls took and did not give
-//! back, 64 at most.
+//! turn of one state, `spindle_list` that of one in a list. By the theorem of `spindle_places` the record is what calls took and did not
+//! give back, 64 at most.
 #![tactic(auto)]
 
 pub mod layout;
-pub mod live_spindle_bytes;
-pub mod spindle_bytes;
 pub mod spindle_heads;
 pub mod spindle_list;
-pub mod spindle_parts;
 pub mod spindle_places;
-pub mod state_turns;
 pub mod turning;
 
 ghost use Rattle.std.specs.Prelude.{◌≡◌};

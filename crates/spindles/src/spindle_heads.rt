@@ -6,8 +6,8 @@ ghost use Rattle.tables.specs.Table.{is_bad_table};
 ghost use Rattle.spindles.specs.inner.HeadAndTurn.{refused_head, GivesRefusedHead};
 
 use crate::SpinReport;
-use runs::machine::tick_bytes;
-use state::layout::STATE_BYTES;
+use runs::machine;
+use state::State;
 use tables::bad_table;
 use text::frames::Refusal;
 
@@ -20,8 +20,8 @@ pub fn refuse_head(image: &[u8], spindle: usize, taken: usize) -> SpinReport
         let answer = Err(Refusal::NoSpindle);
         return SpinReport { answer, taken };
     }
-    let mut zeros = [0u8; STATE_BYTES];
-    let answer = tick_bytes(image, &mut zeros, 0);
+    let mut zeros = State::fresh(0).state;
+    let answer = machine::tick(image, &mut zeros, 0);
     SpinReport { answer, taken }
 }
 

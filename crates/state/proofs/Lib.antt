@@ -1,4 +1,3 @@
 pub mod Sizes
-pub mod ResultBytes
-pub mod RangeParts
-pub mod ByteParts
+pub mod Stored
+pub mod Tidied

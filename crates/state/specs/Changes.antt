@@ -2,31 +2,14 @@
 use Rattle.std.specs.Prelude.{ℕ, List, set}
 use Rattle.results.specs.Results.{Results, with_result}
 use Rattle.bindings.specs.Binding.{Binding}
-use Rattle.state.specs.declared.State.{State}
-use Rattle.state.specs.State.{bottom_alone}
+use Rattle.state.specs.State.{State, bottom_alone}
 
 abbrev pub with_depth : State → ℕ → State
-with_depth s d = record {
-  size = s.size;
-  depth = d;
-  places = s.places;
-  bits = s.bits;
-  serving = s.serving;
-  numbers = s.numbers;
-  servers = s.servers;
-}
+with_depth s d = record s { depth = d }
 
 -- labels, numbers and servers of the places
 abbrev pub with_places : State → List ℕ → List ℕ → List ℕ → State
-with_places s ls hs ks = record {
-  size = s.size;
-  depth = s.depth;
-  places = ls;
-  bits = s.bits;
-  serving = s.serving;
-  numbers = hs;
-  servers = ks;
-}
+with_places s ls hs ks = record s { places = ls; numbers = hs; servers = ks }
 
 abbrev pub with_place : State → ℕ → ℕ → State
 with_place s k l = with_places s (set s.places k l) s.numbers s.servers
@@ -40,26 +23,10 @@ abbrev pub with_alone : State → ℕ → ℕ → State
 with_alone s l h = with_depth (with_places s (bottom_alone l) (bottom_alone h) (bottom_alone h)) 1
 
 abbrev pub with_bits : State → Results → State
-with_bits s b = record {
-  size = s.size;
-  depth = s.depth;
-  places = s.places;
-  bits = b;
-  serving = s.serving;
-  numbers = s.numbers;
-  servers = s.servers;
-}
+with_bits s b = record s { bits = b }
 
 abbrev pub state_after_result : State → ℕ → ℕ → State
 state_after_result s r h = with_bits s (with_result r h s.bits)
 
 abbrev pub with_serving : State → Binding → State
-with_serving s g = record {
-  size = s.size;
-  depth = s.depth;
-  places = s.places;
-  bits = s.bits;
-  serving = g;
-  numbers = s.numbers;
-  servers = s.servers;
-}
+with_serving s g = record s { serving = g }

@@ -1,4 +1,4 @@
 pub mod State
-pub mod Bytes
-pub mod BytesBack
+pub mod Kept
+pub mod StoredBack
 pub mod Changes

@@ -4,11 +4,20 @@ use Rattle.results.specs.Results.{no_results}
 use Rattle.bindings.specs.Binding.{own_binding}
 use Rattle.text.specs.declared.frames.sizes.TheConstants.{SCHEMES}
 use Rattle.text.specs.declared.frames.refusals.TheConstants.{BAD_SIZE}
-use Rattle.text.specs.frames.Answer.{Reply, success, refusal, reply}
+use Rattle.text.specs.frames.Answer.{Reply, success, refusal}
 use Rattle.image.specs.Image.{Image, Label, no_label}
 use Rattle.state.specs.declared.layout.TheConstants.{PLACES}
-use Rattle.state.specs.declared.State.{State}
-use Rattle.state.specs.declared.StateReport.{StateReport}
+
+-- the machine's state, with truth values: places hold labels, the bottom first, up to the depth, and 0 above it; beside each stand the
+-- number of the call that filled it and the scheme open there; number h's result and the scheme that serves h stand at h - 1
+pub record State : Type 0 where
+  pub size : ℕ
+  pub depth : ℕ
+  pub places : List ℕ
+  pub bits : List Bool
+  pub serving : List ℕ
+  pub numbers : List ℕ
+  pub servers : List ℕ
 
 abbrev pub no_places : List ℕ
 no_places = replicate PLACES 0
@@ -49,11 +58,6 @@ is_bad_size n = n == 0 || nat_lt PLACES n
 pub record StateOutcome : Type 0 where
   pub reply : Reply
   pub state : State
-
--- what a function that makes a state promises
-pub record GivesState (x : StateOutcome) (r : StateReport) : Type 0 where
-  pub answered : reply r.answer ≡ x.reply
-  pub state : r.state ≡ x.state
 
 unfoldable pub fresh_state : ℕ → StateOutcome
 fresh_state n =

@@ -1,7 +1,8 @@
 // A fresh state from a stack size, and refusal 14.
 ghost use Rattle.std.specs.Prelude.{◌≡◌};
 ghost use Rattle.bindings.specs.Binding.{own_binding};
-ghost use Rattle.state.specs.State.{is_bad_size, fresh_state, GivesState};
+ghost use Rattle.state.specs.State.{is_bad_size, fresh_state};
+ghost use Rattle.state.specs.Kept.{GivesState};
 
 use super::{State, StateReport};
 use text::frames::Refusal;
@@ -27,14 +28,14 @@ impl State {
         ensures { GivesState (fresh_state size) result }
     {
         let places = [0u8; State::PLACES];
-        let bits = [false; State::SCHEMES];
+        let results = [0u8; State::SCHEMES];
         if bad_size(size) {
             let answer = Err(Refusal::BadSize);
             let state = State {
                 size: 0,
                 depth: 0,
                 places,
-                bits,
+                results,
                 serving: [0u8; State::SCHEMES],
                 numbers: places,
                 servers: places,
@@ -49,7 +50,7 @@ impl State {
             size: size as u8,
             depth: 1,
             places,
-            bits,
+            results,
             serving,
             numbers: own,
             servers: own,

@@ -1,32 +1,29 @@
-//! The state of the stack machine by value and as the 130 bytes that C keeps: a fresh one (`fresh`, with refusal 14), and the two taken
-//! apart and put together (`state_bytes`). `state_places` reads and changes size, depth and places among the bytes, `state_results` results
-//! and servers.
+//! The state of the stack machine, as the struct of bytes that C keeps: a fresh one (`fresh`, with refusal 14), and one read and changed
+//! in place (`changes`).
 #![tactic(auto)]
 
-ghost use Rattle.std.specs.Prelude.{◌≡◌, ◌<◌, length, set};
-ghost use Rattle.state.specs.BytesBack.{StateBack, FreshBack};
+ghost use Rattle.state.specs.StoredBack.{StateBack, FreshBack};
 
 use crate::layout::PLACES;
 use text::frames::sizes::SCHEMES;
 use text::frames::{Refusal, sizes};
 
+mod changes;
 mod fresh;
 pub mod layout;
-pub mod state_bytes;
-pub mod state_places;
-pub mod state_results;
 
 pub use fresh::bad_size;
 
-// Places (the paper's word for the entries of the stack) hold labels, the bottom first, up to the depth, and 0 above it; beside each
-// stand the number of the call that filled it and the scheme open there. Number h's result bit and the scheme that serves h stand at
-// h - 1.
+// 130 bytes. Places (the paper's word for the entries of the stack) hold labels, the bottom first, up to the depth, and 0 above it;
+// beside each stand the number of the call that filled it and the scheme open there. Number h's result, where 0 is false and any other
+// byte is true, and the scheme that serves h stand at h - 1.
+#[repr(C)]
 #[derive(Clone, Copy)]
 pub struct State {
     pub size: u8,
     pub depth: u8,
     pub places: [u8; PLACES],
-    pub bits: [bool; SCHEMES],
+    pub results: [u8; SCHEMES],
     pub serving: [u8; SCHEMES],
     pub numbers: [u8; PLACES],
     pub servers: [u8; PLACES],
@@ -49,15 +46,7 @@ impl State {
     pub const SCHEMES: usize = sizes::SCHEMES;
 }
 
-// One byte written; as a slice an array tells how long it is.
-pub fn put_byte(bytes: &mut [u8], at: usize, value: u8)
-    requires { at < length bytes.old }
-    ensures { bytes.new ≡ set bytes.old at value }
-{
-    bytes[at] = value;
-}
-
-/// A state that was written as bytes is read back as itself, a fresh one too.
+/// A state that was stored is viewed as itself, a fresh one too.
 pub fn a_written_state_is_read_back()
     ensures state { StateBack }
     ensures fresh { FreshBack }

@@ -8,8 +8,7 @@ use Rattle.words.proofs.lists.Tests.{split}
 use Rattle.results.specs.Results.{Results}
 use Rattle.image.specs.Image.{Image}
 use Rattle.image.specs.inner.Sound.{Reaches, SoundImage}
-use Rattle.state.specs.declared.State.{State}
-use Rattle.state.specs.State.{bottom_alone, label_at, place_at, number_at, server_at}
+use Rattle.state.specs.State.{State, bottom_alone, label_at, place_at, number_at, server_at}
 use Rattle.state.specs.Changes.{with_place, with_bits}
 use Rattle.fitness.specs.Fitness.{is_able_to_carry, is_filled_place, is_own_bottom, has_bad_bottom}
 use Rattle.fitness.proofs.Fitness.{is_carried, Fits}

@@ -15,8 +15,7 @@ use Rattle.image.specs.Decode.{decoded_image}
 use Rattle.image.specs.inner.Sound.{SoundImage}
 use Rattle.image.proofs.Accepted.{image-sound}
 use Rattle.rows.specs.Rows.{best_row, Found, found, missing, lead_of}
-use Rattle.state.specs.declared.State.{State}
-use Rattle.state.specs.State.{label_at, entry_at, place_at, number_at}
+use Rattle.state.specs.State.{State, label_at, entry_at, place_at, number_at}
 use Rattle.state.specs.Changes.{with_bits}
 use Rattle.fitness.specs.Fitness.{is_call, is_of_handler}
 use Rattle.fitness.proofs.FitCases.{kind-call}

@@ -16,8 +16,7 @@ use Rattle.image.specs.Check.{image_verdict}
 use Rattle.image.specs.inner.Sound.{Reaches, SoundImage}
 use Rattle.image.proofs.Accepted.{image-sound}
 use Rattle.rows.specs.Rows.{Found, found, missing}
-use Rattle.state.specs.declared.State.{State}
-use Rattle.state.specs.State.{fresh, label_at, entry_at, place_at, number_at, server_at, Sized}
+use Rattle.state.specs.State.{State, fresh, label_at, entry_at, place_at, number_at, server_at, Sized}
 use Rattle.state.specs.Changes.{with_place, with_bits}
 use Rattle.fitness.specs.Fitness.{is_call, is_callable, is_of_handler, is_badly_served, is_unfit}
 use Rattle.fitness.proofs.Fitness.{Fits, fits, unfits, callable-range, called-served}

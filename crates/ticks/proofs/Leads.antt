@@ -1,10 +1,10 @@
 -- On a sound image: labels by their kind, and where the rows and the entry of a scheme lead.
-use Rattle.std.proofs.Common.{if◌then◌else◌, ℕ, zero, suc, ◌-◌, ◌≤◌, ◌<◌, Bool, true, false, ◌&&◌, ◌||◌, not, ◌≡◌, refl, ap, ◌∙◌, sym, ◌==◌}
-use Rattle.std.proofs.Common.{subst, length, arith, eqb-true, ne_eqb}
+use Rattle.std.proofs.Common.{ℕ, zero, suc, ◌≤◌, ◌<◌, Bool, true, false, ◌&&◌, ◌||◌, not, ◌≡◌, refl, ap, ◌∙◌, sym, ◌==◌}
+use Rattle.std.proofs.Common.{subst, length, arith, eqb-true}
 use Rattle.std.proofs.lemmas.Grind.{common_steps}
 use Rattle.words.proofs.lists.Tests.{and-l}
 use Rattle.image.specs.Image.{Image, Label, Row, nth_row}
-use Rattle.image.specs.inner.Sound.{end_of, Reaches, SoundImage}
+use Rattle.image.specs.inner.Sound.{Reaches, SoundImage}
 use Rattle.state.specs.State.{label_at, entry_at}
 use Rattle.fitness.specs.Fitness.{is_call, is_callable, is_able_to_carry, is_of_handler}
 use Rattle.rows.specs.Rows.{is_match, Choice, row, no_choice, best_row, found, missing, lead_of}

@@ -1,15 +1,12 @@
 -- What every tick keeps, on any image and from any state, and the numbers that stop one.
-use Rattle.std.proofs.Common.{ℕ, zero, suc, ◌-◌, ◌≤◌, ◌≡◌, Bool, true, false, arith, length}
+use Rattle.std.proofs.Common.{ℕ, zero, suc, ◌≤◌, ◌≡◌, arith, length}
 use Rattle.std.proofs.lemmas.Grind.{common_steps}
 use Rattle.results.specs.Results.{Results, with_result}
 use Rattle.image.specs.Layout.{tick_kind}
 use Rattle.image.specs.Image.{Image, Label}
-use Rattle.rows.specs.Rows.{Found, found, missing}
-use Rattle.state.specs.declared.State.{State}
-use Rattle.state.specs.State.{place_at, Sized}
-use Rattle.state.specs.Changes.{with_bits}
-use Rattle.ticks.specs.Tick.{row_leads, MachineTick, finished, stopped, moved_tick, popped_state, state_alone, full_tick, pushed_tick}
-use Rattle.ticks.specs.Tick.{popped_tick, tick_by, tick}
+use Rattle.state.specs.State.{State, Sized}
+use Rattle.ticks.specs.Tick.{MachineTick, finished, stopped}
+use Rattle.ticks.specs.Tick.{tick_by, tick}
 
 length-result : (r h : ℕ) (b : Results) → length (with_result r h b) ≡ length b
 length-result r h b = grind (arith, common_steps)

@@ -1,9 +1,8 @@
 -- Which bit decides among the rows of a label, and where a row leads.
-use Rattle.std.proofs.Common.{if◌then◌else◌, ◌≡◌, ◌∙◌, List, ℕ, ◌≤◌, ◌<◌, arith, eq-eqb, ne_eqb, ◌==◌}
+use Rattle.std.proofs.Common.{if◌then◌else◌, ◌≡◌, ◌∙◌, List, ℕ, ◌≤◌, ◌<◌, arith, eq-eqb, ◌==◌}
 use Rattle.std.proofs.lemmas.Grind.{common_steps}
 use Rattle.std.proofs.lemmas.Bool.{cond-true}
 use Rattle.results.specs.Results.{Results, result_of}
-use Rattle.image.specs.Image.{Label}
 use Rattle.tables.specs.Table.{table_label}
 use Rattle.tables.specs.inner.Labels.{as_label, NumberedLabel}
 use Rattle.rows.specs.Rows.{Found, found, missing, next_of}

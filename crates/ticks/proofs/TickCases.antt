@@ -1,5 +1,5 @@
 -- One tick on any table whose header holds: what it is for each kind of the top label, and that it leaves a depth of 1 to Σ.
-use Rattle.std.proofs.Common.{◌≡◌, refl, sym, ◌∙◌, ap, subst, Bool, true, false, List, ℕ, zero, suc, ◌-◌, ◌≤◌, ◌<◌, arith, set, nat_le}
+use Rattle.std.proofs.Common.{◌≡◌, refl, sym, ◌∙◌, ap, subst, Bool, true, false, List, ℕ, zero, suc, ◌-◌, ◌≤◌, ◌<◌, arith, set, nat_le, length}
 use Rattle.std.proofs.Common.{get_or-set_same, le-leb, leb-false}
 use borrow.Author.Tests.{lt-leb}
 use Rattle.std.proofs.lemmas.Grind.{common_steps}
@@ -14,11 +14,10 @@ use Rattle.tables.proofs.TableReads.{counts-told, label-on, label-above, label-a
 use Rattle.rows.specs.Rows.{Found, found, missing, lead_of}
 use Rattle.rows.proofs.TableRows.{row-above}
 use Rattle.ticks.specs.codes.Codes.{code_of}
-use Rattle.state.specs.declared.State.{State}
-use Rattle.state.specs.State.{entry_at, number_at}
+use Rattle.state.specs.State.{State, entry_at, number_at}
 use Rattle.state.specs.Changes.{with_place, with_bits}
-use Rattle.state.specs.Bytes.{state_of}
-use Rattle.state.proofs.ResultBytes.{held-places}
+use Rattle.state.specs.declared.State.{State as Kept}
+use Rattle.state.specs.Kept.{view}
 use Rattle.ticks.specs.declared.TickEnd.{TickEnd}
 use Rattle.ticks.specs.Tick.{top_of, row_leads, MachineTick, finished, stopped, moved_tick, popped_state, state_alone, full_tick}
 use Rattle.ticks.specs.Tick.{pushed_tick, popped_tick, tick_by, tick}
@@ -26,22 +25,21 @@ use Rattle.ticks.specs.inner.TickContracts.{TickAsked, beneath, state_after_tick
 use Rattle.fitness.proofs.Depths.{DeepState, deep-told, deep-fine}
 
 -- ---- what is answered and left, by what the tick is
-module _ (b before : List ℕ) (w : ℕ) where
+module _ (b : List ℕ) (before : Kept) (w : ℕ) where
   abbrev here : MachineTick
-  here = tick (table_image b) (state_of before) w
+  here = tick (table_image b) (view before) w
 
   pub steps-stopped : (n : ℕ) → here ≡ stopped n → GivesTickEnd b before w (record { number = n; mask = 0; code = 0 }) before
-  steps-stopped n e = record { step = sym (ap end_of_tick e); state = sym (ap (state_after_tick (state_of before)) e); kept = λ z. refl }
+  steps-stopped n e = record { step = sym (ap end_of_tick e); state = sym (ap (state_after_tick (view before)) e); kept = λ z. refl }
 
-  pub steps-ticked : (m k : ℕ) (t : State) (bytes : List ℕ) → here ≡ finished m k t → state_of bytes ≡ t
-      → GivesTickEnd b before w (record { number = 0; mask = m; code = k }) bytes
-  steps-ticked m k t bytes e q = grind (arith, common_steps)
+  pub steps-ticked : (m k : ℕ) (t : State) (after : Kept) → here ≡ finished m k t → view after ≡ t
+      → GivesTickEnd b before w (record { number = 0; mask = m; code = k }) after
+  steps-ticked m k t after e q = grind (arith, common_steps)
 
 -- a label that was put in the place of the top is at the top
-pub top-put : (mid bytes : List ℕ) (k n : ℕ) → (state_of bytes).places ≡ set (state_of mid).places k n → (state_of bytes).depth - 1 ≡ k → k
-    < 32
-    → n ≡ top_of (state_of bytes)
-top-put mid bytes k n e d h = grind (arith, common_steps, held-places, get_or-set_same)
+pub top-put : (mid after : Kept) (k n : ℕ) → after.places ≡ set mid.places k n → after.depth - 1 ≡ k → k < length mid.places
+    → n ≡ top_of (view after)
+top-put mid after k n e d h = grind (arith, common_steps, get_or-set_same)
 
 -- ---- the numbers of a table and a state that a tick may be made on
 module _ {b : List ℕ} {s : State} (y : TickAsked b s) where
@@ -177,6 +175,6 @@ module _ (b : List ℕ) (s : State) (y : TickAsked b s) where
         go (suc (suc (suc (suc (suc k))))) e h = absurd (omega arith)
 
 -- after a tick, stopped or not, the next one may be made
-pub stands-on : {b before : List ℕ} {w : ℕ} {r : TickEnd} {bytes : List ℕ} → GivesTickEnd b before w r bytes → TickAsked b (state_of before)
-    → TickAsked b (state_of bytes)
-stands-on {b = b} {before = before} {w = w} {bytes = bytes} q y = grind (arith, common_steps, deep-fine, tick-deep)
+pub stands-on : {b : List ℕ} {before : Kept} {w : ℕ} {r : TickEnd} {after : Kept} → GivesTickEnd b before w r after → TickAsked b (view before)
+    → TickAsked b (view after)
+stands-on {b = b} {before = before} {w = w} {after = after} q y = grind (arith, common_steps, deep-fine, tick-deep)

@@ -11,8 +11,7 @@ use Rattle.image.specs.Image.{Image, Label}
 use Rattle.image.specs.Decode.{decoded_image}
 use Rattle.image.specs.Check.{image_verdict}
 use Rattle.rows.specs.Rows.{best_row, Found, lead_of}
-use Rattle.state.specs.declared.State.{State}
-use Rattle.state.specs.State.{fresh, bottom_alone, label_at, entry_at, number_at, Sized}
+use Rattle.state.specs.State.{State, fresh, bottom_alone, label_at, entry_at, number_at, Sized}
 use Rattle.state.specs.Changes.{with_serving}
 use Rattle.fitness.specs.Fitness.{is_call, is_unfit}
 use Rattle.ticks.specs.Tick.{MachineTick, finished, moved_tick, popped_state, tick, top_of}

@@ -8,8 +8,7 @@ use Rattle.text.specs.declared.frames.refusals.TheConstants.{FULL, NO_ROW}
 use Rattle.image.specs.Layout.{TickKind, plain, operation_call, function_call, return, home, tick_kind}
 use Rattle.image.specs.Image.{Image, Label}
 use Rattle.rows.specs.Rows.{Choice, best_row, Found, found, missing, lead_of}
-use Rattle.state.specs.declared.State.{State}
-use Rattle.state.specs.State.{label_at, entry_at, place_at, number_at}
+use Rattle.state.specs.State.{State, label_at, entry_at, place_at, number_at}
 use Rattle.state.specs.Changes.{with_depth, with_place, with_opened, with_alone, with_bits}
 use Rattle.fitness.specs.Fitness.{is_of_handler}
 

@@ -1,10 +1,10 @@
-//! One tick of the stack machine, on a prepared table and the bytes of a state, by the label at the top (`stepping`).
+//! One tick of the stack machine, on a prepared table and a state, in place, by the label at the top (`stepping`).
 //! `calls` makes the tick of a call, `full_stack` that of a call with no free place: a drop or 17; `returns` makes that of a return.
 //! `codes` has the tick codes. In the laws a tick on an accepted image leaves a fitting state fitting.
 #![tactic(auto)]
 
 ghost use Rattle.std.specs.Prelude.{◌≡◌};
-ghost use Rattle.state.specs.Bytes.{state_of};
+ghost use Rattle.state.specs.Kept.{view};
 ghost use Rattle.ticks.specs.Tick.{stopped};
 ghost use Rattle.ticks.specs.Functions.{CallClears, Drops, ZeroRow, FreshFits, TickFits};
 ghost use Rattle.ticks.specs.codes.CodesApart.{CodeMeans, CodesApart, DropMeans, DropApart, KindBack, MeaningCoded};
@@ -17,8 +17,7 @@ pub mod returns;
 pub mod stepping;
 
 use image::layout::{FUNCTION_CALL, NO_BIT};
-use state::layout::STATE_BYTES;
-use state::state_results::result_of;
+use state::State;
 use text::frames::refusals::NO_ROW;
 
 // What a tick answers: 0, or the number that stops it, and then nothing is changed.
@@ -37,11 +36,11 @@ pub struct TickMove {
 }
 
 // The bit that decides among the rows of a label: the result of the number that it calls, where it is a function's, else 2.
-pub fn bit_of(bytes: &[u8; STATE_BYTES], kind: u8, called: u8) -> u8
-    ensures { result ≡ bit_of kind called (state_of bytes.now).bits }
+pub fn bit_of(state: &State, kind: u8, called: u8) -> u8
+    ensures { result ≡ bit_of kind called (view state.now).bits }
 {
     if kind == FUNCTION_CALL {
-        return result_of(bytes, called) as u8;
+        return state.result_of(called) as u8;
     }
     NO_BIT
 }

@@ -110,7 +110,7 @@ fn causes(image: &[u8]) {
     let words = [0, 0, 1, 0];
     let mut state = fresh(3);
     for i in 0..4 {
-        match cause_of(image, state, words[i]) {
+        match cause_of(image, &state, words[i]) {
             Ok(told) => {
                 report(0x17, Ok(0), told.row as usize);
                 byte_line((told.mask % 256) as u8);

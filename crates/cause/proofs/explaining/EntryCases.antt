@@ -1,6 +1,5 @@
--- A cause over an image: it is refused, or the cause is that on the table it is prepared to; and by value, over the bytes of the state.
-use Rattle.std.proofs.Common.{ℕ, ◌≡◌, sym, ◌∙◌, ap, subst, List, length, Err, arith}
-use Rattle.std.proofs.lemmas.Grind.{common_steps}
+-- A cause over an image: it is refused, or the cause is that on the table it is prepared to.
+use Rattle.std.proofs.Common.{ℕ, ◌≡◌, sym, ◌∙◌, ap, subst, List, Err}
 use Rattle.text.specs.frames.Frame.{contents}
 use Rattle.text.specs.frames.Verdict.{Verdict, fine, refused, next, when}
 use Rattle.text.specs.frames.Answer.{Answer, refusal, reply, verdict_reply}
@@ -13,11 +12,8 @@ use Rattle.image.specs.Check.{image_verdict}
 use Rattle.image.specs.inner.Sound.{SoundImage}
 use Rattle.image.proofs.Accepted.{image-sound}
 use Rattle.tables.proofs.Made.{MadeTable}
-use Rattle.state.specs.declared.State.{State}
-use Rattle.state.specs.State.{Sized}
+use Rattle.state.specs.State.{State}
 use Rattle.fitness.specs.Fitness.{is_unfit}
-use Rattle.state.specs.Bytes.{state_of, bytes_of}
-use Rattle.state.proofs.ResultBytes.{state-back}
 use Rattle.cause.specs.Cause.{cause_of, CauseOutcome, no_cause, cause_on, explain, CauseAnswer, GivesCause}
 use Rattle.cause.specs.table_causes.inner.TableCauses.{Ordered, table_cause}
 use Rattle.cause.proofs.table_causes.CauseCases.{tells-none}
@@ -51,7 +47,3 @@ module _ (t : List ℕ) (s : State) (w : ℕ) where
   image-told b made r y =
       subst (λ (x : CauseOutcome). GivesCause x r)
       (ap (λ (i : Image). explained fine i) made.holds ∙ sym (explain-by fine made.accepted)) y
-
-pub value-told : (t : List ℕ) (state : State) (w : ℕ) → Sized state → length state.bits ≡ 16 → (bytes : List ℕ) → bytes ≡ bytes_of state
-    → (r : CauseAnswer) → GivesCause (explain t (state_of bytes) w) r → GivesCause (explain t state w) r
-value-told t state w sized bits bytes e r y = grind (arith, common_steps, state-back)

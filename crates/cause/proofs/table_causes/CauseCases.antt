@@ -1,6 +1,6 @@
 -- A cause on a table: the label that is left, the row found among its frames with its number, what is told, and refusals 15, 18 and 21.
 use Rattle.std.proofs.Common.{ℕ, ◌+◌, ◌-◌, ◌≤◌, ◌<◌, Bool, true, false, ◌≡◌, refl, sym, ◌∙◌, ap, ap₂, subst, List, arith, bit_or, nat_lt, nat_le, ◌==◌}
-use Rattle.std.proofs.Common.{lt-ltb, le-ltb, le-leb, eq-eqb, Ok, Err, if◌then◌else◌}
+use Rattle.std.proofs.Common.{lt-ltb, le-ltb, le-leb, eq-eqb, Ok, Err, if◌then◌else◌, length, slice_index}
 use Rattle.std.proofs.Math.ListN.{get_or-eq_default}
 use borrow.Author.Tests.{lt-leb}
 use Rattle.std.proofs.lemmas.Grind.{common_steps}
@@ -22,11 +22,8 @@ use Rattle.rows.specs.inner.Search.{Deciding, found_at}
 use Rattle.rows.proofs.ChoiceLaws.{moved_by}
 use Rattle.rows.proofs.BestRows.{best-at, best-is}
 use Rattle.rows.proofs.TableRows.{rows_before, found-number, any-row}
-use Rattle.state.specs.declared.State.{State}
-use Rattle.state.specs.State.{label_at, place_at}
+use Rattle.state.specs.State.{State, Sized, label_at, place_at}
 use Rattle.fitness.specs.Fitness.{is_unfit}
-use Rattle.state.specs.Bytes.{state_of}
-use Rattle.state.proofs.ResultBytes.{held-places, held-sized}
 use Rattle.fitness.proofs.Fitness.{unfits}
 use Rattle.ticks.specs.Tick.{called_bit, choice}
 use Rattle.ticks.specs.inner.TickContracts.{bit_of}
@@ -42,10 +39,9 @@ use Rattle.tables.specs.declared.Label as declared
 pub tells-none : (x : CauseOutcome) (r : Refusal) → x ≡ record { reply = cause_reply (Err r); cause = no_cause } → GivesCause x (Err r)
 tells-none x r e = rw e (record { answered = refl; row = refl; mask = refl; bit = refl })
 
--- ---- places: n below the depth d
-module _ (bytes : List ℕ) (d n : ℕ) where
-  pub place-past : 32 ≤ d - n → 0 ≡ place_at (state_of bytes) (d - n)
-  place-past h = sym (get_or-eq_default (state_of bytes).places 0 (omega (arith, held-places bytes)))
+-- a place past the highest
+pub place-past : (places : List ℕ) (k : ℕ) → length places ≡ 32 → 32 ≤ k → 0 ≡ slice_index places k
+place-past places k e h = sym (get_or-eq_default places 0 (omega arith))
 
 -- ---- the label that is left: d is the depth, top the label at the top, and z what was read of it
 module _ (b : List ℕ) (s : State) (d top : ℕ) (is : d ≡ s.depth) (at : top ≡ place_at s (d - 1))
@@ -159,20 +155,17 @@ module _ (b : List ℕ) (l w : ℕ) (x : OrderedLabel b l) (bs : Results) (z : d
           (record { answered = refl; row = v ∙ ap (λ (n : ℕ). f - n) u; mask = ap₂ bit_or r joined; bit = bit-told })
 
 -- ---- on the table: t says whether the state is unfit, and l is the label left, 0 for none
-module _ (b bytes : List ℕ) (w : ℕ) (x : Ordered b) (t : Bool) (e : t ≡ is_unfit (table_image b) (state_of bytes)) where
-  abbrev s : State
-  s = state_of bytes
-
+module _ (b : List ℕ) (s : State) (sized : Sized s) (w : ℕ) (x : Ordered b) (t : Bool) (e : t ≡ is_unfit (table_image b) s) where
   module _ (h : t ≡ false) (l : ℕ) (is : l ≡ leaving_number (leaving (table_image b) s)) where
     fit-told : table_cause b s w ≡ cause_outcome (cause_at (table_image b) s.bits w (leaving (table_image b) s))
     unfolding cause_of
     fit-told = ap (λ (v : Verdict). cause_on v (λ _. cause_of (table_image b) s w)) (when-fails 15 (is_unfit (table_image b) s) (sym e ∙ h))
 
-    view : Leaves (table_image b) s
-    view = leaves (table_image b) x.sound s (unfits (table_image b) s (held-sized bytes) (sym e ∙ h))
+    left : Leaves (table_image b) s
+    left = leaves (table_image b) x.sound s (unfits (table_image b) s sized (sym e ∙ h))
 
     pub rowless-told : l ≡ 0 → GivesCause (table_cause b s w) (Err Rowless)
-    rowless-told n = grind (arith, common_steps, stays, by, tells-none, fit-told, view)
+    rowless-told n = grind (arith, common_steps, stays, by, tells-none, fit-told, left)
 
     module _ (n : l ≡ 0 → ⊥) where
       one_left : Leaves (table_image b) s → (leaving (table_image b) s ≡ leaves_label l) × OrderedLabel b l
@@ -180,8 +173,8 @@ module _ (b bytes : List ℕ) (w : ℕ) (x : Ordered b) (t : Bool) (e : t ≡ is
       one_left (stays q o) = grind (arith, common_steps)
 
       pub left-placed : OrderedLabel b l
-      left-placed = (one_left view).1
+      left-placed = (one_left left).1
 
       pub left-told : (r : CauseAnswer) → GivesCause (cause_outcome (cause_at (table_image b) s.bits w (leaves_label l))) r
           → GivesCause (table_cause b s w) r
-      left-told r y = grind (arith, common_steps, fit-told, view, one_left)
+      left-told r y = grind (arith, common_steps, fit-told, left, one_left)

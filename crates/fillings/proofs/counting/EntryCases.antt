@@ -13,10 +13,10 @@ use Rattle.image.specs.Image.{Image}
 use Rattle.image.specs.Decode.{decoded_image}
 use Rattle.image.specs.Check.{image_verdict}
 use Rattle.tables.specs.Table.{table_image}
-use Rattle.state.specs.declared.State.{State}
+use Rattle.state.specs.declared.State.{State as Kept}
 use Rattle.state.specs.State.{fresh, is_bad_size, fresh_state}
-use Rattle.state.specs.Bytes.{state_of, bytes_of}
-use Rattle.state.proofs.ResultBytes.{state-back, fresh-sized}
+use Rattle.state.specs.Kept.{view, stored}
+use Rattle.state.proofs.Stored.{state-back}
 use Rattle.fillings.specs.Counts.{has_too_many_lists, count_verdict, count_fillings}
 use Rattle.fillings.specs.declared.fill_counts.Tally.{Tally}
 use Rattle.fillings.specs.fill_counts.inner.TallyContracts.{tally_of}
@@ -26,11 +26,10 @@ use Rattle.fillings.specs.counting.CountingContracts.{GivesFillings}
 pub many-not : (n k : ℕ) → has_too_many_lists n k ≡ false → n * k ≤ 16
 many-not n k e = ltb-false 16 (n * k) (or-l (nat_lt 16 (n * k)) (nat_lt 16 k) (or-l (nat_lt 16 (n * k) || nat_lt 16 k) (nat_lt 65536 n) e))
 
--- ---- the fresh state in its bytes
-pub fresh-made : (size : ℕ) → is_bad_size size ≡ false → (s : State) (bytes : List ℕ) → s ≡ (fresh_state size).state → bytes ≡ bytes_of s
-    → state_of bytes ≡ fresh size
+-- ---- the fresh state
+pub fresh-made : (size : ℕ) → is_bad_size size ≡ false → (s : Kept) → s ≡ stored (fresh_state size).state → view s ≡ fresh size
 unfolding fresh_state
-fresh-made size e s bytes q h = grind (arith, common_steps, fresh-sized, state-back)
+fresh-made size e s q = grind (arith, common_steps, state-back)
 
 -- ---- the answers
 module _ (t : List ℕ) (size n k : ℕ) where

@@ -7,7 +7,7 @@ use Rattle.words.specs.lists.Numbers.{count, sum}
 use Rattle.words.proofs.lists.Counts.{count-snoc, count-all, count-none, count-alike}
 use Rattle.words.proofs.lists.Sums.{sum-add, sum-zero, sum-same}
 use Rattle.image.specs.Image.{Image}
-use Rattle.state.specs.declared.State.{State}
+use Rattle.state.specs.State.{State}
 use Rattle.ticks.specs.Tick.{MachineTick, finished, stopped, tick}
 use Rattle.runs.specs.Run.{run_after, ticks}
 use Rattle.fillings.specs.Counts.{words_of, lists, number_of, number_met, count_meeting}

@@ -8,8 +8,9 @@ use Rattle.words.proofs.lists.Searches.{sum-turn}
 use Rattle.words.proofs.lists.Sums.{sum-none, sum-suc, sum-split}
 use Rattle.image.specs.Image.{Image}
 use Rattle.tables.specs.Table.{table_image}
-use Rattle.state.specs.declared.State.{State}
-use Rattle.state.specs.Bytes.{state_of}
+use Rattle.state.specs.declared.State.{State as Kept}
+use Rattle.state.specs.State.{State}
+use Rattle.state.specs.Kept.{view}
 use Rattle.ticks.specs.declared.TickEnd.{TickEnd}
 use Rattle.ticks.specs.Tick.{MachineTick, tick}
 use Rattle.ticks.specs.inner.TickContracts.{TickAsked, GivesTickEnd}
@@ -31,15 +32,15 @@ share_of i n k x = record { ended = share i n k 0 x; full = share i n k 17 x; un
 pub tally-none : (i : Image) (s : State) (k : ℕ) → all_meet 0 1 ≡ tally_of i s 0 k
 tally-none i s k = sym (same-tally (meeting-none i s k 0) (meeting-none i s k 17) (meeting-none i s k 18))
 
-module _ (b before : List ℕ) (w : ℕ) (r : TickEnd) (bytes : List ℕ) (q : GivesTickEnd b before w r bytes) (n k : ℕ) where
+module _ (b : List ℕ) (before : Kept) (w : ℕ) (r : TickEnd) (after : Kept) (q : GivesTickEnd b before w r after) (n k : ℕ) where
   abbrev made : MachineTick
-  made = tick (table_image b) (state_of before) w
+  made = tick (table_image b) (view before) w
 
-  pub went-share : r.number ≡ 0 → tally_of (table_image b) (state_of bytes) n k ≡ share_of (table_image b) n k made
-  went-share z = sym (ap (share_of (table_image b) n k) (went b before w r bytes q z))
+  pub went-share : r.number ≡ 0 → tally_of (table_image b) (view after) n k ≡ share_of (table_image b) n k made
+  went-share z = sym (ap (share_of (table_image b) n k) (went b before w r after q z))
 
   pub stood-share : (r.number ≡ 0 → ⊥) → all_meet r.number (lists n k) ≡ share_of (table_image b) n k made
-  stood-share z = sym (ap (share_of (table_image b) n k) (stood b before w r bytes q z))
+  stood-share z = sym (ap (share_of (table_image b) n k) (stood b before w r after q z))
 
 -- ---- words that all are 0
 one_word : (i : Image) (s : State) (n number : ℕ) → count_meeting i s (suc n) 0 number ≡ share i n 0 number (tick i s 0)
@@ -52,27 +53,27 @@ one_list : (n : ℕ) → lists n 0 ≡ 1
 one_list n = ap (λ (m : ℕ). 2 ^ m) (mul-zero n)
 
 -- so many words are left
-pub record One (b bytes₀ : List ℕ) (n : ℕ) (bytes : List ℕ) (left : ℕ) : Type 0 where
-  pub stands : TickAsked b (state_of bytes)
-  pub same : tally_of (table_image b) (state_of bytes) left 0 ≡ tally_of (table_image b) (state_of bytes₀) n 0
+pub record One (b : List ℕ) (start : Kept) (n : ℕ) (s : Kept) (left : ℕ) : Type 0 where
+  pub stands : TickAsked b (view s)
+  pub same : tally_of (table_image b) (view s) left 0 ≡ tally_of (table_image b) (view start) n 0
 
-module _ {b bytes₀ : List ℕ} {n : ℕ} {bytes : List ℕ} {left : ℕ} (y : One b bytes₀ n bytes left) where
+module _ {b : List ℕ} {start : Kept} {n : ℕ} {s : Kept} {left : ℕ} (y : One b start n s left) where
   abbrev i : Image
   i = table_image b
 
   abbrev all : Tally
-  all = tally_of i (state_of bytes₀) n 0
+  all = tally_of i (view start) n 0
 
-  by-share : 0 < left → share_of i (left - 1) 0 (tick i (state_of bytes) 0) ≡ all
+  by-share : 0 < left → share_of i (left - 1) 0 (tick i (view s) 0) ≡ all
   by-share l =
       let e : suc (left - 1) ≡ left = omega arith in
-      sym (one-share i (state_of bytes) (left - 1)) ∙ ap (λ (m : ℕ). tally_of i (state_of bytes) m 0) e ∙ y.same
+      sym (one-share i (view s) (left - 1)) ∙ ap (λ (m : ℕ). tally_of i (view s) m 0) e ∙ y.same
 
-  module _ (l : 0 < left) (r : TickEnd) (next : List ℕ) (q : GivesTickEnd b bytes 0 r next) where
-    pub one-on : r.number ≡ 0 → One b bytes₀ n next (left - 1)
+  module _ (l : 0 < left) (r : TickEnd) (next : Kept) (q : GivesTickEnd b s 0 r next) where
+    pub one-on : r.number ≡ 0 → One b start n next (left - 1)
     one-on z = record {
       stands = stands-on q y.stands;
-      same = went-share b bytes 0 r next q (left - 1) 0 z ∙ by-share l;
+      same = went-share b s 0 r next q (left - 1) 0 z ∙ by-share l;
     }
 
     pub one-stood : (r.number ≡ 0 → ⊥) → (t : Tally) → t ≡ all_meet r.number 1 → t ≡ all
@@ -81,7 +82,7 @@ module _ {b bytes₀ : List ℕ} {n : ℕ} {bytes : List ℕ} {left : ℕ} (y : 
   pub one-over : left ≤ 0 → (t : Tally) → t ≡ all_meet 0 1 → t ≡ all
   one-over l t e =
       let z : 0 ≡ left = omega arith in
-      e ∙ tally-none i (state_of bytes) 0 ∙ ap (λ (m : ℕ). tally_of i (state_of bytes) m 0) z ∙ y.same
+      e ∙ tally-none i (view s) 0 ∙ ap (λ (m : ℕ). tally_of i (view s) m 0) z ∙ y.same
 
 -- ---- the first words below one
 abbrev sharing : Image → State → ℕ → ℕ → ℕ → ℕ → ℕ
@@ -115,27 +116,27 @@ partly-few i s n k number w l h =
 pub left-few : (n k left : ℕ) → n ≡ suc left → n * k ≤ 16 → (left * k ≤ 16) × (k ≤ 16)
 left-few n k left e l = grind (arith, common_steps, suc-mul)
 
-pub record Part (b bytes : List ℕ) (n k left listed words : ℕ) (tally : Tally) (word : ℕ) : Type 0 where
-  pub stands : TickAsked b (state_of bytes)
+pub record Part (b : List ℕ) (kept : Kept) (n k left listed words : ℕ) (tally : Tally) (word : ℕ) : Type 0 where
+  pub stands : TickAsked b (view kept)
   pub whole : n ≡ suc left
   pub few : n * k ≤ 16
   pub all_lists : listed ≡ lists left k
   pub all_words : words ≡ 2 ^ k
   pub low : word ≤ words
-  pub part : tally ≡ partly (table_image b) (state_of bytes) left k word
+  pub part : tally ≡ partly (table_image b) (view kept) left k word
 
-pub part-first : (b bytes : List ℕ) (n k left listed words : ℕ) (tally : Tally) → TickAsked b (state_of bytes)
+pub part-first : (b : List ℕ) (kept : Kept) (n k left listed words : ℕ) (tally : Tally) → TickAsked b (view kept)
     → n ≡ suc left → n * k ≤ 16 → listed ≡ lists left k → words ≡ 2 ^ k → tally ≡ all_meet 0 0
-    → Part b bytes n k left listed words tally 0
-part-first b bytes n k left listed words tally y e l u v t = grind (arith, common_steps, sum-none, same-tally)
+    → Part b kept n k left listed words tally 0
+part-first b kept n k left listed words tally y e l u v t = grind (arith, common_steps, sum-none, same-tally)
 
-module _ {b bytes : List ℕ} {n k left listed words : ℕ} {tally : Tally} {word : ℕ}
-    (y : Part b bytes n k left listed words tally word) where
+module _ {b : List ℕ} {kept : Kept} {n k left listed words : ℕ} {tally : Tally} {word : ℕ}
+    (y : Part b kept n k left listed words tally word) where
   abbrev image : Image
   image = table_image b
 
   abbrev s : State
-  s = state_of bytes
+  s = view kept
 
   -- what the lists that begin with this word add
   module _ (l : word < words) (t : Tally) (e : t ≡ share_of image left k (tick image s word)) where
@@ -148,7 +149,7 @@ module _ {b bytes : List ℕ} {n k left listed words : ℕ} {tally : Tally} {wor
     pub part-few : FewLists (tally_sum tally t)
     part-few = subst FewLists (sym sums) (record { ended = few-here 0; full = few-here 17; unmatched = few-here 18 })
 
-    pub part-on : (t' : Tally) → t' ≡ tally_sum tally t → Part b bytes n k left listed words t' (word + 1)
+    pub part-on : (t' : Tally) → t' ≡ tally_sum tally t → Part b kept n k left listed words t' (word + 1)
     part-on t' q = grind (arith, common_steps, sums)
 
   pub part-over : words ≤ word → tally ≡ tally_of image s n k

@@ -11,8 +11,7 @@ use Rattle.image.specs.Decode.{scheme_count, last_label, handler_in}
 use Rattle.tables.specs.Table.{table_image, table_label}
 use Rattle.tables.specs.inner.Labels.{as_label}
 use Rattle.tables.proofs.TableReads.{labels-count, entries-count, label-at}
-use Rattle.state.specs.declared.State.{State}
-use Rattle.state.specs.State.{label_at, place_at, number_at, server_at}
+use Rattle.state.specs.State.{State, label_at, place_at, number_at, server_at}
 use Rattle.fitness.specs.Fitness.{is_call, is_callable, is_unfit_place, has_bad_bottom}
 use Rattle.fitness.specs.inner.FitnessContracts.{is_astray, is_miscalled, is_astray_at_bottom}
 use Rattle.fitness.proofs.Fitness.{is_carried}

@@ -9,8 +9,7 @@ use Rattle.words.specs.lists.Numbers.{any}
 use Rattle.std.proofs.lemmas.Bool.{cond-true, cond-false}
 use Rattle.words.proofs.lists.Tests.{and-true, split}
 use Rattle.words.proofs.lists.Searches.{any-none, any-true}
-use Rattle.state.specs.declared.State.{State}
-use Rattle.state.specs.State.{place_at, number_at, server_at}
+use Rattle.state.specs.State.{State, place_at, number_at, server_at}
 use Rattle.fitness.specs.Fitness.{is_filled_place}
 
 -- no bit is set in either where none is set in both together

@@ -8,7 +8,7 @@ use Rattle.image.specs.Image.{Image}
 use Rattle.image.specs.Decode.{scheme_count, handler_in}
 use Rattle.tables.specs.Table.{table_image}
 use Rattle.tables.proofs.TableReads.{entries-count, handler-at}
-use Rattle.state.specs.declared.State.{State}
+use Rattle.state.specs.State.{State}
 use Rattle.fitness.specs.Fitness.{is_badly_served}
 use Rattle.fitness.specs.inner.FitnessContracts.{is_misserved}
 

@@ -2,7 +2,7 @@
 use Rattle.std.specs.Prelude.{ℕ, ◌≤◌, Bool, ◌&&◌, ◌||◌, not, List, if◌then◌else◌, nat_le, ◌==◌}
 use Rattle.tables.specs.inner.Asked.{Whole}
 use Rattle.state.specs.declared.layout.TheConstants.{PLACES}
-use Rattle.state.specs.declared.State.{State}
+use Rattle.state.specs.State.{State}
 
 -- a table, and 1 to 32 places in use
 pub record DeepTable (b : List ℕ) (s : State) : Type 0 where

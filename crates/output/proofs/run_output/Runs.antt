@@ -8,8 +8,10 @@ use Rattle.words.proofs.lists.Fills.{ValuesFrom, values-none, values-turn, value
 use Rattle.text.specs.frames.Answer.{Answer, reply_count, reply}
 use Rattle.text.specs.declared.frames.refusals.Refusal.{Refusal}
 use Rattle.text.specs.frames.Refusal.{number_of, index_of, ticks_of}
-use Rattle.state.specs.declared.State.{State}
+use Rattle.state.specs.declared.State.{State as Kept}
 use Rattle.state.specs.State.{fresh_state}
+use Rattle.state.specs.Kept.{view, stored}
+use Rattle.state.proofs.Stored.{state-back}
 use Rattle.runs.specs.Run.{run}
 use Rattle.runs.proofs.RunCounts.{run-count}
 use Rattle.output.specs.printing.Lines.{code_line, refusal_line}
@@ -71,12 +73,16 @@ module _ (a : Answer) (codes : List ℕ) (n : ℕ) (counts : reply_count (reply 
       }
 
 -- the run of the program, as the machine was called
-module _ (t ws : List ℕ) (s : State) (a : Answer) (codes : List ℕ) (same : ws ≡ program_words) (fresh : s ≡ (fresh_state 32).state)
-    (answered : reply a ≡ (run t s ws (replicate 64 0) (replicate 64 0)).reply)
-    (left : codes ≡ (run t s ws (replicate 64 0) (replicate 64 0)).codes) where
+module _ (t ws : List ℕ) (s : Kept) (a : Answer) (codes : List ℕ) (same : ws ≡ program_words) (made : s ≡ stored (fresh_state 32).state)
+    (answered : reply a ≡ (run t (view s) ws (replicate 64 0) (replicate 64 0)).reply)
+    (left : codes ≡ (run t (view s) ws (replicate 64 0) (replicate 64 0)).codes) where
   pub program-few : reply_count (reply a) ≤ 64
-  program-few = omega (arith, ap reply_count answered, (run-count t s ws (replicate 64 0) (replicate 64 0)).1, ap length same)
+  program-few =
+      omega (arith, ap reply_count answered, (run-count t (view s) ws (replicate 64 0) (replicate 64 0)).1, ap length same)
+
+  fresh : view s ≡ (fresh_state 32).state
+  fresh = ap view made ∙ state-back (fresh_state 32).state
 
   pub output-is : run_lines (reply a) codes ≡ run_output t
   unfolding run_output
-  output-is = simp (answered, left, same, fresh)
+  output-is = rw (answered, left, same, fresh)

@@ -3,7 +3,7 @@ use Rattle.std.proofs.Common.{ℕ, ◌≡◌, List, arith}
 use Rattle.std.proofs.lemmas.Grind.{common_steps}
 use Rattle.text.specs.frames.Alike.{ReadAlike}
 use Rattle.image.proofs.Alike.{image-verdict}
-use Rattle.state.specs.declared.State.{State}
+use Rattle.state.specs.State.{State}
 use Rattle.prices.specs.priced_runs.PricedRun.{priced_verdict, priced_run}
 
 pub prices-runs : (t u : List ℕ) → ReadAlike t u → (s : State) (prices words masks codes : List ℕ)

@@ -12,21 +12,19 @@ use Rattle.text.specs.declared.frames.refusals.Refusal.TheVariants.{ManyWords}
 use Rattle.image.specs.Decode.{decoded_image}
 use Rattle.image.specs.Check.{image_verdict}
 use Rattle.image.proofs.Refuses.{early-image}
-use Rattle.state.specs.declared.State.{State}
-use Rattle.state.specs.State.{Sized}
-use Rattle.state.specs.Bytes.{state_of, bytes_of}
-use Rattle.state.proofs.ResultBytes.{state-back}
+use Rattle.state.specs.State.{State}
+use Rattle.state.specs.declared.State.{State as Kept}
+use Rattle.state.specs.Kept.{view}
 use Rattle.fitness.specs.Fitness.{is_unfit}
 use Rattle.runs.specs.Run.{MachineRun, ticks, RunOutcome, has_no_room, run_verdict, run_on, run}
-use Rattle.runs.specs.InPlace.{bytes_after, GivesRunOn}
+use Rattle.runs.specs.InPlace.{state_after, GivesRunOn}
 use Rattle.runs.proofs.RunCases.{kept_run}
 use Rattle.runs.proofs.RunCounts.{run-count}
 use Rattle.runs.proofs.machine.Held.{run-held}
 use Rattle.prices.specs.Prices.{price}
-use Rattle.prices.specs.declared.priced_runs.PricedReport.{PricedReport}
 use Rattle.prices.specs.priced_runs.PricedRun.{has_too_many_words, in_turn, priced_verdict, many_verdict, PricedOutcome, price_on}
-use Rattle.prices.specs.priced_runs.PricedRun.{priced_run, GivesPricedRun}
-use Rattle.prices.specs.priced_runs.InPlace.{bytes_priced, GivesPricedRunOn}
+use Rattle.prices.specs.priced_runs.PricedRun.{priced_run}
+use Rattle.prices.specs.priced_runs.InPlace.{state_priced, GivesPricedRunOn}
 use Rattle.prices.proofs.priced_runs.Pricing.{does-all, by-the-masks}
 
 -- ---- more words than are priced
@@ -77,22 +75,22 @@ module _ (t : List ℕ) (s : State) (ms ks : List ℕ) where
     many-itself n e = grind (arith, common_steps, none-answer)
 
 -- ---- a run's ticks are counted: so many masks are written, and no more than words
-module _ (t before ws ms ks : List ℕ) (a : Answer) (after us vs : List ℕ)
-    (runs : GivesRunOn (run t (state_of before) ws ms ks) before a after us vs)
+module _ (t : List ℕ) (before : Kept) (ws ms ks : List ℕ) (a : Answer) (after : Kept) (us vs : List ℕ)
+    (runs : GivesRunOn (run t (view before) ws ms ks) before a after us vs)
     (n : ℕ) (counts : n ≡ reply_count (reply a)) where
-  same : n ≡ reply_count (run t (state_of before) ws ms ks).reply
+  same : n ≡ reply_count (run t (view before) ws ms ks).reply
   same = counts ∙ ap reply_count runs.answered
 
   pub counted-inside : n ≤ length us
-  counted-inside = omega (arith, same, (run-count t (state_of before) ws ms ks).0, ap (λ (l : List ℕ). length l) runs.masks)
+  counted-inside = omega (arith, same, (run-count t (view before) ws ms ks).0, ap (λ (l : List ℕ). length l) runs.masks)
 
   pub counted-few : length ws ≤ 65536 → n ≤ 65536
-  counted-few few = omega (arith, same, (run-count t (state_of before) ws ms ks).1)
+  counted-few few = omega (arith, same, (run-count t (view before) ws ms ks).1)
 
--- ---- a priced run by the bytes
-module _ (t before prices ws ms ks : List ℕ) where
+-- ---- a priced run in place
+module _ (t : List ℕ) (before : Kept) (prices ws ms ks : List ℕ) where
   abbrev s₀ : State
-  s₀ = state_of before
+  s₀ = view before
 
   abbrev whole : PricedOutcome
   whole = priced_run t s₀ prices ws ms ks
@@ -110,36 +108,36 @@ module _ (t before prices ws ms ks : List ℕ) where
     many_is = grind (arith, common_steps)
 
     pub many-priced : (a : Answer) → reply a ≡ verdict_reply (many_verdict t s₀) 0
-        → GivesPricedRunOn whole ws before (record { answer = a; price = 0 }) before ms ks
-    unfolding bytes_priced many_verdict
+        → GivesPricedRunOn whole ws before a 0 before ms ks
+    unfolding state_priced many_verdict
     many-priced a e = rw many_is (go (image_verdict t) (is_unfit (decoded_image (contents t)) s₀) e)
       where
-        kept : (r : RunOutcome) → before ≡ (if has_too_many_words ws then before else bytes_after before r)
-        kept r = sym (cond-true (has_too_many_words ws) before (bytes_after before r) (lt-ltb 65536 (length ws) more))
+        kept : (r : RunOutcome) → before ≡ (if has_too_many_words ws then before else state_after before r)
+        kept r = sym (cond-true (has_too_many_words ws) before (state_after before r) (lt-ltb 65536 (length ws) more))
 
         go : (v : Verdict) (b : Bool) → reply a ≡ verdict_reply (many v b) 0
-            → GivesPricedRunOn (priced_outcome_by (many v b)) ws before (record { answer = a; price = 0 }) before ms ks
-        go (refused k i) b q = record { answered = q; price = refl; bytes = kept _; masks = refl; codes = refl }
-        go fine true q = record { answered = q; price = refl; bytes = kept _; masks = refl; codes = refl }
-        go fine false q = record { answered = q; price = refl; bytes = kept _; masks = refl; codes = refl }
+            → GivesPricedRunOn (priced_outcome_by (many v b)) ws before a 0 before ms ks
+        go (refused k i) b q = record { answered = q; price = refl; state = kept _; masks = refl; codes = refl }
+        go fine true q = record { answered = q; price = refl; state = kept _; masks = refl; codes = refl }
+        go fine false q = record { answered = q; price = refl; state = kept _; masks = refl; codes = refl }
 
-  module _ (few : length ws ≤ 65536) (a : Answer) (after us vs : List ℕ) (runs : GivesRunOn (run t s₀ ws ms ks) before a after us vs)
+  module _ (few : length ws ≤ 65536) (a : Answer) (after : Kept) (us vs : List ℕ) (runs : GivesRunOn (run t s₀ ws ms ks) before a after us vs)
       (n : ℕ) (counts : n ≡ reply_count (reply a)) where
     pub run-priced : (p : ℕ) → p ≡ price prices (take n us)
-        → GivesPricedRunOn whole ws before (record { answer = a; price = p }) after us vs
-    unfolding bytes_priced
+        → GivesPricedRunOn whole ws before a p after us vs
+    unfolding state_priced
     run-priced p e = grind (arith, common_steps, by-the-masks, cond-false, le-ltb, does-all)
 
-  -- what the bytes then hold is the state that it hands back
-  pub priced-held : state_of (bytes_priced ws before whole.run) ≡ whole.run.state
-  unfolding bytes_priced priced_run many_verdict
+  -- the struct that it leaves stands for the state that it hands back
+  pub priced-held : view (state_priced ws before whole.run) ≡ whole.run.state
+  unfolding state_priced priced_run many_verdict
   priced-held = go (split 65536 (length ws))
     where
-      old : RunOutcome → List ℕ
-      old r = bytes_after before r
+      old : RunOutcome → Kept
+      old r = state_after before r
 
-      go : (65536 < length ws) ⊎ (length ws ≤ 65536) → state_of (if has_too_many_words ws then before else old whole.run) ≡ whole.run.state
-      go (inl more) = ap state_of (cond-true (has_too_many_words ws) before (old whole.run) (lt-ltb 65536 (length ws) more))
+      go : (65536 < length ws) ⊎ (length ws ≤ 65536) → view (if has_too_many_words ws then before else old whole.run) ≡ whole.run.state
+      go (inl more) = ap view (cond-true (has_too_many_words ws) before (old whole.run) (lt-ltb 65536 (length ws) more))
           ∙ sym (ap (λ (x : PricedOutcome). x.run.state) (many_is more) ∙ kept (image_verdict t) (is_unfit (decoded_image (contents t)) s₀))
         where
           kept : (v : Verdict) (b : Bool) → (priced_outcome_by (many v b)).run.state ≡ s₀
@@ -147,7 +145,7 @@ module _ (t before prices ws ms ks : List ℕ) where
           kept fine true = refl
           kept fine false = refl
       go (inr few) =
-          ap state_of (cond-false (has_too_many_words ws) before (old whole.run) (le-ltb 65536 (length ws) few))
+          ap view (cond-false (has_too_many_words ws) before (old whole.run) (le-ltb 65536 (length ws) few))
           ∙ run-held before (decoded_image (contents t)) ws ms ks (priced_verdict t s₀ ws ms ks)
 
 -- ---- more words than are priced, where a run of none succeeds
@@ -160,10 +158,3 @@ many-refused t s prices ws ms ks more e =
     let by : Verdict → PricedOutcome = λ v. record { run = run_on v ran s ms ks; price = price_on prices v ran } in
     ap (λ (b : Bool). by (in_turn (image_verdict t) u b (has_no_room ws ms ks))) (lt-ltb 65536 (length ws) more)
     ∙ ap by (many-turn (image_verdict t) u (has_no_room ws ms ks) ∙ many-27 t s ms ks e)
-
--- ---- by value: the bytes are those of the state, and what they then hold is handed back
-module _ (state : State) (sized : Sized state) (bits : length state.bits ≡ 16) (bytes : List ℕ) (e : bytes ≡ bytes_of state) where
-  pub value-priced : (t prices ws ms ks : List ℕ) (r : PricedReport) (after us vs : List ℕ) (u : State) → u ≡ state_of after
-      → GivesPricedRunOn (priced_run t (state_of bytes) prices ws ms ks) ws bytes r after us vs
-      → GivesPricedRun (priced_run t state prices ws ms ks) (record { answer = r.answer; state = u; price = r.price }) us vs
-  value-priced t prices ws ms ks r after us vs u q x = grind (arith, common_steps, state-back, priced-held)

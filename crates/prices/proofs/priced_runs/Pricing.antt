@@ -7,7 +7,7 @@ use Rattle.text.specs.frames.Answer.{reply_count}
 use Rattle.text.proofs.frames.Lent.{front}
 use Rattle.text.proofs.frames.Chains.{replied-count}
 use Rattle.image.specs.Decode.{decoded_image}
-use Rattle.state.specs.declared.State.{State}
+use Rattle.state.specs.State.{State}
 use Rattle.runs.specs.Run.{MachineRun, ticks, run_on, run_verdict, run}
 use Rattle.runs.proofs.RunCounts.{same-count}
 use Rattle.prices.specs.Prices.{hundredths, price}

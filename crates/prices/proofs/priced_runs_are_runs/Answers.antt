@@ -8,5 +8,5 @@ returns-clause-run c = does-all
 pub returns-clause-price : goal.returns-clause-price
 returns-clause-price c = by-the-masks
 
-pub returns-clause-bytes : goal.returns-clause-bytes
-returns-clause-bytes c = priced-held
+pub returns-clause-state : goal.returns-clause-state
+returns-clause-state c = priced-held

@@ -1,18 +1,20 @@
--- A priced run on the bytes of a state that the caller keeps: what it promises, and what the bytes then hold.
+-- A priced run on a state that the caller keeps: what it promises, and the state that it leaves.
 use Rattle.std.specs.Prelude.{ℕ, ◌≡◌, List, if◌then◌else◌}
-use Rattle.text.specs.frames.Answer.{reply}
+use Rattle.text.specs.frames.Answer.{Answer, reply}
 use Rattle.runs.specs.Run.{RunOutcome}
-use Rattle.runs.specs.InPlace.{bytes_after}
-use Rattle.prices.specs.declared.priced_runs.PricedReport.{PricedReport}
+use Rattle.runs.specs.InPlace.{state_after}
 use Rattle.prices.specs.priced_runs.PricedRun.{has_too_many_words, PricedOutcome}
+use Rattle.state.specs.declared.State.{State as Kept}
 
--- more words than are priced leave the bytes as they were, whatever refuses them; else they are as after any run
-unfoldable pub bytes_priced : List ℕ → List ℕ → RunOutcome → List ℕ
-bytes_priced words old r = if has_too_many_words words then old else bytes_after old r
+-- more words than are priced leave the state as it was, whatever refuses them; else it is as after any run
+unfoldable pub state_priced : List ℕ → Kept → RunOutcome → Kept
+state_priced words before r = if has_too_many_words words then before else state_after before r
 
-pub record GivesPricedRunOn (x : PricedOutcome) (words before : List ℕ) (r : PricedReport) (after ms ks : List ℕ) : Type 0 where
-  pub answered : reply r.answer ≡ x.run.reply
-  pub price : r.price ≡ x.price
-  pub bytes : after ≡ bytes_priced words before x.run
+-- of a state that is lent, and of one by value, which is handed back
+pub record GivesPricedRunOn (x : PricedOutcome) (words : List ℕ) (before : Kept) (answer : Answer) (cents : ℕ) (after : Kept)
+    (ms ks : List ℕ) : Type 0 where
+  pub answered : reply answer ≡ x.run.reply
+  pub price : cents ≡ x.price
+  pub state : after ≡ state_priced words before x.run
   pub masks : ms ≡ x.run.masks
   pub codes : ks ≡ x.run.codes

@@ -1,17 +1,15 @@
 -- A priced run: a run of at most 65,536 words, and the price of the masks that its ticks have.
-use Rattle.std.specs.Prelude.{ℕ, Bool, ◌≡◌, List, length, nat_lt}
+use Rattle.std.specs.Prelude.{ℕ, Bool, List, length, nat_lt}
 use Rattle.text.specs.frames.Sizes.{WORDS}
 use Rattle.text.specs.declared.frames.refusals.TheConstants.{UNFIT, NO_ROOM, MANY_WORDS}
 use Rattle.text.specs.frames.Frame.{contents}
 use Rattle.text.specs.frames.Verdict.{Verdict, fine, refused, next, when}
-use Rattle.text.specs.frames.Answer.{reply}
 use Rattle.image.specs.Decode.{decoded_image}
 use Rattle.image.specs.Check.{image_verdict}
-use Rattle.state.specs.declared.State.{State}
+use Rattle.state.specs.State.{State}
 use Rattle.fitness.specs.Fitness.{is_unfit}
 use Rattle.runs.specs.Run.{MachineRun, ticks, RunOutcome, has_no_room, run_on}
 use Rattle.prices.specs.Prices.{price}
-use Rattle.prices.specs.declared.priced_runs.PricedStateReport.{PricedStateReport}
 
 -- more words than are priced
 abbrev pub has_too_many_words : List ℕ → Bool
@@ -47,11 +45,3 @@ priced_run t s prices words masks codes =
     let v = priced_verdict t s words masks codes in
     let go : Unit {0} → MachineRun = λ _. ticks (decoded_image (contents t)) s words in
     record { run = run_on v go s masks codes; price = price_on prices v go }
-
--- what a function that prices a run promises: its answer, the price, the state handed back, and what the two buffers then hold
-pub record GivesPricedRun (x : PricedOutcome) (r : PricedStateReport) (ms ks : List ℕ) : Type 0 where
-  pub answered : reply r.answer ≡ x.run.reply
-  pub price : r.price ≡ x.price
-  pub state : r.state ≡ x.run.state
-  pub masks : ms ≡ x.run.masks
-  pub codes : ks ≡ x.run.codes

@@ -1,5 +1,5 @@
 -- What refusal 22 says, test by test.
-use Rattle.std.proofs.Common.{ℕ, ◌≤◌, Bool, false, ◌||◌, ◌≡◌, arith}
+use Rattle.std.proofs.Common.{ℕ, ◌≤◌, false, ◌≡◌, arith}
 use Rattle.std.proofs.lemmas.Grind.{common_steps}
 use Rattle.bindings.specs.Binding.{is_bad_rebinding}
 

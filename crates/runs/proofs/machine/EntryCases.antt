@@ -16,8 +16,9 @@ use Rattle.tables.specs.Table.{table_end, is_bad_table, table_image}
 use Rattle.tables.specs.inner.Asked.{front}
 use Rattle.tables.proofs.Made.{MadeTable}
 use Rattle.tables.proofs.Front.{front-image, cut-is}
-use Rattle.state.specs.declared.State.{State}
-use Rattle.state.specs.Bytes.{state_of}
+use Rattle.state.specs.State.{State}
+use Rattle.state.specs.declared.State.{State as Kept}
+use Rattle.state.specs.Kept.{view}
 use Rattle.runs.specs.Run.{run_verdict, run}
 use Rattle.runs.specs.TickOutcome.{TickOutcome, TickAnswer, tick_outcome, image_tick}
 use Rattle.runs.specs.machine.Live.{live_verdict, live_run, live_tick}
@@ -29,14 +30,14 @@ use Rattle.runs.proofs.RunCases.{kept_run, kept-runs}
 abbrev kept_advance : ℕ → ℕ → State → TickOutcome
 kept_advance n j s = record { reply = refusal n j 0; mask = 0; code = 0; state = s }
 
-kept-advances : (x : TickOutcome) (bytes : List ℕ) (n j : ℕ) (s : State) → x ≡ kept_advance n j s
-    → 1 ≤ n → (r : Refusal) → reply (Err r) ≡ refusal n j 0 → GivesTickOn x bytes (Err r) bytes
-kept-advances x bytes n j s g l r e = grind (arith, common_steps)
+kept-advances : (x : TickOutcome) (before : Kept) (n j : ℕ) (s : State) → x ≡ kept_advance n j s
+    → 1 ≤ n → (r : Refusal) → reply (Err r) ≡ refusal n j 0 → GivesTickOn x before (Err r) before
+kept-advances x before n j s g l r e = grind (arith, common_steps)
 
 -- ---- live
-module _ (b before : List ℕ) where
+module _ (b : List ℕ) (before : Kept) where
   abbrev s : State
-  s = state_of before
+  s = view before
 
   module _ (ws ms ks : List ℕ) where
     live-bad : is_bad_table b ≡ true → live_run b s ws ms ks ≡ kept_run 11 0 s ms ks
@@ -53,7 +54,7 @@ module _ (b before : List ℕ) where
         kept-runs (live_run b s ws ms ks) before ms ks 11 0 s (live-bad ws ms ks (sym e ∙ h)) (omega arith) (omega arith)
         (Err BadHeader) refl
 
-    pub live-runs : (ws ms ks : List ℕ) (n : ℕ) → n ≡ 10 * table_end b → t ≡ false → (a : Answer) (after us vs : List ℕ)
+    pub live-runs : (ws ms ks : List ℕ) (n : ℕ) → n ≡ 10 * table_end b → t ≡ false → (a : Answer) (after : Kept) (us vs : List ℕ)
         → GivesRunOn (table_run (take n b) s ws ms ks) before a after us vs → GivesRunOn (live_run b s ws ms ks) before a after us vs
     live-runs ws ms ks n q h a after us vs r = grind (arith, common_steps, cut-is, live-good)
 
@@ -62,16 +63,16 @@ module _ (b before : List ℕ) where
       unfolding live_tick
       live-stays h = grind (arith, common_steps, kept-advances, live-bad)
 
-      pub live-advances : (n : ℕ) → n ≡ 10 * table_end b → t ≡ false → (r : TickAnswer) (after : List ℕ)
+      pub live-advances : (n : ℕ) → n ≡ 10 * table_end b → t ≡ false → (r : TickAnswer) (after : Kept)
           → GivesTickOn (tick_outcome (table_run (take n b) s (w ∷ []) (0 ∷ []) (0 ∷ []))) before r after
           → GivesTickOn (live_tick b s w) before r after
       unfolding live_tick
       live-advances n q h r after x = grind (arith, common_steps, cut-is, live-good)
 
 -- ---- on an image
-module _ (t before : List ℕ) where
+module _ (t : List ℕ) (before : Kept) where
   abbrev state₀ : State
-  state₀ = state_of before
+  state₀ = view before
 
   module _ (ws ms ks : List ℕ) where
     image-kept : (k j : ℕ) → image_verdict t ≡ refused k j → run t state₀ ws ms ks ≡ kept_run k j state₀ ms ks
@@ -110,11 +111,11 @@ module _ (t before : List ℕ) where
     image-stays w = grind (arith, common_steps, kept-advances, image-kept, early, verdict, told)
 
   module _ (b : List ℕ) (made : MadeTable t b) where
-    pub image-runs : (ws ms ks : List ℕ) (a : Answer) (after us vs : List ℕ)
+    pub image-runs : (ws ms ks : List ℕ) (a : Answer) (after : Kept) (us vs : List ℕ)
         → GivesRunOn (table_run b state₀ ws ms ks) before a after us vs → GivesRunOn (run t state₀ ws ms ks) before a after us vs
     image-runs ws ms ks a after us vs r = grind (arith, common_steps, table_is)
 
-    pub image-advances : (w : ℕ) (r : TickAnswer) (after : List ℕ)
+    pub image-advances : (w : ℕ) (r : TickAnswer) (after : Kept)
         → GivesTickOn (tick_outcome (table_run b state₀ (w ∷ []) (0 ∷ []) (0 ∷ []))) before r after
         → GivesTickOn (image_tick t state₀ w) before r after
     unfolding image_tick

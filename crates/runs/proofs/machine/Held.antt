@@ -1,46 +1,41 @@
--- What the bytes hold after a run or a tick in place is the state that it hands back.
-use Rattle.std.proofs.Common.{if◌then◌else◌, ℕ, ◌≡◌, refl, ap, ◌∙◌, Bool, true, false, List, [], ◌∷◌, length, arith}
+-- The state that a run or a tick in place leaves stands for the one that the definition gives.
+use Rattle.std.proofs.Common.{if◌then◌else◌, ℕ, ◌≡◌, ◌==◌, refl, Bool, true, false, List, [], ◌∷◌, length, arith}
 use Rattle.std.proofs.lemmas.Grind.{common_steps}
-use Rattle.std.proofs.lemmas.Bool.{cond-false}
 use Rattle.text.specs.frames.Verdict.{Verdict, fine, refused}
 use Rattle.text.specs.frames.Answer.{reply_number, counted_reply}
 use Rattle.image.specs.Image.{Image}
-use Rattle.state.specs.declared.State.{State}
-use Rattle.state.specs.Bytes.{state_of, bytes_of}
-use Rattle.state.proofs.ResultBytes.{state-back, held-sized, held-bits, held-back}
+use Rattle.state.specs.State.{State}
+use Rattle.state.specs.declared.State.{State as Kept}
+use Rattle.state.specs.Kept.{view, stored}
+use Rattle.state.proofs.Stored.{state-back}
 use Rattle.runs.specs.Run.{MachineRun, ticks, run_on}
 use Rattle.runs.specs.TickOutcome.{TickOutcome, tick_outcome}
-use Rattle.runs.specs.InPlace.{is_without_change, bytes_after, if_ticked}
-use Rattle.ticks.proofs.Normal.{Same, tick-normal}
-use Rattle.runs.proofs.Normal.{Late, ticks-same, ticks-late}
+use Rattle.runs.specs.InPlace.{is_without_change, state_after, if_ticked}
+use Rattle.ticks.proofs.Normal.{tick-normal}
+use Rattle.runs.proofs.Normal.{Late, ticks-late}
 use Rattle.runs.proofs.RunCases.{late-writes}
 
-module _ (b : List ℕ) where
+module _ (before : Kept) where
   abbrev s : State
-  s = state_of b
+  s = view before
 
-  -- the bytes as they were, or those of the state that they hold
-  left : (t : Bool) → state_of (if t then b else bytes_of s) ≡ s
-  left true = refl
-  left false = held-back b
-
-  -- a state whose lists are as long
-  back : (t : State) → Same s t → state_of (bytes_of t) ≡ t
-  back t same = state-back t (same.sized (held-sized b)) (same.bits ∙ held-bits b)
+  -- the struct as it was, or the state that it stands for as it is stored
+  either : (t : Bool) (x y : Kept) → view x ≡ s → view y ≡ s → view (if t then x else y) ≡ s
+  either true x y p q = p
+  either false x y p q = q
 
   module _ (i : Image) (ws ms ks : List ℕ) where
     abbrev ran : MachineRun
     ran = ticks i s ws
 
     ran-held : (v : Verdict) → Late v → (n : ℕ)
-        → state_of (if is_without_change (reply_number (counted_reply v n)) then b else bytes_of ran.state) ≡ ran.state
-    ran-held fine l n = back ran.state (ticks-same i ws s)
-    ran-held (refused k j) l n =
-        ap state_of (cond-false (is_without_change k) b (bytes_of ran.state) (late-writes k l.0)) ∙ back ran.state (ticks-same i ws s)
+        → view (if is_without_change (reply_number (counted_reply v n)) then before else stored ran.state) ≡ ran.state
+    ran-held fine l n = state-back ran.state
+    ran-held (refused k j) l n = grind (arith, common_steps, late-writes, state-back)
 
-    pub run-held : (v : Verdict) → state_of (bytes_after b (run_on v (λ _. ran) s ms ks)) ≡ (run_on v (λ _. ran) s ms ks).state
-    unfolding bytes_after
-    run-held (refused k j) = left (is_without_change k)
+    pub run-held : (v : Verdict) → view (state_after before (run_on v (λ _. ran) s ms ks)) ≡ (run_on v (λ _. ran) s ms ks).state
+    unfolding state_after
+    run-held (refused k j) = either (is_without_change k) before (stored s) refl (state-back s)
     run-held fine = ran-held ran.verdict (ticks-late i ws s) (length ran.codes)
 
   -- a run of one word that is stopped hands back the state it was given
@@ -48,7 +43,7 @@ module _ (b : List ℕ) where
     abbrev one : Verdict → TickOutcome
     one v = tick_outcome (run_on v (λ _. ticks i s (w ∷ [])) s (0 ∷ []) (0 ∷ []))
 
-    pub tick-held : (v : Verdict) → state_of (if_ticked (one v) (bytes_of (one v).state) b) ≡ (one v).state
+    pub tick-held : (v : Verdict) → view (if_ticked (one v) (stored (one v).state) before) ≡ (one v).state
     unfolding ticks
-    tick-held (refused k j) = grind (arith, common_steps, held-back)
-    tick-held fine = grind (arith, common_steps, held-back, tick-normal, back)
+    tick-held (refused k j) = either (k == 0) (stored s) before (state-back s) refl
+    tick-held fine = grind (arith, common_steps, state-back, tick-normal)

@@ -1,11 +1,8 @@
 -- On the table that was prepared from an image, live runs and live ticks are the image's own, from every state.
 use Rattle.std.proofs.Common.{ℕ, ◌≡◌, ap, List, [], ◌∷◌, arith}
 use Rattle.std.proofs.lemmas.Grind.{common_steps}
-use Rattle.text.specs.frames.Verdict.{Verdict, next, when}
-use Rattle.image.specs.Image.{Image}
-use Rattle.state.specs.declared.State.{State}
-use Rattle.fitness.specs.Fitness.{is_unfit}
-use Rattle.runs.specs.Run.{has_no_room, run, run_verdict}
+use Rattle.state.specs.State.{State}
+use Rattle.runs.specs.Run.{run, run_verdict}
 use Rattle.runs.specs.TickOutcome.{tick_outcome, image_tick}
 use Rattle.runs.specs.machine.Live.{live_verdict, live_run, live_tick}
 use Rattle.runs.specs.machine.Prepared.{PreparedTable}

@@ -3,7 +3,7 @@ use Rattle.std.specs.Prelude.{ℕ, List, [], ◌∷◌}
 use Rattle.text.specs.declared.frames.refusals.TheConstants.{BAD_HEADER, UNFIT, NO_ROOM}
 use Rattle.text.specs.frames.Verdict.{Verdict, next, when}
 use Rattle.tables.specs.Table.{is_bad_table, table_image}
-use Rattle.state.specs.declared.State.{State}
+use Rattle.state.specs.State.{State}
 use Rattle.fitness.specs.Fitness.{is_unfit}
 use Rattle.runs.specs.Run.{RunOutcome, has_no_room, ticks, run_on}
 use Rattle.runs.specs.TickOutcome.{TickOutcome, tick_outcome}

@@ -5,7 +5,7 @@ use Rattle.text.specs.frames.Verdict.{fine}
 use Rattle.image.specs.Decode.{decoded_image}
 use Rattle.image.specs.Check.{image_verdict}
 use Rattle.tables.specs.Table.{is_bad_table, table_image}
-use Rattle.state.specs.declared.State.{State}
+use Rattle.state.specs.State.{State}
 use Rattle.runs.specs.Run.{run}
 use Rattle.runs.specs.TickOutcome.{image_tick}
 use Rattle.runs.specs.machine.Live.{live_run, live_tick}

@@ -1,5 +1,5 @@
 -- A bad head is refused with the first of 25, what the image or the table is refused for, and 15; so is the tick of a state of no places.
-use Rattle.std.proofs.Common.{ℕ, ◌≤◌, ◌<◌, ◌≡◌, refl, sym, ◌∙◌, ap, Bool, true, ◌||◌, List, [], ◌∷◌, le-ltb, Ok, Err, nat_lt, ◌==◌, slice_index}
+use Rattle.std.proofs.Common.{ℕ, ◌≤◌, ◌<◌, ◌≡◌, refl, sym, ◌∙◌, ap, Bool, true, ◌||◌, List, [], ◌∷◌, le-ltb, Ok, Err, nat_lt, ◌==◌}
 use Rattle.std.proofs.Common.{arith}
 use Rattle.std.proofs.lemmas.Grind.{common_steps}
 use Rattle.text.specs.frames.Verdict.{Verdict, fine, refused, next, when}
@@ -10,9 +10,7 @@ use Rattle.text.specs.declared.frames.refusals.Refusal.TheVariants.{BadHeader, U
 use Rattle.text.specs.frames.Frame.{contents}
 use Rattle.image.specs.Decode.{decoded_image}
 use Rattle.image.specs.Check.{image_verdict}
-use Rattle.state.specs.declared.State.{State}
-use Rattle.state.specs.State.{is_bad_size}
-use Rattle.state.specs.Bytes.{state_of}
+use Rattle.state.specs.State.{State, is_bad_size}
 use Rattle.fitness.specs.Fitness.{has_bad_depth, is_unfit}
 use Rattle.fitness.proofs.FitCases.{unfit-depth}
 use Rattle.runs.specs.Run.{MachineRun, run_on, run_verdict, run}
@@ -57,11 +55,10 @@ module _ (s : State) (masks codes : List ℕ) (go : Unit {0} → MachineRun) (la
   ran-unfit fine u e = ap (λ (b : Bool). (run_on (next (when 15 b) λ _. last) go s masks codes).reply) e
 
 -- a state of no places fits no image
-pub no-size : (t b : List ℕ) (w : ℕ) → slice_index b 0 ≡ 0
-    → (image_tick t (state_of b) w).reply ≡ verdict_reply (next (image_verdict t) λ _. refused 15 0) 0
-unfolding image_tick run run_verdict state_of
-no-size t b w e =
-    let s = state_of b in
+pub no-size : (t : List ℕ) (s : State) (w : ℕ) → s.size ≡ 0
+    → (image_tick t s w).reply ≡ verdict_reply (next (image_verdict t) λ _. refused 15 0) 0
+unfolding image_tick run run_verdict
+no-size t s w e =
     let bad : has_bad_depth s ≡ true = ap (λ (n : ℕ). is_bad_size n || s.depth == 0 || nat_lt n s.depth) e in
     ran-unfit s (0 ∷ []) (0 ∷ []) _ _ (image_verdict t) (is_unfit (decoded_image (contents t)) s)
     (sym (unfit-depth (decoded_image (contents t)) s bad))

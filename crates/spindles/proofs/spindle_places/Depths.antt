@@ -6,8 +6,7 @@ use Rattle.results.specs.Results.{Results}
 use Rattle.image.specs.Image.{Image}
 use Rattle.image.specs.inner.Sound.{SoundImage}
 use Rattle.rows.specs.Rows.{Found, found, missing}
-use Rattle.state.specs.declared.State.{State}
-use Rattle.state.specs.State.{label_at, place_at}
+use Rattle.state.specs.State.{State, label_at, place_at}
 use Rattle.ticks.specs.Tick.{MachineTick, finished, stopped, moved_tick, full_tick, pushed_tick, popped_tick, tick}
 use Rattle.spindles.specs.Spindles.{state_at, depths}
 use Rattle.spindles.specs.spindle_places.PlacesBalance.{places_called, places_returned, places_given_back}

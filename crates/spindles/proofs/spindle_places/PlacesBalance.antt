@@ -1,6 +1,6 @@
 -- After every list of calls the depths sum to 4 and the finished calls, less the returns above depth 1 and what drops gave back, and do
 -- not pass 64.
-use Rattle.std.proofs.Common.{if◌then◌else◌, ℕ, zero, suc, ◌+◌, ◌-◌, ◌≤◌, ◌<◌, Bool, true, false, ◌≡◌, refl, subst, List, [], ◌∷◌, length}
+use Rattle.std.proofs.Common.{ℕ, zero, suc, ◌+◌, ◌-◌, ◌≤◌, ◌<◌, false, ◌≡◌, refl, subst, List, [], ◌∷◌, length}
 use Rattle.std.proofs.Common.{set, length-set, get_or-set_other, arith}
 use Rattle.std.proofs.lemmas.Grind.{common_steps}
 use Rattle.text.specs.frames.Frame.{contents}
@@ -9,9 +9,8 @@ use Rattle.image.specs.Decode.{decoded_image}
 use Rattle.image.specs.Check.{image_verdict}
 use Rattle.image.specs.inner.Sound.{SoundImage}
 use Rattle.image.proofs.Accepted.{image-sound}
-use Rattle.state.specs.declared.State.{State}
-use Rattle.state.specs.State.{place_at, Sized}
-use Rattle.state.proofs.ResultBytes.{fresh-sized}
+use Rattle.state.specs.State.{State, place_at, Sized}
+use Rattle.state.proofs.Stored.{fresh-sized}
 use Rattle.fitness.proofs.Fitness.{Fits, unfits}
 use Rattle.ticks.specs.Tick.{finished}
 use Rattle.ticks.proofs.Keeps.{Keeps, tick-keeps}

@@ -3,8 +3,9 @@ use Rattle.std.specs.Prelude.{ℕ, ◌+◌, ◌-◌, Bool, ◌||◌, not, ◌≡
 use Rattle.text.specs.declared.frames.refusals.TheConstants.{UNFIT, NO_SPINDLE, NO_PLACE}
 use Rattle.text.specs.frames.Verdict.{Verdict, fine, refused, next, when}
 use Rattle.text.specs.frames.Answer.{Reply, refusal, reply_number, verdict_reply}
-use Rattle.state.specs.declared.State.{State}
-use Rattle.state.specs.Bytes.{bytes_of}
+use Rattle.state.specs.State.{State}
+use Rattle.state.specs.Kept.{stored}
+use Rattle.state.specs.declared.State.{State as Kept}
 use Rattle.runs.specs.TickOutcome.{TickOutcome, tick_reply, answered_mask, answered_code}
 use Rattle.spindles.specs.declared.layout.TheConstants.{SPINDLES, STORE}
 use Rattle.spindles.specs.declared.SpinReport.{SpinReport}
@@ -56,20 +57,13 @@ turn_on fine s taken x = turn_by s taken x
 unfoldable pub turn : Verdict → State → ℕ → ℕ → TickOutcome → TurnOutcome
 turn v s sum taken x = turn_on (next v λ _. when UNFIT (is_bad_record sum taken)) s taken x
 
--- what a function promises that makes a turn of a state, and of the bytes of one
-pub record GivesTurn (x : TurnOutcome) (r : SpinReport) (after : State) : Type 0 where
+-- what a function promises that makes a turn of a state: a refused one leaves it as it was
+pub record GivesTurn (x : TurnOutcome) (before : Kept) (r : SpinReport) (after : Kept) : Type 0 where
   pub answered : tick_reply r.answer ≡ x.reply
   pub mask : answered_mask r.answer ≡ x.mask
   pub code : answered_code r.answer ≡ x.code
   pub taken : r.taken ≡ x.taken
-  pub state : after ≡ x.state
-
-pub record GivesTurnOn (x : TurnOutcome) (before : List ℕ) (r : SpinReport) (after : List ℕ) : Type 0 where
-  pub answered : tick_reply r.answer ≡ x.reply
-  pub mask : answered_mask r.answer ≡ x.mask
-  pub code : answered_code r.answer ≡ x.code
-  pub taken : r.taken ≡ x.taken
-  pub bytes : after ≡ (if reply_number x.reply == 0 then bytes_of x.state else before)
+  pub state : after ≡ (if reply_number x.reply == 0 then stored x.state else before)
 
 -- ---- the two parts of a call
 abbrev pub depth_at : List State → ℕ → ℕ

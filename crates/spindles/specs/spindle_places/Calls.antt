@@ -1,7 +1,6 @@
 -- Lists of calls of four spindles, each given what the last one left; a spindle's numbers may be rebound between them.
 use Rattle.std.specs.Prelude.{ℕ, List, [], ◌∷◌, set}
-use Rattle.state.specs.declared.State.{State}
-use Rattle.state.specs.State.{fresh}
+use Rattle.state.specs.State.{State, fresh}
 use Rattle.rebinding.specs.Rebind.{rebind}
 use Rattle.spindles.specs.Spindles.{state_at, SpinOutcome, spin}
 

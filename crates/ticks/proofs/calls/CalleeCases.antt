@@ -6,8 +6,7 @@ use Rattle.image.specs.Decode.{scheme_count}
 use Rattle.tables.specs.Table.{table_image}
 use Rattle.tables.specs.inner.Asked.{Whole, entry_of}
 use Rattle.tables.proofs.TableReads.{entries-count, entry-at}
-use Rattle.state.specs.declared.State.{State}
-use Rattle.state.specs.State.{entry_at}
+use Rattle.state.specs.State.{State, entry_at}
 use Rattle.ticks.specs.calls.inner.Callees.{IsCallee}
 
 -- ---- the entry of the scheme that serves

@@ -1,10 +1,8 @@
 -- Codes and ticks turn into each other with nothing lost.
-use Rattle.std.proofs.Common.{if◌then◌else◌, ◌≡◌, refl, sym, ◌∙◌, ap, Bool, true, false, ℕ, zero, suc, ◌-◌, arith, leb-true}
+use Rattle.std.proofs.Common.{◌≡◌, refl, sym, ◌∙◌, ap, ℕ, zero, suc, arith}
 use Rattle.std.proofs.lemmas.Grind.{common_steps}
-use Rattle.words.proofs.lists.Tests.{and-l}
-use Rattle.ticks.specs.declared.codes.Meaning.{Meaning}
-use Rattle.ticks.specs.declared.codes.Meaning.TheVariants.{OperationCall, FunctionCall, Unknown}
-use Rattle.ticks.specs.codes.Codes.{is_call_above, meaning_of}
+use Rattle.ticks.specs.declared.codes.Meaning.TheVariants.{Unknown}
+use Rattle.ticks.specs.codes.Codes.{meaning_of}
 use Rattle.ticks.specs.codes.CodesApart.{CodeMeans, CodesApart, DropMeans, DropApart, KindBack, Coded}
 
 pub code-means : CodeMeans

@@ -9,10 +9,10 @@ use Rattle.tables.specs.Table.{table_label, table_image}
 use Rattle.tables.specs.inner.Asked.{entry_of}
 use Rattle.tables.specs.inner.Labels.{as_label}
 use Rattle.tables.proofs.TableReads.{handler-at, handler-inside, label-at, entry-at}
-use Rattle.state.specs.declared.State.{State}
-use Rattle.state.specs.State.{entry_at, place_at, number_at}
+use Rattle.state.specs.State.{State, entry_at, place_at, number_at}
 use Rattle.state.specs.Changes.{with_alone, state_after_result}
-use Rattle.state.specs.Bytes.{state_of}
+use Rattle.state.specs.declared.State.{State as Kept}
+use Rattle.state.specs.Kept.{view}
 use Rattle.ticks.specs.Tick.{is_full_stack_kept, finished, stopped, state_alone, top_of}
 use Rattle.ticks.specs.inner.TickContracts.{TopFull, GivesTickEnd}
 use Rattle.ticks.proofs.TickCases.{steps-stopped, steps-ticked, tick-full}
@@ -38,10 +38,10 @@ module _ (b : List ℕ) (s : State) (h : ℕ) (is : h ≡ handler_in b) where
         kept = rw (ne_eqb h 0 some, ne_eqb l 1 n)
 
 -- ---- what the call answers and leaves, with t for whether the stack is kept
-module _ (b before : List ℕ) (w : ℕ) (y : TopFull b (state_of before)) (t : Bool)
-    (e : t ≡ is_full_stack_kept (table_image b) (state_of before)) where
+module _ (b : List ℕ) (before : Kept) (w : ℕ) (y : TopFull b (view before)) (t : Bool)
+    (e : t ≡ is_full_stack_kept (table_image b) (view before)) where
   abbrev s : State
-  s = state_of before
+  s = view before
 
   abbrev i : Image
   i = table_image b
@@ -61,11 +61,11 @@ module _ (b before : List ℕ) (w : ℕ) (y : TopFull b (state_of before)) (t : 
   -- l is the top, z what was read of it, k its number, h the handler and n its entry; then the bytes after each write
   pub full-drops : t ≡ false → (l : ℕ) → l ≡ top_of s → (z : declared.Label) → as_label z ≡ table_label b l
       → (k : ℕ) → k ≡ number_at s (s.depth - 1) → (h : ℕ) → h ≡ handler_in b → (n : ℕ) → n ≡ entry_of b h
-      → (first second bytes : List ℕ) → state_of first ≡ state_after_result s z.result k
-      → state_of second ≡ state_after_result (state_of first) 1 h
-      → state_of bytes ≡ with_alone (state_of second) n h
-      → GivesTickEnd b before w (record { number = 0; mask = z.mask; code = 96 }) bytes
-  full-drops q l at z read k called h is n p first second bytes e₁ e₂ e₃ =
+      → (first second after : Kept) → view first ≡ state_after_result s z.result k
+      → view second ≡ state_after_result (view first) 1 h
+      → view after ≡ with_alone (view second) n h
+      → GivesTickEnd b before w (record { number = 0; mask = z.mask; code = 96 }) after
+  full-drops q l at z read k called h is n p first second after e₁ e₂ e₃ =
       let same : as_label z ≡ caller = read ∙ ap (table_label b) at in
       let r : z.result ≡ caller.result = ap (λ (u : Label). u.result) same in
       let m : z.mask ≡ caller.mask = ap (λ (u : Label). u.mask) same in
@@ -73,11 +73,11 @@ module _ (b before : List ℕ) (w : ℕ) (y : TopFull b (state_of before)) (t : 
       let entry : n ≡ entry_at i i.handler =
       p ∙ ap (entry_of b) is ∙ sym (entry-at b y.calls.stands.whole.counts (handler_in b) (handler-inside b y.calls.stands.whole))
       ∙ ap (entry_at i) (sym (handler-at b)) in
-      let left : state_of bytes ≡ dropped =
-      e₃ ∙ ap₂ (with_alone (state_of second)) entry g
+      let left : view after ≡ dropped =
+      e₃ ∙ ap₂ (with_alone (view second)) entry g
       ∙ ap (λ (u : State). with_alone u (entry_at i i.handler) i.handler)
       (e₂ ∙ ap₂ (λ (u : State) (j : ℕ). state_after_result u 1 j) (e₁ ∙ ap₂ (state_after_result s) r called) g) in
       rw m
-      (steps-ticked b before w caller.mask 96 dropped bytes
+      (steps-ticked b before w caller.mask 96 dropped after
       (tick-full b s y.calls.stands w y.calls.low y.calls.high y.full
       ∙ cond-false (is_full_stack_kept i s) (stopped 17) (finished caller.mask 96 dropped) (sym e ∙ q)) left)

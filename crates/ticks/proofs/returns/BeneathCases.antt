@@ -1,15 +1,13 @@
 -- Where the label beneath a return leads.
 use Rattle.std.proofs.Common.{◌≡◌, refl, sym, ◌∙◌, ap, List, ℕ, ◌-◌, ◌<◌, arith}
 use Rattle.std.proofs.lemmas.Grind.{common_steps}
-use Rattle.image.specs.Image.{Label}
 use Rattle.image.specs.Decode.{last_label}
 use Rattle.tables.specs.Table.{table_label, table_image}
 use Rattle.tables.specs.inner.Labels.{as_label, NumberedLabel}
 use Rattle.tables.proofs.TableReads.{label-at}
 use Rattle.rows.specs.Rows.{Choice, no_choice, best_row, lead_of, next_of}
 use Rattle.rows.proofs.TableRows.{row-none, row-above, any-row}
-use Rattle.state.specs.declared.State.{State}
-use Rattle.state.specs.State.{place_at}
+use Rattle.state.specs.State.{State, place_at}
 use Rattle.ticks.specs.Tick.{called_bit, choice}
 use Rattle.ticks.specs.inner.TickContracts.{beneath, bit_of}
 use Rattle.ticks.proofs.RowCases.{bit-called}

@@ -1,4 +1,4 @@
--- What the functions of a tick on a prepared table and on the bytes of a state ask and promise.
+-- What the functions of a tick on a prepared table and on a state that is kept ask and promise.
 use Rattle.std.specs.Prelude.{ℕ, ◌-◌, ◌≤◌, false, ◌≡◌, List, if◌then◌else◌, ◌==◌}
 use Rattle.results.specs.Results.{Results, result_of}
 use Rattle.image.specs.declared.layout.TheConstants.{NO_BIT, PLAIN, OPERATION_CALL, FUNCTION_CALL}
@@ -8,13 +8,13 @@ use Rattle.tables.specs.Table.{table_label, table_image}
 use Rattle.tables.specs.inner.Asked.{Whole}
 use Rattle.tables.specs.inner.Labels.{NumberedLabel}
 use Rattle.rows.specs.Rows.{Found}
-use Rattle.state.specs.declared.State.{State}
-use Rattle.state.specs.State.{place_at}
-use Rattle.state.specs.Bytes.{state_of}
+use Rattle.state.specs.State.{State, place_at}
+use Rattle.state.specs.Kept.{view}
 use Rattle.fitness.specs.Fitness.{has_bad_depth}
 use Rattle.ticks.specs.declared.TickEnd.{TickEnd}
 use Rattle.ticks.specs.Tick.{top_of, row_leads, MachineTick, finished, stopped, tick}
 use Rattle.ticks.specs.declared.TickMove.{TickMove}
+use Rattle.state.specs.declared.State.{State as Kept}
 
 -- a table that stands alone, and a depth of 1 to Σ: all that a tick asks
 pub record TickAsked (b : List ℕ) (s : State) : Type 0 where
@@ -82,13 +82,13 @@ abbrev pub end_of_tick : MachineTick → TickEnd
 end_of_tick (finished m k t) = record { number = 0; mask = m; code = k }
 end_of_tick (stopped n) = record { number = n; mask = 0; code = 0 }
 
--- what a tick by the word w answers and leaves in the bytes; one that is stopped leaves them as they were
-pub record GivesTickEnd (b before : List ℕ) (w : ℕ) (r : TickEnd) (bytes : List ℕ) : Type 0 where
-  pub step : r ≡ end_of_tick (tick (table_image b) (state_of before) w)
-  pub state : state_of bytes ≡ state_after_tick (state_of before) (tick (table_image b) (state_of before) w)
-  pub kept : (r.number ≡ 0 → ⊥) → bytes ≡ before
+-- what a tick by the word w answers and the state that it leaves; one that is stopped leaves it as it was
+pub record GivesTickEnd (b : List ℕ) (before : Kept) (w : ℕ) (r : TickEnd) (after : Kept) : Type 0 where
+  pub step : r ≡ end_of_tick (tick (table_image b) (view before) w)
+  pub state : view after ≡ state_after_tick (view before) (tick (table_image b) (view before) w)
+  pub kept : (r.number ≡ 0 → ⊥) → after ≡ before
 
 -- the same, and the label at the top after it
-pub record GivesTickMove (b before : List ℕ) (w : ℕ) (r : TickMove) (bytes : List ℕ) : Type 0 where
-  pub steps : GivesTickEnd b before w r.step bytes
-  pub label : r.label ≡ top_of (state_of bytes)
+pub record GivesTickMove (b : List ℕ) (before : Kept) (w : ℕ) (r : TickMove) (after : Kept) : Type 0 where
+  pub steps : GivesTickEnd b before w r.step after
+  pub label : r.label ≡ top_of (view after)

@@ -1,12 +1,31 @@
--- `cause::explaining::cause_of` meets its contract: the cause over the bytes of the state.
-use Rattle.std.proofs.Common.{◌≡◌, length, rules}
-use Rattle.state.specs.State.{Sized}
-use Rattle.cause.proofs.explaining.EntryCases.{value-told}
+-- `cause::explaining::cause_of` meets its contract: the image is refused, or the cause is that on its table.
+use Rattle.std.proofs.Common.{arith}
+use Rattle.tables.proofs.Made.{image-made}
+use Rattle.cause.proofs.explaining.EntryCases.{image-ordered, image-untold, image-told}
+use Rattle.std.proofs.lemmas.Result.{err_from_is_err_and}
 use Rattle.cause.proofs.explaining.cause_of.Goals as goal
+
+pub returns-in_err-prepare_table : goal.returns-in_err-prepare_table
+returns-in_err-prepare_table c =
+    let p = err_from_is_err_and c.from_residual.result c.from_residual.ensures.1 in
+    rw (p.1, p.2) (image-untold _ _ _ _ c.prepare_table.ensures.answered _ c.in_err-prepare_table.was)
+
+pub slice_bounds-table-end : goal.slice_bounds-table-end
+slice_bounds-table-end c =
+    let made = image-made _ _ _ _ c.prepare_table.ensures _ c.in_ok-prepare_table.was in
+    omega (arith, made.few, c.prepare_table.auto.table)
+
+pub slice_bounds-cause_table-end : goal.slice_bounds-cause_table-end
+slice_bounds-cause_table-end c =
+    let made = image-made _ _ _ _ c.prepare_table.ensures _ c.in_ok-prepare_table.was in
+    made.long
+
+pub cause_table-requires : goal.cause_table-requires
+cause_table-requires c =
+    let made = image-made _ _ _ _ c.prepare_table.ensures _ c.in_ok-prepare_table.was in
+    image-ordered _ _ made
 
 pub returns : goal.returns
 returns c =
-    let all-bits : length c.args.state.bits ≡ 16 = search rules in
-    let sized : Sized c.args.state =
-    record { places = search rules; serving = search rules; numbers = search rules; servers = search rules } in
-    value-told _ _ _ sized all-bits _ c.bytes_of-bytes.ensures _ c.cause_bytes.ensures
+    let made = image-made _ _ _ _ c.prepare_table.ensures _ c.in_ok-prepare_table.was in
+    image-told _ _ _ _ made _ c.cause_table.ensures

@@ -5,7 +5,7 @@ use Rattle.tables.specs.Table.{first_on, rows_on}
 use Rattle.rows.specs.Rows.{best_row}
 use Rattle.rows.specs.inner.Search.{found_at, Deciding}
 use Rattle.rows.proofs.SearchCases.{end-within, chosen-found}
-use Rattle.state.specs.Bytes.{state_of}
+use Rattle.state.specs.Kept.{view}
 use Rattle.ticks.proofs.RowCases.{bit-decides}
 use Rattle.cause.proofs.table_causes.TableConditions.{rows-kept}
 use Rattle.cause.proofs.table_causes.CauseCases.{RowNumbers, none-told, numbers, row-told}
@@ -13,7 +13,7 @@ use Rattle.cause.proofs.table_causes.cause_at.Goals as goal
 
 pub returns-then-table-f : goal.returns-then-table-f
 returns-then-table-f c =
-    let bits : Results = (state_of c.args.bytes.now).bits in
+    let bits : Results = (view c.args.state.now).bits in
     let found : let asked = c.args in let b = asked.table.now in
     found_at b asked.l c.find_row-f.result ≡ best_row asked.l asked.word c.bit_of-bit.result (first_on b asked.l) (rows_on b asked.l) =
     chosen-found _ _ _ _ c.requires.label (λ k. omega (arith, c.type_inv.table k)) _ c.find_row-f.ensures in
@@ -31,7 +31,7 @@ against_rows-others-requires c =
 
 pub overflow_sub-row : goal.overflow_sub-row
 overflow_sub-row c =
-    let bits : Results = (state_of c.args.bytes.now).bits in
+    let bits : Results = (view c.args.state.now).bits in
     let found : let asked = c.args in let b = asked.table.now in
     found_at b asked.l c.find_row-f.result ≡ best_row asked.l asked.word c.bit_of-bit.result (first_on b asked.l) (rows_on b asked.l) =
     chosen-found _ _ _ _ c.requires.label (λ k. omega (arith, c.type_inv.table k)) _ c.find_row-f.ensures in
@@ -42,7 +42,7 @@ overflow_sub-row c =
 
 pub returns : goal.returns
 returns c =
-    let bits : Results = (state_of c.args.bytes.now).bits in
+    let bits : Results = (view c.args.state.now).bits in
     let decides : Deciding c.args.table.now c.args.l c.bit_of-bit.result =
     bit-decides _ _ _ c.label_read-read.ensures bits _ _ c.bit_of-bit.ensures c.requires.label in
     let found : let asked = c.args in let b = asked.table.now in

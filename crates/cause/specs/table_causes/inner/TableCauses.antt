@@ -8,7 +8,7 @@ use Rattle.image.specs.inner.Sound.{SoundImage}
 use Rattle.tables.specs.Table.{first_on, rows_on, table_image}
 use Rattle.tables.specs.inner.Asked.{Whole}
 use Rattle.tables.specs.inner.Labels.{NumberedLabel}
-use Rattle.state.specs.declared.State.{State}
+use Rattle.state.specs.State.{State}
 use Rattle.fitness.specs.Fitness.{is_unfit}
 use Rattle.cause.specs.Cause.{Leaving, leaves_label, nothing, cause_of, CauseOutcome, cause_on}
 

@@ -2,7 +2,7 @@
 use Rattle.std.specs.Prelude.{ℕ, ◌+◌, ◌≤◌, if◌then◌else◌, ◌==◌}
 use Rattle.text.specs.declared.frames.refusals.TheConstants.{FULL, NO_ROW}
 use Rattle.image.specs.Image.{Image}
-use Rattle.state.specs.declared.State.{State}
+use Rattle.state.specs.State.{State}
 use Rattle.fillings.specs.Counts.{count_meeting}
 use Rattle.fillings.specs.declared.fill_counts.Tally.{Tally}
 

@@ -3,10 +3,10 @@ use Rattle.prices.proofs.priced_runs.EntryCases.{many-before, many-itself}
 use Rattle.std.proofs.lemmas.Result.{err_from_is_err_and}
 use Rattle.prices.proofs.priced_runs.refuse_many.Goals as goal
 
-pub returns-in_err-run_bytes : goal.returns-in_err-run_bytes
-returns-in_err-run_bytes c =
+pub returns-in_err-run : goal.returns-in_err-run
+returns-in_err-run c =
     let p = err_from_is_err_and c.from_residual.result c.from_residual.ensures.1 in
-    rw (p.1, p.2) (many-before _ _ _ _ _ c.run_bytes.ensures.answered _ c.in_err-run_bytes.was)
+    rw (p.1, p.2) (many-before _ _ _ _ _ c.run.ensures.answered _ c.in_err-run.was)
 
 pub returns : goal.returns
-returns c = many-itself _ _ _ _ _ c.run_bytes.ensures.answered _ c.in_ok-run_bytes.was
+returns c = many-itself _ _ _ _ _ c.run.ensures.answered _ c.in_ok-run.was

@@ -1,5 +1,5 @@
 -- `rebinding::in_place::rebind_table` meets its contract:
--- the state is unfit, the rebinding is refused, or the byte of the number is written.
+-- the state is unfit, the rebinding is refused, or the server of the number is written.
 use Rattle.rebinding.proofs.RebindCases.{unfit-rebinds, bad-rebinds, done-rebinds}
 use Rattle.rebinding.proofs.in_place.rebind_table.Goals as goal
 
@@ -13,4 +13,4 @@ returns-then-bad_rebinding c =
 pub returns : goal.returns
 returns c =
     done-rebinds _ _ _ _ _ c.is_unfit.ensures c.if-is_unfit.false _ c.bad_rebinding.ensures c.if-bad_rebinding.false _ _
-    c.put_serving.ensures c.tidy_results.ensures
+    c.put_serving.ensures c.tidy.ensures

@@ -1,13 +1,9 @@
-use Rattle.std.proofs.Common.{ℕ, ◌-◌, ◌∙◌, ap, arith}
-use Rattle.state.specs.State.{place_at}
-use Rattle.state.specs.Bytes.{state_of}
+use Rattle.std.proofs.Common.{refl, arith}
 use Rattle.runs.proofs.TurnCases.{turn-start, turn_on, turn-stood, turn-over}
 use Rattle.runs.proofs.runs.tick_all.Goals as goal
 
 pub loop-i-init : goal.loop-i-init
-loop-i-init c =
-    turn-start _ _ _ _ _ _ c.requires.stands
-    (c.place_of-label.ensures ∙ ap (λ (n : ℕ). place_at (state_of c.args.bytes.now) (n - 1)) c.depth_of.ensures)
+loop-i-init c = turn-start _ _ _ _ _ _ c.requires.stands refl
 
 pub returns-then-number-ne0 : goal.returns-then-number-ne0
 returns-then-number-ne0 c =

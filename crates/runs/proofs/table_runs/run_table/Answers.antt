@@ -22,17 +22,17 @@ pub returns-then-ended-eq0 : goal.returns-then-ended-eq0
 returns-then-ended-eq0 c =
     ran-answer _ _ _ _ _ _ c.is_unfit.ensures c.if-is_unfit.false _ c.no_room.ensures
     c.if-no_room.false c.tick_all-ended.result _ _ _ _
-    c.tick_all-ended.ensures c.tidy_results.ensures _
+    c.tick_all-ended.ensures c.tidy.ensures _
     (done-replied _ _ c.if-ended-eq0.true)
 
 pub stop_after-requires : goal.stop_after-requires
 stop_after-requires c =
     stops-late _ _ _ _ _ _ c.is_unfit.ensures c.if-is_unfit.false _ c.no_room.ensures
-    c.if-no_room.false c.tick_all-ended.result _ _ _ _ c.tick_all-ended.ensures c.tidy_results.ensures c.if-ended-eq0.false
+    c.if-no_room.false c.tick_all-ended.result _ _ _ _ c.tick_all-ended.ensures c.tidy.ensures c.if-ended-eq0.false
 
 pub returns : goal.returns
 returns c =
     ran-answer _ _ _ _ _ _ c.is_unfit.ensures c.if-is_unfit.false _ c.no_room.ensures
     c.if-no_room.false c.tick_all-ended.result _ _ _ _
-    c.tick_all-ended.ensures c.tidy_results.ensures _
+    c.tick_all-ended.ensures c.tidy.ensures _
     (c.stop_after.ensures ∙ stopped-replied _ _ c.if-ended-eq0.false)

@@ -19,4 +19,4 @@ returns-then-done-ne0 c =
 pub returns : goal.returns
 returns c =
     tick-finished _ _ _ _ c.is_unfit.ensures c.if-is_unfit.false _ _ c.tick_word-done.ensures c.if-done-ne0.false _
-    c.tidy_results.ensures
+    c.tidy.ensures

@@ -1,6 +1,5 @@
-use Rattle.std.proofs.Common.{ℕ, ◌-◌, ◌∙◌, ap, arith}
-use Rattle.state.specs.State.{number_at}
-use Rattle.state.specs.Bytes.{state_of}
+use Rattle.std.proofs.Common.{◌≡◌, refl, ap, ◌-◌, length, arith, rules}
+use Rattle.state.specs.State.{State}
 use Rattle.ticks.proofs.TickCases.{depth-some, depth-most, size-most}
 use Rattle.ticks.proofs.stepping.StepCases.{plain-stop, plain-steps}
 use Rattle.ticks.proofs.stepping.tick_plain.Goals as goal
@@ -13,7 +12,8 @@ returns-then-next-ge-NO_LABEL c =
 pub returns : goal.returns
 returns c =
     let y = c.requires.top_plain.stands in
+    let long : length c.args.state.now.places ≡ 32 = search rules in
+    let top : c.put_result.new.self.depth - 1 ≡ c.args.state.now.depth - 1 = ap (λ (u : State). u.depth - 1) c.put_result.ensures in
     plain-steps _ _ _ c.requires.top_plain _ c.requires.l_value _ c.next_free-next.ensures (omega arith)
-    _ (ap (λ (n : ℕ). n - 1) c.depth_of.ensures) (omega (arith, depth-some y, depth-most y, size-most y)) _ c.label_read-label.ensures
-    _ (c.number_of-number.ensures ∙ ap (λ (n : ℕ). number_at (state_of c.args.bytes.now) (n - 1)) c.depth_of.ensures)
-    _ _ c.put_result.ensures c.put_place.ensures
+    _ top (omega (arith, top, long, depth-some y, depth-most y, size-most y)) _
+    c.label_read-label.ensures _ refl _ _ c.put_result.ensures c.put_place.ensures

@@ -2,8 +2,7 @@
 use Rattle.std.specs.Prelude.{ℕ, ◌≡◌, List}
 use Rattle.bindings.specs.Binding.{server_of}
 use Rattle.tables.specs.Table.{table_image}
-use Rattle.state.specs.declared.State.{State}
-use Rattle.state.specs.State.{entry_at}
+use Rattle.state.specs.State.{State, entry_at}
 use Rattle.ticks.specs.declared.calls.Callee.{Callee}
 
 -- r is the callee of a call of number h

@@ -1,2 +1,0 @@
-pub mod FourStates
-pub mod inner
