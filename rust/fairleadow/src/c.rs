@@ -82,10 +82,10 @@ pub type Tick =
 /// A rebinding: an image or a table, the state, the number, the scheme, index and count.
 pub type Rebind = unsafe extern "C" fn(*const u8, u64, *mut State, u64, u64, *mut u64, *mut u64) -> u32;
 
-/// The tick of a spindle: the states, how many bytes they have, the record of places taken, the spindle's number, an image or a table,
-/// the word, mask, code, index and count. The header has how many states there are, the archive how many bytes.
+/// The tick of a spindle: the states, how many there are, the record of places taken, the spindle's number, an image or a table, the word,
+/// mask, code, index and count.
 pub type Spin = unsafe extern "C" fn(
-    *mut u8,
+    *mut State,
     u64,
     *mut u64,
     u64,
@@ -98,7 +98,7 @@ pub type Spin = unsafe extern "C" fn(
     *mut u64,
 ) -> u32;
 
-extern "C" {
+unsafe extern "C" {
     pub fn fairleadow_read_chart(
         text: *const u8,
         text_len: u64,
@@ -189,8 +189,8 @@ extern "C" {
         count: *mut u64,
     ) -> u32;
     pub fn fairleadow_spin(
-        states: *mut u8,
-        states_bytes: u64,
+        states: *mut State,
+        states_len: u64,
         taken: *mut u64,
         spindle: u64,
         image: *const u8,
@@ -293,8 +293,8 @@ extern "C" {
         count: *mut u64,
     ) -> u32;
     pub fn fairleadow_live_spin(
-        states: *mut u8,
-        states_bytes: u64,
+        states: *mut State,
+        states_len: u64,
         taken: *mut u64,
         spindle: u64,
         table: *const u8,

@@ -1,6 +1,6 @@
 //! What every code stands for, in the proved library and in the reference.
 
-use fairleadow::{c, Library, Meaning, Proved};
+use proved::{c, Library, Meaning, Proved};
 use reference::Reference;
 
 #[test]
@@ -27,6 +27,7 @@ fn numbers(meaning: Meaning) -> (u8, u8) {
 fn c_is_told_the_kind_and_the_scheme_called() {
     for code in 0..=255 {
         let mut called = 77;
+        // SAFETY: all that the call is handed lives here and is lent to it alone.
         let kind = unsafe { c::fairleadow_meaning(code, &mut called) } as u8;
         assert_eq!((kind, called), numbers(Reference.meaning(code)), "code {code:02X}");
     }

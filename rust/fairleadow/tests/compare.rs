@@ -1,7 +1,7 @@
 //! The proved library against the reference. FAIRLEADOW_SEED and FAIRLEADOW_CASES choose the inputs.
 
-use fairleadow::Proved;
-use reference::compare::compare;
+use comparison::compare::compare;
+use proved::Proved;
 
 const SEED: u64 = 1;
 const CASES: u64 = 400_000;

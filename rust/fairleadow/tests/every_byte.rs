@@ -4,10 +4,11 @@
 use std::fs;
 use std::path::Path;
 
-use fairleadow::{Library, Proved};
+use comparison::samples;
+use proved::{Library, Proved};
 use reference::entry::{self, translated};
 use reference::frames::{text_of, Frame, CHARACTERS, IMAGE_TEXT};
-use reference::{fresh_state, samples};
+use reference::fresh_state;
 
 /// The words of the run that each damaged image is tried with.
 const WORDS: [u16; 6] = [0, 0, 1, 0xFFFF, 0, 2];

@@ -3,12 +3,12 @@
 
 use std::time::Instant;
 
-use fairleadow::{c, Library, Proved};
+use comparison::samples::{chart_p, with_handler};
+use proved::{c, Library, Proved};
 use reference::check::chart_of;
 use reference::entry::translated;
 use reference::fillings::walked;
 use reference::frames::{text_of, Frame};
-use reference::samples::{chart_p, with_handler};
 use reference::{FillingsReport, Reference};
 
 /// Number, index and count, and the three counts, which are filled before.
@@ -17,6 +17,7 @@ type Told = ((u8, u64, u64), [u32; 3]);
 fn counted(image: &[u8], size: u64, ticks: u64, conditions: u64) -> Told {
     let (mut index, mut count, mut counts) = (9, 9, [u32::MAX; 3]);
     let [ended, full, unmatched] = &mut counts;
+    // SAFETY: all that the call is handed lives here and is lent to it alone.
     let number = unsafe {
         c::fairleadow_count_fillings(
             image.as_ptr(),

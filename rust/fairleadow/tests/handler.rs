@@ -1,10 +1,10 @@
 //! The scheme for a full stack, by the proved library: what a drop leaves in the state of C, and what marks that are refused
 //! leave in the buffers.
 
-use fairleadow::{Answer, Library, Proved, State, IMAGE_TEXT, TABLE};
+use comparison::samples::with_handler;
+use proved::{Answer, Library, Proved, State, IMAGE_TEXT, TABLE};
 use reference::entry::image_from_text;
 use reference::frames::{text_of, Frame};
-use reference::samples::with_handler;
 
 fn image() -> Vec<u8> {
     let mut image = vec![0; IMAGE_TEXT];

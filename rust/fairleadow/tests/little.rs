@@ -1,7 +1,7 @@
 //! Every little chart that the library has: they are those of the reference, and translated and run they make the ticks of the walk.
 
-use fairleadow::{Library, Proved, LITTLE_TEXT};
-use reference::compare::{run_little_charts, Tried};
+use comparison::compare::{run_little_charts, Tried};
+use proved::{Library, Proved, LITTLE_TEXT};
 use reference::little::texts;
 use reference::Reference;
 
@@ -28,6 +28,6 @@ fn each_number_of_each_count_is_fetched_as_by_the_reference() {
 
 #[test]
 fn every_little_chart_makes_the_ticks_of_its_walk() {
-    let lists = [2 * 3 << 4, 18 * 3 << 5, 648 * 3 << 6];
+    let lists = [(2 * 3) << 4, (18 * 3) << 5, (648 * 3) << 6];
     assert_eq!(run_little_charts(&Proved), Ok(Tried { charts: [2, 18, 648], lists }));
 }

@@ -1,12 +1,13 @@
 //! Live calls of the proved library: on prepared tables they are runs, ticks, rebindings and ticks of spindles, and each byte of chart P's
 //! table at each of its values, with a handler and without, is answered for as the reference does.
 
-use fairleadow::{Library, Proved};
-use reference::compare::live_alike;
+use comparison::compare::live_alike;
+use comparison::samples;
+use proved::{Library, Proved};
 use reference::entry::translated;
 use reference::frames::text_of;
 use reference::live::Held;
-use reference::{fresh_state, samples, Reference, State};
+use reference::{fresh_state, Reference, State};
 
 /// The words that each table is run with: those of the bench sheet and a few more.
 const WORDS: [u16; 14] = [0, 0, 1, 0, 0, 0, 0, 0, 0xFFFF, 1, 0x8000, 1, 1, 2];

@@ -1,16 +1,17 @@
 //! The 130 bytes by which C keeps a state, through live runs and live ticks, and the buffer of a table.
 
-use fairleadow::c;
-use fairleadow::{IMAGE_TEXT, TABLE};
+use comparison::samples::{chart_p, largest_image};
+use proved::c;
+use proved::{IMAGE_TEXT, TABLE};
 use reference::entry::translated;
 use reference::frames::text_of;
-use reference::samples::{chart_p, largest_image};
 
 /// The number, and the index and count written.
 type Said = (u8, u64, u64);
 
 fn prepare(image: &[u8], table: &mut [u8]) -> Said {
     let (mut index, mut count) = (9, 9);
+    // SAFETY: all that the call is handed lives here and is lent to it alone.
     let number = unsafe {
         c::fairleadow_prepare(
             image.as_ptr(),
@@ -40,6 +41,7 @@ fn fresh(size: u8) -> c::State {
 fn live_run(table: &[u8], state: &mut c::State, words: &[u16], room: usize) -> Said {
     let (mut masks, mut codes) = (vec![0u32; room], vec![0u8; room]);
     let (mut index, mut count) = (9, 9);
+    // SAFETY: all that the call is handed lives here and is lent to it alone.
     let number = unsafe {
         c::fairleadow_live_run(
             table.as_ptr(),
@@ -61,6 +63,7 @@ fn live_run(table: &[u8], state: &mut c::State, words: &[u16], room: usize) -> S
 /// What is said, and what *mask and *code, 123 and 45 before, hold then.
 fn live_tick(table: &[u8], state: &mut c::State, word: u16) -> (Said, u32, u8) {
     let (mut mask, mut code, mut index, mut count) = (123, 45, 9, 9);
+    // SAFETY: all that the call is handed lives here and is lent to it alone.
     let number = unsafe {
         c::fairleadow_live_tick(
             table.as_ptr(),

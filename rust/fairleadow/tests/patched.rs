@@ -1,7 +1,7 @@
 //! The example of an image that was patched at the lathe (examples/patched): its ticks before and after, by the library and by the
 //! reference.
 
-use fairleadow::Proved;
+use proved::Proved;
 use reference::{fresh_state, Library, Reference};
 
 const BEFORE: &str = include_str!("../../../examples/roughing.image");

@@ -1,8 +1,8 @@
 //! How many places a chart's calls need, by the proved library, on charts by hand.
 
-use fairleadow::{Answer, Library, Proved};
+use comparison::samples::{most_schemes, with_handler};
+use proved::{Answer, Library, Proved};
 use reference::frames::{text_of, Frame};
-use reference::samples::{most_schemes, with_handler};
 
 /// A scheme of one operation that calls this scheme, or none if it is 0; its first node has this number.
 fn scheme(number: u8, first: u8, called: u8) -> [Frame; 3] {

@@ -1,9 +1,9 @@
 //! Priced runs by the C function itself: the price is written in every case, and what a refusal leaves.
 
-use fairleadow::c;
+use comparison::samples::{chart_p, one_label};
+use proved::c;
 use reference::entry::{image_from_text, translated};
 use reference::frames::text_of;
-use reference::samples::{chart_p, one_label};
 
 const MOST: usize = 65_536;
 
@@ -15,6 +15,7 @@ fn priced(image: &[u8], start: &c::State, prices: &[u16; 32], words: &[u16], roo
     let (mut state, mut masks, mut codes) = (*start, vec![0xA5A5_A5A5; room[0]], vec![0xA5; room[1]]);
     let (mut price, mut index, mut count) = (u64::MAX, 9, 9);
     let kept = *prices;
+    // SAFETY: all that the call is handed lives here and is lent to it alone.
     let number = unsafe {
         c::fairleadow_priced_run(
             image.as_ptr(),
@@ -38,6 +39,7 @@ fn priced(image: &[u8], start: &c::State, prices: &[u16; 32], words: &[u16], roo
 
 fn fresh(size: u64) -> c::State {
     let mut state = c::State::NONE;
+    // SAFETY: all that the call is handed lives here and is lent to it alone.
     assert_eq!(unsafe { c::fairleadow_fresh(size, &mut state, &mut 9, &mut 9) } as u8, 0);
     state
 }

@@ -1,12 +1,12 @@
 //! Rebindings by the C functions: which bytes they leave, and every value of each byte of a state, number and scheme.
 
-use fairleadow::{c, Answer, Library, Proved, TABLE};
+use comparison::generate::{images, runs, states, Random};
+use comparison::samples::{most_schemes, with_handler};
+use proved::{c, Answer, Library, Proved, TABLE};
 use reference::entry::translated;
 use reference::frames::text_of;
-use reference::generate::{images, runs, states, Random};
 use reference::image::image_of;
 use reference::prepare::table_of;
-use reference::samples::{most_schemes, with_handler};
 use reference::{fresh_state, Reference, State};
 
 fn image() -> Vec<u8> {
@@ -23,6 +23,7 @@ fn prepared(image: &[u8]) -> Vec<u8> {
 /// The number, index and count of a rebinding in the bytes of a state.
 fn rebind(call: c::Rebind, ground: &[u8], state: &mut c::State, number: u64, scheme: u64) -> (u8, u64, u64) {
     let (mut index, mut count) = (9, 9);
+    // SAFETY: all that the call is handed lives here and is lent to it alone.
     let said =
         unsafe { call(ground.as_ptr(), ground.len() as u64, state, number, scheme, &mut index, &mut count) }
             as u8;

@@ -1,10 +1,10 @@
-//! Ticks of spindles by the C functions: which bytes of the list they leave, every length of it, every value of each byte, and records and
+//! Ticks of spindles by the C functions: which bytes of the list they leave, other lengths of it, every value of each byte, and records and
 //! numbers of all widths.
 
-use fairleadow::{c, Answer, Library, Proved, TickReport, SPINDLES, TABLE};
+use comparison::samples::with_handler;
+use proved::{c, Answer, Library, Proved, TickReport, SPINDLES, TABLE};
 use reference::entry::translated;
 use reference::frames::text_of;
-use reference::samples::with_handler;
 use reference::{fresh_state, Reference, State};
 
 /// The bytes of a state.
@@ -32,14 +32,22 @@ fn calls() -> [(c::Spin, Vec<u8>, u8); 2] {
     [(c::fairleadow_spin, image, 1), (c::fairleadow_live_spin, table, 11)]
 }
 
-/// A tick by word 0, on the first bytes of a list.
-fn spin(call: c::Spin, ground: &[u8], list: &mut [c::State], bytes: usize, taken: u64, spindle: u64) -> Said {
-    assert!(bytes <= size_of_val(list));
+/// A tick by word 0, on the first states of a list.
+fn spin(
+    call: c::Spin,
+    ground: &[u8],
+    list: &mut [c::State],
+    states: usize,
+    taken: u64,
+    spindle: u64,
+) -> Said {
+    assert!(states <= list.len());
     let (mut mask, mut code, mut index, mut count, mut record) = (123, 45, 9, 9, taken);
+    // SAFETY: all that the call is handed lives here and is lent to it alone.
     let number = unsafe {
         call(
-            list.as_mut_ptr().cast(),
-            bytes as u64,
+            list.as_mut_ptr(),
+            states as u64,
             &mut record,
             spindle,
             ground.as_ptr(),
@@ -77,11 +85,11 @@ fn result_bytes_of_the_spindle_come_back_as_0_or_1_and_no_other_byte_changes() {
             let mut wanted = all.clone();
             wanted[1 + spindle].results = [1; 16];
             wanted[1 + spindle].places[0] = 2;
-            let said = spin(call, &ground, &mut all[1..], 4 * BYTES, 4, spindle as u64);
+            let said = spin(call, &ground, &mut all[1..], SPINDLES, 4, spindle as u64);
             assert_eq!(said, ((0, 0, 1), 4, 0, 0x04));
             assert_eq!(all, wanted);
             // the call takes a place: the bit of number 1 is written, that of number 2 cleared
-            let said = spin(call, &ground, &mut all[1..], 4 * BYTES, 4, spindle as u64);
+            let said = spin(call, &ground, &mut all[1..], SPINDLES, 4, spindle as u64);
             assert_eq!(said, ((0, 0, 1), 5, 1, 0x12));
             let own = &mut wanted[1 + spindle];
             (own.depth, own.places[1], own.results[1]) = (2, 3, 0);
@@ -97,24 +105,23 @@ fn refusals_leave_every_byte() {
         let own = c::State { results: [7; 16], ..fresh(1) };
         let mut all = list(own, 2);
         let kept = all.clone();
-        let mut tried = |ground: &[u8], bytes, taken, spindle, wanted| {
-            let said = spin(call, ground, &mut all[1..], bytes, taken, spindle);
-            assert_eq!(said, refused(wanted, taken), "{bytes} bytes, {taken} taken, spindle {spindle}");
+        let mut tried = |ground: &[u8], states, taken, spindle, wanted| {
+            let said = spin(call, ground, &mut all[1..], states, taken, spindle);
+            assert_eq!(said, refused(wanted, taken), "{states} states, {taken} taken, spindle {spindle}");
             assert!(all == kept);
         };
         for spindle in [4, 5, 255, 256, 258, 65_538, (1 << 32) + 2, u64::MAX - 1, u64::MAX] {
             tried(&[], 3, 99, spindle, 25);
         }
         tried(&ground[..ground.len() - 1], 3, 99, 2, number);
-        // every length but that of four states
-        for bytes in (0..=5 * BYTES).filter(|bytes| *bytes != 4 * BYTES) {
-            tried(&ground, bytes, 4, 2, 15);
+        for states in [0, 1, 2, 3, 5] {
+            tried(&ground, states, 4, 2, 15);
         }
         for taken in [0, 3, 5, 64, 65, 260, 65_540, (1 << 32) + 4, u64::MAX - 3, u64::MAX] {
-            tried(&ground, 4 * BYTES, taken, 2, 15);
+            tried(&ground, SPINDLES, taken, 2, 15);
         }
         // the others do not fit
-        tried(&ground, 4 * BYTES, 4, 1, 15);
+        tried(&ground, SPINDLES, 4, 1, 15);
     }
 }
 
@@ -127,15 +134,15 @@ fn refused_ticks_leave_every_byte() {
         // a drop on a full stack of one place needs none and gives none back
         let mut all = list(calling, 0);
         all[2].depth = 61;
-        assert_eq!(spin(call, &ground, &mut all[1..], 4 * BYTES, 64, 0), ((0, 0, 1), 64, 1, 0x60));
+        assert_eq!(spin(call, &ground, &mut all[1..], SPINDLES, 64, 0), ((0, 0, 1), 64, 1, 0x60));
         calling.size = 2;
         let mut all = list(calling, 0);
         all[2].depth = 61;
         let kept = all.clone();
-        assert_eq!(spin(call, &ground, &mut all[1..], 4 * BYTES, 64, 0), refused(26, 64));
+        assert_eq!(spin(call, &ground, &mut all[1..], SPINDLES, 64, 0), refused(26, 64));
         assert!(all == kept);
         (all[2].depth, all[3].depth) = (60, 1);
-        assert_eq!(spin(call, &ground, &mut all[1..], 4 * BYTES, 63, 0), ((0, 0, 1), 64, 1, 0x12));
+        assert_eq!(spin(call, &ground, &mut all[1..], SPINDLES, 63, 0), ((0, 0, 1), 64, 1, 0x12));
     }
 }
 
@@ -155,7 +162,7 @@ fn made(
 /// A state with one of its 130 bytes changed.
 fn with_byte(state: &State, at: usize, byte: u8) -> State {
     let mut state = c::State::from(state);
-    // all its fields are bytes
+    // SAFETY: all its fields are bytes, and this is one of them.
     unsafe { *std::ptr::from_mut(&mut state).cast::<u8>().add(at) = byte };
     State::from(&state)
 }

@@ -2,10 +2,10 @@
 
 use std::mem::offset_of;
 
-use fairleadow::c;
+use comparison::samples::chart_p;
+use proved::c;
 use reference::entry::translated;
 use reference::frames::{text_of, Frame};
-use reference::samples::chart_p;
 
 /// The image of chart P.
 fn image_p() -> Vec<u8> {
@@ -15,6 +15,7 @@ fn image_p() -> Vec<u8> {
 fn fresh(size: u64) -> c::State {
     let (mut index, mut count) = (9, 9);
     let mut state = c::State::NONE;
+    // SAFETY: all that the call is handed lives here and is lent to it alone.
     assert_eq!(unsafe { c::fairleadow_fresh(size, &mut state, &mut index, &mut count) } as u8, 0);
     assert_eq!((index, count), (0, 0));
     state
@@ -24,6 +25,7 @@ fn fresh(size: u64) -> c::State {
 fn run(image: &[u8], state: &mut c::State, words: &[u16], room: usize) -> (u8, u64, u64) {
     let (mut masks, mut codes) = (vec![0u32; room], vec![0u8; room]);
     let (mut index, mut count) = (9, 9);
+    // SAFETY: all that the call is handed lives here and is lent to it alone.
     let number = unsafe {
         c::fairleadow_run(
             image.as_ptr(),
@@ -75,6 +77,7 @@ fn a_refused_tick_leaves_the_state_the_mask_and_the_code() {
     state.results[4] = 7;
     let kept = state;
     let (mut mask, mut code, mut index, mut count) = (123, 45, 9, 9);
+    // SAFETY: all that the call is handed lives here and is lent to it alone.
     let number = unsafe {
         c::fairleadow_tick(
             image.as_ptr(),
@@ -112,6 +115,7 @@ fn a_cause_reads_every_byte_but_0_as_a_1() {
     for (byte, wanted) in [(0, (0, 0, 0, 0)), (1, (0, 1, 0, 1)), (7, (0, 1, 0, 1)), (255, (0, 1, 0, 1))] {
         state.results[1] = byte;
         let (mut row, mut mask, mut bit, mut index, mut count) = (9, 9, 9, 9, 9);
+        // SAFETY: all that the call is handed lives here and is lent to it alone.
         let number = unsafe {
             c::fairleadow_cause(
                 image.as_ptr(),
@@ -134,6 +138,7 @@ fn a_bad_size_gives_a_state_of_zeros() {
     for size in [0, 33, 256, u64::MAX] {
         let (mut index, mut count) = (9, 9);
         let mut state = c::State::filled(3);
+        // SAFETY: all that the call is handed lives here and is lent to it alone.
         assert_eq!(unsafe { c::fairleadow_fresh(size, &mut state, &mut index, &mut count) } as u8, 14);
         assert_eq!((index, count, state), (0, 0, c::State::NONE));
     }
@@ -159,6 +164,7 @@ fn a_fresh_state_is_written_whole() {
     for size in 1..=32 {
         let (mut index, mut count) = (9, 9);
         let mut state = c::State::filled(0xAB);
+        // SAFETY: all that the call is handed lives here and is lent to it alone.
         assert_eq!(unsafe { c::fairleadow_fresh(size, &mut state, &mut index, &mut count) } as u8, 0);
         let mut wanted = c::State { size: size as u8, depth: 1, ..c::State::NONE };
         wanted.serving = std::array::from_fn(|k| k as u8 + 1);

@@ -1,9 +1,9 @@
 //! The inputs that keep each entry point busy for long, those that a search found too: the library answers as the reference
 //! does, and leaves the same in buffers and states.
 
-use fairleadow::Proved;
-use reference::entry_point::EntryPoint;
-use reference::samples::worst::candidates;
+use comparison::entry_point::EntryPoint;
+use comparison::samples::worst::candidates;
+use proved::Proved;
 use reference::Reference;
 
 #[test]

@@ -3,11 +3,11 @@
 
 use std::hint::black_box;
 
-use fairleadow::{Proved, PLACES};
+use comparison::samples::{chart_p, largest_image, one_label, rows_that_match_from_home, with_handler};
+use fast::Fast;
+use proved::{Proved, PLACES};
 use reference::entry::translated;
-use reference::fast::Fast;
 use reference::frames::{text_of, Frame};
-use reference::samples::{chart_p, largest_image, one_label, rows_that_match_from_home, with_handler};
 use reference::Library;
 
 use crate::measure::{Call, Line};

@@ -2,8 +2,8 @@
 
 use std::hint::black_box;
 
-use fairleadow::{Proved, LITTLE_TEXT};
-use reference::fast::Fast;
+use fast::Fast;
+use proved::{Proved, LITTLE_TEXT};
 use reference::Library;
 
 use crate::measure::{Call, Line};

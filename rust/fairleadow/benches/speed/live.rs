@@ -5,12 +5,13 @@ use std::cell::RefCell;
 use std::hint::black_box;
 use std::rc::Rc;
 
-use fairleadow::{c, IMAGE_TEXT, SPINDLES, TABLE};
+use comparison::samples;
+use fast::{Fast, Kept};
+use proved::{c, IMAGE_TEXT, SPINDLES, TABLE};
 use reference::entry::{self, translated};
-use reference::fast::{Fast, Kept};
 use reference::frames::text_of;
 use reference::live::Held;
-use reference::{fresh_state, samples, Library, State};
+use reference::{fresh_state, Library, State};
 
 use crate::measure::{Call, Line};
 use crate::texts::{charts, words};
@@ -112,6 +113,7 @@ fn prepare_line(input: &Rc<Input>) -> Line {
     let sides: Vec<Call> = vec![
         Box::new(move || {
             let (image, mut index, mut count) = (&for_library.image, 0, 0);
+            // SAFETY: all that the call is handed lives here and is lent to it alone.
             black_box(unsafe {
                 c::fairleadow_prepare(
                     image.as_ptr(),
@@ -138,6 +140,7 @@ fn run_line(input: &Rc<Input>, count: usize, room: &Rc<RefCell<Room>>) -> Line {
         Box::new(move || {
             let ((input, room), mut index, mut ticks) = (&for_library, 0, 0);
             let (mut state, mut room) = (c::State::from(&input.start), room.borrow_mut());
+            // SAFETY: all that the call is handed lives here and is lent to it alone.
             black_box(unsafe {
                 c::fairleadow_live_run(
                     input.table.as_ptr(),
@@ -177,6 +180,7 @@ fn tick_line(input: &Rc<Input>, name: &str, start: State, word: u16) -> Line {
         Box::new(move || {
             let (table, mut state) = (&for_library.table, c_start);
             let (mut mask, mut code, mut index, mut count) = (0, 0, 0, 0);
+            // SAFETY: all that the call is handed lives here and is lent to it alone.
             black_box(unsafe {
                 c::fairleadow_live_tick(
                     table.as_ptr(),
@@ -213,10 +217,11 @@ fn spin_line(input: &Rc<Input>, name: &str, start: State, word: u16) -> Line {
         Box::new(move || {
             let (table, mut states, mut taken) = (&for_library.table, c_states, taken as u64);
             let (mut mask, mut code, mut index, mut count) = (0, 0, 0, 0);
+            // SAFETY: all that the call is handed lives here and is lent to it alone.
             black_box(unsafe {
                 c::fairleadow_live_spin(
-                    states.as_mut_ptr().cast(),
-                    size_of_val(&states) as u64,
+                    states.as_mut_ptr(),
+                    SPINDLES as u64,
                     &mut taken,
                     0,
                     table.as_ptr(),
@@ -249,6 +254,7 @@ fn rebind_line(input: &Rc<Input>) -> Line {
     let sides: Vec<Call> = vec![
         Box::new(move || {
             let (table, mut state, mut index, mut count) = (&for_library.table, c_start, 0, 0);
+            // SAFETY: all that the call is handed lives here and is lent to it alone.
             black_box(unsafe {
                 c::fairleadow_live_rebind(
                     table.as_ptr(),

@@ -31,11 +31,11 @@ const TABLES: [Table; 7] = [
 
 fn main() {
     let words: Vec<String> = env::args().skip(1).collect();
-    if let [first, table, line, side] = &words[..] {
-        if first == measure::ONE_CALL {
-            let number: usize = table.parse().expect("a table's number");
-            return measure::make_one_call(TABLES[number].1(), line, side);
-        }
+    if let [first, table, line, side] = &words[..]
+        && first == measure::ONE_CALL
+    {
+        let number: usize = table.parse().expect("a table's number");
+        return measure::make_one_call(TABLES[number].1(), line, side);
     }
     let wanted = |line: &str| words.iter().all(|word| word.starts_with("--") || line.contains(word));
     for (number, (sides, lines)) in TABLES.iter().enumerate() {

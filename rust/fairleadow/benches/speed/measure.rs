@@ -21,7 +21,8 @@ pub const ONE_CALL: &str = "--one-call";
 
 /// The function whose instructions are counted.
 #[inline(never)]
-#[no_mangle]
+// SAFETY: no other function has this name.
+#[unsafe(no_mangle)]
 fn counted_call(call: &mut dyn FnMut()) {
     call();
 }

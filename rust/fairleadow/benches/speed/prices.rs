@@ -4,11 +4,12 @@ use std::cell::RefCell;
 use std::hint::black_box;
 use std::rc::Rc;
 
-use fairleadow::Proved;
+use comparison::samples;
+use fast::Fast;
+use proved::Proved;
 use reference::entry::{image_from_text, translated};
-use reference::fast::Fast;
 use reference::frames::text_of;
-use reference::{fresh_state, samples, Answer, Library, Prices, State};
+use reference::{fresh_state, Answer, Library, Prices, State};
 
 use crate::measure::{Call, Line};
 use crate::texts::{charts, words};

@@ -5,11 +5,12 @@ use std::cell::RefCell;
 use std::hint::black_box;
 use std::rc::Rc;
 
-use fairleadow::Proved;
+use comparison::samples;
+use fast::run_on;
+use proved::Proved;
 use reference::entry::translated;
-use reference::fast::run_on;
 use reference::frames::{text_of, Frame};
-use reference::{fresh_state, samples, Answer, Library, State};
+use reference::{fresh_state, Answer, Library, State};
 
 use crate::measure::{Call, Line};
 use crate::texts::words;

@@ -5,13 +5,14 @@ use std::cell::RefCell;
 use std::hint::black_box;
 use std::rc::Rc;
 
-use fairleadow::{Proved, SPINDLES};
+use comparison::entry_point::EntryPoint;
+use comparison::samples;
+use comparison::samples::worst::{candidates, Origin};
+use fast::Fast;
+use proved::{Proved, SPINDLES};
 use reference::entry::translated;
-use reference::entry_point::EntryPoint;
-use reference::fast::Fast;
 use reference::frames::{text_of, Frame, CHART_TEXT, IMAGE_TEXT, RECORDS};
-use reference::samples::worst::{candidates, Origin};
-use reference::{fresh_state, samples, Library, State};
+use reference::{fresh_state, Library, State};
 
 use crate::measure::{Call, Line};
 

@@ -1,6 +1,6 @@
 //! The calls that notice damage: the check of a table, and its sum.
 
-use fairleadow::{c, Library, TABLE};
+use proved::{c, Library, TABLE};
 use reference::Reference;
 
 use super::stack::depth;
@@ -14,12 +14,14 @@ struct Checked {
 
 extern "C" fn check_table(job: &mut Checked) {
     let (mut index, mut count) = (0, 0);
+    // SAFETY: all that the call is handed lives here and is lent to it alone.
     job.number = unsafe {
         c::fairleadow_check_table(job.table.as_ptr(), job.table.len() as u64, &mut index, &mut count)
     } as u8;
 }
 
 extern "C" fn sum(job: &mut Checked) {
+    // SAFETY: all that the call is handed lives here and is lent to it alone.
     job.sum = unsafe { c::fairleadow_sum(0, job.table.as_ptr(), job.table.len() as u64) };
 }
 

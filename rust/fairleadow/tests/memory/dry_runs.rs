@@ -1,6 +1,6 @@
 //! Dry runs.
 
-use fairleadow::c;
+use proved::c;
 use reference::frames::{text_of, CHART_TEXT, IMAGE_TEXT};
 
 use super::stack::depth;
@@ -17,6 +17,7 @@ struct DryRun {
 
 extern "C" fn dry_run(job: &mut DryRun) {
     let (mut index, mut count) = (0, 0);
+    // SAFETY: all that the call is handed lives here and is lent to it alone.
     job.number = unsafe {
         c::fairleadow_dry_run(
             job.chart.as_ptr(),

@@ -1,9 +1,9 @@
 //! Counts of how often the stack fills.
 
-use fairleadow::{c, PLACES};
-use reference::entry_point::EntryPoint;
+use comparison::entry_point::EntryPoint;
+use comparison::samples::worst::candidates;
+use proved::{c, PLACES};
 use reference::frames::{text_of, CHART_TEXT, IMAGE_TEXT};
-use reference::samples::worst::candidates;
 
 use super::stack::depth;
 use super::MEMORY;
@@ -18,6 +18,7 @@ struct Count {
 extern "C" fn count(job: &mut Count) {
     let (mut index, mut made) = (0, 0);
     let ((ticks, conditions), [ended, full, unmatched]) = (job.lists, &mut job.counts);
+    // SAFETY: all that the call is handed lives here and is lent to it alone.
     job.number = unsafe {
         c::fairleadow_count_fillings(
             job.image.as_ptr(),

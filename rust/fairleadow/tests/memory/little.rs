@@ -1,9 +1,9 @@
 //! Little charts.
 
-use fairleadow::{c, LITTLE_TEXT};
-use reference::entry_point::EntryPoint;
+use comparison::entry_point::EntryPoint;
+use comparison::samples::worst::candidates;
+use proved::{c, LITTLE_TEXT};
 use reference::frames::{CHART_TEXT, IMAGE_TEXT};
-use reference::samples::worst::candidates;
 
 use super::stack::depth;
 use super::MEMORY;
@@ -18,6 +18,7 @@ struct Fetch {
 extern "C" fn little_chart(job: &mut Fetch) {
     let (mut index, mut count) = (0, 0);
     let (frames, chart, text) = (job.frames, job.chart, &mut job.text);
+    // SAFETY: all that the call is handed lives here and is lent to it alone.
     job.number = unsafe {
         c::fairleadow_little_chart(
             frames,

@@ -9,13 +9,13 @@ mod little;
 mod spindles;
 mod stack;
 
-use fairleadow::{c, LABELS, LINE, OPERATIONS, TABLE};
+use comparison::entry_point::EntryPoint;
+use comparison::generate::{charts, Random};
+use comparison::samples;
+use comparison::samples::worst::candidates;
+use proved::{c, LABELS, LINE, OPERATIONS, TABLE};
 use reference::entry::translated;
-use reference::entry_point::EntryPoint;
 use reference::frames::{text_of, Frame, CHART_TEXT, IMAGE_TEXT};
-use reference::generate::{charts, Random};
-use reference::samples;
-use reference::samples::worst::candidates;
 use stack::depth;
 
 const MEMORY: usize = 65_536;
@@ -31,6 +31,7 @@ struct Translation {
 extern "C" fn translate(job: &mut Translation) {
     let (mut index, mut count) = (0, 0);
     let (chart, image) = (&job.chart, &mut job.image);
+    // SAFETY: all that the call is handed lives here and is lent to it alone.
     job.number = unsafe {
         c::fairleadow_translate(
             chart.as_ptr(),
@@ -50,6 +51,7 @@ struct Counting {
 
 extern "C" fn places(job: &mut Counting) {
     let (mut index, mut count) = (0, 0);
+    // SAFETY: all that the call is handed lives here and is lent to it alone.
     job.number =
         unsafe { c::fairleadow_places(job.chart.as_ptr(), job.chart.len() as u64, &mut index, &mut count) }
             as u8;
@@ -66,6 +68,7 @@ struct Preparation {
 extern "C" fn minimise(job: &mut Preparation) {
     let mut index = 0;
     let (image, smaller) = (&job.image, &mut job.table);
+    // SAFETY: all that the call is handed lives here and is lent to it alone.
     job.number = unsafe {
         c::fairleadow_minimise(
             image.as_ptr(),
@@ -81,6 +84,7 @@ extern "C" fn minimise(job: &mut Preparation) {
 extern "C" fn prepare(job: &mut Preparation) {
     let mut index = 0;
     let (image, table) = (&job.image, &mut job.table);
+    // SAFETY: all that the call is handed lives here and is lent to it alone.
     job.number = unsafe {
         c::fairleadow_prepare(
             image.as_ptr(),
@@ -108,6 +112,7 @@ macro_rules! run_job {
     ($name:ident, $function:path) => {
         extern "C" fn $name(job: &mut Ticks) {
             let (mut index, mut count) = (0, 0);
+            // SAFETY: all that the call is handed lives here and is lent to it alone.
             job.number = unsafe {
                 $function(
                     job.ground.as_ptr(),
@@ -130,6 +135,7 @@ macro_rules! run_job {
 /// The same with prices.
 extern "C" fn priced_run(job: &mut Ticks) {
     let (mut price, mut index, mut count) = (0, 0, 0);
+    // SAFETY: all that the call is handed lives here and is lent to it alone.
     job.number = unsafe {
         c::fairleadow_priced_run(
             job.ground.as_ptr(),
@@ -154,6 +160,7 @@ macro_rules! tick_job {
     ($name:ident, $function:path) => {
         extern "C" fn $name(job: &mut Ticks) {
             let (mut index, mut count) = (0, 0);
+            // SAFETY: all that the call is handed lives here and is lent to it alone.
             job.number = unsafe {
                 $function(
                     job.ground.as_ptr(),
@@ -172,6 +179,7 @@ macro_rules! tick_job {
 
 extern "C" fn cause(job: &mut Ticks) {
     let (mut row, mut mask, mut bit, mut index, mut count) = (0, 0, 0, 0, 0);
+    // SAFETY: all that the call is handed lives here and is lent to it alone.
     job.number = unsafe {
         c::fairleadow_cause(
             job.ground.as_ptr(),
@@ -192,6 +200,7 @@ macro_rules! rebind_job {
     ($name:ident, $function:path) => {
         extern "C" fn $name(job: &mut Ticks) {
             let (mut index, mut count) = (0, 0);
+            // SAFETY: all that the call is handed lives here and is lent to it alone.
             job.number = unsafe {
                 $function(
                     job.ground.as_ptr(),
@@ -216,6 +225,7 @@ struct Listing {
 
 extern "C" fn list_rows(job: &mut Listing) {
     let (mut index, mut count) = (0, 0);
+    // SAFETY: all that the call is handed lives here and is lent to it alone.
     job.number = unsafe {
         c::fairleadow_list_rows(
             job.image.as_ptr(),
@@ -247,6 +257,7 @@ fn worst_charts() -> Vec<Vec<Frame>> {
 fn fresh(size: usize) -> c::State {
     let (mut index, mut count) = (0, 0);
     let mut state = c::State::NONE;
+    // SAFETY: all that the call is handed lives here and is lent to it alone.
     unsafe { c::fairleadow_fresh(size as u64, &mut state, &mut index, &mut count) };
     state
 }

@@ -1,6 +1,6 @@
 //! The deepest stack use of the ticks of spindles.
 
-use fairleadow::{c, SPINDLES, TABLE};
+use proved::{c, SPINDLES, TABLE};
 use reference::frames::{CHART_TEXT, IMAGE_TEXT};
 
 use super::{depth, fresh, worst_images, worst_tables, MEMORY};
@@ -18,10 +18,11 @@ macro_rules! spin_job {
     ($name:ident, $function:path) => {
         extern "C" fn $name(job: &mut Spinning) {
             let (mut mask, mut index, mut count) = (0, 0, 0);
+            // SAFETY: all that the call is handed lives here and is lent to it alone.
             job.number = unsafe {
                 $function(
-                    job.states.as_mut_ptr().cast(),
-                    size_of_val(&job.states) as u64,
+                    job.states.as_mut_ptr(),
+                    SPINDLES as u64,
                     &mut job.taken,
                     0,
                     job.ground.as_ptr(),

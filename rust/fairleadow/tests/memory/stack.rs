@@ -10,7 +10,7 @@ const FILL: u8 = 0xA5;
 pub fn depth<T>(job: &mut T, run: extern "C" fn(&mut T)) -> usize {
     let mut stack = vec![FILL; STACK];
     let top = (stack.as_mut_ptr() as usize + STACK) & !63;
-    // The job runs to its end on the filled memory, which nothing else uses; then the old stack is back.
+    // SAFETY: the job runs to its end on the filled memory, which nothing else uses; then the old stack is back.
     unsafe {
         asm!(
             "mov r12, rsp",

@@ -1,18 +1,18 @@
-//! Safe calls of the C functions. Each borrows its buffers for the call: no reference is null, and what is borrowed for
-//! writing overlaps nothing else, which is all that the header asks.
+//! The proved library behind the trait that the reference is compared by: slices in, an answer out. A program calls the crate
+//! `fairleadow` instead, whose types let no refusal go unseen.
+//!
+//! Each call borrows its buffers: no reference is null, and what is borrowed for writing overlaps nothing else, which is all that
+//! the header asks.
 
-use interface::{
-    Answer, CauseReport, FillingsReport, Library, Meaning, PricedReport, Prices, State, TickReport,
-};
-
-use crate::c;
+pub use fairleadow::c;
+pub use interface::*;
 
 /// The proved library.
 ///
 /// Node records and chart lines turn into each other:
 ///
 /// ```
-/// use fairleadow::{Library, Proved, CHART_TEXT, RECORD, RECORDS};
+/// use proved::{Library, Proved, CHART_TEXT, RECORD, RECORDS};
 ///
 /// let chart = b"00010001000000000000FE\n01010000000000000000FE\n";
 /// let mut records = [0; RECORDS];
@@ -22,13 +22,13 @@ use crate::c;
 /// let mut text = [0; CHART_TEXT];
 /// let length = Proved.write_chart(&records[..count * RECORD], &mut text).ok()?;
 /// assert_eq!(&text[..length], chart);
-/// # Ok::<(), fairleadow::Refusal>(())
+/// # Ok::<(), proved::Refusal>(())
 /// ```
 ///
 /// The controller prepares its image once and keeps one state, and each live tick advances that:
 ///
 /// ```
-/// use fairleadow::{Library, Proved, IMAGE_TEXT, PLACES, TABLE};
+/// use proved::{Library, Proved, IMAGE_TEXT, PLACES, TABLE};
 ///
 /// let mut image = [0; IMAGE_TEXT];
 /// let length = Proved.translate(b"00010001000000000000FE\n01010000000000000000FE\n", &mut image).ok()?;
@@ -40,25 +40,25 @@ use crate::c;
 /// let ticked = Proved.live_tick(&table[..length], &mut state, 0);
 /// assert_eq!(ticked.answer.ok()?, 1);
 /// assert_eq!((ticked.code, state.depth, state.results[0]), (0x04, 1, false));
-/// # Ok::<(), fairleadow::Refusal>(())
+/// # Ok::<(), proved::Refusal>(())
 /// ```
 ///
 /// A chart can be run from its text in one call, three ticks here:
 ///
 /// ```
-/// use fairleadow::{Library, Proved, IMAGE_TEXT, PLACES};
+/// use proved::{Library, Proved, IMAGE_TEXT, PLACES};
 ///
 /// let chart = b"00010001000000000000FE\n02010002000000000001FA\n01010000000000000000FE\n";
 /// let (mut image, mut masks, mut codes) = ([0; IMAGE_TEXT], [0; 3], [0; 3]);
 /// let count = Proved.dry_run(chart, PLACES, &mut image, &[0, 0, 0], &mut masks, &mut codes).ok()?;
 /// assert_eq!((count, masks, codes), (3, [0, 1, 0], [0x04, 0x00, 0x04]));
-/// # Ok::<(), fairleadow::Refusal>(())
+/// # Ok::<(), proved::Refusal>(())
 /// ```
 ///
 /// A run can be priced: here a tick of micro operation 0 costs 1.5 cents, and of three ticks the second has it on.
 ///
 /// ```
-/// use fairleadow::{Library, Proved, IMAGE_TEXT, OPERATIONS, PLACES};
+/// use proved::{Library, Proved, IMAGE_TEXT, OPERATIONS, PLACES};
 ///
 /// let chart = b"00010001000000000000FE\n02010002000000000001FA\n01010000000000000000FE\n";
 /// let mut image = [0; IMAGE_TEXT];
@@ -69,13 +69,13 @@ use crate::c;
 /// let (mut masks, mut codes) = ([0; 3], [0; 3]);
 /// let priced = Proved.priced_run(&image[..length], &state, &prices, &[0, 0, 0], &mut masks, &mut codes);
 /// assert_eq!((priced.answer.ok()?, masks, priced.price), (3, [0, 1, 0], 2));
-/// # Ok::<(), fairleadow::Refusal>(())
+/// # Ok::<(), proved::Refusal>(())
 /// ```
 ///
 /// Between two ticks a number can be given another scheme to serve it; here there is only scheme 1, which nothing calls:
 ///
 /// ```
-/// use fairleadow::{Library, Proved, IMAGE_TEXT, PLACES};
+/// use proved::{Library, Proved, IMAGE_TEXT, PLACES};
 ///
 /// let mut image = [0; IMAGE_TEXT];
 /// let length = Proved.translate(b"00010001000000000000FE\n01010000000000000000FE\n", &mut image).ok()?;
@@ -83,26 +83,26 @@ use crate::c;
 /// let refusal = Proved.rebind(&image[..length], &mut state, 2, 3).ok().unwrap_err();
 /// assert_eq!(refusal.number, 22);
 /// assert_eq!(state, Proved.fresh(PLACES).1);
-/// # Ok::<(), fairleadow::Refusal>(())
+/// # Ok::<(), proved::Refusal>(())
 /// ```
 ///
 /// Every little chart can be fetched by its frame count and its number; there are 2 of 2 frames:
 ///
 /// ```
-/// use fairleadow::{Library, Proved, LITTLE_TEXT};
+/// use proved::{Library, Proved, LITTLE_TEXT};
 ///
 /// let mut text = [0; LITTLE_TEXT];
 /// let length = Proved.little_chart(2, 1, &mut text).ok()?;
 /// assert_eq!(&text[..length], b"01010000000000000000FE\n00010000000000000000FF\n");
 /// assert_eq!(Proved.little_chart(2, 2, &mut text).ok().unwrap_err().number, 24);
-/// # Ok::<(), fairleadow::Refusal>(())
+/// # Ok::<(), proved::Refusal>(())
 /// ```
 ///
 /// Before a stack is chosen it can be counted how often it fills. This chart calls at its third tick if condition 0 was 1 at the second,
 /// and one place is not enough for that:
 ///
 /// ```
-/// use fairleadow::{Library, Proved, IMAGE_TEXT};
+/// use proved::{Library, Proved, IMAGE_TEXT};
 ///
 /// let chart = b"00010001000000000000FE\n03010002030000000000F7\n01010000000000000000FE\n02010202000000000001F8\n\
 ///     00020005000000000000F9\n01020000000000000000FD\n";
@@ -112,13 +112,13 @@ use crate::c;
 /// counted.answer.ok()?;
 /// assert_eq!((counted.ended, counted.full, counted.unmatched), (4, 4, 0));
 /// assert_eq!(Proved.count_fillings(&image[..length], 1, 17, 1).answer.number(), 28);
-/// # Ok::<(), fairleadow::Refusal>(())
+/// # Ok::<(), proved::Refusal>(())
 /// ```
 ///
 /// Four spindles have their states in one list and their places from one store; the places taken are recorded beside it:
 ///
 /// ```
-/// use fairleadow::{Library, Proved, IMAGE_TEXT, SPINDLES};
+/// use proved::{Library, Proved, IMAGE_TEXT, SPINDLES};
 ///
 /// let mut image = [0; IMAGE_TEXT];
 /// let length = Proved.translate(b"00010001000000000000FE\n01010000000000000000FE\n", &mut image).ok()?;
@@ -127,13 +127,14 @@ use crate::c;
 /// assert_eq!((ticked.answer.ok()?, ticked.code, taken), (1, 0x04, 4));
 /// let refusal = Proved.spin(&mut states, &mut taken, 4, &image[..length], 0).answer.ok().unwrap_err();
 /// assert_eq!(refusal.to_string(), "refusal 25: a spindle's number above 3");
-/// # Ok::<(), fairleadow::Refusal>(())
+/// # Ok::<(), proved::Refusal>(())
 /// ```
 pub struct Proved;
 
 impl Proved {
-    /// The version of the archive; that of the wrapper is [`VERSION`](interface::VERSION).
+    /// The version of the archive; that of the wrapper is [`VERSION`].
     pub fn version() -> u32 {
+        // SAFETY: the call takes and writes nothing.
         unsafe { c::fairleadow_version() }
     }
 }
@@ -157,11 +158,13 @@ fn length<T>(of: &[T]) -> u64 {
 
 /// A call that only reads.
 fn read(call: c::Read, text: &[u8]) -> Answer {
+    // SAFETY: the text is borrowed for the call, which reads it; index and count are places of the caller.
     answered(|index, count| unsafe { call(text.as_ptr(), length(text), index, count) })
 }
 
 /// A call that writes into one lent buffer.
 fn written(call: c::Write, text: &[u8], out: &mut [u8]) -> Answer {
+    // SAFETY: both slices are borrowed for the call, the one that it writes to alone.
     answered(|index, count| unsafe {
         call(text.as_ptr(), length(text), out.as_mut_ptr(), length(out), index, count)
     })
@@ -177,6 +180,8 @@ fn ran(
     codes: &mut [u8],
 ) -> (Answer, State) {
     let mut kept = c::State::from(state);
+    // SAFETY: image and words are borrowed for the call, which reads them; state, masks and codes are borrowed for it
+    // alone.
     let answer = answered(|index, count| unsafe {
         call(
             image.as_ptr(),
@@ -199,6 +204,7 @@ fn ran(
 fn ticked(call: c::Tick, image: &[u8], state: &mut State, word: u16) -> TickReport {
     let mut kept = c::State::from(&*state);
     let (mut mask, mut code) = (0, 0);
+    // SAFETY: the image is borrowed for the call, which reads it; state, mask and code are places of this function.
     let answer = answered(|index, count| unsafe {
         call(image.as_ptr(), length(image), &mut kept, word, &mut mask, &mut code, index, count)
     });
@@ -218,10 +224,12 @@ fn spun(
     let mut kept: Vec<c::State> = states.iter().map(c::State::from).collect();
     let mut record = *taken as u64;
     let (mut mask, mut code) = (0, 0);
+    // SAFETY: the image is borrowed for the call, which reads it; states, record, mask and code are places of this
+    // function.
     let answer = answered(|index, count| unsafe {
         call(
-            kept.as_mut_ptr().cast(),
-            size_of_val(kept.as_slice()) as u64,
+            kept.as_mut_ptr(),
+            kept.len() as u64,
             &mut record,
             spindle as u64,
             image.as_ptr(),
@@ -241,6 +249,7 @@ fn spun(
 /// A rebinding, by an image or by a table.
 fn rebound(call: c::Rebind, image: &[u8], state: &mut State, number: usize, scheme: usize) -> Answer {
     let mut kept = c::State::from(&*state);
+    // SAFETY: the image is borrowed for the call, which reads it; the state is a place of this function.
     let answer = answered(|index, count| unsafe {
         call(image.as_ptr(), length(image), &mut kept, number as u64, scheme as u64, index, count)
     });
@@ -271,6 +280,7 @@ impl Library for Proved {
 
     fn fresh(&self, size: usize) -> (Answer, State) {
         let mut state = c::State::filled(0xFF);
+        // SAFETY: the state is a place of this function.
         let answer =
             answered(|index, count| unsafe { c::fairleadow_fresh(size as u64, &mut state, index, count) });
         (answer, State::from(&state))
@@ -296,6 +306,8 @@ impl Library for Proved {
         masks: &mut [u32],
         codes: &mut [u8],
     ) -> Answer {
+        // SAFETY: text and words are borrowed for the call, which reads them; image, masks and codes are borrowed for it
+        // alone.
         answered(|index, count| unsafe {
             c::fairleadow_dry_run(
                 text.as_ptr(),
@@ -326,6 +338,8 @@ impl Library for Proved {
     ) -> PricedReport {
         let mut kept = c::State::from(state);
         let mut price = u64::MAX;
+        // SAFETY: image, prices and words are borrowed for the call, which reads them; masks and codes are borrowed for it
+        // alone, and state and price are places of this function.
         let answer = answered(|index, count| unsafe {
             c::fairleadow_priced_run(
                 image.as_ptr(),
@@ -368,6 +382,7 @@ impl Library for Proved {
     fn cause(&self, image: &[u8], state: &State, word: u16) -> CauseReport {
         let kept = c::State::from(state);
         let (mut row, mut mask, mut bit) = (u16::MAX, u16::MAX, u8::MAX);
+        // SAFETY: the image is borrowed for the call, which reads it; all else are places of this function.
         let answer = answered(|index, count| unsafe {
             c::fairleadow_cause(
                 image.as_ptr(),
@@ -385,6 +400,7 @@ impl Library for Proved {
     }
 
     fn list_rows(&self, image: &[u8], firsts: &mut [u16], counts: &mut [u16]) -> Answer {
+        // SAFETY: the image is borrowed for the call, which reads it; both lists are borrowed for it alone.
         answered(|index, count| unsafe {
             c::fairleadow_list_rows(
                 image.as_ptr(),
@@ -404,6 +420,7 @@ impl Library for Proved {
     }
 
     fn little_chart(&self, frames: usize, number: usize, text: &mut [u8]) -> Answer {
+        // SAFETY: the text is borrowed for the call alone.
         answered(|index, count| unsafe {
             c::fairleadow_little_chart(
                 frames as u64,
@@ -418,6 +435,7 @@ impl Library for Proved {
 
     fn count_fillings(&self, image: &[u8], size: usize, ticks: usize, conditions: usize) -> FillingsReport {
         let (mut ended, mut full, mut unmatched) = (u32::MAX, u32::MAX, u32::MAX);
+        // SAFETY: the image is borrowed for the call, which reads it; the counts are places of this function.
         let answer = answered(|index, count| unsafe {
             c::fairleadow_count_fillings(
                 image.as_ptr(),
@@ -444,6 +462,7 @@ impl Library for Proved {
     }
 
     fn sum(&self, sum: u32, bytes: &[u8]) -> u32 {
+        // SAFETY: the bytes are borrowed for the call, which reads them.
         unsafe { c::fairleadow_sum(sum, bytes.as_ptr(), length(bytes)) }
     }
 
@@ -479,6 +498,7 @@ impl Library for Proved {
 
     fn meaning(&self, code: u8) -> Meaning {
         let mut called = 0;
+        // SAFETY: the number called is a place of this function.
         match unsafe { c::fairleadow_meaning(code, &mut called) } as u8 {
             0 => Meaning::Plain,
             1 => Meaning::OperationCall(called),
