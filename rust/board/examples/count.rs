@@ -5,9 +5,9 @@
 use std::env;
 
 use board::{may_be_slow, milliseconds, with_commas, Count, Counting};
-use reference::entry_point::EntryPoint;
+use comparison::entry_point::EntryPoint;
+use comparison::samples::worst::{candidates, Candidate, Origin};
 use reference::prepare::is_table;
-use reference::samples::worst::{candidates, Candidate, Origin};
 use reference::Reference;
 
 /// An input, the number that was answered, and what the call took.

@@ -2,15 +2,15 @@
 //! inputs drawn, small changes are tried one after the other, and those are kept that take no fewer cycles on the emulated
 //! board, on a Cortex-M0 with the slow multiplier.
 //! The seeds of the changes follow each other, so that a search is the same each time, and what it kept is printed as a row
-//! for rust/reference/src/samples/found.rs. controller/count/count search runs it: SEED CHANGES [ENTRY POINT...].
+//! for rust/comparison/src/samples/found.rs. controller/count/count search runs it: SEED CHANGES [ENTRY POINT...].
 
 use std::env;
 
 use board::{may_be_slow, Counting};
-use reference::entry_point::{EntryPoint, Input};
-use reference::generate::{vary, Random};
-use reference::samples::found::{changed, Start};
-use reference::samples::worst::{candidates, known, Candidate};
+use comparison::entry_point::{EntryPoint, Input};
+use comparison::generate::{vary, Random};
+use comparison::samples::found::{changed, Start};
+use comparison::samples::worst::{candidates, known, Candidate};
 use reference::Reference;
 
 /// How many inputs are drawn to begin with; the longest is taken.

@@ -36,8 +36,8 @@ pub fn milliseconds(cycles: u64) -> f64 {
 
 pub fn with_commas(number: u64) -> String {
     let digits = number.to_string();
-    let comma = |(at, digit)| {
-        let more = if at > 0 && (digits.len() - at) % 3 == 0 { "," } else { "" };
+    let comma = |(at, digit): (usize, char)| {
+        let more = if at > 0 && (digits.len() - at).is_multiple_of(3) { "," } else { "" };
         format!("{more}{digit}")
     };
     digits.chars().enumerate().map(comma).collect()

@@ -4,13 +4,13 @@
 use std::collections::BTreeMap;
 
 use board::{Board, Call, Notes};
+use comparison::compare::compare;
+use comparison::entry_point::EntryPoint;
+use comparison::samples::chart_p;
+use comparison::samples::worst::candidates;
 use interface::{Answer, Library, State, PRICED_WORDS, TABLE, VERSION};
-use reference::compare::compare;
 use reference::entry::translated;
-use reference::entry_point::EntryPoint;
 use reference::frames::text_of;
-use reference::samples::chart_p;
-use reference::samples::worst::candidates;
 use reference::{fresh_state, Reference};
 
 const CASES: u64 = 20_000;

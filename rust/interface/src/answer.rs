@@ -1,7 +1,7 @@
 //! What an entry point answers, and a refusal as an error.
 
-use std::error::Error;
-use std::fmt;
+use core::error::Error;
+use core::fmt;
 
 /// The count that was made, or a refusal with its frame index and the ticks finished before it.
 #[derive(Clone, Copy, Debug, PartialEq, Eq)]
@@ -121,6 +121,8 @@ impl Error for Refusal {}
 
 #[cfg(test)]
 mod tests {
+    use std::vec::Vec;
+
     use super::*;
 
     #[test]

@@ -1,6 +1,11 @@
 //! The entry points as a trait on plain Rust types, and what they answer. The proved library and the reference both
 //! have this interface, so that they can be compared, and neither needs the other.
 
+#![no_std]
+
+#[cfg(test)]
+extern crate std;
+
 mod answer;
 mod sizes;
 
@@ -8,7 +13,10 @@ pub use answer::{Answer, Refusal};
 pub use sizes::*;
 
 /// The version of the entry points, as the header and the archive have it.
-pub const VERSION: u32 = 2;
+pub const VERSION: u32 = 3;
+
+/// The release that the crates are of, whose middle number is the version.
+pub const RELEASE: &str = env!("CARGO_PKG_VERSION");
 
 /// The machine's state, with the fields of the C struct. Places hold labels, the bottom first; number h's result bit is
 /// `results[h - 1]`, and the scheme that serves it `serving[h - 1]` (that of number 1, which nothing calls, is kept and not tried). For
