@@ -4,11 +4,11 @@
 use std::fs;
 use std::path::Path;
 
+use comparison::generate::{charts, Random};
 use fairleadow::{Answer, Library, Proved, IMAGE_TEXT};
 use office::commands::minimise::{minimised, size};
 use office::problem::thousands;
 use reference::frames::{text_of, Frame};
-use reference::generate::{charts, Random};
 
 /// The charts drawn, by seeds from 0 on.
 const SEEDS: u64 = 10_000;

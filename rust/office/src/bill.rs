@@ -2,40 +2,91 @@
 
 pub mod prices;
 
-use fairleadow::{Answer, Library, PricedReport, Prices, Proved, OPERATIONS};
+use fairleadow::{Answer, Library, Prices, Proved, OPERATIONS};
 
 use crate::columns::aligned;
 use crate::names::Names;
 use crate::problem::{counted, thousands, Problem};
 use crate::subject::Subject;
 use crate::trace::fresh;
+use crate::trace::swaps::{self, Swap};
 
-/// A priced run from a fresh state: its answer, the masks of the ticks made, and the price in cents.
+/// A priced run from a fresh state: its answer, the masks of the ticks made, and its parts. The library prices runs in which nothing is
+/// swapped: a run with swaps has a part from each to the next, each with a price of its own.
 pub struct Bill {
     pub answer: Answer,
     masks: Vec<u32>,
     prices: Prices,
-    price: u64,
+    parts: Vec<Part>,
+}
+
+/// Ticks between two swaps, and their price in cents.
+#[derive(Clone, Copy, Debug, PartialEq, Eq)]
+pub struct Part {
+    pub first: usize,
+    pub ticks: usize,
+    pub cents: u64,
 }
 
 impl Bill {
-    /// Runs an image by the words, or tells why there is no price: with 17 and 18 there is one.
-    pub fn of(subject: &Subject, places: usize, prices: Prices, words: &[u16]) -> Result<Bill, Problem> {
-        let state = fresh(places)?;
-        let (mut masks, mut codes) = (vec![0; words.len()], vec![0; words.len()]);
-        let PricedReport { answer, price, .. } =
-            Proved.priced_run(&subject.image.text, &state, &prices, words, &mut masks, &mut codes);
-        if !matches!(answer.number(), 0 | 17 | 18) {
-            return Err(subject.problem(answer));
+    /// Runs an image by the words, with swaps before some of them, or tells why there is no price: with 17 and 18 there is one.
+    pub fn of(
+        subject: &Subject,
+        places: usize,
+        prices: Prices,
+        words: &[u16],
+        swaps: &[Swap],
+    ) -> Result<Bill, Problem> {
+        let (image, table) = (&subject.image, subject.image.prepared()?);
+        let mut state = fresh(places)?;
+        let mut bill = Bill { answer: Answer::Done(0), masks: Vec::new(), prices, parts: Vec::new() };
+        let mut first = 0;
+        loop {
+            swaps::make(swaps, first, &table, &mut state)?;
+            let later =
+                swaps.iter().map(|swap| swap.tick).filter(|tick| (first + 1..words.len()).contains(tick));
+            let next = later.min();
+            let part = &words[first..next.unwrap_or(words.len())];
+            let (mut masks, mut codes) = (vec![0; part.len()], vec![0; part.len()]);
+            let priced = Proved.priced_run(&image.text, &state, &prices, part, &mut masks, &mut codes);
+            if !matches!(priced.answer.number(), 0 | 17 | 18) {
+                return Err(subject.problem(priced.answer));
+            }
+            masks.truncate(priced.answer.count());
+            bill.add(first, &masks, priced.price)?;
+            (state, first) = (priced.state, first + part.len());
+            bill.answer = match priced.answer {
+                Answer::Done(_) => Answer::Done(first),
+                Answer::Refused { number, index, .. } => {
+                    Answer::Refused { number, index, count: bill.masks.len() }
+                }
+            };
+            if bill.answer.number() != 0 || next.is_none() {
+                return Ok(bill);
+            }
         }
-        masks.truncate(answer.count());
-        let bill = Bill { answer, masks, prices, price };
-        match (bill.sum() + 50) / 100 {
-            own if own == price => Ok(bill),
-            own => Err(Problem::internal(format!(
-                "the lines make {own} cents, and the library's price is {price}"
-            ))),
+    }
+
+    /// A part, whose lines make the library's price.
+    fn add(&mut self, first: usize, masks: &[u32], cents: u64) -> Result<(), Problem> {
+        let price = |mask: &u32| -> u64 {
+            let on = (0..OPERATIONS).filter(|operation| mask >> operation & 1 == 1);
+            on.map(|operation| u64::from(self.prices[operation])).sum()
+        };
+        let own = (masks.iter().map(price).sum::<u64>() + 50) / 100;
+        if own != cents {
+            return Err(Problem::internal(format!(
+                "the lines make {own} cents, and the library's price is {cents}"
+            )));
         }
+        self.masks.extend(masks);
+        self.parts.push(Part { first, ticks: masks.len(), cents });
+        Ok(())
+    }
+
+    /// The parts from swap to swap; a run without swaps has one.
+    pub fn parts(&self) -> &[Part] {
+        &self.parts
     }
 
     /// What all lines cost, in hundredths of a cent.
@@ -50,7 +101,7 @@ impl Bill {
 
     /// How many ticks were made, and the price of all in cents.
     pub fn total(&self) -> (usize, u64) {
-        (self.masks.len(), self.price)
+        (self.masks.len(), self.parts.iter().map(|part| part.cents).sum())
     }
 
     /// The outputs that were on, each with its ticks and its price a tick in hundredths of a cent.
@@ -69,8 +120,18 @@ impl Bill {
             rows.push([name, thousands(ticks as usize), cents(price), cents(ticks * price)]);
         }
         rows.push(["sum".to_string(), String::new(), String::new(), cents(self.sum())]);
-        let (ticks, price) = (counted(self.masks.len(), "tick"), counted(self.price as usize, "cent"));
-        format!("{}\n{ticks}, to pay: {price}\n", aligned(&rows, |column| column > 0))
+        let (ticks, price) = self.total();
+        let (ticks, price) = (counted(ticks, "tick"), counted(price as usize, "cent"));
+        let total = format!("{}\n{ticks}, to pay: {price}\n", aligned(&rows, |column| column > 0));
+        if self.parts.len() == 1 {
+            return total;
+        }
+        let part = |part: &Part| {
+            let cents = counted(part.cents as usize, "cent");
+            format!("  {} from tick {}: {cents}\n", counted(part.ticks, "tick"), part.first)
+        };
+        let parts: String = self.parts.iter().map(part).collect();
+        format!("{total}each part from swap to swap has its own price, rounded by itself:\n{parts}")
     }
 }
 

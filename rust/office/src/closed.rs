@@ -9,7 +9,8 @@ static CLOSED: AtomicBool = AtomicBool::new(false);
 
 /// Started by the C library before Rust's own beginning.
 #[used]
-#[link_section = ".init_array"]
+// SAFETY: the C library calls what stands there with these parameters.
+#[unsafe(link_section = ".init_array")]
 static LOOK: extern "C" fn(c_int, *const *const c_char, *const *const c_char) = look;
 
 /// By their names in C: F_GETFL, O_ACCMODE and O_RDONLY.
@@ -17,7 +18,7 @@ const GET_FLAGS: c_int = 3;
 const ACCESS: c_int = 3;
 const READ_ONLY: c_int = 0;
 
-extern "C" {
+unsafe extern "C" {
     fn fcntl(file: c_int, command: c_int, ...) -> c_int;
 }
 

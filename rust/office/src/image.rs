@@ -14,6 +14,7 @@ pub struct Image {
     pub text: Vec<u8>,
     header: Header,
     frames: Vec<Frame>,
+    tested: u16,
 }
 
 /// The label that a row leaves, the conditions that it asks for and their values, the result that it asks for (2 for none), and
@@ -85,7 +86,10 @@ impl Image {
     /// Of a text that the library has accepted.
     pub fn accepted(text: Vec<u8>) -> Image {
         let frames = explain::frames(&text).expect("an accepted image has lines");
-        Image { header: Header::of(&frames[0]), frames, text }
+        let header = Header::of(&frames[0]);
+        let tested =
+            frames[header.first_row()..].iter().fold(0, |tested, frame| tested | Row::of(frame).care);
+        Image { header, frames, text, tested }
     }
 
     /// From the bytes of a file that looks like an image, or why the library refuses it.
@@ -188,7 +192,12 @@ impl Image {
 
     /// The conditions that some row tests, as a mask.
     pub fn tested(&self) -> u16 {
-        self.rows().fold(0, |tested, row| tested | row.care)
+        self.tested
+    }
+
+    /// The outputs that some label puts out, as a mask.
+    pub fn outputs(&self) -> u32 {
+        (0..self.labels()).fold(0, |outputs, label| outputs | self.label(label as u8).mask)
     }
 
     /// The open labels of a fitting state, the bottom first, each with the scheme that the state remembers for it.

@@ -47,8 +47,23 @@ impl Other {
     }
 }
 
-/// Refuses what goes beside a chart or an image in the place of one, which is asked for by its name.
+/// The beginnings of files that are no texts.
+const FOREIGN: [(&[u8], &str); 6] = [
+    (b"\x89PNG", "a picture"),
+    (b"\xFF\xD8\xFF", "a picture"),
+    (b"GIF8", "a picture"),
+    (b"%PDF-", "a printed page (PDF)"),
+    (b"PK\x03\x04", "a packed file (ZIP)"),
+    (b"\x1F\x8B", "a packed file (GZIP)"),
+];
+
+/// Refuses what goes beside a chart or an image in the place of one, which is asked for by its name, and pictures and the like.
 pub fn refused(bytes: &[u8], asked: &str) -> Result<(), Problem> {
+    if let Some((_, kind)) = FOREIGN.iter().find(|(start, _)| bytes.starts_with(start)) {
+        return Err(
+            Problem::new(format!("this is {kind}; {asked} is asked for here")).advice("the wrong file")
+        );
+    }
     match Other::of(bytes) {
         Some(other) => {
             let what = format!("this is {}; {asked} is asked for here", other.named());
@@ -83,6 +98,16 @@ fn is_patch(bytes: &[u8]) -> bool {
 #[cfg(test)]
 mod tests {
     use super::*;
+
+    #[test]
+    fn pictures_and_the_like_are_known() {
+        let told = |bytes: &[u8]| refused(bytes, "a chart").err().map(|problem| problem.words);
+        let picture = Some("this is a picture; a chart is asked for here".to_string());
+        assert_eq!(told(b"\x89PNG\r\n\x1A\n\0\0\0\rIHDR"), picture);
+        assert_eq!(told(b"\xFF\xD8\xFF\xE0\0\x10JFIF"), picture);
+        assert_eq!(told(b"PNG"), None);
+        assert_eq!(told(b""), None);
+    }
 
     #[test]
     fn files_that_go_beside_a_chart_are_known() {

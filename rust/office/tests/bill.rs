@@ -2,11 +2,11 @@
 
 mod shared;
 
+use comparison::generate::{images, prices, runs, Random};
 use office::bill::Bill;
 use office::subject::Subject;
 use reference::check::chart_of;
 use reference::frames::text_of;
-use reference::generate::{images, prices, runs, Random};
 use reference::price::price;
 use reference::walk::walk;
 use shared::{example, file, run, Ran};
@@ -161,7 +161,10 @@ fn wrong_calls_are_told() {
     let (chart, prices) = (example("roughing.txt"), example("roughing.prices"));
     for (args, told) in [
         (vec!["bill", &chart], "--prices FILE is missing\nusage: fairleadow bill CHART --prices FILE "),
-        (vec!["bill", &chart, "--prices", &prices, "--swap", "1:2=2"], "no option --swap\n"),
+        (
+            vec!["bill", &chart, "--prices", &prices, "--words", "0", "--swap", "1:2=2"],
+            "the swap 1:2=2 comes after",
+        ),
         (vec!["bill", "-", "--prices", "-"], "chart and prices cannot both be standard input\n"),
         (
             vec!["bill", &chart, "--prices", "-", "--words", "-"],
@@ -177,6 +180,30 @@ fn wrong_calls_are_told() {
     assert!(ran.status == 1 && ran.said.contains("refusal 14"), "{}", ran.said);
 }
 
+/// Each part from swap to swap is priced as a run by itself, and a swap right before the first tick parts nothing.
+#[test]
+fn swaps_part_a_bill() {
+    let prices = list("parts.prices", "feed 30\nspindle 25\n");
+    let words = "0,0,4,0,0,0,0,0,0,4,4,0,0,0";
+    let by = |swaps: &str| billed(&example("swapped.txt"), &prices, &["--words", words, "--swap", swaps]);
+    let ran = by("0:2=3");
+    assert!(ran.status == 0 && !ran.printed.contains("each part"), "{}{}", ran.printed, ran.said);
+    let ran = by("7:2=3,7:2=2,9:2=3");
+    assert_eq!((ran.status, ran.said.as_str()), (0, ""));
+    let whole = by("0:2=2").printed;
+    let sum = |text: &str| text.lines().find(|line| line.starts_with("sum")).map(str::to_string);
+    // until the next call the same scheme is open
+    assert_eq!(sum(&by("13:2=3").printed), sum(&whole));
+    let (_, parts) = ran.printed.split_once("rounded by itself:\n").expect("parts");
+    let counts: Vec<&str> = parts.lines().map(|line| line.split(':').next().unwrap_or("")).collect();
+    assert_eq!(counts, ["  7 ticks from tick 0", "  2 ticks from tick 7", "  5 ticks from tick 9"]);
+    let cents = |line: &str| line.split(' ').rev().nth(1).and_then(|cents| cents.parse::<usize>().ok());
+    let paid: usize = parts.lines().filter_map(cents).sum();
+    assert!(ran.printed.contains(&format!("14 ticks, to pay: {}\n", office::problem::counted(paid, "cent"))));
+    let ran = by("7:2=9");
+    assert!(ran.status == 1 && ran.said.contains("the swap 7:2=9"), "{}", ran.said);
+}
+
 /// What is to be paid is the price of the walk's ticks, for any chart, words and prices.
 #[test]
 fn random_charts_cost_what_their_walk_costs() {
@@ -186,7 +213,7 @@ fn random_charts_cost_what_their_walk_costs() {
         let (records, _) = images::translated(random);
         let (places, words, prices) = (random.within(1, 4), runs::words(random, 50), prices::list(random));
         let subject = Subject::read(text_of(&records)).expect("a valid chart");
-        let bill = Bill::of(&subject, places, prices, &words).expect("it has a price");
+        let bill = Bill::of(&subject, places, prices, &words, &[]).expect("it has a price");
         let ticks = walk(&chart_of(&records).expect("a valid chart"), places, &words);
         let masks: Vec<u32> = ticks.iter().take(bill.answer.count()).map(|tick| tick.mask).collect();
         let to_pay = office::problem::counted(price(&prices, &masks) as usize, "cent");

@@ -2,13 +2,13 @@
 
 mod shared;
 
+use comparison::generate::{charts, ladders, Random};
 use office::draw::{arc_id, call_id, dot, drawing, node_id};
 use office::marking::called;
 use office::plan::Plan;
 use office::source::from_bytes;
 use office::trace::{trace, Arc};
 use reference::frames::text_of;
-use reference::generate::{charts, ladders, Random};
 use shared::{example, file, program, ran, run, Ran};
 
 fn drawn(chart: &str, rest: &[&str]) -> Ran {

@@ -4,13 +4,13 @@ use std::collections::BTreeMap;
 use std::fs;
 use std::path::Path;
 
+use comparison::generate::{charts, damage, images, Random};
 use fairleadow::{Answer, Library, Proved, CHART_TEXT, IMAGE_TEXT, LINE};
 use office::explain;
 use office::kind::Kind;
 use office::notation::Notation;
 use office::problem::Problem;
 use reference::frames::{text_of, Frame};
-use reference::generate::{charts, damage, images, Random};
 
 /// How often each refusal was met.
 type Met = BTreeMap<u8, usize>;
@@ -148,7 +148,7 @@ fn the_field_that_is_blamed_is_the_fault() {
 /// The largest charts are explained as soon as small ones.
 #[test]
 fn rows_of_the_longest_paths_are_counted() {
-    use reference::samples::{longest_path, Before};
+    use comparison::samples::{longest_path, Before};
     for before in [Before::Begin, Before::Operation, Before::Function] {
         let text = text_of(&longest_path(before, 16));
         let answer = Proved.translate(&text, &mut [0; IMAGE_TEXT]);

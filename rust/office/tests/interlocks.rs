@@ -5,6 +5,7 @@ mod shared;
 use std::fmt::Write;
 use std::fs;
 
+use comparison::generate::{charts, runs, Random};
 use office::check::checked;
 use office::interlocks::told;
 use office::notation::Notation;
@@ -13,7 +14,6 @@ use office::source::from_notation;
 use reference::chart::Chart;
 use reference::check::chart_of;
 use reference::frames::text_of;
-use reference::generate::{charts, runs, Random};
 use reference::image::Image;
 use reference::{translator, Library, Reference};
 use shared::{example, file, run};

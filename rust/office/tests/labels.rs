@@ -6,6 +6,7 @@ mod shared;
 use std::collections::{BTreeMap, BTreeSet};
 use std::fs;
 
+use comparison::generate::{images, runs, Random};
 use office::image::Image;
 use office::labels::drawing::drawing;
 use office::labels::run::{places, run as run_labels, LabelRun};
@@ -15,7 +16,6 @@ use office::source::{from_bytes, from_either};
 use office::subject::Subject;
 use office::trace::swaps::Swap;
 use reference::frames::text_of;
-use reference::generate::{images, runs, Random};
 use reference::{Library, Reference, State};
 use shared::browser::installed;
 use shared::{example, file, run, Ran};

@@ -2,11 +2,12 @@
 
 mod shared;
 
+use comparison::generate::{alike, Random};
+use comparison::samples;
 use office::commands::minimise::minimised;
+use reference::entry;
 use reference::frames::text_of;
-use reference::generate::{alike, Random};
 use reference::image::image_of;
-use reference::{entry, samples};
 use shared::{example, file, run, Ran};
 
 fn path(name: &str, bytes: &[u8]) -> String {

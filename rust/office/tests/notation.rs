@@ -295,8 +295,8 @@ fn too_many_rows_are_told_by_names() {
 /// Whatever is typed into a notation, it is read or told with a line and a column.
 #[test]
 fn garbled_notations_are_told() {
+    use comparison::generate::Random;
     use office::notation::Notation;
-    use reference::generate::Random;
     let text = with_begin("begin when the stack is full -> cut");
     let characters: Vec<char> = text.chars().collect();
     let (mut read, mut refused) = (0, 0);

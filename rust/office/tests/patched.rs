@@ -1,6 +1,7 @@
 //! Random patches of images of all sorts: the rows are in their places, and what is told to differ is exactly the patch, by the reference's
 //! search for the row.
 
+use comparison::generate::{images, Random};
 use office::diff::images::differences;
 use office::image::{Image, Row};
 use office::labels::words;
@@ -9,7 +10,6 @@ use office::plan::Plan;
 use office::source::from_bytes;
 use office::subject::Subject;
 use reference::frames::text_of;
-use reference::generate::{images, Random};
 use reference::image as plain;
 
 /// The rows as the reference has them.

@@ -5,6 +5,7 @@ mod shared;
 use std::collections::BTreeMap;
 use std::fs;
 
+use comparison::generate::{chains, Random};
 use fairleadow::{Answer, Library, Proved, RECORD, RECORDS};
 use office::calls::Calls;
 use office::chart::{nodes, Node};
@@ -14,7 +15,6 @@ use office::marking::called;
 use office::places::needed;
 use office::source::from_notation;
 use reference::frames::{text_of, Frame};
-use reference::generate::{chains, Random};
 use shared::{example, file, run};
 
 /// What is said of each example.

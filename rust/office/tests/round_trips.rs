@@ -4,11 +4,11 @@ use std::fmt::Write;
 use std::fs;
 use std::path::{Path, PathBuf};
 
+use comparison::generate::{charts, letters, Random};
 use fairleadow::{Library, Proved, CHART_TEXT, RECORD, RECORDS};
 use office::notation::Notation;
 use office::source;
 use reference::frames::text_of;
-use reference::generate::{charts, letters, Random};
 
 fn examples(extension: &str) -> Vec<PathBuf> {
     let folder = Path::new(env!("CARGO_MANIFEST_DIR")).join("../../examples");

@@ -110,6 +110,6 @@ fn each_command_that_runs_takes_a_scenario() {
     );
     let swapped = example("swapped.scenario");
     let ran = run(&["bill", &example("swapped.txt"), "--prices", &prices, "--scenario", &swapped]);
-    let told = "a run that is priced has no swaps, and this scenario has some\n";
-    assert!(ran.status == 1 && ran.printed.is_empty() && ran.said.ends_with(told), "{}", ran.said);
+    let told = "each part from swap to swap has its own price, rounded by itself:\n";
+    assert!(ran.status == 0 && ran.printed.contains(told), "{}{}", ran.printed, ran.said);
 }

@@ -3,6 +3,7 @@
 
 mod shared;
 
+use comparison::generate::{charts, runs, Random};
 use fairleadow::{Library, Proved, IMAGE_TEXT};
 use office::plan::Plan;
 use office::scenario::{play, written, Played, Scenario, Stage, Vocabulary};
@@ -10,7 +11,6 @@ use office::source::from_bytes;
 use office::trace::swaps::Swap;
 use office::trace::{trace, Happening, Tick};
 use reference::frames::text_of;
-use reference::generate::{charts, runs, Random};
 use shared::{example, file, run};
 
 const CHARTS: u64 = 3_000;

@@ -1,6 +1,8 @@
 //! Traces of random charts held against the recursive walk of the reference, which knows no label and no stack, and those without swaps
 //! against the library's dry run, whose contract says that it is the walk.
 
+use comparison::generate::{charts, runs, Random};
+use comparison::samples;
 use fairleadow::{Answer, Library, Proved, IMAGE_TEXT};
 use office::plan::Plan;
 use office::source::from_bytes;
@@ -9,8 +11,6 @@ use office::trace::{trace, Happening, Trace};
 use reference::chart::Chart;
 use reference::entry::chart_from_text;
 use reference::frames::text_of;
-use reference::generate::{charts, runs, Random};
-use reference::samples;
 use reference::state::OWN;
 use reference::walk::{walk_told, Signal, Tick};
 

@@ -5,6 +5,7 @@ mod shared;
 use std::collections::BTreeMap;
 use std::process::Command;
 
+use comparison::generate::{charts, runs, Random};
 use office::formats::record::{Record, Step};
 use office::formats::{ticks, vcd};
 use office::labels::run::run as label_run;
@@ -14,7 +15,6 @@ use office::subject::Subject;
 use office::trace::swaps::Swap;
 use office::trace::{trace, Happening};
 use reference::frames::text_of;
-use reference::generate::{charts, runs, Random};
 use shared::readers::own;
 use shared::{example, run};
 
@@ -184,11 +184,12 @@ fn waves_are_the_trace() {
         let own = Record::of_image("an image".to_string(), &subject, &own, None);
         is_dumped(&own, &vcd::text(&own));
         assert_eq!(own.steps.len(), record.steps.len());
-        if seed % 40 == 0 && !record.steps.is_empty() {
-            if let Some(again) = by_tools("waves", &text) {
-                is_dumped(&record, &again);
-                read += 1;
-            }
+        if seed % 40 == 0
+            && !record.steps.is_empty()
+            && let Some(again) = by_tools("waves", &text)
+        {
+            is_dumped(&record, &again);
+            read += 1;
         }
         ticks += record.steps.len();
         full += usize::from(record.stop.is_some());

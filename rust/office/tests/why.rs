@@ -4,10 +4,10 @@ mod shared;
 
 use std::collections::BTreeMap;
 
+use comparison::generate::{charts, images, runs, Random};
 use office::subject::Subject;
 use office::why::{asked, told, Asked};
 use reference::frames::text_of;
-use reference::generate::{charts, images, runs, Random};
 use reference::{Library, Reference, State};
 use shared::sheets::{edited, IMAGE};
 use shared::{example, file, run, Ran};

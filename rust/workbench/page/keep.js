@@ -110,7 +110,7 @@ const store = (() => {
     const told = bench.ask("words_of").text;
     replace(file.name, new TextDecoder("utf-8", { ignoreBOM: true }).decode(bytes));
     // an editor changes what cannot be seen, ends of lines above all: what is to be said of the file itself is said
-    if (told !== find("checked").textContent.split("\nAn image has")[0]) unable("As it stands in the file, " + file.name + ": " + told);
+    if (told !== find("checked").textContent) unable("As it stands in the file, " + file.name + ": " + told);
     say(file.name + " is open: " + find("checked").textContent.split("\n")[0]);
   }
 
@@ -140,29 +140,45 @@ const store = (() => {
   function save(what) {
     const stem = (name || "chart").replace(/\.[^.]*$/, "");
     if (what === "text") return download(name || "chart.txt", chart.field.value, "text/plain");
-    if (chart.accepted() === null) return say("There is no accepted chart to save.");
+    if (chart.accepted() === null) return say("There is no accepted chart or image to save.");
     if (what === "picture") return download(stem + ".svg", picture(), "image/svg+xml");
     if (what === "words") return download(stem + ".words", bench.text("words").split(",").join("\n") + "\n", "text/plain");
     const scenario = { scenario: 0, expecting: 1 }[what];
     bench.give(name || "chart");
     const told = scenario === undefined ? bench.ask(what) : bench.ask("scenario", scenario);
-    const ending = { lines: ".chart", image: ".image", report: ".trace.txt", vcd: ".vcd" }[what] ?? ".scenario";
+    const laid_out = chart.accepted().place === "label" ? ".list.txt" : ".notation.txt";
+    const ending = { lines: ".chart", image: ".image", laid_out, report: ".trace.txt", vcd: ".vcd" }[what] ?? ".scenario";
     return told.done ? download(stem + ending, told.text, "text/plain") : say(told.text);
   }
 
-  const picked = (id, act) => find(id).addEventListener("change", (event) => {
-    const value = event.target.value;
-    event.target.value = "";
-    if (value !== "") act(value);
-  });
+  // an arrow key opens the list, where it would choose the first of it at once
+  const opens = (event) => {
+    if (event.key !== "ArrowDown" && event.key !== "ArrowUp") return;
+    try {
+      event.target.showPicker();
+      event.preventDefault();
+    } catch (error) {
+      // a browser that cannot open it does what it does
+    }
+  };
+  const picked = (id, act) => {
+    find(id).addEventListener("keydown", opens);
+    find(id).addEventListener("change", (event) => {
+      const value = event.target.value;
+      event.target.value = "";
+      if (value !== "") act(value);
+    });
+  };
   const examples = JSON.parse(find("example-texts").textContent);
   find("examples").append(...Object.keys(examples).map((one) => new Option(one, one)));
   picked("examples", (one) => {
+    unable("");
     replace(one, examples[one]);
     run.fresh(mostPlaces);
   });
   picked("earlier", (at) => {
     const { name, text, field } = earlier[Number(at)];
+    unable("");
     if (field === "scenario") rehearse(text);
     else replace(name, text);
   });
@@ -173,10 +189,18 @@ const store = (() => {
     event.target.value = "";
   });
   find("print").addEventListener("click", () => window.print());
-  document.addEventListener("dragover", (event) => event.preventDefault());
+  // a file is opened wherever it is dropped; a text that is dragged goes where it is dropped
+  const isFile = (event) => event.dataTransfer.types.includes("Files");
+  document.addEventListener("dragover", (event) => isFile(event) && event.preventDefault());
   document.addEventListener("drop", (event) => {
+    if (!isFile(event)) return;
     event.preventDefault();
-    if (event.dataTransfer.files[0]) open(event.dataTransfer.files[0]);
+    const [first, ...others] = event.dataTransfer.files;
+    if (first) open(first).then(() => others.length && say(find("said").textContent + " One file is opened at a time: the others were left."));
+  });
+  window.addEventListener("hashchange", () => {
+    unable("");
+    follow();
   });
   window.addEventListener("pagehide", keep);
   window.addEventListener("beforeunload", (event) => {
@@ -206,14 +230,17 @@ const store = (() => {
       run.restore({ words: kept.words, swaps: kept.swaps, places: kept.places }, kept.shown);
     }
     run.show(run.shown());
-    follow();
+    // a page that is loaded again, or come back to, goes on as it was left, whatever its address
+    const [came] = performance.getEntriesByType("navigation");
+    if (!kept || !came || came.type === "navigate") follow();
   }
 
   // an address that ends with #example=bore.txt&words=bore*3,-&places=2&tick=2 shows that; in it a + joins names, and is no space
   function follow() {
     const asked = new URLSearchParams(location.hash.slice(1).replaceAll("+", "%2B"));
     const example = asked.get("example");
-    if (!Object.hasOwn(examples, example)) return;
+    if (example === null) return;
+    if (!Object.hasOwn(examples, example)) return unable("The address: there is no example " + example);
     replace(example, examples[example]);
     run.fresh(Math.trunc(Number(asked.get("places") ?? mostPlaces)) || 0);
     const words = asked.get("words");
@@ -222,5 +249,5 @@ const store = (() => {
     const tick = parseInt(asked.get("tick"), 10);
     if (!Number.isNaN(tick)) run.show(tick);
   }
-  return { begin, follow, open, save, soon, replace };
+  return { begin, open, save, soon };
 })();

@@ -1,6 +1,6 @@
 // Keys, and the beginning.
 (() => {
-  const isTyped = (one) => one.isContentEditable || (one.matches("input, textarea, select") && one.id !== "slider");
+  const isTyped = (one) => one.isContentEditable || one.matches("input:not([type=checkbox], #slider), textarea, select");
   const events = { c: 0, d: 1, r: 2, o: 3 };
   const plain = {
     ArrowRight: run.step,

@@ -10,9 +10,13 @@ const run = (() => {
   const undone = [];
   const changed = [];
 
-  const word = () => (held | once) & 0xffff;
+  // a condition that is held stays so for a chart that tests it; in the word is what has a button
+  const tested = () => (chart.accepted()?.conditions ?? []).reduce((all, { number }) => all | (1 << number), 0);
+  const word = () => (held | once) & tested();
   const exists = () => state !== null && state.problem === undefined;
   const rows = () => (exists() ? state.rows : 0);
+  // what a tick stands for: a node of a chart, a label of an image
+  const place = () => chart.accepted()?.place ?? "node";
   const sheet = find("sheet");
   const group = (id) => sheet.querySelector("#" + id);
 
@@ -55,12 +59,12 @@ const run = (() => {
       both.append(one(name, "held", number, at), one(name, "once", number, at));
       return both;
     });
-    const place = find("conditions");
+    const all = find("conditions");
     const focus = document.activeElement;
-    const [kind, number] = place.contains(focus) ? [focus.dataset.kind, focus.dataset.condition] : [];
-    place.replaceChildren(...groups);
-    if (!groups.length) place.textContent = chart.accepted() ? "The chart tests no condition." : "";
-    if (number !== undefined) place.querySelector("[data-kind='" + kind + "'][data-condition='" + number + "']")?.focus();
+    const [kind, number] = all.contains(focus) ? [focus.dataset.kind, focus.dataset.condition] : [];
+    all.replaceChildren(...groups);
+    if (!groups.length) all.textContent = chart.accepted() ? "No condition is tested." : "";
+    if (number !== undefined) all.querySelector("[data-kind='" + kind + "'][data-condition='" + number + "']")?.focus();
     find("word").textContent = groups.length ? "the next word: 0x" + word().toString(16).toUpperCase().padStart(4, "0") : "";
   }
 
@@ -71,13 +75,15 @@ const run = (() => {
     changed.forEach((tell) => tell());
   }
 
+  // after a refused tick none is made
+  function ended() {
+    if (state.refusal !== null) say("The run has ended: " + state.refusal.split("\n")[0]);
+    return state.refusal !== null;
+  }
+
   // a new tick by the conditions, at the end of the run
   function tick(times = 1) {
-    if (!exists()) return;
-    if (state.refusal !== null) {
-      say("The run has ended: " + state.refusal.split("\n")[0]);
-      return;
-    }
+    if (!exists() || ended()) return;
     take(bench.ask("tick", word(), times));
     once = 0;
     buttons();
@@ -98,7 +104,27 @@ const run = (() => {
     sheet.scrollTop += by(inner.top, inner.bottom, outer.top, outer.bottom);
   }
 
+  // a call that another scheme serves: the drawing has the line to the scheme called alone
+  function lead({ from, to, title }) {
+    const drawn = (kind, content, attributes) => {
+      const one = document.createElementNS("http://www.w3.org/2000/svg", kind);
+      one.textContent = content;
+      Object.entries(attributes).forEach(([name, value]) => one.setAttribute(name, value));
+      return one;
+    };
+    const [one, other] = [from, to].map((id) => group(id).getBBox());
+    const right = other.x > one.x + one.width;
+    const [sx, ex] = [one.x + (other.x + other.width < one.x ? 0 : one.width), other.x + (right ? 0 : other.width)];
+    const [sy, ey] = [one.y + one.height / 2, other.y + other.height / 2];
+    const bow = Math.min(120, Math.max(30, Math.abs(ex - sx) / 2));
+    const [out, back] = [sx === one.x ? -bow : bow, right ? -bow : bow];
+    const line = drawn("g", "", { class: "edge call now served" });
+    line.append(drawn("title", title, {}), drawn("path", "", { d: ["M", sx, sy, "C", sx + out, sy, ex + back, ey, ex, ey].join(" ") }));
+    group(from).before(line);
+  }
+
   function light(told) {
+    sheet.querySelector(".served")?.remove();
     sheet.querySelectorAll(".lit, .open, .now, .next").forEach((one) => one.classList.remove("lit", "open", "now", "next"));
     const mark = (id, kind) => {
       const one = group(id);
@@ -109,6 +135,7 @@ const run = (() => {
     if (!told) return;
     told.waiting.forEach((id) => mark(id, "open"));
     told.taken.forEach((id) => mark(id, "now"));
+    if (told.served && group(told.served.from) && group(told.served.to)) lead(told.served);
     const node = mark(told.node, "lit");
     if (node) {
       node.classList.remove("open", "next");
@@ -122,7 +149,7 @@ const run = (() => {
       const on = ((mask >>> number) & 1) === 1;
       return made("li", name + (on ? " on" : " off"), { class: on ? "on" : "off", "data-output": String(number) });
     }));
-    if (!outputs.length) find("lamps").append(made("li", "the chart has none"));
+    if (!outputs.length) find("lamps").append(made("li", "there are none"));
   }
 
   // the tick itself is told above; of one that takes no row its sentence is enough
@@ -138,14 +165,15 @@ const run = (() => {
     const told = shown >= 0 && exists() ? bench.ask("row", shown) : null;
     const cells = told ? told.cells : Array(9).fill("–");
     find("happens").textContent = cells[5];
+    find("at-place").textContent = "at " + place();
     find("node").textContent = told ? cells[4] + " of " + cells[3] : "–";
     find("ones").textContent = cells[2];
     find("results").textContent = cells[8];
     find("stands").textContent = exists() ? state.at : "–";
     lamps(told ? told.mask : 0);
-    find("stack").replaceChildren(...(told ? told.open : []).map(({ scheme, node }, at) => {
+    find("stack").replaceChildren(...(told ? told.open : []).map(({ scheme, at: place }, at) => {
       const item = made("li");
-      item.append(made("b", scheme), made("span", (at === 0 ? "at " : "waits at ") + node));
+      item.append(made("b", scheme), made("span", (at === 0 ? "at " : "waits at ") + place));
       return item;
     }));
     const refused = told && told.refusal !== null;
@@ -169,20 +197,20 @@ const run = (() => {
     find("clear").disabled = last < 0;
     if (speak) {
       const outputs = cells[6] === "-" ? "no output" : cells[6];
-      say(shown < 0 ? "The run stands at its beginning: set conditions, and make a step." : "tick " + shown + ": " + cells[5] + " at " + cells[4] + ", " + outputs + (shown === last && !refused ? "; the run now stands at " + state.at : ""));
+      say(shown < 0 ? "The run stands at its beginning: set conditions, and make a step." : "tick " + shown + ": " + cells[5] + " at " + (place() === "label" ? "label " : "") + cells[4] + ", " + outputs + (shown === last && !refused ? "; the run now stands at " + state.at : ""));
     }
     changed.forEach((tell) => tell());
   }
 
   // after the chart has changed: all ticks are made again on it
   function remade() {
-    const place = shown;
+    const before = shown;
     changes += 1;
     state = bench.ask("state");
     if (!exists()) say(state.problem);
     buttons();
     schemes();
-    show(place, false);
+    show(before, false);
   }
 
   function schemes() {
@@ -193,6 +221,11 @@ const run = (() => {
       find(id).replaceChildren(...offered.map(option));
       if (offered.some(({ number }) => String(number) === kept)) find(id).value = kept;
     }
+    const wanted = find("wanted").value;
+    const outputs = (chart.accepted()?.outputs ?? []).map(({ number, name }) => new Option("change of " + name, String(number + 4)));
+    find("wanted").replaceChildren(...Array.from(find("wanted").options).slice(0, 4), ...outputs);
+    const stays = Array.from(find("wanted").options).some(({ value }) => value === wanted);
+    find("wanted").value = stays ? wanted : "0";
     find("swap").disabled = find("number").options.length < 1 || find("server").options.length < 2;
   }
 
@@ -208,13 +241,13 @@ const run = (() => {
     if (script) restore(script);
   }
 
-  function restore(script, place = Infinity) {
+  function restore(script, wanted = Infinity) {
     restored = script.swaps;
     find("places").value = String(script.places);
     bench.give(script.words + "\n" + script.swaps);
     changes += 1;
     state = bench.ask("restore", script.places);
-    show(place);
+    show(wanted);
     if (!exists()) say(state.problem);
   }
 
@@ -226,10 +259,12 @@ const run = (() => {
 
   // words after those that were run, by numbers or names; what is wrong with them is returned
   function feed(words, times = 0) {
+    const left = rows();
     bench.give(words);
     const answer = bench.ask("feed", times);
     take(answer);
     show(rows() - 1, answer.problem === undefined);
+    if (exists() && answer.problem === undefined && rows() === left) ended();
     return answer.problem;
   }
 
@@ -257,15 +292,16 @@ const run = (() => {
   function seek(event, forward) {
     if (!rows()) return;
     const found = bench.ask("seek", event, shown < 0 ? none : shown, forward ? 1 : 0);
-    const name = ["call", "drop", "refusal", "change of outputs"][event];
+    const name = ["call", "drop", "refusal", "change of outputs"][event] ?? find("wanted").selectedOptions[0].textContent;
     if (found === null) say("There is no " + name + (forward ? " after" : " before") + " this tick.");
     else show(found);
   }
 
-  // a click on a node leads to its next tick, or the first one
+  // a click on a node or a label leads to its next tick, or the first one
   function nextAt(id) {
-    const found = rows() ? bench.ask("visit", Number(id.slice(1)), shown < 0 ? none : shown) : null;
-    if (found === null) say("No tick of the run is at this node.");
+    bench.give(id);
+    const found = rows() ? bench.ask("visit", shown < 0 ? none : shown) : null;
+    if (found === null) say("No tick of the run is at this " + place() + ".");
     else show(found);
   }
 
@@ -301,6 +337,6 @@ const run = (() => {
   });
   return {
     remade, show, step, tick, cut, undo, restore, fresh, feed, play, seek, press, script, rows, changes: () => changes,
-    state: () => state, shown: () => shown, exists, held: () => held, hold: (word) => { held = word; }, onChange: (tell) => changed.push(tell),
+    place, state: () => state, shown: () => shown, exists, held: () => held, hold: (word) => { held = word; }, onChange: (tell) => changed.push(tell),
   };
 })();

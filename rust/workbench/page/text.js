@@ -1,4 +1,4 @@
-// The chart's text: checked at each key, with its lines numbered, and drawn where it is accepted.
+// The text of a chart or an image: checked at each key, with its lines numbered, and drawn where it is accepted.
 const chart = (() => {
   const field = find("text");
   const sheet = find("sheet");
@@ -26,6 +26,7 @@ const chart = (() => {
 
   function draw(svg) {
     if (svg === drawn) return;
+    sheet.querySelector(".served")?.remove();
     const before = drawn.split("\n");
     drawn = svg;
     if (patched(before, svg.split("\n"))) return;
@@ -63,7 +64,7 @@ const chart = (() => {
     sheet.classList.toggle("fit", whole);
   }
 
-  // takes the text as it stands; returns whether there is another accepted chart now
+  // takes the text as it stands; returns whether it is accepted
   function check() {
     bench.give(field.value);
     const answer = bench.ask("check");
@@ -71,19 +72,18 @@ const chart = (() => {
     problem = refused ? answer : null;
     find("checked").textContent = refused ? answer.problem : answer.words;
     find("checked").className = refused ? "refused" : "";
+    field.setAttribute("aria-invalid", String(refused));
     find("go").hidden = !(refused && answer.line);
-    const image = !refused && answer.chart === null;
-    if (image) find("checked").textContent += "\nAn image has labels and rows, and no nodes that can be drawn or stepped through here.";
     number();
-    if (!refused && !image) {
-      accepted = answer.chart;
+    if (!refused) {
+      accepted = answer.piece;
       acceptedText = field.value;
-      draw(answer.chart.drawing);
+      draw(accepted.drawing);
     }
-    const stale = accepted !== null && (refused || image);
+    const stale = accepted !== null && refused;
     find("stale").hidden = !stale;
     sheet.classList.toggle("stale", stale);
-    return !refused && !image;
+    return !refused;
   }
 
   // the place that the problem names is selected

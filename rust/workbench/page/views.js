@@ -17,6 +17,7 @@
 
   function table(size = rowsShown) {
     const body = find("ticks").tBodies[0];
+    find("place-heading").textContent = run.place();
     const [all, at] = [run.rows(), run.shown()];
     const near = at >= from && at < to && (from === 0 || at - from > 20) && (to === all || to - at > 20);
     const now = [all, run.changes(), size].join();
@@ -32,10 +33,13 @@
       }));
       find("list-part").textContent = all > to - from ? from + " to " + (to - 1) + " of " + all : "";
     }
-    body.querySelector(".current")?.classList.remove("current");
+    const before = body.querySelector(".current");
+    before?.classList.remove("current");
+    before?.removeAttribute("aria-current");
     const row = body.querySelector("[data-tick='" + at + "']");
     if (!row) return;
     row.classList.add("current");
+    row.setAttribute("aria-current", "true");
     find("pane").scrollTop = row.offsetTop - find("pane").clientHeight / 2;
   }
 
@@ -73,7 +77,10 @@
       return;
     }
     bench.give(find("prices").value);
-    find("bill").textContent = bench.ask("bill").text;
+    const { done, text } = bench.ask("bill");
+    // the lines of the table stay whole, the sentences below it are wrapped
+    const below = done ? text.indexOf("\n\n") : 0;
+    find("bill").replaceChildren(made("span", text.slice(0, below), { class: "columns" }), text.slice(below));
   }
 
   function compare() {
@@ -94,8 +101,7 @@
   }
 
   function swaps() {
-    const made = run.exists() ? run.state().swaps : "";
-    find("swaps").textContent = made ? "swaps: " + made : "";
+    find("swaps").textContent = run.exists() ? run.state().swapped : "";
   }
 
   // what depends on the run alone is made again only where that has changed

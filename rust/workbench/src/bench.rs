@@ -1,4 +1,4 @@
-//! What lies on the bench: a chart, the words and swaps of a run, the run itself, and one that was kept to be compared with it.
+//! The bench: what lies on it, the words and swaps of a run, the run itself, and one that was kept to be compared with it.
 
 use std::mem::take;
 
@@ -6,45 +6,38 @@ use fairleadow::PLACES;
 use office::bill::prices::prices;
 use office::bill::Bill;
 use office::check::checked;
-use office::compose::shown;
-use office::draw::node_id;
-use office::formats::record::Record;
-use office::formats::vcd;
+use office::formats::json::Json;
 use office::kind::Kind;
 use office::names::Names;
-use office::plan::Plan;
 use office::problem::{shown_name, visible, Problem};
-use office::scenario::{is_scenario, play, written, Scenario, Stage, Vocabulary};
+use office::scenario::{is_scenario, play, Scenario};
 use office::source;
-use office::subject::Subject;
-use office::trace::swaps::Swap;
-use office::trace::table::{never_taken, problem, report};
+use office::trace::swaps::{self, Swap};
 use office::trace::words::Words;
-use office::trace::{Run, Trace};
 use office::verdicts::Held;
 use office::why::{asked, told};
 
 use crate::compare::compared;
+use crate::piece::{self, Piece, Run};
 use crate::seek::{seek, visit, Event};
 use crate::told;
-use office::formats::json::Json;
 
 /// The most ticks of a run, which are as many as can be priced.
 const MOST_TICKS: usize = 65_536;
 
 /// One bench; the page has one.
 pub struct Bench {
-    plan: Option<Plan>,
+    piece: Option<Box<dyn Piece>>,
     places: usize,
     words: Vec<u16>,
     swaps: Vec<Swap>,
-    run: Option<Result<Run, Problem>>,
-    kept: Option<(Plan, Trace)>,
+    run: Option<Result<Box<dyn Run>, Problem>>,
+    kept: Option<Box<dyn Run>>,
 }
 
 impl Default for Bench {
     fn default() -> Bench {
-        Bench { plan: None, places: PLACES, words: Vec::new(), swaps: Vec::new(), run: None, kept: None }
+        Bench { piece: None, places: PLACES, words: Vec::new(), swaps: Vec::new(), run: None, kept: None }
     }
 }
 
@@ -63,69 +56,63 @@ fn answered(answer: Result<Json, Problem>) -> Json {
 }
 
 /// Why nothing can be told of a run.
-fn no_chart() -> Problem {
-    Problem::new("there is no accepted chart to run")
+fn nothing() -> Problem {
+    Problem::new("there is no accepted chart or image to run")
 }
 
 impl Bench {
-    /// Whether these bytes are an accepted chart or image, in the words of `check`. An accepted chart is drawn and takes the place of
-    /// the one on the bench, and the words are run on it when its run is asked for; of anything else the chart on the bench stays.
+    /// Whether these bytes are an accepted chart or image, in the words of `check`. What is accepted is drawn and takes the place of what lay
+    /// on the bench, and the words are run on it when its run is asked for; of anything else that stays.
     pub fn check(&mut self, bytes: &[u8]) -> Json {
         answered(source::not_too_long(bytes).and_then(checked).and_then(|words| {
-            let kind = Kind::of(bytes);
-            if kind == Kind::Image {
-                return Ok(Json::Record(vec![("words", words.into()), ("chart", Json::Null)]));
-            }
-            let plan = Plan::read(source::from_either(bytes)?)?;
-            let chart = told::chart(&plan);
-            (self.plan, self.run) = (Some(plan), None);
-            Ok(Json::Record(vec![("words", words.into()), ("chart", chart)]))
+            let piece = piece::read(bytes)?;
+            let told = told::piece(&*piece);
+            (self.piece, self.run) = (Some(piece), None);
+            Ok(Json::Record(vec![("words", words.into()), ("piece", told)]))
         }))
+    }
+
+    fn piece(&self) -> Result<&dyn Piece, Problem> {
+        self.piece.as_deref().ok_or_else(nothing)
     }
 
     /// Runs all words again from a fresh state.
     fn again(&mut self) {
         let (words, swaps) = (&self.words, &self.swaps);
-        let run = |plan: &Plan| {
-            let mut run = Run::begin(plan, self.places)?;
-            words.iter().try_for_each(|word| run.tick(plan, *word, swaps))?;
+        let run = |piece: &dyn Piece| {
+            let mut run = piece.begin(self.places)?;
+            words.iter().try_for_each(|word| run.tick(*word, swaps))?;
             Ok(run)
         };
-        self.run = self.plan.as_ref().map(run);
+        self.run = self.piece.as_deref().map(run);
     }
 
-    /// The run on its chart.
-    fn running(&self) -> Result<(&Plan, &Run), Problem> {
-        match (&self.plan, &self.run) {
-            (Some(plan), Some(Ok(run))) => Ok((plan, run)),
-            (_, Some(Err(problem))) => Err(problem.clone()),
-            _ => Err(no_chart()),
+    /// The run of what lies there.
+    fn running(&self) -> Result<&dyn Run, Problem> {
+        match &self.run {
+            Some(Ok(run)) => Ok(&**run),
+            Some(Err(problem)) => Err(problem.clone()),
+            None => Err(nothing()),
         }
     }
 
-    /// How far the run is: its ticks, the refusal that ended it, and the node at which it stands.
+    /// How far the run is: its ticks, the refusal that ended it, and where it stands; its swaps, as `--swap` takes them and in words, and
+    /// its places.
     pub fn state(&mut self) -> Json {
         if self.run.is_none() {
             self.again();
         }
-        answered(self.running().map(|(plan, run)| {
-            let refusal =
-                run.trace.stopped.as_ref().map(|stopped| problem(plan, &run.trace, stopped).to_string());
-            let open = run.open(plan);
-            let top = open.last().map(|opened| opened.node);
+        answered(self.running().map(|run| {
             let swaps: Vec<String> = self.swaps.iter().map(Swap::to_string).collect();
-            Json::Record(vec![
-                ("ticks", run.trace.ticks.len().into()),
-                ("rows", (run.trace.ticks.len() + usize::from(run.trace.stopped.is_some())).into()),
-                ("refusal", refusal.into()),
-                ("words", self.words.len().into()),
-                ("node", top.map(node_id).into()),
-                ("at", top.map(|top| format!("{} of {}", plan.node_title(top), plan.scheme_of(top))).into()),
-                ("open", plan.open_schemes(&open).into()),
+            let mut state = told::state(run);
+            let told = |swap: &Swap| format!("tick {}: {}", swap.tick, run.names().swapped(swap));
+            let told: Vec<String> = self.swaps.iter().map(told).collect();
+            state.extend([
                 ("swaps", swaps.join(",").into()),
+                ("swapped", told.join("; ").into()),
                 ("places", self.places.into()),
-                ("never", never_taken(plan, &run.trace)[0].clone().into()),
-            ])
+            ]);
+            Json::Record(state)
         }))
     }
 
@@ -144,7 +131,7 @@ impl Bench {
     /// Ticks by words as `--words` lists them, by numbers or names, or by random ones from a seed.
     pub fn feed(&mut self, text: &str, ticks: Option<usize>) -> Json {
         let forms = "words are random:SEED, count, or a list such as 0,1,0x8004 or wood*3,wood+bore,-";
-        let names = self.plan.as_ref().map(|plan| plan.names.clone()).unwrap_or_default();
+        let names = self.piece.as_ref().map(|piece| piece.names().clone()).unwrap_or_default();
         match Words::written(text, &names) {
             Ok(words) => self.extend(&words.take(ticks.map(|ticks| ticks.min(MOST_TICKS)))),
             Err(message) => refused(&Problem::new(message).advice(forms)),
@@ -153,13 +140,13 @@ impl Bench {
 
     fn extend(&mut self, words: &[u16]) -> Json {
         let room = MOST_TICKS.saturating_sub(self.words.len());
-        if let (Some(plan), Some(Ok(run))) = (&self.plan, &mut self.run) {
+        if let Some(Ok(run)) = &mut self.run {
             for word in words.iter().take(room) {
-                if run.trace.stopped.is_some() {
+                if run.is_stopped() {
                     break;
                 }
                 self.words.push(*word);
-                if let Err(problem) = run.tick(plan, *word, &self.swaps) {
+                if let Err(problem) = run.tick(*word, &self.swaps) {
                     self.run = Some(Err(problem));
                     break;
                 }
@@ -181,8 +168,8 @@ impl Bench {
 
     /// From here on another scheme serves a number; a refused swap is told and not kept.
     pub fn swap(&mut self, number: usize, scheme: usize) -> Json {
-        let made = self.running().and_then(|(_, run)| {
-            let swap = Swap { tick: run.trace.ticks.len(), number, scheme };
+        let made = self.running().and_then(|run| {
+            let swap = Swap { tick: run.ticks(), number, scheme };
             let swaps: Vec<Swap> = self.swaps.iter().copied().chain([swap]).collect();
             run.may_swap(&swaps).map(|_| swaps)
         });
@@ -204,7 +191,7 @@ impl Bench {
     pub fn restore(&mut self, words: &str, swaps: &str, places: usize) -> Json {
         let names = Names::default();
         let list = Words::written(words, &names).map_or(Vec::new(), |words| words.take(None));
-        let swaps = office::trace::swaps::given(swaps, list.len() + 1, &names).unwrap_or_default();
+        let swaps = swaps::given(swaps, list.len() + 1, &names).unwrap_or_default();
         (self.words, self.swaps, self.places) = (list, swaps, places);
         self.again();
         self.state()
@@ -213,12 +200,10 @@ impl Bench {
     /// Makes a scenario the run, on as many places as it says, and tells where the ticks differ from what it expects. One that is at fault
     /// leaves the run as it is.
     pub fn play(&mut self, bytes: &[u8]) -> Json {
-        let played = self.plan.as_ref().ok_or_else(no_chart).and_then(|plan| {
-            let scenario = Scenario::read(source::not_too_long(bytes)?, &Vocabulary::of(plan))?;
-            let image = plan.image.as_ref().map_err(Problem::clone)?;
-            let stage = Stage { image, names: &plan.names, plan: Some(plan) };
+        let played = self.piece().and_then(|piece| {
+            let scenario = Scenario::read(source::not_too_long(bytes)?, &piece.vocabulary())?;
             let places = scenario.places.unwrap_or(PLACES);
-            play(&scenario, stage, places).map(|played| (played, places))
+            play(&scenario, piece.stage()?, places).map(|played| (played, places))
         });
         answered(played.map(|(mut played, places)| {
             (self.words, self.swaps) = (take(&mut played.words), take(&mut played.swaps));
@@ -230,9 +215,8 @@ impl Bench {
 
     /// The run as a scenario, under the chart's name; with what its ticks showed as what is expected of them, where that is asked for.
     pub fn scenario(&self, name: &str, expecting: bool) -> Result<String, Problem> {
-        let (plan, run) = self.running()?;
         let told = |error| Problem::new(format!("the scenario cannot be written: {error}"));
-        written(plan, &run.trace, &format!("a run of {}", visible(name)), expecting).map_err(told)
+        self.running()?.scenario(&format!("a run of {}", visible(name)), expecting).map_err(told)
     }
 
     /// Whether the bytes of a file are a scenario, and neither a chart nor an image, whatever mark an editor put before them.
@@ -243,58 +227,51 @@ impl Bench {
 
     /// The rows of the run's table from one to before another.
     pub fn rows(&self, from: usize, to: usize) -> Json {
-        answered(self.running().map(|(plan, run)| {
-            let rows: Vec<Json> =
-                (from..to).map_while(|number| told::row(plan, &run.trace, number)).collect();
+        answered(self.running().map(|run| {
+            let rows: Vec<Json> = (from..to).map_while(|number| told::row(run, number)).collect();
             rows.into()
         }))
     }
 
     /// All of one tick, or of the refused one, with what made it go there.
     pub fn row(&self, number: usize) -> Json {
-        answered(self.running().map(|(plan, run)| told::tick(plan, &run.trace, number)))
+        answered(self.running().map(|run| told::tick(run, number)))
     }
 
     /// What made a tick go where it went, in the words of `why`.
     pub fn why(&self, number: usize) -> Result<String, Problem> {
-        let (plan, run) = self.running()?;
-        let made = run.trace.ticks.len() + usize::from(run.trace.stopped.is_some());
-        let subject = Subject::of(plan)?;
-        let asked = asked(&subject, run.trace.places, &self.words[..made], &self.swaps, Some(number))?;
+        let (run, subject) = (self.running()?, self.piece()?.subject()?);
+        let asked = asked(&subject, run.places(), &self.words[..run.rows()], &self.swaps, Some(number))?;
         told(&subject, &asked)
     }
 
     /// The next tick of a sort, after one or before it.
     pub fn seek(&self, event: Event, from: Option<usize>, forward: bool) -> Json {
-        answered(self.running().map(|(_, run)| seek(&run.trace, event, from, forward).into()))
+        answered(self.running().map(|run| seek(run, event, from, forward).into()))
     }
 
-    /// The next tick at a node after a row, or else the first one there.
-    pub fn visit(&self, node: usize, from: Option<usize>) -> Json {
-        answered(self.running().map(|(_, run)| visit(&run.trace, node, from).into()))
+    /// The next tick at a box of the drawing after a row, or else the first one there.
+    pub fn visit(&self, id: &str, from: Option<usize>) -> Json {
+        answered(self.running().map(|run| visit(run, id, from).into()))
     }
 
     /// The masks of all ticks, for the outputs over time.
     pub fn masks(&self) -> Vec<u32> {
-        self.running().map_or(Vec::new(), |(_, run)| run.trace.ticks.iter().map(|tick| tick.mask).collect())
+        self.running().map_or(Vec::new(), |run| (0..run.ticks()).map(|number| run.mask(number)).collect())
     }
 
     /// What the run costs, in the words of `bill`.
     pub fn bill(&self, list: &[u8]) -> Result<String, Problem> {
-        let (plan, run) = self.running()?;
-        if !self.swaps.is_empty() {
-            return Err(Problem::new("a run in which schemes are swapped has no price here"));
-        }
-        let subject = Subject::of(plan)?;
-        let made = run.trace.ticks.len() + usize::from(run.trace.stopped.is_some());
-        let bill = Bill::of(&subject, run.trace.places, prices(list, &plan.names)?, &self.words[..made])?;
+        let (run, subject) = (self.running()?, self.piece()?.subject()?);
+        let (names, words) = (subject.names(), &self.words[..run.rows()]);
+        let bill = Bill::of(&subject, run.places(), prices(list, names)?, words, &self.swaps)?;
         let ended = bill.answer.ok().err().map(|_| format!("\n{}", subject.problem(bill.answer)));
-        Ok(bill.report(&plan.names) + &ended.unwrap_or_default())
+        Ok(bill.report(names) + &ended.unwrap_or_default())
     }
 
     /// Keeps the run as it is, to compare later ones with it.
     pub fn keep(&mut self) -> Json {
-        match self.running().map(|(plan, run)| (plan.clone(), run.trace.clone())) {
+        match self.running().map(Run::kept) {
             Ok(kept) => {
                 self.kept = Some(kept);
                 self.compare()
@@ -305,42 +282,37 @@ impl Bench {
 
     /// How the run differs from the one that was kept; nothing where none was.
     pub fn compare(&self) -> Json {
-        answered(self.running().map(|(plan, run)| {
-            self.kept.as_ref().map(|(before, kept)| compared((before, kept), (plan, &run.trace))).into()
-        }))
+        answered(self.running().map(|run| self.kept.as_ref().map(|kept| compared(&**kept, run)).into()))
     }
 
-    /// What was never taken: its words, and its nodes and arcs.
+    /// What was never taken: its words, and its boxes and lines.
     pub fn never(&self) -> Json {
-        answered(self.running().map(|(plan, run)| told::never(plan, &run.trace)))
+        answered(self.running().map(told::never))
     }
 
     /// The run in the words of `trace`.
     pub fn report(&self) -> Result<String, Problem> {
-        self.running().map(|(plan, run)| report(plan, &run.trace))
+        self.running().map(Run::report)
     }
 
     /// The run as waves, in the bytes of `trace --format vcd` of a file with this name.
     pub fn vcd(&self, name: &str) -> Result<String, Problem> {
-        let (plan, run) = self.running()?;
-        Record::of_chart(shown_name(name), plan, &run.trace, None).map(|record| vcd::text(&record))
+        self.running()?.waves(shown_name(name))
     }
 
     /// The chart as lines.
     pub fn lines(&self) -> Result<Vec<u8>, Problem> {
-        self.plan.as_ref().map(|plan| plan.source.text.clone()).ok_or_else(no_chart)
+        self.piece()?.lines()
     }
 
-    /// The chart in the notation, laid out.
-    pub fn notation(&self) -> Result<String, Problem> {
-        let plan = self.plan.as_ref().ok_or_else(no_chart)?;
-        shown(&plan.source)
+    /// The chart in the notation, or the image as a list.
+    pub fn laid_out(&self) -> Result<String, Problem> {
+        self.piece()?.laid_out()
     }
 
-    /// The chart's image.
+    /// The image.
     pub fn image(&self) -> Result<Vec<u8>, Problem> {
-        let plan = self.plan.as_ref().ok_or_else(no_chart)?;
-        plan.image.clone().map(|image| image.text)
+        self.piece()?.image().map(|image| image.text.clone())
     }
 
     /// What `check` says of the bytes of a file, and nothing on the bench changes.

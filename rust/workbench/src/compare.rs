@@ -1,9 +1,9 @@
 //! A run beside one that was kept: where they part, and what they differ in.
 
-use office::plan::Plan;
 use office::problem::counted;
-use office::trace::table::{cells, HEADINGS};
-use office::trace::Trace;
+use office::trace::table::HEADINGS;
+
+use crate::piece::Run;
 
 /// The most ticks that are told one by one.
 const MOST_TOLD: usize = 12;
@@ -11,47 +11,53 @@ const MOST_TOLD: usize = 12;
 const COMPARED: std::ops::Range<usize> = 3..9;
 
 /// In words: how many ticks are the same, those that differ, and the outputs that are on at other numbers of ticks.
-pub fn compared((before, kept): (&Plan, &Trace), (plan, trace): (&Plan, &Trace)) -> String {
-    let common = kept.ticks.len().min(trace.ticks.len());
+pub fn compared(kept: &dyn Run, run: &dyn Run) -> String {
+    let common = kept.ticks().min(run.ticks());
     let differing: Vec<usize> =
-        (0..common).filter(|number| !differences(before, kept, plan, trace, *number).is_empty()).collect();
+        (0..common).filter(|number| !differences(kept, run, *number).is_empty()).collect();
     let mut lines = vec![match differing.first() {
         None => format!("both runs have the same {}", counted(common, "tick")),
         Some(first) => {
             format!("{} of {common} differ, the first is tick {first}", counted(differing.len(), "tick"))
         }
     }];
-    if kept.ticks.len() != trace.ticks.len() {
-        lines.push(format!(
-            "the kept run has {}, this one {}",
-            counted(kept.ticks.len(), "tick"),
-            trace.ticks.len()
-        ));
+    if kept.ticks() != run.ticks() {
+        lines.push(format!("the kept run has {}, this one {}", counted(kept.ticks(), "tick"), run.ticks()));
     }
     for number in differing.iter().take(MOST_TOLD) {
-        lines.push(format!("tick {number}: {}", differences(before, kept, plan, trace, *number).join("; ")));
+        lines.push(format!("tick {number}: {}", differences(kept, run, *number).join("; ")));
     }
     if differing.len() > MOST_TOLD {
         lines.push(format!("and {} more", counted(differing.len() - MOST_TOLD, "tick")));
     }
-    lines.extend(outputs(before, kept, plan, trace));
+    if ended(kept) != ended(run) {
+        lines.push(format!("the kept run ends with {}, this one with {}", ended(kept), ended(run)));
+    }
+    lines.extend(outputs(kept, run));
     lines.join("\n")
 }
 
 /// What of a tick differs, by the columns of the table.
-fn differences(before: &Plan, kept: &Trace, plan: &Plan, trace: &Trace, number: usize) -> Vec<String> {
-    let (old, new) = (cells(before, number, &kept.ticks[number]), cells(plan, number, &trace.ticks[number]));
+fn differences(kept: &dyn Run, run: &dyn Run, number: usize) -> Vec<String> {
+    let (Some(old), Some(new)) = (kept.cells(number), run.cells(number)) else { return Vec::new() };
     let differ = COMPARED.filter(|column| old[*column] != new[*column]);
     differ.map(|column| format!("{} {} instead of {}", HEADINGS[column], new[column], old[column])).collect()
 }
 
+/// The refusal that a run ended with, which is no tick, by its row and the cell that tells it.
+fn ended(run: &dyn Run) -> String {
+    let refused = run.cells(run.ticks()).map(|cells| format!("row {}, {}", cells[0], cells[5]));
+    refused.unwrap_or_else(|| "no refusal".to_string())
+}
+
 /// The outputs that are on at other numbers of ticks.
-fn outputs(before: &Plan, kept: &Trace, plan: &Plan, trace: &Trace) -> Vec<String> {
-    let on =
-        |trace: &Trace, output: u8| trace.ticks.iter().filter(|tick| tick.mask >> output & 1 == 1).count();
+fn outputs(kept: &dyn Run, run: &dyn Run) -> Vec<String> {
+    let on = |run: &dyn Run, output: u8| {
+        (0..run.ticks()).filter(|number| run.mask(*number) >> output & 1 == 1).count()
+    };
     let line = |output: u8| {
-        let (old, new) = (on(kept, output), on(trace, output));
-        let (was, is) = (before.names.operation(output), plan.names.operation(output));
+        let (old, new) = (on(kept, output), on(run, output));
+        let (was, is) = (kept.names().operation(output), run.names().operation(output));
         let name = if was == is { is } else { format!("{is} (kept: {was})") };
         (old != new).then(|| format!("{name} is on at {} instead of {old}", counted(new, "tick")))
     };

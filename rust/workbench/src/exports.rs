@@ -50,7 +50,7 @@ fn text(given: &[u8]) -> &str {
 }
 
 /// Room for so many bytes.
-#[no_mangle]
+#[unsafe(no_mangle)]
 pub extern "C" fn room(length: usize) -> *mut u8 {
     PAGE.with_borrow_mut(|page| {
         page.given = vec![0; length];
@@ -58,73 +58,73 @@ pub extern "C" fn room(length: usize) -> *mut u8 {
     })
 }
 
-#[no_mangle]
+#[unsafe(no_mangle)]
 pub extern "C" fn told() -> *const u8 {
     PAGE.with_borrow(|page| page.told.as_ptr())
 }
 
 /// A chart or an image, that was handed over.
-#[no_mangle]
+#[unsafe(no_mangle)]
 pub extern "C" fn check() -> usize {
     tell_json(Bench::check)
 }
 
 /// The most bytes of a file that is read.
-#[no_mangle]
+#[unsafe(no_mangle)]
 pub extern "C" fn longest() -> usize {
     tell_json(|_, _| office::source::LONGEST.into())
 }
 
 /// Whether the bytes of a file can be taken into the editor.
-#[no_mangle]
+#[unsafe(no_mangle)]
 pub extern "C" fn readable() -> usize {
     tell_text(|_, given| Bench::readable(given).map(|()| Vec::new()))
 }
 
 /// What is to be said of the bytes of a file.
-#[no_mangle]
+#[unsafe(no_mangle)]
 pub extern "C" fn words_of() -> usize {
     tell_text(|_, given| Bench::words_of(given).map(String::into_bytes))
 }
 
-#[no_mangle]
+#[unsafe(no_mangle)]
 pub extern "C" fn begin(places: usize) -> usize {
     tell_json(|bench, _| bench.begin(places))
 }
 
-#[no_mangle]
+#[unsafe(no_mangle)]
 pub extern "C" fn state() -> usize {
     tell_json(|bench, _| bench.state())
 }
 
-#[no_mangle]
+#[unsafe(no_mangle)]
 pub extern "C" fn tick(word: u32, times: usize) -> usize {
     tell_json(|bench, _| bench.tick(word as u16, times))
 }
 
 /// Words that were handed over; of no ticks as many as these are.
-#[no_mangle]
+#[unsafe(no_mangle)]
 pub extern "C" fn feed(ticks: usize) -> usize {
     tell_json(|bench, given| bench.feed(text(given), (ticks > 0).then_some(ticks)))
 }
 
-#[no_mangle]
+#[unsafe(no_mangle)]
 pub extern "C" fn cut(ticks: usize) -> usize {
     tell_json(|bench, _| bench.cut(ticks))
 }
 
-#[no_mangle]
+#[unsafe(no_mangle)]
 pub extern "C" fn swap(number: usize, scheme: usize) -> usize {
     tell_json(|bench, _| bench.swap(number, scheme))
 }
 
-#[no_mangle]
+#[unsafe(no_mangle)]
 pub extern "C" fn words() -> usize {
     tell(|bench, _| bench.words().into_bytes())
 }
 
 /// Words and swaps, a line each, that were handed over.
-#[no_mangle]
+#[unsafe(no_mangle)]
 pub extern "C" fn restore(places: usize) -> usize {
     tell_json(|bench, given| {
         let (words, swaps) = text(given).split_once('\n').unwrap_or((text(given), ""));
@@ -133,101 +133,101 @@ pub extern "C" fn restore(places: usize) -> usize {
 }
 
 /// A scenario that was handed over.
-#[no_mangle]
+#[unsafe(no_mangle)]
 pub extern "C" fn play() -> usize {
     tell_json(Bench::play)
 }
 
 /// The run as one, under a name that was handed over; what is expected stands in it too where `expecting` is not 0.
-#[no_mangle]
+#[unsafe(no_mangle)]
 pub extern "C" fn scenario(expecting: usize) -> usize {
     tell_text(|bench, given| bench.scenario(text(given), expecting != 0).map(String::into_bytes))
 }
 
 /// Whether the bytes of a file are one.
-#[no_mangle]
+#[unsafe(no_mangle)]
 pub extern "C" fn holds_scenario() -> usize {
     tell_json(|_, given| Bench::holds_scenario(given).into())
 }
 
-#[no_mangle]
+#[unsafe(no_mangle)]
 pub extern "C" fn rows(from: usize, to: usize) -> usize {
     tell_json(|bench, _| bench.rows(from, to))
 }
 
-#[no_mangle]
+#[unsafe(no_mangle)]
 pub extern "C" fn row(number: usize) -> usize {
     tell_json(|bench, _| bench.row(number))
 }
 
-#[no_mangle]
+#[unsafe(no_mangle)]
 pub extern "C" fn why(number: usize) -> usize {
     tell_text(|bench, _| bench.why(number).map(String::into_bytes))
 }
 
 /// From a row forward or backward; from none where its number is the largest.
-#[no_mangle]
+#[unsafe(no_mangle)]
 pub extern "C" fn seek(event: usize, from: usize, forward: usize) -> usize {
     let from = (from != usize::MAX).then_some(from);
     tell_json(|bench, _| bench.seek(Event::of(event), from, forward != 0))
 }
 
-/// The same for the next row at a node.
-#[no_mangle]
-pub extern "C" fn visit(node: usize, from: usize) -> usize {
+/// The same for the next row at a box of the drawing, whose identifier was handed over.
+#[unsafe(no_mangle)]
+pub extern "C" fn visit(from: usize) -> usize {
     let from = (from != usize::MAX).then_some(from);
-    tell_json(|bench, _| bench.visit(node, from))
+    tell_json(|bench, given| bench.visit(text(given), from))
 }
 
 /// Four bytes a tick, the lowest first.
-#[no_mangle]
+#[unsafe(no_mangle)]
 pub extern "C" fn masks() -> usize {
     tell(|bench, _| bench.masks().into_iter().flat_map(u32::to_le_bytes).collect())
 }
 
 /// A price list that was handed over.
-#[no_mangle]
+#[unsafe(no_mangle)]
 pub extern "C" fn bill() -> usize {
     tell_text(|bench, given| bench.bill(given).map(String::into_bytes))
 }
 
-#[no_mangle]
+#[unsafe(no_mangle)]
 pub extern "C" fn keep() -> usize {
     tell_json(|bench, _| bench.keep())
 }
 
-#[no_mangle]
+#[unsafe(no_mangle)]
 pub extern "C" fn compare() -> usize {
     tell_json(|bench, _| bench.compare())
 }
 
-#[no_mangle]
+#[unsafe(no_mangle)]
 pub extern "C" fn never() -> usize {
     tell_json(|bench, _| bench.never())
 }
 
-#[no_mangle]
+#[unsafe(no_mangle)]
 pub extern "C" fn report() -> usize {
     tell_text(|bench, _| bench.report().map(String::into_bytes))
 }
 
 /// The run as waves, under a name that was handed over.
-#[no_mangle]
+#[unsafe(no_mangle)]
 pub extern "C" fn vcd() -> usize {
     tell_text(|bench, given| bench.vcd(text(given)).map(String::into_bytes))
 }
 
-#[no_mangle]
+#[unsafe(no_mangle)]
 pub extern "C" fn lines() -> usize {
     tell_text(|bench, _| bench.lines())
 }
 
-#[no_mangle]
-pub extern "C" fn notation() -> usize {
-    tell_text(|bench, _| bench.notation().map(String::into_bytes))
+#[unsafe(no_mangle)]
+pub extern "C" fn laid_out() -> usize {
+    tell_text(|bench, _| bench.laid_out().map(String::into_bytes))
 }
 
-#[no_mangle]
+#[unsafe(no_mangle)]
 pub extern "C" fn image() -> usize {
     tell_text(|bench, _| bench.image())
 }

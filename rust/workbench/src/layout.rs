@@ -1,4 +1,4 @@
-//! Where the nodes of one scheme stand: in layers from its Begin downward, each below all that lead to it. An arc that passes a layer
+//! Where the boxes of one scheme stand: in layers from its Begin downward, each below all that lead to it. An arc that passes a layer
 //! bends in it, and shares its bends with others to the same node; one that leads back up goes round on the right.
 
 mod columns;
@@ -41,7 +41,7 @@ const BETWEEN: f64 = 34.0;
 const ROUND: f64 = 13.0;
 
 impl Layout {
-    /// The layout of boxes that can all be reached from the first.
+    /// The layout of boxes; what cannot be reached from the first stands beside it.
     pub fn of(boxes: &[Outline]) -> Layout {
         let layers = layers::Layers::of(boxes);
         let xs = columns::columns(boxes, &layers);
@@ -144,6 +144,8 @@ mod tests {
             boxes(&[&[1], &[2], &[1, 3], &[]]),
             boxes(&[&[1], &[2, 4], &[3], &[4], &[]]),
             boxes(&[&[1], &[2, 5], &[3, 5], &[1, 4], &[2, 5], &[]]),
+            boxes(&[&[3], &[2, 3], &[1], &[], &[]]),
+            boxes(&[&[1], &[2, 3, 4, 1], &[4], &[4], &[]]),
         ]
     }
 

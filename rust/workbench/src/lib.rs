@@ -7,6 +7,7 @@ mod drawing;
 #[cfg(target_arch = "wasm32")]
 mod exports;
 mod layout;
+mod piece;
 mod seek;
 mod told;
 

@@ -16,9 +16,12 @@ use workbench::Json;
 const DRIVER: &str = include_str!("driver.js");
 const TOP: &str = concat!(env!("CARGO_MANIFEST_DIR"), "/../..");
 
-/// The most milliseconds from a key to a page that is laid out, on the largest chart, on a machine with much other work; what is
-/// promised of a quiet one is told by docs/MEASUREMENTS.md.
-const MOST_FOR_A_KEY: f64 = 1_000.0;
+/// The most milliseconds from a key to a page that is laid out, on the largest chart, by the quickest of some keys. A machine that is
+/// slow, or has much other work, may take as many times longer as it takes for known work beside the keys, rounds of a loop that take so
+/// many milliseconds on a quiet one.
+const MOST_FOR_A_KEY: f64 = 100.0;
+const KNOWN_ROUNDS: usize = 16_000_000;
+const KNOWN_WORK: f64 = 20.0;
 /// A page is shorter.
 const MOST_BYTES: usize = 1_000_000;
 
@@ -45,6 +48,7 @@ fn main() {
     steps(&opened("steps", Time::Virtual));
     slips(&opened("slips", Time::Virtual));
     scenarios(&opened("scenarios", Time::Virtual));
+    images(&opened("images", Time::Virtual));
     others(&opened("swaps offered files contrast", Time::Virtual));
     saved(&opened("saves", Time::Virtual));
     let old = chromium::folder().join("workbench-without.html");
@@ -66,7 +70,10 @@ fn driven(page: &str, parts: &str) -> PathBuf {
         ("texts", if parts == "answers" { texts::texts().into() } else { Json::Null }),
         ("scenarios", if parts == "scenarios" { texts::scenarios().into() } else { Json::Null }),
         ("files", if parts.contains("files") { texts::files().into() } else { Json::Null }),
+        ("tick", texts::ASKED.into()),
+        ("prices", texts::prices().into()),
         ("large", texts::large().into()),
+        ("known", KNOWN_ROUNDS.into()),
     ]);
     // what stands in a script ends with no mark of the page
     let asked = asked.to_string().replace('<', "\\u003c");
@@ -129,6 +136,7 @@ fn steps(told: &[(String, String)]) {
         "1",
     ];
     assert_eq!(all(told, "sought"), sought);
+    assert_eq!(one(told, "sought output"), "change of drill|5");
     assert_eq!(one(told, "node"), "5|n2|n2_0|plain|drill");
     assert_eq!(
         one(told, "why"),
@@ -145,6 +153,8 @@ fn steps(told: &[(String, String)]) {
     assert!(one(told, "price").ends_with("10 ticks, to pay: 3 cents\n"), "{}", one(told, "price"));
     assert_eq!(one(told, "no price"), "line 1, column 1: no output is named 'dril'; 'drill' is near to it");
     assert_eq!(one(told, "refused"), "tick 1 of 1");
+    let ends = "the kept run ends with no refusal, this one with row 1, refused (17)";
+    assert!(one(told, "compared refusal").contains(ends), "{}", one(told, "compared refusal"));
     let refusal =
         "1|tick 1, word 0x0000, node test (function) of drilling: the call of bore_test finds the stack full";
     assert!(one(told, "refusal").starts_with(refusal), "{}", one(told, "refusal"));
@@ -155,6 +165,11 @@ fn steps(told: &[(String, String)]) {
     assert_eq!(one(told, "lines"), lines);
     assert!(one(told, "no words").contains("'12x' is no word"), "{}", one(told, "no words"));
     assert_eq!(one(told, "fed"), "tick 12 of 12");
+    let ended = one(told, "ended");
+    assert!(ended.starts_with("The run has ended: tick 1, word 0x0000"), "{ended}");
+    assert_eq!(one(told, "at a tick box"), "left|tick 0 of 1");
+    let held = ["0x0008", "0x0000", "0x0008"].map(|word| format!("the next word: {word}"));
+    assert_eq!(one(told, "held elsewhere"), held.join("|"));
 }
 
 fn slips(told: &[(String, String)]) {
@@ -176,18 +191,66 @@ fn scenarios(told: &[(String, String)]) {
     assert_eq!(one(told, "had again"), "places 2|tick 6 of 6");
 }
 
+/// An image is stepped by its labels, as its chart by its nodes.
+fn images(told: &[(String, String)]) {
+    assert_eq!(one(told, "same ticks"), "true");
+    assert_eq!(one(told, "drawn"), "7 2 2 10 2");
+    assert_eq!(one(told, "image checked"), "accepted||true");
+    let labels = [
+        "0|e1|b1_0|home|||0 (End) of s1|s1at label 0 (End)",
+        "1|l2|b2_0 l2_call|call of s2|y0||2 of s1|s1at label 2",
+        "2|l4|l4_5 l4_5_asked l4_5_on|plain||l2|4 of s2|s2at label 4s1waits at label 2",
+        "3|l5|b2_0 l5_call|call of s2|y0 y1 y2|l2|5 of s2|s2at label 5s1waits at label 2",
+    ];
+    assert_eq!(all(told, "label"), labels);
+    assert_eq!(one(told, "label why"), "it left label 4 of scheme 2 and went to label 5 of scheme 2");
+    assert_eq!(one(told, "label table"), "at label|label");
+    let never = "17 ticks; every label and row was taken (7 labels, 6 rows)";
+    assert_eq!(one(told, "label never"), never);
+    assert_eq!(one(told, "label visited"), "16|l3");
+    assert_eq!(one(told, "label price"), "17 ticks, to pay: 12 cents");
+    let file = Path::new(TOP).join("examples/roughing.image");
+    let image = fs::read(&file).expect("an example");
+    assert_eq!(one(told, "image saved image").as_bytes(), image);
+    let words = ["--words", "0,0,4,0,4,0,4,0,0,0,0,0,0,0,0,0,0"];
+    let (_, waves, _) = texts::command(&[&["trace", "-", "--format", "vcd"], &words[..]].concat(), &image);
+    assert_eq!(one(told, "image saved vcd"), waves.replacen("standard input", "roughing.image", 1));
+    let save = ["--save", "-", "--expect"];
+    let (_, scenario, _) = texts::command(&[&["trace", "-"], &words[..], &save].concat(), &image);
+    // the first line tells what was run
+    let lines = |text: &str| text.split_once('\n').map(|(_, lines)| lines.to_string());
+    assert_eq!(lines(one(told, "image saved expecting")), lines(&scenario));
+    let (_, list, _) = texts::command(&["show", "-"], &image);
+    assert_eq!(one(told, "image saved laid_out"), list);
+    let none = "0|this is an image: the lines of the chart that it was made of are not in it";
+    assert_eq!(one(told, "image saved lines"), none);
+    assert_eq!(one(told, "image played"), "passed, 4 ticks, 1 check|tick 3 of 3");
+    let refused =
+        "tick 3, word 0x0004, label 5 of scheme 2: the call of s2 finds the stack full, all 2 places in use";
+    assert!(one(told, "image refused").starts_with(refused), "{}", one(told, "image refused"));
+    assert!(one(told, "label left").contains("l4_1_asked") && !one(told, "label left").contains("l4_5"));
+    assert_eq!(one(told, "image slip"), "line 11, column 21: the sum should be E6, not E7|false|1");
+}
+
 fn others(told: &[(String, String)]) {
     assert_eq!(one(told, "served"), "roughing finer");
     assert_eq!(one(told, "offered"), "roughing slow|roughing drawing_back slow");
-    assert_eq!(one(told, "swaps"), "swaps: 1:2=3");
+    assert_eq!(one(told, "swaps"), "tick 1: finer now serves roughing");
     let swapped =
         "home|finer now serves roughing; call of roughing, served by finer|plain|plain|return|plain|plain";
     assert_eq!(one(told, "swapped"), swapped);
+    assert_eq!(one(told, "bill lines"), "true");
+    assert_eq!(one(told, "parts"), "  1 tick from tick 0: 0 cents|  6 ticks from tick 1: 2 cents|");
+    let served = "call of roughing at block of blocks, served by finer|true";
+    assert_eq!([one(told, "served line"), one(told, "no served line")], [served, "true"]);
     let files: Vec<Vec<&str>> = all(told, "file").iter().map(|file| file.split('|').collect()).collect();
     assert!(files.len() == 8 && files.iter().all(|file| file[1] == "true"), "{files:?}");
     // what is no text is told of, and the text stays
     let kept: Vec<&str> = files.iter().filter(|file| file[2] == "true").map(|file| file[0]).collect();
     assert_eq!(kept, ["too long", "not UTF-8", "a picture", "zeros"]);
+    let dropped = one(told, "two dropped");
+    assert!(dropped.starts_with("home.txt|home.txt is open: accepted"), "{dropped}");
+    assert!(dropped.ends_with("One file is opened at a time: the others were left."), "{dropped}");
     assert!(all(told, "broken").is_empty());
     assert_eq!(one(told, "repeated"), "true|true|false|0");
     let faintest = one(told, "contrast").split(' ').next().and_then(|ratio| ratio.parse::<f64>().ok());
@@ -211,7 +274,8 @@ fn saved(told: &[(String, String)]) {
     let damaged = "What this browser kept of the page is damaged: what cannot be read of it is passed over.";
     assert_eq!(one(told, "damaged"), format!("{damaged}|2|tick 1 of 1|3|c.txt"));
     let addresses = all(told, "address");
-    assert_eq!(addresses.len(), 2);
+    assert_eq!(addresses.len(), 3);
+    assert!(addresses[2].ends_with("|The address: there is no example none.txt"), "{}", addresses[2]);
     assert_eq!(addresses[0], "tick 2 of 3|2|4,4,4,0|");
     let wrong = "no tick yet|32||The words of the address: in the words bore*2,bor: ";
     assert!(addresses[1].starts_with(wrong) && addresses[1].contains("bore"), "{}", addresses[1]);
@@ -225,10 +289,16 @@ fn saved(told: &[(String, String)]) {
 
 fn timed(told: &[(String, String)]) {
     assert_eq!(one(told, "nodes"), "256");
-    let [letter, comment, tick] =
-        ["letter", "comment", "tick"].map(|kind| one(told, kind).parse::<f64>().expect("milliseconds"));
+    for kind in ["letter", "comment", "step"] {
+        let times: Vec<f64> =
+            one(told, kind).split('|').map(|time| time.parse().expect("milliseconds")).collect();
+        let [middle, least, known] = times[..] else { panic!("{times:?}") };
+        println!("256 nodes: a {kind} takes {middle} ms, at least {least}; known work of {KNOWN_WORK} ms beside it \
+             {known} ms");
+        let most = MOST_FOR_A_KEY * (known / KNOWN_WORK).max(1.0);
+        assert!(least < most, "each {kind} takes longer than {most} ms");
+    }
     let (run, long) = one(told, "long").split_once('|').expect("a run and its milliseconds");
     assert_eq!(run, "tick 65535 of 65535");
-    println!("256 nodes: a letter of a name takes {letter} ms, one of a comment {comment} ms, a step {tick} ms; a run of 65,536 ticks {long} ms");
-    assert!(letter.max(comment).max(tick) < MOST_FOR_A_KEY, "a key takes {letter} or {tick} ms");
+    println!("a run of 65,536 ticks takes {long} ms");
 }

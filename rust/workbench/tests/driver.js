@@ -20,7 +20,7 @@
   const decode = (text) => Uint8Array.from(atob(text), (one) => one.charCodeAt(0));
   function answers() {
     const differing = [];
-    for (const { name, bytes, checked, words, places, traced } of asked.texts) {
+    for (const { name, bytes, checked, words, places, traced, reason, paid } of asked.texts) {
       const wrong = (what, said, wanted) => differing.push(name + ": " + what + ": " + JSON.stringify(said) + " instead of " + JSON.stringify(wanted));
       bench.give(decode(bytes));
       const told = bench.ask("check");
@@ -31,6 +31,11 @@
       bench.ask("restore", places);
       const report = bench.ask("report");
       if (report.text.trimEnd() !== traced) wrong("trace", report.text, traced);
+      const why = bench.ask("why", Number(asked.tick));
+      if (why.text.trimEnd() !== reason) wrong("why", why.text, reason);
+      bench.give(asked.prices);
+      const bill = bench.ask("bill");
+      if ((bill.text.split("\n").find((line) => line.includes("to pay")) ?? "") !== paid) wrong("bill", bill.text, paid);
     }
     note("answers", asked.texts.length);
     differing.slice(0, 5).forEach((one) => note("different", one));
@@ -66,6 +71,11 @@
     }
     press("c", "KeyC", { shiftKey: true });
     note("sought", document.body.dataset.tick);
+    press("Home", "Home");
+    find("wanted").selectedIndex = 4;
+    find("find").click();
+    note("sought output", [find("wanted").selectedOptions[0].textContent, document.body.dataset.tick].join("|"));
+    find("wanted").selectedIndex = 0;
     document.querySelector("#sheet #n2").dispatchEvent(new MouseEvent("click", { bubbles: true }));
     note("node", shown());
     note("why", find("why").textContent.split("\n")[0]);
@@ -85,6 +95,7 @@
     note("no price", find("bill").textContent.split("\n")[0]);
     choose("places", "1");
     note("refused", find("counter").textContent);
+    note("compared refusal", find("compared").textContent);
     press("r", "KeyR");
     note("refusal", document.body.dataset.tick + "|" + find("refusal").textContent);
     choose("places", "0");
@@ -99,6 +110,23 @@
     type(find("feed"), "0,0,8");
     find("fed").click();
     note("fed", find("counter").textContent);
+    // after a refused tick no more are made, and it is said
+    choose("places", "1");
+    find("fed").click();
+    note("ended", find("said").textContent);
+    // a tick box takes no letters: the keys go on
+    find("left").click();
+    find("left").focus();
+    press("ArrowLeft", "ArrowLeft");
+    note("at a tick box", document.activeElement.id + "|" + find("counter").textContent);
+    // a condition that is held is no part of the word of a chart that does not test it, and stays for one that does
+    rest();
+    const words = ["bore.txt", "roughing.txt", "bore.txt"].map((example, at) => {
+      choose("examples", example);
+      if (at === 0) press("1", "Digit1");
+      return find("word").textContent;
+    });
+    note("held elsewhere", words.join("|"));
   }
 
   // a slip: the chart before it stays drawn, its run stays, and the text can be had again
@@ -134,6 +162,74 @@
     note("swaps", find("swaps").textContent);
     for (let tick = 0; tick < 6; tick += 1) press("ArrowRight", "ArrowRight");
     note("swapped", Array.from(find("ticks").tBodies[0].rows, (row) => row.cells[5].textContent).join("|"));
+    type(find("prices"), "spindle 100\n");
+    // a line of the table is a line, however narrow
+    find("bill").style.width = "10rem";
+    note("bill lines", find("bill").scrollWidth > find("bill").clientWidth);
+    find("bill").style.width = "";
+    note("parts", find("bill").textContent.split("\n").slice(-3).join("|"));
+    // the call that another scheme serves has a line of its own while its tick is shown
+    const line = () => document.querySelector("#sheet .served");
+    run.show(1);
+    note("served line", line().querySelector("title").textContent + "|" + line().querySelector("path").getTotalLength().toFixed(0).replace(/[0-9]+/, (long) => String(long > 10)));
+    type(find("text"), find("text").value + "# more\n");
+    run.show(2);
+    note("no served line", String(line() === null));
+  }
+
+  // an image is stepped by its labels: the same ticks as of its chart
+  async function images() {
+    const words = "0,0,4,0,4,0,4,0,0,0,0,0,0,0,0,0,0";
+    const ran = (example) => {
+      choose("examples", example);
+      rest();
+      run.feed(words);
+      return [bench.told("masks").join(), find("bill").textContent.split("\n").slice(-1)[0]].join();
+    };
+    note("same ticks", String(ran("roughing.txt") === ran("roughing.image")));
+    note("drawn", ["node", "asked", "entry", "arc", "call"].map((kind) => document.querySelectorAll("#sheet svg ." + kind).length).join(" "));
+    note("image checked", find("checked").textContent.split(":")[0] + "|" + find("checked").className + "|" + find("stale").hidden);
+    press("Home", "Home");
+    for (let tick = 0; tick < 4; tick += 1) {
+      note("label", [shown(), lit("open"), find("node").textContent, find("stack").textContent].join("|"));
+      press("ArrowRight", "ArrowRight");
+    }
+    note("label why", find("why").textContent.split("\n")[0]);
+    note("label table", find("at-place").textContent + "|" + find("place-heading").textContent);
+    note("label never", find("never").textContent.split("\n")[0]);
+    press("Home", "Home");
+    document.querySelector("#sheet #l3").dispatchEvent(new MouseEvent("click", { bubbles: true }));
+    note("label visited", document.body.dataset.tick + "|" + document.body.dataset.node);
+    type(find("prices"), "y0 150\ny1 35\n");
+    note("label price", find("bill").textContent.trimEnd().split("\n").slice(-1)[0]);
+    const saved = [];
+    const create = URL.createObjectURL;
+    URL.createObjectURL = (blob) => {
+      saved.push(blob);
+      return create(blob);
+    };
+    for (const what of ["image", "vcd", "expecting", "laid_out"]) {
+      choose("save", what);
+      note("image saved " + what, await saved.pop().text());
+    }
+    choose("save", "lines");
+    note("image saved lines", saved.length + "|" + find("said").textContent);
+    type(find("scenario"), "- * 2\nx2 until output y2; expect at last only y0, y1, y2\n");
+    find("play").click();
+    note("image played", find("played").textContent.split("\n")[0] + "|" + find("counter").textContent);
+    choose("places", "2");
+    run.feed("4,4,4,4,4");
+    press("End", "End");
+    note("image refused", find("refusal").textContent.split("\n")[0]);
+    find("left").click();
+    note("label left", Array.from(document.querySelectorAll("#sheet .never"), (one) => one.id).join(" "));
+    find("left").click();
+    // a slip in a row: the drawing of the image before stays
+    type(find("text"), find("text").value.replace("\n12", "\n13"));
+    note("image slip", find("checked").textContent.split("\n")[0] + "|" + find("stale").hidden + "|" + document.querySelectorAll("#sheet #l3").length);
+    choose("examples", "bore.txt");
+    type(find("prices"), "");
+    type(find("scenario"), "");
   }
 
   // what can be swapped is what the library lets be swapped
@@ -184,8 +280,14 @@
       await store.open(new File([decode(bytes)], name + markup));
       const unable = find("unable").hidden ? "" : find("unable").textContent;
       const said = unable ? unable.split(name + markup + ": ")[1] : find("checked").textContent;
-      note("file", name + "|" + (said.split("\nAn image has")[0] === checked) + "|" + (find("text").value === before));
+      note("file", name + "|" + (said === checked) + "|" + (find("text").value === before));
     }
+    // two files at once: the first is opened, and it is said that the other was not
+    const both = new DataTransfer();
+    ["home.txt", "bore.txt"].forEach((name) => both.items.add(new File(["scheme 1\nbegin -> end\nend\n"], name)));
+    document.body.dispatchEvent(new DragEvent("drop", { dataTransfer: both, bubbles: true, cancelable: true }));
+    await new Promise((then) => setTimeout(then, 200));
+    note("two dropped", find("name").textContent + "|" + find("said").textContent);
     choose("examples", "bore.txt");
     type(find("text"), find("text").value.replace("lower:", markup));
     type(find("prices"), markup);
@@ -217,7 +319,7 @@
     const patch = find("sheet").firstElementChild.innerHTML;
     bench.give(find("text").value);
     const whole = made("div");
-    whole.innerHTML = bench.ask("check").chart.drawing;
+    whole.innerHTML = bench.ask("check").piece.drawing;
     const bare = (one) => one.replace(/ (lit|open|now|next|never)(?=[ "])/g, "").replace(/\s+/g, " ");
     note("patched", String(bare(patch) === bare(whole.firstElementChild.innerHTML)) + "|" + patch.includes("a_longer_name"));
     // what was kept is damaged: an item without text, one that is none, and a number for a text
@@ -225,10 +327,10 @@
     localStorage.setItem("fairleadow-workbench", JSON.stringify({ name: "c.txt", text: find("text").value, accepted: 5, words: "8,0", places: 3, shown: 1, earlier }));
     store.begin();
     note("damaged", [find("unable").textContent, find("earlier").options.length, find("counter").textContent, find("places").value, find("name").textContent].join("|"));
-    for (const end of ["example=roughing.txt&words=wood*3,-&places=2&tick=2", "example=bore.txt&words=bore*2,bor"]) {
+    for (const end of ["example=roughing.txt&words=wood*3,-&places=2&tick=2", "example=bore.txt&words=bore*2,bor", "example=none.txt"]) {
+      const changed = new Promise((then) => window.addEventListener("hashchange", then, { once: true }));
       location.hash = "#" + end;
-      find("unable").textContent = "";
-      store.follow();
+      await changed;
       note("address", [find("counter").textContent, find("places").value, bench.text("words"), find("unable").textContent.split("\n")[0]].join("|"));
     }
     await new Promise((then) => setTimeout(then, 500));
@@ -284,12 +386,31 @@
       find("sheet").querySelector("svg").getBBox();
       return performance.now() - begun;
     };
-    // the middle of some: a machine that has other work is slow at times
-    const middle = (times) => times.sort((a, b) => a - b)[Math.trunc(times.length / 2)].toFixed(0);
-    const rounds = Array.from({ length: 15 }, (_, round) => "x".repeat(round + 1));
-    note("letter", middle(rounds.map((more) => time(() => type(find("text"), asked.large.replaceAll("box_1_1", "box" + more))))));
-    note("comment", middle(rounds.map((more) => time(() => type(find("text"), asked.large + "# " + more)))));
-    note("tick", middle(rounds.map(() => time(() => press("ArrowRight", "ArrowRight")))));
+    // work of a known size beside each key: what that takes longer than on a quiet machine, so does the key; in short calls, as one long
+    // loop may be left as it was compiled first, five times as slow, whatever else the machine does
+    let sum = 1;
+    const call = 10000;
+    const summed = (from) => {
+      let own = from;
+      for (let at = 0; at < call; at += 1) own = (Math.imul(own, 31) + at) | 0;
+      return own;
+    };
+    const known = () => {
+      for (let at = 0; at < asked.known; at += call) sum = summed(sum);
+    };
+    for (let warm = 0; warm < 5; warm += 1) known();
+    // of some keys the middle one and the quickest, as a machine that has other work is slow at times, and the middle of the known work
+    const sorted = (times) => times.sort((a, b) => a - b);
+    const middle = (times) => sorted(times)[Math.trunc(times.length / 2)];
+    const timed = (name, act) => {
+      const rounds = Array.from({ length: 15 }, (_, round) => [time(known), time(() => act("x".repeat(round + 1)))]);
+      const [works, keys] = [0, 1].map((at) => rounds.map((both) => both[at]));
+      note(name, [middle(keys), sorted(keys)[0], middle(works)].map((one) => one.toFixed(1)).join("|"));
+    };
+    timed("letter", (more) => type(find("text"), asked.large.replaceAll("box_1_1", "box" + more)));
+    timed("comment", (more) => type(find("text"), asked.large + "# " + more));
+    timed("step", () => press("ArrowRight", "ArrowRight"));
+    note("sum", sum);
     note("nodes", document.querySelectorAll("#sheet g.node").length);
     choose("examples", "roughing.txt");
     type(find("feed"), "random:3");
@@ -308,6 +429,8 @@
     press("ArrowLeft", "ArrowLeft");
     type(find("text"), find("text").value.replace("# The", "# A slip and The").replace("-> look", "-> loook"));
     sessionStorage.setItem("left", [find("text").value, shown(), find("counter").textContent].join("@"));
+    // an address with an example does not take what was left when the page is loaded again
+    history.replaceState(null, "", "#example=home.txt");
     location.reload();
   }
   function opened() {
@@ -322,7 +445,7 @@
     const pre = made("pre", found.join("\n@"), { id: "found" });
     document.body.append(pre);
   }
-  const parts = { answers, steps, slips, swaps, offered, scenarios, files, saves, contrast, timed };
+  const parts = { answers, steps, slips, swaps, images, offered, scenarios, files, saves, contrast, timed };
   const begin = async () => {
     if (sessionStorage.getItem("left")) {
       opened();

@@ -32,10 +32,10 @@ pub const COMMAND: Command = Command {
 
 fn run(args: &[OsString], out: &mut dyn Write) -> Result<(), Failure> {
     let arguments = Arguments::of(args, &[TRACING.as_slice(), &["--names"]].concat(), &["--svg", "--trace"])?;
-    if let Some(option) = TRACING.iter().find(|option| arguments.value(option).is_some()) {
-        if !arguments.has("--trace") {
-            return Err(Failure::Usage(format!("{option} goes with --trace")));
-        }
+    if let Some(option) = TRACING.iter().find(|option| arguments.value(option).is_some())
+        && !arguments.has("--trace")
+    {
+        return Err(Failure::Usage(format!("{option} goes with --trace")));
     }
     let plan = match arguments.held()? {
         Held::Chart(plan) => plan,

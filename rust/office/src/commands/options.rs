@@ -30,9 +30,6 @@ const WORDS: &str = "random:1";
 /// The options of a trace.
 pub const TRACING: [&str; 5] = ["--places", "--words", "--ticks", "--swap", "--scenario"];
 
-/// Those of a run, which nothing is swapped in.
-pub const RUNNING: [&str; 4] = ["--places", "--words", "--ticks", "--scenario"];
-
 /// What a scenario has of its own.
 const OWN: [&str; 3] = ["--words", "--ticks", "--swap"];
 

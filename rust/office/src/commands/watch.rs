@@ -40,10 +40,9 @@ fn run(args: &[OsString], out: &mut dyn Write) -> Result<(), Failure> {
     let arguments = Arguments::of(args, &[TRACING.as_slice(), &["--names", "-o"]].concat(), &["--force"])?;
     let page = arguments.written("-o")?;
     if let Some(option) = TRACING.iter().chain(&["--names"]).find(|option| arguments.value(option).is_some())
+        && page.is_none()
     {
-        if page.is_none() {
-            return Err(Failure::Usage(format!("{option} goes with -o")));
-        }
+        return Err(Failure::Usage(format!("{option} goes with -o")));
     }
     let beside = ["--scenario", "--names"].into_iter().filter_map(|option| arguments.value(option));
     let files: Vec<&OsStr> = [arguments.chart()].into_iter().chain(beside).collect();

@@ -3,7 +3,7 @@
 use super::csv;
 use super::document;
 use super::json::Json;
-use crate::bill::Bill;
+use crate::bill::{Bill, Part};
 use crate::fillings::{Drawing, Lists};
 use crate::problem::Problem;
 use crate::subject::Subject;
@@ -33,6 +33,13 @@ pub fn bill_json(priced: &Priced) -> String {
             ("cost", (ticks * price).into()),
         ])
     };
+    let part = |part: &Part| {
+        Json::Record(vec![
+            ("first_tick", part.first.into()),
+            ("ticks", part.ticks.into()),
+            ("cents", part.cents.into()),
+        ])
+    };
     let (ticks, cents) = priced.bill.total();
     let fields = vec![
         ("file", priced.title.as_str().into()),
@@ -40,6 +47,7 @@ pub fn bill_json(priced: &Priced) -> String {
         ("ticks", ticks.into()),
         ("outputs", Json::List(priced.bill.lines().map(line).collect())),
         ("cost", priced.bill.sum().into()),
+        ("parts", priced.bill.parts().iter().map(part).collect::<Vec<Json>>().into()),
         ("cents", cents.into()),
         ("refused", priced.refused().as_ref().map(super::problem).into()),
     ];

@@ -1,6 +1,5 @@
 //! A run of a chart or of an image, each tick as one record that all formats are written from.
 
-use crate::image::Image;
 use crate::labels::run::LabelRun;
 use crate::labels::table as labels;
 use crate::names::Names;
@@ -62,11 +61,6 @@ pub struct Record<'a> {
     pub coverage: Json,
 }
 
-/// The outputs that some label puts out.
-fn outputs(image: &Image) -> u32 {
-    (0..image.labels()).fold(0, |outputs, label| outputs | image.label(label as u8).mask)
-}
-
 fn differences(played: Option<&Played>) -> Vec<Difference> {
     played.map_or(Vec::new(), |played| played.differences.clone())
 }
@@ -112,7 +106,7 @@ impl<'a> Record<'a> {
             kind: "chart",
             names: &plan.names,
             tested: plan.tested,
-            outputs: outputs(image),
+            outputs: image.outputs(),
             schemes: plan.schemes(),
             places: trace.places,
             steps: steps.collect(),
@@ -161,7 +155,7 @@ impl<'a> Record<'a> {
             kind: "image",
             names: subject.names(),
             tested: subject.image.tested(),
-            outputs: outputs(&subject.image),
+            outputs: subject.image.outputs(),
             schemes: subject.image.schemes(),
             places: run.places,
             steps: steps.collect(),

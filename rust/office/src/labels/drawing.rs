@@ -2,7 +2,7 @@
 //! it took is bold and what it never took is grey.
 
 use super::run::{places, LabelRun, LabelTick};
-use super::words::{row, when};
+use super::words::{asked, row};
 use crate::draw::labels::{broken as names_in_lines, in_table, small};
 use crate::draw::{broken, frame, marks, quoted, titled_svg, COMMON};
 use crate::escape::escaped;
@@ -17,6 +17,11 @@ pub fn place_id(label: u8, scheme: u8) -> String {
         0 | 1 => format!("e{scheme}"),
         _ => format!("l{label}"),
     }
+}
+
+/// The identifier of the place where a scheme begins.
+pub fn begin_id(scheme: u8) -> String {
+    format!("b{scheme}")
 }
 
 /// The identifier of a row in drawing and page.
@@ -38,7 +43,7 @@ pub fn svg(subject: &Subject, drawing: &str) -> Result<String, String> {
 }
 
 /// A label, a row, a call or a scheme by its identifier.
-fn titled(subject: &Subject, id: &str, title: &str) -> Option<String> {
+pub fn titled(subject: &Subject, id: &str, title: &str) -> Option<String> {
     let scheme = |number: u8| subject.names().scheme(number);
     let numbered = |kind: char| id.strip_prefix(kind)?.parse().ok();
     if let Some(number) = title.strip_prefix("cluster_") {
@@ -82,7 +87,8 @@ pub fn drawing(subject: &Subject, run: Option<&LabelRun>, caption: &str) -> Stri
         text.extend(own.map(|(label, scheme)| place(subject, run, label, scheme)));
         text.push_str("    }\n");
         text.push_str(&format!(
-            "    b{scheme} -> {} [class=\"arc\"];\n",
+            "    {} -> {} [class=\"arc\"];\n",
+            begin_id(scheme),
             place_id(image.entry(scheme), scheme)
         ));
     }
@@ -97,24 +103,29 @@ fn begin(subject: &Subject, scheme: u8) -> String {
         true => format!(", xlabel=\"{}\"", WHEN_FULL),
         false => String::new(),
     };
-    format!("        b{scheme} [id=\"b{scheme}\", shape=point, width=0.1, fillcolor=\"#37404d\", label=\"\"{handler}];\n")
+    let id = begin_id(scheme);
+    format!(
+        "        {id} [id=\"{id}\", shape=point, width=0.1, fillcolor=\"#37404d\", label=\"\"{handler}];\n"
+    )
 }
 
 /// A label, or the End of a scheme.
 fn place(subject: &Subject, run: Option<&LabelRun>, label: u8, scheme: u8) -> String {
     let id = place_id(label, scheme);
     let marks = marks(&id, "", run.map(|run| run.times(label, scheme) > 0));
-    let (look, lines) = match label {
-        0 | 1 => (END, vec!["<B>End</B>".to_string(), small(&format!("label {label}"))]),
-        _ => own_label(subject, label),
+    let look = match (label, subject.image.label(label).kind) {
+        (0 | 1, _) => ", style=\"filled,rounded\", fillcolor=\"#e4e8ee\"",
+        (_, FUNCTION_CALL) => ", shape=hexagon, fillcolor=\"#e6f4ea\", margin=\"0.02,0.04\"",
+        _ => "",
     };
-    format!("        {id} [{marks}{look}, label={}];\n", in_table(&lines))
+    format!("        {id} [{marks}{look}, label={}];\n", in_table(&lines(subject, label)))
 }
 
-const END: &str = ", style=\"filled,rounded\", fillcolor=\"#e4e8ee\"";
-
-/// A label from 2 up: its name, outputs, the result that it writes and the scheme that it calls.
-fn own_label(subject: &Subject, label: u8) -> (&'static str, Vec<String>) {
+/// What is written in a label, as graphviz writes it: its name, outputs, the result that it writes and the scheme that it calls.
+pub fn lines(subject: &Subject, label: u8) -> Vec<String> {
+    if label < 2 {
+        return vec!["<B>End</B>".to_string(), small(&format!("label {label}"))];
+    }
     let (own, names) = (subject.image.label(label), subject.names());
     let mut lines = vec![format!("<B>{}</B>", escaped(&subject.title(label, own.owner)))];
     lines.extend(names_in_lines(&names.operations(own.mask)).iter().map(|line| escaped(line)));
@@ -123,24 +134,18 @@ fn own_label(subject: &Subject, label: u8) -> (&'static str, Vec<String>) {
     }
     let called = escaped(&names.scheme(own.called));
     match own.kind {
-        0 => ("", lines),
-        FUNCTION_CALL => {
-            lines.push(format!("{called} ?"));
-            (", shape=hexagon, fillcolor=\"#e6f4ea\", margin=\"0.02,0.04\"", lines)
-        }
-        _ => {
-            lines.push(format!("call {called}"));
-            ("", lines)
-        }
+        0 => {}
+        FUNCTION_CALL => lines.push(format!("{called} ?")),
+        _ => lines.push(format!("call {called}")),
     }
+    lines
 }
 
 /// A row from its label to the next, with what it asks for.
 fn row_line(subject: &Subject, run: Option<&LabelRun>, number: usize, own: &Row) -> String {
     let scheme = subject.image.label(own.from).owner;
     let marks = marks(&row_id(number), "arc", run.map(|run| run.row_taken(number)));
-    let asked = when(subject.names(), own.care, own.values, own.result);
-    let asked = asked.strip_prefix(" when ").unwrap_or("").replace(" and ", "\n");
+    let asked = asked(subject.names(), own.care, own.values, own.result).join("\n");
     let label =
         if asked.is_empty() { String::new() } else { format!(", label={}", quoted(&format!(" {asked} "))) };
     let next = if own.next < 2 { place_id(end_of(scheme), scheme) } else { place_id(own.next, scheme) };
@@ -161,13 +166,13 @@ fn calls(subject: &Subject, run: Option<&LabelRun>, label: u8) -> String {
             true => String::new(),
             false => format!(", label={}", quoted(&format!(" for {} ", subject.names().scheme(scheme)))),
         };
-        format!("    l{label} -> b{server} [{marks}{name}];\n")
+        format!("    l{label} -> {} [{marks}{name}];\n", begin_id(server))
     };
     [scheme].into_iter().chain(others).map(line).collect()
 }
 
 /// The identifiers of the row and the call that a tick takes.
-pub fn lines(subject: &Subject, tick: &LabelTick) -> Vec<String> {
+pub fn taken(subject: &Subject, tick: &LabelTick) -> Vec<String> {
     let row = tick.row.iter().map(|row| row_id(usize::from(*row)));
     let call = match tick.happening() {
         Happening::Call(_) => Some(call_id(subject, tick.open().label, tick.server)),

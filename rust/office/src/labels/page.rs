@@ -1,6 +1,6 @@
 //! A run of an image as one page, in which labels and rows stand for nodes and arcs.
 
-use super::drawing::{lines, place_id};
+use super::drawing::{place_id, taken};
 use super::run::{places, LabelRun, LabelStop, LabelTick};
 use super::table::{happens, headings, never_taken, open, problem};
 use crate::escape::escaped;
@@ -47,7 +47,7 @@ fn ticks(subject: &Subject, run: &LabelRun) -> String {
 
 fn made_row(subject: &Subject, number: usize, tick: &LabelTick, why: &str) -> String {
     let why = format!(" data-why=\"{}\"", escaped(why).replace('\n', "&#10;"));
-    let at = At { number, word: tick.word, stack: &tick.stack, lines: lines(subject, tick).join(" ") };
+    let at = At { number, word: tick.word, stack: &tick.stack, lines: taken(subject, tick).join(" ") };
     at.row(subject, &happens(subject, tick), tick.mask, &tick.results, &why)
 }
 

@@ -57,70 +57,117 @@ pub struct LabelRun {
     calls: BTreeMap<(u8, u8), usize>,
 }
 
-/// Prepares the image once and ticks it over the words, with swaps before some of them, or tells why stack size or a swap are refused.
-pub fn run(image: &Image, places: usize, words: &[u16], swaps: &[Swap]) -> Result<LabelRun, Problem> {
-    let table = image.prepared()?;
-    let mut state = fresh(places)?;
-    let mut causes = Causes { image, rows: HashMap::new() };
-    let (ticks, stopped) = (Vec::new(), None);
-    let mut run = LabelRun {
-        places,
-        ticks,
-        stopped,
-        labels: BTreeMap::new(),
-        rows: BTreeMap::new(),
-        calls: BTreeMap::new(),
-    };
-    for (number, word) in words.iter().enumerate() {
-        swaps::make(swaps, number, &table, &mut state)?;
+/// A run that is being made: the image's table, and the state that the next tick finds.
+#[derive(Clone, Debug)]
+pub struct Running {
+    table: Vec<u8>,
+    state: State,
+    causes: Causes,
+    pub run: LabelRun,
+}
+
+impl Running {
+    /// Prepares the image once for all ticks, or tells why the stack size is refused.
+    pub fn begin(image: &Image, places: usize) -> Result<Running, Problem> {
+        let run = LabelRun {
+            places,
+            ticks: Vec::new(),
+            stopped: None,
+            labels: BTreeMap::new(),
+            rows: BTreeMap::new(),
+            calls: BTreeMap::new(),
+        };
+        Ok(Running { table: image.prepared()?, state: fresh(places)?, causes: Causes::of(image), run })
+    }
+
+    /// Makes the swaps of this tick and ticks once, or tells why a swap is refused. After a refused tick there is none.
+    pub fn tick(&mut self, image: &Image, word: u16, swaps: &[Swap]) -> Result<(), Problem> {
+        if self.run.stopped.is_some() {
+            return Ok(());
+        }
+        let number = self.run.ticks.len();
+        self.state = self.may_swap(swaps)?;
         let swaps: Vec<Swap> = swaps::of_tick(swaps, number).copied().collect();
-        let (before, stack) = (state, image.open(&state));
-        let ticked = Proved.live_tick(&table, &mut state, *word);
-        if let Answer::Refused { number, index, .. } = ticked.answer {
-            let answer = Answer::Refused { number, index, count: run.ticks.len() };
-            run.stopped = Some(LabelStop { answer, swaps, word: *word, stack });
-            break;
+        let (before, stack) = (self.state, image.open(&self.state));
+        let ticked = Proved.live_tick(&self.table, &mut self.state, word);
+        if let Answer::Refused { number: refusal, index, .. } = ticked.answer {
+            let answer = Answer::Refused { number: refusal, index, count: number };
+            self.run.stopped = Some(LabelStop { answer, swaps, word, stack });
+            return Ok(());
         }
         let happening = Happening::of(ticked.code);
         let row = match happening {
-            Happening::Plain | Happening::Return => causes.row(&before, &stack, *word)?,
+            Happening::Plain | Happening::Return => self.causes.row(image, &before, &stack, word)?,
             Happening::Home | Happening::Call(_) | Happening::Drop => None,
         };
         let server = match happening {
-            Happening::Call(_) => state.servers[usize::from(state.depth) - 1],
+            Happening::Call(_) => self.state.servers[usize::from(self.state.depth) - 1],
             _ => 0,
         };
-        let (code, mask, results) = (ticked.code, ticked.mask, state.results);
-        run.note(LabelTick { swaps, word: *word, stack, server, code, mask, results, row });
+        let (code, mask, results) = (ticked.code, ticked.mask, self.state.results);
+        self.run.note(LabelTick { swaps, word, stack, server, code, mask, results, row });
+        Ok(())
     }
-    Ok(run)
+
+    /// The state after the swaps of the next tick, or why one is refused.
+    pub fn may_swap(&self, swaps: &[Swap]) -> Result<State, Problem> {
+        let mut state = self.state;
+        swaps::make(swaps, self.run.ticks.len(), &self.table, &mut state)?;
+        Ok(state)
+    }
+
+    /// What is open now, the bottom first.
+    pub fn open(&self, image: &Image) -> Vec<Open> {
+        image.open(&self.state)
+    }
+}
+
+/// Prepares the image once and ticks it over the words, with swaps before some of them, or tells why stack size or a swap are refused.
+pub fn run(image: &Image, places: usize, words: &[u16], swaps: &[Swap]) -> Result<LabelRun, Problem> {
+    let mut running = Running::begin(image, places)?;
+    words.iter().try_for_each(|word| running.tick(image, *word, swaps))?;
+    Ok(running.run)
 }
 
 /// The rows that the library says ticks take: a label takes one by the conditions that its rows ask for and the result that it reads,
 /// whatever else stands in the state.
-struct Causes<'a> {
-    image: &'a Image,
+#[derive(Clone, Debug)]
+struct Causes {
+    /// The conditions that the rows of each label ask for.
+    asked: Vec<u16>,
     rows: HashMap<(u8, u16, bool), u16>,
 }
 
-impl Causes<'_> {
+impl Causes {
+    fn of(image: &Image) -> Causes {
+        let mut asked = vec![0; image.labels()];
+        image.rows().for_each(|row| asked[usize::from(row.from)] |= row.care);
+        Causes { asked, rows: HashMap::new() }
+    }
+
     /// The row of a plain tick or a return; none where the handler returns with nothing beneath it.
-    fn row(&mut self, before: &State, stack: &[Open], word: u16) -> Result<Option<u16>, Problem> {
+    fn row(
+        &mut self,
+        image: &Image,
+        before: &State,
+        stack: &[Open],
+        word: u16,
+    ) -> Result<Option<u16>, Problem> {
         let leaving = match stack {
             [.., beneath, top] if top.label == 1 => beneath.label,
             [top] if top.label == 1 => return Ok(None),
             [.., top] => top.label,
             [] => return Ok(None),
         };
-        let asked = self.image.rows_of(leaving).fold(0, |asked, row| asked | row.care);
-        let result = before.results[usize::from(self.image.called(leaving).max(1)) - 1];
+        let asked = self.asked[usize::from(leaving)];
+        let result = before.results[usize::from(image.called(leaving).max(1)) - 1];
         let key = (leaving, word & asked, result);
         if let Some(row) = self.rows.get(&key) {
             return Ok(Some(*row));
         }
-        let cause = Proved.cause(&self.image.text, before, word);
+        let cause = Proved.cause(&image.text, before, word);
         if cause.answer.number() != 0 {
-            return Err(explain::refusal(&self.image.text, Kind::Image, cause.answer));
+            return Err(explain::refusal(&image.text, Kind::Image, cause.answer));
         }
         self.rows.insert(key, cause.row);
         Ok(Some(cause.row))

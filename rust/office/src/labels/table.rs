@@ -28,7 +28,7 @@ pub fn happens(subject: &Subject, tick: &LabelTick) -> String {
 }
 
 /// The cells of one tick, as the headings name them.
-fn cells(subject: &Subject, number: usize, tick: &LabelTick) -> [String; 9] {
+pub fn cells(subject: &Subject, number: usize, tick: &LabelTick) -> [String; 9] {
     let (names, Open { label, scheme, .. }) = (subject.names(), tick.open());
     [
         number.to_string(),

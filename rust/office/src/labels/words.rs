@@ -25,7 +25,7 @@ pub fn holds(fields: &Fields, names: &Names) -> String {
 }
 
 /// What a row asks for, each part by itself: a result, then conditions with their values.
-fn asked(names: &Names, care: u16, values: u16, result: u8) -> Vec<String> {
+pub fn asked(names: &Names, care: u16, values: u16, result: u8) -> Vec<String> {
     let result = (result < 2).then(|| format!("result {result}"));
     let conditions = (0..16).filter(|number| care >> number & 1 == 1).map(|number| {
         let not = if values >> number & 1 == 1 { "" } else { "not " };

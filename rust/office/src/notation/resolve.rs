@@ -49,15 +49,15 @@ impl Table {
         if let Some(own) = kind.own_number(&name.text).filter(|own| *own != number) {
             return fault(format!("'{}' is the name of {} {own}", name.text, kind.noun));
         }
-        if let Some((_, (other, at))) = self.numbers.iter().find(|(text, _)| **text == name.text) {
-            if *other != number {
-                return fault(format!("'{}' is {} {other} already (line {at})", name.text, kind.noun));
-            }
+        if let Some((_, (other, at))) = self.numbers.iter().find(|(text, _)| **text == name.text)
+            && *other != number
+        {
+            return fault(format!("'{}' is {} {other} already (line {at})", name.text, kind.noun));
         }
-        if let Some((text, (_, at))) = self.numbers.iter().find(|(_, (other, _))| *other == number) {
-            if *text != name.text || kind.noun != "scheme" {
-                return fault(format!("{} {number} is named '{text}' already (line {at})", kind.noun));
-            }
+        if let Some((text, (_, at))) = self.numbers.iter().find(|(_, (other, _))| *other == number)
+            && (*text != name.text || kind.noun != "scheme")
+        {
+            return fault(format!("{} {number} is named '{text}' already (line {at})", kind.noun));
         }
         self.numbers.insert(name.text.clone(), (number, line));
         Ok(())
@@ -209,14 +209,14 @@ impl Tables {
         if *step == Step::End {
             self.ends.entry(scheme).or_insert(index);
         }
-        if let Some(label) = label {
-            if let Some((_, at)) = self.labels.insert(label.text.clone(), (index, line)) {
-                return Err(Problem::at(
-                    line,
-                    label.column,
-                    format!("'{}' is a node already (line {at})", label.text),
-                ));
-            }
+        if let Some(label) = label
+            && let Some((_, at)) = self.labels.insert(label.text.clone(), (index, line))
+        {
+            return Err(Problem::at(
+                line,
+                label.column,
+                format!("'{}' is a node already (line {at})", label.text),
+            ));
         }
         let unlabelled = if *step == Step::End { "end" } else { "begin" };
         self.nodes.push(label.map_or(unlabelled.to_string(), |label| label.text.clone()));

@@ -1,9 +1,6 @@
-//! The shape of a node, by its kind, around what is written in it.
+//! The shape of a box around what is written in it.
 
-use office::chart::Node;
 use office::columns::width;
-use office::draw::labels;
-use office::plan::Plan;
 
 use crate::layout::Point;
 
@@ -13,11 +10,13 @@ const PLAIN: f64 = 7.2;
 const BOLD: f64 = 8.1;
 const SMALL: f64 = 5.4;
 
-enum Form {
+pub enum Form {
     Rounded,
     Rectangle,
     Diamond,
     Hexagon,
+    /// The lines alone.
+    Bare,
 }
 
 /// A form of this size, with lines of text in its middle.
@@ -29,22 +28,23 @@ pub struct Shape {
 }
 
 impl Shape {
-    pub fn of(plan: &Plan, at: usize) -> Shape {
-        let form = match plan.nodes[at] {
-            Node::Begin { .. } | Node::End { .. } => Form::Rounded,
-            Node::Operation { .. } => Form::Rectangle,
-            Node::Condition { .. } => Form::Diamond,
-            Node::Function { .. } => Form::Hexagon,
-        };
-        let lines = labels::lines(plan, at);
+    /// Around lines with the marks of graphviz.
+    pub fn of(form: Form, lines: &[String]) -> Shape {
         let (wide, high) =
             (lines.iter().map(|line| room(line)).fold(0.0, f64::max), LINE * lines.len() as f64);
         let (width, height) = match form {
             Form::Rounded | Form::Rectangle => (wide + 18.0, high + 8.0),
             Form::Diamond => (1.3 * wide + 44.0, 1.3 * high + 14.0),
             Form::Hexagon => (wide + 40.0, high + 8.0),
+            Form::Bare => (wide + 8.0, high + 4.0),
         };
-        Shape { form, lines: lines.iter().map(|line| marked(line)).collect(), width: width.max(56.0), height }
+        let least = if matches!(form, Form::Bare) { 0.0 } else { 56.0 };
+        Shape {
+            form,
+            lines: lines.iter().map(|line| marked(line)).collect(),
+            width: width.max(least),
+            height,
+        }
     }
 
     /// How far below the middle its lower edge is, so far from the middle to the side.
@@ -72,6 +72,11 @@ impl Shape {
                 )
             }
             Form::Rectangle => polygon(&[(left, top), (right, top), (right, bottom), (left, bottom)]),
+            // a ground, so that no line is seen through the letters
+            Form::Bare => {
+                let (width, height) = (self.width, self.height);
+                format!("<rect x=\"{left:.1}\" y=\"{top:.1}\" width=\"{width:.1}\" height=\"{height:.1}\" rx=\"4\"/>")
+            }
             Form::Diamond => polygon(&[(x, top), (right, y), (x, bottom), (left, y)]),
             Form::Hexagon => {
                 let (a, b) = (left + 14.0, right - 14.0);

@@ -117,7 +117,8 @@ fn mean(neighbours: &[usize], place: &[f64], own: usize) -> f64 {
     }
 }
 
-/// A search from the first box, sides in order: the arcs that lead back to a box on the way, and the boxes as they are left.
+/// A search from the first box, then from each that was not found, sides in order: the arcs that lead back to a box on the way, and the boxes
+/// as they are left.
 struct Search {
     back: Vec<(usize, usize, usize)>,
     order: Vec<usize>,
@@ -134,26 +135,34 @@ enum Found {
 impl Search {
     fn of(boxes: &[Outline]) -> Search {
         let mut search = Search { back: Vec::new(), order: Vec::new(), found: vec![Found::No; boxes.len()] };
-        let mut way = vec![(0, 0)];
-        search.found[0] = Found::OnTheWay;
+        for first in 0..boxes.len() {
+            if search.found[first] == Found::No {
+                search.from(boxes, first);
+            }
+        }
+        search
+    }
+
+    fn from(&mut self, boxes: &[Outline], first: usize) {
+        let mut way = vec![(first, 0)];
+        self.found[first] = Found::OnTheWay;
         while let Some((from, next)) = way.pop() {
             // the last side first, so that read backward the first side comes first
             let Some(side) = boxes[from].arcs.len().checked_sub(next + 1) else {
-                search.found[from] = Found::Left;
-                search.order.push(from);
+                self.found[from] = Found::Left;
+                self.order.push(from);
                 continue;
             };
             way.push((from, next + 1));
             let to = boxes[from].arcs[side];
-            match search.found[to] {
-                Found::OnTheWay => search.back.push((from, side, to)),
+            match self.found[to] {
+                Found::OnTheWay => self.back.push((from, side, to)),
                 Found::Left => {}
                 Found::No => {
-                    search.found[to] = Found::OnTheWay;
+                    self.found[to] = Found::OnTheWay;
                     way.push((to, 0));
                 }
             }
         }
-        search
     }
 }

@@ -5,10 +5,9 @@ use std::io::Write;
 use std::path::Path;
 use std::process::{Command, Stdio};
 
-use office::kind::Kind;
+use comparison::generate::{charts, damage, images, random::Random};
+use comparison::samples;
 use reference::frames::text_of;
-use reference::generate::{charts, damage, random::Random};
-use reference::samples;
 use workbench::Json;
 
 use super::TOP;
@@ -48,16 +47,36 @@ pub fn command(arguments: &[&str], input: &[u8]) -> (bool, String, String) {
     (output.status.success(), text(output.stdout), text(output.stderr))
 }
 
-/// A text with what `check` says of it, and what `trace` prints below its heading, where it does.
+/// The tick that is asked about.
+pub const ASKED: &str = "4";
+
+/// A price for each output, all different.
+pub fn prices() -> String {
+    (0..32).map(|output| format!("y{output} {}\n", 101 + 7 * output)).collect()
+}
+
+/// A text with what `check` says of it, and where it is run what `trace` prints below its heading, what `why` says of a tick, and what is to
+/// pay by `bill`.
 fn asked(name: String, bytes: &[u8], words: &str, places: usize) -> Json {
     let (accepted, printed, said) = command(&["check", "-"], bytes);
     let checked = if accepted { printed } else { said };
     let checked = checked.strip_prefix("standard input: ").expect("the name stands first").trim_end();
     let number = places.to_string();
     let (_, traced, _) = command(&["trace", "-", "--words", words, "--places", &number], bytes);
-    // an image is not stepped there
-    let traced = traced.split_once("\n\n").filter(|_| Kind::of(bytes) != Kind::Image);
-    let traced = traced.map(|(_, report)| report.trim_end().to_string());
+    let traced = traced.split_once("\n\n").map(|(_, report)| report.trim_end().to_string());
+    let run = ["--words", words, "--places", &number];
+    let reason = traced.is_some().then(|| {
+        let (done, printed, said) = command(&[&["why", "-", "--tick", ASKED], &run[..]].concat(), bytes);
+        let told = if done { printed } else { said };
+        told.trim_start_matches("standard input: ").trim_end().to_string()
+    });
+    let paid = traced.is_some().then(|| {
+        let file = Path::new(env!("CARGO_TARGET_TMPDIR")).join("workbench.prices");
+        fs::write(&file, prices()).expect("a folder that can be written");
+        let file = file.display().to_string();
+        let (_, printed, _) = command(&[&["bill", "-", "--prices", &file], &run[..]].concat(), bytes);
+        printed.lines().find(|line| line.contains("to pay")).unwrap_or("").to_string()
+    });
     Json::Record(vec![
         ("name", name.into()),
         ("bytes", base64(bytes).into()),
@@ -65,10 +84,12 @@ fn asked(name: String, bytes: &[u8], words: &str, places: usize) -> Json {
         ("words", words.into()),
         ("places", places.into()),
         ("traced", traced.into()),
+        ("reason", reason.into()),
+        ("paid", paid.into()),
     ])
 }
 
-/// Examples, charts and their texts with damage, one text for each refusal, and files that are no chart.
+/// Examples, charts, images and their texts with damage, one text for each refusal, and files that are no chart.
 pub fn texts() -> Vec<Json> {
     let mut texts: Vec<(String, Vec<u8>)> = Vec::new();
     let folder = Path::new(TOP).join("examples");
@@ -89,6 +110,7 @@ pub fn texts() -> Vec<Json> {
         texts.push((format!("records {seed}"), text_of(&damage::records(random, &records))));
         let (name, text) = &examples[seed as usize % examples.len()];
         texts.push((format!("{name} {seed}"), damage::text(random, text)));
+        texts.push((format!("image {seed}"), images::text(random)));
     }
     for (name, records) in samples::named_charts() {
         texts.push((name, text_of(&records)));
