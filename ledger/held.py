@@ -4,7 +4,7 @@ import re
 
 # what tells of a file of Rust or of code which of its tests are run, and of a manifest whose tests are
 TELLING = r"#!?\[(test|cfg|ignore|should_panic|path)|(pub(\(\w+\))? )?mod \w+"
-SCRIPTS = ("test", ".ci/run", "controller/test", "examples/c/check", "second_compiler")
+SCRIPTS = ("test", ".ci/run", "controller/test", "examples/c/check", "release/test", "second_compiler")
 MANIFEST = r"(default-)?members|exclude|autotests|test|harness|path|required-features|\[+(lib|test|bin)\b"
 
 
