@@ -10,7 +10,7 @@ use std::process::Command;
 
 use shared::{example, program, ran, run, Ran};
 
-/// A new folder with a copy of a chart in it.
+/// A new folder with a copy of a chart in it, which goes with it: `rt ci` takes no link that a test leaves.
 struct Shop {
     folder: PathBuf,
 }
@@ -48,6 +48,12 @@ impl Shop {
 
     fn minimise(&self, file: &str, more: &[&str]) -> Ran {
         run(&[&["minimise", &self.path("branches.txt"), "-o", file], more].concat())
+    }
+}
+
+impl Drop for Shop {
+    fn drop(&mut self) {
+        let _ = fs::remove_dir_all(&self.folder);
     }
 }
 
