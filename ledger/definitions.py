@@ -2,7 +2,7 @@
 
 from words import CLOSERS, definition_words
 
-KINDS = {"abbrev", "unfoldable", "opaque", "record", "data", "pub"}
+KINDS = {"abbrev", "unfoldable", "opaque", "record", "data", "ruleset", "pub"}
 
 
 class Import:

@@ -1,8 +1,10 @@
 """Which laws and definitions of `proofs/` nothing cites.
 
-Read are the answers and invariants that the checker asks for, the laws that a page names, and the cases: laws without premises that are
-computed. All that these cite is read too, and so on. A name stands for what it is imported from, so of two laws with one name the one that
-is cited is told from the other; a name that an item binds itself cites nothing."""
+Read are the answers and invariants that the checker asks for, the sets of rules that a function's attribute names, the laws that a page
+names, and the cases: laws without premises that are computed. All that these cite is read too, and so on. A name stands for what it is
+imported from, so of two laws with one name the one that is cited is told from the other; a name that an item binds itself cites nothing."""
+
+import re
 
 from laws import declaring, laws_in
 
@@ -36,6 +38,14 @@ def is_computed_case(item):
     return item.kind == "law" and not {"module", "→"} & set(item.statement) and item.words[-1] == "refl"
 
 
+def told(crate, code):
+    """The sets of rules that attributes of a crate's code tell the checker to use, as files and names."""
+    for paths in re.findall(r"\busing\(([^)]*)\)", code):
+        for path in paths.split(","):
+            first, *folders, name = path.strip().split("::")
+            yield "/".join([crate if first == "crate" else first] + folders), name
+
+
 def begun(program):
     """What stands for itself, as files and names."""
     files_with = declaring(program)
@@ -44,6 +54,8 @@ def begun(program):
         if path.endswith(".md") and path != HISTORY:
             for row in text.splitlines():
                 yield from laws_in(row, program, files_with)
+        elif path.endswith(".rt"):
+            yield from told(path.split("/")[1], text)
         elif "/proofs/" in path:
             file = program.file(where)
             for name, item in file.items.items():

@@ -6,7 +6,8 @@ use Rattle.std.specs.Bool.{then_some}
 use Rattle.std.specs.List.{range_with_len}
 use Rattle.words.specs.lists.Numbers.{lowest}
 use Rattle.words.proofs.lists.Tests.{cases}
-use Rattle.words.proofs.lists.Searches.{Searching, searching-found, searching-over, lowest-alike}
+use Rattle.words.proofs.lists.Searches.{any-here, any-on, any-over, Searching, searching-first, searching-found, searching-over}
+use Rattle.words.proofs.lists.Searches.{lowest-alike}
 use Rattle.text.specs.frames.Verdict.{fine, refused, at_lowest}
 
 -- the lowest of n numbers from i on, if one passes
@@ -44,6 +45,8 @@ module _ (k : ℕ) (p : ℕ → Bool) (n : ℕ) (r : Option ℕ) (e : r ≡ find
   pub none-fine : r ≡ None → at_lowest k p n ≡ fine
   none-fine s = grind (arith, common_steps, lowest-found)
 
+pub ruleset judging = (found-refused, none-fine)
+
 -- ---- a loop that has come to v, and what it tells
 module _ (p : ℕ → Bool) (n v : ℕ) (s : Searching p n v (lowest p 0 n)) where
   pub searching-some : v < n → p v ≡ true → Some v ≡ find p (range_with_len 0 n)
@@ -51,3 +54,7 @@ module _ (p : ℕ → Bool) (n v : ℕ) (s : Searching p n v (lowest p 0 n)) whe
 
   pub searching-none : n ≤ v → None ≡ find p (range_with_len 0 n)
   searching-none l = grind (arith, common_steps, searching-over, lowest-found, le-ltb)
+
+pub ruleset searching = (searching-first, searching-some, searching-none)
+
+pub ruleset trying = (any-here, any-on, any-over)

@@ -1,2 +1,1 @@
-pub mod NodeCases
 pub mod FaultCases

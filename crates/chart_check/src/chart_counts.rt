@@ -33,6 +33,7 @@ pub fn highest_scheme(records: &[u8]) -> u8
 }
 
 // Node v is counted for its scheme where it is of this kind.
+#[tactic(auto, using(crate::proofs::chart_counts::SchemeCounts::scheme_counts))]
 fn count_node(records: &[u8], v: usize, kind: u8, counts: &mut [u16])
     requires { NodeAsked records.now v kind counts.old }
     ensures { counts.new ≡ counts_to records.now kind (v + 1) }
@@ -80,6 +81,7 @@ fn any_not_one(begins: &[u16], ends: &[u16], highest: u8) -> bool
 }
 
 /// Refusals 4 and 5 of at most 256 nodes, in one pass; H, the largest scheme, where neither refuses.
+#[tactic(auto, using(crate::proofs::chart_counts::SchemeCounts::scheme_counts))]
 pub fn check_fields(records: &[u8]) -> Result<u8, Refusal>
     requires { size records.now ≤ NODES }
     ensures { reply result ≡ verdict_reply (fields_verdict records.now) (schemes records.now) }

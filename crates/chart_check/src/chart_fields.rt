@@ -8,6 +8,7 @@ use charts::layout::*;
 use text::frames::sizes::RECORD;
 
 // A byte of i to 9 of node v is not 0.
+#[tactic(auto, using(crate::proofs::Found::trying))]
 fn filled_from(records: &[u8], v: usize, i: usize) -> bool
     requires whole_record { RECORD * v + RECORD ≤ length records.now }
     requires within_record { i ≤ RECORD }

@@ -38,6 +38,7 @@ fn on_circle(records: &[u8], v: usize, list: &mut [u8]) -> bool
 }
 
 // The lowest node on a circle, if there is one. A finished node is on none, so only the others are tried.
+#[tactic(auto, using(crate::proofs::Found::searching))]
 fn search_circle(records: &[u8], unfinished: &[bool], list: &mut [u8]) -> Option<usize>
     requires { DepthFirst records.now unfinished.now list.old }
     ensures { result ≡ find (is_on_circle records.now) (range_with_len 0 (size records.now)) }

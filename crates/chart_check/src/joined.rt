@@ -17,6 +17,7 @@ use text::frames::sizes::{NODES, RECORD};
 
 // The nodes that arcs join from some Begin are marked; the lowest other one, if there is one. It is looked for only where not all are
 // marked.
+#[tactic(auto, using(crate::proofs::node_marks::MarkCases::apart))]
 fn lowest_apart(records: &[u8], marks: &mut [bool], list: &mut [u8]) -> Option<usize>
     requires mark_each { length marks.old ≡ size records.now }
     requires node_room { NodeRoom records.now list.old }
@@ -49,6 +50,7 @@ fn lowest_cut_off(records: &[u8], marks: &mut [bool], list: &mut [u8]) -> Option
 }
 
 // 8 and 9; marks and list serve both.
+#[tactic(auto, using(crate::proofs::Found::judging))]
 fn try_joined(records: &[u8], marks: &mut [bool], list: &mut [u8]) -> Result<usize, Refusal>
     requires passed { Passed4To6 records.now }
     requires mark_each { length marks.old ≡ size records.now }

@@ -30,6 +30,7 @@ fn arc_count(records: &[u8], conditions: bool, v: usize) -> usize
 }
 
 /// The nodes that the arcs of node v lead to are marked, and listed in their order where they were not; how many are listed then.
+#[tactic(auto, using(crate::proofs::node_marks::MarkCases::arcs_told), unfolding(words::specs::graph::inner::Listed::enlist_all))]
 pub fn follow(
     records: &[u8],
     conditions: bool,
@@ -86,6 +87,7 @@ fn mark(marks: &mut [bool], u: usize)
 }
 
 // The nodes that the arcs of node v lead to are marked.
+#[tactic(auto, using(crate::proofs::node_marks::MarkCases::arcs_told), unfolding(words::specs::graph::inner::Listed::mark_all))]
 fn mark_next(records: &[u8], v: usize, marks: &mut [bool])
     requires { v < size records.now }
     ensures { marks.new ≡ mark_all (arcs records.now v) marks.old }
@@ -118,6 +120,7 @@ fn mark_on(records: &[u8], v: usize, marks: &mut [bool])
 /// higher one. Where to each node without a mark an arc leads from a lower one, all are marked then. What arcs join from the marks has not
 /// changed. In a line of nodes `join` takes each from the list just after it was written there, and waits for it; here the next node is
 /// known.
+#[tactic(auto, using(crate::proofs::node_marks::Sweeps::sweeping))]
 pub fn sweep(records: &[u8], marks: &mut [bool])
     requires { length marks.old ≡ size records.now }
     ensures { marks.new ≡ marks_swept_to records.now (size records.now) marks.old }

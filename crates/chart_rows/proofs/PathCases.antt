@@ -1,6 +1,7 @@
 -- The steps of the functions that follow paths, at plain values: how the paths from a stop and from a new condition are made up, and how
 -- many they are.
-use Rattle.std.proofs.Common.{◌≡◌, sym, ◌∙◌, ap, ap₂, subst, true, false, List, [], ◌∷◌, ◌++◌, ℕ, ◌+◌, ◌-◌, ◌^◌, ◌≤◌, ◌<◌, min, arith, bit_and, slice_index}
+use Rattle.std.proofs.Common.{◌≡◌, sym, ◌∙◌, ap, subst, true, false, List, [], ◌∷◌, ◌++◌, ℕ, ◌+◌, ◌-◌, ◌^◌, ◌≤◌, ◌<◌, min, arith}
+use Rattle.std.proofs.Common.{bit_and, slice_index}
 use Rattle.std.proofs.Common.{bit_or, length, length-append}
 use borrow.Author.Tests.{eqb-false}
 use Rattle.std.proofs.lemmas.Grind.{common_steps}
@@ -13,7 +14,7 @@ use Rattle.charts.specs.Chart.{Chart, kind, argument, next0, next1}
 use Rattle.charts.proofs.Rank.{rank, rank-falls0, rank-falls1}
 use Rattle.walk.specs.Stops.{is_stop}
 use Rattle.image.specs.Image.{Row}
-use Rattle.walk.proofs.Follow.{goes_on}
+use Rattle.walk.proofs.Follow.{goes-on}
 use Rattle.chart_rows.specs.chart_labels.inner.ChartContracts.{Ready}
 use Rattle.chart_rows.specs.inner.PathContracts.{Entered, PathAt}
 use Rattle.chart_rows.specs.inner.NodeRows.{paths_from, tested_number, settled_node}
@@ -21,6 +22,7 @@ use Rattle.chart_rows.proofs.chart_labels.ReadyLaws.{ready-sound}
 use Rattle.chart_rows.proofs.PathSteps.{path_row, entered0, entered1, at-stop, at-new}
 use Rattle.chart_rows.proofs.Settled.{Settled, is-settled}
 use Rattle.chart_rows.proofs.NumberLaws.{high-stops, low-goes, low-number}
+use Rattle.std.proofs.lemmas.Bool.Decides.{nat_tests}
 
 -- a new condition: where its two sides go on, with which mask and values
 pub record Fork (c : Chart) (care values v tested valued w0 w1 : ℕ) : Type 0 where
@@ -48,7 +50,7 @@ pub record New (c : Chart) (care values v u i : ℕ) : Type 0 where
 
 module _ (c : Chart) (care values v u i : ℕ) (new : New c care values v u i) where
   condition : kind c u ≡ 3
-  condition = goes_on c u new.settled.entered.no_begin new.goes
+  condition = goes-on c u new.settled.entered.no_begin new.goes
 
   untested : bit_at care (argument c u) ≡ 1 → ⊥
   untested = grind (arith, common_steps, eqb-false, and-false)
@@ -70,9 +72,7 @@ module _ (c : Chart) (care values v u i : ℕ) (new : New c care values v u i) w
     fork-within0 = ap (bit_and values) tested-is ∙ more-within-0 i values care (λ q. omega (arith, lacks-care)) new.within
 
     fork-within1 : bit_and valued tested ≡ valued
-    fork-within1 =
-        ap₂ bit_and valued-is tested-is ∙ more-within-1 i values care (λ q. omega (arith, lacks-care)) new.within
-        ∙ sym valued-is
+    fork-within1 = grind (arith, common_steps, nat_tests, more-within-1, lacks-care, tested-is, valued-is)
 
     module _ (w0 w1 : ℕ) (e0 : w0 ≡ next0 c u) (e1 : w1 ≡ next1 c u) where
       fork-paths : (l f : ℕ)
@@ -100,8 +100,11 @@ module _ (c : Chart) (care values v u i : ℕ) (new : New c care values v u i) w
 -- ---- a path by the notes: it ends at a node with number 16, and else goes on by both sides of a new condition
 module _ {c : Chart} {notes : List ℕ} {care values v u : ℕ} (path : PathAt c notes care values v)
     (arrives : u ≡ settled_node (size c) c care values v) where
+  ready : Ready c
+  ready = path.noted.chart.ready
+
   arrived : Settled c care values v u
-  arrived = is-settled c path.noted.chart.ready care values v u path.entered arrives
+  arrived = is-settled c ready care values v u path.entered arrives
 
   pub arrived-inside : u < size c
   arrived-inside = arrived.entered.inside
@@ -110,25 +113,28 @@ module _ {c : Chart} {notes : List ℕ} {care values v u : ℕ} (path : PathAt c
   number = path.noted.numbers u arrived-inside
 
   pub paths-end : 15 < slice_index notes (256 + u) → (l f : ℕ) → paths_from (size c) c l f care values v ≡ path_row c l f care values u ∷ []
-  paths-end high l f =
-      let ready = path.noted.chart.ready in
-      stop-paths c ready care values v u arrived (high-stops c ready u (slice_index notes (256 + u)) arrived.entered number high) l f
+  paths-end high = stop-paths c ready care values v u arrived (high-stops c ready u _ arrived.entered number high)
 
-  module _ (low : slice_index notes (256 + u) ≤ 15) where
-    new-condition : New c care values v u (slice_index notes (256 + u))
-    new-condition =
-        let ready = path.noted.chart.ready in record {
-          ready = ready;
-          settled = arrived;
-          goes = low-goes c ready u (slice_index notes (256 + u)) arrived.entered number low;
-          within = path.within;
-          number = low-number c ready u (slice_index notes (256 + u)) arrived.entered number low;
-        }
+  pub paths-fork : slice_index notes (256 + u) ≤ 15 → {tested valued w0 w1 : ℕ} → tested ≡ bit_or care (2 ^ slice_index notes (256 + u))
+      → valued ≡ bit_or values (2 ^ slice_index notes (256 + u)) → w0 ≡ next0 c u → w1 ≡ next1 c u
+      → Fork c care values v tested valued w0 w1
+  paths-fork low {tested} {valued} {w0} {w1} et ev e0 e1 =
+      let new : New c care values v u (slice_index notes (256 + u)) = record {
+        ready = ready;
+        settled = arrived;
+        goes = low-goes c ready u _ arrived.entered number low;
+        within = path.within;
+        number = low-number c ready u _ arrived.entered number low;
+      } in
+      fork c care values v u _ new tested valued et ev w0 w1 e0 e1
 
-    pub paths-fork : (tested valued : ℕ) → tested ≡ bit_or care (2 ^ slice_index notes (256 + u))
-        → valued ≡ bit_or values (2 ^ slice_index notes (256 + u))
-        → (w0 w1 : ℕ) → w0 ≡ next0 c u → w1 ≡ next1 c u → Fork c care values v tested valued w0 w1
-    paths-fork = fork c care values v u (slice_index notes (256 + u)) new-condition
+module _ {c : Chart} {notes : List ℕ} {care values v : ℕ} (path : PathAt c notes care values v) {tested valued w0 w1 : ℕ}
+    (k : Fork c care values v tested valued w0 w1) where
+  pub side-0 : PathAt c notes tested values w0
+  side-0 = record { noted = path.noted; entered = k.entered0; within = k.within0 }
+
+  pub side-1 : PathAt c notes tested valued w1
+  side-1 = record { noted = path.noted; entered = k.entered1; within = k.within1 }
 
 -- ---- how many paths there are, counted up to a limit
 module _ (c : Chart) (care values v most : ℕ) where

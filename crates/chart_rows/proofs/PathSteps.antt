@@ -8,7 +8,7 @@ use Rattle.text.specs.frames.Frame.{size}
 use Rattle.charts.specs.Chart.{Chart, kind, argument, next0, next1, arc_taken}
 use Rattle.charts.proofs.Rank.{rank, rank-le, rank-some, rank-falls0, rank-falls1}
 use Rattle.walk.specs.Stops.{is_stop}
-use Rattle.walk.proofs.Follow.{goes_on, taken-by, taken-falls}
+use Rattle.walk.proofs.Follow.{goes-on, taken-by, taken-falls}
 use Rattle.image.specs.Image.{Row}
 use Rattle.chart_rows.specs.chart_labels.Labels.{label}
 use Rattle.chart_rows.specs.Rows.{paths}
@@ -63,13 +63,13 @@ module _ (c : Chart) (ready : Ready c) where
             → P (suc n) care values v ≡ P (suc m) care values v
         go true s d ih = paths-stop n c l f care values v s ∙ sym (paths-stop m c l f care values v s)
         go false s (yes k) ih =
-            let three : kind c v ≡ 3 = goes_on c v t.no_begin s in
+            let three : kind c v ≡ 3 = goes-on c v t.no_begin s in
             let r : rank c (arc_taken c values v) < rank c v = taken-falls c (ready-sound ready) values v t.inside three in
             paths-known n c l f care values v s k
             ∙ ih care values (arc_taken c values v) (entered-taken values v t.inside three) (omega arith) (omega arith)
             ∙ sym (paths-known m c l f care values v s k)
         go false s (no k) ih =
-            let three : kind c v ≡ 3 = goes_on c v t.no_begin s in
+            let three : kind c v ≡ 3 = goes-on c v t.no_begin s in
             let r0 : rank c (next0 c v) < rank c v = rank-falls0 c (ready-sound ready) v t.inside three in
             let r1 : rank c (next1 c v) < rank c v = rank-falls1 c (ready-sound ready) v t.inside three in
             paths-new n c l f care values v s k

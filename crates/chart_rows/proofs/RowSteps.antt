@@ -1,5 +1,6 @@
 -- The steps of the functions that count and write the rows of labels, at plain values.
-use Rattle.std.proofs.Common.{if◌then◌else◌, ◌≡◌, refl, sym, ◌∙◌, ap, ap₂, subst, Bool, true, false, List, [], ◌++◌, ℕ, zero, suc, ◌+◌, ◌-◌, slice_index, flat_map, filter}
+use Rattle.std.proofs.Common.{if◌then◌else◌, ◌≡◌, refl, sym, ◌∙◌, ap, ap₂, subst, Bool, true, false, List, [], ◌++◌, ℕ, zero, suc, ◌+◌, ◌-◌}
+use Rattle.std.proofs.Common.{slice_index, flat_map, filter}
 use Rattle.std.proofs.Common.{◌^◌, ◌≤◌, ◌<◌, min, zero-add, add-one, arith, bit_or, length, length-append}
 use borrow.Author.Tests.{eqb-false}
 use Rattle.std.proofs.lemmas.Grind.{common_steps}
@@ -46,66 +47,54 @@ count-sides c v care values most w0 w1 low high e0 e1 a b l f g =
       length-append (paths_from (size c) c l f care 0 (next0 c v)) (paths_from (size c) c l g care values (next1 c v)),
     )
 
--- ---- the rows of one node, by its kind
-module _ (c : Chart) (v k : ℕ) (ek : k ≡ kind c v) where
-  pub rows-function : k ≡ 4 → rows_of c v ≡ sides c (label c v) 0 1 0 0 v
-  rows-function e = function-rows c v (sym ek ∙ e)
-
-  pub rows-condition : k ≡ 3 → rows_of c v ≡ sides c (label c v) 2 2 (2 ^ argument c v) (2 ^ argument c v) v
-  rows-condition e = condition-rows c v (sym ek ∙ e)
-
-  pub rows-other : k < 3 → rows_of c v ≡ paths_from (size c) c (label c v) 2 0 0 (next0 c v)
-  rows-other h = plain-rows c v (λ q. omega arith) (λ q. omega arith)
-
--- the mask of a stopping condition's own test
-pub own-mask : (c : Chart) (v i own : ℕ) → i ≡ argument c v → own ≡ bit_or 0 (2 ^ i) → own ≡ 2 ^ argument c v
-own-mask c v i own e m = m ∙ sym (add-is-or 0 i (bit-none i)) ∙ zero-add (2 ^ i) ∙ ap (λ (j : ℕ). 2 ^ j) e
-
-module _ (c : Chart) (v k most r : ℕ) (ek : k ≡ kind c v) (own : node_rows c v ≡ rows_of c v) where
-  counted : (rs : List Row) → rows_of c v ≡ rs → r ≡ min most (length rs) → r ≡ min most (length (node_rows c v))
-  counted rs e q = q ∙ ap (λ (x : List Row). min most (length x)) (sym (own ∙ e))
-
-  pub count-function : k ≡ 4 → ((l f g : ℕ) → r ≡ min most (length (sides c l f g 0 0 v))) → r ≡ min most (length (node_rows c v))
-  count-function e q = counted (sides c (label c v) 0 1 0 0 v) (rows-function c v k ek e) (q (label c v) 0 1)
-
-  pub count-condition : k ≡ 3 → (mask : ℕ) → mask ≡ 2 ^ argument c v
-      → ((l f g : ℕ) → r ≡ min most (length (sides c l f g mask mask v))) → r ≡ min most (length (node_rows c v))
-  count-condition e mask m q = grind (arith, common_steps, rows-condition, counted)
-
-  pub count-other : k < 3 → (w : ℕ) → w ≡ next0 c v
-      → ((l f : ℕ) → r ≡ min most (length (paths_from (size c) c l f 0 0 w))) → r ≡ min most (length (node_rows c v))
-  count-other h w e q = grind (arith, common_steps, rows-other, counted)
-
--- ---- a node without a label of its own, and one with it
+-- ---- the rows of one node: none without a label of its own, and with one by its kind
 module _ {c : Chart} {notes : List ℕ} {v : ℕ} (node : NotedAt c notes v) where
   read : slice_index notes v ≡ label c v
   read = node.noted.chart.labelled.at v node.inside
 
-  own-number : 2 ≤ slice_index notes v → is_numbered c v ≡ true
-  own-number h = own-label c v (omega (arith, read))
-
   pub no-rows : slice_index notes v < 2 → node_rows c v ≡ []
   no-rows h = cond-false (is_numbered c v) (rows_of c v) [] (no-own-label c v (omega (arith, read)))
 
-  pub own-rows : 2 ≤ slice_index notes v → node_rows c v ≡ rows_of c v
-  own-rows h = cond-true (is_numbered c v) (rows_of c v) [] (own-number h)
+  module _ (own : 2 ≤ slice_index notes v) where
+    own-number : is_numbered c v ≡ true
+    own-number = own-label c v (omega (arith, read))
 
-  pub other-entered : 2 ≤ slice_index notes v → {w : ℕ} → w ≡ next0 c v → Entered c w
-  other-entered h e = grind (arith, common_steps, not-true, and-r, entered0, eqb-false, own-number)
+    own-rows : node_rows c v ≡ rows_of c v
+    own-rows = cond-true (is_numbered c v) (rows_of c v) [] own-number
 
-  -- the kind after a condition's is a function's
-  pub function-kind : {k : ℕ} → k ≡ kind c v → 3 ≤ k → (k ≡ 3 → ⊥) → k ≡ 4
-  function-kind e h n = omega (arith, (ready-facts node.noted.chart.ready).kinds v node.inside)
+    pub other-entered : {w : ℕ} → w ≡ next0 c v → Entered c w
+    other-entered e = grind (arith, common_steps, not-true, and-r, entered0, eqb-false, own-number)
 
-pub count-nothing : (c : Chart) (v most : ℕ) → node_rows c v ≡ [] → 0 ≡ min most (length (node_rows c v))
-count-nothing c v most e = omega (arith, ap (λ (rs : List Row). length rs) e)
+    module _ {k : ℕ} (ek : k ≡ kind c v) where
+      -- the kind after a condition's is a function's
+      pub rows-function : 3 ≤ k → (k ≡ 3 → ⊥) → node_rows c v ≡ sides c (label c v) 0 1 0 0 v
+      rows-function h n =
+          own-rows ∙ function-rows c v (omega (arith, (ready-facts node.noted.chart.ready).kinds v node.inside))
+
+      pub rows-condition : k ≡ 3 → {i mask : ℕ} → i ≡ argument c v → mask ≡ bit_or 0 (2 ^ i)
+          → node_rows c v ≡ sides c (label c v) 2 2 mask mask v
+      rows-condition e {i} {mask} ei m =
+          let own-mask : mask ≡ 2 ^ argument c v =
+          m ∙ sym (add-is-or 0 i (bit-none i)) ∙ zero-add (2 ^ i) ∙ ap (λ (j : ℕ). 2 ^ j) ei in
+          own-rows ∙ condition-rows c v (sym ek ∙ e) ∙ ap (λ (x : ℕ). sides c (label c v) 2 2 x x v) (sym own-mask)
+
+      pub rows-other : k < 3 → {w : ℕ} → w ≡ next0 c v → node_rows c v ≡ paths_from (size c) c (label c v) 2 0 0 w
+      rows-other h e =
+          own-rows ∙ plain-rows c v (λ q. omega arith) (λ q. omega arith) ∙ ap (paths_from (size c) c (label c v) 2 0 0) (sym e)
+
+  pub count-nothing : slice_index notes v < 2 → (most : ℕ) → 0 ≡ min most (length (node_rows c v))
+  count-nothing h most = omega (arith, ap (λ (rs : List Row). length rs) (no-rows h))
+
+  pub count-rows : {rs : List Row} → node_rows c v ≡ rs → (most : ℕ) {r : ℕ} → r ≡ min most (length rs)
+      → r ≡ min most (length (node_rows c v))
+  count-rows e most q = q ∙ ap (λ (x : List Row). min most (length x)) (sym e)
 
 -- ---- the rows of the nodes below v
 abbrev pub rows_below : Chart → ℕ → List Row
 rows_below c v = flat_map (node_rows c) (range 0 v)
 
-pub below_more : (c : Chart) (v : ℕ) → rows_below c (v + 1) ≡ rows_below c v ++ node_rows c v
-below_more c v = ap (rows_below c) (add-one v) ∙ concat-range-snoc (node_rows c) 0 v
+pub below-more : (c : Chart) (v : ℕ) → rows_below c (v + 1) ≡ rows_below c v ++ node_rows c v
+below-more c v = ap (rows_below c) (add-one v) ∙ concat-range-snoc (node_rows c) 0 v
     ∙ ap (λ (k : ℕ). rows_below c v ++ node_rows c k) (zero-add v)
 
 -- the nodes without a label add nothing
@@ -132,16 +121,19 @@ pub record CountingRows (c : Chart) (most total v : ℕ) : Type 0 where
   pub limited : total ≤ most
   pub counted : total ≡ min most (length (rows_below c v))
 
-pub counting-start : (c : Chart) (most : ℕ) → CountingRows c most 0 0
-counting-start c most = record { within = omega arith; limited = omega arith; counted = omega arith }
+pub counting-start : {c : Chart} {most : ℕ} → CountingRows c most 0 0
+counting-start = record { within = omega arith; limited = omega arith; counted = omega arith }
 
-pub counting-on : (c : Chart) (most total v more : ℕ) → CountingRows c most total v → v < size c
-    → more ≡ min (most - total) (length (node_rows c v)) → CountingRows c most (total + more) (v + 1)
-counting-on c most total v more t l e = record {
-  within = omega arith;
-  limited = omega (arith, t.limited);
-  counted = omega (arith, t.counted, ap (λ (rs : List Row). length rs) (below_more c v) ∙ length-append (rows_below c v) (node_rows c v));
-}
+module _ {c : Chart} {most total v : ℕ} (t : CountingRows c most total v) where
+  pub counting-on : v < size c → {more : ℕ} → more ≡ min (most - total) (length (node_rows c v))
+      → CountingRows c most (total + more) (v + 1)
+  counting-on l e = record {
+    within = omega arith;
+    limited = omega (arith, t.limited);
+    counted = omega (arith, t.counted, ap (λ (rs : List Row). length rs) (below-more c v) ∙ length-append (rows_below c v) (node_rows c v));
+  }
 
-pub counting-done : (c : Chart) (most total v n : ℕ) → CountingRows c most total v → n ≡ size c → n ≤ v → total ≡ min most (length (rows c))
-counting-done c most total v n t e h = t.counted ∙ ap (λ (rs : List Row). min most (length rs)) (below-all c v (omega (arith, t.within)))
+  pub counting-done : size c ≤ v → total ≡ min most (length (rows c))
+  counting-done h = t.counted ∙ ap (λ (rs : List Row). min most (length rs)) (below-all c v (omega (arith, t.within)))
+
+pub ruleset row_counting = (counting-start, counting-on, counting-done)

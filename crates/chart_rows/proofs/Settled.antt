@@ -1,18 +1,20 @@
 -- The node where a path goes on past the conditions that it has met before: what holds of it, and how a loop comes to it.
 -- The rank falls with each condition that is passed, so the bound on their number never shows.
-use Rattle.std.proofs.Common.{◌≡◌, refl, sym, ◌∙◌, ap, subst, Bool, true, false, not, ℕ, zero, suc, ◌≤◌, ◌<◌, arith, eqb-true, ◌==◌}
+use Rattle.std.proofs.Common.{◌≡◌, refl, sym, ◌∙◌, ap, subst, Bool, true, false, not, List, ℕ, zero, suc, ◌+◌, ◌≤◌, ◌<◌, arith, length}
+use Rattle.std.proofs.Common.{eqb-true, ◌==◌, slice_index}
 use Rattle.std.proofs.lemmas.Grind.{common_steps}
 use Rattle.words.proofs.lists.Tests.{and-l, and-r, not-true}
 use Rattle.std.specs.Int.{bit_at}
-use Rattle.text.specs.frames.Frame.{size}
+use Rattle.text.specs.frames.Frame.{size, field}
 use Rattle.charts.specs.Chart.{Chart, kind, argument, arc_taken}
 use Rattle.charts.proofs.Rank.{rank, rank-le, rank-some}
 use Rattle.walk.specs.Stops.{is_stop}
-use Rattle.walk.proofs.Follow.{goes_on, taken-falls}
+use Rattle.walk.proofs.Follow.{goes-on, taken-falls}
 use Rattle.chart_rows.proofs.chart_labels.ReadyLaws.{ready-sound}
 use Rattle.chart_rows.specs.chart_labels.inner.ChartContracts.{Ready}
-use Rattle.chart_rows.specs.inner.PathContracts.{Entered}
-use Rattle.chart_rows.specs.inner.NodeRows.{paths_from, is_known, settled_node}
+use Rattle.chart_rows.specs.inner.PathContracts.{Noted, Entered}
+use Rattle.chart_rows.specs.inner.NodeRows.{paths_from, tested_number, is_known, settled_node}
+use Rattle.chart_rows.proofs.NumberLaws.{number-most, bit-known, bit-unknown, side-taken}
 use Rattle.chart_rows.proofs.PathSteps.{entered-taken, at-known}
 
 module _ (c : Chart) (care values v : ℕ) where
@@ -21,10 +23,10 @@ module _ (c : Chart) (care values v : ℕ) where
   unfolding settled_node
   settled-known n k = rw (settled_node, k)
 
-  settled_here : (n : ℕ) → is_known c care v ≡ false → settled_node n c care values v ≡ v
+  settled-here : (n : ℕ) → is_known c care v ≡ false → settled_node n c care values v ≡ v
   unfolding settled_node
-  settled_here zero k = refl
-  settled_here (suc n) k = rw (settled_node, k)
+  settled-here zero k = refl
+  settled-here (suc n) k = rw (settled_node, k)
 
 -- a condition that was met before is passed along an arc, to a node of lower rank
 module _ (c : Chart) (care v : ℕ) (t : Entered c v) (k : is_known c care v ≡ true) where
@@ -32,7 +34,7 @@ module _ (c : Chart) (care v : ℕ) (t : Entered c v) (k : is_known c care v ≡
   known-goes = not-true (is_stop c v) (and-l (not (is_stop c v)) (bit_at care (argument c v) == 1) k)
 
   known-condition : kind c v ≡ 3
-  known-condition = goes_on c v t.no_begin known-goes
+  known-condition = goes-on c v t.no_begin known-goes
 
   module _ (ready : Ready c) (values : ℕ) where
     pub known-falls : (w : ℕ) → w ≡ arc_taken c values v → rank c w < rank c v
@@ -70,7 +72,7 @@ module _ (c : Chart) (ready : Ready c) (care values : ℕ) where
             fresh = s.fresh;
           })
       go false k ih =
-          subst (Settled c care values v) (sym (settled_here c care values v (suc n) k)) (record {
+          subst (Settled c care values v) (sym (settled-here c care values v (suc n) k)) (record {
             entered = t;
             lower = omega arith;
             same = λ l f. refl;
@@ -87,21 +89,47 @@ pub record Passing (c : Chart) (care values v u : ℕ) : Type 0 where
   pub enough : rank c u ≤ n
   pub same : settled_node n c care values u ≡ settled_node (size c) c care values v
 
-pub passing-start : (c : Chart) (care values v : ℕ) → Entered c v → Passing c care values v v
-passing-start c care values v t = record { entered = t; n = size c; enough = rank-le c v; same = refl }
+pub passing-start : {c : Chart} (care values : ℕ) {v : ℕ} → Entered c v → Passing c care values v v
+passing-start {c} care values {v} t = record { entered = t; n = size c; enough = rank-le c v; same = refl }
 
-module _ (c : Chart) (care values v u : ℕ) (p : Passing c care values v u) where
-  pub passing-on : Ready c → is_known c care u ≡ true → (w : ℕ) → w ≡ arc_taken c values u → Passing c care values v w
-  passing-on ready k w e = go p.n p.enough p.same
-    where
-      go : (n : ℕ) → rank c u ≤ n → settled_node n c care values u ≡ settled_node (size c) c care values v → Passing c care values v w
-      go zero h q = absurd (omega (arith, rank-some c u p.entered.inside))
-      go (suc n) h q = record {
-        entered = known-entered c care u p.entered k ready values w e;
-        n = n;
-        enough = omega (arith, known-falls c care u p.entered k ready values w e);
-        same = ap (settled_node n c care values) e ∙ sym (settled-known c care values u n k) ∙ q;
-      }
+-- by the notes, whose number of node u picks the bits of the mask and of the values
+module _ {c : Chart} {notes : List ℕ} (noted : Noted c notes) {care values v u : ℕ} (p : Passing c care values v u) where
+  ready : Ready c
+  ready = noted.chart.ready
 
-  pub passing-done : is_known c care u ≡ false → u ≡ settled_node (size c) c care values v
-  passing-done k = sym (settled_here c care values u p.n k) ∙ p.same
+  number-noted : slice_index notes (256 + u) ≡ tested_number c u
+  number-noted = noted.numbers u p.entered.inside
+
+  pub number-inside : 256 + u < length notes
+  number-inside = omega (arith, p.entered.inside, noted.long, ready.few)
+
+  pub number-low : slice_index notes (256 + u) ≤ 16
+  number-low = number-most c ready u _ p.entered number-noted
+
+  module _ (small : care < 65536) {b : ℕ} (eb : b ≡ bit_at care (slice_index notes (256 + u))) where
+    pub passing-done : (b ≡ 1 → ⊥) → u ≡ settled_node (size c) c care values v
+    passing-done n = sym (settled-here c care values u p.n (bit-unknown c ready u _ p.entered number-noted care b small eb n)) ∙ p.same
+
+    module _ (one : b ≡ 1) {b₁ w : ℕ} (e₁ : b₁ ≡ bit_at values (slice_index notes (256 + u))) (ew : w ≡ field c u (3 + b₁)) where
+      known : is_known c care u ≡ true
+      known = bit-known c ready u _ p.entered number-noted care b small eb one
+
+      side : w ≡ arc_taken c values u
+      side = side-taken c ready u _ p.entered number-noted (known-goes c care u p.entered known) values b₁ w e₁ ew
+
+      pub passing-falls : rank c w < rank c u
+      passing-falls = known-falls c care u p.entered known ready values w side
+
+      pub passing-on : Passing c care values v w
+      passing-on = go p.n p.enough p.same
+        where
+          go : (n : ℕ) → rank c u ≤ n → settled_node n c care values u ≡ settled_node (size c) c care values v → Passing c care values v w
+          go zero h q = absurd (omega (arith, rank-some c u p.entered.inside))
+          go (suc n) h q = record {
+            entered = known-entered c care u p.entered known ready values w side;
+            n = n;
+            enough = omega (arith, passing-falls);
+            same = ap (settled_node n c care values) side ∙ sym (settled-known c care values u n known) ∙ q;
+          }
+
+pub ruleset settling = (passing-start, number-inside)

@@ -20,6 +20,7 @@ fn is_begin(records: &[u8], v: usize, scheme: u8) -> bool
 }
 
 /// The Begin of a scheme of an accepted chart.
+#[tactic(auto, using(crate::proofs::chart_labels::NodeSteps::begin_search))]
 pub fn begin(records: &[u8], scheme: u8) -> usize
     requires { Ready records.now }
     ensures { result ≡ begin records.now scheme }
@@ -64,6 +65,7 @@ fn begin_stops(records: &[u8], v: usize) -> bool
 }
 
 // Whether a node takes a tick; `first` is the node that the Begin of scheme 1 leads to.
+#[tactic(auto, using(crate::proofs::chart_labels::NodeSteps::stopping))]
 fn stops(records: &[u8], first: u8, v: usize) -> bool
     requires { Beside records.now first v }
     ensures { result ≡ is_stop records.now v }
@@ -93,6 +95,7 @@ fn first_node(records: &[u8]) -> u8
 }
 
 // The label of a node, given how many nodes before it have one of their own.
+#[tactic(auto, using(crate::proofs::chart_labels::LabelSteps::one_label))]
 fn label_of(records: &[u8], first: u8, own: usize, v: usize) -> u8
     requires beside { Beside records.now first v }
     requires own_before { own ≡ count (is_numbered records.now) 0 v }

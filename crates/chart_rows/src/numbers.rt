@@ -14,6 +14,7 @@ use charts::layout::{ARGUMENT, CONDITION, KIND};
 use text::frames::sizes::{NODES, RECORD};
 
 // The number of the condition that a path tests at a node. A condition with a label of its own ends a path.
+#[tactic(auto, using(crate::proofs::NumberLaws::own_number))]
 fn number_of(records: &[u8], v: usize, own: u8) -> u8
     requires inner { Inner records.now v }
     requires own_label { own ≡ label records.now v }

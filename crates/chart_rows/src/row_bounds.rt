@@ -10,6 +10,7 @@ use text::frames::sizes::{NODES, RECORD};
 use words::bits::with_bit;
 
 // The numbers that paths on from a node may test, as bits, by those of the nodes behind its arcs.
+#[tactic(auto, using(crate::proofs::row_bounds::BoundLaws::own_masks))]
 fn mask_of(records: &[u8], notes: &[u8], masks: &[u16], v: usize) -> u16
     requires noted_at { NotedAt records.now notes.now v }
     requires masked { Masked records.now masks.now }
@@ -54,7 +55,8 @@ fn mask_downward(records: &[u8], notes: &[u8], masks: &mut [u16])
 // How many values the numbers of a mask have together: no fewer than those of them that a path has not tested. Most masks have none, and
 // to count bits takes long where the processor has no instruction for it.
 fn value_count(mask: u16) -> usize
-    ensures { ((care : ℕ) → 2 ^ untested_count mask care ≤ result) × (result ≤ 65536) }
+    ensures most { (care : ℕ) → 2 ^ untested_count mask care ≤ result }
+    ensures small { result ≤ 65536 }
 {
     if mask == 0 {
         return 1;
@@ -63,10 +65,12 @@ fn value_count(mask: u16) -> usize
 }
 
 // No node has more rows than its arcs have paths: none where it has no label of its own.
+#[tactic(auto, using(crate::proofs::row_bounds::BoundSteps::node_bounds))]
 fn bound_node(records: &[u8], notes: &[u8], masks: &[u16], v: usize) -> usize
     requires noted_at { NotedAt records.now notes.now v }
     requires masked { Masked records.now masks.now }
-    ensures { (length (node_rows records.now v) ≤ result) × (result ≤ 131072) }
+    ensures bounded { length (node_rows records.now v) ≤ result }
+    ensures small { result ≤ 131072 }
 {
     if notes[v] < 2 {
         return 0;
@@ -79,6 +83,7 @@ fn bound_node(records: &[u8], notes: &[u8], masks: &[u16], v: usize) -> usize
 }
 
 // The sum of the bounds of all nodes.
+#[tactic(auto, using(crate::proofs::row_bounds::BoundSteps::bounding))]
 fn bound_nodes(records: &[u8], notes: &[u8], masks: &[u16]) -> usize
     requires noted { Noted records.now notes.now }
     requires masked { Masked records.now masks.now }

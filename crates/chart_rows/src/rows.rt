@@ -45,6 +45,7 @@ fn count_node(records: &[u8], notes: &[u8], v: usize, most: usize) -> usize
 }
 
 /// How many rows the labels of an accepted chart have in all, or `most` where there are more.
+#[tactic(auto, using(crate::proofs::RowSteps::row_counting))]
 pub fn count_rows(records: &[u8], notes: &[u8], most: usize) -> usize
     requires { Noted records.now notes.now }
     ensures { result ≡ min most (length (rows records.now)) }

@@ -20,61 +20,62 @@ use Rattle.charts.specs.Check.{chart_verdict}
 use Rattle.charts.specs.Entry.{read_verdict, read_chart, write_verdict, write_chart}
 
 -- ---- the reader
--- 1 to 3 find nothing, and the frames are n
-pub record Formed (t : List ℕ) (n : ℕ) : Type 0 where
+-- 1 to 3 find nothing, the frames are n, and the part of the table that was read is the chart
+pub record Formed (t table : List ℕ) (n : ℕ) : Type 0 where
   pub passed : text_verdict 5888 t ≡ fine
   pub frames : n ≡ frame_count t
   pub some : 1 ≤ n
   pub few : n ≤ 256
   pub records : length (contents t) ≡ 10 * n
+  pub chart : take (10 * n) table ≡ contents t
 
-pub formed : (t : List ℕ) (a : Answer) (n : ℕ) → reply a ≡ verdict_reply (text_verdict 5888 t) (frame_count t) → a ≡ Ok n → Formed t n
-formed t a n e d =
+pub formed : (t zeros : List ℕ) {table : List ℕ} {a : Answer} {n : ℕ} → reply a ≡ verdict_reply (text_verdict 5888 t) (frame_count t)
+    → a ≡ Ok n
+    → table ≡ read_buffer 5888 t zeros → Formed t table n
+formed t zeros {table} {a} {n} e d stored =
     let p : (text_verdict 5888 t ≡ fine) × (n ≡ frame_count t) = ok-fine a (text_verdict 5888 t) (frame_count t) e n d in
     let l : Length 23 5888 (length t) = (text-told 5888 t p.0).length in
-    let some : 1 ≤ n = go (length t) n l p.1 in
+    let records : length (contents t) ≡ 10 * n = any-contents-length t ∙ omega (arith, p.1) in
     record {
       passed = p.0;
       frames = p.1;
-      some = some;
+      some = go (length t) n l p.1;
       few = omega (arith, l.fits, p.1);
-      records = any-contents-length t ∙ omega (arith, p.1);
+      records = records;
+      chart = grind (arith, common_steps, read-fine, front);
     }
   where
     go : (m n : ℕ) → Length 23 5888 m → n ≡ m / 23 → 1 ≤ n
     go zero n l e = absurd (l.some refl)
     go (suc m) n l e = omega (arith, l.whole)
 
--- the part of the table that was read is the chart
-pub formed-chart : (t table zeros : List ℕ) (n : ℕ) → Formed t n → table ≡ read_buffer 5888 t zeros → take (10 * n) table ≡ contents t
-formed-chart t table zeros n F e = grind (arith, common_steps, read-fine, front)
-
-pub chart-length : (t c : List ℕ) (n : ℕ) → Formed t n → c ≡ contents t → length c ≡ 10 * n
-chart-length t c n F e = ap length e ∙ F.records
+pub chart-length : {t table : List ℕ} {n : ℕ} → Formed t table n → 10 * n ≡ length (take (10 * n) table)
+chart-length F = sym (ap length F.chart ∙ F.records)
 
 module _ (t out : List ℕ) where
-  pub read-unformed : (a : Answer) → reply a ≡ verdict_reply (text_verdict 5888 t) (frame_count t) → (r : Refusal) → a ≡ Err r
+  pub read-unformed : {a : Answer} → reply a ≡ verdict_reply (text_verdict 5888 t) (frame_count t) → {r : Refusal} → a ≡ Err r
       → GivesBuffer (read_chart t out) (Err r) out
   unfolding read_chart read_verdict
-  read-unformed a e r q = grind (arith, common_steps, next-refused, lent-err, err-refused)
+  read-unformed e q = grind (arith, common_steps, next-refused, lent-err, err-refused)
 
-  module _ (n : ℕ) (F : Formed t n) (c : Chart) (is : c ≡ contents t) (a : Answer) (e : reply a ≡ verdict_reply (chart_verdict c) 0) where
-    rest : read_verdict t ≡ chart_verdict c
+  module _ {table : List ℕ} {n : ℕ} (F : Formed t table n) where
+    rest : read_verdict t ≡ chart_verdict (take (10 * n) table)
     unfolding read_verdict
-    rest = next-on (text_verdict 5888 t) (λ _. chart_verdict (contents t)) F.passed ∙ ap chart_verdict (sym is)
+    rest = next-on (text_verdict 5888 t) (λ _. chart_verdict (contents t)) F.passed ∙ ap chart_verdict (sym F.chart)
 
-    pub read-unsound : (r : Refusal) → a ≡ Err r → GivesBuffer (read_chart t out) (Err r) out
-    unfolding read_chart
-    read-unsound r q = grind (arith, common_steps, lent-err, err-refused, rest)
+    module _ {a : Answer} (e : reply a ≡ verdict_reply (chart_verdict (take (10 * n) table)) 0) where
+      pub read-unsound : {r : Refusal} → a ≡ Err r → GivesBuffer (read_chart t out) (Err r) out
+      unfolding read_chart
+      read-unsound q = grind (arith, common_steps, lent-err, err-refused, rest)
 
-    pub read-short : (m : ℕ) → a ≡ Ok m → length out < 10 * n → GivesBuffer (read_chart t out) (Err NoRoom) out
-    unfolding read_chart
-    read-short m q h = grind (arith, common_steps, lent-short, ok-fine, rest)
+      pub read-short : {m : ℕ} → a ≡ Ok m → length out < 10 * n → GivesBuffer (read_chart t out) (Err NoRoom) out
+      unfolding read_chart
+      read-short q h = grind (arith, common_steps, lent-short, ok-fine, rest)
 
-    pub read-done : (m : ℕ) → a ≡ Ok m → 10 * n ≤ length out → (out' : List ℕ) → out' ≡ written out 0 c
-        → GivesBuffer (read_chart t out) (Ok n) out'
-    unfolding read_chart
-    read-done m q h out' o = grind (arith, common_steps, lent-done, ok-fine, written-front, rest)
+      pub read-done : {m : ℕ} → a ≡ Ok m → 10 * n ≤ length out → {out' : List ℕ} → out' ≡ written out 0 (take (10 * n) table)
+          → GivesBuffer (read_chart t out) (Ok n) out'
+      unfolding read_chart
+      read-done q h o = grind (arith, common_steps, lent-done, ok-fine, written-front, rest)
 
 -- ---- the writer
 -- 1 finds nothing

@@ -1,5 +1,6 @@
 -- Frames that stand as bytes at the front of a buffer, and then as text: the loop from the last frame down, and all frames.
-use Rattle.std.proofs.Common.{◌≡◌, refl, sym, ◌∙◌, ap, List, ◌++◌, ℕ, suc, ◌+◌, ◌*◌, ◌-◌, ◌≤◌, ◌<◌, arith, length, drop, slice_index, flat_map}
+use Rattle.std.proofs.Common.{◌≡◌, refl, sym, ◌∙◌, ap, List, ◌++◌, ℕ, suc, ◌+◌, ◌*◌, ◌-◌, ◌≤◌, ◌<◌, arith, length, drop, slice_index}
+use Rattle.std.proofs.Common.{flat_map}
 use Rattle.std.proofs.Common.{length-take, drop-drop, get_or-take}
 use Rattle.std.proofs.Math.ListN.{get_or-append}
 use Rattle.std.proofs.lemmas.Grind.{common_steps}
@@ -58,6 +59,8 @@ module _ (out₀ out : List ℕ) (n f : ℕ) (s : Spread out₀ out n f) (room :
 
       count-more : (g : ℕ) → f ≡ g + 1 → n - g ≡ suc (n - f)
       count-more g e = omega (arith, s.low)
+
+pub ruleset spreading = (spread-none, spread-turn)
 
 -- ---- all frames: the bytes of contents, and then what the loop leaves
 module _ (b out o₁ : List ℕ) (whole : length b ≡ 10 * size b) (room : 23 * size b ≤ length out) (put : o₁ ≡ written out 0 b) where

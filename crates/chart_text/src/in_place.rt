@@ -18,6 +18,7 @@ fn spread_frame(out: &mut [u8], f: usize)
 }
 
 /// Makes the first n frames text, each of its ten bytes. The last frame goes first: its text lies behind the bytes of the frames before it.
+#[tactic(auto, using(crate::proofs::SpreadSteps::spreading))]
 pub fn spread(out: &mut [u8], n: usize)
     requires { LINE * n ≤ length out.old }
     ensures { out.new ≡ written out.old 0

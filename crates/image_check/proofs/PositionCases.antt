@@ -41,11 +41,11 @@ module _ (b : List ℕ) (f : ℕ) where
   placed-label false false true e = (refl, refl)
   placed-label false false false e = absurd (omega arith)
 
-  placed_row : (x y z : Bool) → position_kind (placed x y z b f) ≡ 18 → (placed x y z b f ≡ row_position (f - rows_from b)) × (z ≡ false)
-  placed_row true y z e = absurd (omega arith)
-  placed_row false true z e = absurd (omega arith)
-  placed_row false false true e = absurd (omega arith)
-  placed_row false false false e = (refl, refl)
+  placed-row : (x y z : Bool) → position_kind (placed x y z b f) ≡ 18 → (placed x y z b f ≡ row_position (f - rows_from b)) × (z ≡ false)
+  placed-row true y z e = absurd (omega arith)
+  placed-row false true z e = absurd (omega arith)
+  placed-row false false true e = absurd (omega arith)
+  placed-row false false false e = (refl, refl)
 
   placed-header : (x y z : Bool) → (position_kind (placed x y z b f) ≡ 16 → ⊥) → (position_kind (placed x y z b f) ≡ 17 → ⊥)
       → (position_kind (placed x y z b f) ≡ 18 → ⊥) → placed x y z b f ≡ header_position
@@ -68,16 +68,18 @@ module _ (b : List ℕ) (f : ℕ) where
 
   pub position-row : position_kind (position_of b f) ≡ 18 → position_of b f ≡ row_position (f - rows_from b)
   unfolding position_of
-  position-row e = (placed_row (f == 0) (nat_lt f (labels_from b)) (nat_lt f (rows_from b)) e).0
+  position-row e = (placed-row (f == 0) (nat_lt f (labels_from b)) (nat_lt f (rows_from b)) e).0
 
   pub row-above : position_kind (position_of b f) ≡ 18 → rows_from b ≤ f
   unfolding position_of
-  row-above e = ltb-false f (rows_from b) (placed_row (f == 0) (nat_lt f (labels_from b)) (nat_lt f (rows_from b)) e).1
+  row-above e = ltb-false f (rows_from b) (placed-row (f == 0) (nat_lt f (labels_from b)) (nat_lt f (rows_from b)) e).1
 
   pub position-header : (position_kind (position_of b f) ≡ 16 → ⊥) → (position_kind (position_of b f) ≡ 17 → ⊥)
       → (position_kind (position_of b f) ≡ 18 → ⊥) → position_of b f ≡ header_position
   unfolding position_of
   position-header = placed-header (f == 0) (nat_lt f (labels_from b)) (nat_lt f (rows_from b))
+
+pub ruleset kinds = (kind-header, kind-entry, kind-label, kind-row)
 
 -- ---- 12
 module _ (b : List ℕ) (f : ℕ) where
@@ -105,3 +107,5 @@ module _ (b : List ℕ) (f : ℕ) where
       → (position_kind (position_of b f) ≡ 18 → ⊥) → false ≡ is_stray b f
   unfolding is_stray
   stray-header p q r = sym (ap (is_stray_frame b f) (position-header b f p q r))
+
+pub ruleset strays = (stray-entry, stray-label, stray-row, stray-header, label-above, row-above)

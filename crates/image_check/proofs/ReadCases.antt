@@ -30,21 +30,21 @@ good-text t v =
     some_or Prim.Native.Nat.zero h = absurd (h refl)
     some_or (Prim.Native.Nat.suc n) h = omega arith
 
-module _ (t : List ℕ) (a : Answer) (gives : reply a ≡ verdict_reply (text_verdict 29831 t) (frame_count t)) where
-  pub read-good : (m : ℕ) → a ≡ Ok m → GoodText t m
-  read-good m e =
+module _ (t : List ℕ) {a : Answer} (gives : reply a ≡ verdict_reply (text_verdict 29831 t) (frame_count t)) where
+  pub read-good : {m : ℕ} → a ≡ Ok m → GoodText t m
+  read-good {m} e =
       let d = ok-fine a (text_verdict 29831 t) (frame_count t) gives m e in
       let g = good-text t d.0 in
       record { verdict = d.0; count = d.1; some = omega (arith, g.some, d.1); most = omega (arith, g.most, d.1) }
 
-  pub read-refused : (r : Refusal) → a ≡ Err r → reply (Err r) ≡ verdict_reply (image_verdict t) 0
+  pub read-refused : {r : Refusal} → a ≡ Err r → reply (Err r) ≡ verdict_reply (image_verdict t) 0
   unfolding image_verdict
-  read-refused r e =
+  read-refused {r} e =
       let p = err-refused a (text_verdict 29831 t) (frame_count t) gives r e in
       err-judged (image_verdict t) r 0
       (next-refused (text_verdict 29831 t) (λ _. table_verdict (contents t)) (number_of r) (index_of r) p.0) p.1
 
-module _ (t old table : List ℕ) (m : ℕ) (g : GoodText t m) (e : table ≡ read_buffer 29831 t old) where
+module _ {t : List ℕ} {m : ℕ} (g : GoodText t m) (old : List ℕ) {table : List ℕ} (e : table ≡ read_buffer 29831 t old) where
   pub contents-count : length (contents t) ≡ 10 * m
   contents-count = any-contents-length t ∙ ap (λ (n : ℕ). 10 * n) (sym g.count)
 

@@ -61,3 +61,5 @@ module _ (b : List ℕ) where
             lt-ltb
                 (lowest (has_bad_content b) 0 (size b)) (size b) (omega arith),
           )
+
+pub ruleset table_cases = (table-header, table-good, table-stray, table-bad)

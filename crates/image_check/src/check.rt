@@ -10,6 +10,7 @@ use text::frames::Refusal;
 use text::frames::sizes::FRAME;
 
 /// 11 to 13 of a table of at least one frame; success counts 0. A table in which 12 and 13 find no frame is done with one pass; else 12 on any frame goes before 13.
+#[tactic(auto, using(crate::proofs::TableCases::table_cases))]
 pub fn check_table(table: &[u8]) -> Result<usize, Refusal>
     requires { 0 < size table.now }
     ensures { reply result ≡ verdict_reply (table_verdict table.now) 0 }

@@ -11,6 +11,7 @@ use image::{labels_from, rows_from};
 use text::frames::sizes::FRAME;
 
 // The lowest entry at fault, or the first label; frames are counted.
+#[tactic(auto, using(crate::proofs::image_faults::FaultSearch::entry_search))]
 fn lowest_entry(table: &[u8], end: usize) -> usize
     requires labels { rows_from table.now ≤ size table.now }
     requires end { end ≡ labels_from table.now }
@@ -30,6 +31,7 @@ fn lowest_entry(table: &[u8], end: usize) -> usize
 }
 
 // The lowest label at fault, or the first row.
+#[tactic(auto, using(crate::proofs::image_faults::FaultSearch::label_search))]
 fn lowest_label(table: &[u8], first: usize, end: usize) -> usize
     requires inside { end ≤ size table.now }
     requires first { first ≡ labels_from table.now }
@@ -50,6 +52,7 @@ fn lowest_label(table: &[u8], first: usize, end: usize) -> usize
 }
 
 // The lowest row at fault, or the number of frames.
+#[tactic(auto, using(crate::proofs::image_faults::FaultSearch::row_search))]
 fn lowest_row(table: &[u8], first: usize, end: usize) -> usize
     requires inside { end ≤ size table.now }
     requires first { first ≡ rows_from table.now }

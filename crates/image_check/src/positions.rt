@@ -24,6 +24,7 @@ pub fn bad_header(table: &[u8]) -> bool
 }
 
 // The kind byte of frame f by its position.
+#[tactic(auto, using(crate::proofs::PositionCases::kinds))]
 fn kind_at(table: &[u8], f: usize) -> u8
     requires { f < size table.now }
     ensures { result ≡ position_kind (position_of table.now f) }
@@ -41,6 +42,7 @@ fn kind_at(table: &[u8], f: usize) -> u8
 }
 
 // 12 refuses frame f.
+#[tactic(auto, using(crate::proofs::PositionCases::strays))]
 fn stray_at(table: &[u8], f: usize) -> bool
     requires { f < size table.now }
     ensures { result ≡ is_stray table.now f }
@@ -55,6 +57,7 @@ fn stray_at(table: &[u8], f: usize) -> bool
 }
 
 /// The lowest of n frames that 12 refuses, or n.
+#[tactic(auto, using(crate::proofs::image_faults::FaultSearch::search_alone))]
 pub fn lowest_stray(table: &[u8], n: usize) -> usize
     requires { n ≤ size table.now }
     ensures { result ≡ lowest (is_stray table.now) 0 n }

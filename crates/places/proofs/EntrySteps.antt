@@ -1,12 +1,13 @@
 -- The answer at each return of the entry point.
-use Rattle.std.proofs.Common.{ℕ, ◌*◌, ◌≤◌, Bool, true, false, ◌≡◌, sym, ◌∙◌, ap, subst, List, arith, length, take, Err, if◌then◌else◌, nat_lt}
+use Rattle.std.proofs.Common.{ℕ, ◌*◌, ◌≤◌, Bool, true, false, ◌≡◌, sym, ◌∙◌, ap, subst, List, arith, length, take, Err, if◌then◌else◌}
+use Rattle.std.proofs.Common.{nat_lt}
 use Rattle.std.proofs.lemmas.Grind.{common_steps}
 use Rattle.words.proofs.lists.Tests.{cases}
 use Rattle.text.specs.frames.Frame.{contents}
 use Rattle.text.specs.frames.Verdict.{Verdict, refused, when}
 use Rattle.text.specs.declared.frames.refusals.Refusal.{Refusal}
 use Rattle.text.specs.frames.Refusal.{number_of, index_of}
-use Rattle.text.specs.frames.Answer.{Answer, success, refusal, reply, verdict_reply}
+use Rattle.text.specs.frames.Answer.{Answer, success, refusal, reply, verdict_reply, GivesBuffer}
 use Rattle.text.proofs.frames.Chains.{next-refused, next-on}
 use Rattle.charts.specs.Chart.{Chart}
 use Rattle.charts.specs.Entry.{read_verdict, read_chart}
@@ -21,7 +22,7 @@ use Rattle.places.proofs.chains.Longest.{places-some}
 use Rattle.places.specs.Entry.{places_verdict, places_needed}
 
 -- ---- what the code's number tells
-module _ (c : Chart) (f : Facts c) (n : ℕ) (e : n ≡ longest_chain c) where
+module _ {c : Chart} (f : Facts c) {n : ℕ} (e : n ≡ longest_chain c) where
   circle-when : (b : Bool) → is_circular c ≡ b → n ≡ (if b then 0 else places c)
   circle-when b q = e ∙ ap (λ (b : Bool). if b then 0 else places c) q
 
@@ -41,38 +42,37 @@ module _ (t : List ℕ) where
   unfolding places_verdict
   refused-before k i e = refused-by k i (next-refused (translate_verdict t) (λ _. when 20 (is_circular (contents t))) k i e)
 
-  pub needed-unread : (zeros : List ℕ) → 2560 ≤ length zeros → (a : Answer)
-      → reply a ≡ (read_chart t zeros).reply → (r : Refusal) → a ≡ Err r → reply (Err r) ≡ places_needed t
+pub needed-unread : (t zeros : List ℕ) {held : List ℕ} {a : Answer} → GivesBuffer (read_chart t zeros) a held → 2560 ≤ length zeros
+    → {r : Refusal} → a ≡ Err r → reply (Err r) ≡ places_needed t
+unfolding translate_verdict
+needed-unread t zeros told room {r} q =
+    let p = read-no t zeros told room q in
+    ap (refusal (number_of r) (index_of r)) p.1
+    ∙ refused-before t (number_of r) (index_of r)
+    (next-refused (read_verdict t) (λ _. when 10 (nat_lt 1024 (length (rows (contents t))))) (number_of r) (index_of r) p.0)
+
+module _ {t held : List ℕ} {n : ℕ} (r : Read t held n) {b : Bool} (rows-told : b ≡ nat_lt 1024 (length (rows (take (10 * n) held)))) where
+  by-rows : translate_verdict t ≡ when 10 b
   unfolding translate_verdict
-  needed-unread zeros room a e r q =
-      let p = read-no t zeros room a e r q in
-      ap (refusal (number_of r) (index_of r)) p.1
-      ∙ refused-before (number_of r) (index_of r)
-      (next-refused (read_verdict t) (λ _. when 10 (nat_lt 1024 (length (rows (contents t))))) (number_of r) (index_of r) p.0)
+  by-rows = grind (arith, common_steps)
 
-  module _ (held : List ℕ) (n : ℕ) (r : Read t held n) where
-    by_rows : (b : Bool) → b ≡ nat_lt 1024 (length (rows (take (10 * n) held))) → translate_verdict t ≡ when 10 b
-    unfolding translate_verdict
-    by_rows b e = grind (arith, common_steps)
+  pub needed-wide : b ≡ true → refusal 10 0 0 ≡ places_needed t
+  needed-wide q = refused-before t 10 0 (by-rows ∙ ap (when 10) q)
 
-    pub needed-wide : (b : Bool) → b ≡ nat_lt 1024 (length (rows (take (10 * n) held))) → b ≡ true → refusal 10 0 0 ≡ places_needed t
-    needed-wide b e q = refused-before 10 0 (by_rows b e ∙ ap (when 10) q)
+  module _ (few : b ≡ false) {k : ℕ} (is : k ≡ longest_chain (take (10 * n) held)) where
+    by-calls : places_verdict t ≡ when 20 (is_circular (contents t))
+    unfolding places_verdict
+    by-calls = next-on (translate_verdict t) (λ _. when 20 (is_circular (contents t))) (by-rows ∙ ap (when 10) few)
 
-    module _ (b : Bool) (e : b ≡ nat_lt 1024 (length (rows (take (10 * n) held)))) (few : b ≡ false)
-        (k : ℕ) (is : k ≡ longest_chain (take (10 * n) held)) where
-      by-calls : places_verdict t ≡ when 20 (is_circular (contents t))
-      unfolding places_verdict
-      by-calls = next-on (translate_verdict t) (λ _. when 20 (is_circular (contents t))) (by_rows b e ∙ ap (when 10) few)
+    chart-facts : Facts (contents t)
+    chart-facts = subst Facts r.chart (ready-facts (read-ready r))
 
-      chart-facts : Facts (contents t)
-      chart-facts = subst Facts r.chart (ready-facts (read-ready t held n r))
+    longest-is : k ≡ longest_chain (contents t)
+    longest-is = is ∙ ap longest_chain r.chart
 
-      longest-is : k ≡ longest_chain (contents t)
-      longest-is = is ∙ ap longest_chain r.chart
+    pub needed-circle : k ≡ 0 → refusal 20 0 0 ≡ places_needed t
+    needed-circle z = refused-by t 20 0 (by-calls ∙ ap (when 20) (longest-zero chart-facts longest-is z))
 
-      pub needed-circle : k ≡ 0 → refusal 20 0 0 ≡ places_needed t
-      needed-circle z = refused-by 20 0 (by-calls ∙ ap (when 20) (longest-zero (contents t) chart-facts k longest-is z))
-
-      pub needed-done : (k ≡ 0 → ⊥) → success k ≡ places_needed t
-      unfolding places_needed
-      needed-done z = grind (arith, common_steps, longest-some, by-calls, chart-facts, longest-is)
+    pub needed-done : (k ≡ 0 → ⊥) → success k ≡ places_needed t
+    unfolding places_needed
+    needed-done z = grind (arith, common_steps, longest-some, by-calls, chart-facts, longest-is)

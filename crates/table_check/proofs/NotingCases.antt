@@ -7,8 +7,8 @@ use native.Mathlib.Omega.{arith}
 use Rattle.std.proofs.Common.{nat_eq, ◌==◌}
 use borrow.Author.Tests.{eq-eqb, ne_eqb}
 use Rattle.words.specs.lists.Numbers.{lowest}
-use Rattle.words.proofs.lists.Searches.{Searching, searching-found, searching-next, lowest-inside, lowest-above, lowest-from}
-use Rattle.words.proofs.lists.Searches.{lowest-none, lowest-start}
+use Rattle.words.proofs.lists.Searches.{Searching, searching-first, searching-found, searching-next, lowest-inside, lowest-above, lowest-from}
+use Rattle.words.proofs.lists.Searches.{lowest-none}
 use Rattle.text.specs.frames.Frame.{size, field}
 use Rattle.image.specs.Decode.{labels_from, rows_from}
 use Rattle.image_check.proofs.image_faults.FaultSearch.{part-past}
@@ -38,10 +38,7 @@ module _ (b : List ℕ) (n : ℕ) (all : n ≡ size b) (fits : rows_from b ≤ n
       record {
         low = omega arith;
         high = omega arith;
-        search = record {
-          inside = omega arith;
-          left = part-past (is_misnoted b) 0 f n f (omega arith) (omega arith) (sym none) (omega arith) ∙ lowest-start (is_misnoted b) n;
-        };
+        search = part-past (searching-first (is_misnoted b) n) (omega arith) (omega arith) (sym none) (omega arith);
         behind = omega arith;
         inside = omega arith;
         rest = λ m _. ap₂ (λ (i k : ℕ). lowest (is_row_reached b m) i (k - i)) last all;

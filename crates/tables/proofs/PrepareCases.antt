@@ -59,10 +59,10 @@ module _ (t : List ℕ) (ok : image_verdict t ≡ fine) where
   -- ---- in place: what was read, then noted
   module _ (old table : List ℕ) (left : table ≡ read_buffer 29831 t old) where
     read-front : take long table ≡ contents t
-    read-front = front-contents t old table (frame_count t) (good-text t passes) left
+    read-front = front-contents (good-text t passes) old left
 
     pub read-length : long ≡ length (take long table)
-    read-length = front-length t old table (frame_count t) (good-text t passes) left
+    read-length = front-length (good-text t passes) old left
 
     pub read-accepted : table_verdict (take long table) ≡ fine
     read-accepted = ap table_verdict read-front ∙ image-table t ok

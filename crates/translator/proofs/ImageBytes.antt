@@ -1,5 +1,6 @@
 -- The frames of an image: ten bytes each, and the text of their bytes.
-use Rattle.std.proofs.Common.{◌≡◌, refl, sym, ◌∙◌, ap, List, [], ◌∷◌, ℕ, suc, ◌+◌, ◌*◌, ◌/◌, ◌≤◌, ◌<◌, arith, length, slice_index, slice_index_or, flat_map}
+use Rattle.std.proofs.Common.{◌≡◌, refl, sym, ◌∙◌, ap, List, [], ◌∷◌, ℕ, suc, ◌+◌, ◌*◌, ◌/◌, ◌≤◌, ◌<◌, arith, length, slice_index}
+use Rattle.std.proofs.Common.{slice_index_or, flat_map}
 use Rattle.std.proofs.lemmas.Grind.{common_steps}
 use Rattle.words.specs.lists.Numbers.{range}
 use Rattle.std.specs.List.{AllByRecursion}
@@ -15,10 +16,11 @@ use Rattle.translator.specs.label_text.inner.LabelBytes.{Put}
 use Rattle.translator.specs.inner.ImageBytes.{frames_bytes}
 use Rattle.chart_text.proofs.SpreadSteps.{text-spread}
 
-all_from : {A B : Type 0} (P : B → Type 0) (f : ℕ → A → B) → ((k : ℕ) (x : A) → P (f k x)) → (k : ℕ) (xs : List A) → AllByRecursion P (map_from f k xs)
+all-from : {A B : Type 0} (P : B → Type 0) (f : ℕ → A → B) → ((k : ℕ) (x : A) → P (f k x)) → (k : ℕ) (xs : List A)
+    → AllByRecursion P (map_from f k xs)
 unfolding map_from
-all_from P f h k [] = tt
-all_from P f h k (x ∷ xs) = (h k x, all_from P f h (suc k) xs)
+all-from P f h k [] = tt
+all-from P f h k (x ∷ xs) = (h k x, all-from P f h (suc k) xs)
 
 module _ (i : Image) where
   abbrev Ten : List ℕ → Type 0
@@ -28,8 +30,8 @@ module _ (i : Image) where
   unfolding image_frames
   frames-ten = (
     refl,
-    all-append Ten (map_from entry_frame 1 i.entries) _ (all_from Ten entry_frame (λ k x. refl) 1 i.entries)
-        (all-append Ten (map_from label_frame 0 i.labels) _ (all_from Ten label_frame (λ k x. refl) 0 i.labels)
+    all-append Ten (map_from entry_frame 1 i.entries) _ (all-from Ten entry_frame (λ k x. refl) 1 i.entries)
+        (all-append Ten (map_from label_frame 0 i.labels) _ (all-from Ten label_frame (λ k x. refl) 0 i.labels)
         (all-map Ten row_frame i.rows (all-every (λ r. Ten (row_frame r)) (λ r. refl) i.rows))),
   )
 
@@ -40,8 +42,9 @@ module _ (i : Image) where
   unfolding image_text
   image-length = grind (arith, common_steps, all-of, length-frame, length-concat, frames-ten)
 
-  frame_at : (f : ℕ) → f < length (image_frames i) → ten_bytes_at (frames_bytes (image_frames i)) (0 + f) ≡ slice_index_or (image_frames i) f []
-  frame_at f h =
+  frame-at : (f : ℕ) → f < length (image_frames i)
+      → ten_bytes_at (frames_bytes (image_frames i)) (0 + f) ≡ slice_index_or (image_frames i) f []
+  frame-at f h =
       let ten : length (slice_index_or (image_frames i) f []) ≡ 10 = all-at Ten [] (image_frames i) frames-ten f h in
       map-count (field (frames_bytes (image_frames i)) (0 + f)) 0 (slice_index_or (image_frames i) f []) 0 10 (sym ten) (λ k l.
       ap (λ (j : ℕ). slice_index (frames_bytes (image_frames i)) j) (omega arith)
@@ -53,7 +56,7 @@ module _ (i : Image) where
       let n : size (frames_bytes (image_frames i)) ≡ length (image_frames i) = omega (arith, bytes-length) in
       concat-map frame_text (ten_bytes_at (frames_bytes (image_frames i))) (range 0 (size (frames_bytes (image_frames i))))
       ∙ ap (λ (k : ℕ). flat_map (frame_of (frames_bytes (image_frames i))) (range 0 k)) n
-      ∙ concat-places (frame_of (frames_bytes (image_frames i))) frame_text [] (image_frames i) 0 (λ f h. ap frame_text (frame_at f h))
+      ∙ concat-places (frame_of (frames_bytes (image_frames i))) frame_text [] (image_frames i) 0 (λ f h. ap frame_text (frame-at f h))
 
   -- the bytes of the frames put, and then what the loop leaves
   pub image-spread : (out o₁ : List ℕ) (end : ℕ) → Put out 0 (frames_bytes (image_frames i)) end o₁ → 23 * (end / 10) ≤ length out

@@ -1,7 +1,8 @@
 -- The bytes of a chart's table in the parts that the functions write, and how long each part is.
-use Rattle.std.proofs.Common.{◌≡◌, refl, sym, ◌∙◌, ap, ap₂, subst, Bool, true, false, List, [], ◌∷◌, ◌++◌, map, append_assoc, ℕ, zero, suc, nat_lt, flat_map, filter}
+use Rattle.std.proofs.Common.{◌≡◌, refl, sym, ◌∙◌, ap, ap₂, Bool, true, false, List, [], ◌∷◌, ◌++◌, map, append_assoc, ℕ, zero, suc}
+use Rattle.std.proofs.Common.{nat_lt, flat_map, filter}
 use Rattle.std.proofs.Common.{◌+◌, ◌*◌, ◌/◌, ◌-◌, ◌≤◌, ◌<◌, zero-add, mul-suc, add-one, arith, length, length-append, lt-ltb, le-ltb}
-use Rattle.std.proofs.Common.{Option, None, Some, Ok, Err, if◌then◌else◌, cond}
+use Rattle.std.proofs.Common.{⊎_elim, Option, None, Some, Ok, Err, if◌then◌else◌, cond}
 use Rattle.std.proofs.Math.Decide.{dec_lt}
 use Rattle.std.proofs.lemmas.Option.{none-some}
 use Rattle.std.proofs.lemmas.Grind.{common_steps}
@@ -9,6 +10,7 @@ use Rattle.words.specs.lists.Numbers.{range, count}
 use Rattle.words.specs.lists.Sequences.{map_from, written}
 use Rattle.std.proofs.lemmas.Bool.{cond-true, cond-false}
 use Rattle.words.proofs.lists.Counts.{count-suc, count-snoc}
+use Rattle.words.proofs.lists.Tests.{cases}
 use Rattle.words.proofs.lists.Ranges.{map_from-cons, filter-yes, filter-no}
 use Rattle.words.proofs.lists.Joins.{concat-cons, concat-map, concat-append, length-concat-range}
 use Rattle.words.proofs.lists.Written.{written-more, written-front, written-before}
@@ -20,8 +22,8 @@ use Rattle.text.specs.declared.frames.refusals.Refusal.TheVariants.{ManyRows, No
 use Rattle.text.proofs.frames.Chains.{when-holds, when-fails}
 use Rattle.text.proofs.frames.Lent.{lent-err, lent-short, lent-done}
 use Rattle.charts.specs.Chart.{Chart, handler, schemes}
-use Rattle.image.specs.Image.{Row, entry_frame, label_frame, row_frame, image_frames, image_text}
-use Rattle.chart_rows.specs.chart_labels.Labels.{is_numbered, label, entry, home_label, return_label, stop_label, numbered_nodes}
+use Rattle.image.specs.Image.{Row, entry_frame, label_frame, image_frames, image_text}
+use Rattle.chart_rows.specs.chart_labels.Labels.{is_numbered, entry, home_label, return_label, stop_label, numbered_nodes}
 use Rattle.chart_rows.specs.Rows.{rows}
 use Rattle.translator.specs.Table.{table}
 use Rattle.translator.specs.path_text.inner.RowBytes.{rows_bytes}
@@ -29,80 +31,72 @@ use Rattle.translator.specs.row_text.inner.NodeBytes.{node_rows_bytes}
 use Rattle.translator.specs.inner.ImageBytes.{frames_bytes, table_bytes, size_refusal, image_outcome}
 use Rattle.chart_rows.specs.inner.NodeRows.{node_rows}
 use Rattle.translator.specs.label_text.inner.LabelBytes.{header_bytes, entry_bytes, fixed_bytes, node_label_bytes, up_to, Put}
-use Rattle.translator.specs.inner.TranslatorContracts.{Sizes}
+use Rattle.translator.specs.inner.TranslatorContracts.{Sizes, ImageRoom}
 use Rattle.translator.proofs.LabelLaws.{length-labels, length-entries}
 use Rattle.translator.proofs.ImageBytes.{bytes-length, image-length}
 use Rattle.chart_rows.proofs.chart_labels.LabelSteps.{label-own}
 use Rattle.chart_rows.proofs.RowSteps.{below-all}
 use Rattle.translator.proofs.path_text.RowPuts.{rows-append}
+use Rattle.std.proofs.lemmas.Bool.Decides.{nat_tests}
+
+-- what a refusal gives
+ruleset refusing = (when-holds, lent-err, lent-short, lt-ltb, dec_lt, none-some)
+
+-- lists of frames, joined
+ruleset joins = (concat-map, concat-append, concat-cons, append_assoc)
 
 -- ---- entries
-entries_from : (c : Chart) (i n : ℕ)
+entries-from : (c : Chart) (i n : ℕ)
     → frames_bytes (map_from entry_frame (suc i) (map (entry c) (range (suc i) n))) ≡ flat_map (entry_bytes c) (range i n)
-entries_from c i zero = unfold map_from in refl
-entries_from c i (suc n) =
+entries-from c i zero = unfold map_from in refl
+entries-from c i (suc n) =
     ap frames_bytes (map_from-cons entry_frame (suc i) (entry c (suc i)) (map (entry c) (range (suc (suc i)) n)))
     ∙ concat-cons (λ f. f) (entry_frame (suc i) (entry c (suc i)))
     (map_from entry_frame (suc (suc i)) (map (entry c) (range (suc (suc i)) n)))
-    ∙ ap₂ (λ (x y : List ℕ). x ++ y) (ap (λ (k : ℕ). entry_frame k (entry c k)) (sym (add-one i))) (entries_from c (suc i) n)
+    ∙ ap₂ (λ (x y : List ℕ). x ++ y) (ap (λ (k : ℕ). entry_frame k (entry c k)) (sym (add-one i))) (entries-from c (suc i) n)
     ∙ sym (concat-cons (entry_bytes c) i (range (suc i) n))
 
 -- ---- labels
 module _ (c : Chart) where
-  labels_from : (i n : ℕ)
-      → frames_bytes (map_from label_frame (2 + count (is_numbered c) 0 i) (map (stop_label c) (filter (is_numbered c) (range i n))))
-      ≡ flat_map (node_label_bytes c) (range i n)
-  labels_from i zero = unfold map_from in refl
-  labels_from i (suc n) = go (is_numbered c i) refl (labels_from (suc i) n)
-    where
-      go : (b : Bool) → is_numbered c i ≡ b
-          → frames_bytes (map_from label_frame (2 + count (is_numbered c) 0 (suc i))
-          (map (stop_label c) (filter (is_numbered c) (range (suc i) n))))
-          ≡ flat_map (node_label_bytes c) (range (suc i) n)
-          → frames_bytes (map_from label_frame (2 + count (is_numbered c) 0 i)
-          (map (stop_label c) (filter (is_numbered c) (range i (suc n)))))
-          ≡ flat_map (node_label_bytes c) (range i (suc n))
-      go true e ih =
-          let p : cond {A = ℕ} (is_numbered c (0 + i)) 1 0 ≡ 1 =
-          ap (λ (j : ℕ). cond {A = ℕ} (is_numbered c j) 1 0) (zero-add i) ∙ cond-true (is_numbered c i) 1 0 e in
-          let s : suc (2 + count (is_numbered c) 0 i) ≡ 2 + count (is_numbered c) 0 (suc i) =
-          omega (arith, count-snoc (is_numbered c) 0 i, p) in
-          ap (λ (vs : List ℕ). frames_bytes (map_from label_frame (2 + count (is_numbered c) 0 i) (map (stop_label c) vs)))
-          (filter-yes (is_numbered c) i (range (suc i) n) e)
-          ∙ ap frames_bytes (map_from-cons label_frame (2 + count (is_numbered c) 0 i) (stop_label c i)
-          (map (stop_label c) (filter (is_numbered c) (range (suc i) n))))
-          ∙ concat-cons (λ f. f) (label_frame (2 + count (is_numbered c) 0 i) (stop_label c i))
-          (map_from label_frame (suc (2 + count (is_numbered c) 0 i)) (map (stop_label c) (filter (is_numbered c) (range (suc i) n))))
-          ∙ ap₂ (λ (x y : List ℕ). x ++ y)
-          (ap (λ (l : ℕ). label_frame l (stop_label c i)) (sym (label-own c i e))
-          ∙ sym (cond-true (is_numbered c i) (label_frame (label c i) (stop_label c i)) [] e))
-          (ap (λ (l : ℕ). frames_bytes (map_from label_frame l (map (stop_label c) (filter (is_numbered c) (range (suc i) n))))) s ∙ ih)
-          ∙ sym (concat-cons (node_label_bytes c) i (range (suc i) n))
-      go false e ih =
-          let p : cond {A = ℕ} (is_numbered c (0 + i)) 1 0 ≡ 0 =
-          ap (λ (j : ℕ). cond {A = ℕ} (is_numbered c j) 1 0) (zero-add i) ∙ cond-false (is_numbered c i) 1 0 e in
-          let s : 2 + count (is_numbered c) 0 i ≡ 2 + count (is_numbered c) 0 (suc i) = omega (arith, count-snoc (is_numbered c) 0 i, p) in
-          ap (λ (vs : List ℕ). frames_bytes (map_from label_frame (2 + count (is_numbered c) 0 i) (map (stop_label c) vs)))
-          (filter-no (is_numbered c) i (range (suc i) n) e)
-          ∙ ap (λ (l : ℕ). frames_bytes (map_from label_frame l (map (stop_label c) (filter (is_numbered c) (range (suc i) n))))) s ∙ ih
-          ∙ sym (concat-cons (node_label_bytes c) i (range (suc i) n)
-          ∙ ap (λ (x : List ℕ). x ++ flat_map (node_label_bytes c) (range (suc i) n))
-          (cond-false (is_numbered c i) (label_frame (label c i) (stop_label c i)) [] e))
+  -- the frames of the labels of nodes i on, where i of those before have a label
+  abbrev frames : ℕ → List ℕ → List ℕ
+  frames i vs = frames_bytes (map_from label_frame (2 + count (is_numbered c) 0 i) (map (stop_label c) vs))
 
-  none_before : 2 + count (is_numbered c) 0 0 ≡ 2
+  next-label : (i : ℕ) → 2 + count (is_numbered c) 0 (suc i) ≡ 2 + count (is_numbered c) 0 i + cond {A = ℕ} (is_numbered c i) 1 0
+  next-label i = omega (arith, count-snoc (is_numbered c) 0 i, ap (λ (j : ℕ). cond {A = ℕ} (is_numbered c j) 1 0) (zero-add i))
+
+  label-in-front : (i : ℕ) (vs : List ℕ) → is_numbered c i ≡ true → frames i (i ∷ vs) ≡ node_label_bytes c i ++ frames (suc i) vs
+  label-in-front i vs e = grind (arith, common_steps, map_from-cons, concat-cons, next-label, label-own, cond-true)
+
+  no-label : (i : ℕ) (vs : List ℕ) → is_numbered c i ≡ false → frames i vs ≡ node_label_bytes c i ++ frames (suc i) vs
+  no-label i vs e = grind (arith, common_steps, next-label, cond-false)
+
+  labels-more : (i n : ℕ) → frames (suc i) (filter (is_numbered c) (range (suc i) n)) ≡ flat_map (node_label_bytes c) (range (suc i) n)
+      → frames i (filter (is_numbered c) (range i (suc n))) ≡ flat_map (node_label_bytes c) (range i (suc n))
+  labels-more i n ih =
+      let vs : List ℕ = filter (is_numbered c) (range (suc i) n) in
+      ⊎_elim
+      (λ (e : is_numbered c i ≡ true). ap (frames i) (filter-yes (is_numbered c) i (range (suc i) n) e) ∙ label-in-front i vs e)
+      (λ (e : is_numbered c i ≡ false). ap (frames i) (filter-no (is_numbered c) i (range (suc i) n) e) ∙ no-label i vs e)
+      (cases (is_numbered c i))
+      ∙ ap (λ (x : List ℕ). node_label_bytes c i ++ x) ih ∙ sym (concat-cons (node_label_bytes c) i (range (suc i) n))
+
+  labels-from : (i n : ℕ) → frames i (filter (is_numbered c) (range i n)) ≡ flat_map (node_label_bytes c) (range i n)
+  labels-from i zero = unfold map_from in refl
+  labels-from i (suc n) = labels-more i n (labels-from (suc i) n)
+
+  none-before : 2 + count (is_numbered c) 0 0 ≡ 2
   unfolding count
-  none_before = refl
+  none-before = refl
 
   labels-joined : frames_bytes (map_from label_frame 0 (home_label ∷ return_label ∷ map (stop_label c) (numbered_nodes c)))
       ≡ fixed_bytes ++ up_to (node_label_bytes c) (size c)
-  labels-joined = grind (arith, common_steps, concat-cons, append_assoc, map_from-cons, labels_from, none_before)
+  labels-joined = grind (arith, common_steps, concat-cons, append_assoc, map_from-cons, labels-from, none-before)
 
   -- ---- rows
   rows-each : (xs : List ℕ) → rows_bytes (flat_map (node_rows c) xs) ≡ flat_map (node_rows_bytes c) xs
-  rows-each [] = refl
-  rows-each (x ∷ xs) =
-      ap rows_bytes (concat-cons (node_rows c) x xs) ∙ rows-append (node_rows c x) (flat_map (node_rows c) xs)
-      ∙ ap (λ (y : List ℕ). node_rows_bytes c x ++ y) (rows-each xs) ∙ sym (concat-cons (node_rows_bytes c) x xs)
+  rows-each [] = grind (arith, common_steps, nat_tests)
+  rows-each (x ∷ xs) = grind (arith, common_steps, nat_tests, rows-each xs, rows-append, concat-cons)
 
   rows-parted : rows_bytes (rows c) ≡ up_to (node_rows_bytes c) (size c)
   rows-parted = ap rows_bytes (sym (below-all c (size c) refl)) ∙ rows-each (range 0 (size c))
@@ -117,56 +111,28 @@ module _ (c : Chart) where
       → table_bytes c ≡ image_parts highest (own + 1) n
   unfolding image_frames table
   image-parts highest own n eh eo en =
-      let h : header_bytes (length (table c).entries) (length (table c).labels - 1) (length (table c).rows) (handler c)
-      ≡ header_bytes highest (own + 1) n (handler c) =
-      ap (λ (k : ℕ). header_bytes k (length (table c).labels - 1) (length (table c).rows) (handler c)) (length-entries c ∙ sym eh)
-      ∙ ap₂ (λ (k m : ℕ). header_bytes highest k m (handler c)) (omega (arith, length-labels c)) (sym en) in
-      concat-cons (λ f. f) (header_bytes (length (table c).entries) (length (table c).labels - 1) (length (table c).rows) (handler c))
-      (map_from entry_frame 1 (table c).entries ++ (map_from label_frame 0 (table c).labels ++ map row_frame (table c).rows))
-      ∙ ap₂ (λ (x y : List ℕ). x ++ y) h
-      (concat-append (λ f. f) (map_from entry_frame 1 (map (entry c) (range 1 (schemes c))))
-      (map_from label_frame 0 (home_label ∷ return_label ∷ map (stop_label c) (numbered_nodes c)) ++ map row_frame (rows c))
-      ∙ ap₂ (λ (x y : List ℕ). x ++ y) (entries_from c 0 (schemes c) ∙ ap (up_to (entry_bytes c)) (sym eh))
-      (concat-append (λ f. f) (map_from label_frame 0 (home_label ∷ return_label ∷ map (stop_label c) (numbered_nodes c)))
-      (map row_frame (rows c))
-      ∙ ap₂ (λ (x y : List ℕ). x ++ y) labels-joined (concat-map (λ f. f) row_frame (rows c) ∙ rows-parted)
-      ∙ append_assoc fixed_bytes (up_to (node_label_bytes c) (size c)) (up_to (node_rows_bytes c) (size c))))
+      grind (arith, common_steps, nat_tests, joins, length-entries, length-labels, entries-from, labels-joined, rows-parted)
 
   -- ---- lengths
   pub entries-long : (n : ℕ) → length (up_to (entry_bytes c) n) ≡ 10 * n
   entries-long n = length-concat-range (entry_bytes c) 10 0 n (λ k. refl)
 
-  labels_length : (i n : ℕ) → length (flat_map (node_label_bytes c) (range i n)) ≡ 10 * count (is_numbered c) i n
-  labels_length i zero = unfold count in refl
-  labels_length i (suc n) =
-      go (is_numbered c i) refl (labels_length (suc i) n)
-    where
-      go : (b : Bool) → is_numbered c i ≡ b → length (flat_map (node_label_bytes c) (range (suc i) n))
-          ≡ 10 * count (is_numbered c) (suc i) n
-          → length (flat_map (node_label_bytes c) (range i (suc n))) ≡ 10 * count (is_numbered c) i (suc n)
-      go true e ih =
-          let p : length (node_label_bytes c i) ≡ 10 =
-          ap (λ (x : List ℕ). length x) (cond-true (is_numbered c i) (label_frame (label c i) (stop_label c i)) [] e) in
-          let q : cond {A = ℕ} (is_numbered c i) 1 0 ≡ 1 = cond-true (is_numbered c i) 1 0 e in
-          ap (λ (x : List ℕ). length x) (concat-cons (node_label_bytes c) i (range (suc i) n))
-          ∙ length-append (node_label_bytes c i) (flat_map (node_label_bytes c) (range (suc i) n))
-          ∙ omega (arith, p, q, ih, count-suc (is_numbered c) i n)
-      go false e ih =
-          let p : length (node_label_bytes c i) ≡ 0 =
-          ap (λ (x : List ℕ). length x) (cond-false (is_numbered c i) (label_frame (label c i) (stop_label c i)) [] e) in
-          let q : cond {A = ℕ} (is_numbered c i) 1 0 ≡ 0 = cond-false (is_numbered c i) 1 0 e in
-          ap (λ (x : List ℕ). length x) (concat-cons (node_label_bytes c) i (range (suc i) n))
-          ∙ length-append (node_label_bytes c i) (flat_map (node_label_bytes c) (range (suc i) n))
-          ∙ omega (arith, p, q, ih, count-suc (is_numbered c) i n)
+  label-length : (v : ℕ) → length (node_label_bytes c v) ≡ 10 * cond {A = ℕ} (is_numbered c v) 1 0
+  label-length v = grind (arith, common_steps, nat_tests, cases)
+
+  labels-length : (i n : ℕ) → length (flat_map (node_label_bytes c) (range i n)) ≡ 10 * count (is_numbered c) i n
+  labels-length i zero = unfold count in refl
+  labels-length i (suc n) =
+      ap (λ (x : List ℕ). length x) (concat-cons (node_label_bytes c) i (range (suc i) n))
+      ∙ length-append (node_label_bytes c i) (flat_map (node_label_bytes c) (range (suc i) n))
+      ∙ omega (arith, label-length i, labels-length (suc i) n, count-suc (is_numbered c) i n)
 
   pub labels-long : length (up_to (node_label_bytes c) (size c)) ≡ 10 * count (is_numbered c) 0 (size c)
-  labels-long = labels_length 0 (size c)
+  labels-long = labels-length 0 (size c)
 
   rows-length : (rs : List Row) → length (rows_bytes rs) ≡ 10 * length rs
-  rows-length [] = refl
-  rows-length (r ∷ rs) =
-      ap (λ (x : List ℕ). length x) (concat-cons row_frame r rs) ∙ length-append (row_frame r) (rows_bytes rs)
-      ∙ omega (arith, rows-length rs, mul-suc 10 (length rs))
+  rows-length [] = grind (arith, common_steps, nat_tests)
+  rows-length (r ∷ rs) = grind (arith, common_steps, nat_tests, rows-length rs, mul-suc, length-append, concat-cons)
 
   pub rows-long : length (up_to (node_rows_bytes c) (size c)) ≡ 10 * length (rows c)
   rows-long = ap (λ (x : List ℕ). length x) (sym rows-parted) ∙ rows-length (rows c)
@@ -195,21 +161,7 @@ module _ (c : Chart) (highest own n : ℕ) (s : Sizes c highest own n) where
   pub bytes-long : length (table_bytes c) ≡ 10 * (3 + highest + own + n)
   bytes-long =
       ap (λ (x : List ℕ). length x) (image-parts c highest own n s.schemed s.owned s.rowed)
-      ∙ length-append (header_bytes highest (own + 1) n (handler c))
-      (up_to (entry_bytes c) highest ++ (fixed_bytes ++ (up_to (node_label_bytes c) (size c) ++ up_to (node_rows_bytes c) (size c))))
-      ∙ omega (
-        arith,
-        length-append (up_to (entry_bytes c) highest) (fixed_bytes ++
-            (up_to (node_label_bytes c) (size c) ++ up_to (node_rows_bytes c) (size c))),
-        length-append fixed_bytes (up_to (node_label_bytes c) (size c) ++ up_to (node_rows_bytes c) (size c)),
-        length-append (up_to (node_label_bytes c) (size c)) (up_to (node_rows_bytes c) (size c)),
-        fixed-long,
-        entries-long c highest,
-        labels-long c,
-        rows-long c,
-        s.owned,
-        s.rowed,
-      )
+      ∙ omega (arith, length-append {A = ℕ}, fixed-long, entries-long c highest, labels-long c, rows-long c, s.owned, s.rowed)
 
   pub image-long : length (image_text (table c)) ≡ 23 * (3 + highest + own + n)
   image-long = image-length (table c) ∙ omega (arith, bytes-length (table c), bytes-long)
@@ -239,6 +191,10 @@ module _ (c : Chart) (highest own n : ℕ) (s : Sizes c highest own n) where
               (e₅ ∙ ap₂ (λ (k x : ℕ). written o₄ 0 (header_bytes highest (own + 1) k x)) em eh)
               ∙ ap (written out 0) (sym (image-parts c highest own n s.schemed s.owned s.rowed));
         }
+
+pub text-room : {c : Chart} {notes : List ℕ} {highest own : ℕ} {out o₁ : List ℕ} {end : ℕ} → ImageRoom c notes highest own out
+    → Put out 0 (table_bytes c) end o₁ → 23 * (end / 10) ≤ length out
+text-room asked put = omega (arith, bytes-long _ _ _ _ asked.sizes, put.ends, asked.room)
 
 -- ---- 10 and 16
 module _ (c : Chart) (before room : ℕ) where
@@ -270,29 +226,8 @@ module _ (c : Chart) (old : List ℕ) (highest own : ℕ) (found : Option Refusa
   allowed few = when-fails 10 (nat_lt 1024 (length (rows c))) (le-ltb 1024 (length (rows c)) few)
 
   pub image-refused : (r : Refusal) → found ≡ Some r → GivesBuffer (image_outcome c old) (Err r) old
-  image-refused r is = go (dec_lt 1024 (length (rows c))) (dec_lt (length old) (23 * (3 + highest + own + length (rows c))))
-    where
-      same : (s : Refusal) → Some s ≡ size_refusal c (3 + highest + own) (length old) → GivesBuffer (image_outcome c old) (Err s) old
-          → GivesBuffer (image_outcome c old) (Err r) old
-      same s q l =
-          let p : Some s ≡ Some r = q ∙ sym e ∙ is in
-          let is-it : s ≡ r = cc in
-          subst (λ (x : Refusal). GivesBuffer (image_outcome c old) (Err x) old) is-it l
-
-      go : Dec (1024 < length (rows c)) → Dec (length old < 23 * (3 + highest + own + length (rows c)))
-          → GivesBuffer (image_outcome c old) (Err r) old
-      go (yes h) d =
-          same ManyRows (refusal-rows c (3 + highest + own) (length old) h)
-          (lent-err (when 10 (nat_lt 1024 (length (rows c)))) 1 (λ _. image_text (table c)) old ManyRows
-          (when-holds 10 (nat_lt 1024 (length (rows c))) (lt-ltb 1024 (length (rows c)) h), refl))
-      go (no h) (yes d) =
-          let few : length (rows c) ≤ 1024 = omega arith in
-          same NoRoom (refusal-room c (3 + highest + own) (length old) few d)
-          (lent-short (when 10 (nat_lt 1024 (length (rows c)))) 1 (λ _. image_text (table c)) old (allowed few)
-          (omega (arith, image-long c highest own (length (rows c)) sizes)))
-      go (no h) (no d) =
-          let p : None ≡ Some r = refusal-none c (3 + highest + own) (length old) (omega arith) (omega arith) ∙ sym e ∙ is in
-          absurd (none-some r p)
+  image-refused r is =
+      grind (arith, common_steps, nat_tests, refusing, image-long, refusal-rows, refusal-room, refusal-none, sizes, allowed)
 
   module _ (none : found ≡ None) where
     pub image-few : length (rows c) ≤ 1024

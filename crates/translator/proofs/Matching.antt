@@ -1,5 +1,6 @@
 -- Which rows of a label match a word and a bit: of the paths from a node just one does, and it ends where the word leads.
-use Rattle.std.proofs.Common.{if◌then◌else◌, ◌≡◌, refl, sym, ◌∙◌, ap, ap₂, ◌⊎◌, inl, inr, Bool, true, false, ◌&&◌, ◌||◌, List, [], ◌∷◌, ◌==◌, flat_map, filter}
+use Rattle.std.proofs.Common.{if◌then◌else◌, ◌≡◌, refl, sym, ◌∙◌, ap, ap₂, ◌⊎◌, inl, inr, Bool, true, false, ◌&&◌, ◌||◌, List, [], ◌∷◌}
+use Rattle.std.proofs.Common.{◌==◌, flat_map, filter}
 use Rattle.std.proofs.Common.{◌++◌, map, ℕ, zero, suc, ◌+◌, ◌^◌, ◌≤◌, arith, bit_and, eq-eqb, ne_eqb}
 use Rattle.std.proofs.lemmas.Grind.{common_steps}
 use Rattle.words.proofs.lists.Tests.{and-true, cases}
@@ -15,12 +16,13 @@ use Rattle.charts.proofs.Accepted.{SoundChart}
 use Rattle.charts.proofs.Nodes.{Target, conditions}
 use Rattle.charts.proofs.Rank.{rank, rank-some}
 use Rattle.walk.specs.Stops.{is_stop, next_stop}
-use Rattle.walk.proofs.Follow.{goes_on, follow-stays, follow-goes, takes-0, takes-1, condition-arc0, condition-arc1, taken-end, taken-falls}
+use Rattle.walk.proofs.Follow.{goes-on, follow-stays, follow-goes, takes-0, takes-1, condition-arc0, condition-arc1, taken-end, taken-falls}
 use Rattle.image.specs.Image.{Row}
 use Rattle.chart_rows.specs.chart_labels.Labels.{label}
 use Rattle.chart_rows.specs.Rows.{paths}
 use Rattle.chart_rows.specs.inner.NodeRows.{paths_from}
 use Rattle.chart_rows.proofs.PathSteps.{path_row, paths-stop, paths-known, paths-new}
+use Rattle.std.proofs.lemmas.Bool.Decides.{nat_tests}
 
 -- a row of label l that matches word w and bit b
 abbrev pub is_matching_row : ℕ → ℕ → ℕ → Row → Bool
@@ -41,12 +43,8 @@ module _ (l w b : ℕ) where
 
   pub targets-concat : {A : Type 0} (f : A → List Row) (xs : List A)
       → targets l w b (flat_map f xs) ≡ flat_map (λ x. targets l w b (f x)) xs
-  targets-concat f [] = targets-none
-  targets-concat f (x ∷ xs) =
-      ap (targets l w b) (concat-cons f x xs)
-      ∙ targets-append (f x) (flat_map f xs)
-      ∙ ap (λ (ys : List ℕ). targets l w b (f x) ++ ys) (targets-concat f xs)
-      ∙ sym (concat-cons (λ x. targets l w b (f x)) x xs)
+  targets-concat f [] = grind (arith, common_steps, nat_tests, targets-none)
+  targets-concat f (x ∷ xs) = grind (arith, common_steps, nat_tests, targets-concat f xs, concat-cons, targets-append)
 
   -- of two lists just one has a match
   pub in-first : (xs ys : List Row) (u : ℕ) → targets l w b xs ≡ u ∷ [] → targets l w b ys ≡ [] → targets l w b (xs ++ ys) ≡ u ∷ []
@@ -86,9 +84,7 @@ paths-none (suc n) c l m w f b q care values v = go (cases (is_stop c v)) (bit-c
     go (inr s) (inl k) ih =
         let i : ℕ = argument c v in
         ap (targets m w b) (paths-new n c l f care values v s (λ q. omega (arith, k, q)))
-        ∙ in-second m w b (paths_from n c l f (care + 2 ^ i) values (next0 c v))
-        (paths_from n c l f (care + 2 ^ i) (values + 2 ^ i) (next1 c v)) []
-        (ih (care + 2 ^ i) values (next0 c v)) (ih (care + 2 ^ i) (values + 2 ^ i) (next1 c v))
+        ∙ in-second m w b _ _ [] (ih (care + 2 ^ i) values (next0 c v)) (ih (care + 2 ^ i) (values + 2 ^ i) (next1 c v))
 
 module _ (c : Chart) (a : SoundChart c) (l w f b : ℕ) where
   -- a word that has not the values of the path so far matches none of its rows
@@ -106,18 +102,15 @@ module _ (c : Chart) (a : SoundChart c) (l w f b : ℕ) where
           ap (targets l w b) (paths-stop n c l f care values v s) ∙ one-no l w b (path_row c l f care values v) (rw (eq-eqb l l refl, q))
       go (inr s) (inr o) ih =
           ap (targets l w b) (paths-known n c l f care values v s o)
-          ∙ ih care values (arc_taken c values v) (taken-end c a h values v t (goes_on c v t.entered s)) m k
+          ∙ ih care values (arc_taken c values v) (taken-end c a h values v t (goes-on c v t.entered s)) m k
       go (inr s) (inl z) ih =
           let i : ℕ = argument c v in
-          let e : kind c v ≡ 3 = goes_on c v t.entered s in
+          let e : kind c v ≡ 3 = goes-on c v t.entered s in
           let small : i ≤ 15 = conditions c a v t.inside e in
           ap (targets l w b) (paths-new n c l f care values v s (λ q. omega (arith, z, q)))
-          ∙ in-second l w b (paths_from n c l f (care + 2 ^ i) values (next0 c v))
-          (paths_from n c l f (care + 2 ^ i) (values + 2 ^ i) (next1 c v)) []
-          (ih (care + 2 ^ i) values (next0 c v) (condition-arc0 c a h v t e)
-          (mask-0 care values i z m small) (clash-0 care values i z m w k))
-          (ih (care + 2 ^ i) (values + 2 ^ i) (next1 c v) (condition-arc1 c a h v t e)
-          (mask-1 care values i z m small) (clash-1 care values i z m w k))
+          ∙ in-second l w b _ _ []
+          (ih _ _ (next0 c v) (condition-arc0 c a h v t e) (mask-0 care values i z m small) (clash-0 care values i z m w k))
+          (ih _ _ (next1 c v) (condition-arc1 c a h v t e) (mask-1 care values i z m small) (clash-1 care values i z m w k))
 
   -- a word that has them matches one row: that of the stop which following the arcs reaches
   pub paths-hit : (f == 2 || f == b) ≡ true → (n h care values v : ℕ) → Target c h v
@@ -146,7 +139,7 @@ module _ (c : Chart) (a : SoundChart c) (l w f b : ℕ) where
           ap (targets l w b) (paths-stop n c l f care values v s) ∙ one-yes l w b (path_row c l f care values v) z
           ∙ ap (λ (u : ℕ). label c u ∷ []) (sym (follow-stays n c w v s))
       go (inr s) (inr o) y ih =
-          let e : kind c v ≡ 3 = goes_on c v t.entered s in
+          let e : kind c v ≡ 3 = goes-on c v t.entered s in
           let q : arc_taken c w v ≡ arc_taken c values v =
           ap (λ (x : ℕ). if x == 0 then next0 c v else next1 c v) (g.agrees (argument c v) o) in
           ap (targets l w b) (paths-known n c l f care values v s o)
@@ -154,27 +147,25 @@ module _ (c : Chart) (a : SoundChart c) (l w f b : ℕ) where
           ∙ on s (arc_taken c values v) q
       go (inr s) (inl z) (inl w0) ih =
           let i : ℕ = argument c v in
-          let e : kind c v ≡ 3 = goes_on c v t.entered s in
+          let e : kind c v ≡ 3 = goes-on c v t.entered s in
           let small : i ≤ 15 = conditions c a v t.inside e in
           let q : arc_taken c w v ≡ next0 c v = takes-0 c w v w0 in
           ap (targets l w b) (paths-new n c l f care values v s (λ q. omega (arith, z, q)))
-          ∙ in-first l w b (paths_from n c l f (care + 2 ^ i) values (next0 c v))
-          (paths_from n c l f (care + 2 ^ i) (values + 2 ^ i) (next1 c v)) (label c (next_stop n c w (next0 c v)))
-          (ih (care + 2 ^ i) values (next0 c v) (condition-arc0 c a h v t e) (lower e (next0 c v) q)
-          (mask-0 care values i z m small) (agree-0 care values i z m w g w0))
-          (paths-miss n h (care + 2 ^ i) (values + 2 ^ i) (next1 c v) (condition-arc1 c a h v t e)
-          (mask-1 care values i z m small) (clash-here-1 care values i z m w w0))
+          ∙ in-first l w b _ _ _
+          (ih _ _ (next0 c v) (condition-arc0 c a h v t e) (lower e (next0 c v) q) (mask-0 care values i z m small)
+          (agree-0 care values i z m w g w0))
+          (paths-miss n h _ _ (next1 c v) (condition-arc1 c a h v t e) (mask-1 care values i z m small)
+          (clash-here-1 care values i z m w w0))
           ∙ on s (next0 c v) q
       go (inr s) (inl z) (inr w1) ih =
           let i : ℕ = argument c v in
-          let e : kind c v ≡ 3 = goes_on c v t.entered s in
+          let e : kind c v ≡ 3 = goes-on c v t.entered s in
           let small : i ≤ 15 = conditions c a v t.inside e in
           let q : arc_taken c w v ≡ next1 c v = takes-1 c w v w1 in
           ap (targets l w b) (paths-new n c l f care values v s (λ q. omega (arith, z, q)))
-          ∙ in-second l w b (paths_from n c l f (care + 2 ^ i) values (next0 c v))
-          (paths_from n c l f (care + 2 ^ i) (values + 2 ^ i) (next1 c v)) (label c (next_stop n c w (next1 c v)) ∷ [])
-          (paths-miss n h (care + 2 ^ i) values (next0 c v) (condition-arc0 c a h v t e)
-          (mask-0 care values i z m small) (clash-here-0 care values i z m w w1))
-          (ih (care + 2 ^ i) (values + 2 ^ i) (next1 c v) (condition-arc1 c a h v t e) (lower e (next1 c v) q)
-          (mask-1 care values i z m small) (agree-1 care values i z m w g w1))
+          ∙ in-second l w b _ _ _
+          (paths-miss n h _ _ (next0 c v) (condition-arc0 c a h v t e) (mask-0 care values i z m small)
+          (clash-here-0 care values i z m w w1))
+          (ih _ _ (next1 c v) (condition-arc1 c a h v t e) (lower e (next1 c v) q) (mask-1 care values i z m small)
+          (agree-1 care values i z m w g w1))
           ∙ on s (next1 c v) q

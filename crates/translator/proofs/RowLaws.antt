@@ -1,8 +1,8 @@
 -- For each numbered stop of a sound chart, every word and every bit just one row matches, and it leads to the label of the stop where the
 -- walk goes.
-use Rattle.std.proofs.Common.{if◌then◌else◌, ◌≡◌, refl, sym, ◌∙◌, ap, subst, ◌⊎◌, inl, inr, Bool, true, false, ◌&&◌, ◌||◌, not, List, [], ◌==◌, slice_index_or, filter}
+use Rattle.std.proofs.Common.{if◌then◌else◌, ◌≡◌, refl, sym, ◌∙◌, ap, subst, ◌⊎◌, inl, inr, Bool, true, false, ◌&&◌, ◌||◌, not, List, []}
+use Rattle.std.proofs.Common.{◌==◌, slice_index_or, filter}
 use Rattle.std.proofs.Common.{◌∷◌, ◌++◌, ℕ, ◌+◌, ◌^◌, ◌≤◌, ◌<◌, zero-add, arith, length, eqb-true, eq-eqb, ne_eqb}
-use Rattle.std.proofs.Math.Decide.{ℕ_discrete}
 use Rattle.std.proofs.Math.ListN.{length-map}
 use borrow.Author.Tests.{eqb-false}
 use Rattle.std.proofs.lemmas.Grind.{common_steps}
@@ -29,30 +29,12 @@ use Rattle.chart_rows.specs.inner.NodeRows.{paths_from}
 use Rattle.translator.proofs.label_text.LabelPuts.{numbered-stop}
 use Rattle.translator.proofs.LabelLaws.{labels-apart}
 use Rattle.translator.proofs.Matching.{is_matching_row, targets, targets-concat, in-first, in-second, paths-none, paths-miss, paths-hit}
+use Rattle.std.proofs.lemmas.Bool.Decides.{nat_tests}
 
 -- rows of another node's label match nothing
 rows-other : (c : Chart) (u m w b : ℕ) → (label c u ≡ m → ⊥) → targets m w b (rows_of c u) ≡ []
-rows-other c u m w b ne = go (ℕ_discrete (kind c u) 4) (ℕ_discrete (kind c u) 3)
-  where
-    elsewhere : (r : Row) → r.from ≡ label c u → is_matching_row m w b r ≡ false
-    elsewhere r e =
-        ap (λ (x : Bool). x && (is_agreeing w r.care r.values && (r.bit == 2 || r.bit == b)))
-        (ne_eqb r.from m (λ q. ne (sym e ∙ q)))
-
-    none : (f care values v : ℕ) → targets m w b (paths_from (size c) c (label c u) f care values v) ≡ []
-    none f = paths-none (size c) c (label c u) m w f b (λ r e x. elsewhere r e)
-
-    go : Dec (kind c u ≡ 4) → Dec (kind c u ≡ 3) → targets m w b (rows_of c u) ≡ []
-    go (yes k) x =
-        ap (targets m w b) (function-rows c u k)
-        ∙ in-second m w b (paths_from (size c) c (label c u) 0 0 0 (next0 c u)) (paths_from (size c) c (label c u) 1 0 0 (next1 c u)) []
-        (none 0 0 0 (next0 c u)) (none 1 0 0 (next1 c u))
-    go (no n) (yes k) =
-        let p : ℕ = 2 ^ argument c u in
-        ap (targets m w b) (condition-rows c u k)
-        ∙ in-second m w b (paths_from (size c) c (label c u) 2 p 0 (next0 c u)) (paths_from (size c) c (label c u) 2 p p (next1 c u)) []
-        (none 2 p 0 (next0 c u)) (none 2 p p (next1 c u))
-    go (no n) (no k) = ap (targets m w b) (plain-rows c u n k) ∙ none 2 0 0 (next0 c u)
+rows-other c u m w b ne =
+    grind (arith, common_steps, nat_tests, paths-none, ne_eqb, condition-rows, plain-rows, in-second, targets, function-rows)
 
 -- so among all rows those of the node itself decide
 pub rows-here : (c : Chart) (v w b : ℕ) → v < size c → is_numbered c v ≡ true
@@ -125,21 +107,17 @@ module _ (c : Chart) (a : SoundChart c) where
           ++ paths_from (size c) c (label c v) 2 (2 ^ argument c v) (2 ^ argument c v) (next1 c v))
           ≡ label c (by_word c w v) ∷ []
       go (inl z) =
-          in-first (label c v) w b (paths_from (size c) c (label c v) 2 (2 ^ argument c v) 0 (next0 c v))
-          (paths_from (size c) c (label c v) 2 (2 ^ argument c v) (2 ^ argument c v) (next1 c v)) (label c (by_arc c w (next0 c v)))
-          (paths-hit c a (label c v) w 2 b refl (size c) (scheme c v) (2 ^ argument c v) 0 (next0 c v) t₀ (rank-le c (next0 c v)) mask₀
+          in-first (label c v) w b _ _ _
+          (paths-hit c a (label c v) w 2 b refl (size c) (scheme c v) _ _ (next0 c v) t₀ (rank-le c (next0 c v)) mask₀
           (subst (λ (x : ℕ). Agree w x 0) two (agree-0 0 0 (argument c v) free mask-none w (agree-none w) z)))
-          (paths-miss c a (label c v) w 2 b (size c) (scheme c v) (2 ^ argument c v) (2 ^ argument c v) (next1 c v) t₁ mask₁
+          (paths-miss c a (label c v) w 2 b (size c) (scheme c v) _ _ (next1 c v) t₁ mask₁
           (subst (λ (x : ℕ). Clash w x x) two (clash-here-1 0 0 (argument c v) free mask-none w z)))
           ∙ ap (λ (u : ℕ). label c (by_arc c w u) ∷ []) (sym (takes-0 c w v z))
       go (inr o) =
-          in-second (label c v) w b (paths_from (size c) c (label c v) 2 (2 ^ argument c v) 0 (next0 c v))
-          (paths_from (size c) c (label c v) 2 (2 ^ argument c v) (2 ^ argument c v) (next1 c v))
-          (label c (by_arc c w (next1 c v)) ∷ [])
-          (paths-miss c a (label c v) w 2 b (size c) (scheme c v) (2 ^ argument c v) 0 (next0 c v) t₀ mask₀
+          in-second (label c v) w b _ _ _
+          (paths-miss c a (label c v) w 2 b (size c) (scheme c v) _ _ (next0 c v) t₀ mask₀
           (subst (λ (x : ℕ). Clash w x 0) two (clash-here-0 0 0 (argument c v) free mask-none w o)))
-          (paths-hit c a (label c v) w 2 b refl (size c) (scheme c v) (2 ^ argument c v)
-          (2 ^ argument c v) (next1 c v) t₁ (rank-le c (next1 c v)) mask₁
+          (paths-hit c a (label c v) w 2 b refl (size c) (scheme c v) _ _ (next1 c v) t₁ (rank-le c (next1 c v)) mask₁
           (subst (λ (x : ℕ). Agree w x x) two (agree-1 0 0 (argument c v) free mask-none w (agree-none w) o)))
           ∙ ap (λ (u : ℕ). label c (by_arc c w u) ∷ []) (sym (takes-1 c w v o))
 
@@ -165,13 +143,11 @@ module _ (c : Chart) (a : SoundChart c) where
           (paths_from (size c) c (label c v) 0 0 0 (next0 c v) ++ paths_from (size c) c (label c v) 1 0 0 (next1 c v))
           ≡ label c (by_arc c w (if b then next1 c v else next0 c v)) ∷ []
       go false =
-          in-first (label c v) w 0 (paths_from (size c) c (label c v) 0 0 0 (next0 c v))
-          (paths_from (size c) c (label c v) 1 0 0 (next1 c v)) (label c (by_arc c w (next0 c v)))
+          in-first (label c v) w 0 _ _ _
           (from-arc (label c v) w 0 0 refl (scheme c v) (next0 c v) (arc0 c a v l (λ e. omega arith)))
           (paths-none (size c) c (label c v) (label c v) w 1 0 (off 1 0 refl) 0 0 (next1 c v))
       go true =
-          in-second (label c v) w 1 (paths_from (size c) c (label c v) 0 0 0 (next0 c v))
-          (paths_from (size c) c (label c v) 1 0 0 (next1 c v)) (label c (by_arc c w (next1 c v)) ∷ [])
+          in-second (label c v) w 1 _ _ _
           (paths-none (size c) c (label c v) (label c v) w 0 1 (off 0 1 refl) 0 0 (next0 c v))
           (from-arc (label c v) w 1 1 refl (scheme c v) (next1 c v) (arc1 c a v l (omega arith)))
 

@@ -1,5 +1,6 @@
 -- The rows of an accepted chart are sound, and their labels do not fall.
-use Rattle.std.proofs.Common.{if◌then◌else◌, ℕ, zero, suc, ◌+◌, ◌^◌, ◌≤◌, ◌<◌, Bool, true, false, not, ◌≡◌, refl, sym, ◌∙◌, ap, subst, List, ◌==◌, slice_index_or, flat_map, filter}
+use Rattle.std.proofs.Common.{if◌then◌else◌, ℕ, zero, suc, ◌+◌, ◌^◌, ◌≤◌, ◌<◌, Bool, true, false, not, ◌≡◌, refl, sym, ◌∙◌, ap, subst, List}
+use Rattle.std.proofs.Common.{◌==◌, slice_index_or, flat_map, filter}
 use Rattle.std.proofs.Common.{[], ◌∷◌, ◌++◌, arith, length, bit_and, eqb-true, eq-eqb}
 use Rattle.std.proofs.Math.Decide.{ℕ_discrete}
 use lib.Bits.{and_le_r, and_zero_l, and_self}
@@ -17,7 +18,7 @@ use Rattle.text.specs.frames.Frame.{size}
 use Rattle.charts.specs.Chart.{Chart, is, kind, scheme, argument, next0, next1, arc_taken}
 use Rattle.walk.specs.Stops.{is_stop}
 use Rattle.walk.proofs.Facts.{Facts, Target}
-use Rattle.walk.proofs.Follow.{goes_on}
+use Rattle.walk.proofs.Follow.{goes-on}
 use Rattle.image.specs.Image.{Label, Row, no_row}
 use Rattle.image.specs.inner.Sound.{nth_label, Reaches, SoundRow}
 use Rattle.image.proofs.Rising.{Rising, rising-at}
@@ -65,7 +66,7 @@ module _ (c : Chart) (F : Facts c) where
       go ih false e = further (bit_at care (argument c v) == 1) refl
         where
           three : kind c v ≡ 3
-          three = goes_on c v t.entered e
+          three = goes-on c v t.entered e
 
           t₀ : Target c h (next0 c v)
           t₀ = subst (λ (g : ℕ). Target c g (next0 c v)) t.same (F.arc0 v t.inside (λ z. omega (arith, three)))
@@ -73,7 +74,8 @@ module _ (c : Chart) (F : Facts c) where
           t₁ : Target c h (next1 c v)
           t₁ = subst (λ (g : ℕ). Target c g (next1 c v)) t.same (F.arc1 v t.inside (omega (arith, three)))
 
-          further : (b : Bool) → (bit_at care (argument c v) == 1) ≡ b → AllByRecursion (PathRow c l f h) (paths_from (suc n) c l f care values v)
+          further : (b : Bool) → (bit_at care (argument c v) == 1) ≡ b
+              → AllByRecursion (PathRow c l f h) (paths_from (suc n) c l f care values v)
           further true q =
               rw (paths, e, q) (ih care values (arc_taken c values v) s w
               (if-target h (bit_at values (argument c v) == 0) (next0 c v) (next1 c v) t₀ t₁))
@@ -81,17 +83,15 @@ module _ (c : Chart) (F : Facts c) where
               let free : bit_at care (argument c v) ≡ 1 → ⊥ = eqb-false (bit_at care (argument c v)) 1 q in
               let small : care + 2 ^ argument c v < 65536 =
               more-small (argument c v) 16 care (omega (arith, F.conditions v t.inside three)) s free in
-              rw (paths, e, q) (all-append (PathRow c l f h)
-              (paths_from n c l f (care + 2 ^ argument c v) values (next0 c v))
-              (paths_from n c l f (care + 2 ^ argument c v) (values + 2 ^ argument c v) (next1 c v))
+              rw (paths, e, q) (all-append (PathRow c l f h) _ _
               (ih (care + 2 ^ argument c v) values (next0 c v) small (more-within-0 (argument c v) values care free w) t₀)
               (ih (care + 2 ^ argument c v) (values + 2 ^ argument c v) (next1 c v) small
               (more-within-1 (argument c v) values care free w) t₁))
 
   -- ---- the rows of a node
   module _ (v : ℕ) (l : v < size c) (n : is_numbered c v ≡ true) where
-    no_end : kind c v ≡ 1 → ⊥
-    no_end z = eqb-false (kind c v) 1 (not-true (is c 1 v) (and-r (is_stop c v) (not (is c 1 v)) n)) z
+    no-end : kind c v ≡ 1 → ⊥
+    no-end z = eqb-false (kind c v) 1 (not-true (is c 1 v) (and-r (is_stop c v) (not (is c 1 v)) n)) z
 
     Good : Row → Type 0
     Good r = SoundRow (table c) r × (r.from ≡ label c v)
@@ -125,27 +125,26 @@ module _ (c : Chart) (F : Facts c) where
     rows-of = go (ℕ_discrete (kind c v) 4) (ℕ_discrete (kind c v) 3)
       where
         t₀ : Target c (scheme c v) (next0 c v)
-        t₀ = F.arc0 v l no_end
+        t₀ = F.arc0 v l no-end
 
         none : 2 < 2 → is c 4 v ≡ true
         none z = absurd (omega arith)
 
         go : Dec (kind c v ≡ 4) → Dec (kind c v ≡ 3) → AllByRecursion Good (rows_of c v)
         go (yes k) x = subst (AllByRecursion Good) (sym (function-rows c v k))
-            (all-append Good (paths_from (size c) c (label c v) 0 0 0 (next0 c v)) (paths_from (size c) c (label c v) 1 0 0 (next1 c v))
+            (all-append Good _ _
             (of-paths 0 0 0 (next0 c v) (omega arith) (λ z. eq-eqb (kind c v) 4 k) (omega arith) (and_zero_l 0) t₀)
             (of-paths 1 0 0 (next1 c v) (omega arith) (λ z. eq-eqb (kind c v) 4 k) (omega arith) (and_zero_l 0)
             (F.arc1 v l (omega arith))))
         go (no n) (yes k) =
             let small : 2 ^ argument c v < 65536 = pow-lt {i = argument c v} {j = 16} (omega (arith, F.conditions v l k)) in
-            subst (AllByRecursion Good) (sym (condition-rows c v k)) (all-append Good
-            (paths_from (size c) c (label c v) 2 (2 ^ argument c v) 0 (next0 c v))
-            (paths_from (size c) c (label c v) 2 (2 ^ argument c v) (2 ^ argument c v) (next1 c v))
+            subst (AllByRecursion Good) (sym (condition-rows c v k)) (all-append Good _ _
             (of-paths 2 (2 ^ argument c v) 0 (next0 c v) (omega arith) none small (and_zero_l (2 ^ argument c v)) t₀)
             (of-paths 2 (2 ^ argument c v) (2 ^ argument c v) (next1 c v) (omega arith) none small
             (and_self (2 ^ argument c v)) (F.arc1 v l (omega arith))))
         go (no n) (no k) =
-            subst (AllByRecursion Good) (sym (plain-rows c v n k)) (of-paths 2 0 0 (next0 c v) (omega arith) none (omega arith) (and_zero_l 0) t₀)
+            subst (AllByRecursion Good) (sym (plain-rows c v n k))
+            (of-paths 2 0 0 (next0 c v) (omega arith) none (omega arith) (and_zero_l 0) t₀)
 
     pub rows-of-sound : AllByRecursion (SoundRow (table c)) (rows_of c v)
     unfolding Good
@@ -164,12 +163,12 @@ pub rows-sound : (c : Chart) → Facts c → AllByRecursion (SoundRow (table c))
 unfolding rows
 rows-sound c F = grind (arith, common_steps, all-of, all-concat, rows-of-sound, numbered-nodes)
 
-rising_down : (m n : ℕ) (rs : List Row) → m ≤ n → Rising n rs → Rising m rs
-rising_down m n [] h a = tt
-rising_down m n (r ∷ rs) h a = (omega (arith, a.0), a.1)
+rising-down : (m n : ℕ) (rs : List Row) → m ≤ n → Rising n rs → Rising m rs
+rising-down m n [] h a = tt
+rising-down m n (r ∷ rs) h a = (omega (arith, a.0), a.1)
 
 rising-append : (m l : ℕ) (xs ys : List Row) → m ≤ l → AllByRecursion (λ r. r.from ≡ l) xs → Rising l ys → Rising m (xs ++ ys)
-rising-append m l [] ys h a b = rising_down m l ys h b
+rising-append m l [] ys h a b = rising-down m l ys h b
 rising-append m l (x ∷ xs) ys h a b = (omega (arith, a.0), rising-append x.from l xs ys (omega (arith, a.0)) a.1 b)
 
 from-rising : (c : Chart) → Facts c → (n a m : ℕ) → a + n ≤ size c → m ≤ 2 + count (is_numbered c) 0 a

@@ -1,5 +1,6 @@
 -- The table of an accepted chart of at most 1,024 rows is sound, so its text passes the image check and reads back as the table.
-use Rattle.std.proofs.Common.{if◌then◌else◌, ℕ, suc, ◌+◌, ◌*◌, ◌-◌, ◌≤◌, ◌<◌, Bool, true, false, ◌≡◌, sym, ◌∙◌, ap, subst, List, arith, ◌==◌, slice_index, slice_index_or}
+use Rattle.std.proofs.Common.{if◌then◌else◌, ℕ, suc, ◌+◌, ◌*◌, ◌-◌, ◌≤◌, ◌<◌, Bool, true, false, ◌≡◌, sym, ◌∙◌, ap, subst, arith}
+use Rattle.std.proofs.Common.{◌==◌, slice_index}
 use Rattle.std.proofs.Common.{length, eqb-true}
 use Rattle.std.proofs.Math.ListN.{length-map}
 use borrow.Author.Tests.{eqb-false}
@@ -10,12 +11,11 @@ use Rattle.text.specs.frames.Frame.{contents, size}
 use Rattle.text.specs.frames.Verdict.{fine}
 use Rattle.charts.specs.Layout.{Function}
 use Rattle.charts.specs.Chart.{Chart, kind, scheme, argument, result, mask, schemes}
-use Rattle.walk.specs.Stops.{start}
-use Rattle.walk.proofs.Facts.{Facts, StopOf}
-use Rattle.image.specs.Image.{Row, image_text, no_row}
+use Rattle.walk.proofs.Facts.{Facts}
+use Rattle.image.specs.Image.{image_text}
 use Rattle.image.specs.Decode.{decoded_image}
 use Rattle.image.specs.Check.{image_verdict}
-use Rattle.image.specs.inner.Sound.{no_label, nth_label, Reaches, SoundLabel, SoundRow, SoundImage}
+use Rattle.image.specs.inner.Sound.{no_label, nth_label, SoundLabel, SoundImage}
 use Rattle.image.proofs.Decoded.{image-decoded}
 use Rattle.image.proofs.Passes.{image-fine}
 use Rattle.chart_rows.specs.chart_labels.Labels.{is_numbered, numbered_nodes, bare_label, label_as, stop_label}
@@ -23,6 +23,10 @@ use Rattle.chart_rows.specs.Rows.{rows}
 use Rattle.translator.specs.Table.{table}
 use Rattle.translator.proofs.LabelLaws.{label-home, label-return, labels-two, labels-few, length-entries, entry-holds, rows-are}
 use Rattle.translator.proofs.SoundRows.{label-reaches, numbered-nodes, rows-sound, rows-rising}
+use Rattle.std.proofs.lemmas.Bool.Decides.{nat_tests}
+
+-- the labels and the entries of a table
+ruleset labels_told = (label-home, label-return, label-reaches, labels-two, labels-few, length-entries, entry-holds)
 
 module _ (c : Chart) (F : Facts c) where
   -- ---- labels from 2 up
@@ -77,28 +81,8 @@ module _ (c : Chart) (F : Facts c) where
 
   module _ (few : length (rows c) ≤ 1024) where
     pub table-sound : SoundImage (table c)
-    table-sound = record {
-      first = omega (arith, length-entries c, F.first);
-      most = omega (arith, length-entries c, F.most);
-      two = labels-two c;
-      last = labels-few c F;
-      few = subst (λ (rs : List Row). length rs ≤ 1024) (sym (rows-are c)) few;
-      handled = table-handled;
-      starts = λ h l.
-          let m : h < schemes c = omega (arith, length-entries c) in
-          let s : StopOf c (suc h) (start c (suc h)) = F.starts (suc h) (omega arith) m in
-          subst (λ (x : ℕ). Reaches (table c) (suc h) x) (sym (entry-holds c h m))
-          (label-reaches c (suc h) (start c (suc h)) s.inside s.same);
-      home = label-home c;
-      back = label-return c;
-      others = λ l h k. subst (λ (n : ℕ). SoundLabel n (nth_label (table c) l)) (sym (length-entries c)) (others-sound l h k);
-      each = λ k l.
-          subst (λ (rs : List Row). SoundRow (table c) (slice_index_or rs k no_row)) (sym (rows-are c))
-          (all-at (SoundRow (table c)) no_row (rows c) (rows-sound c F) k (subst (λ (rs : List Row). k < length rs) (rows-are c) l));
-      rising = λ k l.
-          subst (λ (rs : List Row). (slice_index_or rs k no_row).from ≤ (slice_index_or rs (suc k) no_row).from) (sym (rows-are c))
-          (rows-rising c F k (subst (λ (rs : List Row). suc k < length rs) (rows-are c) l));
-    }
+    table-sound =
+        grind (arith, common_steps, nat_tests, labels_told, rows-are, rows-sound, rows-rising, all-at, others-sound, table-handled)
 
     pub table-fine : image_verdict (image_text (table c)) ≡ fine
     table-fine = image-fine (table c) table-sound

@@ -28,6 +28,7 @@ pub fn put_header(out: &mut [u8], highest: u8, last: u8, rows: usize, handler: u
 }
 
 // The label where performing a scheme starts: its Begin's, where that is a stop, else that of the node after it.
+#[tactic(auto, using(crate::proofs::label_text::LabelPuts::entries))]
 fn entry_of(records: &[u8], labels: &[u8], begins: &[u8], scheme: u8) -> u8
     requires of_scheme { OfScheme records.now labels.now scheme }
     requires begun { Begun records.now begins.now }

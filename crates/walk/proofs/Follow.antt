@@ -1,5 +1,6 @@
 -- Following arcs ends at a stop of the scheme within as many steps as there are nodes, and performing a scheme starts at a stop.
-use Rattle.std.proofs.Common.{◌≡◌, refl, sym, ◌∙◌, ap, subst, ◌⊎◌, inl, inr, Bool, true, false, ◌&&◌, not, ℕ, zero, suc, ◌≤◌, ◌<◌, arith, ◌==◌}
+use Rattle.std.proofs.Common.{◌≡◌, refl, sym, ◌∙◌, ap, subst, ◌⊎◌, inl, inr, Bool, true, false, ◌&&◌, not, ℕ, zero, suc, ◌≤◌, ◌<◌, arith}
+use Rattle.std.proofs.Common.{◌==◌}
 use Rattle.std.proofs.Common.{eqb-true, eq-eqb, ne_eqb}
 use Rattle.std.proofs.Math.Decide.{ℕ_discrete}
 use Rattle.std.proofs.lemmas.Grind.{common_steps}
@@ -34,8 +35,8 @@ pub stops-begin : (c : Chart) (v : ℕ) → kind c v ≡ 0 → is_stop c v ≡ (
 stops-begin c v e = stops-by c v 0 e
 
 -- an arc's end that is no stop is a condition
-pub goes_on : (c : Chart) (v : ℕ) → (kind c v ≡ 0 → ⊥) → is_stop c v ≡ false → kind c v ≡ 3
-goes_on c v z s = grind (arith, common_steps, no_both, stops-other)
+pub goes-on : (c : Chart) (v : ℕ) → (kind c v ≡ 0 → ⊥) → is_stop c v ≡ false → kind c v ≡ 3
+goes-on c v z s = grind (arith, common_steps, no_both, stops-other)
 
 -- ---- one step
 pub follow-stays : (n : ℕ) (c : Chart) (w v : ℕ) → is_stop c v ≡ true → next_stop (suc n) c w v ≡ v
@@ -85,7 +86,7 @@ module _ (c : Chart) (a : SoundChart c) where
           → StopOf c h (next_stop (suc n) c w v)
       go true s ih = subst (λ (u : ℕ). StopOf c h u) (sym (follow-stays n c w v s)) (stays h v t s)
       go false s ih =
-          let k : kind c v ≡ 3 = goes_on c v t.entered s in
+          let k : kind c v ≡ 3 = goes-on c v t.entered s in
           subst (λ (u : ℕ). StopOf c h u) (sym (follow-goes n c w v s))
           (ih (taken-end h w v t k) (omega (arith, taken-falls w v t.inside k)))
 
@@ -100,18 +101,18 @@ module _ (c : Chart) (a : SoundChart c) where
           → next_stop (suc (suc n)) c w v ≡ next_stop (suc n) c w v
       go true s ih = follow-stays (suc n) c w v s ∙ sym (follow-stays n c w v s)
       go false s ih =
-          let k : kind c v ≡ 3 = goes_on c v t.entered s in
+          let k : kind c v ≡ 3 = goes-on c v t.entered s in
           follow-goes (suc n) c w v s ∙ ih (taken-end h w v t k) (omega (arith, taken-falls w v t.inside k))
           ∙ sym (follow-goes n c w v s)
 
   pub follows : (h v w : ℕ) → Target c h v → StopOf c h (by_arc c w v)
   follows h v w t = follow-stop (size c) h w v t (rank-le c v)
 
-  taken_here : (w v : ℕ) → v < size c → kind c v ≡ 3 → Target c (scheme c v) (arc_taken c w v)
-  taken_here w v l k = taken-by (λ u. Target c (scheme c v) u) c w v (arc0 c a v l (λ e. omega arith)) (arc1 c a v l (omega arith))
+  taken-here : (w v : ℕ) → v < size c → kind c v ≡ 3 → Target c (scheme c v) (arc_taken c w v)
+  taken-here w v l k = taken-by (λ u. Target c (scheme c v) u) c w v (arc0 c a v l (λ e. omega arith)) (arc1 c a v l (omega arith))
 
   pub tests : (v w : ℕ) → v < size c → kind c v ≡ 3 → StopOf c (scheme c v) (by_word c w v)
-  tests v w l k = follows (scheme c v) (arc_taken c w v) w (taken_here w v l k)
+  tests v w l k = follows (scheme c v) (arc_taken c w v) w (taken-here w v l k)
 
   -- a condition that is no stop goes on as its test says
   pub follow-condition : (v w : ℕ) → v < size c → kind c v ≡ 3 → is_stop c v ≡ false → by_arc c w v ≡ by_word c w v
@@ -121,7 +122,7 @@ module _ (c : Chart) (a : SoundChart c) where
       go zero e = absurd (omega arith)
       go (suc n) e =
           ap (λ (m : ℕ). next_stop m c w v) e ∙ follow-goes n c w v s
-          ∙ sym (follow-more n (scheme c v) w (arc_taken c w v) (taken_here w v l k) (omega (arith, taken-falls w v l k, rank-le c v)))
+          ∙ sym (follow-more n (scheme c v) w (arc_taken c w v) (taken-here w v l k) (omega (arith, taken-falls w v l k, rank-le c v)))
           ∙ sym (ap (λ (m : ℕ). next_stop m c w (arc_taken c w v)) e)
 
   -- ---- where a scheme starts

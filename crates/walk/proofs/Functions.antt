@@ -1,6 +1,7 @@
 -- While no 1 is written to the bit of the number that it calls, a function leaves by its 0 arc: from its call on the bit is 0, and the
 -- function waits among the callers, until its own return. The bindings told do not matter.
-use Rattle.std.proofs.Common.{if◌then◌else◌, ℕ, suc, ◌+◌, ◌≤◌, ◌<◌, Bool, true, false, ◌&&◌, ◌≡◌, refl, ap, ◌∙◌, sym, subst, ◌⊎◌, ⊎_elim, ◌==◌, slice_index}
+use Rattle.std.proofs.Common.{if◌then◌else◌, ℕ, suc, ◌+◌, ◌≤◌, ◌<◌, Bool, true, false, ◌&&◌, ◌≡◌, refl, ap, ◌∙◌, sym, subst, ◌⊎◌, ⊎_elim}
+use Rattle.std.proofs.Common.{◌==◌, slice_index}
 use Rattle.std.proofs.Common.{List, [], ◌∷◌, ◌++◌, map, length, length-append, arith, eqb-true, eq-eqb}
 use Rattle.std.proofs.lemmas.Grind.{common_steps}
 use Rattle.std.specs.List.{list_any}
@@ -24,8 +25,8 @@ use Rattle.walk.proofs.Recursion.{walk-trace}
 none-first : (p : Tick → Bool) (t : Tick) (ts : List Tick) → list_any p (t ∷ ts) ≡ false → p t ≡ false
 none-first p t ts e = or-l (p t) (list_any p ts) (sym (some-cons p t ts) ∙ e)
 
-none_rest : (p : Tick → Bool) (t : Tick) (ts : List Tick) → list_any p (t ∷ ts) ≡ false → list_any p ts ≡ false
-none_rest p t ts e = or-r (p t) (list_any p ts) (sym (some-cons p t ts) ∙ e)
+none-rest : (p : Tick → Bool) (t : Tick) (ts : List Tick) → list_any p (t ∷ ts) ≡ false → list_any p ts ≡ false
+none-rest p t ts e = or-r (p t) (list_any p ts) (sym (some-cons p t ts) ∙ e)
 
 some-tick : {A : Type 0} (t : Tick) (ts us : List Tick) → [] ≡ ts ++ (t ∷ us) → A
 some-tick t [] us e = absurd (let z : ◌≡◌ {A = ℕ} 0 1 = cc in omega arith)
@@ -77,7 +78,7 @@ module _ (c : Chart) (y : Open) (h : ℕ) (ks : List Open) (deep : 2 ≤ h) wher
   all-passing : (ts : List Tick) → list_any is_drop ts ≡ false → list_any own ts ≡ false → list_any (is_walk_write_of_one c h) ts ≡ false
       → AllPassing ts
   all-passing [] d r q = grind (arith, common_steps)
-  all-passing (t ∷ ts) d r q = grind (arith, common_steps, all-passing ts, none-first, none_rest)
+  all-passing (t ∷ ts) d r q = grind (arith, common_steps, all-passing ts, none-first, none-rest)
 
   returned-waits : (js : List Open) (w : ℕ) (b : Results) (f : Bool) → result_of h b ≡ false
       → (suc (length (js ++ (y ∷ ks))) == suc (suc (length ks))) ≡ false → Waits (position_returned c (js ++ (y ∷ ks)) w b f)
@@ -138,21 +139,21 @@ module _ (c : Chart) (y : Open) (h : ℕ) (ks : List Open) (deep : 2 ≤ h) wher
           length-append js (y ∷ ks),
         ))
 
-    goes_on : (between : List Tick) (ws : List Signal) (x : WalkPosition) (last next : Tick) (rest : List Tick) → Waits x
+    goes-on : (between : List Tick) (ws : List Signal) (x : WalkPosition) (last next : Tick) (rest : List Tick) → Waits x
         → trace n c ws x ≡ between ++ (last ∷ (next ∷ rest)) → AllPassing between → own last ≡ true
         → next.node ≡ by_arc c (slice_index (words_of ws) (length between)) (next0 c y.node)
     unfolding trace
-    goes_on between [] x last next rest k q passing end = some-tick last between (next ∷ rest) q
-    goes_on [] (w ∷ []) x last next rest k q passing end =
+    goes-on between [] x last next rest k q passing end = some-tick last between (next ∷ rest) q
+    goes-on [] (w ∷ []) x last next rest k q passing end =
         let e : [] ≡ next ∷ rest = cc in some-tick next [] rest e
-    goes_on [] (w ∷ (z ∷ ws)) x last next rest k q passing end =
+    goes-on [] (w ∷ (z ∷ ws)) x last next rest k q passing end =
         let e : tick_at n c x ≡ last = cc in
         let d : next ≡ tick_at n c (move n c w x) = cc in
         ap (λ (t : Tick). t.node) d ∙ own-return w x k (ap own e ∙ end)
-    goes_on (t ∷ ts) (w ∷ ws) x last next rest k q passing end =
+    goes-on (t ∷ ts) (w ∷ ws) x last next rest k q passing end =
         let e : t ≡ tick_at n c x = cc in
         let d : trace n c ws (move n c w x) ≡ ts ++ (last ∷ (next ∷ rest)) = cc in
-        goes_on ts ws (move n c w x) last next rest (waits-on w x k (subst Passing e passing.0)) d passing.1 end
+        goes-on ts ws (move n c w x) last next rest (waits-on w x k (subst Passing e passing.0)) d passing.1 end
 
 module _ (n : ℕ) (c : Chart) (facts : Facts c) where
   -- from the call on
@@ -167,28 +168,28 @@ module _ (n : ℕ) (c : Chart) (facts : Facts c) where
       let d : trace n c ws (move n c w x) ≡ between ++ (last ∷ (next ∷ rest)) = cc in
       let at_call : WalkUnwritten c (tick_at n c x) between last = subst (λ (t : Tick). WalkUnwritten c t between last) e u in
       let deep : 2 ≤ h = calls-deep c facts y.node at_call.function in
-      goes_on c y h ks deep n facts at_call.function refl between ws (move n c w x) last next rest
+      goes-on c y h ks deep n facts at_call.function refl between ws (move n c w x) last next rest
       (called-waits c y h ks deep n facts at_call.function refl w x.results x.first (is_drop_at n c x) at_call.made) d
       (all-passing c y h ks deep between at_call.kept at_call.inside at_call.unwritten) at_call.own
       ∙ ap (λ (t : Tick). by_arc c (slice_index (words_of ws) (length between)) (next0 c t.node)) (sym e)
 
-  from_start : (before : List Tick) (ws : List Signal) (x : WalkPosition) (between rest : List Tick) (first last next : Tick)
+  from-start : (before : List Tick) (ws : List Signal) (x : WalkPosition) (between rest : List Tick) (first last next : Tick)
       → trace n c ws x ≡ before ++ (first ∷ (between ++ (last ∷ (next ∷ rest)))) → WalkUnwritten c first between last
       → next.node ≡ by_arc c (slice_index (words_of ws) (length before + suc (length between))) (next0 c first.node)
   unfolding trace
-  from_start [] ws x between rest first last next q u =
+  from-start [] ws x between rest first last next q u =
       let k : suc (length between) ≡ 0 + suc (length between) = omega arith in
       from-call ws x between rest first last next q u ∙ ap (λ (k : ℕ). by_arc c (slice_index (words_of ws) k) (next0 c first.node)) k
-  from_start (t ∷ ts) [] x between rest first last next q u = some-tick t [] _ q
-  from_start (t ∷ ts) (w ∷ ws) x between rest first last next q u =
+  from-start (t ∷ ts) [] x between rest first last next q u = some-tick t [] _ q
+  from-start (t ∷ ts) (w ∷ ws) x between rest first last next q u =
       let d : trace n c ws (move n c w x) ≡ ts ++ (first ∷ (between ++ (last ∷ (next ∷ rest)))) = cc in
       let k : suc (length ts + suc (length between)) ≡ suc (length ts) + suc (length between) = omega arith in
-      from_start ts ws (move n c w x) between rest first last next d u
+      from-start ts ws (move n c w x) between rest first last next d u
       ∙ ap (λ (k : ℕ). by_arc c (slice_index (words_of (w ∷ ws)) k) (next0 c first.node)) k
 
 pub zero-arc : ZeroArc
 unfolding ZeroArc
 zero-arc text read places words before between rest first last next q u =
     let c : Chart = contents text in
-    from_start places c (facts text read) before words (position_at_home c no_results) between
+    from-start places c (facts text read) before words (position_at_home c no_results) between
     rest first last next (sym (walk-trace places c words) ∙ q) u

@@ -7,7 +7,7 @@ use Rattle.text.specs.frames.Frame.{contents}
 use Rattle.charts.specs.Chart.{Chart, scheme, argument, next0, next1, result, mask, handler, end}
 use Rattle.walk.specs.Stops.{Stop, plain, call, function, test, home, back, stop_at}
 use Rattle.walk.specs.Walk.{Signal, OpenScheme, Tick, one_tick, SchemeCall, call_by_operation, call_by_function, is_dropping}
-use Rattle.walk.specs.Unswapped.{open_at, Course, spent, ended, course_after, Performer, resumed_course, call_course, stop_course}
+use Rattle.walk.specs.Unswapped.{open_at, Course, spent, ended, course_after, Performer, call_course, stop_course}
 use Rattle.walk.specs.Unswapped.{scheme_course, ticks_after_course, walk_from, walk as unswapped_walk}
 use Rattle.walk.specs.Simpler.{NoHandler, AnyPlaces}
 use Rattle.walk.proofs.Facts.{StopOf, Facts}
@@ -20,9 +20,9 @@ use Rattle.text.specs.declared.frames.codes.TheConstants.{HOME_CODE, PLAIN_CODE}
 use Rattle.walk.specs.Unbounded as unbounded
 
 -- ---- no call drops, whatever the number of places
-no_drop : (c : Chart) → handler c ≡ 0 → (n : ℕ) (f : Bool) (o : ℕ) → is_dropping n c f o ≡ false
-no_drop c h n true o = refl
-no_drop c h n false o = rw h refl
+no-drop : (c : Chart) → handler c ≡ 0 → (n : ℕ) (f : Bool) (o : ℕ) → is_dropping n c f o ≡ false
+no-drop c h n true o = refl
+no-drop c h n false o = rw h refl
 
 any-trace : (c : Chart) → handler c ≡ 0 → (n m : ℕ) (ws : List Signal) (x : WalkPosition) → trace n c ws x ≡ trace m c ws x
 unfolding trace
@@ -132,7 +132,7 @@ module _ (c : Chart) (facts : Facts c) where
   alike-walks h n (w ∷ ws) =
       let k : ℕ = suc (length ws) in
       let x : OpenScheme = open_at c 1 (end c 1) in
-      ap (ticks_after_course (walk_from (length ws) n c) c) (alike-perform k c (is_dropping n c false) (no_drop c h n false) x
+      ap (ticks_after_course (walk_from (length ws) n c) c) (alike-perform k c (is_dropping n c false) (no-drop c h n false) x
       (w ∷ ws) no_results)
       ∙ carried-ticks (walk_from (length ws) n c) (unbounded.scheme_course k c x (w ∷ ws) no_results)
       (endless k x (w ∷ ws) no_results (home-stop c facts))

@@ -116,14 +116,14 @@ module _ (c : Chart) where
         (alike-perform facts d (drop-handler n c f) k)
         x x.node ws b s
 
-    alike_from : (k : ℕ) (f : Bool) (v : ℕ) (ws : List ℕ) (b : Results) → StopOf c (bottom c f) v
+    alike-from : (k : ℕ) (f : Bool) (v : ℕ) (ws : List ℕ) (b : Results) → StopOf c (bottom c f) v
         → walk_from k n c f v (own ws) b ≡ unswapped.walk_from k n c f v ws b
     unfolding walk_from unswapped.walk_from
-    alike_from zero f v ws b s = refl
-    alike_from (suc k) f v ws b s =
+    alike-from zero f v ws b s = refl
+    alike-from (suc k) f v ws b s =
         let x : OpenScheme = record { node = v; number = bottom c f; opened = 1 } in
         ap (λ (m : ℕ). ticks_after_course (walk_from k n c) c (scheme_course m c (is_dropping n c f) x (own ws) b)) (length-map ws _)
-        ∙ go (alike_from k) (alike-first f x ws b s)
+        ∙ go (alike-from k) (alike-first f x ws b s)
       where
         go : ((f : Bool) (v : ℕ) (ws : List ℕ) (b : Results) → StopOf c (bottom c f) v
             → walk_from k n c f v (own ws) b ≡ unswapped.walk_from k n c f v ws b)
@@ -137,4 +137,4 @@ module _ (c : Chart) where
 -- ---- of every text that the reader accepts
 pub own-binding : OwnBinding
 unfolding walk unswapped.walk
-own-binding text ok n ws = grind (arith, common_steps, length-map, home-stop, facts, alike_from)
+own-binding text ok n ws = grind (arith, common_steps, length-map, home-stop, facts, alike-from)

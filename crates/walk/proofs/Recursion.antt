@@ -37,16 +37,16 @@ module _ (go : Performer) (ih : Short go) where
   step : (ts : List Tick) (x : OpenScheme) (ws : List Signal) (b : Results) → Shorter (suc (length ws)) (course_after ts (go x ws b))
   step ts x ws b = shorter-after (length ws) _ ts (go x ws b) (omega arith) (ih x ws b)
 
-  step_in : (c : Chart) (s : Binding) (x : OpenScheme) (a : SchemeCall) (ws : List Signal) (b : Results) (d : Bool)
+  step-in : (c : Chart) (s : Binding) (x : OpenScheme) (a : SchemeCall) (ws : List Signal) (b : Results) (d : Bool)
       → Shorter (suc (length ws)) (call_course go c s x a ws b d)
-  step_in c s x a ws b false = grind (arith, common_steps)
-  step_in c s x a ws b true = grind (arith, common_steps)
+  step-in c s x a ws b false = grind (arith, common_steps)
+  step-in c s x a ws b true = grind (arith, common_steps)
 
   shorter-act : (c : Chart) (d : ℕ → Bool) (x : OpenScheme) (w : Signal) (ws : List Signal) (b : Results) (s : Stop)
       → Shorter (suc (length ws)) (stop_course go c d x w ws b s)
   shorter-act c d x w ws b (plain m r u) = step (one_tick x m PLAIN_CODE) _ ws _
-  shorter-act c d x w ws b (call m r h u) = step_in c w.binding x _ ws _ (d x.opened)
-  shorter-act c d x w ws b (function h u₀ u₁) = step_in c w.binding x _ ws b (d x.opened)
+  shorter-act c d x w ws b (call m r h u) = step-in c w.binding x _ ws _ (d x.opened)
+  shorter-act c d x w ws b (function h u₀ u₁) = step-in c w.binding x _ ws b (d x.opened)
   shorter-act c d x w ws b (test u) = step (one_tick x 0 PLAIN_CODE) _ ws b
   shorter-act c d x w ws b home = step (one_tick x 0 HOME_CODE) _ ws b
   shorter-act c d x w ws b back = omega arith
@@ -82,9 +82,9 @@ module _ (n : ℕ) (c : Chart) where
 
   module _ (k : ℕ) (ih : Same k) where
     -- the scheme goes on
-    same_after : (ts : List Tick) (ws : List Signal) (x : Open) (ks : List Open) (b : Results) (f : Bool) → length ws ≤ k
+    same-after : (ts : List Tick) (ws : List Signal) (x : Open) (ks : List Open) (b : Results) (f : Bool) → length ws ≤ k
         → ts ++ trace n c ws (at x ks b f) ≡ onward ks f (course_after ts (performed k x ks ws b f))
-    same_after ts ws x ks b f l = grind (arith, common_steps)
+    same-after ts ws x ks b f l = grind (arith, common_steps)
 
     -- the caller x goes on, from the node that its call gives
     module _ (x : Open) (ks : List Open) (f : Bool) (a : SchemeCall)
@@ -109,13 +109,13 @@ module _ (n : ℕ) (c : Chart) where
         → (s : Stop) → stop_at c x.node ≡ s → let d = is_dropping n c f (suc (length ks)) in
         stop_tick d (suc (length ks)) x s ∷ trace n c ws (position_moved c d x ks w b f s)
         ≡ onward ks f (stop_course (scheme_course k c (is_dropping n c f)) c (is_dropping n c f) (above ks x) w ws b s)
-    same-act x ks w ws b f l (plain m r u) q = same_after (one_tick (above ks x) m PLAIN_CODE) ws (moved_to x (by_arc c w.word u)) ks _ f l
+    same-act x ks w ws b f l (plain m r u) q = same-after (one_tick (above ks x) m PLAIN_CODE) ws (moved_to x (by_arc c w.word u)) ks _ f l
     same-act x ks w ws b f l (call m r h u) q =
         same-call x ks f _ (λ y e. sym (ap (node_resumed c x.node y e) q)) w.binding ws _ l (is_dropping n c f (suc (length ks)))
     same-act x ks w ws b f l (function h u₀ u₁) q =
         same-call x ks f _ (λ y e. sym (ap (node_resumed c x.node y e) q)) w.binding ws b l (is_dropping n c f (suc (length ks)))
-    same-act x ks w ws b f l (test u) q = same_after (one_tick (above ks x) 0 PLAIN_CODE) ws (moved_to x (by_word c w.word u)) ks b f l
-    same-act x ks w ws b f l home q = same_after (one_tick (above ks x) 0 HOME_CODE) ws (moved_to x (start c 1)) ks b f l
+    same-act x ks w ws b f l (test u) q = same-after (one_tick (above ks x) 0 PLAIN_CODE) ws (moved_to x (by_word c w.word u)) ks b f l
+    same-act x ks w ws b f l home q = same-after (one_tick (above ks x) 0 HOME_CODE) ws (moved_to x (start c 1)) ks b f l
     same-act x ks w ws b f l back q = refl
 
   same : (k : ℕ) → Same k

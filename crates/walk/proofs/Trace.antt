@@ -145,9 +145,6 @@ home-stop c facts = grind (arith, common_steps, end-stops)
 pub home-good : (c : Chart) → Facts c → (b : Results) → Good c (position_at_home c b)
 home-good c facts b = record { top = home-stop c facts; under = (refl, refl); handled = λ q. no_both false q refl }
 
-pub handling-good : (c : Chart) → Facts c → (b : Results) → (handler c ≡ 0 → ⊥) → Good c (position_handling c b)
-handling-good c facts b n = grind (arith, common_steps)
-
 -- a drop tells that there is a handler
 pub drop-handler : (n : ℕ) (c : Chart) (f : Bool) (o : ℕ) → is_dropping n c f o ≡ true → handler c ≡ 0 → ⊥
 drop-handler n c f o e = grind (arith, common_steps)

@@ -52,3 +52,5 @@ module _ (c : Chart) (k : ℕ) where
 pub bad-counts : (c : Chart) (begins ends : List ℕ) (n : ℕ) → begins ≡ counts_to c 0 (size c) → ends ≡ counts_to c 1 (size c) → n < 17
     → list_any (is_not_one_of_each begins ends) (range_with_len 1 n) ≡ any (is_bad_scheme c) 1 n
 bad-counts c begins ends n e f l = grind (arith, common_steps, listed, any-alike, counts-at)
+
+pub ruleset scheme_counts = (counts-pass, counts-more, bad-counts)

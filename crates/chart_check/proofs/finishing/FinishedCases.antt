@@ -26,8 +26,8 @@ module _ (c : Chart) (ms : List Bool) (v : ℕ) where
   abbrev pub ahead : Option ℕ
   ahead = find (is_marked ms) (next0 c v ∷ next1 c v ∷ [])
 
-  none_both : is_marked ms (next0 c v) ≡ false → is_marked ms (next1 c v) ≡ false → NoneAhead c ms v
-  none_both a b u s =
+  none-both : is_marked ms (next0 c v) ≡ false → is_marked ms (next1 c v) ≡ false → NoneAhead c ms v
+  none-both a b u s =
       let i : is c 3 v ≡ true = leaves-condition c v u s in
       let t : is_member u (next0 c v ∷ next1 c v ∷ []) ≡ true =
       ap (is_member u) (sym (condition-arcs c v i ∙ arcs-condition c v (eqb-true (kind c v) 3 i))) ∙ s in
@@ -37,7 +37,7 @@ module _ (c : Chart) (ms : List Bool) (v : ℕ) where
       (or-cases (u == next0 c v) (is_member u (next1 c v ∷ [])) (sym (some-cons (nat_eq u) (next0 c v) (next1 c v ∷ [])) ∙ t))
 
   pub none-ahead : ahead ≡ None → NoneAhead c ms v
-  none-ahead e = grind (arith, common_steps, cases, none_both)
+  none-ahead e = grind (arith, common_steps, cases, none-both)
 
   pub some-ahead : length ms ≡ size c → (u : ℕ) → ahead ≡ Some u → u < size c
   some-ahead e u s = grind (arith, common_steps, cases, marked-below)

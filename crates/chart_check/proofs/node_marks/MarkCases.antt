@@ -19,29 +19,21 @@ use Rattle.charts.specs.Chart.{Chart, kind, next0, next1, is}
 use Rattle.charts.specs.Check.{arcs, condition_arcs, is_on_circle}
 use Rattle.charts.specs.inner.Marks.{arcs_by, kind_marks}
 use Rattle.chart_check.specs.inner.MarkContracts.{marks_swept_to, Blank, ListedRoom}
-use Rattle.chart_check.proofs.Found.{lowest-found}
+use Rattle.chart_check.proofs.Found.{lowest-found, found-below}
 use Rattle.chart_check.proofs.node_marks.Sweeps.{swept-same}
 
 -- the arcs by their number
 module _ (c : Chart) (b : Bool) (v n : ℕ) (e : n ≡ length (arcs_by c b v)) where
-  no-arc : n ≡ 0 → arcs_by c b v ≡ []
+  pub no-arc : n ≡ 0 → arcs_by c b v ≡ []
   no-arc z = grind (arith, common_steps)
 
-  one-arc : n ≡ 1 → arcs_by c b v ≡ next0 c v ∷ []
+  pub one-arc : n ≡ 1 → arcs_by c b v ≡ next0 c v ∷ []
   one-arc z = grind (arith, common_steps)
 
-  -- a step for each node that they lead to, as it is marked or enlisted
-  module _ {S : Type 0} (all : List ℕ → S) where
-    pub steps-none : n ≡ 0 → all [] ≡ all (arcs_by c b v)
-    steps-none z = sym (ap all (no-arc z))
+  pub both-arcs : (n ≡ 0 → ⊥) → (n ≡ 1 → ⊥) → arcs_by c b v ≡ next0 c v ∷ next1 c v ∷ []
+  both-arcs some more = grind (arith, common_steps)
 
-    module _ (step : S → ℕ → S) (u : ℕ) (one : S) (eu : u ≡ next0 c v) (eo : one ≡ step (all []) u) where
-      pub steps-one : all (u ∷ []) ≡ step (all []) u → n ≡ 1 → one ≡ all (arcs_by c b v)
-      steps-one q z = let p : all (arcs_by c b v) ≡ all (next0 c v ∷ []) = ap all (one-arc z) in cc
-
-      pub steps-both : (n ≡ 0 → ⊥) → (n ≡ 1 → ⊥) → (w : ℕ) (two : S) → w ≡ next1 c v → two ≡ step one w
-          → all (u ∷ w ∷ []) ≡ step (step (all []) u) w → two ≡ all (arcs_by c b v)
-      steps-both some more w two ew et q = grind (arith, common_steps)
+pub ruleset arcs_told = (no-arc, one-arc, both-arcs)
 
 -- ---- the marks of a kind, written one after the other over old marks
 module _ (c : Chart) (k : ℕ) (old : List Bool) where
@@ -77,12 +69,14 @@ spread-apart c begins swept joined first sweep spread = grind (arith, common_ste
 pub all-marked : (ms : List Bool) (n : ℕ) → length ms ≡ n → many ms ≡ n → None ≡ find (λ v. not (is_marked ms v)) (range_with_len 0 n)
 all-marked ms n long e = grind (arith, common_steps, zero-add, full-marked, lowest-none, lowest-found, lt-ltb, le-ltb)
 
+pub ruleset apart = (spread-apart, found-below)
+
 -- ---- marks that a table of 256 lends
-pub part_of : {A : Type 0} (m n : ℕ) (a : A) → n ≤ m → take n (replicate m a) ≡ replicate n a
-part_of zero zero a l = refl
-part_of zero (suc n) a l = absurd (omega arith)
-part_of (suc m) zero a l = refl
-part_of (suc m) (suc n) a l = ap (λ xs. a ∷ xs) (part_of m n a (omega arith))
+pub part-of : {A : Type 0} (m n : ℕ) (a : A) → n ≤ m → take n (replicate m a) ≡ replicate n a
+part-of zero zero a l = refl
+part-of zero (suc n) a l = absurd (omega arith)
+part-of (suc m) zero a l = refl
+part-of (suc m) (suc n) a l = ap (λ xs. a ∷ xs) (part-of m n a (omega arith))
 
 -- ---- where no node is marked, the list has none
 module _ (c : Chart) (marks : List Bool) (list : List ℕ) (blank : Blank c marks list) where

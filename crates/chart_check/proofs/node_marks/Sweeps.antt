@@ -47,3 +47,5 @@ module _ (c : Chart) (first : List Bool) where
   pub swept-same : (out : List Bool) → length first ≡ size c → out ≡ marks_swept_to c (size c) first
       → reach (size c) (arcs c) (size c) out ≡ reach (size c) (arcs c) (size c) first
   swept-same out long e = grind (arith, common_steps, joining-same, swept-joining)
+
+pub ruleset sweeping = (sweeping-none, sweeping-turn)

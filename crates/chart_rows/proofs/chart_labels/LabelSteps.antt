@@ -1,11 +1,12 @@
 -- Labels: their number is small, a label of a node's own is 2 or more, and the steps of the functions that lay them out.
-use Rattle.std.proofs.Common.{if◌then◌else◌, cond, ◌≡◌, refl, sym, ◌∙◌, ap, ◌⊎◌, ⊎_elim, Bool, true, false, ◌&&◌, not, List, [], ◌∷◌, ◌++◌, ◌==◌}
+use Rattle.std.proofs.Common.{if◌then◌else◌, cond, ◌≡◌, refl, sym, ◌∙◌, ap, ◌⊎◌, ⊎_elim, Bool, true, false, ◌&&◌, not, List, [], ◌∷◌, ◌++◌}
+use Rattle.std.proofs.Common.{◌==◌}
 use Rattle.std.proofs.Common.{map, ℕ, ◌+◌, ◌≤◌, ◌<◌, zero-add, add-one, arith, length, set, length-set, eq-eqb, ne_eqb}
 use Rattle.std.proofs.lemmas.Grind.{common_steps}
 use Rattle.words.specs.lists.Numbers.{range, count}
 use Rattle.words.specs.lists.Sequences.{written}
 use Rattle.std.proofs.lemmas.Bool.{cond-true, cond-false}
-use Rattle.words.proofs.lists.Tests.{cases}
+use Rattle.words.proofs.lists.Tests.{cases, and-no}
 use Rattle.words.proofs.lists.Counts.{count-snoc, count-below, count-miss2}
 use Rattle.words.proofs.lists.Ranges.{length-map-range, get_or-map-range, map-range-snoc}
 use Rattle.words.proofs.lists.Written.{written-none, written-snoc, written-front}
@@ -47,14 +48,7 @@ few-numbered c F =
     (ap (λ x. x && not (is c 1 (begin c 1)))
     (stops-begin c (begin c 1) b.1
     ∙ ap (λ x. not x && is c 3 (next0 c (begin c 1))) (eq-eqb (scheme c (begin c 1)) 1 b.2)))
-    (no_end (end c 1) e.1)
-  where
-    no_end : (v : ℕ) → kind c v ≡ 1 → is_numbered c v ≡ false
-    no_end v k = go (is_stop c v) (is c 1 v) (eq-eqb (kind c v) 1 k)
-      where
-        go : (x y : Bool) → y ≡ true → (x && not y) ≡ false
-        go true y q = ap not q
-        go false y q = refl
+    (and-no (is_stop c (end c 1)) (not (is c 1 (end c 1))) (ap not (eq-eqb (kind c (end c 1)) 1 e.1)))
 
 pub own-small : (c : Chart) → Ready c → (v own : ℕ) → v < size c → own ≡ count (is_numbered c) 0 v → is_numbered c v ≡ true → own + 2 < 256
 own-small c ready v own l e t = omega (arith, count-below (is_numbered c) v (size c) l t, few-numbered c (ready-facts ready), ready.few)
@@ -69,6 +63,8 @@ module _ (c : Chart) (v : ℕ) where
 
   pub other-done : is_numbered c v ≡ false → (scheme c v ≡ 1 → ⊥) → 1 ≡ label c v
   other-done f e = sym (label-shared c v f ∙ cond-false (scheme c v == 1) 0 1 (ne_eqb (scheme c v) 1 e))
+
+pub ruleset one_label = (own-done, first-done, other-done)
 
 -- ---- the labels of the first v nodes
 pub record Labelling (c : Chart) (old labels : List ℕ) (own v : ℕ) : Type 0 where

@@ -1,6 +1,7 @@
 -- How many paths go on from a node at most: each test of a new number takes one from the numbers that are untested, and at most doubles
 -- the paths.
-use Rattle.std.proofs.Common.{if◌then◌else◌, ◌≡◌, refl, sym, ◌∙◌, ap, subst, ◌⊎◌, inl, inr, ⊎_elim, Bool, true, false, ◌&&◌, List, ◌++◌, ℕ, ◌==◌, slice_index}
+use Rattle.std.proofs.Common.{if◌then◌else◌, ◌≡◌, refl, sym, ◌∙◌, ap, subst, ◌⊎◌, inl, inr, ⊎_elim, Bool, true, false, ◌&&◌, List, ◌++◌, ℕ}
+use Rattle.std.proofs.Common.{◌==◌, slice_index}
 use Rattle.std.proofs.Common.{zero, suc, ◌+◌, ◌-◌, ◌*◌, ◌/◌, ◌%◌, ◌^◌, ◌≤◌, ◌<◌, max, pow-suc, div-one, add-one, arith, bit_or, length}
 use Rattle.std.proofs.Common.{replicate, length-append, pow_pos, pow_mono, shr-shr, shr_lt, shl_exact}
 use Rattle.std.proofs.Common.{eqb-true, eq-eqb, ne_eqb}
@@ -20,7 +21,7 @@ use Rattle.text.specs.frames.Frame.{size}
 use Rattle.charts.specs.Chart.{Chart, kind, argument, next0, next1, arc_taken}
 use Rattle.charts.proofs.Rank.{rank, rank-le, rank-some, rank-falls0, rank-falls1}
 use Rattle.walk.specs.Stops.{is_stop}
-use Rattle.walk.proofs.Follow.{goes_on, taken-by}
+use Rattle.walk.proofs.Follow.{goes-on, taken-by}
 use Rattle.image.specs.Image.{Row}
 use Rattle.chart_rows.specs.chart_labels.inner.ChartContracts.{Ready}
 use Rattle.chart_rows.proofs.chart_labels.ReadyLaws.{ready-sound}
@@ -52,7 +53,8 @@ module _ (m n : ℕ) (w : MaskWithin m n) where
       go : (k : ℕ) → free m (care + 2 ^ i) k ≡ true → Dec (i ≡ k) → free n care k ≡ true
       go k e (yes q) =
           let o : bit_at (care + 2 ^ i) k ≡ 1 = ap (bit_at (care + 2 ^ i)) (sym q) ∙ bit-add-same care i z in
-          let y : bit_at (care + 2 ^ i) k ≡ 0 = eqb-true (bit_at (care + 2 ^ i) k) 0 (and-r (bit_at m k == 1) (bit_at (care + 2 ^ i) k == 0) e) in
+          let y : bit_at (care + 2 ^ i) k ≡ 0 =
+          eqb-true (bit_at (care + 2 ^ i) k) 0 (and-r (bit_at m k == 1) (bit_at (care + 2 ^ i) k == 0) e) in
           absurd (omega arith)
       go k e (no q) =
           and-true (bit_at n k == 1) (bit_at care k == 0)
@@ -84,16 +86,18 @@ untested-ones m care h =
     omega arith
 
 -- one value for no bit, and two for each bit
-pub no-values : (m : ℕ) → m ≡ 0 → ((care : ℕ) → 2 ^ untested_count m care ≤ 1) × (1 ≤ 65536)
-no-values m e = grind (arith, common_steps, ones-le, pow_mono, untested-ones)
+pub no-values : (m : ℕ) → m ≡ 0 → (care : ℕ) → 2 ^ untested_count m care ≤ 1
+no-values m e care = grind (arith, common_steps, ones-le, pow_mono, untested-ones)
 
-pub count-values : (m : ℕ) → m < 65536
-    → ((care : ℕ) → 2 ^ untested_count m care ≤ 1 * 2 ^ ones m % 18446744073709551616) × (1 * 2 ^ ones m % 18446744073709551616 ≤ 65536)
-count-values m h =
-    let o : 1 * 2 ^ ones m % 2 ^ 64 ≡ 1 * 2 ^ ones m = shl_exact 1 (ones m) 64 (omega arith) (omega (arith, ones-le 16 m h)) in (
-      λ care. omega (arith, o, pow_mono {i = untested_count m care} {j = ones m} (untested-ones m care h)),
-      omega (arith, o, pow_mono {i = ones m} {j = 16} (ones-le 16 m h)),
-    )
+module _ (m : ℕ) (h : m < 65536) where
+  unshifted : 1 * 2 ^ ones m % 2 ^ 64 ≡ 1 * 2 ^ ones m
+  unshifted = shl_exact 1 (ones m) 64 (omega arith) (omega (arith, ones-le 16 m h))
+
+  pub count-values : (care : ℕ) → 2 ^ untested_count m care ≤ 1 * 2 ^ ones m % 18446744073709551616
+  count-values care = omega (arith, unshifted, pow_mono {i = untested_count m care} {j = ones m} (untested-ones m care h))
+
+  pub few-values : 1 * 2 ^ ones m % 18446744073709551616 ≤ 65536
+  few-values = omega (arith, unshifted, pow_mono {i = ones m} {j = 16} (ones-le 16 m h))
 
 -- ---- the paths on from a node
 module _ (c : Chart) (ready : Ready c) where
@@ -113,7 +117,7 @@ module _ (c : Chart) (ready : Ready c) where
   few-goes v i a b m t s e p q one wa wb = record { most = λ l f care values. go l f care values (bit-cases care i) }
     where
       three : kind c v ≡ 3
-      three = goes_on c v t.no_begin s
+      three = goes-on c v t.no_begin s
 
       small : i < 16
       small = small-number (record { ready = ready; inside = t.inside; kind = three }) e
@@ -178,7 +182,7 @@ module _ (c : Chart) (ready : Ready c) where
       go : (s : Bool) → is_stop c v ≡ s → ((v : ℕ) → Entered c v → rank c v ≤ n → FewPaths c v 65535) → FewPaths c v 65535
       go true s ih = few-stop v 65535 t s
       go false s ih =
-          let three : kind c v ≡ 3 = goes_on c v t.no_begin s in
+          let three : kind c v ≡ 3 = goes-on c v t.no_begin s in
           few-goes v (argument c v) 65535 65535 65535 t s refl
           (ih (next0 c v) (entered0 c ready v t.inside (λ e. omega arith))
           (omega (arith, rank-falls0 c (ready-sound ready) v t.inside three)))
@@ -202,7 +206,7 @@ pub record Masking (c : Chart) (old masks : List ℕ) (v : ℕ) : Type 0 where
   pub masked : Masked c masks
 
 -- ---- the mask of a node by those behind its arcs
-module _ (c : Chart) (notes masks : List ℕ) (v : ℕ) (node : NotedAt c notes v) (k : Masked c masks) where
+module _ {c : Chart} {notes masks : List ℕ} {v : ℕ} (node : NotedAt c notes v) (k : Masked c masks) where
   ready : Ready c
   ready = node.noted.chart.ready
 
@@ -210,33 +214,43 @@ module _ (c : Chart) (notes masks : List ℕ) (v : ℕ) (node : NotedAt c notes 
   read = node.noted.numbers v node.inside
 
   pub mask-stop : 15 < slice_index notes (256 + v) → Entered c v → FewPaths c v 0
-  mask-stop h t = few-stop c ready v 0 t (high-stops c ready v (slice_index notes (256 + v)) t read h)
+  mask-stop h t = few-stop c ready v 0 t (high-stops c ready v _ t read h)
 
   module _ (low : slice_index notes (256 + v) ≤ 15) where
     condition : kind c v ≡ 3
-    condition = low-condition c v (slice_index notes (256 + v)) read low
+    condition = low-condition c v _ read low
 
     here : Entered c v
     here = record { inside = node.inside; no_begin = λ q. omega (arith, condition) }
 
-    pub mask-side0 : (w : ℕ) → w ≡ next0 c v → w < length masks
-    mask-side0 w e = omega (arith, k.long, (entered0 c ready v node.inside (λ q. omega (arith, condition))).inside)
+    side0 : {w : ℕ} → w ≡ next0 c v → Entered c w
+    side0 e = subst (Entered c) (sym e) (entered0 c ready v node.inside (λ q. omega (arith, condition)))
 
-    pub mask-side1 : (w : ℕ) → w ≡ next1 c v → w < length masks
-    mask-side1 w e = omega (arith, k.long, (entered1 c ready v node.inside (omega (arith, condition))).inside)
+    side1 : {w : ℕ} → w ≡ next1 c v → Entered c w
+    side1 e = subst (Entered c) (sym e) (entered1 c ready v node.inside (omega (arith, condition)))
 
-    pub mask-goes : (w0 w1 m : ℕ) → w0 ≡ next0 c v → w1 ≡ next1 c v
+    pub mask-side0 : {w : ℕ} → w ≡ next0 c v → w < length masks
+    mask-side0 e = omega (arith, k.long, (side0 e).inside)
+
+    pub mask-side1 : {w : ℕ} → w ≡ next1 c v → w < length masks
+    mask-side1 e = omega (arith, k.long, (side1 e).inside)
+
+    pub mask-goes : {w0 w1 m : ℕ} → w0 ≡ next0 c v → w1 ≡ next1 c v
         → m ≡ bit_or (bit_or (slice_index masks w0) (slice_index masks w1)) (2 ^ slice_index notes (256 + v)) → FewPaths c v m
-    mask-goes w0 w1 m e0 e1 em =
+    mask-goes {w0} {w1} {m} e0 e1 em =
         few-goes c ready v (slice_index notes (256 + v)) (slice_index masks w0) (slice_index masks w1) m here
-        (low-goes c ready v (slice_index notes (256 + v)) here read low) (low-number c ready v (slice_index notes (256 + v)) here read low)
-        (subst (λ (w : ℕ). FewPaths c w (slice_index masks w0)) e0
-        (k.few w0 (subst (Entered c) (sym e0) (entered0 c ready v node.inside (λ q. omega (arith, condition))))))
-        (subst (λ (w : ℕ). FewPaths c w (slice_index masks w1)) e1
-        (k.few w1 (subst (Entered c) (sym e1) (entered1 c ready v node.inside (omega (arith, condition))))))
+        (low-goes c ready v _ here read low) (low-number c ready v _ here read low)
+        (subst (λ (w : ℕ). FewPaths c w (slice_index masks w0)) e0 (k.few w0 (side0 e0)))
+        (subst (λ (w : ℕ). FewPaths c w (slice_index masks w1)) e1 (k.few w1 (side1 e1)))
         (each (slice_index notes (256 + v)) ∙ omega (arith, bit-pow-same (slice_index notes (256 + v))))
         (record { each = λ i o. each i ∙ omega (arith, bit-or (slice_index masks w0) (slice_index masks w1) i) })
         (record { each = λ i o. each i ∙ omega (arith, bit-or (slice_index masks w0) (slice_index masks w1) i) })
       where
-        each : (i : ℕ) → bit_at m i ≡ max (bit_at (bit_or (slice_index masks w0) (slice_index masks w1)) i) (bit_at (2 ^ slice_index notes (256 + v)) i)
-        each i = ap (λ (x : ℕ). bit_at x i) em ∙ bit-or (bit_or (slice_index masks w0) (slice_index masks w1)) (2 ^ slice_index notes (256 + v)) i
+        each : (i : ℕ)
+            → bit_at m i
+            ≡ max (bit_at (bit_or (slice_index masks w0) (slice_index masks w1)) i) (bit_at (2 ^ slice_index notes (256 + v)) i)
+        each i =
+            ap (λ (x : ℕ). bit_at x i) em
+            ∙ bit-or (bit_or (slice_index masks w0) (slice_index masks w1)) (2 ^ slice_index notes (256 + v)) i
+
+pub ruleset own_masks = (mask-stop, mask-goes)

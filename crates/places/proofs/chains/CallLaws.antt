@@ -1,5 +1,6 @@
 -- What the list of a scheme's calls holds, and which schemes call and are called in an accepted chart.
-use Rattle.std.proofs.Common.{ℕ, zero, suc, ◌+◌, ◌≤◌, ◌<◌, Bool, true, ◌&&◌, not, ◌≡◌, sym, ◌∙◌, List, [], ◌∷◌, eq-or-lt_of_le, arith, ◌==◌, filter}
+use Rattle.std.proofs.Common.{ℕ, zero, suc, ◌+◌, ◌≤◌, ◌<◌, Bool, true, ◌&&◌, not, ◌≡◌, sym, ◌∙◌, List, [], ◌∷◌, eq-or-lt_of_le, arith, ◌==◌}
+use Rattle.std.proofs.Common.{filter}
 use Rattle.std.proofs.Common.{eqb-true, eq-eqb, ne_eqb}
 use Rattle.std.proofs.lemmas.Grind.{common_steps}
 use Rattle.words.specs.lists.Numbers.{range}

@@ -1,5 +1,6 @@
 -- Where no scheme in reach of scheme 1 calls itself, `places` is the number of schemes of the longest chain.
-use Rattle.std.proofs.Common.{ℕ, zero, suc, ◌+◌, ◌-◌, ◌≤◌, ◌<◌, Bool, true, false, ◌&&◌, not, ◌≡◌, refl, sym, ◌∙◌, ap, subst, ⊎_elim, [], ◌==◌}
+use Rattle.std.proofs.Common.{ℕ, zero, suc, ◌+◌, ◌-◌, ◌≤◌, ◌<◌, Bool, true, false, ◌&&◌, not, ◌≡◌, refl, sym, ◌∙◌, ap, subst, ⊎_elim, []}
+use Rattle.std.proofs.Common.{◌==◌}
 use Rattle.std.proofs.Common.{◌∷◌, arith, zero-add, ne_eqb}
 use Rattle.std.proofs.lemmas.Grind.{common_steps}
 use Rattle.words.specs.lists.Numbers.{any, lowest}
@@ -115,16 +116,16 @@ module _ (c : Chart) where
         (λ g l s. let r = called-range c f h g (member-calls c h g s) in ap not (ne_eqb g 0 (λ q. omega (arith, r)))) 0 e) refl)
         (λ e. e) (cases (is_marked (marks_after_arcs 17 (calls_of c) h) 0))
 
-    rank_most : rank 17 (calls_of c) 1 ≤ 16
+    rank-most : rank 17 (calls_of c) 1 ≤ 16
     unfolding rank
-    rank_most =
+    rank-most =
         let l : rank 17 (calls_of c) 1 < 17 = count-miss (with 17 (calls_of c) 1) 17 0 (omega arith)
         (or-none (1 == 0) (is_marked (marks_after_arcs 17 (calls_of c) 1) 0) refl (unjoined 1)) in omega arith
 
     module _ (calm : is_circular c ≡ false) where
-      no_return : (h : ℕ) → 1 ≤ h → h ≤ 16 → reached h ≡ true → is_marked (marks_after_arcs 17 (calls_of c) h) h ≡ false
+      no-return : (h : ℕ) → 1 ≤ h → h ≤ 16 → reached h ≡ true → is_marked (marks_after_arcs 17 (calls_of c) h) h ≡ false
       unfolding is_circular
-      no_return h a b m = and-false (reached h) (is_marked (marks_after_arcs 17 (calls_of c) h) h)
+      no-return h a b m = and-false (reached h) (is_marked (marks_after_arcs 17 (calls_of c) h) h)
           (any-false (is_calling_itself c) 1 16 calm h a (omega arith)) m
 
       falls : (n h : ℕ) → Chain c n h → rank 17 (calls_of c) h + n ≤ rank 17 (calls_of c) 1 + 1
@@ -133,11 +134,11 @@ module _ (c : Chart) where
           let r = called-range c f g h call in
           let l : rank 17 (calls_of c) h < rank 17 (calls_of c) g =
           rank-falls 17 (calls_of c) g h (omega (arith, r)) (omega (arith, r)) (calls-member c g h (omega (arith, r)) call)
-          (no_return g r.0 r.1 (chain-reached m g s)) in
+          (no-return g r.0 r.1 (chain-reached m g s)) in
           omega (arith, falls m g s)
 
       pub chain-few : (n h : ℕ) → Chain c n h → n ≤ 16
-      chain-few n h s = omega (arith, falls n h s, rank_most, rank-some 17 (calls_of c) h (chain-inside n h s))
+      chain-few n h s = omega (arith, falls n h s, rank-most, rank-some 17 (calls_of c) h (chain-inside n h s))
 
       -- ---- the longest chain
       pub places-some : 1 ≤ places c

@@ -1,5 +1,6 @@
 -- Laws of masks of the numbers below n that pass a test: their bits, two of them joined, one number more.
-use Rattle.std.proofs.Common.{if◌then◌else◌, ℕ, zero, suc, ◌+◌, ◌^◌, ◌≤◌, ◌<◌, max, Bool, true, false, ◌||◌, not, ◌≡◌, refl, sym, ◌∙◌, ap, ◌==◌}
+use Rattle.std.proofs.Common.{if◌then◌else◌, ℕ, zero, suc, ◌+◌, ◌^◌, ◌≤◌, ◌<◌, max, Bool, true, false, ◌||◌, not, ◌≡◌, refl, sym, ◌∙◌, ap}
+use Rattle.std.proofs.Common.{◌==◌}
 use Rattle.std.proofs.Common.{ap₂, ⊎_elim, pow-suc, arith, bit_or, pow_pos, pow_mono, ne_eqb, eq-eqb}
 use Rattle.std.proofs.Math.Decide.{ℕ_discrete}
 use lib.Bits.{or_lt}

@@ -21,6 +21,7 @@ fn called_at(records: &[u8], v: usize) -> u8
 }
 
 // Node v's call is added to those of its scheme.
+#[tactic(auto, using(crate::proofs::chains::CallMasks::calls))]
 fn note_call(records: &[u8], v: usize, masks: &mut [u32])
     requires { CallsAsked records.now v masks.old }
     ensures { masks.new ≡ call_masks records.now (v + 1) }
@@ -33,9 +34,10 @@ fn note_call(records: &[u8], v: usize, masks: &mut [u32])
 }
 
 // The calls of all nodes.
+#[tactic(auto, using(crate::proofs::chains::CallMasks::none_yet))]
 pub fn note_calls(records: &[u8], masks: &mut [u32])
     requires ready { Ready records.now }
-    requires masks_value { masks.old ≡ replicate 17 0 }
+    requires no_calls { masks.old ≡ replicate 17 0 }
     ensures { masks.new ≡ call_masks records.now (size records.now) }
 {
     let n = records.len() / RECORD;

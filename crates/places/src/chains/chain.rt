@@ -20,6 +20,7 @@ fn called_by(masks: &[u32], set: u32) -> u32
 }
 
 // By the masks: how many schemes the longest chain from scheme 1 has, or 0 where there are chains of 17.
+#[tactic(auto, using(crate::proofs::chains::CallMasks::rounds))]
 fn longest(masks: &[u32]) -> u8
     requires { length masks.now ≡ 17 }
     ensures { result ≡ longest_by masks.now }

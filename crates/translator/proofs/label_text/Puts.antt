@@ -48,15 +48,15 @@ pub record Appended (piece : ℕ → List ℕ) (out₀ out : List ℕ) (at place
   pub buffer : out ≡ written out₀ at (up_to piece v)
 
 module _ (piece : ℕ → List ℕ) where
-  up_more : (v : ℕ) → up_to piece (v + 1) ≡ up_to piece v ++ piece v
-  up_more v = ap (up_to piece) (add-one v) ∙ concat-range-snoc piece 0 v ∙ ap (λ (k : ℕ). up_to piece v ++ piece k) (zero-add v)
+  up-more : (v : ℕ) → up_to piece (v + 1) ≡ up_to piece v ++ piece v
+  up-more v = ap (up_to piece) (add-one v) ∙ concat-range-snoc piece 0 v ∙ ap (λ (k : ℕ). up_to piece v ++ piece k) (zero-add v)
 
   up-mono : (u d : ℕ) → length (up_to piece u) ≤ length (up_to piece (u + d))
   up-mono u zero = omega (arith, ap (λ (k : ℕ). length (up_to piece k)) (add-zero u))
   up-mono u (suc d) =
       let n : u + suc d ≡ u + d + 1 = omega arith in
       let e : up_to piece (u + suc d) ≡ up_to piece (u + d + 1) = ap (up_to piece) n in
-      omega (arith, up-mono u d, ap (λ (x : List ℕ). length x) (e ∙ up_more (u + d)) ∙ length-append (up_to piece (u + d)) (piece (u + d)))
+      omega (arith, up-mono u d, ap (λ (x : List ℕ). length x) (e ∙ up-more (u + d)) ∙ length-append (up_to piece (u + d)) (piece (u + d)))
 
   pub appended-start : (out : List ℕ) (at n : ℕ) → Appended piece out out at at n 0
   appended-start out at n = record { within = omega arith; size = refl; here = omega arith; buffer = sym (written-none out at) }
@@ -71,7 +71,7 @@ module _ (piece : ℕ → List ℕ) where
             arith,
             up-mono (v + 1) (n - (v + 1)),
             ap (λ (x : List ℕ). length x) e,
-            ap (λ (x : List ℕ). length x) (up_more v) ∙ length-append (up_to piece v) (piece v),
+            ap (λ (x : List ℕ). length x) (up-more v) ∙ length-append (up_to piece v) (piece v),
           )
 
       pub appended-room : place + length (piece v) ≤ length out
@@ -80,8 +80,8 @@ module _ (piece : ℕ → List ℕ) where
       pub appended-on : (out' : List ℕ) (place' : ℕ) → Put out place (piece v) place' out' → Appended piece out₀ out' at place' n (v + 1)
       appended-on out' place' p =
           let q : Put out₀ at (up_to piece (v + 1)) place' out' =
-          both-done (record { parts = up_more v })
-          (omega (arith, upper, ap (λ (x : List ℕ). length x) (up_more v) ∙ length-append (up_to piece v) (piece v)))
+          both-done (record { parts = up-more v })
+          (omega (arith, upper, ap (λ (x : List ℕ). length x) (up-more v) ∙ length-append (up_to piece v) (piece v)))
           (record { ends = t.here; holds = t.buffer }) p in
           record { within = omega arith; size = put-length appended-room p ∙ t.size; here = q.ends; buffer = q.holds }
 

@@ -1,32 +1,35 @@
 -- The rows of a node, by its kind and by its two sides, at plain values.
-use Rattle.std.proofs.Common.{◌≡◌, refl, sym, ◌∙◌, ap, [], ℕ, ◌^◌, ◌<◌, arith}
+use Rattle.std.proofs.Common.{◌≡◌, ap, [], ℕ, ◌^◌, ◌≤◌, ◌<◌, List, arith, bit_or, slice_index}
 use Rattle.std.proofs.lemmas.Grind.{common_steps}
 use Rattle.text.specs.frames.Frame.{size}
 use Rattle.charts.specs.Chart.{Chart, kind, argument, next0, next1}
 use Rattle.chart_rows.specs.chart_labels.Labels.{label}
-use Rattle.chart_rows.specs.Rows.{rows_of}
-use Rattle.chart_rows.specs.inner.NodeRows.{paths_from, sides, node_rows}
-use Rattle.chart_rows.proofs.RowSteps.{rows-function, rows-condition, rows-other}
+use Rattle.chart_rows.specs.inner.NodeRows.{paths_from, sides}
+use Rattle.chart_rows.specs.inner.PathContracts.{NotedAt, SidesAt}
+use Rattle.chart_rows.proofs.RowSteps.{no-rows, rows-function, rows-condition, rows-other}
 use Rattle.translator.proofs.label_text.Puts.{Parted}
 use Rattle.translator.specs.path_text.inner.RowBytes.{rows_bytes}
 use Rattle.translator.proofs.path_text.RowPuts.{rows-append}
 use Rattle.translator.specs.row_text.inner.NodeBytes.{node_rows_bytes}
 
-pub node-none : (c : Chart) (v : ℕ) → node_rows c v ≡ [] → node_rows_bytes c v ≡ []
-node-none c v e = ap rows_bytes e ∙ refl
+module _ {c : Chart} {notes : List ℕ} {v : ℕ} (node : NotedAt c notes v) where
+  pub node-none : slice_index notes v < 2 → node_rows_bytes c v ≡ []
+  node-none h = ap rows_bytes (no-rows node h)
 
-module _ (c : Chart) (v k : ℕ) (ek : k ≡ kind c v) (own : node_rows c v ≡ rows_of c v) where
-  pub node-function : k ≡ 4 → node_rows_bytes c v ≡ rows_bytes (sides c (label c v) 0 1 0 0 v)
-  node-function e = ap rows_bytes (own ∙ rows-function c v k ek e)
+  module _ (h : 2 ≤ slice_index notes v) {k : ℕ} (ek : k ≡ kind c v) where
+    pub node-function : 3 ≤ k → (k ≡ 3 → ⊥) → node_rows_bytes c v ≡ rows_bytes (sides c (label c v) 0 1 0 0 v)
+    node-function a b = ap rows_bytes (rows-function node h ek a b)
 
-  pub node-condition : k ≡ 3 → (o : ℕ) → o ≡ 2 ^ argument c v → node_rows_bytes c v ≡ rows_bytes (sides c (label c v) 2 2 o o v)
-  node-condition e o m = ap rows_bytes (own ∙ rows-condition c v k ek e ∙ ap (λ (x : ℕ). sides c (label c v) 2 2 x x v) (sym m))
+    pub node-condition : k ≡ 3 → {i o : ℕ} → i ≡ argument c v → o ≡ bit_or 0 (2 ^ i)
+        → node_rows_bytes c v ≡ rows_bytes (sides c (label c v) 2 2 o o v)
+    node-condition e ei eo = ap rows_bytes (rows-condition node h ek e ei eo)
 
-  pub node-other : k < 3 → (l w : ℕ) → l ≡ label c v → w ≡ next0 c v
-      → node_rows_bytes c v ≡ rows_bytes (paths_from (size c) c l 2 0 0 w)
-  node-other h l w el ew = grind (arith, common_steps, rows-other)
+    pub node-other : k < 3 → {w : ℕ} → w ≡ next0 c v
+        → node_rows_bytes c v ≡ rows_bytes (paths_from (size c) c (slice_index notes v) 2 0 0 w)
+    node-other a e = grind (arith, common_steps, rows-other, node.noted.chart.labelled.at v node.inside)
 
-module _ (c : Chart) (v f g care values l w0 w1 : ℕ) (el : l ≡ label c v) (e0 : w0 ≡ next0 c v) (e1 : w1 ≡ next1 c v) where
-  pub sides-text : Parted (rows_bytes (sides c (label c v) f g care values v)) (rows_bytes (paths_from (size c) c l f care 0 w0))
-      (rows_bytes (paths_from (size c) c l g care values w1))
-  sides-text = grind (arith, common_steps, rows-append)
+pub sides-text : {c : Chart} {notes : List ℕ} {care values v w0 w1 : ℕ} → SidesAt c notes care values v → w0 ≡ next0 c v → w1 ≡ next1 c v
+    → (f g : ℕ) → Parted (rows_bytes (sides c (label c v) f g care values v))
+    (rows_bytes (paths_from (size c) c (slice_index notes v) f care 0 w0))
+    (rows_bytes (paths_from (size c) c (slice_index notes v) g care values w1))
+sides-text {c} {notes} {care} {values} {v} s e0 e1 f g = grind (arith, common_steps, rows-append, s.noted.chart.labelled.at v s.inside)

@@ -1,13 +1,11 @@
 -- `chart_check::joined::lowest_apart` meets its contract: the Begins are marked, the marks spread, by a sweep and then by the list; where
 -- some node has none, the lowest is found.
-use Rattle.std.proofs.Common.{◌≡◌, sym, ◌∙◌, length, rules, arith}
-use Rattle.std.proofs.lemmas.Grind.{common_steps}
+use Rattle.std.proofs.Common.{◌≡◌, sym, ◌∙◌, length, rules}
 use Rattle.words.specs.graph.inner.Listed.{many}
 use Rattle.words.proofs.graph.Marking.{full-reach}
 use Rattle.words.proofs.graph.MarkedNodes.{listed-lowest}
 use Rattle.text.specs.frames.Frame.{size}
 use Rattle.charts.specs.Check.{arcs}
-use Rattle.chart_check.proofs.Found.{found-below}
 use Rattle.chart_check.proofs.node_marks.MarkCases.{spread-apart, all-marked}
 use Rattle.chart_check.proofs.joined.lowest_apart.Goals as goal
 
@@ -21,23 +19,7 @@ pub returns-then-count-marks-clause-lowest : goal.returns-then-count-marks-claus
 returns-then-count-marks-clause-lowest c = all-marked c.sweep.new.marks (size c.args.records.now) (search rules) (search rules)
 
 pub join-joined-requires : goal.join-joined-requires
-join-joined-requires c =
-    record {
-      long = search rules;
-      room = search rules;
-      listed = listed-lowest _ _ _ _ c.list_marked-count.ensures;
-    }
-
-pub returns-then-joined-marks-clause-marks : goal.returns-then-joined-marks-clause-marks
-returns-then-joined-marks-clause-marks c =
-    spread-apart c.args.records.now _ _ _ c.mark_kind.ensures c.sweep.ensures c.join-joined.ensures.marks
+join-joined-requires c = record { long = search rules; room = search rules; listed = listed-lowest _ _ _ _ c.list_marked-count.ensures }
 
 pub returns-then-joined-marks-clause-lowest : goal.returns-then-joined-marks-clause-lowest
 returns-then-joined-marks-clause-lowest c = all-marked c.join-joined.new.marks (size c.args.records.now) (search rules) (search rules)
-
-pub returns-clause-marks : goal.returns-clause-marks
-returns-clause-marks c =
-    spread-apart c.args.records.now _ _ _ c.mark_kind.ensures c.sweep.ensures c.join-joined.ensures.marks
-
-pub returns-clause-lowest : goal.returns-clause-lowest
-returns-clause-lowest c = grind (arith, common_steps, found-below)

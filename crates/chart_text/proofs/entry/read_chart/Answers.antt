@@ -1,43 +1,34 @@
 -- `chart_text::entry::read_chart` meets its contract: each return is a case of the definition.
-use Rattle.std.proofs.Common.{sym, arith}
-use Rattle.chart_text.proofs.Entries.{Formed, formed, formed-chart, chart-length}
-use Rattle.chart_text.proofs.Entries.{read-unformed, read-unsound, read-short, read-done}
+use Rattle.std.proofs.Common.{arith}
+use Rattle.chart_text.proofs.Entries.{formed, chart-length, read-unformed, read-unsound, read-short, read-done}
 use Rattle.std.proofs.lemmas.Result.{err_from_is_err_and}
 use Rattle.chart_text.proofs.entry.read_chart.Goals as goal
 
 pub returns-in_err-count : goal.returns-in_err-count
 returns-in_err-count c =
     let p = err_from_is_err_and c.from_residual.result c.from_residual.ensures.1 in
-    rw (p.1, p.2) (read-unformed _ _ _ c.read_text.ensures.answered _ c.in_err-count.was)
+    rw (p.1, p.2) (read-unformed _ _ c.read_text.ensures.answered c.in_err-count.was)
 
 pub slice_bounds-table-end : goal.slice_bounds-table-end
 slice_bounds-table-end c =
-    let known : Formed c.args.text.now _ = formed _ _ _ c.read_text.ensures.answered c.in_ok-count.was in
-    omega (arith, known.few, c.read_text.auto.out)
+    let read = formed _ _ c.read_text.ensures.answered c.in_ok-count.was c.read_text.ensures.stored in
+    omega (arith, read.few, c.read_text.auto.out)
 
 pub slice_bounds-records-end : goal.slice_bounds-records-end
-slice_bounds-records-end c =
-    let known : Formed c.args.text.now _ = formed _ _ _ c.read_text.ensures.answered c.in_ok-count.was in
-    let chart = formed-chart _ _ _ _ known c.read_text.ensures.stored in
-    sym (chart-length _ _ _ known chart)
+slice_bounds-records-end c = chart-length (formed _ _ c.read_text.ensures.answered c.in_ok-count.was c.read_text.ensures.stored)
 
 pub returns-in_err-check_chart : goal.returns-in_err-check_chart
 returns-in_err-check_chart c =
     let p = err_from_is_err_and c.from_residual-in_err-check_chart.result c.from_residual-in_err-check_chart.ensures.1 in
-    let known : Formed c.args.text.now _ = formed _ _ _ c.read_text.ensures.answered c.in_ok-count.was in
-    let chart = formed-chart _ _ _ _ known c.read_text.ensures.stored in
-    rw (p.1, p.2) (read-unsound _ _ _ known _ chart _ c.check_chart.ensures _ c.in_err-check_chart.was)
+    let read = formed _ _ c.read_text.ensures.answered c.in_ok-count.was c.read_text.ensures.stored in
+    rw (p.1, p.2) (read-unsound _ _ read c.check_chart.ensures c.in_err-check_chart.was)
 
 pub returns-then-out-end : goal.returns-then-out-end
 returns-then-out-end c =
-    let known : Formed c.args.text.now _ = formed _ _ _ c.read_text.ensures.answered c.in_ok-count.was in
-    let chart = formed-chart _ _ _ _ known c.read_text.ensures.stored in
-    read-short _ _ _ known _ chart _ c.check_chart.ensures _
-    c.in_ok-check_chart.was c.if-out-end.true
+    let read = formed _ _ c.read_text.ensures.answered c.in_ok-count.was c.read_text.ensures.stored in
+    read-short _ _ read c.check_chart.ensures c.in_ok-check_chart.was c.if-out-end.true
 
 pub returns : goal.returns
 returns c =
-    let known : Formed c.args.text.now _ = formed _ _ _ c.read_text.ensures.answered c.in_ok-count.was in
-    let chart = formed-chart _ _ _ _ known c.read_text.ensures.stored in
-    read-done _ _ _ known _ chart _ c.check_chart.ensures _
-    c.in_ok-check_chart.was c.if-out-end.false _ c.put_bytes.ensures
+    let read = formed _ _ c.read_text.ensures.answered c.in_ok-count.was c.read_text.ensures.stored in
+    read-done _ _ read c.check_chart.ensures c.in_ok-check_chart.was c.if-out-end.false c.put_bytes.ensures

@@ -10,8 +10,8 @@ pub put_label-requires : goal.put_label-requires
 put_label-requires c =
     record {
       inner = record { ready = c.requires.at_node.chart.ready; inside = c.requires.at_node.inside };
-      room = label-room c.requires.at_node c.if-label-lt2.false _ _ c.requires.room;
+      room = label-room c.requires.at_node c.if-label-lt2.false _ c.requires.room;
     }
 
 pub returns : goal.returns
-returns c = label-done c.requires.at_node c.if-label-lt2.false _ _ _ c.put_label.ensures
+returns c = label-done c.requires.at_node c.if-label-lt2.false c.put_label.ensures

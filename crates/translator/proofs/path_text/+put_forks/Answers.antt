@@ -1,37 +1,38 @@
-use Rattle.std.proofs.Common.{refl, arith, rules}
+use Rattle.std.proofs.Common.{arith, rules}
 use Rattle.text.specs.frames.Frame.{size}
 use Rattle.chart_rows.specs.inner.NodeRows.{paths_from}
+use Rattle.chart_rows.proofs.PathCases.{arrived-inside, paths-fork, side-0, side-1}
 use Rattle.translator.specs.label_text.inner.LabelBytes.{Put}
 use Rattle.translator.specs.path_text.inner.RowBytes.{rows_bytes}
 use Rattle.translator.proofs.label_text.Puts.{both-first, both-second, both-done, put-as}
-use Rattle.translator.proofs.path_text.RowPuts.{arrived, ends, ends-at-once, end-room, end-done, forks, side-0, side-1, fork-parts}
+use Rattle.translator.proofs.path_text.RowPuts.{ends, ends-at-once, end-room, end-done, fork-parts}
 use Rattle.translator.proofs.path_text.+put_forks.Goals as goal
 use Rattle.translator.proofs.path_text.+put_forks.Goals.{then-notes-end-gt15, else-notes-end-gt15}
 
 pub put_row-requires : goal.put_row-requires
-put_row-requires t c = end-room (ends c.requires.path_at c.settle-v.ensures c.if-i-gt15.true) _ _ _ _ c.requires.room
+put_row-requires t c = end-room (ends c.requires.path_at c.settle-v.ensures c.if-i-gt15.true) _ _ _ c.requires.room
 
 pub returns-then-i-gt15 : goal.returns-then-i-gt15
 returns-then-i-gt15 t c = end-done (ends c.requires.path_at c.settle-v.ensures c.if-i-gt15.true) _ _ c.put_row.ensures
 
 pub field-low-requires : goal.field-low-requires
-field-low-requires t c = let l = (arrived c.requires.path_at c.settle-v.ensures).entered.inside in search rules
+field-low-requires t c = let inside = arrived-inside c.requires.path_at c.settle-v.ensures in search rules
 
 pub field-high-requires : goal.field-high-requires
-field-high-requires t c = let l = (arrived c.requires.path_at c.settle-v.ensures).entered.inside in search rules
+field-high-requires t c = let inside = arrived-inside c.requires.path_at c.settle-v.ensures in search rules
 
 pub put_row-place-requires : goal.put_row-place-requires
 put_row-place-requires t c =
     let k =
-    forks c.requires.path_at c.settle-v.ensures refl c.if-i-gt15.false c.with_bit-tested.ensures c.with_bit-valued.ensures
+    paths-fork c.requires.path_at c.settle-v.ensures c.if-i-gt15.false c.with_bit-tested.ensures c.with_bit-valued.ensures
     c.field-low.ensures c.field-high.ensures in
-    end-room (ends-at-once (side-0 c.requires.path_at k) c.if-notes-end-gt15.true) _ _ _ _
+    end-room (ends-at-once (side-0 c.requires.path_at k) c.if-notes-end-gt15.true) _ _ _
     (both-first (fork-parts k _ _) _ _ c.requires.room)
 
 pub put_forks-place-requires : goal.put_forks-place-requires
 put_forks-place-requires t c =
     let k =
-    forks c.requires.path_at c.settle-v.ensures refl c.if-i-gt15.false c.with_bit-tested.ensures c.with_bit-valued.ensures
+    paths-fork c.requires.path_at c.settle-v.ensures c.if-i-gt15.false c.with_bit-tested.ensures c.with_bit-valued.ensures
     c.field-low.ensures c.field-high.ensures in (
       omega (arith, k.falls0, c.decreases),
       (side-0 c.requires.path_at k, both-first (fork-parts k _ _) _ _ c.requires.room),
@@ -40,7 +41,7 @@ put_forks-place-requires t c =
 pub put_forks-requires : goal.put_forks-requires
 put_forks-requires t c =
     let k =
-    forks c.requires.path_at c.settle-v.ensures refl c.if-i-gt15.false c.with_bit-tested.ensures c.with_bit-valued.ensures
+    paths-fork c.requires.path_at c.settle-v.ensures c.if-i-gt15.false c.with_bit-tested.ensures c.with_bit-valued.ensures
     c.field-low.ensures c.field-high.ensures in
     let low : (let a = c.args in Put a.out.now a.at
     (rows_bytes (paths_from (size a.records.now) a.records.now a.from a.bit c.with_bit-tested.result a.values c.field-low.result))
@@ -57,7 +58,7 @@ put_forks-requires t c =
 pub returns : goal.returns
 returns t c =
     let k =
-    forks c.requires.path_at c.settle-v.ensures refl c.if-i-gt15.false c.with_bit-tested.ensures c.with_bit-valued.ensures
+    paths-fork c.requires.path_at c.settle-v.ensures c.if-i-gt15.false c.with_bit-tested.ensures c.with_bit-valued.ensures
     c.field-low.ensures c.field-high.ensures in
     let low : (let a = c.args in Put a.out.now a.at
     (rows_bytes (paths_from (size a.records.now) a.records.now a.from a.bit c.with_bit-tested.result a.values c.field-low.result))

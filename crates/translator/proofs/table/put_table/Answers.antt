@@ -1,5 +1,5 @@
 -- `translator::put_table`: entries, labels 0 and 1, the other labels, rows, each where the one before ends; then the header.
-use Rattle.std.proofs.Common.{◌≡◌, ◌∙◌, length, arith}
+use Rattle.std.proofs.Common.{arith}
 use Rattle.chart_rows.proofs.chart_labels.ReadyLaws.{ready-facts}
 use Rattle.chart_rows.proofs.chart_labels.LabelSteps.{few-numbered}
 use Rattle.translator.proofs.ImageSteps.{labels-long, rows-long, rows-put, table-put}
@@ -7,19 +7,13 @@ use Rattle.translator.proofs.table.put_table.Goals as goal
 
 pub put_labels-requires : goal.put_labels-requires
 put_labels-requires c =
-    let long : length c.put_fixed.new.out ≡ length c.args.out.now = c.put_fixed.auto.out ∙ c.put_entries.auto.out in
-    let pre = c.requires in record {
-      charted = pre.noted.chart;
-      room = omega (arith, labels-long c.args.records.now, pre.sizes.owned, pre.room, long);
-    }
+    let pre = c.requires in
+    record { charted = pre.noted.chart; room = omega (arith, labels-long c.args.records.now, pre.sizes.owned, pre.room) }
 
 pub put_rows-end-requires : goal.put_rows-end-requires
 put_rows-end-requires c =
-    let long : length c.put_fixed.new.out ≡ length c.args.out.now = c.put_fixed.auto.out ∙ c.put_entries.auto.out in
-    let pre = c.requires in record {
-      noted = pre.noted;
-      room = omega (arith, rows-long c.args.records.now, pre.room, long, c.put_labels.auto.out);
-    }
+    let pre = c.requires in
+    record { noted = pre.noted; room = omega (arith, rows-long c.args.records.now, pre.room) }
 
 pub overflow_cast-own : goal.overflow_cast-own
 overflow_cast-own c =
@@ -29,12 +23,8 @@ overflow_cast-own c =
 
 pub put_header-requires : goal.put_header-requires
 put_header-requires c =
-    let long : length c.put_fixed.new.out ≡ length c.args.out.now = c.put_fixed.auto.out ∙ c.put_entries.auto.out in
-    let longer : length c.put_rows-end.new.out ≡ length c.args.out.now = c.put_rows-end.auto.out ∙ c.put_labels.auto.out ∙ long in
-    let pre = c.requires in record {
-      room = omega (arith, longer, pre.room);
-      rows_fit = omega (arith, rows-put _ _ _ _ pre.sizes _ _ c.put_rows-end.ensures.ends, pre.few);
-    }
+    let pre = c.requires in
+    record { room = omega (arith, pre.room); rows_fit = omega (arith, rows-put _ _ _ _ pre.sizes _ _ c.put_rows-end.ensures.ends, pre.few) }
 
 pub returns : goal.returns
 returns c =

@@ -1,5 +1,5 @@
 -- `translator::translating::write_image`: 10 or 16, else the whole image.
-use Rattle.std.proofs.Common.{◌+◌, ◌≤◌, arith}
+use Rattle.std.proofs.Common.{arith}
 use Rattle.chart_rows.proofs.chart_labels.ReadyLaws.{ready-facts}
 use Rattle.chart_rows.proofs.chart_labels.LabelSteps.{few-numbered}
 use Rattle.translator.proofs.ImageSteps.{image-refused, image-fits}
@@ -7,16 +7,14 @@ use Rattle.translator.proofs.translating.write_image.Goals as goal
 
 pub overflow_add-highest-2 : goal.overflow_add-highest-2
 overflow_add-highest-2 c =
-    let small : c.note_nodes-own.result + 2 ≤ 256 = let ready = c.requires.ready in
-    omega (arith, few-numbered _ (ready-facts ready), ready.few, c.note_nodes-own.ensures.own) in
-    omega (arith, small)
+    let ready = c.requires.ready in
+    omega (arith, few-numbered _ (ready-facts ready), ready.few, c.note_nodes-own.ensures.own)
 
 pub size_refusal-requires : goal.size_refusal-requires
 size_refusal-requires c =
-    let small : c.note_nodes-own.result + 2 ≤ 256 = let ready = c.requires.ready in
-    omega (arith, few-numbered _ (ready-facts ready), ready.few, c.note_nodes-own.ensures.own) in record {
+    let ready = c.requires.ready in record {
       noted = c.note_nodes-own.ensures.noted;
-      before_fits = omega (arith, small, c.well_formed.1.0);
+      before_fits = omega (arith, few-numbered _ (ready-facts ready), ready.few, c.note_nodes-own.ensures.own, c.well_formed.1.0);
     }
 
 pub returns-in-Some : goal.returns-in-Some
