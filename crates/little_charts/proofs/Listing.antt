@@ -1,5 +1,6 @@
 -- The little charts are just the wanted ones, none missing, each once, and their texts increase.
-use Rattle.std.proofs.Common.{ℕ, zero, suc, ◌+◌, ◌*◌, ◌≤◌, ◌<◌, true, false, not, ◌≡◌, refl, sym, ◌∙◌, ap, subst, List, [], ◌∷◌, map, arith, slice_index, slice_index_or}
+use Rattle.std.proofs.Common.{ℕ, zero, suc, ◌+◌, ◌*◌, ◌≤◌, ◌<◌, true, false, not, ◌≡◌, refl, sym, ◌∙◌, ap, subst, List, [], ◌∷◌, map, arith}
+use Rattle.std.proofs.Common.{slice_index, slice_index_or}
 use Rattle.std.proofs.Common.{length}
 use Rattle.std.proofs.Math.Decide.{dec_lt}
 use Rattle.std.proofs.lemmas.Grind.{common_steps}
@@ -10,7 +11,7 @@ use Rattle.words.proofs.lists.Ranges.{length-map-range, map-count}
 use Rattle.words.proofs.lists.Joins.{all-at, all-of, all-map, all-concat, all-filter, all-range}
 use Rattle.std.specs.List.{AllByRecursion}
 use Rattle.text.specs.frames.Frame.{contents, size, field, ten_bytes_at, frames_text, frame_text, text_of}
-use Rattle.text.specs.frames.Verdict.{Verdict, fine, refused, next}
+use Rattle.text.specs.frames.Verdict.{Verdict, fine, refused}
 use Rattle.text.specs.frames.Check.{text_verdict}
 use Rattle.text.proofs.frames.Frames.{Frame, frame-length}
 use Rattle.text.proofs.frames.Texts.{text-count, text-fine, text-contents, contents-length, contents-at}
@@ -22,25 +23,26 @@ use Rattle.charts.proofs.Accepted.{Accepted, accepted, accepted-bytes, read-text
 use Rattle.text.proofs.frames.Verdicts.{next-rest}
 use Rattle.little_charts.specs.Little.{is_little_node, nodes, lists_of, chart_of, is_fine, little_charts, little_text}
 use Rattle.little_charts.specs.Promises.{is_before, little_total, Wanted, AllWanted, NumberedText, NoneMissing, InOrder, EachOnce}
-use Rattle.little_charts.proofs.Members.{In, here, in-map, in-concat, in-filter, in-all, all-in, Place, in_place}
+use Rattle.little_charts.proofs.Members.{In, here, in-map, in-concat, in-filter, in-all, all-in, Place, in-place}
 use Rattle.little_charts.proofs.Order.{before-self, Ascends, ascends-at, ascends-filter, ascends-as, ascends-map, lists-up}
 use Rattle.little_charts.proofs.Nodes.{Fine, NodesFine, nodes-fine, record-in}
+use Rattle.std.proofs.lemmas.Bool.Decides.{nat_tests}
+
+-- what the text of a chart tells of its frames
+ruleset of_text = (contents-length, text-count, text-fine)
 
 -- ---- lists of m records
 pub record MadeOf (rs : List (List ℕ)) (m : ℕ) (fs : List (List ℕ)) : Type 0 where
   pub each : AllByRecursion (λ r. In r rs) fs
   pub count : length fs ≡ m
 
-made_more : (rs : List (List ℕ)) (m : ℕ) (r : List ℕ) (fs : List (List ℕ)) → In r rs → MadeOf rs m fs → MadeOf rs (suc m) (r ∷ fs)
-made_more rs m r fs i d = record { each = (i, d.each); count = ap suc d.count }
+made-more : (rs : List (List ℕ)) (m : ℕ) (r : List ℕ) (fs : List (List ℕ)) → In r rs → MadeOf rs m fs → MadeOf rs (suc m) (r ∷ fs)
+made-more rs m r fs i d = record { each = (i, d.each); count = ap suc d.count }
 
 pub lists-made : (rs : List (List ℕ)) (m : ℕ) → AllByRecursion (MadeOf rs m) (lists_of rs m)
 unfolding lists_of
-lists-made rs zero = (record { each = tt; count = refl }, tt)
-lists-made rs (suc m) = all-concat (MadeOf rs (suc m)) (λ r. map (λ fs. r ∷ fs) (lists_of rs m)) rs
-    (all-in (λ r. AllByRecursion (MadeOf rs (suc m)) (map (λ fs. r ∷ fs) (lists_of rs m))) rs
-    (λ r i. all-map (MadeOf rs (suc m)) (λ fs. r ∷ fs) (lists_of rs m)
-    (all-of (MadeOf rs m) (λ fs. MadeOf rs (suc m) (r ∷ fs)) (λ fs d. made_more rs m r fs i d) (lists_of rs m) (lists-made rs m))))
+lists-made rs zero = grind (arith, common_steps, nat_tests)
+lists-made rs (suc m) = grind (arith, common_steps, nat_tests, lists-made rs m, all-map, all-of, all-concat, all-in, made-more)
 
 made-listed : (rs fs : List (List ℕ)) → AllByRecursion (λ r. In r rs) fs → In fs (lists_of rs (length fs))
 unfolding lists_of
@@ -135,16 +137,7 @@ module _ (n : ℕ) (a : 2 ≤ n) (b : n ≤ 4) where
   wanted-text : (fs : List (List ℕ)) → MadeOf (nodes n) n fs → chart_verdict (chart_of fs) ≡ fine → Wanted n (frames_text fs)
   unfolding read_verdict
   wanted-text fs d v =
-      let F : AllByRecursion Frame fs = made-frames fs d in
-      let c : Chart = contents (frames_text fs) in
-      let e : c ≡ chart_of fs = chart-contents fs F in
-      record {
-        accepted = ap (λ (w : Verdict). next w λ _. chart_verdict c)
-            (text-fine fs F 5888 (omega (arith, d.count)) (omega (arith, d.count))) ∙ ap chart_verdict e ∙ v;
-        frames = text-count fs F ∙ d.count;
-        formed = ap not (any-none (λ v. not (is_little_node c v)) 0 (size c) (λ v l. ap (λ (x : Chart). not (is_little_node x (0 + v))) e
-            ∙ ap not (made-formed fs d (0 + v) (omega (arith, contents-length fs F, d.count)))));
-      }
+      grind (arith, common_steps, nat_tests, of_text, chart-contents, accepted, any-none, made-frames, made-formed)
 
   wanted : (k : ℕ) → k < little_total n → Wanted n (little_text n k) × (text_of (contents (little_text n k)) ≡ little_text n k)
   wanted k l =
@@ -177,7 +170,7 @@ module _ (n : ℕ) (a : 2 ≤ n) (b : n ≤ 4) where
       let p : is_fine (chart_verdict c) ≡ true = ap is_fine (next-rest (text_verdict 5888 t) (λ _. chart_verdict c) w.accepted) in
       let j : In c (little_charts n) = in-filter (λ c. is_fine (chart_verdict c)) c (map chart_of (lists_of (nodes n) n)) p
       (subst (λ (x : Chart). In x (map chart_of (lists_of (nodes n) n))) is (in-map chart_of fs (lists_of (nodes n) n) i)) in
-      let r : Place [] c (little_charts n) = in_place [] c (little_charts n) j in
+      let r : Place [] c (little_charts n) = in-place [] c (little_charts n) j in
       record { number = r.place; low = r.low; text = ap text_of r.holds ∙ text-back 5888 t (read-text t w.accepted) }
 
 pub all-wanted : AllWanted

@@ -1,5 +1,6 @@
 -- The records of little nodes: what they are, and that every node of an accepted little chart has one.
-use Rattle.std.proofs.Common.{ℕ, zero, suc, ◌-◌, ◌≤◌, ◌<◌, Bool, true, false, ◌&&◌, ◌||◌, not, ◌≡◌, refl, sym, subst, List, [], ◌∷◌, ◌++◌, nat_lt, nat_le, ◌==◌, flat_map}
+use Rattle.std.proofs.Common.{ℕ, zero, suc, ◌-◌, ◌≤◌, ◌<◌, Bool, true, false, ◌&&◌, ◌||◌, not, ◌≡◌, refl, sym, subst, List, [], ◌∷◌, ◌++◌}
+use Rattle.std.proofs.Common.{nat_lt, nat_le, ◌==◌, flat_map}
 use Rattle.std.proofs.Common.{map, arith, length, eqb-true, eq-eqb, leb-true, leb-false}
 use Rattle.std.proofs.Math.Decide.{ℕ_discrete}
 use Rattle.std.proofs.lemmas.Grind.{common_steps}
@@ -149,7 +150,8 @@ module _ (c : Chart) (s : SoundChart c) (formed : (v : ℕ) → v < size c → i
     as-begin : kind c v ≡ 0 → Here
     as-begin k =
         let u = used 0 k in
-        let z : (j : ℕ) → 4 ≤ j → j < 10 → field c v j ≡ 0 = zeros 4 (omega arith) (or-r (nat_lt 1 (argument c v)) (is_filled_from c v 4) u) in
+        let z : (j : ℕ) → 4 ≤ j → j < 10
+        → field c v j ≡ 0 = zeros 4 (omega arith) (or-r (nat_lt 1 (argument c v)) (is_filled_from c v 4) u) in
         let a : argument c v ≡ 0 = no-argument (λ q. omega arith) in
         let t = arc0 c s v l (λ q. omega arith) in
         subst (λ (r : List ℕ). In r (nodes (size c)))
@@ -169,8 +171,8 @@ module _ (c : Chart) (s : SoundChart c) (formed : (v : ℕ) → v < size c → i
         (z 9 (omega arith) (omega arith))))
         (in-ends (size c))
 
-    no_call : kind c v ≡ 2 → argument c v ≡ 0
-    no_call k = go (ℕ_discrete (argument c v) 0)
+    no-call : kind c v ≡ 2 → argument c v ≡ 0
+    no-call k = go (ℕ_discrete (argument c v) 0)
       where
         go : Dec (argument c v ≡ 0) → argument c v ≡ 0
         go (yes e) = e
@@ -186,7 +188,7 @@ module _ (c : Chart) (s : SoundChart c) (formed : (v : ℕ) → v < size c → i
         (not-false (next1 c v == 0) (or-l (not (next1 c v == 0)) (nat_lt 2 (result c v)) (used 2 k))) in
         let t = arc0 c s v l (λ q. omega arith) in
         subst (λ (r : List ℕ). In r (nodes (size c)))
-        (sym (ten _ _ _ _ _ _ _ _ _ _ 2 1 0 (next0 c v) 0 0 0 0 0 (field c v 9) k parts.0 (no_call k) refl n r (omega arith)
+        (sym (ten _ _ _ _ _ _ _ _ _ _ 2 1 0 (next0 c v) 0 0 0 0 0 (field c v 9) k parts.0 (no-call k) refl n r (omega arith)
         (omega arith) (omega arith) refl))
         (in-operations (size c) (next0 c v) (field c v 9) t.inside (omega arith))
 

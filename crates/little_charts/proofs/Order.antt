@@ -1,5 +1,6 @@
 -- Lists whose texts increase: joined, filtered, and all lists of records.
-use Rattle.std.proofs.Common.{ℕ, zero, suc, ◌<◌, Bool, true, false, ◌&&◌, ◌||◌, ◌≡◌, sym, ◌∙◌, ◌⊎◌, inl, inr, List, [], ◌∷◌, ◌++◌, map, nat_lt, ◌==◌, slice_index_or, flat_map, filter}
+use Rattle.std.proofs.Common.{ℕ, zero, suc, ◌<◌, Bool, true, false, ◌&&◌, ◌||◌, ◌≡◌, sym, ◌∙◌, ◌⊎◌, inl, inr, List, [], ◌∷◌, ◌++◌, map}
+use Rattle.std.proofs.Common.{nat_lt, ◌==◌, slice_index_or, flat_map, filter}
 use Rattle.std.proofs.Common.{arith, length, eq-eqb, le-ltb}
 use Rattle.std.proofs.lemmas.Grind.{common_steps}
 use Rattle.std.specs.List.{AllByRecursion}
@@ -98,12 +99,14 @@ module _ (rs : List (List ℕ)) (lined : AllByRecursion Lined rs) (up : Ascends 
         )
 
     -- lists that begin with r come before those that begin with a later record
-    led-before : (r : List ℕ) → Lined r → (qs : List (List ℕ)) → AllByRecursion Lined qs → AllByRecursion (λ q. is_before (frame_text r) (frame_text q) ≡ true) qs
+    led-before : (r : List ℕ) → Lined r → (qs : List (List ℕ)) → AllByRecursion Lined qs
+        → AllByRecursion (λ q. is_before (frame_text r) (frame_text q) ≡ true) qs
         → AllByRecursion (λ x. AllByRecursion (λ y. is_before (frames_text x) (frames_text y) ≡ true) (flat_map led qs)) (led r)
     led-before r l qs ls bs = all-map _ (λ fs. r ∷ fs) (lists_of rs m)
         (all-every _ (λ fs. all-concat _ led qs (each fs qs ls bs)) (lists_of rs m))
       where
-        each : (fs : List (List ℕ)) (ps : List (List ℕ)) → AllByRecursion Lined ps → AllByRecursion (λ q. is_before (frame_text r) (frame_text q) ≡ true) ps
+        each : (fs : List (List ℕ)) (ps : List (List ℕ)) → AllByRecursion Lined ps
+            → AllByRecursion (λ q. is_before (frame_text r) (frame_text q) ≡ true) ps
             → AllByRecursion (λ q. AllByRecursion (λ y. is_before (frames_text (r ∷ fs)) (frames_text y) ≡ true) (led q)) ps
         each fs [] a b = tt
         each fs (q ∷ ps) a b = (

@@ -1,2 +1,3 @@
-pub mod Leaves
-pub mod SeekTurns
+pub mod Computed
+pub mod Counted
+pub mod Turns

@@ -1,1 +1,2 @@
 pub mod SeekContracts
+pub mod Trails

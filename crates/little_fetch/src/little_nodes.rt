@@ -1,119 +1,122 @@
-// What no accepted chart has: a second Begin or End, an arc to a Begin, a condition's arc to itself, a node that no other leads to.
-ghost use Rattle.std.specs.Prelude.{◌≡◌, ◌+◌, ◌*◌, ◌≤◌, ◌<◌, length};
-ghost use Rattle.words.specs.lists.Numbers.{any};
-ghost use Rattle.text.specs.frames.Frame.{size};
-ghost use Rattle.little_charts.specs.inner.Search.{has_kind, has_arc_to, has_arc_to_begin, is_clash, is_repeat};
-ghost use Rattle.little_charts.specs.inner.Search.{is_barred_node, is_other_leading_to, is_lonely};
+// What begins no accepted chart: a second End, an arc to a Begin, conditions on a circle, nodes that the Begin does not lead to. All of it
+// is told by sets of nodes, which have a bit for each.
+ghost use Rattle.std.specs.Prelude.{◌≡◌, ◌≤◌, ◌<◌};
+ghost use Rattle.little_charts.specs.inner.Search.{node_count};
+ghost use Rattle.little_fetch.specs.inner.Trails.{arcs_by, arcs_from, reached, led_to, is_barred, with_node, is_cut_off};
 
-use charts::field;
-use charts::layout::*;
-use text::frames::sizes::RECORD;
+// What is kept of the records so far: their numbers, five bits each, the last one's lowest; where the arcs of each node lead, four bits
+// each; which node is the Begin, which the End, and which are conditions.
+#[derive(Clone, Copy)]
+pub struct Trail {
+    pub numbers: u32,
+    pub arcs: u16,
+    pub begin: u8,
+    pub end: u8,
+    pub conditions: u8,
+}
 
-// A node below v is of this kind.
-pub fn has_kind(records: &[u8], kind: u8, v: usize) -> bool
-    requires { RECORD * v ≤ length records.now }
-    ensures { result ≡ has_kind records.now kind v }
+// The nodes that arcs of node u lead to, where it is in the set.
+fn arcs_by(arcs: u16, set: u8, u: u8) -> u8
+    requires { u < 4 }
+    ensures { result ≡ arcs_by arcs set u }
 {
-    for u in 0..v {
-        if field(records, u, KIND) == kind {
-            return true;
-        }
+    if (set >> u) % 2 == 0 {
+        return 0;
     }
-    false
+    ((arcs >> (4 * u)) % 16) as u8
 }
 
-// An arc of node u leads to t.
-fn leads_to(records: &[u8], u: usize, t: usize) -> bool
-    requires { RECORD * u + RECORD ≤ length records.now }
-    ensures { result ≡ has_arc_to records.now u t }
+// The nodes that arcs of a set's nodes lead to.
+#[tactic(auto, unfolding(crate::specs::inner::Trails::arcs_from))]
+fn arcs_from(arcs: u16, set: u8) -> u8
+    ensures { result ≡ arcs_from arcs set }
 {
-    let kind = field(records, u, KIND);
-    kind != END
-        && (field(records, u, NEXT0) as usize == t
-            || (kind == CONDITION && field(records, u, NEXT1) as usize == t))
+    arcs_by(arcs, set, 0) | arcs_by(arcs, set, 1) | arcs_by(arcs, set, 2) | arcs_by(arcs, set, 3)
 }
 
-// Node v is a Begin that an arc of node u leads to.
-fn enters_begin(records: &[u8], u: usize, v: usize) -> bool
-    requires leading { RECORD * u + RECORD ≤ length records.now }
-    requires led_to { RECORD * v + RECORD ≤ length records.now }
-    ensures { result ≡ has_arc_to_begin records.now u v }
+// A set's nodes and those that at most three arcs, one after the other, lead to from them.
+#[tactic(auto, unfolding(crate::specs::inner::Trails::reached))]
+fn reached(arcs: u16, set: u8) -> u8
+    ensures { result ≡ reached arcs set }
 {
-    field(records, v, KIND) == BEGIN && leads_to(records, u, v)
+    let one = set | arcs_from(arcs, set);
+    let two = one | arcs_from(arcs, one);
+    two | arcs_from(arcs, two)
 }
 
-// Node v clashes with one up to it.
-fn any_clash(records: &[u8], v: usize) -> bool
-    requires { RECORD * v + RECORD ≤ length records.now }
-    ensures { result ≡ any (is_clash records.now v) 0 (v + 1) }
+// The nodes that record i leads to, in a chart of n frames.
+#[tactic(auto, unfolding(crate::specs::inner::Trails::led_to))]
+pub fn led_to(n: usize, i: usize) -> u8
+    requires some { 1 ≤ n }
+    requires few { n ≤ 4 }
+    requires number { i < node_count n }
+    ensures { result ≡ led_to n i }
 {
-    let end = v + 1;
-    for u in 0..end {
-        if enters_begin(records, u, v) {
-            return true;
-        }
-        if enters_begin(records, v, u) {
-            return true;
-        }
+    if i < n {
+        return 1 << i;
     }
-    false
+    if i == n {
+        return 0;
+    }
+    if i < 3 * n + 1 {
+        return 1 << ((i - (n + 1)) / 2);
+    }
+    let j = i - (3 * n + 1);
+    (1 << (j / n)) | (1 << (j % n))
 }
 
-// Node v is a second End, or a condition with an arc to itself.
-fn repeats(records: &[u8], v: usize) -> bool
-    requires { RECORD * v + RECORD ≤ length records.now }
-    ensures { result ≡ is_repeat records.now v }
+// Record i, which leads to such nodes, clashes with those before it at place v.
+#[tactic(auto, unfolding(crate::specs::inner::Trails::is_barred))]
+pub fn is_barred(n: usize, v: usize, trail: Trail, i: usize, led: u8) -> bool
+    requires few { n ≤ 4 }
+    requires inside { v < n }
+    ensures { result ≡ is_barred n v trail i led }
 {
-    match field(records, v, KIND) {
-        END => has_kind(records, END, v),
-        CONDITION => leads_to(records, v, v),
-        _ => false,
+    let own: u8 = 1 << v;
+    if i < n {
+        return (led | arcs_from(trail.arcs, 15)) & own != 0;
+    }
+    if i == n {
+        return trail.end != 0;
+    }
+    if i < 3 * n + 1 {
+        return led & trail.begin != 0;
+    }
+    led & (trail.begin | own) != 0 || arcs_from(trail.arcs, led & trail.conditions) & own != 0
+}
+
+// The same records and record i, which leads to such nodes, at place v.
+#[tactic(auto, unfolding(crate::specs::inner::Trails::with_node))]
+pub fn with_node(n: usize, v: usize, trail: Trail, i: usize, led: u8) -> Trail
+    requires few { n ≤ 4 }
+    requires inside { v < n }
+    requires number { i < 32 }
+    ensures { result ≡ with_node n v trail i led }
+{
+    let own: u8 = 1 << v;
+    Trail {
+        numbers: trail.numbers << 5 | i as u32,
+        arcs: trail.arcs | (led as u16) << (4 * v),
+        begin: if i < n { own } else { trail.begin },
+        end: if i == n { own } else { trail.end },
+        conditions: if 3 * n < i {
+            trail.conditions | own
+        } else {
+            trail.conditions
+        },
     }
 }
 
-// No accepted chart has such a node v after such records.
-#[tactic(auto, unfolding(little_charts::specs::inner::Search::is_barred_node))]
-pub fn is_barred(records: &[u8], v: usize) -> bool
-    requires { RECORD * v + RECORD ≤ length records.now }
-    ensures { result ≡ is_barred_node records.now v }
+// The Begin leads to no node above place v, and not to all.
+#[tactic(auto, unfolding(crate::specs::inner::Trails::is_cut_off))]
+pub fn is_cut_off(n: usize, v: usize, trail: Trail) -> bool
+    requires few { n ≤ 4 }
+    requires inside { v < n }
+    ensures { result ≡ is_cut_off n v trail }
 {
-    repeats(records, v) || any_clash(records, v)
-}
-
-// Node u is another one than v, and an arc of it leads there.
-fn leads_other(records: &[u8], v: usize, u: usize) -> bool
-    requires { RECORD * u + RECORD ≤ length records.now }
-    ensures { result ≡ is_other_leading_to records.now v u }
-{
-    u != v && leads_to(records, u, v)
-}
-
-// No arc of another node leads to node v, and it is no Begin.
-fn is_lonely(records: &[u8], v: usize) -> bool
-    requires { v < size records.now }
-    ensures { result ≡ is_lonely records.now v }
-{
-    if field(records, v, KIND) == BEGIN {
+    if trail.begin == 0 {
         return false;
     }
-    let n = records.len() / RECORD;
-    for u in 0..n {
-        if leads_other(records, v, u) {
-            return false;
-        }
-    }
-    true
-}
-
-// Some node is such a one.
-pub fn any_lonely(records: &[u8]) -> bool
-    ensures { result ≡ any (is_lonely records.now) 0 (size records.now) }
-{
-    let n = records.len() / RECORD;
-    for v in 0..n {
-        if is_lonely(records, v) {
-            return true;
-        }
-    }
-    false
+    let all = reached(trail.arcs, trail.begin);
+    all < 1 << (v + 1) && all + 1 < 1 << n
 }

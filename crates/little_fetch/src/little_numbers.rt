@@ -1,9 +1,9 @@
 // Node records by number, and the numbers that are tried at a place.
-ghost use Rattle.std.specs.Prelude.{◌≡◌, ◌+◌, ◌*◌, ◌≤◌, ◌<◌, length};
-ghost use Rattle.text.specs.frames.Frame.{size};
-ghost use Rattle.little_charts.specs.inner.Search.{node_count, node_at, absent_count, missing_ends, first_tried, past_last};
+ghost use Rattle.std.specs.Prelude.{◌≡◌, ◌*◌, ◌≤◌, ◌<◌};
+ghost use Rattle.little_charts.specs.inner.Search.{node_at};
+ghost use Rattle.little_fetch.specs.inner.Trails.{absent, first_number, past_number};
 
-use crate::little_nodes::has_kind;
+use crate::little_nodes::Trail;
 use charts::layout::*;
 use text::frames::sizes::RECORD;
 
@@ -11,7 +11,7 @@ use text::frames::sizes::RECORD;
 pub fn node(n: usize, i: usize) -> [u8; RECORD]
     requires some { 1 ≤ n }
     requires few { n ≤ 4 }
-    requires number { i < node_count n }
+    requires number { i < 32 }
     ensures { result ≡ node_at n i }
 {
     if i < n {
@@ -28,47 +28,35 @@ pub fn node(n: usize, i: usize) -> [u8; RECORD]
     [CONDITION, 1, 0, (j / n) as u8, (j % n) as u8, 0, 0, 0, 0, 0]
 }
 
-// The first number to try at place v.
-pub fn first_number(records: &[u8], v: usize) -> usize
-    requires { RECORD * v ≤ length records.now }
-    ensures { result ≡ first_tried (size records.now) records.now v }
+// The first number to try.
+pub fn first_number(n: usize, trail: Trail) -> usize
+    ensures { result ≡ first_number n trail }
 {
-    if has_kind(records, BEGIN, v) {
-        return records.len() / RECORD;
+    if trail.begin != 0 {
+        return n;
     }
     0
 }
 
-// 1 where no node below v is of this kind.
-fn absent(records: &[u8], kind: u8, v: usize) -> usize
-    requires { RECORD * v ≤ length records.now }
-    ensures { result ≡ absent_count records.now kind v }
+// 1 where the set is empty.
+fn absent(set: u8) -> usize
+    ensures { result ≡ absent set }
 {
-    if has_kind(records, kind, v) {
+    if set != 0 {
         return 0;
     }
     1
 }
 
-// How many of Begin and End no node below v is.
-fn missing_count(records: &[u8], v: usize) -> usize
-    requires { RECORD * v ≤ length records.now }
-    ensures { result ≡ missing_ends records.now v }
+// The number after the last one to try at place v.
+pub fn past_number(n: usize, v: usize, trail: Trail) -> usize
+    requires inside { v ≤ n }
+    requires few { n ≤ 4 }
+    ensures { result ≡ past_number n v trail }
 {
-    let begins = absent(records, BEGIN, v);
-    let ends = absent(records, END, v);
-    begins + ends
-}
-
-// The number after the last one.
-pub fn past_number(records: &[u8], v: usize) -> usize
-    requires inside { RECORD * v ≤ length records.now }
-    requires few { size records.now ≤ 4 }
-    ensures { result ≡ past_last (size records.now) records.now v }
-{
-    let n = records.len() / RECORD;
-    let left = n - v;
-    if left <= missing_count(records, v) {
+    let begins = absent(trail.begin);
+    let ends = absent(trail.end);
+    if n - v <= begins + ends {
         return n + 1;
     }
     n * n + 3 * n + 1

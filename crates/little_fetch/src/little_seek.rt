@@ -1,88 +1,96 @@
 // A little chart sought by its number: node records are tried place by place, and the charts that are found are counted down.
-ghost use Rattle.std.specs.Prelude.{◌≡◌, ◌*◌, ◌-◌, ◌≤◌, ◌<◌, take};
-ghost use Rattle.text.specs.frames.Frame.{size};
-ghost use Rattle.little_charts.specs.inner.Search.{node_count, node_at, searched_charts};
-ghost use Rattle.little_fetch.specs.inner.SeekContracts.{FewFrames, RecordPlaced, SoughtCount, GivesSought, is_accepted};
+ghost use Rattle.std.specs.Prelude.{◌≡◌, ◌-◌, ◌≤◌, ◌<◌};
+ghost use Rattle.little_charts.specs.inner.Search.{node_count};
+ghost use Rattle.little_fetch.specs.inner.Trails.{trails, start, charts_after};
+ghost use Rattle.little_fetch.specs.inner.SeekContracts.{sought};
 
-use crate::little_nodes::{any_lonely, is_barred};
-use crate::little_numbers::{first_number, node, past_number};
-use chart_check::check_chart;
-use text::frames::put_bytes;
-use text::frames::sizes::RECORD;
+use crate::little_nodes::{Trail, is_barred, is_cut_off, led_to, with_node};
+use crate::little_numbers::{first_number, past_number};
 
-// Whether the chart was found, and else how many are still to be passed over.
-#[derive(Drop)]
-pub struct Sought {
-    pub found: bool,
-    pub left: usize,
-}
-
-// The records are an accepted chart. A node that no other leads to is looked for first, which takes less time.
-fn accepts(records: &[u8]) -> bool
-    requires { FewFrames records.now }
-    ensures { result ≡ is_accepted records.now }
+// From place v on all records are tried that may stand there, and the rest after each: the numbers of the chart's records, or how many
+// charts are still to be passed over.
+pub fn seek(n: usize, v: usize, trail: Trail, left: usize) -> Result<u32, usize>
+    requires few { n ≤ 4 }
+    requires inside { v < n }
+    ensures { result ≡ sought (trails n (n - v) trail) left }
 {
-    if any_lonely(records) {
-        return false;
-    }
-    check_chart(records).is_ok()
-}
-
-// All records stand: the chart is the one sought, or one to pass over, or none.
-fn count_chart(records: &[u8], left: usize) -> Sought
-    requires { FewFrames records.now }
-    ensures { SoughtCount (searched_charts (size records.now) 0 records.now) left result }
-{
-    if !accepts(records) {
-        return Sought { found: false, left };
-    }
-    if left == 0 {
-        return Sought { found: true, left };
-    }
-    Sought {
-        found: false,
-        left: left - 1,
-    }
-}
-
-// Record i at place v.
-fn place(records: &mut [u8], v: usize, i: usize)
-    requires few { FewFrames records.old }
-    requires inside { v < size records.old }
-    requires number { i < node_count (size records.old) }
-    ensures { RecordPlaced records.old v (node_at (size records.old) i) records.new }
-{
-    let ten = node(records.len() / RECORD, i);
-    put_bytes(records, RECORD * v, &ten);
-}
-
-// From place v on all records are tried that may stand there, and the rest after each.
-pub fn seek(records: &mut [u8], v: usize, left: usize) -> Sought
-    requires few { FewFrames records.old }
-    requires inside { v ≤ size records.old }
-    ensures { GivesSought (searched_charts (size records.old) (size records.old - v)
-        (take (RECORD * v) records.old)) (take (RECORD * v) records.old) left result records.new }
-{
-    let n = records.len() / RECORD;
-    if v == n {
-        return count_chart(records, left);
-    }
-    let past = past_number(records, v);
-    let mut i = first_number(records, v);
+    let past = past_number(n, v, trail);
+    let mut i = first_number(n, trail);
     let mut rest = left;
     while i < past {
-        place(records, v, i);
-        i += 1;
-        if !is_barred(records, v) {
-            let sought = seek(records, v + 1, rest);
-            if sought.found {
-                return sought;
+        let led = led_to(n, i);
+        if !is_barred(n, v, trail, i, led) {
+            let next = with_node(n, v, trail, i, led);
+            if !is_cut_off(n, v, next) {
+                if v + 1 < n {
+                    match seek(n, v + 1, next, rest) {
+                        Ok(numbers) => return Ok(numbers),
+                        Err(fewer) => rest = fewer,
+                    }
+                } else {
+                    if rest == 0 {
+                        return Ok(next.numbers);
+                    }
+                    rest -= 1;
+                }
             }
-            rest = sought.left;
         }
+        i += 1;
     }
-    Sought {
-        found: false,
-        left: rest,
+    Err(rest)
+}
+
+// How many charts of n frames begin with record i.
+#[tactic(auto, unfolding(crate::specs::inner::Trails::charts_after))]
+fn charts_after(n: usize, i: usize) -> usize
+    ensures { result ≡ charts_after n i }
+{
+    match n {
+        2 => match i {
+            1 | 2 => 1,
+            _ => 0,
+        },
+        3 => match i {
+            1 | 2 => 3,
+            3 => 6,
+            6..=9 | 14 | 18 => 1,
+            _ => 0,
+        },
+        _ => match i {
+            1..=3 => 54,
+            4 => 162,
+            5 | 6 => 12,
+            7..=12 => 24,
+            18 | 23 | 28 => 16,
+            19 | 20 | 22 | 24 | 26 | 27 => 18,
+            _ => 0,
+        },
     }
+}
+
+// Of all charts of n frames: as many are passed over at once as begin with a record, until the one sought begins so.
+pub fn seek_first(n: usize, number: usize) -> Result<u32, usize>
+    requires some { 2 ≤ n }
+    requires few { n ≤ 4 }
+    ensures { result ≡ sought (trails n n start) number }
+{
+    let trail = Trail {
+        numbers: 0,
+        arcs: 0,
+        begin: 0,
+        end: 0,
+        conditions: 0,
+    };
+    let past = past_number(n, 0, trail);
+    let mut rest = number;
+    for i in 0..past {
+        let count = charts_after(n, i);
+        if rest < count {
+            let led = led_to(n, i);
+            let next = with_node(n, 0, trail, i, led);
+            return seek(n, 1, next, rest);
+        }
+        rest -= count;
+    }
+    Err(rest)
 }

@@ -53,6 +53,16 @@ pub fn with_handler() -> Vec<Frame> {
     ]
 }
 
+/// So many words, the same each time.
+pub fn words(count: usize) -> Vec<u16> {
+    let mut seed = 1u32;
+    let word = |_| {
+        seed = seed.wrapping_mul(1_664_525).wrapping_add(1_013_904_223);
+        (seed >> 16) as u16
+    };
+    (0..count).map(word).collect()
+}
+
 fn begin(records: &mut Vec<Frame>, scheme: u8) {
     let next = records.len() as u8 + 1;
     records.push([0, scheme, 0, next, 0, 0, 0, 0, 0, 0]);

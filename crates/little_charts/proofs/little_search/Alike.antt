@@ -6,8 +6,7 @@ use Rattle.words.specs.lists.Numbers.{any}
 use Rattle.words.proofs.lists.Searches.{any-alike}
 use Rattle.text.specs.frames.Frame.{field}
 use Rattle.charts.specs.Chart.{Chart, is}
-use Rattle.little_charts.specs.inner.Search.{has_kind, has_arc_to, is_clash, is_barred_node, missing_ends, first_tried}
-use Rattle.little_charts.specs.inner.Search.{past_last}
+use Rattle.little_charts.specs.inner.Search.{has_kind, has_arc_to, is_clash, is_barred_node, missing_ends}
 
 -- the first v nodes have the same fields
 pub record SameFields (c d : Chart) (v : ℕ) : Type 0 where
@@ -35,12 +34,6 @@ module _ (c d : Chart) where
 
   pub missing-alike : (v : ℕ) → SameFields c d v → missing_ends c v ≡ missing_ends d v
   missing-alike v a = grind (arith, common_steps, has-alike)
-
-  pub first_alike : (n v : ℕ) → SameFields c d v → first_tried n c v ≡ first_tried n d v
-  first_alike n v a = grind (arith, common_steps, has-alike)
-
-  pub past-alike : (n v : ℕ) → SameFields c d v → past_last n c v ≡ past_last n d v
-  past-alike n v a = let m : missing_ends c v ≡ missing_ends d v = missing-alike v a in cc
 
 -- a list's front and the whole
 pub front-alike : (xs ys : List ℕ) (v : ℕ) → 10 * v ≤ length xs → SameFields xs (xs ++ ys) v

@@ -1,6 +1,7 @@
 -- What is left out is in no accepted chart: a second Begin or End, an arc to a Begin, a condition's arc to itself, a node that no other
 -- leads to.
-use Rattle.std.proofs.Common.{ℕ, ◌+◌, ◌-◌, ◌≤◌, ◌<◌, Bool, true, false, ◌&&◌, ◌||◌, not, ◌≡◌, refl, sym, ◌∙◌, ap, subst, [], ◌∷◌, ◌⊎◌, inl, inr, nat_eq, ◌==◌}
+use Rattle.std.proofs.Common.{ℕ, ◌+◌, ◌-◌, ◌≤◌, ◌<◌, Bool, true, false, ◌&&◌, not, ◌≡◌, refl, sym, ◌∙◌, ap, subst, []}
+use Rattle.std.proofs.Common.{nat_eq, ◌==◌}
 use Rattle.std.proofs.Common.{⊎_elim, arith, eqb-true, eq-eqb, ne_eqb}
 use Rattle.std.proofs.Math.Decide.{ℕ_discrete}
 use Rattle.std.proofs.lemmas.Grind.{common_steps}
@@ -11,13 +12,17 @@ use Rattle.std.specs.List.{list_any}
 use Rattle.words.specs.graph.Reach.{is_member}
 use Rattle.words.specs.graph.Paths.{Arc, Path, here, on}
 use Rattle.text.specs.frames.Frame.{size}
-use Rattle.charts.specs.Chart.{Chart, kind, scheme, next0, next1, is, begin, end}
+use Rattle.charts.specs.Chart.{Chart, kind, scheme, is, begin, end}
 use Rattle.charts.specs.Check.{arcs, is_on_circle}
 use Rattle.charts.proofs.Accepted.{SoundChart}
 use Rattle.charts.proofs.Nodes.{TheNode, arc-end, begins, ends, arcs-end, arcs-one, arcs-condition, in-arcs0, in-arcs1, schemes-first}
 use Rattle.charts.specs.Meaning.{ConditionCircle}
 use Rattle.charts.proofs.Meaning.{member-only, circle-found, condition-arc, found-joined}
 use Rattle.little_charts.specs.inner.Search.{has_kind, has_arc_to, is_repeat, is_clash, is_barred_node, is_lonely, missing_ends}
+use Rattle.std.proofs.lemmas.Bool.Decides.{nat_tests}
+
+-- tests that are joined, and equal numbers
+ruleset tests_told = (and-true, or-true-l, or-true-r, or-cases, no_both, eqb-true, eq-eqb, ne_eqb)
 
 some-none : (f : ℕ → Bool) → list_any f [] ≡ false
 some-none f = refl
@@ -43,14 +48,14 @@ module _ (c : Chart) (p : Plain c) where
   the-begin : TheNode c 0 1 (begin c 1)
   the-begin = begins c s 1 (omega arith) (schemes-first c s p.some)
 
-  the_end : TheNode c 1 1 (end c 1)
-  the_end = ends c s 1 (omega arith) (schemes-first c s p.some)
+  the-end : TheNode c 1 1 (end c 1)
+  the-end = ends c s 1 (omega arith) (schemes-first c s p.some)
 
   one-begin : (u v : ℕ) → u < size c → v < size c → kind c u ≡ 0 → kind c v ≡ 0 → u ≡ v
   one-begin u v l m e f = the-begin.alone u l e (p.one u l) ∙ sym (the-begin.alone v m f (p.one v m))
 
-  one_end : (u v : ℕ) → u < size c → v < size c → kind c u ≡ 1 → kind c v ≡ 1 → u ≡ v
-  one_end u v l m e f = the_end.alone u l e (p.one u l) ∙ sym (the_end.alone v m f (p.one v m))
+  one-end : (u v : ℕ) → u < size c → v < size c → kind c u ≡ 1 → kind c v ≡ 1 → u ≡ v
+  one-end u v l m e f = the-end.alone u l e (p.one u l) ∙ sym (the-end.alone v m f (p.one v m))
 
   -- an arc by its fields is one of the arcs
   leads-arc : (u t : ℕ) → u < size c → has_arc_to c u t ≡ true → is_member t (arcs c u) ≡ true
@@ -58,27 +63,12 @@ module _ (c : Chart) (p : Plain c) where
 
   -- and the other way round
   arc-leads : (u t : ℕ) → u < size c → is_member t (arcs c u) ≡ true → has_arc_to c u t ≡ true
-  arc-leads u t l e = go (ℕ_discrete (kind c u) 1) (ℕ_discrete (kind c u) 3)
-    where
-      made : (kind c u ≡ 1 → ⊥) → (next0 c u == t || (is c 3 u && next1 c u == t)) ≡ true → has_arc_to c u t ≡ true
-      made n q = and-true (not (is c 1 u)) (next0 c u == t || (is c 3 u && next1 c u == t)) (ap not (ne_eqb (kind c u) 1 n)) q
-
-      two : kind c u ≡ 3 → ((t == next0 c u) ≡ true) ⊎ (is_member t (next1 c u ∷ []) ≡ true)
-          → (next0 c u == t || (is c 3 u && next1 c u == t)) ≡ true
-      two k (inl q) = or-true-l (next0 c u == t) (is c 3 u && next1 c u == t) (eq-eqb (next0 c u) t (sym (eqb-true t (next0 c u) q)))
-      two k (inr q) = or-true-r (next0 c u == t) (is c 3 u && next1 c u == t)
-          (and-true (is c 3 u) (next1 c u == t) (eq-eqb (kind c u) 3 k) (eq-eqb (next1 c u) t (sym (member-only t (next1 c u) q))))
-
-      go : Dec (kind c u ≡ 1) → Dec (kind c u ≡ 3) → has_arc_to c u t ≡ true
-      go (yes k) d = no_both (is_member t (arcs c u)) e (ap (is_member t) (arcs-end c u k) ∙ some-none (nat_eq t))
-      go (no k) (yes m) = made k (two m (or-cases (t == next0 c u) (is_member t (next1 c u ∷ []))
-          (sym (some-cons (nat_eq t) (next0 c u) (next1 c u ∷ [])) ∙ sym (ap (is_member t) (arcs-condition c u m)) ∙ e)))
-      go (no k) (no m) = made k (or-true-l (next0 c u == t) (is c 3 u && next1 c u == t) (eq-eqb (next0 c u) t
-          (sym (member-only t (next0 c u) (sym (ap (is_member t) (arcs-one c u k m (λ q. omega (arith, p.kinds u l)))) ∙ e)))))
+  arc-leads u t l e =
+      grind (arith, common_steps, nat_tests, tests_told, arcs-end, arcs-one, arcs-condition, member-only, nat_eq, some-cons, some-none)
 
   -- no arc leads to a Begin, none of a condition to itself
-  not_entered : (u t : ℕ) → u < size c → has_arc_to c u t ≡ true → is c 0 t ≡ true → ⊥
-  not_entered u t l e b = (arc-end c s u t l (leads-arc u t l e)).entered (of-kind 0 t b)
+  not-entered : (u t : ℕ) → u < size c → has_arc_to c u t ≡ true → is c 0 t ≡ true → ⊥
+  not-entered u t l e b = (arc-end c s u t l (leads-arc u t l e)).entered (of-kind 0 t b)
 
   no-circle : (v : ℕ) → v < size c → is c 3 v ≡ true → has_arc_to c v v ≡ true → ⊥
   no-circle v l k e =
@@ -116,8 +106,8 @@ module _ (c : Chart) (p : Plain c) where
   pub not-barred : (v : ℕ) → v < size c → is_barred_node c v ≡ false
   unfolding is_barred_node
   not-barred v l = or-none (is_repeat c v) (any (is_clash c v) 0 (v + 1))
-      (refuted (is_repeat c v) (λ e. grind (arith, common_steps, any-some, or-cases, and-r, and-l, of-kind, one_end, no-circle)))
-      (refuted (any (is_clash c v) 0 (v + 1)) (λ e. grind (arith, common_steps, any-some, or-cases, and-r, and-l, not_entered)))
+      (refuted (is_repeat c v) (λ e. grind (arith, common_steps, any-some, or-cases, and-r, and-l, of-kind, one-end, no-circle)))
+      (refuted (any (is_clash c v) 0 (v + 1)) (λ e. grind (arith, common_steps, any-some, or-cases, and-r, and-l, not-entered)))
 
   pub no-second : (v : ℕ) → v < size c → has_kind c 0 v ≡ true → kind c v ≡ 0 → ⊥
   no-second v l h e = grind (arith, common_steps, any-some, of-kind, one-begin)
@@ -129,4 +119,4 @@ module _ (c : Chart) (p : Plain c) where
       (λ (l : v ≤ u). l) (split u v)
 
   pub needed : (v : ℕ) → v < size c → size c - v ≤ missing_ends c v → 2 ≤ kind c v → ⊥
-  needed v l m k = grind (arith, common_steps, the-begin, the_end, above)
+  needed v l m k = grind (arith, common_steps, the-begin, the-end, above)

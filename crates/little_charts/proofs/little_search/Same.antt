@@ -1,5 +1,6 @@
 -- The search finds just the little charts, in their order.
-use Rattle.std.proofs.Common.{if◌then◌else◌, ℕ, zero, suc, ◌+◌, ◌*◌, ◌-◌, ◌≤◌, ◌<◌, Bool, true, false, ◌&&◌, ◌≡◌, refl, sym, ◌∙◌, ap, ap₂, nat_lt, nat_le, ◌==◌, slice_index, flat_map, filter}
+use Rattle.std.proofs.Common.{if◌then◌else◌, ℕ, zero, suc, ◌+◌, ◌*◌, ◌-◌, ◌≤◌, ◌<◌, Bool, true, false, ◌&&◌, ◌≡◌, refl, sym, ◌∙◌, ap, ap₂}
+use Rattle.std.proofs.Common.{nat_lt, nat_le, ◌==◌, slice_index, flat_map, filter}
 use Rattle.std.proofs.Common.{subst, List, [], ◌∷◌, ◌++◌, map, append_assoc, append-nil, arith, length}
 use Rattle.std.proofs.Common.{get_or-append-add, eqb-true, leb-true, lt-ltb}
 use Rattle.std.proofs.lemmas.Grind.{common_steps}
@@ -67,8 +68,8 @@ module _ (n : ℕ) (a : 2 ≤ n) (b : n ≤ 4) where
   abbrev rs : List (List ℕ)
   rs = nodes n
 
-  made_plain : (hs : List (List ℕ)) → MadeOf rs n hs → chart_verdict (chart_of hs) ≡ fine → Plain (chart_of hs)
-  made_plain hs d v =
+  made-plain : (hs : List (List ℕ)) → MadeOf rs n hs → chart_verdict (chart_of hs) ≡ fine → Plain (chart_of hs)
+  made-plain hs d v =
       let c : Chart = chart_of hs in
       let s : size c ≡ n = chart-size hs (made-frames n a b hs d) ∙ d.count in
       record {
@@ -90,18 +91,18 @@ module _ (n : ℕ) (a : 2 ≤ n) (b : n ≤ 4) where
   abbrev Rest : List (List ℕ) → ℕ → List Chart
   Rest gs m = filter ok (map (λ fs. chart_of (gs ++ fs)) (lists_of rs m))
 
-  rest_more : (gs : List (List ℕ)) (m : ℕ) → Rest gs (suc m) ≡ flat_map (λ r. Rest (gs ++ (r ∷ [])) m) rs
+  rest-more : (gs : List (List ℕ)) (m : ℕ) → Rest gs (suc m) ≡ flat_map (λ r. Rest (gs ++ (r ∷ [])) m) rs
   unfolding lists_of
-  rest_more gs m =
+  rest-more gs m =
       filter-concat ok (λ fs. chart_of (gs ++ fs)) (λ r. map (λ fs. r ∷ fs) (lists_of rs m)) rs
       ∙ concat-each (λ r. filter ok (map (λ fs. chart_of (gs ++ fs)) (map (λ fs. r ∷ fs) (lists_of rs m)))) (λ r. Rest (gs ++ (r ∷ [])) m)
       (λ r. ap (filter ok) (map-map (λ fs. r ∷ fs) (λ fs. chart_of (gs ++ fs)) (lists_of rs m)
       ∙ map-alike (λ fs. chart_of (gs ++ (r ∷ fs))) (λ fs. chart_of ((gs ++ (r ∷ [])) ++ fs))
       (λ fs. ap chart_of (sym (append_assoc gs (r ∷ []) fs))) (lists_of rs m))) rs
 
-  refused_all : (gs : List (List ℕ)) (k m : ℕ) → k + m ≡ n → MadeOf rs k gs
+  refused-all : (gs : List (List ℕ)) (k m : ℕ) → k + m ≡ n → MadeOf rs k gs
       → ((fs : List (List ℕ)) → size (chart_of (gs ++ fs)) ≡ n → Plain (chart_of (gs ++ fs)) → ⊥) → Rest gs m ≡ []
-  refused_all gs k m e d f = filter-nothing ok (map (λ fs. chart_of (gs ++ fs)) (lists_of rs m))
+  refused-all gs k m e d f = filter-nothing ok (map (λ fs. chart_of (gs ++ fs)) (lists_of rs m))
       (all-map (λ c. ok c ≡ false) (λ fs. chart_of (gs ++ fs)) (lists_of rs m)
       (all-of (MadeOf rs m) (λ fs. ok (chart_of (gs ++ fs)) ≡ false) (λ fs q. go fs q (ok (chart_of (gs ++ fs))) refl) (lists_of rs m)
       (lists-made rs m)))
@@ -110,7 +111,7 @@ module _ (n : ℕ) (a : 2 ≤ n) (b : n ≤ 4) where
       go fs q true h =
           let x : MadeOf rs n (gs ++ fs) = subst (λ (j : ℕ). MadeOf rs j (gs ++ fs)) e (made-join rs gs fs k m d q) in
           absurd (f fs (chart-size (gs ++ fs) (made-frames n a b (gs ++ fs) x) ∙ x.count)
-          (made_plain (gs ++ fs) x (passes-fine (chart_verdict (chart_of (gs ++ fs))) h)))
+          (made-plain (gs ++ fs) x (passes-fine (chart_verdict (chart_of (gs ++ fs))) h)))
       go fs q false h = h
 
   frames-of : (gs : List (List ℕ)) → AllByRecursion (λ r. In r rs) gs → AllByRecursion Frame gs
@@ -150,26 +151,26 @@ module _ (n : ℕ) (a : 2 ≤ n) (b : n ≤ 4) where
         abbrev whole : Chart
         whole = chart_of (more ++ fs)
 
-        whole_is : whole ≡ (c ++ r) ++ chart_of fs
-        whole_is = concat-append (λ x. x) more fs ∙ ap (λ (x : Chart). x ++ chart_of fs) (chart-snoc gs r)
+        whole-is : whole ≡ (c ++ r) ++ chart_of fs
+        whole-is = concat-append (λ x. x) more fs ∙ ap (λ (x : Chart). x ++ chart_of fs) (chart-snoc gs r)
 
         more-alike : SameFields (c ++ r) whole (v + 1)
-        more-alike = grind (arith, common_steps, front-alike, more-long, whole_is)
+        more-alike = grind (arith, common_steps, front-alike, more-long, whole-is)
 
         first-alikes : SameFields c whole v
-        first-alikes = grind (arith, common_steps, front-alike, append_assoc, c-long, whole_is)
+        first-alikes = grind (arith, common_steps, front-alike, append_assoc, c-long, whole-is)
 
         kind-is : kind whole v ≡ slice_index r 0
         kind-is = grind (arith, common_steps, get_or-append-add, c-long, more-alike)
 
-      no_more : ((fs : List (List ℕ)) → size (whole fs) ≡ n → Plain (whole fs) → ⊥) → Rest more m ≡ []
-      no_more f = refused_all more (v + 1) m (omega arith) more-made f
+      no-more : ((fs : List (List ℕ)) → size (whole fs) ≡ n → Plain (whole fs) → ⊥) → Rest more m ≡ []
+      no-more f = refused-all more (v + 1) m (omega arith) more-made f
 
       low-empty : i < first_tried n c v → Rest more m ≡ []
       low-empty h = go (has_kind c 0 v) refl h
         where
           go : (t : Bool) → has_kind c 0 v ≡ t → i < (if t then n else 0) → Rest more m ≡ []
-          go true q k = no_more (λ fs s p. no-second (whole fs) p v (omega arith) (sym (has-alike c (whole fs) 0 v (first-alikes fs)) ∙ q)
+          go true q k = no-more (λ fs s p. no-second (whole fs) p v (omega arith) (sym (has-alike c (whole fs) 0 v (first-alikes fs)) ∙ q)
               (kind-is fs ∙ low-kind n i k))
           go false q k = absurd (omega arith)
 
@@ -177,14 +178,14 @@ module _ (n : ℕ) (a : 2 ≤ n) (b : n ≤ 4) where
       high-empty h = go (nat_le (n - v) (missing_ends c v)) refl h
         where
           go : (t : Bool) → nat_le (n - v) (missing_ends c v) ≡ t → (if t then n + 1 else node_count n) ≤ i → Rest more m ≡ []
-          go true q k = no_more (λ fs s p. needed (whole fs) p v (omega arith)
+          go true q k = no-more (λ fs s p. needed (whole fs) p v (omega arith)
               (let x : n - v ≤ missing_ends c v = leb-true (n - v) (missing_ends c v) q in omega
               (arith, missing-alike c (whole fs) v (first-alikes fs)))
               (subst (λ (j : ℕ). 2 ≤ j) (sym (kind-is fs)) (high-kind n i k)))
           go false q k = absurd (omega arith)
 
       barred-empty : is_barred_node (c ++ r) v ≡ true → Rest more m ≡ []
-      barred-empty q = no_more
+      barred-empty q = no-more
           (λ fs s p. no_both (is_barred_node (c ++ r) v) q
           (barred-alike (c ++ r) (whole fs) v (more-alike fs) ∙ not-barred (whole fs) p v (omega arith)))
 
@@ -211,7 +212,7 @@ module _ (n : ℕ) (a : 2 ≤ n) (b : n ≤ 4) where
         ∙ sym (concat-within rest (first_tried n c v) (past_last n c v) (node_count n) (omega (arith, low, high.0)) high.1
         (λ i x. low-empty i (omega (arith, low, high.0, high.1)) x) (λ i x y. high-empty i y x))
         ∙ sym (concat-map (λ r. Rest (gs ++ (r ∷ [])) m) (node_at n) (range 0 (node_count n)))
-        ∙ ap (flat_map (λ r. Rest (gs ++ (r ∷ [])) m)) (sym (nodes-at n a b)) ∙ sym (rest_more gs m)
+        ∙ ap (flat_map (λ r. Rest (gs ++ (r ∷ [])) m)) (sym (nodes-at n a b)) ∙ sym (rest-more gs m)
 
   leaf : (x : Chart) → (ok x ≡ true → any (is_lonely x) 0 (size x) ≡ false) → searched_charts n 0 x ≡ filter ok (x ∷ [])
   unfolding searched_charts
@@ -231,7 +232,7 @@ module _ (n : ℕ) (a : 2 ≤ n) (b : n ≤ 4) where
   searched-same zero v gs e d =
       let x : MadeOf rs n gs = subst (λ (k : ℕ). MadeOf rs k gs) (omega arith) d in
       leaf (chart_of gs) (λ q. any-none (is_lonely (chart_of gs)) 0 (size (chart_of gs))
-      (λ k l. not-lonely (chart_of gs) (made_plain gs x (passes-fine (chart_verdict (chart_of gs)) q)) (0 + k) (omega arith)))
+      (λ k l. not-lonely (chart_of gs) (made-plain gs x (passes-fine (chart_verdict (chart_of gs)) q)) (0 + k) (omega arith)))
       ∙ ap (λ (hs : List (List ℕ)). filter ok (chart_of hs ∷ [])) (sym (append-nil gs))
   searched-same (suc m) v gs e d = searched-rest gs v m e d
       (λ i l. searched-same m (v + 1) (gs ++ (node_at n i ∷ [])) (omega arith) (more-made gs v m e d i l))

@@ -1,13 +1,7 @@
 -- What the search for a chart asks and promises.
-use Rattle.std.specs.Prelude.{ℕ, ◌+◌, ◌*◌, ◌-◌, ◌≤◌, ◌<◌, Bool, ◌&&◌, not, ◌≡◌, List, [], ◌++◌, length, take, nat_lt, slice_index_or}
-use Rattle.words.specs.lists.Numbers.{any}
+use Rattle.std.specs.Prelude.{ℕ, zero, suc, ◌*◌, ◌≤◌, ◌≡◌, List, [], ◌∷◌, length, Result, Ok, Err, if◌then◌else◌, ◌==◌}
 use Rattle.text.specs.declared.frames.sizes.TheConstants.{RECORD}
 use Rattle.text.specs.frames.Frame.{size}
-use Rattle.charts.specs.Chart.{Chart}
-use Rattle.charts.specs.Check.{chart_verdict}
-use Rattle.little_charts.specs.Little.{is_fine}
-use Rattle.little_charts.specs.inner.Search.{is_lonely}
-use Rattle.little_fetch.specs.declared.little_seek.Sought.{Sought}
 
 -- records of 2 to 4 frames
 pub record FewFrames (c : List ℕ) : Type 0 where
@@ -15,22 +9,12 @@ pub record FewFrames (c : List ℕ) : Type 0 where
   pub some : 2 ≤ size c
   pub few : size c ≤ 4
 
--- by the nodes that no other leads to, and by the chart's verdict
-abbrev pub is_accepted : Chart → Bool
-is_accepted c = not (any (is_lonely c) 0 (size c)) && is_fine (chart_verdict c)
+-- of the charts found the one of a number, or how many are left to pass over
+unfoldable pub sought : List ℕ → ℕ → Result ℕ ℕ
+sought [] left = Err left
+sought (x ∷ xs) zero = Ok x
+sought (x ∷ xs) (suc left) = sought xs left
 
--- a record stands at place v after those below it
-pub record RecordPlaced (c : List ℕ) (v : ℕ) (r after : List ℕ) : Type 0 where
-  pub long : length after ≡ length c
-  pub front : take (RECORD * v + RECORD) after ≡ take (RECORD * v) c ++ r
-
--- among the charts found, the one sought by number, or fewer left to pass over
-pub record SoughtCount (found : List Chart) (left : ℕ) (r : Sought) : Type 0 where
-  pub told : r.found ≡ nat_lt left (length found)
-  pub passed : r.left ≡ left - length found
-
--- the same, and the buffer: the chart, or the records that stood before
-pub record GivesSought (found : List Chart) (front : List ℕ) (left : ℕ) (r : Sought) (after : List ℕ) : Type 0 where
-  pub counted : SoughtCount found left r
-  pub chart : left < length found → after ≡ slice_index_or found left []
-  pub kept : length found ≤ left → take (length front) after ≡ front
+-- how many little charts have n frames, 0 for n outside 2 to 4
+abbrev pub total : ℕ → ℕ
+total n = if n == 2 then 2 else if n == 3 then 18 else if n == 4 then 648 else 0

@@ -1,21 +1,14 @@
--- `little_fetch::fetching::fetch` meets its contract: the number is past the last chart, there is no room, or the text is written.
-use Rattle.std.proofs.Common.{refl}
-use Rattle.words.proofs.lists.Tests.{not-true, not-false}
-use Rattle.little_fetch.proofs.fetching.LittleChartCases.{past-last, too-short, fetched}
+use Rattle.std.proofs.Common.{arith, refl}
+use Rattle.little_fetch.proofs.fetching.LittleChartCases.{too-short, fetched}
 use Rattle.little_fetch.proofs.fetching.fetch.Goals as goal
-
-pub returns-then-not-sought : goal.returns-then-not-sought
-returns-then-not-sought c =
-    past-last _ _ _ _ c.requires c.seek-sought.auto.records c.seek-sought.ensures _
-    (not-true _ c.if-not-sought.true)
 
 pub returns-then-text-count : goal.returns-then-text-count
 returns-then-text-count c =
-    too-short _ _ _ _ c.requires c.seek-sought.auto.records c.seek-sought.ensures _
-    (not-false _ c.if-not-sought.false) _ refl c.if-text-count.true
+    let r = c.requires in
+    too-short _ _ _ r.few.some r.few.few r.low _ refl c.if-text-count.true
 
 pub returns : goal.returns
 returns c =
-    fetched _ _ _ _ c.requires c.seek-sought.auto.records c.seek-sought.ensures _
-    (not-false _ c.if-not-sought.false) _ refl c.if-text-count.false _
-    c.put_text.ensures
+    let r = c.requires in
+    fetched _ _ _ r.few.some r.few.few r.low _ c.seek_first.ensures _ c.unwrap_or-numbers.ensures _ c.unpack.ensures
+    _ refl (omega (arith, r.few.whole, c.unpack.auto.records)) c.if-text-count.false _ c.put_text.ensures
