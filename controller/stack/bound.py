@@ -19,7 +19,7 @@ DEPTHS = {
     "translator::path_text::put_forks": 17,  # likewise
     # a word fewer each, of at most 16: without conditions, where there may be more, it is not called (fillings/src/counting.rt)
     "fillings::fill_lists::tally_all": 17,
-    "little_fetch::little_seek::seek": 5,  # a place further each, of at most 4 frames
+    "little_fetch::little_seek::seek": 3,  # a place further each, from the second to the last of at most 4 frames
 }
 
 
