@@ -1,11 +1,15 @@
-// What is kept in the browser, opened and saved.
+// What is kept of this tab's work, and what was left and can be had again.
 const store = (() => {
-  const place = "fairleadow-workbench";
-  const mostEarlier = 12;
+  const mostEarlier = 30;
   const mostPlaces = 32;
+  const typed = ["names", "prices", "scenario", "feed"];
+  const examples = JSON.parse(find("example-texts").textContent);
   let earlier = [];
+  let closed = [];
   let name = "";
-  let refused = false;
+  let shownRun = "";
+  let left = [];
+  let begun = false;
 
   function named(wanted) {
     name = wanted;
@@ -13,22 +17,39 @@ const store = (() => {
     document.title = (wanted ? wanted + " – " : "") + "Fairleadow workbench";
   }
 
+  // whether all of it can be had again by an example's name or by an address
+  function isPassing(script) {
+    const untyped = ["names", "prices", "scenario"].every((id) => !find(id).value.trim()) && earlier.length === 0 && !comparison.kept();
+    const isGiven = !(script.words || script.swaps) || JSON.stringify(script) === shownRun;
+    return untyped && isGiven && Object.values(examples).includes(chart.field.value);
+  }
+
   function keep() {
-    const kept = { name, text: chart.field.value, accepted: chart.acceptedText(), prices: find("prices").value, scenario: find("scenario").value, held: run.held(), shown: run.shown(), earlier, ...run.script() };
-    try {
-      localStorage.setItem(place, JSON.stringify(kept));
-      refused = false;
-    } catch (error) {
-      // long runs may be too much for a browser: the text comes first
-      try {
-        localStorage.setItem(place, JSON.stringify({ ...kept, words: "", swaps: "", earlier: [] }));
-      } catch (again) {
-        refused = true;
-      }
-    }
-    find("kept-where").textContent = refused
-      ? "This browser keeps nothing for this page: save the chart before the page is closed. Nothing leaves this machine."
-      : "The text and the run are kept in this browser as they are changed, and found here again; nothing leaves this machine.";
+    if (!begun) return;
+    const script = run.script();
+    const fields = Object.fromEntries(typed.map((id) => [id, find(id).value]));
+    const text = chart.field.value;
+    // the chart before a slip, where there is one
+    const accepted = chart.acceptedText() === text ? "" : chart.acceptedText();
+    const work = { name, text, accepted, ...fields, held: run.held(), shown: run.shown(), earlier, comparison: comparison.kept(), ...script, passing: isPassing(script) };
+    const before = left;
+    left = works.keep(work);
+    tellKept();
+    if (String(left) !== String(before) && !isKept()) say(find("kept-where").textContent);
+  }
+
+  const isKept = () => left !== null && left.length === 0;
+
+  // what is true of it now
+  function tellKept() {
+    const clock = (time) => time.toLocaleTimeString();
+    const [rest, ask] = ["is kept in this browser and found here again", "save what is needed of it before the page is closed"];
+    let words = "The text and the run are kept in this browser as they are changed, those of each tab by themselves, and found here again";
+    if (left === null && works.since()) words = "This browser has no more room: what was changed after " + clock(works.since()) + " is not kept; " + ask;
+    else if (left === null) words = "What is done here is not kept in this browser: save the chart before the page is closed";
+    else if (left.length) words = "Not kept, as this browser has no room for it: " + left.join(", and ") + "; " + ask + ". The rest " + rest;
+    find("kept-where").textContent = words + ". Nothing leaves this machine.";
+    find("kept-where").className = isKept() ? "soft" : "alarm";
   }
 
   let waiting = 0;
@@ -37,217 +58,167 @@ const store = (() => {
     waiting = setTimeout(keep, 250);
   }
 
-  // what was kept; parts of it that are damaged are passed over, and that is told in a line
-  const kinds = { name: "string", text: "string", accepted: "string", prices: "string", scenario: "string", words: "string", swaps: "string", held: "number", shown: "number", places: "number" };
-  function found() {
-    let kept = null;
-    let damaged = false;
-    try {
-      kept = JSON.parse(localStorage.getItem(place));
-    } catch (error) {
-      damaged = error instanceof SyntaxError;
-    }
-    const parts = Object.entries(kept ?? {});
-    const sound = Object.fromEntries(parts.filter(([part, value]) => typeof value === kinds[part]));
-    const items = Array.isArray(kept?.earlier) ? kept.earlier : [];
-    sound.earlier = items.filter((one) => typeof one?.text === "string" && typeof one.name === "string");
-    const others = parts.filter(([part]) => part in kinds && !(part in sound));
-    damaged ||= others.length > 0 || sound.earlier.length < items.length || (kept !== null && sound.text === undefined);
-    if (damaged) unable("What this browser kept of the page is damaged: what cannot be read of it is passed over.");
-    return sound.text === undefined ? null : { name: "", prices: "", held: 0, shown: -1, places: mostPlaces, words: "", swaps: "", ...sound };
-  }
-
-  // the text that is left can be had again
-  function leave(left, text, title, field) {
-    if (left.trim() && left !== text) {
-      earlier = [{ name: title, text: left, field }, ...earlier.filter((one) => one.text !== left)].slice(0, mostEarlier);
+  // a text that is left for another can be had again; an example can be had by its name
+  function leave(id, before, text) {
+    const isExample = id === "text" && Object.values(examples).includes(before);
+    if (before.trim() && before !== text && !isExample) {
+      const title = id === "text" ? name : id;
+      earlier = [{ name: title, text: before, field: id }, ...earlier.filter((one) => one.text !== before)].slice(0, mostEarlier);
     }
     list();
   }
+
+  // so can one of which more than half went at once, as it does where all is marked and a letter typed
+  function most(before, text) {
+    const common = Math.min(before.length, text.length);
+    let [start, end] = [0, 0];
+    while (start < common && before[start] === text[start]) start += 1;
+    while (end < common - start && before.at(-1 - end) === text.at(-1 - end)) end += 1;
+    return before.trim().length > 20 && 2 * (start + end) < before.length;
+  }
+  ["text", "names", "prices", "scenario"].forEach((id) => {
+    let before = "";
+    find(id).addEventListener("beforeinput", () => {
+      before = find(id).value;
+    });
+    find(id).addEventListener("input", () => {
+      if (most(before, find(id).value)) leave(id, before, find(id).value);
+      before = "";
+    });
+  });
+
   function replace(wanted, text) {
-    leave(chart.field.value, text, name, "text");
+    leave("text", chart.field.value, text);
     named(wanted);
     chart.field.value = text;
     if (chart.check()) run.remade();
     keep();
   }
 
+  // texts that this tab left, and works that no open tab has
   function list() {
-    const titles = earlier.map(({ name, text }, at) => new Option((name || "untitled") + ": " + text.slice(0, 40).replace(/\s+/g, " "), String(at)));
-    find("earlier").replaceChildren(new Option("texts", ""), ...titles);
+    const title = ({ name, text }) => (name || "untitled") + ": " + text.slice(0, 40).replace(/\s+/g, " ");
+    const group = (label, some, value) => {
+      const one = made("optgroup", undefined, { label });
+      one.append(...some.map((each, at) => new Option(title(each), value(each, at))));
+      return some.length ? [one] : [];
+    };
+    find("earlier").replaceChildren(new Option("texts", ""), ...group("left in this tab", earlier, (_, at) => String(at)), ...group("works of closed tabs", closed, ({ from }) => from));
   }
-
-  // a scenario is run on the chart that is there
-  function rehearse(text) {
-    leave(find("scenario").value, text, "scenario", "scenario");
-    find("scenario").value = text;
-    run.play();
-    find("played").scrollIntoView({ block: "nearest" });
-    keep();
-  }
-
-  // a file that is no text is told of, and the text stays
-  async function open(file) {
-    let bytes;
-    try {
-      // one that is too long is told by its first bytes
-      bytes = new Uint8Array(await file.slice(0, bench.ask("longest") + 1).arrayBuffer());
-    } catch (error) {
-      say(file.name + ": the file cannot be read");
-      return;
-    }
-    bench.give(bytes);
-    const readable = bench.ask("readable");
-    if (!readable.done) {
-      unable(file.name + ": " + readable.text);
-      return;
-    }
-    unable("");
-    if (bench.ask("holds_scenario")) {
-      rehearse(new TextDecoder().decode(bytes));
-      return;
-    }
-    const told = bench.ask("words_of").text;
-    replace(file.name, new TextDecoder("utf-8", { ignoreBOM: true }).decode(bytes));
-    // an editor changes what cannot be seen, ends of lines above all: what is to be said of the file itself is said
-    if (told !== find("checked").textContent) unable("As it stands in the file, " + file.name + ": " + told);
-    say(file.name + " is open: " + find("checked").textContent.split("\n")[0]);
-  }
-
-  function unable(words) {
-    find("unable").hidden = words === "";
-    find("unable").textContent = words;
-  }
-
-  function download(file, content, type) {
-    const link = made("a", undefined, { download: file, href: URL.createObjectURL(new Blob([content], { type })) });
-    link.click();
-    setTimeout(() => URL.revokeObjectURL(link.href), 10000);
-    say(file + " is saved where the browser puts what is saved.");
-  }
-
-  // the drawing by itself, with the style that it has here
-  function picture() {
-    const rules = Array.from(document.styleSheets[0].cssRules, (rule) => rule.cssText).filter((rule) => rule.startsWith("svg"));
-    const svg = find("sheet").querySelector("svg").cloneNode(true);
-    svg.querySelectorAll("[tabindex]").forEach((one) => ["tabindex", "role", "aria-label"].forEach((attribute) => one.removeAttribute(attribute)));
-    const style = document.createElementNS(svg.namespaceURI, "style");
-    style.textContent = rules.join("\n");
-    svg.prepend(style);
-    return new XMLSerializer().serializeToString(svg);
-  }
-
-  function save(what) {
-    const stem = (name || "chart").replace(/\.[^.]*$/, "");
-    if (what === "text") return download(name || "chart.txt", chart.field.value, "text/plain");
-    if (chart.accepted() === null) return say("There is no accepted chart or image to save.");
-    if (what === "picture") return download(stem + ".svg", picture(), "image/svg+xml");
-    if (what === "words") return download(stem + ".words", bench.text("words").split(",").join("\n") + "\n", "text/plain");
-    const scenario = { scenario: 0, expecting: 1 }[what];
-    bench.give(name || "chart");
-    const told = scenario === undefined ? bench.ask(what) : bench.ask("scenario", scenario);
-    const laid_out = chart.accepted().place === "label" ? ".list.txt" : ".notation.txt";
-    const ending = { lines: ".chart", image: ".image", laid_out, report: ".trace.txt", vcd: ".vcd" }[what] ?? ".scenario";
-    return told.done ? download(stem + ending, told.text, "text/plain") : say(told.text);
-  }
-
-  // an arrow key opens the list, where it would choose the first of it at once
-  const opens = (event) => {
-    if (event.key !== "ArrowDown" && event.key !== "ArrowUp") return;
-    try {
-      event.target.showPicker();
-      event.preventDefault();
-    } catch (error) {
-      // a browser that cannot open it does what it does
-    }
-  };
-  const picked = (id, act) => {
-    find(id).addEventListener("keydown", opens);
-    find(id).addEventListener("change", (event) => {
-      const value = event.target.value;
-      event.target.value = "";
-      if (value !== "") act(value);
+  function listClosed() {
+    return works.closed().then((some) => {
+      closed = some;
+      list();
     });
-  };
-  const examples = JSON.parse(find("example-texts").textContent);
-  find("examples").append(...Object.keys(examples).map((one) => new Option(one, one)));
-  picked("examples", (one) => {
-    unable("");
-    replace(one, examples[one]);
-    run.fresh(mostPlaces);
-  });
-  picked("earlier", (at) => {
-    const { name, text, field } = earlier[Number(at)];
-    unable("");
-    if (field === "scenario") rehearse(text);
-    else replace(name, text);
-  });
-  picked("save", save);
-  find("open").addEventListener("click", () => find("file").click());
-  find("file").addEventListener("change", (event) => {
-    if (event.target.files[0]) open(event.target.files[0]);
-    event.target.value = "";
-  });
-  find("print").addEventListener("click", () => window.print());
-  // a file is opened wherever it is dropped; a text that is dragged goes where it is dropped
-  const isFile = (event) => event.dataTransfer.types.includes("Files");
-  document.addEventListener("dragover", (event) => isFile(event) && event.preventDefault());
-  document.addEventListener("drop", (event) => {
-    if (!isFile(event)) return;
-    event.preventDefault();
-    const [first, ...others] = event.dataTransfer.files;
-    if (first) open(first).then(() => others.length && say(find("said").textContent + " One file is opened at a time: the others were left."));
-  });
-  window.addEventListener("hashchange", () => {
-    unable("");
-    follow();
-  });
-  window.addEventListener("pagehide", keep);
-  window.addEventListener("beforeunload", (event) => {
-    keep();
-    if (refused && chart.field.value.trim()) event.preventDefault();
-  });
-  run.onChange(soon);
-  ["prices", "scenario"].forEach((id) => find(id).addEventListener("input", soon));
+  }
 
-  // the page as it was left, or the first example
-  function begin() {
-    const kept = found();
+  function again(which) {
+    alarm.close();
+    const one = earlier[Number(which)];
+    if (one) return take(one.field ?? "text", one.name, one.text);
+    keep();
+    if (!isKept()) return say("This work is not kept whole: save it, or what is not kept of it is lost.");
+    return works.turn(which);
+  }
+
+  // a text goes where it belongs: a scenario is run on the chart that is there, a chart gives an image names, and prices make a bill
+  function take(id, title, text) {
+    if (id === "text") return replace(title, text);
+    leave(id, find(id).value, text);
+    find(id).value = text;
+    if (id === "prices") {
+      find(id).dispatchEvent(new Event("input", { bubbles: true }));
+    } else if (id === "names") {
+      chart.name();
+      if (chart.check()) run.remade();
+      find("named").scrollIntoView({ block: "nearest" });
+    } else {
+      run.play();
+      find("played").scrollIntoView({ block: "nearest" });
+    }
+    return keep();
+  }
+
+  // the text before a slip is had back, and the slip can be had again
+  find("before").addEventListener("click", () => {
+    replace(name, chart.acceptedText());
+    chart.field.focus();
+  });
+
+  function example(wanted) {
+    replace(wanted, examples[wanted]);
+    run.fresh(mostPlaces);
+  }
+
+  // the page as this tab left it, or as a closed one did, or the first example; what an address shows waits for nothing that was kept
+  async function begin() {
+    const [came] = performance.getEntriesByType("navigation");
+    // a page that is loaded again, or come back to, goes on as it was left, whatever its address
+    const addressed = (!came || came.type === "navigate") && asked().get("example") !== null;
+    if (addressed) lay(null);
+    const found = await works.begin(addressed);
+    if (!addressed) lay(found);
+    begun = true;
+    chart.field.readOnly = false;
+    keep();
+    await listClosed();
+  }
+  function lay(found) {
+    const kept = found?.readable ? found : null;
     const first = Object.keys(examples)[0];
     earlier = kept ? kept.earlier : [];
     list();
     named(kept ? kept.name : first);
-    find("prices").value = kept ? kept.prices : "";
-    find("scenario").value = kept?.scenario ?? "";
-    if (kept) run.hold(kept.held);
+    if (kept?.comparison) comparison.restore(kept.comparison);
+    if (kept) {
+      typed.forEach((id) => {
+        find(id).value = kept[id];
+      });
+      run.hold(kept.held);
+    }
+    chart.name();
     // of a text that is not accepted the chart before the slip comes first
-    for (const text of kept ? [kept.accepted, kept.text] : [examples[first]]) {
-      chart.field.value = text || "";
+    for (const text of kept ? [kept.accepted, kept.text].slice(kept.accepted ? 0 : 1) : [examples[first]]) {
+      chart.field.value = text;
       chart.check();
     }
     run.remade();
-    if (kept && (kept.words || kept.swaps || kept.places)) {
-      run.restore({ words: kept.words, swaps: kept.swaps, places: kept.places }, kept.shown);
-    }
+    if (kept) run.restore({ words: kept.words, swaps: kept.swaps, places: kept.places }, kept.shown);
     run.show(run.shown());
-    // a page that is loaded again, or come back to, goes on as it was left, whatever its address
-    const [came] = performance.getEntriesByType("navigation");
-    if (!kept || !came || came.type === "navigate") follow();
+    if (found?.damaged) alarm.show("What this browser kept of the page is damaged: what cannot be read of it is passed over.");
+    else if (found?.left.length) alarm.show("When this page was closed this browser had no room for all of it. Not kept: " + found.left.join(", and ") + ".");
+    if (!kept) follow();
   }
 
   // an address that ends with #example=bore.txt&words=bore*3,-&places=2&tick=2 shows that; in it a + joins names, and is no space
+  const asked = () => new URLSearchParams(location.hash.slice(1).replaceAll("+", "%2B"));
   function follow() {
-    const asked = new URLSearchParams(location.hash.slice(1).replaceAll("+", "%2B"));
-    const example = asked.get("example");
-    if (example === null) return;
-    if (!Object.hasOwn(examples, example)) return unable("The address: there is no example " + example);
-    replace(example, examples[example]);
-    run.fresh(Math.trunc(Number(asked.get("places") ?? mostPlaces)) || 0);
-    const words = asked.get("words");
+    const wanted = asked().get("example");
+    if (wanted === null) return;
+    if (!Object.hasOwn(examples, wanted)) return alarm.show("The address: there is no example " + wanted);
+    replace(wanted, examples[wanted]);
+    run.fresh(Math.trunc(Number(asked().get("places") ?? mostPlaces)) || 0);
+    const words = asked().get("words");
     const wrong = words ? run.feed(words) : undefined;
-    if (wrong !== undefined) unable("The words of the address: " + wrong);
-    const tick = parseInt(asked.get("tick"), 10);
+    if (wrong !== undefined) alarm.show("The words of the address: " + wrong);
+    const tick = parseInt(asked().get("tick"), 10);
     if (!Number.isNaN(tick)) run.show(tick);
+    shownRun = JSON.stringify(run.script());
   }
-  return { begin, open, save, soon };
+  window.addEventListener("hashchange", () => {
+    alarm.close();
+    follow();
+  });
+
+  // a tab that was closed just now may have its lock a moment longer
+  window.addEventListener("focus", () => setTimeout(listClosed, 300));
+  find("earlier").addEventListener("pointerenter", listClosed);
+  window.addEventListener("pagehide", keep);
+  window.addEventListener("beforeunload", (event) => {
+    keep();
+    if (!isKept() && chart.field.value.trim()) event.preventDefault();
+  });
+  run.onChange(soon);
+  typed.forEach((id) => find(id).addEventListener("input", soon));
+  return { begin, soon, take, again, example, examples, name: () => name };
 })();

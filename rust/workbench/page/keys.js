@@ -9,14 +9,14 @@
     End: () => run.show(run.rows() - 1),
     x: () => find("anew").click(),
     n: () => find("clear").click(),
-    u: () => find("undo").click(),
-    k: keepRun,
+    u: (event) => find(event.shiftKey ? "redo" : "undo").click(),
+    k: comparison.keep,
     e: () => chart.field.focus(),
     "?": () => find("help").showModal(),
   };
 
   function control(event) {
-    const act = { o: () => find("file").click(), s: () => store.save("text"), Enter: event.target.id === "scenario" ? run.play : run.step }[event.key];
+    const act = { o: () => find("file").click(), s: () => files.save("text"), Enter: event.target.id === "scenario" ? run.play : run.step }[event.key];
     if (!act) return;
     event.preventDefault();
     act();
@@ -34,6 +34,7 @@
   document.addEventListener("keydown", (event) => {
     if (find("help").open) return;
     if (event.ctrlKey || event.metaKey) return control(event);
+    if (event.key === "Escape" && alarm.close()) return undefined;
     if (event.key === "Escape" && event.target === chart.field) return find("sheet").focus();
     if (isTyped(event.target)) return undefined;
     if (!event.shiftKey && digit(event)) return event.preventDefault();
@@ -41,19 +42,24 @@
     const key = event.key.length === 1 ? event.key.toLowerCase() : event.key;
     if (!(key in plain) && !(key in events)) return undefined;
     event.preventDefault();
-    return key in events ? run.seek(events[key], !event.shiftKey) : plain[key]();
+    return key in events ? run.seek(events[key], !event.shiftKey) : plain[key](event);
   });
   find("help-button").addEventListener("click", () => find("help").showModal());
 
   // a run of so many words is made again only when the typing rests
   const manyWords = 2000;
   let resting = 0;
-  chart.field.addEventListener("input", () => {
+  function typed() {
     clearTimeout(resting);
     const accepted = guarded(chart.check);
     if (accepted && run.rows() > manyWords) resting = setTimeout(run.remade, 400);
     else if (accepted) run.remade();
     store.soon();
+  }
+  chart.field.addEventListener("input", typed);
+  find("names").addEventListener("input", () => {
+    guarded(chart.name);
+    typed();
   });
 
   // a call that fails within the module: a new module takes its place, and nothing typed is lost
@@ -68,11 +74,11 @@
   }
   function failed(error) {
     bench.again();
+    chart.name();
     internal(error, "The text is kept; the run was begun anew.");
   }
   function internal(error, left) {
-    find("unable").hidden = false;
-    find("unable").textContent = "internal error: " + error.message + "\n  look for: nothing in the chart: tell the makers of this program. " + left;
+    alarm.show("internal error: " + error.message + "\n  look for: nothing in the chart: tell the makers of this program. " + left);
   }
   window.addEventListener("error", (event) => {
     if (!(event.error instanceof WebAssembly.RuntimeError)) return;
@@ -82,7 +88,7 @@
 
   try {
     if (typeof WebAssembly !== "object") throw new Error("there is none");
-    bench.begin(store.begin, cannot);
+    bench.begin(() => store.begin().catch(cannot), cannot);
   } catch (error) {
     cannot(error);
   }
@@ -91,7 +97,6 @@
   function cannot(error) {
     const lacks = typeof WebAssembly !== "object" || [WebAssembly.CompileError, WebAssembly.LinkError, RangeError].some((kind) => error instanceof kind);
     if (!lacks) return internal(error, "The text is kept.");
-    find("unable").hidden = false;
-    return find("unable").textContent = "This page needs a browser with WebAssembly, which this one does not run (" + error.message + "). Chromium, Firefox and Safari of the last years do.";
+    return alarm.forever("This page needs a browser with WebAssembly, which this one does not run (" + error.message + "). Chromium, Firefox and Safari of the last years do.");
   }
 })();

@@ -59,3 +59,71 @@ function made(kind, content, attributes = {}) {
 function say(words) {
   find("said").textContent = words;
 }
+
+// words, or what the module says of a fault. In the line that this quotes the place is marked: the mark below it, which is there for who copies
+// the words, would stand elsewhere where the line is wrapped
+function tell(one, told, before = "") {
+  const words = before + (told.problem ?? told);
+  if (!told.excerpt || !told.column) {
+    one.textContent = words;
+    return;
+  }
+  const start = before + told.sentence + "\n    ";
+  const line = Array.from(told.excerpt);
+  const rest = words.slice(start.length + told.excerpt.length);
+  const [below] = rest.match(/^\n *\^/);
+  one.replaceChildren(start + line.slice(0, told.column - 1).join(""), made("mark", line[told.column - 1] ?? ""));
+  one.append(line.slice(told.column).join(""), made("span", below, { class: "below" }), rest.slice(below.length));
+}
+
+// what went wrong, until it is put away or somebody types on; without a browser that can do it, it stays
+const alarm = (() => {
+  let stays = false;
+
+  function show(told, before = "") {
+    find("unable").hidden = false;
+    find("unable-close").hidden = stays;
+    tell(find("fault"), told, before);
+    // wherever the page was scrolled to
+    find("unable").scrollIntoView({ block: "nearest" });
+  }
+
+  function forever(words) {
+    stays = true;
+    show(words);
+  }
+
+  // whether there was one that could be put away
+  function close() {
+    const box = find("unable");
+    if (box.hidden || stays) return false;
+    const within = box.contains(document.activeElement);
+    box.hidden = true;
+    find("fault").textContent = "";
+    if (within) find("sheet").focus();
+    return true;
+  }
+
+  find("unable-close").addEventListener("click", close);
+  document.addEventListener("input", (event) => event.target.matches("textarea") && close(), true);
+  return { show, forever, close };
+})();
+
+// of the many things of a part one is in the order of the tab key, and from it arrows lead up and down to the others
+function reached(part, things, one) {
+  part.querySelectorAll(things + "[tabindex='0']").forEach((other) => other.setAttribute("tabindex", "-1"));
+  (one ?? part.querySelector(things))?.setAttribute("tabindex", "0");
+}
+function reaches(part, things) {
+  part.addEventListener("keydown", (event) => {
+    const by = { ArrowDown: 1, ArrowUp: -1 }[event.key];
+    const from = event.target.closest(things);
+    if (!by || !from) return;
+    event.preventDefault();
+    const all = Array.from(part.querySelectorAll(things));
+    const to = all[all.indexOf(from) + by];
+    if (!to) return;
+    reached(part, things, to);
+    to.focus();
+  });
+}

@@ -7,7 +7,7 @@ const run = (() => {
   let restored = "";
   const none = 0xffffffff;
   let changes = 0;
-  const undone = [];
+  const [before, after] = [[], []];
   const changed = [];
 
   // a condition that is held stays so for a chart that tests it; in the word is what has a button
@@ -35,10 +35,17 @@ const run = (() => {
     if (!exists()) say(state.problem);
   }
 
+  // the run that a change leaves can be had again, and so can the one that is left for it then
   function remember(left = script()) {
-    undone.push(left);
-    if (undone.length > 50) undone.shift();
-    find("undo").disabled = false;
+    before.push(left);
+    if (before.length > 50) before.shift();
+    after.length = 0;
+    offer();
+  }
+
+  function offer() {
+    find("undo").disabled = before.length === 0;
+    find("redo").disabled = after.length === 0;
   }
 
   function buttons() {
@@ -81,9 +88,10 @@ const run = (() => {
     return state.refusal !== null;
   }
 
-  // a new tick by the conditions, at the end of the run
+  // a new tick by the conditions, at the end of the run, or many
   function tick(times = 1) {
     if (!exists() || ended()) return;
+    if (times > 1) remember();
     take(bench.ask("tick", word(), times));
     once = 0;
     buttons();
@@ -132,11 +140,12 @@ const run = (() => {
       return one;
     };
     if (exists() && shown === rows() - 1 && state.node) mark(state.node, "next");
-    if (!told) return;
+    if (!told) return reached(sheet, ".node");
     told.waiting.forEach((id) => mark(id, "open"));
     told.taken.forEach((id) => mark(id, "now"));
     if (told.served && group(told.served.from) && group(told.served.to)) lead(told.served);
     const node = mark(told.node, "lit");
+    reached(sheet, ".node", node);
     if (node) {
       node.classList.remove("open", "next");
       bring(node);
@@ -153,8 +162,8 @@ const run = (() => {
   }
 
   // the tick itself is told above; of one that takes no row its sentence is enough
-  function reason({ done, text }) {
-    const [first, ...others] = text.split("\n");
+  function reason({ done, text, problem }) {
+    const [first, ...others] = (text ?? problem).split("\n");
     return done ? others.join("\n") : first.replace(/^tick [^:]*: /, "");
   }
 
@@ -235,10 +244,23 @@ const run = (() => {
     show(ticks - 1);
   }
 
-  function undo() {
-    const script = undone.pop();
-    find("undo").disabled = undone.length === 0;
-    if (script) restore(script);
+  function turn(from, to) {
+    const wanted = from.pop();
+    if (!wanted) return;
+    to.push(script());
+    offer();
+    restore(wanted);
+  }
+  const undo = () => turn(before, after);
+  const redo = () => turn(after, before);
+
+  // a change that the module may turn back: the run before it is remembered where it does not
+  function change(name, ...values) {
+    const left = script();
+    const answer = bench.ask(name, ...values);
+    take(answer);
+    if (answer.problem === undefined) remember(left);
+    return answer.problem === undefined;
   }
 
   function restore(script, wanted = Infinity) {
@@ -259,12 +281,13 @@ const run = (() => {
 
   // words after those that were run, by numbers or names; what is wrong with them is returned
   function feed(words, times = 0) {
-    const left = rows();
+    const [left, count] = [script(), rows()];
     bench.give(words);
     const answer = bench.ask("feed", times);
     take(answer);
+    if (rows() > count) remember(left);
     show(rows() - 1, answer.problem === undefined);
-    if (exists() && answer.problem === undefined && rows() === left) ended();
+    if (exists() && answer.problem === undefined && rows() === count) ended();
     return answer.problem;
   }
 
@@ -274,7 +297,7 @@ const run = (() => {
     bench.give(find("scenario").value);
     const answer = bench.ask("play");
     const words = answer.problem ?? answer.told;
-    find("played").textContent = words;
+    tell(find("played"), answer.problem === undefined ? words : answer);
     find("played").className = answer.passed ? "passed" : "refused";
     if (answer.problem === undefined) {
       remember(left);
@@ -314,6 +337,7 @@ const run = (() => {
   find("anew").addEventListener("click", () => cut(shown + 1));
   find("clear").addEventListener("click", () => cut(0));
   find("undo").addEventListener("click", undo);
+  find("redo").addEventListener("click", redo);
   find("many").addEventListener("click", () => tick(Math.max(1, Math.trunc(Number(find("times").value)) || 1)));
   find("fed").addEventListener("click", () => feed(find("feed").value.trim(), Math.max(0, Math.trunc(Number(find("feed-times").value)) || 0)));
   find("play").addEventListener("click", play);
@@ -324,10 +348,13 @@ const run = (() => {
     if (!exists()) say(state.problem);
   });
   find("swap").addEventListener("click", () => {
-    const answer = bench.ask("swap", Number(find("number").value), Number(find("server").value));
-    take(answer);
-    if (answer.problem === undefined) show(rows() - 1);
+    if (change("swap", Number(find("number").value), Number(find("server").value))) show(rows() - 1);
   });
+  // by its place in the list of swaps; the tick that is shown stays
+  function unswap(at) {
+    if (change("unswap", at)) show(shown);
+  }
+  reaches(sheet, ".node");
   const isNode = (event) => event.target.closest("#sheet g.node");
   find("sheet").addEventListener("click", (event) => isNode(event) && nextAt(isNode(event).id));
   find("sheet").addEventListener("keydown", (event) => {
@@ -336,7 +363,7 @@ const run = (() => {
     nextAt(isNode(event).id);
   });
   return {
-    remade, show, step, tick, cut, undo, restore, fresh, feed, play, seek, press, script, rows, changes: () => changes,
+    remade, show, step, tick, cut, undo, redo, unswap, restore, fresh, feed, play, seek, press, script, rows, changes: () => changes,
     place, state: () => state, shown: () => shown, exists, held: () => held, hold: (word) => { held = word; }, onChange: (tell) => changed.push(tell),
   };
 })();

@@ -1,6 +1,7 @@
 // The text of a chart or an image: checked at each key, with its lines numbered, and drawn where it is accepted.
 const chart = (() => {
   const field = find("text");
+  const names = find("names");
   const sheet = find("sheet");
   let accepted = null;
   let acceptedText = "";
@@ -70,7 +71,7 @@ const chart = (() => {
     const answer = bench.ask("check");
     const refused = answer.problem !== undefined;
     problem = refused ? answer : null;
-    find("checked").textContent = refused ? answer.problem : answer.words;
+    tell(find("checked"), refused ? answer : answer.words);
     find("checked").className = refused ? "refused" : "";
     field.setAttribute("aria-invalid", String(refused));
     find("go").hidden = !(refused && answer.line);
@@ -79,20 +80,36 @@ const chart = (() => {
       accepted = answer.piece;
       acceptedText = field.value;
       draw(accepted.drawing);
+      tellNames(answer.named);
     }
     const stale = accepted !== null && refused;
     find("stale").hidden = !stale;
+    find("before").hidden = !stale || field.value === acceptedText;
     sheet.classList.toggle("stale", stale);
     return !refused;
   }
 
-  // the place that the problem names is selected
+  // an image takes the names of a chart, where one is given whose labels it has
+  function tellNames(named) {
+    find("naming").hidden = accepted.place !== "label";
+    const wrong = typeof named === "object";
+    tell(find("named"), wrong ? named : named ? "The image has this chart's names." : "");
+    find("named").className = wrong ? "refused" : "";
+  }
+
+  // hands the chart over that gives names, for the checks from now on
+  function name() {
+    bench.give(names.value);
+    bench.told("name");
+  }
+
+  // the place that the problem names is selected; a column counts characters
   function go() {
     if (!problem || !problem.line) return;
     const lines = field.value.split("\n");
     const line = Math.min(problem.line, lines.length) - 1;
     const start = lines.slice(0, line).join("\n").length + (line ? 1 : 0);
-    const column = Math.min((problem.column ?? 1) - 1, lines[line].length);
+    const column = Array.from(lines[line]).slice(0, (problem.column ?? 1) - 1).join("").length;
     field.focus();
     field.setSelectionRange(start + column, start + Math.max(lines[line].length, column));
     field.scrollTop = Math.max(0, (line - 4) * (field.scrollHeight / lines.length));
@@ -106,5 +123,5 @@ const chart = (() => {
     chosen = true;
     fit(event.target.checked);
   });
-  return { check, field, accepted: () => accepted, acceptedText: () => acceptedText };
+  return { check, name, field, accepted: () => accepted, acceptedText: () => acceptedText };
 })();

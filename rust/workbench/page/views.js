@@ -26,7 +26,7 @@
       part = now;
       const rows = all ? bench.ask("rows", from, to) : [];
       body.replaceChildren(...(rows.problem === undefined ? rows : []).map((cells, place) => {
-        const row = made("tr", undefined, { "data-tick": String(from + place), tabindex: "0" });
+        const row = made("tr", undefined, { "data-tick": String(from + place), tabindex: "-1" });
         if (cells[5].includes("refused (")) row.className = "refused";
         row.append(...cells.map((cell) => made("td", cell)));
         return row;
@@ -37,6 +37,7 @@
     before?.classList.remove("current");
     before?.removeAttribute("aria-current");
     const row = body.querySelector("[data-tick='" + at + "']");
+    reached(find("ticks"), "tbody tr", row);
     if (!row) return;
     row.classList.add("current");
     row.setAttribute("aria-current", "true");
@@ -77,10 +78,14 @@
       return;
     }
     bench.give(find("prices").value);
-    const { done, text } = bench.ask("bill");
+    const told = bench.ask("bill");
+    if (!told.done) {
+      tell(find("bill"), told);
+      return;
+    }
     // the lines of the table stay whole, the sentences below it are wrapped
-    const below = done ? text.indexOf("\n\n") : 0;
-    find("bill").replaceChildren(made("span", text.slice(0, below), { class: "columns" }), text.slice(below));
+    const below = told.text.indexOf("\n\n");
+    find("bill").replaceChildren(made("span", told.text.slice(0, below), { class: "columns" }), told.text.slice(below));
   }
 
   function compare() {
@@ -100,8 +105,19 @@
     left.left.forEach((id) => svg.querySelector("#" + id)?.classList.add("never"));
   }
 
+  // each can be taken back by itself
   function swaps() {
-    find("swaps").textContent = run.exists() ? run.state().swapped : "";
+    const all = run.exists() ? run.state().swapped : [];
+    find("swaps").replaceChildren(...all.map((words, at) => {
+      const item = made("li", words + " ");
+      const button = made("button", "take back", { "aria-label": "take back: " + words });
+      button.addEventListener("click", () => {
+        run.unswap(at);
+        (find("swaps").querySelectorAll("button")[at] ?? find("swap")).focus();
+      });
+      item.append(button);
+      return item;
+    }));
   }
 
   // what depends on the run alone is made again only where that has changed
@@ -119,11 +135,11 @@
   });
   find("prices").addEventListener("input", price);
   find("left").addEventListener("change", never);
-  find("keep").addEventListener("click", keepRun);
   find("ticks").addEventListener("click", (event) => {
     const row = event.target.closest("[data-tick]");
     if (row) run.show(Number(row.dataset.tick));
   });
+  reaches(find("ticks"), "tbody tr");
   find("ticks").addEventListener("keydown", (event) => {
     const row = event.target.closest("[data-tick]");
     if (!row || (event.key !== "Enter" && event.key !== " ")) return;
@@ -137,12 +153,29 @@
   window.addEventListener("afterprint", () => table());
 })();
 
-function keepRun() {
-  if (!run.exists() || !run.rows()) {
-    say("There is no run to keep.");
-    return;
+// the run that later ones are compared with, as it can be made again
+const comparison = (() => {
+  let kept = null;
+
+  function keep() {
+    if (!run.exists() || !run.rows()) return say("There is no run to keep.");
+    const told = bench.ask("keep");
+    find("compared").textContent = told.problem ?? told;
+    kept = { text: chart.acceptedText(), names: find("names").value, ...run.script() };
+    store.soon();
+    return say("This run is kept: later ones are compared with it.");
   }
-  const told = bench.ask("keep");
-  find("compared").textContent = told.problem ?? told;
-  say("This run is kept: later ones are compared with it.");
-}
+
+  // made again before all else that lies on the page is
+  function restore({ text, names, words, swaps, places }) {
+    find("names").value = names;
+    chart.name();
+    chart.field.value = text;
+    if (!chart.check()) return;
+    run.restore({ words, swaps, places });
+    if (run.exists() && run.rows()) keep();
+  }
+
+  find("keep").addEventListener("click", keep);
+  return { keep, restore, kept: () => kept };
+})();

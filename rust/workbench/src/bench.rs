@@ -5,10 +5,11 @@ use std::mem::take;
 use fairleadow::PLACES;
 use office::bill::prices::prices;
 use office::bill::Bill;
-use office::check::checked;
+use office::check::examined;
 use office::formats::json::Json;
 use office::kind::Kind;
 use office::names::Names;
+use office::plan::Plan;
 use office::problem::{shown_name, visible, Problem};
 use office::scenario::{is_scenario, play, Scenario};
 use office::source;
@@ -28,6 +29,8 @@ const MOST_TICKS: usize = 65_536;
 /// One bench; the page has one.
 pub struct Bench {
     piece: Option<Box<dyn Piece>>,
+    /// The chart that gives an image names, where one is given.
+    names: Option<Result<Plan, Problem>>,
     places: usize,
     words: Vec<u16>,
     swaps: Vec<Swap>,
@@ -37,17 +40,14 @@ pub struct Bench {
 
 impl Default for Bench {
     fn default() -> Bench {
-        Bench { piece: None, places: PLACES, words: Vec::new(), swaps: Vec::new(), run: None, kept: None }
+        let (words, swaps) = (Vec::new(), Vec::new());
+        Bench { piece: None, names: None, places: PLACES, words, swaps, run: None, kept: None }
     }
 }
 
 /// A refusal or a fault in words, with its place.
 fn refused(problem: &Problem) -> Json {
-    Json::Record(vec![
-        ("problem", problem.to_string().into()),
-        ("line", problem.line.into()),
-        ("column", problem.column.into()),
-    ])
+    Json::Record(told::problem(problem))
 }
 
 /// What was asked for, or the problem.
@@ -60,31 +60,64 @@ fn nothing() -> Problem {
     Problem::new("there is no accepted chart or image to run")
 }
 
+/// What `check` says of the bytes of a file.
+fn checked(bytes: &[u8], names: Option<&Plan>) -> Result<String, Problem> {
+    examined(source::not_too_long(bytes)?, names)?.told()
+}
+
 impl Bench {
-    /// Whether these bytes are an accepted chart or image, in the words of `check`. What is accepted is drawn and takes the place of what lay
-    /// on the bench, and the words are run on it when its run is asked for; of anything else that stays.
+    /// Whether these bytes are an accepted chart or image, in the words of `check`; apart from that, whether an image takes the names that
+    /// are given to it. What is accepted is drawn and takes the place of what lay on the bench, and the words are run on it when its run is
+    /// asked for; of anything else that stays.
     pub fn check(&mut self, bytes: &[u8]) -> Json {
-        answered(source::not_too_long(bytes).and_then(checked).and_then(|words| {
-            let piece = piece::read(bytes)?;
+        let naming = self.naming(bytes);
+        let names = naming.as_ref().ok().copied().flatten();
+        let read = checked(bytes, names).and_then(|words| Ok((words, piece::read(bytes, names)?)));
+        let named = match &naming {
+            Ok(names) => names.is_some().into(),
+            Err(problem) => refused(problem),
+        };
+        answered(read.map(|(words, piece)| {
             let told = told::piece(&*piece);
             (self.piece, self.run) = (Some(piece), None);
-            Ok(Json::Record(vec![("words", words.into()), ("piece", told)]))
+            Json::Record(vec![("words", words.into()), ("piece", told), ("named", named)])
         }))
+    }
+
+    /// A chart whose names an image takes from its next check on, whose labels are the chart's; no bytes are none.
+    pub fn name(&mut self, bytes: &[u8]) {
+        let read = || {
+            let plan = source::from_either(source::not_too_long(bytes)?).and_then(Plan::read)?;
+            plan.image.clone().map(|_| plan)
+        };
+        self.names = (!bytes.trim_ascii().is_empty()).then(read);
+    }
+
+    /// The chart that names an image, or why it does not. What is no sound image takes no names, and why is told by its check.
+    fn naming(&self, bytes: &[u8]) -> Result<Option<&Plan>, Problem> {
+        let Some(names) = self.names.as_ref().filter(|_| Kind::of(bytes) == Kind::Image) else {
+            return Ok(None);
+        };
+        let plan = names.as_ref().map_err(Problem::clone)?;
+        piece::named(bytes, Some(plan)).map(|_| Some(plan))
     }
 
     fn piece(&self) -> Result<&dyn Piece, Problem> {
         self.piece.as_deref().ok_or_else(nothing)
     }
 
-    /// Runs all words again from a fresh state.
-    fn again(&mut self) {
-        let (words, swaps) = (&self.words, &self.swaps);
+    /// All words run from a fresh state, with these swaps.
+    fn run_with(&self, swaps: &[Swap]) -> Option<Result<Box<dyn Run>, Problem>> {
         let run = |piece: &dyn Piece| {
             let mut run = piece.begin(self.places)?;
-            words.iter().try_for_each(|word| run.tick(*word, swaps))?;
+            self.words.iter().try_for_each(|word| run.tick(*word, swaps))?;
             Ok(run)
         };
-        self.run = self.piece.as_deref().map(run);
+        self.piece.as_deref().map(run)
+    }
+
+    fn again(&mut self) {
+        self.run = self.run_with(&self.swaps);
     }
 
     /// The run of what lies there.
@@ -109,7 +142,7 @@ impl Bench {
             let told: Vec<String> = self.swaps.iter().map(told).collect();
             state.extend([
                 ("swaps", swaps.join(",").into()),
-                ("swapped", told.join("; ").into()),
+                ("swapped", told.into()),
                 ("places", self.places.into()),
             ]);
             Json::Record(state)
@@ -176,6 +209,19 @@ impl Bench {
         match made {
             Ok(swaps) => {
                 self.swaps = swaps;
+                self.state()
+            }
+            Err(problem) => refused(&problem),
+        }
+    }
+
+    /// Takes back a swap, by its place among them, and runs all words again; one without which another is refused stays.
+    pub fn unswap(&mut self, at: usize) -> Json {
+        let others = self.swaps.iter().enumerate().filter(|(own, _)| *own != at);
+        let swaps: Vec<Swap> = others.map(|(_, swap)| *swap).collect();
+        match self.run_with(&swaps).unwrap_or_else(|| Err(nothing())) {
+            Ok(run) => {
+                (self.swaps, self.run) = (swaps, Some(Ok(run)));
                 self.state()
             }
             Err(problem) => refused(&problem),
@@ -316,15 +362,15 @@ impl Bench {
     }
 
     /// What `check` says of the bytes of a file, and nothing on the bench changes.
-    pub fn words_of(bytes: &[u8]) -> Result<String, Problem> {
-        source::not_too_long(bytes).and_then(checked)
+    pub fn words_of(&self, bytes: &[u8]) -> Result<String, Problem> {
+        checked(bytes, self.naming(bytes).ok().flatten())
     }
 
     /// Why a file cannot be taken into the editor, in the words of `check`: it is too long, or no text.
     pub fn readable(bytes: &[u8]) -> Result<(), Problem> {
         match std::str::from_utf8(source::not_too_long(bytes)?) {
             Ok(text) if !text.contains('\0') => Ok(()),
-            _ => Bench::words_of(bytes).map(|_| ()),
+            _ => checked(bytes, None).map(|_| ()),
         }
     }
 }

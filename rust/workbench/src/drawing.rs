@@ -138,7 +138,7 @@ pub fn svg(sheet: &Sheet) -> String {
         let (id, class, title) = (&own.id, own.kind.class(), escaped_title(&own.title));
         // what takes ticks can be reached by the Tab key, and leads to its next tick
         let button = match own.kind.is_place() {
-            true => format!(" tabindex=\"0\" role=\"button\" aria-label=\"{title}: its next tick\""),
+            true => format!(" tabindex=\"-1\" role=\"button\" aria-label=\"{title}: its next tick\""),
             false => String::new(),
         };
         let drawn = own.shape.drawn(*place);

@@ -7,6 +7,7 @@ use office::problem::Problem;
 
 use crate::bench::Bench;
 use crate::seek::Event;
+use crate::told;
 use office::formats::json::Json;
 
 #[derive(Default)]
@@ -36,11 +37,11 @@ fn tell_json(asked: impl FnOnce(&mut Bench, &[u8]) -> Json) -> usize {
 /// A text with whether it is one, or the words of the problem.
 fn tell_text(asked: impl FnOnce(&Bench, &[u8]) -> Result<Vec<u8>, Problem>) -> usize {
     tell_json(|bench, given| {
-        let (done, text) = match asked(bench, given) {
-            Ok(text) => (true, String::from_utf8_lossy(&text).into_owned()),
-            Err(problem) => (false, problem.to_string()),
+        let (done, told) = match asked(bench, given) {
+            Ok(text) => (true, vec![("text", String::from_utf8_lossy(&text).into_owned().into())]),
+            Err(problem) => (false, told::problem(&problem)),
         };
-        Json::Record(vec![("done", done.into()), ("text", text.into())])
+        Json::Record([vec![("done", done.into())], told].concat())
     })
 }
 
@@ -69,6 +70,15 @@ pub extern "C" fn check() -> usize {
     tell_json(Bench::check)
 }
 
+/// A chart that was handed over gives an image names.
+#[unsafe(no_mangle)]
+pub extern "C" fn name() -> usize {
+    tell(|bench, given| {
+        bench.name(given);
+        Vec::new()
+    })
+}
+
 /// The most bytes of a file that is read.
 #[unsafe(no_mangle)]
 pub extern "C" fn longest() -> usize {
@@ -84,7 +94,7 @@ pub extern "C" fn readable() -> usize {
 /// What is to be said of the bytes of a file.
 #[unsafe(no_mangle)]
 pub extern "C" fn words_of() -> usize {
-    tell_text(|_, given| Bench::words_of(given).map(String::into_bytes))
+    tell_text(|bench, given| bench.words_of(given).map(String::into_bytes))
 }
 
 #[unsafe(no_mangle)]
@@ -116,6 +126,12 @@ pub extern "C" fn cut(ticks: usize) -> usize {
 #[unsafe(no_mangle)]
 pub extern "C" fn swap(number: usize, scheme: usize) -> usize {
     tell_json(|bench, _| bench.swap(number, scheme))
+}
+
+/// By its place in the list of swaps.
+#[unsafe(no_mangle)]
+pub extern "C" fn unswap(at: usize) -> usize {
+    tell_json(|bench, _| bench.unswap(at))
 }
 
 #[unsafe(no_mangle)]

@@ -107,10 +107,19 @@ pub trait Run {
     }
 }
 
-/// From the bytes of a chart or an image that `check` accepts.
-pub fn read(bytes: &[u8]) -> Result<Box<dyn Piece>, Problem> {
+/// From the bytes of a chart or an image that `check` accepts; an image takes the names of a chart, where one is given.
+pub fn read(bytes: &[u8], names: Option<&Plan>) -> Result<Box<dyn Piece>, Problem> {
     Ok(match Kind::of(bytes) {
-        Kind::Image => Box::new(image::Labels(Rc::new(Subject::without_names(Image::read(bytes.to_vec())?)))),
+        Kind::Image => Box::new(image::Labels(Rc::new(named(bytes, names)?))),
         _ => Box::new(chart::Chart(Rc::new(Plan::read(source::from_either(bytes)?)?))),
     })
+}
+
+/// An image with the names of a chart, or why its labels are not the chart's.
+pub fn named(bytes: &[u8], names: Option<&Plan>) -> Result<Subject, Problem> {
+    let image = Image::read(bytes.to_vec())?;
+    match names {
+        Some(plan) => Subject::with_names(image, plan.clone()),
+        None => Ok(Subject::without_names(image)),
+    }
 }

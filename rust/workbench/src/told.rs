@@ -3,11 +3,24 @@
 use fairleadow::PLACES;
 use office::formats::json::Json;
 use office::names::Names;
+use office::problem::Problem;
 use office::trace::swaps::Swap;
 use office::verdicts::Held;
 
 use crate::drawing::svg;
 use crate::piece::{Piece, Run, Served};
+
+/// A refusal or a fault in the words of the commands, with its place, and apart the sentence that they begin with and the line that they
+/// quote then.
+pub fn problem(problem: &Problem) -> Vec<(&'static str, Json)> {
+    vec![
+        ("problem", problem.to_string().into()),
+        ("line", problem.line.into()),
+        ("column", problem.column.into()),
+        ("sentence", problem.words.as_str().into()),
+        ("excerpt", problem.excerpt.as_deref().into()),
+    ]
+}
 
 /// A number with its name.
 fn named(number: u8, name: String) -> Json {

@@ -33,7 +33,7 @@ impl Piece for Labels {
     }
 
     fn plan(&self) -> Option<&Plan> {
-        None
+        self.0.plan()
     }
 
     fn image(&self) -> Result<&Image, Problem> {

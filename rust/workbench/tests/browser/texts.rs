@@ -41,7 +41,8 @@ pub fn command(arguments: &[&str], input: &[u8]) -> (bool, String, String) {
         .stderr(Stdio::piped())
         .spawn()
         .unwrap_or_else(|error| panic!("{}: {error}", program.display()));
-    child.stdin.take().expect("a pipe").write_all(input).expect("the program reads");
+    // one that is refused before it is read ends without
+    let _ = child.stdin.take().expect("a pipe").write_all(input);
     let output = child.wait_with_output().expect("it ends");
     let text = |bytes: Vec<u8>| String::from_utf8(bytes).expect("text");
     (output.status.success(), text(output.stdout), text(output.stderr))
@@ -56,15 +57,24 @@ pub fn prices() -> String {
 }
 
 /// A text with what `check` says of it, and where it is run what `trace` prints below its heading, what `why` says of a tick, and what is to
-/// pay by `bill`.
-fn asked(name: String, bytes: &[u8], words: &str, places: usize) -> Json {
-    let (accepted, printed, said) = command(&["check", "-"], bytes);
+/// pay by `bill`; of an image with the names of a chart, where one is given.
+fn asked(name: String, bytes: &[u8], names: Option<&[u8]>, words: &str, places: usize) -> Json {
+    let chart = Path::new(env!("CARGO_TARGET_TMPDIR")).join("workbench.names");
+    fs::write(&chart, names.unwrap_or_default()).expect("a folder that can be written");
+    let chart = chart.display().to_string();
+    let naming = if names.is_some() { vec!["--names", &chart] } else { Vec::new() };
+    let (accepted, printed, said) = command(&[&["check", "-"], &naming[..]].concat(), bytes);
     let checked = if accepted { printed } else { said };
-    let checked = checked.strip_prefix("standard input: ").expect("the name stands first").trim_end();
+    // what is wrong with the chart that names is said of that
+    let checked = ["standard input", &chart]
+        .iter()
+        .find_map(|name| checked.strip_prefix(name))
+        .expect("a name stands first");
+    let checked = checked.trim_start_matches(": ").trim_end();
     let number = places.to_string();
-    let (_, traced, _) = command(&["trace", "-", "--words", words, "--places", &number], bytes);
+    let run = [&["--words", words, "--places", &number], &naming[..]].concat();
+    let (_, traced, _) = command(&[&["trace", "-"], &run[..]].concat(), bytes);
     let traced = traced.split_once("\n\n").map(|(_, report)| report.trim_end().to_string());
-    let run = ["--words", words, "--places", &number];
     let reason = traced.is_some().then(|| {
         let (done, printed, said) = command(&[&["why", "-", "--tick", ASKED], &run[..]].concat(), bytes);
         let told = if done { printed } else { said };
@@ -80,6 +90,7 @@ fn asked(name: String, bytes: &[u8], words: &str, places: usize) -> Json {
     Json::Record(vec![
         ("name", name.into()),
         ("bytes", base64(bytes).into()),
+        ("names", names.map(|names| String::from_utf8_lossy(names).into_owned()).into()),
         ("checked", checked.into()),
         ("words", words.into()),
         ("places", places.into()),
@@ -129,14 +140,38 @@ pub fn texts() -> Vec<Json> {
     texts.push(("a row with another result".to_string(), lines.concat().into_bytes()));
     texts.extend(odd().map(|(name, text)| (name.to_string(), text)));
     let words = "0,1,2,4,8,16,32,65535,0,4,4,4,0,0,8,8,1,0,0,0,43690,21845,0,0,0,0,0";
-    let asked = |(at, (name, text)): (usize, (String, Vec<u8>))| asked(name, &text, words, 1 + at % 4);
-    let texts: Vec<Json> = texts.into_iter().enumerate().map(asked).collect();
+    let told = |(at, (name, text)): (usize, (String, Vec<u8>))| asked(name, &text, None, words, 1 + at % 4);
+    let mut texts: Vec<Json> = texts.into_iter().enumerate().map(told).collect();
+    let named = |(at, (image, chart)): (usize, (Vec<u8>, Vec<u8>))| {
+        asked(format!("image {at} with names"), &image, Some(&chart), words, 1 + at % 4)
+    };
+    texts.extend(images_with_names().into_iter().enumerate().map(named));
     // each refusal of a chart, of an image and of a run is among them
     let told = Json::from(texts.clone()).to_string();
     for number in (1..=13).chain([17, 19]) {
         assert!(told.contains(&format!("refusal {number}: ")), "no text is refused with {number}");
     }
     texts
+}
+
+/// Images, each with a chart that is to give it names: its own, that of another, one that is refused, and what is none.
+fn images_with_names() -> Vec<(Vec<u8>, Vec<u8>)> {
+    let charts = ["bore", "roughing", "full_stack", "two_blocks", "swapped", "branches", "home"];
+    let read = |name: &str| fs::read(Path::new(TOP).join("examples").join(name)).expect("an example");
+    let image = |chart: &[u8]| command(&["translate", "-"], chart).1.into_bytes();
+    let own = charts.map(|name| read(&format!("{name}.txt"))).map(|chart| (image(&chart), chart));
+    let patched = read("patched/roughing.image");
+    let forbids = [&read("roughing.txt")[..], b"never spindle with feed\n"].concat();
+    let others = [
+        (patched.clone(), read("roughing.txt")),
+        (patched.clone(), forbids),
+        (patched.clone(), read("roughing.chart")),
+        (read("bore.image"), read("roughing.txt")),
+        (patched.clone(), b"scheme 1\nbegin -> nowhere\nend\n".to_vec()),
+        (patched.clone(), read("bore.image")),
+        (patched[..100].to_vec(), read("roughing.txt")),
+    ];
+    own.into_iter().chain(others).collect()
 }
 
 /// Scenarios with what `test` says of each on an example chart, and with the scenario that `trace` writes of its run.
@@ -189,13 +224,13 @@ fn odd() -> [(&'static str, Vec<u8>); 8] {
 
 /// These files, with what is said of each.
 pub fn files() -> Vec<Json> {
-    odd().into_iter().map(|(name, text)| asked(name.to_string(), &text, "0", 1)).collect()
+    odd().into_iter().map(|(name, text)| asked(name.to_string(), &text, None, "0", 1)).collect()
 }
 
 /// The digits of base 64.
-const DIGITS: &[u8; 64] = b"ABCDEFGHIJKLMNOPQRSTUVWXYZabcdefghijklmnopqrstuvwxyz0123456789+/";
+pub const DIGITS: &[u8; 64] = b"ABCDEFGHIJKLMNOPQRSTUVWXYZabcdefghijklmnopqrstuvwxyz0123456789+/";
 
-fn base64(bytes: &[u8]) -> String {
+pub fn base64(bytes: &[u8]) -> String {
     let mut text = String::new();
     for three in bytes.chunks(3) {
         let number =
