@@ -5,7 +5,7 @@ use std::cell::RefCell;
 use std::hint::black_box;
 use std::rc::Rc;
 
-use comparison::samples;
+use comparison::samples::{self, words};
 use fast::{Fast, Kept};
 use proved::{c, IMAGE_TEXT, SPINDLES, TABLE};
 use reference::entry::{self, translated};
@@ -14,7 +14,7 @@ use reference::live::Held;
 use reference::{fresh_state, Library, State};
 
 use crate::measure::{Call, Line};
-use crate::texts::{charts, words};
+use crate::texts::charts;
 
 /// An image with what is made of it, the runs to measure and the ticks: by name, each from its state by its word.
 struct Input {

@@ -7,9 +7,11 @@
 mod fillings;
 mod little;
 mod live;
+#[path = "../measure/mod.rs"]
 mod measure;
 mod prices;
 mod rows;
+mod table;
 mod texts;
 
 use std::env;
@@ -42,6 +44,6 @@ fn main() {
         if number > 0 {
             println!();
         }
-        measure::print_table(number, sides, lines(), wanted);
+        table::print_table(number, sides, lines(), wanted);
     }
 }

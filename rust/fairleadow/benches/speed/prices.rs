@@ -4,7 +4,7 @@ use std::cell::RefCell;
 use std::hint::black_box;
 use std::rc::Rc;
 
-use comparison::samples;
+use comparison::samples::{self, words};
 use fast::Fast;
 use proved::Proved;
 use reference::entry::{image_from_text, translated};
@@ -12,7 +12,7 @@ use reference::frames::text_of;
 use reference::{fresh_state, Answer, Library, Prices, State};
 
 use crate::measure::{Call, Line};
-use crate::texts::{charts, words};
+use crate::texts::charts;
 
 /// How many words a run has.
 const WORDS: usize = 65_536;

@@ -5,7 +5,7 @@ use std::cell::RefCell;
 use std::hint::black_box;
 use std::rc::Rc;
 
-use comparison::samples;
+use comparison::samples::{self, words};
 use fast::run_on;
 use proved::Proved;
 use reference::entry::translated;
@@ -13,7 +13,6 @@ use reference::frames::{text_of, Frame};
 use reference::{fresh_state, Answer, Library, State};
 
 use crate::measure::{Call, Line};
-use crate::texts::words;
 
 /// How many words a run has.
 const WORDS: usize = 65_536;
