@@ -23,9 +23,20 @@
  *    places          6,784   cause          13,496   live_rebind       296
  *    check_image    13,352   list_rows      13,416   live_spin         576
  *    fresh             136   minimise       14,728   meaning           136
- *    run            13,504   little_chart    1,584   dry_run        20,160
+ *    run            13,504   little_chart      752   dry_run        20,160
  *    priced_run     13,648   count_fillings 18,240   version           136
  *    check_table       264   sum               136
+ * On a controller at 16 MHz the calls of a machine's loop take no longer than this, on a Cortex-M3, on a Cortex-M0 whose products take one
+ * cycle, and where they take 32; beside each bound the longest that was found (controller/README.md says what a bound means):
+ *    at most and found, in milliseconds
+ *    prepare                                114.74    88.96   222.61   171.61   261.52   190.61
+ *    live_tick                                4.71     4.32    10.06     9.22    14.14    13.26
+ *    live_tick, on any bytes                  5.89     5.42    12.55    11.27    17.69    16.36
+ *    live_run of 64 words                   287.44   243.16   621.78   543.04   878.29   797.74
+ *    live_run of 64 words, on any bytes     362.79   322.11   781.21   694.88  1105.42  1016.91
+ *    live_rebind                              0.19     0.14     0.30     0.25     0.37     0.31
+ *    live_spin                                4.83     4.38    10.40     9.33    14.48    13.37
+ *    live_spin, on any bytes                  6.00     5.48    12.89    11.38    18.03    16.47
  */
 #ifndef FAIRLEADOW_H
 #define FAIRLEADOW_H
@@ -38,7 +49,7 @@
 #define FAIRLEADOW_VERSION 3
 
 /* The release that this header is of, whose middle number is the version (CHANGELOG.md). */
-#define FAIRLEADOW_RELEASE "0.3.0"
+#define FAIRLEADOW_RELEASE "0.3.1"
 
 #ifdef __cplusplus
 extern "C" {
