@@ -7,3 +7,4 @@ pub mod CoverCases
 pub mod LoopCases
 pub mod Tables
 pub mod Chains
+pub mod Sharing

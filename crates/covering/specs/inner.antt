@@ -1,2 +1,3 @@
 pub mod CoveringContracts
 pub mod Sizes
+pub mod Sharing

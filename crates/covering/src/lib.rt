@@ -1,5 +1,5 @@
 //! Whether each word and bit match just one row of each label from 2 up: refusal 23. Words are not tried: no two rows of a label can match
-//! together, and for each bit the numbers of words that its rows match sum up to 65,536.
+//! together (`pairs`, in `blocks`), and for each bit the numbers of words that its rows match sum up to 65,536.
 #![tactic(auto)]
 
 ghost use Rattle.std.specs.Prelude.{◌≡◌, ◌||◌, ◌-◌, ◌≤◌, ◌<◌, find, ◌==◌};
@@ -7,58 +7,19 @@ ghost use Rattle.std.specs.List.{range_with_len};
 ghost use Rattle.text.specs.declared.frames.sizes.TheConstants.{ROWS};
 ghost use Rattle.text.specs.frames.Frame.{size};
 ghost use Rattle.image.specs.Decode.{decoded_image, row_in_frame};
-ghost use Rattle.covering.specs.Matched.{is_together, is_uneven};
+ghost use Rattle.covering.specs.Matched.{is_uneven};
 ghost use Rattle.covering.specs.Common.{TogetherCommon, CommonTogether};
-ghost use Rattle.covering.specs.inner.CoveringContracts.{SoundTable, row_with, is_together_with_some, has_any_together};
+ghost use Rattle.covering.specs.inner.CoveringContracts.{SoundTable};
 ghost use Rattle.covering.specs.inner.CoveringContracts.{words_with, words_in, has_uneven_rows, is_other};
 
+pub mod blocks;
+mod pairs;
+
+use crate::blocks::any_together;
+pub use crate::pairs::are_together;
 use image::layout::*;
 use image::{byte, pair, rows_from};
 use text::frames::sizes::FRAME;
-
-// Whether some word and bit match the row in frame g and one with this care mask, these values and this function bit.
-fn meets(table: &[u8], g: usize, care: u16, values: u16, bit: u8) -> bool
-    requires { g < size table.now }
-    ensures { result ≡ is_together (row_with care values bit) (row_in_frame table.now g) }
-{
-    let mine = values & pair(table, g, CARE);
-    let other = pair(table, g, VALUES) & care;
-    let second = byte(table, g, FUNCTION_BIT);
-    mine == other && (bit == NO_BIT || second == NO_BIT || bit == second)
-}
-
-/// Whether some word and bit match the rows in frames f and g of a table: by their care masks, values and function bits alone.
-pub fn are_together(table: &[u8], f: usize, g: usize) -> bool
-    requires first_inside { f < size table.now }
-    requires second_inside { g < size table.now }
-    ensures { result ≡ is_together (row_in_frame table.now f) (row_in_frame table.now g) }
-{
-    let care = pair(table, f, CARE);
-    let values = pair(table, f, VALUES);
-    let bit = byte(table, f, FUNCTION_BIT);
-    meets(table, g, care, values, bit)
-}
-
-// Whether some word and bit match the row in frame f and one in the frames from first up to it.
-fn meets_before(table: &[u8], first: usize, f: usize) -> bool
-    requires in_order { first ≤ f }
-    requires inside { f < size table.now }
-    ensures { result ≡ is_together_with_some table.now (row_in_frame table.now f) first (f - first) }
-{
-    let care = pair(table, f, CARE);
-    let values = pair(table, f, VALUES);
-    let bit = byte(table, f, FUNCTION_BIT);
-    (first..f).any(|g| meets(table, g, care, values, bit))
-}
-
-// Whether some word and bit match two of the rows in frames from first up to end.
-fn any_together(table: &[u8], first: usize, end: usize) -> bool
-    requires in_order { first ≤ end }
-    requires inside { end ≤ size table.now }
-    ensures { result ≡ has_any_together table.now first (end - first) }
-{
-    (first..end).any(|f| meets_before(table, first, f))
-}
 
 // Whether a row with this function bit may match with the bit.
 fn suits(only: u8, bit: u8) -> bool

@@ -2,7 +2,6 @@
 use Rattle.std.proofs.Common.{ℕ, zero, suc, ◌+◌, ◌-◌, ◌≤◌, ◌<◌, Bool, false, ◌≡◌, sym, refl, ◌∙◌, ap, ap₂, List, ◌++◌, arith, ◌==◌, slice_index}
 use Rattle.std.proofs.Common.{length, take, drop, replicate, ext_get_or, eqb-true}
 use Rattle.std.proofs.Math.Seq.{take_at, drop-append_seam}
-use Rattle.std.proofs.lemmas.Grind.{common_steps}
 use Rattle.std.specs.List.{list_any, range_with_len}
 use Rattle.words.specs.lists.Sequences.{written, over}
 use Rattle.words.proofs.lists.Tests.{not-false}
@@ -107,7 +106,7 @@ module _ (b : List ℕ) where
 
     pub rounding-all : m ≤ k → buffer ≡ over (grouping i) old
     unfolding grouping
-    rounding-all h = grind (arith, common_steps, labels-count)
+    rounding-all h = t.is ∙ ap (λ (j : ℕ). over (classes i j) old) (omega (arith, t.done, t.count, labels-count b))
 
   -- the grouping, read from such a buffer
   pub group-classed : (old buffer : List ℕ) → buffer ≡ over (grouping i) old → length buffer ≡ 256 → Classed b (grouping i) buffer

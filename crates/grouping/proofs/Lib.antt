@@ -10,3 +10,5 @@ pub mod Labelled
 pub mod Touches
 pub mod RoundSteps
 pub mod GroupSteps
+pub mod Links
+pub mod PartedBlocks

@@ -48,6 +48,9 @@ module _ (b : List ℕ) (p : Row → Bool) (l : ℕ) (never : (m f : ℕ) → (m
       ∙ some-range p (row_on b l) (first_on b l) (end_on b l - first_on b l)
 
 -- ---- are_parted
+first-only : (b c : List ℕ) (l m : ℕ) (r : Row) (k f : ℕ) → (k ≡ m → ⊥) → is_parting c l m r (row_on b k f) ≡ false
+first-only b c l m r k f h = grind (arith, common_steps)
+
 module _ (b c : List ℕ) (x : Even b) (l m : ℕ) (al : 2 ≤ l) (hl : l ≤ last_label b) (am : 2 ≤ m) (hm : m ≤ last_label b) where
   -- one row of each
   rows-part : (f g : ℕ) → first_on b l ≤ f → f < end_on b l → first_on b m ≤ g → g < end_on b m
@@ -68,9 +71,6 @@ module _ (b c : List ℕ) (x : Even b) (l m : ℕ) (al : 2 ≤ l) (hl : l ≤ la
       turned false true = refl
       turned false false = refl
 
-  first-only : (r : Row) → (k f : ℕ) → (k ≡ m → ⊥) → is_parting c l m r (row_on b k f) ≡ false
-  first-only r k f h = grind (arith, common_steps)
-
   second-only : (k f : ℕ) → (k ≡ l → ⊥) → list_any (is_parting c l m (row_on b k f)) (table_image b).rows ≡ false
   second-only k f h = some-never (is_parting c l m (row_on b k f)) (table_image b).rows (λ r.
       ap (λ (t : Bool). t && r.from == m && is_together (row_on b k f) r && not (class_of c (field b f 7) == class_of c r.next))
@@ -82,7 +82,7 @@ module _ (b c : List ℕ) (x : Even b) (l m : ℕ) (al : 2 ≤ l) (hl : l ≤ la
       some-own b (λ r. list_any (is_parting c l m r) (table_image b).rows) l second-only al hl
       ∙ any-alike (λ f. list_any (is_parting c l m (row_on b l f)) (table_image b).rows) (λ f. is_parting_any b c f (first_on b m) (end_on b m))
       (first_on b l) (end_on b l - first_on b l) (λ f u v.
-      some-own b (is_parting c l m (row_on b l f)) m (first-only (row_on b l f)) am hm
+      some-own b (is_parting c l m (row_on b l f)) m (first-only b c l m (row_on b l f)) am hm
       ∙ any-alike (λ g. is_parting c l m (row_on b l f) (row_on b m g)) (is_parting_in b c f) (first_on b m) (end_on b m - first_on b m)
       (λ g w z.
       rows-part f g u (omega arith) w (omega arith))

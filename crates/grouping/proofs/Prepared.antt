@@ -1,11 +1,9 @@
 -- The table of an accepted image to which 23 does not apply is one that labels are grouped on.
-use Rattle.std.proofs.Common.{ℕ, ◌+◌, ◌-◌, ◌%◌, ◌≤◌, ◌<◌, false, ◌≡◌, sym, ◌∙◌, ap, subst, List, map, arith, length, slice_index, slice_index_or}
-use Rattle.std.proofs.lemmas.Grind.{common_steps}
+use Rattle.std.proofs.Common.{ℕ, ◌+◌, ◌-◌, ◌≤◌, ◌<◌, false, ◌≡◌, sym, ◌∙◌, ap, subst, List, map, arith, slice_index, slice_index_or}
 use Rattle.words.specs.lists.Numbers.{range}
 use Rattle.words.proofs.lists.Ranges.{get_or-map-range}
 use Rattle.text.specs.frames.Frame.{field, contents}
 use Rattle.text.specs.frames.Verdict.{fine}
-use Rattle.text.proofs.frames.Contents.{any-contents-length}
 use Rattle.image.specs.Image.{Row, no_row}
 use Rattle.image.specs.Decode.{last_label, decoded_image, row_in_frame}
 use Rattle.image.specs.Check.{table_verdict}
@@ -14,7 +12,7 @@ use Rattle.image.proofs.Accepted.{accepted-sound, image-table, image-bytes}
 use Rattle.tables.specs.Prepare.{first_frame, noted_table}
 use Rattle.tables.specs.Table.{first_on, end_on, row_on, rows_on}
 use Rattle.tables.proofs.Noted.{noted-last, noted-late}
-use Rattle.tables.proofs.PreparedImage.{noted-whole, first-noted, end-noted, rows-own, prepared-image}
+use Rattle.tables.proofs.PreparedImage.{first-noted, end-noted, rows-own, prepared-image}
 use Rattle.tables.proofs.Made.{MadeTable}
 use Rattle.covering.specs.Matched.{is_uneven}
 use Rattle.grouping.specs.inner.GroupingContracts.{Even}
@@ -41,15 +39,15 @@ module _ (b : List ℕ) (ok : table_verdict b ≡ fine) (bytes : (k : ℕ) → s
       ∙ ap (row_in_frame b) at')
       ∙ sym (noted-late b f 6 (omega arith) (omega arith))
 
-  pub noted-even : length b % 10 ≡ 0 → is_uneven (decoded_image b) ≡ false → Even (noted_table b)
-  noted-even h e =
+  pub noted-even : is_uneven (decoded_image b) ≡ false → Even (noted_table b)
+  noted-even e =
       let holds = prepared-image b ok bytes in
       record {
-        whole = noted-whole b ok h;
         sound = subst SoundImage (sym holds) (accepted-sound b ok bytes);
         bits = noted-bits;
         covered = ap is_uneven holds ∙ e;
       }
 
 pub made-even : (t b : List ℕ) → MadeTable t b → is_uneven (decoded_image (contents t)) ≡ false → Even b
-made-even t b made e = grind (arith, common_steps, any-contents-length, image-table, image-bytes, noted-even)
+made-even t b made e =
+    subst Even (sym made.is) (noted-even (contents t) (image-table t made.accepted) (image-bytes t made.accepted) e)

@@ -7,7 +7,7 @@ use Rattle.image.specs.Decode.{last_label}
 use Rattle.tables.specs.Table.{table_image}
 use Rattle.tables.proofs.TableReads.{labels-count}
 use Rattle.grouping.specs.Classes.{is_staying_with, classes_by, classes}
-use Rattle.grouping.specs.inner.GroupingContracts.{Even, Classed, Refined, OneMore, Marks, ClassAsked, is_class_leader}
+use Rattle.grouping.specs.inner.GroupingContracts.{Even, Classed, Refined, OneMore, is_class_leader}
 use Rattle.grouping.proofs.Representatives.{lowest_alike}
 use Rattle.grouping.proofs.TableRounds.{FillingClasses, fill-start, fill-on, fill-all, value-small, classes-long, class-low}
 use Rattle.grouping.proofs.TableRounds.{zero-alone, one-alone, next-is}
@@ -56,13 +56,8 @@ module _ (b : List ℕ) where
       inside : l ≤ last_label b
       inside = omega (arith, t.filling.is)
 
-      pub refining-asks : (marks touched : List ℕ) → Marks b buffer marks touched → ClassAsked b buffer marks touched l
-      refining-asks marks touched M = record {
-        whole = x.whole;
-        marked = M;
-        low = class-low b x t.rounds buffer t.now l t.low inside;
-        high = inside;
-      }
+      pub refining-low : 2 ≤ slice_index buffer l
+      refining-low = class-low b x t.rounds buffer t.now l t.low inside
 
       module _ (r : Option ℕ) (e : r ≡ find (is_class_leader b buffer next l) (range_with_len (slice_index buffer l) (l - slice_index buffer l)))
           (v : ℕ) (u : v ≡ unwrap_or r l) where

@@ -19,7 +19,8 @@ use Rattle.covering.specs.Matched.{is_together}
 use Rattle.covering.proofs.Chains.{lowest-chain}
 use Rattle.covering.proofs.Hits.{OneRow, one-row}
 use Rattle.grouping.specs.Classes.{class_of, is_parting, is_parted, is_staying_with, classes_by, classes}
-use Rattle.grouping.specs.inner.GroupingContracts.{Even, Classed, has_same_fields_on, is_parted_on, is_class_leader}
+use Rattle.grouping.specs.inner.GroupingContracts.{Even, Classed, is_parted_on, is_class_leader}
+use Rattle.grouping.specs.inner.Links.{first_same, FirstSame}
 use Rattle.grouping.proofs.Representatives.{lowest_alike, alike-le, lowest-own}
 use Rattle.grouping.proofs.Onward.{low-same}
 use Rattle.grouping.proofs.Rounds.{ClassRound, has_same_fields_at, same-class, rounds, stays-alike}
@@ -90,6 +91,11 @@ module _ (b : List ℕ) where
           values-all (lowest_alike alike) old 0 (m + 1) buffer l t.filled (omega arith)
           ∙ ap (λ (k : ℕ). written old 0 (map (lowest_alike alike) (range 0 k))) count ∙ written-front old (classes_by i alike)
 
+  -- label 0 alone
+  pub fill-first : (alike : ℕ → ℕ → Bool) (old : List ℕ) → length old ≡ 256 → (m : ℕ) → m < 256 → m ≡ last_label b
+      → FillingClasses alike old (set old 0 0) m 1
+  fill-first alike old h m g e = fill-on alike old old m 0 (fill-start alike old h m g e) (omega arith) 0 (omega (arith, alike-le alike 0))
+
   -- the first places of such a buffer
   pub over-classed : (c old buffer : List ℕ) → length c ≡ n → buffer ≡ over c old → length buffer ≡ 256 → Classed b c buffer
   over-classed c old buffer h e g = record {
@@ -98,13 +104,11 @@ module _ (b : List ℕ) where
   }
 
   -- ---- first_classes
-  pub first-is : (l x : ℕ) (r : Option ℕ) → r ≡ find (λ m. has_same_fields_on b m l) (range_with_len 0 l) → x ≡ unwrap_or r l
-      → x ≡ lowest_alike (has_same_fields_at i) l
-  first-is l x r e u =
-      u ∙ ap₂ unwrap_or e (let z : l ≡ 0 + l = omega arith in z) ∙ lowest-chain (λ m. has_same_fields_on b m l) 0 l ∙ same-alike l
-    where
-      same-alike : (l : ℕ) → lowest_alike (has_same_fields_on b) l ≡ lowest_alike (has_same_fields_at i) l
-      same-alike l = grind (arith, common_steps, lowest-alike, has_same_fields_at, label-at)
+  pub first-own : (l : ℕ) → first_same b l ≡ lowest_alike (has_same_fields_at i) l
+  first-own l = grind (arith, common_steps, lowest-alike, has_same_fields_at, label-at)
+
+  pub first-below : (old buffer : List ℕ) (m l : ℕ) → FillingClasses (has_same_fields_at i) old buffer m l → FirstSame b l buffer
+  first-below old buffer m l t = record { at = λ k h. t.each k h ∙ sym (first-own k) }
 
   pub first-all : (old buffer : List ℕ) (m l : ℕ) → FillingClasses (has_same_fields_at i) old buffer m l → m < l
       → buffer ≡ over (classes i 0) old

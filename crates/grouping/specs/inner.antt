@@ -1,3 +1,4 @@
 pub mod GroupingContracts
 pub mod Parts
 pub mod Touches
+pub mod Links

@@ -10,7 +10,7 @@ use crate::first_classes::first_classes;
 use crate::marking::mark_parted;
 use crate::next_classes::refine;
 use crate::parting::Round;
-use tables::{last_label, scheme_count};
+use tables::Table;
 use text::frames::put_bytes;
 use text::frames::sizes::LABELS;
 
@@ -24,21 +24,20 @@ fn differ(classes: &[u8; LABELS], next: &[u8; LABELS], n: usize) -> bool
 
 /// The grouping of labels 0 to M of a prepared table, in the first places of the buffer; those behind them stay. At most as many rounds as
 /// labels: where a round changes nothing, no later one does. The first round looks at all rows.
-pub fn group(table: &[u8], classes: &mut [u8; LABELS])
-    requires { Even table.now }
-    ensures { classes.new ≡ over (grouping (table_image table.now)) classes.old }
+pub fn group(table: Table, classes: &mut [u8; LABELS])
+    requires { Even table.bytes.now }
+    ensures { classes.new ≡ over (grouping (table_image table.entry.bytes.now)) classes.old }
 {
+    // The buffers of next classes and of kept parts have the heads of tags and the links first.
     let mut next = [0u8; LABELS];
     let mut marks = [1u8; LABELS];
     let mut touched = [1u8; LABELS];
     let mut kept = [0u8; LABELS];
-    first_classes(table, classes);
-    let schemes = scheme_count(table);
-    let n = (last_label(table) as usize) + 1;
+    first_classes(table, classes, &mut next, &mut kept);
+    let n = (table.last as usize) + 1;
     for k in 0..n {
         let round = Round {
             table,
-            schemes,
             classes,
             marks: &marks,
             touched: &touched,

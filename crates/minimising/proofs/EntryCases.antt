@@ -33,6 +33,7 @@ module _ (t : List ℕ) where
 
     pub made-prepared : ReadableTable b
     made-prepared = record {
+      whole = made.whole;
       table = made-table t b made;
       holds = made.holds ∙ sym same;
       even = λ e. made-even t b made (sym (made-uneven t b made) ∙ e);

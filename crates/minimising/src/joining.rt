@@ -10,6 +10,7 @@ ghost use Rattle.minimising.specs.joining.inner.JoiningContracts.{ReadableTable}
 use crate::group_image::write_groups;
 use covering::is_uneven;
 use grouping::refining::group;
+use tables::Table;
 use text::frames::Refusal;
 use text::frames::sizes::LABELS;
 
@@ -24,6 +25,6 @@ pub fn minimise_table(table: &[u8], out: &mut [u8]) -> Result<usize, Refusal>
         return Err(Refusal::Uneven);
     }
     let mut classes = [0u8; LABELS];
-    group(table, &mut classes);
+    group(Table::of(table), &mut classes);
     write_groups(table, &classes, out)
 }

@@ -1,3 +1,4 @@
+-- `covering::is_uneven` meets its contract: the rows of a label begin where those of the label before end.
 use Rattle.covering.proofs.LoopCases.{trying-start, end-after, end-inside}
 use Rattle.covering.proofs.LoopCases.{end-near, trying-hit, trying-on, trying-over}
 use Rattle.std.proofs.Common.{rules}

@@ -1,3 +1,4 @@
+-- `covering::masks_tell_what_matches_two_rows` meets its contract: rows that agree where both care have a word in common.
 use Rattle.covering.proofs.masks_tell_what_matches_two_rows.Goals as goal
 use Rattle.covering.proofs.Together.{rows-together-common, rows-common-together}
 

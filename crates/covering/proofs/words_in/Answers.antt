@@ -1,3 +1,4 @@
+-- `covering::words_in` meets its contract: no row has more than 65,536 words, so the sum has room.
 use Rattle.words.proofs.lists.Sums.{adding-start, adding-on}
 use Rattle.image.specs.Decode.{row_in_frame}
 use Rattle.covering.specs.inner.CoveringContracts.{words_with}

@@ -1,3 +1,4 @@
+-- `grouping::groups_are_the_fewest` meets its contract: what the image check says of an image makes its grouping such a one.
 use Rattle.grouping.proofs.groups_are_the_fewest.Goals as goal
 use Rattle.grouping.proofs.Coarsest.{groups-meet, groups-coarsest, groups-fewest}
 

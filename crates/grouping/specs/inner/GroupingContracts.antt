@@ -1,5 +1,5 @@
 -- What the functions that find the groups ask of a prepared table and promise.
-use Rattle.std.specs.Prelude.{ℕ, suc, ◌-◌, ◌≤◌, ◌<◌, Bool, true, false, ◌&&◌, ◌||◌, not, ◌≡◌, List, length, nat_le, ◌==◌, slice_index}
+use Rattle.std.specs.Prelude.{ℕ, suc, ◌-◌, ◌≤◌, ◌<◌, Bool, true, false, ◌&&◌, ◌||◌, not, ◌≡◌, List, length, nat_le, ◌==◌, slice_index, count_by}
 use Rattle.std.specs.List.{list_any, range_with_len}
 use Rattle.words.specs.lists.Sequences.{over}
 use Rattle.text.specs.declared.frames.sizes.TheConstants.{LABELS}
@@ -8,13 +8,12 @@ use Rattle.image.specs.declared.layout.TheConstants.{FUNCTION_BIT, NEXT}
 use Rattle.image.specs.Decode.{last_label, row_in_frame}
 use Rattle.image.specs.inner.Sound.{SoundImage}
 use Rattle.tables.specs.Table.{table_label, first_on, end_on, row_on, table_image}
-use Rattle.tables.specs.inner.Asked.{Whole}
 use Rattle.covering.specs.Matched.{is_uneven, is_together}
+use Rattle.grouping.specs.declared.parting.TheConstants.{MANY}
 use Rattle.grouping.specs.Classes.{has_same_fields, class_of, classes}
 
 -- a table of a sound image to which 23 does not apply, with a function bit only in the rows of a function call's label
 pub record Even (b : List ℕ) : Type 0 where
-  pub whole : Whole b
   pub sound : SoundImage (table_image b)
   pub bits : (l f : ℕ) → 2 ≤ l → l ≤ last_label b → first_on b l ≤ f → f < end_on b l → (row_on b l f).bit ≡ field b f FUNCTION_BIT
   pub covered : is_uneven (table_image b) ≡ false
@@ -49,11 +48,22 @@ is_parted_on b c m l =
 abbrev pub has_marked_next : List ℕ → List ℕ → ℕ → ℕ → Bool
 has_marked_next b marks least f = nat_le least (slice_index marks (field b f NEXT))
 
--- some row of label m that leads to such a label parts it from label l
+-- how many rows of label m lead to such labels
+abbrev pub count_marked : List ℕ → List ℕ → ℕ → ℕ → ℕ
+count_marked b marks least m = count_by (has_marked_next b marks least) (range_with_len (first_on b m) (end_on b m - first_on b m))
+
+-- label l has many rows, and many of label m lead to such labels
+abbrev pub has_many : List ℕ → List ℕ → ℕ → ℕ → ℕ → Bool
+has_many b marks least m l = nat_le MANY (end_on b l - first_on b l) && nat_le MANY (count_marked b marks least m)
+
+-- some row of label m that leads to such a label parts it from the one whose rows stand from frame first up to end
+abbrev pub is_parted_in : List ℕ → List ℕ → List ℕ → ℕ → ℕ → ℕ → ℕ → Bool
+is_parted_in b c marks least m first end =
+    list_any (λ f. has_marked_next b marks least f && is_parting_any b c f first end) (range_with_len (first_on b m) (end_on b m - first_on b m))
+
+-- and from label l
 abbrev pub is_parted_by : List ℕ → List ℕ → List ℕ → ℕ → ℕ → ℕ → Bool
-is_parted_by b c marks least m l =
-    list_any (λ f. has_marked_next b marks least f && is_parting_any b c f (first_on b l) (end_on b l))
-    (range_with_len (first_on b m) (end_on b m - first_on b m))
+is_parted_by b c marks least m l = is_parted_in b c marks least m (first_on b l) (end_on b l)
 
 -- no row of label l leads to a marked label
 abbrev pub Unmarked : List ℕ → List ℕ → ℕ → Type 0
@@ -101,13 +111,6 @@ pub record Advanced (b buffer next : List ℕ) : Type 0 where
   pub rounds : ℕ
   pub before : After b rounds buffer
   pub after : After b (suc rounds) next
-
--- what the search for the next class of label l asks: classes of labels from 2 up are from 2 up
-pub record ClassAsked (b c marks touched : List ℕ) (l : ℕ) : Type 0 where
-  pub whole : Whole b
-  pub marked : Marks b c marks touched
-  pub low : 2 ≤ slice_index c l
-  pub high : l ≤ last_label b
 
 abbrev pub has_other_class : List ℕ → List ℕ → ℕ → Bool
 has_other_class c d l = not (slice_index c l == slice_index d l)

@@ -9,6 +9,6 @@ loop-l-init c = touching-start _ _ _
 
 pub loop-l-preserved : goal.loop-l-preserved
 loop-l-preserved c =
-    touching-turn _ _ _ (omega (arith, c.told-touched, c.type_inv.table 2)) _ _ _ _ _ c.loop-l.invariant
-    (omega (arith, c.last_label-last.ensures, c.loop-l-test.true)) c.first_of-first.ensures c.end_of-end.ensures
+    touching-turn _ _ _ (omega (arith, c.told-touched, c.args.table.small 2)) _ _ _ _ _ c.loop-l.invariant
+    (omega (arith, c.args.table.last_read, c.loop-l-test.true)) c.first_of-first.ensures c.end_of-end.ensures
     (grind (arith, common_steps))

@@ -5,8 +5,8 @@ use Rattle.grouping.proofs.refining.group.Goals as goal
 
 pub loop-k-init : goal.loop-k-init
 loop-k-init c =
-    rounding-start _ (λ k. omega (arith, c.type_inv.table k)) _ _ _ _ _ (omega (arith, c.last_label.ensures)) c.first_classes.array_long
-    refl refl c.first_classes.ensures
+    rounding-start _ (λ k. omega (arith, c.args.table.small k)) _ _ _ _ _ (omega (arith, c.args.table.last_read)) c.first_classes.array_long
+    refl refl c.first_classes.ensures.first
 
 pub refine-requires-clause-refined : goal.refine-requires-clause-refined
 refine-requires-clause-refined c = record { rounds = _; now = rounding-now _ c.requires _ _ _ _ _ _ c.loop-k.invariant }
