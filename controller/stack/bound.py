@@ -79,7 +79,7 @@ def functions_of(path, frames):
             name = label.group(1) or label.group(2)
             # what stands before the first function, or after data, is of none
             lines = functions.setdefault(name, []) if name in frames else []
-        lines.append(re.sub(r"\s*(?:@ |#).*", "", line.strip()))
+        lines.append(re.sub(r"(?:\s*@ |(?:^|\s+)#).*", "", line.strip()))
     return functions
 
 

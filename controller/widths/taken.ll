@@ -28,6 +28,28 @@ define i64 @slice_in_bytes(ptr %a, i64 %length) {
   ret i64 %read
 }
 
+; a struct of a slice and numbers: made where its caller has a place for it, and copied whole by a function that is lent it
+define void @table_made(ptr %place, ptr %a, i64 %length, i8 %last) {
+  %table = alloca [24 x i8], align 8
+  %slice = alloca [16 x i8], align 8
+  store ptr %a, ptr %slice, align 8
+  %length_at = getelementptr i8, ptr %slice, i64 8
+  store i64 %length, ptr %length_at, align 8
+  call void @llvm.memmove.p0.p0.i64(ptr %table, ptr %slice, i64 16, i1 false)
+  %last_at = getelementptr i8, ptr %table, i64 16
+  store i8 %last, ptr %last_at, align 1
+  call void @llvm.memmove.p0.p0.i64(ptr %place, ptr %table, i64 24, i1 false)
+  ret void
+}
+
+define i8 @table_lent(ptr %table) {
+  %own = alloca [24 x i8], align 8
+  call void @llvm.memmove.p0.p0.i64(ptr %own, ptr %table, i64 24, i1 false)
+  %start = load ptr, ptr %own, align 8
+  %byte = load i8, ptr %start, align 1
+  ret i8 %byte
+}
+
 define { ptr, i64 } @slice_chosen(i1 %which, { ptr, i64 } %one, { ptr, i64 } %other) {
   %chosen = select i1 %which, { ptr, i64 } %one, { ptr, i64 } %other
   ret { ptr, i64 } %chosen

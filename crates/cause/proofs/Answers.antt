@@ -1,9 +1,6 @@
 -- What success of the entry point says: the image is accepted, the state fits it, and what is reported is the cause, so that the laws
 -- speak of it.
-use Prim.Native.Nat.{ℕ}
-use mathlib.Core.Bool.{Bool, true, false}
-use mathlib.Core.Path.{◌≡◌, refl}
-use mathlib.Core.List.{List}
+use Rattle.std.proofs.Common.{ℕ, Bool, true, false, ◌≡◌, refl, List}
 use Rattle.text.specs.frames.Frame.{contents}
 use Rattle.text.specs.frames.Verdict.{Verdict, fine, refused, next, when}
 use Rattle.text.specs.frames.Answer.{success}

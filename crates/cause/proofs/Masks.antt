@@ -5,8 +5,8 @@ use Rattle.std.proofs.Common.{if◌then◌else◌, ◌≡◌, sym, ◌∙◌, ap
 use Rattle.std.proofs.Common.{suc, ◌^◌, ◌%◌, ◌≤◌, ◌<◌, min, max, arith, bit_and, bit_or, length, pow_mono, eq-eqb, ne_eqb}
 use Rattle.std.proofs.Common.{eqb-true}
 use Rattle.std.proofs.Math.Nat.{div-eq_of_lt}
-use lib.Bits.{and_le_r}
-use borrow.Author.Tests.{eqb-false}
+use Rattle.std.specs.Int.Bits.{and_le_r}
+use Rattle.std.proofs.lemmas.Bool.{eqb-false}
 use Rattle.std.proofs.lemmas.Grind.{common_steps}
 use Rattle.words.specs.lists.Numbers.{lowest}
 use Rattle.words.proofs.lists.Tests.{no_both, split, cases, and-l, and-r, and-true, and-no, not-true, not-false, and-false}

@@ -5,6 +5,7 @@ ghost use Rattle.cause.specs.Cause.{explain, GivesCause};
 use crate::Cause;
 use crate::table_causes::cause_table;
 use state::State;
+use tables::Table;
 use tables::preparing::prepare_table;
 use text::frames::Refusal;
 use text::frames::sizes::{FRAME, LINE, TABLE};
@@ -16,5 +17,6 @@ pub fn cause_of(image: &[u8], state: &State, word: u16) -> Result<Cause, Refusal
     let mut table = [0u8; TABLE];
     prepare_table(image, &mut table)?;
     let n = FRAME * (image.len() / LINE);
-    cause_table(&table[..n], *state, word)
+    let prepared = Table::of(&table[..n]);
+    cause_table(&prepared, *state, word)
 }

@@ -1,12 +1,30 @@
 //! A chart run from its text to its ticks in one call: translated, and run from a fresh state.
 #![tactic(auto)]
 
+ghost use Rattle.state.specs.Kept.{view};
+ghost use Rattle.runs.specs.Run.{run};
+ghost use Rattle.runs.specs.InPlace.{GivesRunOn};
 ghost use Rattle.dry_runs.specs.DryRun.{dry_run, GivesDryRun};
 
 use runs::state_runs::run;
-use state::State;
+use state::{State, StateReport};
 use text::frames::Refusal;
 use translator::translating::translate;
+
+// The run by itself, called and not taken in: so the rooms of a translation and of a run are never on the stack at once.
+#[inline(never)]
+fn run_apart(
+    image: &[u8],
+    state: State,
+    words: &[u16],
+    masks: &mut [u32],
+    codes: &mut [u8],
+) -> StateReport
+    ensures { GivesRunOn (run image.now (view state) words.now masks.old codes.old)
+        state result.answer result.state masks.new codes.new }
+{
+    run(image, state, words, masks, codes)
+}
 
 /// Runs a chart from its text: translates it, makes a fresh state of `size` places, 1 to 32, and runs `words` from it on the image, a word
 /// of signals a tick, bit c for condition c. `image` is lent for the image's characters, 29,831 at most; `masks` and `codes` get a mask and
@@ -30,6 +48,6 @@ pub fn dry_run(
     let made = State::fresh(size);
     made.answer?;
     let written = &image[..count];
-    let report = run(written, made.state, words, masks, codes);
+    let report = run_apart(written, made.state, words, masks, codes);
     report.answer
 }

@@ -8,8 +8,11 @@ ghost use Rattle.fairleadow.specs.rebinding_for_c.Calls.{rebind_for, live_rebind
 use crate::telling::tell;
 use rebinding::in_place;
 use state::State;
+use tables::sources::{Prepared, Text};
+use text::frames::sizes::TABLE;
 
 // Number `number` is served by scheme `scheme` from then on; a refusal writes no state.
+#[tactic(auto, using(rebinding::proofs::Sourced::sourced))]
 #[unsafe(no_mangle)]
 pub extern "C" fn fairleadow_rebind(
     image: &[u8],
@@ -23,10 +26,11 @@ pub extern "C" fn fairleadow_rebind(
     ensures state { state.new ≡ (if reply_number (rebind_for image.now state.old number scheme).reply == 0
         then stored (rebind_for image.now state.old number scheme).state else state.old) }
 {
-    let answer = in_place::rebind(image, state, number, scheme);
+    let answer = in_place::rebind::<Text, TABLE>(image, state, number, scheme);
     tell(answer, at, made)
 }
 
+#[tactic(auto, using(rebinding::proofs::Sourced::sourced))]
 #[unsafe(no_mangle)]
 pub extern "C" fn fairleadow_live_rebind(
     table: &[u8],
@@ -40,6 +44,6 @@ pub extern "C" fn fairleadow_live_rebind(
     ensures state { state.new ≡ (if reply_number (live_rebind_for table.now state.old number scheme).reply == 0
         then stored (live_rebind_for table.now state.old number scheme).state else state.old) }
 {
-    let answer = in_place::live_rebind(table, state, number, scheme);
+    let answer = in_place::rebind::<Prepared, 0>(table, state, number, scheme);
     tell(answer, at, made)
 }

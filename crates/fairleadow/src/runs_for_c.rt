@@ -9,6 +9,8 @@ ghost use Rattle.fairleadow.specs.runs_for_c.Calls.{run_for, live_run_for, tick_
 use crate::telling::{tell, tell_tick};
 use runs::machine;
 use state::State;
+use tables::sources::{Prepared, Text};
+use text::frames::sizes::TABLE;
 
 #[unsafe(no_mangle)]
 pub extern "C" fn fairleadow_fresh(
@@ -25,6 +27,7 @@ pub extern "C" fn fairleadow_fresh(
     tell(done.answer, at, made)
 }
 
+#[tactic(auto, using(runs::proofs::machine::Sourced::sourced))]
 #[unsafe(no_mangle)]
 pub extern "C" fn fairleadow_run(
     image: &[u8],
@@ -41,10 +44,11 @@ pub extern "C" fn fairleadow_run(
     ensures masks { masks.new ≡ (run_for image.now state.old words.now masks.old codes.old).masks }
     ensures codes { codes.new ≡ (run_for image.now state.old words.now masks.old codes.old).codes }
 {
-    let answer = machine::run(image, state, words, masks, codes);
+    let answer = machine::run::<Text, TABLE>(image, state, words, masks, codes);
     tell(answer, at, made)
 }
 
+#[tactic(auto, using(runs::proofs::machine::Sourced::sourced))]
 #[unsafe(no_mangle)]
 pub extern "C" fn fairleadow_live_run(
     table: &[u8],
@@ -62,11 +66,12 @@ pub extern "C" fn fairleadow_live_run(
     ensures masks { masks.new ≡ (live_run_for table.now state.old words.now masks.old codes.old).masks }
     ensures codes { codes.new ≡ (live_run_for table.now state.old words.now masks.old codes.old).codes }
 {
-    let answer = machine::live_run(table, state, words, masks, codes);
+    let answer = machine::run::<Prepared, 0>(table, state, words, masks, codes);
     tell(answer, at, made)
 }
 
 // One tick; a refused one writes no mask, no code and no state.
+#[tactic(auto, using(runs::proofs::machine::Sourced::sourced))]
 #[unsafe(no_mangle)]
 pub extern "C" fn fairleadow_tick(
     image: &[u8],
@@ -85,11 +90,12 @@ pub extern "C" fn fairleadow_tick(
     ensures code { code.new ≡ if_ticked (tick_for image.now state.old word)
         (tick_for image.now state.old word).code code.old }
 {
-    let answer = machine::tick(image, state, word);
+    let answer = machine::tick::<Text, TABLE>(image, state, word);
     tell_tick(answer, mask, code, at, made)
 }
 
 // One tick on a prepared table; a refused one writes no mask, no code and no state.
+#[tactic(auto, using(runs::proofs::machine::Sourced::sourced))]
 #[unsafe(no_mangle)]
 pub extern "C" fn fairleadow_live_tick(
     table: &[u8],
@@ -108,6 +114,6 @@ pub extern "C" fn fairleadow_live_tick(
     ensures code { code.new ≡ if_ticked (live_tick_for table.now state.old word)
         (live_tick_for table.now state.old word).code code.old }
 {
-    let answer = machine::live_tick(table, state, word);
+    let answer = machine::tick::<Prepared, 0>(table, state, word);
     tell_tick(answer, mask, code, at, made)
 }

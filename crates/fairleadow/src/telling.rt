@@ -4,8 +4,8 @@ ghost use Rattle.text.specs.frames.Answer.{reply};
 ghost use Rattle.runs.specs.TickOutcome.{tick_reply, answered_mask, answered_code};
 ghost use Rattle.fairleadow.specs.telling.AnswersForC.{GivesReplyC};
 
-use runs::Tick;
 use text::frames::Refusal;
+use ticks::Tick;
 
 // Returns the number, and writes the index and the count.
 pub fn tell(answer: Result<usize, Refusal>, at: &mut usize, made: &mut usize) -> u8

@@ -1,7 +1,6 @@
 // The entry point to how often the stack fills: all lists of words, counted by how they run from a fresh state.
 ghost use Rattle.std.specs.Prelude.{false, ◌≡◌, ◌*◌, ◌≤◌};
 ghost use Rattle.tables.specs.Table.{table_image};
-ghost use Rattle.tables.specs.inner.Asked.{Whole};
 ghost use Rattle.state.specs.State.{fresh, is_bad_size};
 ghost use Rattle.state.specs.Kept.{view};
 ghost use Rattle.fillings.specs.Counts.{has_too_many_lists, count_fillings};
@@ -11,6 +10,7 @@ ghost use Rattle.fillings.specs.counting.CountingContracts.{GivesFillings};
 use crate::fill_counts::{Tally, tally_one};
 use crate::fill_lists::tally_all;
 use state::{State, bad_size};
+use tables::Table;
 use tables::preparing::prepare_table;
 use text::frames::Refusal;
 use text::frames::sizes::{FRAME, LINE, TABLE};
@@ -30,11 +30,10 @@ fn fresh_of(size: usize) -> State
 }
 
 // Words without conditions are one list, however long it is; else there are at most 16 words.
-fn tally(table: &[u8], size: usize, n: usize, k: usize) -> Tally
-    requires whole { Whole table.now }
+fn tally(table: &Table, size: usize, n: usize, k: usize) -> Tally
     requires good_size { is_bad_size size ≡ false }
     requires few_bits { n * k ≤ 16 }
-    ensures { result ≡ tally_of (table_image table.now) (fresh size) n k }
+    ensures { result ≡ tally_of (table_image table.now.bytes.now) (fresh size) n k }
 {
     let state = fresh_of(size);
     if k == 0 {
@@ -59,5 +58,6 @@ pub fn count_fillings(image: &[u8], size: usize, n: usize, k: usize) -> Result<T
         return Err(Refusal::ManyLists);
     }
     let m = FRAME * (image.len() / LINE);
-    Ok(tally(&table[..m], size, n, k))
+    let prepared = Table::of(&table[..m]);
+    Ok(tally(&prepared, size, n, k))
 }

@@ -1,13 +1,14 @@
 // How runs end, in tallies: of lists that all end alike, of two tallies together, and of one list of words on a prepared table.
-ghost use Rattle.std.specs.Prelude.{◌≡◌, ◌^◌, ◌≤◌, if◌then◌else◌};
+ghost use Rattle.std.specs.Prelude.{◌≡◌, ◌^◌, ◌≤◌, false};
 ghost use Rattle.tables.specs.Table.{table_image};
 ghost use Rattle.state.specs.Kept.{view};
-ghost use Rattle.ticks.specs.inner.TickContracts.{TickAsked};
-ghost use Rattle.fillings.specs.fill_counts.inner.TallyContracts.{tally_of, all_meet, tally_sum, FewLists};
+ghost use Rattle.fitness.specs.Fitness.{has_bad_depth};
+ghost use Rattle.fillings.specs.fill_counts.inner.TallyContracts.{tally_of, number_met_by, all_meet, tally_sum, FewLists};
 
 use runs::tick_word;
 use state::State;
-use text::frames::refusals::{FULL, NO_ROW};
+use tables::Table;
+use ticks::Stop;
 
 /// Of some lists: how many run to their end, meet 17 and meet 18.
 #[derive(Drop)]
@@ -25,23 +26,19 @@ pub fn power(k: usize) -> u32
     1 << k
 }
 
-fn only_if(here: bool, lists: u32) -> u32
-    ensures { result ≡ (if here then lists else 0) }
+/// That many lists, all of which are stopped so, or run to their end.
+pub fn all_meet(stop: Option<Stop>, lists: u32) -> Tally
+    ensures { result ≡ all_meet (number_met_by stop) lists }
 {
-    if here {
-        return lists;
-    }
-    0
-}
-
-/// That many lists, all of which meet one number; 0 stands for their end.
-pub fn all_meet(number: u8, lists: u32) -> Tally
-    ensures { result ≡ all_meet number lists }
-{
+    let (ended, full, unmatched) = match stop {
+        None => (lists, 0, 0),
+        Some(Stop::Full) => (0, lists, 0),
+        Some(Stop::NoRow) => (0, 0, lists),
+    };
     Tally {
-        ended: only_if(number == 0, lists),
-        full: only_if(number == FULL, lists),
-        unmatched: only_if(number == NO_ROW, lists),
+        ended,
+        full,
+        unmatched,
     }
 }
 
@@ -58,19 +55,17 @@ pub fn add(a: Tally, b: Tally) -> Tally
 }
 
 /// Words that all are 0: one list, tick by tick.
-pub fn tally_one(table: &[u8], start: State, n: usize) -> Tally
-    requires { TickAsked table.now (view start) }
-    ensures { result ≡ tally_of (table_image table.now) (view start) n 0 }
+pub fn tally_one(table: &Table, start: State, n: usize) -> Tally
+    requires { has_bad_depth (view start) ≡ false }
+    ensures { result ≡ tally_of (table_image table.now.bytes.now) (view start) n 0 }
 {
     let mut state = start;
     let mut left = n;
     while 0 < left {
-        let done = tick_word(table, &mut state, 0);
-        let number = done.number;
-        if number != 0 {
-            return all_meet(number, 1);
+        match tick_word(table, &mut state, 0) {
+            Ok(_) => left -= 1,
+            Err(stop) => return all_meet(Some(stop), 1),
         }
-        left -= 1;
     }
-    all_meet(0, 1)
+    all_meet(None, 1)
 }

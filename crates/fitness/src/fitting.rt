@@ -3,7 +3,6 @@ ghost use Rattle.std.specs.Prelude.{◌≡◌, ◌-◌, ◌≤◌, ◌<◌, if�
 ghost use Rattle.std.specs.Int.Bits.{bit_or};
 ghost use Rattle.words.specs.lists.Numbers.{any};
 ghost use Rattle.tables.specs.Table.{table_image};
-ghost use Rattle.tables.specs.inner.Asked.{Whole};
 ghost use Rattle.state.specs.declared.layout.TheConstants.{PLACES};
 ghost use Rattle.state.specs.State.{place_at, number_at, server_at};
 ghost use Rattle.state.specs.Kept.{view};
@@ -12,7 +11,7 @@ ghost use Rattle.fitness.specs.Fitness.{is_filled_place, is_badly_served, has_ba
 use crate::fit_places::any_unfit;
 use crate::is_misserved;
 use state::{State, bad_size};
-use tables::{handler_of, scheme_count};
+use tables::Table;
 
 // Label, number and server of place k, joined, where it lies above the depth, and 0 where it does not.
 fn place_above(state: &State, depth: usize, k: usize) -> u8
@@ -45,12 +44,12 @@ fn any_filled(state: &State) -> bool
 }
 
 // Whether some number of 2 to 16 is served by a scheme that may not serve it.
-fn any_misserved(table: &[u8], state: &State) -> bool
-    requires { Whole table.now }
-    ensures { result ≡ any (is_badly_served (table_image table.now) (view state.now)) 2 15 }
+#[tactic(auto, using(crate::proofs::fitting::ServedCases::served))]
+fn any_misserved(table: &Table, state: &State) -> bool
+    ensures { result ≡ any (is_badly_served (table_image table.now.bytes.now) (view state.now)) 2 15 }
 {
-    let schemes = scheme_count(table);
-    let handler = handler_of(table);
+    let schemes = table.schemes;
+    let handler = table.handler();
     for h in 2..17 {
         if is_misserved(schemes, handler, h, state.serving_at(h)) {
             return true;
@@ -75,9 +74,9 @@ fn bad_depth(state: &State) -> bool
 }
 
 // Refusal 15.
-pub fn is_unfit(table: &[u8], state: &State) -> bool
-    requires { Whole table.now }
-    ensures { result ≡ is_unfit (table_image table.now) (view state.now) }
+#[tactic(auto, unfolding(crate::specs::Fitness::is_unfit))]
+pub fn is_unfit(table: &Table, state: &State) -> bool
+    ensures { result ≡ is_unfit (table_image table.now.bytes.now) (view state.now) }
 {
     if bad_depth(state) {
         return true;

@@ -8,7 +8,9 @@ ghost use Rattle.prices.specs.priced_runs.InPlace.{GivesPricedRunOn};
 use crate::price_of;
 use runs::machine::run;
 use state::State;
+use tables::sources::Text;
 use text::frames::Refusal;
+use text::frames::sizes::TABLE;
 
 // What a run answers, and its price in cents: 0 with every refusal but 17 and 18.
 #[derive(Drop)]
@@ -43,7 +45,7 @@ fn refuse_many(image: &[u8], state: &State) -> Result<usize, Refusal>
     let words = [0u16; 1];
     let mut masks = [0u32; 1];
     let mut codes = [0u8; 1];
-    run(image, &mut copy, &words[..0], &mut masks, &mut codes)?;
+    run::<Text, TABLE>(image, &mut copy, &words[..0], &mut masks, &mut codes)?;
     Err(Refusal::ManyWords)
 }
 
@@ -64,7 +66,7 @@ pub fn priced_run(
         let answer = refuse_many(image, state);
         return PricedReport { answer, price: 0 };
     }
-    let answer = run(image, state, words, masks, codes);
+    let answer = run::<Text, TABLE>(image, state, words, masks, codes);
     let n = count_of(answer);
     let price = price_of(prices, &masks[..n]);
     PricedReport { answer, price }

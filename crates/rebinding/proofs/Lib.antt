@@ -3,4 +3,5 @@ pub mod Held
 pub mod Live
 pub mod RebindCases
 pub mod EntryCases
+pub mod Sourced
 pub mod Alike

@@ -2,7 +2,7 @@
 use Rattle.std.proofs.Common.{ℕ, ◌≤◌, ◌≡◌, refl, sym, ap, ap₂, ◌∙◌, Bool, true, false, List, arith, length, Ok, Err}
 use Rattle.std.proofs.lemmas.Grind.{common_steps}
 use Rattle.bindings.specs.Binding.{rebound_binding, is_bad_rebinding}
-use Rattle.text.specs.frames.Verdict.{next, when}
+use Rattle.text.specs.frames.Verdict.{fine, next, when}
 use Rattle.text.specs.frames.Answer.{Answer, refusal, reply}
 use Rattle.text.specs.declared.frames.refusals.Refusal.TheVariants.{Unfit, BadRebinding}
 use Rattle.image.specs.Decode.{scheme_count, handler_in}
@@ -13,7 +13,8 @@ use Rattle.state.specs.State.{State, StateOutcome}
 use Rattle.state.specs.Changes.{with_serving}
 use Rattle.state.specs.Kept.{view, stored}
 use Rattle.fitness.specs.Fitness.{is_unfit}
-use Rattle.rebinding.specs.Rebind.{rebind_on, table_rebind, GivesRebindingOn}
+use Rattle.rebinding.specs.Rebind.{rebind_on, GivesRebindingOn}
+use Rattle.rebinding.specs.inner.Sources.{sourced_rebind}
 
 -- a refusal hands back what it was given
 abbrev pub kept_state : ℕ → ℕ → State → StateOutcome
@@ -32,8 +33,8 @@ module _ (b : List ℕ) (before : Kept) (h k : ℕ) (t : Bool) (e : t ≡ is_unf
   abbrev answers : Bool → Bool → StateOutcome
   answers t u = rebind_on (next (when 15 t) λ _. when 22 u) s h k
 
-  pub unfit-rebinds : t ≡ true → GivesRebindingOn (table_rebind b s h k) before (Err Unfit) before
-  unfolding table_rebind
+  pub unfit-rebinds : t ≡ true → GivesRebindingOn (sourced_rebind fine (table_image b) s h k) before (Err Unfit) before
+  unfolding sourced_rebind
   unfit-rebinds q = grind (arith, common_steps)
 
   module _ (fit : t ≡ false) (u : Bool) (f : u ≡ is_bad_rebinding (scheme_count b) (handler_in b) h k) where
@@ -41,14 +42,14 @@ module _ (b : List ℕ) (before : Kept) (h k : ℕ) (t : Bool) (e : t ≡ is_unf
     unfolding table_image
     refused-by = ap (λ (n : ℕ). is_bad_rebinding n (handler_in b) h k) (entries-count b) ∙ sym f
 
-    table_is : table_rebind b s h k ≡ answers false u
-    unfolding table_rebind
+    table_is : sourced_rebind fine (table_image b) s h k ≡ answers false u
+    unfolding sourced_rebind
     table_is = ap₂ answers (sym e ∙ fit) refused-by
 
-    pub bad-rebinds : u ≡ true → GivesRebindingOn (table_rebind b s h k) before (Err BadRebinding) before
+    pub bad-rebinds : u ≡ true → GivesRebindingOn (sourced_rebind fine (table_image b) s h k) before (Err BadRebinding) before
     bad-rebinds q = grind (arith, common_steps, kept-rebinds, table_is)
 
     pub done-rebinds : u ≡ false → (bound after : Kept) → view bound ≡ with_serving s (rebound_binding h k s.serving)
         → after ≡ stored (view bound)
-        → GivesRebindingOn (table_rebind b s h k) before (Ok 0) after
+        → GivesRebindingOn (sourced_rebind fine (table_image b) s h k) before (Ok 0) after
     done-rebinds q bound after x y = rw (table_is ∙ ap (answers false) q) (record { answered = refl; state = y ∙ ap stored x })

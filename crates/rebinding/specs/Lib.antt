@@ -1,2 +1,3 @@
 pub mod Rebind
 pub mod Laws
+pub mod inner

@@ -34,10 +34,7 @@ rebind_on fine s h k = record { reply = success 0; state = rebinding h k s }
 unfoldable pub rebind : List ℕ → State → ℕ → ℕ → StateOutcome
 rebind t s h k = rebind_on (next (image_verdict t) λ _. rebind_verdict (decoded_image (contents t)) s h k) s h k
 
--- on a table whose header holds, and on any bytes as a prepared table: 11 by the header and the length alone
-unfoldable pub table_rebind : List ℕ → State → ℕ → ℕ → StateOutcome
-table_rebind b s h k = rebind_on (rebind_verdict (table_image b) s h k) s h k
-
+-- on any bytes as a prepared table: 11 by the header and the length alone
 unfoldable pub live_rebind : List ℕ → State → ℕ → ℕ → StateOutcome
 live_rebind b s h k = rebind_on (next (when BAD_HEADER (is_bad_table b)) λ _. rebind_verdict (table_image b) s h k) s h k
 

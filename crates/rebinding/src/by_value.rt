@@ -4,19 +4,23 @@ ghost use Rattle.rebinding.specs.Rebind.{rebind, live_rebind, GivesRebindingOn};
 
 use crate::in_place;
 use state::{State, StateReport};
+use tables::sources::{Prepared, Text};
+use text::frames::sizes::TABLE;
 
+#[tactic(auto, using(crate::proofs::Sourced::sourced))]
 pub fn rebind(image: &[u8], mut state: State, number: usize, scheme: usize) -> StateReport
     ensures { GivesRebindingOn (rebind image.now (view state) number scheme) state
         result.answer result.state }
 {
-    let answer = in_place::rebind(image, &mut state, number, scheme);
+    let answer = in_place::rebind::<Text, TABLE>(image, &mut state, number, scheme);
     StateReport { answer, state }
 }
 
+#[tactic(auto, using(crate::proofs::Sourced::sourced))]
 pub fn live_rebind(table: &[u8], mut state: State, number: usize, scheme: usize) -> StateReport
     ensures { GivesRebindingOn (live_rebind table.now (view state) number scheme) state
         result.answer result.state }
 {
-    let answer = in_place::live_rebind(table, &mut state, number, scheme);
+    let answer = in_place::rebind::<Prepared, 0>(table, &mut state, number, scheme);
     StateReport { answer, state }
 }

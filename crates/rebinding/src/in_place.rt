@@ -1,25 +1,25 @@
 // Rebindings in a state that the caller keeps.
-ghost use Rattle.tables.specs.inner.Asked.{Whole};
+ghost use Rattle.text.specs.frames.Verdict.{fine};
+ghost use Rattle.tables.specs.Table.{table_image};
 ghost use Rattle.state.specs.Kept.{view};
-ghost use Rattle.rebinding.specs.Rebind.{rebind, table_rebind, live_rebind, GivesRebindingOn};
+ghost use Rattle.rebinding.specs.Rebind.{GivesRebindingOn};
+ghost use Rattle.rebinding.specs.inner.Sources.{sourced_rebind};
 
 use crate::rebindable::bad_rebinding;
 use fitness::fitting::is_unfit;
 use state::State;
-use tables::preparing::prepare_table;
-use tables::{bad_table, table_length};
+use tables::Table;
+use tables::sources::Source;
 use text::frames::Refusal;
-use text::frames::sizes::{FRAME, LINE, TABLE};
 
 // A rebinding on a prepared table: 15, then 22.
 fn rebind_table(
-    table: &[u8],
+    table: &Table,
     state: &mut State,
     number: usize,
     scheme: usize,
 ) -> Result<usize, Refusal>
-    requires { Whole table.now }
-    ensures { GivesRebindingOn (table_rebind table.now (view state.old) number scheme)
+    ensures { GivesRebindingOn (sourced_rebind fine (table_image table.now.bytes.now) (view state.old) number scheme)
         state.old result state.new }
 {
     if is_unfit(table, state) {
@@ -33,35 +33,17 @@ fn rebind_table(
     Ok(0)
 }
 
-// What the image check tries, then 15 and 22.
-pub fn rebind(
-    image: &[u8],
+// What the source is refused for, then 15 and 22.
+pub fn rebind<S: Source<ROOM>, const ROOM: usize>(
+    source: &[u8],
     state: &mut State,
     number: usize,
     scheme: usize,
 ) -> Result<usize, Refusal>
-    ensures { GivesRebindingOn (rebind image.now (view state.old) number scheme)
+    ensures { GivesRebindingOn (sourced_rebind (S.verdict source.now) (S.image source.now) (view state.old) number scheme)
         state.old result state.new }
 {
-    let mut table = [0u8; TABLE];
-    prepare_table(image, &mut table)?;
-    let n = FRAME * (image.len() / LINE);
-    rebind_table(&table[..n], state, number, scheme)
-}
-
-// On a prepared table: 11, then 15 and 22.
-pub fn live_rebind(
-    table: &[u8],
-    state: &mut State,
-    number: usize,
-    scheme: usize,
-) -> Result<usize, Refusal>
-    ensures { GivesRebindingOn (live_rebind table.now (view state.old) number scheme)
-        state.old result state.new }
-{
-    if bad_table(table) {
-        return Err(Refusal::BadHeader);
-    }
-    let n = table_length(table);
-    rebind_table(&table[..n], state, number, scheme)
+    let mut room = [0u8; ROOM];
+    let table = S::table(source, &mut room)?;
+    rebind_table(&table, state, number, scheme)
 }

@@ -1,21 +1,21 @@
 -- One frame of a table as the code compares it, the better of two, the search from one frame up to another, and where the rows of a label
 -- stand.
 use Rattle.std.proofs.Common.{if◌then◌else◌, ℕ, zero, suc, ◌+◌, ◌*◌, ◌-◌, ◌≤◌, ◌<◌, Bool, true, false, ◌&&◌, ◌||◌, ◌≡◌, sym, ◌∙◌, ap, ap₂, nat_lt, ◌==◌, slice_index}
-use Rattle.std.proofs.Common.{◌⊎◌, inl, inr, List, [], ◌∷◌, map, add-one, arith, bit_and, lt-ltb, le-ltb, eq-eqb, ne_eqb}
+use Rattle.std.proofs.Common.{◌⊎◌, inl, inr, List, ◌∷◌, map, add-one, arith, bit_and, lt-ltb, le-ltb, eq-eqb, ne_eqb}
 use lib.Count.{ones}
 use Rattle.std.proofs.lemmas.Grind.{common_steps}
 use Rattle.words.specs.lists.Numbers.{range}
 use Rattle.std.proofs.lemmas.Bool.{cond-true, cond-false}
 use Rattle.words.proofs.lists.Tests.{split}
 use Rattle.text.specs.frames.Frame.{size, field}
-use Rattle.image.specs.Decode.{labels_from}
+use Rattle.image.specs.Decode.{last_label}
 use Rattle.tables.specs.Table.{first_on, end_on, row_on, rows_on, table_image}
 use Rattle.tables.specs.inner.Asked.{Whole}
-use Rattle.tables.specs.inner.Labels.{NumberedLabel}
 use Rattle.tables.proofs.Front.{end-inside}
 use Rattle.rows.specs.Rows.{is_candidate, Choice, row, no_choice, better_choice, best_row, lead_of, next_of}
 use Rattle.rows.specs.declared.TheConstants.{NO_FRAME}
-use Rattle.rows.specs.inner.Search.{swapped_word, is_matching_frame, found_at, BetterOf, chosen_frame, Chosen, Deciding}
+use Rattle.rows.specs.inner.Search.{swapped_word, is_matching_frame, found_at, BetterOf, BestFrom, chosen_frame, Chosen}
+use Rattle.rows.specs.inner.Search.{Deciding}
 use Rattle.rows.proofs.Swaps.{swap-twice, swapped-agrees}
 use Rattle.rows.proofs.ChoiceLaws.{best-nothing, best-own, best-other, better-none, better-three}
 use Rattle.rows.proofs.TableRows.{next-found, next-none}
@@ -83,13 +83,21 @@ module _ (b : List ℕ) (l w bit first end : ℕ) where
   abbrev best_from : ℕ → Choice
   best_from f = best_row l w bit f (map (row_on b l) (range f (end - f)))
 
+  -- the row in frame best, with those from frame f on, gives that choice
+  abbrev pub Reached : Choice → ℕ → ℕ → Type 0
+  Reached x f best = better_choice (found_at b l best) (best_from f) ≡ x
+
   abbrev pub Searched : ℕ → ℕ → Type 0
-  Searched f best = better_choice (found_at b l best) (best_from f) ≡ best_from first
+  Searched f best = Reached (best_from first) f best
 
-  module _ (f best : ℕ) (s : Searched f best) where
-    pub search-over : end ≤ f → first ≡ first_on b l → end ≡ end_on b l → found_at b l best ≡ best_row l w bit (first_on b l) (rows_on b l)
-    search-over h p q = grind (arith, common_steps, best-nothing, better-none)
+  pub all-searched : (x : Choice) → x ≡ best_from first → first ≡ first_on b l → end ≡ end_on b l
+      → x ≡ best_row l w bit (first_on b l) (rows_on b l)
+  all-searched x e p q = e ∙ ap₂ (λ (i j : ℕ). best_row l w bit i (map (row_on b l) (range i (j - i)))) p q
 
+  pub reached-over : {x : Choice} (f best : ℕ) → Reached x f best → end ≤ f → found_at b l best ≡ x
+  reached-over f best s h = grind (arith, common_steps, best-nothing, better-none)
+
+  module _ {x : Choice} (f best : ℕ) (s : Reached x f best) where
     -- by the test that was made of frame f
     module _ (d : Deciding b l bit) (h : f < end) (swapped : ℕ) (e : swapped ≡ swapped_word w) (small : w < 65536)
         (t : Bool) (q : t ≡ is_matching_frame b (swapped_word swapped) bit f) where
@@ -102,10 +110,10 @@ module _ (b : List ℕ) (l w bit first end : ℕ) where
       on : best_from (suc f) ≡ best_from (f + 1)
       on = ap best_from (sym (add-one f))
 
-      pub search-other : t ≡ false → Searched (f + 1) best
+      pub search-other : t ≡ false → Reached x (f + 1) best
       search-other n = grind (arith, common_steps, best-other, own, more, on)
 
-      pub search-own : t ≡ true → (r : ℕ) → BetterOf b best f r → Searched (f + 1) r
+      pub search-own : t ≡ true → (r : ℕ) → BetterOf b best f r → Reached x (f + 1) r
       search-own y r z =
           ap (λ (x : Choice). better_choice x (best_from (f + 1))) (z l)
           ∙ sym (better-three (found_at b l best) (row f (row_on b l f)) (best_from (f + 1)))
@@ -113,6 +121,30 @@ module _ (b : List ℕ) (l w bit first end : ℕ) where
           (sym (more ∙ best-own l w bit f (row_on b l f) (map (row_on b l) (range (suc f) (end - suc f))) (sym own ∙ y)
           ∙ ap (better_choice (row f (row_on b l f))) on))
           ∙ s
+
+-- several rows compared: the row in frame best, with those from frame f on, is the best of the one in frame found and those from first on
+pub record Comparing (b : List ℕ) (w bit found first end f best : ℕ) : Type 0 where
+  pub inside : best < size b
+  pub reached : (l : ℕ) → Deciding b l bit
+      → Reached b l w bit first end (better_choice (found_at b l found) (best_row l w bit first (map (row_on b l) (range first (end - first))))) f best
+
+module _ (b : List ℕ) (swapped bit found first end f best : ℕ) (s : Comparing b (swapped_word swapped) bit found first end f best)
+    (h : f < end) (small : swapped < 65536) (t : Bool) (q : t ≡ is_matching_frame b (swapped_word swapped) bit f) where
+  abbrev again : swapped ≡ swapped_word (swapped_word swapped)
+  again = sym (swap-twice swapped small)
+
+  pub comparing-other : t ≡ false → Comparing b (swapped_word swapped) bit found first end (f + 1) best
+  comparing-other n = record {
+    inside = s.inside;
+    reached = λ l d. search-other b l (swapped_word swapped) bit first end f best (s.reached l d) d h swapped again (omega arith) t q n;
+  }
+
+  pub comparing-own : t ≡ true → (r : ℕ) → BetterOf b best f r → r < size b
+      → Comparing b (swapped_word swapped) bit found first end (f + 1) r
+  comparing-own y r z inside = record {
+    inside = inside;
+    reached = λ l d. search-own b l (swapped_word swapped) bit first end f best (s.reached l d) d h swapped again (omega arith) t q y r z;
+  }
 
 -- a table has fewer frames
 pub few-frames : (b : List ℕ) → Whole b → ((k : ℕ) → slice_index b k < 256) → size b < NO_FRAME
@@ -129,13 +161,15 @@ module _ (b : List ℕ) (l w bit first end : ℕ) (d : Deciding b l bit) (p : fi
     pub one-found : (r : ℕ) → r ≡ (if is_matching_frame b w bit first then first else NO_FRAME) → Chosen b l w bit r
     one-found r z = grind (arith, common_steps, best-other, best-nothing, best-own, cond-false, cond-true, own-test, alone)
 
--- ---- several rows compared
-module _ (b : List ℕ) (l w bit best : ℕ) (is : found_at b l best ≡ best_row l w bit (first_on b l) (rows_on b l)) where
-  pub compared-some : best < size b → Chosen b l w bit best
-  compared-some h = sym (frame-named b best l h) ∙ ap chosen_frame is
-
-  pub compared-none : size b ≤ best → Chosen b l w bit NO_FRAME
-  compared-none h = sym (ap chosen_frame (past-table b best l h)) ∙ ap chosen_frame is
+-- ---- a row that matched and the rows after it compared
+pub compared : (b : List ℕ) (l w bit first end f found r swapped : ℕ) → Searched b l w bit first end f found → Deciding b l bit
+    → first ≡ first_on b l → end ≡ end_on b l → swapped ≡ swapped_word w → w < 65536
+    → BestFrom b (swapped_word swapped) bit found f end r → Chosen b l w bit r
+compared b l w bit first end f found r swapped s d p q e small x =
+    sym (frame-named b r l x.inside)
+    ∙ ap chosen_frame (all-searched b l w bit first end (found_at b l r)
+    (x.best l d ∙ ap (λ (v : ℕ). better_choice (found_at b l found) (best_row l v bit f (map (row_on b l) (range f (end - f)))))
+    (ap swapped_word e ∙ swap-twice w small) ∙ s) p q)
 
 -- ---- a choice among frames of the table is what stands in the frame that it names
 module _ (b : List ℕ) (l w bit : ℕ) (few : size b < NO_FRAME) where
@@ -169,9 +203,9 @@ pub end-within : (b : List ℕ) (l end : ℕ) → Whole b → end ≡ end_on b l
 end-within b l end x e = omega (arith, end-inside b l, x.alone)
 
 -- ---- the frame chosen holds the row that label l takes, and where it leads
-module _ (b : List ℕ) (l w bit : ℕ) (x : NumberedLabel b l) (bytes : (k : ℕ) → slice_index b k < 256) (f : ℕ) (e : Chosen b l w bit f) where
+module _ (b : List ℕ) (l w bit : ℕ) (x : Whole b) (bytes : (k : ℕ) → slice_index b k < 256) (f : ℕ) (e : Chosen b l w bit f) where
   few : size b < NO_FRAME
-  few = few-frames b x.whole bytes
+  few = few-frames b x bytes
 
   pub chosen-found : found_at b l f ≡ best_row l w bit (first_on b l) (rows_on b l)
   chosen-found = grind (arith, common_steps, held-best, end-within, few)
@@ -183,13 +217,15 @@ module _ (b : List ℕ) (l w bit : ℕ) (x : NumberedLabel b l) (bytes : (k : �
       go (inl k) = k
       go (inr k) = absurd (omega (arith, e ∙ ap chosen_frame (sym chosen-found ∙ past-table b f l k)))
 
-  pub next-taken : (n : ℕ) → n ≡ (if nat_lt f NO_FRAME then field b f 7 else 256)
+  pub next-taken : 2 ≤ l → l ≤ last_label b → (n : ℕ) → n ≡ (if nat_lt f NO_FRAME then field b f 7 else 256)
       → n ≡ next_of (lead_of (best_row l w bit 0 (table_image b).rows))
-  next-taken n q = go (split f NO_FRAME)
+  next-taken low high n q = go (split f NO_FRAME)
     where
       go : (f < NO_FRAME) ⊎ (NO_FRAME ≤ f) → n ≡ next_of (lead_of (best_row l w bit 0 (table_image b).rows))
       go (inl h) =
-          next-found b l w bit x f chosen-found n (q ∙ cond-true (nat_lt f NO_FRAME) (field b f 7) 256 (lt-ltb f NO_FRAME h)) (chosen-inside h)
+          next-found b l w bit low high f chosen-found n (q ∙ cond-true (nat_lt f NO_FRAME) (field b f 7) 256 (lt-ltb f NO_FRAME h)) (chosen-inside h)
       go (inr h) =
           q ∙ cond-false (nat_lt f NO_FRAME) (field b f 7) 256 (le-ltb f NO_FRAME h)
-          ∙ next-none b l w bit x f chosen-found (omega (arith, few))
+          ∙ next-none b l w bit low high f chosen-found (omega (arith, few))
+
+pub ruleset leading = next-taken

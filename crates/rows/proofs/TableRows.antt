@@ -12,7 +12,6 @@ use Rattle.text.specs.frames.Frame.{size, field}
 use Rattle.image.specs.Image.{Row, no_row}
 use Rattle.image.specs.Decode.{last_label}
 use Rattle.tables.specs.Table.{table_label, first_on, end_on, row_on, rows_on, table_image}
-use Rattle.tables.specs.inner.Labels.{NumberedLabel}
 use Rattle.rows.specs.Rows.{Choice, row, no_choice, better_choice, best_row, found, lead_of, next_of}
 use Rattle.rows.specs.inner.Search.{found_at}
 use Rattle.rows.proofs.ChoiceLaws.{best-nothing, best-other, better-none, best-joined, moved_by, best-moved, leads-moved, any-bit}
@@ -89,7 +88,7 @@ module _ (b : List ℕ) (l w bit : ℕ) where
   row-above h = over_none 0 2 (last_label b - 1) (λ m p q z. omega arith)
 
   -- ---- what a search among the frames of label l chose, in frame f or none
-  module _ (x : NumberedLabel b l) (f : ℕ) (e : found_at b l f ≡ best_row l w bit (first_on b l) (rows_on b l)) where
+  module _ (low : 2 ≤ l) (high : l ≤ last_label b) (f : ℕ) (e : found_at b l f ≡ best_row l w bit (first_on b l) (rows_on b l)) where
     counted : (n : ℕ) → best_row l w bit n (rows_on b l) ≡ moved_by n (best_row l w bit 0 (rows_on b l))
     counted n = ap (λ (k : ℕ). best_row l w bit k (rows_on b l)) (sym (add-zero n)) ∙ best-moved l w bit n 0 (rows_on b l)
 

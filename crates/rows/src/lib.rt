@@ -3,12 +3,11 @@
 //! of each label, and `image_rows` is the entry point to that.
 #![tactic(auto)]
 
-ghost use Rattle.std.specs.Prelude.{◌≡◌, ◌<◌};
+ghost use Rattle.std.specs.Prelude.{◌≡◌, ◌≤◌, ◌<◌};
 ghost use Rattle.text.specs.frames.Frame.{size};
-ghost use Rattle.image.specs.Decode.{scheme_count};
 ghost use Rattle.rows.specs.Choices.{ChosenIsBest, BestIsChosen, BestOnce, NoneMatches, NoneChosen};
 ghost use Rattle.rows.specs.listing.Exact.{Exactly, EmptyZero, LowZero, HeldOnSuccess, ListedFrames};
-ghost use Rattle.rows.specs.inner.Search.{swapped_word, is_matching_frame, BetterOf, Chosen, Deciding};
+ghost use Rattle.rows.specs.inner.Search.{swapped_word, is_matching_frame, BetterOf, BestFrom};
 
 pub mod image_rows;
 pub mod listing;
@@ -17,8 +16,6 @@ pub mod row_search;
 use image::layout::*;
 use image::{byte, pair};
 use tables::row_ranges::low_pair;
-pub use tables::row_ranges::{end_of, first_of};
-use text::frames::sizes::FRAME;
 
 // The number of no frame: whatever bytes its header has, a table has fewer.
 pub const NO_FRAME: usize = 131072;
@@ -32,58 +29,59 @@ pub fn swap(word: u16) -> u16
 }
 
 // Whether the row in frame f matches a word, given with its bytes swapped; bit 2 says that no bit decides.
-pub fn is_matching(table: &[u8], f: usize, swapped: u16, bit: u8) -> bool
-    requires { f < size table.now }
-    ensures { result ≡ is_matching_frame table.now (swapped_word swapped) bit f }
+pub fn is_matching(bytes: &[u8], f: usize, swapped: u16, bit: u8) -> bool
+    requires { f < size bytes.now }
+    ensures { result ≡ is_matching_frame bytes.now (swapped_word swapped) bit f }
 {
-    if swapped & low_pair(table, f, CARE) != low_pair(table, f, VALUES) {
+    if swapped & low_pair(bytes, f, CARE) != low_pair(bytes, f, VALUES) {
         return false;
     }
     if bit == NO_BIT {
         return true;
     }
-    let only = byte(table, f, FUNCTION_BIT);
+    let only = byte(bytes, f, FUNCTION_BIT);
     if only == NO_BIT {
         return true;
     }
     only == bit
 }
 
-// Of the row in frame best, none where that is past the table, and a later one in frame f: the later, unless the care mask of the first
-// has more ones.
-fn better_frame(table: &[u8], best: usize, f: usize) -> usize
-    requires { f < size table.now }
-    ensures { BetterOf table.now best f result }
+// Of the row in frame best and a later one in frame f: the later, unless the care mask of the first has more ones.
+fn better_frame(bytes: &[u8], best: usize, f: usize) -> usize
+    requires first_inside { best < size bytes.now }
+    requires later_inside { f < size bytes.now }
+    ensures better { BetterOf bytes.now best f result }
+    ensures inside { result < size bytes.now }
 {
-    if table.len() / FRAME <= best {
-        return f;
-    }
-    if u16::count_ones(pair(table, f, CARE)) < u16::count_ones(pair(table, best, CARE)) {
+    if u16::count_ones(pair(bytes, f, CARE)) < u16::count_ones(pair(bytes, best, CARE)) {
         return best;
     }
     f
 }
 
-// The frame of the row that label l takes where several match, row after row.
-pub fn compare_rows(table: &[u8], schemes: u8, l: usize, word: u16, bit: u8) -> usize
-    requires deciding { Deciding table.now l bit }
-    requires schemes_value { schemes ≡ scheme_count table.now }
-    ensures { Chosen table.now l word bit result }
+// The frame of the best of several rows: of the one in frame found, and of those that match in the frames from first up to end, which are
+// later ones.
+pub fn compare_rows(
+    bytes: &[u8],
+    found: usize,
+    first: usize,
+    end: usize,
+    swapped: u16,
+    bit: u8,
+) -> usize
+    requires inside { found < size bytes.now }
+    requires later_inside { end ≤ size bytes.now }
+    ensures { BestFrom bytes.now (swapped_word swapped) bit found first end result }
 {
-    let swapped = swap(word);
-    let end = end_of(table, schemes, l);
-    let mut frame = first_of(table, schemes, l);
-    let mut best = table.len() / FRAME;
+    let mut best = found;
+    let mut frame = first;
     while frame < end {
-        if is_matching(table, frame, swapped, bit) {
-            best = better_frame(table, best, frame);
+        if is_matching(bytes, frame, swapped, bit) {
+            best = better_frame(bytes, best, frame);
         }
         frame += 1;
     }
-    if best < table.len() / FRAME {
-        return best;
-    }
-    NO_FRAME
+    best
 }
 
 /// The row chosen among those of a label is the best-tested of those that match, of equals the later, and none where none matches.

@@ -1,30 +1,16 @@
--- What any number of ticks keeps, on any image and from any state, and the numbers that end them.
-use Rattle.std.proofs.Common.{ℕ, ◌≤◌, refl, ◌∙◌, List, [], ◌∷◌}
+-- The numbers that end any number of ticks, on any image and from any state.
+use Rattle.std.proofs.Common.{ℕ, ◌≤◌, List, [], ◌∷◌}
 use Rattle.text.specs.frames.Verdict.{Verdict, fine, refused}
 use Rattle.image.specs.Image.{Image}
 use Rattle.state.specs.State.{State}
 use Rattle.ticks.specs.Tick.{MachineTick, finished, stopped, tick}
-use Rattle.ticks.proofs.Normal.{Same, Normal, tick-normal}
+use Rattle.ticks.proofs.Normal.{Normal, tick-normal}
 use Rattle.runs.specs.Run.{run_after, ticks}
 
 -- no refusal of these numbers is one that a run tries before its first tick
 abbrev pub Late : Verdict → Type 0
 Late fine = Unit {0}
 Late (refused n j) = (17 ≤ n) × (n ≤ 18)
-
-pub ticks-same : (i : Image) (ws : List ℕ) (s : State) → Same s (ticks i s ws).state
-unfolding ticks
-ticks-same i [] s = record { size = refl; serving = refl; bits = refl; sized = λ q. q }
-ticks-same i (w ∷ ws) s = go (tick i s w) (tick-normal i s w) (ticks-same i ws)
-  where
-    go : (x : MachineTick) → Normal s x → ((t : State) → Same t (ticks i t ws).state) → Same s (run_after s (λ t. ticks i t ws) x).state
-    go (finished m k t) n ih = record {
-      size = (ih t).size ∙ n.size;
-      serving = (ih t).serving ∙ n.serving;
-      bits = (ih t).bits ∙ n.bits;
-      sized = λ q. (ih t).sized (n.sized q);
-    }
-    go (stopped k) n ih = record { size = refl; serving = refl; bits = refl; sized = λ q. q }
 
 pub ticks-late : (i : Image) (ws : List ℕ) (s : State) → Late (ticks i s ws).verdict
 unfolding ticks

@@ -1,16 +1,16 @@
 -- The answers of a run and of one tick on a table, by what their parts give.
-use Rattle.std.proofs.Common.{◌≡◌, refl, sym, ◌∙◌, ap, subst, Bool, true, false, List, [], ◌∷◌, ℕ, zero, suc, ◌≤◌, arith, nat_le, slice_index}
+use Rattle.std.proofs.Common.{◌≡◌, refl, sym, ◌∙◌, ap, Bool, true, false, List, [], ◌∷◌, ℕ, ◌≤◌, arith, nat_le, slice_index}
 use Rattle.std.proofs.Common.{Ok, Err}
 use borrow.Author.Tests.{lt-leb}
 use Rattle.std.proofs.lemmas.Grind.{common_steps}
 use Rattle.std.proofs.lemmas.Bool.{cond-false}
 use Rattle.words.proofs.lists.Tests.{or-l, and-no}
-use Rattle.text.specs.frames.Verdict.{Verdict, fine, next, when}
+use Rattle.text.specs.frames.Verdict.{fine, next, when}
 use Rattle.text.specs.frames.Answer.{Answer, success, refusal, reply_number, reply, counted_reply}
 use Rattle.text.specs.declared.frames.refusals.Refusal.{Refusal}
 use Rattle.text.specs.declared.frames.refusals.Refusal.TheVariants.{Unfit, NoRoom}
+use Rattle.image.specs.Image.{Image}
 use Rattle.tables.specs.Table.{table_image}
-use Rattle.tables.specs.inner.Asked.{Whole}
 use Rattle.state.specs.State.{State}
 use Rattle.state.specs.declared.State.{State as Kept}
 use Rattle.state.specs.Kept.{view, stored}
@@ -20,16 +20,13 @@ use Rattle.ticks.specs.Tick.{finished, stopped, tick}
 use Rattle.runs.specs.Run.{MachineRun, RunOutcome, ticks, has_no_room, run_on}
 use Rattle.runs.specs.TickOutcome.{TickOutcome, tick_outcome}
 use Rattle.runs.specs.InPlace.{is_without_change, state_after, GivesRunOn, GivesTickOn}
-use Rattle.ticks.specs.declared.TickEnd.{TickEnd}
-use Rattle.ticks.specs.inner.TickContracts.{GivesTickEnd, TickAsked}
-use Rattle.runs.specs.inner.RunContracts.{verdict_of, RunRoom, GivesRunEnd, table_run}
-use Rattle.ticks.proofs.Normal.{Normal, tick-normal}
-use Rattle.runs.proofs.Normal.{Late, ticks-late}
-use Rattle.runs.proofs.TurnCases.{number-verdict, went, stood}
-
--- ---- both buffers have room for the words
-pub room-enough : (ws ms ks : List ℕ) → has_no_room ws ms ks ≡ false → RunRoom ws ms ks
-room-enough ws ms ks e = grind (arith, common_steps)
+use Rattle.ticks.specs.declared.Stop.{Stop}
+use Rattle.runs.specs.declared.RunEnd.TheVariants.{Over, Full, NoRow}
+use Rattle.ticks.specs.declared.Tick.{Tick}
+use Rattle.ticks.specs.inner.TickContracts.{number_of, IsStopped}
+use Rattle.runs.specs.inner.RunContracts.{verdict_of, count_of, GivesRunEnd}
+use Rattle.runs.specs.machine.inner.Sources.{sourced_run, sourced_tick}
+use Rattle.runs.proofs.TurnCases.{stopped_after}
 
 -- ---- which numbers leave the state
 
@@ -47,9 +44,9 @@ unfolding state_after
 kept-runs x before ms ks n j s g l h a e = grind (arith, common_steps)
 
 -- a state that fits has a depth of 1 to Σ
-pub fits-stands : (b : List ℕ) (s : State) → Whole b → is_unfit (table_image b) s ≡ false → TickAsked b s
+pub fits-deep : (i : Image) (s : State) → is_unfit i s ≡ false → has_bad_depth s ≡ false
 unfolding is_unfit
-fits-stands b s whole e = record { whole = whole; depth = or-l (has_bad_depth s) _ (or-l _ _ (or-l _ _ (or-l _ _ e))) }
+fits-deep i s e = or-l (has_bad_depth s) _ (or-l _ _ (or-l _ _ (or-l _ _ e)))
 
 -- ---- a run on a table
 module _ (b : List ℕ) (before : Kept) (ws ms₀ ks₀ : List ℕ) where
@@ -57,21 +54,21 @@ module _ (b : List ℕ) (before : Kept) (ws ms₀ ks₀ : List ℕ) where
   s = view before
 
   abbrev given : RunOutcome
-  given = table_run b s ws ms₀ ks₀
+  given = sourced_run fine (table_image b) s ws ms₀ ks₀
 
   abbrev ran : MachineRun
   ran = ticks (table_image b) s ws
 
   table-unfit : is_unfit (table_image b) s ≡ true → given ≡ kept_run 15 0 s ms₀ ks₀
-  unfolding table_run
+  unfolding sourced_run
   table-unfit e = ap (λ (t : Bool). run_on (next (when 15 t) λ _. when 16 (has_no_room ws ms₀ ks₀)) (λ _. ran) s ms₀ ks₀) e
 
   table-short : is_unfit (table_image b) s ≡ false → has_no_room ws ms₀ ks₀ ≡ true → given ≡ kept_run 16 0 s ms₀ ks₀
-  unfolding table_run
+  unfolding sourced_run
   table-short e f = grind (arith, common_steps)
 
   table_runs : is_unfit (table_image b) s ≡ false → has_no_room ws ms₀ ks₀ ≡ false → given ≡ run_on fine (λ _. ran) s ms₀ ks₀
-  unfolding table_run
+  unfolding sourced_run
   table_runs e f = grind (arith, common_steps)
 
   pub unfit-answer : (t : Bool) → t ≡ is_unfit (table_image b) s → t ≡ true → GivesRunOn given before (Err Unfit) before ms₀ ks₀
@@ -87,39 +84,28 @@ module _ (b : List ℕ) (before : Kept) (ws ms₀ ks₀ : List ℕ) where
       is : given ≡ run_on fine (λ _. ran) s ms₀ ks₀
       is = table_runs (sym e ∙ h) (sym f ∙ g)
 
-      late : Late (verdict_of r.number)
-      late = subst Late (sym ends.verdict) (ticks-late (table_image b) ws s)
-
       -- neither success nor 17 and 18 leave the state
-      writes : (n : ℕ) → Late (verdict_of n) → (m : ℕ) → is_without_change (reply_number (counted_reply (verdict_of n) m)) ≡ false
-      writes zero l m = refl
-      writes (suc n) l m = late-writes (suc n) l.0
+      writes : (x : RunEnd) (m : ℕ) → is_without_change (reply_number (counted_reply (verdict_of x) m)) ≡ false
+      writes (Over n) m = refl
+      writes (Full n) m = refl
+      writes (NoRow n) m = refl
 
-      -- a run that is stopped tells 17 or 18
-      pub stops-late : (r.number ≡ 0 → ⊥) → (17 ≤ r.number) × (r.number ≤ 18)
-      stops-late z = subst Late (number-verdict r.number z) late
-
-      pub ran-answer : (a : Answer) → reply a ≡ counted_reply (verdict_of r.number) r.count → GivesRunOn given before a after ms ks
+      pub ran-answer : (x : RunEnd) → r ≡ x → (a : Answer) → reply a ≡ counted_reply (verdict_of x) (count_of x)
+          → GivesRunOn given before a after ms ks
       unfolding state_after
-      ran-answer a q = grind (arith, common_steps, cond-false, is, late, writes)
-
--- what a run answers by its number
-pub done-replied : (n m : ℕ) → n ≡ 0 → success m ≡ counted_reply (verdict_of n) m
-done-replied n m e = sym (ap (λ (k : ℕ). counted_reply (verdict_of k) m) e)
-
-pub stopped-replied : (n m : ℕ) → (n ≡ 0 → ⊥) → refusal n 0 m ≡ counted_reply (verdict_of n) m
-stopped-replied n m h = sym (ap (λ (v : Verdict). counted_reply v m) (number-verdict n h))
+      ran-answer x p a q = grind (arith, common_steps, cond-false, is, writes)
 
 -- ---- one tick by the loop over one word
 
 module _ (b : List ℕ) (before : Kept) (w : ℕ) (r : RunEnd) (mid : Kept) (ms ks : List ℕ)
     (ends : GivesRunEnd b before (w ∷ []) (0 ∷ []) (0 ∷ []) r mid ms ks) where
-  abbrev told : TickEnd
-  told = record { number = r.number; mask = slice_index ms 0; code = slice_index ks 0 }
-
-  pub one-steps : GivesTickEnd b before w told mid
+  pub one-stopped-by : (y : Stop) (n : ℕ) → r ≡ stopped_after y n → IsStopped b before w y mid
   unfolding ticks
-  one-steps = grind (arith, common_steps)
+  one-stopped-by y n e = grind (arith, common_steps)
+
+  pub one-finished : (n : ℕ) → r ≡ Over n → tick (table_image b) (view before) w ≡ finished (slice_index ms 0) (slice_index ks 0) (view mid)
+  unfolding ticks
+  one-finished n e = grind (arith, common_steps)
 
 -- ---- one tick on a table
 module _ (b : List ℕ) (before : Kept) (w : ℕ) where
@@ -127,21 +113,22 @@ module _ (b : List ℕ) (before : Kept) (w : ℕ) where
   state₀ = view before
 
   abbrev one : TickOutcome
-  one = tick_outcome (table_run b state₀ (w ∷ []) (0 ∷ []) (0 ∷ []))
+  one = sourced_tick fine (table_image b) state₀ w
 
   abbrev tick_refused_by : ℕ → TickOutcome
   tick_refused_by n = record { reply = refusal n 0 0; mask = 0; code = 0; state = state₀ }
 
   one-unfit : is_unfit (table_image b) state₀ ≡ true → one ≡ tick_refused_by 15
+  unfolding sourced_tick
   one-unfit e = ap tick_outcome (table-unfit b before (w ∷ []) (0 ∷ []) (0 ∷ []) e)
 
   one-stopped : is_unfit (table_image b) state₀ ≡ false → (n : ℕ) → tick (table_image b) state₀ w ≡ stopped n → one ≡ tick_refused_by n
-  unfolding ticks
+  unfolding sourced_tick ticks
   one-stopped e n q = grind (arith, common_steps, table_runs)
 
   one-ticked : is_unfit (table_image b) state₀ ≡ false → (m k : ℕ) (t : State) → tick (table_image b) state₀ w ≡ finished m k t
       → one ≡ record { reply = success 1; mask = m; code = k; state = t }
-  unfolding ticks
+  unfolding sourced_tick ticks
   one-ticked e m k t q = grind (arith, common_steps, table_runs)
 
   pub refused-advances : (n : ℕ) → (n ≡ 0 → ⊥) → one ≡ tick_refused_by n → (r : Refusal) → reply (Err r) ≡ refusal n 0 0
@@ -152,13 +139,11 @@ module _ (b : List ℕ) (before : Kept) (w : ℕ) where
     pub tick-unfit : t ≡ true → GivesTickOn one before (Err Unfit) before
     tick-unfit h = refused-advances 15 (λ z. omega arith) (one-unfit (sym e ∙ h)) Unfit refl
 
-    module _ (h : t ≡ false) (r : TickEnd) (mid : Kept) (q : GivesTickEnd b before w r mid) where
-      pub tick-late : (r.number ≡ 0 → ⊥) → (17 ≤ r.number) × (r.number ≤ 18)
-      tick-late z = subst (Normal state₀) (stood b before w r mid q z) (tick-normal (table_image b) state₀ w)
+    module _ (h : t ≡ false) (mid : Kept) where
+      pub tick-stopped : (y : Stop) → IsStopped b before w y mid → (x : Refusal) → reply (Err x) ≡ refusal (number_of y) 0 0
+          → GivesTickOn one before (Err x) mid
+      tick-stopped y q x p = grind (arith, common_steps, one-stopped, refused-advances)
 
-      pub tick-stopped : (z : r.number ≡ 0 → ⊥) (x : Refusal) → reply (Err x) ≡ refusal r.number 0 0 → GivesTickOn one before (Err x) mid
-      tick-stopped z x p = grind (arith, common_steps, stood, one-stopped, refused-advances)
-
-      pub tick-finished : r.number ≡ 0 → (after : Kept) → after ≡ stored (view mid)
-          → GivesTickOn one before (Ok (record { mask = r.mask; code = r.code })) after
-      tick-finished z after u = grind (arith, common_steps, went, one-ticked)
+      pub tick-finished : (r : Tick) → tick (table_image b) state₀ w ≡ finished r.mask r.code (view mid)
+          → (after : Kept) → after ≡ stored (view mid) → GivesTickOn one before (Ok r) after
+      tick-finished r q after u = grind (arith, common_steps, one-ticked)

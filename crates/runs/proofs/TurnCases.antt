@@ -1,8 +1,7 @@
 -- The loop of ticks, turn by turn.
-use Rattle.std.proofs.Common.{◌≡◌, refl, sym, ◌∙◌, ap, List, [], ◌∷◌, ◌++◌, append-nil, ℕ, zero, suc, ◌+◌, ◌≤◌, ◌<◌, zero-add, add-one, slice_index}
-use Rattle.std.proofs.Common.{arith, length, set, drop, length-append, length-set, drop_of_length-le, drop-cons}
+use Rattle.std.proofs.Common.{◌≡◌, refl, sym, ◌∙◌, ap, List, [], ◌∷◌, ◌++◌, append-nil, ℕ, suc, ◌+◌, ◌≤◌, ◌<◌, zero-add, add-one, slice_index}
+use Rattle.std.proofs.Common.{false, arith, length, set, drop, length-append, length-set, drop_of_length-le, drop-cons}
 use Rattle.std.proofs.Math.Seq.{append_snoc}
-use Rattle.std.proofs.lemmas.Grind.{common_steps}
 use Rattle.words.specs.lists.Sequences.{over, written}
 use Rattle.words.proofs.lists.Written.{written-none, written-snoc, written-front}
 use Rattle.text.specs.frames.Verdict.{Verdict, fine, refused}
@@ -11,24 +10,18 @@ use Rattle.tables.specs.Table.{table_image}
 use Rattle.state.specs.State.{State}
 use Rattle.state.specs.declared.State.{State as Kept}
 use Rattle.state.specs.Kept.{view}
-use Rattle.ticks.specs.declared.TickEnd.{TickEnd}
-use Rattle.ticks.specs.Tick.{top_of, MachineTick, finished, stopped, tick}
+use Rattle.fitness.specs.Fitness.{has_bad_depth}
+use Rattle.ticks.specs.declared.Stop.{Stop}
+use Rattle.ticks.specs.declared.Stop.TheVariants.{Full, NoRow}
+use Rattle.runs.specs.declared.RunEnd.TheVariants as end
+use Rattle.runs.specs.declared.RunEnd.{RunEnd}
+use Rattle.runs.specs.declared.RunEnd.TheVariants.{Over}
+use Rattle.ticks.specs.declared.TickMove.{TickMove}
+use Rattle.ticks.specs.Tick.{top_of, finished, stopped, tick}
 use Rattle.runs.specs.Run.{MachineRun, run_after, ticks}
-use Rattle.ticks.specs.inner.TickContracts.{TickAsked, GivesTickEnd}
-use Rattle.runs.specs.inner.RunContracts.{verdict_of, RunRoom, GivesRunEnd}
-use Rattle.ticks.proofs.Normal.{tick-normal}
+use Rattle.ticks.specs.inner.TickContracts.{number_of, IsStopped, IsFinished}
+use Rattle.runs.specs.inner.RunContracts.{verdict_of, count_of, GivesRunEnd}
 use Rattle.ticks.proofs.TickCases.{stands-on}
-
--- ---- a tick by what the function that makes it answers
-module _ (b : List ℕ) (before : Kept) (w : ℕ) (r : TickEnd) (after : Kept) (q : GivesTickEnd b before w r after) where
-  abbrev made : MachineTick
-  made = tick (table_image b) (view before) w
-
-  pub went : r.number ≡ 0 → made ≡ finished r.mask r.code (view after)
-  went z = grind (arith, common_steps, tick-normal)
-
-  pub stood : (r.number ≡ 0 → ⊥) → made ≡ stopped r.number
-  stood z = grind (arith, common_steps)
 
 -- ---- ticks over one word more
 module _ (i : Image) (s : State) (w : ℕ) (ws : List ℕ) where
@@ -57,7 +50,7 @@ joined ms ks r = record { masks = ms ++ r.masks; codes = ks ++ r.codes; state = 
 -- after i words
 pub record RunTurn (b : List ℕ) (start : Kept) (ws ms₀ ks₀ : List ℕ) (state : Kept) (ms ks : List ℕ) (l i : ℕ) : Type 0 where
   pub low : i ≤ length ws
-  pub stands : TickAsked b (view state)
+  pub depth : has_bad_depth (view state) ≡ false
   pub label : l ≡ top_of (view state)
   pub past_masks : List ℕ
   pub past_codes : List ℕ
@@ -70,11 +63,11 @@ pub record RunTurn (b : List ℕ) (start : Kept) (ws ms₀ ks₀ : List ℕ) (st
   pub whole : joined past_masks past_codes (ticks (table_image b) (view state) (drop i ws)) ≡ ticks (table_image b) (view start) ws
   pub same : i ≡ 0 → state ≡ start
 
-pub turn-start : (b : List ℕ) (state : Kept) (ws ms ks : List ℕ) (l : ℕ) → TickAsked b (view state) → l ≡ top_of (view state)
+pub turn-start : (b : List ℕ) (state : Kept) (ws ms ks : List ℕ) (l : ℕ) → has_bad_depth (view state) ≡ false → l ≡ top_of (view state)
     → RunTurn b state ws ms ks state ms ks l 0
 turn-start b state ws ms ks l y e = record {
   low = omega arith;
-  stands = y;
+  depth = y;
   label = e;
   past_masks = [];
   past_codes = [];
@@ -98,12 +91,21 @@ grown old out past i v e n h =
 longer : (past : List ℕ) (i v : ℕ) → length past ≡ i → length (past ++ (v ∷ [])) ≡ i + 1
 longer past i v n = simp length-append (omega (arith, n))
 
-pub number-verdict : (n : ℕ) → (n ≡ 0 → ⊥) → verdict_of n ≡ refused n 0
-number-verdict zero h = absurd (h refl)
-number-verdict (suc n) h = refl
+-- so many ticks were finished before one was stopped
+abbrev pub stopped_after : Stop → ℕ → RunEnd
+stopped_after Full n = end.Full n
+stopped_after NoRow n = end.NoRow n
+
+stopped-verdict : (x : Stop) (n : ℕ) → verdict_of (stopped_after x n) ≡ refused (number_of x) 0
+stopped-verdict Full n = refl
+stopped-verdict NoRow n = refl
+
+stopped-count : (x : Stop) (n : ℕ) → count_of (stopped_after x n) ≡ n
+stopped-count Full n = refl
+stopped-count NoRow n = refl
 
 module _ {b ws ms₀ ks₀ ms ks : List ℕ} {start state : Kept} {l i : ℕ} (t : RunTurn b start ws ms₀ ks₀ state ms ks l i)
-    (room : RunRoom ws ms₀ ks₀) where
+    (room-masks : length ws ≤ length ms₀) (room-codes : length ws ≤ length ks₀) where
   abbrev s : State
   s = view state
 
@@ -117,63 +119,61 @@ module _ {b ws ms₀ ks₀ ms ks : List ℕ} {start state : Kept} {l i : ℕ} (t
   abbrev before : MachineRun → MachineRun
   before = joined t.past_masks t.past_codes
 
-  ended : (n : ℕ) (u : State) (left : Kept) (v : Verdict) → verdict_of n ≡ v → view left ≡ u → left ≡ state
-      → before (record { masks = []; codes = []; state = u; verdict = v }) ≡ ticks image s₀ ws
-      → GivesRunEnd b start ws ms₀ ks₀ (record { number = n; count = i }) left ms ks
-  ended n u left v p q k all = record {
-    verdict = p ∙ ap (λ (x : MachineRun). x.verdict) all;
-    count = sym t.long_codes ∙ ap (λ (l : List ℕ). length l) (sym (append-nil t.past_codes) ∙ ap (λ (x : MachineRun). x.codes) all);
-    state = q ∙ ap (λ (x : MachineRun). x.state) all;
+  ended : (r : RunEnd) → count_of r ≡ i → (left : Kept) → left ≡ state
+      → before (record { masks = []; codes = []; state = s; verdict = verdict_of r }) ≡ ticks image s₀ ws
+      → GivesRunEnd b start ws ms₀ ks₀ r left ms ks
+  ended r n left k all = record {
+    verdict = ap (λ (x : MachineRun). x.verdict) all;
+    count = n ∙ sym t.long_codes ∙ ap (λ (l : List ℕ). length l) (sym (append-nil t.past_codes) ∙ ap (λ (x : MachineRun). x.codes) all);
+    state = ap view k ∙ ap (λ (x : MachineRun). x.state) all;
     masks = t.masks ∙ written-front ms₀ t.past_masks
         ∙ ap (λ (l : List ℕ). over l ms₀) (sym (append-nil t.past_masks) ∙ ap (λ (x : MachineRun). x.masks) all);
     codes = t.codes ∙ written-front ks₀ t.past_codes
         ∙ ap (λ (l : List ℕ). over l ks₀) (sym (append-nil t.past_codes) ∙ ap (λ (x : MachineRun). x.codes) all);
-    kept = λ e. k ∙ t.same e;
+    kept = λ e. k ∙ t.same (sym n ∙ e);
   }
 
-  module _ (h : i < length ws) (r : TickEnd) (next : Kept) (q : GivesTickEnd b state (slice_index ws i) r next) where
-    pub turn_on : r.number ≡ 0 → (m : ℕ) → m ≡ top_of (view next)
-        → RunTurn b start ws ms₀ ks₀ next (set ms i r.mask) (set ks i r.code) m (i + 1)
-    turn_on z m top =
-        let e : tick image s (slice_index ws i) ≡ finished r.mask r.code (view next) = went b state (slice_index ws i) r next q z in
+  module _ (h : i < length ws) where
+    pub turn_on : (m : TickMove) (next : Kept) → IsFinished b state (slice_index ws i) m next
+        → RunTurn b start ws ms₀ ks₀ next (set ms i m.tick.mask) (set ks i m.tick.code) m.label (i + 1)
+    turn_on m next q =
         let on : MachineRun = ticks image (view next) (drop (suc i) ws) in
         record {
           low = omega arith;
-          stands = stands-on q t.stands;
-          label = top;
-          past_masks = t.past_masks ++ (r.mask ∷ []);
-          past_codes = t.past_codes ++ (r.code ∷ []);
-          long_masks = longer t.past_masks i r.mask t.long_masks;
-          long_codes = longer t.past_codes i r.code t.long_codes;
-          size_masks = length-set ms i r.mask ∙ t.size_masks;
-          size_codes = length-set ks i r.code ∙ t.size_codes;
-          masks = grown ms₀ ms t.past_masks i r.mask t.masks t.long_masks (omega (arith, room.masks));
-          codes = grown ks₀ ks t.past_codes i r.code t.codes t.long_codes (omega (arith, room.codes));
+          depth = stands-on b s (slice_index ws i) t.depth _ _ _ q.gives;
+          label = q.label;
+          past_masks = t.past_masks ++ (m.tick.mask ∷ []);
+          past_codes = t.past_codes ++ (m.tick.code ∷ []);
+          long_masks = longer t.past_masks i m.tick.mask t.long_masks;
+          long_codes = longer t.past_codes i m.tick.code t.long_codes;
+          size_masks = length-set ms i m.tick.mask ∙ t.size_masks;
+          size_codes = length-set ks i m.tick.code ∙ t.size_codes;
+          masks = grown ms₀ ms t.past_masks i m.tick.mask t.masks t.long_masks (omega (arith, room-masks));
+          codes = grown ks₀ ks t.past_codes i m.tick.code t.codes t.long_codes (omega (arith, room-codes));
           whole =
-              ap (λ (n : ℕ). joined (t.past_masks ++ (r.mask ∷ [])) (t.past_codes ++ (r.code ∷ []))
+              ap (λ (n : ℕ). joined (t.past_masks ++ (m.tick.mask ∷ [])) (t.past_codes ++ (m.tick.code ∷ []))
               (ticks image (view next) (drop n ws))) (add-one i)
               ∙ (λ j. record {
-                masks = append_snoc t.past_masks r.mask on.masks j;
-                codes = append_snoc t.past_codes r.code on.codes j;
+                masks = append_snoc t.past_masks m.tick.mask on.masks j;
+                codes = append_snoc t.past_codes m.tick.code on.codes j;
                 state = on.state;
                 verdict = on.verdict;
               })
-              ∙ ap before (sym (ticks-went image s (slice_index ws i) (drop (suc i) ws) r.mask r.code (view next) e))
+              ∙ ap before (sym (ticks-went image s (slice_index ws i) (drop (suc i) ws) m.tick.mask m.tick.code (view next) q.gives))
               ∙ ap (λ (l : List ℕ). before (ticks image s l)) (sym (drop-cons ws i 0 h)) ∙ t.whole;
           same = λ e. absurd (omega arith);
         }
 
     -- a tick that is stopped ends the run
-    pub turn-stood : (r.number ≡ 0 → ⊥) → GivesRunEnd b start ws ms₀ ks₀ (record { number = r.number; count = i }) next ms ks
-    turn-stood z =
-        let all : before (record { masks = []; codes = []; state = s; verdict = refused r.number 0 }) ≡ ticks image s₀ ws =
-        ap before (sym (ticks-stood image s (slice_index ws i) (drop (suc i) ws) r.number (stood b state (slice_index ws i) r next q z)))
-        ∙ ap (λ (l : List ℕ). before (ticks image s l)) (sym (drop-cons ws i 0 h)) ∙ t.whole in
-        ended r.number s next (refused r.number 0) (number-verdict r.number z) (ap view (q.kept z)) (q.kept z) all
+    pub turn-stood : (x : Stop) (next : Kept) → IsStopped b state (slice_index ws i) x next
+        → GivesRunEnd b start ws ms₀ ks₀ (stopped_after x i) next ms ks
+    turn-stood x next q =
+        ended (stopped_after x i) (stopped-count x i) next q.kept
+        (ap (λ (v : Verdict). before (record { masks = []; codes = []; state = s; verdict = v })) (stopped-verdict x i) ∙ ap before (sym (ticks-stood image s (slice_index ws i) (drop (suc i) ws) (number_of x) q.stops))
+        ∙ ap (λ (l : List ℕ). before (ticks image s l)) (sym (drop-cons ws i 0 h)) ∙ t.whole)
 
   -- no word is left
-  pub turn-over : length ws ≤ i → GivesRunEnd b start ws ms₀ ks₀ (record { number = 0; count = i }) state ms ks
+  pub turn-over : length ws ≤ i → GivesRunEnd b start ws ms₀ ks₀ (Over i) state ms ks
   turn-over h =
-      let all : before (record { masks = []; codes = []; state = s; verdict = fine }) ≡ ticks image s₀ ws =
-      ap before (sym (ticks-none image s)) ∙ ap (λ (l : List ℕ). before (ticks image s l)) (sym (drop_of_length-le ws h)) ∙ t.whole in
-      ended 0 s state fine refl refl refl all
+      ended (Over i) refl state refl
+      (ap before (sym (ticks-none image s)) ∙ ap (λ (l : List ℕ). before (ticks image s l)) (sym (drop_of_length-le ws h)) ∙ t.whole)

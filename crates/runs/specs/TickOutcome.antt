@@ -3,7 +3,7 @@ use Rattle.std.specs.Prelude.{ℕ, List, [], ◌∷◌, Result, Ok, Err, slice_i
 use Rattle.text.specs.declared.frames.refusals.Refusal.{Refusal}
 use Rattle.text.specs.frames.Answer.{Reply, success, reply}
 use Rattle.state.specs.State.{State}
-use Rattle.runs.specs.declared.Tick.{Tick}
+use Rattle.ticks.specs.declared.Tick.{Tick}
 use Rattle.runs.specs.Run.{RunOutcome, run}
 
 -- mask and code of the tick, 0 where it is refused, and the state after it

@@ -3,10 +3,10 @@ ghost use Rattle.state.specs.Kept.{view};
 ghost use Rattle.runs.specs.TickOutcome.{image_tick};
 ghost use Rattle.runs.specs.InPlace.{GivesTickOn};
 
-use crate::Tick;
 use crate::state_runs::tick_image;
 use state::State;
 use text::frames::Refusal;
+use ticks::Tick;
 
 // One tick on a state that the caller keeps: a refused tick leaves it as it was.
 pub fn tick(state: &mut State, image: &[u8], word: u16) -> Result<Tick, Refusal>

@@ -1,6 +1,6 @@
 //! Ticks over the words of a run, one a word up to the first that is refused (`runs`), once 15 and 16 are tried (`table_runs`).
-//! `machine` makes runs and ticks on a state in place, over an image and live on a prepared table; `state_runs` makes them on a state by
-//! value, and `kept_states` a tick on a state behind a reference by the one by value.
+//! `machine` makes runs and ticks on a state in place, by any source of a table; `state_runs` makes them on a state by value, on an image
+//! and live on a prepared table, and `kept_states` a tick on a state behind a reference by the one by value.
 #![tactic(auto)]
 
 ghost use Rattle.runs.specs.machine.Prepared.{LiveRunIs, LiveTickIs};
@@ -13,18 +13,12 @@ pub mod table_runs;
 
 pub use runs::{tick_all, tick_word};
 
-// What the ticks over the words of a run answer: 0, or the number that stopped one, and the finished ticks.
-#[derive(Drop)]
-pub struct RunEnd {
-    pub number: u8,
-    pub count: usize,
-}
-
-// What a tick gives: the mask that it emits and its code.
+/// How the ticks over the words of a run end: each word had its tick, or one was stopped; with how many were finished.
 #[derive(Clone, Copy)]
-pub struct Tick {
-    pub mask: u32,
-    pub code: u8,
+pub enum RunEnd {
+    Over(usize),
+    Full(usize),
+    NoRow(usize),
 }
 
 /// A live run and a live tick on a prepared table are the run and the tick on the image it was prepared from, for every state and word.

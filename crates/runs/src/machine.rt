@@ -1,72 +1,40 @@
-// The stack machine on a state that the caller keeps: runs and ticks over an image, and live on a prepared table.
+// The stack machine on a state that the caller keeps: runs and ticks by any source of a table, an image's text or a prepared table.
 ghost use Rattle.state.specs.Kept.{view};
-ghost use Rattle.runs.specs.Run.{run};
-ghost use Rattle.runs.specs.TickOutcome.{image_tick};
-ghost use Rattle.runs.specs.machine.Live.{live_run, live_tick};
 ghost use Rattle.runs.specs.InPlace.{GivesRunOn, GivesTickOn};
+ghost use Rattle.runs.specs.machine.inner.Sources.{sourced_run, sourced_tick};
 
-use crate::Tick;
 use crate::table_runs::{run_table, tick_table};
 use state::State;
-use tables::preparing::prepare_table;
-use tables::{bad_table, table_length};
+use tables::sources::Source;
 use text::frames::Refusal;
-use text::frames::sizes::{FRAME, LINE, TABLE};
+use ticks::Tick;
 
-// What the image check tries, 15 and 16 before the first tick, 17 and 18 tick by tick.
-pub fn run(
-    image: &[u8],
+// What the source is refused for, 15 and 16 before the first tick, 17 and 18 tick by tick.
+pub fn run<S: Source<ROOM>, const ROOM: usize>(
+    source: &[u8],
     state: &mut State,
     words: &[u16],
     masks: &mut [u32],
     codes: &mut [u8],
 ) -> Result<usize, Refusal>
-    ensures { GivesRunOn (run image.now (view state.old) words.now masks.old
+    ensures { GivesRunOn (sourced_run (S.verdict source.now) (S.image source.now) (view state.old) words.now masks.old
         codes.old) state.old result state.new masks.new codes.new }
 {
-    let mut table = [0u8; TABLE];
-    prepare_table(image, &mut table)?;
-    let n = FRAME * (image.len() / LINE);
-    run_table(&table[..n], state, words, masks, codes)
+    let mut room = [0u8; ROOM];
+    let table = S::table(source, &mut room)?;
+    run_table(&table, state, words, masks, codes)
 }
 
 // One tick: what a run tries but 16.
-pub fn tick(image: &[u8], state: &mut State, word: u16) -> Result<Tick, Refusal>
-    ensures { GivesTickOn (image_tick image.now (view state.old) word)
-        state.old result state.new }
-{
-    let mut table = [0u8; TABLE];
-    prepare_table(image, &mut table)?;
-    let end = FRAME * (image.len() / LINE);
-    tick_table(&table[..end], state, word)
-}
-
-// A run on a prepared table: 11, then as any run.
-pub fn live_run(
-    table: &[u8],
+pub fn tick<S: Source<ROOM>, const ROOM: usize>(
+    source: &[u8],
     state: &mut State,
-    words: &[u16],
-    masks: &mut [u32],
-    codes: &mut [u8],
-) -> Result<usize, Refusal>
-    ensures { GivesRunOn (live_run table.now (view state.old) words.now masks.old
-        codes.old) state.old result state.new masks.new codes.new }
-{
-    if bad_table(table) {
-        return Err(Refusal::BadHeader);
-    }
-    let n = table_length(table);
-    run_table(&table[..n], state, words, masks, codes)
-}
-
-// One tick on a prepared table.
-pub fn live_tick(table: &[u8], state: &mut State, word: u16) -> Result<Tick, Refusal>
-    ensures { GivesTickOn (live_tick table.now (view state.old) word)
+    word: u16,
+) -> Result<Tick, Refusal>
+    ensures { GivesTickOn (sourced_tick (S.verdict source.now) (S.image source.now) (view state.old) word)
         state.old result state.new }
 {
-    if bad_table(table) {
-        return Err(Refusal::BadHeader);
-    }
-    let end = table_length(table);
-    tick_table(&table[..end], state, word)
+    let mut room = [0u8; ROOM];
+    let table = S::table(source, &mut room)?;
+    tick_table(&table, state, word)
 }

@@ -5,9 +5,12 @@ ghost use Rattle.runs.specs.TickOutcome.{image_tick};
 ghost use Rattle.runs.specs.machine.Live.{live_run, live_tick};
 ghost use Rattle.runs.specs.InPlace.{GivesRunOn, GivesTickOn};
 
-use crate::{Tick, machine};
+use crate::machine;
 use state::{State, StateReport};
+use tables::sources::{Prepared, Text};
 use text::frames::Refusal;
+use text::frames::sizes::TABLE;
+use ticks::Tick;
 
 // A tick's answer, and the state after it.
 #[derive(Drop)]
@@ -17,6 +20,7 @@ pub struct TickStateReport {
 }
 
 // A run: what the image check tries, 15 and 16 before the first tick, 17 and 18 tick by tick.
+#[tactic(auto, using(crate::proofs::machine::Sourced::sourced))]
 pub fn run(
     image: &[u8],
     state: State,
@@ -28,7 +32,7 @@ pub fn run(
         state result.answer result.state masks.new codes.new }
 {
     let mut after = state;
-    let answer = machine::run(image, &mut after, words, masks, codes);
+    let answer = machine::run::<Text, TABLE>(image, &mut after, words, masks, codes);
     StateReport {
         answer,
         state: after,
@@ -36,11 +40,12 @@ pub fn run(
 }
 
 // A run of one word; refused, it hands back the state as it was.
+#[tactic(auto, using(crate::proofs::machine::Sourced::sourced))]
 pub fn tick_image(image: &[u8], state: State, word: u16) -> TickStateReport
     ensures { GivesTickOn (image_tick image.now (view state) word) state result.answer result.state }
 {
     let mut after = state;
-    let answer = machine::tick(image, &mut after, word);
+    let answer = machine::tick::<Text, TABLE>(image, &mut after, word);
     TickStateReport {
         answer,
         state: after,
@@ -48,6 +53,7 @@ pub fn tick_image(image: &[u8], state: State, word: u16) -> TickStateReport
 }
 
 // A run on a prepared table: 11, then 15 to 18 as in any run.
+#[tactic(auto, using(crate::proofs::machine::Sourced::sourced))]
 pub fn live_run(
     table: &[u8],
     state: State,
@@ -59,7 +65,7 @@ pub fn live_run(
         state result.answer result.state masks.new codes.new }
 {
     let mut after = state;
-    let answer = machine::live_run(table, &mut after, words, masks, codes);
+    let answer = machine::run::<Prepared, 0>(table, &mut after, words, masks, codes);
     StateReport {
         answer,
         state: after,
@@ -67,11 +73,12 @@ pub fn live_run(
 }
 
 // One tick on a prepared table.
+#[tactic(auto, using(crate::proofs::machine::Sourced::sourced))]
 pub fn live_tick(table: &[u8], state: State, word: u16) -> TickStateReport
     ensures { GivesTickOn (live_tick table.now (view state) word) state result.answer result.state }
 {
     let mut after = state;
-    let answer = machine::live_tick(table, &mut after, word);
+    let answer = machine::tick::<Prepared, 0>(table, &mut after, word);
     TickStateReport {
         answer,
         state: after,

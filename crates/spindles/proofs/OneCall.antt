@@ -15,20 +15,21 @@ use Rattle.fitness.specs.Fitness.{is_unfit}
 use Rattle.ticks.specs.Tick.{MachineTick, finished, stopped, tick}
 use Rattle.runs.specs.Run.{ticks}
 use Rattle.runs.specs.TickOutcome.{TickOutcome}
-use Rattle.runs.specs.machine.Live.{live_verdict, live_run, live_tick}
+use Rattle.runs.specs.machine.inner.Sources.{sourced_run, sourced_tick}
+use Rattle.runs.proofs.machine.Sourced.{text-tick, table-tick}
 use Rattle.runs.proofs.machine.OneTick.{advance_by, advance-by}
 use Rattle.spindles.specs.Spindles.{state_at, head_verdict, SpinOutcome, outcome_turned_back, is_none_left, outcome_spun_by}
 use Rattle.spindles.specs.Spindles.{outcome_spun_on, spin, live_spin}
+use Rattle.spindles.specs.inner.Parts.{sourced_spin}
 use Rattle.spindles.specs.Laws.{Unchanged, RefusedLeaves, FullFirst, LevelGoes}
 
--- ---- a tick on a table, as one on an image is known
+-- ---- a tick by any source of a table
 abbrev pub tick_tried : Verdict → Image → State → Verdict
 tick_tried v i s = next v λ _. when 15 (is_unfit i s)
 
-pub live-tick-by : (b : List ℕ) (s : State) (w : ℕ)
-    → live_tick b s w ≡ advance_by s (tick_tried (when 11 (is_bad_table b)) (table_image b) s) (tick (table_image b) s w)
-unfolding live_tick live_run live_verdict ticks
-live-tick-by b s w = grind (arith, common_steps)
+pub sourced-tick-by : (v : Verdict) (i : Image) (s : State) (w : ℕ) → sourced_tick v i s w ≡ advance_by s (tick_tried v i s) (tick i s w)
+unfolding sourced_tick sourced_run ticks
+sourced-tick-by v i s w = grind (arith, common_steps)
 
 -- ---- a call by the verdict on image or table, and the image that is meant
 abbrev pub tick_by_verdict : Verdict → Image → State → ℕ → TickOutcome
@@ -38,15 +39,31 @@ abbrev pub spin_by : Verdict → Image → List State → ℕ → ℕ → ℕ �
 spin_by v i states taken k w =
     outcome_spun_on (head_verdict v states taken k) states taken k (λ _. tick_by_verdict v i (state_at states k) w)
 
+sourced-spin-by : (v : Verdict) (i : Image) (states : List State) (taken k w : ℕ)
+    → sourced_spin v i states taken k w ≡ spin_by v i states taken k w
+unfolding sourced_spin
+sourced-spin-by v i states taken k w = grind (arith, common_steps, sourced-tick-by)
+
+-- on an image, and on a prepared table
+pub text-spin : (t : List ℕ) (states : List State) (taken k w : ℕ)
+    → sourced_spin (image_verdict t) (decoded_image (contents t)) states taken k w ≡ spin t states taken k w
+unfolding sourced_spin spin
+text-spin t states taken k w = grind (arith, common_steps, text-tick)
+
+pub table-spin : (b : List ℕ) (states : List State) (taken k w : ℕ)
+    → sourced_spin (when 11 (is_bad_table b)) (table_image b) states taken k w ≡ live_spin b states taken k w
+unfolding sourced_spin live_spin
+table-spin b states taken k w = grind (arith, common_steps, table-tick)
+
+pub ruleset sourced = (text-spin, table-spin)
+
 pub spin-by : (t : List ℕ) (states : List State) (taken k w : ℕ)
     → spin t states taken k w ≡ spin_by (image_verdict t) (decoded_image (contents t)) states taken k w
-unfolding spin
-spin-by t states taken k w = grind (arith, common_steps, advance-by)
+spin-by t states taken k w = sym (text-spin t states taken k w) ∙ sourced-spin-by (image_verdict t) (decoded_image (contents t)) states taken k w
 
 pub live-spin-by : (b : List ℕ) (states : List State) (taken k w : ℕ)
     → live_spin b states taken k w ≡ spin_by (when 11 (is_bad_table b)) (table_image b) states taken k w
-unfolding live_spin
-live-spin-by b states taken k w = grind (arith, common_steps, live-tick-by)
+live-spin-by b states taken k w = sym (table-spin b states taken k w) ∙ sourced-spin-by (when 11 (is_bad_table b)) (table_image b) states taken k w
 
 -- ---- a state put back where it was
 

@@ -1,11 +1,9 @@
 //! Four spindles that share 64 places: a call ticks one, or is refused, and leaves the others as they are.
-//! Here are its report and what it tries of spindle and record, in `spindle_heads` what refuses it before any state; `turning` makes the
-//! turn of one state, `spindle_list` that of one in a list. By the theorem of `spindle_places` the record is what calls took and did not
-//! give back, 64 at most.
+//! Here are its report and what it tries of the record; `turning` makes the turn of one state, `spindle_list` that of one in a list. By the
+//! theorem of `spindle_places` the record is what calls took and did not give back, 64 at most.
 #![tactic(auto)]
 
 pub mod layout;
-pub mod spindle_heads;
 pub mod spindle_list;
 pub mod spindle_places;
 pub mod turning;
@@ -13,24 +11,17 @@ pub mod turning;
 ghost use Rattle.std.specs.Prelude.{◌≡◌};
 ghost use Rattle.spindles.specs.Spindles.{is_none_left, spin, live_spin};
 ghost use Rattle.spindles.specs.Laws.{RefusedLeaves, FullFirst, LevelGoes, OthersLeft, OnlyDepths};
-ghost use Rattle.spindles.specs.inner.HeadAndTurn.{is_bad_spin_call, is_bad_record};
+ghost use Rattle.spindles.specs.inner.Parts.{is_bad_record};
 
-use layout::{SPINDLES, STORE};
-use runs::Tick;
+use layout::STORE;
 use text::frames::Refusal;
+use ticks::Tick;
 
 // What a call answers, and the places recorded as taken after it: with a refusal as many as before.
 #[derive(Drop)]
 pub struct SpinReport {
     pub answer: Result<Tick, Refusal>,
     pub taken: usize,
-}
-
-// Whether there are not four states, or there is no such spindle.
-pub fn bad_call(count: usize, spindle: usize) -> bool
-    ensures { result ≡ is_bad_spin_call count spindle }
-{
-    count != SPINDLES || 3 < spindle
 }
 
 // Whether the depths do not sum to the record, or it is above 64.

@@ -1,14 +1,20 @@
 // Four spindles whose states stand in one list: a call ticks one and leaves the others as they are.
-ghost use Rattle.std.specs.Prelude.{◌≡◌, map, length};
+ghost use Rattle.std.specs.Prelude.{◌≡◌, ◌<◌, map, length};
+ghost use Rattle.text.specs.frames.Verdict.{fine};
+ghost use Rattle.tables.specs.Table.{table_image};
 ghost use Rattle.state.specs.Kept.{view};
 ghost use Rattle.spindles.specs.declared.layout.TheConstants.{SPINDLES};
 ghost use Rattle.spindles.specs.Spindles.{spin, live_spin, GivesSpin};
-ghost use Rattle.spindles.specs.inner.HeadAndTurn.{four_depths};
+ghost use Rattle.spindles.specs.inner.Parts.{four_depths, sourced_spin};
 
-use crate::spindle_heads::{live_refuse_head, refuse_head};
-use crate::turning::{live_turn, turn};
-use crate::{SpinReport, bad_call};
+use crate::SpinReport;
+use crate::layout::SPINDLES;
+use crate::turning::turn;
 use state::State;
+use tables::Table;
+use tables::sources::{Prepared, Source, Text};
+use text::frames::Refusal;
+use text::frames::sizes::TABLE;
 
 // The sum of the four depths.
 fn depth_sum(states: &[State]) -> usize
@@ -22,7 +28,53 @@ fn depth_sum(states: &[State]) -> usize
     a as usize + b as usize + c as usize + d as usize
 }
 
-// 25, what the image check tries, 15, 17, 26, 18; a refused call leaves the list as it was.
+// 15 by the list, then the turn of the spindle named.
+fn spin_table(
+    table: &Table,
+    states: &mut [State],
+    taken: usize,
+    spindle: usize,
+    word: u16,
+) -> SpinReport
+    requires { spindle < SPINDLES }
+    ensures { GivesSpin (sourced_spin fine (table_image table.now.bytes.now) (map view states.old) taken spindle word)
+        states.old spindle result states.new }
+{
+    if states.len() != SPINDLES {
+        let answer = Err(Refusal::Unfit);
+        return SpinReport { answer, taken };
+    }
+    let sum = depth_sum(states);
+    turn(table, &mut states[spindle], sum, taken, word)
+}
+
+// 25, what the source is refused for, 15, 17, 26, 18; a refused call leaves the list as it was.
+fn spin_by<S: Source<ROOM>, const ROOM: usize>(
+    source: &[u8],
+    states: &mut [State],
+    taken: usize,
+    spindle: usize,
+    word: u16,
+) -> SpinReport
+    ensures { GivesSpin (sourced_spin (S.verdict source.now) (S.image source.now) (map view states.old) taken spindle word)
+        states.old spindle result states.new }
+{
+    if SPINDLES <= spindle {
+        let answer = Err(Refusal::NoSpindle);
+        return SpinReport { answer, taken };
+    }
+    let mut room = [0u8; ROOM];
+    match S::table(source, &mut room) {
+        Ok(table) => spin_table(&table, states, taken, spindle, word),
+        Err(refusal) => SpinReport {
+            answer: Err(refusal),
+            taken,
+        },
+    }
+}
+
+// On an image.
+#[tactic(auto, using(crate::proofs::OneCall::sourced))]
 pub fn spin(
     states: &mut [State],
     taken: usize,
@@ -33,14 +85,11 @@ pub fn spin(
     ensures { GivesSpin (spin image.now (map view states.old) taken spindle word)
         states.old spindle result states.new }
 {
-    if bad_call(states.len(), spindle) {
-        return refuse_head(image, spindle, taken);
-    }
-    let sum = depth_sum(states);
-    turn(image, &mut states[spindle], sum, taken, word)
+    spin_by::<Text, TABLE>(image, states, taken, spindle, word)
 }
 
-// The same on a prepared table: 25, 11, 15, 17, 26, 18.
+// On a prepared table: 25, 11, 15, 17, 26, 18.
+#[tactic(auto, using(crate::proofs::OneCall::sourced))]
 pub fn live_spin(
     states: &mut [State],
     taken: usize,
@@ -51,9 +100,5 @@ pub fn live_spin(
     ensures { GivesSpin (live_spin table.now (map view states.old) taken spindle word)
         states.old spindle result states.new }
 {
-    if bad_call(states.len(), spindle) {
-        return live_refuse_head(table, spindle, taken);
-    }
-    let sum = depth_sum(states);
-    live_turn(table, &mut states[spindle], sum, taken, word)
+    spin_by::<Prepared, 0>(table, states, taken, spindle, word)
 }

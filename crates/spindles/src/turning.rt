@@ -1,22 +1,19 @@
-// The turn of one spindle on its state, on an image and live on a prepared table: its tick, unless the head is refused or a call finds no
-// place.
+// The turn of one spindle on its state: its tick, unless the record is refused or a call finds no place.
 ghost use Rattle.std.specs.Prelude.{◌≤◌};
-ghost use Rattle.text.specs.declared.frames.refusals.TheConstants.{BAD_HEADER};
-ghost use Rattle.text.specs.frames.Verdict.{when};
-ghost use Rattle.image.specs.Check.{image_verdict};
-ghost use Rattle.tables.specs.Table.{is_bad_table};
+ghost use Rattle.text.specs.frames.Verdict.{fine};
+ghost use Rattle.tables.specs.Table.{table_image};
 ghost use Rattle.state.specs.Kept.{view};
-ghost use Rattle.runs.specs.TickOutcome.{image_tick};
-ghost use Rattle.runs.specs.machine.Live.{live_tick};
-ghost use Rattle.spindles.specs.inner.HeadAndTurn.{turn, GivesTurn};
+ghost use Rattle.runs.specs.machine.inner.Sources.{sourced_tick};
+ghost use Rattle.spindles.specs.inner.Parts.{turn, GivesTurn};
 ghost use Rattle.spindles.specs.turning.inner.TurnContracts.{GivesSettled};
 ghost use Rattle.spindles.specs.declared.layout.TheConstants.{STORE};
 
-use crate::spindle_heads::{live_refuse_head, refuse_head};
 use crate::{SpinReport, bad_record, none_left};
-use runs::{Tick, machine};
+use runs::table_runs::tick_table;
 use state::State;
+use tables::Table;
 use text::frames::Refusal;
+use ticks::Tick;
 
 // After the tick: where it ended deeper than it began and no place is left, it is undone and refused with 26.
 fn settle(old: State, state: &mut State, answer: Result<Tick, Refusal>, taken: usize) -> SpinReport
@@ -37,30 +34,17 @@ fn settle(old: State, state: &mut State, answer: Result<Tick, Refusal>, taken: u
     }
 }
 
-// A spindle's turn, with the sum of the four depths: what the image check tries, 15, 17, 26, 18.
-pub fn turn(image: &[u8], state: &mut State, sum: usize, taken: usize, word: u16) -> SpinReport
+// A spindle's turn, with the sum of the four depths: 15 by the record, then by the state, 17, 26, 18.
+pub fn turn(table: &Table, state: &mut State, sum: usize, taken: usize, word: u16) -> SpinReport
     requires { state.old.depth ≤ sum }
-    ensures { GivesTurn (turn (image_verdict image.now) (view state.old) sum taken
-        (image_tick image.now (view state.old) word)) state.old result state.new }
+    ensures { GivesTurn (turn (view state.old) sum taken (sourced_tick fine (table_image table.now.bytes.now) (view state.old) word))
+        state.old result state.new }
 {
     if bad_record(sum, taken) {
-        return refuse_head(image, 0, taken);
+        let answer = Err(Refusal::Unfit);
+        return SpinReport { answer, taken };
     }
     let old = *state;
-    let answer = machine::tick(image, state, word);
-    settle(old, state, answer, taken)
-}
-
-// The same on a prepared table: 11, 15, 17, 26, 18.
-pub fn live_turn(table: &[u8], state: &mut State, sum: usize, taken: usize, word: u16) -> SpinReport
-    requires { state.old.depth ≤ sum }
-    ensures { GivesTurn (turn (when BAD_HEADER (is_bad_table table.now)) (view state.old) sum taken
-        (live_tick table.now (view state.old) word)) state.old result state.new }
-{
-    if bad_record(sum, taken) {
-        return live_refuse_head(table, 0, taken);
-    }
-    let old = *state;
-    let answer = machine::live_tick(table, state, word);
+    let answer = tick_table(table, state, word);
     settle(old, state, answer, taken)
 }

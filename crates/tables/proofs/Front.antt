@@ -1,6 +1,6 @@
 -- Only the bytes of the frames that the header counts say which image a table holds: bytes behind them are no part of it.
-use Rattle.std.proofs.Common.{ℕ, zero, suc, ◌+◌, ◌*◌, ◌-◌, ◌≤◌, ◌<◌, min, false, ◌&&◌, ◌||◌, not, ◌≡◌, sym, ◌∙◌, ap, ap₂, subst, List, map}
-use Rattle.std.proofs.Common.{arith, take, get_or-take, le-ltb, nat_lt, ◌==◌, slice_index, flat_map}
+use Rattle.std.proofs.Common.{ℕ, zero, suc, ◌+◌, ◌*◌, ◌-◌, ◌≤◌, ◌<◌, min, false, ◌&&◌, ◌||◌, not, ◌≡◌, ◌∙◌, ap, ap₂, List, map}
+use Rattle.std.proofs.Common.{arith, get_or-take, le-ltb, nat_lt, ◌==◌, slice_index, flat_map}
 use Rattle.std.proofs.lemmas.Grind.{common_steps}
 use Rattle.words.specs.lists.Numbers.{range}
 use Rattle.words.proofs.lists.Joins.{concat-alike}
@@ -9,7 +9,7 @@ use Rattle.std.proofs.lemmas.Bool.{cond-false}
 use Rattle.image.specs.Decode.{scheme_count, last_label, row_count, handler_in, labels_from, entry_in}
 use Rattle.image.specs.Check.{has_bad_counts, has_bad_handler}
 use Rattle.tables.specs.Table.{table_end, is_bad_table, label_on, table_label, noted_in, first_on, end_on, row_on, rows_on, table_image}
-use Rattle.tables.specs.inner.Asked.{front, Whole}
+use Rattle.tables.specs.inner.Asked.{front}
 use Rattle.tables.proofs.RangeLaws.{map-alike}
 
 -- the rows of a label end within the table
@@ -98,19 +98,8 @@ module _ (b c : List ℕ) (same : (k : ℕ) → k < 10 * table_end b → slice_i
 
 -- ---- the front of a table
 module _ (b : List ℕ) (good : is_bad_table b ≡ false) where
-  pub front-at : (k : ℕ) → k < 10 * table_end b → slice_index (front b) k ≡ slice_index b k
+  front-at : (k : ℕ) → k < 10 * table_end b → slice_index (front b) k ≡ slice_index b k
   front-at k h = get_or-take (10 * table_end b) b k 0 h
 
   pub front-image : table_image (front b) ≡ table_image b
   front-image = alike-image b (front b) front-at
-
-  pub front-whole : Whole (front b)
-  front-whole = grind (arith, common_steps)
-
--- the table alone, cut off at n bytes
-module _ (b : List ℕ) (n : ℕ) (e : n ≡ 10 * table_end b) where
-  pub cut-is : take n b ≡ front b
-  cut-is = ap (λ (k : ℕ). take k b) e
-
-  pub cut-whole : is_bad_table b ≡ false → Whole (take n b)
-  cut-whole g = subst Whole (sym cut-is) (front-whole b g)

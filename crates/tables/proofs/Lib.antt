@@ -1,4 +1,3 @@
-pub mod LabelCases
 pub mod Noted
 pub mod NotingCases
 pub mod PrepareCases
@@ -10,3 +9,4 @@ pub mod PreparedImage
 pub mod Alike
 pub mod Made
 pub mod OwnRows
+pub mod Told

@@ -6,7 +6,7 @@ use Rattle.words.specs.lists.Numbers.{lowest}
 use Rattle.words.proofs.lists.Searches.{lowest-above, lowest-inside, lowest-from, lowest-alike}
 use Rattle.text.specs.frames.Frame.{size, field}
 use Rattle.text.specs.frames.Verdict.{fine}
-use Rattle.image.specs.Decode.{last_label, rows_from}
+use Rattle.image.specs.Decode.{last_label, row_count, rows_from}
 use Rattle.image.specs.Check.{table_verdict}
 use Rattle.image.proofs.Accepted.{counted}
 use Rattle.tables.specs.Prepare.{is_row_reached, first_frame, noted_to}
@@ -25,6 +25,10 @@ pub record Notes (b out : List ℕ) (f l : ℕ) : Type 0 where
   pub rest : (m : ℕ) → l ≤ m → lowest (is_row_reached b m) f (size b - f) ≡ first_frame b m
 
 module _ (b : List ℕ) (ok : table_verdict b ≡ fine) where
+  -- the frames that the header counts are all
+  pub counted-end : (f r : ℕ) → f ≡ rows_from b → r ≡ row_count b → f + r ≡ size b
+  counted-end f r e q = omega (arith, e, q, (counted b ok).all)
+
   pub notes-start : (f : ℕ) → f ≡ rows_from b → Notes b b f 0
   unfolding noted_to
   notes-start f e = grind (arith, common_steps, rows-inside)

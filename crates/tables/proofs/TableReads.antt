@@ -1,4 +1,4 @@
--- The image that a table holds, label by label and entry by entry, and which values the fields of a label can have.
+-- The image that a table holds, label by label and entry by entry.
 use Rattle.std.proofs.Common.{ℕ, ◌+◌, ◌-◌, ◌≤◌, ◌<◌, false, ◌≡◌, refl, List, zero-add, arith, length, nat_lt, slice_index, slice_index_or}
 use Rattle.std.proofs.Common.{lt-ltb, le-ltb}
 use Rattle.std.proofs.Math.ListN.{get_or-eq_default}
@@ -6,7 +6,7 @@ use Rattle.std.proofs.lemmas.Grind.{common_steps}
 use Rattle.std.proofs.lemmas.Bool.{cond-true, cond-false}
 use Rattle.words.proofs.lists.Tests.{split}
 use Rattle.words.proofs.lists.Ranges.{length-map-range, get_or-map-range}
-use Rattle.image.specs.Image.{Label, no_label}
+use Rattle.image.specs.Image.{no_label}
 use Rattle.image.specs.Decode.{scheme_count, last_label, row_count, handler_in, entry_in}
 use Rattle.image.specs.Check.{has_bad_counts}
 use Rattle.tables.specs.Table.{table_image, label_on, table_label}
@@ -53,15 +53,3 @@ module _ (b : List ℕ) where
   pub entry-at : has_bad_counts b ≡ false → (h : ℕ) → h ≤ scheme_count b → slice_index (table_image b).entries (h - 1) ≡ entry_of b h
   unfolding table_image
   entry-at e h k = grind (arith, common_steps, get_or-map-range, counts-told)
-
--- ---- which values the fields have
-
--- of label l in an image of n schemes
-pub record LabelValues (n l : ℕ) (x : Label) : Type 0 where
-  pub kinds : x.kind ≤ 4
-  pub three : x.kind ≡ 3 → l ≡ 1
-  pub four : 4 ≤ x.kind → l ≡ 0
-  pub schemes : x.called ≤ n
-
-pub label-values : (b : List ℕ) (l : ℕ) → LabelValues (scheme_count b) l (table_label b l)
-label-values b l = grind (arith, common_steps)

@@ -1,3 +1,4 @@
 pub mod Asked
 pub mod Prepares
 pub mod Labels
+pub mod Sources

@@ -1,34 +1,31 @@
-// Refusal 11 of a table, which only its header and its length decide.
-ghost use Rattle.std.specs.Prelude.{◌≡◌, ◌*◌, ◌<◌};
-ghost use Rattle.text.specs.frames.Frame.{size};
-ghost use Rattle.tables.specs.Table.{table_end, is_bad_table};
+// A table made of its bytes, with what its header tells read once, and the handler, which is read where it is asked.
+ghost use Rattle.std.specs.Prelude.{◌≡◌};
+ghost use Rattle.image.specs.Decode.{handler_in};
+ghost use Rattle.tables.specs.inner.Asked.{Whole};
 
-use image::layout::ROW_COUNT;
-use image::{bad_counts, bad_handler, pair, rows_from};
-use text::frames::sizes::FRAME;
+use crate::Table;
+use image::layout::*;
+use image::{byte, pair, rows_from};
 
-// How many frames the header counts.
-fn table_end(table: &[u8]) -> usize
-    requires { 0 < size table.now }
-    ensures { result ≡ table_end table.now }
-{
-    rows_from(table) + (pair(table, 0, ROW_COUNT) as usize)
-}
+impl<'a> Table<'a> {
+    /// The table that bytes are of which 11 refuses nothing and behind which nothing stands.
+    pub fn of(bytes: &'a [u8]) -> Table<'a>
+        requires { Whole bytes.now }
+        ensures { result.bytes.now ≡ bytes.now }
+    {
+        let frames = rows_from(bytes) + (pair(bytes, 0, ROW_COUNT) as usize);
+        Table {
+            bytes,
+            frames: frames as u32,
+            schemes: byte(bytes, 0, SCHEME_COUNT),
+            last: byte(bytes, 0, LAST_LABEL),
+        }
+    }
 
-// How many bytes these frames have.
-pub fn table_length(table: &[u8]) -> usize
-    requires { 0 < size table.now }
-    ensures { result ≡ FRAME * table_end table.now }
-{
-    FRAME * table_end(table)
-}
-
-// Refusal 11.
-pub fn bad_table(table: &[u8]) -> bool
-    ensures { result ≡ is_bad_table table.now }
-{
-    table.len() < FRAME
-        || bad_counts(table)
-        || bad_handler(table)
-        || table.len() < table_length(table)
+    /// The handler's scheme, 0 for none, at most H.
+    pub fn handler(self) -> u8
+        ensures { result ≡ handler_in self.entry.bytes.now }
+    {
+        byte(self.bytes, 0, HANDLER)
+    }
 }

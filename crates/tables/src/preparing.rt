@@ -8,15 +8,16 @@ ghost use Rattle.text.specs.frames.Frame.{size};
 ghost use Rattle.text.specs.frames.Verdict.{fine};
 ghost use Rattle.image.specs.Check.{table_verdict};
 
-use image::layout::{FROM, LAST_LABEL, SCHEME_COUNT};
-use image::{byte, rows_from};
+use image::layout::{FROM, LAST_LABEL, ROW_COUNT, SCHEME_COUNT};
+use image::{byte, pair, rows_from};
 use image_check::read_image;
 use text::frames::sizes::{FRAME, LINE, TABLE};
 use text::frames::{Refusal, put_bytes};
 
-// The lowest frame from first up to end whose row leaves label l or one above it, or end.
+/// The lowest frame from first up to end whose row leaves label l or one above it, or end.
 pub fn skip_below(table: &[u8], first: usize, end: usize, l: usize) -> usize
-    requires { (first ≤ end) × (end ≤ size table.now) }
+    requires in_order { first ≤ end }
+    requires inside { end ≤ size table.now }
     ensures { result ≡ lowest (is_row_reached table.now l) first (end - first) }
 {
     let mut f = first;
@@ -34,10 +35,11 @@ fn note_rows(table: &mut [u8])
     requires { table_verdict table.old ≡ fine }
     ensures { table.new ≡ noted_table table.old }
 {
-    let end = table.len() / FRAME;
     let labels = 1 + (byte(table, 0, SCHEME_COUNT) as usize);
     let last = byte(table, 0, LAST_LABEL) as usize;
     let mut f = rows_from(table);
+    // as the header counts: on 32 bits a length of 64 takes a long division, and a frame's number two registers
+    let end = f + (pair(table, 0, ROW_COUNT) as usize);
     for l in 0..last + 1 {
         f = skip_below(table, f, end, l + 1);
         let at = FRAME * (labels + l);
@@ -46,7 +48,10 @@ fn note_rows(table: &mut [u8])
     }
 }
 
-// In a buffer with room for any table, which a refusal leaves with what was read: no entry point.
+/// The prepared table of an image's text, in front of a buffer with room for any table; counts 0. Refusals: 1 to 3 and 11 to 13 of the image;
+/// the buffer then holds what was read. It is no entry point. It is called and not taken in, since every call on an image's text makes a
+/// table.
+#[inline(never)]
 pub fn prepare_table(text: &[u8], table: &mut [u8]) -> Result<usize, Refusal>
     requires { TABLE ≤ length table.old }
     ensures { GivesPrepared text.now table.old result table.new }
@@ -57,7 +62,9 @@ pub fn prepare_table(text: &[u8], table: &mut [u8]) -> Result<usize, Refusal>
     Ok(0)
 }
 
-// What the image check tries, then 16; counts the bytes of the table. A refusal leaves the buffer as it was.
+/// The prepared table of an image's text, in the first bytes of the buffer; those behind them stay. Refusals: 1 to 3 and 11 to 13 of the
+/// image, then 16 where the buffer has less room than ten bytes a line. Success counts the bytes of the table; a refusal leaves the buffer as
+/// it was.
 pub fn prepare(image: &[u8], table: &mut [u8]) -> Result<usize, Refusal>
     ensures { GivesBuffer (prepare image.now table.old) result table.new }
 {

@@ -1,7 +1,7 @@
 -- A function's label takes its row for bit 0 if nothing writes 1 to the bit of the number called meanwhile:
 -- from the call on the bit is 0, and the label stays in its place under the top, until the call's own return.
-use Rattle.std.proofs.Common.{if◌then◌else◌, ℕ, zero, suc, ◌+◌, ◌-◌, ◌≤◌, ◌<◌, Bool, true, false, ◌≡◌, refl, ap, ◌∙◌, subst, ◌⊎◌, inl, inr, nat_le, ◌==◌}
-use Rattle.std.proofs.Common.{length, get_or-set_other, arith, eqb-true, eq-eqb}
+use Rattle.std.proofs.Common.{if◌then◌else◌, ℕ, zero, suc, ◌+◌, ◌-◌, ◌≤◌, ◌<◌, Bool, true, false, ◌≡◌, refl, ap, ◌∙◌, subst, nat_le}
+use Rattle.std.proofs.Common.{◌⊎◌, inl, inr, ◌==◌, length, get_or-set_other, arith, eqb-true, eq-eqb}
 use borrow.Author.Tests.{eqb-false, lt-leb}
 use Rattle.std.proofs.lemmas.Grind.{common_steps}
 use Rattle.words.proofs.lists.Tests.{no_both, or-l, or-cases, and-l, and-r, and-true, and-false}
@@ -96,19 +96,20 @@ module _ (l d h : ℕ) (some : 1 ≤ d) (deep : 2 ≤ h) where
     bits-wait : (b : Results) → result_of h b ≡ false → Waits (with_bits s b)
     bits-wait b e = record { above = y.above; label = y.label; unset = e }
 
-    pushed_waits : (m code g k : ℕ) (b : Results) → nat_le s.size s.depth ≡ false → result_of h b ≡ false
+    pushed-waits : (m code g k : ℕ) (b : Results) → nat_le s.size s.depth ≡ false → result_of h b ≡ false
         → After (pushed_tick i s m code g k b (nat_le s.size s.depth))
-    pushed_waits m code g k b room e = grind (arith, common_steps)
+    pushed-waits m code g k b room e = grind (arith, common_steps)
 
-    popped-waits : (w m : ℕ) (b : Results) → (s.depth ≡ suc d → ⊥) → result_of h b ≡ false → After (popped_tick i s w m b (nat_le s.depth 1))
+    popped-waits : (w m : ℕ) (b : Results) → (s.depth ≡ suc d → ⊥) → result_of h b ≡ false
+        → After (popped_tick i s w m b (nat_le s.depth 1))
     popped-waits w m b low e = grind (arith, common_steps, get_or-set_other, lt-leb, moved-waits)
 
     -- by the tick kind of the top label; a call has a place free, and a return is not the call's own
     by-waits : (w k : ℕ) (x : Label) (b : Results) → result_of h b ≡ false → (1 ≤ k → k ≤ 2 → nat_le s.size s.depth ≡ false)
         → (k ≡ 3 → s.depth ≡ suc d → ⊥) → After (tick_by i s w (top_of s) x b (tick_kind k))
     by-waits w zero x b e room own = grind (arith, common_steps, moved-waits, bits-wait)
-    by-waits w (suc zero) x b e room own = grind (arith, common_steps, pushed_waits)
-    by-waits w (suc (suc zero)) x b e room own = grind (arith, common_steps, pushed_waits)
+    by-waits w (suc zero) x b e room own = grind (arith, common_steps, pushed-waits)
+    by-waits w (suc (suc zero)) x b e room own = grind (arith, common_steps, pushed-waits)
     by-waits w (suc (suc (suc zero))) x b e room own = grind (arith, common_steps, popped-waits)
     by-waits w (suc (suc (suc (suc k)))) x b e room own = grind (arith, common_steps, moved-waits, bits-wait)
 
@@ -132,15 +133,11 @@ module _ (l d h : ℕ) (some : 1 ≤ d) (deep : 2 ≤ h) where
 module _ (i : Image) (sound : SoundImage i) where
   -- only label 1 returns
   return-is : (l : ℕ) → (label_at i l).kind ≡ 3 → label_at i l ≡ return_label
-  return-is zero k = grind (arith, common_steps)
-  return-is (suc zero) k = grind (arith, common_steps)
-  return-is (suc (suc l)) k = grind (arith, common_steps)
+  return-is l k = grind (arith, common_steps, sound.back, sound.home, sound.others)
 
   -- a function's label calls a number of 2 up
   function-calls : (l : ℕ) → l < length i.labels → (label_at i l).kind ≡ 2 → 2 ≤ (label_at i l).called
-  function-calls zero m k = absurd (omega (arith, ap (λ (x : Label). x.kind) sound.home))
-  function-calls (suc zero) m k = absurd (omega (arith, ap (λ (x : Label). x.kind) sound.back))
-  function-calls (suc (suc l)) m k = ((sound.others (suc (suc l)) (omega arith) m).calls (λ p. omega arith)).0
+  function-calls l m k = grind (arith, common_steps, sound.back, sound.home, sound.others)
 
   module _ (s : State) (f : Fits i s) (kinded : (label_at i (top_of s)).kind ≡ 2) where
     abbrev x : Label

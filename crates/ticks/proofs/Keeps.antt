@@ -1,16 +1,14 @@
 -- On a sound image a tick keeps a fitting state fitting, however it ends.
-use Rattle.std.proofs.Common.{if◌then◌else◌, ℕ, zero, suc, ◌+◌, ◌-◌, ◌≤◌, ◌<◌, Bool, true, false, ◌&&◌, ◌||◌, not, ◌≡◌, refl, ap, ap₂, ◌∙◌, nat_le, ◌==◌}
-use Rattle.std.proofs.Common.{sym, subst, List, length, get_or-set_other, arith, eq-eqb, leb-false}
+use Rattle.std.proofs.Common.{ℕ, zero, suc, ◌+◌, ◌-◌, ◌≤◌, ◌<◌, Bool, true, false, ◌&&◌, not, ◌≡◌, refl, ap, ap₂, ◌∙◌, nat_le}
+use Rattle.std.proofs.Common.{◌==◌, sym, subst, List, length, get_or-set_other, arith, leb-false}
 use Rattle.std.proofs.Math.ListN.{get_or-replicate}
-use borrow.Author.Tests.{eqb-false}
 use Rattle.std.proofs.lemmas.Grind.{common_steps}
-use Rattle.words.proofs.lists.Tests.{and-true}
-use Rattle.results.specs.Results.{Results, with_result, cleared_results}
+use Rattle.results.specs.Results.{Results, cleared_results}
 use Rattle.bindings.specs.Binding.{server_of}
 use Rattle.text.specs.frames.Frame.{contents}
 use Rattle.text.specs.frames.Verdict.{fine}
 use Rattle.image.specs.Layout.{tick_kind}
-use Rattle.image.specs.Image.{Image, Label}
+use Rattle.image.specs.Image.{Image}
 use Rattle.image.specs.Decode.{decoded_image}
 use Rattle.image.specs.Check.{image_verdict}
 use Rattle.image.specs.inner.Sound.{Reaches, SoundImage}
@@ -18,14 +16,14 @@ use Rattle.image.proofs.Accepted.{image-sound}
 use Rattle.rows.specs.Rows.{Found, found, missing}
 use Rattle.state.specs.State.{State, fresh, label_at, entry_at, place_at, number_at, server_at, Sized}
 use Rattle.state.specs.Changes.{with_place, with_bits}
-use Rattle.fitness.specs.Fitness.{is_call, is_callable, is_of_handler, is_badly_served, is_unfit}
+use Rattle.fitness.specs.Fitness.{is_call, is_callable, is_badly_served, is_unfit}
 use Rattle.fitness.proofs.Fitness.{Fits, fits, unfits, callable-range, called-served}
 use Rattle.ticks.specs.Functions.{FreshFits, TickFits}
-use Rattle.ticks.specs.Tick.{row_leads, MachineTick, finished, stopped, moved_tick, popped_state, state_alone, full_tick, pushed_tick}
+use Rattle.ticks.specs.Tick.{row_leads, MachineTick, finished, stopped, moved_tick, popped_state, full_tick, pushed_tick}
 use Rattle.ticks.specs.Tick.{popped_tick, tick_by, tick}
-use Rattle.ticks.proofs.Leads.{Sort, home_sort, return_sort, numbered_sort, sort, row-leads, call-kind, called-range, not-return}
+use Rattle.ticks.proofs.Leads.{Sort, sort, row-leads, call-kind, called-range, not-return}
 use Rattle.ticks.proofs.Leads.{reaches-over, enters, carry-told, may-carry, home-bottom, handler-bottom}
-use Rattle.ticks.proofs.Changes.{only-zero, bits_fit, replaced-fits, opening-fits, dropping-fits, alone-fits}
+use Rattle.ticks.proofs.Changes.{only-zero, bits-fit, replaced-fits, opening-fits, dropping-fits, alone-fits}
 
 module _ (i : Image) (sound : SoundImage i) where
   -- ---- one tick
@@ -33,13 +31,10 @@ module _ (i : Image) (sound : SoundImage i) where
   Keeps (finished m k t) = Fits i t
   Keeps (stopped n) = Unit {0}
 
-  moved_keeps : (m code : ℕ) (t : State) (k : ℕ) (r : Found)
+  moved-keeps : (m code : ℕ) (t : State) (k : ℕ) (r : Found)
       → ((u : ℕ) → r ≡ found u → Fits i (with_place t k u)) → Keeps (moved_tick m code t k r)
-  moved_keeps m code t k (found u) h = h u refl
-  moved_keeps m code t k missing h = tt
-
-  own-true : (h : ℕ) → (h == h && h == h) ≡ true
-  own-true h = and-true (h == h) (h == h) (eq-eqb h h refl) (eq-eqb h h refl)
+  moved-keeps m code t k (found u) h = h u refl
+  moved-keeps m code t k missing h = tt
 
   module _ (s : State) (f : Fits i s) where
     abbrev top : ℕ
@@ -49,26 +44,21 @@ module _ (i : Image) (sound : SoundImage i) where
     top-low = f.labels (s.depth - 1) (omega (arith, f.some))
 
     plain-keeps : (w : ℕ) (b : Results) → (label_at i top).kind ≡ 0 → Keeps (tick_by i s w top (label_at i top) b (tick_kind 0))
-    plain-keeps w b e = moved_keeps _ 0 (with_bits s b) _ (row_leads i b top w)
-        (λ u q. replaced-fits i sound (with_bits s b) u (bits_fit i sound s b f) (not-return i sound top top-low (λ p. omega arith))
+    plain-keeps w b e = moved-keeps _ 0 (with_bits s b) _ (row_leads i b top w)
+        (λ u q. replaced-fits i sound (with_bits s b) u (bits-fit i sound s b f) (not-return i sound top top-low (λ p. omega arith))
         (row-leads i sound top w _ u q))
 
     full-keeps : (m : ℕ) (b : Results) → Keeps (full_tick i s m b)
-    full-keeps m b = go (i.handler == 0) refl (is_of_handler i (place_at s 0))
-      where
-        h : ℕ
-        h = i.handler
-
-        go : (t : Bool) → (i.handler == 0) ≡ t → (r : Bool)
-            → Keeps (if t || r then stopped 17 else finished m 96 (state_alone s (entry_at i i.handler) i.handler
-            (cleared_results i.handler b)))
-        go true e r = tt
-        go false e true = tt
-        go false e false =
-            let range : (2 ≤ h) × (h ≤ length i.entries) = sound.handled (eqb-false i.handler 0 e) in
-            let into : Reaches i h (entry_at i h) = enters i sound h range.0 range.1 in
-            alone-fits i sound s (entry_at i h) h (cleared_results h b) f into.inside
-            (handler-bottom i sound (entry_at i h) (h == 1 && h == 1) (h == h && h == h) range.0 into (own-true h))
+    full-keeps m b =
+        let h : ℕ = i.handler in
+        grind (
+          arith,
+          common_steps,
+          sound.handled,
+          enters i sound,
+          handler-bottom i sound,
+          alone-fits i sound s (entry_at i h) h (cleared_results h b) f,
+        )
 
     call-keeps : (m code : ℕ) (b : Results) → is_call (label_at i top) ≡ true
         → Keeps (pushed_tick i s m code (label_at i top).called (server_of s.serving (label_at i top).called) b (nat_le s.size s.depth))
@@ -121,36 +111,25 @@ module _ (i : Image) (sound : SoundImage i) where
 
         go : (t : Bool) → nat_le s.depth 1 ≡ t → Keeps (popped_tick i s w m b t)
         go true q = alone-fits i sound s 0 1 b f (omega (arith, sound.two)) (home-bottom i sound _)
-        go false q = moved_keeps m 3 (popped_state s b) _ (row_leads i b (place_at s (s.depth - 2)) w)
+        go false q = moved-keeps m 3 (popped_state s b) _ (row_leads i b (place_at s (s.depth - 2)) w)
             (λ u p. back (leb-false s.depth 1 q) u (row-leads i sound (place_at s (s.depth - 2)) w _ u p))
 
     home-keeps : (b : Results) → 4 ≤ (label_at i top).kind → Fits i (with_place (with_bits s b) (s.depth - 1) (entry_at i 1))
-    home-keeps b e = go (sort i sound top top-low)
-      where
-        go : Sort i sound top → Fits i (with_place (with_bits s b) (s.depth - 1) (entry_at i 1))
-        go (home_sort z q o) = replaced-fits i sound (with_bits s b) (entry_at i 1) (bits_fit i sound s b f) (λ p. omega arith)
-            (subst (λ (h : ℕ). Reaches i h (entry_at i 1)) (sym o) (sound.starts 0 sound.first))
-        go (return_sort z q o) = absurd (omega arith)
-        go (numbered_sort z q) = absurd (omega arith)
+    home-keeps b e =
+        let into : Reaches i 1 (entry_at i 1) = sound.starts 0 sound.first in
+        let own : Sort i sound top = sort i sound top top-low in
+        grind (arith, common_steps, replaced-fits i sound (with_bits s b) (entry_at i 1) (bits-fit i sound s b f), into, own)
+
+    by-keeps : (w : ℕ) (b : Results) (k : ℕ) → (label_at i top).kind ≡ k → Keeps (tick_by i s w top (label_at i top) b (tick_kind k))
+    by-keeps w b zero e = plain-keeps w b e
+    by-keeps w b (suc zero) e = call-keeps _ _ b (rw e)
+    by-keeps w b (suc (suc zero)) e = call-keeps _ _ b (rw e)
+    by-keeps w b (suc (suc (suc zero))) e = return-keeps _ w b
+    by-keeps w b (suc (suc (suc (suc n)))) e = home-keeps b (omega arith)
 
     pub tick-keeps : (w : ℕ) → Keeps (tick i s w)
     unfolding tick
-    tick-keeps w = go (label_at i top).kind refl
-      where
-        x : Label
-        x = label_at i top
-
-        b : Results
-        b = with_result x.result (number_at s (s.depth - 1)) s.bits
-
-        go : (k : ℕ) → (label_at i top).kind ≡ k
-            → Keeps (tick_by i s w top (label_at i top) (with_result (label_at i top).result (number_at s (s.depth - 1)) s.bits)
-            (tick_kind k))
-        go zero e = plain-keeps w b e
-        go (suc zero) e = call-keeps _ _ b (rw e)
-        go (suc (suc zero)) e = call-keeps _ _ b (rw e)
-        go (suc (suc (suc zero))) e = return-keeps _ w b
-        go (suc (suc (suc (suc n)))) e = home-keeps b (omega arith)
+    tick-keeps w = by-keeps w _ (label_at i top).kind refl
 
   -- ---- a fresh state
   own-serves : (n h : ℕ) → 2 ≤ h → h < 17 → is_badly_served i (fresh n) h ≡ false

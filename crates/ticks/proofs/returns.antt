@@ -1,2 +1,1 @@
-pub mod BeneathCases
 pub mod ReturnCases

@@ -1,24 +1,21 @@
 // A call that finds the stack full: it drops all open schemes for the handler, or is refused.
-ghost use Rattle.std.specs.Prelude.{◌≡◌};
-ghost use Rattle.image.specs.Decode.{scheme_count};
-ghost use Rattle.tables.specs.Table.{table_image};
-ghost use Rattle.tables.specs.inner.Asked.{Whole};
+ghost use Rattle.std.specs.Prelude.{true, false, ◌≡◌, ◌≤◌};
+ghost use Rattle.tables.specs.Table.{table_image, table_label};
 ghost use Rattle.state.specs.Kept.{view};
-ghost use Rattle.ticks.specs.Tick.{is_full_stack_kept};
-ghost use Rattle.ticks.specs.inner.TickContracts.{TopFull, GivesTickEnd};
+ghost use Rattle.fitness.specs.Fitness.{has_bad_depth, is_call};
+ghost use Rattle.ticks.specs.Tick.{top_of, is_full_stack_kept};
+ghost use Rattle.ticks.specs.inner.TickContracts.{GivesTickEnd};
 
-use crate::TickEnd;
+use crate::{Tick, TickEnd, TickMove};
 use state::State;
-use tables::{entry_of, handler_of, label_of, label_read};
+use tables::Table;
 use text::frames::codes::DROP_CODE;
-use text::frames::refusals::FULL;
 
 // Whether a full stack is kept: there is no handler, or it is at the bottom.
-fn keeps_full(table: &[u8], state: &State) -> bool
-    requires { Whole table.now }
-    ensures { result ≡ is_full_stack_kept (table_image table.now) (view state.now) }
+fn keeps_full(table: &Table, state: &State) -> bool
+    ensures { result ≡ is_full_stack_kept (table_image table.now.bytes.now) (view state.now) }
 {
-    let handler = handler_of(table);
+    let handler = table.handler();
     if handler == 0 {
         return true;
     }
@@ -26,35 +23,34 @@ fn keeps_full(table: &[u8], state: &State) -> bool
     if l == 1 {
         return true;
     }
-    let bottom = label_of(table, l);
+    let bottom = table.label(l);
     bottom.owner == handler
 }
 
 // A call at depth Σ: the caller's result is written, then the handler's bit cleared, and its entry is all that the stack holds; a
 // stack that is kept refuses the call.
-pub fn tick_full(table: &[u8], schemes: u8, state: &mut State, word: u16) -> TickEnd
-    requires top_full { TopFull table.now (view state.old) }
-    requires schemes_value { schemes ≡ scheme_count table.now }
-    ensures { GivesTickEnd table.now state.old word result state.new }
+pub fn tick_full(table: &Table, state: &mut State, word: u16) -> TickEnd
+    requires depth { has_bad_depth (view state.old) ≡ false }
+    requires full { state.old.size ≤ state.old.depth }
+    requires low { 2 ≤ top_of (view state.old) }
+    requires high { top_of (view state.old) ≤ table.now.last }
+    requires calls { is_call (table_label table.now.bytes.now (top_of (view state.old))) ≡ true }
+    ensures { GivesTickEnd table.now.bytes.now state.old word result state.new }
 {
     if keeps_full(table, state) {
-        return TickEnd {
-            number: FULL,
-            mask: 0,
-            code: 0,
-        };
+        return TickEnd::Full;
     }
     let top = (state.depth as usize) - 1;
-    let label = label_read(table, schemes, state.places[top] as usize);
-    let handler = handler_of(table);
-    let entry = entry_of(table, handler);
+    let label = table.numbered_label(state.places[top] as usize);
+    let handler = table.handler();
+    let entry = table.entry(handler);
     let caller = state.numbers[top];
     state.put_result(label.result, caller);
     state.put_result(1, handler);
     state.put_alone(entry, handler);
-    TickEnd {
-        number: 0,
+    let tick = Tick {
         mask: label.mask,
         code: DROP_CODE,
-    }
+    };
+    TickEnd::Finished(TickMove { tick, label: entry })
 }

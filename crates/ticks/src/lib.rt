@@ -5,10 +5,9 @@
 
 ghost use Rattle.std.specs.Prelude.{◌≡◌};
 ghost use Rattle.state.specs.Kept.{view};
-ghost use Rattle.ticks.specs.Tick.{stopped};
 ghost use Rattle.ticks.specs.Functions.{CallClears, Drops, ZeroRow, FreshFits, TickFits};
 ghost use Rattle.ticks.specs.codes.CodesApart.{CodeMeans, CodesApart, DropMeans, DropApart, KindBack, MeaningCoded};
-ghost use Rattle.ticks.specs.inner.TickContracts.{bit_of, end_of_tick};
+ghost use Rattle.ticks.specs.inner.TickContracts.{bit_of};
 
 pub mod calls;
 pub mod codes;
@@ -18,21 +17,34 @@ pub mod stepping;
 
 use image::layout::{FUNCTION_CALL, NO_BIT};
 use state::State;
-use text::frames::refusals::NO_ROW;
 
-// What a tick answers: 0, or the number that stops it, and then nothing is changed.
-#[derive(Drop)]
-pub struct TickEnd {
-    pub number: u8,
+/// What stops a tick, and then nothing is changed: the stack is full, or no row matches.
+#[derive(Clone, Copy)]
+pub enum Stop {
+    Full,
+    NoRow,
+}
+
+/// What a finished tick gives: the mask that it emits and its code.
+#[derive(Clone, Copy)]
+pub struct Tick {
     pub mask: u32,
     pub code: u8,
 }
 
-// The same, and the label at the top after it: the next tick of a run need not read it again.
-#[derive(Drop)]
+/// The same, and the label at the top after it: the next tick of a run need not read it again.
+#[derive(Clone, Copy)]
 pub struct TickMove {
-    pub step: TickEnd,
+    pub tick: Tick,
     pub label: u8,
+}
+
+/// How a tick ends: finished or stopped, in one enum for the loop of a run.
+#[derive(Clone, Copy)]
+pub enum TickEnd {
+    Finished(TickMove),
+    Full,
+    NoRow,
 }
 
 // The bit that decides among the rows of a label: the result of the number that it calls, where it is a function's, else 2.
@@ -43,17 +55,6 @@ pub fn bit_of(state: &State, kind: u8, called: u8) -> u8
         return state.result_of(called) as u8;
     }
     NO_BIT
-}
-
-// A tick that finds no row to go on by: nothing is done.
-pub fn no_row() -> TickEnd
-    ensures { result ≡ end_of_tick (stopped NO_ROW) }
-{
-    TickEnd {
-        number: NO_ROW,
-        mask: 0,
-        code: 0,
-    }
 }
 
 /// A call clears the bit of the number called and a drop that of the handler alone, and a function takes its row for bit 0 where nothing

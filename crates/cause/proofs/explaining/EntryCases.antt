@@ -20,7 +20,6 @@ use Rattle.cause.proofs.table_causes.CauseCases.{tells-none}
 
 pub image-ordered : (t b : List ℕ) → MadeTable t b → Ordered b
 image-ordered t b made = record {
-  whole = made.whole;
   sound =
       subst SoundImage (sym made.holds) (image-sound t made.accepted);
   starts = made.starts;

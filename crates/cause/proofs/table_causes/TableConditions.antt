@@ -3,7 +3,7 @@
 use Rattle.std.proofs.Common.{if◌then◌else◌, ℕ, zero, suc, ◌+◌, ◌-◌, ◌^◌, ◌≤◌, ◌<◌, Bool, ◌&&◌, ◌||◌, not, ◌≡◌, refl, sym, ◌∙◌, ap, ap₂, ◌==◌, flat_map}
 use Rattle.std.proofs.Common.{subst, List, [], ◌∷◌, ◌++◌, map, arith, bit_and, bit_or, eq-eqb, ne_eqb}
 use Rattle.std.proofs.Math.Decide.{ℕ_discrete}
-use lib.Bits.{or_zero_l}
+use Rattle.std.specs.Int.Bits.{or_zero_l}
 use Rattle.std.proofs.lemmas.Grind.{common_steps}
 use Rattle.words.specs.lists.Numbers.{range, lowest}
 use Rattle.std.specs.List.{AllByRecursion}

@@ -19,4 +19,4 @@ slice_bounds-written-end-2 c = done-part _ _ _ _ _ c.translate.ensures.answered 
 
 pub returns : goal.returns
 returns c =
-    ran _ _ _ _ _ _ _ _ c.translate.ensures _ c.in_ok-count.was _ c.fresh-made.ensures _ _ _ _ c.run-report.ensures _ c.in_ok-made.was
+    ran _ _ _ _ _ _ _ _ c.translate.ensures _ c.in_ok-count.was _ c.fresh-made.ensures _ _ _ _ c.run_apart-report.ensures _ c.in_ok-made.was

@@ -1,5 +1,5 @@
 -- The loops that tally, turn by turn.
-use Rattle.std.proofs.Common.{ℕ, suc, ◌+◌, ◌*◌, ◌-◌, ◌^◌, ◌≤◌, ◌<◌, ◌≡◌, sym, ◌∙◌, ap, subst, List, add-zero, mul-zero, suc-mul, arith, ◌==◌}
+use Rattle.std.proofs.Common.{ℕ, suc, false, ◌+◌, ◌*◌, ◌-◌, ◌^◌, ◌≤◌, ◌<◌, ◌≡◌, sym, ◌∙◌, ap, subst, List, add-zero, mul-zero, suc-mul, arith, ◌==◌}
 use Rattle.std.proofs.Math.Nat.{pow-le-pow_right}
 use Rattle.std.proofs.lemmas.Grind.{common_steps}
 use Rattle.words.specs.lists.Numbers.{sum}
@@ -11,11 +11,9 @@ use Rattle.tables.specs.Table.{table_image}
 use Rattle.state.specs.declared.State.{State as Kept}
 use Rattle.state.specs.State.{State}
 use Rattle.state.specs.Kept.{view}
-use Rattle.ticks.specs.declared.TickEnd.{TickEnd}
-use Rattle.ticks.specs.Tick.{MachineTick, tick}
-use Rattle.ticks.specs.inner.TickContracts.{TickAsked, GivesTickEnd}
+use Rattle.ticks.specs.Tick.{MachineTick, finished, stopped, tick}
+use Rattle.fitness.specs.Fitness.{has_bad_depth}
 use Rattle.ticks.proofs.TickCases.{stands-on}
-use Rattle.runs.proofs.TurnCases.{went, stood}
 use Rattle.fillings.specs.Counts.{words_of, lists, number_met, count_meeting}
 use Rattle.fillings.specs.declared.fill_counts.Tally.{Tally}
 use Rattle.fillings.specs.fill_counts.inner.TallyContracts.{tally_of, all_meet, tally_sum, FewLists}
@@ -32,16 +30,6 @@ share_of i n k x = record { ended = share i n k 0 x; full = share i n k 17 x; un
 pub tally-none : (i : Image) (s : State) (k : ℕ) → all_meet 0 1 ≡ tally_of i s 0 k
 tally-none i s k = sym (same-tally (meeting-none i s k 0) (meeting-none i s k 17) (meeting-none i s k 18))
 
-module _ (b : List ℕ) (before : Kept) (w : ℕ) (r : TickEnd) (after : Kept) (q : GivesTickEnd b before w r after) (n k : ℕ) where
-  abbrev made : MachineTick
-  made = tick (table_image b) (view before) w
-
-  pub went-share : r.number ≡ 0 → tally_of (table_image b) (view after) n k ≡ share_of (table_image b) n k made
-  went-share z = sym (ap (share_of (table_image b) n k) (went b before w r after q z))
-
-  pub stood-share : (r.number ≡ 0 → ⊥) → all_meet r.number (lists n k) ≡ share_of (table_image b) n k made
-  stood-share z = sym (ap (share_of (table_image b) n k) (stood b before w r after q z))
-
 -- ---- words that all are 0
 one_word : (i : Image) (s : State) (n number : ℕ) → count_meeting i s (suc n) 0 number ≡ share i n 0 number (tick i s 0)
 one_word i s n number = grind (arith, common_steps, sum-none, sum-suc, meeting-more, add-zero, share)
@@ -54,7 +42,7 @@ one_list n = ap (λ (m : ℕ). 2 ^ m) (mul-zero n)
 
 -- so many words are left
 pub record One (b : List ℕ) (start : Kept) (n : ℕ) (s : Kept) (left : ℕ) : Type 0 where
-  pub stands : TickAsked b (view s)
+  pub depth : has_bad_depth (view s) ≡ false
   pub same : tally_of (table_image b) (view s) left 0 ≡ tally_of (table_image b) (view start) n 0
 
 module _ {b : List ℕ} {start : Kept} {n : ℕ} {s : Kept} {left : ℕ} (y : One b start n s left) where
@@ -69,15 +57,15 @@ module _ {b : List ℕ} {start : Kept} {n : ℕ} {s : Kept} {left : ℕ} (y : On
       let e : suc (left - 1) ≡ left = omega arith in
       sym (one-share i (view s) (left - 1)) ∙ ap (λ (m : ℕ). tally_of i (view s) m 0) e ∙ y.same
 
-  module _ (l : 0 < left) (r : TickEnd) (next : Kept) (q : GivesTickEnd b s 0 r next) where
-    pub one-on : r.number ≡ 0 → One b start n next (left - 1)
-    one-on z = record {
-      stands = stands-on q y.stands;
-      same = went-share b s 0 r next q (left - 1) 0 z ∙ by-share l;
+  module _ (l : 0 < left) where
+    pub one-on : (m c : ℕ) (next : Kept) → tick i (view s) 0 ≡ finished m c (view next) → One b start n next (left - 1)
+    one-on m c next q = record {
+      depth = stands-on b (view s) 0 y.depth m c (view next) q;
+      same = sym (ap (share_of i (left - 1) 0) q) ∙ by-share l;
     }
 
-    pub one-stood : (r.number ≡ 0 → ⊥) → (t : Tally) → t ≡ all_meet r.number 1 → t ≡ all
-    one-stood z t e = grind (arith, common_steps, stood-share, one_list, by-share)
+    pub one-stood : (number : ℕ) → tick i (view s) 0 ≡ stopped number → (t : Tally) → t ≡ all_meet number 1 → t ≡ all
+    one-stood number q t e = grind (arith, common_steps, one_list, by-share)
 
   pub one-over : left ≤ 0 → (t : Tally) → t ≡ all_meet 0 1 → t ≡ all
   one-over l t e =
@@ -117,7 +105,7 @@ pub left-few : (n k left : ℕ) → n ≡ suc left → n * k ≤ 16 → (left * 
 left-few n k left e l = grind (arith, common_steps, suc-mul)
 
 pub record Part (b : List ℕ) (kept : Kept) (n k left listed words : ℕ) (tally : Tally) (word : ℕ) : Type 0 where
-  pub stands : TickAsked b (view kept)
+  pub depth : has_bad_depth (view kept) ≡ false
   pub whole : n ≡ suc left
   pub few : n * k ≤ 16
   pub all_lists : listed ≡ lists left k
@@ -125,7 +113,7 @@ pub record Part (b : List ℕ) (kept : Kept) (n k left listed words : ℕ) (tall
   pub low : word ≤ words
   pub part : tally ≡ partly (table_image b) (view kept) left k word
 
-pub part-first : (b : List ℕ) (kept : Kept) (n k left listed words : ℕ) (tally : Tally) → TickAsked b (view kept)
+pub part-first : (b : List ℕ) (kept : Kept) (n k left listed words : ℕ) (tally : Tally) → has_bad_depth (view kept) ≡ false
     → n ≡ suc left → n * k ≤ 16 → listed ≡ lists left k → words ≡ 2 ^ k → tally ≡ all_meet 0 0
     → Part b kept n k left listed words tally 0
 part-first b kept n k left listed words tally y e l u v t = grind (arith, common_steps, sum-none, same-tally)
@@ -146,11 +134,30 @@ module _ {b : List ℕ} {kept : Kept} {n k left listed words : ℕ} {tally : Tal
     few-here : (number : ℕ) → sum (sharing image s left k number) 0 (word + 1) ≤ 65536
     few-here number = grind (arith, common_steps, partly-few)
 
-    pub part-few : FewLists (tally_sum tally t)
+    part-few : FewLists (tally_sum tally t)
     part-few = subst FewLists (sym sums) (record { ended = few-here 0; full = few-here 17; unmatched = few-here 18 })
 
-    pub part-on : (t' : Tally) → t' ≡ tally_sum tally t → Part b kept n k left listed words t' (word + 1)
-    part-on t' q = grind (arith, common_steps, sums)
+    part-on : Part b kept n k left listed words (tally_sum tally t) (word + 1)
+    part-on = grind (arith, common_steps, sums)
+
+  -- the tick by this word is finished, and then what the lists add is known from its state; or it is stopped, and they all meet its number
+  module _ (l : word < words) where
+    module _ (m c : ℕ) (u : State) (q : tick image s word ≡ finished m c u) (t : Tally) (e : t ≡ tally_of image u left k) where
+      pub went-few : FewLists (tally_sum tally t)
+      went-few = part-few l t (e ∙ sym (ap (share_of image left k) q))
+
+      pub went-on : Part b kept n k left listed words (tally_sum tally t) (word + 1)
+      went-on = part-on l t (e ∙ sym (ap (share_of image left k) q))
+
+    module _ (number : ℕ) (q : tick image s word ≡ stopped number) (t : Tally) (e : t ≡ all_meet number listed) where
+      same : t ≡ share_of image left k (tick image s word)
+      same = e ∙ ap (all_meet number) y.all_lists ∙ sym (ap (share_of image left k) q)
+
+      pub stood-few : FewLists (tally_sum tally t)
+      stood-few = part-few l t same
+
+      pub stood-on : Part b kept n k left listed words (tally_sum tally t) (word + 1)
+      stood-on = part-on l t same
 
   pub part-over : words ≤ word → tally ≡ tally_of image s n k
   part-over l =

@@ -1,198 +1,124 @@
 -- The places up to the depth, looked at from the bottom up with the number that the label below calls.
-use Rattle.std.proofs.Common.{ℕ, ◌+◌, ◌-◌, ◌≤◌, ◌<◌, Bool, true, false, ◌&&◌, ◌||◌, not, ◌≡◌, sym, ◌∙◌, ap, ap₂, subst, ◌⊎◌, inl, inr, List, nat_lt, nat_le, ◌==◌}
-use Rattle.std.proofs.Common.{arith, length, lt-ltb, le-ltb, le-leb}
-use borrow.Author.Tests.{lt-leb}
+use Rattle.std.proofs.Common.{ℕ, suc, ◌+◌, ◌≤◌, ◌<◌, Bool, true, false, ◌&&◌, ◌||◌, not, ◌≡◌, refl, sym, ◌∙◌, ap, ◌⊎◌, inl, inr, List, nat_lt}
+use Rattle.std.proofs.Common.{arith, length, lt-ltb, le-ltb, le-leb, zero-add, nat_le}
+use Rattle.std.proofs.lemmas.Bool.{lt-leb}
 use Rattle.std.proofs.lemmas.Grind.{common_steps}
 use Rattle.words.specs.lists.Numbers.{any}
-use Rattle.words.proofs.lists.Tests.{or-none, or-true-l, or-true-r, and-true, and-no, split}
-use Rattle.words.proofs.lists.Searches.{any-true, any-none}
+use Rattle.words.proofs.lists.Tests.{or-none, or-true-l, or-true-r, split}
+use Rattle.words.proofs.lists.Searches.{any-true, any-snoc}
 use Rattle.image.specs.Image.{Image, Label}
 use Rattle.image.specs.Decode.{scheme_count, last_label, handler_in}
 use Rattle.tables.specs.Table.{table_image, table_label}
-use Rattle.tables.specs.inner.Labels.{as_label}
-use Rattle.tables.proofs.TableReads.{labels-count, entries-count, label-at}
-use Rattle.state.specs.State.{State, label_at, place_at, number_at, server_at}
-use Rattle.fitness.specs.Fitness.{is_call, is_callable, is_unfit_place, has_bad_bottom}
+use Rattle.tables.proofs.TableReads.{labels-count, entries-count, handler-at, label-at}
+use Rattle.state.specs.State.{State, place_at, number_at, server_at}
+use Rattle.fitness.specs.Fitness.{is_call, is_able_to_carry, is_unfit_place, has_bad_bottom}
 use Rattle.fitness.specs.inner.FitnessContracts.{is_astray, is_miscalled, is_astray_at_bottom}
-use Rattle.fitness.proofs.Fitness.{is_carried}
-use Rattle.tables.specs.declared.Label as declared
 
-module _ (i : Image) (s : State) where
-  -- the label at place k
-  abbrev pub at_place : ℕ → Label
-  at_place k = label_at i (place_at s k)
-
-  abbrev pub is_whole_unfit : Bool
-  is_whole_unfit = any (is_unfit_place i s) 0 s.depth || has_bad_bottom i s
-
-  -- the label at place k is of the scheme that served there, or label 1; the place is one of the number called
-  abbrev over : ℕ → Bool
-  over k = place_at s k == 1 || (at_place k).owner == server_at s k
-
-  abbrev right : ℕ → ℕ → Bool
-  right called k = number_at s k == called && is_callable i (server_at s k)
-
-  -- ---- one place
-  one-unfit : (k : ℕ) → k < s.depth → is_unfit_place i s k ≡ true → is_whole_unfit ≡ true
-  one-unfit k h e =
-      or-true-l (any (is_unfit_place i s) 0 s.depth) (has_bad_bottom i s)
-      (any-true (is_unfit_place i s) 0 s.depth k (omega arith) (omega arith) e)
-
-  abbrev Inside : ℕ → Type 0
-  Inside k = place_at s k < length i.labels
-
-  pub place-high : (k : ℕ) → k < s.depth → length i.labels ≤ place_at s k → is_whole_unfit ≡ true
-  place-high k h g = one-unfit k h (or-true-l _ _ (le-leb (length i.labels) (place_at s k) g))
-
-  carries : (k : ℕ) → k + 1 < s.depth → (t : Bool) → is_carried i s k ≡ t
-      → (nat_lt (k + 1) s.depth && not (is_carried i s k)) ≡ not t
-  carries k h t e = rw (lt-ltb (k + 1) s.depth h, e)
-
-  place-loose : (k : ℕ) → k + 1 < s.depth → is_carried i s k ≡ false → is_whole_unfit ≡ true
-  place-loose k h e = one-unfit k (omega arith) (or-true-r (nat_le (length i.labels) (place_at s k)) _ (carries k h false e))
-
-  place_kept : (k : ℕ) → k + 1 < s.depth → Inside k → is_carried i s k ≡ true → is_unfit_place i s k ≡ false
-  place_kept k h g e = or-none _ _ (lt-leb (length i.labels) (place_at s k) g) (carries k h true e)
-
-  place-top : (k : ℕ) → s.depth ≤ k + 1 → Inside k → is_unfit_place i s k ≡ false
-  place-top k h g = grind (arith, common_steps)
-
-  -- a label that is no call is kept under none
-  pub place-idle : (k : ℕ) → k + 1 < s.depth → is_call (at_place k) ≡ false → is_whole_unfit ≡ true
-  place-idle k h e =
-      place-loose k h
-      (ap (λ (t : Bool). t && number_at s (k + 1) == (at_place k).called && is_callable i (server_at s (k + 1)) && over (k + 1)) e)
-
-  bottom-bad : has_bad_bottom i s ≡ true → is_whole_unfit ≡ true
-  bottom-bad e = or-true-r (any (is_unfit_place i s) 0 s.depth) (has_bad_bottom i s) e
-
-  -- ---- what is known once the label at place k was found to belong there, and when the place above a call is reached
-  pub record Belongs (k : ℕ) : Type 0 where
-    pub held : Inside k
-    pub lower : (j : ℕ) → j < k → is_unfit_place i s j ≡ false
-    pub bottom : has_bad_bottom i s ≡ false
-
-  pub record PassedPlaces (number k : ℕ) : Type 0 where
-    pub some : 1 ≤ k
-    pub below : Belongs (k - 1)
-    pub call : is_call (at_place (k - 1)) ≡ true
-    pub called : (at_place (k - 1)).called ≡ number
-
-  pub belongs-first : Inside 0 → has_bad_bottom i s ≡ false → Belongs 0
-  belongs-first g e = record { held = g; lower = λ j l. absurd (omega arith); bottom = e }
-
-  module _ (number k : ℕ) (c : PassedPlaces number k) (here : k < s.depth) where
-    -- whether the place below carries this one
-    carried : is_carried i s (k - 1) ≡ (right number k && over k)
-    carried = grind (arith, common_steps)
-
-    pub stray : (right number k && over k) ≡ false → is_whole_unfit ≡ true
-    stray e = place-loose (k - 1) (omega (arith, c.some)) (carried ∙ e)
-
-    pub belongs-above : right number k ≡ true → over k ≡ true → Inside k → Belongs k
-    belongs-above r o g = record { held = g; lower = λ j h. low j (split (j + 1) k) h; bottom = c.below.bottom }
-      where
-        low : (j : ℕ) → (j + 1 < k) ⊎ (k ≤ j + 1) → j < k → is_unfit_place i s j ≡ false
-        low j (inl a) h = c.below.lower j (omega arith)
-        low j (inr a) h =
-            let q : k - 1 ≡ j = omega (arith, c.some) in
-            ap (is_unfit_place i s) (sym q) ∙ place_kept (k - 1) (omega (arith, c.some)) c.below.held
-            (carried ∙ and-true (right number k) (over k) r o)
-
-  module _ (k : ℕ) (y : Belongs k) where
-    pub top-fits : s.depth ≤ k + 1 → is_whole_unfit ≡ false
-    top-fits h =
-        or-none (any (is_unfit_place i s) 0 s.depth) (has_bad_bottom i s)
-        (any-none (is_unfit_place i s) 0 s.depth (λ j b. each (0 + j) (split (0 + j) k) (omega arith))) y.bottom
-      where
-        each : (j : ℕ) → (j < k) ⊎ (k ≤ j) → j < s.depth → is_unfit_place i s j ≡ false
-        each j (inl a) b = y.lower j a
-        each j (inr a) b = let e : k ≡ j = omega arith in ap (is_unfit_place i s) (sym e) ∙ place-top k h y.held
-
-    pub passed-next : is_call (at_place k) ≡ true → PassedPlaces (at_place k).called (k + 1)
-    passed-next e = record {
-      some = omega arith;
-      below = subst Belongs back y;
-      call = ap (λ (m : ℕ). is_call (at_place m)) (sym back) ∙ e;
-      called = ap (λ (m : ℕ). (at_place m).called) (sym back);
-    }
-      where
-        back : k ≡ k + 1 - 1
-        back = omega arith
-
-  pub passed-all : (number k : ℕ) → PassedPlaces number k → s.depth ≤ k → is_whole_unfit ≡ false
-  passed-all number k c h = top-fits (k - 1) c.below (omega (arith, c.some))
-
-flip : (x u : Bool) → u ≡ not x → x ≡ not u
-flip true u e = sym (ap not e)
-flip false u e = sym (ap not e)
-
--- ---- as the code meets it: l was read at place k, and the label l as z
-module _ (b : List ℕ) (s : State) (k l last : ℕ) (place : l ≡ place_at s k) (most : last ≡ last_label b) where
+module _ (b : List ℕ) (s : State) where
   abbrev image : Image
   image = table_image b
 
-  pub pass-high : k < s.depth → last < l → true ≡ is_whole_unfit image s
-  pass-high here h = sym (place-high image s k here (omega (arith, labels-count b)))
+  -- the label at place k
+  abbrev at_place : ℕ → Label
+  at_place k = table_label b (place_at s k)
 
-  module _ (low : l ≤ last) (z : declared.Label) (read : as_label z ≡ table_label b l) where
-    held : place_at s k < length image.labels
-    held = omega (arith, labels-count b)
+  abbrev pub is_any_unfit : Bool
+  is_any_unfit = any (is_unfit_place image s) 0 s.depth || has_bad_bottom image s
 
-    label-is : at_place image s k ≡ as_label z
-    label-is = ap (label_at image) (sym place) ∙ label-at b l ∙ sym read
+  -- ---- one place
+  unfit-found : (k : ℕ) → k < s.depth → is_unfit_place image s k ≡ true → true ≡ is_any_unfit
+  unfit-found k h e = sym (or-true-l _ _ (any-true (is_unfit_place image s) 0 s.depth k (omega arith) (omega arith) e))
 
-    owner-is : (at_place image s k).owner ≡ z.owner
-    owner-is = ap (λ (x : Label). x.owner) label-is
+  -- place k, which the label below called as that number, may not stand above it
+  abbrev pub is_wrong : ℕ → ℕ → Bool
+  is_wrong called k =
+      is_miscalled (scheme_count b) (number_at s k) called (server_at s k) || is_astray (at_place k).owner (server_at s k) (place_at s k)
 
-    -- at the bottom
-    module _ (first : k ≡ 0) (t : Bool) (e : t ≡ is_astray_at_bottom (handler_in b) z.owner l (number_at s 0) (server_at s 0)) where
-      bottom-is : has_bad_bottom image s ≡ t
-      unfolding table_image
-      bottom-is = grind (arith, common_steps, owner-is)
+  abbrev is_kept : ℕ → ℕ → Bool
+  is_kept j k = is_call (at_place j) && not (is_wrong (at_place j).called k)
 
-      pub bottom-stray : t ≡ true → true ≡ is_whole_unfit image s
-      bottom-stray q = sym (bottom-bad image s (bottom-is ∙ q))
+  carries-is : (j k : ℕ) → is_able_to_carry image (place_at s j) (number_at s k) (server_at s k) (place_at s k) ≡ is_kept j k
+  carries-is j k = grind (arith, common_steps, label-at, entries-count)
 
-      pub bottom-belongs : t ≡ false → Belongs image s k
-      bottom-belongs q = grind (arith, common_steps, belongs-first, held, bottom-is)
+  -- place j does not carry the one above it
+  abbrev is_loose : ℕ → Bool
+  is_loose j = nat_lt (j + 1) s.depth
+      && not (is_able_to_carry image (place_at s j) (number_at s (j + 1)) (server_at s (j + 1)) (place_at s (j + 1)))
 
-    -- whether it is a call
-    module _ (y : Belongs image s k) (u : Bool) (f : u ≡ not (z.kind == 1 || z.kind == 2)) where
-      call-is : is_call (at_place image s k) ≡ not u
-      call-is = ap is_call label-is ∙ flip (z.kind == 1 || z.kind == 2) u f
+  module _ (j k : ℕ) (next : k ≡ j + 1) where
+    place-loose : k < s.depth → is_kept j k ≡ false → is_unfit_place image s j ≡ true
+    place-loose h e = or-true-r (nat_le (length image.labels) (place_at s j)) (is_loose j) (rw (sym next, lt-ltb k s.depth h, carries-is j k, e))
 
-      pub pass-top : (depth : ℕ) → depth ≡ s.depth → u ≡ true → nat_lt (k + 1) depth ≡ is_whole_unfit image s
-      pass-top depth deep q = go (split (k + 1) depth)
-        where
-          go : (k + 1 < depth) ⊎ (depth ≤ k + 1) → nat_lt (k + 1) depth ≡ is_whole_unfit image s
-          go (inl h) = lt-ltb (k + 1) depth h ∙ sym (place-idle image s k (omega arith) (call-is ∙ ap not q))
-          go (inr h) = le-ltb (k + 1) depth h ∙ sym (top-fits image s k y (omega arith))
+    place-fits : place_at s j ≤ last_label b → (k < s.depth → is_kept j k ≡ true) → is_unfit_place image s j ≡ false
+    place-fits h e = or-none _ _ (lt-leb (length image.labels) (place_at s j) (omega (arith, labels-count b))) (go (split k s.depth))
+      where
+        go : (k < s.depth) ⊎ (s.depth ≤ k) → is_loose j ≡ false
+        go (inl l) = rw (sym next, lt-ltb k s.depth l, carries-is j k, e l)
+        go (inr l) = rw (sym next, le-ltb k s.depth l)
 
-      pub pass-next : u ≡ false → PassedPlaces image s z.called (k + 1)
-      pass-next q =
-          subst (λ (h : ℕ). PassedPlaces image s h (k + 1)) (ap (λ (x : Label). x.called) label-is)
-          (passed-next image s k y (call-is ∙ ap not q))
+    any-up : any (is_unfit_place image s) 0 j ≡ false → is_unfit_place image s j ≡ false → any (is_unfit_place image s) 0 k ≡ false
+    any-up h e =
+        let up : k ≡ suc j = omega arith in
+        ap (any (is_unfit_place image s) 0) up ∙ any-snoc (is_unfit_place image s) 0 j
+        ∙ or-none _ _ h (ap (is_unfit_place image s) (zero-add j) ∙ e)
 
-  -- above a call of that number: n and m were read as the place's number and server
-  module _ (called : ℕ) (c : PassedPlaces image s called k) (here : k < s.depth) (H n m : ℕ)
-      (schemes : H ≡ scheme_count b) (number : n ≡ number_at s k)
-      (server : m ≡ server_at s k) (t : Bool) (e : t ≡ is_miscalled H n called m) where
-    right_is : right image s called k ≡ not t
-    right_is = grind (arith, common_steps, entries-count, flip)
+  pub bottom-is : has_bad_bottom image s
+      ≡ is_astray_at_bottom (handler_in b) (at_place 0).owner (place_at s 0) (number_at s 0) (server_at s 0)
+  bottom-is = grind (arith, common_steps, label-at, handler-at)
 
-    pub pass-miscalled : t ≡ true → true ≡ is_whole_unfit image s
-    pass-miscalled q = sym (stray image s called k c here (ap (λ (x : Bool). x && over image s k) (right_is ∙ ap not q)))
+  -- ---- what is known once the label at place k was found to belong there, and when the place above a call is reached
+  pub record Belongs (k : ℕ) : Type 0 where
+    pub open_place : k < s.depth
+    pub inside : place_at s k ≤ last_label b
+    pub lower : any (is_unfit_place image s) 0 k ≡ false
+    pub bottom : has_bad_bottom image s ≡ false
 
-    module _ (served : t ≡ false) (low : l ≤ last) (z : declared.Label) (read : as_label z ≡ table_label b l) (u : Bool)
-        (f : u ≡ is_astray z.owner m l) where
-      over-is : over image s k ≡ not u
-      over-is =
-          ap₂ (λ (j o : ℕ). j == 1 || o == server_at s k) (sym place) (owner-is low z read)
-          ∙ ap (λ (j : ℕ). l == 1 || z.owner == j) (sym server) ∙ flip (l == 1 || z.owner == m) u f
+  pub record PassedPlaces (called k : ℕ) : Type 0 where
+    pub place : ℕ
+    pub next : k ≡ place + 1
+    pub below : Belongs place
+    pub call : is_call (at_place place) ≡ true
+    pub number : (at_place place).called ≡ called
 
-      pub pass-stray : u ≡ true → true ≡ is_whole_unfit image s
-      pass-stray q = sym (stray image s called k c here (and-no (right image s called k) (over image s k) (over-is ∙ ap not q)))
+  pub pass-high : (k : ℕ) → k < s.depth → last_label b < place_at s k → true ≡ is_any_unfit
+  pass-high k h l = unfit-found k h (or-true-l _ _ (le-leb (length image.labels) (place_at s k) (omega (arith, labels-count b))))
 
-      pub pass-belongs : u ≡ false → Belongs image s k
-      pass-belongs q = belongs-above image s called k c here (right_is ∙ ap not served) (over-is ∙ ap not q) (held low z read)
+  pub pass-bottom : is_astray_at_bottom (handler_in b) (at_place 0).owner (place_at s 0) (number_at s 0) (server_at s 0) ≡ true
+      → true ≡ is_any_unfit
+  pass-bottom e = sym (or-true-r _ _ (bottom-is ∙ e))
+
+  pub belongs-first : 1 ≤ s.depth → place_at s 0 ≤ last_label b
+      → is_astray_at_bottom (handler_in b) (at_place 0).owner (place_at s 0) (number_at s 0) (server_at s 0) ≡ false → Belongs 0
+  unfolding any
+  belongs-first h l e = record { open_place = omega arith; inside = l; lower = refl; bottom = bottom-is ∙ e }
+
+  module _ (called k : ℕ) (c : PassedPlaces called k) where
+    pub pass-wrong : k < s.depth → is_wrong called k ≡ true → true ≡ is_any_unfit
+    pass-wrong h e =
+        unfit-found c.place c.below.open_place (place-loose c.place k c.next h (rw (c.call, c.number, e)))
+
+    pub belongs-above : k < s.depth → place_at s k ≤ last_label b → is_wrong called k ≡ false → Belongs k
+    belongs-above h l e = record {
+      open_place = h;
+      inside = l;
+      lower = any-up c.place k c.next c.below.lower (place-fits c.place k c.next c.below.inside (λ m. rw (c.call, c.number, e)));
+      bottom = c.below.bottom;
+    }
+
+  all-fit : (k : ℕ) → Belongs k → s.depth ≤ k + 1 → false ≡ is_any_unfit
+  all-fit k y h =
+      let top : s.depth ≡ k + 1 = omega (arith, y.open_place) in
+      sym (or-none _ _ (any-up k s.depth top y.lower (place-fits k s.depth top y.inside (λ m. absurd (omega arith)))) y.bottom)
+
+  pub pass-top : (k : ℕ) → Belongs k → is_call (at_place k) ≡ false → nat_lt (k + 1) s.depth ≡ is_any_unfit
+  pass-top k y e = go (split (k + 1) s.depth)
+    where
+      go : (k + 1 < s.depth) ⊎ (s.depth ≤ k + 1) → nat_lt (k + 1) s.depth ≡ is_any_unfit
+      go (inl h) = lt-ltb (k + 1) s.depth h ∙ unfit-found k y.open_place (place-loose k (k + 1) refl h (rw e))
+      go (inr h) = le-ltb (k + 1) s.depth h ∙ all-fit k y h
+
+  pub pass-next : (called k : ℕ) → Belongs k → is_call (at_place k) ≡ true → (at_place k).called ≡ called → PassedPlaces called (k + 1)
+  pass-next called k y e q = record { place = k; next = refl; below = y; call = e; number = q }
+
+  pub pass-all : (called k : ℕ) → PassedPlaces called k → s.depth ≤ k → false ≡ is_any_unfit
+  pass-all called k c h = all-fit c.place c.below (omega (arith, c.next))

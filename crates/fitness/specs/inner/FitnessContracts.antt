@@ -1,14 +1,5 @@
--- What the tests of a state's fitness ask and promise.
-use Rattle.std.specs.Prelude.{ℕ, ◌≤◌, Bool, ◌&&◌, ◌||◌, not, List, if◌then◌else◌, nat_le, ◌==◌}
-use Rattle.tables.specs.inner.Asked.{Whole}
-use Rattle.state.specs.declared.layout.TheConstants.{PLACES}
-use Rattle.state.specs.State.{State}
-
--- a table, and 1 to 32 places in use
-pub record DeepTable (b : List ℕ) (s : State) : Type 0 where
-  pub whole : Whole b
-  pub some : 1 ≤ s.depth
-  pub most : s.depth ≤ PLACES
+-- What the tests of a state's fitness promise.
+use Rattle.std.specs.Prelude.{ℕ, Bool, ◌&&◌, ◌||◌, not, if◌then◌else◌, nat_le, ◌==◌}
 
 -- label l of that owner may not stand where one of that scheme is open
 abbrev pub is_astray : ℕ → ℕ → ℕ → Bool

@@ -3,7 +3,7 @@ use Rattle.std.proofs.Common.{ℕ, ◌≤◌, ◌<◌, Bool, true, false, ◌≡
 use Rattle.std.proofs.Common.{lt-ltb, le-ltb, Ok, Err, if◌then◌else◌}
 use Rattle.std.proofs.lemmas.Grind.{common_steps}
 use Rattle.std.proofs.lemmas.Bool.{cond-true, cond-false}
-use Rattle.words.proofs.lists.Tests.{or-none, split}
+use Rattle.words.proofs.lists.Tests.{split}
 use Rattle.text.specs.frames.Frame.{contents}
 use Rattle.text.specs.frames.Verdict.{Verdict, fine, refused, next, when}
 use Rattle.text.specs.frames.Answer.{Answer, reply_number, reply, verdict_reply, reply_count}
@@ -18,6 +18,7 @@ use Rattle.state.specs.Kept.{view}
 use Rattle.fitness.specs.Fitness.{is_unfit}
 use Rattle.runs.specs.Run.{MachineRun, ticks, RunOutcome, has_no_room, run_verdict, run_on, run}
 use Rattle.runs.specs.InPlace.{state_after, GivesRunOn}
+use Rattle.runs.specs.machine.inner.Sources.{sourced_run}
 use Rattle.runs.proofs.RunCases.{kept_run}
 use Rattle.runs.proofs.RunCounts.{run-count}
 use Rattle.runs.proofs.machine.Held.{run-held}
@@ -26,6 +27,13 @@ use Rattle.prices.specs.priced_runs.PricedRun.{has_too_many_words, in_turn, pric
 use Rattle.prices.specs.priced_runs.PricedRun.{priced_run}
 use Rattle.prices.specs.priced_runs.InPlace.{state_priced, GivesPricedRunOn}
 use Rattle.prices.proofs.priced_runs.Pricing.{does-all, by-the-masks}
+
+-- ---- a run by the image's text is the run on the image
+pub text-ran : (t : List ℕ) (before : Kept) (ws ms ks : List ℕ) (a : Answer) (after : Kept) (us vs : List ℕ)
+    → GivesRunOn (sourced_run (image_verdict t) (decoded_image (contents t)) (view before) ws ms ks) before a after us vs
+    → GivesRunOn (run t (view before) ws ms ks) before a after us vs
+unfolding sourced_run run run_verdict
+text-ran t before ws ms ks a after us vs ran = ran
 
 -- ---- more words than are priced
 -- what is tried before 27, and with it

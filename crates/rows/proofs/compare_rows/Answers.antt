@@ -1,38 +1,31 @@
 -- `rows::compare_rows` meets its contract: the best row so far, with those still to come, is the best of all.
-use Rattle.std.proofs.Common.{◌+◌, sym, subst, rules}
-use Rattle.rows.proofs.SearchCases.{compared-some, compared-none, Searched}
-use Rattle.rows.proofs.SearchCases.{search-over, search-other, search-own}
+use Rattle.std.proofs.Common.{◌+◌, refl, sym, subst, rules}
+use Rattle.rows.specs.inner.Search.{swapped_word}
+use Rattle.rows.proofs.SearchCases.{Comparing, comparing-other, comparing-own, reached-over}
 use Rattle.rows.proofs.compare_rows.Goals.{else-is_matching, then-is_matching}
 use Rattle.rows.proofs.compare_rows.Goals as goal
 
+pub loop-frame-init : goal.loop-frame-init
+loop-frame-init c = record { inside = c.requires.inside; reached = λ l d. refl }
+
+pub better_frame-best-requires-clause-first_inside : goal.better_frame-best-requires-clause-first_inside
+better_frame-best-requires-clause-first_inside c = c.loop-frame.invariant.inside
+
 pub loop-frame-preserved : goal.loop-frame-preserved
 loop-frame-preserved c =
-    let loop = c.loop-frame in
     let given = c.args in
-    let first = c.first_of-frame.result in
-    let found = c.is_matching in
+    let loop = c.loop-frame in
+    let on = Comparing given.bytes.now (swapped_word given.swapped) given.bit given.found given.first given.end (loop.frame + 1) in
     elim c.if-is_matching.branch [
-      | then-is_matching z ↦ subst (Searched given.table.now given.l given.word given.bit first c.end_of-end.result (loop.frame + 1))
-          (sym z.best-is)
-          (search-own given.table.now given.l given.word given.bit first c.end_of-end.result
-          loop.frame loop.best loop.invariant c.requires.deciding
-          c.loop-frame-test.true _ c.swap-swapped.ensures (search rules) _ found.ensures z.if-is_matching.true _
-          z.better_frame-best.ensures)
-      | else-is_matching z ↦ subst (Searched given.table.now given.l given.word given.bit first c.end_of-end.result (loop.frame + 1))
-          (sym z.best-is)
-          (search-other given.table.now given.l given.word given.bit first c.end_of-end.result
-          loop.frame loop.best loop.invariant c.requires.deciding
-          c.loop-frame-test.true _ c.swap-swapped.ensures (search rules) _ found.ensures z.if-is_matching.false)
+      | then-is_matching z ↦ subst on (sym z.best-is)
+          (comparing-own _ _ _ _ _ _ _ _ loop.invariant c.loop-frame-test.true (search rules) _ c.is_matching.ensures z.if-is_matching.true _
+          z.better_frame-best.ensures.better z.better_frame-best.ensures.inside)
+      | else-is_matching z ↦ subst on (sym z.best-is)
+          (comparing-other _ _ _ _ _ _ _ _ loop.invariant c.loop-frame-test.true (search rules) _ c.is_matching.ensures z.if-is_matching.false)
     ]
 
-pub returns-then-best-table : goal.returns-then-best-table
-returns-then-best-table c =
-    compared-some c.args.table.now c.args.l c.args.word c.args.bit _
-    (search-over c.args.table.now c.args.l c.args.word c.args.bit _ _ _ _ c.loop-frame.invariant
-    c.loop-frame-test.false c.first_of-frame.ensures c.end_of-end.ensures) c.if-best-table.true
-
 pub returns : goal.returns
-returns c =
-    compared-none c.args.table.now c.args.l c.args.word c.args.bit _
-    (search-over c.args.table.now c.args.l c.args.word c.args.bit _ _ _ _ c.loop-frame.invariant
-    c.loop-frame-test.false c.first_of-frame.ensures c.end_of-end.ensures) c.if-best-table.false
+returns c = record {
+  inside = c.loop-frame.invariant.inside;
+  best = λ l d. reached-over c.args.bytes.now l (swapped_word c.args.swapped) c.args.bit c.args.first c.args.end _ _ (c.loop-frame.invariant.reached l d) c.loop-frame-test.false;
+}

@@ -5,26 +5,26 @@ use Rattle.rows.proofs.is_matching.Goals as goal
 
 pub returns-then-swapped-low_pair : goal.returns-then-swapped-low_pair
 returns-then-swapped-low_pair c =
-    matching-not c.args.table.now c.args.swapped c.args.bit _ (search rules)
+    matching-not c.args.bytes.now c.args.swapped c.args.bit _ (search rules)
     (λ k. omega (arith, c.shared_slice_known-1.given k)) _ _
     c.low_pair.ensures c.low_pair-2.ensures c.if-swapped-low_pair.true
 
 pub returns-then-bit-eq-NO_BIT : goal.returns-then-bit-eq-NO_BIT
 returns-then-bit-eq-NO_BIT c =
-    matching-free c.args.table.now c.args.swapped c.args.bit _ (search rules)
+    matching-free c.args.bytes.now c.args.swapped c.args.bit _ (search rules)
     (λ k. omega (arith, c.shared_slice_known-1.given k)) _ _
     c.low_pair.ensures c.low_pair-2.ensures c.if-swapped-low_pair.false c.if-bit-eq-NO_BIT.true
 
 pub returns-then-only-eq-NO_BIT : goal.returns-then-only-eq-NO_BIT
 returns-then-only-eq-NO_BIT c =
-    matching-any c.args.table.now c.args.swapped c.args.bit _ (search rules)
+    matching-any c.args.bytes.now c.args.swapped c.args.bit _ (search rules)
     (λ k. omega (arith, c.shared_slice_known-1.given k)) _ _
     c.low_pair.ensures c.low_pair-2.ensures c.if-swapped-low_pair.false c.if-bit-eq-NO_BIT.false
     _ c.byte-only.ensures c.if-only-eq-NO_BIT.true
 
 pub returns : goal.returns
 returns c =
-    matching-bit c.args.table.now c.args.swapped c.args.bit _ (search rules)
+    matching-bit c.args.bytes.now c.args.swapped c.args.bit _ (search rules)
     (λ k. omega (arith, c.shared_slice_known-1.given k)) _ _
     c.low_pair.ensures c.low_pair-2.ensures c.if-swapped-low_pair.false c.if-bit-eq-NO_BIT.false
     _ c.byte-only.ensures c.if-only-eq-NO_BIT.false

@@ -1,12 +1,6 @@
 -- What success of the entry point says: the image is accepted, all its labels are counted, and the buffers hold the rows of each.
-use Prim.Native.Nat.{ℕ, ◌+◌, ◌≤◌, ◌<◌}
-use mathlib.Core.Bool.{Bool, true, false}
-use mathlib.Core.Path.{◌≡◌, refl, sym, ◌∙◌, subst}
-use mathlib.Core.Logic.{◌↔◌}
-use mathlib.Core.List.{List}
-use native.Mathlib.Omega.{arith}
-use Rattle.std.proofs.Common.{slice_index}
-use lib.ListN.{length, drop, get_or-append}
+use Rattle.std.proofs.Common.{ℕ, ◌+◌, ◌≤◌, ◌<◌, Bool, true, false, ◌≡◌, refl, sym, ◌∙◌, subst, ◌↔◌, List, arith, slice_index, length, drop}
+use Rattle.std.proofs.Math.ListN.{get_or-append}
 use Rattle.words.specs.lists.Numbers.{tabulate}
 use Rattle.words.specs.lists.Sequences.{over}
 use Rattle.words.proofs.lists.Tabulated.{length-tabulate, get_d-tabulate}

@@ -1,13 +1,14 @@
 -- Rows that a search passed over, and a pass that keeps the one row that matched.
-use Rattle.std.proofs.Common.{ℕ, zero, suc, ◌+◌, ◌-◌, ◌≤◌, ◌<◌, Bool, true, false, ◌≡◌, refl, sym, ◌∙◌, ap, subst, List, arith}
+use Rattle.std.proofs.Common.{ℕ, zero, suc, ◌+◌, ◌-◌, ◌≤◌, ◌<◌, Bool, true, false, ◌≡◌, refl, sym, ◌∙◌, ap, subst, List, slice_index, arith}
 use Rattle.std.proofs.Math.Decide.{ℕ_discrete}
 use Rattle.std.proofs.lemmas.Grind.{common_steps}
 use Rattle.text.specs.frames.Frame.{size}
 use Rattle.tables.specs.Table.{first_on, end_on}
+use Rattle.tables.specs.inner.Asked.{Whole}
 use Rattle.rows.specs.declared.TheConstants.{NO_FRAME}
-use Rattle.rows.specs.inner.Search.{swapped_word, is_matching_frame, found_at, chosen_frame, Chosen, Deciding}
-use Rattle.rows.proofs.SearchCases.{Searched, search-over, search-other, search-own, better-only, frame-named}
-use Rattle.rows.specs.row_search.inner.Skipped.{Unmatched, Skipped}
+use Rattle.rows.specs.inner.Search.{swapped_word, is_matching_frame, found_at, chosen_frame, Chosen, Deciding, BestFrom}
+use Rattle.rows.proofs.SearchCases.{Searched, all-searched, reached-over, search-other, search-own, better-only, frame-named, compared, few-frames, end-within}
+use Rattle.rows.specs.row_search.inner.FirstMatch.{Unmatched, FirstMatch}
 
 -- ---- rows that a search passed over, none of which matches
 module _ (b : List ℕ) (w bit from end f : ℕ) (s : Unmatched b w bit from end f)
@@ -40,7 +41,8 @@ module _ (b : List ℕ) (l w bit first end : ℕ) where
 
   pub pass-over : (f found : ℕ) → PassedRows b l w bit first end f found → end ≤ f → first ≡ first_on b l → end ≡ end_on b l
       → Chosen b l w bit found
-  pass-over f found s h p q = sym s.named ∙ ap chosen_frame (search-over b l w bit first end f found s.one h p q)
+  pass-over f found s h p q =
+      sym s.named ∙ ap chosen_frame (all-searched b l w bit first end (found_at b l found) (reached-over b l w bit first end f found s.one h) p q)
 
   module _ (d : Deciding b l bit) (swapped : ℕ) (e : swapped ≡ swapped_word w) (small : w < 65536) where
     -- by the test that was made of frame f
@@ -54,7 +56,11 @@ module _ (b : List ℕ) (l w bit first end : ℕ) where
       }
 
       pub pass-own : t ≡ true → f < size b → NO_FRAME ≤ found → PassedRows b l w bit first end (f + 1) f
-      pass-own y inside k = grind (arith, common_steps, better-only, frame-named, search-own)
+      pass-own y inside k = record {
+        table = s.table;
+        named = frame-named b f l inside;
+        one = search-own b l w bit first end f found s.one d h swapped e small t q y f (better-only b found f inside (omega (arith, s.table)));
+      }
 
     -- over n rows that do not match
     pass_on : (found n f r : ℕ) → r ≡ f + n → (f < r → r ≤ end)
@@ -65,9 +71,31 @@ module _ (b : List ℕ) (l w bit first end : ℕ) where
         pass_on found n (f + 1) r (omega arith) (λ _. h (omega arith)) (λ k g m. none k (omega arith) m)
         (pass-other f found s (omega (arith, h (omega arith))) false (sym (none f (omega arith) (omega arith))) refl)
 
-    pub pass-skip : (found f r : ℕ) → Skipped b (swapped_word swapped) bit f end r → PassedRows b l w bit first end f found
+    -- up to the first that matches
+    pass-first : (found f r : ℕ) → FirstMatch b (swapped_word swapped) bit f end r → PassedRows b l w bit first end f found
         → PassedRows b l w bit first end r found
-    pass-skip found f r k s = pass_on found (r - f) f r (omega (arith, k.passed.on)) k.passed.within k.passed.none s
+    pass-first found f r k s = pass_on found (r - f) f r (omega (arith, k.passed.on)) k.passed.within k.passed.none s
+
+    -- the row found first, and the one found behind it
+    module _ (whole : Whole b) (bytes : (k : ℕ) → slice_index b k < 256) (p : first ≡ first_on b l) (q : end ≡ end_on b l) (found : ℕ)
+        (x : FirstMatch b (swapped_word swapped) bit first end found) where
+      few : size b < NO_FRAME
+      few = few-frames b whole bytes
+
+      pub none-found : end ≤ found → Chosen b l w bit NO_FRAME
+      none-found h = pass-over found NO_FRAME (pass-first NO_FRAME first found x (pass-start few)) h p q
+
+      module _ (h : found < end) (second : ℕ) (y : FirstMatch b (swapped_word swapped) bit (found + 1) end second) where
+        to-second : PassedRows b l w bit first end second found
+        to-second =
+            pass-first found (found + 1) second y
+            (pass-own found NO_FRAME (pass-first NO_FRAME first found x (pass-start few)) h true (sym (x.stopped h)) refl (omega (arith, end-within b l end whole q)) (omega arith))
+
+        pub only-found : end ≤ second → Chosen b l w bit found
+        only-found g = pass-over second found to-second g p q
+
+        pub best-found : (r : ℕ) → BestFrom b (swapped_word swapped) bit found second end r → Chosen b l w bit r
+        best-found r z = compared b l w bit first end second found r swapped to-second.one d p q e small z
 
     -- a label with two rows, one of which matches
     module _ (few : size b < NO_FRAME) (p : first ≡ first_on b l) (q : end ≡ end_on b l) (two : end ≡ first + 2) (within : end ≤ size b)

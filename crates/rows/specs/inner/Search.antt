@@ -1,10 +1,10 @@
 -- What the search for a row among the frames of a table asks and promises.
-use Rattle.std.specs.Prelude.{ℕ, ◌+◌, ◌*◌, ◌/◌, ◌%◌, Bool, ◌&&◌, ◌||◌, ◌≡◌, List, if◌then◌else◌, nat_lt, ◌==◌}
+use Rattle.std.specs.Prelude.{ℕ, ◌+◌, ◌*◌, ◌/◌, ◌%◌, Bool, ◌&&◌, ◌||◌, ◌≡◌, ◌-◌, ◌<◌, List, map, if◌then◌else◌, nat_lt, ◌==◌}
+use Rattle.words.specs.lists.Numbers.{range}
 use Rattle.words.specs.bits.Word.{is_agreeing}
 use Rattle.text.specs.frames.Frame.{size, field, pair_at}
 use Rattle.image.specs.declared.layout.TheConstants.{CARE, VALUES, FUNCTION_BIT, NO_BIT, FUNCTION_CALL}
 use Rattle.tables.specs.Table.{table_label, first_on, row_on, rows_on}
-use Rattle.tables.specs.inner.Labels.{NumberedLabel}
 use Rattle.rows.specs.declared.TheConstants.{NO_FRAME}
 use Rattle.rows.specs.Rows.{Choice, row, no_choice, better_choice, best_row}
 
@@ -21,7 +21,7 @@ is_matching_frame b w bit f = is_agreeing w (pair_at b f CARE) (pair_at b f VALU
 abbrev pub found_at : List ℕ → ℕ → ℕ → Choice
 found_at b l f = if nat_lt f (size b) then row f (row_on b l f) else no_choice
 
--- r is the better of the row in frame best, none where that is past the table, and the later one in frame f, whatever label they leave
+-- r is the better of the row in frame best and the later one in frame f, whatever label they leave
 abbrev pub BetterOf : List ℕ → ℕ → ℕ → ℕ → Type 0
 BetterOf b best f r = (l : ℕ) → found_at b l r ≡ better_choice (found_at b l best) (row f (row_on b l f))
 
@@ -34,8 +34,13 @@ chosen_frame no_choice = NO_FRAME
 abbrev pub Chosen : List ℕ → ℕ → ℕ → ℕ → ℕ → Type 0
 Chosen b l w bit r = r ≡ chosen_frame (best_row l w bit (first_on b l) (rows_on b l))
 
--- a label that has rows of its own, and a bit that decides among them where it calls a function and nowhere else
+-- a bit that decides among the rows of a label where it calls a function and nowhere else
 pub record Deciding (b : List ℕ) (l bit : ℕ) : Type 0 where
-  pub label : NumberedLabel b l
   pub none : bit ≡ NO_BIT → (table_label b l).kind ≡ FUNCTION_CALL → ⊥
   pub some : (bit ≡ NO_BIT → ⊥) → (table_label b l).kind ≡ FUNCTION_CALL
+
+-- r is the best of the row in frame k and of those that match in the frames from f up to the end, whatever label they leave
+pub record BestFrom (b : List ℕ) (w bit k f end r : ℕ) : Type 0 where
+  pub inside : r < size b
+  pub best : (l : ℕ) → Deciding b l bit → found_at b l r ≡ better_choice (found_at b l k)
+      (best_row l w bit f (map (row_on b l) (range f (end - f))))

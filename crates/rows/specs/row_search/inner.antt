@@ -1,1 +1,1 @@
-pub mod Skipped
+pub mod FirstMatch

@@ -1,46 +1,61 @@
--- A call over the list of states gives what its parts give: a head that is refused, or a turn put into the list.
-use Rattle.std.proofs.Common.{◌≡◌, ℕ, ◌<◌, true, false, List, length, map, set, refl, arith, slice_index_or}
+-- A call over the list of states gives what its parts give: it is turned back, or a turn is put into the list.
+use Rattle.std.proofs.Common.{◌≡◌, ap, ℕ, zero, suc, ◌<◌, ◌≤◌, List, length, map, set, arith, refl, slice_index_or, Err}
 use Rattle.std.proofs.lemmas.List.{get_or-map, get_or-set_same, set-get_or, length-map}
 use Rattle.std.proofs.lemmas.Grind.{common_steps}
 use Rattle.text.specs.frames.Verdict.{Verdict, fine, refused}
+use Rattle.text.specs.frames.Answer.{reply, verdict_reply}
+use Rattle.text.specs.declared.frames.refusals.Refusal.{Refusal}
+use Rattle.text.specs.declared.frames.refusals.Refusal.TheVariants.{NoSpindle, Unfit}
+use Rattle.image.specs.Image.{Image}
 use Rattle.state.specs.State.{State, no_state}
 use Rattle.state.specs.Kept.{view}
 use Rattle.state.specs.declared.State.{State as Kept}
-use Rattle.runs.specs.TickOutcome.{TickOutcome}
+use Rattle.runs.specs.machine.inner.Sources.{sourced_tick}
 use Rattle.spindles.specs.declared.SpinReport.{SpinReport}
 use Rattle.spindles.specs.Spindles.{state_at, GivesSpin}
-use Rattle.spindles.specs.inner.HeadAndTurn.{is_bad_spin_call, refused_head, GivesRefusedHead, TurnOutcome, turn, GivesTurn, four_depths}
-use Rattle.spindles.specs.inner.HeadAndTurn.{head_spun, turn_spun, spin_in_parts}
-use Rattle.spindles.proofs.InParts.{head-refused, call-four, call-named}
-use Rattle.spindles.proofs.turning.Settled.{NumberedVerdict}
-
-head-numbered : (v : Verdict) (k : ℕ) → NumberedVerdict v → NumberedVerdict (refused_head v k)
-unfolding refused_head
-head-numbered v k l = grind (arith, common_steps)
+use Rattle.spindles.specs.inner.Parts.{TurnOutcome, turn, GivesTurn, four_depths, turn_spun, sourced_spin}
+use Rattle.spindles.proofs.InParts.{unnamed, unsourced, spun-parts}
 
 -- the code reads a state with a default of its own
 pub state-viewed : (ys : List Kept) (k : ℕ) (d : Kept) → k < length ys → state_at (map view ys) k ≡ view (slice_index_or ys k d)
 state-viewed ys k d l = get_or-map view ys k d no_state l
 
-module _ (ys : List Kept) (taken k : ℕ) (r : SpinReport) where
-  head-spun : (u : Verdict) → NumberedVerdict u → (u ≡ fine → ⊥) → GivesRefusedHead u taken r
-      → GivesSpin (head_spun u (map view ys) taken) ys k r ys
-  head-spun fine l told z = absurd (told refl)
-  head-spun (refused n i) l told z = grind (arith, common_steps)
+-- no depth is above their sum
+depth-low : (ys : List Kept) (k : ℕ) (d : Kept) → length ys ≡ 4 → k < 4 → (view (slice_index_or ys k d)).depth ≤ four_depths (map view ys)
+depth-low ys zero d n l = omega (arith, ap (λ (s : State). s.depth) (state-viewed ys 0 d (omega arith)))
+depth-low ys (suc zero) d n l = omega (arith, ap (λ (s : State). s.depth) (state-viewed ys 1 d (omega arith)))
+depth-low ys (suc (suc zero)) d n l = omega (arith, ap (λ (s : State). s.depth) (state-viewed ys 2 d (omega arith)))
+depth-low ys (suc (suc (suc zero))) d n l = omega (arith, ap (λ (s : State). s.depth) (state-viewed ys 3 d (omega arith)))
+depth-low ys (suc (suc (suc (suc k)))) d n l = absurd (omega arith)
 
-  module _ (v : Verdict) where
-    pub bad-spun : NumberedVerdict v → (x : TickOutcome) → is_bad_spin_call (length ys) k ≡ true
-        → GivesRefusedHead (refused_head v k) taken r → GivesSpin (spin_in_parts v (map view ys) taken k x) ys k r ys
-    bad-spun l x e z = grind (arith, common_steps, length-map, head-numbered, head-refused, head-spun)
+pub summed-low : (ys : List Kept) (k : ℕ) (d : Kept) (sum : ℕ) → length ys ≡ 4 → k < 4 → sum ≡ four_depths (map view ys)
+    → (slice_index_or ys k d).depth ≤ sum
+summed-low ys k d sum n l q = omega (arith, q, depth-low ys k d n l)
 
-    turned : (d s : Kept) (x : TurnOutcome) → k < length ys → GivesTurn x (slice_index_or ys k d) r s
-        → GivesSpin (turn_spun (map view ys) k x) ys k r (set ys k s)
-    turned d s x l z = grind (arith, common_steps, get_or-set_same, set-get_or, length-map)
+module _ (ys : List Kept) (taken k w : ℕ) where
+  turned : (r : SpinReport) (d s : Kept) (x : TurnOutcome) → k < length ys → GivesTurn x (slice_index_or ys k d) r s
+      → GivesSpin (turn_spun (map view ys) k x) ys k r (set ys k s)
+  turned r d s x l z = grind (arith, common_steps, get_or-set_same, set-get_or, length-map)
 
-    pub turn-spun : (f : State → TickOutcome) (d s : Kept) (sum : ℕ) → is_bad_spin_call (length ys) k ≡ false
-        → sum ≡ four_depths (map view ys)
-        → GivesTurn (turn v (view (slice_index_or ys k d)) sum taken (f (view (slice_index_or ys k d)))) (slice_index_or ys k d) r s
-        → GivesSpin (spin_in_parts v (map view ys) taken k (f (state_at (map view ys) k))) ys k r (set ys k s)
-    turn-spun f d s sum e q z =
-        let low : k < length ys = omega (arith, call-four (length ys) k e, call-named (length ys) k e) in
-        rw (length-map, e, state-viewed ys k d low, ← q) (turned d s _ low z)
+  -- it is turned back
+  abbrev pub by_refusal : Refusal → SpinReport
+  by_refusal e = record { answer = Err e; taken = taken }
+
+  module _ (i : Image) where
+    pub unnamed-spun : (v : Verdict) → 4 ≤ k → GivesSpin (sourced_spin v i (map view ys) taken k w) ys k (by_refusal NoSpindle) ys
+    unnamed-spun v l = rw (unnamed) (grind (arith, common_steps))
+
+    pub unsourced-spun : (v : Verdict) (e : Refusal) → ((n j : ℕ) → v ≡ refused n j → (1 ≤ n) × (n ≤ 16))
+        → reply (Err e) ≡ verdict_reply v 0 → k < 4 → GivesSpin (sourced_spin v i (map view ys) taken k w) ys k (by_refusal e) ys
+    unsourced-spun fine e early f l = absurd (grind (arith, common_steps))
+    unsourced-spun (refused n j) e early f l = let low = (early n j refl).0 in rw (unsourced) (grind (arith, common_steps))
+
+    pub unfit-spun : (length ys ≡ 4 → ⊥) → k < 4
+        → GivesSpin (sourced_spin fine i (map view ys) taken k w) ys k (by_refusal Unfit) ys
+    unfit-spun n l = grind (arith, common_steps, spun-parts, length-map)
+
+  pub turn-spun : (i : Image) (r : SpinReport) (d s : Kept) (sum : ℕ) → length ys ≡ 4 → k < 4 → sum ≡ four_depths (map view ys)
+      → (let old = view (slice_index_or ys k d) in GivesTurn (turn old sum taken (sourced_tick fine i old w)) (slice_index_or ys k d) r s)
+      → GivesSpin (sourced_spin fine i (map view ys) taken k w) ys k r (set ys k s)
+  turn-spun i r d s sum n l q z =
+      rw (spun-parts, length-map, n, state-viewed ys k d (omega arith), ← q) (turned r d s _ (omega arith) z)

@@ -15,17 +15,22 @@ slice_bounds-table-end c =
     let made = image-made _ _ _ _ c.prepare_table.ensures _ c.in_ok-prepare_table.was in
     omega (arith, made.few, c.prepare_table.auto.table)
 
-pub slice_bounds-cause_table-end : goal.slice_bounds-cause_table-end
-slice_bounds-cause_table-end c =
+pub slice_bounds-of-end : goal.slice_bounds-of-end
+slice_bounds-of-end c =
     let made = image-made _ _ _ _ c.prepare_table.ensures _ c.in_ok-prepare_table.was in
     made.long
+
+pub of-prepared-requires : goal.of-prepared-requires
+of-prepared-requires c =
+    let made = image-made _ _ _ _ c.prepare_table.ensures _ c.in_ok-prepare_table.was in
+    made.whole
 
 pub cause_table-requires : goal.cause_table-requires
 cause_table-requires c =
     let made = image-made _ _ _ _ c.prepare_table.ensures _ c.in_ok-prepare_table.was in
-    image-ordered _ _ made
+    rw c.of-prepared.ensures (image-ordered _ _ made)
 
 pub returns : goal.returns
 returns c =
     let made = image-made _ _ _ _ c.prepare_table.ensures _ c.in_ok-prepare_table.was in
-    image-told _ _ _ _ made _ c.cause_table.ensures
+    image-told _ _ _ _ made _ (rw c.of-prepared.ensures at c.cause_table.ensures)

@@ -6,23 +6,15 @@ use Rattle.text.specs.frames.Verdict.{when}
 use Rattle.image.specs.Decode.{last_label, rows_from}
 use Rattle.image.specs.inner.Sound.{SoundImage}
 use Rattle.tables.specs.Table.{first_on, rows_on, table_image}
-use Rattle.tables.specs.inner.Asked.{Whole}
-use Rattle.tables.specs.inner.Labels.{NumberedLabel}
 use Rattle.state.specs.State.{State}
 use Rattle.fitness.specs.Fitness.{is_unfit}
 use Rattle.cause.specs.Cause.{Leaving, leaves_label, nothing, cause_of, CauseOutcome, cause_on}
 
--- a table with a sound image, whose rows stand in the order of their labels:
+-- the bytes of a table with a sound image, whose rows stand in the order of their labels:
 -- before the first row of a label stand those of the labels below it
 pub record Ordered (b : List ℕ) : Type 0 where
-  pub whole : Whole b
   pub sound : SoundImage (table_image b)
   pub starts : (l : ℕ) → 2 ≤ l → l ≤ last_label b → first_on b l ≡ rows_from b + length (flat_map (rows_on b) (range 2 (l - 2)))
-
--- the same with a label of 2 to M
-pub record OrderedLabel (b : List ℕ) (l : ℕ) : Type 0 where
-  pub ordered : Ordered b
-  pub label : NumberedLabel b l
 
 -- the label that a tick leaves as a number; label 0 has no row
 abbrev pub leaving_number : Leaving → ℕ

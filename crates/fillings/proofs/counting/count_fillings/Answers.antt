@@ -1,8 +1,6 @@
 -- `fillings::counting::count_fillings` meets its contract: what refuses first, or the tally on the table of the image.
-use Rattle.std.proofs.Common.{false, ◌≡◌, sym, ◌∙◌, arith}
+use Rattle.std.proofs.Common.{sym, ◌∙◌, arith}
 use Rattle.tables.proofs.Made.{image-made}
-use Rattle.state.specs.State.{is_bad_size}
-use Rattle.fillings.specs.Counts.{has_too_many_lists}
 use Rattle.fillings.proofs.counting.EntryCases.{many-not, image-tells, size-tells, many-tells, all-tell}
 use Rattle.std.proofs.lemmas.Result.{err_from_is_err_and}
 use Rattle.fillings.proofs.counting.count_fillings.Goals as goal
@@ -27,21 +25,24 @@ slice_bounds-table-end c =
     let made = image-made _ _ _ _ c.prepare_table.ensures _ c.in_ok-prepare_table.was in
     omega (arith, made.few, c.prepare_table.auto.table)
 
-pub slice_bounds-tally-end : goal.slice_bounds-tally-end
-slice_bounds-tally-end c =
+pub slice_bounds-of-end : goal.slice_bounds-of-end
+slice_bounds-of-end c =
     let made = image-made _ _ _ _ c.prepare_table.ensures _ c.in_ok-prepare_table.was in
     made.long
 
-pub tally-requires : goal.tally-requires
-tally-requires c =
-    let few : let a = c.args in has_too_many_lists a.n a.k ≡ false = sym c.too_many.ensures ∙ c.if-too_many.false in
+pub of-prepared-requires : goal.of-prepared-requires
+of-prepared-requires c =
     let made = image-made _ _ _ _ c.prepare_table.ensures _ c.in_ok-prepare_table.was in
-    let size-good : is_bad_size c.args.size ≡ false = sym c.bad_size.ensures ∙ c.if-bad_size.false in
-    record { whole = made.whole; good_size = size-good; few_bits = many-not _ _ few }
+    made.whole
+
+pub tally-requires : goal.tally-requires
+tally-requires c = record {
+  good_size = sym c.bad_size.ensures ∙ c.if-bad_size.false;
+  few_bits = many-not _ _ (sym c.too_many.ensures ∙ c.if-too_many.false);
+}
 
 pub returns : goal.returns
 returns c =
-    let few : let a = c.args in has_too_many_lists a.n a.k ≡ false = sym c.too_many.ensures ∙ c.if-too_many.false in
     let made = image-made _ _ _ _ c.prepare_table.ensures _ c.in_ok-prepare_table.was in
-    let size-good : is_bad_size c.args.size ≡ false = sym c.bad_size.ensures ∙ c.if-bad_size.false in
-    all-tell _ _ _ _ made.accepted size-good _ made.holds few _ c.tally.ensures
+    all-tell _ _ _ _ made.accepted (sym c.bad_size.ensures ∙ c.if-bad_size.false) _ made.holds
+    (sym c.too_many.ensures ∙ c.if-too_many.false) _ (rw c.of-prepared.ensures at c.tally.ensures)

@@ -7,7 +7,7 @@ abbrev pub decreases-tally_all : goal.decreases-tally_all
 decreases-tally_all l = l.n
 
 abbrev pub invariant-loop-word : goal.invariant-loop-word
-invariant-loop-word l = Part l.table l.state l.n l.k l.left l.lists l.words l.tally l.word
+invariant-loop-word l = Part l.table.bytes.now l.state l.n l.k l.left l.lists l.words l.tally l.word
 
 abbrev pub decreases-loop-word : goal.decreases-loop-word
 decreases-loop-word l = l.words - l.word

@@ -1,14 +1,21 @@
 -- What the functions that tally lists of words ask and promise.
-use Rattle.std.specs.Prelude.{ℕ, ◌+◌, ◌≤◌, if◌then◌else◌, ◌==◌}
+use Rattle.std.specs.Prelude.{ℕ, ◌+◌, ◌≤◌, Option, None, Some, if◌then◌else◌, ◌==◌}
 use Rattle.text.specs.declared.frames.refusals.TheConstants.{FULL, NO_ROW}
 use Rattle.image.specs.Image.{Image}
 use Rattle.state.specs.State.{State}
+use Rattle.ticks.specs.declared.Stop.{Stop}
+use Rattle.ticks.specs.inner.TickContracts.{number_of}
 use Rattle.fillings.specs.Counts.{count_meeting}
 use Rattle.fillings.specs.declared.fill_counts.Tally.{Tally}
 
 -- all lists of n words, from a state
 abbrev pub tally_of : Image → State → ℕ → ℕ → Tally
 tally_of i s n k = record { ended = count_meeting i s n k 0; full = count_meeting i s n k FULL; unmatched = count_meeting i s n k NO_ROW }
+
+-- the number that a list meets which is stopped so, 0 for its end
+abbrev pub number_met_by : Option Stop → ℕ
+number_met_by None = 0
+number_met_by (Some x) = number_of x
 
 -- m lists, all of which meet one number
 abbrev pub all_meet : ℕ → ℕ → Tally

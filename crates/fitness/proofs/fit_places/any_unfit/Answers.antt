@@ -1,90 +1,48 @@
 -- `fitness::fit_places::any_unfit` meets its contract: the loop keeps what is known of the places below.
-use Rattle.std.proofs.Common.{◌<◌, refl, sym, arith}
-use Rattle.tables.specs.Table.{table_image}
-use Rattle.state.specs.State.{State}
+use Rattle.std.proofs.Common.{arith}
+use Rattle.std.proofs.lemmas.Grind.{common_steps}
 use Rattle.state.specs.Kept.{view}
-use Rattle.fitness.proofs.fit_places.UpwardCases.{Belongs, passed-all, bottom-stray, bottom-belongs}
-use Rattle.fitness.proofs.fit_places.UpwardCases.{pass-high, pass-miscalled, pass-stray, pass-belongs, pass-top, pass-next}
+use Rattle.fitness.proofs.fit_places.UpwardCases.{pass-high, pass-bottom, belongs-first, pass-wrong, belongs-above, pass-top, pass-next, pass-all}
 use Rattle.fitness.proofs.fit_places.any_unfit.Goals as goal
 
 pub returns-then-last-bottom : goal.returns-then-last-bottom
-returns-then-last-bottom c =
-    let state : State = view c.args.state.now in
-    pass-high _ state 0 _ _ refl c.last_label-last.ensures c.requires.some c.if-last-bottom.true
+returns-then-last-bottom c = pass-high _ (view c.args.state.now) 0 c.requires.some (grind (arith, common_steps))
 
 pub returns-then-is_astray_at_bottom : goal.returns-then-is_astray_at_bottom
-returns-then-is_astray_at_bottom c =
-    let state : State = view c.args.state.now in
-    bottom-stray _ state 0 _ _ refl c.last_label-last.ensures c.if-last-bottom.false _
-    c.label_of-first.ensures refl _ c.is_astray_at_bottom.ensures c.if-is_astray_at_bottom.true
+returns-then-is_astray_at_bottom c = pass-bottom _ (view c.args.state.now) (grind (arith, common_steps))
 
 pub returns-then-calls_none : goal.returns-then-calls_none
 returns-then-calls_none c =
-    let state : State = view c.args.state.now in
-    let bottom-held : Belongs (table_image c.args.table.now) state 0 =
-    bottom-belongs _ state 0 _ _ refl c.last_label-last.ensures c.if-last-bottom.false _ c.label_of-first.ensures
-    refl _ c.is_astray_at_bottom.ensures c.if-is_astray_at_bottom.false in
-    pass-top _ state 0 _ _ refl c.last_label-last.ensures c.if-last-bottom.false _
-    c.label_of-first.ensures bottom-held _ c.calls_none.ensures _ refl c.if-calls_none.true
+    pass-top _ (view c.args.state.now) 0
+    (belongs-first _ _ c.requires.some (grind (arith, common_steps)) (grind (arith, common_steps))) (grind (arith, common_steps))
 
 pub loop-k-init : goal.loop-k-init
 loop-k-init c =
-    let state : State = view c.args.state.now in
-    let bottom-held : Belongs (table_image c.args.table.now) state 0 =
-    bottom-belongs _ state 0 _ _ refl c.last_label-last.ensures c.if-last-bottom.false _ c.label_of-first.ensures
-    refl _ c.is_astray_at_bottom.ensures c.if-is_astray_at_bottom.false in
-    pass-next _ state 0 _ _ refl c.last_label-last.ensures c.if-last-bottom.false _
-    c.label_of-first.ensures bottom-held _ c.calls_none.ensures c.if-calls_none.false
+    pass-next _ _ _ 0 (belongs-first _ _ c.requires.some (grind (arith, common_steps)) (grind (arith, common_steps)))
+    (grind (arith, common_steps)) (grind (arith, common_steps))
 
 pub returns-then-last-l : goal.returns-then-last-l
-returns-then-last-l c =
-    let state : State = view c.args.state.now in
-    let inside : c.loop-k.k < state.depth = omega (arith, c.loop-k-test.true) in
-    pass-high _ state _ _ _ refl c.last_label-last.ensures
-    inside c.if-last-l.true
+returns-then-last-l c = pass-high _ (view c.args.state.now) c.loop-k.k (omega (arith, c.loop-k-test.true)) (grind (arith, common_steps))
 
 pub returns-then-is_miscalled : goal.returns-then-is_miscalled
 returns-then-is_miscalled c =
-    let state : State = view c.args.state.now in
-    let inside : c.loop-k.k < state.depth = omega (arith, c.loop-k-test.true) in
-    pass-miscalled _ state _ _ _ refl c.last_label-last.ensures
-    _ c.loop-k.invariant inside _ _ _ c.scheme_count-schemes.ensures refl
-    refl _ c.is_miscalled.ensures c.if-is_miscalled.true
+    pass-wrong _ _ _ _ c.loop-k.invariant (omega (arith, c.loop-k-test.true)) (grind (arith, common_steps))
 
 pub returns-then-is_astray : goal.returns-then-is_astray
 returns-then-is_astray c =
-    let state : State = view c.args.state.now in
-    let inside : c.loop-k.k < state.depth = omega (arith, c.loop-k-test.true) in
-    pass-stray _ state _ _ _ refl c.last_label-last.ensures
-    _ c.loop-k.invariant inside _ _ _ c.scheme_count-schemes.ensures refl
-    refl _ c.is_miscalled.ensures
-    c.if-is_miscalled.false c.if-last-l.false
-    _ c.label_of-label.ensures _ c.is_astray.ensures c.if-is_astray.true
+    pass-wrong _ _ _ _ c.loop-k.invariant (omega (arith, c.loop-k-test.true)) (grind (arith, common_steps))
 
 pub returns-then-calls_none-2 : goal.returns-then-calls_none-2
 returns-then-calls_none-2 c =
-    let state : State = view c.args.state.now in
-    let inside : c.loop-k.k < state.depth = omega (arith, c.loop-k-test.true) in
-    let turn-held : Belongs (table_image c.args.table.now) state c.loop-k.k =
-    pass-belongs _ state _ _ _ refl c.last_label-last.ensures _ c.loop-k.invariant inside _ _ _
-    c.scheme_count-schemes.ensures refl refl _ c.is_miscalled.ensures c.if-is_miscalled.false
-    c.if-last-l.false _ c.label_of-label.ensures _ c.is_astray.ensures c.if-is_astray.false in
-    pass-top _ state _ _ _ refl c.last_label-last.ensures
-    c.if-last-l.false _
-    c.label_of-label.ensures turn-held _ c.calls_none-in-loop-k.ensures
-    _ refl c.if-calls_none-2.true
+    pass-top _ (view c.args.state.now) c.loop-k.k
+    (belongs-above _ _ _ _ c.loop-k.invariant (omega (arith, c.loop-k-test.true)) (grind (arith, common_steps)) (grind (arith, common_steps)))
+    (grind (arith, common_steps))
 
 pub loop-k-preserved : goal.loop-k-preserved
 loop-k-preserved c =
-    let state : State = view c.args.state.now in
-    let inside : c.loop-k.k < state.depth = omega (arith, c.loop-k-test.true) in
-    let turn-held : Belongs (table_image c.args.table.now) state c.loop-k.k =
-    pass-belongs _ state _ _ _ refl c.last_label-last.ensures _ c.loop-k.invariant inside _ _ _
-    c.scheme_count-schemes.ensures refl refl _ c.is_miscalled.ensures c.if-is_miscalled.false
-    c.if-last-l.false _ c.label_of-label.ensures _ c.is_astray.ensures c.if-is_astray.false in
-    pass-next _ state _ _ _ refl c.last_label-last.ensures
-    c.if-last-l.false _
-    c.label_of-label.ensures turn-held _ c.calls_none-in-loop-k.ensures c.if-calls_none-2.false
+    pass-next _ _ _ c.loop-k.k
+    (belongs-above _ _ _ _ c.loop-k.invariant (omega (arith, c.loop-k-test.true)) (grind (arith, common_steps)) (grind (arith, common_steps)))
+    (grind (arith, common_steps)) (grind (arith, common_steps))
 
 pub returns : goal.returns
-returns c = sym (passed-all _ _ _ _ c.loop-k.invariant (omega (arith, c.loop-k-test.false)))
+returns c = pass-all _ _ _ _ c.loop-k.invariant (omega (arith, c.loop-k-test.false))

@@ -1,7 +1,11 @@
--- `fitness::fitting::any_filled` meets its contract: a full stack has no place above it; else the loop gathers the bits of all above.
+-- `fitness::fitting::any_filled` meets its contract: the loop gathers the bits of all places above the depth.
+use Rattle.std.proofs.Common.{◌-◌, ◌≡◌, not, ◌==◌}
+use Rattle.words.specs.lists.Numbers.{any}
 use Rattle.state.specs.Kept.{view}
-use Rattle.fitness.proofs.fitting.AboveCases.{Seen}
+use Rattle.fitness.specs.Fitness.{is_filled_place}
 use Rattle.fitness.proofs.fitting.any_filled.Given as goal
 
 abbrev pub invariant-loop-k : goal.invariant-loop-k
-invariant-loop-k l = Seen (view l.state) l.bits l.k
+invariant-loop-k l =
+    let s = view l.state in
+    not (l.bits == 0) ≡ any (is_filled_place s) s.depth (l.k - s.depth)

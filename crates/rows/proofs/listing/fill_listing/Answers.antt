@@ -13,4 +13,5 @@ loop-l-preserved c =
 pub returns : goal.returns
 returns c =
     let loop = c.loop-l in
-    filling-all _ _ _ loop.firsts loop.counts _ loop.invariant (search rules)
+    let filled = filling-all _ _ _ loop.firsts loop.counts _ loop.invariant (search rules) in
+    record { firsts = filled.0; counts = filled.1 }

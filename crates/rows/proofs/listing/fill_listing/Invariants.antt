@@ -6,4 +6,4 @@ use Rattle.rows.proofs.listing.FillCases.{FillingRows}
 use Rattle.rows.proofs.listing.fill_listing.Given as goal
 
 abbrev pub invariant-loop-l : goal.invariant-loop-l
-invariant-loop-l l = FillingRows (table_image l.table) (last_label l.table + 1) l.initial.firsts l.initial.counts l.firsts l.counts l.l
+invariant-loop-l l = FillingRows (table_image l.table.bytes.now) (last_label l.table.bytes.now + 1) l.initial.firsts l.initial.counts l.firsts l.counts l.l

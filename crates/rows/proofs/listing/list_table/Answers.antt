@@ -4,11 +4,12 @@ use Rattle.rows.proofs.listing.FillCases.{firsts-short, counts-short, listed}
 use Rattle.rows.proofs.listing.list_table.Goals as goal
 
 pub returns-then-firsts-labels : goal.returns-then-firsts-labels
-returns-then-firsts-labels c = firsts-short _ _ _ _ (ap (λ (n : ℕ). n + 1) c.last_label.ensures) (search rules)
+returns-then-firsts-labels c = firsts-short _ _ _ _ (ap (λ (n : ℕ). n + 1) c.args.table.last_read) (search rules)
 
 pub returns-then-counts-labels : goal.returns-then-counts-labels
-returns-then-counts-labels c = counts-short _ _ _ _ (ap (λ (n : ℕ). n + 1) c.last_label.ensures) (search rules)
+returns-then-counts-labels c = counts-short _ _ _ _ (ap (λ (n : ℕ). n + 1) c.args.table.last_read) (search rules)
 
 pub returns : goal.returns
 returns c =
-    listed _ _ _ _ (ap (λ (n : ℕ). n + 1) c.last_label.ensures) (search rules) (search rules) _ _ c.fill_listing.ensures
+    listed _ _ _ _ (ap (λ (n : ℕ). n + 1) c.args.table.last_read) (search rules) (search rules) _ _
+    (c.fill_listing.ensures.firsts, c.fill_listing.ensures.counts)

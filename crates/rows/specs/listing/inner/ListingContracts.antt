@@ -3,24 +3,16 @@ use Rattle.std.specs.Prelude.{ℕ, ◌≤◌, ◌<◌, ◌≡◌, List, length}
 use Rattle.text.specs.declared.frames.refusals.TheConstants.{NO_ROOM}
 use Rattle.text.specs.frames.Verdict.{when}
 use Rattle.image.specs.Image.{Image}
-use Rattle.image.specs.Decode.{scheme_count, last_label}
+use Rattle.image.specs.Decode.{last_label}
 use Rattle.tables.specs.Table.{table_image}
-use Rattle.tables.specs.inner.Asked.{Whole}
 use Rattle.rows.specs.listing.Listing.{row_count_of, first_of, ListingOutcome, listing_on, has_no_room_for}
 use Rattle.rows.specs.listing.Exact.{LooksAt}
 use Rattle.rows.specs.declared.listing.Rows.{Rows}
 
 -- a table whose noted frames are those of its image's listing
 pub record Listable (b : List ℕ) : Type 0 where
-  pub whole : Whole b
   pub none : (l : ℕ) → l < 2 → row_count_of (table_image b) l ≡ 0
   pub some : (l : ℕ) → 2 ≤ l → l ≤ last_label b → LooksAt b (table_image b) l
-
--- a label of it, with H as the caller has it
-pub record ListingAsked (b : List ℕ) (h l : ℕ) : Type 0 where
-  pub table : Listable b
-  pub schemes : h ≡ scheme_count b
-  pub high : l ≤ last_label b
 
 -- the rows of label l
 pub record RowsOf (i : Image) (l : ℕ) (r : Rows) : Type 0 where

@@ -1,19 +1,22 @@
 use Rattle.std.proofs.Common.{refl, arith}
+use Rattle.ticks.specs.declared.Stop.TheVariants.{Full, NoRow}
 use Rattle.runs.proofs.TurnCases.{turn-start, turn_on, turn-stood, turn-over}
 use Rattle.runs.proofs.runs.tick_all.Goals as goal
 
 pub loop-i-init : goal.loop-i-init
-loop-i-init c = turn-start _ _ _ _ _ _ c.requires.stands refl
+loop-i-init c = turn-start _ _ _ _ _ _ c.requires.depth refl
 
-pub returns-then-number-ne0 : goal.returns-then-number-ne0
-returns-then-number-ne0 c =
-    turn-stood c.loop-i.invariant c.requires.room (omega arith) c.tick_on-moved.result.step _ c.tick_on-moved.ensures.steps
-    c.if-number-ne0.true
+pub returns-in-Full : goal.returns-in-Full
+returns-in-Full c =
+    turn-stood c.loop-i.invariant c.requires.room_for_masks c.requires.room_for_codes (omega arith) Full _ c.in-Full.ensures
+
+pub returns-in-NoRow : goal.returns-in-NoRow
+returns-in-NoRow c =
+    turn-stood c.loop-i.invariant c.requires.room_for_masks c.requires.room_for_codes (omega arith) NoRow _ c.in-NoRow.ensures
 
 pub loop-i-preserved : goal.loop-i-preserved
 loop-i-preserved c =
-    turn_on c.loop-i.invariant c.requires.room (omega arith) c.tick_on-moved.result.step _ c.tick_on-moved.ensures.steps
-    c.if-number-ne0.false _ c.tick_on-moved.ensures.label
+    turn_on c.loop-i.invariant c.requires.room_for_masks c.requires.room_for_codes (omega arith) _ _ c.in-Finished.ensures
 
 pub returns : goal.returns
-returns c = turn-over c.loop-i.invariant c.requires.room (omega arith)
+returns c = turn-over c.loop-i.invariant c.requires.room_for_masks c.requires.room_for_codes (omega arith)

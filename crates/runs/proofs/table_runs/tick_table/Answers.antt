@@ -1,22 +1,16 @@
 -- `runs::table_runs::tick_table` meets its contract: an unfit state, a tick that is stopped, or one that is finished.
 use Rattle.std.proofs.Common.{sym, ◌∙◌}
-use Rattle.runs.proofs.RunCases.{fits-stands, tick-unfit, tick-late, tick-stopped, tick-finished}
+use Rattle.runs.proofs.RunCases.{fits-deep, tick-unfit, tick-stopped, tick-finished}
 use Rattle.runs.proofs.table_runs.tick_table.Goals as goal
 
 pub returns-then-is_unfit : goal.returns-then-is_unfit
 returns-then-is_unfit c = tick-unfit _ _ _ _ c.is_unfit.ensures c.if-is_unfit.true
 
-pub tick_word-done-requires : goal.tick_word-done-requires
-tick_word-done-requires c = fits-stands _ _ c.requires (sym c.is_unfit.ensures ∙ c.if-is_unfit.false)
+pub tick_word-requires : goal.tick_word-requires
+tick_word-requires c = fits-deep _ _ (sym c.is_unfit.ensures ∙ c.if-is_unfit.false)
 
-pub stop_after-requires : goal.stop_after-requires
-stop_after-requires c = tick-late _ _ _ _ c.is_unfit.ensures c.if-is_unfit.false _ _ c.tick_word-done.ensures c.if-done-ne0.true
+pub returns-in-Ok : goal.returns-in-Ok
+returns-in-Ok c = tick-finished _ _ _ _ c.is_unfit.ensures c.if-is_unfit.false _ _ c.in-Ok.ensures _ c.tidy.ensures
 
-pub returns-then-done-ne0 : goal.returns-then-done-ne0
-returns-then-done-ne0 c =
-    tick-stopped _ _ _ _ c.is_unfit.ensures c.if-is_unfit.false _ _ c.tick_word-done.ensures c.if-done-ne0.true _ c.stop_after.ensures
-
-pub returns : goal.returns
-returns c =
-    tick-finished _ _ _ _ c.is_unfit.ensures c.if-is_unfit.false _ _ c.tick_word-done.ensures c.if-done-ne0.false _
-    c.tidy.ensures
+pub returns-in-Err : goal.returns-in-Err
+returns-in-Err c = tick-stopped _ _ _ _ c.is_unfit.ensures c.if-is_unfit.false _ _ c.in-Err.ensures _ c.refusal_of.ensures

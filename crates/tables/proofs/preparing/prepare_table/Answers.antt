@@ -1,6 +1,5 @@
 -- `tables::preparing::prepare_table` meets its contract: the image is refused and stays as it was read, or it is noted.
-use Rattle.std.proofs.Common.{ℕ, ◌≡◌, List, arith}
-use Rattle.text.specs.frames.Verdict.{fine}
+use Rattle.std.proofs.Common.{arith}
 use Rattle.text.proofs.frames.Chains.{ok-fine}
 use Rattle.image.specs.Check.{image_verdict}
 use Rattle.tables.proofs.PrepareCases.{table-refused, frames-few, read-length, read-accepted, table-noted}
@@ -14,28 +13,24 @@ returns-in_err-read_image c =
 
 pub slice_bounds-note_rows-end : goal.slice_bounds-note_rows-end
 slice_bounds-note_rows-end c =
-    let text : List ℕ = c.args.text.now in
-    let accepted : image_verdict text ≡ fine =
-    (ok-fine _ _ 0 c.read_image.ensures.answered _ c.in_ok-read_image.was).0 in
+    let text = c.args.text.now in
+    let accepted = (ok-fine _ (image_verdict text) 0 c.read_image.ensures.answered _ c.in_ok-read_image.was).0 in
     omega (arith, frames-few text accepted, c.read_image.auto.table, c.requires)
 
 pub slice_bounds-note_rows-end-2 : goal.slice_bounds-note_rows-end-2
 slice_bounds-note_rows-end-2 c =
-    let text : List ℕ = c.args.text.now in
-    let accepted : image_verdict text ≡ fine =
-    (ok-fine _ _ 0 c.read_image.ensures.answered _ c.in_ok-read_image.was).0 in
+    let text = c.args.text.now in
+    let accepted = (ok-fine _ (image_verdict text) 0 c.read_image.ensures.answered _ c.in_ok-read_image.was).0 in
     read-length text accepted _ _ c.read_image.ensures.stored
 
 pub note_rows-requires : goal.note_rows-requires
 note_rows-requires c =
-    let text : List ℕ = c.args.text.now in
-    let accepted : image_verdict text ≡ fine =
-    (ok-fine _ _ 0 c.read_image.ensures.answered _ c.in_ok-read_image.was).0 in
+    let text = c.args.text.now in
+    let accepted = (ok-fine _ (image_verdict text) 0 c.read_image.ensures.answered _ c.in_ok-read_image.was).0 in
     read-accepted text accepted _ _ c.read_image.ensures.stored
 
 pub returns : goal.returns
 returns c =
-    let text : List ℕ = c.args.text.now in
-    let accepted : image_verdict text ≡ fine =
-    (ok-fine _ _ 0 c.read_image.ensures.answered _ c.in_ok-read_image.was).0 in
+    let text = c.args.text.now in
+    let accepted = (ok-fine _ (image_verdict text) 0 c.read_image.ensures.answered _ c.in_ok-read_image.was).0 in
     table-noted text accepted _ _ c.read_image.ensures.stored _ c.note_rows.ensures
