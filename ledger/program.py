@@ -125,18 +125,22 @@ class Program:
             if file is not None and at == len(rest):
                 return None
             if file is not None and file.has(rest[at]):
-                return self.member(where, rest[at])
+                return self.member(where, rest[at], rest[at + 1 :])
         if self.is_folder("/".join([crate, part] + rest)):
             return None
-        # what the check writes of a function, in place of a file: the function's contract says it all
+        # what the check writes of a function, in place of a file: the function's contract says it all; what follows the name of a module or of
+        # a function alone is still to come
         function = [each.lstrip("+") for each in rest if each not in ("Reads", "Goals", "Given")]
+        found, left = self.follow(self.code[crate], ["self"] + function)
+        if part == "proofs" and len(function) == len(rest) and found is not None and not left:
+            return None
         return Meaning(".".join(path), self.declared(crate, function).rests)
 
     def is_folder(self, path):
         return any(name.startswith(f"crates/{path}/") for name in self.texts)
 
-    def member(self, where, name):
-        """A name of a file: a definition, a case of one, or what the file hands on."""
+    def member(self, where, name, behind=()):
+        """A name of a file: a definition, a case of one, or what the file hands on, of that what stands behind the name."""
         file = self.file(where)
         if name in file.items:
             return Meaning(f"{where}.{name}", (("definition", where, name),))
@@ -144,5 +148,5 @@ class Program:
             return Meaning(f"{where}.{name}", (("definition", where, file.cases[name]),))
         for each in file.imports:
             if each.local == name:
-                return self.named(each.path)
+                return self.named([*each.path, *behind])
         return self.unresolved(f"{where}.{name}")

@@ -1,6 +1,7 @@
 -- The bound of a trace (the ticks before the first call at a full stack), and the position where the machine comes to stand.
-use Rattle.std.proofs.Common.{ℕ, suc, ◌+◌, ◌≤◌, ◌<◌, Bool, true, false, ◌≡◌, refl, ap, ◌∙◌, sym, List, [], ◌∷◌, ◌++◌, length, arith}
+use Rattle.std.proofs.Common.{ℕ, suc, ◌+◌, ◌≤◌, ◌<◌, true, false, ◌≡◌, refl, List, [], ◌∷◌, ◌++◌, length, arith}
 use Rattle.std.proofs.lemmas.Grind.{common_steps}
+use Rattle.words.proofs.lists.Tests.{cases}
 use Rattle.charts.specs.Chart.{Chart}
 use Rattle.walk.specs.Walk.{Signal, Tick}
 use Rattle.walk.proofs.Trace.{WalkPosition, tick_at, move, trace, position_reached}
@@ -23,22 +24,11 @@ bound-le n (t ∷ ts) = grind (arith, common_steps, bound-le n ts, bound-stop, b
 -- of joined ticks: the bound of the first ones, or all of them and that of the rest
 pub bound-full : (n : ℕ) (ts us : List Tick) → bound n ts ≡ length ts → bound n (ts ++ us) ≡ length ts + bound n us
 bound-full n [] us h = omega arith
-bound-full n (t ∷ ts) us h = go (bound-full n ts us) (is_full_call n t) refl
-  where
-    go : (bound n ts ≡ length ts → bound n (ts ++ us) ≡ length ts + bound n us) → (r : Bool) → is_full_call n t ≡ r
-        → bound n (t ∷ (ts ++ us)) ≡ suc (length ts) + bound n us
-    go ih true e = absurd (omega (arith, bound-stop n t ts e))
-    go ih false e = let q : bound n ts ≡ length ts = omega (arith, bound-go n t ts e) in omega (arith, bound-go n t (ts ++ us) e, ih q)
+bound-full n (t ∷ ts) us h = grind (arith, common_steps, bound-full n ts us, cases (is_full_call n t), bound-stop, bound-go)
 
 pub bound-part : (n : ℕ) (ts us : List Tick) → bound n ts < length ts → bound n (ts ++ us) ≡ bound n ts
 bound-part n [] us h = absurd (omega arith)
-bound-part n (t ∷ ts) us h = go (bound-part n ts us) (is_full_call n t) refl
-  where
-    go : (bound n ts < length ts → bound n (ts ++ us) ≡ bound n ts) → (r : Bool) → is_full_call n t ≡ r
-        → bound n (t ∷ (ts ++ us)) ≡ bound n (t ∷ ts)
-    go ih true e = bound-stop n t (ts ++ us) e ∙ sym (bound-stop n t ts e)
-    go ih false e = let q : bound n ts < length ts = omega (arith, bound-go n t ts e) in
-        omega (arith, bound-go n t (ts ++ us) e, bound-go n t ts e, ih q)
+bound-part n (t ∷ ts) us h = grind (arith, common_steps, bound-part n ts us, cases (is_full_call n t), bound-stop, bound-go)
 
 -- the position after the words, or the first one on the way that calls at a full stack
 unfoldable pub stand : Chart → ℕ → List Signal → WalkPosition → WalkPosition
@@ -58,24 +48,15 @@ module _ (c : Chart) (n : ℕ) where
   pub stand-full : (ws : List Signal) (x : WalkPosition) → bound n (trace n c ws x) ≡ length ws → stand c n ws x ≡ position_reached n c ws x
   unfolding trace position_reached stand
   stand-full [] x h = refl
-  stand-full (w ∷ ws) x h = go (stand-full ws (move n c w x)) (is_full_call n (tick_at n c x)) refl
-    where
-      go : (bound n (trace n c ws (move n c w x)) ≡ length ws → stand c n ws (move n c w x) ≡ position_reached n c ws (move n c w x))
-          → (r : Bool) → is_full_call n (tick_at n c x) ≡ r → stand c n (w ∷ ws) x ≡ position_reached n c ws (move n c w x)
-      go ih true e = absurd (omega (arith, bound-stop n (tick_at n c x) (trace n c ws (move n c w x)) e))
-      go ih false e = stand-go w ws x e ∙ ih (omega (arith, bound-go n (tick_at n c x) (trace n c ws (move n c w x)) e))
+  stand-full (w ∷ ws) x h =
+      grind (arith, common_steps, stand-full ws (move n c w x), cases (is_full_call n (tick_at n c x)), bound-stop, bound-go, stand-go)
 
   pub stand-part : (ws : List Signal) (x : WalkPosition) → bound n (trace n c ws x) < length ws
       → is_full_call n (tick_at n c (stand c n ws x)) ≡ true
   unfolding trace
   stand-part [] x h = absurd (omega arith)
-  stand-part (w ∷ ws) x h = go (stand-part ws (move n c w x)) (is_full_call n (tick_at n c x)) refl
-    where
-      go : (bound n (trace n c ws (move n c w x)) < length ws → is_full_call n (tick_at n c (stand c n ws (move n c w x))) ≡ true)
-          → (r : Bool) → is_full_call n (tick_at n c x) ≡ r → is_full_call n (tick_at n c (stand c n (w ∷ ws) x)) ≡ true
-      go ih true e = ap (λ (y : WalkPosition). is_full_call n (tick_at n c y)) (stand-stop w ws x e) ∙ e
-      go ih false e = ap (λ (y : WalkPosition). is_full_call n (tick_at n c y)) (stand-go w ws x e)
-          ∙ ih (omega (arith, bound-go n (tick_at n c x) (trace n c ws (move n c w x)) e))
+  stand-part (w ∷ ws) x h =
+      grind (arith, common_steps, stand-part ws (move n c w x), cases (is_full_call n (tick_at n c x)), bound-go, stand-stop, stand-go)
 
   -- from there on no tick is made
   pub bound-here : (ws : List Signal) (x : WalkPosition) → is_full_call n (tick_at n c x) ≡ true → bound n (trace n c ws x) ≡ 0

@@ -1,7 +1,8 @@
 -- A list of runs and rebindings on the image of a chart hands back what the walk of the joined words gives.
-use Rattle.std.proofs.Common.{if◌then◌else◌, ℕ, ◌≤◌, Bool, true, false, ◌≡◌, refl, ap, ap₂, ◌∙◌, sym, subst, List, [], ◌∷◌, map, nat_lt}
+use Rattle.std.proofs.Common.{if◌then◌else◌, ℕ, ◌≤◌, Bool, true, false, ◌≡◌, refl, ap, ap₂, ◌∙◌, sym, subst, List, [], ◌∷◌, map, nat_lt, inl, inr}
 use Rattle.std.proofs.Common.{length, take, arith}
 use Rattle.std.proofs.lemmas.Grind.{common_steps}
+use Rattle.words.proofs.lists.Tests.{cases}
 use Rattle.words.specs.lists.Sequences.{over}
 use Rattle.results.specs.Results.{no_results}
 use Rattle.bindings.specs.Binding.{Binding, own_binding, rebound_binding, is_bad_rebinding}
@@ -98,36 +99,34 @@ module _ (c : Chart) (facts : Facts c) (table_facts : TableFacts c) (text : List
       → call_outputs run rebind text (state_of_position c n s x) given ≡ Due c n s x given
 
   after_run : (a : RunInput) (rest : List CallInput) → ChainIs rest → ChainIs (to_run a ∷ rest)
-  after_run a rest ih s x z f = go (is_short a) refl
-    where
-      go : (t : Bool) → is_short a ≡ t → call_outputs run rebind text (state_of_position c n s x) (to_run a ∷ rest)
-          ≡ Due c n s x (to_run a ∷ rest)
-      go true e = chain-short text (table c) passes decodes (state_of_position c n s x) a rest f e
-          ∙ ap (λ (l : List CallOutput). by_run (output_refused_short a) ∷ l) (ih s x z f)
-          ∙ sym (all-short c _ _ 0 a rest e)
-          ∙ sym (ap (λ (js : List Signal). let ts = trace n c js x in expected_outputs c (bound n ts) ts 0 (to_run a ∷ rest))
-          (joined-short c s a rest e))
-      go false e =
-          let ws : List Signal = signals s a.words in
-          let ts : List Tick = trace n c ws x in
-          let b : ℕ = bound n ts in
-          let y : WalkPosition = stand c n ws x in
-          let served : Serves c s = serves s x f in
-          let made : ticks (table c) (state_of_position c n s x) a.words ≡ run_from_position c n s a.words x =
-          ticks-are c n s facts served n≤ table_facts a.words x z in
-          let kept : Fits (table c) (state_of_position c n s y) =
-          subst (λ (r : MachineRun). Fits (table c) r.state) made (ticks-keep (table c) sound a.words (state_of_position c n s x) f) in
-          chain-long text (table c) passes decodes (state_of_position c n s x) a rest f e made
-          ∙ ap₂ (λ (r : Reply) (l : List CallOutput). by_run (record {
-            reply = r;
-            masks = over (map (λ (t : Tick). t.mask) (take b ts)) a.masks;
-            codes = over (map (λ (t : Tick). t.code) (take b ts)) a.codes;
-          }) ∷ l)
-          (replied-by (nat_lt b (length a.words)) (length (map (λ (t : Tick). t.code) (take b ts))))
-          (ih s y (stand-stands c n s facts served a.words x z) kept)
-          ∙ joins c n s a rest x e
-          ∙ sym (ap (λ (js : List Signal). let us = trace n c js x in expected_outputs c (bound n us) us 0 (to_run a ∷ rest))
-          (joined-long c s a rest e))
+  after_run a rest ih s x z f = elim (cases (is_short a)) [
+    | inl e ↦ chain-short text (table c) passes decodes (state_of_position c n s x) a rest f e
+        ∙ ap (λ (l : List CallOutput). by_run (output_refused_short a) ∷ l) (ih s x z f)
+        ∙ sym (all-short c _ _ 0 a rest e)
+        ∙ sym (ap (λ (js : List Signal). let ts = trace n c js x in expected_outputs c (bound n ts) ts 0 (to_run a ∷ rest))
+        (joined-short c s a rest e))
+    | inr e ↦
+        let ws : List Signal = signals s a.words in
+        let ts : List Tick = trace n c ws x in
+        let b : ℕ = bound n ts in
+        let y : WalkPosition = stand c n ws x in
+        let served : Serves c s = serves s x f in
+        let made : ticks (table c) (state_of_position c n s x) a.words ≡ run_from_position c n s a.words x =
+        ticks-are c n s facts served n≤ table_facts a.words x z in
+        let kept : Fits (table c) (state_of_position c n s y) =
+        subst (λ (r : MachineRun). Fits (table c) r.state) made (ticks-keep (table c) sound a.words (state_of_position c n s x) f) in
+        chain-long text (table c) passes decodes (state_of_position c n s x) a rest f e made
+        ∙ ap₂ (λ (r : Reply) (l : List CallOutput). by_run (record {
+          reply = r;
+          masks = over (map (λ (t : Tick). t.mask) (take b ts)) a.masks;
+          codes = over (map (λ (t : Tick). t.code) (take b ts)) a.codes;
+        }) ∷ l)
+        (replied-by (nat_lt b (length a.words)) (length (map (λ (t : Tick). t.code) (take b ts))))
+        (ih s y (stand-stands c n s facts served a.words x z) kept)
+        ∙ joins c n s a rest x e
+        ∙ sym (ap (λ (js : List Signal). let us = trace n c js x in expected_outputs c (bound n us) us 0 (to_run a ∷ rest))
+        (joined-long c s a rest e))
+  ]
 
   after-rebinding : (h k : ℕ) (rest : List CallInput) → ChainIs rest → ChainIs (to_rebind h k ∷ rest)
   unfolding joined_words expected_outputs
@@ -144,8 +143,7 @@ module _ (c : Chart) (facts : Facts c) (table_facts : TableFacts c) (text : List
           → call_outputs run rebind text (state_of_position c n s x) (to_rebind h k ∷ rest) ≡ Due c n s x (to_rebind h k ∷ rest)
       go true e =
           chain-rebinds text (table c) passes decodes (state_of_position c n s x) h k rest f (same-bar h k ∙ e)
-          ∙ ap (λ (l : List CallOutput). by_rebinding (refusal 22 0 0) ∷ l) (ih s x z f)
-          ∙ due true e
+          ∙ ap (λ (l : List CallOutput). by_rebinding (refusal 22 0 0) ∷ l) (ih s x z f) ∙ due true e
       go false e =
           chain-rebinds text (table c) passes decodes (state_of_position c n s x) h k rest f (same-bar h k ∙ e)
           ∙ ap (λ (l : List CallOutput). by_rebinding (success 0) ∷ l)

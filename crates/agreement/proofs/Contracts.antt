@@ -47,60 +47,20 @@ use Rattle.little_fetch.specs.contracts.fetching.little_chart as fetching-little
 use Rattle.little_fetch.proofs.fetching.little_chart.Reads as fetching-little-chart-reads
 use Rattle.state.specs.contracts.State.fresh as state-fresh
 use Rattle.state.proofs.State.fresh.Reads as state-fresh-reads
-use Rattle.runs.specs.contracts.state_runs.run as machine-run
-use Rattle.runs.proofs.state_runs.run.Reads as machine-run-reads
-use Rattle.runs.specs.contracts.state_runs.tick_image as machine-tick
-use Rattle.runs.proofs.state_runs.tick_image.Reads as machine-tick-reads
-use Rattle.runs.specs.contracts.state_runs.live_run as machine-live-run
-use Rattle.runs.proofs.state_runs.live_run.Reads as machine-live-run-reads
-use Rattle.runs.specs.contracts.state_runs.live_tick as machine-live-tick
-use Rattle.runs.proofs.state_runs.live_tick.Reads as machine-live-tick-reads
+use Rattle.runs.specs.contracts as runs
+use Rattle.runs.proofs as runs-proofs
 use Rattle.prices.specs.contracts.priced_states.priced_run as priced-run
 use Rattle.prices.proofs.priced_states.priced_run.Reads as priced-run-reads
-use Rattle.rebinding.specs.contracts.rebind as rebinding-rebind
-use Rattle.rebinding.proofs.rebind.Reads as rebinding-rebind-reads
-use Rattle.rebinding.specs.contracts.live_rebind as rebinding-live-rebind
-use Rattle.rebinding.proofs.live_rebind.Reads as rebinding-live-rebind-reads
+use Rattle.rebinding.specs.contracts as rebinding
+use Rattle.rebinding.proofs as rebinding-proofs
 use Rattle.fillings.specs.contracts.counting.count_fillings as counting-count-fillings
 use Rattle.fillings.proofs.counting.count_fillings.Reads as counting-count-fillings-reads
-use Rattle.fairleadow.specs.contracts.translating_for_c.fairleadow_translate as c-translate
-use Rattle.fairleadow.proofs.translating_for_c.fairleadow_translate.Reads as c-translate-reads
+use Rattle.fairleadow.specs.contracts as c
+use Rattle.fairleadow.proofs as c-proofs
 use Rattle.places.specs.contracts.places_needed as places-needed
 use Rattle.places.proofs.places_needed.Reads as places-needed-reads
-use Rattle.fairleadow.specs.contracts.charts_for_c.fairleadow_places as c-places
-use Rattle.fairleadow.proofs.charts_for_c.fairleadow_places.Reads as c-places-reads
-use Rattle.fairleadow.specs.contracts.runs_for_c.fairleadow_fresh as c-fresh
-use Rattle.fairleadow.proofs.runs_for_c.fairleadow_fresh.Reads as c-fresh-reads
-use Rattle.fairleadow.specs.contracts.runs_for_c.fairleadow_run as c-run
-use Rattle.fairleadow.proofs.runs_for_c.fairleadow_run.Reads as c-run-reads
-use Rattle.fairleadow.specs.contracts.prices_for_c.fairleadow_priced_run as c-priced-run
-use Rattle.fairleadow.proofs.prices_for_c.fairleadow_priced_run.Reads as c-priced-run-reads
-use Rattle.fairleadow.specs.contracts.runs_for_c.fairleadow_tick as c-tick
-use Rattle.fairleadow.proofs.runs_for_c.fairleadow_tick.Reads as c-tick-reads
-use Rattle.fairleadow.specs.contracts.images_for_c.fairleadow_prepare as c-prepare
-use Rattle.fairleadow.proofs.images_for_c.fairleadow_prepare.Reads as c-prepare-reads
-use Rattle.fairleadow.specs.contracts.minimising_for_c.fairleadow_minimise as c-minimise
-use Rattle.fairleadow.proofs.minimising_for_c.fairleadow_minimise.Reads as c-minimise-reads
-use Rattle.fairleadow.specs.contracts.charts_for_c.fairleadow_little_chart as c-little-chart
-use Rattle.fairleadow.proofs.charts_for_c.fairleadow_little_chart.Reads as c-little-chart-reads
-use Rattle.fairleadow.specs.contracts.runs_for_c.fairleadow_live_run as c-live-run
-use Rattle.fairleadow.proofs.runs_for_c.fairleadow_live_run.Reads as c-live-run-reads
-use Rattle.fairleadow.specs.contracts.runs_for_c.fairleadow_live_tick as c-live-tick
-use Rattle.fairleadow.proofs.runs_for_c.fairleadow_live_tick.Reads as c-live-tick-reads
-use Rattle.fairleadow.specs.contracts.rebinding_for_c.fairleadow_rebind as c-rebind
-use Rattle.fairleadow.proofs.rebinding_for_c.fairleadow_rebind.Reads as c-rebind-reads
-use Rattle.fairleadow.specs.contracts.rebinding_for_c.fairleadow_live_rebind as c-live-rebind
-use Rattle.fairleadow.proofs.rebinding_for_c.fairleadow_live_rebind.Reads as c-live-rebind-reads
-use Rattle.fairleadow.specs.contracts.spindles_for_c.fairleadow_spin as c-spin
-use Rattle.fairleadow.proofs.spindles_for_c.fairleadow_spin.Reads as c-spin-reads
-use Rattle.fairleadow.specs.contracts.spindles_for_c.fairleadow_live_spin as c-live-spin
-use Rattle.fairleadow.proofs.spindles_for_c.fairleadow_live_spin.Reads as c-live-spin-reads
-use Rattle.fairleadow.specs.contracts.fillings_for_c.fairleadow_count_fillings as c-count-fillings
-use Rattle.fairleadow.proofs.fillings_for_c.fairleadow_count_fillings.Reads as c-count-fillings-reads
-use Rattle.chart_text.specs.contracts.read_chart as text-read-chart
-use Rattle.chart_text.proofs.read_chart.Reads as text-read-chart-reads
-use Rattle.chart_text.specs.contracts.write_chart as text-write-chart
-use Rattle.chart_text.proofs.write_chart.Reads as text-write-chart-reads
+use Rattle.chart_text.specs.contracts as chart-text
+use Rattle.chart_text.proofs as chart-text-proofs
 use Rattle.image_check.specs.contracts.check_image as check-image
 use Rattle.image_check.proofs.check_image.Reads as check-image-reads
 use Rattle.rows.specs.contracts.image_rows.list_rows as list-rows
@@ -109,113 +69,88 @@ use Rattle.cause.specs.contracts.explaining.cause_of as cause-of
 use Rattle.cause.proofs.explaining.cause_of.Reads as cause-of-reads
 use Rattle.ticks.specs.contracts.codes.meaning_of as meaning-of
 use Rattle.ticks.proofs.codes.meaning_of.Reads as meaning-of-reads
-use Rattle.runs.specs.contracts.kept_states.tick as kept-tick
-use Rattle.runs.proofs.kept_states.tick.Reads as kept-tick-reads
-use Rattle.spindles.specs.contracts.spindle_list.spin as list-spin
-use Rattle.spindles.proofs.spindle_list.spin.Reads as list-spin-reads
-use Rattle.spindles.specs.contracts.spindle_list.live_spin as list-live-spin
-use Rattle.spindles.proofs.spindle_list.live_spin.Reads as list-live-spin-reads
-use Rattle.fairleadow.specs.contracts.charts_for_c.fairleadow_read_chart as c-read-chart
-use Rattle.fairleadow.proofs.charts_for_c.fairleadow_read_chart.Reads as c-read-chart-reads
-use Rattle.fairleadow.specs.contracts.charts_for_c.fairleadow_write_chart as c-write-chart
-use Rattle.fairleadow.proofs.charts_for_c.fairleadow_write_chart.Reads as c-write-chart-reads
-use Rattle.fairleadow.specs.contracts.images_for_c.fairleadow_check_image as c-check-image
-use Rattle.fairleadow.proofs.images_for_c.fairleadow_check_image.Reads as c-check-image-reads
-use Rattle.fairleadow.specs.contracts.images_for_c.fairleadow_list_rows as c-list-rows
-use Rattle.fairleadow.proofs.images_for_c.fairleadow_list_rows.Reads as c-list-rows-reads
-use Rattle.fairleadow.specs.contracts.causes_for_c.fairleadow_cause as c-cause
-use Rattle.fairleadow.proofs.causes_for_c.fairleadow_cause.Reads as c-cause-reads
-use Rattle.fairleadow.specs.contracts.causes_for_c.fairleadow_meaning as c-meaning
-use Rattle.fairleadow.proofs.causes_for_c.fairleadow_meaning.Reads as c-meaning-reads
+use Rattle.spindles.specs.contracts as spindles
+use Rattle.spindles.proofs as spindles-proofs
 
 -- ---- the functions: on charts, images and tables, with a state, over four spindles
 pub translate-lends : (κs : Lfts 2) (a : ArgsD translating-translate.signature κs) (r : ResD translating-translate.signature κs)
-    (s : AtExit translating-translate.ended κs)
-    → translating-translate-reads.Learnt κs a r s → GivesBuffer (translate a.0.now a.1.0.now) r s.1.0.now
+    (s : AtExit translating-translate.ended κs) → translating-translate-reads.Learnt κs a r s
+    → GivesBuffer (translate a.0.now a.1.0.now) r s.1.0.now
 translate-lends κs a r s e = e
 
-pub places-answered : (κs : Lfts 1) (a : ArgsD places-needed.signature κs)
-    (r : ResD places-needed.signature κs) (s : AtExit places-needed.ended κs)
+pub places-answered : (κs : Lfts 1) (a : ArgsD places-needed.signature κs) (r : ResD places-needed.signature κs) (s : AtExit places-needed.ended κs)
     → places-needed-reads.Learnt κs a r s → reply r ≡ places_needed a.0.now
 places-answered κs a r s e = e
 
 pub prepare-lends : (κs : Lfts 2) (a : ArgsD tables-prepare.signature κs) (r : ResD tables-prepare.signature κs)
-    (s : AtExit tables-prepare.ended κs)
-    → tables-prepare-reads.Learnt κs a r s → GivesBuffer (prepare a.0.now a.1.0.now) r s.1.0.now
+    (s : AtExit tables-prepare.ended κs) → tables-prepare-reads.Learnt κs a r s → GivesBuffer (prepare a.0.now a.1.0.now) r s.1.0.now
 prepare-lends κs a r s e = e
 
 pub minimise-lends : (κs : Lfts 2) (a : ArgsD minimising-minimise.signature κs) (r : ResD minimising-minimise.signature κs)
-    (s : AtExit minimising-minimise.ended κs)
-    → minimising-minimise-reads.Learnt κs a r s → GivesBuffer (minimise a.0.now a.1.0.now) r s.1.0.now
+    (s : AtExit minimising-minimise.ended κs) → minimising-minimise-reads.Learnt κs a r s → GivesBuffer (minimise a.0.now a.1.0.now) r s.1.0.now
 minimise-lends κs a r s e = e
 
 pub little-chart-lends : (κs : Lfts 1) (a : ArgsD fetching-little-chart.signature κs) (r : ResD fetching-little-chart.signature κs)
-    (s : AtExit fetching-little-chart.ended κs)
-    → fetching-little-chart-reads.Learnt κs a r s → GivesBuffer (little_chart a.0 a.1.0 a.1.1.0.now) r s.1.1.0.now
+    (s : AtExit fetching-little-chart.ended κs) → fetching-little-chart-reads.Learnt κs a r s
+    → GivesBuffer (little_chart a.0 a.1.0 a.1.1.0.now) r s.1.1.0.now
 little-chart-lends κs a r s e = e
 
 pub fresh-makes : (κs : Lfts 0) (a : ArgsD state-fresh.signature κs) (r : ResD state-fresh.signature κs) (s : AtExit state-fresh.ended κs)
     → state-fresh-reads.Learnt κs a r s → GivesState (fresh_state a.0) r
 fresh-makes κs a r s e = e
 
-pub run-runs : (κs : Lfts 4) (a : ArgsD machine-run.signature κs) (r : ResD machine-run.signature κs) (s : AtExit machine-run.ended κs)
-    → machine-run-reads.Learnt κs a r s
-    → GivesRunOn (run a.0.now (view a.1.0) a.1.1.0.now a.1.1.1.0.now a.1.1.1.1.0.now)
-    a.1.0 r.answer r.state s.1.1.1.0.now s.1.1.1.1.0.now
+pub run-runs : (κs : Lfts 4) (a : ArgsD runs.state_runs.run.signature κs) (r : ResD runs.state_runs.run.signature κs)
+    (s : AtExit runs.state_runs.run.ended κs) → runs-proofs.state_runs.run.Reads.Learnt κs a r s
+    → GivesRunOn (run a.0.now (view a.1.0) a.1.1.0.now a.1.1.1.0.now a.1.1.1.1.0.now) a.1.0 r.answer r.state s.1.1.1.0.now s.1.1.1.1.0.now
 run-runs κs a r s e = e
 
-pub priced-run-prices : (κs : Lfts 5) (a : ArgsD priced-run.signature κs)
-    (r : ResD priced-run.signature κs) (s : AtExit priced-run.ended κs)
+pub priced-run-prices : (κs : Lfts 5) (a : ArgsD priced-run.signature κs) (r : ResD priced-run.signature κs) (s : AtExit priced-run.ended κs)
     → priced-run-reads.Learnt κs a r s
-    → GivesPricedRunOn (priced_run a.0.now (view a.1.0) a.1.1.0.now a.1.1.1.0.now
-    a.1.1.1.1.0.now a.1.1.1.1.1.0.now)
-    a.1.1.1.0.now a.1.0 r.answer r.price r.state s.1.1.1.1.0.now s.1.1.1.1.1.0.now
+    → GivesPricedRunOn (priced_run a.0.now (view a.1.0) a.1.1.0.now a.1.1.1.0.now a.1.1.1.1.0.now a.1.1.1.1.1.0.now) a.1.1.1.0.now a.1.0 r.answer
+    r.price r.state s.1.1.1.1.0.now s.1.1.1.1.1.0.now
 priced-run-prices κs a r s e = e
 
-pub tick-advances : (κs : Lfts 1) (a : ArgsD machine-tick.signature κs)
-    (r : ResD machine-tick.signature κs) (s : AtExit machine-tick.ended κs)
-    → machine-tick-reads.Learnt κs a r s → GivesTickOn (image_tick a.0.now (view a.1.0) a.1.1.0) a.1.0 r.answer r.state
+pub tick-advances : (κs : Lfts 1) (a : ArgsD runs.state_runs.tick_image.signature κs) (r : ResD runs.state_runs.tick_image.signature κs)
+    (s : AtExit runs.state_runs.tick_image.ended κs) → runs-proofs.state_runs.tick_image.Reads.Learnt κs a r s
+    → GivesTickOn (image_tick a.0.now (view a.1.0) a.1.1.0) a.1.0 r.answer r.state
 tick-advances κs a r s e = e
 
-pub live-run-runs : (κs : Lfts 4) (a : ArgsD machine-live-run.signature κs) (r : ResD machine-live-run.signature κs)
-    (s : AtExit machine-live-run.ended κs)
-    → machine-live-run-reads.Learnt κs a r s
-    → GivesRunOn (live_run a.0.now (view a.1.0) a.1.1.0.now a.1.1.1.0.now a.1.1.1.1.0.now)
-    a.1.0 r.answer r.state s.1.1.1.0.now s.1.1.1.1.0.now
+pub live-run-runs : (κs : Lfts 4) (a : ArgsD runs.state_runs.live_run.signature κs) (r : ResD runs.state_runs.live_run.signature κs)
+    (s : AtExit runs.state_runs.live_run.ended κs) → runs-proofs.state_runs.live_run.Reads.Learnt κs a r s
+    → GivesRunOn (live_run a.0.now (view a.1.0) a.1.1.0.now a.1.1.1.0.now a.1.1.1.1.0.now) a.1.0 r.answer r.state s.1.1.1.0.now s.1.1.1.1.0.now
 live-run-runs κs a r s e = e
 
-pub live-tick-advances : (κs : Lfts 1) (a : ArgsD machine-live-tick.signature κs) (r : ResD machine-live-tick.signature κs)
-    (s : AtExit machine-live-tick.ended κs)
-    → machine-live-tick-reads.Learnt κs a r s → GivesTickOn (live_tick a.0.now (view a.1.0) a.1.1.0) a.1.0 r.answer r.state
+pub live-tick-advances : (κs : Lfts 1) (a : ArgsD runs.state_runs.live_tick.signature κs) (r : ResD runs.state_runs.live_tick.signature κs)
+    (s : AtExit runs.state_runs.live_tick.ended κs) → runs-proofs.state_runs.live_tick.Reads.Learnt κs a r s
+    → GivesTickOn (live_tick a.0.now (view a.1.0) a.1.1.0) a.1.0 r.answer r.state
 live-tick-advances κs a r s e = e
 
-pub rebind-makes : (κs : Lfts 1) (a : ArgsD rebinding-rebind.signature κs) (r : ResD rebinding-rebind.signature κs)
-    (s : AtExit rebinding-rebind.ended κs)
-    → rebinding-rebind-reads.Learnt κs a r s → GivesRebindingOn (rebind a.0.now (view a.1.0) a.1.1.0 a.1.1.1.0) a.1.0 r.answer r.state
+pub rebind-makes : (κs : Lfts 1) (a : ArgsD rebinding.rebind.signature κs) (r : ResD rebinding.rebind.signature κs)
+    (s : AtExit rebinding.rebind.ended κs) → rebinding-proofs.rebind.Reads.Learnt κs a r s
+    → GivesRebindingOn (rebind a.0.now (view a.1.0) a.1.1.0 a.1.1.1.0) a.1.0 r.answer r.state
 rebind-makes κs a r s e = e
 
-pub live-rebind-makes : (κs : Lfts 1) (a : ArgsD rebinding-live-rebind.signature κs) (r : ResD rebinding-live-rebind.signature κs)
-    (s : AtExit rebinding-live-rebind.ended κs)
-    → rebinding-live-rebind-reads.Learnt κs a r s → GivesRebindingOn (live_rebind a.0.now (view a.1.0) a.1.1.0 a.1.1.1.0) a.1.0 r.answer r.state
+pub live-rebind-makes : (κs : Lfts 1) (a : ArgsD rebinding.live_rebind.signature κs) (r : ResD rebinding.live_rebind.signature κs)
+    (s : AtExit rebinding.live_rebind.ended κs) → rebinding-proofs.live_rebind.Reads.Learnt κs a r s
+    → GivesRebindingOn (live_rebind a.0.now (view a.1.0) a.1.1.0 a.1.1.1.0) a.1.0 r.answer r.state
 live-rebind-makes κs a r s e = e
 
 pub count-fillings-tells : (κs : Lfts 1) (a : ArgsD counting-count-fillings.signature κs) (r : ResD counting-count-fillings.signature κs)
-    (s : AtExit counting-count-fillings.ended κs)
-    → counting-count-fillings-reads.Learnt κs a r s → GivesFillings (count_fillings a.0.now a.1.0 a.1.1.0 a.1.1.1.0) r
+    (s : AtExit counting-count-fillings.ended κs) → counting-count-fillings-reads.Learnt κs a r s
+    → GivesFillings (count_fillings a.0.now a.1.0 a.1.1.0 a.1.1.1.0) r
 count-fillings-tells κs a r s e = e
 
-pub read-chart-lends : (κs : Lfts 2) (a : ArgsD text-read-chart.signature κs) (r : ResD text-read-chart.signature κs)
-    (s : AtExit text-read-chart.ended κs)
-    → text-read-chart-reads.Learnt κs a r s → GivesBuffer (read_chart a.0.now a.1.0.now) r s.1.0.now
+pub read-chart-lends : (κs : Lfts 2) (a : ArgsD chart-text.read_chart.signature κs) (r : ResD chart-text.read_chart.signature κs)
+    (s : AtExit chart-text.read_chart.ended κs) → chart-text-proofs.read_chart.Reads.Learnt κs a r s
+    → GivesBuffer (read_chart a.0.now a.1.0.now) r s.1.0.now
 read-chart-lends κs a r s e = e
 
-pub write-chart-lends : (κs : Lfts 2) (a : ArgsD text-write-chart.signature κs) (r : ResD text-write-chart.signature κs)
-    (s : AtExit text-write-chart.ended κs)
-    → text-write-chart-reads.Learnt κs a r s → GivesBuffer (write_chart a.0.now a.1.0.now) r s.1.0.now
+pub write-chart-lends : (κs : Lfts 2) (a : ArgsD chart-text.write_chart.signature κs) (r : ResD chart-text.write_chart.signature κs)
+    (s : AtExit chart-text.write_chart.ended κs) → chart-text-proofs.write_chart.Reads.Learnt κs a r s
+    → GivesBuffer (write_chart a.0.now a.1.0.now) r s.1.0.now
 write-chart-lends κs a r s e = e
 
-pub check-image-answered : (κs : Lfts 1) (a : ArgsD check-image.signature κs) (r : ResD check-image.signature κs)
-    (s : AtExit check-image.ended κs)
+pub check-image-answered : (κs : Lfts 1) (a : ArgsD check-image.signature κs) (r : ResD check-image.signature κs) (s : AtExit check-image.ended κs)
     → check-image-reads.Learnt κs a r s → reply r ≡ verdict_reply (image_verdict a.0.now) 0
 check-image-answered κs a r s e = e
 
@@ -231,149 +166,152 @@ pub meaning-of-tells : (κs : Lfts 0) (a : ArgsD meaning-of.signature κs) (r : 
     → meaning-of-reads.Learnt κs a r s → r ≡ meaning_of a.0
 meaning-of-tells κs a r s e = e
 
-pub kept-tick-advances : (κs : Lfts 2) (a : ArgsD kept-tick.signature κs) (r : ResD kept-tick.signature κs) (s : AtExit kept-tick.ended κs)
-    → kept-tick-reads.Learnt κs a r s → GivesTickOn (image_tick a.1.0.now (view a.0.now) a.1.1.0) a.0.now r s.0.now
+pub kept-tick-advances : (κs : Lfts 2) (a : ArgsD runs.kept_states.tick.signature κs) (r : ResD runs.kept_states.tick.signature κs)
+    (s : AtExit runs.kept_states.tick.ended κs) → runs-proofs.kept_states.tick.Reads.Learnt κs a r s
+    → GivesTickOn (image_tick a.1.0.now (view a.0.now) a.1.1.0) a.0.now r s.0.now
 kept-tick-advances κs a r s e = e
 
-pub spin-spins : (κs : Lfts 2) (a : ArgsD list-spin.signature κs) (r : ResD list-spin.signature κs) (s : AtExit list-spin.ended κs)
-    → list-spin-reads.Learnt κs a r s → GivesSpin (spin a.1.1.1.0.now (map view a.0.now) a.1.0 a.1.1.0 a.1.1.1.1.0) a.0.now a.1.1.0 r s.0.now
+pub spin-spins : (κs : Lfts 2) (a : ArgsD spindles.spindle_list.spin.signature κs) (r : ResD spindles.spindle_list.spin.signature κs)
+    (s : AtExit spindles.spindle_list.spin.ended κs) → spindles-proofs.spindle_list.spin.Reads.Learnt κs a r s
+    → GivesSpin (spin a.1.1.1.0.now (map view a.0.now) a.1.0 a.1.1.0 a.1.1.1.1.0) a.0.now a.1.1.0 r s.0.now
 spin-spins κs a r s e = e
 
-pub live-spin-spins : (κs : Lfts 2) (a : ArgsD list-live-spin.signature κs) (r : ResD list-live-spin.signature κs)
-    (s : AtExit list-live-spin.ended κs)
-    → list-live-spin-reads.Learnt κs a r s → GivesSpin (live_spin a.1.1.1.0.now (map view a.0.now) a.1.0 a.1.1.0 a.1.1.1.1.0) a.0.now a.1.1.0 r s.0.now
+pub live-spin-spins : (κs : Lfts 2) (a : ArgsD spindles.spindle_list.live_spin.signature κs) (r : ResD spindles.spindle_list.live_spin.signature κs)
+    (s : AtExit spindles.spindle_list.live_spin.ended κs) → spindles-proofs.spindle_list.live_spin.Reads.Learnt κs a r s
+    → GivesSpin (live_spin a.1.1.1.0.now (map view a.0.now) a.1.0 a.1.1.0 a.1.1.1.1.0) a.0.now a.1.1.0 r s.0.now
 live-spin-spins κs a r s e = e
 
 -- ---- the functions for C
-pub translate-lends-c : (κs : Lfts 4) (a : ArgsD c-translate.signature κs)
-    (r : ResD c-translate.signature κs) (s : AtExit c-translate.ended κs)
-    → c-translate-reads.Learnt κs a r s
+pub translate-lends-c : (κs : Lfts 4) (a : ArgsD c.translating_for_c.fairleadow_translate.signature κs)
+    (r : ResD c.translating_for_c.fairleadow_translate.signature κs) (s : AtExit c.translating_for_c.fairleadow_translate.ended κs)
+    → c-proofs.translating_for_c.fairleadow_translate.Reads.Learnt κs a r s
     → GivesBufferC (translate a.0.now a.1.0.now) r s.1.1.0.now s.1.1.1.0.now s.1.0.now
 translate-lends-c κs a r s e = record { told = e.0; written = e.1 }
 
-pub fresh-makes-c : (κs : Lfts 3) (a : ArgsD c-fresh.signature κs) (r : ResD c-fresh.signature κs) (s : AtExit c-fresh.ended κs)
-    → c-fresh-reads.Learnt κs a r s → GivesStateC (fresh_state a.0) r s.1.1.0.now s.1.1.1.0.now s.1.0.now
+pub fresh-makes-c : (κs : Lfts 3) (a : ArgsD c.runs_for_c.fairleadow_fresh.signature κs) (r : ResD c.runs_for_c.fairleadow_fresh.signature κs)
+    (s : AtExit c.runs_for_c.fairleadow_fresh.ended κs) → c-proofs.runs_for_c.fairleadow_fresh.Reads.Learnt κs a r s
+    → GivesStateC (fresh_state a.0) r s.1.1.0.now s.1.1.1.0.now s.1.0.now
 fresh-makes-c κs a r s e = record { told = e.0; state = e.1 }
 
-pub run-runs-c : (κs : Lfts 7) (a : ArgsD c-run.signature κs) (r : ResD c-run.signature κs) (s : AtExit c-run.ended κs)
-    → c-run-reads.Learnt κs a r s
-    → GivesRunC (run_for a.0.now a.1.0.now a.1.1.0.now a.1.1.1.0.now a.1.1.1.1.0.now) a.1.0.now
-    r s.1.1.1.1.1.0.now s.1.1.1.1.1.1.0.now s.1.0.now s.1.1.1.0.now s.1.1.1.1.0.now
+pub run-runs-c : (κs : Lfts 7) (a : ArgsD c.runs_for_c.fairleadow_run.signature κs) (r : ResD c.runs_for_c.fairleadow_run.signature κs)
+    (s : AtExit c.runs_for_c.fairleadow_run.ended κs) → c-proofs.runs_for_c.fairleadow_run.Reads.Learnt κs a r s
+    → GivesRunC (run_for a.0.now a.1.0.now a.1.1.0.now a.1.1.1.0.now a.1.1.1.1.0.now) a.1.0.now r s.1.1.1.1.1.0.now s.1.1.1.1.1.1.0.now s.1.0.now
+    s.1.1.1.0.now s.1.1.1.1.0.now
 run-runs-c κs a r s e = record { told = e.0; state = e.1.0; masks = e.1.1.0; codes = e.1.1.1 }
 
-pub priced-run-prices-c : (κs : Lfts 9) (a : ArgsD c-priced-run.signature κs) (r : ResD c-priced-run.signature κs)
-    (s : AtExit c-priced-run.ended κs)
-    → c-priced-run-reads.Learnt κs a r s
-    → GivesPricedRunC
-    (priced_run_for a.0.now a.1.0.now a.1.1.0.now a.1.1.1.0.now a.1.1.1.1.0.now a.1.1.1.1.1.0.now)
-    a.1.1.1.0.now a.1.0.now
-    r s.1.1.1.1.1.1.1.0.now s.1.1.1.1.1.1.1.1.0.now s.1.0.now s.1.1.1.1.0.now s.1.1.1.1.1.0.now
-    s.1.1.1.1.1.1.0.now
+pub priced-run-prices-c : (κs : Lfts 9) (a : ArgsD c.prices_for_c.fairleadow_priced_run.signature κs)
+    (r : ResD c.prices_for_c.fairleadow_priced_run.signature κs) (s : AtExit c.prices_for_c.fairleadow_priced_run.ended κs)
+    → c-proofs.prices_for_c.fairleadow_priced_run.Reads.Learnt κs a r s
+    → GivesPricedRunC (priced_run_for a.0.now a.1.0.now a.1.1.0.now a.1.1.1.0.now a.1.1.1.1.0.now a.1.1.1.1.1.0.now) a.1.1.1.0.now a.1.0.now r
+    s.1.1.1.1.1.1.1.0.now s.1.1.1.1.1.1.1.1.0.now s.1.0.now s.1.1.1.1.0.now s.1.1.1.1.1.0.now s.1.1.1.1.1.1.0.now
 priced-run-prices-c κs a r s e = record { told = e.0; state = e.1.0; masks = e.1.1.0; codes = e.1.1.1.0; price = e.1.1.1.1 }
 
-pub tick-advances-c : (κs : Lfts 6) (a : ArgsD c-tick.signature κs) (r : ResD c-tick.signature κs) (s : AtExit c-tick.ended κs)
-    → c-tick-reads.Learnt κs a r s
-    → GivesTickC (tick_for a.0.now a.1.0.now a.1.1.0) a.1.0.now a.1.1.1.0.now a.1.1.1.1.0.now
-    r s.1.1.1.1.1.0.now s.1.1.1.1.1.1.0.now s.1.0.now s.1.1.1.0.now s.1.1.1.1.0.now
+pub tick-advances-c : (κs : Lfts 6) (a : ArgsD c.runs_for_c.fairleadow_tick.signature κs) (r : ResD c.runs_for_c.fairleadow_tick.signature κs)
+    (s : AtExit c.runs_for_c.fairleadow_tick.ended κs) → c-proofs.runs_for_c.fairleadow_tick.Reads.Learnt κs a r s
+    → GivesTickC (tick_for a.0.now a.1.0.now a.1.1.0) a.1.0.now a.1.1.1.0.now a.1.1.1.1.0.now r s.1.1.1.1.1.0.now s.1.1.1.1.1.1.0.now s.1.0.now
+    s.1.1.1.0.now s.1.1.1.1.0.now
 tick-advances-c κs a r s e = record { told = e.0; state = e.1.0; mask = e.1.1.0; code = e.1.1.1 }
 
-pub places-answered-c : (κs : Lfts 3) (a : ArgsD c-places.signature κs) (r : ResD c-places.signature κs) (s : AtExit c-places.ended κs)
-    → c-places-reads.Learnt κs a r s → GivesReplyC (places_needed a.0.now) r s.1.0.now s.1.1.0.now
+pub places-answered-c : (κs : Lfts 3) (a : ArgsD c.charts_for_c.fairleadow_places.signature κs)
+    (r : ResD c.charts_for_c.fairleadow_places.signature κs) (s : AtExit c.charts_for_c.fairleadow_places.ended κs)
+    → c-proofs.charts_for_c.fairleadow_places.Reads.Learnt κs a r s → GivesReplyC (places_needed a.0.now) r s.1.0.now s.1.1.0.now
 places-answered-c κs a r s e = e
 
-pub prepare-lends-c : (κs : Lfts 4) (a : ArgsD c-prepare.signature κs) (r : ResD c-prepare.signature κs) (s : AtExit c-prepare.ended κs)
-    → c-prepare-reads.Learnt κs a r s
+pub prepare-lends-c : (κs : Lfts 4) (a : ArgsD c.images_for_c.fairleadow_prepare.signature κs)
+    (r : ResD c.images_for_c.fairleadow_prepare.signature κs) (s : AtExit c.images_for_c.fairleadow_prepare.ended κs)
+    → c-proofs.images_for_c.fairleadow_prepare.Reads.Learnt κs a r s
     → GivesBufferC (prepare a.0.now a.1.0.now) r s.1.1.0.now s.1.1.1.0.now s.1.0.now
 prepare-lends-c κs a r s e = record { told = e.0; written = e.1 }
 
-pub minimise-lends-c : (κs : Lfts 4) (a : ArgsD c-minimise.signature κs) (r : ResD c-minimise.signature κs) (s : AtExit c-minimise.ended κs)
-    → c-minimise-reads.Learnt κs a r s
+pub minimise-lends-c : (κs : Lfts 4) (a : ArgsD c.minimising_for_c.fairleadow_minimise.signature κs)
+    (r : ResD c.minimising_for_c.fairleadow_minimise.signature κs) (s : AtExit c.minimising_for_c.fairleadow_minimise.ended κs)
+    → c-proofs.minimising_for_c.fairleadow_minimise.Reads.Learnt κs a r s
     → GivesBufferC (minimise a.0.now a.1.0.now) r s.1.1.0.now s.1.1.1.0.now s.1.0.now
 minimise-lends-c κs a r s e = record { told = e.0; written = e.1 }
 
-pub little-chart-lends-c : (κs : Lfts 3) (a : ArgsD c-little-chart.signature κs)
-    (r : ResD c-little-chart.signature κs) (s : AtExit c-little-chart.ended κs)
-    → c-little-chart-reads.Learnt κs a r s
+pub little-chart-lends-c : (κs : Lfts 3) (a : ArgsD c.charts_for_c.fairleadow_little_chart.signature κs)
+    (r : ResD c.charts_for_c.fairleadow_little_chart.signature κs) (s : AtExit c.charts_for_c.fairleadow_little_chart.ended κs)
+    → c-proofs.charts_for_c.fairleadow_little_chart.Reads.Learnt κs a r s
     → GivesBufferC (little_chart a.0 a.1.0 a.1.1.0.now) r s.1.1.1.0.now s.1.1.1.1.0.now s.1.1.0.now
 little-chart-lends-c κs a r s e = record { told = e.0; written = e.1 }
 
-pub live-run-runs-c : (κs : Lfts 7) (a : ArgsD c-live-run.signature κs) (r : ResD c-live-run.signature κs) (s : AtExit c-live-run.ended κs)
-    → c-live-run-reads.Learnt κs a r s
-    → GivesRunC (live_run a.0.now (view a.1.0.now) a.1.1.0.now a.1.1.1.0.now a.1.1.1.1.0.now) a.1.0.now
-    r s.1.1.1.1.1.0.now s.1.1.1.1.1.1.0.now s.1.0.now s.1.1.1.0.now s.1.1.1.1.0.now
+pub live-run-runs-c : (κs : Lfts 7) (a : ArgsD c.runs_for_c.fairleadow_live_run.signature κs)
+    (r : ResD c.runs_for_c.fairleadow_live_run.signature κs) (s : AtExit c.runs_for_c.fairleadow_live_run.ended κs)
+    → c-proofs.runs_for_c.fairleadow_live_run.Reads.Learnt κs a r s
+    → GivesRunC (live_run a.0.now (view a.1.0.now) a.1.1.0.now a.1.1.1.0.now a.1.1.1.1.0.now) a.1.0.now r s.1.1.1.1.1.0.now s.1.1.1.1.1.1.0.now
+    s.1.0.now s.1.1.1.0.now s.1.1.1.1.0.now
 live-run-runs-c κs a r s e = record { told = e.0; state = e.1.0; masks = e.1.1.0; codes = e.1.1.1 }
 
-pub live-tick-advances-c : (κs : Lfts 6) (a : ArgsD c-live-tick.signature κs)
-    (r : ResD c-live-tick.signature κs) (s : AtExit c-live-tick.ended κs)
-    → c-live-tick-reads.Learnt κs a r s
-    → GivesTickC (live_tick a.0.now (view a.1.0.now) a.1.1.0) a.1.0.now a.1.1.1.0.now a.1.1.1.1.0.now
-    r s.1.1.1.1.1.0.now s.1.1.1.1.1.1.0.now s.1.0.now s.1.1.1.0.now s.1.1.1.1.0.now
+pub live-tick-advances-c : (κs : Lfts 6) (a : ArgsD c.runs_for_c.fairleadow_live_tick.signature κs)
+    (r : ResD c.runs_for_c.fairleadow_live_tick.signature κs) (s : AtExit c.runs_for_c.fairleadow_live_tick.ended κs)
+    → c-proofs.runs_for_c.fairleadow_live_tick.Reads.Learnt κs a r s
+    → GivesTickC (live_tick a.0.now (view a.1.0.now) a.1.1.0) a.1.0.now a.1.1.1.0.now a.1.1.1.1.0.now r s.1.1.1.1.1.0.now s.1.1.1.1.1.1.0.now
+    s.1.0.now s.1.1.1.0.now s.1.1.1.1.0.now
 live-tick-advances-c κs a r s e = record { told = e.0; state = e.1.0; mask = e.1.1.0; code = e.1.1.1 }
 
-pub rebind-rebinds-c : (κs : Lfts 4) (a : ArgsD c-rebind.signature κs) (r : ResD c-rebind.signature κs) (s : AtExit c-rebind.ended κs)
-    → c-rebind-reads.Learnt κs a r s
-    → GivesRebindingC (rebind_for a.0.now a.1.0.now a.1.1.0 a.1.1.1.0) a.1.0.now
-    r s.1.1.1.1.0.now s.1.1.1.1.1.0.now s.1.0.now
+pub rebind-rebinds-c : (κs : Lfts 4) (a : ArgsD c.rebinding_for_c.fairleadow_rebind.signature κs)
+    (r : ResD c.rebinding_for_c.fairleadow_rebind.signature κs) (s : AtExit c.rebinding_for_c.fairleadow_rebind.ended κs)
+    → c-proofs.rebinding_for_c.fairleadow_rebind.Reads.Learnt κs a r s
+    → GivesRebindingC (rebind_for a.0.now a.1.0.now a.1.1.0 a.1.1.1.0) a.1.0.now r s.1.1.1.1.0.now s.1.1.1.1.1.0.now s.1.0.now
 rebind-rebinds-c κs a r s e = record { told = e.0; state = e.1 }
 
-pub live-rebind-rebinds-c : (κs : Lfts 4) (a : ArgsD c-live-rebind.signature κs) (r : ResD c-live-rebind.signature κs)
-    (s : AtExit c-live-rebind.ended κs)
-    → c-live-rebind-reads.Learnt κs a r s
-    → GivesRebindingC (live_rebind a.0.now (view a.1.0.now) a.1.1.0 a.1.1.1.0) a.1.0.now
-    r s.1.1.1.1.0.now s.1.1.1.1.1.0.now s.1.0.now
+pub live-rebind-rebinds-c : (κs : Lfts 4) (a : ArgsD c.rebinding_for_c.fairleadow_live_rebind.signature κs)
+    (r : ResD c.rebinding_for_c.fairleadow_live_rebind.signature κs) (s : AtExit c.rebinding_for_c.fairleadow_live_rebind.ended κs)
+    → c-proofs.rebinding_for_c.fairleadow_live_rebind.Reads.Learnt κs a r s
+    → GivesRebindingC (live_rebind a.0.now (view a.1.0.now) a.1.1.0 a.1.1.1.0) a.1.0.now r s.1.1.1.1.0.now s.1.1.1.1.1.0.now s.1.0.now
 live-rebind-rebinds-c κs a r s e = record { told = e.0; state = e.1 }
 
-pub spin-spins-c : (κs : Lfts 7) (a : ArgsD c-spin.signature κs) (r : ResD c-spin.signature κs) (s : AtExit c-spin.ended κs)
-    → c-spin-reads.Learnt κs a r s
-    → GivesSpinC (spin_for a.1.1.1.0.now a.0.now a.1.0.now a.1.1.0 a.1.1.1.1.0) a.0.now a.1.1.0
-    a.1.1.1.1.1.0.now a.1.1.1.1.1.1.0.now r s.1.1.1.1.1.1.1.0.now s.1.1.1.1.1.1.1.1.0.now
-    s.0.now s.1.0.now s.1.1.1.1.1.0.now s.1.1.1.1.1.1.0.now
+pub spin-spins-c : (κs : Lfts 7) (a : ArgsD c.spindles_for_c.fairleadow_spin.signature κs) (r : ResD c.spindles_for_c.fairleadow_spin.signature κs)
+    (s : AtExit c.spindles_for_c.fairleadow_spin.ended κs) → c-proofs.spindles_for_c.fairleadow_spin.Reads.Learnt κs a r s
+    → GivesSpinC (spin_for a.1.1.1.0.now a.0.now a.1.0.now a.1.1.0 a.1.1.1.1.0) a.0.now a.1.1.0 a.1.1.1.1.1.0.now a.1.1.1.1.1.1.0.now r
+    s.1.1.1.1.1.1.1.0.now s.1.1.1.1.1.1.1.1.0.now s.0.now s.1.0.now s.1.1.1.1.1.0.now s.1.1.1.1.1.1.0.now
 spin-spins-c κs a r s e = record { told = e.0; states = e.1.0; taken = e.1.1.0; mask = e.1.1.1.0; code = e.1.1.1.1 }
 
-pub live-spin-spins-c : (κs : Lfts 7) (a : ArgsD c-live-spin.signature κs)
-    (r : ResD c-live-spin.signature κs) (s : AtExit c-live-spin.ended κs)
-    → c-live-spin-reads.Learnt κs a r s
-    → GivesSpinC (live_spin_for a.1.1.1.0.now a.0.now a.1.0.now a.1.1.0 a.1.1.1.1.0) a.0.now a.1.1.0
-    a.1.1.1.1.1.0.now a.1.1.1.1.1.1.0.now r s.1.1.1.1.1.1.1.0.now s.1.1.1.1.1.1.1.1.0.now
-    s.0.now s.1.0.now s.1.1.1.1.1.0.now s.1.1.1.1.1.1.0.now
+pub live-spin-spins-c : (κs : Lfts 7) (a : ArgsD c.spindles_for_c.fairleadow_live_spin.signature κs)
+    (r : ResD c.spindles_for_c.fairleadow_live_spin.signature κs) (s : AtExit c.spindles_for_c.fairleadow_live_spin.ended κs)
+    → c-proofs.spindles_for_c.fairleadow_live_spin.Reads.Learnt κs a r s
+    → GivesSpinC (live_spin_for a.1.1.1.0.now a.0.now a.1.0.now a.1.1.0 a.1.1.1.1.0) a.0.now a.1.1.0 a.1.1.1.1.1.0.now a.1.1.1.1.1.1.0.now r
+    s.1.1.1.1.1.1.1.0.now s.1.1.1.1.1.1.1.1.0.now s.0.now s.1.0.now s.1.1.1.1.1.0.now s.1.1.1.1.1.1.0.now
 live-spin-spins-c κs a r s e = record { told = e.0; states = e.1.0; taken = e.1.1.0; mask = e.1.1.1.0; code = e.1.1.1.1 }
 
-pub count-fillings-tells-c : (κs : Lfts 6) (a : ArgsD c-count-fillings.signature κs) (r : ResD c-count-fillings.signature κs)
-    (s : AtExit c-count-fillings.ended κs)
-    → c-count-fillings-reads.Learnt κs a r s
-    → GivesFillingsC (count_fillings a.0.now a.1.0 a.1.1.0 a.1.1.1.0) r s.1.1.1.1.1.1.1.0.now
-    s.1.1.1.1.1.1.1.1.0.now s.1.1.1.1.0.now s.1.1.1.1.1.0.now s.1.1.1.1.1.1.0.now
+pub count-fillings-tells-c : (κs : Lfts 6) (a : ArgsD c.fillings_for_c.fairleadow_count_fillings.signature κs)
+    (r : ResD c.fillings_for_c.fairleadow_count_fillings.signature κs) (s : AtExit c.fillings_for_c.fairleadow_count_fillings.ended κs)
+    → c-proofs.fillings_for_c.fairleadow_count_fillings.Reads.Learnt κs a r s
+    → GivesFillingsC (count_fillings a.0.now a.1.0 a.1.1.0 a.1.1.1.0) r s.1.1.1.1.1.1.1.0.now s.1.1.1.1.1.1.1.1.0.now s.1.1.1.1.0.now
+    s.1.1.1.1.1.0.now s.1.1.1.1.1.1.0.now
 count-fillings-tells-c κs a r s e = record { told = e.0; ended = e.1.0; full = e.1.1.0; unmatched = e.1.1.1 }
 
-pub read-chart-lends-c : (κs : Lfts 4) (a : ArgsD c-read-chart.signature κs) (r : ResD c-read-chart.signature κs)
-    (s : AtExit c-read-chart.ended κs)
-    → c-read-chart-reads.Learnt κs a r s
+pub read-chart-lends-c : (κs : Lfts 4) (a : ArgsD c.charts_for_c.fairleadow_read_chart.signature κs)
+    (r : ResD c.charts_for_c.fairleadow_read_chart.signature κs) (s : AtExit c.charts_for_c.fairleadow_read_chart.ended κs)
+    → c-proofs.charts_for_c.fairleadow_read_chart.Reads.Learnt κs a r s
     → GivesBufferC (read_chart a.0.now a.1.0.now) r s.1.1.0.now s.1.1.1.0.now s.1.0.now
 read-chart-lends-c κs a r s e = record { told = e.0; written = e.1 }
 
-pub write-chart-lends-c : (κs : Lfts 4) (a : ArgsD c-write-chart.signature κs) (r : ResD c-write-chart.signature κs)
-    (s : AtExit c-write-chart.ended κs)
-    → c-write-chart-reads.Learnt κs a r s
+pub write-chart-lends-c : (κs : Lfts 4) (a : ArgsD c.charts_for_c.fairleadow_write_chart.signature κs)
+    (r : ResD c.charts_for_c.fairleadow_write_chart.signature κs) (s : AtExit c.charts_for_c.fairleadow_write_chart.ended κs)
+    → c-proofs.charts_for_c.fairleadow_write_chart.Reads.Learnt κs a r s
     → GivesBufferC (write_chart a.0.now a.1.0.now) r s.1.1.0.now s.1.1.1.0.now s.1.0.now
 write-chart-lends-c κs a r s e = record { told = e.0; written = e.1 }
 
-pub check-image-answered-c : (κs : Lfts 3) (a : ArgsD c-check-image.signature κs) (r : ResD c-check-image.signature κs)
-    (s : AtExit c-check-image.ended κs)
-    → c-check-image-reads.Learnt κs a r s → GivesReplyC (verdict_reply (image_verdict a.0.now) 0) r s.1.0.now s.1.1.0.now
+pub check-image-answered-c : (κs : Lfts 3) (a : ArgsD c.images_for_c.fairleadow_check_image.signature κs)
+    (r : ResD c.images_for_c.fairleadow_check_image.signature κs) (s : AtExit c.images_for_c.fairleadow_check_image.ended κs)
+    → c-proofs.images_for_c.fairleadow_check_image.Reads.Learnt κs a r s
+    → GivesReplyC (verdict_reply (image_verdict a.0.now) 0) r s.1.0.now s.1.1.0.now
 check-image-answered-c κs a r s e = e
 
-pub list-rows-lends-c : (κs : Lfts 5) (a : ArgsD c-list-rows.signature κs) (r : ResD c-list-rows.signature κs)
-    (s : AtExit c-list-rows.ended κs)
-    → c-list-rows-reads.Learnt κs a r s
+pub list-rows-lends-c : (κs : Lfts 5) (a : ArgsD c.images_for_c.fairleadow_list_rows.signature κs)
+    (r : ResD c.images_for_c.fairleadow_list_rows.signature κs) (s : AtExit c.images_for_c.fairleadow_list_rows.ended κs)
+    → c-proofs.images_for_c.fairleadow_list_rows.Reads.Learnt κs a r s
     → GivesListingC (list a.0.now a.1.0.now a.1.1.0.now) r s.1.1.1.0.now s.1.1.1.1.0.now s.1.0.now s.1.1.0.now
 list-rows-lends-c κs a r s e = record { told = e.0; firsts = e.1.0; counts = e.1.1 }
 
-pub cause-tells-c : (κs : Lfts 7) (a : ArgsD c-cause.signature κs) (r : ResD c-cause.signature κs) (s : AtExit c-cause.ended κs)
-    → c-cause-reads.Learnt κs a r s
-    → GivesCauseC a.1.0.now (cause_for a.0.now a.1.0.now a.1.1.0) r s.1.1.1.1.1.1.0.now s.1.1.1.1.1.1.1.0.now
-    s.1.1.1.0.now s.1.1.1.1.0.now s.1.1.1.1.1.0.now
+pub cause-tells-c : (κs : Lfts 7) (a : ArgsD c.causes_for_c.fairleadow_cause.signature κs) (r : ResD c.causes_for_c.fairleadow_cause.signature κs)
+    (s : AtExit c.causes_for_c.fairleadow_cause.ended κs) → c-proofs.causes_for_c.fairleadow_cause.Reads.Learnt κs a r s
+    → GivesCauseC a.1.0.now (cause_for a.0.now a.1.0.now a.1.1.0) r s.1.1.1.1.1.1.0.now s.1.1.1.1.1.1.1.0.now s.1.1.1.0.now s.1.1.1.1.0.now
+    s.1.1.1.1.1.0.now
 cause-tells-c κs a r s e = record { told = e.0; row = e.1.0; mask = e.1.1.0; bit = e.1.1.1.0; sized = e.1.1.1.1 }
 
-pub meaning-tells-c : (κs : Lfts 1) (a : ArgsD c-meaning.signature κs) (r : ResD c-meaning.signature κs) (s : AtExit c-meaning.ended κs)
-    → c-meaning-reads.Learnt κs a r s → Meant a.0 r s.1.0.now
+pub meaning-tells-c : (κs : Lfts 1) (a : ArgsD c.causes_for_c.fairleadow_meaning.signature κs)
+    (r : ResD c.causes_for_c.fairleadow_meaning.signature κs) (s : AtExit c.causes_for_c.fairleadow_meaning.ended κs)
+    → c-proofs.causes_for_c.fairleadow_meaning.Reads.Learnt κs a r s → Meant a.0 r s.1.0.now
 meaning-tells-c κs a r s e = e

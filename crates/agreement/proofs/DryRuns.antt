@@ -1,8 +1,6 @@
 -- A dry run of a chart that translates is the agreement's one run.
-use Prim.Native.Nat.{ℕ, ◌≤◌}
-use mathlib.Core.Path.{◌≡◌, refl, ◌∙◌, ap}
-use mathlib.Core.List.{List, [], ◌∷◌, map}
-use lib.ListN.{take}
+use Rattle.std.proofs.Common.{ℕ, ◌≤◌, ◌≡◌, refl, ◌∙◌, ap, List, [], ◌∷◌, take, arith}
+use Rattle.std.proofs.lemmas.Grind.{common_steps}
 use Rattle.text.specs.frames.Frame.{contents}
 use Rattle.text.specs.frames.Answer.{success}
 use Rattle.translator.specs.Entry.{translate}
@@ -12,7 +10,6 @@ use Rattle.state.proofs.Sizes.{size-good}
 use Rattle.runs.specs.Run.{run}
 use Rattle.dry_runs.specs.DryRun.{DryRunOutcome, run_once, dry_run}
 use Rattle.agreement.specs.Agreement.{RunInput, to_run, CallOutput, by_run, call_outputs, walk_outputs, Agreement}
-use Rattle.agreement.specs.ForC.{by_run_c, call_output_c}
 use Rattle.agreement.specs.DryRuns.{RunsByWalk, DryRunByWalk, DryRunByWalkC}
 use Rattle.agreement.proofs.Demand.{theorem}
 
@@ -36,18 +33,8 @@ module _ (text before : List ℕ) (size : ℕ) (a : RunInput) (n : ℕ) (done : 
 
 pub dry-run-by-walk : DryRunByWalk
 unfolding DryRunByWalk RunsByWalk
-dry-run-by-walk text before after size a answer masks codes g n done low high =
-    (λ j. by_run (record { reply = g.answered j; masks = g.masks j; codes = g.codes j }) ∷ [])
-    ∙ by-walk text before size a n done low high
+dry-run-by-walk text before after size a answer masks codes g n done low high = grind (arith, common_steps, by-walk)
 
 pub dry-run-by-walk-c : DryRunByWalkC
 unfolding DryRunByWalkC
-dry-run-by-walk-c text before after size a t g n done low high =
-    (λ j. by_run_c (record {
-      number = g.told.number_is j;
-      index = g.told.index_is j;
-      count = g.told.count-is j;
-      masks = g.masks j;
-      codes = g.codes j;
-    }) ∷ [])
-    ∙ ap (map call_output_c) (by-walk text before size a n done low high)
+dry-run-by-walk-c text before after size a t g n done low high = grind (arith, common_steps, by-walk)

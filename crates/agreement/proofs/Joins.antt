@@ -6,7 +6,7 @@ use Rattle.std.proofs.lemmas.Grind.{common_steps}
 use Rattle.bindings.specs.Binding.{Binding}
 use Rattle.charts.specs.Chart.{Chart}
 use Rattle.walk.specs.Walk.{Signal, signals, Tick}
-use Rattle.walk.proofs.Trace.{WalkPosition, trace, position_reached, trace-length, trace-append}
+use Rattle.walk.proofs.Trace.{WalkPosition, trace, trace-length, trace-append}
 use Rattle.agreement.specs.Agreement.{RunInput, RunOutput, CallInput, to_run, CallOutput, by_run, is_short, joined_words, bound}
 use Rattle.agreement.specs.Agreement.{expected_output, expected_outputs}
 use Rattle.agreement.proofs.Bounds.{bound-le, bound-full, bound-part, stand, stand-full, stand-part, bound-here}
@@ -73,22 +73,7 @@ module _ (c : Chart) (n : ℕ) (s : Binding) where
 
     -- the bound is in this run, and no later one makes a tick
     joins_part : bound n mine < length a.words → is_short a ≡ false → Joins
-    joins_part h e =
-        let m : ℕ = length a.words in
-        let us : List Tick = trace n c (joined_words c s rest) (position_reached n c ws x) in
-        let vs : List Tick = trace n c (joined_words c s rest) (stand c n ws x) in
-        let b : ℕ = bound n mine in
-        let l : length mine ≡ m = mine-length in
-        let k : length ws ≡ m = ws-length in
-        let z : bound n vs ≡ 0 = bound-here c n (joined_words c s rest) (stand c n ws x) (stand-part c n ws x (omega arith)) in
-        ap₂ (λ (t : RunOutput) (ts : List CallOutput). by_run t ∷ ts)
-        (first b b mine us a (bound-le n mine) (omega arith)
-        (ap₂ (λ (t u : Bool). t && u) (lt-ltb b (0 + m) (omega arith)) (lt-ltb 0 m (omega arith)) ∙ sym (lt-ltb b m h)))
-        (halted c (bound n vs) vs 0 b (mine ++ us) (0 + m) rest (omega arith) (omega arith))
-        ∙ sym (all-long c b (mine ++ us) 0 a rest e)
-        ∙ sym (ap (λ (k : ℕ). expected_outputs c k (mine ++ us) 0 (to_run a ∷ rest)) (bound-part n mine us (omega arith)))
-        ∙ sym (ap (λ (ts : List Tick). expected_outputs c (bound n ts) ts 0 (to_run a ∷ rest))
-        (trace-append n c ws (joined_words c s rest) x))
+    joins_part h e = grind (arith, common_steps, bound-here, trace-append, lt-ltb, halted, all-long, bound-part, stand-part, bound-le, first, ws-length, mine-length)
 
     pub joins : is_short a ≡ false → Joins
     joins e = grind (arith, common_steps, bound-le, ltb-true, ltb-false, mine-length, joins-full, joins_part)

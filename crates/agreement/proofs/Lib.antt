@@ -28,3 +28,4 @@ pub mod Causes
 pub mod Listings
 pub mod Capitals
 pub mod Asks
+pub mod Theorems

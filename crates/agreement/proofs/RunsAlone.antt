@@ -1,7 +1,8 @@
 -- With no rebinding in the list, the agreement is one over lists of runs and the walk of words alone.
-use Rattle.std.proofs.Common.{ℕ, ◌+◌, Bool, true, false, ◌≡◌, refl, sym, ap, ◌∙◌, List, [], ◌∷◌, map, length, take, arith, flat_map}
+use Rattle.std.proofs.Common.{ℕ, ◌+◌, ◌≡◌, refl, sym, ap, ◌∙◌, List, [], ◌∷◌, map, length, take, arith, flat_map, inl, inr}
 use mathlib.Core.List.{map-append}
 use Rattle.std.proofs.lemmas.Grind.{common_steps}
+use Rattle.words.proofs.lists.Tests.{cases}
 use Rattle.bindings.specs.Binding.{Binding, own_binding}
 use Rattle.text.specs.frames.Frame.{contents}
 use Rattle.text.specs.frames.Verdict.{fine}
@@ -47,19 +48,15 @@ pub expected-alone : (c : Chart) (b : ℕ) (ts : List Tick) (p : ℕ) (asked : L
     → expected_outputs c b ts p (map to_run asked) ≡ map by_run (unswapped.expected_runs b ts p asked)
 unfolding expected_outputs unswapped.expected_runs
 expected-alone c b ts p [] = refl
-expected-alone c b ts p (a ∷ rest) = go (expected-alone c b ts p rest) (expected-alone c b ts (p + length a.words) rest) (is_short a) refl
-  where
-    go : expected_outputs c b ts p (map to_run rest) ≡ map by_run (unswapped.expected_runs b ts p rest)
-        → expected_outputs c b ts (p + length a.words) (map to_run rest) ≡ map by_run
-        (unswapped.expected_runs b ts (p + length a.words) rest)
-        → (t : Bool) → is_short a ≡ t → expected_outputs c b ts p (to_run a ∷ map to_run rest) ≡ map
-        by_run (unswapped.expected_runs b ts p (a ∷ rest))
-    go here on true e =
-        all-short c b ts p a (map to_run rest) e ∙ ap (λ (l : List CallOutput). by_run (output_refused_short a) ∷ l) here
-        ∙ rw (e, unswapped.expected_runs)
-    go here on false e =
-        all-long c b ts p a (map to_run rest) e ∙ ap (λ (l : List CallOutput). by_run (expected_output b ts p a) ∷ l) on
-        ∙ rw (e, unswapped.expected_runs)
+expected-alone c b ts p (a ∷ rest) = elim (cases (is_short a)) [
+  | inl e ↦
+      all-short c b ts p a (map to_run rest) e
+      ∙ ap (λ (l : List CallOutput). by_run (output_refused_short a) ∷ l) (expected-alone c b ts p rest) ∙ rw (e, unswapped.expected_runs)
+  | inr e ↦
+      all-long c b ts p a (map to_run rest) e
+      ∙ ap (λ (l : List CallOutput). by_run (expected_output b ts p a) ∷ l) (expected-alone c b ts (p + length a.words) rest)
+      ∙ rw (e, unswapped.expected_runs)
+]
 
 -- of every accepted chart
 pub walked-alone : (text : List ℕ) → read_verdict text ≡ fine → (size : ℕ) (asked : List RunInput)

@@ -67,17 +67,7 @@ module _ (c : Chart) (n : ℕ) (n≤ : n ≤ 32) (serving : Binding) where
 
   to-under : (m code u : ℕ) (x k : Open) (ks : List Open) (b d : Results) (f : Bool) (r : Found) → length ks < 31 → r ≡ found (label c u)
       → let s = state x (k ∷ ks) b f in moved_tick m code (popped_state s d) (s.depth - 2) r ≡ finished m code (state (moved_to k u) ks d f)
-  to-under m code u x k ks b d f r l e =
-      let s = state x (k ∷ ks) b f in
-      let t = popped_state s d in
-      let ls : List ℕ = below (labelled c) ks (label c u ∷ zeros_over ks) in
-      let q : suc (suc (length ks)) - 1 ≡ suc (length ks) = omega arith in
-      ap (moved_tick m code t (s.depth - 2)) e
-      ∙ ap (λ (ps : List ℕ). finished m code (holding n t.depth serving d ps t.numbers t.servers))
-      (set-drop (labelled c) k ks (labelled c x) (label c u) l)
-      ∙ ap₂ (λ (hs gs : List ℕ). finished m code (holding n t.depth serving d ls hs gs))
-      (set-off open_number k ks x.number l) (set-off open_server k ks x.server l)
-      ∙ ap (λ (o : ℕ). finished m code (holding n o serving d ls (stacked open_number k ks) (stacked open_server k ks))) q
+  to-under m code u x k ks b d f r l e = grind (arith, common_steps, set-drop, set-off)
 
   module _ (facts : Facts c) (table_facts : TableFacts c) (serves : Serves c serving) where
     -- ---- whether a full stack is dropped
@@ -153,16 +143,15 @@ module _ (c : Chart) (n : ℕ) (n≤ : n ≤ 32) (serving : Binding) where
     resumed-row : (h : ℕ) (k : Open) (w : ℕ) (b : Results) → Caller c h k
         → row_leads (table c) b (labelled c k) w ≡ found (label c (resumed c k.node w b))
     unfolding table
-    resumed-row h k w b caller = go caller.calls
-      where
-        go : Calling (kind c k.node) → row_leads (table c) b (labelled c k) w ≡ found (label c (resumed c k.node w b))
-        go (inl e) = table_facts.row_plain k.node w _ caller.stop.inside e
-            ∙ ap (λ (s : Stop). found (label c (node_resumed c k.node w b s)))
-            (sym (stop-call c k.node e (λ p. omega (arith, caller.called, caller.deep))))
-        go (inr e) = ap (λ (x : Label). lead_of (best_row (labelled c k) w (if result_of x.called b then 1 else 0) 0 (rows c)))
-            (held c k.node table_facts caller.stop (a-function e))
-            ∙ table_facts.row_function k.node w (result_of (argument c k.node) b) caller.stop.inside e
-            ∙ ap (λ (s : Stop). found (label c (node_resumed c k.node w b s))) (sym (stop-function c k.node e))
+    resumed-row h k w b caller = elim caller.calls [
+      | inl e ↦ table_facts.row_plain k.node w _ caller.stop.inside e
+          ∙ ap (λ (s : Stop). found (label c (node_resumed c k.node w b s)))
+          (sym (stop-call c k.node e (λ p. omega (arith, caller.called, caller.deep))))
+      | inr e ↦ ap (λ (x : Label). lead_of (best_row (labelled c k) w (if result_of x.called b then 1 else 0) 0 (rows c)))
+          (held c k.node table_facts caller.stop (a-function e))
+          ∙ table_facts.row_function k.node w (result_of (argument c k.node) b) caller.stop.inside e
+          ∙ ap (λ (s : Stop). found (label c (node_resumed c k.node w b s))) (sym (stop-function c k.node e))
+    ]
 
     tick-back : (x : Open) (ks : List Open) (b : Results) (f : Bool) (w : ℕ) → length ks < n → Good c (at x ks b f)
         → let s = state x ks b f in popped_tick (table c) s w 0 b (nat_le s.depth 1) ≡ finished 0 3

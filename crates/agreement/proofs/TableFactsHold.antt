@@ -1,7 +1,9 @@
 -- The facts that the simulation takes of a chart's table hold for every accepted text.
-use Rattle.std.proofs.Common.{◌≡◌, refl, sym, ◌∙◌, ap, Bool, true, false, List, [], ◌∷◌, ℕ, suc, ◌-◌, arith, length, drop, slice_index, filter}
+use Rattle.std.proofs.Common.{◌≡◌, sym, ◌∙◌, ap, List, [], ◌∷◌, ℕ, suc, ◌-◌, arith, length, filter}
 use Rattle.std.proofs.Math.ListN.{length-map}
+use Rattle.std.proofs.lemmas.Grind.{common_steps}
 use Rattle.words.proofs.lists.Filters.{none-passes}
+use Rattle.words.proofs.lists.Tests.{cases}
 use Rattle.text.specs.frames.Frame.{contents}
 use Rattle.text.specs.frames.Verdict.{fine}
 use Rattle.charts.specs.Chart.{Chart}
@@ -15,7 +17,7 @@ use Rattle.translator.proofs.LabelLaws.{label-low, label-inside, label-holds, la
 use Rattle.translator.proofs.LabelLaws.{labels-few, entry-holds}
 use Rattle.translator.proofs.Matching.{is_matching_row, targets, targets-none, targets-own, targets-other}
 use Rattle.translator.proofs.RowLaws.{row_plain, row-begin, row-condition, row-function}
-use Rattle.rows.specs.Rows.{row, no_choice, better_choice, best_row, found, lead_of}
+use Rattle.rows.specs.Rows.{no_choice, best_row, found, lead_of}
 use Rattle.rows.proofs.ChoiceLaws.{best-own, best-other}
 use Rattle.rows.proofs.BestRows.{best-none}
 use Rattle.agreement.proofs.TableFacts.{TableFacts}
@@ -31,16 +33,8 @@ none-taken l w b k rs e =
 -- just one row matches, so it is taken
 pub best-only : (l w b k u : ℕ) (rs : List Row) → targets l w b rs ≡ u ∷ [] → lead_of (best_row l w b k rs) ≡ found u
 best-only l w b k u [] e = absurd (omega (arith, ap (λ (us : List ℕ). length us) (sym (targets-none l w b) ∙ e)))
-best-only l w b k u (r ∷ rs) e = go (is_matching_row l w b r) refl (best-only l w b (suc k) u rs)
-  where
-    go : (t : Bool) → is_matching_row l w b r ≡ t → (targets l w b rs ≡ u ∷ [] → lead_of (best_row l w b (suc k) rs) ≡ found u)
-        → lead_of (best_row l w b k (r ∷ rs)) ≡ found u
-    go true m ih =
-        let p : r.next ∷ targets l w b rs ≡ u ∷ [] = sym (targets-own l w b r rs m) ∙ e in
-        let rest : targets l w b rs ≡ [] = ap (λ (us : List ℕ). drop 1 us) p in
-        ap lead_of (best-own l w b k r rs m ∙ ap (better_choice (row k r)) (none-taken l w b (suc k) rs rest))
-        ∙ ap found (ap (λ (us : List ℕ). slice_index us 0) p)
-    go false m ih = ap lead_of (best-other l w b k r rs m) ∙ ih (sym (targets-other l w b r rs m) ∙ e)
+best-only l w b k u (r ∷ rs) e =
+    grind (arith, common_steps, best-only l w b (suc k) u rs, cases (is_matching_row l w b r), targets-own, targets-other, best-own, best-other, none-taken)
 
 pub table-facts-of : (c : Chart) → SoundChart c → Facts c → TableFacts c
 table-facts-of c s f = record {

@@ -1,8 +1,9 @@
 -- Many ticks of the machine are those of the trace up to its bound.
-use Rattle.std.proofs.Common.{if◌then◌else◌, ℕ, suc, ◌≤◌, ◌<◌, Bool, true, false, ◌≡◌, refl, ap, ◌∙◌, sym, subst, List, [], ◌∷◌, nat_lt}
+use Rattle.std.proofs.Common.{if◌then◌else◌, ℕ, suc, ◌≤◌, ◌<◌, Bool, true, false, ◌≡◌, refl, ap, ◌∙◌, List, [], ◌∷◌, nat_lt, inl, inr}
 use Rattle.std.proofs.Common.{map, length, take, arith, lt-ltb}
 use Rattle.std.proofs.Math.Dec.{leb-suc-suc}
 use Rattle.std.proofs.lemmas.Grind.{common_steps}
+use Rattle.words.proofs.lists.Tests.{cases}
 use Rattle.results.specs.Results.{Results}
 use Rattle.bindings.specs.Binding.{Binding}
 use Rattle.text.specs.frames.Frame.{size}
@@ -90,13 +91,8 @@ module _ (c : Chart) (n : ℕ) (s : Binding) where
     pub stand-stands : (ws : List ℕ) (x : WalkPosition) → StandsWell c n x → StandsWell c n (stand c n (signals s ws) x)
     unfolding stand
     stand-stands [] x z = z
-    stand-stands (w ∷ ws) x z = go (stand-stands ws (next w x)) (is_full_call n (tick_at n c x)) refl
-      where
-        go : (StandsWell c n (next w x) → StandsWell c n (stand c n (signals s ws) (next w x)))
-            → (r : Bool) → is_full_call n (tick_at n c x) ≡ r
-            → StandsWell c n (stand c n (signal w ∷ signals s ws) x)
-        go ih true e = subst (StandsWell c n) (sym (stand-stop c n (signal w) (signals s ws) x e)) z
-        go ih false e = subst (StandsWell c n) (sym (stand-go c n (signal w) (signals s ws) x e)) (ih (moves-on w x z e))
+    stand-stands (w ∷ ws) x z =
+        grind (arith, common_steps, stand-stands ws (next w x), cases (is_full_call n (tick_at n c x)), stand-stop, stand-go, moves-on)
 
     pub ticks-are : n ≤ 32 → TableFacts c → (ws : List ℕ) (x : WalkPosition) → StandsWell c n x
         → ticks (table c) (state x) ws ≡ run_from_position c n s ws x
@@ -104,9 +100,7 @@ module _ (c : Chart) (n : ℕ) (s : Binding) where
     ticks-are n≤ table_facts [] x z = refl
     ticks-are n≤ table_facts (w ∷ ws) x z =
         ap (run_after (state x) (λ t. ticks (table c) t ws)) (tick-is c n n≤ s facts table_facts serves w x z.low z.good)
-        ∙ go (ticks-are n≤ table_facts ws (next w x)) (is_full_call n (tick_at n c x)) refl
-      where
-        go : (StandsWell c n (next w x) → ticks (table c) (state (next w x)) ws ≡ run_from_position c n s ws (next w x))
-            → (r : Bool) → is_full_call n (tick_at n c x) ≡ r → first w ws x ≡ run_from_position c n s (w ∷ ws) x
-        go ih true e = first_stops w ws x e
-        go ih false e = first_goes w ws x e (ih (moves-on w x z e))
+        ∙ elim (cases (is_full_call n (tick_at n c x))) [
+          | inl e ↦ first_stops w ws x e
+          | inr e ↦ first_goes w ws x e (ticks-are n≤ table_facts ws (next w x) (moves-on w x z e))
+        ]

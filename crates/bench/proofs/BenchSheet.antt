@@ -15,7 +15,7 @@ use Rattle.bench.specs.Bench.{chart_bore, bore_words, chart_again, chart_stops, 
 use Rattle.bench.proofs.Computing.{framing, walking, translating}
 use Rattle.bench.proofs.Tables.{table_p, of-P, image_home, of-home, image_function, of-function, table_bore, image_bore, of-bore}
 use Rattle.bench.proofs.Tables.{table_again, image_again, of-again, table_stops, of-stops}
-use Rattle.bench.proofs.Rounds.{blank, fresh-run, home-walk, home-run, function-run}
+use Rattle.bench.proofs.Rounds.{blank, fresh-run, parts, home-walk, home-run, function-run}
 
 refused-texts : (out : List ℕ) → (translate [] out ≡ record { reply = refusal 1 0 0; buffer = out })
     × (translate chart_circle out ≡ record { reply = refusal 8 1 0; buffer = out })
@@ -73,8 +73,7 @@ pub bench-sheet : BenchSheet
 unfolding ticks tick best_row table_p bench_words table_bore bore_words table_again table_stops stops_words
 bench-sheet = record {
   b1 = of-P.translated;
-  b2 = let e = run-P 3 (omega arith) (omega arith) bench_words in
-      (ap (λ (r : RunOutcome). r.reply) e, ap (λ (r : RunOutcome). r.codes) e, ap (λ (r : RunOutcome). r.masks) e);
+  b2 = parts (run-P 3 (omega arith) (omega arith) bench_words);
   b3 = ap (λ (r : RunOutcome). r.reply) (run-P 2 (omega arith) (omega arith) bench_words);
   b4 = ap (λ (r : RunOutcome). r.reply) (run-P 1 (omega arith) (omega arith) bench_words);
   b5 = λ size l h. ap (λ (r : RunOutcome). r.reply) (run-P size l h []);
@@ -85,20 +84,13 @@ bench-sheet = record {
   b7-mixed = λ out. (small-texts out).1;
   b8 = λ out. (refused-texts out).1;
   b10 = ap (λ (r : RunOutcome). r.codes) (on-function 2 (replicate 6 0)) ∙ (function-run 2 (omega arith) (omega arith) (replicate 6 0)).1;
-  b10-always = λ size l h ws. let e = on-function size ws in let r = function-run size l h ws in
-      (ap (λ (r : RunOutcome). r.reply) e ∙ r.0, ap (λ (r : RunOutcome). r.codes) e ∙ r.1, ap (λ (r : RunOutcome). r.masks) e ∙ r.2);
-  bore = (
-    ap (λ (r : RunOutcome). r.reply) run-bore,
-    ap (λ (r : RunOutcome). r.codes)
-        run-bore,
-    ap (λ (r : RunOutcome). r.masks) run-bore,
-  );
+  b10-always = λ size l h ws. let e = parts (on-function size ws) in let r = function-run size l h ws in (e.0 ∙ r.0, e.1 ∙ r.1, e.2 ∙ r.2);
+  bore = parts run-bore;
   own_call = ap (λ (r : RunOutcome). r.state.bits) (run-again (replicate 4 0));
   full_call = let e = run-again (replicate 6 0) in (ap (λ (r : RunOutcome). r.reply) e, ap (λ (r : RunOutcome). r.state.bits) e);
   stops-image = of-stops.translated;
   stops-walk = walk-stops;
-  stops-run = let e = run-stops stops_words in
-      (ap (λ (r : RunOutcome). r.reply) e, ap (λ (r : RunOutcome). r.codes) e, ap (λ (r : RunOutcome). r.masks) e);
+  stops-run = parts (run-stops stops_words);
   writes-one = ap (λ (r : RunOutcome). r.state.bits) (run-stops (take 4 stops_words));
   writes-zero = ap (λ (r : RunOutcome). r.state.bits) (run-stops (take 5 stops_words));
 }

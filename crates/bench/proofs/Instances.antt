@@ -29,9 +29,16 @@ one_run_output run image size ws = output_of (run image (fresh size) ws (alone_i
 abbrev pub run_alone : List ℕ → CallInput
 run_alone ws = to_run (alone_input ws)
 
+-- all the words are run, or 17 comes after n of them
+abbrev pub done : ℕ → List ℕ → List ℕ → RunOutput
+done n ms ks = record { reply = success n; masks = ms; codes = ks }
+
+abbrev pub full_after : ℕ → List ℕ → List ℕ → RunOutput
+full_after n ms ks = record { reply = refusal 17 0 n; masks = ms; codes = ks }
+
 -- what the first call of a chain hands back and the second, and nothing where there is none
 abbrev pub first_output : List CallOutput → RunOutput
-first_output [] = record { reply = success 0; masks = []; codes = [] }
+first_output [] = done 0 [] []
 first_output (by_run t ∷ ds) = t
 first_output (by_rebinding r ∷ ds) = record { reply = r; masks = []; codes = [] }
 
@@ -62,117 +69,84 @@ module _ (run : Runner) (rebind : Rebinder) (claim : Agreement translate fresh_s
       ∙ ap (λ (us : List Tick). expected_outputs (contents chart) (bound size us) us 0 given) e
 
   -- chart P with stack size 3, and with 2
-  pub at-deep : one_run_output run image_p 3 bench_words ≡ record {
-    reply = success 8;
-    masks = 0 ∷ 1 ∷ 0 ∷ 2 ∷ 0 ∷ 0 ∷ 0 ∷ 0 ∷ [];
-    codes = 4 ∷ 18 ∷ 0 ∷ 18 ∷ 0 ∷ 3 ∷ 3 ∷ 4 ∷ [];
-  }
+  pub at-deep : one_run_output run image_p 3 bench_words ≡ done 8 (0 ∷ 1 ∷ 0 ∷ 2 ∷ 0 ∷ 0 ∷ 0 ∷ 0 ∷ []) (4 ∷ 18 ∷ 0 ∷ 18 ∷ 0 ∷ 3 ∷ 3 ∷ 4 ∷ [])
   unfolding walking chart_p bench_words call_outputs joined_words bound expected_outputs
   at-deep = ap first_output (at-chart of-P 3 (omega arith) (omega arith) (run_alone bench_words ∷ []) _ refl)
 
-  pub at-shallow : one_run_output run image_p 2 bench_words ≡ record {
-    reply = refusal 17 0 3;
-    masks = 0 ∷ 1 ∷ 0 ∷ 7 ∷ 7 ∷ 7 ∷ 7 ∷ 7 ∷ [];
-    codes = 4 ∷ 18 ∷ 0 ∷ 7 ∷ 7 ∷ 7 ∷ 7 ∷ 7 ∷ [];
-  }
+  pub at-shallow : one_run_output run image_p 2 bench_words ≡ full_after 3 (0 ∷ 1 ∷ 0 ∷ 7 ∷ 7 ∷ 7 ∷ 7 ∷ 7 ∷ []) (4 ∷ 18 ∷ 0 ∷ 7 ∷ 7 ∷ 7 ∷ 7 ∷ 7 ∷ [])
   unfolding walking chart_p bench_words call_outputs joined_words bound expected_outputs
   at-shallow = ap first_output (at-chart of-P 2 (omega arith) (omega arith) (run_alone bench_words ∷ []) _ refl)
 
   -- two runs of one word each
   pub at-twice : call_outputs run rebind image_p (fresh 3) (run_alone (0 ∷ []) ∷ run_alone (0 ∷ []) ∷ [])
-      ≡ by_run (record { reply = success 1; masks = 0 ∷ []; codes = 4 ∷ [] })
-      ∷ by_run (record { reply = success 1; masks = 1 ∷ []; codes = 18 ∷ [] }) ∷ []
+      ≡ by_run (done 1 (0 ∷ []) (4 ∷ [])) ∷ by_run (done 1 (1 ∷ []) (18 ∷ [])) ∷ []
   unfolding walking chart_p call_outputs joined_words bound expected_outputs
   at-twice = at-chart of-P 3 (omega arith) (omega arith) (run_alone (0 ∷ []) ∷ run_alone (0 ∷ []) ∷ []) _ refl
 
-  pub at-home : one_run_output run image_home 1 (0 ∷ []) ≡ record { reply = success 1; masks = 0 ∷ []; codes = 4 ∷ [] }
+  pub at-home : one_run_output run image_home 1 (0 ∷ []) ≡ done 1 (0 ∷ []) (4 ∷ [])
   unfolding walking chart_home call_outputs joined_words bound expected_outputs
   at-home = ap first_output (at-chart of-home 1 (omega arith) (omega arith) (run_alone (0 ∷ []) ∷ []) _ refl)
 
-  pub at-function : one_run_output run image_function 2 (replicate 6 0) ≡ record {
-    reply = success 6;
-    masks = 0 ∷ 0 ∷ 0 ∷ 0 ∷ 1 ∷ 0 ∷ [];
-    codes = 4 ∷ 66 ∷ 0 ∷ 3 ∷ 0 ∷ 4 ∷ [];
-  }
+  pub at-function : one_run_output run image_function 2 (replicate 6 0) ≡ done 6 (0 ∷ 0 ∷ 0 ∷ 0 ∷ 1 ∷ 0 ∷ []) (4 ∷ 66 ∷ 0 ∷ 3 ∷ 0 ∷ 4 ∷ [])
   unfolding walking chart_function call_outputs joined_words bound expected_outputs
   at-function = ap first_output (at-chart of-function 2 (omega arith) (omega arith) (run_alone (replicate 6 0) ∷ []) _ refl)
 
-  pub at-choice : one_run_output run image_choice 2 (0 ∷ 0 ∷ 0 ∷ 1 ∷ 0 ∷ []) ≡ record {
-    reply = success 5;
-    masks = 0 ∷ 0 ∷ 0 ∷ 0 ∷ 1 ∷ [];
-    codes = 4 ∷ 18 ∷ 0 ∷ 3 ∷ 0 ∷ [];
-  }
+  pub at-choice : one_run_output run image_choice 2 (0 ∷ 0 ∷ 0 ∷ 1 ∷ 0 ∷ []) ≡ done 5 (0 ∷ 0 ∷ 0 ∷ 0 ∷ 1 ∷ []) (4 ∷ 18 ∷ 0 ∷ 3 ∷ 0 ∷ [])
   unfolding walking chart_choice call_outputs joined_words bound expected_outputs
   at-choice = ap first_output (at-chart of-choice 2 (omega arith) (omega arith) (run_alone (0 ∷ 0 ∷ 0 ∷ 1 ∷ 0 ∷ []) ∷ []) _ refl)
 
-  pub at-bore : one_run_output run image_bore 2 bore_words ≡ record {
-    reply = success 12;
-    masks = 0 ∷ 0 ∷ 0 ∷ 0 ∷ 0 ∷ 1 ∷ 0 ∷ 0 ∷ 0 ∷ 0 ∷ 2 ∷ 0 ∷ [];
-    codes = 4 ∷ 66 ∷ 0 ∷ 0 ∷ 3 ∷ 0 ∷ 4 ∷ 66 ∷ 0 ∷ 3 ∷ 0 ∷ 4 ∷ [];
-  }
+  pub at-bore : one_run_output run image_bore 2 bore_words
+      ≡ done 12 (0 ∷ 0 ∷ 0 ∷ 0 ∷ 0 ∷ 1 ∷ 0 ∷ 0 ∷ 0 ∷ 0 ∷ 2 ∷ 0 ∷ []) (4 ∷ 66 ∷ 0 ∷ 0 ∷ 3 ∷ 0 ∷ 4 ∷ 66 ∷ 0 ∷ 3 ∷ 0 ∷ 4 ∷ [])
   unfolding walking chart_bore bore_words call_outputs joined_words bound expected_outputs
   at-bore = ap first_output (at-chart of-bore 2 (omega arith) (omega arith) (run_alone bore_words ∷ []) _ refl)
 
   -- the chart with a handler and two places: two drops, 17 with the handler at the bottom, and a drop where the handler's scheme was called
-  pub at-drop : one_run_output run image_handler 2 drop_words ≡ record {
-    reply = success 10;
-    masks = 0 ∷ 0 ∷ 0 ∷ 2 ∷ 4 ∷ 0 ∷ 0 ∷ 0 ∷ 0 ∷ 2 ∷ [];
-    codes = 4 ∷ 66 ∷ 0 ∷ 96 ∷ 0 ∷ 3 ∷ 4 ∷ 66 ∷ 0 ∷ 96 ∷ [];
-  }
+  pub at-drop : one_run_output run image_handler 2 drop_words
+      ≡ done 10 (0 ∷ 0 ∷ 0 ∷ 2 ∷ 4 ∷ 0 ∷ 0 ∷ 0 ∷ 0 ∷ 2 ∷ []) (4 ∷ 66 ∷ 0 ∷ 96 ∷ 0 ∷ 3 ∷ 4 ∷ 66 ∷ 0 ∷ 96 ∷ [])
   unfolding walking chart_handler drop_words call_outputs joined_words bound expected_outputs
   at-drop = ap first_output (at-chart of-handler 2 (omega arith) (omega arith) (run_alone drop_words ∷ []) _ refl)
 
-  pub at-bottom : one_run_output run image_handler 2 bottom_words ≡ record {
-    reply = refusal 17 0 7;
-    masks = 0 ∷ 0 ∷ 0 ∷ 2 ∷ 4 ∷ 8 ∷ 0 ∷ 7 ∷ 7 ∷ [];
-    codes = 4 ∷ 66 ∷ 0 ∷ 96 ∷ 0 ∷ 18 ∷ 0 ∷ 7 ∷ 7 ∷ [];
-  }
+  pub at-bottom : one_run_output run image_handler 2 bottom_words
+      ≡ full_after 7 (0 ∷ 0 ∷ 0 ∷ 2 ∷ 4 ∷ 8 ∷ 0 ∷ 7 ∷ 7 ∷ []) (4 ∷ 66 ∷ 0 ∷ 96 ∷ 0 ∷ 18 ∷ 0 ∷ 7 ∷ 7 ∷ [])
   unfolding walking chart_handler bottom_words call_outputs joined_words bound expected_outputs
   at-bottom = ap first_output (at-chart of-handler 2 (omega arith) (omega arith) (run_alone bottom_words ∷ []) _ refl)
 
-  pub at-ordinary : one_run_output run image_handler 2 ordinary_words ≡ record {
-    reply = success 10;
-    masks = 0 ∷ 0 ∷ 0 ∷ 0 ∷ 1 ∷ 4 ∷ 8 ∷ 4 ∷ 0 ∷ 0 ∷ [];
-    codes = 4 ∷ 66 ∷ 0 ∷ 3 ∷ 19 ∷ 0 ∷ 96 ∷ 0 ∷ 3 ∷ 4 ∷ [];
-  }
+  pub at-ordinary : one_run_output run image_handler 2 ordinary_words
+      ≡ done 10 (0 ∷ 0 ∷ 0 ∷ 0 ∷ 1 ∷ 4 ∷ 8 ∷ 4 ∷ 0 ∷ 0 ∷ []) (4 ∷ 66 ∷ 0 ∷ 3 ∷ 19 ∷ 0 ∷ 96 ∷ 0 ∷ 3 ∷ 4 ∷ [])
   unfolding walking chart_handler ordinary_words call_outputs joined_words bound expected_outputs
   at-ordinary = ap first_output (at-chart of-handler 2 (omega arith) (omega arith) (run_alone ordinary_words ∷ []) _ refl)
 
   -- a run that ends with the drop, and one of a word after it
   pub at-parted : call_outputs run rebind image_handler (fresh 2) (run_alone (0 ∷ 0 ∷ 1 ∷ 0 ∷ []) ∷ run_alone (0 ∷ []) ∷ [])
-      ≡ by_run (record { reply = success 4; masks = 0 ∷ 0 ∷ 0 ∷ 2 ∷ []; codes = 4 ∷ 66 ∷ 0 ∷ 96 ∷ [] })
-      ∷ by_run (record { reply = success 1; masks = 4 ∷ []; codes = 0 ∷ [] }) ∷ []
+      ≡ by_run (done 4 (0 ∷ 0 ∷ 0 ∷ 2 ∷ []) (4 ∷ 66 ∷ 0 ∷ 96 ∷ [])) ∷ by_run (done 1 (4 ∷ []) (0 ∷ [])) ∷ []
   unfolding walking chart_handler call_outputs joined_words bound expected_outputs
   at-parted = at-chart of-handler 2 (omega arith) (omega arith) (run_alone (0 ∷ 0 ∷ 1 ∷ 0 ∷ []) ∷ run_alone (0 ∷ []) ∷ []) _ refl
 
   -- the chart whose schemes are swapped, with two places: no rebinding, number 2 served by scheme 3, the same while scheme 2 is open, and
   -- rebindings that are refused
   pub at-own : one_run_output run image_swap 2 (replicate 3 0)
-      ≡ record { reply = success 3; masks = 0 ∷ 1 ∷ 4 ∷ []; codes = 4 ∷ 18 ∷ 0 ∷ [] }
+      ≡ done 3 (0 ∷ 1 ∷ 4 ∷ []) (4 ∷ 18 ∷ 0 ∷ [])
   unfolding walking chart_swap call_outputs joined_words bound expected_outputs
   at-own = ap first_output (at-chart of-swap 2 (omega arith) (omega arith) (run_alone (replicate 3 0) ∷ []) _ refl)
 
   pub at-served : second_output (call_outputs run rebind image_swap (fresh 2) (to_rebind 2 3 ∷ run_alone (replicate 3 0) ∷ []))
-      ≡ record { reply = success 3; masks = 0 ∷ 1 ∷ 8 ∷ []; codes = 4 ∷ 18 ∷ 0 ∷ [] }
+      ≡ done 3 (0 ∷ 1 ∷ 8 ∷ []) (4 ∷ 18 ∷ 0 ∷ [])
   unfolding walking chart_swap call_outputs joined_words bound expected_outputs
   at-served = ap second_output (at-chart of-swap 2 (omega arith) (omega arith) (to_rebind 2 3 ∷ run_alone (replicate 3 0) ∷ []) _ refl)
 
-  pub at-answer : second_output (call_outputs run rebind image_swap (fresh 2) (to_rebind 2 3 ∷ run_alone (replicate 8 0) ∷ [])) ≡ record {
-    reply = success 8;
-    masks = 0 ∷ 1 ∷ 8 ∷ 0 ∷ 0 ∷ 8 ∷ 0 ∷ 2 ∷ [];
-    codes = 4 ∷ 18 ∷ 0 ∷ 3 ∷ 66 ∷ 0 ∷ 3 ∷ 0 ∷ [];
-  }
+  pub at-answer : second_output (call_outputs run rebind image_swap (fresh 2) (to_rebind 2 3 ∷ run_alone (replicate 8 0) ∷ []))
+      ≡ done 8 (0 ∷ 1 ∷ 8 ∷ 0 ∷ 0 ∷ 8 ∷ 0 ∷ 2 ∷ []) (4 ∷ 18 ∷ 0 ∷ 3 ∷ 66 ∷ 0 ∷ 3 ∷ 0 ∷ [])
   unfolding walking chart_swap call_outputs joined_words bound expected_outputs
   at-answer = ap second_output (at-chart of-swap 2 (omega arith) (omega arith) (to_rebind 2 3 ∷ run_alone (replicate 8 0) ∷ []) _ refl)
 
   pub at-within : third (call_outputs run rebind image_swap (fresh 2) (run_alone (0 ∷ 0 ∷ []) ∷ to_rebind 2 3 ∷ run_alone (0 ∷ []) ∷ []))
-      ≡ record { reply = success 1; masks = 4 ∷ []; codes = 0 ∷ [] }
+      ≡ done 1 (4 ∷ []) (0 ∷ [])
   unfolding walking chart_swap call_outputs joined_words bound expected_outputs
   at-within = ap third (at-chart of-swap 2 (omega arith) (omega arith)
       (run_alone (0 ∷ 0 ∷ []) ∷ to_rebind 2 3 ∷ run_alone (0 ∷ []) ∷ []) _ refl)
 
   pub at-barred : second_output (call_outputs run rebind image_swap (fresh 2) (to_rebind 2 1 ∷ run_alone (0 ∷ []) ∷ []))
-      ≡ record { reply = success 1; masks = 0 ∷ []; codes = 4 ∷ [] }
+      ≡ done 1 (0 ∷ []) (4 ∷ [])
   unfolding walking chart_swap call_outputs joined_words bound expected_outputs
   at-barred = ap second_output (at-chart of-swap 2 (omega arith) (omega arith) (to_rebind 2 1 ∷ run_alone (0 ∷ []) ∷ []) _ refl)
 
@@ -184,7 +158,7 @@ module _ (run : Runner) (rebind : Rebinder) (claim : Agreement translate fresh_s
   -- scheme 2 is open and calls its own number, which scheme 3 serves by then
   pub at-inner : third (call_outputs run rebind image_inner (fresh 3)
       (run_alone (0 ∷ 0 ∷ []) ∷ to_rebind 2 3 ∷ run_alone (replicate 5 0) ∷ []))
-      ≡ record { reply = success 5; masks = 2 ∷ 4 ∷ 0 ∷ 0 ∷ 1 ∷ []; codes = 18 ∷ 0 ∷ 3 ∷ 3 ∷ 0 ∷ [] }
+      ≡ done 5 (2 ∷ 4 ∷ 0 ∷ 0 ∷ 1 ∷ []) (18 ∷ 0 ∷ 3 ∷ 3 ∷ 0 ∷ [])
   unfolding walking chart_inner call_outputs joined_words bound expected_outputs
   at-inner = ap third (at-chart of-inner 3 (omega arith) (omega arith)
       (run_alone (0 ∷ 0 ∷ []) ∷ to_rebind 2 3 ∷ run_alone (replicate 5 0) ∷ []) _ refl)

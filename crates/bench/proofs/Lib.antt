@@ -29,3 +29,4 @@ pub mod Prices
 pub mod Fillings
 pub mod DryRuns
 pub mod Sums
+pub mod Cases

@@ -1,5 +1,6 @@
 -- The cases of the smaller image hold, computed; that 23 does not apply is computed by sizes.
-use Rattle.std.proofs.Common.{ℕ, Bool, ◌≡◌, refl, sym, ap, List, replicate}
+use Rattle.std.proofs.Common.{ℕ, ◌≡◌, refl, List, replicate, arith}
+use Rattle.std.proofs.lemmas.Grind.{common_steps}
 use lib.Count.{ones, ones_in}
 use Rattle.words.specs.lists.Numbers.{tabulate, lowest, count}
 use Rattle.words.specs.lists.Sequences.{map_from}
@@ -28,10 +29,7 @@ by_sizes t old =
 
 by-sizes : (t old : List ℕ) → image_verdict t ≡ fine → minimise t old ≡ by_sizes t old
 unfolding minimise minimise_verdict
-by-sizes t old e =
-    ap (λ (x : Bool). buffer_on (next (image_verdict t) λ _. when 23 x) 1
-    (λ _. image_text (smaller_image (decoded_image (contents t)))) old)
-    (sym (sizes-decide (decoded_image (contents t)) (image-sound t e)))
+by-sizes t old e = grind (arith, common_steps, sizes-decide, image-sound)
 
 pub minimise-cases : MinimiseCases
 unfolding checking tabulate lowest count map_from ones ones_in image_frames image_text

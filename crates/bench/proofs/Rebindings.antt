@@ -1,5 +1,6 @@
 -- Lists of runs and rebindings on an image, by the table that it holds.
-use Rattle.std.proofs.Common.{◌≡◌, refl, ◌∙◌, ap, ap₂, List, [], ◌∷◌, ℕ}
+use Rattle.std.proofs.Common.{◌≡◌, refl, ◌∙◌, ap, ap₂, List, [], ◌∷◌, ℕ, arith}
+use Rattle.std.proofs.lemmas.Grind.{common_steps}
 use Rattle.text.specs.frames.Verdict.{Verdict, next}
 use Rattle.image.specs.Image.{Image}
 use Rattle.state.specs.State.{State, StateOutcome}
@@ -38,6 +39,4 @@ module _ (image : List ℕ) (run run' : Runner) (rebind rebind' : Rebinder) wher
 
 pub chain-image : {image : List ℕ} {i : Image} → Holds image i → (s : State) (given : List CallInput)
     → call_outputs run rebind image s given ≡ call_outputs (λ t. run_image i) (λ t. rebind_image i) image s given
-chain-image {image} {i} known =
-    chain-alike image run (λ t. run_image i) rebind (λ t. rebind_image i)
-    (run-image image i known.passes known.decodes) (rebind-image known)
+chain-image {image} {i} known = grind (arith, common_steps, run-image, rebind-image, chain-alike)

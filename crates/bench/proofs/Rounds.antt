@@ -1,5 +1,5 @@
 -- Runs from a fresh state on the image of a chart, for every list of words: B6 and B10.
-use Rattle.std.proofs.Common.{◌≡◌, refl, ◌∙◌, ap, ap₂, subst, Bool, true, false, List, [], ◌∷◌, ◌++◌, map, append-nil, ℕ, zero, suc, ◌%◌, slice_index}
+use Rattle.std.proofs.Common.{◌≡◌, refl, ◌∙◌, ap, ap₂, Bool, true, false, List, [], ◌∷◌, ◌++◌, map, append-nil, ℕ, zero, suc, ◌%◌, slice_index}
 use Rattle.std.proofs.Common.{◌≤◌, arith, le-ltb, length, replicate, drop_of_length-le}
 use borrow.Author.Tests.{lt-leb}
 use lib.Bits.{and_zero_r}
@@ -10,17 +10,16 @@ use Rattle.words.proofs.lists.Ranges.{length-map-range}
 use Rattle.results.specs.Results.{no_results}
 use Rattle.bindings.specs.Binding.{own_binding}
 use Rattle.text.specs.frames.Frame.{contents}
-use Rattle.text.specs.frames.Verdict.{fine, next, when}
+use Rattle.text.specs.frames.Verdict.{fine}
 use Rattle.text.specs.frames.Answer.{success}
 use Rattle.walk.specs.Walk.{Signal, OpenScheme, one_tick, spent, course_after, scheme_course, is_dropping, ticks_after_course, walk_from}
 use Rattle.walk.specs.Walk.{walk}
 use Rattle.image.specs.Image.{Image}
-use Rattle.image.specs.inner.Sound.{SoundImage}
 use Rattle.image.proofs.Accepted.{image-sound}
 use Rattle.state.specs.State.{State, fresh}
-use Rattle.ticks.specs.Tick.{MachineTick, finished, pushed_tick, tick}
+use Rattle.ticks.specs.Tick.{finished, pushed_tick, tick}
 use Rattle.rows.specs.Rows.{best_row}
-use Rattle.runs.specs.Run.{RunOutcome, MachineRun, run_after, ticks, has_no_room, run_on, run}
+use Rattle.runs.specs.Run.{RunOutcome, MachineRun, ticks, has_no_room, run_on}
 use Rattle.fitness.proofs.Fitness.{fits}
 use Rattle.ticks.proofs.Keeps.{fresh-fits}
 use Rattle.agreement.proofs.Images.{run-image}
@@ -28,6 +27,7 @@ use Rattle.agreement.proofs.Chain.{fresh-is}
 use Rattle.bench.specs.Bench.{chart_home, fresh_run, tick_of, beside, repeated_list}
 use Rattle.bench.proofs.Computing.{walking}
 use Rattle.bench.proofs.Tables.{Holds, held, TranslatesTo, image_home, table_home, of-home, image_function, table_function, of-function}
+use Rattle.std.proofs.lemmas.Grind.{common_steps}
 
 -- ---- a run from a fresh state is what its ticks on the table make
 abbrev pub blank : List ℕ → List ℕ
@@ -38,12 +38,7 @@ room ws = simp (length-replicate, le-ltb (length ws) (length ws) (omega arith))
 
 pub image-run : {image : List ℕ} {i : Image} → Holds image i → (size : ℕ) → 1 ≤ size → size ≤ 32 → (ws : List ℕ)
     → fresh_run image size ws ≡ run_on fine (λ _. ticks i (fresh size) ws) (fresh size) (blank ws) (blank ws)
-image-run {image} {i} known size l h ws =
-    let sound : SoundImage i = subst SoundImage known.decodes (image-sound image known.passes) in
-    ap (λ (s : State). run image s ws (blank ws) (blank ws)) (fresh-is size l h)
-    ∙ run-image image i known.passes known.decodes (fresh size) ws (blank ws) (blank ws)
-    ∙ ap₂ (λ (a b : Bool). run_on (next (when 15 a) λ _. when 16 b) (λ _. ticks i (fresh size) ws) (fresh size) (blank ws) (blank ws))
-    (fits i (fresh size) (fresh-fits i sound size l h)) (room ws)
+image-run {image} {i} known size l h ws = grind (arith, common_steps, image-sound, fresh-is, fresh-fits, fits, run-image, room)
 
 pub fresh-run : {chart image : List ℕ} {i : Image} → TranslatesTo chart image i → (size : ℕ) → 1 ≤ size → size ≤ 32 → (ws : List ℕ)
     → fresh_run image size ws ≡ run_on fine (λ _. ticks i (fresh size) ws) (fresh size) (blank ws) (blank ws)
@@ -58,6 +53,10 @@ finished-run : (r : MachineRun) (s : State) (ws : List ℕ) → r.verdict ≡ fi
     → run_on fine (λ _. r) s (blank ws)
     (blank ws) ≡ record { reply = success (length ws); state = r.state; masks = r.masks; codes = r.codes }
 finished-run r s ws v m k = rw (full r.masks ws m, full r.codes ws k, v, k)
+
+-- the reply, the codes and the masks of runs that are alike
+pub parts : {a b : RunOutcome} → a ≡ b → (a.reply ≡ b.reply) × (a.codes ≡ b.codes) × (a.masks ≡ b.masks)
+parts e = (ap (λ (r : RunOutcome). r.reply) e, ap (λ (r : RunOutcome). r.codes) e, ap (λ (r : RunOutcome). r.masks) e)
 
 -- ---- B6
 -- scheme 1 at home
@@ -79,10 +78,8 @@ home-walk n (w ∷ ws) =
 home-ticks : (size : ℕ) (ws : List ℕ)
     → ticks table_home (fresh size) ws ≡ record { masks = map (λ w. 0) ws; codes = map (λ w. 4) ws; state = fresh size; verdict = fine }
 unfolding ticks tick table_home
-home-ticks size [] = refl
-home-ticks size (w ∷ ws) =
-    ap (λ (r : MachineRun). record { masks = 0 ∷ r.masks; codes = 4 ∷ r.codes; state = r.state; verdict = r.verdict })
-    (home-ticks size ws)
+home-ticks size [] = grind (arith, common_steps)
+home-ticks size (w ∷ ws) = grind (arith, common_steps, home-ticks size ws)
 
 pub home-run : (size : ℕ) → 1 ≤ size → size ≤ 32 → (ws : List ℕ) → fresh_run image_home size ws ≡ record {
   reply = success (length ws);
@@ -164,11 +161,7 @@ module _ (size : ℕ) (two : 2 ≤ size) where
   more : {s t : State} {w m k : ℕ} {ws ms ks : List ℕ} → tick table_function s w ≡ finished m k t → Makes t ws ms ks
       → Makes s (w ∷ ws) (m ∷ ms) (k ∷ ks)
   unfolding ticks
-  more {s} {t} {w} {m} {k} {ws} e r = record {
-    masks = ap (λ (x : MachineTick). (run_after s (λ u. ticks table_function u ws) x).masks) e ∙ ap (λ (ms : List ℕ). m ∷ ms) r.masks;
-    codes = ap (λ (x : MachineTick). (run_after s (λ u. ticks table_function u ws) x).codes) e ∙ ap (λ (ks : List ℕ). k ∷ ks) r.codes;
-    verdict = ap (λ (x : MachineTick). (run_after s (λ u. ticks table_function u ws) x).verdict) e ∙ r.verdict;
-  }
+  more {s} {t} {w} {m} {k} {ws} e r = grind (arith, common_steps)
 
   rounds : (x : Bool) (ws : List ℕ) → Makes (two_places size 1 0 0 x) ws (repeated_list masks5 (length ws))
       (repeated_list codes5 (length ws))
@@ -188,9 +181,5 @@ function-run size l h ws =
     let e = fresh-run of-function size (omega arith) h ws
     ∙ finished-run (ticks table_function (fresh size) ws) (fresh size) ws made.verdict
     (ap length made.masks ∙ length-map-range (λ k. slice_index masks5 (k % 5)) 0 n)
-    (ap length made.codes ∙ length-map-range (λ k. slice_index codes5 (k % 5)) 0 n) in (
-      ap (λ (r : RunOutcome). r.reply) e,
-      ap (λ (r : RunOutcome). r.codes) e
-          ∙ made.codes,
-      ap (λ (r : RunOutcome). r.masks) e ∙ made.masks,
-    )
+    (ap length made.codes ∙ length-map-range (λ k. slice_index codes5 (k % 5)) 0 n) in
+    ((parts e).0, (parts e).1 ∙ made.codes, (parts e).2 ∙ made.masks)

@@ -1,6 +1,6 @@
 -- Runs with another tick in the place of the machine's, and what they hand back.
-use Rattle.std.proofs.Common.{◌≡◌, refl, ◌∙◌, ap, ap₂, sym, List, ℕ, slice_index}
-use Rattle.text.specs.frames.Verdict.{Verdict, next}
+use Rattle.std.proofs.Common.{◌≡◌, refl, ◌∙◌, ap, sym, List, ℕ, slice_index, arith}
+use Rattle.std.proofs.lemmas.Grind.{common_steps}
 use Rattle.image.specs.Image.{Image}
 use Rattle.state.specs.State.{State, fresh}
 use Rattle.runs.specs.Run.{run_verdict, run_on}
@@ -19,10 +19,7 @@ decoded_run_by i step text s words masks codes =
 pub by-image : {image : List ℕ} {i : Image} → Holds image i → (step : StepRule) (s : State) (words masks codes : List ℕ)
     → run_by step image s words masks codes ≡ decoded_run_by i step image s words masks codes
 unfolding run_verdict
-by-image known step s words masks codes =
-    ap₂ (λ (v : Verdict) (j : Image). run_on (next v λ _. state_verdict j s words masks codes)
-    (λ _. ticks_by_rule step j s words) s masks codes)
-    known.passes known.decodes
+by-image known step s words masks codes = grind (arith, common_steps)
 
 module _ {chart image : List ℕ} {i : Image} (known : TranslatesTo chart image i) (step : StepRule) where
   pub by-table : (s : State) (words masks codes : List ℕ)

@@ -48,6 +48,7 @@ pub fn constants_are_the_numbers_of_the_paper()
 {}
 
 /// What the bench sheet says, and cases of each request, computed on the definitions.
+#[tactic(auto, using(crate::proofs::Cases::the_bench_sheet_holds))]
 pub fn the_bench_sheet_holds()
     ensures bench_sheet { BenchSheet }
     ensures refusals { RefusalCases }
@@ -79,6 +80,7 @@ pub fn the_bench_sheet_holds()
 
 /// No function that does too little meets the translator's equation or the agreement, and whatever meets the agreement does what the
 /// definitions do.
+#[tactic(auto, using(crate::proofs::Idlers::no_idler_meets_what_is_promised))]
 pub fn no_idler_meets_what_is_promised()
     ensures turns_back_fails { TurnsBackFails }
     ensures one_image_fails { OneImageFails }
@@ -95,6 +97,7 @@ pub fn no_idler_meets_what_is_promised()
 
 /// No slip of the bench sheet, of a drop, of a rebinding or of the choice of a row meets what is promised. That the first row that matches
 /// is taken shows on a patched image alone: on one that was translated it makes the machine's ticks.
+#[tactic(auto, using(crate::proofs::Slips::slips, crate::proofs::HandlerSlips::handler_slips, crate::proofs::SwapSlips::swap_slips, crate::proofs::RowSlips::row_slips))]
 pub fn no_slip_meets_what_is_promised()
     ensures calls_again_fails { CallsAgainFails }
     ensures reads_at_call_fails { ReadsAtCallFails }

@@ -94,3 +94,5 @@ enough-c text before after at n lends at' k told size l most returned at'' made 
     (sym (delivered-c text before after at n lends size (some-place text k known size l) most returned at'' made s m given handed
     calls))
     (made-c (contents text) given _ (all-expected text k known size l given own))
+
+pub ruleset enough_places_never_fill = (enough, enough-c)

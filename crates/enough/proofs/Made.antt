@@ -1,6 +1,6 @@
 -- What is expected of runs and rebindings where the bound lies behind all words and no tick of the walk is a drop:
 -- each run is made in full.
-use Rattle.std.proofs.Common.{if◌then◌else◌, ℕ, zero, suc, ◌+◌, ◌-◌, ◌≤◌, min, Bool, true, false, ◌≡◌, refl, sym, ◌∙◌, ap, subst, List, []}
+use Rattle.std.proofs.Common.{if◌then◌else◌, ℕ, zero, suc, ◌+◌, ◌≤◌, Bool, true, false, ◌≡◌, refl, sym, ◌∙◌, ap, subst, List, []}
 use Rattle.std.proofs.Common.{◌∷◌, map, length, take, drop, length-append, length-take, length-drop, arith, le-ltb}
 use Rattle.std.proofs.Math.ListN.{length-map}
 use borrow.Author.Tests.{eqb-false}
@@ -40,21 +40,7 @@ module _ (b : ℕ) (ts : List Tick) (long : b ≤ length ts) (quiet : AllByRecur
     reply-made = grind (arith, common_steps, le-ltb)
 
     no_drop : HasNoDrop (reply_count (expected_output b ts p a).reply) (expected_output b ts p a).codes
-    no_drop =
-        let m : ℕ = length a.words in
-        let done : ℕ = min (p + m) b - min p b in
-        let mine : List Tick = take done (drop p ts) in
-        let codes : List ℕ = map (λ (t : Tick). t.code) mine in
-        let e : done ≡ m = omega arith in
-        let z : length (drop p ts) ≡ length ts - p = length-drop p ts in
-        let n : length mine ≡ done = length-take done (drop p ts) ∙ omega arith in
-        let calm : AllByRecursion (λ (t : Tick). is_drop t ≡ false) mine =
-        all_take (λ (t : Tick). is_drop t ≡ false) done (drop p ts) (all_drop (λ (t : Tick). is_drop t ≡ false) p ts quiet) in
-        subst (AllByRecursion (λ (code : ℕ). code ≡ 96 → ⊥))
-        (sym (front (reply_count (expected_output b ts p a).reply) codes a.codes
-        (ap reply_count reply-made ∙ sym e ∙ sym n ∙ sym (length-codes mine))))
-        (all-map (λ (code : ℕ). code ≡ 96 → ⊥) (λ (t : Tick). t.code) mine
-        (all-of (λ (t : Tick). is_drop t ≡ false) (λ (t : Tick). t.code ≡ 96 → ⊥) (λ t q. eqb-false t.code 96 q) mine calm))
+    no_drop = grind (arith, common_steps, length-take, front, eqb-false, all-map, all-of, length-drop, all_take, all_drop, length-codes, reply-made)
 
   -- ---- one call more
   module _ (c : Chart) where

@@ -1,6 +1,7 @@
 -- The chart whose call no words lead to: it goes from home to its first condition and back, whatever the words and the bindings.
-use Rattle.std.proofs.Common.{if◌then◌else◌, ℕ, suc, Bool, true, false, ◌≡◌, refl, sym, ◌∙◌, ap, subst, List, [], ◌∷◌, length, arith, ◌==◌}
+use Rattle.std.proofs.Common.{if◌then◌else◌, ℕ, suc, Bool, false, ◌≡◌, refl, sym, ◌∙◌, ap, subst, List, [], ◌∷◌, length, arith, ◌==◌, inl, inr}
 use Rattle.std.proofs.lemmas.Grind.{common_steps}
+use Rattle.words.proofs.lists.Tests.{cases}
 use Rattle.words.specs.lists.Numbers.{lowest, any, count, sum, highest}
 use Rattle.std.specs.List.{AllByRecursion}
 use Rattle.std.specs.Int.{bit_at}
@@ -45,12 +46,10 @@ number-2 = refl
 -- ---- from the first condition every word leads to End
 leads-home : (w : ℕ) → by_word chart_never w 1 ≡ 4
 unfolding next_stop is_stop node_of lowest
-leads-home w = go (bit_at w 0 == 0) refl
-  where
-    go : (b : Bool) → (bit_at w 0 == 0) ≡ b → by_word chart_never w 1 ≡ 4
-    go true e = ap (λ (t : Bool). next_stop 7 chart_never w (if t then 4 else 2)) e
-    go false e = ap (λ (t : Bool). next_stop 7 chart_never w (if t then 4 else 2)) e
-        ∙ ap (λ (t : Bool). next_stop 6 chart_never w (if t then 3 else 4)) e
+leads-home w = elim (cases (bit_at w 0 == 0)) [
+  | inl e ↦ ap (λ (t : Bool). next_stop 7 chart_never w (if t then 4 else 2)) e
+  | inr e ↦ ap (λ (t : Bool). next_stop 7 chart_never w (if t then 4 else 2)) e ∙ ap (λ (t : Bool). next_stop 6 chart_never w (if t then 3 else 4)) e
+]
 
 -- ---- so that it is at one of two positions, and calls at neither
 pub data Quiet : WalkPosition → Type 0 where

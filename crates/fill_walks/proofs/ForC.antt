@@ -10,7 +10,7 @@ use Rattle.fairleadow.specs.fillings_for_c.Calls.{GivesFillingsC}
 use Rattle.agreement.proofs.Numbers.{counts-success}
 use Rattle.fill_walks.specs.Promises.{ByTheWalk}
 use Rattle.fill_walks.specs.ForC.{ByTheWalkC}
-use Rattle.fill_walks.proofs.Deep.{by-the-walk}
+use Rattle.fill_walks.proofs.Deep.{always-counted, by-the-walk}
 
 module _ (t : List ℕ) (size n k r at made e f u : ℕ) (c : GivesFillingsC (count_fillings t size n k) r at made e f u) (z : r ≡ 0) where
   fine-reply : (count_fillings t size n k).reply ≡ success 0
@@ -23,3 +23,5 @@ module _ (t : List ℕ) (size n k r at made e f u : ℕ) (c : GivesFillingsC (co
 pub by-the-walk-c : ByTheWalkC
 unfolding ByTheWalk
 by-the-walk-c text out m translated size n k r at made e f u c z = grind (arith, common_steps, by-the-walk, fine-reply)
+
+pub ruleset stacks_fill_where_walks_go_too_deep = (always-counted, by-the-walk, sums-up-c)

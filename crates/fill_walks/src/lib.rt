@@ -7,6 +7,7 @@ ghost use Rattle.fill_walks.specs.ForC.{SumsUpC, ByTheWalkC};
 
 /// On the image of a chart the lists of words that meet 17 are those whose walk goes too deep, and none meets 18; nothing but 14 and 28
 /// refuses to count. From C too, where the three counts written are all lists on every accepted image.
+#[tactic(auto, using(crate::proofs::ForC::stacks_fill_where_walks_go_too_deep))]
 pub fn stacks_fill_where_walks_go_too_deep()
     ensures counted { AlwaysCounted }
     ensures definitions { ByTheWalk }

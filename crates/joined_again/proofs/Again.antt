@@ -8,7 +8,7 @@ use Rattle.words.proofs.lists.Ranges.{map-places}
 use Rattle.words.proofs.lists.Elements.{map-own, filter-own}
 use Rattle.words.proofs.lists.Joins.{all-places, all-of, all-range}
 use Rattle.text.specs.frames.Frame.{contents}
-use Rattle.text.specs.frames.Verdict.{fine, when}
+use Rattle.text.specs.frames.Verdict.{fine}
 use Rattle.text.proofs.frames.Verdicts.{next-first, next-rest, when-fine}
 use Rattle.image.specs.Image.{Image, Row, image_text, nth_row}
 use Rattle.image.specs.Decode.{decoded_image}
@@ -30,6 +30,7 @@ use Rattle.minimising.specs.group_numbers.Smaller.{renumbered_label, renumbered_
 use Rattle.minimising.specs.Entry.{minimise_verdict}
 use Rattle.minimising.proofs.group_numbers.Numbering.{new-inside, label-new, joined-sound}
 use Rattle.minimising.proofs.group_numbers.Led.{Member, member, one-new, even-new, onward-new}
+use Rattle.std.proofs.lemmas.Grind.{common_steps}
 
 -- ---- an image in which each label is alone stays as it is
 module _ (i : Image) (S : SoundImage i) (c : List ℕ) (alone : (l : ℕ) → l < length i.labels → class_of c l ≡ l) where
@@ -149,9 +150,4 @@ pub record AllowedImage (t : List ℕ) : Type 0 where
 
 pub minimise-allowed : (t : List ℕ) → minimise_verdict t ≡ fine → AllowedImage t
 unfolding minimise_verdict
-minimise-allowed t e =
-    record {
-      accepted = next-first (image_verdict t) (λ _. when 23 (is_uneven (decoded_image (contents t)))) e;
-      even = when-fine 23 (is_uneven (decoded_image (contents t)))
-          (next-rest (image_verdict t) (λ _. when 23 (is_uneven (decoded_image (contents t)))) e);
-    }
+minimise-allowed t e = grind (arith, common_steps, next-first, next-rest, when-fine)

@@ -1,9 +1,9 @@
 -- The smaller image has as few labels as a grouping can have groups, and its text is no longer than the one given.
-use Rattle.std.proofs.Common.{ℕ, ◌*◌, ◌/◌, ◌≤◌, false, ◌≡◌, ◌∙◌, ap, List, arith, length}
+use Rattle.std.proofs.Common.{ℕ, ◌*◌, ◌/◌, ◌≤◌, false, ◌≡◌, List, arith, length}
 use Rattle.words.proofs.lists.Counts.{count-le}
 use Rattle.text.specs.frames.Frame.{contents}
-use Rattle.text.specs.frames.Verdict.{Verdict, fine}
-use Rattle.text.specs.frames.Answer.{success, BufferOutcome, buffer_on}
+use Rattle.text.specs.frames.Verdict.{fine}
+use Rattle.text.specs.frames.Answer.{success}
 use Rattle.text.proofs.frames.Contents.{any-contents-length}
 use Rattle.text.proofs.frames.Texts.{text-length}
 use Rattle.text.proofs.frames.Lent.{lent-told, lent-fits}
@@ -21,8 +21,9 @@ use Rattle.grouping.proofs.Rounds.{ClassRound, group-round}
 use Rattle.grouping.proofs.Coarsest.{groups-counted, even-fewest}
 use Rattle.minimising.specs.group_numbers.Smaller.{smaller_image}
 use Rattle.minimising.specs.Entry.{minimise_verdict, minimise}
-use Rattle.joined_again.proofs.Again.{smaller-sound, AllowedImage, minimise-allowed}
+use Rattle.joined_again.proofs.Again.{smaller-sound, minimise-allowed}
 use Rattle.minimising.proofs.group_numbers.Numbering as numbered
+use Rattle.std.proofs.lemmas.Grind.{common_steps}
 
 module _ (i : Image) (S : SoundImage i) (even : is_uneven i ≡ false) where
   rounds : ClassRound i (grouping i)
@@ -58,19 +59,13 @@ module _ (t : List ℕ) (ok : minimise_verdict t ≡ fine) where
   small = image_text (smaller_image (decoded_image (contents t)))
 
   pub never-longer : length small ≤ length t
-  never-longer =
-      let a : AllowedImage t = minimise-allowed t ok in
-      omega (arith, text-shorter (decoded_image (contents t)) (image-sound t a.accepted) a.even, frames-all t a.accepted)
+  never-longer = grind (arith, common_steps, minimise-allowed, image-sound, text-shorter, frames-all)
 
   -- room for the given text is enough
   pub room-enough : (room : List ℕ) → length t ≤ length room → (minimise t room).reply ≡ success (length small / 1)
   unfolding minimise
-  room-enough room h =
-      ap (λ (v : Verdict). (buffer_on v 1 (λ _. small) room).reply) ok
-      ∙ ap (λ (x : BufferOutcome). x.reply) (lent-fits 1 (λ _. small) room (omega (arith, never-longer)))
+  room-enough room h = grind (arith, common_steps, lent-fits, never-longer)
 
 pub minimise-shorter : (t room : List ℕ) (m : ℕ) → (minimise t room).reply ≡ success m → m ≤ length t
 unfolding minimise
-minimise-shorter t room m e =
-    let s = lent-told (minimise_verdict t) 1 (λ _. image_text (smaller_image (decoded_image (contents t)))) room m e in
-    omega (arith, s.count, never-longer t s.accepted)
+minimise-shorter t room m e = grind (arith, common_steps, lent-told, never-longer)

@@ -1,11 +1,11 @@
 -- What holds of every text that is made smaller:
 -- its groups meet the rule and are the fewest, what is written is accepted, and given back it is written again.
-use Rattle.std.proofs.Common.{ℕ, ◌/◌, ◌≤◌, Bool, false, ◌≡◌, sym, ◌∙◌, ap, ap₂, List, arith, length, map, take}
+use Rattle.std.proofs.Common.{ℕ, ◌/◌, ◌≤◌, false, ◌≡◌, sym, ◌∙◌, ap, ap₂, List, arith, length, map, take}
 use Rattle.words.specs.lists.Sequences.{over}
 use Rattle.text.specs.digits.Digit.{capital}
 use Rattle.text.specs.frames.Frame.{contents}
-use Rattle.text.specs.frames.Verdict.{Verdict, fine, next, when}
-use Rattle.text.specs.frames.Answer.{success, buffer_on}
+use Rattle.text.specs.frames.Verdict.{fine}
+use Rattle.text.specs.frames.Answer.{success}
 use Rattle.text.proofs.frames.Lent.{lent-told, lent-fits, front}
 use Rattle.image.specs.Image.{Image, image_text}
 use Rattle.image.specs.Decode.{decoded_image}
@@ -19,8 +19,9 @@ use Rattle.grouping.specs.Classes.{class_of, grouping}
 use Rattle.grouping.proofs.Coarsest.{even-meets, even-fewest}
 use Rattle.minimising.specs.group_numbers.Smaller.{smaller_image}
 use Rattle.minimising.specs.Entry.{minimise_verdict, minimise}
-use Rattle.joined_again.proofs.Shorter.{fewest-labels}
+use Rattle.joined_again.proofs.Shorter.{fewest-labels, never-longer, minimise-shorter}
 use Rattle.joined_again.proofs.Again.{smaller-even, smaller-again, smaller-passes, smaller-sound, smaller-decoded, AllowedImage, minimise-allowed}
+use Rattle.std.proofs.lemmas.Grind.{common_steps}
 
 module _ (t : List ℕ) (ok : minimise_verdict t ≡ fine) where
   abbrev image : Image
@@ -61,12 +62,7 @@ text-again : (i : Image) (S : SoundImage i) (even : is_uneven i ≡ false) (old 
       buffer = over (image_text (smaller_image i)) old;
     }
 unfolding minimise minimise_verdict
-text-again i S even old h =
-    ap (λ (v : Verdict). buffer_on (next v λ _. when 23 (is_uneven (decoded_image (contents (image_text (smaller_image i)))))) 1
-    (λ _. image_text (smaller_image (decoded_image (contents (image_text (smaller_image i)))))) old) (smaller-passes i S even)
-    ∙ ap (λ (j : Image). buffer_on (when 23 (is_uneven j)) 1 (λ _. image_text (smaller_image j)) old) (smaller-decoded i S even)
-    ∙ ap₂ (λ (t : Bool) (j : Image). buffer_on (when 23 t) 1 (λ _. image_text j) old) (smaller-even i S even) (smaller-again i S even)
-    ∙ lent-fits 1 (λ _. image_text (smaller_image i)) old h
+text-again i S even old h = grind (arith, common_steps, smaller-passes, lent-fits, smaller-again, smaller-even, smaller-decoded)
 
 pub minimise-again : (t old : List ℕ) (n : ℕ) → (minimise t old).reply ≡ success n → (again : List ℕ) → n ≤ length again
     → let u = take n (minimise t old).buffer in minimise u again ≡ record { reply = success n; buffer = over u again }
@@ -81,3 +77,7 @@ minimise-again t old n e again h =
     ∙ text-again (decoded_image (contents t)) (image-sound t a.accepted) a.even again (omega arith)
     ∙ ap₂ (λ (k : ℕ) (y : List ℕ). record { reply = success k; buffer = over y again })
     (let q : length x / 1 ≡ n = omega arith in q) (sym u)
+
+pub ruleset joined_again_is_itself = (text-passes, text-even, text-same, text-capitals, minimise-again)
+
+pub ruleset joined_image_is_smallest = (text-labels, never-longer, minimise-shorter)

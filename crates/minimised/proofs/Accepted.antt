@@ -57,3 +57,5 @@ module _ (text : List ℕ) (ok : minimise_verdict text ≡ fine) (s : State) (si
   pub rebinds-alike : (h k : ℕ) → rebind (image_text (smaller_image image)) (renumbered_state c s) h k
       ≡ renamed_state_outcome c (rebind text s h k)
   rebinds-alike h k = rebind-new image sound allowed.even text allowed.accepted refl s h k stands
+
+pub ruleset joined_images_tick_alike = (still-fits, ticks-alike, finds-row, runs-alike, rebinds-alike)

@@ -114,3 +114,5 @@ smaller-theorem text out n done room m shrunk size some most given =
     size some most given
     ∙ sym (ap (λ (x : List ℕ). call_outputs run rebind x (fresh_state size).state given) is)
     ∙ theorem text out n done size some most given
+
+pub ruleset chart_images_are_joined = (minimise-fine, smaller-made)

@@ -33,10 +33,7 @@ module _ (text before after : List ℕ) (n : ℕ) (written : after ≡ (translat
 pub smaller-delivered : SmallerDelivered
 unfolding SmallerDelivered
 smaller-delivered text before after answer w n e room smaller told x m f size low high made z given handed cs =
-    calls-chain (take m smaller) made.state given handed cs
-    ∙ ap (λ (x : State). call_outputs run rebind (take m smaller) x given) (ap view z.state ∙ state-back (fresh_state size).state)
-    ∙ ap (λ (b : List ℕ). call_outputs run rebind (take m b) (fresh_state size).state given) x.written
-    ∙ chain-smaller text before after n w.written (sym w.answered ∙ e) room m (sym x.answered ∙ f) size low high given
+    grind (arith, common_steps, calls-chain, state-back, chain-smaller)
 
 pub smaller-delivered-c : SmallerDeliveredC
 unfolding SmallerDeliveredC
@@ -47,3 +44,5 @@ smaller-delivered-c text before after at n w room smaller at' m x size low high 
     ∙ ap (λ (b : List ℕ). map call_output_c (call_outputs run rebind (take m b) (fresh_state size).state given)) x.written
     ∙ ap (map call_output_c) (chain-smaller text before after n w.written (returned-0 text before after at n w) room m
     (minimise-success (take n after) room (sym x.told.number_is) ∙ ap success (sym x.told.count-is)) size low high given)
+
+pub ruleset joined_images_tick_as_walks = (smaller-theorem, smaller-delivered, smaller-delivered-c)

@@ -1,12 +1,12 @@
 -- The parts of the smaller image and of a renumbered state are those of the given ones, with each label's group in its place.
-use Rattle.std.proofs.Common.{if◌then◌else◌, ℕ, zero, suc, ◌-◌, ◌≤◌, ◌<◌, Bool, ◌≡◌, refl, sym, ◌∙◌, ap, ap₂, List, [], ◌∷◌, map, arith, ◌==◌, slice_index_or}
+use Rattle.std.proofs.Common.{ℕ, zero, suc, ◌-◌, ◌≤◌, ◌<◌, Bool, ◌≡◌, refl, sym, ◌∙◌, ap, ap₂, List, [], ◌∷◌, map, arith, ◌==◌, slice_index_or}
 use Rattle.std.proofs.Common.{length, set, replicate, ne_eqb}
 use Rattle.std.proofs.Math.ListN.{get_or-map}
 use Rattle.std.proofs.lemmas.Grind.{common_steps}
 use Rattle.results.specs.Results.{Results, result_of}
-use Rattle.image.specs.Image.{Image, Label}
+use Rattle.image.specs.Image.{Image}
 use Rattle.image.specs.inner.Sound.{SoundImage}
-use Rattle.rows.specs.Rows.{best_row, Found, found, missing, lead_of}
+use Rattle.rows.specs.Rows.{Found, found, missing}
 use Rattle.state.specs.State.{State, no_places, bottom_alone, label_at, entry_at, place_at}
 use Rattle.ticks.specs.Tick.{row_leads}
 use Rattle.covering.proofs.Hits.{OneRow}
@@ -69,18 +69,9 @@ GroupLeads i c = (l m : ℕ) → l < length i.labels → m < length i.labels →
     → (w : ℕ) (b : Bool) → class_of c (onward_label i l w b) ≡ class_of c (onward_label i m w b)
 
 module _ (i : Image) (S : SoundImage i) (one : OneRow i) (d : Results) (l w : ℕ) (low : 2 ≤ l) (h : l < length i.labels) where
-  abbrev bit : Bool
-  bit = result_of (label_at i l).called d
-
   pub row-some : row_leads i d l w ≡ found (onward_label i l w (result_of (label_at i l).called d))
   row-some = best-found i S one l w (result_of (label_at i l).called d) low h 0
 
   pub row-new : (c : List ℕ) → ClassRound i c → GroupLeads i c
       → row_leads (joined_labels i c) d (renumbered_label c l) w ≡ renamed_found c (row_leads i d l w)
-  row-new c R g =
-      let k : ℕ = renumbered_label c l in
-      ap (λ (x : Label). lead_of (best_row k w (if result_of x.called d then 1 else 0) 0 (joined_labels i c).rows)) (label-new i S c R l h)
-      ∙ best-found (joined_labels i c) (joined-sound i S c R) (one-new i S c R one) k w bit
-      (new-high i S c R l h low) (new-inside i S c R l h) 0
-      ∙ ap found (onward-new i S c R one g l w bit low h)
-      ∙ sym (ap (renamed_found c) row-some)
+  row-new c R g = grind (arith, common_steps, best-found, joined-sound, new-inside, label-new, onward-new, new-high, one-new, row-some)

@@ -1,7 +1,8 @@
 -- Runs and rebindings on the smaller image of an accepted image:
 -- they answer and write what those on the given one do, in a list of them too.
-use Rattle.std.proofs.Common.{ℕ, ◌≤◌, Bool, true, false, ◌≡◌, refl, sym, ◌∙◌, ap, ap₂, subst, List, [], ◌∷◌, length, arith}
+use Rattle.std.proofs.Common.{ℕ, ◌≤◌, Bool, true, false, ◌≡◌, refl, sym, ◌∙◌, ap, ap₂, subst, List, [], ◌∷◌, length, arith, inl, inr}
 use Rattle.std.proofs.lemmas.Grind.{common_steps}
+use Rattle.words.proofs.lists.Tests.{cases}
 use Rattle.bindings.specs.Binding.{is_bad_rebinding}
 use Rattle.text.specs.frames.Frame.{contents}
 use Rattle.text.specs.frames.Verdict.{Verdict, fine, refused, when}
@@ -90,13 +91,10 @@ module _ (i : Image) (S : SoundImage i) (even : is_uneven i ≡ false) where
         go false = ticks-keep i S ws s f
 
     rebind-fits : (s : State) (h k : ℕ) → Fits i s → Fits i (rebind text s h k).state
-    rebind-fits s h k f = go (is_bad_rebinding (length i.entries) i.handler h k) refl
-      where
-        go : (t : Bool) → is_bad_rebinding (length i.entries) i.handler h k ≡ t → Fits i (rebind text s h k).state
-        go true e = subst (λ (r : StateOutcome). Fits i r.state) (sym (rebind-is text i passes decodes s h k f e)) f
-        go false e =
-            subst (λ (r : StateOutcome). Fits i r.state) (sym (rebind-is text i passes decodes s h k f e))
-            (rebinding-fits i S.most s h k f e)
+    rebind-fits s h k f = elim (cases (is_bad_rebinding (length i.entries) i.handler h k)) [
+      | inl e ↦ subst (λ (r : StateOutcome). Fits i r.state) (sym (rebind-is text i passes decodes s h k f e)) f
+      | inr e ↦ subst (λ (r : StateOutcome). Fits i r.state) (sym (rebind-is text i passes decodes s h k f e)) (rebinding-fits i S.most s h k f e)
+    ]
 
     -- ---- a list of runs and rebindings
     pub chain-new : (given : List CallInput) (s : State) → Fits i s

@@ -1,9 +1,9 @@
 -- A priced run as a run, which is one of no words where 27 refuses it; and what it hands back, by what that run does.
-use Rattle.std.proofs.Common.{if◌then◌else◌, cond, ℕ, ◌+◌, ◌-◌, ◌≤◌, min, Bool, true, false, ◌≡◌, refl, sym, ◌∙◌, ap, ap₂, subst, List, []}
+use Rattle.std.proofs.Common.{if◌then◌else◌, cond, ℕ, ◌+◌, ◌-◌, ◌≤◌, min, Bool, true, false, ◌≡◌, refl, sym, ap, subst, List, [], inl, inr}
 use Rattle.std.proofs.Common.{◌∷◌, map, arith, length, take, length-drop, length-take-le, le-ltb}
 use Rattle.std.proofs.Math.ListN.{length-map}
 use Rattle.std.proofs.lemmas.Grind.{common_steps}
-use Rattle.words.proofs.lists.Tests.{no_both, or-none, and-no}
+use Rattle.words.proofs.lists.Tests.{no_both, or-none, and-no, cases}
 use Rattle.bindings.specs.Binding.{Binding}
 use Rattle.text.specs.frames.Answer.{reply_number, reply_count}
 use Rattle.text.proofs.frames.Lent.{front}
@@ -123,26 +123,9 @@ module _ (c : Chart) where
     As p given = expected_priced_outputs c b ts p given ≡ with_prices given (plain p given)
 
     module _ (p : ℕ) (a : RunInput) (rest : List PricedInput) (here : As p rest) (on : As (p + length a.words) rest) where
-      as_short : is_short a ≡ true → As p (unpriced (to_run a) ∷ rest)
-      unfolding with_prices
-      as_short e =
-          run_short p a rest e
-          ∙ ap (λ (l : List PricedOutput). by_unpriced (by_run (output_refused_short a)) ∷ l) here
-          ∙ sym (ap (with_prices (unpriced (to_run a) ∷ rest)) (all-short c b ts p a (map as_run rest) e))
-
-      as-long : is_short a ≡ false → As p (unpriced (to_run a) ∷ rest)
-      unfolding with_prices
-      as-long e =
-          run_long p a rest e
-          ∙ ap (λ (l : List PricedOutput). by_unpriced (by_run (expected_output b ts p a)) ∷ l) on
-          ∙ sym (ap (with_prices (unpriced (to_run a) ∷ rest)) (all-long c b ts p a (map as_run rest) e))
-
       as-run : As p (unpriced (to_run a) ∷ rest)
-      as-run = go (is_short a) refl
-        where
-          go : (t : Bool) → is_short a ≡ t → As p (unpriced (to_run a) ∷ rest)
-          go true e = as_short e
-          go false e = as-long e
+      unfolding with_prices
+      as-run = grind (arith, common_steps, cases (is_short a), all-short, all-long, run_short, run_long)
 
       module _ (list : List ℕ) where
         abbrev as_runs : Bool → List CallOutput
@@ -158,15 +141,7 @@ module _ (c : Chart) where
 
         as_many : has_too_many_words a.words ≡ true → As p (to_priced_run list a ∷ rest)
         unfolding with_prices
-        as_many e =
-            let z : p + 0 ≡ p = omega arith in
-            let none : agreed.RunOutput = expected_output b ts p (no_words a) in
-            all-many p list a rest e
-            ∙ ap (λ (l : List PricedOutput). by_priced_run (output_refused_many a) 0 ∷ l) here
-            ∙ sym (ap (λ (k : ℕ). either true none (plain k rest)) z)
-            ∙ sym (ap (λ (x : Bool). either x none (plain (p + 0) rest)) e)
-            ∙ sym (ap (with_prices (to_priced_run list a ∷ rest)) (all-long c b ts p (no_words a) (map as_run rest) (no-words-short a)))
-            ∙ sym (ap (λ (x : Bool). with_prices (to_priced_run list a ∷ rest) (as_runs x)) e)
+        as_many e = grind (arith, common_steps, all-long, no-words-short, all-many)
 
         few-is : has_too_many_words a.words ≡ false → (t : agreed.RunOutput) (l : List CallOutput)
             → with_prices (to_priced_run list a ∷ rest) (by_run t ∷ l) ≡ billed t ∷ with_prices rest l
@@ -177,24 +152,12 @@ module _ (c : Chart) where
             → plain p (to_priced_run list a ∷ rest) ≡ agreed.expected_outputs c b ts p (to_run a ∷ map as_run rest)
         few-plain e = ap as_runs e
 
-        as-few : has_too_many_words a.words ≡ false → (t : Bool) → is_short a ≡ t → As p (to_priced_run list a ∷ rest)
-        as-few e true f =
-            all-refused p list a rest e f
-            ∙ ap₂ (λ (n : ℕ) (l : List PricedOutput). by_priced_run (output_refused_short a) n ∷ l) (sym (no-price list)) here
-            ∙ sym (few-is e (output_refused_short a) (plain p rest))
-            ∙ sym (ap (with_prices (to_priced_run list a ∷ rest)) (few-plain e ∙ all-short c b ts p a (map as_run rest) f))
-        as-few e false f =
-            all-priced p list a rest e f
-            ∙ ap₂ (λ (n : ℕ) (l : List PricedOutput). by_priced_run (expected_output b ts p a) n ∷ l) (price-of list p a) on
-            ∙ sym (few-is e (expected_output b ts p a) (plain (p + length a.words) rest))
-            ∙ sym (ap (with_prices (to_priced_run list a ∷ rest)) (few-plain e ∙ all-long c b ts p a (map as_run rest) f))
+        as-few : has_too_many_words a.words ≡ false → As p (to_priced_run list a ∷ rest)
+        as-few e =
+            grind (arith, common_steps, cases (is_short a), no-price, price-of, all-short, all-refused, all-long, all-priced, few-is, few-plain)
 
         as-priced : As p (to_priced_run list a ∷ rest)
-        as-priced = go (has_too_many_words a.words) refl
-          where
-            go : (t : Bool) → has_too_many_words a.words ≡ t → As p (to_priced_run list a ∷ rest)
-            go true e = as_many e
-            go false e = as-few e (is_short a) refl
+        as-priced = elim (cases (has_too_many_words a.words)) [ inl e ↦ as_many e | inr e ↦ as-few e ]
 
     pub expected-as : (given : List PricedInput) (p : ℕ) → As p given
     unfolding expected_priced_outputs agreed.expected_outputs with_prices
@@ -212,10 +175,8 @@ module _ (c : Chart) where
     Fine p given = AllSucceed given (plain p given)
 
     module _ (p : ℕ) (a : RunInput) (rest : List PricedInput) (here : (q : ℕ) → Fine q rest) where
-      run-fine : (t : Bool) → is_short a ≡ t → Fine p (unpriced (to_run a) ∷ rest)
-      run-fine true e = subst (AllSucceed (unpriced (to_run a) ∷ rest)) (sym (all-short c b ts p a (map as_run rest) e)) (tt, here p)
-      run-fine false e = subst (AllSucceed (unpriced (to_run a) ∷ rest))
-          (sym (all-long c b ts p a (map as_run rest) e)) (tt, here (p + length a.words))
+      run-fine : Fine p (unpriced (to_run a) ∷ rest)
+      run-fine = grind (arith, common_steps, cases (is_short a), all-short, all-long, here p, here (p + length a.words))
 
       module _ (list : List ℕ) where
         abbrev FineAs : Bool → Type 0
@@ -223,23 +184,18 @@ module _ (c : Chart) where
             AllSucceed (to_priced_run list a ∷ rest)
             (agreed.expected_outputs c b ts p (to_run (if t then no_words a else a) ∷ map as_run rest))
 
-        few-fine : has_too_many_words a.words ≡ false → (t : Bool) → is_short a ≡ t → FineAs false
-        few-fine e true f =
-            subst (AllSucceed (to_priced_run list a ∷ rest)) (sym (all-short c b ts p a (map as_run rest) f))
-            (λ q. no_both (has_too_many_words a.words) q e, here p)
-        few-fine e false f =
-            subst (AllSucceed (to_priced_run list a ∷ rest)) (sym (all-long c b ts p a (map as_run rest) f))
-            (λ q. no_both (has_too_many_words a.words) q e, here (p + length a.words))
+        few-fine : has_too_many_words a.words ≡ false → FineAs false
+        few-fine e = grind (arith, common_steps, cases (is_short a), no_both, all-short, all-long, here p, here (p + length a.words))
 
         priced-fine : (t : Bool) → has_too_many_words a.words ≡ t → FineAs t
         priced-fine true e =
             subst (AllSucceed (to_priced_run list a ∷ rest)) (sym (all-long c b ts p (no_words a) (map as_run rest) (no-words-short a)))
             (λ q. none-stopped p a, here (p + 0))
-        priced-fine false e = few-fine e (is_short a) refl
+        priced-fine false e = few-fine e
 
     pub expected-fine : (given : List PricedInput) (p : ℕ) → Fine p given
     unfolding agreed.expected_outputs
     expected-fine [] p = tt
-    expected-fine (unpriced (to_run a) ∷ rest) p = run-fine p a rest (expected-fine rest) (is_short a) refl
+    expected-fine (unpriced (to_run a) ∷ rest) p = run-fine p a rest (expected-fine rest)
     expected-fine (unpriced (to_rebind h k) ∷ rest) p = (tt, expected-fine rest p)
     expected-fine (to_priced_run list a ∷ rest) p = priced-fine p a rest (expected-fine rest) list (has_too_many_words a.words) refl

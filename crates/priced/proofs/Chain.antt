@@ -1,6 +1,7 @@
 -- A list with priced runs hands back what the list of runs in their place does, with the prices.
-use Rattle.std.proofs.Common.{if◌then◌else◌, ℕ, Bool, true, false, ◌≡◌, refl, sym, ◌∙◌, ap, List, [], ◌∷◌, map, length, take, ltb-true}
+use Rattle.std.proofs.Common.{if◌then◌else◌, ℕ, Bool, true, false, ◌≡◌, refl, ap, List, [], ◌∷◌, map, take, ltb-true, arith}
 use Rattle.std.proofs.Common.{ltb-false}
+use Rattle.std.proofs.lemmas.Grind.{common_steps}
 use Rattle.text.specs.frames.Answer.{reply_number, reply_count}
 use Rattle.state.specs.State.{State}
 use Rattle.runs.specs.Run.{RunOutcome, run}
@@ -45,24 +46,10 @@ module _ (image : List ℕ) where
     Holds t = (has_too_many_words a.words ≡ true → reply_number (ran t).reply ≡ 0) × AllSucceed rest (plain (ran t).state rest)
 
     priced-many : has_too_many_words a.words ≡ true → Holds true → Goal true
-    priced-many e f =
-        let same : (ran true).state ≡ s = none-state image s a.masks a.codes in
-        ap (λ (x : PricedOutcome). by_priced_run (output_of x.run) x.price ∷ made x.run.state rest)
-        (many-refused image s list a.words a.masks a.codes (ltb-true 65536 (length a.words) e) (f.0 e))
-        ∙ ap (λ (z : State). by_priced_run (output_refused_many a) 0 ∷ made z rest) (sym same)
-        ∙ ap (λ (l : List PricedOutput). by_priced_run (output_refused_many a) 0 ∷ l) (ih (ran true).state f.1)
-        ∙ sym (ap (λ (t : Bool). (if t then by_priced_run (output_refused_many a) 0 else with_run (ran true)) ∷ with_prices
-        rest (plain (ran true).state rest)) e)
+    priced-many e f = grind (arith, common_steps, many-refused, ltb-true, none-state)
 
     priced-few : has_too_many_words a.words ≡ false → Holds false → Goal false
-    priced-few e f =
-        ap (λ (p : ℕ). by_priced_run (output_of priced.run) p ∷ made priced.run.state rest)
-        (by-the-masks image s list a.words a.masks a.codes)
-        ∙ ap (λ (r : RunOutcome). with_run r ∷ made r.state rest)
-        (does-all image s list a.words a.masks a.codes (ltb-false 65536 (length a.words) e))
-        ∙ ap (λ (l : List PricedOutput). with_run (ran false) ∷ l) (ih (ran false).state f.1)
-        ∙ sym (ap (λ (t : Bool). (if t then by_priced_run (output_refused_many a) 0 else with_run (ran false)) ∷ with_prices
-        rest (plain (ran false).state rest)) e)
+    priced-few e f = grind (arith, common_steps, by-the-masks, does-all, ltb-false)
 
     priced-as : (t : Bool) → has_too_many_words a.words ≡ t → Holds t → Goal t
     priced-as true e f = priced-many e f

@@ -1,5 +1,5 @@
 -- The agreement with prices, and of one priced run from a fresh state.
-use Rattle.std.proofs.Common.{ℕ, ◌+◌, ◌-◌, min, Bool, true, false, ◌≡◌, refl, sym, ◌∙◌, ap, subst, List, [], ◌∷◌, map, length, take, arith}
+use Rattle.std.proofs.Common.{ℕ, Bool, true, false, ◌≡◌, refl, sym, ◌∙◌, ap, subst, List, [], ◌∷◌, map, take, arith}
 use Rattle.std.proofs.lemmas.Grind.{common_steps}
 use Rattle.bindings.specs.Binding.{own_binding}
 use Rattle.text.specs.frames.Frame.{contents}
@@ -56,12 +56,7 @@ module _ (size : ℕ) (c : Chart) (list : List ℕ) (a : RunInput) (r : PricedOu
 
   -- refused before its first tick
   none-priced : (t : RunOutput) → reply_count t.reply ≡ 0 → handed ≡ by_priced_run t 0 ∷ [] → Priced
-  none-priced t z e =
-      let p : r.price ≡ 0 = cc in
-      let q : output_of r.run ≡ t = cc in
-      p ∙ sym (no-price list)
-      ∙ sym (ap (λ (n : ℕ). price list (masks_of (take n (walk size c (signals own_binding a.words)))))
-      (ap (λ (x : RunOutput). reply_count x.reply) q ∙ z))
+  none-priced t z e = grind (arith, common_steps, no-price)
 
   all_words : has_too_many_words a.words ≡ false → is_short a ≡ false → joined_priced_words c own_binding only ≡ signals own_binding a.words
   unfolding joined_priced_words
@@ -69,18 +64,7 @@ module _ (size : ℕ) (c : Chart) (list : List ℕ) (a : RunInput) (r : PricedOu
 
   ticks-priced : has_too_many_words a.words ≡ false → is_short a ≡ false → handed ≡ priced_walk_outputs size c only → Priced
   unfolding expected_priced_outputs
-  ticks-priced e f h =
-      let ts : List Tick = walk size c (joined_priced_words c own_binding only) in
-      let b : ℕ = bound size ts in
-      let done : ℕ = min (0 + length a.words) b - min 0 b in
-      let g : handed ≡ by_priced_run (expected_output b ts 0 a) (price list (masks_of (take done ts))) ∷ [] =
-      h ∙ all-priced c b ts (bound-le size ts) 0 list a [] e f in
-      let p : r.price ≡ price list (masks_of (take done ts)) = cc in
-      let q : output_of r.run ≡ expected_output b ts 0 a = cc in
-      p
-      ∙ ap (λ (js : List Signal). price list (masks_of (take done (walk size c js)))) (all_words e f)
-      ∙ sym (ap (λ (n : ℕ). price list (masks_of (take n (walk size c (signals own_binding a.words)))))
-      (ap (λ (x : RunOutput). reply_count x.reply) q ∙ expected-count b ts 0 a))
+  ticks-priced e f h = grind (arith, common_steps, expected-count, bound-le, all-priced, all_words)
 
   one-priced : handed ≡ priced_walk_outputs size c only → Priced
   unfolding expected_priced_outputs
@@ -102,3 +86,5 @@ by-the-walk text out n done size low high list words masks codes =
     let a : RunInput = record { words = words; masks = masks; codes = codes } in
     one-priced size (contents text) list a (priced_run (take n (translate text out).buffer) (fresh_state size).state list words masks codes)
     (priced-theorem text out n done size low high (to_priced_run list a ∷ []))
+
+pub ruleset fresh_run_costs_as_walk = by-the-walk

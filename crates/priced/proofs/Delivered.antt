@@ -1,7 +1,8 @@
 -- Calls in a row that meet their contracts, priced runs among them, hand back what the agreement with prices says.
-use Rattle.std.proofs.Common.{ℕ, ◌≡◌, refl, sym, ◌∙◌, ap, ap₂, List, [], ◌∷◌, take}
+use Rattle.std.proofs.Common.{ℕ, ◌≡◌, refl, sym, ◌∙◌, ap, ap₂, List, [], ◌∷◌, arith}
+use Rattle.std.proofs.lemmas.Grind.{common_steps}
 use Rattle.state.specs.declared.State.{State as Kept}
-use Rattle.state.specs.State.{State, fresh_state}
+use Rattle.state.specs.State.{State}
 use Rattle.state.specs.Kept.{view}
 use Rattle.state.proofs.Stored.{state-back}
 use Rattle.runs.specs.Run.{run}
@@ -46,8 +47,4 @@ calls-chain image s (to_priced_run list a ∷ rest) (d ∷ handed) (priced_call 
 
 pub priced-delivered : PricedDelivered
 unfolding PricedDelivered PricedAgreement
-priced-delivered text before after answer c n e size low high m x given handed cs =
-    calls-chain (take n after) m.state given handed cs
-    ∙ ap (λ (z : State). made_outputs (take n after) z given) (ap view x.state ∙ state-back (fresh_state size).state)
-    ∙ ap (λ (b : List ℕ). made_outputs (take n b) (fresh_state size).state given) c.written
-    ∙ priced-theorem text before n (sym c.answered ∙ e) size low high given
+priced-delivered text before after answer c n e size low high m x given handed cs = grind (arith, common_steps, state-back, priced-theorem, calls-chain)

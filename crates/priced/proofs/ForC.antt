@@ -11,7 +11,7 @@ use Rattle.priced.specs.Demand.{PricedInput, unpriced, to_priced_run, priced_out
 use Rattle.priced.specs.ForC.{PricedOutputC, by_unpriced_c, by_priced_run_c, priced_output_c, PricedCallsInTurnC, none, unpriced_call}
 use Rattle.priced.specs.ForC.{priced_call, PricedDeliveredC}
 use Rattle.priced.proofs.Charts.{priced-theorem}
-use Rattle.priced.proofs.Delivered.{made_outputs, chain-asked}
+use Rattle.priced.proofs.Delivered.{made_outputs, chain-asked, priced-delivered}
 
 -- each call leaves the state that the same call of the definitions hands back
 pub calls-chain : (image : List ℕ) (s : Kept) (given : List PricedInput) (handed : List PricedOutputC)
@@ -49,3 +49,5 @@ priced-delivered-c text before after at n c size low high returned at' m s x giv
     ∙ ap (λ (z : State). map priced_output_c (made_outputs (take n after) z given)) (ap view x.state ∙ state-back (fresh_state size).state)
     ∙ ap (λ (b : List ℕ). map priced_output_c (made_outputs (take n b) (fresh_state size).state given)) c.written
     ∙ ap (map priced_output_c) (priced-theorem text before n (returned-0 text before after at n c) size low high given)
+
+pub ruleset priced_runs_cost_as_walks = (priced-theorem, priced-delivered, priced-delivered-c)

@@ -13,6 +13,7 @@ ghost use Rattle.priced.specs.ForC.{PricedDeliveredC};
 
 /// Over any list of runs, rebindings and priced runs on the image of a chart, each priced run costs what its ticks of the walk cost, and
 /// all else agrees as without prices: of the definitions, of calls of the functions, and of calls from C.
+#[tactic(auto, using(crate::proofs::ForC::priced_runs_cost_as_walks))]
 pub fn priced_runs_cost_as_walks()
     ensures definitions { PricedAgreement translate fresh_state priced_run run rebind }
     ensures functions { PricedDelivered }
@@ -21,6 +22,7 @@ pub fn priced_runs_cost_as_walks()
 
 /// A priced run from a fresh state, on the image of a chart, costs what as many ticks of the walk cost as its answer counts, whatever its
 /// words and its room.
+#[tactic(auto, using(crate::proofs::Charts::fresh_run_costs_as_walk))]
 pub fn fresh_run_costs_as_walk()
     ensures price { PricedByTheWalk }
 {}

@@ -19,7 +19,7 @@ use Rattle.agreement.proofs.OneCall.{prepared-rebind-is}
 use Rattle.agreement.proofs.OneCallC.{table-prepared}
 use Rattle.spindles.specs.Spindles.{state_at, depths, SpinOutcome, if_spun}
 use Rattle.spindles.proofs.Live.{live-spin-is}
-use Rattle.spindles.specs.spindle_places.Calls.{Head, new_head, head_after}
+use Rattle.spindles.specs.spindle_places.Calls.{new_head, head_after}
 use Rattle.spindle_walks.specs.Walks.{HandsImage, FollowsWalk, OwnWalk}
 use Rattle.spindle_walks.proofs.Walks.{own-walks}
 use Rattle.spindle_calls.specs.ObservedCalls.{ObservedCall, call_of}
@@ -28,6 +28,7 @@ use Rattle.spindle_calls.specs.ForC.{observed_tick_c, SpindleCallC, spin_call, s
 use Rattle.spindle_calls.specs.ForC.{SpindleCallsInTurnC, FourC, four_fresh, PlacesCountedC, OwnWalkC}
 use Rattle.spindle_calls.proofs.KeptHeads.{head_of, view-at, spun-left, rebound-left}
 use Rattle.spindle_calls.proofs.Held.{SpinEnds, refuses, finishes, spin-ends}
+use Rattle.spindle_calls.proofs.Delivered.{own-walks-delivered, places-delivered}
 use Rattle.spindle_calls.proofs.Row.{Hears, hears_no, hears_tick, HeardFrom, CallsRow, row-none, row-more, row-counted}
 
 module _ (states : List Kept) (taken : ℕ) where
@@ -109,3 +110,7 @@ own-walks-c text before after at n c size low high k states inside returned at' 
     (omega (arith, inside, length-map states view))
     (sym (view-at states k) ∙ ap view m.state ∙ state-back (fresh_state size).state) (map call_of said)
     (subst (λ (b : List ℕ). AllByRecursion (HandsImage k (take n b)) (map call_of said)) c.written hands))
+
+pub ruleset callers_see_own_walks = (own-walks-delivered, own-walks-c)
+
+pub ruleset callers_see_places_balance = (places-delivered, places-counted-c)

@@ -3,8 +3,10 @@ use Rattle.std.proofs.Common.{if◌then◌else◌, ℕ, ◌+◌, ◌-◌, ◌≤
 use Rattle.std.proofs.lemmas.Grind.{common_steps}
 use Rattle.text.specs.frames.Verdict.{Verdict, fine, refused, when}
 use Rattle.text.specs.frames.Answer.{success}
-use Rattle.text.proofs.frames.Refuses.{next-refuses, when-refuses}
+use Rattle.text.proofs.frames.Refuses.{RefusesWith, next-refuses, when-refuses}
 use Rattle.image.specs.Image.{Image}
+use Rattle.image.specs.Check.{image_verdict}
+use Rattle.image.proofs.Refuses.{early-image}
 use Rattle.state.specs.State.{State}
 use Rattle.state.specs.Kept.{view}
 use Rattle.fitness.specs.Fitness.{is_unfit}
@@ -14,10 +16,16 @@ use Rattle.runs.proofs.machine.OneTick.{advance_by}
 use Rattle.spindles.specs.Spindles.{state_at, head_verdict, SpinOutcome, outcome_turned_back, is_none_left, outcome_spun_by}
 use Rattle.spindles.specs.Spindles.{outcome_spun_on, spin}
 use Rattle.spindles.proofs.OneCall.{tick_tried, tick_by_verdict, spin_by, spin-by, kept-by}
-use Rattle.spindles.proofs.turning.Settled.{NumberedVerdict, image-numbered}
 use Rattle.spindles.proofs.spindle_list.Viewed.{views-spun, live-views-spun}
 use Rattle.fairleadow.specs.spindles_for_c.Calls.{spin_for, live_spin_for}
 use Rattle.spindle_calls.specs.Held.{ListHolds}
+
+-- no number of an image is 0
+abbrev NumberedVerdict : Verdict → Type 0
+NumberedVerdict v = RefusesWith (λ n. 1 ≤ n) v
+
+image-numbered : (t : List ℕ) → NumberedVerdict (image_verdict t)
+image-numbered t = grind (arith, common_steps, early-image)
 
 -- a call is refused by a number that is not 0, or the spindle's tick is finished and its state is put in its place
 pub data SpinEnds (states : List State) (taken k : ℕ) : SpinOutcome → Type 0 where
@@ -72,3 +80,5 @@ pub live-spin-list-holds : ListHolds live_spin_for
 unfolding ListHolds
 live-spin-list-holds t states taken k w m₀ k₀ returned at made after recorded m code z =
     ap (map view) z.states ∙ live-views-spun states taken k w t
+
+pub ruleset list_holds_the_states = (spin-list-holds, live-spin-list-holds)

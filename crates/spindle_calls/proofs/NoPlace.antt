@@ -1,5 +1,5 @@
 -- A finished tick finds no place exactly where it is a call and all 64 are taken.
-use Rattle.std.proofs.Common.{ℕ, ◌+◌, ◌-◌, ◌≤◌, ◌<◌, ◌≡◌, refl, sym, ◌∙◌, ap, subst, false, ◌↔◌, List, arith}
+use Rattle.std.proofs.Common.{ℕ, ◌-◌, ◌≤◌, ◌≡◌, refl, sym, ◌∙◌, ap, subst, false, ◌↔◌, List, arith}
 use Rattle.std.proofs.lemmas.Grind.{common_steps}
 use Rattle.text.specs.frames.Frame.{contents}
 use Rattle.text.specs.frames.Verdict.{Verdict, fine, refused, when}
@@ -18,7 +18,7 @@ use Rattle.runs.specs.TickOutcome.{TickOutcome, image_tick}
 use Rattle.runs.proofs.machine.OneTick.{advance_by, advance-by}
 use Rattle.spindles.specs.Spindles.{state_at, outcome_spun_by, outcome_spun_on, spin}
 use Rattle.spindles.proofs.Others.{Tried, tried}
-use Rattle.spindles.specs.spindle_places.PlacesBalance.{places_called, places_returned, places_given_back}
+use Rattle.spindles.specs.spindle_places.PlacesBalance.{places_called}
 use Rattle.spindles.proofs.spindle_places.Depths.{Deepens, called-few, tick-deepens}
 use Rattle.spindle_calls.specs.NoPlace.{NoPlaceExactly}
 use Rattle.runs.proofs.machine.OneTick as one
@@ -70,3 +70,5 @@ no-place-exactly t states taken k w n passed sized e =
         (subst (Deepens s.depth) g
         (tick-deepens i s w fits.some
         (called-few i sound (place_at s (s.depth - 1)) (fits.labels (s.depth - 1) (omega (arith, fits.some))))))
+
+pub ruleset no_place_is_told_exactly = no-place-exactly

@@ -1,7 +1,6 @@
 -- Calls in a row, by what their caller has of each: what they leave, the places they count and the ticks they make are those of the list
 -- of calls over the states.
-use Rattle.std.proofs.Common.{if◌then◌else◌, ℕ, ◌+◌, ◌≡◌, refl, sym, ◌∙◌, ap, ap₂, Bool, true, false, ◌&&◌, List, [], ◌∷◌, map, arith, ◌==◌}
-use Rattle.std.proofs.Common.{eq-eqb}
+use Rattle.std.proofs.Common.{ℕ, ◌+◌, ◌≡◌, refl, ◌∙◌, ap, ap₂, true, false, List, [], ◌∷◌, map, arith, ◌==◌}
 use Rattle.std.proofs.lemmas.Grind.{common_steps}
 use Rattle.bindings.specs.Binding.{Binding}
 use Rattle.charts.specs.Chart.{Chart}
@@ -9,7 +8,7 @@ use Rattle.spindles.specs.Spindles.{state_at, depths, SpinOutcome}
 use Rattle.spindles.specs.spindle_places.Calls.{Head, new_head, head_after, head_after_all}
 use Rattle.spindles.specs.spindle_places.PlacesBalance.{counts, tally, PlacesCounted}
 use Rattle.spindles.proofs.spindle_places.PlacesBalance.{places-counted}
-use Rattle.spindle_walks.specs.Walks.{FinishedTick, is_success, finished_ticks_by}
+use Rattle.spindle_walks.specs.Walks.{is_success, finished_ticks_by}
 use Rattle.spindle_calls.specs.ObservedCalls.{ObservedTick, ObservedCall, observed_spin, observed_rebinding, call_of, counts_in, tally_in}
 use Rattle.spindle_calls.specs.ObservedCalls.{ObservedBalance, finished_ticks_in}
 use Rattle.spindles.specs.spindle_places.Calls as calls

@@ -1,7 +1,7 @@
 -- Calls of four spindles in a row, as a caller from C makes them: fairleadow_spin and fairleadow_live_spin on the list of states and the
 -- record that the call before left, fairleadow_rebind and fairleadow_live_rebind on the state of one spindle. Each call is known by its
 -- contract alone, which is the record that the function's `ensures` cites.
-use Rattle.std.specs.Prelude.{ℕ, ◌≤◌, ◌<◌, ◌≡◌, List, [], ◌∷◌, map, length, set, take}
+use Rattle.std.specs.Prelude.{ℕ, ◌≤◌, ◌<◌, List, [], ◌∷◌, map, length, set, take}
 use Rattle.std.specs.List.{AllByRecursion}
 use Rattle.bindings.specs.Binding.{own_binding}
 use Rattle.text.specs.frames.Frame.{contents}

@@ -1,6 +1,7 @@
 -- The finished ticks of a spindle are those of its own walk over their words, over every list of calls.
-use Rattle.std.proofs.Common.{if◌then◌else◌, ℕ, ◌≤◌, ◌<◌, Bool, true, false, ◌&&◌, ◌≡◌, refl, sym, ◌∙◌, ap, ap₂, subst, List, [], ◌∷◌, map, ◌==◌}
+use Rattle.std.proofs.Common.{if◌then◌else◌, ℕ, ◌≤◌, ◌<◌, Bool, true, false, ◌&&◌, ◌≡◌, refl, sym, ◌∙◌, ap, subst, List, [], ◌∷◌, map, ◌==◌, arith}
 use Rattle.std.proofs.Common.{length, take, eq-eqb, ne_eqb}
+use Rattle.std.proofs.lemmas.Grind.{common_steps}
 use Rattle.std.proofs.Math.Decide.{ℕ_discrete}
 use Rattle.std.specs.List.{AllByRecursion}
 use Rattle.results.specs.Results.{no_results}
@@ -54,10 +55,7 @@ module _ (c : Chart) (facts : Facts c) (table_facts : TableFacts c) (image : Lis
       → m.code ≡ (tick_at n c x).code
       → Traced (move n c m.signal x) made → Traced x (m ∷ made)
   unfolding trace
-  one_more x m made p q o = record {
-    masks = ap₂ (λ (z : ℕ) (zs : List ℕ). z ∷ zs) p o.masks;
-    codes = ap₂ (λ (z : ℕ) (zs : List ℕ). z ∷ zs) q o.codes;
-  }
+  one_more x m made p q o = grind (arith, common_steps)
 
   abbrev More : Binding → Head → List SpindleCall → Type 0
   More s h calls = (x : WalkPosition) → Stood h s x → Traced x (finished_ticks_by c k s h calls)
@@ -153,3 +151,5 @@ own-walks text out m translated size low high k h inside at calls hands =
     let decodes : decoded_image (contents image) ≡ table c =
     ap (λ (t : List ℕ). decoded_image (contents t)) (translated-image text out m translated) ∙ translated-decoded text ok f in
     walk-own c f (table-facts text read) image passes decodes size high k low h inside at calls hands
+
+pub ruleset spindles_tick_as_their_walks = own-walks

@@ -1,23 +1,24 @@
 -- One call, by what it does to the spindle that is watched: it leaves its state, or makes the tick of the walk's position and moves on.
 use Rattle.std.proofs.Common.{if◌then◌else◌, ℕ, ◌+◌, ◌-◌, ◌≤◌, ◌<◌, Bool, true, false, ◌≡◌, refl, sym, ◌∙◌, ap, subst, List, length, set}
 use Rattle.std.proofs.Common.{length-set, get_or-set_same, get_or-set_other, arith}
+use Rattle.std.proofs.lemmas.Grind.{common_steps}
+use Rattle.std.proofs.lemmas.Bool.{cases_Bool}
 use Rattle.bindings.specs.Binding.{Binding, rebound_binding}
 use Rattle.text.specs.frames.Frame.{contents}
-use Rattle.text.specs.frames.Verdict.{fine, when}
+use Rattle.text.specs.frames.Verdict.{fine}
 use Rattle.text.specs.frames.Answer.{success}
 use Rattle.charts.specs.Chart.{Chart}
 use Rattle.walk.specs.Walk.{Signal}
 use Rattle.walk.proofs.Facts.{Facts}
 use Rattle.walk.proofs.Trace.{WalkPosition, tick_at, move, Serves}
-use Rattle.image.specs.Image.{Image}
 use Rattle.image.specs.Decode.{decoded_image}
 use Rattle.image.specs.Check.{image_verdict}
 use Rattle.translator.specs.Table.{table}
-use Rattle.state.specs.State.{State, no_state, StateOutcome}
+use Rattle.state.specs.State.{State, no_state}
 use Rattle.fitness.proofs.Fitness.{Fits}
 use Rattle.ticks.specs.Tick.{MachineTick, finished, stopped, tick}
 use Rattle.ticks.proofs.Keeps.{Keeps, tick-keeps}
-use Rattle.rebinding.specs.Rebind.{rebind_on, rebind}
+use Rattle.rebinding.specs.Rebind.{rebind}
 use Rattle.rebinding.proofs.Keeps.{rebinding-fits}
 use Rattle.agreement.specs.Agreement.{is_barred_rebinding, is_full_call, binding_after}
 use Rattle.agreement.proofs.TableFacts.{TableFacts}
@@ -27,7 +28,7 @@ use Rattle.agreement.proofs.Ticks.{StandsWell, moves-on}
 use Rattle.agreement.proofs.Chain.{sound, serves, same-bar, rebind-is}
 use Rattle.spindles.specs.Spindles.{state_at, SpinOutcome, spin}
 use Rattle.spindles.specs.Laws.{OthersLeft}
-use Rattle.spindles.proofs.OneCall.{spin_by, Comes, turns_back, on, comes, spin-by}
+use Rattle.spindles.proofs.OneCall.{Comes, turns_back, on, comes, spin-by}
 use Rattle.spindles.proofs.Others.{others-left}
 use Rattle.spindles.specs.spindle_places.Calls.{Head, spins, rebinds, spin_on, head_after}
 use Rattle.spindle_walks.specs.Walks.{is_success}
@@ -55,13 +56,7 @@ signal_told s w = record { word = w; binding = s }
 
 -- the states of a list are as many after a call
 spin-length : (t : List ℕ) (states : List State) (taken k w : ℕ) → length (spin t states taken k w).states ≡ length states
-spin-length t states taken k w =
-    subst (λ (r : SpinOutcome). length r.states ≡ length states) (sym (spin-by t states taken k w))
-    (go (comes (image_verdict t) (decoded_image (contents t)) states taken k w))
-  where
-    go : {r : SpinOutcome} → Comes (image_verdict t) (decoded_image (contents t)) states taken k w r → length r.states ≡ length states
-    go (turns_back n j) = refl
-    go (on m code u passed fit e free) = length-set states k u
+spin-length t states taken k w = grind (arith, common_steps, spin-by, comes, length-set)
 
 left_alone : (t : List ℕ) (states : List State) (taken j w k : ℕ) → (k ≡ j → ⊥)
     → state_at (spin t states taken j w).states k ≡ state_at states k
@@ -91,9 +86,7 @@ module _ (c : Chart) (facts : Facts c) (table_facts : TableFacts c) (image : Lis
     serving = serves c facts table_facts image passes decodes n n≤ s x z.fits
 
     tick-at : tick (table c) (state_at h.states k) w ≡ answer n (tick_at n c x) (state_of_position c n s y)
-    tick-at =
-        ap (λ (u : State). tick (table c) u w) z.at
-        ∙ tick-is c n n≤ s facts table_facts serving w x z.stands.low z.stands.good
+    tick-at = grind (arith, common_steps, tick-is, serving)
 
     kept : (m code : ℕ) (t : State) → tick (table c) (state_at h.states k) w ≡ finished m code t → Fits (table c) t
     kept m code t e =
@@ -137,47 +130,22 @@ module _ (c : Chart) (facts : Facts c) (table_facts : TableFacts c) (image : Lis
             })
 
     pub turned : Turned h s x w (spin_on h image k w)
-    turned =
-        turned_by (subst (Comes (image_verdict image) (table c) h.states h.taken k w) (sym (spin-by image h.states h.taken k w))
-        (subst (λ (i : Image). Comes (image_verdict image) i h.states h.taken k w
-        (spin_by (image_verdict image) (decoded_image (contents image)) h.states h.taken k w)) decodes
-        (comes (image_verdict image) (decoded_image (contents image)) h.states h.taken k w)))
+    turned = grind (arith, common_steps, spin-by, comes, turned_by)
 
   -- ---- a call of another
   pub passed-over : (h : Head) (s : Binding) (x : WalkPosition) → At h s x → (t : List ℕ) (j w : ℕ) → (k ≡ j → ⊥)
       → At (head_after h (spins t j w)) s x
-  passed-over h s x z t j w other = record {
-    inside = subst (λ (l : ℕ). k < l) (sym (spin-length t h.states h.taken j w)) z.inside;
-    at = left_alone t h.states h.taken j w k other ∙ z.at;
-    stands = z.stands;
-    fits = z.fits;
-  }
+  passed-over h s x z t j w other = grind (arith, common_steps, spin-length, left_alone)
 
   -- ---- rebindings
   pub bound-over : (h : Head) (s : Binding) (x : WalkPosition) → At h s x → (t : List ℕ) (j m g : ℕ) → (k ≡ j → ⊥)
       → At (head_after h (rebinds t j m g)) s x
-  bound-over h s x z t j m g other =
-      let u : State = (rebind t (state_at h.states j) m g).state in
-      record {
-        inside = subst (λ (l : ℕ). k < l) (sym (length-set h.states j u)) z.inside;
-        at = get_or-set_other h.states j k u no_state other ∙ z.at;
-        stands = z.stands;
-        fits = z.fits;
-      }
+  bound-over h s x z t j m g other = grind (arith, common_steps, length-set, get_or-set_other)
 
   module _ (h : Head) (s : Binding) (x : WalkPosition) (z : At h s x) (m g : ℕ) where
     bound-state : (t : Bool) → is_barred_rebinding c m g ≡ t
         → (rebind image (state_at h.states k) m g).state ≡ state_of_position c n (if t then s else rebound_binding m g s) x
-    bound-state t e =
-        ap (λ (u : State). (rebind image u m g).state) z.at
-        ∙ ap (λ (r : StateOutcome). r.state) (rebind-is image (table c) passes decodes (state_of_position c n s x) m g z.fits
-        (same-bar c facts table_facts image passes decodes n n≤ m g ∙ e))
-        ∙ go t
-      where
-        go : (b : Bool) → (rebind_on (when 22 b) (state_of_position c n s x) m g).state
-            ≡ state_of_position c n (if b then s else rebound_binding m g s) x
-        go true = refl
-        go false = refl
+    bound-state t e = grind (arith, common_steps, same-bar, rebind-is)
 
     bound-fits : (t : Bool) → is_barred_rebinding c m g ≡ t
         → Fits (table c) (state_of_position c n (if t then s else rebound_binding m g s) x)
@@ -187,11 +155,4 @@ module _ (c : Chart) (facts : Facts c) (table_facts : TableFacts c) (image : Lis
         (same-bar c facts table_facts image passes decodes n n≤ m g ∙ e)
 
     pub bound-own : At (head_after h (rebinds image k m g)) (binding_after c m g s) x
-    bound-own =
-        let u : State = (rebind image (state_at h.states k) m g).state in
-        record {
-          inside = subst (λ (l : ℕ). k < l) (sym (length-set h.states k u)) z.inside;
-          at = get_or-set_same h.states k u no_state z.inside ∙ bound-state (is_barred_rebinding c m g) refl;
-          stands = z.stands;
-          fits = bound-fits (is_barred_rebinding c m g) refl;
-        }
+    bound-own = grind (arith, common_steps, cases_Bool (is_barred_rebinding c m g), get_or-set_same, length-set, bound-state, bound-fits)

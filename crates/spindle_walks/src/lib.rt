@@ -6,6 +6,7 @@ ghost use Rattle.spindle_walks.specs.Prepared.{PreparedSpin};
 
 /// A spindle that is always handed its chart's image makes the ticks of that chart's walk over the words of its finished ticks, whatever
 /// the other spindles are handed meanwhile.
+#[tactic(auto, using(crate::proofs::Walks::spindles_tick_as_their_walks))]
 pub fn spindles_tick_as_their_walks()
     ensures definitions { OwnWalk }
 {}

@@ -11,13 +11,13 @@ use edits::report;
 use output::printing::code_line;
 use prices::priced_states::priced_run;
 use rebinding::{live_rebind, rebind};
-use runs::Tick;
 use runs::kept_states::tick;
 use runs::state_runs::{live_run, live_tick, tick_image};
 use spindles::spindle_list::{live_spin, spin};
 use state::State;
 use tables::preparing::prepare;
 use text::frames::Refusal;
+use ticks::Tick;
 use translator::translating::translate;
 
 fn byte_line(byte: u8) {

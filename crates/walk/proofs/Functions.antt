@@ -1,24 +1,24 @@
 -- While no 1 is written to the bit of the number that it calls, a function leaves by its 0 arc: from its call on the bit is 0, and the
 -- function waits among the callers, until its own return. The bindings told do not matter.
-use Rattle.std.proofs.Common.{if◌then◌else◌, ℕ, suc, ◌+◌, ◌≤◌, ◌<◌, Bool, true, false, ◌&&◌, ◌≡◌, refl, ap, ◌∙◌, sym, subst, ◌⊎◌, ⊎_elim}
+use Rattle.std.proofs.Common.{ℕ, suc, ◌+◌, ◌≤◌, ◌<◌, Bool, true, false, ◌&&◌, ◌≡◌, refl, ap, ◌∙◌, sym, subst, ◌⊎◌, ⊎_elim}
 use Rattle.std.proofs.Common.{◌==◌, slice_index}
 use Rattle.std.proofs.Common.{List, [], ◌∷◌, ◌++◌, map, length, length-append, arith, eqb-true, eq-eqb}
 use Rattle.std.proofs.lemmas.Grind.{common_steps}
 use Rattle.std.specs.List.{list_any}
 use Rattle.words.proofs.lists.Tests.{no_both, or-l, or-r, and-l, and-r}
 use Rattle.words.proofs.lists.Searches.{some-cons}
-use Rattle.results.specs.Results.{Results, no_results, result_of, with_result, cleared_results}
+use Rattle.results.specs.Results.{Results, result_of, with_result, cleared_results}
 use Rattle.results.proofs.ResultLaws.{cleared-own, cleared-keeps, result-keeps}
-use Rattle.text.specs.frames.Frame.{contents, size}
-use Rattle.charts.specs.Chart.{Chart, kind, argument, next0, next1, result}
+use Rattle.text.specs.frames.Frame.{size}
+use Rattle.charts.specs.Chart.{Chart, kind, argument, next0, result}
 use Rattle.walk.specs.Stops.{by_arc, Stop, plain, call, function, test, home, back, stop_at}
 use Rattle.walk.specs.Walk.{Signal, Tick, is_drop}
 use Rattle.walk.specs.Functions.{is_walk_write_of_one, is_return_to, WalkUnwritten, ZeroArc}
 use Rattle.walk.proofs.Facts.{Facts}
 use Rattle.walk.proofs.FactsHold.{facts}
 use Rattle.walk.proofs.Views.{View, a-plain, a_call, a-function, a-home, a_back, a-begin, a-condition, view, stop-function}
-use Rattle.walk.proofs.Trace.{Open, WalkPosition, at, stop_code, stop_tick, node_resumed, position_returned, position_moved, is_drop_at}
-use Rattle.walk.proofs.Trace.{tick_at, move, trace, position_at_home}
+use Rattle.walk.proofs.Trace.{Open, WalkPosition, at, stop_code, stop_tick, position_returned, position_moved, is_drop_at}
+use Rattle.walk.proofs.Trace.{tick_at, move, trace}
 use Rattle.walk.proofs.Recursion.{walk-trace}
 
 -- ---- ticks by their first
@@ -125,19 +125,8 @@ module _ (c : Chart) (y : Open) (h : ℕ) (ks : List Open) (deep : 2 ≤ h) wher
     -- the own return: the function takes its 0 arc
     own-return : (w : Signal) (x : WalkPosition) → Waits x → own (tick_at n c x) ≡ true
         → (move n c w x).now.node ≡ by_arc c w.word (next0 c y.node)
-    own-return w x (waits u [] b f e) q =
-        ap (λ (s : Stop). (position_moved c (is_drop_at n c x) u (y ∷ ks) w b f s).now.node)
-        (is-back (is_drop_at n c x) (stop_at c u.node) (eqb-true _ _ (and-l _ _ q)))
-        ∙ ap (node_resumed c y.node w.word b) (stop-function c y.node kinded)
-        ∙ ap (λ (t : Bool). by_arc c w.word (if t then next1 c y.node else next0 c y.node)) (ap (λ (k : ℕ). result_of k b) called ∙ e)
-    own-return w x (waits u (j ∷ js) b f e) q =
-        let o : ℕ = suc (length (j ∷ (js ++ (y ∷ ks)))) in
-        absurd (omega (
-          arith,
-          eqb-true o (suc (suc (length ks)))
-              (and-r (stop_code (is_drop_at n c x) (stop_at c u.node) == 3) (o == suc (suc (length ks))) q),
-          length-append js (y ∷ ks),
-        ))
+    own-return w x (waits u [] b f e) q = grind (arith, common_steps, and-l, stop-function, eqb-true, is-back)
+    own-return w x (waits u (j ∷ js) b f e) q = grind (arith, common_steps, length-append, and-r, eqb-true)
 
     goes-on : (between : List Tick) (ws : List Signal) (x : WalkPosition) (last next : Tick) (rest : List Tick) → Waits x
         → trace n c ws x ≡ between ++ (last ∷ (next ∷ rest)) → AllPassing between → own last ≡ true
@@ -189,7 +178,4 @@ module _ (n : ℕ) (c : Chart) (facts : Facts c) where
 
 pub zero-arc : ZeroArc
 unfolding ZeroArc
-zero-arc text read places words before between rest first last next q u =
-    let c : Chart = contents text in
-    from-start places c (facts text read) before words (position_at_home c no_results) between
-    rest first last next (sym (walk-trace places c words) ∙ q) u
+zero-arc text read places words before between rest first last next q u = grind (arith, common_steps, facts, walk-trace, from-start)

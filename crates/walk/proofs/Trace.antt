@@ -9,7 +9,7 @@ use Rattle.text.specs.frames.Frame.{size}
 use Rattle.charts.specs.Chart.{Chart, kind, scheme, argument, next0, next1, handler, schemes, end}
 use Rattle.walk.specs.Stops.{is_stop, start, by_arc, by_word, Stop, plain, call, function, test, home, back, stop_at}
 use Rattle.walk.specs.Walk.{Signal, Tick, is_dropping, bottom}
-use Rattle.walk.proofs.Facts.{Target, StopOf, Facts}
+use Rattle.walk.proofs.Facts.{StopOf, Facts}
 use Rattle.walk.proofs.Views.{View, a-plain, a_call, a-function, a-home, a_back, a-begin, a-condition, view, stop-call, stop-function}
 use Rattle.walk.proofs.Views.{begin-leads, end-stops}
 
@@ -163,9 +163,7 @@ module _ (c : Chart) (facts : Facts c) where
   function-to v w false l e = arc-to v w l (λ p. omega arith)
 
   pub begin-to : (v w : ℕ) → v < size c → kind c v ≡ 0 → is_stop c v ≡ true → StopOf c (scheme c v) (by_word c w (next0 c v))
-  begin-to v w l e s =
-      let t : Target c (scheme c v) (next0 c v) = facts.arc0 v l (λ p. omega arith) in
-      stop-as c t.same (facts.tests (next0 c v) w t.inside (begin-leads c v e s))
+  begin-to v w l e s = grind (arith, common_steps, begin-leads, stop-as)
 
   resumes-to : (h : ℕ) (k : Open) (w : ℕ) (b : Results) → Caller c h k → StopOf c k.server (resumed c k.node w b)
   resumes-to h k w b caller = grind (arith, common_steps, stop-call, stop-function, stop-as, arc-to, function-to)

@@ -1,4 +1,4 @@
-use Rattle.std.proofs.Common.{rules, length, ◌≡◌}
+use Rattle.std.proofs.Common.{rules}
 use Rattle.output.specs.run_output.RunProgram.{run_output}
 use Rattle.output.proofs.run_output.Limits.{run-front}
 use Rattle.output.proofs.output_lines.Outcomes.{all-printed, front-printed, all-over, front-over, error-told}
@@ -6,31 +6,21 @@ use Rattle.output.proofs.run_output.run_image.Goals as goal
 
 pub returns-in-Ok-clause-prints : goal.returns-in-Ok-clause-prints
 returns-in-Ok-clause-prints g c =
-    let full : length c.read_input.new.buffer ≡ 29832 = search rules in
-    all-printed run_output 29832 run-front _ _ _ _ _ _ _ _ full
-    c.in-Text.ensures.front c.run_text-count.ensures c.in-Ok.ensures.all
+    all-printed run_output 29832 run-front _ _ _ _ _ _ _ _ (search rules) c.in-Text.ensures.front c.run_text-count.ensures c.in-Ok.ensures.all
 
 pub returns-in-Err-clause-prints : goal.returns-in-Err-clause-prints
 returns-in-Err-clause-prints g c =
-    let full : length c.read_input.new.buffer ≡ 29832 = search rules in
-    front-printed run_output 29832 run-front _ _ _ _ _ _ _ _ full
-    c.in-Text.ensures.front c.run_text-count.ensures c.in-Err.ensures.part
+    front-printed run_output 29832 run-front _ _ _ _ _ _ _ _ (search rules) c.in-Text.ensures.front c.run_text-count.ensures c.in-Err.ensures.part
 
 pub returns-in-Ok-clause-over : goal.returns-in-Ok-clause-over
 returns-in-Ok-clause-over g c =
-    let full : length c.read_input.new.buffer ≡ 29832 = search rules in
-    all-over run_output 29832 run-front _ _ _ _ _ _ _ _ full
-    c.in-Text.ensures.front c.run_text-count.ensures c.in-Ok.ensures.over
+    all-over run_output 29832 run-front _ _ _ _ _ _ _ _ (search rules) c.in-Text.ensures.front c.run_text-count.ensures c.in-Ok.ensures.over
 
 pub returns-in-Err-clause-over : goal.returns-in-Err-clause-over
 returns-in-Err-clause-over g c =
-    let full : length c.read_input.new.buffer ≡ 29832 = search rules in
-    front-over run_output 29832 run-front _ _ _ _ _ _ _ _ _ _ full
-    c.in-Text.ensures.front c.run_text-count.ensures c.in-Err.ensures.over_part
+    front-over run_output 29832 run-front _ _ _ _ _ _ _ _ _ _ (search rules) c.in-Text.ensures.front c.run_text-count.ensures c.in-Err.ensures.over_part
 
 pub returns-in-Err-clause-errors : goal.returns-in-Err-clause-errors
 returns-in-Err-clause-errors g c =
-    let full : length c.read_input.new.buffer ≡ 29832 = search rules in
-    error-told run_output 29832 run-front (g.W.Writer.fails c.args.writer.now) _ _ _ _ _ _ _ full
-    c.in-Text.ensures.front c.run_text-count.ensures
-    c.in-Err.ensures.fails
+    error-told run_output 29832 run-front (g.W.Writer.fails c.args.writer.now) _ _ _ _ _ _ _ (search rules)
+    c.in-Text.ensures.front c.run_text-count.ensures c.in-Err.ensures.fails
