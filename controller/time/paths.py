@@ -118,7 +118,8 @@ def loops_of(name, blocks, order):
 class Here:
     """A function's blocks, their order and loops, and of each loop its name and how many turns one of it is.
 
-    That is taken for loops that are the only one of their name here: where a loop around one was unrolled, there are several."""
+    That is taken for loops that stand in no other or are the only one of their name here: where a loop around one was unrolled, there are
+    several."""
 
     def __init__(self, function, sources):
         self.blocks = blocks_of(function)
@@ -133,7 +134,10 @@ class Here:
         if set(self.names) != function.remarked & set(self.blocks):
             raise Refused(f"{function.name} has other loops than the compiler remarks")
         every = [name for name, _ in self.names.values()]
-        self.names = {header: (name, unrolled if every.count(name) == 1 else 1) for header, (name, unrolled) in self.names.items()}
+        alone = {loop.header for loop in self.loops}
+        self.names = {
+            header: (name, unrolled if header in alone or every.count(name) == 1 else 1) for header, (name, unrolled) in self.names.items()
+        }
 
 
 class Paths:
@@ -150,10 +154,15 @@ class Paths:
         self.functions, self.measure, self.turns_of, self.sources = functions, measure, turns_of, sources
         self.known, self.read, self.callers, self.handed = {}, {}, [None], [{}]
 
-    def function(self, name, without=(), constants=None):
-        """What a function takes at most where none of some others is called by it, and where it is handed some constants."""
+    def function(self, name, without=()):
+        """What a function takes at most where none of some others is called by it."""
+        return self.called(name, {}, (), without)[0]
+
+    def called(self, name, constants, around, without=()):
+        """What a function takes where it is handed some constants, and what is to be added for loops and calls that are counted in all turns
+        of a loop around the call, or in all of a function around it."""
         caller = self.callers[-1]
-        key = name, caller, tuple(sorted((constants or {}).items()))
+        key = name, caller, tuple(sorted(constants.items())), around
         if key in self.known:
             return self.known[key]
         if name not in self.functions:
@@ -164,13 +173,14 @@ class Paths:
             self.read[name] = Here(self.functions[name], self.sources)
         here = self.read[name]
         self.callers.append(name)
-        self.handed.append(constants or {})
-        leaving, owed = self.ways(here, 0, here.blocks, here.loops, (name + "()",), without)
+        self.handed.append(constants)
+        leaving, owed = self.ways(here, 0, here.blocks, here.loops, around + (name + "()",), without)
         self.callers.pop()
         self.handed.pop()
         if not leaving:
             raise Refused(f"{name} does not return")
-        self.known[key] = max(leaving.values()) + sum(owed.values())
+        outside = {key: cost for key, cost in owed.items() if key[0] in around}
+        self.known[key] = max(leaving.values()) + sum(owed.values()) - sum(outside.values()), outside
         return self.known[key]
 
     def often(self, name, around):
@@ -186,12 +196,16 @@ class Paths:
             cost += self.measure.instruction(instruction)
             if called:
                 cost += self.measure.jump(instruction) if instruction.name == "bl" else 0
-                taken = self.function(called, (), here.handed[instruction])
+                taken, more = self.called(called, here.handed[instruction], around)
                 times, scope, word = self.often(called + "()", around)
                 if scope:
-                    owed[scope, word] = max(times * taken, owed.get((scope, word), 0))
+                    # each time with all of it
+                    more, cost_of_all = {}, times * (taken + sum(more.values()))
+                    owed[scope, word] = max(cost_of_all, owed.get((scope, word), 0))
                 else:
                     cost += taken
+                for key, once in more.items():
+                    owed[key] = max(once, owed.get(key, 0))
         return cost, owed
 
     def ways(self, here, first, places, inner, around, without):
@@ -230,7 +244,8 @@ class Paths:
             less, _ = self.ways(here, loop.header, loop.places - places, loop.inner, around + (name,), without)
             # where each turn goes through it, nothing is gained
             if any(target == loop.header for _, target in less):
-                owed[other, shared] = max(times * (turn - self.back(loop, less)), owed.get((other, shared), 0))
+                # a turn that is several may go through it more than once, and costs no more than the longest
+                owed[other, shared] = max(min(times, turns) * (turn - self.back(loop, less)), owed.get((other, shared), 0))
                 turn = self.back(loop, less)
         if scope:
             owed[scope, word] = max(turns * turn, owed.get((scope, word), 0))
