@@ -8,7 +8,7 @@ use board::{may_be_slow, milliseconds, with_commas, Count, Counting};
 use comparison::entry_point::EntryPoint;
 use comparison::samples::worst::{candidates, Candidate, Origin};
 use reference::prepare::is_table;
-use reference::Reference;
+use reference::{Reference, Told};
 
 /// An input, the number that was answered, and what the call took.
 type Counted = (Candidate, u8, Count);

@@ -11,7 +11,7 @@ use std::process::{Child, ChildStdin, ChildStdout, Command, Stdio};
 
 pub use count::{may_be_slow, milliseconds, with_commas, Count, Counting};
 use interface::{
-    Answer, CauseReport, FillingsReport, Library, Meaning, PricedReport, Prices, State, TickReport,
+    handed, Answer, Cause, Fillings, Library, Meaning, PricedReport, Prices, Refusal, State, Tick,
     PRICED_WORDS,
 };
 pub use message::Call;
@@ -127,27 +127,20 @@ impl<'a> Board<'a> {
         Some(told.answer())
     }
 
-    /// The sum goes there and comes back as the value.
-    fn summed(&self, sum: u32, bytes: &[u8]) -> Option<u32> {
-        let mut message = Message::new(Call::Sum, bytes);
-        message.value = sum;
-        self.made(&mut message)?;
-        Some(message.value)
-    }
-
     fn ran(
         &self,
         call: Call,
         input: &[u8],
-        state: &State,
+        state: &mut State,
         words: &[u16],
         masks: &mut [u32],
         codes: &mut [u8],
-    ) -> Option<(Answer, State)> {
+    ) -> Option<Answer> {
         let mut message = Message::new(call, input);
         (message.state, message.words) = (*state, words.to_vec());
         let told = self.ran_with(&mut message, masks, codes)?;
-        Some((told.answer(), message.state))
+        *state = message.state;
+        Some(told.answer())
     }
 
     /// A run of a message that has all but its buffers.
@@ -157,65 +150,6 @@ impl<'a> Board<'a> {
         masks.copy_from_slice(&message.masks);
         codes.copy_from_slice(&message.codes);
         Some(told)
-    }
-
-    /// The text goes to the board as the input, the size as the value, and the image comes back as its output.
-    fn run_dry(
-        &self,
-        text: &[u8],
-        size: usize,
-        image: &mut [u8],
-        words: &[u16],
-        masks: &mut [u32],
-        codes: &mut [u8],
-    ) -> Option<Answer> {
-        let mut message = Message::new(Call::DryRun, text);
-        message.value = as_wide_as_there(size);
-        (message.words, message.output) = (words.to_vec(), image.to_vec());
-        let told = self.ran_with(&mut message, masks, codes)?;
-        image.copy_from_slice(&message.output);
-        Some(told.answer())
-    }
-
-    /// The prices go before the words. The board's flash has one word more than a priced run takes, all 0, so that 27 is tried there too.
-    fn paid(
-        &self,
-        image: &[u8],
-        state: &State,
-        prices: &Prices,
-        words: &[u16],
-        masks: &mut [u32],
-        codes: &mut [u8],
-    ) -> Option<PricedReport> {
-        let mut message = Message::new(Call::PricedRun, image);
-        let in_flash = words.len() == PRICED_WORDS + 1 && words.iter().all(|word| *word == 0);
-        message.value = if in_flash { words.len() as u32 } else { 0 };
-        message.words = [prices.as_slice(), if in_flash { &[] } else { words }].concat();
-        message.state = *state;
-        let told = self.ran_with(&mut message, masks, codes)?;
-        Some(PricedReport { answer: told.answer(), state: message.state, price: told.price })
-    }
-
-    /// Row and mask come back as the message's masks, the bit as its code.
-    fn told_cause(&self, image: &[u8], state: &State, word: u16) -> Option<CauseReport> {
-        let mut message = Message::new(Call::Cause, image);
-        (message.state, message.words) = (*state, vec![word]);
-        (message.masks, message.codes) = (vec![u32::MAX; 2], vec![u8::MAX]);
-        let told = self.made(&mut message)?;
-        assert_eq!(message.state, *state, "a cause changed the state");
-        let number = |at: usize| u16::try_from(message.masks[at]).expect("it was written");
-        Some(CauseReport { answer: told.answer(), row: number(0), mask: number(1), bit: message.codes[0] })
-    }
-
-    /// Both lists go to the board and come back as its output, the firsts before the counts; the value says how many are firsts.
-    fn listed(&self, image: &[u8], firsts: &mut [u16], counts: &mut [u16]) -> Option<Answer> {
-        let mut message = Message::new(Call::ListRows, image);
-        message.value = u32::try_from(firsts.len()).expect("buffers are short");
-        message.output = firsts.iter().chain(&*counts).flat_map(|number| number.to_le_bytes()).collect();
-        let told = self.made(&mut message)?;
-        let numbers = message.output.chunks_exact(2).map(|bytes| u16::from_le_bytes([bytes[0], bytes[1]]));
-        firsts.iter_mut().chain(counts).zip(numbers).for_each(|(place, number)| *place = number);
-        Some(told.answer())
     }
 
     fn rebound(
@@ -234,24 +168,6 @@ impl<'a> Board<'a> {
         Some(told.answer())
     }
 
-    /// The number goes to the board as the value, the frame count in the scheme's place.
-    fn fetched(&self, frames: usize, number: usize, text: &mut [u8]) -> Option<Answer> {
-        let mut message = Message::new(Call::LittleChart, &[]);
-        (message.scheme, message.value) = (as_wide_as_there(frames), as_wide_as_there(number));
-        self.filled(message, text)
-    }
-
-    /// The size goes to the board as the value, ticks and conditions in the places of the scheme and of the places taken; the counts come
-    /// back as its masks.
-    fn counted(&self, image: &[u8], size: usize, ticks: usize, conditions: usize) -> Option<FillingsReport> {
-        let mut message = Message::new(Call::CountFillings, image);
-        (message.value, message.masks) = (as_wide_as_there(size), vec![u32::MAX; 3]);
-        (message.scheme, message.taken) = (as_wide_as_there(ticks), as_wide_as_there(conditions));
-        let answer = self.made(&mut message)?.answer();
-        let [ended, full, unmatched] = [0, 1, 2].map(|at: usize| message.masks[at]);
-        Some(FillingsReport { answer, ended, full, unmatched })
-    }
-
     /// The states go to the board and come back as its output; the value is the spindle's number.
     fn spun(
         &self,
@@ -261,11 +177,12 @@ impl<'a> Board<'a> {
         spindle: usize,
         input: &[u8],
         word: u16,
-    ) -> Option<TickReport> {
+    ) -> Option<Result<Tick, Refusal>> {
         let mut message = Message::new(call, input);
         let recorded = as_wide_as_there(*taken);
         (message.value, message.taken) = (as_wide_as_there(spindle), recorded);
-        (message.words, message.masks, message.codes) = (vec![word], vec![0], vec![0]);
+        message.words = vec![word];
+        (message.masks, message.codes) = (vec![Tick::BEFORE.mask], vec![Tick::BEFORE.code]);
         message.output = states.iter().flat_map(state_bytes).collect();
         let told = self.made(&mut message)?;
         for (state, bytes) in states.iter_mut().zip(message.output.chunks_exact(STATE_BYTES)) {
@@ -275,14 +192,20 @@ impl<'a> Board<'a> {
         if message.taken != recorded {
             *taken = message.taken as usize;
         }
-        Some(TickReport { answer: told.answer(), mask: message.masks[0], code: message.codes[0] })
+        let tick = Tick { mask: message.masks[0], code: message.codes[0] };
+        Some(handed(told.answer(), 1, tick, Tick::BEFORE))
     }
 
-    fn ticked(&self, call: Call, input: &[u8], state: &mut State, word: u16) -> Option<TickReport> {
-        let (mut masks, mut codes) = ([0], [0]);
-        let (answer, after) = self.ran(call, input, state, &[word], &mut masks, &mut codes)?;
-        *state = after;
-        Some(TickReport { answer, mask: masks[0], code: codes[0] })
+    fn ticked(
+        &self,
+        call: Call,
+        input: &[u8],
+        state: &mut State,
+        word: u16,
+    ) -> Option<Result<Tick, Refusal>> {
+        let (mut masks, mut codes) = ([Tick::BEFORE.mask], [Tick::BEFORE.code]);
+        let answer = self.ran(call, input, state, &[word], &mut masks, &mut codes)?;
+        Some(handed(answer, 1, Tick { mask: masks[0], code: codes[0] }, Tick::BEFORE))
     }
 }
 
@@ -313,7 +236,7 @@ impl Library for Board<'_> {
     }
 
     /// The board's numbers have 32 bits: a larger size is handed over as the largest of them, which is refused too.
-    fn fresh(&self, size: usize) -> (Answer, State) {
+    fn fresh(&self, size: usize) -> Result<State, Refusal> {
         let mut message = Message::new(Call::Fresh, &[]);
         message.value = as_wide_as_there(size);
         message.state = State {
@@ -326,21 +249,22 @@ impl Library for Board<'_> {
             servers: [0xFF; 32],
         };
         let told = self.made(&mut message).expect("it has no buffers");
-        (told.answer(), message.state)
+        handed(told.answer(), 0, message.state, State::NONE)
     }
 
     fn run(
         &self,
         image: &[u8],
-        state: &State,
+        state: &mut State,
         words: &[u16],
         masks: &mut [u32],
         codes: &mut [u8],
-    ) -> (Answer, State) {
+    ) -> Answer {
         self.ran(Call::Run, image, state, words, masks, codes)
             .unwrap_or_else(|| self.instead.run(image, state, words, masks, codes))
     }
 
+    /// The text goes to the board as the input, the size as the value, and the image comes back as its output.
     fn dry_run(
         &self,
         text: &[u8],
@@ -350,24 +274,39 @@ impl Library for Board<'_> {
         masks: &mut [u32],
         codes: &mut [u8],
     ) -> Answer {
-        self.run_dry(text, size, image, words, masks, codes)
-            .unwrap_or_else(|| self.instead.dry_run(text, size, image, words, masks, codes))
+        let mut message = Message::new(Call::DryRun, text);
+        message.value = as_wide_as_there(size);
+        (message.words, message.output) = (words.to_vec(), image.to_vec());
+        let Some(told) = self.ran_with(&mut message, masks, codes) else {
+            return self.instead.dry_run(text, size, image, words, masks, codes);
+        };
+        image.copy_from_slice(&message.output);
+        told.answer()
     }
 
+    /// The prices go before the words. The board's flash has one word more than a priced run takes, all 0, so that 27 is tried there too.
     fn priced_run(
         &self,
         image: &[u8],
-        state: &State,
+        state: &mut State,
         prices: &Prices,
         words: &[u16],
         masks: &mut [u32],
         codes: &mut [u8],
     ) -> PricedReport {
-        self.paid(image, state, prices, words, masks, codes)
-            .unwrap_or_else(|| self.instead.priced_run(image, state, prices, words, masks, codes))
+        let mut message = Message::new(Call::PricedRun, image);
+        let in_flash = words.len() == PRICED_WORDS + 1 && words.iter().all(|word| *word == 0);
+        message.value = if in_flash { words.len() as u32 } else { 0 };
+        message.words = [prices.as_slice(), if in_flash { &[] } else { words }].concat();
+        message.state = *state;
+        let Some(told) = self.ran_with(&mut message, masks, codes) else {
+            return self.instead.priced_run(image, state, prices, words, masks, codes);
+        };
+        *state = message.state;
+        PricedReport { answer: told.answer(), price: told.price }
     }
 
-    fn tick(&self, image: &[u8], state: &mut State, word: u16) -> TickReport {
+    fn tick(&self, image: &[u8], state: &mut State, word: u16) -> Result<Tick, Refusal> {
         self.ticked(Call::Tick, image, state, word).unwrap_or_else(|| self.instead.tick(image, state, word))
     }
 
@@ -378,7 +317,7 @@ impl Library for Board<'_> {
         spindle: usize,
         image: &[u8],
         word: u16,
-    ) -> TickReport {
+    ) -> Result<Tick, Refusal> {
         self.spun(Call::Spin, states, taken, spindle, image, word)
             .unwrap_or_else(|| self.instead.spin(states, taken, spindle, image, word))
     }
@@ -388,25 +327,61 @@ impl Library for Board<'_> {
             .unwrap_or_else(|| self.instead.rebind(image, state, number, scheme))
     }
 
-    fn cause(&self, image: &[u8], state: &State, word: u16) -> CauseReport {
-        self.told_cause(image, state, word).unwrap_or_else(|| self.instead.cause(image, state, word))
+    /// Row and mask come back as the message's masks, the bit as its code.
+    fn cause(&self, image: &[u8], state: &State, word: u16) -> Result<Cause, Refusal> {
+        let mut message = Message::new(Call::Cause, image);
+        (message.state, message.words) = (*state, vec![word]);
+        (message.masks, message.codes) = (vec![u32::MAX; 2], vec![u8::MAX]);
+        let Some(told) = self.made(&mut message) else {
+            return self.instead.cause(image, state, word);
+        };
+        assert_eq!(message.state, *state, "a cause changed the state");
+        let number = |at: usize| u16::try_from(message.masks[at]).expect("it was written");
+        let found = Cause { row: number(0), mask: number(1), bit: message.codes[0] };
+        handed(told.answer(), 0, found, Cause { row: 0, mask: 0, bit: 0 })
     }
 
+    /// Both lists go to the board and come back as its output, the firsts before the counts; the value says how many are firsts.
     fn list_rows(&self, image: &[u8], firsts: &mut [u16], counts: &mut [u16]) -> Answer {
-        self.listed(image, firsts, counts).unwrap_or_else(|| self.instead.list_rows(image, firsts, counts))
+        let mut message = Message::new(Call::ListRows, image);
+        message.value = u32::try_from(firsts.len()).expect("buffers are short");
+        message.output = firsts.iter().chain(&*counts).flat_map(|number| number.to_le_bytes()).collect();
+        let Some(told) = self.made(&mut message) else {
+            return self.instead.list_rows(image, firsts, counts);
+        };
+        let numbers = message.output.chunks_exact(2).map(|bytes| u16::from_le_bytes([bytes[0], bytes[1]]));
+        firsts.iter_mut().chain(counts).zip(numbers).for_each(|(place, number)| *place = number);
+        told.answer()
     }
 
     fn minimise(&self, image: &[u8], out: &mut [u8]) -> Answer {
         self.written(Call::Minimise, image, out).unwrap_or_else(|| self.instead.minimise(image, out))
     }
 
+    /// The number goes to the board as the value, the frame count in the scheme's place.
     fn little_chart(&self, frames: usize, number: usize, text: &mut [u8]) -> Answer {
-        self.fetched(frames, number, text).unwrap_or_else(|| self.instead.little_chart(frames, number, text))
+        let mut message = Message::new(Call::LittleChart, &[]);
+        (message.scheme, message.value) = (as_wide_as_there(frames), as_wide_as_there(number));
+        self.filled(message, text).unwrap_or_else(|| self.instead.little_chart(frames, number, text))
     }
 
-    fn count_fillings(&self, image: &[u8], size: usize, ticks: usize, conditions: usize) -> FillingsReport {
-        self.counted(image, size, ticks, conditions)
-            .unwrap_or_else(|| self.instead.count_fillings(image, size, ticks, conditions))
+    /// The size goes to the board as the value, ticks and conditions in the places of the scheme and of the places taken; the counts come
+    /// back as its masks.
+    fn count_fillings(
+        &self,
+        image: &[u8],
+        size: usize,
+        ticks: usize,
+        conditions: usize,
+    ) -> Result<Fillings, Refusal> {
+        let mut message = Message::new(Call::CountFillings, image);
+        (message.value, message.masks) = (as_wide_as_there(size), vec![u32::MAX; 3]);
+        (message.scheme, message.taken) = (as_wide_as_there(ticks), as_wide_as_there(conditions));
+        let Some(told) = self.made(&mut message) else {
+            return self.instead.count_fillings(image, size, ticks, conditions);
+        };
+        let [ended, full, unmatched] = [0, 1, 2].map(|at: usize| message.masks[at]);
+        handed(told.answer(), 0, Fillings { ended, full, unmatched }, Fillings::default())
     }
 
     fn prepare(&self, image: &[u8], table: &mut [u8]) -> Answer {
@@ -417,23 +392,29 @@ impl Library for Board<'_> {
         self.read(Call::CheckTable, table).unwrap_or_else(|| self.instead.check_table(table))
     }
 
+    /// The sum goes there and comes back as the value.
     fn sum(&self, sum: u32, bytes: &[u8]) -> u32 {
-        self.summed(sum, bytes).unwrap_or_else(|| self.instead.sum(sum, bytes))
+        let mut message = Message::new(Call::Sum, bytes);
+        message.value = sum;
+        match self.made(&mut message) {
+            Some(_) => message.value,
+            None => self.instead.sum(sum, bytes),
+        }
     }
 
     fn live_run(
         &self,
         table: &[u8],
-        state: &State,
+        state: &mut State,
         words: &[u16],
         masks: &mut [u32],
         codes: &mut [u8],
-    ) -> (Answer, State) {
+    ) -> Answer {
         self.ran(Call::LiveRun, table, state, words, masks, codes)
             .unwrap_or_else(|| self.instead.live_run(table, state, words, masks, codes))
     }
 
-    fn live_tick(&self, table: &[u8], state: &mut State, word: u16) -> TickReport {
+    fn live_tick(&self, table: &[u8], state: &mut State, word: u16) -> Result<Tick, Refusal> {
         self.ticked(Call::LiveTick, table, state, word)
             .unwrap_or_else(|| self.instead.live_tick(table, state, word))
     }
@@ -445,7 +426,7 @@ impl Library for Board<'_> {
         spindle: usize,
         table: &[u8],
         word: u16,
-    ) -> TickReport {
+    ) -> Result<Tick, Refusal> {
         self.spun(Call::LiveSpin, states, taken, spindle, table, word)
             .unwrap_or_else(|| self.instead.live_spin(states, taken, spindle, table, word))
     }

@@ -1,7 +1,7 @@
 //! A call as it goes to the board and comes back: a head of 196 bytes, then the buffers, masks, words, codes, output and
 //! input in this order. controller/board/board.c is the other side.
 
-use interface::{Answer, State};
+use interface::{told, Answer, State};
 
 /// The calls, as the board numbers them.
 #[derive(Clone, Copy, Debug, PartialEq, Eq, PartialOrd, Ord)]
@@ -73,10 +73,7 @@ pub struct Told {
 
 impl Told {
     pub fn answer(&self) -> Answer {
-        match self.number {
-            0 => Answer::Done(self.count),
-            number => Answer::Refused { number, index: self.index, count: self.count },
-        }
+        told(self.number, self.index, self.count)
     }
 }
 

@@ -8,7 +8,7 @@ use comparison::compare::compare;
 use comparison::entry_point::EntryPoint;
 use comparison::samples::chart_p;
 use comparison::samples::worst::candidates;
-use interface::{Answer, Library, State, PRICED_WORDS, TABLE, VERSION};
+use interface::{Library, Refusal, State, PRICED_WORDS, TABLE, VERSION};
 use reference::entry::translated;
 use reference::frames::text_of;
 use reference::{fresh_state, Reference};
@@ -143,19 +143,20 @@ fn ticks(board: &Board<'static>, image: &[u8], table: &[u8]) {
         let made = |library: &dyn Library, live: bool| {
             let (mut masks, mut codes) = (vec![0; 64], vec![0; 64]);
             let call = if live { <dyn Library>::live_run } else { <dyn Library>::run };
-            let ran = call(library, if live { table } else { image }, &state, &words, &mut masks, &mut codes);
+            let (ground, mut ran) = (if live { table } else { image }, state);
+            let answer = call(library, ground, &mut ran, &words, &mut masks, &mut codes);
             let mut after = state;
             let ticked = if live {
                 library.live_tick(table, &mut after, 0xFFFF)
             } else {
                 library.tick(image, &mut after, 0xFFFF)
             };
-            (ran, masks, codes, ticked, after)
+            (ran, answer, masks, codes, ticked, after)
         };
         let wanted = made(&Reference, false);
         assert_eq!(made(board, false), wanted);
         assert_eq!(made(board, true), wanted);
-        state = wanted.0 .1;
+        state = wanted.0;
     }
 }
 
@@ -163,14 +164,15 @@ fn ticks(board: &Board<'static>, image: &[u8], table: &[u8]) {
 fn too_many_words(board: &Board) {
     let image = translated(&text_of(&chart_p())).expect("a valid chart");
     let words = vec![0; PRICED_WORDS + 1];
-    for (state, number) in [(fresh_state(3).expect("3 is a size"), 27), (State::NONE, 15)] {
+    let fresh = fresh_state(3).expect("3 is a size");
+    for (state, refusal) in [(fresh, Refusal::ManyWords), (State::NONE, Refusal::Unfit)] {
         let made = |library: &dyn Library| {
-            let (mut masks, mut codes) = ([7; 9], [7; 5]);
-            let priced = library.priced_run(&image, &state, &[1; 32], &words, &mut masks, &mut codes);
-            (priced, masks, codes)
+            let (mut after, mut masks, mut codes) = (state, [7; 9], [7; 5]);
+            let priced = library.priced_run(&image, &mut after, &[1; 32], &words, &mut masks, &mut codes);
+            (priced, after, masks, codes)
         };
         let given = made(board);
-        assert_eq!((given.0.answer.number(), given.0.price), (number, 0));
+        assert_eq!((given.0.answer, given.0.price), (Err(refusal), 0));
         assert_eq!(given, made(&Reference));
     }
     assert_eq!(board.notes().too_large, 0, "they are run from the flash");
@@ -193,7 +195,7 @@ fn the_largest_inputs_keep_to_the_bounds() {
     for candidate in candidates(EntryPoint::Prepare) {
         let image = text_of(&candidate.input.frames);
         let mut table = [0; TABLE];
-        if let Answer::Done(length) = Reference.prepare(&image, &mut table) {
+        if let Ok(length) = Reference.prepare(&image, &mut table) {
             ticks(&board, &image, &table[..length]);
         }
     }

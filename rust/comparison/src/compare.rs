@@ -25,6 +25,7 @@ use reference::entry;
 use reference::frames::{frames_of, text_of, Frame, CHARACTERS, IMAGE_TEXT, RECORDS};
 use reference::library::{Library, Reference};
 use reference::state::Binding;
+use reference::Told;
 
 /// The first input on which the library and the reference differ.
 #[derive(Debug)]
@@ -210,6 +211,15 @@ struct Case<'a> {
     summary: &'a mut Summary,
 }
 
+impl Drop for Case<'_> {
+    /// What a library answers in no answer's way ends the program.
+    fn drop(&mut self) {
+        if std::thread::panicking() {
+            eprintln!("again by FAIRLEADOW_SEED={} FAIRLEADOW_CASES=1", self.seed);
+        }
+    }
+}
+
 type Compared = Result<(), Box<Difference>>;
 
 /// The middle of a filled buffer is lent, so that a write beside it shows: so much is before it and behind it.
@@ -246,7 +256,7 @@ impl<'a> Case<'a> {
     fn hold<T: PartialEq + fmt::Debug>(
         &mut self,
         call: &'static str,
-        answer: Answer,
+        answer: impl Told,
         expected: &T,
         got: &T,
         input: impl FnOnce() -> String,
@@ -364,6 +374,6 @@ impl<'a> Case<'a> {
         };
         let wanted = entry::fresh(size);
         let got = self.library.fresh(size);
-        self.hold("fresh", wanted.0, &wanted, &got, || format!("size {size}"))
+        self.hold("fresh", wanted, &wanted, &got, || format!("size {size}"))
     }
 }

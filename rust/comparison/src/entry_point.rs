@@ -5,7 +5,7 @@ use interface::{CHART_TEXT, IMAGE_TEXT, LABELS, LITTLE_TEXT, OPERATIONS, RECORDS
 use reference::answer::Answer;
 use reference::entry::{minimised, translated};
 use reference::frames::{text_of, Frame};
-use reference::library::{CauseReport, FillingsReport, Library, Meaning, PricedReport, Prices, TickReport};
+use reference::library::{Cause, Fillings, Library, Meaning, PricedReport, Prices, Refusal, Tick};
 use reference::state::State;
 
 #[derive(Clone, Copy, Debug, PartialEq, Eq)]
@@ -73,12 +73,12 @@ impl Input {
     }
 }
 
-/// What a call answers, and what it leaves in the buffers and the state that it was lent. The three counts of lists, and a sum, go to the
-/// masks.
+/// What a call answers, and what it leaves in the buffers and the state that it was lent. What has no count counts 0, a tick 1. The three
+/// counts of lists, and a sum, go to the masks.
 #[derive(Debug, PartialEq, Eq)]
 pub struct Made {
     pub answer: Answer,
-    pub cause: Option<CauseReport>,
+    pub cause: Option<Cause>,
     pub meaning: Option<Meaning>,
     pub bytes: Vec<u8>,
     pub numbers: Vec<u16>,
@@ -161,30 +161,30 @@ impl EntryPoint {
             EntryPoint::Prepare => written(TABLE, |out| library.prepare(&text(), out)),
             EntryPoint::Tick => ticked(state, |after| library.tick(&text(), after, words[0])),
             EntryPoint::LiveTick => ticked(state, |after| library.live_tick(&bytes(), after, words[0])),
-            EntryPoint::Run => {
-                ran(words.len(), |masks, codes| library.run(&text(), state, words, masks, codes))
-            }
+            EntryPoint::Run => ran(state, words.len(), |after, masks, codes| {
+                library.run(&text(), after, words, masks, codes)
+            }),
             EntryPoint::DryRun => {
                 // just as long as needed, as for a smaller image
                 let mut image = vec![0xAA; translated(&text()).map_or(0, |image| image.len())];
-                let made = ran(words.len(), |masks, codes| {
-                    (library.dry_run(&text(), *value, &mut image, words, masks, codes), State::NONE)
+                let made = ran(&State::NONE, words.len(), |_, masks, codes| {
+                    library.dry_run(&text(), *value, &mut image, words, masks, codes)
                 });
                 Made { bytes: image, ..made }
             }
             EntryPoint::PricedRun => {
                 let mut paid = None;
-                let made = ran(words.len(), |masks, codes| {
-                    let PricedReport { answer, state, price } =
-                        library.priced_run(&text(), state, prices, words, masks, codes);
+                let made = ran(state, words.len(), |after, masks, codes| {
+                    let PricedReport { answer, price } =
+                        library.priced_run(&text(), after, prices, words, masks, codes);
                     paid = Some(price);
-                    (answer, state)
+                    answer
                 });
                 Made { price: paid, ..made }
             }
             EntryPoint::Cause => {
                 let cause = library.cause(&text(), state, words[0]);
-                Made { cause: Some(cause), ..answered(cause.answer) }
+                Made { cause: cause.ok(), ..answered(cause.map(|_| 0)) }
             }
             EntryPoint::ListRows => {
                 let (mut firsts, mut counts) = (vec![0xAAAA; LABELS], vec![0xAAAA; LABELS]);
@@ -199,9 +199,10 @@ impl EntryPoint {
             EntryPoint::LittleChart => written(LITTLE_TEXT, |out| library.little_chart(*value, *chart, out)),
             EntryPoint::CountFillings => {
                 let (ticks, conditions) = *lists;
-                let FillingsReport { answer, ended, full, unmatched } =
-                    library.count_fillings(&text(), *value, ticks, conditions);
-                Made { masks: vec![ended, full, unmatched], ..answered(answer) }
+                let counted = library.count_fillings(&text(), *value, ticks, conditions);
+                let masks = counted
+                    .map_or(Vec::new(), |Fillings { ended, full, unmatched }| vec![ended, full, unmatched]);
+                Made { masks, ..answered(counted.map(|_| 0)) }
             }
             EntryPoint::Rebind => rebound(state, |after| library.rebind(&text(), after, *number, *scheme)),
             EntryPoint::LiveRebind => {
@@ -211,20 +212,20 @@ impl EntryPoint {
                 spun(state, *value, |states, taken| library.spin(states, taken, *value, &text(), words[0]))
             }
             EntryPoint::CheckTable => answered(library.check_table(&bytes())),
-            EntryPoint::Sum => Made { masks: vec![library.sum(0, &bytes())], ..answered(Answer::Done(0)) },
+            EntryPoint::Sum => Made { masks: vec![library.sum(0, &bytes())], ..answered(Ok(0)) },
             EntryPoint::LiveSpin => spun(state, *value, |states, taken| {
                 library.live_spin(states, taken, *value, &bytes(), words[0])
             }),
-            EntryPoint::LiveRun => {
-                ran(words.len(), |masks, codes| library.live_run(&bytes(), state, words, masks, codes))
-            }
+            EntryPoint::LiveRun => ran(state, words.len(), |after, masks, codes| {
+                library.live_run(&bytes(), after, words, masks, codes)
+            }),
             EntryPoint::Fresh => {
-                let (answer, state) = library.fresh(*value);
-                Made { state, ..answered(answer) }
+                let fresh = library.fresh(*value);
+                Made { state: fresh.unwrap_or(State::NONE), ..answered(fresh.map(|_| 0)) }
             }
             EntryPoint::Meaning => {
                 let meaning = library.meaning(*value as u8);
-                Made { meaning: Some(meaning), ..answered(Answer::Done(0)) }
+                Made { meaning: Some(meaning), ..answered(Ok(0)) }
             }
         }
     }
@@ -243,19 +244,28 @@ fn written(room: usize, call: impl FnOnce(&mut [u8]) -> Answer) -> Made {
     Made { bytes, ..answered(answer) }
 }
 
-fn ticked(state: &State, call: impl FnOnce(&mut State) -> TickReport) -> Made {
+fn ticked(state: &State, call: impl FnOnce(&mut State) -> Result<Tick, Refusal>) -> Made {
     let mut state = *state;
-    let TickReport { answer, mask, code } = call(&mut state);
-    Made { masks: vec![mask], codes: vec![code], state, ..answered(answer) }
+    let made = emitted(call(&mut state));
+    Made { state, ..made }
+}
+
+fn emitted(ticked: Result<Tick, Refusal>) -> Made {
+    let (masks, codes) = ticked.iter().map(|tick| (tick.mask, tick.code)).unzip();
+    Made { masks, codes, ..answered(ticked.map(|_| 1)) }
 }
 
 /// The state is that of this spindle, the others take a place each; the record of places goes to the numbers.
-fn spun(state: &State, spindle: usize, call: impl FnOnce(&mut [State], &mut usize) -> TickReport) -> Made {
+fn spun(
+    state: &State,
+    spindle: usize,
+    call: impl FnOnce(&mut [State], &mut usize) -> Result<Tick, Refusal>,
+) -> Made {
     let mut states = vec![State { depth: 1, ..State::NONE }; SPINDLES];
     states[spindle] = *state;
     let mut taken = SPINDLES - 1 + usize::from(state.depth);
-    let TickReport { answer, mask, code } = call(&mut states, &mut taken);
-    Made { masks: vec![mask], codes: vec![code], states, numbers: vec![taken as u16], ..answered(answer) }
+    let made = emitted(call(&mut states, &mut taken));
+    Made { states, numbers: vec![taken as u16], ..made }
 }
 
 fn rebound(state: &State, call: impl FnOnce(&mut State) -> Answer) -> Made {
@@ -264,8 +274,8 @@ fn rebound(state: &State, call: impl FnOnce(&mut State) -> Answer) -> Made {
     Made { state, ..answered(answer) }
 }
 
-fn ran(room: usize, call: impl FnOnce(&mut [u32], &mut [u8]) -> (Answer, State)) -> Made {
-    let (mut masks, mut codes) = (vec![0xAAAA; room], vec![0xAA; room]);
-    let (answer, state) = call(&mut masks, &mut codes);
+fn ran(state: &State, room: usize, call: impl FnOnce(&mut State, &mut [u32], &mut [u8]) -> Answer) -> Made {
+    let (mut state, mut masks, mut codes) = (*state, vec![0xAAAA; room], vec![0xAA; room]);
+    let answer = call(&mut state, &mut masks, &mut codes);
     Made { masks, codes, state, ..answered(answer) }
 }

@@ -9,6 +9,7 @@ mod worst_joined;
 mod worst_tables;
 
 pub use named::{falling_conditions, named_charts};
+use reference::answer::Refusal;
 use reference::frames::Frame;
 pub use worst_images::rows_that_match_from_home;
 
@@ -211,11 +212,11 @@ fn all_operations(first: u8, next: impl Fn(u8) -> u8) -> Vec<Frame> {
     all_of(2, first, |at| [next(at), 0])
 }
 
-/// A chart that takes long to search for circles or for nodes that are cut off, with its refusal and index if it has one.
+/// A chart that takes long to search for circles or for nodes that are cut off, with its refusal if it has one.
 pub struct Slow {
     pub name: &'static str,
     pub records: Vec<Frame>,
-    pub refusal: Option<(u8, usize)>,
+    pub refusal: Option<Refusal>,
 }
 
 /// Lines of conditions and operations with the order of frames and against it, with circles before and behind them.
@@ -224,7 +225,7 @@ pub fn slow_charts() -> Vec<Slow> {
     vec![
         slow(
             "circle above falling conditions",
-            Some((8, 254)),
+            Some(Refusal::Circle(254)),
             all_conditions(TOP, |at| match at {
                 TOP => [TOP - 1, TOP - 2],
                 254 => [TOP - 2, TOP],
@@ -233,7 +234,7 @@ pub fn slow_charts() -> Vec<Slow> {
         ),
         slow(
             "early circle, then falling conditions",
-            Some((8, 254)),
+            Some(Refusal::Circle(254)),
             all_conditions(2, |at| match at {
                 2 => [TOP, TOP - 2],
                 3 => [1; 2],
@@ -241,20 +242,24 @@ pub fn slow_charts() -> Vec<Slow> {
                 _ => [at - 1; 2],
             }),
         ),
-        slow("line to its own circle", Some((8, 255)), all_conditions(2, |at| [at.saturating_add(1); 2])),
+        slow(
+            "line to its own circle",
+            Some(Refusal::Circle(255)),
+            all_conditions(2, |at| [at.saturating_add(1); 2]),
+        ),
         slow(
             "ladder to its own circle",
-            Some((8, 255)),
+            Some(Refusal::Circle(255)),
             all_conditions(2, |at| if at == TOP { [TOP, 1] } else { [at + 1, at.saturating_add(2)] }),
         ),
         slow(
             "line to a large circle",
-            Some((8, 129)),
+            Some(Refusal::Circle(129)),
             all_conditions(2, |at| if at == TOP { [129; 2] } else { [at + 1; 2] }),
         ),
         slow(
             "line of operations, End cut off",
-            Some((9, 1)),
+            Some(Refusal::CutOff(1)),
             all_operations(TOP, |at| if at == 2 { TOP } else { at - 1 }),
         ),
         slow("falling line of conditions", None, all_conditions(TOP, |at| [at - 1; 2])),
@@ -331,8 +336,7 @@ mod tests {
     fn the_slow_charts_are_large_and_refused_as_said() {
         for slow in slow_charts() {
             assert_eq!(slow.records.len(), 256, "{}", slow.name);
-            let refusal = chart_from_text(&text_of(&slow.records)).err().map(|r| (r.number, r.index));
-            assert_eq!(refusal, slow.refusal, "{}", slow.name);
+            assert_eq!(chart_from_text(&text_of(&slow.records)).err(), slow.refusal, "{}", slow.name);
         }
     }
 

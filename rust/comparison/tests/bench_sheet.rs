@@ -2,7 +2,7 @@
 
 use comparison::samples::with_handler;
 use reference::frames::{text_of, Frame, IMAGE_TEXT};
-use reference::{entry, fresh_state, programs, walk, Answer};
+use reference::{entry, fresh_state, programs, walk, Answer, Refusal};
 
 const CHART_P: &str = "\
 00010001000000000000FE
@@ -31,15 +31,11 @@ const IMAGE_P: &str = "\
 
 const W: [u16; 8] = [0, 0, 1, 0, 0, 0, 0, 0];
 
-fn refused(number: u8, index: usize, count: usize) -> Answer {
-    Answer::Refused { number, index, count }
-}
-
 /// Answer, masks and codes of a run from a fresh state.
 fn run(image: &[u8], size: usize, words: &[u16]) -> (Answer, Vec<u32>, Vec<u8>) {
-    let state = fresh_state(size).unwrap();
+    let mut state = fresh_state(size).unwrap();
     let (mut masks, mut codes) = (vec![99; words.len()], vec![99; words.len()]);
-    let (answer, _) = entry::run(image, &state, words, &mut masks, &mut codes);
+    let answer = entry::run(image, &mut state, words, &mut masks, &mut codes);
     (answer, masks, codes)
 }
 
@@ -58,7 +54,7 @@ fn b1_p_gives_its_image() {
 #[test]
 fn b2_three_places() {
     let (answer, masks, codes) = run(IMAGE_P.as_bytes(), 3, &W);
-    assert_eq!(answer, Answer::Done(8));
+    assert_eq!(answer, Ok(8));
     assert_eq!(codes, [0x04, 0x12, 0x00, 0x12, 0x00, 0x03, 0x03, 0x04]);
     assert_eq!(masks, [0, 1, 0, 2, 0, 0, 0, 0]);
 }
@@ -78,20 +74,20 @@ fn b2_by_the_walk() {
 #[test]
 fn b3_two_places() {
     let (answer, masks, codes) = run(IMAGE_P.as_bytes(), 2, &W);
-    assert_eq!(answer, refused(17, 0, 3));
+    assert_eq!(answer, Err(Refusal::Full { ticks: 3 }));
     assert_eq!(codes, [0x04, 0x12, 0x00, 99, 99, 99, 99, 99]);
     assert_eq!(masks, [0, 1, 0, 99, 99, 99, 99, 99]);
 }
 
 #[test]
 fn b4_one_place() {
-    assert_eq!(run(IMAGE_P.as_bytes(), 1, &W).0, refused(17, 0, 1));
+    assert_eq!(run(IMAGE_P.as_bytes(), 1, &W).0, Err(Refusal::Full { ticks: 1 }));
 }
 
 #[test]
 fn b5_no_words() {
     for size in 1..=32 {
-        assert_eq!(run(IMAGE_P.as_bytes(), size, &[]).0, Answer::Done(0));
+        assert_eq!(run(IMAGE_P.as_bytes(), size, &[]).0, Ok(0));
     }
 }
 
@@ -99,14 +95,14 @@ fn b5_no_words() {
 fn b6_begin_to_end() {
     let image = entry::translated(&text_of(&[BEGIN, END])).unwrap();
     let (answer, masks, codes) = run(&image, 1, &[0xFFFF; 20]);
-    assert_eq!(answer, Answer::Done(20));
+    assert_eq!(answer, Ok(20));
     assert_eq!(codes, [0x04; 20]);
     assert_eq!(masks, [0; 20]);
 }
 
 #[test]
 fn b7_empty() {
-    assert_eq!(translate(b""), refused(1, 0, 0));
+    assert_eq!(translate(b""), Err(Refusal::BadLength));
 }
 
 /// B7 had this chart refused; by request e it translates as in capitals.
@@ -119,7 +115,7 @@ fn b7_small_letters() {
 #[test]
 fn b8_a_circle_before_what_is_cut_off() {
     let condition = [3, 1, 0, 1, 1, 0, 0, 0, 0, 0];
-    assert_eq!(translate(&text_of(&[BEGIN, condition, END])), refused(8, 1, 0));
+    assert_eq!(translate(&text_of(&[BEGIN, condition, END])), Err(Refusal::Circle(1)));
 }
 
 /// Begin, so many plain operations, ten different conditions with both arcs to the next, End.
@@ -140,7 +136,7 @@ fn ladder(operations: u8) -> Vec<u8> {
 fn b9_the_most_rows() {
     let image = entry::image_from_text(&entry::translated(&ladder(1)).unwrap()).unwrap();
     assert_eq!(image.rows.len(), 1_024);
-    assert_eq!(translate(&ladder(2)), refused(10, 0, 0));
+    assert_eq!(translate(&ladder(2)), Err(Refusal::ManyRows));
 }
 
 #[test]
@@ -157,7 +153,7 @@ fn b10_a_function() {
     let image = entry::translated(&text).unwrap();
     for words in [[0; 6], [0xFFFF; 6]] {
         let (answer, masks, codes) = run(&image, 2, &words);
-        assert_eq!(answer, Answer::Done(6));
+        assert_eq!(answer, Ok(6));
         assert_eq!(codes, [0x04, 0x42, 0x00, 0x03, 0x00, 0x04]);
         assert_eq!(masks, [0, 0, 0, 0, 1, 0]);
     }
@@ -184,7 +180,7 @@ fn two_blocks() {
     let image = entry::translated(&bore_test()).unwrap();
     let words = [0, 0, 1, 0, 0, 0, 0, 0, 0, 0, 0, 0];
     let (answer, masks, codes) = run(&image, 2, &words);
-    assert_eq!(answer, Answer::Done(12));
+    assert_eq!(answer, Ok(12));
     assert_eq!(codes, [0x04, 0x42, 0x00, 0x00, 0x03, 0x00, 0x04, 0x42, 0x00, 0x03, 0x00, 0x04]);
     assert_eq!(masks, [0, 0, 0, 0, 0, 1, 0, 0, 0, 0, 2, 0]);
 }
@@ -194,8 +190,8 @@ fn bit_after(image: &[u8], size: usize, words: &[u16]) -> (Answer, bool) {
     let mut state = fresh_state(size).unwrap();
     state.results[1] = true;
     let (mut masks, mut codes) = ([0; 4], [0; 4]);
-    let (answer, after) = entry::run(image, &state, words, &mut masks, &mut codes);
-    (answer, after.results[1])
+    let answer = entry::run(image, &mut state, words, &mut masks, &mut codes);
+    (answer, state.results[1])
 }
 
 /// An operation of scheme 2 that writes 1 and calls scheme 2 leaves a 0; a call that finds the stack full leaves the bit.
@@ -210,10 +206,10 @@ fn a_call_clears_after_it_writes() {
         [1, 2, 0, 0, 0, 0, 0, 0, 0, 0],
     ]);
     let image = entry::translated(&text).unwrap();
-    assert_eq!(bit_after(&image, 3, &[0]), (Answer::Done(1), true));
-    assert_eq!(bit_after(&image, 3, &[0; 2]), (Answer::Done(2), false));
-    assert_eq!(bit_after(&image, 3, &[0; 3]), (Answer::Done(3), false));
-    assert_eq!(bit_after(&image, 1, &[0; 2]), (refused(17, 0, 1), true));
+    assert_eq!(bit_after(&image, 3, &[0]), (Ok(1), true));
+    assert_eq!(bit_after(&image, 3, &[0; 2]), (Ok(2), false));
+    assert_eq!(bit_after(&image, 3, &[0; 3]), (Ok(3), false));
+    assert_eq!(bit_after(&image, 1, &[0; 2]), (Err(Refusal::Full { ticks: 1 }), true));
 }
 
 const CHART_D: &str = "\
@@ -260,7 +256,7 @@ fn the_header_names_the_handler() {
 fn the_handler_follows_a_full_stack() {
     let wanted = [0x04, 0x12, 0x60, 0x00, 0x03, 0x04, 0x12, 0x60, 0x00, 0x03];
     let (answer, masks, codes) = run(IMAGE_D.as_bytes(), 2, &[0; 10]);
-    assert_eq!(answer, Answer::Done(10));
+    assert_eq!(answer, Ok(10));
     assert_eq!(codes, wanted);
     assert_eq!(masks, [0, 1, 2, 4, 0, 0, 1, 2, 4, 0]);
     let ticks = walk::walk(&entry::chart_from_text(CHART_D.as_bytes()).unwrap(), 2, &[0; 10]);

@@ -4,12 +4,12 @@ use std::collections::BTreeMap;
 
 use comparison::generate::{images, runs, states, Random};
 use comparison::samples;
-use reference::cause::{cause_of, Found};
+use reference::cause::cause_of;
 use reference::entry;
 use reference::frames::{text_of, Frame};
 use reference::image::{image_of, Image, Label, Row, FUNCTION_CALL, OPERATION_CALL, PLAIN};
 use reference::machine;
-use reference::{Answer, CauseReport, State};
+use reference::{Cause, Refusal, State};
 
 /// All words that agree with one on a mask.
 fn agreeing(word: u16, mask: u16) -> impl Iterator<Item = u16> {
@@ -17,7 +17,7 @@ fn agreeing(word: u16, mask: u16) -> impl Iterator<Item = u16> {
 }
 
 /// Looks at the causes of ticks of random images from fitting states.
-fn each_cause(seeds: u64, mut look: impl FnMut(&Image, &State, u16, Found)) {
+fn each_cause(seeds: u64, mut look: impl FnMut(&Image, &State, u16, Cause)) {
     for seed in 0..seeds {
         let random = &mut Random::new(seed);
         let image = if random.once_in(2) { images::small(random) } else { images::accepted(random) };
@@ -51,15 +51,15 @@ fn every_word_that_agrees_on_the_mask_takes_the_same_row() {
 fn the_tick_goes_by_the_row_told() {
     each_cause(20_000, |image, state, word, found| {
         let after = machine::tick(image, state, word).map(|advanced| advanced.state).ok();
-        let only = Image { rows: vec![image.rows[found.row]], ..image.clone() };
+        let only = Image { rows: vec![image.rows[usize::from(found.row)]], ..image.clone() };
         assert_eq!(machine::tick(&only, state, word).map(|advanced| advanced.state).ok(), after);
         assert!(after.is_some(), "{state:?} {word:04X}");
     });
 }
 
 /// What a cause has to do with the rows of its label, and whether this one has it.
-fn sorts(image: &Image, state: &State, word: u16, found: Found) -> [(&'static str, bool); 11] {
-    let taken = image.rows[found.row];
+fn sorts(image: &Image, state: &State, word: u16, found: Cause) -> [(&'static str, bool); 11] {
+    let taken = image.rows[usize::from(found.row)];
     let label = image.labels[usize::from(taken.from)];
     let others: Vec<&Row> = image.rows.iter().filter(|row| row.from == taken.from).collect();
     let against = |row: &Row| (word & row.care) ^ row.values;
@@ -102,12 +102,8 @@ fn state(image: &Image, places: &[u8]) -> State {
     image.shape().state(3, places)
 }
 
-fn told(row: u16, mask: u16, bit: u8) -> CauseReport {
-    CauseReport { answer: Answer::Done(0), row, mask, bit }
-}
-
-fn refused(number: u8) -> CauseReport {
-    CauseReport { answer: Answer::Refused { number, index: 0, count: 0 }, row: 0, mask: 0, bit: 0 }
+fn told(row: u16, mask: u16, bit: u8) -> Result<Cause, Refusal> {
+    Ok(Cause { row, mask, bit })
 }
 
 fn text(image: &Image) -> Vec<u8> {
@@ -130,24 +126,24 @@ fn causes_on_chart_p() {
     assert_eq!(cause(&[2, 4, 1], 7), told(3, 0, 2));
     // home, a call with a place left, and a call at a full stack
     for places in [&[0][..], &[2], &[2, 4, 4]] {
-        assert_eq!(cause(places, 0), refused(21));
+        assert_eq!(cause(places, 0), Err(Refusal::Rowless));
     }
-    assert_eq!(cause(&[3], 0), refused(15));
-    assert_eq!(entry::cause(b"", &state(&image, &[0]), 0), refused(1));
+    assert_eq!(cause(&[3], 0), Err(Refusal::Unfit));
+    assert_eq!(entry::cause(b"", &state(&image, &[0]), 0), Err(Refusal::BadLength));
 }
 
 #[test]
 fn a_handlers_return_at_depth_1_takes_no_row() {
     let image = image_of_chart(&samples::with_handler());
-    assert_eq!(entry::cause(&text(&image), &state(&image, &[1]), 0), refused(21));
+    assert_eq!(entry::cause(&text(&image), &state(&image, &[1]), 0), Err(Refusal::Rowless));
 }
 
 #[test]
 fn a_word_without_a_row_is_refused_after_a_tick_without_one() {
     let mut image = image_of_chart(&samples::chart_p());
     image.rows.clear();
-    assert_eq!(entry::cause(&text(&image), &state(&image, &[2, 3]), 0), refused(18));
-    assert_eq!(entry::cause(&text(&image), &state(&image, &[2]), 0), refused(21));
+    assert_eq!(entry::cause(&text(&image), &state(&image, &[2, 3]), 0), Err(Refusal::NoRow { ticks: 0 }));
+    assert_eq!(entry::cause(&text(&image), &state(&image, &[2]), 0), Err(Refusal::Rowless));
 }
 
 /// Label 2 is a function call's of scheme 1 to scheme 2, label 3 is plain and of scheme 1.

@@ -7,7 +7,7 @@ use common::is_found;
 use reference::entry::image_from_text;
 use reference::image::{Image, Row, FUNCTION_CALL, OPERATION_CALL};
 use reference::machine::{row_label, tick};
-use reference::{Answer, CauseReport, Library, Reference, State};
+use reference::{as_the_reference, Cause, Library, Reference, Refusal, State};
 
 faults! {
     // which conditions decide
@@ -35,8 +35,6 @@ faults! {
     RefusesAFullCallAsATickDoes,
     RefusesTheHandlersReturnForWantOfARow,
     RefusesNoCallAndNoHome,
-    TellsTheBitOfARefusedTick,
-    CountsATick,
 }
 
 /// The reference with one fault.
@@ -50,9 +48,7 @@ fn highest(mask: u16) -> u16 {
     mask.checked_ilog2().map_or(0, |condition| 1 << condition)
 }
 
-fn refused(number: u8) -> CauseReport {
-    CauseReport { answer: Answer::Refused { number, index: 0, count: 0 }, row: 0, mask: 0, bit: 0 }
-}
+const NO_ROW: Refusal = Refusal::NoRow { ticks: 0 };
 
 impl Faulty {
     /// The condition that a row adds to the mask, by the conditions in which the word is against it.
@@ -103,7 +99,7 @@ impl Faulty {
     }
 
     /// What is told of a tick that takes a row of this label.
-    fn told(&self, image: &Image, state: &State, from: u8, word: u16) -> CauseReport {
+    fn told(&self, image: &Image, state: &State, from: u8, word: u16) -> Result<Cause, Refusal> {
         let called = usize::from(image.labels[usize::from(from)].called).max(1);
         let open = |row: &Row| row.function_bit == 2 || state.results[called - 1] == (row.function_bit == 1);
         let (mut matching, mut conditions) = (Vec::new(), 0);
@@ -118,33 +114,27 @@ impl Faulty {
                 conditions |= lowest(against);
             }
         }
-        let Some((number, row)) = self.taken(&matching) else {
-            return CauseReport {
-                bit: if self.0 == TellsTheBitOfARefusedTick { 2 } else { 0 },
-                ..refused(18)
-            };
-        };
+        let (number, row) = self.taken(&matching).ok_or(NO_ROW)?;
         let care = if self.0 == ForgetsTheCareMask { 0 } else { row.care };
-        CauseReport {
-            answer: Answer::Done(usize::from(self.0 == CountsATick)),
+        Ok(Cause {
             row: self.row_number(image, number) as u16,
             mask: care | conditions,
             bit: self.told_bit(image, state, &row),
-        }
+        })
     }
 
     /// What is told of a tick that takes no row.
-    fn told_of_none(&self, image: &Image, state: &State, word: u16) -> CauseReport {
+    fn told_of_none(&self, image: &Image, state: &State, word: u16) -> Result<Cause, Refusal> {
         let top = state.places[usize::from(state.depth) - 1];
         let full = image.labels[usize::from(top)].calls() && tick(image, state, word).is_err();
         let alone = top == 1;
         let told = || self.told(image, state, top, word);
         match self.0 {
-            TriesRowsBeforeTheTick if told().answer.number() == 18 => refused(18),
-            RefusesAFullCallAsATickDoes if full => refused(17),
-            RefusesTheHandlersReturnForWantOfARow if alone => refused(18),
+            TriesRowsBeforeTheTick if told() == Err(NO_ROW) => Err(NO_ROW),
+            RefusesAFullCallAsATickDoes if full => Err(Refusal::Full { ticks: 0 }),
+            RefusesTheHandlersReturnForWantOfARow if alone => Err(NO_ROW),
             RefusesNoCallAndNoHome if !alone => told(),
-            _ => refused(21),
+            _ => Err(Refusal::Rowless),
         }
     }
 }
@@ -165,12 +155,14 @@ impl Library for Faulty {
         value_calls,
     );
 
-    fn cause(&self, text: &[u8], state: &State, word: u16) -> CauseReport {
+    fn cause(&self, text: &[u8], state: &State, word: u16) -> Result<Cause, Refusal> {
         let right = Reference.cause(text, state, word);
-        match right.answer.number() {
-            0 | 18 | 21 => {}
-            15 if self.0 == TriesTheTickBeforeTheState && state.depth == 1 && state.places[0] == 0 => {
-                return refused(21);
+        match right {
+            Ok(_) | Err(NO_ROW | Refusal::Rowless) => {}
+            Err(Refusal::Unfit)
+                if self.0 == TriesTheTickBeforeTheState && state.depth == 1 && state.places[0] == 0 =>
+            {
+                return Err(Refusal::Rowless);
             }
             _ => return right,
         }

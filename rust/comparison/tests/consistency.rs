@@ -5,7 +5,7 @@ use reference::check::chart_of;
 use reference::expectation::{expected, Outcome, Step};
 use reference::frames::{frames_of, text_of, CHART_TEXT, IMAGE_TEXT};
 use reference::image::{Image, FUNCTION_CALL};
-use reference::{entry, fresh_state, image, machine, translator, Answer, State};
+use reference::{entry, fresh_state, image, machine, translator, Refusal, State, Told};
 
 const CASES: u64 = 3_000;
 
@@ -25,10 +25,10 @@ fn records_and_text_turn_into_each_other() {
         let text = text_of(&records);
         assert_eq!(frames_of(&text, CHART_TEXT).unwrap(), records);
         let mut read = vec![0; 10 * records.len()];
-        assert_eq!(entry::read_chart(&text, &mut read), Answer::Done(records.len()));
+        assert_eq!(entry::read_chart(&text, &mut read), Ok(records.len()));
         assert_eq!(read, records.concat());
         let mut written = vec![0; text.len()];
-        assert_eq!(entry::write_chart(&read, &mut written), Answer::Done(text.len()));
+        assert_eq!(entry::write_chart(&read, &mut written), Ok(text.len()));
         assert_eq!(written, text);
     }
 }
@@ -64,7 +64,7 @@ fn ladders_have_the_rows_asked_for() {
     }
     let records = ladders::with_rows(&mut Random::new(1), 1_025);
     let refusal = translator::image_of(&chart_of(&records).unwrap()).unwrap_err();
-    assert_eq!((refusal.number, refusal.index), (10, 0));
+    assert_eq!(refusal, Refusal::ManyRows);
 }
 
 #[test]
@@ -140,7 +140,7 @@ fn a_rebinding_keeps_a_fitting_state_fitting() {
         let (number, scheme) = runs::rebinding(random, image.entries.len());
         let answer = entry::rebind(&text_of(&image.frames()), &mut state, number, scheme);
         assert!(machine::fits(image, &state), "seed {seed}");
-        if answer == Answer::Done(0) {
+        if answer == Ok(0) {
             rebound += 1;
             assert_eq!(usize::from(state.serving[number - 1]), scheme, "seed {seed}");
             state.serving[number - 1] = before.serving[number - 1];
@@ -172,22 +172,20 @@ fn lists_of_runs_and_rebindings_tick_as_the_walk_does() {
                 }
             };
             let (mut masks, mut codes) = (run.masks.clone(), run.codes.clone());
-            let (answer, after, price) = match &run.prices {
+            let (lent, words) = (&mut state, &run.words);
+            let (answer, price) = match &run.prices {
                 Some(prices) => {
-                    let priced = entry::priced_run(&text, &state, prices, &run.words, &mut masks, &mut codes);
-                    (priced.answer, priced.state, Some(priced.price))
+                    let priced = entry::priced_run(&text, lent, prices, words, &mut masks, &mut codes);
+                    (priced.answer, Some(priced.price))
                 }
-                None => {
-                    let (answer, after) = entry::run(&text, &state, &run.words, &mut masks, &mut codes);
-                    (answer, after, None)
-                }
+                None => (entry::run(&text, lent, words, &mut masks, &mut codes), None),
             };
-            state = after;
             assert_eq!(&Outcome { answer, masks, codes, price }, wanted, "seed {seed}");
             paid += usize::from(price.is_some_and(|price| price > 0));
             paid_at_17 += usize::from(answer.number() == 17 && price.is_some_and(|price| price > 0));
             full[usize::from(image.handler != 0)] += usize::from(answer.number() == 17);
-            drops += wanted.codes[..answer.count()].iter().filter(|code| **code == 0x60).count();
+            let finished = &wanted.codes[..answer.unwrap_or_else(Refusal::ticks)];
+            drops += finished.iter().filter(|code| **code == 0x60).count();
             swapped += usize::from((0..32).any(|at| state.numbers[at] != state.servers[at]));
         }
     }

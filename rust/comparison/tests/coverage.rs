@@ -10,7 +10,7 @@ use reference::image::{image_of, Image, Row, FUNCTION_CALL, RETURN, ROWS};
 use reference::little::texts;
 use reference::machine::{self, handles};
 use reference::translator;
-use reference::{Reference, State};
+use reference::{Reference, Refusal, State};
 
 /// Which refusals each call may give; 0 is success.
 const TRIED: [(&str, &[u8]); 28] = [
@@ -215,7 +215,7 @@ fn events(image: &Image, state: &State, word: u16) -> [(&'static str, bool); 20]
     let bits_differ = swapped && bit(state.numbers[top]) != bit(state.servers[top]);
     let ticked = machine::tick(image, state, word);
     let drops = ticked.as_ref().is_ok_and(|advanced| advanced.code == 0x60);
-    let full = ticked.is_err_and(|number| number == 17);
+    let full = ticked.is_err_and(|refusal| refusal == Refusal::Full { ticks: 0 });
     [
         ("a drop of one place", drops && top == 0),
         ("a drop of more than three places", drops && top > 2),

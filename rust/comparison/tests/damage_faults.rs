@@ -4,12 +4,11 @@
 mod common;
 
 use common::is_found;
-use reference::answer::Refusal;
 use reference::frames::Frame;
 use reference::image::image_of;
 use reference::live::Held;
 use reference::prepare::table_of;
-use reference::{Answer, Library, Reference};
+use reference::{as_the_reference, told, Answer, Library, Reference, Refusal};
 
 faults! {
     // which tables pass
@@ -131,18 +130,19 @@ impl Faulty {
     }
 
     /// What is told in the place of a refusal.
-    fn mistold(&self, frames: &[Frame], refusal: Refusal) -> Refusal {
-        let Refusal { number, index } = refusal;
-        match (self.0, number) {
-            (RefusesNoBytesAsAText, 11) if frames.is_empty() => Refusal::of(1),
-            (TriesNotesBeforeFields, 13) => Refusal { index: misnoted(frames).unwrap_or(index), number },
-            (TellsAStrayFrameForAField, 13) => Refusal { number: 12, index },
-            (TellsAFieldForAStrayFrame, 12) => Refusal { number: 13, index },
-            (NamesNoFrame, _) => Refusal::of(number),
-            (NamesTheFrameAfter, 12 | 13) => Refusal { number, index: index + 1 },
-            (NamesTheLabel, 13) => Refusal { number, index: index.saturating_sub(parts(frames).0) },
-            _ => refusal,
-        }
+    fn mistold(&self, frames: &[Frame], refusal: Refusal) -> Answer {
+        let (number, index) = (refusal.number(), refusal.index());
+        let (number, index) = match (self.0, number) {
+            (RefusesNoBytesAsAText, 11) if frames.is_empty() => (1, 0),
+            (TriesNotesBeforeFields, 13) => (number, misnoted(frames).unwrap_or(index)),
+            (TellsAStrayFrameForAField, 13) => (12, index),
+            (TellsAFieldForAStrayFrame, 12) => (13, index),
+            (NamesNoFrame, _) => (number, 0),
+            (NamesTheFrameAfter, 12 | 13) => (number, index + 1),
+            (NamesTheLabel, 13) => (number, index.saturating_sub(parts(frames).0)),
+            _ => (number, index),
+        };
+        told(number, index, 0)
     }
 }
 
@@ -172,12 +172,10 @@ impl Library for Faulty {
             rest.clear();
         }
         match Reference.check_table(&[mended.concat(), rest].concat()) {
-            Answer::Done(_) if self.0 == PassesNothing => Refusal::of(11).into(),
-            Answer::Done(_) if self.0 == CountsFrames => Answer::Done(frames.len()),
-            Answer::Refused { .. } if self.0 == PassesWhatLiveCallsTake && Held::of(table).is_ok() => {
-                Answer::Done(0)
-            }
-            Answer::Refused { number, index, .. } => self.mistold(frames, Refusal { number, index }).into(),
+            Ok(_) if self.0 == PassesNothing => Err(Refusal::BadHeader),
+            Ok(_) if self.0 == CountsFrames => Ok(frames.len()),
+            Err(_) if self.0 == PassesWhatLiveCallsTake && Held::of(table).is_ok() => Ok(0),
+            Err(refusal) => self.mistold(frames, refusal),
             done => done,
         }
     }

@@ -4,7 +4,7 @@
 mod common;
 
 use common::is_found;
-use reference::{entry, Answer, Library, State};
+use reference::{as_the_reference, entry, Answer, Library, Refusal, State};
 
 faults! {
     // the state
@@ -35,19 +35,19 @@ faults! {
 struct Faulty(Fault);
 
 impl Faulty {
-    /// The answer of a state of this size, and the state.
-    fn fresh(&self, size: usize) -> (Answer, State) {
-        let (answer, mut state) = entry::fresh(match self.0 {
+    /// A state of this size.
+    fn fresh(&self, size: usize) -> Result<State, Refusal> {
+        let mut state = entry::fresh(match self.0 {
             RunsOn32Places if (1..=32).contains(&size) => 32,
             CutsTheSize => size & 0xFF,
             TakesALargeSizeAs32 => size.min(32),
             TriesNoSize => size.clamp(1, 32),
             _ => size,
-        });
+        })?;
         if self.0 == RunsWithSwappedSchemes {
             state.serving[1..4].rotate_left(1);
         }
-        (answer, state)
+        Ok(state)
     }
 }
 
@@ -72,32 +72,25 @@ impl Library for Faulty {
         let Faulty(fault) = *self;
         let before = image.to_vec();
         let room = masks.len().min(codes.len());
-        let (sized, state) = self.fresh(size);
-        let refused = sized.number() != 0;
-        let short = Answer::Refused { number: 16, index: 0, count: 0 };
+        let fresh = self.fresh(size);
         match fault {
-            TriesTheSizeBeforeTheText if refused => return sized,
-            TriesTheSizeBeforeTheImagesRoom if refused && has_no_room(text, image) => return sized,
-            TriesTheRoomForMasksFirst if masks.len() < words.len() => return short,
+            TriesTheSizeBeforeTheText => drop(fresh?),
+            TriesTheSizeBeforeTheImagesRoom if has_no_room(text, image) => drop(fresh?),
+            TriesTheRoomForMasksFirst if masks.len() < words.len() => return Err(Refusal::NoRoom),
             _ => {}
         }
         let translated = entry::translate(text, image);
-        if translated.number() != 0 {
-            if fault == ClearsMasksWithARefusal {
-                masks.fill(0);
-            }
-            return translated;
+        if translated.is_err() && fault == ClearsMasksWithARefusal {
+            masks.fill(0);
         }
-        let length = translated.count();
+        let length = translated?;
         let made = image.to_vec();
         match fault {
             KeepsTheImageBack | WritesTheImageOnceItRan => image.copy_from_slice(&before),
             WritesPastTheImage => image[length..].iter_mut().take(1).for_each(|byte| *byte = !*byte),
             _ => {}
         }
-        if refused {
-            return sized;
-        }
+        let mut state = fresh?;
         let twice = [&words[..words.len().min(1)], words].concat();
         let words = match fault {
             RunsNoWords => &[],
@@ -106,20 +99,17 @@ impl Library for Faulty {
             _ => words,
         };
         let ground = if fault == RunsTheWholeBuffer { &made[..] } else { &made[..length] };
-        let (answer, _) = entry::run(ground, &state, words, masks, codes);
-        let done = answer.number() == 0;
-        if done && fault == WritesTheImageOnceItRan {
+        let answer = entry::run(ground, &mut state, words, masks, codes);
+        if answer.is_ok() && fault == WritesTheImageOnceItRan {
             image.copy_from_slice(&made);
         }
         match (fault, answer) {
-            (CountsCharacters, Answer::Done(_)) => Answer::Done(length),
-            (TellsRefusedRunsAsDone, Answer::Refused { count, .. }) => Answer::Done(count),
-            (CountsNoTicksWith17, Answer::Refused { number, index, .. }) => {
-                Answer::Refused { number, index, count: 0 }
-            }
-            (SwallowsTheTickBefore17, Answer::Refused { number: 17, index, count }) if count > 0 => {
-                codes[count - 1] = 0;
-                Answer::Refused { number: 17, index, count }
+            (CountsCharacters, Ok(_)) => Ok(length),
+            (TellsRefusedRunsAsDone, Err(refusal)) => Ok(refusal.ticks()),
+            (CountsNoTicksWith17, Err(Refusal::Full { .. })) => Err(Refusal::Full { ticks: 0 }),
+            (SwallowsTheTickBefore17, Err(Refusal::Full { ticks })) if ticks > 0 => {
+                codes[ticks - 1] = 0;
+                answer
             }
             _ => answer,
         }

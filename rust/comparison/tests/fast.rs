@@ -5,6 +5,7 @@ use comparison::generate::{images, runs, states, Random};
 use fast::{run_on, Fast};
 use reference::entry;
 use reference::frames::text_of;
+use reference::Told;
 
 #[test]
 fn fast_agrees_with_the_reference() {
@@ -21,10 +22,13 @@ fn a_scan_of_all_rows_agrees_with_the_reference() {
         let (text, run) = (text_of(&image.frames()), runs::run(random, 30));
         let (mut masks, mut codes) = (run.masks.clone(), run.codes.clone());
         let (mut scanned_masks, mut scanned_codes) = (run.masks.clone(), run.codes.clone());
-        let ran = entry::run(&text, &state, &run.words, &mut masks, &mut codes);
-        let scanned = run_on::<true>(&text, &state, &run.words, &mut scanned_masks, &mut scanned_codes);
-        assert_eq!((scanned, scanned_masks, scanned_codes), (ran, masks, codes), "seed {seed}");
-        answers[usize::from(ran.0.number())] += 1;
+        let (mut after, mut scanned_after) = (state, state);
+        let ran = entry::run(&text, &mut after, &run.words, &mut masks, &mut codes);
+        let scanned =
+            run_on::<true>(&text, &mut scanned_after, &run.words, &mut scanned_masks, &mut scanned_codes);
+        let left = (scanned, scanned_after, scanned_masks, scanned_codes);
+        assert_eq!(left, (ran, after, masks, codes), "seed {seed}");
+        answers[usize::from(ran.number())] += 1;
     }
     assert!([0, 15, 16, 17, 18].iter().all(|number| answers[*number] > 100), "{answers:?}");
 }

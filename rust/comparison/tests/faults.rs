@@ -11,7 +11,7 @@ use reference::entry::{self, image_from_text};
 use reference::frames::text_of;
 use reference::image::{Image, Label, FUNCTION_CALL, HOME, RETURN};
 use reference::machine::{self, Advanced};
-use reference::{Answer, Library, Reference, State, TickReport};
+use reference::{as_the_reference, told, Answer, Library, Reference, Refusal, State, Tick};
 
 faults! {
     TurnsAllChartsBack,
@@ -40,7 +40,6 @@ faults! {
     WritesSmallDigits,
     AcceptsAllImages,
     FreshWith33Places,
-    WritesARefusedTick,
 }
 
 /// The reference with one fault. `calls` keeps the word and the result bit of each open call of the state that was
@@ -61,7 +60,7 @@ impl Faulty {
         matches!(self.fault, ResultBitOfTheCall | WordOfTheCall) && *self.last.borrow() != *state
     }
 
-    fn tick_of(&self, image: &Image, state: &State, word: u16) -> Result<Advanced, u8> {
+    fn tick_of(&self, image: &Image, state: &State, word: u16) -> Result<Advanced, Refusal> {
         let top = usize::from(state.depth) - 1;
         let label = image.labels[usize::from(state.places[top])];
         if label.calls() {
@@ -73,7 +72,7 @@ impl Faulty {
         }
         let full = label.calls() && state.depth + 1 == state.size;
         if self.fault == FullOnePlaceEarly && full {
-            return Err(17);
+            return Err(Refusal::Full { ticks: 0 });
         }
         let mut advanced = machine::tick(image, state, word)?;
         if self.fault == ReturnsFromSchemeOne && label.kind == HOME {
@@ -99,7 +98,7 @@ impl Faulty {
         }
     }
 
-    fn return_of(&self, image: &Image, state: &State, word: u16) -> Result<Advanced, u8> {
+    fn return_of(&self, image: &Image, state: &State, word: u16) -> Result<Advanced, Refusal> {
         let top = usize::from(state.depth) - 1;
         let beneath = image.labels[usize::from(state.places[top - 1])];
         let (call_word, call_bit) = self.calls.borrow()[top - 1];
@@ -123,52 +122,60 @@ impl Faulty {
     fn ticks(
         &self,
         image: &Image,
-        start: &State,
+        state: &mut State,
         words: &[u16],
         masks: &mut [u32],
         codes: &mut [u8],
-    ) -> (Answer, State) {
-        let mut state = *start;
+    ) -> Answer {
         for (count, word) in words.iter().enumerate() {
-            match self.tick_of(image, &state, *word) {
+            match self.tick_of(image, state, *word) {
                 Ok(advanced) => {
                     masks[count] = advanced.mask;
                     codes[count] = advanced.code;
-                    state = advanced.state;
+                    *state = advanced.state;
                 }
-                Err(number) => {
+                Err(refusal) => {
                     if self.fault == WritesTheResultOfAFullCall {
                         state.results[0] = !state.results[0];
                     }
-                    if self.fault == ClearsAtAFullStack && number == 17 {
+                    if self.fault == ClearsAtAFullStack && matches!(refusal, Refusal::Full { .. }) {
                         let top = state.places[usize::from(state.depth) - 1];
                         let called = image.labels[usize::from(top)].called;
                         state.results[usize::from(called) - 1] = false;
                     }
-                    return (Answer::Refused { number, index: 0, count }, state);
+                    return Err(refusal.after(count));
                 }
             }
         }
-        (Answer::Done(words.len()), state)
+        Ok(words.len())
     }
 
     /// What the idlers make of a run's outcome.
-    fn idle(&self, start: &State, ran: &mut (Answer, State), masks: &mut [u32], codes: &mut [u8]) {
-        let count = ran.0.count();
+    fn idle(
+        &self,
+        start: State,
+        state: &mut State,
+        answer: Answer,
+        masks: &mut [u32],
+        codes: &mut [u8],
+    ) -> Answer {
+        let count = answer.unwrap_or_else(Refusal::ticks);
         match self.fault {
             FullBeforeTheFirstTick => {
-                *ran = (Answer::Refused { number: 17, index: 0, count: 0 }, *start);
+                *state = start;
+                return Err(Refusal::Full { ticks: 0 });
             }
             AlwaysHome => codes[..count].fill(0x04),
             PlainAfterTheFirstCall => {
                 let call = codes[..count].iter().position(|c| *c >= 0x10);
                 codes[call.map_or(count, |k| k + 1)..count].fill(0);
             }
-            ChangesNothing => ran.1 = *start,
-            CountsOneMore => ran.0 = Answer::Done(count + 1),
+            ChangesNothing => *state = start,
+            CountsOneMore => return Ok(count + 1),
             WritesPastTheCount if count < masks.len() => masks[count] = 0,
             _ => {}
         }
+        answer
     }
 }
 
@@ -208,12 +215,12 @@ impl Library for Faulty {
     fn read_chart(&self, text: &[u8], out: &mut [u8]) -> Answer {
         let answer = entry::read_chart(text, out);
         match (self.fault, answer) {
-            (ReadsIntoShortBuffers, Answer::Refused { number: 16, .. }) => {
+            (ReadsIntoShortBuffers, Err(Refusal::NoRoom)) => {
                 out.iter_mut().for_each(|byte| *byte = 0);
                 answer
             }
-            (NamesTheFrameAfter, Answer::Refused { number: number @ 2..=9, index, count }) => {
-                Answer::Refused { number, index: index + 1, count }
+            (NamesTheFrameAfter, Err(refusal)) => {
+                told(refusal.number(), refusal.frame().map_or(0, |frame| frame + 1), 0)
             }
             _ => answer,
         }
@@ -222,7 +229,7 @@ impl Library for Faulty {
     fn write_chart(&self, records: &[u8], out: &mut [u8]) -> Answer {
         let answer = entry::write_chart(records, out);
         if self.fault == WritesSmallDigits {
-            out[..answer.count()].make_ascii_lowercase();
+            out[..answer.unwrap_or(0)].make_ascii_lowercase();
         }
         answer
     }
@@ -233,7 +240,7 @@ impl Library for Faulty {
         };
         let mut image = image_from_text(&image).unwrap();
         match self.fault {
-            TurnsAllChartsBack => return Answer::Refused { number: 10, index: 0, count: 0 },
+            TurnsAllChartsBack => return Err(Refusal::ManyRows),
             OneImageForAll => {
                 let begin_to_end = b"00010001000000000000FE\n01010000000000000000FE\n";
                 image = image_from_text(&entry::translated(begin_to_end).unwrap()).unwrap();
@@ -243,58 +250,59 @@ impl Library for Faulty {
         }
         let text = text_of(&image.frames());
         if out.len() < text.len() {
-            return Answer::Refused { number: 16, index: 0, count: 0 };
+            return Err(Refusal::NoRoom);
         }
         out[..text.len()].copy_from_slice(&text);
-        Answer::Done(text.len())
+        Ok(text.len())
     }
 
     fn check_image(&self, text: &[u8]) -> Answer {
         if self.fault == AcceptsAllImages {
-            return Answer::Done(0);
+            return Ok(0);
         }
         entry::check_image(text)
     }
 
-    fn fresh(&self, size: usize) -> (Answer, State) {
+    fn fresh(&self, size: usize) -> Result<State, Refusal> {
         if self.fault == FreshWith33Places && size == 33 {
-            return (Answer::Done(0), State { size: 33, ..entry::fresh(32).1 });
+            return Ok(State { size: 33, ..entry::fresh(32)? });
         }
         let made = entry::fresh(size);
-        *self.last.borrow_mut() = made.1;
+        *self.last.borrow_mut() = made.unwrap_or(State::NONE);
         made
     }
 
     fn run(
         &self,
         text: &[u8],
-        state: &State,
+        state: &mut State,
         words: &[u16],
         masks: &mut [u32],
         codes: &mut [u8],
-    ) -> (Answer, State) {
-        let refused = entry::run(text, state, words, &mut masks.to_vec(), &mut codes.to_vec());
-        match refused.0.number() {
-            0 | 17 | 18 => {}
-            16 if self.fault == ForgetsTheStateOnShortBuffers => return (refused.0, State::NONE),
-            _ => return refused,
+    ) -> Answer {
+        let start = *state;
+        let right = entry::run(text, &mut start.clone(), words, &mut masks.to_vec(), &mut codes.to_vec());
+        match right {
+            Ok(_) | Err(Refusal::Full { .. } | Refusal::NoRow { .. }) => {}
+            Err(_) => {
+                if self.fault == ForgetsTheStateOnShortBuffers && right == Err(Refusal::NoRoom) {
+                    *state = State::NONE;
+                }
+                return right;
+            }
         }
         if self.forgotten(state) {
             return entry::run(text, state, words, masks, codes);
         }
         let image = image_from_text(text).unwrap();
-        let mut ran = self.ticks(&image, state, words, masks, codes);
-        self.idle(state, &mut ran, masks, codes);
-        *self.last.borrow_mut() = ran.1;
-        ran
+        let answer = self.ticks(&image, state, words, masks, codes);
+        let answer = self.idle(start, state, answer, masks, codes);
+        *self.last.borrow_mut() = *state;
+        answer
     }
 
-    fn tick(&self, image: &[u8], state: &mut State, word: u16) -> TickReport {
-        let mut ticked = Reference.tick(image, state, word);
-        if self.fault == WritesARefusedTick && ticked.answer.number() != 0 {
-            ticked.code = 4;
-        }
-        ticked
+    fn tick(&self, image: &[u8], state: &mut State, word: u16) -> Result<Tick, Refusal> {
+        Reference.tick(image, state, word)
     }
 }
 

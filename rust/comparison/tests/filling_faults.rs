@@ -4,11 +4,12 @@
 mod common;
 
 use common::is_found;
+use reference::answer::refuse_if;
 use reference::entry::image_from_text;
-use reference::fillings::{each_list, stopped, Counts};
+use reference::fillings::{each_list, stopped};
 use reference::image::Image;
 use reference::machine::{self, handles};
-use reference::{fresh_state, Answer, FillingsReport, Library, State};
+use reference::{as_the_reference, fresh_state, Fillings, Library, Refusal, State};
 
 faults! {
     // which lists are tried
@@ -63,10 +64,6 @@ faults! {
     CutsTheSize,
     CutsTheTicks,
     CutsTheConditions,
-    NamesAFrameWith28,
-    // what is told besides
-    CountsTheListsWithSuccess,
-    TellsCountsWithARefusal,
 }
 
 /// The reference with one fault.
@@ -110,30 +107,21 @@ impl Faulty {
         }
     }
 
-    /// What is tried, in this library's order: the image and the fresh state, or the refusal with its frame.
+    /// What is tried, in this library's order: the image and the fresh state, or the refusal.
     fn tried(
         &self,
         text: &[u8],
         size: usize,
         ticks: usize,
         conditions: usize,
-    ) -> Result<(Image, State), (u8, usize)> {
+    ) -> Result<(Image, State), Refusal> {
         let many = self.too_many(ticks, conditions);
-        let named = if self.0 == NamesAFrameWith28 { ticks } else { 0 };
-        if self.0 == Tries28BeforeTheImage && many {
-            return Err((28, named));
-        }
-        if self.0 == Tries14BeforeTheImage && self.fresh(size).is_none() {
-            return Err((14, 0));
-        }
-        let image = image_from_text(text).map_err(|refusal| (refusal.number, refusal.index))?;
-        if self.0 == Tries28Before14 && many {
-            return Err((28, named));
-        }
-        let fresh = self.fresh(size).ok_or((14, 0))?;
-        if many {
-            return Err((28, named));
-        }
+        refuse_if(Refusal::ManyLists, self.0 == Tries28BeforeTheImage && many)?;
+        refuse_if(Refusal::BadSize, self.0 == Tries14BeforeTheImage && self.fresh(size).is_none())?;
+        let image = image_from_text(text)?;
+        refuse_if(Refusal::ManyLists, self.0 == Tries28Before14 && many)?;
+        let fresh = self.fresh(size).ok_or(Refusal::BadSize)?;
+        refuse_if(Refusal::ManyLists, many)?;
         Ok((image, fresh))
     }
 
@@ -171,23 +159,23 @@ impl Faulty {
     }
 
     /// The state that a list begins with, and the one that the list leaves.
-    fn run(&self, image: &Image, begin: &State, words: &[u16]) -> (Option<(u8, usize)>, State) {
+    fn run(&self, image: &Image, begin: &State, words: &[u16]) -> (Option<Refusal>, State) {
         let mut state = *begin;
         for (at, word) in words.iter().enumerate() {
             let full = state.depth == state.size && !handles(image, state.places[0]);
             match machine::tick(image, &state, *word) {
                 Ok(advanced) if advanced.code == 0x60 && full && self.0 == StopsAtADrop => {
-                    return (Some((17, at)), state);
+                    return (Some(Refusal::Full { ticks: at }), state);
                 }
                 Ok(advanced) => state = advanced.state,
-                Err(number) => return (Some((number, at)), state),
+                Err(refusal) => return (Some(refusal.after(at)), state),
             }
         }
         (None, state)
     }
 
     /// The counts of the lists by this library.
-    fn counts(&self, image: &Image, fresh: &State, ticks: usize, conditions: usize) -> Counts {
+    fn counts(&self, image: &Image, fresh: &State, ticks: usize, conditions: usize) -> Fillings {
         let mut image = image.clone();
         let mut begin = *fresh;
         match self.0 {
@@ -201,7 +189,7 @@ impl Faulty {
             SwapsTicksAndConditions if ticks <= 16 => (conditions, ticks),
             _ => (ticks, conditions),
         };
-        let mut counts = Counts::default();
+        let mut counts = Fillings::default();
         each_list(ticks, conditions, |words| {
             let Some(words) = self.list(words, conditions) else {
                 return;
@@ -215,12 +203,13 @@ impl Faulty {
         counts
     }
 
-    /// Counts one list, which is stopped by a number at a tick, or not.
-    fn count(&self, counts: &mut Counts, words: &[u16], stop: Option<(u8, usize)>) {
-        let Some((number, at)) = stop else {
+    /// Counts one list, which is stopped by a refusal, or not.
+    fn count(&self, counts: &mut Fillings, words: &[u16], stop: Option<Refusal>) {
+        let Some(refusal) = stop else {
             counts.ended += if self.0 == CountsAListOnceATick { words.len() as u32 } else { 1 };
             return;
         };
+        let at = refusal.ticks();
         let lists = match self.0 {
             // only the first of the lists that go on from there
             CountsAStopOnceForAllThatFollow => u32::from(words[at + 1..].iter().all(|word| *word == 0)),
@@ -233,11 +222,11 @@ impl Faulty {
             return;
         }
         counts.ended += u32::from(self.0 == CountsStoppedListsAsEndedToo);
-        match (self.0, number) {
+        match (self.0, refusal) {
             (Counts17As18, _) => counts.unmatched += lists,
             (Counts18As17, _) => counts.full += lists,
-            (Counts18AsEnded, 18) => counts.ended += lists,
-            (_, 17) => counts.full += lists,
+            (Counts18AsEnded, Refusal::NoRow { .. }) => counts.ended += lists,
+            (_, Refusal::Full { .. }) => counts.full += lists,
             _ => counts.unmatched += lists,
         }
     }
@@ -247,21 +236,20 @@ impl Library for Faulty {
     as_the_reference!(chart_calls, check_image, cause, list_rows, minimise, prepare, check_table, sum);
     as_the_reference!(run_calls, rebindings, spins, value_calls);
 
-    fn count_fillings(&self, text: &[u8], size: usize, ticks: usize, conditions: usize) -> FillingsReport {
+    fn count_fillings(
+        &self,
+        text: &[u8],
+        size: usize,
+        ticks: usize,
+        conditions: usize,
+    ) -> Result<Fillings, Refusal> {
         let (size, ticks, conditions) = match self.0 {
             CutsTheSize => (size & 0xFF, ticks, conditions),
             CutsTheTicks => (size, ticks & 0xFFFF_FFFF, conditions),
             CutsTheConditions => (size, ticks, conditions & 0xFF),
             _ => (size, ticks, conditions),
         };
-        let (image, fresh) = match self.tried(text, size, ticks, conditions) {
-            Ok(found) => found,
-            Err((number, index)) => {
-                let answer = Answer::Refused { number, index, count: 0 };
-                let told = u32::from(self.0 == TellsCountsWithARefusal);
-                return FillingsReport { answer, ended: told, full: 0, unmatched: 0 };
-            }
-        };
+        let (image, fresh) = self.tried(text, size, ticks, conditions)?;
         // what a fault lets through is counted as far as it can be
         let (ticks, conditions) = (ticks.min(65_537), conditions.min(16));
         let ticks = if ticks * conditions > 17 { 1 } else { ticks };
@@ -274,10 +262,7 @@ impl Library for Faulty {
             }
             _ => {}
         }
-        let lists = counts.ended + counts.full + counts.unmatched;
-        let count = if self.0 == CountsTheListsWithSuccess { lists as usize } else { 0 };
-        let Counts { ended, full, unmatched } = counts;
-        FillingsReport { answer: Answer::Done(count), ended, full, unmatched }
+        Ok(counts)
     }
 }
 
@@ -293,14 +278,13 @@ fn every_fault_is_found() {
 fn the_parts_alone_are_right() {
     let image = image_from_text(&entry_text()).expect("an accepted image");
     let fresh = fresh_state(2).expect("2 is a size");
-    // a fault in what is told leaves the counts as they are
-    let faulty = Faulty(CountsTheListsWithSuccess);
+    // a fault in what is refused leaves the counts as they are
+    let faulty = Faulty(Tries28Before14);
     each_list(6, 1, |words| {
-        let found = faulty.run(&image, &fresh, words).0.map(|(number, _)| number);
-        assert_eq!(found, stopped(&image, &fresh, words));
+        assert_eq!(faulty.run(&image, &fresh, words).0, stopped(&image, &fresh, words));
     });
     let counts = faulty.counts(&image, &fresh, 6, 1);
-    assert_eq!(counts, Counts { ended: 32, full: 32, unmatched: 0 });
+    assert_eq!(counts, Fillings { ended: 32, full: 32, unmatched: 0 });
 }
 
 /// The image of chart P.

@@ -11,14 +11,12 @@ use reference::entry::{self, image_from_text, translated};
 use reference::fillings::{each_list, too_many, walked};
 use reference::frames::{text_of, Frame};
 use reference::image::Image;
-use reference::{Answer, FillingsReport, Library};
+use reference::{Fillings, Library, Refusal};
 
 /// Ended, full and unmatched, of a call that is not refused.
 fn counts(image: &[u8], size: usize, ticks: usize, conditions: usize) -> (u32, u32, u32) {
-    let FillingsReport { answer, ended, full, unmatched } =
-        entry::count_fillings(image, size, ticks, conditions);
-    assert_eq!(answer, Answer::Done(0));
-    (ended, full, unmatched)
+    let counted = entry::count_fillings(image, size, ticks, conditions).expect("it is not refused");
+    (counted.ended, counted.full, counted.unmatched)
 }
 
 fn image_text(records: &[Frame]) -> Vec<u8> {
@@ -159,10 +157,7 @@ fn a_patched_image_is_counted_by_hand() {
     assert_eq!(counts(&image, 2, 4, 0), (0, 0, 1));
 }
 
-fn refused(number: u8) -> FillingsReport {
-    let answer = Answer::Refused { number, index: 0, count: 0 };
-    FillingsReport { answer, ended: 0, full: 0, unmatched: 0 }
-}
+const MANY: Result<Fillings, Refusal> = Err(Refusal::ManyLists);
 
 /// Each ground of 28 by itself, and products that are small where they wrap or are cut.
 #[test]
@@ -170,8 +165,8 @@ fn each_ground_is_refused_by_itself() {
     let image = image_text(&samples::chart_p());
     let refuses = |ticks: usize, conditions: usize| {
         for size in [1, 2, 32] {
-            assert_eq!(entry::count_fillings(&image, size, ticks, conditions), refused(28));
-            assert_eq!(Fast.count_fillings(&image, size, ticks, conditions), refused(28));
+            assert_eq!(entry::count_fillings(&image, size, ticks, conditions), MANY);
+            assert_eq!(Fast.count_fillings(&image, size, ticks, conditions), MANY);
         }
     };
     // the product
@@ -206,23 +201,22 @@ fn each_ground_is_refused_by_itself() {
     }
 }
 
-/// What the image check tries comes first, then 14, then 28; the counts are 0.
+/// What the image check tries comes first, then 14, then 28.
 #[test]
 fn refusals_are_tried_in_their_order() {
     let image = image_text(&samples::chart_p());
     let count = entry::count_fillings;
     for size in [0, 33, 256 + 1, usize::MAX] {
         for (ticks, conditions) in [(1, 1), (17, 1), (usize::MAX, usize::MAX)] {
-            assert_eq!(count(&image[..5], size, ticks, conditions), refused(1));
-            assert_eq!(count(&image, size, ticks, conditions), refused(14));
+            assert_eq!(count(&image[..5], size, ticks, conditions), Err(Refusal::BadLength));
+            assert_eq!(count(&image, size, ticks, conditions), Err(Refusal::BadSize));
         }
     }
-    assert_eq!(count(&image[..5], 2, 17, 1), refused(1));
+    assert_eq!(count(&image[..5], 2, 17, 1), Err(Refusal::BadLength));
     let mut characters = image.clone();
     characters[23] = b'x';
-    let second = Answer::Refused { number: 2, index: 1, count: 0 };
-    assert_eq!(count(&characters, 0, 17, 1), FillingsReport { answer: second, ..refused(2) });
-    assert_eq!(count(&characters, 2, 4, 1), FillingsReport { answer: second, ..refused(2) });
+    assert_eq!(count(&characters, 0, 17, 1), Err(Refusal::BadCharacter(1)));
+    assert_eq!(count(&characters, 2, 4, 1), Err(Refusal::BadCharacter(1)));
 }
 
 /// On images of any sort the three counts sum to the lists, and the two programs count alike.
@@ -235,10 +229,7 @@ fn the_counts_sum_to_the_lists() {
         let (size, ticks, conditions) = fillings::asked(random);
         let found = entry::count_fillings(&text, size, ticks, conditions);
         assert_eq!(found, Fast.count_fillings(&text, size, ticks, conditions), "seed {seed}");
-        if found.answer != Answer::Done(0) {
-            assert_eq!((found.ended, found.full, found.unmatched), (0, 0, 0), "seed {seed}");
-            continue;
-        }
+        let Ok(found) = found else { continue };
         assert_eq!(found.ended + found.full + found.unmatched, 1 << (ticks * conditions), "seed {seed}");
         let some = |counts: &[u32]| usize::from(counts.iter().all(|count| *count > 0));
         full += some(&[found.ended, found.full]);
@@ -264,11 +255,7 @@ fn on_a_translated_chart_the_walk_says_how_often_the_stack_fills() {
         let chart = chart_of(&records).expect("a valid chart");
         let full = walked(&chart, size, ticks, conditions);
         let ended = (1 << (ticks * conditions)) - full;
-        assert_eq!(
-            found,
-            FillingsReport { answer: Answer::Done(0), ended, full, unmatched: 0 },
-            "seed {seed}"
-        );
+        assert_eq!(found, Ok(Fillings { ended, full, unmatched: 0 }), "seed {seed}");
         some += usize::from(full > 0 && ended > 0);
         handled += usize::from(full > 0 && ended > 0 && chart.handler().is_some());
     }
@@ -285,7 +272,7 @@ fn samples_fill_the_stack_as_their_walks_say() {
         for size in 1..=4 {
             let found = entry::count_fillings(&image, size, 4, 2);
             let full = walked(&chart, size, 4, 2);
-            let wanted = FillingsReport { answer: Answer::Done(0), ended: 256 - full, full, unmatched: 0 };
+            let wanted = Ok(Fillings { ended: 256 - full, full, unmatched: 0 });
             assert_eq!(found, wanted, "{name} on {size} places");
             assert_eq!(Fast.count_fillings(&image, size, 4, 2), wanted, "{name} on {size} places");
         }

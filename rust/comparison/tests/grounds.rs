@@ -8,7 +8,7 @@ use reference::entry;
 use reference::frames::text_of;
 use reference::image::{image_of, Image};
 use reference::machine::{self, handles};
-use reference::State;
+use reference::{Refusal, State};
 
 /// What keeps a state of a good size and depth from fitting, each ground by itself.
 fn grounds(image: &Image, state: &State) -> Vec<&'static str> {
@@ -112,7 +112,7 @@ fn rebindings_fail_by_every_ground_alone() {
         let (before, text) = (state, text_of(&image.frames()));
         let answer = entry::rebind(&text, &mut state, number, scheme);
         let grounds = rebinding_grounds(image.entries.len(), image.handler, number, scheme);
-        assert_eq!(answer.number() == 22, !grounds.is_empty(), "seed {seed}: {grounds:?}");
+        assert_eq!(answer == Err(Refusal::BadRebinding), !grounds.is_empty(), "seed {seed}: {grounds:?}");
         if let [ground] = grounds[..] {
             *found.entry(ground).or_insert(0) += 1;
         } else if grounds.is_empty() {
@@ -173,7 +173,7 @@ fn lists_fail_by_every_ground_alone() {
         let text = text_of(&image.frames());
         let ticked =
             entry::spin(&mut lent.states, &mut lent.taken, lent.spindle, &text, random.number() as u16);
-        assert_eq!(ticked.answer.number() == 15, !grounds.is_empty(), "seed {seed}: {grounds:?}");
+        assert_eq!(ticked == Err(Refusal::Unfit), !grounds.is_empty(), "seed {seed}: {grounds:?}");
         match grounds[..] {
             [ground] => *found.entry(ground).or_insert(0) += 1,
             [] if misfits == 3 => *found.entry("in order, no other state fits").or_insert(0) += 1,

@@ -3,7 +3,7 @@
 
 use comparison::samples::with_handler;
 use reference::frames::{text_of, Frame};
-use reference::{entry, fresh_state, Answer, State};
+use reference::{entry, fresh_state, Answer, Refusal, State};
 
 /// The chart of the samples whose handler is scheme 3, with other calls in scheme 2 and in the handler.
 fn records(called: u8, handles: u8) -> Vec<Frame> {
@@ -24,14 +24,15 @@ fn state(image: &[u8], size: u8, places: &[u8], ones: &[usize]) -> State {
     state
 }
 
-fn refused(number: u8, count: usize) -> Answer {
-    Answer::Refused { number, index: 0, count }
+/// What a full stack answers after so many ticks.
+fn full(ticks: usize) -> Answer {
+    Err(Refusal::Full { ticks })
 }
 
 /// The answer of a run, its codes and masks, and the state after it.
 fn ran(image: &[u8], state: &State, words: &[u16]) -> (Answer, Vec<u8>, Vec<u32>, State) {
-    let (mut masks, mut codes) = (vec![0; words.len()], vec![0; words.len()]);
-    let (answer, after) = entry::run(image, state, words, &mut masks, &mut codes);
+    let (mut after, mut masks, mut codes) = (*state, vec![0; words.len()], vec![0; words.len()]);
+    let answer = entry::run(image, &mut after, words, &mut masks, &mut codes);
     (answer, codes, masks, after)
 }
 
@@ -40,7 +41,7 @@ fn ran(image: &[u8], state: &State, words: &[u16]) -> (Answer, Vec<u8>, Vec<u32>
 fn a_drop_leaves_the_handler_alone() {
     let image = image(2, 0);
     let full = state(&image, 2, &[2, 3], &[3, 4]);
-    let wanted = (Answer::Done(1), vec![0x60], vec![2], state(&image, 2, &[4], &[2, 4]));
+    let wanted = (Ok(1), vec![0x60], vec![2], state(&image, 2, &[4], &[2, 4]));
     assert_eq!(ran(&image, &full, &[0]), wanted);
 }
 
@@ -49,7 +50,7 @@ fn a_drop_leaves_the_handler_alone() {
 fn a_called_handler_is_dropped_too() {
     for image in [image(3, 2), image(3, 3)] {
         let full = state(&image, 3, &[2, 3, 4], &[]);
-        let wanted = (Answer::Done(1), vec![0x60], vec![4], state(&image, 3, &[4], &[]));
+        let wanted = (Ok(1), vec![0x60], vec![4], state(&image, 3, &[4], &[]));
         assert_eq!(ran(&image, &full, &[0]), wanted);
     }
 }
@@ -58,7 +59,7 @@ fn a_called_handler_is_dropped_too() {
 #[test]
 fn a_call_with_a_place_left_drops_nothing() {
     let image = image(2, 0);
-    let wanted = (Answer::Done(1), vec![0x12], vec![2], state(&image, 3, &[2, 3, 3], &[]));
+    let wanted = (Ok(1), vec![0x12], vec![2], state(&image, 3, &[2, 3, 3], &[]));
     assert_eq!(ran(&image, &state(&image, 3, &[2, 3], &[]), &[0]), wanted);
 }
 
@@ -66,12 +67,12 @@ fn a_call_with_a_place_left_drops_nothing() {
 fn with_the_handler_at_the_bottom_a_full_stack_is_17() {
     let image = image(2, 2);
     let alone = state(&image, 1, &[4], &[3]);
-    assert_eq!(ran(&image, &alone, &[0]), (refused(17, 0), vec![0], vec![0], alone));
+    assert_eq!(ran(&image, &alone, &[0]), (full(0), vec![0], vec![0], alone));
     let deep = state(&image, 2, &[4, 3], &[3]);
-    assert_eq!(ran(&image, &deep, &[0]), (refused(17, 0), vec![0], vec![0], deep));
+    assert_eq!(ran(&image, &deep, &[0]), (full(0), vec![0], vec![0], deep));
     // one place: the first call drops, and the handler's own call finds the stack full
     let (answer, codes, ..) = ran(&image, &fresh_state(1).unwrap(), &[0; 4]);
-    assert_eq!((answer, &codes[..2]), (refused(17, 2), &[0x04, 0x60][..]));
+    assert_eq!((answer, &codes[..2]), (full(2), &[0x04, 0x60][..]));
 }
 
 /// Mask 0 and code 03, any word, and the bits stay.
@@ -79,15 +80,14 @@ fn with_the_handler_at_the_bottom_a_full_stack_is_17() {
 fn the_handler_returns_to_label_0() {
     let image = image(2, 0);
     for word in [0, 1, 0xFFFF] {
-        let wanted = (Answer::Done(1), vec![0x03], vec![0], state(&image, 1, &[0], &[2, 3]));
+        let wanted = (Ok(1), vec![0x03], vec![0], state(&image, 1, &[0], &[2, 3]));
         assert_eq!(ran(&image, &state(&image, 1, &[1], &[2, 3]), &[word]), wanted);
     }
 }
 
 #[test]
 fn the_handler_may_stand_at_the_bottom_and_no_other() {
-    let fits =
-        |image: &[u8], places: &[u8]| ran(image, &state(image, 3, places, &[]), &[]).0 == Answer::Done(0);
+    let fits = |image: &[u8], places: &[u8]| ran(image, &state(image, 3, places, &[]), &[]).0 == Ok(0);
     let handled = image(2, 2);
     for places in [&[1][..], &[4], &[4, 3], &[4, 1]] {
         assert!(fits(&handled, places), "{places:?}");
@@ -104,28 +104,28 @@ fn the_handler_may_stand_at_the_bottom_and_no_other() {
 }
 
 /// The refusal of a chart whose Begins of schemes 1, 2 and 3 have these bytes 2, after a change to its records.
-fn refusal(marks: [u8; 3], change: fn(&mut Vec<Frame>)) -> Option<(u8, usize)> {
+fn refusal(marks: [u8; 3], change: fn(&mut Vec<Frame>)) -> Option<Refusal> {
     let mut records = records(2, 0);
     for (begin, mark) in [0, 3, 6].into_iter().zip(marks) {
         records[begin][2] = mark;
     }
     change(&mut records);
-    entry::chart_from_text(&text_of(&records)).err().map(|refusal| (refusal.number, refusal.index))
+    entry::chart_from_text(&text_of(&records)).err()
 }
 
 #[test]
 fn marks_are_refused_after_5_and_before_6() {
     assert_eq!(refusal([0, 0, 0], |_| {}), None);
     assert_eq!(refusal([0, 1, 0], |_| {}), None);
-    assert_eq!(refusal([1, 0, 0], |_| {}), Some((19, 0)));
-    assert_eq!(refusal([0, 1, 1], |_| {}), Some((19, 0)));
-    assert_eq!(refusal([1, 1, 2], |_| {}), Some((4, 6)));
-    assert_eq!(refusal([0, 255, 1], |_| {}), Some((4, 3)));
+    assert_eq!(refusal([1, 0, 0], |_| {}), Some(Refusal::BadMarks));
+    assert_eq!(refusal([0, 1, 1], |_| {}), Some(Refusal::BadMarks));
+    assert_eq!(refusal([1, 1, 2], |_| {}), Some(Refusal::BadField(6)));
+    assert_eq!(refusal([0, 255, 1], |_| {}), Some(Refusal::BadField(3)));
     let two_ends = |records: &mut Vec<Frame>| records[7] = records[8];
-    assert_eq!(refusal([1, 0, 0], two_ends), Some((5, 0)));
+    assert_eq!(refusal([1, 0, 0], two_ends), Some(Refusal::BadScheme));
     let bad_arc = |records: &mut Vec<Frame>| records[1][3] = 5;
-    assert_eq!(refusal([1, 0, 0], bad_arc), Some((19, 0)));
-    assert_eq!(refusal([0, 0, 1], bad_arc), Some((6, 1)));
+    assert_eq!(refusal([1, 0, 0], bad_arc), Some(Refusal::BadMarks));
+    assert_eq!(refusal([0, 0, 1], bad_arc), Some(Refusal::BadArc(1)));
 }
 
 #[test]
@@ -134,13 +134,13 @@ fn the_header_may_name_a_scheme_that_can_be_called() {
     for handler in 0..=255 {
         frames[0][5] = handler;
         let stands = matches!(handler, 0 | 2 | 3);
-        let wanted = if stands { Answer::Done(0) } else { refused(11, 0) };
+        let wanted = if stands { Ok(0) } else { Err(Refusal::BadHeader) };
         assert_eq!(entry::check_image(&text_of(&frames)), wanted, "byte 5 is {handler}");
     }
     frames[0][5] = 3;
     for byte in 6..10 {
         frames[0][byte] = 1;
-        assert_eq!(entry::check_image(&text_of(&frames)), refused(11, 0), "byte {byte}");
+        assert_eq!(entry::check_image(&text_of(&frames)), Err(Refusal::BadHeader), "byte {byte}");
         frames[0][byte] = 0;
     }
 }

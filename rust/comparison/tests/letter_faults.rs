@@ -4,7 +4,9 @@
 mod common;
 
 use common::is_found;
-use reference::{Answer, CauseReport, FillingsReport, Library, PricedReport, Prices, Reference, State};
+use reference::{
+    as_the_reference, Answer, Cause, Fillings, Library, PricedReport, Prices, Reference, Refusal, State,
+};
 
 /// Which character is read in the place of each.
 type Reading = fn(u8) -> u8;
@@ -62,18 +64,18 @@ impl Library for Misreading {
     fn run(
         &self,
         image: &[u8],
-        state: &State,
+        state: &mut State,
         words: &[u16],
         masks: &mut [u32],
         codes: &mut [u8],
-    ) -> (Answer, State) {
+    ) -> Answer {
         Reference.run(&self.read(image), state, words, masks, codes)
     }
 
     fn priced_run(
         &self,
         image: &[u8],
-        state: &State,
+        state: &mut State,
         prices: &Prices,
         words: &[u16],
         masks: &mut [u32],
@@ -82,7 +84,7 @@ impl Library for Misreading {
         Reference.priced_run(&self.read(image), state, prices, words, masks, codes)
     }
 
-    fn cause(&self, image: &[u8], state: &State, word: u16) -> CauseReport {
+    fn cause(&self, image: &[u8], state: &State, word: u16) -> Result<Cause, Refusal> {
         Reference.cause(&self.read(image), state, word)
     }
 
@@ -98,7 +100,13 @@ impl Library for Misreading {
         Reference.minimise(&self.read(image), out)
     }
 
-    fn count_fillings(&self, image: &[u8], size: usize, ticks: usize, conditions: usize) -> FillingsReport {
+    fn count_fillings(
+        &self,
+        image: &[u8],
+        size: usize,
+        ticks: usize,
+        conditions: usize,
+    ) -> Result<Fillings, Refusal> {
         Reference.count_fillings(&self.read(image), size, ticks, conditions)
     }
 

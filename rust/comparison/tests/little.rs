@@ -10,7 +10,7 @@ use reference::check::chart_of;
 use reference::entry::{chart_from_text, little_chart, write_chart};
 use reference::frames::{frames_of, text_of, Frame, CHART_TEXT};
 use reference::little::texts;
-use reference::{Answer, Library, Reference};
+use reference::{Library, Reference, Refusal};
 
 /// Whether an accepted chart is a little one.
 fn is_little(chart: &Chart) -> bool {
@@ -40,7 +40,7 @@ fn each_is_accepted_and_of_the_form_and_as_the_writer_writes_it() {
             assert_eq!(text.len(), 23 * count);
             assert!(is_little(&chart_from_text(text).expect("an accepted chart")));
             let mut out = vec![0; text.len()];
-            assert_eq!(write_chart(&frames(text).concat(), &mut out), Answer::Done(text.len()));
+            assert_eq!(write_chart(&frames(text).concat(), &mut out), Ok(text.len()));
             assert_eq!(out, *text);
         }
     }
@@ -109,22 +109,25 @@ fn the_first_is_the_example_home() {
 
 #[test]
 fn other_counts_and_numbers_past_the_last_are_refused_before_a_short_buffer() {
-    let refused = |number| Answer::Refused { number, index: 0, count: 0 };
     for (frames, number) in
         [(0, 0), (1, 0), (5, 0), (usize::MAX, 0), (2, 2), (3, 18), (4, 648), (2, usize::MAX)]
     {
         for room in [0, 45, 200] {
             let mut out = vec![9; room];
-            assert_eq!(little_chart(frames, number, &mut out), refused(24), "{frames} {number}");
+            assert_eq!(
+                little_chart(frames, number, &mut out),
+                Err(Refusal::NoLittleChart),
+                "{frames} {number}"
+            );
             assert!(out.iter().all(|byte| *byte == 9));
         }
     }
     for (frames, number) in [(2, 1), (3, 17), (4, 647)] {
         let mut short = vec![9; 23 * frames - 1];
-        assert_eq!(little_chart(frames, number, &mut short), refused(16));
+        assert_eq!(little_chart(frames, number, &mut short), Err(Refusal::NoRoom));
         assert!(short.iter().all(|byte| *byte == 9));
         let mut out = vec![9; 23 * frames + 7];
-        assert_eq!(little_chart(frames, number, &mut out), Answer::Done(23 * frames));
+        assert_eq!(little_chart(frames, number, &mut out), Ok(23 * frames));
         assert_eq!(out, [&texts(frames)[number][..], &[9; 7]].concat());
     }
 }

@@ -10,7 +10,7 @@ use reference::chart::{Kind, Node};
 use reference::check::chart_of;
 use reference::frames::{text_of, Frame};
 use reference::little::{charts, nodes};
-use reference::{Answer, Library};
+use reference::{as_the_reference, Answer, Library, Refusal};
 
 faults! {
     // which charts there are
@@ -53,7 +53,6 @@ faults! {
     LooksForRoomFirst,
     AsksForRoomForFourFrames,
     AsksForOneMore,
-    NamesTheNumber,
     WritesBeforeARefusal,
     WritesPastTheText,
     WritesSmallLetters,
@@ -65,10 +64,6 @@ faults! {
 struct Faulty {
     fault: Fault,
     lists: [OnceCell<Vec<Vec<u8>>>; 3],
-}
-
-fn refused(number: u8, index: usize) -> Answer {
-    Answer::Refused { number, index, count: 0 }
 }
 
 impl Faulty {
@@ -106,19 +101,19 @@ impl Faulty {
             .iter()
             .map(|record| if record[0] == 0 { [0, 1, 0, record[3], 0, 0, 0, 0, 0, 0] } else { *record })
             .collect();
-        let verdict = chart_of(&unmarked).map_err(|refusal| refusal.number);
-        let number = verdict.as_ref().err().copied();
+        let refusal = chart_of(&unmarked).err();
+        let but_for = |passed: fn(Refusal) -> bool| refusal.is_none_or(passed);
         let of_kind = |kind: u8| records.iter().filter(|record| record[0] == kind).count();
         match self.fault {
-            LetsMarksThrough => number.is_none(),
-            LetsCirclesThrough => number.is_none_or(|number| number == 8),
-            LetsCutOffNodesThrough => number.is_none_or(|number| number == 9),
+            LetsMarksThrough => refusal.is_none(),
+            LetsCirclesThrough => but_for(|refusal| matches!(refusal, Refusal::Circle(_))),
+            LetsCutOffNodesThrough => but_for(|refusal| matches!(refusal, Refusal::CutOff(_))),
             LetsTwoEndsThrough => {
-                number.is_none() || of_kind(0) == 1 && of_kind(1) == 2 && self.joins(records)
+                refusal.is_none() || of_kind(0) == 1 && of_kind(1) == 2 && self.joins(records)
             }
-            BeginsWithTheBegin => number.is_none() && records[0][0] == 0,
-            EndsWithTheEnd => number.is_none() && records[records.len() - 1][0] == 1,
-            _ => number.is_none() && chart_of(records).is_ok(),
+            BeginsWithTheBegin => refusal.is_none() && records[0][0] == 0,
+            EndsWithTheEnd => refusal.is_none() && records[records.len() - 1][0] == 1,
+            _ => refusal.is_none() && chart_of(records).is_ok(),
         }
     }
 
@@ -230,10 +225,10 @@ impl Library for Faulty {
 
     fn little_chart(&self, frames: usize, number: usize, out: &mut [u8]) -> Answer {
         if self.fault == LooksForRoomFirst && (2..=4).contains(&frames) && out.len() < 23 * frames {
-            return refused(16, 0);
+            return Err(Refusal::NoRoom);
         }
         let Some(text) = self.fetched(frames, number) else {
-            return refused(24, if self.fault == NamesTheNumber { number } else { 0 });
+            return Err(Refusal::NoLittleChart);
         };
         let asked = match self.fault {
             AsksForRoomForFourFrames => 92,
@@ -245,13 +240,13 @@ impl Library for Faulty {
                 let room = out.len().min(text.len());
                 out[..room].copy_from_slice(&text[..room]);
             }
-            return refused(16, 0);
+            return Err(Refusal::NoRoom);
         }
         out[..text.len()].copy_from_slice(&text);
         if let (WritesPastTheText, Some(past)) = (self.fault, out.get_mut(text.len())) {
             *past = !*past;
         }
-        Answer::Done(if self.fault == CountsFrames { frames } else { text.len() })
+        Ok(if self.fault == CountsFrames { frames } else { text.len() })
     }
 }
 

@@ -13,7 +13,7 @@ use reference::frames::text_of;
 use reference::image::{Image, Label, HOME, PLAIN, RETURN};
 use reference::live::Held;
 use reference::prepare::table_of;
-use reference::{entry, fresh_state, Answer, Library, Reference, State};
+use reference::{entry, fresh_state, Answer, Library, Reference, Refusal, State};
 
 /// How many random images are tried.
 const IMAGES: u64 = 2_000;
@@ -190,15 +190,15 @@ fn changed(changes: &[(usize, usize, u8)]) -> Vec<u8> {
 /// What a live run on these bytes answers from a fresh state of three places, and its codes.
 fn ran(table: &[u8], words: &[u16]) -> (Answer, Vec<u8>) {
     let (mut masks, mut codes) = (vec![0; words.len()], vec![0; words.len()]);
-    let state = fresh_state(3).expect("a good size");
-    let (answer, _) = entry::live_run(table, &state, words, &mut masks, &mut codes);
-    codes.truncate(answer.count());
+    let mut state = fresh_state(3).expect("a good size");
+    let answer = entry::live_run(table, &mut state, words, &mut masks, &mut codes);
+    codes.truncate(answer.unwrap_or_else(Refusal::ticks));
     (answer, codes)
 }
 
 #[test]
 fn the_header_alone_decides_on_11() {
-    let refused = Answer::Refused { number: 11, index: 0, count: 0 };
+    let refused = Err(Refusal::BadHeader);
     assert_eq!(ran(&[], &[0]).0, refused);
     let table = changed(&[]);
     assert_eq!(ran(&table[..119], &[0]).0, refused);
@@ -206,30 +206,32 @@ fn the_header_alone_decides_on_11() {
         assert_eq!(ran(&changed(&[(0, k, byte)]), &[0]).0, refused, "byte {k} is {byte}");
     }
     for (k, byte) in [(0, 77), (5, 2), (6, 77), (7, 77), (8, 77), (9, 77)] {
-        assert_eq!(ran(&changed(&[(0, k, byte)]), &[0]), (Answer::Done(1), vec![0x04]));
+        assert_eq!(ran(&changed(&[(0, k, byte)]), &[0]), (Ok(1), vec![0x04]));
     }
-    assert_eq!(ran(&[table, vec![1; 15]].concat(), &[0]).0, Answer::Done(1));
+    assert_eq!(ran(&[table, vec![1; 15]].concat(), &[0]).0, Ok(1));
 }
 
 #[test]
 fn ticks_on_faulty_tables_keep_the_rules() {
-    let refused = |number, count| Answer::Refused { number, index: 0, count };
     // a return at the bottom leads to label 0, with a handler and without
     for handler in [0, 2] {
         let to_return = [(0, 5, handler), (5, 2, 0), (8, 7, 1)];
-        assert_eq!(ran(&changed(&to_return), &[0; 4]), (Answer::Done(4), vec![0x04, 0x00, 0x03, 0x04]));
+        assert_eq!(ran(&changed(&to_return), &[0; 4]), (Ok(4), vec![0x04, 0x00, 0x03, 0x04]));
     }
     // a row to a label above the last
     let to_nothing = [(5, 2, 0), (8, 7, 5)];
-    assert_eq!(ran(&changed(&to_nothing), &[0, 0, 0]), (refused(18, 2), vec![0x04, 0x00]));
+    assert_eq!(ran(&changed(&to_nothing), &[0, 0, 0]), (Err(Refusal::NoRow { ticks: 2 }), vec![0x04, 0x00]));
     // home above a call: the entry of scheme 1 takes its place
     let home_above = [(2, 2, 0)];
-    assert_eq!(ran(&changed(&home_above), &[0; 4]), (Answer::Done(4), vec![0x04, 0x12, 0x04, 0x12]));
+    assert_eq!(ran(&changed(&home_above), &[0; 4]), (Ok(4), vec![0x04, 0x12, 0x04, 0x12]));
     // a call of a scheme above the last is one of scheme 0, which takes the entry of scheme 1
     let call_above = [(5, 3, 3)];
-    assert_eq!(ran(&changed(&call_above), &[0; 4]), (refused(17, 3), vec![0x04, 0x10, 0x10]));
+    assert_eq!(
+        ran(&changed(&call_above), &[0; 4]),
+        (Err(Refusal::Full { ticks: 3 }), vec![0x04, 0x10, 0x10])
+    );
     // where that fills the stack the handler follows, by an entry that may be scheme 1's, whose call drops again
     let handled = [(0, 5, 2), (2, 2, 2), (5, 3, 3)];
     let codes = vec![0x04, 0x10, 0x10, 0x60, 0x10, 0x10, 0x60];
-    assert_eq!(ran(&changed(&handled), &[0; 7]), (Answer::Done(7), codes));
+    assert_eq!(ran(&changed(&handled), &[0; 7]), (Ok(7), codes));
 }

@@ -10,7 +10,7 @@ use reference::frames::text_of;
 use reference::image::{image_of, Image, Label, Row, FUNCTION_CALL, PLAIN};
 use reference::machine::{fits, tick};
 use reference::minimise::{joined, lowest_members, matches, uneven};
-use reference::{Answer, State};
+use reference::{Refusal, State};
 
 /// Random accepted images of which each word and bit matches one row of each label.
 fn each_image(seeds: u64, drawn: fn(&mut Random) -> Image, mut look: impl FnMut(&Image, &mut Random)) {
@@ -147,9 +147,8 @@ fn the_smaller_image_ticks_as_the_given_one() {
                     drops += usize::from(made.code == 0x60);
                 }
                 (made, other) => {
-                    let number = |ticked: Result<_, u8>| ticked.map(|_| ()).unwrap_err();
-                    assert_eq!(number(made), 17);
-                    assert_eq!(number(other), 17);
+                    let full = Some(Refusal::Full { ticks: 0 });
+                    assert_eq!((made.err(), other.err()), (full, full));
                     return;
                 }
             }
@@ -179,10 +178,13 @@ fn a_word_and_bit_that_match_no_row_or_two_are_refused() {
     let refused = |kind, rows: &[(u16, u16, u8)]| {
         let text = text_of(&with_rows(kind, rows).frames());
         match entry::minimise(&text, &mut [0; 500]) {
-            Answer::Refused { number, index: 0, count: 0 } => number,
-            other => {
-                assert_eq!(other, Answer::Done(text.len()));
+            Ok(length) => {
+                assert_eq!(length, text.len());
                 0
+            }
+            Err(refusal) => {
+                assert_eq!(refusal, Refusal::Uneven);
+                23
             }
         }
     };
@@ -209,10 +211,10 @@ fn two_operations_of_one_mask_become_one() {
     assert_eq!((image_from_text(&image).expect("an image").labels.len(), wanted.labels.len()), (5, 4));
     assert!(wanted.rows[0].next == 3 && wanted.rows[1].next == 3 && wanted.rows.len() == 3);
     let mut out = vec![9; image.len()];
-    assert_eq!(entry::minimise(&image, &mut out), Answer::Done(smaller.len()));
+    assert_eq!(entry::minimise(&image, &mut out), Ok(smaller.len()));
     assert_eq!(out[..smaller.len()], smaller);
     assert!(out[smaller.len()..].iter().all(|byte| *byte == 9));
     let mut short = vec![9; smaller.len() - 1];
-    assert_eq!(entry::minimise(&image, &mut short), Answer::Refused { number: 16, index: 0, count: 0 });
+    assert_eq!(entry::minimise(&image, &mut short), Err(Refusal::NoRoom));
     assert!(short.iter().all(|byte| *byte == 9));
 }

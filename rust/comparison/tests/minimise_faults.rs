@@ -8,7 +8,7 @@ use reference::entry::image_from_text;
 use reference::frames::text_of;
 use reference::image::{Image, Label, Row};
 use reference::minimise::{lowest_members, matches, together, uneven};
-use reference::{Answer, Library, Reference};
+use reference::{as_the_reference, Answer, Library, Reference, Refusal};
 
 faults! {
     // which labels are joined
@@ -41,7 +41,6 @@ faults! {
     LooksAtReachedLabelsAlone,
     ForgetsTheLastLabel,
     LooksForRoomBefore23,
-    NamesTheLabelOf23,
     // what is written and counted
     AsksForRoomForTheGivenImage,
     WritesBeforeARefusal,
@@ -52,10 +51,6 @@ faults! {
 
 /// The reference with one fault.
 struct Faulty(Fault);
-
-fn refused(number: u8, index: usize) -> Answer {
-    Answer::Refused { number, index, count: 0 }
-}
 
 fn rows_of(image: &Image, label: usize) -> Vec<Row> {
     image.rows.iter().filter(|row| usize::from(row.from) == label).copied().collect()
@@ -236,10 +231,10 @@ impl Library for Faulty {
             return Reference.minimise(text, out);
         };
         if self.0 == LooksForRoomBefore23 && out.len() < text.len() / 2 {
-            return refused(16, 0);
+            return Err(Refusal::NoRoom);
         }
         if self.uneven(&image) {
-            return refused(23, if self.0 == NamesTheLabelOf23 { 1 + image.entries.len() } else { 0 });
+            return Err(Refusal::Uneven);
         }
         let smaller = text_of(&self.joined(&image).frames());
         let asked = if self.0 == AsksForRoomForTheGivenImage { text.len() } else { smaller.len() };
@@ -248,13 +243,13 @@ impl Library for Faulty {
                 let room = out.len().min(smaller.len());
                 out[..room].copy_from_slice(&smaller[..room]);
             }
-            return refused(16, 0);
+            return Err(Refusal::NoRoom);
         }
         out[..smaller.len()].copy_from_slice(&smaller);
         if let (WritesPastTheText, Some(past)) = (self.0, out.get_mut(smaller.len())) {
             *past = !*past;
         }
-        Answer::Done(match self.0 {
+        Ok(match self.0 {
             CountsLabels => self.joined(&image).labels.len(),
             CountsTheGivenImage => text.len(),
             _ => smaller.len(),

@@ -6,16 +6,16 @@ use comparison::generate::{chains, runs, Random};
 use reference::check::chart_of;
 use reference::frames::text_of;
 use reference::places::longest_chain;
-use reference::{entry, fresh_state, Answer};
+use reference::{entry, fresh_state, Answer, Refusal, Told};
 
 const WORDS: usize = 300;
 
 /// The answer of a run from a fresh state of this size, and the codes of its ticks.
 fn ran(image: &[u8], size: usize, words: &[u16]) -> (Answer, Vec<u8>) {
     let (mut masks, mut codes) = (vec![0; words.len()], vec![0; words.len()]);
-    let state = fresh_state(size).expect("1 to 32 places");
-    let (answer, _) = entry::run(image, &state, words, &mut masks, &mut codes);
-    codes.truncate(answer.count());
+    let mut state = fresh_state(size).expect("1 to 32 places");
+    let answer = entry::run(image, &mut state, words, &mut masks, &mut codes);
+    codes.truncate(answer.unwrap_or_else(Refusal::ticks));
     (answer, codes)
 }
 
@@ -26,13 +26,13 @@ fn with_so_many_places_no_call_finds_the_stack_full() {
     for seed in 0..4_000 {
         let random = &mut Random::new(seed);
         let text = text_of(&chains::chart(random));
-        let Answer::Done(places) = entry::places(&text) else { continue };
+        let Ok(places) = entry::places(&text) else { continue };
         let image = entry::translated(&text).expect("a chart that was counted");
         let words = runs::words(random, WORDS);
         let size = random.within(places, 32);
         for size in [places, size] {
             let (answer, codes) = ran(&image, size, &words);
-            assert_eq!(answer, Answer::Done(WORDS), "seed {seed}, {size} places");
+            assert_eq!(answer, Ok(WORDS), "seed {seed}, {size} places");
             assert!(!codes.contains(&0x60), "seed {seed}, {size} places");
         }
         kept += 1;
@@ -53,7 +53,7 @@ fn charts_need_every_number_of_places() {
     for seed in 0..8_000 {
         let records = chains::chart(&mut Random::new(seed));
         let answer = entry::places(&text_of(&records));
-        *counted.entry((answer.number(), answer.count())).or_insert(0) += 1;
+        *counted.entry((answer.number(), answer.unwrap_or(0))).or_insert(0) += 1;
         let chart = chart_of(&records).expect("a valid chart");
         let circle = (1..=chart.schemes()).any(|scheme| longest_chain(&chart, scheme).is_err());
         out_of_reach += usize::from(answer.number() == 0 && circle);

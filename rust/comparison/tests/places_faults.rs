@@ -4,13 +4,12 @@
 mod common;
 
 use common::is_found;
-use reference::answer::{answered, Refusal};
 use reference::chart::{Chart, Kind, Node};
 use reference::entry::{self, chart_from_text};
 use reference::frames::{frames_of, text_of, CHART_TEXT};
 use reference::places::longest_chain;
 use reference::translator::image_of;
-use reference::{Answer, Library};
+use reference::{as_the_reference, Answer, Library, Refusal};
 
 faults! {
     CountsCallsAndNotSchemes,
@@ -24,8 +23,6 @@ faults! {
     TriesCirclesBeforeMarks,
     TriesNoRows,
     CountsTheHandlerAsCalled,
-    NamesTheSchemeOfACircle,
-    CountsWithARefusal,
 }
 
 /// The reference with one fault.
@@ -73,7 +70,7 @@ fn within_reach(chart: &Chart) -> usize {
 }
 
 /// Refusal 10 before 20, unless the fault has it otherwise.
-fn counted(fault: Fault, chart: Chart) -> Result<usize, Refusal> {
+fn counted(fault: Fault, chart: Chart) -> Answer {
     match fault {
         TriesNoRows => return longest_chain(&chart, 1),
         TriesCirclesBeforeRows => {
@@ -95,7 +92,6 @@ fn counted(fault: Fault, chart: Chart) -> Result<usize, Refusal> {
         MissesACircle => Ok(longest.unwrap_or(within_reach(&chart))),
         CountsAtMostFifteen => longest.map(|count| count.min(15)),
         CountsTheHandlerAsCalled => longest_chain(&with_handler_called(chart), 1),
-        NamesTheSchemeOfACircle => longest.map_err(|refusal| Refusal { index: 1, ..refusal }),
         _ => longest,
     }
 }
@@ -114,18 +110,15 @@ impl Library for Faulty {
     );
 
     fn places(&self, text: &[u8]) -> Answer {
-        let answer = answered(chart_from_text(text).and_then(|chart| counted(self.0, chart)));
+        let answer = chart_from_text(text).and_then(|chart| counted(self.0, chart));
         match (self.0, answer) {
-            (TriesCirclesBeforeMarks, Answer::Refused { number: 19, .. }) => {
+            (TriesCirclesBeforeMarks, Err(Refusal::BadMarks)) => {
                 let later = entry::places(&unmarked(text));
-                if later.number() == 20 {
+                if later == Err(Refusal::CallsItself) {
                     later
                 } else {
                     answer
                 }
-            }
-            (CountsWithARefusal, Answer::Refused { number: 20, index, .. }) => {
-                Answer::Refused { number: 20, index, count: 16 }
             }
             _ => answer,
         }

@@ -9,7 +9,7 @@ use reference::frames::text_of;
 use reference::image::{image_of, Image, Label, Row, PLAIN};
 use reference::price::{cents, mask_price, price, PRICED_WORDS};
 use reference::walk::walk;
-use reference::{fresh_state, Answer, PricedReport, Prices, State};
+use reference::{fresh_state, PricedReport, Prices, Refusal, State, Told};
 
 /// Price 1 for bit 0, 2 for bit 1 and so on.
 fn rising() -> Prices {
@@ -51,17 +51,15 @@ fn all_on() -> (Vec<u8>, State) {
     (text_of(&image.frames()), state)
 }
 
-fn refused(number: u8) -> Answer {
-    Answer::Refused { number, index: 0, count: 0 }
-}
-
 #[test]
 fn the_largest_price_has_room() {
     let (image, state) = all_on();
     let words = vec![0; PRICED_WORDS];
     let (mut masks, mut codes) = (vec![0; PRICED_WORDS], vec![9; PRICED_WORDS]);
-    let priced = entry::priced_run(&image, &state, &[u16::MAX; 32], &words, &mut masks, &mut codes);
-    assert_eq!(priced, PricedReport { answer: Answer::Done(PRICED_WORDS), state, price: 1_374_368_563 });
+    let mut after = state;
+    let priced = entry::priced_run(&image, &mut after, &[u16::MAX; 32], &words, &mut masks, &mut codes);
+    assert_eq!(priced, PricedReport { answer: Ok(PRICED_WORDS), price: 1_374_368_563 });
+    assert_eq!(after, state);
     assert!(masks.iter().all(|mask| *mask == u32::MAX) && codes.iter().all(|code| *code == 0));
 }
 
@@ -72,20 +70,20 @@ fn refusals_are_tried_in_their_order() {
     let unfit = State { depth: 2, ..state };
     let words = vec![0; PRICED_WORDS + 1];
     let answer = |image: &[u8], state: &State, words: &[u16], room: usize| {
-        let (mut masks, mut codes) = (vec![7; room], vec![7; room]);
-        let priced = entry::priced_run(image, state, &[u16::MAX; 32], words, &mut masks, &mut codes);
-        assert_eq!((priced.price, priced.state), (0, *state));
+        let (mut after, mut masks, mut codes) = (*state, vec![7; room], vec![7; room]);
+        let priced = entry::priced_run(image, &mut after, &[u16::MAX; 32], words, &mut masks, &mut codes);
+        assert_eq!((priced.price, after), (0, *state));
         assert!(masks.iter().all(|mask| *mask == 7) && codes.iter().all(|code| *code == 7));
         priced.answer
     };
     for room in [0, PRICED_WORDS, PRICED_WORDS + 1] {
-        assert_eq!(answer(&image[..5], &state, &words, room), refused(1));
-        assert_eq!(answer(&image, &unfit, &words, room), refused(15));
-        assert_eq!(answer(&image, &state, &words, room), refused(27));
+        assert_eq!(answer(&image[..5], &state, &words, room), Err(Refusal::BadLength));
+        assert_eq!(answer(&image, &unfit, &words, room), Err(Refusal::Unfit));
+        assert_eq!(answer(&image, &state, &words, room), Err(Refusal::ManyWords));
     }
-    assert_eq!(answer(&image, &unfit, &words[1..], 0), refused(15));
+    assert_eq!(answer(&image, &unfit, &words[1..], 0), Err(Refusal::Unfit));
     for room in [0, PRICED_WORDS - 1] {
-        assert_eq!(answer(&image, &state, &words[1..], room), refused(16));
+        assert_eq!(answer(&image, &state, &words[1..], room), Err(Refusal::NoRoom));
     }
 }
 
@@ -96,15 +94,15 @@ fn a_run_that_is_stopped_is_priced_as_far_as_it_came() {
     let words = [0, 0, 1, 0, 0, 0, 0, 0];
     let priced = |places: usize, list: &Prices| {
         let (mut masks, mut codes) = ([0; 8], [0; 8]);
-        let state = fresh_state(places).expect("a size");
-        let priced = entry::priced_run(&image, &state, list, &words, &mut masks, &mut codes);
+        let mut state = fresh_state(places).expect("a size");
+        let priced = entry::priced_run(&image, &mut state, list, &words, &mut masks, &mut codes);
         (priced.answer, priced.price)
     };
     let mut list = [0; 32];
     (list[0], list[1]) = (150, 1_000);
-    assert_eq!(priced(3, &list), (Answer::Done(8), 12));
-    assert_eq!(priced(2, &list), (Answer::Refused { number: 17, index: 0, count: 3 }, 2));
-    assert_eq!(priced(1, &list), (Answer::Refused { number: 17, index: 0, count: 1 }, 0));
+    assert_eq!(priced(3, &list), (Ok(8), 12));
+    assert_eq!(priced(2, &list), (Err(Refusal::Full { ticks: 3 }), 2));
+    assert_eq!(priced(1, &list), (Err(Refusal::Full { ticks: 1 }), 0));
 }
 
 #[test]
@@ -117,12 +115,17 @@ fn all_else_is_the_runs_and_the_price_is_that_of_the_masks_written() {
         let (text, run, list) = (text_of(&image.frames()), runs::run(random, 30), prices::list(random));
         let (mut masks, mut codes) = (run.masks.clone(), run.codes.clone());
         let (mut priced_masks, mut priced_codes) = (run.masks.clone(), run.codes.clone());
-        let (answer, after) = entry::run(&text, &state, &run.words, &mut masks, &mut codes);
-        let priced =
-            entry::priced_run(&text, &state, &list, &run.words, &mut priced_masks, &mut priced_codes);
-        assert_eq!((priced.answer, priced.state), (answer, after), "seed {seed}");
+        let (mut after, mut priced_after) = (state, state);
+        let answer = entry::run(&text, &mut after, &run.words, &mut masks, &mut codes);
+        let (lent, words) = (&mut priced_after, &run.words);
+        let priced = entry::priced_run(&text, lent, &list, words, &mut priced_masks, &mut priced_codes);
+        assert_eq!((priced.answer, priced_after), (answer, after), "seed {seed}");
         assert_eq!((&priced_masks, &priced_codes), (&masks, &codes), "seed {seed}");
-        assert_eq!(priced.price, price(&list, &masks[..answer.count()]), "seed {seed}");
+        assert_eq!(
+            priced.price,
+            price(&list, &masks[..answer.unwrap_or_else(Refusal::ticks)]),
+            "seed {seed}"
+        );
         answers[usize::from(answer.number())] += 1;
     }
     assert!([0, 15, 16, 17, 18].iter().all(|number| answers[*number] > 50), "{answers:?}");
@@ -136,11 +139,12 @@ fn from_a_fresh_state_the_price_is_that_of_the_walks_same_ticks() {
         let (records, image) = images::translated(random);
         let size = random.pick(&[1, 2, 3, 5, 32]);
         let (words, list) = (runs::words(random, 60), prices::list(random));
-        let state = fresh_state(size).expect("a size");
+        let mut state = fresh_state(size).expect("a size");
         let text = text_of(&image.frames());
-        let priced = entry::priced_run(&text, &state, &list, &words, &mut [0; 60], &mut [0; 60]);
+        let priced = entry::priced_run(&text, &mut state, &list, &words, &mut [0; 60], &mut [0; 60]);
         let ticks = walk(&chart_of(&records).expect("a valid chart"), size, &words);
-        let walked: Vec<u32> = ticks.iter().take(priced.answer.count()).map(|tick| tick.mask).collect();
+        let finished = priced.answer.unwrap_or_else(Refusal::ticks);
+        let walked: Vec<u32> = ticks.iter().take(finished).map(|tick| tick.mask).collect();
         assert_eq!(priced.price, price(&list, &walked), "seed {seed}");
         stopped += usize::from(priced.answer.number() == 17);
     }

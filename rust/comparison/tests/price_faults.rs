@@ -6,10 +6,11 @@ mod common;
 use std::cell::Cell;
 
 use common::is_found;
+use reference::answer::refuse_if;
 use reference::entry::{self, image_from_text};
 use reference::machine;
 use reference::price::{cents, hundredths, mask_price, PRICED_WORDS};
-use reference::{Answer, Library, PricedReport, Prices, State};
+use reference::{as_the_reference, Library, PricedReport, Prices, Refusal, State, Told};
 
 faults! {
     // what is summed
@@ -82,34 +83,22 @@ impl Faulty {
     }
 
     /// What is tried before the ticks, in this library's order.
-    fn refusal(&self, text: &[u8], state: &State, words: usize, room: usize) -> Option<Answer> {
-        let refused = |number| Some(Answer::Refused { number, index: 0, count: 0 });
+    fn tried(&self, text: &[u8], state: &State, words: usize, room: usize) -> Result<(), Refusal> {
         let many = match self.fault {
             TriesTheRoomFor27 => words.min(room) > self.most(),
             RunsTheFirst65536Words => false,
             _ => words > self.most(),
         };
         if self.fault == Tries27BeforeTheImage && many {
-            return refused(27);
+            return Err(Refusal::ManyWords);
         }
-        let image = match image_from_text(text) {
-            Ok(image) => image,
-            Err(refusal) => return Some(refusal.into()),
-        };
+        let image = image_from_text(text)?;
         let (fits, short) = (machine::fits(&image, state), room < words);
-        let first = if self.fault == Tries27Before15 && many { Some(27) } else { None };
-        let number = first.or(if !fits {
-            Some(15)
-        } else if self.fault == Tries27After16 && short {
-            Some(16)
-        } else if many {
-            Some(27)
-        } else if short {
-            Some(16)
-        } else {
-            None
-        });
-        number.and_then(refused)
+        refuse_if(Refusal::ManyWords, self.fault == Tries27Before15 && many)?;
+        refuse_if(Refusal::Unfit, !fits)?;
+        refuse_if(Refusal::NoRoom, self.fault == Tries27After16 && short)?;
+        refuse_if(Refusal::ManyWords, many)?;
+        refuse_if(Refusal::NoRoom, short)
     }
 
     /// The prices as this library takes them.
@@ -166,7 +155,7 @@ impl Library for Faulty {
     fn priced_run(
         &self,
         image: &[u8],
-        state: &State,
+        state: &mut State,
         prices: &Prices,
         words: &[u16],
         masks: &mut [u32],
@@ -176,20 +165,20 @@ impl Library for Faulty {
             RunsTheFirst65536Words => &words[..words.len().min(PRICED_WORDS)],
             _ => words,
         };
-        if let Some(answer) = self.refusal(image, state, words.len(), masks.len().min(codes.len())) {
+        if let Err(refusal) = self.tried(image, state, words.len(), masks.len().min(codes.len())) {
             let price = if self.fault == KeepsThePriceFromBefore { self.last.get() } else { 0 };
-            return PricedReport { answer, state: *state, price };
+            return PricedReport { answer: Err(refusal), price };
         }
-        let before = masks.to_vec();
-        let (answer, after) = entry::run(image, state, words, masks, codes);
-        let count = answer.count();
+        let (start, before) = (*state, masks.to_vec());
+        let answer = entry::run(image, state, words, masks, codes);
+        let count = answer.unwrap_or_else(Refusal::ticks);
         let finished = match self.fault {
             PricesTheWholeBuffer => masks.to_vec(),
             PricesTheMasksBeforeTheRun => before[..count].to_vec(),
             PricesTheCodes => codes[..count].iter().map(|code| u32::from(*code)).collect(),
             ForgetsTheLastTick => masks[..count.saturating_sub(1)].to_vec(),
             PricesTheRefusedTick if count < words.len() => {
-                [&masks[..count], &[next_mask(image, &after)]].concat()
+                [&masks[..count], &[next_mask(image, state)]].concat()
             }
             _ => masks[..count].to_vec(),
         };
@@ -203,8 +192,10 @@ impl Library for Faulty {
             _ => {}
         }
         self.last.set(price);
-        let state = if self.fault == KeepsTheState { *state } else { after };
-        PricedReport { answer, state, price }
+        if self.fault == KeepsTheState {
+            *state = start;
+        }
+        PricedReport { answer, price }
     }
 }
 

@@ -11,7 +11,7 @@ use reference::entry::{self, image_from_text, run_ticks};
 use reference::image::{Image, Row};
 use reference::live::Held;
 use reference::machine::{self, matching, row_label, Advanced};
-use reference::{Answer, Library, State};
+use reference::{as_the_reference, Answer, Library, Refusal, State};
 
 faults! {
     TakesTheFirst,
@@ -52,7 +52,7 @@ impl Faulty {
     }
 
     /// A tick takes one row at most: the others are left out.
-    fn tick_of(&self, image: &Image, state: &State, word: u16) -> Result<Advanced, u8> {
+    fn tick_of(&self, image: &Image, state: &State, word: u16) -> Result<Advanced, Refusal> {
         let Some(from) = row_label(image, state) else {
             return machine::tick(image, state, word);
         };
@@ -61,7 +61,7 @@ impl Faulty {
         machine::tick(&Image { rows, ..image.clone() }, state, word)
     }
 
-    fn live_tick_of(&self, held: &Held, state: &State, word: u16) -> Result<Advanced, u8> {
+    fn live_tick_of(&self, held: &Held, state: &State, word: u16) -> Result<Advanced, Refusal> {
         let mut held = held.clone();
         if let Some(from) = held.row_label(state) {
             let taken = self.taken(&held.matching(from, &state.results, word));
@@ -73,39 +73,45 @@ impl Faulty {
     }
 }
 
+/// Whether a run comes to its ticks.
+fn ticks(answer: Answer) -> bool {
+    matches!(answer, Ok(_) | Err(Refusal::Full { .. } | Refusal::NoRow { .. }))
+}
+
 impl Library for Faulty {
     as_the_reference!(chart_calls, image_calls, priced_run, rebindings, spins, value_calls);
 
     fn run(
         &self,
         text: &[u8],
-        state: &State,
+        state: &mut State,
         words: &[u16],
         masks: &mut [u32],
         codes: &mut [u8],
-    ) -> (Answer, State) {
-        let right = entry::run(text, state, words, &mut masks.to_vec(), &mut codes.to_vec());
-        if self.live || !matches!(right.0.number(), 0 | 17 | 18) {
+    ) -> Answer {
+        let right = entry::run(text, &mut state.clone(), words, &mut masks.to_vec(), &mut codes.to_vec());
+        if self.live || !ticks(right) {
             return entry::run(text, state, words, masks, codes);
         }
         let image = image_from_text(text).expect("an accepted image");
-        run_ticks(|state, word| self.tick_of(&image, state, word), *state, words, masks, codes)
+        run_ticks(|state, word| self.tick_of(&image, state, word), state, words, masks, codes)
     }
 
     fn live_run(
         &self,
         table: &[u8],
-        state: &State,
+        state: &mut State,
         words: &[u16],
         masks: &mut [u32],
         codes: &mut [u8],
-    ) -> (Answer, State) {
-        let right = entry::live_run(table, state, words, &mut masks.to_vec(), &mut codes.to_vec());
-        if !self.live || !matches!(right.0.number(), 0 | 17 | 18) {
+    ) -> Answer {
+        let right =
+            entry::live_run(table, &mut state.clone(), words, &mut masks.to_vec(), &mut codes.to_vec());
+        if !self.live || !ticks(right) {
             return entry::live_run(table, state, words, masks, codes);
         }
         let held = Held::of(table).expect("a header in order");
-        run_ticks(|state, word| self.live_tick_of(&held, state, word), *state, words, masks, codes)
+        run_ticks(|state, word| self.live_tick_of(&held, state, word), state, words, masks, codes)
     }
 }
 

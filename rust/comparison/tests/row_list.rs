@@ -7,7 +7,7 @@ use reference::frames::text_of;
 use reference::image::{image_of, Image};
 use reference::machine::{row_label, tick};
 use reference::row_list::row_list;
-use reference::Answer;
+use reference::{Answer, Refusal};
 
 /// Random images that are accepted, patched ones among them.
 fn each_image(mut look: impl FnMut(&Image, &mut Random)) {
@@ -69,11 +69,11 @@ fn listed(image: &[u8], room: [usize; 2]) -> (Answer, Vec<u16>, Vec<u16>) {
 fn the_rows_of_chart_p() {
     let image = entry::translated(&text_of(&samples::chart_p())).expect("a valid chart");
     let (answer, firsts, counts) = listed(&image, [6, 7]);
-    assert_eq!(answer, Answer::Done(5));
+    assert_eq!(answer, Ok(5));
     assert_eq!(firsts, [0, 0, 0, 1, 3, 9]);
     assert_eq!(counts, [0, 0, 1, 2, 1, 9, 9]);
     for room in [[4, 5], [5, 4], [0, 0]] {
-        let refused = Answer::Refused { number: 16, index: 0, count: 0 };
+        let refused = Err(Refusal::NoRoom);
         assert_eq!(listed(&image, room), (refused, vec![9; room[0]], vec![9; room[1]]));
     }
 }

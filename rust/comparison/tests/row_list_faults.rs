@@ -7,7 +7,7 @@ use common::is_found;
 use reference::entry::image_from_text;
 use reference::image::Image;
 use reference::row_list::row_list;
-use reference::{Answer, Library, Reference};
+use reference::{as_the_reference, Answer, Library, Reference, Refusal};
 
 faults! {
     // what is listed
@@ -35,10 +35,6 @@ faults! {
 
 /// The reference with one fault.
 struct Faulty(Fault);
-
-fn refused(number: u8) -> Answer {
-    Answer::Refused { number, index: 0, count: 0 }
-}
 
 impl Faulty {
     /// The first and the number of rows that are listed for a label, by those that should be.
@@ -111,7 +107,7 @@ impl Library for Faulty {
 
     fn list_rows(&self, text: &[u8], firsts: &mut [u16], counts: &mut [u16]) -> Answer {
         if self.0 == LooksForRoomFirst && firsts.len().min(counts.len()) < 2 {
-            return refused(16);
+            return Err(Refusal::NoRoom);
         }
         let Ok(image) = image_from_text(text) else {
             return Reference.list_rows(text, firsts, counts);
@@ -123,14 +119,14 @@ impl Library for Faulty {
                 WritesCountsBeforeARefusal => write(&all_counts, counts),
                 _ => {}
             }
-            return refused(16);
+            return Err(Refusal::NoRoom);
         }
         write(&all_firsts, firsts);
         write(&all_counts, counts);
         if let (WritesPastTheLabels, Some(past)) = (self.0, counts.get_mut(image.labels.len())) {
             *past = !*past;
         }
-        Answer::Done(match self.0 {
+        Ok(match self.0 {
             CountsTheLastLabel => image.labels.len() - 1,
             CountsRows => image.rows.len(),
             _ => image.labels.len(),

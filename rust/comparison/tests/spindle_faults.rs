@@ -5,11 +5,10 @@ mod common;
 
 use common::is_found;
 use comparison::compare::compare_spins;
-use reference::answer::{ticked, Refusal};
 use reference::entry::image_from_text;
 use reference::live::Held;
 use reference::machine::{self, Advanced};
-use reference::{Answer, Library, Reference, State, TickReport};
+use reference::{as_the_reference, Library, Reference, Refusal, State, Tick};
 
 faults! {
     // 25
@@ -43,7 +42,6 @@ faults! {
     RecordChangedBy26,
     RecordChangedBy17,
     StateChangedBy26,
-    MaskWrittenBy26,
     // what a tick that is made changes
     AdvancesTheNeighbour,
     AdvancesTheNeighbourToo,
@@ -57,7 +55,6 @@ faults! {
     DropTakesAPlace,
     ReturnAtTheBottomGivesAPlaceBack,
     RecordsTheDepth,
-    CountsNothing,
 }
 
 /// The reference with one fault, in its live calls or in the others.
@@ -69,7 +66,7 @@ struct Faulty {
 /// What a tick is made on.
 struct Ground<'a> {
     fits: &'a dyn Fn(&State) -> bool,
-    tick: &'a dyn Fn(&State) -> Result<Advanced, u8>,
+    tick: &'a dyn Fn(&State) -> Result<Advanced, Refusal>,
 }
 
 /// Whether a tick is a finished call, a return above depth 1, a drop, or a return at depth 1.
@@ -156,15 +153,17 @@ impl Faulty {
         taken: &mut usize,
         spindle: usize,
         ground: &Ground,
-    ) -> Result<(u32, u8), Refusal> {
+    ) -> Result<Tick, Refusal> {
         let own = if self.fault == TicksTheFirstState { 0 } else { spindle };
         let before = states[own];
         let full = *taken >= self.store();
         let advanced = match (ground.tick)(&before) {
-            Err(17) if self.fault == TriesPlacesBeforeTheStack && full => return Err(Refusal::of(26)),
-            Err(number) => {
-                *taken += usize::from(self.fault == RecordChangedBy17 && number == 17);
-                return Err(Refusal::of(number));
+            Err(Refusal::Full { .. }) if self.fault == TriesPlacesBeforeTheStack && full => {
+                return Err(Refusal::NoPlace)
+            }
+            Err(refusal) => {
+                *taken += usize::from(self.fault == RecordChangedBy17 && refusal.number() == 17);
+                return Err(refusal);
             }
             Ok(advanced) => advanced,
         };
@@ -174,7 +173,8 @@ impl Faulty {
                 states[own] = advanced.state;
             }
             *taken += usize::from(self.fault == RecordChangedBy26);
-            return Err(Refusal::of(if self.fault == Refuses26As17 { 17 } else { 26 }));
+            let as_17 = self.fault == Refuses26As17;
+            return Err(if as_17 { Refusal::Full { ticks: 0 } } else { Refusal::NoPlace });
         }
         *taken = self.recorded(*taken, before.depth.into(), advanced.state.depth.into(), kind);
         let neighbour = (own + 1) % states.len();
@@ -188,7 +188,7 @@ impl Faulty {
             }
             _ => states[own] = advanced.state,
         }
-        Ok((advanced.mask, advanced.code))
+        Ok(Tick { mask: advanced.mask, code: advanced.code })
     }
 
     fn spun(
@@ -197,7 +197,7 @@ impl Faulty {
         taken: &mut usize,
         spindle: usize,
         ground: Result<Ground, Refusal>,
-    ) -> TickReport {
+    ) -> Result<Tick, Refusal> {
         let late = matches!(self.fault, TriesTheSpindleAfterTheImage | TriesTheSpindleAfterTheList);
         let number = match self.fault {
             CutsTheSpindle => spindle & 0xFF,
@@ -205,35 +205,27 @@ impl Faulty {
             _ => spindle,
         };
         if number > 3 && !late {
-            return ticked(Err(Refusal::of(25)));
+            return Err(Refusal::NoSpindle);
         }
         if self.fault == TriesTheListBeforeTheImage && states.len() != 4 {
-            return ticked(Err(Refusal::of(15)));
+            return Err(Refusal::Unfit);
         }
-        let ground = match ground {
-            Ok(ground) => ground,
-            Err(refusal) => return ticked(Err(refusal)),
-        };
+        let ground = ground?;
         if number > 3 && self.fault == TriesTheSpindleAfterTheImage {
-            return ticked(Err(Refusal::of(25)));
+            return Err(Refusal::NoSpindle);
         }
         let tried = if self.fault == TriesTheFirstState { 0 } else { number % 4 };
         let ordered = self.in_order(states, *taken, number % 4, &ground);
         if !ordered || !states.get(tried).is_some_and(ground.fits) {
-            return ticked(Err(Refusal::of(15)));
+            return Err(Refusal::Unfit);
         }
         if number > 3 {
-            return ticked(Err(Refusal::of(25)));
+            return Err(Refusal::NoSpindle);
         }
         if !(ground.fits)(&states[number]) || !(ground.fits)(&states[0]) && self.fault == TicksTheFirstState {
-            return TickReport { answer: Answer::Done(1), mask: 0, code: 0 };
+            return Ok(Tick { mask: 0, code: 0 });
         }
-        let made = ticked(self.turned(states, taken, number, &ground));
-        match (self.fault, made.answer.number()) {
-            (CountsNothing, 0) => TickReport { answer: Answer::Done(0), ..made },
-            (MaskWrittenBy26, 26) => TickReport { mask: 1, code: 0x12, ..made },
-            _ => made,
-        }
+        self.turned(states, taken, number, &ground)
     }
 }
 
@@ -247,7 +239,7 @@ impl Library for Faulty {
         spindle: usize,
         image: &[u8],
         word: u16,
-    ) -> TickReport {
+    ) -> Result<Tick, Refusal> {
         if self.live {
             return Reference.spin(states, taken, spindle, image, word);
         }
@@ -268,7 +260,7 @@ impl Library for Faulty {
         spindle: usize,
         table: &[u8],
         word: u16,
-    ) -> TickReport {
+    ) -> Result<Tick, Refusal> {
         if !self.live {
             return Reference.live_spin(states, taken, spindle, table, word);
         }

@@ -9,7 +9,7 @@ use reference::entry::{image_from_text, live_spin, spin, translated};
 use reference::frames::text_of;
 use reference::image::Image;
 use reference::prepare::table_of;
-use reference::{fresh_state, Answer, Reference, State, TickReport};
+use reference::{fresh_state, Reference, Refusal, State, Tick, Told};
 
 /// The images of chart P, which calls as long as condition 0 is 1, and of a chart that calls whatever the word is, with a handler.
 fn chart_p_image() -> Vec<u8> {
@@ -37,7 +37,7 @@ fn head(sizes: [usize; 4]) -> Head {
 
 impl Head {
     /// The tick of a spindle by the image and, from the same head, by the table: the same.
-    fn spin(&mut self, spindle: usize, image: &[u8], word: u16) -> TickReport {
+    fn spin(&mut self, spindle: usize, image: &[u8], word: u16) -> Result<Tick, Refusal> {
         let (mut states, mut taken) = (self.states.clone(), self.taken);
         let live = live_spin(&mut states, &mut taken, spindle, &table(image), word);
         let ticked = spin(&mut self.states, &mut self.taken, spindle, image, word);
@@ -47,11 +47,7 @@ impl Head {
 
     /// So many ticks of a spindle that are not refused.
     fn spins(&mut self, spindle: usize, image: &[u8], word: u16, count: usize) -> Vec<u8> {
-        let codes = (0..count).map(|_| {
-            let ticked = self.spin(spindle, image, word);
-            assert_eq!(ticked.answer, Answer::Done(1));
-            ticked.code
-        });
+        let codes = (0..count).map(|_| self.spin(spindle, image, word).expect("it is not refused").code);
         codes.collect()
     }
 
@@ -60,15 +56,11 @@ impl Head {
     }
 
     /// A refused tick, by image and table, leaves all as it was.
-    fn refused(&mut self, number: u8, spindle: usize, image: &[u8], word: u16) {
+    fn refused(&mut self, refusal: Refusal, spindle: usize, image: &[u8], word: u16) {
         let (states, taken) = (self.states.clone(), self.taken);
-        assert_eq!(self.spin(spindle, image, word), refused(number));
+        assert_eq!(self.spin(spindle, image, word), Err(refusal));
         assert_eq!((&self.states, self.taken), (&states, taken));
     }
-}
-
-fn refused(number: u8) -> TickReport {
-    TickReport { answer: Answer::Refused { number, index: 0, count: 0 }, mask: 0, code: 0 }
 }
 
 #[test]
@@ -81,7 +73,7 @@ fn a_call_takes_a_place_and_a_return_gives_it_back() {
     let codes = [0x04, 0x12, 0x00, 0x12, 0x00, 0x03, 0x03, 0x04];
     for ((word, taken), code) in words.into_iter().zip(taken).zip(codes) {
         let ticked = head.spin(2, &image, word);
-        assert_eq!((ticked.answer, ticked.code, head.taken), (Answer::Done(1), code, taken));
+        assert_eq!((ticked.map(|tick| tick.code), head.taken), (Ok(code), taken));
         assert_eq!(head.depths(), [1, 1, taken as u8 - 3, 1]);
     }
 }
@@ -130,7 +122,7 @@ fn a_call_that_finds_no_place_is_refused_until_one_is_given_back() {
     // a home tick needs no place, and then the call does
     assert_eq!(head.spins(3, &image, 0, 1), [0x04]);
     for _ in 0..3 {
-        head.refused(26, 3, &image, 0);
+        head.refused(Refusal::NoPlace, 3, &image, 0);
     }
     // a drop needs none and gives back fifteen
     assert_eq!(head.spins(1, &image, 0, 1), [0x60]);
@@ -152,9 +144,9 @@ fn a_call_on_a_full_stack_gets_17_and_not_26() {
         assert_eq!(head.spins(spindle, &image, 1, 1), [0x00]);
     }
     for spindle in [0, 2, 3] {
-        head.refused(17, spindle, &image, 0);
+        head.refused(Refusal::Full { ticks: 0 }, spindle, &image, 0);
     }
-    head.refused(26, 1, &image, 0);
+    head.refused(Refusal::NoPlace, 1, &image, 0);
 }
 
 #[test]
@@ -176,13 +168,13 @@ fn refusals_come_in_their_order() {
     let image = chart_p_image();
     let mut states = vec![State::NONE; 3];
     for spindle in [4, 255, 256, 1 << 32, usize::MAX] {
-        assert_eq!(spin(&mut states, &mut 99, spindle, &[], 0), refused(25));
-        assert_eq!(live_spin(&mut states, &mut 99, spindle, &[], 0), refused(25));
+        assert_eq!(spin(&mut states, &mut 99, spindle, &[], 0), Err(Refusal::NoSpindle));
+        assert_eq!(live_spin(&mut states, &mut 99, spindle, &[], 0), Err(Refusal::NoSpindle));
     }
-    assert_eq!(spin(&mut states, &mut 99, 3, &image[1..], 0), refused(1));
-    assert_eq!(live_spin(&mut states, &mut 99, 3, &[], 0), refused(11));
-    assert_eq!(spin(&mut states, &mut 99, 3, &image, 0), refused(15));
-    assert_eq!(live_spin(&mut states, &mut 99, 3, &table(&image), 0), refused(15));
+    assert_eq!(spin(&mut states, &mut 99, 3, &image[1..], 0), Err(Refusal::BadLength));
+    assert_eq!(live_spin(&mut states, &mut 99, 3, &[], 0), Err(Refusal::BadHeader));
+    assert_eq!(spin(&mut states, &mut 99, 3, &image, 0), Err(Refusal::Unfit));
+    assert_eq!(live_spin(&mut states, &mut 99, 3, &table(&image), 0), Err(Refusal::Unfit));
     assert_eq!(states, [State::NONE; 3]);
 }
 
@@ -192,27 +184,27 @@ fn a_list_out_of_order_is_refused() {
     let image = chart_p_image();
     for length in [0, 1, 2, 3, 5, 8] {
         let mut head = Head { states: vec![fresh_state(3).expect("a good size"); length], taken: length };
-        head.refused(15, 0, &image, 0);
+        head.refused(Refusal::Unfit, 0, &image, 0);
     }
     for taken in [0, 3, 5, 64, 65, 260, 65_540, (1 << 32) + 4, usize::MAX] {
         let mut head = Head { taken, ..head([3; 4]) };
-        head.refused(15, 0, &image, 0);
+        head.refused(Refusal::Unfit, 0, &image, 0);
     }
     // depths that sum to the record, which is above 64 or holds a byte of it
     for (depth, taken) in [(62, 65), (255, 258), (253, 0), (255, 2)] {
         let mut head = head([3; 4]);
         (head.states[1].depth, head.taken) = (depth, taken);
-        head.refused(15, 0, &image, 0);
+        head.refused(Refusal::Unfit, 0, &image, 0);
     }
     let mut head = head([3; 4]);
     head.states[0].places[2] = 1;
-    head.refused(15, 0, &image, 0);
+    head.refused(Refusal::Unfit, 0, &image, 0);
     // a spindle that takes no place at all, or all but three
     assert_eq!(head.spins(1, &image, 0, 1), [0x04]);
     (head.states[2].depth, head.taken) = (0, 3);
     assert_eq!(head.spins(3, &image, 0, 1), [0x04]);
     (head.states[2].depth, head.taken) = (61, 64);
-    head.refused(26, 1, &image, 0);
+    head.refused(Refusal::NoPlace, 1, &image, 0);
 }
 
 /// What paper 02 counts: finished calls, returns above depth 1, and places given back by drops. A code 60 is no call.
@@ -265,9 +257,9 @@ fn the_depths_sum_to_what_is_counted() {
             }
             let depth = usize::from(head.states[spindle].depth);
             let ticked = live_spin(&mut head.states, &mut head.taken, spindle, &tables[spindle], word);
-            answers[usize::from(ticked.answer.number())] += 1;
-            if ticked.answer == Answer::Done(1) {
-                tally.note(ticked.code, depth);
+            answers[usize::from(ticked.number())] += 1;
+            if let Ok(tick) = ticked {
+                tally.note(tick.code, depth);
             }
             let sum = head.depths().into_iter().map(usize::from).sum::<usize>();
             assert_eq!((sum, head.taken), (tally.places(), sum), "seed {seed}");
@@ -314,7 +306,7 @@ fn of_the_other_spindles_only_the_depths_are_read() {
             (ticked, own, taken)
         };
         assert_eq!(made(&given), made(&changed), "seed {seed}");
-        answers[usize::from(made(&given).0.answer.number())] += 1;
+        answers[usize::from(made(&given).0.number())] += 1;
     }
     assert!([0, 15, 17, 18, 25, 26].iter().all(|number| answers[*number] > 100), "{answers:?}");
 }

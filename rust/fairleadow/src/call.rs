@@ -12,7 +12,7 @@ pub(crate) fn answered(call: impl FnOnce(*mut u64, *mut u64) -> u32) -> Result<u
     let (index, count) = (index as usize, count as usize);
     match number {
         0 => Ok(count),
-        number => Err(Refusal::told(number, index, count)),
+        number => Err(Refusal::told(number, index, count).unwrap_or(Refusal::Other(number))),
     }
 }
 

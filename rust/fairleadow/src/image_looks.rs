@@ -3,7 +3,7 @@
 use core::ops::Range;
 
 use crate::call::{answered, length};
-use crate::{c, Image, Refusal, State, LABELS};
+use crate::{c, Fillings, Image, Refusal, State, LABELS};
 
 /// What makes a tick go where it goes.
 #[derive(Clone, Copy, Debug, PartialEq, Eq)]
@@ -14,17 +14,6 @@ pub struct Cause {
     pub mask: u16,
     /// The result bit of the number called, where the row is a function's.
     pub bit: Option<bool>,
-}
-
-/// Of all lists of words that were tried, how many come to which end.
-#[derive(Clone, Copy, Debug, PartialEq, Eq)]
-pub struct Fillings {
-    /// Those that come to their end.
-    pub ended: u32,
-    /// Those that are stopped by [`Refusal::Full`].
-    pub full: u32,
-    /// Those that are stopped by [`Refusal::NoRow`]; none on an image that the translator wrote.
-    pub unmatched: u32,
 }
 
 /// The rows of each label.

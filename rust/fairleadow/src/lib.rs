@@ -51,9 +51,6 @@
 #![no_std]
 #![warn(missing_docs, clippy::must_use_candidate)]
 
-#[cfg(test)]
-extern crate std;
-
 mod buffer;
 #[doc(hidden)]
 #[allow(missing_docs, clippy::must_use_candidate)]
@@ -64,7 +61,6 @@ mod image;
 mod image_looks;
 mod image_runs;
 mod machine;
-mod refusal;
 mod spindles;
 mod state;
 mod table;
@@ -73,16 +69,15 @@ mod tick;
 pub use buffer::Buffer;
 pub use chart::Chart;
 pub use image::Image;
-pub use image_looks::{Cause, Fillings, Listing};
+pub use image_looks::{Cause, Listing};
 pub use image_runs::Priced;
 #[doc(inline)]
 pub use interface::{
-    Prices, CHART_TEXT, CONDITIONS, COUNTED_BITS, COUNTED_TICKS, FRAME, FRAMES, IMAGE_TEXT, LABELS, LINE,
-    LITTLE_FRAMES, LITTLE_TEXT, NODES, OPERATIONS, PLACES, PRICED_WORDS, RECORD, RECORDS, RELEASE, ROWS,
-    SCHEMES, SPINDLES, STORE, TABLE, VERSION,
+    Fillings, Prices, Refusal, CHART_TEXT, CONDITIONS, COUNTED_BITS, COUNTED_TICKS, FRAME, FRAMES,
+    IMAGE_TEXT, LABELS, LINE, LITTLE_FRAMES, LITTLE_TEXT, NODES, OPERATIONS, PLACES, PRICED_WORDS, RECORD,
+    RECORDS, RELEASE, ROWS, SCHEMES, SPINDLES, STORE, TABLE, VERSION,
 };
 pub use machine::Machine;
-pub use refusal::Refusal;
 pub use spindles::Spindles;
 pub use state::{State, STATE_BYTES};
 pub use table::{sum, Table};

@@ -27,10 +27,12 @@ fn hold_image(text: &[u8]) {
 fn hold_run(text: &[u8], size: usize) {
     let state = fresh_state(size).expect("a good size");
     let (mut masks, mut codes) = ([7; WORDS.len()], [7; WORDS.len()]);
-    let wanted = entry::run(text, &state, &WORDS, &mut masks, &mut codes);
+    let (mut after, mut given_after) = (state, state);
+    let wanted = entry::run(text, &mut after, &WORDS, &mut masks, &mut codes);
     let (mut given_masks, mut given_codes) = ([7; WORDS.len()], [7; WORDS.len()]);
-    let given = Proved.run(text, &state, &WORDS, &mut given_masks, &mut given_codes);
-    assert_eq!((wanted, masks, codes), (given, given_masks, given_codes), "{}", text.escape_ascii());
+    let given = Proved.run(text, &mut given_after, &WORDS, &mut given_masks, &mut given_codes);
+    let left = (given, given_after, given_masks, given_codes);
+    assert_eq!((wanted, after, masks, codes), left, "{}", text.escape_ascii());
 }
 
 /// Every character becomes each of these in turn.

@@ -9,7 +9,7 @@ use reference::check::chart_of;
 use reference::entry::translated;
 use reference::fillings::walked;
 use reference::frames::{text_of, Frame};
-use reference::{FillingsReport, Reference};
+use reference::{Fillings, Reference};
 
 /// Number, index and count, and the three counts, which are filled before.
 type Told = ((u8, u64, u64), [u32; 3]);
@@ -116,7 +116,7 @@ fn as_many_lists_as_there_may_be() {
                 longest = longest.max(begun.elapsed().as_secs_f64());
                 let place = format!("{name}, {size} places, {ticks} ticks, {conditions} conditions");
                 assert_eq!(got, Reference.count_fillings(&image, size, ticks, conditions), "{place}");
-                let FillingsReport { ended, full, unmatched, .. } = got;
+                let Fillings { ended, full, unmatched } = got.expect(&place);
                 assert_eq!((ended + full, unmatched), (1 << (ticks * conditions), 0), "{place}");
                 // the walk goes on past a call that is too deep, and never comes back from that of scheme 2
                 if ticks <= 16 {

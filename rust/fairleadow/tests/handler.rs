@@ -2,20 +2,20 @@
 //! leave in the buffers.
 
 use comparison::samples::with_handler;
-use proved::{Answer, Library, Proved, State, IMAGE_TEXT, TABLE};
+use proved::{Answer, Library, Proved, Refusal, State, Tick, IMAGE_TEXT, TABLE};
 use reference::entry::image_from_text;
 use reference::frames::{text_of, Frame};
 
 fn image() -> Vec<u8> {
     let mut image = vec![0; IMAGE_TEXT];
-    let length = Proved.translate(&text_of(&with_handler()), &mut image).ok().expect("a valid chart");
+    let length = Proved.translate(&text_of(&with_handler()), &mut image).expect("a valid chart");
     image.truncate(length);
     image
 }
 
 fn table() -> Vec<u8> {
     let mut table = vec![0; TABLE];
-    let length = Proved.prepare(&image(), &mut table).ok().expect("an accepted image");
+    let length = Proved.prepare(&image(), &mut table).expect("an accepted image");
     table.truncate(length);
     table
 }
@@ -48,7 +48,7 @@ fn a_full_stack_is_dropped_and_handled() {
         (0x04, 0, 2, [false, true, true, true]),
     ] {
         let ticked = Proved.tick(&image, &mut state, 0xFFFF);
-        assert_eq!((ticked.answer, ticked.code, ticked.mask), (Answer::Done(1), code, mask));
+        assert_eq!(ticked, Ok(Tick { mask, code }));
         assert_eq!((state.size, state.depth, state.places[0]), (2, 1, bottom));
         for above in [&state.places[1..], &state.numbers[1..], &state.servers[1..]] {
             assert!(above.iter().all(|byte| *byte == 0));
@@ -80,8 +80,7 @@ fn refusals(marks: [u8; 3]) -> [Answer; 3] {
 
 #[test]
 fn a_mark_on_scheme_1_and_a_second_mark_are_refused() {
-    let refused = |number, index| [Answer::Refused { number, index, count: 0 }; 3];
-    assert_eq!(refusals([1, 0, 0]), refused(19, 0));
-    assert_eq!(refusals([0, 1, 1]), refused(19, 0));
-    assert_eq!(refusals([1, 0, 2]), refused(4, 6));
+    assert_eq!(refusals([1, 0, 0]), [Err(Refusal::BadMarks); 3]);
+    assert_eq!(refusals([0, 1, 1]), [Err(Refusal::BadMarks); 3]);
+    assert_eq!(refusals([1, 0, 2]), [Err(Refusal::BadField(6)); 3]);
 }

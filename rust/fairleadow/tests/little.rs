@@ -1,7 +1,7 @@
 //! Every little chart that the library has: they are those of the reference, and translated and run they make the ticks of the walk.
 
 use comparison::compare::{run_little_charts, Tried};
-use proved::{Library, Proved, LITTLE_TEXT};
+use proved::{Library, Proved, Refusal, LITTLE_TEXT};
 use reference::little::texts;
 use reference::Reference;
 
@@ -18,8 +18,8 @@ fn each_number_of_each_count_is_fetched_as_by_the_reference() {
                 };
                 let (got, wanted) = (made(&Proved), made(&Reference));
                 assert_eq!(got, wanted, "{frames} frames, number {number}, room for {room}");
-                fetched += usize::from(got.0.number() == 0);
-                refused += usize::from(got.0.number() == 24);
+                fetched += usize::from(got.0.is_ok());
+                refused += usize::from(got.0 == Err(Refusal::NoLittleChart));
             }
         }
     }

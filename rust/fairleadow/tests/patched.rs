@@ -17,9 +17,9 @@ fn words(ticks: &str) -> Vec<u16> {
 /// A line for each tick: its word, its code and its mask.
 fn ticks(library: &dyn Library, image: &str, words: &[u16]) -> String {
     let (mut masks, mut codes) = (vec![0; words.len()], vec![0; words.len()]);
-    let state = fresh_state(32).expect("a good size");
-    let (answer, _) = library.run(image.as_bytes(), &state, words, &mut masks, &mut codes);
-    assert_eq!(answer.ok(), Ok(words.len()));
+    let mut state = fresh_state(32).expect("a good size");
+    let answer = library.run(image.as_bytes(), &mut state, words, &mut masks, &mut codes);
+    assert_eq!(answer, Ok(words.len()));
     let line = |k: usize| format!("{:04X} {:02X} {:08X}\n", words[k], codes[k], masks[k]);
     (0..words.len()).map(line).collect()
 }

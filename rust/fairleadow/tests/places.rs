@@ -1,7 +1,7 @@
 //! How many places a chart's calls need, by the proved library, on charts by hand.
 
 use comparison::samples::{most_schemes, with_handler};
-use proved::{Answer, Library, Proved};
+use proved::{Answer, Library, Proved, Refusal};
 use reference::frames::{text_of, Frame};
 
 /// A scheme of one operation that calls this scheme, or none if it is 0; its first node has this number.
@@ -22,26 +22,22 @@ fn places(records: &[Frame]) -> Answer {
     Proved.places(&text_of(records))
 }
 
-fn refused(number: u8, index: usize) -> Answer {
-    Answer::Refused { number, index, count: 0 }
-}
-
 #[test]
 fn the_longest_chain_counts_scheme_1() {
-    assert_eq!(places(&chart(&[0])), Answer::Done(1));
-    assert_eq!(places(&chart(&[2, 3, 0])), Answer::Done(3));
-    assert_eq!(places(&chart(&[3, 0, 2])), Answer::Done(3));
-    assert_eq!(places(&chart(&[0, 3, 0])), Answer::Done(1));
-    assert_eq!(places(&most_schemes()), Answer::Done(16));
+    assert_eq!(places(&chart(&[0])), Ok(1));
+    assert_eq!(places(&chart(&[2, 3, 0])), Ok(3));
+    assert_eq!(places(&chart(&[3, 0, 2])), Ok(3));
+    assert_eq!(places(&chart(&[0, 3, 0])), Ok(1));
+    assert_eq!(places(&most_schemes()), Ok(16));
 }
 
 #[test]
 fn a_function_calls_too() {
     let mut records = chart(&[2, 3, 0]);
     records[4] = [4, 2, 3, 5, 5, 0, 0, 0, 0, 0];
-    assert_eq!(places(&records), Answer::Done(3));
+    assert_eq!(places(&records), Ok(3));
     records[4][2] = 2;
-    assert_eq!(places(&records), refused(20, 0));
+    assert_eq!(places(&records), Err(Refusal::CallsItself));
 }
 
 /// Condition 0 is tested twice in a row, so that no words lead to the operation of scheme 1 that calls.
@@ -59,20 +55,20 @@ fn a_call_that_no_words_lead_to_counts() {
         scheme(2, 6, 0).to_vec(),
     ]
     .concat();
-    assert_eq!(places(&records), Answer::Done(2));
+    assert_eq!(places(&records), Ok(2));
 }
 
 #[test]
 fn a_circle_within_reach_is_refused() {
-    assert_eq!(places(&chart(&[2, 2])), refused(20, 0));
-    assert_eq!(places(&chart(&[2, 3, 2])), refused(20, 0));
-    assert_eq!(places(&with_handler()), refused(20, 0));
+    assert_eq!(places(&chart(&[2, 2])), Err(Refusal::CallsItself));
+    assert_eq!(places(&chart(&[2, 3, 2])), Err(Refusal::CallsItself));
+    assert_eq!(places(&with_handler()), Err(Refusal::CallsItself));
 }
 
 #[test]
 fn a_circle_out_of_reach_does_not_matter() {
-    assert_eq!(places(&chart(&[0, 2])), Answer::Done(1));
-    assert_eq!(places(&chart(&[4, 3, 2, 0])), Answer::Done(2));
+    assert_eq!(places(&chart(&[0, 2])), Ok(1));
+    assert_eq!(places(&chart(&[4, 3, 2, 0])), Ok(2));
 }
 
 /// A drop starts the handler and is no call.
@@ -80,19 +76,19 @@ fn a_circle_out_of_reach_does_not_matter() {
 fn the_handler_counts_where_it_is_called() {
     let mut records = chart(&[2, 0, 2]);
     records[6][2] = 1;
-    assert_eq!(places(&records), Answer::Done(2));
+    assert_eq!(places(&records), Ok(2));
     records[1][2] = 3;
-    assert_eq!(places(&records), Answer::Done(3));
+    assert_eq!(places(&records), Ok(3));
 }
 
 #[test]
 fn refusals_of_the_chart_come_first() {
     let mut records = chart(&[2, 2]);
     records[0][2] = 1;
-    assert_eq!(places(&records), refused(19, 0));
+    assert_eq!(places(&records), Err(Refusal::BadMarks));
     records[0][2] = 2;
-    assert_eq!(places(&records), refused(4, 0));
-    assert_eq!(Proved.places(b""), refused(1, 0));
+    assert_eq!(places(&records), Err(Refusal::BadField(0)));
+    assert_eq!(Proved.places(b""), Err(Refusal::BadLength));
 }
 
 /// Eleven different conditions before the End of scheme 2, which calls itself: 2,048 rows and a circle.
@@ -105,7 +101,7 @@ fn too_many_rows_come_before_a_circle() {
         records.push([3, 2, number, next, next, 0, 0, 0, 0, 0]);
     }
     records.push(end);
-    assert_eq!(places(&records), refused(10, 0));
+    assert_eq!(places(&records), Err(Refusal::ManyRows));
     records[4][2] = 0;
-    assert_eq!(places(&records), refused(10, 0));
+    assert_eq!(places(&records), Err(Refusal::ManyRows));
 }

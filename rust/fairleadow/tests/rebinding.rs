@@ -2,7 +2,7 @@
 
 use comparison::generate::{images, runs, states, Random};
 use comparison::samples::{most_schemes, with_handler};
-use proved::{c, Answer, Library, Proved, TABLE};
+use proved::{c, Library, Proved, TABLE};
 use reference::entry::translated;
 use reference::frames::text_of;
 use reference::image::image_of;
@@ -15,7 +15,7 @@ fn image() -> Vec<u8> {
 
 fn prepared(image: &[u8]) -> Vec<u8> {
     let mut table = vec![0; TABLE];
-    let length = Proved.prepare(image, &mut table).ok().expect("an accepted image");
+    let length = Proved.prepare(image, &mut table).expect("an accepted image");
     table.truncate(length);
     table
 }
@@ -101,13 +101,13 @@ fn every_byte_of_a_state_at_every_value() {
     let image = image();
     let table = prepared(&image);
     let mut deep = fresh_state(4).expect("a good size");
-    assert_eq!(Proved.rebind(&image, &mut deep, 2, 3), Answer::Done(0));
+    assert_eq!(Proved.rebind(&image, &mut deep, 2, 3), Ok(0));
     // home, a call of 2 that scheme 3 serves, its operation; then back to scheme 2
     for _ in 0..2 {
-        assert_eq!(Proved.tick(&image, &mut deep, 0).answer, Answer::Done(1));
+        Proved.tick(&image, &mut deep, 0).expect("it is not refused");
     }
     assert_eq!((deep.numbers[1], deep.servers[1]), (2, 3));
-    assert_eq!(Proved.rebind(&image, &mut deep, 2, 2), Answer::Done(0));
+    assert_eq!(Proved.rebind(&image, &mut deep, 2, 2), Ok(0));
     for start in [fresh_state(4).expect("a good size"), deep] {
         for at in 0..130 {
             for byte in 0..=255 {
@@ -157,13 +157,9 @@ fn a_rebinding_is_taken_back_by_another() {
         let table = table_of(&image).concat();
         let (number, scheme) = runs::rebinding(random, image.entries.len());
         let mut state = start;
-        if Proved.live_rebind(&table, &mut state, number, scheme) == Answer::Done(0) {
+        if Proved.live_rebind(&table, &mut state, number, scheme) == Ok(0) {
             let before = usize::from(start.serving[number - 1]);
-            assert_eq!(
-                Proved.live_rebind(&table, &mut state, number, before),
-                Answer::Done(0),
-                "seed {seed}"
-            );
+            assert_eq!(Proved.live_rebind(&table, &mut state, number, before), Ok(0), "seed {seed}");
             made += 1;
         }
         assert_eq!(state, start, "seed {seed}");

@@ -2,7 +2,7 @@
 //! numbers of all widths.
 
 use comparison::samples::with_handler;
-use proved::{c, Answer, Library, Proved, TickReport, SPINDLES, TABLE};
+use proved::{c, Library, Proved, Refusal, Tick, SPINDLES, TABLE};
 use reference::entry::translated;
 use reference::frames::text_of;
 use reference::{fresh_state, Reference, State};
@@ -20,7 +20,7 @@ fn image() -> Vec<u8> {
 
 fn prepared(image: &[u8]) -> Vec<u8> {
     let mut table = vec![0; TABLE];
-    let length = Proved.prepare(image, &mut table).ok().expect("an accepted image");
+    let length = Proved.prepare(image, &mut table).expect("an accepted image");
     table.truncate(length);
     table
 }
@@ -153,7 +153,7 @@ fn made(
     ground: &[u8],
     start: &[State],
     taken: usize,
-) -> (TickReport, Vec<State>, usize) {
+) -> (Result<Tick, Refusal>, Vec<State>, usize) {
     let (mut states, mut record) = (start.to_vec(), taken);
     let call = if live { <dyn Library>::live_spin } else { <dyn Library>::spin };
     (call(library, &mut states, &mut record, 1, ground, 0), states, record)
@@ -175,7 +175,7 @@ fn every_byte_of_the_list_at_every_value() {
     let mut start = [fresh_state(4).expect("a good size"); SPINDLES];
     let mut taken = SPINDLES;
     for _ in 0..2 {
-        assert_eq!(Proved.spin(&mut start, &mut taken, 1, &image, 0).answer, Answer::Done(1));
+        Proved.spin(&mut start, &mut taken, 1, &image, 0).expect("it is not refused");
     }
     assert_eq!((start[1].depth, taken), (2, 5));
     for spindle in [1, 2] {

@@ -2,38 +2,22 @@
 //! damaged or four states with another record of places, goes to the calls of C.
 
 use comparison::compare::compare;
-use fairleadow::{Buffer, Chart, Image, Refusal, Spindles, State, Table, Tick, STATE_BYTES};
-use proved::{
-    Answer, CauseReport, FillingsReport, Library, Meaning, PricedReport, Prices, Proved, TickReport,
-};
+use fairleadow::{Buffer, Chart, Image, Spindles, State, Table, STATE_BYTES};
+use proved::{Answer, Cause, Fillings, Library, Meaning, PricedReport, Prices, Proved, Refusal, Tick};
 
 const SEED: u64 = 3;
 const CASES: u64 = 100_000;
 
 struct Typed;
 
-fn answer(counted: Result<usize, Refusal>) -> Answer {
-    match counted {
-        Ok(count) => Answer::Done(count),
-        Err(refusal) => {
-            Answer::Refused { number: refusal.number(), index: refusal.index(), count: refusal.ticks() }
-        }
-    }
-}
-
-fn uncounted(done: Result<(), Refusal>) -> Answer {
-    answer(done.map(|()| 0))
-}
-
 /// What a value holds, in a lent buffer.
-fn copied<const N: usize>(held: Buffer<N>, out: &mut [u8]) -> Result<usize, Refusal> {
+fn copied<const N: usize>(held: Buffer<N>, out: &mut [u8]) -> Answer {
     out.get_mut(..held.len()).ok_or(Refusal::NoRoom)?.copy_from_slice(&held);
     Ok(held.len())
 }
 
-fn ticked(tick: Result<Tick, Refusal>) -> TickReport {
-    let Tick { mask, code } = tick.unwrap_or_default();
-    TickReport { answer: answer(tick.map(|_| 1)), mask, code }
+fn emitted(fairleadow::Tick { mask, code }: fairleadow::Tick) -> Tick {
+    Tick { mask, code }
 }
 
 fn typed(state: &proved::State) -> State {
@@ -79,57 +63,52 @@ fn spun(
     states: &mut [proved::State],
     taken: &mut usize,
     mut spindles: Spindles,
-    spin: impl FnOnce(&mut Spindles) -> Result<Tick, Refusal>,
-) -> TickReport {
+    spin: impl FnOnce(&mut Spindles) -> Result<fairleadow::Tick, Refusal>,
+) -> Result<Tick, Refusal> {
     let tick = spin(&mut spindles);
     for (at, state) in states.iter_mut().enumerate() {
         *state = plain(spindles.state(at).expect("a spindle"));
     }
     *taken = spindles.taken();
-    ticked(tick)
+    tick.map(emitted)
 }
 
 impl Library for Typed {
     fn read_chart(&self, text: &[u8], out: &mut [u8]) -> Answer {
-        let written = Chart::parse(text).and_then(|chart| copied(chart.records()?, out));
-        answer(written.map(|bytes| bytes / fairleadow::RECORD))
+        Ok(copied(Chart::parse(text)?.records()?, out)? / fairleadow::RECORD)
     }
 
     fn write_chart(&self, records: &[u8], out: &mut [u8]) -> Answer {
-        answer(Chart::of_records(records).and_then(|chart| {
-            out.get_mut(..chart.text().len()).ok_or(Refusal::NoRoom)?.copy_from_slice(chart.text());
-            Ok(chart.text().len())
-        }))
+        let chart = Chart::of_records(records)?;
+        out.get_mut(..chart.text().len()).ok_or(Refusal::NoRoom)?.copy_from_slice(chart.text());
+        Ok(chart.text().len())
     }
 
     fn translate(&self, text: &[u8], out: &mut [u8]) -> Answer {
-        answer(Chart::parse(text).and_then(|chart| Ok(Image::of_in(&chart, out)?.text().len())))
+        Ok(Image::of_in(&Chart::parse(text)?, out)?.text().len())
     }
 
     fn places(&self, text: &[u8]) -> Answer {
-        answer(Chart::parse(text).and_then(|chart| chart.places()))
+        Chart::parse(text)?.places()
     }
 
     fn check_image(&self, text: &[u8]) -> Answer {
-        answer(Image::parse(text).map(|_| 0))
+        Image::parse(text).map(|_| 0)
     }
 
-    fn fresh(&self, size: usize) -> (Answer, proved::State) {
-        let state = State::fresh(size);
-        (answer(state.map(|_| 0)), state.map_or(proved::State::NONE, |state| plain(&state)))
+    fn fresh(&self, size: usize) -> Result<proved::State, Refusal> {
+        State::fresh(size).map(|state| plain(&state))
     }
 
     fn run(
         &self,
         image: &[u8],
-        state: &proved::State,
+        state: &mut proved::State,
         words: &[u16],
         masks: &mut [u32],
         codes: &mut [u8],
-    ) -> (Answer, proved::State) {
-        let mut after = *state;
-        let run = on(&mut after, |state| Image::parse(image)?.run_in(state, words, masks, codes));
-        (answer(run), after)
+    ) -> Answer {
+        on(state, |state| Image::parse(image)?.run_in(state, words, masks, codes))
     }
 
     fn dry_run(
@@ -141,28 +120,27 @@ impl Library for Typed {
         masks: &mut [u32],
         codes: &mut [u8],
     ) -> Answer {
-        answer(Chart::parse(text).and_then(|chart| chart.dry_run_in(size, image, words, masks, codes)))
+        Chart::parse(text)?.dry_run_in(size, image, words, masks, codes)
     }
 
     fn priced_run(
         &self,
         image: &[u8],
-        state: &proved::State,
+        state: &mut proved::State,
         prices: &Prices,
         words: &[u16],
         masks: &mut [u32],
         codes: &mut [u8],
     ) -> PricedReport {
-        let mut after = *state;
         let priced =
-            on(&mut after, |state| Image::parse(image)?.priced_run_in(state, prices, words, masks, codes));
+            on(state, |state| Image::parse(image)?.priced_run_in(state, prices, words, masks, codes));
         let price = priced.map_or(0, |priced| priced.price);
-        let count = priced.and_then(|priced| priced.stopped.map_or(Ok(priced.ticks), Err));
-        PricedReport { answer: answer(count), state: after, price }
+        let answer = priced.and_then(|priced| priced.stopped.map_or(Ok(priced.ticks), Err));
+        PricedReport { answer, price }
     }
 
-    fn tick(&self, image: &[u8], state: &mut proved::State, word: u16) -> TickReport {
-        ticked(on(state, |state| Image::parse(image)?.tick(state, word)))
+    fn tick(&self, image: &[u8], state: &mut proved::State, word: u16) -> Result<Tick, Refusal> {
+        on(state, |state| Image::parse(image)?.tick(state, word)).map(emitted)
     }
 
     fn spin(
@@ -172,7 +150,7 @@ impl Library for Typed {
         spindle: usize,
         image: &[u8],
         word: u16,
-    ) -> TickReport {
+    ) -> Result<Tick, Refusal> {
         match (Image::parse(image), spindles(states, *taken)) {
             (Ok(image), Some(kept)) => {
                 spun(states, taken, kept, |kept| kept.tick_by_image(spindle, &image, word))
@@ -182,59 +160,52 @@ impl Library for Typed {
     }
 
     fn rebind(&self, image: &[u8], state: &mut proved::State, number: usize, scheme: usize) -> Answer {
-        uncounted(on(state, |state| Image::parse(image)?.rebind(state, number, scheme)))
+        on(state, |state| Image::parse(image)?.rebind(state, number, scheme)).map(|()| 0)
     }
 
-    fn cause(&self, image: &[u8], state: &proved::State, word: u16) -> CauseReport {
-        let cause = Image::parse(image).and_then(|image| image.cause(&typed(state), word));
-        let answer = answer(cause.map(|_| 0));
-        match cause {
-            Ok(cause) => {
-                CauseReport { answer, row: cause.row, mask: cause.mask, bit: cause.bit.map_or(2, u8::from) }
-            }
-            Err(_) => CauseReport { answer, row: 0, mask: 0, bit: 0 },
-        }
+    fn cause(&self, image: &[u8], state: &proved::State, word: u16) -> Result<Cause, Refusal> {
+        let cause = Image::parse(image)?.cause(&typed(state), word)?;
+        Ok(Cause { row: cause.row, mask: cause.mask, bit: cause.bit.map_or(2, u8::from) })
     }
 
     fn list_rows(&self, image: &[u8], firsts: &mut [u16], counts: &mut [u16]) -> Answer {
-        answer(Image::parse(image).and_then(|image| {
-            let listing = image.list_rows()?;
-            let labels = listing.labels();
-            let firsts = firsts.get_mut(..labels).ok_or(Refusal::NoRoom)?;
-            let counts = counts.get_mut(..labels).ok_or(Refusal::NoRoom)?;
-            for (label, (first, count)) in firsts.iter_mut().zip(counts).enumerate() {
-                let rows = listing.rows(label).expect("a label");
-                (*first, *count) = (rows.start as u16, rows.len() as u16);
-            }
-            Ok(labels)
-        }))
+        let listing = Image::parse(image)?.list_rows()?;
+        let labels = listing.labels();
+        let firsts = firsts.get_mut(..labels).ok_or(Refusal::NoRoom)?;
+        let counts = counts.get_mut(..labels).ok_or(Refusal::NoRoom)?;
+        for (label, (first, count)) in firsts.iter_mut().zip(counts).enumerate() {
+            let rows = listing.rows(label).expect("a label");
+            (*first, *count) = (rows.start as u16, rows.len() as u16);
+        }
+        Ok(labels)
     }
 
     fn minimise(&self, image: &[u8], out: &mut [u8]) -> Answer {
-        answer(Image::parse(image).and_then(|image| Ok(image.minimise_in(out)?.text().len())))
+        Ok(Image::parse(image)?.minimise_in(out)?.text().len())
     }
 
     fn little_chart(&self, frames: usize, number: usize, text: &mut [u8]) -> Answer {
-        answer(Chart::little(frames, number).and_then(|chart| {
-            text.get_mut(..chart.text().len()).ok_or(Refusal::NoRoom)?.copy_from_slice(chart.text());
-            Ok(chart.text().len())
-        }))
+        let chart = Chart::little(frames, number)?;
+        text.get_mut(..chart.text().len()).ok_or(Refusal::NoRoom)?.copy_from_slice(chart.text());
+        Ok(chart.text().len())
     }
 
-    fn count_fillings(&self, image: &[u8], size: usize, ticks: usize, conditions: usize) -> FillingsReport {
-        let counted = Image::parse(image).and_then(|image| image.count_fillings(size, ticks, conditions));
-        let answer = answer(counted.map(|_| 0));
-        let (ended, full, unmatched) =
-            counted.map_or((0, 0, 0), |counted| (counted.ended, counted.full, counted.unmatched));
-        FillingsReport { answer, ended, full, unmatched }
+    fn count_fillings(
+        &self,
+        image: &[u8],
+        size: usize,
+        ticks: usize,
+        conditions: usize,
+    ) -> Result<Fillings, Refusal> {
+        Image::parse(image)?.count_fillings(size, ticks, conditions)
     }
 
     fn prepare(&self, image: &[u8], table: &mut [u8]) -> Answer {
-        answer(Table::prepare_in(image, table).map(|table| table.bytes().len()))
+        Ok(Table::prepare_in(image, table)?.bytes().len())
     }
 
     fn check_table(&self, table: &[u8]) -> Answer {
-        answer(Table::parse(table).map(|_| 0))
+        Table::parse(table).map(|_| 0)
     }
 
     fn sum(&self, sum: u32, bytes: &[u8]) -> u32 {
@@ -244,20 +215,18 @@ impl Library for Typed {
     fn live_run(
         &self,
         bytes: &[u8],
-        state: &proved::State,
+        state: &mut proved::State,
         words: &[u16],
         masks: &mut [u32],
         codes: &mut [u8],
-    ) -> (Answer, proved::State) {
+    ) -> Answer {
         let Some(table) = table(bytes) else { return Proved.live_run(bytes, state, words, masks, codes) };
-        let mut after = *state;
-        let run = on(&mut after, |state| table.run_in(state, words, masks, codes));
-        (answer(run), after)
+        on(state, |state| table.run_in(state, words, masks, codes))
     }
 
-    fn live_tick(&self, bytes: &[u8], state: &mut proved::State, word: u16) -> TickReport {
+    fn live_tick(&self, bytes: &[u8], state: &mut proved::State, word: u16) -> Result<Tick, Refusal> {
         match table(bytes) {
-            Some(table) => ticked(on(state, |state| table.tick(state, word))),
+            Some(table) => on(state, |state| table.tick(state, word)).map(emitted),
             None => Proved.live_tick(bytes, state, word),
         }
     }
@@ -269,7 +238,7 @@ impl Library for Typed {
         spindle: usize,
         bytes: &[u8],
         word: u16,
-    ) -> TickReport {
+    ) -> Result<Tick, Refusal> {
         match (table(bytes), spindles(states, *taken)) {
             (Some(table), Some(kept)) => spun(states, taken, kept, |kept| kept.tick(spindle, &table, word)),
             _ => Proved.live_spin(states, taken, spindle, bytes, word),
@@ -278,7 +247,7 @@ impl Library for Typed {
 
     fn live_rebind(&self, bytes: &[u8], state: &mut proved::State, number: usize, scheme: usize) -> Answer {
         match table(bytes) {
-            Some(table) => uncounted(on(state, |state| table.rebind(state, number, scheme))),
+            Some(table) => on(state, |state| table.rebind(state, number, scheme)).map(|()| 0),
             None => Proved.live_rebind(bytes, state, number, scheme),
         }
     }

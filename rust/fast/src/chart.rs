@@ -1,6 +1,6 @@
 //! Refusals 4 to 9 on records, with 19 after 5.
 
-use super::{refuse, NODES};
+use super::NODES;
 use reference::answer::Refusal;
 use reference::frames::Frame;
 
@@ -19,20 +19,20 @@ pub struct Begins {
 
 pub fn check(records: &[Frame]) -> Result<Begins, Refusal> {
     if let Some(index) = records.iter().position(|r| !fields_stand(r)) {
-        return refuse(4, index);
+        return Err(Refusal::BadField(index));
     }
     let begins = begins(records)?;
     if let Some(index) = records.iter().position(|r| bad_arc(records, r)) {
-        return refuse(6, index);
+        return Err(Refusal::BadArc(index));
     }
     if let Some(index) = records.iter().position(|r| bad_call(r, begins.schemes)) {
-        return refuse(7, index);
+        return Err(Refusal::BadCall(index));
     }
     if let Some(index) = lowest_on_circle(records) {
-        return refuse(8, index);
+        return Err(Refusal::Circle(index));
     }
     match lowest_cut_off(records, &begins) {
-        Some(index) => refuse(9, index),
+        Some(index) => Err(Refusal::CutOff(index)),
         None => Ok(begins),
     }
 }
@@ -73,10 +73,10 @@ fn begins(records: &[Frame]) -> Result<Begins, Refusal> {
     }
     let alone = |count: &u16| *count == 1;
     if !starts[1..=schemes].iter().all(alone) || !ends[1..=schemes].iter().all(alone) {
-        return refuse(5, 0);
+        return Err(Refusal::BadScheme);
     }
     if marks > 1 || handler == 1 {
-        return refuse(19, 0);
+        return Err(Refusal::BadMarks);
     }
     Ok(Begins { schemes: schemes as u8, begin, handler })
 }

@@ -1,6 +1,5 @@
 //! Text to frames and back by tables, in one pass each.
 
-use super::refuse;
 use reference::answer::Refusal;
 use reference::frames::{Frame, CHARACTERS};
 
@@ -33,7 +32,7 @@ const fn pair_table() -> [[u8; 2]; 256] {
 pub fn decode<'a>(text: &[u8], longest: usize, frames: &'a mut [Frame]) -> Result<&'a [Frame], Refusal> {
     let (lines, rest) = text.as_chunks::<CHARACTERS>();
     if lines.is_empty() || !rest.is_empty() || text.len() > longest {
-        return refuse(1, 0);
+        return Err(Refusal::BadLength);
     }
     let mut bad_sum = None;
     for (index, (line, frame)) in lines.iter().zip(frames.iter_mut()).enumerate() {
@@ -51,14 +50,14 @@ pub fn decode<'a>(text: &[u8], longest: usize, frames: &'a mut [Frame]) -> Resul
         }
         byte(10);
         if seen > 15 || line[22] != b'\n' {
-            return refuse(2, index);
+            return Err(Refusal::BadCharacter(index));
         }
         if sum != 0 && bad_sum.is_none() {
             bad_sum = Some(index);
         }
     }
     match bad_sum {
-        Some(index) => refuse(3, index),
+        Some(index) => Err(Refusal::BadSum(index)),
         None => Ok(&frames[..lines.len()]),
     }
 }

@@ -1,6 +1,5 @@
 //! The image check, refusals 11 to 13.
 
-use super::refuse;
 use reference::answer::Refusal;
 use reference::frames::Frame;
 use reference::image::ROWS;
@@ -19,7 +18,7 @@ pub fn check(frames: &[Frame]) -> Result<Parts, Refusal> {
     let bytes_stand = h[0] == 0x0F && h[5] != 1 && h[5] <= h[1] && h[6] | h[7] | h[8] | h[9] == 0;
     let counts_stand = (1..=16).contains(&parts.schemes) && parts.labels > 1 && rows <= ROWS;
     if !bytes_stand || !counts_stand || frames.len() != 1 + parts.schemes + parts.labels + rows {
-        return refuse(11, 0);
+        return Err(Refusal::BadHeader);
     }
     let (entries, rest) = frames[1..].split_at(parts.schemes);
     let (labels, rows) = rest.split_at(parts.labels);
@@ -31,18 +30,18 @@ pub fn check(frames: &[Frame]) -> Result<Parts, Refusal> {
 fn places(entries: &[Frame], labels: &[Frame], rows: &[Frame]) -> Result<(), Refusal> {
     for (k, frame) in entries.iter().enumerate() {
         if frame[0] != 0x10 || usize::from(frame[1]) != k + 1 {
-            return refuse(12, 1 + k);
+            return Err(Refusal::StrayFrame(1 + k));
         }
     }
     for (k, frame) in labels.iter().enumerate() {
         if frame[0] != 0x11 || usize::from(frame[1]) != k {
-            return refuse(12, 1 + entries.len() + k);
+            return Err(Refusal::StrayFrame(1 + entries.len() + k));
         }
     }
     let mut before = 0;
     for (k, frame) in rows.iter().enumerate() {
         if frame[0] != 0x12 || frame[1] < before {
-            return refuse(12, 1 + entries.len() + labels.len() + k);
+            return Err(Refusal::StrayFrame(1 + entries.len() + labels.len() + k));
         }
         before = frame[1];
     }
@@ -52,17 +51,17 @@ fn places(entries: &[Frame], labels: &[Frame], rows: &[Frame]) -> Result<(), Ref
 fn fields(entries: &[Frame], labels: &[Frame], rows: &[Frame]) -> Result<(), Refusal> {
     for (k, frame) in entries.iter().enumerate() {
         if !entry_stands(frame, labels) {
-            return refuse(13, 1 + k);
+            return Err(Refusal::BadContent(1 + k));
         }
     }
     for (k, frame) in labels.iter().enumerate() {
         if !label_stands(frame, entries.len() as u8) {
-            return refuse(13, 1 + entries.len() + k);
+            return Err(Refusal::BadContent(1 + entries.len() + k));
         }
     }
     for (k, frame) in rows.iter().enumerate() {
         if !row_stands(frame, labels) {
-            return refuse(13, 1 + entries.len() + labels.len() + k);
+            return Err(Refusal::BadContent(1 + entries.len() + labels.len() + k));
         }
     }
     Ok(())

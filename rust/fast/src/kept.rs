@@ -2,9 +2,9 @@
 //! doubt, only the state.
 
 use super::machine::Machine;
-use super::{accepted, rebound, spindles, ticked_of, IMAGE_FRAMES};
+use super::{accepted, spindles, IMAGE_FRAMES};
+use interface::Tick;
 use reference::answer::{Answer, Refusal};
-use reference::library::TickReport;
 use reference::state::State;
 
 pub struct Kept {
@@ -20,22 +20,28 @@ impl Kept {
     }
 
     /// Refusals 15 to 18; counts ticks.
-    pub fn run(&self, state: &State, words: &[u16], masks: &mut [u32], codes: &mut [u8]) -> (Answer, State) {
+    pub fn run(&self, state: &mut State, words: &[u16], masks: &mut [u32], codes: &mut [u8]) -> Answer {
         self.machine.run(state, words, masks, codes)
     }
 
     /// Refusals 15 and 22; counts 0.
     pub fn rebind(&self, state: &mut State, number: usize, scheme: usize) -> Answer {
-        rebound(self.machine.rebind(state, number, scheme))
+        self.machine.rebind(state, number, scheme)
     }
 
-    /// Refusals 15, 17 and 18; counts 1.
-    pub fn tick(&self, state: &mut State, word: u16) -> TickReport {
-        ticked_of(self.machine.live_tick(state, word))
+    /// Refusals 15, 17 and 18.
+    pub fn tick(&self, state: &mut State, word: u16) -> Result<Tick, Refusal> {
+        self.machine.live_tick(state, word)
     }
 
-    /// Refusals 15, 17, 26 and 18 of a spindle of 0 to 3; counts 1.
-    pub fn spin(&self, states: &mut [State], taken: &mut usize, spindle: usize, word: u16) -> TickReport {
-        ticked_of(spindles::turn(states, taken, spindle, |state| self.machine.live_tick(state, word)))
+    /// Refusals 15, 17, 26 and 18 of a spindle of 0 to 3.
+    pub fn spin(
+        &self,
+        states: &mut [State],
+        taken: &mut usize,
+        spindle: usize,
+        word: u16,
+    ) -> Result<Tick, Refusal> {
+        spindles::turn(states, taken, spindle, |state| self.machine.live_tick(state, word))
     }
 }

@@ -2,7 +2,6 @@
 //! it, until as many were met as the number says.
 
 use super::chart::{BEGIN, CONDITION, END, OPERATION};
-use super::refuse;
 use interface::LITTLE_FRAMES;
 use reference::answer::Refusal;
 use reference::frames::Frame;
@@ -123,7 +122,7 @@ impl Search {
 pub fn fill(frames: usize, number: usize) -> Result<[Frame; LITTLE_FRAMES], Refusal> {
     let count = frames.checked_sub(2).and_then(|at| COUNTS.get(at));
     if count.is_none_or(|count| number >= *count) {
-        return refuse(24, 0);
+        return Err(Refusal::NoLittleChart);
     }
     let mut search =
         Search { frames, left: number + 1, records: [[0; 10]; LITTLE_FRAMES], arcs: [0; LITTLE_FRAMES] };

@@ -1,7 +1,9 @@
 //! Tables prepared, and live ticks on them as they stand: nothing is copied or taken apart.
 
 use super::image::Parts;
-use reference::answer::Answer;
+use super::stop::Stop;
+use interface::Tick;
+use reference::answer::{Answer, Refusal};
 use reference::frames::Frame;
 use reference::image::{FUNCTION_CALL, HOME, OPERATION_CALL, PLAIN, RETURN, ROWS};
 use reference::state::{leave_alone, State};
@@ -139,7 +141,7 @@ impl<'a> Table<'a> {
     }
 
     /// Refusals 15 and 22.
-    pub fn rebind(&self, state: &mut State, number: usize, scheme: usize) -> Result<(), u8> {
+    pub fn rebind(&self, state: &mut State, number: usize, scheme: usize) -> Answer {
         let fits = self.fits(state);
         super::bind(fits, self.schemes, self.handler, state, number, scheme)
     }
@@ -154,7 +156,7 @@ impl<'a> Table<'a> {
     }
 
     /// The next label by the row that tests most, the last of equals. With no bit the function bits decide nothing.
-    fn next(&self, number: u8, bit: Option<bool>, word: u16) -> Result<u8, u8> {
+    fn next(&self, number: u8, bit: Option<bool>, word: u16) -> Result<u8, Stop> {
         let mut taken: Option<(u16, u8)> = None;
         for row in self.rows(number) {
             let care = u16::from_be_bytes([row[2], row[3]]);
@@ -165,7 +167,7 @@ impl<'a> Table<'a> {
                 taken = Some((care, row[7]));
             }
         }
-        taken.map(|(_, next)| next).ok_or(18)
+        taken.map(|(_, next)| next).ok_or(Stop::NoRow)
     }
 
     /// The bit that decides rows of a function call's label.
@@ -174,15 +176,15 @@ impl<'a> Table<'a> {
     }
 
     /// Refusals 15, 17 and 18, or the mask and the code of one tick of a lent state.
-    pub fn fitting_tick(&self, state: &mut State, word: u16) -> Result<(u32, u8), u8> {
+    pub fn fitting_tick(&self, state: &mut State, word: u16) -> Result<Tick, Refusal> {
         if !self.fits(state) {
-            return Err(15);
+            return Err(Refusal::Unfit);
         }
-        self.tick(state, word)
+        Ok(self.tick(state, word)?)
     }
 
     /// One tick of a lent state: the mask and the code, or 17 or 18 and the state as it was.
-    pub fn tick(&self, state: &mut State, word: u16) -> Result<(u32, u8), u8> {
+    pub fn tick(&self, state: &mut State, word: u16) -> Result<Tick, Stop> {
         let top = usize::from(state.depth) - 1;
         let label = self.label(state.places[top]);
         let code = match label.kind {
@@ -201,7 +203,7 @@ impl<'a> Table<'a> {
                 write_result(state, top, &label);
                 state.results[place(label.called)] = false;
                 let base = if label.kind == OPERATION_CALL { 0x10 } else { 0x40 };
-                return Ok((label.mask, base + label.called));
+                return Ok(Tick { mask: label.mask, code: base + label.called });
             }
             HOME => {
                 state.places[top] = self.entry(1);
@@ -221,29 +223,29 @@ impl<'a> Table<'a> {
             }
         };
         write_result(state, top, &label);
-        Ok((label.mask, code))
+        Ok(Tick { mask: label.mask, code })
     }
 
     /// A call that finds the stack full: 17 or, for a handler that is not at the bottom, a drop.
     #[cold]
-    fn drop_all(&self, state: &mut State, label: &Label) -> Result<(u32, u8), u8> {
+    fn drop_all(&self, state: &mut State, label: &Label) -> Result<Tick, Stop> {
         if self.handler == 0 || self.handles(state.places[0]) {
-            return Err(17);
+            return Err(Stop::Full);
         }
         write_result(state, usize::from(state.depth) - 1, label);
         state.results[usize::from(self.handler) - 1] = false;
         leave_alone(state, self.entry(self.handler), self.handler);
-        Ok((label.mask, 0x60))
+        Ok(Tick { mask: label.mask, code: 0x60 })
     }
 
     /// Ticks until the words end, or 17 or 18. The buffers are as long as the words.
     pub fn run(&self, state: &mut State, words: &[u16], masks: &mut [u32], codes: &mut [u8]) -> Answer {
         for (count, ((word, mask), code)) in words.iter().zip(masks).zip(codes).enumerate() {
             match self.tick(state, *word) {
-                Ok(tick) => (*mask, *code) = tick,
-                Err(number) => return Answer::Refused { number, index: 0, count },
+                Ok(tick) => (*mask, *code) = (tick.mask, tick.code),
+                Err(stop) => return Err(stop.after(count)),
             }
         }
-        Answer::Done(words.len())
+        Ok(words.len())
     }
 }

@@ -1,6 +1,8 @@
 //! The machine over an accepted image, taken apart once: each label with the range of its rows.
 
 use super::image::Parts;
+use super::stop::Stop;
+use interface::{Cause, Tick};
 use reference::answer::{Answer, Refusal};
 use reference::frames::Frame;
 use reference::image::{FUNCTION_CALL, HOME, OPERATION_CALL, PLAIN, RETURN, ROWS};
@@ -189,42 +191,42 @@ impl<const SCANS: bool> Machine<SCANS> {
     }
 
     /// Refusals 15 and 22.
-    pub fn rebind(&self, state: &mut State, number: usize, scheme: usize) -> Result<(), u8> {
+    pub fn rebind(&self, state: &mut State, number: usize, scheme: usize) -> Answer {
         let fits = self.fits(state);
         super::bind(fits, self.schemes, self.handler, state, number, scheme)
     }
 
     /// Refusals 15 to 18.
-    pub fn run(&self, state: &State, words: &[u16], masks: &mut [u32], codes: &mut [u8]) -> (Answer, State) {
-        let refused = |number| (Refusal { number, index: 0 }.into(), *state);
+    pub fn run(&self, state: &mut State, words: &[u16], masks: &mut [u32], codes: &mut [u8]) -> Answer {
         if !self.fits(state) {
-            return refused(15);
+            return Err(Refusal::Unfit);
         }
         let count = words.len();
         let (Some(masks), Some(codes)) = (masks.get_mut(..count), codes.get_mut(..count)) else {
-            return refused(16);
+            return Err(Refusal::NoRoom);
         };
         let mut stack = Stack::packed(state);
         let answer = self.ticks(&mut stack, words, masks, codes);
         let results = std::array::from_fn(|k| stack.bits >> (k + 1) & 1 == 1);
-        (answer, stack.state(results))
+        *state = stack.state(results);
+        answer
     }
 
     /// Ticks until the words end, or 17 or 18. The buffers are as long as the words.
     fn ticks(&self, stack: &mut Stack<u32>, words: &[u16], masks: &mut [u32], codes: &mut [u8]) -> Answer {
         for (count, ((word, mask), code)) in words.iter().zip(masks).zip(codes).enumerate() {
             match self.tick(stack, *word) {
-                Ok(tick) => (*mask, *code) = tick,
-                Err(number) => return Answer::Refused { number, index: 0, count },
+                Ok(tick) => (*mask, *code) = (tick.mask, tick.code),
+                Err(stop) => return Err(stop.after(count)),
             }
         }
-        Answer::Done(words.len())
+        Ok(words.len())
     }
 
     /// Refusals 15, 17 and 18, or the mask and the code of one tick of a lent state.
-    pub fn live_tick(&self, state: &mut State, word: u16) -> Result<(u32, u8), u8> {
+    pub fn live_tick(&self, state: &mut State, word: u16) -> Result<Tick, Refusal> {
         if !self.fits(state) {
-            return Err(15);
+            return Err(Refusal::Unfit);
         }
         let mut stack = Stack::of(state, state.results);
         let ticked = self.tick(&mut stack, word)?;
@@ -233,16 +235,16 @@ impl<const SCANS: bool> Machine<SCANS> {
     }
 
     /// Refusals 15, 21 and 18, or the number of the row that a tick takes, the conditions that decide and the bit.
-    pub fn cause(&self, state: &State, word: u16) -> Result<(u16, u16, u8), u8> {
+    pub fn cause(&self, state: &State, word: u16) -> Result<Cause, Refusal> {
         if !self.fits(state) {
-            return Err(15);
+            return Err(Refusal::Unfit);
         }
         let at = |place: usize| &self.labels[usize::from(state.places[place])];
         let top = usize::from(state.depth) - 1;
         let label = match at(top).kind {
             PLAIN => at(top),
             RETURN if top > 0 => at(top - 1),
-            _ => return Err(21),
+            _ => return Err(Refusal::Rowless),
         };
         let bit = if label.kind == FUNCTION_CALL { state.results.bit(label.called) } else { 2 };
         let (mut taken, mut conditions) = (None, 0);
@@ -258,12 +260,12 @@ impl<const SCANS: bool> Machine<SCANS> {
                 taken = Some((number, row));
             }
         }
-        let (number, row) = taken.ok_or(18)?;
-        Ok((number, row.care | conditions, bit))
+        let (number, row) = taken.ok_or(Refusal::NoRow { ticks: 0 })?;
+        Ok(Cause { row: number, mask: row.care | conditions, bit })
     }
 
     #[inline(always)]
-    fn next<B: Bits>(&self, from: u8, bits: &B, word: u16) -> Result<u8, u8> {
+    fn next<B: Bits>(&self, from: u8, bits: &B, word: u16) -> Result<u8, Stop> {
         let label = &self.labels[usize::from(from)];
         let bit = bits.bit(label.called);
         let looked_at =
@@ -278,24 +280,24 @@ impl<const SCANS: bool> Machine<SCANS> {
                 taken = Some(row);
             }
         }
-        taken.map(|row| row.next).ok_or(18)
+        taken.map(|row| row.next).ok_or(Stop::NoRow)
     }
 
     /// A call that finds the stack full: 17 or, for a handler that is not at the bottom, a drop.
     #[cold]
-    fn drop_all<B: Bits>(&self, stack: &mut Stack<B>, label: &Label) -> Result<(u32, u8), u8> {
+    fn drop_all<B: Bits>(&self, stack: &mut Stack<B>, label: &Label) -> Result<Tick, Stop> {
         if self.handler == 0 || self.handles(stack.places[0]) {
-            return Err(17);
+            return Err(Stop::Full);
         }
         stack.write_result(stack.depth - 1, label);
         stack.bits.write(self.handler, false);
         stack.leave_alone(self.entries[usize::from(self.handler)], self.handler);
-        Ok((label.mask, 0x60))
+        Ok(Tick { mask: label.mask, code: 0x60 })
     }
 
     // in a run the stack then stays in registers
     #[inline(always)]
-    pub(super) fn tick<B: Bits>(&self, stack: &mut Stack<B>, word: u16) -> Result<(u32, u8), u8> {
+    pub(super) fn tick<B: Bits>(&self, stack: &mut Stack<B>, word: u16) -> Result<Tick, Stop> {
         let top = stack.depth - 1;
         let label = self.labels[usize::from(stack.places[top])];
         let code = match label.kind {
@@ -313,7 +315,7 @@ impl<const SCANS: bool> Machine<SCANS> {
                 stack.write_result(top, &label);
                 stack.bits.write(label.called, false);
                 let base = if label.kind == OPERATION_CALL { 0x10 } else { 0x40 };
-                return Ok((label.mask, base + label.called));
+                return Ok(Tick { mask: label.mask, code: base + label.called });
             }
             HOME => {
                 stack.places[top] = self.entries[1];
@@ -331,6 +333,6 @@ impl<const SCANS: bool> Machine<SCANS> {
             }
         };
         stack.write_result(top, &label);
-        Ok((label.mask, code))
+        Ok(Tick { mask: label.mask, code })
     }
 }

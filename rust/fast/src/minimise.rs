@@ -2,7 +2,7 @@
 //! they match 65,536 words together for each bit.
 
 use super::image::Parts;
-use super::{refuse, IMAGE_FRAMES};
+use super::IMAGE_FRAMES;
 use reference::answer::Refusal;
 use reference::frames::Frame;
 
@@ -95,7 +95,7 @@ pub fn fill<'a>(
     let (labels, rows) = rest.split_at(parts.labels);
     let machine = Machine::new(labels, rows);
     if !(2..parts.labels).all(|label| even(machine.rows(label))) {
-        return refuse(23, 0);
+        return Err(Refusal::Uneven);
     }
     let groups = machine.groups();
     let (mut renumbered, mut kept) = ([0; LABELS], 0);

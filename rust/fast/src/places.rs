@@ -1,6 +1,5 @@
 //! How many places a chart needs, by the sets of schemes that stand at each depth.
 
-use super::refuse;
 use reference::answer::Refusal;
 use reference::frames::Frame;
 
@@ -20,5 +19,5 @@ pub fn needed(records: &[Frame]) -> Result<usize, Refusal> {
             return Ok(depth);
         }
     }
-    refuse(20, 0)
+    Err(Refusal::CallsItself)
 }

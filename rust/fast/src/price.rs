@@ -22,16 +22,17 @@ impl<const SCANS: bool> Machine<SCANS> {
     /// Refusals 15, 27 and 16 to 18, and the price of the ticks made.
     pub fn priced_run(
         &self,
-        state: &State,
+        state: &mut State,
         prices: &Prices,
         words: &[u16],
         masks: &mut [u32],
         codes: &mut [u8],
     ) -> PricedReport {
         if words.len() > PRICED_WORDS && self.fits(state) {
-            return PricedReport { answer: Refusal { number: 27, index: 0 }.into(), state: *state, price: 0 };
+            return PricedReport { answer: Err(Refusal::ManyWords), price: 0 };
         }
-        let (answer, state) = self.run(state, words, masks, codes);
-        PricedReport { answer, state, price: (hundredths(prices, &masks[..answer.count()]) + 50) / 100 }
+        let answer = self.run(state, words, masks, codes);
+        let finished = &masks[..answer.unwrap_or_else(Refusal::ticks)];
+        PricedReport { answer, price: (hundredths(prices, finished) + 50) / 100 }
     }
 }

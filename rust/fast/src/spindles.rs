@@ -1,6 +1,7 @@
 //! The tick of a spindle in the list of all four.
 
-use interface::STORE;
+use interface::{Tick, STORE};
+use reference::answer::Refusal;
 use reference::state::State;
 
 /// Refusals 15 and 26, and those of the tick, which is made on a copy, or its mask and code.
@@ -8,20 +9,20 @@ pub fn turn(
     states: &mut [State],
     taken: &mut usize,
     spindle: usize,
-    tick: impl FnOnce(&mut State) -> Result<(u32, u8), u8>,
-) -> Result<(u32, u8), u8> {
+    tick: impl FnOnce(&mut State) -> Result<Tick, Refusal>,
+) -> Result<Tick, Refusal> {
     let [a, b, c, d] = states else {
-        return Err(15);
+        return Err(Refusal::Unfit);
     };
     let depths = [a, b, c, d].map(|state| usize::from(state.depth)).into_iter().sum();
     if *taken != depths || depths > STORE {
-        return Err(15);
+        return Err(Refusal::Unfit);
     }
     let mut after = states[spindle];
     let ticked = tick(&mut after)?;
     let left = depths - usize::from(states[spindle].depth) + usize::from(after.depth);
     if left > STORE {
-        return Err(26);
+        return Err(Refusal::NoPlace);
     }
     (states[spindle], *taken) = (after, left);
     Ok(ticked)

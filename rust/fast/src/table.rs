@@ -1,7 +1,7 @@
 //! The image's frames from records that refusals 4 to 9 let pass; refusal 10.
 
 use super::chart::{Begins, BEGIN, CONDITION, END, FUNCTION, OPERATION};
-use super::{refuse, IMAGE_FRAMES, NODES};
+use super::{IMAGE_FRAMES, NODES};
 use reference::answer::Refusal;
 use reference::frames::Frame;
 use reference::image::ROWS;
@@ -59,7 +59,7 @@ pub fn fill<'a>(
     let mut rows = Rows { records, label: &labels.label, rows: &mut image[first_row..], count: 0 };
     for (k, at) in labels.numbered[..labels.count].iter().enumerate() {
         if !rows.leave(k as u8 + 2, &records[usize::from(*at)]) {
-            return refuse(10, 0);
+            return Err(Refusal::ManyRows);
         }
     }
     let count = rows.count;

@@ -6,11 +6,13 @@
 #[cfg(test)]
 extern crate std;
 
-mod answer;
+mod refusal;
 mod sizes;
+mod told;
 
-pub use answer::{Answer, Refusal};
+pub use refusal::Refusal;
 pub use sizes::*;
+pub use told::{handed, told, Told};
 
 /// The version of the entry points, as the header and the archive have it.
 pub const VERSION: u32 = 3;
@@ -45,10 +47,12 @@ impl State {
     };
 }
 
-/// What the tick of a lent state hands back.
+/// What most calls answer: a count, or why they refuse.
+pub type Answer = Result<usize, Refusal>;
+
+/// What a finished tick gives: the mask that it emits, and its code.
 #[derive(Clone, Copy, Debug, PartialEq, Eq)]
-pub struct TickReport {
-    pub answer: Answer,
+pub struct Tick {
     pub mask: u32,
     pub code: u8,
 }
@@ -56,31 +60,30 @@ pub struct TickReport {
 /// A price list: the price of each micro operation, that of mask bit 0 first, in hundredths of a cent a tick.
 pub type Prices = [u16; OPERATIONS];
 
-/// What a priced run hands back: what the run does, and the price of its finished ticks in cents, 0 with a refusal other than 17 and 18.
+/// What a priced run answers, and the price of its finished ticks in cents, 0 with a refusal other than 17 and 18.
 #[derive(Clone, Copy, Debug, PartialEq, Eq)]
 pub struct PricedReport {
     pub answer: Answer,
-    pub state: State,
     pub price: u64,
 }
 
 /// What made a tick go where it went: the row taken, told by its number among the image's rows (0 is the first); a mask of conditions that
-/// decide on it; and the result bit of the number called where the label is a function call's, else 2. With a refusal all three are 0.
+/// decide on it; and the result bit of the number called where the label is a function call's, else 2.
 #[derive(Clone, Copy, Debug, PartialEq, Eq)]
-pub struct CauseReport {
-    pub answer: Answer,
+pub struct Cause {
     pub row: u16,
     pub mask: u16,
     pub bit: u8,
 }
 
-/// How often the stack fills: of all lists of words that are tried, those that run to their end, those that get 17, and those that get 18.
-/// With a refusal all three are 0.
-#[derive(Clone, Copy, Debug, PartialEq, Eq)]
-pub struct FillingsReport {
-    pub answer: Answer,
+/// Of all lists of words that were tried, how many come to which end.
+#[derive(Clone, Copy, Debug, Default, PartialEq, Eq)]
+pub struct Fillings {
+    /// Those that come to their end.
     pub ended: u32,
+    /// Those that are stopped by [`Refusal::Full`].
     pub full: u32,
+    /// Those that are stopped by [`Refusal::NoRow`]; none on an image that the translator wrote.
     pub unmatched: u32,
 }
 
@@ -98,8 +101,9 @@ pub enum Meaning {
 }
 
 /// The entry points of papers 01 and 02, those for a controller that keeps an image prepared, and the dry run of a chart's text. Counts
-/// are records, characters, labels, bytes of a table, ticks and places; an accepted image, a fresh state, a cause, a rebinding and
-/// fillings count 0.
+/// are records, characters, labels, bytes of a table, ticks and places; an accepted image or table and a rebinding count 0. A refusal
+/// leaves states and buffers as they were but for what the call says: a run that 17 or 18 stops has made the ticks before, so that the
+/// state is the one after them and their masks and codes are written.
 pub trait Library {
     /// Chart lines to node records of ten bytes each. Tries 1 to 9, with 19 after 5, and 16; counts records.
     fn read_chart(&self, text: &[u8], out: &mut [u8]) -> Answer;
@@ -118,19 +122,18 @@ pub trait Library {
     /// Whether an image is in order. Tries 1 to 3 and 11 to 13.
     fn check_image(&self, text: &[u8]) -> Answer;
 
-    /// A fresh state for a stack of so many places. Tries 14, and then every number of the state is 0.
-    fn fresh(&self, size: usize) -> (Answer, State);
+    /// A fresh state for a stack of so many places. Tries 14.
+    fn fresh(&self, size: usize) -> Result<State, Refusal>;
 
-    /// One tick a word, with its mask and its code, and the state after them. Tries all of the image check, then 15 to 18;
-    /// counts ticks.
+    /// One tick a word on a lent state, with its mask and its code. Tries all of the image check, then 15 to 18; counts ticks.
     fn run(
         &self,
         image: &[u8],
-        state: &State,
+        state: &mut State,
         words: &[u16],
         masks: &mut [u32],
         codes: &mut [u8],
-    ) -> (Answer, State);
+    ) -> Answer;
 
     /// A chart run from its text: the image that `translate` makes of it, and a run on that from a fresh state of so many places. Once the
     /// chart is translated the image is there, whatever is refused then. Tries 1 to 10, with 19 after 5, and 16 for the image, then 14,
@@ -150,25 +153,24 @@ pub trait Library {
     fn priced_run(
         &self,
         image: &[u8],
-        state: &State,
+        state: &mut State,
         prices: &Prices,
         words: &[u16],
         masks: &mut [u32],
         codes: &mut [u8],
     ) -> PricedReport;
 
-    /// One tick of a lent state: what a run of one word does. A refused tick emits nothing: mask and code 0.
-    fn tick(&self, image: &[u8], state: &mut State, word: u16) -> TickReport {
+    /// One tick of a lent state: what a run of one word does. A refused tick changes nothing.
+    fn tick(&self, image: &[u8], state: &mut State, word: u16) -> Result<Tick, Refusal> {
         let (mut masks, mut codes) = ([0], [0]);
-        let (answer, after) = self.run(image, state, &[word], &mut masks, &mut codes);
-        *state = after;
-        TickReport { answer, mask: masks[0], code: codes[0] }
+        self.run(image, state, &[word], &mut masks, &mut codes)?;
+        Ok(Tick { mask: masks[0], code: codes[0] })
     }
 
     /// One tick of a spindle by its own image: the four states stand in one list, and `taken` is how many places they have taken
     /// together, 4 at first, of 64. Of the other three only the depths are read. Tries 25, what the image check tries, 15, which is
     /// also given where the list is not of four states, or their depths do not sum to `taken`, or that is above 64, then 17, 26 and
-    /// 18; counts 1. A refusal changes nothing, and mask and code are 0.
+    /// 18. A refused tick changes nothing.
     fn spin(
         &self,
         states: &mut [State],
@@ -176,15 +178,15 @@ pub trait Library {
         spindle: usize,
         image: &[u8],
         word: u16,
-    ) -> TickReport;
+    ) -> Result<Tick, Refusal>;
 
     /// From now on a call of this number opens this scheme, under the number called; schemes that are open go on as they are. Tries what
     /// the image check tries, then 15 and 22; counts 0.
     fn rebind(&self, image: &[u8], state: &mut State, number: usize, scheme: usize) -> Answer;
 
     /// The cause of the tick that a state would make: every word that agrees with this one on the mask takes the same row. Tries
-    /// what the image check tries, then 15, 21 and 18; counts 0.
-    fn cause(&self, image: &[u8], state: &State, word: u16) -> CauseReport;
+    /// what the image check tries, then 15, 21 and 18.
+    fn cause(&self, image: &[u8], state: &State, word: u16) -> Result<Cause, Refusal>;
 
     /// For each label of an image, from 0 on, the number of its first row among the image's rows, from 0, and how many rows it has;
     /// 0 and 0 where it has none. Tries what the image check tries, then 16, for either buffer; counts labels.
@@ -202,8 +204,14 @@ pub trait Library {
     /// How often the stack fills: of all lists of so many words, in which only conditions from 0 up, so many, are ever 1, those that run to
     /// their end, those that get 17 and those that get 18, each from a fresh state of so many places. No words is one empty list, and no
     /// conditions is one list of zeros; together the three are 2 to the power of ticks times conditions. Tries what the image check tries,
-    /// then 14 and 28: ticks times conditions above 16, or more than 16 conditions, or more than 65,536 ticks; counts 0.
-    fn count_fillings(&self, image: &[u8], size: usize, ticks: usize, conditions: usize) -> FillingsReport;
+    /// then 14 and 28: ticks times conditions above 16, or more than 16 conditions, or more than 65,536 ticks.
+    fn count_fillings(
+        &self,
+        image: &[u8],
+        size: usize,
+        ticks: usize,
+        conditions: usize,
+    ) -> Result<Fillings, Refusal>;
 
     /// An image's lines to the table that live runs and live ticks take. Tries what the image check tries, then 16;
     /// counts bytes.
@@ -221,21 +229,20 @@ pub trait Library {
     fn live_run(
         &self,
         table: &[u8],
-        state: &State,
+        state: &mut State,
         words: &[u16],
         masks: &mut [u32],
         codes: &mut [u8],
-    ) -> (Answer, State);
+    ) -> Answer;
 
-    /// One tick on a table: what a live run of one word does. A refused tick emits nothing: mask and code 0.
-    fn live_tick(&self, table: &[u8], state: &mut State, word: u16) -> TickReport {
+    /// One tick on a table: what a live run of one word does. A refused tick changes nothing.
+    fn live_tick(&self, table: &[u8], state: &mut State, word: u16) -> Result<Tick, Refusal> {
         let (mut masks, mut codes) = ([0], [0]);
-        let (answer, after) = self.live_run(table, state, &[word], &mut masks, &mut codes);
-        *state = after;
-        TickReport { answer, mask: masks[0], code: codes[0] }
+        self.live_run(table, state, &[word], &mut masks, &mut codes)?;
+        Ok(Tick { mask: masks[0], code: codes[0] })
     }
 
-    /// One tick of a spindle by its own table: what one by its image does. Tries 25, 11, 15, 17, 26 and 18; counts 1.
+    /// One tick of a spindle by its own table: what one by its image does. Tries 25, 11, 15, 17, 26 and 18.
     fn live_spin(
         &self,
         states: &mut [State],
@@ -243,7 +250,7 @@ pub trait Library {
         spindle: usize,
         table: &[u8],
         word: u16,
-    ) -> TickReport;
+    ) -> Result<Tick, Refusal>;
 
     /// A rebinding by a table: what a rebinding by its image does. Tries 11, 15 and 22; counts 0.
     fn live_rebind(&self, table: &[u8], state: &mut State, number: usize, scheme: usize) -> Answer;

@@ -5,7 +5,7 @@ use std::fs;
 use std::path::Path;
 
 use comparison::generate::{charts, Random};
-use fairleadow::{Answer, Library, Proved, IMAGE_TEXT};
+use fairleadow::{Library, Proved, IMAGE_TEXT};
 use office::commands::minimise::{minimised, size};
 use office::problem::thousands;
 use reference::frames::{text_of, Frame};
@@ -16,10 +16,7 @@ const SEEDS: u64 = 10_000;
 /// The image of a chart that translates.
 fn translated(chart: &[u8]) -> Option<Vec<u8>> {
     let mut image = vec![0; IMAGE_TEXT];
-    match Proved.translate(chart, &mut image) {
-        Answer::Done(length) => Some(image[..length].to_vec()),
-        _ => None,
-    }
+    Proved.translate(chart, &mut image).ok().map(|length| image[..length].to_vec())
 }
 
 /// An image's labels, rows and characters, before and after.

@@ -2,7 +2,7 @@
 
 pub mod prices;
 
-use fairleadow::{Answer, Library, Prices, Proved, OPERATIONS};
+use fairleadow::{Answer, Library, Prices, Proved, Refusal, OPERATIONS};
 
 use crate::columns::aligned;
 use crate::names::Names;
@@ -39,7 +39,7 @@ impl Bill {
     ) -> Result<Bill, Problem> {
         let (image, table) = (&subject.image, subject.image.prepared()?);
         let mut state = fresh(places)?;
-        let mut bill = Bill { answer: Answer::Done(0), masks: Vec::new(), prices, parts: Vec::new() };
+        let mut bill = Bill { answer: Ok(0), masks: Vec::new(), prices, parts: Vec::new() };
         let mut first = 0;
         loop {
             swaps::make(swaps, first, &table, &mut state)?;
@@ -48,20 +48,16 @@ impl Bill {
             let next = later.min();
             let part = &words[first..next.unwrap_or(words.len())];
             let (mut masks, mut codes) = (vec![0; part.len()], vec![0; part.len()]);
-            let priced = Proved.priced_run(&image.text, &state, &prices, part, &mut masks, &mut codes);
-            if !matches!(priced.answer.number(), 0 | 17 | 18) {
-                return Err(subject.problem(priced.answer));
-            }
-            masks.truncate(priced.answer.count());
-            bill.add(first, &masks, priced.price)?;
-            (state, first) = (priced.state, first + part.len());
-            bill.answer = match priced.answer {
-                Answer::Done(_) => Answer::Done(first),
-                Answer::Refused { number, index, .. } => {
-                    Answer::Refused { number, index, count: bill.masks.len() }
-                }
+            let priced = Proved.priced_run(&image.text, &mut state, &prices, part, &mut masks, &mut codes);
+            let finished = match priced.answer {
+                Ok(ticks) | Err(Refusal::Full { ticks } | Refusal::NoRow { ticks }) => ticks,
+                Err(refusal) => return Err(subject.problem(refusal)),
             };
-            if bill.answer.number() != 0 || next.is_none() {
+            masks.truncate(finished);
+            bill.add(first, &masks, priced.price)?;
+            bill.answer = priced.answer.map(|ticks| first + ticks).map_err(|refusal| refusal.after(first));
+            first += part.len();
+            if bill.answer.is_err() || next.is_none() {
                 return Ok(bill);
             }
         }

@@ -1,6 +1,6 @@
 //! `check`: whether the library accepts a chart or an image, and why not.
 
-use fairleadow::{Answer, Library, Proved, IMAGE_TEXT, LINE};
+use fairleadow::{Library, Proved, IMAGE_TEXT, LINE};
 
 use crate::explain;
 use crate::image::Image;
@@ -70,10 +70,10 @@ pub fn no_image(kind: Kind) -> Problem {
 pub fn translated(source: &Source) -> Result<Vec<u8>, Problem> {
     let mut image = vec![0; IMAGE_TEXT];
     match Proved.translate(&source.text, &mut image) {
-        Answer::Done(length) => {
+        Ok(length) => {
             image.truncate(length);
             Ok(image)
         }
-        answer => Err(source.problem(answer)),
+        Err(refusal) => Err(source.problem(refusal)),
     }
 }

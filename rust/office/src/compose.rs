@@ -1,6 +1,6 @@
 //! `compose` and `show`: the readable notation into chart lines, and back.
 
-use fairleadow::{Answer, Library, Proved, RECORD, RECORDS};
+use fairleadow::{Library, Proved, RECORD, RECORDS};
 
 use crate::check::translated;
 use crate::kind::{has_digits, Kind};
@@ -30,7 +30,7 @@ pub fn shown(source: &Source) -> Result<String, Problem> {
     }
     let mut records = vec![0; RECORDS];
     match Proved.read_chart(&source.text, &mut records) {
-        Answer::Done(count) => Ok(Notation::of_records(&records[..count * RECORD]).layout()),
-        answer => Err(source.problem(answer)),
+        Ok(count) => Ok(Notation::of_records(&records[..count * RECORD]).layout()),
+        Err(refusal) => Err(source.problem(refusal)),
     }
 }

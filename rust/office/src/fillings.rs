@@ -2,7 +2,7 @@
 
 mod drops;
 
-use fairleadow::{Answer, FillingsReport, Library, COUNTED_BITS, COUNTED_TICKS, PLACES};
+use fairleadow::{Fillings, Library, Refusal, COUNTED_BITS, COUNTED_TICKS, PLACES};
 
 use crate::columns::aligned;
 use crate::image::Image;
@@ -39,17 +39,15 @@ impl Lists {
 /// What was counted of each stack, that of 1 place first; of an image with a handler also its drops.
 pub struct Drawing {
     lists: Lists,
-    stacks: Vec<FillingsReport>,
+    stacks: Vec<Fillings>,
     drops: Vec<Drops>,
 }
 
 impl Drawing {
     /// Counts on an accepted image by a library, or hands back why it is refused.
-    pub fn of(library: &dyn Library, image: &Image, lists: Lists) -> Result<Drawing, Answer> {
-        let counted = |places| {
-            let counted = library.count_fillings(&image.text, places, lists.ticks, lists.conditions);
-            counted.answer.ok().map(|_| counted).map_err(|_| counted.answer)
-        };
+    pub fn of(library: &dyn Library, image: &Image, lists: Lists) -> Result<Drawing, Refusal> {
+        let Lists { ticks, conditions } = lists;
+        let counted = |places| library.count_fillings(&image.text, places, ticks, conditions);
         let stacks = (1..=PLACES).map(counted).collect::<Result<_, _>>()?;
         Ok(Drawing { lists, stacks, drops: Vec::new() })
     }
@@ -70,7 +68,7 @@ impl Drawing {
     }
 
     /// What was counted of each stack, that of 1 place first; no drops where there is no handler.
-    pub fn stacks(&self) -> impl Iterator<Item = (&FillingsReport, Drops)> {
+    pub fn stacks(&self) -> impl Iterator<Item = (&Fillings, Drops)> {
         self.stacks.iter().enumerate().map(|(at, stack)| (stack, self.drops_of(at)))
     }
 

@@ -38,11 +38,11 @@ pub fn named<T: Copy>(value: Option<&OsStr>, known: &[(&str, T)]) -> Result<Opti
 
 /// A problem with its place, the refusal's number and rule, and what to look for.
 pub fn problem(problem: &Problem) -> Json {
-    let refusal = problem.refusal.as_ref().map(|refusal| {
+    let refusal = problem.refusal.map(|refusal| {
         Json::Record(vec![
-            ("number", refusal.number.into()),
-            ("index", refusal.index.into()),
-            ("count", refusal.count.into()),
+            ("number", refusal.number().into()),
+            ("index", refusal.index().into()),
+            ("count", refusal.ticks().into()),
             ("rule", rules::rule(refusal).into()),
         ])
     });

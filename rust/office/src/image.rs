@@ -1,6 +1,6 @@
 //! An accepted image as labels and rows.
 
-use fairleadow::{Answer, Library, Proved, State, TABLE};
+use fairleadow::{Library, Proved, State, TABLE};
 
 use crate::explain;
 use crate::explain::image::{Frame, Header, Part};
@@ -96,8 +96,8 @@ impl Image {
     pub fn read(text: Vec<u8>) -> Result<Image, Problem> {
         other::refused(&text, "an image")?;
         match Proved.check_image(&text) {
-            Answer::Done(_) => Ok(Image::accepted(text)),
-            answer => Err(explain::refusal(&text, Kind::Image, answer)),
+            Ok(_) => Ok(Image::accepted(text)),
+            Err(refusal) => Err(explain::refusal(&text, Kind::Image, refusal)),
         }
     }
 
@@ -146,11 +146,11 @@ impl Image {
     pub fn prepared(&self) -> Result<Vec<u8>, Problem> {
         let mut table = vec![0; TABLE];
         match Proved.prepare(&self.text, &mut table) {
-            Answer::Done(length) => {
+            Ok(length) => {
                 table.truncate(length);
                 Ok(table)
             }
-            answer => Err(explain::refusal(&self.text, Kind::Image, answer)),
+            Err(refusal) => Err(explain::refusal(&self.text, Kind::Image, refusal)),
         }
     }
 

@@ -4,7 +4,7 @@ mod lines;
 
 use std::collections::HashMap;
 
-use fairleadow::{Answer, Library, Proved, ROWS};
+use fairleadow::{Library, Proved, Refusal, ROWS};
 
 use crate::explain;
 use crate::image::{Image, Row};
@@ -34,8 +34,8 @@ pub fn patched(subject: &Subject, bytes: &[u8]) -> Result<Patched, Problem> {
     let whole = applied(subject, &lines.lines).map_err(told)?;
     let text = subject.image.with_rows(&whole.rows);
     match Proved.check_image(&text) {
-        Answer::Done(_) => Ok(whole.patched(Image::accepted(text))),
-        answer => Err(told(refused(subject, &lines.lines, answer))),
+        Ok(_) => Ok(whole.patched(Image::accepted(text))),
+        Err(refusal) => Err(told(refused(subject, &lines.lines, refusal))),
     }
 }
 
@@ -127,14 +127,14 @@ fn no_such_row(subject: &Subject, line: &Line) -> Problem {
 }
 
 /// The first line with which the library refuses the image, and why.
-fn refused(subject: &Subject, lines: &[Line], whole: Answer) -> Problem {
+fn refused(subject: &Subject, lines: &[Line], whole: Refusal) -> Problem {
     for count in 1..=lines.len() {
         let Ok(rows) = applied(subject, &lines[..count]) else { break };
         let text = subject.image.with_rows(&rows.rows);
-        if let Err(refusal) = Proved.check_image(&text).ok() {
+        if let Err(refusal) = Proved.check_image(&text) {
             let line = &lines[count - 1];
-            let told = match refusal.number {
-                13 => fault(subject, line),
+            let told = match refusal {
+                Refusal::BadContent(_) => fault(subject, line),
                 _ if rows.rows.len() > ROWS => {
                     let has = counted(rows.rows.len(), "row");
                     Some((line.from, format!("with this row the image has {has}, and {ROWS} are the most")))

@@ -1,7 +1,7 @@
 //! `places`: how many places of the stack a chart needs. The number is the library's; the chain or the circle of calls is
 //! looked for here and held to it.
 
-use fairleadow::{Answer, Library, Proved};
+use fairleadow::{Answer, Library, Proved, Refusal};
 
 use crate::calls::Calls;
 use crate::kind::Kind;
@@ -18,8 +18,9 @@ pub fn needed(bytes: &[u8]) -> Result<String, Problem> {
 pub fn chain(bytes: &[u8]) -> Result<Vec<String>, Problem> {
     let plan = Plan::read(counted_by_library(bytes)?)?;
     match held(Proved.places(&plan.source.text), Calls::of(&plan.nodes))? {
-        (Answer::Done(_), Calls::Chain(schemes)) => Ok(named(&plan, &schemes)),
-        (answer, _) => Err(plan.source.problem(answer)),
+        (Ok(_), Calls::Chain(schemes)) => Ok(named(&plan, &schemes)),
+        (Err(refusal), _) => Err(plan.source.problem(refusal)),
+        (Ok(places), Calls::Circle(_)) => Err(differ("a circle of calls is found", Ok(places))),
     }
 }
 
@@ -31,8 +32,8 @@ fn counted_by_library(bytes: &[u8]) -> Result<Source, Problem> {
     }
     let source = source::from_either(bytes)?;
     match Proved.places(&source.text) {
-        Answer::Done(_) => Ok(source),
-        answer => Err(source.problem(answer)),
+        Ok(_) => Ok(source),
+        Err(refusal) => Err(source.problem(refusal)),
     }
 }
 
@@ -43,13 +44,14 @@ pub fn told(source: &Source) -> Result<String, Problem> {
 
 fn of_plan(plan: &Plan) -> Result<String, Problem> {
     match held(Proved.places(&plan.source.text), Calls::of(&plan.nodes))? {
-        (Answer::Done(places), Calls::Chain(schemes)) => {
+        (Ok(places), Calls::Chain(schemes)) => {
             Ok(format!("needs {}: {}", counted(places, "place"), named(plan, &schemes).join(" > ")))
         }
-        (Answer::Refused { number: 20, .. }, Calls::Circle(nodes)) => {
+        (Err(Refusal::CallsItself), Calls::Circle(nodes)) => {
             Ok(format!("may need any number of places: {}", round(plan, &nodes)))
         }
-        (answer, _) => Err(plan.source.problem(answer)),
+        (Err(refusal), _) => Err(plan.source.problem(refusal)),
+        (Ok(places), Calls::Circle(_)) => Err(differ("a circle of calls is found", Ok(places))),
     }
 }
 
@@ -57,25 +59,26 @@ fn of_plan(plan: &Plan) -> Result<String, Problem> {
 /// refusal 20 a circle.
 pub(crate) fn held(answer: Answer, calls: Calls) -> Result<(Answer, Calls), Problem> {
     let (found, agrees) = match (&calls, answer) {
-        (Calls::Chain(schemes), Answer::Done(places)) => {
+        (Calls::Chain(schemes), Ok(places)) => {
             (format!("a chain of {} is found", counted(schemes.len(), "scheme")), schemes.len() == places)
         }
-        (Calls::Chain(_), Answer::Refused { number, .. }) => {
-            ("no circle of calls is found".to_string(), number != 20)
+        (Calls::Chain(_), Err(refusal)) => {
+            ("no circle of calls is found".to_string(), refusal != Refusal::CallsItself)
         }
-        (Calls::Circle(_), answer) => ("a circle of calls is found".to_string(), answer.number() != 0),
+        (Calls::Circle(_), answer) => ("a circle of calls is found".to_string(), answer.is_err()),
     };
     match agrees {
         true => Ok((answer, calls)),
-        false => Err(Problem::internal(format!("{found}, and the library {}", answered(answer)))),
+        false => Err(differ(&found, answer)),
     }
 }
 
-fn answered(answer: Answer) -> String {
-    match answer {
-        Answer::Done(places) => format!("says {}", counted(places, "place")),
-        Answer::Refused { number, .. } => format!("refuses with {number}"),
-    }
+fn differ(found: &str, answer: Answer) -> Problem {
+    let answered = match answer {
+        Ok(places) => format!("says {}", counted(places, "place")),
+        Err(refusal) => format!("refuses with {}", refusal.number()),
+    };
+    Problem::internal(format!("{found}, and the library {answered}"))
 }
 
 fn named(plan: &Plan, schemes: &[u8]) -> Vec<String> {
@@ -110,16 +113,21 @@ mod tests {
 
     #[test]
     fn chains_and_circles_that_the_library_does_not_bear_out_are_told() {
-        let refused = |number| Answer::Refused { number, index: 0, count: 0 };
         let (chain, circle) = (|| Calls::Chain(vec![1, 3]), || Calls::Circle(vec![4]));
-        for (answer, calls) in [(Answer::Done(2), chain()), (refused(20), circle()), (refused(10), chain())] {
+        for (answer, calls) in
+            [(Ok(2), chain()), (Err(Refusal::CallsItself), circle()), (Err(Refusal::ManyRows), chain())]
+        {
             assert_eq!(held(answer, calls.clone()), Ok((answer, calls)));
         }
         for (answer, calls, told) in [
-            (Answer::Done(3), chain(), "a chain of 2 schemes is found, and the library says 3 places"),
-            (Answer::Done(1), chain(), "a chain of 2 schemes is found, and the library says 1 place"),
-            (refused(20), chain(), "no circle of calls is found, and the library refuses with 20"),
-            (Answer::Done(2), circle(), "a circle of calls is found, and the library says 2 places"),
+            (Ok(3), chain(), "a chain of 2 schemes is found, and the library says 3 places"),
+            (Ok(1), chain(), "a chain of 2 schemes is found, and the library says 1 place"),
+            (
+                Err(Refusal::CallsItself),
+                chain(),
+                "no circle of calls is found, and the library refuses with 20",
+            ),
+            (Ok(2), circle(), "a circle of calls is found, and the library says 2 places"),
         ] {
             assert_eq!(
                 held(answer, calls).expect_err("they differ").words,

@@ -1,6 +1,6 @@
 //! An accepted chart, ready to be traced and drawn: its nodes, the shop's names, its image and its labels.
 
-use fairleadow::{Answer, Library, Proved, RECORD, RECORDS};
+use fairleadow::{Library, Proved, RECORD, RECORDS};
 
 use crate::chart::{nodes, Node};
 use crate::check::translated;
@@ -27,12 +27,12 @@ impl Plan {
     pub fn read(source: Source) -> Result<Plan, Problem> {
         let mut records = [0; RECORDS];
         match Proved.read_chart(&source.text, &mut records) {
-            Answer::Done(count) => {
+            Ok(count) => {
                 let nodes = nodes(&records[..RECORD * count]);
                 let marking = Marking::of(&nodes);
                 Plan::marked(source, nodes, marking)
             }
-            refused => Err(source.problem(refused)),
+            Err(refusal) => Err(source.problem(refusal)),
         }
     }
 

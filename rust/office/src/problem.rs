@@ -126,8 +126,8 @@ impl fmt::Display for Problem {
                 write!(f, "\n    {}^", " ".repeat(width(&before) + past))?;
             }
         }
-        if let Some(refusal) = &self.refusal {
-            write!(f, "\n  refusal {}: {}", refusal.number, rules::rule(refusal))?;
+        if let Some(refusal) = self.refusal {
+            write!(f, "\n  refusal {}: {}", refusal.number(), rules::rule(refusal))?;
         }
         if !self.advice.is_empty() {
             write!(f, "\n  look for: {}", self.advice)?;
@@ -207,8 +207,10 @@ mod tests {
 
     #[test]
     fn a_problem_shows_its_line_and_its_column() {
-        let refusal = Refusal { number: 3, index: 1, count: 0 };
-        let problem = Problem::at(2, 3, "wrong").advice("a slip").refused(refusal).excerpt(b"00\nab\x01\r\n");
+        let problem = Problem::at(2, 3, "wrong")
+            .advice("a slip")
+            .refused(Refusal::BadSum(1))
+            .excerpt(b"00\nab\x01\r\n");
         let lines: Vec<String> = problem.to_string().lines().map(String::from).collect();
         assert_eq!(lines[..3], ["line 2, column 3: wrong", "    ab.", "      ^"]);
         assert!(lines[3].starts_with("  refusal 3: "));

@@ -4,7 +4,7 @@ use std::ffi::OsStr;
 use std::fs::{self, File};
 use std::io::{self, ErrorKind, Read};
 
-use fairleadow::{Answer, CHART_TEXT, IMAGE_TEXT};
+use fairleadow::{Refusal, CHART_TEXT, IMAGE_TEXT};
 
 use crate::explain;
 use crate::kind::Kind;
@@ -24,10 +24,10 @@ pub struct Source {
 
 impl Source {
     /// Why the library refuses this text: by the lines of the file that it came from.
-    pub fn problem(&self, answer: Answer) -> Problem {
+    pub fn problem(&self, refusal: Refusal) -> Problem {
         match &self.notation {
-            Some(notation) => notation.problem(answer),
-            None => explain::refusal(&self.text, Kind::Chart, answer),
+            Some(notation) => notation.problem(refusal),
+            None => explain::refusal(&self.text, Kind::Chart, refusal),
         }
     }
 }

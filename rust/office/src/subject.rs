@@ -1,6 +1,6 @@
 //! What is asked about: an image by its labels, or a chart by its nodes and names. An image may be given the names of a chart.
 
-use fairleadow::Answer;
+use fairleadow::Refusal;
 
 use crate::explain;
 use crate::image::{end_of, Image, Open};
@@ -66,10 +66,10 @@ impl Subject {
     }
 
     /// Why the library refuses a run of it.
-    pub fn problem(&self, answer: Answer) -> Problem {
+    pub fn problem(&self, refusal: Refusal) -> Problem {
         match &self.plan {
-            Some(plan) if self.is_chart => plan.source.problem(answer),
-            _ => explain::refusal(&self.image.text, Kind::Image, answer),
+            Some(plan) if self.is_chart => plan.source.problem(refusal),
+            _ => explain::refusal(&self.image.text, Kind::Image, refusal),
         }
     }
 

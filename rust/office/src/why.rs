@@ -2,7 +2,7 @@
 
 mod told;
 
-use fairleadow::{Answer, CauseReport, Library, Proved, State, TickReport};
+use fairleadow::{Answer, Cause, Library, Proved, Refusal, State, Tick};
 
 use crate::plan::Plan;
 use crate::problem::Problem;
@@ -17,9 +17,9 @@ pub struct Asked {
     pub number: usize,
     pub word: u16,
     pub before: State,
-    pub ticked: TickReport,
+    pub ticked: Result<Tick, Refusal>,
     pub after: State,
-    pub cause: CauseReport,
+    pub cause: Result<Cause, Refusal>,
 }
 
 /// The tick of this number of a run from a fresh state by the words, with swaps before some of them, or the last one; a tick that is
@@ -34,17 +34,21 @@ pub fn asked(
     let image = &subject.image.text;
     let table = subject.image.prepared()?;
     let start = fresh(places)?;
-    let (answer, _) = run(&table, &start, words, swaps)?;
-    let last = answer.count().min(words.len() - 1);
+    let answer = run(&table, &mut start.clone(), words, swaps)?;
+    let last = answer.unwrap_or_else(Refusal::ticks).min(words.len() - 1);
     let number = tick.unwrap_or(last);
     if number > last {
-        let ended = subject.problem(answer);
+        let ended = match answer {
+            Err(refusal) => subject.problem(refusal),
+            Ok(_) => Problem::new("nothing is refused"),
+        };
         if ended.is_internal() {
             return Err(ended);
         }
         return Err(Problem { words: format!("tick {number} is not reached: {}", ended.words), ..ended });
     }
-    let (_, mut before) = run(&table, &start, &words[..number], swaps)?;
+    let mut before = start;
+    let _ = run(&table, &mut before, &words[..number], swaps)?;
     swaps::make(swaps, number, &table, &mut before)?;
     let (word, mut after) = (words[number], before);
     let ticked = Proved.live_tick(&table, &mut after, word);
@@ -85,19 +89,17 @@ pub fn reasons_of<'a>(
 }
 
 /// The library's live runs from one swap to the next, with room for each tick; counts the ticks of all.
-fn run(table: &[u8], start: &State, words: &[u16], swaps: &[Swap]) -> Result<(Answer, State), Problem> {
-    let mut state = *start;
+fn run(table: &[u8], state: &mut State, words: &[u16], swaps: &[Swap]) -> Result<Answer, Problem> {
     let mut made = 0;
     while made < words.len() {
-        swaps::make(swaps, made, table, &mut state)?;
+        swaps::make(swaps, made, table, state)?;
         let next = swaps.iter().map(|swap| swap.tick).filter(|tick| *tick > made).min();
         let part = &words[made..next.unwrap_or(words.len()).min(words.len())];
-        let (answer, after) =
-            Proved.live_run(table, &state, part, &mut vec![0; part.len()], &mut vec![0; part.len()]);
-        if let Answer::Refused { number, index, count } = answer {
-            return Ok((Answer::Refused { number, index, count: made + count }, after));
+        let (mut masks, mut codes) = (vec![0; part.len()], vec![0; part.len()]);
+        if let Err(refusal) = Proved.live_run(table, state, part, &mut masks, &mut codes) {
+            return Ok(Err(refusal.after(made)));
         }
-        (made, state) = (made + part.len(), after);
+        made += part.len();
     }
-    Ok((Answer::Done(made), state))
+    Ok(Ok(made))
 }

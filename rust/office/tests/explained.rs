@@ -5,7 +5,7 @@ use std::fs;
 use std::path::Path;
 
 use comparison::generate::{charts, damage, images, Random};
-use fairleadow::{Answer, Library, Proved, CHART_TEXT, IMAGE_TEXT, LINE};
+use fairleadow::{Answer, Library, Proved, Refusal, CHART_TEXT, IMAGE_TEXT, LINE};
 use office::explain;
 use office::kind::Kind;
 use office::notation::Notation;
@@ -17,9 +17,9 @@ type Met = BTreeMap<u8, usize>;
 
 /// A reason that names the library's line, and a column of it where it names one.
 fn held(text: &[u8], asked: Kind, answer: Answer, met: &mut Met) {
-    let Err(refusal) = answer.ok() else { return };
-    *met.entry(refusal.number).or_default() += 1;
-    let problem = explain::refusal(text, asked, answer);
+    let Err(refusal) = answer else { return };
+    *met.entry(refusal.number()).or_default() += 1;
+    let problem = explain::refusal(text, asked, refusal);
     let shown = || format!("{problem}\n{answer:?}\n{}", text.escape_ascii());
     assert!(!problem.is_internal() && !problem.advice.is_empty(), "{}", shown());
     assert_eq!(problem.refusal, Some(refusal));
@@ -37,7 +37,7 @@ fn repaired(text: &[u8], problem: &Problem) {
     let mut text = text.to_vec();
     let at = (problem.line.unwrap() - 1) * LINE + problem.column.unwrap() - 1;
     text[at..at + 2].copy_from_slice(&sum.as_bytes()[..2]);
-    if let Answer::Refused { number: 3, index, .. } = Proved.check_image(&text) {
+    if let Err(Refusal::BadSum(index)) = Proved.check_image(&text) {
         assert!(index >= problem.line.unwrap());
     }
 }
@@ -53,10 +53,10 @@ fn hold_image(text: &[u8], met: &mut Met) {
 /// The same records, refused in the notation: a reason at the line of the node.
 fn hold_records(records: &[Frame], met: &mut Met) {
     let answer = Proved.write_chart(&records.concat(), &mut [0; CHART_TEXT]);
-    let Err(refusal) = answer.ok() else { return };
-    *met.entry(refusal.number).or_default() += 1;
+    let Err(refusal) = answer else { return };
+    *met.entry(refusal.number()).or_default() += 1;
     let lines: Vec<usize> = (0..records.len()).map(|node| 2 * node + 5).collect();
-    let problem = explain::composed(&records.concat(), &Default::default(), &lines, answer);
+    let problem = explain::composed(&records.concat(), &Default::default(), &lines, refusal);
     assert!(!problem.is_internal(), "{answer:?} {records:?}");
     if let Some(frame) = refusal.frame() {
         assert_eq!(problem.line, Some(2 * frame + 5));
@@ -114,20 +114,14 @@ fn hold_blame(text: &[u8], asked: Kind, met: &mut Met) {
         Kind::Image => Proved.check_image(text),
         _ => Proved.translate(text, &mut [0; IMAGE_TEXT]),
     };
-    let answer = ask(text);
-    let Some(refusal) = answer.ok().err().filter(|refusal| matches!(refusal.number, 4 | 6 | 7 | 12 | 13))
-    else {
-        return;
-    };
-    *met.entry(refusal.number).or_default() += 1;
-    let problem = explain::refusal(text, asked, answer);
+    let blamed = |refusal: &Refusal| matches!(refusal.number(), 4 | 6 | 7 | 12 | 13);
+    let Some(refusal) = ask(text).err().filter(blamed) else { return };
+    *met.entry(refusal.number()).or_default() += 1;
+    let problem = explain::refusal(text, asked, refusal);
     let (line, column) = (problem.line.expect("a line"), problem.column.expect("a column"));
     let settled = (0..=255).any(|value| {
         let repaired = with_byte(text, line, (column - 1) / 2, value);
-        let again = ask(&repaired);
-        let same = again.number() == refusal.number
-            && again.ok().err().is_some_and(|new| new.index == refusal.index);
-        !same || explain::refusal(&repaired, asked, again).column > Some(column)
+        ask(&repaired) != Err(refusal) || explain::refusal(&repaired, asked, refusal).column > Some(column)
     });
     assert!(settled, "{problem}\n{}", text.escape_ascii());
 }
@@ -151,9 +145,8 @@ fn rows_of_the_longest_paths_are_counted() {
     use comparison::samples::{longest_path, Before};
     for before in [Before::Begin, Before::Operation, Before::Function] {
         let text = text_of(&longest_path(before, 16));
-        let answer = Proved.translate(&text, &mut [0; IMAGE_TEXT]);
-        assert_eq!(answer.number(), 10);
-        let words = explain::refusal(&text, Kind::Chart, answer).words;
+        assert_eq!(Proved.translate(&text, &mut [0; IMAGE_TEXT]), Err(Refusal::ManyRows));
+        let words = explain::refusal(&text, Kind::Chart, Refusal::ManyRows).words;
         assert!(words.contains(" has 65,536") || words.contains(" has 131,072"), "{words}");
     }
 }

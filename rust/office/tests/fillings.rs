@@ -2,7 +2,7 @@
 
 mod shared;
 
-use fairleadow::{Library, Proved};
+use fairleadow::{Library, Proved, Refusal};
 use office::fillings::{Drawing, Lists};
 use office::image::Image;
 use office::subject::Subject;
@@ -81,13 +81,13 @@ fn drops_are_those_of_the_lists() {
     for places in 1..=5 {
         let mut found = [0; 3];
         for list in 0..1u32 << 14 {
-            let mut state = Proved.fresh(places).1;
+            let mut state = Proved.fresh(places).expect("a good size");
             let (mut dropped, mut full) = (false, false);
             for tick in 0..7 {
                 let word = (list >> (2 * tick) & 3) as u16;
                 let ticked = Proved.tick(&subject.image.text, &mut state, word);
-                full |= ticked.answer.number() == 17;
-                dropped |= ticked.answer.number() == 0 && ticked.code == 0x60;
+                full |= matches!(ticked, Err(Refusal::Full { .. }));
+                dropped |= ticked.is_ok_and(|ticked| ticked.code == 0x60);
                 if full {
                     break;
                 }

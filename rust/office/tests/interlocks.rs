@@ -250,13 +250,10 @@ fn random_charts_have_the_interlocks_that_a_plain_search_finds() {
 
 /// The first tick of a run of the reference that puts out one output before the other since the last home tick.
 fn first_broken(image: &[u8], size: usize, words: &[u16], late: u32, early: u32) -> Option<usize> {
-    let (_, mut state) = Reference.fresh(size);
+    let mut state = Reference.fresh(size).expect("a good size");
     let mut was_on = false;
     for (number, word) in words.iter().enumerate() {
-        let ticked = Reference.tick(image, &mut state, *word);
-        if ticked.answer.number() != 0 {
-            return None;
-        }
+        let ticked = Reference.tick(image, &mut state, *word).ok()?;
         if ticked.mask >> late & 1 == 1 && !was_on {
             return Some(number);
         }

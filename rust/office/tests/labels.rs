@@ -146,26 +146,27 @@ fn random_images_run_as_the_reference_has_them() {
             }
         }
         let Ok(run) = run_labels(&image, size, &words, &swaps) else { panic!("{seed}") };
-        let (_, mut state) = Reference.fresh(size);
+        let mut state = Reference.fresh(size).expect("a good size");
         for (number, word) in words.iter().enumerate() {
             for swap in swaps.iter().filter(|swap| swap.tick == number) {
-                assert_eq!(Reference.rebind(&text, &mut state, swap.number, swap.scheme).number(), 0);
+                assert_eq!(Reference.rebind(&text, &mut state, swap.number, swap.scheme), Ok(0));
             }
             let before: State = state;
             let ticked = Reference.tick(&text, &mut state, *word);
             let Some(tick) = run.ticks.get(number) else {
                 let stopped = run.stopped.as_ref().expect("a refusal");
-                assert_eq!(stopped.answer.number(), ticked.answer.number());
-                *stops.entry(ticked.answer.number()).or_insert(0) += 1;
+                assert_eq!(Some(stopped.refusal), ticked.err().map(|refusal| refusal.after(number)));
+                *stops.entry(stopped.refusal.number()).or_insert(0) += 1;
                 break;
             };
+            let ticked = ticked.expect("as the library has it");
             assert_eq!(
                 (tick.mask, tick.code, tick.results),
                 (ticked.mask, ticked.code, state.results),
                 "{seed}"
             );
             let cause = Reference.cause(&text, &before, *word);
-            assert_eq!(tick.row, (cause.answer.number() == 0).then_some(cause.row), "{seed} {number}");
+            assert_eq!(tick.row, cause.ok().map(|cause| cause.row), "{seed} {number}");
             let open: Vec<u8> = tick.stack.iter().map(|open| open.label).collect();
             assert_eq!(open, before.places[..usize::from(before.depth)]);
             rows += usize::from(tick.row.is_some());

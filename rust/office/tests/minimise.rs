@@ -100,7 +100,7 @@ fn random_images_are_joined_or_told_why_not() {
         match minimised(&text) {
             Ok(smaller) => assert_eq!(Ok(smaller), entry::minimised(&text)),
             Err(problem) => {
-                assert_eq!(problem.refusal.map(|refusal| refusal.number), Some(23));
+                assert_eq!(problem.refusal.map(|refusal| refusal.number()), Some(23));
                 assert!(problem.words.starts_with("line "), "{}", problem.words);
                 refused += 1;
             }

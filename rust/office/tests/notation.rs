@@ -271,7 +271,7 @@ fn a_wrong_mark_is_told_by_its_line() {
     let words = "line 5 (begin): scheme shaping cannot be the handler; marked Begins: line 5 and line 12";
     assert_eq!((problem.words.as_str(), problem.line, problem.column), (words, Some(5), Some(7)));
     assert_eq!(problem.excerpt.as_deref(), Some("begin when the stack is full -> start"));
-    assert_eq!(problem.refusal.map(|refusal| refusal.number), Some(19));
+    assert_eq!(problem.refusal.map(|refusal| refusal.number()), Some(19));
     let third = format!("{first}scheme 3\nback: begin\twhen  the stack is full -> end\nend\n");
     let problem = source::from_notation(&third).expect_err("a second mark");
     let words = "line 16 (node back): a second handler; marked Begins: line 12 and back (line 16)";

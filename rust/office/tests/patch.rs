@@ -99,7 +99,7 @@ fn what_is_refused_is_told_by_line_and_column() {
 fn refusals_of_the_library_are_told_with_their_rule() {
     let number = |subject: &Subject, text: &str| {
         let problem = patched(subject, text.as_bytes()).expect_err("a refusal");
-        problem.refusal.expect("a number").number
+        problem.refusal.expect("a number").number()
     };
     let knots = subject("roughing.image");
     for text in [
@@ -119,7 +119,7 @@ fn refusals_of_the_library_are_told_with_their_rule() {
     };
     let many: String = (0..1_019).map(line).collect();
     let problem = patched(&knots, many.as_bytes()).expect_err("too many rows");
-    assert_eq!(problem.refusal.expect("a number").number, 11);
+    assert_eq!(problem.refusal.expect("a number").number(), 11);
     assert_eq!(
         problem.words,
         "line 1019, column 4: with this row the image has 1,025 rows, and 1024 are the most"
@@ -212,7 +212,7 @@ fn a_damaged_patch_is_told_with_its_place() {
         damaged[at] = byte;
         match patched(&subject, &damaged) {
             Ok(patched) => {
-                assert_eq!(Proved.check_image(&patched.image.text).number(), 0);
+                assert_eq!(Proved.check_image(&patched.image.text), Ok(0));
                 fine += 1;
             }
             Err(problem) => {

@@ -199,7 +199,7 @@ fn a_patch_and_then_the_difference_say_the_same() {
         }
         if rows.len() > 1_024 {
             let problem = patched(&subject, lines.as_bytes()).expect_err("too many rows");
-            assert_eq!(problem.refusal.map(|refusal| refusal.number), Some(11));
+            assert_eq!(problem.refusal.map(|refusal| refusal.number()), Some(11));
             continue;
         }
         let patched =

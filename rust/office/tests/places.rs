@@ -6,7 +6,7 @@ use std::collections::BTreeMap;
 use std::fs;
 
 use comparison::generate::{chains, Random};
-use fairleadow::{Answer, Library, Proved, RECORD, RECORDS};
+use fairleadow::{Library, Proved, Refusal, RECORD, RECORDS};
 use office::calls::Calls;
 use office::chart::{nodes, Node};
 use office::explain;
@@ -64,25 +64,25 @@ fn hold(records: &[Frame], met: &mut BTreeMap<usize, usize>) {
     let text = text_of(records);
     let answer = Proved.places(&text);
     let mut read = [0; RECORDS];
-    let Answer::Done(count) = Proved.read_chart(&text, &mut read) else { return };
+    let Ok(count) = Proved.read_chart(&text, &mut read) else { return };
     let chart = nodes(&read[..count * RECORD]);
     match (answer, Calls::of(&chart)) {
-        (Answer::Done(places), Calls::Chain(schemes)) => {
+        (Ok(places), Calls::Chain(schemes)) => {
             assert_eq!(schemes.len(), places);
             assert_eq!(schemes[0], 1);
             assert!(schemes.windows(2).all(|pair| calls(&chart, pair[0], pair[1])), "{schemes:?}");
             *met.entry(places).or_default() += 1;
         }
-        (Answer::Refused { number: 20, .. }, Calls::Circle(round)) => {
+        (Err(refusal @ Refusal::CallsItself), Calls::Circle(round)) => {
             let next = round.iter().cycle().skip(1);
             assert!(round.iter().zip(next).all(|(at, next)| called(&chart[*at]) == chart[*next].scheme()));
             assert!(reached(&chart).contains(&chart[round[0]].scheme()));
-            let told = explain::refusal(&text, Kind::Chart, answer);
+            let told = explain::refusal(&text, Kind::Chart, refusal);
             assert!(!told.is_internal() && told.words.contains("calls itself"), "{told}");
             assert_eq!((told.line, told.column), (Some(round[0] + 1), Some(5)));
             *met.entry(0).or_default() += 1;
         }
-        (Answer::Refused { number: 10, .. }, _) => {}
+        (Err(Refusal::ManyRows), _) => {}
         (answer, calls) => panic!("{answer:?} {calls:?}\n{}", text.escape_ascii()),
     }
 }

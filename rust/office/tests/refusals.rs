@@ -233,14 +233,16 @@ fn refusal_10_rows() {
 /// Refusals of states and runs name no line; their words tell the ticks.
 #[test]
 fn refusals_14_to_18() {
-    use fairleadow::{Answer, Library, Proved, State};
+    use fairleadow::{Library, Proved, Refusal, State};
     use office::kind::Kind;
-    let told = |answer: Answer| office::explain::refusal(IMAGE.as_bytes(), Kind::Image, answer).words;
-    assert_eq!(told(Proved.fresh(33).0), "a stack has 1 to 32 places");
+    let told = |refusal: Refusal| office::explain::refusal(IMAGE.as_bytes(), Kind::Image, refusal).words;
+    assert_eq!(told(Proved.fresh(33).unwrap_err()), "a stack has 1 to 32 places");
     let run = |image: &str, state: &State, room: usize| {
-        Proved.run(image.as_bytes(), state, &[0, 0, 1, 0], &mut vec![0; room], &mut vec![0; room]).0
+        let (mut state, mut masks, mut codes) = (*state, vec![0; room], vec![0; room]);
+        let answer = Proved.run(image.as_bytes(), &mut state, &[0, 0, 1, 0], &mut masks, &mut codes);
+        answer.expect_err("it is refused")
     };
-    let state = Proved.fresh(2).1;
+    let state = Proved.fresh(2).expect("a good size");
     assert_eq!(told(run(IMAGE, &State::NONE, 4)), "the state does not fit the image");
     assert_eq!(told(run(IMAGE, &state, 3)), "a buffer is too short for the answer");
     assert_eq!(told(run(IMAGE, &state, 4)), "after 3 ticks a call finds the stack full");
@@ -270,22 +272,24 @@ fn refusal_19_the_mark() {
 /// The first full stack starts the handler, the second is met with the handler at the bottom.
 #[test]
 fn a_full_stack_is_refused_while_the_handler_is_at_the_bottom() {
-    use fairleadow::{Library, Proved, State};
+    use fairleadow::{Library, Proved, Refusal, State};
     let chart = edited(CHART, 4, 5, "01");
     let mut image = vec![0; fairleadow::IMAGE_TEXT];
-    let length = Proved.translate(chart.as_bytes(), &mut image).ok().expect("an image");
+    let length = Proved.translate(chart.as_bytes(), &mut image).expect("an image");
     assert_eq!(image[..length], *edited(IMAGE, 1, 11, "02").as_bytes());
     let (mut masks, mut codes) = ([0; 9], [0; 9]);
     let words = [0, 0, 1, 0, 1, 1, 1, 0, 0];
-    let (answer, after) = Proved.run(&image[..length], &Proved.fresh(2).1, &words, &mut masks, &mut codes);
-    assert_eq!((answer.number(), answer.count()), (17, 7));
+    let mut after = Proved.fresh(2).expect("a good size");
+    let answer = Proved.run(&image[..length], &mut after, &words, &mut masks, &mut codes);
+    assert_eq!(answer, Err(Refusal::Full { ticks: 7 }));
     assert_eq!(codes[..7], [0x04, 0x12, 0x00, 0x60, 0x00, 0x12, 0x00]);
     assert_eq!(masks[..7], [0, 1, 0, 2, 0, 2, 0]);
     assert_eq!((after.depth, &after.places[..3]), (2, &[4, 4, 0][..]));
     // the handler at the bottom fits an image with this handler alone
-    let answer = |image: &str, state: &State| Proved.run(image.as_bytes(), state, &[], &mut [], &mut []).0;
-    assert_eq!(answer(IMAGE, &after).number(), 15);
-    assert_eq!(answer(&edited(IMAGE, 1, 11, "02"), &after).number(), 0);
+    let answer =
+        |image: &str, mut state: State| Proved.run(image.as_bytes(), &mut state, &[], &mut [], &mut []);
+    assert_eq!(answer(IMAGE, after), Err(Refusal::Unfit));
+    assert_eq!(answer(&edited(IMAGE, 1, 11, "02"), after), Ok(0));
 }
 
 #[test]

@@ -22,7 +22,7 @@ fn examples(extension: &str) -> Vec<PathBuf> {
 
 fn shown(chart: &[u8]) -> String {
     let mut records = [0; RECORDS];
-    let count = Proved.read_chart(chart, &mut records).ok().expect("a chart");
+    let count = Proved.read_chart(chart, &mut records).expect("a chart");
     Notation::of_records(&records[..count * RECORD]).layout()
 }
 

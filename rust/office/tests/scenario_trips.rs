@@ -4,7 +4,7 @@
 mod shared;
 
 use comparison::generate::{charts, runs, Random};
-use fairleadow::{Library, Proved, IMAGE_TEXT};
+use fairleadow::{Library, Proved, Refusal, IMAGE_TEXT};
 use office::plan::Plan;
 use office::scenario::{play, written, Played, Scenario, Stage, Vocabulary};
 use office::source::from_bytes;
@@ -100,7 +100,7 @@ fn a_saved_trace_is_run_again() {
             let again = trace(&plan, places, &played.words, &played.swaps).expect("an accepted chart");
             assert!(first.ticks.iter().map(shown).eq(again.ticks.iter().map(shown)), "{text}");
             let ended = |trace: &office::trace::Trace| {
-                trace.stopped.as_ref().map(|stopped| (stopped.number, stopped.word, stopped.swaps.clone()))
+                trace.stopped.as_ref().map(|stopped| (stopped.refusal, stopped.word, stopped.swaps.clone()))
             };
             assert_eq!(ended(&first), ended(&again), "{text}");
             // what is saved of it is the same text
@@ -128,7 +128,8 @@ fn a_step_ends_where_the_masks_say() {
         }
         let (word, output, most) = (random.below(0x10000) as u16, random.below(6), random.within(1, 40));
         let (mut image, mut masks, mut codes) = ([0; IMAGE_TEXT], [0; 90], [0; 90]);
-        let made = Proved.dry_run(&chart, 32, &mut image, &[word; 90], &mut masks, &mut codes).count();
+        let made = Proved.dry_run(&chart, 32, &mut image, &[word; 90], &mut masks, &mut codes);
+        let made = made.unwrap_or_else(Refusal::ticks);
         let step = format!("0x{word:X} until output y{output} at most {most}\n");
         let (_, played) = played(&plan, &format!("places 32\n{}", step.repeat(2)));
         let on: Vec<usize> = (0..made).filter(|tick| masks[*tick] >> output & 1 == 1).collect();

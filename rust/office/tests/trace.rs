@@ -254,7 +254,8 @@ fn ticks_are_made_on_a_prepared_table() {
     };
     let on_text = || {
         let mut state = trace::fresh(32).expect("a state");
-        words.iter().map(|word| Proved.tick(image, &mut state, *word).mask).collect()
+        let mut tick = |word: &u16| Proved.tick(image, &mut state, *word).expect("it is made");
+        words.iter().map(|word| tick(word).mask).collect()
     };
     let ((table, table_masks), (text, text_masks)) = (least(on_table), least(on_text));
     assert_eq!(table_masks, text_masks);

@@ -70,7 +70,7 @@ fn the_proved_programs_print_the_same() {
                 images += 1;
             }
             Err(problem) => {
-                let number = problem.refusal.expect("a number").number;
+                let number = problem.refusal.expect("a number").number();
                 assert!(wanted.starts_with(format!("FF{number:02X}").as_bytes()), "{at} {problem}");
                 refused += 1;
             }

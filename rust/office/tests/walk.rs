@@ -3,7 +3,7 @@
 
 use comparison::generate::{charts, runs, Random};
 use comparison::samples;
-use fairleadow::{Answer, Library, Proved, IMAGE_TEXT};
+use fairleadow::{Library, Proved, Refusal, IMAGE_TEXT};
 use office::plan::Plan;
 use office::source::from_bytes;
 use office::trace::swaps::Swap;
@@ -44,7 +44,8 @@ fn compared(chart: &Chart, traced: &Trace, words: &[u16], swaps: &[Swap]) {
         open: tick.stack.len(),
     });
     assert_eq!(ticks.collect::<Vec<_>>(), expected);
-    assert_eq!(traced.stopped.as_ref().map(|stopped| stopped.number), full.then_some(17));
+    let refusal = Refusal::Full { ticks: traced.ticks.len() };
+    assert_eq!(traced.stopped.as_ref().map(|stopped| stopped.refusal), full.then_some(refusal));
     for (tick, word) in traced.ticks.iter().zip(words) {
         assert_eq!(tick.word, *word);
     }
@@ -55,11 +56,7 @@ fn dry_run_is(text: &[u8], traced: &Trace, words: &[u16]) {
     let (mut image, mut masks, mut codes) = ([0; IMAGE_TEXT], vec![0; words.len()], vec![0; words.len()]);
     let answer = Proved.dry_run(text, traced.places, &mut image, words, &mut masks, &mut codes);
     let count = traced.ticks.len();
-    let expected = match &traced.stopped {
-        Some(stopped) => Answer::Refused { number: stopped.number, index: 0, count },
-        None => Answer::Done(count),
-    };
-    assert_eq!(answer, expected);
+    assert_eq!(answer, traced.stopped.as_ref().map_or(Ok(count), |stopped| Err(stopped.refusal)));
     assert!(traced.ticks.iter().map(|tick| tick.mask).eq(masks[..count].iter().copied()));
     assert!(traced.ticks.iter().map(|tick| tick.code).eq(codes[..count].iter().copied()));
 }
@@ -117,7 +114,7 @@ fn traces_are_the_walk() {
             Ok(traced) => traced,
             // charts with too many rows
             Err(problem) => {
-                assert_eq!(problem.refusal.map(|refusal| refusal.number), Some(10));
+                assert_eq!(problem.refusal.map(|refusal| refusal.number()), Some(10));
                 continue;
             }
         };

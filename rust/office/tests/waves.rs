@@ -120,7 +120,7 @@ fn is_dumped(record: &Record, text: &str) {
         is_word(time, stop.word);
         is_place(time, &stop.place);
         assert_eq!(waves.at("machine", "code", time), None);
-        let refusal = stop.problem.refusal.as_ref().map(|refusal| u64::from(refusal.number));
+        let refusal = stop.problem.refusal.map(|refusal| u64::from(refusal.number()));
         assert_eq!(waves.at("machine", "refusal", time), refusal);
     }
 }

@@ -15,7 +15,7 @@ const KINDS: [&str; 5] = ["record", "data", "fn", "struct", "enum"];
 fn declares(file: &str, name: &str) -> bool {
     file.lines().any(|line| {
         let Some((_, after)) = line.split_once("pub ") else { return false };
-        after.split([' ', ':', '{', '(']).find(|word| !KINDS.contains(word)) == Some(name)
+        after.split([' ', ':', '{', '(', '<', ';']).find(|word| !KINDS.contains(word)) == Some(name)
     })
 }
 

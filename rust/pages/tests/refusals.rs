@@ -120,10 +120,21 @@ fn header_and_wrapper_have_the_names_numbers_and_words_of_the_table() {
         let line = header.lines().find(|line| line.trim_start().starts_with(&words)).expect(&words);
         assert!(line.ends_with(&format!("/* {short} */")), "{line}");
         assert_eq!(texts[usize::from(number)], short);
-        let refusal = Refusal { number, index: 9, count: 9 };
-        assert_eq!(refusal.sense(), short);
-        assert_eq!(refusal.frame().is_some(), ["frame", "node"].contains(&names.as_str()), "{number}");
-        assert_eq!(refusal.to_string().contains("after 9 ticks"), names == "ticks", "{number}");
+        // an index is told of a frame and a node, a count of ticks, and neither of any other refusal
+        let carried = match names.as_str() {
+            "" => [(0, 0); 2],
+            "ticks" => [(0, 0), (0, 9)],
+            _ => [(0, 0), (9, 0)],
+        };
+        for (index, count) in [(0, 0), (9, 0), (0, 9), (9, 9)] {
+            let told = Refusal::told(number, index, count);
+            assert_eq!(told.is_some(), carried.contains(&(index, count)), "{number}, {index}, {count}");
+            let Some(refusal) = told else { continue };
+            assert_eq!((refusal.number(), refusal.sense()), (number, short.as_str()));
+            assert!(format!("{refusal:?}").starts_with(&case(&name)), "{name}");
+            assert_eq!(refusal.frame().is_some(), ["frame", "node"].contains(&names.as_str()), "{number}");
+            assert_eq!(refusal.to_string().contains(&format!("after {count} ticks")), names == "ticks");
+        }
     }
 }
 

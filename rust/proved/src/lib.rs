@@ -1,11 +1,17 @@
 //! The proved library behind the trait that the reference is compared by: slices in, an answer out. A program calls the crate
 //! `fairleadow` instead, whose types let no refusal go unseen.
 //!
+//! What a call tells that is no answer ends the program: a number that no refusal has, an index or a count that does not go with the number,
+//! and whatever a refusal leaves that it should not.
+//!
 //! Each call borrows its buffers: no reference is null, and what is borrowed for writing overlaps nothing else, which is all that
 //! the header asks.
 
 pub use fairleadow::c;
 pub use interface::*;
+
+#[cfg(test)]
+mod tests;
 
 /// The proved library.
 ///
@@ -16,11 +22,11 @@ pub use interface::*;
 ///
 /// let chart = b"00010001000000000000FE\n01010000000000000000FE\n";
 /// let mut records = [0; RECORDS];
-/// let count = Proved.read_chart(chart, &mut records).ok()?;
+/// let count = Proved.read_chart(chart, &mut records)?;
 /// assert_eq!(count, 2);
 ///
 /// let mut text = [0; CHART_TEXT];
-/// let length = Proved.write_chart(&records[..count * RECORD], &mut text).ok()?;
+/// let length = Proved.write_chart(&records[..count * RECORD], &mut text)?;
 /// assert_eq!(&text[..length], chart);
 /// # Ok::<(), proved::Refusal>(())
 /// ```
@@ -31,15 +37,13 @@ pub use interface::*;
 /// use proved::{Library, Proved, IMAGE_TEXT, PLACES, TABLE};
 ///
 /// let mut image = [0; IMAGE_TEXT];
-/// let length = Proved.translate(b"00010001000000000000FE\n01010000000000000000FE\n", &mut image).ok()?;
+/// let length = Proved.translate(b"00010001000000000000FE\n01010000000000000000FE\n", &mut image)?;
 /// let mut table = [0; TABLE];
-/// let length = Proved.prepare(&image[..length], &mut table).ok()?;
+/// let length = Proved.prepare(&image[..length], &mut table)?;
 ///
-/// let (answer, mut state) = Proved.fresh(PLACES);
-/// answer.ok()?;
-/// let ticked = Proved.live_tick(&table[..length], &mut state, 0);
-/// assert_eq!(ticked.answer.ok()?, 1);
-/// assert_eq!((ticked.code, state.depth, state.results[0]), (0x04, 1, false));
+/// let mut state = Proved.fresh(PLACES)?;
+/// let tick = Proved.live_tick(&table[..length], &mut state, 0)?;
+/// assert_eq!((tick.code, state.depth, state.results[0]), (0x04, 1, false));
 /// # Ok::<(), proved::Refusal>(())
 /// ```
 ///
@@ -50,7 +54,7 @@ pub use interface::*;
 ///
 /// let chart = b"00010001000000000000FE\n02010002000000000001FA\n01010000000000000000FE\n";
 /// let (mut image, mut masks, mut codes) = ([0; IMAGE_TEXT], [0; 3], [0; 3]);
-/// let count = Proved.dry_run(chart, PLACES, &mut image, &[0, 0, 0], &mut masks, &mut codes).ok()?;
+/// let count = Proved.dry_run(chart, PLACES, &mut image, &[0, 0, 0], &mut masks, &mut codes)?;
 /// assert_eq!((count, masks, codes), (3, [0, 1, 0], [0x04, 0x00, 0x04]));
 /// # Ok::<(), proved::Refusal>(())
 /// ```
@@ -62,39 +66,37 @@ pub use interface::*;
 ///
 /// let chart = b"00010001000000000000FE\n02010002000000000001FA\n01010000000000000000FE\n";
 /// let mut image = [0; IMAGE_TEXT];
-/// let length = Proved.translate(chart, &mut image).ok()?;
+/// let length = Proved.translate(chart, &mut image)?;
 /// let mut prices = [0; OPERATIONS];
 /// prices[0] = 150;
-/// let (_, state) = Proved.fresh(PLACES);
-/// let (mut masks, mut codes) = ([0; 3], [0; 3]);
-/// let priced = Proved.priced_run(&image[..length], &state, &prices, &[0, 0, 0], &mut masks, &mut codes);
-/// assert_eq!((priced.answer.ok()?, masks, priced.price), (3, [0, 1, 0], 2));
+/// let (mut state, mut masks, mut codes) = (Proved.fresh(PLACES)?, [0; 3], [0; 3]);
+/// let priced = Proved.priced_run(&image[..length], &mut state, &prices, &[0, 0, 0], &mut masks, &mut codes);
+/// assert_eq!((priced.answer?, masks, priced.price), (3, [0, 1, 0], 2));
 /// # Ok::<(), proved::Refusal>(())
 /// ```
 ///
 /// Between two ticks a number can be given another scheme to serve it; here there is only scheme 1, which nothing calls:
 ///
 /// ```
-/// use proved::{Library, Proved, IMAGE_TEXT, PLACES};
+/// use proved::{Library, Proved, Refusal, IMAGE_TEXT, PLACES};
 ///
 /// let mut image = [0; IMAGE_TEXT];
-/// let length = Proved.translate(b"00010001000000000000FE\n01010000000000000000FE\n", &mut image).ok()?;
-/// let (_, mut state) = Proved.fresh(PLACES);
-/// let refusal = Proved.rebind(&image[..length], &mut state, 2, 3).ok().unwrap_err();
-/// assert_eq!(refusal.number, 22);
-/// assert_eq!(state, Proved.fresh(PLACES).1);
+/// let length = Proved.translate(b"00010001000000000000FE\n01010000000000000000FE\n", &mut image)?;
+/// let mut state = Proved.fresh(PLACES)?;
+/// assert_eq!(Proved.rebind(&image[..length], &mut state, 2, 3), Err(Refusal::BadRebinding));
+/// assert_eq!(state, Proved.fresh(PLACES)?);
 /// # Ok::<(), proved::Refusal>(())
 /// ```
 ///
 /// Every little chart can be fetched by its frame count and its number; there are 2 of 2 frames:
 ///
 /// ```
-/// use proved::{Library, Proved, LITTLE_TEXT};
+/// use proved::{Library, Proved, Refusal, LITTLE_TEXT};
 ///
 /// let mut text = [0; LITTLE_TEXT];
-/// let length = Proved.little_chart(2, 1, &mut text).ok()?;
+/// let length = Proved.little_chart(2, 1, &mut text)?;
 /// assert_eq!(&text[..length], b"01010000000000000000FE\n00010000000000000000FF\n");
-/// assert_eq!(Proved.little_chart(2, 2, &mut text).ok().unwrap_err().number, 24);
+/// assert_eq!(Proved.little_chart(2, 2, &mut text), Err(Refusal::NoLittleChart));
 /// # Ok::<(), proved::Refusal>(())
 /// ```
 ///
@@ -102,16 +104,15 @@ pub use interface::*;
 /// and one place is not enough for that:
 ///
 /// ```
-/// use proved::{Library, Proved, IMAGE_TEXT};
+/// use proved::{Fillings, Library, Proved, Refusal, IMAGE_TEXT};
 ///
 /// let chart = b"00010001000000000000FE\n03010002030000000000F7\n01010000000000000000FE\n02010202000000000001F8\n\
 ///     00020005000000000000F9\n01020000000000000000FD\n";
 /// let mut image = [0; IMAGE_TEXT];
-/// let length = Proved.translate(chart, &mut image).ok()?;
-/// let counted = Proved.count_fillings(&image[..length], 1, 3, 1);
-/// counted.answer.ok()?;
-/// assert_eq!((counted.ended, counted.full, counted.unmatched), (4, 4, 0));
-/// assert_eq!(Proved.count_fillings(&image[..length], 1, 17, 1).answer.number(), 28);
+/// let length = Proved.translate(chart, &mut image)?;
+/// let counted = Proved.count_fillings(&image[..length], 1, 3, 1)?;
+/// assert_eq!(counted, Fillings { ended: 4, full: 4, unmatched: 0 });
+/// assert_eq!(Proved.count_fillings(&image[..length], 1, 17, 1), Err(Refusal::ManyLists));
 /// # Ok::<(), proved::Refusal>(())
 /// ```
 ///
@@ -121,11 +122,11 @@ pub use interface::*;
 /// use proved::{Library, Proved, IMAGE_TEXT, SPINDLES};
 ///
 /// let mut image = [0; IMAGE_TEXT];
-/// let length = Proved.translate(b"00010001000000000000FE\n01010000000000000000FE\n", &mut image).ok()?;
-/// let (mut states, mut taken) = ([Proved.fresh(16).1; SPINDLES], SPINDLES);
-/// let ticked = Proved.spin(&mut states, &mut taken, 3, &image[..length], 0);
-/// assert_eq!((ticked.answer.ok()?, ticked.code, taken), (1, 0x04, 4));
-/// let refusal = Proved.spin(&mut states, &mut taken, 4, &image[..length], 0).answer.ok().unwrap_err();
+/// let length = Proved.translate(b"00010001000000000000FE\n01010000000000000000FE\n", &mut image)?;
+/// let (mut states, mut taken) = ([Proved.fresh(16)?; SPINDLES], SPINDLES);
+/// let tick = Proved.spin(&mut states, &mut taken, 3, &image[..length], 0)?;
+/// assert_eq!((tick.code, taken), (0x04, 4));
+/// let refusal = Proved.spin(&mut states, &mut taken, 4, &image[..length], 0).unwrap_err();
 /// assert_eq!(refusal.to_string(), "refusal 25: a spindle's number above 3");
 /// # Ok::<(), proved::Refusal>(())
 /// ```
@@ -144,11 +145,7 @@ fn answered(call: impl FnOnce(*mut u64, *mut u64) -> u32) -> Answer {
     let (mut index, mut count) = (u64::MAX, u64::MAX);
     // the number stands in the low eight bits
     let number = call(&mut index, &mut count) as u8;
-    let (index, count) = (index as usize, count as usize);
-    match number {
-        0 => Answer::Done(count),
-        number => Answer::Refused { number, index, count },
-    }
+    told(number, index as usize, count as usize)
 }
 
 /// How many elements there are, as the archive counts on every processor.
@@ -174,12 +171,12 @@ fn written(call: c::Write, text: &[u8], out: &mut [u8]) -> Answer {
 fn ran(
     call: c::Run,
     image: &[u8],
-    state: &State,
+    state: &mut State,
     words: &[u16],
     masks: &mut [u32],
     codes: &mut [u8],
-) -> (Answer, State) {
-    let mut kept = c::State::from(state);
+) -> Answer {
+    let mut kept = c::State::from(&*state);
     // SAFETY: image and words are borrowed for the call, which reads them; state, masks and codes are borrowed for it
     // alone.
     let answer = answered(|index, count| unsafe {
@@ -197,19 +194,20 @@ fn ran(
             count,
         )
     });
-    (answer, State::from(&kept))
+    *state = State::from(&kept);
+    answer
 }
 
 /// A tick, on an image or on a table.
-fn ticked(call: c::Tick, image: &[u8], state: &mut State, word: u16) -> TickReport {
+fn ticked(call: c::Tick, image: &[u8], state: &mut State, word: u16) -> Result<Tick, Refusal> {
     let mut kept = c::State::from(&*state);
-    let (mut mask, mut code) = (0, 0);
+    let mut tick = Tick::BEFORE;
     // SAFETY: the image is borrowed for the call, which reads it; state, mask and code are places of this function.
     let answer = answered(|index, count| unsafe {
-        call(image.as_ptr(), length(image), &mut kept, word, &mut mask, &mut code, index, count)
+        call(image.as_ptr(), length(image), &mut kept, word, &mut tick.mask, &mut tick.code, index, count)
     });
     *state = State::from(&kept);
-    TickReport { answer, mask, code }
+    handed(answer, 1, tick, Tick::BEFORE)
 }
 
 /// The tick of a spindle, by an image or by a table.
@@ -220,10 +218,10 @@ fn spun(
     spindle: usize,
     image: &[u8],
     word: u16,
-) -> TickReport {
+) -> Result<Tick, Refusal> {
     let mut kept: Vec<c::State> = states.iter().map(c::State::from).collect();
     let mut record = *taken as u64;
-    let (mut mask, mut code) = (0, 0);
+    let mut tick = Tick::BEFORE;
     // SAFETY: the image is borrowed for the call, which reads it; states, record, mask and code are places of this
     // function.
     let answer = answered(|index, count| unsafe {
@@ -235,15 +233,15 @@ fn spun(
             image.as_ptr(),
             length(image),
             word,
-            &mut mask,
-            &mut code,
+            &mut tick.mask,
+            &mut tick.code,
             index,
             count,
         )
     });
     *taken = record as usize;
     states.iter_mut().zip(&kept).for_each(|(state, kept)| *state = State::from(kept));
-    TickReport { answer, mask, code }
+    handed(answer, 1, tick, Tick::BEFORE)
 }
 
 /// A rebinding, by an image or by a table.
@@ -278,22 +276,22 @@ impl Library for Proved {
         read(c::fairleadow_check_image, text)
     }
 
-    fn fresh(&self, size: usize) -> (Answer, State) {
+    fn fresh(&self, size: usize) -> Result<State, Refusal> {
         let mut state = c::State::filled(0xFF);
         // SAFETY: the state is a place of this function.
         let answer =
             answered(|index, count| unsafe { c::fairleadow_fresh(size as u64, &mut state, index, count) });
-        (answer, State::from(&state))
+        handed(answer, 0, State::from(&state), State::NONE)
     }
 
     fn run(
         &self,
         image: &[u8],
-        state: &State,
+        state: &mut State,
         words: &[u16],
         masks: &mut [u32],
         codes: &mut [u8],
-    ) -> (Answer, State) {
+    ) -> Answer {
         ran(c::fairleadow_run, image, state, words, masks, codes)
     }
 
@@ -330,13 +328,13 @@ impl Library for Proved {
     fn priced_run(
         &self,
         image: &[u8],
-        state: &State,
+        state: &mut State,
         prices: &Prices,
         words: &[u16],
         masks: &mut [u32],
         codes: &mut [u8],
     ) -> PricedReport {
-        let mut kept = c::State::from(state);
+        let mut kept = c::State::from(&*state);
         let mut price = u64::MAX;
         // SAFETY: image, prices and words are borrowed for the call, which reads them; masks and codes are borrowed for it
         // alone, and state and price are places of this function.
@@ -357,10 +355,11 @@ impl Library for Proved {
                 count,
             )
         });
-        PricedReport { answer, state: State::from(&kept), price }
+        *state = State::from(&kept);
+        PricedReport { answer, price }
     }
 
-    fn tick(&self, image: &[u8], state: &mut State, word: u16) -> TickReport {
+    fn tick(&self, image: &[u8], state: &mut State, word: u16) -> Result<Tick, Refusal> {
         ticked(c::fairleadow_tick, image, state, word)
     }
 
@@ -371,7 +370,7 @@ impl Library for Proved {
         spindle: usize,
         image: &[u8],
         word: u16,
-    ) -> TickReport {
+    ) -> Result<Tick, Refusal> {
         spun(c::fairleadow_spin, states, taken, spindle, image, word)
     }
 
@@ -379,7 +378,7 @@ impl Library for Proved {
         rebound(c::fairleadow_rebind, image, state, number, scheme)
     }
 
-    fn cause(&self, image: &[u8], state: &State, word: u16) -> CauseReport {
+    fn cause(&self, image: &[u8], state: &State, word: u16) -> Result<Cause, Refusal> {
         let kept = c::State::from(state);
         let (mut row, mut mask, mut bit) = (u16::MAX, u16::MAX, u8::MAX);
         // SAFETY: the image is borrowed for the call, which reads it; all else are places of this function.
@@ -396,7 +395,8 @@ impl Library for Proved {
                 count,
             )
         });
-        CauseReport { answer, row, mask, bit }
+        let nothing = Cause { row: 0, mask: 0, bit: 0 };
+        handed(answer, 0, Cause { row, mask, bit }, nothing)
     }
 
     fn list_rows(&self, image: &[u8], firsts: &mut [u16], counts: &mut [u16]) -> Answer {
@@ -433,8 +433,14 @@ impl Library for Proved {
         })
     }
 
-    fn count_fillings(&self, image: &[u8], size: usize, ticks: usize, conditions: usize) -> FillingsReport {
-        let (mut ended, mut full, mut unmatched) = (u32::MAX, u32::MAX, u32::MAX);
+    fn count_fillings(
+        &self,
+        image: &[u8],
+        size: usize,
+        ticks: usize,
+        conditions: usize,
+    ) -> Result<Fillings, Refusal> {
+        let mut found = Fillings { ended: u32::MAX, full: u32::MAX, unmatched: u32::MAX };
         // SAFETY: the image is borrowed for the call, which reads it; the counts are places of this function.
         let answer = answered(|index, count| unsafe {
             c::fairleadow_count_fillings(
@@ -443,14 +449,14 @@ impl Library for Proved {
                 size as u64,
                 ticks as u64,
                 conditions as u64,
-                &mut ended,
-                &mut full,
-                &mut unmatched,
+                &mut found.ended,
+                &mut found.full,
+                &mut found.unmatched,
                 index,
                 count,
             )
         });
-        FillingsReport { answer, ended, full, unmatched }
+        handed(answer, 0, found, Fillings::default())
     }
 
     fn prepare(&self, image: &[u8], table: &mut [u8]) -> Answer {
@@ -469,15 +475,15 @@ impl Library for Proved {
     fn live_run(
         &self,
         table: &[u8],
-        state: &State,
+        state: &mut State,
         words: &[u16],
         masks: &mut [u32],
         codes: &mut [u8],
-    ) -> (Answer, State) {
+    ) -> Answer {
         ran(c::fairleadow_live_run, table, state, words, masks, codes)
     }
 
-    fn live_tick(&self, table: &[u8], state: &mut State, word: u16) -> TickReport {
+    fn live_tick(&self, table: &[u8], state: &mut State, word: u16) -> Result<Tick, Refusal> {
         ticked(c::fairleadow_live_tick, table, state, word)
     }
 
@@ -488,7 +494,7 @@ impl Library for Proved {
         spindle: usize,
         table: &[u8],
         word: u16,
-    ) -> TickReport {
+    ) -> Result<Tick, Refusal> {
         spun(c::fairleadow_live_spin, states, taken, spindle, table, word)
     }
 

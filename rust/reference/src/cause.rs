@@ -4,19 +4,11 @@ use crate::answer::Refusal;
 use crate::image::{Image, Row, FUNCTION_CALL};
 use crate::machine::row_label;
 use crate::state::State;
-
-/// The row by its number among the image's rows, a mask of conditions, and the bit, 2 where none is read.
-#[derive(Clone, Copy, Debug, PartialEq, Eq)]
-pub struct Found {
-    pub row: usize,
-    pub mask: u16,
-    pub bit: u8,
-}
+use interface::Cause;
 
 /// The cause of a fitting state's tick, or refusal 21 or 18.
-pub fn cause_of(image: &Image, state: &State, word: u16) -> Result<Found, Refusal> {
-    let refused = |number| Refusal { number, index: 0 };
-    let from = row_label(image, state).ok_or(refused(21))?;
+pub fn cause_of(image: &Image, state: &State, word: u16) -> Result<Cause, Refusal> {
+    let from = row_label(image, state).ok_or(Refusal::Rowless)?;
     let label = image.labels[usize::from(from)];
     let bit = match label.kind {
         FUNCTION_CALL => u8::from(state.results[usize::from(label.called) - 1]),
@@ -27,9 +19,9 @@ pub fn cause_of(image: &Image, state: &State, word: u16) -> Result<Found, Refusa
     let (matching, others): (Vec<_>, Vec<_>) = numbered.partition(|(_, row)| word & row.care == row.values);
     let most = matching.iter().map(|(_, row)| row.care.count_ones()).max();
     let mut best = matching.into_iter().filter(|(_, row)| Some(row.care.count_ones()) == most);
-    let (number, row) = best.next_back().ok_or(refused(18))?;
+    let (number, row) = best.next_back().ok_or(Refusal::NoRow { ticks: 0 })?;
     let mask = others.iter().fold(row.care, |mask, (_, other)| mask | contradicting(other, word));
-    Ok(Found { row: number, mask, bit })
+    Ok(Cause { row: number as u16, mask, bit })
 }
 
 /// The lowest condition that a row tests and finds otherwise than it asks, as a mask.

@@ -6,19 +6,19 @@ use crate::frames::Frame;
 
 /// The chart of these records, or the first of refusals 4, 5, 19 and 6 to 9.
 pub fn chart_of(records: &[Frame]) -> Result<Chart, Refusal> {
-    refuse_lowest(4, records.len(), |f| !fields_stand(&records[f]))?;
+    refuse_lowest(Refusal::BadField, records.len(), |f| !fields_stand(&records[f]))?;
     let nodes = records.iter().map(|r| Node::of(r).expect("a kind"));
     let chart = Chart { nodes: nodes.collect() };
     let count = chart.nodes.len();
-    refuse_if(5, (1..=chart.schemes()).any(|h| !one_of_each(&chart, h)))?;
-    refuse_if(19, bad_marks(&chart))?;
-    refuse_lowest(6, count, |v| bad_arc(&chart, v))?;
-    refuse_lowest(7, count, |v| bad_call(&chart, v))?;
-    refuse_lowest(8, count, |v| on_circle(&chart, v))?;
+    refuse_if(Refusal::BadScheme, (1..=chart.schemes()).any(|h| !one_of_each(&chart, h)))?;
+    refuse_if(Refusal::BadMarks, bad_marks(&chart))?;
+    refuse_lowest(Refusal::BadArc, count, |v| bad_arc(&chart, v))?;
+    refuse_lowest(Refusal::BadCall, count, |v| bad_call(&chart, v))?;
+    refuse_lowest(Refusal::Circle, count, |v| on_circle(&chart, v))?;
     // Past refusal 6 arcs stay in their scheme, so what any Begin reaches its own Begin reaches.
     let begins = (1..=chart.schemes()).map(|h| chart.begin(h)).collect();
     let joined = reached(&chart, begins, |_| true);
-    refuse_lowest(9, count, |v| !joined[v])?;
+    refuse_lowest(Refusal::CutOff, count, |v| !joined[v])?;
     Ok(chart)
 }
 

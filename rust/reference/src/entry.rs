@@ -1,11 +1,13 @@
 //! The entry points: which refusals each tries, in order, and what it writes.
 
-use crate::answer::{answered, refuse_if, ticked, Answer, Refusal};
-use crate::cause::{cause_of, Found};
+use crate::answer::{refuse_if, Answer, Refusal};
+use crate::cause::cause_of;
 use crate::chart::Chart;
 use crate::check::chart_of;
+pub use crate::codes::meaning;
+pub use crate::crc::sum;
 use crate::expectation::{expected, Run, Step};
-use crate::fillings::{counts, too_many, Counts};
+use crate::fillings::{counts, too_many};
 use crate::frames::{frames_of, text_of, Frame, CHART_TEXT, IMAGE_TEXT, RECORDS};
 use crate::image::{self, Image};
 use crate::little;
@@ -19,21 +21,20 @@ use crate::row_list::row_list;
 use crate::spindles::Head;
 use crate::state::{can_rebind, fresh_state, Shape, State};
 use crate::translator;
-use interface::{CauseReport, FillingsReport, PricedReport, TickReport, SPINDLES};
+use interface::{Cause, Fillings, PricedReport, Tick, SPINDLES};
 
 /// Writes all of it, or refuses with 16 and writes nothing.
 fn put<T: Copy>(all: &[T], out: &mut [T]) -> Result<(), Refusal> {
-    refuse_if(16, out.len() < all.len())?;
+    refuse_if(Refusal::NoRoom, out.len() < all.len())?;
     out[..all.len()].copy_from_slice(all);
     Ok(())
 }
 
 /// Writes all characters of a text or all bytes of a table, and counts them, or refuses.
 fn written(all: Result<impl AsRef<[u8]>, Refusal>, out: &mut [u8]) -> Answer {
-    answered(all.and_then(|all| {
-        put(all.as_ref(), out)?;
-        Ok(all.as_ref().len())
-    }))
+    let all = all?;
+    put(all.as_ref(), out)?;
+    Ok(all.as_ref().len())
 }
 
 /// The chart of a text, with its records: refusals 1 to 9.
@@ -54,16 +55,15 @@ pub fn image_from_text(text: &[u8]) -> Result<Image, Refusal> {
 
 /// Refusals 1 to 9 and 16; counts records.
 pub fn read_chart(text: &[u8], out: &mut [u8]) -> Answer {
-    answered(chart_and_records(text).and_then(|(_, records)| {
-        put(&records.concat(), out)?;
-        Ok(records.len())
-    }))
+    let (_, records) = chart_and_records(text)?;
+    put(&records.concat(), out)?;
+    Ok(records.len())
 }
 
 /// The records of their bytes, or refusal 1.
 fn records_of(bytes: &[u8]) -> Result<Vec<Frame>, Refusal> {
     let length = bytes.len();
-    refuse_if(1, length == 0 || !length.is_multiple_of(10) || length > RECORDS)?;
+    refuse_if(Refusal::BadLength, length == 0 || !length.is_multiple_of(10) || length > RECORDS)?;
     let record = |r: &[u8]| Frame::try_from(r).expect("ten bytes");
     Ok(bytes.chunks(10).map(record).collect())
 }
@@ -90,59 +90,44 @@ pub fn translate(text: &[u8], out: &mut [u8]) -> Answer {
 
 /// Refusals 1 to 10 and 20; counts places.
 pub fn places(text: &[u8]) -> Answer {
-    answered(chart_from_text(text).and_then(|chart| {
-        translator::image_of(&chart)?;
-        longest_chain(&chart, 1)
-    }))
+    let chart = chart_from_text(text)?;
+    translator::image_of(&chart)?;
+    longest_chain(&chart, 1)
 }
 
 /// Refusals 1 to 3 and 11 to 13.
 pub fn check_image(text: &[u8]) -> Answer {
-    answered(image_from_text(text).map(|_| 0))
+    image_from_text(text).map(|_| 0)
 }
 
 /// Refusal 14.
-pub fn fresh(size: usize) -> (Answer, State) {
-    match fresh_state(size) {
-        Some(state) => (Answer::Done(0), state),
-        None => (Refusal::of(14).into(), State::NONE),
-    }
+pub fn fresh(size: usize) -> Result<State, Refusal> {
+    fresh_state(size).ok_or(Refusal::BadSize)
 }
 
 /// The image, if it is accepted and the state fits: refusals 1 to 3, 11 to 13 and 15.
 fn image_for(text: &[u8], state: &State) -> Result<Image, Refusal> {
     let image = image_from_text(text)?;
-    refuse_if(15, !machine::fits(&image, state))?;
+    refuse_if(Refusal::Unfit, !machine::fits(&image, state))?;
     Ok(image)
 }
 
 /// Refuses with 16 where a buffer has less room than there are words.
 fn roomy(words: &[u16], masks: &[u32], codes: &[u8]) -> Result<(), Refusal> {
-    refuse_if(16, masks.len() < words.len() || codes.len() < words.len())
+    refuse_if(Refusal::NoRoom, masks.len() < words.len() || codes.len() < words.len())
 }
 
 /// Tries all of the image check, then 15 to 18; counts ticks.
-pub fn run(
-    image: &[u8],
-    state: &State,
-    words: &[u16],
-    masks: &mut [u32],
-    codes: &mut [u8],
-) -> (Answer, State) {
-    let ready = image_for(image, state).and_then(|image| {
-        roomy(words, masks, codes)?;
-        Ok(image)
-    });
-    match ready {
-        Ok(image) => run_ticks(|s, word| machine::tick(&image, s, word), *state, words, masks, codes),
-        Err(refusal) => (refusal.into(), *state),
-    }
+pub fn run(image: &[u8], state: &mut State, words: &[u16], masks: &mut [u32], codes: &mut [u8]) -> Answer {
+    let image = image_for(image, state)?;
+    roomy(words, masks, codes)?;
+    run_ticks(|s, word| machine::tick(&image, s, word), state, words, masks, codes)
 }
 
 /// The chart of a text, with its image written, where a stack may have this size: refusals 1 to 10 and 16, then 14.
 fn chart_with_image(text: &[u8], size: usize, image: &mut [u8]) -> Result<Chart, Refusal> {
     put(&translated(text)?, image)?;
-    refuse_if(14, fresh_state(size).is_none())?;
+    fresh(size)?;
     chart_from_text(text)
 }
 
@@ -155,10 +140,7 @@ pub fn dry_run(
     masks: &mut [u32],
     codes: &mut [u8],
 ) -> Answer {
-    let chart = match chart_with_image(text, size, image) {
-        Ok(chart) => chart,
-        Err(refusal) => return refusal.into(),
-    };
+    let chart = chart_with_image(text, size, image)?;
     let run = Run { words: words.to_vec(), masks: masks.to_vec(), codes: codes.to_vec(), prices: None };
     let walked = expected(&chart, size, &[Step::Run(run)]).remove(0);
     masks.copy_from_slice(&walked.masks);
@@ -169,87 +151,76 @@ pub fn dry_run(
 /// What the image check tries, then 15, 27 and 16 to 18; counts ticks. Of the masks those of finished ticks alone are priced.
 pub fn priced_run(
     image: &[u8],
-    state: &State,
+    state: &mut State,
     prices: &Prices,
     words: &[u16],
     masks: &mut [u32],
     codes: &mut [u8],
 ) -> PricedReport {
-    let ready = image_for(image, state).and_then(|image| {
-        refuse_if(27, words.len() > PRICED_WORDS)?;
+    let answer = image_for(image, state).and_then(|image| {
+        refuse_if(Refusal::ManyWords, words.len() > PRICED_WORDS)?;
         roomy(words, masks, codes)?;
-        Ok(image)
+        run_ticks(|s, word| machine::tick(&image, s, word), state, words, masks, codes)
     });
-    match ready {
-        Ok(image) => {
-            let tick = |s: &State, word| machine::tick(&image, s, word);
-            let (answer, state) = run_ticks(tick, *state, words, masks, codes);
-            PricedReport { answer, state, price: price(prices, &masks[..answer.count()]) }
-        }
-        Err(refusal) => PricedReport { answer: refusal.into(), state: *state, price: 0 },
-    }
+    PricedReport { answer, price: price(prices, &masks[..answer.unwrap_or_else(Refusal::ticks)]) }
 }
 
-/// Ticks until the words end, or 17 or 18.
+/// Ticks until the words end, or 17 or 18, which tell the ticks before.
 pub fn run_ticks(
-    tick: impl Fn(&State, u16) -> Result<Advanced, u8>,
-    start: State,
+    tick: impl Fn(&State, u16) -> Result<Advanced, Refusal>,
+    state: &mut State,
     words: &[u16],
     masks: &mut [u32],
     codes: &mut [u8],
-) -> (Answer, State) {
-    let mut state = start;
+) -> Answer {
     for (count, word) in words.iter().enumerate() {
-        match tick(&state, *word) {
-            Ok(advanced) => {
-                masks[count] = advanced.mask;
-                codes[count] = advanced.code;
-                state = advanced.state;
-            }
-            Err(number) => return (Answer::Refused { number, index: 0, count }, state),
-        }
+        let advanced = tick(state, *word).map_err(|refusal| refusal.after(count))?;
+        masks[count] = advanced.mask;
+        codes[count] = advanced.code;
+        *state = advanced.state;
     }
-    (Answer::Done(words.len()), state)
+    Ok(words.len())
 }
 
 /// Refusal 22, or the number is served by the scheme from then on.
-fn bind(shape: Shape, state: &mut State, number: usize, scheme: usize) -> Result<usize, Refusal> {
-    refuse_if(22, !can_rebind(shape.schemes, shape.handler, number, scheme))?;
+fn bind(shape: Shape, state: &mut State, number: usize, scheme: usize) -> Answer {
+    refuse_if(Refusal::BadRebinding, !can_rebind(shape.schemes, shape.handler, number, scheme))?;
     state.serving[number - 1] = scheme as u8;
     Ok(0)
 }
 
 /// What the image check tries, then 15 and 22; counts 0.
 pub fn rebind(image: &[u8], state: &mut State, number: usize, scheme: usize) -> Answer {
-    answered(image_for(image, state).and_then(|image| bind(image.shape(), state, number, scheme)))
+    bind(image_for(image, state)?.shape(), state, number, scheme)
 }
 
-/// Refusal 25, what the image check tries, then 15, 17, 26 and 18; counts 1.
-pub fn spin(states: &mut [State], taken: &mut usize, spindle: usize, image: &[u8], word: u16) -> TickReport {
-    ticked(refuse_if(25, spindle >= SPINDLES).and_then(|()| {
-        let image = image_from_text(image)?;
-        let fits = |state: &State| machine::fits(&image, state);
-        Head { states, taken }.turn(spindle, fits, |state| machine::tick(&image, state, word))
-    }))
+/// Refusal 25, what the image check tries, then 15, 17, 26 and 18.
+pub fn spin(
+    states: &mut [State],
+    taken: &mut usize,
+    spindle: usize,
+    image: &[u8],
+    word: u16,
+) -> Result<Tick, Refusal> {
+    refuse_if(Refusal::NoSpindle, spindle >= SPINDLES)?;
+    let image = image_from_text(image)?;
+    let fits = |state: &State| machine::fits(&image, state);
+    Head { states, taken }.turn(spindle, fits, |state| machine::tick(&image, state, word))
 }
 
-/// What the image check tries, then 15, 21 and 18; counts 0.
-pub fn cause(image: &[u8], state: &State, word: u16) -> CauseReport {
-    match image_for(image, state).and_then(|image| cause_of(&image, state, word)) {
-        Ok(Found { row, mask, bit }) => CauseReport { answer: Answer::Done(0), row: row as u16, mask, bit },
-        Err(refusal) => CauseReport { answer: refusal.into(), row: 0, mask: 0, bit: 0 },
-    }
+/// What the image check tries, then 15, 21 and 18.
+pub fn cause(image: &[u8], state: &State, word: u16) -> Result<Cause, Refusal> {
+    cause_of(&image_for(image, state)?, state, word)
 }
 
 /// Refusals 1 to 3, 11 to 13 and 16; counts labels.
 pub fn list_rows(image: &[u8], firsts: &mut [u16], counts: &mut [u16]) -> Answer {
-    answered(image_from_text(image).and_then(|image| {
-        let (all_firsts, all_counts) = row_list(&image);
-        refuse_if(16, counts.len() < all_counts.len())?;
-        put(&all_firsts, firsts)?;
-        put(&all_counts, counts)?;
-        Ok(image.labels.len())
-    }))
+    let image = image_from_text(image)?;
+    let (all_firsts, all_counts) = row_list(&image);
+    refuse_if(Refusal::NoRoom, counts.len() < all_counts.len())?;
+    put(&all_firsts, firsts)?;
+    put(&all_counts, counts)?;
+    Ok(image.labels.len())
 }
 
 /// Refusals 1 to 3, 11 to 13 and 16; counts bytes.
@@ -259,13 +230,13 @@ pub fn prepare(image: &[u8], out: &mut [u8]) -> Answer {
 
 /// Refusals 11 to 13; counts 0.
 pub fn check_table(table: &[u8]) -> Answer {
-    answered(prepared(table).map(|_| 0))
+    prepared(table).map(|_| 0)
 }
 
 /// The text of the image with its alike labels joined: refusals 1 to 3, 11 to 13 and 23.
 pub fn minimised(text: &[u8]) -> Result<Vec<u8>, Refusal> {
     let image = image_from_text(text)?;
-    refuse_if(23, uneven(&image))?;
+    refuse_if(Refusal::Uneven, uneven(&image))?;
     Ok(text_of(&joined(&image).frames()))
 }
 
@@ -276,64 +247,56 @@ pub fn minimise(text: &[u8], out: &mut [u8]) -> Answer {
 
 /// Refusals 24 and 16; counts characters.
 pub fn little_chart(frames: usize, number: usize, out: &mut [u8]) -> Answer {
-    written(little::texts(frames).get(number).ok_or(Refusal { number: 24, index: 0 }), out)
+    written(little::texts(frames).get(number).ok_or(Refusal::NoLittleChart), out)
 }
 
-/// Over all lists of words: refusals 1 to 3, 11 to 13, 14 and 28.
-fn counted(image: &[u8], size: usize, ticks: usize, conditions: usize) -> Result<Counts, Refusal> {
+/// Over all lists of words: what the image check tries, then 14 and 28.
+pub fn count_fillings(
+    image: &[u8],
+    size: usize,
+    ticks: usize,
+    conditions: usize,
+) -> Result<Fillings, Refusal> {
     let image = image_from_text(image)?;
-    let fresh = fresh_state(size).ok_or(Refusal::of(14))?;
-    refuse_if(28, too_many(ticks, conditions))?;
+    let fresh = fresh(size)?;
+    refuse_if(Refusal::ManyLists, too_many(ticks, conditions))?;
     Ok(counts(&image, &fresh, ticks, conditions))
-}
-
-/// What the image check tries, then 14 and 28; counts 0.
-pub fn count_fillings(image: &[u8], size: usize, ticks: usize, conditions: usize) -> FillingsReport {
-    let counted = counted(image, size, ticks, conditions);
-    let Counts { ended, full, unmatched } = counted.unwrap_or_default();
-    FillingsReport { answer: answered(counted.map(|_| 0)), ended, full, unmatched }
 }
 
 /// The image that a table holds, if the state fits: refusals 11 and 15.
 fn held_for(table: &[u8], state: &State) -> Result<Held, Refusal> {
     let held = Held::of(table)?;
-    refuse_if(15, !held.fits(state))?;
+    refuse_if(Refusal::Unfit, !held.fits(state))?;
     Ok(held)
 }
 
 /// Refusals 11, 15 and 22; counts 0.
 pub fn live_rebind(table: &[u8], state: &mut State, number: usize, scheme: usize) -> Answer {
-    answered(held_for(table, state).and_then(|held| bind(held.shape(), state, number, scheme)))
+    bind(held_for(table, state)?.shape(), state, number, scheme)
 }
 
-/// Refusals 25, 11, 15, 17, 26 and 18; counts 1.
+/// Refusals 25, 11, 15, 17, 26 and 18.
 pub fn live_spin(
     states: &mut [State],
     taken: &mut usize,
     spindle: usize,
     table: &[u8],
     word: u16,
-) -> TickReport {
-    ticked(refuse_if(25, spindle >= SPINDLES).and_then(|()| {
-        let held = Held::of(table)?;
-        Head { states, taken }.turn(spindle, |state| held.fits(state), |state| held.tick(state, word))
-    }))
+) -> Result<Tick, Refusal> {
+    refuse_if(Refusal::NoSpindle, spindle >= SPINDLES)?;
+    let held = Held::of(table)?;
+    Head { states, taken }.turn(spindle, |state| held.fits(state), |state| held.tick(state, word))
 }
 
 /// Refusal 11, then 15 to 18; counts ticks.
 pub fn live_run(
     table: &[u8],
-    state: &State,
+    state: &mut State,
     words: &[u16],
     masks: &mut [u32],
     codes: &mut [u8],
-) -> (Answer, State) {
-    let ready = held_for(table, state).and_then(|held| {
-        roomy(words, masks, codes)?;
-        Ok(held)
-    });
-    match ready {
-        Ok(held) => run_ticks(|s, word| held.tick(s, word), *state, words, masks, codes),
-        Err(refusal) => (refusal.into(), *state),
-    }
+) -> Answer {
+    let held = held_for(table, state)?;
+    roomy(words, masks, codes)?;
+    run_ticks(|s, word| held.tick(s, word), state, words, masks, codes)
 }

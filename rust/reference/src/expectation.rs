@@ -1,6 +1,6 @@
 //! What demand 3 says of a list of runs and rebindings, computed from the walk over the joined words and nothing else.
 
-use crate::answer::Answer;
+use crate::answer::{refuse_if, Answer, Refusal};
 use crate::chart::Chart;
 use crate::price::{price, Prices, PRICED_WORDS};
 use crate::state::{can_rebind, OWN};
@@ -18,16 +18,15 @@ pub struct Run {
 impl Run {
     /// What refuses it before its first tick: 27, where it is priced and has too many words, or 16, where a buffer has no room for
     /// all of them.
-    fn refused(&self) -> Option<u8> {
+    fn tried(&self) -> Result<(), Refusal> {
         let words = self.words.len();
-        let many = self.prices.is_some() && words > PRICED_WORDS;
-        let short = self.masks.len() < words || self.codes.len() < words;
-        many.then_some(27).or(short.then_some(16))
+        refuse_if(Refusal::ManyWords, self.prices.is_some() && words > PRICED_WORDS)?;
+        refuse_if(Refusal::NoRoom, self.masks.len() < words || self.codes.len() < words)
     }
 
     /// Whether its words join those of the list: only where it is not refused so.
     pub fn joins(&self) -> bool {
-        self.refused().is_none()
+        self.tried().is_ok()
     }
 }
 
@@ -86,9 +85,8 @@ pub fn expected(chart: &Chart, size: usize, steps: &[Step]) -> Vec<Outcome> {
         let run = match step {
             Step::Run(run) => run,
             Step::Rebind(number, scheme) => {
-                let refused = Answer::Refused { number: 22, index: 0, count: 0 };
-                let answer = if allowed(chart, *number, *scheme) { Answer::Done(0) } else { refused };
-                outcomes.push(Outcome::of_rebinding(answer));
+                let tried = refuse_if(Refusal::BadRebinding, !allowed(chart, *number, *scheme));
+                outcomes.push(Outcome::of_rebinding(tried.map(|()| 0)));
                 continue;
             }
         };
@@ -102,12 +100,8 @@ pub fn expected(chart: &Chart, size: usize, steps: &[Step]) -> Vec<Outcome> {
 /// The outcome of one run, given the ticks that fall on its words, and whether the bound lies before its end.
 fn outcome(run: &Run, ticks: &[Tick], passed: bool) -> Outcome {
     let count = ticks.len();
-    let refused = |number| Answer::Refused { number, index: 0, count };
-    let answer = match run.refused() {
-        Some(number) => refused(number),
-        None if passed && !run.words.is_empty() => refused(17),
-        None => Answer::Done(count),
-    };
+    let stopped = refuse_if(Refusal::Full { ticks: count }, passed && !run.words.is_empty());
+    let answer = run.tried().and(stopped).map(|()| count);
     let mut masks = run.masks.clone();
     let mut codes = run.codes.clone();
     for (k, tick) in ticks.iter().enumerate() {

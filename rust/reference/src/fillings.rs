@@ -6,15 +6,7 @@ use crate::image::Image;
 use crate::machine;
 use crate::state::State;
 use crate::walk::walk;
-use interface::{CONDITIONS, COUNTED_BITS, COUNTED_TICKS};
-
-/// How many lists run to their end, get 17, and get 18.
-#[derive(Clone, Copy, Debug, Default, PartialEq, Eq)]
-pub struct Counts {
-    pub ended: u32,
-    pub full: u32,
-    pub unmatched: u32,
-}
+use interface::{Fillings, Refusal, CONDITIONS, COUNTED_BITS, COUNTED_TICKS};
 
 /// Whether so many ticks and conditions are refused with 28, for any of its grounds.
 pub fn too_many(ticks: usize, conditions: usize) -> bool {
@@ -38,23 +30,23 @@ pub fn each_list(ticks: usize, conditions: usize, mut look: impl FnMut(&[u16])) 
 }
 
 /// What stops the run of a list of words: 17, 18 or nothing.
-pub fn stopped(image: &Image, fresh: &State, words: &[u16]) -> Option<u8> {
+pub fn stopped(image: &Image, fresh: &State, words: &[u16]) -> Option<Refusal> {
     let mut state = *fresh;
-    for word in words {
+    for (at, word) in words.iter().enumerate() {
         match machine::tick(image, &state, *word) {
             Ok(advanced) => state = advanced.state,
-            Err(number) => return Some(number),
+            Err(refusal) => return Some(refusal.after(at)),
         }
     }
     None
 }
 
 /// All lists of so many words with so many conditions, by how their runs from this state end.
-pub fn counts(image: &Image, fresh: &State, ticks: usize, conditions: usize) -> Counts {
-    let mut counts = Counts::default();
+pub fn counts(image: &Image, fresh: &State, ticks: usize, conditions: usize) -> Fillings {
+    let mut counts = Fillings::default();
     each_list(ticks, conditions, |words| match stopped(image, fresh, words) {
         None => counts.ended += 1,
-        Some(17) => counts.full += 1,
+        Some(Refusal::Full { .. }) => counts.full += 1,
         Some(_) => counts.unmatched += 1,
     });
     counts

@@ -56,10 +56,12 @@ fn bytes_of(line: &[u8]) -> [u8; 11] {
 /// The frames of a text of at most `longest` characters, or refusal 1, 2 or 3.
 pub fn frames_of(text: &[u8], longest: usize) -> Result<Vec<Frame>, Refusal> {
     let length = text.len();
-    refuse_if(1, length == 0 || !length.is_multiple_of(CHARACTERS) || length > longest)?;
+    refuse_if(Refusal::BadLength, length == 0 || !length.is_multiple_of(CHARACTERS) || length > longest)?;
     let lines: Vec<&[u8]> = text.chunks(CHARACTERS).collect();
-    refuse_lowest(2, lines.len(), |f| !well_formed(lines[f]))?;
+    refuse_lowest(Refusal::BadCharacter, lines.len(), |f| !well_formed(lines[f]))?;
     let bytes: Vec<[u8; 11]> = lines.iter().map(|line| bytes_of(line)).collect();
-    refuse_lowest(3, bytes.len(), |f| bytes[f].iter().map(|b| u32::from(*b)).sum::<u32>() % 256 != 0)?;
+    refuse_lowest(Refusal::BadSum, bytes.len(), |f| {
+        bytes[f].iter().map(|b| u32::from(*b)).sum::<u32>() % 256 != 0
+    })?;
     Ok(bytes.iter().map(|b| std::array::from_fn(|k| b[k])).collect())
 }

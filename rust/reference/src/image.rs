@@ -130,13 +130,13 @@ pub fn image_of(frames: &[Frame]) -> Result<Image, Refusal> {
     let schemes = usize::from(header[1]);
     let last = usize::from(header[2]);
     let rows = usize::from(u16::from_be_bytes([header[3], header[4]]));
-    refuse_if(11, header[0] != 0x0F || header[6..].iter().any(|b| *b != 0))?;
-    refuse_if(11, !(1..=16).contains(&schemes) || last == 0 || rows > ROWS)?;
-    refuse_if(11, !handler_stands(header[5], schemes))?;
-    refuse_if(11, frames.len() != 1 + schemes + (last + 1) + rows)?;
+    refuse_if(Refusal::BadHeader, header[0] != 0x0F || header[6..].iter().any(|b| *b != 0))?;
+    refuse_if(Refusal::BadHeader, !(1..=16).contains(&schemes) || last == 0 || rows > ROWS)?;
+    refuse_if(Refusal::BadHeader, !handler_stands(header[5], schemes))?;
+    refuse_if(Refusal::BadHeader, frames.len() != 1 + schemes + (last + 1) + rows)?;
     let parts = Parts { schemes, last };
-    refuse_lowest(12, frames.len(), |f| misplaced(frames, &parts, f))?;
-    refuse_lowest(13, frames.len(), |f| match parts.of(f) {
+    refuse_lowest(Refusal::StrayFrame, frames.len(), |f| misplaced(frames, &parts, f))?;
+    refuse_lowest(Refusal::BadContent, frames.len(), |f| match parts.of(f) {
         Part::Header => false,
         Part::Entry(h) => !entry_stands(frames, &parts, h, &frames[f]),
         Part::Label(l) => !label_stands(&parts, l, &frames[f]),

@@ -3,6 +3,7 @@
 //! the fast one.
 
 pub mod answer;
+mod by_entry;
 pub mod cause;
 pub mod chart;
 pub mod check;
@@ -30,7 +31,6 @@ pub mod translator;
 pub mod walk;
 
 pub use answer::Answer;
-pub use library::{
-    CauseReport, FillingsReport, Library, Meaning, PricedReport, Prices, Reference, TickReport,
-};
+pub use interface::{told, Told};
+pub use library::{Cause, Fillings, Library, Meaning, PricedReport, Prices, Reference, Refusal, Tick};
 pub use state::{fresh_state, State};

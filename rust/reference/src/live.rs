@@ -49,9 +49,9 @@ impl Held {
     /// The image that these bytes hold, or refusal 11.
     pub fn of(bytes: &[u8]) -> Result<Held, Refusal> {
         let (frames, _) = bytes.as_chunks::<10>();
-        refuse_if(11, frames.is_empty())?;
+        refuse_if(Refusal::BadHeader, frames.is_empty())?;
         let header = Header::of(&frames[0]);
-        refuse_if(11, !header.stands() || frames.len() < header.end())?;
+        refuse_if(Refusal::BadHeader, !header.stands() || frames.len() < header.end())?;
         let table = &frames[..header.end()];
         let labels = &table[1 + header.schemes..][..header.last + 1];
         Ok(Held {
@@ -159,15 +159,15 @@ impl Held {
     }
 
     /// The next label by the row taken, or refusal 18.
-    fn next(&self, label: u8, results: &[bool; 16], word: u16) -> Result<u8, u8> {
-        self.taken(label, results, word).map(|row| row.next).ok_or(18)
+    fn next(&self, label: u8, results: &[bool; 16], word: u16) -> Result<u8, Refusal> {
+        self.taken(label, results, word).map(|row| row.next).ok_or(Refusal::NoRow { ticks: 0 })
     }
 
     /// One tick of a state with a depth of 1 to its size, or 17 or 18. A result goes to the bit of the number at the top, and a call
     /// clears the bit of the number called and opens the scheme that serves it; number 0 counts as 1.
     /// Where there is a handler, a call that finds the stack full drops all for it. A return at the bottom leads to label 0, also in
     /// a table without a handler, where only damage leads to one.
-    pub fn tick(&self, state: &State, word: u16) -> Result<Advanced, u8> {
+    pub fn tick(&self, state: &State, word: u16) -> Result<Advanced, Refusal> {
         let top = usize::from(state.depth) - 1;
         let here = self.label(state.places[top]);
         let results = results_after(&here, state.numbers[top], &state.results);
@@ -176,7 +176,7 @@ impl Held {
             HOME => after.places[top] = self.entry(1),
             OPERATION_CALL | FUNCTION_CALL if state.depth == state.size => {
                 if self.handler == 0 || self.handles(state.places[0]) {
-                    return Err(17);
+                    return Err(Refusal::Full { ticks: 0 });
                 }
                 leave_alone(&mut after, self.entry(self.handler), self.handler);
                 after.results[usize::from(self.handler) - 1] = false;

@@ -1,5 +1,6 @@
 //! The stack machine over a decoded image: fitness (15), one tick, and the refusals 17 and 18 of a tick.
 
+use crate::answer::Refusal;
 use crate::image::{Image, Label, Row, FUNCTION_CALL, HOME, OPERATION_CALL, PLAIN, RETURN};
 use crate::state::{leave_alone, State};
 
@@ -110,7 +111,7 @@ pub fn row_label(image: &Image, state: &State) -> Option<u8> {
 
 /// One tick of a fitting state, or 17 or 18. Results go by the number that the scheme at the top was called by, and a call opens the
 /// scheme that serves its number then. A call's own result is written before it clears a bit.
-pub fn tick(image: &Image, state: &State, word: u16) -> Result<Advanced, u8> {
+pub fn tick(image: &Image, state: &State, word: u16) -> Result<Advanced, Refusal> {
     let top = usize::from(state.depth) - 1;
     let at = state.places[top];
     let here = *label(image, at);
@@ -130,7 +131,7 @@ pub fn tick(image: &Image, state: &State, word: u16) -> Result<Advanced, u8> {
         }
         RETURN => {
             let beneath = state.places[top - 1];
-            let next = next_label(image, &state.results, beneath, word).ok_or(18)?;
+            let next = next_label(image, &state.results, beneath, word).ok_or(Refusal::NoRow { ticks: 0 })?;
             (after.places[top], after.numbers[top], after.servers[top]) = (0, 0, 0);
             after.places[top - 1] = next;
             after.depth -= 1;
@@ -147,7 +148,8 @@ pub fn tick(image: &Image, state: &State, word: u16) -> Result<Advanced, u8> {
             base + here.called
         }
         _ => {
-            after.places[top] = next_label(image, &state.results, at, word).ok_or(18)?;
+            after.places[top] =
+                next_label(image, &state.results, at, word).ok_or(Refusal::NoRow { ticks: 0 })?;
             0x00
         }
     };
@@ -155,9 +157,9 @@ pub fn tick(image: &Image, state: &State, word: u16) -> Result<Advanced, u8> {
 }
 
 /// Empties a full stack and starts the handler at the bottom with its bit at 0; or 17, where there is none or it is there already.
-fn drop_all(image: &Image, state: &mut State) -> Result<u8, u8> {
+fn drop_all(image: &Image, state: &mut State) -> Result<u8, Refusal> {
     if image.handler == 0 || handles(image, state.places[0]) {
-        return Err(17);
+        return Err(Refusal::Full { ticks: 0 });
     }
     leave_alone(state, entry(image, image.handler), image.handler);
     state.results[usize::from(image.handler) - 1] = false;

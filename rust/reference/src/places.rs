@@ -28,7 +28,7 @@ fn longest_after(calls: &[BTreeSet<u8>], chain: &mut Vec<u8>) -> Result<usize, R
     let mut longest = chain.len();
     let last = *chain.last().expect("a chain has a scheme");
     for called in &calls[usize::from(last)] {
-        refuse_if(20, chain.contains(called))?;
+        refuse_if(Refusal::CallsItself, chain.contains(called))?;
         chain.push(*called);
         longest = longest.max(longest_after(calls, chain)?);
         chain.pop();

@@ -24,7 +24,7 @@ fn first_row_above(image: &Image, label: usize) -> usize {
 
 /// The image whose table these bytes are: refusals 11 to 13 of the frames with the notes taken back, then 13 where another note stands.
 pub fn prepared(bytes: &[u8]) -> Result<Image, Refusal> {
-    refuse_if(11, bytes.is_empty() || !bytes.len().is_multiple_of(FRAME))?;
+    refuse_if(Refusal::BadHeader, bytes.is_empty() || !bytes.len().is_multiple_of(FRAME))?;
     let frames: Vec<Frame> = bytes.chunks(FRAME).map(|f| Frame::try_from(f).expect("ten bytes")).collect();
     let mut image = frames.clone();
     let labels = image.iter_mut().skip(1 + usize::from(frames[0][1])).take(1 + usize::from(frames[0][2]));
@@ -33,7 +33,7 @@ pub fn prepared(bytes: &[u8]) -> Result<Image, Refusal> {
     }
     let image = image_of(&image)?;
     let table = table_of(&image);
-    refuse_lowest(13, frames.len(), |f| frames[f] != table[f])?;
+    refuse_lowest(Refusal::BadContent, frames.len(), |f| frames[f] != table[f])?;
     Ok(image)
 }
 

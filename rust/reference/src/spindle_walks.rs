@@ -1,9 +1,8 @@
 //! What paper 02 says of a list of calls on four spindles, each with the image of a chart and a fresh state, computed from their walks
 //! and a count of places and nothing else.
 
-use crate::answer::{answered, ticked, Refusal};
+use crate::answer::{Answer, Refusal};
 use crate::chart::Chart;
-use crate::library::TickReport;
 use crate::state::{can_rebind, Binding, OWN};
 use crate::walk::{walk_told, Signal, Tick};
 use interface::{SPINDLES, STORE};
@@ -23,10 +22,17 @@ pub enum Turn {
     },
 }
 
-/// What a call answers, and the depths that it leaves; a rebinding has no mask and no code.
+/// What a call answers: the tick of a spindle, or what a rebinding counts.
+#[derive(Clone, Copy, Debug, PartialEq, Eq)]
+pub enum Made {
+    Tick(interface::Tick),
+    Rebinding(usize),
+}
+
+/// What a call answers, and the depths that it leaves.
 #[derive(Clone, Debug, PartialEq, Eq)]
 pub struct Told {
-    pub ticked: TickReport,
+    pub answer: Result<Made, Refusal>,
     pub depths: [usize; SPINDLES],
 }
 
@@ -41,27 +47,27 @@ struct Spindle<'a> {
 
 impl Spindle<'_> {
     /// The tick that its walk makes by this word after those that are finished, or 17 or, where there is no place left, 26.
-    fn tick(&mut self, word: u16, left: usize) -> Result<(u32, u8), Refusal> {
+    fn tick(&mut self, word: u16, left: usize) -> Result<interface::Tick, Refusal> {
         self.finished.push(Signal { word, binding: self.binding });
         let tick = *walk_told(self.chart, self.size, &self.finished).last().expect("a tick a word");
         assert_eq!(tick.open, self.depth, "as many schemes are open as places are taken");
         let refusal = match tick.calls() {
-            true if tick.open == self.size => Some(17),
-            true if left == 0 => Some(26),
+            true if tick.open == self.size => Some(Refusal::Full { ticks: 0 }),
+            true if left == 0 => Some(Refusal::NoPlace),
             _ => None,
         };
-        if let Some(number) = refusal {
+        if let Some(refusal) = refusal {
             self.finished.pop();
-            return Err(Refusal::of(number));
+            return Err(refusal);
         }
         self.depth = depth_after(&tick);
-        Ok((tick.mask, tick.code))
+        Ok(interface::Tick { mask: tick.mask, code: tick.code })
     }
 
-    fn rebind(&mut self, number: usize, scheme: usize) -> Result<usize, Refusal> {
+    fn rebind(&mut self, number: usize, scheme: usize) -> Answer {
         let (schemes, handler) = (self.chart.schemes().into(), self.chart.handler().unwrap_or(0));
         if !can_rebind(schemes, handler, number, scheme) {
-            return Err(Refusal::of(22));
+            return Err(Refusal::BadRebinding);
         }
         self.binding[number - 1] = scheme as u8;
         Ok(0)
@@ -85,16 +91,15 @@ pub fn expected(spindles: [(&Chart, usize); SPINDLES], turns: &[Turn]) -> Vec<To
     let mut told = Vec::new();
     for turn in turns {
         let left = STORE - spindles.iter().map(|spindle| spindle.depth).sum::<usize>();
-        let made = match *turn {
-            Turn::Spin { spindle, .. } if spindle >= SPINDLES => ticked(Err(Refusal::of(25))),
-            Turn::Spin { spindle, word } => ticked(spindles[spindle].tick(word, left)),
+        let answer = match *turn {
+            Turn::Spin { spindle, .. } if spindle >= SPINDLES => Err(Refusal::NoSpindle),
+            Turn::Spin { spindle, word } => spindles[spindle].tick(word, left).map(Made::Tick),
             Turn::Rebind { spindle, number, scheme } => {
-                let answer = answered(spindles[spindle].rebind(number, scheme));
-                TickReport { answer, mask: 0, code: 0 }
+                spindles[spindle].rebind(number, scheme).map(Made::Rebinding)
             }
         };
         let depths = std::array::from_fn(|k| spindles[k].depth);
-        told.push(Told { ticked: made, depths });
+        told.push(Told { answer, depths });
     }
     told
 }

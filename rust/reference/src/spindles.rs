@@ -3,7 +3,7 @@
 use crate::answer::{refuse_if, Refusal};
 use crate::machine::Advanced;
 use crate::state::State;
-use interface::{SPINDLES, STORE};
+use interface::{Tick, SPINDLES, STORE};
 
 /// A list of states, and how many places are recorded as taken by them.
 pub struct Head<'a> {
@@ -25,16 +25,16 @@ impl Head<'_> {
         self,
         spindle: usize,
         fits: impl Fn(&State) -> bool,
-        tick: impl Fn(&State) -> Result<Advanced, u8>,
-    ) -> Result<(u32, u8), Refusal> {
-        refuse_if(15, !self.in_order() || !fits(&self.states[spindle]))?;
+        tick: impl Fn(&State) -> Result<Advanced, Refusal>,
+    ) -> Result<Tick, Refusal> {
+        refuse_if(Refusal::Unfit, !self.in_order() || !fits(&self.states[spindle]))?;
         let before = usize::from(self.states[spindle].depth);
-        let Advanced { mask, code, state } = tick(&self.states[spindle]).map_err(Refusal::of)?;
+        let Advanced { mask, code, state } = tick(&self.states[spindle])?;
         let after = usize::from(state.depth);
         // only a call takes a place, and one that has room on its own stack gets neither 17 nor 18
-        refuse_if(26, after > before && *self.taken == STORE)?;
+        refuse_if(Refusal::NoPlace, after > before && *self.taken == STORE)?;
         *self.taken = *self.taken - before + after;
         self.states[spindle] = state;
-        Ok((mask, code))
+        Ok(Tick { mask, code })
     }
 }

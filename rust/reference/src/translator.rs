@@ -97,7 +97,7 @@ fn rows_of(chart: &Chart, labels: &Labels) -> Result<Vec<Row>, Refusal> {
     let mut rows = Rows { chart, labels, rows: Vec::new() };
     for (k, at) in labels.numbered.iter().enumerate() {
         let left = rows.leave(k as u8 + 2, *at);
-        left.map_err(|TooMany| Refusal { number: 10, index: 0 })?;
+        left.map_err(|TooMany| Refusal::ManyRows)?;
     }
     Ok(rows.rows)
 }

@@ -5,7 +5,7 @@ use reference::frames::{text_of, Frame};
 use reference::image::Image;
 use reference::state::OWN;
 use reference::walk::{walk_told, Signal};
-use reference::{entry, fresh_state, Answer, State};
+use reference::{entry, fresh_state, Refusal, State};
 
 /// Scheme 1 calls 2 with mask 1, then as a function; on a 1 an operation with mask 2 follows. Scheme 2 is one operation, mask 4, that
 /// writes 0. Scheme 3 is two operations, masks 8 and 16, the second of which writes 1. Scheme 4 calls 2 with mask 32, and is the handler
@@ -38,16 +38,10 @@ fn decoded(mark: u8) -> Image {
     entry::image_from_text(&image(mark)).expect("its image")
 }
 
-fn refused(number: u8) -> Answer {
-    Answer::Refused { number, index: 0, count: 0 }
-}
-
 /// Ticks so many times by word 0, and hands back the codes and masks.
 fn ticked(image: &[u8], state: &mut State, count: usize) -> Vec<(u8, u32)> {
     let (mut masks, mut codes) = (vec![0; count], vec![0; count]);
-    let (answer, after) = entry::run(image, state, &vec![0; count], &mut masks, &mut codes);
-    assert_eq!(answer, Answer::Done(count));
-    *state = after;
+    assert_eq!(entry::run(image, state, &vec![0; count], &mut masks, &mut codes), Ok(count));
     codes.into_iter().zip(masks).collect()
 }
 
@@ -69,7 +63,7 @@ fn a_swap_between_two_calls_serves_the_second() {
     let mut state = fresh_state(3).expect("a good size");
     let first = ticked(&image, &mut state, 4);
     assert_eq!(first, [(0x04, 0), (0x12, 1), (0x00, 4), (0x03, 0)]);
-    assert_eq!(entry::rebind(&image, &mut state, 2, 3), Answer::Done(0));
+    assert_eq!(entry::rebind(&image, &mut state, 2, 3), Ok(0));
     assert_eq!((state.serving[1], state.serving[2]), (3, 3));
     let second = ticked(&image, &mut state, 5);
     assert_eq!(second, [(0x42, 0), (0x00, 8), (0x00, 16), (0x03, 0), (0x00, 2)]);
@@ -82,7 +76,7 @@ fn a_swap_in_the_middle_leaves_what_is_open() {
     let mut state = fresh_state(3).expect("a good size");
     ticked(&image, &mut state, 2);
     let before = state;
-    assert_eq!(entry::rebind(&image, &mut state, 2, 3), Answer::Done(0));
+    assert_eq!(entry::rebind(&image, &mut state, 2, 3), Ok(0));
     assert_eq!(State { serving: before.serving, ..state }, before);
     assert_eq!((state.numbers[1], state.servers[1]), (2, 2));
     let codes = ticked(&image, &mut state, 3);
@@ -102,7 +96,7 @@ fn the_binding_of_the_calls_own_tick_serves_it() {
 fn bits_go_by_numbers() {
     let image = image(0);
     let mut state = fresh_state(3).expect("a good size");
-    assert_eq!(entry::rebind(&image, &mut state, 2, 3), Answer::Done(0));
+    assert_eq!(entry::rebind(&image, &mut state, 2, 3), Ok(0));
     state.results = [true; 16];
     ticked(&image, &mut state, 2);
     // the call clears the bit of number 2, not that of the scheme that serves it
@@ -125,15 +119,15 @@ fn refusals_of_22() {
             if (2..=4).contains(&number) && (2..=4).contains(&scheme) && !handlers {
                 let mut wanted = fresh;
                 wanted.serving[number - 1] = scheme as u8;
-                assert_eq!((answer, state), (Answer::Done(0), wanted));
+                assert_eq!((answer, state), (Ok(0), wanted));
             } else {
-                assert_eq!((answer, state), (refused(22), fresh), "{number} to {scheme}");
+                assert_eq!((answer, state), (Err(Refusal::BadRebinding), fresh), "{number} to {scheme}");
             }
         }
         for number in large {
             let mut state = fresh;
-            assert_eq!(entry::rebind(image, &mut state, number, 2), refused(22), "{number}");
-            assert_eq!(entry::rebind(image, &mut state, 2, number), refused(22), "{number}");
+            assert_eq!(entry::rebind(image, &mut state, number, 2), Err(Refusal::BadRebinding), "{number}");
+            assert_eq!(entry::rebind(image, &mut state, 2, number), Err(Refusal::BadRebinding), "{number}");
             assert_eq!(state, fresh);
         }
     }
@@ -143,9 +137,9 @@ fn refusals_of_22() {
 fn the_image_is_tried_first_then_the_state_then_the_numbers() {
     let image = image(0);
     let mut state = State::NONE;
-    assert_eq!(entry::rebind(&image[1..], &mut state, 0, 0), refused(1));
-    assert_eq!(entry::rebind(&image, &mut state, 0, 0), refused(15));
-    assert_eq!(entry::live_rebind(&[], &mut state, 0, 0), refused(11));
+    assert_eq!(entry::rebind(&image[1..], &mut state, 0, 0), Err(Refusal::BadLength));
+    assert_eq!(entry::rebind(&image, &mut state, 0, 0), Err(Refusal::Unfit));
+    assert_eq!(entry::live_rebind(&[], &mut state, 0, 0), Err(Refusal::BadHeader));
     assert_eq!(state, State::NONE);
 }
 
@@ -154,7 +148,7 @@ fn the_image_is_tried_first_then_the_state_then_the_numbers() {
 fn the_handlers_scheme_may_serve_another_number() {
     let image = image(1);
     let mut state = fresh_state(3).expect("a good size");
-    assert_eq!(entry::rebind(&image, &mut state, 2, 4), Answer::Done(0));
+    assert_eq!(entry::rebind(&image, &mut state, 2, 4), Ok(0));
     assert_eq!(ticked(&image, &mut state, 3), [(0x04, 0), (0x12, 1), (0x12, 32)]);
     assert_eq!((state.numbers[..3].to_vec(), state.servers[..3].to_vec()), (vec![1, 2, 2], vec![1, 4, 4]));
     // the stack is full: all is dropped, and the handler goes by its own number
@@ -180,8 +174,9 @@ fn after_17_a_rebinding_succeeds_and_the_stack_stays_full() {
     for server in [2, 3, 4] {
         let before = state;
         let (mut masks, mut codes) = ([0], [0]);
-        assert_eq!(entry::run(&image, &state, &[0], &mut masks, &mut codes), (refused(17), before));
-        assert_eq!(entry::rebind(&image, &mut state, 2, server), Answer::Done(0));
+        let answer = entry::run(&image, &mut state, &[0], &mut masks, &mut codes);
+        assert_eq!((answer, state), (Err(Refusal::Full { ticks: 0 }), before));
+        assert_eq!(entry::rebind(&image, &mut state, 2, server), Ok(0));
     }
 }
 
@@ -192,6 +187,6 @@ fn the_entry_of_number_1_is_kept() {
     let mut state = fresh_state(3).expect("a good size");
     state.serving[0] = 77;
     ticked(&image, &mut state, 5);
-    assert_eq!(entry::rebind(&image, &mut state, 3, 2), Answer::Done(0));
+    assert_eq!(entry::rebind(&image, &mut state, 3, 2), Ok(0));
     assert_eq!(state.serving[..3], [77, 2, 2]);
 }

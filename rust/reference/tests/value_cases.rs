@@ -3,7 +3,7 @@
 
 use std::fmt::Write;
 
-use interface::{Answer, Library, State, TickReport, OPERATIONS};
+use interface::{Answer, Library, Refusal, State, Tick, OPERATIONS};
 use reference::{frames, Reference};
 
 const WORDS: [u16; 4] = [0, 0, 1, 0];
@@ -14,8 +14,8 @@ impl Printed {
     /// The frame of an answer, as the case programs print it.
     fn answer(&mut self, entry: u8, answer: Answer, bytes: usize) {
         let (number, index, count) = match answer {
-            Answer::Done(count) => (0, 0, count),
-            Answer::Refused { number, index, count } => (number, index, count),
+            Ok(count) => (0, 0, count),
+            Err(refusal) => (refusal.number(), refusal.index(), refusal.ticks()),
         };
         let [index, count, bytes] = [index, count, bytes].map(|value| (value as u16).to_be_bytes());
         let ten = [entry, number, index[0], index[1], count[0], count[1], bytes[0], bytes[1], 0, 0];
@@ -26,11 +26,11 @@ impl Printed {
         writeln!(self.0, "{byte:02X}").expect("a text takes all");
     }
 
-    fn tick(&mut self, entry: u8, report: TickReport, bytes: usize) {
-        self.answer(entry, report.answer, bytes);
-        if let Answer::Done(_) = report.answer {
-            self.byte(report.mask as u8);
-            self.byte(report.code);
+    fn tick(&mut self, entry: u8, ticked: Result<Tick, Refusal>, bytes: usize) {
+        self.answer(entry, ticked.map(|_| 1), bytes);
+        if let Ok(Tick { mask, code }) = ticked {
+            self.byte(mask as u8);
+            self.byte(code);
         }
     }
 
@@ -43,7 +43,7 @@ impl Printed {
 }
 
 fn fresh(size: usize) -> State {
-    Reference.fresh(size).1
+    Reference.fresh(size).expect("a good size")
 }
 
 /// One chart's image and table, and what is printed of the calls on them.
@@ -62,11 +62,11 @@ impl Case<'_> {
     }
 
     fn tick(&mut self, entry: u8, state: &mut State, word: u16) {
-        let report = match entry {
+        let ticked = match entry {
             0x12 => Reference.live_tick(&self.table, state, word),
             _ => Reference.tick(&self.image, state, word),
         };
-        self.printed.tick(entry, report, 0);
+        self.printed.tick(entry, ticked, 0);
     }
 
     fn ticks(&mut self) {
@@ -85,12 +85,12 @@ impl Case<'_> {
         }
     }
 
-    fn live_run(&mut self, table: &[u8], state: State, room: usize) -> State {
+    fn live_run(&mut self, table: &[u8], mut state: State, room: usize) -> State {
         let (mut masks, mut codes) = ([119; 4], [170; 4]);
-        let (answer, after) = Reference.live_run(table, &state, &WORDS, &mut masks, &mut codes[..room]);
+        let answer = Reference.live_run(table, &mut state, &WORDS, &mut masks, &mut codes[..room]);
         self.printed.answer(0x13, answer, 0);
         self.printed.ticks(masks, codes);
-        after
+        state
     }
 
     fn live_runs(&mut self) {
@@ -106,7 +106,8 @@ impl Case<'_> {
         let mut prices = [0; OPERATIONS];
         prices[..2].copy_from_slice(&[100, 25]);
         let (mut masks, mut codes) = ([119; 4], [170; 4]);
-        let report = Reference.priced_run(&self.image, &fresh(size), &prices, &WORDS, &mut masks, &mut codes);
+        let state = &mut fresh(size);
+        let report = Reference.priced_run(&self.image, state, &prices, &WORDS, &mut masks, &mut codes);
         self.printed.answer(0x16, report.answer, report.price as usize);
         self.printed.ticks(masks, codes);
     }
@@ -115,21 +116,21 @@ impl Case<'_> {
         let mut state = fresh(3);
         for word in WORDS {
             let told = Reference.cause(&self.image, &state, word);
-            self.printed.answer(0x17, told.answer, usize::from(told.row));
-            if let Answer::Done(_) = told.answer {
-                self.printed.byte(told.mask as u8);
-                self.printed.byte(told.bit);
+            self.printed.answer(0x17, told.map(|_| 0), told.map_or(0, |cause| cause.row.into()));
+            if let Ok(cause) = told {
+                self.printed.byte(cause.mask as u8);
+                self.printed.byte(cause.bit);
             }
-            Reference.tick(&self.image, &mut state, word);
+            let _ = Reference.tick(&self.image, &mut state, word);
         }
     }
 
     fn spin(&mut self, entry: u8, states: &mut [State], taken: &mut usize, spindle: usize) {
-        let report = match entry {
+        let ticked = match entry {
             0x18 => Reference.spin(states, taken, spindle, &self.image, 0),
             _ => Reference.live_spin(states, taken, spindle, &self.table, 0),
         };
-        self.printed.tick(entry, report, *taken);
+        self.printed.tick(entry, ticked, *taken);
     }
 
     fn spindles(&mut self) {

@@ -311,7 +311,7 @@ impl Bench {
         let (run, subject) = (self.running()?, self.piece()?.subject()?);
         let (names, words) = (subject.names(), &self.words[..run.rows()]);
         let bill = Bill::of(&subject, run.places(), prices(list, names)?, words, &self.swaps)?;
-        let ended = bill.answer.ok().err().map(|_| format!("\n{}", subject.problem(bill.answer)));
+        let ended = bill.answer.err().map(|refusal| format!("\n{}", subject.problem(refusal)));
         Ok(bill.report(names) + &ended.unwrap_or_default())
     }
 

@@ -9,6 +9,7 @@ use reference::frames::text_of;
 use reference::image::Image;
 use reference::library::Library;
 use reference::state::State;
+use reference::Told;
 
 /// An image that the library accepts, its text, and its table.
 struct Prepared {
@@ -49,7 +50,7 @@ fn prepared(library: &dyn Library, random: &mut Random) -> Prepared {
         let image = images::accepted(random);
         let text = letters::sizes(random, text_of(&image.frames()));
         let mut table = vec![0; image.frames().len() * 10];
-        if library.prepare(&text, &mut table).number() == 0 {
+        if library.prepare(&text, &mut table).is_ok() {
             return Prepared { image, text, table };
         }
     }
@@ -59,10 +60,11 @@ fn prepared(library: &dyn Library, random: &mut Random) -> Prepared {
 fn same_run(library: &dyn Library, prepared: &Prepared, state: &State, run: &Run, seed: u64) -> u8 {
     let made = |live: bool| {
         let (mut masks, mut codes) = (run.masks.clone(), run.codes.clone());
-        let (answer, after) = if live {
-            library.live_run(&prepared.table, state, &run.words, &mut masks, &mut codes)
+        let mut after = *state;
+        let answer = if live {
+            library.live_run(&prepared.table, &mut after, &run.words, &mut masks, &mut codes)
         } else {
-            library.run(&prepared.text, state, &run.words, &mut masks, &mut codes)
+            library.run(&prepared.text, &mut after, &run.words, &mut masks, &mut codes)
         };
         (Outcome { answer, masks, codes, price: None }, after)
     };
@@ -77,7 +79,7 @@ fn same_tick(library: &dyn Library, prepared: &Prepared, state: &State, word: u1
     let ticked = library.tick(&prepared.text, &mut after, word);
     let live = library.live_tick(&prepared.table, &mut after_live, word);
     assert_eq!((ticked, after), (live, after_live), "seed {seed}, {state:?}");
-    live.answer.number()
+    live.number()
 }
 
 /// Makes both rebindings and hands back the number answered.
@@ -102,5 +104,5 @@ fn same_spin(library: &dyn Library, prepared: &Prepared, lent: &Lent, word: u16,
     let Lent { states, taken, spindle } = &mut after_live;
     let live = library.live_spin(states, taken, *spindle, &prepared.table, word);
     assert_eq!((ticked, after), (live, after_live), "seed {seed}, {lent:?}");
-    live.answer.number()
+    live.number()
 }

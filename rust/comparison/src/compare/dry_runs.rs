@@ -5,7 +5,7 @@ use super::ticks::{show_run, widened};
 use super::{Case, Compared, MARGIN};
 use crate::generate::{charts, runs};
 use crate::show;
-use reference::answer::Answer;
+use reference::answer::{Answer, Refusal};
 use reference::entry;
 use reference::expectation::Run;
 use reference::library::{Library, Reference};
@@ -35,7 +35,8 @@ impl<'a> Case<'a> {
         let (mut wanted, mut given) = (lent.clone(), lent);
         let answer = made(&Reference, &text, size, &run, &mut wanted);
         let got = made(self.library, &text, size, &run, &mut given);
-        self.summary.note_codes("dry_run", 1, &OWN, &wanted.codes[MARGIN..][..answer.count()]);
+        let finished = answer.unwrap_or_else(Refusal::ticks);
+        self.summary.note_codes("dry_run", 1, &OWN, &wanted.codes[MARGIN..][..finished]);
         self.hold("dry_run", answer, &(answer, wanted), &(got, given), || {
             format!("{}size {size}, image of {room}; {}", show::text(&text), show_run(&run))
         })

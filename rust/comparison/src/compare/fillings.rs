@@ -4,13 +4,13 @@ use super::{Case, Compared, Summary};
 use crate::generate::{damage, fillings, letters};
 use crate::show;
 use reference::frames::text_of;
-use reference::library::{FillingsReport, Library, Reference};
+use reference::library::{Fillings, Library, Reference};
 
 impl Summary {
     /// Notes which of the three counts are not 0, where there is more than one list.
-    fn note_fillings(&mut self, counted: &FillingsReport) {
+    fn note_fillings(&mut self, counted: &Fillings) {
         let some = |counts: &[u32]| usize::from(counts.iter().all(|count| *count > 0));
-        let FillingsReport { ended, full, unmatched, .. } = *counted;
+        let Fillings { ended, full, unmatched } = *counted;
         self.fillings.full += some(&[ended, full]);
         self.fillings.unmatched += some(&[ended, unmatched]);
         self.fillings.both += some(&[full, unmatched]);
@@ -31,8 +31,8 @@ impl Case<'_> {
         self.summary.note_letters("count_fillings", &text);
         let wanted = Reference.count_fillings(&text, size, ticks, conditions);
         let got = self.library.count_fillings(&text, size, ticks, conditions);
-        self.summary.note_fillings(&wanted);
-        self.hold("count_fillings", wanted.answer, &wanted, &got, || {
+        self.summary.note_fillings(&wanted.unwrap_or_default());
+        self.hold("count_fillings", wanted, &wanted, &got, || {
             let image = show::text(&text);
             format!("size {size}, {ticks} ticks, {conditions} conditions, image of {image}")
         })

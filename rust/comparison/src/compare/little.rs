@@ -33,7 +33,7 @@ pub fn run_little_charts(library: &dyn Library) -> Result<Tried, String> {
     let mut tried = Tried::default();
     for (at, frames) in (2..=4).enumerate() {
         let mut text = [0; LITTLE_TEXT];
-        while let Answer::Done(length) = library.little_chart(frames, tried.charts[at], &mut text) {
+        while let Ok(length) = library.little_chart(frames, tried.charts[at], &mut text) {
             let told = |fault| format!("{frames} frames, number {}: {fault}", tried.charts[at]);
             tried.lists[at] += run_little_chart(library, &text[..length], frames + 2).map_err(told)?;
             tried.charts[at] += 1;
@@ -45,7 +45,7 @@ pub fn run_little_charts(library: &dyn Library) -> Result<Tried, String> {
 /// A call that writes into a buffer of this length, which is long enough.
 fn made(length: usize, call: impl FnOnce(&mut [u8]) -> Answer) -> Result<Vec<u8>, String> {
     let mut out = vec![0; length];
-    let length = call(&mut out).ok().map_err(|refusal| refusal.to_string())?;
+    let length = call(&mut out).map_err(|refusal| refusal.to_string())?;
     out.truncate(length);
     Ok(out)
 }
@@ -57,15 +57,17 @@ fn run_little_chart(library: &dyn Library, text: &[u8], count: usize) -> Result<
     let table = made(TABLE, |out| library.prepare(&image, out))?;
     let mut lists = 0;
     for places in 1..=3 {
-        let (_, state) = library.fresh(places);
+        let state = library.fresh(places).map_err(|refusal| refusal.to_string())?;
         for bits in 0..1u16 << count {
             let words: Vec<u16> = (0..count).map(|tick| bits >> tick & 1).collect();
             let (masks, codes) = (vec![0xAAAA; count], vec![0xAA; count]);
             let run = Run { words: words.clone(), masks, codes, prices: None };
             let wanted = expected(&chart, places, &[Step::Run(run.clone())]).remove(0);
-            let on_image = outcome(&run, |masks, codes| library.run(&image, &state, &words, masks, codes));
-            let live = outcome(&run, |masks, codes| library.live_run(&table, &state, &words, masks, codes));
-            if wanted.answer != Answer::Done(count) || on_image.0 != wanted || live != on_image {
+            let on_image =
+                outcome(&run, state, |s, masks, codes| library.run(&image, s, &words, masks, codes));
+            let live =
+                outcome(&run, state, |s, masks, codes| library.live_run(&table, s, &words, masks, codes));
+            if wanted.answer != Ok(count) || on_image.0 != wanted || live != on_image {
                 let words = show::words(&words);
                 return Err(format!("{places} places, {words}: {on_image:?}, live {live:?}, not {wanted:?}"));
             }
@@ -76,8 +78,12 @@ fn run_little_chart(library: &dyn Library, text: &[u8], count: usize) -> Result<
 }
 
 /// What a run of either kind answers and writes, and the state after it.
-fn outcome(run: &Run, call: impl FnOnce(&mut [u32], &mut [u8]) -> (Answer, State)) -> (Outcome, State) {
+fn outcome(
+    run: &Run,
+    mut state: State,
+    call: impl FnOnce(&mut State, &mut [u32], &mut [u8]) -> Answer,
+) -> (Outcome, State) {
     let (mut masks, mut codes) = (run.masks.clone(), run.codes.clone());
-    let (answer, after) = call(&mut masks, &mut codes);
-    (Outcome { answer, masks, codes, price: None }, after)
+    let answer = call(&mut state, &mut masks, &mut codes);
+    (Outcome { answer, masks, codes, price: None }, state)
 }

@@ -50,7 +50,7 @@ impl<'a> Case<'a> {
             (part, library.sum(part, rest), library.sum(begun, &bytes))
         };
         let (wanted, got) = (sums(&Reference), sums(self.library));
-        self.hold("sum", Answer::Done(0), &wanted, &got, || {
+        self.hold("sum", Answer::Ok(0), &wanted, &got, || {
             format!("from {begun:08X}, {}", show::bytes(&bytes))
         })
     }

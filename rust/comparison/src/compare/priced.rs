@@ -4,12 +4,13 @@ use super::ticks::Ground;
 use super::{Case, Compared, Summary};
 use crate::generate::{images, letters, prices, runs};
 use crate::show;
-use reference::answer::Answer;
+use reference::answer::{Answer, Refusal};
 use reference::expectation::Run;
 use reference::frames::text_of;
 use reference::library::{Library, PricedReport, Prices, Reference};
 use reference::price::{hundredths, PRICED_WORDS};
 use reference::state::{fresh_state, State};
+use reference::Told;
 
 impl Summary {
     /// Notes a priced run by the masks of its finished ticks.
@@ -39,8 +40,9 @@ impl Case<'_> {
         let (ground, priced) =
             (Ground { bytes: &image, shown: show::text }, Run { prices: Some(prices), ..run });
         self.ran_by("priced_run", ground, &state, &priced, |library, masks, codes| {
-            let PricedReport { answer, state: after, price } =
-                library.priced_run(&image, &state, &prices, &priced.words, masks, codes);
+            let mut after = state;
+            let PricedReport { answer, price } =
+                library.priced_run(&image, &mut after, &prices, &priced.words, masks, codes);
             (answer, (after, price))
         })?;
         Ok(())
@@ -87,8 +89,8 @@ impl Case<'_> {
 /// The masks of the ticks that a run finishes, by the reference.
 fn finished(image: &[u8], state: &State, run: &Run) -> (Answer, Vec<u32>) {
     let (mut masks, mut codes) = (run.masks.clone(), run.codes.clone());
-    let none = [0; 32];
-    let answer = Reference.priced_run(image, state, &none, &run.words, &mut masks, &mut codes).answer;
-    masks.truncate(answer.count());
+    let (mut state, none) = (*state, [0; 32]);
+    let answer = Reference.priced_run(image, &mut state, &none, &run.words, &mut masks, &mut codes).answer;
+    masks.truncate(answer.unwrap_or_else(Refusal::ticks));
     (answer, masks)
 }

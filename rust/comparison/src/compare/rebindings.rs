@@ -4,11 +4,11 @@ use super::ticks::{show_run, Ground};
 use super::{Call, Case, Compared, Difference};
 use crate::generate::{images, letters, runs, tables};
 use crate::show;
-use reference::answer::Answer;
+use reference::answer::{Answer, Refusal};
 use reference::check::chart_of;
 use reference::expectation::{expected, Outcome, Run, Step};
 use reference::frames::{text_of, CHARACTERS};
-use reference::library::{Library, Reference};
+use reference::library::{Library, Reference, Tick};
 use reference::state::State;
 
 /// A rebinding or a live rebinding, by what it goes by.
@@ -88,7 +88,7 @@ impl<'a> Case<'a> {
         self.summary.note_letters(name, &text);
         self.summary.note_letters(name, &image_text);
         let outcomes = expected(&chart, size, &list);
-        let (_, mut state) = self.library.fresh(size);
+        let mut state = self.library.fresh(size).unwrap_or(State::NONE);
         let made = Made { image: image_text, table, live };
         let mut depth = 1;
         for (k, (step, wanted)) in list.iter().zip(&outcomes).enumerate() {
@@ -97,7 +97,7 @@ impl<'a> Case<'a> {
                 Step::Run(run) => self.list_run(&made, &mut state, run),
                 Step::Rebind(number, scheme) => self.list_rebinding(&made, &mut state, *number, *scheme),
             };
-            let finished = &wanted.codes[..wanted.answer.count()];
+            let finished = &wanted.codes[..wanted.answer.unwrap_or_else(Refusal::ticks)];
             depth = self.summary.note_codes(name, depth, &binding, finished);
             self.hold(name, wanted.answer, wanted, &outcome, || {
                 let shown: Vec<String> = list.iter().map(show_step).collect();
@@ -119,7 +119,6 @@ impl<'a> Case<'a> {
         if let Some(prices) = &run.prices {
             let priced =
                 self.library.priced_run(&made.image, state, prices, &run.words, &mut masks, &mut codes);
-            *state = priced.state;
             return Outcome { answer: priced.answer, masks, codes, price: Some(priced.price) };
         }
         let live = self.on_table(made);
@@ -129,17 +128,16 @@ impl<'a> Case<'a> {
             } else {
                 self.library.tick(&made.image, state, run.words[0])
             };
-            if ticked.answer.number() == 0 {
-                (masks[0], codes[0]) = (ticked.mask, ticked.code);
+            if let Ok(Tick { mask, code }) = ticked {
+                (masks[0], codes[0]) = (mask, code);
             }
-            return Outcome { answer: ticked.answer, masks, codes, price: None };
+            return Outcome { answer: ticked.map(|_| 1), masks, codes, price: None };
         }
-        let (answer, after) = if live {
+        let answer = if live {
             self.library.live_run(&made.table, state, &run.words, &mut masks, &mut codes)
         } else {
             self.library.run(&made.image, state, &run.words, &mut masks, &mut codes)
         };
-        *state = after;
         Outcome { answer, masks, codes, price: None }
     }
 
@@ -160,7 +158,7 @@ impl<'a> Case<'a> {
         length: usize,
     ) -> Result<Vec<u8>, Box<Difference>> {
         let mut made = vec![0; length];
-        let (wanted, got) = (Answer::Done(length), call(self.library, input, &mut made));
+        let (wanted, got) = (Ok(length), call(self.library, input, &mut made));
         self.hold(name, wanted, &wanted, &got, || show::text(input))?;
         Ok(made)
     }

@@ -12,7 +12,7 @@ impl Case<'_> {
         let text = images::text(&mut self.random);
         self.summary.note_letters("list_rows", &text);
         let (mut most_firsts, mut most_counts) = ([0; LABELS], [0; LABELS]);
-        let needed = Reference.list_rows(&text, &mut most_firsts, &mut most_counts).count();
+        let needed = Reference.list_rows(&text, &mut most_firsts, &mut most_counts).unwrap_or(0);
         let rooms = [0; 2].map(|_| runs::room(&mut self.random, needed));
         let filled = rooms.map(|room| runs::words(&mut self.random, room + 2 * MARGIN));
         let made = |library: &dyn Library| {

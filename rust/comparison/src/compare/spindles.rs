@@ -6,17 +6,19 @@ use crate::generate::spindles::{self, Drawn, Lent};
 use crate::generate::{letters, runs, states, tables};
 use crate::show;
 use interface::{SPINDLES, STORE};
-use reference::answer::Answer;
+use reference::answer::Refusal;
 use reference::chart::Chart;
 use reference::check::chart_of;
 use reference::frames::{text_of, CHARACTERS};
-use reference::library::{Library, Reference, TickReport};
+use reference::library::{Library, Reference, Tick};
 use reference::prepare::table_of;
-use reference::spindle_walks::{expected, Turn};
+use reference::spindle_walks::{self, expected, Turn};
 use reference::state::State;
+use reference::Told;
 
 /// The tick of a spindle, by an image's text or by a table.
-type SpinCall<'a> = fn(&(dyn Library + 'a), &mut [State], &mut usize, usize, &[u8], u16) -> TickReport;
+type SpinCall<'a> =
+    fn(&(dyn Library + 'a), &mut [State], &mut usize, usize, &[u8], u16) -> Result<Tick, Refusal>;
 
 /// A spindle's chart, and what the library made of it.
 struct Made {
@@ -34,21 +36,21 @@ impl<'a> Case<'a> {
         ground: Ground,
         start: &Lent,
         word: u16,
-    ) -> Result<(Answer, Lent), Box<Difference>> {
+    ) -> Result<(Result<Tick, Refusal>, Lent), Box<Difference>> {
         let made = |library: &(dyn Library + 'a)| {
             let mut after = start.clone();
             let Lent { states, taken, spindle } = &mut after;
             (call(library, states, taken, *spindle, ground.bytes, word), after)
         };
         let (wanted, got) = (made(&Reference), made(self.library));
-        if let (Some(own), 0) = (start.states.get(start.spindle), wanted.0.answer.number()) {
-            self.note_spin(name, own, start.taken, wanted.0.code);
+        if let (Some(own), Ok(tick)) = (start.states.get(start.spindle), wanted.0) {
+            self.note_spin(name, own, start.taken, tick.code);
         }
-        self.hold(name, wanted.0.answer, &wanted, &got, || {
+        self.hold(name, wanted.0, &wanted, &got, || {
             let on = (ground.shown)(ground.bytes);
             format!("{on}{}\nword {word:04X}", show::spindles(&start.states, start.taken, start.spindle))
         })?;
-        Ok((wanted.0.answer, wanted.1))
+        Ok(wanted)
     }
 
     fn note_spin(&mut self, name: &'static str, own: &State, taken: usize, code: u8) {
@@ -122,21 +124,21 @@ impl<'a> Case<'a> {
         let turns = spindles::turns(&mut self.random, &drawn);
         let made: Vec<Made> = drawn.iter().map(|one| self.made_of(one)).collect::<Result<_, _>>()?;
         let told = expected(std::array::from_fn(|k| (&made[k].chart, drawn[k].size)), &turns);
-        let mut states = drawn.each_ref().map(|one| self.library.fresh(one.size).1);
+        let mut states = drawn.each_ref().map(|one| self.library.fresh(one.size).unwrap_or(State::NONE));
         let mut taken = SPINDLES;
         for (k, (turn, told)) in turns.iter().zip(&told).enumerate() {
             let (before, taken_before) = (states, taken);
-            let (spindle, ticked) = self.made_turn(&made, turn, &mut states, &mut taken);
+            let (spindle, answer) = self.made_turn(&made, turn, &mut states, &mut taken);
             let mut left = before;
-            if told.ticked.answer.number() == 0 {
+            if let Ok(made) = told.answer {
                 left[spindle] = states[spindle];
-                if let Turn::Spin { .. } = turn {
-                    self.note_spin("spins", &before[spindle], taken_before, told.ticked.code);
+                if let spindle_walks::Made::Tick(tick) = made {
+                    self.note_spin("spins", &before[spindle], taken_before, tick.code);
                 }
             }
             let depths = states.each_ref().map(|state| usize::from(state.depth));
-            let wanted = (told.ticked, told.depths, told.depths.iter().sum(), left);
-            self.hold("spins", told.ticked.answer, &wanted, &(ticked, depths, taken, states), || {
+            let wanted = (told.answer, told.depths, told.depths.iter().sum(), left);
+            self.hold("spins", told.answer, &wanted, &(answer, depths, taken, states), || {
                 let charts: Vec<String> = drawn.iter().map(show_drawn).collect();
                 format!("{}call {k} of {turns:?}", charts.concat())
             })?;
@@ -151,7 +153,7 @@ impl<'a> Case<'a> {
         turn: &Turn,
         states: &mut [State; SPINDLES],
         taken: &mut usize,
-    ) -> (usize, TickReport) {
+    ) -> (usize, Result<spindle_walks::Made, Refusal>) {
         let live = self.random.once_in(2);
         match *turn {
             Turn::Spin { spindle, word } => {
@@ -160,7 +162,7 @@ impl<'a> Case<'a> {
                     true => self.library.live_spin(states, taken, spindle, table, word),
                     false => self.library.spin(states, taken, spindle, image, word),
                 };
-                (spindle % SPINDLES, ticked)
+                (spindle % SPINDLES, ticked.map(spindle_walks::Made::Tick))
             }
             Turn::Rebind { spindle, number, scheme } => {
                 let (Made { image, table, .. }, state) = (&made[spindle], &mut states[spindle]);
@@ -168,7 +170,7 @@ impl<'a> Case<'a> {
                     true => self.library.live_rebind(table, state, number, scheme),
                     false => self.library.rebind(image, state, number, scheme),
                 };
-                (spindle, TickReport { answer, mask: 0, code: 0 })
+                (spindle, answer.map(spindle_walks::Made::Rebinding))
             }
         }
     }

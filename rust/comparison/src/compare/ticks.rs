@@ -5,17 +5,17 @@ use std::fmt::Debug;
 use super::{Case, Compared, Difference, MARGIN};
 use crate::generate::{damage, images, letters, runs, states};
 use crate::show;
-use reference::answer::Answer;
+use reference::answer::{Answer, Refusal};
 use reference::expectation::Run;
 use reference::frames::text_of;
-use reference::library::{Library, Reference, TickReport};
+use reference::library::{Library, Reference, Tick};
 use reference::state::State;
 
 /// A run or a live run, by what it runs on.
-type RunCall<'a> = fn(&(dyn Library + 'a), &[u8], &State, &[u16], &mut [u32], &mut [u8]) -> (Answer, State);
+type RunCall<'a> = fn(&(dyn Library + 'a), &[u8], &mut State, &[u16], &mut [u32], &mut [u8]) -> Answer;
 
 /// A tick or a live tick, by what it ticks on.
-type TickCall<'a> = fn(&(dyn Library + 'a), &[u8], &mut State, u16) -> TickReport;
+type TickCall<'a> = fn(&(dyn Library + 'a), &[u8], &mut State, u16) -> Result<Tick, Refusal>;
 
 /// What a run or a tick is made on, an image's text or a table, and how that is shown.
 #[derive(Clone, Copy)]
@@ -48,7 +48,8 @@ impl<'a> Case<'a> {
         run: &Run,
     ) -> Result<State, Box<Difference>> {
         self.ran_by(name, ground, state, run, |library, masks, codes| {
-            call(library, ground.bytes, state, &run.words, masks, codes)
+            let mut after = *state;
+            (call(library, ground.bytes, &mut after, &run.words, masks, codes), after)
         })
     }
 
@@ -69,7 +70,7 @@ impl<'a> Case<'a> {
             call(library, masks, codes)
         };
         let (answer, after) = made(&Reference, &mut masks, &mut codes);
-        let finished = &codes[MARGIN..][..answer.count()];
+        let finished = &codes[MARGIN..][..answer.unwrap_or_else(Refusal::ticks)];
         self.summary.note_codes(name, state.depth.into(), &state.serving, finished);
         let (got, got_after) = made(self.library, &mut got_masks, &mut got_codes);
         let wanted = (answer, after, masks, codes);
@@ -89,18 +90,17 @@ impl<'a> Case<'a> {
         ground: Ground,
         start: &State,
         word: u16,
-    ) -> Result<(Answer, State), Box<Difference>> {
+    ) -> Result<(Result<Tick, Refusal>, State), Box<Difference>> {
         let (mut state, mut given) = (*start, *start);
         let wanted = call(&Reference, ground.bytes, &mut state, word);
-        let finished = [wanted.code];
-        let finished = &finished[..wanted.answer.count()];
-        self.summary.note_codes(name, start.depth.into(), &start.serving, finished);
+        let finished = wanted.ok().map(|tick| tick.code);
+        self.summary.note_codes(name, start.depth.into(), &start.serving, finished.as_slice());
         let got = call(self.library, ground.bytes, &mut given, word);
-        self.hold(name, wanted.answer, &(wanted, state), &(got, given), || {
+        self.hold(name, wanted, &(wanted, state), &(got, given), || {
             let on = (ground.shown)(ground.bytes);
             format!("{on}state: {}\nword {word:04X}", show::state(start))
         })?;
-        Ok((wanted.answer, state))
+        Ok((wanted, state))
     }
 
     /// One state through some ticks, one after the other, as long as none is refused.
@@ -114,7 +114,7 @@ impl<'a> Case<'a> {
         let mut state = *start;
         for word in runs::words(&mut self.random, 6) {
             let (answer, after) = self.ticked(name, call, ground, &state, word)?;
-            if answer.number() != 0 {
+            if answer.is_err() {
                 break;
             }
             state = after;
@@ -151,7 +151,7 @@ impl<'a> Case<'a> {
         for word in runs::words(&mut self.random, 4) {
             let wanted = Reference.cause(&image, &state, word);
             let got = self.library.cause(&image, &state, word);
-            self.hold("cause", wanted.answer, &wanted, &got, || {
+            self.hold("cause", wanted, &wanted, &got, || {
                 format!("{}state: {}\nword {word:04X}", show::text(&image), show::state(&state))
             })?;
         }

@@ -241,14 +241,15 @@ mod tests {
     use super::*;
     use reference::library::Reference;
     use reference::prepare::is_table;
+    use reference::Told;
 
     /// What the reference answers to a construction, by its name: the number, the index, and the count.
     fn answer(entry: EntryPoint, name: &str) -> (u8, usize, usize) {
         let all = known(entry);
         let named = all.iter().find(|candidate| candidate.name == name).expect("there is one of this name");
         match entry.make(&Reference, &named.input).answer {
-            reference::Answer::Done(count) => (0, 0, count),
-            reference::Answer::Refused { number, index, count } => (number, index, count),
+            Ok(count) => (0, 0, count),
+            Err(refusal) => (refusal.number(), refusal.index(), refusal.ticks()),
         }
     }
 
@@ -283,7 +284,7 @@ mod tests {
     fn every_little_chart_is_there() {
         let answers = known(EntryPoint::LittleChart).into_iter().skip(1).map(|candidate| {
             let made = EntryPoint::LittleChart.make(&Reference, &candidate.input);
-            (made.answer.number(), made.answer.count())
+            (made.answer.number(), made.answer.unwrap_or(0))
         });
         let mut counts = std::collections::BTreeMap::new();
         answers.for_each(|answer| *counts.entry(answer).or_insert(0) += 1);

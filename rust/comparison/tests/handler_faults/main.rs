@@ -8,12 +8,11 @@ mod marks;
 use std::cell::Cell;
 
 use common::is_found;
-use reference::answer::Refusal;
 use reference::entry::{self, image_from_text, run_ticks};
 use reference::frames::{frames_of, text_of, IMAGE_TEXT};
 use reference::image::{Image, Label, OPERATION_CALL, RETURN};
 use reference::machine::{self, handles, Advanced};
-use reference::{Answer, Library, State};
+use reference::{as_the_reference, Answer, Library, Refusal, State};
 
 faults! {
     // what a chart marks, and where an image names it
@@ -23,7 +22,6 @@ faults! {
     AllowsOtherMarks,
     TriesMarksBeforeSchemes,
     TriesMarksAfterArcs,
-    NamesTheMarkedFrame,
     ForgetsTheHandler,
     AllowsSchemeOneInTheHeader,
     AllowsAnySchemeInTheHeader,
@@ -59,10 +57,6 @@ faults! {
 struct Faulty {
     fault: Fault,
     dropped: Cell<Option<u8>>,
-}
-
-fn refused(number: u8) -> Answer {
-    Refusal { number, index: 0 }.into()
 }
 
 /// A full stack with the same top, but a label of scheme 1 at the bottom.
@@ -103,7 +97,7 @@ impl Faulty {
         machine::fits(&Image { handler, ..image.clone() }, &state)
     }
 
-    fn tick_of(&self, image: &Image, state: &State, word: u16) -> Result<Advanced, u8> {
+    fn tick_of(&self, image: &Image, state: &State, word: u16) -> Result<Advanced, Refusal> {
         let top = usize::from(state.depth) - 1;
         let here = image.labels[usize::from(state.places[top])];
         let full = here.calls() && state.depth == state.size;
@@ -112,9 +106,9 @@ impl Faulty {
         let called = |label: &u8| image.labels[usize::from(*label)].called == image.handler;
         let mut before = *state;
         match self.fault {
-            NeverDrops if full => return Err(17),
+            NeverDrops if full => return Err(Refusal::Full { ticks: 0 }),
             TakesACalledHandlerForOneAtTheBottom if full && state.places[..top].iter().any(called) => {
-                return Err(17);
+                return Err(Refusal::Full { ticks: 0 });
             }
             DropsOnePlaceEarly if early && image.handler != 0 && !handled => before.size = state.depth,
             DropsTheHandlerToo if full && handled => before = above_label_0(state),
@@ -174,7 +168,7 @@ impl Faulty {
         before: &State,
         word: u16,
         mut advanced: Advanced,
-    ) -> Result<Advanced, u8> {
+    ) -> Result<Advanced, Refusal> {
         let after = &mut advanced.state;
         match self.fault {
             ReturnsToTheDroppedCaller => {
@@ -184,7 +178,7 @@ impl Faulty {
                     return machine::tick(image, &deeper, word);
                 }
             }
-            LooksForARow => return Err(18),
+            LooksForARow => return Err(Refusal::NoRow { ticks: 0 }),
             SkipsTheHomeTick => after.places[0] = image.entries[0],
             EmitsTheCodeOfHome => advanced.code = 0x04,
             ClearsItsBitAtTheEnd => after.results[usize::from(image.handler) - 1] = false,
@@ -214,12 +208,12 @@ impl Library for Faulty {
     );
 
     fn read_chart(&self, text: &[u8], out: &mut [u8]) -> Answer {
-        self.judged(text).map_or_else(Answer::from, |text| entry::read_chart(&text, out))
+        self.judged(text).and_then(|text| entry::read_chart(&text, out))
     }
 
     fn translate(&self, text: &[u8], out: &mut [u8]) -> Answer {
         let answer = entry::translate(text, out);
-        if let (ForgetsTheHandler, Answer::Done(count)) = (self.fault, answer) {
+        if let (ForgetsTheHandler, Ok(count)) = (self.fault, answer) {
             let image = Image { handler: 0, ..image_from_text(&out[..count]).expect("an image") };
             out[..count].copy_from_slice(&text_of(&image.frames()));
         }
@@ -241,22 +235,22 @@ impl Library for Faulty {
     fn run(
         &self,
         text: &[u8],
-        state: &State,
+        state: &mut State,
         words: &[u16],
         masks: &mut [u32],
         codes: &mut [u8],
-    ) -> (Answer, State) {
+    ) -> Answer {
         let Ok(image) = image_from_text(text) else {
             return entry::run(text, state, words, masks, codes);
         };
         if !self.fits(&image, state) {
-            return (refused(15), *state);
+            return Err(Refusal::Unfit);
         }
         if masks.len() < words.len() || codes.len() < words.len() {
-            return (refused(16), *state);
+            return Err(Refusal::NoRoom);
         }
         self.dropped.set(None);
-        run_ticks(|state, word| self.tick_of(&image, state, word), *state, words, masks, codes)
+        run_ticks(|state, word| self.tick_of(&image, state, word), state, words, masks, codes)
     }
 }
 

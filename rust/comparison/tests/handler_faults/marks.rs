@@ -1,8 +1,8 @@
 //! What is wrongly made of marks in a chart.
 
-use reference::answer::Refusal;
 use reference::check::chart_of;
 use reference::frames::{frames_of, text_of, Frame, CHART_TEXT};
+use reference::{Refusal, Told};
 
 use super::{Fault::*, Faulty};
 
@@ -32,20 +32,18 @@ impl Faulty {
         let marked = marked(&records);
         let without = |taken: &[usize]| Ok(text_of(&unmarked(&records, taken)));
         let scheme_one = |at: &&usize| records[**at][1] == 1;
-        let refusal = chart_of(&records).err();
-        match (self.fault, refusal.map_or(0, |refusal| refusal.number)) {
-            (RefusesEveryMark, 0) if !marked.is_empty() => Err(Refusal { number: 4, index: marked[0] }),
+        match (self.fault, chart_of(&records).number()) {
+            (RefusesEveryMark, 0) if !marked.is_empty() => Err(Refusal::BadField(marked[0])),
             (AllowsAMarkOnSchemeOne, 19) => {
                 without(&marked.iter().filter(scheme_one).copied().collect::<Vec<usize>>())
             }
             (AllowsTwoMarks, 19) => without(&marked[1..]),
             (AllowsOtherMarks, 4) => without(&marked),
-            (TriesMarksBeforeSchemes, 5) if bad(&records, &marked) => Err(Refusal { number: 19, index: 0 }),
+            (TriesMarksBeforeSchemes, 5) if bad(&records, &marked) => Err(Refusal::BadMarks),
             (TriesMarksAfterArcs, 19) => match chart_of(&unmarked(&records, &marked)) {
-                Err(refusal) if refusal.number == 6 => Err(refusal),
+                Err(refusal @ Refusal::BadArc(_)) => Err(refusal),
                 _ => Ok(text.to_vec()),
             },
-            (NamesTheMarkedFrame, 19) => Err(Refusal { number: 19, index: marked[0] }),
             _ => Ok(text.to_vec()),
         }
     }

@@ -3,7 +3,7 @@
 use reference::image::{Label, RETURN};
 use reference::live::Held;
 use reference::machine::Advanced;
-use reference::State;
+use reference::{Refusal, State};
 
 use super::{write, Fault::*, Faulty};
 
@@ -27,11 +27,11 @@ impl Faulty {
     }
 
     /// A tick that goes wrong as a whole.
-    pub fn handled(&self, held: &Held, here: &Label, state: &State) -> Option<Result<Advanced, u8>> {
+    pub fn handled(&self, held: &Held, here: &Label, state: &State) -> Option<Result<Advanced, Refusal>> {
         let full = here.calls() && state.depth == state.size;
         let alone = here.kind == RETURN && state.depth == 1;
         match self.0 {
-            NeverDrops if full => Some(Err(17)),
+            NeverDrops if full => Some(Err(Refusal::Full { ticks: 0 })),
             DropsTheHandlerToo if full && held.handles(state.places[0]) => {
                 let mut before = State { size: 2, depth: 2, places: [0; 32], ..*state };
                 let top = usize::from(state.depth) - 1;
@@ -41,8 +41,10 @@ impl Faulty {
                     ..advanced
                 }))
             }
-            LooksForARowWithoutAHandler if alone && held.handler == 0 => Some(Err(18)),
-            LooksForARowAtTheBottom if alone => Some(Err(18)),
+            LooksForARowWithoutAHandler if alone && held.handler == 0 => {
+                Some(Err(Refusal::NoRow { ticks: 0 }))
+            }
+            LooksForARowAtTheBottom if alone => Some(Err(Refusal::NoRow { ticks: 0 })),
             _ => None,
         }
     }

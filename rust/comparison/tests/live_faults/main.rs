@@ -7,12 +7,11 @@ mod handler;
 mod misread;
 
 use common::is_found;
-use reference::answer::Refusal;
 use reference::entry;
 use reference::image::{Label, FUNCTION_CALL, HOME, RETURN};
 use reference::live::Held;
 use reference::machine::Advanced;
-use reference::{Answer, Library, State, TickReport};
+use reference::{as_the_reference, Answer, Library, Refusal, State};
 
 faults! {
     // what is prepared
@@ -63,7 +62,6 @@ faults! {
     ClearsNothingForSchemeZero,
     RefusesAReturnAtTheBottomAsUnfit,
     WritesTheResultOfAFullCall,
-    WritesARefusedTick,
     // what is made of the handler
     PreparesNoHandler,
     TakesAnyHandler,
@@ -94,10 +92,6 @@ fn keep_bit(here: &Label, before: &State, after: &mut State) {
 
 fn number_at_top(state: &State) -> u8 {
     state.numbers[usize::from(state.depth) - 1]
-}
-
-fn refused(number: u8) -> Answer {
-    Refusal { number, index: 0 }.into()
 }
 
 impl Faulty {
@@ -162,9 +156,9 @@ impl Faulty {
         held
     }
 
-    fn tick_of(&self, held: &Held, state: &State, word: u16) -> Result<Advanced, u8> {
+    fn tick_of(&self, held: &Held, state: &State, word: u16) -> Result<Advanced, Refusal> {
         if self.0 == ChecksTheStateAtEachTick && !held.fits(state) {
-            return Err(15);
+            return Err(Refusal::Unfit);
         }
         let top = usize::from(state.depth) - 1;
         let number = usize::from(state.places[top]);
@@ -172,10 +166,14 @@ impl Faulty {
             let mut home = *state;
             home.places[top] = held.entries[0];
             let gone = Advanced { mask: 0, code: 0x04, state: home };
-            return if self.0 == GoesHomeFromLabelsAbove { Ok(gone) } else { Err(18) };
+            return if self.0 == GoesHomeFromLabelsAbove {
+                Ok(gone)
+            } else {
+                Err(Refusal::NoRow { ticks: 0 })
+            };
         };
         if self.0 == RefusesAReturnAtTheBottomAsUnfit && here.kind == RETURN && top == 0 {
-            return Err(15);
+            return Err(Refusal::Unfit);
         }
         let mut held = held.clone();
         if self.0 == WritesNothingForNumberZero && number_at_top(state) == 0 {
@@ -223,29 +221,28 @@ impl Faulty {
     fn ticks(
         &self,
         held: &Held,
-        start: &State,
+        state: &mut State,
         words: &[u16],
         masks: &mut [u32],
         codes: &mut [u8],
-    ) -> (Answer, State) {
-        let mut state = *start;
+    ) -> Answer {
         for (count, word) in words.iter().enumerate() {
-            match self.tick_of(held, &state, *word) {
+            match self.tick_of(held, state, *word) {
                 Ok(advanced) => {
                     (masks[count], codes[count]) = (advanced.mask, advanced.code);
-                    state = advanced.state;
+                    *state = advanced.state;
                 }
-                Err(number) => {
-                    if self.0 == WritesTheResultOfAFullCall && number == 17 {
+                Err(refusal) => {
+                    if self.0 == WritesTheResultOfAFullCall && refusal.number() == 17 {
                         let label = state.places[usize::from(state.depth) - 1];
-                        let before = state;
-                        write(&mut state, &before, &held.labels[usize::from(label)]);
+                        let before = *state;
+                        write(state, &before, &held.labels[usize::from(label)]);
                     }
-                    return (Answer::Refused { number, index: 0, count }, state);
+                    return Err(refusal.after(count));
                 }
             }
         }
-        (Answer::Done(words.len()), state)
+        Ok(words.len())
     }
 
     /// What is wrong with the notes of a prepared table.
@@ -294,21 +291,21 @@ impl Library for Faulty {
     fn prepare(&self, image: &[u8], table: &mut [u8]) -> Answer {
         let answer = entry::prepare(image, table);
         let writes = match self.0 {
-            PreparesBeforeItChecks => !matches!(answer.number(), 0 | 16),
-            PreparesIntoShortBuffers => answer.number() == 16,
+            PreparesBeforeItChecks => !matches!(answer, Ok(_) | Err(Refusal::NoRoom)),
+            PreparesIntoShortBuffers => answer == Err(Refusal::NoRoom),
             _ => false,
         };
         if let (true, Some(byte)) = (writes, table.first_mut()) {
             *byte = !*byte;
         }
-        let Answer::Done(count) = answer else { return answer };
+        let Ok(count) = answer else { return answer };
         self.misnote(image, table);
         if self.0 == PreparesNoHandler {
             table[5] = 0;
         }
         match self.0 {
             PreparesPastTheCount if count < table.len() => table[count] = !table[count],
-            CountsFrames => return Answer::Done(count / 10),
+            CountsFrames => return Ok(count / 10),
             _ => {}
         }
         answer
@@ -317,33 +314,24 @@ impl Library for Faulty {
     fn live_run(
         &self,
         table: &[u8],
-        state: &State,
+        state: &mut State,
         words: &[u16],
         masks: &mut [u32],
         codes: &mut [u8],
-    ) -> (Answer, State) {
-        let held = match self.held(table) {
-            Ok(held) => held,
-            Err(answer) => return (answer, *state),
-        };
+    ) -> Answer {
+        let held = self.held(table)?;
         let short = masks.len() < words.len() || codes.len() < words.len();
         match (self.fits(&held, state), short) {
-            (false, true) if self.0 == LooksForRoomFirst => (refused(16), *state),
-            (false, _) => (refused(15), *state),
-            (true, true) if self.0 == ForgetsTheStateOnShortBuffers => (refused(16), State::NONE),
-            (true, true) => (refused(16), *state),
+            (false, true) if self.0 == LooksForRoomFirst => Err(Refusal::NoRoom),
+            (false, _) => Err(Refusal::Unfit),
+            (true, true) => {
+                if self.0 == ForgetsTheStateOnShortBuffers {
+                    *state = State::NONE;
+                }
+                Err(Refusal::NoRoom)
+            }
             (true, false) => self.ticks(&held, state, words, masks, codes),
         }
-    }
-
-    fn live_tick(&self, table: &[u8], state: &mut State, word: u16) -> TickReport {
-        let (mut masks, mut codes) = ([0], [0]);
-        let (answer, after) = self.live_run(table, state, &[word], &mut masks, &mut codes);
-        *state = after;
-        if self.0 == WritesARefusedTick && answer.number() != 0 {
-            codes[0] = 4;
-        }
-        TickReport { answer, mask: masks[0], code: codes[0] }
     }
 }
 

@@ -2,9 +2,9 @@
 
 use reference::image::{Label, Row};
 use reference::live::Held;
-use reference::Answer;
+use reference::Refusal;
 
-use super::{refused, Fault::*, Faulty};
+use super::{Fault::*, Faulty};
 
 /// What the header of a table tells, and its frames.
 struct Raw<'a> {
@@ -56,23 +56,23 @@ fn row_of(frame: &[u8; 10]) -> Row {
 
 impl Faulty {
     /// The image that a table is taken to hold.
-    pub fn held(&self, bytes: &[u8]) -> Result<Held, Answer> {
+    pub fn held(&self, bytes: &[u8]) -> Result<Held, Refusal> {
         let mut bytes = bytes.to_vec();
         let raw = Raw::of(&bytes);
         let whole = raw.as_ref().is_some_and(|raw| raw.frames.len() >= raw.end);
         match self.0 {
             LooksAtTheFirstByte if bytes.first().is_some_and(|byte| *byte != 0x0F) => {
-                return Err(refused(11))
+                return Err(Refusal::BadHeader)
             }
             WantsNothingBehindTheTable if raw.is_some_and(|raw| 10 * raw.end != bytes.len()) => {
-                return Err(refused(11));
+                return Err(Refusal::BadHeader);
             }
             CountsAPartFrame => bytes.resize(bytes.len().next_multiple_of(10), 0),
             TakesAnyRowCount if whole && bytes[3] >= 4 => (bytes[3], bytes[4]) = (4, 0),
             TakesAnyHandler if whole && (bytes[5] == 1 || bytes[5] > bytes[1]) => bytes[5] = 0,
             _ => {}
         }
-        let mut held = Held::of(&bytes).map_err(Answer::from)?;
+        let mut held = Held::of(&bytes)?;
         self.misread(&mut held, &Raw::of(&bytes).expect("a header"));
         Ok(held)
     }

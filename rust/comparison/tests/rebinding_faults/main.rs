@@ -10,12 +10,11 @@ use std::cell::Cell;
 
 use common::is_found;
 use comparison::compare::compare_lists;
-use reference::answer::Refusal;
 use reference::entry::{self, image_from_text, run_ticks};
 use reference::live::Held;
 use reference::machine::{self, Advanced};
 use reference::state::Shape;
-use reference::{Answer, Library, Reference, State};
+use reference::{as_the_reference, Answer, Library, Reference, Refusal, State};
 
 faults! {
     // what a fresh state serves and remembers
@@ -82,9 +81,7 @@ struct Faulty {
     pending: Cell<Option<(usize, usize)>>,
 }
 
-fn refused(number: u8) -> Answer {
-    Refusal { number, index: 0 }.into()
-}
+const BAD: Answer = Err(Refusal::BadRebinding);
 
 impl Faulty {
     /// The number and the scheme as the fault has them, so that the reference then goes wrong.
@@ -115,33 +112,27 @@ impl Faulty {
         let handlers = number == usize::from(shape.handler) && shape.handler != 0;
         let known = (2..=shape.schemes).contains(&number) && (2..=shape.schemes).contains(&scheme);
         match (self.fault, right) {
-            (RefusesTheHandlersScheme, Answer::Done(_)) if scheme == usize::from(shape.handler) => {
-                refused(22)
-            }
-            (RefusesWhatServesAlready, Answer::Done(_))
-                if usize::from(state.serving[number - 1]) == scheme =>
-            {
-                refused(22)
-            }
-            (RefusesAtAFullStack, Answer::Done(_)) if full => refused(22),
-            (KeepsTheBinding, Answer::Done(_)) => right,
-            (ActsOnTheNextReturn, Answer::Done(_)) => {
+            (RefusesTheHandlersScheme, Ok(_)) if scheme == usize::from(shape.handler) => BAD,
+            (RefusesWhatServesAlready, Ok(_)) if usize::from(state.serving[number - 1]) == scheme => BAD,
+            (RefusesAtAFullStack, Ok(_)) if full => BAD,
+            (KeepsTheBinding, Ok(_)) => right,
+            (ActsOnTheNextReturn, Ok(_)) => {
                 self.pending.set(Some((number, scheme)));
                 right
             }
-            (_, Answer::Done(_)) => {
+            (_, Ok(_)) => {
                 state.serving[number - 1] = scheme as u8;
                 self.spoil(shape, state, number, scheme);
                 if self.fault == CountsARebinding {
-                    return Answer::Done(1);
+                    return Ok(1);
                 }
                 right
             }
             (RebindsTheHandler, _) if handlers && known => {
                 state.serving[number - 1] = scheme as u8;
-                Answer::Done(0)
+                Ok(0)
             }
-            (RebindsTheHandlerToItself, _) if handlers && scheme == number => Answer::Done(0),
+            (RebindsTheHandlerToItself, _) if handlers && scheme == number => Ok(0),
             (BindsWhatItRefuses, _) if (1..=16).contains(&number) => {
                 state.serving[number - 1] = scheme as u8;
                 right
@@ -181,16 +172,16 @@ impl Faulty {
         let (number, scheme) = self.taken_for(shape, number, scheme);
         let allowed = reference::state::can_rebind(shape.schemes, shape.handler, number, scheme);
         match (self.accepts(shape, fits, state), fits(state)) {
-            (false, _) if self.fault == TriesTheNumbersBeforeTheState && !allowed => refused(22),
+            (false, _) if self.fault == TriesTheNumbersBeforeTheState && !allowed => BAD,
             (false, _) => {
                 if self.fault == BindsInAStateThatDoesNotFit && allowed {
                     state.serving[number - 1] = scheme as u8;
                 }
-                refused(15)
+                Err(Refusal::Unfit)
             }
-            (true, false) => Answer::Done(0),
+            (true, false) => Ok(0),
             (true, true) => {
-                let right = if allowed { Answer::Done(0) } else { refused(22) };
+                let right = if allowed { Ok(0) } else { BAD };
                 self.bound(shape, state, (number, scheme), right)
             }
         }
@@ -201,45 +192,45 @@ impl Faulty {
         &self,
         shape: Shape,
         fits: &dyn Fn(&State) -> bool,
-        tick: &dyn Fn(&State, u16) -> Result<Advanced, u8>,
-        state: &State,
+        tick: &dyn Fn(&State, u16) -> Result<Advanced, Refusal>,
+        state: &mut State,
         lent: (&[u16], &mut [u32], &mut [u8]),
-    ) -> (Answer, State) {
+    ) -> Answer {
         let (words, masks, codes) = lent;
         if !self.accepts(shape, fits, state) {
-            return (refused(15), *state);
+            return Err(Refusal::Unfit);
         }
         if !fits(state) {
-            return (Answer::Done(words.len()), *state);
+            return Ok(words.len());
         }
         if masks.len() < words.len() || codes.len() < words.len() {
-            return (refused(16), *state);
+            return Err(Refusal::NoRoom);
         }
-        run_ticks(|state, word| self.tick_of(shape, tick, state, word), *state, words, masks, codes)
+        run_ticks(|state, word| self.tick_of(shape, tick, state, word), state, words, masks, codes)
     }
 }
 
 impl Library for Faulty {
     as_the_reference!(chart_calls, image_calls, priced_run, spins, meaning, little_chart);
 
-    fn fresh(&self, size: usize) -> (Answer, State) {
-        let (answer, mut state) = entry::fresh(size);
+    fn fresh(&self, size: usize) -> Result<State, Refusal> {
+        let mut state = entry::fresh(size)?;
         match self.fault {
             ServesNothingAtFirst => state.serving = [0; 16],
             RemembersNothingAtFirst => (state.numbers, state.servers) = ([0; 32], [0; 32]),
             _ => {}
         }
-        (answer, state)
+        Ok(state)
     }
 
     fn run(
         &self,
         text: &[u8],
-        state: &State,
+        state: &mut State,
         words: &[u16],
         masks: &mut [u32],
         codes: &mut [u8],
-    ) -> (Answer, State) {
+    ) -> Answer {
         match image_from_text(text) {
             Ok(image) if !self.live => {
                 let fits = |state: &State| machine::fits(&image, state);
@@ -253,11 +244,11 @@ impl Library for Faulty {
     fn live_run(
         &self,
         table: &[u8],
-        state: &State,
+        state: &mut State,
         words: &[u16],
         masks: &mut [u32],
         codes: &mut [u8],
-    ) -> (Answer, State) {
+    ) -> Answer {
         match Held::of(table) {
             Ok(held) if self.live => {
                 let fits = |state: &State| held.fits(state);

@@ -3,7 +3,7 @@
 use reference::image::{Label, HOME, OPERATION_CALL, RETURN};
 use reference::machine::Advanced;
 use reference::state::{Shape, OWN};
-use reference::State;
+use reference::{Refusal, State};
 
 use super::{Fault::*, Faulty};
 
@@ -16,10 +16,10 @@ impl Faulty {
     pub fn tick_of(
         &self,
         shape: Shape,
-        tick: &dyn Fn(&State, u16) -> Result<Advanced, u8>,
+        tick: &dyn Fn(&State, u16) -> Result<Advanced, Refusal>,
         state: &State,
         word: u16,
-    ) -> Result<Advanced, u8> {
+    ) -> Result<Advanced, Refusal> {
         let top = usize::from(state.depth) - 1;
         let here = shape.label(state.places[top]);
         let mut before = *state;

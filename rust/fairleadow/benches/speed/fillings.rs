@@ -10,7 +10,7 @@ use reference::entry::translated;
 use reference::frames::{text_of, Frame};
 use reference::Library;
 
-use crate::measure::{Call, Line};
+use crate::measure::{keep, Call, Line};
 
 const LISTS: [(usize, usize); 5] = [(16, 1), (8, 2), (4, 4), (1, 16), (65_536, 0)];
 
@@ -26,9 +26,7 @@ fn images() -> Vec<(&'static str, Vec<u8>)> {
 }
 
 fn side(library: &'static dyn Library, image: Vec<u8>, (ticks, conditions): (usize, usize)) -> Call {
-    Box::new(move || {
-        black_box(library.count_fillings(black_box(&image), PLACES, ticks, conditions));
-    })
+    Box::new(move || keep(library.count_fillings(black_box(&image), PLACES, ticks, conditions)))
 }
 
 pub fn lines() -> Vec<Line> {

@@ -7,7 +7,7 @@ use fast::Fast;
 use proved::{c, LITTLE_TEXT};
 use reference::Library;
 
-use crate::measure::{Call, Line};
+use crate::measure::{keep, Call, Line};
 
 const CHARTS: [(usize, usize); 8] = [(2, 0), (2, 1), (3, 0), (3, 17), (4, 0), (4, 323), (4, 647), (4, 648)];
 
@@ -31,7 +31,7 @@ fn sides((frames, number): (usize, usize)) -> Vec<Call> {
         }),
         Box::new(move || {
             let (frames, number) = black_box((frames, number));
-            black_box(Fast.little_chart(frames, number, &mut other));
+            keep(Fast.little_chart(frames, number, &mut other));
         }),
     ]
 }

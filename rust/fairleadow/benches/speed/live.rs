@@ -13,7 +13,7 @@ use reference::frames::text_of;
 use reference::live::Held;
 use reference::{fresh_state, Library, State};
 
-use crate::measure::{Call, Line};
+use crate::measure::{keep, Call, Line};
 use crate::texts::charts;
 
 /// An image with what is made of it, the runs to measure and the ticks: by name, each from its state by its word.
@@ -46,7 +46,7 @@ fn deepest(table: &[u8]) -> (State, u16) {
         if state.depth > deepest.0.depth {
             deepest = (state, word);
         }
-        assert_eq!(Fast.live_tick(table, &mut state, word).answer.number(), 0);
+        Fast.live_tick(table, &mut state, word).expect("it is not refused");
     }
     deepest
 }
@@ -76,7 +76,7 @@ fn ticks(name: &str, table: &[u8]) -> Vec<(&'static str, State, u16)> {
 
 fn prepared(image: &[u8]) -> Vec<u8> {
     let mut table = vec![0; TABLE];
-    let count = entry::prepare(image, &mut table).ok().expect("an accepted image");
+    let count = entry::prepare(image, &mut table).expect("an accepted image");
     table.truncate(count);
     table
 }
@@ -126,9 +126,7 @@ fn prepare_line(input: &Rc<Input>) -> Line {
             });
         }),
         Box::new(move || drop(black_box(Kept::new(&for_kept.image)))),
-        Box::new(move || {
-            black_box(Fast.prepare(&for_table.image, &mut other));
-        }),
+        Box::new(move || keep(Fast.prepare(&for_table.image, &mut other))),
     ];
     Line { name: format!("{} | prepare", input.name), sides }
 }
@@ -160,12 +158,14 @@ fn run_line(input: &Rc<Input>, count: usize, room: &Rc<RefCell<Room>>) -> Line {
         Box::new(move || {
             let (input, room) = &for_kept;
             let Room { words, masks, codes } = &mut *room.borrow_mut();
-            black_box(kept.run(&input.start, &words[..count], masks, codes));
+            let mut state = input.start;
+            keep((kept.run(&mut state, &words[..count], masks, codes), state));
         }),
         Box::new(move || {
             let (input, room) = &for_table;
             let Room { words, masks, codes } = &mut *room.borrow_mut();
-            black_box(Fast.live_run(&input.table, &input.start, &words[..count], masks, codes));
+            let mut state = input.start;
+            keep((Fast.live_run(&input.table, &mut state, &words[..count], masks, codes), state));
         }),
     ];
     let count = if count == 64 { "64" } else { "65,536" };
@@ -196,11 +196,11 @@ fn tick_line(input: &Rc<Input>, name: &str, start: State, word: u16) -> Line {
         }),
         Box::new(move || {
             let mut state = start;
-            black_box(kept.tick(&mut state, word));
+            keep(kept.tick(&mut state, word));
         }),
         Box::new(move || {
             let mut state = start;
-            black_box(Fast.live_tick(&for_table.table, &mut state, word));
+            keep(Fast.live_tick(&for_table.table, &mut state, word));
         }),
     ];
     Line { name: format!("{} | {name}", input.name), sides }
@@ -236,11 +236,11 @@ fn spin_line(input: &Rc<Input>, name: &str, start: State, word: u16) -> Line {
         }),
         Box::new(move || {
             let (mut states, mut taken) = (states, taken);
-            black_box(kept.spin(&mut states, &mut taken, 0, word));
+            keep(kept.spin(&mut states, &mut taken, 0, word));
         }),
         Box::new(move || {
             let (mut states, mut taken) = (states, taken);
-            black_box(Fast.live_spin(&mut states, &mut taken, 0, &for_table.table, word));
+            keep(Fast.live_spin(&mut states, &mut taken, 0, &for_table.table, word));
         }),
     ];
     Line { name: format!("{} | {}", input.name, name.replace("tick", "spin")), sides }
@@ -269,11 +269,11 @@ fn rebind_line(input: &Rc<Input>) -> Line {
         }),
         Box::new(move || {
             let mut state = for_kept.start;
-            black_box(kept.rebind(&mut state, 2, 2));
+            keep(kept.rebind(&mut state, 2, 2));
         }),
         Box::new(move || {
             let mut state = for_table.start;
-            black_box(Fast.live_rebind(&for_table.table, &mut state, 2, 2));
+            keep(Fast.live_rebind(&for_table.table, &mut state, 2, 2));
         }),
     ];
     Line { name: format!("{} | live rebind", input.name), sides }

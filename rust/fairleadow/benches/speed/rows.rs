@@ -19,7 +19,7 @@ const WORDS: usize = 65_536;
 
 pub const SIDES: [&str; 3] = ["Library", "Plain Rust, all rows", "Plain Rust, rows of a label"];
 
-type Run = fn(&[u8], &State, &[u16], &mut [u32], &mut [u8]) -> (Answer, State);
+type Run = fn(&[u8], &mut State, &[u16], &mut [u32], &mut [u8]) -> Answer;
 
 /// A fresh state's words, and the buffers that all sides write.
 struct Room {
@@ -40,8 +40,9 @@ fn line(name: &str, records: &[Frame], room: &Rc<RefCell<Room>>) -> Line {
         let (image, room) = (Rc::clone(&image), Rc::clone(room));
         Box::new(move || {
             let Room { state, words, masks, codes } = &mut *room.borrow_mut();
-            let ran = black_box(run(&image, state, words, masks, codes));
-            assert_eq!(ran.0, Answer::Done(WORDS));
+            let mut after = *state;
+            assert_eq!(run(&image, &mut after, words, masks, codes), Ok(WORDS));
+            black_box(after);
         })
     };
     Line { name: format!("{name} | run of 65,536"), sides: runs.map(side).into_iter().collect() }

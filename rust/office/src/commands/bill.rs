@@ -50,27 +50,27 @@ fn run(args: &[OsString], out: &mut dyn Write) -> Result<(), Failure> {
     let vocabulary = Vocabulary { names, plan: subject.plan() };
     let Run { places, words, swaps, played } = arguments.run(vocabulary, || Ok(&subject.image))?;
     let bill = Bill::of(&subject, places, listed, &words, &swaps).map_err(failure)?;
-    let ended = |refusal: &fairleadow::Refusal| {
-        let ticks = counted(refusal.count, "tick");
-        arguments.failure(format!("ended by refusal {} after {ticks}", refusal.number))
+    let ended = |refusal: fairleadow::Refusal| {
+        let ticks = counted(refusal.ticks(), "tick");
+        arguments.failure(format!("ended by refusal {} after {ticks}", refusal.number()))
     };
     if let Some(format) = format {
         let priced = Priced { title: arguments.title(), subject: &subject, places, bill };
         out.write_all(format(&priced).as_bytes())?;
-        return match priced.bill.answer.ok() {
+        return match priced.bill.answer {
             Ok(_) => arguments.met(played.as_ref()),
-            Err(refusal) => Err(ended(&refusal)),
+            Err(refusal) => Err(ended(refusal)),
         };
     }
     let (chart, stack, fed) = (arguments.title(), counted(places, "place"), arguments.fed(names));
     writeln!(out, "{chart}: stack of {stack}; {fed}; prices {}\n", title(file))?;
     let report = bill.report(names);
     out.write_all((report.clone() + &reading(&report).unwrap_or_default()).as_bytes())?;
-    match bill.answer.ok() {
+    match bill.answer {
         Ok(_) => arguments.met(played.as_ref()),
         Err(refusal) => {
-            writeln!(out, "\n{}", subject.problem(bill.answer))?;
-            Err(ended(&refusal))
+            writeln!(out, "\n{}", subject.problem(refusal))?;
+            Err(ended(refusal))
         }
     }
 }

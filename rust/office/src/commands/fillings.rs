@@ -36,7 +36,7 @@ fn run(args: &[OsString], out: &mut dyn Write) -> Result<(), Failure> {
     let (ticks, conditions) = (arguments.number("--ticks")?, arguments.number("--conditions")?);
     let subject = arguments.subject()?;
     let lists = Lists::of(&subject.image, ticks, conditions);
-    let told = |answer| arguments.failure(subject.problem(answer));
+    let told = |refusal| arguments.failure(subject.problem(refusal));
     let drawing = Drawing::of(&Proved, &subject.image, lists).map_err(told)?;
     let drawing =
         drawing.with_drops(&Proved, &subject.image).map_err(|problem| arguments.failure(problem))?;

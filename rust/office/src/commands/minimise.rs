@@ -3,7 +3,7 @@
 use std::ffi::OsString;
 use std::io::Write;
 
-use fairleadow::{Answer, Library, Proved};
+use fairleadow::{Library, Proved};
 
 use super::options::{Arguments, FORCE_HELP};
 use crate::command::{Command, Failure};
@@ -51,11 +51,11 @@ pub fn minimised(image: &[u8]) -> Result<Vec<u8>, Problem> {
     // it is never longer
     let mut smaller = vec![0; image.len()];
     match Proved.minimise(image, &mut smaller) {
-        Answer::Done(length) => {
+        Ok(length) => {
             smaller.truncate(length);
             Ok(smaller)
         }
-        answer => Err(explain::refusal(image, Kind::Image, answer)),
+        Err(refusal) => Err(explain::refusal(image, Kind::Image, refusal)),
     }
 }
 

@@ -68,7 +68,7 @@ fn run(args: &[OsString], out: &mut dyn Write) -> Result<(), Failure> {
                 let comment = saved_comment(&arguments, &plan.names);
                 save(file, written(&plan, &trace, &comment, arguments.has("--expect")), out)?;
             }
-            let stopped = trace.stopped.as_ref().map(|stopped| stopped.number);
+            let stopped = trace.stopped.as_ref().map(|stopped| stopped.refusal.number());
             let report = match format {
                 None => report(&plan, &trace),
                 Some(format) => {
@@ -83,7 +83,7 @@ fn run(args: &[OsString], out: &mut dyn Write) -> Result<(), Failure> {
                 let comment = saved_comment(&arguments, subject.names());
                 save(file, written_of_image(&subject, &run, &comment, arguments.has("--expect")), out)?;
             }
-            let stopped = run.stopped.as_ref().map(|stopped| stopped.answer.number());
+            let stopped = run.stopped.as_ref().map(|stopped| stopped.refusal.number());
             let head = image_summary(&arguments, &subject, run.places);
             let report = match format {
                 None => table::report(&subject, &run),

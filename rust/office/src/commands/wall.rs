@@ -3,7 +3,7 @@
 use std::ffi::OsString;
 use std::io::Write;
 
-use fairleadow::{Answer, Library, Proved, LINE, LITTLE_FRAMES, LITTLE_TEXT, RECORD, RECORDS};
+use fairleadow::{Library, Proved, LINE, LITTLE_FRAMES, LITTLE_TEXT, RECORD, RECORDS};
 
 use crate::arguments::Given;
 use crate::command::{Command, Failure};
@@ -47,11 +47,11 @@ fn number(word: &str) -> Result<usize, Failure> {
 pub fn fetched(frames: usize, chart: usize) -> Result<Vec<u8>, Problem> {
     let mut text = vec![0; LITTLE_TEXT];
     match Proved.little_chart(frames, chart, &mut text) {
-        Answer::Done(length) => {
+        Ok(length) => {
             text.truncate(length);
             Ok(text)
         }
-        answer => Err(explain::refusal(&[], Kind::Chart, answer)),
+        Err(refusal) => Err(explain::refusal(&[], Kind::Chart, refusal)),
     }
 }
 
@@ -88,7 +88,7 @@ fn sheet(all: &[Charts], out: &mut dyn Write) -> Result<(), Failure> {
 /// Each line of a chart, and beside it what it says.
 fn block(lines: &[u8]) -> String {
     let mut records = [0; RECORDS];
-    let count = Proved.read_chart(lines, &mut records).count();
+    let count = Proved.read_chart(lines, &mut records).unwrap_or(0);
     let notation = Notation::of_records(&records[..count * RECORD]).layout();
     // above the nodes stands the scheme
     let nodes = notation.lines().skip(1);

@@ -4,7 +4,7 @@
 use std::collections::HashSet;
 use std::iter::successors;
 
-use fairleadow::{Answer, Library, Proved, State};
+use fairleadow::{Library, Proved, Refusal, State};
 
 use crate::explain;
 use crate::image::{Image, FUNCTION_CALL};
@@ -41,10 +41,10 @@ impl Search {
     /// The label that follows by a word and a result, 0 for an End, or none where no row matches.
     pub fn next(&self, label: u8, word: u16, result: bool) -> Result<Option<u8>, Problem> {
         let mut state = self.at(label, result);
-        match Proved.live_tick(&self.table, &mut state, word).answer {
-            Answer::Done(_) => Ok(Some(state.places[0])),
-            Answer::Refused { number: 18, .. } => Ok(None),
-            answer => Err(explain::refusal(&self.image.text, Kind::Image, answer)),
+        match Proved.live_tick(&self.table, &mut state, word) {
+            Ok(_) => Ok(Some(state.places[0])),
+            Err(Refusal::NoRow { .. }) => Ok(None),
+            Err(refusal) => Err(explain::refusal(&self.image.text, Kind::Image, refusal)),
         }
     }
 

@@ -13,7 +13,7 @@ mod uneven;
 mod voice;
 pub mod warnings;
 
-use fairleadow::{Answer, Library, Proved, Refusal, CHART_TEXT, IMAGE_TEXT, LINE, NODES, RECORD};
+use fairleadow::{Library, Proved, Refusal, CHART_TEXT, IMAGE_TEXT, LINE, NODES, RECORD};
 
 use crate::calls::Calls;
 use crate::chart::{self, Node};
@@ -26,45 +26,38 @@ use crate::problem::{counted, thousands, Problem};
 use voice::Voice;
 
 /// Why the library refuses this text as a chart or as an image, or a run of it.
-pub fn refusal(text: &[u8], asked: Kind, answer: Answer) -> Problem {
-    let Err(refusal) = answer.ok() else {
-        return Problem::new("nothing is refused");
-    };
-    held(reason(text, asked, &refusal), refusal, refusal.frame().map(|frame| frame + 1)).excerpt(text)
+pub fn refusal(text: &[u8], asked: Kind, refusal: Refusal) -> Problem {
+    held(reason(text, asked, refusal), refusal, refusal.frame().map(|frame| frame + 1)).excerpt(text)
 }
 
-fn reason(text: &[u8], asked: Kind, refusal: &Refusal) -> Option<Problem> {
-    let index = refusal.index;
-    match refusal.number {
-        1 if asked == Kind::Image => lines::length(text, asked, IMAGE_TEXT),
-        1 => lines::length(text, asked, CHART_TEXT),
-        2 => lines::character_of(text, index),
-        3 => lines::sum(text, index),
-        4..=10 | 19 | 20 => of_records(&frames(text)?, refusal, Voice::Lines),
-        11 => image::header(&frames(text)?),
-        12 => image::place(&frames(text)?, index),
-        13 => image_fields::field(&frames(text)?, index),
-        17 => Some(full_stack(refusal, chart_of(text, asked).map(|nodes| (text, nodes)))),
-        23 => uneven::label(&frames(text)?),
+fn reason(text: &[u8], asked: Kind, refusal: Refusal) -> Option<Problem> {
+    match refusal {
+        Refusal::BadLength if asked == Kind::Image => lines::length(text, asked, IMAGE_TEXT),
+        Refusal::BadLength => lines::length(text, asked, CHART_TEXT),
+        Refusal::BadCharacter(line) => lines::character_of(text, line),
+        Refusal::BadSum(line) => lines::sum(text, line),
+        Refusal::BadHeader => image::header(&frames(text)?),
+        Refusal::StrayFrame(line) => image::place(&frames(text)?, line),
+        Refusal::BadContent(line) => image_fields::field(&frames(text)?, line),
+        Refusal::Full { ticks } => Some(full_stack(ticks, chart_of(text, asked).map(|nodes| (text, nodes)))),
+        Refusal::Uneven => uneven::label(&frames(text)?),
+        _ if is_of_records(refusal) => of_records(&frames(text)?, refusal, Voice::Lines),
         _ => of_run(refusal),
     }
 }
 
 /// Why the library refuses the records of a notation: the names, and the line of each node.
-pub fn composed(records: &[u8], names: &Names, lines: &[usize], answer: Answer) -> Problem {
-    let Err(refusal) = answer.ok() else {
-        return Problem::new("nothing is refused");
-    };
+pub fn composed(records: &[u8], names: &Names, lines: &[usize], refusal: Refusal) -> Problem {
     let records: Vec<[u8; RECORD]> =
         records.chunks_exact(RECORD).map(|record| record.try_into().expect("ten bytes")).collect();
-    let problem = match refusal.number {
-        1 => Some(node_count(records.len(), lines)),
-        4..=10 | 19 | 20 => of_records(&records, &refusal, Voice::Notation { names, lines }),
-        17 => {
+    let problem = match refusal {
+        Refusal::BadLength => Some(node_count(records.len(), lines)),
+        Refusal::Full { ticks } => {
             let records = records.concat();
-            Some(full_stack(&refusal, Some((&written(&records), chart::nodes(&records)))))
+            Some(full_stack(ticks, Some((&written(&records), chart::nodes(&records)))))
         }
-        _ => of_run(&refusal),
+        _ if is_of_records(refusal) => of_records(&records, refusal, Voice::Notation { names, lines }),
+        _ => of_run(refusal),
     };
     held(problem, refusal, refusal.frame().and_then(|node| lines.get(node).copied()))
 }
@@ -101,17 +94,21 @@ pub fn frames(text: &[u8]) -> Option<Vec<[u8; RECORD]>> {
     text.chunks(LINE).map(|line| lines::bytes_of(line)?[..RECORD].try_into().ok()).collect()
 }
 
-fn of_records(records: &[[u8; RECORD]], refusal: &Refusal, voice: Voice) -> Option<Problem> {
-    let index = refusal.index;
-    match refusal.number {
-        4 => nodes::field(records, index, voice),
-        5 => nodes::ends(records, voice),
-        6 => nodes::arc(records, index, voice),
-        7 => nodes::call(records, index, voice),
-        8 => paths::on_circle(records, index, voice),
-        9 => paths::cut_off(records, index, voice),
-        19 => nodes::marks(records, voice),
-        20 => circles::of_calls(records, voice),
+/// Whether a refusal is of a chart's nodes.
+fn is_of_records(refusal: Refusal) -> bool {
+    matches!(refusal.number(), 4..=10 | 19 | 20)
+}
+
+fn of_records(records: &[[u8; RECORD]], refusal: Refusal, voice: Voice) -> Option<Problem> {
+    match refusal {
+        Refusal::BadField(node) => nodes::field(records, node, voice),
+        Refusal::BadScheme => nodes::ends(records, voice),
+        Refusal::BadArc(node) => nodes::arc(records, node, voice),
+        Refusal::BadCall(node) => nodes::call(records, node, voice),
+        Refusal::Circle(node) => paths::on_circle(records, node, voice),
+        Refusal::CutOff(node) => paths::cut_off(records, node, voice),
+        Refusal::BadMarks => nodes::marks(records, voice),
+        Refusal::CallsItself => circles::of_calls(records, voice),
         _ => rows::rows(records, voice),
     }
 }
@@ -126,13 +123,13 @@ fn chart_of(text: &[u8], asked: Kind) -> Option<Vec<Node>> {
 fn written(records: &[u8]) -> Vec<u8> {
     let mut text = vec![0; CHART_TEXT];
     match Proved.write_chart(records, &mut text) {
-        Answer::Done(length) => text[..length].to_vec(),
-        Answer::Refused { .. } => Vec::new(),
+        Ok(length) => text[..length].to_vec(),
+        Err(_) => Vec::new(),
     }
 }
 
-/// Refusal 17, with advice that fits the chart that was run, where it was one.
-fn full_stack(refusal: &Refusal, chart: Option<(&[u8], Vec<Node>)>) -> Problem {
+/// Refusal 17 after so many ticks, with advice that fits the chart that was run, where it was one.
+fn full_stack(ticks: usize, chart: Option<(&[u8], Vec<Node>)>) -> Problem {
     let advice = match chart {
         None => "an image that calls deeper than the stack has places: more places (32 at most), or calls less deep".to_string(),
         Some((_, nodes)) if handler(&nodes) != 0 => {
@@ -143,7 +140,7 @@ fn full_stack(refusal: &Refusal, chart: Option<(&[u8], Vec<Node>)>) -> Problem {
             Err(differing) => return differing,
         },
     };
-    let ticks = counted(refusal.count, "tick");
+    let ticks = counted(ticks, "tick");
     Problem::new(format!("after {ticks} a call finds the stack full")).advice(advice)
 }
 
@@ -164,30 +161,31 @@ fn too_deep(text: &[u8], nodes: &[Node]) -> Result<String, Problem> {
 }
 
 /// Refusals 14 to 16, 18, 21, 22, 24, 27 and 28, which name no line.
-fn of_run(refusal: &Refusal) -> Option<Problem> {
-    let ticks = counted(refusal.count, "tick");
-    let (words, advice) = match refusal.number {
-        14 => ("a stack has 1 to 32 places".to_string(), "the number of places asked for"),
-        15 => ("the state does not fit the image".to_string(), "a state kept from another chart"),
-        16 => ("a buffer is too short for the answer".to_string(), "the caller's buffers"),
-        18 => (
-            format!("after {ticks} no row of the label matches the word"),
+fn of_run(refusal: Refusal) -> Option<Problem> {
+    let (words, advice) = match refusal {
+        Refusal::BadSize => ("a stack has 1 to 32 places".to_string(), "the number of places asked for"),
+        Refusal::Unfit => ("the state does not fit the image".to_string(), "a state kept from another chart"),
+        Refusal::NoRoom => ("a buffer is too short for the answer".to_string(), "the caller's buffers"),
+        Refusal::NoRow { ticks } => (
+            format!("after {} no row of the label matches the word", counted(ticks, "tick")),
             "a row that was taken out of the image by hand; the image of a chart has them all",
         ),
-        21 => ("the tick takes no row".to_string(), "a tick before it or after it that is plain or a return"),
-        22 => (
+        Refusal::Rowless => {
+            ("the tick takes no row".to_string(), "a tick before it or after it that is plain or a return")
+        }
+        Refusal::BadRebinding => (
             "this number cannot be given to that scheme".to_string(),
             "a number and a scheme from 2 to the highest one, and a number that is not the handler's",
         ),
-        24 => (
+        Refusal::NoLittleChart => (
             "there is no such little chart".to_string(),
             "a frame count of 2, 3 or 4, and a number that the wall sheet has; the first is 0",
         ),
-        27 => (
+        Refusal::ManyWords => (
             "there are too many words for one price".to_string(),
             "fewer ticks; a longer run is priced in parts, each rounded by itself",
         ),
-        28 => (
+        Refusal::ManyLists => (
             "there are too many lists to count, or their words are too many".to_string(),
             "fewer ticks or fewer conditions: 16 ticks of one condition, 8 of two, 5 of three, 4 of four",
         ),
@@ -229,8 +227,8 @@ mod tests {
     #[test]
     fn the_places_of_a_full_stack_are_held_to_the_library() {
         const CHAIN: &[u8] = include_bytes!("../../../../examples/bore.chart");
-        let (refusal, nodes) = (Refusal { number: 17, index: 0, count: 2 }, chart_of(CHAIN, Kind::Chart));
-        let told = |text| full_stack(&refusal, Some((text, nodes.clone().expect("a chart"))));
+        let nodes = chart_of(CHAIN, Kind::Chart);
+        let told = |text| full_stack(2, Some((text, nodes.clone().expect("a chart"))));
         assert!(
             told(CHAIN).advice.starts_with("too few places: this chart needs 2 places, "),
             "{}",
@@ -246,12 +244,12 @@ mod tests {
         let of_chart = (1..=10).chain([19, 20]).map(|number| (CHART, Kind::Chart, number));
         let of_image = [1, 2, 3, 11, 12, 13, 23].map(|number| (IMAGE, Kind::Image, number));
         for (text, kind, number) in of_chart.chain(of_image) {
-            let told = refusal(text, kind, Answer::Refused { number, index: 1, count: 0 });
-            assert!(told.is_internal() && told.refusal.is_some_and(|own| own.number == number), "{told}");
+            let own = Refusal::told(number, 1, 0).or(Refusal::told(number, 0, 0)).expect("a refusal");
+            let told = refusal(text, kind, own);
+            assert!(told.is_internal() && told.refusal == Some(own), "{told}");
             assert!(told.advice.contains("the makers of this program"), "{told}");
         }
-        let refusal = Refusal { number: 6, index: 4, count: 0 };
-        let found = |line| held(Some(Problem::at(line, 1, "a reason")), refusal, Some(5));
+        let found = |line| held(Some(Problem::at(line, 1, "a reason")), Refusal::BadArc(4), Some(5));
         assert_eq!(found(5).words, "line 5, column 1: a reason");
         let told = "internal error: the library turns line 5 back, and a reason is found on line 4";
         assert_eq!(found(4).words, told);

@@ -35,6 +35,6 @@ const RULES: [&str; 28] = [
 ];
 
 /// The rule of a refusal.
-pub fn rule(refusal: &Refusal) -> &'static str {
-    RULES[usize::from(refusal.number).clamp(1, RULES.len()) - 1]
+pub fn rule(refusal: Refusal) -> &'static str {
+    RULES[usize::from(refusal.number()).clamp(1, RULES.len()) - 1]
 }

@@ -3,10 +3,11 @@
 
 use std::collections::HashMap;
 
-use fairleadow::{Answer, FillingsReport, Library, Meaning, State};
+use fairleadow::{Fillings, Library, Meaning, Refusal, State};
 
 use super::Lists;
 use crate::problem::Problem;
+use crate::trace::fresh;
 
 /// Of all lists those that drop at least once, and those that find the stack full: these, and those that it ends.
 #[derive(Clone, Copy, Debug, Default, PartialEq, Eq)]
@@ -32,10 +33,10 @@ pub fn drops(
     table: &[u8],
     places: usize,
     lists: Lists,
-    counted: &FillingsReport,
+    counted: &Fillings,
 ) -> Result<Drops, Problem> {
     let (mut met, mut drops, mut full, mut unmatched) = (Met::new(), Drops::default(), 0, 0);
-    add(&mut met, library.fresh(places).1, false, 1);
+    add(&mut met, fresh(places)?, false, 1);
     for left in (0..lists.ticks).rev() {
         let mut next = Met::new();
         for ((.., dropped), (state, count)) in met {
@@ -43,17 +44,17 @@ pub fn drops(
                 let mut state = state;
                 let ticked = library.live_tick(table, &mut state, word as u16);
                 let all = count << (left * lists.conditions);
-                match ticked.answer {
-                    Answer::Done(_) => {
+                match ticked {
+                    Ok(ticked) => {
                         let dropped = dropped || library.meaning(ticked.code) == Meaning::Drop;
                         add(&mut next, state, dropped, count);
                         continue;
                     }
-                    Answer::Refused { number: 17, .. } => {
+                    Err(Refusal::Full { .. }) => {
                         full += all;
                         drops.found_full += all;
                     }
-                    Answer::Refused { .. } => {
+                    Err(_) => {
                         unmatched += all;
                         drops.found_full += if dropped { all } else { 0 };
                     }

@@ -18,7 +18,7 @@ pub struct Priced<'a> {
 
 impl Priced<'_> {
     fn refused(&self) -> Option<Problem> {
-        self.bill.answer.ok().err().map(|_| self.subject.problem(self.bill.answer))
+        self.bill.answer.err().map(|refusal| self.subject.problem(refusal))
     }
 }
 
@@ -71,7 +71,7 @@ pub struct Filled {
 
 pub fn fillings_json(filled: &Filled) -> String {
     let Lists { ticks, conditions } = filled.drawing.lists();
-    let stack = |(at, (stack, drops)): (usize, (&fairleadow::FillingsReport, crate::fillings::Drops))| {
+    let stack = |(at, (stack, drops)): (usize, (&fairleadow::Fillings, crate::fillings::Drops))| {
         Json::Record(vec![
             ("places", (at + 1).into()),
             ("fill", stack.full.into()),
@@ -93,7 +93,7 @@ pub fn fillings_json(filled: &Filled) -> String {
 pub fn fillings_csv(filled: &Filled) -> String {
     let Lists { ticks, conditions } = filled.drawing.lists();
     let lists = 1_u64 << (ticks * conditions);
-    let row = |(at, (stack, drops)): (usize, (&fairleadow::FillingsReport, crate::fillings::Drops))| {
+    let row = |(at, (stack, drops)): (usize, (&fairleadow::Fillings, crate::fillings::Drops))| {
         let counts =
             [stack.full, stack.unmatched, drops.dropped, drops.found_full].map(|count| count.to_string());
         let [full, unmatched, dropped, found_full] = counts;

@@ -65,7 +65,7 @@ pub fn lines(files: &[Checked]) -> String {
     let line = |path: &OsString, sort: Sort, problem: &Problem| {
         let place = [problem.line, problem.column].into_iter().flatten().map(|number| format!("{number}:"));
         let place: String = place.collect();
-        let refusal = problem.refusal.as_ref().map(|refusal| format!(" (refusal {})", refusal.number));
+        let refusal = problem.refusal.map(|refusal| format!(" (refusal {})", refusal.number()));
         let (words, refusal) = (message(problem), refusal.unwrap_or_default());
         format!("{}:{place} {}: {words}{refusal}\n", file_name(path), sort.level())
     };
@@ -111,7 +111,7 @@ pub fn csv(files: &[Checked]) -> String {
             [name.clone(), "accepted".to_string(), none(), none(), none(), examined.accepted.clone()]
         });
         let findings = file.findings().into_iter().map(|(sort, problem)| {
-            let refusal = csv::number(problem.refusal.as_ref().map(|refusal| refusal.number));
+            let refusal = csv::number(problem.refusal.map(|refusal| refusal.number()));
             let (line, column) = (csv::number(problem.line), csv::number(problem.column));
             [name.clone(), sort.level().to_string(), line, column, refusal, message(problem)]
         });

@@ -1,5 +1,7 @@
 //! What made a tick go where it went, as a record and as a table.
 
+use fairleadow::Cause;
+
 use super::findings::message;
 use super::json::Json;
 use super::{csv as table, document};
@@ -46,22 +48,27 @@ fn part(sort: &Sort) -> &'static str {
 }
 
 /// The row, the conditions that it asks for, those that ruled out others, and the result that was read.
-fn row(subject: &Subject, asked: &Asked) -> Json {
-    let row = subject.image.row(asked.cause.row);
-    let result = sort(subject, asked, &row).map(|sort| {
+fn row(subject: &Subject, asked: &Asked, cause: &Cause) -> Json {
+    let row = subject.image.row(cause.row);
+    let result = sort(subject, cause, &row).map(|sort| {
         let scheme = subject.names().scheme(subject.image.called(row.from));
         Json::Record(vec![
             ("scheme", scheme.into()),
-            ("value", asked.cause.bit.into()),
+            ("value", cause.bit.into()),
             ("part", part(&sort).into()),
         ])
     });
     Json::Record(vec![
-        ("number", asked.cause.row.into()),
+        ("number", cause.row.into()),
         ("asked_for", conditions(subject, asked.word, row.care)),
-        ("ruled_out_others", conditions(subject, asked.word, asked.cause.mask & !row.care)),
+        ("ruled_out_others", conditions(subject, asked.word, cause.mask & !row.care)),
         ("result", result.into()),
     ])
+}
+
+/// What made the tick go where it went, where that is told.
+fn cause(reason: &Reason) -> Option<Cause> {
+    reason.told.as_ref().ok().and(reason.asked.cause.ok())
 }
 
 pub fn json(reason: &Reason) -> String {
@@ -75,7 +82,7 @@ pub fn json(reason: &Reason) -> String {
         ("left", place(subject, before.last().copied())),
         ("beneath", place(subject, beneath)),
         ("reached", place(subject, after.last().copied())),
-        ("row", told.as_ref().ok().map(|_| row(subject, asked)).into()),
+        ("row", cause(reason).map(|cause| row(subject, asked, &cause)).into()),
         ("told", told.as_ref().ok().map(String::as_str).into()),
         ("problem", told.as_ref().err().map(super::problem).into()),
     ];
@@ -96,9 +103,10 @@ pub fn csv(reason: &Reason) -> String {
         title(beneath),
         title(after.last()),
     ];
-    let number = told.as_ref().ok().map(|_| asked.cause.row);
+    let cause = cause(reason);
+    let number = cause.map(|cause| cause.row);
     let refused = told.as_ref().err().map(message).unwrap_or_default();
-    let parts = if told.is_ok() { parts(subject, asked) } else { Vec::new() };
+    let parts = cause.map_or(Vec::new(), |cause| parts(subject, asked, &cause));
     let parts = if parts.is_empty() { vec![Default::default()] } else { parts };
     let rows = parts.into_iter().map(|[part, name, value]| {
         let [tick, word, left, beneath, reached] = tick.clone();
@@ -109,8 +117,8 @@ pub fn csv(reason: &Reason) -> String {
 }
 
 /// What a row asks for, what ruled out others, and the result that was read, each with its name and value.
-fn parts(subject: &Subject, asked: &Asked) -> Vec<[String; 3]> {
-    let row = subject.image.row(asked.cause.row);
+fn parts(subject: &Subject, asked: &Asked, cause: &Cause) -> Vec<[String; 3]> {
+    let row = subject.image.row(cause.row);
     let conditions = |what: &'static str, mask: u16| {
         let numbers = (0..16).filter(move |number| mask >> number & 1 == 1);
         numbers.map(move |number| {
@@ -118,10 +126,10 @@ fn parts(subject: &Subject, asked: &Asked) -> Vec<[String; 3]> {
             [what.to_string(), subject.names().condition(number), value.to_string()]
         })
     };
-    let result = sort(subject, asked, &row).map(|sort| {
+    let result = sort(subject, cause, &row).map(|sort| {
         let scheme = subject.names().scheme(subject.image.called(row.from));
-        [part(&sort).to_string(), format!("result of {scheme}"), asked.cause.bit.to_string()]
+        [part(&sort).to_string(), format!("result of {scheme}"), cause.bit.to_string()]
     });
-    let ruled_out = asked.cause.mask & !row.care;
+    let ruled_out = cause.mask & !row.care;
     conditions("asked for", row.care).chain(conditions("ruled out others", ruled_out)).chain(result).collect()
 }

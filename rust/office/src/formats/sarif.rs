@@ -14,8 +14,8 @@ const SCHEMA: &str =
 
 /// The name of the rule that a finding is of, and the rule.
 fn rule(sort: Sort, problem: &Problem) -> (String, &'static str) {
-    match (sort, &problem.refusal) {
-        (_, Some(refusal)) => (format!("refusal-{}", refusal.number), rules::rule(refusal)),
+    match (sort, problem.refusal) {
+        (_, Some(refusal)) => (format!("refusal-{}", refusal.number()), rules::rule(refusal)),
         (Sort::Refused, None) => {
             ("fault".to_string(), "a file can be read, and is a chart, an image or the readable notation")
         }

@@ -123,7 +123,7 @@ pub fn text(record: &Record) -> String {
         .iter()
         .map(|step| waves.values(step.word, &step.place, 0, Some((step.code, step.mask, step.results))));
     let stopped = record.stop.as_ref().map(|stop| {
-        let number = stop.problem.refusal.as_ref().map_or(0, |refusal| refusal.number);
+        let number = stop.problem.refusal.map_or(0, |refusal| refusal.number());
         waves.values(stop.word, &stop.place, number, None)
     });
     let (mut before, mut time) = (Vec::new(), 0);

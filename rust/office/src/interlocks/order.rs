@@ -3,7 +3,7 @@
 
 use std::collections::{HashMap, HashSet, VecDeque};
 
-use fairleadow::{Answer, Library, Proved, State};
+use fairleadow::{Library, Proved, State};
 
 use crate::diff::search;
 use crate::image::Image;
@@ -116,10 +116,7 @@ impl Search<'_> {
             for word in self.words(&self.reached[at].state) {
                 let (mut state, was_on) = (self.reached[at].state, self.reached[at].was_on);
                 let label = state.places[usize::from(state.depth) - 1];
-                let ticked = Proved.live_tick(self.table, &mut state, word);
-                if let Answer::Refused { .. } = ticked.answer {
-                    continue;
-                }
+                let Ok(ticked) = Proved.live_tick(self.table, &mut state, word) else { continue };
                 if ticked.mask & self.late != 0 && !was_on {
                     return Ok(Some((self.words_to(at, word), label)));
                 }

@@ -54,7 +54,7 @@ fn made_row(subject: &Subject, number: usize, tick: &LabelTick, why: &str) -> St
 /// The tick that a refusal met: it puts nothing out and leaves the results as they were.
 fn refused(subject: &Subject, number: usize, stopped: &LabelStop, results: &[bool; 16]) -> String {
     let swaps = stopped.swaps.iter().map(|swap: &Swap| subject.names().swapped(swap));
-    let happens: Vec<String> = swaps.chain([format!("refused ({})", stopped.answer.number())]).collect();
+    let happens: Vec<String> = swaps.chain([format!("refused ({})", stopped.refusal.number())]).collect();
     let at = At { number, word: stopped.word, stack: &stopped.stack, lines: String::new() };
     at.row(subject, &happens.join("; "), 0, results, " class=\"refused\"")
 }

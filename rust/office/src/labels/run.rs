@@ -2,7 +2,7 @@
 
 use std::collections::{BTreeMap, HashMap};
 
-use fairleadow::{Answer, Library, Proved, State};
+use fairleadow::{Library, Proved, Refusal, State};
 
 use crate::explain;
 use crate::image::{Image, Open};
@@ -39,7 +39,7 @@ impl LabelTick {
 /// The refusal that ended a run, with the swaps, the word and the stack that met it.
 #[derive(Clone, Debug)]
 pub struct LabelStop {
-    pub answer: Answer,
+    pub refusal: Refusal,
     pub swaps: Vec<Swap>,
     pub word: u16,
     pub stack: Vec<Open>,
@@ -89,12 +89,14 @@ impl Running {
         self.state = self.may_swap(swaps)?;
         let swaps: Vec<Swap> = swaps::of_tick(swaps, number).copied().collect();
         let (before, stack) = (self.state, image.open(&self.state));
-        let ticked = Proved.live_tick(&self.table, &mut self.state, word);
-        if let Answer::Refused { number: refusal, index, .. } = ticked.answer {
-            let answer = Answer::Refused { number: refusal, index, count: number };
-            self.run.stopped = Some(LabelStop { answer, swaps, word, stack });
-            return Ok(());
-        }
+        let ticked = match Proved.live_tick(&self.table, &mut self.state, word) {
+            Ok(ticked) => ticked,
+            Err(refusal) => {
+                let refusal = refusal.after(number);
+                self.run.stopped = Some(LabelStop { refusal, swaps, word, stack });
+                return Ok(());
+            }
+        };
         let happening = Happening::of(ticked.code);
         let row = match happening {
             Happening::Plain | Happening::Return => self.causes.row(image, &before, &stack, word)?,
@@ -166,9 +168,7 @@ impl Causes {
             return Ok(Some(*row));
         }
         let cause = Proved.cause(&image.text, before, word);
-        if cause.answer.number() != 0 {
-            return Err(explain::refusal(&image.text, Kind::Image, cause.answer));
-        }
+        let cause = cause.map_err(|refusal| explain::refusal(&image.text, Kind::Image, refusal))?;
         self.rows.insert(key, cause.row);
         Ok(Some(cause.row))
     }

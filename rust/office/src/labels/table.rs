@@ -1,6 +1,6 @@
 //! A run of an image as a table that a person can read, and what it never took.
 
-use fairleadow::Answer;
+use fairleadow::Refusal;
 
 use super::run::{LabelRun, LabelStop, LabelTick};
 use super::words::row;
@@ -56,7 +56,7 @@ pub fn report(subject: &Subject, run: &LabelRun) -> String {
 
 /// Why a run ended before its words did: the refusal in its own words, and the label that met it.
 pub fn problem(subject: &Subject, run: &LabelRun, stopped: &LabelStop) -> Problem {
-    let told = subject.problem(stopped.answer);
+    let told = subject.problem(stopped.refusal);
     if told.is_internal() {
         return told;
     }
@@ -64,17 +64,17 @@ pub fn problem(subject: &Subject, run: &LabelRun, stopped: &LabelStop) -> Proble
     let swaps: String = stopped.swaps.iter().map(|swap| format!(", {}", names.swapped(swap))).collect();
     let top = stopped.stack[stopped.stack.len() - 1];
     let at = format!("tick {}, word {}{swaps}, {}", run.ticks.len(), word(stopped.word), subject.place(top));
-    let words = match (stopped.answer, &stopped.stack[..]) {
-        (Answer::Refused { number: 17, .. }, _) => {
+    let words = match (stopped.refusal, &stopped.stack[..]) {
+        (Refusal::Full { .. }, _) => {
             let scheme = names.scheme(subject.image.called(top.label));
             let (used, open) = (in_use(run.places), names.open_schemes(&open(&stopped.stack)));
             let bottom = if subject.image.handler() == 0 { "" } else { ", with the handler at the bottom" };
             format!("{at}: the call of {scheme} finds the stack full, {used} ({open}){bottom}")
         }
-        (Answer::Refused { number: 18, .. }, [.., beneath, top]) if top.label == 1 => {
+        (Refusal::NoRow { .. }, [.., beneath, top]) if top.label == 1 => {
             format!("{at}: no row of {} matches", subject.place(*beneath))
         }
-        (Answer::Refused { number: 18, .. }, _) => format!("{at}: none of its rows matches"),
+        (Refusal::NoRow { .. }, _) => format!("{at}: none of its rows matches"),
         _ => format!("{at}: {}", told.words),
     };
     Problem { words, ..told }

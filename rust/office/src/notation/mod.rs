@@ -33,7 +33,7 @@ mod resolve;
 mod statement;
 mod words;
 
-use fairleadow::{Answer, Library, Proved, CHART_TEXT};
+use fairleadow::{Library, Proved, Refusal, CHART_TEXT};
 
 use crate::chart::{nodes, Node};
 use crate::explain;
@@ -211,21 +211,21 @@ impl Notation {
     pub fn chart_lines(&self) -> Result<Vec<u8>, Problem> {
         let mut text = vec![0; CHART_TEXT];
         match Proved.write_chart(&self.records, &mut text) {
-            Answer::Done(length) => {
+            Ok(length) => {
                 text.truncate(length);
                 Ok(text)
             }
-            answer => Err(self.problem(answer)),
+            Err(refusal) => Err(self.problem(refusal)),
         }
     }
 
     /// A refusal of the library, told by the lines and names of this notation; a mark or a call has a column too.
-    pub fn problem(&self, answer: Answer) -> Problem {
-        let told = explain::composed(&self.records, &self.names, &self.node_lines(), answer);
+    pub fn problem(&self, refusal: Refusal) -> Problem {
+        let told = explain::composed(&self.records, &self.names, &self.node_lines(), refusal);
         let line = told.line.and_then(|line| self.text.lines().nth(line - 1));
-        let column = line.and_then(|line| match answer.number() {
-            19 => mark_column(line),
-            20 => call_column(line),
+        let column = line.and_then(|line| match refusal {
+            Refusal::BadMarks => mark_column(line),
+            Refusal::CallsItself => call_column(line),
             _ => None,
         });
         Problem { column, ..told }.excerpt(self.text.as_bytes())

@@ -22,7 +22,7 @@ pub fn ticks(plan: &Plan, trace: &Trace) -> String {
 fn refused(plan: &Plan, number: usize, stopped: &Stopped, results: [bool; 16]) -> String {
     let node = stopped.stack[stopped.stack.len() - 1].node;
     let swaps = stopped.swaps.iter().map(|swap| plan.swapped(swap));
-    let happens: Vec<String> = swaps.chain([format!("refused ({})", stopped.number)]).collect();
+    let happens: Vec<String> = swaps.chain([format!("refused ({})", stopped.refusal.number())]).collect();
     let cells = [
         number.to_string(),
         word(stopped.word),

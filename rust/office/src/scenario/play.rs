@@ -1,6 +1,6 @@
 //! A scenario played on an image by the proved library: the words that it comes to, and where the ticks differ from what is expected.
 
-use fairleadow::{Answer, Library, Proved, State};
+use fairleadow::{Library, Proved, State};
 
 use crate::image::Image;
 use crate::names::Names;
@@ -129,9 +129,9 @@ impl Player<'_> {
         let node = self.stage.plan.map(|plan| plan.marking.node(label, scheme));
         let ticked = Proved.live_tick(&self.table, &mut self.state, word);
         self.played.words.push(word);
-        match ticked.answer {
-            Answer::Refused { number, .. } => Seen::Refused { number, node },
-            Answer::Done(_) => {
+        match ticked {
+            Err(refusal) => Seen::Refused { number: refusal.number(), node },
+            Ok(ticked) => {
                 self.played.ticks += 1;
                 Seen::Made(Made { node, mask: ticked.mask, code: ticked.code })
             }

@@ -33,10 +33,9 @@ pub fn written(plan: &Plan, trace: &Trace, comment: &str, expecting: bool) -> Re
         let shown = shown(Some((plan, tick.node())), &plan.names, tick.mask);
         script.line(tick.word, &tick.swaps, shown)
     });
-    let stopped = trace
-        .stopped
-        .iter()
-        .map(|stopped| script.line(stopped.word, &stopped.swaps, format!("refusal {}", stopped.number)));
+    let stopped = trace.stopped.iter().map(|stopped| {
+        script.line(stopped.word, &stopped.swaps, format!("refusal {}", stopped.refusal.number()))
+    });
     script.text(made.chain(stopped).collect(), comment)
 }
 
@@ -57,7 +56,7 @@ pub fn written_of_image(
         .iter()
         .map(|tick| script.line(tick.word, &tick.swaps, shown(node(tick.open()), names, tick.mask)));
     let stopped = run.stopped.iter().map(|stopped| {
-        script.line(stopped.word, &stopped.swaps, format!("refusal {}", stopped.answer.number()))
+        script.line(stopped.word, &stopped.swaps, format!("refusal {}", stopped.refusal.number()))
     });
     script.text(made.chain(stopped).collect(), comment)
 }

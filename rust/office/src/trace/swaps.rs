@@ -80,11 +80,10 @@ pub fn of_tick(swaps: &[Swap], tick: usize) -> impl Iterator<Item = &Swap> {
 /// Makes the swaps of one tick on a prepared table.
 pub fn make(swaps: &[Swap], tick: usize, table: &[u8], state: &mut State) -> Result<(), Problem> {
     for swap in of_tick(swaps, tick) {
-        let answer = Proved.live_rebind(table, state, swap.number, swap.scheme);
-        if answer.number() != 0 {
-            let told = explain::refusal(&[], Kind::Image, answer);
-            return Err(Problem { words: format!("the swap {swap}: {}", told.words), ..told });
-        }
+        Proved.live_rebind(table, state, swap.number, swap.scheme).map_err(|refusal| {
+            let told = explain::refusal(&[], Kind::Image, refusal);
+            Problem { words: format!("the swap {swap}: {}", told.words), ..told }
+        })?;
     }
     Ok(())
 }

@@ -1,7 +1,5 @@
 //! A trace as a table that a person can read, and what it never took.
 
-use fairleadow::Answer;
-
 use super::{Coverage, Stopped, Tick, Trace};
 use crate::columns::aligned;
 use crate::marking::called;
@@ -57,7 +55,7 @@ pub fn report(plan: &Plan, trace: &Trace) -> String {
 pub fn problem(plan: &Plan, trace: &Trace, stopped: &Stopped) -> Problem {
     let node = stopped.stack[stopped.stack.len() - 1].node;
     let count = trace.ticks.len();
-    let told = plan.source.problem(Answer::Refused { number: stopped.number, index: 0, count });
+    let told = plan.source.problem(stopped.refusal);
     if told.is_internal() {
         return told;
     }

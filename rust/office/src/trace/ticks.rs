@@ -1,6 +1,6 @@
 //! The ticks that the proved library makes of a chart, from a fresh state.
 
-use fairleadow::{Answer, Library, Meaning, Proved, State};
+use fairleadow::{Library, Meaning, Proved, Refusal, State};
 
 use super::arcs::{path, Arc, Path};
 use super::swaps::{self, Swap};
@@ -70,7 +70,7 @@ impl Tick {
 /// The refusal that ended a trace, with the swaps, the word and the stack that met it.
 #[derive(Clone, Debug)]
 pub struct Stopped {
-    pub number: u8,
+    pub refusal: Refusal,
     pub swaps: Vec<Swap>,
     pub word: u16,
     pub stack: Vec<Opened>,
@@ -114,7 +114,10 @@ impl Run {
                 self.trace.coverage.note(&tick);
                 self.trace.ticks.push(tick);
             }
-            Err(stopped) => self.trace.stopped = Some(stopped),
+            Err(stopped) => {
+                let refusal = stopped.refusal.after(number);
+                self.trace.stopped = Some(Stopped { refusal, ..stopped });
+            }
         }
         Ok(())
     }
@@ -142,12 +145,10 @@ pub fn trace(plan: &Plan, places: usize, words: &[u16], swaps: &[Swap]) -> Resul
 
 /// A fresh state, or why there is none of so many places.
 pub fn fresh(places: usize) -> Result<State, Problem> {
-    let (answer, state) = Proved.fresh(places);
-    if answer.number() == 0 {
-        return Ok(state);
-    }
-    let words = format!("a stack of {} is asked for", counted(places, "place"));
-    Err(Problem { words, ..explain::refusal(&[], Kind::Image, answer) })
+    Proved.fresh(places).map_err(|refusal| {
+        let words = format!("a stack of {} is asked for", counted(places, "place"));
+        Problem { words, ..explain::refusal(&[], Kind::Image, refusal) }
+    })
 }
 
 /// One tick of the library's, with its node and arcs, or the refusal that met it.
@@ -159,10 +160,10 @@ fn tick(
     word: u16,
 ) -> Result<Result<Tick, Stopped>, Problem> {
     let (stack, before) = (stack(plan, state), results(state));
-    let ticked = Proved.live_tick(table, state, word);
-    if let Answer::Refused { number, .. } = ticked.answer {
-        return Ok(Err(Stopped { number, swaps, word, stack }));
-    }
+    let ticked = match Proved.live_tick(table, state, word) {
+        Ok(ticked) => ticked,
+        Err(refusal) => return Ok(Err(Stopped { refusal, swaps, word, stack })),
+    };
     let happening = Happening::of(ticked.code);
     let server = match happening {
         Happening::Call(_) => state.servers[usize::from(state.depth) - 1],

@@ -1,6 +1,6 @@
 //! The cause of a tick in words.
 
-use fairleadow::Answer;
+use fairleadow::{Cause, Refusal};
 
 use super::Asked;
 use crate::explain;
@@ -14,12 +14,15 @@ use crate::wording::word;
 /// Where the tick went and what made it go there, or why it took no row.
 pub fn told(subject: &Subject, asked: &Asked) -> Result<String, Problem> {
     let tick = format!("tick {}, word {}", asked.number, word(asked.word));
-    let words = match asked.cause.answer {
-        Answer::Done(_) => return taken(subject, asked).map(|taken| format!("{tick}, {taken}")),
-        Answer::Refused { number: 18, .. } => without_match(subject, asked),
-        Answer::Refused { .. } => without_row(subject, asked),
+    let refusal = match asked.cause {
+        Ok(cause) => return taken(subject, asked, &cause).map(|taken| format!("{tick}, {taken}")),
+        Err(refusal) => refusal,
     };
-    let refused = explain::refusal(&subject.image.text, Kind::Image, asked.cause.answer);
+    let words = match refusal {
+        Refusal::NoRow { .. } => without_match(subject, asked),
+        _ => without_row(subject, asked),
+    };
+    let refused = explain::refusal(&subject.image.text, Kind::Image, refusal);
     Err(Problem { words: format!("{tick}: {words}"), ..refused })
 }
 
@@ -36,8 +39,8 @@ fn after(subject: &Subject, asked: &Asked) -> Open {
 }
 
 /// What happens, the way, the row, and what decided.
-fn taken(subject: &Subject, asked: &Asked) -> Result<String, Problem> {
-    let row = subject.image.row(asked.cause.row);
+fn taken(subject: &Subject, asked: &Asked, cause: &Cause) -> Result<String, Problem> {
+    let row = subject.image.row(cause.row);
     let to = after(subject, asked);
     if row.next != to.label {
         let (next, stands) = (row.next, to.label);
@@ -54,17 +57,17 @@ fn taken(subject: &Subject, asked: &Asked) -> Result<String, Problem> {
             vec!["plain".to_string(), format!("it left {top} and went to {to}")]
         }
     };
-    lines.push(format!("by row {} of the image's rows, counted from 0", asked.cause.row));
-    lines.extend(reasons(subject, asked, &row));
+    lines.push(format!("by row {} of the image's rows, counted from 0", cause.row));
+    lines.extend(reasons(subject, asked, cause, &row));
     Ok(lines.join("\n"))
 }
 
 /// What the row asks for, and apart from it what ruled out other rows of its label.
-fn reasons(subject: &Subject, asked: &Asked, row: &Row) -> Vec<String> {
+fn reasons(subject: &Subject, asked: &Asked, cause: &Cause, row: &Row) -> Vec<String> {
     let mut own = conditions(subject, asked, row.care);
-    let mut others = conditions(subject, asked, asked.cause.mask & !row.care);
+    let mut others = conditions(subject, asked, cause.mask & !row.care);
     let mut idle = None;
-    if let Some((result, sort)) = result(subject, asked, row) {
+    if let Some((result, sort)) = result(subject, cause, row) {
         match sort {
             Sort::Own => own.push(result),
             Sort::Other => others.push(result),
@@ -96,14 +99,14 @@ pub enum Sort {
 }
 
 /// The result that was read, where the label is a function's.
-fn result(subject: &Subject, asked: &Asked, row: &Row) -> Option<(String, Sort)> {
-    let sort = sort(subject, asked, row)?;
-    Some((subject.result(subject.image.called(row.from), asked.cause.bit), sort))
+fn result(subject: &Subject, cause: &Cause, row: &Row) -> Option<(String, Sort)> {
+    let sort = sort(subject, cause, row)?;
+    Some((subject.result(subject.image.called(row.from), cause.bit), sort))
 }
 
 /// What part the result had that was read, where the label is a function's.
-pub fn sort(subject: &Subject, asked: &Asked, row: &Row) -> Option<Sort> {
-    let bit = asked.cause.bit;
+pub fn sort(subject: &Subject, cause: &Cause, row: &Row) -> Option<Sort> {
+    let bit = cause.bit;
     if bit == 2 {
         return None;
     }
@@ -129,11 +132,14 @@ fn without_row(subject: &Subject, asked: &Asked) -> String {
     let (top, _) = before(subject, asked);
     let (from, to) = (subject.place(top), subject.place(after(subject, asked)));
     let called = subject.scheme(subject.image.called(top.label));
-    if let Answer::Refused { number, .. } = asked.ticked.answer {
-        let full = format!("finds the stack full and goes nowhere (refusal {number})");
-        return format!("a call takes no row; {from} calls {called}, {full}");
-    }
-    match Happening::of(asked.ticked.code) {
+    let ticked = match asked.ticked {
+        Ok(ticked) => ticked,
+        Err(refusal) => {
+            let full = format!("finds the stack full and goes nowhere (refusal {})", refusal.number());
+            return format!("a call takes no row; {from} calls {called}, {full}");
+        }
+    };
+    match Happening::of(ticked.code) {
         Happening::Home => format!("a home tick takes no row; it left {from} and went to {to}"),
         Happening::Call(number) => {
             let server = after(subject, asked).scheme;

@@ -31,7 +31,7 @@ pub fn edited(text: &str, line: usize, column: usize, digits: &str) -> String {
 /// The refusal's number and the first line of its words.
 pub fn told(text: impl AsRef<[u8]>) -> (u8, String) {
     let problem = checked(text.as_ref()).expect_err("a refusal");
-    (problem.refusal.expect("a number").number, problem.words)
+    (problem.refusal.expect("a number").number(), problem.words)
 }
 
 /// Each text is refused with this number, in these words.

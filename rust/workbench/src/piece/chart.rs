@@ -167,7 +167,7 @@ impl Run for ChartRun {
         let stopped = self.refused(number)?;
         let node = stopped.stack.last()?.node;
         let swaps = stopped.swaps.iter().map(|swap| plan.swapped(swap));
-        let happens: Vec<String> = swaps.chain([format!("refused ({})", stopped.number)]).collect();
+        let happens: Vec<String> = swaps.chain([format!("refused ({})", stopped.refusal.number())]).collect();
         let results = self.trace().ticks.last().map_or([false; 16], |tick| tick.results);
         Some([
             number.to_string(),

@@ -164,7 +164,7 @@ impl Run for ImageRun {
         let stopped = self.refused(number)?;
         let Open { label, scheme, .. } = *stopped.stack.last()?;
         let swaps = stopped.swaps.iter().map(|swap| names.swapped(swap));
-        let refused = format!("refused ({})", stopped.answer.number());
+        let refused = format!("refused ({})", stopped.refusal.number());
         let happens: Vec<String> = swaps.chain([refused]).collect();
         let results = self.run().ticks.last().map_or([false; 16], |tick| tick.results);
         Some([

@@ -1,15 +1,16 @@
+//! Why a call refuses, by the names of the proved library.
+
 use core::error::Error;
 use core::fmt;
 
 /// Why a call is refused, by the names of the proved library. A refusal that names a frame has its number from 0, a line of a text or a
 /// node of a chart; one that stops a run has how many ticks were finished before it, which count: the state is the one after these. With
-/// all others a call has changed nothing but the image of a [dry run](crate::Chart::dry_run_in).
+/// all others a call has changed nothing but the image of a dry run.
 ///
 /// ```
-/// use fairleadow::{Chart, Refusal};
-///
-/// let refusal = Chart::parse("00010001000000000000FE\n02010002000000000001FB\n01010000000000000000FE\n").unwrap_err();
-/// assert_eq!(refusal, Refusal::BadSum(1));
+/// # use interface::Refusal;
+/// let refusal = Refusal::BadSum(1);
+/// assert_eq!((refusal.number(), refusal.frame()), (3, Some(1)));
 /// assert_eq!(refusal.to_string(), "refusal 3 at frame 1: the sum of a frame");
 /// ```
 #[derive(Clone, Copy, Debug, PartialEq, Eq, Hash)]
@@ -78,14 +79,56 @@ pub enum Refusal {
     ManyWords,
     /// 28: more lists of words than are counted.
     ManyLists,
-    /// A number that this crate does not know: the archive is of another [version](crate::version).
+    /// An answer that is none of these: the archive is of another version.
     Other(u8),
 }
 
+/// What each refusal is about, number 1 first, as include/fairleadow.h says it.
+const SENSES: [&str; 28] = [
+    "the length of the text or of the records",
+    "a character other than 0-9, A-F, a-f, line feed",
+    "the sum of a frame",
+    "a field of a node",
+    "a scheme without just one Begin and one End",
+    "an arc into another scheme, to a Begin or nowhere",
+    "a call of a scheme that cannot be called",
+    "a circle of conditions",
+    "a node cut off from its Begin",
+    "more than 1,024 rows",
+    "the image's header",
+    "an image frame that stands in a wrong place",
+    "a field of an image frame",
+    "a stack size other than 1 to 32",
+    "a state that does not fit the image",
+    "an output buffer that is too short",
+    "a call that finds the stack full and drops nothing",
+    "no row for the word",
+    "a handler's mark on scheme 1, or a second one",
+    "a scheme within reach of scheme 1 that can call itself",
+    "a state whose tick takes no row",
+    "a rebinding of or to a number that is not 2 to H, or of the handler's",
+    "a word and bit that match no row, or two rows, of a label from 2 up",
+    "a little chart of other than 2 to 4 frames, or a number past the last one",
+    "a spindle's number above 3",
+    "a call while all 64 places of the spindles are taken",
+    "more than 65,536 words in a priced run",
+    "lists of more than 16 ticks times conditions, 16 conditions or 65,536 ticks",
+];
+
 impl Refusal {
-    /// The refusal with this number, of 1 to 28, with the index and the count that were told with it.
-    pub(crate) fn told(number: u8, index: usize, count: usize) -> Refusal {
-        match number {
+    /// The refusal that is told by its number with an index and a count; there is none where it has not this index or not this count.
+    ///
+    /// ```
+    /// # use interface::Refusal;
+    /// assert_eq!(Refusal::told(3, 4, 0), Some(Refusal::BadSum(4)));
+    /// assert_eq!(Refusal::told(18, 0, 7), Some(Refusal::NoRow { ticks: 7 }));
+    /// for (number, index, count) in [(0, 0, 0), (29, 0, 0), (5, 4, 0), (3, 4, 1), (18, 1, 7)] {
+    ///     assert_eq!(Refusal::told(number, index, count), None);
+    /// }
+    /// ```
+    #[must_use]
+    pub fn told(number: u8, index: usize, count: usize) -> Option<Refusal> {
+        let refusal = match number {
             1 => Refusal::BadLength,
             2 => Refusal::BadCharacter(index),
             3 => Refusal::BadSum(index),
@@ -114,15 +157,15 @@ impl Refusal {
             26 => Refusal::NoPlace,
             27 => Refusal::ManyWords,
             28 => Refusal::ManyLists,
-            number => Refusal::Other(number),
-        }
+            _ => return None,
+        };
+        ((refusal.index(), refusal.ticks()) == (index, count)).then_some(refusal)
     }
 
     /// Its number, by which callers from C and printed frames know it.
     ///
     /// ```
-    /// use fairleadow::Refusal;
-    ///
+    /// # use interface::Refusal;
     /// assert_eq!(Refusal::BadLength.number(), 1);
     /// assert_eq!(Refusal::NoRow { ticks: 3 }.number(), 18);
     /// ```
@@ -164,8 +207,7 @@ impl Refusal {
     /// The frame that it names, a line of a text or a node, from 0.
     ///
     /// ```
-    /// use fairleadow::Refusal;
-    ///
+    /// # use interface::Refusal;
     /// assert_eq!(Refusal::BadSum(4).frame(), Some(4));
     /// assert_eq!(Refusal::BadScheme.frame(), None);
     /// ```
@@ -188,8 +230,7 @@ impl Refusal {
     /// The frame that it names, or 0 where it names none.
     ///
     /// ```
-    /// use fairleadow::Refusal;
-    ///
+    /// # use interface::Refusal;
     /// assert_eq!(Refusal::CutOff(7).index(), 7);
     /// assert_eq!(Refusal::ManyRows.index(), 0);
     /// ```
@@ -201,8 +242,7 @@ impl Refusal {
     /// How many ticks were finished before it, 0 where it stops none.
     ///
     /// ```
-    /// use fairleadow::Refusal;
-    ///
+    /// # use interface::Refusal;
     /// assert_eq!(Refusal::Full { ticks: 12 }.ticks(), 12);
     /// assert_eq!(Refusal::Unfit.ticks(), 0);
     /// ```
@@ -214,27 +254,44 @@ impl Refusal {
         }
     }
 
+    /// The same where so many more ticks were finished before it.
+    ///
+    /// ```
+    /// # use interface::Refusal;
+    /// assert_eq!(Refusal::Full { ticks: 2 }.after(3), Refusal::Full { ticks: 5 });
+    /// assert_eq!(Refusal::Unfit.after(3), Refusal::Unfit);
+    /// ```
+    pub fn after(self, more: usize) -> Refusal {
+        match self {
+            Refusal::Full { ticks } => Refusal::Full { ticks: more + ticks },
+            Refusal::NoRow { ticks } => Refusal::NoRow { ticks: more + ticks },
+            other => other,
+        }
+    }
+
     /// One line on what it is about.
     ///
     /// ```
-    /// use fairleadow::Refusal;
-    ///
+    /// # use interface::Refusal;
     /// assert_eq!(Refusal::NoRow { ticks: 3 }.sense(), "no row for the word");
     /// ```
     #[must_use]
     pub fn sense(self) -> &'static str {
-        self.plain().sense()
-    }
-
-    /// As the trait has it.
-    fn plain(self) -> interface::Refusal {
-        interface::Refusal { number: self.number(), index: self.index(), count: self.ticks() }
+        let place = usize::from(self.number()).checked_sub(1);
+        place.and_then(|place| SENSES.get(place)).copied().unwrap_or("a number that is no refusal")
     }
 }
 
 impl fmt::Display for Refusal {
     fn fmt(&self, f: &mut fmt::Formatter<'_>) -> fmt::Result {
-        self.plain().fmt(f)
+        write!(f, "refusal {}", self.number())?;
+        if let Some(frame) = self.frame() {
+            write!(f, " at frame {frame}")?;
+        }
+        if let Refusal::Full { ticks } | Refusal::NoRow { ticks } = self {
+            write!(f, " after {ticks} ticks")?;
+        }
+        write!(f, ": {}", self.sense())
     }
 }
 
@@ -246,36 +303,72 @@ mod tests {
 
     use super::*;
 
-    /// The names of the proved library, number 1 first.
-    fn names() -> Vec<&'static str> {
+    /// The refusals by their numbers, with an index and a count where they have them.
+    fn all() -> Vec<Refusal> {
+        let told =
+            |number| [(7, 0), (0, 5), (0, 0)].into_iter().find_map(|(i, c)| Refusal::told(number, i, c));
+        (0..=255).filter_map(told).collect()
+    }
+
+    /// The cases of the proved library, number 1 first.
+    fn cases() -> Vec<&'static str> {
         let source = include_str!("../../../crates/text/src/frames/refusals.rt");
         let cases = source.split("pub enum Refusal {").nth(1).and_then(|after| after.split("\n}").next());
         let lines = cases.expect("it declares them").lines().map(str::trim).filter(|line| !line.is_empty());
-        lines.map(|line| line.split([',', '(', ' ']).next().unwrap_or(line)).collect()
+        lines.map(|line| line.trim_end_matches(',')).collect()
     }
 
     #[test]
     fn the_refusals_are_those_of_the_proved_library() {
-        let names = names();
-        assert_eq!(names.len(), 28);
-        for (number, name) in (1..).zip(names) {
-            let refusal = Refusal::told(number, 0, 0);
-            let shown = format!("{refusal:?}");
-            assert_eq!(shown.split(['(', ' ']).next(), Some(name));
-            assert_eq!(refusal.number(), number);
+        let (all, cases) = (all(), cases());
+        assert_eq!((all.len(), cases.len()), (28, 28));
+        for (number, (refusal, case)) in (1..).zip(all.into_iter().zip(cases)) {
+            let shown = format!("{refusal:?}").replace('7', "usize").replace('5', "usize");
+            assert_eq!((shown.as_str(), refusal.number()), (case, number));
         }
     }
 
     #[test]
-    fn a_refusal_says_what_the_trait_says() {
+    fn a_refusal_is_told_by_its_own_number_index_and_count_alone() {
         for number in 0..=255 {
-            let (refusal, plain) =
-                (Refusal::told(number, 7, 0), interface::Refusal { number, index: 7, count: 0 });
-            assert_eq!((refusal.to_string(), refusal.frame()), (plain.to_string(), plain.frame()));
+            let mut told = Vec::new();
+            for (index, count) in [(0, 0), (7, 0), (0, 5), (7, 5)] {
+                if let Some(refusal) = Refusal::told(number, index, count) {
+                    assert_eq!((refusal.number(), refusal.index(), refusal.ticks()), (number, index, count));
+                    told.push((index, count));
+                }
+            }
+            let wanted: &[(usize, usize)] = match number {
+                2..=4 | 6..=9 | 12 | 13 => &[(0, 0), (7, 0)],
+                17 | 18 => &[(0, 0), (0, 5)],
+                1..=28 => &[(0, 0)],
+                _ => &[],
+            };
+            assert_eq!(told, wanted, "{number}");
         }
-        for number in [17, 18] {
-            let plain = interface::Refusal { number, index: 0, count: 5 };
-            assert_eq!(Refusal::told(number, 0, 5).to_string(), plain.to_string());
+    }
+
+    #[test]
+    fn every_refusal_has_a_sense_of_its_own() {
+        let mut senses: Vec<_> = all().into_iter().map(Refusal::sense).collect();
+        senses.sort_unstable();
+        senses.dedup();
+        assert_eq!(senses.len(), 28);
+        for number in [0, 29, 255] {
+            assert_eq!(Refusal::Other(number).sense(), "a number that is no refusal");
+        }
+    }
+
+    #[test]
+    fn a_refusal_says_its_number_and_what_it_carries() {
+        for refusal in all() {
+            let number = refusal.number();
+            let said = match number {
+                2..=4 | 6..=9 | 12 | 13 => format!("refusal {number} at frame 7: {}", refusal.sense()),
+                17 | 18 => format!("refusal {number} after 5 ticks: {}", refusal.sense()),
+                _ => format!("refusal {number}: {}", refusal.sense()),
+            };
+            assert_eq!(refusal.to_string(), said);
         }
     }
 }
