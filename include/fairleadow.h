@@ -17,26 +17,26 @@
  * `./archive` makes is code for x86-64 and calls memcpy and memset and nothing else; there a call takes at most so many bytes of stack,
  * its return address and what it uses below its stack with them; memcpy and memset count as functions without a frame, and what a
  * dynamic linker takes to find them at their first call is not counted (docs/MEASUREMENTS.md has the deepest that was seen beside it):
- *    read_chart      3,472   tick           13,488   prepare        13,384
- *    write_chart       928   rebind         13,400   live_run          480
- *    translate       6,912   spin           13,680   live_tick         416
- *    places          6,784   cause          13,496   live_rebind       296
- *    check_image    13,352   list_rows      13,416   live_spin         576
- *    fresh             136   minimise       14,728   meaning           136
- *    run            13,504   little_chart      752   dry_run        20,160
- *    priced_run     13,648   count_fillings 18,240   version           136
+ *    read_chart      3,472   tick           13,512   prepare        13,432
+ *    write_chart       928   rebind         13,464   live_run          568
+ *    translate       6,912   spin           13,624   live_tick         488
+ *    places          6,784   cause          13,592   live_rebind       328
+ *    check_image    13,352   list_rows      13,448   live_spin         648
+ *    fresh             136   minimise       14,840   meaning           136
+ *    run            13,544   little_chart      752   dry_run        14,200
+ *    priced_run     13,704   count_fillings 18,056   version           136
  *    check_table       264   sum               136
  * On a controller at 16 MHz the calls of a machine's loop take no longer than this, on a Cortex-M3, on a Cortex-M0 whose products take one
  * cycle, and where they take 32; beside each bound the longest that was found (controller/README.md says what a bound means):
  *    at most and found, in milliseconds
- *    prepare                                114.74    88.96   222.61   171.61   261.52   190.61
- *    live_tick                                4.71     4.32    10.06     9.22    14.14    13.26
- *    live_tick, on any bytes                  5.89     5.42    12.55    11.27    17.69    16.36
- *    live_run of 64 words                   287.44   243.16   621.78   543.04   878.29   797.74
- *    live_run of 64 words, on any bytes     362.79   322.11   781.21   694.88  1105.42  1016.91
- *    live_rebind                              0.19     0.14     0.30     0.25     0.37     0.31
- *    live_spin                                4.83     4.38    10.40     9.33    14.48    13.37
- *    live_spin, on any bytes                  6.00     5.48    12.89    11.38    18.03    16.47
+ *    prepare                                112.49    88.96   219.40   171.76   252.37   190.61
+ *    live_tick                                3.58     3.23     7.12     6.88    11.20    10.91
+ *    live_tick, on any bytes                  4.46     4.04     8.92     8.46    14.05    13.54
+ *    live_run of 64 words                   214.91   173.32   433.55   393.95   689.68   648.28
+ *    live_run of 64 words, on any bytes     271.49   233.78   548.28   511.44   872.61   832.96
+ *    live_rebind                              0.19     0.14     0.31     0.25     0.37     0.31
+ *    live_spin                                3.69     3.29     7.46     6.99    11.54    11.03
+ *    live_spin, on any bytes                  4.58     4.10     9.26     8.57    14.40    13.65
  */
 #ifndef FAIRLEADOW_H
 #define FAIRLEADOW_H
@@ -49,7 +49,7 @@
 #define FAIRLEADOW_VERSION 3
 
 /* The release that this header is of, whose middle number is the version (CHANGELOG.md). */
-#define FAIRLEADOW_RELEASE "0.3.1"
+#define FAIRLEADOW_RELEASE "0.3.2"
 
 #ifdef __cplusplus
 extern "C" {
