@@ -28,8 +28,8 @@ pub record Fits (i : Image) (s : State) : Type 0 where
   pub serves : (h : ℕ) → 2 ≤ h → h < 17 → is_badly_served i s h ≡ false
 
 -- a chain of tests of which none holds
-none_of : (a b c d e : Bool) → (a || b || c || d || e) ≡ false → (a ≡ false) × (b ≡ false) × (c ≡ false) × (d ≡ false) × (e ≡ false)
-none_of a b c d e p = grind (arith, common_steps)
+none-of : (a b c d e : Bool) → (a || b || c || d || e) ≡ false → (a ≡ false) × (b ≡ false) × (c ≡ false) × (d ≡ false) × (e ≡ false)
+none-of a b c d e p = grind (arith, common_steps)
 
 module _ (i : Image) (s : State) where
   -- place k may not carry the one above it
@@ -53,7 +53,7 @@ module _ (i : Image) (s : State) where
   unfolding is_unfit
   unfits w e =
       let none =
-      none_of (has_bad_depth s) (any (is_unfit_place i s) 0 s.depth) (has_bad_bottom i s)
+      none-of (has_bad_depth s) (any (is_unfit_place i s) 0 s.depth) (has_bad_bottom i s)
       (any (is_filled_place s) s.depth (32 - s.depth)) (any (is_badly_served i s) 2 15) e in
       let deep = deep-told s none.0 in
       record {

@@ -1,2 +1,1 @@
-pub mod AboveCases
 pub mod ServedCases

@@ -33,8 +33,8 @@ fn is_astray_at_bottom(table: &Table, state: &State, owner: u8, l: u8) -> bool
     true
 }
 
-// Whether some place up to the depth does not fit, or the bottom does not.
-// Each label is read once, from the bottom up, with the number that the one below calls.
+/// Whether some place up to the depth does not fit, or the bottom does not.
+// each label is read once, from the bottom up, with the number that the one below calls
 pub fn any_unfit(table: &Table, state: &State) -> bool
     requires some { 1 ≤ (view state.now).depth }
     requires most { (view state.now).depth ≤ PLACES }

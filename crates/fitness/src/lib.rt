@@ -1,16 +1,17 @@
 //! Whether a state fits the image that a prepared table holds: refusal 15 (`fitting`).
-//! Here the numbers of one place are tried; `fit_places` tries the open places from the bottom up.
+//! Here the numbers of one place are tried; `fit_places` tries the open places from the bottom up, `filled` those above the depth.
 #![tactic(auto)]
 
-ghost use Rattle.std.specs.Prelude.{◌≡◌, ◌&&◌, ◌||◌, not, ◌==◌};
+ghost use Rattle.std.specs.Prelude.{◌≡◌, ◌≤◌, ◌&&◌, ◌||◌, not, ◌==◌};
 ghost use Rattle.fitness.specs.inner.FitnessContracts.{is_astray, is_own, is_miscalled, is_misserved};
 
-pub mod fit_places;
+mod filled;
+mod fit_places;
 pub mod fitting;
 
 use image::layout::{FUNCTION_CALL, OPERATION_CALL};
 
-// Whether a label of that kind may not be kept under another: only a call may.
+/// Whether a label of that tick kind may not be kept under another: only a call may.
 pub fn calls_none(kind: u8) -> bool
     ensures { result ≡ not (kind == OPERATION_CALL || kind == FUNCTION_CALL) }
 {
@@ -20,7 +21,7 @@ pub fn calls_none(kind: u8) -> bool
     }
 }
 
-// Whether label l may not stand where one of that scheme is open: it is of another scheme, and no return.
+/// Whether label l may not stand where one of that scheme is open: it is of another scheme, and no return.
 pub fn is_astray(owner: u8, scheme: u8, l: u8) -> bool
     ensures { result ≡ is_astray owner scheme l }
 {
@@ -30,7 +31,7 @@ pub fn is_astray(owner: u8, scheme: u8, l: u8) -> bool
     l != 1
 }
 
-// Whether number and server of a place are both that scheme.
+/// Whether number and server of a place are both that scheme.
 pub fn is_own(number: u8, server: u8, scheme: u8) -> bool
     ensures { result ≡ is_own number server scheme }
 {
@@ -40,7 +41,7 @@ pub fn is_own(number: u8, server: u8, scheme: u8) -> bool
     server == scheme
 }
 
-// Whether a bottom of that owner is of scheme 1, by its own number.
+/// Whether a bottom of that owner is of scheme 1, by its own number.
 pub fn is_first(owner: u8, number: u8, server: u8) -> bool
     ensures { result ≡ (owner == 1 && is_own number server 1) }
 {
@@ -50,7 +51,7 @@ pub fn is_first(owner: u8, number: u8, server: u8) -> bool
     is_own(number, server, 1)
 }
 
-// Whether the number or the server of a place above a call is wrong: the number is not the one called, or the server is not of 2 to H.
+/// Whether the number or the server of a place above a call is wrong: the number is not the one called, or the server is not of 2 to H.
 pub fn is_miscalled(schemes: u8, number: u8, called: u8, server: u8) -> bool
     ensures { result ≡ is_miscalled schemes number called server }
 {
@@ -63,15 +64,20 @@ pub fn is_miscalled(schemes: u8, number: u8, called: u8, server: u8) -> bool
     schemes < server
 }
 
-// Whether number h may not be served by scheme k, with that many schemes and that handler.
+/// Whether number h of 2 up may not be served by scheme k, with that many schemes and that handler.
+// That of its own number always may, and most often does, so it is looked for first.
 pub fn is_misserved(schemes: u8, handler: u8, h: u8, k: u8) -> bool
+    requires { 2 ≤ h }
     ensures { result ≡ is_misserved schemes handler h k }
 {
+    if k == h {
+        return false;
+    }
     if schemes < h {
-        return k != h;
+        return true;
     }
     if h == handler {
-        return k != h;
+        return true;
     }
     if k < 2 {
         return true;

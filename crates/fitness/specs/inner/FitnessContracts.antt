@@ -1,5 +1,5 @@
 -- What the tests of a state's fitness promise.
-use Rattle.std.specs.Prelude.{ℕ, Bool, ◌&&◌, ◌||◌, not, if◌then◌else◌, nat_le, ◌==◌}
+use Rattle.std.specs.Prelude.{ℕ, List, slice_index, Bool, ◌&&◌, ◌||◌, not, if◌then◌else◌, nat_le, ◌==◌}
 
 -- label l of that owner may not stand where one of that scheme is open
 abbrev pub is_astray : ℕ → ℕ → ℕ → Bool
@@ -22,3 +22,7 @@ is_astray_at_bottom handler owner l number server =
 -- with H schemes and handler g, scheme k may not serve number h
 abbrev pub is_misserved : ℕ → ℕ → ℕ → ℕ → Bool
 is_misserved H g h k = not (if nat_le h H && not (h == g) then nat_le 2 k && nat_le k H else k == h)
+
+-- byte k is not 0
+abbrev pub is_set : List ℕ → ℕ → Bool
+is_set b k = not (slice_index b k == 0)
