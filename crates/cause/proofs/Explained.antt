@@ -28,11 +28,11 @@ no_label l x p q = absurd (let z : ◌≡◌ {A = ℕ} 0 1 = cc in omega arith)
 cause-same : (c d : Cause) → because c ≡ because d → c ≡ d
 cause-same c d e = cc
 
-number_same : (m n : ℕ) → unexplained m ≡ unexplained n → m ≡ n
-number_same m n e = cc
+number-same : (m n : ℕ) → unexplained m ≡ unexplained n → m ≡ n
+number-same m n e = cc
 
-label_same : (l m : ℕ) → leaves_label l ≡ leaves_label m → l ≡ m
-label_same l m e = cc
+label-same : (l m : ℕ) → leaves_label l ≡ leaves_label m → l ≡ m
+label-same l m e = cc
 
 -- ---- a cause that is told, taken apart
 pub record TakenApart (i : Image) (s : State) (w : ℕ) (c : Cause) : Type 0 where
@@ -98,7 +98,7 @@ module _ (i : Image) (sound : SoundImage i) (s : State) (f : Fits i s) (w : ℕ)
   goes = at (leaves i sound s f)
     where
       at : Leaves i s → Goes i s g.from
-      at (by l q o) = subst (Goes i s) (label_same l g.from (sym q ∙ g.left)) o
+      at (by l q o) = subst (Goes i s) (label-same l g.from (sym q ∙ g.left)) o
       at (stays q o) = no_label g.from (leaving i s) q g.left
 
   module _ (v : ℕ) (a : bit_and v c.mask ≡ bit_and w c.mask) where
@@ -106,8 +106,8 @@ module _ (i : Image) (sound : SoundImage i) (s : State) (f : Fits i s) (w : ℕ)
     chosen-too = mask-decides i sound g.from w b c.row g.one g.chosen v
         (subst (λ (m : ℕ). bit_and v m ≡ bit_and w m) g.masked a)
 
-    row_same : taken_row i s v ≡ row c.row (nth_row i c.row)
-    row_same = taken-is v ∙ chosen-too ∙ ap (row c.row) (sym row-is)
+    row-same : taken_row i s v ≡ row c.row (nth_row i c.row)
+    row-same = taken-is v ∙ chosen-too ∙ ap (row c.row) (sym row-is)
 
     tick-same : tick i s v ≡ tick i s w
     tick-same = goes.ticks v ∙ ap (λ (x : Choice). goes.go (lead_of x)) (chosen-too ∙ sym g.chosen) ∙ sym (goes.ticks w)
@@ -132,9 +132,9 @@ module _ (i : Image) (sound : SoundImage i) (s : State) (f : Fits i s) (w : ℕ)
   refusals : RefusedCause i s w
   refusals = go (leaves i sound s f)
     where
-      with_row : (l : ℕ) → leaving i s ≡ leaves_label l → Goes i s l → (k : ℕ) (r : Row)
+      with-row : (l : ℕ) → leaving i s ≡ leaves_label l → Goes i s l → (k : ℕ) (r : Row)
           → choice i s.bits l w ≡ row k r → RefusedCause i s w
-      with_row l q o k r p =
+      with-row l q o k r p =
           let x : Cause = record {
             row = k;
             mask = bit_or r.care (mask_against_all l w (called_bit i s.bits l) i.rows);
@@ -157,19 +157,19 @@ module _ (i : Image) (sound : SoundImage i) (s : State) (f : Fits i s) (w : ℕ)
           let told : cause_of i s w ≡ unexplained 18 = cause-unmatched i s w l q p in
           let stop : tick i s w ≡ stopped 18 = o.ticks w ∙ ap (λ (y : Choice). o.go (lead_of y)) p ∙ o.stops in
           let never : cause_of i s w ≡ unexplained 21
-          → ⊥ = λ z. let y : ◌≡◌ {A = ℕ} 18 21 = number_same 18 21 (sym told ∙ z) in omega arith in
+          → ⊥ = λ z. let y : ◌≡◌ {A = ℕ} 18 21 = number-same 18 21 (sym told ∙ z) in omega arith in
           record {
             rowless = ((λ z. absurd (never z)), (λ y. no_label l (leaving i s) (rowless-stays i sound s f y) q));
             unread = λ z v. absurd (never z);
             unmatched = ((λ z. stop), (λ z. told));
-            only = λ n z. inr (sym (number_same 18 n (sym told ∙ z)));
+            only = λ n z. inr (sym (number-same 18 n (sym told ∙ z)));
           }
 
       go : Leaves i s → RefusedCause i s w
       go (by l q o) = at (choice i s.bits l w) refl
         where
           at : (x : Choice) → choice i s.bits l w ≡ x → RefusedCause i s w
-          at (row k r) p = with_row l q o k r p
+          at (row k r) p = with-row l q o k r p
           at no_choice p = without l q o p
       go (stays q o) =
           let told : cause_of i s w ≡ unexplained 21 = cause-none i s w q in
@@ -177,10 +177,10 @@ module _ (i : Image) (sound : SoundImage i) (s : State) (f : Fits i s) (w : ℕ)
             rowless = ((λ z. o.rowless), (λ z. told));
             unread = λ z v. o.same v w;
             unmatched = (
-              (λ z. absurd (let y : ◌≡◌ {A = ℕ} 21 18 = number_same 21 18 (sym told ∙ z) in omega arith)),
+              (λ z. absurd (let y : ◌≡◌ {A = ℕ} 21 18 = number-same 21 18 (sym told ∙ z) in omega arith)),
               (λ z. absurd (o.never w z)),
             );
-            only = λ n z. inl (sym (number_same 21 n (sym told ∙ z)));
+            only = λ n z. inl (sym (number-same 21 n (sym told ∙ z)));
           }
 
 -- ---- the laws
@@ -193,7 +193,7 @@ module _ {text : List ℕ} {s : State} (y : Fitting text s) where
 
 pub same-row : SameRow
 unfolding SameRow
-same-row text s w c x v a = row_same (decoded_image (contents text)) (image x.fitting) s (state x.fitting) w c x.because v a
+same-row text s w c x v a = row-same (decoded_image (contents text)) (image x.fitting) s (state x.fitting) w c x.because v a
 
 pub same-tick : SameTick
 unfolding SameTick
@@ -201,7 +201,7 @@ same-tick text s w c x v a = tick-same (decoded_image (contents text)) (image x.
 
 pub row-taken : RowTaken
 unfolding RowTaken
-row-taken text s w c x = row_same (decoded_image (contents text)) (image x.fitting) s (state x.fitting) w c x.because w refl
+row-taken text s w c x = row-same (decoded_image (contents text)) (image x.fitting) s (state x.fitting) w c x.because w refl
 
 pub row-leads : RowLeads
 unfolding RowLeads

@@ -71,8 +71,8 @@ module _ (i : Image) (sound : SoundImage i) (s : State) (f : Fits i s) where
   top-sort : Sort i sound (top_of s)
   top-sort = sort i sound (top_of s) top-low
 
-  under_low : 1 < s.depth → place_at s (s.depth - 2) < length i.labels
-  under_low h = f.labels (s.depth - 2) (omega arith)
+  under-low : 1 < s.depth → place_at s (s.depth - 2) < length i.labels
+  under-low h = f.labels (s.depth - 2) (omega arith)
 
   -- ---- a plain tick: no row of its label asks for a bit, so that the result written first changes nothing
   bit-free : (b : Results) → x.kind ≡ 0 → (w : ℕ) → choice i b (top_of s) w ≡ choice i s.bits (top_of s) w
@@ -108,10 +108,10 @@ module _ (i : Image) (sound : SoundImage i) (s : State) (f : Fits i s) where
 
   back : x.kind ≡ 3 → nat_le s.depth 1 ≡ false → Goes i s (place_at s (s.depth - 2))
   back e t = let two : 1 < s.depth = leb-false s.depth 1 t in record {
-    low = kind-high i sound (place_at s (s.depth - 2)) (under_low two) (call-kind i sound (place_at s (s.depth - 2))
+    low = kind-high i sound (place_at s (s.depth - 2)) (under-low two) (call-kind i sound (place_at s (s.depth - 2))
         (carry-told i sound _ (number_at s (s.depth - 2 + 1)) (server_at s (s.depth - 2 + 1)) (place_at s (s.depth - 2 + 1))
         (f.carries (s.depth - 2) (omega arith))).0).1;
-    high = under_low two;
+    high = under-low two;
     go = moved_tick 0 3 (popped_state s s.bits) (s.depth - 2);
     ticks = λ w. returns e w ∙ ap (popped_tick i s w 0 s.bits) t;
     arrives = λ u.

@@ -109,8 +109,8 @@ has-against l w b j (r ∷ rs) k h o = go k h o (has-against l w b j rs)
 module _ (i : Image) (sound : SoundImage i) (l w b : ℕ) where
   module _ (v m : ℕ) (e : bit_and v m ≡ bit_and w m) (part : (j : ℕ) → bit_at (mask_against_all l w b i.rows) j ≡ 1 → bit_at m j ≡ 1) where
     -- what w does not match, v does not match
-    kept_out : (k : ℕ) → k < length i.rows → is_candidate l w b (nth_row i k) ≡ false → is_candidate l v b (nth_row i k) ≡ false
-    kept_out k h q = go (cases (r.from == l)) (cases (r.bit == 2 || r.bit == b)) (cases (is_agreeing w r.care r.values))
+    kept-out : (k : ℕ) → k < length i.rows → is_candidate l w b (nth_row i k) ≡ false → is_candidate l v b (nth_row i k) ≡ false
+    kept-out k h q = go (cases (r.from == l)) (cases (r.bit == 2 || r.bit == b)) (cases (is_agreeing w r.care r.values))
       where
         r : Row
         r = nth_row i k
@@ -138,7 +138,7 @@ module _ (i : Image) (sound : SoundImage i) (l w b : ℕ) where
             and-no (r.from == l) (is_match v b r) (ap (λ (t : Bool). t && (r.bit == 2 || r.bit == b)) no-match)
 
     same-best : (k : ℕ) (r : Row) → ((j : ℕ) → bit_at r.care j ≡ 1 → bit_at m j ≡ 1) → Best l w b i.rows k r → Best l v b i.rows k r
-    same-best k r cares best = grind (arith, common_steps, cases, no_both, agree-part, kept_out)
+    same-best k r cares best = grind (arith, common_steps, cases, no_both, agree-part, kept-out)
 
   -- the mask of a cause decides the row
   pub mask-decides : (k : ℕ) (r : Row) → best_row l w b 0 i.rows ≡ row k r → (v : ℕ)

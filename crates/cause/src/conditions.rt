@@ -54,7 +54,8 @@ fn against_row(table: &[u8], f: usize, word: u16, bit: u8) -> u16
     with_bit(0, lowest_differing(word, care, values))
 }
 
-// Those of the rows in the frames from first up to end, joined, the last row first.
+/// The conditions that keep a word and a bit from the rows in the frames from `first` up to `end`, one of each such row, as a mask.
+// joined from the last row on
 pub fn against_rows(table: &[u8], first: usize, end: usize, word: u16, bit: u8) -> u16
     requires { RowsAsked table.now first end }
     ensures { result ≡ mask_against_from table.now word bit first (end - first) }

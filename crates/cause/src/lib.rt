@@ -6,11 +6,12 @@ ghost use Rattle.cause.specs.Laws.{SameRow, SameTick, RowTaken, RowLeads, CareNe
 
 mod conditions;
 pub mod explaining;
-pub mod table_causes;
+mod table_causes;
 
 pub use conditions::against_rows;
 
-// The row's number among the image's rows, a mask of conditions, and the result bit of the number called, 2 for none.
+/// Which row of the image a tick takes, counted from 0; the conditions that decide it, bit i for condition i; and the result bit of the
+/// number called, 2 where none decides.
 #[derive(Drop)]
 pub struct Cause {
     pub row: u16,

@@ -76,7 +76,8 @@ fn cause_at(table: Table, state: &State, l: u8, word: u16) -> Result<Cause, Refu
     })
 }
 
-// A cause on a prepared table: 15, then 21, then 18.
+/// What makes a tick go where it goes, on a prepared table: an unfit state (15), a tick that takes no row (21), a word that no row
+/// matches (18).
 pub fn cause_table(table: &Table, state: State, word: u16) -> Result<Cause, Refusal>
     requires { Ordered table.now.bytes.now }
     ensures { GivesCause (table_cause table.now.bytes.now (view state) word) result }

@@ -12,9 +12,9 @@ use Rattle.fillings.specs.Promises.{Words, NumberedList, AllLists}
 pub lists-suc : (n k : ℕ) → lists (suc n) k ≡ 2 ^ (n * k + k)
 lists-suc n k = ap (λ (m : ℕ). 2 ^ m) (suc-mul n k)
 
-numbered_more : (n k w : ℕ) (ws : List ℕ) → w < 2 ^ k → NumberedList n k ws → NumberedList (suc n) k (w ∷ ws)
+numbered-more : (n k w : ℕ) (ws : List ℕ) → w < 2 ^ k → NumberedList n k ws → NumberedList (suc n) k (w ∷ ws)
 unfolding words_of
-numbered_more n k w ws l r =
+numbered-more n k w ws l r =
     let x : ℕ = r.number * 2 ^ k + w in
     record {
       number = x;
@@ -32,7 +32,7 @@ unfolding words_of
 numbered zero k [] e a = grind (arith, common_steps, low, zero-mul)
 numbered zero k (w ∷ ws) e a = grind (arith, common_steps)
 numbered (suc n) k [] e a = grind (arith, common_steps)
-numbered (suc n) k (w ∷ ws) e a = grind (arith, common_steps, numbered n k ws (omega arith) a.1, numbered_more)
+numbered (suc n) k (w ∷ ws) e a = grind (arith, common_steps, numbered n k ws (omega arith) a.1, numbered-more)
 
 each-words : (n k x : ℕ) → Words n k (words_of n k x)
 unfolding words_of

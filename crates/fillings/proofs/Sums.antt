@@ -76,10 +76,10 @@ module _ (f : ℕ → ℕ) (e : (x : ℕ) → EndsBy (f x)) where
   one-each : (x : ℕ) → here x 0 + here x 17 + here x 18 ≡ 1
   one-each x = grind (arith, common_steps)
 
-  all_three : (i n : ℕ) → count (λ x. f x == 0) i n + count (λ x. f x == 17) i n + count (λ x. f x == 18) i n ≡ n
+  all-three : (i n : ℕ) → count (λ x. f x == 0) i n + count (λ x. f x == 17) i n + count (λ x. f x == 18) i n ≡ n
   unfolding count
-  all_three i zero = refl
-  all_three i (suc n) = omega (arith, one-each i, all_three (suc i) n)
+  all-three i zero = refl
+  all-three i (suc n) = omega (arith, one-each i, all-three (suc i) n)
 
 pub counted-fine : (i : Image) (size n k : ℕ) (v : Verdict) → (fillings_on i size n k v).reply ≡ success 0 → v ≡ fine
 counted-fine i size n k fine e = refl
@@ -91,4 +91,4 @@ sums-up t size n k e =
     let i : Image = decoded_image (contents t) in
     ap (λ (v : Verdict). let r = fillings_on i size n k v in r.ended + r.full + r.unmatched)
     (counted-fine i size n k (count_verdict t size n k) e)
-    ∙ all_three (λ x. number_met i (fresh size) (words_of n k x)) (λ x. ticks-end i (words_of n k x) (fresh size)) 0 (lists n k)
+    ∙ all-three (λ x. number_met i (fresh size) (words_of n k x)) (λ x. ticks-end i (words_of n k x) (fresh size)) 0 (lists n k)

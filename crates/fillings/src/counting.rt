@@ -7,13 +7,13 @@ ghost use Rattle.fillings.specs.Counts.{has_too_many_lists, count_fillings};
 ghost use Rattle.fillings.specs.fill_counts.inner.TallyContracts.{tally_of};
 ghost use Rattle.fillings.specs.counting.CountingContracts.{GivesFillings};
 
-use crate::fill_counts::{Tally, tally_one};
+use crate::fill_counts::{Tally, all_meet, tally_one};
 use crate::fill_lists::tally_all;
 use state::{State, bad_size};
 use tables::Table;
-use tables::preparing::prepare_table;
+use tables::sources::{Source, Text};
 use text::frames::Refusal;
-use text::frames::sizes::{FRAME, LINE, TABLE};
+use text::frames::sizes::TABLE;
 
 // 28: each bound by itself, so that no product wraps.
 fn too_many(n: usize, k: usize) -> bool
@@ -39,7 +39,9 @@ fn tally(table: &Table, size: usize, n: usize, k: usize) -> Tally
     if k == 0 {
         return tally_one(table, state, n);
     }
-    tally_all(table, &state, n, k)
+    let mut tally = all_meet(None, 0);
+    tally_all(table, &state, n, k, 1, &mut tally);
+    tally
 }
 
 /// Of all lists of n words in which no condition but the first k is set, each run from a fresh state of `size` places, 1 to 32: how many run to
@@ -49,15 +51,13 @@ fn tally(table: &Table, size: usize, n: usize, k: usize) -> Tally
 pub fn count_fillings(image: &[u8], size: usize, n: usize, k: usize) -> Result<Tally, Refusal>
     ensures { GivesFillings (count_fillings image.now size n k) result }
 {
-    let mut table = [0u8; TABLE];
-    prepare_table(image, &mut table)?;
+    let mut room = [0u8; TABLE];
+    let table = Text::table(image, &mut room)?;
     if bad_size(size) {
         return Err(Refusal::BadSize);
     }
     if too_many(n, k) {
         return Err(Refusal::ManyLists);
     }
-    let m = FRAME * (image.len() / LINE);
-    let prepared = Table::of(&table[..m]);
-    Ok(tally(&prepared, size, n, k))
+    Ok(tally(&table, size, n, k))
 }

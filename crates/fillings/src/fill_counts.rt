@@ -1,14 +1,18 @@
-// How runs end, in tallies: of lists that all end alike, of two tallies together, and of one list of words on a prepared table.
-ghost use Rattle.std.specs.Prelude.{◌≡◌, ◌^◌, ◌≤◌, false};
+// How runs end, in tallies: lists that all end alike, the last words of lists, and one list of words that all are 0.
+ghost use Rattle.std.specs.Prelude.{◌≡◌, ◌*◌, ◌^◌, ◌≤◌, false};
+ghost use Rattle.words.specs.lists.Numbers.{count};
 ghost use Rattle.tables.specs.Table.{table_image};
+ghost use Rattle.rows.specs.inner.Search.{Deciding};
 ghost use Rattle.state.specs.Kept.{view};
 ghost use Rattle.fitness.specs.Fitness.{has_bad_depth};
-ghost use Rattle.fillings.specs.fill_counts.inner.TallyContracts.{tally_of, number_met_by, all_meet, tally_sum, FewLists};
+ghost use Rattle.fillings.specs.fill_counts.inner.TallyContracts.{tally_of, number_met_by, all_meet, tally_sum, tally_times, last_tally, FewLists, FewMore, is_taking};
 
+use rows::row_search::takes_row;
 use runs::tick_word;
 use state::State;
 use tables::Table;
 use ticks::Stop;
+use ticks::leaving::Leaving;
 
 /// Of some lists: how many run to their end, meet 17 and meet 18.
 #[derive(Drop)]
@@ -42,16 +46,49 @@ pub fn all_meet(stop: Option<Stop>, lists: u32) -> Tally
     }
 }
 
-/// Two tallies together.
-pub fn add(a: Tally, b: Tally) -> Tally
-    requires { FewLists (tally_sum a b) }
-    ensures { result ≡ tally_sum a b }
+/// Adds lists to a tally, so many, all of which are stopped so, or run to their end.
+pub fn add_lists(tally: &mut Tally, stop: Option<Stop>, lists: u32)
+    requires { FewLists (tally_sum tally.old (all_meet (number_met_by stop) lists)) }
+    ensures { tally.new ≡ tally_sum tally.old (all_meet (number_met_by stop) lists) }
 {
-    Tally {
-        ended: a.ended + b.ended,
-        full: a.full + b.full,
-        unmatched: a.unmatched + b.unmatched,
+    match stop {
+        None => tally.ended += lists,
+        Some(Stop::Full) => tally.full += lists,
+        Some(Stop::NoRow) => tally.unmatched += lists,
     }
+}
+
+// Of the words below a number, how many match a row of that label.
+fn count_matching(table: &Table, leaving: Leaving, words: u32) -> u32
+    requires low { 2 ≤ leaving.label }
+    requires high { leaving.label ≤ table.now.last }
+    requires deciding { Deciding table.now.bytes.now leaving.label leaving.bit }
+    requires few { words ≤ 65536 }
+    ensures { result ≡ count (is_taking table.now.bytes.now leaving) 0 words }
+{
+    let mut matching: u32 = 0;
+    let mut word: u32 = 0;
+    while word < words {
+        matching += takes_row(table, leaving.label as usize, word as u16, leaving.bit) as u32;
+        word += 1;
+    }
+    matching
+}
+
+/// Adds the lists that end with a last word, `each` for each of the 2 to the power k words. No tick is made, since a list runs to its end
+/// just where the label has a row that matches, and else meets 18.
+pub fn tally_last(table: &Table, leaving: Leaving, k: usize, each: u32, tally: &mut Tally)
+    requires low { 2 ≤ leaving.label }
+    requires high { leaving.label ≤ table.now.last }
+    requires deciding { Deciding table.now.bytes.now leaving.label leaving.bit }
+    requires short { k ≤ 16 }
+    requires few { FewMore tally.old (each * 2 ^ k) }
+    ensures { tally.new ≡ tally_sum tally.old (tally_times each (last_tally table.now.bytes.now leaving k)) }
+{
+    let words = power(k);
+    let matching = count_matching(table, leaving, words);
+    tally.ended += each * matching;
+    tally.unmatched += each * (words - matching);
 }
 
 /// Words that all are 0: one list, tick by tick.

@@ -4,8 +4,8 @@
 #![tactic(auto)]
 
 pub mod counting;
-pub mod fill_counts;
-pub mod fill_lists;
+mod fill_counts;
+mod fill_lists;
 
 ghost use Rattle.fillings.specs.Promises.{AllLists, SumsUp};
 

@@ -22,10 +22,10 @@ use Rattle.minimising.specs.joining.inner.JoiningContracts.{ReadableTable}
 use Rattle.minimising.specs.Entry.{minimise_verdict, minimise}
 
 module _ (t : List ℕ) where
-  pub image-refused : (old : List ℕ) (a : Answer) → reply a ≡ verdict_reply (image_verdict t) 0 → (r : Refusal) → a ≡ Err r
+  pub image-refused : (old : List ℕ) (r : Refusal) → reply (Err r) ≡ verdict_reply (image_verdict t) 0
       → GivesBuffer (minimise t old) (Err r) old
   unfolding minimise minimise_verdict
-  image-refused old a gives r e = grind (arith, common_steps)
+  image-refused old r gives = grind (arith, common_steps)
 
   module _ (b : List ℕ) (made : MadeTable t b) where
     same : decoded_image b ≡ decoded_image (contents t)
@@ -33,7 +33,6 @@ module _ (t : List ℕ) where
 
     pub made-prepared : ReadableTable b
     made-prepared = record {
-      whole = made.whole;
       table = made-table t b made;
       holds = made.holds ∙ sym same;
       even = λ e. made-even t b made (sym (made-uneven t b made) ∙ e);

@@ -7,6 +7,7 @@ use crate::group_numbers::{count_kept, number_groups};
 use crate::group_text::put_pieces;
 use image::layout::{LAST_LABEL, SCHEME_COUNT};
 use image::{byte, rows_from};
+use state::State;
 use text::frames::Refusal;
 use text::frames::sizes::*;
 
@@ -17,7 +18,7 @@ pub fn write_groups(table: &[u8], classes: &[u8; LABELS], out: &mut [u8]) -> Res
 {
     let schemes = byte(table, 0, SCHEME_COUNT) as usize;
     let last = byte(table, 0, LAST_LABEL) as usize;
-    let mut numbers = [0u8; LABELS];
+    let mut numbers = [0u8; State::LABELS];
     let groups = number_groups(classes, &mut numbers, last + 1);
     let rows = count_kept(table, classes, rows_from(table), table.len() / FRAME);
     let need = LINE * (1 + schemes + groups + rows);

@@ -10,21 +10,21 @@ ghost use Rattle.minimising.specs.joining.inner.JoiningContracts.{ReadableTable}
 use crate::group_image::write_groups;
 use covering::is_uneven;
 use grouping::refining::group;
+use state::State;
 use tables::Table;
 use text::frames::Refusal;
-use text::frames::sizes::LABELS;
 
 /// Refusals 23 and 16, else the smaller image is written; counts characters.
-pub fn minimise_table(table: &[u8], out: &mut [u8]) -> Result<usize, Refusal>
-    requires { ReadableTable table.now }
-    ensures { GivesBuffer (smaller_outcome table.now
-        (when UNEVEN (is_uneven (decoded_image table.now))) out.old)
+pub fn minimise_table(table: Table, out: &mut [u8]) -> Result<usize, Refusal>
+    requires { ReadableTable table.bytes.now }
+    ensures { GivesBuffer (smaller_outcome table.entry.bytes.now
+        (when UNEVEN (is_uneven (decoded_image table.entry.bytes.now))) out.old)
         result out.new }
 {
-    if is_uneven(table) {
+    if is_uneven(table.bytes) {
         return Err(Refusal::Uneven);
     }
-    let mut classes = [0u8; LABELS];
-    group(Table::of(table), &mut classes);
-    write_groups(table, &classes, out)
+    let mut classes = [0u8; State::LABELS];
+    group(table, &mut classes);
+    write_groups(table.bytes, &classes, out)
 }

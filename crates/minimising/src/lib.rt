@@ -15,18 +15,17 @@ mod group_text;
 mod joining;
 
 use crate::joining::minimise_table;
-use tables::preparing::prepare_table;
+use tables::sources::{Source, Text};
 use text::frames::Refusal;
-use text::frames::sizes::*;
+use text::frames::sizes::TABLE;
 
 /// What the image check tries, then 23 and 16; counts characters. A refusal leaves the buffer as it was.
 pub fn minimise(image: &[u8], out: &mut [u8]) -> Result<usize, Refusal>
     ensures { GivesBuffer (minimise image.now out.old) result out.new }
 {
-    let mut table = [0u8; TABLE];
-    prepare_table(image, &mut table)?;
-    let n = FRAME * (image.len() / LINE);
-    minimise_table(&table[..n], out)
+    let mut room = [0u8; TABLE];
+    let table = Text::table(image, &mut room)?;
+    minimise_table(table, out)
 }
 
 /// Groups are numbered in order of their lowest members, and entries and rows lead to the new labels.

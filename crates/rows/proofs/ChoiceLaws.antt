@@ -73,14 +73,14 @@ leads-moved n no_choice = refl
 leads-moved n (row k r) = refl
 
 -- ---- rows that no bit decides
-same_test : (l w p q : ℕ) (r : Row) → (r.from ≡ l → r.bit ≡ 2) → is_candidate l w p r ≡ is_candidate l w q r
-same_test l w p q r h = grind (arith, common_steps)
+same-test : (l w p q : ℕ) (r : Row) → (r.from ≡ l → r.bit ≡ 2) → is_candidate l w p r ≡ is_candidate l w q r
+same-test l w p q r h = grind (arith, common_steps)
 
 pub any-bit : (l w p q k : ℕ) (rs : List Row)
     → ((j : ℕ) → j < length rs → (slice_index_or rs j no_row).from ≡ l → (slice_index_or rs j no_row).bit ≡ 2) → best_row l w p k rs ≡ best_row l w q k rs
 any-bit l w p q k [] h = best-nothing l w p k ∙ sym (best-nothing l w q k)
 any-bit l w p q k (r ∷ rs) h =
     best-cons l w p k r rs
-    ∙ ap₂ (λ (t : Bool) (x : Choice). better_choice (if t then row k r else no_choice) x) (same_test l w p q r (h 0 (omega arith)))
+    ∙ ap₂ (λ (t : Bool) (x : Choice). better_choice (if t then row k r else no_choice) x) (same-test l w p q r (h 0 (omega arith)))
     (any-bit l w p q (suc k) rs (λ j m. h (suc j) (omega arith)))
     ∙ sym (best-cons l w q k r rs)

@@ -32,27 +32,27 @@ module _ (b : List ℕ) (swapped bit f : ℕ) (small : swapped < 65536) (bytes :
   matching-by = grind (arith, common_steps, swapped-agrees)
 
   module _ (care values : ℕ) (p : care ≡ field b f 2 + field b f 3 * 256) (q : values ≡ field b f 4 + field b f 5 * 256) where
-    read_is : (bit_and swapped care == values) ≡ agreed
-    read_is = ap₂ (λ (m n : ℕ). bit_and swapped m == n) p q
+    read-is : (bit_and swapped care == values) ≡ agreed
+    read-is = ap₂ (λ (m n : ℕ). bit_and swapped m == n) p q
 
     pub matching-not : (bit_and swapped care ≡ values → ⊥) → false ≡ is_matching_frame b (swapped_word swapped) bit f
-    matching-not e = grind (arith, common_steps, ne_eqb, matching-by, read_is)
+    matching-not e = grind (arith, common_steps, ne_eqb, matching-by, read-is)
 
     agreeing : bit_and swapped care ≡ values → is_matching_frame b (swapped_word swapped) bit f ≡ suited
-    agreeing e = matching-by ∙ ap (λ (t : Bool). t && suited) (sym read_is ∙ eq-eqb (bit_and swapped care) values e)
+    agreeing e = matching-by ∙ ap (λ (t : Bool). t && suited) (sym read-is ∙ eq-eqb (bit_and swapped care) values e)
 
     pub matching-free : bit_and swapped care ≡ values → bit ≡ 2 → true ≡ is_matching_frame b (swapped_word swapped) bit f
     matching-free e k = sym (agreeing e ∙ ap (λ (t : Bool). t || (field b f 6 == 2 || field b f 6 == bit)) (eq-eqb bit 2 k))
 
     module _ (e : bit_and swapped care ≡ values) (n : bit ≡ 2 → ⊥) (only : ℕ) (r : only ≡ field b f 6) where
-      by_bit : is_matching_frame b (swapped_word swapped) bit f ≡ (only == 2 || only == bit)
-      by_bit = grind (arith, common_steps, ne_eqb, agreeing)
+      by-bit : is_matching_frame b (swapped_word swapped) bit f ≡ (only == 2 || only == bit)
+      by-bit = grind (arith, common_steps, ne_eqb, agreeing)
 
       pub matching-any : only ≡ 2 → true ≡ is_matching_frame b (swapped_word swapped) bit f
-      matching-any k = sym (by_bit ∙ ap (λ (t : Bool). t || only == bit) (eq-eqb only 2 k))
+      matching-any k = sym (by-bit ∙ ap (λ (t : Bool). t || only == bit) (eq-eqb only 2 k))
 
       pub matching-bit : (only ≡ 2 → ⊥) → (only == bit) ≡ is_matching_frame b (swapped_word swapped) bit f
-      matching-bit k = sym (by_bit ∙ ap (λ (t : Bool). t || only == bit) (ne_eqb only 2 k))
+      matching-bit k = sym (by-bit ∙ ap (λ (t : Bool). t || only == bit) (ne_eqb only 2 k))
 
 -- the row in it as one of label l's, by a bit that decides
 module _ (b : List ℕ) (l bit : ℕ) (d : Deciding b l bit) (f : ℕ) where
@@ -64,10 +64,10 @@ module _ (b : List ℕ) (l bit : ℕ) (d : Deciding b l bit) (f : ℕ) where
 
 -- ---- frames as choices, and the better of two
 module _ (b : List ℕ) (f : ℕ) where
-  at-frame : (l : ℕ) → f < size b → found_at b l f ≡ row f (row_on b l f)
+  pub at-frame : (l : ℕ) → f < size b → found_at b l f ≡ row f (row_on b l f)
   at-frame l h = cond-true (nat_lt f (size b)) (row f (row_on b l f)) no_choice (lt-ltb f (size b) h)
 
-  past-table : (l : ℕ) → size b ≤ f → found_at b l f ≡ no_choice
+  pub past-table : (l : ℕ) → size b ≤ f → found_at b l f ≡ no_choice
   past-table l h = cond-false (nat_lt f (size b)) (row f (row_on b l f)) no_choice (le-ltb f (size b) h)
 
   pub frame-named : (l : ℕ) → f < size b → chosen_frame (found_at b l f) ≡ f
@@ -176,8 +176,8 @@ module _ (b : List ℕ) (l w bit : ℕ) (few : size b < NO_FRAME) where
   abbrev Held : Choice → Type 0
   Held x = found_at b l (chosen_frame x) ≡ x
 
-  held_none : Held no_choice
-  held_none = past-table b NO_FRAME l (omega arith)
+  held-none : Held no_choice
+  held-none = past-table b NO_FRAME l (omega arith)
 
   held-if : (t : Bool) (x y : Choice) → Held x → Held y → Held (if t then x else y)
   held-if true x y p q = p
@@ -190,12 +190,12 @@ module _ (b : List ℕ) (l w bit : ℕ) (few : size b < NO_FRAME) where
 
   held-best : (f n : ℕ) → (0 < n → f + n ≤ size b) → Held (best_row l w bit f (map (row_on b l) (range f n)))
   unfolding best_row
-  held-best f zero h = held_none
+  held-best f zero h = held-none
   held-best f (suc n) h =
       held-better (if is_candidate l w bit (row_on b l f) then row f (row_on b l f) else no_choice)
       (best_row l w bit (suc f) (map (row_on b l) (range (suc f) n)))
       (held-if (is_candidate l w bit (row_on b l f)) (row f (row_on b l f)) no_choice
-      (at-frame b f l (omega (arith, h (omega arith)))) held_none)
+      (at-frame b f l (omega (arith, h (omega arith)))) held-none)
       (held-best (suc f) n (λ _. omega (arith, h (omega arith))))
 
 -- ---- where the rows of label l stand

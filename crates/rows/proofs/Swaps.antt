@@ -9,8 +9,8 @@ pub swap-twice : (w : ℕ) → w < 65536 → swapped_word (swapped_word w) ≡ w
 swap-twice w h = omega arith
 
 -- two bytes each, compared byte by byte
-same_bytes : (p q u v : ℕ) → p < 256 → q < 256 → u < 256 → v < 256 → (p * 256 + q == u + v * 256) ≡ (q * 256 + p == u * 256 + v)
-same_bytes p q u v hp hq hu hv = grind (arith, common_steps)
+same-bytes : (p q u v : ℕ) → p < 256 → q < 256 → u < 256 → v < 256 → (p * 256 + q == u + v * 256) ≡ (q * 256 + p == u * 256 + v)
+same-bytes p q u v hp hq hu hv = grind (arith, common_steps)
 
 -- care mask x and y, values u and v, the high byte first; against the swapped word t they are taken with the low byte first
 module _ (t x y u v : ℕ) (small : t < 65536) (hx : x < 256) (hy : y < 256) (hu : u < 256) (hv : v < 256) where
@@ -27,5 +27,5 @@ module _ (t x y u v : ℕ) (small : t < 65536) (hx : x < 256) (hy : y < 256) (hu
       let p : bit_and high y < 256 = and_lt 8 high y (omega arith) hy in
       let q : bit_and low x < 256 = and_lt 8 low x (omega arith) hx in
       ap (λ (n : ℕ). n == u + v * 256) (ap₂ (λ (m n : ℕ). bit_and m n) e f ∙ and_block 8 high y low x (omega arith) hx)
-      ∙ same_bytes (bit_and high y) (bit_and low x) u v p q hu hv
+      ∙ same-bytes (bit_and high y) (bit_and low x) u v p q hu hv
       ∙ sym (ap (λ (n : ℕ). n == u * 256 + v) (and_block 8 low x high y (omega arith) hy))

@@ -37,18 +37,18 @@ module _ (b : List ℕ) (l w bit : ℕ) where
   over-other : (k i n : ℕ) → (i ≡ l → ⊥) → over k i (suc n) ≡ over (k + length (rows_on b i)) (suc i) n
   over-other k i n h = grind (arith, common_steps, others-none, over-more)
 
-  over_none : (k i n : ℕ) → ((m : ℕ) → i ≤ m → m < i + n → m ≡ l → ⊥) → over k i n ≡ no_choice
-  over_none k i zero h = best-nothing l w bit k
-  over_none k i (suc n) h =
+  over-none : (k i n : ℕ) → ((m : ℕ) → i ≤ m → m < i + n → m ≡ l → ⊥) → over k i n ≡ no_choice
+  over-none k i zero h = best-nothing l w bit k
+  over-none k i (suc n) h =
       over-other k i n (h i (omega arith) (omega arith))
-      ∙ over_none (k + length (rows_on b i)) (suc i) n (λ m p q. h m (omega arith) (omega arith))
+      ∙ over-none (k + length (rows_on b i)) (suc i) n (λ m p q. h m (omega arith) (omega arith))
 
   -- how many stand from label i on before those of label l
   abbrev before : ℕ → ℕ
   before i = length (flat_map (rows_on b) (range i (l - i)))
 
-  before_more : (i : ℕ) → i < l → length (rows_on b i) + before (suc i) ≡ before i
-  before_more i h =
+  before-more : (i : ℕ) → i < l → length (rows_on b i) + before (suc i) ≡ before i
+  before-more i h =
       sym (ap (λ (n : ℕ). length (flat_map (rows_on b) (range i n))) (let e : l - i ≡ suc (l - suc i) = omega arith in e)
       ∙ ap (λ (rs : List Row). length rs) (concat-cons (rows_on b) i (range (suc i) (l - suc i)))
       ∙ length-append (rows_on b i) (flat_map (rows_on b) (range (suc i) (l - suc i))))
@@ -67,13 +67,13 @@ module _ (b : List ℕ) (l w bit : ℕ) where
           → over k i (suc n) ≡ best_row l w bit (k + before i) (rows_on b l)
       go (yes e) ih =
           over-more k i n
-          ∙ ap (better_choice (best_row l w bit k (rows_on b i))) (over_none on (suc i) n (λ m u v z. omega arith))
+          ∙ ap (better_choice (best_row l w bit k (rows_on b i))) (over-none on (suc i) n (λ m u v z. omega arith))
           ∙ better-none (best_row l w bit k (rows_on b i))
           ∙ ap₂ (λ (j m : ℕ). best_row l w bit j (rows_on b m)) (let z : k ≡ k + before i = omega (arith, before-all i e) in z) e
       go (no e) ih =
           over-other k i n e ∙ ih (omega arith) (omega arith)
           ∙ ap (λ (j : ℕ). best_row l w bit j (rows_on b l))
-          (let z : on + before (suc i) ≡ k + before i = omega (arith, before_more i (omega arith)) in z)
+          (let z : on + before (suc i) ≡ k + before i = omega (arith, before-more i (omega arith)) in z)
 
   pub row-own : 2 ≤ l → l ≤ last_label b → best_row l w bit 0 (table_image b).rows ≡ best_row l w bit (rows_before b l) (rows_on b l)
   unfolding table_image
@@ -81,24 +81,34 @@ module _ (b : List ℕ) (l w bit : ℕ) where
 
   pub row-none : l < 2 → best_row l w bit 0 (table_image b).rows ≡ no_choice
   unfolding table_image
-  row-none h = over_none 0 2 (last_label b - 1) (λ m p q z. omega arith)
+  row-none h = over-none 0 2 (last_label b - 1) (λ m p q z. omega arith)
 
   pub row-above : last_label b < l → best_row l w bit 0 (table_image b).rows ≡ no_choice
   unfolding table_image
-  row-above h = over_none 0 2 (last_label b - 1) (λ m p q z. omega arith)
+  row-above h = over-none 0 2 (last_label b - 1) (λ m p q z. omega arith)
+
+  -- ---- where the row leads that is taken of those of label l
+  from-any : (m : ℕ) → lead_of (best_row l w bit m (rows_on b l)) ≡ lead_of (best_row l w bit 0 (rows_on b l))
+  from-any m =
+      ap (λ (k : ℕ). lead_of (best_row l w bit k (rows_on b l))) (sym (add-zero m))
+      ∙ ap lead_of (best-moved l w bit m 0 (rows_on b l)) ∙ leads-moved m (best_row l w bit 0 (rows_on b l))
+
+  pub own-leads : 2 ≤ l → l ≤ last_label b
+      → lead_of (best_row l w bit (first_on b l) (rows_on b l)) ≡ lead_of (best_row l w bit 0 (table_image b).rows)
+  own-leads h g = from-any (first_on b l) ∙ sym (from-any (rows_before b l)) ∙ ap lead_of (sym (row-own h g))
 
   -- ---- what a search among the frames of label l chose, in frame f or none
   module _ (low : 2 ≤ l) (high : l ≤ last_label b) (f : ℕ) (e : found_at b l f ≡ best_row l w bit (first_on b l) (rows_on b l)) where
     counted : (n : ℕ) → best_row l w bit n (rows_on b l) ≡ moved_by n (best_row l w bit 0 (rows_on b l))
     counted n = ap (λ (k : ℕ). best_row l w bit k (rows_on b l)) (sym (add-zero n)) ∙ best-moved l w bit n 0 (rows_on b l)
 
-    moved_twice : (m n : ℕ) (y : Choice) → moved_by m (moved_by n y) ≡ moved_by n (moved_by m y)
-    moved_twice m n no_choice = refl
-    moved_twice m n (row k r) = ap (λ (j : ℕ). row j r) (omega arith)
+    moved-twice : (m n : ℕ) (y : Choice) → moved_by m (moved_by n y) ≡ moved_by n (moved_by m y)
+    moved-twice m n no_choice = refl
+    moved-twice m n (row k r) = ap (λ (j : ℕ). row j r) (omega arith)
 
     -- with its number: a frame counts from the label's first frame as its row does from the label's first row
     pub found-number : moved_by (rows_before b l) (found_at b l f) ≡ moved_by (first_on b l) (best_row l w bit 0 (table_image b).rows)
-    found-number = grind (arith, common_steps, moved_by, row-own, counted, moved_twice)
+    found-number = grind (arith, common_steps, moved_by, row-own, counted, moved-twice)
 
     found-leads : lead_of (found_at b l f) ≡ lead_of (best_row l w bit 0 (table_image b).rows)
     found-leads = grind (arith, common_steps, leads-moved, found-number)

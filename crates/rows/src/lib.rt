@@ -17,18 +17,18 @@ use image::layout::*;
 use image::{byte, pair};
 use tables::row_ranges::low_pair;
 
-// The number of no frame: whatever bytes its header has, a table has fewer.
+/// The number of no frame: whatever bytes its header has, a table has fewer.
 pub const NO_FRAME: usize = 131072;
 
-// The two bytes of a word in the other order. A row is compared with its bytes as they stand, which spares swapping those of
-// care mask and values at each row.
+/// The two bytes of a word in the other order: a row is compared with its bytes as they stand.
+// that spares swapping those of care mask and values at each row
 pub fn swap(word: u16) -> u16
     ensures { result ≡ swapped_word word }
 {
     (word % 256) * 256 + word / 256
 }
 
-// Whether the row in frame f matches a word, given with its bytes swapped; bit 2 says that no bit decides.
+/// Whether the row in frame `f` matches a word, which is given with its bytes swapped, and a result bit, 2 where no bit decides.
 pub fn is_matching(bytes: &[u8], f: usize, swapped: u16, bit: u8) -> bool
     requires { f < size bytes.now }
     ensures { result ≡ is_matching_frame bytes.now (swapped_word swapped) bit f }
@@ -59,8 +59,7 @@ fn better_frame(bytes: &[u8], best: usize, f: usize) -> usize
     f
 }
 
-// The frame of the best of several rows: of the one in frame found, and of those that match in the frames from first up to end, which are
-// later ones.
+/// The frame of the best of the row in frame `found` and of the rows that match in the later frames from `first` up to `end`.
 pub fn compare_rows(
     bytes: &[u8],
     found: usize,

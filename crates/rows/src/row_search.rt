@@ -3,7 +3,7 @@ ghost use Rattle.std.specs.Prelude.{◌≡◌, ◌≤◌, ◌<◌, if◌then◌e
 ghost use Rattle.text.specs.frames.Frame.{size, field};
 ghost use Rattle.tables.specs.Table.{table_image};
 ghost use Rattle.rows.specs.Rows.{best_row, lead_of, next_of};
-ghost use Rattle.rows.specs.inner.Search.{swapped_word, is_matching_frame, Chosen, Deciding};
+ghost use Rattle.rows.specs.inner.Search.{swapped_word, is_matching_frame, Chosen, Deciding, is_found};
 ghost use Rattle.rows.specs.row_search.inner.FirstMatch.{FirstMatch};
 
 use crate::{NO_FRAME, compare_rows, is_matching, swap};
@@ -52,8 +52,9 @@ fn first_match(bytes: &[u8], from: usize, end: usize, swapped: u16, bit: u8) -> 
     f
 }
 
-// The frame of the row that label l takes, which has a frame with rows of its own, or none where none matches. The bit is 2 for a label
-// that calls no function. Rows are compared only where more than one matches, on the image of a chart never.
+/// The frame of the row that label `l` takes, 2 to M, by a word and a result bit, 2 where the label calls no function; NO_FRAME where no
+/// row matches.
+// rows are compared only where more than one matches, on the image of a chart never
 pub fn find_row(table: &Table, l: usize, word: u16, bit: u8) -> usize
     requires low { 2 ≤ l }
     requires high { l ≤ table.now.last }
@@ -116,7 +117,7 @@ fn next_in(bytes: &[u8], f: usize) -> u16
     NO_LABEL
 }
 
-// Where the row that label l takes leads, or NO_LABEL where none matches.
+/// The label that the row taken by label `l` leads to, or NO_LABEL where no row matches.
 #[tactic(auto, using(crate::proofs::SearchCases::leading))]
 pub fn next_row(table: &Table, l: usize, word: u16, bit: u8) -> u16
     requires low { 2 ≤ l }
@@ -128,7 +129,7 @@ pub fn next_row(table: &Table, l: usize, word: u16, bit: u8) -> u16
     next_in(table.bytes, f)
 }
 
-// The same where no bit decides.
+/// The same of a label that calls no function, where no bit decides.
 #[tactic(auto, using(crate::proofs::SearchCases::leading))]
 pub fn next_free(table: &Table, l: usize, word: u16) -> u16
     requires low { 2 ≤ l }
@@ -138,4 +139,21 @@ pub fn next_free(table: &Table, l: usize, word: u16) -> u16
 {
     let f = take_row(table, l, word, NO_BIT);
     next_in(table.bytes, f)
+}
+
+/// Whether label l takes a row: the first that matches is enough, and no two are compared.
+pub fn takes_row(table: &Table, l: usize, word: u16, bit: u8) -> bool
+    requires low { 2 ≤ l }
+    requires high { l ≤ table.now.last }
+    requires deciding { Deciding table.now.bytes.now l bit }
+    ensures { result ≡ is_found (lead_of (best_row l word bit 0 (table_image table.now.bytes.now).rows)) }
+{
+    let end = table.end_of(l);
+    let first = table.first_of(l);
+    let swapped = swap(word);
+    let found = first_match(table.bytes, first, end, swapped, bit);
+    if found < end {
+        return true;
+    }
+    false
 }

@@ -67,9 +67,9 @@ module _ (b : List ℕ) (before : Kept) (ws ms₀ ks₀ : List ℕ) where
   unfolding sourced_run
   table-short e f = grind (arith, common_steps)
 
-  table_runs : is_unfit (table_image b) s ≡ false → has_no_room ws ms₀ ks₀ ≡ false → given ≡ run_on fine (λ _. ran) s ms₀ ks₀
+  table-runs : is_unfit (table_image b) s ≡ false → has_no_room ws ms₀ ks₀ ≡ false → given ≡ run_on fine (λ _. ran) s ms₀ ks₀
   unfolding sourced_run
-  table_runs e f = grind (arith, common_steps)
+  table-runs e f = grind (arith, common_steps)
 
   pub unfit-answer : (t : Bool) → t ≡ is_unfit (table_image b) s → t ≡ true → GivesRunOn given before (Err Unfit) before ms₀ ks₀
   unfit-answer t e h = kept-runs given before ms₀ ks₀ 15 0 s (table-unfit (sym e ∙ h)) (omega arith) (omega arith) (Err Unfit) refl
@@ -82,7 +82,7 @@ module _ (b : List ℕ) (before : Kept) (ws ms₀ ks₀ : List ℕ) where
     module _ (g : u ≡ false) (r : RunEnd) (mid after : Kept) (ms ks : List ℕ) (ends : GivesRunEnd b before ws ms₀ ks₀ r mid ms ks)
         (tidied : after ≡ stored (view mid)) where
       is : given ≡ run_on fine (λ _. ran) s ms₀ ks₀
-      is = table_runs (sym e ∙ h) (sym f ∙ g)
+      is = table-runs (sym e ∙ h) (sym f ∙ g)
 
       -- neither success nor 17 and 18 leave the state
       writes : (x : RunEnd) (m : ℕ) → is_without_change (reply_number (counted_reply (verdict_of x) m)) ≡ false
@@ -124,12 +124,12 @@ module _ (b : List ℕ) (before : Kept) (w : ℕ) where
 
   one-stopped : is_unfit (table_image b) state₀ ≡ false → (n : ℕ) → tick (table_image b) state₀ w ≡ stopped n → one ≡ tick_refused_by n
   unfolding sourced_tick ticks
-  one-stopped e n q = grind (arith, common_steps, table_runs)
+  one-stopped e n q = grind (arith, common_steps, table-runs)
 
   one-ticked : is_unfit (table_image b) state₀ ≡ false → (m k : ℕ) (t : State) → tick (table_image b) state₀ w ≡ finished m k t
       → one ≡ record { reply = success 1; mask = m; code = k; state = t }
   unfolding sourced_tick ticks
-  one-ticked e m k t q = grind (arith, common_steps, table_runs)
+  one-ticked e m k t q = grind (arith, common_steps, table-runs)
 
   pub refused-advances : (n : ℕ) → (n ≡ 0 → ⊥) → one ≡ tick_refused_by n → (r : Refusal) → reply (Err r) ≡ refusal n 0 0
       → GivesTickOn one before (Err r) before

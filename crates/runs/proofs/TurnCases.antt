@@ -16,7 +16,6 @@ use Rattle.ticks.specs.declared.Stop.TheVariants.{Full, NoRow}
 use Rattle.runs.specs.declared.RunEnd.TheVariants as end
 use Rattle.runs.specs.declared.RunEnd.{RunEnd}
 use Rattle.runs.specs.declared.RunEnd.TheVariants.{Over}
-use Rattle.ticks.specs.declared.TickMove.{TickMove}
 use Rattle.ticks.specs.Tick.{top_of, finished, stopped, tick}
 use Rattle.runs.specs.Run.{MachineRun, run_after, ticks}
 use Rattle.ticks.specs.inner.TickContracts.{number_of, IsStopped, IsFinished}
@@ -134,32 +133,32 @@ module _ {b ws ms₀ ks₀ ms ks : List ℕ} {start state : Kept} {l i : ℕ} (t
   }
 
   module _ (h : i < length ws) where
-    pub turn_on : (m : TickMove) (next : Kept) → IsFinished b state (slice_index ws i) m next
-        → RunTurn b start ws ms₀ ks₀ next (set ms i m.tick.mask) (set ks i m.tick.code) m.label (i + 1)
-    turn_on m next q =
+    pub turn-on : (mask code label : ℕ) (next : Kept) → IsFinished b state (slice_index ws i) mask code label next
+        → RunTurn b start ws ms₀ ks₀ next (set ms i mask) (set ks i code) label (i + 1)
+    turn-on mask code label next q =
         let on : MachineRun = ticks image (view next) (drop (suc i) ws) in
         record {
           low = omega arith;
           depth = stands-on b s (slice_index ws i) t.depth _ _ _ q.gives;
           label = q.label;
-          past_masks = t.past_masks ++ (m.tick.mask ∷ []);
-          past_codes = t.past_codes ++ (m.tick.code ∷ []);
-          long_masks = longer t.past_masks i m.tick.mask t.long_masks;
-          long_codes = longer t.past_codes i m.tick.code t.long_codes;
-          size_masks = length-set ms i m.tick.mask ∙ t.size_masks;
-          size_codes = length-set ks i m.tick.code ∙ t.size_codes;
-          masks = grown ms₀ ms t.past_masks i m.tick.mask t.masks t.long_masks (omega (arith, room-masks));
-          codes = grown ks₀ ks t.past_codes i m.tick.code t.codes t.long_codes (omega (arith, room-codes));
+          past_masks = t.past_masks ++ (mask ∷ []);
+          past_codes = t.past_codes ++ (code ∷ []);
+          long_masks = longer t.past_masks i mask t.long_masks;
+          long_codes = longer t.past_codes i code t.long_codes;
+          size_masks = length-set ms i mask ∙ t.size_masks;
+          size_codes = length-set ks i code ∙ t.size_codes;
+          masks = grown ms₀ ms t.past_masks i mask t.masks t.long_masks (omega (arith, room-masks));
+          codes = grown ks₀ ks t.past_codes i code t.codes t.long_codes (omega (arith, room-codes));
           whole =
-              ap (λ (n : ℕ). joined (t.past_masks ++ (m.tick.mask ∷ [])) (t.past_codes ++ (m.tick.code ∷ []))
+              ap (λ (n : ℕ). joined (t.past_masks ++ (mask ∷ [])) (t.past_codes ++ (code ∷ []))
               (ticks image (view next) (drop n ws))) (add-one i)
               ∙ (λ j. record {
-                masks = append_snoc t.past_masks m.tick.mask on.masks j;
-                codes = append_snoc t.past_codes m.tick.code on.codes j;
+                masks = append_snoc t.past_masks mask on.masks j;
+                codes = append_snoc t.past_codes code on.codes j;
                 state = on.state;
                 verdict = on.verdict;
               })
-              ∙ ap before (sym (ticks-went image s (slice_index ws i) (drop (suc i) ws) m.tick.mask m.tick.code (view next) q.gives))
+              ∙ ap before (sym (ticks-went image s (slice_index ws i) (drop (suc i) ws) mask code (view next) q.gives))
               ∙ ap (λ (l : List ℕ). before (ticks image s l)) (sym (drop-cons ws i 0 h)) ∙ t.whole;
           same = λ e. absurd (omega arith);
         }

@@ -8,7 +8,7 @@ use state::State;
 use text::frames::Refusal;
 use ticks::Tick;
 
-// One tick on a state that the caller keeps: a refused tick leaves it as it was.
+/// One tick on a state that the caller keeps: a refused tick leaves it as it was.
 pub fn tick(state: &mut State, image: &[u8], word: u16) -> Result<Tick, Refusal>
     ensures { GivesTickOn (image_tick image.now (view state.old) word) state.old result state.new }
 {

@@ -9,7 +9,8 @@ use tables::sources::Source;
 use text::frames::Refusal;
 use ticks::Tick;
 
-// What the source is refused for, 15 and 16 before the first tick, 17 and 18 tick by tick.
+/// One tick a word, up to the first that is refused. Refused is what the source is refused for, 15 and 16 before the first tick, 17 and 18
+/// tick by tick.
 pub fn run<S: Source<ROOM>, const ROOM: usize>(
     source: &[u8],
     state: &mut State,
@@ -25,7 +26,7 @@ pub fn run<S: Source<ROOM>, const ROOM: usize>(
     run_table(&table, state, words, masks, codes)
 }
 
-// One tick: what a run tries but 16.
+/// One tick; a refused one leaves the state as it was. Refused is what a run is refused for, but 16.
 pub fn tick<S: Source<ROOM>, const ROOM: usize>(
     source: &[u8],
     state: &mut State,

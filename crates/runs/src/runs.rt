@@ -10,7 +10,7 @@ use tables::Table;
 use ticks::stepping::tick_on;
 use ticks::{Stop, Tick, TickEnd};
 
-// One tick a word, until one is stopped.
+/// One tick a word, until one is stopped; its mask and its code are written with each finished tick.
 pub fn tick_all(
     table: &Table,
     state: &mut State,
@@ -36,10 +36,14 @@ pub fn tick_all(
     let mut i: usize = 0;
     while i < words.len() {
         match tick_on(&own, state, label, words[i]) {
-            TickEnd::Finished(moved) => {
-                label = moved.label;
-                masks[i] = moved.tick.mask;
-                codes[i] = moved.tick.code;
+            TickEnd::Finished {
+                mask,
+                code,
+                label: next,
+            } => {
+                label = next;
+                masks[i] = mask;
+                codes[i] = code;
                 i += 1;
             }
             TickEnd::Full => return RunEnd::Full(i),
@@ -49,8 +53,8 @@ pub fn tick_all(
     RunEnd::Over(i)
 }
 
-// One tick by the loop of a run: so the tick stands in that loop alone, and the compiler takes it in. A tick that is stopped writes no mask
-// and no code.
+/// One tick; stopped, it changes no state.
+// by the loop of a run: so the tick stands in that loop alone, and the compiler takes it in
 pub fn tick_word(table: &Table, state: &mut State, word: u16) -> Result<Tick, Stop>
     requires { has_bad_depth (view state.old) ≡ false }
     ensures { GivesTick table.now.bytes.now state.old word result state.new }

@@ -12,14 +12,15 @@ use text::frames::Refusal;
 use text::frames::sizes::TABLE;
 use ticks::Tick;
 
-// A tick's answer, and the state after it.
+/// A tick's answer, and the state after it.
 #[derive(Drop)]
 pub struct TickStateReport {
     pub answer: Result<Tick, Refusal>,
     pub state: State,
 }
 
-// A run: what the image check tries, 15 and 16 before the first tick, 17 and 18 tick by tick.
+/// One tick a word, up to the first that is refused. Refused is what the image check refuses, 15 and 16 before the first tick, 17 and 18
+/// tick by tick.
 #[tactic(auto, using(crate::proofs::machine::Sourced::sourced))]
 pub fn run(
     image: &[u8],
@@ -39,7 +40,7 @@ pub fn run(
     }
 }
 
-// A run of one word; refused, it hands back the state as it was.
+/// One tick; refused, it hands back the state as it was. Refused is what a run is refused for, but 16.
 #[tactic(auto, using(crate::proofs::machine::Sourced::sourced))]
 pub fn tick_image(image: &[u8], state: State, word: u16) -> TickStateReport
     ensures { GivesTickOn (image_tick image.now (view state) word) state result.answer result.state }
@@ -52,7 +53,7 @@ pub fn tick_image(image: &[u8], state: State, word: u16) -> TickStateReport
     }
 }
 
-// A run on a prepared table: 11, then 15 to 18 as in any run.
+/// A run on a prepared table: 11, then 15 to 18 as in any run.
 #[tactic(auto, using(crate::proofs::machine::Sourced::sourced))]
 pub fn live_run(
     table: &[u8],
@@ -72,7 +73,7 @@ pub fn live_run(
     }
 }
 
-// One tick on a prepared table.
+/// One tick on a prepared table: 11, then 15, 17 and 18.
 #[tactic(auto, using(crate::proofs::machine::Sourced::sourced))]
 pub fn live_tick(table: &[u8], state: State, word: u16) -> TickStateReport
     ensures { GivesTickOn (live_tick table.now (view state) word) state result.answer result.state }

@@ -33,7 +33,7 @@ fn refusal_of(stop: Stop) -> Refusal
     }
 }
 
-// A run: 15 and 16, then the ticks.
+/// One tick a word on a prepared table, up to the first that is refused: 15 and 16 before the first tick, 17 and 18 tick by tick.
 pub fn run_table(
     table: &Table,
     state: &mut State,
@@ -59,7 +59,7 @@ pub fn run_table(
     }
 }
 
-// One tick: 15, then a tick for one word; a refused one leaves the state as it was.
+/// One tick on a prepared table: 15, then 17 and 18; a refused one leaves the state as it was.
 pub fn tick_table(table: &Table, state: &mut State, word: u16) -> Result<Tick, Refusal>
     ensures { GivesTickOn (sourced_tick fine (table_image table.now.bytes.now) (view state.old) word)
         state.old result state.new }

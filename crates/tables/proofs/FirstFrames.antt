@@ -17,7 +17,7 @@ use Rattle.image.proofs.Accepted.{rows-count, labels-count, counted, accepted-so
 use Rattle.image.proofs.Rising.{from-read, rises-on}
 use Rattle.tables.specs.Prepare.{is_row_reached, first_frame}
 use Rattle.tables.proofs.Noted.{rows-inside}
-use Rattle.tables.proofs.NotingCases.{below_more}
+use Rattle.tables.proofs.NotingCases.{below-more}
 
 module _ (b : List ℕ) (ok : table_verdict b ≡ fine) where
   pub first-low : (l : ℕ) → rows_from b ≤ first_frame b l
@@ -30,7 +30,7 @@ module _ (b : List ℕ) (ok : table_verdict b ≡ fine) where
   first-rises l =
       let on : lowest (is_row_reached b (l + 1)) (first_frame b l) (size b - first_frame b l) ≡ first_frame b (l + 1) =
       lowest-from (is_row_reached b l) (rows_from b) (size b) (rows-inside b ok) (is_row_reached b (l + 1))
-      (below_more b l (l + 1) (omega arith)) in
+      (below-more b l (l + 1) (omega arith)) in
       omega (arith, lowest-above (is_row_reached b (l + 1)) (first_frame b l) (size b - first_frame b l))
 
   module _ (bytes : (k : ℕ) → slice_index b k < 256) where

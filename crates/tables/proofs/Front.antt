@@ -29,8 +29,8 @@ module _ (b c : List ℕ) (same : (k : ℕ) → k < 10 * table_end b → slice_i
   field-same : (f k : ℕ) → f < table_end b → k < 10 → field c f k ≡ field b f k
   field-same f k h g = same (10 * f + k) (omega arith)
 
-  pair_same : (f k : ℕ) → f < table_end b → k < 9 → pair_at c f k ≡ pair_at b f k
-  pair_same f k h g = ap₂ (λ (x y : ℕ). x * 256 + y) (field-same f k h (omega arith)) (field-same f (k + 1) h (omega arith))
+  pair-same : (f k : ℕ) → f < table_end b → k < 9 → pair_at c f k ≡ pair_at b f k
+  pair-same f k h g = ap₂ (λ (x y : ℕ). x * 256 + y) (field-same f k h (omega arith)) (field-same f (k + 1) h (omega arith))
 
   -- ---- the header
   pub schemes-same : scheme_count c ≡ scheme_count b
@@ -39,17 +39,17 @@ module _ (b c : List ℕ) (same : (k : ℕ) → k < 10 * table_end b → slice_i
   pub last-same : last_label c ≡ last_label b
   last-same = field-same 0 2 (omega arith) (omega arith)
 
-  rows_same : row_count c ≡ row_count b
-  rows_same = pair_same 0 3 (omega arith) (omega arith)
+  rows-same : row_count c ≡ row_count b
+  rows-same = pair-same 0 3 (omega arith) (omega arith)
 
   handler-same : handler_in c ≡ handler_in b
   handler-same = field-same 0 5 (omega arith) (omega arith)
 
   pub end-same : table_end c ≡ table_end b
-  end-same = omega (arith, schemes-same, last-same, rows_same)
+  end-same = omega (arith, schemes-same, last-same, rows-same)
 
   pub counts-same : has_bad_counts c ≡ has_bad_counts b
-  counts-same = counts-alike b c schemes-same last-same rows_same
+  counts-same = counts-alike b c schemes-same last-same rows-same
 
   pub bad-handler-same : has_bad_handler c ≡ has_bad_handler b
   bad-handler-same = handler-alike b c handler-same schemes-same
@@ -58,13 +58,13 @@ module _ (b c : List ℕ) (same : (k : ℕ) → k < 10 * table_end b → slice_i
   label-field : (l k : ℕ) → l ≤ last_label b → k < 10 → field c (labels_from c + l) k ≡ field b (labels_from b + l) k
   label-field l k h g = grind (arith, common_steps)
 
-  label_same : (l : ℕ) → l ≤ last_label b → label_on c l ≡ label_on b l
-  label_same zero h = grind (arith, common_steps)
-  label_same (suc zero) h = grind (arith, common_steps)
-  label_same (suc (suc l)) h = grind (arith, common_steps, schemes-same, label-field)
+  label-same : (l : ℕ) → l ≤ last_label b → label_on c l ≡ label_on b l
+  label-same zero h = grind (arith, common_steps)
+  label-same (suc zero) h = grind (arith, common_steps)
+  label-same (suc (suc l)) h = grind (arith, common_steps, schemes-same, label-field)
 
   kind-same : (l : ℕ) → l ≤ last_label b → (table_label c l).kind ≡ (table_label b l).kind
-  kind-same l h = grind (arith, common_steps, le-ltb, cond-false, last-same, label_same)
+  kind-same l h = grind (arith, common_steps, le-ltb, cond-false, last-same, label-same)
 
   -- ---- the rows of one label
   noted-same : (l : ℕ) → l ≤ last_label b → noted_in c l ≡ noted_in b l
@@ -73,14 +73,14 @@ module _ (b c : List ℕ) (same : (k : ℕ) → k < 10 * table_end b → slice_i
   end-on-same : (l : ℕ) → l ≤ last_label b → end_on c l ≡ end_on b l
   end-on-same l h = ap₂ (λ (n e : ℕ). min n e) (noted-same l h) end-same
 
-  row_same : (l f : ℕ) → l ≤ last_label b → f < table_end b → row_on c l f ≡ row_on b l f
-  row_same l f g h = grind (arith, common_steps, field-same, pair_same, kind-same)
+  row-same : (l f : ℕ) → l ≤ last_label b → f < table_end b → row_on c l f ≡ row_on b l f
+  row-same l f g h = grind (arith, common_steps, field-same, pair-same, kind-same)
 
   rows-on-same : (l : ℕ) → l ≤ last_label b → rows_on c l ≡ rows_on b l
   rows-on-same l h =
       ap₂ (λ (f e : ℕ). map (row_on c l) (range f (e - f))) (noted-same (l - 1) (omega arith)) (end-on-same l h)
       ∙ map-alike (row_on c l) (row_on b l) (first_on b l) (end_on b l - first_on b l)
-      (λ f p q. row_same l f h (omega (arith, end-inside b l)))
+      (λ f p q. row-same l f h (omega (arith, end-inside b l)))
 
   pub alike-image : table_image c ≡ table_image b
   unfolding table_image
@@ -90,7 +90,7 @@ module _ (b c : List ℕ) (same : (k : ℕ) → k < 10 * table_end b → slice_i
       ∙ map-alike (entry_in c) (entry_in b) 1 (scheme_count b) (λ h p q. field-same h 2 (omega arith) (omega arith)) in
       let l : map (label_on c) (range 0 (last_label c + 1)) ≡ map (label_on b) (range 0 (last_label b + 1)) =
       ap (λ (n : ℕ). map (label_on c) (range 0 (n + 1))) last-same
-      ∙ map-alike (label_on c) (label_on b) 0 (last_label b + 1) (λ k p q. label_same k (omega arith)) in
+      ∙ map-alike (label_on c) (label_on b) 0 (last_label b + 1) (λ k p q. label-same k (omega arith)) in
       let r : flat_map (rows_on c) (range 2 (last_label c - 1)) ≡ flat_map (rows_on b) (range 2 (last_label b - 1)) =
       ap (λ (n : ℕ). flat_map (rows_on c) (range 2 (n - 1))) last-same
       ∙ concat-alike (rows_on c) (rows_on b) 2 (last_label b - 1) (λ k p q. rows-on-same k (omega arith)) in

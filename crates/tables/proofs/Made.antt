@@ -14,7 +14,7 @@ use Rattle.tables.specs.Prepare.{noted_table}
 use Rattle.tables.specs.inner.Prepares.{GivesPrepared}
 use Rattle.tables.specs.Table.{first_on, rows_on, table_image}
 use Rattle.tables.specs.inner.Asked.{Whole}
-use Rattle.tables.proofs.PrepareCases.{frames-few, made-front, made-length}
+use Rattle.tables.proofs.PrepareCases.{frames-few, prepared-length, made-front}
 use Rattle.tables.proofs.PreparedImage.{noted-whole, prepared-starts, prepared-image}
 
 -- the rows of each label begin behind those of the labels below it
@@ -30,18 +30,22 @@ pub record MadeTable (t b : List ℕ) : Type 0 where
   pub starts : RowsBehind b
   pub is : b ≡ noted_table (contents t)
 
+-- the table that a preparation writes for an accepted image
+pub noted-made : (t b : List ℕ) → image_verdict t ≡ fine → b ≡ noted_table (contents t) → MadeTable t b
+noted-made t b ok is =
+    let fine-table : table_verdict (contents t) ≡ fine = image-table t ok in
+    record {
+      accepted = ok;
+      few = frames-few t ok;
+      long = sym (ap (λ (x : List ℕ). length x) is ∙ prepared-length t ok);
+      whole = subst Whole (sym is) (noted-whole (contents t) fine-table (omega (arith, any-contents-length t)));
+      holds = ap table_image is ∙ prepared-image (contents t) fine-table (image-bytes t ok);
+      starts = subst RowsBehind (sym is) (prepared-starts (contents t) fine-table (image-bytes t ok));
+      is = is;
+    }
+
 pub image-made : (t old table : List ℕ) (a : Answer) → GivesPrepared t old a table → (m : ℕ)
     → a ≡ Ok m → MadeTable t (take (10 * frame_count t) table)
 image-made t old table a x m done =
     let ok : image_verdict t ≡ fine = (ok-fine a (image_verdict t) 0 x.answered m done).0 in
-    let fine-table : table_verdict (contents t) ≡ fine = image-table t ok in
-    let front : take (10 * frame_count t) table ≡ noted_table (contents t) = made-front t ok old table x.written in
-    record {
-      accepted = ok;
-      few = frames-few t ok;
-      long = made-length t ok old table x.written;
-      whole = subst Whole (sym front) (noted-whole (contents t) fine-table (omega (arith, any-contents-length t)));
-      holds = ap table_image front ∙ prepared-image (contents t) fine-table (image-bytes t ok);
-      starts = subst RowsBehind (sym front) (prepared-starts (contents t) fine-table (image-bytes t ok));
-      is = front;
-    }
+    noted-made t (take (10 * frame_count t) table) ok (made-front t ok old table x.written)

@@ -13,8 +13,8 @@ use Rattle.tables.specs.Prepare.{is_row_reached, first_frame, noted_to}
 use Rattle.tables.proofs.Noted.{rows-inside, place, noted-to-row}
 
 -- a row that leaves no label from l on leaves none from a higher one on
-pub below_more : (b : List ℕ) (l m : ℕ) → l ≤ m → (f : ℕ) → is_row_reached b l f ≡ false → is_row_reached b m f ≡ false
-below_more b l m h f e = lt-leb m (field b f 1) (omega (arith, leb-false l (field b f 1) e))
+pub below-more : (b : List ℕ) (l m : ℕ) → l ≤ m → (f : ℕ) → is_row_reached b l f ≡ false → is_row_reached b m f ≡ false
+below-more b l m h f e = lt-leb m (field b f 1) (omega (arith, leb-false l (field b f 1) e))
 
 -- after l labels: no row before frame f leaves a label from l on
 pub record Notes (b out : List ℕ) (f l : ℕ) : Type 0 where
@@ -36,11 +36,11 @@ module _ (b : List ℕ) (ok : table_verdict b ≡ fine) where
   module _ {out : List ℕ} {f l : ℕ} (t : Notes b out f l) where
     module _ {end next : ℕ} (all : end ≡ size b) (e : next ≡ lowest (is_row_reached out (l + 1)) f (end - f)) where
       -- the rows of the table are still as they were
-      same_rows : next ≡ lowest (is_row_reached b (l + 1)) f (size b - f)
-      same_rows = grind (arith, common_steps, noted-to-row, lowest-alike)
+      same-rows : next ≡ lowest (is_row_reached b (l + 1)) f (size b - f)
+      same-rows = grind (arith, common_steps, noted-to-row, lowest-alike)
 
       next-inside : next ≤ size b
-      next-inside = omega (arith, same_rows, lowest-inside (is_row_reached b (l + 1)) f (size b) t.inside)
+      next-inside = omega (arith, same-rows, lowest-inside (is_row_reached b (l + 1)) f (size b) t.inside)
 
       -- a frame's number fits two bytes
       pub notes-small : last_label b < 256 → next < 65536
@@ -49,4 +49,4 @@ module _ (b : List ℕ) (ok : table_verdict b ≡ fine) where
       pub notes-turn : (at : ℕ) → at ≡ place b l → l ≤ last_label b
           → Notes b (set (set out at (next % 256)) (at + 1) (next / 256)) next (l + 1)
       unfolding noted_to
-      notes-turn at is h = grind (arith, common_steps, place, lowest-above, lowest-from, add-one, below_more, same_rows, next-inside)
+      notes-turn at is h = grind (arith, common_steps, place, lowest-above, lowest-from, add-one, below-more, same-rows, next-inside)

@@ -17,10 +17,10 @@ module _ {A : Type 0} (b : List ℕ) (l : ℕ) (of : List Row → A)
   over-other : (i n : ℕ) → (i ≡ l → ⊥) → of (over i (suc n)) ≡ of (over (suc i) n)
   over-other i n h = ap of (concat-cons (rows_on b) i (range (suc i) n)) ∙ first i h (over (suc i) n)
 
-  over_none : (i n : ℕ) → ((m : ℕ) → i ≤ m → m < i + n → m ≡ l → ⊥) → of (over i n) ≡ of []
-  over_none i zero h = refl
-  over_none i (suc n) h =
-      over-other i n (h i (omega arith) (omega arith)) ∙ over_none (suc i) n (λ m p q. h m (omega arith) (omega arith))
+  over-none : (i n : ℕ) → ((m : ℕ) → i ≤ m → m < i + n → m ≡ l → ⊥) → of (over i n) ≡ of []
+  over-none i zero h = refl
+  over-none i (suc n) h =
+      over-other i n (h i (omega arith) (omega arith)) ∙ over-none (suc i) n (λ m p q. h m (omega arith) (omega arith))
 
   over-own : (i n : ℕ) → i ≤ l → l < i + n → of (over i n) ≡ of (rows_on b l)
   over-own i zero p q = absurd (omega arith)
@@ -29,7 +29,7 @@ module _ {A : Type 0} (b : List ℕ) (l : ℕ) (of : List Row → A)
       go : Dec (i ≡ l) → (suc i ≤ l → l < suc i + n → of (over (suc i) n) ≡ of (rows_on b l)) → of (over i (suc n)) ≡ of (rows_on b l)
       go (yes e) ih =
           ap of (concat-cons (rows_on b) i (range (suc i) n))
-          ∙ last (rows_on b i) (over (suc i) n) (over_none (suc i) n (λ m u v z. omega arith)) ∙ ap (λ (m : ℕ). of (rows_on b m)) e
+          ∙ last (rows_on b i) (over (suc i) n) (over-none (suc i) n (λ m u v z. omega arith)) ∙ ap (λ (m : ℕ). of (rows_on b m)) e
       go (no e) ih = over-other i n e ∙ ih (omega arith) (omega arith)
 
   pub own-alone : 2 ≤ l → l ≤ last_label b → of (table_image b).rows ≡ of (rows_on b l)

@@ -1,16 +1,15 @@
 -- The preparation of an image, by the image check's answer: what was read stays, or is noted; the table is copied where it has room.
-use Rattle.std.proofs.Common.{ℕ, ◌*◌, ◌≤◌, ◌<◌, ◌≡◌, sym, ◌∙◌, ap, ap₂, List, ◌++◌, arith, length, take, drop, take_at, drop_at, Ok, Err}
+use Rattle.std.proofs.Common.{ℕ, ◌*◌, ◌≤◌, ◌<◌, ◌≡◌, refl, sym, ◌∙◌, ap, ap₂, List, ◌++◌, arith, length, take, drop, take_at, drop_at, Ok, Err}
 use Rattle.std.proofs.lemmas.Grind.{common_steps}
 use Rattle.words.specs.lists.Sequences.{over, written}
 use Rattle.words.proofs.lists.Written.{written-front}
 use Rattle.text.specs.frames.Frame.{frame_count, contents}
-use Rattle.text.specs.frames.Verdict.{fine, refused}
+use Rattle.text.specs.frames.Verdict.{fine}
 use Rattle.text.specs.frames.Answer.{Answer, reply, verdict_reply, GivesBuffer}
 use Rattle.text.specs.frames.Check.{text_verdict}
 use Rattle.text.specs.frames.Read.{read_buffer}
 use Rattle.text.specs.declared.frames.refusals.Refusal.{Refusal}
 use Rattle.text.specs.declared.frames.refusals.Refusal.TheVariants.{NoRoom}
-use Rattle.text.specs.frames.Refusal.{number_of, index_of, ticks_of}
 use Rattle.text.proofs.frames.Verdicts.{next-first}
 use Rattle.text.proofs.frames.Chains.{err-refused, judged-fine}
 use Rattle.text.proofs.frames.Contents.{any-contents-length}
@@ -24,17 +23,10 @@ use Rattle.tables.specs.inner.Prepares.{prepared_buffer, GivesPrepared}
 use Rattle.tables.proofs.Noted.{noted-length}
 
 -- ---- the image is refused
-module _ (t : List ℕ) (a : Answer) (gives : reply a ≡ verdict_reply (image_verdict t) 0) (r : Refusal) (e : a ≡ Err r) where
-  verdict : (image_verdict t ≡ refused (number_of r) (index_of r)) × (ticks_of r ≡ 0)
-  verdict = err-refused a (image_verdict t) 0 gives r e
-
-  pub table-refused : (old out : List ℕ) → out ≡ read_buffer 29831 t old → GivesPrepared t old (Err r) out
-  unfolding prepared_buffer
-  table-refused old out left = grind (arith, common_steps)
-
-  pub image-refused : (old : List ℕ) → GivesBuffer (prepare t old) (Err r) old
-  unfolding prepare
-  image-refused old = lent-err (image_verdict t) 1 (λ _. noted_table (contents t)) old r verdict
+pub table-refused : (t : List ℕ) (a : Answer) → reply a ≡ verdict_reply (image_verdict t) 0 → (r : Refusal) → a ≡ Err r
+    → (old out : List ℕ) → out ≡ read_buffer 29831 t old → GivesPrepared t old (Err r) out
+unfolding prepared_buffer
+table-refused t a gives r e old out left = grind (arith, common_steps)
 
 -- ---- it is accepted
 module _ (t : List ℕ) (ok : image_verdict t ≡ fine) where
@@ -83,14 +75,18 @@ module _ (t : List ℕ) (ok : image_verdict t ≡ fine) where
     pub made-front : take long made ≡ noted_table (contents t)
     made-front = grind (arith, common_steps, take_at, prepared-fine, prepared-length)
 
-    pub made-length : long ≡ length (take long made)
-    made-length = sym (ap (λ (x : List ℕ). length x) made-front ∙ prepared-length)
-
-    pub image-done : (given : List ℕ) → long ≤ length given → (out : List ℕ) → out ≡ written given 0 (take long made)
-        → GivesBuffer (prepare t given) (Ok long) out
-    unfolding prepare
-    image-done given h out e = grind (arith, common_steps, written-front, lent-done, prepared-length, made-front)
-
-  pub image-short : (given : List ℕ) → length given < long → GivesBuffer (prepare t given) (Err NoRoom) given
+-- ---- the table is handed out where there is room for it
+module _ (t given : List ℕ) where
+  pub image-refused : (r : Refusal) → reply (Err r) ≡ verdict_reply (image_verdict t) 0 → GivesBuffer (prepare t given) (Err r) given
   unfolding prepare
-  image-short given h = lent-short (image_verdict t) 1 (λ _. noted_table (contents t)) given ok (omega (arith, prepared-length))
+  image-refused r gives = lent-err (image_verdict t) 1 (λ _. noted_table (contents t)) given r (err-refused (Err r) (image_verdict t) 0 gives r refl)
+
+  module _ (ok : image_verdict t ≡ fine) (made : List ℕ) (noted : made ≡ noted_table (contents t)) where
+    pub image-short : length given < length made → GivesBuffer (prepare t given) (Err NoRoom) given
+    unfolding prepare
+    image-short h = grind (arith, common_steps, lent-short)
+
+    pub image-done : length made ≤ length given → (out : List ℕ) → out ≡ written given 0 made
+        → GivesBuffer (prepare t given) (Ok (length made)) out
+    unfolding prepare
+    image-done h out e = grind (arith, common_steps, written-front, lent-done)

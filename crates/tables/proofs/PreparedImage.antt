@@ -165,8 +165,8 @@ module _ (b : List ℕ) (ok : table_verdict b ≡ fine) where
         ∙ ranges-join (row_in_frame b) (first_frame b) (first-rises b ok) 2 n
         ∙ ap (λ (f : ℕ). map (row_in_frame b) (range f (first_frame b (2 + n) - f))) (first-two b ok bytes)
 
-    rows_all : flat_map (rows_on (noted_table b)) (range 2 (last_label b - 1)) ≡ map (row_in b) (range 0 (row_count b))
-    rows_all =
+    rows-all : flat_map (rows_on (noted_table b)) (range 2 (last_label b - 1)) ≡ map (row_in b) (range 0 (row_count b))
+    rows-all =
         rows-to (last_label b - 1) (omega (arith, (counted b ok).two))
         ∙ ap (λ (e : ℕ). map (row_in_frame b) (range (rows_from b) (e - rows_from b)))
         (ap (first_frame b) (let e : 2 + (last_label b - 1) ≡ last_label b + 1 = omega (arith, (counted b ok).two) in e)
@@ -188,7 +188,7 @@ module _ (b : List ℕ) (ok : table_verdict b ≡ fine) where
 
     pub prepared-image : table_image (noted_table b) ≡ decoded_image b
     unfolding table_image decoded_image
-    prepared-image = grind (arith, common_steps, noted-handler, noted-schemes, noted-last, map-alike, noted-late, label-sound, rows_all)
+    prepared-image = grind (arith, common_steps, noted-handler, noted-schemes, noted-last, map-alike, noted-late, label-sound, rows-all)
 
 -- ---- over the entry: what it wrote, with anything behind it
 module _ (t old : List ℕ) (n : ℕ) (e : (prepare t old).reply ≡ success n) where
@@ -205,8 +205,8 @@ module _ (t old : List ℕ) (n : ℕ) (e : (prepare t old).reply ≡ success n) 
   count-is : n ≡ length b
   count-is = omega (arith, told.count, noted-length b)
 
-  end_is : 10 * table_end b ≡ n
-  end_is = omega (arith, whole-size b table-fine, any-contents-length t, count-is)
+  end-is : 10 * table_end b ≡ n
+  end-is = omega (arith, whole-size b table-fine, any-contents-length t, count-is)
 
   module _ (m : ℕ) (h : n ≤ m) where
     abbrev c : List ℕ
@@ -216,7 +216,7 @@ module _ (t old : List ℕ) (n : ℕ) (e : (prepare t old).reply ≡ success n) 
     long = grind (arith, common_steps, noted-length, length-take, length-append, told, count-is)
 
     same : (k : ℕ) → k < 10 * table_end (noted_table b) → slice_index c k ≡ slice_index (noted_table b) k
-    same k g = grind (arith, common_steps, get_or-append, get_or-take, noted-length, noted-end, told, count-is, end_is)
+    same k g = grind (arith, common_steps, get_or-append, get_or-take, noted-length, noted-end, told, count-is, end-is)
 
     taken-good : is_bad_table c ≡ false
     taken-good =
@@ -224,7 +224,7 @@ module _ (t old : List ℕ) (n : ℕ) (e : (prepare t old).reply ≡ success n) 
         (or-none (has_bad_counts c) (has_bad_handler c)
         (counts-same (noted_table b) c same ∙ noted-counts b table-fine ∙ accepted-counts b table-fine)
         (bad-handler-same (noted_table b) c same ∙ noted-handler-good b table-fine))
-        (le-ltb (size c) (table_end c) (omega (arith, end-same (noted_table b) c same, noted-end b, end_is, long)))
+        (le-ltb (size c) (table_end c) (omega (arith, end-same (noted_table b) c same, noted-end b, end-is, long)))
 
     taken-image : table_image c ≡ decoded_image b
     taken-image = alike-image (noted_table b) c same ∙ prepared-image b table-fine (image-bytes t told.accepted)

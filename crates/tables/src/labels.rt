@@ -109,9 +109,8 @@ impl<'a> Table<'a> {
         requires { h ≤ self.schemes }
         ensures { result ≡ entry_of self.entry.bytes.now h }
     {
-        if h == 0 {
-            return byte(self.bytes, 1, ENTRY_LABEL);
-        }
-        byte(self.bytes, h as usize, ENTRY_LABEL)
+        // which frame is chosen, and not which of two bytes: else the address of the second is kept in a register through a run
+        let scheme = if h == 0 { 1 } else { h };
+        byte(self.bytes, scheme as usize, ENTRY_LABEL)
     }
 }

@@ -8,6 +8,7 @@ ghost use Rattle.text.specs.frames.Frame.{size};
 ghost use Rattle.text.specs.frames.Verdict.{fine};
 ghost use Rattle.image.specs.Check.{table_verdict};
 
+use crate::sources::{Source, Text};
 use image::layout::{FROM, LAST_LABEL, ROW_COUNT, SCHEME_COUNT};
 use image::{byte, pair, rows_from};
 use image_check::read_image;
@@ -68,12 +69,12 @@ pub fn prepare_table(text: &[u8], table: &mut [u8]) -> Result<usize, Refusal>
 pub fn prepare(image: &[u8], table: &mut [u8]) -> Result<usize, Refusal>
     ensures { GivesBuffer (prepare image.now table.old) result table.new }
 {
-    let mut made = [0u8; TABLE];
-    prepare_table(image, &mut made)?;
-    let n = FRAME * (image.len() / LINE);
+    let mut room = [0u8; TABLE];
+    let made = Text::table(image, &mut room)?;
+    let n = made.bytes.len();
     if table.len() < n {
         return Err(Refusal::NoRoom);
     }
-    put_bytes(table, 0, &made[..n]);
+    put_bytes(table, 0, made.bytes);
     Ok(n)
 }

@@ -46,6 +46,7 @@ impl Source<TABLE> for Text {
     ghost use Rattle.image.specs.Decode.{decoded_image};
     ghost use Rattle.image.specs.Check.{image_verdict};
     ghost use Rattle.text.specs.frames.Frame.{contents};
+    ghost use Rattle.tables.specs.Prepare.{noted_table};
 
     ghost verdict = { image_verdict };
 
@@ -55,7 +56,12 @@ impl Source<TABLE> for Text {
 
     ghost room_fits = { Prim.search rules };
 
-    fn table<'a>(bytes: &'a [u8], room: &'a mut [u8; TABLE]) -> Result<Table<'a>, Refusal> {
+    // of an image more is known: its table is the one that a preparation writes
+    fn table<'a>(bytes: &'a [u8], room: &'a mut [u8; TABLE]) -> Result<Table<'a>, Refusal>
+        ensures admits { IfOk result (λ t. Admits (image_verdict bytes.now) (decoded_image (contents bytes.now)) t) }
+        ensures noted { IfOk result (λ t. t.bytes.now ≡ noted_table (contents bytes.now)) }
+        ensures refuses { IfErr result (λ r. reply (Err r) ≡ verdict_reply (image_verdict bytes.now) 0) }
+    {
         prepare_table(bytes, room)?;
         let n = FRAME * (bytes.len() / LINE);
         Ok(Table::of(&room[..n]))

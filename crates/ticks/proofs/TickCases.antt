@@ -34,7 +34,7 @@ module _ (b : List ℕ) (before : Kept) (w : ℕ) where
     moved-stops small h = grind (arith, common_steps)
 
     pub moved-steps : n < 256 → (after : Kept) → view after ≡ with_place t d n → after.depth - 1 ≡ d → d < length t.places
-        → IsFinished b before w (record { tick = record { mask = m; code = k }; label = n }) after
+        → IsFinished b before w m k n after
     moved-steps h after p q low = grind (arith, common_steps, get_or-set_same)
 
 -- ---- places of a state with a depth of 1 to Σ

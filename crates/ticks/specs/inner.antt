@@ -1,1 +1,2 @@
 pub mod TickContracts
+pub mod Leaves

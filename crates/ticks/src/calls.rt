@@ -8,9 +8,9 @@ ghost use Rattle.ticks.specs.Tick.{top_of};
 ghost use Rattle.ticks.specs.inner.TickContracts.{GivesTickEnd};
 ghost use Rattle.ticks.specs.calls.inner.Callees.{IsCallee};
 
+use crate::TickEnd;
 use crate::codes::code_of;
 use crate::full_stack::tick_full;
-use crate::{Tick, TickEnd, TickMove};
 use image::layout::CALLED;
 use state::State;
 use tables::Table;
@@ -78,8 +78,8 @@ fn callee_of(table: &Table, state: &State, l: usize) -> Callee
     }
 }
 
-// A call: the entry of the scheme that serves the number called goes above the top, and the number's bit is cleared after the caller's
-// result is written.
+/// The tick of a call: the caller's result is written, then the bit of the number called is cleared, and the entry of the scheme that
+/// serves the number goes above the top.
 pub fn tick_call(table: &Table, state: &mut State, l: u8, word: u16) -> TickEnd
     requires depth { has_bad_depth (view state.old) ≡ false }
     requires label { l ≡ top_of (view state.old) }
@@ -103,9 +103,9 @@ pub fn tick_call(table: &Table, state: &mut State, l: u8, word: u16) -> TickEnd
     state.put_result(1, called);
     state.open_place(depth as usize, entry, called, server);
     state.depth = depth + 1;
-    let tick = Tick {
+    TickEnd::Finished {
         mask: label.mask,
         code: code_of(label.kind, called),
-    };
-    TickEnd::Finished(TickMove { tick, label: entry })
+        label: entry,
+    }
 }

@@ -7,12 +7,13 @@ ghost use Rattle.ticks.specs.codes.Codes.{code_of, meaning_of};
 use image::layout::*;
 use text::frames::codes::*;
 
-// What is told in the place of a tick kind: a drop, and a code that no tick has.
+/// What is told of a drop in the place of a tick kind.
 pub const DROP: u8 = 5;
 
+/// What is told in the place of a tick kind where no tick has the code.
 pub const UNKNOWN: u8 = 255;
 
-// What a code stands for, a call with the number called; Drop is a call that dropped all open schemes, Unknown a code that no tick has.
+/// What a code stands for, a call with the number called; Drop is a call that dropped all open schemes, Unknown a code that no tick has.
 #[derive(Drop)]
 pub enum Meaning {
     Plain,
@@ -24,7 +25,7 @@ pub enum Meaning {
     Unknown,
 }
 
-// The code of a tick, by its kind and the number that it calls.
+/// The code of a tick, by its kind and the number that it calls.
 pub fn code_of(kind: u8, called: u8) -> u8
     requires { called ≤ SCHEMES }
     ensures { result ≡ code_of (tick_kind kind) called }
@@ -38,7 +39,7 @@ pub fn code_of(kind: u8, called: u8) -> u8
     }
 }
 
-// Only numbers 2 to 16 can be called.
+/// What a code stands for: a call's number is 2 to 16, and a code that is no tick's stands for Unknown.
 pub fn meaning_of(code: u8) -> Meaning
     ensures { result ≡ meaning_of code }
 {

@@ -6,7 +6,7 @@ ghost use Rattle.fitness.specs.Fitness.{has_bad_depth, is_call};
 ghost use Rattle.ticks.specs.Tick.{top_of, is_full_stack_kept};
 ghost use Rattle.ticks.specs.inner.TickContracts.{GivesTickEnd};
 
-use crate::{Tick, TickEnd, TickMove};
+use crate::TickEnd;
 use state::State;
 use tables::Table;
 use text::frames::codes::DROP_CODE;
@@ -27,8 +27,8 @@ fn keeps_full(table: &Table, state: &State) -> bool
     bottom.owner == handler
 }
 
-// A call at depth Σ: the caller's result is written, then the handler's bit cleared, and its entry is all that the stack holds; a
-// stack that is kept refuses the call.
+/// The tick of a call on a full stack: the caller's result is written, then the handler's bit cleared, and its entry is all that the stack
+/// holds. Without a handler, or with the handler at the bottom, the call is refused (17) and nothing changes.
 pub fn tick_full(table: &Table, state: &mut State, word: u16) -> TickEnd
     requires depth { has_bad_depth (view state.old) ≡ false }
     requires full { state.old.size ≤ state.old.depth }
@@ -48,9 +48,9 @@ pub fn tick_full(table: &Table, state: &mut State, word: u16) -> TickEnd
     state.put_result(label.result, caller);
     state.put_result(1, handler);
     state.put_alone(entry, handler);
-    let tick = Tick {
+    TickEnd::Finished {
         mask: label.mask,
         code: DROP_CODE,
-    };
-    TickEnd::Finished(TickMove { tick, label: entry })
+        label: entry,
+    }
 }

@@ -1,5 +1,6 @@
 //! One tick of the stack machine, on a prepared table and a state, in place, by the label at the top (`stepping`).
 //! `calls` makes the tick of a call, `full_stack` that of a call with no free place: a drop or 17; `returns` makes that of a return.
+//! `leaving` tells the label whose row a tick takes.
 //! `codes` has the tick codes. In the laws a tick on an accepted image leaves a fitting state fitting.
 #![tactic(auto)]
 
@@ -9,10 +10,11 @@ ghost use Rattle.ticks.specs.Functions.{CallClears, Drops, ZeroRow, FreshFits, T
 ghost use Rattle.ticks.specs.codes.CodesApart.{CodeMeans, CodesApart, DropMeans, DropApart, KindBack, MeaningCoded};
 ghost use Rattle.ticks.specs.inner.TickContracts.{bit_of};
 
-pub mod calls;
+mod calls;
 pub mod codes;
-pub mod full_stack;
-pub mod returns;
+mod full_stack;
+pub mod leaving;
+mod returns;
 pub mod stepping;
 
 use image::layout::{FUNCTION_CALL, NO_BIT};
@@ -32,22 +34,17 @@ pub struct Tick {
     pub code: u8,
 }
 
-/// The same, and the label at the top after it: the next tick of a run need not read it again.
-#[derive(Clone, Copy)]
-pub struct TickMove {
-    pub tick: Tick,
-    pub label: u8,
-}
-
-/// How a tick ends: finished or stopped, in one enum for the loop of a run.
+/// How a tick ends, in one enum for the loop of a run: finished, with the mask that it emits, its code and the label at the top after it,
+/// which the next tick need not read again, or stopped. The three stand side by side: as a struct the compiler moves mask and code as one
+/// number.
 #[derive(Clone, Copy)]
 pub enum TickEnd {
-    Finished(TickMove),
+    Finished { mask: u32, code: u8, label: u8 },
     Full,
     NoRow,
 }
 
-// The bit that decides among the rows of a label: the result of the number that it calls, where it is a function's, else 2.
+/// The bit that decides among the rows of a label: the result of the number that it calls, where it is a function's, else 2.
 pub fn bit_of(state: &State, kind: u8, called: u8) -> u8
     ensures { result ≡ bit_of kind called (view state.now).bits }
 {

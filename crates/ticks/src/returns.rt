@@ -7,7 +7,7 @@ ghost use Rattle.fitness.specs.Fitness.{has_bad_depth};
 ghost use Rattle.ticks.specs.Tick.{top_of};
 ghost use Rattle.ticks.specs.inner.TickContracts.{beneath, GivesTickEnd};
 
-use crate::{Tick, TickEnd, TickMove, bit_of};
+use crate::{TickEnd, bit_of};
 use image::layout::NO_LABEL;
 use rows::row_search::next_row;
 use state::State;
@@ -32,7 +32,7 @@ fn next_beneath(table: &Table, state: &State, word: u16) -> u16
     next_row(table, l as usize, word, bit)
 }
 
-// A return: the top is taken off, and the label beneath takes its row; at depth 1, where the handler ends, scheme 1 follows at label 0.
+/// A return: the top is taken off, and the label beneath takes its row; at depth 1, where the handler ends, scheme 1 follows at label 0.
 pub fn tick_back(table: &Table, state: &mut State, word: u16) -> TickEnd
     requires depth { has_bad_depth (view state.old) ≡ false }
     requires label { top_of (view state.old) ≡ 1 }
@@ -41,11 +41,11 @@ pub fn tick_back(table: &Table, state: &mut State, word: u16) -> TickEnd
     let depth = state.depth;
     if depth < 2 {
         state.put_alone(0, 1);
-        let tick = Tick {
+        return TickEnd::Finished {
             mask: 0,
             code: RETURN_CODE,
+            label: 0,
         };
-        return TickEnd::Finished(TickMove { tick, label: 0 });
     }
     let next = next_beneath(table, state, word);
     if NO_LABEL <= next {
@@ -55,9 +55,9 @@ pub fn tick_back(table: &Table, state: &mut State, word: u16) -> TickEnd
     state.open_place((depth as usize) - 1, 0, 0, 0);
     state.put_place((depth as usize) - 2, after);
     state.depth = depth - 1;
-    let tick = Tick {
+    TickEnd::Finished {
         mask: 0,
         code: RETURN_CODE,
-    };
-    TickEnd::Finished(TickMove { tick, label: after })
+        label: after,
+    }
 }

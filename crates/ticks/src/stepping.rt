@@ -7,9 +7,9 @@ ghost use Rattle.fitness.specs.Fitness.{has_bad_depth};
 ghost use Rattle.ticks.specs.Tick.{top_of};
 ghost use Rattle.ticks.specs.inner.TickContracts.{GivesTickEnd};
 
+use crate::TickEnd;
 use crate::calls::tick_call;
 use crate::returns::tick_back;
-use crate::{Tick, TickEnd, TickMove};
 use image::layout::{FUNCTION_CALL, NO_LABEL, OPERATION_CALL};
 use rows::row_search::next_free;
 use state::State;
@@ -35,11 +35,11 @@ fn tick_plain(table: &Table, state: &mut State, l: u8, word: u16) -> TickEnd
     state.put_result(label.result, number);
     // the depth is read again, since to keep where the top stands takes a register, and on a Cortex-M3 two instructions a tick
     state.put_place((state.depth as usize) - 1, after);
-    let tick = Tick {
+    TickEnd::Finished {
         mask: label.mask,
         code: PLAIN_CODE,
-    };
-    TickEnd::Finished(TickMove { tick, label: after })
+        label: after,
+    }
 }
 
 // The home tick: the entry of scheme 1 takes the place of the top.
@@ -51,11 +51,11 @@ fn tick_home(table: &Table, state: &mut State, word: u16) -> TickEnd
     let top = (state.depth as usize) - 1;
     let entry = table.entry(1);
     state.put_place(top, entry);
-    let tick = Tick {
+    TickEnd::Finished {
         mask: 0,
         code: HOME_CODE,
-    };
-    TickEnd::Finished(TickMove { tick, label: entry })
+        label: entry,
+    }
 }
 
 // A tick of a label of 2 up, by its kind; one above M has no row.
@@ -75,7 +75,7 @@ fn tick_numbered(table: &Table, state: &mut State, l: u8, word: u16) -> TickEnd
     }
 }
 
-// A tick by the label l at the top.
+/// One tick of a state whose top is label `l`.
 pub fn tick_on(table: &Table, state: &mut State, l: u8, word: u16) -> TickEnd
     requires depth { has_bad_depth (view state.old) ≡ false }
     requires label { l ≡ top_of (view state.old) }

@@ -51,22 +51,22 @@ module _ (b : List ℕ) (s : State) where
   abbrev top : ℕ
   top = place_at s (s.depth - 1)
 
-  left_is : leaving i s ≡ leaving_by s (tick_kind (table_label b top).kind)
+  left-is : leaving i s ≡ leaving_by s (tick_kind (table_label b top).kind)
   unfolding leaving
-  left_is = ap (λ (x : Label). leaving_by s (tick_kind x.kind)) (label-at b top)
+  left-is = ap (λ (x : Label). leaving_by s (tick_kind x.kind)) (label-at b top)
 
   module _ (k : ℕ) (read : k ≡ (table_label b top).kind) where
     pub left-plain : k ≡ 0 → top ≡ leaving_number (leaving i s)
-    left-plain e = rw (left_is, sym read, e)
+    left-plain e = rw (left-is, sym read, e)
 
     pub left-other : (k ≡ 0 → ⊥) → (k ≡ 3 → ⊥) → 0 ≡ leaving_number (leaving i s)
-    left-other m n = grind (arith, common_steps, left_is)
+    left-other m n = grind (arith, common_steps, left-is)
 
     pub left-last : k ≡ 3 → s.depth ≤ 1 → 0 ≡ leaving_number (leaving i s)
-    left-last e h = rw (left_is, sym read, e, le-leb s.depth 1 h)
+    left-last e h = rw (left-is, sym read, e, le-leb s.depth 1 h)
 
     pub left-beneath : k ≡ 3 → 1 < s.depth → place_at s (s.depth - 2) ≡ leaving_number (leaving i s)
-    left-beneath e h = rw (left_is, sym read, e, lt-leb s.depth 1 h)
+    left-beneath e h = rw (left-is, sym read, e, lt-leb s.depth 1 h)
 
 -- ---- the row that label l takes
 unmoved : (m n f : ℕ) (r : Row) (x : Choice) → row (m + f) r ≡ moved_by n x → (k : ℕ) × (x ≡ row k r) × (m + f ≡ n + k)
@@ -111,11 +111,11 @@ module _ (b : List ℕ) (l w : ℕ) (low : 2 ≤ l) (high : l ≤ last_label b) 
     found : found_at b l f ≡ best_row l w bit (first_on b l) (rows_on b l)
     found = chosen-found b l w bit whole small f g
 
-    by_number : moved_by (rows_before b l) (found_at b l f) ≡ moved_by (first_on b l) (best_row l w bit 0 img.rows)
-    by_number = found-number b l w bit low high f found
+    by-number : moved_by (rows_before b l) (found_at b l f) ≡ moved_by (first_on b l) (best_row l w bit 0 img.rows)
+    by-number = found-number b l w bit low high f found
 
     pub none-told : size b ≤ f → GivesCause (cause_outcome (cause_at img bs w (leaves_label l))) (Err (NoRow 0))
-    none-told h = grind (arith, common_steps, rows_before, le-ltb, moved_by, cond-false, tells-none, unmoved-none, choice-is, by_number)
+    none-told h = grind (arith, common_steps, rows_before, le-ltb, moved_by, cond-false, tells-none, unmoved-none, choice-is, by-number)
 
     module _ (h : f < size b) where
       found-is : found_at b l f ≡ row f (row_on b l f)
@@ -124,7 +124,7 @@ module _ (b : List ℕ) (l w : ℕ) (low : 2 ≤ l) (high : l ≤ last_label b) 
       pub numbers : RowNumbers b l w bit f
       numbers =
           let u = unmoved (rows_before b l) (first_on b l) f (row_on b l f) (best_row l w bit 0 img.rows)
-          (sym (ap (moved_by (rows_before b l)) found-is) ∙ by_number) in
+          (sym (ap (moved_by (rows_before b l)) found-is) ∙ by-number) in
           let starts = x.starts l low high in
           let own = best-at l w bit (first_on b l) (rows_on b l) f (row_on b l f) (sym found ∙ found-is) in
           let best = best-is l w bit img.rows u.0 (row_on b l f) u.1 in

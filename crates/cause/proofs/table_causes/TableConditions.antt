@@ -27,22 +27,22 @@ module _ (b : List ℕ) (l w bit : ℕ) where
   abbrev all : List Row → ℕ
   all = mask_against_all l w bit
 
-  other_none : (r : Row) → (r.from ≡ l → ⊥) → mask_against l w bit r ≡ 0
-  other_none r h = grind (arith, common_steps)
+  other-none : (r : Row) → (r.from ≡ l → ⊥) → mask_against l w bit r ≡ 0
+  other-none r h = grind (arith, common_steps)
 
   others-first : (m : ℕ) → (m ≡ l → ⊥) → (i n : ℕ) (rs : List Row) → all (map (row_on b m) (range i n) ++ rs) ≡ all rs
   unfolding mask_against_all
   others-first m h i zero rs = refl
-  others-first m h i (suc n) rs = ap₂ bit_or (other_none (row_on b m i) h) (others-first m h (suc i) n rs) ∙ or_zero_l (all rs)
+  others-first m h i (suc n) rs = ap₂ bit_or (other-none (row_on b m i) h) (others-first m h (suc i) n rs) ∙ or_zero_l (all rs)
 
-  none_last : (xs ys : List Row) → all ys ≡ 0 → all (xs ++ ys) ≡ all xs
+  none-last : (xs ys : List Row) → all ys ≡ 0 → all (xs ++ ys) ≡ all xs
   unfolding mask_against_all
-  none_last [] ys e = e
-  none_last (x ∷ xs) ys e = ap (bit_or (mask_against l w bit x)) (none_last xs ys e)
+  none-last [] ys e = e
+  none-last (x ∷ xs) ys e = ap (bit_or (mask_against l w bit x)) (none-last xs ys e)
 
   pub own-conditions : 2 ≤ l → l ≤ last_label b → mask_against_all l w bit (table_image b).rows ≡ mask_against_all l w bit (rows_on b l)
   unfolding mask_against_all
-  own-conditions = own-alone b l all (λ m h rs. others-first m h (first_on b m) (end_on b m - first_on b m) rs) none_last
+  own-conditions = own-alone b l all (λ m h rs. others-first m h (first_on b m) (end_on b m - first_on b m) rs) none-last
 
 -- ---- one of its own rows, by its frame
 module _ (b : List ℕ) (l w : ℕ) where
@@ -58,8 +58,8 @@ module _ (b : List ℕ) (l w : ℕ) where
   abbrev low : ℕ → ℕ
   low f = 2 ^ lowest (is_differing w (pair_at b f 2) (pair_at b f 4)) 0 16
 
-  by_bit : (bit f : ℕ) → mask_against l w bit (row_on b l f) ≡ (if (only f == 2 || only f == bit) && not (agreed f) then low f else 0)
-  by_bit bit f = ap (λ (t : Bool). if t && ((only f == 2 || only f == bit) && not (agreed f)) then low f else 0) (eq-eqb l l refl)
+  by-bit : (bit f : ℕ) → mask_against l w bit (row_on b l f) ≡ (if (only f == 2 || only f == bit) && not (agreed f) then low f else 0)
+  by-bit bit f = ap (λ (t : Bool). if t && ((only f == 2 || only f == bit) && not (agreed f)) then low f else 0) (eq-eqb l l refl)
 
   -- no row of a label that calls no function looks at the bit
   module _ (n : kind ≡ 2 → ⊥) where
@@ -67,7 +67,7 @@ module _ (b : List ℕ) (l w : ℕ) where
     free f = cond-false (kind == 2) (field b f 6) 2 (ne_eqb kind 2 n)
 
     free-lets : (bit f : ℕ) → mask_against l w bit (row_on b l f) ≡ (if not (agreed f) then low f else 0)
-    free-lets bit f = by_bit bit f ∙ ap (λ (k : ℕ). if (k == 2 || k == bit) && not (agreed f) then low f else 0) (free f)
+    free-lets bit f = by-bit bit f ∙ ap (λ (k : ℕ). if (k == 2 || k == bit) && not (agreed f) then low f else 0) (free f)
 
     free-rows : (p q f n : ℕ) → mask_against_all l w p (map (row_on b l) (range f n))
         ≡ mask_against_all l w q (map (row_on b l) (range f n))
@@ -83,16 +83,16 @@ module _ (b : List ℕ) (l w : ℕ) where
     frames-are : (f n : ℕ) → mask_against_from b w bit f n ≡ mask_against_all l w bit (map (row_on b l) (range f n))
     unfolding mask_against_from mask_against_all
     frames-are f zero = grind (arith, common_steps)
-    frames-are f (suc n) = grind (arith, common_steps, frames-are (suc f) n, own-bit, by_bit)
+    frames-are f (suc n) = grind (arith, common_steps, frames-are (suc f) n, own-bit, by-bit)
 
     pub frame-conditions : 2 ≤ l → l ≤ last_label b
         → mask_against_from b w bit (first_on b l) (end_on b l - first_on b l) ≡ mask_against_all l w bit (table_image b).rows
     frame-conditions h g = frames-are (first_on b l) (end_on b l - first_on b l) ∙ sym (own-conditions b l w bit h g)
 
 -- ---- on a sound image every row has its values within its care mask
-all_split : (P : Row → Type 0) (xs ys : List Row) → AllByRecursion P (xs ++ ys) → AllByRecursion P xs × AllByRecursion P ys
-all_split P [] ys a = (tt, a)
-all_split P (x ∷ xs) ys (p, a) = let r = all_split P xs ys a in ((p, r.0), r.1)
+all-split : (P : Row → Type 0) (xs ys : List Row) → AllByRecursion P (xs ++ ys) → AllByRecursion P xs × AllByRecursion P ys
+all-split P [] ys a = (tt, a)
+all-split P (x ∷ xs) ys (p, a) = let r = all-split P xs ys a in ((p, r.0), r.1)
 
 module _ (b : List ℕ) (l : ℕ) where
   abbrev Within : Row → Type 0
@@ -103,7 +103,7 @@ module _ (b : List ℕ) (l : ℕ) where
   own-within i (suc n) p q a = go (ℕ_discrete i l) (own-within (suc i) n)
     where
       parts : AllByRecursion Within (rows_on b i) × AllByRecursion Within (flat_map (rows_on b) (range (suc i) n))
-      parts = all_split Within (rows_on b i) (flat_map (rows_on b) (range (suc i) n))
+      parts = all-split Within (rows_on b i) (flat_map (rows_on b) (range (suc i) n))
           (subst (AllByRecursion Within) (concat-cons (rows_on b) i (range (suc i) n)) a)
 
       go : Dec (i ≡ l) → (suc i ≤ l → l < suc i + n → AllByRecursion Within (flat_map (rows_on b) (range (suc i) n)) → AllByRecursion Within (rows_on b l))

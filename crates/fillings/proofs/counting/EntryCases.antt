@@ -4,7 +4,7 @@ use Rattle.std.proofs.lemmas.Grind.{common_steps}
 use Rattle.words.proofs.lists.Tests.{or-l}
 use Rattle.text.specs.frames.Frame.{contents}
 use Rattle.text.specs.frames.Verdict.{Verdict, fine, refused, next, when}
-use Rattle.text.specs.frames.Answer.{Answer, refusal, reply, verdict_reply}
+use Rattle.text.specs.frames.Answer.{refusal, reply, verdict_reply}
 use Rattle.text.specs.declared.frames.refusals.Refusal.{Refusal}
 use Rattle.text.specs.declared.frames.refusals.Refusal.TheVariants.{BadSize, ManyLists}
 use Rattle.text.specs.frames.Refusal.{number_of, index_of, ticks_of}
@@ -45,10 +45,9 @@ module _ (t : List ℕ) (size n k : ℕ) where
   unfolding count_fillings
   refused-tells r v z = rw v (record { answered = ap (refusal (number_of r) (index_of r)) z; ended = refl; full = refl; unmatched = refl })
 
-  pub image-tells : (a : Answer) → reply a ≡ verdict_reply (image_verdict t) 0 → (r : Refusal) → a ≡ Err r
-      → GivesFillings (count_fillings t size n k) (Err r)
+  pub image-tells : (r : Refusal) → reply (Err r) ≡ verdict_reply (image_verdict t) 0 → GivesFillings (count_fillings t size n k) (Err r)
   unfolding count_verdict
-  image-tells a gives r e = grind (arith, common_steps, next-refused, err-refused, refused-tells)
+  image-tells r gives = grind (arith, common_steps, next-refused, err-refused, refused-tells)
 
   module _ (ok : image_verdict t ≡ fine) where
     verdict-on : count_verdict t size n k ≡ sizes

@@ -15,7 +15,7 @@ use Rattle.text.specs.frames.Answer.{GivesBuffer}
 use Rattle.text.specs.declared.frames.refusals.Refusal.TheVariants.{NoRoom}
 use Rattle.text.proofs.frames.Lent.{lent-short, lent-done}
 use Rattle.text.proofs.frames.Texts.{text-length}
-use Rattle.image.specs.Image.{Image, Row, image_frames, image_text}
+use Rattle.image.specs.Image.{Image, Row, image_text}
 use Rattle.image.specs.Decode.{scheme_count, last_label, rows_from, decoded_image}
 use Rattle.image.specs.inner.Sound.{SoundRow, SoundImage}
 use Rattle.image.proofs.Written.{frames-length, image-frames}
@@ -72,20 +72,20 @@ module _ (b buffer : List ℕ) (G : Grouped b buffer) where
   first-same : (l : ℕ) → l < n → is_first buffer l ≡ is_first c l
   first-same l k = ap (λ (x : ℕ). x == l) (inside l k)
 
-  number_same : (l : ℕ) → l < n → renumbered_label buffer l ≡ renumbered_label c l
-  number_same l k = ap (λ (x : ℕ). count (is_first buffer) 0 x) (inside l k)
+  number-same : (l : ℕ) → l < n → renumbered_label buffer l ≡ renumbered_label c l
+  number-same l k = ap (λ (x : ℕ). count (is_first buffer) 0 x) (inside l k)
       ∙ count-alike (is_first c) (is_first buffer) 0 (class_of c l) (λ m x y. first-same m (omega (arith, R.below l k)))
 
-  row_same : (r : Row) → SoundRow i r × (is_first c r.from ≡ true) → renumbered_row buffer r ≡ renumbered_row c r
-  row_same r x = grind (arith, common_steps, inside, number_same)
+  row-same : (r : Row) → SoundRow i r × (is_first c r.from ≡ true) → renumbered_row buffer r ≡ renumbered_row c r
+  row-same r x = grind (arith, common_steps, inside, number-same)
 
-  joined_same : joined_labels i buffer ≡ smaller_image i
+  joined-same : joined_labels i buffer ≡ smaller_image i
   unfolding joined_labels
-  joined_same =
+  joined-same =
       let e : map (renumbered_label buffer) i.entries ≡ map (renumbered_label c) i.entries =
       map-all (renumbered_label buffer) (renumbered_label c) i.entries
       (all-places (λ l. renumbered_label buffer l ≡ renumbered_label c l) 0 i.entries
-      (λ k m. number_same (slice_index i.entries k) (S.starts k m).inside)) in
+      (λ k m. number-same (slice_index i.entries k) (S.starts k m).inside)) in
       let l : map (label_at i) (filter (is_first buffer) (range 0 n)) ≡ map (label_at i) (filter (is_first c) (range 0 n)) =
       ap (map (label_at i)) (filter-all (is_first buffer) (is_first c) (range 0 n)
       (all-range (λ l. is_first buffer l ≡ is_first c l) 0 n (λ k m. first-same (0 + k) (omega arith)))) in
@@ -96,15 +96,15 @@ module _ (b buffer : List ℕ) (G : Grouped b buffer) where
       (λ r s. first-same r.from s.high) i.rows (sound-rows i S)))
       ∙ map-all (renumbered_row buffer) (renumbered_row c) (filter (λ r. is_first c r.from) i.rows)
       (all-of (λ r. SoundRow i r × (is_first c r.from ≡ true)) (λ r. renumbered_row buffer r ≡ renumbered_row c r)
-      row_same (filter (λ r. is_first c r.from) i.rows)
+      row-same (filter (λ r. is_first c r.from) i.rows)
       (all-filter (SoundRow i) (λ r. is_first c r.from) i.rows (sound-rows i S))) in
       λ j. record { handler = i.handler; entries = e j; labels = l j; rows = r j }
 
   sound : SoundImage (joined_labels i buffer)
-  sound = subst SoundImage (sym joined_same) (joined-sound i S (grouping i) R)
+  sound = subst SoundImage (sym joined-same) (joined-sound i S (grouping i) R)
 
   pieces-smaller : all_pieces b buffer ≡ image_text (smaller_image i)
-  pieces-smaller = pieces-are b buffer G.table.all ∙ ap image_text joined_same
+  pieces-smaller = pieces-are b buffer G.table.all ∙ ap image_text joined-same
 
   module _ (numbers : List ℕ) (schemes last first groups rows : ℕ) (e₁ : schemes ≡ scheme_count b)
       (e₂ : last ≡ last_label b) (e₃ : first ≡ rows_from b)
@@ -123,39 +123,18 @@ module _ (b buffer : List ℕ) (G : Grouped b buffer) where
     groups-most : groups ≤ 256
     groups-most = omega (arith, groups-is, groups-are b buffer G.table.all, sound.last)
 
-    rows_few : rows ≤ 1024
-    rows_few = omega (arith, rows-is, rows-are b buffer G.table.all, sound.few)
+    rows-few : rows ≤ 1024
+    rows-few = omega (arith, rows-is, rows-are b buffer G.table.all, sound.few)
 
     abbrev need : ℕ
     need = 23 * (1 + schemes + groups + rows)
 
     smaller-long : length (image_text (smaller_image i)) ≡ need
     unfolding image_text
-    smaller-long =
-        ap (λ (j : Image). length (image_text j)) (sym joined_same)
-        ∙ text-length (image_frames (joined_labels i buffer)) (image-frames (joined_labels i buffer) sound)
-        ∙ ap (λ (m : ℕ). 23 * m) (frames-length (joined_labels i buffer)
-        ∙ omega (
-          arith,
-          entries-are b buffer G.table.all,
-          groups-are b buffer G.table.all,
-          rows-are b buffer G.table.all,
-          groups-is,
-          rows-is,
-        ))
+    smaller-long = grind (arith, text-length, rows-are, frames-length, image-frames, entries-are, groups-are, joined-same, sound, groups-is, rows-is)
 
     pub counts : CountedFirst b buffer numbers schemes groups rows
-    counts = record {
-      sixteen = omega (arith, entries-count b, S.most);
-      groups-kept = groups-is;
-      rows-kept = rows-is;
-      some = groups-some;
-      few-groups = groups-most;
-      few-rows = rows_few;
-      numbered = λ h. record { table = G.table; long = G.classes.long; room = h; at = λ l k. number-at buffer unwritten numbers (last + 1) N l (omega arith) };
-      long = smaller-long;
-      text = pieces-smaller;
-    }
+    counts = grind (arith, number-at, entries-count, S, pieces-smaller, groups-is, rows-is, groups-some, groups-most, rows-few, smaller-long)
 
 module _ (b buffer numbers : List ℕ) (schemes groups rows : ℕ) (C : CountedFirst b buffer numbers schemes groups rows) (old : List ℕ) where
   pub smaller-short : length old < 23 * (1 + schemes + groups + rows) → GivesBuffer (smaller_outcome b fine old) (Err NoRoom) old

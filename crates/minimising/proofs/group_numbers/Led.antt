@@ -12,7 +12,7 @@ use Rattle.image.specs.Image.{Image, Row}
 use Rattle.image.specs.inner.Sound.{SoundImage}
 use Rattle.rows.specs.Rows.{is_candidate}
 use Rattle.covering.specs.Matched.{hits, is_uneven}
-use Rattle.covering.proofs.Hits.{OneRow, the_row, even-of}
+use Rattle.covering.proofs.Hits.{OneRow, the-row, even-of}
 use Rattle.grouping.specs.Classes.{class_of, is_first}
 use Rattle.grouping.proofs.Onward.{label_led_to, onward_label}
 use Rattle.grouping.proofs.Rounds.{ClassRound}
@@ -60,22 +60,11 @@ module _ (i : Image) (S : SoundImage i) (c : List ℕ) (R : ClassRound i c) wher
       → filter (is_candidate (new l) w b) (joined_labels i c).rows
       ≡ map (renumbered_row c) (filter (is_candidate (class_of c l) w b) i.rows)
   unfolding joined_labels
-  matching-led l w b h =
-      let e : new l ≡ new (class_of c l) = ap (λ (x : ℕ). count (is_first c) 0 x) (sym (R.own l h)) in
-      ap (λ (x : ℕ). filter (is_candidate x w b) (map (renumbered_row c) (filter (λ r. is_first c r.from) i.rows))) e
-      ∙ rows-led c (class_of c l) w b (class-first i S c R l h) i.rows
+  matching-led l w b h = grind (arith, class-first, rows-led)
 
   module _ (one : OneRow i) where
     pub one-new : OneRow (joined_labels i c)
-    one-new k w b low high =
-        let x : Member k = member k high in
-        let l : ℕ = x.label in
-        let e : class_of c l ≡ l = eqb-true (class_of c l) l x.first in
-        ap (λ (j : ℕ). hits (joined_labels i c) j w (if b then 1 else 0)) (sym x.number)
-        ∙ ap (λ (rs : List Row). length rs) (matching-led l w (if b then 1 else 0) x.inside)
-        ∙ length-map (filter (is_candidate (class_of c l) w (if b then 1 else 0)) i.rows) (renumbered_row c)
-        ∙ ap (λ (j : ℕ). hits i j w (if b then 1 else 0)) e
-        ∙ one l w b (x.high low) x.inside
+    one-new k w b low high = grind (arith, member k high, eqb-true, matching-led, length-map)
 
     pub even-new : is_uneven (joined_labels i c) ≡ false
     even-new = even-of (joined_labels i c) go
@@ -92,7 +81,7 @@ module _ (i : Image) (S : SoundImage i) (c : List ℕ) (R : ClassRound i c) wher
     onward-new leads l w b low h =
         let m : ℕ = class_of c l in
         let hm : m < n = omega (arith, R.below l h) in
-        let x = the_row i one m w b (class-high i S c R l h low) hm in
+        let x = the-row i one m w b (class-high i S c R l h low) hm in
         ap (label_led_to (new l)) (matching-led l w (if b then 1 else 0) h ∙ ap (map (renumbered_row c)) x.1)
         ∙ ap new (sym (ap (label_led_to m) x.1))
         ∙ ap (λ (y : ℕ). count (is_first c) 0 y) (leads m l hm h (R.own l h) w b)

@@ -1,6 +1,6 @@
 -- Cases of the functions that number the groups and count what is kept.
 use Rattle.std.proofs.Common.{if◌then◌else◌, ℕ, ◌+◌, ◌≤◌, ◌<◌, ◌≡◌, refl, sym, ◌∙◌, ap, ap₂, Bool, true, false, List, zero-add, add-one, slice_index}
-use Rattle.std.proofs.Common.{arith, length, set, subst, drop, get_or-set_same, get_or-set_other}
+use Rattle.std.proofs.Common.{arith, length, set, subst, get_or-set_same, get_or-set_other}
 use Rattle.std.proofs.Math.Decide.{ℕ_discrete}
 use Rattle.std.proofs.lemmas.Grind.{common_steps}
 use Rattle.words.specs.lists.Numbers.{count}
@@ -26,29 +26,23 @@ pub record NumberTurn (c old numbers : List ℕ) (n groups l : ℕ) : Type 0 whe
   pub at : (k : ℕ) → k < l → slice_index numbers k ≡ renumbered_label c k
 
 pub turn-start : (c old : List ℕ) (n : ℕ) → length old ≡ 256 → NumberTurn c old old n 0 0
-turn-start c old n e = record {
-  room = e;
-  filled = values-none (renumbered_label c) old 0 n;
-  is = omega (arith, count-le (is_first c) 0 0);
-  few = omega arith;
-  at = λ k h. absurd (omega arith);
-}
+turn-start c old n e = grind (arith, values-none (renumbered_label c) old 0 n, count-le (is_first c) 0 0)
 
 module _ (c old numbers : List ℕ) (n groups l : ℕ) (low : LowestOfClass c n)
     (t : NumberTurn c old numbers n groups l) (h : l < n) (small : n ≤ 256) where
   abbrev number : ℕ
   number = if is_first c l then groups else slice_index numbers (slice_index c l)
 
-  number_is : (b : Bool) → is_first c l ≡ b → number ≡ renumbered_label c l
-  number_is true e = grind (arith, common_steps)
-  number_is false e = grind (arith, common_steps)
+  number-is : (b : Bool) → is_first c l ≡ b → number ≡ renumbered_label c l
+  number-is true e = grind (arith, common_steps)
+  number-is false e = grind (arith, common_steps)
 
   pub turn-on : (v x : ℕ) → v ≡ number → x ≡ (if is_first c l then 1 else 0) → x ≤ 1
       → NumberTurn c old (set numbers l v) n (groups + x) (l + 1)
   turn-on v x e w most = record {
     room = t.room;
     filled = subst (λ (j : ℕ). ValuesFrom (renumbered_label c) old (set numbers j v) 0 n (l + 1)) (let z : 0 + l ≡ l = omega arith in z)
-        (values-turn (renumbered_label c) old 0 n numbers l v (omega (arith, t.room)) t.filled h (e ∙ number_is (is_first c l) refl));
+        (values-turn (renumbered_label c) old 0 n numbers l v (omega (arith, t.room)) t.filled h (e ∙ number-is (is_first c l) refl));
     is = ap₂ ◌+◌ t.is w
         ∙ sym (ap (count (is_first c) 0) (add-one l) ∙ count-snoc (is_first c) 0 l
         ∙ ap (λ (k : ℕ). count (is_first c) 0 l + (if is_first c k then 1 else 0)) (zero-add l));
@@ -59,7 +53,7 @@ module _ (c old numbers : List ℕ) (n groups l : ℕ) (low : LowestOfClass c n)
       go : (k : ℕ) → k < l + 1 → Dec (k ≡ l) → slice_index (set numbers l v) k ≡ renumbered_label c k
       go k j (yes q) = ap (λ (m : ℕ). slice_index (set numbers l v) m) q
           ∙ get_or-set_same numbers l v 0 (omega (arith, t.room, t.filled.size)) ∙ e
-          ∙ number_is (is_first c l) refl ∙ ap (renumbered_label c) (sym q)
+          ∙ number-is (is_first c l) refl ∙ ap (renumbered_label c) (sym q)
       go k j (no q) = get_or-set_other numbers l k v 0 q ∙ t.at k (less-of k l (omega arith) q)
 
 module _ (c old numbers : List ℕ) (n : ℕ) where
@@ -67,8 +61,4 @@ module _ (c old numbers : List ℕ) (n : ℕ) where
   turn-all groups l t h = values-all (renumbered_label c) old 0 n numbers l t.filled h ∙ written-front old (group_numbers c n)
 
   pub number-at : numbers ≡ over (group_numbers c n) old → (l : ℕ) → l < n → slice_index numbers l ≡ renumbered_label c l
-  number-at e l h =
-      ap (λ (xs : List ℕ). slice_index xs l) e
-      ∙ get_or-append (group_numbers c n) (drop (length (group_numbers c n)) old) 0 l
-      (omega (arith, length-map-range (renumbered_label c) 0 n))
-      ∙ get_or-map-range (renumbered_label c) 0 0 n l h ∙ ap (renumbered_label c) (let z : 0 + l ≡ l = omega arith in z)
+  number-at e l h = grind (arith, get_or-append, length-map-range, get_or-map-range)

@@ -1,12 +1,12 @@
 -- The numbers of the groups, and that the image with one label a group is sound.
-use Rattle.std.proofs.Common.{if◌then◌else◌, ℕ, zero, suc, ◌+◌, ◌-◌, ◌≤◌, ◌<◌, Bool, true, false, ◌≡◌, refl, sym, ◌∙◌, ap, subst, ◌⊎◌, inl, slice_index, slice_index_or, filter}
-use Rattle.std.proofs.Common.{inr, List, [], ◌∷◌, map, zero-add, arith, length, eqb-true, eq-eqb}
+use Rattle.std.proofs.Common.{ℕ, zero, suc, ◌-◌, ◌≤◌, ◌<◌, Bool, true, false, ◌≡◌, refl, sym, ◌∙◌, ap, subst, slice_index, slice_index_or, filter}
+use Rattle.std.proofs.Common.{List, [], ◌∷◌, map, zero-add, arith, length, eqb-true, eq-eqb}
 use Rattle.std.proofs.Math.ListN.{length-map}
 use Rattle.std.proofs.lemmas.Grind.{common_steps}
 use Rattle.words.specs.lists.Numbers.{range, count}
 use Rattle.std.specs.List.{AllByRecursion}
 use Rattle.std.proofs.lemmas.Bool.{cond-true}
-use Rattle.words.proofs.lists.Tests.{split}
+use Rattle.words.proofs.lists.Tests.{split, cases}
 use Rattle.words.proofs.lists.Counts.{count-snoc, count-le, count-mono, count-below}
 use Rattle.words.proofs.lists.Ranges.{length-filter, get_or-filter, get_d-map, filter-yes, filter-no}
 use Rattle.words.proofs.lists.Filters.{filter-none}
@@ -28,19 +28,8 @@ pub record Nth (p : ℕ → Bool) (n k : ℕ) : Type 0 where
   pub number : count p 0 member ≡ k
 
 pub nth : (p : ℕ → Bool) (n k : ℕ) → k < count p 0 n → Nth p n k
-nth p zero k h = absurd (omega (arith, count-le p 0 0))
-nth p (suc n) k h = go (p n) refl (split k (count p 0 n)) (nth p n k)
-  where
-    wider : Nth p n k → Nth p (suc n) k
-    wider x = record { member = x.member; inside = omega (arith, x.inside); passes = x.passes; number = x.number }
-
-    tail : (t : Bool) → p n ≡ t → count p 0 (suc n) ≡ count p 0 n + (if t then 1 else 0)
-    tail t e = count-snoc p 0 n ∙ ap (λ (x : Bool). count p 0 n + (if x then 1 else 0)) (ap p (zero-add n) ∙ e)
-
-    go : (t : Bool) → p n ≡ t → (k < count p 0 n) ⊎ (count p 0 n ≤ k) → (k < count p 0 n → Nth p n k) → Nth p (suc n) k
-    go t e (inl x) ih = wider (ih x)
-    go true e (inr x) ih = record { member = n; inside = omega arith; passes = e; number = omega (arith, tail true e) }
-    go false e (inr x) ih = absurd (omega (arith, tail false e))
+nth p zero k h = grind (arith, count-le p 0 0)
+nth p (suc n) k h = grind (arith, cases (p n), nth p n k, split k (count p 0 n), count-snoc p 0 n, zero-add n)
 
 -- ---- rows in rising order
 rising-of : (m : ℕ) (rs : List Row) → (0 < length rs → m ≤ (slice_index_or rs 0 no_row).from)
@@ -97,9 +86,7 @@ module _ (i : Image) (S : SoundImage i) (c : List ℕ) (R : ClassRound i c) wher
   count-two = next-first 1 class-one ∙ ap suc (next-first 0 class-zero) ∙ ap (λ (x : ℕ). suc (suc x)) count-zero
 
   count-rises : (k l : ℕ) → k ≤ l → count (is_first c) 0 k ≤ count (is_first c) 0 l
-  count-rises k l h =
-      let e : count (is_first c) 0 (k + (l - k)) ≡ count (is_first c) 0 l = ap (λ (x : ℕ). count (is_first c) 0 x) (omega arith) in
-      omega (arith, count-mono (is_first c) k (l - k))
+  count-rises k l h = grind (arith, count-mono (is_first c) k (l - k))
 
   pub new-high : (l : ℕ) → l < n → 2 ≤ l → 2 ≤ new l
   new-high l h k = omega (arith, count-two, count-rises 2 (class_of c l) (class-high l h k))

@@ -1,14 +1,13 @@
 -- Cases of the functions that write the pieces.
-use Rattle.std.proofs.Common.{if◌then◌else◌, ℕ, suc, ◌+◌, ◌-◌, ◌≤◌, ◌<◌, ◌≡◌, refl, sym, ◌∙◌, ap, subst, List, [], arith, length, slice_index}
+use Rattle.std.proofs.Common.{if◌then◌else◌, ℕ, ◌+◌, ◌-◌, ◌≤◌, ◌<◌, ◌≡◌, refl, ◌∙◌, ap, subst, List, [], arith, length, slice_index}
 use Rattle.std.proofs.Common.{eq-eqb, ne_eqb}
 use Rattle.std.proofs.lemmas.Grind.{common_steps}
 use Rattle.words.specs.lists.Sequences.{written}
 use Rattle.std.proofs.lemmas.Bool.{cond-true, cond-false}
-use Rattle.text.specs.frames.Frame.{size, field, pair_at, frame_text}
+use Rattle.text.specs.frames.Frame.{size, field, frame_text}
 use Rattle.text.proofs.frames.FrameLoops.{length-frame}
-use Rattle.image.specs.Image.{Row, entry_frame, label_frame, row_frame}
-use Rattle.image.specs.Decode.{scheme_count, last_label, row_count, handler_in, labels_from, rows_from, label_in, decoded_image}
-use Rattle.image.specs.Decode.{row_in_frame}
+use Rattle.image.specs.Image.{entry_frame, label_frame, row_frame}
+use Rattle.image.specs.Decode.{scheme_count, last_label, row_count, handler_in, labels_from, rows_from, label_in, decoded_image, row_in_frame}
 use Rattle.image.specs.Check.{label_position, position_of}
 use Rattle.image.specs.inner.Sound.{SoundRow}
 use Rattle.image.proofs.Accepted.{entries-count, labels-count, rows-count, entry-read, row-read, position-of-entry, position-of-label}
@@ -16,7 +15,7 @@ use Rattle.image.proofs.Accepted.{position-of-row}
 use Rattle.translator.specs.label_text.inner.LabelBytes.{header_bytes, up_to, Put}
 use Rattle.translator.proofs.label_text.Puts.{Appended, appended-start, appended-room, appended-on, appended-done}
 use Rattle.grouping.specs.Classes.{is_first}
-use Rattle.minimising.specs.group_numbers.Smaller.{renumbered_label, renumbered_row}
+use Rattle.minimising.specs.group_numbers.Smaller.{renumbered_row}
 use Rattle.minimising.specs.group_frames.inner.GroupFrames.{header_piece, row_numbered_by}
 use Rattle.minimising.specs.group_pieces.inner.Pieces.{groups_in, rows_kept, piece_at, piece, all_pieces}
 use Rattle.minimising.specs.group_pieces.inner.TextContracts.{NumberedGroups}
@@ -71,18 +70,10 @@ module _ (b c numbers : List ℕ) (N : NumberedGroups b c numbers) (f : ℕ) whe
         subst (SoundRow (decoded_image b)) (row-read b k inside ∙ row-is) (N.table.image.each k (omega (arith, inside, rows-count b)))
 
     led-is : row_numbered_by numbers (row_in_frame b f) ≡ renumbered_row c (row_in_frame b f)
-    led-is =
-        let p : slice_index numbers (field b f 1) ≡ renumbered_label c (field b f 1) =
-        N.at (field b f 1) (omega (arith, sound-row.high, labels-count b)) in
-        let q : slice_index numbers (field b f 7) ≡ renumbered_label c (field b f 7) = N.at (field b f 7)
-        (omega (arith, sound-row.leading.inside, labels-count b)) in
-        λ j. record { from = p j; care = pair_at b f 2; values = pair_at b f 4; bit = field b f 6; next = q j }
+    led-is = grind (arith, labels-count, inside, sound-row)
 
     at-row : piece_at b c (position_of b f) ≡ (if is_first c x then frame_text (row_frame (renumbered_row c (row_in_frame b f))) else [])
-    at-row =
-        ap (piece_at b c) (ap (position_of b) (let z : f ≡ rows_from b + k = omega arith in z) ∙ position-of-row b k)
-        ∙ ap (λ (r : Row). if is_first c r.from then frame_text (row_frame (renumbered_row c r)) else []) row-is
-        ∙ ap (λ (y : ℕ). if is_first c y then frame_text (row_frame (renumbered_row c (row_in_frame b f))) else []) (sym e)
+    at-row = grind (arith, position-of-row b k, row-is)
 
     pub row-skip : (slice_index c x ≡ x → ⊥) → piece b c f ≡ []
     row-skip n =
@@ -94,11 +85,7 @@ module _ (b c numbers : List ℕ) (N : NumberedGroups b c numbers) (f : ℕ) whe
   -- ---- put_piece
   module _ (low : 1 ≤ f) (m : ℕ) (e : m ≡ labels_from b) (high : f < m) where
     entry-inside : field b f 2 ≤ last_label b
-    entry-inside =
-        let z : suc (f - 1) ≡ f = omega arith in
-        let g : f - 1 < scheme_count b = omega arith in
-        let x = (N.table.image.starts (f - 1) (omega (arith, entries-count b))).inside in
-        omega (arith, x, labels-count b, entry-read b (f - 1) g ∙ ap (λ (h : ℕ). field b h 2) z)
+    entry-inside = grind (arith, entries-count b, labels-count b, entry-read b (f - 1), N.table.image.starts (f - 1))
 
     pub entry-kept : (y : ℕ) → y ≡ field b f 2 → piece b c f ≡ frame_text (entry_frame f (slice_index numbers y))
     entry-kept y q = grind (arith, common_steps, position-of-entry, entry-inside)

@@ -12,13 +12,11 @@ use Rattle.words.proofs.lists.Filters.{filter-none}
 use Rattle.words.proofs.lists.Joins.{concat-cons, concat-append, concat-split}
 use Rattle.text.specs.frames.Frame.{size, field, frame_text, frames_text}
 use Rattle.image.specs.Image.{Image, Label, Row, header_frame, entry_frame, label_frame, row_frame, image_frames, image_text}
-use Rattle.image.specs.Decode.{scheme_count, last_label, row_count, handler_in, labels_from, rows_from, entry_in, label_in, row_in}
-use Rattle.image.specs.Decode.{decoded_image}
+use Rattle.image.specs.Decode.{scheme_count, last_label, row_count, labels_from, rows_from, entry_in, row_in, decoded_image}
 use Rattle.image.specs.Check.{label_position, position_of}
 use Rattle.image.proofs.Accepted.{entries-count, labels-count, label-read, position-of-entry, position-of-label, position-of-row}
-use Rattle.grouping.specs.Classes.{class_of, is_first}
+use Rattle.grouping.specs.Classes.{is_first}
 use Rattle.minimising.specs.group_numbers.Smaller.{renumbered_label, renumbered_row, joined_labels}
-use Rattle.minimising.specs.group_frames.inner.GroupFrames.{header_piece}
 use Rattle.minimising.specs.group_pieces.inner.Pieces.{groups_in, rows_kept, piece_at, piece}
 use Rattle.state.specs.State as machine
 
@@ -115,18 +113,7 @@ module _ (b c : List ℕ) (all : size b ≡ rows_from b + row_count b) where
       ap (piece_at b c) (ap (position_of b) (zero-add h) ∙ position-of-entry b h l (omega arith))))
 
   label-piece : (l : ℕ) → l ≤ last_label b → kept c (machine.label_at i) l ≡ piece_at b c (label_position l)
-  label-piece l h = go (is_first c l) refl
-    where
-      go : (t : Bool) → is_first c l ≡ t → kept c (machine.label_at i) l ≡ piece_at b c (label_position l)
-      go true q =
-          cond-true (is_first c l) (frame_text (label_frame (count (is_first c) 0 l) (machine.label_at i l))) [] q
-          ∙ ap₂ (λ (k : ℕ) (x : Label). frame_text (label_frame k x))
-          (ap (λ (k : ℕ). count (is_first c) 0 k) (sym (eqb-true (class_of c l) l q)))
-          (label-read b l h)
-          ∙ sym (cond-true (is_first c l) (frame_text (label_frame (renumbered_label c l) (label_in b l))) [] q)
-      go false q =
-          cond-false (is_first c l) (frame_text (label_frame (count (is_first c) 0 l) (machine.label_at i l))) [] q
-          ∙ sym (cond-false (is_first c l) (frame_text (label_frame (renumbered_label c l) (label_in b l))) [] q)
+  label-piece l h = grind (arith, common_steps, cond-true, eqb-true, cond-false, label-read)
 
   labels-part : frames_text (map_from label_frame 0 (joined_labels i c).labels) ≡ flat_map (piece b c) (range (labels_from b + 0) n)
   unfolding joined_labels
@@ -152,9 +139,7 @@ module _ (b c : List ℕ) (all : size b ≡ rows_from b + row_count b) where
 
   header-part : frame_text (header_frame (joined_labels i c)) ≡ piece b c 0
   unfolding position_of joined_labels decoded_image
-  header-part =
-      ap (λ (k : ℕ). header_piece k (length (joined_labels i c).labels) (length (joined_labels i c).rows) (handler_in b)) entries-are
-      ∙ ap₂ (λ (g r : ℕ). header_piece H g r (handler_in b)) groups-are rows-are
+  header-part = grind (arith, groups-are, rows-are, entries-are)
 
   -- ---- all of it
   pub pieces-are : flat_map (piece b c) (range 0 (size b)) ≡ image_text (joined_labels i c)

@@ -43,22 +43,22 @@ module _ (b : List ℕ) (ok : table_verdict b ≡ fine) (bytes : (k : ℕ) → s
   abbrev end : ℕ
   end = first_frame b (l + 1) - rows_from b
 
-  rows_all : length i.rows ≡ size b - rows_from b
-  rows_all = omega (arith, rows-count b, (counted b ok).all)
+  rows-all : length i.rows ≡ size b - rows_from b
+  rows-all = omega (arith, rows-count b, (counted b ok).all)
 
-  from_is : (k : ℕ) → k < length i.rows → (nth_row i k).from ≡ field b (rows_from b + k) 1
-  from_is k h =
+  from-is : (k : ℕ) → k < length i.rows → (nth_row i k).from ≡ field b (rows_from b + k) 1
+  from-is k h =
       ap (λ (n : ℕ). (nth_row i n).from) (let e : k ≡ rows_from b + k - rows_from b = omega arith in e)
-      ∙ from-read b (counted b ok).all (rows_from b + k) (omega arith) (omega (arith, rows_all))
+      ∙ from-read b (counted b ok).all (rows_from b + k) (omega arith) (omega (arith, rows-all))
 
   between : Between (is_row_leaving i l) (length i.rows) first end
-  between = grind (arith, common_steps, first-rises, first-inside, eq-eqb, at-least, ne_eqb, below, rows_all, from_is)
+  between = grind (arith, common_steps, first-rises, first-inside, eq-eqb, at-least, ne_eqb, below, rows-all, from-is)
 
-  number_is : row_count_of i l ≡ end - first
-  number_is = count-between (is_row_leaving i l) (length i.rows) first end between
+  number-is : row_count_of i l ≡ end - first
+  number-is = count-between (is_row_leaving i l) (length i.rows) first end between
 
   first-is : (row_count_of i l ≡ 0 → ⊥) → first_of i l ≡ first
-  first-is h = some-first i l h ∙ lowest-between (is_row_leaving i l) (length i.rows) first end between (omega (arith, number_is))
+  first-is h = some-first i l h ∙ lowest-between (is_row_leaving i l) (length i.rows) first end between (omega (arith, number-is))
 
   -- ---- the rows of label l
   own-inside : (k : ℕ) → Own i l k → (first ≤ k) × (k < end)
@@ -70,7 +70,7 @@ module _ (b : List ℕ) (ok : table_verdict b ≡ fine) (bytes : (k : ℕ) → s
       go (inr g) (inr m) = no_both (is_row_leaving i l k) (eq-eqb (nth_row i k).from l q) (between.outer k h (inr m))
 
   pub exactly-own : (k : ℕ) → Own i l k ↔ ((first_of i l ≤ k) × (k < first_of i l + row_count_of i l))
-  exactly-own k = grind (arith, common_steps, split, eqb-true, none-first, between, number_is, first-is, own-inside)
+  exactly-own k = grind (arith, common_steps, split, eqb-true, none-first, between, number-is, first-is, own-inside)
 
   -- ---- by the frames of the prepared table
   module _ (low : 2 ≤ l) (high : l ≤ last_label b) where
@@ -81,7 +81,7 @@ module _ (b : List ℕ) (ok : table_verdict b ≡ fine) (bytes : (k : ℕ) → s
     frames-first h = omega (arith, first-noted b ok bytes l (omega arith) high, first-is h, noted-rows-from b, first-low b ok l)
 
     frames-end : end_on (noted_table b) l ≡ first_on (noted_table b) l + row_count_of i l
-    frames-end = grind (arith, common_steps, first-low, first-rises, end-noted, first-noted, number_is)
+    frames-end = grind (arith, common_steps, first-low, first-rises, end-noted, first-noted, number-is)
 
     frames-rows : rows_on (noted_table b) l ≡ take (row_count_of i l) (drop (first_of i l) i.rows)
     frames-rows =
@@ -98,7 +98,7 @@ module _ (b : List ℕ) (ok : table_verdict b ≡ fine) (bytes : (k : ℕ) → s
         listed = take (row_count_of i l) (drop (first_of i l) i.rows)
 
         count-is : row_count_of i l ≡ n
-        count-is = omega (arith, number_is, first-low b ok l)
+        count-is = omega (arith, number-is, first-low b ok l)
 
         most : end ≤ length i.rows
         most = between.most
@@ -115,7 +115,7 @@ module _ (b : List ℕ) (ok : table_verdict b ≡ fine) (bytes : (k : ℕ) → s
               length-take (row_count_of i l) (drop (first_of i l) i.rows),
               length-drop (first_of i l) i.rows,
               count-is,
-              number_is,
+              number-is,
               first-is (λ z. omega (arith, count-is)),
               most,
             )
@@ -126,7 +126,7 @@ module _ (b : List ℕ) (ok : table_verdict b ≡ fine) (bytes : (k : ℕ) → s
             let e : first_of i l ≡ first = first-is (λ z. omega (arith, count-is)) in
             get_or-map-range (row_in_frame b) no_row (first_frame b l) n j h
             ∙ ap (row_in_frame b) (let z : first_frame b l + j ≡ rows_from b + (first_of i l + j) = omega (arith, first-low b ok l) in z)
-            ∙ sym (row-read b (first_of i l + j) (omega (arith, most, count-is, number_is, rows-count b)))
+            ∙ sym (row-read b (first_of i l + j) (omega (arith, most, count-is, number-is, rows-count b)))
             ∙ sym (get_or-take (row_count_of i l) (drop (first_of i l) i.rows) j no_row (omega (arith, count-is))
             ∙ get_or-drop (first_of i l) i.rows j no_row)
 

@@ -1,13 +1,18 @@
 -- Rows that a search passed over, and a pass that keeps the one row that matched.
-use Rattle.std.proofs.Common.{ℕ, zero, suc, ◌+◌, ◌-◌, ◌≤◌, ◌<◌, Bool, true, false, ◌≡◌, refl, sym, ◌∙◌, ap, subst, List, slice_index, arith}
+use Rattle.std.proofs.Common.{ℕ, zero, suc, ◌+◌, ◌-◌, ◌≤◌, ◌<◌, Bool, true, false, ◌≡◌, refl, sym, ◌∙◌, ap, subst, List, map, slice_index, arith}
 use Rattle.std.proofs.Math.Decide.{ℕ_discrete}
 use Rattle.std.proofs.lemmas.Grind.{common_steps}
 use Rattle.text.specs.frames.Frame.{size}
-use Rattle.tables.specs.Table.{first_on, end_on}
+use Rattle.tables.specs.Table.{first_on, end_on, row_on, table_image}
 use Rattle.tables.specs.inner.Asked.{Whole}
 use Rattle.rows.specs.declared.TheConstants.{NO_FRAME}
-use Rattle.rows.specs.inner.Search.{swapped_word, is_matching_frame, found_at, chosen_frame, Chosen, Deciding, BestFrom}
-use Rattle.rows.proofs.SearchCases.{Searched, all-searched, reached-over, search-other, search-own, better-only, frame-named, compared, few-frames, end-within}
+use Rattle.image.specs.Image.{Row}
+use Rattle.image.specs.Decode.{last_label}
+use Rattle.words.specs.lists.Numbers.{range}
+use Rattle.rows.specs.Rows.{Choice, row, no_choice, better_choice, best_row, Found, lead_of}
+use Rattle.rows.specs.inner.Search.{swapped_word, is_matching_frame, found_at, is_found, chosen_frame, Chosen, Deciding, BestFrom}
+use Rattle.rows.proofs.TableRows.{own-leads}
+use Rattle.rows.proofs.SearchCases.{Searched, all-searched, reached-over, search-other, search-own, better-only, at-frame, past-table, frame-named, chosen-found, compared, few-frames, end-within}
 use Rattle.rows.specs.row_search.inner.FirstMatch.{Unmatched, FirstMatch}
 
 -- ---- rows that a search passed over, none of which matches
@@ -28,6 +33,11 @@ pub skip-two : (b : List ℕ) (w bit from end f : ℕ) → Unmatched b w bit fro
 skip-two b w bit from end f s t v p q n m h =
     subst (Unmatched b w bit from end) (let e : f + 1 + 1 ≡ f + 2 = omega arith in e)
     (skip-one b w bit from end (f + 1) (skip-one b w bit from end f s t p n (omega arith)) v q m (omega arith))
+
+-- of two rows one is taken
+row-first : (r : Row) (k : ℕ) (y : Choice) → is_found (lead_of (better_choice (row k r) y)) ≡ true
+row-first r k no_choice = refl
+row-first r k (row j q) = grind (arith, common_steps)
 
 -- ---- one pass that keeps the row that matched: as long as no second one does, it is the best so far
 pub record PassedRows (b : List ℕ) (l w bit first end f found : ℕ) : Type 0 where
@@ -63,18 +73,18 @@ module _ (b : List ℕ) (l w bit first end : ℕ) where
       }
 
     -- over n rows that do not match
-    pass_on : (found n f r : ℕ) → r ≡ f + n → (f < r → r ≤ end)
+    pass-on : (found n f r : ℕ) → r ≡ f + n → (f < r → r ≤ end)
         → ((k : ℕ) → f ≤ k → k < r → is_matching_frame b (swapped_word swapped) bit k ≡ false)
         → PassedRows b l w bit first end f found → PassedRows b l w bit first end r found
-    pass_on found zero f r z h none s = subst (λ (x : ℕ). PassedRows b l w bit first end x found) (let y : f ≡ r = omega arith in y) s
-    pass_on found (suc n) f r z h none s =
-        pass_on found n (f + 1) r (omega arith) (λ _. h (omega arith)) (λ k g m. none k (omega arith) m)
+    pass-on found zero f r z h none s = subst (λ (x : ℕ). PassedRows b l w bit first end x found) (let y : f ≡ r = omega arith in y) s
+    pass-on found (suc n) f r z h none s =
+        pass-on found n (f + 1) r (omega arith) (λ _. h (omega arith)) (λ k g m. none k (omega arith) m)
         (pass-other f found s (omega (arith, h (omega arith))) false (sym (none f (omega arith) (omega arith))) refl)
 
     -- up to the first that matches
     pass-first : (found f r : ℕ) → FirstMatch b (swapped_word swapped) bit f end r → PassedRows b l w bit first end f found
         → PassedRows b l w bit first end r found
-    pass-first found f r k s = pass_on found (r - f) f r (omega (arith, k.passed.on)) k.passed.within k.passed.none s
+    pass-first found f r k s = pass-on found (r - f) f r (omega (arith, k.passed.on)) k.passed.within k.passed.none s
 
     -- the row found first, and the one found behind it
     module _ (whole : Whole b) (bytes : (k : ℕ) → slice_index b k < 256) (p : first ≡ first_on b l) (q : end ≡ end_on b l) (found : ℕ)
@@ -96,6 +106,28 @@ module _ (b : List ℕ) (l w bit first end : ℕ) where
 
         pub best-found : (r : ℕ) → BestFrom b (swapped_word swapped) bit found second end r → Chosen b l w bit r
         best-found r z = compared b l w bit first end second found r swapped to-second.one d p q e small z
+
+      -- the first that matches is enough to know that one is taken
+      module _ (low : 2 ≤ l) (high : l ≤ last_label b) where
+        abbrev leads : Found
+        leads = lead_of (best_row l w bit 0 (table_image b).rows)
+
+        by-pass : (f best : ℕ) → Searched b l w bit first end f best
+            → lead_of (better_choice (found_at b l best) (best_row l w bit f (map (row_on b l) (range f (end - f))))) ≡ leads
+        by-pass f best s = ap lead_of (all-searched b l w bit first end _ s p q) ∙ own-leads b l w bit low high
+
+        pub none-taken : end ≤ found → false ≡ is_found leads
+        none-taken h =
+            ap (λ (c : Choice). is_found (lead_of c)) (sym (past-table b NO_FRAME l (omega (arith, few))) ∙ chosen-found b l w bit whole bytes NO_FRAME (none-found h))
+            ∙ ap is_found (own-leads b l w bit low high)
+
+        pub some-taken : found < end → true ≡ is_found leads
+        some-taken h =
+            let one = pass-own found NO_FRAME (pass-first NO_FRAME first found x (pass-start few)) h true (sym (x.stopped h)) refl (omega (arith, end-within b l end whole q)) (omega arith) in
+            sym (row-first (row_on b l found) found _)
+            ∙ ap (λ (c : Choice). is_found (lead_of (better_choice c (best_row l w bit (found + 1) (map (row_on b l) (range (found + 1) (end - (found + 1))))))))
+            (sym (at-frame b found l (omega (arith, end-within b l end whole q))))
+            ∙ ap is_found (by-pass (found + 1) found one.one)
 
     -- a label with two rows, one of which matches
     module _ (few : size b < NO_FRAME) (p : first ≡ first_on b l) (q : end ≡ end_on b l) (two : end ≡ first + 2) (within : end ≤ size b)

@@ -1,12 +1,12 @@
 -- What the search for a row among the frames of a table asks and promises.
-use Rattle.std.specs.Prelude.{ℕ, ◌+◌, ◌*◌, ◌/◌, ◌%◌, Bool, ◌&&◌, ◌||◌, ◌≡◌, ◌-◌, ◌<◌, List, map, if◌then◌else◌, nat_lt, ◌==◌}
+use Rattle.std.specs.Prelude.{ℕ, ◌+◌, ◌*◌, ◌/◌, ◌%◌, Bool, true, false, ◌&&◌, ◌||◌, ◌≡◌, ◌-◌, ◌<◌, List, map, if◌then◌else◌, nat_lt, ◌==◌}
 use Rattle.words.specs.lists.Numbers.{range}
 use Rattle.words.specs.bits.Word.{is_agreeing}
 use Rattle.text.specs.frames.Frame.{size, field, pair_at}
 use Rattle.image.specs.declared.layout.TheConstants.{CARE, VALUES, FUNCTION_BIT, NO_BIT, FUNCTION_CALL}
 use Rattle.tables.specs.Table.{table_label, first_on, row_on, rows_on}
 use Rattle.rows.specs.declared.TheConstants.{NO_FRAME}
-use Rattle.rows.specs.Rows.{Choice, row, no_choice, better_choice, best_row}
+use Rattle.rows.specs.Rows.{Choice, row, no_choice, better_choice, best_row, Found, found, missing}
 
 -- a word of two bytes with its bytes in the other order
 abbrev pub swapped_word : ℕ → ℕ
@@ -33,6 +33,11 @@ chosen_frame no_choice = NO_FRAME
 -- r is the frame of the row that label l takes, or NO_FRAME where none matches
 abbrev pub Chosen : List ℕ → ℕ → ℕ → ℕ → ℕ → Type 0
 Chosen b l w bit r = r ≡ chosen_frame (best_row l w bit (first_on b l) (rows_on b l))
+
+-- a row matches, and leads somewhere
+abbrev pub is_found : Found → Bool
+is_found (found l) = true
+is_found missing = false
 
 -- a bit that decides among the rows of a label where it calls a function and nowhere else
 pub record Deciding (b : List ℕ) (l bit : ℕ) : Type 0 where

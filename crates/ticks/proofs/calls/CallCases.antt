@@ -29,6 +29,6 @@ module _ (b : List ℕ) (before : Kept) (w : ℕ) where
       → view second ≡ state_after_result (view first) 1 r.number
       → view third ≡ with_opened (view second) s.depth r.entry r.number r.server
       → view after ≡ with_depth (view third) (s.depth + 1)
-      → IsFinished b before w (record { tick = record { mask = z.mask; code = g }; label = r.entry }) after
+      → IsFinished b before w z.mask g r.entry after
   call-steps free room l at calls z read r found g q first second third after e₁ e₂ e₃ e₄ =
       grind (arith, common_steps, tick-call, top-put, add-one)

@@ -51,5 +51,5 @@ module _ (b : List ℕ) (y : Whole b) (before : Kept) (w : ℕ) where
       → (h : ℕ) → h ≡ handler_in b → (n : ℕ) → n ≡ entry_of b h
       → (first second after : Kept) → view first ≡ state_after_result s z.result (number_at s (s.depth - 1))
       → view second ≡ state_after_result (view first) 1 h → view after ≡ with_alone (view second) n h
-      → IsFinished b before w (record { tick = record { mask = z.mask; code = 96 }; label = n }) after
+      → IsFinished b before w z.mask 96 n after
   drop-steps ticked z read h is n p first second after e₁ e₂ e₃ = grind (arith, common_steps)

@@ -41,7 +41,7 @@ module _ (b : List ℕ) (y : Whole b) (before : Kept) (w : ℕ) (at : top_of (vi
   s = view before
 
   pub last-steps : s.depth < 2 → (after : Kept) → view after ≡ with_alone s 0 1
-      → IsFinished b before w (record { tick = record { mask = 0; code = 3 }; label = 0 }) after
+      → IsFinished b before w 0 3 0 after
   last-steps h after e = grind (arith, common_steps, tick-last)
 
   module _ (deep : 2 ≤ s.depth) (n : ℕ) (e : n ≡ next_of (beneath (table_image b) s w)) where
@@ -54,6 +54,6 @@ module _ (b : List ℕ) (y : Whole b) (before : Kept) (w : ℕ) (at : top_of (vi
     pub back-steps : n < 256 → s.depth - 2 < length s.places
         → (first second after : Kept) → view first ≡ with_opened s (s.depth - 1) 0 0 0 → view second ≡ with_place (view first) (s.depth - 2) n
         → view after ≡ with_depth (view second) (s.depth - 1)
-        → IsFinished b before w (record { tick = record { mask = 0; code = 3 }; label = n }) after
+        → IsFinished b before w 0 3 n after
     back-steps small low first second after e₁ e₂ e₃ =
         grind (arith, common_steps, tick-back, moved-steps, length-set)

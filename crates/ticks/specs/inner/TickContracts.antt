@@ -11,7 +11,6 @@ use Rattle.state.specs.Kept.{view}
 use Rattle.ticks.specs.Tick.{top_of, row_leads, finished, stopped, tick}
 use Rattle.ticks.specs.declared.Stop.{Stop}
 use Rattle.ticks.specs.declared.Stop.TheVariants.{Full, NoRow}
-use Rattle.ticks.specs.declared.TickMove.{TickMove}
 use Rattle.ticks.specs.declared.TickEnd.{TickEnd}
 use Rattle.ticks.specs.declared.TickEnd.TheVariants as end
 use Rattle.state.specs.declared.State.{State as Kept}
@@ -35,12 +34,12 @@ pub record IsStopped (b : List ℕ) (before : Kept) (w : ℕ) (x : Stop) (after 
   pub kept : after ≡ before
 
 -- a tick by the word w is finished, and what it gives, the state that it leaves and the label at the top of it are these
-pub record IsFinished (b : List ℕ) (before : Kept) (w : ℕ) (m : TickMove) (after : Kept) : Type 0 where
-  pub gives : tick (table_image b) (view before) w ≡ finished m.tick.mask m.tick.code (view after)
-  pub label : m.label ≡ top_of (view after)
+pub record IsFinished (b : List ℕ) (before : Kept) (w mask code next : ℕ) (after : Kept) : Type 0 where
+  pub gives : tick (table_image b) (view before) w ≡ finished mask code (view after)
+  pub label : next ≡ top_of (view after)
 
 -- what a tick by the word w answers and the state that it leaves
 abbrev pub GivesTickEnd : List ℕ → Kept → ℕ → TickEnd → Kept → Type 0
-GivesTickEnd b before w (end.Finished m) after = IsFinished b before w m after
+GivesTickEnd b before w (end.Finished mask code next) after = IsFinished b before w mask code next after
 GivesTickEnd b before w end.Full after = IsStopped b before w Full after
 GivesTickEnd b before w end.NoRow after = IsStopped b before w NoRow after

@@ -5,5 +5,5 @@ use Rattle.minimising.proofs.joining.minimise_table.Goals as goal
 
 pub write_groups-requires : goal.write_groups-requires
 write_groups-requires c =
-    table-grouped _ c.requires (sym c.is_uneven.ensures ∙ c.if-is_uneven.false) _ _ (rw c.of.ensures at c.group.ensures)
+    table-grouped _ c.requires (sym c.is_uneven.ensures ∙ c.if-is_uneven.false) _ _ c.group.ensures
     c.group.array_long

@@ -2,14 +2,12 @@
 use Rattle.std.specs.Prelude.{ℕ, false, ◌≡◌, List}
 use Rattle.image.specs.Decode.{decoded_image}
 use Rattle.tables.specs.Table.{table_image}
-use Rattle.tables.specs.inner.Asked.{Whole}
 use Rattle.covering.specs.Matched.{is_uneven}
 use Rattle.covering.specs.inner.CoveringContracts.{SoundTable}
 use Rattle.grouping.specs.inner.GroupingContracts.{Even}
 
--- a prepared table that 11 lets pass, read as one of either form
+-- a prepared table, read as one of either form
 pub record ReadableTable (b : List ℕ) : Type 0 where
-  pub whole : Whole b
   pub table : SoundTable b
   pub holds : table_image b ≡ decoded_image b
   pub even : is_uneven (decoded_image b) ≡ false → Even b

@@ -1,6 +1,6 @@
 use Rattle.std.proofs.Common.{refl, arith}
 use Rattle.ticks.specs.declared.Stop.TheVariants.{Full, NoRow}
-use Rattle.runs.proofs.TurnCases.{turn-start, turn_on, turn-stood, turn-over}
+use Rattle.runs.proofs.TurnCases.{turn-start, turn-on, turn-stood, turn-over}
 use Rattle.runs.proofs.runs.tick_all.Goals as goal
 
 pub loop-i-init : goal.loop-i-init
@@ -16,7 +16,7 @@ returns-in-NoRow c =
 
 pub loop-i-preserved : goal.loop-i-preserved
 loop-i-preserved c =
-    turn_on c.loop-i.invariant c.requires.room_for_masks c.requires.room_for_codes (omega arith) _ _ c.in-Finished.ensures
+    turn-on c.loop-i.invariant c.requires.room_for_masks c.requires.room_for_codes (omega arith) _ _ _ _ c.in-Finished.ensures
 
 pub returns : goal.returns
 returns c = turn-over c.loop-i.invariant c.requires.room_for_masks c.requires.room_for_codes (omega arith)

@@ -14,3 +14,7 @@ pub returns-clause-admits : goal.returns-clause-admits
 returns-clause-admits c =
     let made = image-made _ _ _ _ c.prepare_table.ensures _ c.in_ok-prepare_table.was in
     record { accepted = made.accepted; holds = rw c.of.ensures made.holds }
+
+pub returns-clause-noted : goal.returns-clause-noted
+returns-clause-noted c =
+    let made = image-made _ _ _ _ c.prepare_table.ensures _ c.in_ok-prepare_table.was in rw c.of.ensures made.is
