@@ -1,10 +1,9 @@
 -- Whatever rule chooses among the rows that match: on the image of a chart the machine makes the same ticks by it.
-use Rattle.std.proofs.Common.{◌≡◌, sym, ◌∙◌, ap, ap₂, subst, true, false, List, ℕ, ◌+◌, ◌-◌, ◌≤◌, ◌<◌, arith, length, slice_index_or}
+use Rattle.std.proofs.Common.{◌≡◌, sym, ◌∙◌, ap, ap₂, true, false, List, ℕ, ◌+◌, ◌-◌, ◌≤◌, ◌<◌, arith, length, slice_index_or}
 use Rattle.std.proofs.lemmas.Grind.{common_steps}
 use Rattle.words.proofs.lists.Tests.{no_both}
 use Rattle.results.specs.Results.{Results}
 use Rattle.text.specs.frames.Answer.{success}
-use Rattle.text.specs.frames.Frame.{contents}
 use Rattle.image.specs.Image.{Image, Row, no_row}
 use Rattle.image.specs.inner.Sound.{SoundImage}
 use Rattle.walk.proofs.FactsHold.{facts}
@@ -54,8 +53,7 @@ module _ (text out : List ℕ) (n : ℕ) (done : (translate text out).reply ≡ 
   any-rule l low high w b = grind (arith, common_steps, only-translated, only-taken)
 
   sound : SoundImage i
-  sound = subst SoundImage (sym (image-is text out n done))
-      (table-sound (contents text) (facts text (read text out n done)) (translated-few text (translated-fine text out n done)))
+  sound = search (arith, read, image-is, facts, table-sound, translated-few, translated-fine)
 
   -- a label with rows is 2 or above
   numbered : (l : ℕ) → l < length i.labels → (label_at i l).kind ≤ 2 → 2 ≤ l

@@ -47,16 +47,14 @@ module _ (c : Chart) (n : ℕ) where
 
   pub stand-full : (ws : List Signal) (x : WalkPosition) → bound n (trace n c ws x) ≡ length ws → stand c n ws x ≡ position_reached n c ws x
   unfolding trace position_reached stand
-  stand-full [] x h = refl
-  stand-full (w ∷ ws) x h =
-      grind (arith, common_steps, stand-full ws (move n c w x), cases (is_full_call n (tick_at n c x)), bound-stop, bound-go, stand-go)
+  stand-full [] x h = search (arith)
+  stand-full (w ∷ ws) x h = search (arith, stand-full ws (move n c w x), tick_at, move, bound-stop, bound-go, stand-go)
 
   pub stand-part : (ws : List Signal) (x : WalkPosition) → bound n (trace n c ws x) < length ws
       → is_full_call n (tick_at n c (stand c n ws x)) ≡ true
   unfolding trace
-  stand-part [] x h = absurd (omega arith)
-  stand-part (w ∷ ws) x h =
-      grind (arith, common_steps, stand-part ws (move n c w x), cases (is_full_call n (tick_at n c x)), bound-go, stand-stop, stand-go)
+  stand-part [] x h = grind (arith, common_steps)
+  stand-part (w ∷ ws) x h = grind (arith, common_steps, stand-part ws (move n c w x), tick_at, move, bound-go, stand-stop, stand-go)
 
   -- from there on no tick is made
   pub bound-here : (ws : List Signal) (x : WalkPosition) → is_full_call n (tick_at n c x) ≡ true → bound n (trace n c ws x) ≡ 0

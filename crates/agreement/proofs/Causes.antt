@@ -1,7 +1,7 @@
 -- What a caller learns by the contract of cause_of, and of fairleadow_cause from C:
 -- with success the row, the mask and the bit that are reported explain the tick, so that the laws of a cause hold of them.
 -- `a` has the arguments, `r` the result, and `s` the arguments at exit, as in Contracts.
-use Rattle.std.proofs.Common.{ℕ, ◌≡◌, sym, ◌∙◌, subst, List}
+use Rattle.std.proofs.Common.{ℕ, ◌≡◌, sym, ◌∙◌, subst, List, arith}
 use denote.Triple.Clauses.{AtExit}
 use borrow.Fn.World.{ArgsD, ResD}
 use contract.Lifetimes.{Lfts}
@@ -24,9 +24,7 @@ use Rattle.fairleadow.proofs.causes_for_c.fairleadow_cause.Reads as c-cause-read
 -- ---- by the records of the two calls
 explained : (t : List ℕ) (s : State) (w n : ℕ) → Sized s → (explain t s w).reply ≡ success n → (k m b : ℕ)
     → k ≡ (explain t s w).cause.row → m ≡ (explain t s w).cause.mask → b ≡ (explain t s w).cause.bit → Explains t s w (cause_report k m b)
-explained t s w n h e k m b p q o =
-    let same : cause_report k m b ≡ (explain t s w).cause = λ j. cause_report (p j) (q j) (o j) in
-    subst (Explains t s w) (sym same) (answered t s w n h e)
+explained t s w n h e k m b p q o = grind (arith, answered t s w n h e)
 
 pub cause-explains : CauseTold
 unfolding CauseTold
@@ -35,7 +33,7 @@ cause-explains t s w r c h n d = explained t (view s) w n h (sym c.answered ∙ 
 pub cause-explains-c : CauseToldC
 unfolding CauseToldC
 cause-explains-c t s w at made k m o c =
-    explained t (view s) w (reply_count (explain t (view s) w).reply) c.sized (cause-success t (view s) w (sym c.told.number_is)) k m o
+    explained t (view s) w (reply_count (explain t (view s) w).reply) c.sized (cause-success t (view s) w (sym c.told.number-is)) k m o
     c.row c.mask c.bit
 
 -- ---- by what the contracts let a caller learn

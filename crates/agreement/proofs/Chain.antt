@@ -38,6 +38,7 @@ use Rattle.agreement.proofs.Ticks.{run_from_position, StandsWell, stand-stands, 
 use Rattle.agreement.proofs.Joins.{joined-short, joined-long, Due, joins}
 use Rattle.agreement.proofs.Images.{run-image, rebind-image}
 use Rattle.agreement.proofs.Expected.{all-short}
+use Rattle.std.proofs.lemmas.Bool.Decides.{nat_tests}
 
 -- ---- one run on an image that is accepted and decodes to i, from a state that fits
 module _ (text : List ℕ) (i : Image) (passes : image_verdict text ≡ fine) (decodes : decoded_image (contents text) ≡ i) where
@@ -69,8 +70,7 @@ module _ (text : List ℕ) (i : Image) (passes : image_verdict text ≡ fine) (d
   chain-rebinds s h k rest f e = grind (arith, common_steps, rebind-is)
 
 replied-by : (t : Bool) (k : ℕ) → counted_reply (if t then refused 17 0 else fine) k ≡ (if t then refusal 17 0 k else success k)
-replied-by true k = refl
-replied-by false k = refl
+replied-by t k = grind (arith, nat_tests)
 
 -- the fresh state is that of the position where the walk begins
 pub fresh-is : (n : ℕ) → 1 ≤ n → n ≤ 32 → (fresh_state n).state ≡ fresh n
@@ -98,8 +98,8 @@ module _ (c : Chart) (facts : Facts c) (table_facts : TableFacts c) (text : List
   ChainIs given = (s : Binding) (x : WalkPosition) → StandsWell c n x → Fits (table c) (state_of_position c n s x)
       → call_outputs run rebind text (state_of_position c n s x) given ≡ Due c n s x given
 
-  after_run : (a : RunInput) (rest : List CallInput) → ChainIs rest → ChainIs (to_run a ∷ rest)
-  after_run a rest ih s x z f = elim (cases (is_short a)) [
+  after-run : (a : RunInput) (rest : List CallInput) → ChainIs rest → ChainIs (to_run a ∷ rest)
+  after-run a rest ih s x z f = elim (cases (is_short a)) [
     | inl e ↦ chain-short text (table c) passes decodes (state_of_position c n s x) a rest f e
         ∙ ap (λ (l : List CallOutput). by_run (output_refused_short a) ∷ l) (ih s x z f)
         ∙ sym (all-short c _ _ 0 a rest e)
@@ -153,7 +153,7 @@ module _ (c : Chart) (facts : Facts c) (table_facts : TableFacts c) (text : List
   chain-is : (given : List CallInput) → ChainIs given
   unfolding call_outputs joined_words expected_outputs
   chain-is [] s x z f = refl
-  chain-is (to_run a ∷ rest) s x z f = after_run a rest (chain-is rest) s x z f
+  chain-is (to_run a ∷ rest) s x z f = after-run a rest (chain-is rest) s x z f
   chain-is (to_rebind h k ∷ rest) s x z f = after-rebinding h k rest (chain-is rest) s x z f
 
   pub calls-agree : 1 ≤ n → (given : List CallInput)

@@ -1,6 +1,5 @@
 -- What is expected of a list of runs and rebindings: moved along the ticks, and after the bound.
-use Rattle.std.proofs.Common.{if◌then◌else◌, ℕ, ◌+◌, ◌≤◌, Bool, true, false, ◌≡◌, refl, ap, ◌∙◌, sym, List, [], ◌∷◌, ◌++◌, map, nat_lt}
-use Rattle.std.proofs.Common.{length, arith}
+use Rattle.std.proofs.Common.{if◌then◌else◌, ℕ, ◌+◌, ◌≤◌, Bool, true, false, ◌≡◌, refl, ap, ◌∙◌, sym, List, [], ◌∷◌, ◌++◌, map, nat_lt, length, arith}
 use Rattle.std.proofs.Math.Seq.{drop-append-add}
 use Rattle.std.proofs.lemmas.Grind.{common_steps}
 use Rattle.words.specs.lists.Sequences.{over}
@@ -45,12 +44,9 @@ module _ (us : List Tick) (b : ℕ) (ts : List Tick) where
   pub shift : (c : Chart) (p : ℕ) (rest : List CallInput)
       → expected_outputs c (length us + b) (us ++ ts) (length us + p) rest ≡ expected_outputs c b ts p rest
   unfolding expected_outputs
-  shift c p [] = refl
-  shift c p (to_run a ∷ rest) =
-      let q : length us + p + length a.words ≡ length us + (p + length a.words) = omega arith in
-      same-all c _ _ _ b ts p a rest (expected-shift p a) (shift c p rest)
-      (ap (λ (k : ℕ). expected_outputs c (length us + b) (us ++ ts) k rest) q ∙ shift c (p + length a.words) rest)
-  shift c p (to_rebind h k ∷ rest) = ap (λ (l : List CallOutput). by_rebinding (reply_to c h k) ∷ l) (shift c p rest)
+  shift c p [] = grind (arith)
+  shift c p (to_run a ∷ rest) = grind (arith, shift c p rest, shift c (p + length a.words) rest, same-all, expected-shift)
+  shift c p (to_rebind h k ∷ rest) = grind (arith, shift c p rest)
 
 -- after the bound nothing depends on the ticks
 expected-halted : (b : ℕ) (ts : List Tick) (p : ℕ) (a : RunInput) → b ≤ p

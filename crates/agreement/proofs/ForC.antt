@@ -1,5 +1,5 @@
 -- Calls from C in a row that meet their contracts hand back what the agreement says.
-use Rattle.std.proofs.Common.{ℕ, ◌≡◌, refl, sym, ◌∙◌, ap, ap₂, List, [], ◌∷◌, map, take}
+use Rattle.std.proofs.Common.{ℕ, ◌≡◌, refl, sym, ◌∙◌, ap, ap₂, List, [], ◌∷◌, map, take, arith}
 use Rattle.text.specs.frames.Answer.{success}
 use Rattle.translator.specs.Entry.{translate}
 use Rattle.state.specs.State.{State, fresh_state}
@@ -19,8 +19,7 @@ use Rattle.agreement.proofs.OneCallC.{LikeC, call-like}
 -- a call of fairleadow_translate that returned 0 succeeded with the count that it wrote
 pub returned-0 : (text before after : List ℕ) (at n : ℕ) → GivesBufferC (translate text before) 0 at n after
     → (translate text before).reply ≡ success n
-returned-0 text before after at n c =
-    translate-success text before (sym c.told.number_is) ∙ ap success (sym c.told.count-is)
+returned-0 text before after at n c = grind (arith, translate-success)
 
 -- each call leaves the state that the same call of the definitions hands back
 pub calls-chain : (image : List ℕ) (s : Kept) (given : List CallInput) (handed : List CallOutputC) → CallsInTurnC image s given handed

@@ -1,7 +1,6 @@
 -- A call that is refused with 17, said of the walk:
 -- it finds as many schemes open as places, and there is no handler or the handler is the first of them.
-use Rattle.std.proofs.Common.{if◌then◌else◌, ℕ, suc, ◌<◌, Bool, true, false, ◌&&◌, ◌||◌, ◌≡◌, refl, ◌∙◌, ap, List, [], ◌∷◌, map, ◌==◌}
-use Rattle.std.proofs.Common.{length, arith}
+use Rattle.std.proofs.Common.{if◌then◌else◌, ℕ, suc, ◌<◌, Bool, ◌&&◌, ◌||◌, ◌≡◌, refl, ◌∙◌, ap, List, [], ◌∷◌, map, ◌==◌, length, arith}
 use Rattle.std.proofs.lemmas.Grind.{common_steps}
 use Rattle.results.specs.Results.{Results}
 use Rattle.text.specs.frames.Frame.{size, contents}
@@ -16,22 +15,23 @@ use Rattle.walk.proofs.Trace.{Open, opens, WalkPosition, tick_of, stop_tick, tic
 use Rattle.walk.proofs.Drops.{is_call_stop}
 use Rattle.agreement.specs.Agreement.{is_full_call}
 use Rattle.agreement.specs.FullCalls.{ticks_of, is_calling, HandlerFirst}
+use Rattle.std.proofs.lemmas.Bool.Decides.{nat_tests}
 
 module _ (c : Chart) (facts : Facts c) (n : ℕ) where
-  full_by : (x : Open) (o : ℕ) (f : Bool) → x.node < size c → {s : Stop} → View c x.node s
+  full-by : (x : Open) (o : ℕ) (f : Bool) → x.node < size c → {s : Stop} → View c x.node s
       → is_full_call n (stop_tick (is_dropping n c f o) o x s) ≡ (is_call_stop s && ((f || handler c == 0) && o == n))
-  full_by x o f l (a-plain e a) = grind (arith, common_steps)
-  full_by x o f l (a_call e a) = grind (arith, common_steps)
-  full_by x o f l (a-function e) = grind (arith, common_steps)
-  full_by x o f l (a-home e s) = grind (arith, common_steps)
-  full_by x o f l (a_back e s) = grind (arith, common_steps)
-  full_by x o f l (a-begin e) = grind (arith, common_steps)
-  full_by x o f l (a-condition e) = grind (arith, common_steps)
+  full-by x o f l (a-plain e a) = grind (arith, common_steps)
+  full-by x o f l (a_call e a) = grind (arith, common_steps)
+  full-by x o f l (a-function e) = grind (arith, common_steps)
+  full-by x o f l (a-home e s) = grind (arith, common_steps)
+  full-by x o f l (a_back e s) = grind (arith, common_steps)
+  full-by x o f l (a-begin e) = grind (arith, common_steps)
+  full-by x o f l (a-condition e) = grind (arith, common_steps)
 
   pub full-exactly : (x : WalkPosition) → Good c x
       → is_full_call n (tick_at n c x) ≡ (is_call_stop (stop_at c x.now.node)
       && ((x.first || handler c == 0) && suc (length x.callers) == n))
-  full-exactly x g = full_by x.now (suc (length x.callers)) x.first g.top.inside (view-of c facts x g)
+  full-exactly x g = full-by x.now (suc (length x.callers)) x.first g.top.inside (view-of c facts x g)
 
 -- ---- by the recursion: what an open scheme makes by one word is the tick of a position
 module _ (c : Chart) (d : ℕ → Bool) (x : OpenScheme) (w : Signal) (b : Results) where
@@ -41,8 +41,7 @@ module _ (c : Chart) (d : ℕ → Bool) (x : OpenScheme) (w : Signal) (b : Resul
   one-called : (a : SchemeCall) (e : Results) (t : Bool) → ticks_of (call_course (scheme_course 0 c d) c w.binding x a [] e t)
       ≡ tick_of x.node x.number a.mask (if t then 96 else a.code) x.opened ∷ []
   unfolding scheme_course
-  one-called a e true = refl
-  one-called a e false = refl
+  one-called a e t = grind (arith, nat_tests)
 
   one-made : (s : Stop) → made s ≡ stop_tick (d x.opened) x.opened (opens x.node x.number 0) s ∷ []
   unfolding scheme_course
@@ -66,6 +65,6 @@ unfolding scheme_course
 handler-first text e n first x w b l =
     let known : Facts (contents text) = facts text e in
     ap (map (is_full_call n)) (one-made (contents text) (is_dropping n (contents text) first) x w b (stop_at (contents text) x.node))
-    ∙ ap (λ (t : Bool). t ∷ []) (full_by (contents text) known n (opens x.node x.number 0) x.opened first l
+    ∙ ap (λ (t : Bool). t ∷ []) (full-by (contents text) known n (opens x.node x.number 0) x.opened first l
     (view (contents text) x.node (known.kinds x.node l)))
     ∙ ap (λ (t : Bool). (t && ((first || handler (contents text) == 0) && x.opened == n)) ∷ []) (calling-is (stop_at (contents text) x.node))

@@ -1,7 +1,7 @@
 -- What a caller learns by the contract of list_rows, and of fairleadow_list_rows from C:
 -- with success the two buffers hold the rows of each label.
 -- `a` has the arguments, `r` the result, and `s` the arguments at exit, as in Contracts.
-use Rattle.std.proofs.Common.{ℕ, ◌≡◌, sym, ◌∙◌, ap, subst, List}
+use Rattle.std.proofs.Common.{ℕ, ◌≡◌, sym, ◌∙◌, ap, subst, List, arith}
 use denote.Triple.Clauses.{AtExit}
 use borrow.Fn.World.{ArgsD, ResD}
 use contract.Lifetimes.{Lfts}
@@ -21,8 +21,7 @@ use Rattle.fairleadow.proofs.images_for_c.fairleadow_list_rows.Reads as c-list-r
 holding : (t xs ys : List ℕ) (n : ℕ) → (list t xs ys).reply ≡ success n → (us vs : List ℕ)
     → us ≡ (list t xs ys).firsts → vs ≡ (list t xs ys).counts
     → Held t us vs n
-holding t xs ys n e us vs p q =
-    subst (λ (u : List ℕ). Held t u vs n) (sym p) (subst (λ (v : List ℕ). Held t (list t xs ys).firsts v n) (sym q) (held t xs ys n e))
+holding t xs ys n e us vs p q = grind (arith, held t xs ys n e)
 
 -- ---- by the records of the two calls
 pub rows-held : RowsListed
@@ -32,7 +31,7 @@ rows-held t xs ys r us vs c n d = holding t xs ys n (sym c.answered ∙ d) us vs
 pub rows-held-c : RowsListedC
 unfolding RowsListedC
 rows-held-c t xs ys at n us vs c =
-    holding t xs ys n (list-success t xs ys (sym c.told.number_is) ∙ ap success (sym c.told.count-is)) us vs c.firsts c.counts
+    holding t xs ys n (list-success t xs ys (sym c.told.number-is) ∙ ap success (sym c.told.count-is)) us vs c.firsts c.counts
 
 -- ---- by what the contracts let a caller learn
 pub rows-listed : (κs : Lfts 3) (a : ArgsD list-rows.signature κs) (r : ResD list-rows.signature κs) (s : AtExit list-rows.ended κs)

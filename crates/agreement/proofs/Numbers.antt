@@ -1,9 +1,9 @@
 -- No refusal of the translator, of prepare, of minimise, of a little chart, of a listing, of a cause or of the counts has the number
 -- 0, so that a caller from C can tell success by it.
-use Rattle.std.proofs.Common.{ℕ, ◌≤◌, ◌≡◌, refl, List, arith}
+use Rattle.std.proofs.Common.{ℕ, ◌≤◌, ◌≡◌, List, arith}
 use Rattle.std.proofs.lemmas.Grind.{common_steps}
 use Rattle.text.specs.frames.Frame.{contents}
-use Rattle.text.specs.frames.Verdict.{Verdict, fine, refused}
+use Rattle.text.specs.frames.Verdict.{Verdict}
 use Rattle.text.specs.frames.Answer.{success, reply_number, reply_count, buffer_on}
 use Rattle.text.proofs.frames.Refuses.{RefusesWith, next-refuses, when-refuses}
 use Rattle.image.specs.Image.{Image, Row, image_text}
@@ -21,16 +21,15 @@ use Rattle.rows.specs.Rows.{Choice, row, no_choice}
 use Rattle.state.specs.State.{State, label_at}
 use Rattle.ticks.specs.Tick.{called_bit, choice}
 use Rattle.fillings.specs.Counts.{count_verdict, fillings_on, count_fillings}
-use Rattle.cause.specs.Cause.{Leaving, leaves_label, nothing, leaving, Caused, because, unexplained, cause_by, cause_at, cause_of, cause_on}
-use Rattle.cause.specs.Cause.{explain}
+use Rattle.cause.specs.Cause.{Leaving, leaves_label, nothing, leaving, Caused, because, unexplained, cause_by, cause_at, cause_of, cause_on, explain}
+use Rattle.std.proofs.lemmas.Bool.Decides.{nat_tests}
 
 -- 1 or above
 abbrev pub Positive : ℕ → Type 0
 Positive k = 1 ≤ k
 
 refuses-too : (P Q : ℕ → Type 0) → ((k : ℕ) → P k → Q k) → (v : Verdict) → RefusesWith P v → RefusesWith Q v
-refuses-too P Q h fine p = tt
-refuses-too P Q h (refused k i) p = h k p
+refuses-too P Q h v p = grind (arith, nat_tests)
 
 pub translate-positive : (t : List ℕ) → RefusesWith Positive (translate_verdict t)
 translate-positive t = refuses-too OfChart Positive (λ k p. p.0) (translate_verdict t) (translate-refuses t)
@@ -41,8 +40,7 @@ image-positive t = refuses-too Early Positive (λ k p. p.0) (image_verdict t) (e
 -- 16 is the one refusal besides
 lent-success : (v : Verdict) (unit : ℕ) (new : Unit {0} → List ℕ) (old : List ℕ) → RefusesWith Positive v
     → let x = buffer_on v unit new old in reply_number x.reply ≡ 0 → x.reply ≡ success (reply_count x.reply)
-lent-success (refused k i) unit new old p e = grind (arith, common_steps)
-lent-success fine unit new old p e = grind (arith, common_steps)
+lent-success v unit new old p e = grind (arith, nat_tests)
 
 pub translate-success : (t old : List ℕ) → let x = translate t old in reply_number x.reply ≡ 0
     → x.reply ≡ success (reply_count x.reply)
@@ -65,8 +63,7 @@ little-chart-success n k old = grind (arith, common_steps)
 -- ---- a listing
 listed-success : (v : Verdict) (go : Unit {0} → Image) (xs ys : List ℕ) → RefusesWith Positive v
     → let x = listing_on v go xs ys in reply_number x.reply ≡ 0 → x.reply ≡ success (reply_count x.reply)
-listed-success (refused k i) go xs ys p e = absurd (omega arith)
-listed-success fine go xs ys p e = refl
+listed-success v go xs ys p e = grind (arith, nat_tests)
 
 pub list-success : (t xs ys : List ℕ) → let x = list t xs ys in reply_number x.reply ≡ 0 → x.reply ≡ success (reply_count x.reply)
 unfolding list
@@ -91,9 +88,7 @@ cause-high i s w = by-leaving i s.bits w (leaving i s)
 
 told-success : (v : Verdict) (x : Caused) → RefusesWith Positive v → CausedHigh x
     → let t = cause_on v (λ _. x) in reply_number t.reply ≡ 0 → t.reply ≡ success (reply_count t.reply)
-told-success (refused k i) x p q e = absurd (omega arith)
-told-success fine (unexplained k) p q e = absurd (omega arith)
-told-success fine (because c) p q e = refl
+told-success v x p q e = grind (arith, nat_tests)
 
 pub cause-success : (t : List ℕ) (s : State) (w : ℕ) → let x = explain t s w in reply_number x.reply ≡ 0
     → x.reply ≡ success (reply_count x.reply)
@@ -103,8 +98,7 @@ cause-success t s w = grind (arith, common_steps, when-refuses, next-refuses, im
 -- ---- the counts: 14 and 28 besides
 counted-success : (i : Image) (size n k : ℕ) (v : Verdict) → RefusesWith Positive v
     → let x = fillings_on i size n k v in reply_number x.reply ≡ 0 → x.reply ≡ success 0
-counted-success i size n k (refused m j) p e = absurd (omega arith)
-counted-success i size n k fine p e = refl
+counted-success i size n k v p e = grind (arith, nat_tests)
 
 pub counts-success : (t : List ℕ) (size n k : ℕ) → let x = count_fillings t size n k in reply_number x.reply ≡ 0 → x.reply ≡ success 0
 unfolding count_fillings count_verdict

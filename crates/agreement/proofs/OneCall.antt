@@ -1,6 +1,6 @@
 -- One call of any kind that meets its contract hands back what a run or a rebinding on the image's text does:
 -- a tick is a run of one word, and live calls are those on the text.
-use Rattle.std.proofs.Common.{if◌then◌else◌, ℕ, ◌≤◌, ◌≡◌, refl, sym, ◌∙◌, subst, List, [], ◌∷◌, take, arith, ◌==◌}
+use Rattle.std.proofs.Common.{if◌then◌else◌, ℕ, ◌≤◌, ◌≡◌, refl, sym, ◌∙◌, List, [], ◌∷◌, take, arith, ◌==◌}
 use Rattle.std.proofs.lemmas.Grind.{common_steps}
 use Rattle.text.specs.frames.Frame.{contents}
 use Rattle.text.specs.frames.Verdict.{next}
@@ -27,6 +27,7 @@ use Rattle.agreement.specs.Calls.{TableOf, prepared, output_of_run, output_of_re
 use Rattle.agreement.specs.Calls.{run_call_live, tick_call, tick_call_live, rebind_call, rebind_call_live}
 use Rattle.agreement.specs.LiveCalls.{PreparedActs}
 use Rattle.tables.proofs.PreparedImage as tables
+use Rattle.std.proofs.lemmas.Bool.Decides.{nat_tests}
 
 -- a rebinding on the table that was prepared from an image is the image's own, from every state
 pub prepared-rebind-is : {t b : List ℕ} → PreparedTable t b → (s : State) (h k : ℕ) → live_rebind b s h k ≡ rebind t s h k
@@ -52,8 +53,7 @@ module _ (t old : List ℕ) (n : ℕ) (e : (prepare t old).reply ≡ success n) 
 
 pub prepared-acts : PreparedActs
 unfolding PreparedActs
-prepared-acts t old n e m h =
-    record { runs = prepared-run t old n e m h; ticks = prepared-tick t old n e m h; rebinds = prepared-rebind t old n e m h }
+prepared-acts t old n e m h = search (arith, prepared-run, prepared-tick, prepared-rebind)
 
 -- ---- what is asked for: what it hands back, and the state after it
 abbrev pub run_asked : List ℕ → State → RunInput → RunOutcome
@@ -70,8 +70,7 @@ handed_state image s (to_rebind h k) = (rebind image s h k).state
 pub chain-more : (image : List ℕ) (s : State) (g : CallInput) (rest : List CallInput)
     → call_outputs run rebind image s (g ∷ rest) ≡ handed_output image s g ∷ call_outputs run rebind image (handed_state image s g) rest
 unfolding call_outputs
-chain-more image s (to_run a) rest = refl
-chain-more image s (to_rebind h k) rest = refl
+chain-more image s g rest = grind (arith, nat_tests)
 
 -- ---- one call
 pub record Like (image : List ℕ) (s : Kept) (g : CallInput) (d : CallOutput) (after : Kept) : Type 0 where
@@ -80,15 +79,13 @@ pub record Like (image : List ℕ) (s : Kept) (g : CallInput) (d : CallOutput) (
 
 -- a call of prepare that succeeded
 pub table-prepared : (image : List ℕ) {table : List ℕ} → TableOf image table → PreparedTable image table
-table-prepared image (prepared before after answer c n e k h) =
-    subst (λ (b : List ℕ). PreparedTable image (take k b)) (sym c.written) (prepared-holds image before n (sym c.answered ∙ e) k h)
+table-prepared image (prepared before after answer c n e k h) = grind (arith, prepared-holds image before n (sym c.answered ∙ e) k h)
 
 module _ (image : List ℕ) (s : Kept) where
   -- after a run, a tick and a rebinding the state kept is the one that it hands back
   pub ran-holds : (a : RunInput) → view (state_after s (run_asked image (view s) a)) ≡ (run_asked image (view s) a).state
   unfolding run
-  ran-holds a = let ws : List ℕ = a.words in let ms : List ℕ = a.masks in let ks : List ℕ = a.codes in
-      run-held s (decoded_image (contents image)) ws ms ks (run_verdict image (view s) ws ms ks)
+  ran-holds a = search (arith, run-held)
 
   pub ticked-holds : (w : ℕ) → let x = image_tick image (view s) w in view (if_ticked x (stored x.state) s) ≡ x.state
   unfolding image_tick run

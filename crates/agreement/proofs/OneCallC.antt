@@ -3,7 +3,7 @@
 use Rattle.std.proofs.Common.{ℕ, ◌≡◌, refl, sym, ◌∙◌, ap, subst, List, [], ◌∷◌, arith, take}
 use Rattle.std.proofs.lemmas.Grind.{common_steps}
 use Rattle.text.specs.frames.Frame.{contents}
-use Rattle.text.specs.frames.Verdict.{Verdict, fine, refused}
+use Rattle.text.specs.frames.Verdict.{Verdict}
 use Rattle.text.specs.frames.Answer.{refusal, success}
 use Rattle.text.proofs.frames.Refuses.{RefusesWith, next-refuses, when-refuses}
 use Rattle.image.specs.Decode.{decoded_image}
@@ -28,6 +28,7 @@ use Rattle.agreement.proofs.Numbers.{Positive, image-positive, prepare-success}
 use Rattle.agreement.proofs.OneCall.{prepared-rebind-is, prepared-holds, run_asked, handed_output, handed_state, ran-holds, ticked-holds, rebound-holds}
 use Rattle.ticks.specs.Tick as machine
 use Rattle.runs.proofs.machine.OneTick as one
+use Rattle.std.proofs.lemmas.Bool.Decides.{nat_tests}
 
 -- ---- a run of one word where the places for its mask and its code held m₀ and k₀: a refused tick leaves them
 abbrev run_over : ℕ → ℕ → TickOutcome → RunOutcome
@@ -35,21 +36,19 @@ run_over m₀ k₀ x =
     record { reply = x.reply; state = x.state; masks = if_ticked x x.mask m₀ ∷ []; codes = if_ticked x x.code k₀ ∷ [] }
 
 module _ (s : State) (m₀ k₀ : ℕ) where
-  none_made : (n i : ℕ) → (n ≡ 0 → ⊥) → ◌≡◌ {A = RunOutcome} (record { reply = refusal n i 0; state = s; masks = m₀ ∷ []; codes = k₀ ∷ [] })
+  none-made : (n i : ℕ) → (n ≡ 0 → ⊥) → ◌≡◌ {A = RunOutcome} (record { reply = refusal n i 0; state = s; masks = m₀ ∷ []; codes = k₀ ∷ [] })
       (run_over m₀ k₀ (record { reply = refusal n i 0; mask = 0; code = 0; state = s }))
-  none_made n i h = grind (arith, common_steps)
+  none-made n i h = grind (arith, common_steps)
 
-  over_by : (v : Verdict) (d : machine.MachineTick) → RefusesWith Positive v → Normal s d
+  over-by : (v : Verdict) (d : machine.MachineTick) → RefusesWith Positive v → Normal s d
       → one.run_of_word s m₀ k₀ v d ≡ run_over m₀ k₀ (one.advance_by s v d)
-  over_by (refused n i) d v_high d-high = none_made n i (λ e. omega arith)
-  over_by fine (machine.stopped n) v_high d-high = none_made n 0 (λ e. omega arith)
-  over_by fine (machine.finished m k s') v_high d-high = refl
+  over-by v d v_high d-high = grind (arith, nat_tests, none-made)
 
   run-over : (t : List ℕ) (w : ℕ) → run t s (w ∷ []) (m₀ ∷ []) (k₀ ∷ []) ≡ run_over m₀ k₀ (image_tick t s w)
   run-over t w =
       let i = decoded_image (contents t) in
       one.run-one t s w m₀ k₀
-      ∙ over_by (one.verdict_before_16 t s) (machine.tick i s w)
+      ∙ over-by (one.verdict_before_16 t s) (machine.tick i s w)
       (next-refuses Positive (image_verdict t) _ (image-positive t) (when-refuses Positive 15 (is_unfit i s) (omega arith)))
       (tick-normal i s w)
       ∙ sym (ap (run_over m₀ k₀) (one.advance-by t s w))
@@ -63,24 +62,12 @@ pub record LikeC (image : List ℕ) (s : Kept) (g : CallInput) (d : CallOutputC)
 pub table-prepared : (image : List ℕ) {table : List ℕ} → TableOfC image table → PreparedTable image table
 table-prepared image (prepared before after at n c k h) =
     subst (λ (b : List ℕ). PreparedTable image (take k b)) (sym c.written)
-    (prepared-holds image before n (prepare-success image before (sym c.told.number_is) ∙ ap success (sym c.told.count-is)) k h)
+    (prepared-holds image before n (prepare-success image before (sym c.told.number-is) ∙ ap success (sym c.told.count-is)) k h)
 
 module _ (image : List ℕ) (s : Kept) where
   run-like : (a : RunInput) {x : RunOutcome} {t : RunOutputC} {after : Kept} → x ≡ run_asked image (view s) a
       → GivesRunC x s t.number t.index t.count after t.masks t.codes → LikeC image s (to_run a) (by_run_c t) after
-  run-like a {x} {t} {after} e d =
-      let c : GivesRunC (run_asked image (view s) a) s t.number t.index t.count after t.masks t.codes =
-      subst (λ (y : RunOutcome). GivesRunC y s t.number t.index t.count after t.masks t.codes) e d in
-      record {
-        handed-is = λ j. by_run_c (record {
-          number = c.told.number_is j;
-          index = c.told.index_is j;
-          count = c.told.count-is j;
-          masks = c.masks j;
-          codes = c.codes j;
-        });
-        state-is = ap view c.state ∙ ran-holds image s a;
-      }
+  run-like a {x} {t} {after} e d = grind (arith, run_asked, ran-holds)
 
   tick-like : (w : ℕ) {x : TickOutcome} {m₀ k₀ returned at made m k : ℕ} {after : Kept} → x ≡ tick_for image s w
       → GivesTickC x s m₀ k₀ returned at made after m k

@@ -8,7 +8,6 @@ use Rattle.charts.specs.Entry.{read_verdict}
 use Rattle.charts.proofs.Accepted.{SoundChart, accepted}
 use Rattle.walk.proofs.FactsHold.{facts}
 use Rattle.image.specs.Image.{Image}
-use Rattle.image.specs.Decode.{decoded_image}
 use Rattle.chart_rows.specs.chart_labels.Labels.{is_numbered, label}
 use Rattle.chart_rows.specs.Rows.{rows}
 use Rattle.translator.specs.Table.{table}
@@ -53,9 +52,7 @@ module _ (text out : List ℕ) (n : ℕ) (done : (translate text out).reply ≡ 
   read = translated-read text (translated-fine text out n done)
 
   pub image-is : image ≡ table (contents text)
-  image-is =
-      ap (λ (t : List ℕ). decoded_image (contents t)) (translated-image text out n done)
-      ∙ translated-decoded text (translated-fine text out n done) (facts text read)
+  image-is = grind (arith, facts, translated-decoded, translated-fine, translated-image, read)
 
   -- each of its labels from 2 up
   pub only-translated : (l : ℕ) → 2 ≤ l → l < length image.labels → (w : ℕ) (b : Bool) → Only l w (if b then 1 else 0) image.rows

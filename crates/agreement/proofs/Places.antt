@@ -49,27 +49,27 @@ module _ (f : Open → ℕ) where
   get-bottom x [] ls = refl
   get-bottom x (k ∷ ks) ls = get-bottom k ks (f x ∷ ls)
 
-  below_get : (ks : List Open) (ls : List ℕ) (i : ℕ) → slice_index (below f ks ls) (length ks + i) ≡ slice_index ls i
+  below-get : (ks : List Open) (ls : List ℕ) (i : ℕ) → slice_index (below f ks ls) (length ks + i) ≡ slice_index ls i
   unfolding below
-  below_get [] ls i = ap (λ (j : ℕ). slice_index ls j) (omega arith)
-  below_get (k ∷ ks) ls i = ap (λ (j : ℕ). slice_index (below f ks (f k ∷ ls)) j) (omega arith) ∙ below_get ks (f k ∷ ls) (suc i)
+  below-get [] ls i = ap (λ (j : ℕ). slice_index ls j) (omega arith)
+  below-get (k ∷ ks) ls i = ap (λ (j : ℕ). slice_index (below f ks (f k ∷ ls)) j) (omega arith) ∙ below-get ks (f k ∷ ls) (suc i)
 
-  below_set : (ks : List Open) (ls : List ℕ) (i l : ℕ) → set (below f ks ls) (length ks + i) l ≡ below f ks (set ls i l)
+  below-set : (ks : List Open) (ls : List ℕ) (i l : ℕ) → set (below f ks ls) (length ks + i) l ≡ below f ks (set ls i l)
   unfolding below
-  below_set [] ls i l = ap (λ (j : ℕ). set ls j l) (omega arith)
-  below_set (k ∷ ks) ls i l = ap (λ (j : ℕ). set (below f ks (f k ∷ ls)) j l) (omega arith) ∙ below_set ks (f k ∷ ls) (suc i) l
+  below-set [] ls i l = ap (λ (j : ℕ). set ls j l) (omega arith)
+  below-set (k ∷ ks) ls i l = ap (λ (j : ℕ). set (below f ks (f k ∷ ls)) j l) (omega arith) ∙ below-set ks (f k ∷ ls) (suc i) l
 
   -- the top, and the place under it
   pub get-top : (ks : List Open) (l : ℕ) (ls : List ℕ) → slice_index (below f ks (l ∷ ls)) (suc (length ks) - 1) ≡ l
-  get-top ks l ls = ap (λ (j : ℕ). slice_index (below f ks (l ∷ ls)) j) (omega arith) ∙ below_get ks (l ∷ ls) 0
+  get-top ks l ls = ap (λ (j : ℕ). slice_index (below f ks (l ∷ ls)) j) (omega arith) ∙ below-get ks (l ∷ ls) 0
 
   pub get-under : (k : Open) (ks : List Open) (l : ℕ) (ls : List ℕ) → slice_index (below f (k ∷ ks) (l ∷ ls)) (suc (suc (length ks)) - 2) ≡ f k
   unfolding below
-  get-under k ks l ls = ap (λ (j : ℕ). slice_index (below f ks (f k ∷ l ∷ ls)) j) (omega arith) ∙ below_get ks (f k ∷ l ∷ ls) 0
+  get-under k ks l ls = ap (λ (j : ℕ). slice_index (below f ks (f k ∷ l ∷ ls)) j) (omega arith) ∙ below-get ks (f k ∷ l ∷ ls) 0
 
   -- a plain tick, a call and a return, on the places
   pub set-top : (ks : List Open) (l : ℕ) (ls : List ℕ) (m : ℕ) → set (below f ks (l ∷ ls)) (suc (length ks) - 1) m ≡ below f ks (m ∷ ls)
-  set-top ks l ls m = ap (λ (j : ℕ). set (below f ks (l ∷ ls)) j m) (omega arith) ∙ below_set ks (l ∷ ls) 0 m
+  set-top ks l ls m = ap (λ (j : ℕ). set (below f ks (l ∷ ls)) j m) (omega arith) ∙ below-set ks (l ∷ ls) 0 m
 
   zeros : (k : ℕ) → k < 31 → ◌≡◌ {A = List ℕ} (replicate (31 - k) 0) (replicate (suc (31 - suc k)) 0)
   zeros k h = let e : 31 - k ≡ suc (31 - suc k) = omega arith in ap (λ (m : ℕ). replicate m 0) e
@@ -77,10 +77,7 @@ module _ (f : Open → ℕ) where
   pub set-push : (x : Open) (ks : List Open) (l : ℕ) → length ks < 31
       → set (stacked f x ks) (suc (length ks)) l ≡ below f (x ∷ ks) (l ∷ zeros_over (x ∷ ks))
   unfolding below
-  set-push x ks l h =
-      ap (λ (zs : List ℕ). set (below f ks (f x ∷ zs)) (suc (length ks)) l) (zeros (length ks) h)
-      ∙ ap (λ (j : ℕ). set (below f ks (f x ∷ 0 ∷ zeros_over (x ∷ ks))) j l) (omega arith)
-      ∙ below_set ks (f x ∷ 0 ∷ zeros_over (x ∷ ks)) 1 l
+  set-push x ks l h = grind (arith, zeros (length ks) h, below-set ks (f x ∷ 0 ∷ zeros_over (x ∷ ks)) 1 l)
 
   pub set-off : (k : Open) (ks : List Open) (l : ℕ) → length ks < 31
       → set (below f (k ∷ ks) (l ∷ zeros_over (k ∷ ks))) (suc (suc (length ks)) - 1) 0 ≡ stacked f k ks
@@ -90,7 +87,4 @@ module _ (f : Open → ℕ) where
   pub set-drop : (k : Open) (ks : List Open) (l m : ℕ) → length ks < 31
       → set (set (below f (k ∷ ks) (l ∷ zeros_over (k ∷ ks))) (suc (suc (length ks)) - 1) 0) (suc (suc (length ks)) - 2) m
       ≡ below f ks (m ∷ zeros_over ks)
-  set-drop k ks l m h =
-      ap (λ (ps : List ℕ). set ps (suc (suc (length ks)) - 2) m) (set-off k ks l h)
-      ∙ ap (λ (j : ℕ). set (stacked f k ks) j m) (omega arith)
-      ∙ below_set ks (f k ∷ zeros_over ks) 0 m
+  set-drop k ks l m h = grind (arith, set-off k ks l h, below-set ks (f k ∷ zeros_over ks) 0 m)

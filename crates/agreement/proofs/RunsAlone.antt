@@ -1,8 +1,7 @@
 -- With no rebinding in the list, the agreement is one over lists of runs and the walk of words alone.
-use Rattle.std.proofs.Common.{ℕ, ◌+◌, ◌≡◌, refl, sym, ap, ◌∙◌, List, [], ◌∷◌, map, length, take, arith, flat_map, inl, inr}
+use Rattle.std.proofs.Common.{ℕ, ◌+◌, ◌≡◌, refl, sym, ap, ◌∙◌, List, [], ◌∷◌, map, length, take, arith, flat_map}
 use mathlib.Core.List.{map-append}
 use Rattle.std.proofs.lemmas.Grind.{common_steps}
-use Rattle.words.proofs.lists.Tests.{cases}
 use Rattle.bindings.specs.Binding.{Binding, own_binding}
 use Rattle.text.specs.frames.Frame.{contents}
 use Rattle.text.specs.frames.Verdict.{fine}
@@ -18,7 +17,7 @@ use Rattle.state.specs.State.{State, fresh_state}
 use Rattle.runs.specs.Run.{RunOutcome, run}
 use Rattle.rebinding.specs.Rebind.{rebind}
 use Rattle.agreement.specs.Agreement.{Translator, Maker, Runner, Rebinder, RunInput, RunOutput, output_of, to_run, CallOutput, by_run}
-use Rattle.agreement.specs.Agreement.{by_rebinding, call_outputs, is_short, joined_words, bound, expected_output, output_refused_short}
+use Rattle.agreement.specs.Agreement.{by_rebinding, call_outputs, joined_words, bound}
 use Rattle.agreement.specs.Agreement.{expected_outputs, walk_outputs, Agreement, Translates}
 use Rattle.agreement.proofs.Expected.{all-short, all-long}
 use Rattle.agreement.proofs.Demand.{theorem}
@@ -47,16 +46,8 @@ joined-alone c s (a ∷ rest) = grind (arith, common_steps, joined-alone c s res
 pub expected-alone : (c : Chart) (b : ℕ) (ts : List Tick) (p : ℕ) (asked : List RunInput)
     → expected_outputs c b ts p (map to_run asked) ≡ map by_run (unswapped.expected_runs b ts p asked)
 unfolding expected_outputs unswapped.expected_runs
-expected-alone c b ts p [] = refl
-expected-alone c b ts p (a ∷ rest) = elim (cases (is_short a)) [
-  | inl e ↦
-      all-short c b ts p a (map to_run rest) e
-      ∙ ap (λ (l : List CallOutput). by_run (output_refused_short a) ∷ l) (expected-alone c b ts p rest) ∙ rw (e, unswapped.expected_runs)
-  | inr e ↦
-      all-long c b ts p a (map to_run rest) e
-      ∙ ap (λ (l : List CallOutput). by_run (expected_output b ts p a) ∷ l) (expected-alone c b ts (p + length a.words) rest)
-      ∙ rw (e, unswapped.expected_runs)
-]
+expected-alone c b ts p [] = search (arith)
+expected-alone c b ts p (a ∷ rest) = search (arith, expected-alone c b ts p rest, expected-alone c b ts (p + length a.words) rest, all-long, all-short)
 
 -- of every accepted chart
 pub walked-alone : (text : List ℕ) → read_verdict text ≡ fine → (size : ℕ) (asked : List RunInput)
@@ -73,12 +64,12 @@ abbrev outputs_of_run : CallOutput → List RunOutput
 outputs_of_run (by_run t) = t ∷ []
 outputs_of_run (by_rebinding r) = []
 
-told_back : (ts : List RunOutput) → flat_map outputs_of_run (map by_run ts) ≡ ts
-told_back [] = refl
-told_back (t ∷ ts) = ap (λ (l : List RunOutput). t ∷ l) (told_back ts)
+told-back : (ts : List RunOutput) → flat_map outputs_of_run (map by_run ts) ≡ ts
+told-back [] = refl
+told-back (t ∷ ts) = ap (λ (l : List RunOutput). t ∷ l) (told-back ts)
 
 pub same-told : (ts us : List RunOutput) → map by_run ts ≡ map by_run us → ts ≡ us
-same-told ts us e = sym (told_back ts) ∙ ap (flat_map outputs_of_run) e ∙ told_back us
+same-told ts us e = sym (told-back ts) ∙ ap (flat_map outputs_of_run) e ∙ told-back us
 
 pub agreement-alone : (translator : Translator) (fresh : Maker) (run : Runner) (rebind : Rebinder) → Translates translator
     → Agreement translator fresh run rebind → unswapped.RunAgreement translator fresh run
@@ -109,9 +100,7 @@ runs-are-calls (alone.more answer after masks codes r rs) = calls.more (calls.ru
 
 pub runs-delivered : alone.RunsDelivered
 unfolding alone.RunsDelivered alone.DeliveredAlone
-runs-delivered text before after answer l n e size low high made m asked tolds rs =
-    same-told tolds (unswapped.walk_runs size (contents text) asked)
-    (delivered-alone text before after answer l n e size low high made m asked (map by_run tolds) (runs-are-calls rs))
+runs-delivered text before after answer l n e size low high made m asked tolds rs = search (arith, same-told, delivered-alone, runs-are-calls)
 
 -- ---- the same for C
 handed-told : (ts : List RunOutput) → map c.call_output_c (map by_run ts) ≡ map c.by_run_c (map c.run_output_c ts)

@@ -1,12 +1,12 @@
 -- One tick of the machine on the table of a chart is one tick of the walk, but for a call at a full stack, which stops it with 17.
-use Rattle.std.proofs.Common.{if◌then◌else◌, ℕ, suc, ◌+◌, ◌-◌, ◌≤◌, ◌<◌, Bool, true, false, ◌&&◌, ◌||◌, not, ◌≡◌, refl, ap, ap₂, ◌∙◌, sym, nat_le, ◌==◌}
+use Rattle.std.proofs.Common.{if◌then◌else◌, ℕ, suc, ◌+◌, ◌-◌, ◌≤◌, ◌<◌, Bool, true, false, ◌&&◌, ◌||◌, not, ◌≡◌, ap, ap₂, ◌∙◌, sym, nat_le, ◌==◌}
 use Rattle.std.proofs.Common.{◌⊎◌, inl, inr, List, [], ◌∷◌, length, set, arith, eqb-true, ne_eqb, leb-true, leb-false}
 use borrow.Author.Tests.{lt-leb}
 use Rattle.std.proofs.lemmas.Grind.{common_steps}
 use Rattle.std.proofs.lemmas.Bool.{cond-false}
 use Rattle.words.proofs.lists.Tests.{and-no, and-r}
 use Rattle.text.specs.frames.Frame.{size}
-use Rattle.results.specs.Results.{Results, result_of, with_result, cleared_results}
+use Rattle.results.specs.Results.{Results, with_result, cleared_results}
 use Rattle.bindings.specs.Binding.{Binding, server_of}
 use Rattle.charts.specs.Chart.{Chart, kind, scheme, argument, next0, mask, handler, schemes, end}
 use Rattle.walk.specs.Stops.{start, by_arc, by_word, Stop}
@@ -19,19 +19,19 @@ use Rattle.image.specs.Layout.{tick_kind}
 use Rattle.image.specs.Image.{Image, Label}
 use Rattle.chart_rows.specs.chart_labels.Labels.{is_numbered, label}
 use Rattle.chart_rows.proofs.chart_labels.LabelKinds.{label-owner}
-use Rattle.chart_rows.specs.Rows.{rows}
 use Rattle.translator.specs.Table.{table}
 use Rattle.state.specs.State.{State, bottom_alone, label_at, place_at, number_at}
 use Rattle.state.specs.Changes.{with_bits}
 use Rattle.fitness.specs.Fitness.{is_of_handler}
 use Rattle.ticks.specs.Tick.{row_leads, MachineTick, finished, stopped, moved_tick, popped_state, is_full_stack_kept, pushed_tick}
 use Rattle.ticks.specs.Tick.{popped_tick, tick_by, tick}
-use Rattle.rows.specs.Rows.{best_row, Found, found, lead_of}
+use Rattle.rows.specs.Rows.{Found, found}
 use Rattle.agreement.specs.Agreement.{is_full_call}
 use Rattle.agreement.proofs.TableFacts.{TableFacts}
 use Rattle.agreement.proofs.StopLabels.{label-home, is-numbered, label_held_by, held}
 use Rattle.agreement.proofs.Places.{below, zeros_over, stacked, labelled, open_number, open_server, holding, state_of_position, bottom_of}
 use Rattle.agreement.proofs.Places.{get-bottom, get-top, get-under, set-top, set-push, set-off, set-drop}
+use Rattle.std.proofs.lemmas.Bool.Decides.{nat_tests}
 
 -- what the machine answers for a tick of the walk that leads to state s
 abbrev pub answer : ℕ → Tick → State → MachineTick
@@ -47,9 +47,8 @@ tick-at i s w l g x e h f = grind (arith, common_steps)
 abbrev Calling : ℕ → Type 0
 Calling k = (k ≡ 2) ⊎ (k ≡ 4)
 
-no_end : (k : ℕ) → Calling k → k ≡ 1 → ⊥
-no_end k (inl e) q = omega arith
-no_end k (inr e) q = omega arith
+no-end : (k : ℕ) → Calling k → k ≡ 1 → ⊥
+no-end k h q = grind (arith, nat_tests)
 
 module _ (c : Chart) (n : ℕ) (n≤ : n ≤ 32) (serving : Binding) where
   abbrev state : Open → List Open → Results → Bool → State
@@ -58,12 +57,7 @@ module _ (c : Chart) (n : ℕ) (n≤ : n ≤ 32) (serving : Binding) where
   -- ---- what each kind of tick makes of the state of a position
   to-top : (m code u : ℕ) (x : Open) (ks : List Open) (b d : Results) (f : Bool) (r : Found) → r ≡ found (label c u)
       → let s = state x ks b f in moved_tick m code (with_bits s d) (s.depth - 1) r ≡ finished m code (state (moved_to x u) ks d f)
-  to-top m code u x ks b d f r e =
-      let s = state x ks b f in
-      ap (moved_tick m code (with_bits s d) (s.depth - 1)) e
-      ∙ ap (λ (ls : List ℕ). finished m code (holding n (suc (length ks)) serving d ls (stacked open_number x ks)
-      (stacked open_server x ks)))
-      (set-top (labelled c) ks (labelled c x) (zeros_over ks) (label c u))
+  to-top m code u x ks b d f r e = grind (arith, stacked, open_number, labelled, open_server, holding, set-top, zeros_over)
 
   to-under : (m code u : ℕ) (x k : Open) (ks : List Open) (b d : Results) (f : Bool) (r : Found) → length ks < 31 → r ≡ found (label c u)
       → let s = state x (k ∷ ks) b f in moved_tick m code (popped_state s d) (s.depth - 2) r ≡ finished m code (state (moved_to k u) ks d f)
@@ -74,14 +68,13 @@ module _ (c : Chart) (n : ℕ) (n≤ : n ≤ 32) (serving : Binding) where
     -- the scheme of the bottom, under a node that calls
     bottom-scheme : (g : ℕ) (x : Open) (ks : List Open) → StopOf c x.server x.node → Calling (kind c x.node) → Under c g x ks
         → let v = (bottom_of x ks).node in (v < size c) × (is_numbered c v ≡ true) × (scheme c v ≡ g)
-    bottom-scheme g x [] s call under = grind (arith, common_steps, is-numbered, no_end)
+    bottom-scheme g x [] s call under = grind (arith, common_steps, is-numbered, no-end)
     bottom-scheme g x (k ∷ ks) s call (caller, under) = grind (arith, common_steps, bottom-scheme g k ks)
 
     keeps : (f : Bool) (o l : ℕ) → 2 ≤ l → (label_at (table c) l).owner ≡ bottom c f → (f ≡ true → handler c ≡ 0 → ⊥) → o ≡ n
         → ((table c).handler == 0 || is_of_handler (table c) l) ≡ not (is_dropping n c f o)
     unfolding table
-    keeps true o l two own handled e = grind (arith, common_steps)
-    keeps false o l two own handled e = grind (arith, common_steps)
+    keeps f o l two own handled e = grind (arith, nat_tests)
 
     module _ (x : Open) (ks : List Open) (b : Results) (f : Bool) (g : Good c (at x ks b f)) (call : Calling (kind c x.node)) where
       full-kept : suc (length ks) ≡ n → is_full_stack_kept (table c) (state x ks b f) ≡ not (is_dropping n c f (suc (length ks)))
@@ -108,8 +101,7 @@ module _ (c : Chart) (n : ℕ) (n≤ : n ≤ 32) (serving : Binding) where
         at-full : (t : Bool) → is_dropping n c f (suc (length ks)) ≡ t → suc (length ks) ≡ n
             → is_full_stack_kept (table c) (state x ks b f) ≡ not t → Goal true t
         unfolding table below
-        at-full true q e k = grind (arith, common_steps)
-        at-full false q e k = grind (arith, common_steps)
+        at-full t q e k = grind (arith, nat_tests)
 
         room : (t : Bool) → is_dropping n c f (suc (length ks)) ≡ t → suc (length ks) < n → Goal false t
         room true q e = absurd (let z : suc (length ks) ≡ n =
@@ -131,27 +123,13 @@ module _ (c : Chart) (n : ℕ) (n≤ : n ≤ 32) (serving : Binding) where
             (and-no (nat_le 16 (j + h) && not (j + h == 96)) (suc (length ks) == n) (ne_eqb (suc (length ks)) n (λ z. omega arith))))
 
         to-push : length ks < n → Goal (nat_le n (suc (length ks))) (is_dropping n c f (suc (length ks)))
-        to-push deep = go (nat_le n (suc (length ks))) refl
-          where
-            go : (t : Bool) → nat_le n (suc (length ks)) ≡ t → Goal t (is_dropping n c f (suc (length ks)))
-            go true t =
-                let e : suc (length ks) ≡ n = omega (arith, leb-true n (suc (length ks)) t) in
-                at-full (is_dropping n c f (suc (length ks))) refl e (full-kept e)
-            go false t = room (is_dropping n c f (suc (length ks))) refl (leb-false n (suc (length ks)) t)
+        to-push deep = search (arith, leb-false, leb-true, nat_le, full-kept, at-full, room)
 
     -- the row that a caller takes when its call has ended
     resumed-row : (h : ℕ) (k : Open) (w : ℕ) (b : Results) → Caller c h k
         → row_leads (table c) b (labelled c k) w ≡ found (label c (resumed c k.node w b))
     unfolding table
-    resumed-row h k w b caller = elim caller.calls [
-      | inl e ↦ table_facts.row_plain k.node w _ caller.stop.inside e
-          ∙ ap (λ (s : Stop). found (label c (node_resumed c k.node w b s)))
-          (sym (stop-call c k.node e (λ p. omega (arith, caller.called, caller.deep))))
-      | inr e ↦ ap (λ (x : Label). lead_of (best_row (labelled c k) w (if result_of x.called b then 1 else 0) 0 (rows c)))
-          (held c k.node table_facts caller.stop (a-function e))
-          ∙ table_facts.row_function k.node w (result_of (argument c k.node) b) caller.stop.inside e
-          ∙ ap (λ (s : Stop). found (label c (node_resumed c k.node w b s))) (sym (stop-function c k.node e))
-    ]
+    resumed-row h k w b caller = grind (arith, stop-function, node_resumed, labelled, a-function, held, stop-call)
 
     tick-back : (x : Open) (ks : List Open) (b : Results) (f : Bool) (w : ℕ) → length ks < n → Good c (at x ks b f)
         → let s = state x ks b f in popped_tick (table c) s w 0 b (nat_le s.depth 1) ≡ finished 0 3

@@ -35,14 +35,14 @@ module _ (c : Chart) (v : ℕ) where
     pub is-numbered : (kind c v ≡ 1 → ⊥) → is_numbered c v ≡ true
     is-numbered e = rw (stop.stopping, ne_eqb (kind c v) 1 e)
 
-    of_node : (kind c v ≡ 1 → ⊥) → label_at (table c) (label c v) ≡ stop_label c v
-    of_node e = (facts.numbers v stop.inside (is-numbered e)).2
+    of-node : (kind c v ≡ 1 → ⊥) → label_at (table c) (label c v) ≡ stop_label c v
+    of-node e = (facts.numbers v stop.inside (is-numbered e)).2
 
     pub held : {s : Stop} → View c v s → label_at (table c) (label c v) ≡ label_held_by c v s
-    held (a-plain e a) = of_node (λ p. omega arith) ∙ rw (e, a)
-    held (a_call e a) = of_node (λ p. omega arith) ∙ rw (e, ne_eqb (argument c v) 0 a)
-    held (a-function e) = of_node (λ p. omega arith) ∙ rw e
+    held (a-plain e a) = of-node (λ p. omega arith) ∙ rw (e, a)
+    held (a_call e a) = of-node (λ p. omega arith) ∙ rw (e, ne_eqb (argument c v) 0 a)
+    held (a-function e) = of-node (λ p. omega arith) ∙ rw e
     held (a-home e s) = ap (label_at (table c)) (label-home e s) ∙ facts.labels0
     held (a_back e s) = ap (label_at (table c)) (label-back e s) ∙ facts.labels1
-    held (a-begin e) = of_node (λ p. omega arith) ∙ rw e
-    held (a-condition e) = of_node (λ p. omega arith) ∙ rw e
+    held (a-begin e) = of-node (λ p. omega arith) ∙ rw e
+    held (a-condition e) = of-node (λ p. omega arith) ∙ rw e

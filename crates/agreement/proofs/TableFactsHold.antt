@@ -1,9 +1,7 @@
 -- The facts that the simulation takes of a chart's table hold for every accepted text.
 use Rattle.std.proofs.Common.{◌≡◌, sym, ◌∙◌, ap, List, [], ◌∷◌, ℕ, suc, ◌-◌, arith, length, filter}
 use Rattle.std.proofs.Math.ListN.{length-map}
-use Rattle.std.proofs.lemmas.Grind.{common_steps}
 use Rattle.words.proofs.lists.Filters.{none-passes}
-use Rattle.words.proofs.lists.Tests.{cases}
 use Rattle.text.specs.frames.Frame.{contents}
 use Rattle.text.specs.frames.Verdict.{fine}
 use Rattle.charts.specs.Chart.{Chart}
@@ -16,7 +14,7 @@ use Rattle.chart_rows.specs.chart_labels.Labels.{entry}
 use Rattle.translator.proofs.LabelLaws.{label-low, label-inside, label-holds, labels-apart, label-home, label-return, labels-two}
 use Rattle.translator.proofs.LabelLaws.{labels-few, entry-holds}
 use Rattle.translator.proofs.Matching.{is_matching_row, targets, targets-none, targets-own, targets-other}
-use Rattle.translator.proofs.RowLaws.{row_plain, row-begin, row-condition, row-function}
+use Rattle.translator.proofs.RowLaws.{row-plain, row-begin, row-condition, row-function}
 use Rattle.rows.specs.Rows.{no_choice, best_row, found, lead_of}
 use Rattle.rows.proofs.ChoiceLaws.{best-own, best-other}
 use Rattle.rows.proofs.BestRows.{best-none}
@@ -32,9 +30,8 @@ none-taken l w b k rs e =
 
 -- just one row matches, so it is taken
 pub best-only : (l w b k u : ℕ) (rs : List Row) → targets l w b rs ≡ u ∷ [] → lead_of (best_row l w b k rs) ≡ found u
-best-only l w b k u [] e = absurd (omega (arith, ap (λ (us : List ℕ). length us) (sym (targets-none l w b) ∙ e)))
-best-only l w b k u (r ∷ rs) e =
-    grind (arith, common_steps, best-only l w b (suc k) u rs, cases (is_matching_row l w b r), targets-own, targets-other, best-own, best-other, none-taken)
+best-only l w b k u [] e = search (arith, targets-none)
+best-only l w b k u (r ∷ rs) e = search (arith, best-only l w b (suc k) u rs, targets-own, targets-other, best-own, best-other, is_matching_row, none-taken)
 
 pub table-facts-of : (c : Chart) → SoundChart c → Facts c → TableFacts c
 table-facts-of c s f = record {
@@ -44,7 +41,7 @@ table-facts-of c s f = record {
   numbers = λ v l e. (label-low c v e, label-inside c v l e, label-holds c v l e);
   apart = λ u v lu lv a b e. labels-apart c u v a b e;
   entries = λ h l m. entry-holds c (h - 1) (omega arith) ∙ ap (entry c) (omega arith);
-  row_plain = λ v w b l k. best-only _ w b 0 _ _ (row_plain c s v w b l k);
+  row_plain = λ v w b l k. best-only _ w b 0 _ _ (row-plain c s v w b l k);
   row_begin = λ v w b l k t. best-only _ w b 0 _ _ (row-begin c s v w b l k t);
   row_condition = λ v w b l k t. best-only _ w b 0 _ _ (row-condition c s v w b l k t);
   row_function = λ v w b l k. best-only _ w _ 0 _ _ (row-function c s v w b l k);

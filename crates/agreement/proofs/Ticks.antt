@@ -13,8 +13,7 @@ use Rattle.walk.specs.Stops.{Stop}
 use Rattle.walk.specs.Walk.{Signal, signals, Tick}
 use Rattle.walk.proofs.Facts.{Facts}
 use Rattle.walk.proofs.Views.{View, a-plain, a_call, a-function, a-home, a_back, a-begin, a-condition}
-use Rattle.walk.proofs.Trace.{Open, WalkPosition, stop_tick, position_moved, is_drop_at, tick_at, move}
-use Rattle.walk.proofs.Trace.{trace, Serves, Good, view-of, moves}
+use Rattle.walk.proofs.Trace.{Open, WalkPosition, stop_tick, position_moved, is_drop_at, tick_at, move, trace, Serves, Good, view-of, moves}
 use Rattle.translator.specs.Table.{table}
 use Rattle.state.specs.State.{State}
 use Rattle.runs.specs.Run.{MachineRun, run_after, ticks}
@@ -70,15 +69,15 @@ module _ (c : Chart) (n : ℕ) (s : Binding) where
   abbrev first : ℕ → List ℕ → WalkPosition → MachineRun
   first w ws x = run_after (state x) (λ t. ticks (table c) t ws) (answer n (tick_at n c x) (state (next w x)))
 
-  first_stops : (w : ℕ) (ws : List ℕ) (x : WalkPosition) → is_full_call n (tick_at n c x) ≡ true
+  first-stops : (w : ℕ) (ws : List ℕ) (x : WalkPosition) → is_full_call n (tick_at n c x) ≡ true
       → first w ws x ≡ run_from_position c n s (w ∷ ws) x
   unfolding trace
-  first_stops w ws x e = grind (arith, common_steps, stand, stand-stop, tick_at, lt-ltb, bound-stop, trace)
+  first-stops w ws x e = grind (arith, common_steps, stand, stand-stop, tick_at, lt-ltb, bound-stop, trace)
 
-  first_goes : (w : ℕ) (ws : List ℕ) (x : WalkPosition) → is_full_call n (tick_at n c x) ≡ false
+  first-goes : (w : ℕ) (ws : List ℕ) (x : WalkPosition) → is_full_call n (tick_at n c x) ≡ false
       → ticks (table c) (state (next w x)) ws ≡ run_from_position c n s ws (next w x) → first w ws x ≡ run_from_position c n s (w ∷ ws) x
   unfolding trace
-  first_goes w ws x e ih = grind (arith, common_steps, leb-suc-suc, stand, tick_at, bound-go, stand-go, trace)
+  first-goes w ws x e ih = grind (arith, common_steps, leb-suc-suc, stand, tick_at, bound-go, stand-go, trace)
 
   module _ (facts : Facts c) (serves : Serves c s) where
     pub moves-on : (w : ℕ) (x : WalkPosition) → StandsWell c n x → is_full_call n (tick_at n c x) ≡ false → StandsWell c n (next w x)
@@ -101,6 +100,6 @@ module _ (c : Chart) (n : ℕ) (s : Binding) where
     ticks-are n≤ table_facts (w ∷ ws) x z =
         ap (run_after (state x) (λ t. ticks (table c) t ws)) (tick-is c n n≤ s facts table_facts serves w x z.low z.good)
         ∙ elim (cases (is_full_call n (tick_at n c x))) [
-          | inl e ↦ first_stops w ws x e
-          | inr e ↦ first_goes w ws x e (ticks-are n≤ table_facts ws (next w x) (moves-on w x z e))
+          | inl e ↦ first-stops w ws x e
+          | inr e ↦ first-goes w ws x e (ticks-are n≤ table_facts ws (next w x) (moves-on w x z e))
         ]

@@ -86,8 +86,8 @@ bench-sheet = record {
   b10 = ap (λ (r : RunOutcome). r.codes) (on-function 2 (replicate 6 0)) ∙ (function-run 2 (omega arith) (omega arith) (replicate 6 0)).1;
   b10-always = λ size l h ws. let e = parts (on-function size ws) in let r = function-run size l h ws in (e.0 ∙ r.0, e.1 ∙ r.1, e.2 ∙ r.2);
   bore = parts run-bore;
-  own_call = ap (λ (r : RunOutcome). r.state.bits) (run-again (replicate 4 0));
-  full_call = let e = run-again (replicate 6 0) in (ap (λ (r : RunOutcome). r.reply) e, ap (λ (r : RunOutcome). r.state.bits) e);
+  own-call = ap (λ (r : RunOutcome). r.state.bits) (run-again (replicate 4 0));
+  full-call = let e = run-again (replicate 6 0) in (ap (λ (r : RunOutcome). r.reply) e, ap (λ (r : RunOutcome). r.state.bits) e);
   stops-image = of-stops.translated;
   stops-walk = walk-stops;
   stops-run = parts (run-stops stops_words);

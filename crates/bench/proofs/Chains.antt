@@ -7,4 +7,4 @@ use Rattle.bench.specs.Chains.{ChainCases}
 
 pub chain-cases : ChainCases
 unfolding any lowest reach is_caller is_circular ends_of places
-chain-cases = record { three_places = (refl, refl); itself_circular = refl; around_circular = refl; apart_places = (refl, refl) }
+chain-cases = record { three-places = (refl, refl); itself-circular = refl; around-circular = refl; apart-places = (refl, refl) }

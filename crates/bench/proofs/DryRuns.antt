@@ -12,9 +12,9 @@ dry-run-cases = record {
   b3 = refl;
   b4 = refl;
   behind = refl;
-  no_text = λ image words masks codes. refl;
-  small_image = refl;
-  no_places = refl;
-  many_places = refl;
-  few_codes = refl;
+  no-text = λ image words masks codes. refl;
+  small-image = refl;
+  no-places = refl;
+  many-places = refl;
+  few-codes = refl;
 }

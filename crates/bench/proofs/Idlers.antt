@@ -115,10 +115,10 @@ pub keeps-state-fails : KeepsStateFails
 unfolding call_outputs
 keeps-state-fails f g idle claim = grind (arith, common_steps, at-twice, eqb-false)
 
-one_written : (ks : List ℕ) → over ks (7 ∷ []) ≡ 4 ∷ [] → length ks ≡ 1
-one_written [] e = let z : ◌≡◌ {A = ℕ} 7 4 = ap (λ (xs : List ℕ). slice_index xs 0) e in absurd (omega arith)
-one_written (k ∷ []) e = refl
-one_written (k ∷ j ∷ ks) e = let z = ap length e in absurd (omega arith)
+one-written : (ks : List ℕ) → over ks (7 ∷ []) ≡ 4 ∷ [] → length ks ≡ 1
+one-written [] e = let z : ◌≡◌ {A = ℕ} 7 4 = ap (λ (xs : List ℕ). slice_index xs 0) e in absurd (omega arith)
+one-written (k ∷ []) e = refl
+one-written (k ∷ j ∷ ks) e = let z = ap length e in absurd (omega arith)
 
 pub miscounts-fails : MiscountsFails
 unfolding running image_home
@@ -126,7 +126,7 @@ miscounts-fails f g idle claim =
     let told = at-home f g claim in
     let m = idle image_home (fresh 1) 0 [] (7 ∷ []) (7 ∷ []) refl in
     m.differs (ap (λ (t : RunOutput). reply_count t.reply) told
-    ∙ sym (one_written m.written (sym m.buffer ∙ ap (λ (t : RunOutput). t.codes) told)))
+    ∙ sym (one-written m.written (sym m.buffer ∙ ap (λ (t : RunOutput). t.codes) told)))
 
 -- ---- and no other
 pub only-these : OnlyThese

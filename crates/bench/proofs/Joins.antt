@@ -20,7 +20,7 @@ use Rattle.bench.proofs.Computing.{checking}
 
 pub group-cases : GroupCases
 unfolding joined_labels grouping classes is_parted tabulate lowest count
-group-cases = record { two_alike = refl; parted_later = refl; crosswise = refl; tests_kept = refl; lowest_first = refl }
+group-cases = record { two-alike = refl; parted-later = refl; crosswise = refl; tests-kept = refl; lowest-first = refl }
 
 -- of an image whose text is accepted and is read back as it is
 by-sizes : (i : Image) → image_verdict (image_text i) ≡ fine → decoded_image (contents (image_text i)) ≡ i → is_uneven i ≡ is_uneven_by_sizes i
@@ -32,7 +32,7 @@ even-cases = record {
   even = by-sizes even_image refl refl;
   gap = by-sizes gap_image refl refl;
   twice = by-sizes twice_image refl refl;
-  bit_left = by-sizes bit_left_image refl refl;
-  last_left = by-sizes last_left_image refl refl;
+  bit-left = by-sizes bit_left_image refl refl;
+  last-left = by-sizes last_left_image refl refl;
   apart = by-sizes apart_image refl refl;
 }

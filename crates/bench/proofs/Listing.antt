@@ -8,4 +8,4 @@ use Rattle.bench.proofs.Computing.{checking}
 
 pub listing-cases : ListingCases
 unfolding checking tabulate lowest count first_rows row_counts list image_p image_rowless
-listing-cases = record { of_p = refl; gap = refl; short_firsts = refl; short_counts = refl; unchecked = refl }
+listing-cases = record { of-p = refl; gap = refl; short-firsts = refl; short-counts = refl; unchecked = refl }

@@ -50,13 +50,13 @@ three-listed = sym (search-lists 3 (omega arith) (omega arith)) ∙ refl
 abbrev given : ℕ → ℕ → List Chart → List ℕ → BufferOutcome
 given n k xs out = buffer_on (when 24 (nat_lt n 2 || nat_lt 4 n || nat_le (length xs) k)) 1 (λ _. text_of (slice_index_or xs k [])) out
 
-of_two : (k : ℕ) (out : List ℕ) → little_chart 2 k out ≡ given 2 k two out
+of-two : (k : ℕ) (out : List ℕ) → little_chart 2 k out ≡ given 2 k two out
 unfolding little_verdict little_chart
-of_two k out = ap (λ (xs : List Chart). given 2 k xs out) two-listed
+of-two k out = ap (λ (xs : List Chart). given 2 k xs out) two-listed
 
-of_three : (k : ℕ) (out : List ℕ) → little_chart 3 k out ≡ given 3 k three out
+of-three : (k : ℕ) (out : List ℕ) → little_chart 3 k out ≡ given 3 k three out
 unfolding little_verdict little_chart
-of_three k out = ap (λ (xs : List Chart). given 3 k xs out) three-listed
+of-three k out = ap (λ (xs : List Chart). given 3 k xs out) three-listed
 
 -- of four frames by the samples
 text-first : little_text 4 0 ≡ first_four
@@ -71,9 +71,9 @@ text-last : little_text 4 647 ≡ last_four
 unfolding charting samples last_four
 text-last = ap (λ (s : Samples). text_of s.last) samples-four
 
-of_four : (k : ℕ) (t out : List ℕ) → little_text 4 k ≡ t → little_chart 4 k out ≡ buffer_on (when 24 (nat_le 648 k)) 1 (λ _. t) out
+of-four : (k : ℕ) (t out : List ℕ) → little_text 4 k ≡ t → little_chart 4 k out ≡ buffer_on (when 24 (nat_le 648 k)) 1 (λ _. t) out
 unfolding little_verdict little_chart
-of_four k t out e = ap₂ (λ (n : ℕ) (xs : List ℕ). buffer_on (when 24 (nat_le n k)) 1 (λ _. xs) out) total-four e
+of-four k t out e = ap₂ (λ (n : ℕ) (xs : List ℕ). buffer_on (when 24 (nat_le n k)) 1 (λ _. xs) out) total-four e
 
 pub little-cases : LittleCases
 unfolding charting little_verdict little_chart two three texts_two texts_three
@@ -81,15 +81,15 @@ little-cases = record {
   two = ap (map text_of) two-listed;
   three = ap (map text_of) three-listed;
   four = (text-first, text-middle, text-last);
-  last_two = λ out. of_two 1 out;
-  last_three = λ out. of_three 17 out;
-  last_of_four = λ out. of_four 647 last_four out text-last;
-  past_two = λ out. of_two 2 out;
-  past_three = λ out. of_three 18 out;
-  past_four = λ out. of_four 648 (little_text 4 648) out refl;
+  last-two = λ out. of-two 1 out;
+  last-three = λ out. of-three 17 out;
+  last-of-four = λ out. of-four 647 last_four out text-last;
+  past-two = λ out. of-two 2 out;
+  past-three = λ out. of-three 18 out;
+  past-four = λ out. of-four 648 (little_text 4 648) out refl;
   none = λ out. refl;
   one = λ out. refl;
   five = λ out. refl;
-  short = of_two 0 (replicate 45 9);
-  past_first = of_two 2 [];
+  short = of-two 0 (replicate 45 9);
+  past-first = of-two 2 [];
 }

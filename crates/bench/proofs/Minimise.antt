@@ -36,7 +36,7 @@ unfolding checking tabulate lowest count map_from ones ones_in image_frames imag
     has_overlap covered_count is_uneven_by_sizes is_uneven is_parted classes grouping
     joined_labels minimise_verdict minimise image_p image_rowless image_branches image_joined
 minimise-cases = record {
-  of_p = λ out. by-sizes image_p out refl;
+  of-p = λ out. by-sizes image_p out refl;
   branches = λ out. by-sizes image_branches out refl;
   again = λ out. by-sizes image_joined out refl;
   twice = λ out. refl;

@@ -12,10 +12,10 @@ pub price-cases : PriceCases
 unfolding running sum tick_price hundredths priced_verdict priced_run image_p bench_words image_handler drop_words
 price-cases = record {
   half = refl;
-  less_than_half = refl;
+  less-than-half = refl;
   together = refl;
   once = refl;
-  highest_bit = refl;
+  highest-bit = refl;
   nothing = refl;
   whole = refl;
   full = refl;

@@ -152,9 +152,9 @@ pub record BenchSheet : Type 0 where
       × (r.codes ≡ 4 ∷ 66 ∷ 0 ∷ 0 ∷ 3 ∷ 0 ∷ 4 ∷ 66 ∷ 0 ∷ 3 ∷ 0 ∷ 4 ∷ [])
       × (r.masks ≡ 0 ∷ 0 ∷ 0 ∷ 0 ∷ 0 ∷ 1 ∷ 0 ∷ 0 ∷ 0 ∷ 0 ∷ 2 ∷ 0 ∷ [])
   -- the fourth tick writes 1 to the bit of scheme 2 and calls scheme 2, which leaves a 0
-  pub own_call : (fresh_run (image_of 253 chart_again) 3 (replicate 4 0)).state.bits ≡ no_results
+  pub own-call : (fresh_run (image_of 253 chart_again) 3 (replicate 4 0)).state.bits ≡ no_results
   -- the sixth would do so again, but gets 17 and leaves the 1 that the fifth wrote
-  pub full_call : let r = fresh_run (image_of 253 chart_again) 3 (replicate 6 0) in
+  pub full-call : let r = fresh_run (image_of 253 chart_again) 3 (replicate 6 0) in
       (r.reply ≡ refusal 17 0 5) × (r.state.bits ≡ false ∷ true ∷ replicate 14 false)
   -- of scheme 2 the Begin stops and its condition does not, whence it is met again too: labels and entries go by that
   pub stops-image : (out : List ℕ) → translate chart_stops out ≡ buffer_on fine 1 (λ _. image_stops) out

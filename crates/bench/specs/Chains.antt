@@ -12,16 +12,16 @@ chart = flat_map (λ r. r)
 
 pub record ChainCases : Type 0 where
   -- 1 calls 2 and 3, and a function of 2 calls 3
-  pub three_places : let c = chart (
+  pub three-places : let c = chart (
       node 0 1 0 1 0 ∷ node 2 1 2 2 0 ∷ node 2 1 3 3 0 ∷ node 1 1 0 0 0 ∷ node 0 2 0 5 0 ∷ node 4 2 3 6 6 ∷ node 1 2 0 0 0
       ∷ node 0 3 0 8 0 ∷ node 1 3 0 0 0 ∷ []) in (is_circular c ≡ false) × (places c ≡ 3)
   -- 1 calls 2, and 2 calls itself
-  pub itself_circular : is_circular (chart (
+  pub itself-circular : is_circular (chart (
       node 0 1 0 1 0 ∷ node 2 1 2 2 0 ∷ node 1 1 0 0 0 ∷ node 0 2 0 4 0 ∷ node 2 2 2 5 0 ∷ node 1 2 0 0 0 ∷ [])) ≡ true
   -- 1 calls 2, 2 calls 3, and 3 calls 2
-  pub around_circular : is_circular (chart (
+  pub around-circular : is_circular (chart (
       node 0 1 0 1 0 ∷ node 2 1 2 2 0 ∷ node 1 1 0 0 0 ∷ node 0 2 0 4 0 ∷ node 2 2 3 5 0 ∷ node 1 2 0 0 0
       ∷ node 0 3 0 7 0 ∷ node 4 3 2 8 8 ∷ node 1 3 0 0 0 ∷ [])) ≡ true
   -- 2 calls itself, but nobody calls it
-  pub apart_places : let c = chart (node 0 1 0 1 0 ∷ node 1 1 0 0 0 ∷ node 0 2 0 3 0 ∷ node 2 2 2 4 0 ∷ node 1 2 0 0 0 ∷ []) in
+  pub apart-places : let c = chart (node 0 1 0 1 0 ∷ node 1 1 0 0 0 ∷ node 0 2 0 3 0 ∷ node 2 2 2 4 0 ∷ node 1 2 0 0 0 ∷ []) in
       (is_circular c ≡ false) × (places c ≡ 1)

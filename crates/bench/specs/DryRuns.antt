@@ -34,9 +34,9 @@ pub record DryRunCases : Type 0 where
   }
   -- what stands behind the image stays
   pub behind : dry_p 0 278 8 ≡ unrun (refusal 14 0 0) (image_p ++ (0 ∷ 0 ∷ [])) 8
-  pub no_text : (image words masks codes : List ℕ)
+  pub no-text : (image words masks codes : List ℕ)
       → dry_run [] 0 image words masks codes ≡ record { reply = refusal 1 0 0; image = image; masks = masks; codes = codes }
-  pub small_image : dry_p 0 275 7 ≡ unrun (refusal 16 0 0) (replicate 275 0) 7
-  pub no_places : dry_p 0 276 7 ≡ unrun (refusal 14 0 0) image_p 7
-  pub many_places : dry_p 33 276 7 ≡ unrun (refusal 14 0 0) image_p 7
-  pub few_codes : dry_p 1 276 7 ≡ unrun (refusal 16 0 0) image_p 7
+  pub small-image : dry_p 0 275 7 ≡ unrun (refusal 16 0 0) (replicate 275 0) 7
+  pub no-places : dry_p 0 276 7 ≡ unrun (refusal 14 0 0) image_p 7
+  pub many-places : dry_p 33 276 7 ≡ unrun (refusal 14 0 0) image_p 7
+  pub few-codes : dry_p 1 276 7 ≡ unrun (refusal 16 0 0) image_p 7

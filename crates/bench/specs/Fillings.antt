@@ -23,7 +23,7 @@ pub record FillingCases : Type 0 where
   -- one place: the first call drops to the handler, whose own call is refused
   pub dropped : shown_fillings (count_fillings image_handler 1 4 1) ≡ 0 ∷ 8 ∷ 8 ∷ 0 ∷ []
   -- no words are one list, and so are words without conditions
-  pub no_words : shown_fillings (count_fillings image_p 2 0 16) ≡ 0 ∷ 1 ∷ 0 ∷ 0 ∷ []
+  pub no-words : shown_fillings (count_fillings image_p 2 0 16) ≡ 0 ∷ 1 ∷ 0 ∷ 0 ∷ []
   pub no-conditions : shown_fillings (count_fillings image_p 1 2 0) ≡ 0 ∷ 0 ∷ 1 ∷ 0 ∷ []
   -- 28: 17 conditions, 65,537 words, a product of 17, and one that wraps to 0 in 64 bits
   pub conditions-17 : shown_fillings (count_fillings image_p 2 0 17) ≡ 28 ∷ 0 ∷ 0 ∷ 0 ∷ []

@@ -66,8 +66,8 @@ pub record HandlerCases : Type 0 where
   pub translated : (out : List ℕ) → translate chart_handler out ≡ buffer_on fine 1 (λ _. image_handler) out
   -- a drop finds two schemes open and the tick after it one, and the handler's return leads home
   pub drop-walk : walked_handler 2 drop_words
-      ≡ tick_of 4 1 0 4 1 ∷ tick_of 1 1 0 66 1 ∷ tick_of 5 2 0 0 2 ∷ tick_of 7 2 2 96 2 ∷ tick_of 10 3 4
-      0 1 ∷ tick_of 13 3 0 3 1 ∷ tick_of 4 1 0 4 1 ∷ tick_of 1 1 0 66 1
+      ≡ tick_of 4 1 0 4 1 ∷ tick_of 1 1 0 66 1 ∷ tick_of 5 2 0 0 2 ∷ tick_of 7 2 2 96 2
+      ∷ tick_of 10 3 4 0 1 ∷ tick_of 13 3 0 3 1 ∷ tick_of 4 1 0 4 1 ∷ tick_of 1 1 0 66 1
       ∷ tick_of 5 2 0 0 2 ∷ tick_of 7 2 2 96 2 ∷ []
   -- the last tick, a drop, writes the caller's 1, does not clear it though scheme 2 is called too, and clears the handler's 1
   pub drop-before : (fresh_run image_handler 2 (take 9 drop_words)).state ≡ handler_state 2 2 1 5 2 false true
@@ -79,8 +79,8 @@ pub record HandlerCases : Type 0 where
   }
   -- with the handler first the walk makes the call that finds two schemes open, and the machine refuses it
   pub bottom-walk : walked_handler 2 bottom_words
-      ≡ tick_of 4 1 0 4 1 ∷ tick_of 1 1 0 66 1 ∷ tick_of 5 2 0 0 2 ∷ tick_of 7 2 2 96 2 ∷ tick_of 10 3 4 0
-      1 ∷ tick_of 12 3 8 18 1 ∷ tick_of 5 2 0 0 2 ∷ tick_of 7 2 2 18 2
+      ≡ tick_of 4 1 0 4 1 ∷ tick_of 1 1 0 66 1 ∷ tick_of 5 2 0 0 2 ∷ tick_of 7 2 2 96 2
+      ∷ tick_of 10 3 4 0 1 ∷ tick_of 12 3 8 18 1 ∷ tick_of 5 2 0 0 2 ∷ tick_of 7 2 2 18 2
       ∷ tick_of 5 2 0 0 3 ∷ []
   pub bottom-run : fresh_run image_handler 2 bottom_words ≡ record {
     reply = refusal 17 0 7;

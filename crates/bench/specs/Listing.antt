@@ -18,7 +18,7 @@ kept_listing number n m = record { reply = refusal number 0 0; firsts = replicat
 
 pub record ListingCases : Type 0 where
   -- what stands behind the labels stays
-  pub of_p : list image_p (replicate 6 9) (replicate 7 9) ≡ record {
+  pub of-p : list image_p (replicate 6 9) (replicate 7 9) ≡ record {
     reply = success 5;
     firsts = 0 ∷ 0 ∷ 0 ∷ 1 ∷ 3 ∷ 9 ∷ [];
     counts = 0 ∷ 0 ∷ 1 ∷ 2 ∷ 1 ∷ 9 ∷ 9 ∷ [];
@@ -29,6 +29,6 @@ pub record ListingCases : Type 0 where
     counts = 0 ∷ 0 ∷ 2 ∷ 0 ∷ 2 ∷ 0 ∷ [];
   }
   -- 16 by either buffer, and after what the image check tries
-  pub short_firsts : list image_p (replicate 4 9) (replicate 5 9) ≡ kept_listing 16 4 5
-  pub short_counts : list image_p (replicate 5 9) (replicate 4 9) ≡ kept_listing 16 5 4
+  pub short-firsts : list image_p (replicate 4 9) (replicate 5 9) ≡ kept_listing 16 4 5
+  pub short-counts : list image_p (replicate 5 9) (replicate 4 9) ≡ kept_listing 16 5 4
   pub unchecked : list (changed_image 0 2 0) (replicate 4 9) (replicate 5 9) ≡ kept_listing 11 4 5

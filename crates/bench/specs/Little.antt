@@ -50,17 +50,17 @@ pub record LittleCases : Type 0 where
   pub three : map text_of (little_charts 3) ≡ texts_three
   pub four : (little_text 4 0 ≡ first_four) × (little_text 4 324 ≡ middle_four) × (little_text 4 647 ≡ last_four)
   -- the last of each frame count is written
-  pub last_two : (out : List ℕ) → little_chart 2 1 out ≡ buffer_on fine 1 (λ _. slice_index_or texts_two 1 []) out
-  pub last_three : (out : List ℕ) → little_chart 3 17 out ≡ buffer_on fine 1 (λ _. slice_index_or texts_three 17 []) out
-  pub last_of_four : (out : List ℕ) → little_chart 4 647 out ≡ buffer_on fine 1 (λ _. last_four) out
+  pub last-two : (out : List ℕ) → little_chart 2 1 out ≡ buffer_on fine 1 (λ _. slice_index_or texts_two 1 []) out
+  pub last-three : (out : List ℕ) → little_chart 3 17 out ≡ buffer_on fine 1 (λ _. slice_index_or texts_three 17 []) out
+  pub last-of-four : (out : List ℕ) → little_chart 4 647 out ≡ buffer_on fine 1 (λ _. last_four) out
   -- and the next number is past it
-  pub past_two : (out : List ℕ) → little_chart 2 2 out ≡ kept_smaller 24 out
-  pub past_three : (out : List ℕ) → little_chart 3 18 out ≡ kept_smaller 24 out
-  pub past_four : (out : List ℕ) → little_chart 4 648 out ≡ kept_smaller 24 out
+  pub past-two : (out : List ℕ) → little_chart 2 2 out ≡ kept_smaller 24 out
+  pub past-three : (out : List ℕ) → little_chart 3 18 out ≡ kept_smaller 24 out
+  pub past-four : (out : List ℕ) → little_chart 4 648 out ≡ kept_smaller 24 out
   -- frame counts outside 2 to 4
   pub none : (out : List ℕ) → little_chart 0 0 out ≡ kept_smaller 24 out
   pub one : (out : List ℕ) → little_chart 1 0 out ≡ kept_smaller 24 out
   pub five : (out : List ℕ) → little_chart 5 0 out ≡ kept_smaller 24 out
   -- 16 follows, one character short
   pub short : little_chart 2 0 (replicate 45 9) ≡ kept_smaller 16 (replicate 45 9)
-  pub past_first : little_chart 2 2 [] ≡ kept_smaller 24 []
+  pub past-first : little_chart 2 2 [] ≡ kept_smaller 24 []

@@ -29,7 +29,7 @@ abbrev pub kept_smaller : ℕ → List ℕ → BufferOutcome
 kept_smaller number out = record { reply = refusal number 0 0; buffer = out }
 
 pub record MinimiseCases : Type 0 where
-  pub of_p : (out : List ℕ) → minimise image_p out ≡ buffer_on fine 1 (λ _. image_p) out
+  pub of-p : (out : List ℕ) → minimise image_p out ≡ buffer_on fine 1 (λ _. image_p) out
   pub branches : (out : List ℕ) → minimise image_branches out ≡ buffer_on fine 1 (λ _. image_joined) out
   pub again : (out : List ℕ) → minimise image_joined out ≡ buffer_on fine 1 (λ _. image_joined) out
   -- two rows match each word; a row asks more than it did, so that words match none

@@ -35,8 +35,8 @@ pub record PrintedCases : Type 0 where
   -- sixteen turns of four ticks
   pub run-p : run_output image_p ≡ lines (flat_map (λ r. r) (replicate 16 ("04" ∷ "12" ∷ "00" ∷ "03" ∷ [])))
   -- the words from 32 on have bit 5
-  pub run-held : run_output (translate_output chart_held) ≡ lines
-      (flat_map (λ r. r) (replicate 16 ("04" ∷ "00" ∷ [])) ++ ("04" ∷ replicate 31 "00"))
+  pub run-held : run_output (translate_output chart_held)
+      ≡ lines (flat_map (λ r. r) (replicate 16 ("04" ∷ "00" ∷ [])) ++ ("04" ∷ replicate 31 "00"))
   -- a home tick and 31 calls fill the stack, and 17 follows
   pub run-endless : run_output (translate_output chart_endless) ≡ lines ("04" ∷ replicate 31 "12" ++ ("FF110000000000000000F0" ∷ []))
   -- with a handler a drop follows them, the handler with its return, and home again

@@ -22,10 +22,10 @@ priced_p size room = shown_priced (priced_run image_p (fresh size) (replicate 32
 
 pub record PriceCases : Type 0 where
   pub half : price few_prices (1 ∷ []) ≡ 1
-  pub less_than_half : price few_prices (2 ∷ []) ≡ 0
+  pub less-than-half : price few_prices (2 ∷ []) ≡ 0
   pub together : price few_prices (2 ∷ 2 ∷ []) ≡ 1
   pub once : price few_prices (1 ∷ 1 ∷ 1 ∷ []) ≡ 2
-  pub highest_bit : price few_prices (2147483648 ∷ []) ≡ 1
+  pub highest-bit : price few_prices (2147483648 ∷ []) ≡ 1
   pub nothing : price few_prices [] ≡ 0
   -- two ticks of one bit, and one of them before 17
   pub whole : priced_p 3 8 ≡ 0 ∷ 8 ∷ 1311 ∷ []

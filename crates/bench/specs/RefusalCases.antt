@@ -43,8 +43,9 @@ doubling_chart n = begins 1 1 ++ (operation 1 0 2 1 ++ (flat_map (λ i. conditio
 
 -- the same with one more plain operation before it
 abbrev pub one_more_row : ℕ → Chart
-one_more_row n = begins 1 1 ++ (operation 1 0 2
-    1 ++ (operation 1 0 3 1 ++ (flat_map (λ i. condition 1 i (i + 4) (i + 4)) (range 0 n) ++ ends_with 1)))
+one_more_row n =
+    begins 1 1 ++ (operation 1 0 2 1 ++ (operation 1 0 3 1
+    ++ (flat_map (λ i. condition 1 i (i + 4) (i + 4)) (range 0 n) ++ ends_with 1)))
 
 -- ---- chart P and its image with byte k of frame f changed to x, sums made right
 abbrev pub changed_chart : ℕ → ℕ → ℕ → List ℕ
@@ -116,9 +117,8 @@ pub record RefusalCases : Type 0 where
   pub r7-first : read_verdict (changed_chart 1 2 1) ≡ refused 7 1
   pub r7-high : read_verdict (changed_chart 6 2 3) ≡ refused 7 6
   -- node 1 only leads to the circle of nodes 2 and 3
-  pub r8 : read_verdict (text_of (chart (begins 1 1 ∷ condition 1 0 2 4 ∷ condition 1 1 3 4 ∷ condition 1 2 4 2 ∷ ends_with 1 ∷ []))) ≡
-      refused
-      8 2
+  pub r8 : read_verdict (text_of (chart (begins 1 1 ∷ condition 1 0 2 4 ∷ condition 1 1 3 4 ∷ condition 1 2 4 2 ∷ ends_with 1 ∷ [])))
+      ≡ refused 8 2
   pub r9 : read_verdict (text_of (chart (begins 1 1 ∷ ends_with 1 ∷ operation 1 0 1 5 ∷ []))) ≡ refused 9 2
   pub r10-most : length (rows (doubling_chart 10)) ≡ 1024
   pub r10 : translate_verdict (text_of (one_more_row 10)) ≡ refused 10 0
@@ -195,9 +195,8 @@ pub record RefusalCases : Type 0 where
   pub r19-first : read_verdict (text_of marked_first) ≡ refused 19 0
   pub r19-write : write_verdict marked_first ≡ refused 19 0
   pub r19-translate : translate_verdict (text_of marked_first) ≡ refused 19 0
-  pub r19-second : read_verdict (text_of (chart (begins 1 1 ∷ ends_with 1 ∷ marks 2 3 ∷ ends_with 2 ∷ marks 3 5 ∷ ends_with 3 ∷ []))) ≡
-      refused
-      19 0
+  pub r19-second : read_verdict (text_of (chart (begins 1 1 ∷ ends_with 1 ∷ marks 2 3 ∷ ends_with 2 ∷ marks 3 5 ∷ ends_with 3 ∷ [])))
+      ≡ refused 19 0
   -- with an End missing too, and with an arc to no node
   pub r19-after-5 : read_verdict (text_of (set marked_first 51 1)) ≡ refused 5 0
   pub r19-before-6 : read_verdict (text_of (set marked_first 13 7)) ≡ refused 19 0

@@ -43,18 +43,18 @@ pub record SpindleCases : Type 0 where
   pub no-image : shown_spin (spin [] full_p 63 0 0) ≡ 1 ∷ 0 ∷ 0 ∷ 63 ∷ 16 ∷ 16 ∷ 16 ∷ 16 ∷ []
   -- 15: the record is not the sum, or is above 64; there are three states, or five; the spindle's own does not fit
   pub wrong-sum : shown_spin (spin image_p full_p 63 2 0) ≡ 15 ∷ 0 ∷ 0 ∷ 63 ∷ 16 ∷ 16 ∷ 16 ∷ 16 ∷ []
-  pub too_many : shown_spin (spin image_p (set full_p 3 (deep_state 4 32 17 3)) 65 2 0) ≡ 15 ∷ 0 ∷ 0 ∷ 65 ∷ 16 ∷ 16 ∷ 16 ∷ 17 ∷ []
+  pub too-many : shown_spin (spin image_p (set full_p 3 (deep_state 4 32 17 3)) 65 2 0) ≡ 15 ∷ 0 ∷ 0 ∷ 65 ∷ 16 ∷ 16 ∷ 16 ∷ 17 ∷ []
   pub three : shown_spin (spin image_p (take 3 full_p) 48 3 0) ≡ 15 ∷ 0 ∷ 0 ∷ 48 ∷ 16 ∷ 16 ∷ 16 ∷ []
   pub five : shown_spin (spin image_p (with_depth no_state 0 ∷ full_p) 64 3 0) ≡ 15 ∷ 0 ∷ 0 ∷ 64 ∷ 0 ∷ 16 ∷ 16 ∷ 16 ∷ 16 ∷ []
   pub unfit-own : shown_spin (spin image_handler full_handler 64 0 0) ≡ 15 ∷ 0 ∷ 0 ∷ 64 ∷ 16 ∷ 16 ∷ 2 ∷ 30 ∷ []
   -- a call at a full stack is 17, one that finds no place 26
   pub stack-full : shown_spin (spin image_p full_p 64 1 0) ≡ 17 ∷ 0 ∷ 0 ∷ 64 ∷ 16 ∷ 16 ∷ 16 ∷ 16 ∷ []
-  pub no_place : shown_spin (spin image_p full_p 64 0 0) ≡ 26 ∷ 0 ∷ 0 ∷ 64 ∷ 16 ∷ 16 ∷ 16 ∷ 16 ∷ []
+  pub no-place : shown_spin (spin image_p full_p 64 0 0) ≡ 26 ∷ 0 ∷ 0 ∷ 64 ∷ 16 ∷ 16 ∷ 16 ∷ 16 ∷ []
   -- a return gives its place back, a plain tick needs none, a drop gives back 15, and a call takes the last place
-  pub return_back : shown_spin (spin image_p full_p 64 2 0) ≡ 0 ∷ 0 ∷ 3 ∷ 63 ∷ 16 ∷ 16 ∷ 15 ∷ 16 ∷ []
+  pub return-back : shown_spin (spin image_p full_p 64 2 0) ≡ 0 ∷ 0 ∷ 3 ∷ 63 ∷ 16 ∷ 16 ∷ 15 ∷ 16 ∷ []
   pub plain : shown_spin (spin image_p full_p 64 3 0) ≡ 0 ∷ 0 ∷ 0 ∷ 64 ∷ 16 ∷ 16 ∷ 16 ∷ 16 ∷ []
   pub drop-back : shown_spin (spin image_handler full_handler 64 1 0) ≡ 0 ∷ 2 ∷ 96 ∷ 49 ∷ 16 ∷ 1 ∷ 2 ∷ 30 ∷ []
   pub last-place : shown_spin (spin image_p (set full_p 3 (with_depth no_state 15)) 63 0 0) ≡ 0 ∷ 2 ∷ 18 ∷ 64 ∷ 17 ∷ 16 ∷ 16 ∷ 15 ∷ []
   -- on bytes that are no table
-  pub no_table : shown_spin (live_spin [] full_p 63 0 0) ≡ 11 ∷ 0 ∷ 0 ∷ 63 ∷ 16 ∷ 16 ∷ 16 ∷ 16 ∷ []
+  pub no-table : shown_spin (live_spin [] full_p 63 0 0) ≡ 11 ∷ 0 ∷ 0 ∷ 63 ∷ 16 ∷ 16 ∷ 16 ∷ 16 ∷ []
   pub no-live-spindle : shown_spin (live_spin [] full_p 63 4 0) ≡ 25 ∷ 0 ∷ 0 ∷ 63 ∷ 16 ∷ 16 ∷ 16 ∷ 16 ∷ []

@@ -119,8 +119,8 @@ pub record SwapCases : Type 0 where
       ∷ output_handed (success 8) (0 ∷ 1 ∷ 8 ∷ 0 ∷ 0 ∷ 8 ∷ 0 ∷ 2 ∷ []) (4 ∷ 18 ∷ 0 ∷ 3 ∷ 66 ∷ 0 ∷ 3 ∷ 0 ∷ []) ∷ []
   -- scheme 2 is open, goes on as scheme 2, and the next call performs scheme 3
   pub within : swap_outputs 2 (input_word 2 ∷ to_rebind 2 3 ∷ input_word 6 ∷ [])
-      ≡ output_handed (success 2) (0 ∷ 1 ∷ []) (4 ∷ 18 ∷ []) ∷ rebinding_done ∷ output_handed (success 6)
-      (4 ∷ 0 ∷ 0 ∷ 8 ∷ 0 ∷ 2 ∷ []) (0 ∷ 3 ∷ 66 ∷ 0 ∷ 3 ∷ 0 ∷ []) ∷ []
+      ≡ output_handed (success 2) (0 ∷ 1 ∷ []) (4 ∷ 18 ∷ []) ∷ rebinding_done
+      ∷ output_handed (success 6) (4 ∷ 0 ∷ 0 ∷ 8 ∷ 0 ∷ 2 ∷ []) (0 ∷ 3 ∷ 66 ∷ 0 ∷ 3 ∷ 0 ∷ []) ∷ []
   -- the states around that rebinding: only what serves changes
   pub opened : (run_of 2 state_at_home).state ≡ swap_state (2 ∷ 5 ∷ []) (1 ∷ 2 ∷ []) (1 ∷ 2 ∷ [])
   pub swapped : rebind image_swap (swap_state (2 ∷ 5 ∷ []) (1 ∷ 2 ∷ []) (1 ∷ 2 ∷ [])) 2 3
@@ -129,26 +129,27 @@ pub record SwapCases : Type 0 where
   pub served : (run_of 2 (state_serving 2 3)).state ≡ state_with (2 ∷ 6 ∷ []) (1 ∷ 2 ∷ []) (1 ∷ 3 ∷ []) false false 3
   pub written : (run_of 3 (state_serving 2 3)).state ≡ state_with (2 ∷ 1 ∷ []) (1 ∷ 2 ∷ []) (1 ∷ 3 ∷ []) true false 3
   -- bound back while it is open, scheme 3 goes on
-  pub back : (run_of 1 (swap_state (2 ∷ 6 ∷ []) (1 ∷ 2 ∷ []) (1 ∷ 3 ∷ []))).state ≡ state_with
-      (2 ∷ 1 ∷ []) (1 ∷ 2 ∷ []) (1 ∷ 3 ∷ []) true false 2
+  pub back : (run_of 1 (swap_state (2 ∷ 6 ∷ []) (1 ∷ 2 ∷ []) (1 ∷ 3 ∷ []))).state
+      ≡ state_with (2 ∷ 1 ∷ []) (1 ∷ 2 ∷ []) (1 ∷ 3 ∷ []) true false 2
   -- a call clears bit 2 and leaves bit 3
-  pub clears : (run_of 1 (state_with (3 ∷ []) (1 ∷ []) (1 ∷ []) true true 3)).state ≡ state_with
-      (3 ∷ 6 ∷ []) (1 ∷ 2 ∷ []) (1 ∷ 3 ∷ []) false true 3
+  pub clears : (run_of 1 (state_with (3 ∷ []) (1 ∷ []) (1 ∷ []) true true 3)).state
+      ≡ state_with (3 ∷ 6 ∷ []) (1 ∷ 2 ∷ []) (1 ∷ 3 ∷ []) false true 3
   -- the return reads bit 2
-  pub reads-one : (run_of 1 (state_with (3 ∷ 1 ∷ []) (1 ∷ 2 ∷ []) (1 ∷ 3 ∷ []) true false 3)).state ≡ state_with
-      (4 ∷ []) (1 ∷ []) (1 ∷ []) true false 3
-  pub reads-zero : (run_of 1 (state_with (3 ∷ 1 ∷ []) (1 ∷ 2 ∷ []) (1 ∷ 3 ∷ []) false true 3)).state ≡ state_with
-      (0 ∷ []) (1 ∷ []) (1 ∷ []) false true 3
+  pub reads-one : (run_of 1 (state_with (3 ∷ 1 ∷ []) (1 ∷ 2 ∷ []) (1 ∷ 3 ∷ []) true false 3)).state
+      ≡ state_with (4 ∷ []) (1 ∷ []) (1 ∷ []) true false 3
+  pub reads-zero : (run_of 1 (state_with (3 ∷ 1 ∷ []) (1 ∷ 2 ∷ []) (1 ∷ 3 ∷ []) false true 3)).state
+      ≡ state_with (0 ∷ []) (1 ∷ []) (1 ∷ []) false true 3
   -- the handler's scheme serves number 2 and calls: a drop, which leaves the handler by its own number, and its return scheme 1
-  pub drops : (run_of 1 (state_with (2 ∷ 7 ∷ []) (1 ∷ 2 ∷ []) (1 ∷ 4 ∷ []) true true 4)).state ≡ state_with
-      (7 ∷ []) (4 ∷ []) (4 ∷ []) true true 4
-  pub returns : (run_of 1 (state_with (1 ∷ []) (4 ∷ []) (4 ∷ []) true true 4)).state ≡ state_with (0 ∷ []) (1 ∷ []) (1 ∷ []) true true 4
+  pub drops : (run_of 1 (state_with (2 ∷ 7 ∷ []) (1 ∷ 2 ∷ []) (1 ∷ 4 ∷ []) true true 4)).state
+      ≡ state_with (7 ∷ []) (4 ∷ []) (4 ∷ []) true true 4
+  pub returns : (run_of 1 (state_with (1 ∷ []) (4 ∷ []) (4 ∷ []) true true 4)).state
+      ≡ state_with (0 ∷ []) (1 ∷ []) (1 ∷ []) true true 4
   pub handled : swap_outputs 2 (to_rebind 2 4 ∷ input_word 8 ∷ [])
       ≡ rebinding_done ∷ output_handed (success 8) (0 ∷ 1 ∷ 16 ∷ 16 ∷ 8 ∷ 0 ∷ 0 ∷ 0 ∷ []) (4 ∷ 18 ∷ 96 ∷ 19 ∷ 0 ∷ 3 ∷ 3 ∷ 4 ∷ []) ∷ []
   -- with one place the handler's call gets 17; after a rebinding it still does
   pub stays-full : swap_outputs 1 (input_word 3 ∷ to_rebind 3 2 ∷ input_word 1 ∷ [])
-      ≡ output_handed (refusal 17 0 2) (0 ∷ 1 ∷ 7 ∷ []) (4 ∷ 96 ∷ 7 ∷ []) ∷ rebinding_done ∷ output_handed (refusal 17 0 0) (7 ∷ [])
-      (7 ∷ []) ∷ []
+      ≡ output_handed (refusal 17 0 2) (0 ∷ 1 ∷ 7 ∷ []) (4 ∷ 96 ∷ 7 ∷ []) ∷ rebinding_done
+      ∷ output_handed (refusal 17 0 0) (7 ∷ []) (7 ∷ []) ∷ []
 
 -- rebindings that are refused, or made
 pub record RebindingCases : Type 0 where
@@ -191,7 +192,7 @@ pub record FitnessCases : Type 0 where
   pub handler-number : IsUnfit (swap_state (7 ∷ []) (2 ∷ []) (4 ∷ []))
   pub handler-server : IsUnfit (swap_state (7 ∷ []) (4 ∷ []) (2 ∷ []))
   pub handler-first : IsUnfit (swap_state (7 ∷ []) (1 ∷ []) (1 ∷ []))
-  pub return_fits : IsFit (swap_state (1 ∷ []) (4 ∷ []) (4 ∷ []))
+  pub return-fits : IsFit (swap_state (1 ∷ []) (4 ∷ []) (4 ∷ []))
   pub return-first : IsUnfit (swap_state (1 ∷ []) (1 ∷ []) (1 ∷ []))
   -- a number or a server that is left above the depth, next to it and in the last place
   pub number-left : IsUnfit (swap_state (2 ∷ []) (1 ∷ 2 ∷ []) (1 ∷ []))
@@ -226,15 +227,16 @@ walk_of n given = let c = contents chart_swap in walk n c (joined_words c own_bi
 
 abbrev pub blocks_ticks : List Tick
 blocks_ticks =
-    tick_of 4 1 0 4 1 ∷ tick_of 1 1 1 18 1 ∷ tick_of 6 2 4 0 2 ∷ tick_of 7 2 0 3 2 ∷ tick_of 2 1 0 66 1 ∷ tick_of
-    6 2 4 0 2 ∷ tick_of 7 2 0 3 2 ∷ tick_of 4 1 0 4 1 ∷ tick_of 1 1 1 18 1
-    ∷ tick_of 9 2 8 0 2 ∷ tick_of 10 2 0 3 2 ∷ tick_of 2 1 0 66 1 ∷ tick_of 6 2 4 0 2 ∷ tick_of 7 2 0 3
-    2 ∷ tick_of 4 1 0 4 1 ∷ tick_of 1 1 1 18 1 ∷ tick_of 6 2 4 0 2 ∷ []
+    tick_of 4 1 0 4 1 ∷ tick_of 1 1 1 18 1 ∷ tick_of 6 2 4 0 2 ∷ tick_of 7 2 0 3 2
+    ∷ tick_of 2 1 0 66 1 ∷ tick_of 6 2 4 0 2 ∷ tick_of 7 2 0 3 2 ∷ tick_of 4 1 0 4 1
+    ∷ tick_of 1 1 1 18 1 ∷ tick_of 9 2 8 0 2 ∷ tick_of 10 2 0 3 2 ∷ tick_of 2 1 0 66 1
+    ∷ tick_of 6 2 4 0 2 ∷ tick_of 7 2 0 3 2 ∷ tick_of 4 1 0 4 1 ∷ tick_of 1 1 1 18 1
+    ∷ tick_of 6 2 4 0 2 ∷ []
 
 abbrev pub drop_ticks : List Tick
 drop_ticks =
-    tick_of 4 1 0 4 1 ∷ tick_of 1 1 1 18 1 ∷ tick_of 12 2 16 96 2 ∷ tick_of 12 4 16 19 1 ∷ tick_of 6 3 4
-    0 2 ∷ tick_of 7 3 0 3 2 ∷ tick_of 13 4 0 3 1 ∷ tick_of 4 1 0 4 1
+    tick_of 4 1 0 4 1 ∷ tick_of 1 1 1 18 1 ∷ tick_of 12 2 16 96 2 ∷ tick_of 12 4 16 19 1
+    ∷ tick_of 6 3 4 0 2 ∷ tick_of 7 3 0 3 2 ∷ tick_of 13 4 0 3 1 ∷ tick_of 4 1 0 4 1
     ∷ tick_of 1 1 1 18 1 ∷ tick_of 9 2 8 0 2 ∷ tick_of 10 2 0 3 2 ∷ tick_of 2 1 0 66 1 ∷ []
 
 abbrev pub full_ticks : List Tick

@@ -77,7 +77,7 @@ fn stops(records: &[u8], first: u8, v: usize) -> bool
     }
 }
 
-// Whether a node has a label of its own.
+/// Whether node `v` has a label of its own: it stops the walk and is no End. `first` is the node that scheme 1 begins with.
 pub fn is_numbered(records: &[u8], first: u8, v: usize) -> bool
     requires { Beside records.now first v }
     ensures { result ≡ is_numbered records.now v }

@@ -1,12 +1,12 @@
 -- What refusals 8 and 9 mean, with no marks in it: a circle of conditions, and a path from a scheme's Begin.
-use Rattle.std.proofs.Common.{◌≡◌, refl, ◌∙◌, ap, subst, true, false, [], ◌∷◌, ℕ, ◌<◌, eqb-true, arith}
+use Rattle.std.proofs.Common.{◌≡◌, refl, ◌∙◌, ap, true, false, [], ◌∷◌, ℕ, eqb-true, arith}
 use Rattle.std.proofs.lemmas.Grind.{common_steps}
 use Rattle.std.proofs.lemmas.Bool.{cond-true, cond-false}
 use Rattle.words.proofs.lists.Tests.{no_both, or-cases, and-l, and-r, and-true, not-false, cases}
 use Rattle.words.proofs.lists.Searches.{some-cons}
 use Rattle.words.specs.graph.Reach.{is_member, is_marked, nodes_joined_from}
 use Rattle.words.proofs.graph.Closure.{joined-below}
-use Rattle.words.specs.graph.Paths.{Arc, Path, PathFrom}
+use Rattle.words.specs.graph.Paths.{Arc, PathFrom}
 use Rattle.words.proofs.graph.Paths.{joined-path, path-joined}
 use Rattle.text.specs.frames.Frame.{size}
 use Rattle.charts.specs.Chart.{Chart, kind, scheme, is, begin}
@@ -64,10 +64,7 @@ found-joined c v e =
     let p : PathFrom (size c) (arcs c) (b ∷ []) v =
     joined-path (size c) (arcs c) (b ∷ []) v (not-false (is_marked (nodes_joined_from (size c) (arcs c) (b ∷ [])) v) e) in
     let q : p.first ≡ b = member-only p.first b p.among in
-    record {
-      inside = subst (λ (u : ℕ). u < size c) q p.inside;
-      path = subst (λ (u : ℕ). Path (size c) (arcs c) u v) q p.path;
-    }
+    grind (arith, common_steps)
 
 -- ---- both ways
 pub circle-means : CircleMeans
@@ -75,3 +72,5 @@ circle-means c v = (found-circle c v, circle-found c v)
 
 pub cut-off-means : CutOffMeans
 cut-off-means c v = (found-joined c v, joined-found c v)
+
+pub ruleset circles_and_paths_decide_8_and_9 = (circle-means, cut-off-means)

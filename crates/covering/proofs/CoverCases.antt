@@ -1,6 +1,5 @@
 -- Cases of the functions that try rows by their frames.
-use Rattle.std.proofs.Common.{ℕ, ◌-◌, ◌*◌, ◌^◌, ◌%◌, ◌≤◌, ◌≡◌, ap, Bool, true, ◌||◌, List, arith, ◌==◌}
-use Rattle.std.proofs.Common.{pow_mono}
+use Rattle.std.proofs.Common.{ℕ, ◌-◌, ◌*◌, ◌^◌, ◌%◌, ◌≤◌, ◌≡◌, Bool, true, ◌||◌, List, arith, ◌==◌, pow_mono}
 use lib.Count.{ones}
 use Rattle.std.proofs.lemmas.Grind.{common_steps}
 use Rattle.text.specs.frames.Frame.{field, pair_at}
@@ -10,10 +9,7 @@ use Rattle.covering.specs.inner.CoveringContracts.{words_with}
 
 -- ---- words_of
 shifted : (c k : ℕ) → k ≡ 16 - ones c → (1 * 2 ^ k % 4294967296 ≡ 2 ^ (16 - ones c)) × (1 * 2 ^ k % 4294967296 ≤ 65536)
-shifted c k e =
-    let s : 2 ^ k ≡ 2 ^ (16 - ones c) = ap (λ (x : ℕ). 2 ^ x) e in
-    let h : 2 ^ k ≤ 2 ^ 16 = pow_mono {i = k} {j = 16} (omega arith) in
-    (omega arith, omega arith)
+shifted c k e = grind (arith, pow_mono {i = k} {j = 16})
 
 module _ (b : List ℕ) (f bit : ℕ) where
   abbrev asked : ℕ → Bool

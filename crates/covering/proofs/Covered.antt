@@ -1,11 +1,10 @@
 -- 23 by sizes says what 23 says: the words that the rows of a label match, counted word by word and row by row, are as many.
-use Rattle.std.proofs.Common.{if◌then◌else◌, ℕ, zero, suc, ◌+◌, ◌-◌, ◌^◌, ◌≤◌, ◌<◌, Bool, true, false, ◌&&◌, ◌||◌, not, ◌≡◌, refl, sym, ◌∙◌, ◌==◌, slice_index_or, filter}
-use Rattle.std.proofs.Common.{ap, ap₂, List, [], ◌∷◌, arith, length, eqb-true, eq-eqb}
-use lib.Count.{ones}
+use Rattle.std.proofs.Common.{if◌then◌else◌, ℕ, ◌+◌, ◌-◌, ◌≤◌, ◌<◌, Bool, false, ◌&&◌, ◌||◌, not, ◌≡◌, sym, ◌∙◌, ◌==◌, slice_index_or, filter}
+use Rattle.std.proofs.Common.{inl, inr, ap, ap₂, List, [], ◌∷◌, arith, length, eqb-true, eq-eqb}
 use Rattle.std.proofs.lemmas.Grind.{common_steps}
 use Rattle.words.specs.lists.Numbers.{any, count, sum}
 use Rattle.std.specs.List.{AllByRecursion}
-use Rattle.words.proofs.lists.Tests.{no_both, and-l, and-r, and-true, or-l, or-r, or-none, not-false, bit-low}
+use Rattle.words.proofs.lists.Tests.{cases, no_both, and-r, or-l, or-r, or-none, not-false, bit-low}
 use Rattle.words.proofs.lists.Searches.{sum-shift, any-false, any-none}
 use Rattle.words.proofs.lists.Counts.{count-alike, count-none}
 use Rattle.words.proofs.lists.Ranges.{filter-yes, filter-no}
@@ -15,13 +14,14 @@ use Rattle.words.proofs.lists.Joins.{all-places}
 use Rattle.words.specs.bits.Word.{is_agreeing}
 use Rattle.image.specs.Image.{Image, Row, no_row, nth_row}
 use Rattle.image.specs.inner.Sound.{SoundRow, SoundImage}
-use Rattle.rows.specs.Rows.{is_match, is_candidate}
+use Rattle.rows.specs.Rows.{is_candidate}
 use Rattle.covering.specs.Matched.{hits, is_uneven, is_together}
 use Rattle.covering.specs.inner.Sizes.{is_overlap, has_overlap, words_matched, covered_count, has_gap, is_uneven_by_sizes}
 use Rattle.covering.specs.Common.{Common}
 use Rattle.covering.proofs.Together.{common-together, together-common, together-turned}
 use Rattle.covering.proofs.Hits.{even-low, even-of}
 use Rattle.covering.proofs.WordCount.{words-count}
+use Rattle.std.proofs.lemmas.Bool.Decides.{nat_tests}
 
 -- ---- words and rows
 module _ (l b : ℕ) where
@@ -31,41 +31,26 @@ module _ (l b : ℕ) where
   abbrev kept : List Row → ℕ → ℕ
   kept rs w = length (filter (is_candidate l w b) rs)
 
-  split-own : (x y z : Bool) → (x && (y && z)) ≡ (if x && z then y else false)
-  split-own true true true = refl
-  split-own true true false = refl
-  split-own true false true = refl
-  split-own true false false = refl
-  split-own false y z = refl
+  row-words : {i : Image} (r : Row) → SoundRow i r → count (λ w. is_candidate l w b r) 0 65536 ≡ words_matched l b r
+  row-words r s = elim (cases (asks r)) [
+    | inl e ↦
+        count-alike (λ w. is_agreeing w r.care r.values) (λ w. is_candidate l w b r) 0 65536 (λ w m k. grind (arith, nat_tests))
+        ∙ words-count 16 r.care r.values s.cares s.within ∙ grind (arith, nat_tests)
+    | inr e ↦ count-none (λ w. is_candidate l w b r) 0 65536 (λ w m k. grind (arith, nat_tests)) ∙ grind (arith, nat_tests)
+  ]
 
-  row_words : {i : Image} (r : Row) → SoundRow i r → count (λ w. is_candidate l w b r) 0 65536 ≡ words_matched l b r
-  row_words r s = go (asks r) refl
-    where
-      go : (t : Bool) → asks r ≡ t → count (λ w. is_candidate l w b r) 0 65536 ≡ (if asks r then 2 ^ (16 - ones r.care) else 0)
-      go true e =
-          count-alike (λ w. is_agreeing w r.care r.values) (λ w. is_candidate l w b r) 0 65536 (λ w m k.
-          split-own (r.from == l) (is_agreeing w r.care r.values) (r.bit == 2 || r.bit == b)
-          ∙ ap (λ (t : Bool). if t then is_agreeing w r.care r.values else false) e)
-          ∙ words-count 16 r.care r.values s.cares s.within
-          ∙ sym (ap (λ (t : Bool). if t then 2 ^ (16 - ones r.care) else 0) e)
-      go false e =
-          count-none (λ w. is_candidate l w b r) 0 65536 (λ w m k.
-          split-own (r.from == l) (is_agreeing w r.care r.values) (r.bit == 2 || r.bit == b)
-          ∙ ap (λ (t : Bool). if t then is_agreeing w r.care r.values else false) e)
-          ∙ sym (ap (λ (t : Bool). if t then 2 ^ (16 - ones r.care) else 0) e)
-
-  kept_more : (r : Row) (rs : List Row) (w : ℕ) → kept (r ∷ rs) w ≡ (if is_candidate l w b r then 1 else 0) + kept rs w
-  kept_more r rs w = grind (arith, common_steps, filter-yes, filter-no)
+  kept-more : (r : Row) (rs : List Row) (w : ℕ) → kept (r ∷ rs) w ≡ (if is_candidate l w b r then 1 else 0) + kept rs w
+  kept-more r rs w = grind (arith, common_steps, filter-yes, filter-no)
 
   -- word by word, row by row
-  all_words : (i : Image) (rs : List Row) → AllByRecursion (SoundRow i) rs
+  all-words : (i : Image) (rs : List Row) → AllByRecursion (SoundRow i) rs
       → sum (kept rs) 0 65536 ≡ sum (λ k. words_matched l b (slice_index_or rs k no_row)) 0 (length rs)
-  all_words i [] a =
+  all-words i [] a =
       sum-zero (kept []) 0 65536 (λ w m k. ap (λ (xs : List Row). length xs) (filter-none (is_candidate l w b)))
       ∙ sym (sum-none (λ k. words_matched l b (slice_index_or [] k no_row)) 0)
-  all_words i (r ∷ rs) a =
-      sum-add (λ w. is_candidate l w b r) (kept (r ∷ rs)) (kept rs) (kept_more r rs) 0 65536
-      ∙ ap₂ ◌+◌ (row_words {i = i} r a.0) (all_words i rs a.1)
+  all-words i (r ∷ rs) a =
+      sum-add (λ w. is_candidate l w b r) (kept (r ∷ rs)) (kept rs) (kept-more r rs) 0 65536
+      ∙ ap₂ ◌+◌ (row-words {i = i} r a.0) (all-words i rs a.1)
       ∙ sym (sum-suc (λ k. words_matched l b (slice_index_or (r ∷ rs) k no_row)) 0 (length rs)
       ∙ ap (λ (x : ℕ). words_matched l b r + x) (sum-shift (λ k. words_matched l b (slice_index_or (r ∷ rs) k no_row)) 0 (length rs)))
 
@@ -73,69 +58,57 @@ module _ (i : Image) (S : SoundImage i) where
   pub sound-rows : AllByRecursion (SoundRow i) i.rows
   sound-rows = all-places (SoundRow i) no_row i.rows S.each
 
-  words_are : (l b : ℕ) → sum (λ w. hits i l w b) 0 65536 ≡ covered_count i l b
+  words-are : (l b : ℕ) → sum (λ w. hits i l w b) 0 65536 ≡ covered_count i l b
   unfolding covered_count
-  words_are l b = all_words l b i i.rows sound-rows
+  words-are l b = all-words l b i i.rows sound-rows
 
   module _ (l : ℕ) where
     -- ---- where every word and bit match one row of label l
     module _ (one : (w b : ℕ) → w < 65536 → b < 2 → hits i l w b ≡ 1) where
       -- no two of its rows can match together
+      apart-by : (j k : ℕ) → j < length i.rows → k < length i.rows → (j ≡ k → ⊥) → (nth_row i j).from ≡ l → (nth_row i k).from ≡ l
+          → Common (nth_row i j) (nth_row i k) → ⊥
+      apart-by j k hj hk n p q C =
+          let b : ℕ = (if C.bit then 1 else 0) in
+          n (one-passes (is_candidate l C.word b) no_row i.rows (omega (arith, one C.word b C.low (bit-low C.bit))) j k hj hk
+          (grind (arith, common_steps, C.first)) (grind (arith, common_steps, C.second)))
+
       pub no-pair : (j k : ℕ) → j < length i.rows → k < length i.rows → (j ≡ k → ⊥) → (nth_row i j).from ≡ l → (nth_row i k).from ≡ l
           → is_together (nth_row i j) (nth_row i k) ≡ false
-      no-pair j k hj hk n p q = go (is_together (nth_row i j) (nth_row i k)) refl
-        where
-          r : Row
-          r = nth_row i j
-
-          s : Row
-          s = nth_row i k
-
-          go : (t : Bool) → is_together (nth_row i j) (nth_row i k) ≡ t → is_together (nth_row i j) (nth_row i k) ≡ false
-          go false e = e
-          go true e =
-              let C : Common r s = together-common r s (S.each j hj) (S.each k hk) e in
-              let b : ℕ = (if C.bit then 1 else 0) in
-              let few : hits i l C.word b ≡ 1 = one C.word b C.low (bit-low C.bit) in
-              absurd (n (one-passes (is_candidate l C.word b) no_row i.rows (omega arith) j k hj hk
-              (and-true (r.from == l) (is_match C.word b r) (eq-eqb r.from l p) C.first)
-              (and-true (s.from == l) (is_match C.word b s) (eq-eqb s.from l q) C.second)))
+      no-pair j k hj hk n p q = elim (cases (is_together (nth_row i j) (nth_row i k))) [
+        | inl e ↦ absurd (apart-by j k hj hk n p q (together-common (nth_row i j) (nth_row i k) (S.each j hj) (S.each k hk) e))
+        | inr e ↦ e
+      ]
 
       pub full : (b : ℕ) → b < 2 → covered_count i l b ≡ 65536
-      full b h = sym (words_are l b) ∙ sum-ones (λ w. hits i l w b) 0 65536 (λ w a k. one w b (omega arith) h)
+      full b h = sym (words-are l b) ∙ sum-ones (λ w. hits i l w b) 0 65536 (λ w a k. one w b (omega arith) h)
 
     -- ---- where no two rows of label l can match together
     module _ (apart : (j k : ℕ) → j < length i.rows → k < j → (nth_row i j).from ≡ l → (nth_row i k).from ≡ l
         → is_together (nth_row i j) (nth_row i k) ≡ false) where
       few-hits : (w b : ℕ) → hits i l w b ≤ 1
       few-hits w b = few-pass (is_candidate l w b) no_row i.rows (λ j k hj hk p q.
-          let r : Row = nth_row i j in
-          let s : Row = nth_row i k in
-          no_both (is_together r s)
-          (common-together r s w b (S.each j hj).small (S.each k (omega arith)).small
-          (and-r (r.from == l) (is_match w b r) p) (and-r (s.from == l) (is_match w b s) q))
-          (apart j k hj hk (eqb-true r.from l (and-l (r.from == l) (is_match w b r) p))
-          (eqb-true s.from l (and-l (s.from == l) (is_match w b s) q))))
+          let t = common-together (nth_row i j) (nth_row i k) w b (S.each j hj).small (S.each k (omega arith)).small
+          (and-r ((nth_row i j).from == l) _ p) (and-r ((nth_row i k).from == l) _ q) in
+          no_both (is_together (nth_row i j) (nth_row i k)) t (apart j k hj hk (grind (arith, nat_tests)) (grind (arith, nat_tests))))
 
       -- and where their sizes sum up to all words
-      one_hit : (b : ℕ) → covered_count i l b ≡ 65536 → (w : ℕ) → w < 65536 → hits i l w b ≡ 1
-      one_hit b g w h = sum-full (λ w. hits i l w b) 0 65536 (λ w a k. few-hits w b) (words_are l b ∙ g) w (omega arith) (omega arith)
+      one-hit : (b : ℕ) → covered_count i l b ≡ 65536 → (w : ℕ) → w < 65536 → hits i l w b ≡ 1
+      one-hit b g w h = sum-full (λ w. hits i l w b) 0 65536 (λ w a k. few-hits w b) (words-are l b ∙ g) w (omega arith) (omega arith)
 
       pub one-hits : covered_count i l 0 ≡ 65536 → covered_count i l 1 ≡ 65536 → (w b : ℕ) → w < 65536 → b < 2 → hits i l w b ≡ 1
-      one-hits g₀ g₁ w zero hw hb = one_hit 0 g₀ w hw
-      one-hits g₀ g₁ w (suc zero) hw hb = one_hit 1 g₁ w hw
-      one-hits g₀ g₁ w (suc (suc b)) hw hb = absurd (omega arith)
+      one-hits g₀ g₁ w x3 hw hb = grind (arith, nat_tests, one-hit)
 
   -- ---- all labels
   no-overlap : is_uneven i ≡ false → (j k : ℕ) → j < length i.rows → k < j → is_overlap (nth_row i k) (nth_row i j) ≡ false
   no-overlap e j k hj hk = grind (arith, common_steps, eqb-true, even-low, no-pair)
 
-  no_gaps : is_uneven i ≡ false → (l : ℕ) → 2 ≤ l → l < length i.labels → has_gap i l ≡ false
-  no_gaps e l low high = grind (arith, common_steps, or-none, even-low, eq-eqb, full)
+  no-gaps : is_uneven i ≡ false → (l : ℕ) → 2 ≤ l → l < length i.labels → has_gap i l ≡ false
+  no-gaps e l low high = grind (arith, common_steps, or-none, even-low, eq-eqb, full)
 
   sizes-even : is_uneven i ≡ false → is_uneven_by_sizes i ≡ false
   unfolding is_uneven_by_sizes has_overlap
-  sizes-even e = grind (arith, common_steps, any-none, or-none, no-overlap, no_gaps)
+  sizes-even e = grind (arith, common_steps, any-none, or-none, no-overlap, no-gaps)
 
   even-sizes : is_uneven_by_sizes i ≡ false → is_uneven i ≡ false
   unfolding is_uneven_by_sizes has_overlap

@@ -10,7 +10,7 @@ use Rattle.words.proofs.lists.Filters.{filter-none, one-passes}
 use Rattle.words.proofs.lists.Joins.{all-places}
 use Rattle.image.specs.Image.{Image, Row, no_row}
 use Rattle.image.specs.inner.Sound.{SoundImage}
-use Rattle.rows.specs.Rows.{is_candidate, row, no_choice, better_choice, best_row, found, lead_of}
+use Rattle.rows.specs.Rows.{is_candidate, no_choice, best_row, found, lead_of}
 use Rattle.rows.proofs.ChoiceLaws.{best-nothing, best-own, best-other}
 use Rattle.covering.specs.Matched.{hits, is_uneven_word, is_uneven_label, is_uneven}
 use Rattle.covering.proofs.Together.{matches-low}
@@ -18,32 +18,13 @@ use Rattle.covering.proofs.Together.{matches-low}
 -- ---- the only row that matches
 module _ (l w b : ℕ) where
   none-own : (rs : List Row) → filter (is_candidate l w b) rs ≡ [] → (k : ℕ) → best_row l w b k rs ≡ no_choice
-  none-own [] e k = best-nothing l w b k
-  none-own (r ∷ rs) e k = go (is_candidate l w b r) refl (none-own rs)
-    where
-      go : (t : Bool) → is_candidate l w b r ≡ t → (filter (is_candidate l w b) rs ≡ [] → (k : ℕ) → best_row l w b k rs ≡ no_choice)
-          → best_row l w b k (r ∷ rs) ≡ no_choice
-      go true q ih =
-          let p : r ∷ filter (is_candidate l w b) rs ≡ [] = sym (filter-yes (is_candidate l w b) r rs q) ∙ e in
-          absurd (let z : ◌≡◌ {A = ℕ} 1 0 = cc in omega arith)
-      go false q ih = best-other l w b k r rs q ∙ ih (sym (filter-no (is_candidate l w b) r rs q) ∙ e) (suc k)
+  none-own [] e k = search (arith, best-nothing)
+  none-own (r ∷ rs) e k = search (arith, none-own rs, filter-yes, filter-no, best-other)
 
   -- it is the one that a label takes; nothing else is used of how a label chooses among its rows
   pub only-row : (s : Row) (k : ℕ) (rs : List Row) → filter (is_candidate l w b) rs ≡ s ∷ [] → lead_of (best_row l w b k rs) ≡ found s.next
-  only-row s k [] e = absurd (let q : [] ≡ s ∷ [] = sym (filter-none (is_candidate l w b))
-      ∙ e in let z : ◌≡◌ {A = ℕ} 0 1 = cc in omega arith)
-  only-row s k (r ∷ rs) e = go (is_candidate l w b r) refl (only-row s (suc k) rs)
-    where
-      go : (t : Bool) → is_candidate l w b r ≡ t
-          → (filter (is_candidate l w b) rs ≡ s ∷ [] → lead_of (best_row l w b (suc k) rs) ≡ found s.next)
-          → lead_of (best_row l w b k (r ∷ rs)) ≡ found s.next
-      go true q ih =
-          let p : r ∷ filter (is_candidate l w b) rs ≡ s ∷ [] = sym (filter-yes (is_candidate l w b) r rs q) ∙ e in
-          let same : r ≡ s = cc in
-          let rest : filter (is_candidate l w b) rs ≡ [] = cc in
-          ap lead_of (best-own l w b k r rs q ∙ ap (better_choice (row k r)) (none-own rs rest (suc k)))
-          ∙ ap (λ (x : Row). found x.next) same
-      go false q ih = ap lead_of (best-other l w b k r rs q) ∙ ih (sym (filter-no (is_candidate l w b) r rs q) ∙ e)
+  only-row s k [] e = grind (arith, common_steps, filter-none)
+  only-row s k (r ∷ rs) e = grind (arith, common_steps, only-row s (suc k) rs, filter-yes, best-own, filter-no, best-other, none-own)
 
   -- by its number
   pub record Hit (s : Row) (rs : List Row) : Type 0 where
@@ -69,19 +50,16 @@ module _ (l w b : ℕ) where
   pub hit-is : (s : Row) (rs : List Row) → filter (is_candidate l w b) rs ≡ s ∷ [] → (j : ℕ)
       → j < length rs → is_candidate l w b (slice_index_or rs j no_row) ≡ true
       → slice_index_or rs j no_row ≡ s
-  hit-is s rs e j h t =
-      let x : Hit s rs = the-place s rs e in
-      let few : length (filter (is_candidate l w b) rs) ≤ 1 = omega (arith, ap (λ (xs : List Row). length xs) e) in
-      ap (λ (k : ℕ). slice_index_or rs k no_row) (one-passes (is_candidate l w b) no_row rs few j x.place h x.inside t x.holding) ∙ x.is
+  hit-is s rs e j h t = grind (arith, the-place s rs e, one-passes (is_candidate l w b) no_row rs)
 
 -- words above 16 bits are as their low 16 bits
 module _ (l w b : ℕ) where
-  low_alike : (r : Row) → r.care < 65536 → is_candidate l w b r ≡ is_candidate l (w % 65536) b r
-  low_alike r h = ap (λ (t : Bool). r.from == l && t) (matches-low w b r h)
+  low-alike : (r : Row) → r.care < 65536 → is_candidate l w b r ≡ is_candidate l (w % 65536) b r
+  low-alike r h = ap (λ (t : Bool). r.from == l && t) (matches-low w b r h)
 
   pub low-hits : (rs : List Row) → AllByRecursion (λ r. r.care < 65536) rs → filter (is_candidate l w b) rs ≡ filter (is_candidate l (w % 65536) b) rs
   low-hits [] a = grind (arith, common_steps, filter-none)
-  low-hits (r ∷ rs) a = grind (arith, common_steps, low-hits rs a.1, filter-yes, filter-no, low_alike)
+  low-hits (r ∷ rs) a = grind (arith, common_steps, low-hits rs a.1, filter-yes, filter-no, low-alike)
 
 pub all-cares : (i : Image) → SoundImage i → AllByRecursion (λ r. r.care < 65536) i.rows
 all-cares i S = all-places (λ r. r.care < 65536) no_row i.rows (λ k h. (S.each k h).cares)
@@ -97,8 +75,8 @@ module _ (i : Image) where
       eqb-true (hits i l w b) 1 (not-false (hits i l w b == 1)
       (any-false (λ b. not (hits i l w b == 1)) 0 2 y b (omega arith) (omega arith)))
 
-  pub label_of : (l : ℕ) → ((w b : ℕ) → w < 65536 → b < 2 → hits i l w b ≡ 1) → is_uneven_label i l ≡ false
-  label_of l h = grind (arith, common_steps, any-none, eq-eqb)
+  pub label-of : (l : ℕ) → ((w b : ℕ) → w < 65536 → b < 2 → hits i l w b ≡ 1) → is_uneven_label i l ≡ false
+  label-of l h = grind (arith, common_steps, any-none, eq-eqb)
 
   pub even-low : is_uneven i ≡ false → (l w b : ℕ) → 2 ≤ l → l < length i.labels → w < 65536 → b < 2 → hits i l w b ≡ 1
   unfolding is_uneven
@@ -106,12 +84,12 @@ module _ (i : Image) where
 
   pub even-of : ((l w b : ℕ) → 2 ≤ l → l < length i.labels → w < 65536 → b < 2 → hits i l w b ≡ 1) → is_uneven i ≡ false
   unfolding is_uneven
-  even-of h = grind (arith, common_steps, any-none, label_of)
+  even-of h = grind (arith, common_steps, any-none, label-of)
 
   -- the row itself
-  pub the_row : OneRow i → (l w : ℕ) (b : Bool) → 2 ≤ l → l < length i.labels
+  pub the-row : OneRow i → (l w : ℕ) (b : Bool) → 2 ≤ l → l < length i.labels
       → (s : Row) × (filter (is_candidate l w (if b then 1 else 0)) i.rows ≡ s ∷ [])
-  the_row one l w b low high = only (filter (is_candidate l w (if b then 1 else 0)) i.rows) (one l w b low high)
+  the-row one l w b low high = only (filter (is_candidate l w (if b then 1 else 0)) i.rows) (one l w b low high)
     where
       only : (xs : List Row) → length xs ≡ 1 → (s : Row) × (xs ≡ s ∷ [])
       only [] e = absurd (omega arith)

@@ -14,10 +14,9 @@ use Rattle.image.proofs.Accepted.{row-read, rows-count}
 use Rattle.image.proofs.Rising.{row-at, from-read}
 use Rattle.covering.specs.Matched.{hits, is_uneven_label, is_together}
 use Rattle.covering.specs.inner.Sizes.{words_matched, covered_count}
-use Rattle.covering.specs.inner.CoveringContracts.{SoundTable, is_together_with_some, has_any_together, words_with, words_in}
-use Rattle.covering.specs.inner.CoveringContracts.{has_uneven_rows}
+use Rattle.covering.specs.inner.CoveringContracts.{SoundTable, is_together_with_some, has_any_together, words_with, words_in, has_uneven_rows}
 use Rattle.covering.proofs.Chains.{any-chain}
-use Rattle.covering.proofs.Hits.{label-low, label_of}
+use Rattle.covering.proofs.Hits.{label-low, label-of}
 use Rattle.covering.proofs.Covered.{no-pair, full, one-hits}
 
 words-own : (l b : ℕ) (r : Row) → r.from ≡ l → words_matched l b r ≡ words_with b r
@@ -49,9 +48,9 @@ module _ (b : List ℕ) (T : SoundTable b) where
   -- ---- n frames from first on, which hold all rows of label l and no other
   module _ (l first n : ℕ) (low : a ≤ first) (high : first + n ≤ size b) (own : (f : ℕ) → first ≤ f → f < first + n → field b f 1 ≡ l)
       (only : (f : ℕ) → a ≤ f → f < size b → field b f 1 ≡ l → (first ≤ f) × (f < first + n)) where
-    words_are : (bit : ℕ) → covered_count i l bit ≡ words_in b bit first n
+    words-are : (bit : ℕ) → covered_count i l bit ≡ words_in b bit first n
     unfolding covered_count
-    words_are bit =
+    words-are bit =
         let g : ℕ → ℕ = λ f. words_matched l bit (row_in_frame b f) in
         let m : ℕ = first - a in
         let rest : ℕ = size b - (first + n) in
@@ -73,7 +72,7 @@ module _ (b : List ℕ) (T : SoundTable b) where
     even-rows : ((w bit : ℕ) → w < 65536 → bit < 2 → hits i l w bit ≡ 1) → has_uneven_rows b first n ≡ false
     even-rows one =
         let all : (bit : ℕ) → bit < 2 → not (words_in b bit first n == 65536) ≡ false =
-        λ bit h. ap not (eq-eqb (words_in b bit first n) 65536 (sym (words_are bit) ∙ full i T.image l one bit h)) in
+        λ bit h. ap not (eq-eqb (words_in b bit first n) 65536 (sym (words-are bit) ∙ full i T.image l one bit h)) in
         or-none (not (words_in b 0 first n == 65536) || not (words_in b 1 first n == 65536)) (has_any_together b first n)
         (or-none (not (words_in b 0 first n == 65536)) (not (words_in b 1 first n == 65536))
         (all 0 (omega arith)) (all 1 (omega arith)))
@@ -87,8 +86,8 @@ module _ (b : List ℕ) (T : SoundTable b) where
         (from-read b T.all f (omega arith) (omega arith) ∙ own f (omega arith) (omega arith))
         (from-read b T.all g (omega arith) (omega arith) ∙ own g (omega arith) (omega arith)))))
 
-    one_of : has_uneven_rows b first n ≡ false → (w bit : ℕ) → w < 65536 → bit < 2 → hits i l w bit ≡ 1
-    one_of e =
+    one-of : has_uneven_rows b first n ≡ false → (w bit : ℕ) → w < 65536 → bit < 2 → hits i l w bit ≡ 1
+    one-of e =
         let x : Bool = words_in b 0 first n == 65536 in
         let y : Bool = words_in b 1 first n == 65536 in
         let sums : (not x || not y) ≡ false = or-l (not x || not y) (has_any_together b first n) e in
@@ -102,8 +101,8 @@ module _ (b : List ℕ) (T : SoundTable b) where
         (sym (any-chain _ _ _) ∙ or-r (not x || not y) (has_any_together b first n) e)
         (a + j) u.0 u.1)
         (a + k) v.0 (omega (arith, u.0)))
-        (words_are 0 ∙ eqb-true (words_in b 0 first n) 65536 (not-false x (or-l (not x) (not y) sums)))
-        (words_are 1 ∙ eqb-true (words_in b 1 first n) 65536 (not-false y (or-r (not x) (not y) sums)))
+        (words-are 0 ∙ eqb-true (words_in b 0 first n) 65536 (not-false x (or-l (not x) (not y) sums)))
+        (words-are 1 ∙ eqb-true (words_in b 1 first n) 65536 (not-false y (or-r (not x) (not y) sums)))
 
     pub rows-decide : has_uneven_rows b first n ≡ is_uneven_label i l
-    rows-decide = grind (arith, common_steps, label-low, label_of, no_both, even-rows, one_of)
+    rows-decide = grind (arith, common_steps, label-low, label-of, no_both, even-rows, one-of)

@@ -41,11 +41,11 @@ module _ (b : List ℕ) (last first l : ℕ) (t : Trying b last first l) (h : l 
   abbrev n : ℕ
   n = end - first
 
-  first_to : first ≤ size b
-  first_to = t.to
+  first-to : first ≤ size b
+  first-to = t.to
 
   e : end ≡ lowest (is_other b l) first (size b - first)
-  e = grind (arith, common_steps, lowest-chain (is_other b l) first (size b - first), first_to)
+  e = grind (arith, common_steps, lowest-chain (is_other b l) first (size b - first), first-to)
 
   first-from : rows_from b ≤ first
   first-from = t.from
@@ -54,7 +54,7 @@ module _ (b : List ℕ) (last first l : ℕ) (t : Trying b last first l) (h : l 
   end-after = omega (arith, e, lowest-above (is_other b l) first (size b - first))
 
   pub end-inside : end ≤ size b
-  end-inside = omega (arith, e, first_to, lowest-most (is_other b l) first (size b - first))
+  end-inside = omega (arith, e, first-to, lowest-most (is_other b l) first (size b - first))
 
   pub end-near : end - first ≤ 1024
   end-near = omega (arith, end-inside, first-from, t.table.all, t.table.image.few, rows-count b)

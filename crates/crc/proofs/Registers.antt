@@ -1,14 +1,10 @@
 -- The register goes on from each value to another one: what a bit, a byte or bytes lead to tells where they began.
-use Prim.Native.Nat.{ℕ, zero, suc, ◌/◌, ◌%◌, ◌^◌, ◌<◌}
-use mathlib.Core.Path.{◌≡◌, refl, sym, ◌∙◌, ap}
-use mathlib.Core.List.{List, [], ◌∷◌, ◌++◌}
-use native.Mathlib.Decide.{ℕ_discrete}
-use native.Mathlib.Omega.{arith}
-use lib.Bits.{bit_xor, xor_assoc, xor_comm, xor_lt, xor_self, xor_shr, xor_zero_r}
-use borrow.Author.Tests.{eq-eqb, ne_eqb}
-use Rattle.std.specs.List.{fold}
+use Rattle.std.proofs.Common.{ℕ, zero, suc, ◌/◌, ◌%◌, ◌^◌, ◌<◌, ◌≡◌, refl, sym, ◌∙◌, ap, List, [], ◌∷◌, ◌++◌, arith, bit_xor, eq-eqb, ne_eqb, fold}
+use Rattle.std.proofs.Math.Decide.{ℕ_discrete}
+use lib.Bits.{xor_assoc, xor_comm, xor_lt, xor_self, xor_shr, xor_zero_r}
 use Rattle.crc.specs.Crc.{after_bit, after_bits, after_byte, turned, crc}
 use Rattle.crc.specs.Laws.{Bytes, GoesOn, TellsChange}
+use Rattle.std.proofs.lemmas.Grind.{common_steps}
 
 -- ---- adding bit by bit can be taken back
 xor-back : (a p : ℕ) → bit_xor (bit_xor a p) p ≡ a
@@ -64,9 +60,8 @@ bits-fit (suc n) r h = bit-fits (after_bits n r) (bits-fit n r h)
 
 bits-one : (n r s : ℕ) → Fits r → Fits s → after_bits n r ≡ after_bits n s → r ≡ s
 unfolding after_bits
-bits-one zero r s hr hs e = e
-bits-one (suc n) r s hr hs e =
-    bits-one n r s hr hs (bit-one (after_bits n r) (after_bits n s) (bits-fit n r hr) (bits-fit n s hs) e)
+bits-one zero r s hr hs e = grind (arith, common_steps)
+bits-one (suc n) r s hr hs e = grind (arith, common_steps, bits-one n r s hr hs, bit-one, bits-fit)
 
 with-byte : (r x : ℕ) → Fits r → x < 256 → Fits (bit_xor r x)
 with-byte r x h b = xor_lt 32 r x h (omega arith)
@@ -107,22 +102,10 @@ turned-one r s hr hs e = omega arith
 
 pub goes-on : GoesOn
 unfolding crc
-goes-on s xs ys b =
-    let r : ℕ = fold after_byte (turned s) xs in
-    let small : Fits r = bytes-fit (turned s) xs (begun s) b in
-    let back : turned (turned r) ≡ r = omega arith in
-    ap turned (ap (λ (q : ℕ). fold after_byte q ys) back ∙ sym (fold-on (turned s) xs ys))
+goes-on s xs ys b = grind (arith, common_steps, bytes-fit, fold-on, begun)
 
 pub tells-change : TellsChange
 unfolding crc
-tells-change s xs x y zs bx hx hy bz other e =
-    let r : ℕ = fold after_byte (turned s) xs in
-    let small : Fits r = bytes-fit (turned s) xs (begun s) bx in
-    let one : ℕ = after_byte r x in
-    let two : ℕ = after_byte r y in
-    let first : Fits one = byte-fits r x small hx in
-    let second : Fits two = byte-fits r y small hy in
-    let ends : fold after_byte one zs ≡ fold after_byte two zs =
-    turned-one (fold after_byte one zs) (fold after_byte two zs) (bytes-fit one zs first bz) (bytes-fit two zs second bz)
-    (ap turned (sym (fold-on (turned s) xs (x ∷ zs))) ∙ e ∙ ap turned (fold-on (turned s) xs (y ∷ zs))) in
-    other (xor-right r x y (byte-one r r x y small small hx hy (bytes-one one two zs first second bz ends)))
+tells-change s xs x y zs bx hx hy bz other e = grind (arith, common_steps, xor-right, byte-fits, byte-one, bytes-fit, bytes-one, fold-on, begun, turned-one)
+
+pub ruleset a_changed_byte_changes_the_sum = (goes-on, tells-change)

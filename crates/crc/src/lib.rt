@@ -49,6 +49,7 @@ pub fn sum(sum: u32, bytes: &[u8]) -> u32
 }
 
 /// Part by part comes to the sum of the whole; and of bytes that differ in a single one the sums differ.
+#[tactic(auto, using(crate::proofs::Registers::a_changed_byte_changes_the_sum))]
 pub fn a_changed_byte_changes_the_sum()
     ensures parts { GoesOn }
     ensures change { TellsChange }

@@ -17,11 +17,11 @@ drop-two xs i h =
     let next : i + 2 ≡ suc (i + 1) = omega arith in
     rw (next, drop-cons xs i 0 (omega arith)) (ap (λ (ys : List ℕ). slice_index xs i ∷ ys) (rw (← add-one i) (drop-cons xs (i + 1) 0 h)))
 
-one_left : (bytes xs : List ℕ) → length xs ≤ 1 → bytes ≡ patched_bytes bytes xs
+one-left : (bytes xs : List ℕ) → length xs ≤ 1 → bytes ≡ patched_bytes bytes xs
 unfolding patched_bytes
-one_left bytes [] h = refl
-one_left bytes (x ∷ []) h = refl
-one_left bytes (x ∷ y ∷ xs) h = absurd (omega arith)
+one-left bytes [] h = refl
+one-left bytes (x ∷ []) h = refl
+one-left bytes (x ∷ y ∷ xs) h = absurd (omega arith)
 
 module _ (bytes₀ edits bytes : List ℕ) (i : ℕ) (done : Patching bytes₀ edits bytes i) where
   module _ (h : i + 1 < length edits) where
@@ -41,4 +41,4 @@ module _ (bytes₀ edits bytes : List ℕ) (i : ℕ) (done : Patching bytes₀ e
         rw same at patching-turn
 
   pub patching-end : length edits ≤ i + 1 → bytes ≡ patched_bytes bytes₀ edits
-  patching-end h = one_left bytes (drop i edits) (simp length-drop (omega arith)) ∙ done.left
+  patching-end h = one-left bytes (drop i edits) (simp length-drop (omega arith)) ∙ done.left

@@ -24,6 +24,7 @@ use Rattle.places.proofs.chains.Longest.{no-longer}
 use Rattle.agreement.specs.Agreement.{is_full_call, bound}
 use Rattle.agreement.proofs.Bounds.{bound-go}
 use Rattle.agreement.proofs.FullCalls.{full-exactly}
+use Rattle.std.proofs.lemmas.Bool.Decides.{nat_tests}
 
 -- ---- the schemes open at a position of the walk are a chain
 caller-calls : (c : Chart) (h : ℕ) (k : Open) → Caller c h k → Calls c k.server h
@@ -51,8 +52,8 @@ module _ (c : Chart) (f : Facts c) (calm : is_circular c ≡ false) (n : ℕ) (e
     abbrev v : ℕ
     v = x.node
 
-    not_full : (kind c v ≡ 2) ⊎ (kind c v ≡ 4) → 2 ≤ argument c v → (suc (length ks) == n) ≡ false
-    not_full k l =
+    not-full : (kind c v ≡ 2) ⊎ (kind c v ≡ 4) → 2 ≤ argument c v → (suc (length ks) == n) ≡ false
+    not-full k l =
         let h : ℕ = argument c v in
         let under : Under c 1 x ks = subst (λ (u : Bool). Under c (bottom c u) x ks) p.first g.under in
         let s : Chain c (suc (suc (length ks))) h = open-chain c (opens v h h) (x ∷ ks)
@@ -80,8 +81,8 @@ module _ (c : Chart) (f : Facts c) (calm : is_circular c ≡ false) (n : ℕ) (e
           → ((is_call_stop s && suc (length ks) == n) ≡ false) × Plain
           (position_moved c (is_dropping n c t (suc (length ks))) x ks w b t s)
       calm-by (a-plain k a) = grind (arith, common_steps, stays)
-      calm-by (a_call k a) = grind (arith, common_steps, not_full, called-plain)
-      calm-by (a-function k) = grind (arith, common_steps, not_full, called-plain)
+      calm-by (a_call k a) = grind (arith, common_steps, not-full, called-plain)
+      calm-by (a-function k) = grind (arith, common_steps, not-full, called-plain)
       calm-by (a-home k s) = grind (arith, common_steps, stays)
       calm-by (a_back k s) = grind (arith, common_steps, returned-plain)
       calm-by (a-begin k) = grind (arith, common_steps, stays)
@@ -94,9 +95,7 @@ module _ (c : Chart) (f : Facts c) (calm : is_circular c ≡ false) (n : ℕ) (e
     kept : Plain y
 
   both : (a p q : Bool) → (a && q) ≡ false → (a && (p && q)) ≡ false
-  both true true q e = e
-  both true false q e = refl
-  both false p q e = refl
+  both a p q e = grind (arith, nat_tests)
 
   calm-at : (x : WalkPosition) → Plain x → Good c x → (w : Signal) → ToldOwn w → Calm (tick_at n c x) (move n c w x)
   calm-at x p g w told =

@@ -89,7 +89,7 @@ module _ (c : Chart) where
 pub enough-c : EnoughC
 unfolding EnoughC DeliveredC
 enough-c text before after at n lends at' k told size l most returned at'' made s m given own handed calls =
-    let known : places_needed text ≡ success k = needed-0 text (sym told.number_is) ∙ ap success (sym told.count-is) in
+    let known : places_needed text ≡ success k = needed-0 text (sym told.number-is) ∙ ap success (sym told.count-is) in
     subst (AllMadeC (contents text) given)
     (sym (delivered-c text before after at n lends size (some-place text k known size l) most returned at'' made s m given handed
     calls))

@@ -19,15 +19,11 @@ use Rattle.agreement.proofs.Expected.{all-short, all-long}
 use Rattle.enough.specs.Enough.{all_made, HasNoDrop, reply_of, IsDropless, AllMade}
 
 module _ {A : Type 0} (P : A → Type 0) where
-  all_take : (n : ℕ) (xs : List A) → AllByRecursion P xs → AllByRecursion P (take n xs)
-  all_take zero xs a = tt
-  all_take (suc n) [] a = tt
-  all_take (suc n) (x ∷ xs) a = (a.0, all_take n xs a.1)
+  all-take : (n : ℕ) (xs : List A) → AllByRecursion P xs → AllByRecursion P (take n xs)
+  all-take n xs a = grind (arith, common_steps)
 
-  all_drop : (n : ℕ) (xs : List A) → AllByRecursion P xs → AllByRecursion P (drop n xs)
-  all_drop zero xs a = a
-  all_drop (suc n) [] a = tt
-  all_drop (suc n) (x ∷ xs) a = all_drop n xs a.1
+  all-drop : (n : ℕ) (xs : List A) → AllByRecursion P xs → AllByRecursion P (drop n xs)
+  all-drop n xs a = grind (arith, common_steps)
 
 length-codes : (us : List Tick) → length (map (λ (t : Tick). t.code) us) ≡ length us
 length-codes [] = refl
@@ -39,8 +35,8 @@ module _ (b : ℕ) (ts : List Tick) (long : b ≤ length ts) (quiet : AllByRecur
     reply-made : (expected_output b ts p a).reply ≡ success (length a.words)
     reply-made = grind (arith, common_steps, le-ltb)
 
-    no_drop : HasNoDrop (reply_count (expected_output b ts p a).reply) (expected_output b ts p a).codes
-    no_drop = grind (arith, common_steps, length-take, front, eqb-false, all-map, all-of, length-drop, all_take, all_drop, length-codes, reply-made)
+    no-drop : HasNoDrop (reply_count (expected_output b ts p a).reply) (expected_output b ts p a).codes
+    no-drop = grind (arith, common_steps, length-take, front, eqb-false, all-map, all-of, length-drop, all-take, all-drop, length-codes, reply-made)
 
   -- ---- one call more
   module _ (c : Chart) where
@@ -73,4 +69,4 @@ module _ (b : ℕ) (ts : List Tick) (long : b ≤ length ts) (quiet : AllByRecur
             ap length (joined-long c s a rest e) ∙ length-append (signals s a.words) (joined_words c s rest) in
             subst (AllMade c (to_run a ∷ rest)) (sym (all-long c b ts p a rest e))
             (more-made (to_run a) rest (by_run (expected_output b ts p a)) _ (reply-made p a (omega arith) ∙ sym (ap made e))
-            (no_drop p a (omega arith)) (ih (p + length a.words) (omega arith)))
+            (no-drop p a (omega arith)) (ih (p + length a.words) (omega arith)))

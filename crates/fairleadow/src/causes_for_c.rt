@@ -17,7 +17,8 @@ fn sized(state: State)
     ensures { Sized (view state) }
 {}
 
-// What made a tick go on: writes the row's number, the conditions that decide it and the result bit, each 0 with a refusal.
+/// Tells what makes the tick of a state by a word go where it goes, and makes no tick: writes the row's number, the conditions that
+/// decide it and the result bit, each 0 with a refusal. Refuses as the image check does, then with 15, 21 and 18.
 #[unsafe(no_mangle)]
 pub extern "C" fn fairleadow_cause(
     image: &[u8],
@@ -52,7 +53,8 @@ pub extern "C" fn fairleadow_cause(
     }
 }
 
-// What a code stands for: returns the tick kind, 5 for a drop, 255 for a code that no tick has, and writes the number called, 0 for none.
+/// What a code stands for: returns the tick kind, 5 for a drop, 255 for a code that no tick has, and writes the number called, 2 to 16,
+/// or 0 for none.
 #[unsafe(no_mangle)]
 pub extern "C" fn fairleadow_meaning(code: u8, called: &mut u8) -> u8
     ensures { Meant code result called.new }

@@ -7,6 +7,7 @@ ghost use Rattle.fairleadow.specs.telling.AnswersForC.{GivesReplyC};
 
 use crate::telling::tell;
 
+/// A chart's lines as node records, ten bytes each; counts records. Refuses with 1 to 5, 19, 6 to 9 and 16.
 #[unsafe(no_mangle)]
 pub extern "C" fn fairleadow_read_chart(
     text: &[u8],
@@ -21,6 +22,7 @@ pub extern "C" fn fairleadow_read_chart(
     tell(answer, at, made)
 }
 
+/// Node records as a chart's lines, in capitals; counts characters. Refuses with 1, 4, 5, 19, 6 to 9 and 16.
 #[unsafe(no_mangle)]
 pub extern "C" fn fairleadow_write_chart(
     records: &[u8],
@@ -35,6 +37,7 @@ pub extern "C" fn fairleadow_write_chart(
     tell(answer, at, made)
 }
 
+/// The lines of little chart `number`, from 0, of 2 to 4 frames; counts characters. Refuses with 24 and 16.
 #[unsafe(no_mangle)]
 pub extern "C" fn fairleadow_little_chart(
     frames: usize,
@@ -50,6 +53,7 @@ pub extern "C" fn fairleadow_little_chart(
     tell(answer, at, made)
 }
 
+/// How many places a chart's calls take at most, which it counts: 1 to 16. Refuses as a translation does, but with 20 in place of 16.
 #[unsafe(no_mangle)]
 pub extern "C" fn fairleadow_places(chart: &[u8], at: &mut usize, made: &mut usize) -> u8
     ensures { GivesReplyC (places_needed chart.now) result at.new made.new }

@@ -5,7 +5,8 @@ ghost use Rattle.fairleadow.specs.telling.AnswersForC.{GivesReplyC};
 
 use crate::telling::tell;
 
-// A chart run from its text: the image is written once the chart is translated, masks and codes with each tick.
+/// Runs a chart from its text in a fresh state of `size` places: the image is written once the chart is translated, a mask and a code with
+/// each tick. Refuses as a translation does, then with 14, 16 for masks or codes, and 17; counts ticks.
 #[unsafe(no_mangle)]
 pub extern "C" fn fairleadow_dry_run(
     text: &[u8],

@@ -5,7 +5,8 @@ ghost use Rattle.fairleadow.specs.telling.AnswersForC.{GivesReplyC};
 
 use crate::telling::tell;
 
-// How often the stack fills: writes how many lists of words run to their end, meet 17 and meet 18, each 0 with a refusal.
+/// Counts how often the stack fills: writes how many lists of `ticks` words run to their end, meet 17 and meet 18, each 0 with a refusal.
+/// Refuses as the image check does, then with 14 and 28.
 #[unsafe(no_mangle)]
 pub extern "C" fn fairleadow_count_fillings(
     image: &[u8],

@@ -8,6 +8,7 @@ ghost use Rattle.fairleadow.specs.telling.AnswersForC.{GivesReplyC};
 
 use crate::telling::tell;
 
+/// Whether an image is in order; counts 0. Refuses with 1 to 3 and 11 to 13.
 #[unsafe(no_mangle)]
 pub extern "C" fn fairleadow_check_image(image: &[u8], at: &mut usize, made: &mut usize) -> u8
     ensures { GivesReplyC (verdict_reply (image_verdict image.now) 0) result at.new made.new }
@@ -16,6 +17,8 @@ pub extern "C" fn fairleadow_check_image(image: &[u8], at: &mut usize, made: &mu
     tell(answer, at, made)
 }
 
+/// The number of each label's first row, from 0, and how many rows it has, 0 and 0 for none; counts labels. Refuses as the image check
+/// does, then with 16.
 #[unsafe(no_mangle)]
 pub extern "C" fn fairleadow_list_rows(
     image: &[u8],
@@ -32,6 +35,7 @@ pub extern "C" fn fairleadow_list_rows(
     tell(answer, at, made)
 }
 
+/// An image as the table that live calls take, ten bytes a line; counts bytes. Refuses as the image check does, then with 16.
 #[unsafe(no_mangle)]
 pub extern "C" fn fairleadow_prepare(
     image: &[u8],

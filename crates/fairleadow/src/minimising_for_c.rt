@@ -5,6 +5,8 @@ ghost use Rattle.fairleadow.specs.telling.AnswersForC.{GivesReplyC};
 
 use crate::telling::tell;
 
+/// The lines of an image that ticks the same with its labels joined where they act alike; counts characters. Refuses as the image check
+/// does, then with 23 and 16.
 #[unsafe(no_mangle)]
 pub extern "C" fn fairleadow_minimise(
     image: &[u8],

@@ -8,7 +8,8 @@ use crate::telling::tell;
 use prices::priced_runs;
 use state::State;
 
-// A run, and its price: the price is written in every case, 0 with every refusal but 17 and 18.
+/// A run of at most 65,536 words, and its price in cents, which is written in every case, 0 with every refusal but 17 and 18. Refuses as a
+/// run does, with 27 after 15; counts ticks.
 #[unsafe(no_mangle)]
 pub extern "C" fn fairleadow_priced_run(
     image: &[u8],

@@ -11,7 +11,8 @@ use state::State;
 use tables::sources::{Prepared, Text};
 use text::frames::sizes::TABLE;
 
-// Number `number` is served by scheme `scheme` from then on; a refusal writes no state.
+/// Has number `number` served by scheme `scheme` from then on; a refusal writes no state. Refuses as the image check does, then with 15
+/// and 22; counts 0.
 #[tactic(auto, using(rebinding::proofs::Sourced::sourced))]
 #[unsafe(no_mangle)]
 pub extern "C" fn fairleadow_rebind(
@@ -30,6 +31,7 @@ pub extern "C" fn fairleadow_rebind(
     tell(answer, at, made)
 }
 
+/// The same on a prepared table. Refuses with 11, 15 and 22.
 #[tactic(auto, using(rebinding::proofs::Sourced::sourced))]
 #[unsafe(no_mangle)]
 pub extern "C" fn fairleadow_live_rebind(

@@ -12,6 +12,8 @@ use state::State;
 use tables::sources::{Prepared, Text};
 use text::frames::sizes::TABLE;
 
+/// Writes a fresh state for a stack of `size` places, 1 to 32, with scheme 1 open and each number served by its own scheme; counts 0. With
+/// another size it refuses with 14, and the state is of zeros.
 #[unsafe(no_mangle)]
 pub extern "C" fn fairleadow_fresh(
     size: usize,
@@ -27,6 +29,8 @@ pub extern "C" fn fairleadow_fresh(
     tell(done.answer, at, made)
 }
 
+/// One tick a word, each with its mask and its code, up to the first that is refused; counts ticks. Refuses as the image check does, then
+/// with 15 and 16 before the first tick, and 17 and 18 tick by tick.
 #[tactic(auto, using(runs::proofs::machine::Sourced::sourced))]
 #[unsafe(no_mangle)]
 pub extern "C" fn fairleadow_run(
@@ -48,6 +52,7 @@ pub extern "C" fn fairleadow_run(
     tell(answer, at, made)
 }
 
+/// The same on a prepared table. Refuses with 11, 15 and 16 before the first tick, 17 and 18 tick by tick.
 #[tactic(auto, using(runs::proofs::machine::Sourced::sourced))]
 #[unsafe(no_mangle)]
 pub extern "C" fn fairleadow_live_run(
@@ -70,7 +75,7 @@ pub extern "C" fn fairleadow_live_run(
     tell(answer, at, made)
 }
 
-// One tick; a refused one writes no mask, no code and no state.
+/// One tick; counts 1. Refuses as the image check does, then with 15, 17 and 18: a refused tick writes no mask, no code and no state.
 #[tactic(auto, using(runs::proofs::machine::Sourced::sourced))]
 #[unsafe(no_mangle)]
 pub extern "C" fn fairleadow_tick(
@@ -94,7 +99,7 @@ pub extern "C" fn fairleadow_tick(
     tell_tick(answer, mask, code, at, made)
 }
 
-// One tick on a prepared table; a refused one writes no mask, no code and no state.
+/// One tick on a prepared table; counts 1. Refuses with 11, 15, 17 and 18: a refused tick writes no mask, no code and no state.
 #[tactic(auto, using(runs::proofs::machine::Sourced::sourced))]
 #[unsafe(no_mangle)]
 pub extern "C" fn fairleadow_live_tick(

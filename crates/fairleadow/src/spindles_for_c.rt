@@ -8,7 +8,8 @@ use crate::telling::tell_tick;
 use spindles::spindle_list;
 use state::State;
 
-// One tick of one of four spindles; a refused one writes no mask, no code and no state, and leaves `taken` as it was.
+/// One tick of spindle 0 to 3 of four; counts 1. Refuses with 25, as the image check does, then with 15, 17, 26 and 18: a refused tick
+/// writes no mask, no code and no state, and leaves `taken` as it was.
 #[unsafe(no_mangle)]
 pub extern "C" fn fairleadow_spin(
     states: &mut [State],
@@ -36,6 +37,7 @@ pub extern "C" fn fairleadow_spin(
     tell_tick(report.answer, mask, code, at, made)
 }
 
+/// The same on the spindle's prepared table. Refuses with 25, 11, 15, 17, 26 and 18.
 #[unsafe(no_mangle)]
 pub extern "C" fn fairleadow_live_spin(
     states: &mut [State],

@@ -7,7 +7,8 @@ ghost use Rattle.fairleadow.specs.telling.AnswersForC.{GivesReplyC};
 use text::frames::Refusal;
 use ticks::Tick;
 
-// Returns the number, and writes the index and the count.
+/// Returns an answer's number, 0 where it is no refusal, and writes the index of the frame that it names and its count, each 0 where
+/// it has none.
 pub fn tell(answer: Result<usize, Refusal>, at: &mut usize, made: &mut usize) -> u8
     ensures { GivesReplyC (reply answer) result at.new made.new }
 {
@@ -25,7 +26,7 @@ pub fn tell(answer: Result<usize, Refusal>, at: &mut usize, made: &mut usize) ->
     }
 }
 
-// A finished tick counts 1, and a refused one leaves mask and code as they were.
+/// The same of a tick, with its mask and its code: a finished tick counts 1, and a refused one leaves mask and code as they were.
 pub fn tell_tick(
     answer: Result<Tick, Refusal>,
     mask: &mut u32,

@@ -5,6 +5,7 @@ ghost use Rattle.fairleadow.specs.telling.AnswersForC.{GivesReplyC};
 
 use crate::telling::tell;
 
+/// A chart's lines as its image's lines; counts characters. Refuses with 1 to 5, 19, 6 to 10 and 16.
 #[unsafe(no_mangle)]
 pub extern "C" fn fairleadow_translate(
     chart: &[u8],

@@ -14,7 +14,7 @@ use Rattle.fill_walks.proofs.Deep.{always-counted, by-the-walk}
 
 module _ (t : List ℕ) (size n k r at made e f u : ℕ) (c : GivesFillingsC (count_fillings t size n k) r at made e f u) (z : r ≡ 0) where
   fine-reply : (count_fillings t size n k).reply ≡ success 0
-  fine-reply = counts-success t size n k (sym c.told.number_is ∙ z)
+  fine-reply = counts-success t size n k (sym c.told.number-is ∙ z)
 
   pub sums-up-c : e + f + u ≡ lists n k
   unfolding SumsUp

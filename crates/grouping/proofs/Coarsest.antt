@@ -1,5 +1,5 @@
 -- The grouping meets the rule, every grouping that meets the rule is within it, and none of these has fewer groups.
-use Rattle.std.proofs.Common.{if◌then◌else◌, ℕ, zero, suc, ◌+◌, ◌≤◌, ◌<◌, Bool, true, false, not, ◌≡◌, refl, sym, ◌∙◌, ap, subst, ◌⊎◌, inl, ◌==◌}
+use Rattle.std.proofs.Common.{if◌then◌else◌, ℕ, zero, suc, ◌+◌, ◌≤◌, ◌<◌, Bool, true, false, not, ◌≡◌, refl, sym, ◌∙◌, ap, ◌⊎◌, inl, ◌==◌}
 use Rattle.std.proofs.Common.{inr, arith, length, eqb-true, eq-eqb, ne_eqb}
 use borrow.Author.Tests.{eqb-false}
 use Rattle.std.proofs.lemmas.Grind.{common_steps}
@@ -13,14 +13,14 @@ use Rattle.image.specs.Decode.{decoded_image}
 use Rattle.image.specs.inner.Sound.{SoundImage}
 use Rattle.image.proofs.Accepted.{image-sound}
 use Rattle.state.specs.State.{label_at}
-use Rattle.rows.specs.Rows.{is_match, is_candidate}
+use Rattle.rows.specs.Rows.{is_candidate}
 use Rattle.covering.specs.Matched.{is_uneven}
 use Rattle.covering.proofs.Hits.{OneRow, one-row}
 use Rattle.grouping.specs.Rule.{Grouping, Meets, is_lowest, groups}
 use Rattle.grouping.specs.Classes.{class_of, is_first, is_staying_with, classes, grouping}
 use Rattle.grouping.specs.Fewest.{GroupsMeet, GroupsCoarsest, GroupsFewest}
 use Rattle.grouping.proofs.Onward.{same-fields, onward_label, onward-inside, low-same, onward-is, the-hit}
-use Rattle.grouping.proofs.Rounds.{has_same_fields_at, first_alike, class-same, stays-made, stays-alike, rounds, group-round, group-leads}
+use Rattle.grouping.proofs.Rounds.{has_same_fields_at, first-alike, class-same, stays-made, stays-alike, rounds, group-round, group-leads}
 
 pub bit-of : (b : ℕ) → b < 2 → (t : Bool) × ((if t then 1 else 0) ≡ b)
 bit-of zero h = (false, refl)
@@ -34,10 +34,7 @@ module _ (i : Image) (S : SoundImage i) (one : OneRow i) where
   -- a row that matches leads where its label leads
   row-leads : (l w b j : ℕ) → j < length i.rows → is_candidate l w b (nth_row i j) ≡ true → (t : Bool)
       → (if t then 1 else 0) ≡ b → (nth_row i j).next ≡ onward_label i l w t
-  row-leads l w b j h e t q =
-      let f : (nth_row i j).from ≡ l = eqb-true (nth_row i j).from l (and-l ((nth_row i j).from == l) (is_match w b (nth_row i j)) e) in
-      sym (onward-is i S one l w t (omega (arith, (S.each j h).low)) (omega (arith, (S.each j h).high)) j h
-      (subst (λ (x : ℕ). is_candidate l w x (nth_row i j) ≡ true) (sym q) e))
+  row-leads l w b j h e t q = search (arith, and-l, eqb-true, onward-is)
 
   -- (i)
   pub grouping-meets : Meets i (class_of (grouping i))
@@ -72,7 +69,7 @@ module _ (i : Image) (S : SoundImage i) (one : OneRow i) where
     within-classes : (k l m : ℕ) → l < n → m < n → g l ≡ g m → class_of (classes i k) l ≡ class_of (classes i k) m
     unfolding classes
     within-classes zero l m hl hm e =
-        class-same i (has_same_fields_at i) (first_alike i) l m hl hm (same-fields (label_at i l) (label_at i m) (M.same l m hl hm e))
+        class-same i (has_same_fields_at i) (first-alike i) l m hl hm (same-fields (label_at i l) (label_at i m) (M.same l m hl hm e))
     within-classes (suc k) l m hl hm e =
         class-same i (is_staying_with i (classes i k)) (stays-alike i S one (classes i k) (rounds i S one k)) l m hl hm
         (stays-made i S one (classes i k) (rounds i S one k) l m (within-classes k l m hl hm e) (λ w b hw.
@@ -109,11 +106,7 @@ module _ (i : Image) (S : SoundImage i) (one : OneRow i) where
       go (inr x) = omega (arith, (group-round i S one).below l h)
 
   pub groups-counted : groups (class_of (grouping i)) n ≡ count (is_first (grouping i)) 0 n
-  groups-counted = let x : count (is_first (grouping i)) 0 n ≤ groups (class_of (grouping i)) n =
-      count-within (is_first (grouping i)) (is_lowest (class_of (grouping i))) 0 n (λ l a h t. first-lowest l (omega arith) t) in
-      let y : groups (class_of (grouping i)) n ≤ count (is_first (grouping i)) 0 n =
-      count-within (is_lowest (class_of (grouping i))) (is_first (grouping i)) 0 n (λ l a h t. lowest-first l (omega arith) t) in
-      omega arith
+  groups-counted = search (arith, count-within, first-lowest, lowest-first)
 
 -- ---- both where 23 does not apply
 module _ (i : Image) (S : SoundImage i) (even : is_uneven i ≡ false) where
@@ -128,8 +121,7 @@ pub groups-meet : GroupsMeet
 groups-meet t ok even = even-meets (decoded_image (contents t)) (image-sound t ok) even
 
 pub groups-coarsest : GroupsCoarsest
-groups-coarsest t ok even g M l m hl hm e =
-    let i : Image = decoded_image (contents t) in let S = image-sound t ok in within-grouping i S (one-row i S even) g M l m hl hm e
+groups-coarsest t ok even g M l m hl hm e = grind (arith, image-sound, one-row, within-grouping)
 
 pub groups-fewest : GroupsFewest
 groups-fewest t ok even g M = even-fewest (decoded_image (contents t)) (image-sound t ok) even g M

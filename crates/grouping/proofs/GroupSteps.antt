@@ -41,13 +41,7 @@ module _ (b : List ℕ) where
   pub rounding-start : ((k : ℕ) → slice_index b k < 256) → (old buffer marks touched : List ℕ) (m : ℕ)
       → m ≡ last_label b + 1 → length buffer ≡ 256 → marks ≡ replicate 256 1 → touched ≡ replicate 256 1
       → buffer ≡ over (classes i 0) old → Rounding old buffer marks touched m 0
-  rounding-start bytes old buffer marks touched m e h p q t = record {
-    count = e;
-    done = omega arith;
-    room = h;
-    is = t;
-    marked = first-marks b buffer bytes marks touched p q;
-  }
+  rounding-start bytes old buffer marks touched m e h p q t = search (arith, first-marks)
 
   module _ (x : Even b) (old buffer marks touched : List ℕ) (m k : ℕ) (t : Rounding old buffer marks touched m k) where
     pub rounding-now : Classed b (classes i k) buffer

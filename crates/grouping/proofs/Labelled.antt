@@ -1,10 +1,11 @@
 -- A buffer after one write for each label: loops that make one, and the classes that are kept by the marks.
-use Rattle.std.proofs.Common.{if◌then◌else◌, ℕ, zero, suc, ◌+◌, ◌≤◌, ◌<◌, ◌≡◌, refl, sym, ◌∙◌, ap, subst, Bool, true, false, List, add-one, ◌==◌, slice_index}
+use Rattle.std.proofs.Common.{if◌then◌else◌, ℕ, zero, suc, ◌+◌, ◌≤◌, ◌<◌, ◌≡◌, refl, sym, ◌∙◌, ap, subst, Bool, List, add-one, ◌==◌, slice_index}
 use Rattle.std.proofs.Common.{arith, length, set, length-set, eqb-true}
 use Rattle.std.proofs.lemmas.Grind.{common_steps}
 use Rattle.grouping.specs.inner.GroupingContracts.{KeptClasses}
 use Rattle.grouping.proofs.Marked.{kept-start, kept-on}
 use Rattle.grouping.specs.inner.Parts.{labelled, mark_others, PartsMarked}
+use Rattle.std.proofs.lemmas.Bool.Decides.{nat_tests}
 
 -- after labels 0 to l - 1 of n
 pub record Labelling (place : ℕ → ℕ) (value : ℕ → List ℕ → ℕ) (xs₀ : List ℕ) (n : ℕ) (xs : List ℕ) (l : ℕ) : Type 0 where
@@ -31,14 +32,13 @@ module _ (place : ℕ → ℕ) (value : ℕ → List ℕ → ℕ) (xs₀ : List 
 
 -- ---- the marks
 module _ (former c kept marks₀ : List ℕ) (h : length marks₀ ≡ 256) where
-  kept_of : (t : Bool) (part k : ℕ) → (part == k) ≡ t → (if t then 0 else 2) < 2 → part ≡ k
-  kept_of true part k e l = eqb-true part k e
-  kept_of false part k e l = absurd (omega arith)
+  kept-of : (t : Bool) (part k : ℕ) → (part == k) ≡ t → (if t then 0 else 2) < 2 → part ≡ k
+  kept-of t part k e l = grind (arith, nat_tests, eqb-true)
 
   kept-marks : (n : ℕ) → n ≤ 256 → KeptClasses n former c kept (mark_others former c kept n marks₀)
   unfolding labelled
   kept-marks zero l = grind (arith, common_steps, kept-start)
-  kept-marks (suc n) l = grind (arith, common_steps, kept-marks n (omega arith), kept-on, add-one, kept_of)
+  kept-marks (suc n) l = grind (arith, common_steps, kept-marks n (omega arith), kept-on, add-one, kept-of)
 
 -- ---- what mark_parts leaves
 module _ {classes next marks₀ counts₀ kept₀ : List ℕ} {n : ℕ} {marks counts kept : List ℕ}

@@ -1,8 +1,6 @@
 -- Labels by their tags: the way along the links, and one more label.
-use Rattle.std.proofs.Common.{ℕ, zero, suc, ◌+◌, ◌≤◌, ◌<◌, Bool, true, false, ◌≡◌, refl, sym, ◌∙◌, ap, subst, ◌⊎◌, inl, inr, List, arith, length, set, replicate, slice_index}
-use Rattle.std.proofs.Math.Decide.{ℕ_discrete}
+use Rattle.std.proofs.Common.{ℕ, ◌+◌, ◌≤◌, ◌<◌, Bool, true, false, ◌≡◌, refl, sym, ◌∙◌, ap, subst, ◌⊎◌, inl, inr, List, arith, length, set, replicate, slice_index}
 use Rattle.std.proofs.lemmas.List.{get_or-replicate, get_or-set_same, get_or-set_other}
-use Rattle.std.proofs.lemmas.Grind.{common_steps}
 use Rattle.words.proofs.lists.Tests.{split}
 use Rattle.words.proofs.lists.Searches.{lowest-none}
 use Rattle.text.specs.declared.frames.sizes.TheConstants.{LABELS}
@@ -12,14 +10,15 @@ use Rattle.grouping.specs.inner.GroupingContracts.{has_same_fields_on}
 use Rattle.grouping.specs.inner.Links.{tag_of, tag_on, Highest, Linked, Headed, first_same, FirstSame}
 use Rattle.grouping.proofs.Representatives.{AlikeBelow, same-lowest}
 use Rattle.grouping.proofs.Onward.{same-fields}
+use Rattle.std.proofs.lemmas.Bool.Decides.{nat_tests}
 
 module _ (b : List ℕ) where
   -- labels that hold the same have one tag
   tags-same : (m l : ℕ) → has_same_fields_on b m l ≡ true → tag_on b m ≡ tag_on b l
   tags-same m l e = ap tag_of (fields-same (table_label b m) (table_label b l) e)
 
-  on_alike : (n : ℕ) → AlikeBelow n (has_same_fields_on b)
-  on_alike n = record {
+  on-alike : (n : ℕ) → AlikeBelow n (has_same_fields_on b)
+  on-alike n = record {
     self = λ l h. same-fields (table_label b l) (table_label b l) refl;
     turn = λ l m hl hm t. same-fields (table_label b m) (table_label b l) (sym (fields-same (table_label b l) (table_label b m) t));
     chain = λ l m k hl hm hk t u.
@@ -28,9 +27,7 @@ module _ (b : List ℕ) where
   }
 
   home-alone : (l : ℕ) → 1 ≤ l → has_same_fields_on b 0 l ≡ false
-  home-alone zero h = absurd (omega arith)
-  home-alone (suc zero) h = grind (arith, common_steps)
-  home-alone (suc (suc l)) h = grind (arith, common_steps)
+  home-alone l h = grind (arith, nat_tests)
 
   -- ---- along the links
   -- no label above m and below l holds the same as l
@@ -40,11 +37,7 @@ module _ (b : List ℕ) where
     pub none : (k : ℕ) → m < k → k < l → has_same_fields_on b k l ≡ false
 
   other-tag : (k l m : ℕ) → (tag_on b k ≡ tag_on b l → k ≤ m) → m < k → has_same_fields_on b k l ≡ false
-  other-tag k l m h g = go (has_same_fields_on b k l) refl
-    where
-      go : (t : Bool) → has_same_fields_on b k l ≡ t → has_same_fields_on b k l ≡ false
-      go false e = e
-      go true e = absurd (omega (arith, h (tags-same k l e)))
+  other-tag k l m h g = search (arith, tags-same)
 
   pub along-start : (l m : ℕ) → Highest b l (tag_on b l) m → Along l m
   along-start l m h = record { below = h.below; own = h.own; none = λ k g a. other-tag k l m (h.most k a) g }
@@ -70,17 +63,10 @@ module _ (b : List ℕ) where
             go (inr z) (inr y) = ap (λ (x : ℕ). has_same_fields_on b x l) (let q : k ≡ m = omega arith in q) ∙ sym p ∙ e
 
     pub along-found : (classes : List ℕ) → FirstSame b l classes → s ≡ true → slice_index classes m ≡ first_same b l
-    along-found classes first e =
-        first.at m t.below ∙ same-lowest (l + 1) (has_same_fields_on b) (on_alike (l + 1)) m l (omega (arith, t.below)) (omega arith)
-        (sym p ∙ e)
+    along-found classes first e = grind (arith, same-lowest (l + 1) (has_same_fields_on b) (on-alike (l + 1)) m l, on-alike (l + 1), first.at m t.below)
 
   pub along-over : (l m : ℕ) → 1 ≤ l → Along l m → m ≡ 0 → l ≡ first_same b l
-  along-over l m low t e = (let z : l ≡ 0 + l = omega arith in z) ∙ sym (lowest-none (λ k. has_same_fields_on b k l) 0 l none)
-    where
-      none : (k : ℕ) → k < l → has_same_fields_on b (0 + k) l ≡ false
-      none zero h = home-alone l low
-      none (suc k) h = ap (λ (x : ℕ). has_same_fields_on b x l) (let q : 0 + suc k ≡ suc k = omega arith in q)
-          ∙ t.none (suc k) (omega arith) h
+  along-over l m low t e = grind (arith, lowest-none, home-alone)
 
   -- ---- one more label
   pub linked-none : (links : List ℕ) → Linked b 1 links
@@ -99,40 +85,7 @@ module _ (b : List ℕ) where
     headed-own = subst (λ (x : ℕ). Highest b l x (slice_index heads tag)) e (t.at tag small)
 
     pub linked-on : (links : List ℕ) → Linked b l links → l < length links → Linked b (l + 1) (set links l (slice_index heads tag))
-    linked-on links s h = record { at = at }
-      where
-        at : (k : ℕ) → 1 ≤ k → k < l + 1 → Highest b k (tag_on b k) (slice_index (set links l (slice_index heads tag)) k)
-        at k a g = go (split k l) (split l k)
-          where
-            go : (k < l) ⊎ (l ≤ k) → (l < k) ⊎ (k ≤ l) → Highest b k (tag_on b k) (slice_index (set links l (slice_index heads tag)) k)
-            go (inl z) y = subst (Highest b k (tag_on b k)) (sym (get_or-set_other links l k _ 0 (λ q. omega arith))) (s.at k a z)
-            go (inr z) (inl y) = absurd (omega arith)
-            go (inr z) (inr y) =
-                let q : k ≡ l = omega arith in
-                subst (λ (x : ℕ). Highest b x (tag_on b x) (slice_index (set links l (slice_index heads tag)) x)) (sym q)
-                (subst (Highest b l (tag_on b l)) (sym (get_or-set_same links l _ 0 h)) headed-own)
+    linked-on links s h = search (arith, get_or-set_same, split, get_or-set_other, headed-own)
 
     pub headed-on : length heads ≡ LABELS → Headed b (l + 1) (set heads tag l)
-    headed-on h = record { at = at }
-      where
-        kept : (x : ℕ) → x < LABELS → (x ≡ tag → ⊥) → Highest b l x (slice_index heads x) → Highest b (l + 1) x (slice_index heads x)
-        kept x g q m = record { below = omega (arith, m.below); own = m.own; most = most }
-          where
-            most : (k : ℕ) → k < l + 1 → tag_on b k ≡ x → k ≤ slice_index heads x
-            most k a p = go (split k l)
-              where
-                go : (k < l) ⊎ (l ≤ k) → k ≤ slice_index heads x
-                go (inl z) = m.most k z p
-                go (inr z) = absurd (q (sym p ∙ ap (tag_on b) (let y : k ≡ l = omega arith in y) ∙ sym e))
-
-        at : (x : ℕ) → x < LABELS → Highest b (l + 1) x (slice_index (set heads tag l) x)
-        at x g = go (ℕ_discrete x tag)
-          where
-            go : Dec (x ≡ tag) → Highest b (l + 1) x (slice_index (set heads tag l) x)
-            go (yes q) = subst (λ (y : ℕ). Highest b (l + 1) y (slice_index (set heads tag l) y)) (sym q)
-                (subst (Highest b (l + 1) tag) (sym (get_or-set_same heads tag l 0 (omega arith))) record {
-                  below = omega arith;
-                  own = λ a. sym e;
-                  most = λ k a p. omega arith;
-                })
-            go (no q) = subst (Highest b (l + 1) x) (sym (get_or-set_other heads tag x l 0 q)) (kept x g q (t.at x g))
+    headed-on h = search (arith, get_or-set_same, split, get_or-set_other)

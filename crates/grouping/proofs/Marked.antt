@@ -1,13 +1,12 @@
 -- Rows that lead to marked labels are enough to look at: two labels of one class are parted by them, or by none.
-use Rattle.std.proofs.Common.{ℕ, suc, ◌+◌, ◌*◌, ◌-◌, ◌≤◌, ◌<◌, Bool, true, false, ◌&&◌, ◌||◌, not, ◌≡◌, refl, sym, ◌∙◌, ap, ap₂, ◌⊎◌, inl, inr, nat_lt, ◌==◌, slice_index, slice_index_or}
-use Rattle.std.proofs.Common.{List, arith, length, set, replicate, eq-eqb, ne_eqb, eqb-true, lt-ltb, le-leb}
+use Rattle.std.proofs.Common.{ℕ, suc, ◌+◌, ◌*◌, ◌-◌, ◌≤◌, ◌<◌, Bool, true, false, ◌&&◌, ◌||◌, not, ◌≡◌, refl, sym, ◌∙◌, ap, ap₂, nat_lt, ◌==◌, slice_index, slice_index_or}
+use Rattle.std.proofs.Common.{List, arith, length, set, replicate, eq-eqb, ne_eqb, lt-ltb, le-leb}
 use Rattle.std.proofs.Common.{ltb-true, leb-false}
 use Rattle.std.proofs.Math.ListN.{length-replicate, get_or-replicate}
 use borrow.Author.Tests.{lt-leb}
 use Rattle.std.proofs.lemmas.Grind.{common_steps}
 use Rattle.std.specs.List.{list_any}
 use Rattle.words.proofs.lists.Tests.{no_both, and-l, and-r, and-true, and-false, and-no, not-true, not-false, or-cases, or-true-l}
-use Rattle.words.proofs.lists.Tests.{or-true-r}
 use Rattle.words.proofs.lists.Searches.{any-false}
 use Rattle.text.specs.frames.Frame.{field}
 use Rattle.image.specs.Image.{Image, Row, no_row}
@@ -23,34 +22,15 @@ use Rattle.covering.proofs.Chains.{chain-false, chain-none, chain-true, chain-so
 use Rattle.grouping.proofs.Onward.{some-none}
 use Rattle.grouping.proofs.Partings.{some-own}
 use Rattle.grouping.proofs.TableRounds.{unparted-before}
+use Rattle.std.proofs.lemmas.Bool.Decides.{nat_tests}
 
-same_truth : (p q : Bool) → (p ≡ true → q ≡ true) → (q ≡ true → p ≡ true) → p ≡ q
-same_truth true q f g = sym (f refl)
-same_truth false true f g = g refl
-same_truth false false f g = refl
+same-truth : (p q : Bool) → (p ≡ true → q ≡ true) → (q ≡ true → p ≡ true) → p ≡ q
+same-truth p q f g = grind (arith, nat_tests)
 
 -- ---- rows of two labels, in the other order
 module _ (b c : List ℕ) where
   parts-turned : (f g : ℕ) → is_parting_in b c f g ≡ true → is_parting_in b c g f ≡ true
-  parts-turned f g e =
-      and-true (not (y == x)) (is_together (row_in_frame b g) (row_in_frame b f)) (apart (and-l (not (x == y)) t e))
-      (go (is_together (row_in_frame b g) (row_in_frame b f)) refl)
-    where
-      x : ℕ
-      x = slice_index c (field b f 7)
-
-      y : ℕ
-      y = slice_index c (field b g 7)
-
-      t : Bool
-      t = is_together (row_in_frame b f) (row_in_frame b g)
-
-      apart : not (x == y) ≡ true → not (y == x) ≡ true
-      apart h = ap not (ne_eqb y x (λ z. no_both (x == y) (eq-eqb x y (sym z)) (not-true (x == y) h)))
-
-      go : (u : Bool) → is_together (row_in_frame b g) (row_in_frame b f) ≡ u → is_together (row_in_frame b g) (row_in_frame b f) ≡ true
-      go true h = h
-      go false h = no_both t (and-r (not (x == y)) t e) (together-turned (row_in_frame b g) (row_in_frame b f) h)
+  parts-turned f g e = search (arith, and-l, no_both, and-r, not-true, eq-eqb, together-turned, and-true, ne_eqb)
 
   -- rows that part two labels
   record Parting (m l : ℕ) : Type 0 where
@@ -63,18 +43,7 @@ module _ (b c : List ℕ) where
     pub parting : is_parting_in b c f g ≡ true
 
   found : (m l : ℕ) → is_parted_on b c m l ≡ true → Parting m l
-  found m l e =
-      let p = chain-some (λ f. is_parting_any b c f (first_on b l) (end_on b l)) (first_on b m) (end_on b m - first_on b m) e in
-      let q = chain-some (is_parting_in b c p.0) (first_on b l) (end_on b l - first_on b l) p.3 in
-      record {
-        f = p.0;
-        g = q.0;
-        low-f = p.1;
-        high-f = omega (arith, p.1, p.2);
-        low-g = q.1;
-        high-g = omega (arith, q.1, q.2);
-        parting = q.3;
-      }
+  found m l e = grind (arith, chain-some)
 
   parts-one : (l f g : ℕ) → first_on b l ≤ g → g < end_on b l → is_parting_in b c f g ≡ true
       → is_parting_any b c f (first_on b l) (end_on b l) ≡ true
@@ -95,17 +64,14 @@ module _ (b c : List ℕ) where
     abbrev marked : ℕ → ℕ → ℕ → Bool
     marked least l f = has_marked_next b marks least f && is_parting_any b c f (first_on b l) (end_on b l)
 
-    by_one : (least m l f : ℕ) → first_on b m ≤ f → f < end_on b m → has_marked_next b marks least f ≡ true
+    by-one : (least m l f : ℕ) → first_on b m ≤ f → f < end_on b m → has_marked_next b marks least f ≡ true
         → is_parting_any b c f (first_on b l) (end_on b l) ≡ true → is_parted_by b c marks least m l ≡ true
-    by_one least m l f u v s e =
+    by-one least m l f u v s e =
         chain-true (marked least l) (first_on b m) (end_on b m - first_on b m) f u (omega arith)
         (and-true (has_marked_next b marks least f) (is_parting_any b c f (first_on b l) (end_on b l)) s e)
 
-    by_parts : (least m l : ℕ) → is_parted_by b c marks least m l ≡ true → is_parted_on b c m l ≡ true
-    by_parts least m l e =
-        let p = chain-some (marked least l) (first_on b m) (end_on b m - first_on b m) e in
-        parted-one m l p.0 p.1 (omega (arith, p.1, p.2))
-        (and-r (has_marked_next b marks least p.0) (is_parting_any b c p.0 (first_on b l) (end_on b l)) p.3)
+    by-parts : (least m l : ℕ) → is_parted_by b c marks least m l ≡ true → is_parted_on b c m l ≡ true
+    by-parts least m l e = search (arith, and-r, chain-some, parted-one)
 
     -- ---- are_parted_by
     module _ (touched : List ℕ) (M : Marks b c marks touched) (m l : ℕ) (am : 2 ≤ m) (hm : m ≤ last_label b) where
@@ -123,22 +89,13 @@ module _ (b c : List ℕ) where
         by-marks : is_parted_on b c m l ≡ true → (is_parted_by b c marks 1 m l || is_parted_by b c marks 2 l m) ≡ true
         by-marks t =
             let p : Parting m l = found m l t in
-            go p (or-cases (has_marked_next b marks 1 p.f) (has_marked_next b marks 2 p.g)
-            (M.seen m l p.f p.g am hm al hl e p.low-f p.high-f p.low-g p.high-g p.parting))
-          where
-            go : (p : Parting m l) → (has_marked_next b marks 1 p.f ≡ true) ⊎ (has_marked_next b marks 2 p.g ≡ true)
-                → (is_parted_by b c marks 1 m l || is_parted_by b c marks 2 l m) ≡ true
-            go p (inl s) = or-true-l (is_parted_by b c marks 1 m l) (is_parted_by b c marks 2 l m)
-                (by_one 1 m l p.f p.low-f p.high-f s (parts-one l p.f p.g p.low-g p.high-g p.parting))
-            go p (inr s) = or-true-r (is_parted_by b c marks 1 m l) (is_parted_by b c marks 2 l m)
-                (by_one 2 l m p.g p.low-g p.high-g s
-                (parts-one m p.g p.f p.low-f p.high-f (parts-turned p.f p.g p.parting)))
+            let q = parts-one l p.f p.g p.low-g p.high-g p.parting in
+            let r = parts-one m p.g p.f p.low-f p.high-f (parts-turned p.f p.g p.parting) in
+            let s = M.seen m l p.f p.g am hm al hl e p.low-f p.high-f p.low-g p.high-g p.parting in
+            grind (arith, or-cases, by-one 1 m l p.f p.low-f p.high-f, by-one 2 l m p.g p.low-g p.high-g)
 
         pub parted-by : (is_parted_by b c marks 1 m l || is_parted_by b c marks 2 l m) ≡ is_parted_on b c m l
-        parted-by = same_truth (is_parted_by b c marks 1 m l || is_parted_by b c marks 2 l m) (is_parted_on b c m l) back by-marks
-          where
-            back : (is_parted_by b c marks 1 m l || is_parted_by b c marks 2 l m) ≡ true → is_parted_on b c m l ≡ true
-            back t = grind (arith, common_steps, or-cases, turned, by_parts)
+        parted-by = grind (arith, or-cases, same-truth, turned, by-parts, by-marks)
 
 -- ---- the marks before the first round
 pub ones-long : (xs : List ℕ) → xs ≡ replicate 256 1 → length xs ≡ 256
@@ -213,44 +170,12 @@ module _ (b : List ℕ) (x : Even b) where
     seen : (m l f g : ℕ) → 2 ≤ m → m ≤ last_label b → 2 ≤ l → l ≤ last_label b → slice_index c m ≡ slice_index c l
         → first_on b m ≤ f → f < end_on b m → first_on b l ≤ g → g < end_on b l → is_parting_in b c f g ≡ true
         → (has_marked_next b marks 1 f || has_marked_next b marks 2 g) ≡ true
-    seen m l f g am hm al hl e uf vf ug vg p = go (has_marked_next b marks 1 f) (has_marked_next b marks 2 g) refl refl
-      where
-        y : ℕ
-        y = field b f 7
-
-        z : ℕ
-        z = field b g 7
-
-        meet : Bool
-        meet = is_together (row_in_frame b f) (row_in_frame b g)
-
-        before : is_parting_in b former f g ≡ false
-        before =
-            chain-false (is_parting_in b former f) (first_on b l) (end_on b l - first_on b l)
-            (chain-false (λ f. is_parting_any b former f (first_on b l) (end_on b l)) (first_on b m) (end_on b m - first_on b m)
-            (unparted-before b x k former h m l am hm al hl (sym (h'.at m hm) ∙ e ∙ h'.at l hl)) f uf (omega arith)) g ug (omega arith)
-
-        first : (s t : Bool) → (s && t) ≡ false → t ≡ true → s ≡ false
-        first true t q r = no_both t r q
-        first false t q r = refl
-
-        same : slice_index former y ≡ slice_index former z
-        same =
-            eqb-true (slice_index former y) (slice_index former z) (not-false (slice_index former y == slice_index former z)
-            (first (not (slice_index former y == slice_index former z)) meet before
-            (and-r (not (slice_index c y == slice_index c z)) meet p)))
-
-        go : (s t : Bool) → has_marked_next b marks 1 f ≡ s → has_marked_next b marks 2 g ≡ t → (s || t) ≡ true
-        go true t q r = refl
-        go false true q r = refl
-        go false false q r =
-            let u : slice_index c y ≡ slice_index kept (slice_index former y) =
-            K.one y (omega (arith, count, next-inside m f am hm uf vf)) (omega (arith, leb-false 1 (slice_index marks y) q)) in
-            let v : slice_index c z ≡ slice_index kept (slice_index former z) =
-            K.one z (omega (arith, count, next-inside l g al hl ug vg)) (omega (arith, leb-false 2 (slice_index marks z) r)) in
-            no_both (slice_index c y == slice_index c z) (eq-eqb (slice_index c y) (slice_index c z)
-            (u ∙ ap (λ (w : ℕ). slice_index kept w) same ∙ sym v))
-            (not-true (slice_index c y == slice_index c z) (and-l (not (slice_index c y == slice_index c z)) meet p))
+    seen m l f g am hm al hl e uf vf ug vg p =
+        let before : is_parting_in b former f g ≡ false =
+        chain-false (is_parting_in b former f) (first_on b l) (end_on b l - first_on b l)
+        (chain-false (λ f. is_parting_any b former f (first_on b l) (end_on b l)) (first_on b m) (end_on b m - first_on b m)
+        (unparted-before b x k former h m l am hm al hl (sym (h'.at m hm) ∙ e ∙ h'.at l hl)) f uf (omega arith)) g ug (omega arith) in
+        grind (arith, nat_tests, K.one (field b f 7), K.one (field b g 7), next-inside m f am hm uf vf, next-inside l g al hl ug vg)
 
     pub next-marks : (touched : List ℕ) → Touched b marks (last_label b + 1) touched → Marks b c marks touched
     next-marks touched T = record {

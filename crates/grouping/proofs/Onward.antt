@@ -1,25 +1,24 @@
 -- Where a label's row leads by a word and a bit, and when a list of classes parts two labels.
-use Rattle.std.proofs.Common.{if◌then◌else◌, ℕ, zero, suc, ◌≤◌, ◌<◌, Bool, true, false, ◌&&◌, ◌||◌, not, ◌≡◌, refl, sym, ◌∙◌, ap, ap₂, List, ◌==◌, slice_index_or, filter}
-use Rattle.std.proofs.Common.{[], ◌∷◌, arith, length, eqb-true, eq-eqb}
+use Rattle.std.proofs.Common.{if◌then◌else◌, ℕ, suc, ◌≤◌, ◌<◌, Bool, true, false, ◌||◌, ◌≡◌, refl, sym, ◌∙◌, ap, ap₂, List, ◌==◌}
+use Rattle.std.proofs.Common.{slice_index_or, filter, [], ◌∷◌, arith, length, inl, inr}
 use Rattle.std.proofs.lemmas.Grind.{common_steps}
 use Rattle.std.specs.List.{list_any, AllByRecursion}
-use Rattle.words.proofs.lists.Tests.{no_both, and-l, and-r, and-true, and-false, or-l, or-r, not-false}
+use Rattle.std.proofs.lemmas.Bool.Decides.{nat_tests}
+use Rattle.words.proofs.lists.Tests.{cases, and-r, or-l, or-r}
 use Rattle.words.proofs.lists.Joins.{all-places, all-filter}
 use Rattle.image.specs.Image.{Image, Label, Row, no_row, nth_row}
 use Rattle.image.specs.inner.Sound.{SoundRow, SoundImage}
 use Rattle.state.specs.State.{label_at}
-use Rattle.rows.specs.Rows.{is_match, is_candidate, best_row, found, lead_of}
+use Rattle.rows.specs.Rows.{is_candidate, best_row, found, lead_of}
 use Rattle.covering.specs.Matched.{is_together}
 use Rattle.grouping.specs.Classes.{has_same_fields, class_of, is_parting, is_parted}
 use Rattle.covering.specs.Common.{Common}
 use Rattle.covering.proofs.Together.{common-together, together-common}
-use Rattle.covering.proofs.Hits.{Hit, OneRow, only-row, the-place, hit-is, the_row}
+use Rattle.covering.proofs.Hits.{Hit, OneRow, only-row, the-place, hit-is, the-row}
 
 -- ---- lists
 pub some-at : {A : Type 0} (p : A → Bool) (d : A) (xs : List A) → list_any p xs ≡ false → (j : ℕ) → j < length xs → p (slice_index_or xs j d) ≡ false
-some-at p d [] e j h = absurd (omega arith)
-some-at p d (x ∷ xs) e zero h = or-l (p x) (list_any p xs) e
-some-at p d (x ∷ xs) e (suc j) h = some-at p d xs (or-r (p x) (list_any p xs) e) j (omega arith)
+some-at p d xs e j h = grind (arith, common_steps, or-l, or-r)
 
 pub some-none : {A : Type 0} (p : A → Bool) (d : A) (xs : List A) → ((j : ℕ) → j < length xs → p (slice_index_or xs j d) ≡ false) → list_any p xs ≡
     false
@@ -60,18 +59,17 @@ module _ (i : Image) (S : SoundImage i) where
     pub onward-is : (l w : ℕ) (b : Bool) → 2 ≤ l → l < n → (j : ℕ) → j < length i.rows
         → is_candidate l w (if b then 1 else 0) (nth_row i j) ≡ true
         → onward_label i l w b ≡ (nth_row i j).next
-    onward-is l w b low high j h e = let x = the_row i one l w b low high in
+    onward-is l w b low high j h e = let x = the-row i one l w b low high in
         ap (label_led_to l) x.1 ∙ ap (λ (r : Row). r.next) (sym (hit-is l w (if b then 1 else 0) x.0 i.rows x.1 j h e))
 
     pub the-hit : (l w : ℕ) (b : Bool) → (low : 2 ≤ l) → (high : l < n)
-        → Hit l w (if b then 1 else 0) (the_row i one l w b low high).0 i.rows
-    the-hit l w b low high = let x = the_row i one l w b low high in the-place l w (if b then 1 else 0) x.0 i.rows x.1
+        → Hit l w (if b then 1 else 0) (the-row i one l w b low high).0 i.rows
+    the-hit l w b low high = let x = the-row i one l w b low high in the-place l w (if b then 1 else 0) x.0 i.rows x.1
 
     -- and the machine goes there
     pub best-found : (l w : ℕ) (b : Bool) → 2 ≤ l → l < n → (k : ℕ)
         → lead_of (best_row l w (if b then 1 else 0) k i.rows) ≡ found (onward_label i l w b)
-    best-found l w b low high k = let x = the_row i one l w b low high in
-        only-row l w (if b then 1 else 0) x.0 k i.rows x.1 ∙ ap found (sym (ap (label_led_to l) x.1))
+    best-found l w b low high k = grind (arith, common_steps, the-row, only-row)
 
     module _ (c : List ℕ) where
       pub unparted : (l m : ℕ) → 2 ≤ l → l < n → 2 ≤ m → m < n → is_parted i c l m ≡ false
@@ -82,53 +80,31 @@ module _ (i : Image) (S : SoundImage i) where
           let y = the-hit m w b am hm in
           let r : Row = nth_row i x.place in
           let s : Row = nth_row i y.place in
-          let p : list_any (is_parting c l m r) i.rows ≡ false =
-          some-at (λ r. list_any (is_parting c l m r) i.rows) no_row i.rows e x.place x.inside in
-          let q : is_parting c l m r s ≡ false = some-at (is_parting c l m r) no_row i.rows p y.place y.inside in
-          let f : (r.from == l) ≡ true = and-l (r.from == l) (is_match w (if b then 1 else 0) r) x.holding in
-          let g : (s.from == m) ≡ true = and-l (s.from == m) (is_match w (if b then 1 else 0) s) y.holding in
-          let t : is_together r s ≡ true =
-          common-together r s w (if b then 1 else 0) (S.each x.place x.inside).small (S.each y.place y.inside).small
-          (and-r (r.from == l) (is_match w (if b then 1 else 0) r) x.holding)
-          (and-r (s.from == m) (is_match w (if b then 1 else 0) s) y.holding) in
-          let z : not (class_of c r.next == class_of c s.next) ≡ false =
-          and-false (r.from == l && s.from == m && is_together r s) (not (class_of c r.next == class_of c s.next)) q
-          (and-true (r.from == l && s.from == m) (is_together r s) (and-true (r.from == l) (s.from == m) f g) t) in
+          let q : is_parting c l m r s ≡ false = some-at (is_parting c l m r) no_row i.rows
+          (some-at (λ r. list_any (is_parting c l m r) i.rows) no_row i.rows e x.place x.inside) y.place y.inside in
+          let t : is_together r s ≡ true = common-together r s w (if b then 1 else 0) (S.each x.place x.inside).small
+          (S.each y.place y.inside).small (and-r (r.from == l) _ x.holding) (and-r (s.from == m) _ y.holding) in
           ap (class_of c) (onward-is l w b al hl x.place x.inside x.holding)
-          ∙ eqb-true (class_of c r.next) (class_of c s.next) (not-false (class_of c r.next == class_of c s.next) z)
+          ∙ (let e : class_of c r.next ≡ class_of c s.next = grind (arith, nat_tests, x.holding, y.holding) in e)
           ∙ ap (class_of c) (sym (onward-is m w b am hm y.place y.inside y.holding))
+
+      -- rows that match a word and a bit lead where their labels go by it
+      same-led : (l m j k : ℕ) → (hj : j < length i.rows) → (hk : k < length i.rows)
+          → ((w : ℕ) (b : Bool) → w < 65536 → class_of c (onward_label i l w b) ≡ class_of c (onward_label i m w b))
+          → Common (nth_row i j) (nth_row i k) → (nth_row i j).from ≡ l → (nth_row i k).from ≡ m
+          → class_of c (nth_row i j).next ≡ class_of c (nth_row i k).next
+      same-led l m j k hj hk h C p q = grind (arith, nat_tests, h C.word C.bit C.low, onward-is l C.word C.bit, onward-is m C.word C.bit, S.each j hj, S.each k hk)
 
       parts-not : (l m j k : ℕ) → j < length i.rows → k < length i.rows
           → ((w : ℕ) (b : Bool) → w < 65536 → class_of c (onward_label i l w b) ≡ class_of c (onward_label i m w b))
           → is_parting c l m (nth_row i j) (nth_row i k) ≡ false
-      parts-not l m j k hj hk h = go (is_parting c l m (nth_row i j) (nth_row i k)) refl
-        where
-          r : Row
-          r = nth_row i j
-
-          s : Row
-          s = nth_row i k
-
-          go : (t : Bool) → is_parting c l m (nth_row i j) (nth_row i k) ≡ t → is_parting c l m (nth_row i j) (nth_row i k) ≡ false
-          go false e = e
-          go true e =
-              let x : Bool = r.from == l in
-              let y : Bool = s.from == m in
-              let z : Bool = not (class_of c r.next == class_of c s.next) in
-              let e₁ : (x && y && is_together r s) ≡ true = and-l (x && y && is_together r s) z e in
-              let e₂ : (x && y) ≡ true = and-l (x && y) (is_together r s) e₁ in
-              let f : r.from ≡ l = eqb-true r.from l (and-l x y e₂) in
-              let g : s.from ≡ m = eqb-true s.from m (and-r x y e₂) in
-              let C : Common r s = together-common r s (S.each j hj) (S.each k hk) (and-r (x && y) (is_together r s) e₁) in
-              let p : onward_label i l C.word C.bit ≡ r.next =
-              onward-is l C.word C.bit (omega (arith, (S.each j hj).low)) (omega (arith, (S.each j hj).high)) j hj
-              (and-true x (is_match C.word (if C.bit then 1 else 0) r) (and-l x y e₂) C.first) in
-              let q : onward_label i m C.word C.bit ≡ s.next =
-              onward-is m C.word C.bit (omega (arith, (S.each k hk).low)) (omega (arith, (S.each k hk).high)) k hk
-              (and-true y (is_match C.word (if C.bit then 1 else 0) s) (and-r x y e₂) C.second) in
-              let same : class_of c r.next ≡ class_of c s.next =
-              ap (class_of c) (sym p) ∙ h C.word C.bit C.low ∙ ap (class_of c) q in
-              no_both z (and-r (x && y && is_together r s) z e) (ap not (eq-eqb (class_of c r.next) (class_of c s.next) same))
+      parts-not l m j k hj hk h = elim (cases (is_together (nth_row i j) (nth_row i k))) [
+        | inl e ↦
+            let C = together-common (nth_row i j) (nth_row i k) (S.each j hj) (S.each k hk) e in
+            let same = same-led l m j k hj hk h C in
+            grind (arith, nat_tests)
+        | inr e ↦ grind (arith, nat_tests)
+      ]
 
       pub not-parted : (l m : ℕ) → ((w : ℕ) (b : Bool) → w < 65536 → class_of c (onward_label i l w b) ≡ class_of c (onward_label i m w b))
           → is_parted i c l m ≡ false

@@ -1,15 +1,13 @@
 -- Rows of a label that part it from another, whose rows are taken in blocks.
 use Rattle.std.proofs.Common.{ℕ, ◌+◌, ◌-◌, ◌≤◌, ◌<◌, Bool, true, false, ◌&&◌, ◌||◌, not, ◌≡◌, sym, ◌∙◌, ap, List, arith, ◌==◌, slice_index}
 use Rattle.std.proofs.lemmas.Grind.{common_steps}
-use Rattle.std.specs.List.{list_any, range_with_len}
 use Rattle.text.specs.frames.Frame.{field}
 use Rattle.image.specs.declared.layout.TheConstants.{NEXT}
 use Rattle.image.specs.Decode.{row_in_frame}
-use Rattle.tables.specs.Table.{first_on, end_on}
 use Rattle.covering.specs.inner.Sharing.{Shares, is_agreeing_with}
 use Rattle.covering.proofs.Chains.{chain-none}
 use Rattle.covering.proofs.Sharing.{chain-split, chain-both, differs-from}
-use Rattle.grouping.specs.inner.GroupingContracts.{has_marked_next, is_parting_in, is_parting_any, is_parted_in}
+use Rattle.grouping.specs.inner.GroupingContracts.{is_parting_in, is_parting_any, is_parted_in}
 
 and-or : (a b c : Bool) → (a && (b || c)) ≡ ((a && b) || (a && c))
 and-or a b c = grind (arith, common_steps)
@@ -31,20 +29,10 @@ module _ (b c : List ℕ) where
     parted from to = is_parted_in b c marks least m from to
 
     parted-split : (from next : ℕ) → from ≤ next → next ≤ end → parted from end ≡ (parted from next || parted next end)
-    parted-split from next h g =
-        chain-both (λ f. has_marked_next b marks least f && is_parting_any b c f from next)
-        (λ f. has_marked_next b marks least f && is_parting_any b c f next end)
-        (λ f. has_marked_next b marks least f && is_parting_any b c f from end) (first_on b m) (end_on b m - first_on b m)
-        (λ f p q. ap (λ (t : Bool). has_marked_next b marks least f && t) (chain-split (is_parting_in b c f) from next end h g)
-        ∙ and-or (has_marked_next b marks least f) (is_parting_any b c f from next) (is_parting_any b c f next end))
+    parted-split from next h g = grind (arith, chain-split, chain-both, and-or)
 
     parted-none : (from : ℕ) → end ≤ from → parted from end ≡ false
-    parted-none from h = chain-none (λ f. has_marked_next b marks least f && is_parting_any b c f from end) (first_on b m)
-        (end_on b m - first_on b m) (λ k g.
-        let f : ℕ = first_on b m + k in
-        ap (λ (n : ℕ). has_marked_next b marks least f && list_any (is_parting_in b c f) (range_with_len from n))
-        (let e : end - from ≡ 0 = omega arith in e)
-        ∙ and-none (has_marked_next b marks least f))
+    parted-none from h = grind (arith, chain-none, and-none)
 
     -- the rows from frame `from` up to end are left
     pub record Parting (first from : ℕ) : Type 0 where
@@ -56,9 +44,7 @@ module _ (b c : List ℕ) where
       parting-hit e = sym (ap (λ (y : Bool). y || parted next end) (sym p ∙ e)) ∙ sym (parted-split from next (omega arith) high) ∙ t.left
 
       pub parting-on : x ≡ false → Parting first next
-      parting-on e = record {
-        left = sym (ap (λ (y : Bool). y || parted next end) (sym p ∙ e)) ∙ sym (parted-split from next (omega arith) high) ∙ t.left;
-      }
+      parting-on e = grind (arith, parted-split)
 
     pub parting-over : (first from : ℕ) → Parting first from → end ≤ from → false ≡ parted first end
     parting-over first from t h = sym (parted-none from h) ∙ t.left

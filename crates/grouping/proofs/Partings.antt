@@ -1,19 +1,17 @@
 -- Whether rows part two labels, by the frames of a table: each label's rows stand in frames of its own.
-use Rattle.std.proofs.Common.{ℕ, zero, suc, ◌-◌, ◌≤◌, ◌<◌, Bool, true, false, ◌&&◌, ◌||◌, not, ◌≡◌, refl, sym, ◌∙◌, ap, ap₂, List, [], ◌∷◌, ◌++◌, ◌==◌, slice_index}
-use Rattle.std.proofs.Common.{map, arith, bit_and, eq-eqb, ne_eqb}
+use Rattle.std.proofs.Common.{ℕ, zero, suc, ◌-◌, ◌≤◌, ◌<◌, Bool, false, ◌||◌, ◌≡◌, refl, sym, ◌∙◌, ap, List, [], ◌∷◌, ◌++◌}
+use Rattle.std.proofs.Common.{map, arith, eq-eqb, ne_eqb}
 use Rattle.std.proofs.lemmas.Grind.{common_steps}
 use Rattle.words.specs.lists.Numbers.{range, any}
 use Rattle.std.specs.List.{list_any}
 use Rattle.words.proofs.lists.Tests.{or-none}
 use Rattle.words.proofs.lists.Searches.{any-alike}
-use Rattle.text.specs.frames.Frame.{field, pair_at}
 use Rattle.image.specs.Image.{Row}
 use Rattle.image.specs.Decode.{last_label}
 use Rattle.tables.specs.Table.{first_on, end_on, row_on, rows_on, table_image}
 use Rattle.tables.proofs.OwnRows.{own-alone}
-use Rattle.covering.specs.Matched.{is_together}
 use Rattle.covering.proofs.Chains.{any-chain}
-use Rattle.grouping.specs.Classes.{class_of, is_parting, is_parted}
+use Rattle.grouping.specs.Classes.{is_parting, is_parted}
 use Rattle.grouping.specs.inner.GroupingContracts.{Even, is_parting_in, is_parting_any, is_parted_on}
 
 -- ---- lists
@@ -23,12 +21,10 @@ some-range p f a zero = refl
 some-range p f a (suc n) = ap (λ (t : Bool). p (f a) || t) (some-range p f (suc a) n)
 
 some-first : {A : Type 0} (p : A → Bool) (xs ys : List A) → list_any p xs ≡ false → list_any p (xs ++ ys) ≡ list_any p ys
-some-first p [] ys e = grind (arith, common_steps)
-some-first p (x ∷ xs) ys e = grind (arith, common_steps)
+some-first p xs ys e = grind (arith, common_steps)
 
 some-last : {A : Type 0} (p : A → Bool) (xs ys : List A) → list_any p ys ≡ false → list_any p (xs ++ ys) ≡ list_any p xs
-some-last p [] ys e = e
-some-last p (x ∷ xs) ys e = ap (λ (t : Bool). p x || t) (some-last p xs ys e)
+some-last p xs ys e = grind (arith, common_steps)
 
 some-never : {A : Type 0} (p : A → Bool) (xs : List A) → ((x : A) → p x ≡ false) → list_any p xs ≡ false
 some-never p [] h = refl
@@ -36,14 +32,14 @@ some-never p (x ∷ xs) h = or-none (p x) (list_any p xs) (h x) (some-never p xs
 
 -- ---- a test that passes only rows of label l, over all rows of the table
 module _ (b : List ℕ) (p : Row → Bool) (l : ℕ) (never : (m f : ℕ) → (m ≡ l → ⊥) → p (row_on b m f) ≡ false) where
-  none_of : (m : ℕ) → (m ≡ l → ⊥) → (f n : ℕ) → list_any p (map (row_on b m) (range f n)) ≡ false
-  none_of m h f zero = refl
-  none_of m h f (suc n) = or-none (p (row_on b m f)) (list_any p (map (row_on b m) (range (suc f) n))) (never m f h) (none_of m h (suc f) n)
+  none-of : (m : ℕ) → (m ≡ l → ⊥) → (f n : ℕ) → list_any p (map (row_on b m) (range f n)) ≡ false
+  none-of m h f zero = refl
+  none-of m h f (suc n) = or-none (p (row_on b m f)) (list_any p (map (row_on b m) (range (suc f) n))) (never m f h) (none-of m h (suc f) n)
 
   pub some-own : 2 ≤ l → l ≤ last_label b → list_any p (table_image b).rows
       ≡ any (λ f. p (row_on b l f)) (first_on b l) (end_on b l - first_on b l)
   some-own u v =
-      own-alone b l (list_any p) (λ m h rs. some-first p (rows_on b m) rs (none_of m h (first_on b m) (end_on b m - first_on b m)))
+      own-alone b l (list_any p) (λ m h rs. some-first p (rows_on b m) rs (none-of m h (first_on b m) (end_on b m - first_on b m)))
       (some-last p) u v
       ∙ some-range p (row_on b l) (first_on b l) (end_on b l - first_on b l)
 
@@ -55,26 +51,10 @@ module _ (b c : List ℕ) (x : Even b) (l m : ℕ) (al : 2 ≤ l) (hl : l ≤ la
   -- one row of each
   rows-part : (f g : ℕ) → first_on b l ≤ f → f < end_on b l → first_on b m ≤ g → g < end_on b m
       → is_parting c l m (row_on b l f) (row_on b m g) ≡ is_parting_in b c f g
-  rows-part f g u v w z =
-      let r : ℕ = field b f 6 in
-      let s : ℕ = field b g 6 in
-      let words : Bool = bit_and (pair_at b f 4) (pair_at b g 2) == bit_and (pair_at b g 4) (pair_at b f 2) in
-      let other : Bool = not (slice_index c (field b f 7) == slice_index c (field b g 7)) in
-      ap₂ (λ (p q : ℕ). l == l && m == m && (words && (p == 2 || q == 2 || p == q)) && other)
-      (x.bits l f al hl u v) (x.bits m g am hm w z)
-      ∙ ap₂ (λ (p q : Bool). p && q && (words && (r == 2 || s == 2 || r == s)) && other) (eq-eqb l l refl) (eq-eqb m m refl)
-      ∙ turned (words && (r == 2 || s == 2 || r == s)) other
-    where
-      turned : (p q : Bool) → (true && true && p && q) ≡ (q && p)
-      turned true true = refl
-      turned true false = refl
-      turned false true = refl
-      turned false false = refl
+  rows-part f g u v w z = grind (arith, eq-eqb)
 
   second-only : (k f : ℕ) → (k ≡ l → ⊥) → list_any (is_parting c l m (row_on b k f)) (table_image b).rows ≡ false
-  second-only k f h = some-never (is_parting c l m (row_on b k f)) (table_image b).rows (λ r.
-      ap (λ (t : Bool). t && r.from == m && is_together (row_on b k f) r && not (class_of c (field b f 7) == class_of c r.next))
-      (ne_eqb k l h))
+  second-only k f h = search (arith, ne_eqb, some-never)
 
   pub parted-is : is_parted (table_image b) c l m ≡ is_parted_on b c l m
   unfolding is_parted

@@ -7,7 +7,6 @@ use Rattle.text.specs.frames.Verdict.{fine}
 use Rattle.image.specs.Image.{Row, no_row}
 use Rattle.image.specs.Decode.{last_label, decoded_image, row_in_frame}
 use Rattle.image.specs.Check.{table_verdict}
-use Rattle.image.specs.inner.Sound.{SoundImage}
 use Rattle.image.proofs.Accepted.{accepted-sound, image-table, image-bytes}
 use Rattle.tables.specs.Prepare.{first_frame, noted_table}
 use Rattle.tables.specs.Table.{first_on, end_on, row_on, rows_on}
@@ -40,13 +39,7 @@ module _ (b : List ℕ) (ok : table_verdict b ≡ fine) (bytes : (k : ℕ) → s
       ∙ sym (noted-late b f 6 (omega arith) (omega arith))
 
   pub noted-even : is_uneven (decoded_image b) ≡ false → Even (noted_table b)
-  noted-even e =
-      let holds = prepared-image b ok bytes in
-      record {
-        sound = subst SoundImage (sym holds) (accepted-sound b ok bytes);
-        bits = noted-bits;
-        covered = ap is_uneven holds ∙ e;
-      }
+  noted-even e = search (arith, accepted-sound, prepared-image, noted-bits)
 
 pub made-even : (t b : List ℕ) → MadeTable t b → is_uneven (decoded_image (contents t)) ≡ false → Even b
 made-even t b made e =

@@ -21,12 +21,11 @@ module _ (b : List ℕ) where
 
   -- a buffer holds the classes of one list only
   held : (c d buffer : List ℕ) → length c ≡ n → length d ≡ n → Classed b c buffer → Classed b d buffer → c ≡ d
-  held c d buffer p q s t = ext_get_or 0 c d (p ∙ sym q) (λ l h.
-      let z : l ≤ last_label b = omega (arith, labels-count b) in sym (s.at l z) ∙ t.at l z)
+  held c d buffer p q s t = grind (arith, ext_get_or 0 c d (p ∙ sym q), labels-count b)
 
-  one_more : (k : ℕ) → classes_by i (is_staying_with i (classes i k)) ≡ classes i (suc k)
+  one-more : (k : ℕ) → classes_by i (is_staying_with i (classes i k)) ≡ classes i (suc k)
   unfolding classes
-  one_more k = refl
+  one-more k = refl
 
   -- ---- refine
   pub record Refining (buffer old next : List ℕ) (m l : ℕ) : Type 0 where
@@ -80,4 +79,4 @@ module _ (b : List ℕ) where
         let j : ℕ = t.rounds in
         let same : classes i j ≡ classes i k = held (classes i j) (classes i k) buffer (classes-long b j) (classes-long b k) t.now now in
         fill-all b (is_staying_with i (classes i j)) old next m l t.filling h
-        ∙ ap (λ (c : List ℕ). over c old) (ap (λ (c : List ℕ). classes_by i (is_staying_with i c)) same ∙ one_more k)
+        ∙ ap (λ (c : List ℕ). over c old) (ap (λ (c : List ℕ). classes_by i (is_staying_with i c)) same ∙ one-more k)

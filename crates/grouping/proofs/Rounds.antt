@@ -50,8 +50,8 @@ module _ (i : Image) where
   abbrev pub has_same_fields_at : ℕ → ℕ → Bool
   has_same_fields_at m l = has_same_fields (label_at i m) (label_at i l)
 
-  pub first_alike : AlikeBelow n has_same_fields_at
-  first_alike = record {
+  pub first-alike : AlikeBelow n has_same_fields_at
+  first-alike = record {
     self = λ l h. same-fields (label_at i l) (label_at i l) refl;
     turn = λ l m hl hm t. same-fields (label_at i m) (label_at i l) (sym (fields-same (label_at i l) (label_at i m) t));
     chain = λ l m k hl hm hk t u.
@@ -60,7 +60,7 @@ module _ (i : Image) where
   }
 
   pub first-round : ClassRound i (classes_by i has_same_fields_at)
-  first-round = round-by has_same_fields_at first_alike (λ l m hl hm t. fields-same (label_at i l) (label_at i m) t)
+  first-round = round-by has_same_fields_at first-alike (λ l m hl hm t. fields-same (label_at i l) (label_at i m) t)
 
   module _ (S : SoundImage i) (one : OneRow i) where
     module _ (c : List ℕ) (R : ClassRound i c) where
@@ -188,6 +188,4 @@ module _ (i : Image) where
     pub group-leads : (l m : ℕ) → l < n → m < n → class_of (grouping i) l ≡ class_of (grouping i) m
         → (w : ℕ) (b : Bool) → class_of (grouping i) (onward_label i l w b) ≡ class_of (grouping i) (onward_label i m w b)
     unfolding grouping
-    group-leads l m hl hm e =
-        (next-told (classes i n) (rounds n) l m hl hm
-        (subst (λ (c : List ℕ). class_of c l ≡ class_of c m) (sym at-rest ∙ more n) e)).then
+    group-leads l m hl hm e = grind (arith, next-told (classes i n) (rounds n) l m hl hm, rounds n, at-rest, more n)

@@ -1,11 +1,11 @@
 -- Steps of the functions that find the classes of a table's labels, round after round.
-use Rattle.std.proofs.Common.{ℕ, zero, suc, ◌+◌, ◌-◌, ◌≤◌, ◌<◌, Bool, true, false, ◌&&◌, ◌||◌, not, ◌≡◌, refl, sym, ◌∙◌, ap, ap₂, subst, ◌==◌, slice_index, slice_index_or}
-use Rattle.std.proofs.Common.{◌⊎◌, inl, inr, List, [], ◌∷◌, arith, length, set, eq-eqb, eqb-true, map, drop, Option, find, unwrap_or}
+use Rattle.std.proofs.Common.{ℕ, suc, ◌+◌, ◌-◌, ◌≤◌, ◌<◌, Bool, true, false, ◌&&◌, ◌||◌, not, ◌≡◌, refl, sym, ◌∙◌, ap, ap₂, subst, ◌==◌, slice_index, slice_index_or}
+use Rattle.std.proofs.Common.{◌⊎◌, inl, inr, List, [], ◌∷◌, arith, length, set, eq-eqb, eqb-true, Option, find, unwrap_or}
 use Rattle.std.proofs.lemmas.Grind.{common_steps}
 use Rattle.std.proofs.Math.ListN.{get_or-append}
 use Rattle.std.specs.List.{range_with_len, list_any}
-use Rattle.words.specs.lists.Numbers.{range, tabulate, lowest}
-use Rattle.words.specs.lists.Sequences.{over, written}
+use Rattle.words.specs.lists.Numbers.{tabulate, lowest}
+use Rattle.words.specs.lists.Sequences.{over}
 use Rattle.words.proofs.lists.Written.{written-front}
 use Rattle.words.proofs.lists.Fills.{ValuesFrom, values-none, values-turn, values-all}
 use Rattle.words.proofs.lists.Tests.{no_both, and-l, and-r, and-true, not-true, split}
@@ -36,10 +36,10 @@ lowest-is p i n x a b hit before = go (split (lowest p i n) x) (split x (lowest 
     go (inr h) (inl g) = no_both (p x) (hit (omega (arith, lowest-most p i n))) (lowest-before p i n x a g)
     go (inr h) (inr g) = omega arith
 
-some_same : {A : Type 0} (p q : A → Bool) (d : A) (xs : List A) → ((j : ℕ) → j < length xs → p (slice_index_or xs j d) ≡ q (slice_index_or xs j d))
+some-same : {A : Type 0} (p q : A → Bool) (d : A) (xs : List A) → ((j : ℕ) → j < length xs → p (slice_index_or xs j d) ≡ q (slice_index_or xs j d))
     → list_any p xs ≡ list_any q xs
-some_same p q d [] e = refl
-some_same p q d (x ∷ xs) e = ap₂ ◌||◌ (e 0 (omega arith)) (some_same p q d xs (λ j l. e (suc j) (omega arith)))
+some-same p q d [] e = refl
+some-same p q d (x ∷ xs) e = ap₂ ◌||◌ (e 0 (omega arith)) (some-same p q d xs (λ j l. e (suc j) (omega arith)))
 
 module _ (b : List ℕ) where
   abbrev i : Image
@@ -58,13 +58,7 @@ module _ (b : List ℕ) where
 
   module _ (alike : ℕ → ℕ → Bool) (old : List ℕ) where
     pub fill-start : length old ≡ 256 → (m : ℕ) → m < 256 → m ≡ last_label b → FillingClasses alike old old m 0
-    fill-start h m g e = record {
-      room = h;
-      small = g;
-      is = e;
-      filled = values-none (lowest_alike alike) old 0 (m + 1);
-      each = λ k z. absurd (omega arith);
-    }
+    fill-start h m g e = grind (arith, common_steps, values-none (lowest_alike alike) old 0 (m + 1), lowest_alike alike)
 
     module _ (buffer : List ℕ) (m l : ℕ) (t : FillingClasses alike old buffer m l) where
       pub value-small : l ≤ m → (x : ℕ) → x ≡ lowest_alike alike l → x < 256
@@ -86,10 +80,7 @@ module _ (b : List ℕ) where
       -- all places are filled
       pub fill-all : m < l → buffer ≡ over (classes_by i alike) old
       unfolding tabulate
-      fill-all h =
-          let count : m + 1 ≡ n = omega (arith, t.is, labels-count b) in
-          values-all (lowest_alike alike) old 0 (m + 1) buffer l t.filled (omega arith)
-          ∙ ap (λ (k : ℕ). written old 0 (map (lowest_alike alike) (range 0 k))) count ∙ written-front old (classes_by i alike)
+      fill-all h = grind (arith, labels-count, written-front, values-all, lowest_alike)
 
   -- label 0 alone
   pub fill-first : (alike : ℕ → ℕ → Bool) (old : List ℕ) → length old ≡ 256 → (m : ℕ) → m < 256 → m ≡ last_label b
@@ -98,10 +89,7 @@ module _ (b : List ℕ) where
 
   -- the first places of such a buffer
   pub over-classed : (c old buffer : List ℕ) → length c ≡ n → buffer ≡ over c old → length buffer ≡ 256 → Classed b c buffer
-  over-classed c old buffer h e g = record {
-    long = g;
-    at = λ l z. ap (λ (xs : List ℕ). slice_index xs l) e ∙ get_or-append c (drop (length c) old) 0 l (omega (arith, labels-count b));
-  }
+  over-classed c old buffer h e g = grind (arith, common_steps, labels-count, get_or-append)
 
   -- ---- first_classes
   pub first-own : (l : ℕ) → first_same b l ≡ lowest_alike (has_same_fields_at i) l
@@ -117,8 +105,7 @@ module _ (b : List ℕ) where
 
   pub classes-long : (k : ℕ) → length (classes i k) ≡ n
   unfolding classes
-  classes-long zero = length-tabulate (lowest_alike (has_same_fields_at i)) n
-  classes-long (suc k) = length-tabulate (lowest_alike (is_staying_with i (classes i k))) n
+  classes-long k = grind (arith, common_steps, has_same_fields_at, length-tabulate)
 
   module _ (x : Even b) where
     one : OneRow i
@@ -154,10 +141,10 @@ module _ (b : List ℕ) where
       class-below l z = omega (arith, inside l (omega (arith, labels-count b)), R.below l (omega (arith, labels-count b)))
 
       -- the buffer parts as the classes do
-      parts_same : (l m j g : ℕ) → j < length i.rows → g < length i.rows
+      parts-same : (l m j g : ℕ) → j < length i.rows → g < length i.rows
           → is_parting buffer l m (slice_index_or i.rows j no_row) (slice_index_or i.rows g no_row) ≡ is_parting c l
           m (slice_index_or i.rows j no_row) (slice_index_or i.rows g no_row)
-      parts_same l m j g hj hg =
+      parts-same l m j g hj hg =
           let r : Row = slice_index_or i.rows j no_row in
           let s : Row = slice_index_or i.rows g no_row in
           ap₂ (λ (x y : ℕ). r.from == l && s.from == m && is_together r s && not (x == y))
@@ -166,9 +153,9 @@ module _ (b : List ℕ) where
       parted-same : (m l : ℕ) → is_parted i buffer m l ≡ is_parted i c m l
       unfolding is_parted
       parted-same m l =
-          some_same (λ r. list_any (is_parting buffer m l r) i.rows) (λ r. list_any (is_parting c m l r) i.rows) no_row i.rows (λ j hj.
-          some_same (is_parting buffer m l (slice_index_or i.rows j no_row)) (is_parting c m l (slice_index_or i.rows j no_row)) no_row i.rows (λ g hg.
-          parts_same m l j g hj hg))
+          some-same (λ r. list_any (is_parting buffer m l r) i.rows) (λ r. list_any (is_parting c m l r) i.rows) no_row i.rows (λ j hj.
+          some-same (is_parting buffer m l (slice_index_or i.rows j no_row)) (is_parting c m l (slice_index_or i.rows j no_row)) no_row i.rows (λ g hg.
+          parts-same m l j g hj hg))
 
       abbrev stays : ℕ → ℕ → Bool
       stays = is_staying_with i c
@@ -229,11 +216,7 @@ module _ (b : List ℕ) where
         same p = eqb-true (class_of c y) (class_of c l) (and-l (class_of c y == class_of c l) (not (is_parted i c y l)) (stay p))
 
         low : slice_index buffer l ≤ y
-        low = go (split y l)
-          where
-            go : (y < l) ⊎ (l ≤ y) → slice_index buffer l ≤ y
-            go (inl p) = omega (arith, inside l hl, same p, R.below y hy)
-            go (inr p) = omega (arith, class-below l z)
+        low = grind (arith, common_steps, split, inside, R, class-below, hl, hy, same)
 
         leading : y < l → is_class_leader b buffer next l y ≡ true
         leading p =

@@ -1,8 +1,7 @@
 -- The notes of labels 2 to M: the loop that makes them, and that they are enough with the marks.
-use Rattle.std.proofs.Common.{cond, ℕ, ◌+◌, ◌-◌, ◌≤◌, ◌<◌, ◌≡◌, refl, sym, ◌∙◌, ap, ap₂, subst, Bool, true, false, List, map, ◌++◌, arith, slice_index}
-use Rattle.std.proofs.Common.{length, set, take, drop, get_or-append-add, length-take-le}
+use Rattle.std.proofs.Common.{cond, ℕ, ◌+◌, ◌-◌, ◌≤◌, ◌<◌, ◌≡◌, ◌∙◌, subst, Bool, false, List, map, arith, slice_index}
+use Rattle.std.proofs.Common.{length, set, get_or-append-add, length-take-le}
 use Rattle.std.proofs.Math.ListN.{get_or-append}
-use Rattle.std.specs.List.{list_any, range_with_len}
 use Rattle.words.specs.lists.Numbers.{range}
 use Rattle.words.specs.lists.Sequences.{written}
 use Rattle.words.proofs.lists.Ranges.{length-map-range, get_or-map-range}
@@ -10,11 +9,12 @@ use Rattle.words.proofs.lists.Written.{written-length}
 use Rattle.words.proofs.lists.Fills.{ValuesFrom, values-none, values-turn}
 use Rattle.image.specs.Decode.{last_label}
 use Rattle.tables.specs.Table.{first_on, end_on}
-use Rattle.grouping.specs.inner.GroupingContracts.{Even, Advanced, has_marked_next, Touched}
+use Rattle.grouping.specs.inner.GroupingContracts.{Even, Advanced, Touched}
 use Rattle.grouping.proofs.Marked.{next-marks}
 use Rattle.grouping.specs.inner.Parts.{PartsMarked}
 use Rattle.grouping.proofs.Labelled.{parts-kept, counts-length}
 use Rattle.grouping.specs.inner.Touches.{touch_in, touches, RoundMarked}
+use Rattle.std.proofs.lemmas.Bool.Decides.{nat_tests}
 
 module _ (b marks old : List ℕ) where
   abbrev note : ℕ → ℕ
@@ -30,21 +30,7 @@ module _ (b marks old : List ℕ) where
 
   pub touching-turn : last_label b < length old → (out : List ℕ) (l first end v : ℕ) → Touching out l → l ≤ last_label b
       → first ≡ first_on b l → end ≡ end_on b l → v ≡ touch_in b marks first end → Touching (set out l v) (l + 1)
-  touching-turn room out l first end v t h p q e = record {
-    low = omega (arith, t.low);
-    values = subst (λ (m : ℕ). ValuesFrom note old (set out m v) 2 (last_label b - 1) (l + 1 - 2)) at
-        (subst (λ (k : ℕ). ValuesFrom note old (set out (2 + (l - 2)) v) 2 (last_label b - 1) k) more
-        (values-turn note old 2 (last_label b - 1) out (l - 2) v (omega (arith, t.low)) t.values (omega (arith, t.low)) is));
-  }
-    where
-      at : 2 + (l - 2) ≡ l
-      at = omega (arith, t.low)
-
-      more : l - 2 + 1 ≡ l + 1 - 2
-      more = omega (arith, t.low)
-
-      is : v ≡ note (l - 2)
-      is = e ∙ ap₂ (touch_in b marks) p q ∙ ap (λ (m : ℕ). touch_in b marks (first_on b m) (end_on b m)) (sym at)
+  touching-turn room out l first end v t h p q e = grind (arith, values-turn note old 2 (last_label b - 1) out (l - 2) v)
 
   -- ---- what the notes say
   module _ (long : length old ≡ 256) (few : last_label b < 256) (out : List ℕ) (e : out ≡ touches b marks old) where
@@ -53,25 +39,13 @@ module _ (b marks old : List ℕ) where
 
     noted-at : (l : ℕ) → 2 ≤ l → l ≤ last_label b → slice_index out l ≡ touch_in b marks (first_on b l) (end_on b l)
     unfolding written
-    noted-at l u h =
-        let notes : List ℕ = map note (range 0 (last_label b - 1)) in
-        let rest : List ℕ = drop (2 + length notes) old in
-        let at : l ≡ length (take 2 old) + (l - 2) = omega (arith, length-take-le 2 old (omega arith)) in
-        ap (λ (xs : List ℕ). slice_index xs l) e ∙ ap (λ (m : ℕ). slice_index (take 2 old ++ (notes ++ rest)) m) at
-        ∙ get_or-append-add (take 2 old) (notes ++ rest) (l - 2) 0 ∙ get_or-append notes rest 0 (l - 2) (omega (arith, notes-long))
-        ∙ get_or-map-range note 0 0 (last_label b - 1) (l - 2) (omega arith)
-        ∙ ap (λ (m : ℕ). touch_in b marks (first_on b m) (end_on b m)) (omega arith)
+    noted-at l u h = grind (arith, get_or-append, get_or-map-range, length-take-le, get_or-append-add, notes-long)
 
     none : (t : Bool) → cond {A = ℕ} t 1 0 ≡ 0 → t ≡ false
-    none true z = absurd (omega arith)
-    none false z = refl
+    none l z = grind (arith, nat_tests)
 
     pub touches-noted : Touched b marks (last_label b + 1) out
-    touches-noted = record {
-      long = ap length e ∙ written-length old 2 (map note (range 0 (last_label b - 1))) (omega (arith, notes-long)) ∙ long;
-      none = λ l u z s. none (list_any (has_marked_next b marks 1) (range_with_len (first_on b l) (end_on b l - first_on b l)))
-          (sym (noted-at l u (omega arith)) ∙ s);
-    }
+    touches-noted = grind (arith, written-length, notes-long, noted-at, none)
 
 -- ---- the marks after a round
 pub round-marked : (b : List ℕ) → Even b → (classes next : List ℕ) → Advanced b classes next

@@ -10,6 +10,7 @@ use crate::first_classes::first_classes;
 use crate::marking::mark_parted;
 use crate::next_classes::refine;
 use crate::parting::Round;
+use state::State;
 use tables::Table;
 use text::frames::put_bytes;
 use text::frames::sizes::LABELS;
@@ -29,10 +30,10 @@ pub fn group(table: Table, classes: &mut [u8; LABELS])
     ensures { classes.new ≡ over (grouping (table_image table.entry.bytes.now)) classes.old }
 {
     // The buffers of next classes and of kept parts have the heads of tags and the links first.
-    let mut next = [0u8; LABELS];
-    let mut marks = [1u8; LABELS];
-    let mut touched = [1u8; LABELS];
-    let mut kept = [0u8; LABELS];
+    let mut next = [0u8; State::LABELS];
+    let mut marks = [1u8; State::LABELS];
+    let mut touched = [1u8; State::LABELS];
+    let mut kept = [0u8; State::LABELS];
     first_classes(table, classes, &mut next, &mut kept);
     let n = (table.last as usize) + 1;
     for k in 0..n {

@@ -187,11 +187,11 @@ module _ (b : List ℕ) (ok : table_verdict b ≡ fine) where
 
   -- with bytes below 256 the image is sound
   module _ (bytes : (k : ℕ) → slice_index b k < 256) where
-    pair_small : (f k : ℕ) → pair_at b f k < 65536
-    pair_small f k = omega (arith, bytes (10 * f + k), bytes (10 * f + (k + 1)))
+    pair-small : (f k : ℕ) → pair_at b f k < 65536
+    pair-small f k = omega (arith, bytes (10 * f + k), bytes (10 * f + (k + 1)))
 
     mask-small : (l : ℕ) → (label_in b l).mask < 4294967296
-    mask-small l = omega (arith, pair_small (labels_from b + l) 6, pair_small (labels_from b + l) 8)
+    mask-small l = omega (arith, pair-small (labels_from b + l) 6, pair-small (labels_from b + l) 8)
 
     other-good : (l : ℕ) → 2 ≤ l → l ≤ last_label b → SoundLabel (scheme_count b) (label_in b l)
     other-good zero h m = absurd (omega arith)
@@ -225,8 +225,8 @@ module _ (b : List ℕ) (ok : table_verdict b ≡ fine) where
           others = λ l h k. subst (λ (x : Label). SoundLabel (length (decoded_image b).entries) x) (sym (label-read b l (omega arith)))
               (subst (λ (c : ℕ). SoundLabel c (label_in b l)) (sym n) (other-good l h (omega arith)));
           each = λ k h. subst (λ (x : Row). SoundRow (decoded_image b) x) (sym (row-read b k (omega arith)))
-              (row-told b (rows_from b + k) (row_in b k) (pair_small (rows_from b + k) 2)
-              (pair_small (rows_from b + k) 4) (row-good k (omega arith)));
+              (row-told b (rows_from b + k) (row_in b k) (pair-small (rows_from b + k) 2)
+              (pair-small (rows_from b + k) 4) (row-good k (omega arith)));
           rising = λ k h.
               let p : (nth_row (decoded_image b) k).from ≡ (row_in b k).from = ap (λ (x : Row). x.from) (row-read b k (omega arith)) in
               let q : (nth_row (decoded_image b) (suc k)).from ≡ (row_in b (suc k)).from =

@@ -126,20 +126,20 @@ module _ (i : Image) (b : List ℕ) (S : SoundImage i) (R : Reads i b) where
 
   -- a row is judged by the label that it leaves
   module _ (r : Row) (s : SoundRow i r) where
-    from_is : label_in b r.from ≡ nth_label i r.from
-    from_is = label-is i b S R r.from s.high
+    from-is : label_in b r.from ≡ nth_label i r.from
+    from-is = label-is i b S R r.from s.high
 
     bit-fine : has_bad_bit b r ≡ false
-    bit-fine = grind (arith, common_steps, equal, split, le-ltb, lt-ltb, from_is)
+    bit-fine = grind (arith, common_steps, equal, split, le-ltb, lt-ltb, from-is)
 
-    row_fine : (f : ℕ) → is_filled b f 8 2 ≡ false → is_bad_row b f r ≡ false
-    row_fine f z =
+    row-fine : (f : ℕ) → is_filled b f 8 2 ≡ false → is_bad_row b f r ≡ false
+    row-fine f z =
         ap₂ ◌||◌ (ap₂ ◌||◌ (ap₂ ◌||◌ (ap₂ ◌||◌ (ap₂ ◌||◌
         (le-ltb r.from 2 s.low)
         (le-ltb (last_label b) r.from (omega (arith, s.high, last-is i b S R))))
         (equal (bit_and r.values r.care) r.values s.within))
         bit-fine)
-        (ap not (ap (λ (x : Label). is_within b x.owner r.next) from_is
+        (ap not (ap (λ (x : Label). is_within b x.owner r.next) from-is
         ∙ within-true (nth_label i r.from).owner r.next s.leading)))
         z
 
@@ -159,7 +159,7 @@ module _ (i : Image) (b : List ℕ) (S : SoundImage i) (R : Reads i b) where
       (λ h l. ap (is_bad_frame b (suc h)) (position-entry h l) ∙ entry-fine h l)
       (λ l h. ap (is_bad_frame b (label_from l)) (position-label l h) ∙ ap (is_bad_label b l) (label-is i b S R l h) ∙ label-fine l h)
       (λ k h. ap (is_bad_frame b (row_from k)) (position-row k h) ∙ ap (is_bad_row b (row_from k)) (row-is i b S R k h)
-      ∙ row_fine (nth_row i k) (S.each k h) (row_from k) (tail-empty k h))
+      ∙ row-fine (nth_row i k) (S.each k h) (row_from k) (tail-empty k h))
       f (omega (arith, R.count))
 
   pub table-fine : table_verdict b ≡ fine

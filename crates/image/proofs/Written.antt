@@ -63,10 +63,10 @@ module _ (i : Image) where
 handler-small : (i : Image) → SoundImage i → i.handler < 256
 handler-small i S = grind (arith, common_steps)
 
-label_small : (i : Image) → SoundImage i → (l : ℕ) → l < length i.labels → AllByRecursion (λ x. x < 256) (label_frame l (nth_label i l))
-label_small i S zero h = grind (arith, common_steps)
-label_small i S (suc zero) h = grind (arith, common_steps)
-label_small i S (suc (suc l)) h = grind (arith, common_steps)
+label-small : (i : Image) → SoundImage i → (l : ℕ) → l < length i.labels → AllByRecursion (λ x. x < 256) (label_frame l (nth_label i l))
+label-small i S zero h = grind (arith, common_steps)
+label-small i S (suc zero) h = grind (arith, common_steps)
+label-small i S (suc (suc l)) h = grind (arith, common_steps)
 
 module _ (i : Image) (S : SoundImage i) where
   entry-frames : AllByRecursion Frame (es i)
@@ -80,7 +80,7 @@ module _ (i : Image) (S : SoundImage i) where
       let m : l < length i.labels = omega (arith, ls-count i) in
       let e : slice_index_or (ls i) l [] ≡ label_frame l (nth_label i l) =
       get_or-map_from label_frame 0 i.labels no_label [] l m ∙ ap (λ (x : ℕ). label_frame x (nth_label i l)) (omega arith) in
-      subst Frame (sym e) (frame-by (label_frame l (nth_label i l)) refl (label_small i S l m)))
+      subst Frame (sym e) (frame-by (label_frame l (nth_label i l)) refl (label-small i S l m)))
 
   row-frames : AllByRecursion Frame (rs i)
   row-frames = all-places Frame [] (rs i) (λ k h.

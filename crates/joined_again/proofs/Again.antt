@@ -100,19 +100,19 @@ module _ (i : Image) (S : SoundImage i) (even : is_uneven i ≡ false) where
   inside = new-inside i S (grouping i) R
 
   module _ (l w b k : ℕ) (h : k < length i.rows) (own : is_candidate l w b (nth_row i k) ≡ true) where
-    from_is : (nth_row i k).from ≡ l
-    from_is = eqb-true (nth_row i k).from l (and-l ((nth_row i k).from == l) (is_match w b (nth_row i k)) own)
+    from-is : (nth_row i k).from ≡ l
+    from-is = eqb-true (nth_row i k).from l (and-l ((nth_row i k).from == l) (is_match w b (nth_row i k)) own)
 
     next-whole : (t : Bool) → (if t then 1 else 0) ≡ b → whole (nth_row i k).next
         ≡ class_of d (onward_label (smaller_image i) (renumbered_label c l) w t)
     next-whole t q =
-        let low : 2 ≤ l = omega (arith, (S.each k h).low, from_is) in
-        let high : l < length i.labels = omega (arith, (S.each k h).high, from_is) in
+        let low : 2 ≤ l = omega (arith, (S.each k h).low, from-is) in
+        let high : l < length i.labels = omega (arith, (S.each k h).high, from-is) in
         ap whole (sym (onward-is i S one l w t low high k h (subst (λ (x : ℕ). is_candidate l w x (nth_row i k) ≡ true) (sym q) own)))
         ∙ ap (class_of d) (sym (onward-new i S (grouping i) R one (group-leads i S one) l w t low high))
 
-  whole_meets : Meets i whole
-  whole_meets = record {
+  whole-meets : Meets i whole
+  whole-meets = record {
     same = λ l m hl hm e.
         sym (label-new i S (grouping i) R l hl)
         ∙ R'.same (renumbered_label c l) (renumbered_label c m) (inside l hl) (inside m hm) e
@@ -130,7 +130,7 @@ module _ (i : Image) (S : SoundImage i) (even : is_uneven i ≡ false) where
       let x : Member i S c R l = member i S c R l h in
       let y : Member i S c R k = member i S c R k (omega (arith, R'.below l h)) in
       let e : whole y.label ≡ whole x.label = ap (class_of d) y.number ∙ R'.own l h ∙ sym (ap (class_of d) x.number) in
-      let g : class_of c y.label ≡ class_of c x.label = within-grouping i S one whole whole_meets y.label x.label y.inside
+      let g : class_of c y.label ≡ class_of c x.label = within-grouping i S one whole whole-meets y.label x.label y.inside
       x.inside e in
       sym y.number ∙ ap (λ (z : ℕ). count (is_first c) 0 z) g ∙ x.number
 

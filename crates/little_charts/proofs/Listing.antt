@@ -46,9 +46,8 @@ lists-made rs (suc m) = grind (arith, common_steps, nat_tests, lists-made rs m, 
 
 made-listed : (rs fs : List (List ℕ)) → AllByRecursion (λ r. In r rs) fs → In fs (lists_of rs (length fs))
 unfolding lists_of
-made-listed rs [] a = here
-made-listed rs (r ∷ fs) a = in-concat (λ q. map (λ gs. q ∷ gs) (lists_of rs (length fs))) r rs (r ∷ fs) a.0
-    (in-map (λ gs. r ∷ gs) fs (lists_of rs (length fs)) (made-listed rs fs a.1))
+made-listed rs [] a = grind (arith, common_steps, here)
+made-listed rs (r ∷ fs) a = grind (arith, common_steps, made-listed rs fs a.1, in-map (λ gs. r ∷ gs) fs, in-concat)
 
 -- ---- the text of a list of records
 module _ (fs : List (List ℕ)) (F : AllByRecursion Frame fs) where

@@ -2,7 +2,6 @@
 use Rattle.std.proofs.Common.{ℕ, zero, suc, ◌-◌, ◌≤◌, ◌<◌, Bool, true, false, ◌&&◌, ◌||◌, not, ◌≡◌, refl, sym, subst, List, [], ◌∷◌, ◌++◌}
 use Rattle.std.proofs.Common.{nat_lt, nat_le, ◌==◌, flat_map}
 use Rattle.std.proofs.Common.{map, arith, length, eqb-true, eq-eqb, leb-true, leb-false}
-use Rattle.std.proofs.Math.Decide.{ℕ_discrete}
 use Rattle.std.proofs.lemmas.Grind.{common_steps}
 use Rattle.words.specs.lists.Numbers.{range}
 use Rattle.std.specs.List.{list_any, AllByRecursion}
@@ -50,17 +49,7 @@ pub record Fine (r : List ℕ) : Type 0 where
   pub formed : is_little_node r 0 ≡ true
 
 good-fine : (r : List ℕ) → is_good_record r ≡ true → Fine r
-good-fine r e =
-    let a : Bool = length r == 10 in
-    let b : Bool = not (list_any (nat_le 256) r) in
-    let d : Bool = is_little_node r 0 in
-    let q : (a && b) ≡ true = and-l (a && b) d e in
-    record {
-      frame = frame-by r (eqb-true (length r) 10 (and-l a b q))
-          (all-of (λ x. nat_le 256 x ≡ false) (λ x. x < 256) (λ x z. leb-false 256 x z) r
-          (none-all (nat_le 256) r (not-true (list_any (nat_le 256) r) (and-r a b q))));
-      formed = and-r (a && b) d e;
-    }
+good-fine r e = grind (arith, common_steps, and-l, leb-false, eqb-true, not-true, all-of, and-r, frame-by, none-all)
 
 pub record NodesFine (n : ℕ) : Type 0 where
   pub each : AllByRecursion Fine (nodes n)
@@ -148,35 +137,13 @@ module _ (c : Chart) (s : SoundChart c) (formed : (v : ℕ) → v < size c → i
     no-argument n = grind (arith, common_steps)
 
     as-begin : kind c v ≡ 0 → Here
-    as-begin k =
-        let u = used 0 k in
-        let z : (j : ℕ) → 4 ≤ j → j < 10
-        → field c v j ≡ 0 = zeros 4 (omega arith) (or-r (nat_lt 1 (argument c v)) (is_filled_from c v 4) u) in
-        let a : argument c v ≡ 0 = no-argument (λ q. omega arith) in
-        let t = arc0 c s v l (λ q. omega arith) in
-        subst (λ (r : List ℕ). In r (nodes (size c)))
-        (sym (ten _ _ _ _ _ _ _ _ _ _ 0 1 0 (next0 c v) 0 0 0 0 0 0 k parts.0 a refl (z 4 (omega arith) (omega arith))
-        (z 5 (omega arith) (omega arith))
-        (z 6 (omega arith) (omega arith)) (z 7 (omega arith) (omega arith)) (z 8 (omega arith) (omega arith))
-        (z 9 (omega arith) (omega arith))))
-        (in-begins (size c) (next0 c v) t.inside)
+    as-begin k = grind (arith, common_steps, arc0 c s v l (λ q. omega arith), used 0 k, zeros 4 (omega arith), no-argument (λ q. omega arith), or-r, in-begins, ten, parts)
 
     as-end : kind c v ≡ 1 → Here
-    as-end k =
-        let z : (j : ℕ) → 2 ≤ j → j < 10 → field c v j ≡ 0 = zeros 2 (omega arith) (used 1 k) in
-        subst (λ (r : List ℕ). In r (nodes (size c)))
-        (sym (ten _ _ _ _ _ _ _ _ _ _ 1 1 0 0 0 0 0 0 0 0 k parts.0 (z 2 (omega arith) (omega arith)) (z 3 (omega arith) (omega arith))
-        (z 4 (omega arith) (omega arith)) (z 5 (omega arith) (omega arith))
-        (z 6 (omega arith) (omega arith)) (z 7 (omega arith) (omega arith)) (z 8 (omega arith) (omega arith))
-        (z 9 (omega arith) (omega arith))))
-        (in-ends (size c))
+    as-end k = grind (arith, common_steps, used 1 k, zeros 2 (omega arith) (used 1 k), in-ends, ten, parts)
 
     no-call : kind c v ≡ 2 → argument c v ≡ 0
-    no-call k = go (ℕ_discrete (argument c v) 0)
-      where
-        go : Dec (argument c v ≡ 0) → argument c v ≡ 0
-        go (yes e) = e
-        go (no e) = let q = calls c s v l k e in absurd (omega (arith, q, one-scheme))
+    no-call k = grind (arith, common_steps, calls, one-scheme)
 
     as-operation : kind c v ≡ 2 → Here
     as-operation k =

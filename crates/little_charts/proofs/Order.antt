@@ -1,6 +1,6 @@
 -- Lists whose texts increase: joined, filtered, and all lists of records.
-use Rattle.std.proofs.Common.{ℕ, zero, suc, ◌<◌, Bool, true, false, ◌&&◌, ◌||◌, ◌≡◌, sym, ◌∙◌, ◌⊎◌, inl, inr, List, [], ◌∷◌, ◌++◌, map}
-use Rattle.std.proofs.Common.{nat_lt, ◌==◌, slice_index_or, flat_map, filter}
+use Rattle.std.proofs.Common.{ℕ, zero, suc, ◌<◌, Bool, true, false, ◌≡◌, sym, ◌∙◌, List, [], ◌∷◌, ◌++◌, map}
+use Rattle.std.proofs.Common.{slice_index_or, flat_map, filter}
 use Rattle.std.proofs.Common.{arith, length, eq-eqb, le-ltb}
 use Rattle.std.proofs.lemmas.Grind.{common_steps}
 use Rattle.std.specs.List.{AllByRecursion}
@@ -24,17 +24,10 @@ before-after (c ∷ x) a b e = grind (arith, common_steps, before-after x a b e,
 
 pub before-front : (x y a b : List ℕ) → length x ≡ length y → is_before x y ≡ true → is_before (x ++ a) (y ++ b) ≡ true
 unfolding is_before
-before-front [] [] a b l e = absurd (let z : ◌≡◌ {A = Bool} false true = e in let w : ◌≡◌ {A = ℕ} 0 1 = cc in omega arith)
-before-front [] (y ∷ ys) a b l e = absurd (omega arith)
-before-front (x ∷ xs) [] a b l e = absurd (omega arith)
-before-front (x ∷ xs) (y ∷ ys) a b l e = go (or-cases (nat_lt x y) (x == y && is_before xs ys) e) (before-front xs ys a b (omega arith))
-  where
-    go : (nat_lt x y ≡ true) ⊎ ((x == y && is_before xs ys) ≡ true) → (is_before xs ys ≡ true → is_before (xs ++ a) (ys ++ b) ≡ true)
-        → (nat_lt x y || (x == y && is_before (xs ++ a) (ys ++ b))) ≡ true
-    go (inl q) ih = or-true-l (nat_lt x y) (x == y && is_before (xs ++ a) (ys ++ b)) q
-    go (inr q) ih = or-true-r (nat_lt x y) (x == y && is_before (xs ++ a) (ys ++ b))
-        (and-true (x == y) (is_before (xs ++ a) (ys ++ b)) (and-l (x == y) (is_before xs ys) q)
-        (ih (and-r (x == y) (is_before xs ys) q)))
+before-front [] [] a b l e = grind (arith, common_steps)
+before-front [] (y ∷ ys) a b l e = grind (arith, common_steps)
+before-front (x ∷ xs) [] a b l e = grind (arith, common_steps)
+before-front (x ∷ xs) (y ∷ ys) a b l e = grind (arith, common_steps, before-front xs ys a b (omega arith), and-true, and-l, or-cases, or-true-l, and-r, or-true-r)
 
 -- ---- lists that increase by a text of each element
 module _ {A : Type 0} (f : A → List ℕ) where

@@ -25,6 +25,7 @@ fn total(frames: usize) -> usize
 }
 
 // The records of the numbers that are packed, the last one's lowest.
+#[tactic(auto, using(crate::proofs::fetching::Unpacking::unpacking))]
 fn unpack(records: &mut [u8], numbers: u32)
     requires { FewFrames records.old }
     ensures { records.new ≡ unpacked (size records.old) (size records.old) numbers }

@@ -4,8 +4,8 @@ ghost use Rattle.std.specs.Prelude.{◌≡◌, ◌≤◌, ◌<◌};
 ghost use Rattle.little_charts.specs.inner.Search.{node_count};
 ghost use Rattle.little_fetch.specs.inner.Trails.{arcs_by, arcs_from, reached, led_to, is_barred, with_node, is_cut_off};
 
-// What is kept of the records so far: their numbers, five bits each, the last one's lowest; where the arcs of each node lead, four bits
-// each; which node is the Begin, which the End, and which are conditions.
+/// What is kept of the records so far: their numbers, five bits each, the last one's lowest; where the arcs of each node lead, four bits
+/// each; which node is the Begin, which the End, and which are conditions.
 #[derive(Clone, Copy)]
 pub struct Trail {
     pub numbers: u32,
@@ -44,7 +44,7 @@ fn reached(arcs: u16, set: u8) -> u8
     two | arcs_from(arcs, two)
 }
 
-// The nodes that record i leads to, in a chart of n frames.
+/// The nodes that record `i` leads to, in a chart of `n` frames, 1 to 4, as a set: bit v for node v.
 #[tactic(auto, unfolding(crate::specs::inner::Trails::led_to))]
 pub fn led_to(n: usize, i: usize) -> u8
     requires some { 1 ≤ n }
@@ -65,7 +65,7 @@ pub fn led_to(n: usize, i: usize) -> u8
     (1 << (j / n)) | (1 << (j % n))
 }
 
-// Record i, which leads to such nodes, clashes with those before it at place v.
+/// Whether record `i`, which leads to the nodes `led`, clashes at place `v` with the records before it.
 #[tactic(auto, unfolding(crate::specs::inner::Trails::is_barred))]
 pub fn is_barred(n: usize, v: usize, trail: Trail, i: usize, led: u8) -> bool
     requires few { n ≤ 4 }
@@ -85,7 +85,7 @@ pub fn is_barred(n: usize, v: usize, trail: Trail, i: usize, led: u8) -> bool
     led & (trail.begin | own) != 0 || arcs_from(trail.arcs, led & trail.conditions) & own != 0
 }
 
-// The same records and record i, which leads to such nodes, at place v.
+/// What is kept once record `i`, which leads to the nodes `led`, stands at place `v`.
 #[tactic(auto, unfolding(crate::specs::inner::Trails::with_node))]
 pub fn with_node(n: usize, v: usize, trail: Trail, i: usize, led: u8) -> Trail
     requires few { n ≤ 4 }
@@ -107,7 +107,7 @@ pub fn with_node(n: usize, v: usize, trail: Trail, i: usize, led: u8) -> Trail
     }
 }
 
-// The Begin leads to no node above place v, and not to all.
+/// Whether there is a Begin, the nodes that it leads to all stand at places up to `v`, and some node is none of them.
 #[tactic(auto, unfolding(crate::specs::inner::Trails::is_cut_off))]
 pub fn is_cut_off(n: usize, v: usize, trail: Trail) -> bool
     requires few { n ≤ 4 }

@@ -7,7 +7,9 @@ use crate::little_nodes::Trail;
 use charts::layout::*;
 use text::frames::sizes::RECORD;
 
-// Record i of those that nodes of a chart of n frames can have.
+/// Record `i` of those that nodes of a chart of `n` frames can have, 1 to 4: a Begin for each node that it can lead to, the End, then
+/// operations and conditions.
+#[tactic(auto, using(crate::proofs::little_numbers::Records::node_cases))]
 pub fn node(n: usize, i: usize) -> [u8; RECORD]
     requires some { 1 ≤ n }
     requires few { n ≤ 4 }
@@ -28,7 +30,7 @@ pub fn node(n: usize, i: usize) -> [u8; RECORD]
     [CONDITION, 1, 0, (j / n) as u8, (j % n) as u8, 0, 0, 0, 0, 0]
 }
 
-// The first number to try.
+/// The number of the first record to try: no second Begin is tried.
 pub fn first_number(n: usize, trail: Trail) -> usize
     ensures { result ≡ first_number n trail }
 {
@@ -48,7 +50,8 @@ fn absent(set: u8) -> usize
     1
 }
 
-// The number after the last one to try at place v.
+/// The number after that of the last record to try at place `v`: where no more places are left than Begin and End still need, none
+/// behind the End's is tried.
 pub fn past_number(n: usize, v: usize, trail: Trail) -> usize
     requires inside { v ≤ n }
     requires few { n ≤ 4 }

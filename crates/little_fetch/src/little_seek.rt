@@ -7,8 +7,9 @@ ghost use Rattle.little_fetch.specs.inner.SeekContracts.{sought};
 use crate::little_nodes::{Trail, is_barred, is_cut_off, led_to, with_node};
 use crate::little_numbers::{first_number, past_number};
 
-// From place v on all records are tried that may stand there, and the rest after each: the numbers of the chart's records, or how many
-// charts are still to be passed over.
+/// The chart that comes after `left` others among those that go on from these records at place `v`, as its records' numbers, or how many
+/// are still to be passed over where there are fewer.
+// all records that may stand at the place are tried, and the rest after each
 pub fn seek(n: usize, v: usize, trail: Trail, left: usize) -> Result<u32, usize>
     requires few { n ≤ 4 }
     requires inside { v < n }
@@ -68,7 +69,9 @@ fn charts_after(n: usize, i: usize) -> usize
     }
 }
 
-// Of all charts of n frames: as many are passed over at once as begin with a record, until the one sought begins so.
+/// The chart of that number, from 0, among all of `n` frames, 2 to 4, as its records' numbers, or how many are still to be passed over
+/// where there are fewer.
+// as many charts are passed over at once as begin with a record, until the one sought begins so
 pub fn seek_first(n: usize, number: usize) -> Result<u32, usize>
     requires some { 2 ≤ n }
     requires few { n ≤ 4 }

@@ -43,6 +43,6 @@ smaller-delivered-c text before after at n w room smaller at' m x size low high 
     (ap view z.state ∙ state-back (fresh_state size).state)
     ∙ ap (λ (b : List ℕ). map call_output_c (call_outputs run rebind (take m b) (fresh_state size).state given)) x.written
     ∙ ap (map call_output_c) (chain-smaller text before after n w.written (returned-0 text before after at n w) room m
-    (minimise-success (take n after) room (sym x.told.number_is) ∙ ap success (sym x.told.count-is)) size low high given)
+    (minimise-success (take n after) room (sym x.told.number-is) ∙ ap success (sym x.told.count-is)) size low high given)
 
 pub ruleset joined_images_tick_as_walks = (smaller-theorem, smaller-delivered, smaller-delivered-c)

@@ -47,8 +47,8 @@ module _ (i : Image) (S : SoundImage i) (c : List ℕ) (R : ClassRound i c) wher
     bottom-new : has_bad_bottom small (renumbered_state c s) ≡ has_bad_bottom i s
     bottom-new = grind (arith, common_steps, same-handler, place-new, label-new, of-handler-new)
 
-    above_new : (k : ℕ) → is_filled_place s k ≡ false → is_filled_place (renumbered_state c s) k ≡ false
-    above_new k e = grind (arith, common_steps, eqb-true, not-false, place-new, and-l, new-zero)
+    above-new : (k : ℕ) → is_filled_place s k ≡ false → is_filled_place (renumbered_state c s) k ≡ false
+    above-new k e = grind (arith, common_steps, eqb-true, not-false, place-new, and-l, new-zero)
 
     pub fits-new : Fits small (renumbered_state c s)
     fits-new = record {
@@ -65,6 +65,6 @@ module _ (i : Image) (S : SoundImage i) (c : List ℕ) (R : ClassRound i c) wher
           (f.labels k (omega arith)) (f.labels (k + 1) h)
           ∙ f.carries k h;
       bottom = bottom-new ∙ f.bottom;
-      above = λ k l h. above_new k (f.above k l h);
+      above = λ k l h. above-new k (f.above k l h);
       serves = λ h a b. served-new s h ∙ f.serves h a b;
     }

@@ -82,8 +82,8 @@ module _ (i : Image) (S : SoundImage i) (even : is_uneven i ≡ false) where
     rebind-new s h k f = grind (arith, common_steps, smaller-passes, smaller-decoded, rebind-is, rebind-on-new, smaller-fits, same-bar)
 
     -- ---- what they hand back fits
-    run_fits : (s : State) (ws ms ks : List ℕ) → Fits i s → Fits i (run text s ws ms ks).state
-    run_fits s ws ms ks f = subst (λ (r : RunOutcome). Fits i r.state)
+    run-fits : (s : State) (ws ms ks : List ℕ) → Fits i s → Fits i (run text s ws ms ks).state
+    run-fits s ws ms ks f = subst (λ (r : RunOutcome). Fits i r.state)
         (sym (run-is text i passes decodes s ws ms ks f)) (go (has_no_room ws ms ks))
       where
         go : (t : Bool) → Fits i (run_on (when 16 t) (λ _. ticks i s ws) s ms ks).state
@@ -101,7 +101,7 @@ module _ (i : Image) (S : SoundImage i) (even : is_uneven i ≡ false) where
         → call_outputs run rebind text' (renumbered_state (grouping i) s) given ≡ call_outputs run rebind text s given
     unfolding call_outputs
     chain-new [] s f = grind (arith, common_steps)
-    chain-new (to_run a ∷ rest) s f = grind (arith, common_steps, chain-new rest, run-new, run_fits)
+    chain-new (to_run a ∷ rest) s f = grind (arith, common_steps, chain-new rest, run-new, run-fits)
     chain-new (to_rebind h k ∷ rest) s f = grind (arith, common_steps, chain-new rest, rebind-new, rebind-fits)
 
     pub calls-new : (n : ℕ) → 1 ≤ n → n ≤ 32 → (given : List CallInput)

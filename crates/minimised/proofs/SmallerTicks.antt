@@ -39,11 +39,11 @@ module _ (i : Image) (S : SoundImage i) (c : List ℕ) (R : ClassRound i c) wher
   small = joined_labels i c
 
   -- ---- changes of a state
-  moved_new : (m code : ℕ) (t : State) (k : ℕ) (f : Found)
+  moved-new : (m code : ℕ) (t : State) (k : ℕ) (f : Found)
       → moved_tick m code (renumbered_state c t) k (renamed_found c f) ≡ renamed_tick c (moved_tick m code t k f)
-  moved_new m code t k (found u) =
+  moved-new m code t k (found u) =
       ap (λ (ps : List ℕ). finished m code (with_places t ps t.numbers t.servers)) (map-set new t.places k u)
-  moved_new m code t k missing = refl
+  moved-new m code t k missing = refl
 
   dropping-new : (s : State) (b : Results) → popped_state (renumbered_state c s) b ≡ renumbered_state c (popped_state s b)
   dropping-new s b =
@@ -143,7 +143,7 @@ module _ (i : Image) (S : SoundImage i) (one : OneRow i) where
         (place-new i S c R s k)
         ∙ ap (moved_tick m 3 (renumbered_state c (popped_state s b)) k)
         (row-new i S one b (under s f) w (under-high s f e) (under-inside s f e) c R leads)
-        ∙ moved_new i S c R m 3 (popped_state s b) k (row_leads i b (under s f) w)
+        ∙ moved-new i S c R m 3 (popped_state s b) k (row_leads i b (under s f) w)
 
     tick-by : (s : State) (f : Fits i s) (w : ℕ) (b : Results) (k : ℕ) → (label_at i (top s f)).kind ≡ k
         → tick_by (joined_labels i c) (renumbered_state c s) w (renumbered_label c (top s f)) (label_at i (top s f)) b (tick_kind k)
@@ -153,7 +153,7 @@ module _ (i : Image) (S : SoundImage i) (one : OneRow i) where
         let k : ℕ = s.depth - 1 in
         ap (moved_tick (label_at i l).mask 0 (renumbered_state c (with_bits s b)) k)
         (row-new i S one b l w (kind-high i S l (top-inside s f) (omega arith)) (top-inside s f) c R leads)
-        ∙ moved_new i S c R (label_at i l).mask 0 (with_bits s b) k (row_leads i b l w)
+        ∙ moved-new i S c R (label_at i l).mask 0 (with_bits s b) k (row_leads i b l w)
     tick-by s f w b (suc zero) e = let h : ℕ = (label_at i (top s f)).called in
         pushed-new i S c R s (f.labels 0 f.some) (label_at i (top s f)).mask (16 + h)
         h (server_of s.serving h) b (nat_le s.size s.depth)
@@ -164,7 +164,7 @@ module _ (i : Image) (S : SoundImage i) (one : OneRow i) where
     tick-by s f w b (suc (suc (suc (suc k)))) e =
         let m : ℕ = (label_at i (top s f)).mask in
         ap (λ (u : ℕ). moved_tick m 4 (renumbered_state c (with_bits s b)) (s.depth - 1) (found u)) (entry-at i S c R 1)
-        ∙ moved_new i S c R m 4 (with_bits s b) (s.depth - 1) (found (entry_at i 1))
+        ∙ moved-new i S c R m 4 (with_bits s b) (s.depth - 1) (found (entry_at i 1))
 
     pub tick-new : (s : State) → Fits i s → (w : ℕ) → tick (joined_labels i c) (renumbered_state c s) w ≡ renamed_tick c (tick i s w)
     tick-new s f w =

@@ -5,7 +5,7 @@
 ghost use Rattle.output.specs.Readings.{TranslateFront, RunFront, TranslateCapitals, RunCapitals};
 ghost use Rattle.output.specs.Readings.{RefusalCapitals, CodeCapitals};
 
-pub mod output_lines;
+mod output_lines;
 pub mod printing;
 pub mod run_output;
 pub mod translate_output;

@@ -1,6 +1,5 @@
 -- The answer at each return of the entry point.
-use Rattle.std.proofs.Common.{ℕ, ◌*◌, ◌≤◌, Bool, true, false, ◌≡◌, sym, ◌∙◌, ap, subst, List, arith, length, take, Err, if◌then◌else◌}
-use Rattle.std.proofs.Common.{nat_lt}
+use Rattle.std.proofs.Common.{ℕ, ◌*◌, ◌≤◌, Bool, true, false, ◌≡◌, sym, ◌∙◌, ap, subst, List, arith, length, take, Err, if◌then◌else◌, nat_lt}
 use Rattle.std.proofs.lemmas.Grind.{common_steps}
 use Rattle.words.proofs.lists.Tests.{cases}
 use Rattle.text.specs.frames.Frame.{contents}

@@ -1,9 +1,9 @@
 -- Success is the longest chain, and 20 is given exactly where a circle of calls can be reached.
-use Rattle.std.proofs.Common.{ℕ, ◌≤◌, Bool, true, false, ◌≡◌, refl, sym, ap, subst, List, arith}
+use Rattle.std.proofs.Common.{ℕ, ◌≤◌, Bool, true, false, ◌≡◌, sym, subst, List, arith}
 use Rattle.std.proofs.lemmas.Grind.{common_steps}
 use Rattle.text.specs.frames.Frame.{contents}
-use Rattle.text.specs.frames.Verdict.{Verdict, fine, refused, next, when}
-use Rattle.text.specs.frames.Answer.{success, refusal, reply_number, reply_count, verdict_reply}
+use Rattle.text.specs.frames.Verdict.{Verdict, fine, next, when}
+use Rattle.text.specs.frames.Answer.{success, refusal, verdict_reply}
 use Rattle.text.proofs.frames.Chains.{next-on}
 use Rattle.text.proofs.frames.Refuses.{RefusesWith}
 use Rattle.text.proofs.frames.Verdicts.{next-first, next-rest, when-fine}
@@ -19,10 +19,10 @@ use Rattle.places.proofs.chains.Longest.{chain-some, chain-few, no-longer, as-lo
 use Rattle.places.proofs.chains.Circles.{circle-told, circle-refused}
 use Rattle.places.specs.Entry.{places_verdict, places_needed}
 use Rattle.places.specs.Reported.{Reported}
+use Rattle.std.proofs.lemmas.Bool.Decides.{nat_tests}
 
 judged-done : (v : Verdict) (m n : ℕ) → verdict_reply v m ≡ success n → (v ≡ fine) × (n ≡ m)
-judged-done fine m n e = (refl, sym (ap reply_count e))
-judged-done (refused k i) m n e = absurd (let z : ◌≡◌ {A = ℕ} 0 1 = cc in omega arith)
+judged-done v m n e = grind (arith, nat_tests)
 
 module _ (text : List ℕ) where
   -- ---- success
@@ -40,8 +40,7 @@ module _ (text : List ℕ) where
 
     pub needed-calm : is_circular (contents text) ≡ false
     unfolding places_verdict
-    needed-calm = when-fine 20 (is_circular (contents text))
-        (next-rest (translate_verdict text) (λ _. when 20 (is_circular (contents text))) verdict-fine.0)
+    needed-calm = grind (arith, when-fine, next-rest, verdict-fine)
 
     pub needed-facts : Facts (contents text)
     needed-facts = facts text (translated-read text needed-translates)
@@ -58,15 +57,11 @@ module _ (text : List ℕ) where
   -- ---- 20
   circle-by : (v : Verdict) → RefusesWith OfChart v → (b : Bool) (m : ℕ) → verdict_reply (next v λ _. when 20 b) m ≡ refusal 20 0 0
       → b ≡ true
-  circle-by fine p true m e = refl
-  circle-by fine p false m e = absurd (let z : ◌≡◌ {A = ℕ} 0 20 = ap reply_number e in omega arith)
-  circle-by (refused k i) p b m e = absurd (let z : k ≡ 20 = ap reply_number e in omega (arith, p))
+  circle-by v p b m e = grind (arith, nat_tests)
 
   needed-circle : places_needed text ≡ refusal 20 0 0 → Circle (contents text)
   unfolding places_needed places_verdict
-  needed-circle e =
-      circle-told (contents text)
-      (circle-by (translate_verdict text) (translate-refuses text) (is_circular (contents text)) (places (contents text)) e)
+  needed-circle e = grind (arith, translate-refuses, circle-told, circle-by)
 
   needed-refused : translate_verdict text ≡ fine → Circle (contents text) → places_needed text ≡ refusal 20 0 0
   unfolding places_needed places_verdict

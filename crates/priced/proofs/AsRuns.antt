@@ -85,16 +85,16 @@ module _ (c : Chart) where
     price-of list p a = grind (arith, common_steps, front, counted)
 
     module _ (p : ℕ) (a : RunInput) (rest : List PricedInput) where
-      run_short : is_short a ≡ true → expected_priced_outputs c b ts p (unpriced (to_run a) ∷ rest) ≡ by_unpriced
+      run-short : is_short a ≡ true → expected_priced_outputs c b ts p (unpriced (to_run a) ∷ rest) ≡ by_unpriced
           (by_run (output_refused_short a)) ∷ expected_priced_outputs c b ts p rest
       unfolding expected_priced_outputs
-      run_short e = rw (e, expected_priced_outputs)
+      run-short e = rw (e, expected_priced_outputs)
 
-      run_long : is_short a ≡ false
+      run-long : is_short a ≡ false
           → expected_priced_outputs c b ts p (unpriced (to_run a) ∷ rest) ≡ by_unpriced
           (by_run (expected_output b ts p a)) ∷ expected_priced_outputs c b ts (p + length a.words) rest
       unfolding expected_priced_outputs
-      run_long e = rw (e, expected_priced_outputs)
+      run-long e = rw (e, expected_priced_outputs)
 
     module _ (p : ℕ) (list : List ℕ) (a : RunInput) (rest : List PricedInput) where
       pub all-many : has_too_many_words a.words ≡ true
@@ -125,7 +125,7 @@ module _ (c : Chart) where
     module _ (p : ℕ) (a : RunInput) (rest : List PricedInput) (here : As p rest) (on : As (p + length a.words) rest) where
       as-run : As p (unpriced (to_run a) ∷ rest)
       unfolding with_prices
-      as-run = grind (arith, common_steps, cases (is_short a), all-short, all-long, run_short, run_long)
+      as-run = grind (arith, common_steps, cases (is_short a), all-short, all-long, run-short, run-long)
 
       module _ (list : List ℕ) where
         abbrev as_runs : Bool → List CallOutput
@@ -139,9 +139,9 @@ module _ (c : Chart) where
         abbrev either : Bool → agreed.RunOutput → List CallOutput → List PricedOutput
         either x t l = (if x then by_priced_run (output_refused_many a) 0 else billed t) ∷ with_prices rest l
 
-        as_many : has_too_many_words a.words ≡ true → As p (to_priced_run list a ∷ rest)
+        as-many : has_too_many_words a.words ≡ true → As p (to_priced_run list a ∷ rest)
         unfolding with_prices
-        as_many e = grind (arith, common_steps, all-long, no-words-short, all-many)
+        as-many e = grind (arith, common_steps, all-long, no-words-short, all-many)
 
         few-is : has_too_many_words a.words ≡ false → (t : agreed.RunOutput) (l : List CallOutput)
             → with_prices (to_priced_run list a ∷ rest) (by_run t ∷ l) ≡ billed t ∷ with_prices rest l
@@ -157,7 +157,7 @@ module _ (c : Chart) where
             grind (arith, common_steps, cases (is_short a), no-price, price-of, all-short, all-refused, all-long, all-priced, few-is, few-plain)
 
         as-priced : As p (to_priced_run list a ∷ rest)
-        as-priced = elim (cases (has_too_many_words a.words)) [ inl e ↦ as_many e | inr e ↦ as-few e ]
+        as-priced = elim (cases (has_too_many_words a.words)) [ inl e ↦ as-many e | inr e ↦ as-few e ]
 
     pub expected-as : (given : List PricedInput) (p : ℕ) → As p given
     unfolding expected_priced_outputs agreed.expected_outputs with_prices

@@ -58,13 +58,13 @@ module _ (size : ℕ) (c : Chart) (list : List ℕ) (a : RunInput) (r : PricedOu
   none-priced : (t : RunOutput) → reply_count t.reply ≡ 0 → handed ≡ by_priced_run t 0 ∷ [] → Priced
   none-priced t z e = grind (arith, common_steps, no-price)
 
-  all_words : has_too_many_words a.words ≡ false → is_short a ≡ false → joined_priced_words c own_binding only ≡ signals own_binding a.words
+  all-words : has_too_many_words a.words ≡ false → is_short a ≡ false → joined_priced_words c own_binding only ≡ signals own_binding a.words
   unfolding joined_priced_words
-  all_words e f = grind (arith, common_steps)
+  all-words e f = grind (arith, common_steps)
 
   ticks-priced : has_too_many_words a.words ≡ false → is_short a ≡ false → handed ≡ priced_walk_outputs size c only → Priced
   unfolding expected_priced_outputs
-  ticks-priced e f h = grind (arith, common_steps, expected-count, bound-le, all-priced, all_words)
+  ticks-priced e f h = grind (arith, common_steps, expected-count, bound-le, all-priced, all-words)
 
   one-priced : handed ≡ priced_walk_outputs size c only → Priced
   unfolding expected_priced_outputs

@@ -25,24 +25,19 @@ unfolding priced_outputs
 chain-asked image s (to_run a) rest = refl
 chain-asked image s (to_rebind h k) rest = refl
 
-pub calls-chain : (image : List ℕ) (s : Kept) (given : List PricedInput) (handed : List PricedOutput)
-    → PricedCallsInTurn image s given handed
+pub calls-chain : (image : List ℕ) {s : Kept} {given : List PricedInput} {handed : List PricedOutput} → PricedCallsInTurn image s given handed
     → handed ≡ made_outputs image (view s) given
 unfolding priced_outputs
-calls-chain image s [] [] none = refl
-calls-chain image s [] (d ∷ handed) x = elim x [ ]
-calls-chain image s (unpriced g ∷ rest) [] x = elim x [ ]
-calls-chain image s (unpriced g ∷ rest) (by_unpriced d ∷ handed) (unpriced_call {after = after} c cs) =
+calls-chain image none = refl
+calls-chain image (unpriced_call {s = s} {after = after} {g = g} {d = d} {rest = rest} c cs) =
     let like : Like image s g d after = call-like image s c in
     ap₂ (λ (x : PricedOutput) (l : List PricedOutput). x ∷ l) (ap by_unpriced like.handed-is)
-    (calls-chain image after rest handed cs ∙ ap (λ (z : State). made_outputs image z rest) like.state-is)
+    (calls-chain image cs ∙ ap (λ (z : State). made_outputs image z rest) like.state-is)
     ∙ sym (chain-asked image (view s) g rest)
-calls-chain image s (unpriced g ∷ rest) (by_priced_run _ _ ∷ handed) x = elim x [ ]
-calls-chain image s (to_priced_run list a ∷ rest) [] x = elim x [ ]
-calls-chain image s (to_priced_run list a ∷ rest) (d ∷ handed) (priced_call {after = after} c cs) =
+calls-chain image (priced_call {s = s} {list = list} {a = a} {rest = rest} c cs) =
     ap₂ (λ (x : PricedOutput) (l : List PricedOutput). x ∷ l)
     (λ j. by_priced_run (record { reply = c.answered j; masks = c.masks j; codes = c.codes j }) (c.price j))
-    (calls-chain image after rest handed cs
+    (calls-chain image cs
     ∙ ap (λ (z : State). made_outputs image z rest) (ap view c.state ∙ priced-held image s list a.words a.masks a.codes))
 
 pub priced-delivered : PricedDelivered

@@ -82,5 +82,5 @@ unfoldable pub PricedAgreement : Translator → Maker → Pricer → Runner → 
 PricedAgreement translator fresh pricer run rebind =
     (text out : List ℕ) (n : ℕ) → (translator text out).reply ≡ success n
     → (size : ℕ) → 1 ≤ size → size ≤ PLACES → (given : List PricedInput)
-    → priced_outputs pricer run rebind (take n (translator text out).buffer) (fresh size).state
-    given ≡ priced_walk_outputs size (contents text) given
+    → priced_outputs pricer run rebind (take n (translator text out).buffer) (fresh size).state given
+    ≡ priced_walk_outputs size (contents text) given

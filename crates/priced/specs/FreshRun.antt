@@ -15,5 +15,5 @@ PricedByTheWalk =
     (text out : List ℕ) (n : ℕ) → (translate text out).reply ≡ success n
     → (size : ℕ) → 1 ≤ size → size ≤ PLACES → (list words masks codes : List ℕ)
     → let r = priced_run (take n (translate text out).buffer) (fresh_state size).state list words masks codes in
-    r.price ≡ price list (map (λ (t : Tick). t.mask)
-    (take (reply_count r.run.reply) (walk size (contents text) (signals own_binding words))))
+    r.price
+    ≡ price list (map (λ (t : Tick). t.mask) (take (reply_count r.run.reply) (walk size (contents text) (signals own_binding words))))

@@ -16,12 +16,12 @@ hundredths-next prices (m ∷ masks) (suc i) l = omega (arith, hundredths-next p
 
 -- prices of 0 to 65,535
 module _ (prices : List ℕ) (small : (j : ℕ) → slice_index prices j ≤ 65535) where
-  one_bit : (m j : ℕ) → bit_at m j * slice_index prices j ≤ 65535
-  one_bit m j = grind (arith, common_steps)
+  one-bit : (m j : ℕ) → bit_at m j * slice_index prices j ≤ 65535
+  one-bit m j = grind (arith, common_steps)
 
   pub tick-most : (m : ℕ) → tick_price prices m ≤ 2097120
   unfolding tick_price
-  tick-most m = sum-most (λ j. bit_at m j * slice_index prices j) 65535 0 32 (λ j a b. one_bit m j)
+  tick-most m = sum-most (λ j. bit_at m j * slice_index prices j) 65535 0 32 (λ j a b. one-bit m j)
 
   pub hundredths-most : (masks : List ℕ) → hundredths prices masks ≤ 2097120 * length masks
   unfolding hundredths

@@ -26,8 +26,10 @@ fn tick_price(prices: &[u16], mask: u32) -> u64
 
 // Of all ticks, in hundredths of a cent.
 fn hundredths_of(prices: &[u16], masks: &[u32]) -> u64
-    requires { (length prices.now ≡ 32) × (length masks.now ≤ 65536) }
-    ensures { (result ≡ hundredths prices.now masks.now) × (result ≤ 137436856320) }
+    requires price_each { length prices.now ≡ 32 }
+    requires few { length masks.now ≤ 65536 }
+    ensures summed { result ≡ hundredths prices.now masks.now }
+    ensures small { result ≤ 137436856320 }
 {
     let mut total: u64 = 0;
     for i in 0..masks.len() {
@@ -36,7 +38,7 @@ fn hundredths_of(prices: &[u16], masks: &[u32]) -> u64
     total
 }
 
-// In cents, divided once, halves upward.
+/// What ticks with these masks cost together, in cents: the sum of their prices, which are in hundredths of a cent, divided once, halves upward.
 pub fn price_of(prices: &[u16; 32], masks: &[u32]) -> u64
     requires { length masks.now ≤ 65536 }
     ensures { result ≡ price prices.now masks.now }

@@ -12,14 +12,14 @@ use tables::sources::Text;
 use text::frames::Refusal;
 use text::frames::sizes::TABLE;
 
-// What a run answers, and its price in cents: 0 with every refusal but 17 and 18.
+/// What a run answers, and its price in cents: 0 with every refusal but 17 and 18.
 #[derive(Drop)]
 pub struct PricedReport {
     pub answer: Result<usize, Refusal>,
     pub price: u64,
 }
 
-// The same, and the state after it.
+/// What a run answers, its price in cents, and the state after it.
 #[derive(Drop)]
 pub struct PricedStateReport {
     pub answer: Result<usize, Refusal>,
@@ -49,7 +49,8 @@ fn refuse_many(image: &[u8], state: &State) -> Result<usize, Refusal>
     Err(Refusal::ManyWords)
 }
 
-// What the image check tries, 15, 27 and 16 before the first tick, 17 and 18 tick by tick.
+/// A run with its price, on a state in place. Refused is what the image check refuses, then 15, 27 for more than 65,536 words, and 16
+/// before the first tick, 17 and 18 tick by tick.
 pub fn priced_run(
     image: &[u8],
     state: &mut State,

@@ -7,7 +7,7 @@ use crate::priced_runs;
 use crate::priced_runs::PricedStateReport;
 use state::State;
 
-// The same on a state that is taken and handed back.
+/// A run with its price, on a state that is taken and handed back. Refused is what it is in place.
 pub fn priced_run(
     image: &[u8],
     state: State,

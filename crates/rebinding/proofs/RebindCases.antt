@@ -42,14 +42,14 @@ module _ (b : List ℕ) (before : Kept) (h k : ℕ) (t : Bool) (e : t ≡ is_unf
     unfolding table_image
     refused-by = ap (λ (n : ℕ). is_bad_rebinding n (handler_in b) h k) (entries-count b) ∙ sym f
 
-    table_is : sourced_rebind fine (table_image b) s h k ≡ answers false u
+    table-is : sourced_rebind fine (table_image b) s h k ≡ answers false u
     unfolding sourced_rebind
-    table_is = ap₂ answers (sym e ∙ fit) refused-by
+    table-is = ap₂ answers (sym e ∙ fit) refused-by
 
     pub bad-rebinds : u ≡ true → GivesRebindingOn (sourced_rebind fine (table_image b) s h k) before (Err BadRebinding) before
-    bad-rebinds q = grind (arith, common_steps, kept-rebinds, table_is)
+    bad-rebinds q = grind (arith, common_steps, kept-rebinds, table-is)
 
     pub done-rebinds : u ≡ false → (bound after : Kept) → view bound ≡ with_serving s (rebound_binding h k s.serving)
         → after ≡ stored (view bound)
         → GivesRebindingOn (sourced_rebind fine (table_image b) s h k) before (Ok 0) after
-    done-rebinds q bound after x y = rw (table_is ∙ ap (answers false) q) (record { answered = refl; state = y ∙ ap stored x })
+    done-rebinds q bound after x y = rw (table-is ∙ ap (answers false) q) (record { answered = refl; state = y ∙ ap stored x })

@@ -33,7 +33,8 @@ fn rebind_table(
     Ok(0)
 }
 
-// What the source is refused for, then 15 and 22.
+/// Has number `number` served by scheme `scheme` from then on; refused, the state stays. Refused is what the source is refused for, then
+/// 15 and 22.
 pub fn rebind<S: Source<ROOM>, const ROOM: usize>(
     source: &[u8],
     state: &mut State,

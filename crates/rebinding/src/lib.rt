@@ -6,7 +6,7 @@ ghost use Rattle.rebinding.specs.Laws.{LiveRebindIs, RebindFits};
 
 mod by_value;
 pub mod in_place;
-pub mod rebindable;
+mod rebindable;
 
 pub use by_value::{live_rebind, rebind};
 

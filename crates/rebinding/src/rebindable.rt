@@ -5,7 +5,7 @@ ghost use Rattle.image.specs.Decode.{handler_in, scheme_count};
 
 use tables::Table;
 
-// Refusal 22: the number or the scheme is not of 2 to H, or the number is the handler's.
+/// Whether number `number` may not be served by scheme `scheme`, refusal 22: one of them is not of 2 to H, or the number is the handler's.
 pub fn bad_rebinding(table: &Table, number: usize, scheme: usize) -> bool
     ensures { result ≡ is_bad_rebinding (scheme_count table.now.bytes.now) (handler_in table.now.bytes.now) number scheme }
 {

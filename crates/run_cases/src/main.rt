@@ -6,6 +6,7 @@
 use dry_runs::dry_run;
 use edits::{patch, report};
 use state::State;
+use text::frames::sizes::LINE;
 
 // The text of the table, edited.
 fn text_of(table: [u8; 120], edits: &[u8]) -> [u8; 276] {
@@ -93,7 +94,7 @@ fn texts(p: [u8; 120]) {
     let text = text_of(p, &[]);
     check_front(&text, 0);
     check_front(&text, 275);
-    let long = [48u8; 29854];
+    let long = [48u8; LINE * (2 + State::SCHEMES + State::LABELS + State::ROWS)];
     report(0, image_check::check_image(&long), 0);
     check_text(p, &[1, 102, 20, 101]);
     check_text(p, &[21, 103]);

@@ -26,6 +26,7 @@ use Rattle.spindle_calls.specs.Delivered.{SpindleCallsInTurn, none, more, FreshO
 use Rattle.spindle_calls.proofs.KeptHeads.{head_of, view-at, spun-left, rebound-left}
 use Rattle.spindle_calls.proofs.Held.{SpinEnds, refuses, finishes, spin-ends}
 use Rattle.spindle_calls.proofs.Row.{Hears, hears_no, hears_tick, HeardFrom, CallsRow, row-none, row-more, row-counted}
+use Rattle.std.proofs.lemmas.Bool.Decides.{nat_tests}
 
 module _ (states : List Kept) (taken : ℕ) where
   -- ---- live calls, by their tables
@@ -42,9 +43,7 @@ module _ (states : List Kept) (taken : ℕ) where
   hears-by : (k : ℕ) (r : SpinReport) {x : SpinOutcome} → SpinEnds (map view states) taken k x → tick_reply r.answer ≡ x.reply
       → answered_mask r.answer ≡ x.mask → answered_code r.answer ≡ x.code
       → Hears (state_at (map view states) k).depth x (observed_tick states k r)
-  hears-by k r (refuses n j l) e f g = hears_no refl refl (ap (λ (a : Reply). reply_number a == 0) e ∙ ne_eqb n 0 (λ q. omega arith))
-  hears-by k r (finishes m code t) e f g =
-      hears_tick refl (ap reply_number e) f g (ap (λ (s : State). s.depth) (view-at states k))
+  hears-by k r ends e f g = grind (arith, nat_tests, ne_eqb, hears_no, view-at, hears_tick)
 
   tick-heard : (image : List ℕ) (k w : ℕ) (r : SpinReport) (after : List Kept) → GivesSpin (spin image (map view states) taken k w) states k r after
       → Hears (state_at (map view states) k).depth (spin image (map view states) taken k w) (observed_tick states k r)

@@ -54,7 +54,7 @@ module _ (states : List Kept) (taken : ℕ) where
       → GivesSpinC (spin_for image states taken k w) states k m₀ k₀ returned at made after recorded m code
       → Hears (state_at (map view states) k).depth (spin_for image states taken k w) (observed_tick_c states k returned m code)
   tick-heard image k w m₀ k₀ returned at made after recorded m code z =
-      hears-by k returned m₀ k₀ m code (spin-ends image (map view states) taken k w) z.told.number_is z.mask z.code
+      hears-by k returned m₀ k₀ m code (spin-ends image (map view states) taken k w) z.told.number-is z.mask z.code
 
   call-heard : {x : ObservedCall} {after : List Kept} {recorded : ℕ} → SpindleCallC states taken x after recorded
       → HeardFrom (head_of states taken) x

@@ -42,11 +42,11 @@ module _ (v : Verdict) (numbered : NumberedVerdict v) (i : Image) (states : List
   abbrev s : State
   s = state_at states k
 
-  ends_by : (u : Verdict) → NumberedVerdict u → (d : MachineTick) → Normal s d
+  ends-by : (u : Verdict) → NumberedVerdict u → (d : MachineTick) → Normal s d
       → SpinEnds states taken k (outcome_spun_by states taken k (advance_by s u d))
-  ends_by (refused n j) l d e = subst (SpinEnds states taken k) (sym (kept-by states taken k n j)) (refuses n j l)
-  ends_by fine l (stopped n) e = subst (SpinEnds states taken k) (sym (kept-by states taken k n 0)) (refuses n 0 (omega arith))
-  ends_by fine l (finished m code t) e = go (is_none_left s.depth t.depth taken)
+  ends-by (refused n j) l d e = subst (SpinEnds states taken k) (sym (kept-by states taken k n j)) (refuses n j l)
+  ends-by fine l (stopped n) e = subst (SpinEnds states taken k) (sym (kept-by states taken k n 0)) (refuses n 0 (omega arith))
+  ends-by fine l (finished m code t) e = go (is_none_left s.depth t.depth taken)
     where
       go : (b : Bool) → SpinEnds states taken k (if b then outcome_turned_back 26 0 states taken
           else record { reply = success 1; mask = m; code = code; states = set states k t; taken = taken + t.depth - s.depth })
@@ -63,7 +63,7 @@ module _ (v : Verdict) (numbered : NumberedVerdict v) (i : Image) (states : List
           → SpinEnds states taken k (outcome_spun_on h states taken k (λ _. tick_by_verdict v i (state_at states k) w))
       go (refused n j) e l = refuses n j l
       go fine e l =
-          ends_by (tick_tried v i s)
+          ends-by (tick_tried v i s)
           (next-refuses (λ n. 1 ≤ n) v (λ _. when 15 (is_unfit i s)) numbered (when-refuses (λ n. 1 ≤ n) 15 (is_unfit i s) (omega arith)))
           (tick i s w) (tick-normal i s w)
 

@@ -17,9 +17,7 @@ abbrev pub head_of : List Kept → ℕ → Head
 head_of states taken = record { states = map view states; taken = taken }
 
 pub view-at : (states : List Kept) (k : ℕ) → view (kept_at states k) ≡ state_at (map view states) k
-view-at [] k = refl
-view-at (s ∷ rest) zero = refl
-view-at (s ∷ rest) (suc k) = view-at rest k
+view-at states k = grind (arith, common_steps)
 
 module _ (states : List Kept) (taken : ℕ) (image : List ℕ) (k : ℕ) where
   -- a tick leaves the head after it

@@ -12,6 +12,7 @@ use Rattle.spindle_walks.specs.Walks.{is_success, finished_ticks_by}
 use Rattle.spindle_calls.specs.ObservedCalls.{ObservedTick, ObservedCall, observed_spin, observed_rebinding, call_of, counts_in, tally_in}
 use Rattle.spindle_calls.specs.ObservedCalls.{ObservedBalance, finished_ticks_in}
 use Rattle.spindles.specs.spindle_places.Calls as calls
+use Rattle.std.proofs.lemmas.Bool.Decides.{nat_tests}
 
 -- ---- one call
 -- a refused call has a number that is not 0 and a code of 0; of a finished one mask, code and the depth before it are known
@@ -26,9 +27,7 @@ HeardFrom h (observed_rebinding t k n g) = Unit {0}
 -- the places that it takes or gives back; a code of 0 counts for none
 call-counts : (f : ℕ → ℕ → ℕ) → ((d : ℕ) → f 0 d ≡ 0) → (h : Head) (x : ObservedCall) → HeardFrom h x → counts f h (call_of x) ≡ counts_in f
     x
-call-counts f zero h (observed_rebinding t k n g) z = grind (arith, common_steps)
-call-counts f zero h (observed_spin t k w y) (hears_no d c e) = grind (arith, common_steps)
-call-counts f zero h (observed_spin t k w y) (hears_tick d n m c e) = grind (arith, common_steps)
+call-counts f none h x z = grind (arith, nat_tests)
 
 -- ---- any number of calls
 pub record CallsRow (h : Head) (said : List ObservedCall) (last : Head) : Type 0 where
@@ -36,13 +35,13 @@ pub record CallsRow (h : Head) (said : List ObservedCall) (last : Head) : Type 0
   pub tallies : (f : ℕ → ℕ → ℕ) → ((d : ℕ) → f 0 d ≡ 0) → tally f h (map call_of said) ≡ tally_in f said
   pub made : (c : Chart) (k : ℕ) (s : Binding) → finished_ticks_by c k s h (map call_of said) ≡ finished_ticks_in c k s said
 
-made_more : (c : Chart) (k : ℕ) (h after : Head) (x : ObservedCall) (rest : List ObservedCall)
+made-more : (c : Chart) (k : ℕ) (h after : Head) (x : ObservedCall) (rest : List ObservedCall)
     → HeardFrom h x → head_after h (call_of x) ≡ after
     → ((s : Binding) → finished_ticks_by c k s after (map call_of rest) ≡ finished_ticks_in c k s rest)
     → (s : Binding) → finished_ticks_by c k s h (map call_of (x ∷ rest)) ≡ finished_ticks_in c k s (x ∷ rest)
 unfolding finished_ticks_by finished_ticks_in
-made_more c k h after (observed_spin t j w y) rest z e ih s = grind (arith, common_steps)
-made_more c k h after (observed_rebinding t j n g) rest z e ih s = grind (arith, common_steps)
+made-more c k h after (observed_spin t j w y) rest z e ih s = grind (arith, common_steps)
+made-more c k h after (observed_rebinding t j n g) rest z e ih s = grind (arith, common_steps)
 
 pub row-none : (h : Head) → CallsRow h [] h
 unfolding head_after_all tally tally_in finished_ticks_by finished_ticks_in
@@ -56,7 +55,7 @@ row-more h after last x rest z e row = record {
   left_is = ap (λ (g : Head). head_after_all g (map call_of rest)) e ∙ row.left_is;
   tallies = λ f zero. ap₂ (λ (a b : ℕ). a + b) (call-counts f zero h x z)
       (ap (λ (g : Head). tally f g (map call_of rest)) e ∙ row.tallies f zero);
-  made = λ c k. made_more c k h after x rest z e (row.made c k);
+  made = λ c k. made-more c k h after x rest z e (row.made c k);
 }
 
 -- ---- from four fresh states

@@ -51,11 +51,11 @@ module _ (c : Chart) (facts : Facts c) (table_facts : TableFacts c) (image : Lis
     pub masks : map (λ (m : FinishedTick). m.mask) made ≡ map (λ (t : Tick). t.mask) (trace n c (signals made) x)
     pub codes : map (λ (m : FinishedTick). m.code) made ≡ map (λ (t : Tick). t.code) (trace n c (signals made) x)
 
-  one_more : (x : WalkPosition) (m : FinishedTick) (made : List FinishedTick) → m.mask ≡ (tick_at n c x).mask
+  one-more : (x : WalkPosition) (m : FinishedTick) (made : List FinishedTick) → m.mask ≡ (tick_at n c x).mask
       → m.code ≡ (tick_at n c x).code
       → Traced (move n c m.signal x) made → Traced x (m ∷ made)
   unfolding trace
-  one_more x m made p q o = grind (arith, common_steps)
+  one-more x m made p q o = grind (arith, common_steps)
 
   abbrev More : Binding → Head → List SpindleCall → Type 0
   More s h calls = (x : WalkPosition) → Stood h s x → Traced x (finished_ticks_by c k s h calls)
@@ -77,7 +77,7 @@ module _ (c : Chart) (facts : Facts c) (table_facts : TableFacts c) (image : Lis
           (subst (λ (b : Bool). Traced x (with s h t j w rest (b && false))) (sym (eq-eqb j k (sym e))) (ih x a))
       mine e (steps d m o a) = subst (λ (b : Bool). Traced x (with s h t j w rest (j == k && b))) (sym d)
           (subst (λ (b : Bool). Traced x (with s h t j w rest (b && true))) (sym (eq-eqb j k (sym e)))
-          (one_more x (tick_made s w (spin_on h t j w)) (finished_ticks_by c k s (head_after h (spins t j w)) rest)
+          (one-more x (tick_made s w (spin_on h t j w)) (finished_ticks_by c k s (head_after h (spins t j w)) rest)
           m o (ih (move n c (signal_told s w) x) a)))
 
       go : Dec (k ≡ j)
@@ -113,11 +113,9 @@ module _ (c : Chart) (facts : Facts c) (table_facts : TableFacts c) (image : Lis
 
   own-walk : (calls : List SpindleCall) → AllByRecursion (HandsImage k image) calls → (s : Binding) (h : Head) → More s h calls
   unfolding finished_ticks_by trace
-  own-walk [] hands s h x z = record { masks = refl; codes = refl }
-  own-walk (spins t j w ∷ rest) hands s h x z =
-      after-spin t j w rest hands.0 s h (own-walk rest hands.1 s (head_after h (spins t j w))) x z
-  own-walk (rebinds t j m g ∷ rest) hands s h x z =
-      after-rebinding t j m g rest hands.0 s h (λ u. own-walk rest hands.1 u (head_after h (rebinds t j m g))) x z
+  own-walk [] hands s h x z = grind (arith)
+  own-walk (spins t j w ∷ rest) hands s h x z = grind (arith, own-walk rest hands.1 s (head_after h (spins t j w)), after-spin)
+  own-walk (rebinds t j m g ∷ rest) hands s h x z = grind (arith, own-walk rest hands.1, after-rebinding)
 
   pub walk-own : 1 ≤ n → (h : Head) → k < length h.states → state_at h.states k ≡ (fresh_state n).state → (calls : List SpindleCall)
       → AllByRecursion (HandsImage k image) calls

@@ -58,10 +58,10 @@ signal_told s w = record { word = w; binding = s }
 spin-length : (t : List ℕ) (states : List State) (taken k w : ℕ) → length (spin t states taken k w).states ≡ length states
 spin-length t states taken k w = grind (arith, common_steps, spin-by, comes, length-set)
 
-left_alone : (t : List ℕ) (states : List State) (taken j w k : ℕ) → (k ≡ j → ⊥)
+left-alone : (t : List ℕ) (states : List State) (taken j w k : ℕ) → (k ≡ j → ⊥)
     → state_at (spin t states taken j w).states k ≡ state_at states k
 unfolding OthersLeft
-left_alone = others-left
+left-alone = others-left
 
 module _ (c : Chart) (facts : Facts c) (table_facts : TableFacts c) (image : List ℕ) (passes : image_verdict image ≡ fine)
     (decodes : decoded_image (contents image) ≡ table c) (n : ℕ) (n≤ : n ≤ 32) (k : ℕ) where
@@ -94,9 +94,9 @@ module _ (c : Chart) (facts : Facts c) (table_facts : TableFacts c) (image : Lis
         subst (Keeps (table c) sd) e
         (tick-keeps (table c) sd (state_at h.states k) (subst (Fits (table c)) (sym z.at) z.fits) w)
 
-    turned_by : {r : SpinOutcome} → Comes (image_verdict image) (table c) h.states h.taken k w r → Turned h s x w r
-    turned_by (turns_back m j) = stays refl (record { inside = z.inside; at = z.at; stands = z.stands; fits = z.fits })
-    turned_by (on m code t passed fit e free) = go (is_full_call n (tick_at n c x)) refl (sym tick-at ∙ e)
+    turned-by : {r : SpinOutcome} → Comes (image_verdict image) (table c) h.states h.taken k w r → Turned h s x w r
+    turned-by (turns_back m j) = stays refl (record { inside = z.inside; at = z.at; stands = z.stands; fits = z.fits })
+    turned-by (on m code t passed fit e free) = go (is_full_call n (tick_at n c x)) refl (sym tick-at ∙ e)
       where
         go : (b : Bool) → is_full_call n (tick_at n c x) ≡ b
             → (if is_full_call n (tick_at n c x) then stopped 17
@@ -130,12 +130,12 @@ module _ (c : Chart) (facts : Facts c) (table_facts : TableFacts c) (image : Lis
             })
 
     pub turned : Turned h s x w (spin_on h image k w)
-    turned = grind (arith, common_steps, spin-by, comes, turned_by)
+    turned = grind (arith, common_steps, spin-by, comes, turned-by)
 
   -- ---- a call of another
   pub passed-over : (h : Head) (s : Binding) (x : WalkPosition) → At h s x → (t : List ℕ) (j w : ℕ) → (k ≡ j → ⊥)
       → At (head_after h (spins t j w)) s x
-  passed-over h s x z t j w other = grind (arith, common_steps, spin-length, left_alone)
+  passed-over h s x z t j w other = grind (arith, common_steps, spin-length, left-alone)
 
   -- ---- rebindings
   pub bound-over : (h : Head) (s : Binding) (x : WalkPosition) → At h s x → (t : List ℕ) (j m g : ℕ) → (k ≡ j → ⊥)

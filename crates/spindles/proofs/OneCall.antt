@@ -115,9 +115,9 @@ module _ (v : Verdict) (i : Image) (states : List State) (taken k w : ℕ) where
   leaves (on m code t h u f g) n e = absurd (omega arith)
 
   -- a tick that is refused with 17, and one that ends no deeper than it began
-  full_by : head_verdict v states taken k ≡ fine → (u : Verdict) (d : MachineTick) → (advance_by s u d).reply ≡ refusal 17 0 0
+  full-by : head_verdict v states taken k ≡ fine → (u : Verdict) (d : MachineTick) → (advance_by s u d).reply ≡ refusal 17 0 0
       → (outcome_spun_on (head_verdict v states taken k) states taken k (λ _. advance_by s u d)).reply ≡ refusal 17 0 0
-  full_by h u d e = grind (arith, common_steps)
+  full-by h u d e = grind (arith, common_steps)
 
 pub full-first : FullFirst
 unfolding FullFirst spin
@@ -127,7 +127,7 @@ full-first t states taken k w h e =
     subst (λ (x : TickOutcome). (outcome_spun_on (head_verdict (image_verdict t) states taken k) states taken k (λ _. x)).reply
     ≡ refusal 17 0 0)
     (sym (advance-by t s w))
-    (full_by (image_verdict t) i states taken k w h (tick_tried (image_verdict t) i s) (tick i s w)
+    (full-by (image_verdict t) i states taken k w h (tick_tried (image_verdict t) i s) (tick i s w)
     (ap (λ (x : TickOutcome). x.reply) (sym (advance-by t s w)) ∙ e))
 
 pub level-goes : LevelGoes

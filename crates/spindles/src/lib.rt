@@ -6,7 +6,7 @@
 pub mod layout;
 pub mod spindle_list;
 pub mod spindle_places;
-pub mod turning;
+mod turning;
 
 ghost use Rattle.std.specs.Prelude.{◌≡◌};
 ghost use Rattle.spindles.specs.Spindles.{is_none_left, spin, live_spin};
@@ -17,21 +17,21 @@ use layout::STORE;
 use text::frames::Refusal;
 use ticks::Tick;
 
-// What a call answers, and the places recorded as taken after it: with a refusal as many as before.
+/// What a call answers, and the places recorded as taken after it: with a refusal as many as before.
 #[derive(Drop)]
 pub struct SpinReport {
     pub answer: Result<Tick, Refusal>,
     pub taken: usize,
 }
 
-// Whether the depths do not sum to the record, or it is above 64.
+/// Whether the depths do not sum to the record, or it is above 64.
 pub fn bad_record(sum: usize, taken: usize) -> bool
     ensures { result ≡ is_bad_record sum taken }
 {
     sum != taken || STORE < taken
 }
 
-// Whether a tick ended deeper than it began, and no place is left.
+/// Whether a tick ended deeper than it began, and no place is left.
 pub fn none_left(before: usize, after: usize, taken: usize) -> bool
     ensures { result ≡ is_none_left before after taken }
 {

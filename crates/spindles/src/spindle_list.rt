@@ -73,7 +73,8 @@ fn spin_by<S: Source<ROOM>, const ROOM: usize>(
     }
 }
 
-// On an image.
+/// One tick of spindle `spindle`, 0 to 3, of a list of four states, of which `taken` places are recorded. Refused is 25, what the image
+/// check refuses, 15 for the list or its state, 17, 26 and 18; then nothing changes.
 #[tactic(auto, using(crate::proofs::OneCall::sourced))]
 pub fn spin(
     states: &mut [State],
@@ -88,7 +89,7 @@ pub fn spin(
     spin_by::<Text, TABLE>(image, states, taken, spindle, word)
 }
 
-// On a prepared table: 25, 11, 15, 17, 26, 18.
+/// The same on the spindle's prepared table: 25, 11, 15, 17, 26 and 18.
 #[tactic(auto, using(crate::proofs::OneCall::sourced))]
 pub fn live_spin(
     states: &mut [State],

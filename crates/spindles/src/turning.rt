@@ -34,7 +34,8 @@ fn settle(old: State, state: &mut State, answer: Result<Tick, Refusal>, taken: u
     }
 }
 
-// A spindle's turn, with the sum of the four depths: 15 by the record, then by the state, 17, 26, 18.
+/// The turn of one spindle, where `sum` is that of the four depths: 15 by the record, then by the state, 17, 26 and 18; refused, it leaves
+/// state and record as they were.
 pub fn turn(table: &Table, state: &mut State, sum: usize, taken: usize, word: u16) -> SpinReport
     requires { state.old.depth ≤ sum }
     ensures { GivesTurn (turn (view state.old) sum taken (sourced_tick fine (table_image table.now.bytes.now) (view state.old) word))

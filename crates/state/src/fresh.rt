@@ -8,7 +8,7 @@ use super::{State, StateReport};
 use text::frames::Refusal;
 use text::frames::sizes::SCHEMES;
 
-// Whether a stack size lies outside 1 to 32.
+/// Whether a stack size lies outside 1 to 32.
 pub fn bad_size(size: usize) -> bool
     ensures { result ≡ is_bad_size size }
 {
@@ -23,7 +23,8 @@ fn own_binding() -> [u8; SCHEMES]
 }
 
 impl State {
-    // Depth 1 and label 0 of scheme 1; a size outside 1 to 32 is refused with a state of nothing but 0.
+    /// A fresh state for a stack of that many places, 1 to 32: depth 1 at label 0 of scheme 1, each number served by its own scheme.
+    /// Another size is refused with 14 and a state of nothing but 0.
     pub fn fresh(size: usize) -> StateReport
         ensures { GivesState (fresh_state size) result }
     {

@@ -1,4 +1,4 @@
 // The size of a stack.
 
-// The places of a stack.
+/// The places of a stack.
 pub const PLACES: usize = 32;

@@ -14,9 +14,9 @@ pub mod layout;
 
 pub use fresh::bad_size;
 
-// 130 bytes. Places (the paper's word for the entries of the stack) hold labels, the bottom first, up to the depth, and 0 above it;
-// beside each stand the number of the call that filled it and the scheme open there. Number h's result, where 0 is false and any other
-// byte is true, and the scheme that serves h stand at h - 1.
+/// 130 bytes. Places (the paper's word for the entries of the stack) hold labels, the bottom first, up to the depth, and 0 above it;
+/// beside each stand the number of the call that filled it and the scheme open there. Number h's result, where 0 is false and any other
+/// byte is true, and the scheme that serves h stand at h - 1.
 #[repr(C)]
 #[derive(Clone, Copy)]
 pub struct State {
@@ -29,7 +29,7 @@ pub struct State {
     pub servers: [u8; PLACES],
 }
 
-// What a call that hands back a state answers.
+/// What a call that hands back a state answers, and the state.
 #[derive(Drop)]
 pub struct StateReport {
     pub answer: Result<usize, Refusal>,
@@ -37,12 +37,16 @@ pub struct StateReport {
 }
 
 impl State {
+    /// The places of a stack at most.
     pub const PLACES: usize = layout::PLACES;
 
+    /// The labels of an image at most.
     pub const LABELS: usize = sizes::LABELS;
 
+    /// The rows of an image at most.
     pub const ROWS: usize = sizes::ROWS;
 
+    /// The schemes of a chart at most.
     pub const SCHEMES: usize = sizes::SCHEMES;
 }
 

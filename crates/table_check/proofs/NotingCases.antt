@@ -1,22 +1,16 @@
 -- The search for a label that notes another frame than that at which its rows end: each search for rows goes on where the last one ended.
-use mathlib.Core.Bool.{Bool, true, false, ◌&&◌, not}
-use mathlib.Core.Path.{◌≡◌, sym, ◌∙◌, ap, ap₂}
-use mathlib.Core.List.{List}
-use Prim.Native.Nat.{ℕ, ◌+◌, ◌*◌, ◌-◌, ◌≤◌, ◌<◌}
-use native.Mathlib.Omega.{arith}
-use Rattle.std.proofs.Common.{nat_eq, ◌==◌}
-use borrow.Author.Tests.{eq-eqb, ne_eqb}
+use Rattle.std.proofs.Common.{Bool, true, false, ◌&&◌, not, ◌≡◌, sym, ◌∙◌, ap, ap₂, List, ℕ, ◌+◌, ◌*◌, ◌-◌, ◌≤◌, ◌<◌, arith, ◌==◌, eq-eqb, ne_eqb}
 use Rattle.words.specs.lists.Numbers.{lowest}
-use Rattle.words.proofs.lists.Searches.{Searching, searching-first, searching-found, searching-next, lowest-inside, lowest-above, lowest-from}
-use Rattle.words.proofs.lists.Searches.{lowest-none}
+use Rattle.words.proofs.lists.Searches.{Searching, searching-first, searching-found, searching-next, lowest-inside, lowest-above, lowest-from, lowest-none}
 use Rattle.text.specs.frames.Frame.{size, field}
 use Rattle.image.specs.Decode.{labels_from, rows_from}
 use Rattle.image_check.proofs.image_faults.FaultSearch.{part-past}
 use Rattle.tables.specs.Prepare.{is_row_reached, first_frame}
 use Rattle.tables.specs.Table.{noted_in}
-use Rattle.tables.proofs.NotingCases.{below_more}
+use Rattle.tables.proofs.NotingCases.{below-more}
 use Rattle.table_check.specs.TableCheck.{is_noted, is_misnoted}
 use Rattle.table_check.proofs.PlacingCases.{noted-yes, noted-before, noted-behind}
+use Rattle.std.proofs.lemmas.Grind.{common_steps}
 
 -- the loop has come to frame f, and no row before frame end leaves a label from that of f on
 pub record Noting (b : List ℕ) (n f end : ℕ) : Type 0 where
@@ -55,9 +49,7 @@ module _ (b : List ℕ) (n : ℕ) (all : n ≡ size b) (fits : rows_from b ≤ n
           ∙ ap (λ (m : ℕ). field b m 0 + field b m 1 * 256) (let q : f ≡ labels_from b + (f - labels_from b) = omega (arith, N.low) in q)
 
       tested : (x : Bool) → (note == next) ≡ x → is_misnoted b f ≡ not x
-      tested x t =
-          ap₂ (λ (y z : Bool). y && not z) (noted-yes b f N.low inside)
-          (ap₂ nat_eq (sym noted-is) (sym first-is) ∙ t)
+      tested x t = grind (arith, common_steps, noted-yes, first-is, noted-is)
 
       pub noting-found : (note ≡ next → ⊥) → f ≡ lowest (is_misnoted b) 0 n
       noting-found other =
@@ -74,7 +66,7 @@ module _ (b : List ℕ) (n : ℕ) (all : n ≡ size b) (fits : rows_from b ≤ n
         inside = omega (arith, e, lowest-inside (is_row_reached b l) end n N.inside);
         rest = λ m h.
             ap (λ (i : ℕ). lowest (is_row_reached b m) i (n - i)) e
-            ∙ lowest-from (is_row_reached b l) end n N.inside (is_row_reached b m) (below_more b l m (omega (arith, N.low)))
+            ∙ lowest-from (is_row_reached b l) end n N.inside (is_row_reached b m) (below-more b l m (omega (arith, N.low)))
             ∙ N.rest m (omega (arith, N.low));
       }
 

@@ -1,12 +1,5 @@
 -- What the verdict on a table tells, and what makes it fine.
-use mathlib.Core.Path.{◌≡◌, refl, ◌∙◌, ap}
-use mathlib.Core.Bool.{Bool, true, false, not}
-use mathlib.Core.List.{List, [], ◌∷◌}
-use Prim.Native.Nat.{ℕ, ◌+◌, ◌%◌, ◌<◌}
-use native.Mathlib.Omega.{arith}
-use Rattle.std.proofs.Common.{◌==◌}
-use lib.ListN.{length}
-use borrow.Author.Tests.{eqb-true, eq-eqb}
+use Rattle.std.proofs.Common.{◌≡◌, refl, true, false, not, List, [], ◌∷◌, ℕ, ◌+◌, ◌%◌, ◌<◌, arith, ◌==◌, length, eqb-true, eq-eqb}
 use Rattle.words.proofs.lists.Tests.{or-l, or-r, or-none, not-false}
 use Rattle.text.specs.frames.Frame.{size}
 use Rattle.text.specs.frames.Verdict.{Verdict, fine, next, when, at_lowest}
@@ -15,6 +8,7 @@ use Rattle.image.specs.Decode.{row_count, rows_from}
 use Rattle.image.specs.Check.{is_bad_header, has_bad_content}
 use Rattle.image_check.proofs.TableCases.{header-size}
 use Rattle.table_check.specs.TableCheck.{is_no_table, is_displaced, is_misnoted, prepared_verdict}
+use Rattle.std.proofs.lemmas.Grind.{common_steps}
 
 pub header-tells : (b : List ℕ) → is_no_table b ≡ false → size b ≡ rows_from b + row_count b
 header-tells b e = header-size b (or-r (not (length b % 10 == 0)) (is_bad_header b) e)
@@ -64,9 +58,6 @@ module _ (b : List ℕ) where
 
   pub passed-fine : Passed b → prepared_verdict b ≡ fine
   unfolding prepared_verdict fields_tried frames_tried notes_tried
-  passed-fine p =
-      ap (λ (t : Bool). next (when 11 t) λ _. frames_tried)
-      (or-none (not (length b % 10 == 0)) (is_bad_header b) (ap not (eq-eqb (length b % 10) 0 p.whole)) p.header)
-      ∙ ap (λ (v : Verdict). next v λ _. fields_tried) (at-none 12 (is_displaced b) (size b) p.placed)
-      ∙ ap (λ (v : Verdict). next v λ _. notes_tried) (at-none 13 (has_bad_content b) (size b) p.contents)
-      ∙ at-none 13 (is_misnoted b) (size b) p.notes
+  passed-fine p = grind (arith, common_steps, at-none, or-none, eq-eqb, notes_tried, fields_tried, frames_tried)
+
+pub ruleset header_told = (empty-no-table, header-tells)

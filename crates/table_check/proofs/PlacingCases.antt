@@ -1,15 +1,10 @@
 -- What is tried of a frame, by where entries, labels and rows begin.
-use mathlib.Core.Bool.{Bool, true, false, ◌&&◌, not}
-use mathlib.Core.Path.{◌≡◌, refl, sym, ◌∙◌, ap, ap₂}
-use mathlib.Core.List.{List}
-use Prim.Native.Nat.{ℕ, ◌+◌, ◌-◌, ◌≤◌, ◌<◌}
-use native.Mathlib.Omega.{arith}
-use Rattle.std.proofs.Common.{nat_lt, nat_le}
-use borrow.Author.Tests.{le-leb, lt-leb, le-ltb, lt-ltb}
+use Rattle.std.proofs.Common.{Bool, true, false, ◌&&◌, not, ◌≡◌, refl, sym, ◌∙◌, ap, ap₂, List, ℕ, ◌+◌, ◌-◌, ◌≤◌, ◌<◌, arith, nat_lt, nat_le, le-leb, le-ltb, lt-ltb}
+use borrow.Author.Tests.{lt-leb}
 use Rattle.words.proofs.lists.Tests.{and-no}
 use Rattle.image.specs.Decode.{labels_from, rows_from, label_in, row_in}
-use Rattle.image.specs.Check.{Position, header_position, entry_position, label_position, row_position, position_of}
-use Rattle.image.specs.Check.{is_stray_frame, is_stray, is_bad_entry, is_bad_label, is_bad_row, is_bad_frame, has_bad_content}
+use Rattle.image.specs.Check.{Position, header_position, entry_position, label_position, row_position, position_of, is_stray_frame, is_stray, is_bad_entry, is_bad_label}
+use Rattle.image.specs.Check.{is_bad_row, is_bad_frame, has_bad_content}
 use Rattle.image.proofs.Accepted.{position-of-entry, position-of-label, position-of-row}
 use Rattle.table_check.specs.TableCheck.{is_noted, is_displaced}
 
@@ -26,12 +21,12 @@ module _ (b : List ℕ) (f : ℕ) where
 
   -- ---- 12
   module _ (p : Position) (is : position_of b f ≡ p) where
-    stray_at : is_stray b f ≡ is_stray_frame b f p
+    stray-at : is_stray b f ≡ is_stray_frame b f p
     unfolding is_stray
-    stray_at = ap (is_stray_frame b f) is
+    stray-at = ap (is_stray_frame b f) is
 
     pub displaced-other : (x : Bool) → is_noted b f ≡ false → x ≡ is_stray_frame b f p → x ≡ is_displaced b f
-    displaced-other x n e = e ∙ sym stray_at ∙ sym (ap (λ (y : Bool). not y && is_stray b f) n)
+    displaced-other x n e = e ∙ sym stray-at ∙ sym (ap (λ (y : Bool). not y && is_stray b f) n)
 
     pub content-at : has_bad_content b f ≡ is_bad_frame b f p
     unfolding has_bad_content
@@ -81,3 +76,7 @@ module _ (b : List ℕ) (f : ℕ) where
   content-row x y q h e =
       e ∙ ap₂ (λ (m n : ℕ). is_bad_row b m (row_in b (f - n))) (omega arith) q
       ∙ sym (content-at (row_position (f - rows_from b)) (at-row h))
+
+pub ruleset displacing = (displaced-header, displaced-entry, displaced-row)
+
+pub ruleset contents_told = (content-header, content-entry, content-label, content-row)

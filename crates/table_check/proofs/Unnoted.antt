@@ -1,15 +1,8 @@
 -- A table that passes, with the notes of its labels taken back: the contents of an image that is accepted, which are noted as the table is.
-use Prim.Native.Nat.{ℕ, zero, suc, ◌+◌, ◌*◌, ◌-◌, ◌/◌, ◌%◌, ◌≤◌, ◌<◌}
-use mathlib.Core.Bool.{Bool, false, ◌&&◌, not}
-use mathlib.Core.Path.{◌≡◌, refl, sym, ◌∙◌, ap, ap₂, subst}
-use mathlib.Core.Logic.{⊎_elim}
-use mathlib.Core.List.{List, map}
-use native.Mathlib.Decide.{ℕ_discrete}
-use native.Mathlib.Omega.{arith}
-use Rattle.std.proofs.Common.{◌==◌, slice_index}
-use lib.ListN.{length, get_or-eq_default}
-use lib.Seq.{ext_get_or}
-use borrow.Author.Tests.{eq-eqb, eqb-true}
+use Rattle.std.proofs.Common.{ℕ, zero, suc, ◌+◌, ◌*◌, ◌-◌, ◌/◌, ◌%◌, ◌≤◌, ◌<◌, Bool, false, ◌&&◌, not, ◌≡◌, refl, sym, ◌∙◌, ap, ap₂, ⊎_elim, List, map, arith}
+use Rattle.std.proofs.Common.{slice_index, length, ext_get_or, eq-eqb, eqb-true}
+use Rattle.std.proofs.Math.Decide.{ℕ_discrete}
+use Rattle.std.proofs.Math.ListN.{get_or-eq_default}
 use Rattle.words.specs.lists.Numbers.{range}
 use Rattle.words.proofs.lists.Tests.{split, and-false, not-false}
 use Rattle.words.proofs.lists.Ranges.{length-map-range, get_or-map-range}
@@ -18,18 +11,17 @@ use Rattle.text.specs.frames.Verdict.{Verdict, fine, next, when, at_lowest}
 use Rattle.text.proofs.frames.Verdicts.{at-none}
 use Rattle.text.proofs.frames.Contents.{text_of-fine, text_of-contents}
 use Rattle.image.specs.Decode.{last_label, row_count, labels_from, rows_from}
-use Rattle.image.specs.Check.{Position, header_position, entry_position, label_position, row_position, position_of}
-use Rattle.image.specs.Check.{is_stray_frame, is_stray, has_bad_content, table_verdict, image_verdict}
+use Rattle.image.specs.Check.{Position, header_position, entry_position, label_position, row_position, position_of, is_stray_frame, is_stray, has_bad_content}
+use Rattle.image.specs.Check.{table_verdict, image_verdict}
 use Rattle.image.proofs.Accepted.{counted}
 use Rattle.image_check.proofs.TableCases.{header-size}
 use Rattle.tables.specs.Prepare.{first_frame, noted_table}
-use Rattle.tables.specs.Table.{noted_in}
 use Rattle.tables.proofs.Noted.{noted-length, noted-front, noted-late, noted-row, noted-low, noted-high}
 use Rattle.table_check.specs.TableCheck.{is_noted}
-use Rattle.table_check.proofs.Alike.{Alike, size-alike, last-alike, labels-from-alike, rows-from-alike, header-alike, stray-alike}
-use Rattle.table_check.proofs.Alike.{content-alike, first-alike}
+use Rattle.table_check.proofs.Alike.{Alike, size-alike, last-alike, labels-from-alike, rows-from-alike, header-alike, stray-alike, content-alike, first-alike}
 use Rattle.table_check.proofs.PlacingCases.{noted-yes, noted-before, noted-behind, at-label, at-row, at-header, at-entry}
 use Rattle.table_check.proofs.Passed.{Passed}
+use Rattle.std.proofs.lemmas.Grind.{common_steps}
 
 -- byte k of a frame of an image, where a table has x
 abbrev image_byte : Position → ℕ → ℕ → ℕ
@@ -40,13 +32,13 @@ image_byte (label_position l) (suc zero) x = l
 image_byte (label_position l) (suc (suc k)) x = x
 image_byte (row_position r) k x = x
 
-byte_kept : (p : Position) (k x : ℕ) → 2 ≤ k → image_byte p k x ≡ x
-byte_kept header_position k x h = refl
-byte_kept (entry_position e) k x h = refl
-byte_kept (label_position l) zero x h = absurd (omega arith)
-byte_kept (label_position l) (suc zero) x h = absurd (omega arith)
-byte_kept (label_position l) (suc (suc k)) x h = refl
-byte_kept (row_position r) k x h = refl
+byte-kept : (p : Position) (k x : ℕ) → 2 ≤ k → image_byte p k x ≡ x
+byte-kept header_position k x h = refl
+byte-kept (entry_position e) k x h = refl
+byte-kept (label_position l) zero x h = absurd (omega arith)
+byte-kept (label_position l) (suc zero) x h = absurd (omega arith)
+byte-kept (label_position l) (suc (suc k)) x h = refl
+byte-kept (row_position r) k x h = refl
 
 module _ (b : List ℕ) where
   unnoted_byte : ℕ → ℕ
@@ -70,27 +62,10 @@ module _ (b : List ℕ) where
 
   -- one that is none of the first two of a label
   byte-same : (f k x : ℕ) → (labels_from b ≤ f → f < rows_from b → 2 ≤ k) → image_byte (position_of b f) k x ≡ x
-  byte-same f k x c =
-      ⊎_elim (λ (m : f < labels_from b). go (ℕ_discrete f 0) m)
-      (λ (m : labels_from b ≤ f).
-      ⊎_elim (λ (n : f < rows_from b). byte_kept (position_of b f) k x (c m n))
-      (λ (n : rows_from b ≤ f). ap (λ (p : Position). image_byte p k x) (at-row b f n))
-      (split f (rows_from b)))
-      (split f (labels_from b))
-    where
-      go : Dec (f ≡ 0) → f < labels_from b → image_byte (position_of b f) k x ≡ x
-      go (yes e) m = ap (λ (p : Position). image_byte p k x) (at-header b f e)
-      go (no e) m = ap (λ (p : Position). image_byte p k x) (at-entry b f e m)
+  byte-same f k x c = grind (arith, common_steps, ℕ_discrete f 0, split, at-header, at-entry, at-row, byte-kept)
 
   pub unnoted-alike : Alike b unnoted
-  unnoted-alike = record {
-    long = unnoted-length;
-    fields = λ f k h c.
-        ⊎_elim (λ (l : 10 * f + k < length b). unnoted-field f k h l ∙ byte-same f k (field b f k) c)
-        (λ (l : length b ≤ 10 * f + k).
-        get_or-eq_default unnoted 0 (omega (arith, unnoted-length)) ∙ sym (get_or-eq_default b 0 l))
-        (split (10 * f + k) (length b));
-  }
+  unnoted-alike = grind (arith, common_steps, split, get_or-eq_default, unnoted, unnoted-length, unnoted-field, byte-same)
 
   module _ (good : Passed b) (bytes : (k : ℕ) → slice_index b k < 256) where
     abbrev alike : Alike b unnoted
@@ -101,12 +76,12 @@ module _ (b : List ℕ) where
 
     -- a label's frame within the table
     module _ (f : ℕ) (low : labels_from b ≤ f) (high : f < rows_from b) where
-      kind_back : field unnoted f 0 ≡ 17
-      kind_back =
+      kind-back : field unnoted f 0 ≡ 17
+      kind-back =
           unnoted-field f 0 (omega arith) (omega (arith, rows-fit)) ∙ ap (λ (p : Position). image_byte p 0 (field b f 0)) (at-label b f low high)
 
-      number_back : field unnoted f 1 ≡ f - labels_from b
-      number_back =
+      number-back : field unnoted f 1 ≡ f - labels_from b
+      number-back =
           unnoted-field f 1 (omega arith) (omega (arith, rows-fit)) ∙ ap (λ (p : Position). image_byte p 1 (field b f 1)) (at-label b f low high)
 
       label-placed : is_stray unnoted f ≡ false
@@ -114,20 +89,15 @@ module _ (b : List ℕ) where
       label-placed =
           ap (is_stray_frame unnoted f)
           (at-label unnoted f (omega (arith, labels-from-alike b unnoted alike)) (omega (arith, rows-from-alike b unnoted alike)))
-          ∙ ap not (ap₂ ◌&&◌ (eq-eqb (field unnoted f 0) 17 kind_back)
-          (eq-eqb (field unnoted f 1) (f - labels_from unnoted) (omega (arith, number_back, labels-from-alike b unnoted alike))))
+          ∙ ap not (ap₂ ◌&&◌ (eq-eqb (field unnoted f 0) 17 kind-back)
+          (eq-eqb (field unnoted f 1) (f - labels_from unnoted) (omega (arith, number-back, labels-from-alike b unnoted alike))))
 
     other-placed : (f : ℕ) → f < size b → is_noted b f ≡ false → is_stray unnoted f ≡ false
     other-placed f h e =
         stray-alike b unnoted alike f e ∙ and-false (not (is_noted b f)) (is_stray b f) (good.placed f h) (ap not e)
 
     none-stray : (f : ℕ) → f < size b → is_stray unnoted f ≡ false
-    none-stray f h =
-        ⊎_elim (λ (m : f < labels_from b). other-placed f h (noted-before b f m))
-        (λ (m : labels_from b ≤ f).
-        ⊎_elim (λ (n : f < rows_from b). label-placed f m n) (λ (n : rows_from b ≤ f). other-placed f h (noted-behind b f n))
-        (split f (rows_from b)))
-        (split f (labels_from b))
+    none-stray f h = grind (arith, common_steps, split, noted-behind, noted-before, label-placed, other-placed)
 
     pub unnoted-fine : table_verdict unnoted ≡ fine
     unfolding table_verdict
@@ -141,30 +111,11 @@ module _ (b : List ℕ) where
 
     -- ---- the text of what it holds then
     byte-small : (f k x : ℕ) → x < 256 → image_byte (position_of b f) k x < 256
-    byte-small f k x h =
-        ⊎_elim (λ (m : f < labels_from b). plain (omega arith))
-        (λ (m : labels_from b ≤ f).
-        ⊎_elim (λ (n : f < rows_from b). subst (λ (p : Position). image_byte p k x < 256) (sym (at-label b f m n)) (label k m n))
-        (λ (n : rows_from b ≤ f). plain (omega arith))
-        (split f (rows_from b)))
-        (split f (labels_from b))
-      where
-        plain : (labels_from b ≤ f → f < rows_from b → 2 ≤ k) → image_byte (position_of b f) k x < 256
-        plain c = omega (arith, byte-same f k x c)
-
-        label : (k : ℕ) → labels_from b ≤ f → f < rows_from b → image_byte (label_position (f - labels_from b)) k x < 256
-        label zero m n = omega arith
-        label (suc zero) m n = omega (arith, bytes 2)
-        label (suc (suc k)) m n = h
+    byte-small f k x h = grind (arith, common_steps, split, at-label, byte-same)
 
     unnoted-bytes : (p : ℕ) → slice_index unnoted p < 256
     unfolding unnoted unnoted_byte
-    unnoted-bytes p =
-        ⊎_elim (λ (l : p < length b).
-        subst (λ (x : ℕ). x < 256) (sym (get_or-map-range unnoted_byte 0 0 (length b) p l))
-        (byte-small ((0 + p) / 10) ((0 + p) % 10) (slice_index b (0 + p)) (bytes (0 + p))))
-        (λ (l : length b ≤ p). subst (λ (x : ℕ). x < 256) (sym (get_or-eq_default unnoted 0 (omega (arith, unnoted-length)))) (omega arith))
-        (split p (length b))
+    unnoted-bytes p = grind (arith, common_steps, split p (length b), split, get_or-eq_default, get_or-map-range, unnoted_byte, unnoted, unnoted-length, byte-small)
 
     pub unnoted-contents : contents (text_of unnoted) ≡ unnoted
     unnoted-contents = text_of-contents unnoted unnoted-bytes (omega (arith, unnoted-length, good.whole))
@@ -184,16 +135,11 @@ module _ (b : List ℕ) where
       abbrev label_of : ℕ
       label_of = f - labels_from b
 
-      note_is : field b f 0 + field b f 1 * 256 ≡ first_frame b (label_of + 1)
-      note_is =
-          ap (λ (n : ℕ). field b n 0 + field b n 1 * 256) (let e : f ≡ labels_from b + label_of = omega arith in e)
-          ∙ eqb-true (noted_in b label_of) (first_frame b (label_of + 1))
-          (not-false (noted_in b label_of == first_frame b (label_of + 1))
-          (and-false (is_noted b f) (not (noted_in b label_of == first_frame b (label_of + 1)))
-          (good.notes f (omega (arith, rows-fit))) (noted-yes b f low high)))
+      note-is : field b f 0 + field b f 1 * 256 ≡ first_frame b (label_of + 1)
+      note-is = grind (arith, common_steps, not-false, eqb-true, and-false, noted-yes, rows-fit)
 
       again : first_frame unnoted (label_of + 1) ≡ field b f 0 + field b f 1 * 256
-      again = first-alike b unnoted alike (label_of + 1) ∙ sym note_is
+      again = first-alike b unnoted alike (label_of + 1) ∙ sym note-is
 
       inside : label_of ≤ last_label unnoted
       inside = omega (arith, last-alike b unnoted alike)
@@ -201,28 +147,24 @@ module _ (b : List ℕ) where
       placed : labels_from unnoted + label_of ≡ f
       placed = omega (arith, labels-from-alike b unnoted alike)
 
-      note_low : field (noted_table unnoted) f 0 ≡ field b f 0
-      note_low =
-          ap (λ (n : ℕ). field (noted_table unnoted) n 0) (sym placed) ∙ noted-low unnoted unnoted-fine label_of inside
-          ∙ omega (arith, again, bytes (10 * f + 0))
+      note-low : field (noted_table unnoted) f 0 ≡ field b f 0
+      note-low = grind (arith, common_steps, noted-low, unnoted, unnoted-fine, again, inside, placed)
 
-      note_high : field (noted_table unnoted) f 1 ≡ field b f 1
-      note_high =
-          ap (λ (n : ℕ). field (noted_table unnoted) n 1) (sym placed) ∙ noted-high unnoted unnoted-fine label_of inside
-          ∙ omega (arith, again, bytes (10 * f + 0))
+      note-high : field (noted_table unnoted) f 1 ≡ field b f 1
+      note-high = grind (arith, common_steps, noted-high, unnoted, unnoted-fine, again, inside, placed)
 
-      note_field : (k : ℕ) → k < 10 → field (noted_table unnoted) f k ≡ field b f k
-      note_field zero h = note_low
-      note_field (suc zero) h = note_high
-      note_field (suc (suc k)) h =
+      note-field : (k : ℕ) → k < 10 → field (noted_table unnoted) f k ≡ field b f k
+      note-field zero h = note-low
+      note-field (suc zero) h = note-high
+      note-field (suc (suc k)) h =
           noted-late unnoted f (suc (suc k)) (omega arith) h ∙ alike.fields f (suc (suc k)) h (λ m n. omega arith)
 
-    noted_field : (f k : ℕ) → k < 10 → field (noted_table unnoted) f k ≡ field b f k
-    noted_field f k h =
+    noted-field : (f k : ℕ) → k < 10 → field (noted_table unnoted) f k ≡ field b f k
+    noted-field f k h =
         ⊎_elim (λ (m : f < labels_from b).
         noted-front unnoted f k (omega (arith, labels-from-alike b unnoted alike)) h ∙ alike.fields f k h (λ x y. absurd (omega arith)))
         (λ (m : labels_from b ≤ f).
-        ⊎_elim (λ (n : f < rows_from b). note_field f m n k h)
+        ⊎_elim (λ (n : f < rows_from b). note-field f m n k h)
         (λ (n : rows_from b ≤ f).
         noted-row unnoted f k (omega (arith, rows-from-alike b unnoted alike)) h ∙ alike.fields f k h (λ x y. absurd (omega arith)))
         (split f (rows_from b)))
@@ -233,5 +175,5 @@ module _ (b : List ℕ) where
         ext_get_or 0 (noted_table unnoted) b (noted-length unnoted ∙ unnoted-length)
         (λ p h.
         ap (λ (i : ℕ). slice_index (noted_table unnoted) i) (let e : p ≡ 10 * (p / 10) + p % 10 = omega arith in e)
-        ∙ noted_field (p / 10) (p % 10) (omega arith)
+        ∙ noted-field (p / 10) (p % 10) (omega arith)
         ∙ ap (λ (i : ℕ). slice_index b i) (let e : 10 * (p / 10) + p % 10 ≡ p = omega arith in e))

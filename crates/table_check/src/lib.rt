@@ -17,6 +17,7 @@ use text::frames::Refusal;
 use text::frames::sizes::FRAME;
 
 // 11; of no bytes at all there is no header to read.
+#[tactic(auto, using(crate::proofs::Passed::header_told))]
 fn no_table(table: &[u8]) -> bool
     ensures { result ≡ is_no_table table.now }
 {
@@ -31,7 +32,7 @@ fn no_table(table: &[u8]) -> bool
 /// Refusals, in this order: 11 a header that no image has, or a length that is not that of the frames which it counts; 12 the lowest entry
 /// or row that stands in a wrong place; 13 the lowest frame with a field that no image has; 13 the lowest frame of a label that does not
 /// note where its rows end. Success counts 0.
-#[tactic(auto, unfolding(crate::specs::TableCheck::prepared_verdict))]
+#[tactic(auto, using(crate::proofs::Passed::header_told), unfolding(crate::specs::TableCheck::prepared_verdict))]
 pub fn check_table(table: &[u8]) -> Result<usize, Refusal>
     ensures { reply result ≡ verdict_reply (prepared_verdict table.now) 0 }
 {
@@ -55,6 +56,7 @@ pub fn check_table(table: &[u8]) -> Result<usize, Refusal>
 }
 
 /// Every table that the preparation writes passes, and every table that passes is what it writes for an image that is accepted.
+#[tactic(auto, using(crate::proofs::Prepared::prepared_alone))]
 pub fn a_table_that_passes_is_a_prepared_one()
     ensures prepared { PassesPrepared }
     ensures no_other { PassesNoOther }

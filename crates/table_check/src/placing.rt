@@ -11,6 +11,7 @@ use image_check::image_fields::{bad_entry, bad_label, bad_row};
 use image_check::image_strays::{stray_entry, stray_row};
 
 // 12, of one frame: where an image has a label's kind and number a table has its note.
+#[tactic(auto, using(crate::proofs::PlacingCases::displacing))]
 fn displaced(table: &[u8], f: usize) -> bool
     requires { f < size table.now }
     ensures { result ≡ is_displaced table.now f }
@@ -29,6 +30,7 @@ fn displaced(table: &[u8], f: usize) -> bool
 }
 
 // 13, of the fields of one frame
+#[tactic(auto, using(crate::proofs::PlacingCases::contents_told))]
 fn bad_content(table: &[u8], f: usize) -> bool
     requires rows_inside { rows_from table.now ≤ size table.now }
     requires inside { f < size table.now }
@@ -49,6 +51,7 @@ fn bad_content(table: &[u8], f: usize) -> bool
 }
 
 /// The lowest of n frames that stands in a wrong place, or n.
+#[tactic(auto, using(image_check::proofs::image_faults::FaultSearch::search_alone))]
 pub fn lowest_displaced(table: &[u8], n: usize) -> usize
     requires { n ≤ size table.now }
     ensures { result ≡ lowest (is_displaced table.now) 0 n }
@@ -64,6 +67,7 @@ pub fn lowest_displaced(table: &[u8], n: usize) -> usize
 }
 
 /// The lowest of n frames with a field that no image has, or n.
+#[tactic(auto, using(image_check::proofs::image_faults::FaultSearch::search_alone))]
 pub fn lowest_bad(table: &[u8], n: usize) -> usize
     requires rows_inside { rows_from table.now ≤ size table.now }
     requires inside { n ≤ size table.now }

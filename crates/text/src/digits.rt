@@ -15,6 +15,7 @@ fn numeral_digit(c: u8) -> u8
 }
 
 // A small letter is its capital with one bit more, 32.
+#[tactic(auto, using(crate::proofs::digits::Digits::digits_made))]
 fn letter_digit(c: u8) -> u8
     ensures { result ≡ letter_of c }
 {
@@ -26,6 +27,7 @@ fn letter_digit(c: u8) -> u8
 }
 
 /// The digit that a character stands for, 0 to 15, or 255. One of the two is 255, which has every bit, so that the other is left.
+#[tactic(auto, using(crate::proofs::digits::Digits::digits_made))]
 pub fn digit(c: u8) -> u8
     ensures { result ≡ digit_of c }
 {
@@ -33,6 +35,7 @@ pub fn digit(c: u8) -> u8
 }
 
 /// The character of a digit, a capital from ten on.
+#[tactic(auto, using(crate::proofs::digits::Digits::digits_made))]
 pub fn character(d: u8) -> u8
     requires { d < 16 }
     ensures { result ≡ char_of d }
@@ -42,6 +45,7 @@ pub fn character(d: u8) -> u8
 
 /// The two characters of a byte as one number, the first one low. Both are made at once, a byte of the number each: six more than a digit
 /// is sixteen or more where its character is a letter, and letters begin seven places behind the numerals.
+#[tactic(auto, using(crate::proofs::digits::Digits::digits_made))]
 pub fn characters(b: u8) -> u16
     ensures { result ≡ char_of (b / 16) + 256 * char_of (b % 16) }
 {

@@ -7,7 +7,7 @@ ghost use Rattle.text.specs.digits.EachDigit.{EachDigit};
 ghost use Rattle.text.specs.frames.Alike.{CapitalsAlike};
 
 pub mod digits;
-pub mod frame_reading;
+mod frame_reading;
 pub mod frames;
 pub mod reading;
 

@@ -43,7 +43,7 @@ fn read_frames(text: &[u8], n: usize, out: &mut [u8]) -> Lowest
 /// Reads a text of up to `most` characters: its frames are counted, and their bytes stored, ten of each, at the front of the buffer.
 /// 1, 2 and 3 refuse; a fault of form in any frame goes before a wrong sum in any. No entry point: the buffer is scratch space, which 2 and
 /// 3 leave changed.
-#[tactic(auto, unfolding(crate::specs::frames::Check::text_verdict, crate::specs::frames::Read::read_buffer))]
+#[tactic(auto, using(crate::proofs::reading::Buffers::text_read), unfolding(crate::specs::frames::Check::text_verdict, crate::specs::frames::Read::read_buffer))]
 pub fn read_text(text: &[u8], most: usize, out: &mut [u8]) -> Result<usize, Refusal>
     requires { FRAME * most ≤ LINE * length out.old }
     ensures answered { reply result ≡ verdict_reply (text_verdict most text.now) (frame_count text.now) }

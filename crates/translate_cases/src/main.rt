@@ -7,7 +7,8 @@ ghost use Rattle.std.specs.Prelude.{◌≤◌, length};
 // Where the chart that begins at a place ends.
 fn end_of(text: &[u8], start: usize) -> usize
     requires { start ≤ length text.now }
-    ensures { (start ≤ result) × (result ≤ length text.now) }
+    ensures onward { start ≤ result }
+    ensures inside { result ≤ length text.now }
 {
     let mut i = start;
     while i < text.len() {

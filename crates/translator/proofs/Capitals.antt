@@ -48,3 +48,5 @@ image-capitals i S = frames-capitals (image_frames i) (image-frames i S)
 pub translated-capitals : ImageCapitals
 translated-capitals t ok =
     image-capitals (table (contents t)) (table-sound (contents t) (facts t (translated-read t ok)) (translated-few t ok))
+
+pub ruleset an_image_is_in_capitals = translated-capitals

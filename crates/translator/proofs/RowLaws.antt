@@ -59,8 +59,8 @@ module _ (c : Chart) (a : SoundChart c) where
       ∙ from-arc (label c v) w 2 b refl (scheme c v) (next0 c v)
       (arc0 c a v l (eqb-false (kind c v) 1 (not-true (is c 1 v) (and-r (is_stop c v) (not (is c 1 v)) e))))
 
-  pub row_plain : (v w b : ℕ) → v < size c → kind c v ≡ 2 → targets (label c v) w b (rows c) ≡ label c (by_arc c w (next0 c v)) ∷ []
-  row_plain v w b l k = grind (arith, common_steps, numbered-stop, stops-other, row-straight)
+  pub row-plain : (v w b : ℕ) → v < size c → kind c v ≡ 2 → targets (label c v) w b (rows c) ≡ label c (by_arc c w (next0 c v)) ∷ []
+  row-plain v w b l k = grind (arith, common_steps, numbered-stop, stops-other, row-straight)
 
   -- the node after a stopping Begin is a condition that is no stop
   pub row-begin : (v w b : ℕ) → v < size c → kind c v ≡ 0 → is_stop c v ≡ true

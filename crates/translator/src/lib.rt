@@ -5,16 +5,17 @@
 
 ghost use Rattle.translator.specs.Capitals.{ImageCapitals};
 
-pub mod entry_text;
+mod entry_text;
 pub mod label_text;
-pub mod path_text;
-pub mod row_text;
+mod path_text;
+mod row_text;
 mod table;
 pub mod translating;
 
 pub use table::{put_image, size_refusal};
 
 /// An image is written in capitals, whatever letters its chart has.
+#[tactic(auto, using(crate::proofs::Capitals::an_image_is_in_capitals))]
 pub fn an_image_is_in_capitals()
     ensures { ImageCapitals }
 {}

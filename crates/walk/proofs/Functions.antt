@@ -1,8 +1,7 @@
 -- While no 1 is written to the bit of the number that it calls, a function leaves by its 0 arc: from its call on the bit is 0, and the
 -- function waits among the callers, until its own return. The bindings told do not matter.
-use Rattle.std.proofs.Common.{ℕ, suc, ◌+◌, ◌≤◌, ◌<◌, Bool, true, false, ◌&&◌, ◌≡◌, refl, ap, ◌∙◌, sym, subst, ◌⊎◌, ⊎_elim}
-use Rattle.std.proofs.Common.{◌==◌, slice_index}
-use Rattle.std.proofs.Common.{List, [], ◌∷◌, ◌++◌, map, length, length-append, arith, eqb-true, eq-eqb}
+use Rattle.std.proofs.Common.{ℕ, suc, ◌+◌, ◌≤◌, ◌<◌, Bool, true, false, ◌&&◌, ◌≡◌, refl, ap, ◌∙◌, sym, subst, ◌⊎◌, ⊎_elim, ◌==◌, slice_index, List}
+use Rattle.std.proofs.Common.{[], ◌∷◌, ◌++◌, map, length, length-append, arith, eqb-true, eq-eqb}
 use Rattle.std.proofs.lemmas.Grind.{common_steps}
 use Rattle.std.specs.List.{list_any}
 use Rattle.words.proofs.lists.Tests.{no_both, or-l, or-r, and-l, and-r}
@@ -17,8 +16,7 @@ use Rattle.walk.specs.Functions.{is_walk_write_of_one, is_return_to, WalkUnwritt
 use Rattle.walk.proofs.Facts.{Facts}
 use Rattle.walk.proofs.FactsHold.{facts}
 use Rattle.walk.proofs.Views.{View, a-plain, a_call, a-function, a-home, a_back, a-begin, a-condition, view, stop-function}
-use Rattle.walk.proofs.Trace.{Open, WalkPosition, at, stop_code, stop_tick, position_returned, position_moved, is_drop_at}
-use Rattle.walk.proofs.Trace.{tick_at, move, trace}
+use Rattle.walk.proofs.Trace.{Open, WalkPosition, at, stop_code, stop_tick, position_returned, position_moved, is_drop_at, tick_at, move, trace}
 use Rattle.walk.proofs.Recursion.{walk-trace}
 
 -- ---- ticks by their first

@@ -1,10 +1,10 @@
 -- With no handler the number of places does not matter, and where every number is served by its own scheme the walk of an accepted chart
 -- is the unbounded walk.
-use Rattle.std.proofs.Common.{ℕ, zero, suc, Bool, true, false, ◌≡◌, refl, ap, ◌∙◌, sym, subst, List, [], ◌∷◌, ◌++◌, length, arith}
+use Rattle.std.proofs.Common.{ℕ, zero, suc, Bool, true, false, ◌≡◌, refl, ap, ◌∙◌, sym, subst, List, [], ◌∷◌, ◌++◌, arith}
 use Rattle.std.proofs.lemmas.Grind.{common_steps}
 use Rattle.results.specs.Results.{Results, no_results, result_of, with_result}
 use Rattle.text.specs.frames.Frame.{contents}
-use Rattle.charts.specs.Chart.{Chart, scheme, argument, next0, next1, result, mask, handler, end}
+use Rattle.charts.specs.Chart.{Chart, scheme, argument, next0, next1, result, mask, handler}
 use Rattle.walk.specs.Stops.{Stop, plain, call, function, test, home, back, stop_at}
 use Rattle.walk.specs.Walk.{Signal, OpenScheme, Tick, one_tick, SchemeCall, call_by_operation, call_by_function, is_dropping}
 use Rattle.walk.specs.Unswapped.{open_at, Course, spent, ended, course_after, Performer, call_course, stop_course}
@@ -18,6 +18,7 @@ use Rattle.walk.proofs.Recursion.{walk-trace}
 use Rattle.walk.proofs.OwnBinding.{own-binding}
 use Rattle.text.specs.declared.frames.codes.TheConstants.{HOME_CODE, PLAIN_CODE}
 use Rattle.walk.specs.Unbounded as unbounded
+use Rattle.std.proofs.lemmas.Bool.Decides.{nat_tests}
 
 -- ---- no call drops, whatever the number of places
 no-drop : (c : Chart) → handler c ≡ 0 → (n : ℕ) (f : Bool) (o : ℕ) → is_dropping n c f o ≡ false
@@ -128,14 +129,7 @@ module _ (c : Chart) (facts : Facts c) where
 
   alike-walks : handler c ≡ 0 → (n : ℕ) (ws : List ℕ) → unswapped_walk n c ws ≡ unbounded.walk c ws
   unfolding unswapped_walk walk_from unbounded.walk unbounded.scheme_course
-  alike-walks h n [] = refl
-  alike-walks h n (w ∷ ws) =
-      let k : ℕ = suc (length ws) in
-      let x : OpenScheme = open_at c 1 (end c 1) in
-      ap (ticks_after_course (walk_from (length ws) n c) c) (alike-perform k c (is_dropping n c false) (no-drop c h n false) x
-      (w ∷ ws) no_results)
-      ∙ carried-ticks (walk_from (length ws) n c) (unbounded.scheme_course k c x (w ∷ ws) no_results)
-      (endless k x (w ∷ ws) no_results (home-stop c facts))
+  alike-walks h n ws = grind (arith, nat_tests, home-stop, facts, no-drop, alike-perform, endless, carried-ticks)
 
 -- ---- of every text that the reader accepts
 pub no-handler : NoHandler

@@ -6,13 +6,13 @@ use Rattle.results.specs.Results.{Results, no_results}
 use Rattle.bindings.specs.Binding.{Binding, server_of}
 use Rattle.charts.specs.Chart.{Chart, handler, end}
 use Rattle.walk.specs.Stops.{start, Stop, plain, call, function, test, home, back, stop_at, by_arc, by_word}
-use Rattle.walk.specs.Walk.{Signal, OpenScheme, Tick, one_tick, Course, spent, ended, dropped, course_after, SchemeCall, Performer}
-use Rattle.walk.specs.Walk.{resumed_course, call_course, stop_course, scheme_course, is_dropping, bottom, ticks_after_course, walk_from}
-use Rattle.walk.specs.Walk.{walk}
+use Rattle.walk.specs.Walk.{Signal, OpenScheme, Tick, one_tick, Course, spent, ended, dropped, course_after, SchemeCall, Performer, resumed_course}
+use Rattle.walk.specs.Walk.{call_course, stop_course, scheme_course, is_dropping, bottom, ticks_after_course, walk_from, walk}
 use Rattle.walk.proofs.Trace.{Open, opens, moved_to, at, tick_of, stop_tick, node_resumed, resumed, position_returned, position_handling}
 use Rattle.walk.proofs.Trace.{position_called, position_moved, trace, position_at_home, trace-length}
 use Rattle.walk.specs.Simpler.{TickAWord}
 use Rattle.text.specs.declared.frames.codes.TheConstants.{HOME_CODE, PLAIN_CODE}
+use Rattle.std.proofs.lemmas.Bool.Decides.{nat_tests}
 
 -- ---- a scheme that has ended, or was dropped, leaves fewer than n words
 abbrev Shorter : ℕ → Course → Type 0
@@ -21,14 +21,10 @@ Shorter n (ended ts w ws b) = length ws < n
 Shorter n (dropped ts ws b) = length ws < n
 
 shorter-le : (n m : ℕ) (r : Course) → n ≤ m → Shorter n r → Shorter m r
-shorter-le n m (spent us) l h = tt
-shorter-le n m (ended us w ws b) l h = omega arith
-shorter-le n m (dropped us ws b) l h = omega arith
+shorter-le n m r l h = grind (arith, nat_tests)
 
 shorter-after : (n m : ℕ) (ts : List Tick) (r : Course) → n ≤ m → Shorter n r → Shorter m (course_after ts r)
-shorter-after n m ts (spent us) l h = tt
-shorter-after n m ts (ended us w ws b) l h = omega arith
-shorter-after n m ts (dropped us ws b) l h = omega arith
+shorter-after n m ts r l h = grind (arith, nat_tests)
 
 abbrev Short : Performer → Type 0
 Short go = (x : OpenScheme) (ws : List Signal) (b : Results) → Shorter (length ws) (go x ws b)
@@ -65,9 +61,7 @@ module _ (n : ℕ) (c : Chart) where
   onward ks f (dropped ts ws b) = ts ++ trace n c ws (position_handling c b)
 
   onward-after : (ks : List Open) (f : Bool) (ts : List Tick) (r : Course) → onward ks f (course_after ts r) ≡ ts ++ onward ks f r
-  onward-after ks f ts (spent us) = refl
-  onward-after ks f ts (ended us w ws b) = append_assoc ts us (trace n c ws (position_returned c ks w b f))
-  onward-after ks f ts (dropped us ws b) = append_assoc ts us (trace n c ws (position_handling c b))
+  onward-after ks f ts r = grind (arith, nat_tests, append_assoc, position_returned, trace, position_handling)
 
   -- an open scheme of the trace, with its callers, as the recursion has it
   abbrev above : List Open → Open → OpenScheme
@@ -93,9 +87,7 @@ module _ (n : ℕ) (c : Chart) where
       go = scheme_course k c (is_dropping n c f)
 
       same-resume : (r : Course) → Shorter (suc k) r → onward (x ∷ ks) f r ≡ onward ks f (resumed_course go (above ks x) a r)
-      same-resume (spent ts) l = grind (arith, common_steps)
-      same-resume (ended ts w ws b) l = grind (arith, common_steps)
-      same-resume (dropped ts ws b) l = grind (arith, common_steps)
+      same-resume r l = grind (arith, common_steps)
 
       -- a call: the scheme called, and then the caller; or a drop
       same-call : (s : Binding) (ws : List Signal) (b : Results) → length ws ≤ k → (d : Bool)

@@ -130,8 +130,8 @@ ticks_after_course go c (dropped ts ws b) = ts ++ go true (start c (handler c)) 
 unfoldable pub walk_from : ℕ → ℕ → Chart → Bool → ℕ → List Signal → Results → List Tick
 walk_from zero n c first v ws b = []
 walk_from (suc k) n c first v ws b =
-    ticks_after_course (walk_from k n c) c (scheme_course (length ws) c (is_dropping n c first)
-    (record { node = v; number = bottom c first; opened = 1 }) ws b)
+    ticks_after_course (walk_from k n c) c
+    (scheme_course (length ws) c (is_dropping n c first) (record { node = v; number = bottom c first; opened = 1 }) ws b)
 
 -- with n places, from the home tick on, every result bit 0
 unfoldable pub walk : ℕ → Chart → List Signal → List Tick

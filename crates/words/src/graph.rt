@@ -5,7 +5,7 @@ ghost use Rattle.words.specs.lists.Sequences.{over};
 ghost use Rattle.words.specs.graph.Reach.{is_marked};
 ghost use Rattle.words.specs.graph.inner.Listed.{many, listing, enlist, marked_nodes};
 
-// Node u has a mark; a number that is no node has none.
+/// Whether node `u` has a mark; a number that is no node has none.
 pub fn is_marked(marks: &[bool], u: usize) -> bool
     ensures { result ≡ is_marked marks.now u }
 {
@@ -15,9 +15,10 @@ pub fn is_marked(marks: &[bool], u: usize) -> bool
     marks[u]
 }
 
-// Node u is marked, if it is one, and listed after the first `count`, if it had no mark; how many are listed then.
+/// Marks node `u`, if it is one, and lists it after the first `count` if it had no mark; hands back how many are listed then.
 pub fn enlist(marks: &mut [bool], list: &mut [u8], count: usize, u: u8) -> usize
-    requires { (length marks.old ≤ length list.old) × (count ≡ many marks.old) }
+    requires room { length marks.old ≤ length list.old }
+    requires counted { count ≡ many marks.old }
     ensures { listing marks.new list.new result ≡ enlist
         (listing marks.old list.old count) u }
 {
@@ -33,10 +34,12 @@ pub fn enlist(marks: &mut [bool], list: &mut [u8], count: usize, u: u8) -> usize
     count + 1
 }
 
-// The marked nodes are written to the front of the list, the lowest first, and the rest of it stays; how many they are.
+/// Writes the marked nodes to the front of the list, the lowest first, and leaves the rest of it; hands back how many they are.
 pub fn list_marked(marks: &[bool], list: &mut [u8]) -> usize
-    requires { (length marks.now ≤ length list.old) × (length marks.now ≤ 256) }
-    ensures { (list.new ≡ over (marked_nodes marks.now) list.old) × (result ≡ many marks.now) }
+    requires room { length marks.now ≤ length list.old }
+    requires few { length marks.now ≤ 256 }
+    ensures listed { list.new ≡ over (marked_nodes marks.now) list.old }
+    ensures counted { result ≡ many marks.now }
 {
     let n = marks.len();
     let mut count: usize = 0;
@@ -49,7 +52,7 @@ pub fn list_marked(marks: &[bool], list: &mut [u8]) -> usize
     count
 }
 
-// The lowest node without a mark, or the number of nodes.
+/// The lowest node without a mark, or the number of nodes.
 pub fn lowest_unmarked(marks: &[bool]) -> usize
     ensures { result ≡ lowest (λ v. not (is_marked marks.now v)) 0 (length marks.now) }
 {

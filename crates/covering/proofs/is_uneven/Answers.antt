@@ -1,6 +1,5 @@
 -- `covering::is_uneven` meets its contract: the rows of a label begin where those of the label before end.
-use Rattle.covering.proofs.LoopCases.{trying-start, end-after, end-inside}
-use Rattle.covering.proofs.LoopCases.{end-near, trying-hit, trying-on, trying-over}
+use Rattle.covering.proofs.LoopCases.{trying-start, end-after, end-inside, end-near, trying-hit, trying-on, trying-over}
 use Rattle.std.proofs.Common.{rules}
 use Rattle.covering.proofs.is_uneven.Goals as goal
 

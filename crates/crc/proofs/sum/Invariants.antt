@@ -1,7 +1,5 @@
 -- `crc::sum` meets its contract: the register is that after the bytes before this one.
-use mathlib.Core.Path.{◌≡◌}
-use lib.ListN.{take}
-use Rattle.std.specs.List.{fold}
+use Rattle.std.proofs.Common.{◌≡◌, take, fold}
 use Rattle.crc.specs.Crc.{after_byte, turned}
 use Rattle.crc.proofs.sum.Given as goal
 

@@ -4,8 +4,8 @@ use Rattle.text.specs.frames.Answer.{Reply, reply_number, reply_index, reply_cou
 
 -- the number returned, and the index and the count written, are those of the reply
 pub record GivesReplyC (x : Reply) (returned at made : ℕ) : Type 0 where
-  pub number_is : returned ≡ reply_number x
-  pub index_is : at ≡ reply_index x
+  pub number-is : returned ≡ reply_number x
+  pub index-is : at ≡ reply_index x
   pub count-is : made ≡ reply_count x
 
 -- a call with one lent buffer

@@ -1,5 +1,5 @@
 -- The search finds just the little charts, in their order.
-use Rattle.std.proofs.Common.{if◌then◌else◌, ℕ, zero, suc, ◌+◌, ◌*◌, ◌-◌, ◌≤◌, ◌<◌, Bool, true, false, ◌&&◌, ◌≡◌, refl, sym, ◌∙◌, ap, ap₂}
+use Rattle.std.proofs.Common.{if◌then◌else◌, ℕ, zero, suc, ◌+◌, ◌*◌, ◌-◌, ◌≤◌, ◌<◌, Bool, true, false, ◌&&◌, ◌≡◌, refl, sym, ◌∙◌, ap}
 use Rattle.std.proofs.Common.{nat_lt, nat_le, ◌==◌, slice_index, flat_map, filter}
 use Rattle.std.proofs.Common.{subst, List, [], ◌∷◌, ◌++◌, map, append_assoc, append-nil, arith, length}
 use Rattle.std.proofs.Common.{get_or-append-add, eqb-true, leb-true, lt-ltb}
@@ -93,12 +93,7 @@ module _ (n : ℕ) (a : 2 ≤ n) (b : n ≤ 4) where
 
   rest-more : (gs : List (List ℕ)) (m : ℕ) → Rest gs (suc m) ≡ flat_map (λ r. Rest (gs ++ (r ∷ [])) m) rs
   unfolding lists_of
-  rest-more gs m =
-      filter-concat ok (λ fs. chart_of (gs ++ fs)) (λ r. map (λ fs. r ∷ fs) (lists_of rs m)) rs
-      ∙ concat-each (λ r. filter ok (map (λ fs. chart_of (gs ++ fs)) (map (λ fs. r ∷ fs) (lists_of rs m)))) (λ r. Rest (gs ++ (r ∷ [])) m)
-      (λ r. ap (filter ok) (map-map (λ fs. r ∷ fs) (λ fs. chart_of (gs ++ fs)) (lists_of rs m)
-      ∙ map-alike (λ fs. chart_of (gs ++ (r ∷ fs))) (λ fs. chart_of ((gs ++ (r ∷ [])) ++ fs))
-      (λ fs. ap chart_of (sym (append_assoc gs (r ∷ []) fs))) (lists_of rs m))) rs
+  rest-more gs m = grind (arith, common_steps, append_assoc, filter-concat, map-alike, map-map, concat-each)
 
   refused-all : (gs : List (List ℕ)) (k m : ℕ) → k + m ≡ n → MadeOf rs k gs
       → ((fs : List (List ℕ)) → size (chart_of (gs ++ fs)) ≡ n → Plain (chart_of (gs ++ fs)) → ⊥) → Rest gs m ≡ []
@@ -216,16 +211,7 @@ module _ (n : ℕ) (a : 2 ≤ n) (b : n ≤ 4) where
 
   leaf : (x : Chart) → (ok x ≡ true → any (is_lonely x) 0 (size x) ≡ false) → searched_charts n 0 x ≡ filter ok (x ∷ [])
   unfolding searched_charts
-  leaf x f = go (any (is_lonely x) 0 (size x)) (ok x) refl refl
-    where
-      by : Bool → Bool → List Chart
-      by t s = elim t [ true ↦ [] | false ↦ elim s [ true ↦ x ∷ [] | false ↦ [] ] ]
-
-      go : (t s : Bool) → any (is_lonely x) 0 (size x) ≡ t → ok x ≡ s → by (any (is_lonely x) 0 (size x)) (ok x) ≡ filter ok (x ∷ [])
-      go true true p q = no_both (any (is_lonely x) 0 (size x)) p (f q)
-      go true false p q = ap₂ by p q ∙ sym (filter-no ok x [] q ∙ filter-none ok)
-      go false true p q = ap₂ by p q ∙ sym (filter-yes ok x [] q ∙ ap (λ (xs : List Chart). x ∷ xs) (filter-none ok))
-      go false false p q = ap₂ by p q ∙ sym (filter-no ok x [] q ∙ filter-none ok)
+  leaf x f = grind (arith, common_steps, no_both, filter-none, filter-no, filter-yes)
 
   searched-same : (m v : ℕ) (gs : List (List ℕ)) → v + m ≡ n → MadeOf rs v gs → searched_charts n m (chart_of gs) ≡ Rest gs m
   unfolding lists_of

@@ -57,3 +57,5 @@ module _ (rs₀ : List ℕ) (numbers n : ℕ) (rs : List ℕ) (v rest : ℕ) (k 
   unpacking-done l =
       let z : v ≡ 0 = omega arith in
       ap (λ (j : ℕ). unpacked n j rest ++ drop (10 * j) rs) (sym z) ∙ k.same ∙ ap (λ (m : ℕ). unpacked m m numbers) k.count
+
+pub ruleset unpacking = (unpacking-on, unpacking-done)

@@ -26,3 +26,5 @@ module _ (n i : ℕ) where
         ◌≡◌ {A = List ℕ} (3 ∷ 1 ∷ 0 ∷ j / n ∷ j % n ∷ 0 ∷ 0 ∷ 0 ∷ 0 ∷ 0 ∷ []) (node_at n i)
     unfolding node_at
     at-condition m = grind (arith, common_steps)
+
+pub ruleset node_cases = (at-begin, at-end, at-operation, at-condition)

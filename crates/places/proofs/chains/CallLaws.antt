@@ -1,15 +1,14 @@
 -- What the list of a scheme's calls holds, and which schemes call and are called in an accepted chart.
-use Rattle.std.proofs.Common.{ℕ, zero, suc, ◌+◌, ◌≤◌, ◌<◌, Bool, true, ◌&&◌, not, ◌≡◌, sym, ◌∙◌, List, [], ◌∷◌, eq-or-lt_of_le, arith, ◌==◌}
-use Rattle.std.proofs.Common.{filter}
-use Rattle.std.proofs.Common.{eqb-true, eq-eqb, ne_eqb}
+use Rattle.std.proofs.Common.{ℕ, zero, suc, ◌+◌, ◌≤◌, ◌<◌, Bool, true, ◌&&◌, not, ◌≡◌, sym, ◌∙◌, List, [], ◌∷◌, eq-or-lt_of_le, arith, ◌==◌, filter}
+use Rattle.std.proofs.Common.{eq-eqb, ne_eqb}
 use Rattle.std.proofs.lemmas.Grind.{common_steps}
 use Rattle.words.specs.lists.Numbers.{range}
-use Rattle.words.proofs.lists.Tests.{or-true-l, or-true-r, and-l, and-r, and-true, and-no}
+use Rattle.words.proofs.lists.Tests.{or-true-l, or-true-r, and-l, and-true, and-no}
 use Rattle.words.proofs.lists.Searches.{any-true, any-some}
 use Rattle.words.proofs.lists.Ranges.{filter-yes, filter-no}
 use Rattle.words.specs.graph.Reach.{is_member}
 use Rattle.text.specs.frames.Frame.{size}
-use Rattle.charts.specs.Chart.{Chart, kind, scheme, argument, is}
+use Rattle.charts.specs.Chart.{Chart, kind, argument, is}
 use Rattle.walk.proofs.Facts.{Facts}
 use Rattle.places.specs.chains.Calls.{has_call, is_call_of, is_caller, calls_of}
 use Rattle.places.specs.chains.Chains.{Calls}
@@ -27,26 +26,11 @@ filter-member p h (x ∷ xs) = grind (arith, common_steps, filter-member p h xs,
 module _ (c : Chart) where
   pub calls-true : (g h : ℕ) → Calls c g h → is_caller c g h ≡ true
   unfolding is_caller
-  calls-true g h k =
-      let v : ℕ = k.node in
-      any-true (is_call_of c g h) 0 (size c) v (omega arith) (omega (arith, k.inside))
-      (and-true (has_call c v) (scheme c v == g && argument c v == h) k.holds
-      (and-true (scheme c v == g) (argument c v == h) (eq-eqb (scheme c v) g k.owner) (eq-eqb (argument c v) h k.called)))
+  calls-true g h k = grind (arith, any-true (is_call_of c g h) 0 (size c), and-true, eq-eqb)
 
   pub true-calls : (g h : ℕ) → is_caller c g h ≡ true → Calls c g h
   unfolding is_caller
-  true-calls g h e =
-      let r = any-some (is_call_of c g h) 0 (size c) e in
-      let v : ℕ = r.0 in
-      let m : (scheme c v == g && argument c v == h) ≡ true =
-      and-r (has_call c v) (scheme c v == g && argument c v == h) r.3 in
-      record {
-        node = v;
-        inside = omega (arith, r.2);
-        holds = and-l (has_call c v) (scheme c v == g && argument c v == h) r.3;
-        owner = eqb-true (scheme c v) g (and-l (scheme c v == g) (argument c v == h) m);
-        called = eqb-true (argument c v) h (and-r (scheme c v == g) (argument c v == h) m);
-      }
+  true-calls g h e = grind (arith, common_steps, any-some)
 
   pub calls-member : (g h : ℕ) → h < 17 → Calls c g h → is_member h (calls_of c g) ≡ true
   calls-member g h l k =

@@ -1,8 +1,7 @@
 -- The masks of the calls: one node more, and the rounds over them.
-use Rattle.std.proofs.Common.{if◌then◌else◌, ℕ, zero, suc, ◌+◌, ◌-◌, ◌^◌, ◌≤◌, ◌<◌, Bool, true, false, ◌&&◌, ◌||◌, ◌≡◌, refl, sym, ◌∙◌, ap}
-use Rattle.std.proofs.Common.{nat_lt, ◌==◌, slice_index}
-use Rattle.std.proofs.Common.{◌*◌, ◌%◌, shl_exact, lit<, one-mul, ap₂, List, add-one, arith, bit_or, length, set, replicate, eq-eqb, ne_eqb}
-use Rattle.std.proofs.Common.{lt-ltb, le-ltb}
+use Rattle.std.proofs.Common.{if◌then◌else◌, ℕ, zero, suc, ◌+◌, ◌-◌, ◌^◌, ◌≤◌, ◌<◌, Bool, true, false, ◌&&◌, ◌||◌, ◌≡◌, refl, sym, ◌∙◌, ap, nat_lt}
+use Rattle.std.proofs.Common.{◌==◌, slice_index, ◌*◌, ◌%◌, shl_exact, lit<, one-mul, ap₂, List, add-one, arith, bit_or, length, set, replicate}
+use Rattle.std.proofs.Common.{eq-eqb, ne_eqb, lt-ltb, le-ltb}
 use lib.Bits.{or_zero_r}
 use Rattle.std.proofs.lemmas.Grind.{common_steps}
 use Rattle.std.proofs.lemmas.Bool.Decides.{nat_tests}
@@ -54,9 +53,7 @@ module _ (c : Chart) where
 
     -- a node with no call
     pub masks-same : has_call c v ≡ false → masks ≡ call_masks c (v + 1)
-    masks-same n = e ∙ tabulate-alike (λ g. mask_of (λ h. any (is_call_of c g h) 0 v) 17)
-        (λ g. mask_of (λ h. any (is_call_of c g h) 0 (v + 1)) 17) 17
-        (λ g l. mask-alike _ _ 17 (λ h m. no-more g h (ap (λ (b : Bool). b && (scheme c v == g && argument c v == h)) n)))
+    masks-same n = grind (arith, mask-alike, tabulate-alike, no-more)
 
     -- a node of scheme g that calls scheme k
     module _ (g k : ℕ) (holds : has_call c v ≡ true) (eg : g ≡ scheme c v) (ek : k ≡ argument c v) where
@@ -149,9 +146,7 @@ module _ (masks : List ℕ) where
   pub called-yes : (set g x : ℕ) → x ≡ called_by masks set g → bit_at set g ≡ 1
       → bit_or x (slice_index masks g) ≡ called_by masks set (g + 1)
   unfolding called_by
-  called-yes set g x e o =
-      ap₂ bit_or e (sym (ap (λ (b : Bool). if b then slice_index masks g else 0) (eq-eqb (bit_at set g) 1 o))) ∙ sym
-      (ap (called_by masks set) (add-one g))
+  called-yes set g x e o = grind (arith, eq-eqb, add-one)
 
   pub called-no : (set g x : ℕ) → x ≡ called_by masks set g → (bit_at set g ≡ 1 → ⊥) → x ≡ called_by masks set (g + 1)
   unfolding called_by

@@ -48,11 +48,8 @@ module _ (c : Chart) where
 
   module _ (f : Facts c) where
     leads-marked : (g h : ℕ) → Leads c g h → is_marked (nodes_joined_from 17 (calls_of c) (calls_of c g)) h ≡ true
-    leads-marked g h (one s) = let r = called-range c f g h s in
-        joined-first 17 (calls_of c) (calls_of c g) h (omega (arith, r)) (calls-member c g h (omega (arith, r)) s)
-    leads-marked g k (more {h} l s) = let r = called-range c f h k s in
-        (joined-closed 17 (calls_of c) (calls_of c g)).goes h k (omega (arith, r)) (omega (arith, r)) (leads-marked g h l)
-        (calls-member c h k (omega (arith, r)) s)
+    leads-marked g h (one s) = grind (arith, called-range c f g h s, joined-first 17 (calls_of c) (calls_of c g) h, calls-member c g h)
+    leads-marked g k (more {h} l s) = grind (arith, leads-marked g h l, called-range c f h k s, joined-closed 17 (calls_of c) (calls_of c g), calls-member c h k)
 
     leads-from : (g h : ℕ) → Leads c g h → (1 ≤ g) × (g ≤ 16)
     leads-from g h (one s) = let r = called-range c f g h s in (r.0, r.1)
@@ -60,13 +57,7 @@ module _ (c : Chart) where
 
     pub circle-refused : Circle c → is_circular c ≡ true
     unfolding is_circular
-    circle-refused k =
-        let h : ℕ = k.scheme in
-        let r = leads-from h h k.back in
-        any-true (is_calling_itself c) 1 16 h r.0 (omega (arith, r))
-        (and-true (is_marked (nodes_joined_from 17 (calls_of c) (1 ∷ [])) h)
-        (is_marked (nodes_joined_from 17 (calls_of c) (calls_of c h)) h)
-        (chain-reached c f k.schemes h k.chain) (leads-marked h h k.back))
+    circle-refused k = grind (arith, leads-from, any-true (is_calling_itself c) 1 16, and-true, chain-reached c f k.schemes, leads-marked)
 
 -- ---- how the code tells: there is a circle exactly where a chain has 17 schemes
 module _ (c : Chart) (f : Facts c) where

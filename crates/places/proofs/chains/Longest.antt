@@ -1,7 +1,6 @@
 -- Where no scheme in reach of scheme 1 calls itself, `places` is the number of schemes of the longest chain.
-use Rattle.std.proofs.Common.{ℕ, zero, suc, ◌+◌, ◌-◌, ◌≤◌, ◌<◌, Bool, true, false, ◌&&◌, not, ◌≡◌, refl, sym, ◌∙◌, ap, subst, ⊎_elim, []}
-use Rattle.std.proofs.Common.{◌==◌}
-use Rattle.std.proofs.Common.{◌∷◌, arith, zero-add, ne_eqb}
+use Rattle.std.proofs.Common.{ℕ, zero, suc, ◌+◌, ◌-◌, ◌≤◌, ◌<◌, Bool, true, false, ◌&&◌, not, ◌≡◌, refl, sym, ◌∙◌, ap, subst, ⊎_elim, [], ◌==◌, ◌∷◌}
+use Rattle.std.proofs.Common.{arith, zero-add, ne_eqb}
 use Rattle.std.proofs.lemmas.Grind.{common_steps}
 use Rattle.words.specs.lists.Numbers.{any, lowest}
 use Rattle.words.proofs.lists.Tests.{no_both, or-none, and-l, and-r, and-true, and-false, not-false, cases, split}
@@ -103,10 +102,7 @@ module _ (c : Chart) where
     nonzero h = not (h == 0)
 
     never-zero : Closed 17 (calls_of c) nonzero
-    never-zero = record {
-      goes = λ g h lg lh m s. let r = called-range c f g h (member-calls c g h s) in
-          ap not (ne_eqb h 0 (λ e. omega (arith, r)));
-    }
+    never-zero = grind (arith, common_steps, called-range c f, member-calls c, ne_eqb)
 
     -- nobody calls scheme 0
     unjoined : (h : ℕ) → is_marked (marks_after_arcs 17 (calls_of c) h) 0 ≡ false

@@ -1,13 +1,12 @@
 -- Laws of masks of the numbers below n that pass a test: their bits, two of them joined, one number more.
-use Rattle.std.proofs.Common.{if◌then◌else◌, ℕ, zero, suc, ◌+◌, ◌^◌, ◌≤◌, ◌<◌, max, Bool, true, false, ◌||◌, not, ◌≡◌, refl, sym, ◌∙◌, ap}
-use Rattle.std.proofs.Common.{◌==◌}
-use Rattle.std.proofs.Common.{ap₂, ⊎_elim, pow-suc, arith, bit_or, pow_pos, pow_mono, ne_eqb, eq-eqb}
+use Rattle.std.proofs.Common.{if◌then◌else◌, ℕ, zero, suc, ◌^◌, ◌≤◌, ◌<◌, max, Bool, true, false, ◌||◌, not, ◌≡◌, refl, sym, ◌∙◌, ap, ◌==◌, ap₂}
+use Rattle.std.proofs.Common.{⊎_elim, pow-suc, arith, bit_or, pow_pos, pow_mono, ne_eqb, eq-eqb}
 use Rattle.std.proofs.Math.Decide.{ℕ_discrete}
 use lib.Bits.{or_lt}
 use Rattle.std.proofs.Math.Pow.{pow-lt}
 use Rattle.std.proofs.lemmas.Grind.{common_steps}
 use Rattle.words.specs.lists.Numbers.{any}
-use Rattle.words.proofs.lists.Tests.{split}
+use Rattle.words.proofs.lists.Tests.{split, cases}
 use Rattle.words.proofs.lists.Searches.{any-some, any-false}
 use Rattle.std.specs.Int.{bit_at}
 use Rattle.words.proofs.bits.BitLaws.{bit-or, bit-none, bit-add-same, bit-add-other, bit-pow-same, bit-pow-other, same-bits}
@@ -25,22 +24,8 @@ module _ (p : ℕ → Bool) where
 
   pub mask-bit : (n i : ℕ) → i < n → bit_at (mask_of p n) i ≡ (if p i then 1 else 0)
   unfolding mask_of
-  mask-bit zero i l = absurd (omega arith)
-  mask-bit (suc n) i l = go (p n) refl (ℕ_discrete n i) (mask-bit n i)
-    where
-      free : bit_at (mask_of p n) n ≡ 0
-      free = beyond (mask_of p n) n (mask-small n)
-
-      go : (b : Bool) → p n ≡ b → Dec (n ≡ i) → (i < n → bit_at (mask_of p n) i ≡ (if p i then 1 else 0))
-          → bit_at (mask_of p n + (if b then 2 ^ n else 0)) i ≡ (if p i then 1 else 0)
-      go true e (yes q) ih =
-          ap (λ (k : ℕ). bit_at (mask_of p n + 2 ^ n) k) (sym q) ∙ bit-add-same (mask_of p n) n free
-          ∙ sym (ap (λ (b : Bool). if b then 1 else 0) (ap p (sym q) ∙ e))
-      go false e (yes q) ih =
-          ap (λ (k : ℕ). bit_at k i) (omega arith) ∙ ap (bit_at (mask_of p n)) (sym q) ∙ free
-          ∙ sym (ap (λ (b : Bool). if b then 1 else 0) (ap p (sym q) ∙ e))
-      go true e (no q) ih = bit-add-other (mask_of p n) n i free q ∙ ih (omega arith)
-      go false e (no q) ih = ap (λ (k : ℕ). bit_at k i) (omega arith) ∙ ih (omega arith)
+  mask-bit zero i l = grind (arith, common_steps)
+  mask-bit (suc n) i l = grind (arith, common_steps, cases (p n), mask-bit n i, bit-add-same, bit-add-other, beyond, mask-small)
 
   -- a number with these bits
   pub mask-is : (n x : ℕ) → x < 2 ^ n → ((i : ℕ) → i < n → bit_at x i ≡ (if p i then 1 else 0)) → x ≡ mask_of p n

@@ -25,8 +25,8 @@ calls_of c g = filter (is_caller c g) (range 0 (suc SCHEMES))
 -- 20. Scheme h is reached by calls from scheme 1, and calls lead from it back to it.
 abbrev pub is_calling_itself : Chart → ℕ → Bool
 is_calling_itself c h =
-    is_marked (nodes_joined_from (suc SCHEMES) (calls_of c) (1 ∷ [])) h && is_marked
-    (nodes_joined_from (suc SCHEMES) (calls_of c) (calls_of c h)) h
+    is_marked (nodes_joined_from (suc SCHEMES) (calls_of c) (1 ∷ [])) h
+    && is_marked (nodes_joined_from (suc SCHEMES) (calls_of c) (calls_of c h)) h
 
 unfoldable pub is_circular : Chart → Bool
 is_circular c = any (is_calling_itself c) 1 SCHEMES

@@ -33,7 +33,7 @@ fn note_call(records: &[u8], v: usize, masks: &mut [u32])
     }
 }
 
-// The calls of all nodes.
+/// Notes the calls of all nodes: in the mask of each scheme, of 17, bit h where a node of it calls scheme h.
 #[tactic(auto, using(crate::proofs::chains::CallMasks::none_yet))]
 pub fn note_calls(records: &[u8], masks: &mut [u32])
     requires ready { Ready records.now }

@@ -35,7 +35,8 @@ fn longest(masks: &[u32]) -> u8
     0
 }
 
-// How many schemes stand in the longest chain of calls that begins at scheme 1, which counts; 0 where a circle of calls can be reached.
+/// How many schemes are open at once where calls from scheme 1 go deepest, scheme 1 too: 1 to 16, or 0 where a scheme that can be
+/// reached calls itself, by way of others too.
 pub fn longest_chain(records: &[u8]) -> u8
     requires { Ready records.now }
     ensures { result ≡ longest_chain records.now }

@@ -13,7 +13,7 @@ overflow_add-total c =
     omega (
       arith,
       summed-fits _ _ _ _ onward (λ k. omega (arith, known.given k))
-          c.requires.1,
+          c.requires.few,
     )
 
 pub loop-i-preserved : goal.loop-i-preserved
@@ -22,10 +22,8 @@ loop-i-preserved c =
     (turn.i + 1)) = summed-more _ _ _ _ c.loop-i.invariant (search rules) _ c.tick_price-total.ensures in
     onward
 
-pub returns : goal.returns
-returns c =
-    let loop = c.loop-i in
-    let known = c.shared_slice_known-1 in (
-      summed-all _ _ _ _ loop.invariant (search rules),
-      summed-fits _ _ _ _ loop.invariant (λ k. omega (arith, known.given k)) c.requires.1,
-    )
+pub returns-clause-summed : goal.returns-clause-summed
+returns-clause-summed c = summed-all _ _ _ _ c.loop-i.invariant (search rules)
+
+pub returns-clause-small : goal.returns-clause-small
+returns-clause-small c = summed-fits _ _ _ _ c.loop-i.invariant (λ k. omega (arith, c.shared_slice_known-1.given k)) c.requires.few

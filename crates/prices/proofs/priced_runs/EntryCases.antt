@@ -55,18 +55,18 @@ module _ (t : List ℕ) (s : State) (ms ks : List ℕ) where
   no_ticks v = run_on v (λ _. ticks (decoded_image (contents t)) s []) s ms ks
 
   -- a run of no words is refused by what is tried before 27
-  none_is : run t s [] ms ks ≡ no_ticks (tried (image_verdict t) (is_unfit (decoded_image (contents t)) s))
+  none-is : run t s [] ms ks ≡ no_ticks (tried (image_verdict t) (is_unfit (decoded_image (contents t)) s))
   unfolding run run_verdict
-  none_is = grind (arith, common_steps)
+  none-is = grind (arith, common_steps)
 
   none-answer : (run t s [] ms ks).reply ≡ verdict_reply (tried (image_verdict t) (is_unfit (decoded_image (contents t)) s)) 0
   unfolding ticks
-  none-answer = grind (arith, common_steps, none_is)
+  none-answer = grind (arith, common_steps, none-is)
 
   -- and leaves the state
   pub none-state : (run t s [] ms ks).state ≡ s
   unfolding ticks
-  none-state = grind (arith, common_steps, none_is)
+  none-state = grind (arith, common_steps, none-is)
 
   -- where it is not refused, more words get 27
   many-27 : reply_number (run t s [] ms ks).reply ≡ 0 → many_verdict t s ≡ refused 27 0
@@ -111,14 +111,14 @@ module _ (t : List ℕ) (before : Kept) (prices ws ms ks : List ℕ) where
   priced_outcome_by v = record { run = run_on v (λ _. ran) s₀ ms ks; price = price_on prices v (λ _. ran) }
 
   module _ (more : 65536 < length ws) where
-    many_is : whole ≡ priced_outcome_by (many_verdict t s₀)
+    many-is : whole ≡ priced_outcome_by (many_verdict t s₀)
     unfolding priced_run priced_verdict many_verdict
-    many_is = grind (arith, common_steps)
+    many-is = grind (arith, common_steps)
 
     pub many-priced : (a : Answer) → reply a ≡ verdict_reply (many_verdict t s₀) 0
         → GivesPricedRunOn whole ws before a 0 before ms ks
     unfolding state_priced many_verdict
-    many-priced a e = rw many_is (go (image_verdict t) (is_unfit (decoded_image (contents t)) s₀) e)
+    many-priced a e = rw many-is (go (image_verdict t) (is_unfit (decoded_image (contents t)) s₀) e)
       where
         kept : (r : RunOutcome) → before ≡ (if has_too_many_words ws then before else state_after before r)
         kept r = sym (cond-true (has_too_many_words ws) before (state_after before r) (lt-ltb 65536 (length ws) more))
@@ -146,7 +146,7 @@ module _ (t : List ℕ) (before : Kept) (prices ws ms ks : List ℕ) where
 
       go : (65536 < length ws) ⊎ (length ws ≤ 65536) → view (if has_too_many_words ws then before else old whole.run) ≡ whole.run.state
       go (inl more) = ap view (cond-true (has_too_many_words ws) before (old whole.run) (lt-ltb 65536 (length ws) more))
-          ∙ sym (ap (λ (x : PricedOutcome). x.run.state) (many_is more) ∙ kept (image_verdict t) (is_unfit (decoded_image (contents t)) s₀))
+          ∙ sym (ap (λ (x : PricedOutcome). x.run.state) (many-is more) ∙ kept (image_verdict t) (is_unfit (decoded_image (contents t)) s₀))
         where
           kept : (v : Verdict) (b : Bool) → (priced_outcome_by (many v b)).run.state ≡ s₀
           kept (refused k i) b = refl

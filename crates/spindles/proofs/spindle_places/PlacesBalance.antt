@@ -38,8 +38,8 @@ pub record CallStep (h : Head) (a : SpindleCall) : Type 0 where
 
 -- one state put into the list
 module _ (h : Head) (q : KeptHead h) (k : ℕ) (t : State) (sized : Sized t) where
-  put_whole : (j : ℕ) → j < 4 → Sized (state_at (set h.states k t) j)
-  put_whole j m = grind (arith, common_steps)
+  put-whole : (j : ℕ) → j < 4 → Sized (state_at (set h.states k t) j)
+  put-whole j m = grind (arith, common_steps)
 
 -- ---- a tick
 module _ (h : Head) (q : KeptHead h) (k : ℕ) (l : k < 4) where
@@ -55,7 +55,7 @@ module _ (h : Head) (q : KeptHead h) (k : ℕ) (l : k < 4) where
 
   put-kept : (m code : ℕ) (t : State) → Sized t → Deepens s.depth (finished m code t) → is_none_left s.depth t.depth h.taken ≡ false
       → KeptHead (put t)
-  put-kept m code t w d free = grind (arith, common_steps, depths-set, depth-most, length-set, put_whole, put-room)
+  put-kept m code t w d free = grind (arith, common_steps, depths-set, depth-most, length-set, put-whole, put-room)
 
   put-adds : (m code : ℕ) (t : State) → Deepens s.depth (finished m code t)
       → h.taken + t.depth - s.depth + places_returned code s.depth + places_given_back
@@ -92,22 +92,22 @@ module _ (t : List ℕ) (k w : ℕ) (h : Head) (q : KeptHead h) where
 -- ---- a rebinding
 rebind-step : (t : List ℕ) (k n g : ℕ) (h : Head) → KeptHead h → CallStep h (rebinds t k n g)
 unfolding rebind
-rebind-step t k n g h q = grind (arith, common_steps, length-set, rebinding-sized, depths-same, get_or-set_other, put_whole, none)
+rebind-step t k n g h q = grind (arith, common_steps, length-set, rebinding-sized, depths-same, get_or-set_other, put-whole, none)
 
 -- ---- any number of calls
-call_step : (a : SpindleCall) (h : Head) → KeptHead h → CallStep h a
-call_step (spins t k w) h q = spin-step t k w h q
-call_step (rebinds t k n g) h q = rebind-step t k n g h q
+call-step : (a : SpindleCall) (h : Head) → KeptHead h → CallStep h a
+call-step (spins t k w) h q = spin-step t k w h q
+call-step (rebinds t k n g) h q = rebind-step t k n g h q
 
-calls_count : (calls : List SpindleCall) (h : Head) → KeptHead h → PlacesBalance h calls
+calls-count : (calls : List SpindleCall) (h : Head) → KeptHead h → PlacesBalance h calls
 unfolding head_after_all tally
-calls_count [] h q = grind (arith, common_steps)
-calls_count (a ∷ rest) h q = grind (arith, common_steps, calls_count rest, call_step)
+calls-count [] h q = grind (arith, common_steps)
+calls-count (a ∷ rest) h q = grind (arith, common_steps, calls-count rest, call-step)
 
 pub places-counted : PlacesCounted
 unfolding PlacesCounted depths
 places-counted a b c d calls =
-    calls_count calls (new_head a b c d) (record { four = refl; whole = whole; summed = refl; room = omega arith })
+    calls-count calls (new_head a b c d) (record { four = refl; whole = whole; summed = refl; room = omega arith })
   where
     whole : (k : ℕ) → k < 4 → Sized (state_at (new_head a b c d).states k)
     whole zero l = fresh-sized a

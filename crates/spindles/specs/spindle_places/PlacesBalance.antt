@@ -26,8 +26,8 @@ tally f h [] = 0
 tally f h (a ∷ rest) = counts f h a + tally f (head_after h a) rest
 
 pub record PlacesBalance (h : Head) (calls : List SpindleCall) : Type 0 where
-  pub sum : depths (head_after_all h calls).states + tally places_returned h calls + tally
-      places_given_back h calls ≡ h.taken + tally places_called h calls
+  pub sum : depths (head_after_all h calls).states + tally places_returned h calls + tally places_given_back h calls
+      ≡ h.taken + tally places_called h calls
   pub recorded : (head_after_all h calls).taken ≡ depths (head_after_all h calls).states
   pub room : depths (head_after_all h calls).states ≤ STORE
 

@@ -134,13 +134,6 @@ digit-char d h = grind (arith, common_steps, split, digit-low, digit-high, char-
 
 -- the character of a character's digit is its capital
 pub char-digit : (c : ℕ) → digit_of c < 16 → char_of (digit_of c) ≡ capital c
-char-digit c h = go (class_of c)
-  where
-    go : Class c → char_of (digit_of c) ≡ capital c
-    go (numeral a b) =
-        ap char_of (digit-low c a b) ∙ char-low (c - 48) (omega arith) ∙ omega (arith, capital-same c (omega arith))
-    go (large a b) =
-        ap char_of (digit-high c a b) ∙ char-high (c - 55) (omega arith) ∙ omega (arith, capital-same c (omega arith))
-    go (small a b) =
-        ap char_of (digit-of-small c a b) ∙ char-high (c - 87) (omega arith) ∙ omega (arith, capital-of-small c a b)
-    go (other d s) = absurd (omega arith)
+char-digit c h = grind (arith, common_steps, class_of c, digit-low, digit-high, digit-of-small, capital-of-small, capital-same, char-low, char-high)
+
+pub ruleset digits_made = (char-made, pair-made, joined-is, masked-is)

@@ -1,6 +1,6 @@
 -- A frame that is read: the digits of its characters, its bytes and their sum.
-use Rattle.std.proofs.Common.{◌≡◌, refl, sym, ◌∙◌, ap, ap₂, ◌⊎◌, inl, inr, ⊎_elim, Bool, true, false, not, ◌||◌, List, map, ℕ, ◌+◌, ◌-◌, nat_lt, nat_le, ◌==◌, slice_index}
-use Rattle.std.proofs.Common.{◌*◌, ◌%◌, ◌≤◌, ◌<◌, zero-add, add-one, arith, below_more, lt-ltb, le-ltb, length, set}
+use Rattle.std.proofs.Common.{◌≡◌, refl, sym, ◌∙◌, ap, ◌⊎◌, inl, inr, ⊎_elim, Bool, true, false, not, ◌||◌, List, map, ℕ, ◌+◌, ◌-◌, nat_lt, nat_le, ◌==◌, slice_index}
+use Rattle.std.proofs.Common.{◌*◌, ◌%◌, ◌≤◌, ◌<◌, zero-add, add-one, arith, lt-ltb, le-ltb, length, set}
 use Rattle.std.proofs.Common.{length-set, get_or-set_same, get_or-set_other}
 use Rattle.std.proofs.lemmas.Grind.{common_steps}
 use Rattle.words.specs.lists.Numbers.{any, sum, range}
@@ -19,13 +19,6 @@ use Rattle.text.specs.declared.frame_reading.FrameDigits.{FrameDigits}
 -- character k from an offset on is no digit
 abbrev pub is_no_digit : List ℕ → ℕ → ℕ → Bool
 is_no_digit t from k = nat_le 16 (digit_at t from k)
-
--- one test more in each of two searches
-or-both : (a b x y : Bool) → (((a || b) || x) || y) ≡ ((a || x) || (b || y))
-or-both true b x y = refl
-or-both false true true y = refl
-or-both false true false y = refl
-or-both false false x y = refl
 
 -- 0 to 15 and 6 to 21 are 0 to 21
 any-whole : (p : ℕ → Bool) → (any p 0 16 || any p 6 16) ≡ any p 0 22
@@ -62,32 +55,23 @@ module _ (t : List ℕ) (from : ℕ) (digits : List ℕ) (bad : Bool) (i : ℕ) 
       let p : ℕ → Bool = is_no_digit t from in
       let one : List ℕ = set digits i x in
       let more : (m : ℕ) → any p m (i + 1) ≡ (any p m i || p (m + i)) = λ m. ap (any p m) (add-one i) ∙ any-snoc p m i in
-      record {
-        low = omega arith;
-        size = length-set one (16 + i) y ∙ length-set digits i x ∙ done.size;
-        front = below_more (λ (j : ℕ). slice_index (set one (16 + i) y) j ≡ digit_at t from j) i
-            (λ j l. get_or-set_other one (16 + i) j y 0 (λ r. omega arith)
-            ∙ get_or-set_other digits i j x 0 (λ r. omega arith) ∙ done.front j l)
-            (get_or-set_other one (16 + i) i y 0 (λ r. omega arith) ∙ get_or-set_same digits i x 0 (omega (arith, done.size)) ∙ e);
-        back = below_more (λ (j : ℕ). slice_index (set one (16 + i) y) (16 + j) ≡ digit_at t from (6 + j)) i
-            (λ j l. get_or-set_other one (16 + i) (16 + j) y 0 (λ r. omega arith)
-            ∙ get_or-set_other digits i (16 + j) x 0 (λ r. omega arith) ∙ done.back j l)
-            (get_or-set_same one (16 + i) y 0 (omega (arith, done.size, length-set digits i x)) ∙ q);
-        form = ap₂ (λ (u v : ℕ). (bad || nat_le 16 u) || nat_le 16 v) e q ∙ ap (λ (b : Bool). (b || p i) || p (6 + i)) done.form
-            ∙ or-both (any p 0 i) (any p 6 i) (p i) (p (6 + i))
-            ∙ sym (ap₂ ◌||◌ (more 0 ∙ ap (λ (k : ℕ). any p 0 i || p k) (zero-add i)) (more 6));
-      }
+      grind (
+        arith,
+        common_steps,
+        get_or-set_same digits i x 0,
+        get_or-set_same one (16 + i) y 0,
+        length-set one (16 + i) y,
+        length-set digits i x,
+        get_or-set_other one (16 + i),
+        get_or-set_other digits i,
+        get_or-set_other one (16 + i) i y 0 (λ r. omega arith),
+        zero-add i,
+      )
 
   pub taken-all : 16 ≤ i → DigitsRead t from (record { digits = digits; form = bad })
   taken-all h =
       let all : i ≡ 16 = omega (arith, done.low) in
-      record {
-        size = done.size;
-        front = λ j l. done.front j (omega arith);
-        back = λ j l. done.back j (omega arith);
-        form =
-            done.form ∙ ap (λ (k : ℕ). any (is_no_digit t from) 0 k || any (is_no_digit t from) 6 k) all ∙ any-whole (is_no_digit t from);
-      }
+      grind (arith, common_steps, any-whole)
 
 -- ---- its bytes
 -- byte k of frame f, as it is stored
@@ -145,15 +129,15 @@ unfolding sum
 stored-none t f out₀ = record { small = omega arith; added = refl; values = values-none _ _ _ _ }
 
 -- the sum of the bytes as stored is that of the bytes, modulo 256
-sum_more : (g : ℕ → ℕ) (s k v : ℕ) → s % 256 ≡ sum g 0 k % 256 → v ≡ g k % 256 → (s + v) % 256 ≡ sum g 0 (k + 1) % 256
-sum_more g s k v e q = grind (arith, common_steps, sum-turn)
+sum-more : (g : ℕ → ℕ) (s k v : ℕ) → s % 256 ≡ sum g 0 k % 256 → v ≡ g k % 256 → (s + v) % 256 ≡ sum g 0 (k + 1) % 256
+sum-more g s k v e q = grind (arith, common_steps, sum-turn)
 
 module _ (t : List ℕ) (f : ℕ) (out₀ out : List ℕ) (total k : ℕ) (done : Stored t f out₀ out total k) where
   pub stored-turn : (v : ℕ) → 10 * f + 10 ≤ length out₀ → k < 10 → v ≡ stored t f k
       → Stored t f out₀ (set out (10 * f + k) v) (total + v) (k + 1)
   stored-turn v room h e = record {
     small = omega (arith, done.small);
-    added = sum_more (byte_at t f) total k v done.added e;
+    added = sum-more (byte_at t f) total k v done.added e;
     values = values-turn (stored t f) out₀ (10 * f) 10 out k v room done.values h e;
   }
 
@@ -164,7 +148,7 @@ module _ (t : List ℕ) (f : ℕ) (out₀ out : List ℕ) (total k : ℕ) (done 
     pub sum-end : (v : ℕ) → v ≡ stored t f 10 → not ((total + v) % 256 == 0) ≡ has_bad_sum t f
     unfolding has_bad_sum
     sum-end v e =
-        ap (λ (n : ℕ). not (n == 0)) (sum_more (byte_at t f) total 10 v (done.added ∙ ap (λ (i : ℕ). sum (byte_at t f) 0 i % 256) ten) e)
+        ap (λ (n : ℕ). not (n == 0)) (sum-more (byte_at t f) total 10 v (done.added ∙ ap (λ (i : ℕ). sum (byte_at t f) 0 i % 256) ten) e)
 
     pub stored-end : out ≡ written out₀ (10 * f) (stored_bytes t f)
     stored-end = values-all (stored t f) out₀ (10 * f) 10 out k done.values h

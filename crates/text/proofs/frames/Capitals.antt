@@ -1,11 +1,11 @@
 -- A text and the same text in capitals are read alike, whatever its characters are and however long it is.
-use Rattle.std.proofs.Common.{ℕ, ◌+◌, ◌*◌, ◌/◌, ◌%◌, Bool, not, ◌≡◌, sym, ◌∙◌, ap, ap₂, List, map, arith, length, ne_eqb, ◌==◌, slice_index, flat_map}
+use Rattle.std.proofs.Common.{ℕ, ◌+◌, ◌*◌, ◌/◌, ◌%◌, Bool, not, ◌≡◌, ◌∙◌, ap, ap₂, List, map, arith, length, ne_eqb, ◌==◌, slice_index, flat_map}
 use Rattle.std.proofs.Math.Path.{fun_ext}
 use Rattle.std.proofs.Math.ListN.{length-map}
 use Rattle.std.proofs.lemmas.Grind.{common_steps}
 use Rattle.words.specs.lists.Numbers.{range, sum}
 use Rattle.text.specs.digits.Digit.{digit_of, capital}
-use Rattle.text.proofs.digits.Digits.{Class, numeral, large, small, other, class_of, capital-same, capital-of-small, capital-at}
+use Rattle.text.proofs.digits.Digits.{class_of, capital-same, capital-of-small, capital-at}
 use Rattle.text.proofs.digits.Digits.{digit-capital}
 use Rattle.text.specs.frames.Frame.{byte_at, contents}
 use Rattle.text.specs.frames.Verdict.{next, when, at_lowest}
@@ -15,14 +15,7 @@ use Rattle.text.specs.frames.Alike.{ReadAlike}
 
 -- a capital is no line feed where the character is none
 feed-capital : (c : ℕ) → (capital c == 10) ≡ (c == 10)
-feed-capital c = go (class_of c)
-  where
-    go : Class c → (capital c == 10) ≡ (c == 10)
-    go (numeral h l) = ap (λ (x : ℕ). x == 10) (capital-same c (omega arith))
-    go (large h l) = ap (λ (x : ℕ). x == 10) (capital-same c (omega arith))
-    go (small h l) =
-        ne_eqb (capital c) 10 (λ e. omega (arith, capital-of-small c h l)) ∙ sym (ne_eqb c 10 (λ e. omega arith))
-    go (other d s) = ap (λ (x : ℕ). x == 10) s
+feed-capital c = grind (arith, common_steps, class_of c, capital-of-small, ne_eqb, capital-same)
 
 module _ (t : List ℕ) where
   abbrev capitals : List ℕ

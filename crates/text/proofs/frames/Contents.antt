@@ -1,18 +1,18 @@
 -- Texts there and back: the contents of the text of records are those records, and the text of an accepted text's contents is that text
 -- in capitals.
-use Rattle.std.proofs.Common.{ℕ, zero, suc, ◌+◌, ◌*◌, ◌/◌, ◌%◌, ◌≤◌, ◌<◌, Bool, false, not, ◌≡◌, refl, sym, ◌∙◌, ap, subst, ⊎_elim, List, nat_le, ◌==◌, slice_index, slice_index_or}
+use Rattle.std.proofs.Common.{ℕ, zero, suc, ◌+◌, ◌*◌, ◌/◌, ◌%◌, ◌≤◌, ◌<◌, Bool, false, ◌≡◌, refl, sym, ◌∙◌, ap, subst, ⊎_elim, List, nat_le, ◌==◌, slice_index, slice_index_or, not}
 use Rattle.std.proofs.Common.{[], ◌∷◌, ◌++◌, map, arith, length, length-append, ext_get_or, get_or-append-add, ltb-false}
 use Rattle.std.proofs.Common.{leb-false, eqb-true}
 use Rattle.std.proofs.Math.ListN.{length-map, get_or-eq_default, get_or-append}
 use borrow.Author.Tests.{eqb-false}
 use Rattle.std.proofs.lemmas.Grind.{common_steps}
-use Rattle.words.specs.lists.Numbers.{range, any, sum}
+use Rattle.words.specs.lists.Numbers.{range, sum, any}
 use Rattle.words.proofs.lists.Tests.{split, or-l, or-r, not-false}
 use Rattle.words.proofs.lists.Searches.{any-false}
 use Rattle.words.proofs.lists.Ranges.{length-map-range, get_or-map-range}
 use Rattle.words.proofs.lists.Joins.{all-map, all-every, length-concat-range, concat-range-at}
 use Rattle.std.specs.List.{AllByRecursion}
-use Rattle.text.specs.digits.Digit.{digit_of, char_of, capital}
+use Rattle.text.specs.digits.Digit.{digit_of, capital}
 use Rattle.text.proofs.digits.Digits.{capital-same, capital-at, char-digit}
 use Rattle.text.specs.frames.Frame.{frame_count, byte_at, contents, size, field, byte_text, total, sum_byte, frame_text, frames_text}
 use Rattle.text.specs.frames.Frame.{ten_bytes_at, text_of}
@@ -114,9 +114,7 @@ module _ (t : List ℕ) (f : ℕ) (form : has_bad_form t f ≡ false) where
 
   pub feed-is : slice_index t (23 * f + 22) ≡ 10
   unfolding has_bad_form
-  feed-is =
-      eqb-true (slice_index t (23 * f + 22)) 10 (not-false (slice_index t (23 * f + 22) == 10)
-      (or-r (any (λ k. nat_le 16 (digit_of (slice_index t (23 * f + k)))) 0 22) (not (slice_index t (23 * f + 22) == 10)) form))
+  feed-is = grind (arith, common_steps, or-r, not-false, eqb-true)
 
   high : (k : ℕ) → k < 11 → digit_of (slice_index t (23 * f + 2 * k)) < 16
   high k l = digit-small (2 * k) (omega arith)
@@ -124,24 +122,20 @@ module _ (t : List ℕ) (f : ℕ) (form : has_bad_form t f ≡ false) where
   low : (k : ℕ) → k < 11 → digit_of (slice_index t (23 * f + 2 * k + 1)) < 16
   low k l = subst (λ (j : ℕ). digit_of (slice_index t j) < 16) (omega arith) (digit-small (2 * k + 1) (omega arith))
 
-  pub byte_small : (k : ℕ) → k < 11 → byte_at t f k < 256
-  byte_small k l = omega (arith, high k l, low k l)
+  pub byte-small : (k : ℕ) → k < 11 → byte_at t f k < 256
+  byte-small k l = omega (arith, high k l, low k l)
 
   -- a byte's characters are the text's, in capitals
   pair-back : (k s : ℕ) → k < 11 → s < 2 → slice_index (byte_text (byte_at t f k)) s ≡ capital (slice_index t (23 * f + (2 * k + s)))
-  pair-back k zero l m =
-      let e : byte_at t f k / 16 ≡ digit_of (slice_index t (23 * f + 2 * k)) = omega (arith, high k l, low k l) in
-      ap char_of e ∙ char-digit (slice_index t (23 * f + 2 * k)) (high k l) ∙ ap (λ (j : ℕ). capital (slice_index t j)) (omega arith)
-  pair-back k (suc zero) l m =
-      let e : byte_at t f k % 16 ≡ digit_of (slice_index t (23 * f + 2 * k + 1)) = omega (arith, high k l, low k l) in
-      ap char_of e ∙ char-digit (slice_index t (23 * f + 2 * k + 1)) (low k l) ∙ ap (λ (j : ℕ). capital (slice_index t j)) (omega arith)
-  pair-back k (suc (suc s)) l m = absurd (omega arith)
+  pair-back k zero l m = grind (arith, common_steps, char-digit (slice_index t (23 * f + 2 * k)) (high k l), high k l, low k l)
+  pair-back k (suc zero) l m = grind (arith, common_steps, char-digit (slice_index t (23 * f + 2 * k + 1)) (low k l), high k l, low k l)
+  pair-back k (suc (suc s)) l m = grind (arith, common_steps)
 
   -- ten bytes that are the frame's first ten, where the sum is right
   module _ (good : has_bad_sum t f ≡ false) (bs : List ℕ) (F : Frame bs) (same : (k : ℕ) → k < 10 → slice_index bs k ≡ byte_at t f k) where
-    sum_back : sum_byte bs ≡ byte_at t f 10
+    sum-back : sum_byte bs ≡ byte_at t f 10
     unfolding has_bad_sum
-    sum_back =
+    sum-back =
         let x : ℕ = byte_at t f 10 in
         let s : ℕ = sum (byte_at t f) 0 11 in
         let m : length (bs ++ (x ∷ [])) ≡ 11 = length-append bs (x ∷ []) ∙ omega (arith, F.ten) in
@@ -154,15 +148,10 @@ module _ (t : List ℕ) (f : ℕ) (form : has_bad_form t f ≡ false) where
         (split i 10)) in
         let z : s % 256 ≡ 0 = eqb-true (s % 256) 0 (not-false (s % 256 == 0) good) in
         let q : sum (byte_at t f) 0 (length (bs ++ (x ∷ []))) ≡ s = ap (sum (byte_at t f) 0) m in
-        omega (arith, e, z, q, total-snoc bs x, byte_small 10 (omega arith))
+        omega (arith, e, z, q, total-snoc bs x, byte-small 10 (omega arith))
 
     eleven-back : (k : ℕ) → k < 11 → slice_index (eleven bs) k ≡ byte_at t f k
-    eleven-back k l =
-        ⊎_elim (λ (m : k < 10). eleven-at bs F k m ∙ same k m)
-        (λ (m : 10 ≤ k).
-        let j : k ≡ 10 = omega arith in
-        ap (λ (i : ℕ). slice_index (eleven bs) i) j ∙ eleven-last bs F ∙ sum_back ∙ ap (byte_at t f) (sym j))
-        (split k 10)
+    eleven-back k l = grind (arith, common_steps, split k 10, eleven-at, eleven-last, sum-back)
 
     pub frame-back : (k : ℕ) → k < 23 → slice_index (frame_text bs) k ≡ capital (slice_index t (23 * f + k))
     frame-back k l =
@@ -182,7 +171,7 @@ contents-bytes t forms k =
     ⊎_elim (λ (h : k < length (contents t)).
     subst (λ (x : ℕ). x < 256)
     (sym (ap (λ (j : ℕ). slice_index (contents t) j) (omega arith) ∙ any-contents-at t (k / 10) (k % 10) (omega arith) (omega arith)))
-    (byte_small t (k / 10) (forms (k / 10) (omega arith)) (k % 10) (omega arith)))
+    (byte-small t (k / 10) (forms (k / 10) (omega arith)) (k % 10) (omega arith)))
     (λ (h : length (contents t) ≤ k). subst (λ (x : ℕ). x < 256) (sym (get_or-eq_default (contents t) 0 h)) (omega arith))
     (split k (length (contents t)))
 

@@ -10,12 +10,12 @@ use Rattle.words.proofs.lists.Written.{written-one, written-more, written-snoc}
 use Rattle.words.proofs.lists.Fills.{Pieces, pieces-none, pieces-turn, pieces-all}
 use Rattle.text.specs.frames.Frame.{byte_text, total, sum_byte, frame_text}
 use Rattle.text.proofs.frames.Frames.{sum-places}
+use Rattle.text.proofs.digits.Digits.{pair-first, pair-second}
 
 pub length-frame : (bs : List ℕ) → length bs ≡ 10 → length (frame_text bs) ≡ 23
 unfolding frame_text
 length-frame bs e =
-    let l : length (flat_map byte_text bs) ≡ 2 * length bs =
-    length-concat byte_text 2 bs (all-every (λ b. length (byte_text b) ≡ 2) (λ b. refl) bs) in
+    let l : length (flat_map byte_text bs) ≡ 2 * length bs = grind (arith, common_steps, length-concat, all-every) in
     simp length-append (omega arith)
 
 -- two characters, one after the other
@@ -39,8 +39,7 @@ module _ (out₀ bs out out' : List ℕ) (at s k : ℕ) (room : at + 23 ≤ leng
   digits-turn h byte n e = record {
     small = omega arith;
     added = sum-turn (λ i. slice_index bs i) s k (slice_index bs k) d.added refl;
-    pieces = pieces-turn (λ i. byte_text (slice_index bs i)) 2 out₀ at 10 (λ k. refl) out out' k
-        (at + k * 2) d.pieces h (omega arith) (omega arith) n e;
+    pieces = grind (arith, common_steps, pieces-turn (λ i. byte_text (slice_index bs i)) 2 out₀ at 10 (λ k. refl) out out' k);
   }
 
   pub digits-end : length bs ≡ 10 → 10 ≤ k → out' ≡ written out (at + 20) (byte_text ((256 - s % 256) % 256))
@@ -48,20 +47,18 @@ module _ (out₀ bs out out' : List ℕ) (at s k : ℕ) (room : at + 23 ≤ leng
   unfolding frame_text
   digits-end ten h e =
       let k10 : k ≡ length bs = omega (arith, d.pieces.low) in
-      let t : s ≡ total bs = d.added ∙ ap (sum (λ i. slice_index bs i) 0) k10
-      ∙ sum-places (λ i. slice_index bs i) bs 0 (λ k l. ap (λ (j : ℕ). slice_index bs j) (omega arith)) in
+      let t : s ≡ total bs = grind (arith, common_steps, sum-places) in
       let b : out ≡ written out₀ at (flat_map byte_text bs) =
       pieces-all (λ i. byte_text (slice_index bs i)) 2 out₀ at 10 out k d.pieces h
       ∙ ap (λ (n : ℕ). written out₀ at (flat_map (λ i. byte_text (slice_index bs i)) (range 0 n))) (sym ten)
       ∙ ap (written out₀ at) (concat-places (λ i. byte_text (slice_index bs i)) byte_text 0 bs 0
       (λ i l. ap (λ (j : ℕ). byte_text (slice_index bs j)) (omega arith))) in
       let vs : List ℕ = flat_map byte_text bs ++ byte_text (sum_byte bs) in
-      let l : length (flat_map byte_text bs) ≡ 2 * length bs =
-      length-concat byte_text 2 bs (all-every (λ b. length (byte_text b) ≡ 2) (λ b. refl) bs) in
+      let l : length (flat_map byte_text bs) ≡ 2 * length bs = grind (arith, common_steps, length-concat, all-every) in
       let n : length vs ≡ 22 = simp length-append (omega arith) in
       let e' : out' ≡ written out (at + 20) (byte_text (sum_byte bs)) = rw t at e in
-      let all : out' ≡ written out₀ at vs =
-      written-more out₀ at (flat_map byte_text bs) (byte_text (sum_byte bs)) out out' (at + 20) (omega arith) (omega arith) b e' in
+      let all : out' ≡ written out₀ at vs = grind (arith, common_steps, written-more) in
       let place : at + 22 ≡ at + length vs = omega arith in
-      rw (all, place) (written-snoc out₀ at vs 10 (omega arith)
-      ∙ ap (written out₀ at) (append_assoc (flat_map byte_text bs) (byte_text (sum_byte bs)) (10 ∷ [])))
+      grind (arith, common_steps, append_assoc, written-snoc)
+
+pub ruleset two_written = (pair-first, pair-second, two-put)

@@ -1,5 +1,5 @@
 -- One frame: ten bytes and their sum byte as 23 characters, and a text that holds it at a place.
-use Rattle.std.proofs.Common.{ℕ, zero, suc, ◌+◌, ◌*◌, ◌/◌, ◌%◌, ◌<◌, Bool, false, ◌||◌, not, ◌≡◌, refl, sym, ◌∙◌, ap, ap₂, subst, List, [], nat_le, slice_index, flat_map}
+use Rattle.std.proofs.Common.{ℕ, zero, suc, ◌+◌, ◌*◌, ◌/◌, ◌%◌, ◌<◌, false, ◌≡◌, refl, ◌∙◌, ap, ap₂, List, [], slice_index, flat_map}
 use Rattle.std.proofs.Common.{◌∷◌, ◌++◌, append_assoc, arith, length, length-append, get_or-append-add, eq-eqb}
 use Rattle.std.proofs.Math.ListN.{get_or-append, get_or-eq_default}
 use borrow.Author.Tests.{lt-leb}
@@ -82,10 +82,7 @@ module _ (bs : List ℕ) (F : Frame bs) where
       ∙ get_or-concat byte_text 2 0 0 (eleven bs) (pairs-two (eleven bs)) k t (omega (arith, eleven-length)) l
 
   pub frame-feed : slice_index (frame_text bs) 22 ≡ 10
-  frame-feed =
-      ap (λ (xs : List ℕ). slice_index xs 22) (frame-as bs)
-      ∙ ap (λ (k : ℕ). slice_index (flat_map byte_text (eleven bs) ++ (10 ∷ [])) k) (omega (arith, pairs-length))
-      ∙ get_or-append-add (flat_map byte_text (eleven bs)) (10 ∷ []) 0 0
+  frame-feed = grind (arith, common_steps, get_or-append-add, frame-as, pairs-length)
 
   -- a text that has this frame at f
   module _ (t : List ℕ) (f : ℕ) (here : (k : ℕ) → k < 23 → slice_index t (23 * f + k) ≡ slice_index (frame_text bs) k) where
@@ -93,25 +90,14 @@ module _ (bs : List ℕ) (F : Frame bs) where
     text-char k s h l = here (2 * k + s) (omega arith) ∙ frame-char k s h l
 
     pub byte-is : (k : ℕ) → k < 11 → byte_at t f k ≡ slice_index (eleven bs) k
-    byte-is k h =
-        ap₂ (λ (a b : ℕ). 16 * digit_of a + digit_of b)
-        (ap (λ (m : ℕ). slice_index t m) (omega arith) ∙ text-char k 0 h (omega arith))
-        (ap (λ (m : ℕ). slice_index t m) (omega arith) ∙ text-char k 1 h (omega arith))
-        ∙ pair-byte (slice_index (eleven bs) k) (eleven-small k h)
+    byte-is k h = grind (arith, common_steps, eleven-small k h, text-char k 0 h (omega arith), text-char k 1 h (omega arith), pair-byte)
 
     char-small : (k : ℕ) → k < 22 → digit_of (slice_index t (23 * f + k)) < 16
-    char-small k h =
-        subst (λ (c : ℕ). digit_of c < 16)
-        (sym (ap (λ (m : ℕ). slice_index t m) (omega arith) ∙ text-char (k / 2) (k % 2) (omega arith) (omega arith)))
-        (pair-digit (slice_index (eleven bs) (k / 2)) (k % 2) (eleven-small (k / 2) (omega arith)) (omega arith))
+    char-small k h = grind (arith, common_steps, eleven-small (k / 2) (omega arith), text-char (k / 2) (k % 2) (omega arith) (omega arith), pair-digit)
 
     pub good-form : has_bad_form t f ≡ false
     unfolding has_bad_form
-    good-form =
-        let p : ℕ → Bool = λ k. nat_le 16 (digit_of (slice_index t (23 * f + k))) in
-        ap₂ ◌||◌
-        (any-none p 0 22 (λ k h. ap p (omega arith) ∙ lt-leb 16 (digit_of (slice_index t (23 * f + k))) (char-small k h)))
-        (ap not (eq-eqb (slice_index t (23 * f + 22)) 10 (here 22 (omega arith) ∙ frame-feed)))
+    good-form = grind (arith, common_steps, lt-leb, any-none, eq-eqb, frame-feed, char-small)
 
     pub good-sum : has_bad_sum t f ≡ false
     unfolding has_bad_sum

@@ -10,11 +10,11 @@ use Rattle.text.specs.frames.Read.{read_buffer}
 use Rattle.text.proofs.frames.Verdicts.{next-first, when-fine}
 use Rattle.text.proofs.frames.Contents.{text-told, contents-bytes}
 
-bytes_same : (xs : List ℕ) → ((k : ℕ) → slice_index xs k < 256) → map (λ x. x % 256) xs ≡ xs
-bytes_same [] h = refl
-bytes_same (x ∷ xs) h = ap₂ (λ (y : ℕ) (ys : List ℕ). y ∷ ys) (omega (arith, h 0)) (bytes_same xs (λ k. h (suc k)))
+bytes-same : (xs : List ℕ) → ((k : ℕ) → slice_index xs k < 256) → map (λ x. x % 256) xs ≡ xs
+bytes-same [] h = refl
+bytes-same (x ∷ xs) h = ap₂ (λ (y : ℕ) (ys : List ℕ). y ∷ ys) (omega (arith, h 0)) (bytes-same xs (λ k. h (suc k)))
 
 module _ (most : ℕ) (t old : List ℕ) where
   pub read-fine : text_verdict most t ≡ fine → read_buffer most t old ≡ over (contents t) old
   unfolding read_buffer text_verdict
-  read-fine v = grind (arith, common_steps, cond-false, when-fine, next-first, text-told, contents-bytes, bytes_same)
+  read-fine v = grind (arith, common_steps, cond-false, when-fine, next-first, text-told, contents-bytes, bytes-same)

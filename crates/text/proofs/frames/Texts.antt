@@ -39,9 +39,7 @@ module _ (fs : List (List ℕ)) (F : AllByRecursion Frame fs) where
   text-here f h k l = get_or-concat frame_text 23 [] 0 fs lengths f k h l
 
   pub text-byte : (f k : ℕ) → f < length fs → k < 10 → byte_at (frames_text fs) f k ≡ slice_index (slice_index_or fs f []) k
-  text-byte f k h l =
-      byte-is (slice_index_or fs f []) (frame-of f h) (frames_text fs) f (text-here f h) k (omega arith) ∙ eleven-at (slice_index_or fs f []) (frame-of f h)
-      k l
+  text-byte f k h l = grind (arith, common_steps, eleven-at (slice_index_or fs f []) (frame-of f h) k l, byte-is (slice_index_or fs f []) (frame-of f h), frame-of f h, text-here f h)
 
   pub text-forms : (f : ℕ) → f < length fs → has_bad_form (frames_text fs) f ≡ false
   text-forms f h = good-form (slice_index_or fs f []) (frame-of f h) (frames_text fs) f (text-here f h)

@@ -23,3 +23,5 @@ pub read-all : (most : ℕ) (t old : List ℕ) → is_bad_length 23 most (length
     → out ≡ over (flat_map (stored_bytes t) (range 0 (frame_count t))) old → out ≡ read_buffer most t old
 unfolding read_buffer
 read-all most t old e out q = grind (arith, common_steps, cond-false, contents-stored)
+
+pub ruleset text_read = read-all

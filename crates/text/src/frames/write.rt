@@ -18,6 +18,7 @@ pub fn put_bytes(out: &mut [u8], at: usize, bytes: &[u8])
 }
 
 // The two characters of a byte, from an offset on.
+#[tactic(auto, using(crate::proofs::frames::FrameLoops::two_written))]
 fn put_byte(out: &mut [u8], at: usize, b: u8)
     requires { at + 2 ≤ length out.old }
     ensures { out.new ≡ written out.old at (byte_text b) }
@@ -29,6 +30,7 @@ fn put_byte(out: &mut [u8], at: usize, b: u8)
 
 // The same for the byte of a sum. Each character is made by a comparison of its own: by a sum of both, the compiler would no longer add
 // eight bytes of a frame at once.
+#[tactic(auto, using(crate::proofs::frames::FrameLoops::two_written))]
 fn put_sum(out: &mut [u8], at: usize, b: u8)
     requires { at + 2 ≤ length out.old }
     ensures { out.new ≡ written out.old at (byte_text b) }

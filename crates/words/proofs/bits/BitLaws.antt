@@ -1,8 +1,7 @@
 -- A word under a care mask equals the values just where each condition in the mask has its value.
-use Rattle.std.proofs.Common.{◌≡◌, refl, sym, ◌∙◌, ap, subst, ◌⊎◌, ⊎_elim, ℕ, zero, suc, ◌+◌, ◌*◌, ◌/◌, ◌%◌, ◌^◌, ◌≤◌, ◌<◌, min, max}
+use Rattle.std.proofs.Common.{◌≡◌, refl, sym, ◌∙◌, ap, subst, ◌⊎◌, ℕ, zero, suc, ◌+◌, ◌*◌, ◌/◌, ◌%◌, ◌^◌, ◌≤◌, ◌<◌, min, max}
 use Rattle.std.proofs.Common.{div-one, pow-suc, mul-div_cancel, arith, one-add, bit_and, bit_or, lit<, shr-shr, pow_pos}
 use Rattle.std.proofs.Math.Nat.{div_self, zero-div, mul-mod_left}
-use Rattle.std.proofs.Math.Decide.{ℕ_discrete}
 use Rattle.std.proofs.Math.Arith.{digits_mod, lt-one}
 use lib.Bits.{and_step, or_step, and_shr, or_shr, and_le_r, or_lt, or_disjoint}
 use Rattle.std.proofs.Math.Pow.{pow-lt}
@@ -50,14 +49,7 @@ bit-pow-other (suc i) (suc j) ne =
 
 -- a bit that a number lacks is added
 pub lacks : (c i : ℕ) → bit_at c i ≡ 0 → bit_and c (2 ^ i) ≡ 0
-lacks c i e = same-bits (suc i) (bit_and c (2 ^ i)) 0 (omega (arith, and_le_r c (2 ^ i), pow-lt {i = i} {j = suc i} (omega arith)))
-    (pow_pos (suc i)) (λ j. at j (ℕ_discrete i j))
-  where
-    at : (j : ℕ) → Dec (i ≡ j) → bit_at (bit_and c (2 ^ i)) j ≡ bit_at 0 j
-    at j (yes q) =
-        let f : bit_at c j ≡ 0 = ap (λ (n : ℕ). bit_at c n) (sym q) ∙ e in
-        bit-and c (2 ^ i) j ∙ omega (arith, bit-none j, f)
-    at j (no q) = bit-and c (2 ^ i) j ∙ omega (arith, bit-none j, bit-pow-other i j q)
+lacks c i e = grind (arith, common_steps, and_le_r c (2 ^ i), pow_pos (suc i), same-bits (suc i) (bit_and c (2 ^ i)) 0, pow-lt, bit-and, bit-none, bit-pow-other)
 
 pub add-is-or : (c i : ℕ) → bit_at c i ≡ 0 → c + 2 ^ i ≡ bit_or c (2 ^ i)
 add-is-or c i e = sym (or_disjoint c (2 ^ i) (lacks c i e))
@@ -90,11 +82,7 @@ pub record Clash (w care values : ℕ) : Type 0 where
   pub differs : bit_at w place ≡ bit_at values place → ⊥
 
 pub agree-match : (w care values : ℕ) → Mask care values → Agree w care values → bit_and w care ≡ values
-agree-match w care values m a = same-bits 16 (bit_and w care) values (omega (arith, and_le_r w care, m.small)) m.low at
-  where
-    at : (i : ℕ) → bit_at (bit_and w care) i ≡ bit_at values i
-    at i = bit-and w care i ∙ ⊎_elim (λ (z : bit_at care i ≡ 0). omega (arith, m.within i z))
-        (λ (o : bit_at care i ≡ 1). omega (arith, a.agrees i o)) (bit-cases care i)
+agree-match w care values m a = grind (arith, common_steps, and_le_r w care, same-bits 16 (bit_and w care) values, bit-and, bit-cases)
 
 pub clash-match : (w care values : ℕ) → Clash w care values → bit_and w care ≡ values → ⊥
 clash-match w care values k e = grind (arith, common_steps, bit-and)

@@ -1,5 +1,5 @@
 -- One condition more in a care mask: the mask stays below 2 ^ k, the values stay within it.
-use Rattle.std.proofs.Common.{ℕ, zero, suc, ◌+◌, ◌/◌, ◌%◌, ◌^◌, ◌≤◌, ◌<◌, ◌≡◌, sym, ◌∙◌, ap, ap₂, pow-suc, one-add, arith, bit_and, shr-shr}
+use Rattle.std.proofs.Common.{ℕ, zero, suc, ◌+◌, ◌/◌, ◌%◌, ◌^◌, ◌≤◌, ◌<◌, ◌≡◌, sym, ◌∙◌, ap, pow-suc, one-add, arith, bit_and, shr-shr}
 use lib.Bits.{and_step}
 use Rattle.std.proofs.lemmas.Grind.{common_steps}
 use Rattle.std.specs.Int.{bit_at}
@@ -16,14 +16,10 @@ odd-power c a = omega (arith, pow-suc 2 a)
 
 -- the mask stays small
 pub more-small : (a k c : ℕ) → a < k → c < 2 ^ k → (bit_at c a ≡ 1 → ⊥) → c + 2 ^ a < 2 ^ k
-more-small zero zero c l h n = absurd (omega arith)
-more-small zero (suc k) c l h n =
-    let z : c % 2 ≡ 1 → ⊥ = λ o. n (bit-zero c ∙ o) in
-    omega (arith, pow-suc 2 k, z)
-more-small (suc a) zero c l h n = absurd (omega arith)
-more-small (suc a) (suc k) c l h n =
-    let i : c / 2 + 2 ^ a < 2 ^ k = more-small a k (c / 2) (omega arith) (omega (arith, pow-suc 2 k)) (λ o. n (bit-suc c a ∙ o)) in
-    omega (arith, pow-suc 2 k, pow-suc 2 a)
+more-small zero zero c l h n = grind (arith, common_steps)
+more-small zero (suc k) c l h n = grind (arith, common_steps, pow-suc, bit-zero)
+more-small (suc a) zero c l h n = grind (arith, common_steps)
+more-small (suc a) (suc k) c l h n = grind (arith, common_steps, more-small a k (c / 2) (omega arith) (omega (arith, pow-suc 2 k)) (λ o. n (bit-suc c a ∙ o)), pow-suc, bit-suc)
 
 -- within, by halves
 pub within-half : (v c : ℕ) → bit_and v c ≡ v → (bit_and (v / 2) (c / 2) ≡ v / 2) × (v % 2 ≤ c % 2)
@@ -33,29 +29,12 @@ pub half-within : (v c : ℕ) → bit_and (v / 2) (c / 2) ≡ v / 2 → v % 2 �
 half-within v c e l = and_step v c ∙ omega (arith, e)
 
 pub more-within-0 : (a v c : ℕ) → (bit_at c a ≡ 1 → ⊥) → bit_and v c ≡ v → bit_and v (c + 2 ^ a) ≡ v
-more-within-0 zero v c n e =
-    let z : c % 2 ≡ 1 → ⊥ = λ o. n (bit-zero c ∙ o) in
-    let w : (bit_and (v / 2) (c / 2) ≡ v / 2) × (v % 2 ≤ c % 2) = within-half v c e in
-    half-within v (c + 1) (ap (bit_and (v / 2)) (omega (arith, z)) ∙ w.0) (omega (arith, z))
-more-within-0 (suc a) v c n e =
-    let w : (bit_and (v / 2) (c / 2) ≡ v / 2) × (v % 2 ≤ c % 2) = within-half v c e in
-    half-within v (c + 2 ^ suc a)
-    (ap (bit_and (v / 2)) (half-power c a) ∙ more-within-0 a (v / 2) (c / 2) (λ o. n (bit-suc c a ∙ o)) w.0)
-    (omega (arith, odd-power c a))
+more-within-0 zero v c n e = grind (arith, common_steps, bit-zero, within-half, half-within)
+more-within-0 (suc a) v c n e = grind (arith, common_steps, more-within-0 a (v / 2) (c / 2) (λ o. n (bit-suc c a ∙ o)), bit-suc, half-power, odd-power, within-half, half-within)
 
 pub more-within-1 : (a v c : ℕ) → (bit_at c a ≡ 1 → ⊥) → bit_and v c ≡ v → bit_and (v + 2 ^ a) (c + 2 ^ a) ≡ v + 2 ^ a
-more-within-1 zero v c n e =
-    let z : c % 2 ≡ 1 → ⊥ = λ o. n (bit-zero c ∙ o) in
-    let w : (bit_and (v / 2) (c / 2) ≡ v / 2) × (v % 2 ≤ c % 2) = within-half v c e in
-    let p : (v + 1) / 2 ≡ v / 2 = omega (arith, z) in
-    let q : (c + 1) / 2 ≡ c / 2 = omega (arith, z) in
-    half-within (v + 1) (c + 1) (ap₂ bit_and p q ∙ w.0 ∙ sym p) (omega (arith, z))
-more-within-1 (suc a) v c n e =
-    let w : (bit_and (v / 2) (c / 2) ≡ v / 2) × (v % 2 ≤ c % 2) = within-half v c e in
-    half-within (v + 2 ^ suc a) (c + 2 ^ suc a)
-    (ap₂ bit_and (half-power v a) (half-power c a) ∙ more-within-1 a (v / 2) (c / 2) (λ o. n (bit-suc c a ∙ o)) w.0
-    ∙ sym (half-power v a))
-    (omega (arith, odd-power c a, odd-power v a))
+more-within-1 zero v c n e = grind (arith, common_steps, bit-zero, within-half, half-within)
+more-within-1 (suc a) v c n e = grind (arith, common_steps, more-within-1 a (v / 2) (c / 2) (λ o. n (bit-suc c a ∙ o)), bit-suc, half-power, odd-power, within-half, half-within)
 
 -- what the mask lacks the values lack
 pub within-lacks : (a v c : ℕ) → bit_and v c ≡ v → (bit_at c a ≡ 1 → ⊥) → bit_at v a ≡ 0

@@ -1,5 +1,5 @@
 -- Nodes that are enlisted: each is marked, the first of the list are the marked ones, and what stood there stays.
-use Rattle.std.proofs.Common.{◌≡◌, refl, sym, ◌∙◌, ap, subst, ◌⊎◌, inl, inr, ⊎_elim, Bool, true, false, not, List, [], ◌∷◌, ℕ, ◌+◌, ◌≤◌, nat_lt, slice_index}
+use Rattle.std.proofs.Common.{◌≡◌, sym, ◌∙◌, ap, subst, ◌⊎◌, inl, inr, Bool, true, false, not, List, [], ◌∷◌, ℕ, ◌+◌, ◌≤◌, nat_lt, slice_index}
 use Rattle.std.proofs.Common.{◌<◌, arith, length, set, replicate, length-set, get_or-set_same, get_or-set_other, ltb-true}
 use Rattle.std.proofs.Common.{lt-ltb, le-ltb}
 use Rattle.std.proofs.Math.ListN.{length-replicate}
@@ -19,9 +19,9 @@ among-more list k v x a = grind (arith, common_steps, get_or-set_other)
 among-last : (list : List ℕ) (k v : ℕ) → k < length list → Among (set list k v) (k + 1) v
 among-last list k v l = record { place = k; inside = omega arith; found = get_or-set_same list k v 0 l }
 
-last_or : (list : List ℕ) (k x : ℕ) (p : ℕ → Bool) → k < length list → p x ≡ true → ((i : ℕ) → i < k → p (slice_index list i) ≡ true)
+last-or : (list : List ℕ) (k x : ℕ) (p : ℕ → Bool) → k < length list → p x ≡ true → ((i : ℕ) → i < k → p (slice_index list i) ≡ true)
     → (i : ℕ) → i < k + 1 → p (slice_index (set list k x) i) ≡ true
-last_or list k x p l m h i b = grind (arith, common_steps, get_or-set_other, get_or-set_same)
+last-or list k x p l m h i b = grind (arith, common_steps, get_or-set_other, get_or-set_same)
 
 -- ---- one mark more
 module _ (ms : List Bool) (u : ℕ) where
@@ -53,16 +53,7 @@ module _ (ms : List Bool) (u : ℕ) where
 
     module _ (list : List ℕ) (fits : length ms ≤ length list) where
       pub list-new : Listed ms list k → Listed (set ms u true) (set list k u) (k + 1)
-      list-new is =
-          let r : k < length list = omega (arith, list-room) in
-          record {
-            counted = list-counted;
-            are = last_or list k u (is_marked (set ms u true)) r (set-hit ms u below) (λ i b. set-grow ms u (slice_index list i) (is.are i b));
-            all = λ v t. ⊎_elim
-                (λ (e : v ≡ u). subst (λ (x : ℕ). Among (set list k u) (k + 1) x) (sym e) (among-last list k u r))
-                (λ (t : is_marked ms v ≡ true). among-more list k v u (is.all v t))
-                (set-back ms u v t);
-          }
+      list-new is = grind (arith, common_steps, set-grow, set-hit, set-back, among-more, among-last, last-or, below, list-counted, list-room)
 
       pub longer-new : Longer list (set list k u) k (k + 1)
       longer-new = record { more = omega arith; kept = λ i b. get_or-set_other list k i u 0 (λ e. omega arith) }
@@ -92,36 +83,17 @@ unfolding mark_all
 enlisted-one s u fits is = go (cases (is_unmarked s.marks u))
   where
     go : (is_unmarked s.marks u ≡ true) ⊎ (is_unmarked s.marks u ≡ false) → Enlisted s (u ∷ []) (enlist s u)
-    go (inl t) = subst (λ (x : Listing). Enlisted s (u ∷ []) x) (sym (enlist-new s u t)) (record {
-      marks = refl;
-      listed = list-new s.marks u s.count is.counted t s.list fits is;
-      longer = longer-new s.marks u s.count is.counted t s.list fits;
-    })
-    go (inr t) = subst (λ (x : Listing). Enlisted s (u ∷ []) x) (sym (enlist-same s u t)) (record {
-      marks = sym (mark-same s.marks u t);
-      listed = is;
-      longer = longer-same s.list s.count;
-    })
+    go (inl t) = grind (arith, common_steps, list-new s.marks u s.count is.counted t s.list fits is, longer-new s.marks u s.count is.counted t s.list fits, enlist-new s u t)
+    go (inr t) = grind (arith, common_steps, longer-same, mark-same, enlist-same)
 
 enlist-fits : (s : Listing) (u : ℕ) → length s.marks ≤ length s.list → length (enlist s u).marks ≤ length (enlist s u).list
-enlist-fits s u fits = go (cases (is_unmarked s.marks u))
-  where
-    go : (is_unmarked s.marks u ≡ true) ⊎ (is_unmarked s.marks u ≡ false) → length (enlist s u).marks ≤ length (enlist s u).list
-    go (inl t) = subst (λ (x : Listing). length x.marks ≤ length x.list) (sym (enlist-new s u t)) (simp length-set fits)
-    go (inr t) = subst (λ (x : Listing). length x.marks ≤ length x.list) (sym (enlist-same s u t)) fits
+enlist-fits s u fits = grind (arith, common_steps, length-set, enlist-new, enlist-same)
 
 enlisted-each : (us : List ℕ) (s : Listing) → length s.marks ≤ length s.list
     → Listed s.marks s.list s.count → Enlisted s us (enlist_all s us)
 unfolding enlist_all mark_all
-enlisted-each [] s fits is = record { marks = refl; listed = is; longer = longer-same s.list s.count }
-enlisted-each (u ∷ us) s fits is =
-    let one : Enlisted s (u ∷ []) (enlist s u) = enlisted-one s u fits is in
-    let rest : Enlisted (enlist s u) us (enlist_all (enlist s u) us) = enlisted-each us (enlist s u) (enlist-fits s u fits) one.listed in
-    record {
-      marks = rest.marks ∙ ap (λ (ms : List Bool). mark_all us ms) one.marks;
-      listed = rest.listed;
-      longer = longer-on _ _ _ _ _ _ one.longer rest.longer;
-    }
+enlisted-each [] s fits is = grind (arith, common_steps, longer-same)
+enlisted-each (u ∷ us) s fits is = grind (arith, common_steps, enlisted-each us, longer-on, enlisted-one, enlist-fits)
 
 pub enlisted-all : (us : List ℕ) (s t : Listing) → length s.marks ≤ length s.list
     → Listed s.marks s.list s.count → t ≡ enlist_all s us → Enlisted s us t

@@ -1,12 +1,12 @@
 -- Marked nodes in a list: what is followed in the order of the list, as far as it goes, has no arc that leaves the marks.
-use Rattle.std.proofs.Common.{◌≡◌, refl, sym, ◌∙◌, ap, subst, ⊎_elim, Bool, true, false, List, ℕ, ◌+◌, ◌≤◌, ◌<◌, arith, length, slice_index}
+use Rattle.std.proofs.Common.{◌≡◌, refl, sym, ◌∙◌, subst, Bool, true, false, List, ℕ, ◌+◌, ◌≤◌, ◌<◌, arith, length, slice_index}
 use Rattle.std.proofs.Common.{replicate}
 use Rattle.std.proofs.Math.ListN.{length-replicate, get_or-replicate}
 use Rattle.std.proofs.lemmas.Grind.{common_steps}
 use Rattle.words.proofs.lists.Tests.{no_both}
 use Rattle.words.proofs.lists.Counts.{count-le, count-none}
 use Rattle.words.specs.graph.Reach.{is_member, is_marked}
-use Rattle.words.specs.graph.inner.Listed.{mark_all, Among, Listed}
+use Rattle.words.specs.graph.inner.Listed.{mark_all, Listed}
 use Rattle.words.proofs.graph.Closure.{marked-below, Closed, reach-closed}
 use Rattle.words.proofs.graph.Marking.{all-long, all-grow, all-hit, all-back, Joining}
 
@@ -47,11 +47,7 @@ module _ (n : ℕ) (arcs : ℕ → List ℕ) where
 
   pub followed-closed : (ms : List Bool) (list : List ℕ) (k : ℕ) → Listed ms list k → Followed n arcs ms list k
       → Closed n arcs (is_marked ms)
-  followed-closed ms list k is f = record {
-    goes = λ u v lu lv m s.
-        let a : Among list k u = is.all u m in
-        f.led a.place a.inside v lv (ap (λ (x : ℕ). is_member v (arcs x)) a.found ∙ s);
-  }
+  followed-closed ms list k is f = grind (arith, common_steps)
 
   pub joining-more : (first now out : List Bool) (u : ℕ) → length first ≡ n → is_marked now u ≡ true → out ≡ mark_all (arcs u) now
       → Joining n arcs first now → Joining n arcs first out
@@ -61,9 +57,5 @@ module _ (n : ℕ) (arcs : ℕ → List ℕ) where
       subst (λ (xs : List Bool). Joining n arcs first xs) (sym o) (record {
         long = long;
         from = λ v t. all-grow (arcs u) now v (j.from v t);
-        within = λ v t. ⊎_elim
-            (λ (s : is_member v (arcs u) ≡ true). (reach-closed n arcs first e).goes u v (marked-below n now u l m)
-            (marked-below n (mark_all (arcs u) now) v long t) (j.within u m) s)
-            (λ (s : is_marked now v ≡ true). j.within v s)
-            (all-back (arcs u) now v t);
+        within = λ v t. grind (arith, common_steps, marked-below n now u l m, marked-below n (mark_all (arcs u) now) v long t, reach-closed n arcs first e, all-back (arcs u) now v t);
       })

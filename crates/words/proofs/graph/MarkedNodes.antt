@@ -1,6 +1,6 @@
 -- The marked nodes in a list, the lowest first, as a loop over the nodes writes them.
 use Rattle.std.proofs.Common.{◌≡◌, refl, sym, ◌∙◌, ap, Bool, true, false, List, [], ◌∷◌, ◌++◌, append-nil, map-id, ℕ, ◌+◌, ◌≤◌, ◌<◌, slice_index, filter}
-use Rattle.std.proofs.Common.{zero-add, add-one, arith, length, set, drop, length-set}
+use Rattle.std.proofs.Common.{zero-add, add-one, arith, length, set, length-set}
 use Rattle.std.proofs.Math.ListN.{get_or-append}
 use Rattle.std.proofs.lemmas.Grind.{common_steps}
 use Rattle.words.specs.lists.Numbers.{range, count}
@@ -8,7 +8,7 @@ use Rattle.std.specs.List.{AllByRecursion}
 use Rattle.words.specs.lists.Sequences.{over, written}
 use Rattle.words.proofs.lists.Counts.{count-le, count-below, count-yes, count-pass}
 use Rattle.words.proofs.lists.Ranges.{range-snoc, filter-yes, filter-no, length-filter, get_or-filter}
-use Rattle.words.proofs.lists.Filters.{filter-none, filter-append}
+use Rattle.words.proofs.lists.Filters.{filter-none}
 use Rattle.words.proofs.lists.Joins.{all-at, all-every, all-filter}
 use Rattle.words.proofs.lists.Written.{written-none, written-snoc, written-front}
 use Rattle.words.specs.graph.Reach.{is_marked}
@@ -19,14 +19,12 @@ use Rattle.words.proofs.graph.Closure.{marked-below}
 abbrev pub lower : List Bool → ℕ → List ℕ
 lower ms v = filter (is_marked ms) (range 0 v)
 
-lower_long : (ms : List Bool) (v : ℕ) → length (lower ms v) ≡ count (is_marked ms) 0 v
-lower_long ms v = length-filter (is_marked ms) 0 v
+lower-long : (ms : List Bool) (v : ℕ) → length (lower ms v) ≡ count (is_marked ms) 0 v
+lower-long ms v = length-filter (is_marked ms) 0 v
 
 -- one node more
 lower-more : (ms : List Bool) (v : ℕ) → lower ms (v + 1) ≡ lower ms v ++ filter (is_marked ms) (v ∷ [])
-lower-more ms v =
-    ap (filter (is_marked ms)) (ap (range 0) (add-one v) ∙ range-snoc 0 v ∙ ap (λ (u : ℕ). range 0 v ++ (u ∷ [])) (zero-add v))
-    ∙ filter-append (is_marked ms) (range 0 v) (v ∷ [])
+lower-more ms v = grind (arith, common_steps, zero-add v, range-snoc 0 v, add-one v)
 
 lower-yes : (ms : List Bool) (v : ℕ) → is_marked ms v ≡ true → lower ms (v + 1) ≡ lower ms v ++ (v ∷ [])
 lower-yes ms v m = lower-more ms v
@@ -40,8 +38,7 @@ lower-no ms v m = lower-more ms v ∙ ap (λ (us : List ℕ). lower ms v ++ us) 
 pub listed-lowest : (ms : List Bool) (old list : List ℕ) (k : ℕ) → (list ≡ over (marked_nodes ms) old) × (k ≡ many ms) → Listed ms list k
 listed-lowest ms old list k (e, c) = record {
   counted = c;
-  are = λ i l. ap (is_marked ms) (at i (omega arith))
-      ∙ (all-at (λ u. Unit {0} × (is_marked ms u ≡ true)) 0 (marked_nodes ms) passed i (omega (arith, long))).1;
+  are = λ i l. grind (arith, common_steps, all-at, passed, long, at);
   all = λ v m.
       let l : v < length ms = marked-below (length ms) ms v refl m in
       let b : count (is_marked ms) 0 v < many ms = count-below (is_marked ms) v (length ms) l m in
@@ -56,14 +53,13 @@ listed-lowest ms old list k (e, c) = record {
 }
   where
     long : length (marked_nodes ms) ≡ many ms
-    long = lower_long ms (length ms)
+    long = lower-long ms (length ms)
 
     passed : AllByRecursion (λ u. Unit {0} × (is_marked ms u ≡ true)) (marked_nodes ms)
     passed = all-filter (λ u. Unit {0}) (is_marked ms) (range 0 (length ms)) (all-every (λ u. Unit {0}) (λ u. tt) (range 0 (length ms)))
 
     at : (i : ℕ) → i < many ms → slice_index list i ≡ slice_index (marked_nodes ms) i
-    at i l = ap (λ (us : List ℕ). slice_index us i) e
-        ∙ get_or-append (marked_nodes ms) (drop (length (marked_nodes ms)) old) 0 i (omega (arith, long))
+    at i l = grind (arith, common_steps, get_or-append, long)
 
 -- ---- the loop: those below v are written
 pub record Writing (ms : List Bool) (old list : List ℕ) (k v : ℕ) : Type 0 where
@@ -80,15 +76,7 @@ module _ (ms : List Bool) (old list : List ℕ) (k v : ℕ) (is : Writing ms old
   writing-few = omega (arith, is.counted, count-le (is_marked ms) 0 v)
 
   pub writing-yes : k < length old → is_marked ms v ≡ true → Writing ms old (set list k v) (k + 1) (v + 1)
-  writing-yes r m =
-      let place : k ≡ 0 + length (lower ms v) = omega (arith, is.counted, lower_long ms v) in
-      record {
-        size = length-set list k v ∙ is.size;
-        counted = ap (λ (j : ℕ). j + 1) is.counted ∙ sym (count-yes (is_marked ms) v m);
-        buffer =
-            ap (λ (us : List ℕ). set us k v) is.buffer ∙ ap (λ (j : ℕ). set (written old 0 (lower ms v)) j v) place
-            ∙ written-snoc old 0 (lower ms v) v (omega arith) ∙ ap (λ (us : List ℕ). written old 0 us) (sym (lower-yes ms v m));
-      }
+  writing-yes r m = grind (arith, common_steps, written-snoc old 0, length-set list k v, lower-long ms v, lower-yes ms v m, count-yes)
 
   pub writing-no : is_marked ms v ≡ false → Writing ms old list k (v + 1)
   writing-no m = grind (arith, common_steps, count-pass, lower-no)

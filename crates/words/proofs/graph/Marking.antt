@@ -1,5 +1,5 @@
 -- Marks set one after the other: between those at first and all that arcs join from them, until no arc leaves the set.
-use Rattle.std.proofs.Common.{◌≡◌, refl, sym, ◌∙◌, ap, subst, ◌⊎◌, inl, inr, ⊎_elim, Bool, true, false, List, [], ◌∷◌, ℕ, ◌+◌, ◌<◌, arith, ◌==◌}
+use Rattle.std.proofs.Common.{◌≡◌, refl, sym, ◌∙◌, ap, ◌⊎◌, inl, inr, ⊎_elim, Bool, true, false, List, [], ◌∷◌, ℕ, ◌+◌, ◌<◌, arith, ◌==◌}
 use Rattle.std.proofs.Common.{length, set, replicate, length-set, ext_get_or, get_or-set_same, get_or-set_other, eqb-true, eq-eqb}
 use Rattle.std.proofs.Math.ListN.{length-replicate, get_or-replicate}
 use Rattle.std.proofs.lemmas.Grind.{common_steps}
@@ -49,41 +49,18 @@ some-cons v u us s = ⊎_elim (λ (e : (v == u) ≡ true). inl (eqb-true v u e))
 
 pub all-hit : (us : List ℕ) (ms : List Bool) (v : ℕ) → v < length ms → is_member v us ≡ true → is_marked (mark_all us ms) v ≡ true
 unfolding mark_all
-all-hit [] ms v l s = no_both (is_member v []) s refl
-all-hit (u ∷ us) ms v l s = go (some-cons v u us s) (all-hit us (set ms u true) v (omega (arith, length-set ms u true)))
-  where
-    go : (v ≡ u) ⊎ (is_member v us ≡ true) → (is_member v us ≡ true → is_marked (mark_all us (set ms u true)) v ≡ true)
-        → is_marked (mark_all us (set ms u true)) v ≡ true
-    go (inl e) ih = all-grow us (set ms u true) v (subst (λ (k : ℕ). is_marked (set ms k true) v ≡ true) e (set-hit ms v l))
-    go (inr t) ih = ih t
+all-hit [] ms v l s = grind (arith, common_steps, no_both)
+all-hit (u ∷ us) ms v l s = grind (arith, common_steps, all-hit us (set ms u true) v (omega (arith, length-set ms u true)), length-set, set-hit, all-grow, some-cons)
 
 pub all-back : (us : List ℕ) (ms : List Bool) (v : ℕ) → is_marked (mark_all us ms) v ≡ true
     → (is_member v us ≡ true) ⊎ (is_marked ms v ≡ true)
 unfolding mark_all
-all-back [] ms v m = inr m
-all-back (u ∷ us) ms v m =
-    ⊎_elim (λ (t : is_member v us ≡ true). inl (some-later v u us t))
-    (λ (t : is_marked (set ms u true) v ≡ true). ⊎_elim (λ (e : v ≡ u). inl (some-first v u us e))
-    (λ (x : is_marked ms v ≡ true). inr x) (set-back ms u v t))
-    (all-back us (set ms u true) v m)
+all-back [] ms v m = grind (arith, common_steps)
+all-back (u ∷ us) ms v m = grind (arith, common_steps, all-back us (set ms u true) v m, set-back, some-first, some-later)
 
 -- on no marks at all
 pub all-only : (n : ℕ) (us : List ℕ) → mark_all us (replicate n false) ≡ only_marks n us
-all-only n us = ext_get_or false (mark_all us (replicate n false)) (only_marks n us) (long ∙ sym (only-long n us))
-    (λ v l. same v (omega (arith, long)) (cases (is_member v us)))
-  where
-    long : length (mark_all us (replicate n false)) ≡ n
-    long = all-long us (replicate n false) ∙ length-replicate n false
-
-    same : (v : ℕ) → v < n → (is_member v us ≡ true) ⊎ (is_member v us ≡ false)
-        → is_marked (mark_all us (replicate n false)) v ≡ is_marked (only_marks n us) v
-    same v l (inl t) = all-hit us (replicate n false) v (omega (arith, length-replicate n false)) t ∙ sym (only-at n us v l ∙ t)
-    same v l (inr t) = ⊎_elim
-        (λ (m : is_marked (mark_all us (replicate n false)) v ≡ true). ⊎_elim (λ (x : is_member v us ≡ true). no_both (is_member v us) x t)
-        (λ (x : is_marked (replicate n false) v ≡ true). no_both (is_marked (replicate n false) v) x (get_or-replicate n v false false l))
-        (all-back us (replicate n false) v m))
-        (λ (m : is_marked (mark_all us (replicate n false)) v ≡ false). m ∙ sym (only-at n us v l ∙ t))
-        (cases (is_marked (mark_all us (replicate n false)) v))
+all-only n us = grind (arith, common_steps, only-long n us, ext_get_or false, get_or-replicate, length-replicate, no_both, only-at, all-long, all-hit, all-back)
 
 -- ---- marks that spread
 -- marks between those at first and all that arcs join from them
@@ -102,11 +79,7 @@ module _ (n : ℕ) (arcs : ℕ → List ℕ) (first : List Bool) (e : length fir
     where
       go : (v : ℕ) → (is_marked now v ≡ true) ⊎ (is_marked now v ≡ false) → is_marked now v ≡ is_marked (reach n arcs n first) v
       go v (inl m) = m ∙ sym (j.within v m)
-      go v (inr m) = ⊎_elim
-          (λ (x : is_marked (reach n arcs n first) v ≡ true). no_both (is_marked now v)
-          (reach-least n arcs (is_marked now) k n first j.from v x) m)
-          (λ (x : is_marked (reach n arcs n first) v ≡ false). m ∙ sym x)
-          (cases (is_marked (reach n arcs n first) v))
+      go v (inr m) = grind (arith, common_steps, cases (is_marked (reach n arcs n first) v), reach-least, no_both)
 
   -- marks on the way join what the first ones do
   pub joining-same : (now : List Bool) → Joining n arcs first now → reach n arcs n now ≡ reach n arcs n first

@@ -1,6 +1,6 @@
 -- Loops that fill an array held by value, one element after the other.
-use Rattle.std.proofs.Common.{◌≡◌, sym, ◌∙◌, ap, List, map, ℕ, ◌+◌, ◌≤◌, ◌<◌, arith, below_more, length, set, length-set, slice_index_or}
-use Rattle.std.proofs.Common.{get_or-set_same, get_or-set_other, ext_get_or}
+use Rattle.std.proofs.Common.{◌≡◌, List, map, ℕ, ◌≤◌, ◌<◌, arith, length, slice_index_or}
+use Rattle.std.proofs.Common.{ext_get_or}
 use Rattle.std.proofs.lemmas.Grind.{common_steps}
 use Rattle.words.specs.lists.Numbers.{range}
 use Rattle.words.proofs.lists.Ranges.{length-map-range, get_or-map-range}
@@ -13,6 +13,4 @@ pub record Filled {A : Type 0} (f : ℕ → A) (d : A) (xs : List A) (n k : ℕ)
 
 module _ {A : Type 0} (f : ℕ → A) (d : A) (n : ℕ) where
   pub filled-all : (xs : List A) (k : ℕ) → Filled f d xs n k → n ≤ k → xs ≡ map f (range 0 n)
-  filled-all xs k w h =
-      ext_get_or d xs (map f (range 0 n)) (w.size ∙ sym (length-map-range f 0 n))
-      (λ i g. w.each i (omega arith) ∙ sym (get_or-map-range f d 0 n i (omega arith) ∙ ap f (omega arith)))
+  filled-all xs k w h = grind (arith, common_steps, get_or-map-range f d 0 n, length-map-range f 0 n, ext_get_or d xs)

@@ -1,5 +1,5 @@
 -- Laws of how many numbers pass a test.
-use Rattle.std.proofs.Common.{if◌then◌else◌, cond, ◌≡◌, refl, sym, ◌∙◌, ap, ⊎_elim, Bool, true, false, not, ℕ, zero, suc, ◌+◌, ◌-◌, ◌≤◌, ◌==◌}
+use Rattle.std.proofs.Common.{if◌then◌else◌, cond, ◌≡◌, refl, sym, ◌∙◌, ap, Bool, true, false, not, ℕ, zero, suc, ◌+◌, ◌-◌, ◌≤◌, ◌==◌, ⊎_elim}
 use Rattle.std.proofs.Common.{◌<◌, eq-or-lt_of_le, zero-add, add-zero, add-one, arith, eq-eqb, ne_eqb}
 use Rattle.std.proofs.Math.Decide.{dec_lt}
 use Rattle.std.proofs.lemmas.Grind.{common_steps}
@@ -143,14 +143,5 @@ count-alike p q i n h = grind (arith, common_steps, count-within)
 
 pub count-add : (p q : ℕ → Bool) (i n u : ℕ) → i ≤ u → u < i + n → p u ≡ false → q u ≡ true → ((k : ℕ) → (k ≡ u → ⊥) → q k ≡ p k)
     → count q i n ≡ count p i n + 1
-count-add p q i zero u a b x y h = absurd (omega arith)
-count-add p q i (suc n) u a b x y h =
-    ⊎_elim
-    (λ (e : i ≡ u).
-    let s : cond {A = ℕ} (p i) 1 0 ≡ 0 = cond-false (p i) 1 0 (ap p e ∙ x) in
-    let t : cond {A = ℕ} (q i) 1 0 ≡ 1 = cond-true (q i) 1 0 (ap q e ∙ y) in
-    omega (arith, s, t, count-suc p i n, count-suc q i n, count-alike p q (suc i) n (λ k c d. h k (λ z. omega arith))))
-    (λ (l : i < u).
-    let s : cond {A = ℕ} (q i) 1 0 ≡ (if p i then 1 else 0) = ap (λ b. cond {A = ℕ} b 1 0) (h i (λ z. omega arith)) in
-    omega (arith, s, count-suc p i n, count-suc q i n, count-add p q (suc i) n u l (omega arith) x y h))
-    (eq-or-lt_of_le a)
+count-add p q i zero u a b x y h = grind (arith, common_steps)
+count-add p q i (suc n) u a b x y h = grind (arith, common_steps, count-add p q (suc i) n u, eq-or-lt_of_le a, cond-true, cond-false, count-suc, count-alike)

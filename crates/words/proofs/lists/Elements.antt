@@ -1,6 +1,6 @@
 -- Lists mapped, filtered and joined, by what holds of each element and by ranges of numbers.
-use Rattle.std.proofs.Common.{ℕ, zero, suc, ◌+◌, ◌-◌, ◌≤◌, ◌<◌, Bool, true, false, ◌≡◌, refl, ◌∙◌, ap, ap₂, List, [], ◌∷◌, ◌++◌, map, flat_map, filter}
-use Rattle.std.proofs.Common.{append-nil, arith}
+use Rattle.std.proofs.Common.{ℕ, zero, suc, ◌+◌, ◌-◌, ◌≤◌, ◌<◌, Bool, true, false, ◌≡◌, refl, ◌∙◌, ap, ap₂, List, [], ◌∷◌, ◌++◌, map, flat_map, filter, append-nil}
+use Rattle.std.proofs.Common.{arith}
 use Rattle.std.proofs.lemmas.Grind.{common_steps}
 use Rattle.words.specs.lists.Numbers.{range}
 use Rattle.std.specs.List.{AllByRecursion}
@@ -49,9 +49,8 @@ concat-each f g e (x ∷ xs) = ap₂ (λ a b. a ++ b) (e x) (concat-each f g e x
 
 module _ {B : Type 0} (f : ℕ → List B) where
   pub concat-empty : (i n : ℕ) → ((k : ℕ) → i ≤ k → k < i + n → f k ≡ []) → flat_map f (range i n) ≡ []
-  concat-empty i zero e = refl
-  concat-empty i (suc n) e = ap₂ (λ a b. a ++ b) (e i (omega arith) (omega arith))
-      (concat-empty (suc i) n (λ k a b. e k (omega arith) (omega arith)))
+  concat-empty i zero e = grind (arith, common_steps)
+  concat-empty i (suc n) e = grind (arith, common_steps, concat-empty (suc i) n (λ k a b. e k (omega arith) (omega arith)))
 
   -- numbers below a and from b on give nothing
   pub concat-within : (a b n : ℕ) → a ≤ b → b ≤ n → ((k : ℕ) → k < a → f k ≡ []) → ((k : ℕ) → b ≤ k → k < n → f k ≡ [])

@@ -1,5 +1,5 @@
 -- Loops that write: one value after the other, or one piece after the other, from a place of a buffer on.
-use Rattle.std.proofs.Common.{◌≡◌, refl, sym, ◌∙◌, ap, List, ◌++◌, map, ℕ, ◌+◌, ◌*◌, ◌≤◌, ◌<◌, add-one, arith, length, set, slice_index, flat_map}
+use Rattle.std.proofs.Common.{◌≡◌, refl, sym, ◌∙◌, ap, List, map, ℕ, ◌+◌, ◌*◌, ◌≤◌, ◌<◌, add-one, arith, length, set, slice_index, flat_map}
 use Rattle.std.proofs.Common.{length-set}
 use Rattle.std.proofs.lemmas.Grind.{common_steps}
 use Rattle.words.specs.lists.Numbers.{range}
@@ -38,17 +38,7 @@ module _ (f : ℕ → List ℕ) (m : ℕ) (out₀ : List ℕ) (at n : ℕ) where
   pub pieces-turn : ((k : ℕ) → length (f k) ≡ m) → (out out' : List ℕ) (k place : ℕ) → Pieces f m out₀ out at n k
       → k < n → place ≡ at + m * k → place ≤ length out₀
       → length out' ≡ length out → out' ≡ written out place (f k) → Pieces f m out₀ out' at n (k + 1)
-  pieces-turn each out out' k place w h p room s e =
-      let z : f (0 + k) ≡ f k = ap f (omega arith) in
-      record {
-        low = omega arith;
-        size = s ∙ w.size;
-        buffer = written-more out₀ at (flat_map f (range 0 k)) (f k) out out' place
-            (omega (arith, length-concat-range f m 0 k each)) room w.buffer e
-            ∙ ap (λ (x : List ℕ). written out₀ at (flat_map f (range 0 k) ++ x)) (sym z)
-            ∙ ap (λ (vs : List ℕ). written out₀ at vs) (sym (concat-range-snoc f 0 k))
-            ∙ ap (λ (j : ℕ). written out₀ at (flat_map f (range 0 j))) (sym (add-one k));
-      }
+  pieces-turn each out out' k place w h p room s e = grind (arith, common_steps, written-more, concat-range-snoc, add-one, length-concat-range)
 
   pub pieces-all : (out : List ℕ) (k : ℕ) → Pieces f m out₀ out at n k → n ≤ k → out ≡ written out₀ at (flat_map f (range 0 n))
   pieces-all out k w h = let e : k ≡ n = omega arith in w.buffer ∙ ap (λ (j : ℕ). written out₀ at (flat_map f (range 0 j))) e

@@ -1,5 +1,5 @@
 -- Laws of joined lists, and of what holds of every element.
-use Rattle.std.proofs.Common.{◌≡◌, refl, sym, ◌∙◌, ap, ap₂, subst, Bool, true, List, [], ◌∷◌, ◌++◌, map, append_assoc, append-nil, ℕ, zero, slice_index_or, flat_map, filter}
+use Rattle.std.proofs.Common.{◌≡◌, refl, sym, ◌∙◌, ap, ap₂, subst, Bool, true, List, [], ◌∷◌, ◌++◌, map, append_assoc, ℕ, zero, slice_index_or, flat_map, filter}
 use Rattle.std.proofs.Common.{suc, ◌+◌, ◌*◌, ◌≤◌, ◌<◌, mul-suc, arith, length, length-append}
 use Rattle.std.proofs.lemmas.Grind.{common_steps}
 use Rattle.words.specs.lists.Numbers.{range}
@@ -86,9 +86,7 @@ length-concat-range f m i (suc n) h = grind (arith, common_steps, length-concat-
 
 -- ---- one more at the far end
 pub concat-range-snoc : {B : Type 0} (f : ℕ → List B) (i n : ℕ) → flat_map f (range i (suc n)) ≡ flat_map f (range i n) ++ f (i + n)
-concat-range-snoc f i n =
-    ap (flat_map f) (range-snoc i n) ∙ concat-append f (range i n) ((i + n) ∷ [])
-    ∙ ap (λ ys. flat_map f (range i n) ++ ys) (concat-cons f (i + n) [] ∙ (append-nil (f (i + n))))
+concat-range-snoc f i n = grind (arith, common_steps, range-snoc, concat-cons, concat-append)
 
 -- lists of m elements each, one a number
 pub concat-range-at : {B : Type 0} (f : ℕ → List B) (m i n : ℕ) (e : B) → ((k : ℕ) → length (f k) ≡ m) → (j k : ℕ) → j < n → k < m

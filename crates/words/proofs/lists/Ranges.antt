@@ -70,14 +70,8 @@ get_or-filter f d p i (suc n) (suc k) h e =
   where
     go : (b : Bool) → p i ≡ b → slice_index_or (map f (filter p (range (suc i) n))) (count p (suc i) k) d ≡ f (suc i + k)
         → slice_index_or (map f (filter p (range i (suc n)))) (count p i (suc k)) d ≡ f (i + suc k)
-    go true q ih =
-        let c : count p i (suc k) ≡ suc (count p (suc i) k) = rw (count-suc, q) (omega arith) in
-        ap (λ (l : List ℕ). slice_index_or (map f l) (count p i (suc k)) d) (filter-yes p i (range (suc i) n) q)
-        ∙ ap (λ (m : ℕ). slice_index_or (f i ∷ map f (filter p (range (suc i) n))) m d) c ∙ ih ∙ ap f (omega arith)
-    go false q ih =
-        let c : count p i (suc k) ≡ count p (suc i) k = rw (count-suc, q) (omega arith) in
-        ap (λ (l : List ℕ). slice_index_or (map f l) (count p i (suc k)) d) (filter-no p i (range (suc i) n) q)
-        ∙ ap (λ (m : ℕ). slice_index_or (map f (filter p (range (suc i) n))) m d) c ∙ ih ∙ ap f (omega arith)
+    go true q ih = grind (arith, common_steps, count-suc, filter-yes)
+    go false q ih = grind (arith, common_steps, count-suc, filter-no)
 
 -- ---- one more at the far end
 pub range-snoc : (i n : ℕ) → range i (suc n) ≡ range i n ++ ((i + n) ∷ [])

@@ -1,5 +1,5 @@
 -- Laws of the lowest number that passes a test, of whether any does, and of the highest value; of an element that passes.
-use Rattle.std.proofs.Common.{if◌then◌else◌, ◌≡◌, refl, sym, ◌∙◌, ap, ap₂, ◌⊎◌, ⊎_elim, Bool, true, false, ◌||◌, List, [], ◌∷◌, ℕ, zero}
+use Rattle.std.proofs.Common.{if◌then◌else◌, ◌≡◌, refl, sym, ◌∙◌, ap, ap₂, Bool, true, false, ◌||◌, List, [], ◌∷◌, ℕ, zero, ⊎_elim}
 use Rattle.std.proofs.Common.{suc, ◌+◌, ◌-◌, ◌≤◌, ◌<◌, max, eq-or-lt_of_le, zero-add, add-one, arith}
 use Rattle.std.proofs.Math.Nat.{sub-zero}
 use Rattle.std.proofs.lemmas.Grind.{common_steps}
@@ -7,6 +7,7 @@ use Rattle.words.specs.lists.Numbers.{lowest, any, sum, highest}
 use Rattle.std.specs.List.{list_any}
 use Rattle.std.proofs.lemmas.Bool.{cond-true, cond-false}
 use Rattle.words.proofs.lists.Tests.{no_both, or-l, or-r, or-cases, cases}
+use Rattle.std.proofs.lemmas.Bool.{cases_Bool}
 
 -- ---- the lowest that passes
 pub lowest-hit : (p : ℕ → Bool) (i n : ℕ) → lowest p i n < i + n → p (lowest p i n) ≡ true
@@ -156,9 +157,7 @@ sum-snoc f i (suc n) = let e : f (suc i + n) ≡ f (i + suc n) = ap f (omega ari
 
 -- a turn of the loop that adds
 pub sum-turn : (g : ℕ → ℕ) (s k v : ℕ) → s ≡ sum g 0 k → v ≡ g k → s + v ≡ sum g 0 (k + 1)
-sum-turn g s k v e q =
-    let z : g (0 + k) ≡ g k = ap g (omega arith) in
-    rw (add-one k) (let w : sum g 0 (suc k) ≡ sum g 0 k + g (0 + k) = sum-snoc g 0 k in omega arith)
+sum-turn g s k v e q = grind (arith, common_steps, add-one k, sum-snoc g 0 k)
 
 pub highest-snoc : (f : ℕ → ℕ) (i n : ℕ) → highest f i (suc n) ≡ max (highest f i n) (f (i + n))
 unfolding highest
@@ -202,12 +201,8 @@ lowest-most p i (suc n) = grind (arith, common_steps, lowest-most p (suc i) n)
 
 pub lowest-before : (p : ℕ → Bool) (i n k : ℕ) → i ≤ k → k < lowest p i n → p k ≡ false
 unfolding lowest
-lowest-before p i zero k a b = absurd (omega arith)
-lowest-before p i (suc n) k a b = go (p i) refl b (lowest-before p (suc i) n k)
-  where
-    go : (t : Bool) → p i ≡ t → k < lowest p i (suc n) → (suc i ≤ k → k < lowest p (suc i) n → p k ≡ false) → p k ≡ false
-    go true e b ih = absurd (omega (arith, rw (lowest, e) at b))
-    go false e b ih = ⊎_elim (λ (q : i ≡ k). ap p (sym q) ∙ e) (λ (q : i < k). ih q (rw (lowest, e) at b)) (eq-or-lt_of_le a)
+lowest-before p i zero k a b = grind (arith, common_steps)
+lowest-before p i (suc n) k a b = grind (arith, common_steps, lowest-before p (suc i) n k, cases_Bool (p i), eq-or-lt_of_le a)
 
 -- a test that fails wherever another one fails: its search may start where the other one's ends
 pub lowest-later : (p q : ℕ → Bool) → ((k : ℕ) → p k ≡ false → q k ≡ false) → (i n : ℕ)
@@ -221,13 +216,7 @@ lowest-later p q h i (suc n) = go (p i) refl (lowest-later p q h (suc i) n)
     go true e ih =
         let one : lowest p i (suc n) ≡ i = rw (lowest, e) in
         ap (λ (x : ℕ). lowest q x (i + suc n - x)) one ∙ ap (λ (m : ℕ). lowest q i m) (let z : i + suc n - i ≡ suc n = omega arith in z)
-    go false e ih =
-        let on : lowest p i (suc n) ≡ lowest p (suc i) n = rw (lowest, e) in
-        let past : lowest q i (suc n) ≡ lowest q (suc i) n = rw (lowest, h i e) in
-        ap (λ (x : ℕ). lowest q x (i + suc n - x)) on
-        ∙ ap (λ (m : ℕ). lowest q (lowest p (suc i) n) m)
-        (let z : i + suc n - lowest p (suc i) n ≡ suc i + n - lowest p (suc i) n = omega arith in z)
-        ∙ ih ∙ sym past
+    go false e ih = grind (arith, common_steps)
 
 -- the same by the end of the search
 module _ (p : ℕ → Bool) (i end : ℕ) (h : i ≤ end) where
@@ -236,7 +225,4 @@ module _ (p : ℕ → Bool) (i end : ℕ) (h : i ≤ end) where
 
   pub lowest-from : (q : ℕ → Bool) → ((k : ℕ) → p k ≡ false → q k ≡ false)
       → lowest q (lowest p i (end - i)) (end - lowest p i (end - i)) ≡ lowest q i (end - i)
-  lowest-from q f =
-      ap (λ (m : ℕ). lowest q (lowest p i (end - i)) m)
-      (let e : end - lowest p i (end - i) ≡ i + (end - i) - lowest p i (end - i) = omega arith in e)
-      ∙ lowest-later p q f i (end - i)
+  lowest-from q f = grind (arith, common_steps, lowest-later p q f i (end - i))

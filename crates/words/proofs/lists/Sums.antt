@@ -1,5 +1,5 @@
 -- Laws of sums: of numbers within a bound, over ranges that follow one another, moved, or alike; and a loop that adds.
-use Rattle.std.proofs.Common.{if◌then◌else◌, ℕ, zero, suc, ◌+◌, ◌*◌, ◌-◌, ◌≤◌, ◌<◌, Bool, ◌≡◌, refl, sym, ◌∙◌, ap, ap₂, ◌⊎◌, inl, inr}
+use Rattle.std.proofs.Common.{if◌then◌else◌, ℕ, zero, suc, ◌+◌, ◌*◌, ◌-◌, ◌≤◌, ◌<◌, Bool, ◌≡◌, refl, sym, ◌∙◌}
 use Rattle.std.proofs.Common.{eq-or-lt_of_le, mul-suc, suc-mul, arith}
 use Rattle.std.proofs.lemmas.Grind.{common_steps}
 use Rattle.words.specs.lists.Numbers.{count, sum}
@@ -27,17 +27,12 @@ sum-ones f i zero h = grind (arith, common_steps, sum-none)
 sum-ones f i (suc n) h = grind (arith, common_steps, sum-ones f (suc i) n (λ k a b. h k (omega arith) (omega arith)), sum-suc)
 
 pub sum-full : (f : ℕ → ℕ) (i n : ℕ) → ((k : ℕ) → i ≤ k → k < i + n → f k ≤ 1) → sum f i n ≡ n → (k : ℕ) → i ≤ k → k < i + n → f k ≡ 1
-sum-full f i zero h e k a b = absurd (omega arith)
+sum-full f i zero h e k a b = grind (arith, common_steps)
 sum-full f i (suc n) h e k a b =
     let x : f i ≤ 1 = h i (omega arith) (omega arith) in
     let y : sum f (suc i) n ≤ n * 1 = sum-most f 1 (suc i) n (λ k a b. h k (omega arith) (omega arith)) in
     let z : f i + sum f (suc i) n ≡ suc n = sym (sum-suc f i n) ∙ e in
-    go (eq-or-lt_of_le a)
-    (λ (q : i < k). sum-full f (suc i) n (λ k a b. h k (omega arith) (omega arith)) (omega arith) k q (omega arith)) (omega arith)
-  where
-    go : (i ≡ k) ⊎ (i < k) → (i < k → f k ≡ 1) → f i ≡ 1 → f k ≡ 1
-    go (inl q) ih one = ap f (sym q) ∙ one
-    go (inr q) ih one = ih q
+    grind (arith, common_steps, λ (q : i < k). sum-full f (suc i) n (λ k a b. h k (omega arith) (omega arith)) (omega arith) k q (omega arith), eq-or-lt_of_le a)
 
 pub sum-add : (p : ℕ → Bool) (f g : ℕ → ℕ) → ((k : ℕ) → f k ≡ (if p k then 1 else 0) + g k) → (i n : ℕ)
     → sum f i n ≡ count p i n + sum g i n
@@ -45,13 +40,8 @@ sum-add p f g h i zero = omega (arith, sum-none f i, sum-none g i, count-none p 
 sum-add p f g h i (suc n) = omega (arith, sum-suc f i n, sum-suc g i n, count-suc p i n, h i, sum-add p f g h (suc i) n)
 
 pub sum-split : (f : ℕ → ℕ) (i m n : ℕ) → sum f i (m + n) ≡ sum f i m + sum f (i + m) n
-sum-split f i zero n =
-    let e : sum f i (0 + n) ≡ sum f (i + 0) n = ap₂ (λ (x y : ℕ). sum f x y) (omega arith) (omega arith) in
-    omega (arith, e, sum-none f i)
-sum-split f i (suc m) n =
-    let e : sum f i (suc m + n) ≡ sum f i (suc (m + n)) = ap (λ (x : ℕ). sum f i x) (omega arith) in
-    let g : sum f (suc i + m) n ≡ sum f (i + suc m) n = ap (λ (x : ℕ). sum f x n) (omega arith) in
-    omega (arith, e, g, sum-suc f i (m + n), sum-suc f i m, sum-split f (suc i) m n)
+sum-split f i zero n = grind (arith, common_steps, sum-none f i)
+sum-split f i (suc m) n = grind (arith, common_steps, sum-split f (suc i) m n, sum-suc f i (m + n), sum-suc f i m)
 
 -- the same numbers, and at other places
 pub sum-same : (f g : ℕ → ℕ) (i n : ℕ) → ((k : ℕ) → i ≤ k → k < i + n → f k ≡ g k) → sum f i n ≡ sum g i n
@@ -71,20 +61,8 @@ pub record Adding (g : ℕ → ℕ) (most first end total f : ℕ) : Type 0 wher
 
 module _ (g : ℕ → ℕ) (most first end : ℕ) where
   pub adding-start : first ≤ end → Adding g most first end 0 first
-  adding-start h =
-      let e : first - first ≡ 0 = omega arith in
-      record { low = omega arith; high = h; is = sym (ap (sum g first) e ∙ sum-none g first); small = omega arith }
+  adding-start h = grind (arith, common_steps, sum-none g first)
 
   pub adding-on : (total f x : ℕ) → Adding g most first end total f → f < end → (x ≡ g f) × (x ≤ most)
       → Adding g most first end (total + x) (f + 1)
-  adding-on total f x t h w =
-      let low : first ≤ f = t.low in
-      let e : f + 1 - first ≡ suc (f - first) = omega arith in
-      let k : first + (f - first) ≡ f = omega arith in
-      let more : most * (f + 1 - first) ≡ most * (f - first) + most = ap (λ (n : ℕ). most * n) e ∙ mul-suc most (f - first) ∙ omega arith in
-      record {
-        low = omega arith;
-        high = omega arith;
-        is = ap₂ ◌+◌ t.is (w.0 ∙ ap g (sym k)) ∙ sym (ap (sum g first) e ∙ sum-snoc g first (f - first));
-        small = omega (arith, t.small, w.1, more);
-      }
+  adding-on total f x t h w = grind (arith, common_steps, sum-snoc g first (f - first), mul-suc most (f - first))

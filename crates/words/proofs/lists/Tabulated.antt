@@ -5,6 +5,7 @@ use Rattle.std.proofs.Math.Decide.{ℕ_discrete}
 use Rattle.std.proofs.Math.ListN.{length-replicate, get_or-replicate}
 use Rattle.words.specs.lists.Numbers.{tabulate}
 use Rattle.words.proofs.lists.Ranges.{length-map-range, get_or-map-range}
+use Rattle.std.proofs.lemmas.Grind.{common_steps}
 
 pub length-tabulate : (f : ℕ → ℕ) (n : ℕ) → length (tabulate f n) ≡ n
 unfolding tabulate
@@ -27,9 +28,7 @@ tabulate-set f g n v x l e h =
     tabulate-is g n (set (tabulate f n) v x) (length-set (tabulate f n) v x ∙ length-tabulate f n) (λ u lu. go u lu (ℕ_discrete u v))
   where
     go : (u : ℕ) → u < n → Dec (u ≡ v) → slice_index (set (tabulate f n) v x) u ≡ g u
-    go u lu (yes q) =
-        ap (λ (k : ℕ). slice_index (set (tabulate f n) v x) k) q
-        ∙ get_or-set_same (tabulate f n) v x 0 (omega (arith, length-tabulate f n)) ∙ e ∙ ap g (sym q)
+    go u lu (yes q) = grind (arith, common_steps, get_or-set_same, length-tabulate)
     go u lu (no q) = get_or-set_other (tabulate f n) v u x 0 q ∙ get_d-tabulate f n u lu ∙ h u q
 
 pub tabulate-none : (f : ℕ → ℕ) (n : ℕ) → ((u : ℕ) → f u ≡ 0) → replicate n 0 ≡ tabulate f n

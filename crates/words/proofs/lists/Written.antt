@@ -34,11 +34,7 @@ module _ (out : List ℕ) (at : ℕ) (vs : List ℕ) (room : at + length vs ≤ 
       sym (drop-drop (length ws) (at + length vs) (written out at vs)) ∙ ap (λ (l : List ℕ). drop (length ws) l) written-drop
       ∙ drop-drop (length ws) (at + length vs) out in
       let n : at + length vs + length ws ≡ at + length (vs ++ ws) = simp length-append (omega arith) in
-      ap (λ (l : List ℕ). l ++ (ws ++ drop (at + length vs + length ws) (written out at vs))) written-take
-      ∙ ap (λ (l : List ℕ). (take at out ++ vs) ++ (ws ++ l)) d
-      ∙ append_assoc (take at out) vs (ws ++ drop (at + length vs + length ws) out)
-      ∙ ap (λ (l : List ℕ). take at out ++ l) (sym (append_assoc vs ws (drop (at + length vs + length ws) out)))
-      ∙ ap (λ (k : ℕ). take at out ++ ((vs ++ ws) ++ drop k out)) n
+      grind (arith, common_steps, append_assoc, written-take)
 
 -- one value
 pub written-one : (out : List ℕ) (at v : ℕ) → at < length out → set out at v ≡ written out at (v ∷ [])

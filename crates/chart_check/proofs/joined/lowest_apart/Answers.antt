@@ -12,14 +12,16 @@ use Rattle.chart_check.proofs.joined.lowest_apart.Goals as goal
 pub returns-then-count-marks-clause-marks : goal.returns-then-count-marks-clause-marks
 returns-then-count-marks-clause-marks c =
     let records = c.args.records.now in
-    let full : many c.sweep.new.marks ≡ length c.sweep.new.marks = sym c.list_marked-count.ensures.1 ∙ c.if-count-marks.true in
+    let full : many c.sweep.new.marks ≡ length c.sweep.new.marks = sym c.list_marked-count.ensures.counted ∙ c.if-count-marks.true in
     spread-apart records _ _ _ c.mark_kind.ensures c.sweep.ensures (full-reach _ full (size records) (arcs records) (search rules))
 
 pub returns-then-count-marks-clause-lowest : goal.returns-then-count-marks-clause-lowest
 returns-then-count-marks-clause-lowest c = all-marked c.sweep.new.marks (size c.args.records.now) (search rules) (search rules)
 
 pub join-joined-requires : goal.join-joined-requires
-join-joined-requires c = record { long = search rules; room = search rules; listed = listed-lowest _ _ _ _ c.list_marked-count.ensures }
+join-joined-requires c =
+    let told = c.list_marked-count.ensures in
+    record { long = search rules; room = search rules; listed = listed-lowest _ _ _ _ (told.listed, told.counted) }
 
 pub returns-then-joined-marks-clause-lowest : goal.returns-then-joined-marks-clause-lowest
 returns-then-joined-marks-clause-lowest c = all-marked c.join-joined.new.marks (size c.args.records.now) (search rules) (search rules)

@@ -13,13 +13,13 @@ pub bounds-list-count : goal.bounds-list-count
 bounds-list-count c =
     let marks = c.args.marks.now in
     let u = c.args.u in
-    omega (arith, c.requires.0, list-room marks u _ c.requires.1 (mark-new marks u (search rules) c.if-marks-v-2.false))
+    omega (arith, c.requires.room, list-room marks u _ c.requires.counted (mark-new marks u (search rules) c.if-marks-v-2.false))
 
 pub overflow_add-result : goal.overflow_add-result
 overflow_add-result c =
     let marks = c.args.marks.now in
     let u = c.args.u in
-    omega (arith, list-room marks u _ c.requires.1 (mark-new marks u (search rules) c.if-marks-v-2.false))
+    omega (arith, list-room marks u _ c.requires.counted (mark-new marks u (search rules) c.if-marks-v-2.false))
 
 pub returns : goal.returns
 returns c = sym (enlist-new _ _ (mark-new c.args.marks.now c.args.u (search rules) c.if-marks-v-2.false))

@@ -9,7 +9,7 @@ loop-v-init c = (writing-none _ _, search rules, refl)
 pub bounds-list-count : goal.bounds-list-count
 bounds-list-count c =
     let loop = c.loop-v in
-    omega (arith, c.requires.0, loop.invariant.0.size, writing-few _ _ _ _ _ loop.invariant.0)
+    omega (arith, c.requires.room, loop.invariant.0.size, writing-few _ _ _ _ _ loop.invariant.0)
 
 pub overflow_add-count : goal.overflow_add-count
 overflow_add-count c = omega (arith, writing-few _ _ _ _ _ c.loop-v.invariant.0)
@@ -24,7 +24,7 @@ loop-v-preserved c =
         subst (λ (k : ℕ). Writing marks list c.if-marks-v.list k (loop.v + 1)) (sym w.count-is)
             (subst (λ (xs : List ℕ). Writing marks list xs (loop.count + 1) (loop.v + 1)) (sym w.list-is)
             (writing-yes marks list loop.list loop.count loop.v loop.invariant.0
-            (omega (arith, c.requires.0, writing-few _ _ _ _ _ loop.invariant.0)) w.if-marks-v.true)),
+            (omega (arith, c.requires.few, writing-few _ _ _ _ _ loop.invariant.0)) w.if-marks-v.true)),
         search rules,
         refl,
       )
@@ -37,5 +37,8 @@ loop-v-preserved c =
       )
     ]
 
-pub returns : goal.returns
-returns c = writing-done _ _ _ _ _ c.loop-v.invariant.0 (search rules)
+pub returns-clause-listed : goal.returns-clause-listed
+returns-clause-listed c = (writing-done _ _ _ _ _ c.loop-v.invariant.0 (search rules)).0
+
+pub returns-clause-counted : goal.returns-clause-counted
+returns-clause-counted c = (writing-done _ _ _ _ _ c.loop-v.invariant.0 (search rules)).1
