@@ -20,23 +20,23 @@
  *    read_chart      3,472   tick           13,512   prepare        13,432
  *    write_chart       928   rebind         13,464   live_run          568
  *    translate       6,912   spin           13,624   live_tick         488
- *    places          6,784   cause          13,592   live_rebind       328
- *    check_image    13,352   list_rows      13,448   live_spin         648
- *    fresh             136   minimise       14,840   meaning           136
+ *    places          6,784   cause          13,576   live_rebind       328
+ *    check_image    13,352   list_rows      13,480   live_spin         648
+ *    fresh             136   minimise       14,856   meaning           136
  *    run            13,544   little_chart      752   dry_run        14,200
- *    priced_run     13,704   count_fillings 18,056   version           136
+ *    priced_run     13,704   count_fillings 17,512   version           136
  *    check_table       264   sum               136
  * On a controller at 16 MHz the calls of a machine's loop take no longer than this, on a Cortex-M3, on a Cortex-M0 whose products take one
  * cycle, and where they take 32; beside each bound the longest that was found (controller/README.md says what a bound means):
  *    at most and found, in milliseconds
  *    prepare                                112.49    88.96   219.40   171.76   252.37   190.61
- *    live_tick                                3.58     3.23     7.12     6.88    11.20    10.91
- *    live_tick, on any bytes                  4.46     4.04     8.92     8.46    14.05    13.54
- *    live_run of 64 words                   214.91   173.32   433.55   393.95   689.68   648.28
- *    live_run of 64 words, on any bytes     271.49   233.78   548.28   511.44   872.61   832.96
- *    live_rebind                              0.19     0.14     0.31     0.25     0.37     0.31
- *    live_spin                                3.69     3.29     7.46     6.99    11.54    11.03
- *    live_spin, on any bytes                  4.58     4.10     9.26     8.57    14.40    13.65
+ *    live_tick                                3.55     3.22     7.09     6.87    11.16    10.90
+ *    live_tick, on any bytes                  4.44     4.04     8.88     8.45    14.02    13.53
+ *    live_run of 64 words                   214.94   173.30   433.50   393.91   689.63   648.24
+ *    live_run of 64 words, on any bytes     271.52   233.80   548.24   511.44   872.57   832.97
+ *    live_rebind                              0.16     0.13     0.27     0.22     0.34     0.28
+ *    live_spin                                3.67     3.28     7.43     6.98    11.50    11.02
+ *    live_spin, on any bytes                  4.55     4.09     9.22     8.56    14.36    13.65
  */
 #ifndef FAIRLEADOW_H
 #define FAIRLEADOW_H
@@ -49,7 +49,7 @@
 #define FAIRLEADOW_VERSION 3
 
 /* The release that this header is of, whose middle number is the version (CHANGELOG.md). */
-#define FAIRLEADOW_RELEASE "0.3.2"
+#define FAIRLEADOW_RELEASE "0.3.3"
 
 #ifdef __cplusplus
 extern "C" {
