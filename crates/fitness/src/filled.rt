@@ -16,6 +16,7 @@ fn two(bytes: &[u8], k: usize) -> u16
     (bytes[k] as u16) + (bytes[k + 1] as u16) * 256
 }
 
+// Four bytes from k on as one number.
 fn four(bytes: &[u8], k: usize) -> u32
     requires { k + 3 < length bytes.now }
     ensures { not (result == 0) ≡ any (is_set bytes.now) k 4 }
@@ -23,6 +24,7 @@ fn four(bytes: &[u8], k: usize) -> u32
     (two(bytes, k) as u32) + (two(bytes, k + 2) as u32) * 65536
 }
 
+// Eight bytes from k on as one number.
 fn eight(bytes: &[u8], k: usize) -> u64
     requires { k + 7 < length bytes.now }
     ensures { not (result == 0) ≡ any (is_set bytes.now) k 8 }
@@ -31,7 +33,7 @@ fn eight(bytes: &[u8], k: usize) -> u64
 }
 
 // Whether one of eight places from k on is filled.
-fn fills_eight(state: &State, k: usize) -> bool
+fn any_filled_of_eight(state: &State, k: usize) -> bool
     requires { k + 7 < PLACES }
     ensures { result ≡ any (is_filled_place (view state.now)) k 8 }
 {
@@ -39,7 +41,7 @@ fn fills_eight(state: &State, k: usize) -> bool
 }
 
 // Whether place k is filled.
-fn fills(state: &State, k: usize) -> bool
+fn is_filled_place(state: &State, k: usize) -> bool
     requires { k < PLACES }
     ensures { result ≡ is_filled_place (view state.now) k }
 {
@@ -53,7 +55,7 @@ fn any_from(state: &State, from: usize) -> bool
     ensures { result ≡ any (is_filled_place (view state.now)) from (PLACES - from) }
 {
     for k in from..State::PLACES {
-        if fills(state, k) {
+        if is_filled_place(state, k) {
             return true;
         }
     }
@@ -73,10 +75,10 @@ pub fn any_filled(state: &State) -> bool
     }
     let mut k = depth;
     while k < last {
-        if fills_eight(state, k) {
+        if any_filled_of_eight(state, k) {
             return true;
         }
         k += 8;
     }
-    fills_eight(state, last)
+    any_filled_of_eight(state, last)
 }

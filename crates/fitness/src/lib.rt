@@ -2,8 +2,8 @@
 //! Here the numbers of one place are tried; `fit_places` tries the open places from the bottom up, `filled` those above the depth.
 #![tactic(auto)]
 
-ghost use Rattle.std.specs.Prelude.{◌≡◌, ◌≤◌, ◌&&◌, ◌||◌, not, ◌==◌};
-ghost use Rattle.fitness.specs.inner.FitnessContracts.{is_astray, is_own, is_miscalled, is_misserved};
+ghost use Rattle.std.specs.Prelude.{◌≡◌, ◌≤◌, ◌&&◌, ◌||◌, not, ◌==◌, nat_le};
+ghost use Rattle.fitness.specs.inner.FitnessContracts.{is_astray, is_own, called_by, is_miscalled, is_misserved};
 
 mod filled;
 mod fit_places;
@@ -51,21 +51,42 @@ pub fn is_first(owner: u8, number: u8, server: u8) -> bool
     is_own(number, server, 1)
 }
 
+/// Whether n is of 2 to most.
+// one comparison: what is below 2 wraps to above any most; in 32 bits, which a small processor need not cut to a byte
+pub fn is_two_to(most: u8, n: u8) -> bool
+    requires { 1 ≤ most }
+    ensures { result ≡ (nat_le 2 n && nat_le n most) }
+{
+    (n as u32).wrapping_sub(2) < (most as u32) - 1
+}
+
+/// Whether a number is not the one called, by the byte that names it: one above H names none.
+// no accepted image has such a byte, and to take it for 0 first costs more
+pub fn is_uncalled(schemes: u8, number: u8, called: u8) -> bool
+    ensures { result ≡ not (number == called_by schemes called) }
+{
+    if number == called {
+        return schemes < called;
+    }
+    if schemes < called {
+        return number != 0;
+    }
+    true
+}
+
 /// Whether the number or the server of a place above a call is wrong: the number is not the one called, or the server is not of 2 to H.
 pub fn is_miscalled(schemes: u8, number: u8, called: u8, server: u8) -> bool
-    ensures { result ≡ is_miscalled schemes number called server }
+    requires { 1 ≤ schemes }
+    ensures { result ≡ is_miscalled schemes number (called_by schemes called) server }
 {
-    if number != called {
+    if is_uncalled(schemes, number, called) {
         return true;
     }
-    if server < 2 {
-        return true;
-    }
-    schemes < server
+    !is_two_to(schemes, server)
 }
 
 /// Whether number h of 2 up may not be served by scheme k, with that many schemes and that handler.
-// That of its own number always may, and most often does, so it is looked for first.
+// that of its own number always may, and most often does, so it is looked for first
 pub fn is_misserved(schemes: u8, handler: u8, h: u8, k: u8) -> bool
     requires { 2 ≤ h }
     ensures { result ≡ is_misserved schemes handler h k }

@@ -14,7 +14,8 @@ use Rattle.tables.specs.inner.Asked.{Whole}
 use Rattle.tables.proofs.Front.{end-inside}
 use Rattle.rows.specs.Rows.{is_candidate, Choice, row, no_choice, better_choice, best_row, lead_of, next_of}
 use Rattle.rows.specs.declared.TheConstants.{NO_FRAME}
-use Rattle.rows.specs.inner.Search.{swapped_word, is_matching_frame, found_at, BetterOf, BestFrom, chosen_frame, Chosen}
+use Rattle.rows.specs.declared.Best.{Best}
+use Rattle.rows.specs.inner.Search.{swapped_word, is_matching_frame, found_at, BetterOf, BestFrom, IsCounted, chosen_frame, Chosen}
 use Rattle.rows.specs.inner.Search.{Deciding}
 use Rattle.rows.proofs.Swaps.{swap-twice, swapped-agrees}
 use Rattle.rows.proofs.ChoiceLaws.{best-nothing, best-own, best-other, better-none, better-three}
@@ -122,28 +123,28 @@ module _ (b : List ℕ) (l w bit first end : ℕ) where
           ∙ ap (better_choice (row f (row_on b l f))) on))
           ∙ s
 
--- several rows compared: the row in frame best, with those from frame f on, is the best of the one in frame found and those from first on
-pub record Comparing (b : List ℕ) (w bit found first end f best : ℕ) : Type 0 where
-  pub inside : best < size b
+-- several rows compared: the best so far, with those from frame f on, is the best of the one in frame found and those from first on
+pub record Comparing (b : List ℕ) (w bit found first end f : ℕ) (best : Best) : Type 0 where
+  pub counted : IsCounted b best
   pub reached : (l : ℕ) → Deciding b l bit
-      → Reached b l w bit first end (better_choice (found_at b l found) (best_row l w bit first (map (row_on b l) (range first (end - first))))) f best
+      → Reached b l w bit first end (better_choice (found_at b l found) (best_row l w bit first (map (row_on b l) (range first (end - first))))) f best.frame
 
-module _ (b : List ℕ) (swapped bit found first end f best : ℕ) (s : Comparing b (swapped_word swapped) bit found first end f best)
+module _ (b : List ℕ) (swapped bit found first end f : ℕ) (best : Best) (s : Comparing b (swapped_word swapped) bit found first end f best)
     (h : f < end) (small : swapped < 65536) (t : Bool) (q : t ≡ is_matching_frame b (swapped_word swapped) bit f) where
   abbrev again : swapped ≡ swapped_word (swapped_word swapped)
   again = sym (swap-twice swapped small)
 
   pub comparing-other : t ≡ false → Comparing b (swapped_word swapped) bit found first end (f + 1) best
   comparing-other n = record {
-    inside = s.inside;
-    reached = λ l d. search-other b l (swapped_word swapped) bit first end f best (s.reached l d) d h swapped again (omega arith) t q n;
+    counted = s.counted;
+    reached = λ l d. search-other b l (swapped_word swapped) bit first end f best.frame (s.reached l d) d h swapped again (omega arith) t q n;
   }
 
-  pub comparing-own : t ≡ true → (r : ℕ) → BetterOf b best f r → r < size b
+  pub comparing-own : t ≡ true → (r : Best) → BetterOf b best.frame f r.frame → IsCounted b r
       → Comparing b (swapped_word swapped) bit found first end (f + 1) r
-  comparing-own y r z inside = record {
-    inside = inside;
-    reached = λ l d. search-own b l (swapped_word swapped) bit first end f best (s.reached l d) d h swapped again (omega arith) t q y r z;
+  comparing-own y r z counted = record {
+    counted = counted;
+    reached = λ l d. search-own b l (swapped_word swapped) bit first end f best.frame (s.reached l d) d h swapped again (omega arith) t q y r.frame z;
   }
 
 -- a table has fewer frames
@@ -165,11 +166,7 @@ module _ (b : List ℕ) (l w bit first end : ℕ) (d : Deciding b l bit) (p : fi
 pub compared : (b : List ℕ) (l w bit first end f found r swapped : ℕ) → Searched b l w bit first end f found → Deciding b l bit
     → first ≡ first_on b l → end ≡ end_on b l → swapped ≡ swapped_word w → w < 65536
     → BestFrom b (swapped_word swapped) bit found f end r → Chosen b l w bit r
-compared b l w bit first end f found r swapped s d p q e small x =
-    sym (frame-named b r l x.inside)
-    ∙ ap chosen_frame (all-searched b l w bit first end (found_at b l r)
-    (x.best l d ∙ ap (λ (v : ℕ). better_choice (found_at b l found) (best_row l v bit f (map (row_on b l) (range f (end - f)))))
-    (ap swapped_word e ∙ swap-twice w small) ∙ s) p q)
+compared b l w bit first end f found r swapped s d p q e small x = grind (arith, common_steps, swap-twice, frame-named, all-searched)
 
 -- ---- a choice among frames of the table is what stands in the frame that it names
 module _ (b : List ℕ) (l w bit : ℕ) (few : size b < NO_FRAME) where
@@ -190,13 +187,8 @@ module _ (b : List ℕ) (l w bit : ℕ) (few : size b < NO_FRAME) where
 
   held-best : (f n : ℕ) → (0 < n → f + n ≤ size b) → Held (best_row l w bit f (map (row_on b l) (range f n)))
   unfolding best_row
-  held-best f zero h = held-none
-  held-best f (suc n) h =
-      held-better (if is_candidate l w bit (row_on b l f) then row f (row_on b l f) else no_choice)
-      (best_row l w bit (suc f) (map (row_on b l) (range (suc f) n)))
-      (held-if (is_candidate l w bit (row_on b l f)) (row f (row_on b l f)) no_choice
-      (at-frame b f l (omega (arith, h (omega arith)))) held-none)
-      (held-best (suc f) n (λ _. omega (arith, h (omega arith))))
+  held-best f zero h = grind (arith, common_steps, held-none)
+  held-best f (suc n) h = grind (arith, common_steps, held-best (suc f) n (λ _. omega (arith, h (omega arith))), at-frame, held-none, held-if, held-better)
 
 -- ---- where the rows of label l stand
 pub end-within : (b : List ℕ) (l end : ℕ) → Whole b → end ≡ end_on b l → end ≤ size b

@@ -1,5 +1,5 @@
 -- The rows of a table: the one that a label takes of all is the one of its own, and where it leads.
-use Rattle.std.proofs.Common.{ℕ, zero, suc, ◌+◌, ◌*◌, ◌-◌, ◌≤◌, ◌<◌, ◌≡◌, refl, sym, ◌∙◌, ap, ap₂, List, map, add-zero, arith, length, ◌==◌, slice_index, slice_index_or, flat_map}
+use Rattle.std.proofs.Common.{ℕ, zero, suc, ◌+◌, ◌*◌, ◌-◌, ◌≤◌, ◌<◌, ◌≡◌, refl, sym, ◌∙◌, ap, ap₂, List, map, add-zero, arith, length, slice_index, slice_index_or, flat_map}
 use Rattle.std.proofs.Common.{length-append, lt-ltb, le-ltb, ne_eqb}
 use Rattle.std.proofs.Math.Decide.{ℕ_discrete}
 use Rattle.std.proofs.lemmas.Grind.{common_steps}
@@ -122,17 +122,8 @@ module _ (b : List ℕ) (l w bit : ℕ) where
 
 -- ---- no row of a label that calls no function looks at the bit
 module _ (b : List ℕ) (l w p q : ℕ) (n : (table_label b l).kind ≡ 2 → ⊥) where
-  abbrev first : ℕ
-  first = first_on b l
-
-  abbrev count : ℕ
-  count = end_on b l - first
-
   free-bit : (k : ℕ) → k < length (rows_on b l) → (slice_index_or (rows_on b l) k no_row).bit ≡ 2
-  free-bit k h =
-      ap (λ (r : Row). r.bit) (get_or-map-range (row_on b l) no_row first count k
-      (omega (arith, length-map-range (row_on b l) first count)))
-      ∙ cond-false ((table_label b l).kind == 2) (field b (first + k) 6) 2 (ne_eqb (table_label b l).kind 2 n)
+  free-bit k h = grind (arith, common_steps, length-map-range, ne_eqb, get_or-map-range, cond-false)
 
   pub any-row : 2 ≤ l → l ≤ last_label b → best_row l w p 0 (table_image b).rows ≡ best_row l w q 0 (table_image b).rows
   any-row h g = row-own b l w p h g ∙ any-bit l w p q (rows_before b l) (rows_on b l) (λ k m e. free-bit k m) ∙ sym (row-own b l w q h g)

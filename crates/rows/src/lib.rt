@@ -4,10 +4,11 @@
 #![tactic(auto)]
 
 ghost use Rattle.std.specs.Prelude.{◌≡◌, ◌≤◌, ◌<◌};
-ghost use Rattle.text.specs.frames.Frame.{size};
+ghost use Rattle.std.specs.Int.Count.{ones};
+ghost use Rattle.text.specs.frames.Frame.{size, pair_at};
 ghost use Rattle.rows.specs.Choices.{ChosenIsBest, BestIsChosen, BestOnce, NoneMatches, NoneChosen};
 ghost use Rattle.rows.specs.listing.Exact.{Exactly, EmptyZero, LowZero, HeldOnSuccess, ListedFrames};
-ghost use Rattle.rows.specs.inner.Search.{swapped_word, is_matching_frame, BetterOf, BestFrom};
+ghost use Rattle.rows.specs.inner.Search.{swapped_word, is_matching_frame, BetterOf, BestFrom, IsCounted};
 
 pub mod image_rows;
 pub mod listing;
@@ -46,17 +47,33 @@ pub fn is_matching(bytes: &[u8], f: usize, swapped: u16, bit: u8) -> bool
     only == bit
 }
 
-// Of the row in frame best and a later one in frame f: the later, unless the care mask of the first has more ones.
-fn better_frame(bytes: &[u8], best: usize, f: usize) -> usize
-    requires first_inside { best < size bytes.now }
-    requires later_inside { f < size bytes.now }
-    ensures better { BetterOf bytes.now best f result }
-    ensures inside { result < size bytes.now }
+// The best row so far, by its frame, and how many ones its care mask has: they are counted once a row.
+#[derive(Clone, Copy)]
+struct Best {
+    frame: usize,
+    ones: u32,
+}
+
+// How many ones the care mask of the row in frame `f` has.
+fn count_care(bytes: &[u8], f: usize) -> u32
+    requires { f < size bytes.now }
+    ensures { result ≡ ones (pair_at bytes.now f CARE) }
 {
-    if u16::count_ones(pair(bytes, f, CARE)) < u16::count_ones(pair(bytes, best, CARE)) {
+    u16::count_ones(pair(bytes, f, CARE))
+}
+
+// Of the best row so far and a later one in frame `f`: the later, unless the care mask of the first has more ones.
+fn better_row(bytes: &[u8], best: Best, f: usize) -> Best
+    requires counted { IsCounted bytes.now best }
+    requires later_inside { f < size bytes.now }
+    ensures better { BetterOf bytes.now best.frame f result.frame }
+    ensures counted { IsCounted bytes.now result }
+{
+    let ones = count_care(bytes, f);
+    if ones < best.ones {
         return best;
     }
-    f
+    Best { frame: f, ones }
 }
 
 /// The frame of the best of the row in frame `found` and of the rows that match in the later frames from `first` up to `end`.
@@ -72,15 +89,16 @@ pub fn compare_rows(
     requires later_inside { end ≤ size bytes.now }
     ensures { BestFrom bytes.now (swapped_word swapped) bit found first end result }
 {
-    let mut best = found;
+    let ones = count_care(bytes, found);
+    let mut best = Best { frame: found, ones };
     let mut frame = first;
     while frame < end {
         if is_matching(bytes, frame, swapped, bit) {
-            best = better_frame(bytes, best, frame);
+            best = better_row(bytes, best, frame);
         }
         frame += 1;
     }
-    best
+    best.frame
 }
 
 /// The row chosen among those of a label is the best-tested of those that match, of equals the later, and none where none matches.

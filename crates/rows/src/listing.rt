@@ -3,7 +3,7 @@ ghost use Rattle.std.specs.Prelude.{◌≡◌, ◌≤◌, ◌<◌, length};
 ghost use Rattle.words.specs.lists.Sequences.{over};
 ghost use Rattle.tables.specs.Table.{table_image};
 ghost use Rattle.rows.specs.listing.Listing.{first_rows, row_counts, GivesListing};
-ghost use Rattle.rows.specs.listing.inner.ListingContracts.{Listable, RowsOf, list_table};
+ghost use Rattle.rows.specs.inner.ListingContracts.{Listable, RowsOf, list_table};
 
 use image::rows_from;
 use tables::Table;

@@ -4,7 +4,7 @@ ghost use Rattle.text.specs.frames.Frame.{size, field};
 ghost use Rattle.tables.specs.Table.{table_image};
 ghost use Rattle.rows.specs.Rows.{best_row, lead_of, next_of};
 ghost use Rattle.rows.specs.inner.Search.{swapped_word, is_matching_frame, Chosen, Deciding, is_found};
-ghost use Rattle.rows.specs.row_search.inner.FirstMatch.{FirstMatch};
+ghost use Rattle.rows.specs.inner.FirstMatch.{FirstMatch, RowsOnce};
 
 use crate::{NO_FRAME, compare_rows, is_matching, swap};
 use image::byte;
@@ -23,7 +23,9 @@ fn one_row(bytes: &[u8], f: usize, word: u16, bit: u8) -> usize
 }
 
 // The first row from a frame on that matches; where none does the end, or that frame where it stands no earlier. Two rows a turn, since most
-// rows of a long label do not match, and a turn costs about as much as a row.
+// rows of a long label do not match, and a turn costs about as much as a row. In its caller's own body, since a run's ticks seek most of all,
+// and the calls cost more than the rows of a short label.
+#[inline(always)]
 fn first_match(bytes: &[u8], from: usize, end: usize, swapped: u16, bit: u8) -> usize
     requires from_bound { from ≤ NO_FRAME }
     requires end_bound { end ≤ size bytes.now }
@@ -51,6 +53,12 @@ fn first_match(bytes: &[u8], from: usize, end: usize, swapped: u16, bit: u8) -> 
     }
     f
 }
+
+/// The turns of both searches and of the comparison share the rows of a label: no row is passed over twice, and none that was passed over
+/// is compared. The bound of a tick's time rests on it.
+pub fn no_row_is_looked_at_twice()
+    ensures { RowsOnce }
+{}
 
 /// The frame of the row that label `l` takes, 2 to M, by a word and a result bit, 2 where the label calls no function; NO_FRAME where no
 /// row matches.

@@ -25,7 +25,7 @@ use Rattle.runs.specs.declared.RunEnd.TheVariants.{Over, Full, NoRow}
 use Rattle.ticks.specs.declared.Tick.{Tick}
 use Rattle.ticks.specs.inner.TickContracts.{number_of, IsStopped}
 use Rattle.runs.specs.inner.RunContracts.{verdict_of, count_of, GivesRunEnd}
-use Rattle.runs.specs.machine.inner.Sources.{sourced_run, sourced_tick}
+use Rattle.runs.specs.inner.Sources.{sourced_run, sourced_tick}
 use Rattle.runs.proofs.TurnCases.{stopped_after}
 
 -- ---- which numbers leave the state

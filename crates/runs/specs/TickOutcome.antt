@@ -1,7 +1,7 @@
 -- One tick as a controller calls it: a run of one word, with room for one mask and one code.
 use Rattle.std.specs.Prelude.{ℕ, List, [], ◌∷◌, Result, Ok, Err, slice_index}
 use Rattle.text.specs.declared.frames.refusals.Refusal.{Refusal}
-use Rattle.text.specs.frames.Answer.{Reply, success, reply}
+use Rattle.text.specs.frames.Answer.{Reply, answer_reply}
 use Rattle.state.specs.State.{State}
 use Rattle.ticks.specs.declared.Tick.{Tick}
 use Rattle.runs.specs.Run.{RunOutcome, run}
@@ -26,8 +26,7 @@ TickAnswer = Result Tick Refusal
 
 -- a finished tick counts 1
 abbrev pub tick_reply : TickAnswer → Reply
-tick_reply (Ok t) = success 1
-tick_reply (Err r) = reply (Err r)
+tick_reply a = answer_reply a 1
 
 abbrev pub answered_mask : TickAnswer → ℕ
 answered_mask (Ok t) = t.mask

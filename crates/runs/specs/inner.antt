@@ -1,1 +1,2 @@
 pub mod RunContracts
+pub mod Sources

@@ -1,7 +1,7 @@
 // The stack machine on a state that the caller keeps: runs and ticks by any source of a table, an image's text or a prepared table.
 ghost use Rattle.state.specs.Kept.{view};
 ghost use Rattle.runs.specs.InPlace.{GivesRunOn, GivesTickOn};
-ghost use Rattle.runs.specs.machine.inner.Sources.{sourced_run, sourced_tick};
+ghost use Rattle.runs.specs.inner.Sources.{sourced_run, sourced_tick};
 
 use crate::table_runs::{run_table, tick_table};
 use state::State;

@@ -11,6 +11,8 @@ use ticks::stepping::tick_on;
 use ticks::{Stop, Tick, TickEnd};
 
 /// One tick a word, until one is stopped; its mask and its code are written with each finished tick.
+// called and not taken in: it is long, and runs and counts of full stacks both make ticks by it
+#[inline(never)]
 pub fn tick_all(
     table: &Table,
     state: &mut State,

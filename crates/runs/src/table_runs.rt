@@ -7,7 +7,7 @@ ghost use Rattle.state.specs.Kept.{view};
 ghost use Rattle.ticks.specs.inner.TickContracts.{number_of};
 ghost use Rattle.runs.specs.Run.{has_no_room};
 ghost use Rattle.runs.specs.InPlace.{GivesRunOn, GivesTickOn};
-ghost use Rattle.runs.specs.machine.inner.Sources.{sourced_run, sourced_tick};
+ghost use Rattle.runs.specs.inner.Sources.{sourced_run, sourced_tick};
 
 use crate::{RunEnd, tick_all, tick_word};
 use fitness::fitting::is_unfit;

@@ -14,7 +14,7 @@ use Rattle.tables.specs.Prepare.{noted_table}
 use Rattle.tables.specs.inner.Prepares.{GivesPrepared}
 use Rattle.tables.specs.Table.{first_on, rows_on, table_image}
 use Rattle.tables.specs.inner.Asked.{Whole}
-use Rattle.tables.proofs.PrepareCases.{frames-few, prepared-length, made-front}
+use Rattle.tables.proofs.PrepareCases.{frames-few, made-front}
 use Rattle.tables.proofs.PreparedImage.{noted-whole, prepared-starts, prepared-image}
 
 -- the rows of each label begin behind those of the labels below it
@@ -24,7 +24,6 @@ RowsBehind b = (l : ℕ) → 2 ≤ l → l ≤ last_label b → first_on b l ≡
 pub record MadeTable (t b : List ℕ) : Type 0 where
   pub accepted : image_verdict t ≡ fine
   pub few : 10 * frame_count t ≤ 12970
-  pub long : 10 * frame_count t ≡ length b
   pub whole : Whole b
   pub holds : table_image b ≡ decoded_image (contents t)
   pub starts : RowsBehind b
@@ -37,7 +36,6 @@ noted-made t b ok is =
     record {
       accepted = ok;
       few = frames-few t ok;
-      long = sym (ap (λ (x : List ℕ). length x) is ∙ prepared-length t ok);
       whole = subst Whole (sym is) (noted-whole (contents t) fine-table (omega (arith, any-contents-length t)));
       holds = ap table_image is ∙ prepared-image (contents t) fine-table (image-bytes t ok);
       starts = subst RowsBehind (sym is) (prepared-starts (contents t) fine-table (image-bytes t ok));

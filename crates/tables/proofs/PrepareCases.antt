@@ -1,5 +1,5 @@
 -- The preparation of an image, by the image check's answer: what was read stays, or is noted; the table is copied where it has room.
-use Rattle.std.proofs.Common.{ℕ, ◌*◌, ◌≤◌, ◌<◌, ◌≡◌, refl, sym, ◌∙◌, ap, ap₂, List, ◌++◌, arith, length, take, drop, take_at, drop_at, Ok, Err}
+use Rattle.std.proofs.Common.{ℕ, ◌*◌, ◌≤◌, ◌<◌, ◌≡◌, refl, ◌∙◌, ap, List, ◌++◌, arith, length, take, drop, take_at, drop_at, Ok, Err}
 use Rattle.std.proofs.lemmas.Grind.{common_steps}
 use Rattle.words.specs.lists.Sequences.{over, written}
 use Rattle.words.proofs.lists.Written.{written-front}
@@ -60,15 +60,7 @@ module _ (t : List ℕ) (ok : image_verdict t ≡ fine) where
     read-accepted = ap table_verdict read-front ∙ image-table t ok
 
     pub table-noted : (new : List ℕ) → new ≡ noted_table (take long table) → GivesPrepared t old (Ok 0) (new ++ drop long table)
-    table-noted new e = record {
-      answered = judged-fine (image_verdict t) 0 ok;
-      written =
-          ap₂ (λ (x y : List ℕ). x ++ y) (e ∙ ap noted_table read-front)
-          (ap (λ (x : List ℕ). drop long x) (left ∙ read-fine 29831 t old passes)
-          ∙ drop_at (contents t) (drop (length (contents t)) old) long (any-contents-length t)
-          ∙ ap (λ (n : ℕ). drop n old) (sym (noted-length (contents t))))
-          ∙ sym (prepared-fine old);
-    }
+    table-noted new e = grind (arith, common_steps, any-contents-length, noted-length, judged-fine, drop_at, read-fine, passes, prepared-fine, read-front)
 
   -- ---- the table at the front of the buffer that it was made in
   module _ (old made : List ℕ) (is : made ≡ prepared_buffer t old) where

@@ -149,10 +149,7 @@ module _ (b : List ℕ) (ok : table_verdict b ≡ fine) where
 
     pub rows-own : (l : ℕ) → 1 ≤ l → l ≤ last_label b
         → rows_on (noted_table b) l ≡ map (row_in_frame b) (range (first_frame b l) (first_frame b (l + 1) - first_frame b l))
-    rows-own l g h =
-        ap₂ (λ (f e : ℕ). map (row_on (noted_table b) l) (range f (e - f))) (first-noted l g h) (end-noted l h)
-        ∙ map-alike (row_on (noted_table b) l) (row_in_frame b) (first_frame b l) (first_frame b (l + 1) - first_frame b l)
-        (λ f p q. row-own l f h p (omega (arith, first-rises b ok l)))
+    rows-own l g h = grind (arith, common_steps, first-rises, map-alike, first-noted, end-noted, row-own)
 
     -- the rows of n labels from 2 on stand in the frames from the first one of rows on
     rows-to : (n : ℕ) → n < last_label b

@@ -1,5 +1,5 @@
 -- Bytes whose front is told have a table there.
-use Rattle.std.proofs.Common.{ℕ, ◌*◌, Bool, true, false, ◌≡◌, refl, sym, ◌∙◌, subst, List, Option, None, Some, if◌then◌else◌, take, arith}
+use Rattle.std.proofs.Common.{ℕ, ◌*◌, Bool, true, false, ◌≡◌, List, Option, None, Some, if◌then◌else◌, take, arith}
 use Rattle.std.proofs.lemmas.Grind.{common_steps}
 use Rattle.tables.specs.Table.{table_end, is_bad_table}
 use Rattle.tables.specs.inner.Asked.{front, Whole}
@@ -14,6 +14,4 @@ module _ (b : List ℕ) (n : ℕ) where
   told false e q = grind (arith, common_steps)
 
   pub told-whole : (r : Option ℕ) → r ≡ (if is_bad_table b then None else Some (10 * table_end b)) → r ≡ Some n → Whole (take n b)
-  told-whole r p q =
-      let t = told (is_bad_table b) refl (sym p ∙ q) in
-      subst (λ k. Whole (take k b)) (sym t.1) (front-stands b t.0)
+  told-whole r p q = grind (arith, common_steps, front-stands, told)

@@ -163,8 +163,7 @@ module _ (text : List ℕ) (passes : image_verdict text ≡ fine) (s : State) (s
 
 pub fresh-fitting : FreshFits
 unfolding FreshFits
-fresh-fitting text passes n l h =
-    let i : Image = decoded_image (contents text) in fits i (fresh n) (fresh-fits i (image-sound text passes) n l h)
+fresh-fitting text passes n l h = grind (arith, common_steps, image-sound, fits, fresh-fits)
 
 pub tick-fitting : TickFits
 unfolding TickFits

@@ -2,4 +2,3 @@ pub mod Tick
 pub mod Functions
 pub mod inner
 pub mod codes
-pub mod calls

@@ -1,2 +1,3 @@
 pub mod TickContracts
 pub mod Leaves
+pub mod Callees

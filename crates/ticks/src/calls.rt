@@ -6,7 +6,7 @@ ghost use Rattle.state.specs.Kept.{view};
 ghost use Rattle.fitness.specs.Fitness.{has_bad_depth, is_call};
 ghost use Rattle.ticks.specs.Tick.{top_of};
 ghost use Rattle.ticks.specs.inner.TickContracts.{GivesTickEnd};
-ghost use Rattle.ticks.specs.calls.inner.Callees.{IsCallee};
+ghost use Rattle.ticks.specs.inner.Callees.{IsCallee};
 
 use crate::TickEnd;
 use crate::codes::code_of;

@@ -10,7 +10,7 @@ use image::layout::{FUNCTION_CALL, NO_BIT, OPERATION_CALL};
 use state::State;
 use tables::Table;
 
-/// A label whose row a tick takes, and the bit that decides among its rows.
+/// A label whose row a tick takes, and the bit that decides among its rows: 0 or 1, and 2 where none does.
 #[derive(Clone, Copy)]
 pub struct Leaving {
     pub label: u8,

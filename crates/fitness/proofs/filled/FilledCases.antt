@@ -1,7 +1,6 @@
 -- Places looked at eight at a time: as one number their bytes are 0 where each of them is.
-use Rattle.std.proofs.Common.{ℕ, zero, suc, ◌+◌, ◌-◌, ◌*◌, ◌≤◌, ◌<◌, Bool, true, false, ◌&&◌, ◌||◌, not, ◌≡◌, refl, sym, ◌∙◌, ap, List, arith, bit_or, ◌==◌}
+use Rattle.std.proofs.Common.{ℕ, zero, suc, ◌+◌, ◌-◌, ◌≤◌, Bool, true, false, ◌&&◌, ◌||◌, not, ◌≡◌, refl, sym, ◌∙◌, ap, arith, bit_or, ◌==◌}
 use Rattle.std.specs.Int.Bits.{or_add_and, and_le_l, and_le_r}
-use Rattle.std.specs.Prelude.{slice_index}
 use Rattle.std.proofs.lemmas.Grind.{common_steps}
 use Rattle.words.specs.lists.Numbers.{any}
 use Rattle.words.proofs.lists.Searches.{any-here, any-on, any-over}

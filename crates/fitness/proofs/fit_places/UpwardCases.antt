@@ -1,18 +1,20 @@
 -- The places up to the depth, looked at from the bottom up with the number that the label below calls.
-use Rattle.std.proofs.Common.{ℕ, suc, ◌+◌, ◌≤◌, ◌<◌, Bool, true, false, ◌&&◌, ◌||◌, not, ◌≡◌, refl, sym, ◌∙◌, ap, ◌⊎◌, inl, inr, List, nat_lt}
+use Rattle.std.proofs.Common.{ℕ, zero, suc, ◌==◌, ◌+◌, ◌≤◌, ◌<◌, Bool, true, false, ◌&&◌, ◌||◌, not, ◌≡◌, ◌≢◌, refl, sym, ◌∙◌, ap, ◌⊎◌, inl, inr, List, nat_lt}
 use Rattle.std.proofs.Common.{arith, length, lt-ltb, le-ltb, le-leb, zero-add, nat_le}
 use Rattle.std.proofs.lemmas.Bool.{lt-leb}
 use Rattle.std.proofs.lemmas.Grind.{common_steps}
 use Rattle.words.specs.lists.Numbers.{any}
 use Rattle.words.proofs.lists.Tests.{or-none, or-true-l, or-true-r, split}
 use Rattle.words.proofs.lists.Searches.{any-true, any-snoc}
+use Rattle.text.specs.frames.Frame.{field}
 use Rattle.image.specs.Image.{Image, Label}
-use Rattle.image.specs.Decode.{scheme_count, last_label, handler_in}
+use Rattle.image.specs.declared.layout.TheConstants.{TICK_KIND, CALLED, OWNER, OPERATION_CALL, FUNCTION_CALL}
+use Rattle.image.specs.Decode.{scheme_count, last_label, handler_in, labels_from}
 use Rattle.tables.specs.Table.{table_image, table_label}
-use Rattle.tables.proofs.TableReads.{labels-count, entries-count, handler-at, label-at}
+use Rattle.tables.proofs.TableReads.{labels-count, entries-count, handler-at, label-at, label-on}
 use Rattle.state.specs.State.{State, place_at, number_at, server_at}
 use Rattle.fitness.specs.Fitness.{is_call, is_able_to_carry, is_unfit_place, has_bad_bottom}
-use Rattle.fitness.specs.inner.FitnessContracts.{is_astray, is_miscalled, is_astray_at_bottom}
+use Rattle.fitness.specs.inner.FitnessContracts.{called_by, is_astray, is_miscalled, is_astray_at_bottom}
 
 module _ (b : List ℕ) (s : State) where
   abbrev image : Image
@@ -25,7 +27,34 @@ module _ (b : List ℕ) (s : State) where
   abbrev pub is_any_unfit : Bool
   is_any_unfit = any (is_unfit_place image s) 0 s.depth || has_bad_bottom image s
 
+  -- ---- what a label calls, by itself and by the byte that names it
+  pub called-label : (l x : ℕ) → x ≡ (table_label b l).called → (table_label b l).called ≡ called_by (scheme_count b) x
+  called-label zero x e = grind (arith, common_steps)
+  called-label (suc zero) x e = grind (arith, common_steps)
+  called-label (suc (suc l)) x e = grind (arith, common_steps)
+
+  pub called-byte : (l x : ℕ) → 2 ≤ l → l ≤ last_label b → x ≡ field b (labels_from b + l) CALLED
+      → (table_label b l).called ≡ called_by (scheme_count b) x
+  called-byte zero x h m e = absurd (omega arith)
+  called-byte (suc zero) x h m e = absurd (omega arith)
+  called-byte (suc (suc l)) x h m e = rw (label-on b (suc (suc l)) m, e) refl
+
+  -- the owner of a label, and whether it is a call, by the bytes of its frame
+  pub owner-byte : (l x : ℕ) → 2 ≤ l → l ≤ last_label b → x ≡ field b (labels_from b + l) OWNER → (table_label b l).owner ≡ x
+  owner-byte zero x h m e = absurd (omega arith)
+  owner-byte (suc zero) x h m e = absurd (omega arith)
+  owner-byte (suc (suc l)) x h m e = rw (label-on b (suc (suc l)) m, e) refl
+
+  pub kind-byte : (l x : ℕ) → 2 ≤ l → l ≤ last_label b → x ≡ field b (labels_from b + l) TICK_KIND
+      → is_call (table_label b l) ≡ (x == OPERATION_CALL || x == FUNCTION_CALL)
+  kind-byte zero x h m e = absurd (omega arith)
+  kind-byte (suc zero) x h m e = absurd (omega arith)
+  kind-byte (suc (suc l)) x h m e = rw (label-on b (suc (suc l)) m, sym e) (grind (arith, common_steps))
+
   -- ---- one place
+  home-astray : (h called k : ℕ) → is_miscalled (scheme_count b) h called k ≡ false → is_astray (table_label b 0).owner k 0 ≡ true
+  home-astray h called k e = grind (arith, common_steps)
+
   unfit-found : (k : ℕ) → k < s.depth → is_unfit_place image s k ≡ true → true ≡ is_any_unfit
   unfit-found k h e = sym (or-true-l _ _ (any-true (is_unfit_place image s) 0 s.depth k (omega arith) (omega arith) e))
 
@@ -104,6 +133,17 @@ module _ (b : List ℕ) (s : State) where
       lower = any-up c.place k c.next c.below.lower (place-fits c.place k c.next c.below.inside (λ m. rw (c.call, c.number, e)));
       bottom = c.below.bottom;
     }
+
+    -- labels 0 and 1, and those above the last one
+    pub pass-home : k < s.depth → is_miscalled (scheme_count b) (number_at s k) called (server_at s k) ≡ false
+        → (nat_le 2 (place_at s k) && nat_le (place_at s k) (last_label b)) ≡ false → place_at s k ≢ 1 → true ≡ is_any_unfit
+    pass-home h e l n = go (split 2 (suc (place_at s k)))
+      where
+        go : (2 < suc (place_at s k)) ⊎ (suc (place_at s k) ≤ 2) → true ≡ is_any_unfit
+        go (inl p) = pass-high k h (grind (arith, common_steps))
+        go (inr p) =
+            let zero : place_at s k ≡ 0 = omega (arith, n) in
+            pass-wrong h (or-true-r _ _ (ap (λ (l : ℕ). is_astray (table_label b l).owner (server_at s k) l) zero ∙ home-astray _ _ _ e))
 
   all-fit : (k : ℕ) → Belongs k → s.depth ≤ k + 1 → false ≡ is_any_unfit
   all-fit k y h =

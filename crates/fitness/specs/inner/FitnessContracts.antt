@@ -1,5 +1,5 @@
 -- What the tests of a state's fitness promise.
-use Rattle.std.specs.Prelude.{ℕ, List, slice_index, Bool, ◌&&◌, ◌||◌, not, if◌then◌else◌, nat_le, ◌==◌}
+use Rattle.std.specs.Prelude.{ℕ, List, slice_index, Bool, ◌&&◌, ◌||◌, not, if◌then◌else◌, nat_lt, nat_le, ◌==◌}
 
 -- label l of that owner may not stand where one of that scheme is open
 abbrev pub is_astray : ℕ → ℕ → ℕ → Bool
@@ -8,6 +8,10 @@ is_astray owner scheme l = not (l == 1 || owner == scheme)
 -- number and server of a place are both h
 abbrev pub is_own : ℕ → ℕ → ℕ → Bool
 is_own number server h = number == h && server == h
+
+-- the number that a label calls by the byte that names it: with H schemes, one above H names none
+abbrev pub called_by : ℕ → ℕ → ℕ
+called_by H byte = if nat_lt H byte then 0 else byte
 
 -- with H schemes, number h, which was called as that number, or scheme k, which served it, may not stand
 abbrev pub is_miscalled : ℕ → ℕ → ℕ → ℕ → Bool

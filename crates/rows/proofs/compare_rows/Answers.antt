@@ -1,15 +1,9 @@
 -- `rows::compare_rows` meets its contract: the best row so far, with those still to come, is the best of all.
-use Rattle.std.proofs.Common.{◌+◌, refl, sym, subst, rules}
+use Rattle.std.proofs.Common.{◌+◌, sym, subst, rules}
 use Rattle.rows.specs.inner.Search.{swapped_word}
 use Rattle.rows.proofs.SearchCases.{Comparing, comparing-other, comparing-own, reached-over}
 use Rattle.rows.proofs.compare_rows.Goals.{else-is_matching, then-is_matching}
 use Rattle.rows.proofs.compare_rows.Goals as goal
-
-pub loop-frame-init : goal.loop-frame-init
-loop-frame-init c = record { inside = c.requires.inside; reached = λ l d. refl }
-
-pub better_frame-best-requires-clause-first_inside : goal.better_frame-best-requires-clause-first_inside
-better_frame-best-requires-clause-first_inside c = c.loop-frame.invariant.inside
 
 pub loop-frame-preserved : goal.loop-frame-preserved
 loop-frame-preserved c =
@@ -19,13 +13,13 @@ loop-frame-preserved c =
     elim c.if-is_matching.branch [
       | then-is_matching z ↦ subst on (sym z.best-is)
           (comparing-own _ _ _ _ _ _ _ _ loop.invariant c.loop-frame-test.true (search rules) _ c.is_matching.ensures z.if-is_matching.true _
-          z.better_frame-best.ensures.better z.better_frame-best.ensures.inside)
+          z.better_row-best.ensures.better z.better_row-best.ensures.counted)
       | else-is_matching z ↦ subst on (sym z.best-is)
           (comparing-other _ _ _ _ _ _ _ _ loop.invariant c.loop-frame-test.true (search rules) _ c.is_matching.ensures z.if-is_matching.false)
     ]
 
 pub returns : goal.returns
 returns c = record {
-  inside = c.loop-frame.invariant.inside;
+  inside = c.loop-frame.invariant.counted.inside;
   best = λ l d. reached-over c.args.bytes.now l (swapped_word c.args.swapped) c.args.bit c.args.first c.args.end _ _ (c.loop-frame.invariant.reached l d) c.loop-frame-test.false;
 }

@@ -8,7 +8,7 @@ use Rattle.image.proofs.Accepted.{labels-count, image-table, image-bytes}
 use Rattle.tables.proofs.Made.{MadeTable}
 use Rattle.tables.proofs.Noted.{noted-last}
 use Rattle.rows.specs.listing.Listing.{list, GivesListing}
-use Rattle.rows.specs.listing.inner.ListingContracts.{Listable, list_table}
+use Rattle.rows.specs.inner.ListingContracts.{Listable, list_table}
 use Rattle.rows.proofs.listing.Laws.{low-none, looks-at}
 
 module _ (t : List ℕ) where

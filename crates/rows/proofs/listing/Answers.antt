@@ -1,5 +1,6 @@
 -- What success of the entry point says: the image is accepted, all its labels are counted, and the buffers hold the rows of each.
-use Rattle.std.proofs.Common.{ℕ, ◌+◌, ◌≤◌, ◌<◌, Bool, true, false, ◌≡◌, refl, sym, ◌∙◌, subst, ◌↔◌, List, arith, slice_index, length, drop}
+use Rattle.std.proofs.Common.{ℕ, ◌+◌, ◌≤◌, ◌<◌, Bool, true, false, ◌≡◌, sym, subst, ◌↔◌, List, arith, slice_index, length}
+use Rattle.std.proofs.lemmas.Grind.{common_steps}
 use Rattle.std.proofs.Math.ListN.{get_or-append}
 use Rattle.words.specs.lists.Numbers.{tabulate}
 use Rattle.words.specs.lists.Sequences.{over}
@@ -16,8 +17,7 @@ use Rattle.rows.specs.listing.Exact.{Own, Exactly, Held, HeldOnSuccess}
 use Rattle.rows.proofs.listing.Laws.{exactly}
 
 front : (f : ℕ → ℕ) (n : ℕ) (old : List ℕ) (l : ℕ) → l < n → slice_index (over (tabulate f n) old) l ≡ f l
-front f n old l h =
-    get_or-append (tabulate f n) (drop (length (tabulate f n)) old) 0 l (omega (arith, length-tabulate f n)) ∙ get_d-tabulate f n l h
+front f n old l h = grind (arith, common_steps, length-tabulate, get_d-tabulate, get_or-append)
 
 -- the image check's verdict, and whether a buffer has too little room
 abbrev answer : Image → List ℕ → List ℕ → Verdict → Bool → ListingOutcome
@@ -32,17 +32,9 @@ record Succeeded (i : Image) (v : Verdict) (x : ListingOutcome) (n : ℕ) : Type
 succeeded : (i : Image) (xs ys : List ℕ) (v : Verdict) (u : Bool) (n : ℕ) → (answer i xs ys v u).reply ≡ success n
     → Succeeded i v (answer i xs ys v u) n
 unfolding first_rows row_counts
-succeeded i xs ys (refused k j) u n e = no-success k j 0 n e
-succeeded i xs ys fine true n e = no-success 16 0 0 n e
-succeeded i xs ys fine false n e =
-    let m : ℕ = length i.labels in
-    let same : n ≡ m = cc in
-    record {
-      passes = refl;
-      labels = same;
-      first = λ l h. front (first_of i) m xs l (omega arith);
-      number = λ l h. front (row_count_of i) m ys l (omega arith);
-    }
+succeeded i xs ys (refused k j) u n e = grind (arith, common_steps, no-success)
+succeeded i xs ys fine true n e = grind (arith, common_steps, no-success)
+succeeded i xs ys fine false n e = grind (arith, common_steps, front)
 
 module _ (t xs ys : List ℕ) (n : ℕ) where
   abbrev i : Image

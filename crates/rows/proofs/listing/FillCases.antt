@@ -16,7 +16,7 @@ use Rattle.tables.specs.Table.{table_image}
 use Rattle.tables.proofs.TableReads.{labels-count}
 use Rattle.rows.specs.listing.Listing.{row_count_of, first_of, first_rows, row_counts, ListingOutcome, listing_on, has_no_room_for}
 use Rattle.rows.specs.listing.Listing.{GivesListing}
-use Rattle.rows.specs.listing.inner.ListingContracts.{RowsOf, list_table}
+use Rattle.rows.specs.inner.ListingContracts.{RowsOf, list_table}
 use Rattle.rows.specs.declared.listing.Rows.{Rows}
 
 -- the first l of n labels stand in both buffers

@@ -62,12 +62,7 @@ module _ (b : List ℕ) (ok : table_verdict b ≡ fine) (bytes : (k : ℕ) → s
 
   -- ---- the rows of label l
   own-inside : (k : ℕ) → Own i l k → (first ≤ k) × (k < end)
-  own-inside k (h, q) = go (split k first) (split k end)
-    where
-      go : (k < first) ⊎ (first ≤ k) → (k < end) ⊎ (end ≤ k) → (first ≤ k) × (k < end)
-      go (inl g) x = no_both (is_row_leaving i l k) (eq-eqb (nth_row i k).from l q) (between.outer k h (inl g))
-      go (inr g) (inl m) = (g, m)
-      go (inr g) (inr m) = no_both (is_row_leaving i l k) (eq-eqb (nth_row i k).from l q) (between.outer k h (inr m))
+  own-inside k (h, q) = grind (arith, common_steps, eq-eqb, split, no_both, between)
 
   pub exactly-own : (k : ℕ) → Own i l k ↔ ((first_of i l ≤ k) × (k < first_of i l + row_count_of i l))
   exactly-own k = grind (arith, common_steps, split, eqb-true, none-first, between, number-is, first-is, own-inside)

@@ -13,7 +13,7 @@ use Rattle.rows.specs.Rows.{Choice, row, no_choice, better_choice, best_row, Fou
 use Rattle.rows.specs.inner.Search.{swapped_word, is_matching_frame, found_at, is_found, chosen_frame, Chosen, Deciding, BestFrom}
 use Rattle.rows.proofs.TableRows.{own-leads}
 use Rattle.rows.proofs.SearchCases.{Searched, all-searched, reached-over, search-other, search-own, better-only, at-frame, past-table, frame-named, chosen-found, compared, few-frames, end-within}
-use Rattle.rows.specs.row_search.inner.FirstMatch.{Unmatched, FirstMatch}
+use Rattle.rows.specs.inner.FirstMatch.{Unmatched, FirstMatch}
 
 -- ---- rows that a search passed over, none of which matches
 module _ (b : List ℕ) (w bit from end f : ℕ) (s : Unmatched b w bit from end f)

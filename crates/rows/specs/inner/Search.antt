@@ -1,11 +1,13 @@
 -- What the search for a row among the frames of a table asks and promises.
 use Rattle.std.specs.Prelude.{ℕ, ◌+◌, ◌*◌, ◌/◌, ◌%◌, Bool, true, false, ◌&&◌, ◌||◌, ◌≡◌, ◌-◌, ◌<◌, List, map, if◌then◌else◌, nat_lt, ◌==◌}
+use Rattle.std.specs.Int.Count.{ones}
 use Rattle.words.specs.lists.Numbers.{range}
 use Rattle.words.specs.bits.Word.{is_agreeing}
 use Rattle.text.specs.frames.Frame.{size, field, pair_at}
 use Rattle.image.specs.declared.layout.TheConstants.{CARE, VALUES, FUNCTION_BIT, NO_BIT, FUNCTION_CALL}
 use Rattle.tables.specs.Table.{table_label, first_on, row_on, rows_on}
 use Rattle.rows.specs.declared.TheConstants.{NO_FRAME}
+use Rattle.rows.specs.declared.Best.{Best}
 use Rattle.rows.specs.Rows.{Choice, row, no_choice, better_choice, best_row, Found, found, missing}
 
 -- a word of two bytes with its bytes in the other order
@@ -24,6 +26,11 @@ found_at b l f = if nat_lt f (size b) then row f (row_on b l f) else no_choice
 -- r is the better of the row in frame best and the later one in frame f, whatever label they leave
 abbrev pub BetterOf : List ℕ → ℕ → ℕ → ℕ → Type 0
 BetterOf b best f r = (l : ℕ) → found_at b l r ≡ better_choice (found_at b l best) (row f (row_on b l f))
+
+-- a row with the ones of its care mask
+pub record IsCounted (b : List ℕ) (best : Best) : Type 0 where
+  pub inside : best.frame < size b
+  pub counted : best.ones ≡ ones (pair_at b best.frame CARE)
 
 -- the frame of the row chosen, which its number is
 abbrev pub chosen_frame : Choice → ℕ

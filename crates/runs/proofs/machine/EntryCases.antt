@@ -10,7 +10,7 @@ use Rattle.image.specs.Image.{Image}
 use Rattle.state.specs.declared.State.{State as Kept}
 use Rattle.state.specs.Kept.{view}
 use Rattle.runs.specs.InPlace.{GivesRunOn, GivesTickOn}
-use Rattle.runs.specs.machine.inner.Sources.{sourced_run, sourced_tick}
+use Rattle.runs.specs.inner.Sources.{sourced_run, sourced_tick}
 use Rattle.runs.proofs.RunCases.{kept_run, kept-runs}
 
 module _ (v : Verdict) (i : Image) (before : Kept) (r : Refusal) (refuses : reply (Err r) ≡ verdict_reply v 0)

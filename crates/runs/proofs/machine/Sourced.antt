@@ -9,7 +9,7 @@ use Rattle.state.specs.State.{State}
 use Rattle.runs.specs.Run.{run, run_verdict}
 use Rattle.runs.specs.TickOutcome.{image_tick}
 use Rattle.runs.specs.machine.Live.{live_verdict, live_run, live_tick}
-use Rattle.runs.specs.machine.inner.Sources.{sourced_run, sourced_tick}
+use Rattle.runs.specs.inner.Sources.{sourced_run, sourced_tick}
 
 module _ (t : List ℕ) (s : State) where
   pub text-run : (ws ms ks : List ℕ) → sourced_run (image_verdict t) (decoded_image (contents t)) s ws ms ks ≡ run t s ws ms ks

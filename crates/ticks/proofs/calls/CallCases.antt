@@ -14,7 +14,7 @@ use Rattle.ticks.specs.Tick.{top_of}
 use Rattle.ticks.specs.inner.TickContracts.{IsFinished}
 use Rattle.ticks.proofs.TickCases.{tick-call, top-put}
 use Rattle.ticks.specs.declared.calls.Callee.{Callee}
-use Rattle.ticks.specs.calls.inner.Callees.{IsCallee}
+use Rattle.ticks.specs.inner.Callees.{IsCallee}
 use Rattle.tables.specs.declared.Label as declared
 
 module _ (b : List ℕ) (before : Kept) (w : ℕ) where

@@ -9,7 +9,8 @@ use Rattle.tables.specs.Table.{table_image, table_label}
 use Rattle.tables.specs.inner.Asked.{Whole, entry_of}
 use Rattle.tables.proofs.TableReads.{counts-told, entries-count, entry-at}
 use Rattle.state.specs.State.{State, entry_at}
-use Rattle.ticks.specs.calls.inner.Callees.{IsCallee}
+use Rattle.ticks.specs.declared.calls.Callee.{Callee}
+use Rattle.ticks.specs.inner.Callees.{IsCallee}
 
 module _ (b : List ℕ) (k : ℕ) where
   pub server-none : scheme_count b < k → 0 ≡ entry_at (table_image b) k
@@ -30,3 +31,7 @@ module _ (b : List ℕ) (l : ℕ) (low : 2 ≤ l) (high : l ≤ last_label b) (h
   pub callee-read : h ≤ scheme_count b → (s : State) (k : ℕ) → k ≡ server_of s.serving h → (e : ℕ) → e ≡ entry_at (table_image b) k
       → IsCallee b s (table_label b l).called (record { number = h; server = k; entry = e })
   callee-read few s k p e q = grind (arith, common_steps, called-known few)
+
+-- the number that a callee has is 0 or that of a scheme
+pub callee-few : (b : List ℕ) → Whole b → (l : ℕ) (s : State) (r : Callee) → IsCallee b s (table_label b l).called r → r.number ≤ 16
+callee-few b y l s r found = grind (arith, common_steps, counts-told)

@@ -13,8 +13,8 @@ loop-k-init c = record {
   passed = any-empty (is_filled_place (view c.args.state.now)) c.args.state.now.depth;
 }
 
-pub returns-then-fills_eight : goal.returns-then-fills_eight
-returns-then-fills_eight c =
+pub returns-then-any_filled_of_eight : goal.returns-then-any_filled_of_eight
+returns-then-any_filled_of_eight c =
     eight-found (is_filled_place (view c.args.state.now)) _ _ c.loop-k.invariant.begun c.loop-k.invariant.passed
     (omega (arith, c.loop-k-test.true)) (grind (arith, common_steps))
 
@@ -29,6 +29,6 @@ loop-k-preserved c = record {
 
 pub returns : goal.returns
 returns c =
-    c.fills_eight-2.ensures
+    c.any_filled_of_eight-2.ensures
     ∙ eight-last (is_filled_place (view c.args.state.now)) _ _ c.loop-k.invariant.begun c.loop-k.invariant.passed
     (omega arith) (omega (arith, c.loop-k-test.false))

@@ -2,7 +2,7 @@
 -- only at one that does.
 use Rattle.std.proofs.Common.{◌+◌, ◌-◌, ◌≤◌}
 use Rattle.rows.specs.inner.Search.{swapped_word}
-use Rattle.rows.specs.row_search.inner.FirstMatch.{Unmatched}
+use Rattle.rows.specs.inner.FirstMatch.{Unmatched}
 use Rattle.rows.proofs.row_search.first_match.Given as goal
 
 abbrev pub invariant-loop-f : goal.invariant-loop-f

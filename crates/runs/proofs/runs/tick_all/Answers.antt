@@ -1,4 +1,5 @@
 use Rattle.std.proofs.Common.{refl, arith}
+use Rattle.std.proofs.lemmas.Grind.{common_steps}
 use Rattle.ticks.specs.declared.Stop.TheVariants.{Full, NoRow}
 use Rattle.runs.proofs.TurnCases.{turn-start, turn-on, turn-stood, turn-over}
 use Rattle.runs.proofs.runs.tick_all.Goals as goal
@@ -15,8 +16,7 @@ returns-in-NoRow c =
     turn-stood c.loop-i.invariant c.requires.room_for_masks c.requires.room_for_codes (omega arith) NoRow _ c.in-NoRow.ensures
 
 pub loop-i-preserved : goal.loop-i-preserved
-loop-i-preserved c =
-    turn-on c.loop-i.invariant c.requires.room_for_masks c.requires.room_for_codes (omega arith) _ _ _ _ c.in-Finished.ensures
+loop-i-preserved c = grind (arith, common_steps, turn-on)
 
 pub returns : goal.returns
 returns c = turn-over c.loop-i.invariant c.requires.room_for_masks c.requires.room_for_codes (omega arith)

@@ -1,5 +1,6 @@
 -- `runs::table_runs::run_table` meets its contract: 15 and 16 in turn, then what the ticks leave.
-use Rattle.std.proofs.Common.{refl, sym, ◌∙◌}
+use Rattle.std.proofs.Common.{refl, sym, ◌∙◌, arith}
+use Rattle.std.proofs.lemmas.Grind.{common_steps}
 use Rattle.runs.proofs.RunCases.{unfit-answer, short-answer, ran-answer}
 use Rattle.runs.proofs.RunCases.{fits-deep}
 use Rattle.runs.proofs.table_runs.run_table.Goals as goal
@@ -8,8 +9,7 @@ pub returns-then-is_unfit : goal.returns-then-is_unfit
 returns-then-is_unfit c = unfit-answer _ _ _ _ _ _ c.is_unfit.ensures c.if-is_unfit.true
 
 pub returns-then-no_room : goal.returns-then-no_room
-returns-then-no_room c =
-    short-answer _ _ _ _ _ _ c.is_unfit.ensures c.if-is_unfit.false _ c.no_room.ensures c.if-no_room.true
+returns-then-no_room c = grind (arith, common_steps, short-answer)
 
 pub tick_all-ended-requires-clause-depth : goal.tick_all-ended-requires-clause-depth
 tick_all-ended-requires-clause-depth c = fits-deep _ _ (sym c.is_unfit.ensures ∙ c.if-is_unfit.false)

@@ -1,5 +1,6 @@
 -- `tables::preparing::note_rows` meets its contract: the search for a label goes on where that for the label before it ended.
 use Rattle.std.proofs.Common.{ap, ℕ, ◌+◌, ◌*◌, ◌<◌, arith}
+use Rattle.std.proofs.lemmas.Grind.{common_steps}
 use Rattle.tables.proofs.Noted.{rows-inside}
 use Rattle.tables.proofs.NotingCases.{counted-end, notes-start, notes-small, notes-turn}
 use Rattle.tables.proofs.preparing.note_rows.Goals as goal
@@ -17,8 +18,7 @@ pub pair-requires : goal.pair-requires
 pair-requires c = omega (arith, rows-inside c.args.table.now c.requires)
 
 pub skip_below-f-requires-clause-in_order : goal.skip_below-f-requires-clause-in_order
-skip_below-f-requires-clause-in_order c =
-    omega (arith, c.loop-l.invariant.inside, counted-end _ c.requires _ _ c.rows_from-f.ensures c.pair.ensures)
+skip_below-f-requires-clause-in_order c = grind (arith, common_steps, counted-end)
 
 pub skip_below-f-requires-clause-inside : goal.skip_below-f-requires-clause-inside
 skip_below-f-requires-clause-inside c =

@@ -1,8 +1,12 @@
 use Rattle.std.proofs.Common.{refl, rules}
 use Rattle.state.specs.Kept.{view}
 use Rattle.ticks.proofs.TickCases.{next-inside}
+use Rattle.ticks.proofs.calls.CalleeCases.{callee-few}
 use Rattle.ticks.proofs.calls.CallCases.{call-steps}
 use Rattle.ticks.proofs.calls.tick_call.Goals as goal
+
+pub code_of-requires : goal.code_of-requires
+code_of-requires c = callee-few _ c.args.table.now.whole _ _ _ c.callee_of-callee.ensures
 
 pub returns : goal.returns
 returns c =

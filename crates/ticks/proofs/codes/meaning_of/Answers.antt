@@ -1,7 +1,8 @@
 -- `ticks::codes::meaning_of` meets its contract: by single codes, then by ranges.
 use Rattle.ticks.specs.codes.Codes.{meaning_of}
 use Rattle.ticks.proofs.codes.CodeCases.{in-operations, in-functions, below-calls, between-calls, above-calls}
-use Rattle.std.proofs.Common.{rules}
+use Rattle.std.proofs.Common.{rules, arith}
+use Rattle.std.proofs.lemmas.Grind.{common_steps}
 use Rattle.ticks.proofs.codes.meaning_of.Goals as goal
 
 pub returns-in-0 : goal.returns-in-0
@@ -27,10 +28,10 @@ pub returns-in-66-to-80 : goal.returns-in-66-to-80
 returns-in-66-to-80 c = in-functions _ (search rules) (search rules)
 
 pub returns-in_default : goal.returns-in_default
-returns-in_default c = below-calls _ (search rules) (search rules) (search rules) (search rules) (search rules)
+returns-in_default c = grind (arith, common_steps, below-calls)
 
 pub returns-in_default-2 : goal.returns-in_default-2
-returns-in_default-2 c = between-calls _ (search rules) (search rules) (search rules) (search rules) (search rules) (search rules)
+returns-in_default-2 c = grind (arith, common_steps, between-calls)
 
 pub returns-in_default-3 : goal.returns-in_default-3
-returns-in_default-3 c = above-calls _ (search rules) (search rules) (search rules) (search rules) (search rules)
+returns-in_default-3 c = grind (arith, common_steps, above-calls)

@@ -6,8 +6,7 @@ use Rattle.ticks.proofs.leaving.LeavingCases.{high-same, call-same, plain-by}
 use Rattle.ticks.proofs.leaving.leaving_top.Goals as goal
 
 pub returns-then-table-l : goal.returns-then-table-l
-returns-then-table-l c =
-    high-same _ (view c.args.state.now) _ c.requires.label (omega (arith, c.args.table.now.last_read, c.if-table-l.true))
+returns-then-table-l c = grind (arith, common_steps, high-same)
 
 pub returns-in-1-to-2 : goal.returns-in-1-to-2
 returns-in-1-to-2 c = call-same _ (view c.args.state.now) (grind (arith, common_steps))

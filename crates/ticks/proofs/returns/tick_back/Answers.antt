@@ -1,16 +1,15 @@
 use Rattle.std.proofs.Common.{refl, arith, rules}
+use Rattle.std.proofs.lemmas.Grind.{common_steps}
 use Rattle.state.specs.Kept.{view}
 use Rattle.ticks.proofs.TickCases.{top-inside}
 use Rattle.ticks.proofs.returns.ReturnCases.{last-steps, back-stop, back-steps}
 use Rattle.ticks.proofs.returns.tick_back.Goals as goal
 
 pub returns-then-depth-lt2 : goal.returns-then-depth-lt2
-returns-then-depth-lt2 c = last-steps _ c.args.table.now.whole _ _ c.requires.label c.if-depth-lt2.true _ c.put_alone.ensures
+returns-then-depth-lt2 c = grind (arith, common_steps, last-steps)
 
 pub returns-then-next-ge-NO_LABEL : goal.returns-then-next-ge-NO_LABEL
-returns-then-next-ge-NO_LABEL c =
-    back-stop _ c.args.table.now.whole _ _ c.requires.label c.if-depth-lt2.false _ c.next_beneath-next.ensures c.args.table.now.small
-    c.if-next-ge-NO_LABEL.true
+returns-then-next-ge-NO_LABEL c = grind (arith, common_steps, back-stop)
 
 pub returns : goal.returns
 returns c =
