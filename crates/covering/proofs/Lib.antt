@@ -8,3 +8,4 @@ pub mod LoopCases
 pub mod Tables
 pub mod Chains
 pub mod Sharing
+pub mod FunctionBits

@@ -3,14 +3,14 @@
 #![tactic(auto)]
 
 ghost use Rattle.std.specs.Prelude.{◌≡◌, ◌||◌, ◌-◌, ◌≤◌, ◌<◌, find, ◌==◌};
-ghost use Rattle.std.specs.List.{range_with_len};
+ghost use Rattle.std.specs.List.{list_any, range_with_len};
 ghost use Rattle.text.specs.declared.frames.sizes.TheConstants.{ROWS};
 ghost use Rattle.text.specs.frames.Frame.{size};
 ghost use Rattle.image.specs.Decode.{decoded_image, row_in_frame};
 ghost use Rattle.covering.specs.Matched.{is_uneven};
 ghost use Rattle.covering.specs.Common.{TogetherCommon, CommonTogether};
 ghost use Rattle.covering.specs.inner.CoveringContracts.{SoundTable};
-ghost use Rattle.covering.specs.inner.CoveringContracts.{words_with, words_in, has_uneven_rows, is_other};
+ghost use Rattle.covering.specs.inner.CoveringContracts.{words_with, words_in, has_bit, has_uneven_rows, is_other};
 
 pub mod blocks;
 mod pairs;
@@ -56,6 +56,28 @@ fn words_in(table: &[u8], first: usize, end: usize, bit: u8) -> u32
     total
 }
 
+// Whether a row in the frames from first up to end has a function bit.
+fn has_function_bit(table: &[u8], first: usize, end: usize) -> bool
+    requires { end ≤ size table.now }
+    ensures { result ≡ list_any (has_bit table.now) (range_with_len first (end - first)) }
+{
+    (first..end).any(|f| byte(table, f, FUNCTION_BIT) != NO_BIT)
+}
+
+// The sum with bit 1, where this is the one with bit 0: where no row has a function bit both are the same.
+fn other_words_in(table: &[u8], first: usize, end: usize, sum: u32) -> u32
+    requires in_order { first ≤ end }
+    requires inside { end ≤ size table.now }
+    requires few { end - first ≤ ROWS }
+    requires sum { sum ≡ words_in table.now 0 first (end - first) }
+    ensures { result ≡ words_in table.now 1 first (end - first) }
+{
+    if !has_function_bit(table, first, end) {
+        return sum;
+    }
+    words_in(table, first, end, 1)
+}
+
 // Whether the rows in frames from first up to end, those of one label, leave a word out or match one twice. Pairs of rows are tried last:
 // they are the most.
 fn uneven_rows(table: &[u8], first: usize, end: usize) -> bool
@@ -64,8 +86,9 @@ fn uneven_rows(table: &[u8], first: usize, end: usize) -> bool
     requires few { end - first ≤ ROWS }
     ensures { result ≡ has_uneven_rows table.now first (end - first) }
 {
-    words_in(table, first, end, 0) != 65536
-        || words_in(table, first, end, 1) != 65536
+    let sum = words_in(table, first, end, 0);
+    sum != 65536
+        || other_words_in(table, first, end, sum) != 65536
         || any_together(table, first, end)
 }
 

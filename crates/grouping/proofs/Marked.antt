@@ -1,10 +1,9 @@
 -- Rows that lead to marked labels are enough to look at: two labels of one class are parted by them, or by none.
 use Rattle.std.proofs.Common.{ℕ, suc, ◌+◌, ◌*◌, ◌-◌, ◌≤◌, ◌<◌, Bool, true, false, ◌&&◌, ◌||◌, not, ◌≡◌, refl, sym, ◌∙◌, ap, ap₂, nat_lt, ◌==◌, slice_index, slice_index_or}
-use Rattle.std.proofs.Common.{List, arith, length, set, replicate, eq-eqb, ne_eqb, lt-ltb, le-leb}
-use Rattle.std.proofs.Common.{ltb-true, leb-false}
+use Rattle.std.proofs.Common.{List, arith, length, replicate, eq-eqb, ne_eqb, lt-ltb, le-leb}
+use Rattle.std.proofs.Common.{ltb-true}
 use Rattle.std.proofs.Math.ListN.{length-replicate, get_or-replicate}
 use borrow.Author.Tests.{lt-leb}
-use Rattle.std.proofs.lemmas.Grind.{common_steps}
 use Rattle.std.specs.List.{list_any}
 use Rattle.words.proofs.lists.Tests.{no_both, and-l, and-r, and-true, and-false, and-no, not-true, not-false, or-cases, or-true-l}
 use Rattle.words.proofs.lists.Searches.{any-false}
@@ -17,7 +16,7 @@ use Rattle.covering.specs.Matched.{is_together}
 use Rattle.covering.proofs.Together.{together-turned}
 use Rattle.grouping.specs.Classes.{classes}
 use Rattle.grouping.specs.inner.GroupingContracts.{Even, Classed, is_parting_in, is_parting_any, is_parted_on, has_marked_next}
-use Rattle.grouping.specs.inner.GroupingContracts.{is_parted_by, Marks, Touched, KeptClasses}
+use Rattle.grouping.specs.inner.GroupingContracts.{is_parted_by, Marks, Noted, KeptClasses}
 use Rattle.covering.proofs.Chains.{chain-false, chain-none, chain-true, chain-some}
 use Rattle.grouping.proofs.Onward.{some-none}
 use Rattle.grouping.proofs.Partings.{some-own}
@@ -75,14 +74,11 @@ module _ (b c : List ℕ) where
 
     -- ---- are_parted_by
     module _ (touched : List ℕ) (M : Marks b c marks touched) (m l : ℕ) (am : 2 ≤ m) (hm : m ≤ last_label b) where
-      pub by-none : slice_index touched m ≡ 0 → (least : ℕ) → 1 ≤ least → false ≡ is_parted_by b c marks least m l
-      by-none z least h = sym (chain-none (marked least l) (first_on b m) (end_on b m - first_on b m) (λ k u.
+      pub by-none : (least : ℕ) → slice_index touched m < least → false ≡ is_parted_by b c marks least m l
+      by-none least h = sym (chain-none (marked least l) (first_on b m) (end_on b m - first_on b m) (λ k u.
           let f : ℕ = first_on b m + k in
-          let low : has_marked_next b marks 1 f ≡ false =
-          chain-false (has_marked_next b marks 1) (first_on b m) (end_on b m - first_on b m) (M.untouched m am hm z) f (omega arith)
-          (omega arith) in
           ap (λ (t : Bool). t && is_parting_any b c f (first_on b l) (end_on b l))
-          (lt-leb least (slice_index marks (field b f 7)) (omega (arith, leb-false 1 (slice_index marks (field b f 7)) low)))))
+          (lt-leb least (slice_index marks (field b f 7)) (omega (arith, M.noted m f am (omega arith) (omega arith) (omega arith))))))
 
       -- ---- are_parted
       module _ (al : 2 ≤ l) (hl : l ≤ last_label b) (e : slice_index c m ≡ slice_index c l) where
@@ -97,6 +93,13 @@ module _ (b c : List ℕ) where
         pub parted-by : (is_parted_by b c marks 1 m l || is_parted_by b c marks 2 l m) ≡ is_parted_on b c m l
         parted-by = grind (arith, or-cases, same-truth, turned, by-parts, by-marks)
 
+-- ---- are_parted, where neither label is noted
+pub unnoted-unparted : (b c marks touched : List ℕ) → Marks b c marks touched → (m l : ℕ) → 2 ≤ m → m ≤ last_label b → 2 ≤ l → l ≤ last_label b
+    → slice_index c m ≡ slice_index c l → slice_index touched m ≡ 0 → slice_index touched l ≡ 0 → is_parted_on b c m l ≡ false
+unnoted-unparted b c marks touched M m l am hm al hl e p q =
+    sym (parted-by b c marks touched M m l am hm al hl e)
+    ∙ ap₂ ◌||◌ (sym (by-none b c marks touched M m l am hm 1 (omega arith))) (sym (by-none b c marks touched M l m al hl 2 (omega arith)))
+
 -- ---- the marks before the first round
 pub ones-long : (xs : List ℕ) → xs ≡ replicate 256 1 → length xs ≡ 256
 ones-long xs e = ap length e ∙ length-replicate {A = ℕ} 256 1
@@ -110,21 +113,11 @@ first-marks b c bytes marks touched p q = record {
   seen = λ m l f g am hm al hl e uf vf ug vg t.
       or-true-l (has_marked_next b marks 1 f) (has_marked_next b marks 2 g)
       (le-leb 1 (slice_index marks (field b f 7)) (omega (arith, one marks p (field b f 7) (bytes (10 * f + 7)))));
-  untouched = λ l al hl z. absurd (omega (arith, one touched q l (omega (arith, bytes 2))));
+  noted = λ l f al hl u v. omega (arith, one marks p (field b f 7) (bytes (10 * f + 7)), one touched q l (omega (arith, bytes 2)));
 }
   where
     one : (xs : List ℕ) → xs ≡ replicate 256 1 → (k : ℕ) → k < 256 → slice_index xs k ≡ 1
     one xs e k h = ap (λ (ys : List ℕ). slice_index ys k) e ∙ get_or-replicate 256 k 1 0 h
-
--- ---- mark
-module _ (former c kept : List ℕ) where
-  pub kept-start : (marks : List ℕ) → length marks ≡ 256 → KeptClasses 0 former c kept marks
-  kept-start marks h = record { long = h; one = λ l z. absurd (omega arith) }
-
-  pub kept-on : (marks : List ℕ) (l v : ℕ) → KeptClasses l former c kept marks → l < 256
-      → (v < 2 → slice_index c l ≡ slice_index kept (slice_index former l))
-      → KeptClasses (l + 1) former c kept (set marks l v)
-  kept-on marks l v K h e = grind (arith, common_steps)
 
 -- ---- the marks after a round
 module _ (b : List ℕ) (x : Even b) where
@@ -161,11 +154,11 @@ module _ (b : List ℕ) (x : Even b) where
         M.seen m l f g am hm al hl (sym (e m hm) ∙ q ∙ e l hl) uf vf ug vg
         (ap₂ (λ (y z : ℕ). not (y == z) && is_together (row_in_frame b f) (row_in_frame b g)) (sym (e (field b f 7) (next-inside m f am hm uf vf)))
         (sym (e (field b g 7) (next-inside l g al hl ug vg))) ∙ t);
-    untouched = M.untouched;
+    noted = M.noted;
   }
 
   module _ (k : ℕ) (former : List ℕ) (h : Classed b (classes i k) former) (c : List ℕ) (h' : Classed b (classes i (suc k)) c)
-      (n : ℕ) (count : n ≡ last_label b + 1) (kept marks : List ℕ) (K : KeptClasses n former c kept marks) where
+      (n : ℕ) (count : n ≡ last_label b + 1) (marks : List ℕ) (K : KeptClasses n former c marks) where
     -- rows that match one word and bit led to one class before: where they part labels now, one of the two next labels is marked
     seen : (m l f g : ℕ) → 2 ≤ m → m ≤ last_label b → 2 ≤ l → l ≤ last_label b → slice_index c m ≡ slice_index c l
         → first_on b m ≤ f → f < end_on b m → first_on b l ≤ g → g < end_on b l → is_parting_in b c f g ≡ true
@@ -175,12 +168,7 @@ module _ (b : List ℕ) (x : Even b) where
         chain-false (is_parting_in b former f) (first_on b l) (end_on b l - first_on b l)
         (chain-false (λ f. is_parting_any b former f (first_on b l) (end_on b l)) (first_on b m) (end_on b m - first_on b m)
         (unparted-before b x k former h m l am hm al hl (sym (h'.at m hm) ∙ e ∙ h'.at l hl)) f uf (omega arith)) g ug (omega arith) in
-        grind (arith, nat_tests, K.one (field b f 7), K.one (field b g 7), next-inside m f am hm uf vf, next-inside l g al hl ug vg)
+        grind (arith, nat_tests, K.one (field b f 7) (field b g 7), next-inside m f am hm uf vf, next-inside l g al hl ug vg)
 
-    pub next-marks : (touched : List ℕ) → Touched b marks (last_label b + 1) touched → Marks b c marks touched
-    next-marks touched T = record {
-      long = K.long;
-      room = T.long;
-      seen = seen;
-      untouched = λ l al hl z. T.none l al (omega arith) z;
-    }
+    pub next-marks : (touched : List ℕ) → length touched ≡ 256 → Noted b marks (last_label b + 1) touched → Marks b c marks touched
+    next-marks touched room T = record { long = K.long; room = room; seen = seen; noted = T }

@@ -5,12 +5,13 @@ use Rattle.words.proofs.lists.Ranges.{get_or-map-range}
 use Rattle.text.specs.frames.Frame.{field, contents}
 use Rattle.text.specs.frames.Verdict.{fine}
 use Rattle.image.specs.Image.{Row, no_row}
-use Rattle.image.specs.Decode.{last_label, decoded_image, row_in_frame}
+use Rattle.image.specs.Decode.{last_label, rows_from, decoded_image, row_in_frame}
 use Rattle.image.specs.Check.{table_verdict}
 use Rattle.image.proofs.Accepted.{accepted-sound, image-table, image-bytes}
 use Rattle.tables.specs.Prepare.{first_frame, noted_table}
 use Rattle.tables.specs.Table.{first_on, end_on, row_on, rows_on}
-use Rattle.tables.proofs.Noted.{noted-last, noted-late}
+use Rattle.tables.proofs.Noted.{noted-last, noted-late, noted-row, noted-rows-from}
+use Rattle.tables.proofs.FirstFrames.{first-low, first-own}
 use Rattle.tables.proofs.PreparedImage.{first-noted, end-noted, rows-own, prepared-image}
 use Rattle.tables.proofs.Made.{MadeTable}
 use Rattle.covering.specs.Matched.{is_uneven}
@@ -38,8 +39,22 @@ module _ (b : List ℕ) (ok : table_verdict b ≡ fine) (bytes : (k : ℕ) → s
       ∙ ap (row_in_frame b) at')
       ∙ sym (noted-late b f 6 (omega arith) (omega arith))
 
+  -- each row has its label
+  noted-own : (l f : ℕ) → 2 ≤ l → l ≤ last_label (noted_table b) → first_on (noted_table b) l ≤ f → f < end_on (noted_table b) l
+      → field (noted_table b) f 1 ≡ l
+  noted-own l f a h low high =
+      let hl : l ≤ last_label b = omega (arith, noted-last b) in
+      let first : first_on (noted_table b) l ≡ first_frame b l = first-noted b ok bytes l (omega arith) hl in
+      let end : end_on (noted_table b) l ≡ first_frame b (l + 1) = end-noted b ok bytes l hl in
+      noted-row b f 1 (omega (arith, first-low b ok l)) (omega arith) ∙ first-own b ok bytes l f (omega arith) (omega arith)
+
+  noted-behind : (l : ℕ) → 2 ≤ l → l ≤ last_label (noted_table b) → rows_from (noted_table b) ≤ first_on (noted_table b) l
+  noted-behind l a h =
+      let hl : l ≤ last_label b = omega (arith, noted-last b) in
+      omega (arith, first-noted b ok bytes l (omega arith) hl, first-low b ok l, noted-rows-from b)
+
   pub noted-even : is_uneven (decoded_image b) ≡ false → Even (noted_table b)
-  noted-even e = search (arith, accepted-sound, prepared-image, noted-bits)
+  noted-even e = search (arith, accepted-sound, prepared-image, noted-bits, noted-own, noted-behind)
 
 pub made-even : (t b : List ℕ) → MadeTable t b → is_uneven (decoded_image (contents t)) ≡ false → Even b
 made-even t b made e =

@@ -7,10 +7,10 @@ use Rattle.image.specs.Decode.{last_label}
 use Rattle.tables.specs.Table.{table_image}
 use Rattle.tables.proofs.TableReads.{labels-count}
 use Rattle.grouping.specs.Classes.{is_staying_with, classes_by, classes}
-use Rattle.grouping.specs.inner.GroupingContracts.{Even, Classed, Refined, OneMore, is_class_leader}
+use Rattle.grouping.specs.inner.GroupingContracts.{Even, Classed, Refined, OneMore, Lowest, is_class_leader}
 use Rattle.grouping.proofs.Representatives.{lowest_alike}
-use Rattle.grouping.proofs.TableRounds.{FillingClasses, fill-start, fill-on, fill-all, value-small, classes-long, class-low}
-use Rattle.grouping.proofs.TableRounds.{zero-alone, one-alone, next-is}
+use Rattle.grouping.proofs.TableRounds.{FillingClasses, fill-start, fill-on, fill-all, classes-long, class-low}
+use Rattle.grouping.proofs.TableRounds.{zero-alone, one-alone, class-lowest, next-is}
 
 module _ (b : List ℕ) where
   abbrev i : Image
@@ -58,13 +58,13 @@ module _ (b : List ℕ) where
       pub refining-low : 2 ≤ slice_index buffer l
       refining-low = class-low b x t.rounds buffer t.now l t.low inside
 
+      pub refining-lowest : Lowest buffer next l
+      refining-lowest = class-lowest b x t.rounds buffer t.now next l t.low inside t.filling.each
+
       module _ (r : Option ℕ) (e : r ≡ find (is_class_leader b buffer next l) (range_with_len (slice_index buffer l) (l - slice_index buffer l)))
           (v : ℕ) (u : v ≡ unwrap_or r l) where
         is : v ≡ lowest_alike (is_staying_with i (classes i t.rounds)) l
         is = next-is b x t.rounds buffer t.now next l t.low inside t.filling.each v r e u
-
-        pub refining-small : v < 256
-        refining-small = value-small b (is_staying_with i (classes i t.rounds)) old next m l t.filling h v is
 
         pub refining-on : Refining buffer old (set next l v) m (l + 1)
         refining-on = record {

@@ -19,7 +19,7 @@ use Rattle.covering.specs.Matched.{is_together}
 use Rattle.covering.proofs.Chains.{lowest-chain}
 use Rattle.covering.proofs.Hits.{OneRow, one-row}
 use Rattle.grouping.specs.Classes.{class_of, is_parting, is_parted, is_staying_with, classes_by, classes}
-use Rattle.grouping.specs.inner.GroupingContracts.{Even, Classed, is_parted_on, is_class_leader}
+use Rattle.grouping.specs.inner.GroupingContracts.{Even, Classed, Lowest, is_parted_on, is_class_leader}
 use Rattle.grouping.specs.inner.Links.{first_same, FirstSame}
 use Rattle.grouping.proofs.Representatives.{lowest_alike, alike-le, lowest-own}
 use Rattle.grouping.proofs.Onward.{low-same}
@@ -41,6 +41,40 @@ some-same : {A : Type 0} (p q : A → Bool) (d : A) (xs : List A) → ((j : ℕ)
 some-same p q d [] e = refl
 some-same p q d (x ∷ xs) e = ap₂ ◌||◌ (e 0 (omega arith)) (some-same p q d xs (λ j l. e (suc j) (omega arith)))
 
+-- ---- next_class
+module _ (b c next : List ℕ) (l : ℕ) (w : Lowest c next l) where
+  abbrev leads : ℕ → Bool
+  leads = is_class_leader b c next l
+
+  abbrev lowest_one : ℕ
+  lowest_one = slice_index c l
+
+  all : l ≡ lowest_one + (l - lowest_one)
+  all = omega (arith, w.below)
+
+  -- the lowest label of a class leads the next one of l too, where the two are not parted
+  pub leader-first : (lowest_one < l → is_parted_on b c lowest_one l ≡ false)
+      → lowest_one ≡ unwrap_or (find leads (range_with_len lowest_one (l - lowest_one))) l
+  leader-first together = sym (ap (unwrap_or (find leads (range_with_len lowest_one (l - lowest_one)))) all
+      ∙ lowest-chain leads lowest_one (l - lowest_one)
+      ∙ lowest-is leads lowest_one (l - lowest_one) lowest_one (omega arith) (omega arith) leading (λ k u v. absurd (omega arith)))
+    where
+      leading : lowest_one < lowest_one + (l - lowest_one) → leads lowest_one ≡ true
+      leading h =
+          and-true (slice_index c lowest_one == slice_index c l && slice_index next lowest_one == lowest_one) (not (is_parted_on b c lowest_one l))
+          (and-true (slice_index c lowest_one == slice_index c l) (slice_index next lowest_one == lowest_one)
+          (eq-eqb (slice_index c lowest_one) (slice_index c l) w.own)
+          (eq-eqb (slice_index next lowest_one) lowest_one (w.leads (omega arith))))
+          (ap not (together (omega arith)))
+
+  pub leader-below : (r : Option ℕ) (v : ℕ) → r ≡ find leads (range_with_len lowest_one (l - lowest_one)) → v ≡ unwrap_or r l → v ≤ l
+  leader-below r v e u = omega (
+    arith,
+    u ∙ ap₂ unwrap_or e all ∙ lowest-chain leads lowest_one (l - lowest_one),
+    lowest-most leads lowest_one (l - lowest_one),
+    w.below,
+  )
+
 module _ (b : List ℕ) where
   abbrev i : Image
   i = table_image b
@@ -61,9 +95,6 @@ module _ (b : List ℕ) where
     fill-start h m g e = grind (arith, common_steps, values-none (lowest_alike alike) old 0 (m + 1), lowest_alike alike)
 
     module _ (buffer : List ℕ) (m l : ℕ) (t : FillingClasses alike old buffer m l) where
-      pub value-small : l ≤ m → (x : ℕ) → x ≡ lowest_alike alike l → x < 256
-      value-small h x e = omega (arith, alike-le alike l, t.small)
-
       pub fill-on : l ≤ m → (x : ℕ) → x ≡ lowest_alike alike l → FillingClasses alike old (set buffer l x) m (l + 1)
       fill-on h x e = record {
         room = t.room;
@@ -190,6 +221,34 @@ module _ (b : List ℕ) where
               let h₀ : 0 < n = omega (arith, two) in
               let h₁ : 1 < n = omega (arith, two) in
               absurd (omega (arith, low-same i x.sound 0 1 h₀ h₁ (R.same 0 1 h₀ h₁ e) (omega arith)))
+
+      -- the lowest label of a class stays the lowest of its next one
+      class-own : (l : ℕ) → l ≤ last_label b → slice_index buffer (slice_index buffer l) ≡ slice_index buffer l
+      class-own l z =
+          let hl : l < n = omega (arith, labels-count b) in
+          ap (slice_index buffer) (inside l hl)
+          ∙ inside (class_of c l) (omega (arith, R.below l hl, hl)) ∙ R.own l hl ∙ sym (inside l hl)
+
+      lowest-stays : (l : ℕ) → l < n → class_of c l ≡ l → lowest_alike stays l ≡ l
+      lowest-stays l hl e = go (split (lowest_alike stays l) l)
+        where
+          go : (lowest_alike stays l < l) ⊎ (l ≤ lowest_alike stays l) → lowest_alike stays l ≡ l
+          go (inr p) = omega (arith, alike-le stays l)
+          go (inl p) =
+              let y : ℕ = lowest_alike stays l in
+              let t : stays y l ≡ true = lowest-hit (λ m. stays m l) 0 l (omega arith) in
+              let q : class_of c y ≡ class_of c l = eqb-true (class_of c y) (class_of c l) (and-l (class_of c y == class_of c l) (not (is_parted i c y l)) t) in
+              absurd (omega (arith, R.below y (omega (arith, hl))))
+
+      pub class-lowest : (next : List ℕ) (l : ℕ) → 2 ≤ l → l ≤ last_label b
+          → ((m : ℕ) → m < l → slice_index next m ≡ lowest_alike stays m) → Lowest buffer next l
+      class-lowest next l a z each = record {
+        below = class-below l z;
+        own = class-own l z;
+        leads = λ h. each (slice_index buffer l) h
+            ∙ lowest-stays (slice_index buffer l) (omega (arith, labels-count b))
+            (sym (inside (slice_index buffer l) (omega (arith, labels-count b))) ∙ class-own l z);
+      }
 
       -- the lowest of the next class is found among those that are lowest of theirs
       module _ (next : List ℕ) (l : ℕ) (a : 2 ≤ l) (z : l ≤ last_label b)

@@ -1,63 +1,85 @@
--- The notes of labels 2 to M: the loop that makes them, and that they are enough with the marks.
-use Rattle.std.proofs.Common.{cond, ℕ, ◌+◌, ◌-◌, ◌≤◌, ◌<◌, ◌≡◌, ◌∙◌, subst, Bool, false, List, map, arith, slice_index}
-use Rattle.std.proofs.Common.{length, set, get_or-append-add, length-take-le}
-use Rattle.std.proofs.Math.ListN.{get_or-append}
-use Rattle.words.specs.lists.Numbers.{range}
-use Rattle.words.specs.lists.Sequences.{written}
-use Rattle.words.proofs.lists.Ranges.{length-map-range, get_or-map-range}
-use Rattle.words.proofs.lists.Written.{written-length}
-use Rattle.words.proofs.lists.Fills.{ValuesFrom, values-none, values-turn}
-use Rattle.image.specs.Decode.{last_label}
-use Rattle.tables.specs.Table.{first_on, end_on}
-use Rattle.grouping.specs.inner.GroupingContracts.{Even, Advanced, Touched}
+-- The notes of labels: the loop that makes them, and that they are enough with the marks.
+use Rattle.std.proofs.Common.{ℕ, zero, suc, ◌+◌, ◌-◌, ◌≤◌, ◌<◌, ◌≡◌, sym, ◌∙◌, ap, ap₂, subst, List, arith, slice_index}
+use Rattle.std.proofs.Common.{length, replicate}
+use Rattle.std.proofs.Math.ListN.{length-replicate}
+use Rattle.std.proofs.lemmas.Grind.{common_steps}
+use Rattle.text.specs.frames.Frame.{field}
+use Rattle.image.specs.Decode.{last_label, rows_from}
+use Rattle.tables.specs.Table.{table_end}
+use Rattle.grouping.specs.inner.GroupingContracts.{Even, Advanced, Noted}
 use Rattle.grouping.proofs.Marked.{next-marks}
 use Rattle.grouping.specs.inner.Parts.{PartsMarked}
-use Rattle.grouping.proofs.Labelled.{parts-kept, counts-length}
-use Rattle.grouping.specs.inner.Touches.{touch_in, touches, RoundMarked}
+use Rattle.grouping.proofs.Labelled.{parts-kept}
+use Rattle.grouping.specs.inner.Touches.{raised, notes_after, notes, RoundMarked}
 use Rattle.std.proofs.lemmas.Bool.Decides.{nat_tests}
 
-module _ (b marks old : List ℕ) where
-  abbrev note : ℕ → ℕ
-  note k = touch_in b marks (first_on b (2 + k)) (end_on b (2 + k))
+-- ---- one note raised
+raised-long : (xs : List ℕ) (label mark : ℕ) → length (raised xs label mark) ≡ length xs
+raised-long xs label mark = grind (arith, common_steps)
 
-  -- labels 2 to l - 1 are noted
-  pub record Touching (out : List ℕ) (l : ℕ) : Type 0 where
-    pub low : 2 ≤ l
-    pub values : ValuesFrom note old out 2 (last_label b - 1) (l - 2)
+raised-over : (xs : List ℕ) (label mark p : ℕ) → label < length xs → slice_index xs p ≤ slice_index (raised xs label mark) p
+raised-over xs label mark p h = grind (arith, common_steps, nat_tests)
 
-  pub touching-start : Touching old 2
-  touching-start = record { low = omega arith; values = values-none note old 2 (last_label b - 1) }
+raised-own : (xs : List ℕ) (label mark : ℕ) → label < length xs → mark ≤ slice_index (raised xs label mark) label
+raised-own xs label mark h = grind (arith, common_steps, nat_tests)
 
-  pub touching-turn : last_label b < length old → (out : List ℕ) (l first end v : ℕ) → Touching out l → l ≤ last_label b
-      → first ≡ first_on b l → end ≡ end_on b l → v ≡ touch_in b marks first end → Touching (set out l v) (l + 1)
-  touching-turn room out l first end v t h p q e = grind (arith, values-turn note old 2 (last_label b - 1) out (l - 2) v)
+module _ (b marks : List ℕ) where
+  -- the rows before frame f are noted
+  pub record Touching (out : List ℕ) (f : ℕ) : Type 0 where
+    pub low : rows_from b ≤ f
+    pub is : out ≡ notes_after b marks (f - rows_from b)
 
-  -- ---- what the notes say
-  module _ (long : length old ≡ 256) (few : last_label b < 256) (out : List ℕ) (e : out ≡ touches b marks old) where
-    notes-long : length (map note (range 0 (last_label b - 1))) ≡ last_label b - 1
-    notes-long = length-map-range note 0 (last_label b - 1)
+  pub touching-start : (out : List ℕ) (f : ℕ) → out ≡ replicate 256 0 → f ≡ rows_from b → Touching out f
+  unfolding notes_after
+  touching-start out f e q = grind (arith, common_steps)
 
-    noted-at : (l : ℕ) → 2 ≤ l → l ≤ last_label b → slice_index out l ≡ touch_in b marks (first_on b l) (end_on b l)
-    unfolding written
-    noted-at l u h = grind (arith, get_or-append, get_or-map-range, length-take-le, get_or-append-add, notes-long)
+  pub touching-turn : (out out' : List ℕ) (f label next : ℕ) → Touching out f → label ≡ field b f 1 → next ≡ field b f 7
+      → out' ≡ raised out label (slice_index marks next) → Touching out' (f + 1)
+  unfolding notes_after
+  touching-turn out out' f label next t p q e = record {
+    low = omega (arith, t.low);
+    is = e ∙ ap₂ (λ (x y : ℕ). raised out x (slice_index marks y)) p q
+        ∙ ap₂ (λ (ys : List ℕ) (g : ℕ). raised ys (field b g 1) (slice_index marks (field b g 7))) t.is
+        (let q : f ≡ rows_from b + (f - rows_from b) = omega (arith, t.low) in q)
+        ∙ ap (notes_after b marks) (let q : suc (f - rows_from b) ≡ f + 1 - rows_from b = omega (arith, t.low) in q);
+  }
 
-    none : (t : Bool) → cond {A = ℕ} t 1 0 ≡ 0 → t ≡ false
-    none l z = grind (arith, nat_tests)
+  pub touching-all : (out : List ℕ) (f : ℕ) → Touching out f → table_end b ≤ f → f ≤ table_end b → out ≡ notes b marks
+  touching-all out f t h g = t.is ∙ ap (λ (e : ℕ). notes_after b marks (e - rows_from b)) (let q : f ≡ table_end b = omega arith in q)
 
-    pub touches-noted : Touched b marks (last_label b + 1) out
-    touches-noted = grind (arith, written-length, notes-long, noted-at, none)
+  notes-long : (n : ℕ) → length (notes_after b marks n) ≡ 256
+  unfolding notes_after
+  notes-long zero = length-replicate {A = ℕ} 256 0
+  notes-long (suc n) = raised-long (notes_after b marks n) _ _ ∙ notes-long n
+
+  module _ (bytes : (k : ℕ) → slice_index b k < 256) where
+    notes-most : (n k : ℕ) → k < n
+        → slice_index marks (field b (rows_from b + k) 7) ≤ slice_index (notes_after b marks n) (field b (rows_from b + k) 1)
+    unfolding notes_after
+    notes-most zero k h = absurd (omega arith)
+    notes-most (suc n) k h =
+        grind (arith, notes-most n k, notes-long n, raised-over (notes_after b marks n), raised-own (notes_after b marks n), bytes)
+
+    -- ---- what the notes say
+    pub notes-noted : Even b → Noted b marks (last_label b + 1) (notes b marks)
+    notes-noted x l f al hl u v =
+        subst (λ (m : ℕ). slice_index marks (field b f 7) ≤ slice_index (notes b marks) m) (x.own l f al (omega arith) u v)
+        (subst (λ (g : ℕ). slice_index marks (field b g 7) ≤ slice_index (notes b marks) (field b g 1))
+        (let e : rows_from b + (f - rows_from b) ≡ f = omega (arith, x.behind l al (omega arith)) in e)
+        (notes-most (table_end b - rows_from b) (f - rows_from b) (omega (arith, x.behind l al (omega arith)))))
 
 -- ---- the marks after a round
-pub round-marked : (b : List ℕ) → Even b → (classes next : List ℕ) → Advanced b classes next
+pub round-marked : (b : List ℕ) → Even b → ((k : ℕ) → slice_index b k < 256) → (classes next : List ℕ) → Advanced b classes next
     → (n : ℕ) → n ≡ last_label b + 1 → n ≤ 256
-    → {marks₀ touched₀ kept₀ marks counts kept : List ℕ} → length marks₀ ≡ 256 → length touched₀ ≡ 256
-    → PartsMarked classes next marks₀ touched₀ kept₀ n marks counts kept → (touched : List ℕ) → touched ≡ touches b marks counts
+    → {marks₀ touched₀ kept₀ marks counts kept : List ℕ} → length marks₀ ≡ 256
+    → PartsMarked classes next marks₀ touched₀ kept₀ n marks counts kept → (touched : List ℕ) → touched ≡ notes b marks
     → RoundMarked b classes next marks₀ touched₀ kept₀ marks touched kept
-round-marked b x classes next a n count few {marks₀ = marks₀} {touched₀ = touched₀} {kept₀ = kept₀} {marks = marks}
-    {counts = counts} {kept = kept} long room p touched e = record {
+round-marked b x bytes classes next a n count few {marks₀ = marks₀} {touched₀ = touched₀} {kept₀ = kept₀} {marks = marks}
+    {counts = counts} {kept = kept} long p touched e = record {
       counts = counts;
       parts = subst (λ (m : ℕ). PartsMarked classes next marks₀ touched₀ kept₀ m marks counts kept) count p;
       noted = e;
-      marked = next-marks b x a.rounds classes a.before next a.after n count kept marks
-          (parts-kept p long few) touched (touches-noted b marks counts (counts-length p ∙ room) (omega arith) touched e);
+      marked = next-marks b x a.rounds classes a.before next a.after n count marks (parts-kept p long few) touched
+          (ap length e ∙ notes-long b marks (table_end b - rows_from b))
+          (subst (Noted b marks (last_label b + 1)) (sym e) (notes-noted b marks bytes x));
     }

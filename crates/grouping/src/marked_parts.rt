@@ -1,8 +1,10 @@
 // Marks of the labels whose class was parted in a round. Of the parts of a class all labels but those of the largest part are marked,
-// so that each time that a label is marked its class is at most half as large as before.
+// so that each time that a label is marked its class is at most half as large as before. Mostly each label that left its class is alone
+// since: then the labels that stayed are the largest part, and nothing is counted.
 ghost use Rattle.std.specs.Prelude.{◌≡◌, ◌≤◌, ◌<◌};
+ghost use Rattle.std.specs.List.{list_any, range_with_len};
 ghost use Rattle.grouping.specs.inner.Parts.{member_count, count_members, larger_part, keep_largest, mark_of, mark_others};
-ghost use Rattle.grouping.specs.inner.Parts.{PartsMarked};
+ghost use Rattle.grouping.specs.inner.Parts.{is_led_away, mark_left, PartsMarked};
 
 use text::frames::sizes::LABELS;
 
@@ -91,6 +93,24 @@ fn mark(
     }
 }
 
+// Whether some label left its class and is not the lowest of its next one.
+fn is_any_led_away(classes: &[u8; LABELS], next: &[u8; LABELS], n: usize) -> bool
+    requires { n ≤ LABELS }
+    ensures { result ≡ list_any (is_led_away classes.now next.now) (range_with_len 0 n) }
+{
+    (0..n).any(|l| next[l] != classes[l] && next[l] as usize != l)
+}
+
+// Marks each label that left its class.
+fn mark_left(classes: &[u8; LABELS], next: &[u8; LABELS], marks: &mut [u8; LABELS], n: usize)
+    requires { n ≤ LABELS }
+    ensures { marks.new ≡ mark_left classes.now next.now n marks.old }
+{
+    for l in 0..n {
+        marks[l] = mark_of(next[l], classes[l]);
+    }
+}
+
 /// The marks of labels below n by the classes before a round and after it.
 pub fn mark_parts(
     classes: &[u8; LABELS],
@@ -103,6 +123,10 @@ pub fn mark_parts(
     requires { n ≤ LABELS }
     ensures { PartsMarked classes.now next.now marks.old counts.old kept.old n marks.new counts.new kept.new }
 {
+    if !is_any_led_away(classes, next, n) {
+        mark_left(classes, next, marks, n);
+        return;
+    }
     count_members(next, counts, n);
     keep_largest(classes, next, counts, kept, n);
     mark(classes, next, kept, marks, n);

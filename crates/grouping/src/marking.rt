@@ -1,32 +1,36 @@
 // Which rows the next round need look at: those of labels with a row to a label that the round before marked.
-ghost use Rattle.std.specs.Prelude.{◌≡◌, ◌≤◌, ◌-◌};
-ghost use Rattle.std.specs.List.{list_any, range_with_len};
-ghost use Rattle.text.specs.frames.Frame.{size};
-ghost use Rattle.grouping.specs.inner.GroupingContracts.{Even, Advanced, has_marked_next};
-ghost use Rattle.grouping.specs.inner.Touches.{touches, RoundMarked};
+ghost use Rattle.std.specs.Prelude.{◌≡◌, ◌<◌};
+ghost use Rattle.text.specs.declared.frames.sizes.TheConstants.{LABELS};
+ghost use Rattle.grouping.specs.inner.GroupingContracts.{Even, Advanced};
+ghost use Rattle.grouping.specs.inner.Touches.{raised, notes, RoundMarked};
 
 use crate::marked_parts::mark_parts;
-use image::byte;
-use image::layout::NEXT;
+use image::layout::{FROM, NEXT};
+use image::{byte, rows_from};
 use tables::Table;
 use text::frames::sizes::LABELS;
 
-// Whether a row in the frames from first up to end leads to a marked label.
-fn leads_to_marked(bytes: &[u8], marks: &[u8; LABELS], first: usize, end: usize) -> bool
-    requires { end ≤ size bytes.now }
-    ensures { result ≡ list_any (has_marked_next bytes.now marks.now 1) (range_with_len first (end - first)) }
+// Raises a label's note to a mark.
+fn raise(touched: &mut [u8; LABELS], label: usize, mark: u8)
+    requires { label < LABELS }
+    ensures { touched.new ≡ raised touched.old label mark }
 {
-    (first..end).any(|f| 1 <= marks[byte(bytes, f, NEXT) as usize])
+    if touched[label] < mark {
+        touched[label] = mark;
+    }
 }
 
-// Notes by 1 the labels with a row to a marked label, by 0 the others.
+// Notes at each label the highest mark of those that its rows lead to, row by row: 0 where none is marked.
 fn touch(table: Table, marks: &[u8; LABELS], touched: &mut [u8; LABELS])
-    ensures { touched.new ≡ touches table.entry.bytes.now marks.now touched.old }
+    requires { Even table.bytes.now }
+    ensures { touched.new ≡ notes table.entry.bytes.now marks.now }
 {
-    for l in 2..(table.last as usize) + 1 {
-        let first = table.first_of(l);
-        let end = table.end_of(l);
-        touched[l] = leads_to_marked(table.bytes, marks, first, end) as u8;
+    *touched = [0u8; LABELS];
+    let frames = table.frames as usize;
+    for f in rows_from(table.bytes)..frames {
+        let label = byte(table.bytes, f, FROM) as usize;
+        let next = byte(table.bytes, f, NEXT) as usize;
+        raise(touched, label, marks[next]);
     }
 }
 

@@ -1,7 +1,7 @@
 // The classes one round later: for each label the lowest one of its next class.
-ghost use Rattle.std.specs.Prelude.{◌≡◌, ◌-◌, ◌≤◌, ◌<◌, find, slice_index};
+ghost use Rattle.std.specs.Prelude.{◌≡◌, ◌-◌, ◌≤◌, ◌<◌, find, unwrap_or, slice_index};
 ghost use Rattle.std.specs.List.{range_with_len};
-ghost use Rattle.grouping.specs.inner.GroupingContracts.{Even, Refined, OneMore, is_class_leader};
+ghost use Rattle.grouping.specs.inner.GroupingContracts.{Even, Refined, OneMore, Lowest, is_class_leader};
 
 use crate::parting::Round;
 use text::frames::sizes::LABELS;
@@ -27,6 +27,22 @@ fn class_leader(round: &Round, next: &[u8; LABELS], l: usize) -> Option<usize>
     (round.classes[l] as usize..l).find(|m| leads_class(round, next, *m, l))
 }
 
+// The lowest label of label l's next class. Mostly neither l nor the lowest label of its class has a row to a marked label, so that they stay
+// together.
+fn next_class(round: &Round, next: &[u8; LABELS], l: usize) -> u8
+    requires low { 2 ≤ slice_index round.now.classes.now l }
+    requires high { l ≤ round.now.table.last }
+    requires lowest { Lowest round.now.classes.now next.now l }
+    ensures { result ≡ unwrap_or (find (is_class_leader round.now.table.bytes.now round.now.classes.now next.now l)
+        (range_with_len (slice_index round.now.classes.now l) (l - slice_index round.now.classes.now l))) l }
+{
+    let class = round.classes[l];
+    if round.touched[l] == 0 && round.touched[class as usize] == 0 {
+        return class;
+    }
+    class_leader(round, next, l).unwrap_or(l) as u8
+}
+
 /// One round: the next classes of labels 0 to M, in the first places of the buffer; those behind them stay. Labels 0 and 1 are alone in their
 /// classes.
 pub fn refine(round: &Round, next: &mut [u8; LABELS])
@@ -38,6 +54,6 @@ pub fn refine(round: &Round, next: &mut [u8; LABELS])
     next[0] = 0;
     next[1] = 1;
     for l in 2..last + 1 {
-        next[l] = class_leader(round, next, l).unwrap_or(l) as u8;
+        next[l] = next_class(round, next, l);
     }
 }

@@ -15,8 +15,8 @@ use text::frames::sizes::LABELS;
 /// With so many rows to marked labels those of the other label are taken in blocks, if they are as many.
 pub const MANY: usize = 8;
 
-/// What a round goes by: a prepared table, the classes before the round, the marks of the labels, and which labels have a row to a marked
-/// one. The marks say which rows need be looked at.
+/// What a round goes by: a prepared table, the classes before the round, the marks of the labels, and for each label the highest mark of
+/// those that its rows lead to. The marks say which rows need be looked at.
 #[derive(Clone, Copy)]
 pub struct Round<'a> {
     pub table: Table<'a>,
@@ -158,16 +158,15 @@ impl<'a> Round<'a> {
         self.pairs_part(least, m, l)
     }
 
-    // The same: a label that is not noted has no row to a marked label, so none of its rows is looked at.
+    // The same: where a label's note is lower, none of its rows leads to such a label, so none is looked at.
     fn are_parted_by(&self, least: u8, m: usize, l: usize) -> bool
         requires one_low { 2 ≤ m }
         requires one_high { m ≤ self.now.table.last }
         requires other_low { 2 ≤ l }
         requires other_high { l ≤ self.now.table.last }
-        requires least_marked { 1 ≤ least }
         ensures { result ≡ is_parted_by self.now.table.bytes.now self.now.classes.now self.now.marks.now least m l }
     {
-        if self.touched[m] == 0 {
+        if self.touched[m] < least {
             return false;
         }
         self.rows_part(least, m, l)

@@ -13,7 +13,7 @@ use Rattle.walk.proofs.Facts.{Facts}
 use Rattle.walk.proofs.FactsHold.{facts}
 use Rattle.image.specs.Image.{Image, Row, image_text}
 use Rattle.image.specs.Decode.{decoded_image}
-use Rattle.chart_rows.specs.chart_labels.Labels.{label}
+use Rattle.chart_rows.specs.Labels.{label}
 use Rattle.chart_rows.specs.Rows.{rows}
 use Rattle.translator.specs.Table.{table}
 use Rattle.translator.specs.Entry.{translate_verdict, translate}

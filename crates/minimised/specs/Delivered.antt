@@ -10,8 +10,8 @@ use Rattle.state.specs.declared.State.{State as Kept}
 use Rattle.state.specs.declared.StateReport.{StateReport}
 use Rattle.state.specs.State.{fresh_state}
 use Rattle.state.specs.Kept.{GivesState}
-use Rattle.fairleadow.specs.telling.AnswersForC.{GivesBufferC}
-use Rattle.fairleadow.specs.runs_for_c.Calls.{GivesStateC}
+use Rattle.fairleadow.specs.AnswersForC.{GivesBufferC}
+use Rattle.fairleadow.specs.RunsForC.{GivesStateC}
 use Rattle.agreement.specs.Agreement.{CallInput, CallOutput, walk_outputs}
 use Rattle.agreement.specs.Calls.{CallsInTurn}
 use Rattle.agreement.specs.ForC.{CallOutputC, call_output_c, CallsInTurnC}

@@ -17,8 +17,8 @@ use Rattle.grouping.specs.Classes.{grouping}
 use Rattle.grouping.specs.inner.GroupingContracts.{Classed}
 use Rattle.grouping.proofs.GroupSteps.{group-classed}
 use Rattle.grouping.proofs.Prepared.{made-even}
-use Rattle.minimising.specs.group_image.inner.WriteContracts.{Grouped, smaller_outcome}
-use Rattle.minimising.specs.joining.inner.JoiningContracts.{ReadableTable}
+use Rattle.minimising.specs.inner.WriteContracts.{Grouped, smaller_outcome}
+use Rattle.minimising.specs.inner.JoiningContracts.{ReadableTable}
 use Rattle.minimising.specs.Entry.{minimise_verdict, minimise}
 
 module _ (t : List ℕ) where

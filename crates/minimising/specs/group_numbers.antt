@@ -1,3 +1,2 @@
 pub mod Smaller
 pub mod Renumbered
-pub mod inner

@@ -5,7 +5,7 @@ ghost use Rattle.text.specs.declared.frames.sizes.TheConstants.{LINE, ROWS};
 ghost use Rattle.text.specs.frames.Frame.{size, frame_text};
 ghost use Rattle.image.specs.Image.{entry_frame, label_frame, row_frame};
 ghost use Rattle.image.specs.Decode.{labels_from, label_in, row_in_frame};
-ghost use Rattle.minimising.specs.group_frames.inner.GroupFrames.{header_piece, row_numbered_by};
+ghost use Rattle.minimising.specs.inner.GroupFrames.{header_piece, row_numbered_by};
 
 use image::byte;
 use image::layout::*;

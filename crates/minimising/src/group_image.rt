@@ -1,7 +1,7 @@
 // The smaller image of labels that are grouped: written where there is room for all of it.
 ghost use Rattle.text.specs.frames.Verdict.{fine};
 ghost use Rattle.text.specs.frames.Answer.{GivesBuffer};
-ghost use Rattle.minimising.specs.group_image.inner.WriteContracts.{Grouped, smaller_outcome};
+ghost use Rattle.minimising.specs.inner.WriteContracts.{Grouped, smaller_outcome};
 
 use crate::group_numbers::{count_kept, number_groups};
 use crate::group_text::put_pieces;

@@ -5,7 +5,7 @@ ghost use Rattle.words.specs.lists.Numbers.{count};
 ghost use Rattle.words.specs.lists.Sequences.{over};
 ghost use Rattle.text.specs.frames.Frame.{size, field};
 ghost use Rattle.grouping.specs.Classes.{is_first};
-ghost use Rattle.minimising.specs.group_numbers.inner.NumberContracts.{LowestOfClass, group_numbers};
+ghost use Rattle.minimising.specs.inner.NumberContracts.{LowestOfClass, group_numbers};
 
 use image::byte;
 use image::layout::FROM;

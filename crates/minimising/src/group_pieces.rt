@@ -2,9 +2,9 @@
 ghost use Rattle.std.specs.Prelude.{◌+◌, ◌≤◌, ◌<◌, length};
 ghost use Rattle.text.specs.frames.Frame.{size};
 ghost use Rattle.image.specs.Decode.{labels_from, rows_from};
-ghost use Rattle.translator.specs.label_text.inner.LabelBytes.{Put};
-ghost use Rattle.minimising.specs.group_pieces.inner.Pieces.{piece};
-ghost use Rattle.minimising.specs.group_pieces.inner.TextContracts.{NumberedGroups};
+ghost use Rattle.translator.specs.inner.LabelBytes.{Put};
+ghost use Rattle.minimising.specs.inner.Pieces.{piece};
+ghost use Rattle.minimising.specs.inner.TextContracts.{NumberedGroups};
 
 use crate::group_frames::{put_label, put_row};
 use image::layout::FROM;

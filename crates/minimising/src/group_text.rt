@@ -3,9 +3,9 @@ ghost use Rattle.std.specs.Prelude.{◌≡◌, ◌+◌, ◌≤◌, ◌<◌, leng
 ghost use Rattle.words.specs.lists.Sequences.{written};
 ghost use Rattle.text.specs.declared.frames.sizes.TheConstants.{ROWS};
 ghost use Rattle.text.specs.frames.Frame.{size};
-ghost use Rattle.translator.specs.label_text.inner.LabelBytes.{Put};
-ghost use Rattle.minimising.specs.group_pieces.inner.Pieces.{groups_in, rows_kept, piece, all_pieces};
-ghost use Rattle.minimising.specs.group_pieces.inner.TextContracts.{NumberedGroups};
+ghost use Rattle.translator.specs.inner.LabelBytes.{Put};
+ghost use Rattle.minimising.specs.inner.Pieces.{groups_in, rows_kept, piece, all_pieces};
+ghost use Rattle.minimising.specs.inner.TextContracts.{NumberedGroups};
 
 use crate::group_frames::{put_entry, put_header};
 use crate::group_pieces::{put_kept_label, put_kept_row};

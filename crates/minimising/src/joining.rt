@@ -4,8 +4,8 @@ ghost use Rattle.text.specs.frames.Verdict.{fine, when};
 ghost use Rattle.text.specs.frames.Answer.{GivesBuffer};
 ghost use Rattle.image.specs.Decode.{decoded_image};
 ghost use Rattle.covering.specs.Matched.{is_uneven};
-ghost use Rattle.minimising.specs.group_image.inner.WriteContracts.{smaller_outcome};
-ghost use Rattle.minimising.specs.joining.inner.JoiningContracts.{ReadableTable};
+ghost use Rattle.minimising.specs.inner.WriteContracts.{smaller_outcome};
+ghost use Rattle.minimising.specs.inner.JoiningContracts.{ReadableTable};
 
 use crate::group_image::write_groups;
 use covering::is_uneven;

@@ -5,7 +5,7 @@ use Rattle.words.specs.lists.Numbers.{sum}
 use Rattle.std.specs.List.{list_any, range_with_len}
 use Rattle.text.specs.frames.Frame.{size, field}
 use Rattle.text.specs.frames.Sizes.{CONDITIONS, WORDS}
-use Rattle.image.specs.declared.layout.TheConstants.{FROM, NO_BIT}
+use Rattle.image.specs.declared.layout.TheConstants.{FROM, FUNCTION_BIT, NO_BIT}
 use Rattle.image.specs.Image.{Row}
 use Rattle.image.specs.Decode.{row_count, rows_from, row_in_frame, decoded_image}
 use Rattle.image.specs.inner.Sound.{SoundImage}
@@ -34,6 +34,10 @@ words_with b r = if r.bit == NO_BIT || r.bit == b then 2 ^ (CONDITIONS - ones r.
 
 abbrev pub words_in : List ℕ → ℕ → ℕ → ℕ → ℕ
 words_in b bit first n = sum (λ f. words_with bit (row_in_frame b f)) first n
+
+-- the row in frame f asks for a function's bit
+abbrev pub has_bit : List ℕ → ℕ → Bool
+has_bit b f = not (field b f FUNCTION_BIT == NO_BIT)
 
 -- of the n rows from frame first on, if they are those of one label, some word and bit match none or two
 abbrev pub has_uneven_rows : List ℕ → ℕ → ℕ → Bool

@@ -1,21 +1,24 @@
 -- What the functions that find the groups ask of a prepared table and promise.
-use Rattle.std.specs.Prelude.{ℕ, suc, ◌-◌, ◌≤◌, ◌<◌, Bool, true, false, ◌&&◌, ◌||◌, not, ◌≡◌, List, length, nat_le, ◌==◌, slice_index, count_by}
+use Rattle.std.specs.Prelude.{ℕ, suc, ◌+◌, ◌-◌, ◌≤◌, ◌<◌, Bool, true, false, ◌&&◌, ◌||◌, not, ◌≡◌, List, length, nat_le, ◌==◌, slice_index, count_by}
 use Rattle.std.specs.List.{list_any, range_with_len}
 use Rattle.words.specs.lists.Sequences.{over}
 use Rattle.text.specs.declared.frames.sizes.TheConstants.{LABELS}
 use Rattle.text.specs.frames.Frame.{field}
-use Rattle.image.specs.declared.layout.TheConstants.{FUNCTION_BIT, NEXT}
-use Rattle.image.specs.Decode.{last_label, row_in_frame}
+use Rattle.image.specs.declared.layout.TheConstants.{FROM, FUNCTION_BIT, NEXT}
+use Rattle.image.specs.Decode.{last_label, rows_from, row_in_frame}
 use Rattle.image.specs.inner.Sound.{SoundImage}
 use Rattle.tables.specs.Table.{table_label, first_on, end_on, row_on, table_image}
 use Rattle.covering.specs.Matched.{is_uneven, is_together}
 use Rattle.grouping.specs.declared.parting.TheConstants.{MANY}
 use Rattle.grouping.specs.Classes.{has_same_fields, class_of, classes}
 
--- a table of a sound image to which 23 does not apply, with a function bit only in the rows of a function call's label
+-- a table of a sound image to which 23 does not apply, with a function bit only in the rows of a function call's label, and in each row the
+-- label that has it
 pub record Even (b : List ℕ) : Type 0 where
   pub sound : SoundImage (table_image b)
   pub bits : (l f : ℕ) → 2 ≤ l → l ≤ last_label b → first_on b l ≤ f → f < end_on b l → (row_on b l f).bit ≡ field b f FUNCTION_BIT
+  pub own : (l f : ℕ) → 2 ≤ l → l ≤ last_label b → first_on b l ≤ f → f < end_on b l → field b f FROM ≡ l
+  pub behind : (l : ℕ) → 2 ≤ l → l ≤ last_label b → rows_from b ≤ first_on b l
   pub covered : is_uneven (table_image b) ≡ false
 
 -- a buffer that begins with the classes of labels 0 to M
@@ -65,33 +68,36 @@ is_parted_in b c marks least m first end =
 abbrev pub is_parted_by : List ℕ → List ℕ → List ℕ → ℕ → ℕ → ℕ → Bool
 is_parted_by b c marks least m l = is_parted_in b c marks least m (first_on b l) (end_on b l)
 
--- no row of label l leads to a marked label
-abbrev pub Unmarked : List ℕ → List ℕ → ℕ → Type 0
-Unmarked b marks l = list_any (has_marked_next b marks 1) (range_with_len (first_on b l) (end_on b l - first_on b l)) ≡ false
+-- the second buffer has at labels from 2 up to n at least the mark of each label that their rows lead to
+abbrev pub Noted : List ℕ → List ℕ → ℕ → List ℕ → Type 0
+Noted b marks n touched = (l f : ℕ) → 2 ≤ l → l < n → first_on b l ≤ f → f < end_on b l
+    → slice_index marks (field b f NEXT) ≤ slice_index touched l
 
 -- Which rows a round need look at: where rows part labels m and l of one class, that of m leads to a marked label, or that of l to one with
--- mark 2. A label with 0 in the second buffer has no row to a marked label.
+-- mark 2.
 pub record Marks (b c marks touched : List ℕ) : Type 0 where
   pub long : length marks ≡ LABELS
   pub room : length touched ≡ LABELS
   pub seen : (m l f g : ℕ) → 2 ≤ m → m ≤ last_label b → 2 ≤ l → l ≤ last_label b → slice_index c m ≡ slice_index c l
       → first_on b m ≤ f → f < end_on b m → first_on b l ≤ g → g < end_on b l → is_parting_in b c f g ≡ true
       → (has_marked_next b marks 1 f || has_marked_next b marks 2 g) ≡ true
-  pub untouched : (l : ℕ) → 2 ≤ l → l ≤ last_label b → slice_index touched l ≡ 0 → Unmarked b marks l
+  pub noted : Noted b marks (last_label b + 1) touched
 
--- the second of these buffers, for labels below n
-pub record Touched (b marks : List ℕ) (n : ℕ) (touched : List ℕ) : Type 0 where
-  pub long : length touched ≡ LABELS
-  pub none : (l : ℕ) → 2 ≤ l → l < n → slice_index touched l ≡ 0 → Unmarked b marks l
-
--- of the labels of one former class, those with a mark below 2 are in one class: the one that is kept for it
-pub record KeptClasses (n : ℕ) (former c kept marks : List ℕ) : Type 0 where
+-- of the labels of one former class, those with a mark below 2 are in one class
+pub record KeptClasses (n : ℕ) (former c marks : List ℕ) : Type 0 where
   pub long : length marks ≡ LABELS
-  pub one : (l : ℕ) → l < n → slice_index marks l < 2 → slice_index c l ≡ slice_index kept (slice_index former l)
+  pub one : (l m : ℕ) → l < n → m < n → slice_index former l ≡ slice_index former m → slice_index marks l < 2 → slice_index marks m < 2
+      → slice_index c l ≡ slice_index c m
 
 -- label m is of the same class as label l, the lowest of its next class, and not parted from l
 abbrev pub is_class_leader : List ℕ → List ℕ → List ℕ → ℕ → ℕ → Bool
 is_class_leader b c next l m = slice_index c m == slice_index c l && slice_index next m == m && not (is_parted_on b c m l)
+
+-- what a round knows of the lowest label of l's class: it is no higher than l and in that class, and below l it leads its next class too
+pub record Lowest (classes next : List ℕ) (l : ℕ) : Type 0 where
+  pub below : slice_index classes l ≤ l
+  pub own : slice_index classes (slice_index classes l) ≡ slice_index classes l
+  pub leads : slice_index classes l < l → slice_index next (slice_index classes l) ≡ slice_index classes l
 
 -- a buffer with the classes after some round
 pub record Refined (b buffer : List ℕ) : Type 0 where

@@ -1,5 +1,6 @@
 -- The parts of each class after a round: how many labels each has, the largest one, and the marks of all others.
-use Rattle.std.specs.Prelude.{ℕ, zero, suc, ◌+◌, ◌≡◌, List, set, if◌then◌else◌, nat_lt, ◌==◌, slice_index}
+use Rattle.std.specs.Prelude.{ℕ, zero, suc, ◌+◌, ◌≡◌, Bool, true, false, ◌&&◌, not, List, set, if◌then◌else◌, nat_lt, ◌==◌, slice_index}
+use Rattle.std.specs.List.{list_any, range_with_len}
 
 -- a buffer after one write for each label from 0 up to n
 unfoldable pub labelled : (ℕ → ℕ) → (ℕ → List ℕ → ℕ) → ℕ → List ℕ → List ℕ
@@ -34,7 +35,21 @@ abbrev pub mark_others : List ℕ → List ℕ → List ℕ → ℕ → List ℕ
 mark_others classes next kept = labelled (λ l. l) (λ l _. mark_of (slice_index next l) (slice_index kept (slice_index classes l)))
 
 -- what the three buffers then hold
-pub record PartsMarked (classes next marks₀ counts₀ kept₀ : List ℕ) (n : ℕ) (marks counts kept : List ℕ) : Type 0 where
+pub record LargestKept (classes next marks₀ counts₀ kept₀ : List ℕ) (n : ℕ) (marks counts kept : List ℕ) : Type 0 where
   pub counted : counts ≡ count_members next n counts₀
   pub largest : kept ≡ keep_largest classes next counts n kept₀
   pub others : marks ≡ mark_others classes next kept n marks₀
+
+-- label l left its class and is not the lowest of its next one
+abbrev pub is_led_away : List ℕ → List ℕ → ℕ → Bool
+is_led_away classes next l = not (slice_index next l == slice_index classes l) && not (slice_index next l == l)
+
+-- 2 for a label that left its class, else 0
+abbrev pub mark_left : List ℕ → List ℕ → ℕ → List ℕ → List ℕ
+mark_left classes next = labelled (λ l. l) (λ l _. mark_of (slice_index next l) (slice_index classes l))
+
+-- Where each label that left its class is alone since, just these are marked, and the other buffers are not needed.
+pub record PartsMarked (classes next marks₀ counts₀ kept₀ : List ℕ) (n : ℕ) (marks counts kept : List ℕ) : Type 0 where
+  pub alone : list_any (is_led_away classes next) (range_with_len 0 n) ≡ false → marks ≡ mark_left classes next n marks₀
+  pub together : list_any (is_led_away classes next) (range_with_len 0 n) ≡ true
+      → LargestKept classes next marks₀ counts₀ kept₀ n marks counts kept

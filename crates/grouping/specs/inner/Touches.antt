@@ -1,24 +1,30 @@
 -- Which labels have a row to a marked label, and what a round leaves for the next.
-use Rattle.std.specs.Prelude.{ℕ, ◌+◌, ◌-◌, ◌≡◌, List, map, if◌then◌else◌}
-use Rattle.std.specs.List.{list_any, range_with_len}
-use Rattle.words.specs.lists.Numbers.{range}
-use Rattle.words.specs.lists.Sequences.{written}
-use Rattle.image.specs.Decode.{last_label}
-use Rattle.tables.specs.Table.{first_on, end_on}
-use Rattle.grouping.specs.inner.GroupingContracts.{has_marked_next, Marks}
+use Rattle.std.specs.Prelude.{ℕ, zero, suc, ◌+◌, ◌-◌, ◌≡◌, List, set, replicate, if◌then◌else◌, nat_lt, slice_index}
+use Rattle.text.specs.declared.frames.sizes.TheConstants.{LABELS}
+use Rattle.text.specs.frames.Frame.{field}
+use Rattle.image.specs.declared.layout.TheConstants.{FROM, NEXT}
+use Rattle.image.specs.Decode.{last_label, rows_from}
+use Rattle.tables.specs.Table.{table_end}
+use Rattle.grouping.specs.inner.GroupingContracts.{Marks}
 use Rattle.grouping.specs.inner.Parts.{PartsMarked}
 
--- 1 where a row in the frames from first up to end leads to a marked label, else 0
-abbrev pub touch_in : List ℕ → List ℕ → ℕ → ℕ → ℕ
-touch_in b marks first end = if list_any (has_marked_next b marks 1) (range_with_len first (end - first)) then 1 else 0
+-- a label's note, raised to a mark
+abbrev pub raised : List ℕ → ℕ → ℕ → List ℕ
+raised touched label mark = if nat_lt (slice_index touched label) mark then set touched label mark else touched
 
--- the notes of labels 2 to M
-abbrev pub touches : List ℕ → List ℕ → List ℕ → List ℕ
-touches b marks old = written old 2 (map (λ k. touch_in b marks (first_on b (2 + k)) (end_on b (2 + k))) (range 0 (last_label b - 1)))
+-- the notes after so many rows
+unfoldable pub notes_after : List ℕ → List ℕ → ℕ → List ℕ
+notes_after b marks zero = replicate LABELS 0
+notes_after b marks (suc k) =
+    let f = rows_from b + k in raised (notes_after b marks k) (field b f FROM) (slice_index marks (field b f NEXT))
+
+-- at each label the highest mark of those that its rows lead to
+abbrev pub notes : List ℕ → List ℕ → List ℕ
+notes b marks = notes_after b marks (table_end b - rows_from b)
 
 -- the buffers after a round, and that they are marks for the next; the buffer of notes has the counts first
 pub record RoundMarked (b classes next marks₀ touched₀ kept₀ marks touched kept : List ℕ) : Type 0 where
   pub counts : List ℕ
   pub parts : PartsMarked classes next marks₀ touched₀ kept₀ (last_label b + 1) marks counts kept
-  pub noted : touched ≡ touches b marks counts
+  pub noted : touched ≡ notes b marks
   pub marked : Marks b next marks touched

@@ -27,13 +27,13 @@ use Rattle.covering.proofs.Hits.{one-row}
 use Rattle.grouping.specs.Classes.{class_of, is_first, grouping}
 use Rattle.grouping.proofs.Rounds.{ClassRound, group-round}
 use Rattle.minimising.specs.group_numbers.Smaller.{renumbered_label, renumbered_row, joined_labels, smaller_image}
-use Rattle.minimising.specs.group_numbers.inner.NumberContracts.{LowestOfClass, group_numbers}
+use Rattle.minimising.specs.inner.NumberContracts.{LowestOfClass, group_numbers}
 use Rattle.minimising.proofs.group_numbers.NumberCases.{number-at}
 use Rattle.minimising.proofs.group_numbers.Numbering.{joined-sound}
-use Rattle.minimising.specs.group_pieces.inner.Pieces.{groups_in, rows_kept, all_pieces}
-use Rattle.minimising.specs.group_pieces.inner.TextContracts.{NumberedGroups}
+use Rattle.minimising.specs.inner.Pieces.{groups_in, rows_kept, all_pieces}
+use Rattle.minimising.specs.inner.TextContracts.{NumberedGroups}
 use Rattle.minimising.proofs.group_text.PieceLaws.{groups-are, rows-are, entries-are, pieces-are}
-use Rattle.minimising.specs.group_image.inner.WriteContracts.{Grouped, smaller_outcome}
+use Rattle.minimising.specs.inner.WriteContracts.{Grouped, smaller_outcome}
 
 -- what is counted before anything is written
 pub record CountedFirst (b buffer numbers : List ℕ) (schemes groups rows : ℕ) : Type 0 where

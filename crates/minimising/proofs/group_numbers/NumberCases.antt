@@ -12,7 +12,7 @@ use Rattle.std.proofs.Math.ListN.{get_or-append}
 use Rattle.words.proofs.lists.Counts.{count-snoc, count-le}
 use Rattle.grouping.specs.Classes.{is_first}
 use Rattle.minimising.specs.group_numbers.Smaller.{renumbered_label}
-use Rattle.minimising.specs.group_numbers.inner.NumberContracts.{LowestOfClass, group_numbers}
+use Rattle.minimising.specs.inner.NumberContracts.{LowestOfClass, group_numbers}
 
 less-of : (a b : ℕ) → a ≤ b → (a ≡ b → ⊥) → a < b
 less-of a b k ne = grind (arith, common_steps)

@@ -12,13 +12,13 @@ use Rattle.image.specs.Check.{label_position, position_of}
 use Rattle.image.specs.inner.Sound.{SoundRow}
 use Rattle.image.proofs.Accepted.{entries-count, labels-count, rows-count, entry-read, row-read, position-of-entry, position-of-label}
 use Rattle.image.proofs.Accepted.{position-of-row}
-use Rattle.translator.specs.label_text.inner.LabelBytes.{header_bytes, up_to, Put}
+use Rattle.translator.specs.inner.LabelBytes.{header_bytes, up_to, Put}
 use Rattle.translator.proofs.label_text.Puts.{Appended, appended-start, appended-room, appended-on, appended-done}
 use Rattle.grouping.specs.Classes.{is_first}
 use Rattle.minimising.specs.group_numbers.Smaller.{renumbered_row}
-use Rattle.minimising.specs.group_frames.inner.GroupFrames.{header_piece, row_numbered_by}
-use Rattle.minimising.specs.group_pieces.inner.Pieces.{groups_in, rows_kept, piece_at, piece, all_pieces}
-use Rattle.minimising.specs.group_pieces.inner.TextContracts.{NumberedGroups}
+use Rattle.minimising.specs.inner.GroupFrames.{header_piece, row_numbered_by}
+use Rattle.minimising.specs.inner.Pieces.{groups_in, rows_kept, piece_at, piece, all_pieces}
+use Rattle.minimising.specs.inner.TextContracts.{NumberedGroups}
 use Rattle.image.specs.Decode as decode
 
 -- ---- a piece that is one frame

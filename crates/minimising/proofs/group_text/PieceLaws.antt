@@ -17,7 +17,7 @@ use Rattle.image.specs.Check.{label_position, position_of}
 use Rattle.image.proofs.Accepted.{entries-count, labels-count, label-read, position-of-entry, position-of-label, position-of-row}
 use Rattle.grouping.specs.Classes.{is_first}
 use Rattle.minimising.specs.group_numbers.Smaller.{renumbered_label, renumbered_row, joined_labels}
-use Rattle.minimising.specs.group_pieces.inner.Pieces.{groups_in, rows_kept, piece_at, piece}
+use Rattle.minimising.specs.inner.Pieces.{groups_in, rows_kept, piece_at, piece}
 use Rattle.state.specs.State as machine
 
 -- ---- joined lists over ranges

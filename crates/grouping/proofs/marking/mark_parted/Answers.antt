@@ -5,5 +5,5 @@ use Rattle.grouping.proofs.marking.mark_parted.Goals as goal
 
 pub returns : goal.returns
 returns c =
-    round-marked _ c.requires.even _ _ c.requires.advanced _ (omega (arith, c.args.table.last_read)) (omega arith) c.told-marks c.told-touched
+    round-marked _ c.requires.even c.args.table.small _ _ c.requires.advanced _ (omega (arith, c.args.table.last_read)) (omega arith) c.told-marks
     c.mark_parts.ensures _ c.touch.ensures

@@ -1,14 +1,13 @@
--- `grouping::marking::touch` meets its contract: it holds of the labels before l.
-use Rattle.std.proofs.Common.{arith}
-use Rattle.std.proofs.lemmas.Grind.{common_steps}
-use Rattle.grouping.proofs.Touches.{touching-start, touching-turn}
+-- `grouping::marking::touch` meets its contract: it holds of the rows before frame f.
+use Rattle.std.proofs.Common.{arith, refl}
+use Rattle.grouping.proofs.Touches.{touching-start, touching-turn, touching-all}
 use Rattle.grouping.proofs.marking.touch.Goals as goal
 
-pub loop-l-init : goal.loop-l-init
-loop-l-init c = touching-start _ _ _
+pub loop-f-init : goal.loop-f-init
+loop-f-init c = touching-start _ _ _ _ refl c.rows_from-f.ensures
 
-pub loop-l-preserved : goal.loop-l-preserved
-loop-l-preserved c =
-    touching-turn _ _ _ (omega (arith, c.told-touched, c.args.table.small 2)) _ _ _ _ _ c.loop-l.invariant
-    (omega (arith, c.args.table.last_read, c.loop-l-test.true)) c.first_of-first.ensures c.end_of-end.ensures
-    (grind (arith, common_steps))
+pub loop-f-preserved : goal.loop-f-preserved
+loop-f-preserved c = touching-turn _ _ _ _ _ _ _ c.loop-f.invariant c.byte-label.ensures c.byte-next.ensures c.raise.ensures
+
+pub returns : goal.returns
+returns c = touching-all _ _ _ _ c.loop-f.invariant (omega (arith, c.args.table.frames_read)) (omega (arith, c.args.table.frames_read))

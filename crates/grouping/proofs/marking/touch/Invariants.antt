@@ -1,6 +1,6 @@
--- `grouping::marking::touch` meets its contract: it holds of the labels before l.
+-- `grouping::marking::touch` meets its contract: it holds of the rows before frame f.
 use Rattle.grouping.proofs.Touches.{Touching}
 use Rattle.grouping.proofs.marking.touch.Given as goal
 
-abbrev pub invariant-loop-l : goal.invariant-loop-l
-invariant-loop-l l = Touching l.table.bytes.now l.marks l.fn.touched l.touched l.l
+abbrev pub invariant-loop-f : goal.invariant-loop-f
+invariant-loop-f l = Touching l.table.bytes.now l.marks l.touched l.f

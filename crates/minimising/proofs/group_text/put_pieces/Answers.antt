@@ -1,7 +1,7 @@
 -- `minimising::group_text::put_pieces` meets its contract: the pieces of the frames before f stand in the buffer.
 use Rattle.text.specs.frames.Frame.{size}
 use Rattle.translator.proofs.label_text.Puts.{Appended}
-use Rattle.minimising.specs.group_pieces.inner.Pieces.{piece}
+use Rattle.minimising.specs.inner.Pieces.{piece}
 use Rattle.minimising.proofs.group_pieces.PieceCases.{header-first, header-room, rest-room, rest-on, rest-all}
 use Rattle.std.proofs.Common.{rules}
 use Rattle.minimising.proofs.group_text.put_pieces.Goals as goal

@@ -1,5 +1,5 @@
 -- `minimising::group_text::put_pieces` meets its contract: the pieces of the frames before f stand in the buffer.
-use Rattle.minimising.specs.group_pieces.inner.Pieces.{piece}
+use Rattle.minimising.specs.inner.Pieces.{piece}
 use Rattle.minimising.proofs.group_pieces.PieceCases.{Rest}
 use Rattle.minimising.proofs.group_text.put_pieces.Given as goal
 

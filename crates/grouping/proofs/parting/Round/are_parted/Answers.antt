@@ -1,8 +1,7 @@
 -- `grouping::parting::Round::are_parted` meets its contract: rows to marked labels, of one label and then of the other, are enough.
-use Rattle.std.proofs.Common.{arith}
+use Rattle.std.proofs.Common.{arith, sym}
 use Rattle.std.proofs.lemmas.Grind.{common_steps}
-use Rattle.std.proofs.lemmas.Bool.Decides.{nat_tests}
-use Rattle.grouping.proofs.Marked.{by-none, parted-by}
+use Rattle.grouping.proofs.Marked.{unnoted-unparted, parted-by}
 use Rattle.grouping.proofs.parting.Round.are_parted.Goals as goal
 
 pub returns-then-are_parted_by : goal.returns-then-are_parted_by
@@ -14,8 +13,5 @@ returns-else-are_parted_by c = grind (arith, common_steps, parted-by _ _ _ _ c.a
 pub returns-then-self-l-eq0 : goal.returns-then-self-l-eq0
 returns-then-self-l-eq0 c =
     let self = c.args.self.now in
-    let first = by-none _ _ _ _ self.marked c.args.m c.args.l c.requires.one_low (omega (arith, c.requires.one_high, self.table.last_read))
-    c.if-self-m-eq0.true 1 (omega arith) in
-    let second = by-none _ _ _ _ self.marked c.args.l c.args.m c.requires.other_low
-    (omega (arith, c.requires.other_high, self.table.last_read)) c.if-self-l-eq0.true 2 (omega arith) in
-    grind (arith, nat_tests, first, second, parted-by _ _ _ _ self.marked c.args.m c.args.l)
+    sym (unnoted-unparted _ _ _ _ self.marked _ _ c.requires.one_low (omega (arith, c.requires.one_high, self.table.last_read)) c.requires.other_low
+    (omega (arith, c.requires.other_high, self.table.last_read)) c.requires.one_class c.if-self-m-eq0.true c.if-self-l-eq0.true)

@@ -3,7 +3,7 @@ use Rattle.std.proofs.Common.{arith}
 use Rattle.grouping.proofs.Marked.{by-none}
 use Rattle.grouping.proofs.parting.Round.are_parted_by.Goals as goal
 
-pub returns-then-self-m-eq0 : goal.returns-then-self-m-eq0
-returns-then-self-m-eq0 c =
+pub returns-then-self-m : goal.returns-then-self-m
+returns-then-self-m c =
     let self = c.args.self.now in
-    by-none _ _ _ _ self.marked _ _ c.requires.one_low (omega (arith, c.requires.one_high, self.table.last_read)) c.if-self-m-eq0.true _ c.requires.least_marked
+    by-none _ _ _ _ self.marked _ _ c.requires.one_low (omega (arith, c.requires.one_high, self.table.last_read)) _ c.if-self-m.true

@@ -2,7 +2,7 @@
 use Rattle.std.specs.Prelude.{ℕ, ◌-◌, List, slice_index}
 use Rattle.text.specs.frames.Frame.{frame_text}
 use Rattle.image.specs.Image.{Row}
-use Rattle.translator.specs.label_text.inner.LabelBytes.{header_bytes}
+use Rattle.translator.specs.inner.LabelBytes.{header_bytes}
 
 abbrev pub header_piece : ℕ → ℕ → ℕ → ℕ → List ℕ
 header_piece schemes groups rows handler = frame_text (header_bytes schemes (groups - 1) rows handler)

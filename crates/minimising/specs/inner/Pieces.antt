@@ -6,10 +6,10 @@ use Rattle.image.specs.declared.layout.TheConstants.{FROM}
 use Rattle.image.specs.Image.{entry_frame, label_frame, row_frame}
 use Rattle.image.specs.Decode.{scheme_count, last_label, row_count, handler_in, rows_from, entry_in, label_in, row_in}
 use Rattle.image.specs.Check.{Position, header_position, entry_position, label_position, row_position, position_of}
-use Rattle.translator.specs.label_text.inner.LabelBytes.{up_to}
+use Rattle.translator.specs.inner.LabelBytes.{up_to}
 use Rattle.grouping.specs.Classes.{is_first}
 use Rattle.minimising.specs.group_numbers.Smaller.{renumbered_label, renumbered_row}
-use Rattle.minimising.specs.group_frames.inner.GroupFrames.{header_piece}
+use Rattle.minimising.specs.inner.GroupFrames.{header_piece}
 
 -- how many labels and rows are kept
 abbrev pub groups_in : List ℕ → List ℕ → ℕ

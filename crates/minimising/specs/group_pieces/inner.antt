@@ -1,2 +1,0 @@
-pub mod TextContracts
-pub mod Pieces
