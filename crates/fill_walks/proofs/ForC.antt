@@ -6,7 +6,7 @@ use Rattle.text.specs.frames.Answer.{success}
 use Rattle.fillings.specs.Counts.{lists, count_fillings}
 use Rattle.fillings.specs.Promises.{SumsUp}
 use Rattle.fillings.proofs.Sums.{sums-up}
-use Rattle.fairleadow.specs.fillings_for_c.Calls.{GivesFillingsC}
+use Rattle.fairleadow.specs.FillingsForC.{GivesFillingsC}
 use Rattle.agreement.proofs.Numbers.{counts-success}
 use Rattle.fill_walks.specs.Promises.{ByTheWalk}
 use Rattle.fill_walks.specs.ForC.{ByTheWalkC}

@@ -6,7 +6,7 @@ use Rattle.text.specs.frames.Frame.{contents}
 use Rattle.text.specs.frames.Answer.{success}
 use Rattle.translator.specs.Entry.{translate}
 use Rattle.fillings.specs.Counts.{words_of, lists, count_fillings}
-use Rattle.fairleadow.specs.fillings_for_c.Calls.{GivesFillingsC}
+use Rattle.fairleadow.specs.FillingsForC.{GivesFillingsC}
 use Rattle.fill_walks.specs.Promises.{is_walk_too_deep}
 
 abbrev pub SumsUpC : Type 0

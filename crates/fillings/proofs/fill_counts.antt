@@ -1,2 +1,3 @@
 pub mod Shares
 pub mod TallyTurns
+pub mod Zeros

@@ -4,8 +4,8 @@ ghost use Rattle.tables.specs.Table.{table_image};
 ghost use Rattle.state.specs.State.{fresh, is_bad_size};
 ghost use Rattle.state.specs.Kept.{view};
 ghost use Rattle.fillings.specs.Counts.{has_too_many_lists, count_fillings};
-ghost use Rattle.fillings.specs.fill_counts.inner.TallyContracts.{tally_of};
-ghost use Rattle.fillings.specs.counting.CountingContracts.{GivesFillings};
+ghost use Rattle.fillings.specs.inner.TallyContracts.{tally_of};
+ghost use Rattle.fillings.specs.CountingContracts.{GivesFillings};
 
 use crate::fill_counts::{Tally, all_meet, tally_one};
 use crate::fill_lists::tally_all;

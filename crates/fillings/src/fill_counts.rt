@@ -1,14 +1,15 @@
 // How runs end, in tallies: lists that all end alike, the last words of lists, and one list of words that all are 0.
+ghost use Rattle.std.specs.Bool.{Decides};
 ghost use Rattle.std.specs.Prelude.{◌≡◌, ◌*◌, ◌^◌, ◌≤◌, false};
 ghost use Rattle.words.specs.lists.Numbers.{count};
 ghost use Rattle.tables.specs.Table.{table_image};
 ghost use Rattle.rows.specs.inner.Search.{Deciding};
 ghost use Rattle.state.specs.Kept.{view};
 ghost use Rattle.fitness.specs.Fitness.{has_bad_depth};
-ghost use Rattle.fillings.specs.fill_counts.inner.TallyContracts.{tally_of, number_met_by, all_meet, tally_sum, tally_times, last_tally, FewLists, FewMore, is_taking};
+ghost use Rattle.fillings.specs.inner.TallyContracts.{tally_of, number_met_by, all_meet, tally_sum, tally_times, last_tally, FewLists, FewMore, is_taking};
 
 use rows::row_search::takes_row;
-use runs::tick_word;
+use runs::{RunEnd, tick_all};
 use state::State;
 use tables::Table;
 use ticks::Stop;
@@ -91,17 +92,48 @@ pub fn tally_last(table: &Table, leaving: Leaving, k: usize, each: u32, tally: &
     tally.unmatched += each * (words - matching);
 }
 
-/// Words that all are 0: one list, tick by tick.
+// So many words a run, and no more: their masks and codes lie on the stack.
+const BLOCK: usize = 64;
+
+// Whether two states are the same, byte by byte.
+fn is_same(one: &State, other: &State) -> bool
+    ensures { Decides result (one.now ≡ other.now) }
+{
+    one.depth == other.depth
+        && one.places == other.places
+        && one.results == other.results
+        && one.serving == other.serving
+        && one.numbers == other.numbers
+        && one.servers == other.servers
+        && one.size == other.size
+}
+
+/// Words that all are 0: one list, run by run. What a tick of theirs does depends on the state alone, so that none is stopped once a state
+/// comes again. After each run the state is compared with an earlier one, that after 1, 2, 4, 8, .. runs.
+// called and not taken in: so its rooms are not on the stack where other lists are counted
+#[inline(never)]
 pub fn tally_one(table: &Table, start: State, n: usize) -> Tally
     requires { has_bad_depth (view start) ≡ false }
     ensures { result ≡ tally_of (table_image table.now.bytes.now) (view start) n 0 }
 {
+    let words = [0u16; BLOCK];
+    let mut masks = [0u32; BLOCK];
+    let mut codes = [0u8; BLOCK];
     let mut state = start;
-    let mut left = n;
-    while 0 < left {
-        match tick_word(table, &mut state, 0) {
-            Ok(_) => left -= 1,
-            Err(stop) => return all_meet(Some(stop), 1),
+    let mut kept = start;
+    let mut done: usize = 0;
+    while done < n {
+        let more = BLOCK.min(n - done);
+        match tick_all(table, &mut state, &words[..more], &mut masks, &mut codes) {
+            RunEnd::Over(_) => done += more,
+            RunEnd::Full(_) => return all_meet(Some(Stop::Full), 1),
+            RunEnd::NoRow(_) => return all_meet(Some(Stop::NoRow), 1),
+        }
+        if is_same(&state, &kept) {
+            return all_meet(None, 1);
+        }
+        if done.is_power_of_two() {
+            kept = state;
         }
     }
     all_meet(None, 1)

@@ -4,8 +4,8 @@ ghost use Rattle.tables.specs.Table.{table_image};
 ghost use Rattle.state.specs.Kept.{view};
 ghost use Rattle.fitness.specs.Fitness.{has_bad_depth};
 ghost use Rattle.fillings.specs.Counts.{lists};
-ghost use Rattle.fillings.specs.fill_counts.inner.TallyContracts.{tally_of, tally_sum, tally_times, FewMore};
-ghost use Rattle.fillings.specs.fill_lists.inner.Forks.{fork};
+ghost use Rattle.fillings.specs.inner.TallyContracts.{tally_of, tally_sum, tally_times, FewMore};
+ghost use Rattle.fillings.specs.inner.Forks.{fork};
 
 use crate::fill_counts::{Tally, add_lists, power, tally_last};
 use runs::tick_word;

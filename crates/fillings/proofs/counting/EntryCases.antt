@@ -19,8 +19,8 @@ use Rattle.state.specs.Kept.{view, stored}
 use Rattle.state.proofs.Stored.{state-back}
 use Rattle.fillings.specs.Counts.{has_too_many_lists, count_verdict, count_fillings}
 use Rattle.fillings.specs.declared.fill_counts.Tally.{Tally}
-use Rattle.fillings.specs.fill_counts.inner.TallyContracts.{tally_of}
-use Rattle.fillings.specs.counting.CountingContracts.{GivesFillings}
+use Rattle.fillings.specs.inner.TallyContracts.{tally_of}
+use Rattle.fillings.specs.CountingContracts.{GivesFillings}
 
 -- ---- 28
 pub many-not : (n k : ℕ) → has_too_many_lists n k ≡ false → n * k ≤ 16

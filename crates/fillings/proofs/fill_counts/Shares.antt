@@ -15,7 +15,7 @@ use Rattle.ticks.specs.declared.leaving.Leaving.{Leaving}
 use Rattle.ticks.specs.inner.Leaves.{number_got, LeavesBy}
 use Rattle.runs.specs.Run.{run_after, ticks}
 use Rattle.fillings.specs.Counts.{words_of, lists, number_of, number_met, count_meeting}
-use Rattle.fillings.specs.fill_counts.inner.TallyContracts.{is_taking}
+use Rattle.fillings.specs.inner.TallyContracts.{is_taking}
 use Rattle.fillings.proofs.Lists.{lists-suc}
 
 -- ---- a * b numbers, by what they leave over b
@@ -39,7 +39,7 @@ abbrev pub share : Image → ℕ → ℕ → ℕ → MachineTick → ℕ
 share i n k number (finished m c t) = count_meeting i t n k number
 share i n k number (stopped m) = if m == number then lists n k else 0
 
-all-or-none : (b : Bool) (m : ℕ) → count (λ q. b) 0 m ≡ (if b then m else 0)
+pub all-or-none : (b : Bool) (m : ℕ) → count (λ q. b) 0 m ≡ (if b then m else 0)
 all-or-none true m = count-all 0 m
 all-or-none false m = count-none (λ q. false) 0 m (λ k l h. refl)
 
@@ -116,16 +116,11 @@ module _ (b : List ℕ) (s : State) (k : ℕ) (x : Leaving) (y : LeavesBy b s x)
   met_by number t = if (if t then 0 else 18) == number then 1 else 0
 
   last-meets : (number : ℕ) → count_meeting (table_image b) s 1 k number ≡ sum (λ w. met_by number (is_taking b x w)) 0 (2 ^ k)
-  last-meets number =
-      meeting-more (table_image b) s 0 k number
-      ∙ sum-same (λ w. share (table_image b) 0 k number (tick (table_image b) s w)) (λ w. met_by number (is_taking b x w)) 0 (2 ^ k)
-      (λ w a l. share-last (table_image b) k number (tick (table_image b) s w) ∙ ap (λ (m : ℕ). if m == number then 1 else 0) (y.ends w))
+  last-meets number = grind (arith, common_steps, sum-same, meeting-more, share-last)
 
   by-each : (number : ℕ) (f : Bool → ℕ) → ((t : Bool) → met_by number t ≡ f t)
       → count_meeting (table_image b) s 1 k number ≡ sum (λ w. f (is_taking b x w)) 0 (2 ^ k)
-  by-each number f e =
-      last-meets number
-      ∙ sum-same (λ w. met_by number (is_taking b x w)) (λ w. f (is_taking b x w)) 0 (2 ^ k) (λ w a l. e (is_taking b x w))
+  by-each number f e = grind (arith, common_steps, sum-same, last-meets)
 
   pub last-ended : count_meeting (table_image b) s 1 k 0 ≡ count (is_taking b x) 0 (2 ^ k)
   last-ended = by-each 0 (λ t. if t then 1 else 0) (elim [ true ↦ refl | false ↦ refl ]) ∙ sum-count (is_taking b x) 0 (2 ^ k)

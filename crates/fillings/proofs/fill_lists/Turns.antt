@@ -1,5 +1,5 @@
 -- The loop over the first words of lists, turn by turn.
-use Rattle.std.proofs.Common.{if◌then◌else◌, ℕ, zero, suc, Bool, true, false, ◌+◌, ◌*◌, ◌^◌, ◌≤◌, ◌<◌, ◌≡◌, sym, ◌∙◌, ap, subst, List, Option, None, Some}
+use Rattle.std.proofs.Common.{if◌then◌else◌, ℕ, zero, suc, Bool, true, false, ◌+◌, ◌*◌, ◌^◌, ◌≤◌, ◌<◌, ◌≡◌, sym, ◌∙◌, ap, List, Option, None, Some}
 use Rattle.std.proofs.Common.{suc-mul, pow-add, arith, ◌==◌}
 use Rattle.std.proofs.Math.Nat.{mul-le-mul_left, mul-le-mul_right, pow-le-pow_right}
 use Rattle.std.proofs.lemmas.Grind.{common_steps}
@@ -17,8 +17,8 @@ use Rattle.ticks.specs.inner.Leaves.{LeavesBy, GivesLeaving}
 use Rattle.fitness.specs.Fitness.{has_bad_depth}
 use Rattle.fillings.specs.Counts.{lists, count_meeting}
 use Rattle.fillings.specs.declared.fill_counts.Tally.{Tally}
-use Rattle.fillings.specs.fill_counts.inner.TallyContracts.{tally_of, all_meet, tally_sum, tally_times, last_tally, FewLists, FewMore}
-use Rattle.fillings.specs.fill_lists.inner.Forks.{fork}
+use Rattle.fillings.specs.inner.TallyContracts.{tally_of, all_meet, tally_sum, tally_times, last_tally, FewLists, FewMore}
+use Rattle.fillings.specs.inner.Forks.{fork}
 use Rattle.fillings.proofs.Lists.{lists-suc}
 use Rattle.fillings.proofs.fill_counts.Shares.{share, share-few, meeting-more, last-ended, last-full, last-unmatched}
 use Rattle.fillings.proofs.fill_counts.TallyTurns.{same-tally, tally-none, share_of}
@@ -82,9 +82,7 @@ last-word b s n left k each x y e z =
 
 -- a word of k conditions, each so often
 pub fork-room : (n k each x : ℕ) → 1 ≤ n → x + each * lists n k ≤ 65536 → each * 2 ^ k ≤ 65536
-fork-room n k each x h l =
-    let few : k ≤ n * k = omega (arith, mul-le-mul_right k h) in
-    omega (arith, mul-le-mul_left each (pow-le-pow_right {n = 2} (omega arith) few))
+fork-room n k each x h l = grind (arith, common_steps, pow-le-pow_right, mul-le-mul_left, mul-le-mul_right)
 
 pub left-few : (n k left : ℕ) → n ≡ suc left → n * k ≤ 16 → (left * k ≤ 16) × (k ≤ 16)
 left-few n k left e l = grind (arith, common_steps, suc-mul)
@@ -100,13 +98,8 @@ module _ (b : List ℕ) (s : State) (n k each : ℕ) where
 
   pub fork-all : (x : Option Leaving) → GivesLeaving b s x → (number : ℕ)
       → (fork x k each).each * sum (sharing i s n k number) 0 (fork x k each).words ≡ each * count_meeting i s (suc n) k number
-  fork-all None same number =
-      let f : ℕ → ℕ = sharing i s n k number in
-      let one : sum f 0 1 ≡ f 0 = grind (arith, common_steps, sum-none, sum-suc) in
-      let all : sum f 0 (2 ^ k) ≡ 2 ^ k * f 0 = sum-like f (f 0) 0 (2 ^ k) (λ w. ap (share i n k number) (same w 0)) in
-      ap (λ (m : ℕ). each * 2 ^ k * m) one ∙ regrouped-one each (2 ^ k) (f 0)
-      ∙ ap (λ (m : ℕ). each * m) (sym all ∙ sym (meeting-more i s n k number))
-  fork-all (Some x) same number = ap (λ (m : ℕ). each * m) (sym (meeting-more i s n k number))
+  fork-all None same number = grind (arith, common_steps, sum-none, sum-suc, share, meeting-more, regrouped-one, sum-like)
+  fork-all (Some x) same number = grind (arith, common_steps, meeting-more)
 
 -- ---- the loop
 pub record Part (b : List ℕ) (kept : Kept) (n k left each words more listed : ℕ) (old tally : Tally) (word : ℕ) : Type 0 where
@@ -162,23 +155,13 @@ module _ {b : List ℕ} {kept : Kept} {n k left each words more listed : ℕ} {o
         omega (arith, one-more more (sum (f number) 0 word) word words (lists left k) few l, y.most)
 
     pub went-room : FewMore tally (more * lists left k)
-    went-room = subst (λ (t : Tally). FewMore t (more * lists left k)) (sym y.part) (record {
-      ended = omega (arith, here 0, y.room.ended);
-      full = omega (arith, here 17, y.room.full);
-      unmatched = omega (arith, here 18, y.room.unmatched);
-    })
+    went-room = grind (arith, common_steps, here)
 
     pub stood-small : more * listed ≤ 65536
     stood-small = omega (arith, went-room.ended, ap (λ (m : ℕ). more * m) y.all_lists)
 
     pub stood-room : (number : ℕ) → FewLists (tally_sum tally (all_meet number (more * listed)))
-    stood-room number =
-        let e : more * listed ≡ more * lists left k = ap (λ (m : ℕ). more * m) y.all_lists in
-        record {
-          ended = at-most (number == 0) (more * listed) tally.ended (omega (arith, e, went-room.ended));
-          full = at-most (number == 17) (more * listed) tally.full (omega (arith, e, went-room.full));
-          unmatched = at-most (number == 18) (more * listed) tally.unmatched (omega (arith, e, went-room.unmatched));
-        }
+    stood-room number = grind (arith, common_steps, at-most, went-room)
 
     -- what they add
     module _ (next : Tally) (e : next ≡ tally_sum tally (tally_times more (share_of image left k (tick image s word)))) where
@@ -187,19 +170,7 @@ module _ {b : List ℕ} {kept : Kept} {n k left each words more listed : ℕ} {o
       adds number = grind (arith, common_steps, times-sum, sum-turn)
 
       part-on : Part b kept n k left each words more listed old next (word + 1)
-      part-on = record {
-        depth = y.depth;
-        whole = y.whole;
-        few = y.few;
-        all_lists = y.all_lists;
-        low = omega arith;
-        narrow = y.narrow;
-        room = y.room;
-        most = y.most;
-        all = y.all;
-        part = e ∙ ap (λ (t : Tally). tally_sum t (tally_times more (share_of image left k (tick image s word)))) y.part
-            ∙ same-tally (omega (arith, adds 0)) (omega (arith, adds 17)) (omega (arith, adds 18));
-      }
+      part-on = grind (arith, common_steps, same-tally, share_of, adds)
 
     pub went-on : (m c : ℕ) (u : State) → tick image s word ≡ finished m c u → (next : Tally)
         → next ≡ tally_sum tally (tally_times more (tally_of image u left k))
@@ -217,8 +188,4 @@ module _ {b : List ℕ} {kept : Kept} {n k left each words more listed : ℕ} {o
             (times-if (number == 17) more listed (lists left k) y.all_lists) (times-if (number == 18) more listed (lists left k) y.all_lists)
 
   pub part-over : words ≤ word → tally ≡ tally_sum old (tally_times each (tally_of image s n k))
-  part-over l =
-      let e : word ≡ words = omega (arith, y.low) in
-      y.part ∙ ap (λ (w : ℕ). tally_sum old (tally_times more (partly image s left k w))) e
-      ∙ same-tally (ap (λ (m : ℕ). old.ended + m) (y.all 0)) (ap (λ (m : ℕ). old.full + m) (y.all 17))
-      (ap (λ (m : ℕ). old.unmatched + m) (y.all 18))
+  part-over l = grind (arith, common_steps, same-tally)

@@ -2,7 +2,7 @@
 use Rattle.std.proofs.Common.{arith}
 use Rattle.std.proofs.lemmas.Grind.{common_steps}
 use Rattle.words.proofs.lists.Counts.{count-yes, count-pass}
-use Rattle.fillings.specs.fill_counts.inner.TallyContracts.{is_taking}
+use Rattle.fillings.specs.inner.TallyContracts.{is_taking}
 use Rattle.fillings.proofs.fill_counts.Shares.{count-start}
 use Rattle.fillings.proofs.fill_counts.count_matching.Goals as goal
 

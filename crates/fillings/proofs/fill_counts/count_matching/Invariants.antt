@@ -1,7 +1,7 @@
 -- `fillings::fill_counts::count_matching` meets its contract: the words below one are counted.
 use Rattle.std.proofs.Common.{◌-◌, ◌≡◌, ◌≤◌}
 use Rattle.words.specs.lists.Numbers.{count}
-use Rattle.fillings.specs.fill_counts.inner.TallyContracts.{is_taking}
+use Rattle.fillings.specs.inner.TallyContracts.{is_taking}
 use Rattle.fillings.proofs.fill_counts.count_matching.Given as goal
 
 abbrev pub invariant-loop-word : goal.invariant-loop-word

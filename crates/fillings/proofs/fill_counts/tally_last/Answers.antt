@@ -1,7 +1,7 @@
 -- `fillings::fill_counts::tally_last` meets its contract: there is room for all last words.
 use Rattle.std.proofs.Common.{arith}
 use Rattle.words.proofs.lists.Counts.{count-le}
-use Rattle.fillings.specs.fill_counts.inner.TallyContracts.{is_taking}
+use Rattle.fillings.specs.inner.TallyContracts.{is_taking}
 use Rattle.fillings.proofs.fill_counts.Shares.{part-room}
 use Rattle.fillings.proofs.fill_counts.tally_last.Goals as goal
 

@@ -1,9 +1,10 @@
--- `fillings::fill_counts::tally_one` meets its contract: the words that are left tally as all of them do.
-use Rattle.fillings.proofs.fill_counts.TallyTurns.{One}
+-- `fillings::fill_counts::tally_one` meets its contract: none of the ticks that were made was stopped.
+use Rattle.std.proofs.Common.{◌-◌}
+use Rattle.fillings.proofs.fill_counts.Zeros.{Zeros}
 use Rattle.fillings.proofs.fill_counts.tally_one.Given as goal
 
-abbrev pub invariant-loop-left : goal.invariant-loop-left
-invariant-loop-left l = One l.table.bytes.now l.fn.start l.n l.state l.left
+abbrev pub invariant-loop-done : goal.invariant-loop-done
+invariant-loop-done l = Zeros l.table.bytes.now l.fn.start l.n l.kept l.state l.done
 
-abbrev pub decreases-loop-left : goal.decreases-loop-left
-decreases-loop-left l = l.left
+abbrev pub decreases-loop-done : goal.decreases-loop-done
+decreases-loop-done l = l.n - l.done

@@ -3,7 +3,7 @@ use Rattle.std.proofs.Common.{◌-◌, ◌∙◌, ap, arith, rules}
 use Rattle.tables.specs.Table.{table_image}
 use Rattle.state.specs.Kept.{view}
 use Rattle.ticks.proofs.TickCases.{stands-on}
-use Rattle.fillings.specs.fill_counts.inner.TallyContracts.{tally_sum}
+use Rattle.fillings.specs.inner.TallyContracts.{tally_sum}
 use Rattle.fillings.proofs.fill_lists.Turns.{over-none, last-word, fork-room, left-few, part-first, went-room, went-on, stood-small, stood-room, stood-on, part-over}
 use Rattle.fillings.proofs.fill_lists.+tally_all.Goals as goal
 

@@ -1,1 +1,2 @@
+pub mod Forks
 pub mod TallyContracts

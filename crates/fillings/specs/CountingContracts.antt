@@ -1,7 +1,7 @@
 -- What a function that counts how often the stack fills promises.
 use Rattle.std.specs.Prelude.{ℕ, ◌≡◌, Result, Ok, Err}
 use Rattle.text.specs.declared.frames.refusals.Refusal.{Refusal}
-use Rattle.text.specs.frames.Answer.{Reply, success, reply}
+use Rattle.text.specs.frames.Answer.{Reply, answer_reply}
 use Rattle.fillings.specs.Counts.{FillingsOutcome}
 use Rattle.fillings.specs.declared.fill_counts.Tally.{Tally}
 
@@ -9,9 +9,9 @@ use Rattle.fillings.specs.declared.fill_counts.Tally.{Tally}
 abbrev pub FillingsAnswer : Type 0
 FillingsAnswer = Result Tally Refusal
 
+-- a tally counts nothing itself
 abbrev pub fillings_reply : FillingsAnswer → Reply
-fillings_reply (Ok t) = success 0
-fillings_reply (Err r) = reply (Err r)
+fillings_reply a = answer_reply a 0
 
 -- each number, 0 with a refusal
 abbrev pub ended_of : FillingsAnswer → ℕ
