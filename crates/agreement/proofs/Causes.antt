@@ -12,7 +12,7 @@ use Rattle.state.specs.Kept.{view}
 use Rattle.cause.specs.Cause.{explain, cause_reply, cause_row, cause_mask, cause_bit}
 use Rattle.cause.specs.Laws.{Explains}
 use Rattle.cause.proofs.Answers.{answered}
-use Rattle.fairleadow.specs.causes_for_c.Calls.{GivesCauseC, cause_for}
+use Rattle.fairleadow.specs.CausesForC.{GivesCauseC, cause_for}
 use Rattle.agreement.specs.Told.{cause_report, CauseTold, CauseToldC}
 use Rattle.agreement.proofs.Contracts.{cause-tells-c}
 use Rattle.agreement.proofs.Numbers.{cause-success}

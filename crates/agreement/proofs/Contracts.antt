@@ -21,22 +21,22 @@ use Rattle.prices.specs.priced_runs.PricedRun.{priced_run}
 use Rattle.prices.specs.priced_runs.InPlace.{GivesPricedRunOn}
 use Rattle.rebinding.specs.Rebind.{rebind, live_rebind, GivesRebindingOn}
 use Rattle.fillings.specs.Counts.{count_fillings}
-use Rattle.fillings.specs.counting.CountingContracts.{GivesFillings}
-use Rattle.fairleadow.specs.telling.AnswersForC.{GivesReplyC, GivesBufferC}
-use Rattle.fairleadow.specs.runs_for_c.Calls.{GivesStateC, run_for, GivesRunC, tick_for, GivesTickC}
-use Rattle.fairleadow.specs.prices_for_c.Calls.{priced_run_for, GivesPricedRunC}
-use Rattle.fairleadow.specs.rebinding_for_c.Calls.{rebind_for, GivesRebindingC}
-use Rattle.fairleadow.specs.spindles_for_c.Calls.{spin_for, live_spin_for, GivesSpinC}
-use Rattle.fairleadow.specs.fillings_for_c.Calls.{GivesFillingsC}
+use Rattle.fillings.specs.CountingContracts.{GivesFillings}
+use Rattle.fairleadow.specs.AnswersForC.{GivesReplyC, GivesBufferC}
+use Rattle.fairleadow.specs.RunsForC.{GivesStateC, run_for, GivesRunC, tick_for, GivesTickC}
+use Rattle.fairleadow.specs.PricesForC.{priced_run_for, GivesPricedRunC}
+use Rattle.fairleadow.specs.RebindingForC.{rebind_for, GivesRebindingC}
+use Rattle.fairleadow.specs.SpindlesForC.{spin_for, live_spin_for, GivesSpinC}
+use Rattle.fairleadow.specs.FillingsForC.{GivesFillingsC}
 use Rattle.charts.specs.Entry.{read_chart, write_chart}
 use Rattle.image.specs.Check.{image_verdict}
 use Rattle.rows.specs.listing.Listing.{list, GivesListing}
 use Rattle.cause.specs.Cause.{explain, GivesCause}
 use Rattle.ticks.specs.codes.Codes.{meaning_of}
 use Rattle.spindles.specs.Spindles.{spin, live_spin, GivesSpin}
-use Rattle.fairleadow.specs.images_for_c.Calls.{GivesListingC}
-use Rattle.fairleadow.specs.causes_for_c.Calls.{cause_for, GivesCauseC}
-use Rattle.fairleadow.specs.causes_for_c.Meant.{Meant}
+use Rattle.fairleadow.specs.ImagesForC.{GivesListingC}
+use Rattle.fairleadow.specs.CausesForC.{cause_for, GivesCauseC}
+use Rattle.fairleadow.specs.Meant.{Meant}
 use Rattle.translator.specs.contracts.translating.translate as translating-translate
 use Rattle.translator.proofs.translating.translate.Reads as translating-translate-reads
 use Rattle.tables.specs.contracts.preparing.prepare as tables-prepare

@@ -7,7 +7,7 @@ use borrow.Fn.World.{ArgsD, ResD}
 use Rattle.text.specs.frames.Answer.{reply, verdict_reply}
 use Rattle.table_check.specs.TableCheck.{prepared_verdict}
 use Rattle.crc.specs.Crc.{crc}
-use Rattle.fairleadow.specs.telling.AnswersForC.{GivesReplyC}
+use Rattle.fairleadow.specs.AnswersForC.{GivesReplyC}
 use Rattle.table_check.specs.contracts.check_table as check-table
 use Rattle.table_check.proofs.check_table.Reads as check-table-reads
 use Rattle.crc.specs.contracts.sum as sum

@@ -6,7 +6,7 @@ use borrow.Fn.World.{ArgsD, ResD}
 use Rattle.dry_runs.specs.DryRun.{dry_run, GivesDryRun}
 use Rattle.dry_runs.specs.contracts.dry_run as dry-run
 use Rattle.dry_runs.proofs.dry_run.Reads as dry-run-reads
-use Rattle.fairleadow.specs.dry_runs_for_c.Calls.{GivesDryRunC}
+use Rattle.fairleadow.specs.DryRunsForC.{GivesDryRunC}
 use Rattle.fairleadow.specs.contracts.dry_runs_for_c.fairleadow_dry_run as c-dry-run
 use Rattle.fairleadow.proofs.dry_runs_for_c.fairleadow_dry_run.Reads as c-dry-run-reads
 

@@ -7,7 +7,7 @@ use Rattle.state.specs.declared.State.{State as Kept}
 use Rattle.state.specs.Kept.{view}
 use Rattle.runs.specs.Run.{run}
 use Rattle.rebinding.specs.Rebind.{rebind}
-use Rattle.fairleadow.specs.telling.AnswersForC.{GivesBufferC}
+use Rattle.fairleadow.specs.AnswersForC.{GivesBufferC}
 use Rattle.state.proofs.Stored.{state-back}
 use Rattle.agreement.specs.Agreement.{CallInput, call_outputs, Agreement}
 use Rattle.agreement.specs.ForC.{CallOutputC, call_output_c, CallsInTurnC, none, more, DeliveredC}

@@ -9,7 +9,7 @@ use Rattle.text.specs.frames.Answer.{success, reply}
 use Rattle.rows.specs.listing.Listing.{list}
 use Rattle.rows.specs.listing.Exact.{Held}
 use Rattle.rows.proofs.listing.Answers.{held}
-use Rattle.fairleadow.specs.images_for_c.Calls.{GivesListingC}
+use Rattle.fairleadow.specs.ImagesForC.{GivesListingC}
 use Rattle.agreement.specs.Told.{RowsListed, RowsListedC}
 use Rattle.agreement.proofs.Contracts.{list-rows-lends-c}
 use Rattle.agreement.proofs.Numbers.{list-success}

@@ -18,8 +18,8 @@ use Rattle.runs.specs.InPlace.{if_ticked}
 use Rattle.ticks.proofs.Normal.{Normal, tick-normal}
 use Rattle.runs.specs.machine.Prepared.{PreparedTable}
 use Rattle.runs.proofs.machine.Live.{live-run-is, live-tick-is}
-use Rattle.fairleadow.specs.runs_for_c.Calls.{GivesRunC, tick_for, GivesTickC}
-use Rattle.fairleadow.specs.rebinding_for_c.Calls.{rebind_for, GivesRebindingC}
+use Rattle.fairleadow.specs.RunsForC.{GivesRunC, tick_for, GivesTickC}
+use Rattle.fairleadow.specs.RebindingForC.{rebind_for, GivesRebindingC}
 use Rattle.agreement.specs.Agreement.{RunInput, CallInput, to_run, to_rebind}
 use Rattle.agreement.specs.Calls.{one_word}
 use Rattle.agreement.specs.ForC.{RunOutputC, CallOutputC, by_run_c, by_rebinding_c, call_output_c, output_of_tick_c, TableOfC, prepared}

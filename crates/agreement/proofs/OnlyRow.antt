@@ -8,7 +8,7 @@ use Rattle.charts.specs.Entry.{read_verdict}
 use Rattle.charts.proofs.Accepted.{SoundChart, accepted}
 use Rattle.walk.proofs.FactsHold.{facts}
 use Rattle.image.specs.Image.{Image}
-use Rattle.chart_rows.specs.chart_labels.Labels.{is_numbered, label}
+use Rattle.chart_rows.specs.Labels.{is_numbered, label}
 use Rattle.chart_rows.specs.Rows.{rows}
 use Rattle.translator.specs.Table.{table}
 use Rattle.translator.specs.Entry.{translate}

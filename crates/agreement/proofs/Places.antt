@@ -5,7 +5,7 @@ use Rattle.results.specs.Results.{Results}
 use Rattle.bindings.specs.Binding.{Binding}
 use Rattle.charts.specs.Chart.{Chart}
 use Rattle.walk.proofs.Trace.{Open, WalkPosition}
-use Rattle.chart_rows.specs.chart_labels.Labels.{label}
+use Rattle.chart_rows.specs.Labels.{label}
 use Rattle.state.specs.State.{State}
 
 -- f of the callers, in front of what is given

@@ -17,7 +17,7 @@ use Rattle.walk.proofs.Trace.{Open, moved_to, WalkPosition, at, tick_of, stop_ti
 use Rattle.walk.proofs.Trace.{position_called, position_moved, tick_at, move, Serves, Caller, Under, Good, view-of}
 use Rattle.image.specs.Layout.{tick_kind}
 use Rattle.image.specs.Image.{Image, Label}
-use Rattle.chart_rows.specs.chart_labels.Labels.{is_numbered, label}
+use Rattle.chart_rows.specs.Labels.{is_numbered, label}
 use Rattle.chart_rows.proofs.chart_labels.LabelKinds.{label-owner}
 use Rattle.translator.specs.Table.{table}
 use Rattle.state.specs.State.{State, bottom_alone, label_at, place_at, number_at}
@@ -154,7 +154,7 @@ module _ (c : Chart) (n : ℕ) (n≤ : n ≤ 32) (serving : Binding) where
         (state_of_position c n serving (position_moved c t x ks (record { word = w; binding = serving }) b f s))
     unfolding table
     tick-by x ks b f w low g (a-plain e a) =
-        to-top (mask c x.node) 0 (by_arc c w (next0 c x.node)) x ks b _ f _ (table_facts.row_plain x.node w _ g.top.inside e)
+        to-top (mask c x.node) 0 (by_arc c w (next0 c x.node)) x ks b _ f _ (table_facts.row-plain x.node w _ g.top.inside e)
     tick-by x ks b f w low g (a_call e a) = let l = facts.calls x.node g.top.inside e a in
         to-push x ks b f g (inl e) (mask c x.node) 16 (argument c x.node) _ (omega arith)
         (λ q. omega (arith, facts.most)) l.0 l.1 low
@@ -164,9 +164,9 @@ module _ (c : Chart) (n : ℕ) (n≤ : n ≤ 32) (serving : Binding) where
         to-top 0 4 (start c 1) x ks b b f _ (ap found (table_facts.entries 1 (omega arith) facts.first))
     tick-by x ks b f w low g (a_back e s) = tick-back x ks b f w low g
     tick-by x ks b f w low g (a-begin e) =
-        to-top 0 0 (by_word c w (next0 c x.node)) x ks b b f _ (table_facts.row_begin x.node w _ g.top.inside e g.top.stopping)
+        to-top 0 0 (by_word c w (next0 c x.node)) x ks b b f _ (table_facts.row-begin x.node w _ g.top.inside e g.top.stopping)
     tick-by x ks b f w low g (a-condition e) =
-        to-top 0 0 (by_word c w x.node) x ks b b f _ (table_facts.row_condition x.node w _ g.top.inside e g.top.stopping)
+        to-top 0 0 (by_word c w x.node) x ks b b f _ (table_facts.row-condition x.node w _ g.top.inside e g.top.stopping)
 
     pub tick-is : (w : ℕ) (x : WalkPosition) → length x.callers < n → Good c x
         → let y = move n c (record { word = w; binding = serving }) x in

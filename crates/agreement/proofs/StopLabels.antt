@@ -6,7 +6,7 @@ use Rattle.walk.specs.Stops.{Stop, plain, call, function, test, home, back}
 use Rattle.walk.proofs.Facts.{StopOf}
 use Rattle.walk.proofs.Views.{View, a-plain, a_call, a-function, a-home, a_back, a-begin, a-condition}
 use Rattle.image.specs.Image.{Label}
-use Rattle.chart_rows.specs.chart_labels.Labels.{is_numbered, label, stop_label, home_label, return_label}
+use Rattle.chart_rows.specs.Labels.{is_numbered, label, stop_label, home_label, return_label}
 use Rattle.translator.specs.Table.{table}
 use Rattle.state.specs.State.{label_at}
 use Rattle.agreement.proofs.TableFacts.{TableFacts}

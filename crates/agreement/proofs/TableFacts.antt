@@ -3,7 +3,7 @@ use Rattle.std.proofs.Common.{if◌then◌else◌, ℕ, ◌≤◌, ◌<◌, Bool
 use Rattle.text.specs.frames.Frame.{size}
 use Rattle.charts.specs.Chart.{Chart, kind, next0, next1, schemes}
 use Rattle.walk.specs.Stops.{is_stop, by_arc, by_word}
-use Rattle.chart_rows.specs.chart_labels.Labels.{is_numbered, label, entry, home_label, return_label, stop_label}
+use Rattle.chart_rows.specs.Labels.{is_numbered, label, entry, home_label, return_label, stop_label}
 use Rattle.chart_rows.specs.Rows.{rows}
 use Rattle.translator.specs.Table.{table}
 use Rattle.state.specs.State.{label_at, entry_at}
@@ -19,11 +19,11 @@ pub record TableFacts (c : Chart) : Type 0 where
   pub apart : (u v : ℕ) → u < size c → v < size c → is_numbered c u ≡ true → is_numbered c v ≡ true → label c u ≡ label c v → u ≡ v
   pub entries : (h : ℕ) → 1 ≤ h → h ≤ schemes c → entry_at (table c) h ≡ entry c h
   -- rows: the one taken by word and bit leads to the label of the stop where the walk goes
-  pub row_plain : (v w b : ℕ) → v < size c → kind c v ≡ 2
+  pub row-plain : (v w b : ℕ) → v < size c → kind c v ≡ 2
       → lead_of (best_row (label c v) w b 0 (rows c)) ≡ found (label c (by_arc c w (next0 c v)))
-  pub row_begin : (v w b : ℕ) → v < size c → kind c v ≡ 0 → is_stop c v ≡ true
+  pub row-begin : (v w b : ℕ) → v < size c → kind c v ≡ 0 → is_stop c v ≡ true
       → lead_of (best_row (label c v) w b 0 (rows c)) ≡ found (label c (by_word c w (next0 c v)))
-  pub row_condition : (v w b : ℕ) → v < size c → kind c v ≡ 3 → is_stop c v ≡ true
+  pub row-condition : (v w b : ℕ) → v < size c → kind c v ≡ 3 → is_stop c v ≡ true
       → lead_of (best_row (label c v) w b 0 (rows c)) ≡ found (label c (by_word c w v))
-  pub row_function : (v w : ℕ) (b : Bool) → v < size c → kind c v ≡ 4
+  pub row-function : (v w : ℕ) (b : Bool) → v < size c → kind c v ≡ 4
       → lead_of (best_row (label c v) w (if b then 1 else 0) 0 (rows c)) ≡ found (label c (by_arc c w (if b then next1 c v else next0 c v)))

@@ -10,7 +10,7 @@ use Rattle.charts.proofs.Accepted.{SoundChart, accepted}
 use Rattle.walk.proofs.Facts.{Facts}
 use Rattle.walk.proofs.FactsHold.{facts}
 use Rattle.image.specs.Image.{Row, no_row}
-use Rattle.chart_rows.specs.chart_labels.Labels.{entry}
+use Rattle.chart_rows.specs.Labels.{entry}
 use Rattle.translator.proofs.LabelLaws.{label-low, label-inside, label-holds, labels-apart, label-home, label-return, labels-two}
 use Rattle.translator.proofs.LabelLaws.{labels-few, entry-holds}
 use Rattle.translator.proofs.Matching.{is_matching_row, targets, targets-none, targets-own, targets-other}
@@ -41,10 +41,10 @@ table-facts-of c s f = record {
   numbers = λ v l e. (label-low c v e, label-inside c v l e, label-holds c v l e);
   apart = λ u v lu lv a b e. labels-apart c u v a b e;
   entries = λ h l m. entry-holds c (h - 1) (omega arith) ∙ ap (entry c) (omega arith);
-  row_plain = λ v w b l k. best-only _ w b 0 _ _ (row-plain c s v w b l k);
-  row_begin = λ v w b l k t. best-only _ w b 0 _ _ (row-begin c s v w b l k t);
-  row_condition = λ v w b l k t. best-only _ w b 0 _ _ (row-condition c s v w b l k t);
-  row_function = λ v w b l k. best-only _ w _ 0 _ _ (row-function c s v w b l k);
+  row-plain = λ v w b l k. best-only _ w b 0 _ _ (row-plain c s v w b l k);
+  row-begin = λ v w b l k t. best-only _ w b 0 _ _ (row-begin c s v w b l k t);
+  row-condition = λ v w b l k t. best-only _ w b 0 _ _ (row-condition c s v w b l k t);
+  row-function = λ v w b l k. best-only _ w _ 0 _ _ (row-function c s v w b l k);
 }
 
 pub table-facts : (t : List ℕ) → read_verdict t ≡ fine → TableFacts (contents t)

@@ -5,7 +5,7 @@ use Rattle.text.specs.frames.Answer.{Answer, success, reply}
 use Rattle.translator.specs.Entry.{translate}
 use Rattle.state.specs.declared.layout.TheConstants.{PLACES}
 use Rattle.dry_runs.specs.DryRun.{dry_run, GivesDryRun}
-use Rattle.fairleadow.specs.dry_runs_for_c.Calls.{GivesDryRunC}
+use Rattle.fairleadow.specs.DryRunsForC.{GivesDryRunC}
 use Rattle.agreement.specs.Agreement.{RunInput, to_run, by_run, walk_outputs}
 use Rattle.agreement.specs.ForC.{RunOutputC, by_run_c, call_output_c}
 

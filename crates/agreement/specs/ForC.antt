@@ -12,9 +12,9 @@ use Rattle.state.specs.declared.State.{State as Kept}
 use Rattle.state.specs.Kept.{view}
 use Rattle.rebinding.specs.Rebind.{live_rebind}
 use Rattle.runs.specs.machine.Live.{live_run, live_tick}
-use Rattle.fairleadow.specs.telling.AnswersForC.{GivesBufferC}
-use Rattle.fairleadow.specs.runs_for_c.Calls.{GivesStateC, run_for, GivesRunC, tick_for, GivesTickC}
-use Rattle.fairleadow.specs.rebinding_for_c.Calls.{rebind_for, GivesRebindingC}
+use Rattle.fairleadow.specs.AnswersForC.{GivesBufferC}
+use Rattle.fairleadow.specs.RunsForC.{GivesStateC, run_for, GivesRunC, tick_for, GivesTickC}
+use Rattle.fairleadow.specs.RebindingForC.{rebind_for, GivesRebindingC}
 use Rattle.agreement.specs.Agreement.{RunInput, RunOutput, CallInput, to_run, to_rebind, CallOutput, walk_outputs}
 use Rattle.agreement.specs.Agreement as agreed
 use Rattle.agreement.specs.Calls.{one_word}

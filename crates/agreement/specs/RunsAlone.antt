@@ -11,8 +11,8 @@ use Rattle.state.specs.State.{fresh_state}
 use Rattle.state.specs.Kept.{view, GivesState}
 use Rattle.runs.specs.Run.{run}
 use Rattle.runs.specs.InPlace.{GivesRunOn}
-use Rattle.fairleadow.specs.telling.AnswersForC.{GivesBufferC}
-use Rattle.fairleadow.specs.runs_for_c.Calls.{GivesStateC, run_for, GivesRunC}
+use Rattle.fairleadow.specs.AnswersForC.{GivesBufferC}
+use Rattle.fairleadow.specs.RunsForC.{GivesStateC, run_for, GivesRunC}
 use Rattle.agreement.specs.Agreement.{RunInput, to_run, RunOutput, CallOutput, by_run}
 use Rattle.agreement.specs.Unswapped.{walk_runs}
 use Rattle.agreement.specs.Calls.{CallsInTurn}

@@ -9,8 +9,8 @@ use Rattle.state.specs.State.{Sized}
 use Rattle.state.specs.Kept.{view}
 use Rattle.cause.specs.Cause.{Cause, CauseAnswer, explain, cause_reply, cause_row, cause_mask, cause_bit, GivesCause}
 use Rattle.cause.specs.Laws.{Explains}
-use Rattle.fairleadow.specs.images_for_c.Calls.{GivesListingC}
-use Rattle.fairleadow.specs.causes_for_c.Calls.{cause_for, GivesCauseC}
+use Rattle.fairleadow.specs.ImagesForC.{GivesListingC}
+use Rattle.fairleadow.specs.CausesForC.{cause_for, GivesCauseC}
 
 abbrev pub cause_report : ℕ → ℕ → ℕ → Cause
 cause_report k m b = record { row = k; mask = m; bit = b }

@@ -13,7 +13,7 @@ use Rattle.walk.specs.Walk.{scheme_course, walk_from, walk}
 use Rattle.image.specs.Image.{image_frames, image_text}
 use Rattle.image.specs.Decode.{decoded_image}
 use Rattle.image.specs.Check.{is_bad_header, position_of, is_stray, has_bad_content, table_verdict, image_verdict}
-use Rattle.chart_rows.specs.chart_labels.Labels.{label}
+use Rattle.chart_rows.specs.Labels.{label}
 use Rattle.chart_rows.specs.Rows.{paths, rows_of, rows}
 use Rattle.translator.specs.Table.{table}
 use Rattle.translator.specs.Entry.{translate_verdict, translate}

@@ -1,8 +1,8 @@
 -- What the two programs print on these charts and images, computed.
 use Rattle.std.proofs.Common.{refl}
-use Rattle.output.specs.printing.Lines.{refusal_line, code_line}
-use Rattle.output.specs.translate_output.TranslateProgram.{translate_output}
-use Rattle.output.specs.run_output.RunProgram.{run_output}
+use Rattle.output.specs.Lines.{refusal_line, code_line}
+use Rattle.output.specs.TranslateProgram.{translate_output}
+use Rattle.output.specs.RunProgram.{run_output}
 use Rattle.bench.specs.Bench.{chart_p, image_p, chart_circle}
 use Rattle.bench.specs.Outputs.{PrintedCases, chart_endless, chart_dropped, chart_held}
 use Rattle.bench.proofs.Computing.{translating, running}

@@ -6,7 +6,7 @@ use Rattle.text.specs.frames.Answer.{buffer_on}
 use Rattle.image.specs.Image.{Image, Label, label_with, row}
 use Rattle.image.specs.Decode.{decoded_image}
 use Rattle.image.specs.Check.{image_verdict}
-use Rattle.chart_rows.specs.chart_labels.Labels.{home_label, return_label}
+use Rattle.chart_rows.specs.Labels.{home_label, return_label}
 use Rattle.translator.specs.Entry.{translate}
 use Rattle.bench.specs.Bench.{lines, chart_p, image_p, chart_home, chart_function, chart_bore, chart_again, chart_stops, image_stops}
 use Rattle.bench.specs.Handler.{chart_handler, image_handler}

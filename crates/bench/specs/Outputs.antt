@@ -1,9 +1,9 @@
 -- What the two programs print, on charts and images small enough to be computed.
 use Rattle.std.specs.Prelude.{ℕ, ◌≡◌, List, [], ◌∷◌, ◌++◌, replicate, flat_map}
 use Rattle.text.specs.frames.Frame.{text_of}
-use Rattle.output.specs.printing.Lines.{refusal_line}
-use Rattle.output.specs.translate_output.TranslateProgram.{translate_output}
-use Rattle.output.specs.run_output.RunProgram.{run_output}
+use Rattle.output.specs.Lines.{refusal_line}
+use Rattle.output.specs.TranslateProgram.{translate_output}
+use Rattle.output.specs.RunProgram.{run_output}
 use Rattle.bench.specs.Bench.{lines, chart_p, image_p, chart_circle}
 use Rattle.bench.specs.RefusalCases.{marked_first}
 

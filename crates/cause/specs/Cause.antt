@@ -9,7 +9,7 @@ use Rattle.text.specs.declared.frames.refusals.TheConstants.{UNFIT, NO_ROW, ROWL
 use Rattle.text.specs.declared.frames.refusals.Refusal.{Refusal}
 use Rattle.text.specs.frames.Frame.{contents}
 use Rattle.text.specs.frames.Verdict.{Verdict, fine, refused, next, when}
-use Rattle.text.specs.frames.Answer.{Reply, success, refusal, reply}
+use Rattle.text.specs.frames.Answer.{Reply, success, refusal, answer_reply}
 use Rattle.image.specs.Layout.{TickKind, plain, operation_call, function_call, return, home, tick_kind}
 use Rattle.image.specs.declared.layout.TheConstants.{NO_BIT, FUNCTION_CALL}
 use Rattle.image.specs.Image.{Image, Row}
@@ -106,9 +106,9 @@ explain t s w =
 abbrev pub CauseAnswer : Type 0
 CauseAnswer = Result declared.Cause Refusal
 
+-- a cause counts nothing
 abbrev pub cause_reply : CauseAnswer → Reply
-cause_reply (Ok c) = success 0
-cause_reply (Err r) = reply (Err r)
+cause_reply a = answer_reply a 0
 
 -- row, mask and bit, each 0 with a refusal
 abbrev pub cause_row : CauseAnswer → ℕ

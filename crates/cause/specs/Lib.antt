@@ -1,4 +1,3 @@
 pub mod Cause
 pub mod Laws
 pub mod inner
-pub mod table_causes

@@ -1,1 +1,2 @@
 pub mod CauseContracts
+pub mod TableCauses

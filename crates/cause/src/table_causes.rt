@@ -4,7 +4,7 @@ ghost use Rattle.tables.specs.Table.{table_image};
 ghost use Rattle.state.specs.State.{place_at};
 ghost use Rattle.state.specs.Kept.{view};
 ghost use Rattle.cause.specs.Cause.{leaves_label, leaving, cause_at, cause_outcome, GivesCause};
-ghost use Rattle.cause.specs.table_causes.inner.TableCauses.{Ordered, leaving_number, table_cause};
+ghost use Rattle.cause.specs.inner.TableCauses.{Ordered, leaving_number, table_cause};
 
 use crate::{Cause, against_rows};
 use fitness::fitting::is_unfit;

@@ -1,7 +1,7 @@
 // Marks on the nodes of a chart, spread over all arcs or over the arcs of conditions alone.
 ghost use Rattle.std.specs.Prelude.{◌≡◌, ◌+◌, ◌*◌, ◌≤◌, ◌<◌, true, length, set, if◌then◌else◌};
 ghost use Rattle.words.specs.graph.Reach.{is_marked, reach};
-ghost use Rattle.words.specs.graph.inner.Listed.{many, mark_all, listing, enlist_all};
+ghost use Rattle.words.specs.inner.Listed.{many, mark_all, listing, enlist_all};
 ghost use Rattle.text.specs.frames.Frame.{size};
 ghost use Rattle.charts.specs.Check.{arcs};
 ghost use Rattle.charts.specs.inner.Marks.{arcs_by, kind_marks};
@@ -30,7 +30,7 @@ fn arc_count(records: &[u8], conditions: bool, v: usize) -> usize
 }
 
 /// The nodes that the arcs of node v lead to are marked, and listed in their order where they were not; how many are listed then.
-#[tactic(auto, using(crate::proofs::node_marks::MarkCases::arcs_told), unfolding(words::specs::graph::inner::Listed::enlist_all))]
+#[tactic(auto, using(crate::proofs::node_marks::MarkCases::arcs_told), unfolding(words::specs::inner::Listed::enlist_all))]
 pub fn follow(
     records: &[u8],
     conditions: bool,
@@ -87,7 +87,7 @@ fn mark(marks: &mut [bool], u: usize)
 }
 
 // The nodes that the arcs of node v lead to are marked.
-#[tactic(auto, using(crate::proofs::node_marks::MarkCases::arcs_told), unfolding(words::specs::graph::inner::Listed::mark_all))]
+#[tactic(auto, using(crate::proofs::node_marks::MarkCases::arcs_told), unfolding(words::specs::inner::Listed::mark_all))]
 fn mark_next(records: &[u8], v: usize, marks: &mut [bool])
     requires { v < size records.now }
     ensures { marks.new ≡ mark_all (arcs records.now v) marks.old }

@@ -11,8 +11,8 @@ use Rattle.text.specs.frames.Frame.{size, field}
 use Rattle.charts.specs.Chart.{Chart, kind, argument, is, arc_taken}
 use Rattle.walk.specs.Stops.{is_stop}
 use Rattle.walk.proofs.Follow.{goes-on, takes-0, takes-1}
-use Rattle.chart_rows.specs.chart_labels.Labels.{is_numbered, label}
-use Rattle.chart_rows.specs.chart_labels.inner.ChartContracts.{Ready, Charted, OfKind}
+use Rattle.chart_rows.specs.Labels.{is_numbered, label}
+use Rattle.chart_rows.specs.inner.ChartContracts.{Ready, Charted, OfKind}
 use Rattle.chart_rows.proofs.chart_labels.ReadyLaws.{ready-facts}
 use Rattle.chart_rows.proofs.chart_labels.LabelSteps.{own-label, no-own-label}
 use Rattle.chart_rows.specs.inner.NodeRows.{tested_number, is_known}

@@ -15,7 +15,7 @@ use Rattle.charts.proofs.Rank.{rank, rank-falls0, rank-falls1}
 use Rattle.walk.specs.Stops.{is_stop}
 use Rattle.image.specs.Image.{Row}
 use Rattle.walk.proofs.Follow.{goes-on}
-use Rattle.chart_rows.specs.chart_labels.inner.ChartContracts.{Ready}
+use Rattle.chart_rows.specs.inner.ChartContracts.{Ready}
 use Rattle.chart_rows.specs.inner.PathContracts.{Entered, PathAt}
 use Rattle.chart_rows.specs.inner.NodeRows.{paths_from, tested_number, settled_node}
 use Rattle.chart_rows.proofs.chart_labels.ReadyLaws.{ready-sound}

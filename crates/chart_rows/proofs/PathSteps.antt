@@ -10,9 +10,9 @@ use Rattle.charts.proofs.Rank.{rank, rank-le, rank-some, rank-falls0, rank-falls
 use Rattle.walk.specs.Stops.{is_stop}
 use Rattle.walk.proofs.Follow.{goes-on, taken-by, taken-falls}
 use Rattle.image.specs.Image.{Row}
-use Rattle.chart_rows.specs.chart_labels.Labels.{label}
+use Rattle.chart_rows.specs.Labels.{label}
 use Rattle.chart_rows.specs.Rows.{paths}
-use Rattle.chart_rows.specs.chart_labels.inner.ChartContracts.{Ready}
+use Rattle.chart_rows.specs.inner.ChartContracts.{Ready}
 use Rattle.chart_rows.specs.inner.PathContracts.{Entered}
 use Rattle.chart_rows.specs.inner.NodeRows.{paths_from}
 use Rattle.chart_rows.proofs.chart_labels.ReadyLaws.{ready-sound, ready-facts}

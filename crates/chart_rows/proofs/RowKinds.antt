@@ -3,7 +3,7 @@ use Rattle.std.proofs.Common.{ℕ, zero, suc, ◌^◌, ◌≡◌, refl, ap, ◌�
 use Rattle.text.specs.frames.Frame.{size}
 use Rattle.charts.specs.Layout.{kind_of}
 use Rattle.charts.specs.Chart.{Chart, kind, argument, next0, next1}
-use Rattle.chart_rows.specs.chart_labels.Labels.{label}
+use Rattle.chart_rows.specs.Labels.{label}
 use Rattle.chart_rows.specs.Rows.{rows_as, rows_of}
 use Rattle.chart_rows.specs.inner.NodeRows.{paths_from}
 

@@ -13,7 +13,7 @@ use Rattle.words.proofs.bits.BitLaws.{add-is-or, bit-none}
 use Rattle.text.specs.frames.Frame.{size}
 use Rattle.charts.specs.Chart.{Chart, kind, argument, next0, next1}
 use Rattle.image.specs.Image.{Row}
-use Rattle.chart_rows.specs.chart_labels.Labels.{is_numbered, label}
+use Rattle.chart_rows.specs.Labels.{is_numbered, label}
 use Rattle.chart_rows.specs.Rows.{rows_of, rows}
 use Rattle.chart_rows.specs.inner.PathContracts.{NotedAt, Entered, SidesAt}
 use Rattle.chart_rows.specs.inner.NodeRows.{paths_from, sides, node_rows}

@@ -11,7 +11,7 @@ use Rattle.charts.proofs.Rank.{rank, rank-le, rank-some}
 use Rattle.walk.specs.Stops.{is_stop}
 use Rattle.walk.proofs.Follow.{goes-on, taken-falls}
 use Rattle.chart_rows.proofs.chart_labels.ReadyLaws.{ready-sound}
-use Rattle.chart_rows.specs.chart_labels.inner.ChartContracts.{Ready}
+use Rattle.chart_rows.specs.inner.ChartContracts.{Ready}
 use Rattle.chart_rows.specs.inner.PathContracts.{Noted, Entered}
 use Rattle.chart_rows.specs.inner.NodeRows.{paths_from, tested_number, is_known, settled_node}
 use Rattle.chart_rows.proofs.NumberLaws.{number-most, bit-known, bit-unknown, side-taken}

@@ -1,3 +1,3 @@
 pub mod Rows
 pub mod inner
-pub mod chart_labels
+pub mod Labels

@@ -7,7 +7,7 @@ use Rattle.charts.specs.Chart.{Chart, kind, argument, next0, next1, arc_taken}
 use Rattle.walk.specs.Stops.{is_stop}
 use Rattle.image.specs.declared.layout.TheConstants.{NO_BIT}
 use Rattle.image.specs.Image.{Row}
-use Rattle.chart_rows.specs.chart_labels.Labels.{label, numbered_nodes}
+use Rattle.chart_rows.specs.Labels.{label, numbered_nodes}
 
 -- a path so far: the label that it left, the bits of the word that it tested as a care mask, their values, and the function bit or NO_BIT
 pub record Path : Type 0 where

@@ -1,2 +1,3 @@
 pub mod NodeRows
 pub mod PathContracts
+pub mod ChartContracts

@@ -5,8 +5,8 @@ ghost use Rattle.words.specs.lists.Sequences.{written};
 ghost use Rattle.text.specs.frames.Frame.{field, size};
 ghost use Rattle.charts.specs.Chart.{scheme, schemes, is, is_of, begin, next0};
 ghost use Rattle.walk.specs.Stops.{is_stop};
-ghost use Rattle.chart_rows.specs.chart_labels.Labels.{is_numbered, label};
-ghost use Rattle.chart_rows.specs.chart_labels.inner.ChartContracts.{Ready, Beside};
+ghost use Rattle.chart_rows.specs.Labels.{is_numbered, label};
+ghost use Rattle.chart_rows.specs.inner.ChartContracts.{Ready, Beside};
 
 use charts::field;
 use charts::layout::*;
@@ -36,11 +36,10 @@ pub fn begin(records: &[u8], scheme: u8) -> usize
     v
 }
 
-/// Notes the Begin of each scheme of an accepted chart at the scheme's number, in 17 places; the others stay. From the last node down: the
+/// Notes the Begin of each scheme of an accepted chart at the scheme's number; the other places stay. From the last node down: the
 /// one noted last is the lowest.
-pub fn note_begins(records: &[u8], begins: &mut [u8])
-    requires ready { Ready records.now }
-    requires place_each { length begins.old ≡ 17 }
+pub fn note_begins(records: &[u8], begins: &mut [u8; 17])
+    requires { Ready records.now }
     ensures { begins.new ≡ written begins.old 1 (map (begin records.now) (range 1 (schemes records.now))) }
 {
     let mut v = records.len() / RECORD;
@@ -77,7 +76,7 @@ fn stops(records: &[u8], first: u8, v: usize) -> bool
     }
 }
 
-/// Whether node `v` has a label of its own: it stops the walk and is no End. `first` is the node that scheme 1 begins with.
+/// Whether node `v` has a label of its own: it stops the walk and is no End. `first` is the node that the Begin of scheme 1 leads to.
 pub fn is_numbered(records: &[u8], first: u8, v: usize) -> bool
     requires { Beside records.now first v }
     ensures { result ≡ is_numbered records.now v }

@@ -3,8 +3,8 @@ ghost use Rattle.std.specs.Prelude.{◌≡◌, ◌*◌, ◌≤◌, length, map};
 ghost use Rattle.words.specs.lists.Numbers.{range, count};
 ghost use Rattle.words.specs.lists.Sequences.{written};
 ghost use Rattle.text.specs.frames.Frame.{size};
-ghost use Rattle.chart_rows.specs.chart_labels.Labels.{is_numbered, label};
-ghost use Rattle.chart_rows.specs.chart_labels.inner.ChartContracts.{Ready, Charted, Inner};
+ghost use Rattle.chart_rows.specs.Labels.{is_numbered, label};
+ghost use Rattle.chart_rows.specs.inner.ChartContracts.{Ready, Charted, Inner};
 ghost use Rattle.chart_rows.specs.inner.PathContracts.{Noted};
 ghost use Rattle.chart_rows.specs.inner.NodeRows.{tested_number};
 

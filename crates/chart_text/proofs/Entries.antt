@@ -1,5 +1,5 @@
 -- The two entry points, return by return: what the checks before a return tell of the verdict, the answer and the buffer.
-use Rattle.std.proofs.Common.{◌≡◌, refl, sym, ◌∙◌, ap, false, List, ℕ, zero, suc, ◌*◌, ◌/◌, ◌≤◌, ◌<◌, arith, length, take, Ok, Err}
+use Rattle.std.proofs.Common.{◌≡◌, refl, sym, ◌∙◌, ap, Bool, false, List, ℕ, zero, suc, ◌*◌, ◌/◌, ◌≤◌, ◌<◌, arith, length, take, Ok, Err}
 use Rattle.std.proofs.lemmas.Grind.{common_steps}
 use Rattle.words.specs.lists.Sequences.{written}
 use Rattle.words.proofs.lists.Written.{written-front}
@@ -85,8 +85,8 @@ pub record WholeRecords (c : Chart) : Type 0 where
   pub some : 1 ≤ size c
   pub few : size c ≤ 256
 
-pub whole : (c : Chart) → is_bad_length 10 2560 (length c) ≡ false → WholeRecords c
-whole c e = grind (arith, common_steps, length-told)
+pub whole : {c : Chart} {b : Bool} → b ≡ is_bad_length 10 2560 (length c) → b ≡ false → WholeRecords c
+whole told e = grind (arith, common_steps, length-told)
 
 module _ (c : Chart) (out : List ℕ) where
   module _ (w : WholeRecords c) (a : Answer) (e : reply a ≡ verdict_reply (chart_verdict c) 0) where

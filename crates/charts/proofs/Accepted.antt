@@ -15,12 +15,12 @@ use Rattle.charts.specs.Entry.{read_verdict, write_verdict}
 
 -- refusals 4 to 9 and 19 find nothing
 pub record SoundChart (c : Chart) : Type 0 where
-  pub good_field : (v : ℕ) → v < size c → has_bad_field c v ≡ false
-  pub good_scheme : (h : ℕ) → 1 ≤ h → h ≤ schemes c → is_bad_scheme c h ≡ false
-  pub good_marks : has_bad_marks c ≡ false
-  pub good_arc : (v : ℕ) → v < size c → has_bad_arc c v ≡ false
-  pub good_call : (v : ℕ) → v < size c → has_bad_call c v ≡ false
-  pub no_circle : (v : ℕ) → v < size c → is_on_circle c v ≡ false
+  pub good-field : (v : ℕ) → v < size c → has_bad_field c v ≡ false
+  pub good-scheme : (h : ℕ) → 1 ≤ h → h ≤ schemes c → is_bad_scheme c h ≡ false
+  pub good-marks : has_bad_marks c ≡ false
+  pub good-arc : (v : ℕ) → v < size c → has_bad_arc c v ≡ false
+  pub good-call : (v : ℕ) → v < size c → has_bad_call c v ≡ false
+  pub no-circle : (v : ℕ) → v < size c → is_on_circle c v ≡ false
   pub joined : (v : ℕ) → v < size c → is_cut_off c v ≡ false
 
 -- besides, the chart is the whole records of 1 to 256 nodes
@@ -41,13 +41,13 @@ sound c e =
     (at_lowest 6 (has_bad_arc c) (size c)) (at_lowest 7 (has_bad_call c) (size c))
     (at_lowest 8 (is_on_circle c) (size c)) (at_lowest 9 (is_cut_off c) (size c)) e in
     record {
-      good_field = at-lowest-fine 4 (has_bad_field c) (size c) q.0;
-      good_scheme =
+      good-field = at-lowest-fine 4 (has_bad_field c) (size c) q.0;
+      good-scheme =
           λ h l m. any-false (is_bad_scheme c) 1 (schemes c) (when-fine 5 (any (is_bad_scheme c) 1 (schemes c)) q.1) h l (omega arith);
-      good_marks = when-fine 19 (has_bad_marks c) q.2;
-      good_arc = at-lowest-fine 6 (has_bad_arc c) (size c) q.3;
-      good_call = at-lowest-fine 7 (has_bad_call c) (size c) q.4;
-      no_circle = at-lowest-fine 8 (is_on_circle c) (size c) q.5;
+      good-marks = when-fine 19 (has_bad_marks c) q.2;
+      good-arc = at-lowest-fine 6 (has_bad_arc c) (size c) q.3;
+      good-call = at-lowest-fine 7 (has_bad_call c) (size c) q.4;
+      no-circle = at-lowest-fine 8 (is_on_circle c) (size c) q.5;
       joined = at-lowest-fine 9 (is_cut_off c) (size c) q.6;
     }
 

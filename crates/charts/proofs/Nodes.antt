@@ -101,22 +101,22 @@ module _ (c : Chart) (v : ℕ) where
 
 module _ (c : Chart) (a : SoundChart c) where
   pub kinds : (v : ℕ) → v < size c → kind c v ≤ 4
-  kinds v l = field-kind c v (a.good_field v l)
+  kinds v l = field-kind c v (a.good-field v l)
 
   pub owned : (v : ℕ) → v < size c → (1 ≤ scheme c v) × (scheme c v ≤ schemes c)
-  owned v l = ((field-scheme c v (a.good_field v l)).0, highest-ge (scheme c) 0 (size c) v (omega arith) (omega arith))
+  owned v l = ((field-scheme c v (a.good-field v l)).0, highest-ge (scheme c) 0 (size c) v (omega arith) (omega arith))
 
   pub schemes-most : schemes c ≤ 16
-  schemes-most = highest-le (scheme c) 16 0 (size c) (λ v x y. (field-scheme c v (a.good_field v (omega arith))).1)
+  schemes-most = highest-le (scheme c) 16 0 (size c) (λ v x y. (field-scheme c v (a.good-field v (omega arith))).1)
 
   pub schemes-first : 1 ≤ size c → 1 ≤ schemes c
   schemes-first s = omega (arith, (owned 0 (omega arith)).0, (owned 0 (omega arith)).1)
 
   pub conditions : (v : ℕ) → v < size c → kind c v ≡ 3 → argument c v ≤ 15
-  conditions v l k = field-condition c v (a.good_field v l) k
+  conditions v l k = field-condition c v (a.good-field v l) k
 
   pub results : (v : ℕ) → v < size c → kind c v ≡ 2 → result c v ≤ 2
-  results v l k = field-result c v (a.good_field v l) k
+  results v l k = field-result c v (a.good-field v l) k
 
   -- ---- each scheme has one Begin and one End: 5
   the-node : (k h : ℕ) → count (is_of c k h) 0 (size c) ≡ 1 → TheNode c k h (node_of c k h)
@@ -148,7 +148,7 @@ module _ (c : Chart) (a : SoundChart c) where
   marked-deep v l e =
       let p : ℕ → Bool = λ u. handler_at c u == 1 in
       let f : p v ≡ false =
-      any-false p 0 (size c) (or-l (any p 0 (size c)) (nat_lt 1 (count (is_handler_mark c) 0 (size c))) a.good_marks)
+      any-false p 0 (size c) (or-l (any p 0 (size c)) (nat_lt 1 (count (is_handler_mark c) 0 (size c))) a.good-marks)
       v (omega arith) (omega arith) in
       let n : handler_at c v ≡ 1 → ⊥ = eqb-false (handler_at c v) 1 f in
       omega (arith, owned v l, cond-true (is_handler_mark c v) (scheme c v) 0 e)

@@ -26,7 +26,7 @@ module _ (c : Chart) (a : SoundChart c) (v : ℕ) (l : v < size c) (k : kind c v
       let e : condition_arcs c v ≡ arcs c v = condition-arcs c v i in
       joined.rank-falls (size c) (condition_arcs c) v u l (arc-end c a v u l s).inside (ap (is_member u) e ∙ s)
       (ap (λ (us : List ℕ). is_marked (nodes_joined_from (size c) (condition_arcs c) us) v) e
-      ∙ and-false (is c 3 v) (is_marked (nodes_joined_from (size c) (condition_arcs c) (arcs c v)) v) (a.no_circle v l) i)
+      ∙ and-false (is c 3 v) (is_marked (nodes_joined_from (size c) (condition_arcs c) (arcs c v)) v) (a.no-circle v l) i)
 
   pub rank-falls0 : rank c (next0 c v) < rank c v
   rank-falls0 = rank-falls (next0 c v) (in-arcs0 c v (λ q. omega arith) (omega arith))

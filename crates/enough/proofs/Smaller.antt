@@ -18,7 +18,7 @@ use Rattle.walk.specs.Stops.{is_stop, start, next_stop, by_word, stop_at}
 use Rattle.walk.specs.Walk.{Signal, Tick, is_drop}
 use Rattle.walk.proofs.Trace.{opens, WalkPosition, at, tick_at, move, trace, position_at_home}
 use Rattle.walk.proofs.Recursion.{walk-trace}
-use Rattle.chart_rows.specs.chart_labels.Labels.{label}
+use Rattle.chart_rows.specs.Labels.{label}
 use Rattle.chart_rows.specs.Rows.{paths, rows_of, rows}
 use Rattle.translator.specs.Entry.{translate_verdict}
 use Rattle.places.specs.chains.Calls.{is_caller, is_circular, ends_of, places}

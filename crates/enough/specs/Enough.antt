@@ -17,9 +17,9 @@ use Rattle.state.specs.declared.State.{State as Kept}
 use Rattle.state.specs.declared.StateReport.{StateReport}
 use Rattle.state.specs.State.{fresh_state}
 use Rattle.state.specs.Kept.{GivesState}
-use Rattle.fairleadow.specs.telling.AnswersForC.{GivesReplyC}
-use Rattle.fairleadow.specs.telling.AnswersForC.{GivesBufferC}
-use Rattle.fairleadow.specs.runs_for_c.Calls.{GivesStateC}
+use Rattle.fairleadow.specs.AnswersForC.{GivesReplyC}
+use Rattle.fairleadow.specs.AnswersForC.{GivesBufferC}
+use Rattle.fairleadow.specs.RunsForC.{GivesStateC}
 use Rattle.agreement.specs.Agreement.{CallInput, to_run, to_rebind, CallOutput, by_run, by_rebinding, is_short, joined_words, reply_to}
 use Rattle.agreement.specs.Calls.{CallsInTurn}
 use Rattle.agreement.specs.ForC as for-c

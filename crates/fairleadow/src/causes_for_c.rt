@@ -2,9 +2,9 @@
 ghost use Rattle.std.specs.Prelude.{◌≡◌};
 ghost use Rattle.state.specs.State.{Sized};
 ghost use Rattle.state.specs.Kept.{view};
-ghost use Rattle.fairleadow.specs.telling.AnswersForC.{GivesReplyC};
-ghost use Rattle.fairleadow.specs.causes_for_c.Calls.{cause_for};
-ghost use Rattle.fairleadow.specs.causes_for_c.Meant.{Meant};
+ghost use Rattle.fairleadow.specs.AnswersForC.{GivesReplyC};
+ghost use Rattle.fairleadow.specs.CausesForC.{cause_for};
+ghost use Rattle.fairleadow.specs.Meant.{Meant};
 
 use crate::telling::tell;
 use cause::explaining::cause_of;

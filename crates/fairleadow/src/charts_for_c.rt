@@ -3,7 +3,7 @@ ghost use Rattle.std.specs.Prelude.{◌≡◌};
 ghost use Rattle.charts.specs.Entry.{read_chart, write_chart};
 ghost use Rattle.little_charts.specs.Little.{little_chart};
 ghost use Rattle.places.specs.Entry.{places_needed};
-ghost use Rattle.fairleadow.specs.telling.AnswersForC.{GivesReplyC};
+ghost use Rattle.fairleadow.specs.AnswersForC.{GivesReplyC};
 
 use crate::telling::tell;
 

@@ -3,7 +3,7 @@ ghost use Rattle.std.specs.Prelude.{◌≡◌};
 ghost use Rattle.text.specs.frames.Answer.{verdict_reply};
 ghost use Rattle.table_check.specs.TableCheck.{prepared_verdict};
 ghost use Rattle.crc.specs.Crc.{crc};
-ghost use Rattle.fairleadow.specs.telling.AnswersForC.{GivesReplyC};
+ghost use Rattle.fairleadow.specs.AnswersForC.{GivesReplyC};
 
 use crate::telling::tell;
 

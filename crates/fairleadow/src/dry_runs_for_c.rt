@@ -1,7 +1,7 @@
 // The call from C that runs a chart from its text.
 ghost use Rattle.std.specs.Prelude.{◌≡◌};
 ghost use Rattle.dry_runs.specs.DryRun.{dry_run};
-ghost use Rattle.fairleadow.specs.telling.AnswersForC.{GivesReplyC};
+ghost use Rattle.fairleadow.specs.AnswersForC.{GivesReplyC};
 
 use crate::telling::tell;
 

@@ -1,7 +1,7 @@
 // The call from C that counts how often the stack fills.
 ghost use Rattle.std.specs.Prelude.{◌≡◌};
 ghost use Rattle.fillings.specs.Counts.{count_fillings};
-ghost use Rattle.fairleadow.specs.telling.AnswersForC.{GivesReplyC};
+ghost use Rattle.fairleadow.specs.AnswersForC.{GivesReplyC};
 
 use crate::telling::tell;
 

@@ -4,7 +4,7 @@ ghost use Rattle.text.specs.frames.Answer.{verdict_reply};
 ghost use Rattle.image.specs.Check.{image_verdict};
 ghost use Rattle.rows.specs.listing.Listing.{list};
 ghost use Rattle.tables.specs.Prepare.{prepare};
-ghost use Rattle.fairleadow.specs.telling.AnswersForC.{GivesReplyC};
+ghost use Rattle.fairleadow.specs.AnswersForC.{GivesReplyC};
 
 use crate::telling::tell;
 

@@ -1,7 +1,7 @@
 // The call from C that joins the labels of an image.
 ghost use Rattle.std.specs.Prelude.{◌≡◌};
 ghost use Rattle.minimising.specs.Entry.{minimise};
-ghost use Rattle.fairleadow.specs.telling.AnswersForC.{GivesReplyC};
+ghost use Rattle.fairleadow.specs.AnswersForC.{GivesReplyC};
 
 use crate::telling::tell;
 

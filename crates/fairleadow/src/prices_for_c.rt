@@ -1,8 +1,8 @@
 // The call from C that runs and tells the price.
 ghost use Rattle.std.specs.Prelude.{◌≡◌};
 ghost use Rattle.prices.specs.priced_runs.InPlace.{state_priced};
-ghost use Rattle.fairleadow.specs.telling.AnswersForC.{GivesReplyC};
-ghost use Rattle.fairleadow.specs.prices_for_c.Calls.{priced_run_for};
+ghost use Rattle.fairleadow.specs.AnswersForC.{GivesReplyC};
+ghost use Rattle.fairleadow.specs.PricesForC.{priced_run_for};
 
 use crate::telling::tell;
 use prices::priced_runs;

@@ -2,8 +2,8 @@
 ghost use Rattle.std.specs.Prelude.{◌≡◌, if◌then◌else◌, ◌==◌};
 ghost use Rattle.text.specs.frames.Answer.{reply_number};
 ghost use Rattle.state.specs.Kept.{stored};
-ghost use Rattle.fairleadow.specs.telling.AnswersForC.{GivesReplyC};
-ghost use Rattle.fairleadow.specs.rebinding_for_c.Calls.{rebind_for, live_rebind_for};
+ghost use Rattle.fairleadow.specs.AnswersForC.{GivesReplyC};
+ghost use Rattle.fairleadow.specs.RebindingForC.{rebind_for, live_rebind_for};
 
 use crate::telling::tell;
 use rebinding::in_place;

@@ -3,8 +3,8 @@ ghost use Rattle.std.specs.Prelude.{◌≡◌};
 ghost use Rattle.state.specs.State.{fresh_state};
 ghost use Rattle.state.specs.Kept.{stored};
 ghost use Rattle.runs.specs.InPlace.{state_after, if_ticked};
-ghost use Rattle.fairleadow.specs.telling.AnswersForC.{GivesReplyC};
-ghost use Rattle.fairleadow.specs.runs_for_c.Calls.{run_for, live_run_for, tick_for, live_tick_for};
+ghost use Rattle.fairleadow.specs.AnswersForC.{GivesReplyC};
+ghost use Rattle.fairleadow.specs.RunsForC.{run_for, live_run_for, tick_for, live_tick_for};
 
 use crate::telling::{tell, tell_tick};
 use runs::machine;

@@ -1,8 +1,8 @@
 // The calls from C on four spindles, on an image and live on a prepared table; the list's length counts states.
 ghost use Rattle.std.specs.Prelude.{◌≡◌};
 ghost use Rattle.spindles.specs.Spindles.{if_spun, states_spun};
-ghost use Rattle.fairleadow.specs.telling.AnswersForC.{GivesReplyC};
-ghost use Rattle.fairleadow.specs.spindles_for_c.Calls.{spin_for, live_spin_for};
+ghost use Rattle.fairleadow.specs.AnswersForC.{GivesReplyC};
+ghost use Rattle.fairleadow.specs.SpindlesForC.{spin_for, live_spin_for};
 
 use crate::telling::tell_tick;
 use spindles::spindle_list;

@@ -2,7 +2,7 @@
 ghost use Rattle.std.specs.Prelude.{◌≡◌, if◌then◌else◌, ◌==◌};
 ghost use Rattle.text.specs.frames.Answer.{reply};
 ghost use Rattle.runs.specs.TickOutcome.{tick_reply, answered_mask, answered_code};
-ghost use Rattle.fairleadow.specs.telling.AnswersForC.{GivesReplyC};
+ghost use Rattle.fairleadow.specs.AnswersForC.{GivesReplyC};
 
 use text::frames::Refusal;
 use ticks::Tick;

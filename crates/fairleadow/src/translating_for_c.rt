@@ -1,7 +1,7 @@
 // The call from C that translates a chart.
 ghost use Rattle.std.specs.Prelude.{◌≡◌};
 ghost use Rattle.translator.specs.Entry.{translate};
-ghost use Rattle.fairleadow.specs.telling.AnswersForC.{GivesReplyC};
+ghost use Rattle.fairleadow.specs.AnswersForC.{GivesReplyC};
 
 use crate::telling::tell;
 

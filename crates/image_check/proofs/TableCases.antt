@@ -7,7 +7,7 @@ use Rattle.text.specs.frames.Frame.{size, field}
 use Rattle.text.specs.frames.Answer.{success, refusal, verdict_reply}
 use Rattle.image.specs.Decode.{row_count, rows_from}
 use Rattle.image.specs.Check.{is_filled, has_bad_handler, has_bad_counts, is_bad_header, is_stray, has_bad_content, table_verdict}
-use Rattle.image_check.specs.image_faults.inner.FaultyFrames.{is_faulty}
+use Rattle.image_check.specs.inner.FaultyFrames.{is_faulty}
 
 -- a good header tells how many frames there are
 pub header-size : (b : List ℕ) → is_bad_header b ≡ false → size b ≡ rows_from b + row_count b

@@ -1,1 +1,3 @@
 pub mod CheckedFrames
+pub mod FaultyFrames
+pub mod FieldTests

@@ -3,7 +3,7 @@ ghost use Rattle.std.specs.Prelude.{◌≡◌, ◌-◌, ◌≤◌};
 ghost use Rattle.words.specs.lists.Numbers.{lowest};
 ghost use Rattle.text.specs.frames.Frame.{size};
 ghost use Rattle.image.specs.Decode.{labels_from, rows_from};
-ghost use Rattle.image_check.specs.image_faults.inner.FaultyFrames.{is_faulty};
+ghost use Rattle.image_check.specs.inner.FaultyFrames.{is_faulty};
 
 use crate::image_fields::{bad_entry, bad_label, bad_row};
 use crate::image_strays::{stray_entry, stray_label, stray_row};

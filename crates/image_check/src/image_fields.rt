@@ -3,7 +3,7 @@ ghost use Rattle.std.specs.Prelude.{◌≡◌, not, ◌+◌, ◌<◌, ◌≤◌}
 ghost use Rattle.text.specs.frames.Frame.{size};
 ghost use Rattle.image.specs.Decode.{label_in, row_in, last_label, labels_from, rows_from};
 ghost use Rattle.image.specs.Check.{is_within, is_bad_entry, is_label, is_bad_label, has_bad_bit, is_bad_row};
-ghost use Rattle.image_check.specs.image_fields.inner.FieldTests.{has_bad_kind, has_bad_test};
+ghost use Rattle.image_check.specs.inner.FieldTests.{has_bad_kind, has_bad_test};
 
 use image::layout::*;
 use image::{byte, filled_to, label_byte, label_mask, row_byte, row_pair, rows_from};

@@ -1,5 +1,5 @@
-pub mod printing
-pub mod output_lines
-pub mod translate_output
-pub mod run_output
 pub mod Readings
+pub mod Lines
+pub mod Prints
+pub mod RunProgram
+pub mod TranslateProgram

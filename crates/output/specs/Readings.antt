@@ -2,9 +2,9 @@
 -- capitals.
 use Rattle.std.specs.Prelude.{ℕ, ◌<◌, ◌≡◌, List, map, take}
 use Rattle.text.specs.digits.Digit.{capital}
-use Rattle.output.specs.printing.Lines.{refusal_line, code_line}
-use Rattle.output.specs.translate_output.TranslateProgram.{translate_output}
-use Rattle.output.specs.run_output.RunProgram.{run_output}
+use Rattle.output.specs.Lines.{refusal_line, code_line}
+use Rattle.output.specs.TranslateProgram.{translate_output}
+use Rattle.output.specs.RunProgram.{run_output}
 
 -- read no more than one character past the longest chart
 abbrev pub TranslateFront : Type 0

@@ -2,7 +2,7 @@
 ghost use Rattle.std.specs.Prelude.{◌≡◌, ◌+◌, ◌*◌, ◌≤◌, length, flat_map};
 ghost use Rattle.words.specs.lists.Sequences.{written};
 ghost use Rattle.text.specs.declared.frames.sizes.TheConstants.{LINE};
-ghost use Rattle.output.specs.printing.Lines.{code_line, refusal_line};
+ghost use Rattle.output.specs.Lines.{code_line, refusal_line};
 
 use text::frames::put_bytes;
 

@@ -1,6 +1,6 @@
 // What the programs print: the frame that tells a refusal, and the line of a tick's code.
 ghost use Rattle.std.specs.Prelude.{◌≡◌};
-ghost use Rattle.output.specs.printing.Lines.{code_line, refusal_line};
+ghost use Rattle.output.specs.Lines.{code_line, refusal_line};
 
 use text::digits::character;
 use text::frames::put_frame;

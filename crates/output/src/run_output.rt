@@ -1,8 +1,8 @@
 // The run program between its input and its output.
 ghost use Rattle.std.specs.Prelude.{◌≡◌, ◌≤◌, length, Some};
 ghost use Rattle.text.specs.frames.Answer.{reply, reply_count};
-ghost use Rattle.output.specs.output_lines.Prints.{Prints};
-ghost use Rattle.output.specs.run_output.RunProgram.{program_words, run_lines, run_output};
+ghost use Rattle.output.specs.Prints.{Prints};
+ghost use Rattle.output.specs.RunProgram.{program_words, run_lines, run_output};
 ghost use Rattle.std.specs.Io.Cursor.{cursor_position, cursor_inner};
 ghost use Rattle.console.specs.Memory.{written_front, unwritten_rest, HasNoRoom};
 ghost use Rattle.console.specs.Outcome.{PrintsFor, WritesOver, ReadsUpTo, TellsErrors, PrintsWhereItFits};

@@ -1,7 +1,7 @@
 // The translator's program between its input and its output.
 ghost use Rattle.std.specs.Prelude.{◌≡◌, Some};
-ghost use Rattle.output.specs.output_lines.Prints.{Prints};
-ghost use Rattle.output.specs.translate_output.TranslateProgram.{translate_output};
+ghost use Rattle.output.specs.Prints.{Prints};
+ghost use Rattle.output.specs.TranslateProgram.{translate_output};
 ghost use Rattle.std.specs.Io.Cursor.{cursor_position, cursor_inner};
 ghost use Rattle.console.specs.Memory.{written_front, unwritten_rest, HasNoRoom};
 ghost use Rattle.console.specs.Outcome.{PrintsFor, WritesOver, ReadsUpTo, TellsErrors, PrintsWhereItFits};

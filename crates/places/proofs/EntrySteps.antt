@@ -1,7 +1,7 @@
 -- The answer at each return of the entry point.
-use Rattle.std.proofs.Common.{ℕ, ◌*◌, ◌≤◌, Bool, true, false, ◌≡◌, sym, ◌∙◌, ap, subst, List, arith, length, take, Err, if◌then◌else◌, nat_lt}
+use Rattle.std.proofs.Common.{ℕ, ◌*◌, ◌≤◌, Bool, true, false, ◌≡◌, sym, ◌∙◌, ap, List, arith, length, take, Option, None, Some, Err, nat_lt}
 use Rattle.std.proofs.lemmas.Grind.{common_steps}
-use Rattle.words.proofs.lists.Tests.{cases}
+use Rattle.std.proofs.lemmas.Option.{none-some, same_Some}
 use Rattle.text.specs.frames.Frame.{contents}
 use Rattle.text.specs.frames.Verdict.{Verdict, refused, when}
 use Rattle.text.specs.declared.frames.refusals.Refusal.{Refusal}
@@ -10,26 +10,20 @@ use Rattle.text.specs.frames.Answer.{Answer, success, refusal, reply, verdict_re
 use Rattle.text.proofs.frames.Chains.{next-refused, next-on}
 use Rattle.charts.specs.Chart.{Chart}
 use Rattle.charts.specs.Entry.{read_verdict, read_chart}
-use Rattle.walk.proofs.Facts.{Facts}
-use Rattle.chart_rows.proofs.chart_labels.ReadyLaws.{ready-facts}
 use Rattle.chart_rows.specs.Rows.{rows}
 use Rattle.translator.specs.Entry.{translate_verdict}
-use Rattle.translator.proofs.EntrySteps.{read-no, Read, read-ready}
+use Rattle.translator.proofs.EntrySteps.{read-no, Read}
 use Rattle.places.specs.chains.Calls.{is_circular, places}
-use Rattle.places.specs.chains.inner.Masks.{longest_chain}
-use Rattle.places.proofs.chains.Longest.{places-some}
+use Rattle.places.specs.inner.Masks.{longest_chain}
 use Rattle.places.specs.Entry.{places_verdict, places_needed}
 
--- ---- what the code's number tells
-module _ {c : Chart} (f : Facts c) {n : ℕ} (e : n ≡ longest_chain c) where
-  circle-when : (b : Bool) → is_circular c ≡ b → n ≡ (if b then 0 else places c)
-  circle-when b q = e ∙ ap (λ (b : Bool). if b then 0 else places c) q
+-- ---- what the code's answer tells
+module _ (c : Chart) {found : Option ℕ} (e : found ≡ longest_chain c) where
+  longest-none : found ≡ None → is_circular c ≡ true
+  longest-none z = grind (arith, common_steps, none-some)
 
-  longest-zero : n ≡ 0 → is_circular c ≡ true
-  longest-zero z = grind (arith, common_steps, places-some, cases, circle-when)
-
-  longest-some : (n ≡ 0 → ⊥) → (is_circular c ≡ false) × (n ≡ places c)
-  longest-some z = grind (arith, common_steps)
+  longest-some : {n : ℕ} → found ≡ Some n → (is_circular c ≡ false) × (n ≡ places c)
+  longest-some z = grind (arith, common_steps, none-some, same_Some)
 
 -- ---- the returns
 module _ (t : List ℕ) where
@@ -58,20 +52,17 @@ module _ {t held : List ℕ} {n : ℕ} (r : Read t held n) {b : Bool} (rows-told
   pub needed-wide : b ≡ true → refusal 10 0 0 ≡ places_needed t
   needed-wide q = refused-before t 10 0 (by-rows ∙ ap (when 10) q)
 
-  module _ (few : b ≡ false) {k : ℕ} (is : k ≡ longest_chain (take (10 * n) held)) where
+  module _ (few : b ≡ false) {found : Option ℕ} (is : found ≡ longest_chain (take (10 * n) held)) where
     by-calls : places_verdict t ≡ when 20 (is_circular (contents t))
     unfolding places_verdict
     by-calls = next-on (translate_verdict t) (λ _. when 20 (is_circular (contents t))) (by-rows ∙ ap (when 10) few)
 
-    chart-facts : Facts (contents t)
-    chart-facts = subst Facts r.chart (ready-facts (read-ready r))
-
-    longest-is : k ≡ longest_chain (contents t)
+    longest-is : found ≡ longest_chain (contents t)
     longest-is = is ∙ ap longest_chain r.chart
 
-    pub needed-circle : k ≡ 0 → refusal 20 0 0 ≡ places_needed t
-    needed-circle z = refused-by t 20 0 (by-calls ∙ ap (when 20) (longest-zero chart-facts longest-is z))
+    pub needed-circle : found ≡ None → refusal 20 0 0 ≡ places_needed t
+    needed-circle z = refused-by t 20 0 (by-calls ∙ ap (when 20) (longest-none (contents t) longest-is z))
 
-    pub needed-done : (k ≡ 0 → ⊥) → success k ≡ places_needed t
+    pub needed-done : {k : ℕ} → found ≡ Some k → success k ≡ places_needed t
     unfolding places_needed
-    needed-done z = grind (arith, common_steps, longest-some, by-calls, chart-facts, longest-is)
+    needed-done z = grind (arith, common_steps, longest-some, by-calls, longest-is)

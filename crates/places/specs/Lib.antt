@@ -1,3 +1,4 @@
 pub mod Entry
 pub mod Reported
 pub mod chains
+pub mod inner

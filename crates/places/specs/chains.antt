@@ -1,3 +1,2 @@
 pub mod Calls
 pub mod Chains
-pub mod inner

@@ -1,7 +1,7 @@
 // The places that a chart needs, by its text. There is no buffer.
 ghost use Rattle.std.specs.Prelude.{◌≡◌, length, nat_lt};
 ghost use Rattle.text.specs.frames.Answer.{reply};
-ghost use Rattle.chart_rows.specs.chart_labels.inner.ChartContracts.{Ready};
+ghost use Rattle.chart_rows.specs.inner.ChartContracts.{Ready};
 ghost use Rattle.chart_rows.specs.Rows.{rows};
 ghost use Rattle.places.specs.Entry.{places_needed};
 
@@ -33,9 +33,8 @@ pub fn places_needed(text: &[u8]) -> Result<usize, Refusal>
     if too_many_rows(records) {
         return Err(Refusal::ManyRows);
     }
-    let schemes = longest_chain(records);
-    if schemes == 0 {
+    let Some(schemes) = longest_chain(records) else {
         return Err(Refusal::CallsItself);
-    }
+    };
     Ok(schemes as usize)
 }

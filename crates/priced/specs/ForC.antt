@@ -7,9 +7,9 @@ use Rattle.translator.specs.Entry.{translate}
 use Rattle.state.specs.declared.layout.TheConstants.{PLACES}
 use Rattle.state.specs.declared.State.{State as Kept}
 use Rattle.state.specs.State.{fresh_state}
-use Rattle.fairleadow.specs.telling.AnswersForC.{GivesBufferC}
-use Rattle.fairleadow.specs.runs_for_c.Calls.{GivesStateC}
-use Rattle.fairleadow.specs.prices_for_c.Calls.{priced_run_for, GivesPricedRunC}
+use Rattle.fairleadow.specs.AnswersForC.{GivesBufferC}
+use Rattle.fairleadow.specs.RunsForC.{GivesStateC}
+use Rattle.fairleadow.specs.PricesForC.{priced_run_for, GivesPricedRunC}
 use Rattle.agreement.specs.Agreement.{RunInput, CallInput}
 use Rattle.agreement.specs.ForC.{RunOutputC, run_output_c, CallOutputC, call_output_c, CallC}
 use Rattle.priced.specs.Demand.{PricedInput, unpriced, to_priced_run, PricedOutput, priced_walk_outputs}

@@ -10,8 +10,7 @@ pub mod priced_runs;
 pub mod priced_states;
 
 // Of one tick: each turn takes the lowest set bit off the mask, so that a mask of few bits is few turns.
-fn tick_price(prices: &[u16], mask: u32) -> u64
-    requires { length prices.now ≡ 32 }
+fn tick_price(prices: &[u16; 32], mask: u32) -> u64
     ensures { result ≡ tick_price prices.now mask }
 {
     let mut total: u64 = 0;
@@ -25,9 +24,8 @@ fn tick_price(prices: &[u16], mask: u32) -> u64
 }
 
 // Of all ticks, in hundredths of a cent.
-fn hundredths_of(prices: &[u16], masks: &[u32]) -> u64
-    requires price_each { length prices.now ≡ 32 }
-    requires few { length masks.now ≤ 65536 }
+fn hundredths_of(prices: &[u16; 32], masks: &[u32]) -> u64
+    requires { length masks.now ≤ 65536 }
     ensures summed { result ≡ hundredths prices.now masks.now }
     ensures small { result ≤ 137436856320 }
 {

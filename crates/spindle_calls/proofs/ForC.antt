@@ -10,9 +10,9 @@ use Rattle.state.specs.declared.State.{State as Kept}
 use Rattle.state.specs.State.{State, fresh, fresh_state}
 use Rattle.state.specs.Kept.{view}
 use Rattle.state.proofs.Stored.{state-back}
-use Rattle.fairleadow.specs.runs_for_c.Calls.{GivesStateC}
-use Rattle.fairleadow.specs.rebinding_for_c.Calls.{rebind_for, live_rebind_for, GivesRebindingC}
-use Rattle.fairleadow.specs.spindles_for_c.Calls.{spin_for, live_spin_for, GivesSpinC}
+use Rattle.fairleadow.specs.RunsForC.{GivesStateC}
+use Rattle.fairleadow.specs.RebindingForC.{rebind_for, live_rebind_for, GivesRebindingC}
+use Rattle.fairleadow.specs.SpindlesForC.{spin_for, live_spin_for, GivesSpinC}
 use Rattle.agreement.specs.ForC.{TableOfC}
 use Rattle.agreement.proofs.ForC.{returned-0}
 use Rattle.agreement.proofs.OneCall.{prepared-rebind-is}

@@ -17,7 +17,7 @@ use Rattle.spindles.specs.Spindles.{state_at, head_verdict, SpinOutcome, outcome
 use Rattle.spindles.specs.Spindles.{outcome_spun_on, spin}
 use Rattle.spindles.proofs.OneCall.{tick_tried, tick_by_verdict, spin_by, spin-by, kept-by}
 use Rattle.spindles.proofs.spindle_list.Viewed.{views-spun, live-views-spun}
-use Rattle.fairleadow.specs.spindles_for_c.Calls.{spin_for, live_spin_for}
+use Rattle.fairleadow.specs.SpindlesForC.{spin_for, live_spin_for}
 use Rattle.spindle_calls.specs.Held.{ListHolds}
 
 -- no number of an image is 0

@@ -31,7 +31,7 @@ call-counts f none h x z = grind (arith, nat_tests)
 
 -- ---- any number of calls
 pub record CallsRow (h : Head) (said : List ObservedCall) (last : Head) : Type 0 where
-  pub left_is : head_after_all h (map call_of said) ≡ last
+  pub left-is : head_after_all h (map call_of said) ≡ last
   pub tallies : (f : ℕ → ℕ → ℕ) → ((d : ℕ) → f 0 d ≡ 0) → tally f h (map call_of said) ≡ tally_in f said
   pub made : (c : Chart) (k : ℕ) (s : Binding) → finished_ticks_by c k s h (map call_of said) ≡ finished_ticks_in c k s said
 
@@ -45,14 +45,14 @@ made-more c k h after (observed_rebinding t j n g) rest z e ih s = grind (arith,
 
 pub row-none : (h : Head) → CallsRow h [] h
 unfolding head_after_all tally tally_in finished_ticks_by finished_ticks_in
-row-none h = record { left_is = refl; tallies = λ f zero. refl; made = λ c k s. refl }
+row-none h = record { left-is = refl; tallies = λ f zero. refl; made = λ c k s. refl }
 
 pub row-more : (h after last : Head) (x : ObservedCall) (rest : List ObservedCall) → HeardFrom h x
     → head_after h (call_of x) ≡ after → CallsRow after rest last
     → CallsRow h (x ∷ rest) last
 unfolding head_after_all tally tally_in
 row-more h after last x rest z e row = record {
-  left_is = ap (λ (g : Head). head_after_all g (map call_of rest)) e ∙ row.left_is;
+  left-is = ap (λ (g : Head). head_after_all g (map call_of rest)) e ∙ row.left-is;
   tallies = λ f zero. ap₂ (λ (a b : ℕ). a + b) (call-counts f zero h x z)
       (ap (λ (g : Head). tally f g (map call_of rest)) e ∙ row.tallies f zero);
   made = λ c k. made-more c k h after x rest z e (row.made c k);

@@ -11,10 +11,10 @@ use Rattle.state.specs.declared.State.{State as Kept}
 use Rattle.state.specs.State.{fresh_state}
 use Rattle.state.specs.Kept.{view}
 use Rattle.spindles.specs.Spindles.{depths}
-use Rattle.fairleadow.specs.telling.AnswersForC.{GivesBufferC}
-use Rattle.fairleadow.specs.runs_for_c.Calls.{GivesStateC}
-use Rattle.fairleadow.specs.rebinding_for_c.Calls.{rebind_for, live_rebind_for, GivesRebindingC}
-use Rattle.fairleadow.specs.spindles_for_c.Calls.{spin_for, live_spin_for, GivesSpinC}
+use Rattle.fairleadow.specs.AnswersForC.{GivesBufferC}
+use Rattle.fairleadow.specs.RunsForC.{GivesStateC}
+use Rattle.fairleadow.specs.RebindingForC.{rebind_for, live_rebind_for, GivesRebindingC}
+use Rattle.fairleadow.specs.SpindlesForC.{spin_for, live_spin_for, GivesSpinC}
 use Rattle.agreement.specs.ForC.{TableOfC}
 use Rattle.spindle_walks.specs.Walks.{HandsImage, FollowsWalk}
 use Rattle.spindle_calls.specs.ObservedCalls.{ObservedTick, ObservedCall, observed_spin, observed_rebinding}

@@ -3,7 +3,7 @@ use Rattle.std.specs.Prelude.{ℕ, ◌≡◌, List, map}
 use Rattle.state.specs.declared.State.{State as Kept}
 use Rattle.state.specs.Kept.{view}
 use Rattle.spindles.specs.Spindles.{SpinOutcome}
-use Rattle.fairleadow.specs.spindles_for_c.Calls.{GivesSpinC}
+use Rattle.fairleadow.specs.SpindlesForC.{GivesSpinC}
 
 -- a call on an image, and one on a prepared table
 abbrev pub SpinnerC : Type 0

@@ -2,7 +2,7 @@
 //! states; definitions, and theorems as contracts.
 #![tactic(auto)]
 
-ghost use Rattle.fairleadow.specs.spindles_for_c.Calls.{spin_for, live_spin_for};
+ghost use Rattle.fairleadow.specs.SpindlesForC.{spin_for, live_spin_for};
 ghost use Rattle.spindle_calls.specs.Held.{ListHolds};
 ghost use Rattle.spindle_calls.specs.NoPlace.{NoPlaceExactly};
 ghost use Rattle.spindle_calls.specs.Delivered.{PlacesDelivered, OwnWalkDelivered};

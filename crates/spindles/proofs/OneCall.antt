@@ -15,7 +15,7 @@ use Rattle.fitness.specs.Fitness.{is_unfit}
 use Rattle.ticks.specs.Tick.{MachineTick, finished, stopped, tick}
 use Rattle.runs.specs.Run.{ticks}
 use Rattle.runs.specs.TickOutcome.{TickOutcome}
-use Rattle.runs.specs.machine.inner.Sources.{sourced_run, sourced_tick}
+use Rattle.runs.specs.inner.Sources.{sourced_run, sourced_tick}
 use Rattle.runs.proofs.machine.Sourced.{text-tick, table-tick}
 use Rattle.runs.proofs.machine.OneTick.{advance_by, advance-by}
 use Rattle.spindles.specs.Spindles.{state_at, head_verdict, SpinOutcome, outcome_turned_back, is_none_left, outcome_spun_by}

@@ -1,5 +1,4 @@
 pub mod Spindles
 pub mod Laws
 pub mod inner
-pub mod turning
 pub mod spindle_places

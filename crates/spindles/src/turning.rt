@@ -3,9 +3,9 @@ ghost use Rattle.std.specs.Prelude.{◌≤◌};
 ghost use Rattle.text.specs.frames.Verdict.{fine};
 ghost use Rattle.tables.specs.Table.{table_image};
 ghost use Rattle.state.specs.Kept.{view};
-ghost use Rattle.runs.specs.machine.inner.Sources.{sourced_tick};
+ghost use Rattle.runs.specs.inner.Sources.{sourced_tick};
 ghost use Rattle.spindles.specs.inner.Parts.{turn, GivesTurn};
-ghost use Rattle.spindles.specs.turning.inner.TurnContracts.{GivesSettled};
+ghost use Rattle.spindles.specs.inner.TurnContracts.{GivesSettled};
 ghost use Rattle.spindles.specs.declared.layout.TheConstants.{STORE};
 
 use crate::{SpinReport, bad_record, none_left};

@@ -1,4 +1,3 @@
 pub mod digits
 pub mod frames
-pub mod frame_reading
-pub mod reading
+pub mod inner

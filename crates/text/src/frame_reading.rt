@@ -1,7 +1,7 @@
 // One frame of a text, read: its characters and its sum looked at, and its ten bytes stored in a lent buffer.
 ghost use Rattle.std.specs.Prelude.{◌≡◌, map, ◌+◌, ◌≤◌, ◌<◌, length};
 ghost use Rattle.words.specs.lists.Numbers.{range};
-ghost use Rattle.text.specs.frame_reading.inner.FrameReads.{DigitsRead, place_of, value_of, FrameAsked, FrameRead};
+ghost use Rattle.text.specs.inner.FrameReads.{DigitsRead, place_of, value_of, FrameAsked, FrameRead};
 
 use crate::digits::digit;
 use crate::frames::sizes::*;
@@ -50,8 +50,7 @@ fn place_of(k: usize) -> usize
 }
 
 // The eleven bytes of these digits.
-fn values_of(digits: &[u8]) -> [u8; BYTES]
-    requires { length digits.now ≡ 32 }
+fn values_of(digits: &[u8; 32]) -> [u8; BYTES]
     ensures { result ≡ map (value_of digits.now) (range 0 BYTES) }
 {
     let mut values = [0u8; BYTES];

@@ -5,7 +5,7 @@ ghost use Rattle.text.specs.frames.Frame.{frame_count};
 ghost use Rattle.text.specs.frames.Check.{text_verdict};
 ghost use Rattle.text.specs.frames.Read.{read_buffer};
 ghost use Rattle.text.specs.frames.Answer.{reply, verdict_reply};
-ghost use Rattle.text.specs.reading.inner.Reads.{FramesRead};
+ghost use Rattle.text.specs.inner.Reads.{FramesRead};
 
 use crate::frame_reading::read_frame;
 use crate::frames::sizes::LINE;

@@ -12,7 +12,7 @@ use Rattle.text.proofs.frames.Lent.{lent-fits, lent-told, lent-err, front}
 use Rattle.charts.specs.Entry.{read_verdict, read_chart}
 use Rattle.charts.proofs.Accepted.{Accepted, accepted, accepted-bytes}
 use Rattle.translator.specs.Entry.{translate_verdict, translate}
-use Rattle.chart_rows.specs.chart_labels.inner.ChartContracts.{Ready}
+use Rattle.chart_rows.specs.inner.ChartContracts.{Ready}
 use Rattle.translator.specs.inner.ImageBytes.{image_outcome}
 
 -- a refusal with room for all of it is the verdict's, and counts 0

@@ -12,7 +12,7 @@ use Rattle.text.specs.frames.Frame.{size, field, ten_bytes_at, frame_text, text_
 use Rattle.text.proofs.frames.FrameLoops.{length-frame}
 use Rattle.text.proofs.frames.TextLoops.{frame_of}
 use Rattle.image.specs.Image.{Image, entry_frame, label_frame, row_frame, image_frames, image_text}
-use Rattle.translator.specs.label_text.inner.LabelBytes.{Put}
+use Rattle.translator.specs.inner.LabelBytes.{Put}
 use Rattle.translator.specs.inner.ImageBytes.{frames_bytes}
 use Rattle.chart_text.proofs.SpreadSteps.{text-spread}
 

@@ -13,7 +13,7 @@ use Rattle.words.proofs.lists.Counts.{count-suc, count-snoc}
 use Rattle.words.proofs.lists.Tests.{cases}
 use Rattle.words.proofs.lists.Ranges.{map_from-cons, filter-yes, filter-no}
 use Rattle.words.proofs.lists.Joins.{concat-cons, concat-map, concat-append, length-concat-range}
-use Rattle.words.proofs.lists.Written.{written-more, written-front, written-before}
+use Rattle.words.proofs.lists.Written.{written-front}
 use Rattle.text.specs.frames.Frame.{size}
 use Rattle.text.specs.frames.Verdict.{fine, when}
 use Rattle.text.specs.frames.Answer.{GivesBuffer}
@@ -23,15 +23,16 @@ use Rattle.text.proofs.frames.Chains.{when-holds, when-fails}
 use Rattle.text.proofs.frames.Lent.{lent-err, lent-short, lent-done}
 use Rattle.charts.specs.Chart.{Chart, handler, schemes}
 use Rattle.image.specs.Image.{Row, entry_frame, label_frame, image_frames, image_text}
-use Rattle.chart_rows.specs.chart_labels.Labels.{is_numbered, entry, home_label, return_label, stop_label, numbered_nodes}
+use Rattle.chart_rows.specs.Labels.{is_numbered, entry, home_label, return_label, stop_label, numbered_nodes}
 use Rattle.chart_rows.specs.Rows.{rows}
 use Rattle.translator.specs.Table.{table}
-use Rattle.translator.specs.path_text.inner.RowBytes.{rows_bytes}
-use Rattle.translator.specs.row_text.inner.NodeBytes.{node_rows_bytes}
+use Rattle.translator.specs.inner.RowBytes.{rows_bytes}
+use Rattle.translator.specs.inner.NodeBytes.{node_rows_bytes}
 use Rattle.translator.specs.inner.ImageBytes.{frames_bytes, table_bytes, size_refusal, image_outcome}
 use Rattle.chart_rows.specs.inner.NodeRows.{node_rows}
-use Rattle.translator.specs.label_text.inner.LabelBytes.{header_bytes, entry_bytes, fixed_bytes, node_label_bytes, up_to, Put}
+use Rattle.translator.specs.inner.LabelBytes.{header_bytes, entry_bytes, fixed_bytes, node_label_bytes, up_to, Put}
 use Rattle.translator.specs.inner.TranslatorContracts.{Sizes, ImageRoom}
+use Rattle.translator.proofs.label_text.Puts.{put-after, put-before, done-as}
 use Rattle.translator.proofs.LabelLaws.{length-labels, length-entries}
 use Rattle.translator.proofs.ImageBytes.{bytes-length, image-length}
 use Rattle.chart_rows.proofs.chart_labels.LabelSteps.{label-own}
@@ -140,23 +141,6 @@ module _ (c : Chart) where
 fixed-long : length fixed_bytes ≡ 20
 fixed-long = refl
 
--- four parts, each written where the one before ends, and then the one before them all
-chain : (out o₁ o₂ o₃ o₄ o₅ a b d e f : List ℕ) (p q r s : ℕ) → p ≡ length a → q ≡ p + length b → r ≡ q + length d
-    → s ≡ r + length e → s + length f ≤ length out
-    → o₁ ≡ written out p b → o₂ ≡ written o₁ q d → o₃ ≡ written o₂ r e → o₄ ≡ written o₃ s f
-    → o₅ ≡ written o₄ 0 a → o₅ ≡ written out 0 (a ++ (b ++ (d ++ (e ++ f))))
-chain out o₁ o₂ o₃ o₄ o₅ a b d e f p q r s ep eq er es room e₁ e₂ e₃ e₄ e₅ =
-    let n₂ : length (b ++ d) ≡ length b + length d = length-append b d in
-    let n₃ : length ((b ++ d) ++ e) ≡ length (b ++ d) + length e = length-append (b ++ d) e in
-    let n₄ : length (((b ++ d) ++ e) ++ f) ≡ length ((b ++ d) ++ e) + length f = length-append ((b ++ d) ++ e) f in
-    let w₂ : o₂ ≡ written out p (b ++ d) = written-more out p b d o₁ o₂ q eq (omega arith) e₁ e₂ in
-    let w₃ : o₃ ≡ written out p ((b ++ d) ++ e) = written-more out p (b ++ d) e o₂ o₃ r (omega arith) (omega arith) w₂ e₃ in
-    let w₄ : o₄ ≡ written out p (((b ++ d) ++ e) ++ f) = written-more out p ((b ++ d) ++ e) f o₃ o₄ s (omega arith) (omega arith) w₃ e₄ in
-    let g : ((b ++ d) ++ e) ++ f ≡ b ++ (d ++ (e ++ f)) = simp append_assoc in
-    let k : p ≡ 0 + length a = omega arith in
-    e₅ ∙ ap (λ (o : List ℕ). written o 0 a) w₄ ∙ written-before out 0 a (((b ++ d) ++ e) ++ f) p k (omega arith)
-    ∙ ap (λ (x : List ℕ). written out 0 (a ++ x)) g
-
 module _ (c : Chart) (highest own n : ℕ) (s : Sizes c highest own n) where
   pub bytes-long : length (table_bytes c) ≡ 10 * (3 + highest + own + n)
   bytes-long =
@@ -170,27 +154,24 @@ module _ (c : Chart) (highest own n : ℕ) (s : Sizes c highest own n) where
   pub rows-put : (row end : ℕ) → end ≡ row + length (up_to (node_rows_bytes c) (size c)) → (end - row) / 10 ≡ n
   rows-put row end e = omega (arith, rows-long c, s.rowed)
 
-  module _ (out o₁ o₂ o₃ o₄ o₅ : List ℕ) (end m h : ℕ) (room : 23 * (3 + highest + own + n) ≤ length out) (em : m ≡ n)
+  module _ {out o₁ o₂ o₃ o₄ o₅ : List ℕ} {end m h : ℕ} (room : 23 * (3 + highest + own + n) ≤ length out) (em : m ≡ n)
       (eh : h ≡ handler c) where
     pub table-put : o₁ ≡ written out 10 (up_to (entry_bytes c) highest) → o₂ ≡ written o₁ (10 + 10 * highest) fixed_bytes
         → o₃ ≡ written o₂ (10 + 10 * highest + 20) (up_to (node_label_bytes c) (size c))
         → Put o₃ (10 + 10 * highest + 20 + 10 * own) (up_to (node_rows_bytes c) (size c)) end o₄
         → o₅ ≡ written o₄ 0 (header_bytes highest (own + 1) m h) → Put out 0 (table_bytes c) end o₅
-    table-put e₁ e₂ e₃ put e₅ =
-        let a : length (header_bytes highest (own + 1) n (handler c)) ≡ 10 = refl in
-        let b : length (up_to (entry_bytes c) highest) ≡ 10 * highest = entries-long c highest in
-        let d : length (up_to (node_label_bytes c) (size c)) ≡ 10 * own = labels-long c ∙ ap (λ (k : ℕ). 10 * k) (sym s.owned) in
-        let e : length (up_to (node_rows_bytes c) (size c)) ≡ 10 * n = rows-long c ∙ ap (λ (k : ℕ). 10 * k) (sym s.rowed) in
-        record {
-          ends = omega (arith, put.ends, bytes-long);
-          holds =
-              chain out o₁ o₂ o₃ o₄ o₅ (header_bytes highest (own + 1) n (handler c)) (up_to (entry_bytes c) highest) fixed_bytes
-              (up_to (node_label_bytes c) (size c)) (up_to (node_rows_bytes c) (size c))
-              10 (10 + 10 * highest) (10 + 10 * highest + 20) (10 + 10 * highest + 20 + 10 * own)
-              (omega arith) (omega arith) (omega (arith, fixed-long)) (omega arith) (omega (arith, fixed-long)) e₁ e₂ e₃ put.holds
-              (e₅ ∙ ap₂ (λ (k x : ℕ). written o₄ 0 (header_bytes highest (own + 1) k x)) em eh)
-              ∙ ap (written out 0) (sym (image-parts c highest own n s.schemed s.owned s.rowed));
-        }
+    table-put e₁ e₂ e₃ rows e₅ =
+        let entries : Put out 10 (up_to (entry_bytes c) highest) (10 + 10 * highest) o₁ =
+        record { ends = omega (arith, entries-long c highest); holds = e₁ } in
+        let fixed : Put o₁ (10 + 10 * highest) fixed_bytes (10 + 10 * highest + 20) o₂ =
+        record { ends = omega (arith, fixed-long); holds = e₂ } in
+        let labels : Put o₂ (10 + 10 * highest + 20) (up_to (node_label_bytes c) (size c)) (10 + 10 * highest + 20 + 10 * own) o₃ =
+        record { ends = omega (arith, labels-long c, s.owned); holds = e₃ } in
+        let header : Put o₄ 0 (header_bytes highest (own + 1) n (handler c)) 10 o₅ =
+        record { ends = refl; holds = e₅ ∙ ap₂ (λ (k x : ℕ). written o₄ 0 (header_bytes highest (own + 1) k x)) em eh } in
+        done-as _ _ _ _ _ _ (image-parts c highest own n s.schemed s.owned s.rowed ∙ sym (simp append_assoc))
+        (put-before (omega arith) (put-after (omega arith) (put-after (omega arith) (put-after (omega arith) entries fixed) labels) rows)
+        header)
 
 pub text-room : {c : Chart} {notes : List ℕ} {highest own : ℕ} {out o₁ : List ℕ} {end : ℕ} → ImageRoom c notes highest own out
     → Put out 0 (table_bytes c) end o₁ → 23 * (end / 10) ≤ length out

@@ -15,7 +15,7 @@ use Rattle.walk.specs.Stops.{is_stop}
 use Rattle.walk.proofs.Facts.{Facts}
 use Rattle.walk.proofs.Follow.{stops-begin}
 use Rattle.image.specs.inner.Sound.{no_label, nth_label}
-use Rattle.chart_rows.specs.chart_labels.Labels.{is_numbered, numbered_nodes, label, entry, home_label, return_label, stop_label}
+use Rattle.chart_rows.specs.Labels.{is_numbered, numbered_nodes, label, entry, home_label, return_label, stop_label}
 use Rattle.chart_rows.specs.Rows.{rows}
 use Rattle.translator.specs.Table.{table}
 

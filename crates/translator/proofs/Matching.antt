@@ -18,7 +18,7 @@ use Rattle.charts.proofs.Rank.{rank, rank-some}
 use Rattle.walk.specs.Stops.{is_stop, next_stop}
 use Rattle.walk.proofs.Follow.{goes-on, follow-stays, follow-goes, takes-0, takes-1, condition-arc0, condition-arc1, taken-end, taken-falls}
 use Rattle.image.specs.Image.{Row}
-use Rattle.chart_rows.specs.chart_labels.Labels.{label}
+use Rattle.chart_rows.specs.Labels.{label}
 use Rattle.chart_rows.specs.Rows.{paths}
 use Rattle.chart_rows.specs.inner.NodeRows.{paths_from}
 use Rattle.chart_rows.proofs.PathSteps.{path_row, paths-stop, paths-known, paths-new}

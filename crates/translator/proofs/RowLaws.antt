@@ -22,7 +22,7 @@ use Rattle.charts.proofs.Rank.{rank-le}
 use Rattle.walk.specs.Stops.{is_stop, by_arc, by_word}
 use Rattle.walk.proofs.Follow.{stops-other, stops-condition, stops-begin, follow-condition, takes-0, takes-1}
 use Rattle.image.specs.Image.{Row, no_row}
-use Rattle.chart_rows.specs.chart_labels.Labels.{is_numbered, label}
+use Rattle.chart_rows.specs.Labels.{is_numbered, label}
 use Rattle.chart_rows.specs.Rows.{rows_of, rows}
 use Rattle.chart_rows.proofs.RowKinds.{function-rows, condition-rows, plain-rows}
 use Rattle.chart_rows.specs.inner.NodeRows.{paths_from}

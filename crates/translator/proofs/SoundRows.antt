@@ -22,7 +22,7 @@ use Rattle.walk.proofs.Follow.{goes-on}
 use Rattle.image.specs.Image.{Label, Row, no_row}
 use Rattle.image.specs.inner.Sound.{nth_label, Reaches, SoundRow}
 use Rattle.image.proofs.Rising.{Rising, rising-at}
-use Rattle.chart_rows.specs.chart_labels.Labels.{is_numbered, numbered_nodes, label, stop_label}
+use Rattle.chart_rows.specs.Labels.{is_numbered, numbered_nodes, label, stop_label}
 use Rattle.chart_rows.proofs.chart_labels.LabelKinds.{label-function, label-owner}
 use Rattle.chart_rows.specs.Rows.{paths, rows_of, rows}
 use Rattle.chart_rows.proofs.RowKinds.{function-rows, condition-rows, plain-rows}

@@ -18,7 +18,7 @@ use Rattle.image.specs.Check.{image_verdict}
 use Rattle.image.specs.inner.Sound.{no_label, nth_label, SoundLabel, SoundImage}
 use Rattle.image.proofs.Decoded.{image-decoded}
 use Rattle.image.proofs.Passes.{image-fine}
-use Rattle.chart_rows.specs.chart_labels.Labels.{is_numbered, numbered_nodes, bare_label, label_as, stop_label}
+use Rattle.chart_rows.specs.Labels.{is_numbered, numbered_nodes, bare_label, label_as, stop_label}
 use Rattle.chart_rows.specs.Rows.{rows}
 use Rattle.translator.specs.Table.{table}
 use Rattle.translator.proofs.LabelLaws.{label-home, label-return, labels-two, labels-few, length-entries, entry-holds, rows-are}

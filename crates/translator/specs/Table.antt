@@ -3,7 +3,7 @@ use Rattle.std.specs.Prelude.{◌∷◌, map}
 use Rattle.words.specs.lists.Numbers.{range}
 use Rattle.charts.specs.Chart.{Chart, handler, schemes}
 use Rattle.image.specs.Image.{Image}
-use Rattle.chart_rows.specs.chart_labels.Labels.{entry, home_label, return_label, stop_label, numbered_nodes}
+use Rattle.chart_rows.specs.Labels.{entry, home_label, return_label, stop_label, numbered_nodes}
 use Rattle.chart_rows.specs.Rows.{rows}
 
 unfoldable pub table : Chart → Image

@@ -3,10 +3,10 @@ ghost use Rattle.std.specs.Prelude.{◌≡◌, ◌+◌, ◌*◌, ◌≤◌, leng
 ghost use Rattle.words.specs.lists.Sequences.{written};
 ghost use Rattle.text.specs.declared.frames.sizes.TheConstants.{ROWS};
 ghost use Rattle.image.specs.Image.{entry_frame};
-ghost use Rattle.chart_rows.specs.chart_labels.Labels.{entry};
-ghost use Rattle.chart_rows.specs.chart_labels.inner.ChartContracts.{Begun};
-ghost use Rattle.translator.specs.label_text.inner.LabelContracts.{OfScheme, Schemed};
-ghost use Rattle.translator.specs.label_text.inner.LabelBytes.{header_bytes, entry_bytes, up_to};
+ghost use Rattle.chart_rows.specs.Labels.{entry};
+ghost use Rattle.chart_rows.specs.inner.ChartContracts.{Begun};
+ghost use Rattle.translator.specs.inner.LabelContracts.{OfScheme, Schemed};
+ghost use Rattle.translator.specs.inner.LabelBytes.{header_bytes, entry_bytes, up_to};
 
 use chart_rows::chart_labels::note_begins;
 use charts::field;

@@ -3,9 +3,9 @@ ghost use Rattle.std.specs.Prelude.{◌≡◌, ◌+◌, ◌≤◌, length, if◌
 ghost use Rattle.words.specs.lists.Sequences.{written};
 ghost use Rattle.text.specs.frames.Frame.{size};
 ghost use Rattle.image.specs.Image.{label_frame};
-ghost use Rattle.chart_rows.specs.chart_labels.Labels.{stop_label};
-ghost use Rattle.chart_rows.specs.chart_labels.inner.ChartContracts.{Inner, OfKind, Charted, AtNode};
-ghost use Rattle.translator.specs.label_text.inner.LabelBytes.{fixed_bytes, node_label_bytes, up_to, Put};
+ghost use Rattle.chart_rows.specs.Labels.{stop_label};
+ghost use Rattle.chart_rows.specs.inner.ChartContracts.{Inner, OfKind, Charted, AtNode};
+ghost use Rattle.translator.specs.inner.LabelBytes.{fixed_bytes, node_label_bytes, up_to, Put};
 
 use charts::field;
 use charts::layout::*;

@@ -4,8 +4,8 @@ ghost use Rattle.text.specs.frames.Frame.{size};
 ghost use Rattle.image.specs.Image.{row_frame, row};
 ghost use Rattle.chart_rows.specs.inner.PathContracts.{PathAt};
 ghost use Rattle.chart_rows.specs.inner.NodeRows.{paths_from};
-ghost use Rattle.translator.specs.label_text.inner.LabelBytes.{Put};
-ghost use Rattle.translator.specs.path_text.inner.RowBytes.{rows_bytes};
+ghost use Rattle.translator.specs.inner.LabelBytes.{Put};
+ghost use Rattle.translator.specs.inner.RowBytes.{rows_bytes};
 
 use chart_rows::settle;
 use charts::field;

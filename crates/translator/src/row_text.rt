@@ -1,12 +1,12 @@
 // The rows of all labels, written as frames of ten bytes. Functions return the offset after what they wrote.
 ghost use Rattle.std.specs.Prelude.{◌+◌, ◌≤◌, length};
 ghost use Rattle.text.specs.frames.Frame.{size};
-ghost use Rattle.chart_rows.specs.chart_labels.Labels.{label};
+ghost use Rattle.chart_rows.specs.Labels.{label};
 ghost use Rattle.chart_rows.specs.inner.PathContracts.{Noted, NotedAt, SidesAt};
-ghost use Rattle.translator.specs.path_text.inner.RowBytes.{rows_bytes};
-ghost use Rattle.translator.specs.row_text.inner.NodeBytes.{node_rows_bytes};
+ghost use Rattle.translator.specs.inner.RowBytes.{rows_bytes};
+ghost use Rattle.translator.specs.inner.NodeBytes.{node_rows_bytes};
 ghost use Rattle.chart_rows.specs.inner.NodeRows.{sides};
-ghost use Rattle.translator.specs.label_text.inner.LabelBytes.{up_to, Put};
+ghost use Rattle.translator.specs.inner.LabelBytes.{up_to, Put};
 
 use crate::path_text::put_paths;
 use charts::field;

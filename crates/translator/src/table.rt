@@ -2,7 +2,7 @@
 ghost use Rattle.std.specs.Prelude.{◌≡◌, ◌≤◌};
 ghost use Rattle.image.specs.Image.{image_text};
 ghost use Rattle.chart_rows.specs.inner.PathContracts.{Noted};
-ghost use Rattle.translator.specs.label_text.inner.LabelBytes.{Put};
+ghost use Rattle.translator.specs.inner.LabelBytes.{Put};
 ghost use Rattle.translator.specs.Table.{table};
 ghost use Rattle.translator.specs.inner.TranslatorContracts.{ImageRoom};
 ghost use Rattle.translator.specs.inner.ImageBytes.{table_bytes, size_refusal};

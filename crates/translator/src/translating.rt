@@ -2,7 +2,7 @@
 ghost use Rattle.std.specs.Prelude.{◌≡◌};
 ghost use Rattle.text.specs.frames.Answer.{GivesBuffer};
 ghost use Rattle.charts.specs.Chart.{schemes};
-ghost use Rattle.chart_rows.specs.chart_labels.inner.ChartContracts.{Ready};
+ghost use Rattle.chart_rows.specs.inner.ChartContracts.{Ready};
 ghost use Rattle.translator.specs.Entry.{translate};
 ghost use Rattle.translator.specs.inner.ImageBytes.{image_outcome};
 

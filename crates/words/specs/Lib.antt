@@ -1,3 +1,4 @@
 pub mod lists
 pub mod bits
 pub mod graph
+pub mod inner

@@ -3,7 +3,7 @@ ghost use Rattle.std.specs.Prelude.{◌≡◌, not, ◌≤◌, length};
 ghost use Rattle.words.specs.lists.Numbers.{lowest};
 ghost use Rattle.words.specs.lists.Sequences.{over};
 ghost use Rattle.words.specs.graph.Reach.{is_marked};
-ghost use Rattle.words.specs.graph.inner.Listed.{many, listing, enlist, marked_nodes};
+ghost use Rattle.words.specs.inner.Listed.{many, listing, enlist, marked_nodes};
 
 /// Whether node `u` has a mark; a number that is no node has none.
 pub fn is_marked(marks: &[bool], u: usize) -> bool

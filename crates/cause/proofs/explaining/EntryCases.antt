@@ -9,7 +9,7 @@ use Rattle.image.proofs.Accepted.{image-sound}
 use Rattle.tables.proofs.Made.{MadeTable}
 use Rattle.state.specs.State.{State}
 use Rattle.cause.specs.Cause.{explain, GivesCause}
-use Rattle.cause.specs.table_causes.inner.TableCauses.{Ordered, table_cause}
+use Rattle.cause.specs.inner.TableCauses.{Ordered, table_cause}
 
 pub image-ordered : (t b : List ℕ) → MadeTable t b → Ordered b
 image-ordered t b made = record {

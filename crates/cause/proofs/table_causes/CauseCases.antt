@@ -31,7 +31,7 @@ use Rattle.ticks.specs.inner.TickContracts.{bit_of}
 use Rattle.cause.specs.Cause.{mask_against_all, leaves_label, leaving_by, leaving, cause_at, cause_of, CauseOutcome}
 use Rattle.cause.specs.Cause.{no_cause, cause_outcome, cause_on, cause_reply, GivesCause}
 use Rattle.cause.specs.inner.CauseContracts.{mask_against_from}
-use Rattle.cause.specs.table_causes.inner.TableCauses.{Ordered, leaving_number, table_cause}
+use Rattle.cause.specs.inner.TableCauses.{Ordered, leaving_number, table_cause}
 use Rattle.cause.proofs.Leaves.{Leaves, by, stays, leaves}
 use Rattle.cause.proofs.table_causes.TableConditions.{any-conditions, frame-conditions}
 

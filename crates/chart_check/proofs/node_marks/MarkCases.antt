@@ -10,7 +10,7 @@ use Rattle.words.specs.lists.Numbers.{range}
 use Rattle.words.proofs.lists.Searches.{lowest-none}
 use Rattle.words.proofs.lists.Ranges.{length-map-range, map-range-snoc}
 use Rattle.words.specs.graph.Reach.{is_marked, only_marks, reach, nodes_joined_from}
-use Rattle.words.specs.graph.inner.Listed.{many, Listing, listing, enlist_all, Listed}
+use Rattle.words.specs.inner.Listed.{many, Listing, listing, enlist_all, Listed}
 use Rattle.words.proofs.graph.Marking.{full-marked, Joining}
 use Rattle.words.proofs.graph.Lists.{listed-none, list-few, Followed}
 use Rattle.words.proofs.graph.Enlisted.{Enlisted, enlisted-all}

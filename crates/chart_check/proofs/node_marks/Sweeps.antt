@@ -5,7 +5,7 @@ use Rattle.std.proofs.lemmas.Grind.{common_steps}
 use Rattle.std.proofs.lemmas.Bool.{cond-true, cond-false}
 use Rattle.words.proofs.lists.Tests.{cases}
 use Rattle.words.specs.graph.Reach.{is_marked, reach}
-use Rattle.words.specs.graph.inner.Listed.{mark_all}
+use Rattle.words.specs.inner.Listed.{mark_all}
 use Rattle.words.proofs.graph.Lists.{joining-more}
 use Rattle.words.proofs.graph.Marking.{Joining, joining-first, joining-same}
 use Rattle.text.specs.frames.Frame.{size}

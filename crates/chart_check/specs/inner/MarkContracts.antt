@@ -1,7 +1,7 @@
 -- The marks that a sweep leaves, and what functions that mark nodes ask of their callers: marks for all nodes, lists with room for all.
 use Rattle.std.specs.Prelude.{ℕ, zero, suc, ◌≤◌, ◌≡◌, Bool, false, List, length, replicate, if◌then◌else◌}
 use Rattle.words.specs.graph.Reach.{is_marked}
-use Rattle.words.specs.graph.inner.Listed.{mark_all, Listed}
+use Rattle.words.specs.inner.Listed.{mark_all, Listed}
 use Rattle.text.specs.declared.frames.sizes.TheConstants.{NODES}
 use Rattle.text.specs.frames.Frame.{size}
 use Rattle.charts.specs.Chart.{Chart}

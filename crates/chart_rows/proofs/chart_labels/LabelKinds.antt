@@ -2,7 +2,7 @@
 use Rattle.std.proofs.Common.{ℕ, ◌≡◌, ap}
 use Rattle.charts.specs.Layout.{Function, kind_of}
 use Rattle.charts.specs.Chart.{Chart, kind, scheme}
-use Rattle.chart_rows.specs.chart_labels.Labels.{label_as, stop_label}
+use Rattle.chart_rows.specs.Labels.{label_as, stop_label}
 use Rattle.std.proofs.lemmas.Bool.Decides.{nat_tests}
 use Rattle.std.proofs.lemmas.Grind.{common_steps}
 use Rattle.std.proofs.Common.{arith}

@@ -14,8 +14,8 @@ use Rattle.text.specs.frames.Frame.{size}
 use Rattle.charts.specs.Chart.{Chart, kind, scheme, next0, is, begin, end}
 use Rattle.walk.specs.Stops.{is_stop}
 use Rattle.walk.proofs.Facts.{Facts}
-use Rattle.chart_rows.specs.chart_labels.Labels.{is_numbered, label}
-use Rattle.chart_rows.specs.chart_labels.inner.ChartContracts.{Ready, Labelled}
+use Rattle.chart_rows.specs.Labels.{is_numbered, label}
+use Rattle.chart_rows.specs.inner.ChartContracts.{Ready, Labelled}
 use Rattle.chart_rows.proofs.chart_labels.ReadyLaws.{ready-facts}
 use Rattle.walk.proofs.Follow.{stops-begin}
 

@@ -13,7 +13,7 @@ use Rattle.words.proofs.lists.Tests.{and-true, and-no, and-second, and-first}
 use Rattle.text.specs.frames.Frame.{size}
 use Rattle.charts.specs.Chart.{Chart, kind, scheme, schemes, next0, is, is_of, begin, node_of}
 use Rattle.walk.specs.Stops.{is_stop}
-use Rattle.chart_rows.specs.chart_labels.inner.ChartContracts.{Ready, Begun}
+use Rattle.chart_rows.specs.inner.ChartContracts.{Ready, Begun}
 use Rattle.chart_rows.proofs.Parts.{written-is, part-within}
 use Rattle.chart_rows.proofs.chart_labels.ReadyLaws.{ready-facts}
 use Rattle.walk.proofs.Follow.{stops-begin, stops-condition, stops-other}

@@ -3,7 +3,7 @@ use Rattle.charts.specs.Chart.{Chart}
 use Rattle.charts.proofs.Accepted.{SoundChart, sound}
 use Rattle.walk.proofs.Facts.{Facts}
 use Rattle.walk.proofs.FactsHold.{facts-of}
-use Rattle.chart_rows.specs.chart_labels.inner.ChartContracts.{Ready}
+use Rattle.chart_rows.specs.inner.ChartContracts.{Ready}
 
 module _ {c : Chart} (ready : Ready c) where
   pub ready-sound : SoundChart c

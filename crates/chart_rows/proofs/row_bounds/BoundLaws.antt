@@ -23,7 +23,7 @@ use Rattle.charts.proofs.Rank.{rank, rank-le, rank-some, rank-falls0, rank-falls
 use Rattle.walk.specs.Stops.{is_stop}
 use Rattle.walk.proofs.Follow.{goes-on, taken-by}
 use Rattle.image.specs.Image.{Row}
-use Rattle.chart_rows.specs.chart_labels.inner.ChartContracts.{Ready}
+use Rattle.chart_rows.specs.inner.ChartContracts.{Ready}
 use Rattle.chart_rows.proofs.chart_labels.ReadyLaws.{ready-sound}
 use Rattle.chart_rows.specs.inner.NodeRows.{paths_from, tested_number, untested_count}
 use Rattle.chart_rows.specs.inner.PathContracts.{NotedAt, Entered, FewPaths, Masked}

@@ -6,7 +6,7 @@ use Rattle.std.proofs.lemmas.Grind.{common_steps}
 use Rattle.text.specs.frames.Frame.{size}
 use Rattle.charts.specs.Chart.{Chart, kind, argument, next0, next1}
 use Rattle.image.specs.Image.{Row}
-use Rattle.chart_rows.specs.chart_labels.Labels.{label}
+use Rattle.chart_rows.specs.Labels.{label}
 use Rattle.chart_rows.specs.Rows.{rows}
 use Rattle.chart_rows.specs.inner.NodeRows.{paths_from, untested_count, sides, node_rows}
 use Rattle.chart_rows.specs.inner.PathContracts.{NotedAt, Entered, Masked}

@@ -7,7 +7,7 @@ use Rattle.charts.specs.declared.layout.TheConstants.{CONDITION}
 use Rattle.charts.specs.Chart.{Chart, argument, next0, next1, is, arc_taken}
 use Rattle.walk.specs.Stops.{is_stop}
 use Rattle.image.specs.Image.{Row}
-use Rattle.chart_rows.specs.chart_labels.Labels.{is_numbered}
+use Rattle.chart_rows.specs.Labels.{is_numbered}
 use Rattle.chart_rows.specs.Rows.{paths, rows_of}
 
 -- the number of the condition that a path tests at node v, or 16 where no path goes on from it so

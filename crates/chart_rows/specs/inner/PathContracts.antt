@@ -5,7 +5,7 @@ use Rattle.text.specs.declared.frames.sizes.TheConstants.{NODES}
 use Rattle.text.specs.frames.Frame.{size}
 use Rattle.charts.specs.declared.layout.TheConstants.{BEGIN, CONDITION}
 use Rattle.charts.specs.Chart.{Chart, kind}
-use Rattle.chart_rows.specs.chart_labels.inner.ChartContracts.{Charted}
+use Rattle.chart_rows.specs.inner.ChartContracts.{Charted}
 use Rattle.chart_rows.specs.inner.NodeRows.{paths_from, tested_number, untested_count}
 
 -- notes on the nodes of an accepted chart: the label of each, and from 256 on the number of the condition that a path tests there

@@ -6,7 +6,7 @@ use Rattle.text.specs.frames.Frame.{size}
 use Rattle.image.specs.Decode.{labels_from, rows_from, label_in, row_in}
 use Rattle.image.specs.Check.{Position, entry_position, label_position, row_position, position_of, is_stray_frame, is_stray, is_bad_entry}
 use Rattle.image.specs.Check.{is_bad_label, is_bad_row, is_bad_frame, has_bad_content}
-use Rattle.image_check.specs.image_faults.inner.FaultyFrames.{is_faulty}
+use Rattle.image_check.specs.inner.FaultyFrames.{is_faulty}
 use Rattle.image.proofs.Accepted.{position-of-entry, position-of-label, position-of-row}
 
 -- two tests in turn, where the first does not hold

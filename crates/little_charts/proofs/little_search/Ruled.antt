@@ -74,7 +74,7 @@ module _ (c : Chart) (p : Plain c) where
   no-circle v l k e =
       let a : Arc (size c) (arcs c) v v = record { start = l; end = l; leads = leads-arc v v l e } in
       let b : ConditionCircle c v = record { second = v; leaves = condition-arc c v v (of-kind 3 v k) a; back = here } in
-      no_both (is_on_circle c v) (circle-found c v b) (s.no_circle v l)
+      no_both (is_on_circle c v) (circle-found c v b) (s.no-circle v l)
 
   -- a path to another node ends with an arc from another node
   record Entry (v : ℕ) : Type 0 where

@@ -1,5 +1,5 @@
 -- The turns of the search: what is sought among all charts is sought among those of the numbers that are left.
-use Rattle.std.proofs.Common.{ℕ, zero, suc, ◌+◌, ◌-◌, ◌≤◌, ◌<◌, Bool, true, false, ◌≡◌, refl, sym, ◌∙◌, ap, ap₂, List, [], ◌∷◌, ◌++◌, arith, flat_map, Ok, Err}
+use Rattle.std.proofs.Common.{ℕ, zero, suc, ◌+◌, ◌-◌, ◌≤◌, ◌<◌, Bool, true, false, ◌≡◌, refl, sym, ◌∙◌, ap, ap₂, subst, List, [], ◌∷◌, ◌++◌, arith, flat_map, Ok, Err}
 use Rattle.std.proofs.Common.{if◌then◌else◌, length, slice_index_or}
 use Rattle.std.proofs.lemmas.Grind.{common_steps}
 use Rattle.words.specs.lists.Numbers.{range}
@@ -78,15 +78,18 @@ module _ (n v : ℕ) (t : Trail) where
       else trails n (n - (v + 1)) (with_node n u t i (led_to n i)))
       (range (first_number n t) (past_number n u t - first_number n t))) w
 
-  pub seeking-first : (left first past : ℕ) → v < n → first ≡ first_number n t → past ≡ past_number n v t
+  pub seeking-first : (left : ℕ) {first past : ℕ} → v < n → first ≡ first_number n t → past ≡ past_number n v t
       → Seeking n v t left past first left
-  seeking-first left first past l e f = record {
+  seeking-first left l e f = record {
     inside = l;
     end = f;
     same = ap₂ (λ (a b : ℕ). sought (tried_from n v t a b) left) e f ∙ sym (ap (λ (xs : List ℕ). sought xs left) (all-tried l));
   }
 
-module _ (n v : ℕ) (t : Trail) (left past i rest : ℕ) (k : Seeking n v t left past i rest) where
+module _ {n v : ℕ} {t : Trail} {left past i rest : ℕ} (k : Seeking n v t left past i rest) where
+  pub seeking-as : {rest' : ℕ} → rest' ≡ rest → Seeking n v t left past i rest'
+  seeking-as e = subst (Seeking n v t left past i) (sym e) k
+
   pub seeking-done : past ≤ i → Err rest ≡ sought (trails n (n - v) t) left
   unfolding sought
   seeking-done l =
@@ -109,13 +112,13 @@ module _ (n v : ℕ) (t : Trail) (left past i rest : ℕ) (k : Seeking n v t lef
     }
 
     -- as many charts as begin so are passed over
-    pub seeking-past : (count : ℕ) → count ≡ length (tried n v t i) → count ≤ rest → Seeking n v t left past (i + 1) (rest - count)
-    seeking-past count e c = seeking-next (rest - count)
+    pub seeking-past : {count : ℕ} → count ≡ length (tried n v t i) → count ≤ rest → Seeking n v t left past (i + 1) (rest - count)
+    seeking-past {count} e c = seeking-next (rest - count)
         (sought-past (tried n v t i) rest (omega (arith, e)) ∙ ap (λ (j : ℕ). Err (rest - j)) (sym e))
 
     -- the chart sought begins so
-    pub seeking-here : (count : ℕ) → count ≡ length (tried n v t i) → rest < count → sought (tried n v t i) rest ≡ sought (trails n (n - v) t) left
-    seeking-here count e c =
+    pub seeking-here : {count : ℕ} → count ≡ length (tried n v t i) → rest < count → sought (tried n v t i) rest ≡ sought (trails n (n - v) t) left
+    seeking-here e c =
         let x : sought (tried n v t i) rest ≡ Ok (slice_index_or (tried n v t i) rest 0) = sought-low (tried n v t i) rest (omega (arith, e)) in
         x ∙ sym (sought-first (tried n v t i) (tried_from n v t (i + 1) past) rest (slice_index_or (tried n v t i) rest 0) x)
         ∙ sym (ap (λ (xs : List ℕ). sought xs rest) split) ∙ k.same
@@ -124,15 +127,15 @@ module _ (n v : ℕ) (t : Trail) (left past i rest : ℕ) (k : Seeking n v t lef
     unfolding sought
     none e = seeking-next rest (ap (λ (xs : List ℕ). sought xs rest) e)
 
-    module _ (led : ℕ) (e : led ≡ led_to n i) where
+    module _ {led : ℕ} (e : led ≡ led_to n i) where
       tried-by : (a : Bool) → a ≡ is_barred n v t i led
           → tried n v t i ≡ (if a then [] else if is_cut_off n v (with_node n v t i led) then [] else trails n (n - (v + 1)) (with_node n v t i led))
       tried-by a f = grind (arith, common_steps)
 
       -- where charts begin so, the search goes on from the next place
-      pub begins-so : (next : Trail) → next ≡ with_node n v t i led → 0 < length (tried n v t i)
+      pub begins-so : {next : Trail} → next ≡ with_node n v t i led → 0 < length (tried n v t i)
           → tried n v t i ≡ trails n (n - (v + 1)) next
-      begins-so next g l = go (is_barred n v t i led) refl (is_cut_off n v (with_node n v t i led)) refl
+      begins-so {next} g l = go (is_barred n v t i led) refl (is_cut_off n v (with_node n v t i led)) refl
         where
           go : (a : Bool) → a ≡ is_barred n v t i led → (b : Bool) → b ≡ is_cut_off n v (with_node n v t i led)
               → tried n v t i ≡ trails n (n - (v + 1)) next
@@ -141,23 +144,23 @@ module _ (n v : ℕ) (t : Trail) (left past i rest : ℕ) (k : Seeking n v t lef
           go false f false h = tried-by false f ∙ ap (λ (x : Bool). if x then [] else trails n (n - (v + 1)) (with_node n v t i led)) (sym h)
               ∙ ap (λ (u : Trail). trails n (n - (v + 1)) u) (sym g)
 
-      pub seeking-barred : (a : Bool) → a ≡ is_barred n v t i led → a ≡ true → Seeking n v t left past (i + 1) rest
-      seeking-barred a f q = none (grind (arith, common_steps, tried-by))
+      pub seeking-barred : {a : Bool} → a ≡ is_barred n v t i led → a ≡ true → Seeking n v t left past (i + 1) rest
+      seeking-barred f q = none (grind (arith, common_steps, tried-by))
 
-      module _ (a : Bool) (f : a ≡ is_barred n v t i led) (p : a ≡ false) (next : Trail) (g : next ≡ with_node n v t i led)
-          (b : Bool) (h : b ≡ is_cut_off n v next) where
+      module _ {a : Bool} (f : a ≡ is_barred n v t i led) (p : a ≡ false) {next : Trail} (g : next ≡ with_node n v t i led)
+          {b : Bool} (h : b ≡ is_cut_off n v next) where
         pub seeking-cut : b ≡ true → Seeking n v t left past (i + 1) rest
         seeking-cut q = none (grind (arith, common_steps, tried-by))
 
         goes-on : b ≡ false → tried n v t i ≡ trails n (n - (v + 1)) next
         goes-on q = grind (arith, common_steps, tried-by)
 
-        pub seeking-on : b ≡ false → (rest' : ℕ) → Err rest' ≡ sought (trails n (n - (v + 1)) next) rest
+        pub seeking-on : b ≡ false → {rest' : ℕ} → Err rest' ≡ sought (trails n (n - (v + 1)) next) rest
             → Seeking n v t left past (i + 1) rest'
-        seeking-on q rest' r = seeking-next rest' (ap (λ (xs : List ℕ). sought xs rest) (goes-on q) ∙ sym r)
+        seeking-on q {rest'} r = seeking-next rest' (ap (λ (xs : List ℕ). sought xs rest) (goes-on q) ∙ sym r)
 
-        pub seeking-found : b ≡ false → (x : ℕ) → Ok x ≡ sought (trails n (n - (v + 1)) next) rest
+        pub seeking-found : b ≡ false → {x : ℕ} → Ok x ≡ sought (trails n (n - (v + 1)) next) rest
             → Ok x ≡ sought (trails n (n - v) t) left
-        seeking-found q x r =
+        seeking-found q {x} r =
             sym (sought-first (tried n v t i) (tried_from n v t (i + 1) past) rest x (ap (λ (xs : List ℕ). sought xs rest) (goes-on q) ∙ sym r))
             ∙ sym (ap (λ (xs : List ℕ). sought xs rest) split) ∙ k.same

@@ -2,7 +2,7 @@ use Rattle.std.proofs.Common.{ℕ, ◌/◌, ◌%◌, refl, ap, List, [], ◌∷�
 use Rattle.text.specs.digits.Digit.{capital}
 use Rattle.text.proofs.frames.Frames.{frame-by}
 use Rattle.translator.proofs.Capitals.{byte-capitals, frame-capitals}
-use Rattle.output.specs.printing.Lines.{refusal_line, code_line}
+use Rattle.output.specs.Lines.{refusal_line, code_line}
 use Rattle.output.proofs.lines_are_in_capitals.Goals as goal
 
 pub returns-clause-refusal : goal.returns-clause-refusal

@@ -4,8 +4,8 @@ use Rattle.words.specs.lists.Sequences.{written}
 use Rattle.words.proofs.lists.Joins.{concat-places, length-concat, all-every}
 use Rattle.words.proofs.lists.Fills.{Pieces, pieces-turn, pieces-all}
 use Rattle.text.specs.frames.Frame.{frame_text}
-use Rattle.output.specs.printing.Lines.{code_line, refusal_line}
-use Rattle.output.specs.output_lines.Prints.{Prints}
+use Rattle.output.specs.Lines.{code_line, refusal_line}
+use Rattle.output.specs.Prints.{Prints}
 
 pub code-line-length : (x : ℕ) → length (code_line x) ≡ 3
 unfolding code_line

@@ -4,7 +4,7 @@ use Rattle.std.proofs.lemmas.Grind.{common_steps}
 use Rattle.text.specs.digits.Digit.{capital}
 use Rattle.text.proofs.frames.Capitals.{capitals-alike}
 use Rattle.runs.proofs.Alike.{runs}
-use Rattle.output.specs.run_output.RunProgram.{run_output}
+use Rattle.output.specs.RunProgram.{run_output}
 
 pub prints : (t : List ℕ) → run_output (map capital t) ≡ run_output t
 unfolding run_output

@@ -4,9 +4,9 @@ use Rattle.std.proofs.lemmas.Grind.{common_steps}
 use Rattle.text.proofs.frames.Chains.{next-refused}
 use Rattle.image.specs.Check.{image_verdict}
 use Rattle.runs.specs.Run.{run_verdict, run}
-use Rattle.output.specs.printing.Lines.{refusal_line}
+use Rattle.output.specs.Lines.{refusal_line}
 use Rattle.output.proofs.output_lines.Limits.{too-long, front-enough}
-use Rattle.output.specs.run_output.RunProgram.{run_output}
+use Rattle.output.specs.RunProgram.{run_output}
 
 long-image : (t : List ℕ) → 29831 < length t → run_output t ≡ refusal_line 1 0
 unfolding run_output run run_verdict image_verdict

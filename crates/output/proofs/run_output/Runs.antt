@@ -14,10 +14,10 @@ use Rattle.state.specs.Kept.{view, stored}
 use Rattle.state.proofs.Stored.{state-back}
 use Rattle.runs.specs.Run.{run}
 use Rattle.runs.proofs.RunCounts.{run-count}
-use Rattle.output.specs.printing.Lines.{code_line, refusal_line}
-use Rattle.output.specs.output_lines.Prints.{Prints}
+use Rattle.output.specs.Lines.{code_line, refusal_line}
+use Rattle.output.specs.Prints.{Prints}
 use Rattle.output.proofs.output_lines.Printed.{codes-length, refusal-line-length}
-use Rattle.output.specs.run_output.RunProgram.{program_words, run_lines, run_output}
+use Rattle.output.specs.RunProgram.{program_words, run_lines, run_output}
 
 -- ---- the words, as far as they are counted
 abbrev pub CountedWords : List ℕ → ℕ → Type 0

@@ -4,7 +4,7 @@ use Rattle.std.proofs.lemmas.Grind.{common_steps}
 use Rattle.text.specs.digits.Digit.{capital}
 use Rattle.text.proofs.frames.Capitals.{capitals-alike}
 use Rattle.translator.proofs.Alike.{translate-verdict}
-use Rattle.output.specs.translate_output.TranslateProgram.{translate_output}
+use Rattle.output.specs.TranslateProgram.{translate_output}
 
 pub translates : (t : List ℕ) → translate_output (map capital t) ≡ translate_output t
 unfolding translate_output

@@ -4,9 +4,9 @@ use Rattle.std.proofs.lemmas.Grind.{common_steps}
 use Rattle.text.proofs.frames.Chains.{next-refused}
 use Rattle.charts.specs.Entry.{read_verdict}
 use Rattle.translator.specs.Entry.{translate_verdict}
-use Rattle.output.specs.printing.Lines.{refusal_line}
+use Rattle.output.specs.Lines.{refusal_line}
 use Rattle.output.proofs.output_lines.Limits.{too-long, front-enough}
-use Rattle.output.specs.translate_output.TranslateProgram.{translate_output}
+use Rattle.output.specs.TranslateProgram.{translate_output}
 
 long-chart : (t : List ℕ) → 5888 < length t → translate_output t ≡ refusal_line 1 0
 unfolding translate_output translate_verdict read_verdict

@@ -18,10 +18,10 @@ use Rattle.translator.specs.Table.{table}
 use Rattle.translator.specs.Entry.{translate_verdict, translate}
 use Rattle.translator.proofs.SoundTable.{table-fine}
 use Rattle.translator.proofs.Translated.{translated-read, translated-few}
-use Rattle.output.specs.printing.Lines.{refusal_line}
-use Rattle.output.specs.output_lines.Prints.{Prints}
+use Rattle.output.specs.Lines.{refusal_line}
+use Rattle.output.specs.Prints.{Prints}
 use Rattle.output.proofs.output_lines.Printed.{refusal-line-length}
-use Rattle.output.specs.translate_output.TranslateProgram.{translate_output}
+use Rattle.output.specs.TranslateProgram.{translate_output}
 
 -- an accepted text is no longer than the most
 accepted-length : (most : ℕ) (t : List ℕ) → text_verdict most t ≡ fine → length t ≤ most

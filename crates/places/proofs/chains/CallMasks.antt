@@ -1,6 +1,6 @@
 -- The masks of the calls: one node more, and the rounds over them.
 use Rattle.std.proofs.Common.{if◌then◌else◌, ℕ, zero, suc, ◌+◌, ◌-◌, ◌^◌, ◌≤◌, ◌<◌, Bool, true, false, ◌&&◌, ◌||◌, ◌≡◌, refl, sym, ◌∙◌, ap, nat_lt}
-use Rattle.std.proofs.Common.{◌==◌, slice_index, ◌*◌, ◌%◌, shl_exact, lit<, one-mul, ap₂, List, add-one, arith, bit_or, length, set, replicate}
+use Rattle.std.proofs.Common.{◌==◌, slice_index, ◌*◌, ◌%◌, shl_exact, lit<, one-mul, ap₂, List, None, Some, add-one, arith, bit_or, length, set, replicate}
 use Rattle.std.proofs.Common.{eq-eqb, ne_eqb, lt-ltb, le-ltb}
 use lib.Bits.{or_zero_r}
 use Rattle.std.proofs.lemmas.Grind.{common_steps}
@@ -18,7 +18,7 @@ use Rattle.charts.specs.Chart.{Chart, scheme, argument}
 use Rattle.walk.proofs.Facts.{Facts}
 use Rattle.chart_rows.proofs.chart_labels.ReadyLaws.{ready-facts}
 use Rattle.places.specs.chains.Calls.{has_call, is_call_of, is_caller, is_circular, ends_of, has_no_end, places}
-use Rattle.places.specs.chains.inner.Masks.{called_at, mask_of, call_masks, called_by, ends_by, longest_by, longest_chain, CallsAsked}
+use Rattle.places.specs.inner.Masks.{called_at, mask_of, call_masks, called_by, ends_by, longest_by, longest_chain, CallsAsked}
 use Rattle.places.proofs.chains.Longest.{ends-suc}
 use Rattle.places.proofs.chains.Circles.{circle-told, circle-long, no-circle-short}
 use Rattle.places.proofs.chains.Masks.{mask-bit, mask-alike, mask-or, mask-more, mask-empty}
@@ -176,14 +176,14 @@ module _ (masks : List ℕ) where
     unfolding ends_by
     round-ends = grind (arith, common_steps)
 
-    pub round-found : s < 17 → r ≡ 0 → s ≡ longest_by masks
+    pub round-found : s < 17 → r ≡ 0 → Some s ≡ longest_by masks
     unfolding longest_by
     round-found l z = grind (arith, common_steps, lt-ltb, eq-eqb, searching-found, cond-true, round-ends)
 
     pub round-next : s < 17 → (r ≡ 0 → ⊥) → MaskRound r (s + 1)
     round-next l n = grind (arith, common_steps, searching-next, ne_eqb, round-ends)
 
-  pub round-over : {ends s : ℕ} → MaskRound ends s → 17 ≤ s → 0 ≡ longest_by masks
+  pub round-over : {ends s : ℕ} → MaskRound ends s → 17 ≤ s → None ≡ longest_by masks
   unfolding longest_by
   round-over {ends} {s} h l = grind (arith, common_steps, cond-false, searching-over, le-ltb)
 
@@ -210,17 +210,17 @@ module _ (c : Chart) (masks : List ℕ) (e : masks ≡ call_masks c (size c)) wh
 
   pub longest-by : Facts c → longest_by masks ≡ longest_chain c
   unfolding longest_by
-  longest-by f = ap (λ (k : ℕ). if nat_lt k 17 then k else 0)
+  longest-by f = ap (λ (k : ℕ). if nat_lt k 17 then Some k else None)
       (lowest-alike (λ k. ends_by masks k == 0) (has_no_end c) 0 17 (λ k a b. none-by k))
       ∙ go (is_circular c) refl
     where
-      go : (b : Bool) → is_circular c ≡ b → (if nat_lt (lowest (has_no_end c) 0 17) 17 then lowest (has_no_end c) 0 17 else 0)
+      go : (b : Bool) → is_circular c ≡ b → (if nat_lt (lowest (has_no_end c) 0 17) 17 then Some (lowest (has_no_end c) 0 17) else None)
           ≡ longest_chain c
       go true q =
           let k : lowest (has_no_end c) 0 17 ≡ 17 = lowest-none (has_no_end c) 0 17 (λ k l. circle-long c f (circle-told c q) (0 + k)) in
-          ap (λ (k : ℕ). if nat_lt k 17 then k else 0) k ∙ sym (ap (λ (b : Bool). if b then 0 else places c) q)
+          ap (λ (k : ℕ). if nat_lt k 17 then Some k else None) k ∙ sym (ap (λ (b : Bool). if b then None else Some (places c)) q)
       go false q =
           let k : lowest (has_no_end c) 0 17 ≡ lowest (has_no_end c) 0 16 = lowest-last (has_no_end c) 0 16 (no-circle-short c f q) in
-          ap (λ (b : Bool). if b then lowest (has_no_end c) 0 17 else 0)
-          (lt-ltb (lowest (has_no_end c) 0 17) 17 (omega (arith, lowest-most (has_no_end c) 0 16))) ∙ k
-          ∙ places-lowest c ∙ sym (ap (λ (b : Bool). if b then 0 else places c) q)
+          ap (λ (b : Bool). if b then Some (lowest (has_no_end c) 0 17) else None)
+          (lt-ltb (lowest (has_no_end c) 0 17) 17 (omega (arith, lowest-most (has_no_end c) 0 16)))
+          ∙ ap Some (k ∙ places-lowest c) ∙ sym (ap (λ (b : Bool). if b then None else Some (places c)) q)

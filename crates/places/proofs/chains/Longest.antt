@@ -137,7 +137,7 @@ module _ (c : Chart) where
       chain-few n h s = omega (arith, falls n h s, rank-most, rank-some 17 (calls_of c) h (chain-inside n h s))
 
       -- ---- the longest chain
-      pub places-some : 1 ≤ places c
+      places-some : 1 ≤ places c
       unfolding places
       places-some = ⊎_elim (λ (l : 0 < lowest (has_no_end c) 0 16). l)
           (λ (l : lowest (has_no_end c) 0 16 ≤ 0).

@@ -10,7 +10,7 @@ use Rattle.words.proofs.lists.Tests.{split, cases}
 use Rattle.words.proofs.lists.Searches.{any-some, any-false}
 use Rattle.std.specs.Int.{bit_at}
 use Rattle.words.proofs.bits.BitLaws.{bit-or, bit-none, bit-add-same, bit-add-other, bit-pow-same, bit-pow-other, same-bits}
-use Rattle.places.specs.chains.inner.Masks.{mask_of}
+use Rattle.places.specs.inner.Masks.{mask_of}
 
 -- a number below 2 to the power i has no bit i
 beyond : (x i : ℕ) → x < 2 ^ i → bit_at x i ≡ 0

@@ -1,8 +1,8 @@
 // The calls of a chart's nodes: for each scheme a mask of the schemes that it calls, bit h for scheme h.
 ghost use Rattle.std.specs.Prelude.{◌≡◌, ◌+◌, ◌<◌, replicate};
 ghost use Rattle.text.specs.frames.Frame.{size};
-ghost use Rattle.chart_rows.specs.chart_labels.inner.ChartContracts.{Ready, Inner};
-ghost use Rattle.places.specs.chains.inner.Masks.{called_at, call_masks, CallsAsked};
+ghost use Rattle.chart_rows.specs.inner.ChartContracts.{Ready, Inner};
+ghost use Rattle.places.specs.inner.Masks.{called_at, call_masks, CallsAsked};
 
 use charts::field;
 use charts::layout::*;
@@ -22,7 +22,7 @@ fn called_at(records: &[u8], v: usize) -> u8
 
 // Node v's call is added to those of its scheme.
 #[tactic(auto, using(crate::proofs::chains::CallMasks::calls))]
-fn note_call(records: &[u8], v: usize, masks: &mut [u32])
+fn note_call(records: &[u8], v: usize, masks: &mut [u32; 17])
     requires { CallsAsked records.now v masks.old }
     ensures { masks.new ≡ call_masks records.now (v + 1) }
 {
@@ -33,9 +33,9 @@ fn note_call(records: &[u8], v: usize, masks: &mut [u32])
     }
 }
 
-/// Notes the calls of all nodes: in the mask of each scheme, of 17, bit h where a node of it calls scheme h.
+/// Notes the calls of all nodes: in the mask of each scheme bit h where a node of it calls scheme h.
 #[tactic(auto, using(crate::proofs::chains::CallMasks::none_yet))]
-pub fn note_calls(records: &[u8], masks: &mut [u32])
+pub fn note_calls(records: &[u8], masks: &mut [u32; 17])
     requires ready { Ready records.now }
     requires no_calls { masks.old ≡ replicate 17 0 }
     ensures { masks.new ≡ call_masks records.now (size records.now) }

@@ -9,21 +9,13 @@ pub overflow_add-total : goal.overflow_add-total
 overflow_add-total c =
     let onward : (let turn = c.loop-i in SummedTicks c.args.prices.now c.args.masks.now (turn.total + c.tick_price-total.result)
     (turn.i + 1)) = summed-more _ _ _ _ c.loop-i.invariant (search rules) _ c.tick_price-total.ensures in
-    let known = c.shared_slice_known-1 in
-    omega (
-      arith,
-      summed-fits _ _ _ _ onward (λ k. omega (arith, known.given k))
-          c.requires.few,
-    )
+    omega (arith, summed-fits _ _ _ _ onward (λ k. search rules) c.requires)
 
 pub loop-i-preserved : goal.loop-i-preserved
-loop-i-preserved c =
-    let onward : (let turn = c.loop-i in SummedTicks c.args.prices.now c.args.masks.now (turn.total + c.tick_price-total.result)
-    (turn.i + 1)) = summed-more _ _ _ _ c.loop-i.invariant (search rules) _ c.tick_price-total.ensures in
-    onward
+loop-i-preserved c = summed-more _ _ _ _ c.loop-i.invariant (search rules) _ c.tick_price-total.ensures
 
 pub returns-clause-summed : goal.returns-clause-summed
 returns-clause-summed c = summed-all _ _ _ _ c.loop-i.invariant (search rules)
 
 pub returns-clause-small : goal.returns-clause-small
-returns-clause-small c = summed-fits _ _ _ _ c.loop-i.invariant (λ k. omega (arith, c.shared_slice_known-1.given k)) c.requires.few
+returns-clause-small c = summed-fits _ _ _ _ c.loop-i.invariant (λ k. search rules) c.requires

@@ -18,7 +18,7 @@ use Rattle.state.specs.Kept.{view}
 use Rattle.fitness.specs.Fitness.{is_unfit}
 use Rattle.runs.specs.Run.{MachineRun, ticks, RunOutcome, has_no_room, run_verdict, run_on, run}
 use Rattle.runs.specs.InPlace.{state_after, GivesRunOn}
-use Rattle.runs.specs.machine.inner.Sources.{sourced_run}
+use Rattle.runs.specs.inner.Sources.{sourced_run}
 use Rattle.runs.proofs.RunCases.{kept_run}
 use Rattle.runs.proofs.RunCounts.{run-count}
 use Rattle.runs.proofs.machine.Held.{run-held}

@@ -10,7 +10,7 @@ use Rattle.image.specs.Image.{Image}
 use Rattle.state.specs.State.{State, no_state}
 use Rattle.state.specs.Kept.{view}
 use Rattle.state.specs.declared.State.{State as Kept}
-use Rattle.runs.specs.machine.inner.Sources.{sourced_tick}
+use Rattle.runs.specs.inner.Sources.{sourced_tick}
 use Rattle.spindles.specs.declared.SpinReport.{SpinReport}
 use Rattle.spindles.specs.Spindles.{state_at, GivesSpin}
 use Rattle.spindles.specs.inner.Parts.{TurnOutcome, turn, GivesTurn, four_depths, turn_spun, sourced_spin}

@@ -9,12 +9,12 @@ use Rattle.state.specs.declared.State.{State as Kept}
 use Rattle.ticks.specs.Tick.{MachineTick, finished, stopped}
 use Rattle.runs.specs.TickOutcome.{TickOutcome, TickAnswer}
 use Rattle.runs.specs.InPlace.{if_ticked, GivesTickOn}
-use Rattle.runs.specs.machine.inner.Sources.{sourced_tick}
+use Rattle.runs.specs.inner.Sources.{sourced_tick}
 use Rattle.runs.proofs.machine.OneTick.{advance_by}
 use Rattle.spindles.specs.declared.SpinReport.{SpinReport}
 use Rattle.spindles.specs.inner.Parts.{is_bad_record, turn_by, turn, GivesTurn}
 use Rattle.spindles.proofs.OneCall.{sourced-tick-by}
-use Rattle.spindles.specs.turning.inner.TurnContracts.{GivesSettled}
+use Rattle.spindles.specs.inner.TurnContracts.{GivesSettled}
 
 -- ---- a tick that is refused leaves the state
 left : (s : State) (v : Verdict) (d : MachineTick) → let x = advance_by s v d in if_ticked x x.state s ≡ x.state

@@ -8,7 +8,7 @@ use Rattle.state.specs.State.{State}
 use Rattle.state.specs.Kept.{stored}
 use Rattle.state.specs.declared.State.{State as Kept}
 use Rattle.runs.specs.TickOutcome.{TickOutcome, tick_reply, answered_mask, answered_code}
-use Rattle.runs.specs.machine.inner.Sources.{sourced_tick}
+use Rattle.runs.specs.inner.Sources.{sourced_tick}
 use Rattle.spindles.specs.declared.layout.TheConstants.{SPINDLES, STORE}
 use Rattle.spindles.specs.declared.SpinReport.{SpinReport}
 use Rattle.spindles.specs.Spindles.{state_at, head_verdict, SpinOutcome, outcome_turned_back, has_no_place, outcome_spun_on}

@@ -12,7 +12,7 @@ use Rattle.words.proofs.lists.Searches.{any-some, any-true, any-false, any-none,
 use Rattle.words.proofs.lists.Fills.{ValuesFrom, values-none, values-turn, values-all}
 use Rattle.text.specs.frames.Frame.{byte_at}
 use Rattle.text.specs.frames.Check.{has_bad_form, has_bad_sum}
-use Rattle.text.specs.frame_reading.inner.FrameReads.{stored_bytes, digit_at, DigitsRead, place_of, value_of}
+use Rattle.text.specs.inner.FrameReads.{stored_bytes, digit_at, DigitsRead, place_of, value_of}
 use Rattle.text.specs.declared.frame_reading.FrameDigits.{FrameDigits}
 
 -- ---- its digits

@@ -8,7 +8,7 @@ use Rattle.words.proofs.lists.Ranges.{map-append}
 use Rattle.text.specs.frames.Frame.{byte_at, frame_count, contents}
 use Rattle.text.specs.frames.Check.{is_bad_length}
 use Rattle.text.specs.frames.Read.{read_buffer}
-use Rattle.text.specs.frame_reading.inner.FrameReads.{stored_bytes}
+use Rattle.text.specs.inner.FrameReads.{stored_bytes}
 
 map-concat : (g : ℕ → ℕ) (f : ℕ → List ℕ) (xs : List ℕ) → map g (flat_map f xs) ≡ flat_map (λ x. map g (f x)) xs
 map-concat g f [] = refl

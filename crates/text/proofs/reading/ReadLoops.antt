@@ -7,8 +7,8 @@ use Rattle.words.proofs.lists.Searches.{lowest-over, lowest-below}
 use Rattle.words.proofs.lists.Joins.{concat-cons}
 use Rattle.words.proofs.lists.Written.{written-none, written-front, written-before}
 use Rattle.text.specs.frames.Check.{has_bad_form, has_bad_sum}
-use Rattle.text.specs.frame_reading.inner.FrameReads.{stored_bytes, FrameRead}
-use Rattle.text.specs.reading.inner.Reads.{FramesRead}
+use Rattle.text.specs.inner.FrameReads.{stored_bytes, FrameRead}
+use Rattle.text.specs.inner.Reads.{FramesRead}
 use Rattle.text.specs.declared.frame_reading.Faults.{Faults}
 use Rattle.std.proofs.lemmas.Grind.{common_steps}
 

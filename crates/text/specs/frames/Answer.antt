@@ -20,6 +20,11 @@ abbrev pub reply : Answer → Reply
 reply (Ok n) = success n
 reply (Err r) = refusal (number_of r) (index_of r) (ticks_of r)
 
+-- the same of an answer that hands back something else, with the count that goes with success
+abbrev pub answer_reply : {A : Type 0} → Result A Refusal → ℕ → Reply
+answer_reply (Ok x) n = success n
+answer_reply (Err r) n = reply (Err r)
+
 -- the number that C gets, 0 for success
 abbrev pub reply_number : Reply → ℕ
 reply_number (success n) = 0

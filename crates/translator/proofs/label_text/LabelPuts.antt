@@ -12,10 +12,10 @@ use Rattle.charts.specs.Chart.{Chart, kind, next0, begin}
 use Rattle.walk.specs.Stops.{is_stop, start}
 use Rattle.walk.proofs.Facts.{Facts}
 use Rattle.image.specs.Image.{entry_frame, label_frame}
-use Rattle.chart_rows.specs.chart_labels.Labels.{is_numbered, label, entry, stop_label}
-use Rattle.chart_rows.specs.chart_labels.inner.ChartContracts.{Labelled, AtNode, Begun}
-use Rattle.translator.specs.label_text.inner.LabelContracts.{OfScheme}
-use Rattle.translator.specs.label_text.inner.LabelBytes.{entry_bytes, node_label_bytes, Put}
+use Rattle.chart_rows.specs.Labels.{is_numbered, label, entry, stop_label}
+use Rattle.chart_rows.specs.inner.ChartContracts.{Labelled, AtNode, Begun}
+use Rattle.translator.specs.inner.LabelContracts.{OfScheme}
+use Rattle.translator.specs.inner.LabelBytes.{entry_bytes, node_label_bytes, Put}
 use Rattle.chart_rows.proofs.chart_labels.ReadyLaws.{ready-facts}
 use Rattle.chart_rows.proofs.chart_labels.LabelSteps.{own-label, no-own-label}
 

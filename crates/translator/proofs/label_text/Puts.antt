@@ -4,8 +4,8 @@ use Rattle.std.proofs.Common.{arith, length, length-append}
 use Rattle.std.proofs.lemmas.Grind.{common_steps}
 use Rattle.words.specs.lists.Sequences.{written}
 use Rattle.words.proofs.lists.Joins.{concat-range-snoc}
-use Rattle.words.proofs.lists.Written.{written-none, written-length, written-more}
-use Rattle.translator.specs.label_text.inner.LabelBytes.{up_to, Put}
+use Rattle.words.proofs.lists.Written.{written-none, written-length, written-more, written-before}
+use Rattle.translator.specs.inner.LabelBytes.{up_to, Put}
 
 -- ---- bytes put, and others put after them
 pub put-length : {out out' t : List ℕ} {at r : ℕ} → at + length t ≤ length out → Put out at t r out' → length out' ≡ length out
@@ -27,6 +27,15 @@ module _ {t a b : List ℕ} (d : Parted t a b) where
 
     pub both-done : {out₂ : List ℕ} {r : ℕ} → Put out₁ mid b r out₂ → Put out at t r out₂
     both-done {out₂} q = grind (arith, common_steps, written-more, lengths)
+
+-- both in one, where the second is put after the first, and where it is put in front of it
+pub put-after : {out out₁ out₂ a b : List ℕ} {at mid r : ℕ} → mid ≤ length out → Put out at a mid out₁ → Put out₁ mid b r out₂
+    → Put out at (a ++ b) r out₂
+put-after room p q = grind (arith, common_steps, written-more, length-append)
+
+pub put-before : {out out₁ out₂ a b : List ℕ} {at mid r : ℕ} → mid ≤ length out → Put out mid b r out₁ → Put out₁ at a mid out₂
+    → Put out at (a ++ b) r out₂
+put-before room p q = grind (arith, common_steps, written-before, length-append)
 
 pub nothing-put : (out t : List ℕ) (at : ℕ) → t ≡ [] → Put out at t at out
 nothing-put out t at e = grind (arith, common_steps, written-none)

@@ -6,12 +6,12 @@ use Rattle.words.proofs.lists.Joins.{concat-cons, concat-append}
 use Rattle.text.specs.frames.Frame.{size}
 use Rattle.charts.specs.Chart.{Chart}
 use Rattle.image.specs.Image.{Row, row_frame, row}
-use Rattle.chart_rows.specs.chart_labels.Labels.{label}
+use Rattle.chart_rows.specs.Labels.{label}
 use Rattle.chart_rows.specs.inner.PathContracts.{PathAt}
-use Rattle.chart_rows.specs.chart_labels.inner.ChartContracts.{Charted}
-use Rattle.translator.specs.path_text.inner.RowBytes.{rows_bytes}
+use Rattle.chart_rows.specs.inner.ChartContracts.{Charted}
+use Rattle.translator.specs.inner.RowBytes.{rows_bytes}
 use Rattle.chart_rows.specs.inner.NodeRows.{paths_from, settled_node}
-use Rattle.translator.specs.label_text.inner.LabelBytes.{Put}
+use Rattle.translator.specs.inner.LabelBytes.{Put}
 use Rattle.translator.proofs.label_text.Puts.{Parted, done-as}
 use Rattle.chart_rows.proofs.NumberLaws.{high-stops}
 use Rattle.chart_rows.proofs.PathSteps.{path_row, at-stop}

@@ -3,14 +3,14 @@ use Rattle.std.proofs.Common.{◌≡◌, ap, [], ℕ, ◌^◌, ◌≤◌, ◌<�
 use Rattle.std.proofs.lemmas.Grind.{common_steps}
 use Rattle.text.specs.frames.Frame.{size}
 use Rattle.charts.specs.Chart.{Chart, kind, argument, next0, next1}
-use Rattle.chart_rows.specs.chart_labels.Labels.{label}
+use Rattle.chart_rows.specs.Labels.{label}
 use Rattle.chart_rows.specs.inner.NodeRows.{paths_from, sides}
 use Rattle.chart_rows.specs.inner.PathContracts.{NotedAt, SidesAt}
 use Rattle.chart_rows.proofs.RowSteps.{no-rows, rows-function, rows-condition, rows-other}
 use Rattle.translator.proofs.label_text.Puts.{Parted}
-use Rattle.translator.specs.path_text.inner.RowBytes.{rows_bytes}
+use Rattle.translator.specs.inner.RowBytes.{rows_bytes}
 use Rattle.translator.proofs.path_text.RowPuts.{rows-append}
-use Rattle.translator.specs.row_text.inner.NodeBytes.{node_rows_bytes}
+use Rattle.translator.specs.inner.NodeBytes.{node_rows_bytes}
 
 module _ {c : Chart} {notes : List ℕ} {v : ℕ} (node : NotedAt c notes v) where
   pub node-none : slice_index notes v < 2 → node_rows_bytes c v ≡ []

@@ -4,7 +4,7 @@ use Rattle.words.specs.lists.Numbers.{count}
 use Rattle.text.specs.declared.frames.sizes.TheConstants.{LINE, ROWS}
 use Rattle.text.specs.frames.Frame.{size}
 use Rattle.charts.specs.Chart.{Chart, schemes}
-use Rattle.chart_rows.specs.chart_labels.Labels.{is_numbered}
+use Rattle.chart_rows.specs.Labels.{is_numbered}
 use Rattle.chart_rows.specs.Rows.{rows}
 use Rattle.chart_rows.specs.inner.PathContracts.{Noted}
 

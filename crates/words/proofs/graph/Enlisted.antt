@@ -8,7 +8,7 @@ use Rattle.std.proofs.lemmas.Grind.{common_steps}
 use Rattle.words.proofs.lists.Tests.{no_both, and-l, and-r, and-true, and-no, not-true, cases, split}
 use Rattle.words.proofs.lists.Counts.{count-le}
 use Rattle.words.specs.graph.Reach.{is_marked, only_marks}
-use Rattle.words.specs.graph.inner.Listed.{many, mark_all, Listing, listing, is_unmarked, enlist, enlist_all, Among, Listed}
+use Rattle.words.specs.inner.Listed.{many, mark_all, Listing, listing, is_unmarked, enlist, enlist_all, Among, Listed}
 use Rattle.words.proofs.graph.Marking.{set-hit, set-grow, set-back, set-many, all-only}
 use Rattle.words.proofs.graph.Lists.{Longer, longer-same, longer-on, listed-none}
 

@@ -6,7 +6,7 @@ use Rattle.std.proofs.lemmas.Grind.{common_steps}
 use Rattle.words.proofs.lists.Tests.{no_both}
 use Rattle.words.proofs.lists.Counts.{count-le, count-none}
 use Rattle.words.specs.graph.Reach.{is_member, is_marked}
-use Rattle.words.specs.graph.inner.Listed.{mark_all, Listed}
+use Rattle.words.specs.inner.Listed.{mark_all, Listed}
 use Rattle.words.proofs.graph.Closure.{marked-below, Closed, reach-closed}
 use Rattle.words.proofs.graph.Marking.{all-long, all-grow, all-hit, all-back, Joining}
 

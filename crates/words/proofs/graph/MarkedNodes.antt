@@ -12,7 +12,7 @@ use Rattle.words.proofs.lists.Filters.{filter-none}
 use Rattle.words.proofs.lists.Joins.{all-at, all-every, all-filter}
 use Rattle.words.proofs.lists.Written.{written-none, written-snoc, written-front}
 use Rattle.words.specs.graph.Reach.{is_marked}
-use Rattle.words.specs.graph.inner.Listed.{many, marked_nodes, Listed}
+use Rattle.words.specs.inner.Listed.{many, marked_nodes, Listed}
 use Rattle.words.proofs.graph.Closure.{marked-below}
 
 -- the marked nodes below v

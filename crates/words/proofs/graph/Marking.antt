@@ -7,7 +7,7 @@ use Rattle.words.specs.lists.Numbers.{count}
 use Rattle.words.proofs.lists.Tests.{no_both, or-cases, or-true-l, or-true-r, cases}
 use Rattle.words.proofs.lists.Counts.{count-add, count-miss}
 use Rattle.words.specs.graph.Reach.{is_member, is_marked, only_marks, reach}
-use Rattle.words.specs.graph.inner.Listed.{many, mark_all}
+use Rattle.words.specs.inner.Listed.{many, mark_all}
 use Rattle.words.proofs.graph.Closure.{marked-below, only-long, only-at, Closed, reach-long, reach-grow, reach-least, reach-closed}
 
 -- ---- one mark

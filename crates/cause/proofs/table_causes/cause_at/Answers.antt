@@ -9,10 +9,7 @@ use Rattle.cause.proofs.table_causes.CauseCases.{none-told, numbers, row-told}
 use Rattle.cause.proofs.table_causes.cause_at.Goals as goal
 
 pub returns-then-table-f : goal.returns-then-table-f
-returns-then-table-f c =
-    let high : c.args.l ≤ last_label c.args.table.bytes.now = omega (arith, c.requires.high, c.args.table.last_read) in
-    none-told _ _ _ c.requires.low high c.requires.ordered (view c.args.state.now).bits _ (grind (arith, common_steps))
-    c.args.table.whole c.args.table.small _ c.find_row-f.ensures (omega (arith, c.args.table.frames_read, c.args.table.whole.alone, c.if-table-f.true))
+returns-then-table-f c = grind (arith, common_steps, none-told, c.args.table.last_read, c.args.table.whole)
 
 pub against_rows-others-requires : goal.against_rows-others-requires
 against_rows-others-requires c =
@@ -31,13 +28,4 @@ overflow_sub-row c =
     omega (arith, n.least, c.rows_from-from.ensures)
 
 pub returns : goal.returns
-returns c =
-    let high : c.args.l ≤ last_label c.args.table.bytes.now = omega (arith, c.requires.high, c.args.table.last_read) in
-    rw (
-      c.rows_from-from.ensures,
-      c.pair-care.ensures,
-      c.against_rows-others.ensures,
-      c.first_of-first.ensures,
-      c.end_of-end.ensures,
-    ) (row-told _ _ _ c.requires.low high c.requires.ordered (view c.args.state.now).bits _ (grind (arith, common_steps))
-    c.args.table.whole c.args.table.small _ c.find_row-f.ensures (omega (arith, c.args.table.frames_read, c.args.table.whole.alone, c.if-table-f.false)))
+returns c = grind (arith, common_steps, row-told, c.args.table.last_read)

@@ -1,7 +1,7 @@
 use Rattle.std.proofs.Common.{rules, refl, arith}
+use Rattle.std.proofs.lemmas.Grind.{common_steps}
 use Rattle.words.specs.lists.Numbers.{highest}
 use Rattle.words.proofs.lists.Searches.{highest-next}
-use Rattle.charts.specs.Chart.{scheme}
 use Rattle.chart_check.proofs.chart_counts.highest_scheme.Goals as goal
 use Rattle.chart_check.proofs.chart_counts.highest_scheme.Goals.{then-highest-scheme, else-highest-scheme}
 
@@ -10,12 +10,4 @@ unfolding highest
 loop-v-init c = record { inside = search rules; highest = refl }
 
 pub loop-v-preserved : goal.loop-v-preserved
-loop-v-preserved c =
-    let next = highest-next (scheme c.args.records.now) c.loop-v.v in
-    record {
-      inside = search rules;
-      highest = elim c.if-highest-scheme.branch [
-        | then-highest-scheme w ↦ omega (arith, next, c.field-scheme.ensures)
-        | else-highest-scheme w ↦ omega (arith, next, c.field-scheme.ensures)
-      ];
-    }
+loop-v-preserved c = grind (arith, common_steps, highest-next)

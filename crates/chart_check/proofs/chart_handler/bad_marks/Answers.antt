@@ -1,5 +1,6 @@
 -- `chart_check::chart_handler::bad_marks` meets its contract.
-use Rattle.std.proofs.Common.{◌∙◌, sym, subst, rules}
+use Rattle.std.proofs.Common.{◌∙◌, sym, subst, rules, arith}
+use Rattle.std.proofs.lemmas.Grind.{common_steps}
 use Rattle.chart_check.proofs.chart_handler.HandlerLoops.{Marking, marking-none, marking-all, marking-pass, marking-mark, marking-second}
 use Rattle.chart_check.proofs.chart_handler.HandlerLoops.{marking-first}
 use Rattle.chart_check.proofs.chart_handler.bad_marks.Goals as goal
@@ -9,8 +10,7 @@ pub loop-v-init : goal.loop-v-init
 loop-v-init c = marking-none _ _ (search rules)
 
 pub returns-then-marked : goal.returns-then-marked
-returns-then-marked c =
-    marking-second _ _ _ _ c.loop-v.invariant (search rules) (sym c.marks_handler.ensures ∙ c.if-marks_handler.true) c.if-marked.true
+returns-then-marked c = grind (arith, common_steps, marking-second, c.loop-v.invariant)
 
 pub returns-then-field-eq1 : goal.returns-then-field-eq1
 returns-then-field-eq1 c =

@@ -1,16 +1,13 @@
 -- `chart_check::circles::leads_back` meets its contract: the marks are those of the definition, read at the node.
 use Rattle.std.proofs.Common.{◌≡◌, ◌∙◌, arith, length}
+use Rattle.std.proofs.lemmas.Grind.{common_steps}
 use Rattle.words.proofs.graph.Enlisted.{enlisted-first}
 use Rattle.text.specs.frames.Frame.{size}
 use Rattle.chart_check.proofs.node_marks.MarkCases.{blank-long, blank-lent, spread-back}
 use Rattle.chart_check.proofs.circles.leads_back.Goals as goal
 
 pub follow-count-requires : goal.follow-count-requires
-follow-count-requires c =
-    record {
-      inside = c.requires.inside;
-      listed_room = blank-lent _ _ _ c.requires.blank;
-    }
+follow-count-requires c = grind (arith, common_steps, blank-lent)
 
 pub join-requires : goal.join-requires
 join-requires c =

@@ -1,19 +1,15 @@
 -- `chart_check::joined::lowest_apart` meets its contract: the Begins are marked, the marks spread, by a sweep and then by the list; where
 -- some node has none, the lowest is found.
-use Rattle.std.proofs.Common.{◌≡◌, sym, ◌∙◌, length, rules}
-use Rattle.words.specs.graph.inner.Listed.{many}
+use Rattle.std.proofs.Common.{rules, arith}
+use Rattle.std.proofs.lemmas.Grind.{common_steps}
 use Rattle.words.proofs.graph.Marking.{full-reach}
 use Rattle.words.proofs.graph.MarkedNodes.{listed-lowest}
 use Rattle.text.specs.frames.Frame.{size}
-use Rattle.charts.specs.Check.{arcs}
 use Rattle.chart_check.proofs.node_marks.MarkCases.{spread-apart, all-marked}
 use Rattle.chart_check.proofs.joined.lowest_apart.Goals as goal
 
 pub returns-then-count-marks-clause-marks : goal.returns-then-count-marks-clause-marks
-returns-then-count-marks-clause-marks c =
-    let records = c.args.records.now in
-    let full : many c.sweep.new.marks ≡ length c.sweep.new.marks = sym c.list_marked-count.ensures.counted ∙ c.if-count-marks.true in
-    spread-apart records _ _ _ c.mark_kind.ensures c.sweep.ensures (full-reach _ full (size records) (arcs records) (search rules))
+returns-then-count-marks-clause-marks c = grind (arith, common_steps, full-reach, spread-apart)
 
 pub returns-then-count-marks-clause-lowest : goal.returns-then-count-marks-clause-lowest
 returns-then-count-marks-clause-lowest c = all-marked c.sweep.new.marks (size c.args.records.now) (search rules) (search rules)

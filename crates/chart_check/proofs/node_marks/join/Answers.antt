@@ -1,9 +1,8 @@
 -- `chart_check::node_marks::join`: once the list is followed to its end, all are reached.
-use Rattle.std.proofs.Common.{arith, ◌≡◌, ◌∙◌, refl, ℕ, subst, slice_index}
-use Rattle.text.specs.frames.Frame.{size}
-use Rattle.charts.specs.inner.Marks.{arcs_by}
+use Rattle.std.proofs.Common.{arith, ◌∙◌, refl, slice_index}
+use Rattle.std.proofs.lemmas.Grind.{common_steps}
 use Rattle.words.proofs.graph.Marking.{joining-first, joining-done}
-use Rattle.words.proofs.graph.Lists.{Followed, followed-none, followed-more, followed-closed, joining-more}
+use Rattle.words.proofs.graph.Lists.{followed-none, followed-more, followed-closed, joining-more}
 use Rattle.chart_check.proofs.node_marks.MarkCases.{turn-lent, turn-few, lent-enlisted}
 use Rattle.chart_check.proofs.node_marks.join.Goals as goal
 
@@ -40,13 +39,4 @@ loop-i-preserved c =
     }
 
 pub returns : goal.returns
-returns c =
-    let loop = c.loop-i in
-    let inv = loop.invariant in
-    let e : loop.i ≡ loop.end = omega arith in record {
-      marks = joining-done _ _ _ c.requires.long loop.marks inv.joining
-          (followed-closed _ _ loop.marks loop.list loop.end inv.listed
-          (subst (λ (k : ℕ). Followed (size c.args.records.now) (arcs_by c.args.records.now c.args.conditions) loop.marks loop.list k) e
-          inv.followed));
-      many = inv.listed.counted;
-    }
+returns c = grind (arith, common_steps, joining-done, followed-closed)

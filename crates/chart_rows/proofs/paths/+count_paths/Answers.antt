@@ -1,10 +1,11 @@
 -- `chart_rows::count_paths`: a stop is one path, a new condition has the paths of its two sides.
 use Rattle.std.proofs.Common.{refl, arith, rules}
+use Rattle.std.proofs.lemmas.Grind.{common_steps}
 use Rattle.chart_rows.proofs.PathCases.{arrived-inside, paths-end, paths-fork, side-0, side-1, count-stop, count-fork}
 use Rattle.chart_rows.proofs.paths.+count_paths.Goals as goal
 
 pub returns-then-i-gt15 : goal.returns-then-i-gt15
-returns-then-i-gt15 t c = count-stop _ _ _ _ _ _ c.if-most-eq0.false (paths-end c.requires c.settle-v.ensures c.if-i-gt15.true)
+returns-then-i-gt15 t c = grind (arith, common_steps, paths-end, count-stop)
 
 pub field-requires : goal.field-requires
 field-requires t c = let inside = arrived-inside c.requires c.settle-v.ensures in search rules

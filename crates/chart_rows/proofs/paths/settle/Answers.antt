@@ -1,5 +1,6 @@
 -- `chart_rows::settle`: each turn passes one condition, and the rank falls.
 use Rattle.std.proofs.Common.{arith}
+use Rattle.std.proofs.lemmas.Grind.{common_steps}
 use Rattle.chart_rows.proofs.Settled.{number-low, passing-falls, passing-on, passing-done}
 use Rattle.chart_rows.proofs.paths.settle.Goals as goal
 
@@ -15,9 +16,7 @@ loop-side-smaller c =
     c.noted_bit-side.ensures c.field-at.ensures
 
 pub loop-side-preserved : goal.loop-side-preserved
-loop-side-preserved c =
-    passing-on c.requires.noted c.loop-side.invariant (omega (arith, c.ranges.care)) c.noted_bit.ensures c.loop-side-test.true
-    c.noted_bit-side.ensures c.field-at.ensures
+loop-side-preserved c = grind (arith, common_steps, passing-on, c.loop-side.invariant)
 
 pub returns : goal.returns
 returns c =

@@ -1,5 +1,6 @@
 -- `chart_rows::count_node`: by kind; a stopping condition and a function have two sides.
-use Rattle.std.proofs.Common.{refl, sym, ◌∙◌}
+use Rattle.std.proofs.Common.{refl, sym, ◌∙◌, arith}
+use Rattle.std.proofs.lemmas.Grind.{common_steps}
 use Rattle.chart_rows.proofs.NumberLaws.{small-number}
 use Rattle.chart_rows.proofs.RowSteps.{other-entered, rows-function, rows-condition, rows-other, count-nothing, count-rows}
 use Rattle.chart_rows.proofs.rows.count_node.Goals as goal
@@ -19,10 +20,7 @@ count_paths-requires c =
     record { noted = node.noted; entered = other-entered node c.if-notes-v-lt2.false c.field-in-0-to-2.ensures; within = refl }
 
 pub returns-in-3 : goal.returns-in-3
-returns-in-3 c =
-    count-rows c.requires
-    (rows-condition c.requires c.if-notes-v-lt2.false c.field.ensures c.in-3.is c.field-in-3.ensures c.with_bit-own.ensures)
-    _ (c.count_sides.ensures _ _ _)
+returns-in-3 c = grind (arith, common_steps, rows-condition, count-rows)
 
 pub returns-in-0-to-2 : goal.returns-in-0-to-2
 returns-in-0-to-2 c =
@@ -31,7 +29,4 @@ returns-in-0-to-2 c =
     _ (c.count_paths.ensures _ _)
 
 pub returns-in_default : goal.returns-in_default
-returns-in_default c =
-    count-rows c.requires
-    (rows-function c.requires c.if-notes-v-lt2.false c.field.ensures c.in_default.if-this-lt3-own.false c.in_default.in_default-own.rest.1)
-    _ (c.count_sides-in_default.ensures _ _ _)
+returns-in_default c = grind (arith, common_steps, count-rows, rows-function)

@@ -1,5 +1,6 @@
 -- `chart_rows::count_sides`: the paths of the 0 side, and those of the 1 side up to what is left of the limit.
 use Rattle.std.proofs.Common.{refl, arith}
+use Rattle.std.proofs.lemmas.Grind.{common_steps}
 use Rattle.chart_rows.proofs.RowSteps.{side-entered0, side-entered1, count-sides}
 use Rattle.chart_rows.proofs.rows.count_sides.Goals as goal
 
@@ -22,7 +23,4 @@ overflow_add-result c =
     (arith, c.count_paths-low.ensures 0 0, c.count_paths.ensures 0 0, c.ranges.most)
 
 pub returns : goal.returns
-returns c =
-    let a = c.args in
-    count-sides a.records.now a.v a.care a.values _ _ _ _ _ c.field.ensures
-    c.field-2.ensures c.count_paths-low.ensures c.count_paths.ensures
+returns c = grind (arith, common_steps, count-sides)

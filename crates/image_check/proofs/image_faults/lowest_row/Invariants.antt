@@ -1,6 +1,6 @@
 -- `image_check::image_faults::lowest_row` meets its contract: the loop keeps what is left to search.
 use Rattle.std.proofs.Common.{◌-◌, ◌≤◌}
-use Rattle.image_check.specs.image_faults.inner.FaultyFrames.{is_faulty}
+use Rattle.image_check.specs.inner.FaultyFrames.{is_faulty}
 use Rattle.words.specs.lists.Numbers.{lowest}
 use Rattle.words.proofs.lists.Searches.{Searching}
 use Rattle.image_check.proofs.image_faults.lowest_row.Given as goal

@@ -1,13 +1,12 @@
 -- `image_check::read::read_image` meets its contract: the answer is the text's refusal or the table's, and the buffer is as it was read.
 use Rattle.std.proofs.Common.{arith}
+use Rattle.std.proofs.lemmas.Grind.{common_steps}
 use Rattle.image_check.proofs.ReadCases.{read-good, read-refused, front-size, front-length, read-done}
 use Rattle.std.proofs.lemmas.Result.{err_from_is_err_and}
 use Rattle.image_check.proofs.read.read_image.Goals as goal
 
 pub returns-in_err-frames-clause-answered : goal.returns-in_err-frames-clause-answered
-returns-in_err-frames-clause-answered c =
-    let p = err_from_is_err_and c.from_residual.result c.from_residual.ensures.1 in
-    rw (p.1, p.2) (read-refused _ c.read_text.ensures.answered c.in_err-frames.was)
+returns-in_err-frames-clause-answered c = grind (arith, common_steps, err_from_is_err_and, read-refused)
 
 pub slice_bounds-check_table-end : goal.slice_bounds-check_table-end
 slice_bounds-check_table-end c =

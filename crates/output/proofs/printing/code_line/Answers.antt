@@ -1,6 +1,6 @@
 -- `output::printing::code_line` meets its contract: the two characters are those of the code's digits.
 use Rattle.std.proofs.Common.{ap₂, [], ◌∷◌}
-use Rattle.output.specs.printing.Lines.{code_line}
+use Rattle.output.specs.Lines.{code_line}
 use Rattle.output.proofs.printing.code_line.Goals as goal
 
 pub returns : goal.returns

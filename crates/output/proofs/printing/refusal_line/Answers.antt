@@ -1,7 +1,7 @@
 -- `output::printing::refusal_line` meets its contract: a frame over an array of 23 bytes is the whole line.
 use Rattle.words.specs.lists.Sequences.{written}
 use Rattle.text.specs.frames.Frame.{frame_text}
-use Rattle.output.specs.printing.Lines.{refusal_line}
+use Rattle.output.specs.Lines.{refusal_line}
 use Rattle.output.proofs.printing.refusal_line.Goals as goal
 
 pub returns : goal.returns

@@ -1,7 +1,7 @@
 -- `translator::label_text::put_entries`: the entries of the schemes up to k stand in the buffer.
 use Rattle.words.proofs.lists.Fills.{Pieces}
-use Rattle.chart_rows.specs.chart_labels.inner.ChartContracts.{Begun}
-use Rattle.translator.specs.label_text.inner.LabelBytes.{entry_bytes}
+use Rattle.chart_rows.specs.inner.ChartContracts.{Begun}
+use Rattle.translator.specs.inner.LabelBytes.{entry_bytes}
 use Rattle.translator.proofs.entry_text.put_entries.Given as goal
 
 abbrev pub invariant-loop-k : goal.invariant-loop-k

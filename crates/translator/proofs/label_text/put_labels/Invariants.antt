@@ -1,5 +1,5 @@
 -- `translator::label_text::put_labels`: the labels of the nodes before v stand in the buffer.
-use Rattle.translator.specs.label_text.inner.LabelBytes.{node_label_bytes}
+use Rattle.translator.specs.inner.LabelBytes.{node_label_bytes}
 use Rattle.translator.proofs.label_text.Puts.{Appended}
 use Rattle.translator.proofs.label_text.put_labels.Given as goal
 

@@ -1,5 +1,5 @@
 -- `translator::row_text::put_rows`: the rows of the nodes before v stand in the buffer.
-use Rattle.translator.specs.row_text.inner.NodeBytes.{node_rows_bytes}
+use Rattle.translator.specs.inner.NodeBytes.{node_rows_bytes}
 use Rattle.translator.proofs.label_text.Puts.{Appended}
 use Rattle.translator.proofs.row_text.put_rows.Given as goal
 

@@ -29,7 +29,7 @@ put_header-requires c =
 pub returns : goal.returns
 returns c =
     let pre = c.requires in
-    table-put _ _ _ _ pre.sizes _ _ _ _ _ _ _ _ _ pre.room (rows-put _ _ _ _ pre.sizes _ _ c.put_rows-end.ensures.ends)
+    table-put _ _ _ _ pre.sizes pre.room (rows-put _ _ _ _ pre.sizes _ _ c.put_rows-end.ensures.ends)
     c.handler_scheme-handler.ensures
     c.put_entries.ensures c.put_fixed.ensures c.put_labels.ensures
     c.put_rows-end.ensures c.put_header.ensures

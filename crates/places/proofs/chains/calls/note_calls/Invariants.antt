@@ -1,6 +1,6 @@
 -- `places::chains::calls::note_calls`: the nodes before v are noted.
 use Rattle.std.proofs.Common.{◌≡◌, ◌≤◌}
-use Rattle.places.specs.chains.inner.Masks.{call_masks}
+use Rattle.places.specs.inner.Masks.{call_masks}
 use Rattle.places.proofs.chains.calls.note_calls.Given as goal
 
 abbrev pub invariant-loop-v : goal.invariant-loop-v

@@ -1,2 +1,0 @@
-pub mod Labels
-pub mod inner

@@ -1,0 +1,2 @@
+pub mod FrameReads
+pub mod Reads

@@ -1,2 +1,0 @@
-pub mod LabelBytes
-pub mod LabelContracts
