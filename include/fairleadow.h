@@ -17,26 +17,26 @@
  * `./archive` makes is code for x86-64 and calls memcpy and memset and nothing else; there a call takes at most so many bytes of stack,
  * its return address and what it uses below its stack with them; memcpy and memset count as functions without a frame, and what a
  * dynamic linker takes to find them at their first call is not counted (docs/MEASUREMENTS.md has the deepest that was seen beside it):
- *    read_chart      3,472   tick           13,512   prepare        13,432
- *    write_chart       928   rebind         13,464   live_run          568
- *    translate       6,912   spin           13,624   live_tick         488
- *    places          6,784   cause          13,576   live_rebind       328
- *    check_image    13,352   list_rows      13,480   live_spin         648
- *    fresh             136   minimise       14,856   meaning           136
- *    run            13,544   little_chart      752   dry_run        14,200
- *    priced_run     13,704   count_fillings 17,512   version           136
+ *    read_chart      3,472   tick           13,480   prepare        13,432
+ *    write_chart       928   rebind         13,464   live_run          520
+ *    translate       6,912   spin           13,592   live_tick         440
+ *    places          6,784   cause          13,576   live_rebind       320
+ *    check_image    13,352   list_rows      13,480   live_spin         600
+ *    fresh             136   minimise       14,872   meaning           136
+ *    run            13,496   little_chart      752   dry_run        14,152
+ *    priced_run     13,656   count_fillings 17,320   version           136
  *    check_table       264   sum               136
  * On a controller at 16 MHz the calls of a machine's loop take no longer than this, on a Cortex-M3, on a Cortex-M0 whose products take one
  * cycle, and where they take 32; beside each bound the longest that was found (controller/README.md says what a bound means):
  *    at most and found, in milliseconds
  *    prepare                                112.49    88.96   219.40   171.76   252.37   190.61
- *    live_tick                                3.55     3.22     7.09     6.87    11.16    10.90
- *    live_tick, on any bytes                  4.44     4.04     8.88     8.45    14.02    13.53
- *    live_run of 64 words                   214.94   173.30   433.50   393.91   689.63   648.24
- *    live_run of 64 words, on any bytes     271.52   233.80   548.24   511.44   872.57   832.97
- *    live_rebind                              0.16     0.13     0.27     0.22     0.34     0.28
- *    live_spin                                3.67     3.28     7.43     6.98    11.50    11.02
- *    live_spin, on any bytes                  4.55     4.09     9.22     8.56    14.36    13.65
+ *    live_tick                                3.47     2.54     6.74     5.66    10.82     7.71
+ *    live_tick, on any bytes                  4.34     3.13     8.44     6.91    13.58     9.50
+ *    live_run of 64 words                   210.35   117.75   413.86   282.60   670.49   410.20
+ *    live_run of 64 words, on any bytes     265.63   169.81   522.71   393.00   847.54   554.51
+ *    live_rebind                              0.15     0.11     0.23     0.17     0.29     0.23
+ *    live_spin                                3.59     2.59     7.08     5.77    11.16     7.83
+ *    live_spin, on any bytes                  4.45     3.18     8.78     7.03    13.92     9.61
  */
 #ifndef FAIRLEADOW_H
 #define FAIRLEADOW_H
@@ -49,7 +49,7 @@
 #define FAIRLEADOW_VERSION 3
 
 /* The release that this header is of, whose middle number is the version (CHANGELOG.md). */
-#define FAIRLEADOW_RELEASE "0.3.3"
+#define FAIRLEADOW_RELEASE "0.3.4"
 
 #ifdef __cplusplus
 extern "C" {

@@ -94,7 +94,9 @@ def called_by(name, lines, processor):
         if processor.jumps_by_pointer.match(line):
             continue
         if processor.branches.match(line):
-            target = re.split(r"[\t,] *", line)[-1].replace("@PLT", "").strip('"')
+            # a name in quotes may hold commas
+            quoted = re.search(r'"([^"]+)"', line)
+            target = quoted.group(1) if quoted else re.split(r"[\t,] *", line)[-1].replace("@PLT", "")
             if not target.startswith(".L"):
                 calls.add(target)
     return calls

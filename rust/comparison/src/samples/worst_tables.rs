@@ -16,7 +16,7 @@ const BOTTOM: u8 = 6;
 const DECIDES: u8 = 4;
 
 /// Each even label's rows begin at frame 0 and end with the table. Taken as rows, nearly all frames match words without any other
-/// bit than DECIDES, the rows among them with fifteen ones each, and lead nowhere. The last two have sixteen: on a word without it
+/// bit than DECIDES, the rows among them with fifteen ones each and for result bit 0 alone, and lead nowhere. The last two have sixteen: on a word without it
 /// the last but one leads to a return, on a word with it the last one to the plain label.
 fn whole_table_rows() -> Vec<Frame> {
     let mut frames = vec![[15, 16, 255, 4, 0, 0, 2, 0, 0, 0]];
@@ -30,7 +30,7 @@ fn whole_table_rows() -> Vec<Frame> {
             _ => [note, note, PLAIN, 0, 0, 0, 2, 0, 0, 0],
         }
     }));
-    frames.extend([[18, 0, 255, !DECIDES, 0, 0, 2, 0, 0, 0]; 1022]);
+    frames.extend([[18, 0, 255, !DECIDES, 0, 0, 0, 0, 0, 0]; 1022]);
     frames.push([18, 0, 255, 255, 0, 0, 2, 1, 0, 0]);
     frames.push([18, 0, 255, 255, 0, DECIDES, 2, GOES_ON, 0, 0]);
     frames
