@@ -1,1 +1,2 @@
 pub mod ServedCases
+pub mod TriedInOrder

@@ -97,7 +97,7 @@ module _ (b : List ℕ) (s : State) where
 
   -- ---- what is known once the label at place k was found to belong there, and when the place above a call is reached
   pub record Belongs (k : ℕ) : Type 0 where
-    pub open_place : k < s.depth
+    pub open-place : k < s.depth
     pub inside : place_at s k ≤ last_label b
     pub lower : any (is_unfit_place image s) 0 k ≡ false
     pub bottom : has_bad_bottom image s ≡ false
@@ -119,16 +119,16 @@ module _ (b : List ℕ) (s : State) where
   pub belongs-first : 1 ≤ s.depth → place_at s 0 ≤ last_label b
       → is_astray_at_bottom (handler_in b) (at_place 0).owner (place_at s 0) (number_at s 0) (server_at s 0) ≡ false → Belongs 0
   unfolding any
-  belongs-first h l e = record { open_place = omega arith; inside = l; lower = refl; bottom = bottom-is ∙ e }
+  belongs-first h l e = record { open-place = omega arith; inside = l; lower = refl; bottom = bottom-is ∙ e }
 
   module _ (called k : ℕ) (c : PassedPlaces called k) where
     pub pass-wrong : k < s.depth → is_wrong called k ≡ true → true ≡ is_any_unfit
     pass-wrong h e =
-        unfit-found c.place c.below.open_place (place-loose c.place k c.next h (rw (c.call, c.number, e)))
+        unfit-found c.place c.below.open-place (place-loose c.place k c.next h (rw (c.call, c.number, e)))
 
     pub belongs-above : k < s.depth → place_at s k ≤ last_label b → is_wrong called k ≡ false → Belongs k
     belongs-above h l e = record {
-      open_place = h;
+      open-place = h;
       inside = l;
       lower = any-up c.place k c.next c.below.lower (place-fits c.place k c.next c.below.inside (λ m. rw (c.call, c.number, e)));
       bottom = c.below.bottom;
@@ -147,14 +147,14 @@ module _ (b : List ℕ) (s : State) where
 
   all-fit : (k : ℕ) → Belongs k → s.depth ≤ k + 1 → false ≡ is_any_unfit
   all-fit k y h =
-      let top : s.depth ≡ k + 1 = omega (arith, y.open_place) in
+      let top : s.depth ≡ k + 1 = omega (arith, y.open-place) in
       sym (or-none _ _ (any-up k s.depth top y.lower (place-fits k s.depth top y.inside (λ m. absurd (omega arith)))) y.bottom)
 
   pub pass-top : (k : ℕ) → Belongs k → is_call (at_place k) ≡ false → nat_lt (k + 1) s.depth ≡ is_any_unfit
   pass-top k y e = go (split (k + 1) s.depth)
     where
       go : (k + 1 < s.depth) ⊎ (s.depth ≤ k + 1) → nat_lt (k + 1) s.depth ≡ is_any_unfit
-      go (inl h) = lt-ltb (k + 1) s.depth h ∙ unfit-found k y.open_place (place-loose k (k + 1) refl h (rw e))
+      go (inl h) = lt-ltb (k + 1) s.depth h ∙ unfit-found k y.open-place (place-loose k (k + 1) refl h (rw e))
       go (inr h) = le-ltb (k + 1) s.depth h ∙ all-fit k y h
 
   pub pass-next : (called k : ℕ) → Belongs k → is_call (at_place k) ≡ true → (at_place k).called ≡ called → PassedPlaces called (k + 1)

@@ -1,5 +1,7 @@
 -- What the tests of a state's fitness promise.
 use Rattle.std.specs.Prelude.{ℕ, List, slice_index, Bool, ◌&&◌, ◌||◌, not, if◌then◌else◌, nat_lt, nat_le, ◌==◌}
+use Rattle.bindings.specs.Binding.{server_of}
+use Rattle.state.specs.State.{State}
 
 -- label l of that owner may not stand where one of that scheme is open
 abbrev pub is_astray : ℕ → ℕ → ℕ → Bool
@@ -26,6 +28,14 @@ is_astray_at_bottom handler owner l number server =
 -- with H schemes and handler g, scheme k may not serve number h
 abbrev pub is_misserved : ℕ → ℕ → ℕ → ℕ → Bool
 is_misserved H g h k = not (if nat_le h H && not (h == g) then nat_le 2 k && nat_le k H else k == h)
+
+-- number h is served by another scheme than its own
+abbrev pub is_rebound : State → ℕ → Bool
+is_rebound s h = not (server_of s.serving h == h)
+
+-- with H schemes and handler g, number h is served by a scheme that may not serve it
+abbrev pub is_served_amiss : ℕ → ℕ → State → ℕ → Bool
+is_served_amiss H g s h = is_misserved H g h (server_of s.serving h)
 
 -- byte k is not 0
 abbrev pub is_set : List ℕ → ℕ → Bool
