@@ -132,17 +132,19 @@ class Sources:
         """The functions that an instruction comes from."""
         return {self.name(place) for place in instruction.sources if place.startswith("module:")}
 
-    def loop(self, function, instructions):
-        """In whose source the loop of these instructions stands, and how many turns of it one is."""
-        placed = [instruction for instruction in instructions if instruction.sources]
+    def loop(self, function, instructions, back):
+        """In whose source the loop of these instructions stands, and how many turns of it one is: that is noted at its jumps back, where
+        these are of that source, while other instructions may have been moved into it."""
+        placed = [each for each in instructions if each.sources and not each.is_way_out]
         chains = [instruction.sources[::-1] for instruction in placed]
         if not chains or not chains[0][0].startswith("module:"):
             return function.name, min((instruction.unrolled for instruction in placed), default=1)
         shared = os.path.commonprefix(chains)
         if not shared:
             raise Refused(f"a loop in {function.name} is of no one function")
-        own = [instruction.unrolled for instruction in placed if instruction.sources[0] == shared[-1]]
-        return self.name(shared[-1]), min(own, default=1)
+        if not all(instruction.sources and instruction.sources[0] == shared[-1] for instruction in back):
+            back = [instruction for instruction in placed if instruction.sources[0] == shared[-1]]
+        return self.name(shared[-1]), min((instruction.unrolled for instruction in back), default=1)
 
 
 def bounds_of(functions, names, bounds, measures):

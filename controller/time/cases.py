@@ -52,12 +52,13 @@ REFUSED = [
     (written(("g", "\tmovs\tr0, #3", "\tbl\th", "\tbl\tf", "\tbx\tlr"), ("h", "\tbx\tlr"), LOOP), ["f | r0 | | %s | "], "where g calls it"),
 ]
 
-# f turns five times in the loop of "outer", and in that of "inner", four of whose turns are one, nine times in all; there it calls h once
+# f turns five times in the loop of "outer", and in that of "inner", four of whose turns are one, as its jump back alone tells, nine times
+# in all; there it calls h once
 NESTED = written(
     (
         "f", "\tpush\t{r4, r5, lr}", "\t.loc\t1 2 0 @ module:2", ".LBB0_1: @ =>This Loop Header: Depth=1", "\tldr\tr1, [r0]",
-        "\tcbz\tr1, .LBB0_2", "\tbl\th", "\t.loc\t1 1 0 discriminator 17 @ module:1 @[ module:2 ]", ".LBB0_2: " + HEADER,
-        "\tmuls\tr1, r2, r1", "\tbls\t.LBB0_2", "\t.loc\t1 2 0 @ module:2", "\tsubs\tr0, #1", "\tbne.w\t.LBB0_1",
+        "\tcbz\tr1, .LBB0_2", "\tbl\th", "\t.loc\t1 1 0 @ module:1 @[ module:2 ]", ".LBB0_2: " + HEADER, "\tmuls\tr1, r2, r1",
+        "\t.loc\t1 1 0 discriminator 17 @ module:1 @[ module:2 ]", "\tbls\t.LBB0_2", "\t.loc\t1 2 0 @ module:2", "\tsubs\tr0, #1", "\tbne.w\t.LBB0_1",
         "\t.loc\t1 3 0 @ module:3", "\tpop\t{r4, r5, pc}",
     ),
     ("h", "\tudiv\tr0, r1, r2", "\tit\tne", "\tbxne\tlr", "\tbx\tlr"),
@@ -69,6 +70,14 @@ SHARED = written(
         "\t.loc\t1 1 0 @ module:1 @[ module:2 ]", "\tldr\tr1, [r2]", "\tldr\tr1, [r2]", "\t.loc\t1 2 0 @ module:2", ".LBB0_2:",
         "\tcmp\tr0, #0", "\tbne\t.LBB0_1", "\t.loc\t1 3 0 @ module:3", ".LBB0_3: " + HEADER, "\tsubs\tr3, #1", "\tbne\t.LBB0_3",
         "\tbx\tlr",
+    ),
+)
+# nine turns in the loop of "inner", four of which are one, as the comparison tells by which the function around it returns from it
+RETURNING = written(
+    (
+        "f", "\t.loc\t1 2 0 @ module:2", "\tb\t.LBB0_2", "\t.loc\t1 1 0 discriminator 17 @ module:1 @[ module:2 ]", ".LBB0_1:", "\tcmp\tr0, r1",
+        "\t.loc\t1 1 0 @ module:1 @[ module:2 ]", "\tadds\tr0, #4", "\t.loc\t1 2 0 @ module:2", "\tit\teq", "\tbxeq\tlr",
+        "\t.loc\t1 1 0 @ module:1 @[ module:2 ]", ".LBB0_2: " + HEADER, "\tsubs\tr2, #1", "\tb\t.LBB0_1",
     ),
 )
 # f calls h with 3, twice, and with 5
@@ -110,6 +119,16 @@ TAKEN = [
             "thumbv6m": {
                 "instructions": 1 + 10 * 4 + 6 + 4 * 2 + 2,
                 **dict.fromkeys(("counted", "longest", "slow counted", "slow longest"), 3 + 10 * 8 + 8 + 4 * 4 + 2),
+            },
+        },
+    ),
+    (
+        RETURNING, ["inner | 9 | | %s | "],
+        {
+            "thumbv7m": {"instructions": 1 + 3 * 6 + 6, "counted": 3 + 3 * 8 + 10, "longest": 4 + 3 * 9 + 12},
+            "thumbv6m": {
+                "instructions": 1 + 3 * 6 + 6,
+                **dict.fromkeys(("counted", "longest", "slow counted", "slow longest"), 3 + 3 * 8 + 10),
             },
         },
     ),

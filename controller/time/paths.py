@@ -14,6 +14,13 @@ class Block:
     def __init__(self):
         self.instructions, self.edges = [], []
 
+    @property
+    def last(self):
+        """The jump at its end; in place of a return that is made on a condition, the comparison by which that is chosen."""
+        last = self.instructions[-1]
+        tests = [each for each in self.instructions if each.name in ("cmp", "cmn", "tst", "teq")]
+        return tests[-1] if last.is_way_out and tests else last
+
 
 def leads_to(function, place, instruction):
     """Where an instruction may jump: the places of its function, and None for a return or for a function that it leaves for."""
@@ -128,8 +135,10 @@ class Here:
         self.loops, self.names = loops_of(function.name, self.blocks, self.order), {}
         waiting = list(self.loops)
         for loop in waiting:
-            instructions = [each for place in sorted(loop.places) for each in self.blocks[place].instructions]
-            self.names[loop.header] = sources.loop(function, instructions)
+            blocks = [self.blocks[place] for place in sorted(loop.places)]
+            instructions = [each for block in blocks for each in block.instructions]
+            back = [block.last for block in blocks if any(target == loop.header for target, _ in block.edges)]
+            self.names[loop.header] = sources.loop(function, instructions, back)
             waiting.extend(loop.inner)
         if set(self.names) != function.remarked & set(self.blocks):
             raise Refused(f"{function.name} has other loops than the compiler remarks")

@@ -84,6 +84,11 @@ class Instruction:
     def returns(self):
         return self.writes_counter and (self.name in ("pop", "ldm", "ldmia") or self.name == "bx" and self.operands == ["lr"])
 
+    @property
+    def is_way_out(self):
+        """Whether it is a return, or chooses whether one is made: in a loop these are of the function around it."""
+        return self.returns or self.name == "it"
+
 
 def name_of(mnemonic, line):
     """The name without what says of its width, its flags and its condition, and whether it has a condition."""

@@ -59,10 +59,11 @@ fn cause_at(table: Table, state: &State, l: u8, word: u16) -> Result<Cause, Refu
 {
     let label = table.numbered_label(l as usize);
     let bit = bit_of(state, label.kind, label.called);
-    let f = find_row(&table, l as usize, word, bit);
-    if table.frames as usize <= f {
+    let found = find_row(&table, l as usize, word, bit);
+    if table.frames <= found {
         return Err(Refusal::NoRow { ticks: 0 });
     }
+    let f = found as usize;
     let first = table.first_of(l as usize);
     let end = table.end_of(l as usize);
     let care = pair(table.bytes, f, CARE);

@@ -1,7 +1,7 @@
 -- One frame of a table as the code compares it, the better of two, the search from one frame up to another, and where the rows of a label
 -- stand.
-use Rattle.std.proofs.Common.{if◌then◌else◌, ℕ, zero, suc, ◌+◌, ◌*◌, ◌-◌, ◌≤◌, ◌<◌, Bool, true, false, ◌&&◌, ◌||◌, ◌≡◌, sym, ◌∙◌, ap, ap₂, nat_lt, ◌==◌, slice_index}
-use Rattle.std.proofs.Common.{◌⊎◌, inl, inr, List, ◌∷◌, map, add-one, arith, bit_and, lt-ltb, le-ltb, eq-eqb, ne_eqb}
+use Rattle.std.proofs.Common.{if◌then◌else◌, ℕ, zero, suc, ◌+◌, ◌-◌, ◌≤◌, ◌<◌, Bool, true, false, ◌||◌, ◌≡◌, sym, ◌∙◌, ap, ap₂, nat_lt, ◌==◌, slice_index}
+use Rattle.std.proofs.Common.{◌⊎◌, inl, inr, List, ◌∷◌, map, add-one, arith, lt-ltb, le-ltb}
 use lib.Count.{ones}
 use Rattle.std.proofs.lemmas.Grind.{common_steps}
 use Rattle.words.specs.lists.Numbers.{range}
@@ -15,45 +15,10 @@ use Rattle.tables.proofs.Front.{end-inside}
 use Rattle.rows.specs.Rows.{is_candidate, Choice, row, no_choice, better_choice, best_row, lead_of, next_of}
 use Rattle.rows.specs.declared.TheConstants.{NO_FRAME}
 use Rattle.rows.specs.declared.Best.{Best}
-use Rattle.rows.specs.inner.Search.{swapped_word, is_matching_frame, found_at, BetterOf, BestFrom, IsCounted, chosen_frame, Chosen}
+use Rattle.rows.specs.inner.Search.{is_matching_frame, found_at, BetterOf, IsCounted, chosen_frame, Chosen}
 use Rattle.rows.specs.inner.Search.{Deciding}
-use Rattle.rows.proofs.Swaps.{swap-twice, swapped-agrees}
 use Rattle.rows.proofs.ChoiceLaws.{best-nothing, best-own, best-other, better-none, better-three}
 use Rattle.rows.proofs.TableRows.{next-found, next-none}
-
--- ---- one frame: care mask, values and function bit as they were read
-module _ (b : List ℕ) (swapped bit f : ℕ) (small : swapped < 65536) (bytes : (k : ℕ) → slice_index b k < 256) where
-  abbrev agreed : Bool
-  agreed = bit_and swapped (field b f 2 + field b f 3 * 256) == field b f 4 + field b f 5 * 256
-
-  abbrev suited : Bool
-  suited = bit == 2 || (field b f 6 == 2 || field b f 6 == bit)
-
-  matching-by : is_matching_frame b (swapped_word swapped) bit f ≡ (agreed && suited)
-  matching-by = grind (arith, common_steps, swapped-agrees)
-
-  module _ (care values : ℕ) (p : care ≡ field b f 2 + field b f 3 * 256) (q : values ≡ field b f 4 + field b f 5 * 256) where
-    read-is : (bit_and swapped care == values) ≡ agreed
-    read-is = ap₂ (λ (m n : ℕ). bit_and swapped m == n) p q
-
-    pub matching-not : (bit_and swapped care ≡ values → ⊥) → false ≡ is_matching_frame b (swapped_word swapped) bit f
-    matching-not e = grind (arith, common_steps, ne_eqb, matching-by, read-is)
-
-    agreeing : bit_and swapped care ≡ values → is_matching_frame b (swapped_word swapped) bit f ≡ suited
-    agreeing e = matching-by ∙ ap (λ (t : Bool). t && suited) (sym read-is ∙ eq-eqb (bit_and swapped care) values e)
-
-    pub matching-free : bit_and swapped care ≡ values → bit ≡ 2 → true ≡ is_matching_frame b (swapped_word swapped) bit f
-    matching-free e k = sym (agreeing e ∙ ap (λ (t : Bool). t || (field b f 6 == 2 || field b f 6 == bit)) (eq-eqb bit 2 k))
-
-    module _ (e : bit_and swapped care ≡ values) (n : bit ≡ 2 → ⊥) (only : ℕ) (r : only ≡ field b f 6) where
-      by-bit : is_matching_frame b (swapped_word swapped) bit f ≡ (only == 2 || only == bit)
-      by-bit = grind (arith, common_steps, ne_eqb, agreeing)
-
-      pub matching-any : only ≡ 2 → true ≡ is_matching_frame b (swapped_word swapped) bit f
-      matching-any k = sym (by-bit ∙ ap (λ (t : Bool). t || only == bit) (eq-eqb only 2 k))
-
-      pub matching-bit : (only ≡ 2 → ⊥) → (only == bit) ≡ is_matching_frame b (swapped_word swapped) bit f
-      matching-bit k = sym (by-bit ∙ ap (λ (t : Bool). t || only == bit) (ne_eqb only 2 k))
 
 -- the row in it as one of label l's, by a bit that decides
 module _ (b : List ℕ) (l bit : ℕ) (d : Deciding b l bit) (f : ℕ) where
@@ -100,10 +65,9 @@ module _ (b : List ℕ) (l w bit first end : ℕ) where
 
   module _ {x : Choice} (f best : ℕ) (s : Reached x f best) where
     -- by the test that was made of frame f
-    module _ (d : Deciding b l bit) (h : f < end) (swapped : ℕ) (e : swapped ≡ swapped_word w) (small : w < 65536)
-        (t : Bool) (q : t ≡ is_matching_frame b (swapped_word swapped) bit f) where
+    module _ (d : Deciding b l bit) (h : f < end) (t : Bool) (q : t ≡ is_matching_frame b w bit f) where
       own : t ≡ is_candidate l w bit (row_on b l f)
-      own = grind (arith, common_steps, swap-twice, own-test)
+      own = q ∙ sym (own-test b l bit d f w)
 
       more : best_from f ≡ best_row l w bit f (row_on b l f ∷ map (row_on b l) (range (suc f) (end - suc f)))
       more = ap (λ (n : ℕ). best_row l w bit f (map (row_on b l) (range f n))) (let z : end - f ≡ suc (end - suc f) = omega arith in z)
@@ -129,22 +93,18 @@ pub record Comparing (b : List ℕ) (w bit found first end f : ℕ) (best : Best
   pub reached : (l : ℕ) → Deciding b l bit
       → Reached b l w bit first end (better_choice (found_at b l found) (best_row l w bit first (map (row_on b l) (range first (end - first))))) f best.frame
 
-module _ (b : List ℕ) (swapped bit found first end f : ℕ) (best : Best) (s : Comparing b (swapped_word swapped) bit found first end f best)
-    (h : f < end) (small : swapped < 65536) (t : Bool) (q : t ≡ is_matching_frame b (swapped_word swapped) bit f) where
-  abbrev again : swapped ≡ swapped_word (swapped_word swapped)
-  again = sym (swap-twice swapped small)
-
-  pub comparing-other : t ≡ false → Comparing b (swapped_word swapped) bit found first end (f + 1) best
+module _ (b : List ℕ) (w bit found first end f : ℕ) (best : Best) (s : Comparing b w bit found first end f best)
+    (h : f < end) (t : Bool) (q : t ≡ is_matching_frame b w bit f) where
+  pub comparing-other : t ≡ false → Comparing b w bit found first end (f + 1) best
   comparing-other n = record {
     counted = s.counted;
-    reached = λ l d. search-other b l (swapped_word swapped) bit first end f best.frame (s.reached l d) d h swapped again (omega arith) t q n;
+    reached = λ l d. search-other b l w bit first end f best.frame (s.reached l d) d h t q n;
   }
 
-  pub comparing-own : t ≡ true → (r : Best) → BetterOf b best.frame f r.frame → IsCounted b r
-      → Comparing b (swapped_word swapped) bit found first end (f + 1) r
+  pub comparing-own : t ≡ true → (r : Best) → BetterOf b best.frame f r.frame → IsCounted b r → Comparing b w bit found first end (f + 1) r
   comparing-own y r z counted = record {
     counted = counted;
-    reached = λ l d. search-own b l (swapped_word swapped) bit first end f best.frame (s.reached l d) d h swapped again (omega arith) t q y r.frame z;
+    reached = λ l d. search-own b l w bit first end f best.frame (s.reached l d) d h t q y r.frame z;
   }
 
 -- a table has fewer frames
@@ -161,12 +121,6 @@ module _ (b : List ℕ) (l w bit first end : ℕ) (d : Deciding b l bit) (p : fi
 
     pub one-found : (r : ℕ) → r ≡ (if is_matching_frame b w bit first then first else NO_FRAME) → Chosen b l w bit r
     one-found r z = grind (arith, common_steps, best-other, best-nothing, best-own, cond-false, cond-true, own-test, alone)
-
--- ---- a row that matched and the rows after it compared
-pub compared : (b : List ℕ) (l w bit first end f found r swapped : ℕ) → Searched b l w bit first end f found → Deciding b l bit
-    → first ≡ first_on b l → end ≡ end_on b l → swapped ≡ swapped_word w → w < 65536
-    → BestFrom b (swapped_word swapped) bit found f end r → Chosen b l w bit r
-compared b l w bit first end f found r swapped s d p q e small x = grind (arith, common_steps, swap-twice, frame-named, all-searched)
 
 -- ---- a choice among frames of the table is what stands in the frame that it names
 module _ (b : List ℕ) (l w bit : ℕ) (few : size b < NO_FRAME) where

@@ -1,12 +1,9 @@
--- Words with their two bytes in the other order: twice swapped is the word itself, and two words agree where both are swapped.
+-- Words with their two bytes in the other order: two agree where both are swapped.
 use Rattle.std.proofs.Common.{ℕ, ◌+◌, ◌*◌, ◌/◌, ◌%◌, ◌<◌, ◌≡◌, sym, ◌∙◌, ap, ap₂, arith, bit_and, ◌==◌}
 use lib.Bits.{and_block, and_lt}
 use Rattle.std.proofs.lemmas.Grind.{common_steps}
 use Rattle.words.specs.bits.Word.{is_agreeing}
 use Rattle.rows.specs.inner.Search.{swapped_word}
-
-pub swap-twice : (w : ℕ) → w < 65536 → swapped_word (swapped_word w) ≡ w
-swap-twice w h = omega arith
 
 -- two bytes each, compared byte by byte
 same-bytes : (p q u v : ℕ) → p < 256 → q < 256 → u < 256 → v < 256 → (p * 256 + q == u + v * 256) ≡ (q * 256 + p == u * 256 + v)

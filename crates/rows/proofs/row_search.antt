@@ -1,1 +1,1 @@
-pub mod PassCases
+pub mod SeekCases

@@ -1,3 +1,3 @@
 pub mod Search
-pub mod FirstMatch
+pub mod NextMatch
 pub mod ListingContracts

@@ -3,12 +3,13 @@
 //! of each label, and `image_rows` is the entry point to that.
 #![tactic(auto)]
 
-ghost use Rattle.std.specs.Prelude.{◌≡◌, ◌≤◌, ◌<◌};
+ghost use Rattle.std.specs.Prelude.{◌≡◌, ◌%◌, ◌≤◌, ◌<◌};
 ghost use Rattle.std.specs.Int.Count.{ones};
 ghost use Rattle.text.specs.frames.Frame.{size, pair_at};
 ghost use Rattle.rows.specs.Choices.{ChosenIsBest, BestIsChosen, BestOnce, NoneMatches, NoneChosen};
 ghost use Rattle.rows.specs.listing.Exact.{Exactly, EmptyZero, LowZero, HeldOnSuccess, ListedFrames};
-ghost use Rattle.rows.specs.inner.Search.{swapped_word, is_matching_frame, BetterOf, BestFrom, IsCounted};
+ghost use Rattle.rows.specs.inner.Search.{swapped_word, is_agreeing_frame, is_suited_frame, is_matching_frame, BetterOf, BestFrom};
+ghost use Rattle.rows.specs.inner.Search.{IsCounted};
 
 pub mod image_rows;
 pub mod listing;
@@ -19,24 +20,31 @@ use image::{byte, pair};
 use tables::row_ranges::low_pair;
 
 /// The number of no frame: whatever bytes its header has, a table has fewer.
-pub const NO_FRAME: usize = 131072;
+pub const NO_FRAME: u32 = 131072;
 
-/// The two bytes of a word in the other order: a row is compared with its bytes as they stand.
-// that spares swapping those of care mask and values at each row
-pub fn swap(word: u16) -> u16
-    ensures { result ≡ swapped_word word }
+/// The two bytes of a word in the other order, in the lower half of a number whose upper half means nothing: a row is compared with its
+/// bytes as they stand.
+// that spares swapping those of care mask and values at each row; and of a number whose upper half it doesn't know the compiler for a
+// Cortex-M3 reads two bytes at once
+pub fn swap(word: u16) -> u32
+    ensures { swapped_word (result % 65536) ≡ word }
 {
-    (word % 256) * 256 + word / 256
+    (word as u32) * 256 + (word as u32) / 256
 }
 
-/// Whether the row in frame `f` matches a word, which is given with its bytes swapped, and a result bit, 2 where no bit decides.
-pub fn is_matching(bytes: &[u8], f: usize, swapped: u16, bit: u8) -> bool
+/// Whether the row in frame `f` agrees with a word, given as `swap` gives it: where its care mask has ones, its values are the word's bits.
+pub fn is_agreeing(bytes: &[u8], f: usize, swapped: u32) -> bool
     requires { f < size bytes.now }
-    ensures { result ≡ is_matching_frame bytes.now (swapped_word swapped) bit f }
+    ensures { result ≡ is_agreeing_frame bytes.now (swapped_word (swapped % 65536)) f }
 {
-    if swapped & low_pair(bytes, f, CARE) != low_pair(bytes, f, VALUES) {
-        return false;
-    }
+    ((swapped % 65536) as u16) & low_pair(bytes, f, CARE) == low_pair(bytes, f, VALUES)
+}
+
+/// Whether the row in frame `f` suits a result bit, 2 where no bit decides: it asks for no bit, or for this one.
+pub fn is_suited(bytes: &[u8], f: usize, bit: u8) -> bool
+    requires { f < size bytes.now }
+    ensures { result ≡ is_suited_frame bytes.now bit f }
+{
     if bit == NO_BIT {
         return true;
     }
@@ -47,23 +55,31 @@ pub fn is_matching(bytes: &[u8], f: usize, swapped: u16, bit: u8) -> bool
     only == bit
 }
 
+/// Whether the row in frame `f` matches a word, given as `swap` gives it, and a result bit, 2 where no bit decides.
+pub fn is_matching(bytes: &[u8], f: usize, swapped: u32, bit: u8) -> bool
+    requires { f < size bytes.now }
+    ensures { result ≡ is_matching_frame bytes.now (swapped_word (swapped % 65536)) bit f }
+{
+    is_agreeing(bytes, f, swapped) && is_suited(bytes, f, bit)
+}
+
 // The best row so far, by its frame, and how many ones its care mask has: they are counted once a row.
 #[derive(Clone, Copy)]
 struct Best {
-    frame: usize,
+    frame: u32,
     ones: u32,
 }
 
 // How many ones the care mask of the row in frame `f` has.
-fn count_care(bytes: &[u8], f: usize) -> u32
+fn count_care(bytes: &[u8], f: u32) -> u32
     requires { f < size bytes.now }
     ensures { result ≡ ones (pair_at bytes.now f CARE) }
 {
-    u16::count_ones(pair(bytes, f, CARE))
+    u16::count_ones(pair(bytes, f as usize, CARE))
 }
 
 // Of the best row so far and a later one in frame `f`: the later, unless the care mask of the first has more ones.
-fn better_row(bytes: &[u8], best: Best, f: usize) -> Best
+fn better_row(bytes: &[u8], best: Best, f: u32) -> Best
     requires counted { IsCounted bytes.now best }
     requires later_inside { f < size bytes.now }
     ensures better { BetterOf bytes.now best.frame f result.frame }
@@ -77,23 +93,16 @@ fn better_row(bytes: &[u8], best: Best, f: usize) -> Best
 }
 
 /// The frame of the best of the row in frame `found` and of the rows that match in the later frames from `first` up to `end`.
-pub fn compare_rows(
-    bytes: &[u8],
-    found: usize,
-    first: usize,
-    end: usize,
-    swapped: u16,
-    bit: u8,
-) -> usize
+pub fn compare_rows(bytes: &[u8], found: u32, first: u32, end: u32, swapped: u32, bit: u8) -> u32
     requires inside { found < size bytes.now }
     requires later_inside { end ≤ size bytes.now }
-    ensures { BestFrom bytes.now (swapped_word swapped) bit found first end result }
+    ensures { BestFrom bytes.now (swapped_word (swapped % 65536)) bit found first end result }
 {
     let ones = count_care(bytes, found);
     let mut best = Best { frame: found, ones };
     let mut frame = first;
     while frame < end {
-        if is_matching(bytes, frame, swapped, bit) {
+        if is_matching(bytes, frame as usize, swapped, bit) {
             best = better_row(bytes, best, frame);
         }
         frame += 1;

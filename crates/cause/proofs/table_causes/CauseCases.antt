@@ -1,7 +1,6 @@
 -- A cause on a table: the label that is left, the row found among its frames with its number, what is told, and refusals 15, 18 and 21.
 use Rattle.std.proofs.Common.{ℕ, ◌+◌, ◌-◌, ◌≤◌, ◌<◌, false, ◌≡◌, refl, sym, ◌∙◌, ap, List, arith, bit_or, nat_lt, ◌==◌}
-use Rattle.std.proofs.Common.{lt-ltb, le-ltb, le-leb, eq-eqb, Ok, Err, if◌then◌else◌, length, slice_index}
-use Rattle.std.proofs.Math.ListN.{get_or-eq_default}
+use Rattle.std.proofs.Common.{lt-ltb, le-ltb, le-leb, eq-eqb, Ok, Err, if◌then◌else◌, slice_index}
 use Rattle.std.proofs.lemmas.Bool.{lt-leb}
 use Rattle.std.proofs.lemmas.Grind.{common_steps}
 use Rattle.std.proofs.lemmas.Bool.{cond-true, cond-false}
@@ -38,10 +37,6 @@ use Rattle.cause.proofs.table_causes.TableConditions.{any-conditions, frame-cond
 -- a refusal, and no cause
 pub tells-none : (x : CauseOutcome) (r : Refusal) → x ≡ record { reply = cause_reply (Err r); cause = no_cause } → GivesCause x (Err r)
 tells-none x r e = rw e (record { answered = refl; row = refl; mask = refl; bit = refl })
-
--- a place past the highest
-pub place-past : (places : List ℕ) (k : ℕ) → length places ≡ 32 → 32 ≤ k → 0 ≡ slice_index places k
-place-past places k e h = sym (get_or-eq_default places 0 (omega arith))
 
 -- ---- the label that is left, by the tick kind of the one at the top
 module _ (b : List ℕ) (s : State) where

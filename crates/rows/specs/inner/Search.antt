@@ -14,10 +14,16 @@ use Rattle.rows.specs.Rows.{Choice, row, no_choice, better_choice, best_row, Fou
 abbrev pub swapped_word : ℕ → ℕ
 swapped_word w = w % 256 * 256 + w / 256
 
--- the row in frame f matches, whatever label it leaves; bit 2 says that no bit decides
+-- the row in frame f agrees with a word, and suits a bit; bit 2 says that no bit decides
+abbrev pub is_agreeing_frame : List ℕ → ℕ → ℕ → Bool
+is_agreeing_frame b w f = is_agreeing w (pair_at b f CARE) (pair_at b f VALUES)
+
+abbrev pub is_suited_frame : List ℕ → ℕ → ℕ → Bool
+is_suited_frame b bit f = bit == NO_BIT || (field b f FUNCTION_BIT == NO_BIT || field b f FUNCTION_BIT == bit)
+
+-- it matches, whatever label it leaves
 abbrev pub is_matching_frame : List ℕ → ℕ → ℕ → ℕ → Bool
-is_matching_frame b w bit f = is_agreeing w (pair_at b f CARE) (pair_at b f VALUES)
-    && (bit == NO_BIT || (field b f FUNCTION_BIT == NO_BIT || field b f FUNCTION_BIT == bit))
+is_matching_frame b w bit f = is_agreeing_frame b w f && is_suited_frame b bit f
 
 -- what a search among the rows of label l chose: the row in frame f, or none where that is past the table
 abbrev pub found_at : List ℕ → ℕ → ℕ → Choice

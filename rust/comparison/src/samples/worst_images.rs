@@ -131,6 +131,10 @@ pub fn worst_ticks() -> Vec<Ticks> {
     let mut full = deep;
     full.places[31] = BUSY;
     let handled = Image { handler: 16, ..function_rows() };
+    let mut rebound = full;
+    for number in 2..16 {
+        rebound.serving[number - 1] = if number == 2 { 3 } else { 2 };
+    }
     vec![
         ("last of 1,024 plain rows", plain_rows(), at_top(BUSY), vec![0; WORDS]),
         ("1,024 plain rows that match", plain_rows_that_match(), at_top(BUSY), vec![0; WORDS]),
@@ -146,7 +150,8 @@ pub fn worst_ticks() -> Vec<Ticks> {
         ),
         ("deep call", function_rows(), calling, vec![1; WORDS]),
         ("deep return, operations", operation_rows(), deep, vec![0; WORDS]),
-        ("drop of a full stack", handled, full, vec![1; WORDS]),
+        ("drop of a full stack", handled.clone(), full, vec![1; WORDS]),
+        ("drop of a full stack, its numbers rebound", handled, rebound, vec![1; WORDS]),
     ]
 }
 

@@ -8,8 +8,8 @@ use Rattle.cause.proofs.table_causes.TableConditions.{rows-kept}
 use Rattle.cause.proofs.table_causes.CauseCases.{none-told, numbers, row-told}
 use Rattle.cause.proofs.table_causes.cause_at.Goals as goal
 
-pub returns-then-table-f : goal.returns-then-table-f
-returns-then-table-f c = grind (arith, common_steps, none-told, c.args.table.last_read, c.args.table.whole)
+pub returns-then-table-found : goal.returns-then-table-found
+returns-then-table-found c = grind (arith, common_steps, none-told, c.args.table.last_read, c.args.table.whole)
 
 pub against_rows-others-requires : goal.against_rows-others-requires
 against_rows-others-requires c =
@@ -24,7 +24,7 @@ pub overflow_sub-row : goal.overflow_sub-row
 overflow_sub-row c =
     let high : c.args.l ≤ last_label c.args.table.bytes.now = omega (arith, c.requires.high, c.args.table.last_read) in
     let n = numbers _ _ _ c.requires.low high c.requires.ordered (view c.args.state.now).bits _ (grind (arith, common_steps))
-    c.args.table.whole c.args.table.small _ c.find_row-f.ensures (omega (arith, c.args.table.frames_read, c.args.table.whole.alone, c.if-table-f.false)) in
+    c.args.table.whole c.args.table.small _ c.find_row-found.ensures (omega (arith, c.args.table.frames_read, c.args.table.whole.alone, c.if-table-found.false)) in
     omega (arith, n.least, c.rows_from-from.ensures)
 
 pub returns : goal.returns

@@ -2,7 +2,7 @@
 use Rattle.std.proofs.Common.{arith}
 use Rattle.std.proofs.lemmas.Grind.{common_steps}
 use Rattle.rows.proofs.SearchCases.{end-within, few-frames, one-found}
-use Rattle.rows.proofs.row_search.PassCases.{first-of-two, second-of-two}
+use Rattle.rows.proofs.row_search.SeekCases.{first-of-two, second-of-two}
 use Rattle.rows.proofs.row_search.take_row.Goals as goal
 
 pub returns-then-end-first : goal.returns-then-end-first
