@@ -1,10 +1,10 @@
 -- 23 by sizes says what 23 says: the words that the rows of a label match, counted word by word and row by row, are as many.
-use Rattle.std.proofs.Common.{if◌then◌else◌, ℕ, ◌+◌, ◌-◌, ◌≤◌, ◌<◌, Bool, false, ◌&&◌, ◌||◌, not, ◌≡◌, sym, ◌∙◌, ◌==◌, slice_index_or, filter}
-use Rattle.std.proofs.Common.{inl, inr, ap, ap₂, List, [], ◌∷◌, arith, length, eqb-true, eq-eqb}
+use Rattle.std.proofs.Common.{if◌then◌else◌, ℕ, ◌+◌, ◌-◌, ◌≤◌, ◌<◌, Bool, false, ◌&&◌, ◌||◌, ◌≡◌, ◌∙◌, ◌==◌, slice_index_or, filter}
+use Rattle.std.proofs.Common.{inl, inr, List, [], ◌∷◌, arith, length, eqb-true, eq-eqb}
 use Rattle.std.proofs.lemmas.Grind.{common_steps}
 use Rattle.words.specs.lists.Numbers.{any, count, sum}
 use Rattle.std.specs.List.{AllByRecursion}
-use Rattle.words.proofs.lists.Tests.{cases, no_both, and-r, or-l, or-r, or-none, not-false, bit-low}
+use Rattle.words.proofs.lists.Tests.{cases, no_both, or-l, or-r, or-none, bit-low}
 use Rattle.words.proofs.lists.Searches.{sum-shift, any-false, any-none}
 use Rattle.words.proofs.lists.Counts.{count-alike, count-none}
 use Rattle.words.proofs.lists.Ranges.{filter-yes, filter-no}
@@ -46,13 +46,11 @@ module _ (l b : ℕ) where
   all-words : (i : Image) (rs : List Row) → AllByRecursion (SoundRow i) rs
       → sum (kept rs) 0 65536 ≡ sum (λ k. words_matched l b (slice_index_or rs k no_row)) 0 (length rs)
   all-words i [] a =
-      sum-zero (kept []) 0 65536 (λ w m k. ap (λ (xs : List Row). length xs) (filter-none (is_candidate l w b)))
-      ∙ sym (sum-none (λ k. words_matched l b (slice_index_or [] k no_row)) 0)
+      grind (arith, common_steps, sum-zero (kept []) 0 65536, filter-none, sum-none)
   all-words i (r ∷ rs) a =
-      sum-add (λ w. is_candidate l w b r) (kept (r ∷ rs)) (kept rs) (kept-more r rs) 0 65536
-      ∙ ap₂ ◌+◌ (row-words {i = i} r a.0) (all-words i rs a.1)
-      ∙ sym (sum-suc (λ k. words_matched l b (slice_index_or (r ∷ rs) k no_row)) 0 (length rs)
-      ∙ ap (λ (x : ℕ). words_matched l b r + x) (sum-shift (λ k. words_matched l b (slice_index_or (r ∷ rs) k no_row)) 0 (length rs)))
+      let each : ℕ → ℕ = λ k. words_matched l b (slice_index_or (r ∷ rs) k no_row) in
+      let here = row-words {i = i} r a.0 in
+      grind (arith, sum-add (λ w. is_candidate l w b r) (kept (r ∷ rs)) (kept rs) (kept-more r rs) 0 65536, here, all-words i rs a.1, sum-suc each 0 (length rs), sum-shift each 0 (length rs))
 
 module _ (i : Image) (S : SoundImage i) where
   pub sound-rows : AllByRecursion (SoundRow i) i.rows
@@ -75,22 +73,17 @@ module _ (i : Image) (S : SoundImage i) where
 
       pub no-pair : (j k : ℕ) → j < length i.rows → k < length i.rows → (j ≡ k → ⊥) → (nth_row i j).from ≡ l → (nth_row i k).from ≡ l
           → is_together (nth_row i j) (nth_row i k) ≡ false
-      no-pair j k hj hk n p q = elim (cases (is_together (nth_row i j) (nth_row i k))) [
-        | inl e ↦ absurd (apart-by j k hj hk n p q (together-common (nth_row i j) (nth_row i k) (S.each j hj) (S.each k hk) e))
-        | inr e ↦ e
-      ]
+      no-pair j k hj hk n p q = grind (arith, cases (is_together (nth_row i j) (nth_row i k)), apart-by j k hj hk n p q, together-common (nth_row i j) (nth_row i k) (S.each j hj) (S.each k hk))
 
       pub full : (b : ℕ) → b < 2 → covered_count i l b ≡ 65536
-      full b h = sym (words-are l b) ∙ sum-ones (λ w. hits i l w b) 0 65536 (λ w a k. one w b (omega arith) h)
+      full b h = grind (arith, words-are l b, sum-ones (λ w. hits i l w b) 0 65536, one)
 
     -- ---- where no two rows of label l can match together
     module _ (apart : (j k : ℕ) → j < length i.rows → k < j → (nth_row i j).from ≡ l → (nth_row i k).from ≡ l
         → is_together (nth_row i j) (nth_row i k) ≡ false) where
       few-hits : (w b : ℕ) → hits i l w b ≤ 1
       few-hits w b = few-pass (is_candidate l w b) no_row i.rows (λ j k hj hk p q.
-          let t = common-together (nth_row i j) (nth_row i k) w b (S.each j hj).small (S.each k (omega arith)).small
-          (and-r ((nth_row i j).from == l) _ p) (and-r ((nth_row i k).from == l) _ q) in
-          no_both (is_together (nth_row i j) (nth_row i k)) t (apart j k hj hk (grind (arith, nat_tests)) (grind (arith, nat_tests))))
+          grind (arith, nat_tests, common-together (nth_row i j) (nth_row i k) w b, S.each j hj, S.each k, apart j k hj hk))
 
       -- and where their sizes sum up to all words
       one-hit : (b : ℕ) → covered_count i l b ≡ 65536 → (w : ℕ) → w < 65536 → hits i l w b ≡ 1
@@ -116,18 +109,13 @@ module _ (i : Image) (S : SoundImage i) where
       let x : Bool = has_overlap i in
       let y : Bool = any (has_gap i) 2 (length i.labels - 2) in
       let g : has_gap i l ≡ false = any-false (has_gap i) 2 (length i.labels - 2) (or-r x y e) l low (omega arith) in
-      let g₀ : Bool = covered_count i l 0 == 65536 in
-      let g₁ : Bool = covered_count i l 1 == 65536 in
       one-hits l (λ j k hj hk p q.
       let u : any (λ k. is_overlap (nth_row i k) (nth_row i j)) 0 j ≡ false =
       any-false (λ j. any (λ k. is_overlap (nth_row i k) (nth_row i j)) 0 j) 0 (length i.rows) (or-l x y e) j (omega arith) (omega arith) in
       let v : is_overlap (nth_row i k) (nth_row i j) ≡ false =
       any-false (λ k. is_overlap (nth_row i k) (nth_row i j)) 0 j u k (omega arith) (omega arith) in
-      together-turned (nth_row i k) (nth_row i j) (sym (ap (λ (t : Bool). t && is_together (nth_row i k) (nth_row i j))
-      (eq-eqb (nth_row i k).from (nth_row i j).from (q ∙ sym p))) ∙ v))
-      (eqb-true (covered_count i l 0) 65536 (not-false g₀ (or-l (not g₀) (not g₁) g)))
-      (eqb-true (covered_count i l 1) 65536 (not-false g₁ (or-r (not g₀) (not g₁) g)))
-      w b hw hb)
+      grind (arith, eq-eqb, together-turned (nth_row i k) (nth_row i j), v))
+      (grind (arith, eqb-true, g)) (grind (arith, eqb-true, g)) w b hw hb)
 
   -- 23 is decided by the sizes
   pub sizes-decide : is_uneven_by_sizes i ≡ is_uneven i

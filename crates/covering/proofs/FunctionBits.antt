@@ -1,7 +1,6 @@
 -- Where no row asks for a function's bit, as many words match with bit 1 as with bit 0.
-use Rattle.std.proofs.Common.{if◌then◌else◌, ℕ, Bool, true, false, ◌||◌, ◌≡◌, ap, List, ◌==◌, ◌^◌, ◌-◌, sym, ◌∙◌}
+use Rattle.std.proofs.Common.{ℕ, true, false, ◌≡◌, List, ◌==◌, arith}
 use Rattle.std.specs.List.{list_any, range_with_len}
-use Rattle.std.specs.Int.Count.{ones}
 use Rattle.words.proofs.lists.Sums.{sum-same}
 use Rattle.words.proofs.lists.Tests.{not-false}
 use Rattle.text.specs.frames.Frame.{field}
@@ -13,5 +12,4 @@ module _ (b : List ℕ) (first n : ℕ) where
   pub bits-alike : list_any (has_bit b) (range_with_len first n) ≡ false → words_in b 1 first n ≡ words_in b 0 first n
   bits-alike e = sum-same (λ f. words_with 1 (row_in_frame b f)) (λ f. words_with 0 (row_in_frame b f)) first n (λ k u v.
       let none : (field b k 6 == 2) ≡ true = not-false (field b k 6 == 2) (chain-false (has_bit b) first n e k u v) in
-      ap (λ (t : Bool). if t || field b k 6 == 1 then 2 ^ (16 - ones (row_in_frame b k).care) else 0) none
-      ∙ sym (ap (λ (t : Bool). if t || field b k 6 == 0 then 2 ^ (16 - ones (row_in_frame b k).care) else 0) none))
+      grind (arith, none))

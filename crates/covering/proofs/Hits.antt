@@ -1,5 +1,5 @@
 -- Where 23 does not apply, each label from 2 up has just one row for each word and bit, and the machine takes it.
-use Rattle.std.proofs.Common.{if◌then◌else◌, ℕ, suc, ◌-◌, ◌%◌, ◌≤◌, ◌<◌, Bool, true, false, ◌&&◌, not, ◌≡◌, refl, sym, ◌∙◌, ap, List, [], ◌==◌, slice_index_or, filter}
+use Rattle.std.proofs.Common.{if◌then◌else◌, ℕ, suc, ◌-◌, ◌%◌, ◌≤◌, ◌<◌, Bool, true, false, not, ◌≡◌, refl, sym, ◌∙◌, List, [], ◌==◌, slice_index_or, filter}
 use Rattle.std.proofs.Common.{◌∷◌, arith, length, eqb-true, eq-eqb}
 use Rattle.std.proofs.lemmas.Grind.{common_steps}
 use Rattle.std.specs.List.{AllByRecursion}
@@ -34,8 +34,7 @@ module _ (l w b : ℕ) where
     pub holding : is_candidate l w b (slice_index_or rs place no_row) ≡ true
 
   pub the-place : (s : Row) (rs : List Row) → filter (is_candidate l w b) rs ≡ s ∷ [] → Hit s rs
-  the-place s [] e =
-      absurd (let q : [] ≡ s ∷ [] = sym (filter-none (is_candidate l w b)) ∙ e in let z : ◌≡◌ {A = ℕ} 0 1 = cc in omega arith)
+  the-place s [] e = grind (arith, common_steps, filter-none)
   the-place s (r ∷ rs) e = go (is_candidate l w b r) refl (the-place s rs)
     where
       go : (t : Bool) → is_candidate l w b r ≡ t → (filter (is_candidate l w b) rs ≡ s ∷ [] → Hit s rs) → Hit s (r ∷ rs)
@@ -55,7 +54,7 @@ module _ (l w b : ℕ) where
 -- words above 16 bits are as their low 16 bits
 module _ (l w b : ℕ) where
   low-alike : (r : Row) → r.care < 65536 → is_candidate l w b r ≡ is_candidate l (w % 65536) b r
-  low-alike r h = ap (λ (t : Bool). r.from == l && t) (matches-low w b r h)
+  low-alike r h = grind (arith, matches-low w b r h)
 
   pub low-hits : (rs : List Row) → AllByRecursion (λ r. r.care < 65536) rs → filter (is_candidate l w b) rs ≡ filter (is_candidate l (w % 65536) b) rs
   low-hits [] a = grind (arith, common_steps, filter-none)
@@ -72,8 +71,7 @@ module _ (i : Image) where
   pub label-low : (l : ℕ) → is_uneven_label i l ≡ false → (w b : ℕ) → w < 65536 → b < 2 → hits i l w b ≡ 1
   label-low l e w b hw hb =
       let y : is_uneven_word i l w ≡ false = any-false (is_uneven_word i l) 0 65536 e w (omega arith) (omega arith) in
-      eqb-true (hits i l w b) 1 (not-false (hits i l w b == 1)
-      (any-false (λ b. not (hits i l w b == 1)) 0 2 y b (omega arith) (omega arith)))
+      grind (arith, eqb-true, not-false, any-false (λ b. not (hits i l w b == 1)) 0 2 y b)
 
   pub label-of : (l : ℕ) → ((w b : ℕ) → w < 65536 → b < 2 → hits i l w b ≡ 1) → is_uneven_label i l ≡ false
   label-of l h = grind (arith, common_steps, any-none, eq-eqb)

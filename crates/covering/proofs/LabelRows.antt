@@ -1,10 +1,9 @@
 -- The rows of one label by their frames in a table: what the functions try of them is what 23 says of the label.
-use Rattle.std.proofs.Common.{if◌then◌else◌, ℕ, ◌+◌, ◌-◌, ◌^◌, ◌≤◌, ◌<◌, Bool, false, ◌&&◌, ◌||◌, not, ◌≡◌, sym, ◌∙◌, ap, ap₂, List, arith, ◌==◌}
+use Rattle.std.proofs.Common.{ℕ, ◌+◌, ◌-◌, ◌≤◌, ◌<◌, Bool, false, ◌||◌, not, ◌≡◌, sym, ◌∙◌, ap, ap₂, List, arith, ◌==◌}
 use Rattle.std.proofs.Common.{length, eqb-true, eq-eqb, ne_eqb}
-use lib.Count.{ones}
 use Rattle.std.proofs.lemmas.Grind.{common_steps}
 use Rattle.words.specs.lists.Numbers.{sum}
-use Rattle.words.proofs.lists.Tests.{no_both, or-l, or-r, or-none, not-false}
+use Rattle.words.proofs.lists.Tests.{no_both, or-l, or-r}
 use Rattle.words.proofs.lists.Searches.{any-false, any-none}
 use Rattle.words.proofs.lists.Sums.{sum-same, sum-zero, sum-split, sum-move}
 use Rattle.text.specs.frames.Frame.{size, field}
@@ -20,10 +19,10 @@ use Rattle.covering.proofs.Hits.{label-low, label-of}
 use Rattle.covering.proofs.Covered.{no-pair, full, one-hits}
 
 words-own : (l b : ℕ) (r : Row) → r.from ≡ l → words_matched l b r ≡ words_with b r
-words-own l b r e = ap (λ (t : Bool). if t && (r.bit == 2 || r.bit == b) then 2 ^ (16 - ones r.care) else 0) (eq-eqb r.from l e)
+words-own l b r e = grind (arith, eq-eqb)
 
 words-other : (l b : ℕ) (r : Row) → (r.from ≡ l → ⊥) → words_matched l b r ≡ 0
-words-other l b r n = ap (λ (t : Bool). if t && (r.bit == 2 || r.bit == b) then 2 ^ (16 - ones r.care) else 0) (ne_eqb r.from l n)
+words-other l b r n = grind (arith, ne_eqb)
 
 module _ (b : List ℕ) (T : SoundTable b) where
   abbrev i : Image
@@ -71,20 +70,13 @@ module _ (b : List ℕ) (T : SoundTable b) where
 
     even-rows : ((w bit : ℕ) → w < 65536 → bit < 2 → hits i l w bit ≡ 1) → has_uneven_rows b first n ≡ false
     even-rows one =
-        let all : (bit : ℕ) → bit < 2 → not (words_in b bit first n == 65536) ≡ false =
-        λ bit h. ap not (eq-eqb (words_in b bit first n) 65536 (sym (words-are bit) ∙ full i T.image l one bit h)) in
-        or-none (not (words_in b 0 first n == 65536) || not (words_in b 1 first n == 65536)) (has_any_together b first n)
-        (or-none (not (words_in b 0 first n == 65536)) (not (words_in b 1 first n == 65536))
-        (all 0 (omega arith)) (all 1 (omega arith)))
-        (any-chain _ _ _ ∙ any-none (λ f. is_together_with_some b (row_in_frame b f) first (f - first)) first n (λ j hj.
+        let none : has_any_together b first n ≡ false =
+        any-chain _ _ _ ∙ any-none (λ f. is_together_with_some b (row_in_frame b f) first (f - first)) first n (λ j hj.
         any-chain _ _ _ ∙ any-none (λ g. is_together (row_in_frame b (first + j)) (row_in_frame b g)) first (first + j - first) (λ k hk.
         let f : ℕ = first + j in
         let g : ℕ = first + k in
-        ap₂ is_together (sym (row-at b T.all f (omega arith) (omega arith))) (sym (row-at b T.all g (omega arith) (omega arith)))
-        ∙ no-pair i T.image l one (f - a) (g - a) (number f (omega arith) (omega arith))
-        (number g (omega arith) (omega arith)) (λ z. omega arith)
-        (from-read b T.all f (omega arith) (omega arith) ∙ own f (omega arith) (omega arith))
-        (from-read b T.all g (omega arith) (omega arith) ∙ own g (omega arith) (omega arith)))))
+        grind (arith, row-at b T.all f, row-at b T.all g, no-pair i T.image l one (f - a) (g - a), number f, number g, from-read b T.all f, from-read b T.all g, own f, own g))) in
+        grind (arith, eq-eqb, none, words-are 0, words-are 1, full i T.image l one)
 
     one-of : has_uneven_rows b first n ≡ false → (w bit : ℕ) → w < 65536 → bit < 2 → hits i l w bit ≡ 1
     one-of e =
@@ -95,14 +87,14 @@ module _ (b : List ℕ) (T : SoundTable b) where
         let hk₂ : k < length i.rows = omega arith in
         let u = only (a + j) (omega arith) (inside j hj) (ap (λ (r : Row). r.from) (row-is j hj) ∙ p) in
         let v = only (a + k) (omega arith) (inside k hk₂) (ap (λ (r : Row). r.from) (row-is k hk₂) ∙ q) in
-        ap₂ is_together (sym (row-is j hj)) (sym (row-is k hk₂))
-        ∙ any-false (λ g. is_together (row_in_frame b (a + j)) (row_in_frame b g)) first (a + j - first)
+        let apart =
+        any-false (λ g. is_together (row_in_frame b (a + j)) (row_in_frame b g)) first (a + j - first)
         (sym (any-chain _ _ _) ∙ any-false (λ f. is_together_with_some b (row_in_frame b f) first (f - first)) first n
         (sym (any-chain _ _ _) ∙ or-r (not x || not y) (has_any_together b first n) e)
         (a + j) u.0 u.1)
-        (a + k) v.0 (omega (arith, u.0)))
-        (words-are 0 ∙ eqb-true (words_in b 0 first n) 65536 (not-false x (or-l (not x) (not y) sums)))
-        (words-are 1 ∙ eqb-true (words_in b 1 first n) 65536 (not-false y (or-r (not x) (not y) sums)))
+        (a + k) v.0 (omega (arith, u.0)) in
+        grind (arith, row-is j hj, row-is k hk₂, apart))
+        (grind (arith, eqb-true, words-are 0, sums)) (grind (arith, eqb-true, words-are 1, sums))
 
     pub rows-decide : has_uneven_rows b first n ≡ is_uneven_label i l
     rows-decide = grind (arith, common_steps, label-low, label-of, no_both, even-rows, one-of)

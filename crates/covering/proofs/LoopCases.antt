@@ -1,5 +1,5 @@
 -- 23 label by label: the loop over the labels, whose rows stand one after the other.
-use Rattle.std.proofs.Common.{ℕ, ◌+◌, ◌-◌, ◌≤◌, ◌<◌, ◌≡◌, sym, ◌∙◌, ap, Bool, true, false, List, arith, eqb-true, eq-eqb, Option, find, unwrap_or, ◌==◌}
+use Rattle.std.proofs.Common.{ℕ, ◌+◌, ◌-◌, ◌≤◌, ◌<◌, ◌≡◌, ap, Bool, true, false, List, arith, eqb-true, eq-eqb, Option, find, unwrap_or}
 use Rattle.std.proofs.lemmas.Grind.{common_steps}
 use Rattle.std.specs.List.{range_with_len}
 use Rattle.words.specs.lists.Numbers.{any, lowest}
@@ -60,28 +60,23 @@ module _ (b : List ℕ) (last first l : ℕ) (t : Trying b last first l) (h : l 
   end-near = omega (arith, end-inside, first-from, t.table.all, t.table.image.few, rows-count b)
 
   own : (f : ℕ) → first ≤ f → f < end → field b f 1 ≡ l
-  own f p q = eqb-true (field b f 1) l
-      (not-false (field b f 1 == l) (lowest-before (is_other b l) first (size b - first) f p (omega (arith, e))))
+  own f p q = grind (arith, e, eqb-true, not-false, lowest-before (is_other b l) first (size b - first) f)
 
   beyond : (f : ℕ) → end ≤ f → f < size b → l < field b f 1
   beyond f p q =
       let same : field b (end + (f - end)) 1 ≡ field b f 1 = ap (λ (k : ℕ). field b k 1) (omega arith) in
-      omega (
-        arith,
-        same,
-        behind b l first end e end-after t.after (omega arith),
-        rises-on b t.table.all t.table.image end (f - end) (omega (arith, end-after, first-from)) (omega arith),
-      )
+      let over = behind b l first end e end-after t.after (omega arith) in
+      omega (arith, same, over, rises-on b t.table.all t.table.image end (f - end) (omega (arith, end-after, first-from)) (omega arith))
 
   label-is : has_uneven_rows b first n ≡ is_uneven_label (decoded_image b) l
   label-is = grind (arith, common_steps, rows-decide, split, first-from, end-after, end-inside, own, beyond)
 
   module _ (u : Bool) (g : u ≡ has_uneven_rows b first (end - first)) where
     pub trying-hit : u ≡ true → true ≡ is_uneven (decoded_image b)
-    trying-hit z = sym (any-here (is_uneven_label (decoded_image b)) (last + 1) l (omega arith) (sym label-is ∙ sym g ∙ z)) ∙ t.left
+    trying-hit z = grind (arith, any-here (is_uneven_label (decoded_image b)) (last + 1) l, label-is, t.left)
 
     pub trying-on : u ≡ false → Trying b last end (l + 1)
     trying-on z = grind (arith, common_steps, split, any-on, first-from, end-after, end-inside, own, beyond, label-is)
 
 pub trying-over : (b : List ℕ) (last first l : ℕ) → Trying b last first l → last < l → false ≡ is_uneven (decoded_image b)
-trying-over b last first l t h = sym (any-over (is_uneven_label (decoded_image b)) (last + 1) l (omega arith)) ∙ t.left
+trying-over b last first l t h = grind (arith, any-over (is_uneven_label (decoded_image b)) (last + 1) l, t.left)

@@ -43,9 +43,6 @@ pub chain-both : (p q r : ℕ → Bool) (i n : ℕ) → ((k : ℕ) → i ≤ k �
     → list_any r (range_with_len i n) ≡ (list_any p (range_with_len i n) || list_any q (range_with_len i n))
 chain-both p q r i n h = grind (arith, any-chain r i n, any-alike r, any-or p q i n, any-chain p i n, any-chain q i n)
 
-or-left : (a b c : Bool) → (a || (b || c)) ≡ ((a || b) || c)
-or-left a b c = grind (arith, common_steps)
-
 -- ---- what is shared
 -- with a row that has these conditions and values too
 abbrev narrowed : ℕ → ℕ → ℕ → ℕ → ℕ
@@ -58,19 +55,16 @@ and-again : (c x : ℕ) → bit_and c (bit_and x c) ≡ bit_and x c
 and-again c x = grind (arith, and_comm, and_assoc, and_self)
 
 and-twice : (x c : ℕ) → bit_and (bit_and x c) c ≡ bit_and x c
-and-twice x c = and_assoc c x c ∙ ap (bit_and x) (and_self c)
+and-twice x c = grind (arith, and_assoc, and_self)
 
 -- of values that are v where a row cares, its further values under less
 through : (v care values y : ℕ) → bit_and v care ≡ values → bit_and values care ≡ values
     → bit_and v (bit_and care y) ≡ bit_and values (bit_and care y)
-through v care values y e own = sym (and_assoc y v care) ∙ ap (λ (z : ℕ). bit_and z y) (e ∙ sym own) ∙ and_assoc y values care
+through v care values y e own = grind (arith, and_assoc y v care, and_assoc y values care)
 
 module _ (care values c v : ℕ) (hv : values < 65536) (gv : v < 65536) where
   abbrev n : ℕ
   n = narrowed care values c v
-
-  abbrev rest : ℕ
-  rest = 65535 - bit_xor values v
 
   narrow-has : bit_and v n ≡ bit_and values n
   narrow-has = same_from_bits_below 16 (bit_and v n) (bit_and values n)
@@ -78,10 +72,10 @@ module _ (care values c v : ℕ) (hv : values < 65536) (gv : v < 65536) where
       (λ j h. grind (arith, nat_tests, bit_at_and, bit_at_not w16 (bit_xor values v) j (xor_lt 16 values v hv gv) h, bit_at_xor, bit_at-lt))
 
   narrow-cares : bit_and c n ≡ n
-  narrow-cares = within-and c (bit_and care c) rest (and-again c care)
+  narrow-cares = grind (arith, within-and, and-again)
 
   narrow-kept : (h : ℕ) → bit_and h care ≡ care → bit_and h n ≡ n
-  narrow-kept h e = within-and h (bit_and care c) rest (within-and h care c e)
+  narrow-kept h e = grind (arith, within-and)
 
   narrow-through : (w : ℕ) → bit_and w care ≡ values → bit_and values care ≡ values → bit_and w n ≡ bit_and values n
   narrow-through w e own = search (arith, and_assoc, through)
@@ -122,11 +116,9 @@ module _ (b : List ℕ) where
   parts : (i j k : ℕ) → i ≤ j → j ≤ k
       → has_any_together b i (k - i) ≡ ((has_any_together b i (j - i) || has_any_across b i j k) || has_any_together b j (k - j))
   parts i j k h g =
-      chain-split (λ f. with f i (f - i)) i j k h g
-      ∙ ap (λ (t : Bool). has_any_together b i (j - i) || t)
-      (chain-both (λ f. with f i (j - i)) (λ f. with f j (f - j)) (λ f. with f i (f - i)) j (k - j)
-      (λ f p q. chain-split (λ x. is_together (row_in_frame b f) (row_in_frame b x)) i j f h p))
-      ∙ or-left (has_any_together b i (j - i)) (has_any_across b i j k) (has_any_together b j (k - j))
+      let both = chain-both (λ f. with f i (j - i)) (λ f. with f j (f - j)) (λ f. with f i (f - i)) j (k - j)
+      (λ f p q. chain-split (λ x. is_together (row_in_frame b f) (row_in_frame b x)) i j f h p) in
+      grind (arith, common_steps, chain-split (λ f. with f i (f - i)) i j k h g, both)
 
   module _ (first end from next : ℕ) (t : InBlocks b first end from) (low : from < next) (high : next ≤ end) (x : Bool)
       (p : x ≡ has_any_together b from (next - from)) where

@@ -1,5 +1,5 @@
 -- A table of an accepted image, as it is read and as it is prepared for ticks, is sound and holds the image that the text does.
-use Rattle.std.proofs.Common.{ℕ, ◌<◌, ◌≡◌, sym, ◌∙◌, ap, subst, List, arith, slice_index}
+use Rattle.std.proofs.Common.{ℕ, ◌<◌, ◌≡◌, List, arith, slice_index}
 use Rattle.std.proofs.lemmas.Grind.{common_steps}
 use Rattle.text.specs.frames.Frame.{contents}
 use Rattle.text.specs.frames.Verdict.{fine}
@@ -28,8 +28,7 @@ module _ (b : List ℕ) where
 
 module _ (t b : List ℕ) (made : MadeTable t b) where
   pub made-table : SoundTable b
-  made-table = subst SoundTable (sym made.is)
-      (noted-table (contents t) (image-table t made.accepted) (image-bytes t made.accepted))
+  made-table = grind (arith, made.is, noted-table (contents t) (image-table t made.accepted) (image-bytes t made.accepted))
 
   pub made-uneven : is_uneven (decoded_image b) ≡ is_uneven (decoded_image (contents t))
-  made-uneven = ap is_uneven (ap decoded_image made.is ∙ noted-decoded (contents t))
+  made-uneven = grind (arith, made.is, noted-decoded)

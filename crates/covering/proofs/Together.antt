@@ -1,5 +1,5 @@
 -- Two rows are together just where some word of 16 bits and some bit match both.
-use Rattle.std.proofs.Common.{if◌then◌else◌, ℕ, ◌%◌, ◌≤◌, ◌<◌, min, Bool, true, false, ◌&&◌, ◌||◌, ◌≡◌, sym, ◌∙◌, ap, ◌==◌}
+use Rattle.std.proofs.Common.{if◌then◌else◌, ℕ, ◌%◌, ◌≤◌, ◌<◌, min, Bool, true, false, ◌||◌, ◌≡◌, sym, ◌∙◌, ap, ◌==◌}
 use Rattle.std.proofs.Common.{arith, bit_and, bit_or, eqb-true, eq-eqb, ne_eqb}
 use Rattle.std.proofs.lemmas.Nat.{and_assoc, and_comm, or_comm}
 use lib.Bits.{and_le_r, and_mod, or_lt}
@@ -19,7 +19,7 @@ pub and-low : (w c : ℕ) → c < 65536 → bit_and w c ≡ bit_and (w % 65536) 
 and-low w c h = grind (arith, and_le_r w c, and_mod w c 16)
 
 pub matches-low : (w b : ℕ) (r : Row) → r.care < 65536 → is_match w b r ≡ is_match (w % 65536) b r
-matches-low w b r h = ap (λ (x : ℕ). x == r.values && (r.bit == 2 || r.bit == b)) (and-low w r.care h)
+matches-low w b r h = grind (arith, and-low w r.care h)
 
 -- ---- the words
 -- values of two masks that one word has

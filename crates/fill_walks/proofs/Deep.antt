@@ -11,7 +11,7 @@ use Rattle.words.proofs.lists.Searches.{some-cons}
 use Rattle.results.specs.Results.{no_results}
 use Rattle.bindings.specs.Binding.{own_binding}
 use Rattle.text.specs.frames.Frame.{contents}
-use Rattle.text.specs.frames.Verdict.{Verdict, fine, refused, next, when}
+use Rattle.text.specs.frames.Verdict.{Verdict, fine, refused}
 use Rattle.text.proofs.frames.Verdicts.{next-first, next-rest, when-fine}
 use Rattle.charts.specs.Chart.{Chart}
 use Rattle.charts.specs.Entry.{read_verdict}
@@ -22,7 +22,6 @@ use Rattle.walk.proofs.Trace.{trace, trace-length, position_at_home, home-good}
 use Rattle.walk.proofs.Recursion.{walk-trace}
 use Rattle.image.specs.Image.{Image}
 use Rattle.image.specs.Decode.{decoded_image}
-use Rattle.image.specs.Check.{image_verdict}
 use Rattle.translator.specs.Table.{table}
 use Rattle.translator.specs.Entry.{translate_verdict, translate}
 use Rattle.translator.proofs.Translated.{translated-read, translated-fine, translated-image}
@@ -35,7 +34,7 @@ use Rattle.agreement.proofs.TableFactsHold.{table-facts}
 use Rattle.agreement.proofs.Bounds.{bound-stop, bound-go}
 use Rattle.agreement.proofs.Ticks.{ticks-are}
 use Rattle.agreement.proofs.Images.{translated-passes, translated-decoded}
-use Rattle.fillings.specs.Counts.{words_of, lists, number_of, number_met, count_meeting, has_too_many_lists, count_verdict, FillingsOutcome}
+use Rattle.fillings.specs.Counts.{words_of, lists, number_of, number_met, count_meeting, count_verdict, FillingsOutcome}
 use Rattle.fillings.specs.Counts.{fillings_on, count_fillings}
 use Rattle.fill_walks.specs.Promises.{is_too_deep, is_walk_too_deep, AlwaysCounted, ByTheWalk}
 use Rattle.fillings.proofs.Sums.{counted-fine}
@@ -89,16 +88,7 @@ size-told t size n k v = grind (arith, common_steps, next-first, next-rest, when
 pub always-counted : AlwaysCounted
 unfolding AlwaysCounted count_fillings count_verdict
 always-counted text out m translated size n k s few =
-    let ok : translate_verdict text ≡ fine = translated-fine text out m translated in
-    let image : List ℕ = take m (translate text out).buffer in
-    let passes : image_verdict image ≡ fine = ap image_verdict (translated-image text out m translated)
-    ∙ translated-passes text ok (facts text (translated-read text ok)) in
-    let size-fine : when 14 (is_bad_size size) ≡ fine = ap (when 14) s in
-    let few-fine : when 28 (has_too_many_lists n k) ≡ fine = ap (when 28) few in
-    let v : count_verdict image size n k ≡ fine =
-    ap (λ (w : Verdict). next w λ _. next (when 14 (is_bad_size size)) λ _. when 28 (has_too_many_lists n k)) passes
-    ∙ ap (λ (w : Verdict). next w λ _. when 28 (has_too_many_lists n k)) size-fine ∙ few-fine in
-    ap (λ (w : Verdict). (fillings_on (decoded_image (contents image)) size n k w).reply) v
+    grind (arith, common_steps, translated-fine, translated-image, translated-passes, translated-read, facts)
 
 pub by-the-walk : ByTheWalk
 unfolding ByTheWalk count_fillings

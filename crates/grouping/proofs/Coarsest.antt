@@ -98,11 +98,9 @@ module _ (i : Image) (S : SoundImage i) (one : OneRow i) where
   lowest-first l h t = eq-eqb (class_of (grouping i) l) l (go (split (class_of (grouping i) l) l))
     where
       go : (class_of (grouping i) l < l) ⊎ (l ≤ class_of (grouping i) l) → class_of (grouping i) l ≡ l
-      go (inl x) = absurd (eqb-false (class_of (grouping i) (class_of (grouping i) l)) (class_of (grouping i) l)
-          (any-false (λ k. class_of (grouping i) k == class_of (grouping i) l) 0 l
-          (not-true (any (λ k. class_of (grouping i) k == class_of (grouping i) l) 0 l) t)
-          (class_of (grouping i) l) (omega arith) (omega arith))
-          ((group-round i S one).own l h))
+      go (inl x) =
+          let none = any-false (λ k. class_of (grouping i) k == class_of (grouping i) l) 0 l (not-true (any (λ k. class_of (grouping i) k == class_of (grouping i) l) 0 l) t) in
+          absurd (eqb-false _ _ (none (class_of (grouping i) l) (omega arith) (omega arith)) ((group-round i S one).own l h))
       go (inr x) = omega (arith, (group-round i S one).below l h)
 
   pub groups-counted : groups (class_of (grouping i)) n ≡ count (is_first (grouping i)) 0 n

@@ -1,5 +1,5 @@
 -- Steps of all rounds over a table.
-use Rattle.std.proofs.Common.{ℕ, zero, suc, ◌+◌, ◌-◌, ◌≤◌, ◌<◌, Bool, false, ◌≡◌, sym, refl, ◌∙◌, ap, ap₂, List, ◌++◌, arith, ◌==◌, slice_index}
+use Rattle.std.proofs.Common.{ℕ, zero, suc, ◌+◌, ◌-◌, ◌≤◌, ◌<◌, Bool, false, ◌≡◌, sym, ◌∙◌, ap, List, arith, ◌==◌, slice_index}
 use Rattle.std.proofs.Common.{length, take, drop, replicate, ext_get_or, eqb-true}
 use Rattle.std.proofs.Math.Seq.{take_at, drop-append_seam}
 use Rattle.std.specs.List.{list_any, range_with_len}
@@ -11,7 +11,7 @@ use Rattle.image.specs.Image.{Image}
 use Rattle.image.specs.Decode.{last_label}
 use Rattle.tables.specs.Table.{table_image}
 use Rattle.tables.proofs.TableReads.{labels-count}
-use Rattle.grouping.specs.Classes.{is_staying_with, classes_by, classes, grouping}
+use Rattle.grouping.specs.Classes.{classes, grouping}
 use Rattle.grouping.specs.inner.GroupingContracts.{Even, Classed, OneMore, Advanced, Marks, has_other_class}
 use Rattle.grouping.proofs.TableRounds.{classes-long, over-classed}
 use Rattle.grouping.proofs.Marked.{first-marks, marks-alike}
@@ -25,10 +25,9 @@ module _ (b : List ℕ) where
 
   at-rest-on : (k : ℕ) → classes i (suc k) ≡ classes i k → (d : ℕ) → classes i (d + k) ≡ classes i k
   unfolding classes
-  at-rest-on k e zero = ap (classes i) (let z : 0 + k ≡ k = omega arith in z)
+  at-rest-on k e zero = grind arith
   at-rest-on k e (suc d) =
-      ap (classes i) (let z : suc d + k ≡ suc (d + k) = omega arith in z)
-      ∙ ap (λ (c : List ℕ). classes_by i (is_staying_with i c)) (at-rest-on k e d) ∙ e
+      let z : suc d + k ≡ suc (d + k) = omega arith in grind (arith, z, at-rest-on k e d)
 
   -- the classes after k rounds stand in the buffer, and the marks say which rows the next one need look at
   pub record Rounding (old buffer marks touched : List ℕ) (m k : ℕ) : Type 0 where
@@ -64,7 +63,7 @@ module _ (b : List ℕ) where
         count = t.count;
         done = omega arith;
         room = g;
-        is = now ∙ ap (λ (j : ℕ). over (classes i j) old) (let z : suc k ≡ k + 1 = omega arith in z);
+        is = grind (arith, now);
         marked = marks-alike b x next buffer' marks' touched' (λ l z. same.at l z ∙ sym (after.at l z)) M;
       }
         where
@@ -76,10 +75,7 @@ module _ (b : List ℕ) where
 
           now : buffer' ≡ over c old
           now =
-              e ∙ ap (written buffer 0) (ap₂ take long (r k rounding-now) ∙ take_at c (drop (length c) before) (length c) refl)
-              ∙ written-front buffer c
-              ∙ ap (λ (xs : List ℕ). c ++ xs) (ap₂ drop (sym alike) t.is ∙ drop-append_seam (classes i k) (drop (length (classes i k)) old)
-              ∙ ap (λ (j : ℕ). drop j old) alike)
+              grind (arith, long, alike, r k rounding-now, take_at c (drop (length c) before) (length c), written-front buffer c, t.is, drop-append_seam (classes i k) (drop (length (classes i k)) old))
 
           same : Classed b c buffer'
           same = over-classed b c old buffer' (classes-long b (suc k)) now g
@@ -100,7 +96,7 @@ module _ (b : List ℕ) where
 
     pub rounding-all : m ≤ k → buffer ≡ over (grouping i) old
     unfolding grouping
-    rounding-all h = t.is ∙ ap (λ (j : ℕ). over (classes i j) old) (omega (arith, t.done, t.count, labels-count b))
+    rounding-all h = grind (arith, t, labels-count b)
 
   -- the grouping, read from such a buffer
   pub group-classed : (old buffer : List ℕ) → buffer ≡ over (grouping i) old → length buffer ≡ 256 → Classed b (grouping i) buffer

@@ -1,5 +1,5 @@
 -- A buffer after one write for each label: loops that make one, and the classes that are kept by the marks.
-use Rattle.std.proofs.Common.{if◌then◌else◌, ℕ, zero, suc, ◌+◌, ◌≤◌, ◌<◌, ◌≡◌, refl, sym, ◌∙◌, ap, subst, inl, inr, Bool, List, add-one, ◌==◌, slice_index}
+use Rattle.std.proofs.Common.{if◌then◌else◌, ℕ, zero, suc, ◌+◌, ◌≤◌, ◌<◌, ◌≡◌, refl, sym, ◌∙◌, inl, inr, Bool, List, add-one, ◌==◌, slice_index}
 use Rattle.std.proofs.Common.{arith, length, set, eqb-true}
 use Rattle.std.proofs.lemmas.Grind.{common_steps}
 use Rattle.grouping.specs.inner.GroupingContracts.{KeptClasses}
@@ -52,13 +52,10 @@ module _ (n : ℕ) (former c marks : List ℕ) (keeps : ℕ → ℕ)
 module _ {classes next marks₀ counts₀ kept₀ : List ℕ} {n : ℕ} {marks counts kept : List ℕ}
     (p : PartsMarked classes next marks₀ counts₀ kept₀ n marks counts kept) (h : length marks₀ ≡ 256) (l : n ≤ 256) where
   by-left : marks ≡ mark_left classes next n marks₀ → KeptClasses n classes next marks
-  by-left e = kept-classes n classes next marks (λ l. slice_index classes l) (λ l m q. q)
-      (subst (KeptBy n (λ l. slice_index classes l) next) (sym e) (kept-marks (λ l. slice_index classes l) next marks₀ h n l))
+  by-left e = grind (arith, kept-classes, kept-marks (λ l. slice_index classes l) next marks₀ h n l)
 
   by-kept : marks ≡ mark_others classes next kept n marks₀ → KeptClasses n classes next marks
-  by-kept e = kept-classes n classes next marks (λ l. slice_index kept (slice_index classes l)) (λ l m q. ap (slice_index kept) q)
-      (subst (KeptBy n (λ l. slice_index kept (slice_index classes l)) next) (sym e)
-      (kept-marks (λ l. slice_index kept (slice_index classes l)) next marks₀ h n l))
+  by-kept e = grind (arith, kept-classes, kept-marks (λ l. slice_index kept (slice_index classes l)) next marks₀ h n l)
 
   pub parts-kept : KeptClasses n classes next marks
   parts-kept = elim (cases (list_any (is_led_away classes next) (range_with_len 0 n))) [

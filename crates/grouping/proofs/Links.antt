@@ -1,5 +1,5 @@
 -- Labels by their tags: the way along the links, and one more label.
-use Rattle.std.proofs.Common.{ℕ, ◌+◌, ◌≤◌, ◌<◌, Bool, true, false, ◌≡◌, refl, sym, ◌∙◌, ap, subst, ◌⊎◌, inl, inr, List, arith, length, set, replicate, slice_index}
+use Rattle.std.proofs.Common.{ℕ, ◌+◌, ◌≤◌, ◌<◌, Bool, true, false, ◌≡◌, ◌∙◌, ap, List, arith, length, set, replicate, slice_index}
 use Rattle.std.proofs.lemmas.List.{get_or-replicate, get_or-set_same, get_or-set_other}
 use Rattle.words.proofs.lists.Tests.{split}
 use Rattle.words.proofs.lists.Searches.{lowest-none}
@@ -8,23 +8,14 @@ use Rattle.image.proofs.Accepted.{fields-same}
 use Rattle.tables.specs.Table.{table_label}
 use Rattle.grouping.specs.inner.GroupingContracts.{has_same_fields_on}
 use Rattle.grouping.specs.inner.Links.{tag_of, tag_on, Highest, Linked, Headed, first_same, FirstSame}
-use Rattle.grouping.proofs.Representatives.{AlikeBelow, same-lowest}
-use Rattle.grouping.proofs.Onward.{same-fields}
+use Rattle.grouping.proofs.Rounds.{fields-alike}
+use Rattle.grouping.proofs.Representatives.{same-lowest}
 use Rattle.std.proofs.lemmas.Bool.Decides.{nat_tests}
 
 module _ (b : List ℕ) where
   -- labels that hold the same have one tag
   tags-same : (m l : ℕ) → has_same_fields_on b m l ≡ true → tag_on b m ≡ tag_on b l
   tags-same m l e = ap tag_of (fields-same (table_label b m) (table_label b l) e)
-
-  on-alike : (n : ℕ) → AlikeBelow n (has_same_fields_on b)
-  on-alike n = record {
-    self = λ l h. same-fields (table_label b l) (table_label b l) refl;
-    turn = λ l m hl hm t. same-fields (table_label b m) (table_label b l) (sym (fields-same (table_label b l) (table_label b m) t));
-    chain = λ l m k hl hm hk t u.
-        same-fields (table_label b l) (table_label b k)
-        (fields-same (table_label b l) (table_label b m) t ∙ fields-same (table_label b m) (table_label b k) u);
-  }
 
   home-alone : (l : ℕ) → 1 ≤ l → has_same_fields_on b 0 l ≡ false
   home-alone l h = grind (arith, nat_tests)
@@ -55,15 +46,10 @@ module _ (b : List ℕ) where
         next = linked.at m some t.below
 
         none-on : (k : ℕ) → slice_index links m < k → k < l → has_same_fields_on b k l ≡ false
-        none-on k h g = go (split k m) (split m k)
-          where
-            go : (k < m) ⊎ (m ≤ k) → (m < k) ⊎ (k ≤ m) → has_same_fields_on b k l ≡ false
-            go (inl z) y = other-tag k l (slice_index links m) (λ q. next.most k z (q ∙ sym (t.own some))) h
-            go (inr z) (inl y) = t.none k y g
-            go (inr z) (inr y) = ap (λ (x : ℕ). has_same_fields_on b x l) (let q : k ≡ m = omega arith in q) ∙ sym p ∙ e
+        none-on k h g = grind (arith, split k m, split m k, other-tag k l (slice_index links m), next.most k, t.own some, t.none k)
 
     pub along-found : (classes : List ℕ) → FirstSame b l classes → s ≡ true → slice_index classes m ≡ first_same b l
-    along-found classes first e = grind (arith, same-lowest (l + 1) (has_same_fields_on b) (on-alike (l + 1)) m l, on-alike (l + 1), first.at m t.below)
+    along-found classes first e = grind (arith, same-lowest (l + 1) (has_same_fields_on b) (fields-alike (table_label b) (l + 1)) m l, first.at m t.below)
 
   pub along-over : (l m : ℕ) → 1 ≤ l → Along l m → m ≡ 0 → l ≡ first_same b l
   along-over l m low t e = grind (arith, lowest-none, home-alone)
@@ -82,7 +68,7 @@ module _ (b : List ℕ) where
 
   module _ (l tag : ℕ) (heads : List ℕ) (t : Headed b l heads) (e : tag ≡ tag_on b l) (small : tag < LABELS) where
     pub headed-own : Highest b l (tag_on b l) (slice_index heads tag)
-    headed-own = subst (λ (x : ℕ). Highest b l x (slice_index heads tag)) e (t.at tag small)
+    headed-own = grind (arith, t.at tag small)
 
     pub linked-on : (links : List ℕ) → Linked b l links → l < length links → Linked b (l + 1) (set links l (slice_index heads tag))
     linked-on links s h = search (arith, get_or-set_same, split, get_or-set_other, headed-own)

@@ -1,18 +1,16 @@
 -- Rows that lead to marked labels are enough to look at: two labels of one class are parted by them, or by none.
-use Rattle.std.proofs.Common.{ℕ, suc, ◌+◌, ◌*◌, ◌-◌, ◌≤◌, ◌<◌, Bool, true, false, ◌&&◌, ◌||◌, not, ◌≡◌, refl, sym, ◌∙◌, ap, ap₂, nat_lt, ◌==◌, slice_index, slice_index_or}
+use Rattle.std.proofs.Common.{ℕ, suc, ◌+◌, ◌*◌, ◌-◌, ◌≤◌, ◌<◌, Bool, true, false, ◌&&◌, ◌||◌, not, ◌≡◌, sym, ◌∙◌, ap, nat_lt, ◌==◌, slice_index, slice_index_or}
 use Rattle.std.proofs.Common.{List, arith, length, replicate, eq-eqb, ne_eqb, lt-ltb, le-leb}
-use Rattle.std.proofs.Common.{ltb-true}
 use Rattle.std.proofs.Math.ListN.{length-replicate, get_or-replicate}
 use borrow.Author.Tests.{lt-leb}
 use Rattle.std.specs.List.{list_any}
-use Rattle.words.proofs.lists.Tests.{no_both, and-l, and-r, and-true, and-false, and-no, not-true, not-false, or-cases, or-true-l}
+use Rattle.words.proofs.lists.Tests.{no_both, and-l, and-r, and-true, and-no, not-true, or-cases, or-true-l}
 use Rattle.words.proofs.lists.Searches.{any-false}
 use Rattle.text.specs.frames.Frame.{field}
 use Rattle.image.specs.Image.{Image, Row, no_row}
-use Rattle.image.specs.Decode.{last_label, row_in_frame}
+use Rattle.image.specs.Decode.{last_label}
 use Rattle.tables.specs.Table.{first_on, end_on, row_on, table_image}
 use Rattle.tables.proofs.TableReads.{labels-count}
-use Rattle.covering.specs.Matched.{is_together}
 use Rattle.covering.proofs.Together.{together-turned}
 use Rattle.grouping.specs.Classes.{classes}
 use Rattle.grouping.specs.inner.GroupingContracts.{Even, Classed, is_parting_in, is_parting_any, is_parted_on, has_marked_next}
@@ -46,18 +44,16 @@ module _ (b c : List ℕ) where
 
   parts-one : (l f g : ℕ) → first_on b l ≤ g → g < end_on b l → is_parting_in b c f g ≡ true
       → is_parting_any b c f (first_on b l) (end_on b l) ≡ true
-  parts-one l f g u v e = chain-true (is_parting_in b c f) (first_on b l) (end_on b l - first_on b l) g u (omega arith) e
+  parts-one l f g u v e = grind (arith, chain-true (is_parting_in b c f) (first_on b l) (end_on b l - first_on b l) g)
 
   parted-one : (m l f : ℕ) → first_on b m ≤ f → f < end_on b m → is_parting_any b c f (first_on b l) (end_on b l) ≡ true
       → is_parted_on b c m l ≡ true
-  parted-one m l f u v e =
-      chain-true (λ f. is_parting_any b c f (first_on b l) (end_on b l)) (first_on b m) (end_on b m - first_on b m) f u (omega arith) e
+  parted-one m l f u v e = grind (arith, chain-true (λ f. is_parting_any b c f (first_on b l) (end_on b l)) (first_on b m) (end_on b m - first_on b m) f)
 
   turned : (m l : ℕ) → is_parted_on b c l m ≡ true → is_parted_on b c m l ≡ true
   turned m l e =
       let p : Parting l m = found l m e in
-      parted-one m l p.g p.low-g p.high-g
-      (parts-one l p.g p.f p.low-f p.high-f (parts-turned p.f p.g p.parting))
+      grind (arith, parted-one m l p.g, parts-one l p.g p.f, parts-turned p.f p.g)
 
   module _ (marks : List ℕ) where
     abbrev marked : ℕ → ℕ → ℕ → Bool
@@ -66,8 +62,7 @@ module _ (b c : List ℕ) where
     by-one : (least m l f : ℕ) → first_on b m ≤ f → f < end_on b m → has_marked_next b marks least f ≡ true
         → is_parting_any b c f (first_on b l) (end_on b l) ≡ true → is_parted_by b c marks least m l ≡ true
     by-one least m l f u v s e =
-        chain-true (marked least l) (first_on b m) (end_on b m - first_on b m) f u (omega arith)
-        (and-true (has_marked_next b marks least f) (is_parting_any b c f (first_on b l) (end_on b l)) s e)
+        grind (arith, and-true, chain-true (marked least l) (first_on b m) (end_on b m - first_on b m) f)
 
     by-parts : (least m l : ℕ) → is_parted_by b c marks least m l ≡ true → is_parted_on b c m l ≡ true
     by-parts least m l e = search (arith, and-r, chain-some, parted-one)
@@ -97,12 +92,11 @@ module _ (b c : List ℕ) where
 pub unnoted-unparted : (b c marks touched : List ℕ) → Marks b c marks touched → (m l : ℕ) → 2 ≤ m → m ≤ last_label b → 2 ≤ l → l ≤ last_label b
     → slice_index c m ≡ slice_index c l → slice_index touched m ≡ 0 → slice_index touched l ≡ 0 → is_parted_on b c m l ≡ false
 unnoted-unparted b c marks touched M m l am hm al hl e p q =
-    sym (parted-by b c marks touched M m l am hm al hl e)
-    ∙ ap₂ ◌||◌ (sym (by-none b c marks touched M m l am hm 1 (omega arith))) (sym (by-none b c marks touched M l m al hl 2 (omega arith)))
+    grind (arith, parted-by b c marks touched M m l, by-none b c marks touched M m l am hm 1, by-none b c marks touched M l m al hl 2)
 
 -- ---- the marks before the first round
 pub ones-long : (xs : List ℕ) → xs ≡ replicate 256 1 → length xs ≡ 256
-ones-long xs e = ap length e ∙ length-replicate {A = ℕ} 256 1
+ones-long xs e = grind (arith, length-replicate)
 
 pub first-marks : (b c : List ℕ) → ((k : ℕ) → slice_index b k < 256) → (marks touched : List ℕ)
     → marks ≡ replicate 256 1 → touched ≡ replicate 256 1
@@ -134,12 +128,7 @@ module _ (b : List ℕ) (x : Even b) where
       (sym (some-own b outside m (λ k g h. ap (λ (t : Bool). t && not (nat_lt (field b g 7) (length i.labels))) (ne_eqb k m h)) am hm)
       ∙ none)
       f u (omega arith) in
-      omega (
-        arith,
-        labels-count b,
-        ltb-true (field b f 7) (length i.labels) (not-false (nat_lt (field b f 7) (length i.labels))
-            (and-false (m == m) (not (nat_lt (field b f 7) (length i.labels))) here (eq-eqb m m refl))),
-      )
+      grind (arith, nat_tests, labels-count b, here)
     where
       outside : Row → Bool
       outside r = r.from == m && not (nat_lt r.next (length i.labels))
@@ -151,9 +140,7 @@ module _ (b : List ℕ) (x : Even b) where
     long = M.long;
     room = M.room;
     seen = λ m l f g am hm al hl q uf vf ug vg t.
-        M.seen m l f g am hm al hl (sym (e m hm) ∙ q ∙ e l hl) uf vf ug vg
-        (ap₂ (λ (y z : ℕ). not (y == z) && is_together (row_in_frame b f) (row_in_frame b g)) (sym (e (field b f 7) (next-inside m f am hm uf vf)))
-        (sym (e (field b g 7) (next-inside l g al hl ug vg))) ∙ t);
+        grind (arith, M.seen m l f g am hm al hl, e m hm, e l hl, e (field b f 7), e (field b g 7), next-inside m f am hm uf vf, next-inside l g al hl ug vg);
     noted = M.noted;
   }
 

@@ -1,5 +1,5 @@
 -- Where a label's row leads by a word and a bit, and when a list of classes parts two labels.
-use Rattle.std.proofs.Common.{if◌then◌else◌, ℕ, suc, ◌≤◌, ◌<◌, Bool, true, false, ◌||◌, ◌≡◌, refl, sym, ◌∙◌, ap, ap₂, List, ◌==◌}
+use Rattle.std.proofs.Common.{if◌then◌else◌, ℕ, suc, ◌≤◌, ◌<◌, Bool, true, false, ◌≡◌, refl, sym, ◌∙◌, ap, List, ◌==◌}
 use Rattle.std.proofs.Common.{slice_index_or, filter, [], ◌∷◌, arith, length, inl, inr}
 use Rattle.std.proofs.lemmas.Grind.{common_steps}
 use Rattle.std.specs.List.{list_any, AllByRecursion}
@@ -23,7 +23,7 @@ some-at p d xs e j h = grind (arith, common_steps, or-l, or-r)
 pub some-none : {A : Type 0} (p : A → Bool) (d : A) (xs : List A) → ((j : ℕ) → j < length xs → p (slice_index_or xs j d) ≡ false) → list_any p xs ≡
     false
 some-none p d [] h = refl
-some-none p d (x ∷ xs) h = ap₂ ◌||◌ (h 0 (omega arith)) (some-none p d xs (λ j l. h (suc j) (omega arith)))
+some-none p d (x ∷ xs) h = grind (arith, common_steps, h 0, some-none p d xs (λ j l. h (suc j) (omega arith)))
 
 -- ---- labels that hold the same
 pub same-fields : (x y : Label) → x ≡ y → has_same_fields x y ≡ true

@@ -1,5 +1,5 @@
 -- Rows of a label that part it from another, whose rows are taken in blocks.
-use Rattle.std.proofs.Common.{ℕ, ◌+◌, ◌-◌, ◌≤◌, ◌<◌, Bool, true, false, ◌&&◌, ◌||◌, not, ◌≡◌, sym, ◌∙◌, ap, List, arith, ◌==◌, slice_index}
+use Rattle.std.proofs.Common.{ℕ, ◌+◌, ◌-◌, ◌≤◌, ◌<◌, Bool, true, false, ◌&&◌, ◌||◌, not, ◌≡◌, ◌∙◌, ap, List, arith, ◌==◌, slice_index}
 use Rattle.std.proofs.lemmas.Grind.{common_steps}
 use Rattle.text.specs.frames.Frame.{field}
 use Rattle.image.specs.declared.layout.TheConstants.{NEXT}
@@ -41,10 +41,10 @@ module _ (b c : List ℕ) where
     module _ (first from next : ℕ) (t : Parting first from) (low : from < next) (high : next ≤ end) (x : Bool)
         (p : x ≡ parted from next) where
       pub parting-hit : x ≡ true → true ≡ parted first end
-      parting-hit e = sym (ap (λ (y : Bool). y || parted next end) (sym p ∙ e)) ∙ sym (parted-split from next (omega arith) high) ∙ t.left
+      parting-hit e = grind (arith, parted-split from next)
 
       pub parting-on : x ≡ false → Parting first next
       parting-on e = grind (arith, parted-split)
 
     pub parting-over : (first from : ℕ) → Parting first from → end ≤ from → false ≡ parted first end
-    parting-over first from t h = sym (parted-none from h) ∙ t.left
+    parting-over first from t h = grind (arith, parted-none from, t.left)

@@ -1,5 +1,5 @@
 -- Whether rows part two labels, by the frames of a table: each label's rows stand in frames of its own.
-use Rattle.std.proofs.Common.{ℕ, zero, suc, ◌-◌, ◌≤◌, ◌<◌, Bool, false, ◌||◌, ◌≡◌, refl, sym, ◌∙◌, ap, List, [], ◌∷◌, ◌++◌}
+use Rattle.std.proofs.Common.{ℕ, zero, suc, ◌-◌, ◌≤◌, ◌<◌, Bool, false, ◌≡◌, refl, sym, ◌∙◌, List, [], ◌∷◌, ◌++◌}
 use Rattle.std.proofs.Common.{map, arith, eq-eqb, ne_eqb}
 use Rattle.std.proofs.lemmas.Grind.{common_steps}
 use Rattle.words.specs.lists.Numbers.{range, any}
@@ -18,7 +18,7 @@ use Rattle.grouping.specs.inner.GroupingContracts.{Even, is_parting_in, is_parti
 some-range : {A : Type 0} (p : A → Bool) (f : ℕ → A) (a n : ℕ) → list_any p (map f (range a n)) ≡ any (λ k. p (f k)) a n
 unfolding any
 some-range p f a zero = refl
-some-range p f a (suc n) = ap (λ (t : Bool). p (f a) || t) (some-range p f (suc a) n)
+some-range p f a (suc n) = grind (arith, common_steps, some-range p f (suc a) n)
 
 some-first : {A : Type 0} (p : A → Bool) (xs ys : List A) → list_any p xs ≡ false → list_any p (xs ++ ys) ≡ list_any p ys
 some-first p xs ys e = grind (arith, common_steps)
@@ -28,13 +28,13 @@ some-last p xs ys e = grind (arith, common_steps)
 
 some-never : {A : Type 0} (p : A → Bool) (xs : List A) → ((x : A) → p x ≡ false) → list_any p xs ≡ false
 some-never p [] h = refl
-some-never p (x ∷ xs) h = or-none (p x) (list_any p xs) (h x) (some-never p xs h)
+some-never p (x ∷ xs) h = grind (arith, common_steps, h x, some-never p xs h)
 
 -- ---- a test that passes only rows of label l, over all rows of the table
 module _ (b : List ℕ) (p : Row → Bool) (l : ℕ) (never : (m f : ℕ) → (m ≡ l → ⊥) → p (row_on b m f) ≡ false) where
   none-of : (m : ℕ) → (m ≡ l → ⊥) → (f n : ℕ) → list_any p (map (row_on b m) (range f n)) ≡ false
   none-of m h f zero = refl
-  none-of m h f (suc n) = or-none (p (row_on b m f)) (list_any p (map (row_on b m) (range (suc f) n))) (never m f h) (none-of m h (suc f) n)
+  none-of m h f (suc n) = grind (arith, or-none, never m f h, none-of m h (suc f) n)
 
   pub some-own : 2 ≤ l → l ≤ last_label b → list_any p (table_image b).rows
       ≡ any (λ f. p (row_on b l f)) (first_on b l) (end_on b l - first_on b l)

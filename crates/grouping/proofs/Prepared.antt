@@ -1,10 +1,10 @@
 -- The table of an accepted image to which 23 does not apply is one that labels are grouped on.
-use Rattle.std.proofs.Common.{ℕ, ◌+◌, ◌-◌, ◌≤◌, ◌<◌, false, ◌≡◌, sym, ◌∙◌, ap, subst, List, map, arith, slice_index, slice_index_or}
+use Rattle.std.proofs.Common.{ℕ, ◌+◌, ◌-◌, ◌≤◌, ◌<◌, false, ◌≡◌, ◌∙◌, List, map, arith, slice_index, slice_index_or}
 use Rattle.words.specs.lists.Numbers.{range}
 use Rattle.words.proofs.lists.Ranges.{get_or-map-range}
 use Rattle.text.specs.frames.Frame.{field, contents}
 use Rattle.text.specs.frames.Verdict.{fine}
-use Rattle.image.specs.Image.{Row, no_row}
+use Rattle.image.specs.Image.{no_row}
 use Rattle.image.specs.Decode.{last_label, rows_from, decoded_image, row_in_frame}
 use Rattle.image.specs.Check.{table_verdict}
 use Rattle.image.proofs.Accepted.{accepted-sound, image-table, image-bytes}
@@ -33,11 +33,7 @@ module _ (b : List ℕ) (ok : table_verdict b ≡ fine) (bytes : (k : ℕ) → s
       get_or-map-range (row_in_frame b) no_row (first_frame b l) (first_frame b (l + 1) - first_frame b l) k (omega arith) in
       let at : first_on (noted_table b) l + k ≡ f = omega arith in
       let at' : first_frame b l + k ≡ f = omega arith in
-      ap (λ (r : Row). r.bit)
-      (ap (row_on (noted_table b) l) (sym at) ∙ sym mine ∙ ap (λ (rs : List Row). slice_index_or rs k no_row)
-      (rows-own b ok bytes l (omega arith) hl) ∙ its
-      ∙ ap (row_in_frame b) at')
-      ∙ sym (noted-late b f 6 (omega arith) (omega arith))
+      grind (arith, at, at', mine, its, rows-own b ok bytes l, noted-late b f 6)
 
   -- each row has its label
   noted-own : (l f : ℕ) → 2 ≤ l → l ≤ last_label (noted_table b) → first_on (noted_table b) l ≤ f → f < end_on (noted_table b) l
@@ -58,4 +54,4 @@ module _ (b : List ℕ) (ok : table_verdict b ≡ fine) (bytes : (k : ℕ) → s
 
 pub made-even : (t b : List ℕ) → MadeTable t b → is_uneven (decoded_image (contents t)) ≡ false → Even b
 made-even t b made e =
-    subst Even (sym made.is) (noted-even (contents t) (image-table t made.accepted) (image-bytes t made.accepted) e)
+    grind (arith, made.is, noted-even (contents t) (image-table t made.accepted) (image-bytes t made.accepted) e)

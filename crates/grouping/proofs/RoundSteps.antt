@@ -1,7 +1,6 @@
 -- Steps of one round over a table.
-use Rattle.std.proofs.Common.{ℕ, suc, ◌+◌, ◌-◌, ◌≤◌, ◌<◌, Bool, ◌≡◌, refl, sym, ◌∙◌, ap, List, arith, length, set, ext_get_or, Option, find, unwrap_or, slice_index}
+use Rattle.std.proofs.Common.{ℕ, suc, ◌+◌, ◌-◌, ◌≤◌, ◌<◌, Bool, ◌≡◌, refl, sym, ◌∙◌, List, arith, length, set, ext_get_or, Option, find, unwrap_or, slice_index}
 use Rattle.std.specs.List.{range_with_len}
-use Rattle.words.specs.lists.Sequences.{over}
 use Rattle.image.specs.Image.{Image}
 use Rattle.image.specs.Decode.{last_label}
 use Rattle.tables.specs.Table.{table_image}
@@ -78,5 +77,4 @@ module _ (b : List ℕ) where
     refining-all buffer old next m l t h k now =
         let j : ℕ = t.rounds in
         let same : classes i j ≡ classes i k = held (classes i j) (classes i k) buffer (classes-long b j) (classes-long b k) t.now now in
-        fill-all b (is_staying_with i (classes i j)) old next m l t.filling h
-        ∙ ap (λ (c : List ℕ). over c old) (ap (λ (c : List ℕ). classes_by i (is_staying_with i c)) same ∙ one-more k)
+        grind (arith, fill-all b (is_staying_with i (classes i j)) old next m l t.filling h, same, one-more k)

@@ -6,7 +6,7 @@ use Rattle.words.specs.lists.Numbers.{tabulate, count}
 use Rattle.words.proofs.lists.Tests.{and-l, and-r, and-true, not-true, split}
 use Rattle.words.proofs.lists.Counts.{count-same, count-le, count-some}
 use Rattle.words.proofs.lists.Ranges.{map-count, length-map-range}
-use Rattle.image.specs.Image.{Image}
+use Rattle.image.specs.Image.{Image, Label}
 use Rattle.image.specs.inner.Sound.{SoundImage}
 use Rattle.image.proofs.Accepted.{fields-same}
 use Rattle.state.specs.State.{label_at}
@@ -22,6 +22,14 @@ pub record ClassRound (i : Image) (c : List ℕ) : Type 0 where
   pub own : (l : ℕ) → l < length i.labels → class_of c (class_of c l) ≡ class_of c l
   pub same : (l m : ℕ) → l < length i.labels → m < length i.labels → class_of c l ≡ class_of c m → label_at i l ≡ label_at i m
 
+-- numbers whose labels hold the same
+pub fields-alike : (x : ℕ → Label) (n : ℕ) → AlikeBelow n (λ m l. has_same_fields (x m) (x l))
+fields-alike x n = record {
+  self = λ l h. same-fields (x l) (x l) refl;
+  turn = λ l m hl hm t. same-fields (x m) (x l) (sym (fields-same (x l) (x m) t));
+  chain = λ l m k hl hm hk t u. same-fields (x l) (x k) (fields-same (x l) (x m) t ∙ fields-same (x m) (x k) u);
+}
+
 module _ (i : Image) where
   abbrev n : ℕ
   n = length i.labels
@@ -32,7 +40,7 @@ module _ (i : Image) where
     class-is l h = tabulated alike n l h
 
     pub class-same : (l m : ℕ) → l < n → m < n → alike l m ≡ true → class_of (classes_by i alike) l ≡ class_of (classes_by i alike) m
-    class-same l m hl hm t = class-is l hl ∙ same-lowest n alike a l m hl hm t ∙ sym (class-is m hm)
+    class-same l m hl hm t = grind (arith, class-is, same-lowest n alike a l m)
 
     pub same-class : (l m : ℕ) → l < n → m < n → class_of (classes_by i alike) l ≡ class_of (classes_by i alike) m → alike l m ≡ true
     same-class l m hl hm e = lowest-same n alike a l m hl hm (sym (class-is l hl) ∙ e ∙ class-is m hm)
@@ -41,8 +49,7 @@ module _ (i : Image) where
     round-by h = record {
       long = unfold tabulate in length-map-range (lowest_alike alike) 0 n;
       below = λ l k. omega (arith, class-is l k, alike-le alike l);
-      own = λ l k. ap (class_of (classes_by i alike)) (class-is l k) ∙ class-is (lowest_alike alike l) (omega (arith, alike-le alike l))
-          ∙ lowest-own n alike a l k ∙ sym (class-is l k);
+      own = λ l k. grind (arith, class-is, alike-le alike l, lowest-own n alike a l);
       same = λ l m hl hm e. h l m hl hm (same-class l m hl hm e);
     }
 
@@ -51,13 +58,7 @@ module _ (i : Image) where
   has_same_fields_at m l = has_same_fields (label_at i m) (label_at i l)
 
   pub first-alike : AlikeBelow n has_same_fields_at
-  first-alike = record {
-    self = λ l h. same-fields (label_at i l) (label_at i l) refl;
-    turn = λ l m hl hm t. same-fields (label_at i m) (label_at i l) (sym (fields-same (label_at i l) (label_at i m) t));
-    chain = λ l m k hl hm hk t u.
-        same-fields (label_at i l) (label_at i k) (fields-same (label_at i l) (label_at i m) t ∙ fields-same (label_at i m) (label_at i k)
-        u);
-  }
+  first-alike = fields-alike (label_at i) n
 
   pub first-round : ClassRound i (classes_by i has_same_fields_at)
   first-round = round-by has_same_fields_at first-alike (λ l m hl hm t. fields-same (label_at i l) (label_at i m) t)

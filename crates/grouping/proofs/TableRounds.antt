@@ -1,6 +1,6 @@
 -- Steps of the functions that find the classes of a table's labels, round after round.
-use Rattle.std.proofs.Common.{ℕ, suc, ◌+◌, ◌-◌, ◌≤◌, ◌<◌, Bool, true, false, ◌&&◌, ◌||◌, not, ◌≡◌, refl, sym, ◌∙◌, ap, ap₂, subst, ◌==◌, slice_index, slice_index_or}
-use Rattle.std.proofs.Common.{◌⊎◌, inl, inr, List, [], ◌∷◌, arith, length, set, eq-eqb, eqb-true, Option, find, unwrap_or}
+use Rattle.std.proofs.Common.{ℕ, suc, ◌+◌, ◌-◌, ◌≤◌, ◌<◌, Bool, true, false, not, ◌≡◌, refl, sym, ◌∙◌, ap, ap₂, ◌==◌, slice_index, slice_index_or}
+use Rattle.std.proofs.Common.{List, [], ◌∷◌, arith, length, set, eq-eqb, eqb-true, Option, find, unwrap_or}
 use Rattle.std.proofs.lemmas.Grind.{common_steps}
 use Rattle.std.proofs.Math.ListN.{get_or-append}
 use Rattle.std.specs.List.{range_with_len, list_any}
@@ -8,14 +8,13 @@ use Rattle.words.specs.lists.Numbers.{tabulate, lowest}
 use Rattle.words.specs.lists.Sequences.{over}
 use Rattle.words.proofs.lists.Written.{written-front}
 use Rattle.words.proofs.lists.Fills.{ValuesFrom, values-none, values-turn, values-all}
-use Rattle.words.proofs.lists.Tests.{no_both, and-l, and-r, and-true, not-true, split}
+use Rattle.words.proofs.lists.Tests.{cases, and-l, and-r, and-true, not-true, split}
 use Rattle.words.proofs.lists.Searches.{lowest-hit, lowest-above, lowest-most, lowest-before, lowest-alike}
 use Rattle.words.proofs.lists.Tabulated.{length-tabulate}
-use Rattle.image.specs.Image.{Image, Row, no_row}
+use Rattle.image.specs.Image.{Image, no_row}
 use Rattle.image.specs.Decode.{last_label}
 use Rattle.tables.specs.Table.{table_image}
 use Rattle.tables.proofs.TableReads.{labels-count, label-at}
-use Rattle.covering.specs.Matched.{is_together}
 use Rattle.covering.proofs.Chains.{lowest-chain}
 use Rattle.covering.proofs.Hits.{OneRow, one-row}
 use Rattle.grouping.specs.Classes.{class_of, is_parting, is_parted, is_staying_with, classes_by, classes}
@@ -29,17 +28,13 @@ use Rattle.grouping.proofs.Partings.{parted-is}
 -- ---- the first number that passes, told by what stands before it
 lowest-is : (p : ℕ → Bool) (i n x : ℕ) → i ≤ x → x ≤ i + n → (x < i + n → p x ≡ true)
     → ((k : ℕ) → i ≤ k → k < x → p k ≡ false) → lowest p i n ≡ x
-lowest-is p i n x a b hit before = go (split (lowest p i n) x) (split x (lowest p i n))
-  where
-    go : (lowest p i n < x) ⊎ (x ≤ lowest p i n) → (x < lowest p i n) ⊎ (lowest p i n ≤ x) → lowest p i n ≡ x
-    go (inl h) y = no_both (p (lowest p i n)) (lowest-hit p i n (omega arith)) (before (lowest p i n) (omega (arith, lowest-above p i n)) h)
-    go (inr h) (inl g) = no_both (p x) (hit (omega (arith, lowest-most p i n))) (lowest-before p i n x a g)
-    go (inr h) (inr g) = omega arith
+lowest-is p i n x a b hit before =
+    grind (arith, split (lowest p i n) x, split x (lowest p i n), lowest-hit p i n, before (lowest p i n), lowest-above p i n, lowest-most p i n, lowest-before p i n x, hit)
 
 some-same : {A : Type 0} (p q : A → Bool) (d : A) (xs : List A) → ((j : ℕ) → j < length xs → p (slice_index_or xs j d) ≡ q (slice_index_or xs j d))
     → list_any p xs ≡ list_any q xs
 some-same p q d [] e = refl
-some-same p q d (x ∷ xs) e = ap₂ ◌||◌ (e 0 (omega arith)) (some-same p q d xs (λ j l. e (suc j) (omega arith)))
+some-same p q d (x ∷ xs) e = grind (arith, common_steps, e 0, some-same p q d xs (λ j l. e (suc j) (omega arith)))
 
 -- ---- next_class
 module _ (b c next : List ℕ) (l : ℕ) (w : Lowest c next l) where
@@ -60,12 +55,7 @@ module _ (b c next : List ℕ) (l : ℕ) (w : Lowest c next l) where
       ∙ lowest-is leads lowest_one (l - lowest_one) lowest_one (omega arith) (omega arith) leading (λ k u v. absurd (omega arith)))
     where
       leading : lowest_one < lowest_one + (l - lowest_one) → leads lowest_one ≡ true
-      leading h =
-          and-true (slice_index c lowest_one == slice_index c l && slice_index next lowest_one == lowest_one) (not (is_parted_on b c lowest_one l))
-          (and-true (slice_index c lowest_one == slice_index c l) (slice_index next lowest_one == lowest_one)
-          (eq-eqb (slice_index c lowest_one) (slice_index c l) w.own)
-          (eq-eqb (slice_index next lowest_one) lowest_one (w.leads (omega arith))))
-          (ap not (together (omega arith)))
+      leading h = grind (arith, and-true, eq-eqb, w.own, w.leads, together)
 
   pub leader-below : (r : Option ℕ) (v : ℕ) → r ≡ find leads (range_with_len lowest_one (l - lowest_one)) → v ≡ unwrap_or r l → v ≤ l
   leader-below r v e u = omega (
@@ -100,13 +90,9 @@ module _ (b : List ℕ) where
         room = t.room;
         small = t.small;
         is = t.is;
-        filled = subst (λ (j : ℕ). ValuesFrom (lowest_alike alike) old (set buffer j x) 0 (m + 1) (l + 1)) (let z : 0 + l ≡ l = omega arith in z)
-            (values-turn (lowest_alike alike) old 0 (m + 1) buffer l x (omega (arith, t.room, t.small)) t.filled (omega arith) e);
-        each = each-on;
+        filled = grind (arith, t.room, t.small, t.filled, values-turn (lowest_alike alike) old 0 (m + 1) buffer l x);
+        each = λ k g. grind (arith, common_steps);
       }
-        where
-          each-on : (k : ℕ) → k < l + 1 → slice_index (set buffer l x) k ≡ lowest_alike alike k
-          each-on k g = grind (arith, common_steps)
 
       -- all places are filled
       pub fill-all : m < l → buffer ≡ over (classes_by i alike) old
@@ -155,18 +141,9 @@ module _ (b : List ℕ) where
 
       -- classes of labels from 2 up are from 2 up
       pub class-low : (l : ℕ) → 2 ≤ l → l ≤ last_label b → 2 ≤ slice_index buffer l
-      class-low l a z = go (split (slice_index buffer l) 2)
-        where
-          hl : l < n
-          hl = omega (arith, labels-count b)
-
-          go : (slice_index buffer l < 2) ⊎ (2 ≤ slice_index buffer l) → 2 ≤ slice_index buffer l
-          go (inr p) = p
-          go (inl p) =
-              let y : ℕ = class_of c l in
-              let hy : y < n = omega (arith, R.below l hl, hl) in
-              let e : y ≡ l = low-same i x.sound y l hy hl (R.same y l hy hl (R.own l hl)) (omega (arith, inside l hl)) in
-              absurd (omega (arith, inside l hl))
+      class-low l a z =
+          let y : ℕ = class_of c l in
+          grind (arith, split y 2, labels-count b, inside l, R.below l, R.own l, R.same y l, low-same i x.sound y l)
 
       pub class-below : (l : ℕ) → l ≤ last_label b → slice_index buffer l ≤ l
       class-below l z = omega (arith, inside l (omega (arith, labels-count b)), R.below l (omega (arith, labels-count b)))
@@ -175,11 +152,7 @@ module _ (b : List ℕ) where
       parts-same : (l m j g : ℕ) → j < length i.rows → g < length i.rows
           → is_parting buffer l m (slice_index_or i.rows j no_row) (slice_index_or i.rows g no_row) ≡ is_parting c l
           m (slice_index_or i.rows j no_row) (slice_index_or i.rows g no_row)
-      parts-same l m j g hj hg =
-          let r : Row = slice_index_or i.rows j no_row in
-          let s : Row = slice_index_or i.rows g no_row in
-          ap₂ (λ (x y : ℕ). r.from == l && s.from == m && is_together r s && not (x == y))
-          (inside r.next (x.sound.each j hj).leading.inside) (inside s.next (x.sound.each g hg).leading.inside)
+      parts-same l m j g hj hg = grind (arith, inside, x.sound.each j hj, x.sound.each g hg)
 
       parted-same : (m l : ℕ) → is_parted i buffer m l ≡ is_parted i c m l
       unfolding is_parted
@@ -206,39 +179,19 @@ module _ (b : List ℕ) where
       zero-alone = omega (arith, alike-le stays 0)
 
       pub one-alone : 1 ≡ lowest_alike stays 1
-      one-alone = go (split (lowest_alike stays 1) 1)
-        where
-          two : 2 ≤ n
-          two = x.sound.two
-
-          go : (lowest_alike stays 1 < 1) ⊎ (1 ≤ lowest_alike stays 1) → 1 ≡ lowest_alike stays 1
-          go (inr p) = omega (arith, alike-le stays 1)
-          go (inl p) =
-              let z : lowest_alike stays 1 ≡ 0 = omega arith in
-              let t : stays 0 1 ≡ true = subst (λ (y : ℕ). stays y 1 ≡ true) z (lowest-hit (λ m. stays m 1) 0 1 (omega arith)) in
-              let e : class_of c 0 ≡ class_of c 1 =
-              eqb-true (class_of c 0) (class_of c 1) (and-l (class_of c 0 == class_of c 1) (not (is_parted i c 0 1)) t) in
-              let h₀ : 0 < n = omega (arith, two) in
-              let h₁ : 1 < n = omega (arith, two) in
-              absurd (omega (arith, low-same i x.sound 0 1 h₀ h₁ (R.same 0 1 h₀ h₁ e) (omega arith)))
+      one-alone =
+          let y : ℕ = lowest_alike stays 1 in
+          grind (arith, split y 1, alike-le stays 1, x.sound.two, lowest-hit (λ m. stays m 1) 0 1, and-l (class_of c y == class_of c 1) (not (is_parted i c y 1)), eqb-true (class_of c y) (class_of c 1), R.same y 1, low-same i x.sound y 1)
 
       -- the lowest label of a class stays the lowest of its next one
       class-own : (l : ℕ) → l ≤ last_label b → slice_index buffer (slice_index buffer l) ≡ slice_index buffer l
       class-own l z =
-          let hl : l < n = omega (arith, labels-count b) in
-          ap (slice_index buffer) (inside l hl)
-          ∙ inside (class_of c l) (omega (arith, R.below l hl, hl)) ∙ R.own l hl ∙ sym (inside l hl)
+          grind (arith, labels-count b, inside l, inside (class_of c l), R.below l, R.own l)
 
       lowest-stays : (l : ℕ) → l < n → class_of c l ≡ l → lowest_alike stays l ≡ l
-      lowest-stays l hl e = go (split (lowest_alike stays l) l)
-        where
-          go : (lowest_alike stays l < l) ⊎ (l ≤ lowest_alike stays l) → lowest_alike stays l ≡ l
-          go (inr p) = omega (arith, alike-le stays l)
-          go (inl p) =
-              let y : ℕ = lowest_alike stays l in
-              let t : stays y l ≡ true = lowest-hit (λ m. stays m l) 0 l (omega arith) in
-              let q : class_of c y ≡ class_of c l = eqb-true (class_of c y) (class_of c l) (and-l (class_of c y == class_of c l) (not (is_parted i c y l)) t) in
-              absurd (omega (arith, R.below y (omega (arith, hl))))
+      lowest-stays l hl e =
+          let y : ℕ = lowest_alike stays l in
+          grind (arith, split y l, alike-le stays l, lowest-hit (λ m. stays m l) 0 l, and-l (class_of c y == class_of c l) (not (is_parted i c y l)), eqb-true (class_of c y) (class_of c l), R.below y)
 
       pub class-lowest : (next : List ℕ) (l : ℕ) → 2 ≤ l → l ≤ last_label b
           → ((m : ℕ) → m < l → slice_index next m ≡ lowest_alike stays m) → Lowest buffer next l
@@ -272,37 +225,26 @@ module _ (b : List ℕ) where
         stay p = lowest-hit (λ m. stays m l) 0 l (omega arith)
 
         same : y < l → class_of c y ≡ class_of c l
-        same p = eqb-true (class_of c y) (class_of c l) (and-l (class_of c y == class_of c l) (not (is_parted i c y l)) (stay p))
+        same p = grind (arith, eqb-true, and-l, stay)
 
         low : slice_index buffer l ≤ y
         low = grind (arith, common_steps, split, inside, R, class-below, hl, hy, same)
 
         leading : y < l → is_class_leader b buffer next l y ≡ true
         leading p =
-            and-true (slice_index buffer y == slice_index buffer l && slice_index next y == y) (not (is_parted_on b buffer y l))
-            (and-true (slice_index buffer y == slice_index buffer l) (slice_index next y == y)
-            (eq-eqb (slice_index buffer y) (slice_index buffer l) (inside y hy ∙ same p ∙ sym (inside l hl)))
-            (eq-eqb (slice_index next y) y (each y p ∙ lowest-own n stays (stays-alike i x.sound one c R) l hl)))
-            (not-parted y (omega (arith, class-low l a z, low)) p
-            ∙ and-r (class_of c y == class_of c l) (not (is_parted i c y l)) (stay p))
+            let own = lowest-own n stays (stays-alike i x.sound one c R) l hl in
+            grind (arith, common_steps, and-true, eq-eqb, and-r, inside y hy, inside l hl, same p, each y p, own, class-low l a z, low, not-parted y, stay p)
 
         -- one below that led a class would stay with l
         led : (m : ℕ) → slice_index buffer l ≤ m → m < l → is_class_leader b buffer next l m ≡ true → stays m l ≡ true
         led m u p e = grind (arith, common_steps, and-true, eq-eqb, and-l, and-r, eqb-true, inside, class-low, hl, not-parted)
 
         before : (m : ℕ) → slice_index buffer l ≤ m → m < y → is_class_leader b buffer next l m ≡ false
-        before m u v = go (is_class_leader b buffer next l m) refl
-          where
-            go : (t : Bool) → is_class_leader b buffer next l m ≡ t → is_class_leader b buffer next l m ≡ false
-            go false e = e
-            go true e = no_both (stays m l) (led m u (omega (arith, most)) e) (lowest-before (λ m. stays m l) 0 l m (omega arith) v)
+        before m u v = grind (arith, cases (is_class_leader b buffer next l m), led m u, most, lowest-before (λ m. stays m l) 0 l m)
 
         pub next-is : (v : ℕ) (r : Option ℕ)
             → r ≡ find (is_class_leader b buffer next l) (range_with_len (slice_index buffer l) (l - slice_index buffer l)) → v ≡ unwrap_or r l
             → v ≡ lowest_alike stays l
         next-is v r e u =
-            u ∙ ap₂ unwrap_or e (let w : l ≡ slice_index buffer l + (l - slice_index buffer l) = omega (arith, class-below l z) in w)
-            ∙ lowest-chain (is_class_leader b buffer next l) (slice_index buffer l) (l - slice_index buffer l)
-            ∙ lowest-is (is_class_leader b buffer next l) (slice_index buffer l) (l - slice_index buffer l) y low
-            (omega (arith, most, class-below l z))
-            (λ q. leading (omega (arith, class-below l z))) before
+            let w : l ≡ slice_index buffer l + (l - slice_index buffer l) = omega (arith, class-below l z) in
+            grind (arith, lowest-chain (is_class_leader b buffer next l) (slice_index buffer l) (l - slice_index buffer l), lowest-is (is_class_leader b buffer next l) (slice_index buffer l) (l - slice_index buffer l) y low, most, leading, before)

@@ -1,5 +1,5 @@
 -- The notes of labels: the loop that makes them, and that they are enough with the marks.
-use Rattle.std.proofs.Common.{ℕ, zero, suc, ◌+◌, ◌-◌, ◌≤◌, ◌<◌, ◌≡◌, sym, ◌∙◌, ap, ap₂, subst, List, arith, slice_index}
+use Rattle.std.proofs.Common.{ℕ, zero, suc, ◌+◌, ◌-◌, ◌≤◌, ◌<◌, ◌≡◌, subst, List, arith, slice_index}
 use Rattle.std.proofs.Common.{length, replicate}
 use Rattle.std.proofs.Math.ListN.{length-replicate}
 use Rattle.std.proofs.lemmas.Grind.{common_steps}
@@ -38,19 +38,16 @@ module _ (b marks : List ℕ) where
   unfolding notes_after
   touching-turn out out' f label next t p q e = record {
     low = omega (arith, t.low);
-    is = e ∙ ap₂ (λ (x y : ℕ). raised out x (slice_index marks y)) p q
-        ∙ ap₂ (λ (ys : List ℕ) (g : ℕ). raised ys (field b g 1) (slice_index marks (field b g 7))) t.is
-        (let q : f ≡ rows_from b + (f - rows_from b) = omega (arith, t.low) in q)
-        ∙ ap (notes_after b marks) (let q : suc (f - rows_from b) ≡ f + 1 - rows_from b = omega (arith, t.low) in q);
+    is = let at : f + 1 - rows_from b ≡ suc (f - rows_from b) = omega (arith, t.low) in grind (arith, t.is, t.low, at);
   }
 
   pub touching-all : (out : List ℕ) (f : ℕ) → Touching out f → table_end b ≤ f → f ≤ table_end b → out ≡ notes b marks
-  touching-all out f t h g = t.is ∙ ap (λ (e : ℕ). notes_after b marks (e - rows_from b)) (let q : f ≡ table_end b = omega arith in q)
+  touching-all out f t h g = grind (arith, t.is)
 
   notes-long : (n : ℕ) → length (notes_after b marks n) ≡ 256
   unfolding notes_after
-  notes-long zero = length-replicate {A = ℕ} 256 0
-  notes-long (suc n) = raised-long (notes_after b marks n) _ _ ∙ notes-long n
+  notes-long zero = grind (arith, length-replicate)
+  notes-long (suc n) = grind (arith, raised-long, notes-long n)
 
   module _ (bytes : (k : ℕ) → slice_index b k < 256) where
     notes-most : (n k : ℕ) → k < n
@@ -63,10 +60,7 @@ module _ (b marks : List ℕ) where
     -- ---- what the notes say
     pub notes-noted : Even b → Noted b marks (last_label b + 1) (notes b marks)
     notes-noted x l f al hl u v =
-        subst (λ (m : ℕ). slice_index marks (field b f 7) ≤ slice_index (notes b marks) m) (x.own l f al (omega arith) u v)
-        (subst (λ (g : ℕ). slice_index marks (field b g 7) ≤ slice_index (notes b marks) (field b g 1))
-        (let e : rows_from b + (f - rows_from b) ≡ f = omega (arith, x.behind l al (omega arith)) in e)
-        (notes-most (table_end b - rows_from b) (f - rows_from b) (omega (arith, x.behind l al (omega arith)))))
+        grind (arith, x.own l f, x.behind l, notes-most (table_end b - rows_from b) (f - rows_from b))
 
 -- ---- the marks after a round
 pub round-marked : (b : List ℕ) → Even b → ((k : ℕ) → slice_index b k < 256) → (classes next : List ℕ) → Advanced b classes next
@@ -80,6 +74,5 @@ round-marked b x bytes classes next a n count few {marks₀ = marks₀} {touched
       parts = subst (λ (m : ℕ). PartsMarked classes next marks₀ touched₀ kept₀ m marks counts kept) count p;
       noted = e;
       marked = next-marks b x a.rounds classes a.before next a.after n count marks (parts-kept p long few) touched
-          (ap length e ∙ notes-long b marks (table_end b - rows_from b))
-          (subst (Noted b marks (last_label b + 1)) (sym e) (notes-noted b marks bytes x));
+          (grind (arith, notes-long b marks (table_end b - rows_from b))) (grind (arith, notes-noted b marks bytes x));
     }

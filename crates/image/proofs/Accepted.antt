@@ -1,9 +1,8 @@
 -- What it gives that the image check accepts: the counts and the handler of the header hold, and the image that the contents hold is sound.
 use Rattle.std.proofs.Common.{ℕ, zero, suc, ◌+◌, ◌*◌, ◌≤◌, ◌<◌, Bool, true, false, ◌&&◌, ◌||◌, not, ◌≡◌, sym, ◌∙◌, ap, subst, List, arith, nat_lt, ◌==◌, slice_index}
-use Rattle.std.proofs.Common.{length, bit_and, lt-ltb, ne_eqb, eqb-true, ltb-false, leb-true}
-use borrow.Author.Tests.{eqb-false}
+use Rattle.std.proofs.Common.{length, lt-ltb, ne_eqb, eqb-true, ltb-false, leb-true}
 use Rattle.std.proofs.lemmas.Grind.{common_steps}
-use Rattle.words.proofs.lists.Tests.{or-l, or-r, or-cases, and-l, and-r, and-false, not-false}
+use Rattle.words.proofs.lists.Tests.{or-r, or-cases, and-l, and-r, not-false}
 use Rattle.words.proofs.lists.Ranges.{length-map-range, get_or-map-range}
 use Rattle.text.specs.frames.Frame.{size, field, pair_at, contents}
 use Rattle.text.specs.frames.Verdict.{fine, next, at_lowest}
@@ -72,37 +71,24 @@ label-told : (b : List ℕ) (l : ℕ) (x : Label) → x.mask < 4294967296 → is
 label-told b l x small e = grind (arith, common_steps)
 
 -- ---- a row
+bit-told : (b : List ℕ) (r : Row) → has_bad_bit b r ≡ false → r.bit < 2 → (label_in b r.from).kind ≡ 2
+bit-told b r e h = grind (arith, common_steps)
+
 row-told : (b : List ℕ) (f : ℕ) (r : Row) → r.care < 65536 → r.values < 65536 → is_bad_row b f r ≡ false → SoundRow (decoded_image b) r
 row-told b f r small tiny e =
-    let a₁ : Bool = nat_lt r.from 2 in
-    let a₂ : Bool = nat_lt (last_label b) r.from in
-    let a₃ : Bool = not (bit_and r.values r.care == r.values) in
-    let a₄ : Bool = has_bad_bit b r in
-    let a₅ : Bool = not (is_within b (label_in b r.from).owner r.next) in
-    let a₆ : Bool = is_filled b f 8 2 in
-    let e₁ : (a₁ || a₂ || a₃ || a₄ || a₅) ≡ false = or-l (a₁ || a₂ || a₃ || a₄ || a₅) a₆ e in
-    let e₂ : (a₁ || a₂ || a₃ || a₄) ≡ false = or-l (a₁ || a₂ || a₃ || a₄) a₅ e₁ in
-    let e₃ : (a₁ || a₂ || a₃) ≡ false = or-l (a₁ || a₂ || a₃) a₄ e₂ in
-    let e₄ : (a₁ || a₂) ≡ false = or-l (a₁ || a₂) a₃ e₃ in
-    let bit : a₄ ≡ false = or-r (a₁ || a₂ || a₃) a₄ e₂ in
-    let last : r.from ≤ last_label b = ltb-false (last_label b) r.from (or-r a₁ a₂ e₄) in
+    let last : r.from ≤ last_label b = grind (arith, common_steps) in
     let same : nth_label (decoded_image b) r.from ≡ label_in b r.from = label-read b r.from last in
+    let bit : has_bad_bit b r ≡ false = grind (arith, common_steps) in
+    let reaches : is_within b (label_in b r.from).owner r.next ≡ true = grind (arith, common_steps) in
     record {
-      low = ltb-false r.from 2 (or-l a₁ a₂ e₄);
+      low = grind (arith, common_steps);
       high = omega (arith, labels-count b);
       cares = small;
       small = tiny;
-      within = eqb-true (bit_and r.values r.care) r.values
-          (not-false (bit_and r.values r.care == r.values) (or-r (a₁ || a₂) a₃ e₃));
-      bits = ltb-false 2 r.bit (or-l (nat_lt 2 r.bit) (nat_lt r.bit 2 && not ((label_in b r.from).kind == 2)) bit);
-      function = λ h.
-          ap (λ (x : Label). x.kind) same
-          ∙ eqb-true (label_in b r.from).kind 2 (not-false ((label_in b r.from).kind == 2)
-          (and-false (nat_lt r.bit 2) (not ((label_in b r.from).kind == 2))
-          (or-r (nat_lt 2 r.bit) (nat_lt r.bit 2 && not ((label_in b r.from).kind == 2)) bit) (lt-ltb r.bit 2 h)));
-      leading = subst (λ (h : ℕ). Reaches (decoded_image b) h r.next) (sym (ap (λ (x : Label). x.owner) same))
-          (within-reaches b (label_in b r.from).owner r.next
-          (not-false (is_within b (label_in b r.from).owner r.next) (or-r (a₁ || a₂ || a₃ || a₄) a₅ e₁)));
+      within = grind (arith, common_steps);
+      bits = grind (arith, common_steps);
+      function = λ h. ap (λ (x : Label). x.kind) same ∙ bit-told b r bit h;
+      leading = rw same (within-reaches b (label_in b r.from).owner r.next reaches);
     }
 
 -- ---- the handler is 0 or a scheme of 2 to H
@@ -117,6 +103,13 @@ pub record CountedTable (b : List ℕ) : Type 0 where
   pub few : row_count b ≤ 1024
   pub handler : has_bad_handler b ≡ false
   pub all : size b ≡ rows_from b + row_count b
+
+-- what the tests of a header that passes tell, over plain tests and numbers
+last-of-five : (a b c d e : Bool) → (a || b || c || d || e) ≡ false → (c ≡ false) × (d ≡ false) × (e ≡ false)
+last-of-five a b c d e all = (grind (arith, common_steps), grind (arith, common_steps), grind (arith, common_steps))
+
+counts-told : (m l r : ℕ) → (m == 0 || nat_lt 16 m || l == 0 || nat_lt 1024 r) ≡ false → (1 ≤ m) × (m ≤ 16) × (1 ≤ l) × (r ≤ 1024)
+counts-told m l r e = (grind (arith, common_steps), grind (arith, common_steps), grind (arith, common_steps), grind (arith, common_steps))
 
 module _ (b : List ℕ) (ok : table_verdict b ≡ fine) where
   header-good : is_bad_header b ≡ false
@@ -138,26 +131,16 @@ module _ (b : List ℕ) (ok : table_verdict b ≡ fine) where
   pub counted : CountedTable b
   unfolding is_bad_header
   counted =
-      let k : Bool = not (field b 0 0 == 15) in
-      let n : Bool = not (size b == rows_from b + row_count b) in
-      let h : Bool = scheme_count b == 0 in
-      let i : Bool = nat_lt 16 (scheme_count b) in
-      let m : Bool = last_label b == 0 in
-      let r : Bool = nat_lt 1024 (row_count b) in
-      let z : Bool = is_filled b 0 6 4 in
-      let a : (k || z || has_bad_handler b || has_bad_counts b) ≡ false =
-      or-l (k || z || has_bad_handler b || has_bad_counts b) n header-good in
-      let e : has_bad_counts b ≡ false = or-r (k || z || has_bad_handler b) (has_bad_counts b) a in
-      let e₁ : (h || i || m) ≡ false = or-l (h || i || m) r e in
-      let e₂ : (h || i) ≡ false = or-l (h || i) m e₁ in
+      let told = last-of-five (not (field b 0 0 == 15)) (is_filled b 0 6 4) (has_bad_handler b) (has_bad_counts b)
+      (not (size b == rows_from b + row_count b)) header-good in
+      let counts = counts-told (scheme_count b) (last_label b) (row_count b) told.1 in
       record {
-        first = omega (arith, eqb-false (scheme_count b) 0 (or-l h i e₂));
-        most = ltb-false 16 (scheme_count b) (or-r h i e₂);
-        two = omega (arith, eqb-false (last_label b) 0 (or-r (h || i) m e₁));
-        few = ltb-false 1024 (row_count b) (or-r (h || i || m) r e);
-        handler = or-r (k || z) (has_bad_handler b) (or-l (k || z || has_bad_handler b) (has_bad_counts b) a);
-        all = eqb-true (size b) (rows_from b + row_count b)
-            (not-false (size b == rows_from b + row_count b) (or-r (k || z || has_bad_handler b || has_bad_counts b) n header-good));
+        first = counts.0;
+        most = counts.1;
+        two = counts.2;
+        few = counts.3;
+        handler = told.0;
+        all = eqb-true (size b) (rows_from b + row_count b) (not-false (size b == rows_from b + row_count b) told.2);
       }
 
   entry-good : (h : ℕ) → 1 ≤ h → h ≤ scheme_count b → Reaches (decoded_image b) h (entry_in b h)

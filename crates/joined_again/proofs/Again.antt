@@ -1,8 +1,7 @@
 -- The smaller image joined again is itself.
-use Rattle.std.proofs.Common.{if◌then◌else◌, ℕ, ◌+◌, ◌≤◌, ◌<◌, Bool, true, false, ◌≡◌, sym, ◌∙◌, ap, subst, List, map, zero-add, arith, ◌==◌, slice_index, filter}
-use Rattle.std.proofs.Common.{length, eqb-true, eq-eqb}
-use Rattle.words.specs.lists.Numbers.{range, count}
-use Rattle.words.proofs.lists.Tests.{and-l}
+use Rattle.std.proofs.Common.{if◌then◌else◌, ℕ, ◌+◌, ◌≤◌, ◌<◌, Bool, true, false, ◌≡◌, sym, ◌∙◌, ap, List, map, zero-add, arith, slice_index, filter}
+use Rattle.std.proofs.Common.{length, eq-eqb}
+use Rattle.words.specs.lists.Numbers.{range}
 use Rattle.words.proofs.lists.Counts.{count-alike, count-all}
 use Rattle.words.proofs.lists.Ranges.{map-places}
 use Rattle.words.proofs.lists.Elements.{map-own, filter-own}
@@ -16,7 +15,7 @@ use Rattle.image.specs.Check.{image_verdict}
 use Rattle.image.specs.inner.Sound.{no_label, SoundRow, SoundImage}
 use Rattle.image.proofs.Passes.{image-fine}
 use Rattle.image.proofs.Decoded.{image-decoded}
-use Rattle.rows.specs.Rows.{is_match, is_candidate}
+use Rattle.rows.specs.Rows.{is_candidate}
 use Rattle.state.specs.State.{label_at}
 use Rattle.covering.specs.Matched.{is_uneven}
 use Rattle.covering.proofs.Covered.{sound-rows}
@@ -31,6 +30,7 @@ use Rattle.minimising.specs.Entry.{minimise_verdict}
 use Rattle.minimising.proofs.group_numbers.Numbering.{new-inside, label-new, joined-sound}
 use Rattle.minimising.proofs.group_numbers.Led.{Member, member, one-new, even-new, onward-new}
 use Rattle.std.proofs.lemmas.Grind.{common_steps}
+use Rattle.std.proofs.lemmas.Bool.Decides.{nat_tests}
 
 -- ---- an image in which each label is alone stays as it is
 module _ (i : Image) (S : SoundImage i) (c : List ℕ) (alone : (l : ℕ) → l < length i.labels → class_of c l ≡ l) where
@@ -41,14 +41,10 @@ module _ (i : Image) (S : SoundImage i) (c : List ℕ) (alone : (l : ℕ) → l 
   first-own l h = eq-eqb (class_of c l) l (alone l h)
 
   number-own : (l : ℕ) → l < n → renumbered_label c l ≡ l
-  number-own l h = ap (λ (x : ℕ). count (is_first c) 0 x) (alone l h)
-      ∙ count-alike (λ _. true) (is_first c) 0 l (λ k a b. first-own k (omega arith)) ∙ count-all 0 l
+  number-own l h = grind (arith, alone l h, count-alike (λ _. true) (is_first c) 0 l, first-own, count-all 0 l)
 
   row-own : (r : Row) → SoundRow i r → renumbered_row c r ≡ r
-  row-own r x =
-      let p : renumbered_label c r.from ≡ r.from = number-own r.from x.high in
-      let q : renumbered_label c r.next ≡ r.next = number-own r.next x.leading.inside in
-      λ j. record { from = p j; care = r.care; values = r.values; bit = r.bit; next = q j }
+  row-own r x = grind (arith, number-own r.from x.high, number-own r.next x.leading.inside)
 
   pub joined-own : joined_labels i c ≡ i
   unfolding joined_labels
@@ -101,22 +97,19 @@ module _ (i : Image) (S : SoundImage i) (even : is_uneven i ≡ false) where
 
   module _ (l w b k : ℕ) (h : k < length i.rows) (own : is_candidate l w b (nth_row i k) ≡ true) where
     from-is : (nth_row i k).from ≡ l
-    from-is = eqb-true (nth_row i k).from l (and-l ((nth_row i k).from == l) (is_match w b (nth_row i k)) own)
+    from-is = grind (arith, nat_tests, own)
 
     next-whole : (t : Bool) → (if t then 1 else 0) ≡ b → whole (nth_row i k).next
         ≡ class_of d (onward_label (smaller_image i) (renumbered_label c l) w t)
     next-whole t q =
         let low : 2 ≤ l = omega (arith, (S.each k h).low, from-is) in
         let high : l < length i.labels = omega (arith, (S.each k h).high, from-is) in
-        ap whole (sym (onward-is i S one l w t low high k h (subst (λ (x : ℕ). is_candidate l w x (nth_row i k) ≡ true) (sym q) own)))
-        ∙ ap (class_of d) (sym (onward-new i S (grouping i) R one (group-leads i S one) l w t low high))
+        grind (arith, q, own, onward-is i S one l w t low high k h, onward-new i S (grouping i) R one (group-leads i S one) l w t low high)
 
   whole-meets : Meets i whole
   whole-meets = record {
     same = λ l m hl hm e.
-        sym (label-new i S (grouping i) R l hl)
-        ∙ R'.same (renumbered_label c l) (renumbered_label c m) (inside l hl) (inside m hm) e
-        ∙ label-new i S (grouping i) R m hm;
+        grind (arith, label-new i S (grouping i) R l hl, label-new i S (grouping i) R m hm, R'.same (renumbered_label c l) (renumbered_label c m) (inside l hl) (inside m hm) e);
     leads = λ l m hl hm e w b hw hb j k hj hk p q.
         let t = bit-of b hb in
         next-whole l w b j hj p t.0 t.1
@@ -129,10 +122,8 @@ module _ (i : Image) (S : SoundImage i) (even : is_uneven i ≡ false) where
       let k : ℕ = class_of d l in
       let x : Member i S c R l = member i S c R l h in
       let y : Member i S c R k = member i S c R k (omega (arith, R'.below l h)) in
-      let e : whole y.label ≡ whole x.label = ap (class_of d) y.number ∙ R'.own l h ∙ sym (ap (class_of d) x.number) in
-      let g : class_of c y.label ≡ class_of c x.label = within-grouping i S one whole whole-meets y.label x.label y.inside
-      x.inside e in
-      sym y.number ∙ ap (λ (z : ℕ). count (is_first c) 0 z) g ∙ x.number
+      let e : whole y.label ≡ whole x.label = grind (arith, y.number, x.number, R'.own l h) in
+      grind (arith, within-grouping i S one whole whole-meets y.label x.label y.inside x.inside e, y.number, x.number)
 
   pub smaller-again : smaller_image (smaller_image i) ≡ smaller_image i
   smaller-again = joined-own (smaller_image i) smaller-sound (grouping (smaller_image i)) alone-again

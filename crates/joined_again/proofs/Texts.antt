@@ -1,6 +1,5 @@
--- What holds of every text that is made smaller:
--- its groups meet the rule and are the fewest, what is written is accepted, and given back it is written again.
-use Rattle.std.proofs.Common.{ℕ, ◌/◌, ◌≤◌, false, ◌≡◌, sym, ◌∙◌, ap, ap₂, List, arith, length, map, take}
+-- What holds of every text that is made smaller: what is written has the fewest labels and is accepted, and given back it is written again.
+use Rattle.std.proofs.Common.{ℕ, ◌/◌, ◌≤◌, false, ◌≡◌, ◌∙◌, ap, List, arith, length, map, take}
 use Rattle.words.specs.lists.Sequences.{over}
 use Rattle.text.specs.digits.Digit.{capital}
 use Rattle.text.specs.frames.Frame.{contents}
@@ -15,8 +14,6 @@ use Rattle.image.proofs.Accepted.{image-sound}
 use Rattle.translator.proofs.Capitals.{image-capitals}
 use Rattle.covering.specs.Matched.{is_uneven}
 use Rattle.grouping.specs.Rule.{Grouping, Meets, groups}
-use Rattle.grouping.specs.Classes.{class_of, grouping}
-use Rattle.grouping.proofs.Coarsest.{even-meets, even-fewest}
 use Rattle.minimising.specs.group_numbers.Smaller.{smaller_image}
 use Rattle.minimising.specs.Entry.{minimise_verdict, minimise}
 use Rattle.joined_again.proofs.Shorter.{fewest-labels, never-longer, minimise-shorter}
@@ -32,13 +29,6 @@ module _ (t : List ℕ) (ok : minimise_verdict t ≡ fine) where
 
   sound : SoundImage (decoded_image (contents t))
   sound = image-sound t allowed.accepted
-
-  pub text-meets : Meets image (class_of (grouping image))
-  text-meets = even-meets image sound allowed.even
-
-  pub text-fewest : (g : Grouping) → Meets image g
-      → groups (class_of (grouping image)) (length image.labels) ≤ groups g (length image.labels)
-  text-fewest = even-fewest image sound allowed.even
 
   pub text-labels : (g : Grouping) → Meets image g → length (smaller_image image).labels ≤ groups g (length image.labels)
   text-labels = fewest-labels image sound allowed.even
@@ -73,10 +63,8 @@ minimise-again t old n e again h =
     let a : AllowedImage t = minimise-allowed t s.accepted in
     let m : n ≡ length x = omega (arith, s.count) in
     let u : take n (minimise t old).buffer ≡ x = ap (take n) s.buffer ∙ front n x old m in
-    ap (λ (y : List ℕ). minimise y again) u
-    ∙ text-again (decoded_image (contents t)) (image-sound t a.accepted) a.even again (omega arith)
-    ∙ ap₂ (λ (k : ℕ) (y : List ℕ). record { reply = success k; buffer = over y again })
-    (let q : length x / 1 ≡ n = omega arith in q) (sym u)
+    let q : length x / 1 ≡ n = omega arith in
+    grind (arith, u, q, text-again (decoded_image (contents t)) (image-sound t a.accepted) a.even again (omega arith))
 
 pub ruleset joined_again_is_itself = (text-passes, text-even, text-same, text-capitals, minimise-again)
 

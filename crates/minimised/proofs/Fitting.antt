@@ -1,5 +1,5 @@
 -- A state that fits an image fits, with its labels renumbered, the smaller image.
-use Rattle.std.proofs.Common.{ℕ, ◌+◌, ◌<◌, Bool, false, ◌&&◌, ◌||◌, ◌≡◌, sym, ◌∙◌, ap, ap₂, subst, List, arith, length, eqb-true, nat_le, ◌==◌}
+use Rattle.std.proofs.Common.{ℕ, ◌+◌, ◌<◌, Bool, false, ◌&&◌, ◌||◌, ◌≡◌, ◌∙◌, ap, ap₂, List, arith, length, eqb-true, nat_le, ◌==◌}
 use Rattle.std.proofs.Math.ListN.{length-map}
 use Rattle.std.proofs.lemmas.Grind.{common_steps}
 use Rattle.words.proofs.lists.Tests.{and-l, not-false}
@@ -56,8 +56,7 @@ module _ (i : Image) (S : SoundImage i) (c : List ℕ) (R : ClassRound i c) wher
       small = f.small;
       some = f.some;
       most = f.most;
-      labels = λ k h. subst (λ (x : ℕ). x < length small.labels) (sym (place-new i S c R s k))
-          (new-inside i S c R (place_at s k) (f.labels k h));
+      labels = λ k h. grind (arith, common_steps, place-new, new-inside);
       carries = λ k h.
           ap₂ (λ (l a : ℕ). is_able_to_carry small l (number_at s (k + 1)) (server_at s (k + 1)) a)
           (place-new i S c R s k) (place-new i S c R s (k + 1))

@@ -1,5 +1,5 @@
 -- Cases of the entry point: the image is refused, or the table that is made of it is made smaller.
-use Rattle.std.proofs.Common.{◌≡◌, sym, ◌∙◌, ap, subst, false, length, List, ℕ, Err, arith}
+use Rattle.std.proofs.Common.{◌≡◌, sym, ◌∙◌, false, length, List, ℕ, Err, arith}
 use Rattle.std.proofs.lemmas.Grind.{common_steps}
 use Rattle.text.specs.frames.Frame.{contents}
 use Rattle.text.specs.frames.Verdict.{when}
@@ -11,10 +11,8 @@ use Rattle.tables.proofs.Made.{MadeTable}
 use Rattle.covering.specs.Matched.{is_uneven}
 use Rattle.covering.proofs.Tables.{noted-decoded, made-table, made-uneven}
 use Rattle.words.specs.lists.Sequences.{over}
-use Rattle.image.specs.Image.{Image}
 use Rattle.tables.specs.Table.{table_image}
 use Rattle.grouping.specs.Classes.{grouping}
-use Rattle.grouping.specs.inner.GroupingContracts.{Classed}
 use Rattle.grouping.proofs.GroupSteps.{group-classed}
 use Rattle.grouping.proofs.Prepared.{made-even}
 use Rattle.minimising.specs.inner.WriteContracts.{Grouped, smaller_outcome}
@@ -29,7 +27,7 @@ module _ (t : List ℕ) where
 
   module _ (b : List ℕ) (made : MadeTable t b) where
     same : decoded_image b ≡ decoded_image (contents t)
-    same = ap decoded_image made.is ∙ noted-decoded (contents t)
+    same = grind (arith, made.is, noted-decoded)
 
     pub made-prepared : ReadableTable b
     made-prepared = record {
@@ -50,5 +48,5 @@ pub table-grouped : (b : List ℕ) → ReadableTable b → is_uneven (decoded_im
 table-grouped b r e old buffer q h = record {
   table = r.table;
   even = e;
-  classes = subst (λ (i : Image). Classed b (grouping i) buffer) r.holds (group-classed b old buffer q h);
+  classes = grind (arith, r.holds, group-classed);
 }

@@ -84,7 +84,7 @@ pub record CountedBits (prices : List ℕ) (mask total rest : ℕ) : Type 0 wher
   pub sum : total + tick_price prices rest ≡ tick_price prices mask
   pub low : rest < 2 ^ 32
 
-module _ (prices : List ℕ) (mask total rest : ℕ) (inv : CountedBits prices mask total rest) where
+module _ {prices : List ℕ} {mask total rest : ℕ} (inv : CountedBits prices mask total rest) where
   abbrev j : ℕ
   j = count_trailing_zeros 32 rest
 

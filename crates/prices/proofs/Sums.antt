@@ -33,13 +33,13 @@ pub record SummedTicks (prices masks : List ℕ) (total i : ℕ) : Type 0 where
   pub sum : total ≡ hundredths prices (take i masks)
   pub inside : i ≤ length masks
 
-pub summed-none : (prices masks : List ℕ) → SummedTicks prices masks 0 0
+pub summed-none : {prices masks : List ℕ} → SummedTicks prices masks 0 0
 unfolding hundredths
-summed-none prices masks = record { sum = refl; inside = omega arith }
+summed-none = record { sum = refl; inside = omega arith }
 
-module _ (prices masks : List ℕ) (total i : ℕ) (inv : SummedTicks prices masks total i) where
-  pub summed-more : i < length masks → (r : ℕ) → r ≡ tick_price prices (slice_index masks i) → SummedTicks prices masks (total + r) (i + 1)
-  summed-more l r e = grind (arith, common_steps, add-one, hundredths-next)
+module _ {prices masks : List ℕ} {total i : ℕ} (inv : SummedTicks prices masks total i) where
+  pub summed-more : i < length masks → {r : ℕ} → r ≡ tick_price prices (slice_index masks i) → SummedTicks prices masks (total + r) (i + 1)
+  summed-more l e = grind (arith, common_steps, add-one, hundredths-next)
 
   pub summed-fits : ((j : ℕ) → slice_index prices j ≤ 65535) → length masks ≤ 65536 → total ≤ 137436856320
   summed-fits small most = omega (arith, inv.sum, hundredths-most prices small (take i masks), length-take i masks)

@@ -3,7 +3,6 @@ use Rattle.std.proofs.Common.{◌≡◌, refl, sym, ◌∙◌, ap, Bool, true, f
 use Rattle.std.proofs.Common.{Ok, Err}
 use borrow.Author.Tests.{lt-leb}
 use Rattle.std.proofs.lemmas.Grind.{common_steps}
-use Rattle.std.proofs.lemmas.Bool.{cond-false}
 use Rattle.words.proofs.lists.Tests.{or-l, and-no}
 use Rattle.text.specs.frames.Verdict.{fine, next, when}
 use Rattle.text.specs.frames.Answer.{Answer, success, refusal, reply_number, reply, counted_reply}
@@ -74,38 +73,35 @@ module _ (b : List ℕ) (before : Kept) (ws ms₀ ks₀ : List ℕ) where
   pub unfit-answer : (t : Bool) → t ≡ is_unfit (table_image b) s → t ≡ true → GivesRunOn given before (Err Unfit) before ms₀ ks₀
   unfit-answer t e h = kept-runs given before ms₀ ks₀ 15 0 s (table-unfit (sym e ∙ h)) (omega arith) (omega arith) (Err Unfit) refl
 
-  module _ (t : Bool) (e : t ≡ is_unfit (table_image b) s) (h : t ≡ false) (u : Bool) (f : u ≡ has_no_room ws ms₀ ks₀) where
-    pub short-answer : u ≡ true → GivesRunOn given before (Err NoRoom) before ms₀ ks₀
-    short-answer g = kept-runs given before ms₀ ks₀ 16 0 s (table-short (sym e ∙ h) (sym f ∙ g))
-        (omega arith) (omega arith) (Err NoRoom) refl
+  pub short-answer : (t : Bool) → t ≡ is_unfit (table_image b) s → t ≡ false → (u : Bool) → u ≡ has_no_room ws ms₀ ks₀ → u ≡ true
+      → GivesRunOn given before (Err NoRoom) before ms₀ ks₀
+  short-answer t e h u f g = kept-runs given before ms₀ ks₀ 16 0 s (table-short (sym e ∙ h) (sym f ∙ g))
+      (omega arith) (omega arith) (Err NoRoom) refl
 
-    module _ (g : u ≡ false) (r : RunEnd) (mid after : Kept) (ms ks : List ℕ) (ends : GivesRunEnd b before ws ms₀ ks₀ r mid ms ks)
-        (tidied : after ≡ stored (view mid)) where
-      is : given ≡ run_on fine (λ _. ran) s ms₀ ks₀
-      is = table-runs (sym e ∙ h) (sym f ∙ g)
+-- neither success nor 17 and 18 leave the state
+writes : (x : RunEnd) (m : ℕ) → is_without_change (reply_number (counted_reply (verdict_of x) m)) ≡ false
+writes (Over n) m = refl
+writes (Full n) m = refl
+writes (NoRow n) m = refl
 
-      -- neither success nor 17 and 18 leave the state
-      writes : (x : RunEnd) (m : ℕ) → is_without_change (reply_number (counted_reply (verdict_of x) m)) ≡ false
-      writes (Over n) m = refl
-      writes (Full n) m = refl
-      writes (NoRow n) m = refl
-
-      pub ran-answer : (x : RunEnd) → r ≡ x → (a : Answer) → reply a ≡ counted_reply (verdict_of x) (count_of x)
-          → GivesRunOn given before a after ms ks
-      unfolding state_after
-      ran-answer x p a q = grind (arith, common_steps, cond-false, is, writes)
+pub ran-answer : {b : List ℕ} {before : Kept} {ws ms₀ ks₀ : List ℕ} {t u : Bool} → t ≡ is_unfit (table_image b) (view before) → t ≡ false
+    → u ≡ has_no_room ws ms₀ ks₀ → u ≡ false → {r : RunEnd} {mid after : Kept} {ms ks : List ℕ} → GivesRunEnd b before ws ms₀ ks₀ r mid ms ks
+    → after ≡ stored (view mid) → {x : RunEnd} → r ≡ x → {a : Answer} → reply a ≡ counted_reply (verdict_of x) (count_of x)
+    → GivesRunOn (sourced_run fine (table_image b) (view before) ws ms₀ ks₀) before a after ms ks
+unfolding state_after
+ran-answer e h f g ends tidied p q = grind (arith, common_steps, table-runs, writes)
 
 -- ---- one tick by the loop over one word
 
-module _ (b : List ℕ) (before : Kept) (w : ℕ) (r : RunEnd) (mid : Kept) (ms ks : List ℕ)
+module _ {b : List ℕ} {before : Kept} {w : ℕ} {r : RunEnd} {mid : Kept} {ms ks : List ℕ}
     (ends : GivesRunEnd b before (w ∷ []) (0 ∷ []) (0 ∷ []) r mid ms ks) where
   pub one-stopped-by : (y : Stop) (n : ℕ) → r ≡ stopped_after y n → IsStopped b before w y mid
   unfolding ticks
   one-stopped-by y n e = grind (arith, common_steps)
 
-  pub one-finished : (n : ℕ) → r ≡ Over n → tick (table_image b) (view before) w ≡ finished (slice_index ms 0) (slice_index ks 0) (view mid)
+  pub one-finished : {n : ℕ} → r ≡ Over n → tick (table_image b) (view before) w ≡ finished (slice_index ms 0) (slice_index ks 0) (view mid)
   unfolding ticks
-  one-finished n e = grind (arith, common_steps)
+  one-finished e = grind (arith, common_steps)
 
 -- ---- one tick on a table
 module _ (b : List ℕ) (before : Kept) (w : ℕ) where

@@ -1,34 +1,23 @@
 -- A run has as many masks as codes, makes at most one tick a word, and counts the ticks it made.
-use Rattle.std.proofs.Common.{ℕ, suc, ◌≤◌, ◌≡◌, refl, ap, List, [], ◌∷◌, arith, length, length-append}
+use Rattle.std.proofs.Common.{ℕ, ◌≤◌, ◌≡◌, refl, List, [], ◌∷◌, arith, length, length-append}
 use Rattle.std.proofs.lemmas.Grind.{common_steps}
 use Rattle.text.specs.frames.Answer.{reply_count}
 use Rattle.text.proofs.frames.Chains.{replied-count}
 use Rattle.image.specs.Image.{Image}
 use Rattle.state.specs.State.{State}
-use Rattle.ticks.specs.Tick.{MachineTick, finished, stopped, tick}
-use Rattle.runs.specs.Run.{run_after, ticks, run}
+use Rattle.runs.specs.Run.{ticks, run}
 
 -- as many masks as codes
 pub same-count : (i : Image) (ws : List ℕ) (s : State) → length (ticks i s ws).masks ≡ length (ticks i s ws).codes
 unfolding ticks
 same-count i [] s = refl
-same-count i (w ∷ ws) s = go (tick i s w) (same-count i ws)
-  where
-    go : (t : MachineTick) → ((u : State) → length (ticks i u ws).masks ≡ length (ticks i u ws).codes)
-        → length (run_after s (λ u. ticks i u ws) t).masks ≡ length (run_after s (λ u. ticks i u ws) t).codes
-    go (finished m code u) ih = ap suc (ih u)
-    go (stopped n) ih = refl
+same-count i (w ∷ ws) s = grind (arith, common_steps, same-count i ws)
 
 -- at most one tick a word
 ticks-most : (i : Image) (ws : List ℕ) (s : State) → length (ticks i s ws).codes ≤ length ws
 unfolding ticks
 ticks-most i [] s = omega arith
-ticks-most i (w ∷ ws) s = go (tick i s w) (ticks-most i ws)
-  where
-    go : (t : MachineTick) → ((u : State) → length (ticks i u ws).codes ≤ length ws)
-        → length (run_after s (λ u. ticks i u ws) t).codes ≤ suc (length ws)
-    go (finished m code u) ih = omega (arith, ih u)
-    go (stopped n) ih = omega arith
+ticks-most i (w ∷ ws) s = grind (arith, common_steps, ticks-most i ws)
 
 -- what is counted is in the buffer, and no more than the words
 pub run-count : (t : List ℕ) (s : State) (ws ms ks : List ℕ)

@@ -1,5 +1,5 @@
 -- A call, on an image or on a table, by the machine's tick on the image that is meant; and what a refused call leaves.
-use Rattle.std.proofs.Common.{if◌then◌else◌, ℕ, suc, ◌+◌, ◌-◌, Bool, true, false, ◌≡◌, refl, sym, ◌∙◌, ap, subst, List}
+use Rattle.std.proofs.Common.{if◌then◌else◌, ℕ, suc, ◌+◌, ◌-◌, Bool, true, false, ◌≡◌, refl, sym, ◌∙◌, List}
 use Rattle.std.proofs.Common.{set, arith}
 use Rattle.std.proofs.lemmas.Grind.{common_steps}
 use Rattle.text.specs.frames.Frame.{contents}
@@ -59,11 +59,11 @@ pub ruleset sourced = (text-spin, table-spin)
 
 pub spin-by : (t : List ℕ) (states : List State) (taken k w : ℕ)
     → spin t states taken k w ≡ spin_by (image_verdict t) (decoded_image (contents t)) states taken k w
-spin-by t states taken k w = sym (text-spin t states taken k w) ∙ sourced-spin-by (image_verdict t) (decoded_image (contents t)) states taken k w
+spin-by t states taken k w = sym (text-spin t states taken k w) ∙ sourced-spin-by _ _ states taken k w
 
 pub live-spin-by : (b : List ℕ) (states : List State) (taken k w : ℕ)
     → live_spin b states taken k w ≡ spin_by (when 11 (is_bad_table b)) (table_image b) states taken k w
-live-spin-by b states taken k w = sym (table-spin b states taken k w) ∙ sourced-spin-by (when 11 (is_bad_table b)) (table_image b) states taken k w
+live-spin-by b states taken k w = sym (table-spin b states taken k w) ∙ sourced-spin-by _ _ states taken k w
 
 -- ---- a state put back where it was
 
@@ -92,8 +92,8 @@ module _ (v : Verdict) (i : Image) (states : List State) (taken k w : ℕ) where
 
   comes-by : head_verdict v states taken k ≡ fine → (u : Verdict) → tick_tried v i s ≡ u → (d : MachineTick) → tick i s w ≡ d
       → Comes v i states taken k w (outcome_spun_by states taken k (advance_by s u d))
-  comes-by h (refused n j) f d e = subst (Comes v i states taken k w) (sym (kept-by states taken k n j)) (turns_back n j)
-  comes-by h fine f (stopped n) e = subst (Comes v i states taken k w) (sym (kept-by states taken k n 0)) (turns_back n 0)
+  comes-by h (refused n j) f d e = rw (kept-by) (turns_back n j)
+  comes-by h fine f (stopped n) e = rw (kept-by) (turns_back n 0)
   comes-by h fine f (finished m code t) e = go (is_none_left s.depth t.depth taken) refl
     where
       go : (b : Bool) → is_none_left s.depth t.depth taken ≡ b
@@ -121,14 +121,7 @@ module _ (v : Verdict) (i : Image) (states : List State) (taken k w : ℕ) where
 
 pub full-first : FullFirst
 unfolding FullFirst spin
-full-first t states taken k w h e =
-    let s : State = state_at states k in
-    let i : Image = decoded_image (contents t) in
-    subst (λ (x : TickOutcome). (outcome_spun_on (head_verdict (image_verdict t) states taken k) states taken k (λ _. x)).reply
-    ≡ refusal 17 0 0)
-    (sym (advance-by t s w))
-    (full-by (image_verdict t) i states taken k w h (tick_tried (image_verdict t) i s) (tick i s w)
-    (ap (λ (x : TickOutcome). x.reply) (sym (advance-by t s w)) ∙ e))
+full-first t states taken k w h e = grind (arith, common_steps, advance-by, full-by)
 
 pub level-goes : LevelGoes
 unfolding LevelGoes spin
@@ -140,8 +133,4 @@ refused-leaves t states taken k w = grind (arith, common_steps, spin-by, comes, 
 
 pub live-refused-leaves : RefusedLeaves live_spin
 unfolding RefusedLeaves
-live-refused-leaves b states taken k w =
-    let i : Image = table_image b in
-    leaves (when 11 (is_bad_table b)) i states taken k w
-    (subst (Comes (when 11 (is_bad_table b)) i states taken k w) (sym (live-spin-by b states taken k w))
-    (comes (when 11 (is_bad_table b)) i states taken k w))
+live-refused-leaves b states taken k w = rw (live-spin-by) (leaves _ _ states taken k w (comes _ _ states taken k w))

@@ -21,29 +21,28 @@ pub record Noting (b : List ℕ) (n f end : ℕ) : Type 0 where
   pub inside : end ≤ n
   pub rest : (m : ℕ) → f - labels_from b ≤ m → lowest (is_row_reached b m) end (n - end) ≡ first_frame b m
 
-module _ (b : List ℕ) (n : ℕ) (all : n ≡ size b) (fits : rows_from b ≤ n) where
-  unnoted-false : (f : ℕ) → is_noted b f ≡ false → is_misnoted b f ≡ false
-  unnoted-false f e = ap (λ (x : Bool). x && not (noted_in b (f - labels_from b) == first_frame b (f - labels_from b + 1))) e
+unnoted-false : (b : List ℕ) (f : ℕ) → is_noted b f ≡ false → is_misnoted b f ≡ false
+unnoted-false b f e = ap (λ (x : Bool). x && not (noted_in b (f - labels_from b) == first_frame b (f - labels_from b + 1))) e
 
-  pub noting-first : (f end : ℕ) → f ≡ labels_from b → end ≡ rows_from b → Noting b n f end
-  noting-first f end is last =
-      let none : lowest (is_misnoted b) 0 (f - 0) ≡ f =
-      lowest-none (is_misnoted b) 0 (f - 0) (λ k l. unnoted-false (0 + k) (noted-before b (0 + k) (omega arith))) ∙ omega arith in
-      record {
-        low = omega arith;
-        high = omega arith;
-        search = part-past (searching-first (is_misnoted b) n) (omega arith) (omega arith) (sym none) (omega arith);
-        behind = omega arith;
-        inside = omega arith;
-        rest = λ m _. ap₂ (λ (i k : ℕ). lowest (is_row_reached b m) i (k - i)) last all;
-      }
+pub noting-first : {b : List ℕ} {n f end : ℕ} → n ≡ size b → rows_from b ≤ n → f ≡ labels_from b → end ≡ rows_from b → Noting b n f end
+noting-first {b} {n} {f} {end} all fits is last =
+    let none : lowest (is_misnoted b) 0 (f - 0) ≡ f =
+    lowest-none (is_misnoted b) 0 (f - 0) (λ k l. unnoted-false b (0 + k) (noted-before b (0 + k) (omega arith))) ∙ omega arith in
+    record {
+      low = omega arith;
+      high = omega arith;
+      search = part-past (searching-first (is_misnoted b) n) (omega arith) (omega arith) (sym none) (omega arith);
+      behind = omega arith;
+      inside = omega arith;
+      rest = λ m _. ap₂ (λ (i k : ℕ). lowest (is_row_reached b m) i (k - i)) last all;
+    }
 
-  module _ (f end : ℕ) (N : Noting b n f end) (l next : ℕ) (is : l ≡ f - labels_from b + 1)
-      (e : next ≡ lowest (is_row_reached b l) end (n - end)) where
+module _ {b : List ℕ} {n f end : ℕ} (N : Noting b n f end) where
+  module _ {l next : ℕ} (is : l ≡ f - labels_from b + 1) (e : next ≡ lowest (is_row_reached b l) end (n - end)) where
     first-is : next ≡ first_frame b (f - labels_from b + 1)
     first-is = e ∙ ap (λ (m : ℕ). lowest (is_row_reached b m) end (n - end)) is ∙ N.rest (f - labels_from b + 1) (omega arith)
 
-    module _ (inside : f < rows_from b) (note : ℕ) (read : note ≡ field b f 0 + field b f 1 * 256) where
+    module _ (inside : f < rows_from b) {note : ℕ} (read : note ≡ field b f 0 + field b f 1 * 256) where
       noted-is : note ≡ noted_in b (f - labels_from b)
       noted-is = read
           ∙ ap (λ (m : ℕ). field b m 0 + field b m 1 * 256) (let q : f ≡ labels_from b + (f - labels_from b) = omega (arith, N.low) in q)
@@ -53,14 +52,14 @@ module _ (b : List ℕ) (n : ℕ) (all : n ≡ size b) (fits : rows_from b ≤ n
 
       pub noting-found : (note ≡ next → ⊥) → f ≡ lowest (is_misnoted b) 0 n
       noting-found other =
-          searching-found (is_misnoted b) n f (lowest (is_misnoted b) 0 n) N.search (omega (arith, N.high))
+          searching-found (is_misnoted b) n f (lowest (is_misnoted b) 0 n) N.search (omega (arith, N.behind, N.inside))
           (tested false (ne_eqb note next other))
 
       pub noting-next : note ≡ next → Noting b n (f + 1) next
       noting-next same = record {
         low = omega (arith, N.low);
         high = omega arith;
-        search = searching-next (is_misnoted b) n f (lowest (is_misnoted b) 0 n) N.search (omega arith)
+        search = searching-next (is_misnoted b) n f (lowest (is_misnoted b) 0 n) N.search (omega (arith, N.behind, N.inside))
             (tested true (eq-eqb note next same));
         behind = omega (arith, e, N.behind, lowest-above (is_row_reached b l) end (n - end));
         inside = omega (arith, e, lowest-inside (is_row_reached b l) end n N.inside);
@@ -70,8 +69,8 @@ module _ (b : List ℕ) (n : ℕ) (all : n ≡ size b) (fits : rows_from b ≤ n
             ∙ N.rest m (omega (arith, N.low));
       }
 
-  pub noting-over : (f end : ℕ) → Noting b n f end → rows_from b ≤ f → n ≡ lowest (is_misnoted b) 0 n
-  noting-over f end N h =
-      sym (lowest-none (is_misnoted b) f (n - f) (λ k l. unnoted-false (f + k) (noted-behind b (f + k) (omega arith)))
+  pub noting-over : rows_from b ≤ f → n ≡ lowest (is_misnoted b) 0 n
+  noting-over h =
+      sym (lowest-none (is_misnoted b) f (n - f) (λ k l. unnoted-false b (f + k) (noted-behind b (f + k) (omega arith)))
       ∙ (let q : f + (n - f) ≡ n = omega (arith, N.search.inside) in q))
       ∙ N.search.left

@@ -1,9 +1,9 @@
 -- What the verdict on a table tells, and what makes it fine.
-use Rattle.std.proofs.Common.{◌≡◌, refl, true, false, not, List, [], ◌∷◌, ℕ, ◌+◌, ◌%◌, ◌<◌, arith, ◌==◌, length, eqb-true, eq-eqb}
-use Rattle.words.proofs.lists.Tests.{or-l, or-r, or-none, not-false}
+use Rattle.std.proofs.Common.{◌≡◌, refl, true, false, not, List, [], ◌∷◌, ℕ, ◌+◌, ◌%◌, ◌<◌, arith, ◌==◌, length}
+use Rattle.words.proofs.lists.Tests.{or-r}
 use Rattle.text.specs.frames.Frame.{size}
-use Rattle.text.specs.frames.Verdict.{Verdict, fine, next, when, at_lowest}
-use Rattle.text.proofs.frames.Verdicts.{next-first, next-rest, when-fine, at-lowest-fine, at-none}
+use Rattle.text.specs.frames.Verdict.{fine}
+use Rattle.text.proofs.frames.Verdicts.{at-lowest-fine, at-none}
 use Rattle.image.specs.Decode.{row_count, rows_from}
 use Rattle.image.specs.Check.{is_bad_header, has_bad_content}
 use Rattle.image_check.proofs.TableCases.{header-size}
@@ -26,38 +26,18 @@ pub record Passed (b : List ℕ) : Type 0 where
   pub notes : (f : ℕ) → f < size b → is_misnoted b f ≡ false
 
 module _ (b : List ℕ) where
-  notes_tried : Verdict
-  notes_tried = at_lowest 13 (is_misnoted b) (size b)
-
-  fields_tried : Verdict
-  fields_tried = next (at_lowest 13 (has_bad_content b) (size b)) λ _. at_lowest 13 (is_misnoted b) (size b)
-
-  frames_tried : Verdict
-  frames_tried =
-      next (at_lowest 12 (is_displaced b) (size b)) λ _.
-      next (at_lowest 13 (has_bad_content b) (size b)) λ _.
-      at_lowest 13 (is_misnoted b) (size b)
-
   pub passed-told : prepared_verdict b ≡ fine → Passed b
-  unfolding prepared_verdict fields_tried frames_tried notes_tried
-  passed-told e =
-      let header : is_no_table b ≡ false = when-fine 11 (is_no_table b) (next-first (when 11 (is_no_table b)) (λ _. frames_tried) e) in
-      let frames : frames_tried ≡ fine = next-rest (when 11 (is_no_table b)) (λ _. frames_tried) e in
-      let fields : fields_tried ≡ fine = next-rest (at_lowest 12 (is_displaced b) (size b)) (λ _. fields_tried) frames in
-      record {
-        whole = eqb-true (length b % 10) 0 (not-false (length b % 10 == 0)
-            (or-l (not (length b % 10 == 0)) (is_bad_header b) header));
-        header = or-r (not (length b % 10 == 0)) (is_bad_header b) header;
-        placed = at-lowest-fine 12 (is_displaced b) (size b)
-            (next-first (at_lowest 12 (is_displaced b) (size b)) (λ _. fields_tried) frames);
-        contents = at-lowest-fine 13 (has_bad_content b) (size b)
-            (next-first (at_lowest 13 (has_bad_content b) (size b)) (λ _. notes_tried) fields);
-        notes = at-lowest-fine 13 (is_misnoted b) (size b)
-            (next-rest (at_lowest 13 (has_bad_content b) (size b)) (λ _. notes_tried) fields);
-      }
+  unfolding prepared_verdict
+  passed-told e = record {
+    whole = grind (arith, common_steps);
+    header = grind (arith, common_steps);
+    placed = at-lowest-fine 12 (is_displaced b) (size b) (grind (arith, common_steps));
+    contents = at-lowest-fine 13 (has_bad_content b) (size b) (grind (arith, common_steps));
+    notes = at-lowest-fine 13 (is_misnoted b) (size b) (grind (arith, common_steps));
+  }
 
   pub passed-fine : Passed b → prepared_verdict b ≡ fine
-  unfolding prepared_verdict fields_tried frames_tried notes_tried
-  passed-fine p = grind (arith, common_steps, at-none, or-none, eq-eqb, notes_tried, fields_tried, frames_tried)
+  unfolding prepared_verdict
+  passed-fine p = grind (arith, common_steps, at-none)
 
 pub ruleset header_told = (empty-no-table, header-tells)

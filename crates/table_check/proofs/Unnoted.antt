@@ -1,6 +1,6 @@
 -- A table that passes, with the notes of its labels taken back: the contents of an image that is accepted, which are noted as the table is.
-use Rattle.std.proofs.Common.{ℕ, zero, suc, ◌+◌, ◌*◌, ◌-◌, ◌/◌, ◌%◌, ◌≤◌, ◌<◌, Bool, false, ◌&&◌, not, ◌≡◌, refl, sym, ◌∙◌, ap, ap₂, ⊎_elim, List, map, arith}
-use Rattle.std.proofs.Common.{slice_index, length, ext_get_or, eq-eqb, eqb-true}
+use Rattle.std.proofs.Common.{ℕ, zero, suc, ◌+◌, ◌*◌, ◌-◌, ◌/◌, ◌%◌, ◌≤◌, ◌<◌, Bool, false, not, ◌≡◌, refl, sym, ◌∙◌, ap, ap₂, List, map, arith}
+use Rattle.std.proofs.Common.{slice_index, length, ext_get_or, eqb-true}
 use Rattle.std.proofs.Math.Decide.{ℕ_discrete}
 use Rattle.std.proofs.Math.ListN.{get_or-eq_default}
 use Rattle.words.specs.lists.Numbers.{range}
@@ -11,7 +11,7 @@ use Rattle.text.specs.frames.Verdict.{Verdict, fine, next, when, at_lowest}
 use Rattle.text.proofs.frames.Verdicts.{at-none}
 use Rattle.text.proofs.frames.Contents.{text_of-fine, text_of-contents}
 use Rattle.image.specs.Decode.{last_label, row_count, labels_from, rows_from}
-use Rattle.image.specs.Check.{Position, header_position, entry_position, label_position, row_position, position_of, is_stray_frame, is_stray, has_bad_content}
+use Rattle.image.specs.Check.{Position, header_position, entry_position, label_position, row_position, position_of, is_stray, has_bad_content}
 use Rattle.image.specs.Check.{table_verdict, image_verdict}
 use Rattle.image.proofs.Accepted.{counted}
 use Rattle.image_check.proofs.TableCases.{header-size}
@@ -86,11 +86,7 @@ module _ (b : List ℕ) where
 
       label-placed : is_stray unnoted f ≡ false
       unfolding is_stray
-      label-placed =
-          ap (is_stray_frame unnoted f)
-          (at-label unnoted f (omega (arith, labels-from-alike b unnoted alike)) (omega (arith, rows-from-alike b unnoted alike)))
-          ∙ ap not (ap₂ ◌&&◌ (eq-eqb (field unnoted f 0) 17 kind-back)
-          (eq-eqb (field unnoted f 1) (f - labels_from unnoted) (omega (arith, number-back, labels-from-alike b unnoted alike))))
+      label-placed = grind (arith, common_steps, at-label, kind-back, number-back, labels-from-alike, rows-from-alike, unnoted-alike)
 
     other-placed : (f : ℕ) → f < size b → is_noted b f ≡ false → is_stray unnoted f ≡ false
     other-placed f h e =
@@ -160,15 +156,7 @@ module _ (b : List ℕ) where
           noted-late unnoted f (suc (suc k)) (omega arith) h ∙ alike.fields f (suc (suc k)) h (λ m n. omega arith)
 
     noted-field : (f k : ℕ) → k < 10 → field (noted_table unnoted) f k ≡ field b f k
-    noted-field f k h =
-        ⊎_elim (λ (m : f < labels_from b).
-        noted-front unnoted f k (omega (arith, labels-from-alike b unnoted alike)) h ∙ alike.fields f k h (λ x y. absurd (omega arith)))
-        (λ (m : labels_from b ≤ f).
-        ⊎_elim (λ (n : f < rows_from b). note-field f m n k h)
-        (λ (n : rows_from b ≤ f).
-        noted-row unnoted f k (omega (arith, rows-from-alike b unnoted alike)) h ∙ alike.fields f k h (λ x y. absurd (omega arith)))
-        (split f (rows_from b)))
-        (split f (labels_from b))
+    noted-field f k h = grind (arith, common_steps, split, noted-front, noted-row, note-field, labels-from-alike, rows-from-alike, unnoted-alike)
 
     pub noted-back : noted_table unnoted ≡ b
     noted-back =

@@ -4,19 +4,14 @@ use Rattle.std.proofs.Common.{rules}
 use Rattle.covering.proofs.is_uneven.Goals as goal
 
 pub loop-l-init : goal.loop-l-init
-loop-l-init c = trying-start _ c.requires _ _ c.byte-last.ensures c.rows_from-first.ensures
+loop-l-init c = search (rules, trying-start)
 
 pub uneven_rows-requires : goal.uneven_rows-requires
-uneven_rows-requires c =
-    record {
-      in_order = end-after _ _ _ _ c.loop-l.invariant (search rules) _ c.rows_end.ensures _ c.unwrap_or-end.ensures;
-      inside = end-inside _ _ _ _ c.loop-l.invariant (search rules) _ c.rows_end.ensures _ c.unwrap_or-end.ensures;
-      few = end-near _ _ _ _ c.loop-l.invariant (search rules) _ c.rows_end.ensures _ c.unwrap_or-end.ensures;
-    }
+uneven_rows-requires c = search (rules, end-after, end-inside, end-near)
 
 pub returns-then-uneven_rows : goal.returns-then-uneven_rows
 returns-then-uneven_rows c =
-    trying-hit _ _ _ _ c.loop-l.invariant (search rules) _ c.rows_end.ensures _ c.unwrap_or-end.ensures _ c.uneven_rows.ensures c.if-uneven_rows.true
+    search (rules, trying-hit)
 
 pub loop-l-preserved : goal.loop-l-preserved
 loop-l-preserved c =

@@ -5,11 +5,11 @@ use Rattle.dry_runs.proofs.dry_run.Goals as goal
 use Rattle.dry_runs.proofs.Steps.{untranslated, unmade, ran}
 
 pub returns-in_err-count : goal.returns-in_err-count
-returns-in_err-count c = untranslated _ _ _ _ _ _ _ _ c.translate.ensures _ c.in_err-count.was _ (search rules)
+returns-in_err-count c = untranslated _ _ _ _ _ _ c.translate.ensures c.in_err-count.was (search rules)
 
 pub returns-in_err-made : goal.returns-in_err-made
 returns-in_err-made c =
-    unmade _ _ _ _ _ _ _ _ c.translate.ensures _ c.in_ok-count.was _ c.fresh-made.ensures _ c.in_err-made.was _ (search rules)
+    unmade _ _ _ _ _ _ c.translate.ensures c.in_ok-count.was c.fresh-made.ensures c.in_err-made.was (search rules)
 
 pub slice_bounds-written-end : goal.slice_bounds-written-end
 slice_bounds-written-end c = done-fits _ _ _ _ _ c.translate.ensures.answered c.in_ok-count.was c.translate.auto.out
@@ -19,4 +19,4 @@ slice_bounds-written-end-2 c = done-part _ _ _ _ _ c.translate.ensures.answered 
 
 pub returns : goal.returns
 returns c =
-    ran _ _ _ _ _ _ _ _ c.translate.ensures _ c.in_ok-count.was _ c.fresh-made.ensures _ _ _ _ c.run_apart-report.ensures _ c.in_ok-made.was
+    ran _ _ _ _ _ _ c.translate.ensures c.in_ok-count.was c.fresh-made.ensures c.run_apart-report.ensures c.in_ok-made.was

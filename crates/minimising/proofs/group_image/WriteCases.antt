@@ -73,8 +73,7 @@ module _ (b buffer : List ℕ) (G : Grouped b buffer) where
   first-same l k = ap (λ (x : ℕ). x == l) (inside l k)
 
   number-same : (l : ℕ) → l < n → renumbered_label buffer l ≡ renumbered_label c l
-  number-same l k = ap (λ (x : ℕ). count (is_first buffer) 0 x) (inside l k)
-      ∙ count-alike (is_first c) (is_first buffer) 0 (class_of c l) (λ m x y. first-same m (omega (arith, R.below l k)))
+  number-same l k = grind (arith, common_steps, inside, count-alike, first-same, R.below l)
 
   row-same : (r : Row) → SoundRow i r × (is_first c r.from ≡ true) → renumbered_row buffer r ≡ renumbered_row c r
   row-same r x = grind (arith, common_steps, inside, number-same)
@@ -104,7 +103,7 @@ module _ (b buffer : List ℕ) (G : Grouped b buffer) where
   sound = subst SoundImage (sym joined-same) (joined-sound i S (grouping i) R)
 
   pieces-smaller : all_pieces b buffer ≡ image_text (smaller_image i)
-  pieces-smaller = pieces-are b buffer G.table.all ∙ ap image_text joined-same
+  pieces-smaller = grind (arith, pieces-are, joined-same)
 
   module _ (numbers : List ℕ) (schemes last first groups rows : ℕ) (e₁ : schemes ≡ scheme_count b)
       (e₂ : last ≡ last_label b) (e₃ : first ≡ rows_from b)
@@ -112,7 +111,7 @@ module _ (b buffer : List ℕ) (G : Grouped b buffer) where
       (G₁ : groups ≡ count (is_first buffer) 0 (last + 1))
       (K : rows ≡ count_by (λ f. is_first buffer (field b f 1)) (range_with_len first (size b - first))) where
     groups-is : groups ≡ groups_in b buffer
-    groups-is = G₁ ∙ ap (λ (x : ℕ). count (is_first buffer) 0 (x + 1)) e₂
+    groups-is = grind arith
 
     rows-is : rows ≡ rows_kept b buffer
     rows-is = grind (arith, common_steps, count-chain)

@@ -1,9 +1,8 @@
 -- Rows of the smaller image: those that match are the rows of the lowest member that match, led to the new labels, so there is just one.
-use Rattle.std.proofs.Common.{if◌then◌else◌, ℕ, zero, suc, ◌≤◌, ◌<◌, Bool, true, false, ◌≡◌, sym, ◌∙◌, ap, List, [], ◌∷◌, map, arith, ◌==◌, filter}
+use Rattle.std.proofs.Common.{if◌then◌else◌, ℕ, zero, suc, ◌≤◌, ◌<◌, Bool, true, false, ◌≡◌, ◌∙◌, List, [], ◌∷◌, map, arith, ◌==◌, filter}
 use Rattle.std.proofs.Common.{length, eqb-true, eq-eqb, ne_eqb}
 use Rattle.std.proofs.Math.ListN.{length-map}
 use Rattle.std.proofs.lemmas.Grind.{common_steps}
-use Rattle.words.specs.lists.Numbers.{count}
 use Rattle.words.proofs.lists.Tests.{no_both}
 use Rattle.words.proofs.lists.Counts.{count-le, count-apart}
 use Rattle.words.proofs.lists.Ranges.{filter-yes, filter-no}
@@ -14,7 +13,7 @@ use Rattle.rows.specs.Rows.{is_candidate}
 use Rattle.covering.specs.Matched.{hits, is_uneven}
 use Rattle.covering.proofs.Hits.{OneRow, the-row, even-of}
 use Rattle.grouping.specs.Classes.{class_of, is_first}
-use Rattle.grouping.proofs.Onward.{label_led_to, onward_label}
+use Rattle.grouping.proofs.Onward.{onward_label}
 use Rattle.grouping.proofs.Rounds.{ClassRound}
 use Rattle.minimising.specs.group_numbers.Smaller.{renumbered_label, renumbered_row, joined_labels}
 use Rattle.minimising.proofs.group_numbers.Numbering.{Nth, nth, class-first, class-high, new-first, labels-count}
@@ -82,6 +81,4 @@ module _ (i : Image) (S : SoundImage i) (c : List ℕ) (R : ClassRound i c) wher
         let m : ℕ = class_of c l in
         let hm : m < n = omega (arith, R.below l h) in
         let x = the-row i one m w b (class-high i S c R l h low) hm in
-        ap (label_led_to (new l)) (matching-led l w (if b then 1 else 0) h ∙ ap (map (renumbered_row c)) x.1)
-        ∙ ap new (sym (ap (label_led_to m) x.1))
-        ∙ ap (λ (y : ℕ). count (is_first c) 0 y) (leads m l hm h (R.own l h) w b)
+        grind (arith, matching-led l w (if b then 1 else 0) h, x.1, leads m l hm h (R.own l h) w b)

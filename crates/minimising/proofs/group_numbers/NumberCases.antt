@@ -1,7 +1,6 @@
 -- Cases of the functions that number the groups and count what is kept.
-use Rattle.std.proofs.Common.{if◌then◌else◌, ℕ, ◌+◌, ◌≤◌, ◌<◌, ◌≡◌, refl, sym, ◌∙◌, ap, ap₂, Bool, true, false, List, zero-add, add-one, slice_index}
-use Rattle.std.proofs.Common.{arith, length, set, subst, get_or-set_same, get_or-set_other}
-use Rattle.std.proofs.Math.Decide.{ℕ_discrete}
+use Rattle.std.proofs.Common.{if◌then◌else◌, ℕ, ◌+◌, ◌≤◌, ◌<◌, ◌≡◌, ◌∙◌, Bool, true, false, List, slice_index}
+use Rattle.std.proofs.Common.{arith, length, set, get_or-set_same, get_or-set_other}
 use Rattle.std.proofs.lemmas.Grind.{common_steps}
 use Rattle.words.specs.lists.Numbers.{count}
 use Rattle.words.specs.lists.Sequences.{over}
@@ -13,9 +12,6 @@ use Rattle.words.proofs.lists.Counts.{count-snoc, count-le}
 use Rattle.grouping.specs.Classes.{is_first}
 use Rattle.minimising.specs.group_numbers.Smaller.{renumbered_label}
 use Rattle.minimising.specs.inner.NumberContracts.{LowestOfClass, group_numbers}
-
-less-of : (a b : ℕ) → a ≤ b → (a ≡ b → ⊥) → a < b
-less-of a b k ne = grind (arith, common_steps)
 
 -- ---- number_groups: the labels below l have their numbers
 pub record NumberTurn (c old numbers : List ℕ) (n groups l : ℕ) : Type 0 where
@@ -41,20 +37,11 @@ module _ (c old numbers : List ℕ) (n groups l : ℕ) (low : LowestOfClass c n)
       → NumberTurn c old (set numbers l v) n (groups + x) (l + 1)
   turn-on v x e w most = record {
     room = t.room;
-    filled = subst (λ (j : ℕ). ValuesFrom (renumbered_label c) old (set numbers j v) 0 n (l + 1)) (let z : 0 + l ≡ l = omega arith in z)
-        (values-turn (renumbered_label c) old 0 n numbers l v (omega (arith, t.room)) t.filled h (e ∙ number-is (is_first c l) refl));
-    is = ap₂ ◌+◌ t.is w
-        ∙ sym (ap (count (is_first c) 0) (add-one l) ∙ count-snoc (is_first c) 0 l
-        ∙ ap (λ (k : ℕ). count (is_first c) 0 l + (if is_first c k then 1 else 0)) (zero-add l));
+    filled = grind (arith, t.room, t.filled, values-turn (renumbered_label c) old 0 n numbers l v, number-is (is_first c l));
+    is = grind (arith, t.is, count-snoc (is_first c) 0 l);
     few = omega (arith, t.few, most);
-    at = λ k j. go k j (ℕ_discrete k l);
+    at = λ k j. grind (arith, common_steps, get_or-set_same, get_or-set_other, t.at k, t.room, t.filled.size, number-is (is_first c l));
   }
-    where
-      go : (k : ℕ) → k < l + 1 → Dec (k ≡ l) → slice_index (set numbers l v) k ≡ renumbered_label c k
-      go k j (yes q) = ap (λ (m : ℕ). slice_index (set numbers l v) m) q
-          ∙ get_or-set_same numbers l v 0 (omega (arith, t.room, t.filled.size)) ∙ e
-          ∙ number-is (is_first c l) refl ∙ ap (renumbered_label c) (sym q)
-      go k j (no q) = get_or-set_other numbers l k v 0 q ∙ t.at k (less-of k l (omega arith) q)
 
 module _ (c old numbers : List ℕ) (n : ℕ) where
   pub turn-all : (groups l : ℕ) → NumberTurn c old numbers n groups l → n ≤ l → numbers ≡ over (group_numbers c n) old

@@ -11,7 +11,7 @@ use Rattle.words.proofs.lists.Counts.{count-snoc, count-le, count-mono, count-be
 use Rattle.words.proofs.lists.Ranges.{length-filter, get_or-filter, get_d-map, filter-yes, filter-no}
 use Rattle.words.proofs.lists.Filters.{filter-none}
 use Rattle.words.proofs.lists.Joins.{all-at, all-places, all-map, all-of, all-filter}
-use Rattle.image.specs.Image.{Image, Label, Row, no_row, nth_row}
+use Rattle.image.specs.Image.{Image, Row, no_row, nth_row}
 use Rattle.image.specs.inner.Sound.{nth_label, end_of, Reaches, SoundLabel, SoundRow, SoundImage}
 use Rattle.image.proofs.Rising.{Rising, rising-at}
 use Rattle.state.specs.State.{label_at}
@@ -77,13 +77,13 @@ module _ (i : Image) (S : SoundImage i) (c : List ℕ) (R : ClassRound i c) wher
   next-first k e = grind (arith, common_steps, eq-eqb, cond-true, zero-add, count-snoc)
 
   pub new-zero : new 0 ≡ 0
-  new-zero = ap (λ (x : ℕ). count (is_first c) 0 x) class-zero ∙ count-zero
+  new-zero = grind (arith, class-zero, count-zero)
 
   pub new-one : new 1 ≡ 1
-  new-one = ap (λ (x : ℕ). count (is_first c) 0 x) class-one ∙ next-first 0 class-zero ∙ ap suc count-zero
+  new-one = grind (arith, class-one, next-first 0 class-zero, count-zero)
 
   count-two : count (is_first c) 0 2 ≡ 2
-  count-two = next-first 1 class-one ∙ ap suc (next-first 0 class-zero) ∙ ap (λ (x : ℕ). suc (suc x)) count-zero
+  count-two = omega (arith, next-first 1 class-one, next-first 0 class-zero, count-zero)
 
   count-rises : (k l : ℕ) → k ≤ l → count (is_first c) 0 k ≤ count (is_first c) 0 l
   count-rises k l h = grind (arith, count-mono (is_first c) k (l - k))
@@ -93,7 +93,7 @@ module _ (i : Image) (S : SoundImage i) (c : List ℕ) (R : ClassRound i c) wher
 
   -- a label that is the lowest of its group
   pub new-first : (l : ℕ) → is_first c l ≡ true → new l ≡ count (is_first c) 0 l
-  new-first l t = ap (λ (x : ℕ). count (is_first c) 0 x) (eqb-true (class_of c l) l t)
+  new-first l t = grind (arith, eqb-true)
 
   -- ---- the smaller image by number
   pub labels-count : length (joined_labels i c).labels ≡ count (is_first c) 0 n
@@ -134,23 +134,20 @@ module _ (i : Image) (S : SoundImage i) (c : List ℕ) (R : ClassRound i c) wher
 
   rising-led : (m k : ℕ) (rs : List Row) → Rising m rs → ((x : ℕ) → m ≤ x → is_first c x ≡ true → k ≤ new x)
       → Rising k (map (renumbered_row c) (filter (λ r. is_first c r.from) rs))
-  rising-led m k [] a h = subst (λ (rs : List Row). Rising k (map (renumbered_row c) rs)) (sym (filter-none (λ r. is_first c r.from))) tt
+  rising-led m k [] a h = grind (arith, common_steps, filter-none)
   rising-led m k (r ∷ rs) a h = go (is_first c r.from) refl (rising-led r.from (new r.from) rs a.1)
       (rising-led r.from k rs a.1)
     where
-      test : Row → Bool
-      test = λ s. is_first c s.from
-
       go : (t : Bool) → is_first c r.from ≡ t
           → (((x : ℕ) → r.from ≤ x → is_first c x ≡ true → new r.from ≤ new x)
           → Rising (new r.from) (map (renumbered_row c) (filter (λ s. is_first c s.from) rs)))
           → (((x : ℕ) → r.from ≤ x → is_first c x ≡ true → k ≤ new x)
           → Rising k (map (renumbered_row c) (filter (λ s. is_first c s.from) rs)))
           → Rising k (map (renumbered_row c) (filter (λ s. is_first c s.from) (r ∷ rs)))
-      go true e ih _ = subst (λ (ss : List Row). Rising k (map (renumbered_row c) ss)) (sym (filter-yes (λ s. is_first c s.from) r rs e))
-          (h r.from a.0 e, ih (λ x l t. omega (arith, new-first r.from e, new-first x t, count-rises r.from x l)))
-      go false e _ ih = subst (λ (ss : List Row). Rising k (map (renumbered_row c) ss)) (sym (filter-no (λ s. is_first c s.from) r rs e))
-          (ih (λ x l t. h x (omega (arith, a.0)) t))
+      go true e ih _ = grind (arith, common_steps, filter-yes (λ s. is_first c s.from) r rs e, h r.from a.0 e, ih, new-first, count-rises)
+      go false e _ ih =
+          let rest = ih (λ x l t. h x (omega (arith, a.0)) t) in
+          grind (arith, common_steps, filter-no (λ s. is_first c s.from) r rs e, rest)
 
   rows-rising : (k : ℕ) → suc k < length (joined_labels i c).rows
       → (nth_row (joined_labels i c) k).from ≤ (nth_row (joined_labels i c) (suc k)).from
@@ -174,11 +171,7 @@ module _ (i : Image) (S : SoundImage i) (c : List ℕ) (R : ClassRound i c) wher
       → SoundLabel (length (joined_labels i c).entries) (nth_label (joined_labels i c) l)
   label-sound l low high =
       let x : Nth (is_first c) n l = nth (is_first c) n l (omega (arith, labels-count)) in
-      let e : new x.member ≡ l = new-first x.member x.passes ∙ x.number in
-      let big : 2 ≤ x.member = member-high x.member (omega (arith, x.number)) in
-      subst (λ (k : ℕ). SoundLabel (length (joined_labels i c).entries) (nth_label (joined_labels i c) k)) e
-      (subst (λ (y : Label). SoundLabel (length (joined_labels i c).entries) y) (sym (label-new x.member x.inside))
-      (subst (λ (k : ℕ). SoundLabel k (label_at i x.member)) (sym entries-count) (S.others x.member big x.inside)))
+      grind (arith, common_steps, new-first x.member x.passes, x.number, member-high x.member, label-new x.member x.inside, entries-count, S.others x.member)
 
   handler-new : ((joined_labels i c).handler ≡ 0 → ⊥) → (2 ≤ (joined_labels i c).handler)
       × ((joined_labels i c).handler ≤ length (joined_labels i c).entries)

@@ -1,5 +1,5 @@
 -- Cases of the functions that write the pieces.
-use Rattle.std.proofs.Common.{if◌then◌else◌, ℕ, ◌+◌, ◌-◌, ◌≤◌, ◌<◌, ◌≡◌, refl, ◌∙◌, ap, subst, List, [], arith, length, slice_index}
+use Rattle.std.proofs.Common.{if◌then◌else◌, ℕ, ◌+◌, ◌-◌, ◌≤◌, ◌<◌, ◌≡◌, refl, ap, List, [], arith, length, slice_index}
 use Rattle.std.proofs.Common.{eq-eqb, ne_eqb}
 use Rattle.std.proofs.lemmas.Grind.{common_steps}
 use Rattle.words.specs.lists.Sequences.{written}
@@ -31,7 +31,7 @@ module _ (t frame : List ℕ) (out : List ℕ) (at : ℕ) where
   frame-put e h out' q = grind (arith, common_steps, length-frame)
 
 module _ (b c numbers : List ℕ) (N : NumberedGroups b c numbers) (f : ℕ) where
-  pub table-all : size b ≡ rows_from b + row_count b
+  table-all : size b ≡ rows_from b + row_count b
   table-all = N.table.all
 
   -- ---- put_kept_label
@@ -39,14 +39,11 @@ module _ (b c numbers : List ℕ) (N : NumberedGroups b c numbers) (f : ℕ) whe
     abbrev l : ℕ
     l = f - m
 
-    pub label-low : l ≤ last_label b
+    label-low : l ≤ last_label b
     label-low = omega arith
 
-    pub label-frame : f < size b
-    label-frame = omega (arith, table-all)
-
     at-label : position_of b f ≡ label_position l
-    at-label = ap (position_of b) (let z : f ≡ labels_from b + l = omega arith in z) ∙ position-of-label b l label-low
+    at-label = grind (arith, position-of-label b l)
 
     pub label-skip : (slice_index c l ≡ l → ⊥) → piece b c f ≡ []
     label-skip n = grind (arith, common_steps, cond-false, ne_eqb, at-label)
@@ -63,11 +60,10 @@ module _ (b c numbers : List ℕ) (N : NumberedGroups b c numbers) (f : ℕ) whe
     inside = omega (arith, table-all)
 
     row-is : decode.row_in b k ≡ row_in_frame b f
-    row-is = ap (row_in_frame b) (let z : rows_from b + k ≡ f = omega arith in z)
+    row-is = grind arith
 
     sound-row : SoundRow (decoded_image b) (row_in_frame b f)
-    sound-row =
-        subst (SoundRow (decoded_image b)) (row-read b k inside ∙ row-is) (N.table.image.each k (omega (arith, inside, rows-count b)))
+    sound-row = grind (arith, row-read b k, row-is, inside, rows-count b, N.table.image.each k)
 
     led-is : row_numbered_by numbers (row_in_frame b f) ≡ renumbered_row c (row_in_frame b f)
     led-is = grind (arith, labels-count, inside, sound-row)
@@ -76,8 +72,7 @@ module _ (b c numbers : List ℕ) (N : NumberedGroups b c numbers) (f : ℕ) whe
     at-row = grind (arith, position-of-row b k, row-is)
 
     pub row-skip : (slice_index c x ≡ x → ⊥) → piece b c f ≡ []
-    row-skip n =
-        at-row ∙ cond-false (is_first c x) (frame_text (row_frame (renumbered_row c (row_in_frame b f)))) [] (ne_eqb (slice_index c x) x n)
+    row-skip n = grind (arith, common_steps, cond-false, ne_eqb, at-row)
 
     pub row-kept : slice_index c x ≡ x → piece b c f ≡ frame_text (row_frame (row_numbered_by numbers (row_in_frame b f)))
     row-kept q = grind (arith, common_steps, eq-eqb, cond-true, led-is, at-row)
@@ -111,11 +106,7 @@ module _ (b c numbers : List ℕ) (N : NumberedGroups b c numbers) (s g r h : �
         (frame-put (piece b c 0) (header_bytes s (g - 1) r h) out 0 header-kept refl out' q)
 
     pub header-room : 23 ≤ length out
-    header-room =
-        let x : 0 + length (piece b c 0) ≤ length out =
-        appended-room (piece b c) out out 0 0 (size b) 0 (appended-start (piece b c) out 0 (size b)) (omega (arith, some)) room-n in
-        let y : 0 + 23 ≤ length out = frame-room (piece b c 0) (header_bytes s (g - 1) r h) out 0 header-kept refl (length out) x in
-        omega arith
+    header-room = grind (arith, appended-room (piece b c) out out 0 0 (size b) 0, appended-start (piece b c) out 0 (size b), frame-room (piece b c 0) (header_bytes s (g - 1) r h) out 0, header-kept, some)
 
 -- what a loop that starts behind the header has written into the buffer, whatever stood there before the header
 pub record Rest (piece : ℕ → List ℕ) (out₀ out : List ℕ) (place n f : ℕ) : Type 0 where

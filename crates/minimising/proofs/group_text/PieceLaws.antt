@@ -1,5 +1,5 @@
 -- The pieces of all frames, joined, are the text of the smaller image.
-use Rattle.std.proofs.Common.{if◌then◌else◌, ℕ, zero, suc, ◌+◌, ◌≤◌, ◌<◌, ◌≡◌, refl, sym, ◌∙◌, ap, ap₂, Bool, true, false, List, [], ◌++◌, flat_map, filter}
+use Rattle.std.proofs.Common.{if◌then◌else◌, ℕ, zero, suc, ◌+◌, ◌≤◌, ◌<◌, ◌≡◌, refl, ◌∙◌, ap, Bool, true, false, List, [], ◌++◌, flat_map, filter}
 use Rattle.std.proofs.Common.{map, append-nil, zero-add, arith, length, eqb-true}
 use Rattle.std.proofs.Math.ListN.{length-map}
 use Rattle.std.proofs.lemmas.Grind.{common_steps}
@@ -36,7 +36,7 @@ module _ (c : List ℕ) where
       (range a m)
   unfolding map_from
   entries-text e a zero = refl
-  entries-text e a (suc m) = ap (λ (t : List ℕ). frame_text (entry_frame a (renumbered_label c (e a))) ++ t) (entries-text e (suc a) m)
+  entries-text e a (suc m) = grind (arith, common_steps, entries-text e (suc a) m)
 
   abbrev kept : (ℕ → Label) → ℕ → List ℕ
   kept x l = if is_first c l then frame_text (label_frame (count (is_first c) 0 l) (x l)) else []
@@ -44,7 +44,7 @@ module _ (c : List ℕ) where
   labels-text : (x : ℕ → Label) (a m s : ℕ) → s ≡ count (is_first c) 0 a
       → frames_text (map_from label_frame s (map x (filter (is_first c) (range a m)))) ≡ flat_map (kept x) (range a m)
   unfolding map_from
-  labels-text x a zero s e = ap (λ (ls : List ℕ). frames_text (map_from label_frame s (map x ls))) (filter-none (is_first c))
+  labels-text x a zero s e = grind (arith, common_steps, filter-none)
   labels-text x a (suc m) s e = go (is_first c a) refl (labels-text x (suc a) m (suc s)) (labels-text x (suc a) m s)
     where
       tail : (t : Bool) → is_first c a ≡ t → count (is_first c) 0 (suc a) ≡ count (is_first c) 0 a + (if t then 1 else 0)
@@ -61,15 +61,10 @@ module _ (c : List ℕ) where
           x a ++ flat_map (kept x) (range (suc a) m)
       go true q ih _ =
           ap (λ (ls : List ℕ). frames_text (map_from label_frame s (map x ls))) (filter-yes (is_first c) a (range (suc a) m) q)
-          ∙ ap₂ (λ (xs ys : List ℕ). xs ++ ys)
-          (ap (λ (k : ℕ). frame_text (label_frame k (x a))) e
-          ∙ sym (cond-true (is_first c a) (frame_text (label_frame (count (is_first c) 0 a) (x a))) [] q))
-          (ih (omega (arith, tail true q)))
+          ∙ (grind (arith, common_steps, cond-true, tail true q, ih))
       go false q _ ih =
           ap (λ (ls : List ℕ). frames_text (map_from label_frame s (map x ls))) (filter-no (is_first c) a (range (suc a) m) q)
-          ∙ ih (omega (arith, tail false q))
-          ∙ ap (λ (xs : List ℕ). xs ++ flat_map (kept x) (range (suc a) m)) (sym (cond-false (is_first c a) (frame_text
-          (label_frame (count (is_first c) 0 a) (x a))) [] q))
+          ∙ (grind (arith, common_steps, cond-false, tail false q, ih))
 
   abbrev row_piece : Row → List ℕ
   row_piece r = if is_first c r.from then frame_text (row_frame (renumbered_row c r)) else []
@@ -107,10 +102,7 @@ module _ (b c : List ℕ) (all : size b ≡ rows_from b + row_count b) where
   -- ---- the four parts of the text
   entries-part : frames_text (map_from entry_frame 1 (joined_labels i c).entries) ≡ flat_map (piece b c) (range 1 H)
   unfolding joined_labels decoded_image
-  entries-part =
-      entries-text c (entry_in b) 1 H
-      ∙ sym (concat-moved (piece b c) (λ h. frame_text (entry_frame h (renumbered_label c (entry_in b h)))) 0 1 H (λ h l u.
-      ap (piece_at b c) (ap (position_of b) (zero-add h) ∙ position-of-entry b h l (omega arith))))
+  entries-part = grind (arith, entries-text c (entry_in b) 1 H, concat-moved (piece b c) (λ h. frame_text (entry_frame h (renumbered_label c (entry_in b h)))) 0 1 H, position-of-entry)
 
   label-piece : (l : ℕ) → l ≤ last_label b → kept c (machine.label_at i) l ≡ piece_at b c (label_position l)
   label-piece l h = grind (arith, common_steps, cond-true, eqb-true, cond-false, label-read)
@@ -129,13 +121,11 @@ module _ (b c : List ℕ) (all : size b ≡ rows_from b + row_count b) where
 
   pub rows-are : length (joined_labels i c).rows ≡ rows_kept b c
   unfolding joined_labels decoded_image
-  rows-are = length-map (filter (λ r. is_first c r.from) (map (row_in b) (range 0 R))) (renumbered_row c) ∙ rows-number c (row_in b) 0 R
-      ∙ sym (ap (λ (x : ℕ). count (λ f. is_first c (field b f 1)) x R) (let e : rows_from b ≡ rows_from b + 0 = omega arith in e)
-      ∙ count-moved (λ f. is_first c (field b f 1)) (λ k. is_first c (row_in b k).from) (rows_from b) 0 R (λ k a u. refl))
+  rows-are = grind (arith, length-map, rows-number c (row_in b) 0 R, count-moved (λ f. is_first c (field b f 1)) (λ k. is_first c (row_in b k).from) (rows_from b) 0 R)
 
   pub entries-are : length (joined_labels i c).entries ≡ H
   unfolding joined_labels
-  entries-are = length-map i.entries (renumbered_label c) ∙ entries-count b
+  entries-are = grind (arith, length-map, entries-count)
 
   header-part : frame_text (header_frame (joined_labels i c)) ≡ piece b c 0
   unfolding position_of joined_labels decoded_image
@@ -146,19 +136,4 @@ module _ (b c : List ℕ) (all : size b ≡ rows_from b + row_count b) where
   unfolding image_text image_frames
   pieces-are =
       let p : ℕ → List ℕ = piece b c in
-      ap (λ (m : ℕ). flat_map p (range 0 m)) (let e : size b ≡ 1 + (H + (n + R)) = omega (arith, all) in e)
-      ∙ concat-split p 0 1 (H + (n + R))
-      ∙ ap₂ (λ (xs ys : List ℕ). xs ++ ys) (concat-one p 0 ∙ sym header-part)
-      (ap (λ (x : ℕ). flat_map p (range x (H + (n + R)))) (let e : 0 + 1 ≡ 1 = omega arith in e)
-      ∙ concat-split p 1 H (n + R)
-      ∙ ap₂ (λ (xs ys : List ℕ). xs ++ ys) (sym entries-part)
-      (concat-split p (1 + H) n R
-      ∙ ap₂ (λ (xs ys : List ℕ). xs ++ ys)
-      (ap (λ (x : ℕ). flat_map p (range x n)) (let e : 1 + H ≡ labels_from b + 0 = omega arith in e) ∙ sym labels-part)
-      (ap (λ (x : ℕ). flat_map p (range x R)) (let e : 1 + H + n ≡ rows_from b + 0 = omega arith in e) ∙ sym rows-part)
-      ∙ sym (concat-append frame_text (map_from label_frame 0 (joined_labels i c).labels) (map row_frame (joined_labels i c).rows)))
-      ∙ sym (concat-append frame_text (map_from entry_frame 1 (joined_labels i c).entries)
-      (map_from label_frame 0 (joined_labels i c).labels ++ map row_frame
-      (joined_labels i c).rows)))
-      ∙ sym (concat-cons frame_text (header_frame (joined_labels i c)) (map_from entry_frame 1 (joined_labels i c).entries ++
-      (map_from label_frame 0 (joined_labels i c).labels ++ map row_frame (joined_labels i c).rows)))
+      grind (arith, all, concat-split p 0 1 (H + (n + R)), concat-split p 1 H (n + R), concat-split p (1 + H) n R, concat-one p 0, header-part, entries-part, labels-part, rows-part, concat-append, concat-cons)

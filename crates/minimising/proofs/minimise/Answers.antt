@@ -11,10 +11,8 @@ returns-in_err-table c =
 
 pub minimise_table-requires : goal.minimise_table-requires
 minimise_table-requires c =
-    let made = noted-made _ _ c.in_ok-table.ensures.admits.accepted c.in_ok-table.ensures.noted in
-    made-prepared _ _ made
+    let e = c.in_ok-table.ensures in made-prepared _ _ (noted-made _ _ e.admits.accepted e.noted)
 
 pub returns : goal.returns
 returns c =
-    let made = noted-made _ _ c.in_ok-table.ensures.admits.accepted c.in_ok-table.ensures.noted in
-    image-made-smaller _ _ made _ _ _ c.minimise_table.ensures
+    let e = c.in_ok-table.ensures in image-made-smaller _ _ (noted-made _ _ e.admits.accepted e.noted) _ _ _ c.minimise_table.ensures

@@ -5,10 +5,10 @@ use Rattle.prices.proofs.tick_price.Goals as goal
 pub overflow_add-total : goal.overflow_add-total
 overflow_add-total c =
     let loop = c.loop-rest in
-    omega (arith, bit-fits _ _ _ _ loop.invariant c.loop-rest-test.true (λ k. search rules))
+    omega (arith, bit-fits loop.invariant c.loop-rest-test.true (λ k. search rules))
 
 pub loop-rest-preserved : goal.loop-rest-preserved
-loop-rest-preserved c = counted-more _ _ _ _ c.loop-rest.invariant c.loop-rest-test.true
+loop-rest-preserved c = counted-more c.loop-rest.invariant c.loop-rest-test.true
 
 pub returns : goal.returns
-returns c = counted-all _ _ _ _ c.loop-rest.invariant c.loop-rest-test.false
+returns c = counted-all c.loop-rest.invariant c.loop-rest-test.false

@@ -1,5 +1,5 @@
 -- A call over the list of states gives what its parts give: it is turned back, or a turn is put into the list.
-use Rattle.std.proofs.Common.{◌≡◌, ap, ℕ, zero, suc, ◌<◌, ◌≤◌, List, length, map, set, arith, refl, slice_index_or, Err}
+use Rattle.std.proofs.Common.{◌≡◌, ℕ, zero, suc, ◌<◌, ◌≤◌, List, length, map, set, arith, refl, slice_index_or, Err}
 use Rattle.std.proofs.lemmas.List.{get_or-map, get_or-set_same, set-get_or, length-map}
 use Rattle.std.proofs.lemmas.Grind.{common_steps}
 use Rattle.text.specs.frames.Verdict.{Verdict, fine, refused}
@@ -21,16 +21,16 @@ pub state-viewed : (ys : List Kept) (k : ℕ) (d : Kept) → k < length ys → s
 state-viewed ys k d l = get_or-map view ys k d no_state l
 
 -- no depth is above their sum
-depth-low : (ys : List Kept) (k : ℕ) (d : Kept) → length ys ≡ 4 → k < 4 → (view (slice_index_or ys k d)).depth ≤ four_depths (map view ys)
-depth-low ys zero d n l = omega (arith, ap (λ (s : State). s.depth) (state-viewed ys 0 d (omega arith)))
-depth-low ys (suc zero) d n l = omega (arith, ap (λ (s : State). s.depth) (state-viewed ys 1 d (omega arith)))
-depth-low ys (suc (suc zero)) d n l = omega (arith, ap (λ (s : State). s.depth) (state-viewed ys 2 d (omega arith)))
-depth-low ys (suc (suc (suc zero))) d n l = omega (arith, ap (λ (s : State). s.depth) (state-viewed ys 3 d (omega arith)))
-depth-low ys (suc (suc (suc (suc k)))) d n l = absurd (omega arith)
+depth-low : (states : List State) (k : ℕ) → k < 4 → (state_at states k).depth ≤ four_depths states
+depth-low states zero l = omega arith
+depth-low states (suc zero) l = omega arith
+depth-low states (suc (suc zero)) l = omega arith
+depth-low states (suc (suc (suc zero))) l = omega arith
+depth-low states (suc (suc (suc (suc k)))) l = absurd (omega arith)
 
 pub summed-low : (ys : List Kept) (k : ℕ) (d : Kept) (sum : ℕ) → length ys ≡ 4 → k < 4 → sum ≡ four_depths (map view ys)
     → (slice_index_or ys k d).depth ≤ sum
-summed-low ys k d sum n l q = omega (arith, q, depth-low ys k d n l)
+summed-low ys k d sum n l q = grind (arith, common_steps, state-viewed, depth-low)
 
 module _ (ys : List Kept) (taken k w : ℕ) where
   turned : (r : SpinReport) (d s : Kept) (x : TurnOutcome) → k < length ys → GivesTurn x (slice_index_or ys k d) r s
@@ -57,5 +57,4 @@ module _ (ys : List Kept) (taken k w : ℕ) where
   pub turn-spun : (i : Image) (r : SpinReport) (d s : Kept) (sum : ℕ) → length ys ≡ 4 → k < 4 → sum ≡ four_depths (map view ys)
       → (let old = view (slice_index_or ys k d) in GivesTurn (turn old sum taken (sourced_tick fine i old w)) (slice_index_or ys k d) r s)
       → GivesSpin (sourced_spin fine i (map view ys) taken k w) ys k r (set ys k s)
-  turn-spun i r d s sum n l q z =
-      rw (spun-parts, length-map, n, state-viewed ys k d (omega arith), ← q) (turned r d s _ (omega arith) z)
+  turn-spun i r d s sum n l q z = grind (arith, common_steps, spun-parts, length-map, state-viewed, turned)

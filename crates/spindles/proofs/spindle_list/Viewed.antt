@@ -2,12 +2,8 @@
 use Rattle.std.proofs.Common.{ℕ, ◌≡◌, List, map, arith}
 use Rattle.std.proofs.lemmas.List.{map-set, set-get_or}
 use Rattle.std.proofs.lemmas.Grind.{common_steps}
-use Rattle.text.specs.frames.Frame.{contents}
-use Rattle.text.specs.frames.Verdict.{Verdict, when}
+use Rattle.text.specs.frames.Verdict.{Verdict}
 use Rattle.image.specs.Image.{Image}
-use Rattle.image.specs.Decode.{decoded_image}
-use Rattle.image.specs.Check.{image_verdict}
-use Rattle.tables.specs.Table.{is_bad_table, table_image}
 use Rattle.state.specs.Kept.{view}
 use Rattle.state.specs.declared.State.{State as Kept}
 use Rattle.state.proofs.Stored.{state-back}
@@ -21,11 +17,7 @@ module _ (ys : List Kept) (taken k w : ℕ) where
   comes-viewed v i (on m code t h u f g) = grind (arith, common_steps, map-set, set-get_or, state-back)
 
   pub views-spun : (t : List ℕ) → let x = spin t (map view ys) taken k w in map view (states_spun ys k x) ≡ x.states
-  views-spun t =
-      rw (spin-by t (map view ys) taken k w)
-      (comes-viewed _ _ (comes (image_verdict t) (decoded_image (contents t)) (map view ys) taken k w))
+  views-spun t = rw (spin-by) (comes-viewed _ _ (comes _ _ (map view ys) taken k w))
 
   pub live-views-spun : (b : List ℕ) → let x = live_spin b (map view ys) taken k w in map view (states_spun ys k x) ≡ x.states
-  live-views-spun b =
-      rw (live-spin-by b (map view ys) taken k w)
-      (comes-viewed _ _ (comes (when 11 (is_bad_table b)) (table_image b) (map view ys) taken k w))
+  live-views-spun b = rw (live-spin-by) (comes-viewed _ _ (comes _ _ (map view ys) taken k w))

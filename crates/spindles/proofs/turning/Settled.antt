@@ -28,7 +28,7 @@ Leaves s x = if_ticked x x.state s ≡ x.state
 leaves : (i : Image) (s : State) (w : ℕ) → Leaves s (sourced_tick fine i s w)
 leaves i s w = grind (arith, common_steps, sourced-tick-by, left)
 
-module _ (before new after : Kept) (ticked : TickAnswer) (taken : ℕ) (r : SpinReport) where
+module _ {before new after : Kept} {ticked : TickAnswer} {taken : ℕ} {r : SpinReport} where
   -- with the tick in place
   settled-turns : (x : TickOutcome) → Leaves (view before) x → GivesTickOn x before ticked new
       → GivesSettled before new ticked taken r after → GivesTurn (turn_by (view before) taken x) before r after

@@ -1,10 +1,10 @@
 -- `covering::blocks::shared_by` meets its contract: one row more leaves less to share, which all before it have too.
-use Rattle.std.proofs.Common.{arith}
+use Rattle.std.proofs.Common.{arith, rules}
 use Rattle.covering.proofs.Sharing.{shares-first, shares-on}
 use Rattle.covering.proofs.blocks.shared_by.Goals as goal
 
 pub loop-g-init : goal.loop-g-init
-loop-g-init c = shares-first _ _ _ _ c.pair-care.ensures c.pair.ensures
+loop-g-init c = search (rules, shares-first)
 
 pub loop-g-preserved : goal.loop-g-preserved
 loop-g-preserved c =

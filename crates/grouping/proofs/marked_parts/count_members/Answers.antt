@@ -1,5 +1,5 @@
 -- `grouping::marked_parts::count_members` meets its contract: a step for each label.
-use Rattle.std.proofs.Common.{refl, rules}
+use Rattle.std.proofs.Common.{rules}
 use Rattle.grouping.proofs.Labelled.{labelling-none, labelling-turn}
 use Rattle.grouping.proofs.marked_parts.count_members.Goals as goal
 
@@ -7,4 +7,4 @@ pub loop-l-init : goal.loop-l-init
 loop-l-init c = labelling-none _ _ _ _
 
 pub loop-l-preserved : goal.loop-l-preserved
-loop-l-preserved c = labelling-turn _ _ _ _ _ _ _ _ c.loop-l.invariant (search rules) refl c.member_count.ensures
+loop-l-preserved c = search (rules, labelling-turn)

@@ -1,16 +1,12 @@
 -- `grouping::next_classes::next_class` meets its contract: without a note, l stays with the lowest label of its class.
-use Rattle.std.proofs.Common.{arith}
+use Rattle.std.proofs.Common.{arith, rules}
 use Rattle.grouping.proofs.Marked.{unnoted-unparted}
 use Rattle.grouping.proofs.TableRounds.{leader-first, leader-below}
 use Rattle.grouping.proofs.next_classes.next_class.Goals as goal
 
 pub returns-then-round-class-eq0 : goal.returns-then-round-class-eq0
 returns-then-round-class-eq0 c =
-    let round = c.args.round.now in
-    leader-first round.table.bytes.now _ _ _ c.requires.lowest (λ h.
-    unnoted-unparted _ _ _ _ round.marked _ _ c.requires.low (omega (arith, c.requires.high, round.table.last_read))
-    (omega (arith, c.requires.low)) (omega (arith, c.requires.high, round.table.last_read)) c.requires.lowest.own
-    c.if-round-class-eq0.true c.if-round-l-eq0.true)
+    leader-first c.args.round.now.table.bytes.now _ _ _ c.requires.lowest (λ h. search (rules, unnoted-unparted))
 
 pub overflow_cast-result : goal.overflow_cast-result
 overflow_cast-result c =

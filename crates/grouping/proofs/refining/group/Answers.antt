@@ -1,24 +1,22 @@
 -- `grouping::refining::group` meets its contract: the buffer holds the classes after k rounds, the marks are those of the last.
-use Rattle.std.proofs.Common.{refl, arith, rules}
+use Rattle.std.proofs.Common.{arith, rules}
 use Rattle.grouping.proofs.GroupSteps.{rounding-start, rounding-now, rounding-advanced, rounding-on, rounding-rest, rounding-all}
 use Rattle.grouping.proofs.refining.group.Goals as goal
 
 pub loop-k-init : goal.loop-k-init
 loop-k-init c =
-    rounding-start _ (λ k. omega (arith, c.args.table.small k)) _ _ _ _ _ (omega (arith, c.args.table.last_read)) c.first_classes.array_long
-    refl refl c.first_classes.ensures.first
+    search (rules, rounding-start)
 
 pub refine-requires-clause-refined : goal.refine-requires-clause-refined
 refine-requires-clause-refined c = record { rounds = _; now = rounding-now _ c.requires _ _ _ _ _ _ c.loop-k.invariant }
 
 pub mark_parted-requires-clause-advanced : goal.mark_parted-requires-clause-advanced
 mark_parted-requires-clause-advanced c =
-    rounding-advanced _ c.requires _ _ _ _ _ _ c.loop-k.invariant _ _ c.refine.array_long c.refine.ensures
+    search (rules, rounding-advanced)
 
 pub returns-then-not-differ : goal.returns-then-not-differ
 returns-then-not-differ c =
-    rounding-rest _ c.requires _ _ _ _ _ _ c.loop-k.invariant _ _ c.refine.array_long c.refine.ensures (search rules) _ c.differ.ensures
-    c.if-not-differ.true
+    search (rules, rounding-rest)
 
 pub loop-k-preserved : goal.loop-k-preserved
 loop-k-preserved c =
@@ -26,4 +24,4 @@ loop-k-preserved c =
     c.mark_parted.ensures.marked _ (omega (arith, c.put_bytes.auto.out, c.loop-k.invariant.room)) c.put_bytes.ensures
 
 pub returns : goal.returns
-returns c = rounding-all _ c.requires _ _ _ _ _ _ c.loop-k.invariant (search rules)
+returns c = search (rules, rounding-all)

@@ -4,12 +4,10 @@ use Rattle.minimising.proofs.group_numbers.NumberCases.{turn-start, turn-on, tur
 use Rattle.minimising.proofs.group_numbers.number_groups.Goals as goal
 
 pub loop-l-init : goal.loop-l-init
-loop-l-init c = turn-start _ _ _ c.told-numbers
+loop-l-init c = search (rules, turn-start)
 
 pub loop-l-preserved : goal.loop-l-preserved
-loop-l-preserved c =
-    turn-on _ _ _ _ _ _ c.requires.lowest_of_class c.loop-l.invariant (search rules) c.requires.few _ _
-    c.number_at.ensures c.first_at-groups.ensures.one c.first_at-groups.ensures.most
+loop-l-preserved c = search (rules, turn-on)
 
 pub returns-clause-numbered : goal.returns-clause-numbered
-returns-clause-numbered c = turn-all _ _ _ _ _ _ c.loop-l.invariant (search rules)
+returns-clause-numbered c = search (rules, turn-all)

@@ -1,8 +1,7 @@
 -- `runs::table_runs::run_table` meets its contract: 15 and 16 in turn, then what the ticks leave.
 use Rattle.std.proofs.Common.{refl, sym, ◌∙◌, arith}
 use Rattle.std.proofs.lemmas.Grind.{common_steps}
-use Rattle.runs.proofs.RunCases.{unfit-answer, short-answer, ran-answer}
-use Rattle.runs.proofs.RunCases.{fits-deep}
+use Rattle.runs.proofs.RunCases.{unfit-answer, short-answer, ran-answer, fits-deep}
 use Rattle.runs.proofs.table_runs.run_table.Goals as goal
 
 pub returns-then-is_unfit : goal.returns-then-is_unfit
@@ -16,15 +15,12 @@ tick_all-ended-requires-clause-depth c = fits-deep _ _ (sym c.is_unfit.ensures �
 
 pub returns-in-Over : goal.returns-in-Over
 returns-in-Over c =
-    ran-answer _ _ _ _ _ _ c.is_unfit.ensures c.if-is_unfit.false _ c.no_room.ensures c.if-no_room.false c.tick_all-ended.result _ _ _ _
-    c.tick_all-ended.ensures c.tidy.ensures _ c.in-Over.is _ refl
+    ran-answer c.is_unfit.ensures c.if-is_unfit.false c.no_room.ensures c.if-no_room.false c.tick_all-ended.ensures c.tidy.ensures c.in-Over.is refl
 
 pub returns-in-Full : goal.returns-in-Full
 returns-in-Full c =
-    ran-answer _ _ _ _ _ _ c.is_unfit.ensures c.if-is_unfit.false _ c.no_room.ensures c.if-no_room.false c.tick_all-ended.result _ _ _ _
-    c.tick_all-ended.ensures c.tidy.ensures _ c.in-Full.is _ refl
+    ran-answer c.is_unfit.ensures c.if-is_unfit.false c.no_room.ensures c.if-no_room.false c.tick_all-ended.ensures c.tidy.ensures c.in-Full.is refl
 
 pub returns-in-NoRow : goal.returns-in-NoRow
 returns-in-NoRow c =
-    ran-answer _ _ _ _ _ _ c.is_unfit.ensures c.if-is_unfit.false _ c.no_room.ensures c.if-no_room.false c.tick_all-ended.result _ _ _ _
-    c.tick_all-ended.ensures c.tidy.ensures _ c.in-NoRow.is _ refl
+    ran-answer c.is_unfit.ensures c.if-is_unfit.false c.no_room.ensures c.if-no_room.false c.tick_all-ended.ensures c.tidy.ensures c.in-NoRow.is refl

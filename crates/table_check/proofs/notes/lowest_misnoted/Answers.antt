@@ -4,18 +4,15 @@ use Rattle.std.proofs.Common.{rules}
 use Rattle.table_check.proofs.notes.lowest_misnoted.Goals as goal
 
 pub loop-f-init : goal.loop-f-init
-loop-f-init c =
-    noting-first c.args.table.now c.args.n c.requires.all_frames c.requires.rows_inside _ _ c.labels_from-labels.ensures c.rows_from-rows.ensures
+loop-f-init c = noting-first c.requires.all_frames c.requires.rows_inside c.labels_from-labels.ensures c.rows_from-rows.ensures
 
 pub returns-then-low_pair-end : goal.returns-then-low_pair-end
 returns-then-low_pair-end c =
-    noting-found c.args.table.now c.args.n c.requires.all_frames c.requires.rows_inside _ _ c.loop-f.invariant _ _ (search rules)
-    c.skip_below-end.ensures (search rules) _ c.low_pair.ensures (search rules)
+    noting-found c.loop-f.invariant (search rules) c.skip_below-end.ensures (search rules) c.low_pair.ensures (search rules)
 
 pub loop-f-preserved : goal.loop-f-preserved
 loop-f-preserved c =
-    noting-next c.args.table.now c.args.n c.requires.all_frames c.requires.rows_inside _ _ c.loop-f.invariant _ _ (search rules)
-    c.skip_below-end.ensures (search rules) _ c.low_pair.ensures (search rules)
+    noting-next c.loop-f.invariant (search rules) c.skip_below-end.ensures (search rules) c.low_pair.ensures (search rules)
 
 pub returns : goal.returns
-returns c = noting-over c.args.table.now c.args.n c.requires.all_frames c.requires.rows_inside _ _ c.loop-f.invariant (search rules)
+returns c = noting-over c.loop-f.invariant (search rules)

@@ -1,5 +1,5 @@
 -- `grouping::parting::Round::are_parted` meets its contract: rows to marked labels, of one label and then of the other, are enough.
-use Rattle.std.proofs.Common.{arith, sym}
+use Rattle.std.proofs.Common.{arith, rules, sym}
 use Rattle.std.proofs.lemmas.Grind.{common_steps}
 use Rattle.grouping.proofs.Marked.{unnoted-unparted, parted-by}
 use Rattle.grouping.proofs.parting.Round.are_parted.Goals as goal
@@ -12,6 +12,4 @@ returns-else-are_parted_by c = grind (arith, common_steps, parted-by _ _ _ _ c.a
 
 pub returns-then-self-l-eq0 : goal.returns-then-self-l-eq0
 returns-then-self-l-eq0 c =
-    let self = c.args.self.now in
-    sym (unnoted-unparted _ _ _ _ self.marked _ _ c.requires.one_low (omega (arith, c.requires.one_high, self.table.last_read)) c.requires.other_low
-    (omega (arith, c.requires.other_high, self.table.last_read)) c.requires.one_class c.if-self-m-eq0.true c.if-self-l-eq0.true)
+    sym (search (rules, unnoted-unparted))
