@@ -18,25 +18,25 @@
  * its return address and what it uses below its stack with them; memcpy and memset count as functions without a frame, and what a
  * dynamic linker takes to find them at their first call is not counted (docs/MEASUREMENTS.md has the deepest that was seen beside it):
  *    read_chart      3,472   tick           13,480   prepare        13,432
- *    write_chart       928   rebind         13,464   live_run          520
- *    translate       6,912   spin           13,592   live_tick         440
- *    places          6,784   cause          13,576   live_rebind       320
- *    check_image    13,352   list_rows      13,480   live_spin         600
+ *    write_chart       928   rebind         13,464   live_run          528
+ *    translate       6,912   spin           13,592   live_tick         448
+ *    places          6,784   cause          13,576   live_rebind       328
+ *    check_image    13,352   list_rows      13,480   live_spin         608
  *    fresh             136   minimise       14,872   meaning           136
- *    run            13,496   little_chart      752   dry_run        14,152
- *    priced_run     13,656   count_fillings 17,320   version           136
+ *    run            13,504   little_chart      752   dry_run        14,160
+ *    priced_run     13,664   count_fillings 17,872   version           136
  *    check_table       264   sum               136
  * On a controller at 16 MHz the calls of a machine's loop take no longer than this, on a Cortex-M3, on a Cortex-M0 whose products take one
  * cycle, and where they take 32; beside each bound the longest that was found (controller/README.md says what a bound means):
  *    at most and found, in milliseconds
  *    prepare                                112.49    88.96   219.40   171.76   252.37   190.61
- *    live_tick                                3.47     2.54     6.74     5.66    10.82     7.71
- *    live_tick, on any bytes                  4.34     3.13     8.44     6.91    13.58     9.50
- *    live_run of 64 words                   210.35   117.75   413.86   282.60   670.49   410.20
- *    live_run of 64 words, on any bytes     265.63   169.81   522.71   393.00   847.54   554.51
- *    live_rebind                              0.15     0.11     0.23     0.17     0.29     0.23
- *    live_spin                                3.59     2.59     7.08     5.77    11.16     7.83
- *    live_spin, on any bytes                  4.45     3.18     8.78     7.03    13.92     9.61
+ *    live_tick                                2.39     2.10     4.43     4.20     4.53     4.29
+ *    live_tick, on any bytes                  2.96     2.62     5.52     5.22     5.62     5.29
+ *    live_run of 64 words                   139.37   103.42   265.78   218.92   267.96   220.29
+ *    live_run of 64 words, on any bytes     175.80   144.97   335.60   298.77   337.78   300.14
+ *    live_rebind                              0.18     0.13     0.24     0.19     0.30     0.25
+ *    live_spin                                2.51     2.16     4.77     4.31     4.87     4.40
+ *    live_spin, on any bytes                  3.08     2.68     5.86     5.33     5.97     5.41
  */
 #ifndef FAIRLEADOW_H
 #define FAIRLEADOW_H
@@ -49,7 +49,7 @@
 #define FAIRLEADOW_VERSION 3
 
 /* The release that this header is of, whose middle number is the version (CHANGELOG.md). */
-#define FAIRLEADOW_RELEASE "0.3.4"
+#define FAIRLEADOW_RELEASE "0.3.5"
 
 #ifdef __cplusplus
 extern "C" {
